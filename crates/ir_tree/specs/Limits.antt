@@ -1,0 +1,12 @@
+-- How large a function may be.
+use Rattle.std.specs.Prelude.{ℕ, ◌+◌, ◌≤◌, length, sum_by}
+use Rattle.ir_tree.specs.declared.tree.Block.{Block}
+use Rattle.ir_tree.specs.declared.tree.Function.{Function}
+
+-- how many instructions a function has, terminators counted
+abbrev pub instructions_in : Function → ℕ
+instructions_in f = sum_by (λ (b : Block). length b.insts + 1) f.blocks
+
+pub record IsWithinLimits (f : Function) : Type 0 where
+  pub parameters : length f.parameters ≤ 16
+  pub instructions : instructions_in f ≤ 65536

@@ -1,0 +1,20 @@
+//! The tree of a module's text: functions, their blocks and instructions, and the names in them.
+//!
+//! It promises plain data: two functions with the same parts are equal. Limits of a function are
+//! stated here, with their test. It stands on `tv_num`; the reader makes trees, and whatever runs,
+//! prints or checks a function takes them.
+#![tactic(auto)]
+
+mod limits;
+mod module;
+mod name;
+mod names;
+mod tree;
+
+pub use limits::is_within_limits;
+pub use module::{Entry, Module, Reason, Refused};
+pub use name::Name;
+pub use names::Names;
+pub use tree::{
+    Block, Flags, Function, Inst, IrType, Op, Operand, Parameter, Returned, Terminator,
+};

@@ -1,0 +1,30 @@
+-- Two functions that are compared, and when their signatures are equal.
+use Rattle.std.specs.Prelude.{Bool, true, false, ◌&&◌, ◌==◌, List, [], ◌∷◌, Option, Some, None}
+use Rattle.ir_tree.specs.declared.tree.IrType.{IrType}
+use Rattle.ir_tree.specs.declared.tree.IrType.TheVariants.{Int, Ptr}
+use Rattle.ir_tree.specs.declared.tree.Parameter.{Parameter}
+use Rattle.ir_tree.specs.declared.tree.Function.{Function}
+
+-- the function before the optimisation, and the one after it
+pub record Functions : Type 0 where
+  pub source : Function
+  pub target : Function
+
+abbrev pub same_type : IrType → IrType → Bool
+same_type (Int v) (Int w) = v.bits == w.bits
+same_type Ptr Ptr = true
+same_type _ _ = false
+
+abbrev pub same_return : Option IrType → Option IrType → Bool
+same_return None None = true
+same_return (Some s) (Some t) = same_type s t
+same_return _ _ = false
+
+-- as many parameters, of equal types place by place
+abbrev pub same_types : List Parameter → List Parameter → Bool
+same_types [] [] = true
+same_types (p ∷ ps) (q ∷ qs) = same_type p.of_type q.of_type && same_types ps qs
+same_types _ _ = false
+
+abbrev pub same_signature : Function → Function → Bool
+same_signature f g = same_return f.returns g.returns && same_types f.parameters g.parameters

@@ -1,0 +1,13 @@
+//! What every crate of the repository needs, and nothing more.
+//!
+//! [`Sequence`] is a `Vec` that contracts see as a list, so that two values with the same items are
+//! equal; each `Vec` field of a type that a definition compares is one. [`NoMemory`] is the one
+//! answer of a call that could not grow. It promises that `?` carries want of memory through all
+//! crates. It stands on `std` alone, and every other crate may stand on it.
+#![tactic(auto)]
+
+mod no_memory;
+mod sequence;
+
+pub use no_memory::NoMemory;
+pub use sequence::Sequence;
