@@ -1,5 +1,4 @@
-use Rattle.std.proofs.Common.{rules, ◌≡◌, ◌≤◌, IsTrue, arith}
-use Rattle.ir_tree.specs.Limits.{instructions_in, IsWithinLimits}
+use Rattle.std.proofs.Common.{arith}
 use Rattle.ir_tree.proofs.limits.is_within_limits.Goals as goal
 
 pub returns-then-len-le-MOST_PARAMETERS : goal.returns-then-len-le-MOST_PARAMETERS
