@@ -1,12 +1,12 @@
 -- What the verdicts on the steps of a log show.
-use Rattle.std.proofs.Common.{◌-◌, ℕ, zero, suc, ◌≡◌, ◌<◌, ◌+◌, ◌↔◌, List, [], ◌∷◌, Option, Some, None, Result, Ok, IfOk, Bool, true, false, IsTrue, length, slice_get, get_or, arith, sym, ap, subst, refl, ◌∙◌}
+use Rattle.std.proofs.Common.{◌-◌, ℕ, zero, suc, ◌≡◌, ◌<◌, ◌+◌, ◌↔◌, List, [], ◌∷◌, Option, Some, None, Result, IfOk, Bool, IsTrue, length, slice_get, get_or, arith, sym, ap, subst, refl, ◌∙◌}
 use Rattle.std.specs.List.{AllZip, range_with_len}
 use Rattle.support.specs.declared.no_memory.NoMemory.{NoMemory}
 use Rattle.std.proofs.Common.{below_more}
 use Rattle.clause_lits.specs.declared.lit.Lit.{Lit}
 use Rattle.clause_log.specs.declared.step.Step.{Step}
 use Rattle.clause_log.specs.Chain.{chain_resolvent}
-use Rattle.clause_log.specs.Refutation.{standing_before, IsSound, IsSoundAt, EndsEmpty, Refutes}
+use Rattle.clause_log.specs.Refutation.{standing_before, IsSoundAt, EndsEmpty, Refutes}
 use Rattle.clause_log.specs.Verdicts.{AreVerdicts}
 
 -- a step whose chain gives nothing isn't sound

@@ -1,5 +1,5 @@
 -- Which literals the join of two clauses has, and where just one variable clashes.
-use Rattle.std.proofs.Common.{ℕ, ◌≡◌, ◌≢◌, ◌<◌, ◌+◌, ◌⊎◌, inl, inr, Bool, true, false, not, cond, List, [], ◌∷◌, ltb, arith, sym, ap, subst, refl, ◌∙◌}
+use Rattle.std.proofs.Common.{ℕ, ◌≡◌, ◌<◌, ◌+◌, ◌⊎◌, inl, inr, Bool, true, false, not, cond, List, [], ◌∷◌, ltb, arith, sym, ap, refl, ◌∙◌}
 use Rattle.std.proofs.lemmas.Bool.{ltb-true, ltb-false, cases_Bool, false≢true, true≢false}
 use Rattle.clause_lits.specs.declared.lit.Lit.{Lit}
 use Rattle.clause_lits.specs.Meaning.{RisesFrom, opposite_of}

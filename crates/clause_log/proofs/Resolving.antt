@@ -1,8 +1,8 @@
 -- The computed resolvent is the resolvent.
-use Rattle.std.proofs.Common.{ℕ, ◌≡◌, ◌<◌, ◌+◌, ◌⊎◌, ◌↔◌, inl, inr, Bool, true, false, List, [], ◌∷◌, Option, Some, None, nat_eq, eqb, arith, sym, ap, subst, refl, ◌∙◌}
+use Rattle.std.proofs.Common.{◌≡◌, ◌⊎◌, ◌↔◌, inl, inr, List, Option, Some, None, eqb, arith, sym, ap, subst, ◌∙◌}
 use Rattle.std.proofs.lemmas.Bool.{cases_Bool, eqb-true}
 use Rattle.clause_lits.specs.declared.lit.Lit.{Lit}
-use Rattle.clause_lits.specs.Meaning.{IsClause, RisesFrom, opposite_of}
+use Rattle.clause_lits.specs.Meaning.{IsClause, opposite_of}
 use Rattle.clause_log.specs.Members.{Has}
 use Rattle.clause_log.specs.Resolution.{joined, clashes, resolvent, Resolves, IsResolventOf}
 use Rattle.clause_log.proofs.Joining.{rises-joined, resolvent-one}

@@ -1,7 +1,7 @@
 -- The resolvent of two clauses: what it is, and how a merge of the two finds it.
 use Rattle.clause_lits.specs.Meaning.{IsClause, opposite_of}
 use Rattle.clause_log.specs.Members.{Has}
-use Rattle.std.specs.Prelude.{◌⊎◌, ◌↔◌, ℕ, ◌≡◌, ◌+◌, ◌<◌, Bool, true, false, cond, List, [], ◌∷◌, ◌++◌, length, nat_lt, nat_eq, Option, Some, None}
+use Rattle.std.specs.Prelude.{◌⊎◌, ◌↔◌, ℕ, ◌≡◌, ◌+◌, Bool, true, false, cond, List, [], ◌∷◌, nat_lt, nat_eq, Option, Some, None}
 use Rattle.clause_lits.specs.declared.lit.Lit.{Lit}
 
 -- c is the resolvent of a and b: one variable alone stands in both with opposite signs, and c has all their other literals

@@ -1,3 +1,5 @@
+ghost use Rattle.std.specs.Prelude.{◌≡◌};
+
 use crate::{Log, LogFault, Step, check_log, resolve};
 use clause_lits::{Clause, Cnf, Lit, are_within};
 use smallvec::SmallVec;

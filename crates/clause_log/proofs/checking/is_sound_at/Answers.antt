@@ -1,4 +1,4 @@
-use Rattle.std.proofs.Common.{◌≡◌, sym, ap, Some, ◌∙◌}
+use Rattle.std.proofs.Common.{sym, ap, Some, ◌∙◌}
 use Rattle.std.proofs.lemmas.Option.{slice_get-get_or}
 use Rattle.clause_log.proofs.Checks.{sound_at-some, unsound_at-none}
 use Rattle.clause_log.proofs.checking.is_sound_at.Goals as goal
