@@ -6,11 +6,13 @@
 //! stands on `ir_tree` and `byte_block`; the interpreter and every judge stand on it.
 #![tactic(auto)]
 
+mod machine;
 mod outcome;
 mod pair;
 mod point;
 mod verdict;
 
+pub use machine::Machine;
 pub use outcome::Outcome;
 pub use pair::{Pair, has_same_signature};
 pub use point::{Bounds, Budget, Input, Point, Shape};
