@@ -30,9 +30,9 @@ word_before tape by i = if nat_lt i by then 0 else slice_index tape (i - by)
 abbrev pub word_behind : List ℕ → ℕ → ℕ → ℕ
 word_behind tape by i = slice_index tape (i + by)
 
--- the target's tape moved by up to two places
+-- the target's tape as it is, and moved by one or two places either way
 abbrev pub shifts : List ℕ → List (ℕ → ℕ)
-shifts tape = word_before tape 2 ∷ word_before tape 1 ∷ word_behind tape 0 ∷ word_behind tape 1 ∷ word_behind tape 2 ∷ []
+shifts tape = word_behind tape 0 ∷ word_behind tape 1 ∷ word_behind tape 2 ∷ word_before tape 1 ∷ word_before tape 2 ∷ []
 
 -- as words of a source that needs so many
 abbrev pub shifted : ℕ → List ℕ → List (List ℕ)
