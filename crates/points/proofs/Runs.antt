@@ -1,5 +1,5 @@
 -- A run, one instruction at a time. Every terminator returns, so a run ends in the entry.
-use Rattle.std.proofs.Common.{◌≡◌, ℕ, zero, suc, ◌+◌, ◌<◌, List, [], ◌∷◌, length, drop, get_or, Option, Some, None, refl}
+use Rattle.std.proofs.Common.{◌≡◌, ℕ, zero, suc, ◌+◌, ◌<◌, List, [], ◌∷◌, length, drop, get_or, Option, Some, None, refl, sym, ap, ◌∙◌}
 use Rattle.std.proofs.lemmas.List.{drop_more}
 use Rattle.std.proofs.Math.Seq.{drop-length}
 use Rattle.ir_tree.specs.declared.tree.Inst.{Inst}
@@ -58,16 +58,29 @@ run_turns_is blocks tape (suc turns) m = forward_is blocks tape (run_turns block
 pub run_of_is : (f : Function) (bounds : Bounds) (input : Input) (tape : List ℕ) → run_of f bounds input tape ≡ run_entry f.blocks tape (first_machine f input)
 run_of_is f bounds input tape = run_turns_is f.blocks tape bounds.turns (first_machine f input)
 
--- ---- steps of a loop over the instructions
+-- ---- what the run does with the entry
 
-pub run_goes : (insts : List Inst) (end : Terminator) (tape : List ℕ) (m m' : Machine) (i : ℕ) (inst : Inst) → i < length insts → inst ≡ get_or insts i inst → act inst tape m ≡ Some m' → run_insts (drop i insts) end tape m ≡ run_insts (drop (i + 1) insts) end tape m'
-unfolding run_insts
-run_goes insts end tape m m' i inst below is goes = rw (drop_more insts i inst below, ← is, goes) refl
+pub run_without_blocks : (f : Function) (bounds : Bounds) (input : Input) (tape : List ℕ) → f.blocks ≡ [] → run_of f bounds input tape ≡ ended Ub (first_machine f input)
+run_without_blocks f bounds input tape e = run_of_is f bounds input tape ∙ ap (λ (blocks : List Block). run_entry blocks tape (first_machine f input)) e
 
-pub run_stops : (insts : List Inst) (end : Terminator) (tape : List ℕ) (m : Machine) (i : ℕ) (inst : Inst) → i < length insts → inst ≡ get_or insts i inst → act inst tape m ≡ None → run_insts (drop i insts) end tape m ≡ ended Ub m
-unfolding run_insts
-run_stops insts end tape m i inst below is stops = rw (drop_more insts i inst below, ← is, stops) refl
+same_over : (run other : Run) → ◌≡◌ {A = Exit} (Over run) (Over other) → run ≡ other
+same_over run other e = cc
 
-pub run_ends : (insts : List Inst) (end : Terminator) (tape : List ℕ) (m : Machine) (i : ℕ) → i ≡ length insts → run_insts (drop i insts) end tape m ≡ run_end end m
-unfolding run_insts
-run_ends insts end tape m i e = rw (e, drop-length insts) refl
+pub run_of_entry : (f : Function) (bounds : Bounds) (input : Input) (tape : List ℕ) (b : Block) (bs : List Block) (run : Run) → f.blocks ≡ b ∷ bs → exit_insts b.insts b.terminator tape (first_machine f input) ≡ Over run → run_of f bounds input tape ≡ run
+run_of_entry f bounds input tape b bs run e exit =
+    run_of_is f bounds input tape ∙ ap (λ (blocks : List Block). run_entry blocks tape (first_machine f input)) e
+    ∙ same_over (run_insts b.insts b.terminator tape (first_machine f input)) run (sym (exit_insts_is b.insts b.terminator tape (first_machine f input)) ∙ exit)
+
+-- ---- steps of a loop over the instructions, as exits
+
+pub exit_goes : (insts : List Inst) (end : Terminator) (tape : List ℕ) (m m' : Machine) (i : ℕ) (inst : Inst) → i < length insts → inst ≡ get_or insts i inst → act inst tape m ≡ Some m' → exit_insts (drop i insts) end tape m ≡ exit_insts (drop (i + 1) insts) end tape m'
+unfolding exit_insts
+exit_goes insts end tape m m' i inst below is goes = rw (drop_more insts i inst below, ← is, goes) refl
+
+pub exit_stops : (insts : List Inst) (end : Terminator) (tape : List ℕ) (m : Machine) (i : ℕ) (inst : Inst) → i < length insts → inst ≡ get_or insts i inst → act inst tape m ≡ None → exit_insts (drop i insts) end tape m ≡ Over (ended Ub m)
+unfolding exit_insts
+exit_stops insts end tape m i inst below is stops = rw (drop_more insts i inst below, ← is, stops) refl
+
+pub exit_ends : (insts : List Inst) (end : Terminator) (tape : List ℕ) (m : Machine) (i : ℕ) → i ≡ length insts → exit_insts (drop i insts) end tape m ≡ exit_by end m
+unfolding exit_insts
+exit_ends insts end tape m i e = rw (e, drop-length insts) refl

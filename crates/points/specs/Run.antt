@@ -116,7 +116,7 @@ run_turns blocks tape zero = forward blocks tape (λ at m. ended Beyond m) (leng
 run_turns blocks tape (suc turns) = forward blocks tape (run_turns blocks tape turns) (length blocks)
 
 -- the parameters' names get the arguments
-unfoldable pub with_args : List Parameter → List Value → List Value → List Value
+abbrev pub with_args : List Parameter → List Value → List Value → List Value
 with_args (p ∷ ps) (v ∷ vs) registers = with_args ps vs (slice_set registers p.name v)
 with_args _ _ registers = registers
 
