@@ -1,0 +1,6 @@
+pub mod Chain
+pub mod Members
+pub mod Refutation
+pub mod Reported
+pub mod Resolution
+pub mod Verdicts
