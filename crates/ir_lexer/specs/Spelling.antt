@@ -38,4 +38,3 @@ class_of (b ∷ bs) =
     else (if is_word (b ∷ bs) then Some (word_kind (b ∷ bs))
     else (if is_number (b ∷ bs) then Some Number
     else (if is_mark b && length bs == 0 then Some Mark else None)))))
-
