@@ -52,17 +52,25 @@ abbrev pub width_or_one : Option Width → Width
 width_or_one None = one_bit
 width_or_one (Some w) = w
 
-abbrev pub type_for : Option ℕ → Option Width
-type_for None = None
-type_for (Some n) = Some (width_or_one (width_of n))
+-- the width that a token of a type spells, which has none where there is no such width
+abbrev pub spelled_width : Option ℕ → Option (Option Width)
+spelled_width None = None
+spelled_width (Some n) = Some (width_of n)
 
-abbrev pub is_width : Option ℕ → Bool
+abbrev pub width_in : Lexeme → Option (Option Width)
+width_in t = spelled_width (bits_of t.kind t.text)
+
+abbrev pub type_for : Option (Option Width) → Option Width
+type_for None = None
+type_for (Some w) = Some (width_or_one w)
+
+abbrev pub is_width : Option (Option Width) → Bool
 is_width None = false
-is_width (Some n) = is_some (width_of n)
+is_width (Some w) = is_some w
 
 -- an integer type of 1 to 64 bits, where there is room for one more of what it is counted as
 abbrev pub counted_type : Bool → Class Width
-counted_type room = record { stands = λ t. type_for (bits_of t.kind t.text); within = λ t. room && is_width (bits_of t.kind t.text); sample = record { kind = kind.Word; text = codes "i1"; at = 0 }; value = width_or_one (width_of 1); fits = refl }
+counted_type room = record { stands = λ t. type_for (width_in t); within = λ t. room && is_width (width_in t); sample = record { kind = kind.Word; text = codes "i1"; at = 0 }; value = width_or_one (width_of 1); fits = refl }
 
 abbrev pub int_type : Class Width
 int_type = counted_type true

@@ -4,5 +4,6 @@ pub mod Classes
 pub mod Grammar
 pub mod EntryName
 pub mod Numbering
+pub mod Checking
 pub mod FirstForm
 pub mod Answer

@@ -20,7 +20,7 @@ abbrev pub width_when : (n : ℕ) (low high : Bool) → nat_le 1 n ≡ low → n
 width_when n true true l h = Some (record { bits = n; at_least_1 = leb-true 1 n l; at_most_64 = leb-true n 64 h })
 width_when n _ _ l h = None
 
-abbrev pub width_of : ℕ → Option Width
+unfoldable pub width_of : ℕ → Option Width
 width_of n = width_when n (nat_le 1 n) (nat_le n 64) refl refl
 
 -- a number with a minus
@@ -39,3 +39,7 @@ in_range width negative n = (if negative then nat_le n (2 ^ (width - 1)) else na
 -- wrapped to the width
 abbrev pub wrapped : ℕ → Bool → ℕ → ℕ
 wrapped width negative n = (if negative then (2 ^ width - n) % 2 ^ width else n)
+
+-- the literal of a width that the token spells, if it is in range
+abbrev pub literal_in : ℕ → List ℕ → Option ℕ
+literal_in width text = (if in_range width (is_negative text) (magnitude text) then Some (wrapped width (is_negative text) (magnitude text)) else None)

@@ -7,6 +7,10 @@
 //! `ir_tree` for what it makes; the command stands on it.
 #![tactic(auto)]
 
+mod cursor;
+mod grammar;
+mod names;
+mod numbers;
 mod reading;
 mod written;
 
