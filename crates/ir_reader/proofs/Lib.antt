@@ -1,3 +1,5 @@
 pub mod Digits
 pub mod Widths
+pub mod NameNumbers
+pub mod Checking
 pub mod OneModule

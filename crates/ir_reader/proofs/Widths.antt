@@ -49,3 +49,6 @@ width_of-past n e = sym (width_of-none n (λ low high. go (ltb n (2 ^ 64)) (lt-l
 
 pub width_of-out : (n v : ℕ) → Some v ≡ some_below (2 ^ 64) n → (1 ≤ v → v ≤ 64 → ⊥) → None ≡ width_of n
 width_of-out n v e out = let same : v ≡ n = some_below-is (2 ^ 64) n v e in sym (width_of-none n (λ low high. out (rw same low) (rw same high)))
+
+pub same_width : (v w : Width) → v.bits ≡ w.bits → v ≡ w
+same_width v w e = let a : width_of v.bits ≡ Some v = width_of-bits v.bits v refl in let b : width_of v.bits ≡ Some w = width_of-bits v.bits w (sym e) in let both : Some v ≡ Some w = sym a ∙ b in cc both
