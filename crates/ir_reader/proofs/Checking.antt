@@ -23,10 +23,11 @@ use Rattle.ir_reader.specs.declared.written.WrittenOperand.{WrittenOperand}
 use Rattle.ir_reader.specs.declared.written.WrittenOperand.TheVariants as written
 use Rattle.ir_reader.specs.declared.written.WrittenParameter.{WrittenParameter}
 use Rattle.ir_reader.specs.declared.written.WrittenInst.{WrittenInst}
+use Rattle.ir_reader.specs.declared.written.WrittenReturn.{WrittenReturn}
 use Rattle.ir_reader.specs.declared.written.WrittenFunction.{WrittenFunction}
 use Rattle.ir_reader.specs.EntryName.{entry_name}
 use Rattle.ir_reader.specs.Numbering.{operand_names, inst_names, parameter_names, mentions, gathered, numbered_operand, numbered_inst, numbered_parameter, numbered_block, numbered_over, numbered}
-use Rattle.ir_reader.specs.Checking.{Table, no_names, defined, if_same, typed_number, value_number, local_at, operand_in, ◌>>=◌, parameter_in, inst_in, each_in, made_of, checked}
+use Rattle.ir_reader.specs.Checking.{Table, no_names, defined, if_same, typed_number, value_number, local_at, operand_in, ◌>>=◌, parameter_in, inst_in, each_in, head_in, block_of, blocks_in, parts_in, made_of, checked}
 use Rattle.ir_reader.proofs.NameNumbers.{number-front, number-back, has-less, less-has, number-new, any-front, gathered-front, gathered-known, gathered-new, position-number, number-position}
 use Rattle.ir_reader.proofs.Widths.{same_width}
 
@@ -513,33 +514,80 @@ whole-length f t rest S = sym (ap length S.defines ∙ ap length (append-nil (pl
 all-names : (w : WrittenFunction) (t : Table) → Stands (numbered w) t (operand_names w.returned.operand) [] → AreThere (operand_names w.returned.operand) t.names → t.names ≡ (numbered w).names
 all-names w t S there = sym (S.gathers ∙ ap (λ (ns : List Name). gathered t.names ns) (sym (append-nil (operand_names w.returned.operand))) ∙ gathered-there t.names (operand_names w.returned.operand) [] there)
 
-made-same : (w : WrittenFunction) (ps qs : List Parameter) (l m : ℕ) (is js : List Inst) (o u : Operand) (ns ms : List Name) → ps ≡ qs → l ≡ m → is ≡ js → o ≡ u → ns ≡ ms → made_of w ps l is o ns ≡ made_of w qs m js u ms
+made-same : (w : WrittenFunction) (ps qs : List Parameter) (l m : ℕ) (is js : List Inst) (o u : Operand) (ns ms : List Name) → ps ≡ qs → l ≡ m → is ≡ js → o ≡ u → ns ≡ ms → made_of w ps (block_of l is w.returned.width o) ns ≡ made_of w qs (block_of m js w.returned.width u) ms
 made-same w ps qs l m is js o u ns ms a b c d e = rw (a, b, c, d, e) refl
 
 pub record IsChecked (w : WrittenFunction) (f : Function) : Type 0 where
   pub numbered_so : f ≡ numbered w
   pub well_formed : IsWellFormed (numbered w)
 
+some-same : {A : Type 0} (x y : A) → Some x ≡ Some y → x ≡ y
+some-same x y e = cc e
+
+-- the steps of a function's parts
+record HasParts (w : WrittenFunction) (parts : (List Parameter × List Block) × Table) : Type 0 where
+  parameters : List Parameter × Table
+  entry : Table
+  insts : List Inst × Table
+  operand : Operand
+  parameters_are : each_in parameter_in no_names w.parameters ≡ Some parameters
+  entry_is : defined parameters.1 (entry_name (parameter_names w.parameters)) None ≡ Some entry
+  insts_are : each_in inst_in entry w.insts ≡ Some insts
+  operand_is : operand_in insts.1 w.returned.width w.returned.operand ≡ Some operand
+  all : ((parameters.0, block_of (length parameters.1.names) insts.0 w.returned.width operand), insts.1) ≡ parts
+
+head-found : (ps : List WrittenParameter) (head : (List Parameter × ℕ) × Table) → head_in no_names ps ≡ Some head
+    → (parameters : List Parameter × Table) × (entry : Table) × (each_in parameter_in no_names ps ≡ Some parameters) × (defined parameters.1 (entry_name (parameter_names ps)) None ≡ Some entry) × (((parameters.0, length parameters.1.names), entry) ≡ head)
+unfolding head_in
+head-found ps head e =
+    let P = then-some (each_in parameter_in no_names ps) _ head e in
+    let E = then-some (defined P.0.1 (entry_name (parameter_names ps)) None) _ head P.2 in
+    (P.0, E.0, P.1, E.1, some-same _ _ E.2)
+
+blocks-found : (t : Table) (label : ℕ) (is : List WrittenInst) (r : WrittenReturn) (blocks : List Block × Table) → blocks_in t label is r ≡ Some blocks
+    → (insts : List Inst × Table) × (operand : Operand) × (each_in inst_in t is ≡ Some insts) × (operand_in insts.1 r.width r.operand ≡ Some operand) × ((block_of label insts.0 r.width operand, insts.1) ≡ blocks)
+unfolding blocks_in
+blocks-found t label is r blocks e =
+    let I = then-some (each_in inst_in t is) _ blocks e in
+    let O = then-some (operand_in I.0.1 r.width r.operand) _ blocks I.2 in
+    (I.0, O.0, I.1, O.1, some-same _ _ O.2)
+
+parts-found : (w : WrittenFunction) (parts : (List Parameter × List Block) × Table) → parts_in w.parameters w.insts w.returned ≡ Some parts → HasParts w parts
+unfolding parts_in
+parts-found w parts e =
+    let H = then-some (head_in no_names w.parameters) _ parts e in
+    go H.0 (head-found w.parameters H.0 H.1) H.2
+  where
+    go : (head : (List Parameter × ℕ) × Table)
+        → ((parameters : List Parameter × Table) × (entry : Table) × (each_in parameter_in no_names w.parameters ≡ Some parameters) × (defined parameters.1 (entry_name (parameter_names w.parameters)) None ≡ Some entry) × (((parameters.0, length parameters.1.names), entry) ≡ head))
+        → (blocks_in head.1 head.0.1 w.insts w.returned >>= λ blocks. Some ((head.0.0, blocks.0), blocks.1)) ≡ Some parts → HasParts w parts
+    go head (parameters, entry, p, d, same) e' =
+        let e2 : (blocks_in entry (length parameters.1.names) w.insts w.returned >>= λ blocks. Some ((parameters.0, blocks.0), blocks.1)) ≡ Some parts =
+        subst (λ (h : (List Parameter × ℕ) × Table). (blocks_in h.1 h.0.1 w.insts w.returned >>= λ blocks. Some ((h.0.0, blocks.0), blocks.1)) ≡ Some parts) (sym same) e' in
+        let B = then-some (blocks_in entry (length parameters.1.names) w.insts w.returned) _ parts e2 in
+        let F = blocks-found entry (length parameters.1.names) w.insts w.returned B.0 B.1 in
+        record {
+          parameters = parameters;
+          entry = entry;
+          insts = F.0;
+          operand = F.1;
+          parameters_are = p;
+          entry_is = d;
+          insts_are = F.2;
+          operand_is = F.3;
+          all = ap (λ (b : List Block × Table). ((parameters.0, b.0), b.1)) F.4 ∙ some-same _ _ B.2;
+        }
+
 pub checked-found : (w : WrittenFunction) (f : Function) → checked w ≡ Some f → IsChecked w f
 unfolding checked
-checked-found w f e =
-    let P = then-some (each_in parameter_in no_names w.parameters) _ f e in
-    let E = then-some (defined P.0.1 (entry_name (parameter_names w.parameters)) None) _ f P.2 in
-    let I = then-some (each_in inst_in E.0 w.insts) _ f E.2 in
-    let O = then-some (operand_in I.0.1 w.returned.width w.returned.operand) _ f I.2 in
-    let B = body-found w P.0 E.0 I.0 P.1 E.1 I.1 in
-    let R = operand-found (numbered w) I.0.1 (operand_names w.returned.operand) [] w.returned.width w.returned.operand O.0 B.stands O.1 in
-    let names = all-names w I.0.1 B.stands R.there in
-    by P.0.0 (length P.0.1.names) I.0.0 O.0 I.0.1 B.parameters_so B.label_so B.insts_so R.numbered_so names B.stands B.usable R.usable (eqb w.returned.width.bits w.returns.bits) refl O.2
+checked-found w f e = start (eqb w.returned.width.bits w.returns.bits) refl e
   where
     by : (ps : List Parameter) (label : ℕ) (is : List Inst) (o : Operand) (t : Table) → ps ≡ (numbered w).parameters → label ≡ number_of (numbered w).names (entry_name (parameter_names w.parameters)) → is ≡ map (numbered_inst (numbered w).names) w.insts
         → o ≡ numbered_operand (numbered w).names w.returned.operand → t.names ≡ (numbered w).names → Stands (numbered w) t (operand_names w.returned.operand) []
         → ((k : ℕ) (i : Inst) → slice_get is k ≡ Some i → AreOperandsUsable (numbered w) (length (numbered w).parameters + 1 + k) i) → IsUsable (numbered w) (length t.types) (Int w.returned.width) o
-        → (b : Bool) → eqb w.returned.width.bits w.returns.bits ≡ b → cond b (Some (made_of w ps label is o t.names)) None ≡ Some f → IsChecked w f
-    by ps label is o t a l c d ns S uses last false t-is e' = absurd (cc e')
-    by ps label is o t a l c d ns S uses last true t-is e' =
-        let whole : made_of w ps label is o t.names ≡ numbered w = made-same w ps (numbered w).parameters label (number_of (numbered w).names (entry_name (parameter_names w.parameters))) is (map (numbered_inst (numbered w).names) w.insts) o (numbered_operand (numbered w).names w.returned.operand) t.names (numbered w).names a l c d ns in
-        let f-is : made_of w ps label is o t.names ≡ f = cc e' in
+        → eqb w.returned.width.bits w.returns.bits ≡ true → made_of w ps (block_of label is w.returned.width o) t.names ≡ f → IsChecked w f
+    by ps label is o t a l c d ns S uses last t-is f-is =
+        let whole : made_of w ps (block_of label is w.returned.width o) t.names ≡ numbered w = made-same w ps (numbered w).parameters label (number_of (numbered w).names (entry_name (parameter_names w.parameters))) is (map (numbered_inst (numbered w).names) w.insts) o (numbered_operand (numbered w).names w.returned.operand) t.names (numbered w).names a l c d ns in
         let width : w.returned.width ≡ w.returns = same_width _ _ (eqb-true _ _ t-is) in
         record {
           numbered_so = sym f-is ∙ whole;
@@ -552,11 +600,23 @@ checked-found w f e =
           };
         }
 
+    start : (b : Bool) → eqb w.returned.width.bits w.returns.bits ≡ b → cond b (parts_in w.parameters w.insts w.returned >>= λ parts. Some (made_of w parts.0.0 parts.0.1 parts.1.names)) None ≡ Some f → IsChecked w f
+    start false t-is e' = absurd (cc e')
+    start true t-is e' =
+        let Q = then-some (parts_in w.parameters w.insts w.returned) _ f e' in
+        let H = parts-found w Q.0 Q.1 in
+        let B = body-found w H.parameters H.entry H.insts H.parameters_are H.entry_is H.insts_are in
+        let R = operand-found (numbered w) H.insts.1 (operand_names w.returned.operand) [] w.returned.width w.returned.operand H.operand B.stands H.operand_is in
+        let names = all-names w H.insts.1 B.stands R.there in
+        let f-is : made_of w H.parameters.0 (block_of (length H.parameters.1.names) H.insts.0 w.returned.width H.operand) H.insts.1.names ≡ f =
+        ap (λ (p : (List Parameter × List Block) × Table). made_of w p.0.0 p.0.1 p.1.names) H.all ∙ some-same _ _ Q.2 in
+        by H.parameters.0 (length H.parameters.1.names) H.insts.0 H.operand H.insts.1 B.parameters_so B.label_so B.insts_so R.numbered_so names B.stands B.usable R.usable t-is f-is
+
 int-same : (v w : Width) → Some (Int v) ≡ Some (Int w) → v ≡ w
 int-same v w e = cc e
 
 pub checked-again : (w : WrittenFunction) → IsWellFormed (numbered w) → checked w ≡ Some (numbered w)
-unfolding checked
+unfolding checked parts_in head_in blocks_in
 checked-again w W =
     let f : Function = numbered w in
     let block : numbered_block f.names w ≡ W.block = first-is (numbered_block f.names w) W.block W.one_block in
@@ -575,7 +635,7 @@ checked-again w W =
     let names : I.0.names ≡ f.names = all-names w I.0 B.stands OF.there in
     let width : w.returns ≡ w.returned.width = int-same w.returns w.returned.width returned.0 in
     let test : eqb w.returned.width.bits w.returns.bits ≡ true = eq-eqb _ _ (sym (ap (λ (v : Width). v.bits) width)) in
-    rw (P.1, e, I.1, o, test) (ap (λ (g : Function). Some g) (made-same w f.parameters f.parameters (length P.0.names) (number_of f.names (entry_name (parameter_names w.parameters))) (map (numbered_inst f.names) w.insts) (map (numbered_inst f.names) w.insts) (numbered_operand f.names w.returned.operand) (numbered_operand f.names w.returned.operand) I.0.names f.names refl B.label_so refl refl names))
+    rw (test, P.1, e, I.1, o) (ap (λ (g : Function). Some g) (made-same w f.parameters f.parameters (length P.0.names) (number_of f.names (entry_name (parameter_names w.parameters))) (map (numbered_inst f.names) w.insts) (map (numbered_inst f.names) w.insts) (numbered_operand f.names w.returned.operand) (numbered_operand f.names w.returned.operand) I.0.names f.names refl B.label_so refl refl names))
   where
     first-is : (b c : Block) → b ∷ [] ≡ c ∷ [] → b ≡ c
     first-is b c e' = cc e'

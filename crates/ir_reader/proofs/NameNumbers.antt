@@ -10,7 +10,9 @@ use Rattle.std.proofs.lemmas.Slice.Eq.{bytes_eq-Decides}
 use Rattle.ir_tree.specs.declared.name.Name.{Name}
 use Rattle.ir_tree.specs.declared.name.Name.TheVariants.{Number, Word}
 use Rattle.ir_tree.specs.Names.{same_name, with_name, number_of}
+use Rattle.tv_num.specs.declared.Width.{Width}
 use Rattle.ir_reader.specs.Numbering.{gathered}
+use Rattle.ir_reader.specs.Checking.{Table, defined}
 
 pub same_name-refl : (x : Name) → same_name x x ≡ true
 same_name-refl (Number a) = (bytes_eq-Decides a a).1 refl
@@ -89,3 +91,35 @@ position-number xs x n e = go (ltb (number_of xs x) (length xs)) refl e
 
 pub number-position : (xs : List Name) (x : Name) → number_of xs x < length xs → position (same_name x) xs ≡ Some (number_of xs x)
 number-position xs x h = let t = lt-ltb (number_of xs x) (length xs) h in rw t refl
+
+-- what a definition answers, by the number that the table gives the name
+abbrev more_of : Table → Name → Option Width → Table
+more_of t x type = record { names = t.names ++ x ∷ []; types = t.types ++ type ∷ [] }
+
+pub defined-not : (t : Table) (x : Name) (type : Option Width) → (number_of t.names x ≡ length t.names → ⊥) → defined t x type ≡ None
+defined-not t x type other = go (list_any (same_name x) t.names) refl
+  where
+    go : (b : Bool) → list_any (same_name x) t.names ≡ b → cond b None (Some (more_of t x type)) ≡ None
+    go true e = refl
+    go false e = absurd (other (new-number t.names x e))
+
+pub defined-new : (t next : Table) (x : Name) (type : Option Width) → number_of t.names x ≡ length t.names → next.names ≡ with_name t.names x → next.types ≡ t.types ++ type ∷ [] → defined t x type ≡ Some next
+defined-new t next x type number names types = go (list_any (same_name x) t.names) refl names
+  where
+    go : (b : Bool) → list_any (same_name x) t.names ≡ b → next.names ≡ cond b t.names (t.names ++ x ∷ []) → cond b None (Some (more_of t x type)) ≡ Some next
+    go true e n = absurd (omega (arith, has-less t.names x e, number))
+    go false e n = ap (λ (u : Table). Some u) (let p : more_of t x type ≡ record { names = next.names; types = next.types } = rw (n, types) refl in p)
+
+pub sees-new : (xs ys : List Name) (x : Name) → number_of xs x ≡ length xs → ys ≡ with_name xs x → (list_any (same_name x) xs ≡ false) × (ys ≡ xs ++ x ∷ [])
+sees-new xs ys x number names = go (list_any (same_name x) xs) refl names
+  where
+    go : (b : Bool) → list_any (same_name x) xs ≡ b → ys ≡ cond b xs (xs ++ x ∷ []) → (list_any (same_name x) xs ≡ false) × (ys ≡ xs ++ x ∷ [])
+    go true e n = absurd (omega (arith, has-less xs x e, number))
+    go false e n = (e, n)
+
+pub sees-known : (xs : List Name) (x : Name) → (number_of xs x ≡ length xs → ⊥) → list_any (same_name x) xs ≡ true
+sees-known xs x other = go (list_any (same_name x) xs) refl
+  where
+    go : (b : Bool) → list_any (same_name x) xs ≡ b → list_any (same_name x) xs ≡ true
+    go true e = e
+    go false e = absurd (other (new-number xs x e))

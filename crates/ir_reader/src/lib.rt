@@ -8,10 +8,15 @@
 #![tactic(auto)]
 
 mod cursor;
+mod entries;
+mod entry_name;
+mod fault;
 mod grammar;
 mod names;
 mod numbers;
 mod reading;
+mod scope;
 mod written;
 
-pub use reading::{ModuleFault, is_one_module, read};
+pub use fault::ModuleFault;
+pub use reading::{is_one_module, read};

@@ -1,20 +1,22 @@
-ghost use Rattle.std.specs.Prelude.{◌≡◌, ℕ, List, IfOk};
+ghost use Rattle.std.specs.Prelude.{◌≡◌, ℕ, List, IfOk, true};
 ghost use Rattle.std.specs.List.{AllByRecursion};
 ghost use Rattle.ir_tree.specs.declared.module.Module.{Module};
 ghost use Rattle.ir_reader.specs.FirstForm.{IsFirstForm, IsJudgeableEntry};
-ghost use Rattle.ir_reader.specs.Answer.{Gives};
+ghost use Rattle.ir_reader.specs.Answer.{Gives, Answers};
+ghost use Rattle.ir_reader.specs.Checking.{module_in, tokens_found, whole};
+ghost use Rattle.ir_reader.specs.Grammar.{functions};
+ghost use Rattle.ir_lexer.specs.Tokens.{lexed};
+ghost use Rattle.ir_forms.specs.Form.{read};
 
-use ir_tree::Module;
+use crate::cursor::Cursor;
+use crate::entries::entries;
+use crate::fault::ModuleFault;
+use crate::written::WrittenFunction;
+use ir_forms::ReadFault;
+use ir_lexer::{LexFault, Token, lex};
+use ir_tree::{Module, Names};
 use std::alloc::Global;
-
-/// Why a text gives no module.
-#[derive(Clone, Copy, Debug, PartialEq, Eq)]
-pub enum ModuleFault {
-    /// The text is not of the first form.
-    NotRead,
-    /// There was no memory for the module.
-    NoMemory,
-}
+use support::Sequence;
 
 /// The module that a text of the first form is (LLVM Language Reference, "Functions",
 /// "Identifiers").
@@ -25,12 +27,49 @@ pub enum ModuleFault {
 /// `ret`, at most 65,536. Operands are local names and integer literals of their type. Each name is
 /// defined once, before its uses and of the type that is written there. `NotRead` comes exactly at
 /// every other text.
-pub fn read(_alloc: Global, _text: &[u8]) -> Result<Module, ModuleFault>
-    ensures found { IfOk result (λ m. IsFirstForm _text.now m) }
-    ensures only { (m : Module) → IsFirstForm _text.now m → Gives result m }
+pub fn read(alloc: Global, text: &[u8]) -> Result<Module, ModuleFault>
+    ensures found { IfOk result (λ m. IsFirstForm text.now m) }
+    ensures only { (m : Module) → IsFirstForm text.now m → Gives result m }
     ensures judgeable { IfOk result (λ m. AllByRecursion IsJudgeableEntry m.entries) }
 {
-    Err(ModuleFault::NoMemory)
+    module(alloc, text)
+}
+
+#[tactic(auto, unfolding(crate::specs::Checking::module_in))]
+fn module(alloc: Global, text: &[u8]) -> Result<Module, ModuleFault>
+    ensures { Answers result (module_in text.now) }
+{
+    let tokens = tokens(alloc, text)?;
+    let written = written(alloc, tokens.as_slice())?;
+    let mut seen = Names::new(alloc);
+    let entries = entries(alloc, &mut seen, written)?;
+    Ok(Module { entries })
+}
+
+fn tokens<'a>(alloc: Global, text: &'a [u8]) -> Result<Sequence<Token<'a>>, ModuleFault>
+    ensures { Answers result (tokens_found (lexed text.now)) }
+{
+    match lex(alloc, text) {
+        Ok(tokens) => Ok(tokens),
+        Err(LexFault::NoToken { .. }) => Err(ModuleFault::NotRead),
+        Err(LexFault::NoMemory) => Err(ModuleFault::NoMemory),
+    }
+}
+
+// The functions that all the tokens spell.
+fn written(alloc: Global, tokens: &[Token]) -> Result<Sequence<WrittenFunction>, ModuleFault>
+    ensures { Answers result (whole (read true functions tokens.now)) }
+{
+    let mut cursor = Cursor::new(alloc, tokens);
+    match cursor.functions() {
+        Ok(functions) => match cursor.left() {
+            [] => Ok(functions),
+            [_, ..] => Err(ModuleFault::NotRead),
+        },
+        Err(ReadFault::Unfit) => Err(ModuleFault::NotRead),
+        Err(ReadFault::PastLimit) => Err(ModuleFault::NotRead),
+        Err(ReadFault::NoMemory) => Err(ModuleFault::NoMemory),
+    }
 }
 
 /// A text is of the first form of one module alone.
