@@ -1,10 +1,10 @@
 -- What is read is what is spelled.
-use Rattle.std.proofs.Common.{◌≡◌, ℕ, zero, suc, ◌<◌, ◌≤◌, ◌⊎◌, inl, inr, Bool, true, false, cond, List, [], ◌∷◌, ◌++◌, length, Option, Some, None, refl, sym, ap, subst, ◌∙◌, append_assoc, arith}
+use Rattle.std.proofs.Common.{◌≡◌, ℕ, zero, suc, ◌≤◌, ◌⊎◌, inl, inr, Bool, true, false, cond, List, [], ◌∷◌, length, Option, Some, None, refl, sym, ap, subst, ◌∙◌, arith}
 use Rattle.std.specs.Prelude.{◌||◌, not}
 use Rattle.ir_lexer.specs.Lexeme.{Lexeme}
-use Rattle.ir_forms.specs.Form.{Class, never, either, Form, give, one, seq, upto, peek, tail, mapped, Why, unfit, limit, Reading, reads, stops, and_then, Judged, none, past, found, judged, taken, one_of, token_of, first_of, peeked, begun, parts, read}
+use Rattle.ir_forms.specs.Form.{Class, Form, give, one, seq, upto, peek, tail, mapped, Reading, reads, stops, and_then, Judged, none, past, found, judged, taken, token_of, first_of, peeked, begun, parts, read}
 use Rattle.std.proofs.lemmas.List.{length-append}
-use Rattle.ir_forms.proofs.Lawful.{Whole, Lawful, read_lawful}
+use Rattle.ir_forms.proofs.Lawful.{read_lawful}
 use Rattle.ir_forms.specs.Spelling.{Keeps, Token, IsNone, part_value, part_begins, SpellParts, Spells}
 
 abbrev Tokens : Type 0

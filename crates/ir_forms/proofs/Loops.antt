@@ -4,7 +4,7 @@ use Rattle.ir_lexer.specs.Lexeme.{Lexeme}
 use Rattle.ir_forms.specs.declared.fault.ReadFault.{ReadFault}
 use Rattle.ir_forms.specs.declared.fault.ReadFault.TheVariants.{Unfit, PastLimit, NoMemory}
 use Rattle.ir_forms.specs.Answer.{Fails}
-use Rattle.ir_forms.specs.Form.{Why, unfit, limit, Reading, reads, stops, and_then, Judged, none, past, found, judged, begun, beginning, begin_of, first_of, parts, step_from, step_of}
+use Rattle.ir_forms.specs.Form.{Why, unfit, limit, Reading, reads, stops, and_then, Judged, none, past, found, begun, beginning, begin_of, parts, step_from, step_of}
 
 abbrev pub Part : Type 0 → Type 0 → Type 0
 Part A S = S → A → List Lexeme → Reading S

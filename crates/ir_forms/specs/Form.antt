@@ -1,5 +1,5 @@
 -- Forms: which tokens stand in a row, and the value that they spell.
-use Rattle.std.specs.Prelude.{◌≡◌, ℕ, zero, suc, List, [], ◌∷◌, ◌++◌, length, Option, Some, None, Bool, true, false, ◌||◌, not, if◌then◌else◌}
+use Rattle.std.specs.Prelude.{◌≡◌, ℕ, zero, suc, List, [], ◌∷◌, length, Option, Some, None, Bool, true, false, ◌||◌, not, if◌then◌else◌}
 use Rattle.ir_lexer.specs.Lexeme.{Lexeme}
 
 -- A class of tokens: the value that a token stands for, and whether that keeps the limits. Some token of the

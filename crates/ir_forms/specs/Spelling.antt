@@ -1,7 +1,7 @@
 -- Which tokens spell a value.
-use Rattle.std.specs.Prelude.{◌≡◌, ◌⊎◌, ℕ, zero, suc, List, [], ◌∷◌, ◌++◌, Option, Some, None, Bool, true, false}
+use Rattle.std.specs.Prelude.{◌≡◌, ◌⊎◌, ℕ, zero, suc, List, [], ◌∷◌, Option, Some, None, Bool, true, false}
 use Rattle.ir_lexer.specs.Lexeme.{Lexeme}
-use Rattle.ir_forms.specs.Form.{Class, never, Form, give, one, seq, upto, peek, tail, mapped}
+use Rattle.ir_forms.specs.Form.{Form, give, one, seq, upto, peek, tail, mapped}
 
 -- a token keeps its limit, where limits are kept
 abbrev pub Keeps : Bool → Bool → Type 0

@@ -1,14 +1,14 @@
 -- The token that the first byte leads to is the longest one.
-use Rattle.std.proofs.Common.{◌≡◌, ℕ, zero, suc, ◌+◌, ◌<◌, ◌≤◌, Bool, true, false, cond, ◌&&◌, ◌||◌, eqb, List, [], ◌∷◌, length, take, Option, Some, None, add-one, refl, sym, ap, subst, ◌∙◌, ◌⊎◌, inl, inr, arith}
+use Rattle.std.proofs.Common.{◌≡◌, ℕ, zero, suc, ◌<◌, ◌≤◌, Bool, true, false, cond, ◌&&◌, eqb, List, [], ◌∷◌, length, take, Option, Some, None, add-one, refl, sym, ap, subst, ◌∙◌, inl, inr, arith}
 use Rattle.std.specs.Prelude.{IfSome}
 use Rattle.std.specs.List.{list_all, take_while}
 use Rattle.std.proofs.lemmas.Bool.{cases_Bool, eqb-true, cases_lt}
 use Rattle.std.proofs.lemmas.List.{length-take}
 use Rattle.std.proofs.lemmas.Bool.Decides.{nat_tests}
 use Rattle.ir_lexer.specs.declared.token.Kind.{Kind}
-use Rattle.ir_lexer.specs.declared.token.Kind.TheVariants.{Word, Number, Local, Global, Mark}
+use Rattle.ir_lexer.specs.declared.token.Kind.TheVariants.{Number, Local, Global, Mark}
 use Rattle.ir_lexer.specs.Bytes.{is_digit, begins_word, is_name_byte, is_mark}
-use Rattle.ir_lexer.specs.Spelling.{is_digits, is_word, is_number, is_name, word_kind, class_of}
+use Rattle.ir_lexer.specs.Spelling.{is_digits, is_name, word_kind, class_of}
 use Rattle.ir_lexer.specs.Tokens.{longest, longest_token, or_shorter}
 use Rattle.ir_lexer.specs.Scan.{name_front, signed, front_token}
 use Rattle.ir_lexer.proofs.Fronts.{run, run-le, all_within, not_all_past}

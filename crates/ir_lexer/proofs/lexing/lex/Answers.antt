@@ -1,4 +1,4 @@
-use Rattle.std.proofs.Common.{◌≡◌, ◌<◌, ◌≤◌, ◌+◌, ◌-◌, length, arith, drop, take, subst, sym, ap, ◌∙◌, Some, List, ◌∷◌, [], ◌++◌, Ok}
+use Rattle.std.proofs.Common.{◌≡◌, ◌-◌, length, arith, drop, take, subst, sym, ap, ◌∙◌, Some, List, ◌∷◌, [], ◌++◌, Ok}
 use Rattle.std.proofs.lemmas.Grind.{common_steps}
 use Rattle.ir_lexer.specs.Lexeme.{Lexeme}
 use Rattle.ir_lexer.specs.Tokens.{longest_token, lexed, behind_blanks}
