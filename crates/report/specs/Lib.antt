@@ -1,3 +1,4 @@
 pub mod Naming
-pub mod Text
 pub mod Status
+pub mod Text
+pub mod Rows

@@ -21,12 +21,7 @@ pub(crate) fn push_shown(
     push_outcome(alloc, out, b"  target ", &shown.target)
 }
 
-fn push_point(
-    alloc: Global,
-    out: &mut Vec<u8>,
-    point: &Point,
-    read: u64,
-) -> Result<(), NoMemory>
+fn push_point(alloc: Global, out: &mut Vec<u8>, point: &Point, read: u64) -> Result<(), NoMemory>
     ensures { OnOk result (out.new.items ≡ out.old.items ++ point_lines point.now read) }
 {
     push_args(alloc, out, point.input.args.as_slice())?;

@@ -134,12 +134,7 @@ fn reason_word(reason: Reason) -> &'static [u8]
     }
 }
 
-fn push_counted(
-    alloc: Global,
-    out: &mut Vec<u8>,
-    label: &[u8],
-    n: u64,
-) -> Result<(), NoMemory>
+fn push_counted(alloc: Global, out: &mut Vec<u8>, label: &[u8], n: u64) -> Result<(), NoMemory>
     ensures { OnOk result (out.new.items ≡ out.old.items ++ counted label.now n) }
 {
     out.extend_from_slice(label)?;

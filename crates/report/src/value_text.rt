@@ -32,12 +32,7 @@ fn push_pointer(alloc: Global, out: &mut Vec<u8>, pointer: Ptr) -> Result<(), No
     }
 }
 
-fn push_given(
-    alloc: Global,
-    out: &mut Vec<u8>,
-    number: u64,
-    offset: u64,
-) -> Result<(), NoMemory>
+fn push_given(alloc: Global, out: &mut Vec<u8>, number: u64, offset: u64) -> Result<(), NoMemory>
     ensures { OnOk result (out.new.items ≡ out.old.items ++ given_text number offset) }
 {
     out.extend_from_slice(b"given")?;
