@@ -1,0 +1,5 @@
+pub mod Searches
+pub mod RowLists
+pub mod Files
+pub mod Stopping
+pub mod Causes
