@@ -6,12 +6,14 @@
 #![tactic(auto)]
 
 mod counterexample;
+mod laws;
 mod naming;
 mod row;
 mod status;
 mod text;
 mod value_text;
 
+pub use laws::rows_are_one;
 pub use naming::name_text;
 pub use row::{Finding, Row, Side};
 pub use status::status_of;

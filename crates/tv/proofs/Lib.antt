@@ -3,3 +3,4 @@ pub mod RowLists
 pub mod Files
 pub mod Stopping
 pub mod Causes
+pub mod OneReport

@@ -8,6 +8,7 @@
 mod check;
 mod gate;
 mod index;
+mod laws;
 mod rows;
 mod stop;
 mod texts;
@@ -39,3 +40,6 @@ fn main(rt: HostRuntime) -> ExitCode {
     let status = run(&rt, words.as_slice(), &mut shelf, &mut out, &OpenGate);
     ExitCode::from(status)
 }
+
+#[cfg(test)]
+mod tests;
