@@ -136,6 +136,7 @@ fn a_sink_that_fails_has_a_front_of_the_report(rt: HostRuntime) -> Result<(), Fa
 }
 
 /// A gate that adds up the numbers of the pairs that passed, counted from 1.
+#[derive(Drop)]
 struct CountingGate {
     sum: AtomicU64,
 }
