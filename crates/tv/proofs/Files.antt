@@ -5,7 +5,7 @@ use Rattle.ir_tree.specs.declared.name.Name.{Name}
 use Rattle.ir_tree.specs.declared.module.Module.{Module}
 use Rattle.ir_tree.specs.Names.{same_name}
 use Rattle.ir_reader.specs.declared.written.WrittenFunction.{WrittenFunction}
-use Rattle.ir_reader.specs.declared.reading.ModuleFault.TheVariants.{NotRead, NoMemory}
+use Rattle.ir_reader.specs.declared.fault.ModuleFault.TheVariants.{NotRead, NoMemory}
 use Rattle.ir_reader.specs.FirstForm.{IsFirstForm, entry_of, function_names}
 use Rattle.tv.specs.Searching.{entry_names}
 use Rattle.tv.specs.Reports.{HasModule}

@@ -1,4 +1,3 @@
-ghost use Rattle.points.specs.Laws.{VerdictsAreOne};
 ghost use Rattle.tv.specs.Laws.{ReportsAreOne};
 
 use ir_reader::is_one_module;
@@ -6,7 +5,7 @@ use report::rows_are_one;
 
 /// Two files have one report, as a text has one module and a pair one verdict.
 pub fn reports_are_one()
-    ensures { VerdictsAreOne → ReportsAreOne }
+    ensures { ReportsAreOne }
 {
     is_one_module();
     rows_are_one();

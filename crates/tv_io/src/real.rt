@@ -20,7 +20,12 @@ pub struct FileShelf<'a, R: Files> {
 }
 
 impl<'a, R: Files> FileShelf<'a, R> {
-    pub fn new(rt: &'a R) -> FileShelf<'a, R> {
+    /// The files that the runtime reaches by name.
+    pub fn new(rt: &'a R) -> FileShelf<'a, R>
+        ensures fetch_faults { result.fetch_faults ≡ 0 }
+        ensures put_faults { result.put_faults ≡ 0 }
+        ensures bytes_taken { result.bytes_taken ≡ 0 }
+    {
         FileShelf {
             rt,
             fetch_faults: 0,
@@ -102,7 +107,10 @@ pub struct StandardSink<'a, R: Print> {
 }
 
 impl<'a, R: Print> StandardSink<'a, R> {
-    pub fn new(rt: &'a R) -> StandardSink<'a, R> {
+    /// The standard output of the runtime.
+    pub fn new(rt: &'a R) -> StandardSink<'a, R>
+        ensures { result.faults ≡ 0 }
+    {
         StandardSink { rt, faults: 0 }
     }
 }
