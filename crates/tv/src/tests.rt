@@ -9,8 +9,9 @@ use support::Sequence;
 use tv_io::{FailingSink, MemoryShelf, MemorySink};
 
 const FIRST_LINE: &str = "tv 1 turns 4 blocks 2 bytes 8 rounds 64 conflicts 0 weight 100000\n";
-const NO_ROWS: &str =
-    "correct 0 incorrect 0 unknown 0 refused 0 signature 0 missing 0 extra 0\n";
+
+const NO_ROWS: &str = "correct 0 incorrect 0 unknown 0 refused 0 signature 0 missing 0 extra 0\n";
+
 const IDENTITY: &str = "define i16 @f(i16 %x) {\n  ret i16 %x\n}\n";
 
 /// The words of a command line, parted by spaces.
@@ -71,17 +72,20 @@ fn two_empty_texts_have_an_empty_report(rt: HostRuntime) -> Result<(), Fail> {
 fn sums_that_differ_have_a_least_counterexample(rt: HostRuntime) -> Result<(), Fail> {
     let source = "define i8 @f(i8 %x) {\n  %r = add i8 %x, %x\n  ret i8 %r\n}\n";
     let target = "define i8 @f(i8 %x) {\n  %r = add i8 %x, 1 ; one more\n  ret i8 %r\n}\n";
-    let lines = "@f incorrect\n  arg 0 = 0\n  source returns 0\n  target returns 1\ncorrect 0 incorrect 1 unknown 0 refused 0 signature 0 missing 0 extra 0\n";
+    let lines =
+        "@f incorrect\n  arg 0 = 0\n  source returns 0\n  target returns 1\ncorrect 0 incorrect 1 unknown 0 refused 0 signature 0 missing 0 extra 0\n";
     assert!(rt; reports(&rt, source, target, lines, 1)?);
     Ok(())
 }
 
 #[test]
 fn sixteen_bits_are_judged_and_seventeen_are_too_many(rt: HostRuntime) -> Result<(), Fail> {
-    let correct = "@f correct\ncorrect 1 incorrect 0 unknown 0 refused 0 signature 0 missing 0 extra 0\n";
+    let correct =
+        "@f correct\ncorrect 1 incorrect 0 unknown 0 refused 0 signature 0 missing 0 extra 0\n";
     assert!(rt; reports(&rt, IDENTITY, IDENTITY, correct, 0)?);
     let wide = "define i17 @f(i17 %x) {\n  ret i17 %x\n}\n";
-    let unknown = "@f unknown weight\ncorrect 0 incorrect 0 unknown 1 refused 0 signature 0 missing 0 extra 0\n";
+    let unknown =
+        "@f unknown weight\ncorrect 0 incorrect 0 unknown 1 refused 0 signature 0 missing 0 extra 0\n";
     assert!(rt; reports(&rt, wide, wide, unknown, 2)?);
     Ok(())
 }
@@ -90,7 +94,8 @@ fn sixteen_bits_are_judged_and_seventeen_are_too_many(rt: HostRuntime) -> Result
 fn rows_of_one_side_stand_in_order(rt: HostRuntime) -> Result<(), Fail> {
     let source = "define i8 @a(i8 %x) {\n  ret i8 %x\n}\ndefine i8 @b() {\n  ret i8 0\n}\n";
     let target = "define i8 @a(i16 %x) {\n  ret i8 0\n}\ndefine i8 @c() {\n  ret i8 -1\n}\n";
-    let lines = "@a signature\n@b missing\n@c extra\ncorrect 0 incorrect 0 unknown 0 refused 0 signature 1 missing 1 extra 1\n";
+    let lines =
+        "@a signature\n@b missing\n@c extra\ncorrect 0 incorrect 0 unknown 0 refused 0 signature 1 missing 1 extra 1\n";
     assert!(rt; reports(&rt, source, target, lines, 3)?);
     Ok(())
 }
@@ -151,7 +156,11 @@ impl Gate for CountingGate {
 fn each_judged_pair_passes_the_gate(rt: HostRuntime) -> Result<(), Fail> {
     let alloc = rt.alloc();
     let text = b"define i1 @a() {\n  ret i1 0\n}\ndefine i1 @b() {\n  ret i1 0\n}\n";
-    let mut shelf = shelf_of(&rt, Vec::from_slice(alloc, text)?, Vec::from_slice(alloc, text)?)?;
+    let mut shelf = shelf_of(
+        &rt,
+        Vec::from_slice(alloc, text)?,
+        Vec::from_slice(alloc, text)?,
+    )?;
     let mut out = MemorySink::new(alloc, 1_000)?;
     let words = words_of(&rt, "tv check A B")?;
     let gate = CountingGate {
