@@ -5,6 +5,10 @@
 //! `unknown weight`.
 #![tactic(auto)]
 
+mod bench;
+mod cells;
+mod cover;
 mod judge;
+mod size;
 
 pub use judge::slow;
