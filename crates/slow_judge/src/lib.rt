@@ -9,6 +9,7 @@ mod bench;
 mod cells;
 mod cover;
 mod judge;
+mod search;
 mod size;
 
 pub use judge::slow;
