@@ -1,8 +1,6 @@
 -- Functions that touch no memory: the points with empty blocks decide.
-use Rattle.std.proofs.Common.{◌≡◌, ℕ, ◌+◌, ◌<◌, ◌≤◌, List, [], ◌∷◌, ◌++◌, length, map, Bool, true, false, Option, Some, None, refl, sym, ap, ◌∙◌, arith, length-append}
-use Rattle.std.specs.List.{flat_map}
+use Rattle.std.proofs.Common.{◌≡◌, ℕ, ◌+◌, ◌≤◌, List, [], ◌∷◌, ◌++◌, length, Option, Some, None, refl, sym, ap, ◌∙◌, arith, length-append}
 use Rattle.std.specs.Option.{option_map}
-use Rattle.std.proofs.lemmas.List.{length-map}
 use Rattle.ir_tree.specs.declared.tree.Inst.{Inst}
 use Rattle.ir_tree.specs.declared.tree.Inst.TheVariants.{Binary, Freeze}
 use Rattle.ir_tree.specs.declared.tree.Block.{Block}
@@ -21,9 +19,9 @@ use Rattle.points.specs.declared.point.Input.{Input}
 use Rattle.points.specs.declared.point.Point.{Point}
 use Rattle.points.specs.Pair.{Functions}
 use Rattle.points.specs.Refines.{is_refined}
-use Rattle.points.specs.Code.{number_of, args_code, blocks_code, code_of, BlocksFit}
+use Rattle.points.specs.Code.{number_of, args_code, blocks_code, BlocksFit}
 use Rattle.points.specs.Table.{value_result}
-use Rattle.points.specs.Run.{Run, ended, act, assigned, frozen, operand_value, first_machine, run_of, IsPlain}
+use Rattle.points.specs.Run.{Run, act, assigned, frozen, operand_value, first_machine, run_of, IsPlain}
 use Rattle.points.specs.Tapes.{need_of}
 use Rattle.points.specs.Covers.{covers, some_covers, shifted, is_covered}
 use Rattle.points.specs.Trail.{IsPoint, place_in, IsLeastUncovered, AreAllCovered}
@@ -31,7 +29,7 @@ use Rattle.points.proofs.Order.{number_of-append, length_of_Digits}
 use Rattle.points.proofs.Runs.{run_end, run_after, run_insts, run_entry, run_of_is}
 use Rattle.points.proofs.Same.{blocks_digits}
 use Rattle.choice_interp.proofs.Endings.{blocks_allow-same}
-use Rattle.slow_judge.specs.Search.{AreSmall, empty_blocks, IsCell, IsUncovered, IsLeastUncoveredCell, AreAllCellsCovered}
+use Rattle.slow_judge.specs.Search.{AreSmall, empty_blocks, IsCell, IsLeastUncoveredCell, AreAllCellsCovered}
 use Rattle.slow_judge.proofs.Order.{empty_fit, middle_zeros, number_of-Zeros, few, short}
 
 -- ---- a run hands its memory on

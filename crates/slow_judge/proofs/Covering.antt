@@ -1,5 +1,5 @@
 -- Tapes that cover a point, one after another.
-use Rattle.std.proofs.Common.{◌≡◌, ℕ, ◌+◌, ◌<◌, ◌≤◌, List, [], ◌∷◌, ◌++◌, length, drop, take, get_or, add-one, zero-add, Bool, true, false, ◌||◌, refl, sym, ap, ◌∙◌, arith}
+use Rattle.std.proofs.Common.{◌≡◌, ℕ, ◌+◌, ◌<◌, List, [], ◌∷◌, ◌++◌, length, drop, take, get_or, add-one, zero-add, Bool, true, false, ◌||◌, refl, sym, ap, ◌∙◌}
 use Rattle.std.specs.Prelude.{IsTrue, not, ◌↔◌}
 use Rattle.std.proofs.lemmas.List.{drop_more}
 use Rattle.std.proofs.Math.Seq.{drop-length, take-suc-set}

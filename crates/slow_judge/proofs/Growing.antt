@@ -1,5 +1,5 @@
 -- The trail as the judge grows it.
-use Rattle.std.proofs.Common.{◌≡◌, ℕ, zero, suc, ◌+◌, ◌≤◌, ◌<◌, List, [], ◌∷◌, ◌++◌, length, length-append, append-nil, Option, Some, None, slice_get, refl, sym, ap, ◌∙◌, arith}
+use Rattle.std.proofs.Common.{◌≡◌, ℕ, ◌+◌, ◌≤◌, ◌<◌, List, [], ◌∷◌, ◌++◌, length, length-append, append-nil, Option, Some, None, slice_get, refl, sym, ap, ◌∙◌, arith}
 use Rattle.points.specs.declared.point.Bounds.{Bounds}
 use Rattle.points.specs.declared.point.Budget.{Budget}
 use Rattle.points.specs.declared.point.Point.{Point}
@@ -7,9 +7,9 @@ use Rattle.points.specs.declared.verdict.Verdict.{Verdict}
 use Rattle.points.specs.declared.verdict.Verdict.TheVariants.{Correct, Incorrect, Unknown}
 use Rattle.points.specs.declared.verdict.Cause.TheVariants.{Weight, Rounds, Conflicts}
 use Rattle.points.specs.Pair.{Functions}
-use Rattle.points.specs.Covers.{covers, IsLeastCover, HasNoCover}
+use Rattle.points.specs.Covers.{IsLeastCover, HasNoCover}
 use Rattle.points.specs.Weight.{IsTooLarge}
-use Rattle.points.specs.Trail.{TrailFrom, IsLeastUncovered, AreAllCovered, HasCover, Ends, Judges, IsTrail, IsVerdict}
+use Rattle.points.specs.Trail.{TrailFrom, IsLeastUncovered, AreAllCovered, Ends, Judges, IsTrail, IsVerdict}
 use Rattle.points.proofs.Meaning.{cons_after}
 use Rattle.std.proofs.Common.{subst}
 use Rattle.slow_judge.specs.Search.{HasTrail}

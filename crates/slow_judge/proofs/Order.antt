@@ -11,7 +11,7 @@ use Rattle.byte_block.specs.declared.block.MemoryBlock.{MemoryBlock}
 use Rattle.points.specs.declared.point.Bounds.{Bounds}
 use Rattle.points.specs.declared.point.Point.{Point}
 use Rattle.points.specs.Pair.{Functions}
-use Rattle.points.specs.Code.{number_of, ArgsFit, BytesFit, BlocksFit, WordsFit, args_code, byte_code, places_code, blocks_code, code_of, place_of}
+use Rattle.points.specs.Code.{number_of, ArgsFit, BytesFit, BlocksFit, WordsFit, args_code, byte_code, places_code, blocks_code, code_of}
 use Rattle.points.specs.Next.{IsNextWords, IsLastWords, IsNextArgs, IsLastArgs}
 use Rattle.points.specs.Tapes.{need_of, widest_choice}
 use Rattle.points.specs.Trail.{place_in}
@@ -20,7 +20,7 @@ use Rattle.points.proofs.Words.{WordsFit-digits, WordsFit-length, number_of-zero
 use Rattle.points.proofs.Words as words
 use Rattle.points.proofs.Args.{IsArgsCode, args_digits, digits_of, Digits-append, any_blocks, any_code, zeros_number}
 use Rattle.points.proofs.Args as args
-use Rattle.points.proofs.Same.{Fits, blocks_digits, code_length, code_digits, same_point, blocks_count}
+use Rattle.points.proofs.Same.{Fits, blocks_digits, code_length, code_digits, same_point}
 use Rattle.points.proofs.Meaning.{widest_small}
 use Rattle.slow_judge.specs.Search.{AreSmall, empty_block, empty_blocks, IsCell, IsNextCell, IsLastCell}
 

@@ -1,5 +1,5 @@
 -- Sizes of a function within the limits.
-use Rattle.std.proofs.Common.{◌≡◌, ℕ, zero, suc, ◌+◌, ◌*◌, ◌^◌, ◌<◌, ◌≤◌, max, List, [], ◌∷◌, ◌++◌, length, drop, get_or, sum_by, refl, sym, ap, ◌∙◌, arith, length-append}
+use Rattle.std.proofs.Common.{◌≡◌, ℕ, suc, ◌+◌, ◌*◌, ◌^◌, ◌<◌, ◌≤◌, max, List, [], ◌∷◌, length, drop, get_or, sum_by, refl, ap, ◌∙◌, arith, length-append}
 use Rattle.std.specs.List.{flat_map}
 use Rattle.std.proofs.lemmas.List.{drop_more}
 use Rattle.std.proofs.lemmas.List.Sums.{sum_by-cons}
@@ -9,7 +9,6 @@ use Rattle.std.proofs.Math.Nat.{mul-le-mul_right}
 use Rattle.tv_num.specs.declared.Width.{Width}
 use Rattle.ir_tree.specs.declared.tree.IrType.{IrType}
 use Rattle.ir_tree.specs.declared.tree.IrType.TheVariants as type
-use Rattle.ir_tree.specs.declared.tree.Op.{Op}
 use Rattle.ir_tree.specs.declared.tree.Op.TheVariants.{Add, Sub, UnsignedDiv, And, Xor, Or}
 use Rattle.ir_tree.specs.declared.tree.Inst.{Inst}
 use Rattle.ir_tree.specs.declared.tree.Inst.TheVariants.{Binary, Freeze}
@@ -18,8 +17,8 @@ use Rattle.ir_tree.specs.declared.tree.Terminator.TheVariants as terminator
 use Rattle.ir_tree.specs.declared.tree.Block.{Block}
 use Rattle.ir_tree.specs.declared.tree.Function.{Function}
 use Rattle.ir_tree.specs.declared.tree.Parameter.{Parameter}
-use Rattle.ir_tree.specs.Limits.{instructions_in, IsWithinLimits}
-use Rattle.points.specs.Tapes.{inst_widths, end_widths, block_widths, choice_widths, need_of, widest, widest_choice}
+use Rattle.ir_tree.specs.Limits.{IsWithinLimits}
+use Rattle.points.specs.Tapes.{inst_widths, end_widths, block_widths, choice_widths, need_of, widest}
 use Rattle.points.specs.Weight.{inst_cost, end_cost, block_cost, cost_of, type_bits, parameter_bits}
 use Rattle.points.proofs.Plain.{widest-append}
 
@@ -160,9 +159,26 @@ widest_end f xs i e = rw (e, drop-length xs) refl
 no_end : (end : Terminator) → end_widths end ≡ []
 no_end (terminator.Return returned) = refl
 
+max_one : (insts : List Inst) (end : Terminator) → end_widths end ≡ [] → max (widest (flat_map inst_widths insts)) (widest (end_widths end)) ≡ widest (flat_map inst_widths insts)
+unfolding widest
+max_one insts end e = let low = widest_positive (flat_map inst_widths insts) in let w = ap widest e in omega (arith, low, w)
+
 pub widest_block : (b : Block) → widest (block_widths b) ≡ widest (flat_map inst_widths b.insts)
-widest_block b = let e = no_end b.terminator in let one = widest-append (flat_map inst_widths b.insts) (end_widths b.terminator) in one ∙ max_one b.insts b.terminator e
-  where
-    max_one : (insts : List Inst) (end : Terminator) → end_widths end ≡ [] → max (widest (flat_map inst_widths insts)) (widest (end_widths end)) ≡ widest (flat_map inst_widths insts)
-    unfolding widest
-    max_one insts end e = let low = widest_positive (flat_map inst_widths insts) in let w = ap widest e in omega (arith, low, w)
+widest_block b = widest-append (flat_map inst_widths b.insts) (end_widths b.terminator) ∙ max_one b.insts b.terminator (no_end b.terminator)
+
+-- ---- room for the next part of a sum
+
+pub sum_room : {A : Type 0} (f : A → ℕ) (xs : List A) (i : ℕ) (x : A) (total : ℕ) → i < length xs → x ≡ get_or xs i x → total + sum_by f (drop i xs) ≡ sum_by f xs → total + f x ≤ sum_by f xs
+sum_room f xs i x total below is e = let here = sum_at f xs i x below is in omega (arith, here, e)
+
+pub sum_done : {A : Type 0} (f : A → ℕ) (xs : List A) (i total : ℕ) → i ≡ length xs → total + sum_by f (drop i xs) ≡ sum_by f xs → total ≡ sum_by f xs
+sum_done f xs i total end e = let none = sum_end f xs i end in omega (arith, none, e)
+
+pub words_small : (insts : List Inst) → length insts ≤ 65536 → sum_by words_of insts < 2 ^ 63
+words_small insts few = let sum = sum_within words_of insts 1 one_word in omega (arith, sum, few)
+
+pub costs_small : (insts : List Inst) → length insts ≤ 65536 → sum_by inst_cost insts ≤ 268435456
+costs_small insts few = let sum = sum_within inst_cost insts 4096 small_cost in omega (arith, sum, few)
+
+pub words_sum_small : (f : Function) → IsWithinLimits f → sum_by block_words f.blocks ≤ 65536
+words_sum_small f limits = let few = few_words f limits in let is = words_in_is f in omega (arith, few, is)

@@ -1,6 +1,5 @@
 use Rattle.std.proofs.Common.{◌≡◌, length, replicate, ap, ◌∙◌}
 use Rattle.byte_block.specs.declared.value.Value.TheVariants.{Num}
-use Rattle.points.specs.Tapes.{need_of}
 use Rattle.slow_judge.proofs.Order.{first_cell, first_place}
 use Rattle.slow_judge.proofs.cells.first.Goals as goal
 

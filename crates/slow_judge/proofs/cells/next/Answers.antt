@@ -1,5 +1,4 @@
-use Rattle.std.proofs.Common.{◌≡◌, length, replicate, refl, ap, ◌∙◌, arith, List}
-use Rattle.ir_tree.specs.declared.tree.Parameter.{Parameter}
+use Rattle.std.proofs.Common.{◌≡◌, length, replicate, refl, ap, ◌∙◌, arith}
 use Rattle.points.proofs.Args.{any_blocks}
 use Rattle.points.proofs.Words.{WordsFit-length}
 use Rattle.slow_judge.proofs.Order.{next_by_tape, next_by_args, last_by_both}

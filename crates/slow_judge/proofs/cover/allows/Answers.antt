@@ -1,4 +1,4 @@
-use Rattle.std.proofs.Common.{◌≡◌, ap, ◌∙◌, sym}
+use Rattle.std.proofs.Common.{ap, ◌∙◌, sym}
 use Rattle.points.specs.Run.{run_of}
 use Rattle.slow_judge.proofs.Covering.{covers_at}
 use Rattle.slow_judge.proofs.cover.allows.Goals as goal

@@ -1,4 +1,4 @@
-use Rattle.std.proofs.Common.{arith, ◌∙◌}
+use Rattle.std.proofs.Common.{arith}
 use Rattle.std.proofs.Math.ListN.{length-set}
 use Rattle.slow_judge.specs.Search.{shift_of}
 use Rattle.slow_judge.proofs.Covering.{shift_more}

@@ -1,6 +1,6 @@
-use Rattle.std.proofs.Common.{◌≡◌, true, false, refl, sym, ap, ◌∙◌, arith}
+use Rattle.std.proofs.Common.{false, refl, arith}
 use Rattle.std.specs.Prelude.{IsTrue}
-use Rattle.slow_judge.specs.Search.{IsUncovered, IsReady}
+use Rattle.slow_judge.specs.Search.{IsUncovered}
 use Rattle.slow_judge.proofs.Order.{within_places}
 use Rattle.slow_judge.proofs.Searching.{reached_next, reached_last}
 use Rattle.slow_judge.proofs.search.least_uncovered.Goals as goal

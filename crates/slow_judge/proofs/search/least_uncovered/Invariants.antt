@@ -1,4 +1,4 @@
-use Rattle.std.proofs.Common.{◌≡◌, ◌-◌}
+use Rattle.std.proofs.Common.{◌-◌}
 use Rattle.points.specs.Trail.{place_in}
 use Rattle.slow_judge.specs.Search.{IsReady, empty_blocks}
 use Rattle.slow_judge.proofs.Order.{places_in}
