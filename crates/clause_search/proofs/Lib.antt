@@ -1,0 +1,14 @@
+pub mod Analysis
+pub mod Assigned
+pub mod Back
+pub mod ByPlace
+pub mod Counting
+pub mod Falls
+pub mod Findings
+pub mod Learns
+pub mod Leastness
+pub mod Outcomes
+pub mod Ranges
+pub mod Root
+pub mod Searches
+pub mod Seeing
