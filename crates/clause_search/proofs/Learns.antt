@@ -21,7 +21,8 @@ use Rattle.clause_search.proofs.Back.{settled-low}
 use Rattle.clause_search.specs.Ending.{digit_of, code_of, left_of}
 use Rattle.clause_search.proofs.Falls.{code-below, code-jump}
 use Rattle.clause_search.proofs.Counting.{length-trail, in_range}
-use Rattle.clause_search.proofs.Searches.{get-early, get-late, before-same, before-all}
+use Rattle.clause_search.proofs.Searches.{before-same, before-all}
+use Rattle.clause_search.proofs.Getting.{get-early, get-late}
 
 map-push : (log : List Step) (y : Step) → map (λ s. s.clause) (log ++ y ∷ []) ≡ map (λ s. s.clause) log ++ y.clause ∷ []
 map-push [] y = refl
@@ -117,12 +118,12 @@ module _ (n : ℕ) (clauses : List (List Lit)) (log : List Step) (trail : List E
   steps_are : (index : ℕ) (x : Step) → slice_get (log ++ y ∷ []) index ≡ Some x → IsNew clauses (log ++ y ∷ []) index x
   steps_are index x at = elim (cases_eq index (length log)) [
     | inl g ↦
-        let same = get-late n clauses log trail s log y x index g at in
+        let same = get-late log y x index g at in
         let here : IsNew clauses (log ++ y ∷ []) index y = subst (λ (k : ℕ). IsNew clauses (log ++ y ∷ []) k y) (sym g) new_step in
         subst (λ (z : Step). IsNew clauses (log ++ y ∷ []) index z) same here
     | inr g ↦
         let lt : index < length log = omega (arith, g, slice_get_within (log ++ y ∷ []) index x at, length-append log (y ∷ [])) in
-        let old = s.steps index x (get-early n clauses log trail s log y x index lt at) in
+        let old = s.steps index x (get-early log y x index lt at) in
         let same = before-same n clauses log trail s y index (omega arith) in
         record { chain = rw same old.chain; some = old.some; new = λ d among contains. old.new d (subst (λ (cs : List (List Lit)). Has cs d) same among) contains }
   ]

@@ -5,9 +5,11 @@ pub mod ByPlace
 pub mod Counting
 pub mod Falls
 pub mod Findings
+pub mod Getting
 pub mod Learns
 pub mod Leastness
 pub mod Outcomes
+pub mod Placing
 pub mod Ranges
 pub mod Root
 pub mod Searches

@@ -19,6 +19,7 @@ use Rattle.clause_search.specs.Searching.{standing, AreInRange, IsSearch, IsEmpt
 use Rattle.clause_search.proofs.Analysis.{consistent-trail, trail-push}
 use Rattle.clause_search.proofs.Findings.{among-numbered}
 use Rattle.clause_search.specs.Ending.{left_of}
+use Rattle.clause_search.proofs.Getting.{get-early, get-late, get-last, get-kept}
 use Rattle.clause_search.proofs.Falls.{code-below, code-push}
 use Rattle.clause_search.proofs.Counting.{length-trail}
 use Rattle.clause_search.proofs.Assigned.{tells-true}
@@ -32,11 +33,6 @@ slice_get_inside (x ∷ xs) (suc i) lt = slice_get_inside xs i (omega arith)
 module _ (n : ℕ) (clauses : List (List Lit)) (log : List Step) (trail : List Entry) (s : IsSearch n clauses log trail) where
   pub search-consistent : IsConsistent trail
   search-consistent = consistent-trail n (standing clauses log) [] trail s.trail_is (λ l a b. absurd a)
-
-  -- the variable of a literal that a clause implies
-  pub search-counted : (number : ℕ) (k : Lit) → IsUnitAt (standing clauses log) trail number k → 0 < k.variable
-  search-counted number k unit =
-      (s.in_range unit.clause (among-numbered (standing clauses log) number unit.clause unit.at) k unit.unit.has).0
 
   -- a literal that a clause implies
   pub search-unit : (number : ℕ) (k : Lit) (trail' : List Entry) → IsUnitAt (standing clauses log) trail number k
@@ -116,26 +112,6 @@ module _ (n : ℕ) (clauses : List (List Lit)) (log : List Step) (trail : List E
       go x none (l, h) = subst (λ (c : List Lit). Has c l) none h
 
   -- the log with one more step
-  pub get-early : (xs : List Step) (y x : Step) (i : ℕ) → i < length xs → slice_get (xs ++ y ∷ []) i ≡ Some x → slice_get xs i ≡ Some x
-  get-early [] y x i lt e = absurd (omega arith)
-  get-early (z ∷ zs) y x zero lt e = e
-  get-early (z ∷ zs) y x (suc i) lt e = get-early zs y x i (omega arith) e
-
-  pub get-late : (xs : List Step) (y x : Step) (i : ℕ) → i ≡ length xs → slice_get (xs ++ y ∷ []) i ≡ Some x → y ≡ x
-  get-late [] y x zero e h = cc
-  get-late [] y x (suc i) e h = absurd (omega arith)
-  get-late (z ∷ zs) y x zero e h = absurd (omega arith)
-  get-late (z ∷ zs) y x (suc i) e h = get-late zs y x i (omega arith) h
-
-  pub get-last : (xs : List Step) (y : Step) → slice_get (xs ++ y ∷ []) (length xs) ≡ Some y
-  get-last [] y = refl
-  get-last (z ∷ zs) y = get-last zs y
-
-  pub get-kept : (xs : List Step) (y x : Step) (i : ℕ) → slice_get xs i ≡ Some x → slice_get (xs ++ y ∷ []) i ≡ Some x
-  get-kept [] y x i e = cc
-  get-kept (z ∷ zs) y x zero e = e
-  get-kept (z ∷ zs) y x (suc i) e = get-kept zs y x i e
-
   pub before-same : (y : Step) (i : ℕ) → i ≤ length log → standing_before clauses (log ++ y ∷ []) i ≡ standing_before clauses log i
   before-same y i h = ap (λ zs. clauses ++ map (λ s. s.clause) zs) (take-append-le i log (y ∷ []) h)
 

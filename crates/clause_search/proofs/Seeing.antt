@@ -25,18 +25,6 @@ pub literal_eq-refl : (a b : Lit) → a ≡ b → literal_eq a b ≡ true
 literal_eq-refl a b e = subst (λ (x : Lit). literal_eq a x ≡ true) e
     (and_from (nat_eq a.variable a.variable) (same_sign a a) (eq-eqb a.variable a.variable refl) (sign-self a.positive))
 
-pub found-stands : (trail : List Entry) (l : Lit) → list_any (λ e. literal_eq e.literal l) trail ≡ true → Stands trail l
-found-stands [] l h = absurd (false≢true h)
-found-stands (e ∷ es) l h = elim (or_cases (literal_eq e.literal l) (list_any (λ e. literal_eq e.literal l) es) h) [
-  | inl a ↦ inl (literal_eq-true e.literal l a)
-  | inr a ↦ inr (found-stands es l a)
-]
-
-pub stands-found : (trail : List Entry) (l : Lit) → Stands trail l → list_any (λ e. literal_eq e.literal l) trail ≡ true
-stands-found [] l h = absurd h
-stands-found (e ∷ es) l (inl a) = or_left (literal_eq e.literal l) (list_any (λ e. literal_eq e.literal l) es) (literal_eq-refl e.literal l a)
-stands-found (e ∷ es) l (inr a) = or_right (literal_eq e.literal l) (list_any (λ e. literal_eq e.literal l) es) (stands-found es l a)
-
 -- where neither a literal nor its opposite stands the variable isn't assigned
 pub unassigned-from : (trail : List Entry) (k : Lit) → (Stands trail k → ⊥) → (IsFalse trail k → ⊥) → IsUnassigned trail k.variable
 unassigned-from trail k a b l s v = elim (cases_Bool (same_sign l k)) [

@@ -4,5 +4,6 @@ pub mod Findings
 pub mod Learning
 pub mod Looks
 pub mod Outcome
+pub mod Placing
 pub mod Searching
 pub mod Trail

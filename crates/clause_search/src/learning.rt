@@ -79,12 +79,14 @@ pub fn jump(trail: &Trail, clause: &Clause, literal: Lit, low: usize) -> usize
     ensures unit { FalseBut (take result trail.now) clause.now literal }
     ensures first { IsUnready clause.now literal [] (take result trail.now) }
 {
-    for place in 0..low {
-        if trail.get(place).reason == 0 && is_false_but(trail, place, clause, literal) {
-            return place;
+    let mut place = low;
+    'down: while let Some(earlier) = trail.decision_before(place) {
+        if !is_false_but(trail, earlier, clause, literal) {
+            break 'down;
         }
+        place = earlier;
     }
-    low
+    place
 }
 
 /// Learns from a conflict above a decision: adds the step of the learned clause, goes back to the

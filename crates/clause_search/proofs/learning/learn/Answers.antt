@@ -7,8 +7,8 @@ use Rattle.clause_search.proofs.ByPlace.{stands-take}
 use Rattle.clause_search.proofs.Learns.{search-learn, search-learn-falls}
 use Rattle.clause_search.proofs.learning.learn.Goals as goal
 
-pub push-requires-2-clause-fresh : goal.push-requires-2-clause-fresh
-push-requires-2-clause-fresh c =
+pub push-requires-2 : goal.push-requires-2
+push-requires-2 c =
     let learned = rw c.as_slice.ensures at c.in_ok-chain.ensures in
     λ l at v.
     learned.free l (stands-take c.args.trail.now c.jump-place.result c.args.low l c.jump-place.ensures.within

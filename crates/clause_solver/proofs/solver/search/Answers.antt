@@ -1,15 +1,10 @@
 -- Each round implies a literal, decides one or learns a clause.
 use Rattle.std.proofs.Common.{sym}
-use Rattle.clause_search.proofs.Searches.{search-consistent, search-counted, search-unit, search-decide, search-falls, search-sat, search-spent, search-refutes, search-careful-more}
+use Rattle.clause_search.proofs.Searches.{search-consistent, search-unit, search-decide, search-falls, search-sat, search-spent, search-refutes, search-careful-more}
 use Rattle.clause_solver.proofs.solver.search.Goals as goal
 
 pub find-requires : goal.find-requires
 find-requires c = search-consistent c.args.variables c.args.clauses.now c.search.log c.search.trail c.search.invariant
-
-pub push-requires-clause-counted : goal.push-requires-clause-counted
-push-requires-clause-counted c =
-    search-counted c.args.variables c.args.clauses.now c.search.log c.search.trail c.search.invariant c.in-Unit.number c.in-Unit.literal
-    (rw c.as_slice.ensures at c.in-Unit.ensures)
 
 pub search-smaller-in_ok-push-in-Unit : goal.search-smaller-in_ok-push-in-Unit
 search-smaller-in_ok-push-in-Unit c =
