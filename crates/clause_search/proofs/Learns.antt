@@ -80,12 +80,13 @@ module _ (n : ℕ) (clauses : List (List Lit)) (log : List Step) (trail : List E
     });
   }
 
+  trail_kept : IsTrail n (standing clauses log ++ learned.clause ∷ []) [] (take place trail)
+  trail_kept =
+      trail-more n (standing clauses log) learned.clause learned.literal is.has [] (take place trail)
+      (trail-take n (standing clauses log) trail place s.trail_is) fresh unready
+
   trail_is : IsTrail n (standing clauses log ++ learned.clause ∷ []) [] (take place trail ++ e ∷ [])
-  trail_is =
-      trail-push n (standing clauses log ++ learned.clause ∷ []) [] (take place trail) e
-      (trail-more n (standing clauses log) learned.clause learned.literal is.has [] (take place trail)
-      (trail-take n (standing clauses log) trail place s.trail_is) fresh unready)
-      grounded
+  trail_is = trail-push n (standing clauses log ++ learned.clause ∷ []) [] (take place trail) e trail_kept grounded
 
   range_learned : (l : Lit) → Has learned.clause l → (0 < l.variable) × (l.variable ≤ n)
   range_learned l h = elim (is.unit l h) [
@@ -128,17 +129,24 @@ module _ (n : ℕ) (clauses : List (List Lit)) (log : List Step) (trail : List E
         record { chain = rw same old.chain; some = old.some; new = λ d among contains. old.new d (subst (λ (cs : List (List Lit)). Has cs d) same among) contains }
   ]
 
-  -- the search goes on with the learned clause
-  pub search-learn : (log' : List Step) (trail' : List Entry) → log' ≡ log ++ y ∷ [] → trail' ≡ take place trail ++ e ∷ [] → IsSearch n clauses log' trail'
-  search-learn log' trail' l t =
+  going_on : (trail' : List Entry) → IsTrail n (standing clauses log ++ learned.clause ∷ []) [] trail' → IsSearch n clauses (log ++ y ∷ []) trail'
+  going_on trail' h =
       let whole = standing-push clauses log y ∙ ap (λ c. standing clauses log ++ c ∷ []) clause_is in
-      rw (l, t) (record {
-        trail_is = subst (λ (cs : List (List Lit)). IsTrail n cs [] (take place trail ++ e ∷ [])) (sym whole) trail_is;
+      record {
+        trail_is = subst (λ (cs : List (List Lit)). IsTrail n cs [] trail') (sym whole) h;
         in_range = subst (λ (cs : List (List Lit)). AreInRange n cs) (sym whole) range_is;
         steps = steps_are;
-      })
+      }
 
-  -- and nearer to its end
+  -- the learned clause stands
+  pub search-learned : (log' : List Step) (trail' : List Entry) → log' ≡ log ++ y ∷ [] → trail' ≡ take place trail → IsSearch n clauses log' trail'
+  search-learned log' trail' l t = rw (l, t) (going_on (take place trail) trail_kept)
+
+  -- and so does its literal
+  pub search-learn : (log' : List Step) (trail' : List Entry) → log' ≡ log ++ y ∷ [] → trail' ≡ take place trail ++ e ∷ [] → IsSearch n clauses log' trail'
+  search-learn log' trail' l t = rw (l, t) (going_on (take place trail ++ e ∷ []) trail_is)
+
+  -- which is nearer to the end of the search
   pub search-learn-falls : (trail' : List Entry) → trail' ≡ take place trail ++ e ∷ []
       → left_of n trail' < left_of n trail
   search-learn-falls trail' t = go decision

@@ -3,6 +3,7 @@ pub mod Assigned
 pub mod Back
 pub mod ByPlace
 pub mod Counting
+pub mod Deciding
 pub mod Falls
 pub mod Findings
 pub mod Getting

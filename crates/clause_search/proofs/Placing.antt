@@ -1,12 +1,12 @@
 -- What the places and marks of a trail tell.
-use Rattle.std.proofs.Common.{ℕ, zero, suc, ◌≡◌, ◌<◌, ◌≤◌, ◌+◌, ◌-◌, ◌++◌, ◌↔◌, ◌⊎◌, inl, inr, Bool, IsTrue, List, [], ◌∷◌, Option, Some, None, take, slice_get, get_or, length, arith, sym, ap, subst, refl, ◌∙◌}
-use Rattle.std.proofs.lemmas.Bool.{cases_eq}
+use Rattle.std.proofs.Common.{ℕ, zero, suc, ◌≡◌, ◌<◌, ◌≤◌, ◌+◌, ◌-◌, ◌++◌, ◌↔◌, ◌⊎◌, inl, inr, Bool, IsTrue, List, [], ◌∷◌, Option, Some, None, IsSome, take, slice_get, get_or, length, arith, sym, ap, subst, refl, ◌∙◌}
+use Rattle.std.proofs.lemmas.Bool.{cases_eq, false≢true}
 use Rattle.std.proofs.lemmas.List.{take-map, length-map}
 use Rattle.std.proofs.lemmas.Option.{slice_get_within, slice_get_read, slice_get-map, get_or_from_slice_get}
 use Rattle.clause_lits.specs.declared.lit.Lit.{Lit}
 use Rattle.clause_search.specs.declared.trail.Entry.{Entry}
 use Rattle.clause_search.specs.declared.trail.Mark.{Mark}
-use Rattle.clause_search.specs.Trail.{Stands, IsUnassigned, literal_eq}
+use Rattle.clause_search.specs.Trail.{IsAssigned, Stands, IsUnassigned, literal_eq}
 use Rattle.clause_search.specs.Learning.{IsDecisionAt}
 use Rattle.clause_search.specs.Assigning.{IsLastBelow}
 use Rattle.clause_search.specs.Placing.{entries_of, ArePlaced, AreLast, IsPlaceOf}
@@ -218,3 +218,11 @@ module _ (marks : List Mark) (m : Mark) where
         let lt : i < length marks = omega (arith, ne, slice_get_within (marks ++ m ∷ []) i d at, length-push marks m) in
         earlier d.last (i + 1) (omega (arith, lt)) (last i d (get-early marks m d i lt at))
   ])
+
+-- a variable is assigned where it has a place
+pub assigned-some : (trail : List Entry) (variable : ℕ) (place : Option ℕ) → IsPlaceOf trail variable place → IsSome place ↔ IsAssigned trail variable
+assigned-some trail variable None free = (λ t. absurd (false≢true t), λ a. absurd (free a.0 a.1 a.2))
+assigned-some trail variable (Some place) there = (λ t. go there.0, λ a. refl)
+  where
+    go : ((e : Entry) × (slice_get trail place ≡ Some e) × (e.literal.variable ≡ variable)) → IsAssigned trail variable
+    go (e, at, is) = (e.literal, somewhere-stands trail place e at, is)

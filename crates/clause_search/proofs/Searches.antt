@@ -1,5 +1,5 @@
 -- The steps of the search keep what holds all through it, and its measure falls.
-use Rattle.std.proofs.Common.{ℕ, zero, suc, ◌≡◌, ◌<◌, ◌≤◌, ◌+◌, ◌-◌, ◌++◌, inl, inr, Bool, false, List, [], ◌∷◌, Option, Some, None, slice_get, map, length, arith, sym, ap, subst, refl, ◌∙◌, length-append}
+use Rattle.std.proofs.Common.{ℕ, zero, suc, ◌≡◌, ◌<◌, ◌≤◌, ◌+◌, ◌-◌, ◌++◌, inl, inr, Bool, false, List, [], ◌∷◌, Option, Some, None, slice_get, take, map, length, arith, sym, ap, subst, refl, ◌∙◌, length-append}
 use Rattle.std.proofs.Math.Seq.{take-length}
 use Rattle.std.proofs.lemmas.List.{take-append-le}
 use Rattle.std.proofs.lemmas.Option.{slice_get_within}
@@ -16,6 +16,7 @@ use Rattle.clause_search.specs.Findings.{IsUnitAt}
 use Rattle.clause_search.specs.Assigning.{IsNextVariable, TellsAll}
 use Rattle.clause_search.specs.Outcome.{IsLeast, IsCareful, IsSpent}
 use Rattle.clause_search.specs.Searching.{standing, AreInRange, IsSearch, IsEmptyStep}
+use Rattle.clause_search.proofs.ByPlace.{trail-take}
 use Rattle.clause_search.proofs.Analysis.{consistent-trail, trail-push}
 use Rattle.clause_search.proofs.Findings.{among-numbered}
 use Rattle.clause_search.specs.Ending.{left_of}
@@ -50,6 +51,14 @@ module _ (n : ℕ) (clauses : List (List Lit)) (log : List Step) (trail : List E
         in_range = s.in_range;
         steps = s.steps;
       }
+
+  -- a trail that is cut off
+  pub search-cut : (place : ℕ) (trail' : List Entry) → trail' ≡ take place trail → IsSearch n clauses log trail'
+  search-cut place trail' is = record {
+    trail_is = rw is (trail-take n (standing clauses log) trail place s.trail_is);
+    in_range = s.in_range;
+    steps = s.steps;
+  }
 
   -- a decision
   pub search-decide : (variable : ℕ) (trail' : List Entry) → IsSettled (standing clauses log) trail → IsNextVariable n trail (Some variable)

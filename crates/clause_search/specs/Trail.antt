@@ -1,7 +1,7 @@
 -- What stands on a trail of literals, and why.
 use Rattle.clause_log.specs.Members.{Has}
 use Rattle.clause_log.specs.Resolution.{same_sign}
-use Rattle.std.specs.Prelude.{Bool, nat_eq, ◌&&◌, ℕ, ◌≡◌, ◌<◌, ◌≤◌, ◌⊎◌, false, List, [], ◌∷◌, ◌++◌, Some}
+use Rattle.std.specs.Prelude.{Bool, nat_eq, ◌&&◌, ℕ, ◌≡◌, ◌<◌, ◌≤◌, ◌⊎◌, false, List, [], ◌∷◌, ◌++◌, Some, map}
 use Rattle.clause_lits.specs.declared.lit.Lit.{Lit}
 use Rattle.clause_lits.specs.Meaning.{opposite_of}
 use Rattle.clause_log.specs.Chain.{clause_numbered}
@@ -9,8 +9,7 @@ use Rattle.clause_search.specs.declared.trail.Entry.{Entry}
 
 -- the literal is on the trail
 abbrev pub Stands : List Entry → Lit → Type 0
-Stands [] l = ⊥
-Stands (e ∷ es) l = (e.literal ≡ l) ⊎ Stands es l
+Stands trail l = Has (map (λ e. e.literal) trail) l
 
 -- the opposite literal is
 abbrev pub IsFalse : List Entry → Lit → Type 0

@@ -1,7 +1,8 @@
 //! Which variables a trail assigns.
 
-ghost use Rattle.std.specs.Prelude.{◌≡◌, ◌↔◌, IfOk, IsTrue};
-ghost use Rattle.clause_search.specs.Trail.{IsAssigned};
+ghost use Rattle.std.specs.Prelude.{List, [], IfOk};
+ghost use Rattle.clause_lits.specs.declared.lit.Lit.{Lit};
+ghost use Rattle.clause_search.specs.Trail.{IsTrail};
 ghost use Rattle.clause_search.specs.Assigning.{IsNextVariable, TellsAll};
 
 use crate::trail::Trail;
@@ -9,23 +10,18 @@ use clause_lits::{Assignment, Lit};
 use std::alloc::Global;
 use support::{NoMemory, Sequence};
 
-/// Whether one of the variable's literals stands.
-fn is_assigned(trail: &Trail, variable: u64) -> bool
-    ensures { IsTrue result ↔ IsAssigned trail.now variable }
-{
-    let literal = Lit {
-        variable,
-        positive: true,
-    };
-    trail.stands(literal) || trail.stands(literal.opposite())
-}
-
-/// The least variable that isn't assigned.
+/// The least variable that isn't assigned. Those up to the last decision are, since each decision
+/// was the least, so the way begins there.
 pub fn next_variable(trail: &Trail, variables: u64) -> Option<u64>
+    requires { (clauses : List (List Lit)) × IsTrail variables clauses [] trail.now }
     ensures { IsNextVariable variables trail.now result }
 {
-    for index in 0..variables {
-        if !is_assigned(trail, index + 1) {
+    let first = match trail.last_decision() {
+        Some(place) => trail.get(place).literal.variable,
+        None => 0,
+    };
+    for index in first..variables {
+        if !trail.is_assigned(index + 1) {
             return Some(index + 1);
         }
     }

@@ -90,7 +90,8 @@ pub fn jump(trail: &Trail, clause: &Clause, literal: Lit, low: usize) -> usize
 }
 
 /// Learns from a conflict above a decision: adds the step of the learned clause, goes back to the
-/// first decision at which all its literals but one are false, and puts that one there.
+/// first decision at which all its literals but one are false, and puts that one there. After want
+/// of memory the step or the literal may be missing, and the log and the trail are a search's still.
 pub fn learn(
     alloc: Global,
     variables: u64,
@@ -103,7 +104,7 @@ pub fn learn(
     requires search { IsSearch variables clauses.now log.old trail.old }
     requires conflict { IsFalseAt (standing clauses.now log.old) trail.old number }
     requires last { IsLastDecision trail.old low }
-    ensures search { OnOk result (IsSearch variables clauses.now log.new trail.new) }
+    ensures search { IsSearch variables clauses.now log.new trail.new }
     ensures falls { OnOk result (left_of variables trail.new < left_of variables trail.old) }
 {
     let Learned {

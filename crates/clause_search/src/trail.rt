@@ -1,7 +1,7 @@
 //! The literals that stand, in the order in which they came.
 
 ghost use Rattle.std.specs.Prelude.{◌≡◌, ◌<◌, ◌≤◌, ◌↔◌, ◌++◌, ◌∷◌, [], IsTrue, OnOk, OnErr, length, take, slice_get, Some, ℕ};
-ghost use Rattle.clause_search.specs.Trail.{Stands, IsUnassigned, literal_eq};
+ghost use Rattle.clause_search.specs.Trail.{IsAssigned, IsUnassigned, Stands, literal_eq};
 ghost use Rattle.clause_search.specs.Assigning.{IsLastBelow, IsLastPlace};
 ghost use Rattle.clause_search.specs.Placing.{IsPlaceOf};
 
@@ -125,6 +125,13 @@ impl Trail {
         ensures { IsTrue result ↔ Stands self.now literal }
     {
         self.stands_before(self.len(), literal)
+    }
+
+    /// Whether a literal of the variable stands.
+    pub fn is_assigned(&self, variable: u64) -> bool
+        ensures { IsTrue result ↔ IsAssigned self.now variable }
+    {
+        self.place_of(variable).is_some()
     }
 
     /// The last decision before a place.

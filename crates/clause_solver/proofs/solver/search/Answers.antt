@@ -24,6 +24,9 @@ search-preserved-in_ok-push-in-Nothing c =
     search-decide c.args.variables c.args.clauses.now c.search.log c.search.trail c.search.invariant c.in-Some.variable c.push-in-Nothing.new.self
     (rw c.as_slice.ensures at c.in-Nothing.ensures) c.in-Some.ensures c.in_ok-push-in-Nothing.ensures.ok
 
+pub next_variable-requires : goal.next_variable-requires
+next_variable-requires c = (_, c.search.invariant.trail_is)
+
 pub returns-in_default : goal.returns-in_default
 returns-in_default c =
     search-sat c.args.variables c.args.clauses.now c.search.log c.search.trail c.search.invariant c.args.front c.in_ok-values-in-Nothing.field-0 c.requires.front c.requires.in_range
