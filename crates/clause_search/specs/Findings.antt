@@ -25,6 +25,12 @@ IsFound clauses trail Nothing = IsSettled clauses trail
 IsFound clauses trail (Unit number k) = IsUnitAt clauses trail number k
 IsFound clauses trail (Conflict number) = IsFalseAt clauses trail number
 
--- the first clauses are settled
-abbrev pub AreOpen : List (List Lit) → List Entry → ℕ → Type 0
-AreOpen clauses trail place = (n : ℕ) (c : List Lit) → n < place + 1 → clause_numbered clauses n ≡ Some c → IsOpen trail c
+-- the clauses numbered above `from` and up to `to` are settled
+abbrev pub AreOpen : List (List Lit) → List Entry → ℕ → ℕ → Type 0
+AreOpen clauses trail from to = (n : ℕ) (c : List Lit) → from < n → n < to + 1 → clause_numbered clauses n ≡ Some c → IsOpen trail c
+
+-- what a look at these alone finds
+abbrev pub IsFoundBetween : List (List Lit) → List Entry → ℕ → ℕ → Found → Type 0
+IsFoundBetween clauses trail from to Nothing = AreOpen clauses trail from to
+IsFoundBetween clauses trail from to (Unit number k) = IsUnitAt clauses trail number k
+IsFoundBetween clauses trail from to (Conflict number) = IsFalseAt clauses trail number

@@ -42,12 +42,16 @@ fn search(
 {
     let mut log: Log = Sequence::from_vec(Vec::new(alloc));
     let mut trail = Trail::new(alloc);
+    let mut first = 0;
     'search: loop {
-        match find(clauses, log.as_slice(), &trail) {
-            Found::Unit(number, literal) => trail.push(Entry {
-                literal,
-                reason: number,
-            })?,
+        match find(clauses, log.as_slice(), &trail, first) {
+            Found::Unit(number, literal) => {
+                first = number as usize;
+                trail.push(Entry {
+                    literal,
+                    reason: number,
+                })?;
+            }
             Found::Nothing => {
                 let Some(variable) = next_variable(&trail, variables) else {
                     return Ok(Answer::Sat(values(alloc, &trail, variables)?));
