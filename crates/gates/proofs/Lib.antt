@@ -1,0 +1,5 @@
+pub mod Stages
+pub mod Named
+pub mod Clauses
+pub mod FactLemmas
+pub mod Encoded

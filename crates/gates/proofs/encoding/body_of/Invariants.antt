@@ -1,0 +1,8 @@
+-- The clauses so far say what the gates so far do.
+use Rattle.std.proofs.Common.{ℕ, ◌≡◌, ◌↔◌, Bool, true, length}
+use Rattle.clause_lits.specs.Meaning.{AreWithin, clauses_true}
+use Rattle.gates.specs.Facts.{AreFacts}
+use Rattle.gates.proofs.encoding.body_of.Given as goal
+
+abbrev pub invariant-loop-place : goal.invariant-loop-place
+invariant-loop-place l = AreWithin (length l.gates) l.clauses.items × ((v : ℕ → Bool) → (clauses_true v l.clauses.items ≡ true) ↔ AreFacts v l.number l.gates l.place)

@@ -1,0 +1,4 @@
+pub mod Values
+pub mod Numbering
+pub mod Facts
+pub mod Encoding

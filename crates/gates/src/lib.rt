@@ -1,0 +1,18 @@
+//! Circuits of and gates with signs on their inputs, and the clauses that say what they do.
+//!
+//! A [`Circuit`] is an and-inverter graph (Kuehlmann, Paruthi, Krohm, Ganai, "Robust Boolean reasoning
+//! for equivalence checking and functional property verification", 2002): a negation is a sign and
+//! costs no gate, constants are folded, and of equal gates only one is kept. It promises that
+//! [`to_cnf`] gives clauses with exactly one model over each assignment of the inputs (Tseitin's
+//! encoding), in which the last clause, one literal, has the value of the output. It stands on
+//! `clause_lits`; the bits of terms and the questions to a solver are made of it.
+#![tactic(auto)]
+
+mod circuit;
+mod encoding;
+mod numbering;
+#[cfg(test)]
+mod tests;
+
+pub use circuit::{Circuit, Gate, GateId};
+pub use encoding::to_cnf;
