@@ -1,5 +1,5 @@
 -- A function that passes the check is numbered and well formed, and one that is passes it.
-use Rattle.std.proofs.Common.{◌≡◌, ℕ, zero, suc, ◌+◌, ◌<◌, ◌≤◌, Bool, true, false, cond, eqb, List, [], ◌∷◌, ◌++◌, length, map, Option, Some, None, refl, sym, ap, subst, ◌∙◌, append_assoc, add-one, add_assoc, inl, inr, arith}
+use Rattle.std.proofs.Common.{◌≡◌, ℕ, zero, suc, ◌+◌, ◌<◌, Bool, true, false, cond, eqb, List, [], ◌∷◌, ◌++◌, length, map, Option, Some, None, refl, sym, ap, subst, ◌∙◌, append_assoc, inl, inr, arith}
 use Rattle.std.specs.Prelude.{slice_get, flat_map, position}
 use Rattle.std.specs.List.{list_any}
 use Rattle.std.proofs.lemmas.Bool.{cases_Bool, eqb-true, eq-eqb}
@@ -17,7 +17,7 @@ use Rattle.ir_tree.specs.declared.tree.Inst.TheVariants.{Binary}
 use Rattle.ir_tree.specs.declared.tree.Parameter.{Parameter}
 use Rattle.ir_tree.specs.declared.tree.Block.{Block}
 use Rattle.ir_tree.specs.declared.tree.Function.{Function}
-use Rattle.ir_tree.specs.Names.{same_name, with_name, number_of}
+use Rattle.ir_tree.specs.Names.{same_name, number_of}
 use Rattle.ir_tree.specs.WellFormed.{Definition, parameter_definition, result_definition, label_definition, block_definitions, definitions, IsDefinedOnce, IsDefinedBefore, IsUsable, AreOperandsUsable, IsReturnable, IsWellFormed}
 use Rattle.ir_reader.specs.declared.written.WrittenOperand.{WrittenOperand}
 use Rattle.ir_reader.specs.declared.written.WrittenOperand.TheVariants as written
@@ -26,7 +26,7 @@ use Rattle.ir_reader.specs.declared.written.WrittenInst.{WrittenInst}
 use Rattle.ir_reader.specs.declared.written.WrittenReturn.{WrittenReturn}
 use Rattle.ir_reader.specs.declared.written.WrittenFunction.{WrittenFunction}
 use Rattle.ir_reader.specs.EntryName.{entry_name}
-use Rattle.ir_reader.specs.Numbering.{operand_names, inst_names, parameter_names, mentions, gathered, numbered_operand, numbered_inst, numbered_parameter, numbered_block, numbered_over, numbered}
+use Rattle.ir_reader.specs.Numbering.{operand_names, inst_names, parameter_names, mentions, gathered, numbered_operand, numbered_inst, numbered_parameter, numbered_block, numbered}
 use Rattle.ir_reader.specs.Checking.{Table, no_names, defined, if_same, typed_number, value_number, local_at, operand_in, ◌>>=◌, parameter_in, inst_in, each_in, head_in, block_of, blocks_in, parts_in, made_of, checked}
 use Rattle.ir_reader.proofs.NameNumbers.{number-front, number-back, has-less, less-has, number-new, any-front, gathered-front, gathered-known, gathered-new, position-number, number-position}
 use Rattle.ir_reader.proofs.Widths.{same_width}
@@ -455,9 +455,6 @@ stands-once f t rest S i j d e di ej same =
 record IsEntry (w : WrittenFunction) (t next : Table) : Type 0 where
   step : IsStep (numbered w) t next (flat_map inst_names w.insts ++ operand_names w.returned.operand) (map result_definition (map (numbered_inst (numbered w).names) w.insts) ++ [])
   number : number_of (numbered w).names (entry_name (parameter_names w.parameters)) ≡ length t.names
-
-behind-parameters : WrittenFunction → List Name
-behind-parameters w = entry_name (parameter_names w.parameters) ∷ (flat_map inst_names w.insts ++ operand_names w.returned.operand)
 
 entry-found : (w : WrittenFunction) (t next : Table) → Stands (numbered w) t (entry_name (parameter_names w.parameters) ∷ (flat_map inst_names w.insts ++ operand_names w.returned.operand)) (flat_map block_definitions (numbered w).blocks)
     → defined t (entry_name (parameter_names w.parameters)) None ≡ Some next → IsEntry w t next

@@ -1,8 +1,7 @@
 -- The entries of functions that are checked in turn are those of functions of different names, each well formed.
-use Rattle.std.proofs.Common.{◌≡◌, ℕ, Bool, true, false, cond, List, [], ◌∷◌, ◌++◌, map, Option, Some, None, refl, sym, ap, subst, ◌∙◌, inl, inr}
-use Rattle.std.specs.Prelude.{◌||◌, Result, Ok}
+use Rattle.std.proofs.Common.{◌≡◌, ℕ, Bool, true, false, cond, List, [], ◌∷◌, ◌++◌, map, Option, Some, None, refl, sym, ap, subst, ◌∙◌}
+use Rattle.std.specs.Prelude.{◌||◌, Ok}
 use Rattle.std.specs.List.{list_any, AllByRecursion, IsDistinct}
-use Rattle.std.proofs.lemmas.Bool.{cases_Bool}
 use Rattle.std.proofs.lemmas.List.Folds.{list_any-append}
 use Rattle.std.proofs.lemmas.Slice.Eq.{bytes_eq-Decides}
 use Rattle.ir_tree.specs.declared.module.Entry.{Entry}
@@ -15,8 +14,7 @@ use Rattle.ir_reader.specs.declared.written.WrittenFunction.{WrittenFunction}
 use Rattle.ir_reader.specs.Numbering.{numbered}
 use Rattle.ir_reader.specs.Checking.{each_in, checked, entry_in, ◌>>=◌}
 use Rattle.ir_reader.specs.FirstForm.{entry_of, function_names}
-use Rattle.ir_reader.proofs.NameNumbers.{same_name-refl}
-use Rattle.ir_reader.proofs.Checking.{checked-found, checked-again, IsChecked}
+use Rattle.ir_reader.proofs.Checking.{checked-found, checked-again}
 
 -- ---- names
 

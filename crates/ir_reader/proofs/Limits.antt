@@ -1,21 +1,19 @@
 -- What is spelled keeps the limits of a function.
-use Rattle.std.proofs.Common.{◌≡◌, ℕ, zero, suc, ◌+◌, ◌<◌, ◌≤◌, Bool, true, false, cond, ltb, List, [], ◌∷◌, ◌++◌, length, map, Option, Some, None, refl, sym, ap, subst, ◌∙◌, inl, inr, arith}
-use Rattle.std.specs.Prelude.{◌&&◌, is_some}
+use Rattle.std.proofs.Common.{◌≡◌, ℕ, zero, suc, ◌<◌, ◌≤◌, Bool, true, false, ltb, List, [], ◌∷◌, ◌++◌, length, map, refl, sym, subst, inl, inr, arith}
+use Rattle.std.specs.Prelude.{◌&&◌}
 use Rattle.std.specs.List.{AllByRecursion}
 use Rattle.std.proofs.lemmas.Bool.{ltb-true}
 use Rattle.std.proofs.lemmas.List.{length-append, length-map}
 use Rattle.ir_lexer.specs.Lexeme.{Lexeme}
-use Rattle.ir_tree.specs.Limits.{IsWithinLimits, AreIntegers}
+use Rattle.ir_tree.specs.Limits.{AreIntegers}
 use Rattle.ir_tree.specs.declared.module.Entry.{Entry}
 use Rattle.ir_tree.specs.declared.module.Module.{Module}
 use Rattle.ir_tree.specs.declared.name.Name.{Name}
-use Rattle.ir_forms.specs.Form.{Form, never}
-use Rattle.ir_forms.specs.Spelling.{Keeps, Token, part_begins, SpellParts, Spells}
+use Rattle.ir_forms.specs.Spelling.{SpellParts, Spells}
 use Rattle.ir_reader.specs.declared.written.WrittenParameter.{WrittenParameter}
-use Rattle.ir_reader.specs.declared.written.WrittenInst.{WrittenInst}
 use Rattle.ir_reader.specs.declared.written.WrittenFunction.{WrittenFunction}
-use Rattle.ir_reader.specs.Classes.{any, width_in, is_width, type_for, counted_type}
-use Rattle.ir_reader.specs.Grammar.{is_comma, parameter_begins, parameter, with_parameter, more_parameters, first_parameter, parameters, is_local, inst_begins, inst_within, inst, with_inst, insts, returned, function, is_define, function_begins, function_within, with_function, functions}
+use Rattle.ir_reader.specs.Classes.{any}
+use Rattle.ir_reader.specs.Grammar.{is_comma, parameter_begins, parameter, with_parameter, more_parameters, first_parameter, parameters, function, is_define, function_begins, function_within, with_function, functions}
 use Rattle.ir_reader.specs.Numbering.{numbered, numbered_parameter, numbered_inst}
 use Rattle.ir_reader.specs.FirstForm.{IsFirstForm, IsJudgeable, IsJudgeableEntry, entry_of}
 

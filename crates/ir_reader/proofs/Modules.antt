@@ -1,5 +1,5 @@
 -- The module that is made of a text is the one that the text is.
-use Rattle.std.proofs.Common.{◌≡◌, ℕ, true, List, [], ◌∷◌, map, Option, Some, None, refl, sym, ap, subst, ◌∙◌}
+use Rattle.std.proofs.Common.{◌≡◌, ℕ, true, List, [], ◌∷◌, Option, Some, None, refl, sym, ap, ◌∙◌}
 use Rattle.std.specs.Prelude.{Result, Ok, Err, IfOk}
 use Rattle.std.specs.List.{AllByRecursion}
 use Rattle.ir_lexer.specs.Lexeme.{Lexeme}
@@ -8,13 +8,12 @@ use Rattle.ir_forms.specs.Form.{Reading, reads, stops, read}
 use Rattle.ir_forms.proofs.Exact.{read-found, read-again}
 use Rattle.ir_tree.specs.declared.module.Entry.{Entry}
 use Rattle.ir_tree.specs.declared.module.Module.{Module}
-use Rattle.ir_tree.specs.declared.name.Name.{Name}
 use Rattle.ir_reader.specs.declared.fault.ModuleFault.{ModuleFault}
 use Rattle.ir_reader.specs.declared.fault.ModuleFault.TheVariants.{NotRead, NoMemory}
 use Rattle.ir_reader.specs.declared.written.WrittenFunction.{WrittenFunction}
 use Rattle.ir_reader.specs.Answer.{Answers, Gives}
 use Rattle.ir_reader.specs.Grammar.{functions}
-use Rattle.ir_reader.specs.FirstForm.{IsFirstForm, IsJudgeableEntry, entry_of}
+use Rattle.ir_reader.specs.FirstForm.{IsFirstForm, IsJudgeableEntry}
 use Rattle.ir_reader.specs.Checking.{each_in, entry_in, tokens_found, whole, module_in, ◌>>=◌}
 use Rattle.ir_reader.proofs.EntryLemmas.{entries-found, entries-again, none-seen}
 use Rattle.ir_reader.proofs.Limits.{first-judgeable}

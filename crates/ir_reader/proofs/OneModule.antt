@@ -1,10 +1,9 @@
 -- A text of the first form is one module.
-use Rattle.std.proofs.Common.{◌≡◌, ℕ, true, List, [], map, Result, Ok, Err, sym, ap, ◌∙◌, subst}
+use Rattle.std.proofs.Common.{◌≡◌, ℕ, true, List, [], map, Result, Ok, sym, ap, ◌∙◌, subst}
 use Rattle.ir_lexer.specs.Lexeme.{Lexeme}
-use Rattle.ir_lexer.specs.Tokens.{lexed}
 use Rattle.ir_tree.specs.declared.module.Entry.{Entry}
 use Rattle.ir_tree.specs.declared.module.Module.{Module}
-use Rattle.ir_forms.specs.Form.{Reading, reads, read}
+use Rattle.ir_forms.specs.Form.{reads}
 use Rattle.ir_forms.specs.Spelling.{Spells}
 use Rattle.ir_forms.proofs.Exact.{read-again}
 use Rattle.ir_reader.specs.declared.written.WrittenFunction.{WrittenFunction}

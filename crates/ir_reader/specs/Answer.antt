@@ -2,7 +2,7 @@
 use Rattle.std.specs.List.{list_any}
 use Rattle.ir_tree.specs.Names.{same_name}
 use Rattle.ir_tree.specs.declared.name.Name.{Name}
-use Rattle.std.specs.Prelude.{◌≡◌, ℕ, Bool, true, false, List, [], ◌∷◌, ◌++◌, length, Option, Some, None, Result, Ok, Err}
+use Rattle.std.specs.Prelude.{◌≡◌, ℕ, true, false, List, [], ◌∷◌, ◌++◌, length, Option, Some, None, Result, Ok, Err}
 use Rattle.ir_reader.specs.Checking.{Table}
 use Rattle.ir_tree.specs.declared.module.Module.{Module}
 use Rattle.ir_reader.specs.declared.fault.ModuleFault.{ModuleFault}

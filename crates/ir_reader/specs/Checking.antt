@@ -1,5 +1,5 @@
 -- What numbering and checking in one go gives: a table of the names that are defined so far, with their types. A name's definition is its first appearance, so that its place in the table is its number.
-use Rattle.std.specs.Prelude.{ℕ, List, [], ◌∷◌, ◌++◌, length, Option, Some, None, Bool, true, false, ◌==◌, if◌then◌else◌, slice_get, position, Result, Ok, Err}
+use Rattle.std.specs.Prelude.{ℕ, List, [], ◌∷◌, ◌++◌, length, Option, Some, None, true, ◌==◌, if◌then◌else◌, slice_get, position, Result, Ok, Err}
 use Rattle.std.specs.List.{list_any}
 use Rattle.tv_num.specs.declared.Width.{Width}
 use Rattle.ir_tree.specs.Names.{same_name}

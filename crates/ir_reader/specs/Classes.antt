@@ -1,5 +1,5 @@
 -- Classes of tokens.
-use Rattle.std.specs.Prelude.{◌≡◌, refl, ℕ, List, [], ◌∷◌, Option, Some, None, Bool, true, false, if◌then◌else◌, codes, ◌&&◌, is_some}
+use Rattle.std.specs.Prelude.{◌≡◌, refl, ℕ, List, Option, Some, None, Bool, true, false, codes, ◌&&◌, is_some}
 use Rattle.std.proofs.Common.{lit≤}
 use Rattle.tv_num.specs.declared.Width.{Width}
 use Rattle.ir_lexer.specs.declared.token.Kind.TheVariants as kind

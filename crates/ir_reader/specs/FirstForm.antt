@@ -1,5 +1,5 @@
 -- Which texts are of the first form, and the module that each of them is.
-use Rattle.std.specs.Prelude.{◌≡◌, ℕ, List, [], map, Result, Ok, Some, true}
+use Rattle.std.specs.Prelude.{◌≡◌, ℕ, List, [], map, Ok, Some, true}
 use Rattle.std.specs.List.{IsDistinct, AllByRecursion}
 use Rattle.ir_lexer.specs.Lexeme.{Lexeme}
 use Rattle.ir_lexer.specs.Tokens.{lexed}

@@ -1,5 +1,5 @@
 -- Which tokens spell the functions of a text.
-use Rattle.std.specs.Prelude.{◌≡◌, refl, ℕ, List, [], ◌∷◌, ◌++◌, length, Option, Some, None, Bool, true, false, codes, nat_lt, is_some}
+use Rattle.std.specs.Prelude.{refl, ℕ, List, [], ◌∷◌, ◌++◌, length, Option, Bool, codes, nat_lt, is_some}
 use Rattle.tv_num.specs.declared.Width.{Width}
 use Rattle.ir_lexer.specs.Lexeme.{Lexeme}
 use Rattle.ir_tree.specs.declared.name.Name.{Name}
@@ -8,8 +8,8 @@ use Rattle.ir_reader.specs.declared.written.WrittenInst.{WrittenInst}
 use Rattle.ir_reader.specs.declared.written.WrittenReturn.{WrittenReturn}
 use Rattle.ir_reader.specs.declared.written.WrittenFunction.{WrittenFunction}
 use Rattle.ir_reader.specs.Spelling.{is_word_of, is_mark_of, local_of}
-use Rattle.ir_reader.specs.Classes.{any, word, mark, counted_word, as_word, as_mark, local, global, int_type, counted_type, operand_class, op_class}
-use Rattle.ir_forms.specs.Form.{Form, never, either, give, one, seq, upto, peek, tail, ◌>>=◌}
+use Rattle.ir_reader.specs.Classes.{any, mark, counted_word, as_word, as_mark, local, global, int_type, counted_type, operand_class, op_class}
+use Rattle.ir_forms.specs.Form.{Form, never, either, give, one, upto, peek, tail, ◌>>=◌}
 
 -- ---- parameters
 

@@ -1,12 +1,11 @@
 -- A function whose names go by number: the names in the order of their first appearance, and the tree with each name's number.
-use Rattle.std.specs.Prelude.{ℕ, List, [], ◌∷◌, ◌++◌, map, flat_map, Option, Some}
+use Rattle.std.specs.Prelude.{List, [], ◌∷◌, ◌++◌, map, flat_map, Some}
 use Rattle.ir_tree.specs.declared.name.Name.{Name}
 use Rattle.ir_tree.specs.declared.tree.IrType.TheVariants.{Int}
 use Rattle.ir_tree.specs.declared.tree.Operand.{Operand}
 use Rattle.ir_tree.specs.declared.tree.Operand.TheVariants as operand
 use Rattle.ir_tree.specs.declared.tree.Inst.{Inst}
 use Rattle.ir_tree.specs.declared.tree.Inst.TheVariants.{Binary}
-use Rattle.ir_tree.specs.declared.tree.Returned.{Returned}
 use Rattle.ir_tree.specs.declared.tree.Terminator.TheVariants.{Return}
 use Rattle.ir_tree.specs.declared.tree.Block.{Block}
 use Rattle.ir_tree.specs.declared.tree.Parameter.{Parameter}

@@ -1,0 +1,7 @@
+pub mod Blocks
+pub mod Covering
+pub mod Growing
+pub mod Order
+pub mod Searching
+pub mod Sizes
+pub mod TapeSearch

@@ -1,13 +1,75 @@
-ghost use Rattle.std.specs.Prelude.{IfOk};
+ghost use Rattle.std.specs.Prelude.{◌≡◌, IfOk};
 ghost use Rattle.ir_tree.specs.Limits.{IsWithinLimits, AreIntegers};
 ghost use Rattle.points.specs.Range.{AreInRange};
+ghost use Rattle.points.specs.Tapes.{need_of, widest_choice};
 ghost use Rattle.points.specs.Trail.{IsVerdict};
+ghost use Rattle.slow_judge.specs.Search.{AreSmall, empty_blocks, IsReady, HasTrail};
 
-use points::{Bounds, Budget, Pair, Verdict};
+use crate::bench::Bench;
+use crate::cells::{blocks_without_bytes, zeros};
+use crate::search::{Tape, least_cover, least_uncovered};
+use crate::size::{is_too_large, need, widest_of};
+use choice_interp::machine_for;
+use points::{Bounds, Budget, Cause, Pair, Verdict};
 use std::alloc::Global;
-use support::NoMemory;
+use support::{NoMemory, Sequence};
 
-/// The verdict on a pair of functions with integer parameters.
+fn bench_for(alloc: Global, pair: &Pair, bounds: &Bounds, need: usize) -> Result<Bench, NoMemory>
+    requires { need ≡ need_of bounds.now.turns pair.now.source }
+    ensures { IfOk result (IsReady pair.now bounds.now (empty_blocks bounds.now.bytes bounds.now.blocks)) }
+{
+    let blocks = blocks_without_bytes(alloc, bounds)?;
+    Ok(Bench {
+        source: machine_for(alloc, pair.source(), &blocks)?,
+        target: machine_for(alloc, pair.target(), &blocks)?,
+        candidate: zeros(alloc, need)?,
+    })
+}
+
+/// The verdict on a pair that is not too large.
+fn grow(
+    alloc: Global,
+    pair: &Pair,
+    bounds: &Bounds,
+    budget: &Budget,
+    of_source: Tape,
+    of_target: Tape,
+) -> Result<Verdict, NoMemory>
+    requires integers { AreIntegers pair.now.target.parameters }
+    requires small { AreSmall bounds.now }
+    requires source_words { of_source.words ≡ need_of bounds.now.turns pair.now.source }
+    requires source_width { of_source.width.bits ≡ widest_choice pair.now.source }
+    requires target_words { of_target.words ≡ need_of bounds.now.turns pair.now.target }
+    requires target_width { of_target.width.bits ≡ widest_choice pair.now.target }
+    ensures { IfOk result (HasTrail pair.now bounds.now budget.now) }
+{
+    let mut bench = bench_for(alloc, pair, bounds, of_source.words)?;
+    let mut tapes: Vec<Sequence<u64>> = Vec::new(alloc);
+    loop {
+        let point = match least_uncovered(
+            alloc,
+            pair,
+            bounds,
+            of_target,
+            tapes.as_slice(),
+            &mut bench,
+        )? {
+            Some(point) => point,
+            None => return Ok(Verdict::Correct),
+        };
+        let tape = match least_cover(alloc, pair, bounds, of_source, &point, &mut bench)? {
+            Some(tape) => tape,
+            None => return Ok(Verdict::Incorrect(point)),
+        };
+        if tapes.len() as u64 == budget.rounds {
+            return Ok(Verdict::Unknown(Cause::Rounds));
+        }
+        tapes.push(tape)?;
+    }
+}
+
+/// The verdict on a pair of functions with integer parameters. Its time grows with two to the power
+/// of the pair's bits, which are at most 16; a pair with more of them is told as too heavy.
 pub fn slow(
     alloc: Global,
     pair: &Pair,
@@ -21,5 +83,17 @@ pub fn slow(
     requires in_range { AreInRange bounds.now budget.now }
     ensures { IfOk result (IsVerdict pair.now bounds.now budget.now) }
 {
-    Err(NoMemory)
+    if is_too_large(pair, bounds, budget) {
+        return Ok(Verdict::Unknown(Cause::Weight));
+    }
+    let of_source = Tape {
+        words: need(pair.source(), bounds),
+        width: widest_of(pair.source()),
+    };
+    let of_target = Tape {
+        words: need(pair.target(), bounds),
+        width: widest_of(pair.target()),
+    };
+    let verdict = grow(alloc, pair, bounds, budget, of_source, of_target)?;
+    Ok(verdict)
 }

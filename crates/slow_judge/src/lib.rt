@@ -5,6 +5,11 @@
 //! `unknown weight`.
 #![tactic(auto)]
 
+mod bench;
+mod cells;
+mod cover;
 mod judge;
+mod search;
+mod size;
 
 pub use judge::slow;

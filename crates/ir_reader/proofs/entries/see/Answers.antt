@@ -1,4 +1,4 @@
-use Rattle.std.proofs.Common.{◌≡◌, length, ap, sym, ◌∙◌}
+use Rattle.std.proofs.Common.{◌≡◌, ap, sym, ◌∙◌}
 use Rattle.ir_tree.specs.Names.{with_name, number_of}
 use Rattle.ir_reader.proofs.NameNumbers.{sees-new, sees-known}
 use Rattle.ir_reader.proofs.entries.see.Goals as goal

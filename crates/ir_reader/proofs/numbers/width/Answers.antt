@@ -1,4 +1,4 @@
-use Rattle.std.proofs.Common.{◌≡◌, ◌^◌, sym, ◌∙◌, ap, Option, Some, arith, ℕ}
+use Rattle.std.proofs.Common.{◌^◌, sym, ◌∙◌, arith}
 use Rattle.ir_reader.specs.Numbers.{value_of}
 use Rattle.ir_reader.proofs.Widths.{width_of-bits, width_of-past, width_of-out, some_below-is}
 use Rattle.ir_reader.proofs.numbers.width.Goals as goal

@@ -1,6 +1,6 @@
-use Rattle.std.proofs.Common.{◌≡◌, length, arith, ap, sym, ◌∙◌}
+use Rattle.std.proofs.Common.{ap}
 use Rattle.ir_reader.specs.Checking.{Table}
-use Rattle.ir_reader.proofs.NameNumbers.{defined-not, defined-new}
+use Rattle.ir_reader.proofs.NameNumbers.{defined-not}
 use Rattle.ir_reader.proofs.scope.Scope.define.Goals as goal
 
 pub returns-then-number-next : goal.returns-then-number-next

@@ -1,9 +1,8 @@
-use Rattle.std.proofs.Common.{◌≡◌, List, [], ◌∷◌, ◌++◌, length, arith, ap, sym, ◌∙◌, Option, Some, subst}
+use Rattle.std.proofs.Common.{◌≡◌, ◌∷◌}
 use Rattle.std.specs.Vec.Iter.{into_iter_items}
 use Rattle.std.proofs.lemmas.Result.{err_from_is_err_and}
-use Rattle.ir_tree.specs.declared.tree.Inst.{Inst}
-use Rattle.ir_reader.specs.Checking.{Table, inst_in, each_in}
-use Rattle.ir_reader.proofs.Each.{in_front, each-more, each-none, checks-none}
+use Rattle.ir_reader.specs.Checking.{inst_in, each_in}
+use Rattle.ir_reader.proofs.Each.{each-more, checks-none}
 use Rattle.ir_reader.proofs.scope.Scope.insts.Goals as goal
 
 pub loop-inst-preserved : goal.loop-inst-preserved

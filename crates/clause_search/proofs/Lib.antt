@@ -1,0 +1,17 @@
+pub mod Analysis
+pub mod Assigned
+pub mod Back
+pub mod ByPlace
+pub mod Counting
+pub mod Deciding
+pub mod Falls
+pub mod Findings
+pub mod Getting
+pub mod Learns
+pub mod Leastness
+pub mod Outcomes
+pub mod Placing
+pub mod Ranges
+pub mod Root
+pub mod Searches
+pub mod Seeing

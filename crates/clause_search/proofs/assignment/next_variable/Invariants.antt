@@ -1,0 +1,5 @@
+use Rattle.clause_search.specs.Assigning.{AreAssigned}
+use Rattle.clause_search.proofs.assignment.next_variable.Given as goal
+
+abbrev pub invariant-loop-index : goal.invariant-loop-index
+invariant-loop-index l = AreAssigned l.trail l.index

@@ -1,0 +1,11 @@
+-- At the decision so far the clause is unit.
+use Rattle.std.proofs.Common.{◌≤◌, take}
+use Rattle.clause_search.specs.Trail.{FalseBut}
+use Rattle.clause_search.specs.Learning.{IsDecisionAt}
+use Rattle.clause_search.proofs.learning.jump.Given as goal
+
+abbrev pub invariant-down : goal.invariant-down
+invariant-down l = (l.place ≤ l.low) × IsDecisionAt l.trail l.place × FalseBut (take l.place l.trail) l.clause l.literal
+
+abbrev pub decreases-down : goal.decreases-down
+decreases-down l = l.place

@@ -1,0 +1,9 @@
+pub mod Assigning
+pub mod Ending
+pub mod Findings
+pub mod Learning
+pub mod Looks
+pub mod Outcome
+pub mod Placing
+pub mod Searching
+pub mod Trail

@@ -1,0 +1,22 @@
+//! The parts that searches for a model share: the trail, what a conflict teaches, and the answer.
+//!
+//! A search keeps a [`Trail`] of literals with their reasons, decides the least unassigned variable
+//! as 0, and learns the clause of the first unique implication point of each conflict, as GRASP and
+//! Chaff do. It promises that each part keeps what holds all through a search, so that a solver
+//! holds its own way to find units and conflicts, and the loop. It stands on `clause_log`; the
+//! solvers stand on it.
+#![tactic(auto)]
+
+mod answer;
+mod assignment;
+mod learning;
+mod looking;
+mod refuting;
+mod trail;
+
+pub use answer::{Answer, is_spent};
+pub use assignment::{next_variable, values};
+pub use learning::{Learned, analyze, jump, learn};
+pub use looking::{Found, Look, has, is_false_but, look_at};
+pub use refuting::refute;
+pub use trail::{Entry, Trail};

@@ -1,0 +1,158 @@
+-- Functions that touch no memory: the points with empty blocks decide.
+use Rattle.std.proofs.Common.{◌≡◌, ℕ, ◌+◌, ◌≤◌, List, [], ◌∷◌, ◌++◌, length, Option, Some, None, refl, sym, ap, ◌∙◌, arith, length-append}
+use Rattle.std.specs.Option.{option_map}
+use Rattle.ir_tree.specs.declared.tree.Inst.{Inst}
+use Rattle.ir_tree.specs.declared.tree.Inst.TheVariants.{Binary, Freeze}
+use Rattle.ir_tree.specs.declared.tree.Block.{Block}
+use Rattle.ir_tree.specs.declared.tree.Function.{Function}
+use Rattle.ir_tree.specs.declared.tree.Terminator.{Terminator}
+use Rattle.ir_tree.specs.declared.tree.Terminator.TheVariants as terminator
+use Rattle.byte_block.specs.declared.value.Value.{Value}
+use Rattle.byte_block.specs.declared.value.Value.TheVariants.{Num, Poison}
+use Rattle.byte_block.specs.declared.value.Value.TheVariants as value
+use Rattle.byte_block.specs.declared.block.MemoryBlock.{MemoryBlock}
+use Rattle.points.specs.declared.machine.Machine.{Machine}
+use Rattle.points.specs.declared.outcome.Outcome.{Outcome}
+use Rattle.points.specs.declared.outcome.Outcome.TheVariants.{Return, Ub, Beyond}
+use Rattle.points.specs.declared.point.Bounds.{Bounds}
+use Rattle.points.specs.declared.point.Input.{Input}
+use Rattle.points.specs.declared.point.Point.{Point}
+use Rattle.points.specs.Pair.{Functions}
+use Rattle.points.specs.Refines.{is_refined}
+use Rattle.points.specs.Code.{number_of, args_code, blocks_code, BlocksFit}
+use Rattle.points.specs.Table.{value_result}
+use Rattle.points.specs.Run.{Run, act, assigned, frozen, operand_value, first_machine, run_of, IsPlain}
+use Rattle.points.specs.Tapes.{need_of}
+use Rattle.points.specs.Covers.{covers, some_covers, shifted, is_covered}
+use Rattle.points.specs.Trail.{IsPoint, place_in, IsLeastUncovered, AreAllCovered}
+use Rattle.points.proofs.Order.{number_of-append, length_of_Digits}
+use Rattle.points.proofs.Runs.{run_end, run_after, run_insts, run_entry, run_of_is}
+use Rattle.points.proofs.Same.{blocks_digits}
+use Rattle.choice_interp.proofs.Endings.{blocks_allow-same}
+use Rattle.slow_judge.specs.Search.{AreSmall, empty_blocks, IsCell, IsLeastUncoveredCell, AreAllCellsCovered}
+use Rattle.slow_judge.proofs.Order.{empty_fit, middle_zeros, number_of-Zeros, few, short}
+
+-- ---- a run hands its memory on
+
+abbrev with_memory : List MemoryBlock → Outcome → Outcome
+with_memory memory (Return v m) = Return v memory
+with_memory memory Ub = Ub
+with_memory memory Beyond = Beyond
+
+abbrev placed : List MemoryBlock → Machine → Machine
+placed memory m = record m { memory = memory }
+
+abbrev rerun : List MemoryBlock → Run → Run
+rerun memory run = record { outcome = with_memory memory run.outcome; taken = run.taken }
+
+refined_any_memory : (a b : Outcome) (memory other : List MemoryBlock) → is_refined (with_memory memory a) (with_memory memory b) ≡ is_refined (with_memory other a) (with_memory other b)
+refined_any_memory (Return v m) (Return w n) memory other = rw (blocks_allow-same memory, blocks_allow-same other) refl
+refined_any_memory (Return v m) Ub memory other = refl
+refined_any_memory (Return v m) Beyond memory other = refl
+refined_any_memory Ub (Return w n) memory other = refl
+refined_any_memory Ub Ub memory other = refl
+refined_any_memory Ub Beyond memory other = refl
+refined_any_memory Beyond (Return w n) memory other = refl
+refined_any_memory Beyond Ub memory other = refl
+refined_any_memory Beyond Beyond memory other = refl
+
+assigned_placed : (memory : List MemoryBlock) (m : Machine) (into : ℕ) (v : Option Value) → option_map (assigned (placed memory m) into) v ≡ option_map (placed memory) (option_map (assigned m into) v)
+assigned_placed memory m into None = refl
+assigned_placed memory m into (Some v) = refl
+
+frozen_placed : (memory : List MemoryBlock) (tape : List ℕ) (m : Machine) (into width : ℕ) (v : Value) → frozen tape (placed memory m) into width v ≡ placed memory (frozen tape m into width v)
+frozen_placed memory tape m into width (Num n) = refl
+frozen_placed memory tape m into width Poison = refl
+frozen_placed memory tape m into width (value.Ptr p) = refl
+
+act_placed : (memory : List MemoryBlock) (inst : Inst) (tape : List ℕ) (m : Machine) → act inst tape (placed memory m) ≡ option_map (placed memory) (act inst tape m)
+act_placed memory (Binary into op width left right) tape m = assigned_placed memory m into (value_result op width.bits (operand_value m.registers left) (operand_value m.registers right))
+act_placed memory (Freeze into width operand) tape m = ap Some (frozen_placed memory tape m into width.bits (operand_value m.registers operand))
+
+end_placed : (memory : List MemoryBlock) (end : Terminator) (m : Machine) → run_end end (placed memory m) ≡ rerun memory (run_end end m)
+end_placed memory (terminator.Return returned) m = refl
+
+after_placed : (memory : List MemoryBlock) (o : Option Machine) (m : Machine) (go : Machine → Run) → ((m' : Machine) → go (placed memory m') ≡ rerun memory (go m')) → run_after (option_map (placed memory) o) (placed memory m) go ≡ rerun memory (run_after o m go)
+after_placed memory None m go h = refl
+after_placed memory (Some m') m go h = h m'
+
+insts_placed : (memory : List MemoryBlock) (insts : List Inst) (end : Terminator) (tape : List ℕ) (m : Machine) → run_insts insts end tape (placed memory m) ≡ rerun memory (run_insts insts end tape m)
+unfolding run_insts
+insts_placed memory [] end tape m = end_placed memory end m
+insts_placed memory (inst ∷ insts) end tape m =
+    ap (λ (o : Option Machine). run_after o (placed memory m) (run_insts insts end tape)) (act_placed memory inst tape m)
+    ∙ after_placed memory (act inst tape m) m (run_insts insts end tape) (λ m'. insts_placed memory insts end tape m')
+
+entry_placed : (memory : List MemoryBlock) (blocks : List Block) (tape : List ℕ) (m : Machine) → run_entry blocks tape (placed memory m) ≡ rerun memory (run_entry blocks tape m)
+entry_placed memory [] tape m = refl
+entry_placed memory (b ∷ bs) tape m = insts_placed memory b.insts b.terminator tape m
+
+-- the same input with other blocks
+abbrev pub with_blocks : List MemoryBlock → Input → Input
+with_blocks memory input = record { args = input.args; blocks = memory }
+
+run_any_memory : (f : Function) (bounds : Bounds) (memory : List MemoryBlock) (input : Input) (tape : List ℕ) → run_of f bounds (with_blocks memory input) tape ≡ rerun memory (run_of f bounds input tape)
+run_any_memory f bounds memory input tape =
+    run_of_is f bounds (with_blocks memory input) tape ∙ entry_placed memory f.blocks tape (first_machine f input) ∙ ap (rerun memory) (sym (run_of_is f bounds input tape))
+
+-- ---- the same point with empty blocks
+
+abbrev pub emptied : Bounds → Point → Point
+emptied bounds q = record { input = with_blocks (empty_blocks bounds.bytes bounds.blocks) q.input; tape = q.tape }
+
+refined_2 : (x x' y y' : Outcome) → x ≡ x' → y ≡ y' → is_refined x y ≡ is_refined x' y'
+refined_2 x x' y y' e f = rw (e, f) refl
+
+covers_emptied : (pair : Functions) (bounds : Bounds) (q : Point) (tape : List ℕ) → covers pair bounds (emptied bounds q) tape ≡ covers pair bounds q tape
+unfolding covers
+covers_emptied pair bounds q tape =
+    let empty = empty_blocks bounds.bytes bounds.blocks in
+    let a = ap (λ (r : Run). r.outcome) (run_any_memory pair.source bounds empty q.input tape) in
+    let b = ap (λ (r : Run). r.outcome) (run_any_memory pair.target bounds empty q.input q.tape) in
+    let a' = ap (λ (r : Run). r.outcome) (run_any_memory pair.source bounds q.input.blocks q.input tape) in
+    let b' = ap (λ (r : Run). r.outcome) (run_any_memory pair.target bounds q.input.blocks q.input q.tape) in
+    refined_2 _ _ _ _ a b ∙ refined_any_memory (run_of pair.source bounds q.input tape).outcome (run_of pair.target bounds q.input q.tape).outcome empty q.input.blocks ∙ sym (refined_2 _ _ _ _ a' b')
+
+some_covers_emptied : (pair : Functions) (bounds : Bounds) (q : Point) (tapes : List (List ℕ)) → some_covers pair bounds (emptied bounds q) tapes ≡ some_covers pair bounds q tapes
+unfolding some_covers
+some_covers_emptied pair bounds q [] = refl
+some_covers_emptied pair bounds q (tape ∷ tapes) = rw (covers_emptied pair bounds q tape, some_covers_emptied pair bounds q tapes) refl
+
+covered_emptied : (pair : Functions) (bounds : Bounds) (tapes : List (List ℕ)) (q : Point) → is_covered pair bounds tapes (emptied bounds q) ≡ is_covered pair bounds tapes q
+covered_emptied pair bounds tapes q = some_covers_emptied pair bounds q (shifted (need_of bounds.turns pair.source) q.tape ++ tapes)
+
+-- ---- and it comes no later
+
+no_later : (a x y t : List ℕ) → length x ≡ length y → number_of x ≡ 0 → number_of (a ++ (x ++ t)) ≤ number_of (a ++ (y ++ t))
+no_later a x y t long zeros =
+    let same : length (x ++ t) ≡ length (y ++ t) = length-append x t ∙ ap (λ n. n + length t) long ∙ sym (length-append y t) in
+    rw (number_of-append a (x ++ t), number_of-append a (y ++ t), number_of-append x t, number_of-append y t, same, zeros) (omega arith)
+
+place_emptied : (pair : Functions) (bounds : Bounds) (q : Point) → AreSmall bounds → BlocksFit bounds.blocks bounds.bytes 1 q.input.blocks → place_in pair bounds (emptied bounds q) ≤ place_in pair bounds q
+place_emptied pair bounds q small given =
+    let empty = empty_blocks bounds.bytes bounds.blocks in
+    let zeros = number_of-Zeros (blocks_code bounds.blocks empty) (middle_zeros bounds.blocks bounds.bytes) in
+    let d = blocks_digits bounds.blocks bounds.bytes empty (few bounds small) (short bounds small) (empty_fit bounds.blocks bounds.bytes) in
+    let d' = blocks_digits bounds.blocks bounds.bytes q.input.blocks (few bounds small) (short bounds small) given in
+    let long : length (blocks_code bounds.blocks empty) ≡ length (blocks_code bounds.blocks q.input.blocks) = length_of_Digits _ _ d ∙ sym (length_of_Digits _ _ d') in
+    no_later (args_code bounds.blocks pair.target.parameters q.input.args) (blocks_code bounds.blocks empty) (blocks_code bounds.blocks q.input.blocks) q.tape long zeros
+
+-- ---- so they decide
+
+emptied_cell : (pair : Functions) (bounds : Bounds) (q : Point) → IsPoint pair bounds q → IsCell pair bounds (emptied bounds q)
+emptied_cell pair bounds q point = record { args = point.args; blocks = refl; tape = point.tape }
+
+emptied_plain : (pair : Functions) (bounds : Bounds) (q : Point) → IsPoint pair bounds q → IsPlain q.tape (run_of pair.target bounds (emptied bounds q).input q.tape)
+emptied_plain pair bounds q point = λ k. rw (run_any_memory pair.target bounds (empty_blocks bounds.bytes bounds.blocks) q.input q.tape) (point.plain k)
+
+pub all_covered : (pair : Functions) (bounds : Bounds) (tapes : List (List ℕ)) → AreAllCellsCovered pair bounds tapes → AreAllCovered pair bounds tapes
+all_covered pair bounds tapes all = λ q point. sym (covered_emptied pair bounds tapes q) ∙ all (emptied bounds q) (emptied_cell pair bounds q point) (emptied_plain pair bounds q point)
+
+pub least_of_points : (pair : Functions) (bounds : Bounds) (tapes : List (List ℕ)) (p : Point) → AreSmall bounds → IsLeastUncoveredCell pair bounds tapes p → IsLeastUncovered pair bounds tapes p
+least_of_points pair bounds tapes p small least = record {
+  point = record { args = least.cell.args; given = rw least.cell.blocks (empty_fit bounds.blocks bounds.bytes); tape = least.cell.tape; plain = least.here.plain };
+  uncovered = least.here.uncovered;
+  least = λ q point less.
+      let at_most = place_emptied pair bounds q small point.given in
+      sym (covered_emptied pair bounds tapes q) ∙ least.least (emptied bounds q) (emptied_cell pair bounds q point) (emptied_plain pair bounds q point) (omega (arith, at_most, less));
+}

@@ -1,0 +1,113 @@
+-- The trail as the judge grows it.
+use Rattle.std.proofs.Common.{◌≡◌, ℕ, ◌+◌, ◌≤◌, ◌<◌, List, [], ◌∷◌, ◌++◌, length, length-append, append-nil, Option, Some, None, slice_get, refl, sym, ap, ◌∙◌, arith}
+use Rattle.points.specs.declared.point.Bounds.{Bounds}
+use Rattle.points.specs.declared.point.Budget.{Budget}
+use Rattle.points.specs.declared.point.Point.{Point}
+use Rattle.points.specs.declared.verdict.Verdict.{Verdict}
+use Rattle.points.specs.declared.verdict.Verdict.TheVariants.{Correct, Incorrect, Unknown}
+use Rattle.points.specs.declared.verdict.Cause.TheVariants.{Weight, Rounds, Conflicts}
+use Rattle.points.specs.Pair.{Functions}
+use Rattle.points.specs.Covers.{IsLeastCover, HasNoCover}
+use Rattle.points.specs.Weight.{IsTooLarge}
+use Rattle.points.specs.Trail.{TrailFrom, IsLeastUncovered, AreAllCovered, Ends, Judges, IsTrail, IsVerdict}
+use Rattle.points.proofs.Meaning.{cons_after}
+use Rattle.std.proofs.Common.{subst}
+use Rattle.slow_judge.specs.Search.{HasTrail}
+
+pub record IsGrown (pair : Functions) (bounds : Bounds) (budget : Budget) (tapes : List (List ℕ)) : Type 0 where
+  pub points : List Point
+  pub count : length points ≡ length tapes
+  pub trail : TrailFrom pair bounds [] tapes points
+  pub within : length tapes ≤ budget.rounds
+
+pub grown_start : (pair : Functions) (bounds : Bounds) (budget : Budget) (tapes : List (List ℕ)) → tapes ≡ [] → IsGrown pair bounds budget tapes
+grown_start pair bounds budget tapes e = rw e (record { points = []; count = refl; trail = tt; within = omega arith })
+
+-- a trail goes on by one point and its tape
+trail_more : (pair : Functions) (bounds : Bounds) (before tapes : List (List ℕ)) (points : List Point) (p : Point) (tape : List ℕ) → length points ≡ length tapes → TrailFrom pair bounds before tapes points → IsLeastUncovered pair bounds (before ++ tapes) p → IsLeastCover pair bounds p tape → TrailFrom pair bounds before (tapes ++ tape ∷ []) (points ++ p ∷ [])
+trail_more pair bounds before [] [] p tape count trail least cover = ((rw append-nil at least), cover, tt)
+trail_more pair bounds before (t ∷ ts) (q ∷ qs) p tape count trail least cover =
+    let least' = rw (cons_after before t ts) at least in
+    (trail.0, trail.1, trail_more pair bounds (before ++ t ∷ []) ts qs p tape (omega (arith, count)) trail.2 least' cover)
+trail_more pair bounds before [] (q ∷ qs) p tape count trail least cover = absurd (omega (arith, count))
+trail_more pair bounds before (t ∷ ts) [] p tape count trail least cover = absurd (omega (arith, count))
+
+-- or by one point alone
+trail_open : (pair : Functions) (bounds : Bounds) (before tapes : List (List ℕ)) (points : List Point) (p : Point) → length points ≡ length tapes → TrailFrom pair bounds before tapes points → IsLeastUncovered pair bounds (before ++ tapes) p → TrailFrom pair bounds before tapes (points ++ p ∷ [])
+trail_open pair bounds before [] [] p count trail least = rw append-nil at least
+trail_open pair bounds before (t ∷ ts) (q ∷ qs) p count trail least =
+    let least' = rw (cons_after before t ts) at least in
+    (trail.0, trail.1, trail_open pair bounds (before ++ t ∷ []) ts qs p (omega (arith, count)) trail.2 least')
+trail_open pair bounds before [] (q ∷ qs) p count trail least = absurd (omega (arith, count))
+trail_open pair bounds before (t ∷ ts) [] p count trail least = absurd (omega (arith, count))
+
+none_behind : (points : List Point) (tapes : List (List ℕ)) → length points ≡ length tapes → slice_get points (length tapes) ≡ None
+none_behind [] [] e = refl
+none_behind (p ∷ ps) (t ∷ ts) e = none_behind ps ts (omega (arith, e))
+none_behind [] (t ∷ ts) e = absurd (omega (arith, e))
+none_behind (p ∷ ps) [] e = absurd (omega (arith, e))
+
+one_behind : (points : List Point) (tapes : List (List ℕ)) (p : Point) → length points ≡ length tapes → slice_get (points ++ p ∷ []) (length tapes) ≡ Some p
+one_behind [] [] p e = refl
+one_behind (q ∷ ps) (t ∷ ts) p e = one_behind ps ts p (omega (arith, e))
+one_behind [] (t ∷ ts) p e = absurd (omega (arith, e))
+one_behind (q ∷ ps) [] p e = absurd (omega (arith, e))
+
+ends_at : (pair : Functions) (bounds : Bounds) (budget : Budget) (tapes : List (List ℕ)) (o o' : Option Point) (v : Verdict) → o ≡ o' → Ends pair bounds budget tapes o' v → Ends pair bounds budget tapes o v
+ends_at pair bounds budget tapes o o' v e h = subst (λ x. Ends pair bounds budget tapes x v) (sym e) h
+
+pub grown_more : (pair : Functions) (bounds : Bounds) (budget : Budget) (tapes more : List (List ℕ)) (p : Point) (tape : List ℕ) → IsGrown pair bounds budget tapes → IsLeastUncovered pair bounds tapes p → IsLeastCover pair bounds p tape → length tapes < budget.rounds → more ≡ tapes ++ tape ∷ [] → IsGrown pair bounds budget more
+grown_more pair bounds budget tapes more p tape grown least cover room e =
+    let count = grown.count in
+    rw e (record {
+      points = grown.points ++ p ∷ [];
+      count = length-append grown.points (p ∷ []) ∙ ap (λ n. n + 1) count ∙ sym (length-append tapes (tape ∷ []));
+      trail = trail_more pair bounds [] tapes grown.points p tape count grown.trail least cover;
+      within = (let len = length-append tapes (tape ∷ []) in omega (arith, len, room));
+    })
+
+pub grown_correct : (pair : Functions) (bounds : Bounds) (budget : Budget) (tapes : List (List ℕ)) → IsGrown pair bounds budget tapes → AreAllCovered pair bounds tapes → HasTrail pair bounds budget Correct
+grown_correct pair bounds budget tapes grown all = record {
+  kept = record { tapes = tapes; points = grown.points };
+  trail = grown.trail;
+  within = grown.within;
+  ends = ends_at pair bounds budget tapes (slice_get grown.points (length tapes)) None Correct (none_behind grown.points tapes grown.count) all;
+}
+
+pub grown_incorrect : (pair : Functions) (bounds : Bounds) (budget : Budget) (tapes : List (List ℕ)) (p : Point) → IsGrown pair bounds budget tapes → IsLeastUncovered pair bounds tapes p → HasNoCover pair bounds p → HasTrail pair bounds budget (Incorrect p)
+grown_incorrect pair bounds budget tapes p grown least none = record {
+  kept = record { tapes = tapes; points = grown.points ++ p ∷ [] };
+  trail = trail_open pair bounds [] tapes grown.points p grown.count grown.trail least;
+  within = grown.within;
+  ends = ends_at pair bounds budget tapes (slice_get (grown.points ++ p ∷ []) (length tapes)) (Some p) (Incorrect p) (one_behind grown.points tapes p grown.count) (refl, none);
+}
+
+pub grown_full : (pair : Functions) (bounds : Bounds) (budget : Budget) (tapes : List (List ℕ)) (p : Point) (tape : List ℕ) → IsGrown pair bounds budget tapes → IsLeastUncovered pair bounds tapes p → IsLeastCover pair bounds p tape → length tapes ≡ budget.rounds → HasTrail pair bounds budget (Unknown Rounds)
+grown_full pair bounds budget tapes p tape grown least cover full = record {
+  kept = record { tapes = tapes; points = grown.points ++ p ∷ [] };
+  trail = trail_open pair bounds [] tapes grown.points p grown.count grown.trail least;
+  within = grown.within;
+  ends = ends_at pair bounds budget tapes (slice_get (grown.points ++ p ∷ []) (length tapes)) (Some p) (Unknown Rounds) (one_behind grown.points tapes p grown.count) (full, record { tape = tape; fits = cover.fits; cover = cover.cover });
+}
+
+-- ---- the verdict
+
+verdict_of_trail : (pair : Functions) (bounds : Bounds) (budget : Budget) (v : Verdict) (trail : HasTrail pair bounds budget v) → IsTrail pair bounds budget trail.kept v → Judges pair bounds budget trail.kept v
+verdict_of_trail pair bounds budget Correct trail h = h
+verdict_of_trail pair bounds budget (Incorrect p) trail h = h
+verdict_of_trail pair bounds budget (Unknown Rounds) trail h = h
+verdict_of_trail pair bounds budget (Unknown Conflicts) trail h = h
+verdict_of_trail pair bounds budget (Unknown Weight) trail h = absurd (no_weight (slice_get trail.kept.points (length trail.kept.tapes)) h.ends)
+  where
+    no_weight : (o : Option Point) → Ends pair bounds budget trail.kept.tapes o (Unknown Weight) → ⊥
+    no_weight None e = e
+    no_weight (Some p) e = e
+
+pub verdict_is : (pair : Functions) (bounds : Bounds) (budget : Budget) (v : Verdict) → (IsTooLarge pair bounds budget → ⊥) → HasTrail pair bounds budget v → IsVerdict pair bounds budget v
+verdict_is pair bounds budget v not_too_large trail = record {
+  kept = trail.kept;
+  judges = verdict_of_trail pair bounds budget v trail (record { not_too_large = not_too_large; trail = trail.trail; within = trail.within; ends = trail.ends });
+}
+
+pub too_large_is : (pair : Functions) (bounds : Bounds) (budget : Budget) → IsTooLarge pair bounds budget → IsVerdict pair bounds budget (Unknown Weight)
+too_large_is pair bounds budget h = record { kept = record { tapes = []; points = [] }; judges = record { too_large = h; tapes = refl; points = refl } }

@@ -1,0 +1,184 @@
+-- Sizes of a function within the limits.
+use Rattle.std.proofs.Common.{◌≡◌, ℕ, suc, ◌+◌, ◌*◌, ◌^◌, ◌<◌, ◌≤◌, max, List, [], ◌∷◌, length, drop, get_or, sum_by, refl, ap, ◌∙◌, arith, length-append}
+use Rattle.std.specs.List.{flat_map}
+use Rattle.std.proofs.lemmas.List.{drop_more}
+use Rattle.std.proofs.lemmas.List.Sums.{sum_by-cons}
+use Rattle.std.proofs.lemmas.List.Concat.{length-flat_map}
+use Rattle.std.proofs.Math.Seq.{drop-length}
+use Rattle.std.proofs.Math.Nat.{mul-le-mul_right}
+use Rattle.tv_num.specs.declared.Width.{Width}
+use Rattle.ir_tree.specs.declared.tree.IrType.{IrType}
+use Rattle.ir_tree.specs.declared.tree.IrType.TheVariants as type
+use Rattle.ir_tree.specs.declared.tree.Op.TheVariants.{Add, Sub, UnsignedDiv, And, Xor, Or}
+use Rattle.ir_tree.specs.declared.tree.Inst.{Inst}
+use Rattle.ir_tree.specs.declared.tree.Inst.TheVariants.{Binary, Freeze}
+use Rattle.ir_tree.specs.declared.tree.Terminator.{Terminator}
+use Rattle.ir_tree.specs.declared.tree.Terminator.TheVariants as terminator
+use Rattle.ir_tree.specs.declared.tree.Block.{Block}
+use Rattle.ir_tree.specs.declared.tree.Function.{Function}
+use Rattle.ir_tree.specs.declared.tree.Parameter.{Parameter}
+use Rattle.ir_tree.specs.Limits.{IsWithinLimits}
+use Rattle.points.specs.Tapes.{inst_widths, end_widths, block_widths, choice_widths, need_of, widest}
+use Rattle.points.specs.Weight.{inst_cost, end_cost, block_cost, cost_of, type_bits, parameter_bits}
+use Rattle.points.proofs.Plain.{widest-append}
+
+-- ---- sums of parts that are bounded
+
+pub sum_within : {A : Type 0} (f : A → ℕ) (xs : List A) (most : ℕ) → ((x : A) → f x ≤ most) → sum_by f xs ≤ most * length xs
+sum_within f [] most h = omega arith
+sum_within f (x ∷ xs) most h =
+    let rest = sum_within f xs most h in
+    let first = h x in
+    let times : most * suc (length xs) ≡ most + most * length xs = omega arith in
+    rw (sum_by-cons f x xs, times) (omega (arith, rest, first))
+
+pub sum_less : {A : Type 0} (f g : A → ℕ) (xs : List A) → ((x : A) → f x ≤ g x) → sum_by f xs ≤ sum_by g xs
+sum_less f g [] h = omega arith
+sum_less f g (x ∷ xs) h = let rest = sum_less f g xs h in let first = h x in rw (sum_by-cons f x xs, sum_by-cons g x xs) (omega (arith, rest, first))
+
+pub sum_times : {A : Type 0} (f g : A → ℕ) (k : ℕ) (xs : List A) → ((x : A) → f x ≤ k * g x) → sum_by f xs ≤ k * sum_by g xs
+sum_times f g k [] h = omega arith
+sum_times f g k (x ∷ xs) h =
+    let rest = sum_times f g k xs h in
+    let first = h x in
+    let split : k * (g x + sum_by g xs) ≡ k * g x + k * sum_by g xs = omega arith in
+    rw (sum_by-cons f x xs, sum_by-cons g x xs, split) (omega (arith, rest, first))
+
+-- what comes at a place of the list, in a loop over it
+pub sum_at : {A : Type 0} (f : A → ℕ) (xs : List A) (i : ℕ) (x : A) → i < length xs → x ≡ get_or xs i x → sum_by f (drop i xs) ≡ f x + sum_by f (drop (i + 1) xs)
+sum_at f xs i x below is = rw (drop_more xs i x below, ← is) (sum_by-cons f x (drop (i + 1) xs))
+
+pub sum_end : {A : Type 0} (f : A → ℕ) (xs : List A) (i : ℕ) → i ≡ length xs → sum_by f (drop i xs) ≡ 0
+sum_end f xs i e = rw (e, drop-length xs) refl
+
+-- ---- one instruction
+
+pub one_word : (inst : Inst) → length (inst_widths inst) ≤ 1
+one_word (Binary into op width left right) = omega arith
+one_word (Freeze into width operand) = omega arith
+
+square : (w : Width) → w.bits * w.bits ≤ 4096
+square w = let most = w.at_most_64 in let m : w.bits * w.bits ≤ 64 * w.bits = mul-le-mul_right w.bits most in omega (arith, m, most)
+
+plain_cost : (w : Width) → w.bits ≤ 4096
+plain_cost w = let most = w.at_most_64 in omega (arith, most)
+
+pub small_cost : (inst : Inst) → inst_cost inst ≤ 4096
+small_cost (Binary into (UnsignedDiv exact) width left right) = square width
+small_cost (Binary into (Add flags) width left right) = plain_cost width
+small_cost (Binary into (Sub flags) width left right) = plain_cost width
+small_cost (Binary into And width left right) = plain_cost width
+small_cost (Binary into Xor width left right) = plain_cost width
+small_cost (Binary into Or width left right) = plain_cost width
+small_cost (Freeze into width operand) = plain_cost width
+
+no_end_words : (end : Terminator) → length (end_widths end) ≡ 0
+no_end_words (terminator.Return returned) = refl
+
+small_end : (end : Terminator) → end_cost end ≤ 1
+small_end (terminator.Return returned) = omega arith
+
+-- ---- one block
+
+abbrev pub words_of : Inst → ℕ
+words_of inst = length (inst_widths inst)
+
+abbrev pub size_of : Block → ℕ
+size_of b = length b.insts + 1
+
+abbrev pub block_words : Block → ℕ
+block_words b = length (block_widths b)
+
+pub block_words_is : (b : Block) → block_words b ≡ sum_by words_of b.insts + length (end_widths b.terminator)
+block_words_is b = length-append (flat_map inst_widths b.insts) (end_widths b.terminator) ∙ ap (λ n. n + length (end_widths b.terminator)) (length-flat_map inst_widths b.insts)
+
+pub few_block_words : (b : Block) → block_words b ≤ size_of b
+few_block_words b =
+    let insts = sum_within words_of b.insts 1 one_word in
+    let is = block_words_is b in
+    let end = no_end_words b.terminator in
+    omega (arith, insts, is, end)
+
+pub small_block_cost : (b : Block) → block_cost b ≤ 4096 * size_of b
+small_block_cost b =
+    let insts = sum_within inst_cost b.insts 4096 small_cost in
+    let end = small_end b.terminator in
+    omega (arith, insts, end)
+
+-- ---- one function
+
+pub words_in_is : (f : Function) → length (choice_widths f) ≡ sum_by block_words f.blocks
+words_in_is f = length-flat_map block_widths f.blocks
+
+pub few_words : (f : Function) → IsWithinLimits f → length (choice_widths f) ≤ 65536
+few_words f limits =
+    let is = words_in_is f in
+    let few = sum_less block_words size_of f.blocks few_block_words in
+    let most = limits.instructions in
+    omega (arith, is, few, most)
+
+pub small_cost_of : (f : Function) → IsWithinLimits f → cost_of f ≤ 268435456
+small_cost_of f limits =
+    let cost = sum_times block_cost size_of 4096 f.blocks small_block_cost in
+    let most = limits.instructions in
+    omega (arith, cost, most)
+
+pub small_need : (turns : ℕ) (f : Function) → turns ≤ 64 → IsWithinLimits f → need_of turns f ≤ 4259840
+small_need turns f few limits =
+    let words = few_words f limits in
+    let m : (turns + 1) * length (choice_widths f) ≤ 65 * length (choice_widths f) = mul-le-mul_right (length (choice_widths f)) (omega (arith, few)) in
+    omega (arith, m, words)
+
+pub small_times : (turns n : ℕ) → turns ≤ 64 → n ≤ 536870912 → (turns + 1) * n ≤ 34896609280
+small_times turns n few most = let m : (turns + 1) * n ≤ 65 * n = mul-le-mul_right n (omega (arith, few)) in omega (arith, m, most)
+
+small_type : (t : IrType) → type_bits t ≤ 64
+small_type (type.Int width) = let most = width.at_most_64 in omega (arith, most)
+small_type type.Ptr = omega arith
+
+pub few_parameter_bits : (ps : List Parameter) → length ps ≤ 16 → parameter_bits ps ≤ 1024
+few_parameter_bits ps few = let sum = sum_within (λ (p : Parameter). type_bits p.of_type) ps 64 (λ p. small_type p.of_type) in omega (arith, sum, few)
+
+pub small_product : (need width : ℕ) → need ≤ 4259840 → width ≤ 64 → need * width ≤ 272629760
+small_product need width few narrow = let m : need * width ≤ 4259840 * width = mul-le-mul_right width few in omega (arith, m, narrow)
+
+-- ---- the widest choice, in a loop
+
+pub widest_positive : (ws : List ℕ) → 1 ≤ widest ws
+unfolding widest
+widest_positive [] = omega arith
+widest_positive (w ∷ ws) = let rest = widest_positive ws in omega (arith, rest)
+
+pub widest_at : {A : Type 0} (f : A → List ℕ) (xs : List A) (i : ℕ) (x : A) → i < length xs → x ≡ get_or xs i x → widest (flat_map f (drop i xs)) ≡ max (widest (f x)) (widest (flat_map f (drop (i + 1) xs)))
+widest_at f xs i x below is = rw (drop_more xs i x below, ← is) (widest-append (f x) (flat_map f (drop (i + 1) xs)))
+
+pub widest_end : {A : Type 0} (f : A → List ℕ) (xs : List A) (i : ℕ) → i ≡ length xs → widest (flat_map f (drop i xs)) ≡ 1
+unfolding widest
+widest_end f xs i e = rw (e, drop-length xs) refl
+
+no_end : (end : Terminator) → end_widths end ≡ []
+no_end (terminator.Return returned) = refl
+
+max_one : (insts : List Inst) (end : Terminator) → end_widths end ≡ [] → max (widest (flat_map inst_widths insts)) (widest (end_widths end)) ≡ widest (flat_map inst_widths insts)
+unfolding widest
+max_one insts end e = let low = widest_positive (flat_map inst_widths insts) in let w = ap widest e in omega (arith, low, w)
+
+pub widest_block : (b : Block) → widest (block_widths b) ≡ widest (flat_map inst_widths b.insts)
+widest_block b = widest-append (flat_map inst_widths b.insts) (end_widths b.terminator) ∙ max_one b.insts b.terminator (no_end b.terminator)
+
+-- ---- room for the next part of a sum
+
+pub sum_room : {A : Type 0} (f : A → ℕ) (xs : List A) (i : ℕ) (x : A) (total : ℕ) → i < length xs → x ≡ get_or xs i x → total + sum_by f (drop i xs) ≡ sum_by f xs → total + f x ≤ sum_by f xs
+sum_room f xs i x total below is e = let here = sum_at f xs i x below is in omega (arith, here, e)
+
+pub sum_done : {A : Type 0} (f : A → ℕ) (xs : List A) (i total : ℕ) → i ≡ length xs → total + sum_by f (drop i xs) ≡ sum_by f xs → total ≡ sum_by f xs
+sum_done f xs i total end e = let none = sum_end f xs i end in omega (arith, none, e)
+
+pub words_small : (insts : List Inst) → length insts ≤ 65536 → sum_by words_of insts < 2 ^ 63
+words_small insts few = let sum = sum_within words_of insts 1 one_word in omega (arith, sum, few)
+
+pub costs_small : (insts : List Inst) → length insts ≤ 65536 → sum_by inst_cost insts ≤ 268435456
+costs_small insts few = let sum = sum_within inst_cost insts 4096 small_cost in omega (arith, sum, few)
+
+pub words_sum_small : (f : Function) → IsWithinLimits f → sum_by block_words f.blocks ≤ 65536
+words_sum_small f limits = let few = few_words f limits in let is = words_in_is f in omega (arith, few, is)

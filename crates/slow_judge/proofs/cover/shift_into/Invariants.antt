@@ -1,0 +1,10 @@
+use Rattle.std.proofs.Common.{◌≡◌, take, length}
+use Rattle.points.specs.Covers.{words_of}
+use Rattle.slow_judge.specs.Search.{shift_of}
+use Rattle.slow_judge.proofs.cover.shift_into.Given as goal
+
+abbrev pub invariant-loop-i : goal.invariant-loop-i
+invariant-loop-i l = record {
+  same_length : length l.words ≡ length l.fn.words;
+  done : take l.i l.words ≡ words_of l.i (shift_of l.shift l.tape);
+}

@@ -1,0 +1,13 @@
+use Rattle.std.proofs.Common.{sum_by, ap, ◌∙◌, arith}
+use Rattle.slow_judge.proofs.Sizes.{words_of, words_small, block_words_is}
+use Rattle.slow_judge.proofs.size.words_of_block.Goals as goal
+
+pub words_in-requires : goal.words_in-requires
+words_in-requires c = rw c.as_slice.ensures (words_small c.args.block.now.insts c.requires)
+
+pub returns : goal.returns
+returns c =
+    let is = block_words_is c.args.block.now in
+    let w = c.words_in.ensures ∙ ap (λ insts. sum_by words_of insts) c.as_slice.ensures in
+    let e = c.end_words.ensures in
+    omega (arith, is, w, e)

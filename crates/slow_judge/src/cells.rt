@@ -1,0 +1,92 @@
+ghost use Rattle.std.specs.Prelude.{◌≡◌, IfOk, IsTrue, IsFalse, length, replicate, ◌+◌, ◌<◌};
+ghost use Rattle.ir_tree.specs.Limits.{AreIntegers};
+ghost use Rattle.points.specs.Tapes.{need_of, widest_choice};
+ghost use Rattle.points.specs.Trail.{place_in};
+ghost use Rattle.slow_judge.specs.Search.{AreSmall, empty_block, empty_blocks, IsCell, IsNextCell, IsLastCell};
+
+use byte_block::{BlockName, Byte, Memory, MemoryBlock, Value};
+use points::{Bounds, Input, Pair, Point, next_args, next_words, zero_from};
+use std::alloc::{AllocError, Global};
+use support::{NoMemory, Sequence};
+use tv_num::Width;
+
+fn zero_bytes(alloc: Global, count: usize) -> Result<Vec<Byte>, AllocError>
+    ensures { IfOk result (λ bytes. bytes.items ≡ replicate count (Byte.Num 0)) }
+{
+    vec![in alloc; Byte::Num(0); count]
+}
+
+fn zero_args(alloc: Global, count: usize) -> Result<Vec<Value>, AllocError>
+    ensures { IfOk result (λ args. args.items ≡ replicate count (Value.Num 0)) }
+{
+    vec![in alloc; Value::Num(0); count]
+}
+
+/// A tape of zeros.
+pub fn zeros(alloc: Global, count: usize) -> Result<Sequence<u64>, NoMemory>
+    ensures { IfOk result (λ words. words ≡ replicate count 0) }
+{
+    Ok(Sequence::from_vec(vec![in alloc; 0; count]?))
+}
+
+fn no_bytes(alloc: Global, room: u64, number: u64) -> Result<MemoryBlock, NoMemory>
+    ensures { IfOk result (λ block. block ≡ empty_block room number) }
+{
+    Ok(MemoryBlock {
+        name: BlockName::Given(number),
+        size: 0,
+        align: 16,
+        places: Sequence::from_vec(zero_bytes(alloc, room as usize)?),
+    })
+}
+
+/// The given blocks with size 0.
+#[tactic(auto, using(crate::proofs::Order::empty_none, crate::proofs::Order::empty_more))]
+pub fn blocks_without_bytes(alloc: Global, bounds: &Bounds) -> Result<Memory, NoMemory>
+    ensures { IfOk result (λ memory. memory ≡ empty_blocks bounds.now.bytes bounds.now.blocks) }
+{
+    let mut blocks = Vec::new(alloc);
+    for i in 0..bounds.blocks {
+        blocks.push(no_bytes(alloc, bounds.bytes, i + 1)?)?;
+    }
+    Ok(Sequence::from_vec(blocks))
+}
+
+/// The first cell.
+pub fn first(alloc: Global, pair: &Pair, bounds: &Bounds, need: usize) -> Result<Point, NoMemory>
+    requires integers { AreIntegers pair.now.target.parameters }
+    requires need { need ≡ need_of bounds.now.turns pair.now.target }
+    ensures cell { IfOk result (λ p. IsCell pair.now bounds.now p) }
+    ensures place { IfOk result (λ p. place_in pair.now bounds.now p ≡ 0) }
+{
+    let args = zero_args(alloc, pair.target().parameters.len())?;
+    let blocks = blocks_without_bytes(alloc, bounds)?;
+    let tape = zeros(alloc, need)?;
+    Ok(Point {
+        input: Input {
+            args: Sequence::from_vec(args),
+            blocks,
+        },
+        tape,
+    })
+}
+
+/// Puts the next cell in the place of one. It answers false exactly at the last, which then stays.
+pub fn next(pair: &Pair, bounds: &Bounds, width: Width, point: &mut Point) -> bool
+    requires integers { AreIntegers pair.now.target.parameters }
+    requires small { AreSmall bounds.now }
+    requires width { width.bits ≡ widest_choice pair.now.target }
+    requires cell { IsCell pair.now bounds.now point.old }
+    ensures next { IsTrue result → IsNextCell pair.now bounds.now point.old point.new }
+    ensures last { IsFalse result → IsLastCell pair.now bounds.now point.old × (point.new ≡ point.old) }
+    ensures blocks { point.new.input.blocks ≡ point.old.input.blocks }
+{
+    if next_words(&mut point.tape, width) {
+        return true;
+    }
+    if next_args(&mut point.input.args, pair.target().parameters.as_slice()) {
+        zero_from(&mut point.tape, 0);
+        return true;
+    }
+    false
+}

@@ -1,0 +1,204 @@
+ghost use Rattle.std.specs.Prelude.{◌≡◌, ◌↔◌, ◌≤◌, ◌<◌, ◌+◌, ◌^◌, IsTrue, IfOk, length, slice_index};
+ghost use Rattle.choice_interp.specs.Ran.{outcome_of};
+ghost use Rattle.points.specs.Run.{run_of};
+ghost use Rattle.points.specs.Tapes.{need_of};
+ghost use Rattle.points.specs.Covers.{covers, some_covers, words_of, word_before, word_behind, shifted};
+ghost use Rattle.slow_judge.specs.Search.{IsReady, IsUncovered, shift_of};
+
+use crate::bench::Bench;
+use choice_interp::{Ending, ending_refines, is_plain, run_again};
+use points::{Bounds, Machine, Pair, Point};
+use support::{NoMemory, Sequence};
+
+/// Whether the source's run on the tape allows the target's run on the point, which ended so.
+#[tactic(auto, using(crate::proofs::Covering::covers_at))]
+fn allows(
+    pair: &Pair,
+    bounds: &Bounds,
+    point: &Point,
+    target: Ending,
+    tape: &[u64],
+    machine: &mut Machine,
+) -> Result<bool, NoMemory>
+    requires registers { length machine.old.registers ≡ length pair.now.source.names }
+    requires memory { machine.old.memory ≡ point.now.input.blocks }
+    requires target { (run_of pair.now.target bounds.now point.now.input point.now.tape).outcome ≡ outcome_of target point.now.input.blocks }
+    ensures value { IfOk result (λ holds. holds ≡ covers pair.now bounds.now point.now tape.now) }
+    ensures registers { length machine.new.registers ≡ length pair.now.source.names }
+    ensures memory { machine.new.memory ≡ point.now.input.blocks }
+{
+    let source = run_again(machine, pair.source(), bounds, &point.input, tape)?;
+    Ok(ending_refines(source, target))
+}
+
+/// Whether one of the tapes covers the point, on which the target's run ended so.
+fn some_allows(
+    pair: &Pair,
+    bounds: &Bounds,
+    point: &Point,
+    target: Ending,
+    tapes: &[Sequence<u64>],
+    machine: &mut Machine,
+) -> Result<bool, NoMemory>
+    requires registers { length machine.old.registers ≡ length pair.now.source.names }
+    requires memory { machine.old.memory ≡ point.now.input.blocks }
+    requires target { (run_of pair.now.target bounds.now point.now.input point.now.tape).outcome ≡ outcome_of target point.now.input.blocks }
+    ensures value { IfOk result (λ holds. holds ≡ some_covers pair.now bounds.now point.now tapes.now) }
+    ensures registers { length machine.new.registers ≡ length pair.now.source.names }
+    ensures memory { machine.new.memory ≡ point.now.input.blocks }
+{
+    for tape in tapes {
+        if allows(pair, bounds, point, target, tape.as_slice(), machine)? {
+            return Ok(true);
+        }
+    }
+    Ok(false)
+}
+
+/// By how many places a tape is moved, and which way.
+#[derive(Clone, Copy, Debug, PartialEq, Eq)]
+pub enum Shift {
+    Behind(usize),
+    Before(usize),
+}
+
+fn word_after(tape: &[u64], by: usize, i: usize) -> u64
+    ensures { result ≡ word_behind tape.now by i }
+{
+    if i < tape.len() && by < tape.len() - i {
+        tape[i + by]
+    } else {
+        0
+    }
+}
+
+fn word_at(tape: &[u64], shift: Shift, i: usize) -> u64
+    ensures { result ≡ shift_of shift tape.now i }
+{
+    match shift {
+        Shift::Behind(by) => word_after(tape, by, i),
+        Shift::Before(by) => {
+            if i < by {
+                0
+            } else {
+                tape.get(i - by).copied().unwrap_or(0)
+            }
+        }
+    }
+}
+
+/// Writes the tape, moved, into a list of words.
+fn shift_into(words: &mut Sequence<u64>, tape: &[u64], shift: Shift)
+    ensures value { words.new ≡ words_of (length words.old) (shift_of shift tape.now) }
+    ensures count { length words.new ≡ length words.old }
+{
+    for i in 0..words.len() {
+        words.set(i, word_at(tape, shift, i));
+    }
+}
+
+/// Whether the target's tape, moved so, covers the point, on which the target's run ended so.
+fn shift_allows(
+    pair: &Pair,
+    bounds: &Bounds,
+    point: &Point,
+    target: Ending,
+    shift: Shift,
+    bench: &mut Bench,
+) -> Result<bool, NoMemory>
+    requires ready { IsReady pair.now bounds.now point.now.input.blocks bench.old }
+    requires target { (run_of pair.now.target bounds.now point.now.input point.now.tape).outcome ≡ outcome_of target point.now.input.blocks }
+    ensures value { IfOk result (λ holds. holds ≡ covers pair.now bounds.now point.now (words_of (need_of bounds.now.turns pair.now.source) (shift_of shift point.now.tape))) }
+    ensures ready { IsReady pair.now bounds.now point.now.input.blocks bench.new }
+{
+    shift_into(&mut bench.candidate, point.tape.as_slice(), shift);
+    let holds = allows(
+        pair,
+        bounds,
+        point,
+        target,
+        bench.candidate.as_slice(),
+        &mut bench.source,
+    )?;
+    Ok(holds)
+}
+
+/// Whether the target's tape, as it is or moved by one or two places, covers the point.
+fn some_shift_allows(
+    pair: &Pair,
+    bounds: &Bounds,
+    point: &Point,
+    target: Ending,
+    bench: &mut Bench,
+) -> Result<bool, NoMemory>
+    requires ready { IsReady pair.now bounds.now point.now.input.blocks bench.old }
+    requires target { (run_of pair.now.target bounds.now point.now.input point.now.tape).outcome ≡ outcome_of target point.now.input.blocks }
+    ensures value { IfOk result (λ holds. holds ≡ some_covers pair.now bounds.now point.now (shifted (need_of bounds.now.turns pair.now.source) point.now.tape)) }
+    ensures ready { IsReady pair.now bounds.now point.now.input.blocks bench.new }
+{
+    if shift_allows(pair, bounds, point, target, Shift::Behind(0), bench)? {
+        return Ok(true);
+    }
+    if shift_allows(pair, bounds, point, target, Shift::Behind(1), bench)? {
+        return Ok(true);
+    }
+    if shift_allows(pair, bounds, point, target, Shift::Behind(2), bench)? {
+        return Ok(true);
+    }
+    if shift_allows(pair, bounds, point, target, Shift::Before(1), bench)? {
+        return Ok(true);
+    }
+    let holds = shift_allows(pair, bounds, point, target, Shift::Before(2), bench)?;
+    Ok(holds)
+}
+
+/// Whether the source covers the point with the tape.
+pub fn is_cover(
+    pair: &Pair,
+    bounds: &Bounds,
+    point: &Point,
+    tape: &[u64],
+    bench: &mut Bench,
+) -> Result<bool, NoMemory>
+    requires ready { IsReady pair.now bounds.now point.now.input.blocks bench.old }
+    ensures value { IfOk result (λ holds. holds ≡ covers pair.now bounds.now point.now tape.now) }
+    ensures ready { IsReady pair.now bounds.now point.now.input.blocks bench.new }
+{
+    let target = run_again(
+        &mut bench.target,
+        pair.target(),
+        bounds,
+        &point.input,
+        point.tape.as_slice(),
+    )?;
+    let holds = allows(pair, bounds, point, target, tape, &mut bench.source)?;
+    Ok(holds)
+}
+
+/// Whether the point's tape is plain and neither a shift nor one of the tapes covers the point.
+pub fn is_uncovered(
+    pair: &Pair,
+    bounds: &Bounds,
+    tapes: &[Sequence<u64>],
+    point: &Point,
+    bench: &mut Bench,
+) -> Result<bool, NoMemory>
+    requires ready { IsReady pair.now bounds.now point.now.input.blocks bench.old }
+    ensures value { IfOk result (λ holds. IsTrue holds ↔ IsUncovered pair.now bounds.now tapes.now point.now) }
+    ensures ready { IsReady pair.now bounds.now point.now.input.blocks bench.new }
+{
+    let target = run_again(
+        &mut bench.target,
+        pair.target(),
+        bounds,
+        &point.input,
+        point.tape.as_slice(),
+    )?;
+    if !is_plain(point.tape.as_slice(), bench.target.taken.as_slice()) {
+        return Ok(false);
+    }
+    if some_shift_allows(pair, bounds, point, target, bench)? {
+        return Ok(false);
+    }
+    Ok(!some_allows(pair, bounds, point, target, tapes, &mut bench.source)?)
+}

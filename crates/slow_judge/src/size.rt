@@ -1,0 +1,200 @@
+ghost use Rattle.std.specs.Prelude.{◌≡◌, ◌↔◌, ◌<◌, ◌≤◌, ◌^◌, ◌+◌, ◌*◌, sum_by, max, length, IsTrue};
+ghost use Rattle.ir_tree.specs.Limits.{IsWithinLimits};
+ghost use Rattle.points.specs.Tapes.{inst_widths, end_widths, block_widths, choice_widths, need_of, widest, widest_choice};
+ghost use Rattle.points.specs.Weight.{inst_cost, end_cost, block_cost, cost_of, weight_of, type_bits, parameter_bits, tape_bits, bits_of, IsTooLarge};
+ghost use Rattle.slow_judge.specs.Search.{AreSmall};
+
+use ir_tree::{Block, Function, Inst, IrType, Op, Parameter, Terminator};
+use points::{Bounds, Budget, Pair};
+use tv_num::Width;
+
+fn words(inst: Inst) -> usize
+    ensures { result ≡ length (inst_widths inst) }
+{
+    match inst {
+        Inst::Binary { .. } => 0,
+        Inst::Freeze { .. } => 1,
+    }
+}
+
+fn words_in(insts: &[Inst]) -> usize
+    requires { sum_by (λ inst. length (inst_widths inst)) insts.now < 2 ^ 63 }
+    ensures { result ≡ sum_by (λ inst. length (inst_widths inst)) insts.now }
+{
+    insts.iter().map(|inst| words(*inst)).sum()
+}
+
+fn cost(inst: Inst) -> u64
+    ensures { result ≡ inst_cost inst }
+{
+    match inst {
+        Inst::Binary {
+            op: Op::UnsignedDiv { .. },
+            width,
+            ..
+        } => width.bits() as u64 * width.bits() as u64,
+        Inst::Binary { width, .. } | Inst::Freeze { width, .. } => width.bits() as u64,
+    }
+}
+
+fn costs(insts: &[Inst]) -> u64
+    requires { sum_by inst_cost insts.now < 2 ^ 63 }
+    ensures { result ≡ sum_by inst_cost insts.now }
+{
+    insts.iter().map(|inst| cost(*inst)).sum()
+}
+
+fn end_words(terminator: Terminator) -> usize
+    ensures { result ≡ length (end_widths terminator) }
+{
+    match terminator {
+        Terminator::Return(_) => 0,
+    }
+}
+
+fn cost_of_end(terminator: Terminator) -> u64
+    ensures value { result ≡ end_cost terminator }
+    ensures one { result ≤ 1 }
+{
+    match terminator {
+        Terminator::Return(_) => 1,
+    }
+}
+
+#[tactic(auto, unfolding(points::specs::Tapes::widest))]
+fn wider(width: Width, inst: Inst) -> Width
+    ensures { result.bits ≡ max width.bits (widest (inst_widths inst)) }
+{
+    match inst {
+        Inst::Freeze { width: choice, .. } if width.bits() < choice.bits() => choice,
+        Inst::Freeze { .. } | Inst::Binary { .. } => width,
+    }
+}
+
+fn bits_in(of_type: IrType) -> u64
+    ensures value { result ≡ type_bits of_type }
+    ensures most { result ≤ 64 }
+{
+    match of_type {
+        IrType::Int(width) => width.bits() as u64,
+        IrType::Ptr => 0,
+    }
+}
+
+fn words_of_block(block: &Block) -> usize
+    requires { length block.now.insts ≤ 65536 }
+    ensures { result ≡ length (block_widths block.now) }
+{
+    words_in(block.insts.as_slice()) + end_words(block.terminator)
+}
+
+fn words_of(f: &Function) -> usize
+    requires { IsWithinLimits f.now }
+    ensures value { result ≡ length (choice_widths f.now) }
+    ensures most { result ≤ 65536 }
+{
+    let mut total = 0;
+    for block in f.blocks.as_slice() {
+        total += words_of_block(block);
+    }
+    total
+}
+
+fn cost_of_block(block: &Block) -> u64
+    requires { length block.now.insts ≤ 65536 }
+    ensures { result ≡ block_cost block.now }
+{
+    costs(block.insts.as_slice()) + cost_of_end(block.terminator)
+}
+
+fn cost_within(f: &Function) -> u64
+    requires { IsWithinLimits f.now }
+    ensures value { result ≡ cost_of f.now }
+    ensures most { result ≤ 268435456 }
+{
+    let mut total = 0;
+    for block in f.blocks.as_slice() {
+        total += cost_of_block(block);
+    }
+    total
+}
+
+fn widest_in_block(best: Width, block: &Block) -> Width
+    ensures { result.bits ≡ max best.bits (widest (block_widths block.now)) }
+{
+    let mut best = best;
+    for inst in block.insts.as_slice() {
+        best = wider(best, *inst);
+    }
+    best
+}
+
+/// The width of a function's widest choice, and 1 where there is none.
+pub fn widest_of(f: &Function) -> Width
+    ensures { result.bits ≡ widest_choice f.now }
+{
+    let mut best = Width::of(1);
+    for block in f.blocks.as_slice() {
+        best = widest_in_block(best, block);
+    }
+    best
+}
+
+/// How many words a run reads at most.
+pub fn need(f: &Function, bounds: &Bounds) -> usize
+    requires limits { IsWithinLimits f.now }
+    requires small { AreSmall bounds.now }
+    ensures value { result ≡ need_of bounds.now.turns f.now }
+    ensures most { result ≤ 4259840 }
+{
+    (bounds.turns as usize + 1) * words_of(f)
+}
+
+fn weight(pair: &Pair, bounds: &Bounds) -> u64
+    requires source { IsWithinLimits pair.now.source }
+    requires target { IsWithinLimits pair.now.target }
+    requires small { AreSmall bounds.now }
+    ensures { result ≡ weight_of pair.now bounds.now }
+{
+    (bounds.turns + 1) * (cost_within(pair.source()) + cost_within(pair.target()))
+}
+
+fn bits_of_parameters(parameters: &[Parameter]) -> u64
+    requires { length parameters.now ≤ 16 }
+    ensures { result ≡ parameter_bits parameters.now }
+{
+    parameters.iter().map(|p| bits_in(p.of_type)).sum()
+}
+
+fn bits_of_tape(f: &Function, bounds: &Bounds) -> u64
+    requires limits { IsWithinLimits f.now }
+    requires small { AreSmall bounds.now }
+    ensures value { result ≡ tape_bits bounds.now f.now }
+    ensures most { result ≤ 272629760 }
+{
+    need(f, bounds) as u64 * widest_of(f).bits() as u64
+}
+
+fn bits(pair: &Pair, bounds: &Bounds) -> u64
+    requires source { IsWithinLimits pair.now.source }
+    requires target { IsWithinLimits pair.now.target }
+    requires small { AreSmall bounds.now }
+    ensures { result ≡ bits_of pair.now bounds.now }
+{
+    bits_of_parameters(pair.target().parameters.as_slice())
+        + bits_of_tape(pair.target(), bounds)
+        + bits_of_tape(pair.source(), bounds)
+}
+
+/// The most bits that the judge counts through.
+const MOST_BITS: u64 = 16;
+
+/// Whether the pair's weight is above its limit, or it has more bits than counting goes through.
+pub fn is_too_large(pair: &Pair, bounds: &Bounds, budget: &Budget) -> bool
+    requires source { IsWithinLimits pair.now.source }
+    requires target { IsWithinLimits pair.now.target }
+    requires small { AreSmall bounds.now }
+    ensures { IsTrue result ↔ IsTooLarge pair.now bounds.now budget.now }
+{
+    budget.weight < weight(pair, bounds) || MOST_BITS < bits(pair, bounds)
+}
