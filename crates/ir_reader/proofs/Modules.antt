@@ -1,5 +1,5 @@
 -- The module that is made of a text is the one that the text is.
-use Rattle.std.proofs.Common.{◌≡◌, ℕ, true, List, [], ◌∷◌, Option, Some, None, refl, sym, ap, ◌∙◌}
+use Rattle.std.proofs.Common.{length, ◌≤◌, arith, ◌≡◌, ℕ, true, List, [], ◌∷◌, Option, Some, None, refl, sym, ap, ◌∙◌}
 use Rattle.std.specs.Prelude.{Result, Ok, Err, IfOk}
 use Rattle.std.specs.List.{AllByRecursion}
 use Rattle.ir_lexer.specs.Lexeme.{Lexeme}
@@ -73,3 +73,8 @@ only text (Err NoMemory) e m F = refl
 pub judgeable : (text : List ℕ) (result : Result Module ModuleFault) → Answers result (module_in text) → IfOk result (λ m. AllByRecursion IsJudgeableEntry m.entries)
 judgeable text (Ok m) e = first-judgeable text m (module-found text m e)
 judgeable text (Err fault) e = tt
+
+-- a token that is left behind the functions
+pub whole-more : (r : Reading (List WrittenFunction)) (ws : List WrittenFunction) (rest left : List Lexeme) → r ≡ reads ws rest → left ≡ rest → 1 ≤ length left → whole r ≡ None
+whole-more r ws rest [] e same h = absurd (omega arith)
+whole-more r ws rest (t ∷ ts) e same h = ap whole (e ∙ ap (λ (us : List Lexeme). reads ws us) (sym same))
