@@ -1,1 +1,13 @@
+pub mod Code
+pub mod Covers
+pub mod Laws
+pub mod Next
 pub mod Pair
+pub mod Range
+pub mod Refines
+pub mod Run
+pub mod Shown
+pub mod Table
+pub mod Tapes
+pub mod Trail
+pub mod Weight

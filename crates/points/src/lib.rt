@@ -6,12 +6,23 @@
 //! stands on `ir_tree` and `byte_block`; the interpreter and every judge stand on it.
 #![tactic(auto)]
 
+mod laws;
+mod machine;
+mod next;
 mod outcome;
 mod pair;
 mod point;
+mod refinement;
 mod verdict;
 
+pub use laws::{
+    correct_holds, incorrect_fails, least_covers_are_plain, numbers_compare_from_front,
+    places_tell_points, tapes_have_plain_forms, verdicts_are_one,
+};
+pub use machine::Machine;
+pub use next::{next_args, next_words, zero_from};
 pub use outcome::Outcome;
 pub use pair::{Pair, has_same_signature};
 pub use point::{Bounds, Budget, Input, Point, Shape};
+pub use refinement::{refines, returned_is_allowed};
 pub use verdict::{Cause, Shown, Verdict};

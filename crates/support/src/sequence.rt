@@ -74,6 +74,15 @@ impl<T> Sequence<T> {
         self.items[i] = item;
     }
 
+    /// Takes all items out, and keeps the room.
+    pub fn clear(&mut self)
+    where
+        T: Drop,
+        ensures { self.new ≡ [] }
+    {
+        self.items.clear();
+    }
+
     /// Puts an item behind the others. After want of memory they are as before.
     pub fn push(&mut self, item: T) -> Result<(), NoMemory>
     where

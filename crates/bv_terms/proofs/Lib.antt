@@ -1,0 +1,6 @@
+pub mod Stages
+pub mod Keeping
+pub mod Same
+pub mod Distinct
+pub mod Below
+pub mod Zips

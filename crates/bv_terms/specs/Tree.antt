@@ -1,0 +1,113 @@
+-- A term written out, its width, and its value under an assignment.
+use Rattle.std.specs.Prelude.{ℕ, ◌+◌, ◌-◌, ◌*◌, ◌/◌, ◌%◌, ◌^◌, Bool, true, false, not, cond, nat_eq, nat_lt, nat_le, bit_and, bit_or, bit_xor}
+
+-- the number that follows the parts is the width; at a comparison it is that of the two parts
+pub data Tree : Type 0 where
+  Constant : (value width : ℕ) → Tree
+  Variable : (number width : ℕ) → Tree
+  Not : (a : Tree) (width : ℕ) → Tree
+  And : (a b : Tree) (width : ℕ) → Tree
+  Or : (a b : Tree) (width : ℕ) → Tree
+  Xor : (a b : Tree) (width : ℕ) → Tree
+  Add : (a b : Tree) (width : ℕ) → Tree
+  Sub : (a b : Tree) (width : ℕ) → Tree
+  Mul : (a b : Tree) (width : ℕ) → Tree
+  Udiv : (a b : Tree) (width : ℕ) → Tree
+  Urem : (a b : Tree) (width : ℕ) → Tree
+  Shl : (a b : Tree) (width : ℕ) → Tree
+  Lshr : (a b : Tree) (width : ℕ) → Tree
+  Ashr : (a b : Tree) (width : ℕ) → Tree
+  Eq : (a b : Tree) (width : ℕ) → Tree
+  Ult : (a b : Tree) (width : ℕ) → Tree
+  Slt : (a b : Tree) (width : ℕ) → Tree
+  Ite : (c a b : Tree) (width : ℕ) → Tree
+  Extract : (a : Tree) (from width : ℕ) → Tree
+  Concat : (high low : Tree) (below width : ℕ) → Tree
+  Zext : (a : Tree) (width : ℕ) → Tree
+  Sext : (a : Tree) (from width : ℕ) → Tree
+
+abbrev pub width_of : Tree → ℕ
+width_of (Constant value width) = width
+width_of (Variable number width) = width
+width_of (Not a width) = width
+width_of (And a b width) = width
+width_of (Or a b width) = width
+width_of (Xor a b width) = width
+width_of (Add a b width) = width
+width_of (Sub a b width) = width
+width_of (Mul a b width) = width
+width_of (Udiv a b width) = width
+width_of (Urem a b width) = width
+width_of (Shl a b width) = width
+width_of (Lshr a b width) = width
+width_of (Ashr a b width) = width
+width_of (Eq a b width) = 1
+width_of (Ult a b width) = 1
+width_of (Slt a b width) = 1
+width_of (Ite c a b width) = width
+width_of (Extract a from width) = width
+width_of (Concat high low below width) = width
+width_of (Zext a width) = width
+width_of (Sext a from width) = width
+
+abbrev pub truth : ℕ → Bool
+truth n = not (nat_eq n 0)
+
+abbrev pub digit : Bool → ℕ
+digit b = cond b 1 0
+
+-- the sign bit of a number of that width
+abbrev pub is_negative : ℕ → ℕ → Bool
+is_negative width n = nat_le (2 ^ (width - 1)) n
+
+-- the quotient is all ones where the divisor is 0
+abbrev pub quotient : ℕ → ℕ → ℕ → ℕ
+quotient width a b = cond (nat_eq b 0) (2 ^ width - 1) (a / b)
+
+-- the remainder is the dividend where the divisor is 0
+abbrev pub remainder : ℕ → ℕ → ℕ
+remainder a b = cond (nat_eq b 0) a (a % b)
+
+-- a shift by the width or more leaves nothing, or copies of the sign
+abbrev pub shifted_left : ℕ → ℕ → ℕ → ℕ
+shifted_left width a b = cond (nat_lt b width) (a * 2 ^ b % 2 ^ width) 0
+
+abbrev pub shifted_right : ℕ → ℕ → ℕ → ℕ
+shifted_right width a b = cond (nat_lt b width) (a / 2 ^ b) 0
+
+-- the opposite of the number is shifted where the number is negative, so that ones come in
+abbrev pub shifted_signed : ℕ → ℕ → ℕ → ℕ
+shifted_signed width a b = cond (is_negative width a) (2 ^ width - 1 - shifted_right width (2 ^ width - 1 - a) b) (shifted_right width a b)
+
+-- a negative number is less than one that isn't, and two of one sign are in the order of their digits
+abbrev pub is_less_signed : ℕ → ℕ → ℕ → Bool
+is_less_signed width a b = cond (is_negative width a) (cond (is_negative width b) (nat_lt a b) true) (cond (is_negative width b) false (nat_lt a b))
+
+-- copies of the sign come before the number
+abbrev pub extended_signed : ℕ → ℕ → ℕ → ℕ
+extended_signed from width a = cond (is_negative from a) (2 ^ width - 2 ^ from + a) a
+
+-- the value where each variable, by its number and width, has what is assigned, cut to the width
+abbrev pub value_of : (ℕ → ℕ → ℕ) → Tree → ℕ
+value_of v (Constant value width) = value
+value_of v (Variable number width) = v number width % 2 ^ width
+value_of v (Not a width) = 2 ^ width - 1 - value_of v a
+value_of v (And a b width) = bit_and (value_of v a) (value_of v b)
+value_of v (Or a b width) = bit_or (value_of v a) (value_of v b)
+value_of v (Xor a b width) = bit_xor (value_of v a) (value_of v b)
+value_of v (Add a b width) = (value_of v a + value_of v b) % 2 ^ width
+value_of v (Sub a b width) = (value_of v a + (2 ^ width - value_of v b)) % 2 ^ width
+value_of v (Mul a b width) = (value_of v a * value_of v b) % 2 ^ width
+value_of v (Udiv a b width) = quotient width (value_of v a) (value_of v b)
+value_of v (Urem a b width) = remainder (value_of v a) (value_of v b)
+value_of v (Shl a b width) = shifted_left width (value_of v a) (value_of v b)
+value_of v (Lshr a b width) = shifted_right width (value_of v a) (value_of v b)
+value_of v (Ashr a b width) = shifted_signed width (value_of v a) (value_of v b)
+value_of v (Eq a b width) = digit (nat_eq (value_of v a) (value_of v b))
+value_of v (Ult a b width) = digit (nat_lt (value_of v a) (value_of v b))
+value_of v (Slt a b width) = digit (is_less_signed width (value_of v a) (value_of v b))
+value_of v (Ite c a b width) = cond (truth (value_of v c)) (value_of v a) (value_of v b)
+value_of v (Extract a from width) = value_of v a / 2 ^ from % 2 ^ width
+value_of v (Concat high low below width) = value_of v high * 2 ^ below + value_of v low
+value_of v (Zext a width) = value_of v a
+value_of v (Sext a from width) = extended_signed from width (value_of v a)

@@ -1,0 +1,179 @@
+-- The trees that a list of terms stands for, each term naming earlier ones, and what a term says under an assignment.
+use Rattle.std.specs.Prelude.{ℕ, ◌≡◌, ◌<◌, ◌≤◌, ◌+◌, ◌^◌, Bool, List, [], ◌∷◌, ◌++◌, length, slice_index_or, slice_get, Some}
+use Rattle.bv_terms.specs.declared.term.TermId.{TermId}
+use Rattle.bv_terms.specs.declared.term.Term.{Term}
+use Rattle.bv_terms.specs.declared.term.Term.TheVariants as term
+use Rattle.bv_terms.specs.Tree as tree
+use Rattle.bv_terms.specs.Tree.{Tree, width_of, value_of, truth}
+
+-- the tree of an earlier term
+abbrev pub tree_at : List Tree → TermId → Tree
+tree_at earlier a = slice_index_or earlier a.index (tree.Constant 0 1)
+
+-- the tree of a term over those of the earlier ones
+abbrev pub tree_of : List Tree → Term → Tree
+tree_of earlier (term.Constant value width) = tree.Constant value width
+tree_of earlier (term.Variable number width) = tree.Variable number width
+tree_of earlier (term.Not a width) = tree.Not (tree_at earlier a) width
+tree_of earlier (term.And a b width) = tree.And (tree_at earlier a) (tree_at earlier b) width
+tree_of earlier (term.Or a b width) = tree.Or (tree_at earlier a) (tree_at earlier b) width
+tree_of earlier (term.Xor a b width) = tree.Xor (tree_at earlier a) (tree_at earlier b) width
+tree_of earlier (term.Add a b width) = tree.Add (tree_at earlier a) (tree_at earlier b) width
+tree_of earlier (term.Sub a b width) = tree.Sub (tree_at earlier a) (tree_at earlier b) width
+tree_of earlier (term.Mul a b width) = tree.Mul (tree_at earlier a) (tree_at earlier b) width
+tree_of earlier (term.Udiv a b width) = tree.Udiv (tree_at earlier a) (tree_at earlier b) width
+tree_of earlier (term.Urem a b width) = tree.Urem (tree_at earlier a) (tree_at earlier b) width
+tree_of earlier (term.Shl a b width) = tree.Shl (tree_at earlier a) (tree_at earlier b) width
+tree_of earlier (term.Lshr a b width) = tree.Lshr (tree_at earlier a) (tree_at earlier b) width
+tree_of earlier (term.Ashr a b width) = tree.Ashr (tree_at earlier a) (tree_at earlier b) width
+tree_of earlier (term.Eq a b width) = tree.Eq (tree_at earlier a) (tree_at earlier b) width
+tree_of earlier (term.Ult a b width) = tree.Ult (tree_at earlier a) (tree_at earlier b) width
+tree_of earlier (term.Slt a b width) = tree.Slt (tree_at earlier a) (tree_at earlier b) width
+tree_of earlier (term.Ite c a b width) = tree.Ite (tree_at earlier c) (tree_at earlier a) (tree_at earlier b) width
+tree_of earlier (term.Extract a from width) = tree.Extract (tree_at earlier a) from width
+tree_of earlier (term.Concat high low below width) = tree.Concat (tree_at earlier high) (tree_at earlier low) below width
+tree_of earlier (term.Zext a width) = tree.Zext (tree_at earlier a) width
+tree_of earlier (term.Sext a from width) = tree.Sext (tree_at earlier a) from width
+
+-- how many bits a term has
+abbrev pub term_width : Term → ℕ
+term_width (term.Constant value width) = width
+term_width (term.Variable number width) = width
+term_width (term.Not a width) = width
+term_width (term.And a b width) = width
+term_width (term.Or a b width) = width
+term_width (term.Xor a b width) = width
+term_width (term.Add a b width) = width
+term_width (term.Sub a b width) = width
+term_width (term.Mul a b width) = width
+term_width (term.Udiv a b width) = width
+term_width (term.Urem a b width) = width
+term_width (term.Shl a b width) = width
+term_width (term.Lshr a b width) = width
+term_width (term.Ashr a b width) = width
+term_width (term.Eq a b width) = 1
+term_width (term.Ult a b width) = 1
+term_width (term.Slt a b width) = 1
+term_width (term.Ite c a b width) = width
+term_width (term.Extract a from width) = width
+term_width (term.Concat high low below width) = width
+term_width (term.Zext a width) = width
+term_width (term.Sext a from width) = width
+
+abbrev pub IsWidth : ℕ → Type 0
+IsWidth width = (1 ≤ width) × (width ≤ 128)
+
+-- what a term names stands among the first n, and the width that it gives is one
+abbrev pub IsWithin : ℕ → Term → Type 0
+IsWithin n (term.Constant value width) = IsWidth width × (value < 2 ^ width)
+IsWithin n (term.Variable number width) = IsWidth width
+IsWithin n (term.Not a width) = IsWidth width × (a.index < n)
+IsWithin n (term.And a b width) = IsWidth width × (a.index < n) × (b.index < n)
+IsWithin n (term.Or a b width) = IsWidth width × (a.index < n) × (b.index < n)
+IsWithin n (term.Xor a b width) = IsWidth width × (a.index < n) × (b.index < n)
+IsWithin n (term.Add a b width) = IsWidth width × (a.index < n) × (b.index < n)
+IsWithin n (term.Sub a b width) = IsWidth width × (a.index < n) × (b.index < n)
+IsWithin n (term.Mul a b width) = IsWidth width × (a.index < n) × (b.index < n)
+IsWithin n (term.Udiv a b width) = IsWidth width × (a.index < n) × (b.index < n)
+IsWithin n (term.Urem a b width) = IsWidth width × (a.index < n) × (b.index < n)
+IsWithin n (term.Shl a b width) = IsWidth width × (a.index < n) × (b.index < n)
+IsWithin n (term.Lshr a b width) = IsWidth width × (a.index < n) × (b.index < n)
+IsWithin n (term.Ashr a b width) = IsWidth width × (a.index < n) × (b.index < n)
+IsWithin n (term.Eq a b width) = IsWidth width × (a.index < n) × (b.index < n)
+IsWithin n (term.Ult a b width) = IsWidth width × (a.index < n) × (b.index < n)
+IsWithin n (term.Slt a b width) = IsWidth width × (a.index < n) × (b.index < n)
+IsWithin n (term.Ite c a b width) = IsWidth width × (a.index < n) × (b.index < n) × (c.index < n)
+IsWithin n (term.Extract a from width) = IsWidth width × (a.index < n)
+IsWithin n (term.Concat high low below width) = IsWidth width × (high.index < n) × (low.index < n)
+IsWithin n (term.Zext a width) = IsWidth width × (a.index < n)
+IsWithin n (term.Sext a from width) = IsWidth width × (a.index < n)
+
+-- an earlier term has this width
+abbrev pub HasWidth : List Tree → TermId → ℕ → Type 0
+HasWidth earlier a width = width_of (tree_at earlier a) ≡ width
+
+-- the widths of what a term names go together
+abbrev pub AreMatched : List Tree → Term → Type 0
+AreMatched earlier (term.Constant value width) = Unit {0}
+AreMatched earlier (term.Variable number width) = Unit {0}
+AreMatched earlier (term.Not a width) = HasWidth earlier a width
+AreMatched earlier (term.And a b width) = HasWidth earlier a width × HasWidth earlier b width
+AreMatched earlier (term.Or a b width) = HasWidth earlier a width × HasWidth earlier b width
+AreMatched earlier (term.Xor a b width) = HasWidth earlier a width × HasWidth earlier b width
+AreMatched earlier (term.Add a b width) = HasWidth earlier a width × HasWidth earlier b width
+AreMatched earlier (term.Sub a b width) = HasWidth earlier a width × HasWidth earlier b width
+AreMatched earlier (term.Mul a b width) = HasWidth earlier a width × HasWidth earlier b width
+AreMatched earlier (term.Udiv a b width) = HasWidth earlier a width × HasWidth earlier b width
+AreMatched earlier (term.Urem a b width) = HasWidth earlier a width × HasWidth earlier b width
+AreMatched earlier (term.Shl a b width) = HasWidth earlier a width × HasWidth earlier b width
+AreMatched earlier (term.Lshr a b width) = HasWidth earlier a width × HasWidth earlier b width
+AreMatched earlier (term.Ashr a b width) = HasWidth earlier a width × HasWidth earlier b width
+AreMatched earlier (term.Eq a b width) = HasWidth earlier a width × HasWidth earlier b width
+AreMatched earlier (term.Ult a b width) = HasWidth earlier a width × HasWidth earlier b width
+AreMatched earlier (term.Slt a b width) = HasWidth earlier a width × HasWidth earlier b width
+AreMatched earlier (term.Ite c a b width) = HasWidth earlier a width × HasWidth earlier b width × HasWidth earlier c 1
+AreMatched earlier (term.Extract a from width) = from + width ≤ width_of (tree_at earlier a)
+AreMatched earlier (term.Concat high low below width) = HasWidth earlier low below × (width_of (tree_at earlier high) + below ≡ width)
+AreMatched earlier (term.Zext a width) = width_of (tree_at earlier a) ≤ width
+AreMatched earlier (term.Sext a from width) = HasWidth earlier a from × (from ≤ width) × (1 ≤ from)
+
+-- a term goes well after the earlier ones
+pub record IsFit (earlier : List Tree) (term : Term) : Type 0 where
+  pub within : IsWithin (length earlier) term
+  pub matched : AreMatched earlier term
+
+-- the trees after those of further terms
+abbrev pub trees_from : List Tree → List Term → List Tree
+trees_from earlier [] = earlier
+trees_from earlier (t ∷ ts) = trees_from (earlier ++ tree_of earlier t ∷ []) ts
+
+unfoldable pub trees_of : List Term → List Tree
+trees_of terms = trees_from [] terms
+
+abbrev pub AreFit : List Tree → List Term → Type 0
+AreFit earlier [] = Unit {0}
+AreFit earlier (t ∷ ts) = IsFit earlier t × AreFit (earlier ++ tree_of earlier t ∷ []) ts
+
+-- no term stands twice
+abbrev pub AreDistinct : List Term → Type 0
+AreDistinct terms = (i j : ℕ) (t : Term) → slice_get terms i ≡ Some t → slice_get terms j ≡ Some t → i ≡ j
+
+-- ---- what terms say
+
+abbrev pub tree_in : List Term → TermId → Tree
+tree_in terms a = tree_at (trees_of terms) a
+
+-- the value of a term under an assignment
+abbrev pub term_at : (ℕ → ℕ → ℕ) → List Term → TermId → ℕ
+term_at v terms a = value_of v (tree_in terms a)
+
+-- whether the term is true under an assignment
+abbrev pub bit_at : (ℕ → ℕ → ℕ) → List Term → TermId → Bool
+bit_at v terms a = truth (term_at v terms a)
+
+-- the terms stay, with their trees, and others may come after them
+pub record Keeps (old new : List Term) : Type 0 where
+  pub longer : length old ≤ length new
+  pub terms : (i : ℕ) → i < length old → slice_get new i ≡ slice_get old i
+  pub kept : (a : TermId) → a.index < length old → tree_in new a ≡ tree_in old a
+
+-- a term of this width, with this value under each assignment
+pub record Makes (new : List Term) (id : TermId) (width : ℕ) (value : (ℕ → ℕ → ℕ) → ℕ) : Type 0 where
+  pub within : id.index < length new
+  pub wide : width_of (tree_in new id) ≡ width
+  pub says : (v : ℕ → ℕ → ℕ) → term_at v new id ≡ value v
+
+-- a term of width 1 that is true exactly where this holds
+pub record Tests (new : List Term) (id : TermId) (test : (ℕ → ℕ → ℕ) → Bool) : Type 0 where
+  pub within : id.index < length new
+  pub wide : width_of (tree_in new id) ≡ 1
+  pub says : (v : ℕ → ℕ → ℕ) → bit_at v new id ≡ test v
+
+-- a term of this width
+pub record IsTerm (terms : List Term) (width : ℕ) (id : TermId) : Type 0 where
+  pub within : id.index < length terms
+  pub wide : width_of (tree_in terms id) ≡ width
+
+-- each value fits its width
+abbrev pub AreInRange : List Term → Type 0
+AreInRange terms = (v : ℕ → ℕ → ℕ) (a : TermId) → a.index < length terms → term_at v terms a < 2 ^ width_of (tree_in terms a)

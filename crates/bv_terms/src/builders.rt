@@ -1,0 +1,303 @@
+//! A builder for each operation.
+
+ghost use Rattle.std.specs.Prelude.{◌≡◌, ◌<◌, ◌≤◌, ◌+◌, ◌-◌, ◌*◌, ◌/◌, ◌%◌, ◌^◌, IfOk, Some, slice_get, length, cond, nat_eq, nat_lt, bit_and, bit_or, bit_xor};
+ghost use Rattle.bv_terms.specs.Tree.{digit, extended_signed, is_less_signed, quotient, remainder, shifted_left, shifted_right, shifted_signed, truth, width_of};
+ghost use Rattle.bv_terms.specs.declared.term.Term.TheVariants as variant;
+ghost use Rattle.bv_terms.specs.Trees.{IsWidth, Keeps, Makes, bit_at, tree_in, term_at};
+
+use crate::term::{Term, TermId};
+use crate::terms::Terms;
+use support::NoMemory;
+
+/// Each builder answers the term, which is stored unless it is there, and leaves those before it as
+/// they were, also where memory fails.
+impl Terms {
+    /// A number, which is below 2 to the power of the width.
+    pub fn constant(&mut self, value: u128, width: u32) -> Result<TermId, NoMemory>
+        requires wide { IsWidth width }
+        requires fits { value < 2 ^ width }
+        ensures stored { IfOk result (λ id. slice_get self.new id.index ≡ Some (variant.Constant value width)) }
+        ensures made { IfOk result (λ id. Makes self.new id width (λ _. value)) }
+        ensures kept { Keeps self.old self.new }
+    {
+        self.store(Term::Constant { value, width })
+    }
+
+    /// A variable, which is its number and its width together.
+    pub fn variable(&mut self, number: u64, width: u32) -> Result<TermId, NoMemory>
+        requires { IsWidth width }
+        ensures stored { IfOk result (λ id. slice_get self.new id.index ≡ Some (variant.Variable number width)) }
+        ensures made { IfOk result (λ id. Makes self.new id width (λ v. v number width % 2 ^ width)) }
+        ensures kept { Keeps self.old self.new }
+    {
+        self.store(Term::Variable { number, width })
+    }
+
+    /// Each bit turned.
+    pub fn not(&mut self, a: TermId) -> Result<TermId, NoMemory>
+        requires { a.index < length self.old }
+        ensures stored { IfOk result (λ id. slice_get self.new id.index ≡ Some (variant.Not a (width_of (tree_in self.old a)))) }
+        ensures made { IfOk result (λ id. Makes self.new id (width_of (tree_in self.old a)) (λ v. 2 ^ width_of (tree_in self.old a) - 1 - term_at v self.old a)) }
+        ensures kept { Keeps self.old self.new }
+    {
+        let width = self.width(a);
+        self.store(Term::Not { a, width })
+    }
+
+    /// The bits that are 1 in both.
+    pub fn and(&mut self, a: TermId, b: TermId) -> Result<TermId, NoMemory>
+        requires a { a.index < length self.old }
+        requires b { b.index < length self.old }
+        requires alike { width_of (tree_in self.old a) ≡ width_of (tree_in self.old b) }
+        ensures stored { IfOk result (λ id. slice_get self.new id.index ≡ Some (variant.And a b (width_of (tree_in self.old a)))) }
+        ensures made { IfOk result (λ id. Makes self.new id (width_of (tree_in self.old a)) (λ v. bit_and (term_at v self.old a) (term_at v self.old b))) }
+        ensures kept { Keeps self.old self.new }
+    {
+        let width = self.width(a);
+        self.store(Term::And { a, b, width })
+    }
+
+    /// The bits that are 1 in either.
+    pub fn or(&mut self, a: TermId, b: TermId) -> Result<TermId, NoMemory>
+        requires a { a.index < length self.old }
+        requires b { b.index < length self.old }
+        requires alike { width_of (tree_in self.old a) ≡ width_of (tree_in self.old b) }
+        ensures stored { IfOk result (λ id. slice_get self.new id.index ≡ Some (variant.Or a b (width_of (tree_in self.old a)))) }
+        ensures made { IfOk result (λ id. Makes self.new id (width_of (tree_in self.old a)) (λ v. bit_or (term_at v self.old a) (term_at v self.old b))) }
+        ensures kept { Keeps self.old self.new }
+    {
+        let width = self.width(a);
+        self.store(Term::Or { a, b, width })
+    }
+
+    /// The bits that are 1 in just one.
+    pub fn xor(&mut self, a: TermId, b: TermId) -> Result<TermId, NoMemory>
+        requires a { a.index < length self.old }
+        requires b { b.index < length self.old }
+        requires alike { width_of (tree_in self.old a) ≡ width_of (tree_in self.old b) }
+        ensures stored { IfOk result (λ id. slice_get self.new id.index ≡ Some (variant.Xor a b (width_of (tree_in self.old a)))) }
+        ensures made { IfOk result (λ id. Makes self.new id (width_of (tree_in self.old a)) (λ v. bit_xor (term_at v self.old a) (term_at v self.old b))) }
+        ensures kept { Keeps self.old self.new }
+    {
+        let width = self.width(a);
+        self.store(Term::Xor { a, b, width })
+    }
+
+    /// The sum, which wraps.
+    pub fn add(&mut self, a: TermId, b: TermId) -> Result<TermId, NoMemory>
+        requires a { a.index < length self.old }
+        requires b { b.index < length self.old }
+        requires alike { width_of (tree_in self.old a) ≡ width_of (tree_in self.old b) }
+        ensures stored { IfOk result (λ id. slice_get self.new id.index ≡ Some (variant.Add a b (width_of (tree_in self.old a)))) }
+        ensures made { IfOk result (λ id. Makes self.new id (width_of (tree_in self.old a)) (λ v. (term_at v self.old a + term_at v self.old b) % 2 ^ width_of (tree_in self.old a))) }
+        ensures kept { Keeps self.old self.new }
+    {
+        let width = self.width(a);
+        self.store(Term::Add { a, b, width })
+    }
+
+    /// The difference, which wraps.
+    pub fn sub(&mut self, a: TermId, b: TermId) -> Result<TermId, NoMemory>
+        requires a { a.index < length self.old }
+        requires b { b.index < length self.old }
+        requires alike { width_of (tree_in self.old a) ≡ width_of (tree_in self.old b) }
+        ensures stored { IfOk result (λ id. slice_get self.new id.index ≡ Some (variant.Sub a b (width_of (tree_in self.old a)))) }
+        ensures made { IfOk result (λ id. Makes self.new id (width_of (tree_in self.old a)) (λ v. (term_at v self.old a + (2 ^ width_of (tree_in self.old a) - term_at v self.old b)) % 2 ^ width_of (tree_in self.old a))) }
+        ensures kept { Keeps self.old self.new }
+    {
+        let width = self.width(a);
+        self.store(Term::Sub { a, b, width })
+    }
+
+    /// The product, which wraps.
+    pub fn mul(&mut self, a: TermId, b: TermId) -> Result<TermId, NoMemory>
+        requires a { a.index < length self.old }
+        requires b { b.index < length self.old }
+        requires alike { width_of (tree_in self.old a) ≡ width_of (tree_in self.old b) }
+        ensures stored { IfOk result (λ id. slice_get self.new id.index ≡ Some (variant.Mul a b (width_of (tree_in self.old a)))) }
+        ensures made { IfOk result (λ id. Makes self.new id (width_of (tree_in self.old a)) (λ v. (term_at v self.old a * term_at v self.old b) % 2 ^ width_of (tree_in self.old a))) }
+        ensures kept { Keeps self.old self.new }
+    {
+        let width = self.width(a);
+        self.store(Term::Mul { a, b, width })
+    }
+
+    /// The quotient of unsigned numbers; all ones where the divisor is 0.
+    pub fn udiv(&mut self, a: TermId, b: TermId) -> Result<TermId, NoMemory>
+        requires a { a.index < length self.old }
+        requires b { b.index < length self.old }
+        requires alike { width_of (tree_in self.old a) ≡ width_of (tree_in self.old b) }
+        ensures stored { IfOk result (λ id. slice_get self.new id.index ≡ Some (variant.Udiv a b (width_of (tree_in self.old a)))) }
+        ensures made { IfOk result (λ id. Makes self.new id (width_of (tree_in self.old a)) (λ v. quotient (width_of (tree_in self.old a)) (term_at v self.old a) (term_at v self.old b))) }
+        ensures kept { Keeps self.old self.new }
+    {
+        let width = self.width(a);
+        self.store(Term::Udiv { a, b, width })
+    }
+
+    /// The remainder of unsigned numbers; the dividend where the divisor is 0.
+    pub fn urem(&mut self, a: TermId, b: TermId) -> Result<TermId, NoMemory>
+        requires a { a.index < length self.old }
+        requires b { b.index < length self.old }
+        requires alike { width_of (tree_in self.old a) ≡ width_of (tree_in self.old b) }
+        ensures stored { IfOk result (λ id. slice_get self.new id.index ≡ Some (variant.Urem a b (width_of (tree_in self.old a)))) }
+        ensures made { IfOk result (λ id. Makes self.new id (width_of (tree_in self.old a)) (λ v. remainder (term_at v self.old a) (term_at v self.old b))) }
+        ensures kept { Keeps self.old self.new }
+    {
+        let width = self.width(a);
+        self.store(Term::Urem { a, b, width })
+    }
+
+    /// The first moved up by the second; 0 where that is the width or more.
+    pub fn shl(&mut self, a: TermId, b: TermId) -> Result<TermId, NoMemory>
+        requires a { a.index < length self.old }
+        requires b { b.index < length self.old }
+        requires alike { width_of (tree_in self.old a) ≡ width_of (tree_in self.old b) }
+        ensures stored { IfOk result (λ id. slice_get self.new id.index ≡ Some (variant.Shl a b (width_of (tree_in self.old a)))) }
+        ensures made { IfOk result (λ id. Makes self.new id (width_of (tree_in self.old a)) (λ v. shifted_left (width_of (tree_in self.old a)) (term_at v self.old a) (term_at v self.old b))) }
+        ensures kept { Keeps self.old self.new }
+    {
+        let width = self.width(a);
+        self.store(Term::Shl { a, b, width })
+    }
+
+    /// The first moved down by the second; 0 where that is the width or more.
+    pub fn lshr(&mut self, a: TermId, b: TermId) -> Result<TermId, NoMemory>
+        requires a { a.index < length self.old }
+        requires b { b.index < length self.old }
+        requires alike { width_of (tree_in self.old a) ≡ width_of (tree_in self.old b) }
+        ensures stored { IfOk result (λ id. slice_get self.new id.index ≡ Some (variant.Lshr a b (width_of (tree_in self.old a)))) }
+        ensures made { IfOk result (λ id. Makes self.new id (width_of (tree_in self.old a)) (λ v. shifted_right (width_of (tree_in self.old a)) (term_at v self.old a) (term_at v self.old b))) }
+        ensures kept { Keeps self.old self.new }
+    {
+        let width = self.width(a);
+        self.store(Term::Lshr { a, b, width })
+    }
+
+    /// The first moved down by the second, with copies of its sign; nothing but these where that is the width or more.
+    pub fn ashr(&mut self, a: TermId, b: TermId) -> Result<TermId, NoMemory>
+        requires a { a.index < length self.old }
+        requires b { b.index < length self.old }
+        requires alike { width_of (tree_in self.old a) ≡ width_of (tree_in self.old b) }
+        ensures stored { IfOk result (λ id. slice_get self.new id.index ≡ Some (variant.Ashr a b (width_of (tree_in self.old a)))) }
+        ensures made { IfOk result (λ id. Makes self.new id (width_of (tree_in self.old a)) (λ v. shifted_signed (width_of (tree_in self.old a)) (term_at v self.old a) (term_at v self.old b))) }
+        ensures kept { Keeps self.old self.new }
+    {
+        let width = self.width(a);
+        self.store(Term::Ashr { a, b, width })
+    }
+
+    /// 1 where the two are equal, and else 0.
+    pub fn eq(&mut self, a: TermId, b: TermId) -> Result<TermId, NoMemory>
+        requires a { a.index < length self.old }
+        requires b { b.index < length self.old }
+        requires alike { width_of (tree_in self.old a) ≡ width_of (tree_in self.old b) }
+        ensures stored { IfOk result (λ id. slice_get self.new id.index ≡ Some (variant.Eq a b (width_of (tree_in self.old a)))) }
+        ensures made { IfOk result (λ id. Makes self.new id 1 (λ v. digit (nat_eq (term_at v self.old a) (term_at v self.old b)))) }
+        ensures kept { Keeps self.old self.new }
+    {
+        let width = self.width(a);
+        self.store(Term::Eq { a, b, width })
+    }
+
+    /// 1 where the first is less, as unsigned numbers, and else 0.
+    pub fn ult(&mut self, a: TermId, b: TermId) -> Result<TermId, NoMemory>
+        requires a { a.index < length self.old }
+        requires b { b.index < length self.old }
+        requires alike { width_of (tree_in self.old a) ≡ width_of (tree_in self.old b) }
+        ensures stored { IfOk result (λ id. slice_get self.new id.index ≡ Some (variant.Ult a b (width_of (tree_in self.old a)))) }
+        ensures made { IfOk result (λ id. Makes self.new id 1 (λ v. digit (nat_lt (term_at v self.old a) (term_at v self.old b)))) }
+        ensures kept { Keeps self.old self.new }
+    {
+        let width = self.width(a);
+        self.store(Term::Ult { a, b, width })
+    }
+
+    /// 1 where the first is less, in two's complement, and else 0.
+    pub fn slt(&mut self, a: TermId, b: TermId) -> Result<TermId, NoMemory>
+        requires a { a.index < length self.old }
+        requires b { b.index < length self.old }
+        requires alike { width_of (tree_in self.old a) ≡ width_of (tree_in self.old b) }
+        ensures stored { IfOk result (λ id. slice_get self.new id.index ≡ Some (variant.Slt a b (width_of (tree_in self.old a)))) }
+        ensures made { IfOk result (λ id. Makes self.new id 1 (λ v. digit (is_less_signed (width_of (tree_in self.old a)) (term_at v self.old a) (term_at v self.old b)))) }
+        ensures kept { Keeps self.old self.new }
+    {
+        let width = self.width(a);
+        self.store(Term::Slt { a, b, width })
+    }
+
+    /// The first of two where the condition, of width 1, is 1, and else the second.
+    pub fn ite(&mut self, c: TermId, a: TermId, b: TermId) -> Result<TermId, NoMemory>
+        requires c { c.index < length self.old }
+        requires a { a.index < length self.old }
+        requires b { b.index < length self.old }
+        requires bit { width_of (tree_in self.old c) ≡ 1 }
+        requires alike { width_of (tree_in self.old a) ≡ width_of (tree_in self.old b) }
+        ensures stored { IfOk result (λ id. slice_get self.new id.index ≡ Some (variant.Ite c a b (width_of (tree_in self.old a)))) }
+        ensures made { IfOk result (λ id. Makes self.new id (width_of (tree_in self.old a)) (λ v. cond (bit_at v self.old c) (term_at v self.old a) (term_at v self.old b))) }
+        ensures kept { Keeps self.old self.new }
+    {
+        let width = self.width(a);
+        self.store(Term::Ite { c, a, b, width })
+    }
+
+    /// The bits of `a` from the place `from` on, counted from the lowest, as many as `width`.
+    pub fn extract(&mut self, a: TermId, from: u32, width: u32) -> Result<TermId, NoMemory>
+        requires a { a.index < length self.old }
+        requires least { 1 ≤ width }
+        requires most { from + width ≤ width_of (tree_in self.old a) }
+        ensures stored { IfOk result (λ id. slice_get self.new id.index ≡ Some (variant.Extract a from width)) }
+        ensures made { IfOk result (λ id. Makes self.new id width (λ v. term_at v self.old a / 2 ^ from % 2 ^ width)) }
+        ensures kept { Keeps self.old self.new }
+    {
+        let _whole = self.width(a);
+        self.store(Term::Extract { a, from, width })
+    }
+
+    /// The bits of `high` and then those of `low`, at most 128 in all.
+    pub fn concat(&mut self, high: TermId, low: TermId) -> Result<TermId, NoMemory>
+        requires high { high.index < length self.old }
+        requires low { low.index < length self.old }
+        requires most { width_of (tree_in self.old high) + width_of (tree_in self.old low) ≤ 128 }
+        ensures stored { IfOk result (λ id. slice_get self.new id.index ≡ Some (variant.Concat high low (width_of (tree_in self.old low)) (width_of (tree_in self.old high) + width_of (tree_in self.old low)))) }
+        ensures made { IfOk result (λ id. Makes self.new id (width_of (tree_in self.old high) + width_of (tree_in self.old low))
+            (λ v. term_at v self.old high * 2 ^ width_of (tree_in self.old low) + term_at v self.old low)) }
+        ensures kept { Keeps self.old self.new }
+    {
+        let above = self.width(high);
+        let below = self.width(low);
+        let width = above + below;
+        self.store(Term::Concat {
+            high,
+            low,
+            below,
+            width,
+        })
+    }
+
+    /// The same number at a width that is as great or greater.
+    pub fn zext(&mut self, a: TermId, width: u32) -> Result<TermId, NoMemory>
+        requires a { a.index < length self.old }
+        requires least { width_of (tree_in self.old a) ≤ width }
+        requires most { width ≤ 128 }
+        ensures stored { IfOk result (λ id. slice_get self.new id.index ≡ Some (variant.Zext a width)) }
+        ensures made { IfOk result (λ id. Makes self.new id width (λ v. term_at v self.old a)) }
+        ensures kept { Keeps self.old self.new }
+    {
+        let _from = self.width(a);
+        self.store(Term::Zext { a, width })
+    }
+
+    /// The same number in two's complement at a width that is as great or greater.
+    pub fn sext(&mut self, a: TermId, width: u32) -> Result<TermId, NoMemory>
+        requires a { a.index < length self.old }
+        requires least { width_of (tree_in self.old a) ≤ width }
+        requires most { width ≤ 128 }
+        ensures stored { IfOk result (λ id. slice_get self.new id.index ≡ Some (variant.Sext a (width_of (tree_in self.old a)) width)) }
+        ensures made { IfOk result (λ id. Makes self.new id width (λ v. extended_signed (width_of (tree_in self.old a)) width (term_at v self.old a))) }
+        ensures kept { Keeps self.old self.new }
+    {
+        let from = self.width(a);
+        self.store(Term::Sext { a, from, width })
+    }
+}

@@ -1,0 +1,19 @@
+//! Terms over bit vectors, each stored once, and folds over them.
+//!
+//! A term is an operation over earlier terms; the operations are those of the theory of fixed-size
+//! bit vectors of SMT-LIB. Contracts see each term as the tree that it stands for. It promises that
+//! equal terms get equal ids, that the terms of a list stay as more are made, and that the answers
+//! of [`fold`] stand for the terms in order, for each [`TermFold`]. It stands on `support`;
+//! evaluation, substitution and circuits are folds over it.
+#![tactic(auto)]
+
+mod builders;
+mod folding;
+mod term;
+mod terms;
+#[cfg(test)]
+mod tests;
+
+pub use folding::{FoldFault, TermFold, fold};
+pub use term::{Term, TermId};
+pub use terms::Terms;

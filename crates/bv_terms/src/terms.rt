@@ -1,0 +1,90 @@
+//! Terms, each stored once.
+
+ghost use Rattle.std.specs.Prelude.{◌≡◌, ◌<◌, [], IfOk, Some, slice_get, length};
+
+use crate::term::{Term, TermId};
+use indexmap::IndexSet;
+use std::alloc::Global;
+use std::marker::Model;
+use support::NoMemory;
+
+/// Terms, each once and after those that it names. Contracts see the list of terms.
+#[derive(Drop)]
+pub struct Terms {
+    terms: IndexSet<Term>,
+}
+
+impl Model for Terms {
+    ghost use Rattle.std.specs.Prelude.{List, []};
+    ghost use Rattle.bv_terms.specs.declared.term.Term.{Term};
+    ghost use Rattle.bv_terms.specs.Trees.{AreFit};
+
+    ghost Value = { List Term };
+
+    ghost view = { λ t. t.terms.keys };
+
+    ghost invariant = { λ t. AreFit [] t.terms.keys };
+}
+
+impl Terms {
+    ghost use Rattle.bv_terms.specs.Tree.{value_of, width_of};
+    ghost use Rattle.bv_terms.specs.Trees.{AreDistinct, AreFit, AreInRange, AreMatched, IsWidth, IsWithin, Keeps, Makes, term_width, trees_of, tree_in, tree_of};
+
+    /// No terms.
+    pub fn new(alloc: Global) -> Self
+        ensures { result ≡ [] }
+    {
+        Terms {
+            terms: IndexSet::new(alloc),
+        }
+    }
+
+    /// The term's place, as a term: the bare step.
+    fn insert(&mut self, term: Term) -> Result<TermId, NoMemory>
+        requires within { IsWithin (length self.old) term }
+        requires matched { AreMatched (trees_of self.old) term }
+        ensures stored { IfOk result (λ id. slice_get self.new id.index ≡ Some term) }
+        ensures fit { AreFit [] self.new }
+        ensures kept { Keeps self.old self.new }
+    {
+        let (index, _) = self.terms.insert_full(term)?;
+        Ok(TermId { index })
+    }
+
+    /// The place of the term, which is stored unless it is there.
+    pub fn store(&mut self, term: Term) -> Result<TermId, NoMemory>
+        requires within { IsWithin (length self.old) term }
+        requires matched { AreMatched (trees_of self.old) term }
+        ensures stored { IfOk result (λ id. slice_get self.new id.index ≡ Some term) }
+        ensures made { IfOk result (λ id. Makes self.new id (term_width term) (λ v. value_of v (tree_of (trees_of self.old) term))) }
+        ensures kept { Keeps self.old self.new }
+    {
+        let id = self.insert(term)?;
+        Ok(id)
+    }
+
+    /// Each value fits its width. This computes nothing: its caller learns it.
+    pub fn values_fit(&self)
+        ensures { AreInRange self.now }
+    {
+        self.as_slice();
+    }
+
+    /// The terms, in order.
+    pub fn as_slice(&self) -> &[Term]
+        ensures value { result.now ≡ self.now }
+        ensures fit { AreFit [] self.now }
+        ensures distinct { AreDistinct self.now }
+    {
+        self.terms.as_slice()
+    }
+
+    /// How many bits a term has, from 1 to 128.
+    pub fn width(&self, a: TermId) -> u32
+        requires { a.index < length self.now }
+        ensures width { result ≡ width_of (tree_in self.now a) }
+        ensures range { IsWidth result }
+    {
+        self.as_slice()[a.index].width()
+    }
+}

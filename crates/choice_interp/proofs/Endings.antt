@@ -1,0 +1,40 @@
+-- Two endings with one memory.
+use Rattle.std.proofs.Common.{◌≡◌, List, Bool, true, false, ◌&&◌, refl, eq-eqb, ℕ, Option}
+use Rattle.byte_block.specs.declared.value.Value.{Value}
+use Rattle.byte_block.specs.declared.value.BlockName.{BlockName}
+use Rattle.byte_block.specs.declared.value.BlockName.TheVariants.{Null, Given, Local}
+use Rattle.byte_block.specs.declared.value.Byte.{Byte}
+use Rattle.byte_block.specs.declared.value.Byte.TheVariants as byte
+use Rattle.byte_block.specs.declared.block.MemoryBlock.{MemoryBlock}
+use Rattle.points.specs.Refines.{same_name, same_pointer, byte_allows, bytes_of, block_allows, blocks_allow, returned_allows, is_refined}
+use Rattle.points.proofs.Allowed.{pairs_pass-same}
+use Rattle.choice_interp.specs.declared.ending.Ending.TheVariants.{Return}
+use Rattle.choice_interp.specs.Ran.{outcome_of}
+
+same_name-same : (b : BlockName) → same_name b b ≡ true
+same_name-same Null = refl
+same_name-same (Given i) = eq-eqb i i refl
+same_name-same (Local t p) = rw (eq-eqb t t refl, eq-eqb p p refl) refl
+
+same_pointer-same : (b : BlockName) (n : ℕ) → same_pointer b n b n ≡ true
+same_pointer-same Null n = eq-eqb n n refl
+same_pointer-same (Given i) n = rw (eq-eqb i i refl, eq-eqb n n refl) refl
+same_pointer-same (Local t i) n = refl
+
+byte_allows-same : (b : Byte) → byte_allows b b ≡ true
+byte_allows-same byte.Poison = refl
+byte_allows-same (byte.Num n) = eq-eqb n n refl
+byte_allows-same (byte.Part p i) = rw (same_pointer-same p.block p.offset, eq-eqb i i refl) refl
+
+block_allows-same : (b : MemoryBlock) → block_allows b b ≡ true
+block_allows-same b = rw (same_name-same b.name, eq-eqb b.size b.size refl, pairs_pass-same byte_allows (bytes_of b) byte_allows-same) refl
+
+pub blocks_allow-same : (bs : List MemoryBlock) → blocks_allow bs bs ≡ true
+blocks_allow-same bs = pairs_pass-same block_allows bs block_allows-same
+
+pub refines_with_memory : (v w : Option Value) (memory : List MemoryBlock) → returned_allows v w ≡ is_refined (outcome_of (Return v) memory) (outcome_of (Return w) memory)
+refines_with_memory v w memory = rw (blocks_allow-same memory) (and_true (returned_allows v w))
+  where
+    and_true : (b : Bool) → b ≡ (b && true)
+    and_true true = refl
+    and_true false = refl

@@ -1,0 +1,40 @@
+ghost use Rattle.std.specs.Prelude.{◌≡◌, List};
+ghost use Rattle.byte_block.specs.declared.block.MemoryBlock.{MemoryBlock};
+ghost use Rattle.points.specs.Refines.{is_refined};
+ghost use Rattle.choice_interp.specs.Ran.{outcome_of};
+
+use byte_block::{Memory, Value};
+use points::{Outcome, returned_is_allowed};
+
+/// How a run ends, without the memory that it leaves.
+#[derive(Clone, Copy, Debug, PartialEq, Eq)]
+pub enum Ending {
+    Return(Option<Value>),
+    Ub,
+    Beyond,
+}
+
+impl Ending {
+    /// The outcome of a run that leaves this memory.
+    pub fn with_memory(self, memory: Memory) -> Outcome
+        ensures { result ≡ outcome_of self memory }
+    {
+        match self {
+            Ending::Return(value) => Outcome::Return(value, memory),
+            Ending::Ub => Outcome::Ub,
+            Ending::Beyond => Outcome::Beyond,
+        }
+    }
+}
+
+/// Whether the source's ending allows the target's, where both runs leave one and the same memory.
+#[tactic(auto, using(crate::proofs::Endings::refines_with_memory))]
+pub fn ending_refines(source: Ending, target: Ending) -> bool
+    ensures { (memory : List MemoryBlock) → result ≡ is_refined (outcome_of source memory) (outcome_of target memory) }
+{
+    match (source, target) {
+        (_, Ending::Beyond) | (Ending::Ub | Ending::Beyond, _) => true,
+        (Ending::Return(_), Ending::Ub) => false,
+        (Ending::Return(s), Ending::Return(t)) => returned_is_allowed(s, t),
+    }
+}

@@ -1,0 +1,15 @@
+//! Runs of a function on an input, with choices from a tape.
+//!
+//! It promises that what it tells is the run that `points` defines. It stands on `points`; the judge
+//! by counting and whatever shows a counterexample stand on it. [`interpret`] makes a machine for
+//! one run; [`run_again`] runs in a machine that is there, and takes memory at most for choices.
+#![tactic(auto)]
+
+mod ending;
+mod rerun;
+mod run;
+mod step;
+
+pub use ending::{Ending, ending_refines};
+pub use rerun::{machine_for, run_again};
+pub use run::{Ran, interpret, is_plain};

@@ -1,0 +1,132 @@
+ghost use Rattle.std.specs.Prelude.{◌≡◌, List, length, replicate, IfOk};
+ghost use Rattle.std.specs.Option.{option_map};
+ghost use Rattle.points.specs.Run.{Over, exit_insts, exit_by, returned_value, with_args, first_machine, run_of};
+ghost use Rattle.choice_interp.specs.Ran.{run_with};
+
+use crate::ending::Ending;
+use crate::step::{step, value_returned};
+use byte_block::{Memory, Value, copy_memory};
+use ir_tree::{Block, Function, Parameter, Returned, Terminator};
+use points::{Bounds, Input, Machine};
+use std::alloc::{AllocError, Global};
+use support::{NoMemory, Sequence};
+
+fn poisons(alloc: Global, count: usize) -> Result<Vec<Value>, AllocError>
+    ensures { IfOk result (λ values. values.items ≡ replicate count Value.Poison) }
+{
+    vec![in alloc; Value::Poison; count]
+}
+
+/// A machine for runs of a function on inputs with these blocks.
+pub fn machine_for(alloc: Global, f: &Function, blocks: &Memory) -> Result<Machine, NoMemory>
+    ensures registers { IfOk result (λ machine. length machine.registers ≡ length f.now.names) }
+    ensures memory { IfOk result (λ machine. machine.memory ≡ blocks.now) }
+{
+    let registers = poisons(alloc, f.names.len())?;
+    Ok(Machine {
+        registers: Sequence::from_vec(registers),
+        memory: copy_memory(alloc, blocks)?,
+        turn: 0,
+        taken: Sequence::from_vec(Vec::new(alloc)),
+    })
+}
+
+fn poison_all(registers: &mut Sequence<Value>)
+    ensures { registers.new ≡ replicate (length registers.old) Value.Poison }
+{
+    for i in 0..registers.len() {
+        registers.set(i, Value::Poison);
+    }
+}
+
+fn give_args(registers: &mut Sequence<Value>, parameters: &[Parameter], args: &[Value])
+    ensures value { registers.new ≡ with_args parameters.now args.now registers.old }
+    ensures count { length registers.new ≡ length registers.old }
+{
+    let mut parameters = parameters;
+    let mut args = args;
+    while let [parameter, more_parameters @ ..] = parameters {
+        let [arg, more_args @ ..] = args else {
+            return;
+        };
+        if parameter.name < registers.len() {
+            registers.set(parameter.name, *arg);
+        }
+        parameters = more_parameters;
+        args = more_args;
+    }
+}
+
+fn begin(machine: &mut Machine, f: &Function, input: &Input)
+    requires registers { length machine.old.registers ≡ length f.now.names }
+    requires memory { machine.old.memory ≡ input.now.blocks }
+    ensures value { machine.new ≡ first_machine f.now input.now }
+    ensures registers { length machine.new.registers ≡ length f.now.names }
+{
+    poison_all(&mut machine.registers);
+    give_args(
+        &mut machine.registers,
+        f.parameters.as_slice(),
+        input.args.as_slice(),
+    );
+    machine.turn = 0;
+    machine.taken.clear();
+}
+
+fn returned_by(registers: &[Value], returned: Option<Returned>) -> Option<Value>
+    ensures { result ≡ option_map (returned_value registers.now) returned }
+{
+    match returned {
+        Some(returned) => Some(value_returned(registers, returned)),
+        None => None,
+    }
+}
+
+fn leave(machine: &Machine, terminator: Terminator) -> Ending
+    ensures { exit_by terminator machine.now ≡ Over (run_with result machine.now) }
+{
+    match terminator {
+        Terminator::Return(returned) => {
+            Ending::Return(returned_by(machine.registers.as_slice(), returned))
+        }
+    }
+}
+
+fn run_block(machine: &mut Machine, block: &Block, tape: &[u64]) -> Result<Ending, NoMemory>
+    ensures exit { IfOk result (λ ending. exit_insts block.now.insts block.now.terminator tape.now machine.old ≡ Over (run_with ending machine.new)) }
+    ensures registers { length machine.new.registers ≡ length machine.old.registers }
+    ensures memory { machine.new.memory ≡ machine.old.memory }
+{
+    for inst in block.insts.as_slice() {
+        if !step(machine, *inst, tape)? {
+            return Ok(Ending::Ub);
+        }
+    }
+    Ok(leave(machine, block.terminator))
+}
+
+/// Runs a function on an input and a tape, in a machine for it that has the input's blocks. No
+/// memory is taken but for choices, more of them than any run in this machine took before. After
+/// want of memory the machine is one in the middle of the run, good for another run.
+pub fn run_again(
+    machine: &mut Machine,
+    f: &Function,
+    bounds: &Bounds,
+    input: &Input,
+    tape: &[u64],
+) -> Result<Ending, NoMemory>
+    requires registers { length machine.old.registers ≡ length f.now.names }
+    requires memory { machine.old.memory ≡ input.now.blocks }
+    ensures run { IfOk result (λ ending. run_of f.now bounds.now input.now tape.now ≡ run_with ending machine.new) }
+    ensures registers { length machine.new.registers ≡ length f.now.names }
+    ensures memory { machine.new.memory ≡ input.now.blocks }
+{
+    begin(machine, f, input);
+    match f.blocks.as_slice() {
+        [entry, ..] => {
+            let ending = run_block(machine, entry, tape)?;
+            Ok(ending)
+        }
+        [] => Ok(Ending::Ub),
+    }
+}

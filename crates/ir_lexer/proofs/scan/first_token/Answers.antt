@@ -1,0 +1,14 @@
+use Rattle.std.proofs.Common.{◌≡◌, length, ◌<◌, ◌≤◌, ◌∙◌, Option, ℕ, subst, sym}
+use Rattle.std.specs.Prelude.{IfSome}
+use Rattle.ir_lexer.specs.declared.token.Kind.{Kind}
+use Rattle.ir_lexer.specs.Tokens.{longest_token}
+use Rattle.ir_lexer.proofs.Longest.{front_token-longest, longest-bounds}
+use Rattle.ir_lexer.proofs.scan.first_token.Goals as goal
+
+pub returns : goal.returns
+returns c =
+    let is : c.scanned.result ≡ longest_token c.args.bytes.now = c.scanned.ensures ∙ front_token-longest c.args.bytes.now in
+    record {
+      value = is;
+      bounds = subst (λ (o : Option (Kind × ℕ)). IfSome o (λ found. (0 < found.1) × (found.1 ≤ length c.args.bytes.now))) (sym is) (longest-bounds (length c.args.bytes.now) c.args.bytes.now);
+    }

@@ -1,0 +1,9 @@
+pub mod Digits
+pub mod Widths
+pub mod NameNumbers
+pub mod Checking
+pub mod Each
+pub mod EntryLemmas
+pub mod Limits
+pub mod OneModule
+pub mod Modules

@@ -1,0 +1,9 @@
+pub mod Numbers
+pub mod Spelling
+pub mod Classes
+pub mod Grammar
+pub mod EntryName
+pub mod Numbering
+pub mod Checking
+pub mod FirstForm
+pub mod Answer

@@ -1,0 +1,262 @@
+// Reading one token.
+ghost use Rattle.std.specs.Prelude.{◌≡◌, true};
+ghost use Rattle.ir_forms.specs.Form.{one_of, token_of, begin_of, reads, first_is};
+ghost use Rattle.ir_forms.specs.Answer.{Reads, Passes};
+ghost use Rattle.ir_reader.specs.Spelling.{local_of, op_of, bits_behind};
+ghost use Rattle.ir_reader.specs.Classes.{as_word, as_mark, any, passed, local, global, int_type, counted_type, spelled_width, width_in, operand_class, op_class};
+ghost use Rattle.ir_reader.specs.Grammar.{is_local, is_define};
+
+use crate::names::name;
+use crate::numbers::{literal, some_digits, width};
+use crate::written::WrittenOperand;
+use ir_forms::ReadFault;
+use ir_lexer::{Kind, Token};
+use ir_tree::{Flags, Name, Op};
+use std::alloc::Global;
+use std::marker::Model;
+use tv_num::Width;
+
+/// The tokens that are left to read. Contracts see them as a list.
+#[derive(Drop)]
+pub struct Cursor<'a, 'b> {
+    alloc: Global,
+    rest: &'b [Token<'a>],
+}
+
+impl<'a, 'b> Model for Cursor<'a, 'b> {
+    ghost use Rattle.std.specs.Prelude.{List};
+    ghost use Rattle.ir_lexer.specs.Lexeme.{Lexeme};
+
+    ghost Value = { List Lexeme };
+
+    ghost view = { λ r. r.rest.now };
+}
+
+impl<'a, 'b> Cursor<'a, 'b> {
+    pub fn new(alloc: Global, tokens: &'b [Token<'a>]) -> Self
+        ensures { result ≡ tokens.now }
+    {
+        Cursor {
+            alloc,
+            rest: tokens,
+        }
+    }
+
+    pub fn alloc(&self) -> Global {
+        self.alloc
+    }
+
+    /// What is left.
+    pub fn left(&self) -> &'b [Token<'a>]
+        ensures { result.now ≡ self.now }
+    {
+        self.rest
+    }
+
+    /// Passes a word, where there is room for what it begins.
+    pub fn counted_word(&mut self, text: &[u8], room: bool) -> Result<(), ReadFault>
+        ensures { Passes result self.new (token_of true (as_word text.now) (λ t. room) self.old) }
+    {
+        let [first, rest @ ..] = self.rest else {
+            return Err(ReadFault::Unfit);
+        };
+        if first.kind() != Kind::Word || first.text() != text {
+            return Err(ReadFault::Unfit);
+        }
+        if !room {
+            return Err(ReadFault::PastLimit);
+        }
+        self.rest = rest;
+        Ok(())
+    }
+
+    /// Passes a mark.
+    pub fn mark(&mut self, text: &[u8]) -> Result<(), ReadFault>
+        ensures { Passes result self.new (token_of true (as_mark text.now) any self.old) }
+    {
+        let [first, rest @ ..] = self.rest else {
+            return Err(ReadFault::Unfit);
+        };
+        if first.kind() == Kind::Mark && first.text() == text {
+            self.rest = rest;
+            Ok(())
+        } else {
+            Err(ReadFault::Unfit)
+        }
+    }
+
+    /// Passes a mark, if it stands next.
+    pub fn eat_mark(&mut self, text: &[u8]) -> bool
+        ensures { begin_of true any (as_mark text.now) any self.old ≡ reads (passed result) self.new }
+    {
+        let [first, rest @ ..] = self.rest else {
+            return false;
+        };
+        if first.kind() == Kind::Mark && first.text() == text {
+            self.rest = rest;
+            return true;
+        }
+        false
+    }
+
+    /// Whether a local name stands next.
+    pub fn begins_inst(&self) -> bool
+        ensures { result ≡ first_is is_local self.now }
+    {
+        let [first, ..] = self.rest else {
+            return false;
+        };
+        match (first.kind(), first.text()) {
+            (Kind::Local, [_, ..]) => true,
+            _ => false,
+        }
+    }
+
+    /// Whether a function begins here.
+    pub fn begins_function(&self) -> bool
+        ensures { result ≡ first_is is_define self.now }
+    {
+        let [first, ..] = self.rest else {
+            return false;
+        };
+        first.kind() == Kind::Word && first.text() == b"define".as_slice()
+    }
+
+    /// Reads a local name, where there is room for what it begins.
+    pub fn counted_local(&mut self, room: bool) -> Result<Name, ReadFault>
+        ensures { Reads (λ x. x) result self.new (token_of true (λ t. local_of t.kind t.text) (λ t. room) self.old) }
+    {
+        let [first, rest @ ..] = self.rest else {
+            return Err(ReadFault::Unfit);
+        };
+        let (Kind::Local, [_, text @ ..]) = (first.kind(), first.text()) else {
+            return Err(ReadFault::Unfit);
+        };
+        if !room {
+            return Err(ReadFault::PastLimit);
+        }
+        let local = name(self.alloc, text)?;
+        self.rest = rest;
+        Ok(local)
+    }
+
+    /// Reads a local name.
+    pub fn local(&mut self) -> Result<Name, ReadFault>
+        ensures { Reads (λ x. x) result self.new (one_of true local self.old) }
+    {
+        self.counted_local(true)
+    }
+
+    /// Reads a global name.
+    pub fn global(&mut self) -> Result<Name, ReadFault>
+        ensures { Reads (λ x. x) result self.new (one_of true global self.old) }
+    {
+        let [first, rest @ ..] = self.rest else {
+            return Err(ReadFault::Unfit);
+        };
+        let (Kind::Global, [_, text @ ..]) = (first.kind(), first.text()) else {
+            return Err(ReadFault::Unfit);
+        };
+        let global = name(self.alloc, text)?;
+        self.rest = rest;
+        Ok(global)
+    }
+
+    /// Reads an integer type.
+    pub fn int_type(&mut self) -> Result<Width, ReadFault>
+        ensures { Reads (λ x. x) result self.new (one_of true int_type self.old) }
+    {
+        self.counted_type(true)
+    }
+
+    /// Reads an integer type, where there is room for one more of what it is counted as.
+    pub fn counted_type(&mut self, room: bool) -> Result<Width, ReadFault>
+        ensures { Reads (λ x. x) result self.new (one_of true (counted_type room) self.old) }
+    {
+        let [first, rest @ ..] = self.rest else {
+            return Err(ReadFault::Unfit);
+        };
+        match width_in(first) {
+            None => Err(ReadFault::Unfit),
+            Some(None) => Err(ReadFault::PastLimit),
+            Some(Some(width)) => {
+                if !room {
+                    return Err(ReadFault::PastLimit);
+                }
+                self.rest = rest;
+                Ok(width)
+            }
+        }
+    }
+
+    /// Reads an operand of a type.
+    pub fn operand(&mut self, width: Width) -> Result<WrittenOperand, ReadFault>
+        ensures { Reads (λ x. x) result self.new (one_of true (operand_class width) self.old) }
+    {
+        let [first, rest @ ..] = self.rest else {
+            return Err(ReadFault::Unfit);
+        };
+        let operand = match (first.kind(), first.text()) {
+            (Kind::Local, [_, text @ ..]) => WrittenOperand::Local(name(self.alloc, text)?),
+            (Kind::Number, text) => match literal(width, text) {
+                Some(value) => WrittenOperand::Literal(value),
+                None => return Err(ReadFault::PastLimit),
+            },
+            _ => return Err(ReadFault::Unfit),
+        };
+        self.rest = rest;
+        Ok(operand)
+    }
+
+    /// Reads the word that names an instruction.
+    pub fn op(&mut self) -> Result<Op, ReadFault>
+        ensures { Reads (λ x. x) result self.new (one_of true op_class self.old) }
+    {
+        let [first, rest @ ..] = self.rest else {
+            return Err(ReadFault::Unfit);
+        };
+        let Some(op) = op_of(first) else {
+            return Err(ReadFault::Unfit);
+        };
+        self.rest = rest;
+        Ok(op)
+    }
+}
+
+const NO_FLAGS: Flags = Flags {
+    nuw: false,
+    nsw: false,
+};
+
+// The width of the type that a word spells: nothing where it spells none, nothing inside where there
+// is no such width.
+fn width_behind(text: &[u8]) -> Option<Option<Width>>
+    ensures { result ≡ spelled_width (bits_behind text.now) }
+{
+    match text {
+        [b'i', digits @ ..] if some_digits(digits) => Some(width(digits)),
+        _ => None,
+    }
+}
+
+fn width_in(token: &Token) -> Option<Option<Width>>
+    ensures { result ≡ width_in token.now }
+{
+    match token.kind() {
+        Kind::Word => width_behind(token.text()),
+        _ => None,
+    }
+}
+
+fn op_of(token: &Token) -> Option<Op>
+    ensures { result ≡ op_of token.now.kind token.now.text }
+{
+    match (token.kind(), token.text()) {
+        (Kind::Word, b"add") => Some(Op::Add(NO_FLAGS)),
+        (Kind::Word, b"sub") => Some(Op::Sub(NO_FLAGS)),
+        (Kind::Word, b"and") => Some(Op::And),
+        (Kind::Word, b"or") => Some(Op::Or),
+        (Kind::Word, b"xor") => Some(Op::Xor),
+        _ => None,
+    }
+}

@@ -1,0 +1,245 @@
+// Numbering the names of a function and checking it, in one go.
+ghost use Rattle.std.specs.Prelude.{◌≡◌, IfOk};
+ghost use Rattle.ir_reader.specs.Checking.{no_names, defined, value_number, operand_in, parameter_in, inst_in, each_in, head_in, block_of, blocks_in, parts_in, checked};
+ghost use Rattle.ir_reader.specs.Answer.{Answers, Defines, Checks};
+
+use crate::entry_name::entry_name;
+use crate::fault::ModuleFault;
+use crate::written::{
+    WrittenFunction, WrittenInst, WrittenOperand, WrittenParameter, WrittenReturn,
+};
+use ir_tree::{
+    Block, Function, Inst, IrType, Name, Names, Operand, Parameter, Returned, Terminator,
+};
+use std::alloc::Global;
+use std::marker::Model;
+use support::{NoMemory, Sequence};
+use tv_num::Width;
+
+/// The names that are defined so far, and the type of each by its number; a label has none.
+/// Contracts see them as a `Table`.
+#[derive(Drop)]
+pub struct Scope {
+    names: Names,
+    types: Vec<Option<Width>>,
+}
+
+impl Model for Scope {
+    ghost use Rattle.ir_reader.specs.Checking.{Table};
+
+    ghost Value = { Table };
+
+    ghost view = { λ s. record { names = s.names; types = s.types.items } };
+}
+
+impl Scope {
+    fn new(alloc: Global) -> Self
+        ensures { result ≡ no_names }
+    {
+        Scope {
+            names: Names::new(alloc),
+            types: Vec::new(alloc),
+        }
+    }
+
+    // Defines a name that is not there, and gives its number.
+    fn define(&mut self, name: Name, of_type: Option<Width>) -> Result<usize, ModuleFault>
+        ensures { Defines result self.old self.new (defined self.old name of_type) }
+    {
+        let next = self.names.len();
+        let number = self.names.number(name)?;
+        if number != next {
+            return Err(ModuleFault::NotRead);
+        }
+        self.types.push(of_type)?;
+        Ok(number)
+    }
+
+    // The number of a name with a value of this type.
+    fn value(&self, width: Width, name: &Name) -> Option<usize>
+        ensures { result ≡ value_number self.now width name.now }
+    {
+        let number = self.names.find(name)?;
+        match self.types.get(number) {
+            Some(Some(w)) if w.bits() == width.bits() => Some(number),
+            _ => None,
+        }
+    }
+
+    fn operand(&self, width: Width, operand: &WrittenOperand) -> Result<Operand, ModuleFault>
+        ensures { Answers result (operand_in self.now width operand.now) }
+    {
+        match operand {
+            WrittenOperand::Local(name) => match self.value(width, name) {
+                Some(number) => Ok(Operand::Local(number)),
+                None => Err(ModuleFault::NotRead),
+            },
+            WrittenOperand::Literal(number) => Ok(Operand::Number(*number)),
+        }
+    }
+
+    #[tactic(auto, unfolding(crate::specs::Checking::parameter_in))]
+    fn parameter(&mut self, parameter: WrittenParameter) -> Result<Parameter, ModuleFault>
+        ensures { Checks (λ x. x) result self.new (parameter_in self.old parameter) }
+    {
+        let WrittenParameter { width, name } = parameter;
+        let number = self.define(name, Some(width))?;
+        Ok(Parameter {
+            of_type: IrType::Int(width),
+            name: number,
+        })
+    }
+
+    #[tactic(auto, unfolding(crate::specs::Checking::inst_in))]
+    fn inst(&mut self, inst: WrittenInst) -> Result<Inst, ModuleFault>
+        ensures { Checks (λ x. x) result self.new (inst_in self.old inst) }
+    {
+        let WrittenInst {
+            into,
+            op,
+            width,
+            left,
+            right,
+        } = inst;
+        let left = self.operand(width, &left)?;
+        let right = self.operand(width, &right)?;
+        let into = self.define(into, Some(width))?;
+        Ok(Inst::Binary {
+            into,
+            op,
+            width,
+            left,
+            right,
+        })
+    }
+
+    fn parameters(
+        &mut self,
+        alloc: Global,
+        parameters: Sequence<WrittenParameter>,
+    ) -> Result<Sequence<Parameter>, ModuleFault>
+        ensures { Checks (λ x. x) result self.new (each_in parameter_in self.old parameters) }
+    {
+        let mut numbered = Vec::new(alloc);
+        for parameter in parameters.into_vec() {
+            numbered.push(self.parameter(parameter)?)?;
+        }
+        Ok(Sequence::from_vec(numbered))
+    }
+
+    fn insts(
+        &mut self,
+        alloc: Global,
+        insts: Sequence<WrittenInst>,
+    ) -> Result<Sequence<Inst>, ModuleFault>
+        ensures { Checks (λ x. x) result self.new (each_in inst_in self.old insts) }
+    {
+        let mut numbered = Vec::new(alloc);
+        for inst in insts.into_vec() {
+            numbered.push(self.inst(inst)?)?;
+        }
+        Ok(Sequence::from_vec(numbered))
+    }
+
+    // Numbers the parameters and the entry's label.
+    #[tactic(auto, unfolding(crate::specs::Checking::head_in))]
+    fn head(
+        &mut self,
+        alloc: Global,
+        parameters: Sequence<WrittenParameter>,
+    ) -> Result<(Sequence<Parameter>, usize), ModuleFault>
+        ensures { Checks (λ x. x) result self.new (head_in self.old parameters) }
+    {
+        let entry = entry_name(alloc, &parameters)?;
+        let parameters = self.parameters(alloc, parameters)?;
+        let label = self.define(entry, None)?;
+        Ok((parameters, label))
+    }
+
+    // Numbers what stands between the braces.
+    #[tactic(auto, unfolding(crate::specs::Checking::blocks_in))]
+    fn blocks(
+        &mut self,
+        alloc: Global,
+        label: usize,
+        insts: Sequence<WrittenInst>,
+        returned: WrittenReturn,
+    ) -> Result<Sequence<Block>, ModuleFault>
+        ensures { Checks (λ x. x) result self.new (blocks_in self.old label insts returned) }
+    {
+        let insts = self.insts(alloc, insts)?;
+        let operand = self.operand(returned.width, &returned.operand)?;
+        Ok(one_block(alloc, label, insts, returned.width, operand)?)
+    }
+
+    fn into_names(self) -> Names
+        ensures { result ≡ self.names }
+    {
+        let Scope { names, types: _ } = self;
+        names
+    }
+}
+
+// The one block of a function.
+fn one_block(
+    alloc: Global,
+    label: usize,
+    insts: Sequence<Inst>,
+    width: Width,
+    operand: Operand,
+) -> Result<Sequence<Block>, NoMemory>
+    ensures { IfOk result (λ blocks. blocks ≡ block_of label insts width operand) }
+{
+    let returned = Returned {
+        of_type: IrType::Int(width),
+        operand,
+    };
+    let mut blocks = Sequence::from_vec(Vec::new(alloc));
+    blocks.push(Block {
+        label,
+        insts,
+        terminator: Terminator::Return(Some(returned)),
+    })?;
+    Ok(blocks)
+}
+
+#[tactic(auto, unfolding(crate::specs::Checking::parts_in))]
+fn parts(
+    alloc: Global,
+    parameters: Sequence<WrittenParameter>,
+    insts: Sequence<WrittenInst>,
+    returned: WrittenReturn,
+) -> Result<((Sequence<Parameter>, Sequence<Block>), Scope), ModuleFault>
+    ensures { Answers result (parts_in parameters insts returned) }
+{
+    let mut scope = Scope::new(alloc);
+    let (parameters, label) = scope.head(alloc, parameters)?;
+    let blocks = scope.blocks(alloc, label, insts, returned)?;
+    Ok(((parameters, blocks), scope))
+}
+
+/// The function with its names numbered, if it is well formed: `NotRead` comes exactly where it
+/// isn't.
+#[tactic(auto, unfolding(crate::specs::Checking::checked))]
+pub fn check(alloc: Global, written: WrittenFunction) -> Result<Function, ModuleFault>
+    ensures { Answers result (checked written) }
+{
+    if written.returned.width.bits() != written.returns.bits() {
+        return Err(ModuleFault::NotRead);
+    }
+    let WrittenFunction {
+        returns,
+        name,
+        parameters,
+        insts,
+        returned,
+    } = written;
+    let ((parameters, blocks), scope) = parts(alloc, parameters, insts, returned)?;
+    Ok(Function {
+        name,
+        returns: Some(IrType::Int(returns)),
+        parameters,
+        blocks,
+        names: scope.into_names(),
+    })
+}

@@ -1,0 +1,10 @@
+pub mod Allowed
+pub mod Args
+pub mod Front
+pub mod Meaning
+pub mod One
+pub mod Order
+pub mod Plain
+pub mod Runs
+pub mod Same
+pub mod Words

@@ -1,0 +1,137 @@
+-- What a function does on an input and a tape of choices. It is told for every function: a name that was never assigned is poison, a number is read modulo the width at which it is used, and a place outside the text ends in undefined behaviour. In a well-formed function none of these happens.
+use Rattle.std.specs.Prelude.{◌≡◌, ℕ, zero, suc, ◌+◌, ◌%◌, ◌^◌, List, [], ◌∷◌, ◌++◌, length, replicate, nat_lt, if◌then◌else◌, Option, Some, None, slice_get, slice_index, slice_index_or, slice_set}
+use Rattle.std.specs.Option.{option_map}
+use Rattle.ir_tree.specs.declared.tree.IrType.{IrType}
+use Rattle.ir_tree.specs.declared.tree.IrType.TheVariants as type
+use Rattle.ir_tree.specs.declared.tree.Operand.{Operand}
+use Rattle.ir_tree.specs.declared.tree.Operand.TheVariants as operand
+use Rattle.ir_tree.specs.declared.tree.Inst.{Inst}
+use Rattle.ir_tree.specs.declared.tree.Inst.TheVariants.{Binary, Freeze}
+use Rattle.ir_tree.specs.declared.tree.Returned.{Returned}
+use Rattle.ir_tree.specs.declared.tree.Terminator.{Terminator}
+use Rattle.ir_tree.specs.declared.tree.Terminator.TheVariants as terminator
+use Rattle.ir_tree.specs.declared.tree.Block.{Block}
+use Rattle.ir_tree.specs.declared.tree.Parameter.{Parameter}
+use Rattle.ir_tree.specs.declared.tree.Function.{Function}
+use Rattle.byte_block.specs.declared.value.Value.{Value}
+use Rattle.byte_block.specs.declared.value.Value.TheVariants as value
+use Rattle.byte_block.specs.declared.value.Value.TheVariants.{Num, Poison}
+use Rattle.points.specs.declared.machine.Machine.{Machine}
+use Rattle.points.specs.declared.outcome.Outcome.{Outcome}
+use Rattle.points.specs.declared.outcome.Outcome.TheVariants.{Return, Ub, Beyond}
+use Rattle.points.specs.declared.point.Bounds.{Bounds}
+use Rattle.points.specs.declared.point.Input.{Input}
+use Rattle.points.specs.Table.{value_result}
+
+-- ---- one instruction
+
+abbrev pub operand_value : List Value → Operand → Value
+operand_value registers (operand.Local name) = slice_index_or registers name Poison
+operand_value registers (operand.Number n) = Num n
+operand_value registers operand.Poison = Poison
+
+-- a number is cut to the width
+abbrev pub cut_value : ℕ → Value → Value
+cut_value width (Num n) = Num (n % 2 ^ width)
+cut_value width Poison = Poison
+cut_value width (value.Ptr p) = value.Ptr p
+
+abbrev pub assigned : Machine → ℕ → Value → Machine
+assigned m name v = record m { registers = slice_set m.registers name v }
+
+-- the next choice of this width: the tape's next word cut to it, 0 past the tape's end
+abbrev pub choice_of : List ℕ → Machine → ℕ → ℕ
+choice_of tape m width = slice_index tape (length m.taken) % 2 ^ width
+
+abbrev pub chosen : Machine → ℕ → ℕ → Machine
+chosen m name choice = record (assigned m name (Num choice)) { taken = m.taken ++ choice ∷ [] }
+
+-- poison becomes a choice, and any other value stays as it is
+abbrev pub frozen : List ℕ → Machine → ℕ → ℕ → Value → Machine
+frozen tape m name width Poison = chosen m name (choice_of tape m width)
+frozen tape m name width v = assigned m name (cut_value width v)
+
+-- none is undefined behaviour
+abbrev pub act : Inst → List ℕ → Machine → Option Machine
+act (Binary into op width left right) tape m =
+    option_map (assigned m into) (value_result op width.bits (operand_value m.registers left) (operand_value m.registers right))
+act (Freeze into width operand) tape m = Some (frozen tape m into width.bits (operand_value m.registers operand))
+
+-- ---- one block
+
+-- how a run ended, and the choices that it took, in order
+pub record Run : Type 0 where
+  pub outcome : Outcome
+  pub taken : List ℕ
+
+-- how a block is left: to the block at a place, or for good
+pub data Exit : Type 0 where
+  To : ℕ → Machine → Exit
+  Over : Run → Exit
+
+abbrev pub ended : Outcome → Machine → Run
+ended outcome m = record { outcome = outcome; taken = m.taken }
+
+abbrev pub typed_value : IrType → Value → Value
+typed_value (type.Int width) v = cut_value width.bits v
+typed_value type.Ptr v = v
+
+abbrev pub returned_value : List Value → Returned → Value
+returned_value registers returned = typed_value returned.of_type (operand_value registers returned.operand)
+
+abbrev pub exit_by : Terminator → Machine → Exit
+exit_by (terminator.Return returned) m = Over (ended (Return (option_map (returned_value m.registers) returned) m.memory) m)
+
+abbrev pub exit_after : Option Machine → Machine → (Machine → Exit) → Exit
+exit_after None m go = Over (ended Ub m)
+exit_after (Some m') m go = go m'
+
+unfoldable pub exit_insts : List Inst → Terminator → List ℕ → Machine → Exit
+exit_insts [] end tape m = exit_by end m
+exit_insts (inst ∷ insts) end tape m = exit_after (act inst tape m) m (exit_insts insts end tape)
+
+abbrev pub exit_of : Option Block → List ℕ → Machine → Exit
+exit_of None tape m = Over (ended Ub m)
+exit_of (Some block) tape m = exit_insts block.insts block.terminator tape m
+
+-- ---- the run
+
+-- the run from the entry of the block at a place
+abbrev pub Go : Type 0
+Go = ℕ → Machine → Run
+
+-- a jump to the same or an earlier place is backward, and is counted
+abbrev pub go_on : Exit → ℕ → Go → Go → Run
+go_on (Over run) at onward again = run
+go_on (To to m) at onward again = if nat_lt at to then onward to m else again to (record m { turn = m.turn + 1 })
+
+-- up to the next backward jump, which goes on by `again`; `left` bounds the jumps forward, and the number of blocks suffices
+unfoldable pub forward : List Block → List ℕ → Go → ℕ → Go
+forward blocks tape again zero at m = ended Ub m
+forward blocks tape again (suc left) at m = go_on (exit_of (slice_get blocks at) tape m) at (forward blocks tape again left) again
+
+-- with so many backward jumps left; the one after them ends the run
+unfoldable pub run_turns : List Block → List ℕ → ℕ → Go
+run_turns blocks tape zero = forward blocks tape (λ at m. ended Beyond m) (length blocks)
+run_turns blocks tape (suc turns) = forward blocks tape (run_turns blocks tape turns) (length blocks)
+
+-- the parameters' names get the arguments
+abbrev pub with_args : List Parameter → List Value → List Value → List Value
+with_args (p ∷ ps) (v ∷ vs) registers = with_args ps vs (slice_set registers p.name v)
+with_args _ _ registers = registers
+
+abbrev pub first_machine : Function → Input → Machine
+first_machine f input = record {
+  registers = with_args f.parameters input.args (replicate (length f.names) Poison);
+  memory = input.blocks;
+  turn = 0;
+  taken = [];
+}
+
+-- the first block is the entry
+abbrev pub run_of : Function → Bounds → Input → List ℕ → Run
+run_of f bounds input tape = run_turns f.blocks tape bounds.turns 0 (first_machine f input)
+
+-- the tape is the choices that the run took, and zeros
+abbrev pub IsPlain : List ℕ → Run → Type 0
+IsPlain tape run = (k : ℕ) → slice_index tape k ≡ slice_index run.taken k

@@ -1,0 +1,55 @@
+-- How many words a run reads, how wide they are, and the plain form of a tape.
+use Rattle.std.specs.Prelude.{◌≡◌, ℕ, ◌+◌, ◌-◌, ◌*◌, ◌≤◌, max, List, [], ◌∷◌, ◌++◌, length, replicate}
+use Rattle.std.specs.List.{flat_map}
+use Rattle.ir_tree.specs.declared.tree.Inst.{Inst}
+use Rattle.ir_tree.specs.declared.tree.Inst.TheVariants.{Binary, Freeze}
+use Rattle.ir_tree.specs.declared.tree.Terminator.{Terminator}
+use Rattle.ir_tree.specs.declared.tree.Terminator.TheVariants as terminator
+use Rattle.ir_tree.specs.declared.tree.Block.{Block}
+use Rattle.ir_tree.specs.declared.tree.Function.{Function}
+use Rattle.points.specs.declared.point.Bounds.{Bounds}
+use Rattle.points.specs.declared.point.Input.{Input}
+use Rattle.points.specs.Code.{number_of, WordsFit}
+use Rattle.points.specs.Run.{run_of, IsPlain}
+
+-- the widths of the choices that an instruction may make, in order
+abbrev pub inst_widths : Inst → List ℕ
+inst_widths (Binary into op width left right) = []
+inst_widths (Freeze into width operand) = width.bits ∷ []
+
+abbrev pub end_widths : Terminator → List ℕ
+end_widths (terminator.Return returned) = []
+
+abbrev pub block_widths : Block → List ℕ
+block_widths b = flat_map inst_widths b.insts ++ end_widths b.terminator
+
+abbrev pub choice_widths : Function → List ℕ
+choice_widths f = flat_map block_widths f.blocks
+
+-- no run with so many backward jumps reads more words
+abbrev pub need_of : ℕ → Function → ℕ
+need_of turns f = (turns + 1) * length (choice_widths f)
+
+-- 1 where there is none
+unfoldable pub widest : List ℕ → ℕ
+widest [] = 1
+widest (w ∷ ws) = max w (widest ws)
+
+abbrev pub widest_choice : Function → ℕ
+widest_choice f = widest (choice_widths f)
+
+-- the choices that were taken, and zeros up to so many words
+abbrev pub plain_form : ℕ → List ℕ → List ℕ
+plain_form n taken = taken ++ replicate (n - length taken) 0
+
+-- the plain form of a tape gives the same run, and is a tape of as many words as the function needs
+pub record HasPlainForm (f : Function) (bounds : Bounds) (input : Input) (tape : List ℕ) : Type 0 where
+  pub enough : length (run_of f bounds input tape).taken ≤ need_of bounds.turns f
+  pub same : run_of f bounds input (plain_form (need_of bounds.turns f) (run_of f bounds input tape).taken) ≡ run_of f bounds input tape
+  pub fits : WordsFit (widest_choice f) (need_of bounds.turns f) (plain_form (need_of bounds.turns f) (run_of f bounds input tape).taken)
+  pub plain : IsPlain (plain_form (need_of bounds.turns f) (run_of f bounds input tape).taken) (run_of f bounds input tape)
+  pub no_greater : length tape ≡ need_of bounds.turns f → number_of (plain_form (need_of bounds.turns f) (run_of f bounds input tape).taken) ≤ number_of tape
+
+-- each tape, of any length, has one on any input
+abbrev pub TapesHavePlainForms : Type 0
+TapesHavePlainForms = (f : Function) (bounds : Bounds) (input : Input) (tape : List ℕ) → HasPlainForm f bounds input tape

@@ -1,0 +1,54 @@
+-- How heavy a pair is, and when it is too large to be judged.
+use Rattle.std.specs.Prelude.{ℕ, ◌+◌, ◌*◌, ◌<◌, ◌⊎◌, List, sum_by}
+use Rattle.ir_tree.specs.declared.tree.IrType.{IrType}
+use Rattle.ir_tree.specs.declared.tree.IrType.TheVariants as type
+use Rattle.ir_tree.specs.declared.tree.Parameter.{Parameter}
+use Rattle.ir_tree.specs.declared.tree.Op.TheVariants.{UnsignedDiv}
+use Rattle.ir_tree.specs.declared.tree.Inst.{Inst}
+use Rattle.ir_tree.specs.declared.tree.Inst.TheVariants.{Binary, Freeze}
+use Rattle.ir_tree.specs.declared.tree.Terminator.{Terminator}
+use Rattle.ir_tree.specs.declared.tree.Terminator.TheVariants as terminator
+use Rattle.ir_tree.specs.declared.tree.Block.{Block}
+use Rattle.ir_tree.specs.declared.tree.Function.{Function}
+use Rattle.points.specs.declared.point.Bounds.{Bounds}
+use Rattle.points.specs.declared.point.Budget.{Budget}
+use Rattle.points.specs.Pair.{Functions}
+use Rattle.points.specs.Tapes.{need_of, widest_choice}
+
+-- a division's cost is the square of its width
+abbrev pub inst_cost : Inst → ℕ
+inst_cost (Binary into (UnsignedDiv exact) width left right) = width.bits * width.bits
+inst_cost (Binary into op width left right) = width.bits
+inst_cost (Freeze into width operand) = width.bits
+
+abbrev pub end_cost : Terminator → ℕ
+end_cost (terminator.Return returned) = 1
+
+abbrev pub block_cost : Block → ℕ
+block_cost b = sum_by inst_cost b.insts + end_cost b.terminator
+
+abbrev pub cost_of : Function → ℕ
+cost_of f = sum_by block_cost f.blocks
+
+abbrev pub weight_of : Functions → Bounds → ℕ
+weight_of pair bounds = (bounds.turns + 1) * (cost_of pair.source + cost_of pair.target)
+
+-- ---- what counting can go through
+
+abbrev pub type_bits : IrType → ℕ
+type_bits (type.Int width) = width.bits
+type_bits type.Ptr = 0
+
+abbrev pub parameter_bits : List Parameter → ℕ
+parameter_bits ps = sum_by (λ (p : Parameter). type_bits p.of_type) ps
+
+-- the bits of a function's choices in one run
+abbrev pub tape_bits : Bounds → Function → ℕ
+tape_bits bounds f = need_of bounds.turns f * widest_choice f
+
+abbrev pub bits_of : Functions → Bounds → ℕ
+bits_of pair bounds = parameter_bits pair.target.parameters + tape_bits bounds pair.target + tape_bits bounds pair.source
+
+-- its weight is above the limit, or it has more than 16 bits to count through
+abbrev pub IsTooLarge : Functions → Bounds → Budget → Type 0
+IsTooLarge pair bounds budget = (budget.weight < weight_of pair bounds) ⊎ (16 < bits_of pair bounds)

@@ -1,0 +1,123 @@
+ghost use Rattle.std.specs.Prelude.{◌≡◌, take};
+ghost use Rattle.points.specs.Refines.{same_name, same_pointer, value_allows, byte_allows, bytes_of, pairs_pass, block_allows, blocks_allow, returned_allows, is_refined};
+
+use crate::outcome::Outcome;
+use byte_block::{BlockName, Byte, MemoryBlock, Ptr, Value};
+
+/// Whether the source's outcome allows the target's. A run past the bounds allows and is allowed
+/// everything, undefined behaviour of the source allows everything, and poison allows every value
+/// (Alive2, PLDI 2021). Pointers to local blocks are dead, and all dead ones are equal.
+pub fn refines(source: &Outcome, target: &Outcome) -> bool
+    ensures { result ≡ is_refined source.now target.now }
+{
+    match (source, target) {
+        (_, Outcome::Beyond) | (Outcome::Ub | Outcome::Beyond, _) => true,
+        (Outcome::Return(..), Outcome::Ub) => false,
+        (Outcome::Return(s, m), Outcome::Return(t, n)) => {
+            returned_is_allowed(*s, *t) && blocks_are_allowed(m.as_slice(), n.as_slice())
+        }
+    }
+}
+
+/// Whether what the source returns allows what the target does, a value or nothing.
+pub fn returned_is_allowed(source: Option<Value>, target: Option<Value>) -> bool
+    ensures { result ≡ returned_allows source target }
+{
+    match (source, target) {
+        (None, None) => true,
+        (Some(s), Some(t)) => value_is_allowed(s, t),
+        _ => false,
+    }
+}
+
+fn value_is_allowed(source: Value, target: Value) -> bool
+    ensures { result ≡ value_allows source target }
+{
+    match (source, target) {
+        (Value::Poison, _) => true,
+        (Value::Num(a), Value::Num(b)) => a == b,
+        (Value::Ptr(p), Value::Ptr(q)) => is_same_pointer(p, q),
+        _ => false,
+    }
+}
+
+fn is_same_pointer(p: Ptr, q: Ptr) -> bool
+    ensures { result ≡ same_pointer p.block p.offset q.block q.offset }
+{
+    match (p.block, q.block) {
+        (BlockName::Local(..), BlockName::Local(..)) => true,
+        (name, other) => is_same_name(name, other) && p.offset == q.offset,
+    }
+}
+
+fn is_same_name(a: BlockName, b: BlockName) -> bool
+    ensures { result ≡ same_name a b }
+{
+    match (a, b) {
+        (BlockName::Null, BlockName::Null) => true,
+        (BlockName::Given(i), BlockName::Given(j)) => i == j,
+        (BlockName::Local(turn, place), BlockName::Local(other_turn, other_place)) => {
+            turn == other_turn && place == other_place
+        }
+        _ => false,
+    }
+}
+
+fn byte_is_allowed(source: Byte, target: Byte) -> bool
+    ensures { result ≡ byte_allows source target }
+{
+    match (source, target) {
+        (Byte::Poison, _) => true,
+        (Byte::Num(a), Byte::Num(b)) => a == b,
+        (Byte::Part(p, i), Byte::Part(q, j)) => is_same_pointer(p, q) && i == j,
+        _ => false,
+    }
+}
+
+fn bytes_are_allowed(source: &[Byte], target: &[Byte]) -> bool
+    ensures { result ≡ pairs_pass byte_allows source.now target.now }
+{
+    if source.len() != target.len() {
+        return false;
+    }
+    for (i, s) in source.iter().enumerate() {
+        if !byte_is_allowed(*s, target[i]) {
+            return false;
+        }
+    }
+    true
+}
+
+/// The places of a block that are bytes of it.
+fn bytes_in(block: &MemoryBlock) -> &[Byte]
+    ensures { result.now ≡ bytes_of block.now }
+{
+    let places = block.places.as_slice();
+    if block.size < places.len() as u64 {
+        &places[..block.size as usize]
+    } else {
+        places
+    }
+}
+
+fn block_is_allowed(source: &MemoryBlock, target: &MemoryBlock) -> bool
+    ensures { result ≡ block_allows source.now target.now }
+{
+    is_same_name(source.name, target.name)
+        && source.size == target.size
+        && bytes_are_allowed(bytes_in(source), bytes_in(target))
+}
+
+fn blocks_are_allowed(source: &[MemoryBlock], target: &[MemoryBlock]) -> bool
+    ensures { result ≡ blocks_allow source.now target.now }
+{
+    if source.len() != target.len() {
+        return false;
+    }
+    for (i, s) in source.iter().enumerate() {
+        if !block_is_allowed(s, &target[i]) {
+            return false;
+        }
+    }
+    true
+}

@@ -1,0 +1,33 @@
+//! What a counterexample shows: two runs, told side by side.
+//!
+//! It promises the outcomes of the defined runs. It stands on `choice_interp`; reports print what
+//! it answers.
+#![tactic(auto)]
+
+ghost use Rattle.std.specs.Prelude.{IfOk};
+ghost use Rattle.points.specs.Shown.{IsShown};
+
+use choice_interp::interpret;
+use points::{Bounds, Pair, Point, Shown};
+use std::alloc::Global;
+use support::NoMemory;
+
+/// The target's outcome on the point, the source's outcome on the tape of zeros, and how many words
+/// the target read.
+pub fn replay(
+    alloc: Global,
+    pair: &Pair,
+    bounds: &Bounds,
+    point: &Point,
+) -> Result<Shown, NoMemory>
+    ensures { IfOk result (IsShown pair.now bounds.now point.now) }
+{
+    let tape = point.tape.as_slice();
+    let target = interpret(alloc, pair.target(), bounds, &point.input, tape)?;
+    let source = interpret(alloc, pair.source(), bounds, &point.input, &[])?;
+    Ok(Shown {
+        target: target.outcome,
+        source: source.outcome,
+        read: target.read,
+    })
+}

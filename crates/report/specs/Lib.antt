@@ -1,0 +1,4 @@
+pub mod Naming
+pub mod Status
+pub mod Text
+pub mod Rows

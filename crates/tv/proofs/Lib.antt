@@ -1,0 +1,6 @@
+pub mod Searches
+pub mod RowLists
+pub mod Files
+pub mod Stopping
+pub mod Causes
+pub mod OneReport

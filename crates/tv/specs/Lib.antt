@@ -1,0 +1,6 @@
+pub mod Job
+pub mod Reports
+pub mod Stops
+pub mod Answers
+pub mod Searching
+pub mod Laws

@@ -1,0 +1,60 @@
+-- The report of two files.
+use Rattle.std.specs.Prelude.{◌≡◌, ℕ, ◌≤◌, List, length, Option, Some}
+use Rattle.tv_io.specs.Files.{Files}
+use Rattle.tv_io.specs.Taken.{then_taken, TookFront}
+use Rattle.ir_tree.specs.declared.module.Module.{Module}
+use Rattle.ir_reader.specs.FirstForm.{IsFirstForm}
+use Rattle.report.specs.declared.row.Row.{Row}
+use Rattle.report.specs.Rows.{AreRows}
+use Rattle.report.specs.Text.{report_text}
+use Rattle.report.specs.Status.{status_of}
+use Rattle.tv.specs.Job.{Job, default_bounds, default_budget}
+
+-- the most bytes of a module's text
+abbrev pub text_limit : ℕ
+text_limit = 16777216
+
+-- a file that is there, within the limit
+pub record IsWithin (file : Option (List ℕ)) : Type 0 where
+  pub text : List ℕ
+  pub there : file ≡ Some text
+  pub within : length text ≤ text_limit
+
+-- the module of a file that is there, within the limit, and of the first form
+pub record HasModule (file : Option (List ℕ)) (m : Module) : Type 0 where
+  pub text : List ℕ
+  pub there : file ≡ Some text
+  pub within : length text ≤ text_limit
+  pub formed : IsFirstForm text m
+
+-- the rows of two modules, as a text and as a status
+pub record IsReport (source target : Module) (text : List ℕ) (status : ℕ) : Type 0 where
+  pub rows : List Row
+  pub are_rows : AreRows default_bounds default_budget source target rows
+  pub text_is : text ≡ report_text default_bounds default_budget rows
+  pub status_is : status ≡ status_of rows
+
+-- the report of the two files that a job names
+pub record Reports (files : Files) (job : Job) (text : List ℕ) (status : ℕ) : Type 0 where
+  pub source : Module
+  pub target : Module
+  pub source_is : HasModule (files job.source) source
+  pub target_is : HasModule (files job.target) target
+  pub report : IsReport source target text status
+
+-- the sink took the report of the job that the words are, and nothing else
+pub record Written (files : Files) (words : Option Job) (status : ℕ) (old new : Option (List ℕ)) : Type 0 where
+  pub job : Job
+  pub text : List ℕ
+  pub job_is : words ≡ Some job
+  pub reports : Reports files job text status
+  pub took : new ≡ then_taken old text
+
+-- the sink took a front of it
+pub record PartlyWritten (files : Files) (words : Option Job) (old new : Option (List ℕ)) : Type 0 where
+  pub job : Job
+  pub text : List ℕ
+  pub status : ℕ
+  pub job_is : words ≡ Some job
+  pub reports : Reports files job text status
+  pub took : TookFront old new text

@@ -1,0 +1,116 @@
+ghost use Rattle.std.specs.Prelude.{◌≡◌, ◌≤◌, Err, IfOk, IfErr};
+ghost use Rattle.std.specs.List.{IsDistinct, AllByRecursion};
+ghost use Rattle.tv_io.specs.Files.{Files};
+ghost use Rattle.ir_tree.specs.Names.{same_name};
+ghost use Rattle.ir_tree.specs.declared.module.Module.{Module};
+ghost use Rattle.ir_reader.specs.FirstForm.{IsFirstForm, IsJudgeableEntry};
+ghost use Rattle.tv.specs.Searching.{entry_names};
+ghost use Rattle.tv.specs.Reports.{IsReport, Reports};
+ghost use Rattle.tv.specs.Stops.{HasCause, WhereTold};
+ghost use Rattle.tv.specs.Answers.{IsUnread};
+
+use crate::gate::Gate;
+use crate::rows::{Limits, all_rows};
+use crate::stop::{Stop, Trouble};
+use crate::texts::load;
+use ir_reader::{ModuleFault, read};
+use ir_tree::Module;
+use points::{Bounds, Budget};
+use report::{status_of, text_of};
+use std::alloc::Global;
+use support::NoMemory;
+use tv_io::Shelf;
+
+const DEFAULTS: Limits = Limits {
+    bounds: Bounds {
+        turns: 4,
+        blocks: 2,
+        bytes: 8,
+    },
+    budget: Budget {
+        rounds: 64,
+        conflicts: 0,
+        weight: 100_000,
+    },
+};
+
+/// The text of a report, and its status.
+#[derive(Drop)]
+pub struct Report {
+    pub text: Vec<u8>,
+    pub status: u8,
+    ghost known: { status ≤ 3 },
+}
+
+/// The report of the files that a job names.
+pub fn report_of<S: Shelf, G: Gate>(
+    alloc: Global,
+    shelf: &mut S,
+    gate: &G,
+    source: &str,
+    target: &str,
+) -> Result<Report, Stop>
+    ensures told { IfOk result (λ r. WhereTold (S.files shelf.old) (λ files. Reports files (record { source = source.now; target = target.now }) r.text.items r.status)) }
+    ensures same { S.files shelf.new ≡ S.files shelf.old }
+    ensures cause { IfErr result (HasCause (S.files shelf.old) (record { source = source.now; target = target.now })
+        (record { faults = S.fetch_faults shelf.old; taken = S.bytes_taken shelf.old }) (record { faults = S.fetch_faults shelf.new; taken = S.bytes_taken shelf.new })) }
+{
+    let source_text = match load(alloc, shelf, source) {
+        Ok(text) => text,
+        Err(Some(trouble)) => return Err(Stop::Source(trouble)),
+        Err(None) => return Err(Stop::NoMemory),
+    };
+    let target_text = match load(alloc, shelf, target) {
+        Ok(text) => text,
+        Err(Some(trouble)) => return Err(Stop::Target(trouble)),
+        Err(None) => return Err(Stop::NoMemory),
+    };
+    report_of_texts(alloc, gate, source_text.as_slice(), target_text.as_slice())
+}
+
+/// The report of two texts, or which of them is not read.
+fn report_of_texts<G: Gate>(
+    alloc: Global,
+    gate: &G,
+    source: &[u8],
+    target: &[u8],
+) -> Result<Report, Stop>
+    ensures told { IfOk result (λ r. (m : Module) × (n : Module) × IsFirstForm source.now m × IsFirstForm target.now n × IsReport m n r.text.items r.status) }
+    ensures source { result ≡ Err (Stop.Source Trouble.NotRead) → (m : Module) → ¬ (IsFirstForm source.now m) }
+    ensures target { result ≡ Err (Stop.Target Trouble.NotRead) → (m : Module) → ¬ (IsFirstForm target.now m) }
+    ensures first { result ≡ Err (Stop.Target Trouble.NotRead) → (m : Module) × IsFirstForm source.now m }
+    ensures others { IfErr result IsUnread }
+{
+    let m = match read(alloc, source) {
+        Ok(m) => m,
+        Err(ModuleFault::NotRead) => return Err(Stop::Source(Trouble::NotRead)),
+        Err(ModuleFault::NoMemory) => return Err(Stop::NoMemory),
+    };
+    let n = match read(alloc, target) {
+        Ok(n) => n,
+        Err(ModuleFault::NotRead) => return Err(Stop::Target(Trouble::NotRead)),
+        Err(ModuleFault::NoMemory) => return Err(Stop::NoMemory),
+    };
+    match report_of_modules(alloc, gate, &m, &n) {
+        Ok(report) => Ok(report),
+        Err(NoMemory) => Err(Stop::NoMemory),
+    }
+}
+
+fn report_of_modules<G: Gate>(
+    alloc: Global,
+    gate: &G,
+    source: &Module,
+    target: &Module,
+) -> Result<Report, NoMemory>
+    requires source_names { IsDistinct same_name (entry_names source.now.entries) }
+    requires target_names { IsDistinct same_name (entry_names target.now.entries) }
+    requires source_judgeable { AllByRecursion IsJudgeableEntry source.now.entries }
+    requires target_judgeable { AllByRecursion IsJudgeableEntry target.now.entries }
+    ensures { IfOk result (λ r. IsReport source.now target.now r.text.items r.status) }
+{
+    let rows = all_rows(alloc, &DEFAULTS, gate, source, target)?;
+    let status = status_of(rows.as_slice());
+    let text = text_of(alloc, rows.as_slice(), &DEFAULTS.bounds, &DEFAULTS.budget)?;
+    Ok(Report { text, status })
+}

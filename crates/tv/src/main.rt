@@ -1,0 +1,45 @@
+//! The program: `tv check A B` judges the functions of module B against those of module A.
+//!
+//! It promises that what is written is the report of the two files, and that each other status has its
+//! cause (`top::run`). It stands on the reader, the judge, the report and the outside; nothing stands
+//! on it.
+#![tactic(auto)]
+
+mod check;
+mod gate;
+mod index;
+mod laws;
+mod rows;
+mod stop;
+mod texts;
+mod top;
+mod words;
+
+use crate::gate::OpenGate;
+use crate::top::run;
+use std::env;
+use std::io::ErrorKind;
+use std::process::ExitCode;
+use tv_io::{FileShelf, StandardSink, write_line};
+
+fn main(rt: HostRuntime) -> ExitCode {
+    let mut shelf = FileShelf::new(&rt);
+    let mut out = StandardSink::new(&rt);
+    let words: Vec<String> = match env::args(&rt) {
+        Ok(words) => match words.collect(rt.alloc()) {
+            Ok(words) => words,
+            Err(_) => return ExitCode::from(8),
+        },
+        Err(error) if error.kind() == ErrorKind::OutOfMemory => return ExitCode::from(8),
+        // A word that is not UTF-8 names no job.
+        Err(_) => {
+            let _ = write_line(&mut out, b"words refused", b"");
+            return ExitCode::from(4);
+        }
+    };
+    let status = run(&rt, words.as_slice(), &mut shelf, &mut out, &OpenGate);
+    ExitCode::from(status)
+}
+
+#[cfg(test)]
+mod tests;

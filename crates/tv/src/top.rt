@@ -1,0 +1,103 @@
+ghost use Rattle.std.specs.Prelude.{◌≡◌, ◌≢◌, ◌↔◌, ◌≤◌, ◌<◌, ◌⊎◌, ◌++◌, ◌∷◌, [], None, map, codes, string_bytes};
+ghost use Rattle.tv_io.specs.Count.{Rose};
+ghost use Rattle.tv_io.specs.Files.{Files};
+ghost use Rattle.tv_io.specs.Taken.{then_taken, TookFront};
+ghost use Rattle.tv.specs.Job.{job_of};
+ghost use Rattle.tv.specs.Reports.{Written, PartlyWritten};
+ghost use Rattle.tv.specs.Stops.{trouble_status, trouble_line, stop_status, WritesLine, Says, Refuses, WhereTold};
+ghost use Rattle.tv.specs.Answers.{IsUndisturbed};
+
+use crate::check::{Report, report_of};
+use crate::gate::Gate;
+use crate::stop::{Stop, Trouble};
+use crate::words::job;
+use tv_io::{Shelf, Sink, write_line, write_whole};
+
+/// Judges the functions of the target's text against the source's, and writes the report.
+///
+/// The words are those of the command line, the program's name first. The status is 0 where all rows
+/// are correct, 1 where one is incorrect, else 2 where one is unknown, else 3; 4 where the words are no
+/// job; 5 where a text can't be read, 6 where it has more than 16,777,216 bytes, 9 where it is not of
+/// the first form; 7 where the sink fails while the report is written; 8 for want of memory. The first
+/// cause counts, in the order words, source text, target text, source module, target module, judging,
+/// report. The whole report is made before its first byte is written, and a fault's line takes no
+/// memory. Each pair that is judged passes the gate before.
+pub fn run<R: AllocGlobal, S: Shelf, K: Sink, G: Gate>(
+    rt: &R,
+    words: &[String],
+    shelf: &mut S,
+    out: &mut K,
+    gate: &G,
+) -> u8
+    // The headline: what is written is the report of the two files.
+    ensures report { result ≤ 3 → WhereTold (S.files shelf.old) (λ files. Written files (job_of (map string_bytes words.now)) result (K.taken out.old) (K.taken out.new)) }
+    // The words aren't a job.
+    ensures words { (result ≡ 4) ↔ (job_of (map string_bytes words.now) ≡ None) }
+    ensures words_line { result ≡ 4 → WritesLine (codes "words refused" ++ 10 ∷ []) (K.taken out.old) (K.taken out.new) (K.faults out.old) (K.faults out.new) }
+    // The sink failed while the report was written.
+    ensures sink { result ≡ 7 → Rose (K.faults out.old) (K.faults out.new) }
+    ensures part { result ≡ 7 → WhereTold (S.files shelf.old) (λ files. PartlyWritten files (job_of (map string_bytes words.now)) (K.taken out.old) (K.taken out.new)) }
+    // A text was not judged: 5 it can't be read, 6 it is too long, 9 it has no module; 8 is want of memory.
+    ensures refused { 4 < result → result ≢ 7 → Refuses (S.files shelf.old) (job_of (map string_bytes words.now))
+        (record { faults = S.fetch_faults shelf.old; taken = S.bytes_taken shelf.old }) (record { faults = S.fetch_faults shelf.new; taken = S.bytes_taken shelf.new })
+        result (K.taken out.old) (K.taken out.new) (K.faults out.old) (K.faults out.new) }
+    // Two texts that have modules are judged, unless memory runs out or the shelf or the sink fails.
+    ensures complete { IsUndisturbed (S.files shelf.old) (job_of (map string_bytes words.now)) (S.fetch_faults shelf.old) (S.fetch_faults shelf.new) (K.faults out.old) (K.faults out.new) → (result ≤ 3) ⊎ (result ≡ 8) }
+    // No other status comes, and no file changes.
+    ensures known { result ≤ 9 }
+    ensures same { S.files shelf.new ≡ S.files shelf.old }
+{
+    let Some((source, target)) = job(words) else {
+        let _ = write_line(out, b"words refused", b"");
+        return 4;
+    };
+    match report_of(rt.alloc(), shelf, gate, source, target) {
+        Ok(report) => send(out, &report),
+        Err(stop) => refuse(out, stop, source, target),
+    }
+}
+
+/// Writes a report, and answers its status, or 7 where the sink failed.
+fn send<K: Sink>(out: &mut K, report: &Report) -> u8
+    ensures either { ((result ≡ report.now.status) × (K.taken out.new ≡ then_taken (K.taken out.old) report.now.text.items))
+        ⊎ ((result ≡ 7) × Rose (K.faults out.old) (K.faults out.new) × TookFront (K.taken out.old) (K.taken out.new) report.now.text.items) }
+    ensures known { report.now.status ≤ 3 }
+{
+    match write_whole(out, report.text.as_slice()) {
+        Ok(()) => report.status,
+        Err(_) => 7,
+    }
+}
+
+/// Writes the line of a stop, and answers its status.
+fn refuse<K: Sink>(out: &mut K, stop: Stop, source: &str, target: &str) -> u8
+    ensures status { result ≡ stop_status stop }
+    ensures line { Says (record { source = source.now; target = target.now }) stop (K.taken out.old) (K.taken out.new) (K.faults out.old) (K.faults out.new) }
+{
+    match stop {
+        Stop::Source(trouble) => refuse_text(out, source, trouble),
+        Stop::Target(trouble) => refuse_text(out, target, trouble),
+        Stop::NoMemory => 8,
+    }
+}
+
+/// Writes the line of a text that is not judged, and answers its status.
+fn refuse_text<K: Sink>(out: &mut K, name: &str, trouble: Trouble) -> u8
+    ensures status { result ≡ trouble_status trouble }
+    ensures line { WritesLine (trouble_line name.now trouble) (K.taken out.old) (K.taken out.new) (K.faults out.old) (K.faults out.new) }
+{
+    match trouble {
+        Trouble::CannotRead => {
+            let _ = write_line(out, b"cannot read ", name.as_bytes());
+            5
+        }
+        Trouble::TooLong => {
+            let _ = write_line(out, b"too long ", name.as_bytes());
+            6
+        }
+        Trouble::NotRead => {
+            let _ = write_line(out, name.as_bytes(), b": not read yet");
+            9
+        }
+    }
+}

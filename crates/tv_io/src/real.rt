@@ -1,0 +1,131 @@
+ghost use Rattle.std.specs.Prelude.{◌≡◌, ◌≤◌, ◌+◌, [], length, None};
+ghost use Rattle.tv_io.specs.Count.{RoseBy};
+
+use crate::shelf::{FetchFault, PutFault, Shelf, Size};
+use crate::sink::{Failed, Sink};
+use std::alloc::Global;
+use std::fs;
+use std::io::Read;
+use std::rt::Files;
+
+const BUFFER: usize = 4096;
+
+/// The files of the system. It tells nothing of what they hold.
+#[derive(Drop)]
+pub struct FileShelf<'a, R: Files> {
+    rt: &'a R,
+    fetch_faults: u64,
+    put_faults: u64,
+    bytes_taken: u64,
+}
+
+impl<'a, R: Files> FileShelf<'a, R> {
+    /// The files that the runtime reaches by name.
+    pub fn new(rt: &'a R) -> FileShelf<'a, R>
+        ensures fetch_faults { result.fetch_faults ≡ 0 }
+        ensures put_faults { result.put_faults ≡ 0 }
+        ensures bytes_taken { result.bytes_taken ≡ 0 }
+    {
+        FileShelf {
+            rt,
+            fetch_faults: 0,
+            put_faults: 0,
+            bytes_taken: 0,
+        }
+    }
+}
+
+impl<'a, R: Files> Shelf for FileShelf<'a, R> {
+    ghost files = { λ _. None };
+
+    ghost fetch_faults = { λ s. s.fetch_faults };
+
+    ghost put_faults = { λ s. s.put_faults };
+
+    ghost bytes_taken = { λ s. s.bytes_taken };
+
+    fn fetch(&mut self, name: &str, most: u64, into: &mut Vec<u8>) -> Result<Size, FetchFault> {
+        into.clear();
+        let fetched = match fs::open(self.rt, name) {
+            Ok(mut file) => read_up_to(&mut file, most, into, &mut self.bytes_taken),
+            Err(_) => Err(FetchFault::Failed),
+        };
+        if let Err(FetchFault::Failed) = fetched {
+            self.fetch_faults = self.fetch_faults.saturating_add(1);
+        }
+        fetched
+    }
+
+    fn put(&mut self, _alloc: Global, name: &str, bytes: &[u8]) -> Result<(), PutFault> {
+        if fs::write(self.rt, name, bytes).is_err() {
+            self.put_faults = self.put_faults.saturating_add(1);
+            return Err(PutFault::Failed);
+        }
+        Ok(())
+    }
+}
+
+// Reads the file to its end, or one byte more than `most`.
+fn read_up_to<F: Read>(
+    file: &mut F,
+    most: u64,
+    into: &mut Vec<u8>,
+    bytes_taken: &mut u64,
+) -> Result<Size, FetchFault>
+    requires { into.old.items ≡ [] }
+    ensures longer { result ≡ Ok Size.Longer → RoseBy (most + 1) bytes_taken.old bytes_taken.new }
+    ensures taken { result ≡ Ok Size.Whole → RoseBy (length into.new.items) bytes_taken.old bytes_taken.new }
+    ensures most { bytes_taken.new ≤ bytes_taken.old + (most + 1) }
+    ensures bytes_taken_stay { bytes_taken.old ≤ bytes_taken.new }
+{
+    let mut buffer = [0u8; BUFFER];
+    let mut left = most;
+    'pieces: loop {
+        let want = left.min(BUFFER as u64 - 1) as usize + 1;
+        let Ok(count) = file.read(&mut buffer[..want]) else {
+            return Err(FetchFault::Failed);
+        };
+        *bytes_taken = bytes_taken.saturating_add(count as u64);
+        if count == 0 {
+            return Ok(Size::Whole);
+        }
+        if count as u64 > left {
+            return Ok(Size::Longer);
+        }
+        if into.extend_from_slice(&buffer[..count]).is_err() {
+            return Err(FetchFault::NoMemory);
+        }
+        left -= count as u64;
+    }
+}
+
+/// Standard output. It tells nothing of what it took.
+#[derive(Drop)]
+pub struct StandardSink<'a, R: Print> {
+    rt: &'a R,
+    faults: u64,
+}
+
+impl<'a, R: Print> StandardSink<'a, R> {
+    /// The standard output of the runtime.
+    pub fn new(rt: &'a R) -> StandardSink<'a, R>
+        ensures { result.faults ≡ 0 }
+    {
+        StandardSink { rt, faults: 0 }
+    }
+}
+
+impl<'a, R: Print> Sink for StandardSink<'a, R> {
+    ghost taken = { λ _. None };
+
+    ghost faults = { λ s. s.faults };
+
+    fn write(&mut self, piece: &[u8]) -> Result<usize, Failed> {
+        let count = self.rt.write_some(piece).unwrap_or(0);
+        if count == 0 && !piece.is_empty() {
+            self.faults = self.faults.saturating_add(1);
+            return Err(Failed);
+        }
+        Ok(count)
+    }
+}
