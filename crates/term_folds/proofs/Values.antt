@@ -1,5 +1,5 @@
 -- What is computed from values that stand stands.
-use Rattle.std.proofs.Common.{ℕ, ◌≡◌, ◌+◌, ◌-◌, ◌*◌, ◌^◌, ◌<◌, ◌≤◌, List, get_or, length, arith, sym, ap, subst, ◌∙◌, refl}
+use Rattle.std.proofs.Common.{ℕ, ◌≡◌, ◌^◌, ◌<◌, List, get_or, length, arith, sym, subst, ◌∙◌, refl}
 use Rattle.std.specs.List.{AllZip}
 use Rattle.bv_terms.specs.declared.term.TermId.{TermId}
 use Rattle.bv_terms.specs.declared.term.Term.{Term}
@@ -9,7 +9,7 @@ use Rattle.bv_terms.specs.Tree.{Tree, value_of, width_of}
 use Rattle.bv_terms.specs.Trees.{IsFit, IsWidth, IsWithin, tree_at, tree_of, term_width}
 use Rattle.bv_terms.proofs.Below.{tree-below, AreBelow}
 use Rattle.bv_terms.proofs.Stages.{width-tree}
-use Rattle.bv_terms.proofs.Zips.{AllZip-at, length-AllZip}
+use Rattle.bv_terms.proofs.Zips.{AllZip-at}
 use Rattle.term_folds.specs.declared.evaluate.Assigned.{Assigned}
 use Rattle.term_folds.specs.Evaluation.{AreSmall, IsValue, applied, assigned_by, number_at}
 use Rattle.term_folds.proofs.Cuts.{pow-le}

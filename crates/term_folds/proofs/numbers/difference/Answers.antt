@@ -1,4 +1,4 @@
-use Rattle.std.proofs.Common.{◌≡◌, ◌+◌, ◌-◌, ◌%◌, ◌^◌, ◌∙◌, ap}
+use Rattle.std.proofs.Common.{◌+◌, ◌-◌, ◌%◌, ◌^◌, ◌∙◌, ap}
 use Rattle.term_folds.proofs.Cuts.{difference-cut}
 use Rattle.term_folds.proofs.numbers.difference.Goals as goal
 
