@@ -1,0 +1,3 @@
+pub mod Cuts
+pub mod Weights
+pub mod Values

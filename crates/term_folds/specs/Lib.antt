@@ -1,0 +1,3 @@
+pub mod Evaluation
+pub mod Weight
+pub mod Kept

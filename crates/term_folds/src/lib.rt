@@ -1,0 +1,17 @@
+//! Folds over terms: their values, their weights and their texts.
+//!
+//! Each is only its step at one term; `bv_terms` has the fold and its proof. They promise that
+//! [`Evaluate`] gives the value of each term, and [`Weigh`] the number of nodes of the written-out
+//! tree, held at the greatest number of 64 bits. [`Print`] writes a term for a reader. It stands on `bv_terms`.
+#![tactic(auto)]
+
+mod evaluate;
+mod numbers;
+mod print;
+#[cfg(test)]
+mod tests;
+mod weigh;
+
+pub use evaluate::{Assigned, Evaluate};
+pub use print::Print;
+pub use weigh::Weigh;
