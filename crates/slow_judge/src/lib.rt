@@ -11,5 +11,7 @@ mod cover;
 mod judge;
 mod search;
 mod size;
+#[cfg(test)]
+mod tests;
 
 pub use judge::slow;

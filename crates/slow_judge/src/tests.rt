@@ -1,0 +1,115 @@
+ghost use Rattle.std.specs.Prelude.{◌≤◌, IfOk};
+ghost use Rattle.ir_tree.specs.Limits.{AreIntegers};
+
+use crate::slow;
+use ir_tree::{
+    Block, Flags, Function, Inst, IrType, Name, Names, Op, Operand, Parameter, Returned,
+    Terminator, is_within_limits,
+};
+use points::{Bounds, Budget, Cause, Pair, Verdict, has_same_signature};
+use std::alloc::Global;
+use std::test::Fail;
+use support::{NoMemory, Sequence};
+use tv_num::Width;
+
+fn names_to_3(alloc: Global) -> Result<Names, NoMemory> {
+    let mut names = Names::new(alloc);
+    for digit in b"0123" {
+        let digits = vec![in alloc; *digit; 1]?;
+        names.number(Name::Number(Sequence::from_vec(digits)))?;
+    }
+    Ok(names)
+}
+
+fn function(
+    alloc: Global,
+    width: Width,
+    insts: &[Inst],
+    operand: Operand,
+) -> Result<Function, NoMemory>
+    ensures { IfOk result (λ f. AreIntegers f.parameters) }
+{
+    let of_type = IrType::Int(width);
+    let mut blocks = Vec::new(alloc);
+    blocks.push(Block {
+        label: 3,
+        insts: Sequence::from_vec(insts.to_vec(alloc)?),
+        terminator: Terminator::Return(Some(Returned { of_type, operand })),
+    })?;
+    Ok(Function {
+        name: Name::Word(Sequence::from_vec(Vec::new(alloc))),
+        returns: Some(of_type),
+        parameters: Sequence::from_vec(vec![in alloc; Parameter { of_type, name: 0 }; 1]?),
+        blocks: Sequence::from_vec(blocks),
+        names: names_to_3(alloc)?,
+    })
+}
+
+fn verdict_of(
+    alloc: Global,
+    source: &Function,
+    target: &Function,
+    rounds: u64,
+    weight: u64,
+) -> Result<Option<Verdict>, NoMemory>
+    requires source { AreIntegers source.now.parameters }
+    requires target { AreIntegers target.now.parameters }
+    requires rounds { rounds ≤ 4096 }
+    requires least { 1 ≤ weight }
+    requires most { weight ≤ 10000000 }
+{
+    if !has_same_signature(source, target)
+        || !is_within_limits(source)
+        || !is_within_limits(target)
+    {
+        return Ok(None);
+    }
+    let bounds = Bounds {
+        turns: 0,
+        blocks: 2,
+        bytes: 8,
+    };
+    let budget = Budget {
+        rounds,
+        conflicts: 0,
+        weight,
+    };
+    let pair = Pair::new(source, target);
+    Ok(Some(slow(alloc, &pair, &bounds, &budget)?))
+}
+
+#[test]
+fn a_choice_finds_its_tape(rt: HostRuntime) -> Result<(), Fail> {
+    let alloc = rt.alloc();
+    let width = Width::of(4);
+    let flags = Flags {
+        nuw: false,
+        nsw: false,
+    };
+    let freeze = Inst::Freeze {
+        into: 1,
+        width,
+        operand: Operand::Poison,
+    };
+    let sum = Inst::Binary {
+        into: 2,
+        op: Op::Add(flags),
+        width,
+        left: Operand::Local(0),
+        right: Operand::Local(1),
+    };
+    let source = function(alloc, width, &[freeze, sum], Operand::Local(2))?;
+    let target = function(alloc, width, &[], Operand::Number(0))?;
+    let correct = verdict_of(alloc, &source, &target, 15, 10)?;
+    assert!(rt; matches!(&correct, Some(Verdict::Correct)));
+    let short = verdict_of(alloc, &source, &target, 14, 10)?;
+    assert!(rt; matches!(&short, Some(Verdict::Unknown(Cause::Rounds))));
+    let heavy = verdict_of(alloc, &source, &target, 15, 9)?;
+    assert!(rt; matches!(&heavy, Some(Verdict::Unknown(Cause::Weight))));
+    let turned = verdict_of(alloc, &target, &source, 15, 10)?;
+    let Some(Verdict::Incorrect(point)) = turned else {
+        return Err(Fail::from("the other way is incorrect"));
+    };
+    assert!(rt; matches!(point.tape.as_slice(), [1]));
+    Ok(())
+}
