@@ -182,37 +182,37 @@ same-head-at : (ts p q r : Tokens) (t : Lexeme) → ts ≡ p ++ t ∷ q → Same
 same-head-at ts p q r t e = subst (λ (us : Tokens). SameHead us (p ++ t ∷ r)) (sym e) (same-head p q r t)
 
 -- what the second form needs behind a first one that may go on
-pub record Joins {A X : Type 0} {o : Lexeme → Bool} {g2 h2 : A → Reader X} (o1 : Lexeme → Bool) (L2 : (a : A) → Lawful o (g2 a) (h2 a)) : Type 0 where
+pub record Joins {A X : Type 0} {o : Lexeme → Bool} {g2 h2 : A → Reader X} (o1 : Lexeme → Bool) (Lb : (a : A) → Lawful o (g2 a) (h2 a)) : Type 0 where
   pub apart : (a : A) (ts : Tokens) (x : X) (rest : Tokens) → g2 a ts ≡ reads x rest → (W : Whole o (g2 a) ts x rest) → (r : Tokens) → Follows o rest r → Follows o1 ts (W.front ++ r)
-  pub ends_free : (a : A) (r : Tokens) → is_free o r ≡ true → is_free o1 ((L2 a).ends.more ++ r) ≡ true
+  pub ends_free : (a : A) (r : Tokens) → is_free o r ≡ true → is_free o1 ((Lb a).ends.more ++ r) ≡ true
 
-module _ {A X : Type 0} {o o1 : Lexeme → Bool} (g1 h1 : Reader A) (g2 h2 : A → Reader X) (L1 : Lawful o1 g1 h1) (L2 : (a : A) → Lawful o (g2 a) (h2 a)) (J : Joins o1 L2) where
+module _ {A X : Type 0} {o o1 : Lexeme → Bool} (g1 h1 : Reader A) (g2 h2 : A → Reader X) (La : Lawful o1 g1 h1) (Lb : (a : A) → Lawful o (g2 a) (h2 a)) (J : Joins o1 Lb) where
   join_whole : (ts : Tokens) (x : X) (rest : Tokens) → and_then (g1 ts) g2 ≡ reads x rest → Whole o (λ us. and_then (g1 us) g2) ts x rest
   join_whole ts x rest e = go (g1 ts) refl e
     where
       go : (z : Reading A) → g1 ts ≡ z → and_then z g2 ≡ reads x rest → Whole o (λ us. and_then (g1 us) g2) ts x rest
       go (reads a mid) is e' =
-          let W1 = L1.whole ts a mid is in
-          let W2 = (L2 a).whole mid x rest e' in
+          let Wa = La.whole ts a mid is in
+          let Wb = (Lb a).whole mid x rest e' in
           record {
-            front = W1.front ++ W2.front;
-            split = W1.split ∙ ap (λ (us : Tokens). W1.front ++ us) W2.split ∙ sym (append_assoc W1.front W2.front rest);
-            again = λ r f. let e1 = W1.again (W2.front ++ r) (J.apart a mid x rest e' W2 r f) in rw (append_assoc W1.front W2.front r, e1) (W2.again r f);
+            front = Wa.front ++ Wb.front;
+            split = Wa.split ∙ ap (λ (us : Tokens). Wa.front ++ us) Wb.split ∙ sym (append_assoc Wa.front Wb.front rest);
+            again = λ r f. let e1 = Wa.again (Wb.front ++ r) (J.apart a mid x rest e' Wb r f) in rw (append_assoc Wa.front Wb.front r, e1) (Wb.again r f);
           }
       go (stops why r) is e' = absurd (cc e')
 
   -- ends in the second form
-  ends_after : (ts mid : Tokens) (a : A) (W1 : Whole o1 g1 ts a mid) (p : Tokens) → ((r : Tokens) → Follows o1 mid (p ++ r)) → Ends o (h2 a) p → Ends o (λ us. and_then (h1 us) h2) (W1.front ++ p)
-  ends_after ts mid a W1 p f E = record {
+  ends_after : (ts mid : Tokens) (a : A) (Wa : Whole o1 g1 ts a mid) (p : Tokens) → ((r : Tokens) → Follows o1 mid (p ++ r)) → Ends o (h2 a) p → Ends o (λ us. and_then (h1 us) h2) (Wa.front ++ p)
+  ends_after ts mid a Wa p f E = record {
     more = E.more;
     value = E.value;
-    whole = λ r free. let e1 = L1.lifts _ _ _ (W1.again (p ++ (E.more ++ r)) (f (E.more ++ r))) in rw (append_assoc W1.front p (E.more ++ r), e1) (E.whole r free);
+    whole = λ r free. let e1 = La.lifts _ _ _ (Wa.again (p ++ (E.more ++ r)) (f (E.more ++ r))) in rw (append_assoc Wa.front p (E.more ++ r), e1) (E.whole r free);
   }
 
   -- ends in the first form
   ends_before : (p : Tokens) → Ends o1 h1 p → Ends o (λ us. and_then (h1 us) h2) p
   ends_before p E =
-      let E2 = (L2 E.value).ends in
+      let E2 = (Lb E.value).ends in
       record {
         more = E.more ++ E2.more;
         value = E2.value;
@@ -224,7 +224,7 @@ module _ {A X : Type 0} {o o1 : Lexeme → Bool} (g1 h1 : Reader A) (g2 h2 : A �
     where
       first-halts : (w : Why) (r : Tokens) → g1 ts ≡ stops w r → w ≡ why → r ≡ rest → Halts o (λ us. and_then (g1 us) g2) (λ us. and_then (h1 us) h2) ts why rest
       first-halts w r is why-is rest-is =
-          let H = L1.halts ts why rest (is ∙ ap (λ (v : Why). stops v r) why-is ∙ ap (λ (us : Tokens). stops why us) rest-is) in
+          let H = La.halts ts why rest (is ∙ ap (λ (v : Why). stops v r) why-is ∙ ap (λ (us : Tokens). stops why us) rest-is) in
           record {
             front = H.front;
             split = H.split;
@@ -233,32 +233,32 @@ module _ {A X : Type 0} {o o1 : Lexeme → Bool} (g1 h1 : Reader A) (g2 h2 : A �
             past_limit = λ f. let P = H.past_limit f in record { token = P.token; others = P.others; is = P.is; ends = ends_before (H.front ++ P.token ∷ []) P.ends };
           }
 
-      second-ends : (mid : Tokens) (a : A) (W1 : Whole o1 g1 ts a mid) (p : Tokens) → mid ≡ p ++ rest → Ends o (h2 a) p → Ends o (λ us. and_then (h1 us) h2) (W1.front ++ p)
-      second-ends mid a W1 [] m E =
-          let E2 = (L2 a).ends in
+      second-ends : (mid : Tokens) (a : A) (Wa : Whole o1 g1 ts a mid) (p : Tokens) → mid ≡ p ++ rest → Ends o (h2 a) p → Ends o (λ us. and_then (h1 us) h2) (Wa.front ++ p)
+      second-ends mid a Wa [] m E =
+          let E2 = (Lb a).ends in
           record {
             more = E2.more;
             value = E2.value;
-            whole = λ r free. let e1 = L1.lifts _ _ _ (W1.again (E2.more ++ r) (inr (J.ends_free a r free))) in rw (append-nil W1.front, e1) (E2.whole r free);
+            whole = λ r free. let e1 = La.lifts _ _ _ (Wa.again (E2.more ++ r) (inr (J.ends_free a r free))) in rw (append-nil Wa.front, e1) (E2.whole r free);
           }
-      second-ends mid a W1 (t ∷ p) m E = ends_after ts mid a W1 (t ∷ p) (λ r. inl (subst (λ (us : Tokens). SameHead us (t ∷ (p ++ r))) (sym m) refl)) E
+      second-ends mid a Wa (t ∷ p) m E = ends_after ts mid a Wa (t ∷ p) (λ r. inl (subst (λ (us : Tokens). SameHead us (t ∷ (p ++ r))) (sym m) refl)) E
 
       go : (z : Reading A) → g1 ts ≡ z → and_then z g2 ≡ stops why rest → Halts o (λ us. and_then (g1 us) g2) (λ us. and_then (h1 us) h2) ts why rest
       go (stops w r) is e' = first-halts w r is (cc e') (cc e')
       go (reads a mid) is e' =
-          let W1 = L1.whole ts a mid is in
-          let H = (L2 a).halts mid why rest e' in
+          let Wa = La.whole ts a mid is in
+          let H = (Lb a).halts mid why rest e' in
           record {
-            front = W1.front ++ H.front;
-            split = W1.split ∙ ap (λ (us : Tokens). W1.front ++ us) H.split ∙ sym (append_assoc W1.front H.front rest);
-            again = λ t q r f. let e1 = W1.again (H.front ++ t ∷ r) (inl (same-head-at mid H.front q r t (H.split ∙ ap (λ (us : Tokens). H.front ++ us) f))) in rw (append_assoc W1.front H.front (t ∷ r), e1) (H.again t q r f);
-            ends = second-ends mid a W1 H.front H.split H.ends;
+            front = Wa.front ++ H.front;
+            split = Wa.split ∙ ap (λ (us : Tokens). Wa.front ++ us) H.split ∙ sym (append_assoc Wa.front H.front rest);
+            again = λ t q r f. let e1 = Wa.again (H.front ++ t ∷ r) (inl (same-head-at mid H.front q r t (H.split ∙ ap (λ (us : Tokens). H.front ++ us) f))) in rw (append_assoc Wa.front H.front (t ∷ r), e1) (H.again t q r f);
+            ends = second-ends mid a Wa H.front H.split H.ends;
             past_limit = λ f. let P = H.past_limit f in record {
               token = P.token;
               others = P.others;
               is = P.is;
-              ends = subst (λ (p : Tokens). Ends o (λ us. and_then (h1 us) h2) p) (sym (append_assoc W1.front H.front (P.token ∷ [])))
-                  (ends_after ts mid a W1 (H.front ++ P.token ∷ []) (λ r. inl (subst (λ (us : Tokens). SameHead mid us) (sym (append_assoc H.front (P.token ∷ []) r)) (same-head-at mid H.front P.others r P.token (H.split ∙ ap (λ (us : Tokens). H.front ++ us) P.is)))) P.ends);
+              ends = subst (λ (p : Tokens). Ends o (λ us. and_then (h1 us) h2) p) (sym (append_assoc Wa.front H.front (P.token ∷ [])))
+                  (ends_after ts mid a Wa (H.front ++ P.token ∷ []) (λ r. inl (subst (λ (us : Tokens). SameHead mid us) (sym (append_assoc H.front (P.token ∷ []) r)) (same-head-at mid H.front P.others r P.token (H.split ∙ ap (λ (us : Tokens). H.front ++ us) P.is)))) P.ends);
             };
           }
 
@@ -266,25 +266,25 @@ module _ {A X : Type 0} {o o1 : Lexeme → Bool} (g1 h1 : Reader A) (g2 h2 : A �
   join_lifts ts x rest e = go (g1 ts) refl e
     where
       go : (z : Reading A) → g1 ts ≡ z → and_then z g2 ≡ reads x rest → and_then (h1 ts) h2 ≡ reads x rest
-      go (reads a mid) is e' = rw (L1.lifts ts a mid is) ((L2 a).lifts mid x rest e')
+      go (reads a mid) is e' = rw (La.lifts ts a mid is) ((Lb a).lifts mid x rest e')
       go (stops why r) is e' = absurd (cc e')
 
   join_lifts_unfit : (ts : Tokens) (rest : Tokens) → and_then (g1 ts) g2 ≡ stops unfit rest → and_then (h1 ts) h2 ≡ stops unfit rest
   join_lifts_unfit ts rest e = go (g1 ts) refl e
     where
       go : (z : Reading A) → g1 ts ≡ z → and_then z g2 ≡ stops unfit rest → and_then (h1 ts) h2 ≡ stops unfit rest
-      go (reads a mid) is e' = rw (L1.lifts ts a mid is) ((L2 a).lifts_unfit mid rest e')
+      go (reads a mid) is e' = rw (La.lifts ts a mid is) ((Lb a).lifts_unfit mid rest e')
       go (stops why r) is e' =
           let w : why ≡ unfit = cc e' in
           let l : r ≡ rest = cc e' in
-          rw (L1.lifts_unfit ts rest (is ∙ ap (λ (v : Why). stops v r) w ∙ ap (λ (us : Tokens). stops unfit us) l)) refl
+          rw (La.lifts_unfit ts rest (is ∙ ap (λ (v : Why). stops v r) w ∙ ap (λ (us : Tokens). stops unfit us) l)) refl
 
   pub join_lawful : Lawful o (λ ts. and_then (g1 ts) g2) (λ ts. and_then (h1 ts) h2)
-  join_lawful = record { whole = join_whole; halts = join_halts; lifts = join_lifts; lifts_unfit = join_lifts_unfit; ends = ends_before [] L1.ends }
+  join_lawful = record { whole = join_whole; halts = join_halts; lifts = join_lifts; lifts_unfit = join_lifts_unfit; ends = ends_before [] La.ends }
 
 -- nothing goes on with the first form
-pub seq_lawful : {A X : Type 0} {o : Lexeme → Bool} (g1 h1 : Reader A) (g2 h2 : A → Reader X) → Lawful never g1 h1 → (L2 : (a : A) → Lawful o (g2 a) (h2 a)) → Lawful o (λ ts. and_then (g1 ts) g2) (λ ts. and_then (h1 ts) h2)
-seq_lawful g1 h1 g2 h2 L1 L2 = join_lawful g1 h1 g2 h2 L1 L2 (record { apart = λ a ts x rest e W r f. inr (free-never (W.front ++ r)); ends_free = λ a r f. free-never ((L2 a).ends.more ++ r) })
+pub seq_lawful : {A X : Type 0} {o : Lexeme → Bool} (g1 h1 : Reader A) (g2 h2 : A → Reader X) → Lawful never g1 h1 → (Lb : (a : A) → Lawful o (g2 a) (h2 a)) → Lawful o (λ ts. and_then (g1 ts) g2) (λ ts. and_then (h1 ts) h2)
+seq_lawful g1 h1 g2 h2 La Lb = join_lawful g1 h1 g2 h2 La Lb (record { apart = λ a ts x rest e W r f. inr (free-never (W.front ++ r)); ends_free = λ a r f. free-never ((Lb a).ends.more ++ r) })
 
 -- ---- a form, and then one token
 
@@ -312,7 +312,7 @@ no-loop t q e = absurd (omega (arith, ap length e))
 
 pub upto_lawful : {A B : Type 0} {o : Lexeme → Bool} (b : Bool) (g1 h1 : Reader A) (c : A → Class B) → ((a : A) → o (c a).sample ≡ false) → Lawful o g1 h1 → Lawful never (λ ts. and_then (g1 ts) (λ a. with_one b (c a) a)) (λ ts. and_then (h1 ts) (λ a. with_one false (c a) a))
 unfolding with_lawful seq_lawful join_lawful ends_before one_lawful
-upto_lawful {A} {B} {o} b g1 h1 c fits L1 = join_lawful g1 h1 (λ a. with_one b (c a) a) (λ a. with_one false (c a) a) L1 (λ a. with_lawful b (c a) a) (record { apart = apart; ends_free = λ a r f. rw (fits a) refl })
+upto_lawful {A} {B} {o} b g1 h1 c fits La = join_lawful g1 h1 (λ a. with_one b (c a) a) (λ a. with_one false (c a) a) La (λ a. with_lawful b (c a) a) (record { apart = apart; ends_free = λ a r f. rw (fits a) refl })
   where
     apart : (a : A) (ts : Tokens) (x : A × B) (rest : Tokens) → with_one b (c a) a ts ≡ reads x rest → (W : Whole never (with_one b (c a) a) ts x rest) → (r : Tokens) → Follows never rest r → Follows o ts (W.front ++ r)
     apart a ts x rest e W r f = go W.front W.split
@@ -589,22 +589,22 @@ module _ {A S : Type 0} {o : Lexeme → Bool} (b : Bool) (goes_on : Lexeme → B
           inner : (z : Reading S) → part s a q ≡ z → and_then z (λ s' rest''. going n s' rest'') ≡ reads x rest → Parts_whole s (t ∷ q) x rest
           inner (stops why r) pe ee = absurd (cc ee)
           inner (reads s1 mid) pe ee =
-              let W1 = (P s a).whole q s1 mid pe in
-              let short : length mid ≤ n = omega (arith, ap length W1.split, length-append W1.front mid) in
-              let W2 = rec s1 mid short ee in
+              let Wa = (P s a).whole q s1 mid pe in
+              let short : length mid ≤ n = omega (arith, ap length Wa.split, length-append Wa.front mid) in
+              let Wb = rec s1 mid short ee in
               record {
-                front = t ∷ (W1.front ++ W2.front);
-                split = ap (λ (us : Tokens). t ∷ us) (W1.split ∙ ap (λ (us : Tokens). W1.front ++ us) W2.split ∙ sym (append_assoc W1.front W2.front rest));
-                again = λ m r hm f. step W1 W2 m r hm f;
+                front = t ∷ (Wa.front ++ Wb.front);
+                split = ap (λ (us : Tokens). t ∷ us) (Wa.split ∙ ap (λ (us : Tokens). Wa.front ++ us) Wb.split ∙ sym (append_assoc Wa.front Wb.front rest));
+                again = λ m r hm f. step Wa Wb m r hm f;
               }
             where
-              step : (W1 : Whole o (part s a) q s1 mid) (W2 : Parts_whole s1 mid x rest) (m : ℕ) (r : Tokens) → length (t ∷ ((W1.front ++ W2.front) ++ r)) ≤ m → Follows (either goes_on o) rest r → going m s (t ∷ ((W1.front ++ W2.front) ++ r)) ≡ reads x r
-              step W1 W2 zero r hm f = absurd (omega arith)
-              step W1 W2 (suc m) r hm f =
-                  let e1 = W1.again (W2.front ++ r) (part-follows mid W2.front rest r W2.split f) in
-                  let e2 : part s a ((W1.front ++ W2.front) ++ r) ≡ reads s1 (W2.front ++ r) = rw (append_assoc W1.front W2.front r) e1 in
-                  begun-again m s s1 a t ((W1.front ++ W2.front) ++ r) (W2.front ++ r) is e2
-                  ∙ W2.again m r (omega (arith, hm, ap length (append_assoc W1.front W2.front r), length-append W1.front (W2.front ++ r))) f
+              step : (Wa : Whole o (part s a) q s1 mid) (Wb : Parts_whole s1 mid x rest) (m : ℕ) (r : Tokens) → length (t ∷ ((Wa.front ++ Wb.front) ++ r)) ≤ m → Follows (either goes_on o) rest r → going m s (t ∷ ((Wa.front ++ Wb.front) ++ r)) ≡ reads x r
+              step Wa Wb zero r hm f = absurd (omega arith)
+              step Wa Wb (suc m) r hm f =
+                  let e1 = Wa.again (Wb.front ++ r) (part-follows mid Wb.front rest r Wb.split f) in
+                  let e2 : part s a ((Wa.front ++ Wb.front) ++ r) ≡ reads s1 (Wb.front ++ r) = rw (append_assoc Wa.front Wb.front r) e1 in
+                  begun-again m s s1 a t ((Wa.front ++ Wb.front) ++ r) (Wb.front ++ r) is e2
+                  ∙ Wb.again m r (omega (arith, hm, ap length (append_assoc Wa.front Wb.front r), length-append Wa.front (Wb.front ++ r))) f
 
   record Parts_end (s : S) (front : Tokens) : Type 0 where
     more : Tokens
@@ -717,35 +717,35 @@ module _ {A S : Type 0} {o : Lexeme → Bool} (b : Bool) (goes_on : Lexeme → B
                   step H zero t' q' r' hm f = absurd (omega arith)
                   step H (suc m) t' q' r' hm f = begun-stops m s a t (H.front ++ t' ∷ r') (t' ∷ r') why is (H.again t' q' r' f)
           inner (reads s1 mid) pe ee =
-              let W1 = (P s a).whole q s1 mid pe in
-              let short : length mid ≤ n = omega (arith, ap length W1.split, length-append W1.front mid) in
+              let Wa = (P s a).whole q s1 mid pe in
+              let short : length mid ≤ n = omega (arith, ap length Wa.split, length-append Wa.front mid) in
               let H2 = rec s1 mid short ee in
               record {
-                front = t ∷ (W1.front ++ H2.front);
-                split = ap (λ (us : Tokens). t ∷ us) (W1.split ∙ ap (λ (us : Tokens). W1.front ++ us) H2.split ∙ sym (append_assoc W1.front H2.front rest));
-                again = λ m t' q' r hm f. step W1 H2 m t' q' r hm f;
-                ends = later s s1 a t q mid rest H2.front lifted W1 H2.split H2.ends;
-                past_limit = λ f. limited W1 H2 f;
+                front = t ∷ (Wa.front ++ H2.front);
+                split = ap (λ (us : Tokens). t ∷ us) (Wa.split ∙ ap (λ (us : Tokens). Wa.front ++ us) H2.split ∙ sym (append_assoc Wa.front H2.front rest));
+                again = λ m t' q' r hm f. step Wa H2 m t' q' r hm f;
+                ends = later s s1 a t q mid rest H2.front lifted Wa H2.split H2.ends;
+                past_limit = λ f. limited Wa H2 f;
               }
             where
-              limited : (W1 : Whole o (part s a) q s1 mid) (H2 : Parts_halt s1 mid why rest) → why ≡ limit → Parts_past s (t ∷ (W1.front ++ H2.front)) rest
-              limited W1 H2 f =
+              limited : (Wa : Whole o (part s a) q s1 mid) (H2 : Parts_halt s1 mid why rest) → why ≡ limit → Parts_past s (t ∷ (Wa.front ++ H2.front)) rest
+              limited Wa H2 f =
                   let L = H2.past_limit f in
                   let split : mid ≡ (H2.front ++ L.token ∷ []) ++ L.others = H2.split ∙ ap (λ (us : Tokens). H2.front ++ us) L.is ∙ sym (append_assoc H2.front (L.token ∷ []) L.others) in
                   record {
                     token = L.token;
                     others = L.others;
                     is = L.is;
-                    ends = subst (λ (p : Tokens). Parts_end s (t ∷ p)) (sym (append_assoc W1.front H2.front (L.token ∷ []))) (later s s1 a t q mid L.others (H2.front ++ L.token ∷ []) lifted W1 split L.ends);
+                    ends = subst (λ (p : Tokens). Parts_end s (t ∷ p)) (sym (append_assoc Wa.front H2.front (L.token ∷ []))) (later s s1 a t q mid L.others (H2.front ++ L.token ∷ []) lifted Wa split L.ends);
                   }
 
-              step : (W1 : Whole o (part s a) q s1 mid) (H2 : Parts_halt s1 mid why rest) (m : ℕ) (t' : Lexeme) (q' r : Tokens) → length (t ∷ ((W1.front ++ H2.front) ++ t' ∷ r)) ≤ m → rest ≡ t' ∷ q' → going m s (t ∷ ((W1.front ++ H2.front) ++ t' ∷ r)) ≡ stops why (t' ∷ r)
-              step W1 H2 zero t' q' r hm f = absurd (omega arith)
-              step W1 H2 (suc m) t' q' r hm f =
-                  let e1 = W1.again (H2.front ++ t' ∷ r) (inl (same-head-at mid H2.front q' r t' (H2.split ∙ ap (λ (us : Tokens). H2.front ++ us) f))) in
-                  let e2 : part s a ((W1.front ++ H2.front) ++ t' ∷ r) ≡ reads s1 (H2.front ++ t' ∷ r) = rw (append_assoc W1.front H2.front (t' ∷ r)) e1 in
-                  begun-again m s s1 a t ((W1.front ++ H2.front) ++ t' ∷ r) (H2.front ++ t' ∷ r) is e2
-                  ∙ H2.again m t' q' r (omega (arith, hm, ap length (append_assoc W1.front H2.front (t' ∷ r)), length-append W1.front (H2.front ++ t' ∷ r))) f
+              step : (Wa : Whole o (part s a) q s1 mid) (H2 : Parts_halt s1 mid why rest) (m : ℕ) (t' : Lexeme) (q' r : Tokens) → length (t ∷ ((Wa.front ++ H2.front) ++ t' ∷ r)) ≤ m → rest ≡ t' ∷ q' → going m s (t ∷ ((Wa.front ++ H2.front) ++ t' ∷ r)) ≡ stops why (t' ∷ r)
+              step Wa H2 zero t' q' r hm f = absurd (omega arith)
+              step Wa H2 (suc m) t' q' r hm f =
+                  let e1 = Wa.again (H2.front ++ t' ∷ r) (inl (same-head-at mid H2.front q' r t' (H2.split ∙ ap (λ (us : Tokens). H2.front ++ us) f))) in
+                  let e2 : part s a ((Wa.front ++ H2.front) ++ t' ∷ r) ≡ reads s1 (H2.front ++ t' ∷ r) = rw (append_assoc Wa.front H2.front (t' ∷ r)) e1 in
+                  begun-again m s s1 a t ((Wa.front ++ H2.front) ++ t' ∷ r) (H2.front ++ t' ∷ r) is e2
+                  ∙ H2.again m t' q' r (omega (arith, hm, ap length (append_assoc Wa.front H2.front (t' ∷ r)), length-append Wa.front (H2.front ++ t' ∷ r))) f
 
   parts_lift : (n : ℕ) (s : S) (ts : Tokens) (x : S) (rest : Tokens) → going n s ts ≡ reads x rest → free_going n s ts ≡ reads x rest
   unfolding parts
@@ -832,9 +832,9 @@ wider p o g h L = record {
   ends = wider-ends p o h [] L.ends;
 }
 
-pub also_lawful : {A X : Type 0} {o p : Lexeme → Bool} (g1 h1 : Reader A) (g2 h2 : A → Reader X) → Lawful p g1 h1 → (L2 : (a : A) → Lawful o (g2 a) (h2 a)) → ((a : A) → (L2 a).ends.more ≡ []) → Lawful (either p o) (λ ts. and_then (g1 ts) g2) (λ ts. and_then (h1 ts) h2)
+pub also_lawful : {A X : Type 0} {o p : Lexeme → Bool} (g1 h1 : Reader A) (g2 h2 : A → Reader X) → Lawful p g1 h1 → (Lb : (a : A) → Lawful o (g2 a) (h2 a)) → ((a : A) → (Lb a).ends.more ≡ []) → Lawful (either p o) (λ ts. and_then (g1 ts) g2) (λ ts. and_then (h1 ts) h2)
 unfolding wider wider-ends
-also_lawful {A} {X} {o} {p} g1 h1 g2 h2 L1 L2 empty = join_lawful g1 h1 g2 h2 L1 (λ a. wider p o (g2 a) (h2 a) (L2 a)) (record { apart = apart; ends_free = λ a r f. rw (empty a) (free-left p o r f) })
+also_lawful {A} {X} {o} {p} g1 h1 g2 h2 La Lb empty = join_lawful g1 h1 g2 h2 La (λ a. wider p o (g2 a) (h2 a) (Lb a)) (record { apart = apart; ends_free = λ a r f. rw (empty a) (free-left p o r f) })
   where
     apart : (a : A) (ts : Tokens) (x : X) (rest : Tokens) → g2 a ts ≡ reads x rest → (W : Whole (either p o) (g2 a) ts x rest) → (r : Tokens) → Follows (either p o) rest r → Follows p ts (W.front ++ r)
     apart a ts x rest e W r f = go W.front W.split

@@ -14,12 +14,7 @@ use support::NoMemory;
 
 /// The target's outcome on the point, the source's outcome on the tape of zeros, and how many words
 /// the target read.
-pub fn replay(
-    alloc: Global,
-    pair: &Pair,
-    bounds: &Bounds,
-    point: &Point,
-) -> Result<Shown, NoMemory>
+pub fn replay(alloc: Global, pair: &Pair, bounds: &Bounds, point: &Point) -> Result<Shown, NoMemory>
     ensures { IfOk result (IsShown pair.now bounds.now point.now) }
 {
     let tape = point.tape.as_slice();
