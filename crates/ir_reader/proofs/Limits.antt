@@ -44,8 +44,8 @@ pub record AreFew (w : WrittenFunction) : Type 0 where
 
 function-few : (w : WrittenFunction) (ts rest : List Lexeme) → Spells true function w ts rest → AreFew w
 unfolding function
-function-few w ts rest (type, m1, T1, (name, m2, T2, (opening, m3, T3, (all, m4, P, (body, m5, T5, (lines, m6, (m7, I, T6), (value, m8, R, (closing, m9, T9, (same, left))))))))) =
-    subst (λ (f : WrittenFunction). AreFew f) same (record { parameters = parameters-few all m3 m4 P; insts = ltb-true (length lines.0) 65536 T6.keeps })
+function-few w ts rest (type, m1, token1, (name, m2, token2, (opening, m3, token3, (all, m4, P, (body, m5, token5, (lines, m6, (m7, I, token6), (value, m8, R, (closing, m9, token9, (same, left))))))))) =
+    subst (λ (f : WrittenFunction). AreFew f) same (record { parameters = parameters-few all m3 m4 P; insts = ltb-true (length lines.0) 65536 token6.keeps })
 
 all-push : (ws : List WrittenFunction) (w : WrittenFunction) → AllByRecursion AreFew ws → AreFew w → AllByRecursion AreFew (ws ++ w ∷ [])
 all-push [] w h k = (k, tt)
