@@ -1,0 +1,9 @@
+pub mod Digits
+pub mod Zips
+pub mod Adders
+pub mod Known
+pub mod Pieces
+pub mod Testing
+pub mod Moved
+pub mod Rows
+pub mod Steps

@@ -1,0 +1,5 @@
+pub mod Numbers
+pub mod Bitwise
+pub mod Adder
+pub mod Moves
+pub mod Division
