@@ -5,13 +5,14 @@ use Rattle.ir_tree.specs.declared.tree.IrType.TheVariants.{Int}
 use Rattle.ir_tree.specs.declared.tree.Operand.{Operand}
 use Rattle.ir_tree.specs.declared.tree.Operand.TheVariants.{Local}
 use Rattle.ir_tree.specs.declared.tree.Inst.{Inst}
-use Rattle.ir_tree.specs.declared.tree.Inst.TheVariants.{Binary, Freeze}
+use Rattle.ir_tree.specs.declared.tree.Inst.TheVariants.{Binary, Icmp, Freeze}
 use Rattle.ir_tree.specs.declared.tree.Returned.{Returned}
 use Rattle.ir_tree.specs.declared.tree.Terminator.{Terminator}
 use Rattle.ir_tree.specs.declared.tree.Terminator.TheVariants.{Return}
 use Rattle.ir_tree.specs.declared.tree.Block.{Block}
 use Rattle.ir_tree.specs.declared.tree.Parameter.{Parameter}
 use Rattle.ir_tree.specs.declared.tree.Function.{Function}
+use Rattle.ir_tree.specs.Types.{one_bit}
 
 -- a name that is defined, and the type of its value; a label has no value
 pub record Definition : Type 0 where
@@ -23,6 +24,7 @@ parameter_definition p = record { name = p.name; of_type = Some p.of_type }
 
 abbrev pub result_definition : Inst → Definition
 result_definition (Binary into op width left right) = record { name = into; of_type = Some (Int width) }
+result_definition (Icmp into predicate width left right) = record { name = into; of_type = Some (Int one_bit) }
 result_definition (Freeze into width operand) = record { name = into; of_type = Some (Int width) }
 
 abbrev pub label_definition : Block → Definition
@@ -52,6 +54,7 @@ IsUsable f place type _ = Unit {0}
 
 abbrev pub AreOperandsUsable : Function → ℕ → Inst → Type 0
 AreOperandsUsable f place (Binary into op width left right) = IsUsable f place (Int width) left × IsUsable f place (Int width) right
+AreOperandsUsable f place (Icmp into predicate width left right) = IsUsable f place (Int width) left × IsUsable f place (Int width) right
 AreOperandsUsable f place (Freeze into width operand) = IsUsable f place (Int width) operand
 
 -- the returned operand may stand behind all else, and its type is the header's

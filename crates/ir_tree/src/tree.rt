@@ -17,6 +17,9 @@ pub enum Operand {
     Local(usize),
     Number(u64),
     Poison,
+    /// Any value of the type, another at each use (LLVM Language Reference, "Undefined Values").
+    /// It may stand in `freeze` and `ret` alone.
+    Undef,
 }
 
 /// Which results of a wrapping operation are poison: those that wrap as unsigned numbers, and those
@@ -39,12 +42,35 @@ pub enum Op {
     Or,
 }
 
+/// How two integers are compared (LLVM Language Reference, "icmp Instruction").
+#[derive(Clone, Copy, Debug, PartialEq, Eq)]
+pub enum Predicate {
+    Equal,
+    NotEqual,
+    UnsignedGreater,
+    UnsignedGreaterOrEqual,
+    UnsignedLess,
+    UnsignedLessOrEqual,
+    SignedGreater,
+    SignedGreaterOrEqual,
+    SignedLess,
+    SignedLessOrEqual,
+}
+
 /// An instruction; `into` is the number of the name that gets the result.
 #[derive(Clone, Copy, Debug, PartialEq, Eq)]
 pub enum Inst {
     Binary {
         into: usize,
         op: Op,
+        width: Width,
+        left: Operand,
+        right: Operand,
+    },
+    /// The result has one bit; the operands have the width.
+    Icmp {
+        into: usize,
+        predicate: Predicate,
         width: Width,
         left: Operand,
         right: Operand,

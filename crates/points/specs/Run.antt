@@ -1,4 +1,4 @@
--- What a function does on an input and a tape of choices. It is told for every function: a name that was never assigned is poison, a number is read modulo the width at which it is used, and a place outside the text ends in undefined behaviour. In a well-formed function none of these happens.
+-- What a function does on an input and a tape of choices. It is told for every function: a name that was never assigned is poison, undef is poison where it is neither frozen nor returned, a number is read modulo the width at which it is used, and a place outside the text ends in undefined behaviour. In a function that is read none of these happens.
 use Rattle.std.specs.Prelude.{◌≡◌, ℕ, zero, suc, ◌+◌, ◌%◌, ◌^◌, List, [], ◌∷◌, ◌++◌, length, replicate, nat_lt, if◌then◌else◌, Option, Some, None, slice_get, slice_index, slice_index_or, slice_set}
 use Rattle.std.specs.Option.{option_map}
 use Rattle.ir_tree.specs.declared.tree.IrType.{IrType}
@@ -6,7 +6,7 @@ use Rattle.ir_tree.specs.declared.tree.IrType.TheVariants as type
 use Rattle.ir_tree.specs.declared.tree.Operand.{Operand}
 use Rattle.ir_tree.specs.declared.tree.Operand.TheVariants as operand
 use Rattle.ir_tree.specs.declared.tree.Inst.{Inst}
-use Rattle.ir_tree.specs.declared.tree.Inst.TheVariants.{Binary, Freeze}
+use Rattle.ir_tree.specs.declared.tree.Inst.TheVariants.{Binary, Icmp, Freeze}
 use Rattle.ir_tree.specs.declared.tree.Returned.{Returned}
 use Rattle.ir_tree.specs.declared.tree.Terminator.{Terminator}
 use Rattle.ir_tree.specs.declared.tree.Terminator.TheVariants as terminator
@@ -21,7 +21,7 @@ use Rattle.points.specs.declared.outcome.Outcome.{Outcome}
 use Rattle.points.specs.declared.outcome.Outcome.TheVariants.{Return, Ub, Beyond}
 use Rattle.points.specs.declared.point.Bounds.{Bounds}
 use Rattle.points.specs.declared.point.Input.{Input}
-use Rattle.points.specs.Table.{value_result}
+use Rattle.points.specs.Table.{value_result, compared}
 
 -- ---- one instruction
 
@@ -29,6 +29,7 @@ abbrev pub operand_value : List Value → Operand → Value
 operand_value registers (operand.Local name) = slice_index_or registers name Poison
 operand_value registers (operand.Number n) = Num n
 operand_value registers operand.Poison = Poison
+operand_value registers operand.Undef = Poison
 
 -- a number is cut to the width
 abbrev pub cut_value : ℕ → Value → Value
@@ -46,7 +47,7 @@ choice_of tape m width = slice_index tape (length m.taken) % 2 ^ width
 abbrev pub chosen : Machine → ℕ → ℕ → Machine
 chosen m name choice = record (assigned m name (Num choice)) { taken = m.taken ++ choice ∷ [] }
 
--- poison becomes a choice, and any other value stays as it is
+-- poison becomes a choice, undef too, and any other value stays as it is
 abbrev pub frozen : List ℕ → Machine → ℕ → ℕ → Value → Machine
 frozen tape m name width Poison = chosen m name (choice_of tape m width)
 frozen tape m name width v = assigned m name (cut_value width v)
@@ -55,6 +56,8 @@ frozen tape m name width v = assigned m name (cut_value width v)
 abbrev pub act : Inst → List ℕ → Machine → Option Machine
 act (Binary into op width left right) tape m =
     option_map (assigned m into) (value_result op width.bits (operand_value m.registers left) (operand_value m.registers right))
+act (Icmp into predicate width left right) tape m =
+    Some (assigned m into (compared predicate width.bits (operand_value m.registers left) (operand_value m.registers right)))
 act (Freeze into width operand) tape m = Some (frozen tape m into width.bits (operand_value m.registers operand))
 
 -- ---- one block
@@ -79,15 +82,33 @@ typed_value type.Ptr v = v
 abbrev pub returned_value : List Value → Returned → Value
 returned_value registers returned = typed_value returned.of_type (operand_value registers returned.operand)
 
-abbrev pub exit_by : Terminator → Machine → Exit
-exit_by (terminator.Return returned) m = Over (ended (Return (option_map (returned_value m.registers) returned) m.memory) m)
+abbrev pub returns : Option Value → Machine → Run
+returns v m = ended (Return v m.memory) m
+
+-- the width of the choice that stands there: undef of an integer type is one
+abbrev pub undef_width : IrType → Operand → Option ℕ
+undef_width (type.Int width) operand.Undef = Some width.bits
+undef_width _ _ = None
+
+abbrev pub returned_with : Option ℕ → Returned → List ℕ → Machine → Run
+returned_with (Some width) returned tape m =
+    returns (Some (Num (choice_of tape m width))) (record m { taken = m.taken ++ choice_of tape m width ∷ [] })
+returned_with None returned tape m = returns (Some (returned_value m.registers returned)) m
+
+-- undef is returned as a choice
+abbrev pub returned_run : Option Returned → List ℕ → Machine → Run
+returned_run None tape m = returns None m
+returned_run (Some returned) tape m = returned_with (undef_width returned.of_type returned.operand) returned tape m
+
+abbrev pub exit_by : Terminator → List ℕ → Machine → Exit
+exit_by (terminator.Return returned) tape m = Over (returned_run returned tape m)
 
 abbrev pub exit_after : Option Machine → Machine → (Machine → Exit) → Exit
 exit_after None m go = Over (ended Ub m)
 exit_after (Some m') m go = go m'
 
 unfoldable pub exit_insts : List Inst → Terminator → List ℕ → Machine → Exit
-exit_insts [] end tape m = exit_by end m
+exit_insts [] end tape m = exit_by end tape m
 exit_insts (inst ∷ insts) end tape m = exit_after (act inst tape m) m (exit_insts insts end tape)
 
 abbrev pub exit_of : Option Block → List ℕ → Machine → Exit

@@ -1,8 +1,9 @@
 -- How many words a run reads, how wide they are, and the plain form of a tape.
-use Rattle.std.specs.Prelude.{◌≡◌, ℕ, ◌+◌, ◌-◌, ◌*◌, ◌≤◌, max, List, [], ◌∷◌, ◌++◌, length, replicate}
+use Rattle.std.specs.Prelude.{◌≡◌, ℕ, ◌+◌, ◌-◌, ◌*◌, ◌≤◌, max, List, [], ◌∷◌, ◌++◌, length, replicate, Option, Some, None}
 use Rattle.std.specs.List.{flat_map}
+use Rattle.ir_tree.specs.declared.tree.Returned.{Returned}
 use Rattle.ir_tree.specs.declared.tree.Inst.{Inst}
-use Rattle.ir_tree.specs.declared.tree.Inst.TheVariants.{Binary, Freeze}
+use Rattle.ir_tree.specs.declared.tree.Inst.TheVariants.{Binary, Icmp, Freeze}
 use Rattle.ir_tree.specs.declared.tree.Terminator.{Terminator}
 use Rattle.ir_tree.specs.declared.tree.Terminator.TheVariants as terminator
 use Rattle.ir_tree.specs.declared.tree.Block.{Block}
@@ -10,15 +11,24 @@ use Rattle.ir_tree.specs.declared.tree.Function.{Function}
 use Rattle.points.specs.declared.point.Bounds.{Bounds}
 use Rattle.points.specs.declared.point.Input.{Input}
 use Rattle.points.specs.Code.{number_of, WordsFit}
-use Rattle.points.specs.Run.{run_of, IsPlain}
+use Rattle.points.specs.Run.{run_of, undef_width, IsPlain}
 
 -- the widths of the choices that an instruction may make, in order
 abbrev pub inst_widths : Inst → List ℕ
 inst_widths (Binary into op width left right) = []
+inst_widths (Icmp into predicate width left right) = []
 inst_widths (Freeze into width operand) = width.bits ∷ []
 
+abbrev pub widths_of : Option ℕ → List ℕ
+widths_of None = []
+widths_of (Some width) = width ∷ []
+
+abbrev pub returned_widths : Option Returned → List ℕ
+returned_widths None = []
+returned_widths (Some returned) = widths_of (undef_width returned.of_type returned.operand)
+
 abbrev pub end_widths : Terminator → List ℕ
-end_widths (terminator.Return returned) = []
+end_widths (terminator.Return returned) = returned_widths returned
 
 abbrev pub block_widths : Block → List ℕ
 block_widths b = flat_map inst_widths b.insts ++ end_widths b.terminator

@@ -5,7 +5,7 @@ use Rattle.ir_tree.specs.declared.tree.IrType.TheVariants as type
 use Rattle.ir_tree.specs.declared.tree.Parameter.{Parameter}
 use Rattle.ir_tree.specs.declared.tree.Op.TheVariants.{UnsignedDiv}
 use Rattle.ir_tree.specs.declared.tree.Inst.{Inst}
-use Rattle.ir_tree.specs.declared.tree.Inst.TheVariants.{Binary, Freeze}
+use Rattle.ir_tree.specs.declared.tree.Inst.TheVariants.{Binary, Icmp, Freeze}
 use Rattle.ir_tree.specs.declared.tree.Terminator.{Terminator}
 use Rattle.ir_tree.specs.declared.tree.Terminator.TheVariants as terminator
 use Rattle.ir_tree.specs.declared.tree.Block.{Block}
@@ -19,6 +19,7 @@ use Rattle.points.specs.Tapes.{need_of, widest_choice}
 abbrev pub inst_cost : Inst → ℕ
 inst_cost (Binary into (UnsignedDiv exact) width left right) = width.bits * width.bits
 inst_cost (Binary into op width left right) = width.bits
+inst_cost (Icmp into predicate width left right) = width.bits
 inst_cost (Freeze into width operand) = width.bits
 
 abbrev pub end_cost : Terminator → ℕ
