@@ -4,8 +4,12 @@ use Rattle.std.specs.List.{flat_map}
 use Rattle.std.specs.Prelude.{slice_index}
 use Rattle.std.proofs.lemmas.Bool.{or_cases, cases_order}
 use Rattle.std.proofs.Math.Pow.{pow_mono}
+use Rattle.ir_tree.specs.declared.tree.IrType.{IrType}
+use Rattle.ir_tree.specs.declared.tree.IrType.TheVariants as type
+use Rattle.ir_tree.specs.declared.tree.Operand.{Operand}
+use Rattle.ir_tree.specs.declared.tree.Operand.TheVariants as operand
 use Rattle.ir_tree.specs.declared.tree.Inst.{Inst}
-use Rattle.ir_tree.specs.declared.tree.Inst.TheVariants.{Binary, Freeze}
+use Rattle.ir_tree.specs.declared.tree.Inst.TheVariants.{Binary, Icmp, Freeze}
 use Rattle.ir_tree.specs.declared.tree.Terminator.{Terminator}
 use Rattle.ir_tree.specs.declared.tree.Terminator.TheVariants as terminator
 use Rattle.ir_tree.specs.declared.tree.Block.{Block}
@@ -18,8 +22,8 @@ use Rattle.points.specs.declared.verdict.Verdict.TheVariants.{Correct, Incorrect
 use Rattle.points.specs.Pair.{Functions}
 use Rattle.points.specs.Refines.{is_refined}
 use Rattle.points.specs.Code.{WordsFit, number_of}
-use Rattle.points.specs.Run.{Run, run_of}
-use Rattle.points.specs.Tapes.{inst_widths, end_widths, block_widths, need_of, widest, widest_choice, plain_form, HasPlainForm}
+use Rattle.points.specs.Run.{Run, undef_width, run_of}
+use Rattle.points.specs.Tapes.{inst_widths, widths_of, end_widths, block_widths, need_of, widest, widest_choice, plain_form, HasPlainForm}
 use Rattle.points.specs.Covers.{covers, some_covers, is_covered, shifted, HasNoCover}
 use Rattle.points.specs.Trail.{IsPoint, IsLeastUncovered, AreAllCovered, TrailFrom, Ends}
 use Rattle.points.specs.Laws.{IsAllowed, IsWithin, CorrectHolds, IncorrectFails, LeastCoversArePlain}
@@ -32,11 +36,21 @@ use Rattle.points.proofs.Plain.{tapes_have_plain_forms, widest-append}
 inst_small : (inst : Inst) → widest (inst_widths inst) ≤ 64
 unfolding widest
 inst_small (Binary into op width left right) = omega arith
+inst_small (Icmp into predicate width left right) = omega arith
 inst_small (Freeze into width operand) = let most = width.at_most_64 in omega (arith, most)
+
+undef_small : (t : IrType) (o : Operand) → widest (widths_of (undef_width t o)) ≤ 64
+unfolding widest
+undef_small (type.Int width) operand.Undef = let most = width.at_most_64 in omega (arith, most)
+undef_small (type.Int width) (operand.Local name) = omega arith
+undef_small (type.Int width) (operand.Number n) = omega arith
+undef_small (type.Int width) operand.Poison = omega arith
+undef_small type.Ptr o = omega arith
 
 end_small : (end : Terminator) → widest (end_widths end) ≤ 64
 unfolding widest
-end_small (terminator.Return returned) = omega arith
+end_small (terminator.Return None) = omega arith
+end_small (terminator.Return (Some r)) = undef_small r.of_type r.operand
 
 none_small : widest [] ≤ 64
 unfolding widest

@@ -11,7 +11,8 @@ use Rattle.std.proofs.Math.Seq.{get_or-append_seam}
 use Rattle.std.proofs.lemmas.List.{length-replicate}
 use Rattle.tv_num.specs.declared.Width.{Width}
 use Rattle.ir_tree.specs.declared.tree.Inst.{Inst}
-use Rattle.ir_tree.specs.declared.tree.Inst.TheVariants.{Binary, Freeze}
+use Rattle.ir_tree.specs.declared.tree.Inst.TheVariants.{Binary, Icmp, Freeze}
+use Rattle.ir_tree.specs.declared.tree.Returned.{Returned}
 use Rattle.ir_tree.specs.declared.tree.Terminator.{Terminator}
 use Rattle.ir_tree.specs.declared.tree.Terminator.TheVariants as terminator
 use Rattle.ir_tree.specs.declared.tree.Block.{Block}
@@ -23,9 +24,9 @@ use Rattle.points.specs.declared.machine.Machine.{Machine}
 use Rattle.points.specs.declared.point.Bounds.{Bounds}
 use Rattle.points.specs.declared.point.Input.{Input}
 use Rattle.points.specs.Code.{number_of, WordsFit}
-use Rattle.points.specs.Table.{value_result}
-use Rattle.points.specs.Run.{act, frozen, choice_of, assigned, operand_value, first_machine, run_of}
-use Rattle.points.specs.Tapes.{inst_widths, end_widths, block_widths, choice_widths, need_of, widest, widest_choice, plain_form, TapesHavePlainForms}
+use Rattle.points.specs.Table.{value_result, compared}
+use Rattle.points.specs.Run.{act, frozen, choice_of, assigned, operand_value, undef_width, returned_with, first_machine, run_of}
+use Rattle.points.specs.Tapes.{inst_widths, widths_of, end_widths, block_widths, choice_widths, need_of, widest, widest_choice, plain_form, TapesHavePlainForms}
 use Rattle.points.proofs.Runs.{run_end, run_after, run_insts, run_entry, run_of_is}
 
 -- ---- the widest of two lists
@@ -106,20 +107,20 @@ took_less ws vs tape from to t =
 
 -- ---- by an instruction
 
-choice_one : (tape : List ℕ) (m : Machine) (into : ℕ) (w : Width) → Took (w.bits ∷ []) tape m.taken (m.taken ++ choice_of tape m w.bits ∷ [])
+choice_one : (tape : List ℕ) (m : Machine) (width : ℕ) → Took (width ∷ []) tape m.taken (m.taken ++ choice_of tape m width ∷ [])
 unfolding widest
-choice_one tape m into w = record {
-  more = choice_of tape m w.bits ∷ [];
+choice_one tape m width = record {
+  more = choice_of tape m width ∷ [];
   is = refl;
   words = omega arith;
-  below = λ k h. let e : k ≡ 0 = omega arith in let low = w.at_least_1 in rw e (below_wider _ w.bits (max w.bits 1) (omega arith) (mod_below _ _ (pow_pos w.bits)));
+  below = λ k h. let e : k ≡ 0 = omega arith in rw e (below_wider _ width (max width 1) (omega arith) (mod_below _ _ (pow_pos width)));
   no_greater = λ k h. let e : k ≡ 0 = omega arith in rw (e, add-zero) (mod-le _ _);
 }
 
 took_frozen : (tape : List ℕ) (m : Machine) (into : ℕ) (w : Width) (v : Value) → Took (w.bits ∷ []) tape m.taken (frozen tape m into w.bits v).taken
 took_frozen tape m into w (Num n) = took_nothing _ tape m.taken m.taken refl
 took_frozen tape m into w (value.Ptr p) = took_nothing _ tape m.taken m.taken refl
-took_frozen tape m into w Poison = choice_one tape m into w
+took_frozen tape m into w Poison = choice_one tape m w.bits
 
 took_assigned : (widths tape : List ℕ) (m m' : Machine) (into : ℕ) (v : Option Value) → option_map (assigned m into) v ≡ Some m' → Took widths tape m.taken m'.taken
 took_assigned widths tape m m' into None e = absurd (cc)
@@ -127,6 +128,7 @@ took_assigned widths tape m m' into (Some v) e = let same : assigned m into v �
 
 pub act_took : (inst : Inst) (tape : List ℕ) (m m' : Machine) → act inst tape m ≡ Some m' → Took (inst_widths inst) tape m.taken m'.taken
 act_took (Binary into op w left right) tape m m' e = took_assigned [] tape m m' into (value_result op w.bits (operand_value m.registers left) (operand_value m.registers right)) e
+act_took (Icmp into predicate w left right) tape m m' e = took_assigned [] tape m m' into (Some (compared predicate w.bits (operand_value m.registers left) (operand_value m.registers right))) e
 act_took (Freeze into w operand) tape m m' e =
     let same : frozen tape m into w.bits (operand_value m.registers operand) ≡ m' = cc in
     let t = took_frozen tape m into w (operand_value m.registers operand) in
@@ -134,14 +136,28 @@ act_took (Freeze into w operand) tape m m' e =
 
 -- ---- by a run
 
-insts_took_option : (inst : Inst) (insts : List Inst) (end : Terminator) (tape : List ℕ) (m : Machine) (o : Option Machine) → act inst tape m ≡ o → ((m' : Machine) → Took (flat_map inst_widths insts) tape m'.taken (run_insts insts end tape m').taken) → Took (flat_map inst_widths (inst ∷ insts)) tape m.taken (run_after o m (run_insts insts end tape)).taken
+took_as : (ws vs tape from to : List ℕ) → ws ≡ vs → Took ws tape from to → Took vs tape from to
+took_as ws vs tape from to e t = rw e at t
+
+returned_took : (o : Option ℕ) (r : Returned) (tape : List ℕ) (m : Machine) → Took (widths_of o) tape m.taken (returned_with o r tape m).taken
+returned_took None r tape m = took_nothing [] tape m.taken m.taken refl
+returned_took (Some width) r tape m = choice_one tape m width
+
+end_took : (end : Terminator) (tape : List ℕ) (m : Machine) → Took (end_widths end) tape m.taken (run_end end tape m).taken
+end_took (terminator.Return None) tape m = took_nothing [] tape m.taken m.taken refl
+end_took (terminator.Return (Some r)) tape m = returned_took (undef_width r.of_type r.operand) r tape m
+
+-- the widths of the choices that instructions, and what ends them, may make
+abbrev pub rest_widths : List Inst → Terminator → List ℕ
+rest_widths insts end = flat_map inst_widths insts ++ end_widths end
+
+insts_took_option : (inst : Inst) (insts : List Inst) (end : Terminator) (tape : List ℕ) (m : Machine) (o : Option Machine) → act inst tape m ≡ o → ((m' : Machine) → Took (rest_widths insts end) tape m'.taken (run_insts insts end tape m').taken) → Took (rest_widths (inst ∷ insts) end) tape m.taken (run_after o m (run_insts insts end tape)).taken
 insts_took_option inst insts end tape m None e rest = took_nothing _ tape m.taken m.taken refl
-insts_took_option inst insts end tape m (Some m') e rest = took_then (inst_widths inst) (flat_map inst_widths insts) tape m.taken m'.taken (run_insts insts end tape m').taken (act_took inst tape m m' e) (rest m')
+insts_took_option inst insts end tape m (Some m') e rest =
+    took_as (inst_widths inst ++ rest_widths insts end) (rest_widths (inst ∷ insts) end) tape m.taken (run_insts insts end tape m').taken (sym (append_assoc (inst_widths inst) (flat_map inst_widths insts) (end_widths end)))
+    (took_then (inst_widths inst) (rest_widths insts end) tape m.taken m'.taken (run_insts insts end tape m').taken (act_took inst tape m m' e) (rest m'))
 
-end_took : (end : Terminator) (tape : List ℕ) (m : Machine) → Took [] tape m.taken (run_end end m).taken
-end_took (terminator.Return returned) tape m = took_nothing [] tape m.taken m.taken refl
-
-pub insts_took : (insts : List Inst) (end : Terminator) (tape : List ℕ) (m : Machine) → Took (flat_map inst_widths insts) tape m.taken (run_insts insts end tape m).taken
+pub insts_took : (insts : List Inst) (end : Terminator) (tape : List ℕ) (m : Machine) → Took (rest_widths insts end) tape m.taken (run_insts insts end tape m).taken
 unfolding run_insts
 insts_took [] end tape m = end_took end tape m
 insts_took (inst ∷ insts) end tape m = insts_took_option inst insts end tape m (act inst tape m) refl (λ m'. insts_took insts end tape m')
@@ -149,31 +165,40 @@ insts_took (inst ∷ insts) end tape m = insts_took_option inst insts end tape m
 entry_took : (blocks : List Block) (tape : List ℕ) (m : Machine) → Took (flat_map block_widths blocks) tape m.taken (run_entry blocks tape m).taken
 entry_took [] tape m = took_nothing [] tape m.taken m.taken refl
 entry_took (b ∷ bs) tape m =
-    let run = run_insts b.insts b.terminator tape m in
-    took_less (block_widths b) (flat_map block_widths bs) tape m.taken run.taken
-    (took_less (flat_map inst_widths b.insts) (end_widths b.terminator) tape m.taken run.taken (insts_took b.insts b.terminator tape m))
+    took_less (block_widths b) (flat_map block_widths bs) tape m.taken (run_insts b.insts b.terminator tape m).taken (insts_took b.insts b.terminator tape m)
 
 pub run_took : (f : Function) (bounds : Bounds) (input : Input) (tape : List ℕ) → Took (choice_widths f) tape [] (run_of f bounds input tape).taken
 run_took f bounds input tape = rw (run_of_is f bounds input tape) (entry_took f.blocks tape (first_machine f input))
 
 -- ---- another tape with the same choices
 
-frozen_same : (tape other : List ℕ) (m : Machine) (into : ℕ) (w : Width) (v : Value) → ((k : ℕ) → length m.taken ≤ k → k < length (frozen tape m into w.bits v).taken → slice_index other k ≡ slice_index (frozen tape m into w.bits v).taken k) → frozen other m into w.bits v ≡ frozen tape m into w.bits v
-frozen_same tape other m into w (Num n) agree = refl
-frozen_same tape other m into w (value.Ptr p) agree = refl
-frozen_same tape other m into w Poison agree =
-    let len = length-append m.taken (choice_of tape m w.bits ∷ []) in
-    let word : slice_index other (length m.taken) ≡ choice_of tape m w.bits = agree (length m.taken) (omega arith) (omega (arith, len)) ∙ get_or-append_seam m.taken (choice_of tape m w.bits) [] 0 in
-    let choice : choice_of other m w.bits ≡ choice_of tape m w.bits = ap (λ n. n % 2 ^ w.bits) word ∙ mod-eq_of_lt (mod_below (slice_index tape (length m.taken)) (2 ^ w.bits) (pow_pos w.bits)) in
-    rw choice refl
-
-act_same : (inst : Inst) (tape other : List ℕ) (m : Machine) → ((m' : Machine) → act inst tape m ≡ Some m' → (k : ℕ) → length m.taken ≤ k → k < length m'.taken → slice_index other k ≡ slice_index m'.taken k) → act inst other m ≡ act inst tape m
-act_same (Binary into op w left right) tape other m agree = refl
-act_same (Freeze into w operand) tape other m agree = ap Some (frozen_same tape other m into w (operand_value m.registers operand) (agree (frozen tape m into w.bits (operand_value m.registers operand)) refl))
-
 -- the other tape has these choices from a place on
 abbrev pub Agrees : List ℕ → List ℕ → List ℕ → Type 0
 Agrees other from taken = (k : ℕ) → length from ≤ k → k < length taken → slice_index other k ≡ slice_index taken k
+
+choice_same : (tape other : List ℕ) (m : Machine) (width : ℕ) → Agrees other m.taken (m.taken ++ choice_of tape m width ∷ []) → choice_of other m width ≡ choice_of tape m width
+choice_same tape other m width agree =
+    let len = length-append m.taken (choice_of tape m width ∷ []) in
+    let word : slice_index other (length m.taken) ≡ choice_of tape m width = agree (length m.taken) (omega arith) (omega (arith, len)) ∙ get_or-append_seam m.taken (choice_of tape m width) [] 0 in
+    ap (λ n. n % 2 ^ width) word ∙ mod-eq_of_lt (mod_below (slice_index tape (length m.taken)) (2 ^ width) (pow_pos width))
+
+frozen_same : (tape other : List ℕ) (m : Machine) (into : ℕ) (w : Width) (v : Value) → Agrees other m.taken (frozen tape m into w.bits v).taken → frozen other m into w.bits v ≡ frozen tape m into w.bits v
+frozen_same tape other m into w (Num n) agree = refl
+frozen_same tape other m into w (value.Ptr p) agree = refl
+frozen_same tape other m into w Poison agree = rw (choice_same tape other m w.bits agree) refl
+
+act_same : (inst : Inst) (tape other : List ℕ) (m : Machine) → ((m' : Machine) → act inst tape m ≡ Some m' → Agrees other m.taken m'.taken) → act inst other m ≡ act inst tape m
+act_same (Binary into op w left right) tape other m agree = refl
+act_same (Icmp into predicate w left right) tape other m agree = refl
+act_same (Freeze into w operand) tape other m agree = ap Some (frozen_same tape other m into w (operand_value m.registers operand) (agree (frozen tape m into w.bits (operand_value m.registers operand)) refl))
+
+returned_same : (o : Option ℕ) (r : Returned) (tape other : List ℕ) (m : Machine) → Agrees other m.taken (returned_with o r tape m).taken → returned_with o r other m ≡ returned_with o r tape m
+returned_same None r tape other m agree = refl
+returned_same (Some width) r tape other m agree = rw (choice_same tape other m width agree) refl
+
+end_same : (end : Terminator) (tape other : List ℕ) (m : Machine) → Agrees other m.taken (run_end end tape m).taken → run_end end other m ≡ run_end end tape m
+end_same (terminator.Return None) tape other m agree = refl
+end_same (terminator.Return (Some r)) tape other m agree = returned_same (undef_width r.of_type r.operand) r tape other m agree
 
 agrees_before : (widths other tape from mid taken : List ℕ) → Took widths tape mid taken → Agrees other from taken → (k : ℕ) → length from ≤ k → k < length mid → slice_index other k ≡ slice_index mid k
 agrees_before widths other tape from mid taken took agree k low below =
@@ -192,14 +217,14 @@ same_option inst insts end tape other m (Some m') e agree rest =
     let took = insts_took insts end tape m' in
     let first = act_took inst tape m m' e in
     let len : length m'.taken ≡ length m.taken + length first.more = ap length first.is ∙ length-append m.taken first.more in
-    let before = agrees_before (flat_map inst_widths insts) other tape m.taken m'.taken (run_insts insts end tape m').taken took agree in
+    let before = agrees_before (rest_widths insts end) other tape m.taken m'.taken (run_insts insts end tape m').taken took agree in
     let same : act inst other m ≡ act inst tape m =
     act_same inst tape other m (λ n f. let g : m' ≡ n = (let h = sym e ∙ f in cc) in λ k low below. let below' : k < length m'.taken = rw g below in before k low below' ∙ ap (λ (x : Machine). slice_index x.taken k) g) in
     rw (same, e) (rest m' (λ k low below. agree k (omega (arith, len)) below))
 
 insts_same : (insts : List Inst) (end : Terminator) (tape other : List ℕ) (m : Machine) → Agrees other m.taken (run_insts insts end tape m).taken → run_insts insts end other m ≡ run_insts insts end tape m
 unfolding run_insts
-insts_same [] end tape other m agree = refl
+insts_same [] end tape other m agree = end_same end tape other m agree
 insts_same (inst ∷ insts) end tape other m agree =
     same_option inst insts end tape other m (act inst tape m) refl agree (λ m' agree'. insts_same insts end tape other m' agree')
 

@@ -8,27 +8,26 @@ use Rattle.ir_tree.specs.declared.tree.Terminator.TheVariants as terminator
 use Rattle.ir_tree.specs.declared.tree.Block.{Block}
 use Rattle.ir_tree.specs.declared.tree.Function.{Function}
 use Rattle.points.specs.declared.machine.Machine.{Machine}
-use Rattle.points.specs.declared.outcome.Outcome.TheVariants.{Return, Ub, Beyond}
+use Rattle.points.specs.declared.outcome.Outcome.TheVariants.{Ub, Beyond}
 use Rattle.points.specs.declared.point.Bounds.{Bounds}
 use Rattle.points.specs.declared.point.Input.{Input}
-use Rattle.points.specs.Run.{Run, Exit, Over, ended, act, returned_value, exit_by, exit_after, exit_insts, Go, forward, run_turns, first_machine, run_of}
-use Rattle.std.specs.Option.{option_map}
+use Rattle.points.specs.Run.{Run, Exit, Over, ended, act, returned_run, exit_by, exit_after, exit_insts, Go, forward, run_turns, first_machine, run_of}
 
 -- ---- one block
 
-abbrev pub run_end : Terminator → Machine → Run
-run_end (terminator.Return returned) m = ended (Return (option_map (returned_value m.registers) returned) m.memory) m
+abbrev pub run_end : Terminator → List ℕ → Machine → Run
+run_end (terminator.Return returned) tape m = returned_run returned tape m
 
 abbrev pub run_after : Option Machine → Machine → (Machine → Run) → Run
 run_after None m go = ended Ub m
 run_after (Some m') m go = go m'
 
 unfoldable pub run_insts : List Inst → Terminator → List ℕ → Machine → Run
-run_insts [] end tape m = run_end end m
+run_insts [] end tape m = run_end end tape m
 run_insts (inst ∷ insts) end tape m = run_after (act inst tape m) m (run_insts insts end tape)
 
-exit_is_end : (end : Terminator) (m : Machine) → exit_by end m ≡ Over (run_end end m)
-exit_is_end (terminator.Return returned) m = refl
+exit_is_end : (end : Terminator) (tape : List ℕ) (m : Machine) → exit_by end tape m ≡ Over (run_end end tape m)
+exit_is_end (terminator.Return returned) tape m = refl
 
 exit_after_is : (o : Option Machine) (m : Machine) (go : Machine → Exit) (run : Machine → Run) → ((m' : Machine) → go m' ≡ Over (run m')) → exit_after o m go ≡ Over (run_after o m run)
 exit_after_is None m go run h = refl
@@ -36,7 +35,7 @@ exit_after_is (Some m') m go run h = h m'
 
 pub exit_insts_is : (insts : List Inst) (end : Terminator) (tape : List ℕ) (m : Machine) → exit_insts insts end tape m ≡ Over (run_insts insts end tape m)
 unfolding exit_insts run_insts
-exit_insts_is [] end tape m = exit_is_end end m
+exit_insts_is [] end tape m = exit_is_end end tape m
 exit_insts_is (inst ∷ insts) end tape m = exit_after_is (act inst tape m) m (exit_insts insts end tape) (run_insts insts end tape) (λ m'. exit_insts_is insts end tape m')
 
 -- ---- the entry
@@ -81,6 +80,6 @@ pub exit_stops : (insts : List Inst) (end : Terminator) (tape : List ℕ) (m : M
 unfolding exit_insts
 exit_stops insts end tape m i inst below is stops = rw (drop_more insts i inst below, ← is, stops) refl
 
-pub exit_ends : (insts : List Inst) (end : Terminator) (tape : List ℕ) (m : Machine) (i : ℕ) → i ≡ length insts → exit_insts (drop i insts) end tape m ≡ exit_by end m
+pub exit_ends : (insts : List Inst) (end : Terminator) (tape : List ℕ) (m : Machine) (i : ℕ) → i ≡ length insts → exit_insts (drop i insts) end tape m ≡ exit_by end tape m
 unfolding exit_insts
 exit_ends insts end tape m i e = rw (e, drop-length insts) refl
