@@ -1,12 +1,11 @@
 ghost use Rattle.std.specs.Prelude.{◌≡◌, List, length, replicate, IfOk};
-ghost use Rattle.std.specs.Option.{option_map};
-ghost use Rattle.points.specs.Run.{Over, exit_insts, exit_by, returned_value, with_args, first_machine, run_of};
+ghost use Rattle.points.specs.Run.{Over, exit_insts, exit_by, with_args, first_machine, run_of};
 ghost use Rattle.choice_interp.specs.Ran.{run_with};
 
 use crate::ending::Ending;
-use crate::step::{step, value_returned};
+use crate::step::{return_value, step};
 use byte_block::{Memory, Value, copy_memory};
-use ir_tree::{Block, Function, Parameter, Returned, Terminator};
+use ir_tree::{Block, Function, Parameter, Terminator};
 use points::{Bounds, Input, Machine};
 use std::alloc::{AllocError, Global};
 use support::{NoMemory, Sequence};
@@ -73,21 +72,15 @@ fn begin(machine: &mut Machine, f: &Function, input: &Input)
     machine.taken.clear();
 }
 
-fn returned_by(registers: &[Value], returned: Option<Returned>) -> Option<Value>
-    ensures { result ≡ option_map (returned_value registers.now) returned }
-{
-    match returned {
-        Some(returned) => Some(value_returned(registers, returned)),
-        None => None,
-    }
-}
-
-fn leave(machine: &Machine, terminator: Terminator) -> Ending
-    ensures { exit_by terminator machine.now ≡ Over (run_with result machine.now) }
+fn leave(machine: &mut Machine, terminator: Terminator, tape: &[u64]) -> Result<Ending, NoMemory>
+    ensures exit { IfOk result (λ ending. exit_by terminator tape.now machine.old ≡ Over (run_with ending machine.new)) }
+    ensures registers { machine.new.registers ≡ machine.old.registers }
+    ensures memory { machine.new.memory ≡ machine.old.memory }
 {
     match terminator {
         Terminator::Return(returned) => {
-            Ending::Return(returned_by(machine.registers.as_slice(), returned))
+            let value = return_value(machine, returned, tape)?;
+            Ok(Ending::Return(value))
         }
     }
 }
@@ -102,7 +95,8 @@ fn run_block(machine: &mut Machine, block: &Block, tape: &[u64]) -> Result<Endin
             return Ok(Ending::Ub);
         }
     }
-    Ok(leave(machine, block.terminator))
+    let ending = leave(machine, block.terminator, tape)?;
+    Ok(ending)
 }
 
 /// Runs a function on an input and a tape, in a machine for it that has the input's blocks. No

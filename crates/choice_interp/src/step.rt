@@ -1,28 +1,43 @@
-ghost use Rattle.std.specs.Prelude.{◌≡◌, ◌++◌, ◌∷◌, [], ◌<◌, ◌^◌, ◌%◌, ◌-◌, IfOk, IsFalse, Some, None, if◌then◌else◌, length};
-ghost use Rattle.points.specs.Table.{poison_if, is_flagged, number_result, value_result};
-ghost use Rattle.points.specs.Run.{operand_value, cut_value, assigned, choice_of, chosen, act, typed_value, returned_value};
+ghost use Rattle.std.specs.Prelude.{◌≡◌, ◌++◌, ◌∷◌, [], ◌<◌, ◌^◌, ◌%◌, ◌-◌, pos, ◌+ℤ◌, ◌-ℤ◌, IfOk, IsFalse, Some, None, if◌then◌else◌, length};
+ghost use Rattle.tv_num.specs.Width.{signed_of, is_outside_unsigned, is_outside_signed};
+ghost use Rattle.points.specs.Table.{poison_if, is_flagged, number_result, value_result, holds_of, compared};
+ghost use Rattle.points.specs.Run.{operand_value, cut_value, assigned, choice_of, chosen, act, typed_value, returned_value, returns, undef_width, returned_with, returned_run};
 
 use byte_block::Value;
-use ir_tree::{Flags, Inst, IrType, Op, Operand, Returned};
+use ir_tree::{Flags, Inst, IrType, Op, Operand, Predicate, Returned};
 use points::Machine;
 use support::NoMemory;
-use tv_num::{Width, add_over, sub_over, wrap};
+use tv_num::{Width, add_over, signed, sub_over, wrap};
 
 /// The number modulo 2^width.
 pub fn low_bits(n: u64, width: Width) -> u64
     ensures { result ≡ n % 2 ^ width.bits }
 {
-    if width.bits() == 64 {
-        n
-    } else {
-        n % (1 << width.bits())
-    }
+    n & width.mask()
 }
 
 fn has_flag(flags: Flags, over: (bool, bool)) -> bool
     ensures { result ≡ is_flagged flags over.0 over.1 }
 {
     (flags.nuw && over.0) || (flags.nsw && over.1)
+}
+
+/// Whether a flag forbids the sum. An addition without flags computes no exact sum.
+fn is_sum_flagged(flags: Flags, width: Width, a: u64, b: u64) -> bool
+    requires left { a < 2 ^ width.bits }
+    requires right { b < 2 ^ width.bits }
+    ensures { result ≡ is_flagged flags (is_outside_unsigned width.bits (pos a +ℤ pos b)) (is_outside_signed width.bits (signed_of width.bits a +ℤ signed_of width.bits b)) }
+{
+    (flags.nuw || flags.nsw) && has_flag(flags, add_over(a, b, width))
+}
+
+/// Whether a flag forbids the difference. A subtraction without flags computes no exact difference.
+fn is_difference_flagged(flags: Flags, width: Width, a: u64, b: u64) -> bool
+    requires left { a < 2 ^ width.bits }
+    requires right { b < 2 ^ width.bits }
+    ensures { result ≡ is_flagged flags (is_outside_unsigned width.bits (pos a -ℤ pos b)) (is_outside_signed width.bits (signed_of width.bits a -ℤ signed_of width.bits b)) }
+{
+    (flags.nuw || flags.nsw) && has_flag(flags, sub_over(a, b, width))
 }
 
 fn unless(is_poison: bool, number: u64) -> Value
@@ -43,12 +58,12 @@ fn on_numbers(op: Op, width: Width, a: u64, b: u64) -> Option<Value>
 {
     Some(match op {
         Op::Add(flags) => unless(
-            has_flag(flags, add_over(a, b, width)),
+            is_sum_flagged(flags, width, a, b),
             wrap(a as u128 + b as u128, width),
         ),
         Op::Sub(flags) => {
             let wrapped = wrap(a as u128 + (width.end() - b as u128), width);
-            unless(has_flag(flags, sub_over(a, b, width)), wrapped)
+            unless(is_difference_flagged(flags, width, a, b), wrapped)
         }
         Op::UnsignedDiv { exact } => {
             if b == 0 {
@@ -78,13 +93,46 @@ fn on_values(op: Op, width: Width, left: Value, right: Value) -> Option<Value>
     }
 }
 
+/// Whether numbers of the width compare so (LLVM Language Reference, "icmp Instruction").
+fn compare(predicate: Predicate, width: Width, a: u64, b: u64) -> bool
+    requires left { a < 2 ^ width.bits }
+    requires right { b < 2 ^ width.bits }
+    ensures { result ≡ holds_of predicate width.bits a b }
+{
+    match predicate {
+        Predicate::Equal => a == b,
+        Predicate::NotEqual => a != b,
+        Predicate::UnsignedGreater => a > b,
+        Predicate::UnsignedGreaterOrEqual => a >= b,
+        Predicate::UnsignedLess => a < b,
+        Predicate::UnsignedLessOrEqual => a <= b,
+        Predicate::SignedGreater => signed(a, width) > signed(b, width),
+        Predicate::SignedGreaterOrEqual => signed(a, width) >= signed(b, width),
+        Predicate::SignedLess => signed(a, width) < signed(b, width),
+        Predicate::SignedLessOrEqual => signed(a, width) <= signed(b, width),
+    }
+}
+
+/// The result of a comparison: 1 or 0, and poison where an operand is.
+fn compare_values(predicate: Predicate, width: Width, left: Value, right: Value) -> Value
+    ensures { result ≡ compared predicate width.bits left right }
+{
+    match (left, right) {
+        (Value::Num(a), Value::Num(b)) => {
+            let holds = compare(predicate, width, low_bits(a, width), low_bits(b, width));
+            Value::Num(holds as u64)
+        }
+        _ => Value::Poison,
+    }
+}
+
 fn value_of(registers: &[Value], operand: Operand) -> Value
     ensures { result ≡ operand_value registers.now operand }
 {
     match operand {
         Operand::Local(name) => registers.get(name).copied().unwrap_or(Value::Poison),
         Operand::Number(n) => Value::Num(n),
-        Operand::Poison => Value::Poison,
+        Operand::Poison | Operand::Undef => Value::Poison,
     }
 }
 
@@ -97,17 +145,6 @@ fn cut(value: Value, width: Width) -> Value
     }
 }
 
-/// What a `ret` with an operand returns.
-pub fn value_returned(registers: &[Value], returned: Returned) -> Value
-    ensures { result ≡ returned_value registers.now returned }
-{
-    let value = value_of(registers, returned.operand);
-    match returned.of_type {
-        IrType::Int(width) => cut(value, width),
-        IrType::Ptr => value,
-    }
-}
-
 /// Gives a name its value. A name that the machine has no register for is left out.
 pub fn assign(machine: &mut Machine, name: usize, value: Value)
     ensures { machine.new ≡ assigned machine.old name value }
@@ -117,17 +154,65 @@ pub fn assign(machine: &mut Machine, name: usize, value: Value)
     }
 }
 
-/// Gives a name the tape's next word, cut to the width.
-fn choose(machine: &mut Machine, tape: &[u64], name: usize, width: Width) -> Result<(), NoMemory>
-    ensures value { IfOk result (λ _. machine.new ≡ chosen machine.old name (choice_of tape.now machine.old width.bits)) }
-    ensures registers { length machine.new.registers ≡ length machine.old.registers }
+/// Takes the tape's next word, cut to the width; past the tape's end it is 0.
+fn choose(machine: &mut Machine, tape: &[u64], width: Width) -> Result<u64, NoMemory>
+    ensures value { IfOk result (λ choice. choice ≡ choice_of tape.now machine.old width.bits) }
+    ensures taken { IfOk result (λ choice. machine.new ≡ record machine.old { taken = machine.old.taken ++ choice ∷ [] }) }
+    ensures registers { machine.new.registers ≡ machine.old.registers }
     ensures memory { machine.new.memory ≡ machine.old.memory }
 {
     let word = tape.get(machine.taken.len()).copied().unwrap_or(0);
     let choice = low_bits(word, width);
     machine.taken.push(choice)?;
-    assign(machine, name, Value::Num(choice));
-    Ok(())
+    Ok(choice)
+}
+
+fn value_returned(registers: &[Value], returned: Returned) -> Value
+    ensures { result ≡ returned_value registers.now returned }
+{
+    let value = value_of(registers, returned.operand);
+    match returned.of_type {
+        IrType::Int(width) => cut(value, width),
+        IrType::Ptr => value,
+    }
+}
+
+/// What a `ret` with an operand returns. Undef is a choice, which is then taken.
+fn return_operand(
+    machine: &mut Machine,
+    returned: Returned,
+    tape: &[u64],
+) -> Result<Value, NoMemory>
+    ensures value { IfOk result (λ value. returned_with (undef_width returned.of_type returned.operand) returned tape.now machine.old ≡ returns (Some value) machine.new) }
+    ensures registers { machine.new.registers ≡ machine.old.registers }
+    ensures memory { machine.new.memory ≡ machine.old.memory }
+{
+    match (returned.of_type, returned.operand) {
+        (IrType::Int(width), Operand::Undef) => {
+            let choice = choose(machine, tape, width)?;
+            Ok(Value::Num(choice))
+        }
+        _ => Ok(value_returned(machine.registers.as_slice(), returned)),
+    }
+}
+
+/// What a `ret` returns, if it has an operand.
+pub fn return_value(
+    machine: &mut Machine,
+    returned: Option<Returned>,
+    tape: &[u64],
+) -> Result<Option<Value>, NoMemory>
+    ensures value { IfOk result (λ value. returned_run returned tape.now machine.old ≡ returns value machine.new) }
+    ensures registers { machine.new.registers ≡ machine.old.registers }
+    ensures memory { machine.new.memory ≡ machine.old.memory }
+{
+    match returned {
+        Some(returned) => {
+            let value = return_operand(machine, returned, tape)?;
+            Ok(Some(value))
+        }
+        None => Ok(None),
+    }
 }
 
 /// One instruction; false is undefined behaviour, and the machine is then as before.
@@ -155,13 +240,28 @@ pub fn step(machine: &mut Machine, inst: Inst, tape: &[u64]) -> Result<bool, NoM
                 None => Ok(false),
             }
         }
+        Inst::Icmp {
+            into,
+            predicate,
+            width,
+            left,
+            right,
+        } => {
+            let left = value_of(machine.registers.as_slice(), left);
+            let right = value_of(machine.registers.as_slice(), right);
+            assign(machine, into, compare_values(predicate, width, left, right));
+            Ok(true)
+        }
         Inst::Freeze {
             into,
             width,
             operand,
         } => {
             match value_of(machine.registers.as_slice(), operand) {
-                Value::Poison => choose(machine, tape, into, width)?,
+                Value::Poison => {
+                    let choice = choose(machine, tape, width)?;
+                    assign(machine, into, Value::Num(choice));
+                }
                 value => assign(machine, into, cut(value, width)),
             }
             Ok(true)

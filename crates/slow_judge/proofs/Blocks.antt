@@ -2,7 +2,8 @@
 use Rattle.std.proofs.Common.{◌≡◌, ℕ, ◌+◌, ◌≤◌, List, [], ◌∷◌, ◌++◌, length, Option, Some, None, refl, sym, ap, ◌∙◌, arith, length-append}
 use Rattle.std.specs.Option.{option_map}
 use Rattle.ir_tree.specs.declared.tree.Inst.{Inst}
-use Rattle.ir_tree.specs.declared.tree.Inst.TheVariants.{Binary, Freeze}
+use Rattle.ir_tree.specs.declared.tree.Inst.TheVariants.{Binary, Icmp, Freeze}
+use Rattle.ir_tree.specs.declared.tree.Returned.{Returned}
 use Rattle.ir_tree.specs.declared.tree.Block.{Block}
 use Rattle.ir_tree.specs.declared.tree.Function.{Function}
 use Rattle.ir_tree.specs.declared.tree.Terminator.{Terminator}
@@ -21,7 +22,7 @@ use Rattle.points.specs.Pair.{Functions}
 use Rattle.points.specs.Refines.{is_refined}
 use Rattle.points.specs.Code.{number_of, args_code, blocks_code, BlocksFit}
 use Rattle.points.specs.Table.{value_result}
-use Rattle.points.specs.Run.{Run, act, assigned, frozen, operand_value, first_machine, run_of, IsPlain}
+use Rattle.points.specs.Run.{Run, act, assigned, frozen, operand_value, undef_width, returned_with, first_machine, run_of, IsPlain}
 use Rattle.points.specs.Tapes.{need_of}
 use Rattle.points.specs.Covers.{covers, some_covers, shifted, is_covered}
 use Rattle.points.specs.Trail.{IsPoint, place_in, IsLeastUncovered, AreAllCovered}
@@ -67,10 +68,16 @@ frozen_placed memory tape m into width (value.Ptr p) = refl
 
 act_placed : (memory : List MemoryBlock) (inst : Inst) (tape : List ℕ) (m : Machine) → act inst tape (placed memory m) ≡ option_map (placed memory) (act inst tape m)
 act_placed memory (Binary into op width left right) tape m = assigned_placed memory m into (value_result op width.bits (operand_value m.registers left) (operand_value m.registers right))
+act_placed memory (Icmp into predicate width left right) tape m = refl
 act_placed memory (Freeze into width operand) tape m = ap Some (frozen_placed memory tape m into width.bits (operand_value m.registers operand))
 
-end_placed : (memory : List MemoryBlock) (end : Terminator) (m : Machine) → run_end end (placed memory m) ≡ rerun memory (run_end end m)
-end_placed memory (terminator.Return returned) m = refl
+returned_placed : (memory : List MemoryBlock) (o : Option ℕ) (r : Returned) (tape : List ℕ) (m : Machine) → returned_with o r tape (placed memory m) ≡ rerun memory (returned_with o r tape m)
+returned_placed memory None r tape m = refl
+returned_placed memory (Some width) r tape m = refl
+
+end_placed : (memory : List MemoryBlock) (end : Terminator) (tape : List ℕ) (m : Machine) → run_end end tape (placed memory m) ≡ rerun memory (run_end end tape m)
+end_placed memory (terminator.Return None) tape m = refl
+end_placed memory (terminator.Return (Some r)) tape m = returned_placed memory (undef_width r.of_type r.operand) r tape m
 
 after_placed : (memory : List MemoryBlock) (o : Option Machine) (m : Machine) (go : Machine → Run) → ((m' : Machine) → go (placed memory m') ≡ rerun memory (go m')) → run_after (option_map (placed memory) o) (placed memory m) go ≡ rerun memory (run_after o m go)
 after_placed memory None m go h = refl
@@ -78,7 +85,7 @@ after_placed memory (Some m') m go h = h m'
 
 insts_placed : (memory : List MemoryBlock) (insts : List Inst) (end : Terminator) (tape : List ℕ) (m : Machine) → run_insts insts end tape (placed memory m) ≡ rerun memory (run_insts insts end tape m)
 unfolding run_insts
-insts_placed memory [] end tape m = end_placed memory end m
+insts_placed memory [] end tape m = end_placed memory end tape m
 insts_placed memory (inst ∷ insts) end tape m =
     ap (λ (o : Option Machine). run_after o (placed memory m) (run_insts insts end tape)) (act_placed memory inst tape m)
     ∙ after_placed memory (act inst tape m) m (run_insts insts end tape) (λ m'. insts_placed memory insts end tape m')

@@ -1,5 +1,5 @@
 -- Sizes of a function within the limits.
-use Rattle.std.proofs.Common.{◌≡◌, ℕ, suc, ◌+◌, ◌*◌, ◌^◌, ◌<◌, ◌≤◌, max, List, [], ◌∷◌, length, drop, get_or, sum_by, refl, ap, ◌∙◌, arith, length-append}
+use Rattle.std.proofs.Common.{◌≡◌, ℕ, suc, Option, Some, None, ◌+◌, ◌*◌, ◌^◌, ◌<◌, ◌≤◌, max, List, [], ◌∷◌, length, drop, get_or, sum_by, refl, ap, ◌∙◌, arith, length-append}
 use Rattle.std.specs.List.{flat_map}
 use Rattle.std.proofs.lemmas.List.{drop_more}
 use Rattle.std.proofs.lemmas.List.Sums.{sum_by-cons}
@@ -11,14 +11,15 @@ use Rattle.ir_tree.specs.declared.tree.IrType.{IrType}
 use Rattle.ir_tree.specs.declared.tree.IrType.TheVariants as type
 use Rattle.ir_tree.specs.declared.tree.Op.TheVariants.{Add, Sub, UnsignedDiv, And, Xor, Or}
 use Rattle.ir_tree.specs.declared.tree.Inst.{Inst}
-use Rattle.ir_tree.specs.declared.tree.Inst.TheVariants.{Binary, Freeze}
+use Rattle.ir_tree.specs.declared.tree.Inst.TheVariants.{Binary, Icmp, Freeze}
 use Rattle.ir_tree.specs.declared.tree.Terminator.{Terminator}
 use Rattle.ir_tree.specs.declared.tree.Terminator.TheVariants as terminator
 use Rattle.ir_tree.specs.declared.tree.Block.{Block}
 use Rattle.ir_tree.specs.declared.tree.Function.{Function}
 use Rattle.ir_tree.specs.declared.tree.Parameter.{Parameter}
 use Rattle.ir_tree.specs.Limits.{IsWithinLimits}
-use Rattle.points.specs.Tapes.{inst_widths, end_widths, block_widths, choice_widths, need_of, widest}
+use Rattle.points.specs.Run.{undef_width}
+use Rattle.points.specs.Tapes.{inst_widths, widths_of, end_widths, block_widths, choice_widths, need_of, widest}
 use Rattle.points.specs.Weight.{inst_cost, end_cost, block_cost, cost_of, type_bits, parameter_bits}
 use Rattle.points.proofs.Plain.{widest-append}
 
@@ -55,6 +56,7 @@ sum_end f xs i e = rw (e, drop-length xs) refl
 
 pub one_word : (inst : Inst) → length (inst_widths inst) ≤ 1
 one_word (Binary into op width left right) = omega arith
+one_word (Icmp into predicate width left right) = omega arith
 one_word (Freeze into width operand) = omega arith
 
 square : (w : Width) → w.bits * w.bits ≤ 4096
@@ -70,10 +72,16 @@ small_cost (Binary into (Sub flags) width left right) = plain_cost width
 small_cost (Binary into And width left right) = plain_cost width
 small_cost (Binary into Xor width left right) = plain_cost width
 small_cost (Binary into Or width left right) = plain_cost width
+small_cost (Icmp into predicate width left right) = plain_cost width
 small_cost (Freeze into width operand) = plain_cost width
 
-no_end_words : (end : Terminator) → length (end_widths end) ≡ 0
-no_end_words (terminator.Return returned) = refl
+one_choice : (o : Option ℕ) → length (widths_of o) ≤ 1
+one_choice None = omega arith
+one_choice (Some width) = omega arith
+
+one_end_word : (end : Terminator) → length (end_widths end) ≤ 1
+one_end_word (terminator.Return None) = omega arith
+one_end_word (terminator.Return (Some r)) = one_choice (undef_width r.of_type r.operand)
 
 small_end : (end : Terminator) → end_cost end ≤ 1
 small_end (terminator.Return returned) = omega arith
@@ -96,7 +104,7 @@ pub few_block_words : (b : Block) → block_words b ≤ size_of b
 few_block_words b =
     let insts = sum_within words_of b.insts 1 one_word in
     let is = block_words_is b in
-    let end = no_end_words b.terminator in
+    let end = one_end_word b.terminator in
     omega (arith, insts, is, end)
 
 pub small_block_cost : (b : Block) → block_cost b ≤ 4096 * size_of b
@@ -156,15 +164,8 @@ pub widest_end : {A : Type 0} (f : A → List ℕ) (xs : List A) (i : ℕ) → i
 unfolding widest
 widest_end f xs i e = rw (e, drop-length xs) refl
 
-no_end : (end : Terminator) → end_widths end ≡ []
-no_end (terminator.Return returned) = refl
-
-max_one : (insts : List Inst) (end : Terminator) → end_widths end ≡ [] → max (widest (flat_map inst_widths insts)) (widest (end_widths end)) ≡ widest (flat_map inst_widths insts)
-unfolding widest
-max_one insts end e = let low = widest_positive (flat_map inst_widths insts) in let w = ap widest e in omega (arith, low, w)
-
-pub widest_block : (b : Block) → widest (block_widths b) ≡ widest (flat_map inst_widths b.insts)
-widest_block b = widest-append (flat_map inst_widths b.insts) (end_widths b.terminator) ∙ max_one b.insts b.terminator (no_end b.terminator)
+pub widest_block : (b : Block) → widest (block_widths b) ≡ max (widest (flat_map inst_widths b.insts)) (widest (end_widths b.terminator))
+widest_block b = widest-append (flat_map inst_widths b.insts) (end_widths b.terminator)
 
 -- ---- room for the next part of a sum
 

@@ -1,10 +1,12 @@
 ghost use Rattle.std.specs.Prelude.{◌≡◌, ◌↔◌, ◌<◌, ◌≤◌, ◌^◌, ◌+◌, ◌*◌, sum_by, max, length, IsTrue};
+ghost use Rattle.std.specs.Option.{option_map};
 ghost use Rattle.ir_tree.specs.Limits.{IsWithinLimits};
-ghost use Rattle.points.specs.Tapes.{inst_widths, end_widths, block_widths, choice_widths, need_of, widest, widest_choice};
+ghost use Rattle.points.specs.Run.{undef_width};
+ghost use Rattle.points.specs.Tapes.{inst_widths, widths_of, end_widths, block_widths, choice_widths, need_of, widest, widest_choice};
 ghost use Rattle.points.specs.Weight.{inst_cost, end_cost, block_cost, cost_of, weight_of, type_bits, parameter_bits, tape_bits, bits_of, IsTooLarge};
 ghost use Rattle.slow_judge.specs.Search.{AreSmall};
 
-use ir_tree::{Block, Function, Inst, IrType, Op, Parameter, Terminator};
+use ir_tree::{Block, Function, Inst, IrType, Op, Operand, Parameter, Returned, Terminator};
 use points::{Bounds, Budget, Pair};
 use tv_num::Width;
 
@@ -12,7 +14,7 @@ fn words(inst: Inst) -> usize
     ensures { result ≡ length (inst_widths inst) }
 {
     match inst {
-        Inst::Binary { .. } => 0,
+        Inst::Binary { .. } | Inst::Icmp { .. } => 0,
         Inst::Freeze { .. } => 1,
     }
 }
@@ -33,7 +35,9 @@ fn cost(inst: Inst) -> u64
             width,
             ..
         } => width.bits() as u64 * width.bits() as u64,
-        Inst::Binary { width, .. } | Inst::Freeze { width, .. } => width.bits() as u64,
+        Inst::Binary { width, .. } | Inst::Icmp { width, .. } | Inst::Freeze { width, .. } => {
+            width.bits() as u64
+        }
     }
 }
 
@@ -44,11 +48,33 @@ fn costs(insts: &[Inst]) -> u64
     insts.iter().map(|inst| cost(*inst)).sum()
 }
 
-fn end_words(terminator: Terminator) -> usize
-    ensures { result ≡ length (end_widths terminator) }
+/// The width of the choice that a `ret` is, if it is one.
+fn returned_choice(returned: Returned) -> Option<Width>
+    ensures { option_map (λ (w : Width). w.bits) result ≡ undef_width returned.of_type returned.operand }
+{
+    match (returned.of_type, returned.operand) {
+        (IrType::Int(width), Operand::Undef) => Some(width),
+        _ => None,
+    }
+}
+
+/// The width of the choice that a block ends in, if it ends in one.
+fn end_choice(terminator: Terminator) -> Option<Width>
+    ensures { widths_of (option_map (λ (w : Width). w.bits) result) ≡ end_widths terminator }
 {
     match terminator {
-        Terminator::Return(_) => 0,
+        Terminator::Return(Some(returned)) => returned_choice(returned),
+        Terminator::Return(None) => None,
+    }
+}
+
+fn end_words(terminator: Terminator) -> usize
+    ensures value { result ≡ length (end_widths terminator) }
+    ensures most { result ≤ 1 }
+{
+    match end_choice(terminator) {
+        Some(_) => 1,
+        None => 0,
     }
 }
 
@@ -67,7 +93,17 @@ fn wider(width: Width, inst: Inst) -> Width
 {
     match inst {
         Inst::Freeze { width: choice, .. } if width.bits() < choice.bits() => choice,
-        Inst::Freeze { .. } | Inst::Binary { .. } => width,
+        Inst::Freeze { .. } | Inst::Binary { .. } | Inst::Icmp { .. } => width,
+    }
+}
+
+#[tactic(auto, unfolding(points::specs::Tapes::widest))]
+fn wider_end(width: Width, terminator: Terminator) -> Width
+    ensures { result.bits ≡ max width.bits (widest (end_widths terminator)) }
+{
+    match end_choice(terminator) {
+        Some(choice) if width.bits() < choice.bits() => choice,
+        Some(_) | None => width,
     }
 }
 
@@ -126,7 +162,7 @@ fn widest_in_block(best: Width, block: &Block) -> Width
     for inst in block.insts.as_slice() {
         best = wider(best, *inst);
     }
-    best
+    wider_end(best, block.terminator)
 }
 
 /// The width of a function's widest choice, and 1 where there is none.

@@ -32,4 +32,4 @@ pub returns-clause-exit : goal.returns-clause-exit
 returns-clause-exit c =
     let insts = c.args.block.now.insts in
     let end : c.loop-inst.inst-index ≡ length insts = rw (← c.loop-inst.invariant.insts) (omega arith) in
-    sym c.loop-inst.invariant.rest ∙ exit_ends insts c.args.block.now.terminator c.args.tape.now c.loop-inst.machine c.loop-inst.inst-index end ∙ c.leave.ensures
+    sym c.loop-inst.invariant.rest ∙ exit_ends insts c.args.block.now.terminator c.args.tape.now c.loop-inst.machine c.loop-inst.inst-index end ∙ c.in_ok-ending.ensures.exit
