@@ -2,7 +2,7 @@ ghost use Rattle.std.specs.Prelude.{◌≡◌, ◌↔◌, ◌<◌, ◌≤◌, �
 ghost use Rattle.std.specs.Option.{option_map};
 ghost use Rattle.ir_tree.specs.Limits.{IsWithinLimits};
 ghost use Rattle.points.specs.Run.{undef_width};
-ghost use Rattle.points.specs.Tapes.{inst_widths, widths_of, end_widths, block_widths, choice_widths, need_of, widest, widest_choice};
+ghost use Rattle.points.specs.Tapes.{inst_widths, widths_of, returned_widths, end_widths, block_widths, choice_widths, need_of, widest, widest_choice};
 ghost use Rattle.points.specs.Weight.{inst_cost, end_cost, block_cost, cost_of, weight_of, type_bits, parameter_bits, tape_bits, bits_of, IsTooLarge};
 ghost use Rattle.slow_judge.specs.Search.{AreSmall};
 
@@ -48,8 +48,8 @@ fn costs(insts: &[Inst]) -> u64
     insts.iter().map(|inst| cost(*inst)).sum()
 }
 
-/// The width of the choice that a `ret` is, if it is one.
-fn returned_choice(returned: Returned) -> Option<Width>
+/// The width of the choice that an operand of a `ret` is, if it is one.
+fn operand_choice(returned: Returned) -> Option<Width>
     ensures { option_map (λ (w : Width). w.bits) result ≡ undef_width returned.of_type returned.operand }
 {
     match (returned.of_type, returned.operand) {
@@ -58,13 +58,21 @@ fn returned_choice(returned: Returned) -> Option<Width>
     }
 }
 
+fn returned_choice(returned: Option<Returned>) -> Option<Width>
+    ensures { widths_of (option_map (λ (w : Width). w.bits) result) ≡ returned_widths returned }
+{
+    match returned {
+        Some(returned) => operand_choice(returned),
+        None => None,
+    }
+}
+
 /// The width of the choice that a block ends in, if it ends in one.
 fn end_choice(terminator: Terminator) -> Option<Width>
     ensures { widths_of (option_map (λ (w : Width). w.bits) result) ≡ end_widths terminator }
 {
     match terminator {
-        Terminator::Return(Some(returned)) => returned_choice(returned),
-        Terminator::Return(None) => None,
+        Terminator::Return(returned) => returned_choice(returned),
     }
 }
 

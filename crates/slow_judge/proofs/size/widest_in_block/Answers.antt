@@ -17,4 +17,5 @@ returns c =
     let end : c.loop-inst.inst-index ≡ length insts = rw (← c.loop-inst.invariant.insts) (omega arith) in
     let one = widest_end inst_widths insts c.loop-inst.inst-index end in
     let is = widest_block c.args.block.now in
-    omega (arith, one, is, c.loop-inst.invariant.rest, c.loop-inst.best.at_least_1)
+    let wider = c.wider_end.ensures in
+    omega (arith, one, is, wider, c.loop-inst.invariant.rest, c.loop-inst.best.at_least_1)
