@@ -188,10 +188,7 @@ fn return_operand(
     ensures memory { machine.new.memory ≡ machine.old.memory }
 {
     match (returned.of_type, returned.operand) {
-        (IrType::Int(width), Operand::Undef) => {
-            let choice = choose(machine, tape, width)?;
-            Ok(Value::Num(choice))
-        }
+        (IrType::Int(width), Operand::Undef) => Ok(Value::Num(choose(machine, tape, width)?)),
         _ => Ok(value_returned(machine.registers.as_slice(), returned)),
     }
 }
