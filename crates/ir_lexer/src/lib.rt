@@ -44,6 +44,13 @@ mod tests {
         assert!(rt; has_token(alloc, text, 6, Kind::Global, "@a.b"));
         assert!(rt; has_token(alloc, text, 7, Kind::Mark, "..."));
         assert!(rt; has_token(alloc, "%5a", 1, Kind::Word, "a"));
+        assert!(rt; has_token(alloc, "add:", 0, Kind::Label, "add:"));
+        assert!(rt; has_token(alloc, "-5:", 0, Kind::Label, "-5:"));
+        assert!(rt; has_token(alloc, "5$.x_-:", 0, Kind::Label, "5$.x_-:"));
+        assert!(rt; has_token(alloc, "a:b", 1, Kind::Word, "b"));
+        assert!(rt; has_token(alloc, "a :", 0, Kind::Word, "a"));
+        assert!(rt; has_token(alloc, "a::", 1, Kind::Mark, ":"));
+        assert!(rt; has_token(alloc, "%a:", 1, Kind::Mark, ":"));
         assert_eq!(rt; fault(alloc, "a ?"), Some(LexFault::NoToken { at: 2 }));
         assert_eq!(rt; fault(alloc, "% a"), Some(LexFault::NoToken { at: 0 }));
         Ok(())

@@ -2,7 +2,7 @@
 ghost use Rattle.std.specs.Prelude.{◌≡◌, ◌≤◌, ℕ, length, take_while, Option, Bool, false, ◌<◌, ◌^◌, IfSome};
 ghost use Rattle.ir_lexer.specs.Bytes.{is_digit, is_letter, begins_word, is_name_byte, is_blank, is_mark};
 ghost use Rattle.ir_lexer.specs.Spelling.{word_kind};
-ghost use Rattle.ir_lexer.specs.Scan.{front_token, front_word, name_front, signed};
+ghost use Rattle.ir_lexer.specs.Scan.{begins_colon, front_token, front_word, label_front, name_front, plain_token, signed};
 ghost use Rattle.ir_lexer.specs.Tokens.{behind_blanks, longest_token};
 
 use crate::token::Kind;
@@ -96,6 +96,28 @@ fn name_len(bytes: &[u8]) -> usize
     }
 }
 
+fn begins_colon(bytes: &[u8]) -> bool
+    ensures { result ≡ begins_colon bytes.now }
+{
+    match bytes {
+        [first, ..] => *first == b':',
+        [] => false,
+    }
+}
+
+// The length of the label at the front, if there is one.
+fn label_len(bytes: &[u8]) -> Option<usize>
+    ensures { result ≡ label_front bytes.now }
+{
+    let name = name_bytes_len(bytes);
+    let (_, behind) = bytes.split_at(name);
+    if 0 < name && begins_colon(behind) {
+        Some(name + 1)
+    } else {
+        None
+    }
+}
+
 // A token of a sign and this many bytes, at least one.
 fn signed_token(kind: Kind, len: usize) -> Option<(Kind, usize)>
     requires { len < 2 ^ 63 }
@@ -127,9 +149,10 @@ fn word_token(bytes: &[u8], more: usize) -> (Kind, usize)
     (kind_of_word(word), more + 1)
 }
 
-#[tactic(auto, unfolding(crate::specs::Scan::front_token))]
-fn scanned(bytes: &[u8]) -> Option<(Kind, usize)>
-    ensures { result ≡ front_token bytes.now }
+// The token at the front where no label stands there.
+#[tactic(auto, unfolding(crate::specs::Scan::plain_token))]
+fn plain_token(bytes: &[u8]) -> Option<(Kind, usize)>
+    ensures { result ≡ plain_token bytes.now }
 {
     let [first, rest @ ..] = bytes else {
         return None;
@@ -149,6 +172,15 @@ fn scanned(bytes: &[u8]) -> Option<(Kind, usize)>
         Some((Kind::Mark, 1))
     } else {
         None
+    }
+}
+
+fn scanned(bytes: &[u8]) -> Option<(Kind, usize)>
+    ensures { result ≡ front_token bytes.now }
+{
+    match label_len(bytes) {
+        Some(len) => Some((Kind::Label, len)),
+        None => plain_token(bytes),
     }
 }
 

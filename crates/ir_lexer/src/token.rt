@@ -13,6 +13,8 @@ pub enum Kind {
     Local,
     /// `@` and a name.
     Global,
+    /// Letters, digits, `-`, `$`, `.` or `_`, one at least, and directly behind them `:`.
+    Label,
     /// A mark of one byte, or `...`.
     Mark,
 }

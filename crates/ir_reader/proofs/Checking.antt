@@ -13,7 +13,11 @@ use Rattle.ir_tree.specs.declared.tree.Operand.{Operand}
 use Rattle.ir_tree.specs.declared.tree.Operand.TheVariants as operand
 use Rattle.ir_tree.specs.declared.tree.Op.{Op}
 use Rattle.ir_tree.specs.declared.tree.Inst.{Inst}
-use Rattle.ir_tree.specs.declared.tree.Inst.TheVariants.{Binary}
+use Rattle.ir_tree.specs.declared.tree.Inst.TheVariants.{Binary, Icmp, Freeze}
+use Rattle.ir_tree.specs.declared.tree.Predicate.{Predicate}
+use Rattle.ir_tree.specs.declared.tree.Returned.{Returned}
+use Rattle.ir_tree.specs.declared.tree.Terminator.TheVariants.{Return}
+use Rattle.ir_tree.specs.Types.{one_bit}
 use Rattle.ir_tree.specs.declared.tree.Parameter.{Parameter}
 use Rattle.ir_tree.specs.declared.tree.Block.{Block}
 use Rattle.ir_tree.specs.declared.tree.Function.{Function}
@@ -23,11 +27,11 @@ use Rattle.ir_reader.specs.declared.written.WrittenOperand.{WrittenOperand}
 use Rattle.ir_reader.specs.declared.written.WrittenOperand.TheVariants as written
 use Rattle.ir_reader.specs.declared.written.WrittenParameter.{WrittenParameter}
 use Rattle.ir_reader.specs.declared.written.WrittenInst.{WrittenInst}
+use Rattle.ir_reader.specs.declared.written.WrittenInst.TheVariants as inst
 use Rattle.ir_reader.specs.declared.written.WrittenReturn.{WrittenReturn}
 use Rattle.ir_reader.specs.declared.written.WrittenFunction.{WrittenFunction}
-use Rattle.ir_reader.specs.EntryName.{entry_name}
-use Rattle.ir_reader.specs.Numbering.{operand_names, inst_names, parameter_names, mentions, gathered, numbered_operand, numbered_inst, numbered_parameter, numbered_block, numbered}
-use Rattle.ir_reader.specs.Checking.{Table, no_names, defined, if_same, typed_number, value_number, local_at, operand_in, ◌>>=◌, parameter_in, inst_in, each_in, head_in, block_of, blocks_in, parts_in, made_of, checked}
+use Rattle.ir_reader.specs.Numbering.{operand_names, inst_names, returned_names, parameter_names, block_name, mentions, gathered, numbered_operand, numbered_inst, numbered_returned, numbered_parameter, numbered_block, type_or_void, numbered}
+use Rattle.ir_reader.specs.Checking.{Table, no_names, defined, if_same, typed_number, value_number, local_at, operand_in, ◌>>=◌, parameter_in, binary_in, icmp_in, freeze_in, inst_in, each_in, head_in, returned_in, block_of, blocks_in, parts_in, made_of, returns_so, checked}
 use Rattle.ir_reader.proofs.NameNumbers.{number-front, number-back, has-less, less-has, number-new, any-front, gathered-front, gathered-known, gathered-new, position-number, number-position}
 use Rattle.ir_reader.proofs.Widths.{same_width}
 
@@ -219,6 +223,12 @@ operand-found : (f : Function) (t : Table) (rest : List Name) (ds : List Definit
 operand-found f t rest ds w (written.Literal number) out S e =
     let same : operand.Number number ≡ out = cc e in
     subst (λ (p : Operand). IsOperand f t w (written.Literal number) p) same (record { numbered_so = refl; there = tt; usable = tt })
+operand-found f t rest ds w written.Poison out S e =
+    let same : operand.Poison ≡ out = cc e in
+    subst (λ (p : Operand). IsOperand f t w written.Poison p) same (record { numbered_so = refl; there = tt; usable = tt })
+operand-found f t rest ds w written.Undef out S e =
+    let same : operand.Undef ≡ out = cc e in
+    subst (λ (p : Operand). IsOperand f t w written.Undef p) same (record { numbered_so = refl; there = tt; usable = tt })
 operand-found f t rest ds w (written.Local x) out S e = go (value_number t w x) refl e
   where
     go : (o : Option ℕ) → value_number t w x ≡ o → local_at o ≡ Some out → IsOperand f t w (written.Local x) out
@@ -230,6 +240,8 @@ operand-found f t rest ds w (written.Local x) out S e = go (value_number t w x) 
 
 operand-again : (f : Function) (t : Table) (rest : List Name) (ds : List Definition) (w : Width) (o : WrittenOperand) → Stands f t rest ds → IsUsable f (length t.types) (Int w) (numbered_operand f.names o) → operand_in t w o ≡ Some (numbered_operand f.names o)
 operand-again f t rest ds w (written.Literal number) S h = refl
+operand-again f t rest ds w written.Poison S h = refl
+operand-again f t rest ds w written.Undef S h = refl
 operand-again f t rest ds w (written.Local x) S h = ap local_at (value-again f t rest ds w x S h)
 
 -- ---- instructions
@@ -260,46 +272,110 @@ record IsInst (f : Function) (t : Table) (i : WrittenInst) (out : Inst) (next : 
   numbered_so : out ≡ numbered_inst f.names i
   usable : AreOperandsUsable f (length t.types) out
 
+some-same : {A : Type 0} (x y : A) → Some x ≡ Some y → x ≡ y
+some-same x y e = cc e
+
+-- the result's name is the next one, and the operands' names are there
+record IsResult (f : Function) (t next : Table) (x : Name) (rest : List Name) (ds : List Definition) : Type 0 where
+  number : number_of f.names x ≡ length t.names
+  step : IsStep f t next rest ds
+
+result-found : (f : Function) (t : Table) (x : Name) (w : Width) (used rest : List Name) (ds : List Definition) (next : Table)
+    → Stands f t (x ∷ (used ++ rest)) (record { name = number_of f.names x; of_type = Some (Int w) } ∷ ds) → AreThere used t.names → defined t x (Some w) ≡ Some next → IsResult f t next x rest ds
+result-found f t x w used rest ds next S there e =
+    let d : Definition = record { name = number_of f.names x; of_type = Some (Int w) } in
+    let F = defined-found t x (Some w) next e in
+    let S1 = define-stands f t x (Some w) (used ++ rest) d ds refl S F.0 in
+    let S2 = stands-there f (with_definition t x (Some w)) used rest ds (there-front used t.names (x ∷ []) there) S1 in
+    subst (λ (q : Table). IsResult f t q x rest ds) F.1
+    (record { number = new_number f t x (used ++ rest) (d ∷ ds) S.gathers F.0; step = record { stands = S2; longer = omega (arith, length-append t.types (Some w ∷ [])) } })
+
+-- and where names are defined once, it may be defined
+record CanDefine (f : Function) (t : Table) (x : Name) (w : Width) : Type 0 where
+  number : number_of f.names x ≡ length t.names
+  defines : defined t x (Some w) ≡ Some (with_definition t x (Some w))
+
+result-again : (f : Function) (t : Table) (x : Name) (w : Width) (rest : List Name) (ds : List Definition)
+    → Stands f t (x ∷ rest) (record { name = number_of f.names x; of_type = Some (Int w) } ∷ ds) → IsDefinedOnce f → CanDefine f t x w
+result-again f t x w rest ds S once =
+    let d : Definition = record { name = number_of f.names x; of_type = Some (Int w) } in
+    let none = is-new f t x (Some w) rest d ds refl S once in
+    record { number = new_number f t x rest (d ∷ ds) S.gathers none; defines = defined-again t x (Some w) none }
+
+abbrev Before : Function → Table → WrittenInst → List Name → List Definition → Type 0
+Before f t i rest ds = Stands f t (inst_names i ++ rest) (result_definition (numbered_inst f.names i) ∷ ds)
+
 binary-same : (m n : ℕ) (op : Op) (w : Width) (a b c d : Operand) → m ≡ n → a ≡ b → c ≡ d → Binary m op w a c ≡ Binary n op w b d
 binary-same m n op w a b c d e f g = cc
 
-inst-found : (f : Function) (t : Table) (i : WrittenInst) (rest : List Name) (ds : List Definition) (out : Inst) (next : Table)
-    → Stands f t (inst_names i ++ rest) (result_definition (numbered_inst f.names i) ∷ ds) → inst_in t i ≡ Some (out, next) → IsInst f t i out next rest ds
-unfolding inst_in
-inst-found f t i rest ds out next S e =
-    let L = then-some (operand_in t i.width i.left) _ (out, next) e in
-    let R = then-some (operand_in t i.width i.right) _ (out, next) L.2 in
-    let D = then-some (defined t i.into (Some i.width)) _ (out, next) R.2 in
-    let left = operand-found f t (inst_names i ++ rest) (result_definition (numbered_inst f.names i) ∷ ds) i.width i.left L.0 S L.1 in
-    let right = operand-found f t (inst_names i ++ rest) (result_definition (numbered_inst f.names i) ∷ ds) i.width i.right R.0 S R.1 in
-    let F = defined-found t i.into (Some i.width) D.0 D.1 in
-    let both : (Binary (length t.names) i.op i.width L.0 R.0, D.0) ≡ (out, next) = some_is _ _ D.2 in
-    let n : number_of f.names i.into ≡ length t.names = new_number f t i.into ((operand_names i.left ++ operand_names i.right) ++ rest) (result_definition (numbered_inst f.names i) ∷ ds) S.gathers F.0 in
-    let made : Binary (length t.names) i.op i.width L.0 R.0 ≡ numbered_inst f.names i = binary-same (length t.names) (number_of f.names i.into) i.op i.width L.0 (numbered_operand f.names i.left) R.0 (numbered_operand f.names i.right) (sym n) left.numbered_so right.numbered_so in
-    let S1 = define-stands f t i.into (Some i.width) ((operand_names i.left ++ operand_names i.right) ++ rest) (result_definition (numbered_inst f.names i)) ds refl S F.0 in
-    let there = there-front (operand_names i.left ++ operand_names i.right) t.names (i.into ∷ []) (there-append (operand_names i.left) (operand_names i.right) t.names left.there right.there) in
-    let S2 = stands-there f (with_definition t i.into (Some i.width)) (operand_names i.left ++ operand_names i.right) rest ds there S1 in
-    subst (λ (p : Inst × Table). IsInst f t i p.0 p.1 rest ds) both
-    (subst (λ (q : Table). IsInst f t i (Binary (length t.names) i.op i.width L.0 R.0) q rest ds) F.1
-    (record { step = record { stands = S2; longer = omega (arith, length-append t.types (Some i.width ∷ [])) }; numbered_so = made; usable = (left.usable, right.usable) }))
-  where
-    some_is : {A : Type 0} (x y : A) → Some x ≡ Some y → x ≡ y
-    some_is x y e' = cc e'
+icmp-same : (m n : ℕ) (p : Predicate) (w : Width) (a b c d : Operand) → m ≡ n → a ≡ b → c ≡ d → Icmp m p w a c ≡ Icmp n p w b d
+icmp-same m n p w a b c d e f g = cc
+
+freeze-same : (m n : ℕ) (w : Width) (a b : Operand) → m ≡ n → a ≡ b → Freeze m w a ≡ Freeze n w b
+freeze-same m n w a b e f = cc
+
+binary-found : (f : Function) (t : Table) (into : Name) (op : Op) (w : Width) (left right : WrittenOperand) (rest : List Name) (ds : List Definition) (out : Inst) (next : Table)
+    → Before f t (inst.Binary into op w left right) rest ds → binary_in t into op w left right ≡ Some (out, next) → IsInst f t (inst.Binary into op w left right) out next rest ds
+unfolding binary_in
+binary-found f t into op w left right rest ds out next S e =
+    let L = then-some (operand_in t w left) _ (out, next) e in
+    let R = then-some (operand_in t w right) _ (out, next) L.2 in
+    let D = then-some (defined t into (Some w)) _ (out, next) R.2 in
+    let l = operand-found f t _ _ w left L.0 S L.1 in
+    let r = operand-found f t _ _ w right R.0 S R.1 in
+    let F = result-found f t into w (operand_names left ++ operand_names right) rest ds D.0 S (there-append (operand_names left) (operand_names right) t.names l.there r.there) D.1 in
+    let made : Binary (length t.names) op w L.0 R.0 ≡ numbered_inst f.names (inst.Binary into op w left right) = binary-same _ _ op w _ _ _ _ (sym F.number) l.numbered_so r.numbered_so in
+    subst (λ (p : Inst × Table). IsInst f t (inst.Binary into op w left right) p.0 p.1 rest ds) (some-same (Binary (length t.names) op w L.0 R.0, D.0) (out, next) D.2)
+    (record { step = F.step; numbered_so = made; usable = (l.usable, r.usable) })
+
+icmp-found : (f : Function) (t : Table) (into : Name) (predicate : Predicate) (w : Width) (left right : WrittenOperand) (rest : List Name) (ds : List Definition) (out : Inst) (next : Table)
+    → Before f t (inst.Icmp into predicate w left right) rest ds → icmp_in t into predicate w left right ≡ Some (out, next) → IsInst f t (inst.Icmp into predicate w left right) out next rest ds
+unfolding icmp_in
+icmp-found f t into predicate w left right rest ds out next S e =
+    let L = then-some (operand_in t w left) _ (out, next) e in
+    let R = then-some (operand_in t w right) _ (out, next) L.2 in
+    let D = then-some (defined t into (Some one_bit)) _ (out, next) R.2 in
+    let l = operand-found f t _ _ w left L.0 S L.1 in
+    let r = operand-found f t _ _ w right R.0 S R.1 in
+    let F = result-found f t into one_bit (operand_names left ++ operand_names right) rest ds D.0 S (there-append (operand_names left) (operand_names right) t.names l.there r.there) D.1 in
+    let made : Icmp (length t.names) predicate w L.0 R.0 ≡ numbered_inst f.names (inst.Icmp into predicate w left right) = icmp-same _ _ predicate w _ _ _ _ (sym F.number) l.numbered_so r.numbered_so in
+    subst (λ (p : Inst × Table). IsInst f t (inst.Icmp into predicate w left right) p.0 p.1 rest ds) (some-same (Icmp (length t.names) predicate w L.0 R.0, D.0) (out, next) D.2)
+    (record { step = F.step; numbered_so = made; usable = (l.usable, r.usable) })
+
+freeze-found : (f : Function) (t : Table) (into : Name) (w : Width) (o : WrittenOperand) (rest : List Name) (ds : List Definition) (out : Inst) (next : Table)
+    → Before f t (inst.Freeze into w o) rest ds → freeze_in t into w o ≡ Some (out, next) → IsInst f t (inst.Freeze into w o) out next rest ds
+unfolding freeze_in
+freeze-found f t into w o rest ds out next S e =
+    let O = then-some (operand_in t w o) _ (out, next) e in
+    let D = then-some (defined t into (Some w)) _ (out, next) O.2 in
+    let l = operand-found f t _ _ w o O.0 S O.1 in
+    let F = result-found f t into w (operand_names o) rest ds D.0 S l.there D.1 in
+    let made : Freeze (length t.names) w O.0 ≡ numbered_inst f.names (inst.Freeze into w o) = freeze-same _ _ w _ _ (sym F.number) l.numbered_so in
+    subst (λ (p : Inst × Table). IsInst f t (inst.Freeze into w o) p.0 p.1 rest ds) (some-same (Freeze (length t.names) w O.0, D.0) (out, next) D.2)
+    (record { step = F.step; numbered_so = made; usable = l.usable })
+
+inst-found : (f : Function) (t : Table) (i : WrittenInst) (rest : List Name) (ds : List Definition) (out : Inst) (next : Table) → Before f t i rest ds → inst_in t i ≡ Some (out, next) → IsInst f t i out next rest ds
+inst-found f t (inst.Binary into op w left right) rest ds out next S e = binary-found f t into op w left right rest ds out next S e
+inst-found f t (inst.Icmp into predicate w left right) rest ds out next S e = icmp-found f t into predicate w left right rest ds out next S e
+inst-found f t (inst.Freeze into w o) rest ds out next S e = freeze-found f t into w o rest ds out next S e
 
 inst-again : (f : Function) (t : Table) (i : WrittenInst) (rest : List Name) (ds : List Definition)
-    → Stands f t (inst_names i ++ rest) (result_definition (numbered_inst f.names i) ∷ ds) → IsDefinedOnce f → AreOperandsUsable f (length t.types) (numbered_inst f.names i)
-    → inst_in t i ≡ Some (numbered_inst f.names i, with_definition t i.into (Some i.width))
-unfolding inst_in
-inst-again f t i rest ds S once h =
-    let rest' : List Name = (operand_names i.left ++ operand_names i.right) ++ rest in
-    let d : Definition = result_definition (numbered_inst f.names i) in
-    let none = is-new f t i.into (Some i.width) rest' d ds refl S once in
-    let n : number_of f.names i.into ≡ length t.names = new_number f t i.into rest' (d ∷ ds) S.gathers none in
-    let left : operand_in t i.width i.left ≡ Some (numbered_operand f.names i.left) = operand-again f t (i.into ∷ rest') (d ∷ ds) i.width i.left S h.0 in
-    let right : operand_in t i.width i.right ≡ Some (numbered_operand f.names i.right) = operand-again f t (i.into ∷ rest') (d ∷ ds) i.width i.right S h.1 in
-    let made : Binary (length t.names) i.op i.width (numbered_operand f.names i.left) (numbered_operand f.names i.right) ≡ numbered_inst f.names i =
-    binary-same (length t.names) (number_of f.names i.into) i.op i.width _ _ _ _ (sym n) refl refl in
-    rw (left, right, defined-again t i.into (Some i.width) none) (ap (λ (j : Inst). Some (j, with_definition t i.into (Some i.width))) made)
+    → Before f t i rest ds → IsDefinedOnce f → AreOperandsUsable f (length t.types) (numbered_inst f.names i) → (next : Table) × (inst_in t i ≡ Some (numbered_inst f.names i, next))
+unfolding binary_in icmp_in freeze_in
+inst-again f t (inst.Binary into op w left right) rest ds S once h =
+    let C = result-again f t into w _ ds S once in
+    let l = operand-again f t _ _ w left S h.0 in
+    let r = operand-again f t _ _ w right S h.1 in
+    (with_definition t into (Some w), rw (l, r, C.defines, C.number) refl)
+inst-again f t (inst.Icmp into predicate w left right) rest ds S once h =
+    let C = result-again f t into one_bit _ ds S once in
+    let l = operand-again f t _ _ w left S h.0 in
+    let r = operand-again f t _ _ w right S h.1 in
+    (with_definition t into (Some one_bit), rw (l, r, C.defines, C.number) refl)
+inst-again f t (inst.Freeze into w o) rest ds S once h =
+    let C = result-again f t into w _ ds S once in
+    let l = operand-again f t _ _ w o S h in
+    (with_definition t into (Some w), rw (l, C.defines, C.number) refl)
 
 -- ---- parameters
 
@@ -427,11 +503,10 @@ insts-again f (i ∷ is) t rest ds S once h =
     let ds' : List Definition = map result_definition (map (numbered_inst f.names) is) ++ ds in
     let S0 = stands-names f t _ (inst_names i ++ (flat_map inst_names is ++ rest)) _ (append_assoc (inst_names i) (flat_map inst_names is) rest) S in
     let here = subst (λ (m : ℕ). AreOperandsUsable f m (numbered_inst f.names i)) (omega arith) (h 0 (numbered_inst f.names i) refl) in
-    let e = inst-again f t i (flat_map inst_names is ++ rest) ds' S0 once here in
-    let next : Table = with_definition t i.into (Some i.width) in
-    let P = inst-found f t i (flat_map inst_names is ++ rest) ds' (numbered_inst f.names i) next S0 e in
-    let R = insts-again f is next rest ds P.step.stands once (later next.types P.step.longer) in
-    (R.0, rw (e, R.1) refl)
+    let E = inst-again f t i (flat_map inst_names is ++ rest) ds' S0 once here in
+    let P = inst-found f t i (flat_map inst_names is ++ rest) ds' (numbered_inst f.names i) E.0 S0 E.1 in
+    let R = insts-again f is E.0 rest ds P.step.stands once (later E.0.types P.step.longer) in
+    (R.0, rw (E.1, R.1) refl)
   where
     later : (types : List (Option Width)) → length types ≡ suc (length t.types) → (k : ℕ) (j : Inst) → slice_get (map (numbered_inst f.names) is) k ≡ Some j → AreOperandsUsable f (length types + k) j
     later types n k j g = subst (λ (m : ℕ). AreOperandsUsable f m j) (omega (arith, n)) (h (suc k) j g)
@@ -453,27 +528,27 @@ stands-once f t rest S i j d e di ej same =
     omega (arith, ni, nj, same)
 
 record IsEntry (w : WrittenFunction) (t next : Table) : Type 0 where
-  step : IsStep (numbered w) t next (flat_map inst_names w.insts ++ operand_names w.returned.operand) (map result_definition (map (numbered_inst (numbered w).names) w.insts) ++ [])
-  number : number_of (numbered w).names (entry_name (parameter_names w.parameters)) ≡ length t.names
+  step : IsStep (numbered w) t next (flat_map inst_names w.insts ++ returned_names w.returned) (map result_definition (map (numbered_inst (numbered w).names) w.insts) ++ [])
+  number : number_of (numbered w).names (block_name w) ≡ length t.names
 
-entry-found : (w : WrittenFunction) (t next : Table) → Stands (numbered w) t (entry_name (parameter_names w.parameters) ∷ (flat_map inst_names w.insts ++ operand_names w.returned.operand)) (flat_map block_definitions (numbered w).blocks)
-    → defined t (entry_name (parameter_names w.parameters)) None ≡ Some next → IsEntry w t next
+entry-found : (w : WrittenFunction) (t next : Table) → Stands (numbered w) t (block_name w ∷ (flat_map inst_names w.insts ++ returned_names w.returned)) (flat_map block_definitions (numbered w).blocks)
+    → defined t (block_name w) None ≡ Some next → IsEntry w t next
 entry-found w t next S e =
     let f : Function = numbered w in
-    let x : Name = entry_name (parameter_names w.parameters) in
-    let rest : List Name = flat_map inst_names w.insts ++ operand_names w.returned.operand in
+    let x : Name = block_name w in
+    let rest : List Name = flat_map inst_names w.insts ++ returned_names w.returned in
     let ds : List Definition = map result_definition (map (numbered_inst f.names) w.insts) ++ [] in
     let d : Definition = label_definition (numbered_block f.names w) in
     let F = defined-found t x None next e in
     subst (λ (q : Table). IsEntry w t q) F.1
     (record { step = record { stands = define-stands f t x None rest d ds refl S F.0; longer = omega (arith, length-append t.types (None ∷ [])) }; number = new_number f t x rest (d ∷ ds) S.gathers F.0 })
 
-entry-again : (w : WrittenFunction) (t : Table) → Stands (numbered w) t (entry_name (parameter_names w.parameters) ∷ (flat_map inst_names w.insts ++ operand_names w.returned.operand)) (flat_map block_definitions (numbered w).blocks)
-    → IsDefinedOnce (numbered w) → defined t (entry_name (parameter_names w.parameters)) None ≡ Some (with_definition t (entry_name (parameter_names w.parameters)) None)
+entry-again : (w : WrittenFunction) (t : Table) → Stands (numbered w) t (block_name w ∷ (flat_map inst_names w.insts ++ returned_names w.returned)) (flat_map block_definitions (numbered w).blocks)
+    → IsDefinedOnce (numbered w) → defined t (block_name w) None ≡ Some (with_definition t (block_name w) None)
 entry-again w t S once =
     let f : Function = numbered w in
-    let x : Name = entry_name (parameter_names w.parameters) in
-    let rest : List Name = flat_map inst_names w.insts ++ operand_names w.returned.operand in
+    let x : Name = block_name w in
+    let rest : List Name = flat_map inst_names w.insts ++ returned_names w.returned in
     let ds : List Definition = map result_definition (map (numbered_inst f.names) w.insts) ++ [] in
     defined-again t x None (is-new f t x None rest (label_definition (numbered_block f.names w)) ds refl S once)
 
@@ -483,18 +558,18 @@ length-parameters w = length-map w.parameters (numbered_parameter (numbered w).n
 -- all of a function but its last operand
 record IsBody (w : WrittenFunction) (parameters : List Parameter × Table) (entry : Table) (insts : List Inst × Table) : Type 0 where
   parameters_so : parameters.0 ≡ (numbered w).parameters
-  label_so : length parameters.1.names ≡ number_of (numbered w).names (entry_name (parameter_names w.parameters))
+  label_so : length parameters.1.names ≡ number_of (numbered w).names (block_name w)
   insts_so : insts.0 ≡ map (numbered_inst (numbered w).names) w.insts
-  stands : Stands (numbered w) insts.1 (operand_names w.returned.operand) []
+  stands : Stands (numbered w) insts.1 (returned_names w.returned) []
   usable : (k : ℕ) (i : Inst) → slice_get insts.0 k ≡ Some i → AreOperandsUsable (numbered w) (length (numbered w).parameters + 1 + k) i
 
 body-found : (w : WrittenFunction) (parameters : List Parameter × Table) (entry : Table) (insts : List Inst × Table)
-    → each_in parameter_in no_names w.parameters ≡ Some parameters → defined parameters.1 (entry_name (parameter_names w.parameters)) None ≡ Some entry → each_in inst_in entry w.insts ≡ Some insts → IsBody w parameters entry insts
+    → each_in parameter_in no_names w.parameters ≡ Some parameters → defined parameters.1 (block_name w) None ≡ Some entry → each_in inst_in entry w.insts ≡ Some insts → IsBody w parameters entry insts
 body-found w parameters entry insts p e i =
     let f : Function = numbered w in
-    let P = parameters-found f w.parameters no_names (entry_name (parameter_names w.parameters) ∷ (flat_map inst_names w.insts ++ operand_names w.returned.operand)) (flat_map block_definitions f.blocks) parameters.0 parameters.1 (at-start w) p in
+    let P = parameters-found f w.parameters no_names (block_name w ∷ (flat_map inst_names w.insts ++ returned_names w.returned)) (flat_map block_definitions f.blocks) parameters.0 parameters.1 (at-start w) p in
     let E = entry-found w parameters.1 entry P.stands e in
-    let I = insts-found f w.insts entry (operand_names w.returned.operand) [] insts.0 insts.1 E.step.stands i in
+    let I = insts-found f w.insts entry (returned_names w.returned) [] insts.0 insts.1 E.step.stands i in
     let place : length entry.types ≡ length f.parameters + 1 = omega (arith, E.step.longer, P.longer, length-parameters w) in
     record {
       parameters_so = P.numbered_so;
@@ -508,55 +583,99 @@ whole-length : (f : Function) (t : Table) (rest : List Name) → Stands f t rest
 whole-length f t rest S = sym (ap length S.defines ∙ ap length (append-nil (placed 0 t.types)) ∙ length-placed 0 t.types)
 
 -- the names are all there at the end
-all-names : (w : WrittenFunction) (t : Table) → Stands (numbered w) t (operand_names w.returned.operand) [] → AreThere (operand_names w.returned.operand) t.names → t.names ≡ (numbered w).names
-all-names w t S there = sym (S.gathers ∙ ap (λ (ns : List Name). gathered t.names ns) (sym (append-nil (operand_names w.returned.operand))) ∙ gathered-there t.names (operand_names w.returned.operand) [] there)
+all-names : (w : WrittenFunction) (t : Table) → Stands (numbered w) t (returned_names w.returned) [] → AreThere (returned_names w.returned) t.names → t.names ≡ (numbered w).names
+all-names w t S there = sym (S.gathers ∙ ap (λ (ns : List Name). gathered t.names ns) (sym (append-nil (returned_names w.returned))) ∙ gathered-there t.names (returned_names w.returned) [] there)
 
-made-same : (w : WrittenFunction) (ps qs : List Parameter) (l m : ℕ) (is js : List Inst) (o u : Operand) (ns ms : List Name) → ps ≡ qs → l ≡ m → is ≡ js → o ≡ u → ns ≡ ms → made_of w ps (block_of l is w.returned.width o) ns ≡ made_of w qs (block_of m js w.returned.width u) ms
+made-same : (w : WrittenFunction) (ps qs : List Parameter) (l m : ℕ) (is js : List Inst) (o u : Option Returned) (ns ms : List Name) → ps ≡ qs → l ≡ m → is ≡ js → o ≡ u → ns ≡ ms → made_of w ps (block_of l is o) ns ≡ made_of w qs (block_of m js u) ms
 made-same w ps qs l m is js o u ns ms a b c d e = rw (a, b, c, d, e) refl
 
 pub record IsChecked (w : WrittenFunction) (f : Function) : Type 0 where
   pub numbered_so : f ≡ numbered w
   pub well_formed : IsWellFormed (numbered w)
 
-some-same : {A : Type 0} (x y : A) → Some x ≡ Some y → x ≡ y
-some-same x y e = cc e
+-- ---- what is returned
+
+abbrev IsReturnedUsable : Function → ℕ → Option Returned → Type 0
+IsReturnedUsable f n None = Unit {0}
+IsReturnedUsable f n (Some r) = IsUsable f n r.of_type r.operand
+
+record IsReturned (f : Function) (t : Table) (r : Option WrittenReturn) (out : Option Returned) : Type 0 where
+  numbered_so : out ≡ numbered_returned f.names r
+  there : AreThere (returned_names r) t.names
+  usable : IsReturnedUsable f (length t.types) out
+
+returned-found : (f : Function) (t : Table) (rest : List Name) (ds : List Definition) (r : Option WrittenReturn) (out : Option Returned) → Stands f t rest ds → returned_in t r ≡ Some out → IsReturned f t r out
+returned-found f t rest ds None out S e =
+    let same : None ≡ out = cc e in
+    subst (λ (p : Option Returned). IsReturned f t None p) same (record { numbered_so = refl; there = tt; usable = tt })
+returned-found f t rest ds (Some r) out S e =
+    let O = then-some (operand_in t r.width r.operand) _ out e in
+    let F = operand-found f t rest ds r.width r.operand O.0 S O.1 in
+    let here : Operand → Option Returned = λ o. Some (record { of_type = Int r.width; operand = o }) in
+    subst (λ (p : Option Returned). IsReturned f t (Some r) p) (some-same (here O.0) out O.2)
+    (record { numbered_so = ap here F.numbered_so; there = F.there; usable = F.usable })
+
+returned-again : (f : Function) (t : Table) (rest : List Name) (ds : List Definition) (r : Option WrittenReturn) → Stands f t rest ds → IsReturnedUsable f (length t.types) (numbered_returned f.names r) → returned_in t r ≡ Some (numbered_returned f.names r)
+returned-again f t rest ds None S h = refl
+returned-again f t rest ds (Some r) S h = rw (operand-again f t rest ds r.width r.operand S h) refl
+
+returnable : (f : Function) (returns : Option Width) (r : Option WrittenReturn) → f.returns ≡ type_or_void returns → returns_so returns r ≡ true → IsReturnedUsable f (length (definitions f)) (numbered_returned f.names r) → IsReturnable f (Return (numbered_returned f.names r))
+returnable f None None e t u = e
+returnable f (Some w) (Some r) e t u = (e ∙ ap (λ (v : Width). Some (Int v)) (sym (same_width r.width w (eqb-true _ _ t))), u)
+returnable f None (Some r) e t u = absurd (cc t)
+returnable f (Some w) None e t u = absurd (cc t)
+
+int-same : (v w : Width) → Some (Int v) ≡ Some (Int w) → v ≡ w
+int-same v w e = cc e
+
+record IsAnswered (f : Function) (returns : Option Width) (r : Option WrittenReturn) : Type 0 where
+  test : returns_so returns r ≡ true
+  usable : IsReturnedUsable f (length (definitions f)) (numbered_returned f.names r)
+
+answered : (f : Function) (returns : Option Width) (r : Option WrittenReturn) → f.returns ≡ type_or_void returns → IsReturnable f (Return (numbered_returned f.names r)) → IsAnswered f returns r
+answered f None None e h = record { test = refl; usable = tt }
+answered f (Some w) (Some r) e h =
+    let same : w ≡ r.width = int-same w r.width (sym e ∙ h.0) in
+    record { test = eq-eqb _ _ (sym (ap (λ (v : Width). v.bits) same)); usable = h.1 }
+answered f None (Some r) e h = let both : None ≡ Some (Int r.width) = sym e ∙ h.0 in absurd (cc both)
+answered f (Some w) None e h = let both : Some (Int w) ≡ None = sym e ∙ h in absurd (cc both)
 
 -- the steps of a function's parts
 record HasParts (w : WrittenFunction) (parts : (List Parameter × List Block) × Table) : Type 0 where
   parameters : List Parameter × Table
   entry : Table
   insts : List Inst × Table
-  operand : Operand
+  returned : Option Returned
   parameters_are : each_in parameter_in no_names w.parameters ≡ Some parameters
-  entry_is : defined parameters.1 (entry_name (parameter_names w.parameters)) None ≡ Some entry
+  entry_is : defined parameters.1 (block_name w) None ≡ Some entry
   insts_are : each_in inst_in entry w.insts ≡ Some insts
-  operand_is : operand_in insts.1 w.returned.width w.returned.operand ≡ Some operand
-  all : ((parameters.0, block_of (length parameters.1.names) insts.0 w.returned.width operand), insts.1) ≡ parts
+  returned_is : returned_in insts.1 w.returned ≡ Some returned
+  all : ((parameters.0, block_of (length parameters.1.names) insts.0 returned), insts.1) ≡ parts
 
-head-found : (ps : List WrittenParameter) (head : (List Parameter × ℕ) × Table) → head_in no_names ps ≡ Some head
-    → (parameters : List Parameter × Table) × (entry : Table) × (each_in parameter_in no_names ps ≡ Some parameters) × (defined parameters.1 (entry_name (parameter_names ps)) None ≡ Some entry) × (((parameters.0, length parameters.1.names), entry) ≡ head)
+head-found : (w : WrittenFunction) (head : (List Parameter × ℕ) × Table) → head_in no_names w.parameters w.label ≡ Some head
+    → (parameters : List Parameter × Table) × (entry : Table) × (each_in parameter_in no_names w.parameters ≡ Some parameters) × (defined parameters.1 (block_name w) None ≡ Some entry) × (((parameters.0, length parameters.1.names), entry) ≡ head)
 unfolding head_in
-head-found ps head e =
-    let P = then-some (each_in parameter_in no_names ps) _ head e in
-    let E = then-some (defined P.0.1 (entry_name (parameter_names ps)) None) _ head P.2 in
+head-found w head e =
+    let P = then-some (each_in parameter_in no_names w.parameters) _ head e in
+    let E = then-some (defined P.0.1 (block_name w) None) _ head P.2 in
     (P.0, E.0, P.1, E.1, some-same _ _ E.2)
 
-blocks-found : (t : Table) (label : ℕ) (is : List WrittenInst) (r : WrittenReturn) (blocks : List Block × Table) → blocks_in t label is r ≡ Some blocks
-    → (insts : List Inst × Table) × (operand : Operand) × (each_in inst_in t is ≡ Some insts) × (operand_in insts.1 r.width r.operand ≡ Some operand) × ((block_of label insts.0 r.width operand, insts.1) ≡ blocks)
+blocks-found : (t : Table) (label : ℕ) (is : List WrittenInst) (r : Option WrittenReturn) (blocks : List Block × Table) → blocks_in t label is r ≡ Some blocks
+    → (insts : List Inst × Table) × (returned : Option Returned) × (each_in inst_in t is ≡ Some insts) × (returned_in insts.1 r ≡ Some returned) × ((block_of label insts.0 returned, insts.1) ≡ blocks)
 unfolding blocks_in
 blocks-found t label is r blocks e =
     let I = then-some (each_in inst_in t is) _ blocks e in
-    let O = then-some (operand_in I.0.1 r.width r.operand) _ blocks I.2 in
+    let O = then-some (returned_in I.0.1 r) _ blocks I.2 in
     (I.0, O.0, I.1, O.1, some-same _ _ O.2)
 
-parts-found : (w : WrittenFunction) (parts : (List Parameter × List Block) × Table) → parts_in w.parameters w.insts w.returned ≡ Some parts → HasParts w parts
+parts-found : (w : WrittenFunction) (parts : (List Parameter × List Block) × Table) → parts_in w.parameters w.label w.insts w.returned ≡ Some parts → HasParts w parts
 unfolding parts_in
 parts-found w parts e =
-    let H = then-some (head_in no_names w.parameters) _ parts e in
-    go H.0 (head-found w.parameters H.0 H.1) H.2
+    let H = then-some (head_in no_names w.parameters w.label) _ parts e in
+    go H.0 (head-found w H.0 H.1) H.2
   where
     go : (head : (List Parameter × ℕ) × Table)
-        → ((parameters : List Parameter × Table) × (entry : Table) × (each_in parameter_in no_names w.parameters ≡ Some parameters) × (defined parameters.1 (entry_name (parameter_names w.parameters)) None ≡ Some entry) × (((parameters.0, length parameters.1.names), entry) ≡ head))
+        → ((parameters : List Parameter × Table) × (entry : Table) × (each_in parameter_in no_names w.parameters ≡ Some parameters) × (defined parameters.1 (block_name w) None ≡ Some entry) × (((parameters.0, length parameters.1.names), entry) ≡ head))
         → (blocks_in head.1 head.0.1 w.insts w.returned >>= λ blocks. Some ((head.0.0, blocks.0), blocks.1)) ≡ Some parts → HasParts w parts
     go head (parameters, entry, p, d, same) e' =
         let e2 : (blocks_in entry (length parameters.1.names) w.insts w.returned >>= λ blocks. Some ((parameters.0, blocks.0), blocks.1)) ≡ Some parts =
@@ -567,72 +686,67 @@ parts-found w parts e =
           parameters = parameters;
           entry = entry;
           insts = F.0;
-          operand = F.1;
+          returned = F.1;
           parameters_are = p;
           entry_is = d;
           insts_are = F.2;
-          operand_is = F.3;
+          returned_is = F.3;
           all = ap (λ (b : List Block × Table). ((parameters.0, b.0), b.1)) F.4 ∙ some-same _ _ B.2;
         }
 
 pub checked-found : (w : WrittenFunction) (f : Function) → checked w ≡ Some f → IsChecked w f
 unfolding checked
-checked-found w f e = start (eqb w.returned.width.bits w.returns.bits) refl e
+checked-found w f e = start (returns_so w.returns w.returned) refl e
   where
-    by : (ps : List Parameter) (label : ℕ) (is : List Inst) (o : Operand) (t : Table) → ps ≡ (numbered w).parameters → label ≡ number_of (numbered w).names (entry_name (parameter_names w.parameters)) → is ≡ map (numbered_inst (numbered w).names) w.insts
-        → o ≡ numbered_operand (numbered w).names w.returned.operand → t.names ≡ (numbered w).names → Stands (numbered w) t (operand_names w.returned.operand) []
-        → ((k : ℕ) (i : Inst) → slice_get is k ≡ Some i → AreOperandsUsable (numbered w) (length (numbered w).parameters + 1 + k) i) → IsUsable (numbered w) (length t.types) (Int w.returned.width) o
-        → eqb w.returned.width.bits w.returns.bits ≡ true → made_of w ps (block_of label is w.returned.width o) t.names ≡ f → IsChecked w f
+    by : (ps : List Parameter) (label : ℕ) (is : List Inst) (o : Option Returned) (t : Table) → ps ≡ (numbered w).parameters → label ≡ number_of (numbered w).names (block_name w) → is ≡ map (numbered_inst (numbered w).names) w.insts
+        → o ≡ numbered_returned (numbered w).names w.returned → t.names ≡ (numbered w).names → Stands (numbered w) t (returned_names w.returned) []
+        → ((k : ℕ) (i : Inst) → slice_get is k ≡ Some i → AreOperandsUsable (numbered w) (length (numbered w).parameters + 1 + k) i) → IsReturnedUsable (numbered w) (length t.types) o
+        → returns_so w.returns w.returned ≡ true → made_of w ps (block_of label is o) t.names ≡ f → IsChecked w f
     by ps label is o t a l c d ns S uses last t-is f-is =
-        let whole : made_of w ps (block_of label is w.returned.width o) t.names ≡ numbered w = made-same w ps (numbered w).parameters label (number_of (numbered w).names (entry_name (parameter_names w.parameters))) is (map (numbered_inst (numbered w).names) w.insts) o (numbered_operand (numbered w).names w.returned.operand) t.names (numbered w).names a l c d ns in
-        let width : w.returned.width ≡ w.returns = same_width _ _ (eqb-true _ _ t-is) in
+        let whole : made_of w ps (block_of label is o) t.names ≡ numbered w = made-same w ps (numbered w).parameters label (number_of (numbered w).names (block_name w)) is (map (numbered_inst (numbered w).names) w.insts) o (numbered_returned (numbered w).names w.returned) t.names (numbered w).names a l c d ns in
         record {
           numbered_so = sym f-is ∙ whole;
           well_formed = record {
             block = numbered_block (numbered w).names w;
             one_block = refl;
-            once = stands-once (numbered w) t (operand_names w.returned.operand) S;
+            once = stands-once (numbered w) t (returned_names w.returned) S;
             uses = subst (λ (js : List Inst). (k : ℕ) (i : Inst) → slice_get js k ≡ Some i → AreOperandsUsable (numbered w) (length (numbered w).parameters + 1 + k) i) c uses;
-            returned = (ap (λ (v : Width). Some (Int v)) (sym width), subst (λ (p : Operand). IsUsable (numbered w) (length (definitions (numbered w))) (Int w.returned.width) p) d (subst (λ (m : ℕ). IsUsable (numbered w) m (Int w.returned.width) o) (whole-length (numbered w) t (operand_names w.returned.operand) S) last));
+            returned = returnable (numbered w) w.returns w.returned refl t-is (subst (λ (p : Option Returned). IsReturnedUsable (numbered w) (length (definitions (numbered w))) p) d (subst (λ (m : ℕ). IsReturnedUsable (numbered w) m o) (whole-length (numbered w) t (returned_names w.returned) S) last));
           };
         }
 
-    start : (b : Bool) → eqb w.returned.width.bits w.returns.bits ≡ b → cond b (parts_in w.parameters w.insts w.returned >>= λ parts. Some (made_of w parts.0.0 parts.0.1 parts.1.names)) None ≡ Some f → IsChecked w f
+    start : (b : Bool) → returns_so w.returns w.returned ≡ b → cond b (parts_in w.parameters w.label w.insts w.returned >>= λ parts. Some (made_of w parts.0.0 parts.0.1 parts.1.names)) None ≡ Some f → IsChecked w f
     start false t-is e' = absurd (cc e')
     start true t-is e' =
-        let Q = then-some (parts_in w.parameters w.insts w.returned) _ f e' in
+        let Q = then-some (parts_in w.parameters w.label w.insts w.returned) _ f e' in
         let H = parts-found w Q.0 Q.1 in
         let B = body-found w H.parameters H.entry H.insts H.parameters_are H.entry_is H.insts_are in
-        let R = operand-found (numbered w) H.insts.1 (operand_names w.returned.operand) [] w.returned.width w.returned.operand H.operand B.stands H.operand_is in
+        let R = returned-found (numbered w) H.insts.1 (returned_names w.returned) [] w.returned H.returned B.stands H.returned_is in
         let names = all-names w H.insts.1 B.stands R.there in
-        let f-is : made_of w H.parameters.0 (block_of (length H.parameters.1.names) H.insts.0 w.returned.width H.operand) H.insts.1.names ≡ f =
+        let f-is : made_of w H.parameters.0 (block_of (length H.parameters.1.names) H.insts.0 H.returned) H.insts.1.names ≡ f =
         ap (λ (p : (List Parameter × List Block) × Table). made_of w p.0.0 p.0.1 p.1.names) H.all ∙ some-same _ _ Q.2 in
-        by H.parameters.0 (length H.parameters.1.names) H.insts.0 H.operand H.insts.1 B.parameters_so B.label_so B.insts_so R.numbered_so names B.stands B.usable R.usable t-is f-is
-
-int-same : (v w : Width) → Some (Int v) ≡ Some (Int w) → v ≡ w
-int-same v w e = cc e
+        by H.parameters.0 (length H.parameters.1.names) H.insts.0 H.returned H.insts.1 B.parameters_so B.label_so B.insts_so R.numbered_so names B.stands B.usable R.usable t-is f-is
 
 pub checked-again : (w : WrittenFunction) → IsWellFormed (numbered w) → checked w ≡ Some (numbered w)
 unfolding checked parts_in head_in blocks_in
 checked-again w W =
     let f : Function = numbered w in
     let block : numbered_block f.names w ≡ W.block = first-is (numbered_block f.names w) W.block W.one_block in
-    let P = parameters-again f w.parameters no_names (entry_name (parameter_names w.parameters) ∷ (flat_map inst_names w.insts ++ operand_names w.returned.operand)) (flat_map block_definitions f.blocks) (at-start w) W.once in
-    let PF = parameters-found f w.parameters no_names (entry_name (parameter_names w.parameters) ∷ (flat_map inst_names w.insts ++ operand_names w.returned.operand)) (flat_map block_definitions f.blocks) f.parameters P.0 (at-start w) P.1 in
-    let entry : Table = with_definition P.0 (entry_name (parameter_names w.parameters)) None in
+    let P = parameters-again f w.parameters no_names (block_name w ∷ (flat_map inst_names w.insts ++ returned_names w.returned)) (flat_map block_definitions f.blocks) (at-start w) W.once in
+    let PF = parameters-found f w.parameters no_names (block_name w ∷ (flat_map inst_names w.insts ++ returned_names w.returned)) (flat_map block_definitions f.blocks) f.parameters P.0 (at-start w) P.1 in
+    let entry : Table = with_definition P.0 (block_name w) None in
     let e = entry-again w P.0 PF.stands W.once in
     let EF = entry-found w P.0 entry PF.stands e in
     let place : length f.parameters + 1 ≡ length entry.types = omega (arith, EF.step.longer, PF.longer, length-parameters w) in
-    let I = insts-again f w.insts entry (operand_names w.returned.operand) [] EF.step.stands W.once (uses block place W.uses) in
+    let I = insts-again f w.insts entry (returned_names w.returned) [] EF.step.stands W.once (uses block place W.uses) in
     let B = body-found w (f.parameters, P.0) entry (map (numbered_inst f.names) w.insts, I.0) P.1 e I.1 in
     let returned : IsReturnable f (numbered_block f.names w).terminator = subst (λ (b : Block). IsReturnable f b.terminator) (sym block) W.returned in
-    let last = subst (λ (m : ℕ). IsUsable f m (Int w.returned.width) (numbered_operand f.names w.returned.operand)) (sym (whole-length f I.0 (operand_names w.returned.operand) B.stands)) returned.1 in
-    let o = operand-again f I.0 (operand_names w.returned.operand) [] w.returned.width w.returned.operand B.stands last in
-    let OF = operand-found f I.0 (operand_names w.returned.operand) [] w.returned.width w.returned.operand (numbered_operand f.names w.returned.operand) B.stands o in
+    let A = answered f w.returns w.returned refl returned in
+    let last = subst (λ (m : ℕ). IsReturnedUsable f m (numbered_returned f.names w.returned)) (sym (whole-length f I.0 (returned_names w.returned) B.stands)) A.usable in
+    let o = returned-again f I.0 (returned_names w.returned) [] w.returned B.stands last in
+    let OF = returned-found f I.0 (returned_names w.returned) [] w.returned (numbered_returned f.names w.returned) B.stands o in
     let names : I.0.names ≡ f.names = all-names w I.0 B.stands OF.there in
-    let width : w.returns ≡ w.returned.width = int-same w.returns w.returned.width returned.0 in
-    let test : eqb w.returned.width.bits w.returns.bits ≡ true = eq-eqb _ _ (sym (ap (λ (v : Width). v.bits) width)) in
-    rw (test, P.1, e, I.1, o) (ap (λ (g : Function). Some g) (made-same w f.parameters f.parameters (length P.0.names) (number_of f.names (entry_name (parameter_names w.parameters))) (map (numbered_inst f.names) w.insts) (map (numbered_inst f.names) w.insts) (numbered_operand f.names w.returned.operand) (numbered_operand f.names w.returned.operand) I.0.names f.names refl B.label_so refl refl names))
+    rw (A.test, P.1, e, I.1, o) (ap (λ (g : Function). Some g) (made-same w f.parameters f.parameters (length P.0.names) (number_of f.names (block_name w)) (map (numbered_inst f.names) w.insts) (map (numbered_inst f.names) w.insts) (numbered_returned f.names w.returned) (numbered_returned f.names w.returned) I.0.names f.names refl B.label_so refl refl names))
   where
     first-is : (b c : Block) → b ∷ [] ≡ c ∷ [] → b ≡ c
     first-is b c e' = cc e'

@@ -13,7 +13,7 @@ use Rattle.ir_tree.specs.WellFormed.{IsWellFormed}
 use Rattle.ir_reader.specs.declared.written.WrittenFunction.{WrittenFunction}
 use Rattle.ir_reader.specs.Numbering.{numbered}
 use Rattle.ir_reader.specs.Checking.{each_in, checked, entry_in, ◌>>=◌}
-use Rattle.ir_reader.specs.FirstForm.{entry_of, function_names}
+use Rattle.ir_reader.specs.StraightLine.{entry_of, function_names}
 use Rattle.ir_reader.proofs.Checking.{checked-found, checked-again}
 
 -- ---- names

@@ -1,9 +1,10 @@
 -- What is spelled keeps the limits of a function.
-use Rattle.std.proofs.Common.{◌≡◌, ℕ, zero, suc, ◌<◌, ◌≤◌, Bool, true, false, ltb, List, [], ◌∷◌, ◌++◌, length, map, refl, sym, subst, inl, inr, arith}
+use Rattle.std.proofs.Common.{◌≡◌, ℕ, zero, suc, ◌<◌, ◌≤◌, Bool, true, false, ltb, List, [], ◌∷◌, ◌++◌, length, map, Option, Some, None, sym, subst, refl, inl, inr, arith}
 use Rattle.std.specs.Prelude.{◌&&◌}
 use Rattle.std.specs.List.{AllByRecursion}
 use Rattle.std.proofs.lemmas.Bool.{ltb-true}
 use Rattle.std.proofs.lemmas.List.{length-append, length-map}
+use Rattle.tv_num.specs.declared.Width.{Width}
 use Rattle.ir_lexer.specs.Lexeme.{Lexeme}
 use Rattle.ir_tree.specs.Limits.{AreIntegers}
 use Rattle.ir_tree.specs.declared.module.Entry.{Entry}
@@ -14,8 +15,8 @@ use Rattle.ir_reader.specs.declared.written.WrittenParameter.{WrittenParameter}
 use Rattle.ir_reader.specs.declared.written.WrittenFunction.{WrittenFunction}
 use Rattle.ir_reader.specs.Classes.{any}
 use Rattle.ir_reader.specs.Grammar.{is_comma, parameter_begins, parameter, with_parameter, more_parameters, first_parameter, parameters, function, is_define, function_begins, function_within, with_function, functions}
-use Rattle.ir_reader.specs.Numbering.{numbered, numbered_parameter, numbered_inst}
-use Rattle.ir_reader.specs.FirstForm.{IsFirstForm, IsJudgeable, IsJudgeableEntry, entry_of}
+use Rattle.ir_reader.specs.Numbering.{numbered, numbered_parameter, numbered_inst, type_or_void}
+use Rattle.ir_reader.specs.StraightLine.{IsStraightLine, IsIntegerOrVoid, IsJudgeable, IsJudgeableEntry, entry_of}
 
 and-first : (a b : Bool) → (a && b) ≡ true → a ≡ true
 and-first true b e = refl
@@ -44,8 +45,8 @@ pub record AreFew (w : WrittenFunction) : Type 0 where
 
 function-few : (w : WrittenFunction) (ts rest : List Lexeme) → Spells true function w ts rest → AreFew w
 unfolding function
-function-few w ts rest (type, m1, token1, (name, m2, token2, (opening, m3, token3, (all, m4, P, (body, m5, token5, (lines, m6, (m7, I, token6), (value, m8, R, (closing, m9, token9, (same, left))))))))) =
-    subst (λ (f : WrittenFunction). AreFew f) same (record { parameters = parameters-few all m3 m4 P; insts = ltb-true (length lines.0) 65536 token6.keeps })
+function-few w ts rest (type, m1, token1, (name, m2, token2, (opening, m3, token3, (all, m4, P, (body, m5, token5, (block, m6, (m7, I, token6), (value, m8, R, (closing, m9, token9, (same, left))))))))) =
+    subst (λ (f : WrittenFunction). AreFew f) same (record { parameters = parameters-few all m3 m4 P; insts = ltb-true (length block.0.insts) 65536 token6.keeps })
 
 all-push : (ws : List WrittenFunction) (w : WrittenFunction) → AllByRecursion AreFew ws → AreFew w → AllByRecursion AreFew (ws ++ w ∷ [])
 all-push [] w h k = (k, tt)
@@ -64,6 +65,10 @@ integers : (names : List Name) (ps : List WrittenParameter) → AreIntegers (map
 integers names [] = tt
 integers names (p ∷ ps) = (tt, integers names ps)
 
+integer-or-void : (returns : Option Width) → IsIntegerOrVoid (type_or_void returns)
+integer-or-void None = tt
+integer-or-void (Some width) = tt
+
 judgeable : (w : WrittenFunction) → AreFew w → IsJudgeable (numbered w)
 judgeable w h = record {
   limits = record {
@@ -71,14 +76,12 @@ judgeable w h = record {
     instructions = omega (arith, h.insts, length-map w.insts (numbered_inst (numbered w).names));
   };
   parameters = integers (numbered w).names w.parameters;
-  returned = _;
-  returns = refl;
-  integer = tt;
+  returns = integer-or-void w.returns;
 }
 
 entries-judgeable : (ws : List WrittenFunction) → AllByRecursion AreFew ws → AllByRecursion IsJudgeableEntry (map entry_of ws)
 entries-judgeable [] h = tt
 entries-judgeable (w ∷ ws) (h, hs) = ((λ f e. let same : numbered w ≡ f = cc e in subst IsJudgeable same (judgeable w h)), entries-judgeable ws hs)
 
-pub first-judgeable : (text : List ℕ) (m : Module) → IsFirstForm text m → AllByRecursion IsJudgeableEntry m.entries
-first-judgeable text m F = subst (λ (es : List Entry). AllByRecursion IsJudgeableEntry es) (sym F.entries) (entries-judgeable F.written (functions-few F.written F.tokens [] F.spelled))
+pub all-judgeable : (text : List ℕ) (m : Module) → IsStraightLine text m → AllByRecursion IsJudgeableEntry m.entries
+all-judgeable text m F = subst (λ (es : List Entry). AllByRecursion IsJudgeableEntry es) (sym F.entries) (entries-judgeable F.written (functions-few F.written F.tokens [] F.spelled))

@@ -13,10 +13,10 @@ use Rattle.ir_reader.specs.declared.fault.ModuleFault.TheVariants.{NotRead, NoMe
 use Rattle.ir_reader.specs.declared.written.WrittenFunction.{WrittenFunction}
 use Rattle.ir_reader.specs.Answer.{Answers, Gives}
 use Rattle.ir_reader.specs.Grammar.{functions}
-use Rattle.ir_reader.specs.FirstForm.{IsFirstForm, IsJudgeableEntry}
+use Rattle.ir_reader.specs.StraightLine.{IsStraightLine, IsJudgeableEntry}
 use Rattle.ir_reader.specs.Checking.{each_in, entry_in, tokens_found, whole, module_in, ◌>>=◌}
 use Rattle.ir_reader.proofs.EntryLemmas.{entries-found, entries-again, none-seen}
-use Rattle.ir_reader.proofs.Limits.{first-judgeable}
+use Rattle.ir_reader.proofs.Limits.{all-judgeable}
 
 then-some : {A B : Type 0} (o : Option A) (k : A → Option B) (y : B) → (o >>= k) ≡ Some y → (a : A) × (o ≡ Some a) × (k a ≡ Some y)
 then-some None k y e = absurd (cc e)
@@ -31,7 +31,7 @@ whole-is (reads vs []) ws e = let same : vs ≡ ws = cc e in ap (λ (us : List W
 whole-is (reads vs (t ∷ ts)) ws e = absurd (cc e)
 whole-is (stops why rest) ws e = absurd (cc e)
 
-pub module-found : (text : List ℕ) (m : Module) → module_in text ≡ Some m → IsFirstForm text m
+pub module-found : (text : List ℕ) (m : Module) → module_in text ≡ Some m → IsStraightLine text m
 unfolding module_in
 module-found text m e =
     let T = then-some (tokens_found (lexed text)) _ m e in
@@ -52,7 +52,7 @@ module-found text m e =
     some-is : (x y : Module) → Some x ≡ Some y → x ≡ y
     some-is x y e' = cc e'
 
-pub module-again : (text : List ℕ) (m : Module) → IsFirstForm text m → module_in text ≡ Some m
+pub module-again : (text : List ℕ) (m : Module) → IsStraightLine text m → module_in text ≡ Some m
 unfolding module_in
 module-again text m F =
     let t : tokens_found (lexed text) ≡ Some F.tokens = ap tokens_found F.lexed_so in
@@ -61,17 +61,17 @@ module-again text m F =
     rw (t, r, E.1) (ap (λ (es : List Entry). Some (let x : Module = record { entries = es } in x)) (sym F.entries))
 
 -- what the answer of a reader promises
-pub found : (text : List ℕ) (result : Result Module ModuleFault) → Answers result (module_in text) → IfOk result (λ m. IsFirstForm text m)
+pub found : (text : List ℕ) (result : Result Module ModuleFault) → Answers result (module_in text) → IfOk result (λ m. IsStraightLine text m)
 found text (Ok m) e = module-found text m e
 found text (Err fault) e = tt
 
-pub only : (text : List ℕ) (result : Result Module ModuleFault) → Answers result (module_in text) → (m : Module) → IsFirstForm text m → Gives result m
+pub only : (text : List ℕ) (result : Result Module ModuleFault) → Answers result (module_in text) → (m : Module) → IsStraightLine text m → Gives result m
 only text (Ok n) e m F = let both : Some n ≡ Some m = sym e ∙ module-again text m F in cc both
 only text (Err NotRead) e m F = let both : None ≡ Some m = sym e ∙ module-again text m F in absurd (cc both)
 only text (Err NoMemory) e m F = refl
 
 pub judgeable : (text : List ℕ) (result : Result Module ModuleFault) → Answers result (module_in text) → IfOk result (λ m. AllByRecursion IsJudgeableEntry m.entries)
-judgeable text (Ok m) e = first-judgeable text m (module-found text m e)
+judgeable text (Ok m) e = all-judgeable text m (module-found text m e)
 judgeable text (Err fault) e = tt
 
 -- a token that is left behind the functions

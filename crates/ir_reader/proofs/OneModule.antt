@@ -1,4 +1,4 @@
--- A text of the first form is one module.
+-- A text is one module alone.
 use Rattle.std.proofs.Common.{◌≡◌, ℕ, true, List, [], map, Result, Ok, sym, ap, ◌∙◌, subst}
 use Rattle.ir_lexer.specs.Lexeme.{Lexeme}
 use Rattle.ir_tree.specs.declared.module.Entry.{Entry}
@@ -8,7 +8,7 @@ use Rattle.ir_forms.specs.Spelling.{Spells}
 use Rattle.ir_forms.proofs.Exact.{read-again}
 use Rattle.ir_reader.specs.declared.written.WrittenFunction.{WrittenFunction}
 use Rattle.ir_reader.specs.Grammar.{functions}
-use Rattle.ir_reader.specs.FirstForm.{IsFirstForm, entry_of}
+use Rattle.ir_reader.specs.StraightLine.{IsStraightLine, entry_of}
 
 pub same_tokens : (r : Result (List Lexeme) ℕ) (ts us : List Lexeme) → r ≡ Ok ts → r ≡ Ok us → ts ≡ us
 same_tokens r ts us a b = let both : Ok ts ≡ Ok us = sym a ∙ b in cc both
@@ -19,7 +19,7 @@ same_written ts vs ws a b = let both : reads vs [] ≡ reads ws [] = sym (read-a
 same_module : (m n : Module) → m.entries ≡ n.entries → m ≡ n
 same_module m n e = ap (λ (es : List Entry). let p : Module = record { entries = es } in p) e
 
-pub one_module : (text : List ℕ) (m n : Module) → IsFirstForm text m → IsFirstForm text n → m ≡ n
+pub one_module : (text : List ℕ) (m n : Module) → IsStraightLine text m → IsStraightLine text n → m ≡ n
 one_module text m n a b =
     let tokens : a.tokens ≡ b.tokens = same_tokens _ _ _ a.lexed_so b.lexed_so in
     let written : a.written ≡ b.written = same_written b.tokens a.written b.written (subst (λ (ts : List Lexeme). Spells true functions a.written ts []) tokens a.spelled) b.spelled in

@@ -1,18 +1,21 @@
 -- Classes of tokens.
 use Rattle.std.specs.Prelude.{◌≡◌, refl, ℕ, List, Option, Some, None, Bool, true, false, codes, ◌&&◌, is_some}
-use Rattle.std.proofs.Common.{lit≤}
 use Rattle.tv_num.specs.declared.Width.{Width}
 use Rattle.ir_lexer.specs.declared.token.Kind.TheVariants as kind
 use Rattle.ir_lexer.specs.Lexeme.{Lexeme}
 use Rattle.ir_tree.specs.declared.name.Name.{Name}
 use Rattle.ir_tree.specs.declared.name.Name.TheVariants as name
-use Rattle.ir_tree.specs.declared.tree.Op.{Op}
 use Rattle.ir_tree.specs.declared.tree.Op.TheVariants as op
+use Rattle.ir_tree.specs.declared.tree.Predicate.{Predicate}
+use Rattle.ir_tree.specs.declared.tree.Predicate.TheVariants as predicate
+use Rattle.ir_tree.specs.Types.{one_bit}
+use Rattle.ir_reader.specs.declared.word.Opcode.{Opcode}
+use Rattle.ir_reader.specs.declared.word.Opcode.TheVariants as opcode
 use Rattle.ir_reader.specs.declared.written.WrittenOperand.{WrittenOperand}
 use Rattle.ir_reader.specs.declared.written.WrittenOperand.TheVariants as operand
 use Rattle.ir_forms.specs.Form.{Class}
 use Rattle.ir_reader.specs.Numbers.{width_of}
-use Rattle.ir_reader.specs.Spelling.{is_word_of, is_mark_of, local_of, global_of, bits_of, operand_of, fits_bits, op_of}
+use Rattle.ir_reader.specs.Spelling.{is_word_of, is_mark_of, local_of, global_of, bits_of, operand_of, fits_bits, opcode_of, predicate_of}
 
 -- no limit
 abbrev pub any : Lexeme → Bool
@@ -45,9 +48,6 @@ abbrev pub global : Class Name
 global = record { stands = λ t. global_of t.kind t.text; within = any; sample = record { kind = kind.Global; text = codes "@a"; at = 0 }; value = name.Word (codes "a"); fits = refl }
 
 -- the type of so many bits. Where there is none, which is past a limit, any type stands for it
-abbrev pub one_bit : Width
-one_bit = record { bits = 1; at_least_1 = lit≤ tt; at_most_64 = lit≤ tt }
-
 abbrev pub width_or_one : Option Width → Width
 width_or_one None = one_bit
 width_or_one (Some w) = w
@@ -80,5 +80,9 @@ abbrev pub operand_class : Width → Class WrittenOperand
 operand_class w = record { stands = λ t. operand_of w.bits t.kind t.text; within = λ t. fits_bits w.bits t.kind t.text; sample = record { kind = kind.Local; text = codes "%a"; at = 0 }; value = operand.Local (name.Word (codes "a")); fits = refl }
 
 -- the word that names an instruction
-abbrev pub op_class : Class Op
-op_class = record { stands = λ t. op_of t.kind t.text; within = any; sample = record { kind = kind.Word; text = codes "and"; at = 0 }; value = op.And; fits = refl }
+abbrev pub opcode_class : Class Opcode
+opcode_class = record { stands = λ t. opcode_of t.kind t.text; within = any; sample = record { kind = kind.Word; text = codes "and"; at = 0 }; value = opcode.Binary op.And; fits = refl }
+
+-- the word that names a comparison
+abbrev pub predicate_class : Class Predicate
+predicate_class = record { stands = λ t. predicate_of t.kind t.text; within = any; sample = record { kind = kind.Word; text = codes "eq"; at = 0 }; value = predicate.Equal; fits = refl }

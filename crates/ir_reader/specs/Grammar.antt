@@ -1,14 +1,25 @@
 -- Which tokens spell the functions of a text.
-use Rattle.std.specs.Prelude.{refl, ℕ, List, [], ◌∷◌, ◌++◌, length, Option, Bool, codes, nat_lt, is_some}
+use Rattle.std.specs.Prelude.{refl, ℕ, List, [], ◌∷◌, ◌++◌, length, Option, Some, None, Bool, true, false, codes, nat_lt}
 use Rattle.tv_num.specs.declared.Width.{Width}
+use Rattle.ir_lexer.specs.declared.token.Kind.{Kind}
+use Rattle.ir_lexer.specs.declared.token.Kind.TheVariants as kind
 use Rattle.ir_lexer.specs.Lexeme.{Lexeme}
 use Rattle.ir_tree.specs.declared.name.Name.{Name}
+use Rattle.ir_tree.specs.declared.tree.Op.{Op}
+use Rattle.ir_reader.specs.declared.word.Opcode.{Opcode}
+use Rattle.ir_reader.specs.declared.word.Opcode.TheVariants as opcode
+use Rattle.ir_reader.specs.declared.word.LineStart.{LineStart}
+use Rattle.ir_reader.specs.declared.word.LineStart.TheVariants as start
+use Rattle.ir_reader.specs.declared.written.WrittenOperand.{WrittenOperand}
+use Rattle.ir_reader.specs.declared.written.WrittenOperand.TheVariants as operand
 use Rattle.ir_reader.specs.declared.written.WrittenParameter.{WrittenParameter}
 use Rattle.ir_reader.specs.declared.written.WrittenInst.{WrittenInst}
+use Rattle.ir_reader.specs.declared.written.WrittenInst.TheVariants as inst
+use Rattle.ir_reader.specs.declared.written.WrittenLines.{WrittenLines}
 use Rattle.ir_reader.specs.declared.written.WrittenReturn.{WrittenReturn}
 use Rattle.ir_reader.specs.declared.written.WrittenFunction.{WrittenFunction}
-use Rattle.ir_reader.specs.Spelling.{is_word_of, is_mark_of, local_of}
-use Rattle.ir_reader.specs.Classes.{any, mark, counted_word, as_word, as_mark, local, global, int_type, counted_type, operand_class, op_class}
+use Rattle.ir_reader.specs.Spelling.{is_word_of, is_mark_of, line_start}
+use Rattle.ir_reader.specs.Classes.{any, word, mark, counted_word, as_word, as_mark, local, global, int_type, counted_type, operand_class, opcode_class, predicate_class}
 use Rattle.ir_forms.specs.Form.{Form, never, either, give, one, upto, peek, tail, ◌>>=◌}
 
 -- ---- parameters
@@ -47,43 +58,85 @@ parameters = peek (mark (codes ")") refl) (λ closed. give []) int_type first_pa
 
 -- ---- instructions
 
--- how many instructions a function may have, the last one counted
-abbrev pub most_insts : ℕ
-most_insts = 65536
+-- an operand of a type, where undef may stand too
+unfoldable pub operand_or_undef : Width → Form never WrittenOperand
+operand_or_undef type = peek (word (codes "undef") refl) (λ undef. give operand.Undef) (operand_class type) (λ value. give value)
 
-abbrev pub is_local : Lexeme → Bool
-is_local t = is_some (local_of t.kind t.text)
-
-abbrev pub inst_begins : List WrittenInst → Lexeme → Option Name
-inst_begins s t = local_of t.kind t.text
-
--- an instruction is counted at its first token
-abbrev pub inst_within : List WrittenInst → Lexeme → Bool
-inst_within s t = nat_lt (length s) most_insts
-
--- behind the name: = op type left, right
-unfoldable pub inst : Name → Form never WrittenInst
-inst name = do
-  equals ← one (mark (codes "=") refl)
-  op ← one op_class
+-- behind the word: type left, right
+unfoldable pub binary : Name → Op → Form never WrittenInst
+binary name op = do
   type ← one int_type
   left ← one (operand_class type)
   comma ← one (mark (codes ",") refl)
   right ← one (operand_class type)
-  give (record { into = name; op = op; width = type; left = left; right = right })
+  give (inst.Binary name op type left right)
 
-abbrev pub with_inst : List WrittenInst → Name → Form never (List WrittenInst)
-with_inst s name = inst name >>= λ more. give (s ++ more ∷ [])
-
-unfoldable pub insts : Form (either never (either is_local never)) (List WrittenInst)
-insts = tail is_local inst_begins inst_within with_inst (give [])
-
--- behind ret: type value
-unfoldable pub returned : Form never WrittenReturn
-returned = do
+-- behind the word: predicate type left, right
+unfoldable pub icmp : Name → Form never WrittenInst
+icmp name = do
+  predicate ← one predicate_class
   type ← one int_type
-  value ← one (operand_class type)
-  give (record { width = type; operand = value })
+  left ← one (operand_class type)
+  comma ← one (mark (codes ",") refl)
+  right ← one (operand_class type)
+  give (inst.Icmp name predicate type left right)
+
+-- behind the word: type value
+unfoldable pub freeze : Name → Form never WrittenInst
+freeze name = do
+  type ← one int_type
+  value ← operand_or_undef type
+  give (inst.Freeze name type value)
+
+abbrev pub inst_by : Name → Opcode → Form never WrittenInst
+inst_by name (opcode.Binary op) = binary name op
+inst_by name opcode.Icmp = icmp name
+inst_by name opcode.Freeze = freeze name
+
+-- behind the name: = and the instruction
+unfoldable pub inst_named : Name → Form never WrittenInst
+inst_named name = do
+  equals ← one (mark (codes "=") refl)
+  op ← one opcode_class
+  inst_by name op
+
+-- ---- the block
+
+-- how many instructions a function may have, the last one counted
+abbrev pub most_insts : ℕ
+most_insts = 65536
+
+abbrev pub is_start : Kind → Bool
+is_start kind.Local = true
+is_start kind.Label = true
+is_start _ = false
+
+abbrev pub starts_line : Lexeme → Bool
+starts_line t = is_start t.kind
+
+-- whether neither a label nor an instruction stands before
+abbrev pub is_first : Option Name → List WrittenInst → Bool
+is_first None [] = true
+is_first label insts = false
+
+abbrev pub line_begins : WrittenLines → Lexeme → Option LineStart
+line_begins s t = line_start (is_first s.label s.insts) t.kind t.text
+
+-- an instruction is counted at its first token; before the label there is none
+abbrev pub line_within : WrittenLines → Lexeme → Bool
+line_within s t = nat_lt (length s.insts) most_insts
+
+abbrev pub with_line : WrittenLines → LineStart → Form never WrittenLines
+with_line s (start.Label name) = give (record { label = Some name; insts = s.insts })
+with_line s (start.Inst name) = inst_named name >>= λ more. give (record { label = s.label; insts = s.insts ++ more ∷ [] })
+
+-- a label or none, and instructions
+unfoldable pub lines : Form (either never (either starts_line never)) WrittenLines
+lines = tail starts_line line_begins line_within with_line (give (record { label = None; insts = [] }))
+
+-- behind ret: void, or type value
+unfoldable pub returned : Form never (Option WrittenReturn)
+returned = peek (word (codes "void") refl) (λ nothing. give None) int_type (λ type. operand_or_undef type >>= λ value. give (Some (record { width = type; operand = value })))
 
 -- ---- functions
 
@@ -91,18 +144,22 @@ returned = do
 abbrev pub most_functions : ℕ
 most_functions = 4096
 
--- behind define: type @name(parameters) { instructions ret type value }
+-- void or an integer type
+unfoldable pub return_type : Form never (Option Width)
+return_type = peek (word (codes "void") refl) (λ nothing. give None) int_type (λ type. give (Some type))
+
+-- behind define: type @name(parameters) { lines ret value }
 unfoldable pub function : Form never WrittenFunction
 function = do
-  type ← one int_type
+  type ← return_type
   name ← one global
   opening ← one (mark (codes "(") refl)
   all ← parameters
   body ← one (mark (codes "{") refl)
-  lines ← upto insts (λ s. counted_word (codes "ret") (nat_lt (length s) most_insts) refl) (λ s. refl)
+  block ← upto lines (λ s. counted_word (codes "ret") (nat_lt (length s.insts) most_insts) refl) (λ s. refl)
   value ← returned
   closing ← one (mark (codes "}") refl)
-  give (record { returns = type; name = name; parameters = all; insts = lines.0; returned = value })
+  give (record { returns = type; name = name; parameters = all; label = block.0.label; insts = block.0.insts; returned = value })
 
 abbrev pub is_define : Lexeme → Bool
 is_define t = is_word_of t.kind t.text (codes "define")

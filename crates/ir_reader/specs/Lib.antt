@@ -5,5 +5,5 @@ pub mod Grammar
 pub mod EntryName
 pub mod Numbering
 pub mod Checking
-pub mod FirstForm
+pub mod StraightLine
 pub mod Answer

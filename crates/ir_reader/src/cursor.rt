@@ -1,19 +1,21 @@
 // Reading one token.
-ghost use Rattle.std.specs.Prelude.{◌≡◌, true};
+ghost use Rattle.std.specs.Prelude.{◌≡◌, [], ◌==◌, true, Option};
 ghost use Rattle.ir_forms.specs.Form.{one_of, token_of, begin_of, reads, first_is};
 ghost use Rattle.ir_forms.specs.Answer.{Reads, Passes};
-ghost use Rattle.ir_reader.specs.Spelling.{local_of, op_of, bits_behind};
-ghost use Rattle.ir_reader.specs.Classes.{as_word, as_mark, any, passed, local, global, int_type, counted_type, spelled_width, width_in, operand_class, op_class};
-ghost use Rattle.ir_reader.specs.Grammar.{is_local, is_define};
+ghost use Rattle.ir_reader.specs.Spelling.{bits_behind, line_start, word_operand};
+ghost use Rattle.ir_reader.specs.Classes.{as_word, as_mark, any, passed, local, global, int_type, counted_type, spelled_width, width_in, operand_class, opcode_class, predicate_class};
+ghost use Rattle.ir_reader.specs.Grammar.{is_define, starts_line};
 
 use crate::names::name;
 use crate::numbers::{literal, some_digits, width};
+use crate::word::{LineStart, Opcode, opcode_of, predicate_of};
 use crate::written::WrittenOperand;
 use ir_forms::ReadFault;
 use ir_lexer::{Kind, Token};
-use ir_tree::{Flags, Name, Op};
+use ir_tree::{Name, Predicate};
 use std::alloc::Global;
 use std::marker::Model;
+use support::Sequence;
 use tv_num::Width;
 
 /// The tokens that are left to read. Contracts see them as a list.
@@ -33,6 +35,7 @@ impl<'a, 'b> Model for Cursor<'a, 'b> {
 }
 
 impl<'a, 'b> Cursor<'a, 'b> {
+    /// A cursor before these tokens; what is read takes its memory from the allocator.
     pub fn new(alloc: Global, tokens: &'b [Token<'a>]) -> Self
         ensures { result ≡ tokens.now }
     {
@@ -42,8 +45,11 @@ impl<'a, 'b> Cursor<'a, 'b> {
         }
     }
 
-    pub fn alloc(&self) -> Global {
-        self.alloc
+    /// A list without items. It takes no memory.
+    pub fn no_items<T>(&self) -> Sequence<T>
+        ensures { result ≡ [] }
+    {
+        Sequence::from_vec(Vec::new(self.alloc))
     }
 
     /// What is left.
@@ -99,16 +105,40 @@ impl<'a, 'b> Cursor<'a, 'b> {
         false
     }
 
-    /// Whether a local name stands next.
-    pub fn begins_inst(&self) -> bool
-        ensures { result ≡ first_is is_local self.now }
+    /// Passes a word, if it stands next.
+    pub fn eat_word(&mut self, text: &[u8]) -> bool
+        ensures { begin_of true any (as_word text.now) any self.old ≡ reads (passed result) self.new }
     {
-        let [first, ..] = self.rest else {
+        let [first, rest @ ..] = self.rest else {
             return false;
         };
-        match (first.kind(), first.text()) {
-            (Kind::Local, [_, ..]) => true,
-            _ => false,
+        if first.kind() == Kind::Word && first.text() == text {
+            self.rest = rest;
+            return true;
+        }
+        false
+    }
+
+    /// Reads what begins a line here, where there is room for it. A label does only where nothing
+    /// stands before it.
+    pub fn line_start(&mut self, is_first: bool, room: bool) -> Result<Option<LineStart>, ReadFault>
+        ensures { Reads (λ x. x) result self.new (begin_of true starts_line (λ t. line_start is_first t.kind t.text) (λ t. room) self.old) }
+    {
+        let [first, rest @ ..] = self.rest else {
+            return Ok(None);
+        };
+        if !starts_line(first) {
+            return Ok(None);
+        }
+        match line_at(self.alloc, first, is_first)? {
+            None => Ok(None),
+            Some(start) => {
+                if !room {
+                    return Err(ReadFault::PastLimit);
+                }
+                self.rest = rest;
+                Ok(Some(start))
+            }
         }
     }
 
@@ -122,9 +152,9 @@ impl<'a, 'b> Cursor<'a, 'b> {
         first.kind() == Kind::Word && first.text() == b"define".as_slice()
     }
 
-    /// Reads a local name, where there is room for what it begins.
-    pub fn counted_local(&mut self, room: bool) -> Result<Name, ReadFault>
-        ensures { Reads (λ x. x) result self.new (token_of true (λ t. local_of t.kind t.text) (λ t. room) self.old) }
+    /// Reads a local name.
+    pub fn local(&mut self) -> Result<Name, ReadFault>
+        ensures { Reads (λ x. x) result self.new (one_of true local self.old) }
     {
         let [first, rest @ ..] = self.rest else {
             return Err(ReadFault::Unfit);
@@ -132,19 +162,9 @@ impl<'a, 'b> Cursor<'a, 'b> {
         let (Kind::Local, [_, text @ ..]) = (first.kind(), first.text()) else {
             return Err(ReadFault::Unfit);
         };
-        if !room {
-            return Err(ReadFault::PastLimit);
-        }
         let local = name(self.alloc, text)?;
         self.rest = rest;
         Ok(local)
-    }
-
-    /// Reads a local name.
-    pub fn local(&mut self) -> Result<Name, ReadFault>
-        ensures { Reads (λ x. x) result self.new (one_of true local self.old) }
-    {
-        self.counted_local(true)
     }
 
     /// Reads a global name.
@@ -202,6 +222,10 @@ impl<'a, 'b> Cursor<'a, 'b> {
                 Some(value) => WrittenOperand::Literal(value),
                 None => return Err(ReadFault::PastLimit),
             },
+            (Kind::Word, text) => match word_operand(width, text) {
+                Some(operand) => operand,
+                None => return Err(ReadFault::Unfit),
+            },
             _ => return Err(ReadFault::Unfit),
         };
         self.rest = rest;
@@ -209,24 +233,67 @@ impl<'a, 'b> Cursor<'a, 'b> {
     }
 
     /// Reads the word that names an instruction.
-    pub fn op(&mut self) -> Result<Op, ReadFault>
-        ensures { Reads (λ x. x) result self.new (one_of true op_class self.old) }
+    pub fn opcode(&mut self) -> Result<Opcode, ReadFault>
+        ensures { Reads (λ x. x) result self.new (one_of true opcode_class self.old) }
     {
         let [first, rest @ ..] = self.rest else {
             return Err(ReadFault::Unfit);
         };
-        let Some(op) = op_of(first) else {
+        let Some(opcode) = opcode_of(first) else {
             return Err(ReadFault::Unfit);
         };
         self.rest = rest;
-        Ok(op)
+        Ok(opcode)
+    }
+
+    /// Reads the word that names a comparison.
+    pub fn predicate(&mut self) -> Result<Predicate, ReadFault>
+        ensures { Reads (λ x. x) result self.new (one_of true predicate_class self.old) }
+    {
+        let [first, rest @ ..] = self.rest else {
+            return Err(ReadFault::Unfit);
+        };
+        let Some(predicate) = predicate_of(first) else {
+            return Err(ReadFault::Unfit);
+        };
+        self.rest = rest;
+        Ok(predicate)
     }
 }
 
-const NO_FLAGS: Flags = Flags {
-    nuw: false,
-    nsw: false,
-};
+// What a word stands for as an operand of a type: a truth value of one bit, or poison.
+fn word_operand(width: Width, text: &[u8]) -> Option<WrittenOperand>
+    ensures { result ≡ word_operand width.bits text.now }
+{
+    if text == b"poison".as_slice() {
+        Some(WrittenOperand::Poison)
+    } else if width.bits() == 1 && text == b"true".as_slice() {
+        Some(WrittenOperand::Literal(1))
+    } else if width.bits() == 1 && text == b"false".as_slice() {
+        Some(WrittenOperand::Literal(0))
+    } else {
+        None
+    }
+}
+
+fn starts_line(token: &Token) -> bool
+    ensures { result ≡ starts_line token.now }
+{
+    matches!(token.kind(), Kind::Local | Kind::Label)
+}
+
+// What a token begins a line with.
+fn line_at(alloc: Global, token: &Token, is_first: bool) -> Result<Option<LineStart>, ReadFault>
+    ensures { Reads (λ x. x) result [] (reads (line_start is_first token.now.kind token.now.text) []) }
+{
+    match (token.kind(), token.text()) {
+        (Kind::Local, [_, text @ ..]) => Ok(Some(LineStart::Inst(name(alloc, text)?))),
+        (Kind::Label, [text @ .., _]) if is_first => {
+            Ok(Some(LineStart::Label(name(alloc, text)?)))
+        }
+        _ => Ok(None),
+    }
+}
 
 // The width of the type that a word spells: nothing where it spells none, nothing inside where there
 // is no such width.
@@ -244,19 +311,6 @@ fn width_in(token: &Token) -> Option<Option<Width>>
 {
     match token.kind() {
         Kind::Word => width_behind(token.text()),
-        _ => None,
-    }
-}
-
-fn op_of(token: &Token) -> Option<Op>
-    ensures { result ≡ op_of token.now.kind token.now.text }
-{
-    match (token.kind(), token.text()) {
-        (Kind::Word, b"add") => Some(Op::Add(NO_FLAGS)),
-        (Kind::Word, b"sub") => Some(Op::Sub(NO_FLAGS)),
-        (Kind::Word, b"and") => Some(Op::And),
-        (Kind::Word, b"or") => Some(Op::Or),
-        (Kind::Word, b"xor") => Some(Op::Xor),
         _ => None,
     }
 }

@@ -6,7 +6,7 @@ use std::alloc::{AllocError, AllocFailed};
 /// Why a text gives no module.
 #[derive(Clone, Copy, Debug, PartialEq, Eq)]
 pub enum ModuleFault {
-    /// The text is not of the first form.
+    /// The text isn't a list of straight-line functions that are well formed and within the limits.
     NotRead,
     /// There was no memory for the module.
     NoMemory,

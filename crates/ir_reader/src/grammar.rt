@@ -3,12 +3,15 @@ ghost use Rattle.std.specs.Prelude.{◌≡◌, ◌++◌, ◌∷◌, [], true};
 ghost use Rattle.ir_forms.specs.Form.{reads, read, step_of};
 ghost use Rattle.ir_forms.specs.Answer.{Reads};
 ghost use Rattle.ir_reader.specs.Classes.{any};
-ghost use Rattle.ir_reader.specs.Grammar.{is_comma, parameter_begins, parameter, with_parameter, more_parameters, first_parameter, parameters, is_local, inst_begins, inst_within, inst, with_inst, insts, returned, function, is_define, function_begins, function_within, with_function, functions};
+ghost use Rattle.ir_reader.specs.Grammar.{is_comma, parameter_begins, parameter, with_parameter, more_parameters, first_parameter, parameters, operand_or_undef, binary, icmp, freeze, inst_by, inst_named, is_first, starts_line, line_begins, line_within, with_line, lines, returned, return_type, function, is_define, function_begins, function_within, with_function, functions};
 
 use crate::cursor::Cursor;
-use crate::written::{WrittenFunction, WrittenInst, WrittenParameter, WrittenReturn};
+use crate::word::{LineStart, Opcode};
+use crate::written::{
+    WrittenFunction, WrittenInst, WrittenLines, WrittenOperand, WrittenParameter, WrittenReturn,
+};
 use ir_forms::ReadFault;
-use ir_tree::Name;
+use ir_tree::{Name, Op};
 use support::Sequence;
 use tv_num::Width;
 
@@ -28,6 +31,13 @@ fn pushed<T: Drop>(items: Sequence<T>, item: T) -> Result<Sequence<T>, ReadFault
     let mut items = items;
     items.push(item)?;
     Ok(items)
+}
+
+// Whether neither a label nor an instruction stands before.
+fn is_first(lines: &WrittenLines) -> bool
+    ensures { result ≡ is_first lines.now.label lines.now.insts }
+{
+    lines.label.is_none() && lines.insts.len() == 0
 }
 
 impl<'a, 'b> Cursor<'a, 'b> {
@@ -76,7 +86,7 @@ impl<'a, 'b> Cursor<'a, 'b> {
         ensures { Reads (λ x. x) result self.new (read true (first_parameter width) self.old) }
     {
         let name = self.local()?;
-        let none = Sequence::from_vec(Vec::new(self.alloc()));
+        let none = self.no_items();
         let first = pushed(none, WrittenParameter { width, name })?;
         let all = self.more_parameters(first)?;
         self.mark(b")".as_slice())?;
@@ -88,23 +98,32 @@ impl<'a, 'b> Cursor<'a, 'b> {
         ensures { Reads (λ x. x) result self.new (read true parameters self.old) }
     {
         if self.eat_mark(b")".as_slice()) {
-            return Ok(Sequence::from_vec(Vec::new(self.alloc())));
+            return Ok(self.no_items());
         }
         let width = self.int_type()?;
         self.first_parameter(width)
     }
 
-    #[tactic(auto, unfolding(crate::specs::Grammar::inst))]
-    fn inst(&mut self, into: Name) -> Result<WrittenInst, ReadFault>
-        ensures { Reads (λ x. x) result self.new (read true (inst into) self.old) }
+    // An operand, where undef may stand too.
+    #[tactic(auto, unfolding(crate::specs::Grammar::operand_or_undef))]
+    fn operand_or_undef(&mut self, width: Width) -> Result<WrittenOperand, ReadFault>
+        ensures { Reads (λ x. x) result self.new (read true (operand_or_undef width) self.old) }
     {
-        self.mark(b"=".as_slice())?;
-        let op = self.op()?;
+        if self.eat_word(b"undef".as_slice()) {
+            return Ok(WrittenOperand::Undef);
+        }
+        self.operand(width)
+    }
+
+    #[tactic(auto, unfolding(crate::specs::Grammar::binary))]
+    fn binary(&mut self, into: Name, op: Op) -> Result<WrittenInst, ReadFault>
+        ensures { Reads (λ x. x) result self.new (read true (binary into op) self.old) }
+    {
         let width = self.int_type()?;
         let left = self.operand(width)?;
         self.mark(b",".as_slice())?;
         let right = self.operand(width)?;
-        Ok(WrittenInst {
+        Ok(WrittenInst::Binary {
             into,
             op,
             width,
@@ -113,28 +132,95 @@ impl<'a, 'b> Cursor<'a, 'b> {
         })
     }
 
-    // One more instruction, if one begins here, and whether one did.
-    fn one_inst(
-        &mut self,
-        so_far: Sequence<WrittenInst>,
-    ) -> Result<(Sequence<WrittenInst>, bool), ReadFault>
-        ensures { Reads (λ x. x) result self.new (step_of is_local inst_begins inst_within (λ s a ts. read true (with_inst s a) ts) so_far self.old) }
+    #[tactic(auto, unfolding(crate::specs::Grammar::icmp))]
+    fn icmp(&mut self, into: Name) -> Result<WrittenInst, ReadFault>
+        ensures { Reads (λ x. x) result self.new (read true (icmp into) self.old) }
     {
-        if !self.begins_inst() {
-            return Ok((so_far, false));
-        }
-        let room = so_far.len() < MOST_INSTS;
-        let name = self.counted_local(room)?;
-        let inst = self.inst(name)?;
-        Ok((pushed(so_far, inst)?, true))
+        let predicate = self.predicate()?;
+        let width = self.int_type()?;
+        let left = self.operand(width)?;
+        self.mark(b",".as_slice())?;
+        let right = self.operand(width)?;
+        Ok(WrittenInst::Icmp {
+            into,
+            predicate,
+            width,
+            left,
+            right,
+        })
     }
 
-    fn insts(&mut self) -> Result<Sequence<WrittenInst>, ReadFault>
-        ensures { Reads (λ x. x) result self.new (read true insts self.old) }
+    #[tactic(auto, unfolding(crate::specs::Grammar::freeze))]
+    fn freeze(&mut self, into: Name) -> Result<WrittenInst, ReadFault>
+        ensures { Reads (λ x. x) result self.new (read true (freeze into) self.old) }
     {
-        let mut so_far = Sequence::from_vec(Vec::new(self.alloc()));
+        let width = self.int_type()?;
+        let operand = self.operand_or_undef(width)?;
+        Ok(WrittenInst::Freeze {
+            into,
+            width,
+            operand,
+        })
+    }
+
+    // What stands behind the word of an instruction.
+    fn inst_by(&mut self, into: Name, opcode: Opcode) -> Result<WrittenInst, ReadFault>
+        ensures { Reads (λ x. x) result self.new (read true (inst_by into opcode) self.old) }
+    {
+        match opcode {
+            Opcode::Binary(op) => self.binary(into, op),
+            Opcode::Icmp => self.icmp(into),
+            Opcode::Freeze => self.freeze(into),
+        }
+    }
+
+    #[tactic(auto, unfolding(crate::specs::Grammar::inst_named))]
+    fn inst_named(&mut self, into: Name) -> Result<WrittenInst, ReadFault>
+        ensures { Reads (λ x. x) result self.new (read true (inst_named into) self.old) }
+    {
+        self.mark(b"=".as_slice())?;
+        let opcode = self.opcode()?;
+        self.inst_by(into, opcode)
+    }
+
+    fn line(&mut self, so_far: WrittenLines, start: LineStart) -> Result<WrittenLines, ReadFault>
+        ensures { Reads (λ x. x) result self.new (read true (with_line so_far start) self.old) }
+    {
+        let WrittenLines { label, insts } = so_far;
+        match start {
+            LineStart::Label(name) => Ok(WrittenLines {
+                label: Some(name),
+                insts,
+            }),
+            LineStart::Inst(name) => {
+                let inst = self.inst_named(name)?;
+                let insts = pushed(insts, inst)?;
+                Ok(WrittenLines { label, insts })
+            }
+        }
+    }
+
+    // One more line, if one begins here, and whether one did.
+    fn one_line(&mut self, so_far: WrittenLines) -> Result<(WrittenLines, bool), ReadFault>
+        ensures { Reads (λ x. x) result self.new (step_of starts_line line_begins line_within (λ s a ts. read true (with_line s a) ts) so_far self.old) }
+    {
+        let room = so_far.insts.len() < MOST_INSTS;
+        let first = is_first(&so_far);
+        match self.line_start(first, room)? {
+            None => Ok((so_far, false)),
+            Some(start) => Ok((self.line(so_far, start)?, true)),
+        }
+    }
+
+    fn lines(&mut self) -> Result<WrittenLines, ReadFault>
+        ensures { Reads (λ x. x) result self.new (read true lines self.old) }
+    {
+        let mut so_far = WrittenLines {
+            label: None,
+            insts: self.no_items(),
+        };
         loop {
-            let (next, is_more) = self.one_inst(so_far)?;
+            let (next, is_more) = self.one_line(so_far)?;
             so_far = next;
             if !is_more {
                 return Ok(so_far);
@@ -143,24 +229,37 @@ impl<'a, 'b> Cursor<'a, 'b> {
     }
 
     #[tactic(auto, unfolding(crate::specs::Grammar::returned))]
-    fn returned(&mut self) -> Result<WrittenReturn, ReadFault>
+    fn returned(&mut self) -> Result<Option<WrittenReturn>, ReadFault>
         ensures { Reads (λ x. x) result self.new (read true returned self.old) }
     {
+        if self.eat_word(b"void".as_slice()) {
+            return Ok(None);
+        }
         let width = self.int_type()?;
-        let operand = self.operand(width)?;
-        Ok(WrittenReturn { width, operand })
+        let operand = self.operand_or_undef(width)?;
+        Ok(Some(WrittenReturn { width, operand }))
+    }
+
+    #[tactic(auto, unfolding(crate::specs::Grammar::return_type))]
+    fn return_type(&mut self) -> Result<Option<Width>, ReadFault>
+        ensures { Reads (λ x. x) result self.new (read true return_type self.old) }
+    {
+        if self.eat_word(b"void".as_slice()) {
+            return Ok(None);
+        }
+        Ok(Some(self.int_type()?))
     }
 
     #[tactic(auto, unfolding(crate::specs::Grammar::function))]
     fn function(&mut self) -> Result<WrittenFunction, ReadFault>
         ensures { Reads (λ x. x) result self.new (read true function self.old) }
     {
-        let returns = self.int_type()?;
+        let returns = self.return_type()?;
         let name = self.global()?;
         self.mark(b"(".as_slice())?;
         let parameters = self.parameters()?;
         self.mark(b"{".as_slice())?;
-        let insts = self.insts()?;
+        let WrittenLines { label, insts } = self.lines()?;
         let room = insts.len() < MOST_INSTS;
         self.counted_word(b"ret".as_slice(), room)?;
         let returned = self.returned()?;
@@ -169,6 +268,7 @@ impl<'a, 'b> Cursor<'a, 'b> {
             returns,
             name,
             parameters,
+            label,
             insts,
             returned,
         })
@@ -194,7 +294,7 @@ impl<'a, 'b> Cursor<'a, 'b> {
     pub fn functions(&mut self) -> Result<Sequence<WrittenFunction>, ReadFault>
         ensures { Reads (λ x. x) result self.new (read true functions self.old) }
     {
-        let mut so_far = Sequence::from_vec(Vec::new(self.alloc()));
+        let mut so_far = self.no_items();
         loop {
             let (next, is_more) = self.one_function(so_far)?;
             so_far = next;

@@ -1,7 +1,7 @@
 //! Reading a text of LLVM IR.
 //!
-//! It promises that [`read`] takes exactly the texts of the first form, straight-line functions of
-//! integers, and gives the one module that such a text is. `specs/FirstForm.antt` says which texts
+//! It promises that [`read`] takes exactly the texts that are lists of straight-line functions of
+//! integers, and gives the one module that such a text is. `specs/StraightLine.antt` says which texts
 //! these are: `specs/Grammar.antt` has the grammar, `specs/Numbering.antt` how names become numbers.
 //! It stands on `ir_lexer` for the tokens, on `ir_forms` for the laws of its grammar and on
 //! `ir_tree` for what it makes; the command stands on it.
@@ -16,6 +16,7 @@ mod names;
 mod numbers;
 mod reading;
 mod scope;
+mod word;
 mod written;
 
 pub use fault::ModuleFault;
@@ -103,7 +104,7 @@ mod tests {
                 right,
                 ..
             } => Some((into, left, right)),
-            Inst::Freeze { .. } => None,
+            Inst::Icmp { .. } | Inst::Freeze { .. } => None,
         }
     }
 

@@ -1,7 +1,7 @@
 ghost use Rattle.std.specs.Prelude.{◌≡◌, ℕ, List, IfOk, true};
 ghost use Rattle.std.specs.List.{AllByRecursion};
 ghost use Rattle.ir_tree.specs.declared.module.Module.{Module};
-ghost use Rattle.ir_reader.specs.FirstForm.{IsFirstForm, IsJudgeableEntry};
+ghost use Rattle.ir_reader.specs.StraightLine.{IsStraightLine, IsJudgeableEntry};
 ghost use Rattle.ir_reader.specs.Answer.{Gives, Answers};
 ghost use Rattle.ir_reader.specs.Checking.{module_in, tokens_found, whole};
 ghost use Rattle.ir_reader.specs.Grammar.{functions};
@@ -18,18 +18,20 @@ use ir_tree::{Module, Names};
 use std::alloc::Global;
 use support::Sequence;
 
-/// The module that a text of the first form is (LLVM Language Reference, "Functions",
+/// The module that a text of straight-line functions is (LLVM Language Reference, "Functions",
 /// "Identifiers").
 ///
-/// Such a text spells functions of different names, at most 4,096, and nothing else: `define`, an
-/// integer type of 1 to 64 bits, a global name, parameters of integer types with local names, at
-/// most 16, and in braces instructions `add`, `sub`, `and`, `or`, `xor` without flags and then one
-/// `ret`, at most 65,536. Operands are local names and integer literals of their type. Each name is
-/// defined once, before its uses and of the type that is written there. `NotRead` comes exactly at
-/// every other text.
+/// Such a text spells functions of different names, at most 4,096, and nothing else: `define`,
+/// `void` or an integer type of 1 to 64 bits, a global name, parameters of integer types with local
+/// names, at most 16, and in braces one block: a label or none, instructions, and then one `ret`, at
+/// most 65,536 together. The instructions are `add`, `sub`, `and`, `or`, `xor` without flags, `icmp`
+/// without flags, and `freeze`. Operands are local names, integer literals of their type, `true` and
+/// `false` for `i1`, and `poison`; in `freeze` and `ret` also `undef`. Each name is defined once,
+/// before its uses and of the type that is written there; labels and values share one space of
+/// names. `ret` has the header's type. `NotRead` comes exactly at every other text.
 pub fn read(alloc: Global, text: &[u8]) -> Result<Module, ModuleFault>
-    ensures found { IfOk result (λ m. IsFirstForm text.now m) }
-    ensures only { (m : Module) → IsFirstForm text.now m → Gives result m }
+    ensures found { IfOk result (λ m. IsStraightLine text.now m) }
+    ensures only { (m : Module) → IsStraightLine text.now m → Gives result m }
     ensures judgeable { IfOk result (λ m. AllByRecursion IsJudgeableEntry m.entries) }
 {
     module(alloc, text)
@@ -72,7 +74,7 @@ fn written(alloc: Global, tokens: &[Token]) -> Result<Sequence<WrittenFunction>,
     }
 }
 
-/// A text is of the first form of one module alone.
+/// A text is one module alone.
 pub fn is_one_module()
-    ensures { (text : List ℕ) (m n : Module) → IsFirstForm text m → IsFirstForm text n → m ≡ n }
+    ensures { (text : List ℕ) (m n : Module) → IsStraightLine text m → IsStraightLine text n → m ≡ n }
 {}

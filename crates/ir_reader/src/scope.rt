@@ -1,6 +1,9 @@
 // Numbering the names of a function and checking it, in one go.
 ghost use Rattle.std.specs.Prelude.{◌≡◌, IfOk};
-ghost use Rattle.ir_reader.specs.Checking.{no_names, defined, value_number, operand_in, parameter_in, inst_in, each_in, head_in, block_of, blocks_in, parts_in, checked};
+ghost use Rattle.ir_tree.specs.Types.{one_bit};
+ghost use Rattle.ir_reader.specs.Checking.{no_names, defined, value_number, operand_in, parameter_in, binary_in, icmp_in, freeze_in, inst_in, each_in, head_in, returned_in, block_of, blocks_in, parts_in, returns_so, checked};
+ghost use Rattle.ir_reader.specs.EntryName.{entry_name};
+ghost use Rattle.ir_reader.specs.Numbering.{parameter_names, label_or, type_or_void};
 ghost use Rattle.ir_reader.specs.Answer.{Answers, Defines, Checks};
 
 use crate::entry_name::entry_name;
@@ -9,7 +12,8 @@ use crate::written::{
     WrittenFunction, WrittenInst, WrittenOperand, WrittenParameter, WrittenReturn,
 };
 use ir_tree::{
-    Block, Function, Inst, IrType, Name, Names, Operand, Parameter, Returned, Terminator,
+    Block, Function, Inst, IrType, Name, Names, Op, Operand, Parameter, Predicate, Returned,
+    Terminator,
 };
 use std::alloc::Global;
 use std::marker::Model;
@@ -75,6 +79,8 @@ impl Scope {
                 None => Err(ModuleFault::NotRead),
             },
             WrittenOperand::Literal(number) => Ok(Operand::Number(*number)),
+            WrittenOperand::Poison => Ok(Operand::Poison),
+            WrittenOperand::Undef => Ok(Operand::Undef),
         }
     }
 
@@ -90,17 +96,17 @@ impl Scope {
         })
     }
 
-    #[tactic(auto, unfolding(crate::specs::Checking::inst_in))]
-    fn inst(&mut self, inst: WrittenInst) -> Result<Inst, ModuleFault>
-        ensures { Checks (λ x. x) result self.new (inst_in self.old inst) }
+    #[tactic(auto, unfolding(crate::specs::Checking::binary_in))]
+    fn binary(
+        &mut self,
+        into: Name,
+        op: Op,
+        width: Width,
+        left: WrittenOperand,
+        right: WrittenOperand,
+    ) -> Result<Inst, ModuleFault>
+        ensures { Checks (λ x. x) result self.new (binary_in self.old into op width left right) }
     {
-        let WrittenInst {
-            into,
-            op,
-            width,
-            left,
-            right,
-        } = inst;
         let left = self.operand(width, &left)?;
         let right = self.operand(width, &right)?;
         let into = self.define(into, Some(width))?;
@@ -111,6 +117,73 @@ impl Scope {
             left,
             right,
         })
+    }
+
+    #[tactic(auto, unfolding(crate::specs::Checking::icmp_in))]
+    fn icmp(
+        &mut self,
+        into: Name,
+        predicate: Predicate,
+        width: Width,
+        left: WrittenOperand,
+        right: WrittenOperand,
+    ) -> Result<Inst, ModuleFault>
+        ensures { Checks (λ x. x) result self.new (icmp_in self.old into predicate width left right) }
+    {
+        let left = self.operand(width, &left)?;
+        let right = self.operand(width, &right)?;
+        let into = self.define(into, Some(one_bit()))?;
+        Ok(Inst::Icmp {
+            into,
+            predicate,
+            width,
+            left,
+            right,
+        })
+    }
+
+    #[tactic(auto, unfolding(crate::specs::Checking::freeze_in))]
+    fn freeze(
+        &mut self,
+        into: Name,
+        width: Width,
+        operand: WrittenOperand,
+    ) -> Result<Inst, ModuleFault>
+        ensures { Checks (λ x. x) result self.new (freeze_in self.old into width operand) }
+    {
+        let operand = self.operand(width, &operand)?;
+        let into = self.define(into, Some(width))?;
+        Ok(Inst::Freeze {
+            into,
+            width,
+            operand,
+        })
+    }
+
+    fn inst(&mut self, inst: WrittenInst) -> Result<Inst, ModuleFault>
+        ensures { Checks (λ x. x) result self.new (inst_in self.old inst) }
+    {
+        match inst {
+            WrittenInst::Binary {
+                into,
+                op,
+                width,
+                left,
+                right,
+            } => self.binary(into, op, width, left, right),
+            WrittenInst::Icmp {
+                into,
+                predicate,
+                width,
+                left,
+                right,
+            } => self.icmp(into, predicate, width, left, right),
+            WrittenInst::Freeze {
+                into,
+                width,
+                operand,
+            } => self.freeze(into, width, operand),
+        }
     }
 
     fn parameters(
@@ -141,35 +214,51 @@ impl Scope {
         Ok(Sequence::from_vec(numbered))
     }
 
-    // Numbers the parameters and the entry's label.
+    // Numbers the parameters and the block's label.
     #[tactic(auto, unfolding(crate::specs::Checking::head_in))]
     fn head(
         &mut self,
         alloc: Global,
         parameters: Sequence<WrittenParameter>,
+        label: Option<Name>,
     ) -> Result<(Sequence<Parameter>, usize), ModuleFault>
-        ensures { Checks (λ x. x) result self.new (head_in self.old parameters) }
+        ensures { Checks (λ x. x) result self.new (head_in self.old parameters label) }
     {
-        let entry = entry_name(alloc, &parameters)?;
+        let name = block_name(alloc, label, &parameters)?;
         let parameters = self.parameters(alloc, parameters)?;
-        let label = self.define(entry, None)?;
+        let label = self.define(name, None)?;
         Ok((parameters, label))
     }
 
-    // Numbers what stands between the braces.
+    fn returned(&self, returned: Option<WrittenReturn>) -> Result<Option<Returned>, ModuleFault>
+        ensures { Answers result (returned_in self.now returned) }
+    {
+        match returned {
+            None => Ok(None),
+            Some(returned) => {
+                let operand = self.operand(returned.width, &returned.operand)?;
+                Ok(Some(Returned {
+                    of_type: IrType::Int(returned.width),
+                    operand,
+                }))
+            }
+        }
+    }
+
+    // Numbers what stands between the braces behind a label.
     #[tactic(auto, unfolding(crate::specs::Checking::blocks_in))]
     fn blocks(
         &mut self,
         alloc: Global,
         label: usize,
         insts: Sequence<WrittenInst>,
-        returned: WrittenReturn,
+        returned: Option<WrittenReturn>,
     ) -> Result<Sequence<Block>, ModuleFault>
         ensures { Checks (λ x. x) result self.new (blocks_in self.old label insts returned) }
     {
         let insts = self.insts(alloc, insts)?;
-        let operand = self.operand(returned.width, &returned.operand)?;
-        Ok(one_block(alloc, label, insts, returned.width, operand)?)
+        let returned = self.returned(returned)?;
+        Ok(one_block(alloc, label, insts, returned)?)
     }
 
     fn into_names(self) -> Names
@@ -180,25 +269,41 @@ impl Scope {
     }
 }
 
+// The type of a truth value.
+fn one_bit() -> Width
+    ensures { result ≡ one_bit }
+{
+    Width::of(1)
+}
+
+// The name of the one block: its label, or what an entry without one is called.
+fn block_name(
+    alloc: Global,
+    label: Option<Name>,
+    parameters: &Sequence<WrittenParameter>,
+) -> Result<Name, NoMemory>
+    ensures { IfOk result (λ name. name ≡ label_or label (entry_name (parameter_names parameters.now))) }
+{
+    match label {
+        Some(label) => Ok(label),
+        None => entry_name(alloc, parameters),
+    }
+}
+
 // The one block of a function.
 fn one_block(
     alloc: Global,
     label: usize,
     insts: Sequence<Inst>,
-    width: Width,
-    operand: Operand,
+    returned: Option<Returned>,
 ) -> Result<Sequence<Block>, NoMemory>
-    ensures { IfOk result (λ blocks. blocks ≡ block_of label insts width operand) }
+    ensures { IfOk result (λ blocks. blocks ≡ block_of label insts returned) }
 {
-    let returned = Returned {
-        of_type: IrType::Int(width),
-        operand,
-    };
     let mut blocks = Sequence::from_vec(Vec::new(alloc));
     blocks.push(Block {
         label,
         insts,
-        terminator: Terminator::Return(Some(returned)),
+        terminator: Terminator::Return(returned),
     })?;
     Ok(blocks)
 }
@@ -207,15 +312,37 @@ fn one_block(
 fn parts(
     alloc: Global,
     parameters: Sequence<WrittenParameter>,
+    label: Option<Name>,
     insts: Sequence<WrittenInst>,
-    returned: WrittenReturn,
+    returned: Option<WrittenReturn>,
 ) -> Result<((Sequence<Parameter>, Sequence<Block>), Scope), ModuleFault>
-    ensures { Answers result (parts_in parameters insts returned) }
+    ensures { Answers result (parts_in parameters label insts returned) }
 {
     let mut scope = Scope::new(alloc);
-    let (parameters, label) = scope.head(alloc, parameters)?;
+    let (parameters, label) = scope.head(alloc, parameters, label)?;
     let blocks = scope.blocks(alloc, label, insts, returned)?;
     Ok(((parameters, blocks), scope))
+}
+
+// The type of a header; nothing is void.
+fn type_or_void(returns: Option<Width>) -> Option<IrType>
+    ensures { result ≡ type_or_void returns }
+{
+    match returns {
+        Some(width) => Some(IrType::Int(width)),
+        None => None,
+    }
+}
+
+// Whether the type behind `ret` is the header's.
+fn returns_so(returns: Option<Width>, returned: &Option<WrittenReturn>) -> bool
+    ensures { result ≡ returns_so returns returned.now }
+{
+    match (returns, returned) {
+        (None, None) => true,
+        (Some(width), Some(returned)) => returned.width.bits() == width.bits(),
+        (None, Some(_)) | (Some(_), None) => false,
+    }
 }
 
 /// The function with its names numbered, if it is well formed: `NotRead` comes exactly where it
@@ -224,20 +351,21 @@ fn parts(
 pub fn check(alloc: Global, written: WrittenFunction) -> Result<Function, ModuleFault>
     ensures { Answers result (checked written) }
 {
-    if written.returned.width.bits() != written.returns.bits() {
+    if !returns_so(written.returns, &written.returned) {
         return Err(ModuleFault::NotRead);
     }
     let WrittenFunction {
         returns,
         name,
         parameters,
+        label,
         insts,
         returned,
     } = written;
-    let ((parameters, blocks), scope) = parts(alloc, parameters, insts, returned)?;
+    let ((parameters, blocks), scope) = parts(alloc, parameters, label, insts, returned)?;
     Ok(Function {
         name,
-        returns: Some(IrType::Int(returns)),
+        returns: type_or_void(returns),
         parameters,
         blocks,
         names: scope.into_names(),

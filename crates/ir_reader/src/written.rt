@@ -1,5 +1,5 @@
 // A function as it is written: names stand where the text has them.
-use ir_tree::{Name, Op};
+use ir_tree::{Name, Op, Predicate};
 use support::Sequence;
 use tv_num::Width;
 
@@ -8,6 +8,8 @@ pub enum WrittenOperand {
     Local(Name),
     /// A literal, wrapped to the width that is written before it.
     Literal(u64),
+    Poison,
+    Undef,
 }
 
 #[derive(Drop)]
@@ -17,12 +19,33 @@ pub struct WrittenParameter {
 }
 
 #[derive(Drop)]
-pub struct WrittenInst {
-    pub into: Name,
-    pub op: Op,
-    pub width: Width,
-    pub left: WrittenOperand,
-    pub right: WrittenOperand,
+pub enum WrittenInst {
+    Binary {
+        into: Name,
+        op: Op,
+        width: Width,
+        left: WrittenOperand,
+        right: WrittenOperand,
+    },
+    Icmp {
+        into: Name,
+        predicate: Predicate,
+        width: Width,
+        left: WrittenOperand,
+        right: WrittenOperand,
+    },
+    Freeze {
+        into: Name,
+        width: Width,
+        operand: WrittenOperand,
+    },
+}
+
+/// A block so far: its label, if it has one, and its instructions.
+#[derive(Drop)]
+pub struct WrittenLines {
+    pub label: Option<Name>,
+    pub insts: Sequence<WrittenInst>,
 }
 
 /// What `ret` gives, behind its type.
@@ -32,11 +55,13 @@ pub struct WrittenReturn {
     pub operand: WrittenOperand,
 }
 
+/// `returns` is nothing for a header of type `void`, `returned` for `ret void`.
 #[derive(Drop)]
 pub struct WrittenFunction {
-    pub returns: Width,
+    pub returns: Option<Width>,
     pub name: Name,
     pub parameters: Sequence<WrittenParameter>,
+    pub label: Option<Name>,
     pub insts: Sequence<WrittenInst>,
-    pub returned: WrittenReturn,
+    pub returned: Option<WrittenReturn>,
 }

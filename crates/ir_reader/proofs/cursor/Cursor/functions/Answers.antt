@@ -16,9 +16,7 @@ short s a ts x rest e = shorter true (with_function s a) ts x rest e
 
 pub loop-next-init : goal.loop-next-init
 unfolding functions
-loop-next-init c =
-    let none : c.from_vec-so_far.result ≡ [] = c.from_vec-so_far.ensures ∙ c.new.ensures.items in
-    rw none (at_start is_define function_begins function_within part [] c.args.self.now)
+loop-next-init c = rw c.no_items-so_far.ensures (at_start is_define function_begins function_within part [] c.args.self.now)
 
 pub returns-in_err-next : goal.returns-in_err-next
 returns-in_err-next c =

@@ -1,5 +1,5 @@
--- Which texts are of the first form, and the module that each of them is.
-use Rattle.std.specs.Prelude.{◌≡◌, ℕ, List, [], map, Ok, Some, true}
+-- Which texts are lists of straight-line functions, which have one block each, and the module that each of them is.
+use Rattle.std.specs.Prelude.{◌≡◌, ℕ, List, [], map, Ok, Option, Some, None, true}
 use Rattle.std.specs.List.{IsDistinct, AllByRecursion}
 use Rattle.ir_lexer.specs.Lexeme.{Lexeme}
 use Rattle.ir_lexer.specs.Tokens.{lexed}
@@ -24,7 +24,7 @@ function_names ws = map (λ (w : WrittenFunction). w.name) ws
 
 -- The tokens of the text spell functions of different names within the limits, and nothing else; each is well formed.
 -- The module has them in text order, with their names numbered.
-pub record IsFirstForm (text : List ℕ) (m : Module) : Type 0 where
+pub record IsStraightLine (text : List ℕ) (m : Module) : Type 0 where
   pub tokens : List Lexeme
   pub written : List WrittenFunction
   pub lexed_so : lexed text ≡ Ok tokens
@@ -33,13 +33,16 @@ pub record IsFirstForm (text : List ℕ) (m : Module) : Type 0 where
   pub well_formed : AllByRecursion (λ w. IsWellFormed (numbered w)) written
   pub entries : m.entries ≡ map entry_of written
 
--- a function that is read, has few parameters and instructions, and takes and returns integers
+-- an integer type, or nothing for void
+abbrev pub IsIntegerOrVoid : Option IrType → Type 0
+IsIntegerOrVoid None = Unit {0}
+IsIntegerOrVoid (Some type) = IsInteger type
+
+-- a function that is read has few parameters and instructions, takes integers, and returns an integer or nothing
 pub record IsJudgeable (f : Function) : Type 0 where
   pub limits : IsWithinLimits f
   pub parameters : AreIntegers f.parameters
-  pub returned : IrType
-  pub returns : f.returns ≡ Some returned
-  pub integer : IsInteger returned
+  pub returns : IsIntegerOrVoid f.returns
 
 abbrev pub IsJudgeableEntry : Entry → Type 0
 IsJudgeableEntry e = (f : Function) → e.function ≡ Ok f → IsJudgeable f
