@@ -1,4 +1,5 @@
 pub mod Code
+pub mod Codes
 pub mod Covers
 pub mod Laws
 pub mod Next

@@ -16,7 +16,7 @@ mod refinement;
 mod verdict;
 
 pub use laws::{
-    correct_holds, incorrect_fails, least_covers_are_plain, numbers_compare_from_front,
+    codes_tell_points, correct_holds, incorrect_fails, least_covers_are_plain, numbers_compare_from_front,
     places_tell_points, tapes_have_plain_forms, verdicts_are_one,
 };
 pub use machine::Machine;
