@@ -5,6 +5,7 @@ pub mod Meaning
 pub mod One
 pub mod Order
 pub mod Plain
+pub mod Pushes
 pub mod Runs
 pub mod Same
 pub mod Words
