@@ -5,6 +5,7 @@ pub mod Laws
 pub mod Next
 pub mod Pair
 pub mod Range
+pub mod Reads
 pub mod Refines
 pub mod Run
 pub mod Shown
