@@ -18,7 +18,8 @@ use Rattle.byte_block.specs.declared.value.Value.TheVariants.{Num, Poison}
 use Rattle.byte_block.specs.declared.value.Value.TheVariants as value
 use Rattle.points.specs.Code.{number_of, BlockFits, ValueFits, ArgsFit, name_digit, value_code, args_code}
 use Rattle.points.specs.Next.{IsNextValue, IsLastValue, value_number, IsNextArgs, IsLastArgs, args_number}
-use Rattle.points.proofs.Order.{Digits, IsNextIn, IsLastIn, IsChain, HaveDigits, next_in_back, next_in_front, last_in_both}
+use Rattle.points.specs.Codes.{IsChain}
+use Rattle.points.proofs.Order.{Digits, IsNextIn, IsLastIn, HaveDigits, next_in_back, next_in_front, last_in_both}
 
 pub next_number : (w : Width) (n : ℕ) → n + 1 < 2 ^ w.bits → IsNextValue 0 (Int w) (Num n) (Num (n + 1))
 unfolding number_of

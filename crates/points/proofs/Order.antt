@@ -5,6 +5,7 @@ use Rattle.std.proofs.Common.{pow-add}
 use Rattle.std.proofs.lemmas.Bool.{cases_order}
 use Rattle.std.proofs.lemmas.Nat.{same_from_place}
 use Rattle.points.specs.Code.{number_of}
+use Rattle.points.specs.Codes.{IsChain}
 
 -- so many digits
 abbrev pub Digits : ℕ → List ℕ → Type 0
@@ -98,14 +99,6 @@ IsLastIn P xs = (ys : List ℕ) → P ys → number_of ys ≤ number_of xs
 
 abbrev pub IsFirstIn : (List ℕ → Type 0) → List ℕ → Type 0
 IsFirstIn P xs = (ys : List ℕ) → P ys → number_of xs ≤ number_of ys
-
--- one of P, and then one of what Q allows behind it
-pub record IsChain (P : List ℕ → Type 0) (Q : List ℕ → List ℕ → Type 0) (ws : List ℕ) : Type 0 where
-  pub front : List ℕ
-  pub back : List ℕ
-  pub whole : ws ≡ front ++ back
-  pub in_front : P front
-  pub in_back : Q front back
 
 -- all of P have n digits, and all that Q allows have m
 pub record HaveDigits (P : List ℕ → Type 0) (Q : List ℕ → List ℕ → Type 0) (n m : ℕ) : Type 0 where

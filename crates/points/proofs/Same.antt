@@ -151,7 +151,7 @@ blocks_count blocks bytes bs h = let e = BlocksFit-length blocks bytes 1 bs h in
 digits_as : (n m : ℕ) (xs : List ℕ) → n ≡ m → Digits m xs → Digits n xs
 digits_as n m xs e h = rw e h
 
-byte_digits : (blocks : ℕ) (b : Byte) → blocks < 2 ^ 64 → ByteFits blocks b → Digits 5 (byte_code blocks b)
+pub byte_digits : (blocks : ℕ) (b : Byte) → blocks < 2 ^ 64 → ByteFits blocks b → Digits 5 (byte_code blocks b)
 byte_digits blocks (byte.Num n) few fits = (omega arith, (omega (arith, fits), (omega arith, (omega arith, (omega arith, tt)))))
 byte_digits blocks (byte.Part p i) few fits = (omega arith, (omega arith, (name_small blocks p.block few fits.0.block, (fits.0.offset, ((let part = fits.1 in omega (arith, part)), tt)))))
 byte_digits blocks byte.Poison few fits = (omega arith, (omega arith, (omega arith, (omega arith, (omega arith, tt)))))
@@ -195,18 +195,22 @@ code_digits blocks bytes words width ps p few short narrow fits =
     (args_digits blocks ps p.input.args few fits.args)
     (Digits-append (blocks + blocks * (bytes * 5)) words (blocks_code blocks p.input.blocks) p.tape (blocks_digits blocks bytes p.input.blocks few short fits.given) (WordsFit-digits width words p.tape narrow fits.tape))
 
+pub same_coded : (blocks bytes : ℕ) (ps : List Parameter) (p q : Point) → ArgsFit blocks ps p.input.args → ArgsFit blocks ps q.input.args → BlocksFit blocks bytes 1 p.input.blocks → BlocksFit blocks bytes 1 q.input.blocks → code_of blocks ps p ≡ code_of blocks ps q → p ≡ q
+same_coded blocks bytes ps p q fit fit' given given' codes =
+    let args = same_args blocks ps p.input.args q.input.args (blocks_code blocks p.input.blocks ++ p.tape) (blocks_code blocks q.input.blocks ++ q.tape) fit fit' codes in
+    let long : length p.input.blocks ≡ length q.input.blocks = blocks_count blocks bytes p.input.blocks given ∙ sym (blocks_count blocks bytes q.input.blocks given') in
+    let rest : sizes_of p.input.blocks ++ (flat_map (places_code blocks) p.input.blocks ++ p.tape) ≡ sizes_of q.input.blocks ++ (flat_map (places_code blocks) q.input.blocks ++ q.tape) =
+    sym (append_assoc (sizes_of p.input.blocks) (flat_map (places_code blocks) p.input.blocks) p.tape) ∙ args.rest ∙ append_assoc (sizes_of q.input.blocks) (flat_map (places_code blocks) q.input.blocks) q.tape in
+    let sizes = same_sizes p.input.blocks q.input.blocks (flat_map (places_code blocks) p.input.blocks ++ p.tape) (flat_map (places_code blocks) q.input.blocks ++ q.tape) long rest in
+    let both = same_blocks blocks bytes 1 p.input.blocks q.input.blocks p.tape q.tape given given' sizes.one sizes.rest in
+    let a = args.one in let b = both.one in let t = both.rest in
+    λ i. record { input = record { args = a i; blocks = b i }; tape = t i }
+
 pub same_point : (blocks bytes words width : ℕ) (ps : List Parameter) (p q : Point) → blocks < 2 ^ 64 → bytes < 2 ^ 64 → width ≤ 64 → Fits blocks bytes words width ps p → Fits blocks bytes words width ps q → place_of blocks ps p ≡ place_of blocks ps q → p ≡ q
 same_point blocks bytes words width ps p q few short narrow fits fits' e =
     let n = code_length blocks bytes words ps in
     let codes : code_of blocks ps p ≡ code_of blocks ps q = number_of-same n (code_of blocks ps p) (code_of blocks ps q) (code_digits blocks bytes words width ps p few short narrow fits) (code_digits blocks bytes words width ps q few short narrow fits') e in
-    let args = same_args blocks ps p.input.args q.input.args (blocks_code blocks p.input.blocks ++ p.tape) (blocks_code blocks q.input.blocks ++ q.tape) fits.args fits'.args codes in
-    let long : length p.input.blocks ≡ length q.input.blocks = blocks_count blocks bytes p.input.blocks fits.given ∙ sym (blocks_count blocks bytes q.input.blocks fits'.given) in
-    let rest : sizes_of p.input.blocks ++ (flat_map (places_code blocks) p.input.blocks ++ p.tape) ≡ sizes_of q.input.blocks ++ (flat_map (places_code blocks) q.input.blocks ++ q.tape) =
-    sym (append_assoc (sizes_of p.input.blocks) (flat_map (places_code blocks) p.input.blocks) p.tape) ∙ args.rest ∙ append_assoc (sizes_of q.input.blocks) (flat_map (places_code blocks) q.input.blocks) q.tape in
-    let sizes = same_sizes p.input.blocks q.input.blocks (flat_map (places_code blocks) p.input.blocks ++ p.tape) (flat_map (places_code blocks) q.input.blocks ++ q.tape) long rest in
-    let both = same_blocks blocks bytes 1 p.input.blocks q.input.blocks p.tape q.tape fits.given fits'.given sizes.one sizes.rest in
-    let a = args.one in let b = both.one in let t = both.rest in
-    λ i. record { input = record { args = a i; blocks = b i }; tape = t i }
+    same_coded blocks bytes ps p q fits.args fits'.args fits.given fits'.given codes
 
 pub places_tell_points : PlacesTellPoints
 places_tell_points = λ s p q few short fits fits' e.

@@ -8,7 +8,8 @@ use Rattle.points.specs.declared.point.Shape.{Shape}
 use Rattle.points.specs.declared.verdict.Verdict.{Verdict}
 use Rattle.points.specs.declared.verdict.Verdict.TheVariants.{Correct, Incorrect}
 use Rattle.points.specs.Pair.{Functions}
-use Rattle.points.specs.Code.{number_of, ArgsFit, BlocksFit, IsOfShape, place_of}
+use Rattle.points.specs.Code.{number_of, ArgsFit, BlocksFit, IsOfShape, code_of, place_of}
+use Rattle.points.specs.Codes.{IsCode}
 use Rattle.points.specs.Range.{AreInRange}
 use Rattle.points.specs.Refines.{is_refined}
 use Rattle.points.specs.Run.{run_of, IsPlain}
@@ -34,6 +35,20 @@ NumbersCompareFromFront = (xs ys : List ℕ) → length xs ≡ length ys → Are
 -- two points of a shape that stand at one place are one
 abbrev pub PlacesTellPoints : Type 0
 PlacesTellPoints = (s : Shape) (p q : Point) → s.blocks < 2 ^ 64 → s.bytes < 2 ^ 64 → IsOfShape s p → IsOfShape s q → place_of s.blocks s.parameters p ≡ place_of s.blocks s.parameters q → p ≡ q
+
+-- the one point of the shape with this code
+pub record IsPointWith (s : Shape) (digits : List ℕ) (p : Point) : Type 0 where
+  pub of_shape : IsOfShape s p
+  pub code : code_of s.blocks s.parameters p ≡ digits
+  pub only : (q : Point) → IsOfShape s q → code_of s.blocks s.parameters q ≡ digits → q ≡ p
+
+-- each point of a shape has a code of the shape, and each code of the shape is that of exactly one point of it
+pub record CodesArePoints (s : Shape) : Type 0 where
+  pub codes : (p : Point) → IsOfShape s p → IsCode s (code_of s.blocks s.parameters p)
+  pub points : (digits : List ℕ) → IsCode s digits → (p : Point) × IsPointWith s digits p
+
+abbrev pub CodesTellPoints : Type 0
+CodesTellPoints = (s : Shape) → CodesArePoints s
 
 -- ---- the verdict
 

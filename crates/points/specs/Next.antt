@@ -1,9 +1,14 @@
 -- What comes next in the parts of a point.
-use Rattle.std.specs.Prelude.{ℕ, ◌<◌, ◌≤◌, List, length}
+use Rattle.std.specs.Prelude.{◌≡◌, ℕ, ◌-◌, ◌<◌, ◌≤◌, List, length, drop, replicate}
+use Rattle.std.specs.List.{flat_map}
 use Rattle.ir_tree.specs.declared.tree.IrType.{IrType}
 use Rattle.ir_tree.specs.declared.tree.Parameter.{Parameter}
 use Rattle.byte_block.specs.declared.value.Value.{Value}
-use Rattle.points.specs.Code.{number_of, WordsFit, ValueFits, ArgsFit, value_code, args_code}
+use Rattle.byte_block.specs.declared.value.Byte.{Byte}
+use Rattle.byte_block.specs.declared.value.Byte.TheVariants as byte
+use Rattle.points.specs.declared.point.Point.{Point}
+use Rattle.points.specs.declared.point.Shape.{Shape}
+use Rattle.points.specs.Code.{number_of, WordsFit, ValueFits, ArgsFit, ByteFits, BytesFit, IsOfShape, value_code, args_code, byte_code, place_of}
 
 -- a later list of as many words, and none between the two was left out
 pub record IsNextWords (width : ℕ) (old new : List ℕ) : Type 0 where
@@ -36,3 +41,46 @@ pub record IsNextArgs (blocks : ℕ) (parameters : List Parameter) (old new : Li
 
 abbrev pub IsLastArgs : ℕ → List Parameter → List Value → Type 0
 IsLastArgs blocks parameters old = (args : List Value) → ArgsFit blocks parameters args → args_number blocks parameters args ≤ args_number blocks parameters old
+
+-- bytes go by their codes too
+abbrev pub byte_number : ℕ → Byte → ℕ
+byte_number blocks b = number_of (byte_code blocks b)
+
+pub record IsNextByte (blocks : ℕ) (old new : Byte) : Type 0 where
+  pub fits : ByteFits blocks new
+  pub later : byte_number blocks old < byte_number blocks new
+  pub no_gap : (b : Byte) → ByteFits blocks b → byte_number blocks b < byte_number blocks new → byte_number blocks b ≤ byte_number blocks old
+
+abbrev pub IsLastByte : ℕ → Byte → Type 0
+IsLastByte blocks old = (b : Byte) → ByteFits blocks b → byte_number blocks b ≤ byte_number blocks old
+
+-- the places of a block of this size: those past it are the number 0
+pub record PlacesFit (blocks bytes size : ℕ) (places : List Byte) : Type 0 where
+  pub room : length places ≡ bytes
+  pub past : drop size places ≡ replicate (bytes - size) (byte.Num 0)
+  pub fit : BytesFit blocks places
+
+abbrev pub places_number : ℕ → List Byte → ℕ
+places_number blocks places = number_of (flat_map (byte_code blocks) places)
+
+pub record IsNextPlaces (blocks bytes size : ℕ) (old new : List Byte) : Type 0 where
+  pub fits : PlacesFit blocks bytes size new
+  pub later : places_number blocks old < places_number blocks new
+  pub no_gap : (places : List Byte) → PlacesFit blocks bytes size places → places_number blocks places < places_number blocks new → places_number blocks places ≤ places_number blocks old
+
+abbrev pub IsLastPlaces : ℕ → ℕ → ℕ → List Byte → Type 0
+IsLastPlaces blocks bytes size old = (places : List Byte) → PlacesFit blocks bytes size places → places_number blocks places ≤ places_number blocks old
+
+-- ---- points
+
+abbrev pub place_in_shape : Shape → Point → ℕ
+place_in_shape s p = place_of s.blocks s.parameters p
+
+-- a later point of the shape, and none between the two was left out
+pub record IsNextPoint (s : Shape) (old new : Point) : Type 0 where
+  pub fits : IsOfShape s new
+  pub later : place_in_shape s old < place_in_shape s new
+  pub no_gap : (p : Point) → IsOfShape s p → place_in_shape s p < place_in_shape s new → place_in_shape s p ≤ place_in_shape s old
+
+abbrev pub IsLastPoint : Shape → Point → Type 0
+IsLastPoint s old = (p : Point) → IsOfShape s p → place_in_shape s p ≤ place_in_shape s old

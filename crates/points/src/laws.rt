@@ -1,4 +1,4 @@
-ghost use Rattle.points.specs.Laws.{NumbersCompareFromFront, PlacesTellPoints, CorrectHolds, IncorrectFails, LeastCoversArePlain, VerdictsAreOne};
+ghost use Rattle.points.specs.Laws.{NumbersCompareFromFront, PlacesTellPoints, CodesTellPoints, CorrectHolds, IncorrectFails, LeastCoversArePlain, VerdictsAreOne};
 ghost use Rattle.points.specs.Tapes.{TapesHavePlainForms};
 
 /// Codes are compared from the front: of two lists of one length the one whose number is less at the
@@ -10,6 +10,12 @@ pub fn numbers_compare_from_front()
 /// No two points of a shape stand at one place.
 pub fn places_tell_points()
     ensures { PlacesTellPoints }
+{}
+
+/// The codes of a shape and the points of that shape correspond one to one: each point has a code of
+/// the shape, and each code of the shape is the code of exactly one point.
+pub fn codes_tell_points()
+    ensures { CodesTellPoints }
 {}
 
 /// A run reads at most as many words as its function needs, and the plain form of a tape gives the

@@ -6,6 +6,7 @@
 //! stands on `ir_tree` and `byte_block`; the interpreter and every judge stand on it.
 #![tactic(auto)]
 
+mod codes;
 mod laws;
 mod machine;
 mod next;
@@ -15,8 +16,9 @@ mod point;
 mod refinement;
 mod verdict;
 
+pub use codes::code_of;
 pub use laws::{
-    correct_holds, incorrect_fails, least_covers_are_plain, numbers_compare_from_front,
+    codes_tell_points, correct_holds, incorrect_fails, least_covers_are_plain, numbers_compare_from_front,
     places_tell_points, tapes_have_plain_forms, verdicts_are_one,
 };
 pub use machine::Machine;

@@ -15,7 +15,8 @@ use Rattle.points.specs.Code.{number_of, ArgsFit, BytesFit, BlocksFit, WordsFit,
 use Rattle.points.specs.Next.{IsNextWords, IsLastWords, IsNextArgs, IsLastArgs}
 use Rattle.points.specs.Tapes.{need_of, widest_choice}
 use Rattle.points.specs.Trail.{place_in}
-use Rattle.points.proofs.Order.{Digits, IsNextIn, IsLastIn, IsChain, HaveDigits, next_in_back, next_in_front, last_in_both, at_most_by_back, number_of-below, number_of-append}
+use Rattle.points.specs.Codes.{IsChain}
+use Rattle.points.proofs.Order.{Digits, IsNextIn, IsLastIn, HaveDigits, next_in_back, next_in_front, last_in_both, at_most_by_back, number_of-below, number_of-append}
 use Rattle.points.proofs.Words.{WordsFit-digits, WordsFit-length, number_of-zeros}
 use Rattle.points.proofs.Words as words
 use Rattle.points.proofs.Args.{IsArgsCode, args_digits, digits_of, Digits-append, any_blocks, any_code, zeros_number}

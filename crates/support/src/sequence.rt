@@ -20,6 +20,9 @@ impl<T> Model for Sequence<T> {
 }
 
 impl<T> Sequence<T> {
+    ghost use Rattle.std.specs.Borrow.{Lends, sem};
+    ghost use Rattle.support.specs.contracts.sequence.Sequence.{the_row};
+
     /// The items of a vector. It takes no memory.
     pub fn from_vec(items: Vec<T>) -> Self
         ensures { result ≡ items.items }
@@ -72,6 +75,15 @@ impl<T> Sequence<T> {
         ensures { self.new ≡ slice_set self.old i item }
     {
         self.items[i] = item;
+    }
+
+    /// The item at a place, counted from 0, for writing.
+    pub fn get_mut(&mut self, i: usize) -> &mut T
+        requires { i < length self.old }
+        ensures* writes_back { sem 𝓛 (Lends (the_row T.row) T.row self.entry result (slice_set self.old i)) }
+        ensures value { slice_get self.old i ≡ Some result.now }
+    {
+        &mut self.items[i]
     }
 
     /// Takes all items out, and keeps the room.

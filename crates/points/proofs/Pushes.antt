@@ -1,0 +1,39 @@
+-- A loop that pushes the code of each item behind the code so far.
+use Rattle.std.proofs.Common.{◌≡◌, ℕ, ◌+◌, ◌<◌, ◌≤◌, List, [], ◌∷◌, ◌++◌, length, get_or, map, drop, Some, slice_get, refl, sym, ap, ◌∙◌, arith, append_assoc, append-nil}
+use Rattle.std.specs.List.{flat_map}
+use Rattle.std.proofs.lemmas.List.{drop_more, at_drop_all}
+use Rattle.std.proofs.lemmas.Option.{get_or_from_slice_get}
+use Rattle.ir_tree.specs.declared.tree.Parameter.{Parameter}
+use Rattle.byte_block.specs.declared.value.Value.{Value}
+use Rattle.points.specs.Code.{value_code, args_code}
+
+drop_item : {A : Type 0} (xs : List A) (i : ℕ) (x : A) → i < length xs → x ≡ get_or xs i x → drop i xs ≡ x ∷ drop (i + 1) xs
+drop_item xs i x within is = drop_more xs i x within ∙ ap (λ y. y ∷ drop (i + 1) xs) (sym is)
+
+pub pushed : {A : Type 0} (f : A → List ℕ) (xs : List A) (i : ℕ) (x : A) (code more whole : List ℕ) → i < length xs → x ≡ get_or xs i x → more ≡ code ++ f x → code ++ flat_map f (drop i xs) ≡ whole → more ++ flat_map f (drop (i + 1) xs) ≡ whole
+pushed f xs i x code more whole within is push all =
+    rw (push, append_assoc) (ap (λ ys. code ++ flat_map f ys) (sym (drop_item xs i x within is)) ∙ all)
+
+pub all_pushed : {A : Type 0} (f : A → List ℕ) (xs : List A) (i : ℕ) (code whole : List ℕ) → length xs ≤ i → code ++ flat_map f (drop i xs) ≡ whole → code ≡ whole
+all_pushed f xs i code whole past all = sym (append-nil code) ∙ sym (ap (λ ys. code ++ ys) (at_drop_all (flat_map f) xs i past)) ∙ all
+
+pub map_pushed : {A : Type 0} (f : A → ℕ) (xs : List A) (i : ℕ) (x : A) (code more whole : List ℕ) → i < length xs → x ≡ get_or xs i x → more ≡ code ++ f x ∷ [] → code ++ map f (drop i xs) ≡ whole → more ++ map f (drop (i + 1) xs) ≡ whole
+map_pushed f xs i x code more whole within is push all =
+    rw (push, append_assoc) (ap (λ ys. code ++ map f ys) (sym (drop_item xs i x within is)) ∙ all)
+
+pub map_all_pushed : {A : Type 0} (f : A → ℕ) (xs : List A) (i : ℕ) (code whole : List ℕ) → length xs ≤ i → code ++ map f (drop i xs) ≡ whole → code ≡ whole
+map_all_pushed f xs i code whole past all = sym (append-nil code) ∙ sym (ap (λ ys. code ++ ys) (at_drop_all (map f) xs i past)) ∙ all
+
+pub args_pushed : (blocks : ℕ) (ps : List Parameter) (vs : List Value) (i : ℕ) (p : Parameter) (v : Value) (code more whole : List ℕ) → i < length ps → i < length vs → p ≡ get_or ps i p → slice_get vs i ≡ Some v → more ≡ code ++ value_code blocks p.of_type v → code ++ args_code blocks (drop i ps) (drop i vs) ≡ whole → more ++ args_code blocks (drop (i + 1) ps) (drop (i + 1) vs) ≡ whole
+args_pushed blocks ps vs i p v code more whole within within' is is' push all =
+    let e = drop_item ps i p within is in
+    let e' = drop_item vs i v within' (sym (get_or_from_slice_get vs i v v is')) in
+    let all' = rw (e, e') at all in
+    rw (push, append_assoc) all'
+
+pub all_args_pushed : (blocks : ℕ) (ps : List Parameter) (vs : List Value) (i : ℕ) (code whole : List ℕ) → length ps ≤ i → code ++ args_code blocks (drop i ps) (drop i vs) ≡ whole → code ≡ whole
+all_args_pushed blocks ps vs i code whole past all = sym (append-nil code) ∙ sym (ap (λ ys. code ++ ys) (at_drop_all (λ qs. args_code blocks qs (drop i vs)) ps i past)) ∙ all
+
+pub pushed_at : {A : Type 0} (f : A → List ℕ) (xs : List A) (i : ℕ) (d : A) (code more whole : List ℕ) → i < length xs → more ≡ code ++ f (get_or xs i d) → code ++ flat_map f (drop i xs) ≡ whole → more ++ flat_map f (drop (i + 1) xs) ≡ whole
+pushed_at f xs i d code more whole within push all =
+    rw (push, append_assoc) (ap (λ ys. code ++ flat_map f ys) (sym (drop_more xs i d within)) ∙ all)

@@ -1,0 +1,13 @@
+use Rattle.std.proofs.Common.{◌++◌, ap, sym, ◌∙◌, arith}
+use Rattle.std.specs.List.{flat_map}
+use Rattle.points.specs.Code.{byte_code, places_code}
+use Rattle.points.proofs.Pushes.{pushed, all_pushed}
+use Rattle.points.proofs.codes.push_places.Goals as goal
+
+pub loop-block-preserved : goal.loop-block-preserved
+loop-block-preserved c = λ blocks. pushed (places_code blocks) c.args.memory.now c.loop-block.block-index c.block-item.result c.loop-block.code.items c.push_bytes.new.code.items _ (omega arith) c.block-item.is
+    (c.in_ok-push_bytes.ensures blocks ∙ ap (λ xs. c.loop-block.code.items ++ flat_map (byte_code blocks) xs) c.as_slice.ensures)
+    (c.loop-block.invariant blocks)
+
+pub returns : goal.returns
+returns c = λ blocks. all_pushed (places_code blocks) c.args.memory.now c.loop-block.block-index c.loop-block.code.items _ (omega arith) (c.loop-block.invariant blocks)

@@ -1,0 +1,56 @@
+-- What the numbers of a code stand for.
+use Rattle.std.specs.Prelude.{ℕ, zero, suc, ◌+◌, ◌*◌, List, [], ◌∷◌, drop}
+use Rattle.ir_tree.specs.declared.tree.IrType.{IrType}
+use Rattle.ir_tree.specs.declared.tree.IrType.TheVariants as type
+use Rattle.ir_tree.specs.declared.tree.Parameter.{Parameter}
+use Rattle.byte_block.specs.declared.value.BlockName.{BlockName}
+use Rattle.byte_block.specs.declared.value.BlockName.TheVariants.{Null, Given}
+use Rattle.byte_block.specs.declared.value.Ptr.{Ptr}
+use Rattle.byte_block.specs.declared.value.Value.{Value}
+use Rattle.byte_block.specs.declared.value.Value.TheVariants as value
+use Rattle.byte_block.specs.declared.value.Byte.{Byte}
+use Rattle.byte_block.specs.declared.value.Byte.TheVariants as byte
+use Rattle.byte_block.specs.declared.block.MemoryBlock.{MemoryBlock}
+
+-- how many numbers a value of the type has
+abbrev pub value_length : IrType → ℕ
+value_length (type.Int width) = 2
+value_length type.Ptr = 3
+
+-- 0 is null
+abbrev pub name_from : ℕ → BlockName
+name_from zero = Null
+name_from (suc n) = Given (suc n)
+
+abbrev pub pointer_from : ℕ → ℕ → Ptr
+pointer_from block offset = record { block = name_from block; offset = offset }
+
+-- the value whose numbers stand first
+abbrev pub value_from : IrType → List ℕ → Value
+value_from (type.Int width) (zero ∷ n ∷ rest) = value.Num n
+value_from (type.Int width) _ = value.Poison
+value_from type.Ptr (zero ∷ block ∷ offset ∷ rest) = value.Ptr (pointer_from block offset)
+value_from type.Ptr _ = value.Poison
+
+abbrev pub args_from : List Parameter → List ℕ → List Value
+args_from [] ds = []
+args_from (p ∷ ps) ds = value_from p.of_type ds ∷ args_from ps (drop (value_length p.of_type) ds)
+
+-- the byte whose five numbers stand first
+abbrev pub byte_from : List ℕ → Byte
+byte_from (zero ∷ n ∷ rest) = byte.Num n
+byte_from (suc zero ∷ n ∷ block ∷ offset ∷ part ∷ rest) = byte.Part (pointer_from block offset) part
+byte_from _ = byte.Poison
+
+abbrev pub places_from : ℕ → List ℕ → List Byte
+places_from zero ds = []
+places_from (suc room) ds = byte_from ds ∷ places_from room (drop 5 ds)
+
+-- the given block of this number
+abbrev pub block_from : ℕ → ℕ → ℕ → List ℕ → MemoryBlock
+block_from bytes number size ds = record { name = Given number; size = size; align = 16; places = places_from bytes ds }
+
+-- the given blocks of these sizes, from this number on
+abbrev pub blocks_from : ℕ → ℕ → List ℕ → List ℕ → List MemoryBlock
+blocks_from bytes number [] ds = []
+blocks_from bytes number (size ∷ sizes) ds = block_from bytes number size ds ∷ blocks_from bytes (number + 1) sizes (drop (bytes * 5) ds)
