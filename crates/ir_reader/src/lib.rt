@@ -86,6 +86,70 @@ mod tests {
         Ok(())
     }
 
+    // Labels, comparisons, choices and what has no value, as the LLVM assembler reads them.
+    #[test]
+    fn later_forms(rt: HostRuntime) -> Result<(), Fail> {
+        let alloc = rt.alloc();
+        let refused = Err(ModuleFault::NotRead);
+        let rows = [
+            ("define void @f() { ret void }", Ok(1)),
+            ("define void @f() { ret i8 0 }", refused),
+            ("define i8 @f() { ret void }", refused),
+            ("define i8 @f(void %x) { ret i8 0 }", refused),
+            ("define void @f() { entry: ret void }", Ok(1)),
+            ("define void @f() { a: b: ret void }", refused),
+            ("define i8 @f(i8 %x) { x: ret i8 %x }", refused),
+            ("define i8 @f(i8 %x) { a: ret i8 %a }", refused),
+            (
+                "define i8 @f(i8 %0) { a: %1 = add i8 %0, 1 ret i8 %1 }",
+                Ok(1),
+            ),
+            (
+                "define i8 @f(i8 %0) { 01: %1 = add i8 %0, 1 ret i8 %1 }",
+                refused,
+            ),
+            (
+                "define i8 @f(i8 %0) { 02: %1 = add i8 %0, 1 ret i8 %1 }",
+                Ok(1),
+            ),
+            (
+                "define i8 @f(i8 %x) { %r = freeze i8 %x a: ret i8 %r }",
+                refused,
+            ),
+            (
+                "define i1 @f(i8 %x) { %r = icmp sle i8 %x, -1 ret i1 %r }",
+                Ok(1),
+            ),
+            (
+                "define i8 @f(i8 %x) { %r = icmp sle i8 %x, -1 ret i8 %r }",
+                refused,
+            ),
+            (
+                "define i1 @f(i8 %x) { %r = icmp lt i8 %x, 1 ret i1 %r }",
+                refused,
+            ),
+            (
+                "define i1 @f(i8 %x) { %r = icmp samesign eq i8 %x, 1 ret i1 %r }",
+                refused,
+            ),
+            ("define i8 @f() { %r = freeze i8 undef ret i8 %r }", Ok(1)),
+            (
+                "define i8 @f() { %r = add i8 poison, 1 ret i8 undef }",
+                Ok(1),
+            ),
+            ("define i8 @f() { %r = add i8 undef, 1 ret i8 %r }", refused),
+            (
+                "define i1 @f() { %r = xor i1 true, false ret i1 %r }",
+                Ok(1),
+            ),
+            ("define i8 @f() { ret i8 true }", refused),
+        ];
+        for (text, answer) in rows {
+            assert_eq!(rt; functions(alloc, text), answer);
+        }
+        Ok(())
+    }
+
     // Where the first instruction of a text's first function puts its result, and its operands.
     fn first_inst(alloc: Global, text: &str) -> Option<(usize, Operand, Operand)> {
         let module = read(alloc, text.as_bytes()).ok()?;

@@ -1,13 +1,14 @@
 pub mod Allowed
 pub mod Args
 pub mod Coded
+pub mod Cursor
+pub mod Decoded
 pub mod Front
 pub mod Meaning
 pub mod One
 pub mod Order
 pub mod Plain
 pub mod Pushes
-pub mod Reading
 pub mod Runs
 pub mod Same
 pub mod Words

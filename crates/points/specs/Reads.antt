@@ -1,5 +1,5 @@
 -- What the numbers of a code stand for.
-use Rattle.std.specs.Prelude.{ℕ, zero, suc, ◌+◌, ◌*◌, List, [], ◌∷◌, drop}
+use Rattle.std.specs.Prelude.{◌≡◌, ℕ, zero, suc, ◌+◌, ◌*◌, ◌^◌, ◌<◌, ◌≤◌, List, [], ◌∷◌, length, drop, slice_index, sum_by}
 use Rattle.ir_tree.specs.declared.tree.IrType.{IrType}
 use Rattle.ir_tree.specs.declared.tree.IrType.TheVariants as type
 use Rattle.ir_tree.specs.declared.tree.Parameter.{Parameter}
@@ -16,6 +16,9 @@ use Rattle.byte_block.specs.declared.block.MemoryBlock.{MemoryBlock}
 abbrev pub value_length : IrType → ℕ
 value_length (type.Int width) = 2
 value_length type.Ptr = 3
+
+abbrev pub args_length : List Parameter → ℕ
+args_length ps = sum_by (λ (p : Parameter). value_length p.of_type) ps
 
 -- 0 is null
 abbrev pub name_from : ℕ → BlockName
@@ -54,3 +57,25 @@ block_from bytes number size ds = record { name = Given number; size = size; ali
 abbrev pub blocks_from : ℕ → ℕ → List ℕ → List ℕ → List MemoryBlock
 blocks_from bytes number [] ds = []
 blocks_from bytes number (size ∷ sizes) ds = block_from bytes number size ds ∷ blocks_from bytes (number + 1) sizes (drop (bytes * 5) ds)
+
+-- ---- where there are numbers to read
+
+-- five numbers stand first, and a byte's number and place are small
+pub record HasByte (ds : List ℕ) : Type 0 where
+  pub five : 5 ≤ length ds
+  pub number : slice_index ds 0 ≡ 0 → slice_index ds 1 < 2 ^ 8
+  pub part : slice_index ds 0 ≡ 1 → slice_index ds 4 < 2 ^ 8
+
+-- so many bytes
+abbrev pub HaveBytes : ℕ → List ℕ → Type 0
+HaveBytes zero ds = Unit {0}
+HaveBytes (suc room) ds = HasByte ds × HaveBytes room (drop 5 ds)
+
+pub record HasPlaces (bytes : ℕ) (ds : List ℕ) : Type 0 where
+  pub enough : bytes * 5 ≤ length ds
+  pub are_bytes : HaveBytes bytes ds
+
+-- the places of so many blocks
+abbrev pub HaveBlocks : ℕ → List ℕ → List ℕ → Type 0
+HaveBlocks bytes [] ds = Unit {0}
+HaveBlocks bytes (size ∷ sizes) ds = HasPlaces bytes ds × HaveBlocks bytes sizes (drop (bytes * 5) ds)

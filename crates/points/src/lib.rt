@@ -13,6 +13,7 @@ mod next;
 mod outcome;
 mod pair;
 mod point;
+mod reading;
 mod refinement;
 mod verdict;
 
@@ -26,5 +27,6 @@ pub use next::{next_args, next_words, zero_from};
 pub use outcome::Outcome;
 pub use pair::{Pair, has_same_signature};
 pub use point::{Bounds, Budget, Input, Point, Shape};
+pub use reading::point_of;
 pub use refinement::{refines, returned_is_allowed};
 pub use verdict::{Cause, Shown, Verdict};

@@ -3,7 +3,7 @@ ghost use Rattle.ir_tree.specs.Limits.{AreIntegers};
 
 use crate::slow;
 use ir_tree::{
-    Block, Flags, Function, Inst, IrType, Name, Names, Op, Operand, Parameter, Returned,
+    Block, Flags, Function, Inst, IrType, Name, Names, Op, Operand, Parameter, Predicate, Returned,
     Terminator, is_within_limits,
 };
 use points::{Bounds, Budget, Cause, Pair, Verdict, has_same_signature};
@@ -111,5 +111,55 @@ fn a_choice_finds_its_tape(rt: HostRuntime) -> Result<(), Fail> {
         return Err(Fail::from("the other way is incorrect"));
     };
     assert!(rt; matches!(point.tape.as_slice(), [1]));
+    Ok(())
+}
+
+/// The verdict on two functions of one parameter, each with its instructions and what it returns.
+fn verdict_between(
+    alloc: Global,
+    width: Width,
+    source: (&[Inst], Operand),
+    target: (&[Inst], Operand),
+) -> Result<Option<Verdict>, NoMemory> {
+    let source = function(alloc, width, source.0, source.1)?;
+    let target = function(alloc, width, target.0, target.1)?;
+    let verdict = verdict_of(alloc, &source, &target, 1, 3)?;
+    Ok(verdict)
+}
+
+#[test]
+fn undef_is_returned_as_a_choice(rt: HostRuntime) -> Result<(), Fail> {
+    let alloc = rt.alloc();
+    let width = Width::of(4);
+    let undef = (&[][..], Operand::Undef);
+    let number = (&[][..], Operand::Number(3));
+    let chosen = verdict_between(alloc, width, undef, number)?;
+    assert!(rt; matches!(&chosen, Some(Verdict::Correct)));
+    let turned = verdict_between(alloc, width, number, undef)?;
+    assert!(rt; matches!(&turned, Some(Verdict::Incorrect(_))));
+    Ok(())
+}
+
+fn below_0(predicate: Predicate, width: Width) -> Inst {
+    Inst::Icmp {
+        into: 1,
+        predicate,
+        width,
+        left: Operand::Local(0),
+        right: Operand::Number(0),
+    }
+}
+
+#[test]
+fn comparisons_read_signs_by_their_predicate(rt: HostRuntime) -> Result<(), Fail> {
+    let alloc = rt.alloc();
+    let width = Width::of(1);
+    let signed = [below_0(Predicate::SignedLess, width)];
+    let unsigned = [below_0(Predicate::UnsignedLess, width)];
+    let sign = (&[][..], Operand::Local(0));
+    let same = verdict_between(alloc, width, (&signed[..], Operand::Local(1)), sign)?;
+    assert!(rt; matches!(&same, Some(Verdict::Correct)));
+    let never = verdict_between(alloc, width, (&unsigned[..], Operand::Local(1)), sign)?;
+    assert!(rt; matches!(&never, Some(Verdict::Incorrect(_))));
     Ok(())
 }

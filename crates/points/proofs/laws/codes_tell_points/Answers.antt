@@ -1,4 +1,4 @@
-use Rattle.points.proofs.Reading.{codes_tell_points}
+use Rattle.points.proofs.Decoded.{codes_tell_points}
 use Rattle.points.proofs.laws.codes_tell_points.Goals as goal
 
 pub returns : goal.returns

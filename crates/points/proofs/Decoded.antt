@@ -130,7 +130,7 @@ read_places blocks (suc room) (suc size) front back small h =
 
 -- ---- blocks
 
-drop_front : (front back : List ℕ) (n : ℕ) → length front ≡ n → drop n (front ++ back) ≡ back
+pub drop_front : (front back : List ℕ) (n : ℕ) → length front ≡ n → drop n (front ++ back) ≡ back
 drop_front [] back zero long = refl
 drop_front [] back (suc n) long = absurd (omega (arith, long))
 drop_front (d ∷ front) back zero long = absurd (omega (arith, long))

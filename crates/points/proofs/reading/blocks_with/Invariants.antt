@@ -1,0 +1,9 @@
+use Rattle.std.proofs.Common.{◌≡◌, ◌+◌, ◌++◌, drop}
+use Rattle.points.specs.Reads.{blocks_from, HaveBlocks}
+use Rattle.points.proofs.reading.blocks_with.Given as goal
+
+abbrev pub invariant-loop-i : goal.invariant-loop-i
+invariant-loop-i l = record {
+  enough : HaveBlocks l.bytes (drop l.i l.sizes) l.rest;
+  read : l.blocks.items ++ blocks_from l.bytes (l.i + 1) (drop l.i l.sizes) l.rest ≡ blocks_from l.bytes 1 l.sizes l.digits;
+}
