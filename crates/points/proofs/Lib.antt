@@ -1,5 +1,6 @@
 pub mod Allowed
 pub mod Args
+pub mod ByteOrder
 pub mod Coded
 pub mod Cursor
 pub mod Decoded
@@ -7,8 +8,10 @@ pub mod Front
 pub mod Meaning
 pub mod One
 pub mod Order
+pub mod Places
 pub mod Plain
 pub mod Pushes
+pub mod Rows
 pub mod Runs
 pub mod Same
 pub mod Words
