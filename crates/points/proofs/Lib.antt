@@ -6,6 +6,7 @@ pub mod Cursor
 pub mod Decoded
 pub mod Front
 pub mod Meaning
+pub mod Memories
 pub mod One
 pub mod Order
 pub mod Places
@@ -14,4 +15,5 @@ pub mod Pushes
 pub mod Rows
 pub mod Runs
 pub mod Same
+pub mod Whole
 pub mod Words

@@ -106,7 +106,7 @@ resets_fit Fit code n reset t (k ∷ ks) (x ∷ xs) fits = (t.fits k x fits.0, r
 resets_fit Fit code n reset t [] (x ∷ xs) fits = absurd fits
 resets_fit Fit code n reset t (k ∷ ks) [] fits = absurd fits
 
-zero_number : (xs ys : List ℕ) → number_of xs ≡ 0 → number_of ys ≡ 0 → number_of (xs ++ ys) ≡ 0
+pub zero_number : (xs ys : List ℕ) → number_of xs ≡ 0 → number_of ys ≡ 0 → number_of (xs ++ ys) ≡ 0
 zero_number xs ys e f = rw (number_of-append xs ys, e, f) (omega arith)
 
 pub resets_number : {K A : Type 0} (Fit : K → A → Type 0) (code : A → List ℕ) (n : ℕ) (reset : A → A) → AreThings Fit code n reset → (ks : List K) (xs : List A) → RowFits Fit ks xs → number_of (flat_map code (from_place reset zero xs)) ≡ 0

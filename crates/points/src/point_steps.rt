@@ -73,14 +73,15 @@ pub fn next(point: &mut Point, shape: &Shape) -> bool
     ensures next { IsTrue result → IsNextPoint shape.now point.old point.new }
     ensures last { IsFalse result → IsLastPoint shape.now point.old × (point.new ≡ point.old) }
 {
+    let (given, bytes) = (shape.blocks, shape.bytes);
     if next_words(&mut point.tape, shape.word_width) {
         return true;
     }
-    if next_places(&mut point.input.blocks, shape.blocks, shape.bytes) {
+    if next_places(&mut point.input.blocks, given, bytes) {
         zero_from(&mut point.tape, 0);
         return true;
     }
-    if next_sizes(&mut point.input.blocks, shape.blocks, shape.bytes) {
+    if next_sizes(&mut point.input.blocks, given, bytes) {
         zero_from(&mut point.tape, 0);
         return true;
     }
