@@ -8,6 +8,7 @@ pub mod Front
 pub mod Meaning
 pub mod Memories
 pub mod One
+pub mod OneOfEach
 pub mod Order
 pub mod Places
 pub mod Plain

@@ -17,6 +17,8 @@ mod pair;
 mod point;
 mod reading;
 mod refinement;
+#[cfg(test)]
+mod tests;
 mod verdict;
 
 pub use codes::code_of;
