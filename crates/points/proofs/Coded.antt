@@ -38,7 +38,7 @@ args_coded blocks (p ∷ ps) (v ∷ vs) fits = record { front = value_code block
 args_coded blocks [] (v ∷ vs) fits = absurd fits
 args_coded blocks (p ∷ ps) [] fits = absurd fits
 
-sizes_coded : (blocks bytes number : ℕ) (bs : List MemoryBlock) → BlocksFit blocks bytes number bs → AreSizes bytes (length bs) (sizes_of bs)
+pub sizes_coded : (blocks bytes number : ℕ) (bs : List MemoryBlock) → BlocksFit blocks bytes number bs → AreSizes bytes (length bs) (sizes_of bs)
 sizes_coded blocks bytes number [] fits = tt
 sizes_coded blocks bytes number (b ∷ bs) fits = (fits.0.small, sizes_coded blocks bytes (number + 1) bs fits.1)
 

@@ -156,15 +156,15 @@ byte_digits blocks (byte.Num n) few fits = (omega arith, (omega (arith, fits), (
 byte_digits blocks (byte.Part p i) few fits = (omega arith, (omega arith, (name_small blocks p.block few fits.0.block, (fits.0.offset, ((let part = fits.1 in omega (arith, part)), tt)))))
 byte_digits blocks byte.Poison few fits = (omega arith, (omega arith, (omega arith, (omega arith, (omega arith, tt)))))
 
-bytes_digits : (blocks : ℕ) (bs : List Byte) → blocks < 2 ^ 64 → BytesFit blocks bs → Digits (length bs * 5) (flat_map (byte_code blocks) bs)
+pub bytes_digits : (blocks : ℕ) (bs : List Byte) → blocks < 2 ^ 64 → BytesFit blocks bs → Digits (length bs * 5) (flat_map (byte_code blocks) bs)
 bytes_digits blocks [] few fits = digits_as (0 * 5) 0 [] (omega arith) tt
 bytes_digits blocks (b ∷ bs) few fits = digits_as (suc (length bs) * 5) (5 + length bs * 5) (flat_map (byte_code blocks) (b ∷ bs)) (omega arith) (Digits-append 5 (length bs * 5) (byte_code blocks b) (flat_map (byte_code blocks) bs) (byte_digits blocks b few fits.0) (bytes_digits blocks bs few fits.1))
 
-sizes_digits : (blocks bytes number : ℕ) (bs : List MemoryBlock) → bytes < 2 ^ 64 → BlocksFit blocks bytes number bs → Digits (length bs) (sizes_of bs)
+pub sizes_digits : (blocks bytes number : ℕ) (bs : List MemoryBlock) → bytes < 2 ^ 64 → BlocksFit blocks bytes number bs → Digits (length bs) (sizes_of bs)
 sizes_digits blocks bytes number [] short fits = tt
 sizes_digits blocks bytes number (b ∷ bs) short fits = ((let small = fits.0.small in omega (arith, small, short)), sizes_digits blocks bytes (number + 1) bs short fits.1)
 
-places_digits : (blocks bytes number : ℕ) (bs : List MemoryBlock) → blocks < 2 ^ 64 → BlocksFit blocks bytes number bs → Digits (length bs * (bytes * 5)) (flat_map (places_code blocks) bs)
+pub places_digits : (blocks bytes number : ℕ) (bs : List MemoryBlock) → blocks < 2 ^ 64 → BlocksFit blocks bytes number bs → Digits (length bs * (bytes * 5)) (flat_map (places_code blocks) bs)
 places_digits blocks bytes number [] few fits = digits_as (0 * (bytes * 5)) 0 [] (omega arith) tt
 places_digits blocks bytes number (b ∷ bs) few fits =
     let here : Digits (length b.places * 5) (places_code blocks b) = bytes_digits blocks b.places few fits.0.fit in

@@ -1,14 +1,17 @@
 -- What comes next in the parts of a point.
-use Rattle.std.specs.Prelude.{◌≡◌, ℕ, ◌-◌, ◌<◌, ◌≤◌, List, length, drop, replicate}
+use Rattle.std.specs.Prelude.{◌≡◌, ℕ, zero, suc, ◌+◌, ◌-◌, ◌*◌, ◌^◌, ◌<◌, ◌≤◌, List, [], ◌∷◌, length, map, drop, replicate}
 use Rattle.std.specs.List.{flat_map}
 use Rattle.ir_tree.specs.declared.tree.IrType.{IrType}
 use Rattle.ir_tree.specs.declared.tree.Parameter.{Parameter}
 use Rattle.byte_block.specs.declared.value.Value.{Value}
+use Rattle.byte_block.specs.declared.value.Ptr.{Ptr}
 use Rattle.byte_block.specs.declared.value.Byte.{Byte}
 use Rattle.byte_block.specs.declared.value.Byte.TheVariants as byte
+use Rattle.byte_block.specs.declared.block.MemoryBlock.{MemoryBlock}
 use Rattle.points.specs.declared.point.Point.{Point}
 use Rattle.points.specs.declared.point.Shape.{Shape}
-use Rattle.points.specs.Code.{number_of, WordsFit, ValueFits, ArgsFit, ByteFits, BytesFit, IsOfShape, value_code, args_code, byte_code, place_of}
+use Rattle.points.specs.Code.{number_of, WordsFit, ValueFits, ArgsFit, ByteFits, BytesFit, BlocksFit, IsOfShape, name_digit, value_code, args_code, byte_code, places_code, place_of}
+use Rattle.points.specs.Codes.{AreSizes}
 
 -- a later list of as many words, and none between the two was left out
 pub record IsNextWords (width : ℕ) (old new : List ℕ) : Type 0 where
@@ -42,6 +45,10 @@ pub record IsNextArgs (blocks : ℕ) (parameters : List Parameter) (old new : Li
 abbrev pub IsLastArgs : ℕ → List Parameter → List Value → Type 0
 IsLastArgs blocks parameters old = (args : List Value) → ArgsFit blocks parameters args → args_number blocks parameters args ≤ args_number blocks parameters old
 
+-- a pointer's block and offset as one number
+abbrev pub pointer_number : ℕ → Ptr → ℕ
+pointer_number blocks p = name_digit blocks p.block * 2 ^ 64 + p.offset
+
 -- bytes go by their codes too
 abbrev pub byte_number : ℕ → Byte → ℕ
 byte_number blocks b = number_of (byte_code blocks b)
@@ -70,6 +77,57 @@ pub record IsNextPlaces (blocks bytes size : ℕ) (old new : List Byte) : Type 0
 
 abbrev pub IsLastPlaces : ℕ → ℕ → ℕ → List Byte → Type 0
 IsLastPlaces blocks bytes size old = (places : List Byte) → PlacesFit blocks bytes size places → places_number blocks places ≤ places_number blocks old
+
+-- ---- the given blocks
+
+abbrev pub sizes_in : List MemoryBlock → List ℕ
+sizes_in bs = map (λ (b : MemoryBlock). b.size) bs
+
+abbrev pub memory_number : ℕ → List MemoryBlock → ℕ
+memory_number blocks bs = number_of (flat_map (places_code blocks) bs)
+
+-- the given blocks with later places and the same sizes, and none between the two was left out
+pub record IsNextMemory (blocks bytes : ℕ) (old new : List MemoryBlock) : Type 0 where
+  pub fits : BlocksFit blocks bytes 1 new
+  pub sizes : sizes_in new ≡ sizes_in old
+  pub later : memory_number blocks old < memory_number blocks new
+  pub no_gap : (bs : List MemoryBlock) → BlocksFit blocks bytes 1 bs → sizes_in bs ≡ sizes_in old → memory_number blocks bs < memory_number blocks new → memory_number blocks bs ≤ memory_number blocks old
+
+abbrev pub IsLastMemory : ℕ → ℕ → List MemoryBlock → Type 0
+IsLastMemory blocks bytes old = (bs : List MemoryBlock) → BlocksFit blocks bytes 1 bs → sizes_in bs ≡ sizes_in old → memory_number blocks bs ≤ memory_number blocks old
+
+-- later sizes, none left out, and the least places of these sizes
+pub record IsNextSizes (blocks bytes : ℕ) (old new : List MemoryBlock) : Type 0 where
+  pub fits : BlocksFit blocks bytes 1 new
+  pub later : number_of (sizes_in old) < number_of (sizes_in new)
+  pub no_gap : (sizes : List ℕ) → AreSizes bytes (length old) sizes → number_of sizes < number_of (sizes_in new) → number_of sizes ≤ number_of (sizes_in old)
+  pub least : memory_number blocks new ≡ 0
+
+abbrev pub AreLastSizes : ℕ → List MemoryBlock → Type 0
+AreLastSizes bytes old = (sizes : List ℕ) → AreSizes bytes (length old) sizes → number_of sizes ≤ number_of (sizes_in old)
+
+-- the least given blocks
+pub record AreLeastBlocks (blocks bytes : ℕ) (new : List MemoryBlock) : Type 0 where
+  pub fits : BlocksFit blocks bytes 1 new
+  pub sizes : number_of (sizes_in new) ≡ 0
+  pub places : memory_number blocks new ≡ 0
+
+-- a list with the items from a place on changed
+abbrev pub from_place : {A : Type 0} → (A → A) → ℕ → List A → List A
+from_place f n [] = []
+from_place f zero (x ∷ xs) = f x ∷ from_place f zero xs
+from_place f (suc n) (x ∷ xs) = x ∷ from_place f n xs
+
+abbrev pub zero_byte : Byte → Byte
+zero_byte b = byte.Num 0
+
+-- the block with zeros in all its places
+abbrev pub zero_places : MemoryBlock → MemoryBlock
+zero_places b = record b { places = from_place zero_byte 0 b.places }
+
+-- the block of size 0, its places as they were
+abbrev pub zero_size : MemoryBlock → MemoryBlock
+zero_size b = record b { size = 0 }
 
 -- ---- points
 

@@ -9,12 +9,16 @@
 mod codes;
 mod laws;
 mod machine;
-mod next;
+mod steps;
+mod byte_steps;
+mod point_steps;
 mod outcome;
 mod pair;
 mod point;
 mod reading;
 mod refinement;
+#[cfg(test)]
+mod tests;
 mod verdict;
 
 pub use codes::code_of;
@@ -23,7 +27,8 @@ pub use laws::{
     places_tell_points, tapes_have_plain_forms, verdicts_are_one,
 };
 pub use machine::Machine;
-pub use next::{next_args, next_words, zero_from};
+pub use steps::{next_args, next_words, zero_from};
+pub use point_steps::next;
 pub use outcome::Outcome;
 pub use pair::{Pair, has_same_signature};
 pub use point::{Bounds, Budget, Input, Point, Shape};

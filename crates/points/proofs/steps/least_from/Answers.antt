@@ -2,7 +2,7 @@ use Rattle.std.proofs.Common.{arith}
 use Rattle.std.proofs.Math.ListN.{length-set}
 use Rattle.byte_block.specs.declared.value.Value.TheVariants.{Num}
 use Rattle.points.proofs.Args.{fill_more}
-use Rattle.points.proofs.next.least_from.Goals as goal
+use Rattle.points.proofs.steps.least_from.Goals as goal
 
 pub loop-i-preserved : goal.loop-i-preserved
 loop-i-preserved c = record {

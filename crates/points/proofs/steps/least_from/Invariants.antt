@@ -1,6 +1,6 @@
 use Rattle.std.proofs.Common.{◌≡◌, ◌-◌, ◌++◌, take, replicate, length}
 use Rattle.byte_block.specs.declared.value.Value.TheVariants.{Num}
-use Rattle.points.proofs.next.least_from.Given as goal
+use Rattle.points.proofs.steps.least_from.Given as goal
 
 abbrev pub invariant-loop-i : goal.invariant-loop-i
 invariant-loop-i l = record {

@@ -1,7 +1,7 @@
 use Rattle.std.proofs.Common.{◌-◌, arith, refl}
 use Rattle.std.proofs.lemmas.Option.{slice_get_read}
 use Rattle.points.proofs.Args.{integer_at, arg_fits, ArgsFit-length, next_args_is, last_args_is, are_last_more, none_past}
-use Rattle.points.proofs.next.next_args.Goals as goal
+use Rattle.points.proofs.steps.next_args.Goals as goal
 
 pub loop-i-init : goal.loop-i-init
 loop-i-init c = record {

@@ -1,6 +1,6 @@
 use Rattle.std.proofs.Common.{◌≡◌, length}
 use Rattle.points.proofs.Args.{AreLastFrom}
-use Rattle.points.proofs.next.next_args.Given as goal
+use Rattle.points.proofs.steps.next_args.Given as goal
 
 abbrev pub invariant-loop-i : goal.invariant-loop-i
 invariant-loop-i l = record {

@@ -1,0 +1,18 @@
+use Rattle.std.proofs.Common.{sym, ◌∙◌, arith}
+use Rattle.std.proofs.Math.ListN.{length-set}
+use Rattle.std.proofs.lemmas.Option.{slice_get-get_or}
+use Rattle.byte_block.specs.declared.value.Byte.TheVariants.{Num}
+use Rattle.points.specs.Next.{zero_byte}
+use Rattle.points.proofs.Rows.{from_place-set, from_place-past}
+use Rattle.points.proofs.byte_steps.zero_bytes.Goals as goal
+
+pub loop-i-preserved : goal.loop-i-preserved
+loop-i-preserved c =
+    let long = c.loop-i.invariant.same_length in
+    record {
+      same_length = rw (c.set.ensures, length-set) long;
+      done = rw c.set.ensures (from_place-set zero_byte c.loop-i.places c.loop-i.i _ (slice_get-get_or c.loop-i.places c.loop-i.i (Num 0) (omega (arith, long))) ∙ c.loop-i.invariant.done);
+    }
+
+pub returns : goal.returns
+returns c = sym (from_place-past zero_byte c.loop-i.places c.loop-i.i (omega arith)) ∙ c.loop-i.invariant.done

@@ -1,0 +1,114 @@
+ghost use Rattle.std.specs.Prelude.{◌≡◌, ◌+◌, ◌*◌, ◌^◌, ◌≤◌, IsTrue, IsFalse, length, MatchOption};
+ghost use Rattle.points.specs.Code.{name_digit, BlockFits, PointerFits, ByteFits};
+ghost use Rattle.points.specs.Next.{pointer_number, IsNextByte, IsLastByte, PlacesFit, IsNextPlaces, IsLastPlaces, from_place, zero_byte};
+
+use byte_block::{BlockName, Byte, Ptr};
+use support::Sequence;
+
+/// The next of null and the given blocks.
+fn next_name(name: BlockName, blocks: u64) -> Option<BlockName>
+    requires { BlockFits blocks name }
+    ensures { MatchOption result (name_digit blocks name ≡ blocks) (λ next. BlockFits blocks next × (name_digit blocks next ≡ name_digit blocks name + 1)) }
+{
+    match name {
+        BlockName::Null => {
+            if 0 < blocks {
+                Some(BlockName::Given(1))
+            } else {
+                None
+            }
+        }
+        BlockName::Given(number) => {
+            if number < blocks {
+                Some(BlockName::Given(number + 1))
+            } else {
+                None
+            }
+        }
+        BlockName::Local(..) => None,
+    }
+}
+
+/// The next pointer, offsets counting least.
+fn next_pointer(pointer: Ptr, blocks: u64) -> Option<Ptr>
+    requires { PointerFits blocks pointer }
+    ensures { MatchOption result (pointer_number blocks pointer + 1 ≡ (blocks + 1) * 2 ^ 64) (λ next. PointerFits blocks next × (pointer_number blocks next ≡ pointer_number blocks pointer + 1)) }
+{
+    if pointer.offset < u64::MAX {
+        return Some(Ptr {
+            block: pointer.block,
+            offset: pointer.offset + 1,
+        });
+    }
+    match next_name(pointer.block, blocks) {
+        Some(block) => Some(Ptr { block, offset: 0 }),
+        None => None,
+    }
+}
+
+/// What comes behind a part of a pointer: its next part, the first part of the next pointer, or
+/// poison.
+fn byte_behind(pointer: Ptr, part: u8, blocks: u64) -> Byte
+    requires { ByteFits blocks (Byte.Part pointer part) }
+    ensures { IsNextByte blocks (Byte.Part pointer part) result }
+{
+    if part < 7 {
+        return Byte::Part(pointer, part + 1);
+    }
+    match next_pointer(pointer, blocks) {
+        Some(next) => Byte::Part(next, 0),
+        None => Byte::Poison,
+    }
+}
+
+/// The next byte: the numbers, then the parts of pointers, then poison.
+fn next_byte(byte: Byte, blocks: u64) -> Option<Byte>
+    requires { ByteFits blocks byte }
+    ensures { MatchOption result (IsLastByte blocks byte) (λ next. IsNextByte blocks byte next) }
+{
+    match byte {
+        Byte::Num(number) => {
+            if number < u8::MAX {
+                Some(Byte::Num(number + 1))
+            } else {
+                Some(Byte::Part(
+                    Ptr {
+                        block: BlockName::Null,
+                        offset: 0,
+                    },
+                    0,
+                ))
+            }
+        }
+        Byte::Part(pointer, part) => Some(byte_behind(pointer, part, blocks)),
+        Byte::Poison => None,
+    }
+}
+
+/// Writes the number 0 from a place on.
+pub fn zero_bytes(places: &mut Sequence<Byte>, from: usize)
+    requires { from ≤ length places.old }
+    ensures { places.new ≡ from_place zero_byte from places.old }
+{
+    for i in from..places.len() {
+        places.set(i, Byte::Num(0));
+    }
+}
+
+/// Puts the next places of a block of this size in the place of its places. It answers false exactly
+/// at the last ones, which then stay.
+pub fn next_bytes(places: &mut Sequence<Byte>, size: u64, blocks: u64) -> bool
+    requires room { size ≤ length places.old }
+    requires fit { PlacesFit blocks (length places.old) size places.old }
+    ensures next { IsTrue result → IsNextPlaces blocks (length places.old) size places.old places.new }
+    ensures last { IsFalse result → IsLastPlaces blocks (length places.old) size places.old × (places.new ≡ places.old) }
+{
+    for i in (0..size as usize).rev() {
+        if let Some(byte) = next_byte(*places.get(i), blocks) {
+            places.set(i, byte);
+            zero_bytes(places, i + 1);
+            return true;
+        }
+    }
+    false
+}

@@ -1,0 +1,95 @@
+ghost use Rattle.std.specs.Prelude.{◌≡◌, ◌<◌, ◌≤◌, IsTrue, IsFalse, length};
+ghost use Rattle.ir_tree.specs.Limits.{AreIntegers};
+ghost use Rattle.points.specs.Code.{BlocksFit, IsOfShape};
+ghost use Rattle.points.specs.Next.{IsNextMemory, IsLastMemory, IsNextSizes, AreLastSizes, AreLeastBlocks, IsNextPoint, IsLastPoint, from_place, zero_places, zero_size};
+
+use crate::steps::{next_args, next_words, zero_from};
+use crate::byte_steps::{next_bytes, zero_bytes};
+use crate::point::{Point, Shape};
+use byte_block::Memory;
+
+/// Writes zeros into all places of the blocks from one on.
+fn clear_places(blocks: &mut Memory, from: usize)
+    requires { from ≤ length blocks.old }
+    ensures { blocks.new ≡ from_place zero_places from blocks.old }
+{
+    for i in from..blocks.len() {
+        zero_bytes(&mut blocks.get_mut(i).places, 0);
+    }
+}
+
+/// Makes the size of the blocks from one on 0.
+fn clear_sizes(blocks: &mut Memory, from: usize)
+    requires { from ≤ length blocks.old }
+    ensures { blocks.new ≡ from_place zero_size from blocks.old }
+{
+    for i in from..blocks.len() {
+        blocks.get_mut(i).size = 0;
+    }
+}
+
+/// Puts the next places of blocks of these sizes in the place of theirs. It answers false exactly at
+/// the last ones, which then stay.
+fn next_places(blocks: &mut Memory, given: u64, bytes: u64) -> bool
+    requires { BlocksFit given bytes 1 blocks.old }
+    ensures next { IsTrue result → IsNextMemory given bytes blocks.old blocks.new }
+    ensures last { IsFalse result → IsLastMemory given bytes blocks.old × (blocks.new ≡ blocks.old) }
+{
+    for i in (0..blocks.len()).rev() {
+        let block = blocks.get_mut(i);
+        let size = block.size;
+        if next_bytes(&mut block.places, size, given) {
+            clear_places(blocks, i + 1);
+            return true;
+        }
+    }
+    false
+}
+
+/// Puts the next sizes in the place of the sizes, with zeros in all places. It answers false exactly
+/// at the last sizes, and the blocks then stay.
+fn next_sizes(blocks: &mut Memory, given: u64, bytes: u64) -> bool
+    requires { BlocksFit given bytes 1 blocks.old }
+    ensures next { IsTrue result → IsNextSizes given bytes blocks.old blocks.new }
+    ensures last { IsFalse result → AreLastSizes bytes blocks.old × (blocks.new ≡ blocks.old) }
+{
+    for i in (0..blocks.len()).rev() {
+        let block = blocks.get_mut(i);
+        if block.size < bytes {
+            block.size += 1;
+            clear_sizes(blocks, i + 1);
+            clear_places(blocks, 0);
+            return true;
+        }
+    }
+    false
+}
+
+/// Puts the next point of the shape in the place of one. It answers false exactly at the last, which
+/// then stays. It takes no memory.
+pub fn next(point: &mut Point, shape: &Shape) -> bool
+    requires integers { AreIntegers shape.now.parameters }
+    requires of_shape { IsOfShape shape.now point.old }
+    ensures next { IsTrue result → IsNextPoint shape.now point.old point.new }
+    ensures last { IsFalse result → IsLastPoint shape.now point.old × (point.new ≡ point.old) }
+{
+    let (given, bytes) = (shape.blocks, shape.bytes);
+    if next_words(&mut point.tape, shape.word_width) {
+        return true;
+    }
+    if next_places(&mut point.input.blocks, given, bytes) {
+        zero_from(&mut point.tape, 0);
+        return true;
+    }
+    if next_sizes(&mut point.input.blocks, given, bytes) {
+        zero_from(&mut point.tape, 0);
+        return true;
+    }
+    if next_args(&mut point.input.args, shape.parameters.as_slice()) {
+        clear_sizes(&mut point.input.blocks, 0);
+        clear_places(&mut point.input.blocks, 0);
+        zero_from(&mut point.tape, 0);
+        return true;
+    }
+    false
+}

@@ -1,0 +1,140 @@
+ghost use Rattle.std.specs.Prelude.{◌≡◌, ◌∷◌, [], replicate, IfOk};
+ghost use Rattle.tv_num.specs.declared.Width.{Width};
+ghost use Rattle.ir_tree.specs.Limits.{AreIntegers};
+ghost use Rattle.points.specs.Code.{IsOfShape};
+ghost use Rattle.points.specs.Codes.{IsCode};
+
+use crate::{Point, Shape, code_of, next, point_of};
+use ir_tree::{IrType, Parameter};
+use std::alloc::{AllocError, Global};
+use std::test::Fail;
+use support::{NoMemory, Sequence};
+use tv_num::Width;
+
+fn repeated(alloc: Global, parameter: Parameter, count: usize) -> Result<Vec<Parameter>, AllocError>
+    ensures { IfOk result (λ parameters. parameters.items ≡ replicate count parameter) }
+{
+    vec![in alloc; parameter; count]
+}
+
+/// So many parameters of one bit, one given block of so many bytes, and so many words of one bit.
+fn shape_of_bits(alloc: Global, parameters: usize, bytes: u64, words: u64) -> Result<Shape, NoMemory>
+    ensures parameters { IfOk result (λ s. (w : Width) × (w.bits ≡ 1) × (s.parameters ≡ replicate parameters (record { of_type = IrType.Int w; name = 0 }))) }
+    ensures blocks { IfOk result (λ s. s.blocks ≡ 1) }
+    ensures bytes { IfOk result (λ s. s.bytes ≡ bytes) }
+    ensures words { IfOk result (λ s. s.words ≡ words) }
+    ensures width { IfOk result (λ s. s.word_width.bits ≡ 1) }
+{
+    let width = Width::of(1);
+    let parameter = Parameter {
+        of_type: IrType::Int(width),
+        name: 0,
+    };
+    Ok(Shape {
+        parameters: Sequence::from_vec(repeated(alloc, parameter, parameters)?),
+        blocks: 1,
+        bytes,
+        words,
+        word_width: width,
+    })
+}
+
+/// A parameter of one bit, one given block of at most one byte, and one word of one bit.
+fn one_of_each(alloc: Global) -> Result<Shape, NoMemory>
+    ensures integers { IfOk result (λ s. AreIntegers s.parameters) }
+    ensures no_byte { IfOk result (λ s. IsCode s (0 ∷ 0 ∷ 0 ∷ 0 ∷ 0 ∷ 0 ∷ 0 ∷ 0 ∷ 1 ∷ [])) }
+    ensures last_number { IfOk result (λ s. IsCode s (0 ∷ 0 ∷ 1 ∷ 0 ∷ 255 ∷ 0 ∷ 0 ∷ 0 ∷ 1 ∷ [])) }
+    ensures sixth_part { IfOk result (λ s. IsCode s (0 ∷ 0 ∷ 1 ∷ 1 ∷ 0 ∷ 0 ∷ 5 ∷ 6 ∷ 1 ∷ [])) }
+    ensures last_of_null { IfOk result (λ s. IsCode s (0 ∷ 0 ∷ 1 ∷ 1 ∷ 0 ∷ 0 ∷ 18446744073709551615 ∷ 7 ∷ 1 ∷ [])) }
+    ensures last_part { IfOk result (λ s. IsCode s (0 ∷ 0 ∷ 1 ∷ 1 ∷ 0 ∷ 1 ∷ 18446744073709551615 ∷ 7 ∷ 1 ∷ [])) }
+    ensures poison_byte { IfOk result (λ s. IsCode s (0 ∷ 1 ∷ 1 ∷ 2 ∷ 0 ∷ 0 ∷ 0 ∷ 0 ∷ 1 ∷ [])) }
+    ensures last { IfOk result (λ s. IsCode s (1 ∷ 0 ∷ 1 ∷ 2 ∷ 0 ∷ 0 ∷ 0 ∷ 0 ∷ 1 ∷ [])) }
+{
+    let shape = shape_of_bits(alloc, 1, 1, 1)?;
+    Ok(shape)
+}
+
+/// The code of what comes behind the point with this code.
+fn code_behind(alloc: Global, code: &[u64], shape: &Shape) -> Result<Option<Vec<u64>>, NoMemory>
+    requires integers { AreIntegers shape.now.parameters }
+    requires code { IsCode shape.now code.now }
+{
+    let mut point = point_of(alloc, code, shape)?;
+    if !next(&mut point, shape) {
+        return Ok(None);
+    }
+    Ok(Some(code_of(alloc, &point, shape)?))
+}
+
+fn is_there(code: Option<Vec<u64>>, wanted: &[u64]) -> bool {
+    match code {
+        Some(code) => code.as_slice() == wanted,
+        None => false,
+    }
+}
+
+#[test]
+fn codes_come_back_from_their_points(rt: HostRuntime) -> Result<(), Fail> {
+    let alloc = rt.alloc();
+    let shape = one_of_each(alloc)?;
+    let code = [0, 0, 1, 1, 0, 0, 5, 6, 1];
+    let point = point_of(alloc, &code, &shape)?;
+    let again = code_of(alloc, &point, &shape)?;
+    assert!(rt; again.as_slice() == code.as_slice());
+    Ok(())
+}
+
+#[test]
+fn bytes_come_before_sizes_and_sizes_before_arguments(rt: HostRuntime) -> Result<(), Fail> {
+    let alloc = rt.alloc();
+    let shape = one_of_each(alloc)?;
+    let most = u64::MAX;
+    let sized = code_behind(alloc, &[0, 0, 0, 0, 0, 0, 0, 0, 1], &shape)?;
+    assert!(rt; is_there(sized, &[0, 0, 1, 0, 0, 0, 0, 0, 0]));
+    let part = code_behind(alloc, &[0, 0, 1, 0, 255, 0, 0, 0, 1], &shape)?;
+    assert!(rt; is_there(part, &[0, 0, 1, 1, 0, 0, 0, 0, 0]));
+    let seventh = code_behind(alloc, &[0, 0, 1, 1, 0, 0, 5, 6, 1], &shape)?;
+    assert!(rt; is_there(seventh, &[0, 0, 1, 1, 0, 0, 5, 7, 0]));
+    let given = code_behind(alloc, &[0, 0, 1, 1, 0, 0, most, 7, 1], &shape)?;
+    assert!(rt; is_there(given, &[0, 0, 1, 1, 0, 1, 0, 0, 0]));
+    let poison = code_behind(alloc, &[0, 0, 1, 1, 0, 1, most, 7, 1], &shape)?;
+    assert!(rt; is_there(poison, &[0, 0, 1, 2, 0, 0, 0, 0, 0]));
+    let argument = code_behind(alloc, &[0, 1, 1, 2, 0, 0, 0, 0, 1], &shape)?;
+    assert!(rt; is_there(argument, &[1, 0, 0, 0, 0, 0, 0, 0, 0]));
+    let last = code_behind(alloc, &[1, 0, 1, 2, 0, 0, 0, 0, 1], &shape)?;
+    assert!(rt; last.is_none());
+    Ok(())
+}
+
+/// Two parameters of one bit, one given block that has no byte, and two words of one bit.
+fn without_bytes(alloc: Global) -> Result<Shape, NoMemory>
+    ensures integers { IfOk result (λ s. AreIntegers s.parameters) }
+    ensures first { IfOk result (λ s. IsCode s (0 ∷ 0 ∷ 0 ∷ 0 ∷ 0 ∷ 0 ∷ 0 ∷ [])) }
+{
+    let shape = shape_of_bits(alloc, 2, 0, 2)?;
+    Ok(shape)
+}
+
+/// How many points there are from this one on, if there are at most a hundred.
+fn points_from(point: &mut Point, shape: &Shape) -> Option<u64>
+    requires integers { AreIntegers shape.now.parameters }
+    requires of_shape { IsOfShape shape.now point.old }
+    ensures { IsOfShape shape.now point.new }
+{
+    for step in 0..100 {
+        if !next(point, shape) {
+            return Some(step + 1);
+        }
+    }
+    None
+}
+
+#[test]
+fn a_walk_meets_each_point_of_a_shape(rt: HostRuntime) -> Result<(), Fail> {
+    let alloc = rt.alloc();
+    let shape = without_bytes(alloc)?;
+    let mut point = point_of(alloc, &[0, 0, 0, 0, 0, 0, 0], &shape)?;
+    assert!(rt; points_from(&mut point, &shape) == Some(3 * 3 * 2 * 2));
+    assert!(rt; !next(&mut point, &shape));
+    Ok(())
+}
