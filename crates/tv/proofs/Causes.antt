@@ -8,7 +8,7 @@ use Rattle.tv.specs.declared.check.Report.{Report}
 use Rattle.tv.specs.declared.stop.Trouble.TheVariants as trouble
 use Rattle.tv.specs.declared.stop.Stop.{Stop}
 use Rattle.tv.specs.declared.stop.Stop.TheVariants as stop
-use Rattle.tv.specs.Job.{Job}
+use Rattle.tv_words.specs.Words.{Job}
 use Rattle.tv.specs.Reports.{text_limit}
 use Rattle.tv.specs.Stops.{Counts, HasCause, WhereTold}
 use Rattle.tv.specs.Answers.{IsUnread}

@@ -2,11 +2,10 @@
 use Rattle.std.proofs.Common.{◌≡◌, ℕ, arith, List, Option, sym, ap, subst, ◌∙◌}
 use Rattle.ir_tree.specs.declared.module.Module.{Module}
 use Rattle.ir_reader.specs.FirstForm.{IsFirstForm}
-use Rattle.points.specs.Range.{AreInRange}
 use Rattle.report.specs.Rows.{AreRows, RowsAreOne}
 use Rattle.report.specs.Text.{report_text}
 use Rattle.report.specs.Status.{status_of}
-use Rattle.tv.specs.Job.{default_bounds, default_budget}
+use Rattle.tv_words.proofs.Ranges.{job_in_range}
 use Rattle.tv.specs.Reports.{HasModule}
 use Rattle.tv.specs.Laws.{ReportsAreOne}
 use Rattle.tv.proofs.Files.{same_text}
@@ -14,20 +13,17 @@ use Rattle.tv.proofs.Files.{same_text}
 abbrev pub OneModule : Type 0
 OneModule = (text : List ℕ) (m n : Module) → IsFirstForm text m → IsFirstForm text n → m ≡ n
 
-in_range : AreInRange default_bounds default_budget
-in_range = record { turns = omega arith; blocks = omega arith; bytes = omega arith; rounds = omega arith; conflicts = omega arith; least_weight = omega arith; most_weight = omega arith }
-
 module_one : OneModule → (file : Option (List ℕ)) (m n : Module) → HasModule file m → HasModule file n → m ≡ n
 module_one one file m n x y = one y.text m n (subst (λ (t : List ℕ). IsFirstForm t m) (same_text file x.text y.text x.there y.there) x.formed) y.formed
 
 pub reports_are_one : OneModule → RowsAreOne → ReportsAreOne
-reports_are_one one rows files job text other status other_status x y =
+reports_are_one one rows files words job text other status other_status is x y =
     let s : y.source ≡ x.source = module_one one (files job.source) y.source x.source y.source_is x.source_is in
     let t : y.target ≡ x.target = module_one one (files job.target) y.target x.target y.target_is x.target_is in
-    let are : AreRows default_bounds default_budget x.source x.target y.report.rows =
-    subst (λ (m : Module). AreRows default_bounds default_budget m x.target y.report.rows) s
-    (subst (λ (n : Module). AreRows default_bounds default_budget y.source n y.report.rows) t y.report.are_rows) in
-    let e : x.report.rows ≡ y.report.rows = rows default_bounds default_budget x.source x.target x.report.rows y.report.rows in_range x.report.are_rows are in (
-      x.report.text_is ∙ ap (report_text default_bounds default_budget) e ∙ sym y.report.text_is,
+    let are : AreRows job.bounds job.budget x.source x.target y.report.rows =
+    subst (λ (m : Module). AreRows job.bounds job.budget m x.target y.report.rows) s
+    (subst (λ (n : Module). AreRows job.bounds job.budget y.source n y.report.rows) t y.report.are_rows) in
+    let e : x.report.rows ≡ y.report.rows = rows job.bounds job.budget x.source x.target x.report.rows y.report.rows (job_in_range words job is) x.report.are_rows are in (
+      x.report.text_is ∙ ap (report_text job.bounds job.budget) e ∙ sym y.report.text_is,
       x.report.status_is ∙ ap status_of e ∙ sym y.report.status_is,
     )

@@ -9,7 +9,7 @@ use Rattle.ir_tree.specs.declared.module.Module.{Module}
 use Rattle.tv.specs.declared.stop.Trouble.TheVariants as trouble
 use Rattle.tv.specs.declared.stop.Stop.{Stop}
 use Rattle.tv.specs.declared.stop.Stop.TheVariants as stop
-use Rattle.tv.specs.Job.{Job}
+use Rattle.tv_words.specs.Words.{Job}
 use Rattle.tv.specs.Reports.{HasModule}
 use Rattle.tv.specs.Stops.{Counts, IsLonger, HasCause, stop_status, WritesLine}
 use Rattle.tv.specs.Answers.{IsUndisturbed}

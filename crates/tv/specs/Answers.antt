@@ -1,7 +1,6 @@
 -- How contracts see the values of a run.
-use Rattle.std.specs.Prelude.{◌≡◌, ◌≤◌, ℕ, List, length, Option, Some, option_map, Result, Ok, Err}
+use Rattle.std.specs.Prelude.{◌≡◌, ◌≤◌, ℕ, List, length, Option, Some, Result, Ok, Err}
 use Rattle.std.specs.Global.{Vec}
-use Rattle.std.specs.Borrow.{Bor}
 use Rattle.tv_io.specs.Count.{Rose}
 use Rattle.tv_io.specs.Files.{Files}
 use Rattle.ir_tree.specs.declared.module.Module.{Module}
@@ -9,13 +8,9 @@ use Rattle.tv.specs.declared.stop.Trouble.{Trouble}
 use Rattle.tv.specs.declared.stop.Trouble.TheVariants as trouble
 use Rattle.tv.specs.declared.stop.Stop.{Stop}
 use Rattle.tv.specs.declared.stop.Stop.TheVariants as stop
-use Rattle.tv.specs.Job.{Job}
+use Rattle.tv_words.specs.Words.{Job}
 use Rattle.tv.specs.Reports.{text_limit, HasModule}
 use Rattle.tv.specs.Stops.{IsLonger}
-
--- the names that were found in the words
-abbrev pub job_seen : Option (Bor (List ℕ) × Bor (List ℕ)) → Option Job
-job_seen found = option_map (λ x. record { source = x.0.now; target = x.1.now }) found
 
 -- what loading a file says of it: its text, within the limit, or that it is longer
 abbrev pub Loads : Option (List ℕ) → Result (Vec ℕ) (Option Trouble) → Type 0

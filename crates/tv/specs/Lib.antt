@@ -1,4 +1,3 @@
-pub mod Job
 pub mod Reports
 pub mod Stops
 pub mod Answers

@@ -4,11 +4,13 @@ use Rattle.tv_io.specs.Files.{Files}
 use Rattle.tv_io.specs.Taken.{then_taken, TookFront}
 use Rattle.ir_tree.specs.declared.module.Module.{Module}
 use Rattle.ir_reader.specs.FirstForm.{IsFirstForm}
+use Rattle.points.specs.declared.point.Bounds.{Bounds}
+use Rattle.points.specs.declared.point.Budget.{Budget}
 use Rattle.report.specs.declared.row.Row.{Row}
 use Rattle.report.specs.Rows.{AreRows}
 use Rattle.report.specs.Text.{report_text}
 use Rattle.report.specs.Status.{status_of}
-use Rattle.tv.specs.Job.{Job, default_bounds, default_budget}
+use Rattle.tv_words.specs.Words.{Job}
 
 -- the most bytes of a module's text
 abbrev pub text_limit : ℕ
@@ -27,20 +29,20 @@ pub record HasModule (file : Option (List ℕ)) (m : Module) : Type 0 where
   pub within : length text ≤ text_limit
   pub formed : IsFirstForm text m
 
--- the rows of two modules, as a text and as a status
-pub record IsReport (source target : Module) (text : List ℕ) (status : ℕ) : Type 0 where
+-- the rows of two modules within bounds and a budget, as a text and as a status
+pub record IsReport (bounds : Bounds) (budget : Budget) (source target : Module) (text : List ℕ) (status : ℕ) : Type 0 where
   pub rows : List Row
-  pub are_rows : AreRows default_bounds default_budget source target rows
-  pub text_is : text ≡ report_text default_bounds default_budget rows
+  pub are_rows : AreRows bounds budget source target rows
+  pub text_is : text ≡ report_text bounds budget rows
   pub status_is : status ≡ status_of rows
 
--- the report of the two files that a job names
+-- the report of the two files that a job names, within its bounds and its budget
 pub record Reports (files : Files) (job : Job) (text : List ℕ) (status : ℕ) : Type 0 where
   pub source : Module
   pub target : Module
   pub source_is : HasModule (files job.source) source
   pub target_is : HasModule (files job.target) target
-  pub report : IsReport source target text status
+  pub report : IsReport job.bounds job.budget source target text status
 
 -- the sink took the report of the job that the words are, and nothing else
 pub record Written (files : Files) (words : Option Job) (status : ℕ) (old new : Option (List ℕ)) : Type 0 where

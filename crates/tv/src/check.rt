@@ -4,6 +4,8 @@ ghost use Rattle.tv_io.specs.Files.{Files};
 ghost use Rattle.ir_tree.specs.Names.{same_name};
 ghost use Rattle.ir_tree.specs.declared.module.Module.{Module};
 ghost use Rattle.ir_reader.specs.FirstForm.{IsFirstForm, IsJudgeableEntry};
+ghost use Rattle.points.specs.Range.{AreInRange};
+ghost use Rattle.tv_words.specs.Seen.{seen};
 ghost use Rattle.tv.specs.Searching.{entry_names};
 ghost use Rattle.tv.specs.Reports.{IsReport, Reports};
 ghost use Rattle.tv.specs.Stops.{HasCause, WhereTold};
@@ -15,24 +17,11 @@ use crate::stop::{Stop, Trouble};
 use crate::texts::load;
 use ir_reader::{ModuleFault, read};
 use ir_tree::Module;
-use points::{Bounds, Budget};
 use report::{status_of, text_of};
 use std::alloc::Global;
 use support::NoMemory;
 use tv_io::Shelf;
-
-const DEFAULTS: Limits = Limits {
-    bounds: Bounds {
-        turns: 4,
-        blocks: 2,
-        bytes: 8,
-    },
-    budget: Budget {
-        rounds: 64,
-        conflicts: 0,
-        weight: 100_000,
-    },
-};
+use tv_words::Job;
 
 /// The text of a report, and its status.
 #[derive(Drop)]
@@ -47,35 +36,47 @@ pub fn report_of<S: Shelf, G: Gate>(
     alloc: Global,
     shelf: &mut S,
     gate: &G,
-    source: &str,
-    target: &str,
+    job: &Job<'_>,
 ) -> Result<Report, Stop>
-    ensures told { IfOk result (λ r. WhereTold (S.files shelf.old) (λ files. Reports files (record { source = source.now; target = target.now }) r.text.items r.status)) }
+    requires { AreInRange job.now.bounds job.now.budget }
+    ensures told { IfOk result (λ r. WhereTold (S.files shelf.old) (λ files. Reports files (seen job.now) r.text.items r.status)) }
     ensures same { S.files shelf.new ≡ S.files shelf.old }
-    ensures cause { IfErr result (HasCause (S.files shelf.old) (record { source = source.now; target = target.now })
+    ensures cause { IfErr result (HasCause (S.files shelf.old) (seen job.now)
         (record { faults = S.fetch_faults shelf.old; taken = S.bytes_taken shelf.old }) (record { faults = S.fetch_faults shelf.new; taken = S.bytes_taken shelf.new })) }
 {
-    let source_text = match load(alloc, shelf, source) {
+    let source_text = match load(alloc, shelf, job.source) {
         Ok(text) => text,
         Err(Some(trouble)) => return Err(Stop::Source(trouble)),
         Err(None) => return Err(Stop::NoMemory),
     };
-    let target_text = match load(alloc, shelf, target) {
+    let target_text = match load(alloc, shelf, job.target) {
         Ok(text) => text,
         Err(Some(trouble)) => return Err(Stop::Target(trouble)),
         Err(None) => return Err(Stop::NoMemory),
     };
-    report_of_texts(alloc, gate, source_text.as_slice(), target_text.as_slice())
+    let limits = Limits {
+        bounds: job.bounds,
+        budget: job.budget,
+    };
+    report_of_texts(
+        alloc,
+        &limits,
+        gate,
+        source_text.as_slice(),
+        target_text.as_slice(),
+    )
 }
 
 /// The report of two texts, or which of them is not read.
 fn report_of_texts<G: Gate>(
     alloc: Global,
+    limits: &Limits,
     gate: &G,
     source: &[u8],
     target: &[u8],
 ) -> Result<Report, Stop>
-    ensures told { IfOk result (λ r. (m : Module) × (n : Module) × IsFirstForm source.now m × IsFirstForm target.now n × IsReport m n r.text.items r.status) }
+    requires { AreInRange limits.now.bounds limits.now.budget }
+    ensures told { IfOk result (λ r. (m : Module) × (n : Module) × IsFirstForm source.now m × IsFirstForm target.now n × IsReport limits.now.bounds limits.now.budget m n r.text.items r.status) }
     ensures source { result ≡ Err (Stop.Source Trouble.NotRead) → (m : Module) → ¬ (IsFirstForm source.now m) }
     ensures target { result ≡ Err (Stop.Target Trouble.NotRead) → (m : Module) → ¬ (IsFirstForm target.now m) }
     ensures first { result ≡ Err (Stop.Target Trouble.NotRead) → (m : Module) × IsFirstForm source.now m }
@@ -91,7 +92,7 @@ fn report_of_texts<G: Gate>(
         Err(ModuleFault::NotRead) => return Err(Stop::Target(Trouble::NotRead)),
         Err(ModuleFault::NoMemory) => return Err(Stop::NoMemory),
     };
-    match report_of_modules(alloc, gate, &m, &n) {
+    match report_of_modules(alloc, limits, gate, &m, &n) {
         Ok(report) => Ok(report),
         Err(NoMemory) => Err(Stop::NoMemory),
     }
@@ -99,18 +100,20 @@ fn report_of_texts<G: Gate>(
 
 fn report_of_modules<G: Gate>(
     alloc: Global,
+    limits: &Limits,
     gate: &G,
     source: &Module,
     target: &Module,
 ) -> Result<Report, NoMemory>
+    requires in_range { AreInRange limits.now.bounds limits.now.budget }
     requires source_names { IsDistinct same_name (entry_names source.now.entries) }
     requires target_names { IsDistinct same_name (entry_names target.now.entries) }
     requires source_judgeable { AllByRecursion IsJudgeableEntry source.now.entries }
     requires target_judgeable { AllByRecursion IsJudgeableEntry target.now.entries }
-    ensures { IfOk result (λ r. IsReport source.now target.now r.text.items r.status) }
+    ensures { IfOk result (λ r. IsReport limits.now.bounds limits.now.budget source.now target.now r.text.items r.status) }
 {
-    let rows = all_rows(alloc, &DEFAULTS, gate, source, target)?;
+    let rows = all_rows(alloc, limits, gate, source, target)?;
     let status = status_of(rows.as_slice());
-    let text = text_of(alloc, rows.as_slice(), &DEFAULTS.bounds, &DEFAULTS.budget)?;
+    let text = text_of(alloc, rows.as_slice(), &limits.bounds, &limits.budget)?;
     Ok(Report { text, status })
 }

@@ -1,7 +1,7 @@
-//! The program: `tv check A B` judges the functions of module B against those of module A.
+//! The program: `tv check A B` with options judges the functions of module B against those of module A.
 //!
 //! It promises that what is written is the report of the two files, and that each other status has its
-//! cause (`top::run`). It stands on the reader, the judge, the report and the outside; nothing stands
+//! cause (`top::run`). It stands on the words, the reader, the judge, the report and the outside; nothing stands
 //! on it.
 #![tactic(auto)]
 
@@ -13,7 +13,6 @@ mod rows;
 mod stop;
 mod texts;
 mod top;
-mod words;
 
 use crate::gate::OpenGate;
 use crate::top::run;

@@ -1,8 +1,9 @@
-ghost use Rattle.std.specs.Prelude.{◌≡◌, ◌≢◌, ◌↔◌, ◌≤◌, ◌<◌, ◌⊎◌, ◌++◌, ◌∷◌, [], None, map, codes, string_bytes};
+ghost use Rattle.std.specs.Prelude.{◌≡◌, ◌≢◌, ◌≤◌, ◌<◌, ◌⊎◌, ◌++◌, ◌∷◌, [], None, map, codes, string_bytes};
 ghost use Rattle.tv_io.specs.Count.{Rose};
 ghost use Rattle.tv_io.specs.Files.{Files};
 ghost use Rattle.tv_io.specs.Taken.{then_taken, TookFront};
-ghost use Rattle.tv.specs.Job.{job_of};
+ghost use Rattle.tv_words.specs.Words.{job_of};
+ghost use Rattle.tv_words.specs.Seen.{seen};
 ghost use Rattle.tv.specs.Reports.{Written, PartlyWritten};
 ghost use Rattle.tv.specs.Stops.{trouble_status, trouble_line, stop_status, WritesLine, Says, Refuses, WhereTold};
 ghost use Rattle.tv.specs.Answers.{IsUndisturbed};
@@ -10,12 +11,14 @@ ghost use Rattle.tv.specs.Answers.{IsUndisturbed};
 use crate::check::{Report, report_of};
 use crate::gate::Gate;
 use crate::stop::{Stop, Trouble};
-use crate::words::job;
+use support::NoMemory;
 use tv_io::{Shelf, Sink, write_line, write_whole};
+use tv_words::{Job, read_job};
 
 /// Judges the functions of the target's text against the source's, and writes the report.
 ///
-/// The words are those of the command line, the program's name first. The status is 0 where all rows
+/// The words are those of the command line, the program's name first; `tv_words` says which job they
+/// are. The status is 0 where all rows
 /// are correct, 1 where one is incorrect, else 2 where one is unknown, else 3; 4 where the words are no
 /// job; 5 where a text can't be read, 6 where it has more than 16,777,216 bytes, 9 where it is not of
 /// the first form; 7 where the sink fails while the report is written; 8 for want of memory. The first
@@ -31,29 +34,36 @@ pub fn run<R: AllocGlobal, S: Shelf, K: Sink, G: Gate>(
 ) -> u8
     // The headline: what is written is the report of the two files.
     ensures report { result ≤ 3 → WhereTold (S.files shelf.old) (λ files. Written files (job_of (map string_bytes words.now)) result (K.taken out.old) (K.taken out.new)) }
-    // The words aren't a job.
-    ensures words { (result ≡ 4) ↔ (job_of (map string_bytes words.now) ≡ None) }
+    // The words aren't a job, and exactly then, but for want of memory.
+    ensures words { result ≡ 4 → job_of (map string_bytes words.now) ≡ None }
+    ensures no_job { job_of (map string_bytes words.now) ≡ None → (result ≡ 4) ⊎ (result ≡ 8) }
     ensures words_line { result ≡ 4 → WritesLine (codes "words refused" ++ 10 ∷ []) (K.taken out.old) (K.taken out.new) (K.faults out.old) (K.faults out.new) }
     // The sink failed while the report was written.
     ensures sink { result ≡ 7 → Rose (K.faults out.old) (K.faults out.new) }
     ensures part { result ≡ 7 → WhereTold (S.files shelf.old) (λ files. PartlyWritten files (job_of (map string_bytes words.now)) (K.taken out.old) (K.taken out.new)) }
-    // A text was not judged: 5 it can't be read, 6 it is too long, 9 it has no module; 8 is want of memory.
-    ensures refused { 4 < result → result ≢ 7 → Refuses (S.files shelf.old) (job_of (map string_bytes words.now))
+    // A text was not judged: 5 it can't be read, 6 it is too long, 9 it has no module.
+    ensures refused { 4 < result → result ≢ 7 → result ≢ 8 → Refuses (S.files shelf.old) (job_of (map string_bytes words.now))
         (record { faults = S.fetch_faults shelf.old; taken = S.bytes_taken shelf.old }) (record { faults = S.fetch_faults shelf.new; taken = S.bytes_taken shelf.new })
         result (K.taken out.old) (K.taken out.new) (K.faults out.old) (K.faults out.new) }
+    // Memory ran out, and nothing was written.
+    ensures memory { result ≡ 8 → K.taken out.new ≡ K.taken out.old }
     // Two texts that have modules are judged, unless memory runs out or the shelf or the sink fails.
     ensures complete { IsUndisturbed (S.files shelf.old) (job_of (map string_bytes words.now)) (S.fetch_faults shelf.old) (S.fetch_faults shelf.new) (K.faults out.old) (K.faults out.new) → (result ≤ 3) ⊎ (result ≡ 8) }
     // No other status comes, and no file changes.
     ensures known { result ≤ 9 }
     ensures same { S.files shelf.new ≡ S.files shelf.old }
 {
-    let Some((source, target)) = job(words) else {
-        let _ = write_line(out, b"words refused", b"");
-        return 4;
+    let job = match read_job(rt.alloc(), words) {
+        Ok(Some(job)) => job,
+        Ok(None) => {
+            let _ = write_line(out, b"words refused", b"");
+            return 4;
+        }
+        Err(NoMemory) => return 8,
     };
-    match report_of(rt.alloc(), shelf, gate, source, target) {
+    match report_of(rt.alloc(), shelf, gate, &job) {
         Ok(report) => send(out, &report),
-        Err(stop) => refuse(out, stop, source, target),
+        Err(stop) => refuse(out, stop, &job),
     }
 }
 
@@ -70,13 +80,13 @@ fn send<K: Sink>(out: &mut K, report: &Report) -> u8
 }
 
 /// Writes the line of a stop, and answers its status.
-fn refuse<K: Sink>(out: &mut K, stop: Stop, source: &str, target: &str) -> u8
+fn refuse<K: Sink>(out: &mut K, stop: Stop, job: &Job<'_>) -> u8
     ensures status { result ≡ stop_status stop }
-    ensures line { Says (record { source = source.now; target = target.now }) stop (K.taken out.old) (K.taken out.new) (K.faults out.old) (K.faults out.new) }
+    ensures line { Says (seen job.now) stop (K.taken out.old) (K.taken out.new) (K.faults out.old) (K.faults out.new) }
 {
     match stop {
-        Stop::Source(trouble) => refuse_text(out, source, trouble),
-        Stop::Target(trouble) => refuse_text(out, target, trouble),
+        Stop::Source(trouble) => refuse_text(out, job.source, trouble),
+        Stop::Target(trouble) => refuse_text(out, job.target, trouble),
         Stop::NoMemory => 8,
     }
 }

@@ -1,0 +1,11 @@
+pub mod Numerals
+pub mod Given
+pub mod Walking
+pub mod Ranges
+pub mod Uses
+pub mod WordKinds
+pub mod Arguments
+pub mod Steps
+pub mod Walks
+pub mod Outcomes
+pub mod Equality

@@ -1,0 +1,3 @@
+pub mod Words
+pub mod Walked
+pub mod Seen
