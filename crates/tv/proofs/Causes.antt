@@ -3,7 +3,7 @@ use Rattle.std.proofs.Common.{◌≡◌, ◌≤◌, ℕ, List, length, Option, S
 use Rattle.std.specs.Prelude.{IfErr}
 use Rattle.tv_io.specs.Files.{Files}
 use Rattle.ir_tree.specs.declared.module.Module.{Module}
-use Rattle.ir_reader.specs.FirstForm.{IsFirstForm}
+use Rattle.ir_reader.specs.StraightLine.{IsStraightLine}
 use Rattle.tv.specs.declared.check.Report.{Report}
 use Rattle.tv.specs.declared.stop.Trouble.TheVariants as trouble
 use Rattle.tv.specs.declared.stop.Stop.{Stop}
@@ -24,9 +24,9 @@ pub record HoldsBoth (files : Files) (job : Job) (source target : List ℕ) : Ty
 pub unread_cause : (told : Option Files) (job : Job) (before now : Counts) (source target : List ℕ) (r : Result Report Stop)
     → WhereTold told (λ files. HoldsBoth files job source target)
     → IfErr r IsUnread
-    → (r ≡ Err (stop.Source trouble.NotRead) → (m : Module) → IsFirstForm source m → ⊥)
-    → (r ≡ Err (stop.Target trouble.NotRead) → (m : Module) → IsFirstForm target m → ⊥)
-    → (r ≡ Err (stop.Target trouble.NotRead) → (m : Module) × IsFirstForm source m)
+    → (r ≡ Err (stop.Source trouble.NotRead) → (m : Module) → IsStraightLine source m → ⊥)
+    → (r ≡ Err (stop.Target trouble.NotRead) → (m : Module) → IsStraightLine target m → ⊥)
+    → (r ≡ Err (stop.Target trouble.NotRead) → (m : Module) × IsStraightLine source m)
     → IfErr r (HasCause told job before now)
 unread_cause told job before now source target (Ok r) both unread no_source no_target first = tt
 unread_cause told job before now source target (Err (stop.Source trouble.CannotRead)) both unread no_source no_target first = absurd unread

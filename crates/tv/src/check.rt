@@ -3,7 +3,7 @@ ghost use Rattle.std.specs.List.{IsDistinct, AllByRecursion};
 ghost use Rattle.tv_io.specs.Files.{Files};
 ghost use Rattle.ir_tree.specs.Names.{same_name};
 ghost use Rattle.ir_tree.specs.declared.module.Module.{Module};
-ghost use Rattle.ir_reader.specs.FirstForm.{IsFirstForm, IsJudgeableEntry};
+ghost use Rattle.ir_reader.specs.StraightLine.{IsStraightLine, IsJudgeableEntry};
 ghost use Rattle.points.specs.Range.{AreInRange};
 ghost use Rattle.tv_words.specs.Seen.{seen};
 ghost use Rattle.tv.specs.Searching.{entry_names};
@@ -76,10 +76,10 @@ fn report_of_texts<G: Gate>(
     target: &[u8],
 ) -> Result<Report, Stop>
     requires { AreInRange limits.now.bounds limits.now.budget }
-    ensures told { IfOk result (λ r. (m : Module) × (n : Module) × IsFirstForm source.now m × IsFirstForm target.now n × IsReport limits.now.bounds limits.now.budget m n r.text.items r.status) }
-    ensures source { result ≡ Err (Stop.Source Trouble.NotRead) → (m : Module) → ¬ (IsFirstForm source.now m) }
-    ensures target { result ≡ Err (Stop.Target Trouble.NotRead) → (m : Module) → ¬ (IsFirstForm target.now m) }
-    ensures first { result ≡ Err (Stop.Target Trouble.NotRead) → (m : Module) × IsFirstForm source.now m }
+    ensures told { IfOk result (λ r. (m : Module) × (n : Module) × IsStraightLine source.now m × IsStraightLine target.now n × IsReport limits.now.bounds limits.now.budget m n r.text.items r.status) }
+    ensures source { result ≡ Err (Stop.Source Trouble.NotRead) → (m : Module) → ¬ (IsStraightLine source.now m) }
+    ensures target { result ≡ Err (Stop.Target Trouble.NotRead) → (m : Module) → ¬ (IsStraightLine target.now m) }
+    ensures first { result ≡ Err (Stop.Target Trouble.NotRead) → (m : Module) × IsStraightLine source.now m }
     ensures others { IfErr result IsUnread }
 {
     let m = match read(alloc, source) {

@@ -21,7 +21,7 @@ use tv_words::{Job, read_job};
 /// are. The status is 0 where all rows
 /// are correct, 1 where one is incorrect, else 2 where one is unknown, else 3; 4 where the words are no
 /// job; 5 where a text can't be read, 6 where it has more than 16,777,216 bytes, 9 where it is not of
-/// the first form; 7 where the sink fails while the report is written; 8 for want of memory. The first
+/// straight-line functions; 7 where the sink fails while the report is written; 8 for want of memory. The first
 /// cause counts, in the order words, source text, target text, source module, target module, judging,
 /// report. The whole report is made before its first byte is written, and a fault's line takes no
 /// memory. Each pair that is judged passes the gate before.

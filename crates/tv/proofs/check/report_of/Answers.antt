@@ -1,6 +1,6 @@
 use Rattle.std.proofs.Common.{◌≤◌, ◌∙◌, sym, ap, subst, List, length, ℕ, Some}
 use Rattle.std.proofs.lemmas.Result.{IfOk-weaker}
-use Rattle.ir_reader.specs.FirstForm.{IsFirstForm}
+use Rattle.ir_reader.specs.StraightLine.{IsStraightLine}
 use Rattle.tv.proofs.Causes.{unread_cause}
 use Rattle.tv.proofs.check.report_of.Goals as goal
 
@@ -13,8 +13,8 @@ returns-clause-told g c =
     record {
       source = h.0;
       target = h.1;
-      source_is = record { text = c.in-Ok.text.items; there = source.0; within = source.1; formed = subst (λ (t : List ℕ). IsFirstForm t h.0) c.as_slice.ensures.value h.2 };
-      target_is = record { text = c.in-Ok-load.text.items; there = target.0; within = target.1; formed = subst (λ (t : List ℕ). IsFirstForm t h.1) c.as_slice-2.ensures.value h.3 };
+      source_is = record { text = c.in-Ok.text.items; there = source.0; within = source.1; formed = subst (λ (t : List ℕ). IsStraightLine t h.0) c.as_slice.ensures.value h.2 };
+      target_is = record { text = c.in-Ok-load.text.items; there = target.0; within = target.1; formed = subst (λ (t : List ℕ). IsStraightLine t h.1) c.as_slice-2.ensures.value h.3 };
       report = h.4;
     })
     c.report_of_texts.ensures.told
