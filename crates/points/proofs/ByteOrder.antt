@@ -26,7 +26,7 @@ poison_number : (blocks : ℕ) → byte_number blocks Poison ≡ 2 * 2 ^ 256
 unfolding number_of
 poison_number blocks = omega arith
 
-pointer_at_most : (blocks : ℕ) (p : Ptr) → PointerFits blocks p → pointer_number blocks p < (blocks + 1) * 2 ^ 64
+pub pointer_at_most : (blocks : ℕ) (p : Ptr) → PointerFits blocks p → pointer_number blocks p < (blocks + 1) * 2 ^ 64
 pointer_at_most blocks p fits = let name = name_at_most blocks p.block fits.block in let small = fits.offset in omega (arith, name, small)
 
 part_at_most : (blocks : ℕ) (p : Ptr) (i : ℕ) → blocks < 2 ^ 64 → PointerFits blocks p → i ≤ 7 → byte_number blocks (Part p i) < 2 * 2 ^ 256

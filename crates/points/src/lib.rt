@@ -19,6 +19,7 @@ mod reading;
 mod refinement;
 #[cfg(test)]
 mod tests;
+mod value_steps;
 mod verdict;
 
 pub use codes::code_of;

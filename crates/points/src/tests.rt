@@ -1,6 +1,5 @@
 ghost use Rattle.std.specs.Prelude.{◌≡◌, ◌∷◌, [], replicate, IfOk};
 ghost use Rattle.tv_num.specs.declared.Width.{Width};
-ghost use Rattle.ir_tree.specs.Limits.{AreIntegers};
 ghost use Rattle.points.specs.Code.{IsOfShape};
 ghost use Rattle.points.specs.Codes.{IsCode};
 
@@ -41,7 +40,6 @@ fn shape_of_bits(alloc: Global, parameters: usize, bytes: u64, words: u64) -> Re
 
 /// A parameter of one bit, one given block of at most one byte, and one word of one bit.
 fn one_of_each(alloc: Global) -> Result<Shape, NoMemory>
-    ensures integers { IfOk result (λ s. AreIntegers s.parameters) }
     ensures no_byte { IfOk result (λ s. IsCode s (0 ∷ 0 ∷ 0 ∷ 0 ∷ 0 ∷ 0 ∷ 0 ∷ 0 ∷ 1 ∷ [])) }
     ensures last_number { IfOk result (λ s. IsCode s (0 ∷ 0 ∷ 1 ∷ 0 ∷ 255 ∷ 0 ∷ 0 ∷ 0 ∷ 1 ∷ [])) }
     ensures sixth_part { IfOk result (λ s. IsCode s (0 ∷ 0 ∷ 1 ∷ 1 ∷ 0 ∷ 0 ∷ 5 ∷ 6 ∷ 1 ∷ [])) }
@@ -56,8 +54,7 @@ fn one_of_each(alloc: Global) -> Result<Shape, NoMemory>
 
 /// The code of what comes behind the point with this code.
 fn code_behind(alloc: Global, code: &[u64], shape: &Shape) -> Result<Option<Vec<u64>>, NoMemory>
-    requires integers { AreIntegers shape.now.parameters }
-    requires code { IsCode shape.now code.now }
+    requires { IsCode shape.now code.now }
 {
     let mut point = point_of(alloc, code, shape)?;
     if !next(&mut point, shape) {
@@ -108,8 +105,7 @@ fn bytes_come_before_sizes_and_sizes_before_arguments(rt: HostRuntime) -> Result
 
 /// Two parameters of one bit, one given block that has no byte, and two words of one bit.
 fn without_bytes(alloc: Global) -> Result<Shape, NoMemory>
-    ensures integers { IfOk result (λ s. AreIntegers s.parameters) }
-    ensures first { IfOk result (λ s. IsCode s (0 ∷ 0 ∷ 0 ∷ 0 ∷ 0 ∷ 0 ∷ 0 ∷ [])) }
+    ensures { IfOk result (λ s. IsCode s (0 ∷ 0 ∷ 0 ∷ 0 ∷ 0 ∷ 0 ∷ 0 ∷ [])) }
 {
     let shape = shape_of_bits(alloc, 2, 0, 2)?;
     Ok(shape)
@@ -117,8 +113,7 @@ fn without_bytes(alloc: Global) -> Result<Shape, NoMemory>
 
 /// How many points there are from this one on, if there are at most a hundred.
 fn points_from(point: &mut Point, shape: &Shape) -> Option<u64>
-    requires integers { AreIntegers shape.now.parameters }
-    requires of_shape { IsOfShape shape.now point.old }
+    requires { IsOfShape shape.now point.old }
     ensures { IsOfShape shape.now point.new }
 {
     for step in 0..100 {

@@ -22,6 +22,3 @@ returns-clause-poison_byte c = let is = c.in_ok-shape.ensures in let w = is.para
 
 pub returns-clause-last : goal.returns-clause-last
 returns-clause-last c = let is = c.in_ok-shape.ensures in let w = is.parameters in one_of_each c.in_ok-shape.shape w.0 1 0 1 2 0 0 0 0 1 w.1 w.2 is.blocks is.bytes is.words is.width (inr refl) (omega arith) poison_place (omega arith)
-
-pub returns-clause-integers : goal.returns-clause-integers
-returns-clause-integers c = rw c.in_ok-shape.ensures.parameters.2 (tt, tt)
