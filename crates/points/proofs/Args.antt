@@ -1,11 +1,7 @@
 -- Arguments: how many digits their code has, and zeros.
-use Rattle.std.proofs.Common.{◌≡◌, inl, inr, ℕ, zero, suc, ◌+◌, ◌-◌, ◌^◌, ◌<◌, ◌≤◌, List, [], ◌∷◌, ◌++◌, length, take, replicate, refl, sym, ap, ◌∙◌, arith, slice_get, Some, add-one, append_assoc, zero-add, suc-add}
+use Rattle.std.proofs.Common.{◌≡◌, ℕ, zero, suc, ◌+◌, ◌^◌, ◌<◌, ◌≤◌, List, [], ◌∷◌, ◌++◌, length, replicate, refl, ap, arith, slice_get, Some, zero-add, suc-add}
 use Rattle.std.proofs.Math.Pow.{pow_mono}
-use Rattle.std.proofs.Math.Seq.{take-suc-set}
-use Rattle.std.proofs.Math.ListN.{set, length-set}
-use Rattle.std.proofs.lemmas.Bool.{cases_eq}
 use Rattle.std.proofs.lemmas.Nat.{pow_pos}
-use Rattle.tv_num.specs.declared.Width.{Width}
 use Rattle.ir_tree.specs.declared.tree.IrType.{IrType}
 use Rattle.ir_tree.specs.declared.tree.IrType.TheVariants.{Int}
 use Rattle.ir_tree.specs.declared.tree.IrType.TheVariants as type
@@ -17,9 +13,8 @@ use Rattle.byte_block.specs.declared.value.Value.{Value}
 use Rattle.byte_block.specs.declared.value.Value.TheVariants.{Num, Poison}
 use Rattle.byte_block.specs.declared.value.Value.TheVariants as value
 use Rattle.points.specs.Code.{number_of, BlockFits, ValueFits, ArgsFit, name_digit, value_code, args_code}
-use Rattle.points.specs.Next.{IsNextValue, IsLastValue, value_number, IsNextArgs, IsLastArgs, args_number}
-use Rattle.points.specs.Codes.{IsChain}
-use Rattle.points.proofs.Order.{Digits, IsNextIn, IsLastIn, HaveDigits, next_in_back, next_in_front, last_in_both}
+use Rattle.points.specs.Next.{args_number}
+use Rattle.points.proofs.Order.{Digits}
 
 -- ---- how many digits
 

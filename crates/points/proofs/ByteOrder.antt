@@ -1,11 +1,10 @@
 -- The next byte: numbers, then parts of pointers, then poison.
-use Rattle.std.proofs.Common.{◌≡◌, ℕ, ◌+◌, ◌*◌, ◌^◌, ◌<◌, ◌≤◌, List, refl, arith}
+use Rattle.std.proofs.Common.{◌≡◌, ℕ, ◌+◌, ◌*◌, ◌^◌, ◌<◌, ◌≤◌, arith}
 use Rattle.byte_block.specs.declared.value.BlockName.{BlockName}
 use Rattle.byte_block.specs.declared.value.BlockName.TheVariants.{Null, Given, Local}
 use Rattle.byte_block.specs.declared.value.Ptr.{Ptr}
-use Rattle.byte_block.specs.declared.value.Byte.{Byte}
 use Rattle.byte_block.specs.declared.value.Byte.TheVariants.{Num, Part, Poison}
-use Rattle.points.specs.Code.{number_of, BlockFits, PointerFits, ByteFits, name_digit, byte_code}
+use Rattle.points.specs.Code.{number_of, BlockFits, PointerFits, ByteFits, name_digit}
 use Rattle.points.specs.Next.{byte_number, pointer_number, IsNextByte, IsLastByte}
 
 -- the greatest number of a pointer, and one more

@@ -1,5 +1,5 @@
 -- Codes of three small shapes, for the tests.
-use Rattle.std.proofs.Common.{◌≡◌, inl, inr, ℕ, ◌^◌, ◌<◌, ◌≤◌, List, [], ◌∷◌, refl, arith}
+use Rattle.std.proofs.Common.{◌≡◌, inl, inr, ℕ, ◌^◌, ◌<◌, ◌≤◌, [], ◌∷◌, refl, arith}
 use Rattle.tv_num.specs.declared.Width.{Width}
 use Rattle.ir_tree.specs.declared.tree.IrType.TheVariants.{Int, Ptr}
 use Rattle.ir_tree.specs.declared.tree.Parameter.{Parameter}

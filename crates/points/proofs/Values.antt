@@ -1,5 +1,5 @@
 -- The next value of a type, and the next list of arguments.
-use Rattle.std.proofs.Common.{◌≡◌, inl, inr, ℕ, zero, suc, ◌+◌, ◌-◌, ◌*◌, ◌^◌, ◌<◌, ◌≤◌, List, [], ◌∷◌, ◌++◌, length, refl, sym, ap, ◌∙◌, arith, slice_get, Some, add-one}
+use Rattle.std.proofs.Common.{◌≡◌, inl, inr, ℕ, zero, suc, ◌+◌, ◌-◌, ◌*◌, ◌^◌, ◌<◌, ◌≤◌, List, [], ◌∷◌, length, refl, sym, ap, ◌∙◌, arith, slice_get, Some, add-one}
 use Rattle.std.proofs.Math.Pow.{pow_mono}
 use Rattle.std.proofs.Math.ListN.{set}
 use Rattle.std.proofs.lemmas.Bool.{cases_eq}
@@ -16,8 +16,8 @@ use Rattle.byte_block.specs.declared.value.Value.TheVariants as value
 use Rattle.points.specs.Code.{number_of, PointerFits, ValueFits, ArgsFit, value_code, args_code}
 use Rattle.points.specs.Codes.{IsChain}
 use Rattle.points.specs.Next.{IsNextValue, IsLastValue, value_number, IsNextArgs, IsLastArgs, args_number, least_value, least_from, pointer_number}
-use Rattle.points.proofs.Order.{Digits, IsNextIn, IsLastIn, HaveDigits, next_in_back, next_in_front, last_in_both}
-use Rattle.points.proofs.Args.{type_digits, digits_of, value_digits, args_digits, ArgsFit-length}
+use Rattle.points.proofs.Order.{IsNextIn, IsLastIn, HaveDigits, next_in_back, next_in_front, last_in_both}
+use Rattle.points.proofs.Args.{type_digits, digits_of, value_digits, args_digits}
 use Rattle.points.proofs.ByteOrder.{pointer_at_most}
 use Rattle.points.proofs.Rows.{zero_number}
 

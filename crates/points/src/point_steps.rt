@@ -2,9 +2,9 @@ ghost use Rattle.std.specs.Prelude.{◌≡◌, ◌<◌, ◌≤◌, IsTrue, IsFal
 ghost use Rattle.points.specs.Code.{BlocksFit, IsOfShape};
 ghost use Rattle.points.specs.Next.{IsNextMemory, IsLastMemory, IsNextSizes, AreLastSizes, AreLeastBlocks, IsNextPoint, IsLastPoint, from_place, zero_places, zero_size};
 
-use crate::steps::{next_words, zero_from};
 use crate::byte_steps::{next_bytes, zero_bytes};
 use crate::point::{Point, Shape};
+use crate::steps::{next_words, zero_from};
 use crate::value_steps::next_values;
 use byte_block::Memory;
 

@@ -1,4 +1,4 @@
-use Rattle.std.proofs.Common.{refl, sym, ap, ◌∙◌, arith}
+use Rattle.std.proofs.Common.{refl, ◌∙◌, arith}
 use Rattle.points.proofs.Words.{WordsFit-length}
 use Rattle.points.proofs.Memories.{least_blocks_are}
 use Rattle.points.proofs.Whole.{zero_tape, tape_moves, places_move, sizes_move, args_move, none_moves}
@@ -51,6 +51,7 @@ returns-clause-last c = λ _.
     let places = c.if-next_places.ensures.last refl in
     let sizes = c.if-next_sizes.ensures.last refl in
     let args = c.if-next_values.ensures.last refl in
-    let same_args = args.1 in let same_blocks = sizes.1 ∙ places.1 in let same_tape = words.1 in
-    (none_moves c.args.shape.now c.args.point.now (record { few = omega arith; short = omega arith }) c.requires words.0 places.0 (rw places.1 at sizes.0) (rw c.as_slice.ensures at args.0),
-     λ i. record { input = record { args = same_args i; blocks = same_blocks i }; tape = same_tape i })
+    let same_args = args.1 in let same_blocks = sizes.1 ∙ places.1 in let same_tape = words.1 in (
+      none_moves c.args.shape.now c.args.point.now (record { few = omega arith; short = omega arith }) c.requires words.0 places.0 (rw places.1 at sizes.0) (rw c.as_slice.ensures at args.0),
+      λ i. record { input = record { args = same_args i; blocks = same_blocks i }; tape = same_tape i },
+    )
