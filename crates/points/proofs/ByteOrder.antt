@@ -1,11 +1,10 @@
 -- The next byte: numbers, then parts of pointers, then poison.
-use Rattle.std.proofs.Common.{◌≡◌, ℕ, ◌+◌, ◌*◌, ◌^◌, ◌<◌, ◌≤◌, List, refl, arith}
+use Rattle.std.proofs.Common.{◌≡◌, ℕ, ◌+◌, ◌*◌, ◌^◌, ◌<◌, ◌≤◌, arith}
 use Rattle.byte_block.specs.declared.value.BlockName.{BlockName}
 use Rattle.byte_block.specs.declared.value.BlockName.TheVariants.{Null, Given, Local}
 use Rattle.byte_block.specs.declared.value.Ptr.{Ptr}
-use Rattle.byte_block.specs.declared.value.Byte.{Byte}
 use Rattle.byte_block.specs.declared.value.Byte.TheVariants.{Num, Part, Poison}
-use Rattle.points.specs.Code.{number_of, BlockFits, PointerFits, ByteFits, name_digit, byte_code}
+use Rattle.points.specs.Code.{number_of, BlockFits, PointerFits, ByteFits, name_digit}
 use Rattle.points.specs.Next.{byte_number, pointer_number, IsNextByte, IsLastByte}
 
 -- the greatest number of a pointer, and one more
@@ -26,7 +25,7 @@ poison_number : (blocks : ℕ) → byte_number blocks Poison ≡ 2 * 2 ^ 256
 unfolding number_of
 poison_number blocks = omega arith
 
-pointer_at_most : (blocks : ℕ) (p : Ptr) → PointerFits blocks p → pointer_number blocks p < (blocks + 1) * 2 ^ 64
+pub pointer_at_most : (blocks : ℕ) (p : Ptr) → PointerFits blocks p → pointer_number blocks p < (blocks + 1) * 2 ^ 64
 pointer_at_most blocks p fits = let name = name_at_most blocks p.block fits.block in let small = fits.offset in omega (arith, name, small)
 
 part_at_most : (blocks : ℕ) (p : Ptr) (i : ℕ) → blocks < 2 ^ 64 → PointerFits blocks p → i ≤ 7 → byte_number blocks (Part p i) < 2 * 2 ^ 256

@@ -1,5 +1,5 @@
 -- The code of a point is a code of its shape.
-use Rattle.std.proofs.Common.{◌≡◌, inl, inr, ℕ, zero, suc, ◌+◌, ◌-◌, ◌^◌, ◌<◌, ◌≤◌, List, [], ◌∷◌, ◌++◌, length, drop, replicate, refl, sym, ap, ◌∙◌, arith, append_assoc}
+use Rattle.std.proofs.Common.{◌≡◌, inl, inr, ℕ, zero, suc, ◌+◌, ◌-◌, ◌≤◌, List, [], ◌∷◌, ◌++◌, length, drop, replicate, refl, arith, append_assoc}
 use Rattle.std.specs.List.{flat_map}
 use Rattle.ir_tree.specs.declared.tree.IrType.{IrType}
 use Rattle.ir_tree.specs.declared.tree.IrType.TheVariants.{Int}

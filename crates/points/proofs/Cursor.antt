@@ -1,5 +1,5 @@
 -- A loop that reads a code from the front, and the parts of a code.
-use Rattle.std.proofs.Common.{◌≡◌, inl, inr, ℕ, zero, suc, ◌+◌, ◌-◌, ◌*◌, ◌^◌, ◌<◌, ◌≤◌, List, [], ◌∷◌, ◌++◌, length, get_or, take, drop, refl, sym, ap, ◌∙◌, arith, append_assoc, append-nil, length-append, add-zero}
+use Rattle.std.proofs.Common.{◌≡◌, inl, inr, ℕ, zero, suc, ◌+◌, ◌*◌, ◌<◌, ◌≤◌, List, [], ◌∷◌, ◌++◌, length, get_or, take, drop, refl, sym, ap, ◌∙◌, arith, append_assoc, append-nil, length-append}
 use Rattle.std.proofs.lemmas.List.{drop_more, at_drop_all}
 use Rattle.std.proofs.lemmas.List.Sums.{sum_by-cons}
 use Rattle.ir_tree.specs.declared.tree.Parameter.{Parameter}
@@ -7,7 +7,7 @@ use Rattle.byte_block.specs.declared.value.Byte.{Byte}
 use Rattle.byte_block.specs.declared.block.MemoryBlock.{MemoryBlock}
 use Rattle.points.specs.declared.point.Shape.{Shape}
 use Rattle.points.specs.Code.{WordsFit}
-use Rattle.points.specs.Codes.{IsChain, IsCodeOfValue, IsCodeOfArgs, AreSizes, IsCodeOfByte, IsCodeOfPlaces, IsCodeOfBlocks, IsCode}
+use Rattle.points.specs.Codes.{IsCodeOfArgs, AreSizes, IsCodeOfByte, IsCodeOfPlaces, IsCodeOfBlocks, IsCode}
 use Rattle.points.specs.Reads.{value_length, args_length, byte_from, places_from, block_from, blocks_from, HasByte, HaveBytes, HasPlaces, HaveBlocks}
 use Rattle.points.proofs.Words.{WordsFit-length}
 use Rattle.points.proofs.Decoded.{read_value, read_byte, read_places, drop_front}
@@ -67,12 +67,12 @@ all_blocks_read bytes i sizes rest whole blocks past read = sym (append-nil bloc
 
 small_bytes : (blocks : ℕ) (front back : List ℕ) → IsCodeOfByte blocks front → HasByte (front ++ back)
 small_bytes blocks front back h = elim h as (λ _. HasByte (front ++ back)) [
-    | inl n ↦ rw n.is (record { five = omega arith; number = λ e. n.small; part = λ e. absurd (omega (arith, e)) })
-    | inr other ↦ elim other as (λ _. HasByte (front ++ back)) [
-      | inl p ↦ (let part = p.of_eight in rw p.is (record { five = omega arith; number = λ e. absurd (omega (arith, e)); part = λ e. omega (arith, part) }))
-      | inr e ↦ rw e (record { five = omega arith; number = λ e. absurd (omega (arith, e)); part = λ e. absurd (omega (arith, e)) })
-    ]
+  | inl n ↦ rw n.is (record { five = omega arith; number = λ e. n.small; part = λ e. absurd (omega (arith, e)) })
+  | inr other ↦ elim other as (λ _. HasByte (front ++ back)) [
+    | inl p ↦ (let part = p.of_eight in rw p.is (record { five = omega arith; number = λ e. absurd (omega (arith, e)); part = λ e. omega (arith, part) }))
+    | inr e ↦ rw e (record { five = omega arith; number = λ e. absurd (omega (arith, e)); part = λ e. absurd (omega (arith, e)) })
   ]
+]
 
 have_bytes : (blocks room size : ℕ) (front back : List ℕ) → IsCodeOfPlaces blocks room size front → HaveBytes room (front ++ back)
 have_bytes blocks zero size front back h = tt
@@ -124,7 +124,7 @@ code_count s code h =
     record {
       places = length h.in_back.in_back.front;
       count = sym (ap length (h.whole ∙ ap (λ ds. h.front ++ ds) (h.in_back.whole ∙ ap (λ ds. h.in_back.front ++ ds) h.in_back.in_back.whole))
-        ∙ rw (length-append, length-append, length-append, a, b, d) refl);
+          ∙ rw (length-append, length-append, length-append, a, b, d) refl);
     }
 
 take_front : (front back : List ℕ) (n : ℕ) → length front ≡ n → take n (front ++ back) ≡ front

@@ -1,19 +1,16 @@
 -- Each code of a shape is the code of exactly one point.
-use Rattle.std.proofs.Common.{◌≡◌, inl, inr, ℕ, zero, suc, ◌+◌, ◌-◌, ◌*◌, ◌^◌, ◌<◌, ◌≤◌, List, [], ◌∷◌, ◌++◌, length, map, drop, replicate, refl, sym, ap, ◌∙◌, arith, append_assoc, length-append}
+use Rattle.std.proofs.Common.{◌≡◌, inl, inr, ℕ, zero, suc, ◌+◌, ◌-◌, ◌*◌, ◌≤◌, List, [], ◌∷◌, ◌++◌, length, drop, replicate, refl, sym, ap, ◌∙◌, arith, append_assoc, length-append}
 use Rattle.std.specs.List.{flat_map}
 use Rattle.ir_tree.specs.declared.tree.IrType.{IrType}
 use Rattle.ir_tree.specs.declared.tree.IrType.TheVariants.{Int}
 use Rattle.ir_tree.specs.declared.tree.IrType.TheVariants as type
 use Rattle.ir_tree.specs.declared.tree.Parameter.{Parameter}
-use Rattle.byte_block.specs.declared.value.Value.{Value}
-use Rattle.byte_block.specs.declared.value.Byte.{Byte}
 use Rattle.byte_block.specs.declared.value.Byte.TheVariants as byte
-use Rattle.byte_block.specs.declared.block.MemoryBlock.{MemoryBlock}
 use Rattle.points.specs.declared.point.Point.{Point}
 use Rattle.points.specs.declared.point.Shape.{Shape}
-use Rattle.points.specs.Code.{BlockFits, PointerFits, ValueFits, ArgsFit, ByteFits, BytesFit, IsGivenBlock, BlocksFit, WordsFit, IsOfShape, name_digit, value_code, args_code, byte_code, places_code, blocks_code, code_of}
-use Rattle.points.specs.Codes.{IsChain, IsCodeOfValue, IsCodeOfArgs, AreSizes, IsCodeOfByte, IsUnused, IsCodeOfPlaces, IsCodeOfBlocks, IsCode}
-use Rattle.points.specs.Reads.{value_length, name_from, pointer_from, value_from, args_from, byte_from, places_from, block_from, blocks_from}
+use Rattle.points.specs.Code.{BlockFits, ValueFits, ArgsFit, ByteFits, BytesFit, BlocksFit, WordsFit, IsOfShape, name_digit, value_code, args_code, byte_code, places_code, code_of}
+use Rattle.points.specs.Codes.{IsCodeOfValue, IsCodeOfArgs, AreSizes, IsCodeOfByte, IsCodeOfPlaces, IsCodeOfBlocks, IsCode}
+use Rattle.points.specs.Reads.{value_length, name_from, value_from, args_from, byte_from, places_from, blocks_from}
 use Rattle.points.specs.Laws.{IsPointWith, CodesTellPoints}
 use Rattle.points.proofs.Same.{sizes_of, same_coded}
 use Rattle.points.proofs.Coded.{point_coded}
@@ -40,15 +37,15 @@ pub record ReadsValue (blocks : ℕ) (t : IrType) (front back : List ℕ) : Type
 
 pub read_value : (blocks : ℕ) (t : IrType) (front back : List ℕ) → IsCodeOfValue blocks t front → ReadsValue blocks t front back
 read_value blocks (Int w) front back h = elim h as (λ _. ReadsValue blocks (Int w) front back) [
-    | inl n ↦ rw n.is (record { fits = n.small; code = refl; length = refl; rest = refl })
-    | inr e ↦ rw e (record { fits = tt; code = refl; length = refl; rest = refl })
-  ]
+  | inl n ↦ rw n.is (record { fits = n.small; code = refl; length = refl; rest = refl })
+  | inr e ↦ rw e (record { fits = tt; code = refl; length = refl; rest = refl })
+]
 read_value blocks type.Ptr front back h = elim h as (λ _. ReadsValue blocks type.Ptr front back) [
-    | inl p ↦
-        let name = read_name blocks p.block p.given in
-        rw p.is (record { fits = record { block = name.fits; offset = p.small }; code = ap (λ b. 0 ∷ b ∷ p.offset ∷ []) name.code; length = refl; rest = refl })
-    | inr e ↦ rw e (record { fits = tt; code = refl; length = refl; rest = refl })
-  ]
+  | inl p ↦
+      let name = read_name blocks p.block p.given in
+      rw p.is (record { fits = record { block = name.fits; offset = p.small }; code = ap (λ b. 0 ∷ b ∷ p.offset ∷ []) name.code; length = refl; rest = refl })
+  | inr e ↦ rw e (record { fits = tt; code = refl; length = refl; rest = refl })
+]
 
 pub record ReadsArgs (blocks : ℕ) (ps : List Parameter) (ds : List ℕ) : Type 0 where
   pub fits : ArgsFit blocks ps (args_from ps ds)
@@ -74,14 +71,14 @@ pub record ReadsByte (blocks : ℕ) (front back : List ℕ) : Type 0 where
 
 pub read_byte : (blocks : ℕ) (front back : List ℕ) → IsCodeOfByte blocks front → ReadsByte blocks front back
 read_byte blocks front back h = elim h as (λ _. ReadsByte blocks front back) [
-    | inl n ↦ rw n.is (record { fits = n.small; code = refl; length = refl; rest = refl })
-    | inr other ↦ elim other as (λ _. ReadsByte blocks front back) [
-      | inl p ↦
-          let name = read_name blocks p.block p.given in
-          rw p.is (record { fits = (record { block = name.fits; offset = p.small }, p.of_eight); code = ap (λ b. 1 ∷ 0 ∷ b ∷ p.offset ∷ p.part ∷ []) name.code; length = refl; rest = refl })
-      | inr e ↦ rw e (record { fits = tt; code = refl; length = refl; rest = refl })
-    ]
+  | inl n ↦ rw n.is (record { fits = n.small; code = refl; length = refl; rest = refl })
+  | inr other ↦ elim other as (λ _. ReadsByte blocks front back) [
+    | inl p ↦
+        let name = read_name blocks p.block p.given in
+        rw p.is (record { fits = (record { block = name.fits; offset = p.small }, p.of_eight); code = ap (λ b. 1 ∷ 0 ∷ b ∷ p.offset ∷ p.part ∷ []) name.code; length = refl; rest = refl })
+    | inr e ↦ rw e (record { fits = tt; code = refl; length = refl; rest = refl })
   ]
+]
 
 -- the places that are read
 pub record ReadsPlaces (blocks room size : ℕ) (front back : List ℕ) : Type 0 where
@@ -182,12 +179,14 @@ point_with s ds h =
     let tape = h.in_back.in_back.back in
     let reads = read_point s args sizes places tape h.in_front h.in_back.in_front h.in_back.in_back.in_front h.in_back.in_back.in_back in
     let whole : ds ≡ args ++ (sizes ++ (places ++ tape)) = h.whole ∙ ap (λ rest. args ++ rest) (h.in_back.whole ∙ ap (λ rest. sizes ++ rest) h.in_back.in_back.whole) in
-    let code : code_of s.blocks s.parameters (point_from s args sizes places tape) ≡ ds = reads.code ∙ sym whole in
-    (point_from s args sizes places tape, record {
-      of_shape = reads.fits;
-      code = code;
-      only = λ q fits e. same_coded s.blocks s.bytes s.parameters q (point_from s args sizes places tape) fits.args reads.fits.args fits.given reads.fits.given (e ∙ sym code);
-    })
+    let code : code_of s.blocks s.parameters (point_from s args sizes places tape) ≡ ds = reads.code ∙ sym whole in (
+      point_from s args sizes places tape,
+      record {
+        of_shape = reads.fits;
+        code = code;
+        only = λ q fits e. same_coded s.blocks s.bytes s.parameters q (point_from s args sizes places tape) fits.args reads.fits.args fits.given reads.fits.given (e ∙ sym code);
+      },
+    )
 
 pub codes_tell_points : CodesTellPoints
 codes_tell_points = λ s. record { codes = point_coded s; points = point_with s }

@@ -16,5 +16,6 @@ pub mod Pushes
 pub mod Rows
 pub mod Runs
 pub mod Same
+pub mod Values
 pub mod Whole
 pub mod Words

@@ -1,6 +1,6 @@
 -- The next places of the given blocks, and their next sizes.
-use Rattle.std.proofs.Common.{◌≡◌, inl, inr, ℕ, zero, suc, ◌+◌, ◌-◌, ◌*◌, ◌^◌, ◌<◌, ◌≤◌, List, [], ◌∷◌, ◌++◌, length, map, drop, replicate, refl, sym, ap, ◌∙◌, arith, slice_get, Some, add-one}
-use Rattle.std.proofs.Math.ListN.{set, length-set}
+use Rattle.std.proofs.Common.{◌≡◌, inl, inr, ℕ, zero, suc, ◌+◌, ◌-◌, ◌*◌, ◌^◌, ◌<◌, ◌≤◌, List, [], ◌∷◌, length, refl, sym, ap, ◌∙◌, arith, slice_get, Some, add-one}
+use Rattle.std.proofs.Math.ListN.{set}
 use Rattle.std.specs.List.{flat_map}
 use Rattle.std.proofs.lemmas.Bool.{cases_eq}
 use Rattle.std.proofs.lemmas.List.{set-get_or}
@@ -8,12 +8,11 @@ use Rattle.std.proofs.lemmas.Option.{get_or_from_slice_get}
 use Rattle.byte_block.specs.declared.value.BlockName.TheVariants.{Given}
 use Rattle.byte_block.specs.declared.value.Byte.{Byte}
 use Rattle.byte_block.specs.declared.block.MemoryBlock.{MemoryBlock}
-use Rattle.points.specs.Code.{number_of, ByteFits, BytesFit, IsGivenBlock, BlocksFit, byte_code, places_code}
+use Rattle.points.specs.Code.{number_of, IsGivenBlock, BlocksFit, byte_code, places_code}
 use Rattle.points.specs.Codes.{AreSizes}
-use Rattle.points.specs.Next.{PlacesFit, places_number, IsNextPlaces, IsLastPlaces, sizes_in, memory_number, IsNextMemory, IsLastMemory, IsNextSizes, AreLastSizes, AreLeastBlocks, from_place, zero_byte, zero_places, zero_size}
-use Rattle.points.proofs.Order.{Digits}
-use Rattle.points.proofs.Same.{bytes_digits, BlocksFit-length}
-use Rattle.points.proofs.Rows.{zero_number, RowFits, AreThings, IsNextThing, IsLastThing, IsRow, AreLastFrom, raised, raised_is, resets_fit, resets_number, raised_fits, last_row, next_row, last_more, row_at}
+use Rattle.points.specs.Next.{PlacesFit, IsNextPlaces, IsLastPlaces, sizes_in, memory_number, IsNextMemory, IsLastMemory, IsNextSizes, AreLastSizes, AreLeastBlocks, from_place, zero_byte, zero_places, zero_size}
+use Rattle.points.proofs.Same.{bytes_digits}
+use Rattle.points.proofs.Rows.{zero_number, RowFits, AreThings, IsNextThing, IsLastThing, AreLastFrom, raised, raised_is, raised_fits, last_row, next_row, last_more}
 use Rattle.points.proofs.Places.{zeros_fit, zeros_number}
 use Rattle.points.proofs.Args.{none_past}
 
@@ -289,10 +288,10 @@ next_sizes_is blocks bytes bs old raised_bs cut_bs result i b short fits same he
     let at_place = size_here old i b here' in
     let code = next_row (IsSize bytes) one 1 to_zero things (sizes_in old) (sizes_in old) i b.size b.size (b.size + 1) row at_place at_place (next_size bytes b.size b.size room) (last_sizes_from bytes old (suc i) full') in
     let is : sizes_in result ≡ raised to_zero (sizes_in old) i (b.size + 1) =
-        ap sizes_in clear ∙ cleared_sizes 0 cut_bs ∙ ap sizes_in cut ∙ zeroed_sizes (i + 1) raised_bs
-        ∙ ap (λ cs. from_place to_zero (i + 1) (sizes_in cs)) (raise ∙ ap (λ cs. set cs i (record b { size = b.size + 1 })) same)
-        ∙ ap (λ ns. from_place to_zero (i + 1) ns) (set_size old i (b.size + 1) b)
-        ∙ raised_is to_zero (sizes_in old) i (b.size + 1) in
+    ap sizes_in clear ∙ cleared_sizes 0 cut_bs ∙ ap sizes_in cut ∙ zeroed_sizes (i + 1) raised_bs
+    ∙ ap (λ cs. from_place to_zero (i + 1) (sizes_in cs)) (raise ∙ ap (λ cs. set cs i (record b { size = b.size + 1 })) same)
+    ∙ ap (λ ns. from_place to_zero (i + 1) ns) (set_size old i (b.size + 1) b)
+    ∙ raised_is to_zero (sizes_in old) i (b.size + 1) in
     let loose : AreRoomy blocks bytes 1 cut_bs = rw (cut, raise, same) (roomy_zero blocks bytes 1 (i + 1) (set old i (record b { size = b.size + 1 })) (roomy_set blocks bytes 1 old i (b.size + 1) b (roomy blocks bytes 1 old fits) here' (omega (arith, room)))) in
     let later = rw (singles (sizes_in old), singles (raised to_zero (sizes_in old) i (b.size + 1))) at code.later in
     record {
@@ -310,7 +309,7 @@ last_sizes_are blocks bytes bs old i short fits same full none = λ sizes small.
     let full' = rw same at full in
     let row = own_sizes blocks bytes 1 old fits in
     let gap = last_row (IsSize bytes) one 1 to_zero (sizes_are bytes short) (sizes_in old) (sizes_in old) row
-      (λ j k x from e e'. last_sizes_from bytes old i full' j k x (omega arith) e e') sizes (record { things = sizes; is = sym (singles sizes); fits = sizes_row bytes (length old) (sizes_in old) sizes (length-sizes old) small }) in
+    (λ j k x from e e'. last_sizes_from bytes old i full' j k x (omega arith) e e') sizes (record { things = sizes; is = sym (singles sizes); fits = sizes_row bytes (length old) (sizes_in old) sizes (length-sizes old) small }) in
     rw (singles (sizes_in old)) at gap
 
 pub full_more : (bytes : ℕ) (bs : List MemoryBlock) (i : ℕ) (b : MemoryBlock) → 0 < i → AreFullFrom bytes bs i → slice_get bs (i - 1) ≡ Some b → bytes ≤ b.size → AreFullFrom bytes bs (i - 1)

@@ -1,7 +1,7 @@
--- Codes of two small shapes, for the tests.
-use Rattle.std.proofs.Common.{◌≡◌, inl, inr, ℕ, ◌^◌, ◌<◌, ◌≤◌, List, [], ◌∷◌, refl, arith}
+-- Codes of three small shapes, for the tests.
+use Rattle.std.proofs.Common.{◌≡◌, inl, inr, ℕ, ◌^◌, ◌<◌, ◌≤◌, [], ◌∷◌, refl, arith}
 use Rattle.tv_num.specs.declared.Width.{Width}
-use Rattle.ir_tree.specs.declared.tree.IrType.TheVariants.{Int}
+use Rattle.ir_tree.specs.declared.tree.IrType.TheVariants.{Int, Ptr}
 use Rattle.ir_tree.specs.declared.tree.Parameter.{Parameter}
 use Rattle.points.specs.declared.point.Shape.{Shape}
 use Rattle.points.specs.Codes.{IsCodeOfValue, IsCodeOfPlaces, IsCode}
@@ -68,3 +68,27 @@ without_bytes s w bits parameters blocks bytes words width = record {
     };
   };
 }
+
+pub one_pointer : (s : Shape) (flag block offset : ℕ) → s.parameters ≡ record { of_type = Ptr; name = 0 } ∷ [] → s.blocks ≡ 1 → s.bytes ≡ 0 → s.words ≡ 0 → IsCodeOfValue 1 Ptr (flag ∷ block ∷ offset ∷ []) → IsCode s (flag ∷ block ∷ offset ∷ 0 ∷ [])
+one_pointer s flag block offset parameters blocks bytes words value = record {
+  front = flag ∷ block ∷ offset ∷ [];
+  back = 0 ∷ [];
+  whole = refl;
+  in_front = rw (parameters, blocks) (record { front = flag ∷ block ∷ offset ∷ []; back = []; whole = refl; in_front = value; in_back = refl });
+  in_back = record {
+    front = 0 ∷ [];
+    back = [];
+    whole = refl;
+    in_front = rw (blocks, bytes) (omega arith, tt);
+    in_back = record {
+      front = [];
+      back = [];
+      whole = refl;
+      in_front = rw (blocks, bytes) (record { front = []; back = []; whole = refl; in_front = refl; in_back = refl });
+      in_back = rw words tt;
+    };
+  };
+}
+
+pub pointer_to : (block offset : ℕ) → block ≤ 1 → offset < 2 ^ 64 → IsCodeOfValue 1 Ptr (0 ∷ block ∷ offset ∷ [])
+pointer_to block offset given small = inl (record { block = block; offset = offset; is = refl; given = given; small = small })

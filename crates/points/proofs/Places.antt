@@ -1,14 +1,14 @@
 -- The next places of a block: those before its size are a row of bytes, and the others a row of zeros.
-use Rattle.std.proofs.Common.{◌≡◌, ℕ, zero, suc, ◌+◌, ◌-◌, ◌*◌, ◌^◌, ◌<◌, ◌≤◌, Bool, true, false, List, [], ◌∷◌, ◌++◌, length, drop, replicate, refl, sym, ap, ◌∙◌, arith, slice_get, Some, add-one}
+use Rattle.std.proofs.Common.{◌≡◌, ℕ, zero, suc, ◌+◌, ◌-◌, ◌^◌, ◌<◌, ◌≤◌, Bool, true, false, List, [], ◌∷◌, length, drop, replicate, refl, ap, ◌∙◌, arith, slice_get, Some, add-one}
 use Rattle.std.proofs.Math.ListN.{set}
 use Rattle.std.specs.List.{flat_map}
 use Rattle.byte_block.specs.declared.value.Byte.{Byte}
 use Rattle.byte_block.specs.declared.value.Byte.TheVariants.{Num}
 use Rattle.points.specs.Code.{number_of, ByteFits, BytesFit, byte_code}
 use Rattle.points.specs.Next.{byte_number, IsNextByte, IsLastByte, PlacesFit, places_number, IsNextPlaces, IsLastPlaces, from_place, zero_byte}
-use Rattle.points.proofs.Order.{Digits, IsNextIn}
+use Rattle.points.proofs.Order.{Digits}
 use Rattle.points.proofs.Same.{byte_digits}
-use Rattle.points.proofs.Rows.{RowFits, AreThings, IsNextThing, IsLastThing, IsRow, AreLastFrom, raised, raised_is, resets_fit, resets_number, raised_fits, last_row, next_row, last_more, row_at}
+use Rattle.points.proofs.Rows.{RowFits, AreThings, IsNextThing, AreLastFrom, raised, raised_is, raised_fits, last_row, next_row, last_more, row_at}
 
 -- a byte where the place is live, and else the number 0
 abbrev pub ByteIf : ℕ → Bool → Byte → Type 0
@@ -35,6 +35,7 @@ bytes_are blocks few = record {
     digits : (k : Bool) (x : Byte) → ByteIf blocks k x → Digits 5 (byte_code blocks x)
     digits true x fits = byte_digits blocks x few fits
     digits false x fits = rw fits (byte_digits blocks (Num 0) few (omega arith))
+
     zeros : (k : Bool) → ByteIf blocks k (Num 0)
     zeros true = omega arith
     zeros false = refl

@@ -1,28 +1,22 @@
 -- The next point: its tape, then the places, then the sizes, then the arguments.
-use Rattle.std.proofs.Common.{◌≡◌, ℕ, zero, suc, ◌+◌, ◌-◌, ◌*◌, ◌^◌, ◌<◌, ◌≤◌, List, [], ◌∷◌, ◌++◌, length, take, replicate, refl, sym, ap, ◌∙◌, arith, append_assoc}
+use Rattle.std.proofs.Common.{◌≡◌, ℕ, zero, suc, ◌+◌, ◌-◌, ◌*◌, ◌^◌, ◌<◌, List, [], ◌∷◌, ◌++◌, length, take, replicate, refl, ap, ◌∙◌, arith, append_assoc}
 use Rattle.std.specs.List.{flat_map}
-use Rattle.ir_tree.specs.declared.tree.Parameter.{Parameter}
-use Rattle.ir_tree.specs.Limits.{AreIntegers}
 use Rattle.byte_block.specs.declared.value.Value.{Value}
 use Rattle.byte_block.specs.declared.block.MemoryBlock.{MemoryBlock}
 use Rattle.points.specs.declared.point.Point.{Point}
 use Rattle.points.specs.declared.point.Shape.{Shape}
-use Rattle.points.specs.Code.{number_of, ArgsFit, BlocksFit, WordsFit, IsOfShape, args_code, places_code, blocks_code, code_of}
+use Rattle.points.specs.Code.{number_of, BlocksFit, WordsFit, IsOfShape, args_code, places_code, code_of}
 use Rattle.points.specs.Codes.{IsChain, AreSizes}
-use Rattle.points.specs.Next.{IsNextWords, IsLastWords, IsNextArgs, IsLastArgs, sizes_in, memory_number, IsNextMemory, IsLastMemory, IsNextSizes, AreLastSizes, AreLeastBlocks, IsNextPoint, IsLastPoint}
+use Rattle.points.specs.Next.{IsNextWords, IsLastWords, IsNextArgs, IsLastArgs, sizes_in, IsNextMemory, IsLastMemory, IsNextSizes, AreLastSizes, AreLeastBlocks, IsNextPoint, IsLastPoint}
 use Rattle.points.proofs.Order.{Digits, IsNextIn, IsLastIn, IsFirstIn, HaveDigits, next_in_back, next_in_front, last_in_both}
 use Rattle.points.proofs.Words.{WordsFit-length, WordsFit-digits, zeros_fit, number_of-zeros}
-use Rattle.points.proofs.Args.{digits_of, args_digits, Digits-append, any_blocks, any_code}
+use Rattle.points.proofs.Args.{digits_of, args_digits, Digits-append}
 use Rattle.points.proofs.Same.{places_digits, blocks_count}
 use Rattle.points.proofs.Rows.{zero_number}
+use Rattle.points.proofs.Values.{IsArgsOf}
 use Rattle.points.proofs.Coded.{sizes_coded}
 
 -- ---- the parts of a point's code
-
-record IsArgsOf (blocks : ℕ) (ps : List Parameter) (ds : List ℕ) : Type 0 where
-  pub args : List Value
-  pub is : ds ≡ args_code blocks ps args
-  pub fits : ArgsFit blocks ps args
 
 record IsPlacesOf (blocks bytes : ℕ) (sizes ds : List ℕ) : Type 0 where
   pub memory : List MemoryBlock
@@ -144,27 +138,14 @@ last_places s old last = λ ds h. rw h.is (last h.memory h.fits h.same_sizes)
 last_sizes : (s : Shape) (old : Point) → IsOfShape s old → AreLastSizes s.bytes old.input.blocks → IsLastIn (AreSizes s.bytes s.blocks) (sizes_at old)
 last_sizes s old fits last = λ sizes small. last sizes (rw (blocks_count s.blocks s.bytes old.input.blocks fits.given) small)
 
-last_args : (s : Shape) (old : Point) → AreIntegers s.parameters → IsOfShape s old → IsLastArgs 0 s.parameters old.input.args → IsLastIn (IsArgsOf s.blocks s.parameters) (args_in s old)
-last_args s old int fits last = λ ds h.
-    let zeros = any_blocks s.blocks 0 s.parameters h.args int h.fits in
-    let m = ap number_of (any_code s.blocks 0 s.parameters h.args int h.fits) in
-    let o = ap number_of (any_code s.blocks 0 s.parameters old.input.args int fits.args) in
-    let gap = last h.args zeros in
-    rw h.is (omega (arith, m, o, gap))
+last_args : (s : Shape) (old : Point) → IsLastArgs s.blocks s.parameters old.input.args → IsLastIn (IsArgsOf s.blocks s.parameters) (args_in s old)
+last_args s old last = λ ds h. rw h.is (last h.args h.fits)
 
-next_of_args : (s : Shape) (old : Point) (args : List Value) → AreIntegers s.parameters → IsOfShape s old → IsNextArgs 0 s.parameters old.input.args args → IsNextIn (IsArgsOf s.blocks s.parameters) (args_in s old) (args_code s.blocks s.parameters args)
-next_of_args s old args int fits next =
-    let o = ap number_of (any_code s.blocks 0 s.parameters old.input.args int fits.args) in
-    let n = ap number_of (any_code 0 s.blocks s.parameters args int next.fits) in
-    record {
-      later = (let later = next.later in omega (arith, o, n, later));
-      no_gap = λ ds h less.
-          let zeros = any_blocks s.blocks 0 s.parameters h.args int h.fits in
-          let m = ap number_of (any_code s.blocks 0 s.parameters h.args int h.fits) in
-          let less' = rw h.is at less in
-          let gap = next.no_gap h.args zeros (omega (arith, m, n, less')) in
-          rw h.is (omega (arith, m, o, gap));
-    }
+next_of_args : (s : Shape) (old : Point) (args : List Value) → IsNextArgs s.blocks s.parameters old.input.args args → IsNextIn (IsArgsOf s.blocks s.parameters) (args_in s old) (args_code s.blocks s.parameters args)
+next_of_args s old args next = record {
+  later = next.later;
+  no_gap = λ ds h less. (let less' = rw h.is at less in rw h.is (next.no_gap h.args h.fits less'));
+}
 
 -- a tape of zeros
 pub record IsZeroTape (s : Shape) (tape : List ℕ) : Type 0 where
@@ -227,14 +208,14 @@ last_behind_args s old narrow fits last last_memory greatest =
     let last_rest = last_in_both (IsPlacesOf s.blocks s.bytes (sizes_at old)) (Tape s) (place_digits s) s.words (places_in s old) old.tape (digits_3 s narrow (sizes_at old)) (is_places s old fits) fits.tape (last_places s old last_memory) (last_tape s old fits last) in
     last_in_both (AreSizes s.bytes s.blocks) (FromPlaces s) s.blocks (place_digits s + s.words) (sizes_at old) (places_in s old ++ old.tape) (digits_2 s narrow) (are_sizes s old fits) (from_places s old fits) (last_sizes s old fits greatest) last_rest
 
-pub args_move : (s : Shape) (old : Point) (args : List Value) (memory : List MemoryBlock) (tape : List ℕ) → IsNarrow s → AreIntegers s.parameters → IsOfShape s old → IsLastWords s.word_width.bits old.tape → IsLastMemory s.blocks s.bytes old.input.blocks → AreLastSizes s.bytes old.input.blocks → IsNextArgs 0 s.parameters old.input.args args → AreLeastBlocks s.blocks s.bytes memory → IsZeroTape s tape → IsNextPoint s old (record { input = record { args = args; blocks = memory }; tape = tape })
-args_move s old args memory tape narrow int fits last last_memory greatest next least zeros =
+pub args_move : (s : Shape) (old : Point) (args : List Value) (memory : List MemoryBlock) (tape : List ℕ) → IsNarrow s → IsOfShape s old → IsLastWords s.word_width.bits old.tape → IsLastMemory s.blocks s.bytes old.input.blocks → AreLastSizes s.bytes old.input.blocks → IsNextArgs s.blocks s.parameters old.input.args args → AreLeastBlocks s.blocks s.bytes memory → IsZeroTape s tape → IsNextPoint s old (record { input = record { args = args; blocks = memory }; tape = tape })
+args_move s old args memory tape narrow fits last last_memory greatest next least zeros =
     let new : Point = record { input = record { args = args; blocks = memory }; tape = tape } in
-    let new_fits : IsOfShape s new = record { args = any_blocks 0 s.blocks s.parameters args int next.fits; given = least.fits; tape = zeros.fits } in
+    let new_fits : IsOfShape s new = record { args = next.fits; given = least.fits; tape = zeros.fits } in
     let none = zero_number (sizes_at new) (places_in s new ++ tape) least.sizes (zero_number (places_in s new) tape least.places zeros.number) in
-    let first = next_in_front (IsArgsOf s.blocks s.parameters) (FromSizes s) (digits_of s.parameters) (s.blocks + (place_digits s + s.words)) (args_in s old) (args_in s new) (sizes_at old ++ (places_in s old ++ old.tape)) (sizes_at new ++ (places_in s new ++ tape)) (digits_1 s narrow) (is_args s old fits) (is_args s new new_fits) (from_sizes s old fits) (from_sizes s new new_fits) (next_of_args s old args int fits next) (last_behind_args s old narrow fits last last_memory greatest) (first_of_zero (FromSizes s (args_in s new)) (sizes_at new ++ (places_in s new ++ tape)) none) in
+    let first = next_in_front (IsArgsOf s.blocks s.parameters) (FromSizes s) (digits_of s.parameters) (s.blocks + (place_digits s + s.words)) (args_in s old) (args_in s new) (sizes_at old ++ (places_in s old ++ old.tape)) (sizes_at new ++ (places_in s new ++ tape)) (digits_1 s narrow) (is_args s old fits) (is_args s new new_fits) (from_sizes s old fits) (from_sizes s new new_fits) (next_of_args s old args next) (last_behind_args s old narrow fits last last_memory greatest) (first_of_zero (FromSizes s (args_in s new)) (sizes_at new ++ (places_in s new ++ tape)) none) in
     next_point_is s old new new_fits first
 
-pub none_moves : (s : Shape) (old : Point) → IsNarrow s → AreIntegers s.parameters → IsOfShape s old → IsLastWords s.word_width.bits old.tape → IsLastMemory s.blocks s.bytes old.input.blocks → AreLastSizes s.bytes old.input.blocks → IsLastArgs 0 s.parameters old.input.args → IsLastPoint s old
-none_moves s old narrow int fits last last_memory greatest last_of_args =
-    last_point_is s old (last_in_both (IsArgsOf s.blocks s.parameters) (FromSizes s) (digits_of s.parameters) (s.blocks + (place_digits s + s.words)) (args_in s old) (sizes_at old ++ (places_in s old ++ old.tape)) (digits_1 s narrow) (is_args s old fits) (from_sizes s old fits) (last_args s old int fits last_of_args) (last_behind_args s old narrow fits last last_memory greatest))
+pub none_moves : (s : Shape) (old : Point) → IsNarrow s → IsOfShape s old → IsLastWords s.word_width.bits old.tape → IsLastMemory s.blocks s.bytes old.input.blocks → AreLastSizes s.bytes old.input.blocks → IsLastArgs s.blocks s.parameters old.input.args → IsLastPoint s old
+none_moves s old narrow fits last last_memory greatest last_of_args =
+    last_point_is s old (last_in_both (IsArgsOf s.blocks s.parameters) (FromSizes s) (digits_of s.parameters) (s.blocks + (place_digits s + s.words)) (args_in s old) (sizes_at old ++ (places_in s old ++ old.tape)) (digits_1 s narrow) (is_args s old fits) (from_sizes s old fits) (last_args s old last_of_args) (last_behind_args s old narrow fits last last_memory greatest))

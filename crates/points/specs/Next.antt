@@ -2,8 +2,11 @@
 use Rattle.std.specs.Prelude.{◌≡◌, ℕ, zero, suc, ◌+◌, ◌-◌, ◌*◌, ◌^◌, ◌<◌, ◌≤◌, List, [], ◌∷◌, length, map, drop, replicate}
 use Rattle.std.specs.List.{flat_map}
 use Rattle.ir_tree.specs.declared.tree.IrType.{IrType}
+use Rattle.ir_tree.specs.declared.tree.IrType.TheVariants as type
 use Rattle.ir_tree.specs.declared.tree.Parameter.{Parameter}
+use Rattle.byte_block.specs.declared.value.BlockName.TheVariants.{Null}
 use Rattle.byte_block.specs.declared.value.Value.{Value}
+use Rattle.byte_block.specs.declared.value.Value.TheVariants as value
 use Rattle.byte_block.specs.declared.value.Ptr.{Ptr}
 use Rattle.byte_block.specs.declared.value.Byte.{Byte}
 use Rattle.byte_block.specs.declared.value.Byte.TheVariants as byte
@@ -44,6 +47,18 @@ pub record IsNextArgs (blocks : ℕ) (parameters : List Parameter) (old new : Li
 
 abbrev pub IsLastArgs : ℕ → List Parameter → List Value → Type 0
 IsLastArgs blocks parameters old = (args : List Value) → ArgsFit blocks parameters args → args_number blocks parameters args ≤ args_number blocks parameters old
+
+-- the least value of a type
+abbrev pub least_value : IrType → Value
+least_value (type.Int width) = value.Num 0
+least_value type.Ptr = value.Ptr (record { block = Null; offset = 0 })
+
+-- the arguments with the least values from a place on
+abbrev pub least_from : List Parameter → ℕ → List Value → List Value
+least_from [] n vs = vs
+least_from (p ∷ ps) n [] = []
+least_from (p ∷ ps) zero (v ∷ vs) = least_value p.of_type ∷ least_from ps zero vs
+least_from (p ∷ ps) (suc n) (v ∷ vs) = v ∷ least_from ps n vs
 
 -- a pointer's block and offset as one number
 abbrev pub pointer_number : ℕ → Ptr → ℕ

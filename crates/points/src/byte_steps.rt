@@ -30,7 +30,7 @@ fn next_name(name: BlockName, blocks: u64) -> Option<BlockName>
 }
 
 /// The next pointer, offsets counting least.
-fn next_pointer(pointer: Ptr, blocks: u64) -> Option<Ptr>
+pub fn next_pointer(pointer: Ptr, blocks: u64) -> Option<Ptr>
     requires { PointerFits blocks pointer }
     ensures { MatchOption result (pointer_number blocks pointer + 1 ≡ (blocks + 1) * 2 ^ 64) (λ next. PointerFits blocks next × (pointer_number blocks next ≡ pointer_number blocks pointer + 1)) }
 {

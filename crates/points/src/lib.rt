@@ -6,32 +6,33 @@
 //! stands on `ir_tree` and `byte_block`; the interpreter and every judge stand on it.
 #![tactic(auto)]
 
+mod byte_steps;
 mod codes;
 mod laws;
 mod machine;
-mod steps;
-mod byte_steps;
-mod point_steps;
 mod outcome;
 mod pair;
 mod point;
+mod point_steps;
 mod reading;
 mod refinement;
+mod steps;
 #[cfg(test)]
 mod tests;
+mod value_steps;
 mod verdict;
 
 pub use codes::code_of;
 pub use laws::{
-    codes_tell_points, correct_holds, incorrect_fails, least_covers_are_plain, numbers_compare_from_front,
-    places_tell_points, tapes_have_plain_forms, verdicts_are_one,
+    codes_tell_points, correct_holds, incorrect_fails, least_covers_are_plain,
+    numbers_compare_from_front, places_tell_points, tapes_have_plain_forms, verdicts_are_one,
 };
 pub use machine::Machine;
-pub use steps::{next_args, next_words, zero_from};
-pub use point_steps::next;
 pub use outcome::Outcome;
 pub use pair::{Pair, has_same_signature};
 pub use point::{Bounds, Budget, Input, Point, Shape};
+pub use point_steps::next;
 pub use reading::point_of;
 pub use refinement::{refines, returned_is_allowed};
+pub use steps::{next_args, next_words, zero_from};
 pub use verdict::{Cause, Shown, Verdict};

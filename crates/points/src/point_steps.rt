@@ -1,11 +1,11 @@
 ghost use Rattle.std.specs.Prelude.{◌≡◌, ◌<◌, ◌≤◌, IsTrue, IsFalse, length};
-ghost use Rattle.ir_tree.specs.Limits.{AreIntegers};
 ghost use Rattle.points.specs.Code.{BlocksFit, IsOfShape};
 ghost use Rattle.points.specs.Next.{IsNextMemory, IsLastMemory, IsNextSizes, AreLastSizes, AreLeastBlocks, IsNextPoint, IsLastPoint, from_place, zero_places, zero_size};
 
-use crate::steps::{next_args, next_words, zero_from};
 use crate::byte_steps::{next_bytes, zero_bytes};
 use crate::point::{Point, Shape};
+use crate::steps::{next_words, zero_from};
+use crate::value_steps::next_values;
 use byte_block::Memory;
 
 /// Writes zeros into all places of the blocks from one on.
@@ -68,8 +68,7 @@ fn next_sizes(blocks: &mut Memory, given: u64, bytes: u64) -> bool
 /// Puts the next point of the shape in the place of one. It answers false exactly at the last, which
 /// then stays. It takes no memory.
 pub fn next(point: &mut Point, shape: &Shape) -> bool
-    requires integers { AreIntegers shape.now.parameters }
-    requires of_shape { IsOfShape shape.now point.old }
+    requires { IsOfShape shape.now point.old }
     ensures next { IsTrue result → IsNextPoint shape.now point.old point.new }
     ensures last { IsFalse result → IsLastPoint shape.now point.old × (point.new ≡ point.old) }
 {
@@ -85,7 +84,7 @@ pub fn next(point: &mut Point, shape: &Shape) -> bool
         zero_from(&mut point.tape, 0);
         return true;
     }
-    if next_args(&mut point.input.args, shape.parameters.as_slice()) {
+    if next_values(&mut point.input.args, shape.parameters.as_slice(), given) {
         clear_sizes(&mut point.input.blocks, 0);
         clear_places(&mut point.input.blocks, 0);
         zero_from(&mut point.tape, 0);

@@ -131,12 +131,7 @@ fn block_with(
 }
 
 /// The given blocks of these sizes, whose places stand first.
-fn blocks_with(
-    alloc: Global,
-    digits: &[u64],
-    sizes: &[u64],
-    bytes: u64,
-) -> Result<Memory, NoMemory>
+fn blocks_with(alloc: Global, digits: &[u64], sizes: &[u64], bytes: u64) -> Result<Memory, NoMemory>
     requires { HaveBlocks bytes sizes.now digits.now }
     ensures { IfOk result (λ blocks. blocks ≡ blocks_from bytes 1 sizes.now digits.now) }
 {

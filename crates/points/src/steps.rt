@@ -1,10 +1,11 @@
-ghost use Rattle.std.specs.Prelude.{◌≡◌, ◌≤◌, ◌<◌, ◌+◌, ◌-◌, ◌^◌, IsTrue, IsFalse, take, replicate, length, ◌++◌, MatchOption};
-ghost use Rattle.ir_tree.specs.Limits.{IsInteger, AreIntegers};
-ghost use Rattle.points.specs.Code.{WordsFit, ValueFits, ArgsFit};
-ghost use Rattle.points.specs.Next.{IsNextWords, IsLastWords, IsNextValue, IsLastValue, IsNextArgs, IsLastArgs};
+ghost use Rattle.std.specs.Prelude.{◌≡◌, ◌≤◌, ◌<◌, ◌+◌, ◌-◌, ◌^◌, IsTrue, IsFalse, take, replicate, length, ◌++◌};
+ghost use Rattle.ir_tree.specs.Limits.{AreIntegers};
+ghost use Rattle.points.specs.Code.{WordsFit, ArgsFit};
+ghost use Rattle.points.specs.Next.{IsNextWords, IsLastWords, IsNextArgs, IsLastArgs};
 
+use crate::value_steps::next_values;
 use byte_block::Value;
-use ir_tree::{IrType, Parameter};
+use ir_tree::Parameter;
 use support::Sequence;
 use tv_num::Width;
 
@@ -36,38 +37,6 @@ pub fn next_words(words: &mut Sequence<u64>, width: Width) -> bool
     false
 }
 
-/// The next value of an integer type, poison being the last.
-#[tactic(auto, using(crate::proofs::Args::next_number, crate::proofs::Args::next_poison, crate::proofs::Args::last_poison))]
-fn next_value(value: Value, of_type: IrType) -> Option<Value>
-    requires integer { IsInteger of_type }
-    requires fits { ValueFits 0 of_type value }
-    ensures { MatchOption result (IsLastValue 0 of_type value) (λ next. IsNextValue 0 of_type value next) }
-{
-    match of_type {
-        IrType::Ptr => None,
-        IrType::Int(width) => match value {
-            Value::Num(n) => {
-                if (n as u128) + 1 < width.end() {
-                    Some(Value::Num(n + 1))
-                } else {
-                    Some(Value::Poison)
-                }
-            }
-            Value::Poison | Value::Ptr(_) => None,
-        },
-    }
-}
-
-/// Writes the number 0 from a place on.
-fn least_from(args: &mut Sequence<Value>, from: usize)
-    requires { from ≤ length args.old }
-    ensures { args.new ≡ take from args.old ++ replicate (length args.old - from) (Value.Num 0) }
-{
-    for i in from..args.len() {
-        args.set(i, Value::Num(0));
-    }
-}
-
 /// Puts the next list of arguments of integer parameters in the place of the arguments. It answers
 /// false exactly at the last one, which then stays. Which blocks are given doesn't matter for
 /// integers.
@@ -77,12 +46,5 @@ pub fn next_args(args: &mut Sequence<Value>, parameters: &[Parameter]) -> bool
     ensures next { IsTrue result → IsNextArgs 0 parameters.now args.old args.new }
     ensures last { IsFalse result → IsLastArgs 0 parameters.now args.old × (args.new ≡ args.old) }
 {
-    for i in (0..parameters.len()).rev() {
-        if let Some(value) = next_value(*args.get(i), parameters[i].of_type) {
-            args.set(i, value);
-            least_from(args, i + 1);
-            return true;
-        }
-    }
-    false
+    next_values(args, parameters, 0)
 }

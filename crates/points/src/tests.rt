@@ -1,6 +1,4 @@
 ghost use Rattle.std.specs.Prelude.{◌≡◌, ◌∷◌, [], replicate, IfOk};
-ghost use Rattle.tv_num.specs.declared.Width.{Width};
-ghost use Rattle.ir_tree.specs.Limits.{AreIntegers};
 ghost use Rattle.points.specs.Code.{IsOfShape};
 ghost use Rattle.points.specs.Codes.{IsCode};
 
@@ -17,31 +15,31 @@ fn repeated(alloc: Global, parameter: Parameter, count: usize) -> Result<Vec<Par
     vec![in alloc; parameter; count]
 }
 
-/// So many parameters of one bit, one given block of so many bytes, and so many words of one bit.
-fn shape_of_bits(alloc: Global, parameters: usize, bytes: u64, words: u64) -> Result<Shape, NoMemory>
-    ensures parameters { IfOk result (λ s. (w : Width) × (w.bits ≡ 1) × (s.parameters ≡ replicate parameters (record { of_type = IrType.Int w; name = 0 }))) }
+/// So many parameters, one given block of so many bytes, and so many words of one bit.
+fn shape_with(
+    alloc: Global,
+    parameter: Parameter,
+    count: usize,
+    bytes: u64,
+    words: u64,
+) -> Result<Shape, NoMemory>
+    ensures parameters { IfOk result (λ s. s.parameters ≡ replicate count parameter) }
     ensures blocks { IfOk result (λ s. s.blocks ≡ 1) }
     ensures bytes { IfOk result (λ s. s.bytes ≡ bytes) }
     ensures words { IfOk result (λ s. s.words ≡ words) }
     ensures width { IfOk result (λ s. s.word_width.bits ≡ 1) }
 {
-    let width = Width::of(1);
-    let parameter = Parameter {
-        of_type: IrType::Int(width),
-        name: 0,
-    };
     Ok(Shape {
-        parameters: Sequence::from_vec(repeated(alloc, parameter, parameters)?),
+        parameters: Sequence::from_vec(repeated(alloc, parameter, count)?),
         blocks: 1,
         bytes,
         words,
-        word_width: width,
+        word_width: Width::of(1),
     })
 }
 
 /// A parameter of one bit, one given block of at most one byte, and one word of one bit.
 fn one_of_each(alloc: Global) -> Result<Shape, NoMemory>
-    ensures integers { IfOk result (λ s. AreIntegers s.parameters) }
     ensures no_byte { IfOk result (λ s. IsCode s (0 ∷ 0 ∷ 0 ∷ 0 ∷ 0 ∷ 0 ∷ 0 ∷ 0 ∷ 1 ∷ [])) }
     ensures last_number { IfOk result (λ s. IsCode s (0 ∷ 0 ∷ 1 ∷ 0 ∷ 255 ∷ 0 ∷ 0 ∷ 0 ∷ 1 ∷ [])) }
     ensures sixth_part { IfOk result (λ s. IsCode s (0 ∷ 0 ∷ 1 ∷ 1 ∷ 0 ∷ 0 ∷ 5 ∷ 6 ∷ 1 ∷ [])) }
@@ -50,14 +48,17 @@ fn one_of_each(alloc: Global) -> Result<Shape, NoMemory>
     ensures poison_byte { IfOk result (λ s. IsCode s (0 ∷ 1 ∷ 1 ∷ 2 ∷ 0 ∷ 0 ∷ 0 ∷ 0 ∷ 1 ∷ [])) }
     ensures last { IfOk result (λ s. IsCode s (1 ∷ 0 ∷ 1 ∷ 2 ∷ 0 ∷ 0 ∷ 0 ∷ 0 ∷ 1 ∷ [])) }
 {
-    let shape = shape_of_bits(alloc, 1, 1, 1)?;
+    let bit = Parameter {
+        of_type: IrType::Int(Width::of(1)),
+        name: 0,
+    };
+    let shape = shape_with(alloc, bit, 1, 1, 1)?;
     Ok(shape)
 }
 
 /// The code of what comes behind the point with this code.
 fn code_behind(alloc: Global, code: &[u64], shape: &Shape) -> Result<Option<Vec<u64>>, NoMemory>
-    requires integers { AreIntegers shape.now.parameters }
-    requires code { IsCode shape.now code.now }
+    requires { IsCode shape.now code.now }
 {
     let mut point = point_of(alloc, code, shape)?;
     if !next(&mut point, shape) {
@@ -108,17 +109,19 @@ fn bytes_come_before_sizes_and_sizes_before_arguments(rt: HostRuntime) -> Result
 
 /// Two parameters of one bit, one given block that has no byte, and two words of one bit.
 fn without_bytes(alloc: Global) -> Result<Shape, NoMemory>
-    ensures integers { IfOk result (λ s. AreIntegers s.parameters) }
-    ensures first { IfOk result (λ s. IsCode s (0 ∷ 0 ∷ 0 ∷ 0 ∷ 0 ∷ 0 ∷ 0 ∷ [])) }
+    ensures { IfOk result (λ s. IsCode s (0 ∷ 0 ∷ 0 ∷ 0 ∷ 0 ∷ 0 ∷ 0 ∷ [])) }
 {
-    let shape = shape_of_bits(alloc, 2, 0, 2)?;
+    let bit = Parameter {
+        of_type: IrType::Int(Width::of(1)),
+        name: 0,
+    };
+    let shape = shape_with(alloc, bit, 2, 0, 2)?;
     Ok(shape)
 }
 
 /// How many points there are from this one on, if there are at most a hundred.
 fn points_from(point: &mut Point, shape: &Shape) -> Option<u64>
-    requires integers { AreIntegers shape.now.parameters }
-    requires of_shape { IsOfShape shape.now point.old }
+    requires { IsOfShape shape.now point.old }
     ensures { IsOfShape shape.now point.new }
 {
     for step in 0..100 {
@@ -136,5 +139,32 @@ fn a_walk_meets_each_point_of_a_shape(rt: HostRuntime) -> Result<(), Fail> {
     let mut point = point_of(alloc, &[0, 0, 0, 0, 0, 0, 0], &shape)?;
     assert!(rt; points_from(&mut point, &shape) == Some(3 * 3 * 2 * 2));
     assert!(rt; !next(&mut point, &shape));
+    Ok(())
+}
+
+/// A pointer, one given block that has no byte, and no word.
+fn one_pointer(alloc: Global) -> Result<Shape, NoMemory>
+    ensures last_of_null { IfOk result (λ s. IsCode s (0 ∷ 0 ∷ 18446744073709551615 ∷ 0 ∷ [])) }
+    ensures last_given { IfOk result (λ s. IsCode s (0 ∷ 1 ∷ 18446744073709551615 ∷ 0 ∷ [])) }
+    ensures poison { IfOk result (λ s. IsCode s (1 ∷ 0 ∷ 0 ∷ 0 ∷ [])) }
+{
+    let pointer = Parameter {
+        of_type: IrType::Ptr,
+        name: 0,
+    };
+    let shape = shape_with(alloc, pointer, 1, 0, 0)?;
+    Ok(shape)
+}
+
+#[test]
+fn offsets_move_before_blocks(rt: HostRuntime) -> Result<(), Fail> {
+    let alloc = rt.alloc();
+    let shape = one_pointer(alloc)?;
+    let given = code_behind(alloc, &[0, 0, u64::MAX, 0], &shape)?;
+    assert!(rt; is_there(given, &[0, 1, 0, 0]));
+    let poison = code_behind(alloc, &[0, 1, u64::MAX, 0], &shape)?;
+    assert!(rt; is_there(poison, &[1, 0, 0, 0]));
+    let last = code_behind(alloc, &[1, 0, 0, 0], &shape)?;
+    assert!(rt; last.is_none());
     Ok(())
 }

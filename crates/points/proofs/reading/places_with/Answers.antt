@@ -1,5 +1,5 @@
 use Rattle.std.proofs.Common.{refl, arith}
-use Rattle.points.proofs.Cursor.{byte_here, read_more, all_read}
+use Rattle.points.proofs.Cursor.{byte_here, read_more}
 use Rattle.points.proofs.reading.places_with.Goals as goal
 
 pub loop-place-init : goal.loop-place-init

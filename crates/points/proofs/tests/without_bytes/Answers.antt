@@ -1,8 +1,5 @@
 use Rattle.points.proofs.OneOfEach.{without_bytes}
 use Rattle.points.proofs.tests.without_bytes.Goals as goal
 
-pub returns-clause-first : goal.returns-clause-first
-returns-clause-first c = let is = c.in_ok-shape.ensures in let w = is.parameters in without_bytes c.in_ok-shape.shape w.0 w.1 w.2 is.blocks is.bytes is.words is.width
-
-pub returns-clause-integers : goal.returns-clause-integers
-returns-clause-integers c = rw c.in_ok-shape.ensures.parameters.2 (tt, (tt, tt))
+pub returns : goal.returns
+returns c = let is = c.in_ok-shape.ensures in without_bytes c.in_ok-shape.shape c.of.result c.of.ensures is.parameters is.blocks is.bytes is.words is.width
