@@ -1,5 +1,5 @@
 // Reading one token.
-ghost use Rattle.std.specs.Prelude.{◌≡◌, [], ◌==◌, true, Option};
+ghost use Rattle.std.specs.Prelude.{◌≡◌, [], true};
 ghost use Rattle.ir_forms.specs.Form.{one_of, token_of, begin_of, reads, first_is};
 ghost use Rattle.ir_forms.specs.Answer.{Reads, Passes};
 ghost use Rattle.ir_reader.specs.Spelling.{bits_behind, line_start, word_operand};

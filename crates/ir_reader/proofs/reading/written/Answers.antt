@@ -1,4 +1,3 @@
-use Rattle.std.proofs.Common.{◌≡◌}
 use Rattle.ir_reader.proofs.Modules.{whole-more}
 use Rattle.ir_reader.proofs.reading.written.Goals as goal
 

@@ -1,4 +1,4 @@
-use Rattle.std.proofs.Common.{◌≡◌, ◌∙◌, ◌≤◌, List, [], None, true, length}
+use Rattle.std.proofs.Common.{◌≡◌, ◌≤◌, List, [], None, true, length}
 use Rattle.std.proofs.lemmas.Result.{err_from_is_err_and}
 use Rattle.ir_lexer.specs.Lexeme.{Lexeme}
 use Rattle.ir_reader.specs.declared.word.LineStart.{LineStart}
