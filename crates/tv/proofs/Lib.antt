@@ -4,3 +4,4 @@ pub mod Files
 pub mod Stopping
 pub mod Causes
 pub mod OneReport
+mod Sending

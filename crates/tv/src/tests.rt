@@ -111,6 +111,42 @@ fn words_that_are_no_job_are_refused(rt: HostRuntime) -> Result<(), Fail> {
 }
 
 #[test]
+fn options_bound_what_is_judged_and_stand_in_the_first_line(rt: HostRuntime) -> Result<(), Fail> {
+    let alloc = rt.alloc();
+    let text = IDENTITY.as_bytes();
+    let mut shelf = shelf_of(
+        &rt,
+        Vec::from_slice(alloc, text)?,
+        Vec::from_slice(alloc, text)?,
+    )?;
+    let light = "tv 1 turns 4 blocks 2 bytes 8 rounds 64 conflicts 0 weight 1\n";
+    let unknown =
+        "@f unknown weight\ncorrect 0 incorrect 0 unknown 1 refused 0 signature 0 missing 0 extra 0\n";
+    assert!(rt; ends(&rt, "tv check --weight 1 A B", &mut shelf, light, unknown, 2)?);
+    let straight = "tv 1 turns 0 blocks 2 bytes 8 rounds 64 conflicts 9 weight 100000\n";
+    let correct =
+        "@f correct\ncorrect 1 incorrect 0 unknown 0 refused 0 signature 0 missing 0 extra 0\n";
+    assert!(rt; ends(&rt, "tv check A --turns=0 B --conflicts 9", &mut shelf, straight, correct, 0)?);
+    Ok(())
+}
+
+#[test]
+fn options_that_are_no_job_are_refused(rt: HostRuntime) -> Result<(), Fail> {
+    let mut shelf = shelf_of(&rt, Vec::new(rt.alloc()), Vec::new(rt.alloc()))?;
+    for line in [
+        "tv check --turns 65 A B",
+        "tv check --weight 0 A B",
+        "tv check --turns 1 --turns 1 A B",
+        "tv check --turns -- A B",
+        "tv check --proof P A B",
+        "tv check --help",
+    ] {
+        assert!(rt; ends(&rt, line, &mut shelf, "", "words refused\n", 4)?, "at {line}");
+    }
+    Ok(())
+}
+
+#[test]
 fn texts_end_at_their_limit(rt: HostRuntime) -> Result<(), Fail> {
     let alloc = rt.alloc();
     let mut longest = shelf_of(&rt, vec![in alloc; b' '; 16_777_216]?, Vec::new(alloc))?;

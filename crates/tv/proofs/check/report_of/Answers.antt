@@ -1,6 +1,7 @@
 use Rattle.std.proofs.Common.{◌≤◌, ◌∙◌, sym, ap, subst, List, length, ℕ, Some}
 use Rattle.std.proofs.lemmas.Result.{IfOk-weaker}
 use Rattle.ir_reader.specs.StraightLine.{IsStraightLine}
+use Rattle.tv_words.specs.Seen.{seen}
 use Rattle.tv.proofs.Causes.{unread_cause}
 use Rattle.tv.proofs.check.report_of.Goals as goal
 
@@ -21,7 +22,7 @@ returns-clause-told g c =
 
 pub returns-clause-cause : goal.returns-clause-cause
 returns-clause-cause g c =
-    unread_cause _ _ _ _ c.as_slice.result.now c.as_slice-2.result.now c.report_of_texts.result
+    unread_cause _ (seen c.args.job.now) _ _ c.as_slice.result.now c.as_slice-2.result.now c.report_of_texts.result
     (λ files e.
     let source = c.in-Ok.ensures.told files e in
     let target = c.in-Ok-load.ensures.told files (c.in-Ok.ensures.same ∙ e) in
