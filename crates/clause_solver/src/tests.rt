@@ -1,11 +1,12 @@
 ghost use Rattle.std.specs.Prelude.{◌≤◌};
 
 use crate::{Answer, solve};
-use clause_lits::{Clause, Cnf, Lit, are_within, is_clause};
+use clause_lits::{Clause, Cnf, Lit, are_within, holds, is_clause};
 use clause_log::{Step, check_log};
 use smallvec::SmallVec;
 use std::alloc::Global;
 use std::test::Fail;
+use std::thread::Threads;
 use support::{NoMemory, Sequence};
 
 /// A clause of literals as DIMACS writes them.
@@ -133,5 +134,106 @@ fn four_pigeons_in_three_holes(rt: HostRuntime) -> Result<(), Fail> {
         Answer::Unsat(log) => assert!(rt; check_log(&rt, alloc, &question, &log) == Ok(())),
         Answer::Sat(_) | Answer::Spent(_) => assert!(rt; false),
     }
+    Ok(())
+}
+
+/// The next number of a fixed row of numbers that look as if drawn at random.
+fn draw(state: &mut u64, below: u64) -> u64 {
+    *state = state
+        .wrapping_mul(6_364_136_223_846_793_005)
+        .wrapping_add(1_442_695_040_888_963_407);
+    if below == 0 {
+        0
+    } else {
+        (*state >> 33) % below
+    }
+}
+
+/// A clause over the variables up to that many, each of which stands in it with one chance in two.
+fn drawn_clause(alloc: Global, state: &mut u64, variables: u64) -> Result<Clause, NoMemory> {
+    let mut literals = SmallVec::new(alloc);
+    for place in 0..variables {
+        let choice = draw(state, 4);
+        if choice < 2 {
+            literals.push(Lit {
+                variable: place + 1,
+                positive: choice == 0,
+            })?;
+        }
+    }
+    if !is_clause(literals.as_slice()) {
+        return Err(NoMemory);
+    }
+    Ok(Clause::new(literals))
+}
+
+/// Up to 20 clauses over 6 variables at most, some of which are the front.
+fn drawn_cnf(alloc: Global, state: &mut u64) -> Result<Cnf, NoMemory> {
+    let variables = draw(state, 7);
+    let front = draw(state, variables.saturating_add(1));
+    let mut clauses = Sequence::from_vec(Vec::new(alloc));
+    for _ in 0..draw(state, 21) {
+        clauses.push(drawn_clause(alloc, state, variables)?)?;
+    }
+    if !are_within(variables, clauses.as_slice()) || front > variables {
+        return Err(NoMemory);
+    }
+    Ok(Cnf::new(variables, clauses, front))
+}
+
+/// The assignment that a number spells, variable 1 being its highest digit.
+fn assignment(alloc: Global, variables: u64, number: u64) -> Result<Sequence<bool>, NoMemory> {
+    let mut values = Sequence::from_vec(Vec::new(alloc));
+    for place in 0..variables {
+        values.push((number >> ((variables - 1 - place) & 63)) & 1 == 1)?;
+    }
+    Ok(values)
+}
+
+/// The first of all assignments, in the order of their numbers, that is a model.
+fn first_model(alloc: Global, cnf: &Cnf) -> Result<Option<Sequence<bool>>, NoMemory> {
+    for number in 0..1 << (cnf.variables & 7) {
+        let values = assignment(alloc, cnf.variables, number)?;
+        if values.len() as u64 == cnf.variables && holds(cnf, &values) {
+            return Ok(Some(values));
+        }
+    }
+    Ok(None)
+}
+
+/// Whether the answer is a model whose front is the one of this model, or a log that is accepted
+/// where there is none.
+fn is_right(
+    rt: &(impl Threads + Sync),
+    alloc: Global,
+    cnf: &Cnf,
+    answer: &Answer,
+) -> Result<bool, NoMemory> {
+    Ok(match (answer, first_model(alloc, cnf)?) {
+        (Answer::Sat(model), Some(least)) => {
+            let same = (0..cnf.front as usize).all(|i| model.as_slice().get(i)
+                == least.as_slice().get(i));
+            same && model.len() as u64 == cnf.variables && holds(cnf, model)
+        }
+        (Answer::Unsat(log), None) => check_log(rt, alloc, cnf, log) == Ok(()),
+        _ => false,
+    })
+}
+
+/// Small sets of clauses have the answer that trying all assignments gives.
+#[test]
+fn drawn_clauses_agree_with_enumeration(rt: HostRuntime) -> Result<(), Fail> {
+    let alloc = rt.alloc();
+    let mut state = 1;
+    let mut refuted: u64 = 0;
+    for _ in 0..500 {
+        let question = drawn_cnf(alloc, &mut state)?;
+        let answer = solve(alloc, &question, None)?;
+        assert!(rt; is_right(&rt, alloc, &question, &answer)?);
+        if matches!(&answer, Answer::Unsat(_)) {
+            refuted = refuted.saturating_add(1);
+        }
+    }
+    assert!(rt; 100 < refuted && refuted < 400);
     Ok(())
 }
