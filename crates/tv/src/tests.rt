@@ -62,6 +62,32 @@ fn reports<R: AllocGlobal>(
     ends(rt, "tv check A B", &mut shelf, FIRST_LINE, lines, status)
 }
 
+/// Whether the report of two texts within these options has this row alone between its first line and
+/// its last one, and this status.
+pub fn judges<R: AllocGlobal>(
+    rt: &R,
+    options: &str,
+    source: &str,
+    target: &str,
+    row: &str,
+    status: u8,
+) -> Result<bool, Fail> {
+    let source = Vec::from_slice(rt.alloc(), source.as_bytes())?;
+    let target = Vec::from_slice(rt.alloc(), target.as_bytes())?;
+    let mut shelf = shelf_of(rt, source, target)?;
+    let mut out = MemorySink::new(rt.alloc(), 1_000)?;
+    let mut words = words_of(rt, "tv check A B")?;
+    for option in options.split_whitespace() {
+        words.push(String::from_str(rt.alloc(), option)?)?;
+    }
+    let answer = run(rt, words.as_slice(), &mut shelf, &mut out, &OpenGate);
+    let text = out.bytes.as_slice();
+    let first = text.iter().take_while(|b| **b != b'\n').count();
+    let rows = text.get(first + 1..).unwrap_or(&[]);
+    let last = rows.strip_prefix(row.as_bytes()).unwrap_or(&[]);
+    Ok(answer == status && last.starts_with(b"correct "))
+}
+
 #[test]
 fn two_empty_texts_have_an_empty_report(rt: HostRuntime) -> Result<(), Fail> {
     assert!(rt; reports(&rt, "", "", NO_ROWS, 0)?);
@@ -122,11 +148,29 @@ fn options_bound_what_is_judged_and_stand_in_the_first_line(rt: HostRuntime) -> 
     let light = "tv 1 turns 4 blocks 2 bytes 8 rounds 64 conflicts 0 weight 1\n";
     let unknown =
         "@f unknown weight\ncorrect 0 incorrect 0 unknown 1 refused 0 signature 0 missing 0 extra 0\n";
-    assert!(rt; ends(&rt, "tv check --weight 1 A B", &mut shelf, light, unknown, 2)?);
+    assert!(rt;
+        ends(
+            &rt,
+            "tv check --weight 1 A B",
+            &mut shelf,
+            light,
+            unknown,
+            2
+        )?
+    );
     let straight = "tv 1 turns 0 blocks 2 bytes 8 rounds 64 conflicts 9 weight 100000\n";
     let correct =
         "@f correct\ncorrect 1 incorrect 0 unknown 0 refused 0 signature 0 missing 0 extra 0\n";
-    assert!(rt; ends(&rt, "tv check A --turns=0 B --conflicts 9", &mut shelf, straight, correct, 0)?);
+    assert!(rt;
+        ends(
+            &rt,
+            "tv check A --turns=0 B --conflicts 9",
+            &mut shelf,
+            straight,
+            correct,
+            0
+        )?
+    );
     Ok(())
 }
 
@@ -141,7 +185,10 @@ fn options_that_are_no_job_are_refused(rt: HostRuntime) -> Result<(), Fail> {
         "tv check --proof P A B",
         "tv check --help",
     ] {
-        assert!(rt; ends(&rt, line, &mut shelf, "", "words refused\n", 4)?, "at {line}");
+        assert!(rt;
+            ends(&rt, line, &mut shelf, "", "words refused\n", 4)?,
+            "at {line}"
+        );
     }
     Ok(())
 }
