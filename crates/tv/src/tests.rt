@@ -122,11 +122,29 @@ fn options_bound_what_is_judged_and_stand_in_the_first_line(rt: HostRuntime) -> 
     let light = "tv 1 turns 4 blocks 2 bytes 8 rounds 64 conflicts 0 weight 1\n";
     let unknown =
         "@f unknown weight\ncorrect 0 incorrect 0 unknown 1 refused 0 signature 0 missing 0 extra 0\n";
-    assert!(rt; ends(&rt, "tv check --weight 1 A B", &mut shelf, light, unknown, 2)?);
+    assert!(rt;
+        ends(
+            &rt,
+            "tv check --weight 1 A B",
+            &mut shelf,
+            light,
+            unknown,
+            2
+        )?
+    );
     let straight = "tv 1 turns 0 blocks 2 bytes 8 rounds 64 conflicts 9 weight 100000\n";
     let correct =
         "@f correct\ncorrect 1 incorrect 0 unknown 0 refused 0 signature 0 missing 0 extra 0\n";
-    assert!(rt; ends(&rt, "tv check A --turns=0 B --conflicts 9", &mut shelf, straight, correct, 0)?);
+    assert!(rt;
+        ends(
+            &rt,
+            "tv check A --turns=0 B --conflicts 9",
+            &mut shelf,
+            straight,
+            correct,
+            0
+        )?
+    );
     Ok(())
 }
 
@@ -141,7 +159,10 @@ fn options_that_are_no_job_are_refused(rt: HostRuntime) -> Result<(), Fail> {
         "tv check --proof P A B",
         "tv check --help",
     ] {
-        assert!(rt; ends(&rt, line, &mut shelf, "", "words refused\n", 4)?, "at {line}");
+        assert!(rt;
+            ends(&rt, line, &mut shelf, "", "words refused\n", 4)?,
+            "at {line}"
+        );
     }
     Ok(())
 }
