@@ -1,5 +1,5 @@
 -- Two files have one report.
-use Rattle.std.proofs.Common.{◌≡◌, ℕ, arith, List, Option, sym, ap, subst, ◌∙◌}
+use Rattle.std.proofs.Common.{◌≡◌, ℕ, List, Option, sym, ap, subst, ◌∙◌}
 use Rattle.ir_tree.specs.declared.module.Module.{Module}
 use Rattle.ir_reader.specs.StraightLine.{IsStraightLine}
 use Rattle.report.specs.Rows.{AreRows, RowsAreOne}

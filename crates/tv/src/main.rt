@@ -1,8 +1,8 @@
 //! The program: `tv check A B` with options judges the functions of module B against those of module A.
 //!
 //! It promises that what is written is the report of the two files, and that each other status has its
-//! cause (`top::run`). It stands on the words, the reader, the judge, the report and the outside; nothing stands
-//! on it.
+//! cause (`top::run`). It stands on the words, the reader, the judge, the report and the outside;
+//! nothing stands on it.
 #![tactic(auto)]
 
 mod check;

@@ -39,6 +39,7 @@ pub struct FailingShelf {
 impl FailingShelf {
     ghost use Rattle.tv_io.specs.MemoryShelf.{files_of};
 
+    /// A shelf with these files, by name, where the calls with these numbers fail. No call was made.
     pub fn new(files: BTreeMap<String, Vec<u8>>, fails: Vec<u64>) -> FailingShelf
         ensures files { ⟦<MemoryShelf as Shelf>⟧.files result.shelf ≡ Some (files_of files) }
         ensures calls { result.calls ≡ record { fails = fails; made = 0 } }
@@ -116,6 +117,8 @@ pub struct FailingSink {
 }
 
 impl FailingSink {
+    /// An empty sink with room for `room` bytes, which takes at most `most` bytes a call, and where the
+    /// calls with these numbers fail. `NoMemory` where the room can't be had.
     pub fn new(
         alloc: Global,
         room: usize,

@@ -21,6 +21,7 @@ pub struct MemoryShelf {
 impl MemoryShelf {
     ghost use Rattle.tv_io.specs.MemoryShelf.{files_of};
 
+    /// A shelf with these files, by name. Nothing was counted.
     pub fn new(files: BTreeMap<String, Vec<u8>>) -> MemoryShelf
         ensures files { ⟦<MemoryShelf as Shelf>⟧.files result ≡ Some (files_of files) }
         ensures fetch_faults { ⟦<MemoryShelf as Shelf>⟧.fetch_faults result ≡ 0 }
@@ -129,6 +130,7 @@ pub struct MemorySink {
 }
 
 impl MemorySink {
+    /// An empty sink with room for `room` bytes. `NoMemory` where the room can't be had.
     pub fn new(alloc: Global, room: usize) -> Result<MemorySink, NoMemory>
         ensures { IfOk result (λ sink. (sink.bytes.items ≡ []) × (sink.room ≡ room) × (⟦<MemorySink as Sink>⟧.faults sink ≡ 0)) }
     {

@@ -1,10 +1,10 @@
 -- The arguments of `check`, as `clap` has them.
-use Rattle.std.proofs.Common.{◌≡◌, ◌||◌, ℕ, Bool, true, false, true≢false, cond, refl, sym, ap, subst, ◌∙◌, List, [], ◌∷◌, Option, Some, None, codes}
+use Rattle.std.proofs.Common.{◌≡◌, ◌||◌, ℕ, Bool, true, false, true≢false, refl, sym, subst, List, [], ◌∷◌, Some, None, codes}
 use Rattle.std.specs.List.{list_any}
 use Rattle.std.specs.Str.{bytes_eq}
 use Rattle.std.proofs.lemmas.Slice.Eq.{bytes_eq-Decides}
-use Rattle.clap.specs.Words.{App, Row, Rule, Kinds}
-use Rattle.clap.specs.Walk.{Held, arg_by_id, arg_by_index, arg_by_long, arg_by_short, is_append, action_of, most_values, takes_several, takes_values, used, with_values, without}
+use Rattle.clap.specs.Words.{Row, Rule}
+use Rattle.clap.specs.Walk.{arg_by_id, arg_by_index, arg_by_long, arg_by_short, is_append, action_of, most_values, takes_several, takes_values, used, with_values, without}
 use Rattle.clap.specs.Kinds.{or_else}
 use Rattle.clap.specs.Faults.{repeat_fault, use_fault}
 use Rattle.clap.specs.Simple.{Shape, built, built_leaf, filled, inherited, marked_built, on_top, with_index, with_leaf_noted}
@@ -104,12 +104,22 @@ each P (x ∷ xs) all n e = go (bytes_eq x n) refl e (each P xs all.1 n)
 options : Each (OptionOf rules) option_names
 options = (
   option_of (codes "turns") refl refl,
-  (option_of (codes "blocks") refl refl,
-  (option_of (codes "bytes") refl refl,
-  (option_of (codes "rounds") refl refl,
-  (option_of (codes "conflicts") refl refl,
-  (option_of (codes "weight") refl refl,
-  (option_of (codes "workers") refl refl, tt)))))),
+  (
+    option_of (codes "blocks") refl refl,
+    (
+      option_of (codes "bytes") refl refl,
+      (
+        option_of (codes "rounds") refl refl,
+        (
+          option_of (codes "conflicts") refl refl,
+          (
+            option_of (codes "weight") refl refl,
+            (option_of (codes "workers") refl refl, tt),
+          ),
+        ),
+      ),
+    ),
+  ),
 )
 
 no_option : (n : Text) → is_option n ≡ false → arg_by_long rules n ≡ None

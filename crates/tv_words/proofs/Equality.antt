@@ -1,5 +1,5 @@
 -- What a walk of `clap` comes to is the job that the words are.
-use Rattle.std.proofs.Common.{◌≡◌, ◌&&◌, ◌||◌, ℕ, Bool, true, false, cond, refl, sym, ap, ap₂, subst, ◌∙◌, List, [], ◌∷◌, ◌++◌, map, Option, Some, None, option_map, codes, fold, inl, inr, ◌⊎◌, is_some, String, string_bytes, IsUtf8}
+use Rattle.std.proofs.Common.{◌≡◌, Bool, true, false, cond, refl, sym, ap, ap₂, subst, ◌∙◌, List, [], ◌∷◌, ◌++◌, map, Option, Some, None, option_map, codes, fold, inl, inr, ◌⊎◌, is_some, String, string_bytes, IsUtf8}
 use Rattle.std.specs.Prelude.{option_and_then}
 use Rattle.std.specs.Str.{bytes_eq}
 use Rattle.std.proofs.lemmas.Str.{IsUtf8-string_bytes}
@@ -7,18 +7,18 @@ use Rattle.clap.specs.Words.{Row, Rule, Kinds, fault_of, subcommand_of}
 use Rattle.clap.specs.Walk.{Held, Names, Walk, finished, has_row, nothing_held, rows_after, settled, walk, walk_from, walked, with_default}
 use Rattle.clap.specs.Kinds.{or_else}
 use Rattle.clap.specs.Faults.{check_fault, defaults_fault, default_fault, entered_fault, flags_fault, level_fault, settle_fault, turn_fault, walk_fault}
-use Rattle.clap.specs.Simple.{App, Shape, built, entered, names_of}
+use Rattle.clap.specs.Simple.{App, Shape, built, entered}
 use Rattle.clap.proofs.WalkLemmas.{walk_stopped}
 use Rattle.clap.proofs.OnLiterals.{clap_on_literals}
 use Rattle.tv_words.specs.Words.{Text, Kind, Part, Job, job_in_parts, job_of, kind_of, parts_of}
 use Rattle.tv_words.specs.Words.Kind.{end, attached, separate, dashed, plain}
 use Rattle.tv_words.specs.Walked.{job_in_rows, job_walked, tv_app, unless_fault}
-use Rattle.tv_words.proofs.Uses.{Use, after, rows_of_uses, taken}
+use Rattle.tv_words.proofs.Uses.{Use, after, rows_of_uses}
 use Rattle.tv_words.proofs.Uses.Place.{first}
 use Rattle.tv_words.proofs.WordKinds.{Met, ends_options, met}
 use Rattle.tv_words.proofs.Arguments.{check_shape, is_check}
-use Rattle.tv_words.proofs.Steps.{Agrees, AgreesFrom, IsFault, at, fault_left}
-use Rattle.tv_words.proofs.Walks.{AreTexts, or_else-nil, walks}
+use Rattle.tv_words.proofs.Steps.{AgreesFrom, IsFault, at, fault_left}
+use Rattle.tv_words.proofs.Walks.{AreTexts, walks}
 use Rattle.tv_words.proofs.Outcomes.{outcome, parts-outcome}
 
 -- ---- no argument has a default

@@ -3,7 +3,7 @@ use Rattle.std.proofs.Common.{◌≡◌, ℕ, List, Option, Some, None, refl}
 use Rattle.clap.specs.Words.{Row}
 use Rattle.points.specs.declared.point.Bounds.{Bounds}
 use Rattle.points.specs.declared.point.Budget.{Budget}
-use Rattle.tv_words.specs.Words.{Text, Job, job_with}
+use Rattle.tv_words.specs.Words.{Text, job_with}
 use Rattle.tv_words.specs.Walked.{job_of_names}
 
 pub no_target : (source target : Option Text) (rows : List Row) → target ≡ None → job_of_names source target rows ≡ None

@@ -1,5 +1,5 @@
 -- A number as a text.
-use Rattle.std.proofs.Common.{◌≡◌, ◌<◌, ◌≤◌, ◌&&◌, ◌^◌, ℕ, Bool, true, false, cond, true≢false, refl, sym, ap, arith, List, [], ◌∷◌, length, Option, Some, None, Result, Ok, Err, nat_lt, nat_le, lt-ltb, ltb-true}
+use Rattle.std.proofs.Common.{◌≡◌, ◌≤◌, ◌&&◌, ℕ, Bool, true, false, true≢false, refl, sym, List, [], ◌∷◌, length, Some, None, nat_lt, nat_le, lt-ltb, ltb-true}
 use Rattle.std.proofs.lemmas.Bool.{leb-true}
 use Rattle.std.proofs.Math.Bool.{and-false}
 use Rattle.std.specs.List.{list_all}

@@ -2,7 +2,7 @@
 use Rattle.std.proofs.Common.{◌≡◌, ◌++◌, ◌||◌, ◌&&◌, ℕ, Bool, true, false, true≢false, not, cond, refl, sym, ap, ap₂, subst, ◌∙◌, List, [], ◌∷◌, Option, Some, None, codes, append_assoc, append-nil}
 use Rattle.std.specs.Str.{bytes_eq}
 use Rattle.std.proofs.lemmas.Slice.Eq.{bytes_eq-Decides}
-use Rattle.clap.specs.Words.{Row, Kinds, first_of}
+use Rattle.clap.specs.Words.{first_of}
 use Rattle.clap.specs.Kinds.{check_kinds, or_else}
 use Rattle.clap.specs.Faults.{check_fault}
 use Rattle.clap.specs.Takes.{is_given}
@@ -13,7 +13,7 @@ use Rattle.tv_words.specs.Walked.{job_in_rows, job_of_names, number_or_usual, un
 use Rattle.tv_words.proofs.Given.{no_bounds, no_budget, no_workers}
 use Rattle.tv_words.proofs.Uses.{Use, Place, has, rows_of_uses, taken}
 use Rattle.tv_words.proofs.Uses.Place.{first, second, past}
-use Rattle.tv_words.proofs.Arguments.{check_shape, each, Each, same}
+use Rattle.tv_words.proofs.Arguments.{check_shape, each, same}
 
 -- the values of an argument's uses, in order
 abbrev pub used_values : Text → List Use → List Text
@@ -113,12 +113,22 @@ Needs values n = ((r : Range) → number_once r (values n) ≡ None) → (names 
 needs : (values : Text → List Text) → (n : Text) → is_option n ≡ true → Needs values n
 needs values = each (Needs values) option_names (
   (λ none names. two names (λ a b. no_bounds a b _ _ _ (no_turns _ _ _ (none turns_range)))),
-  ((λ none names. two names (λ a b. no_bounds a b _ _ _ (no_blocks _ _ _ (none blocks_range)))),
-  ((λ none names. two names (λ a b. no_bounds a b _ _ _ (no_bytes _ _ _ (none bytes_range)))),
-  ((λ none names. two names (λ a b. no_budget a b _ _ _ (no_rounds _ _ _ (none rounds_range)))),
-  ((λ none names. two names (λ a b. no_budget a b _ _ _ (no_conflicts _ _ _ (none conflicts_range)))),
-  ((λ none names. two names (λ a b. no_budget a b _ _ _ (no_weight _ _ _ (none weight_range)))),
-  ((λ none names. two names (λ a b. no_workers a b _ _ _ (none workers_range))), tt)))))),
+  (
+    (λ none names. two names (λ a b. no_bounds a b _ _ _ (no_blocks _ _ _ (none blocks_range)))),
+    (
+      (λ none names. two names (λ a b. no_bounds a b _ _ _ (no_bytes _ _ _ (none bytes_range)))),
+      (
+        (λ none names. two names (λ a b. no_budget a b _ _ _ (no_rounds _ _ _ (none rounds_range)))),
+        (
+          (λ none names. two names (λ a b. no_budget a b _ _ _ (no_conflicts _ _ _ (none conflicts_range)))),
+          (
+            (λ none names. two names (λ a b. no_budget a b _ _ _ (no_weight _ _ _ (none weight_range)))),
+            ((λ none names. two names (λ a b. no_workers a b _ _ _ (none workers_range))), tt),
+          ),
+        ),
+      ),
+    ),
+  ),
 )
   where
     two : (names : List Text) → ((a b : Text) → job_values (a ∷ b ∷ []) values ≡ None) → job_values names values ≡ None
@@ -170,9 +180,9 @@ ended us past placed once =
     ap (λ kinds. unless_fault (or_else kinds []) (job_in_rows (rows_of_uses us))) (check-uses us ∙ ap₂ (λ vs ws. check_kinds false false (not (some_value vs) || (not (some_value ws) || false))) placed.2 placed.3)
     ∙ ap₂ (λ x y. job_of_names x y (rows_of_uses us)) (first_of-uses (codes "A") us ∙ ap head_value placed.2) (first_of-uses (codes "B") us ∙ ap head_value placed.3)
     ∙ (λ i. job_with placed.0 placed.1
-      (bounds_with (number-uses us once turns_range (codes "turns") i) (number-uses us once blocks_range (codes "blocks") i) (number-uses us once bytes_range (codes "bytes") i))
-      (budget_with (number-uses us once rounds_range (codes "rounds") i) (number-uses us once conflicts_range (codes "conflicts") i) (number-uses us once weight_range (codes "weight") i))
-      (number-uses us once workers_range (codes "workers") i))
+    (bounds_with (number-uses us once turns_range (codes "turns") i) (number-uses us once blocks_range (codes "blocks") i) (number-uses us once bytes_range (codes "bytes") i))
+    (budget_with (number-uses us once rounds_range (codes "rounds") i) (number-uses us once conflicts_range (codes "conflicts") i) (number-uses us once weight_range (codes "weight") i))
+    (number-uses us once workers_range (codes "workers") i))
     ∙ sym (ap₂ (λ x y. job_values ((x ++ y) ++ []) (λ n. used_values n us ++ [])) placed.2 placed.3)
 
 -- jobs look at the values of options alone
@@ -182,9 +192,9 @@ job-same (a ∷ []) f g h = refl
 job-same (a ∷ b ∷ c ∷ names) f g h = refl
 job-same (a ∷ b ∷ []) f g h =
     λ i. job_with a b
-      (bounds_with (number_once turns_range (h (codes "turns") refl i)) (number_once blocks_range (h (codes "blocks") refl i)) (number_once bytes_range (h (codes "bytes") refl i)))
-      (budget_with (number_once rounds_range (h (codes "rounds") refl i)) (number_once conflicts_range (h (codes "conflicts") refl i)) (number_once weight_range (h (codes "weight") refl i)))
-      (number_once workers_range (h (codes "workers") refl i))
+    (bounds_with (number_once turns_range (h (codes "turns") refl i)) (number_once blocks_range (h (codes "blocks") refl i)) (number_once bytes_range (h (codes "bytes") refl i)))
+    (budget_with (number_once rounds_range (h (codes "rounds") refl i)) (number_once conflicts_range (h (codes "conflicts") refl i)) (number_once weight_range (h (codes "weight") refl i)))
+    (number_once workers_range (h (codes "workers") refl i))
 
 -- options are no names
 source_apart : (n : Text) → is_option n ≡ true → bytes_eq n (codes "A") ≡ false

@@ -1,5 +1,5 @@
 -- The bounds and the budget of a job are in their ranges.
-use Rattle.std.proofs.Common.{◌≡◌, ◌≤◌, ◌&&◌, ℕ, Bool, true, false, true≢false, cond, refl, sym, ap, subst, arith, List, [], ◌∷◌, length, Option, Some, None, is_some, codes, nat_lt, nat_le, ◌∙◌}
+use Rattle.std.proofs.Common.{◌≡◌, ◌≤◌, ◌&&◌, ℕ, Bool, true, false, true≢false, cond, refl, sym, ap, subst, arith, List, [], ◌∷◌, length, Option, Some, None, is_some, codes, nat_lt, nat_le}
 use Rattle.std.proofs.lemmas.Bool.{leb-true}
 use Rattle.std.specs.List.{list_all}
 use Rattle.std.specs.Char.{digit_value}
@@ -9,8 +9,7 @@ use Rattle.points.specs.declared.point.Bounds.{Bounds}
 use Rattle.points.specs.declared.point.Budget.{Budget}
 use Rattle.points.specs.Range.{AreInRange}
 use Rattle.tv_words.specs.declared.number.Range.{Range}
-use Rattle.tv_words.specs.Words.{Text, Part, Job, number_within, number_once, number_of, values_in, bounds_with, budget_with, job_with, job_named, job_in_parts, job_of, names_in, are_known, parts_of, turns_range, blocks_range, bytes_range, rounds_range, conflicts_range, weight_range, workers_range}
-use Rattle.tv_words.proofs.Numerals.{both}
+use Rattle.tv_words.specs.Words.{Text, Part, Job, number_within, number_once, values_in, bounds_with, budget_with, job_with, job_named, job_in_parts, job_of, names_in, are_known, parts_of, turns_range, blocks_range, bytes_range, rounds_range, conflicts_range, weight_range}
 
 none≢some : {X : Type 0} (x : X) → None ≡ Some x → ⊥
 none≢some x e = true≢false (sym (ap (λ o. is_some o) e))

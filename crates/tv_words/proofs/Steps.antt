@@ -1,13 +1,13 @@
 -- One word of a walk of `clap` over the words of `check`.
-use Rattle.std.proofs.Common.{◌≡◌, ◌&&◌, ◌++◌, ◌+◌, ℕ, Bool, true, false, cond, refl, sym, ap, ap₂, subst, ◌∙◌, min, List, [], ◌∷◌, Option, Some, None, codes, fold}
+use Rattle.std.proofs.Common.{◌≡◌, ◌&&◌, ◌++◌, ◌+◌, ℕ, Bool, true, false, cond, refl, sym, ap, subst, ◌∙◌, min, List, [], ◌∷◌, Option, Some, None, fold}
 use Rattle.std.proofs.Math.Bool.{and-false}
 use Rattle.std.specs.Str.{bytes_eq}
 use Rattle.std.proofs.lemmas.Slice.Eq.{bytes_eq-Decides}
-use Rattle.clap.specs.Words.{Row, Rule, Kinds}
+use Rattle.clap.specs.Words.{Row, Kinds}
 use Rattle.clap.specs.Lexer.{usize_max}
-use Rattle.clap.specs.Walk.{Held, Waiting, Walk, arg_by_id, arg_by_index, arg_by_long, idle, is_pending, option, settled, used, used_by_id, walked}
+use Rattle.clap.specs.Walk.{Waiting, Walk, arg_by_index, idle, is_pending, option, settled, used, walked}
 use Rattle.clap.specs.Kinds.{or_else}
-use Rattle.clap.specs.Faults.{flags_fault, repeat_fault, settle_fault, turn_fault, use_fault, walk_fault}
+use Rattle.clap.specs.Faults.{flags_fault, settle_fault, turn_fault, use_fault, walk_fault}
 use Rattle.clap.specs.Simple.{Shape}
 use Rattle.clap.specs.declared.error.kind.ErrorKind.TheVariants as kind
 use Rattle.tv_words.specs.Words.{Text, is_option}

@@ -1,5 +1,5 @@
 -- What is used by the words of `check`, one use after another, and the rows that hold it.
-use Rattle.std.proofs.Common.{◌≡◌, ◌||◌, ◌++◌, ℕ, Bool, true, false, true≢false, cond, refl, sym, ap, ap₂, ◌∙◌, List, [], ◌∷◌, map, Option, Some, None, codes, if◌then◌else◌}
+use Rattle.std.proofs.Common.{◌≡◌, ◌||◌, ◌++◌, Bool, true, false, true≢false, refl, sym, ap, ◌∙◌, List, [], ◌∷◌, map, Option, Some, None, codes, if◌then◌else◌}
 use Rattle.std.specs.List.{list_any}
 use Rattle.std.specs.Str.{bytes_eq}
 use Rattle.clap.specs.Walk.{Held, Row, at_row, has_row, with_values, without, more_values}

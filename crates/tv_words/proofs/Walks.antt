@@ -1,7 +1,7 @@
 -- A walk of `clap` over the words of `check` uses what their parts are, in order, or ends in a fault.
-use Rattle.std.proofs.Common.{◌≡◌, ◌++◌, ◌+◌, min, ℕ, Bool, true, false, cond, refl, sym, ap, ap₂, subst, ◌∙◌, List, [], ◌∷◌, map, Option, Some, None, codes, fold, IsUtf8}
-use Rattle.clap.specs.Words.{Row, Rule, Kinds}
-use Rattle.clap.specs.Walk.{Waiting, Walk, arg_by_index, idle, settled, used, walked}
+use Rattle.std.proofs.Common.{◌≡◌, ◌++◌, ℕ, Bool, true, false, cond, refl, sym, ap, subst, ◌∙◌, List, [], ◌∷◌, map, Option, Some, None, codes, IsUtf8}
+use Rattle.clap.specs.Words.{Kinds}
+use Rattle.clap.specs.Walk.{Waiting, Walk, idle, settled, used, walked}
 use Rattle.clap.specs.Walk.{option as option_waits}
 use Rattle.clap.specs.Kinds.{or_else}
 use Rattle.clap.specs.Faults.{settle_fault, turn_fault, use_fault, walk_fault}
@@ -13,7 +13,7 @@ use Rattle.tv_words.proofs.Uses.{Use, Place, has, held_with, noted, rows_of_uses
 use Rattle.tv_words.proofs.Uses.Place.{first, second, past}
 use Rattle.tv_words.proofs.WordKinds.{IsLong, IsPlain, Met, met}
 use Rattle.tv_words.proofs.Arguments.{IsCheck, OptionOf, RuleOf}
-use Rattle.tv_words.proofs.Steps.{Agrees, AgreesFrom, IsFault, Known, at, awaiting, bad, fault_left, kinds_from, moved, next, rows_from, settles, use-agrees}
+use Rattle.tv_words.proofs.Steps.{Agrees, AgreesFrom, IsFault, Known, at, awaiting, bad, fault_left, kinds_from, moved, next, settles, use-agrees}
 use Rattle.tv_words.proofs.Steps.{plain-turn, plain-walked, plain-stray, trailing-turn, trailing-walked, trailing-stray, end-turn, end-walked, end-awaiting-turn, end-awaiting-walked, dashed-turn, dashed-awaiting-turn}
 use Rattle.tv_words.proofs.Steps.{unknown-turn, attached-turn, attached-walked, separate-turn, separate-walked, awaiting-end, awaiting-plain-turn, awaiting-plain-walked, awaiting-unknown-turn, awaiting-long-turn, awaiting-trailing-turn, awaiting-trailing-stray}
 

@@ -1,6 +1,6 @@
 -- What the words of a command line ask for.
 use Rattle.std.specs.Prelude.{ℕ, ◌==◌, ◌&&◌, List, [], ◌∷◌, length, map, Option, Some, None, option_map, Bool, true, codes, if◌then◌else◌, nat_lt, nat_le}
-use Rattle.std.specs.List.{list_all, list_any, filter, before_first, after_first}
+use Rattle.std.specs.List.{list_all, list_any, before_first, after_first}
 use Rattle.std.specs.Char.{digit_value}
 use Rattle.std.specs.Str.{bytes_eq}
 use Rattle.std.specs.Str.Parse.{digits_value, without_leading_plus}
@@ -97,7 +97,7 @@ abbrev pub number_within : Range → Text → Option ℕ
 number_within range text =
     let digits = without_leading_plus text in
     (if nat_lt 0 (length digits) && list_all (λ d. nat_lt (digit_value d) 10) digits && nat_le range.least (digits_value 10 digits) && nat_le (digits_value 10 digits) range.most
-        then Some (digits_value 10 digits) else None)
+    then Some (digits_value 10 digits) else None)
 
 -- an option stands at most once; where it doesn't stand it has the usual number
 abbrev pub number_once : Range → List Text → Option ℕ

@@ -70,7 +70,15 @@ fn job_in<'w>(matches: &ArgMatches<'w>) -> Option<Job<'w>>
     let Some(budget) = budget_in(matches) else {
         return None;
     };
-    let Some(workers) = number_of(matches, "workers", Range { least: 1, most: 64, usual: 4 }) else {
+    let Some(workers) = number_of(
+        matches,
+        "workers",
+        Range {
+            least: 1,
+            most: 64,
+            usual: 4,
+        },
+    ) else {
         return None;
     };
     Some(Job {
@@ -86,13 +94,37 @@ fn bounds_in(matches: &ArgMatches<'_>) -> Option<Bounds>
     ensures value { result ≡ bounds_in_rows (rows_of (found_of matches.now)) }
     ensures within { IfSome result (λ b. (b.turns ≤ 64) × (b.blocks ≤ 4) × (b.bytes ≤ 32)) }
 {
-    let Some(turns) = number_of(matches, "turns", Range { least: 0, most: 64, usual: 4 }) else {
+    let Some(turns) = number_of(
+        matches,
+        "turns",
+        Range {
+            least: 0,
+            most: 64,
+            usual: 4,
+        },
+    ) else {
         return None;
     };
-    let Some(blocks) = number_of(matches, "blocks", Range { least: 0, most: 4, usual: 2 }) else {
+    let Some(blocks) = number_of(
+        matches,
+        "blocks",
+        Range {
+            least: 0,
+            most: 4,
+            usual: 2,
+        },
+    ) else {
         return None;
     };
-    let Some(bytes) = number_of(matches, "bytes", Range { least: 0, most: 32, usual: 8 }) else {
+    let Some(bytes) = number_of(
+        matches,
+        "bytes",
+        Range {
+            least: 0,
+            most: 32,
+            usual: 8,
+        },
+    ) else {
         return None;
     };
     Some(Bounds {
@@ -106,13 +138,37 @@ fn budget_in(matches: &ArgMatches<'_>) -> Option<Budget>
     ensures value { result ≡ budget_in_rows (rows_of (found_of matches.now)) }
     ensures within { IfSome result (λ b. (b.rounds ≤ 4096) × (b.conflicts < 2 ^ 63) × (1 ≤ b.weight) × (b.weight ≤ 10000000)) }
 {
-    let Some(rounds) = number_of(matches, "rounds", Range { least: 0, most: 4_096, usual: 64 }) else {
+    let Some(rounds) = number_of(
+        matches,
+        "rounds",
+        Range {
+            least: 0,
+            most: 4_096,
+            usual: 64,
+        },
+    ) else {
         return None;
     };
-    let Some(conflicts) = number_of(matches, "conflicts", Range { least: 0, most: 9_223_372_036_854_775_807, usual: 0 }) else {
+    let Some(conflicts) = number_of(
+        matches,
+        "conflicts",
+        Range {
+            least: 0,
+            most: 9_223_372_036_854_775_807,
+            usual: 0,
+        },
+    ) else {
         return None;
     };
-    let Some(weight) = number_of(matches, "weight", Range { least: 1, most: 10_000_000, usual: 100_000 }) else {
+    let Some(weight) = number_of(
+        matches,
+        "weight",
+        Range {
+            least: 1,
+            most: 10_000_000,
+            usual: 100_000,
+        },
+    ) else {
         return None;
     };
     Some(Budget {

@@ -1,7 +1,7 @@
-use Rattle.std.proofs.Common.{◌≡◌, ◌≤◌, ◌∙◌, ℕ, arith, sym, ap, subst, Some, nat_le}
+use Rattle.std.proofs.Common.{◌≡◌, ◌≤◌, ◌∙◌, ℕ, arith, sym, ap, subst, Some}
 use Rattle.std.specs.Str.Parse.{digits_value, without_leading_plus}
 use Rattle.std.proofs.lemmas.Bool.{le-leb}
-use Rattle.tv_words.proofs.Numerals.{numeral_is, numeral_below, numeral_above, no_numeral}
+use Rattle.tv_words.proofs.Numerals.{numeral_is, no_numeral}
 use Rattle.tv_words.proofs.number.number_in.Goals as goal
 
 pub returns-then-number-most-clause-value : goal.returns-then-number-most-clause-value

@@ -1,8 +1,8 @@
-use Rattle.std.proofs.Common.{◌≡◌, List, Option, Some, None, option_map, codes, ◌∙◌, sym, ap}
-use Rattle.clap.specs.Words.{Row, first_of, found_of, rows_of}
+use Rattle.std.proofs.Common.{◌≡◌, Some, None, codes, ◌∙◌, sym, ap}
+use Rattle.clap.specs.Words.{first_of, found_of, rows_of}
 use Rattle.clap.proofs.WalkLemmas.{first_value-rows}
-use Rattle.tv_words.specs.Words.{job_with, workers_range}
-use Rattle.tv_words.specs.Walked.{job_of_names, bounds_in_rows, budget_in_rows, number_or_usual}
+use Rattle.tv_words.specs.Words.{job_with}
+use Rattle.tv_words.specs.Walked.{job_of_names}
 use Rattle.tv_words.proofs.Given.{no_target}
 use Rattle.tv_words.proofs.reading.job_in.Goals as goal
 

@@ -1,4 +1,4 @@
-use Rattle.std.proofs.Common.{◌≡◌, Some, None, ◌∙◌, sym, ap}
+use Rattle.std.proofs.Common.{◌≡◌, Some, None, ◌∙◌, ap}
 use Rattle.clap.specs.Words.{first_of, found_of, rows_of}
 use Rattle.clap.proofs.WalkLemmas.{first_value-rows}
 use Rattle.tv_words.specs.Walked.{number_or_usual}

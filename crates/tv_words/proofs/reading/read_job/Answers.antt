@@ -1,4 +1,4 @@
-use Rattle.std.proofs.Common.{◌≡◌, ◌∙◌, List, map, option_map, string_bytes}
+use Rattle.std.proofs.Common.{◌∙◌, List, map, string_bytes}
 use Rattle.std.proofs.lemmas.Result.{IfOk-weaker}
 use Rattle.tv_words.specs.Words.{Text}
 use Rattle.tv_words.proofs.Equality.{walked-job, are_texts}

@@ -1,4 +1,4 @@
-use Rattle.std.proofs.Common.{rules, ◌≡◌, List, [], Some, map, option_map, string_bytes, sym, ap, ◌∙◌, subst, codes}
+use Rattle.std.proofs.Common.{◌≡◌, List, [], Some, map, option_map, string_bytes, sym, ap, ◌∙◌, subst}
 use Rattle.clap.specs.Words.{Row, app_of, fault_of, found_of, HasKind, is_simple, is_simple_and_free, rows_of, subcommand_of}
 use Rattle.tv_words.specs.Words.{Text}
 use Rattle.tv_words.specs.Walked.{tv_app}
