@@ -72,6 +72,10 @@ unfolding number_of
 zeros_number [] int = refl
 zeros_number (p ∷ ps) int = let rest = zeros_number ps int.1 in rw (zero_at p.of_type int.0).code (omega (arith, rest))
 
+pub zeros_fit : (ps : List Parameter) → AreIntegers ps → ArgsFit 0 ps (replicate (length ps) (Num 0))
+zeros_fit [] int = tt
+zeros_fit (p ∷ ps) int = ((zero_at p.of_type int.0).fits, zeros_fit ps int.1)
+
 pub ArgsFit-length : (blocks : ℕ) (ps : List Parameter) (vs : List Value) → ArgsFit blocks ps vs → length vs ≡ length ps
 ArgsFit-length blocks [] [] h = refl
 ArgsFit-length blocks (p ∷ ps) (v ∷ vs) h = ap suc (ArgsFit-length blocks ps vs h.1)

@@ -7,8 +7,7 @@ use Rattle.byte_block.specs.declared.value.Byte.TheVariants.{Num, Part, Poison}
 use Rattle.points.specs.Code.{number_of, BlockFits, PointerFits, ByteFits, name_digit}
 use Rattle.points.specs.Next.{byte_number, pointer_number, IsNextByte, IsLastByte}
 
--- the greatest number of a pointer, and one more
-name_at_most : (blocks : ℕ) (name : BlockName) → BlockFits blocks name → name_digit blocks name ≤ blocks
+pub name_at_most : (blocks : ℕ) (name : BlockName) → BlockFits blocks name → name_digit blocks name ≤ blocks
 name_at_most blocks Null fits = omega arith
 name_at_most blocks (Given i) fits = fits.1
 name_at_most blocks (Local turn place) fits = absurd fits

@@ -17,12 +17,8 @@ use Rattle.points.specs.declared.point.Point.{Point}
 use Rattle.points.specs.declared.point.Shape.{Shape}
 use Rattle.points.specs.Code.{BlockFits, ValueFits, ArgsFit, ByteFits, BytesFit, IsGivenBlock, BlocksFit, IsOfShape, name_digit, value_code, args_code, byte_code, places_code, blocks_code, code_of}
 use Rattle.points.specs.Codes.{IsCodeOfValue, IsCodeOfArgs, AreSizes, IsCodeOfByte, IsCodeOfPlaces, IsCodeOfBlocks, IsCode}
+use Rattle.points.proofs.ByteOrder.{name_at_most}
 use Rattle.points.proofs.Same.{sizes_of, blocks_count}
-
-name_given : (blocks : ℕ) (name : BlockName) → BlockFits blocks name → name_digit blocks name ≤ blocks
-name_given blocks Null fits = omega arith
-name_given blocks (Given i) fits = fits.1
-name_given blocks (Local turn place) fits = absurd fits
 
 value_coded : (blocks : ℕ) (t : IrType) (v : Value) → ValueFits blocks t v → IsCodeOfValue blocks t (value_code blocks t v)
 value_coded blocks (Int w) (Num n) fits = inl (record { number = n; is = refl; small = fits })
@@ -30,7 +26,7 @@ value_coded blocks (Int w) Poison fits = inr refl
 value_coded blocks (Int w) (value.Ptr p) fits = absurd fits
 value_coded blocks type.Ptr (Num n) fits = absurd fits
 value_coded blocks type.Ptr Poison fits = inr refl
-value_coded blocks type.Ptr (value.Ptr p) fits = inl (record { block = name_digit blocks p.block; offset = p.offset; is = refl; given = name_given blocks p.block fits.block; small = fits.offset })
+value_coded blocks type.Ptr (value.Ptr p) fits = inl (record { block = name_digit blocks p.block; offset = p.offset; is = refl; given = name_at_most blocks p.block fits.block; small = fits.offset })
 
 args_coded : (blocks : ℕ) (ps : List Parameter) (vs : List Value) → ArgsFit blocks ps vs → IsCodeOfArgs blocks ps (args_code blocks ps vs)
 args_coded blocks [] [] fits = refl
@@ -44,7 +40,7 @@ sizes_coded blocks bytes number (b ∷ bs) fits = (fits.0.small, sizes_coded blo
 
 byte_coded : (blocks : ℕ) (b : Byte) → ByteFits blocks b → IsCodeOfByte blocks (byte_code blocks b)
 byte_coded blocks (byte.Num n) fits = inl (record { number = n; is = refl; small = fits })
-byte_coded blocks (byte.Part p i) fits = inr (inl (record { block = name_digit blocks p.block; offset = p.offset; part = i; is = refl; given = name_given blocks p.block fits.0.block; small = fits.0.offset; of_eight = fits.1 }))
+byte_coded blocks (byte.Part p i) fits = inr (inl (record { block = name_digit blocks p.block; offset = p.offset; part = i; is = refl; given = name_at_most blocks p.block fits.0.block; small = fits.0.offset; of_eight = fits.1 }))
 byte_coded blocks byte.Poison fits = inr (inr refl)
 
 places_coded : (blocks size k : ℕ) (bs : List Byte) → k + size ≡ length bs → drop size bs ≡ replicate k (byte.Num 0) → BytesFit blocks bs → IsCodeOfPlaces blocks (length bs) size (flat_map (byte_code blocks) bs)

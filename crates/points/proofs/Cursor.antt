@@ -49,9 +49,6 @@ all_read room i places rest digits h past = end h.left (let count = h.count in o
 
 -- ---- blocks
 
-drop_item : {A : Type 0} (xs : List A) (i : ℕ) (x : A) → i < length xs → x ≡ get_or xs i x → drop i xs ≡ x ∷ drop (i + 1) xs
-drop_item xs i x within is = drop_more xs i x within ∙ ap (λ y. y ∷ drop (i + 1) xs) (sym is)
-
 pub blocks_here : (bytes i size : ℕ) (sizes rest : List ℕ) → i < length sizes → HaveBlocks bytes (drop i sizes) rest → HasPlaces bytes rest × HaveBlocks bytes (drop (i + 1) sizes) (drop (bytes * 5) rest)
 blocks_here bytes i size sizes rest within enough = rw (drop_more sizes i 0 within) at enough
 

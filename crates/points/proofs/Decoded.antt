@@ -97,7 +97,7 @@ read_unused blocks (suc room) front back h =
     let rest = read_unused blocks room h.back back h.in_back in
     rw (h.whole, h.in_front) (record { places = ap (λ bs. byte.Num 0 ∷ bs) rest.places })
 
-minus_zero : (n : ℕ) → n - 0 ≡ n
+pub minus_zero : (n : ℕ) → n - 0 ≡ n
 minus_zero n = omega arith
 
 pub read_places : (blocks room size : ℕ) (front back : List ℕ) → size ≤ room → IsCodeOfPlaces blocks room size front → ReadsPlaces blocks room size front back

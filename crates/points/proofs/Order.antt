@@ -14,6 +14,9 @@ Digits (suc n) (d ∷ ds) = (d < 2 ^ 64) × Digits n ds
 Digits zero (d ∷ ds) = ⊥
 Digits (suc n) [] = ⊥
 
+pub digits_as : (n m : ℕ) (xs : List ℕ) → n ≡ m → Digits m xs → Digits n xs
+digits_as n m xs e h = rw e h
+
 pub length_of_Digits : (n : ℕ) (ds : List ℕ) → Digits n ds → length ds ≡ n
 length_of_Digits zero [] h = refl
 length_of_Digits (suc n) (d ∷ ds) h = ap suc (length_of_Digits n ds h.1)

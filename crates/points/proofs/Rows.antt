@@ -6,7 +6,7 @@ use Rattle.std.proofs.lemmas.Bool.{cases_eq}
 use Rattle.points.specs.Code.{number_of}
 use Rattle.points.specs.Codes.{IsChain}
 use Rattle.points.specs.Next.{from_place}
-use Rattle.points.proofs.Order.{Digits, IsNextIn, IsLastIn, HaveDigits, next_in_back, next_in_front, last_in_both, number_of-append}
+use Rattle.points.proofs.Order.{Digits, digits_as, IsNextIn, IsLastIn, HaveDigits, next_in_back, next_in_front, last_in_both, number_of-append}
 use Rattle.points.proofs.Args.{Digits-append}
 
 -- ---- changing the items from a place on
@@ -76,9 +76,6 @@ pub raised_is : {A : Type 0} (reset : A → A) (xs : List A) (i : ℕ) (y : A) �
 raised_is reset [] i y = refl
 raised_is reset (x ∷ xs) zero y = refl
 raised_is reset (x ∷ xs) (suc i) y = rw add-one (ap (λ zs. x ∷ zs) (rw add-one at (raised_is reset xs i y)))
-
-digits_as : (n m : ℕ) (xs : List ℕ) → n ≡ m → Digits m xs → Digits n xs
-digits_as n m xs e h = rw e h
 
 pub row_digits : {K A : Type 0} (Fit : K → A → Type 0) (code : A → List ℕ) (n : ℕ) (reset : A → A) → AreThings Fit code n reset → (ks : List K) (xs : List A) → RowFits Fit ks xs → Digits (length ks * n) (flat_map code xs)
 row_digits Fit code n reset t [] [] fits = digits_as (0 * n) 0 [] (omega arith) tt

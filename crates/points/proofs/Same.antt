@@ -17,7 +17,7 @@ use Rattle.byte_block.specs.declared.block.MemoryBlock.{MemoryBlock}
 use Rattle.points.specs.declared.point.Point.{Point}
 use Rattle.points.specs.Code.{BlockFits, PointerFits, ValueFits, ArgsFit, ByteFits, BytesFit, IsGivenBlock, BlocksFit, WordsFit, name_digit, value_code, args_code, byte_code, places_code, blocks_code, code_of, place_of}
 use Rattle.points.specs.Laws.{PlacesTellPoints}
-use Rattle.points.proofs.Order.{Digits, number_of-same}
+use Rattle.points.proofs.Order.{Digits, digits_as, number_of-same}
 use Rattle.points.proofs.Words.{WordsFit-digits}
 use Rattle.points.proofs.Args.{digits_of, args_digits, name_small, Digits-append}
 
@@ -147,9 +147,6 @@ pub blocks_count : (blocks bytes : ℕ) (bs : List MemoryBlock) → BlocksFit bl
 blocks_count blocks bytes bs h = let e = BlocksFit-length blocks bytes 1 bs h in omega (arith, e)
 
 -- ---- digits
-
-digits_as : (n m : ℕ) (xs : List ℕ) → n ≡ m → Digits m xs → Digits n xs
-digits_as n m xs e h = rw e h
 
 pub byte_digits : (blocks : ℕ) (b : Byte) → blocks < 2 ^ 64 → ByteFits blocks b → Digits 5 (byte_code blocks b)
 byte_digits blocks (byte.Num n) few fits = (omega arith, (omega (arith, fits), (omega arith, (omega arith, (omega arith, tt)))))

@@ -15,6 +15,7 @@ use Rattle.points.proofs.Same.{places_digits, blocks_count}
 use Rattle.points.proofs.Rows.{zero_number}
 use Rattle.points.proofs.Values.{IsArgsOf}
 use Rattle.points.proofs.Coded.{sizes_coded}
+use Rattle.points.proofs.Decoded.{minus_zero}
 
 -- ---- the parts of a point's code
 
@@ -151,9 +152,6 @@ next_of_args s old args next = record {
 pub record IsZeroTape (s : Shape) (tape : List ℕ) : Type 0 where
   pub fits : WordsFit s.word_width.bits s.words tape
   pub number : number_of tape ≡ 0
-
-minus_zero : (n : ℕ) → n - 0 ≡ n
-minus_zero n = omega arith
 
 pub zero_tape : (s : Shape) (old before tape : List ℕ) → WordsFit s.word_width.bits s.words old → before ≡ old → tape ≡ take 0 before ++ replicate (length before - 0) 0 → IsZeroTape s tape
 zero_tape s old before tape fits same zeros =
