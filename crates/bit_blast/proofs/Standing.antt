@@ -15,7 +15,8 @@ use Rattle.gates.specs.declared.circuit.Gate.{Gate}
 use Rattle.gates.specs.Values.{gate_at, Keeps}
 use Rattle.gate_digits.specs.Numbers.{AreGates, Writes, number_at, number_of}
 use Rattle.bit_blast.specs.declared.variable.Variable.{Variable}
-use Rattle.bit_blast.specs.Table.{Agrees, AreDigits, IsTable, digits_of, number_by}
+use Rattle.bit_blast.specs.Following.{bits_kept}
+use Rattle.bit_blast.specs.Table.{Agrees, Blasted, Follows, AreDigits, IsTable, digits_of, number_by}
 use Rattle.bit_blast.specs.Bits.{AreBits, AreStanding}
 use Rattle.bit_blast.proofs.Tables.{found_digits}
 use Rattle.bit_blast.specs.Written.{AreReady, HasVariable, digits_at, digits_or_none, first_in, number_in, operands, size_in, written, written_size}
@@ -283,3 +284,32 @@ module _ (gates : List Gate) (table : List (Variable × List GateId)) (trees : L
     long = w.long ∙ size-is t is h s fit;
     says = λ inputs v agrees. w.says inputs ∙ written-is inputs v agrees t is h s fit;
   }
+
+-- what isn't a variable needs no digits
+pub not_variable : (table : List (Variable × List GateId)) (t : Term) → ((number width : ℕ) → t ≡ term.Variable number width → ⊥) → HasVariable table t
+not_variable table (term.Variable number width) h = absurd (h number width refl)
+not_variable table (term.Constant value width) h = tt
+not_variable table (term.Not a width) h = tt
+not_variable table (term.And a b width) h = tt
+not_variable table (term.Or a b width) h = tt
+not_variable table (term.Xor a b width) h = tt
+not_variable table (term.Add a b width) h = tt
+not_variable table (term.Sub a b width) h = tt
+not_variable table (term.Mul a b width) h = tt
+not_variable table (term.Udiv a b width) h = tt
+not_variable table (term.Urem a b width) h = tt
+not_variable table (term.Shl a b width) h = tt
+not_variable table (term.Lshr a b width) h = tt
+not_variable table (term.Ashr a b width) h = tt
+not_variable table (term.Eq a b width) h = tt
+not_variable table (term.Ult a b width) h = tt
+not_variable table (term.Slt a b width) h = tt
+not_variable table (term.Ite c a b width) h = tt
+not_variable table (term.Extract a from width) h = tt
+not_variable table (term.Concat high low below width) h = tt
+not_variable table (term.Zext a width) h = tt
+not_variable table (term.Sext a from width) h = tt
+
+-- what stands stands from then on
+pub standing_later : (a b : Blasted) (trees : List Tree) (done : List (List GateId)) (t : Term) → Follows a b → AreStanding a.gates a.table trees done t → AreStanding b.gates b.table trees done t
+standing_later a b trees done t f h i d lt = bits_kept a b (tree_at trees (get_or (operands t) i d)) (digits_at done (get_or (operands t) i d)) f (h i d lt)

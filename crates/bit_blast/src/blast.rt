@@ -99,6 +99,18 @@ impl Blast {
         add_variable(self.alloc, &mut self.circuit, &mut self.table, variable)
     }
 
+    /// Gives a term that is a variable inputs, unless it has them.
+    fn prepare(&mut self, term: &Term) -> Result<(), NoMemory>
+        ensures known { OnOk result (HasVariable self.new.table term.now) }
+        ensures follows { Follows self.old self.new }
+        ensures table { HasVariable self.old.table term.now → self.new.table ≡ self.old.table }
+    {
+        match *term {
+            Term::Variable { number, width } => self.add(Variable { number, width }),
+            _ => Ok(()),
+        }
+    }
+
     /// The bits of a term over those of the terms that it names; of the others nothing is asked. A
     /// variable that has no inputs gets them.
     pub fn term(&mut self, term: &Term, done: &[Sequence<GateId>]) -> Result<Sequence<GateId>, NoMemory>
@@ -109,9 +121,7 @@ impl Blast {
         ensures follows { Follows self.old self.new }
         ensures table { HasVariable self.old.table term.now → self.new.table ≡ self.old.table }
     {
-        if let Term::Variable { number, width } = *term {
-            self.add(Variable { number, width })?;
-        }
+        self.prepare(term)?;
         let digits = written(self.alloc, &mut self.circuit, &self.table, term, done)?;
         Ok(Sequence::from_vec(digits))
     }
