@@ -1,4 +1,4 @@
 pub mod Tables
-pub mod OneDigit
+pub mod Found
 pub mod Standing
 pub mod Agreeing

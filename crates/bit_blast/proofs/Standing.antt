@@ -1,5 +1,5 @@
 -- Digits that stand for what a term names make digits that stand for the term.
-use Rattle.std.proofs.Common.{ℕ, zero, suc, ◌≡◌, ◌<◌, ◌≤◌, ◌+◌, ◌-◌, ◌*◌, ◌/◌, ◌%◌, ◌^◌, Bool, true, false, cond, not, List, [], ◌∷◌, All, Some, map, get_or, length, arith, sym, subst, ap, refl, ◌∙◌}
+use Rattle.std.proofs.Common.{ℕ, zero, suc, ◌≡◌, ◌<◌, ◌+◌, ◌-◌, ◌*◌, ◌/◌, ◌%◌, ◌^◌, Bool, true, false, cond, List, [], ◌∷◌, All, get_or, length, arith, sym, subst, ap, refl, ◌∙◌}
 use Rattle.std.specs.Prelude.{nat_eq, nat_lt, bit_and, bit_or, bit_xor}
 use Rattle.std.specs.Option.{unwrap_or}
 use Rattle.std.specs.List.{AllZip}
@@ -8,25 +8,25 @@ use Rattle.bv_terms.specs.declared.term.Term.{Term}
 use Rattle.bv_terms.specs.declared.term.Term.TheVariants as term
 use Rattle.bv_terms.specs.Tree as tree
 use Rattle.bv_terms.specs.Tree.{Tree, value_of, width_of, truth, digit, quotient, remainder, shifted_left, shifted_right, shifted_signed, is_less_signed, extended_signed}
-use Rattle.bv_terms.specs.Trees.{IsFit, IsWidth, IsWithin, tree_at, tree_of}
+use Rattle.bv_terms.specs.Trees.{IsFit, IsWithin, tree_at, tree_of}
 use Rattle.bv_terms.proofs.Zips.{AllZip-at}
 use Rattle.gates.specs.declared.circuit.GateId.{GateId}
 use Rattle.gates.specs.declared.circuit.Gate.{Gate}
-use Rattle.gates.specs.Values.{gate_at, Keeps}
-use Rattle.gate_digits.specs.Numbers.{AreGates, Writes, number_at, number_of}
+use Rattle.gates.specs.Values.{gate_at}
+use Rattle.gate_digits.specs.Numbers.{Writes, number_at, number_of}
 use Rattle.bit_blast.specs.declared.variable.Variable.{Variable}
 use Rattle.bit_blast.specs.Following.{bits_kept}
-use Rattle.bit_blast.specs.Table.{Agrees, Blasted, Follows, AreDigits, IsTable, digits_of, number_by}
+use Rattle.bit_blast.specs.Table.{Agrees, Blasted, Follows, AreDigits, IsTable}
 use Rattle.bit_blast.specs.Bits.{AreBits, AreStanding}
 use Rattle.bit_blast.proofs.Tables.{found_digits}
-use Rattle.bit_blast.specs.Written.{AreReady, HasVariable, digits_at, digits_or_none, first_in, number_in, operands, size_in, written, written_size}
+use Rattle.bit_blast.specs.Written.{AreReady, HasVariable, digits_at, digits_or_none, operands, written, written_size}
 
 none : (P : TermId → Type 0) → All P []
 none P i d lt = absurd (omega arith)
 
-with_one : (P : TermId → Type 0) (a : TermId) (as : List TermId) → P a → All P as → All P (a ∷ as)
-with_one P a as h hs zero d lt = h
-with_one P a as h hs (suc i) d lt = hs i d (omega arith)
+with_one : (P : TermId → Type 0) (a : TermId) (gs : List TermId) → P a → All P gs → All P (a ∷ gs)
+with_one P a gs h hs zero d lt = h
+with_one P a gs h hs (suc i) d lt = hs i d (omega arith)
 
 one_of : (P : TermId → Type 0) (a : TermId) → P a → All P (a ∷ [])
 one_of P a h = with_one P a [] h (none P)
@@ -285,31 +285,15 @@ module _ (gates : List Gate) (table : List (Variable × List GateId)) (trees : L
     says = λ inputs v agrees. w.says inputs ∙ written-is inputs v agrees t is h s fit;
   }
 
--- what isn't a variable needs no digits
-pub not_variable : (table : List (Variable × List GateId)) (t : Term) → ((number width : ℕ) → t ≡ term.Variable number width → ⊥) → HasVariable table t
-not_variable table (term.Variable number width) h = absurd (h number width refl)
-not_variable table (term.Constant value width) h = tt
-not_variable table (term.Not a width) h = tt
-not_variable table (term.And a b width) h = tt
-not_variable table (term.Or a b width) h = tt
-not_variable table (term.Xor a b width) h = tt
-not_variable table (term.Add a b width) h = tt
-not_variable table (term.Sub a b width) h = tt
-not_variable table (term.Mul a b width) h = tt
-not_variable table (term.Udiv a b width) h = tt
-not_variable table (term.Urem a b width) h = tt
-not_variable table (term.Shl a b width) h = tt
-not_variable table (term.Lshr a b width) h = tt
-not_variable table (term.Ashr a b width) h = tt
-not_variable table (term.Eq a b width) h = tt
-not_variable table (term.Ult a b width) h = tt
-not_variable table (term.Slt a b width) h = tt
-not_variable table (term.Ite c a b width) h = tt
-not_variable table (term.Extract a from width) h = tt
-not_variable table (term.Concat high low below width) h = tt
-not_variable table (term.Zext a width) h = tt
-not_variable table (term.Sext a from width) h = tt
-
 -- what stands stands from then on
 pub standing_later : (a b : Blasted) (trees : List Tree) (done : List (List GateId)) (t : Term) → Follows a b → AreStanding a.gates a.table trees done t → AreStanding b.gates b.table trees done t
 standing_later a b trees done t f h i d lt = bits_kept a b (tree_at trees (get_or (operands t) i d)) (digits_at done (get_or (operands t) i d)) f (h i d lt)
+
+-- what a term needs is there once its variable has digits
+pub later-ready : (a b : Blasted) (trees : List Tree) (done : List (List GateId)) (t : Term) → Follows a b → IsTable b.gates b.table → HasVariable b.table t → AreStanding a.gates a.table trees done t → IsFit trees t
+    → AreReady b.gates b.table done t
+later-ready a b trees done t f is h s fit = are_ready b.gates b.table trees done t is h (standing_later a b trees done t f s) fit
+
+pub later-written : (a b : Blasted) (trees : List Tree) (done : List (List GateId)) (new : List Gate) (t : Term) (digits : List GateId) → Follows a b → IsTable b.gates b.table → HasVariable b.table t
+    → AreStanding a.gates a.table trees done t → IsFit trees t → Writes new digits (written_size b.table done t) (λ inputs. written inputs b.gates b.table done t) → AreBits new b.table (tree_of trees t) digits
+later-written a b trees done new t digits f is h s fit w = bits-written b.gates b.table trees done new t digits is h (standing_later a b trees done t f s) fit w

@@ -1,5 +1,5 @@
 -- Bits of a term stay its bits as gates and variables are added.
-use Rattle.std.proofs.Common.{ℕ, ◌≡◌, ap, arith, refl, ◌∙◌, List}
+use Rattle.std.proofs.Common.{ap, ◌∙◌, List}
 use Rattle.bv_terms.specs.Tree.{Tree}
 use Rattle.gates.specs.declared.circuit.GateId.{GateId}
 use Rattle.gate_digits.specs.Numbers.{number_of}

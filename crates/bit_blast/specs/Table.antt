@@ -1,5 +1,5 @@
 -- Which inputs of a circuit are the digits of which variable.
-use Rattle.std.specs.Prelude.{ℕ, ◌≡◌, ◌%◌, ◌^◌, ◌++◌, ◌&&◌, ◌⊎◌, Bool, cond, false, nat_eq, All, List, [], ◌∷◌, length, map, Option, Some, None}
+use Rattle.std.specs.Prelude.{ℕ, ◌≡◌, ◌%◌, ◌^◌, ◌++◌, ◌&&◌, ◌⊎◌, Bool, cond, false, nat_eq, All, List, [], ◌∷◌, length, map, slice_get, Option, Some, None}
 use Rattle.gates.specs.declared.circuit.GateId.{GateId}
 use Rattle.gates.specs.declared.circuit.Gate.{Gate}
 use Rattle.gates.specs.Numbering.{AreApart}
@@ -25,6 +25,10 @@ digits_of (e ∷ es) x = cond (is_variable x e.0) (Some e.1) (digits_of es x)
 abbrev pub all_digits : List (Variable × List GateId) → List GateId
 all_digits [] = []
 all_digits (e ∷ es) = e.1 ++ all_digits es
+
+-- the digits of the variable at a place come behind others
+abbrev pub Appends : List (Variable × List GateId) → ℕ → List GateId → List GateId → Type 0
+Appends table place old new = (e : Variable × List GateId) → slice_get table place ≡ Some e → new ≡ old ++ e.1
 
 -- the number that digits write, each of them an input
 abbrev pub number_by : (ℕ → Bool) → List GateId → ℕ

@@ -10,7 +10,7 @@ ghost use Rattle.bit_blast.specs.Bits.{AreBits, AreStanding};
 ghost use Rattle.bit_blast.specs.Table.{Adds, Follows, HasInputs, IsTable, all_digits, digits_of};
 ghost use Rattle.bit_blast.specs.Written.{HasVariable};
 
-use crate::step::{add_variable, all_inputs, written};
+use crate::step::{add_variable, all_inputs, find, written};
 use crate::variable::Variable;
 use bv_terms::{Term, TermFold};
 use gates::{Circuit, GateId};
@@ -63,7 +63,7 @@ impl Blast {
     pub fn digits(&self, variable: Variable) -> Option<&Sequence<GateId>>
         ensures { option_copied result ≡ digits_of self.now.table variable }
     {
-        self.table.get(&variable)
+        find(&self.table, variable)
     }
 
     /// All inputs of the circuit, the digits of each variable together, in the order in which the
@@ -93,7 +93,7 @@ impl Blast {
         ensures follows { Follows self.old self.new }
         ensures err { OnErr result (self.new ≡ self.old) }
     {
-        if self.table.get(&variable).is_some() {
+        if self.digits(variable).is_some() {
             return Ok(());
         }
         add_variable(self.alloc, &mut self.circuit, &mut self.table, variable)
@@ -113,7 +113,11 @@ impl Blast {
 
     /// The bits of a term over those of the terms that it names; of the others nothing is asked. A
     /// variable that has no inputs gets them.
-    pub fn term(&mut self, term: &Term, done: &[Sequence<GateId>]) -> Result<Sequence<GateId>, NoMemory>
+    pub fn term(
+        &mut self,
+        term: &Term,
+        done: &[Sequence<GateId>],
+    ) -> Result<Sequence<GateId>, NoMemory>
         requires within { IsWithin (length done.now) term.now }
         requires stood { (trees : List Tree) × AreStanding self.old.gates self.old.table trees done.now term.now × IsFit trees term.now }
         ensures stands { (trees : List Tree) → AreStanding self.old.gates self.old.table trees done.now term.now → IsFit trees term.now →
@@ -140,7 +144,11 @@ impl TermFold for Blast {
 
     ghost gives = { λ _ _. Unit {0} };
 
-    fn node(&mut self, term: &Term, done: &[Sequence<GateId>]) -> Result<Sequence<GateId>, NoMemory> {
+    fn node(
+        &mut self,
+        term: &Term,
+        done: &[Sequence<GateId>],
+    ) -> Result<Sequence<GateId>, NoMemory> {
         self.term(term, done)
     }
 

@@ -9,8 +9,6 @@
 
 mod blast;
 mod step;
-#[cfg(test)]
-mod tests;
 mod variable;
 
 pub use blast::Blast;

@@ -1,19 +1,20 @@
 //! The bits of one term over those of earlier ones.
 
-ghost use Rattle.std.specs.Prelude.{◌≡◌, ◌<◌, ◌++◌, ◌∷◌, [], IfOk, OnErr, OnOk, List, Some, None, length, nat_eq, nat_lt, slice_index_or};
+ghost use Rattle.std.specs.Prelude.{◌≡◌, ◌<◌, ◌≤◌, ◌++◌, ◌∷◌, [], IfOk, OnErr, OnOk, List, Some, None, length, nat_eq, nat_lt, slice_index_or};
+ghost use Rattle.std.specs.Option.{option_copied};
 ghost use Rattle.bv_terms.specs.Tree.{digit, is_less_signed};
 ghost use Rattle.bv_terms.specs.Trees.{IsWithin};
 ghost use Rattle.gates.specs.Values.{Grows, Keeps};
 ghost use Rattle.gate_digits.specs.Numbers.{AreGates, Writes, number_at};
-ghost use Rattle.bit_blast.specs.Table.{Adds, IsTable, all_digits, digits_of};
+ghost use Rattle.bit_blast.specs.Table.{Adds, Appends, IsTable, all_digits, digits_of};
 ghost use Rattle.bit_blast.specs.Written.{AreReady, digits_at, digits_or_none, written, written_size};
 
 use crate::variable::Variable;
 use bv_terms::{Term, TermId};
 use gate_digits::{
     and, choose, constant, difference, divided, equal, extended, inputs, inverse, joined, less,
-    less_signed, or, part, product, shift_left, shift_right, shift_right_signed, sign_extended, sum,
-    xor,
+    less_signed, or, part, product, shift_left, shift_right, shift_right_signed, sign_extended,
+    sum, xor,
 };
 use gates::{Circuit, GateId};
 use indexmap::IndexMap;
@@ -47,6 +48,33 @@ pub fn add_variable(
     }
 }
 
+/// The digits of a variable, where it has some.
+pub fn find(
+    table: &IndexMap<Variable, Sequence<GateId>>,
+    variable: Variable,
+) -> Option<&Sequence<GateId>>
+    ensures { option_copied result ≡ digits_of table.now.entries variable }
+{
+    table.get(&variable)
+}
+
+/// Puts the digits of the variable at a place of the table behind the others.
+fn push_digits(
+    all: &mut Vec<GateId>,
+    table: &IndexMap<Variable, Sequence<GateId>>,
+    place: usize,
+) -> Result<(), NoMemory>
+    ensures { OnOk result (Appends table.now.entries place all.old.items all.new.items) }
+{
+    match table.get_index(place) {
+        Some((_, digits)) => {
+            all.extend_from_slice(digits.as_slice())?;
+            Ok(())
+        }
+        None => Ok(()),
+    }
+}
+
 /// The digits of all variables, one variable after the other.
 pub fn all_inputs(
     alloc: Global,
@@ -55,10 +83,8 @@ pub fn all_inputs(
     ensures { IfOk result (λ r. r.items ≡ all_digits table.now.entries) }
 {
     let mut all = Vec::new(alloc);
-    for i in 0..table.len() {
-        if let Some((_, digits)) = table.get_index(i) {
-            all.extend_from_slice(digits.as_slice())?;
-        }
+    for place in 0..table.len() {
+        push_digits(&mut all, table, place)?;
     }
     Ok(all)
 }
@@ -80,11 +106,13 @@ fn digits_in(
 ) -> Result<Vec<GateId>, NoMemory>
     ensures { IfOk result (λ r. r.items ≡ digits_or_none table.now.entries number width) }
 {
-    let digits = match table.get(&Variable { number, width }) {
-        Some(digits) => Vec::from_slice(alloc, digits.as_slice())?,
-        None => Vec::new(alloc),
-    };
-    Ok(digits)
+    match find(table, Variable { number, width }) {
+        Some(digits) => {
+            let copy = Vec::from_slice(alloc, digits.as_slice())?;
+            Ok(copy)
+        }
+        None => Ok(Vec::new(alloc)),
+    }
 }
 
 /// The one digit of a test.
