@@ -1,0 +1,4 @@
+pub mod Asking
+pub mod Marking
+pub mod Orders
+pub mod Building
