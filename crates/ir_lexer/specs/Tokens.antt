@@ -36,14 +36,11 @@ abbrev pub with_front : List Lexeme → Result (List Lexeme) Spot → Result (Li
 with_front front (Ok tokens) = Ok (front ++ tokens)
 with_front front (Err spot) = Err spot
 
--- the token of this class and length at a place of the text
-abbrev pub token_at : List ℕ → ℕ → Kind → ℕ → Lexeme
-token_at text at kind len = record { kind = kind; text = take len (drop at text); at = at; place = place_at text at }
-
--- a found token at this place of the text, and the tokens behind it; or the place, where none was found
-abbrev pub with_token : List ℕ → ℕ → Option (Kind × ℕ) → (ℕ → Result (List Lexeme) Spot) → Result (List Lexeme) Spot
-with_token text at None behind = Err (record { at = at; place = place_at text at })
-with_token text at (Some found) behind = with_front (token_at text at found.0 found.1 ∷ []) (behind found.1)
+-- a token found at this place of the text, where the rest stands, and the tokens behind it; or the place, where none was
+-- found
+abbrev pub with_token : List ℕ → ℕ → List ℕ → Option (Kind × ℕ) → (ℕ → Result (List Lexeme) Spot) → Result (List Lexeme) Spot
+with_token text at rest None behind = Err (record { at = at; place = place_at text at })
+with_token text at rest (Some found) behind = with_front (record { kind = found.0; text = take found.1 rest; at = at; place = place_at text at } ∷ []) (behind found.1)
 
 -- The tokens of what is left of a text, in at most n steps, or the place where none begins. What is left begins with no
 -- blank.
@@ -51,7 +48,7 @@ unfoldable pub tokens_of : List ℕ → ℕ → List ℕ → Result (List Lexeme
 tokens_of text zero rest = Ok []
 tokens_of text (suc n) [] = Ok []
 tokens_of text (suc n) (b ∷ bs) =
-    with_token text (length text - length (b ∷ bs)) (longest_token (b ∷ bs)) (λ len. tokens_of text n (behind_blanks false (drop len (b ∷ bs))))
+    with_token text (length text - length (b ∷ bs)) (b ∷ bs) (longest_token (b ∷ bs)) (λ len. tokens_of text n (behind_blanks false (drop len (b ∷ bs))))
 
 -- the tokens of a text
 abbrev pub lexed : List ℕ → Result (List Lexeme) Spot
