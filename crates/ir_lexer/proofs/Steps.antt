@@ -111,7 +111,7 @@ one_more text front (b ∷ bs) whole kind len after token some found long is sho
           steps = steps;
           enough = omega (arith, length-drop len (b ∷ bs));
           so_far = sym (front-front front (token ∷ []) (tokens_of text steps after)) ∙ ap (λ (w : List ℕ). with_front front (with_front (token ∷ []) (tokens_of text steps w))) is
-            ∙ ap (λ (t : Lexeme). with_front front (with_front (t ∷ []) (behind len))) spelled ∙ e;
+              ∙ ap (λ (t : Lexeme). with_front front (with_front (t ∷ []) (behind len))) spelled ∙ e;
         }
 
 pub no_more : (text : List ℕ) (front : List Lexeme) (rest : List ℕ) (whole : Result (List Lexeme) Spot) → 0 < length rest → longest_token rest ≡ None → Left text front rest whole

@@ -28,9 +28,7 @@ pub fn name_run(text: &[u8]) -> usize
     ensures value { result ≡ name_run text.now }
     ensures within { result ≤ length text.now }
 {
-    text.iter()
-        .take_while(|b| bytes::is_name_byte(**b))
-        .count()
+    text.iter().take_while(|b| bytes::is_name_byte(**b)).count()
 }
 
 /// Behind the name bytes at the front.
@@ -115,7 +113,11 @@ pub fn shorter<'a>(rest: Option<&'a [u8]>, other: Option<&'a [u8]>) -> Option<&'
     ensures { option_copied result ≡ shorter (option_copied rest.entry) (option_copied other.entry) }
 {
     match (rest, other) {
-        (Some(rest), Some(other)) => Some(if other.len() < rest.len() { other } else { rest }),
+        (Some(rest), Some(other)) => Some(if other.len() < rest.len() {
+            other
+        } else {
+            rest
+        }),
         (Some(rest), None) => Some(rest),
         (None, other) => other,
     }

@@ -28,7 +28,7 @@ loop-rest-init c = record {
 pub returns-in_default : goal.returns-in_default
 returns-in_default c =
     no_more c.args.text.now _ c.loop-rest.rest.now _ (grind (arith, common_steps)) (cc) c.loop-rest.invariant.left
-      ∙ ap (λ (p : Place). Err (record { at = length c.args.text.now - length c.loop-rest.rest.now; place = p })) (sym (here-place c.args.text.now c.loop-rest.rest.now c.loop-rest.place c.loop-rest.invariant.here))
+    ∙ ap (λ (p : Place). Err (record { at = length c.args.text.now - length c.loop-rest.rest.now; place = p })) (sym (here-place c.args.text.now c.loop-rest.rest.now c.loop-rest.place c.loop-rest.invariant.here))
 
 pub behind-requires-clause-line : goal.behind-requires-clause-line
 behind-requires-clause-line c =

@@ -1,0 +1,16 @@
+//! The items of a text of LLVM IR, from its tokens.
+//!
+//! It promises that `cut` answers the functions with a body, where the text is items one after
+//! another, or the first token at which it stops being that, and why. It stands on `ir_lexer` and
+//! `ir_tree`; the reader takes the items.
+#![tactic(auto)]
+
+mod fault;
+mod item;
+mod marks;
+mod names;
+
+pub use fault::{ItemFault, Why};
+pub use item::Define;
+pub use marks::{mark_of, piece_end};
+pub use names::without_zeros;
