@@ -101,13 +101,26 @@ parts part (b ∷ bs) = (if b == 45 then part ∷ parts [] bs else parts (part +
 abbrev pub number_in : List ℕ → List ℕ
 number_in part = take_while is_digit (behind (λ b. not (is_digit b)) part)
 
+-- `p:` and more
+abbrev pub begins_pointer : List ℕ → Bool
+begins_pointer [] = false
+begins_pointer (a ∷ []) = false
+begins_pointer (a ∷ b ∷ rest) = a == 112 && b == 58
+
 -- `E`, or a part that begins `p:` and has a first number other than 64
 unfoldable pub is_bad_part : List ℕ → Bool
-is_bad_part part = bytes_eq part (codes "E") || bytes_eq (take 2 part) (codes "p:") && nat_lt 0 (length (number_in part)) && not (bytes_eq (without_zeros (number_in part)) (codes "64"))
+is_bad_part part = bytes_eq part (codes "E") || begins_pointer part && nat_lt 0 (length (number_in part)) && not (bytes_eq (without_zeros (number_in part)) (codes "64"))
+
+-- some part is one of those, of a text with some bytes before it
+abbrev pub has_bad_part : List ℕ → List ℕ → Bool
+has_bad_part before text = list_any is_bad_part (parts before text)
+
+abbrev pub inside_quotes : List ℕ → List ℕ
+inside_quotes text = take (length text - 2) (drop 1 text)
 
 -- the layout between a string's quotes has such a part
 unfoldable pub is_bad_layout : List ℕ → Bool
-is_bad_layout text = list_any is_bad_part (parts [] (take (length text - 2) (drop 1 text)))
+is_bad_layout text = has_bad_part [] (inside_quotes text)
 
 abbrev pub is_plain_string : Kind → List ℕ → Bool
 is_plain_string kind.String (b ∷ bs) = b == 34

@@ -6,11 +6,14 @@
 #![tactic(auto)]
 
 mod fault;
+mod heads;
 mod item;
+mod layout;
 mod marks;
 mod names;
 
 pub use fault::{ItemFault, Why};
 pub use item::Define;
-pub use marks::{mark_of, piece_end};
-pub use names::without_zeros;
+pub use heads::{begins_item, is_brace, is_called, is_define, is_head, is_wrong_layout};
+pub use marks::piece_end;
+pub use names::name_of;

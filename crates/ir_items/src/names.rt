@@ -1,5 +1,6 @@
 // Names as tokens spell them.
-ghost use Rattle.std.specs.Prelude.{◌≡◌, ◌+◌, ◌*◌, ◌^◌, ◌<◌, IfOk, true};
+ghost use Rattle.std.specs.Prelude.{◌≡◌, ◌-◌, ◌<◌, ◌∷◌, length, take, drop, IfOk, true};
+ghost use Rattle.std.specs.List.{list_all};
 ghost use Rattle.ir_lexer.specs.Bytes.{is_digit, is_hexadecimal_digit};
 ghost use Rattle.ir_lexer.specs.Spelling.{is_digits};
 ghost use Rattle.ir_items.specs.Names as spec;
@@ -49,22 +50,34 @@ fn hexadecimal_value(b: u8) -> u8
     }
 }
 
+// The first byte that is meant, and what stands behind its spelling.
+fn first_meant(text: &[u8]) -> (u8, &[u8])
+    requires { 0 < length text.now }
+    ensures value { spec.unescaped text.now ≡ result.0 ∷ spec.unescaped result.1.now }
+    ensures within { length result.1.now < length text.now }
+{
+    match text {
+        [b'\\', b'\\', rest @ ..] => (b'\\', rest),
+        [b'\\', high, low, rest @ ..]
+            if is_hexadecimal_digit(*high) && is_hexadecimal_digit(*low) =>
+        {
+            (
+                16 * hexadecimal_value(*high) + hexadecimal_value(*low),
+                rest,
+            )
+        }
+        [first, rest @ ..] => (*first, rest),
+        [] => (0, text),
+    }
+}
+
 fn unescaped(alloc: Global, text: &[u8]) -> Result<Vec<u8>, NoMemory>
     ensures { IfOk result (λ bytes. bytes.items ≡ spec.unescaped text.now) }
 {
     let mut bytes = Vec::new(alloc);
     let mut rest = text;
-    while let [first, after @ ..] = rest {
-        let first = *first;
-        let (byte, next) = match after {
-            [b'\\', next @ ..] if first == b'\\' => (b'\\', next),
-            [high, low, next @ ..]
-                if first == b'\\' && is_hexadecimal_digit(*high) && is_hexadecimal_digit(*low) =>
-            {
-                (16 * hexadecimal_value(*high) + hexadecimal_value(*low), next)
-            }
-            _ => (first, after),
-        };
+    while !rest.is_empty() {
+        let (byte, next) = first_meant(rest);
         bytes.push(byte)?;
         rest = next;
     }
@@ -72,14 +85,69 @@ fn unescaped(alloc: Global, text: &[u8]) -> Result<Vec<u8>, NoMemory>
 }
 
 fn all_digits(text: &[u8]) -> bool
-    ensures { result ≡ is_digits text.now }
+    ensures { result ≡ list_all is_digit text.now }
 {
-    !text.is_empty() && text.iter().all(|b| is_digit(*b))
+    text.iter().all(|b| is_digit(*b))
 }
 
-fn without_last(text: &[u8]) -> &[u8] {
+fn some_digits(text: &[u8]) -> bool
+    ensures { result ≡ is_digits text.now }
+{
     match text {
-        [front @ .., _] => front,
-        _ => text,
+        [] => false,
+        _ => all_digits(text),
+    }
+}
+
+fn without_last(text: &[u8]) -> &[u8]
+    ensures { result.now ≡ take (length text.now - 1) text.now }
+{
+    match text {
+        [] => text,
+        _ => text.split_at(text.len() - 1).0,
+    }
+}
+
+fn spelled_name(alloc: Global, text: &[u8]) -> Result<Name, NoMemory>
+    ensures { IfOk result (λ name. name ≡ spec.name_of text.now) }
+{
+    if let [b'"', rest @ ..] = text {
+        let bytes = unescaped(alloc, without_last(rest))?;
+        Ok(Name::Word(Sequence::from_vec(bytes)))
+    } else if some_digits(text) {
+        let digits = without_zeros(text).to_vec(alloc)?;
+        Ok(Name::Number(Sequence::from_vec(digits)))
+    } else {
+        Ok(Name::Word(Sequence::from_vec(text.to_vec(alloc)?)))
+    }
+}
+
+fn name_behind_sign(alloc: Global, text: &[u8]) -> Result<Name, NoMemory>
+    ensures { IfOk result (λ name. name ≡ spec.name_of (drop 1 text.now)) }
+{
+    match text {
+        [] => spelled_name(alloc, text),
+        [_, rest @ ..] => spelled_name(alloc, rest),
+    }
+}
+
+/// The name that a local, global or comdat name or a label spells; none for any other token. A
+/// number goes by its value, a quoted string by its bytes after escapes.
+pub fn name_of(alloc: Global, token: &Token<'_>) -> Result<Option<Name>, NoMemory>
+    ensures { IfOk result (λ name. name ≡ spec.name_in token.now.kind token.now.text) }
+{
+    let text = token.text();
+    match token.kind() {
+        Kind::Local | Kind::Global | Kind::Comdat => Ok(Some(name_behind_sign(alloc, text)?)),
+        Kind::Label => Ok(Some(spelled_name(alloc, without_last(text))?)),
+        Kind::Word
+        | Kind::Number
+        | Kind::Metadata
+        | Kind::Hash
+        | Kind::Caret
+        | Kind::Float
+        | Kind::Hexadecimal
+        | Kind::String
+        | Kind::Mark => Ok(None),
     }
 }
