@@ -69,6 +69,7 @@ fn inside_quotes(text: &[u8]) -> &[u8]
     }
 }
 
+#[tactic(auto, using(crate::proofs::LayoutParts::parts_of))]
 fn some_bad_part(text: &[u8]) -> bool
     ensures { result ≡ spec.has_bad_part [] text.now }
 {
