@@ -1,42 +1,27 @@
 -- Heads and names are no brackets.
-use Rattle.std.proofs.Common.{◌≡◌, ◌⊎◌, ℕ, ◌+◌, ◌<◌, ◌≤◌, Bool, true, false, ◌&&◌, ◌||◌, List, [], ◌∷◌, length, get_or, Option, Some, None, refl, sym, ap, ◌∙◌, inl, inr, arith}
-use Rattle.std.specs.Prelude.{slice_get}
-use Rattle.std.proofs.lemmas.Bool.{and_parts}
+use Rattle.std.proofs.Common.{◌≡◌, ◌⊎◌, ℕ, suc, ◌+◌, ◌<◌, ◌≤◌, Bool, true, false, ◌&&◌, ◌||◌, List, [], ◌∷◌, length, get_or, Option, Some, None, refl, sym, ap, ◌∙◌, inl, inr, arith}
+use Rattle.std.specs.Prelude.{slice_get, codes}
+use Rattle.std.specs.Str.{bytes_eq}
+use Rattle.std.specs.Cmp.Lexicographic.{bytes_decides}
+use Rattle.std.proofs.lemmas.Bool.{and_parts, eqb-true, cases_eq}
 use Rattle.std.proofs.lemmas.Option.{slice_get-get_or, slice_get_within, same_Some}
 use Rattle.ir_lexer.specs.declared.token.Kind.{Kind}
 use Rattle.ir_lexer.specs.declared.token.Kind.TheVariants as kind
 use Rattle.ir_lexer.specs.Lexeme.{Lexeme}
 use Rattle.ir_items.specs.Marks.{mark_in, mark_of, marks, marks_after, IsBalanced}
-use Rattle.ir_items.specs.Items.{passes, token_passes, is_head_word, is_name, is_global, is_mark, is_head, is_called, begins_item, BeforeName, NoHeadBetween}
+use Rattle.ir_items.specs.Items.{passes, token_passes, is_word_of, is_word, is_head_word, is_name, is_global_kind, is_global, is_mark, is_head, is_define, is_called, is_first_on_line, begins_item, has_bad_layout, is_wrong_layout, OtherGoesOn, NoHeadBetween}
 use Rattle.ir_items.proofs.Opening.{at_start, marks_next}
 
 kinds : (k : Kind) (text : List ℕ) → (k ≡ kind.Mark) ⊎ (mark_in k text ≡ 0)
 kinds kind.Mark text = inl refl
 kinds _ text = inr refl
 
--- the token at a place where a test passes
-pub record At (tokens : List Lexeme) (place : ℕ) : Type 0 where
-  pub token : Lexeme
-  pub here : slice_get tokens place ≡ Some token
-  pub within : place < length tokens
-  pub is : token ≡ get_or tokens place token
-
-at_token : (tokens : List Lexeme) (place : ℕ) (t : Lexeme) → slice_get tokens place ≡ Some t → At tokens place
-at_token tokens place t here =
-    let within : place < length tokens = slice_get_within tokens place t here in
-    record { token = t; here = here; within = within; is = same_Some t (get_or tokens place t) (sym here ∙ slice_get-get_or tokens place t within) }
-
-pub at_passes : (tokens : List Lexeme) (test : Lexeme → Bool) (place : ℕ) → token_passes tokens test place ≡ true → At tokens place
-at_passes tokens test place h = go (slice_get tokens place) refl h
-  where
-    go : (o : Option Lexeme) → slice_get tokens place ≡ o → passes test o ≡ true → At tokens place
-    go None here p = absurd (cc)
-    go (Some t) here p = at_token tokens place t here
-
 -- a token that is no mark leaves the brackets as they are
-pub plain_balanced : (tokens : List Lexeme) (place : ℕ) → (a : At tokens place) → mark_of a.token ≡ 0 → IsBalanced tokens place (place + 1)
-plain_balanced tokens place a plain =
-    marks_next tokens place place a.token 0 [] (Some []) (omega arith) a.within a.is (at_start tokens place) (sym plain) refl
+pub plain_balanced : (tokens : List Lexeme) (place : ℕ) (t : Lexeme) → slice_get tokens place ≡ Some t → mark_of t ≡ 0 → IsBalanced tokens place (place + 1)
+plain_balanced tokens place t here plain =
+    let within : place < length tokens = slice_get_within tokens place t here in
+    let is : t ≡ get_or tokens place t = same_Some t (get_or tokens place t) (sym here ∙ slice_get-get_or tokens place t within) in
+    marks_next tokens place place t 0 [] (Some []) (omega arith) within is (at_start tokens place) (sym plain) refl
 
 head_plain : (t : Lexeme) (equals : Bool) → (is_head_word t || is_name t && equals) ≡ true → mark_of t ≡ 0
 head_plain t equals h =
@@ -51,7 +36,106 @@ head_balanced tokens first h = go (slice_get tokens first) refl h
   where
     go : (o : Option Lexeme) → slice_get tokens first ≡ o → (passes is_head_word o || passes is_name o && token_passes tokens (is_mark 61) (first + 1)) ≡ true → IsBalanced tokens first (first + 1)
     go None here p = absurd (cc)
-    go (Some t) here p = plain_balanced tokens first (at_token tokens first t here) (head_plain t _ p)
+    go (Some t) here p = plain_balanced tokens first t here (head_plain t _ p)
 
-pub begins_name : (tokens : List Lexeme) (first : ℕ) → first < length tokens → NoHeadBetween tokens first (first + 1)
-begins_name tokens first within m lo hi bal = absurd (omega arith)
+-- the name of a define is no head, nor is the parenthesis behind it
+global_plain : (k : Kind) (text : List ℕ) → is_global_kind k ≡ true → mark_in k text ≡ 0
+global_plain kind.Global text h = refl
+global_plain _ text h = absurd (cc)
+
+global_no_word : (t : Lexeme) → is_global t ≡ true → is_head_word t ≡ false
+global_no_word t h = go t.kind refl h
+  where
+    go : (k : Kind) → t.kind ≡ k → is_global_kind k ≡ true → is_head_word t ≡ false
+    go kind.Global is e = rw is refl
+    go _ is e = absurd (cc)
+
+mark_no_head : (t : Lexeme) (mark : ℕ) → mark_of t ≡ suc mark → (is_head_word t ≡ false) × (is_name t ≡ false)
+mark_no_head t mark h =
+    elim (kinds t.kind t.text) [
+      | inl is ↦ (rw is refl, rw is refl)
+      | inr plain ↦ absurd (omega (arith, h, plain))
+    ]
+
+pub mark_begins_nothing : (tokens : List Lexeme) (place mark : ℕ) → token_passes tokens (is_mark (suc mark)) place ≡ true → begins_item tokens place ≡ false
+unfolding begins_item is_head
+mark_begins_nothing tokens place mark h = go (slice_get tokens place) refl h
+  where
+    go : (o : Option Lexeme) → slice_get tokens place ≡ o → passes (is_mark (suc mark)) o ≡ true → begins_item tokens place ≡ false
+    go None here p = absurd (cc)
+    go (Some t) here p = let e = mark_no_head t mark (eqb-true _ _ p) in rw (here, e.0, e.1) refl
+
+pub called_begins_nothing : (tokens : List Lexeme) (place : ℕ) → is_called tokens place ≡ true → begins_item tokens place ≡ false
+unfolding begins_item is_head is_called
+called_begins_nothing tokens place h = go (slice_get tokens place) refl (and_parts _ _ h)
+  where
+    and_false : (b : Bool) → ((b && false) && is_first_on_line tokens place) ≡ false
+    and_false true = refl
+    and_false false = refl
+
+    next : (o : Option Lexeme) → passes (is_mark 40) o ≡ true → passes (is_mark 61) o ≡ false
+    next None p = absurd (cc)
+    next (Some t) p = rw (eqb-true _ _ p) refl
+
+    go : (o : Option Lexeme) → slice_get tokens place ≡ o → (passes is_global o ≡ true) × (token_passes tokens (is_mark 40) (place + 1) ≡ true) → begins_item tokens place ≡ false
+    go None here p = absurd (cc)
+    go (Some t) here p = rw (here, global_no_word t p.0, next (slice_get tokens (place + 1)) p.1) (and_false (is_name t))
+
+pub called_balanced : (tokens : List Lexeme) (place : ℕ) → is_called tokens place ≡ true → IsBalanced tokens place (place + 1)
+unfolding is_called
+called_balanced tokens place h = go (slice_get tokens place) refl (and_parts _ _ h).0
+  where
+    go : (o : Option Lexeme) → slice_get tokens place ≡ o → passes is_global o ≡ true → IsBalanced tokens place (place + 1)
+    go None here p = absurd (cc)
+    go (Some t) here p = plain_balanced tokens place t here (global_plain t.kind t.text p)
+
+passes_within : (tokens : List Lexeme) (test : Lexeme → Bool) (place : ℕ) → token_passes tokens test place ≡ true → place < length tokens
+passes_within tokens test place h = go (slice_get tokens place) refl h
+  where
+    go : (o : Option Lexeme) → slice_get tokens place ≡ o → passes test o ≡ true → place < length tokens
+    go None here p = absurd (cc)
+    go (Some t) here p = slice_get_within tokens place t here
+
+pub called_opens : (tokens : List Lexeme) (place : ℕ) → is_called tokens place ≡ true → (place + 1 < length tokens) × (begins_item tokens (place + 1) ≡ false)
+unfolding is_called
+called_opens tokens place h = let p = and_parts _ _ h in (passes_within tokens (is_mark 40) (place + 1) p.1, mark_begins_nothing tokens (place + 1) 39 p.1)
+
+-- ---- the data layout
+
+word_kind : (k : Kind) (text word : List ℕ) → is_word_of k text word ≡ true → (k ≡ kind.Word) × (bytes_eq text word ≡ true)
+word_kind kind.Word text word h = (refl, h)
+word_kind _ text word h = absurd (cc)
+
+layout_word_begins_nothing : (tokens : List Lexeme) (place : ℕ) → token_passes tokens (is_word (codes "datalayout")) place ≡ true → begins_item tokens place ≡ false
+unfolding begins_item is_head
+layout_word_begins_nothing tokens place h = go (slice_get tokens place) refl h
+  where
+    go : (o : Option Lexeme) → slice_get tokens place ≡ o → passes (is_word (codes "datalayout")) o ≡ true → begins_item tokens place ≡ false
+    go None here p = absurd (cc)
+    go (Some t) here p =
+        let w = word_kind t.kind t.text (codes "datalayout") p in
+        let text : t.text ≡ codes "datalayout" = (bytes_decides t.text (codes "datalayout")).0 w.1 in
+        rw (here, w.0, text) refl
+
+pub wrong_layout_goes_on : (tokens : List Lexeme) (first : ℕ) → is_head tokens first ≡ true → is_define tokens first ≡ false → is_wrong_layout tokens first ≡ true → OtherGoesOn tokens first (first + 3)
+unfolding is_wrong_layout
+wrong_layout_goes_on tokens first head other h =
+    let p = and_parts _ _ h in
+    let q = and_parts _ _ p.0 in
+    let r = and_parts _ _ q.0 in
+    let within : first + 3 < length tokens = passes_within tokens has_bad_layout (first + 3) p.1 in
+    record {
+      head = head;
+      other = other;
+      some = omega arith;
+      within = omega arith;
+      no_head = go (layout_word_begins_nothing tokens (first + 1) r.1) (mark_begins_nothing tokens (first + 2) 60 q.1);
+      layout = λ e. omega arith;
+    }
+  where
+    go : begins_item tokens (first + 1) ≡ false → begins_item tokens (first + 2) ≡ false → NoHeadBetween tokens first (first + 3)
+    go one two m lo hi bal =
+        elim (cases_eq m (first + 1)) [
+          | inl is ↦ rw is one
+          | inr other_place ↦ let is : m ≡ first + 2 = omega arith in rw is two
+        ]

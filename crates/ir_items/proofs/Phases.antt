@@ -8,8 +8,11 @@ use Rattle.ir_items.specs.declared.fault.Why.TheVariants as why
 use Rattle.ir_items.specs.Marks.{marks, IsBalanced, has_open, IsInside, IsPiece}
 use Rattle.ir_items.specs.Items.{is_head, is_define, begins_item, is_called, is_brace, is_wrong_layout, NoHeadBetween, OtherGoesOn, IsOther, BeforeName, IsNamed, BeforeBody, HasBody, IsDefine}
 use Rattle.ir_items.specs.Stops.{GoesOn, GoesOnBeforeBody, RunsOut, StopsAt}
-use Rattle.ir_items.specs.Pieces.{PieceStopsAt}
+use Rattle.ir_items.specs.declared.fault.ItemFault.{ItemFault}
+use Rattle.ir_items.specs.declared.fault.ItemFault.TheVariants.{Stop, NoMemory}
+use Rattle.ir_items.specs.Pieces.{PieceStopsAt, PieceStops, ItemStops}
 use Rattle.ir_items.proofs.Opening.{marks_join, deeper, piece_balanced}
+use Rattle.ir_items.proofs.HeadTokens.{called_begins_nothing, called_balanced, called_opens}
 
 -- a test fails at each place of depth 0 from a place to another
 abbrev pub FailsAtDepth0 : List Lexeme → ℕ → (ℕ → Bool) → ℕ → ℕ → Type 0
@@ -123,3 +126,64 @@ in_body_stops tokens defines first name body place reason h bl (PieceStopsAt.bra
 in_body_stops tokens defines first name body place reason h bl (PieceStopsAt.text_ends is inside) =
     subst (λ (p : ℕ). StopsAt tokens defines first p why.TextEnds) (sym is)
     (StopsAt.text_ends (RunsOut.define h.before.named.before.word (GoesOn.in_body h (omega arith) (subst (λ (p : ℕ). IsInside tokens body p) is inside))))
+
+-- ---- the faults of pieces are those of their items
+
+other_stops : (tokens : List Lexeme) (defines : List Define) (first k place : ℕ) (reason : Why) → IsBalanced tokens first k → begins_item tokens k ≡ false → is_wrong_layout tokens first ≡ false → OtherGoesOn tokens first k
+    → k < length tokens → PieceStopsAt tokens k place reason → StopsAt tokens defines first place reason
+other_stops tokens defines first k place reason balanced here right h kl (PieceStopsAt.bracket kp inside pl none) =
+    StopsAt.bracket (GoesOn.other (other_to tokens first k place balanced here kp (omega arith) (λ e. absurd (both right e)) (to_place tokens k place inside) h)) pl
+    (marks_join tokens first k (place + 1) (omega (arith, h.some)) (omega arith) balanced ∙ none)
+  where
+    both : {b : Bool} → b ≡ false → b ≡ true → ⊥
+    both f t = let bad : false ≡ true = sym f ∙ t in cc
+other_stops tokens defines first k place reason balanced here right h kl (PieceStopsAt.text_ends is inside) =
+    subst (λ (p : ℕ). StopsAt tokens defines first p why.TextEnds) (sym is)
+    (StopsAt.text_ends (RunsOut.other (other_to tokens first k (length tokens) balanced here (omega arith) (omega arith) (λ e. absurd (both right e)) (λ m lo hi. inside m lo (omega arith)) h)
+    (ap has_open (marks_join tokens first k (length tokens) (omega (arith, h.some)) (omega arith) balanced) ∙ inside (length tokens) kl (omega arith))))
+  where
+    both : {b : Bool} → b ≡ false → b ≡ true → ⊥
+    both f t = let bad : false ≡ true = sym f ∙ t in cc
+
+pub other_fault : (tokens : List Lexeme) (defines : List Define) (first k : ℕ) (fault : ItemFault) → IsBalanced tokens first k → begins_item tokens k ≡ false → is_wrong_layout tokens first ≡ false → OtherGoesOn tokens first k
+    → k < length tokens → PieceStops tokens k fault → ItemStops tokens defines first fault
+other_fault tokens defines first k NoMemory balanced here right h kl stops = tt
+other_fault tokens defines first k (Stop place reason) balanced here right h kl stops = other_stops tokens defines first k place reason balanced here right h kl stops
+
+pub name_fault : (tokens : List Lexeme) (defines : List Define) (first k : ℕ) (fault : ItemFault) → IsBalanced tokens first k → begins_item tokens k ≡ false → is_called tokens k ≡ false → BeforeName tokens first k
+    → k < length tokens → PieceStops tokens k fault → ItemStops tokens defines first fault
+name_fault tokens defines first k NoMemory balanced here uncalled h kl stops = tt
+name_fault tokens defines first k (Stop place reason) balanced here uncalled h kl stops = name_stops tokens defines first k place reason balanced here uncalled h kl stops
+
+pub body_fault : (tokens : List Lexeme) (defines : List Define) (first name k : ℕ) (fault : ItemFault) → IsBalanced tokens first k → begins_item tokens k ≡ false → is_brace tokens k ≡ false → BeforeBody tokens first name k
+    → k < length tokens → PieceStops tokens k fault → ItemStops tokens defines first fault
+body_fault tokens defines first name k NoMemory balanced here no_brace h kl stops = tt
+body_fault tokens defines first name k (Stop place reason) balanced here no_brace h kl stops = body_stops tokens defines first name k place reason balanced here no_brace h kl stops
+
+pub parameters_balanced : (tokens : List Lexeme) (first name : ℕ) → IsNamed tokens first name → IsBalanced tokens first (name + 1)
+parameters_balanced tokens first name named = marks_join tokens first name (name + 1) (omega (arith, named.before.some)) (omega arith) named.balanced ∙ called_balanced tokens name named.called
+
+pub parameters_fault : (tokens : List Lexeme) (defines : List Define) (first name : ℕ) (fault : ItemFault) → IsNamed tokens first name → PieceStops tokens (name + 1) fault → ItemStops tokens defines first fault
+parameters_fault tokens defines first name NoMemory named stops = tt
+parameters_fault tokens defines first name (Stop place reason) named stops =
+    parameters_stop tokens defines first name place reason named (parameters_balanced tokens first name named) (called_opens tokens name named.called).0 stops
+
+pub behind_parameters : (tokens : List Lexeme) (first name e : ℕ) → IsNamed tokens first name → IsPiece tokens (name + 1) e → BeforeBody tokens first name e
+behind_parameters tokens first name e named piece = record {
+  named = named;
+  end = e;
+  parameters = piece;
+  behind = omega arith;
+  within = piece.within;
+  no_head = no_head_to tokens first (name + 1) e (omega (arith, named.before.some)) (parameters_balanced tokens first name named)
+      (no_head_to tokens first name (name + 1) named.before.some named.balanced named.before.no_head (called_begins_nothing tokens name named.called) (λ m lo hi. absurd (omega arith)))
+      (called_opens tokens name named.called).1 (to_piece_end tokens (name + 1) e piece);
+  no_brace = λ m lo hi bal. absurd (omega arith);
+}
+
+pub parameters_end_balanced : (tokens : List Lexeme) (first name e : ℕ) → IsNamed tokens first name → IsPiece tokens (name + 1) e → IsBalanced tokens first e
+parameters_end_balanced tokens first name e named piece = piece_balanced tokens first (name + 1) e (omega (arith, named.before.some)) (parameters_balanced tokens first name named) piece
+
+pub in_body_fault : (tokens : List Lexeme) (defines : List Define) (first name body : ℕ) (fault : ItemFault) → HasBody tokens first name body → body < length tokens → PieceStops tokens body fault → ItemStops tokens defines first fault
+in_body_fault tokens defines first name body NoMemory h bl stops = tt
+in_body_fault tokens defines first name body (Stop place reason) h bl stops = in_body_stops tokens defines first name body place reason h bl stops

@@ -13,7 +13,7 @@ mod layout;
 mod marks;
 mod names;
 
-pub use cut::{name_place, other_end};
+pub use cut::{define_end, name_place, other_end};
 pub use fault::{ItemFault, Why};
 pub use item::Define;
 pub use heads::{begins_item, is_brace, is_called, is_define, is_head, is_wrong_layout};
