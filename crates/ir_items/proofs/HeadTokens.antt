@@ -1,15 +1,19 @@
 -- Heads and names are no brackets.
-use Rattle.std.proofs.Common.{◌≡◌, ◌⊎◌, ℕ, suc, ◌+◌, ◌<◌, ◌≤◌, Bool, true, false, ◌&&◌, ◌||◌, List, [], ◌∷◌, length, get_or, Option, Some, None, refl, sym, ap, ◌∙◌, inl, inr, arith}
-use Rattle.std.specs.Prelude.{slice_get, codes}
+use Rattle.std.proofs.Common.{◌≡◌, ◌⊎◌, ℕ, suc, ◌+◌, ◌<◌, ◌≤◌, Bool, true, false, cond, ◌&&◌, ◌||◌, List, [], ◌∷◌, length, get_or, Option, Some, None, refl, sym, ap, ◌∙◌, inl, inr, arith}
+use Rattle.std.specs.Prelude.{slice_get, codes, position, is_some, nat_lt}
+use Rattle.std.specs.List.{list_any, position_or_len}
 use Rattle.std.specs.Str.{bytes_eq}
 use Rattle.std.specs.Cmp.Lexicographic.{bytes_decides}
-use Rattle.std.proofs.lemmas.Bool.{and_parts, eqb-true, cases_eq}
-use Rattle.std.proofs.lemmas.Option.{slice_get-get_or, slice_get_within, same_Some}
+use Rattle.std.proofs.lemmas.Bool.{and_parts, eqb-true, cases_eq, cases_Bool, cases_lt, lt-ltb, le-ltb}
+use Rattle.std.proofs.lemmas.Option.{slice_get-get_or, slice_get_within, slice_get_read, same_Some}
 use Rattle.ir_lexer.specs.declared.token.Kind.{Kind}
 use Rattle.ir_lexer.specs.declared.token.Kind.TheVariants as kind
 use Rattle.ir_lexer.specs.Lexeme.{Lexeme}
 use Rattle.ir_items.specs.Marks.{mark_in, mark_of, marks, marks_after, IsBalanced}
-use Rattle.ir_items.specs.Items.{passes, token_passes, is_word_of, is_word, is_head_word, is_name, is_global_kind, is_global, is_mark, is_head, is_define, is_called, is_first_on_line, begins_item, has_bad_layout, is_wrong_layout, OtherGoesOn, NoHeadBetween}
+use Rattle.ir_items.specs.Items.{passes, token_passes, is_word_of, is_word, is_head_word, is_name, is_global_kind, is_global, is_mark, is_head, is_define, is_called, is_first_on_line, begins_item, has_bad_layout, is_wrong_layout, OtherGoesOn, NoHeadBetween, name_from, name_at}
+use Rattle.ir_tree.specs.declared.name.Name.{Name}
+use Rattle.ir_items.specs.Names.{name_in}
+use Rattle.ir_items.proofs.Passing.{passes_at}
 use Rattle.ir_items.proofs.Opening.{at_start, marks_next}
 
 kinds : (k : Kind) (text : List ℕ) → (k ≡ kind.Mark) ⊎ (mark_in k text ≡ 0)
@@ -139,3 +143,35 @@ wrong_layout_goes_on tokens first head other h =
           | inl is ↦ rw is one
           | inr other_place ↦ let is : m ≡ first + 2 = omega arith in rw is two
         ]
+
+-- ---- names
+
+pub called_global : (tokens : List Lexeme) (place : ℕ) (t : Lexeme) → is_called tokens place ≡ true → place < length tokens → t ≡ get_or tokens place t → is_global t ≡ true
+unfolding is_called
+called_global tokens place t h within is = sym (passes_at tokens is_global place t within is) ∙ (and_parts _ _ h).0
+
+pub name_at_token : (tokens : List Lexeme) (place : ℕ) (t : Lexeme) → place < length tokens → t ≡ get_or tokens place t → name_at tokens place ≡ name_in t.kind t.text
+unfolding name_at
+name_at_token tokens place t within is = ap name_from (slice_get_read tokens (length tokens) place t refl within is)
+
+any_position : (p : Name → Bool) (xs : List Name) → nat_lt (position_or_len p xs) (length xs) ≡ list_any p xs
+any_position p [] = refl
+any_position p (x ∷ xs) =
+    elim (cases_Bool (p x)) [
+      | inl t ↦ rw t (lt-ltb 0 (suc (length xs)) (omega arith))
+      | inr other ↦ rw other (later (position_or_len p xs) (length xs) ∙ any_position p xs)
+    ]
+  where
+    later : (a n : ℕ) → nat_lt (1 + a) (suc n) ≡ nat_lt a n
+    later a n =
+        elim (cases_lt a n) [
+          | inl lt ↦ lt-ltb (1 + a) (suc n) (omega arith) ∙ sym (lt-ltb a n lt)
+          | inr ge ↦ le-ltb (1 + a) (suc n) (omega arith) ∙ sym (le-ltb a n ge)
+        ]
+
+pub found_some : (p : Name → Bool) (xs : List Name) → is_some (position p xs) ≡ list_any p xs
+found_some p xs = some_if (nat_lt (position_or_len p xs) (length xs)) ∙ any_position p xs
+  where
+    some_if : (b : Bool) → is_some (cond b (Some (position_or_len p xs)) None) ≡ b
+    some_if true = refl
+    some_if false = refl

@@ -19,29 +19,29 @@ pub marks_more : (tokens : List Lexeme) (from place : ℕ) (t : Lexeme) → from
 unfolding marks
 marks_more tokens from place t le lt is =
     ap marks_behind (between_more tokens from place t le lt)
-      ∙ ap (λ (x : Lexeme). marks_behind (slice_range tokens from place ++ x ∷ [])) (sym is)
-      ∙ fold_push (λ (open_marks : Option (List ℕ)) (u : Lexeme). marks_after open_marks (mark_of u)) (Some []) (slice_range tokens from place) t
+    ∙ ap (λ (x : Lexeme). marks_behind (slice_range tokens from place ++ x ∷ [])) (sym is)
+    ∙ fold_push (λ (open_marks : Option (List ℕ)) (u : Lexeme). marks_after open_marks (mark_of u)) (Some []) (slice_range tokens from place) t
 
 take_split : (n m : ℕ) (xs : List Lexeme) → take (n + m) xs ≡ take n xs ++ take m (drop n xs)
 take_split n m xs =
     sym (take-append-drop n (take (n + m) xs))
-      ∙ ap (λ (ys : List Lexeme). ys ++ drop n (take (n + m) xs)) (take-take n (n + m) xs (omega arith))
-      ∙ ap (λ (ys : List Lexeme). take n xs ++ ys) (drop-take n m xs)
+    ∙ ap (λ (ys : List Lexeme). ys ++ drop n (take (n + m) xs)) (take-take n (n + m) xs (omega arith))
+    ∙ ap (λ (ys : List Lexeme). take n xs ++ ys) (drop-take n m xs)
 
 split_range : (tokens : List Lexeme) (i k m : ℕ) → i ≤ k → k ≤ m → slice_range tokens i m ≡ slice_range tokens i k ++ slice_range tokens k m
 split_range tokens i k m ik km =
     let n : m - i ≡ (k - i) + (m - k) = omega arith in
     let d : i + (k - i) ≡ k = omega arith in
     ap (λ (j : ℕ). take j (drop i tokens)) n ∙ take_split (k - i) (m - k) (drop i tokens)
-      ∙ ap (λ (xs : List Lexeme). slice_range tokens i k ++ take (m - k) xs) (drop-drop (k - i) i tokens ∙ ap (λ (j : ℕ). drop j tokens) d)
+    ∙ ap (λ (xs : List Lexeme). slice_range tokens i k ++ take (m - k) xs) (drop-drop (k - i) i tokens ∙ ap (λ (j : ℕ). drop j tokens) d)
 
 -- what is open, counted from a place at depth 0
 pub marks_join : (tokens : List Lexeme) (i k m : ℕ) → i ≤ k → k ≤ m → IsBalanced tokens i k → marks tokens i m ≡ marks tokens k m
 unfolding marks
 marks_join tokens i k m ik km balanced =
     ap marks_behind (split_range tokens i k m ik km)
-      ∙ fold-append (λ (open_marks : Option (List ℕ)) (u : Lexeme). marks_after open_marks (mark_of u)) (Some []) (slice_range tokens i k) (slice_range tokens k m)
-      ∙ ap (λ (start : Option (List ℕ)). marks_from start (slice_range tokens k m)) balanced
+    ∙ fold-append (λ (open_marks : Option (List ℕ)) (u : Lexeme). marks_after open_marks (mark_of u)) (Some []) (slice_range tokens i k) (slice_range tokens k m)
+    ∙ ap (λ (start : Option (List ℕ)). marks_from start (slice_range tokens k m)) balanced
 
 not_balanced : (o : Option (List ℕ)) → has_open o ≡ true → o ≡ Some [] → ⊥
 not_balanced o h e = let bad : false ≡ true = (rw e at h) in cc

@@ -217,4 +217,4 @@ pub data IsCut (tokens : List Lexeme) : ℕ → List Define → Type 0 where
   nothing : IsCut tokens 0 []
   other : {first end : ℕ} {defines : List Define} → IsCut tokens first defines → IsOther tokens first end → IsCut tokens end defines
   define : {first place end : ℕ} {name : Name} {defines : List Define} → IsCut tokens first defines → IsDefine tokens first place end → name_at tokens place ≡ Some name
-    → has_name defines name ≡ false → length defines < 4096 → IsCut tokens end (defines ++ record { name = name; first = first; last = end - 1 } ∷ [])
+      → has_name defines name ≡ false → length defines < 4096 → IsCut tokens end (defines ++ record { name = name; first = first; last = end - 1 } ∷ [])

@@ -96,7 +96,8 @@ pub fn is_head(tokens: &[Token<'_>], place: usize) -> bool
     requires { place < length tokens.now }
     ensures { result ≡ spec.is_head tokens.now place }
 {
-    is_head_word_at(tokens, place) || is_name_at(tokens, place) && is_mark_at(tokens, place + 1, b'=')
+    is_head_word_at(tokens, place)
+        || is_name_at(tokens, place) && is_mark_at(tokens, place + 1, b'=')
 }
 
 /// Whether the word `define` stands here.

@@ -1,11 +1,11 @@
 //! The items of a text of LLVM IR, from its tokens.
 //!
-//! It promises that `cut` answers the functions with a body, where the text is items one after
+//! It promises that [`cut`] answers the functions with a body, where the text is items one after
 //! another, or the first token at which it stops being that, and why. It stands on `ir_lexer` and
 //! `ir_tree`; the reader takes the items.
 #![tactic(auto)]
 
-mod cut;
+mod cutting;
 mod fault;
 mod heads;
 mod item;
@@ -13,9 +13,7 @@ mod layout;
 mod marks;
 mod names;
 
-pub use cut::{define_end, name_place, other_end};
+pub use cutting::{MOST_FUNCTIONS, cut};
 pub use fault::{ItemFault, Why};
 pub use item::Define;
-pub use heads::{begins_item, is_brace, is_called, is_define, is_head, is_wrong_layout};
-pub use marks::piece_end;
 pub use names::name_of;

@@ -59,8 +59,7 @@ fn first_meant(text: &[u8]) -> (u8, &[u8])
     match text {
         [b'\\', b'\\', rest @ ..] => (b'\\', rest),
         [b'\\', high, low, rest @ ..]
-            if is_hexadecimal_digit(*high) && is_hexadecimal_digit(*low) =>
-        {
+            if is_hexadecimal_digit(*high) && is_hexadecimal_digit(*low) => {
             (
                 16 * hexadecimal_value(*high) + hexadecimal_value(*low),
                 rest,
@@ -122,7 +121,8 @@ fn spelled_name(alloc: Global, text: &[u8]) -> Result<Name, NoMemory>
     }
 }
 
-fn name_behind_sign(alloc: Global, text: &[u8]) -> Result<Name, NoMemory>
+/// The name behind a token's sign.
+pub fn name_behind_sign(alloc: Global, text: &[u8]) -> Result<Name, NoMemory>
     ensures { IfOk result (λ name. name ≡ spec.name_of (drop 1 text.now)) }
 {
     match text {

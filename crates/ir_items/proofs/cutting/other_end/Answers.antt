@@ -5,7 +5,7 @@ use Rattle.ir_items.specs.Stops.{StopsAt}
 use Rattle.ir_items.proofs.Opening.{piece_balanced}
 use Rattle.ir_items.proofs.HeadTokens.{head_balanced, wrong_layout_goes_on}
 use Rattle.ir_items.proofs.Phases.{other_piece, other_fault}
-use Rattle.ir_items.proofs.cut.other_end.Goals as goal
+use Rattle.ir_items.proofs.cutting.other_end.Goals as goal
 
 pub returns-then-is_wrong_layout-clause-stops : goal.returns-then-is_wrong_layout-clause-stops
 returns-then-is_wrong_layout-clause-stops c =

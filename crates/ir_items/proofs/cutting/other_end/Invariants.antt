@@ -1,11 +1,11 @@
 use Rattle.std.proofs.Common.{◌-◌, length}
 use Rattle.ir_items.specs.Marks.{IsBalanced}
-use Rattle.ir_items.specs.Items.{BeforeName}
-use Rattle.ir_items.proofs.cut.name_place.Given as goal
+use Rattle.ir_items.specs.Items.{OtherGoesOn}
+use Rattle.ir_items.proofs.cutting.other_end.Given as goal
 
 abbrev pub invariant-loop-place : goal.invariant-loop-place
 invariant-loop-place l = record {
-  goes_on : BeforeName l.tokens l.first l.place;
+  goes_on : OtherGoesOn l.tokens l.first l.place;
   balanced : IsBalanced l.tokens l.first l.place;
 }
 

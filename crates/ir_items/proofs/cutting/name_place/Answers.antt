@@ -5,7 +5,7 @@ use Rattle.ir_items.specs.Stops.{GoesOn, GoesOnBeforeBody, RunsOut, StopsAt}
 use Rattle.ir_items.proofs.Opening.{piece_balanced}
 use Rattle.ir_items.proofs.HeadTokens.{head_balanced}
 use Rattle.ir_items.proofs.Phases.{name_piece, name_fault}
-use Rattle.ir_items.proofs.cut.name_place.Goals as goal
+use Rattle.ir_items.proofs.cutting.name_place.Goals as goal
 
 pub loop-place-init : goal.loop-place-init
 loop-place-init c = record {
