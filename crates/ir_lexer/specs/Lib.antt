@@ -1,6 +1,7 @@
 pub mod Bytes
-pub mod Lexeme
+pub mod Parts
 pub mod Spelling
+pub mod Lexeme
 pub mod Tokens
 pub mod Answer
 pub mod Scan

@@ -1,193 +1,276 @@
-// Classes of bytes, and the token at the front of a text.
-ghost use Rattle.std.specs.Prelude.{◌≡◌, ◌≤◌, ℕ, length, take_while, Option, Bool, false, ◌<◌, ◌^◌, IfSome};
-ghost use Rattle.ir_lexer.specs.Bytes.{is_digit, is_letter, begins_word, is_name_byte, is_blank, is_mark};
-ghost use Rattle.ir_lexer.specs.Spelling.{word_kind};
-ghost use Rattle.ir_lexer.specs.Scan.{begins_colon, front_token, front_word, label_front, name_front, plain_token, signed};
-ghost use Rattle.ir_lexer.specs.Tokens.{behind_blanks, longest_token};
+// The token at the front of a text. Each class has a function that says what stands behind its
+// longest front; the longest of them all is the token. Each looks at the bytes that it takes and at
+// no more than two behind them, but for a label, which needs the end of its run of name bytes: that
+// is handed in, so that the tokens of one run don't each look for it again.
+ghost use Rattle.std.specs.Prelude.{◌≡◌, ◌≤◌, ◌==◌, ◌<◌, ℕ, length, Option, IfSome};
+ghost use Rattle.std.specs.Option.{option_copied, ForSome};
+ghost use Rattle.ir_lexer.specs.Bytes.{is_digit, is_sign, is_float_kind, is_hexadecimal_digit, is_mark_byte};
+ghost use Rattle.ir_lexer.specs.Parts.{behind_one};
+ghost use Rattle.ir_lexer.specs.Scan as scan;
+ghost use Rattle.ir_lexer.specs.Tokens.{longest_token};
 
+use crate::bytes;
+use crate::parts::{
+    after_byte, after_digits, after_sign, behind_hexadecimal_digits, behind_name_bytes,
+    behind_quoted_bytes, shorter,
+};
 use crate::token::Kind;
 
-fn is_blank_byte(b: u8) -> bool
-    ensures { result ≡ is_blank b }
+#[tactic(auto, unfolding(crate::specs::Scan::after_dots))]
+fn after_dots(text: &[u8]) -> Option<&[u8]>
+    ensures value { option_copied result ≡ scan.after_dots text.now }
+    ensures within { IfSome result (λ rest. length rest.now ≤ length text.now) }
 {
-    b == b' ' || b == b'\t' || b == b'\n' || b == b'\r'
+    after_byte(b'.', after_byte(b'.', after_byte(b'.', text)?)?)
 }
 
-/// What stands behind the blanks and comments at the front.
-pub fn skip_blanks(bytes: &[u8]) -> &[u8]
-    ensures value { result.now ≡ behind_blanks false bytes.now }
-    ensures within { length result.now ≤ length bytes.now }
+fn after_mark_byte(text: &[u8]) -> Option<&[u8]>
+    ensures value { option_copied result ≡ scan.after_one is_mark_byte text.now }
+    ensures within { IfSome result (λ rest. length rest.now ≤ length text.now) }
 {
-    let mut rest = bytes;
-    let mut inside = false;
-    while let [first, after @ ..] = rest {
-        let first = *first;
-        if inside {
-            inside = first != b'\n';
-        } else if first == b';' {
-            inside = true;
-        } else if !is_blank_byte(first) {
-            break;
-        }
-        rest = after;
-    }
-    rest
-}
-
-fn is_digit_byte(b: u8) -> bool
-    ensures { result ≡ is_digit b }
-{
-    48 <= b && b <= 57
-}
-
-fn begins_word_byte(b: u8) -> bool
-    ensures { result ≡ begins_word b }
-{
-    65 <= b && b <= 90 || 97 <= b && b <= 122 || b == b'_' || b == b'.'
-}
-
-fn is_name_char(b: u8) -> bool
-    ensures { result ≡ is_name_byte b }
-{
-    begins_word_byte(b) || is_digit_byte(b) || b == b'-' || b == b'$'
-}
-
-fn is_mark_byte(b: u8) -> bool
-    ensures { result ≡ is_mark b }
-{
-    b == b'('
-        || b == b')'
-        || b == b'['
-        || b == b']'
-        || b == b'{'
-        || b == b'}'
-        || b == b'<'
-        || b == b'>'
-        || b == b','
-        || b == b'='
-        || b == b'*'
-        || b == b':'
-        || b == b'!'
-        || b == b'|'
-}
-
-fn digits_len(bytes: &[u8]) -> usize
-    ensures value { result ≡ length (take_while is_digit bytes.now) }
-    ensures within { result ≤ length bytes.now }
-{
-    bytes.iter().take_while(|b| is_digit_byte(**b)).count()
-}
-
-fn name_bytes_len(bytes: &[u8]) -> usize
-    ensures value { result ≡ length (take_while is_name_byte bytes.now) }
-    ensures within { result ≤ length bytes.now }
-{
-    bytes.iter().take_while(|b| is_name_char(**b)).count()
-}
-
-/// The length of the name at the front, 0 where there is none.
-fn name_len(bytes: &[u8]) -> usize
-    ensures value { result ≡ length (name_front bytes.now) }
-    ensures within { result ≤ length bytes.now }
-{
-    match bytes {
-        [first, ..] if is_digit_byte(*first) => digits_len(bytes),
-        _ => name_bytes_len(bytes),
+    match text {
+        [first, rest @ ..] if bytes::is_mark_byte(*first) => Some(rest),
+        _ => None,
     }
 }
 
-fn begins_colon(bytes: &[u8]) -> bool
-    ensures { result ≡ begins_colon bytes.now }
+#[tactic(auto, unfolding(crate::specs::Scan::after_mark))]
+fn after_mark(text: &[u8]) -> Option<&[u8]>
+    ensures value { option_copied result ≡ scan.after_mark text.now }
+    ensures within { IfSome result (λ rest. length rest.now ≤ length text.now) }
 {
-    match bytes {
-        [first, ..] => *first == b':',
-        [] => false,
+    shorter(after_mark_byte(text), after_dots(text))
+}
+
+#[tactic(auto, unfolding(crate::specs::Scan::after_word))]
+fn after_word(text: &[u8]) -> Option<&[u8]>
+    ensures value { option_copied result ≡ scan.after_word text.now }
+    ensures within { IfSome result (λ rest. length rest.now ≤ length text.now) }
+{
+    match text {
+        [first, rest @ ..] if bytes::begins_word(*first) => Some(behind_name_bytes(rest)),
+        _ => None,
     }
 }
 
-// The length of the label at the front, if there is one.
-fn label_len(bytes: &[u8]) -> Option<usize>
-    ensures { result ≡ label_front bytes.now }
+#[tactic(auto, unfolding(crate::specs::Scan::after_number))]
+fn after_number(text: &[u8]) -> Option<&[u8]>
+    ensures value { option_copied result ≡ scan.after_number text.now }
+    ensures within { IfSome result (λ rest. length rest.now ≤ length text.now) }
 {
-    let name = name_bytes_len(bytes);
-    let (_, behind) = bytes.split_at(name);
-    if 0 < name && begins_colon(behind) {
-        Some(name + 1)
-    } else {
-        None
+    match text {
+        [b'-', digits @ ..] => after_digits(digits),
+        _ => after_digits(text),
     }
 }
 
-// A token of a sign and this many bytes, at least one.
-fn signed_token(kind: Kind, len: usize) -> Option<(Kind, usize)>
-    requires { len < 2 ^ 63 }
-    ensures { result ≡ signed kind len }
+#[tactic(auto, unfolding(crate::specs::Scan::after_quoted))]
+fn after_quoted(text: &[u8]) -> Option<&[u8]>
+    ensures value { option_copied result ≡ scan.after_quoted text.now }
+    ensures within { IfSome result (λ rest. length rest.now ≤ length text.now) }
 {
-    if len == 0 {
-        None
-    } else {
-        Some((kind, len + 1))
+    let inside = after_byte(b'"', text)?;
+    after_byte(b'"', behind_quoted_bytes(inside))
+}
+
+#[tactic(auto, unfolding(crate::specs::Scan::after_plain_name))]
+fn after_plain_name(text: &[u8]) -> Option<&[u8]>
+    ensures value { option_copied result ≡ scan.after_plain_name text.now }
+    ensures within { IfSome result (λ rest. length rest.now ≤ length text.now) }
+{
+    match text {
+        [first, rest @ ..] if bytes::begins_name(*first) => Some(behind_name_bytes(rest)),
+        _ => None,
     }
 }
 
-fn kind_of_word(word: &[u8]) -> Kind
-    ensures { result ≡ word_kind word.now }
+#[tactic(auto, unfolding(crate::specs::Scan::after_name))]
+fn after_name(text: &[u8]) -> Option<&[u8]>
+    ensures value { option_copied result ≡ scan.after_name text.now }
+    ensures within { IfSome result (λ rest. length rest.now ≤ length text.now) }
 {
-    if word == b"...".as_slice() {
-        Kind::Mark
-    } else {
-        Kind::Word
-    }
+    shorter(
+        shorter(after_digits(text), after_plain_name(text)),
+        after_quoted(text),
+    )
 }
 
-// A word of a byte and this many more.
-fn word_token(bytes: &[u8], more: usize) -> (Kind, usize)
-    requires { more < length bytes.now }
-    ensures { Some result ≡ front_word bytes.now more }
+#[tactic(auto, unfolding(crate::specs::Scan::after_named))]
+fn after_named(sign: u8, text: &[u8]) -> Option<&[u8]>
+    ensures value { option_copied result ≡ scan.after_named sign text.now }
+    ensures within { IfSome result (λ rest. length rest.now ≤ length text.now) }
 {
-    let (word, _) = bytes.split_at(more + 1);
-    (kind_of_word(word), more + 1)
+    after_name(after_byte(sign, text)?)
 }
 
-// The token at the front where no label stands there.
-#[tactic(auto, unfolding(crate::specs::Scan::plain_token))]
-fn plain_token(bytes: &[u8]) -> Option<(Kind, usize)>
-    ensures { result ≡ plain_token bytes.now }
+#[tactic(auto, unfolding(crate::specs::Scan::after_tagged))]
+fn after_tagged(sign: u8, text: &[u8]) -> Option<&[u8]>
+    ensures value { option_copied result ≡ scan.after_tagged sign text.now }
+    ensures within { IfSome result (λ rest. length rest.now ≤ length text.now) }
 {
-    let [first, rest @ ..] = bytes else {
+    let rest = after_byte(sign, text)?;
+    shorter(after_word(rest), after_number(rest))
+}
+
+#[tactic(auto, unfolding(crate::specs::Scan::after_caret))]
+fn after_caret(text: &[u8]) -> Option<&[u8]>
+    ensures value { option_copied result ≡ scan.after_caret text.now }
+    ensures within { IfSome result (λ rest. length rest.now ≤ length text.now) }
+{
+    after_number(after_byte(b'^', text)?)
+}
+
+// The run is that of the name bytes at the front.
+#[tactic(auto, unfolding(crate::specs::Scan::after_plain_label), using(crate::proofs::Behind::runs))]
+fn after_plain_label(text: &[u8], run: usize) -> Option<&[u8]>
+    requires { run ≡ scan.name_run text.now }
+    ensures value { option_copied result ≡ scan.after_plain_label text.now }
+    ensures within { IfSome result (λ rest. length rest.now ≤ length text.now) }
+{
+    if run == 0 {
         return None;
+    }
+    after_byte(b':', text.split_at(run).1)
+}
+
+#[tactic(auto, unfolding(crate::specs::Scan::after_quoted_label))]
+fn after_quoted_label(text: &[u8]) -> Option<&[u8]>
+    ensures value { option_copied result ≡ scan.after_quoted_label text.now }
+    ensures within { IfSome result (λ rest. length rest.now ≤ length text.now) }
+{
+    after_byte(b':', after_quoted(text)?)
+}
+
+#[tactic(auto, unfolding(crate::specs::Scan::after_label))]
+fn after_label(text: &[u8], run: usize) -> Option<&[u8]>
+    requires { run ≡ scan.name_run text.now }
+    ensures value { option_copied result ≡ scan.after_label text.now }
+    ensures within { IfSome result (λ rest. length rest.now ≤ length text.now) }
+{
+    shorter(after_plain_label(text, run), after_quoted_label(text))
+}
+
+#[tactic(auto, unfolding(crate::specs::Scan::after_exponent))]
+fn after_exponent(text: &[u8]) -> Option<&[u8]>
+    ensures value { option_copied result ≡ scan.after_exponent text.now }
+    ensures within { IfSome result (λ rest. length rest.now ≤ length text.now) }
+{
+    after_digits(after_sign(after_byte(b'e', text)?)?)
+}
+
+fn behind_sign(text: &[u8]) -> &[u8]
+    ensures value { result.now ≡ behind_one is_sign text.now }
+    ensures within { length result.now ≤ length text.now }
+{
+    match text {
+        [first, rest @ ..] if bytes::is_sign(*first) => rest,
+        _ => text,
+    }
+}
+
+#[tactic(auto, unfolding(crate::specs::Scan::after_float))]
+fn after_float(text: &[u8]) -> Option<&[u8]>
+    ensures value { option_copied result ≡ scan.after_float text.now }
+    ensures within { IfSome result (λ rest. length rest.now ≤ length text.now) }
+{
+    let whole = after_digits(behind_sign(text))?;
+    let fraction = after_digits(after_byte(b'.', whole)?)?;
+    Some(after_exponent(fraction).unwrap_or(fraction))
+}
+
+fn behind_float_kind(text: &[u8]) -> &[u8]
+    ensures value { result.now ≡ behind_one is_float_kind text.now }
+    ensures within { length result.now ≤ length text.now }
+{
+    match text {
+        [first, rest @ ..] if bytes::is_float_kind(*first) => rest,
+        _ => text,
+    }
+}
+
+fn after_hexadecimal_digits(text: &[u8]) -> Option<&[u8]>
+    ensures value { option_copied result ≡ scan.after_some is_hexadecimal_digit text.now }
+    ensures within { IfSome result (λ rest. length rest.now ≤ length text.now) }
+{
+    match text {
+        [first, rest @ ..] if bytes::is_hexadecimal_digit(*first) => {
+            Some(behind_hexadecimal_digits(rest))
+        }
+        _ => None,
+    }
+}
+
+#[tactic(auto, unfolding(crate::specs::Scan::after_hexadecimal))]
+fn after_hexadecimal(text: &[u8]) -> Option<&[u8]>
+    ensures value { option_copied result ≡ scan.after_hexadecimal text.now }
+    ensures within { IfSome result (λ rest. length rest.now ≤ length text.now) }
+{
+    let digits = after_byte(b'x', after_byte(b'0', text)?)?;
+    after_hexadecimal_digits(behind_float_kind(digits))
+}
+
+#[tactic(auto, unfolding(crate::specs::Scan::after_string))]
+fn after_string(text: &[u8]) -> Option<&[u8]>
+    ensures value { option_copied result ≡ scan.after_string text.now }
+    ensures within { IfSome result (λ rest. length rest.now ≤ length text.now) }
+{
+    match text {
+        [b'c', quoted @ ..] => after_quoted(quoted),
+        _ => after_quoted(text),
+    }
+}
+
+// The longer of what was found and the front of this class before a rest.
+#[tactic(auto, unfolding(crate::specs::Scan::longer))]
+fn longer(
+    found: Option<(Kind, usize)>,
+    kind: Kind,
+    text: &[u8],
+    rest: Option<&[u8]>,
+) -> Option<(Kind, usize)>
+    requires { ForSome rest (λ r. length r.now ≤ length text.now) }
+    ensures { result ≡ scan.longer (length text.now) found kind (option_copied rest.entry) }
+{
+    let Some(rest) = rest else {
+        return found;
     };
-    let first = *first;
-    if first == b'%' {
-        signed_token(Kind::Local, name_len(rest))
-    } else if first == b'@' {
-        signed_token(Kind::Global, name_len(rest))
-    } else if begins_word_byte(first) {
-        Some(word_token(bytes, name_bytes_len(rest)))
-    } else if is_digit_byte(first) {
-        Some((Kind::Number, digits_len(rest) + 1))
-    } else if first == b'-' {
-        signed_token(Kind::Number, digits_len(rest))
-    } else if is_mark_byte(first) {
-        Some((Kind::Mark, 1))
+    let len = text.len() - rest.len();
+    let longest = match found {
+        Some((_, longest)) => longest,
+        None => 0,
+    };
+    if longest < len {
+        Some((kind, len))
     } else {
-        None
+        found
     }
 }
 
-fn scanned(bytes: &[u8]) -> Option<(Kind, usize)>
-    ensures { result ≡ front_token bytes.now }
+#[tactic(auto, unfolding(crate::specs::Scan::front_token))]
+fn scanned(text: &[u8], run: usize) -> Option<(Kind, usize)>
+    requires { run ≡ scan.name_run text.now }
+    ensures { result ≡ scan.front_token text.now }
 {
-    match label_len(bytes) {
-        Some(len) => Some((Kind::Label, len)),
-        None => plain_token(bytes),
-    }
+    let found = longer(None, Kind::Mark, text, after_mark(text));
+    let found = longer(found, Kind::Word, text, after_word(text));
+    let found = longer(found, Kind::Number, text, after_number(text));
+    let found = longer(found, Kind::Local, text, after_named(b'%', text));
+    let found = longer(found, Kind::Global, text, after_named(b'@', text));
+    let found = longer(found, Kind::Comdat, text, after_named(b'$', text));
+    let found = longer(found, Kind::Metadata, text, after_tagged(b'!', text));
+    let found = longer(found, Kind::Hash, text, after_tagged(b'#', text));
+    let found = longer(found, Kind::Caret, text, after_caret(text));
+    let found = longer(found, Kind::Label, text, after_label(text, run));
+    let found = longer(found, Kind::Float, text, after_float(text));
+    let found = longer(found, Kind::Hexadecimal, text, after_hexadecimal(text));
+    longer(found, Kind::String, text, after_string(text))
 }
 
-/// The longest token at the front, and its length.
-pub fn first_token(bytes: &[u8]) -> Option<(Kind, usize)>
-    ensures value { result ≡ longest_token bytes.now }
-    ensures bounds { IfSome result (λ found. (0 < found.1) × (found.1 ≤ length bytes.now)) }
+/// The longest token at the front, and its length. The run is that of the name bytes at the front.
+pub fn first_token(text: &[u8], run: usize) -> Option<(Kind, usize)>
+    requires { run ≡ scan.name_run text.now }
+    ensures value { result ≡ longest_token text.now }
+    ensures bounds { IfSome result (λ found. (0 < found.1) × (found.1 ≤ length text.now)) }
 {
-    scanned(bytes)
+    scanned(text, run)
 }

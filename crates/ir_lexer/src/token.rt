@@ -1,20 +1,38 @@
 ghost use Rattle.std.specs.Prelude.{◌≡◌};
 
 use std::marker::Model;
+use text_places::Place;
 
 /// The class of a token (LLVM Language Reference, "Identifiers").
+///
+/// Name bytes are letters, digits, `-`, `$`, `.` and `_`. A quoted string is `"`, any bytes but
+/// `"`, and `"`. A name is digits, or name bytes that don't begin with a digit, or a quoted string.
 #[derive(Clone, Copy, Debug, PartialEq, Eq)]
 pub enum Kind {
-    /// A letter, `_` or `.`, and then letters, digits, `-`, `$`, `.` or `_`.
+    /// A letter, `_` or `.`, and then name bytes.
     Word,
     /// Decimal digits, behind a minus or not.
     Number,
-    /// `%` and a name: digits, or name bytes that don't begin with a digit.
+    /// `%` and a name.
     Local,
     /// `@` and a name.
     Global,
-    /// Letters, digits, `-`, `$`, `.` or `_`, one at least, and directly behind them `:`.
+    /// `$` and a name.
+    Comdat,
+    /// `!` and a word or a number.
+    Metadata,
+    /// `#` and a word or a number.
+    Hash,
+    /// `^` and a number.
+    Caret,
+    /// Name bytes, or a quoted string, and `:`.
     Label,
+    /// A sign or none, digits, `.`, digits, and maybe `e`, a sign and digits.
+    Float,
+    /// `0x`, a letter of `K L M H R` or none, and hexadecimal digits.
+    Hexadecimal,
+    /// A quoted string, behind `c` or not.
+    String,
     /// A mark of one byte, or `...`.
     Mark,
 }
@@ -26,6 +44,7 @@ pub struct Token<'a> {
     kind: Kind,
     text: &'a [u8],
     at: usize,
+    place: Place,
 }
 
 impl<'a> Model for Token<'a> {
@@ -33,17 +52,23 @@ impl<'a> Model for Token<'a> {
 
     ghost Value = { Lexeme };
 
-    ghost view = { λ t. record { kind = t.kind; text = t.text.now; at = t.at } };
+    ghost view = { λ t. record { kind = t.kind; text = t.text.now; at = t.at; place = t.place } };
 }
 
 impl<'a> Token<'a> {
     /// The token of a class and these bytes, which begin at a place of the text.
-    pub fn new(kind: Kind, text: &'a [u8], at: usize) -> Self
+    pub fn new(kind: Kind, text: &'a [u8], at: usize, place: Place) -> Self
         ensures kind { result.kind ≡ kind }
         ensures text { result.text ≡ text.now }
         ensures at { result.at ≡ at }
+        ensures place { result.place ≡ place }
     {
-        Token { kind, text, at }
+        Token {
+            kind,
+            text,
+            at,
+            place,
+        }
     }
 
     /// Its class.
@@ -65,5 +90,12 @@ impl<'a> Token<'a> {
         ensures { result ≡ self.now.at }
     {
         self.at
+    }
+
+    /// The line and column where it begins.
+    pub fn place(&self) -> Place
+        ensures { result ≡ self.now.place }
+    {
+        self.place
     }
 }

@@ -5,7 +5,7 @@ use Rattle.ir_lexer.specs.Spelling.{is_digits}
 use Rattle.ir_lexer.specs.declared.token.Kind.{Kind}
 use Rattle.ir_lexer.specs.declared.token.Kind.TheVariants as kind
 use Rattle.ir_tree.specs.declared.name.Name.{Name}
-use Rattle.ir_tree.specs.declared.name.Name.TheVariants as name
+use Rattle.ir_items.specs.Names.{name_in}
 use Rattle.ir_tree.specs.declared.tree.Flags.{Flags}
 use Rattle.ir_tree.specs.declared.tree.Op.TheVariants as op
 use Rattle.ir_tree.specs.declared.tree.Predicate.{Predicate}
@@ -29,31 +29,13 @@ is_mark_of _ text mark = false
 
 -- ---- names
 
--- digits without the zeros before them; the last one stays
-abbrev pub without_zeros : List ℕ → List ℕ
-without_zeros [] = []
-without_zeros (d ∷ ds) = (if d == 48 && nat_lt 0 (length ds) then without_zeros ds else d ∷ ds)
-
--- a name behind its sign: a number goes by its value
-abbrev pub name_of : List ℕ → Name
-name_of text = (if is_digits text then name.Number (without_zeros text) else name.Word text)
-
-abbrev pub behind_sign : List ℕ → Option Name
-behind_sign [] = None
-behind_sign (sign ∷ text) = Some (name_of text)
-
 abbrev pub local_of : Kind → List ℕ → Option Name
-local_of kind.Local text = behind_sign text
+local_of kind.Local text = name_in kind.Local text
 local_of _ text = None
 
 abbrev pub global_of : Kind → List ℕ → Option Name
-global_of kind.Global text = behind_sign text
+global_of kind.Global text = name_in kind.Global text
 global_of _ text = None
-
--- the name before a label's colon
-abbrev pub before_colon : List ℕ → Option Name
-before_colon [] = None
-before_colon (b ∷ bs) = Some (name_of (take (length bs) (b ∷ bs)))
 
 -- ---- types: i and digits, which give the number of bits
 
@@ -80,7 +62,7 @@ word_operand bits text =
 
 -- a local name, a literal, wrapped to so many bits, or a word
 abbrev pub operand_of : ℕ → Kind → List ℕ → Option WrittenOperand
-operand_of bits kind.Local text = local_operand (behind_sign text)
+operand_of bits kind.Local text = local_operand (name_in kind.Local text)
 operand_of bits kind.Number text = Some (operand.Literal (wrapped bits (is_negative text) (magnitude text)))
 operand_of bits kind.Word text = word_operand bits text
 operand_of bits _ text = None
@@ -138,6 +120,6 @@ inst_line (Some name) = Some (start.Inst name)
 
 -- the name of an instruction's result, or a label where nothing stands before
 abbrev pub line_start : Bool → Kind → List ℕ → Option LineStart
-line_start first kind.Local text = inst_line (behind_sign text)
-line_start first kind.Label text = (if first then label_line (before_colon text) else None)
+line_start first kind.Local text = inst_line (name_in kind.Local text)
+line_start first kind.Label text = (if first then label_line (name_in kind.Label text) else None)
 line_start first _ text = None

@@ -6,11 +6,11 @@ ghost use Rattle.ir_reader.specs.Spelling.{bits_behind, line_start, word_operand
 ghost use Rattle.ir_reader.specs.Classes.{as_word, as_mark, any, passed, local, global, int_type, counted_type, spelled_width, width_in, operand_class, opcode_class, predicate_class};
 ghost use Rattle.ir_reader.specs.Grammar.{is_define, starts_line};
 
-use crate::names::name;
 use crate::numbers::{literal, some_digits, width};
 use crate::word::{LineStart, Opcode, opcode_of, predicate_of};
 use crate::written::WrittenOperand;
 use ir_forms::ReadFault;
+use ir_items::{name_before_colon, name_behind_sign};
 use ir_lexer::{Kind, Token};
 use ir_tree::{Name, Predicate};
 use std::alloc::Global;
@@ -159,10 +159,10 @@ impl<'a, 'b> Cursor<'a, 'b> {
         let [first, rest @ ..] = self.rest else {
             return Err(ReadFault::Unfit);
         };
-        let (Kind::Local, [_, text @ ..]) = (first.kind(), first.text()) else {
+        if first.kind() != Kind::Local {
             return Err(ReadFault::Unfit);
-        };
-        let local = name(self.alloc, text)?;
+        }
+        let local = name_behind_sign(self.alloc, first.text())?;
         self.rest = rest;
         Ok(local)
     }
@@ -174,10 +174,10 @@ impl<'a, 'b> Cursor<'a, 'b> {
         let [first, rest @ ..] = self.rest else {
             return Err(ReadFault::Unfit);
         };
-        let (Kind::Global, [_, text @ ..]) = (first.kind(), first.text()) else {
+        if first.kind() != Kind::Global {
             return Err(ReadFault::Unfit);
-        };
-        let global = name(self.alloc, text)?;
+        }
+        let global = name_behind_sign(self.alloc, first.text())?;
         self.rest = rest;
         Ok(global)
     }
@@ -217,7 +217,7 @@ impl<'a, 'b> Cursor<'a, 'b> {
             return Err(ReadFault::Unfit);
         };
         let operand = match (first.kind(), first.text()) {
-            (Kind::Local, [_, text @ ..]) => WrittenOperand::Local(name(self.alloc, text)?),
+            (Kind::Local, text) => WrittenOperand::Local(name_behind_sign(self.alloc, text)?),
             (Kind::Number, text) => match literal(width, text) {
                 Some(value) => WrittenOperand::Literal(value),
                 None => return Err(ReadFault::PastLimit),
@@ -287,9 +287,9 @@ fn line_at(alloc: Global, token: &Token, is_first: bool) -> Result<Option<LineSt
     ensures { Reads (λ x. x) result [] (reads (line_start is_first token.now.kind token.now.text) []) }
 {
     match (token.kind(), token.text()) {
-        (Kind::Local, [_, text @ ..]) => Ok(Some(LineStart::Inst(name(alloc, text)?))),
-        (Kind::Label, [text @ .., _]) if is_first => {
-            Ok(Some(LineStart::Label(name(alloc, text)?)))
+        (Kind::Local, text) => Ok(Some(LineStart::Inst(name_behind_sign(alloc, text)?))),
+        (Kind::Label, text) if is_first => {
+            Ok(Some(LineStart::Label(name_before_colon(alloc, text)?)))
         }
         _ => Ok(None),
     }

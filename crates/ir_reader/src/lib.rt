@@ -12,7 +12,6 @@ mod entries;
 mod entry_name;
 mod fault;
 mod grammar;
-mod names;
 mod numbers;
 mod reading;
 mod scope;

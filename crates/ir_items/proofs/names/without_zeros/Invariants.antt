@@ -1,6 +1,6 @@
 use Rattle.std.proofs.Common.{◌≡◌, length}
-use Rattle.ir_reader.specs.Spelling.{without_zeros}
-use Rattle.ir_reader.proofs.names.without_zeros.Given as goal
+use Rattle.ir_items.specs.Names.{without_zeros}
+use Rattle.ir_items.proofs.names.without_zeros.Given as goal
 
 abbrev pub invariant-loop-rest : goal.invariant-loop-rest
 invariant-loop-rest l = without_zeros l.rest ≡ without_zeros l.digits

@@ -1,11 +1,11 @@
 use Rattle.std.proofs.Common.{length, ◌≡◌, ◌≤◌, false}
 use Rattle.ir_lexer.specs.Tokens.{behind_blanks}
-use Rattle.ir_lexer.proofs.scan.skip_blanks.Given as goal
+use Rattle.ir_lexer.proofs.blanks.behind_blanks.Given as goal
 
 abbrev pub invariant-loop-rest : goal.invariant-loop-rest
 invariant-loop-rest l = record {
-  same : behind_blanks l.inside l.rest ≡ behind_blanks false l.bytes;
-  within : length l.rest ≤ length l.bytes;
+  same : behind_blanks l.inside l.rest ≡ behind_blanks false l.text;
+  within : length l.rest ≤ length l.text;
 }
 
 abbrev pub decreases-loop-rest : goal.decreases-loop-rest

@@ -1,0 +1,177 @@
+-- Heads and names are no brackets.
+use Rattle.std.proofs.Common.{◌≡◌, ◌⊎◌, ℕ, suc, ◌+◌, ◌<◌, ◌≤◌, Bool, true, false, cond, ◌&&◌, ◌||◌, List, [], ◌∷◌, length, get_or, Option, Some, None, refl, sym, ap, ◌∙◌, inl, inr, arith}
+use Rattle.std.specs.Prelude.{slice_get, codes, position, is_some, nat_lt}
+use Rattle.std.specs.List.{list_any, position_or_len}
+use Rattle.std.specs.Str.{bytes_eq}
+use Rattle.std.specs.Cmp.Lexicographic.{bytes_decides}
+use Rattle.std.proofs.lemmas.Bool.{and_parts, eqb-true, cases_eq, cases_Bool, cases_lt, lt-ltb, le-ltb}
+use Rattle.std.proofs.lemmas.Option.{slice_get-get_or, slice_get_within, slice_get_read, same_Some}
+use Rattle.ir_lexer.specs.declared.token.Kind.{Kind}
+use Rattle.ir_lexer.specs.declared.token.Kind.TheVariants as kind
+use Rattle.ir_lexer.specs.Lexeme.{Lexeme}
+use Rattle.ir_items.specs.Marks.{mark_in, mark_of, marks, marks_after, IsBalanced}
+use Rattle.ir_items.specs.Items.{passes, token_passes, is_word_of, is_word, is_head_word, is_name, is_global_kind, is_global, is_mark, is_head, is_define, is_called, is_first_on_line, begins_item, has_bad_layout, is_wrong_layout, OtherGoesOn, NoHeadBetween, name_from, name_at}
+use Rattle.ir_tree.specs.declared.name.Name.{Name}
+use Rattle.ir_items.specs.Names.{name_in}
+use Rattle.ir_items.proofs.Passing.{passes_at}
+use Rattle.ir_items.proofs.Opening.{at_start, marks_next}
+
+kinds : (k : Kind) (text : List ℕ) → (k ≡ kind.Mark) ⊎ (mark_in k text ≡ 0)
+kinds kind.Mark text = inl refl
+kinds _ text = inr refl
+
+-- a token that is no mark leaves the brackets as they are
+pub plain_balanced : (tokens : List Lexeme) (place : ℕ) (t : Lexeme) → slice_get tokens place ≡ Some t → mark_of t ≡ 0 → IsBalanced tokens place (place + 1)
+plain_balanced tokens place t here plain =
+    let within : place < length tokens = slice_get_within tokens place t here in
+    let is : t ≡ get_or tokens place t = same_Some t (get_or tokens place t) (sym here ∙ slice_get-get_or tokens place t within) in
+    marks_next tokens place place t 0 [] (Some []) (omega arith) within is (at_start tokens place) (sym plain) refl
+
+head_plain : (t : Lexeme) (equals : Bool) → (is_head_word t || is_name t && equals) ≡ true → mark_of t ≡ 0
+head_plain t equals h =
+    elim (kinds t.kind t.text) [
+      | inl mark ↦ let bad : false ≡ true = (rw mark at h) in absurd (cc)
+      | inr plain ↦ plain
+    ]
+
+pub head_balanced : (tokens : List Lexeme) (first : ℕ) → is_head tokens first ≡ true → IsBalanced tokens first (first + 1)
+unfolding is_head
+head_balanced tokens first h = go (slice_get tokens first) refl h
+  where
+    go : (o : Option Lexeme) → slice_get tokens first ≡ o → (passes is_head_word o || passes is_name o && token_passes tokens (is_mark 61) (first + 1)) ≡ true → IsBalanced tokens first (first + 1)
+    go None here p = absurd (cc)
+    go (Some t) here p = plain_balanced tokens first t here (head_plain t _ p)
+
+-- the name of a define is no head, nor is the parenthesis behind it
+global_plain : (k : Kind) (text : List ℕ) → is_global_kind k ≡ true → mark_in k text ≡ 0
+global_plain kind.Global text h = refl
+global_plain _ text h = absurd (cc)
+
+global_no_word : (t : Lexeme) → is_global t ≡ true → is_head_word t ≡ false
+global_no_word t h = go t.kind refl h
+  where
+    go : (k : Kind) → t.kind ≡ k → is_global_kind k ≡ true → is_head_word t ≡ false
+    go kind.Global is e = rw is refl
+    go _ is e = absurd (cc)
+
+mark_no_head : (t : Lexeme) (mark : ℕ) → mark_of t ≡ suc mark → (is_head_word t ≡ false) × (is_name t ≡ false)
+mark_no_head t mark h =
+    elim (kinds t.kind t.text) [
+      | inl is ↦ (rw is refl, rw is refl)
+      | inr plain ↦ absurd (omega (arith, h, plain))
+    ]
+
+pub mark_begins_nothing : (tokens : List Lexeme) (place mark : ℕ) → token_passes tokens (is_mark (suc mark)) place ≡ true → begins_item tokens place ≡ false
+unfolding begins_item is_head
+mark_begins_nothing tokens place mark h = go (slice_get tokens place) refl h
+  where
+    go : (o : Option Lexeme) → slice_get tokens place ≡ o → passes (is_mark (suc mark)) o ≡ true → begins_item tokens place ≡ false
+    go None here p = absurd (cc)
+    go (Some t) here p = let e = mark_no_head t mark (eqb-true _ _ p) in rw (here, e.0, e.1) refl
+
+pub called_begins_nothing : (tokens : List Lexeme) (place : ℕ) → is_called tokens place ≡ true → begins_item tokens place ≡ false
+unfolding begins_item is_head is_called
+called_begins_nothing tokens place h = go (slice_get tokens place) refl (and_parts _ _ h)
+  where
+    and_false : (b : Bool) → ((b && false) && is_first_on_line tokens place) ≡ false
+    and_false true = refl
+    and_false false = refl
+
+    next : (o : Option Lexeme) → passes (is_mark 40) o ≡ true → passes (is_mark 61) o ≡ false
+    next None p = absurd (cc)
+    next (Some t) p = rw (eqb-true _ _ p) refl
+
+    go : (o : Option Lexeme) → slice_get tokens place ≡ o → (passes is_global o ≡ true) × (token_passes tokens (is_mark 40) (place + 1) ≡ true) → begins_item tokens place ≡ false
+    go None here p = absurd (cc)
+    go (Some t) here p = rw (here, global_no_word t p.0, next (slice_get tokens (place + 1)) p.1) (and_false (is_name t))
+
+pub called_balanced : (tokens : List Lexeme) (place : ℕ) → is_called tokens place ≡ true → IsBalanced tokens place (place + 1)
+unfolding is_called
+called_balanced tokens place h = go (slice_get tokens place) refl (and_parts _ _ h).0
+  where
+    go : (o : Option Lexeme) → slice_get tokens place ≡ o → passes is_global o ≡ true → IsBalanced tokens place (place + 1)
+    go None here p = absurd (cc)
+    go (Some t) here p = plain_balanced tokens place t here (global_plain t.kind t.text p)
+
+passes_within : (tokens : List Lexeme) (test : Lexeme → Bool) (place : ℕ) → token_passes tokens test place ≡ true → place < length tokens
+passes_within tokens test place h = go (slice_get tokens place) refl h
+  where
+    go : (o : Option Lexeme) → slice_get tokens place ≡ o → passes test o ≡ true → place < length tokens
+    go None here p = absurd (cc)
+    go (Some t) here p = slice_get_within tokens place t here
+
+pub called_opens : (tokens : List Lexeme) (place : ℕ) → is_called tokens place ≡ true → (place + 1 < length tokens) × (begins_item tokens (place + 1) ≡ false)
+unfolding is_called
+called_opens tokens place h = let p = and_parts _ _ h in (passes_within tokens (is_mark 40) (place + 1) p.1, mark_begins_nothing tokens (place + 1) 39 p.1)
+
+-- ---- the data layout
+
+word_kind : (k : Kind) (text word : List ℕ) → is_word_of k text word ≡ true → (k ≡ kind.Word) × (bytes_eq text word ≡ true)
+word_kind kind.Word text word h = (refl, h)
+word_kind _ text word h = absurd (cc)
+
+layout_word_begins_nothing : (tokens : List Lexeme) (place : ℕ) → token_passes tokens (is_word (codes "datalayout")) place ≡ true → begins_item tokens place ≡ false
+unfolding begins_item is_head
+layout_word_begins_nothing tokens place h = go (slice_get tokens place) refl h
+  where
+    go : (o : Option Lexeme) → slice_get tokens place ≡ o → passes (is_word (codes "datalayout")) o ≡ true → begins_item tokens place ≡ false
+    go None here p = absurd (cc)
+    go (Some t) here p =
+        let w = word_kind t.kind t.text (codes "datalayout") p in
+        let text : t.text ≡ codes "datalayout" = (bytes_decides t.text (codes "datalayout")).0 w.1 in
+        rw (here, w.0, text) refl
+
+pub wrong_layout_goes_on : (tokens : List Lexeme) (first : ℕ) → is_head tokens first ≡ true → is_define tokens first ≡ false → is_wrong_layout tokens first ≡ true → OtherGoesOn tokens first (first + 3)
+unfolding is_wrong_layout
+wrong_layout_goes_on tokens first head other h =
+    let p = and_parts _ _ h in
+    let q = and_parts _ _ p.0 in
+    let r = and_parts _ _ q.0 in
+    let within : first + 3 < length tokens = passes_within tokens has_bad_layout (first + 3) p.1 in
+    record {
+      head = head;
+      other = other;
+      some = omega arith;
+      within = omega arith;
+      no_head = go (layout_word_begins_nothing tokens (first + 1) r.1) (mark_begins_nothing tokens (first + 2) 60 q.1);
+      layout = λ e. omega arith;
+    }
+  where
+    go : begins_item tokens (first + 1) ≡ false → begins_item tokens (first + 2) ≡ false → NoHeadBetween tokens first (first + 3)
+    go one two m lo hi bal =
+        elim (cases_eq m (first + 1)) [
+          | inl is ↦ rw is one
+          | inr other_place ↦ let is : m ≡ first + 2 = omega arith in rw is two
+        ]
+
+-- ---- names
+
+pub called_global : (tokens : List Lexeme) (place : ℕ) (t : Lexeme) → is_called tokens place ≡ true → place < length tokens → t ≡ get_or tokens place t → is_global t ≡ true
+unfolding is_called
+called_global tokens place t h within is = sym (passes_at tokens is_global place t within is) ∙ (and_parts _ _ h).0
+
+pub name_at_token : (tokens : List Lexeme) (place : ℕ) (t : Lexeme) → place < length tokens → t ≡ get_or tokens place t → name_at tokens place ≡ name_in t.kind t.text
+unfolding name_at
+name_at_token tokens place t within is = ap name_from (slice_get_read tokens (length tokens) place t refl within is)
+
+any_position : (p : Name → Bool) (xs : List Name) → nat_lt (position_or_len p xs) (length xs) ≡ list_any p xs
+any_position p [] = refl
+any_position p (x ∷ xs) =
+    elim (cases_Bool (p x)) [
+      | inl t ↦ rw t (lt-ltb 0 (suc (length xs)) (omega arith))
+      | inr other ↦ rw other (later (position_or_len p xs) (length xs) ∙ any_position p xs)
+    ]
+  where
+    later : (a n : ℕ) → nat_lt (1 + a) (suc n) ≡ nat_lt a n
+    later a n =
+        elim (cases_lt a n) [
+          | inl lt ↦ lt-ltb (1 + a) (suc n) (omega arith) ∙ sym (lt-ltb a n lt)
+          | inr ge ↦ le-ltb (1 + a) (suc n) (omega arith) ∙ sym (le-ltb a n ge)
+        ]
+
+pub found_some : (p : Name → Bool) (xs : List Name) → is_some (position p xs) ≡ list_any p xs
+found_some p xs = some_if (nat_lt (position_or_len p xs) (length xs)) ∙ any_position p xs
+  where
+    some_if : (b : Bool) → is_some (cond b (Some (position_or_len p xs)) None) ≡ b
+    some_if true = refl
+    some_if false = refl

@@ -1,0 +1,5 @@
+pub mod Opening
+pub mod Passing
+pub mod LayoutParts
+pub mod HeadTokens
+pub mod Phases

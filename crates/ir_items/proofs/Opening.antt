@@ -1,0 +1,70 @@
+-- What is open behind one token more.
+use Rattle.std.proofs.Common.{◌≡◌, ℕ, ◌+◌, ◌-◌, ◌<◌, ◌≤◌, Bool, true, false, List, [], ◌∷◌, ◌++◌, length, get_or, slice_range, take, drop, Option, Some, None, refl, sym, ap, subst, ◌∙◌, inl, inr, arith}
+use Rattle.std.specs.Prelude.{fold}
+use Rattle.std.proofs.lemmas.Bool.{cases_order, cases_lt}
+use Rattle.std.proofs.lemmas.List.{take-append-drop, take-take, drop-take, drop-drop}
+use Rattle.std.proofs.lemmas.List.Edits.{between_more, between_none, split_between}
+use Rattle.std.proofs.lemmas.List.Sums.{fold_push, fold-append}
+use Rattle.ir_lexer.specs.Lexeme.{Lexeme}
+use Rattle.ir_items.specs.Marks.{mark_of, marks_after, marks_behind, marks, IsBalanced, has_open, IsInside, IsPiece}
+
+abbrev marks_from : Option (List ℕ) → List Lexeme → Option (List ℕ)
+marks_from start tokens = fold (λ open_marks t. marks_after open_marks (mark_of t)) start tokens
+
+pub at_start : (tokens : List Lexeme) (from : ℕ) → marks tokens from from ≡ Some []
+unfolding marks
+at_start tokens from = ap marks_behind (between_none tokens from)
+
+pub marks_more : (tokens : List Lexeme) (from place : ℕ) (t : Lexeme) → from ≤ place → place < length tokens → t ≡ get_or tokens place t → marks tokens from (place + 1) ≡ marks_after (marks tokens from place) (mark_of t)
+unfolding marks
+marks_more tokens from place t le lt is =
+    ap marks_behind (between_more tokens from place t le lt)
+    ∙ ap (λ (x : Lexeme). marks_behind (slice_range tokens from place ++ x ∷ [])) (sym is)
+    ∙ fold_push (λ (open_marks : Option (List ℕ)) (u : Lexeme). marks_after open_marks (mark_of u)) (Some []) (slice_range tokens from place) t
+
+take_split : (n m : ℕ) (xs : List Lexeme) → take (n + m) xs ≡ take n xs ++ take m (drop n xs)
+take_split n m xs =
+    sym (take-append-drop n (take (n + m) xs))
+    ∙ ap (λ (ys : List Lexeme). ys ++ drop n (take (n + m) xs)) (take-take n (n + m) xs (omega arith))
+    ∙ ap (λ (ys : List Lexeme). take n xs ++ ys) (drop-take n m xs)
+
+split_range : (tokens : List Lexeme) (i k m : ℕ) → i ≤ k → k ≤ m → slice_range tokens i m ≡ slice_range tokens i k ++ slice_range tokens k m
+split_range tokens i k m ik km =
+    let n : m - i ≡ (k - i) + (m - k) = omega arith in
+    let d : i + (k - i) ≡ k = omega arith in
+    ap (λ (j : ℕ). take j (drop i tokens)) n ∙ take_split (k - i) (m - k) (drop i tokens)
+    ∙ ap (λ (xs : List Lexeme). slice_range tokens i k ++ take (m - k) xs) (drop-drop (k - i) i tokens ∙ ap (λ (j : ℕ). drop j tokens) d)
+
+-- what is open, counted from a place at depth 0
+pub marks_join : (tokens : List Lexeme) (i k m : ℕ) → i ≤ k → k ≤ m → IsBalanced tokens i k → marks tokens i m ≡ marks tokens k m
+unfolding marks
+marks_join tokens i k m ik km balanced =
+    ap marks_behind (split_range tokens i k m ik km)
+    ∙ fold-append (λ (open_marks : Option (List ℕ)) (u : Lexeme). marks_after open_marks (mark_of u)) (Some []) (slice_range tokens i k) (slice_range tokens k m)
+    ∙ ap (λ (start : Option (List ℕ)). marks_from start (slice_range tokens k m)) balanced
+
+not_balanced : (o : Option (List ℕ)) → has_open o ≡ true → o ≡ Some [] → ⊥
+not_balanced o h e = let bad : false ≡ true = (rw e at h) in cc
+
+-- inside a bracket nothing stands at depth 0
+pub deeper : (tokens : List Lexeme) (i k m : ℕ) → i ≤ k → k ≤ m → IsBalanced tokens i k → has_open (marks tokens k m) ≡ true → IsBalanced tokens i m → ⊥
+deeper tokens i k m ik km balanced open_here here = not_balanced (marks tokens k m) open_here (sym (marks_join tokens i k m ik km balanced) ∙ here)
+
+pub piece_balanced : (tokens : List Lexeme) (i k e : ℕ) → i ≤ k → IsBalanced tokens i k → IsPiece tokens k e → IsBalanced tokens i e
+piece_balanced tokens i k e ik balanced piece = marks_join tokens i k e ik (omega (arith, piece.some)) balanced ∙ piece.balanced
+
+pub inside_more : (tokens : List Lexeme) (from place : ℕ) → IsInside tokens from place → has_open (marks tokens from (place + 1)) ≡ true → IsInside tokens from (place + 1)
+inside_more tokens from place inside here m lt le =
+    elim (cases_lt m (place + 1)) [
+      | inl less ↦ inside m lt (omega arith)
+      | inr same ↦ let e : m ≡ place + 1 = omega arith in rw e here
+    ]
+
+pub nonempty_open : (open_marks : List ℕ) → 0 < length open_marks → has_open (Some open_marks) ≡ true
+nonempty_open [] h = absurd (omega arith)
+nonempty_open (mark ∷ more) h = refl
+
+pub marks_next : (tokens : List Lexeme) (from place : ℕ) (t : Lexeme) (mark : ℕ) (open_marks : List ℕ) (now : Option (List ℕ)) → from ≤ place → place < length tokens → t ≡ get_or tokens place t
+    → marks tokens from place ≡ Some open_marks → mark ≡ mark_of t → marks_after (Some open_marks) mark ≡ now → marks tokens from (place + 1) ≡ now
+marks_next tokens from place t mark open_marks now le lt is here mark-is step =
+    marks_more tokens from place t le lt is ∙ ap (λ (o : Option (List ℕ)). marks_after o (mark_of t)) here ∙ ap (marks_after (Some open_marks)) (sym mark-is) ∙ step

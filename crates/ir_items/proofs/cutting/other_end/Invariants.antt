@@ -1,0 +1,13 @@
+use Rattle.std.proofs.Common.{◌-◌, length}
+use Rattle.ir_items.specs.Marks.{IsBalanced}
+use Rattle.ir_items.specs.Items.{OtherGoesOn}
+use Rattle.ir_items.proofs.cutting.other_end.Given as goal
+
+abbrev pub invariant-loop-place : goal.invariant-loop-place
+invariant-loop-place l = record {
+  goes_on : OtherGoesOn l.tokens l.first l.place;
+  balanced : IsBalanced l.tokens l.first l.place;
+}
+
+abbrev pub decreases-loop-place : goal.decreases-loop-place
+decreases-loop-place l = length l.tokens - l.place

@@ -1,0 +1,9 @@
+use Rattle.std.proofs.Common.{◌≡◌, Some}
+use Rattle.ir_items.specs.Marks.{marks, IsInside}
+use Rattle.ir_items.proofs.marks.piece_end.Given as goal
+
+abbrev pub invariant-loop-place : goal.invariant-loop-place
+invariant-loop-place l = record {
+  here : marks l.tokens l.from l.place ≡ Some l.open.items;
+  inside : IsInside l.tokens l.from l.place;
+}

@@ -1,0 +1,5 @@
+pub mod Names
+pub mod Marks
+pub mod Items
+pub mod Stops
+pub mod Pieces

@@ -1,0 +1,70 @@
+// Classes of bytes.
+ghost use Rattle.std.specs.Prelude.{◌≡◌};
+ghost use Rattle.ir_lexer.specs.Bytes.{is_digit, begins_word, is_name_byte, begins_name, is_hexadecimal_digit, is_float_kind, is_sign, is_blank, is_mark_byte};
+
+pub fn is_blank(b: u8) -> bool
+    ensures { result ≡ is_blank b }
+{
+    b == b' ' || b == b'\t' || b == b'\n' || b == b'\r'
+}
+
+pub fn is_digit(b: u8) -> bool
+    ensures { result ≡ is_digit b }
+{
+    48 <= b && b <= 57
+}
+
+pub fn begins_word(b: u8) -> bool
+    ensures { result ≡ begins_word b }
+{
+    65 <= b && b <= 90 || 97 <= b && b <= 122 || b == b'_' || b == b'.'
+}
+
+pub fn is_name_byte(b: u8) -> bool
+    ensures { result ≡ is_name_byte b }
+{
+    begins_word(b) || is_digit(b) || b == b'-' || b == b'$'
+}
+
+pub fn begins_name(b: u8) -> bool
+    ensures { result ≡ begins_name b }
+{
+    begins_word(b) || b == b'-' || b == b'$'
+}
+
+pub fn is_hexadecimal_digit(b: u8) -> bool
+    ensures { result ≡ is_hexadecimal_digit b }
+{
+    is_digit(b) || 65 <= b && b <= 70 || 97 <= b && b <= 102
+}
+
+pub fn is_float_kind(b: u8) -> bool
+    ensures { result ≡ is_float_kind b }
+{
+    b == b'K' || b == b'L' || b == b'M' || b == b'H' || b == b'R'
+}
+
+pub fn is_sign(b: u8) -> bool
+    ensures { result ≡ is_sign b }
+{
+    b == b'+' || b == b'-'
+}
+
+pub fn is_mark_byte(b: u8) -> bool
+    ensures { result ≡ is_mark_byte b }
+{
+    b == b'('
+        || b == b')'
+        || b == b'['
+        || b == b']'
+        || b == b'{'
+        || b == b'}'
+        || b == b'<'
+        || b == b'>'
+        || b == b','
+        || b == b'='
+        || b == b'*'
+        || b == b':'
+        || b == b'!'
+        || b == b'|'
+}

@@ -1,0 +1,59 @@
+ghost use Rattle.std.specs.Prelude.{◌≡◌, ℕ, ◌+◌, ◌^◌, ◌<◌, List, [], ◌++◌, length};
+ghost use Rattle.text_places.specs.Place.{place_behind};
+
+/// A place in a text. A line ends at a line feed alone, so a carriage return is a byte of its line.
+#[derive(Clone, Copy, Debug, PartialEq, Eq)]
+pub struct Place {
+    /// The line, from 1.
+    pub line: u64,
+    /// The column in bytes, from 1.
+    pub column: u64,
+}
+
+impl Place {
+    /// Where a text begins.
+    #[tactic(auto, unfolding(crate::specs::Place::place_behind))]
+    pub fn start() -> Place
+        ensures { result ≡ place_behind [] }
+    {
+        Place { line: 1, column: 1 }
+    }
+
+    /// The place behind some bytes, which stand at this place.
+    pub fn behind(self, bytes: &[u8]) -> Place
+        requires line { self.line + length bytes.now < 2 ^ 64 }
+        requires column { self.column + length bytes.now < 2 ^ 64 }
+        ensures { (before : List ℕ) → self ≡ place_behind before → result ≡ place_behind (before ++ bytes.now) }
+    {
+        let mut line = self.line;
+        let mut column = self.column;
+        for byte in bytes {
+            if *byte == b'\n' {
+                line += 1;
+                column = 1;
+            } else {
+                column += 1;
+            }
+        }
+        Place { line, column }
+    }
+}
+
+#[cfg(test)]
+mod tests {
+    use crate::Place;
+
+    #[test]
+    fn places(rt: HostRuntime) {
+        for (text, line, column) in [
+            ("", 1, 1),
+            ("ab", 1, 3),
+            ("ab\n", 2, 1),
+            ("a\r\nbc", 2, 3),
+            ("\n\n\tx", 3, 3),
+        ] {
+            let place = Place::start().behind(text.as_bytes());
+            assert_eq!(rt; place, Place { line, column }, "behind {text:?}");
+        }
+    }
+}
