@@ -3,7 +3,7 @@ use Rattle.std.proofs.Common.{length, ◌≤◌, arith, ◌≡◌, ℕ, true, Li
 use Rattle.std.specs.Prelude.{Result, Ok, Err, IfOk}
 use Rattle.std.specs.List.{AllByRecursion}
 use Rattle.ir_lexer.specs.Lexeme.{Lexeme}
-use Rattle.ir_lexer.specs.Tokens.{lexed}
+use Rattle.ir_lexer.specs.Tokens.{Spot, lexed}
 use Rattle.ir_forms.specs.Form.{Reading, reads, stops, read}
 use Rattle.ir_forms.proofs.Exact.{read-found, read-again}
 use Rattle.ir_tree.specs.declared.module.Entry.{Entry}
@@ -22,7 +22,7 @@ then-some : {A B : Type 0} (o : Option A) (k : A → Option B) (y : B) → (o >>
 then-some None k y e = absurd (cc e)
 then-some (Some a) k y e = (a, refl, e)
 
-tokens-are : (r : Result (List Lexeme) ℕ) (ts : List Lexeme) → tokens_found r ≡ Some ts → r ≡ Ok ts
+tokens-are : (r : Result (List Lexeme) Spot) (ts : List Lexeme) → tokens_found r ≡ Some ts → r ≡ Ok ts
 tokens-are (Ok us) ts e = let same : us ≡ ts = cc e in ap (λ (vs : List Lexeme). Ok vs) same
 tokens-are (Err at) ts e = absurd (cc e)
 

@@ -1,6 +1,7 @@
 -- A text is one module alone.
 use Rattle.std.proofs.Common.{◌≡◌, ℕ, true, List, [], map, Result, Ok, sym, ap, ◌∙◌, subst}
 use Rattle.ir_lexer.specs.Lexeme.{Lexeme}
+use Rattle.ir_lexer.specs.Tokens.{Spot}
 use Rattle.ir_tree.specs.declared.module.Entry.{Entry}
 use Rattle.ir_tree.specs.declared.module.Module.{Module}
 use Rattle.ir_forms.specs.Form.{reads}
@@ -10,7 +11,7 @@ use Rattle.ir_reader.specs.declared.written.WrittenFunction.{WrittenFunction}
 use Rattle.ir_reader.specs.Grammar.{functions}
 use Rattle.ir_reader.specs.StraightLine.{IsStraightLine, entry_of}
 
-pub same_tokens : (r : Result (List Lexeme) ℕ) (ts us : List Lexeme) → r ≡ Ok ts → r ≡ Ok us → ts ≡ us
+pub same_tokens : (r : Result (List Lexeme) Spot) (ts us : List Lexeme) → r ≡ Ok ts → r ≡ Ok us → ts ≡ us
 same_tokens r ts us a b = let both : Ok ts ≡ Ok us = sym a ∙ b in cc both
 
 pub same_written : (ts : List Lexeme) (vs ws : List WrittenFunction) → Spells true functions vs ts [] → Spells true functions ws ts [] → vs ≡ ws

@@ -4,7 +4,7 @@ use Rattle.std.specs.List.{list_any}
 use Rattle.tv_num.specs.declared.Width.{Width}
 use Rattle.ir_tree.specs.Names.{same_name}
 use Rattle.ir_lexer.specs.Lexeme.{Lexeme}
-use Rattle.ir_lexer.specs.Tokens.{lexed}
+use Rattle.ir_lexer.specs.Tokens.{Spot, lexed}
 use Rattle.ir_forms.specs.Form.{Reading, reads, read}
 use Rattle.ir_reader.specs.Grammar.{functions}
 use Rattle.ir_tree.specs.declared.module.Module.{Module}
@@ -151,9 +151,9 @@ checked w = (if returns_so w.returns w.returned then (parts_in w.parameters w.la
 unfoldable pub entry_in : List Name → WrittenFunction → Option (Entry × List Name)
 entry_in seen w = (if list_any (same_name w.name) seen then None else (checked w >>= λ f. Some (record { name = w.name; function = Ok f }, seen ++ w.name ∷ [])))
 
-abbrev pub tokens_found : Result (List Lexeme) ℕ → Option (List Lexeme)
+abbrev pub tokens_found : Result (List Lexeme) Spot → Option (List Lexeme)
 tokens_found (Ok tokens) = Some tokens
-tokens_found (Err at) = None
+tokens_found (Err spot) = None
 
 -- what is read, where no token is left
 abbrev pub whole : Reading (List WrittenFunction) → Option (List WrittenFunction)
