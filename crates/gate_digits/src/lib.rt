@@ -15,8 +15,6 @@ mod products;
 mod quotients;
 mod shifts;
 mod sums;
-#[cfg(test)]
-mod tests;
 
 pub use bitwise::{and, choose, inverse, or, xor};
 pub use comparisons::{any, equal, less_signed};

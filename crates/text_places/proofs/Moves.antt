@@ -27,7 +27,7 @@ pub one_more : (start : Place) (bytes : List ℕ) (i : ℕ) (here next : Place) 
     → (before : List ℕ) → start ≡ place_behind before → next ≡ place_behind (before ++ take (i + 1) bytes)
 one_more start bytes i here next within step so_far before is =
     step ∙ ap (λ (p : Place). moved p (get_or bytes i 0)) (so_far before is) ∙ place_behind-push (before ++ take i bytes) (get_or bytes i 0)
-      ∙ ap place_behind (append_assoc before (take i bytes) (get_or bytes i 0 ∷ []) ∙ ap (λ (xs : List ℕ). before ++ xs) (sym (take_more bytes i 0 within)))
+    ∙ ap place_behind (append_assoc before (take i bytes) (get_or bytes i 0 ∷ []) ∙ ap (λ (xs : List ℕ). before ++ xs) (sym (take_more bytes i 0 within)))
 
 -- a place is no further than the bytes before it reach
 pub line-within : (before : List ℕ) → (place_behind before).line ≤ length before + 1

@@ -1,4 +1,0 @@
-pub mod Tables
-pub mod Found
-pub mod Standing
-pub mod Agreeing

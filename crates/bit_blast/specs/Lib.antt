@@ -1,4 +1,0 @@
-pub mod Table
-pub mod Bits
-pub mod Written
-pub mod Following

@@ -1,4 +1,0 @@
-pub mod Asking
-pub mod Marking
-pub mod Orders
-pub mod Building
