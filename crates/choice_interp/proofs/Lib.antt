@@ -1,1 +1,2 @@
+mod Defined
 pub mod Endings

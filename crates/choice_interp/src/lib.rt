@@ -9,6 +9,9 @@ mod ending;
 mod rerun;
 mod run;
 mod step;
+mod table;
+#[cfg(test)]
+mod tests;
 
 pub use ending::{Ending, ending_refines};
 pub use rerun::{machine_for, run_again};

@@ -1,9 +1,9 @@
 ghost use Rattle.std.specs.Prelude.{◌≡◌, List, length, replicate, IfOk};
-ghost use Rattle.points.specs.Run.{Over, exit_insts, exit_by, with_args, first_machine, run_of};
+ghost use Rattle.points.specs.Run.{Over, exit_insts, exit_by, with_args, breaks_noundef, first_machine, run_of};
 ghost use Rattle.choice_interp.specs.Ran.{run_with};
 
 use crate::ending::Ending;
-use crate::step::{return_value, step};
+use crate::step::{is_poison, return_from, step};
 use byte_block::{Memory, Value, copy_memory};
 use ir_tree::{Block, Function, Parameter, Terminator};
 use points::{Bounds, Input, Machine};
@@ -72,21 +72,52 @@ fn begin(machine: &mut Machine, f: &Function, input: &Input)
     machine.taken.clear();
 }
 
-fn leave(machine: &mut Machine, terminator: Terminator, tape: &[u64]) -> Result<Ending, NoMemory>
-    ensures exit { IfOk result (λ ending. exit_by terminator tape.now machine.old ≡ Over (run_with ending machine.new)) }
+/// Whether an argument is poison whose parameter is `noundef` (LLVM Language Reference, "Parameter
+/// Attributes").
+fn breaks_no_undef(parameters: &[Parameter], args: &[Value]) -> bool
+    ensures { result ≡ breaks_noundef parameters.now args.now }
+{
+    let mut parameters = parameters;
+    let mut args = args;
+    while let [parameter, more_parameters @ ..] = parameters {
+        let [arg, more_args @ ..] = args else {
+            return false;
+        };
+        if parameter.no_undef && is_poison(*arg) {
+            return true;
+        }
+        parameters = more_parameters;
+        args = more_args;
+    }
+    false
+}
+
+fn leave(
+    machine: &mut Machine,
+    no_undef: bool,
+    terminator: Terminator,
+    tape: &[u64],
+) -> Result<Ending, NoMemory>
+    ensures exit { IfOk result (λ ending. exit_by no_undef terminator tape.now machine.old ≡ Over (run_with ending machine.new)) }
     ensures registers { machine.new.registers ≡ machine.old.registers }
     ensures memory { machine.new.memory ≡ machine.old.memory }
 {
     match terminator {
         Terminator::Return(returned) => {
-            let value = return_value(machine, returned, tape)?;
-            Ok(Ending::Return(value))
+            let ending = return_from(machine, no_undef, returned, tape)?;
+            Ok(ending)
         }
     }
 }
 
-fn run_block(machine: &mut Machine, block: &Block, tape: &[u64]) -> Result<Ending, NoMemory>
-    ensures exit { IfOk result (λ ending. exit_insts block.now.insts block.now.terminator tape.now machine.old ≡ Over (run_with ending machine.new)) }
+/// A block of a function whose return is `noundef` or not.
+fn run_block(
+    machine: &mut Machine,
+    no_undef: bool,
+    block: &Block,
+    tape: &[u64],
+) -> Result<Ending, NoMemory>
+    ensures exit { IfOk result (λ ending. exit_insts no_undef block.now.insts block.now.terminator tape.now machine.old ≡ Over (run_with ending machine.new)) }
     ensures registers { length machine.new.registers ≡ length machine.old.registers }
     ensures memory { machine.new.memory ≡ machine.old.memory }
 {
@@ -95,7 +126,7 @@ fn run_block(machine: &mut Machine, block: &Block, tape: &[u64]) -> Result<Endin
             return Ok(Ending::Ub);
         }
     }
-    let ending = leave(machine, block.terminator, tape)?;
+    let ending = leave(machine, no_undef, block.terminator, tape)?;
     Ok(ending)
 }
 
@@ -116,9 +147,12 @@ pub fn run_again(
     ensures memory { machine.new.memory ≡ input.now.blocks }
 {
     begin(machine, f, input);
+    if breaks_no_undef(f.parameters.as_slice(), input.args.as_slice()) {
+        return Ok(Ending::Ub);
+    }
     match f.blocks.as_slice() {
         [entry, ..] => {
-            let ending = run_block(machine, entry, tape)?;
+            let ending = run_block(machine, f.returns_no_undef, entry, tape)?;
             Ok(ending)
         }
         [] => Ok(Ending::Ub),

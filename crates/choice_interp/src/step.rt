@@ -1,130 +1,14 @@
-ghost use Rattle.std.specs.Prelude.{◌≡◌, ◌++◌, ◌∷◌, [], ◌<◌, ◌^◌, ◌%◌, ◌-◌, pos, ◌+ℤ◌, ◌-ℤ◌, IfOk, IsFalse, Some, None, if◌then◌else◌, length};
-ghost use Rattle.tv_num.specs.Width.{signed_of, is_outside_unsigned, is_outside_signed};
-ghost use Rattle.points.specs.Table.{poison_if, is_flagged, number_result, value_result, holds_of, compared};
-ghost use Rattle.points.specs.Run.{operand_value, cut_value, assigned, choice_of, chosen, act, typed_value, returned_value, returns, undef_width, returned_with, returned_run};
+ghost use Rattle.std.specs.Prelude.{◌≡◌, ◌++◌, ◌∷◌, [], IfOk, IsFalse, Some, None, if◌then◌else◌, length};
+ghost use Rattle.points.specs.Run.{operand_value, cut_value, typed_value, typed_operand_value, assigned, choice_of, act, is_poison, undef_width, returned_with, returned_run};
+ghost use Rattle.choice_interp.specs.Ran.{run_with};
 
+use crate::ending::Ending;
+use crate::table::{cast_value, compare_values, low_bits, on_values, select};
 use byte_block::Value;
-use ir_tree::{Flags, Inst, IrType, Op, Operand, Predicate, Returned};
+use ir_tree::{Inst, IrType, Operand, TypedOperand};
 use points::Machine;
 use support::NoMemory;
-use tv_num::{Width, add_over, signed, sub_over, wrap};
-
-/// The number modulo 2^width.
-pub fn low_bits(n: u64, width: Width) -> u64
-    ensures { result ≡ n % 2 ^ width.bits }
-{
-    n & width.mask()
-}
-
-fn has_flag(flags: Flags, over: (bool, bool)) -> bool
-    ensures { result ≡ is_flagged flags over.0 over.1 }
-{
-    (flags.nuw && over.0) || (flags.nsw && over.1)
-}
-
-/// Whether a flag forbids the sum. An addition without flags computes no exact sum.
-fn is_sum_flagged(flags: Flags, width: Width, a: u64, b: u64) -> bool
-    requires left { a < 2 ^ width.bits }
-    requires right { b < 2 ^ width.bits }
-    ensures { result ≡ is_flagged flags (is_outside_unsigned width.bits (pos a +ℤ pos b)) (is_outside_signed width.bits (signed_of width.bits a +ℤ signed_of width.bits b)) }
-{
-    (flags.nuw || flags.nsw) && has_flag(flags, add_over(a, b, width))
-}
-
-/// Whether a flag forbids the difference. A subtraction without flags computes no exact difference.
-fn is_difference_flagged(flags: Flags, width: Width, a: u64, b: u64) -> bool
-    requires left { a < 2 ^ width.bits }
-    requires right { b < 2 ^ width.bits }
-    ensures { result ≡ is_flagged flags (is_outside_unsigned width.bits (pos a -ℤ pos b)) (is_outside_signed width.bits (signed_of width.bits a -ℤ signed_of width.bits b)) }
-{
-    (flags.nuw || flags.nsw) && has_flag(flags, sub_over(a, b, width))
-}
-
-fn unless(is_poison: bool, number: u64) -> Value
-    ensures { result ≡ poison_if is_poison (Value.Num number) }
-{
-    if is_poison {
-        Value::Poison
-    } else {
-        Value::Num(number)
-    }
-}
-
-/// The result of an operation on numbers of the width; none is undefined behaviour.
-fn on_numbers(op: Op, width: Width, a: u64, b: u64) -> Option<Value>
-    requires left { a < 2 ^ width.bits }
-    requires right { b < 2 ^ width.bits }
-    ensures { result ≡ number_result op width.bits a b }
-{
-    Some(match op {
-        Op::Add(flags) => unless(
-            is_sum_flagged(flags, width, a, b),
-            wrap(a as u128 + b as u128, width),
-        ),
-        Op::Sub(flags) => {
-            let wrapped = wrap(a as u128 + (width.end() - b as u128), width);
-            unless(is_difference_flagged(flags, width, a, b), wrapped)
-        }
-        Op::UnsignedDiv { exact } => {
-            if b == 0 {
-                return None;
-            }
-            unless(exact && a % b != 0, a / b)
-        }
-        Op::And => Value::Num(a & b),
-        Op::Xor => Value::Num(a ^ b),
-        Op::Or => Value::Num(a | b),
-    })
-}
-
-/// The result of an operation; none is undefined behaviour.
-fn on_values(op: Op, width: Width, left: Value, right: Value) -> Option<Value>
-    ensures { result ≡ value_result op width.bits left right }
-{
-    match (op, left, right) {
-        (_, Value::Num(a), Value::Num(b)) => {
-            on_numbers(op, width, low_bits(a, width), low_bits(b, width))
-        }
-        (Op::UnsignedDiv { .. }, _, Value::Num(b)) if low_bits(b, width) != 0 => Some(
-            Value::Poison,
-        ),
-        (Op::UnsignedDiv { .. }, _, _) => None,
-        _ => Some(Value::Poison),
-    }
-}
-
-/// Whether numbers of the width compare so (LLVM Language Reference, "icmp Instruction").
-fn compare(predicate: Predicate, width: Width, a: u64, b: u64) -> bool
-    requires left { a < 2 ^ width.bits }
-    requires right { b < 2 ^ width.bits }
-    ensures { result ≡ holds_of predicate width.bits a b }
-{
-    match predicate {
-        Predicate::Equal => a == b,
-        Predicate::NotEqual => a != b,
-        Predicate::UnsignedGreater => a > b,
-        Predicate::UnsignedGreaterOrEqual => a >= b,
-        Predicate::UnsignedLess => a < b,
-        Predicate::UnsignedLessOrEqual => a <= b,
-        Predicate::SignedGreater => signed(a, width) > signed(b, width),
-        Predicate::SignedGreaterOrEqual => signed(a, width) >= signed(b, width),
-        Predicate::SignedLess => signed(a, width) < signed(b, width),
-        Predicate::SignedLessOrEqual => signed(a, width) <= signed(b, width),
-    }
-}
-
-/// The result of a comparison: 1 or 0, and poison where an operand is.
-fn compare_values(predicate: Predicate, width: Width, left: Value, right: Value) -> Value
-    ensures { result ≡ compared predicate width.bits left right }
-{
-    match (left, right) {
-        (Value::Num(a), Value::Num(b)) => {
-            let holds = compare(predicate, width, low_bits(a, width), low_bits(b, width));
-            Value::Num(holds as u64)
-        }
-        _ => Value::Poison,
-    }
-}
+use tv_num::Width;
 
 fn value_of(registers: &[Value], operand: Operand) -> Value
     ensures { result ≡ operand_value registers.now operand }
@@ -167,48 +51,68 @@ fn choose(machine: &mut Machine, tape: &[u64], width: Width) -> Result<u64, NoMe
     Ok(choice)
 }
 
-fn value_returned(registers: &[Value], returned: Returned) -> Value
-    ensures { result ≡ returned_value registers.now returned }
+/// Whether the value is poison.
+pub fn is_poison(value: Value) -> bool
+    ensures { result ≡ is_poison value }
 {
-    let value = value_of(registers, returned.operand);
-    match returned.of_type {
+    match value {
+        Value::Poison => true,
+        Value::Num(_) | Value::Ptr(_) => false,
+    }
+}
+
+fn typed_value_of(registers: &[Value], operand: TypedOperand) -> Value
+    ensures { result ≡ typed_operand_value registers.now operand }
+{
+    let value = value_of(registers, operand.operand);
+    match operand.of_type {
         IrType::Int(width) => cut(value, width),
         IrType::Ptr => value,
     }
 }
 
-/// What a `ret` with an operand returns. Undef is a choice, which is then taken.
+/// A `ret` of an operand. Undef is a choice, which is then taken.
 fn return_operand(
     machine: &mut Machine,
-    returned: Returned,
+    returned: TypedOperand,
     tape: &[u64],
-) -> Result<Value, NoMemory>
-    ensures value { IfOk result (λ value. returned_with (undef_width returned.of_type returned.operand) returned tape.now machine.old ≡ returns (Some value) machine.new) }
+) -> Result<Ending, NoMemory>
+    ensures run { IfOk result (λ ending. returned_with (undef_width returned.of_type returned.operand) returned tape.now machine.old ≡ run_with ending machine.new) }
     ensures registers { machine.new.registers ≡ machine.old.registers }
     ensures memory { machine.new.memory ≡ machine.old.memory }
 {
     match (returned.of_type, returned.operand) {
-        (IrType::Int(width), Operand::Undef) => Ok(Value::Num(choose(machine, tape, width)?)),
-        _ => Ok(value_returned(machine.registers.as_slice(), returned)),
+        (IrType::Int(width), Operand::Undef) => {
+            let choice = choose(machine, tape, width)?;
+            Ok(Ending::Return(Some(Value::Num(choice))))
+        }
+        _ => {
+            let value = typed_value_of(machine.registers.as_slice(), returned);
+            Ok(Ending::Return(Some(value)))
+        }
     }
 }
 
-/// What a `ret` returns, if it has an operand.
-pub fn return_value(
+/// A `ret`; where the return is `noundef`, poison and undef are undefined behaviour.
+pub fn return_from(
     machine: &mut Machine,
-    returned: Option<Returned>,
+    no_undef: bool,
+    returned: Option<TypedOperand>,
     tape: &[u64],
-) -> Result<Option<Value>, NoMemory>
-    ensures value { IfOk result (λ value. returned_run returned tape.now machine.old ≡ returns value machine.new) }
+) -> Result<Ending, NoMemory>
+    ensures run { IfOk result (λ ending. returned_run no_undef returned tape.now machine.old ≡ run_with ending machine.new) }
     ensures registers { machine.new.registers ≡ machine.old.registers }
     ensures memory { machine.new.memory ≡ machine.old.memory }
 {
     match returned {
         Some(returned) => {
-            let value = return_operand(machine, returned, tape)?;
-            Ok(Some(value))
+            if no_undef && is_poison(value_of(machine.registers.as_slice(), returned.operand)) {
+                return Ok(Ending::Ub);
+            }
+            let ending = return_operand(machine, returned, tape)?;
+            Ok(ending)
         }
-        None => Ok(None),
+        None => Ok(Ending::Return(None)),
     }
 }
 
@@ -240,13 +144,38 @@ pub fn step(machine: &mut Machine, inst: Inst, tape: &[u64]) -> Result<bool, NoM
         Inst::Icmp {
             into,
             predicate,
+            same_sign,
             width,
             left,
             right,
         } => {
             let left = value_of(machine.registers.as_slice(), left);
             let right = value_of(machine.registers.as_slice(), right);
-            assign(machine, into, compare_values(predicate, width, left, right));
+            let value = compare_values(predicate, same_sign, width, left, right);
+            assign(machine, into, value);
+            Ok(true)
+        }
+        Inst::Cast {
+            into,
+            cast,
+            from,
+            operand,
+            to,
+        } => {
+            let value = value_of(machine.registers.as_slice(), operand);
+            assign(machine, into, cast_value(cast, from, to, value));
+            Ok(true)
+        }
+        Inst::Select {
+            into,
+            condition,
+            if_true,
+            if_false,
+        } => {
+            let condition = value_of(machine.registers.as_slice(), condition);
+            let if_true = typed_value_of(machine.registers.as_slice(), if_true);
+            let if_false = typed_value_of(machine.registers.as_slice(), if_false);
+            assign(machine, into, select(condition, if_true, if_false));
             Ok(true)
         }
         Inst::Freeze {

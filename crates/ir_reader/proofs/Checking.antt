@@ -15,7 +15,7 @@ use Rattle.ir_tree.specs.declared.tree.Op.{Op}
 use Rattle.ir_tree.specs.declared.tree.Inst.{Inst}
 use Rattle.ir_tree.specs.declared.tree.Inst.TheVariants.{Binary, Icmp, Freeze}
 use Rattle.ir_tree.specs.declared.tree.Predicate.{Predicate}
-use Rattle.ir_tree.specs.declared.tree.Returned.{Returned}
+use Rattle.ir_tree.specs.declared.tree.TypedOperand.{TypedOperand}
 use Rattle.ir_tree.specs.declared.tree.Terminator.TheVariants.{Return}
 use Rattle.ir_tree.specs.Types.{one_bit}
 use Rattle.ir_tree.specs.declared.tree.Parameter.{Parameter}
@@ -308,7 +308,7 @@ Before f t i rest ds = Stands f t (inst_names i ++ rest) (result_definition (num
 binary-same : (m n : ℕ) (op : Op) (w : Width) (a b c d : Operand) → m ≡ n → a ≡ b → c ≡ d → Binary m op w a c ≡ Binary n op w b d
 binary-same m n op w a b c d e f g = cc
 
-icmp-same : (m n : ℕ) (p : Predicate) (w : Width) (a b c d : Operand) → m ≡ n → a ≡ b → c ≡ d → Icmp m p w a c ≡ Icmp n p w b d
+icmp-same : (m n : ℕ) (p : Predicate) (w : Width) (a b c d : Operand) → m ≡ n → a ≡ b → c ≡ d → Icmp m p false w a c ≡ Icmp n p false w b d
 icmp-same m n p w a b c d e f g = cc
 
 freeze-same : (m n : ℕ) (w : Width) (a b : Operand) → m ≡ n → a ≡ b → Freeze m w a ≡ Freeze n w b
@@ -338,8 +338,8 @@ icmp-found f t into predicate w left right rest ds out next S e =
     let l = operand-found f t _ _ w left L.0 S L.1 in
     let r = operand-found f t _ _ w right R.0 S R.1 in
     let F = result-found f t into one_bit (operand_names left ++ operand_names right) rest ds D.0 S (there-append (operand_names left) (operand_names right) t.names l.there r.there) D.1 in
-    let made : Icmp (length t.names) predicate w L.0 R.0 ≡ numbered_inst f.names (inst.Icmp into predicate w left right) = icmp-same _ _ predicate w _ _ _ _ (sym F.number) l.numbered_so r.numbered_so in
-    subst (λ (p : Inst × Table). IsInst f t (inst.Icmp into predicate w left right) p.0 p.1 rest ds) (some-same (Icmp (length t.names) predicate w L.0 R.0, D.0) (out, next) D.2)
+    let made : Icmp (length t.names) predicate false w L.0 R.0 ≡ numbered_inst f.names (inst.Icmp into predicate w left right) = icmp-same _ _ predicate w _ _ _ _ (sym F.number) l.numbered_so r.numbered_so in
+    subst (λ (p : Inst × Table). IsInst f t (inst.Icmp into predicate w left right) p.0 p.1 rest ds) (some-same (Icmp (length t.names) predicate false w L.0 R.0, D.0) (out, next) D.2)
     (record { step = F.step; numbered_so = made; usable = (l.usable, r.usable) })
 
 freeze-found : (f : Function) (t : Table) (into : Name) (w : Width) (o : WrittenOperand) (rest : List Name) (ds : List Definition) (out : Inst) (next : Table)
@@ -389,10 +389,10 @@ unfolding parameter_in
 parameter-found f t p rest ds out next S e =
     let D = then-some (defined t p.name (Some p.width)) _ (out, next) e in
     let F = defined-found t p.name (Some p.width) D.0 D.1 in
-    let here : Parameter = record { of_type = Int p.width; name = length t.names } in
+    let here : Parameter = record { of_type = Int p.width; no_undef = false; name = length t.names } in
     let both : (here, D.0) ≡ (out, next) = some_is (here, D.0) (out, next) D.2 in
     let n : number_of f.names p.name ≡ length t.names = new_number f t p.name rest (parameter_definition (numbered_parameter f.names p) ∷ ds) S.gathers F.0 in
-    let made : here ≡ numbered_parameter f.names p = ap (λ (k : ℕ). (let x : Parameter = record { of_type = Int p.width; name = k } in x)) (sym n) in
+    let made : here ≡ numbered_parameter f.names p = ap (λ (k : ℕ). (let x : Parameter = record { of_type = Int p.width; no_undef = false; name = k } in x)) (sym n) in
     let S1 = define-stands f t p.name (Some p.width) rest (parameter_definition (numbered_parameter f.names p)) ds refl S F.0 in
     subst (λ (q : Parameter × Table). IsParameter f t p q.0 q.1 rest ds) both
     (subst (λ (q : Table). IsParameter f t p here q rest ds) F.1
@@ -408,7 +408,7 @@ parameter-again f t p rest ds S once =
     let d : Definition = parameter_definition (numbered_parameter f.names p) in
     let none = is-new f t p.name (Some p.width) rest d ds refl S once in
     let n : number_of f.names p.name ≡ length t.names = new_number f t p.name rest (d ∷ ds) S.gathers none in
-    let made : (let x : Parameter = record { of_type = Int p.width; name = length t.names } in x) ≡ numbered_parameter f.names p = ap (λ (k : ℕ). (let x : Parameter = record { of_type = Int p.width; name = k } in x)) (sym n) in
+    let made : (let x : Parameter = record { of_type = Int p.width; no_undef = false; name = length t.names } in x) ≡ numbered_parameter f.names p = ap (λ (k : ℕ). (let x : Parameter = record { of_type = Int p.width; no_undef = false; name = k } in x)) (sym n) in
     rw (defined-again t p.name (Some p.width) none) (ap (λ (q : Parameter). Some (q, with_definition t p.name (Some p.width))) made)
 
 -- ---- each of a list
@@ -586,7 +586,7 @@ whole-length f t rest S = sym (ap length S.defines ∙ ap length (append-nil (pl
 all-names : (w : WrittenFunction) (t : Table) → Stands (numbered w) t (returned_names w.returned) [] → AreThere (returned_names w.returned) t.names → t.names ≡ (numbered w).names
 all-names w t S there = sym (S.gathers ∙ ap (λ (ns : List Name). gathered t.names ns) (sym (append-nil (returned_names w.returned))) ∙ gathered-there t.names (returned_names w.returned) [] there)
 
-made-same : (w : WrittenFunction) (ps qs : List Parameter) (l m : ℕ) (is js : List Inst) (o u : Option Returned) (ns ms : List Name) → ps ≡ qs → l ≡ m → is ≡ js → o ≡ u → ns ≡ ms → made_of w ps (block_of l is o) ns ≡ made_of w qs (block_of m js u) ms
+made-same : (w : WrittenFunction) (ps qs : List Parameter) (l m : ℕ) (is js : List Inst) (o u : Option TypedOperand) (ns ms : List Name) → ps ≡ qs → l ≡ m → is ≡ js → o ≡ u → ns ≡ ms → made_of w ps (block_of l is o) ns ≡ made_of w qs (block_of m js u) ms
 made-same w ps qs l m is js o u ns ms a b c d e = rw (a, b, c, d, e) refl
 
 pub record IsChecked (w : WrittenFunction) (f : Function) : Type 0 where
@@ -595,24 +595,24 @@ pub record IsChecked (w : WrittenFunction) (f : Function) : Type 0 where
 
 -- ---- what is returned
 
-abbrev IsReturnedUsable : Function → ℕ → Option Returned → Type 0
+abbrev IsReturnedUsable : Function → ℕ → Option TypedOperand → Type 0
 IsReturnedUsable f n None = Unit {0}
 IsReturnedUsable f n (Some r) = IsUsable f n r.of_type r.operand
 
-record IsReturned (f : Function) (t : Table) (r : Option WrittenReturn) (out : Option Returned) : Type 0 where
+record IsReturned (f : Function) (t : Table) (r : Option WrittenReturn) (out : Option TypedOperand) : Type 0 where
   numbered_so : out ≡ numbered_returned f.names r
   there : AreThere (returned_names r) t.names
   usable : IsReturnedUsable f (length t.types) out
 
-returned-found : (f : Function) (t : Table) (rest : List Name) (ds : List Definition) (r : Option WrittenReturn) (out : Option Returned) → Stands f t rest ds → returned_in t r ≡ Some out → IsReturned f t r out
+returned-found : (f : Function) (t : Table) (rest : List Name) (ds : List Definition) (r : Option WrittenReturn) (out : Option TypedOperand) → Stands f t rest ds → returned_in t r ≡ Some out → IsReturned f t r out
 returned-found f t rest ds None out S e =
     let same : None ≡ out = cc e in
-    subst (λ (p : Option Returned). IsReturned f t None p) same (record { numbered_so = refl; there = tt; usable = tt })
+    subst (λ (p : Option TypedOperand). IsReturned f t None p) same (record { numbered_so = refl; there = tt; usable = tt })
 returned-found f t rest ds (Some r) out S e =
     let O = then-some (operand_in t r.width r.operand) _ out e in
     let F = operand-found f t rest ds r.width r.operand O.0 S O.1 in
-    let here : Operand → Option Returned = λ o. Some (record { of_type = Int r.width; operand = o }) in
-    subst (λ (p : Option Returned). IsReturned f t (Some r) p) (some-same (here O.0) out O.2)
+    let here : Operand → Option TypedOperand = λ o. Some (record { of_type = Int r.width; operand = o }) in
+    subst (λ (p : Option TypedOperand). IsReturned f t (Some r) p) (some-same (here O.0) out O.2)
     (record { numbered_so = ap here F.numbered_so; there = F.there; usable = F.usable })
 
 returned-again : (f : Function) (t : Table) (rest : List Name) (ds : List Definition) (r : Option WrittenReturn) → Stands f t rest ds → IsReturnedUsable f (length t.types) (numbered_returned f.names r) → returned_in t r ≡ Some (numbered_returned f.names r)
@@ -645,7 +645,7 @@ record HasParts (w : WrittenFunction) (parts : (List Parameter × List Block) ×
   parameters : List Parameter × Table
   entry : Table
   insts : List Inst × Table
-  returned : Option Returned
+  returned : Option TypedOperand
   parameters_are : each_in parameter_in no_names w.parameters ≡ Some parameters
   entry_is : defined parameters.1 (block_name w) None ≡ Some entry
   insts_are : each_in inst_in entry w.insts ≡ Some insts
@@ -661,7 +661,7 @@ head-found w head e =
     (P.0, E.0, P.1, E.1, some-same _ _ E.2)
 
 blocks-found : (t : Table) (label : ℕ) (is : List WrittenInst) (r : Option WrittenReturn) (blocks : List Block × Table) → blocks_in t label is r ≡ Some blocks
-    → (insts : List Inst × Table) × (returned : Option Returned) × (each_in inst_in t is ≡ Some insts) × (returned_in insts.1 r ≡ Some returned) × ((block_of label insts.0 returned, insts.1) ≡ blocks)
+    → (insts : List Inst × Table) × (returned : Option TypedOperand) × (each_in inst_in t is ≡ Some insts) × (returned_in insts.1 r ≡ Some returned) × ((block_of label insts.0 returned, insts.1) ≡ blocks)
 unfolding blocks_in
 blocks-found t label is r blocks e =
     let I = then-some (each_in inst_in t is) _ blocks e in
@@ -698,7 +698,7 @@ pub checked-found : (w : WrittenFunction) (f : Function) → checked w ≡ Some 
 unfolding checked
 checked-found w f e = start (returns_so w.returns w.returned) refl e
   where
-    by : (ps : List Parameter) (label : ℕ) (is : List Inst) (o : Option Returned) (t : Table) → ps ≡ (numbered w).parameters → label ≡ number_of (numbered w).names (block_name w) → is ≡ map (numbered_inst (numbered w).names) w.insts
+    by : (ps : List Parameter) (label : ℕ) (is : List Inst) (o : Option TypedOperand) (t : Table) → ps ≡ (numbered w).parameters → label ≡ number_of (numbered w).names (block_name w) → is ≡ map (numbered_inst (numbered w).names) w.insts
         → o ≡ numbered_returned (numbered w).names w.returned → t.names ≡ (numbered w).names → Stands (numbered w) t (returned_names w.returned) []
         → ((k : ℕ) (i : Inst) → slice_get is k ≡ Some i → AreOperandsUsable (numbered w) (length (numbered w).parameters + 1 + k) i) → IsReturnedUsable (numbered w) (length t.types) o
         → returns_so w.returns w.returned ≡ true → made_of w ps (block_of label is o) t.names ≡ f → IsChecked w f
@@ -711,7 +711,7 @@ checked-found w f e = start (returns_so w.returns w.returned) refl e
             one_block = refl;
             once = stands-once (numbered w) t (returned_names w.returned) S;
             uses = subst (λ (js : List Inst). (k : ℕ) (i : Inst) → slice_get js k ≡ Some i → AreOperandsUsable (numbered w) (length (numbered w).parameters + 1 + k) i) c uses;
-            returned = returnable (numbered w) w.returns w.returned refl t-is (subst (λ (p : Option Returned). IsReturnedUsable (numbered w) (length (definitions (numbered w))) p) d (subst (λ (m : ℕ). IsReturnedUsable (numbered w) m o) (whole-length (numbered w) t (returned_names w.returned) S) last));
+            returned = returnable (numbered w) w.returns w.returned refl t-is (subst (λ (p : Option TypedOperand). IsReturnedUsable (numbered w) (length (definitions (numbered w))) p) d (subst (λ (m : ℕ). IsReturnedUsable (numbered w) m o) (whole-length (numbered w) t (returned_names w.returned) S) last));
           };
         }
 

@@ -18,7 +18,7 @@ use Rattle.ir_tree.specs.declared.tree.Operand.TheVariants as operand
 use Rattle.ir_tree.specs.declared.tree.Inst.{Inst}
 use Rattle.ir_tree.specs.declared.tree.Inst.TheVariants.{Binary, Icmp, Freeze}
 use Rattle.ir_tree.specs.declared.tree.IrType.TheVariants.{Int}
-use Rattle.ir_tree.specs.declared.tree.Returned.{Returned}
+use Rattle.ir_tree.specs.declared.tree.TypedOperand.{TypedOperand}
 use Rattle.ir_tree.specs.declared.tree.Terminator.TheVariants.{Return}
 use Rattle.ir_tree.specs.declared.tree.Block.{Block}
 use Rattle.ir_tree.specs.declared.tree.Parameter.{Parameter}
@@ -74,7 +74,7 @@ None >>= k = None
 Some a >>= k = k a
 
 unfoldable pub parameter_in : Table → WrittenParameter → Option (Parameter × Table)
-parameter_in t p = defined t p.name (Some p.width) >>= λ next. Some (record { of_type = Int p.width; name = length t.names }, next)
+parameter_in t p = defined t p.name (Some p.width) >>= λ next. Some (record { of_type = Int p.width; no_undef = false; name = length t.names }, next)
 
 unfoldable pub binary_in : Table → Name → Op → Width → WrittenOperand → WrittenOperand → Option (Inst × Table)
 binary_in t into op width left right = do
@@ -88,7 +88,7 @@ icmp_in t into predicate width left right = do
   l ← operand_in t width left
   r ← operand_in t width right
   next ← defined t into (Some one_bit)
-  Some (Icmp (length t.names) predicate width l r, next)
+  Some (Icmp (length t.names) predicate false width l r, next)
 
 unfoldable pub freeze_in : Table → Name → Width → WrittenOperand → Option (Inst × Table)
 freeze_in t into width value = do
@@ -113,12 +113,12 @@ head_in t ps label = do
   next ← defined parameters.1 (label_or label (entry_name (parameter_names ps))) None
   Some ((parameters.0, length parameters.1.names), next)
 
-abbrev pub returned_in : Table → Option WrittenReturn → Option (Option Returned)
+abbrev pub returned_in : Table → Option WrittenReturn → Option (Option TypedOperand)
 returned_in t None = Some None
 returned_in t (Some r) = operand_in t r.width r.operand >>= λ o. Some (Some (record { of_type = Int r.width; operand = o }))
 
 -- the one block of a function
-abbrev pub block_of : ℕ → List Inst → Option Returned → List Block
+abbrev pub block_of : ℕ → List Inst → Option TypedOperand → List Block
 block_of label insts returned = record { label = label; insts = insts; terminator = Return returned } ∷ []
 
 unfoldable pub blocks_in : Table → ℕ → List WrittenInst → Option WrittenReturn → Option (List Block × Table)
@@ -135,7 +135,7 @@ parts_in ps label is r = do
   Some ((head.0.0, blocks.0), blocks.1)
 
 abbrev pub made_of : WrittenFunction → List Parameter → List Block → List Name → Function
-made_of w parameters blocks names = record { name = w.name; returns = type_or_void w.returns; parameters = parameters; blocks = blocks; names = names }
+made_of w parameters blocks names = record { name = w.name; returns = type_or_void w.returns; returns_no_undef = false; parameters = parameters; blocks = blocks; names = names }
 
 -- whether the type behind ret is the header's
 abbrev pub returns_so : Option Width → Option WrittenReturn → Bool

@@ -1,5 +1,5 @@
 -- A function whose names go by number: the names in the order of their first appearance, and the tree with each name's number.
-use Rattle.std.specs.Prelude.{List, [], ◌∷◌, ◌++◌, map, flat_map, Option, Some, None}
+use Rattle.std.specs.Prelude.{List, [], ◌∷◌, ◌++◌, map, flat_map, false, Option, Some, None}
 use Rattle.ir_tree.specs.declared.name.Name.{Name}
 use Rattle.tv_num.specs.declared.Width.{Width}
 use Rattle.ir_tree.specs.declared.tree.IrType.{IrType}
@@ -8,7 +8,7 @@ use Rattle.ir_tree.specs.declared.tree.Operand.{Operand}
 use Rattle.ir_tree.specs.declared.tree.Operand.TheVariants as operand
 use Rattle.ir_tree.specs.declared.tree.Inst.{Inst}
 use Rattle.ir_tree.specs.declared.tree.Inst.TheVariants.{Binary, Icmp, Freeze}
-use Rattle.ir_tree.specs.declared.tree.Returned.{Returned}
+use Rattle.ir_tree.specs.declared.tree.TypedOperand.{TypedOperand}
 use Rattle.ir_tree.specs.declared.tree.Terminator.TheVariants.{Return}
 use Rattle.ir_tree.specs.declared.tree.Block.{Block}
 use Rattle.ir_tree.specs.declared.tree.Parameter.{Parameter}
@@ -67,15 +67,15 @@ numbered_operand names written.Undef = operand.Undef
 
 abbrev pub numbered_inst : List Name → WrittenInst → Inst
 numbered_inst names (inst.Binary into op width left right) = Binary (number_of names into) op width (numbered_operand names left) (numbered_operand names right)
-numbered_inst names (inst.Icmp into predicate width left right) = Icmp (number_of names into) predicate width (numbered_operand names left) (numbered_operand names right)
+numbered_inst names (inst.Icmp into predicate width left right) = Icmp (number_of names into) predicate false width (numbered_operand names left) (numbered_operand names right)
 numbered_inst names (inst.Freeze into width value) = Freeze (number_of names into) width (numbered_operand names value)
 
-abbrev pub numbered_returned : List Name → Option WrittenReturn → Option Returned
+abbrev pub numbered_returned : List Name → Option WrittenReturn → Option TypedOperand
 numbered_returned names None = None
 numbered_returned names (Some r) = Some (record { of_type = Int r.width; operand = numbered_operand names r.operand })
 
 abbrev pub numbered_parameter : List Name → WrittenParameter → Parameter
-numbered_parameter names p = record { of_type = Int p.width; name = number_of names p.name }
+numbered_parameter names p = record { of_type = Int p.width; no_undef = false; name = number_of names p.name }
 
 abbrev pub numbered_block : List Name → WrittenFunction → Block
 numbered_block names w = record {
@@ -94,6 +94,7 @@ abbrev pub numbered_over : List Name → WrittenFunction → Function
 numbered_over names w = record {
   name = w.name;
   returns = type_or_void w.returns;
+  returns_no_undef = false;
   parameters = map (numbered_parameter names) w.parameters;
   blocks = numbered_block names w ∷ [];
   names = names;

@@ -82,7 +82,7 @@ opcode_named text =
     (if bytes_eq text (codes "add") then Some (opcode.Binary (op.Add no_flags))
     else (if bytes_eq text (codes "sub") then Some (opcode.Binary (op.Sub no_flags))
     else (if bytes_eq text (codes "and") then Some (opcode.Binary op.And)
-    else (if bytes_eq text (codes "or") then Some (opcode.Binary op.Or)
+    else (if bytes_eq text (codes "or") then Some (opcode.Binary (op.Or false))
     else (if bytes_eq text (codes "xor") then Some (opcode.Binary op.Xor)
     else (if bytes_eq text (codes "icmp") then Some opcode.Icmp
     else (if bytes_eq text (codes "freeze") then Some opcode.Freeze else None)))))))

@@ -167,7 +167,8 @@ mod tests {
                 right,
                 ..
             } => Some((into, left, right)),
-            Inst::Icmp { .. } | Inst::Freeze { .. } => None,
+            Inst::Icmp { .. } | Inst::Cast { .. } | Inst::Select { .. } | Inst::Freeze { .. } =>
+                None,
         }
     }
 

@@ -12,8 +12,8 @@ use crate::written::{
     WrittenFunction, WrittenInst, WrittenOperand, WrittenParameter, WrittenReturn,
 };
 use ir_tree::{
-    Block, Function, Inst, IrType, Name, Names, Op, Operand, Parameter, Predicate, Returned,
-    Terminator,
+    Block, Function, Inst, IrType, Name, Names, Op, Operand, Parameter, Predicate, Terminator,
+    TypedOperand,
 };
 use std::alloc::Global;
 use std::marker::Model;
@@ -92,6 +92,7 @@ impl Scope {
         let number = self.define(name, Some(width))?;
         Ok(Parameter {
             of_type: IrType::Int(width),
+            no_undef: false,
             name: number,
         })
     }
@@ -136,6 +137,7 @@ impl Scope {
         Ok(Inst::Icmp {
             into,
             predicate,
+            same_sign: false,
             width,
             left,
             right,
@@ -230,14 +232,14 @@ impl Scope {
         Ok((parameters, label))
     }
 
-    fn returned(&self, returned: Option<WrittenReturn>) -> Result<Option<Returned>, ModuleFault>
+    fn returned(&self, returned: Option<WrittenReturn>) -> Result<Option<TypedOperand>, ModuleFault>
         ensures { Answers result (returned_in self.now returned) }
     {
         match returned {
             None => Ok(None),
             Some(returned) => {
                 let operand = self.operand(returned.width, &returned.operand)?;
-                Ok(Some(Returned {
+                Ok(Some(TypedOperand {
                     of_type: IrType::Int(returned.width),
                     operand,
                 }))
@@ -295,7 +297,7 @@ fn one_block(
     alloc: Global,
     label: usize,
     insts: Sequence<Inst>,
-    returned: Option<Returned>,
+    returned: Option<TypedOperand>,
 ) -> Result<Sequence<Block>, NoMemory>
     ensures { IfOk result (λ blocks. blocks ≡ block_of label insts returned) }
 {
@@ -366,6 +368,7 @@ pub fn check(alloc: Global, written: WrittenFunction) -> Result<Function, Module
     Ok(Function {
         name,
         returns: type_or_void(returns),
+        returns_no_undef: false,
         parameters,
         blocks,
         names: scope.into_names(),

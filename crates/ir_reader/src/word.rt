@@ -33,7 +33,7 @@ pub fn opcode_of(token: &Token) -> Option<Opcode>
         (Kind::Word, b"add") => Some(Opcode::Binary(Op::Add(NO_FLAGS))),
         (Kind::Word, b"sub") => Some(Opcode::Binary(Op::Sub(NO_FLAGS))),
         (Kind::Word, b"and") => Some(Opcode::Binary(Op::And)),
-        (Kind::Word, b"or") => Some(Opcode::Binary(Op::Or)),
+        (Kind::Word, b"or") => Some(Opcode::Binary(Op::Or { disjoint: false })),
         (Kind::Word, b"xor") => Some(Opcode::Binary(Op::Xor)),
         (Kind::Word, b"icmp") => Some(Opcode::Icmp),
         (Kind::Word, b"freeze") => Some(Opcode::Freeze),

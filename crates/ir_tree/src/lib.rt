@@ -16,5 +16,6 @@ pub use module::{Entry, Module, Reason, Refused};
 pub use name::Name;
 pub use names::Names;
 pub use tree::{
-    Block, Flags, Function, Inst, IrType, Op, Operand, Parameter, Predicate, Returned, Terminator,
+    Block, Cast, Flags, Function, Inst, IrType, Op, Operand, Parameter, Predicate, Terminator,
+    TypedOperand,
 };

@@ -36,10 +36,17 @@ pub struct Flags {
 pub enum Op {
     Add(Flags),
     Sub(Flags),
+    Mul(Flags),
     UnsignedDiv { exact: bool },
+    UnsignedRem,
+    SignedDiv { exact: bool },
+    SignedRem,
+    ShiftLeft(Flags),
+    LogicalShiftRight { exact: bool },
+    ArithmeticShiftRight { exact: bool },
     And,
+    Or { disjoint: bool },
     Xor,
-    Or,
 }
 
 /// How two integers are compared (LLVM Language Reference, "icmp Instruction").
@@ -57,6 +64,24 @@ pub enum Predicate {
     SignedLessOrEqual,
 }
 
+/// A change of an integer's width (LLVM Language Reference, "Conversion Operations").
+#[derive(Clone, Copy, Debug, PartialEq, Eq)]
+pub enum Cast {
+    /// The low bits.
+    Truncate(Flags),
+    /// Zeros before the number; with `nneg` a negative one gives poison.
+    ZeroExtend { non_negative: bool },
+    /// Copies of the sign before the number.
+    SignExtend,
+}
+
+/// An operand behind its type.
+#[derive(Clone, Copy, Debug, PartialEq, Eq)]
+pub struct TypedOperand {
+    pub of_type: IrType,
+    pub operand: Operand,
+}
+
 /// An instruction; `into` is the number of the name that gets the result.
 #[derive(Clone, Copy, Debug, PartialEq, Eq)]
 pub enum Inst {
@@ -67,13 +92,29 @@ pub enum Inst {
         left: Operand,
         right: Operand,
     },
-    /// The result has one bit; the operands have the width.
+    /// The result has one bit; the operands have the width. With `samesign` operands of different
+    /// signs give poison.
     Icmp {
         into: usize,
         predicate: Predicate,
+        same_sign: bool,
         width: Width,
         left: Operand,
         right: Operand,
+    },
+    Cast {
+        into: usize,
+        cast: Cast,
+        from: Width,
+        operand: Operand,
+        to: Width,
+    },
+    /// The condition has one bit.
+    Select {
+        into: usize,
+        condition: Operand,
+        if_true: TypedOperand,
+        if_false: TypedOperand,
     },
     Freeze {
         into: usize,
@@ -82,18 +123,11 @@ pub enum Inst {
     },
 }
 
-/// An operand behind its type.
-#[derive(Clone, Copy, Debug, PartialEq, Eq)]
-pub struct Returned {
-    pub of_type: IrType,
-    pub operand: Operand,
-}
-
 /// How a block ends (LLVM Language Reference, "Terminator Instructions").
 #[derive(Clone, Copy, Debug, PartialEq, Eq)]
 pub enum Terminator {
     /// `ret`, with nothing for `ret void`.
-    Return(Option<Returned>),
+    Return(Option<TypedOperand>),
 }
 
 /// A block: the number of its label among the function's names, its instructions in order, and how
@@ -105,19 +139,23 @@ pub struct Block {
     pub terminator: Terminator,
 }
 
-/// A parameter: its type, and the number of its name.
+/// A parameter: its type, whether it is `noundef`, and the number of its name (LLVM Language
+/// Reference, "Parameter Attributes").
 #[derive(Clone, Copy, Debug, PartialEq, Eq)]
 pub struct Parameter {
     pub of_type: IrType,
+    pub no_undef: bool,
     pub name: usize,
 }
 
-/// A function with a body; `returns` is nothing for `void`, and the first block is the entry.
-/// Parameters, labels and results share one table of names.
+/// A function with a body; `returns` is nothing for `void`, `returns_no_undef` says that the return
+/// is `noundef`, and the first block is the entry. Parameters, labels and results share one table of
+/// names.
 #[derive(Drop)]
 pub struct Function {
     pub name: Name,
     pub returns: Option<IrType>,
+    pub returns_no_undef: bool,
     pub parameters: Sequence<Parameter>,
     pub blocks: Sequence<Block>,
     pub names: Names,

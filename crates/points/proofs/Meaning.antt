@@ -9,7 +9,7 @@ use Rattle.ir_tree.specs.declared.tree.IrType.TheVariants as type
 use Rattle.ir_tree.specs.declared.tree.Operand.{Operand}
 use Rattle.ir_tree.specs.declared.tree.Operand.TheVariants as operand
 use Rattle.ir_tree.specs.declared.tree.Inst.{Inst}
-use Rattle.ir_tree.specs.declared.tree.Inst.TheVariants.{Binary, Icmp, Freeze}
+use Rattle.ir_tree.specs.declared.tree.Inst.TheVariants.{Binary, Icmp, Cast, Select, Freeze}
 use Rattle.ir_tree.specs.declared.tree.Terminator.{Terminator}
 use Rattle.ir_tree.specs.declared.tree.Terminator.TheVariants as terminator
 use Rattle.ir_tree.specs.declared.tree.Block.{Block}
@@ -36,7 +36,9 @@ use Rattle.points.proofs.Plain.{tapes_have_plain_forms, widest-append}
 inst_small : (inst : Inst) → widest (inst_widths inst) ≤ 64
 unfolding widest
 inst_small (Binary into op width left right) = omega arith
-inst_small (Icmp into predicate width left right) = omega arith
+inst_small (Icmp into predicate same_sign width left right) = omega arith
+inst_small (Cast into cast from operand to) = omega arith
+inst_small (Select into condition if_true if_false) = omega arith
 inst_small (Freeze into width operand) = let most = width.at_most_64 in omega (arith, most)
 
 undef_small : (t : IrType) (o : Operand) → widest (widths_of (undef_width t o)) ≤ 64

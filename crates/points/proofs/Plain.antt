@@ -1,5 +1,5 @@
 -- What a run reads of its tape.
-use Rattle.std.proofs.Common.{◌≡◌, inl, inr, ℕ, zero, suc, ◌+◌, ◌-◌, ◌*◌, ◌^◌, ◌%◌, ◌<◌, ◌≤◌, max, List, [], ◌∷◌, ◌++◌, length, get_or, replicate, Some, None, Option, refl, sym, ap, ◌∙◌, arith, append_assoc, append-nil, length-append, add-zero}
+use Rattle.std.proofs.Common.{◌≡◌, inl, inr, ℕ, zero, suc, ◌+◌, ◌-◌, ◌*◌, ◌^◌, ◌%◌, ◌<◌, ◌≤◌, max, Bool, true, false, ◌&&◌, if◌then◌else◌, List, [], ◌∷◌, ◌++◌, length, get_or, replicate, Some, None, Option, refl, sym, ap, ◌∙◌, arith, append_assoc, append-nil, length-append, add-zero}
 use Rattle.std.specs.Prelude.{slice_index}
 use Rattle.std.specs.List.{flat_map}
 use Rattle.std.specs.Option.{option_map}
@@ -11,8 +11,8 @@ use Rattle.std.proofs.Math.Seq.{get_or-append_seam}
 use Rattle.std.proofs.lemmas.List.{length-replicate}
 use Rattle.tv_num.specs.declared.Width.{Width}
 use Rattle.ir_tree.specs.declared.tree.Inst.{Inst}
-use Rattle.ir_tree.specs.declared.tree.Inst.TheVariants.{Binary, Icmp, Freeze}
-use Rattle.ir_tree.specs.declared.tree.Returned.{Returned}
+use Rattle.ir_tree.specs.declared.tree.Inst.TheVariants.{Binary, Icmp, Cast, Select, Freeze}
+use Rattle.ir_tree.specs.declared.tree.TypedOperand.{TypedOperand}
 use Rattle.ir_tree.specs.declared.tree.Terminator.{Terminator}
 use Rattle.ir_tree.specs.declared.tree.Terminator.TheVariants as terminator
 use Rattle.ir_tree.specs.declared.tree.Block.{Block}
@@ -24,10 +24,11 @@ use Rattle.points.specs.declared.machine.Machine.{Machine}
 use Rattle.points.specs.declared.point.Bounds.{Bounds}
 use Rattle.points.specs.declared.point.Input.{Input}
 use Rattle.points.specs.Code.{number_of, WordsFit}
-use Rattle.points.specs.Table.{value_result, compared}
-use Rattle.points.specs.Run.{act, frozen, choice_of, assigned, operand_value, undef_width, returned_with, first_machine, run_of}
+use Rattle.points.specs.declared.outcome.Outcome.TheVariants.{Ub}
+use Rattle.points.specs.Table.{value_result, compared, cast_value, selected}
+use Rattle.points.specs.Run.{act, ended, frozen, choice_of, assigned, operand_value, typed_operand_value, is_poison, undef_width, returned_with, breaks_noundef, first_machine, run_of}
 use Rattle.points.specs.Tapes.{inst_widths, widths_of, end_widths, block_widths, choice_widths, need_of, widest, widest_choice, plain_form, TapesHavePlainForms}
-use Rattle.points.proofs.Runs.{run_end, run_after, run_insts, run_entry, run_of_is}
+use Rattle.points.proofs.Runs.{run_end, run_after, run_insts, run_entry, run_entered_by, run_of_is}
 
 -- ---- the widest of two lists
 
@@ -128,7 +129,10 @@ took_assigned widths tape m m' into (Some v) e = let same : assigned m into v �
 
 pub act_took : (inst : Inst) (tape : List ℕ) (m m' : Machine) → act inst tape m ≡ Some m' → Took (inst_widths inst) tape m.taken m'.taken
 act_took (Binary into op w left right) tape m m' e = took_assigned [] tape m m' into (value_result op w.bits (operand_value m.registers left) (operand_value m.registers right)) e
-act_took (Icmp into predicate w left right) tape m m' e = took_assigned [] tape m m' into (Some (compared predicate w.bits (operand_value m.registers left) (operand_value m.registers right))) e
+act_took (Icmp into predicate same_sign w left right) tape m m' e = took_assigned [] tape m m' into (Some (compared predicate same_sign w.bits (operand_value m.registers left) (operand_value m.registers right))) e
+act_took (Cast into cast from operand to) tape m m' e = took_assigned [] tape m m' into (Some (cast_value cast from.bits to.bits (operand_value m.registers operand))) e
+act_took (Select into condition if_true if_false) tape m m' e =
+    took_assigned [] tape m m' into (Some (selected (operand_value m.registers condition) (typed_operand_value m.registers if_true) (typed_operand_value m.registers if_false))) e
 act_took (Freeze into w operand) tape m m' e =
     let same : frozen tape m into w.bits (operand_value m.registers operand) ≡ m' = cc in
     let t = took_frozen tape m into w (operand_value m.registers operand) in
@@ -139,36 +143,44 @@ act_took (Freeze into w operand) tape m m' e =
 took_as : (ws vs tape from to : List ℕ) → ws ≡ vs → Took ws tape from to → Took vs tape from to
 took_as ws vs tape from to e t = rw e at t
 
-returned_took : (o : Option ℕ) (r : Returned) (tape : List ℕ) (m : Machine) → Took (widths_of o) tape m.taken (returned_with o r tape m).taken
+returned_took : (o : Option ℕ) (r : TypedOperand) (tape : List ℕ) (m : Machine) → Took (widths_of o) tape m.taken (returned_with o r tape m).taken
 returned_took None r tape m = took_nothing [] tape m.taken m.taken refl
 returned_took (Some width) r tape m = choice_one tape m width
 
-end_took : (end : Terminator) (tape : List ℕ) (m : Machine) → Took (end_widths end) tape m.taken (run_end end tape m).taken
-end_took (terminator.Return None) tape m = took_nothing [] tape m.taken m.taken refl
-end_took (terminator.Return (Some r)) tape m = returned_took (undef_width r.of_type r.operand) r tape m
+stopped_took : (stops : Bool) (o : Option ℕ) (r : TypedOperand) (tape : List ℕ) (m : Machine) → Took (widths_of o) tape m.taken (if stops then ended Ub m else returned_with o r tape m).taken
+stopped_took true o r tape m = took_nothing (widths_of o) tape m.taken m.taken refl
+stopped_took false o r tape m = returned_took o r tape m
+
+end_took : (no_undef : Bool) (end : Terminator) (tape : List ℕ) (m : Machine) → Took (end_widths end) tape m.taken (run_end no_undef end tape m).taken
+end_took no_undef (terminator.Return None) tape m = took_nothing [] tape m.taken m.taken refl
+end_took no_undef (terminator.Return (Some r)) tape m = stopped_took (no_undef && is_poison (operand_value m.registers r.operand)) (undef_width r.of_type r.operand) r tape m
 
 -- the widths of the choices that instructions, and what ends them, may make
 abbrev pub rest_widths : List Inst → Terminator → List ℕ
 rest_widths insts end = flat_map inst_widths insts ++ end_widths end
 
-insts_took_option : (inst : Inst) (insts : List Inst) (end : Terminator) (tape : List ℕ) (m : Machine) (o : Option Machine) → act inst tape m ≡ o → ((m' : Machine) → Took (rest_widths insts end) tape m'.taken (run_insts insts end tape m').taken) → Took (rest_widths (inst ∷ insts) end) tape m.taken (run_after o m (run_insts insts end tape)).taken
-insts_took_option inst insts end tape m None e rest = took_nothing _ tape m.taken m.taken refl
-insts_took_option inst insts end tape m (Some m') e rest =
-    took_as (inst_widths inst ++ rest_widths insts end) (rest_widths (inst ∷ insts) end) tape m.taken (run_insts insts end tape m').taken (sym (append_assoc (inst_widths inst) (flat_map inst_widths insts) (end_widths end)))
-    (took_then (inst_widths inst) (rest_widths insts end) tape m.taken m'.taken (run_insts insts end tape m').taken (act_took inst tape m m' e) (rest m'))
+insts_took_option : (no_undef : Bool) (inst : Inst) (insts : List Inst) (end : Terminator) (tape : List ℕ) (m : Machine) (o : Option Machine) → act inst tape m ≡ o → ((m' : Machine) → Took (rest_widths insts end) tape m'.taken (run_insts no_undef insts end tape m').taken) → Took (rest_widths (inst ∷ insts) end) tape m.taken (run_after o m (run_insts no_undef insts end tape)).taken
+insts_took_option no_undef inst insts end tape m None e rest = took_nothing _ tape m.taken m.taken refl
+insts_took_option no_undef inst insts end tape m (Some m') e rest =
+    took_as (inst_widths inst ++ rest_widths insts end) (rest_widths (inst ∷ insts) end) tape m.taken (run_insts no_undef insts end tape m').taken (sym (append_assoc (inst_widths inst) (flat_map inst_widths insts) (end_widths end)))
+    (took_then (inst_widths inst) (rest_widths insts end) tape m.taken m'.taken (run_insts no_undef insts end tape m').taken (act_took inst tape m m' e) (rest m'))
 
-pub insts_took : (insts : List Inst) (end : Terminator) (tape : List ℕ) (m : Machine) → Took (rest_widths insts end) tape m.taken (run_insts insts end tape m).taken
+pub insts_took : (no_undef : Bool) (insts : List Inst) (end : Terminator) (tape : List ℕ) (m : Machine) → Took (rest_widths insts end) tape m.taken (run_insts no_undef insts end tape m).taken
 unfolding run_insts
-insts_took [] end tape m = end_took end tape m
-insts_took (inst ∷ insts) end tape m = insts_took_option inst insts end tape m (act inst tape m) refl (λ m'. insts_took insts end tape m')
+insts_took no_undef [] end tape m = end_took no_undef end tape m
+insts_took no_undef (inst ∷ insts) end tape m = insts_took_option no_undef inst insts end tape m (act inst tape m) refl (λ m'. insts_took no_undef insts end tape m')
 
-entry_took : (blocks : List Block) (tape : List ℕ) (m : Machine) → Took (flat_map block_widths blocks) tape m.taken (run_entry blocks tape m).taken
-entry_took [] tape m = took_nothing [] tape m.taken m.taken refl
-entry_took (b ∷ bs) tape m =
-    took_less (block_widths b) (flat_map block_widths bs) tape m.taken (run_insts b.insts b.terminator tape m).taken (insts_took b.insts b.terminator tape m)
+entry_took : (no_undef : Bool) (blocks : List Block) (tape : List ℕ) (m : Machine) → Took (flat_map block_widths blocks) tape m.taken (run_entry no_undef blocks tape m).taken
+entry_took no_undef [] tape m = took_nothing [] tape m.taken m.taken refl
+entry_took no_undef (b ∷ bs) tape m =
+    took_less (block_widths b) (flat_map block_widths bs) tape m.taken (run_insts no_undef b.insts b.terminator tape m).taken (insts_took no_undef b.insts b.terminator tape m)
+
+entered_took : (broken : Bool) (f : Function) (tape : List ℕ) (m : Machine) → Took (choice_widths f) tape m.taken (run_entered_by broken f tape m).taken
+entered_took true f tape m = took_nothing (choice_widths f) tape m.taken m.taken refl
+entered_took false f tape m = entry_took f.returns_no_undef f.blocks tape m
 
 pub run_took : (f : Function) (bounds : Bounds) (input : Input) (tape : List ℕ) → Took (choice_widths f) tape [] (run_of f bounds input tape).taken
-run_took f bounds input tape = rw (run_of_is f bounds input tape) (entry_took f.blocks tape (first_machine f input))
+run_took f bounds input tape = rw (run_of_is f bounds input tape) (entered_took (breaks_noundef f.parameters input.args) f tape (first_machine f input))
 
 -- ---- another tape with the same choices
 
@@ -189,16 +201,22 @@ frozen_same tape other m into w Poison agree = rw (choice_same tape other m w.bi
 
 act_same : (inst : Inst) (tape other : List ℕ) (m : Machine) → ((m' : Machine) → act inst tape m ≡ Some m' → Agrees other m.taken m'.taken) → act inst other m ≡ act inst tape m
 act_same (Binary into op w left right) tape other m agree = refl
-act_same (Icmp into predicate w left right) tape other m agree = refl
+act_same (Icmp into predicate same_sign w left right) tape other m agree = refl
+act_same (Cast into cast from operand to) tape other m agree = refl
+act_same (Select into condition if_true if_false) tape other m agree = refl
 act_same (Freeze into w operand) tape other m agree = ap Some (frozen_same tape other m into w (operand_value m.registers operand) (agree (frozen tape m into w.bits (operand_value m.registers operand)) refl))
 
-returned_same : (o : Option ℕ) (r : Returned) (tape other : List ℕ) (m : Machine) → Agrees other m.taken (returned_with o r tape m).taken → returned_with o r other m ≡ returned_with o r tape m
+returned_same : (o : Option ℕ) (r : TypedOperand) (tape other : List ℕ) (m : Machine) → Agrees other m.taken (returned_with o r tape m).taken → returned_with o r other m ≡ returned_with o r tape m
 returned_same None r tape other m agree = refl
 returned_same (Some width) r tape other m agree = rw (choice_same tape other m width agree) refl
 
-end_same : (end : Terminator) (tape other : List ℕ) (m : Machine) → Agrees other m.taken (run_end end tape m).taken → run_end end other m ≡ run_end end tape m
-end_same (terminator.Return None) tape other m agree = refl
-end_same (terminator.Return (Some r)) tape other m agree = returned_same (undef_width r.of_type r.operand) r tape other m agree
+stopped_same : (stops : Bool) (o : Option ℕ) (r : TypedOperand) (tape other : List ℕ) (m : Machine) → Agrees other m.taken (if stops then ended Ub m else returned_with o r tape m).taken → (if stops then ended Ub m else returned_with o r other m) ≡ (if stops then ended Ub m else returned_with o r tape m)
+stopped_same true o r tape other m agree = refl
+stopped_same false o r tape other m agree = returned_same o r tape other m agree
+
+end_same : (no_undef : Bool) (end : Terminator) (tape other : List ℕ) (m : Machine) → Agrees other m.taken (run_end no_undef end tape m).taken → run_end no_undef end other m ≡ run_end no_undef end tape m
+end_same no_undef (terminator.Return None) tape other m agree = refl
+end_same no_undef (terminator.Return (Some r)) tape other m agree = stopped_same (no_undef && is_poison (operand_value m.registers r.operand)) (undef_width r.of_type r.operand) r tape other m agree
 
 agrees_before : (widths other tape from mid taken : List ℕ) → Took widths tape mid taken → Agrees other from taken → (k : ℕ) → length from ≤ k → k < length mid → slice_index other k ≡ slice_index mid k
 agrees_before widths other tape from mid taken took agree k low below =
@@ -206,31 +224,35 @@ agrees_before widths other tape from mid taken took agree k low below =
     let here : slice_index taken k ≡ slice_index mid k = ap (λ xs. slice_index xs k) took.is ∙ get_front mid took.more k below in
     agree k low (omega (arith, len)) ∙ here
 
-same_option : (inst : Inst) (insts : List Inst) (end : Terminator) (tape other : List ℕ) (m : Machine) (o : Option Machine) → act inst tape m ≡ o
-    → Agrees other m.taken (run_after o m (run_insts insts end tape)).taken
-    → ((m' : Machine) → Agrees other m'.taken (run_insts insts end tape m').taken → run_insts insts end other m' ≡ run_insts insts end tape m')
-    → run_after (act inst other m) m (run_insts insts end other) ≡ run_after o m (run_insts insts end tape)
-same_option inst insts end tape other m None e agree rest =
+same_option : (no_undef : Bool) (inst : Inst) (insts : List Inst) (end : Terminator) (tape other : List ℕ) (m : Machine) (o : Option Machine) → act inst tape m ≡ o
+    → Agrees other m.taken (run_after o m (run_insts no_undef insts end tape)).taken
+    → ((m' : Machine) → Agrees other m'.taken (run_insts no_undef insts end tape m').taken → run_insts no_undef insts end other m' ≡ run_insts no_undef insts end tape m')
+    → run_after (act inst other m) m (run_insts no_undef insts end other) ≡ run_after o m (run_insts no_undef insts end tape)
+same_option no_undef inst insts end tape other m None e agree rest =
     let same : act inst other m ≡ act inst tape m = act_same inst tape other m (λ m' f. absurd (let g = sym e ∙ f in cc)) in
     rw (same, e) refl
-same_option inst insts end tape other m (Some m') e agree rest =
-    let took = insts_took insts end tape m' in
+same_option no_undef inst insts end tape other m (Some m') e agree rest =
+    let took = insts_took no_undef insts end tape m' in
     let first = act_took inst tape m m' e in
     let len : length m'.taken ≡ length m.taken + length first.more = ap length first.is ∙ length-append m.taken first.more in
-    let before = agrees_before (rest_widths insts end) other tape m.taken m'.taken (run_insts insts end tape m').taken took agree in
+    let before = agrees_before (rest_widths insts end) other tape m.taken m'.taken (run_insts no_undef insts end tape m').taken took agree in
     let same : act inst other m ≡ act inst tape m =
     act_same inst tape other m (λ n f. let g : m' ≡ n = (let h = sym e ∙ f in cc) in λ k low below. let below' : k < length m'.taken = rw g below in before k low below' ∙ ap (λ (x : Machine). slice_index x.taken k) g) in
     rw (same, e) (rest m' (λ k low below. agree k (omega (arith, len)) below))
 
-insts_same : (insts : List Inst) (end : Terminator) (tape other : List ℕ) (m : Machine) → Agrees other m.taken (run_insts insts end tape m).taken → run_insts insts end other m ≡ run_insts insts end tape m
+insts_same : (no_undef : Bool) (insts : List Inst) (end : Terminator) (tape other : List ℕ) (m : Machine) → Agrees other m.taken (run_insts no_undef insts end tape m).taken → run_insts no_undef insts end other m ≡ run_insts no_undef insts end tape m
 unfolding run_insts
-insts_same [] end tape other m agree = end_same end tape other m agree
-insts_same (inst ∷ insts) end tape other m agree =
-    same_option inst insts end tape other m (act inst tape m) refl agree (λ m' agree'. insts_same insts end tape other m' agree')
+insts_same no_undef [] end tape other m agree = end_same no_undef end tape other m agree
+insts_same no_undef (inst ∷ insts) end tape other m agree =
+    same_option no_undef inst insts end tape other m (act inst tape m) refl agree (λ m' agree'. insts_same no_undef insts end tape other m' agree')
 
-entry_same : (blocks : List Block) (tape other : List ℕ) (m : Machine) → Agrees other m.taken (run_entry blocks tape m).taken → run_entry blocks other m ≡ run_entry blocks tape m
-entry_same [] tape other m agree = refl
-entry_same (b ∷ bs) tape other m agree = insts_same b.insts b.terminator tape other m agree
+entry_same : (no_undef : Bool) (blocks : List Block) (tape other : List ℕ) (m : Machine) → Agrees other m.taken (run_entry no_undef blocks tape m).taken → run_entry no_undef blocks other m ≡ run_entry no_undef blocks tape m
+entry_same no_undef [] tape other m agree = refl
+entry_same no_undef (b ∷ bs) tape other m agree = insts_same no_undef b.insts b.terminator tape other m agree
+
+entered_same : (broken : Bool) (f : Function) (tape other : List ℕ) (m : Machine) → Agrees other m.taken (run_entered_by broken f tape m).taken → run_entered_by broken f other m ≡ run_entered_by broken f tape m
+entered_same true f tape other m agree = refl
+entered_same false f tape other m agree = entry_same f.returns_no_undef f.blocks tape other m agree
 
 -- a tape that agrees with what the run took gives the same run
 pub same_run : (f : Function) (bounds : Bounds) (input : Input) (tape other : List ℕ) → ((k : ℕ) → k < length (run_of f bounds input tape).taken → slice_index other k ≡ slice_index (run_of f bounds input tape).taken k) → run_of f bounds input other ≡ run_of f bounds input tape
@@ -238,7 +260,7 @@ same_run f bounds input tape other agree =
     let is = run_of_is f bounds input tape in
     let is' = run_of_is f bounds input other in
     let agree' = rw is at agree in
-    is' ∙ entry_same f.blocks tape other (first_machine f input) (λ k low below. agree' k below) ∙ sym is
+    is' ∙ entered_same (breaks_noundef f.parameters input.args) f tape other (first_machine f input) (λ k low below. agree' k below) ∙ sym is
 
 -- ---- the plain form
 

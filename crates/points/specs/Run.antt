@@ -1,13 +1,13 @@
 -- What a function does on an input and a tape of choices. It is told for every function: a name that was never assigned is poison, undef is poison where it is neither frozen nor returned, a number is read modulo the width at which it is used, and a place outside the text ends in undefined behaviour. In a function that is read none of these happens.
-use Rattle.std.specs.Prelude.{◌≡◌, ℕ, zero, suc, ◌+◌, ◌%◌, ◌^◌, List, [], ◌∷◌, ◌++◌, length, replicate, nat_lt, if◌then◌else◌, Option, Some, None, slice_get, slice_index, slice_index_or, slice_set}
+use Rattle.std.specs.Prelude.{◌≡◌, ℕ, zero, suc, ◌+◌, ◌%◌, ◌^◌, List, [], ◌∷◌, ◌++◌, length, replicate, nat_lt, if◌then◌else◌, Bool, true, false, ◌&&◌, ◌||◌, Option, Some, None, slice_get, slice_index, slice_index_or, slice_set}
 use Rattle.std.specs.Option.{option_map}
 use Rattle.ir_tree.specs.declared.tree.IrType.{IrType}
 use Rattle.ir_tree.specs.declared.tree.IrType.TheVariants as type
 use Rattle.ir_tree.specs.declared.tree.Operand.{Operand}
 use Rattle.ir_tree.specs.declared.tree.Operand.TheVariants as operand
 use Rattle.ir_tree.specs.declared.tree.Inst.{Inst}
-use Rattle.ir_tree.specs.declared.tree.Inst.TheVariants.{Binary, Icmp, Freeze}
-use Rattle.ir_tree.specs.declared.tree.Returned.{Returned}
+use Rattle.ir_tree.specs.declared.tree.Inst.TheVariants.{Binary, Icmp, Cast, Select, Freeze}
+use Rattle.ir_tree.specs.declared.tree.TypedOperand.{TypedOperand}
 use Rattle.ir_tree.specs.declared.tree.Terminator.{Terminator}
 use Rattle.ir_tree.specs.declared.tree.Terminator.TheVariants as terminator
 use Rattle.ir_tree.specs.declared.tree.Block.{Block}
@@ -21,7 +21,7 @@ use Rattle.points.specs.declared.outcome.Outcome.{Outcome}
 use Rattle.points.specs.declared.outcome.Outcome.TheVariants.{Return, Ub, Beyond}
 use Rattle.points.specs.declared.point.Bounds.{Bounds}
 use Rattle.points.specs.declared.point.Input.{Input}
-use Rattle.points.specs.Table.{value_result, compared}
+use Rattle.points.specs.Table.{value_result, compared, cast_value, selected}
 
 -- ---- one instruction
 
@@ -36,6 +36,13 @@ abbrev pub cut_value : ℕ → Value → Value
 cut_value width (Num n) = Num (n % 2 ^ width)
 cut_value width Poison = Poison
 cut_value width (value.Ptr p) = value.Ptr p
+
+abbrev pub typed_value : IrType → Value → Value
+typed_value (type.Int width) v = cut_value width.bits v
+typed_value type.Ptr v = v
+
+abbrev pub typed_operand_value : List Value → TypedOperand → Value
+typed_operand_value registers t = typed_value t.of_type (operand_value registers t.operand)
 
 abbrev pub assigned : Machine → ℕ → Value → Machine
 assigned m name v = record m { registers = slice_set m.registers name v }
@@ -56,8 +63,11 @@ frozen tape m name width v = assigned m name (cut_value width v)
 abbrev pub act : Inst → List ℕ → Machine → Option Machine
 act (Binary into op width left right) tape m =
     option_map (assigned m into) (value_result op width.bits (operand_value m.registers left) (operand_value m.registers right))
-act (Icmp into predicate width left right) tape m =
-    Some (assigned m into (compared predicate width.bits (operand_value m.registers left) (operand_value m.registers right)))
+act (Icmp into predicate same_sign width left right) tape m =
+    Some (assigned m into (compared predicate same_sign width.bits (operand_value m.registers left) (operand_value m.registers right)))
+act (Cast into cast from operand to) tape m = Some (assigned m into (cast_value cast from.bits to.bits (operand_value m.registers operand)))
+act (Select into condition if_true if_false) tape m =
+    Some (assigned m into (selected (operand_value m.registers condition) (typed_operand_value m.registers if_true) (typed_operand_value m.registers if_false)))
 act (Freeze into width operand) tape m = Some (frozen tape m into width.bits (operand_value m.registers operand))
 
 -- ---- one block
@@ -75,13 +85,6 @@ pub data Exit : Type 0 where
 abbrev pub ended : Outcome → Machine → Run
 ended outcome m = record { outcome = outcome; taken = m.taken }
 
-abbrev pub typed_value : IrType → Value → Value
-typed_value (type.Int width) v = cut_value width.bits v
-typed_value type.Ptr v = v
-
-abbrev pub returned_value : List Value → Returned → Value
-returned_value registers returned = typed_value returned.of_type (operand_value registers returned.operand)
-
 abbrev pub returns : Option Value → Machine → Run
 returns v m = ended (Return v m.memory) m
 
@@ -90,30 +93,38 @@ abbrev pub undef_width : IrType → Operand → Option ℕ
 undef_width (type.Int width) operand.Undef = Some width.bits
 undef_width _ _ = None
 
-abbrev pub returned_with : Option ℕ → Returned → List ℕ → Machine → Run
+abbrev pub returned_with : Option ℕ → TypedOperand → List ℕ → Machine → Run
 returned_with (Some width) returned tape m =
     returns (Some (Num (choice_of tape m width))) (record m { taken = m.taken ++ choice_of tape m width ∷ [] })
-returned_with None returned tape m = returns (Some (returned_value m.registers returned)) m
+returned_with None returned tape m = returns (Some (typed_operand_value m.registers returned)) m
 
--- undef is returned as a choice
-abbrev pub returned_run : Option Returned → List ℕ → Machine → Run
-returned_run None tape m = returns None m
-returned_run (Some returned) tape m = returned_with (undef_width returned.of_type returned.operand) returned tape m
+abbrev pub is_poison : Value → Bool
+is_poison (Num n) = false
+is_poison Poison = true
+is_poison (value.Ptr p) = false
 
-abbrev pub exit_by : Terminator → List ℕ → Machine → Exit
-exit_by (terminator.Return returned) tape m = Over (returned_run returned tape m)
+-- undef is returned as a choice; where the return is noundef, undef and poison are undefined behaviour
+abbrev pub returned_run : Bool → Option TypedOperand → List ℕ → Machine → Run
+returned_run no_undef None tape m = returns None m
+returned_run no_undef (Some returned) tape m =
+    if no_undef && is_poison (operand_value m.registers returned.operand) then ended Ub m
+    else returned_with (undef_width returned.of_type returned.operand) returned tape m
+
+abbrev pub exit_by : Bool → Terminator → List ℕ → Machine → Exit
+exit_by no_undef (terminator.Return returned) tape m = Over (returned_run no_undef returned tape m)
 
 abbrev pub exit_after : Option Machine → Machine → (Machine → Exit) → Exit
 exit_after None m go = Over (ended Ub m)
 exit_after (Some m') m go = go m'
 
-unfoldable pub exit_insts : List Inst → Terminator → List ℕ → Machine → Exit
-exit_insts [] end tape m = exit_by end tape m
-exit_insts (inst ∷ insts) end tape m = exit_after (act inst tape m) m (exit_insts insts end tape)
+-- the first argument says whether the function's return is noundef
+unfoldable pub exit_insts : Bool → List Inst → Terminator → List ℕ → Machine → Exit
+exit_insts no_undef [] end tape m = exit_by no_undef end tape m
+exit_insts no_undef (inst ∷ insts) end tape m = exit_after (act inst tape m) m (exit_insts no_undef insts end tape)
 
-abbrev pub exit_of : Option Block → List ℕ → Machine → Exit
-exit_of None tape m = Over (ended Ub m)
-exit_of (Some block) tape m = exit_insts block.insts block.terminator tape m
+abbrev pub exit_of : Bool → Option Block → List ℕ → Machine → Exit
+exit_of no_undef None tape m = Over (ended Ub m)
+exit_of no_undef (Some block) tape m = exit_insts no_undef block.insts block.terminator tape m
 
 -- ---- the run
 
@@ -127,14 +138,14 @@ go_on (Over run) at onward again = run
 go_on (To to m) at onward again = if nat_lt at to then onward to m else again to (record m { turn = m.turn + 1 })
 
 -- up to the next backward jump, which goes on by `again`; `left` bounds the jumps forward, and the number of blocks suffices
-unfoldable pub forward : List Block → List ℕ → Go → ℕ → Go
-forward blocks tape again zero at m = ended Ub m
-forward blocks tape again (suc left) at m = go_on (exit_of (slice_get blocks at) tape m) at (forward blocks tape again left) again
+unfoldable pub forward : Function → List ℕ → Go → ℕ → Go
+forward f tape again zero at m = ended Ub m
+forward f tape again (suc left) at m = go_on (exit_of f.returns_no_undef (slice_get f.blocks at) tape m) at (forward f tape again left) again
 
 -- with so many backward jumps left; the one after them ends the run
-unfoldable pub run_turns : List Block → List ℕ → ℕ → Go
-run_turns blocks tape zero = forward blocks tape (λ at m. ended Beyond m) (length blocks)
-run_turns blocks tape (suc turns) = forward blocks tape (run_turns blocks tape turns) (length blocks)
+unfoldable pub run_turns : Function → List ℕ → ℕ → Go
+run_turns f tape zero = forward f tape (λ at m. ended Beyond m) (length f.blocks)
+run_turns f tape (suc turns) = forward f tape (run_turns f tape turns) (length f.blocks)
 
 -- the parameters' names get the arguments
 abbrev pub with_args : List Parameter → List Value → List Value → List Value
@@ -149,9 +160,16 @@ first_machine f input = record {
   taken = [];
 }
 
--- the first block is the entry
+-- an argument is poison whose parameter is noundef
+abbrev pub breaks_noundef : List Parameter → List Value → Bool
+breaks_noundef (p ∷ ps) (v ∷ vs) = (p.no_undef && is_poison v) || breaks_noundef ps vs
+breaks_noundef _ _ = false
+
+-- the first block is the entry; a poison argument of a noundef parameter is undefined behaviour before it
 abbrev pub run_of : Function → Bounds → Input → List ℕ → Run
-run_of f bounds input tape = run_turns f.blocks tape bounds.turns 0 (first_machine f input)
+run_of f bounds input tape =
+    if breaks_noundef f.parameters input.args then ended Ub (first_machine f input)
+    else run_turns f tape bounds.turns 0 (first_machine f input)
 
 -- the tape is the choices that the run took, and zeros
 abbrev pub IsPlain : List ℕ → Run → Type 0

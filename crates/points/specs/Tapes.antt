@@ -1,9 +1,9 @@
 -- How many words a run reads, how wide they are, and the plain form of a tape.
 use Rattle.std.specs.Prelude.{◌≡◌, ℕ, ◌+◌, ◌-◌, ◌*◌, ◌≤◌, max, List, [], ◌∷◌, ◌++◌, length, replicate, Option, Some, None}
 use Rattle.std.specs.List.{flat_map}
-use Rattle.ir_tree.specs.declared.tree.Returned.{Returned}
+use Rattle.ir_tree.specs.declared.tree.TypedOperand.{TypedOperand}
 use Rattle.ir_tree.specs.declared.tree.Inst.{Inst}
-use Rattle.ir_tree.specs.declared.tree.Inst.TheVariants.{Binary, Icmp, Freeze}
+use Rattle.ir_tree.specs.declared.tree.Inst.TheVariants.{Binary, Icmp, Cast, Select, Freeze}
 use Rattle.ir_tree.specs.declared.tree.Terminator.{Terminator}
 use Rattle.ir_tree.specs.declared.tree.Terminator.TheVariants as terminator
 use Rattle.ir_tree.specs.declared.tree.Block.{Block}
@@ -16,14 +16,16 @@ use Rattle.points.specs.Run.{run_of, undef_width, IsPlain}
 -- the widths of the choices that an instruction may make, in order
 abbrev pub inst_widths : Inst → List ℕ
 inst_widths (Binary into op width left right) = []
-inst_widths (Icmp into predicate width left right) = []
+inst_widths (Icmp into predicate same_sign width left right) = []
+inst_widths (Cast into cast from operand to) = []
+inst_widths (Select into condition if_true if_false) = []
 inst_widths (Freeze into width operand) = width.bits ∷ []
 
 abbrev pub widths_of : Option ℕ → List ℕ
 widths_of None = []
 widths_of (Some width) = width ∷ []
 
-abbrev pub returned_widths : Option Returned → List ℕ
+abbrev pub returned_widths : Option TypedOperand → List ℕ
 returned_widths None = []
 returned_widths (Some returned) = widths_of (undef_width returned.of_type returned.operand)
 

@@ -3,9 +3,10 @@ use Rattle.std.specs.Prelude.{ℕ, ◌+◌, ◌*◌, ◌<◌, ◌⊎◌, List, s
 use Rattle.ir_tree.specs.declared.tree.IrType.{IrType}
 use Rattle.ir_tree.specs.declared.tree.IrType.TheVariants as type
 use Rattle.ir_tree.specs.declared.tree.Parameter.{Parameter}
-use Rattle.ir_tree.specs.declared.tree.Op.TheVariants.{UnsignedDiv}
+use Rattle.ir_tree.specs.declared.tree.Op.{Op}
+use Rattle.ir_tree.specs.declared.tree.Op.TheVariants.{Add, Sub, Mul, UnsignedDiv, UnsignedRem, SignedDiv, SignedRem, ShiftLeft, LogicalShiftRight, ArithmeticShiftRight, And, Or, Xor}
 use Rattle.ir_tree.specs.declared.tree.Inst.{Inst}
-use Rattle.ir_tree.specs.declared.tree.Inst.TheVariants.{Binary, Icmp, Freeze}
+use Rattle.ir_tree.specs.declared.tree.Inst.TheVariants.{Binary, Icmp, Cast, Select, Freeze}
 use Rattle.ir_tree.specs.declared.tree.Terminator.{Terminator}
 use Rattle.ir_tree.specs.declared.tree.Terminator.TheVariants as terminator
 use Rattle.ir_tree.specs.declared.tree.Block.{Block}
@@ -15,11 +16,32 @@ use Rattle.points.specs.declared.point.Budget.{Budget}
 use Rattle.points.specs.Pair.{Functions}
 use Rattle.points.specs.Tapes.{need_of, widest_choice}
 
--- a division's cost is the square of its width
+abbrev pub type_width : IrType → ℕ
+type_width (type.Int width) = width.bits
+type_width type.Ptr = 64
+
+-- a product or a division costs the square of its width
+abbrev pub op_cost : Op → ℕ → ℕ
+op_cost (Add flags) n = n
+op_cost (Sub flags) n = n
+op_cost (Mul flags) n = n * n
+op_cost (UnsignedDiv exact) n = n * n
+op_cost UnsignedRem n = n * n
+op_cost (SignedDiv exact) n = n * n
+op_cost SignedRem n = n * n
+op_cost (ShiftLeft flags) n = n
+op_cost (LogicalShiftRight exact) n = n
+op_cost (ArithmeticShiftRight exact) n = n
+op_cost And n = n
+op_cost (Or disjoint) n = n
+op_cost Xor n = n
+
+-- a comparison costs its operands' width, and all else the result's
 abbrev pub inst_cost : Inst → ℕ
-inst_cost (Binary into (UnsignedDiv exact) width left right) = width.bits * width.bits
-inst_cost (Binary into op width left right) = width.bits
-inst_cost (Icmp into predicate width left right) = width.bits
+inst_cost (Binary into op width left right) = op_cost op width.bits
+inst_cost (Icmp into predicate same_sign width left right) = width.bits
+inst_cost (Cast into cast from operand to) = to.bits
+inst_cost (Select into condition if_true if_false) = type_width if_true.of_type
 inst_cost (Freeze into width operand) = width.bits
 
 abbrev pub end_cost : Terminator → ℕ

@@ -9,9 +9,10 @@ use Rattle.std.proofs.Math.Nat.{mul-le-mul_right}
 use Rattle.tv_num.specs.declared.Width.{Width}
 use Rattle.ir_tree.specs.declared.tree.IrType.{IrType}
 use Rattle.ir_tree.specs.declared.tree.IrType.TheVariants as type
-use Rattle.ir_tree.specs.declared.tree.Op.TheVariants.{Add, Sub, UnsignedDiv, And, Xor, Or}
+use Rattle.ir_tree.specs.declared.tree.Op.{Op}
+use Rattle.ir_tree.specs.declared.tree.Op.TheVariants.{Add, Sub, Mul, UnsignedDiv, UnsignedRem, SignedDiv, SignedRem, ShiftLeft, LogicalShiftRight, ArithmeticShiftRight, And, Or, Xor}
 use Rattle.ir_tree.specs.declared.tree.Inst.{Inst}
-use Rattle.ir_tree.specs.declared.tree.Inst.TheVariants.{Binary, Icmp, Freeze}
+use Rattle.ir_tree.specs.declared.tree.Inst.TheVariants.{Binary, Icmp, Cast, Select, Freeze}
 use Rattle.ir_tree.specs.declared.tree.Terminator.{Terminator}
 use Rattle.ir_tree.specs.declared.tree.Terminator.TheVariants as terminator
 use Rattle.ir_tree.specs.declared.tree.Block.{Block}
@@ -20,7 +21,7 @@ use Rattle.ir_tree.specs.declared.tree.Parameter.{Parameter}
 use Rattle.ir_tree.specs.Limits.{IsWithinLimits}
 use Rattle.points.specs.Run.{undef_width}
 use Rattle.points.specs.Tapes.{inst_widths, widths_of, end_widths, block_widths, choice_widths, need_of, widest}
-use Rattle.points.specs.Weight.{inst_cost, end_cost, block_cost, cost_of, type_bits, parameter_bits}
+use Rattle.points.specs.Weight.{type_width, op_cost, inst_cost, end_cost, block_cost, cost_of, type_bits, parameter_bits}
 use Rattle.points.proofs.Plain.{widest-append}
 
 -- ---- sums of parts that are bounded
@@ -56,7 +57,9 @@ sum_end f xs i e = rw (e, drop-length xs) refl
 
 pub one_word : (inst : Inst) → length (inst_widths inst) ≤ 1
 one_word (Binary into op width left right) = omega arith
-one_word (Icmp into predicate width left right) = omega arith
+one_word (Icmp into predicate same_sign width left right) = omega arith
+one_word (Cast into cast from operand to) = omega arith
+one_word (Select into condition if_true if_false) = omega arith
 one_word (Freeze into width operand) = omega arith
 
 square : (w : Width) → w.bits * w.bits ≤ 4096
@@ -65,14 +68,30 @@ square w = let most = w.at_most_64 in let m : w.bits * w.bits ≤ 64 * w.bits = 
 plain_cost : (w : Width) → w.bits ≤ 4096
 plain_cost w = let most = w.at_most_64 in omega (arith, most)
 
+small_op : (op : Op) (w : Width) → op_cost op w.bits ≤ 4096
+small_op (Add flags) w = plain_cost w
+small_op (Sub flags) w = plain_cost w
+small_op (Mul flags) w = square w
+small_op (UnsignedDiv exact) w = square w
+small_op UnsignedRem w = square w
+small_op (SignedDiv exact) w = square w
+small_op SignedRem w = square w
+small_op (ShiftLeft flags) w = plain_cost w
+small_op (LogicalShiftRight exact) w = plain_cost w
+small_op (ArithmeticShiftRight exact) w = plain_cost w
+small_op And w = plain_cost w
+small_op (Or disjoint) w = plain_cost w
+small_op Xor w = plain_cost w
+
+small_width : (t : IrType) → type_width t ≤ 4096
+small_width (type.Int width) = plain_cost width
+small_width type.Ptr = omega arith
+
 pub small_cost : (inst : Inst) → inst_cost inst ≤ 4096
-small_cost (Binary into (UnsignedDiv exact) width left right) = square width
-small_cost (Binary into (Add flags) width left right) = plain_cost width
-small_cost (Binary into (Sub flags) width left right) = plain_cost width
-small_cost (Binary into And width left right) = plain_cost width
-small_cost (Binary into Xor width left right) = plain_cost width
-small_cost (Binary into Or width left right) = plain_cost width
-small_cost (Icmp into predicate width left right) = plain_cost width
+small_cost (Binary into op width left right) = small_op op width
+small_cost (Icmp into predicate same_sign width left right) = plain_cost width
+small_cost (Cast into cast from operand to) = plain_cost to
+small_cost (Select into condition if_true if_false) = small_width if_true.of_type
 small_cost (Freeze into width operand) = plain_cost width
 
 one_choice : (o : Option ℕ) → length (widths_of o) ≤ 1

@@ -3,10 +3,10 @@ ghost use Rattle.std.specs.Option.{option_map};
 ghost use Rattle.ir_tree.specs.Limits.{IsWithinLimits};
 ghost use Rattle.points.specs.Run.{undef_width};
 ghost use Rattle.points.specs.Tapes.{inst_widths, widths_of, returned_widths, end_widths, block_widths, choice_widths, need_of, widest, widest_choice};
-ghost use Rattle.points.specs.Weight.{inst_cost, end_cost, block_cost, cost_of, weight_of, type_bits, parameter_bits, tape_bits, bits_of, IsTooLarge};
+ghost use Rattle.points.specs.Weight.{type_width, op_cost, inst_cost, end_cost, block_cost, cost_of, weight_of, type_bits, parameter_bits, tape_bits, bits_of, IsTooLarge};
 ghost use Rattle.slow_judge.specs.Search.{AreSmall};
 
-use ir_tree::{Block, Function, Inst, IrType, Op, Operand, Parameter, Returned, Terminator};
+use ir_tree::{Block, Function, Inst, IrType, Op, Operand, Parameter, Terminator, TypedOperand};
 use points::{Bounds, Budget, Pair};
 use tv_num::Width;
 
@@ -14,7 +14,7 @@ fn words(inst: Inst) -> usize
     ensures { result ≡ length (inst_widths inst) }
 {
     match inst {
-        Inst::Binary { .. } | Inst::Icmp { .. } => 0,
+        Inst::Binary { .. } | Inst::Icmp { .. } | Inst::Cast { .. } | Inst::Select { .. } => 0,
         Inst::Freeze { .. } => 1,
     }
 }
@@ -26,18 +26,36 @@ fn words_in(insts: &[Inst]) -> usize
     insts.iter().map(|inst| words(*inst)).sum()
 }
 
+fn op_cost(op: Op, width: Width) -> u64
+    ensures { result ≡ op_cost op width.bits }
+{
+    let bits = width.bits() as u64;
+    match op {
+        Op::Mul(_) | Op::UnsignedDiv { .. } | Op::UnsignedRem => bits * bits,
+        Op::SignedDiv { .. } | Op::SignedRem => bits * bits,
+        Op::Add(_) | Op::Sub(_) | Op::ShiftLeft(_) => bits,
+        Op::LogicalShiftRight { .. } | Op::ArithmeticShiftRight { .. } => bits,
+        Op::And | Op::Or { .. } | Op::Xor => bits,
+    }
+}
+
+fn width_of(of_type: IrType) -> u64
+    ensures { result ≡ type_width of_type }
+{
+    match of_type {
+        IrType::Int(width) => width.bits() as u64,
+        IrType::Ptr => 64,
+    }
+}
+
 fn cost(inst: Inst) -> u64
     ensures { result ≡ inst_cost inst }
 {
     match inst {
-        Inst::Binary {
-            op: Op::UnsignedDiv { .. },
-            width,
-            ..
-        } => width.bits() as u64 * width.bits() as u64,
-        Inst::Binary { width, .. } | Inst::Icmp { width, .. } | Inst::Freeze { width, .. } => {
-            width.bits() as u64
-        }
+        Inst::Binary { op, width, .. } => op_cost(op, width),
+        Inst::Icmp { width, .. } | Inst::Freeze { width, .. } => width.bits() as u64,
+        Inst::Cast { to, .. } => to.bits() as u64,
+        Inst::Select { if_true, .. } => width_of(if_true.of_type),
     }
 }
 
@@ -49,7 +67,7 @@ fn costs(insts: &[Inst]) -> u64
 }
 
 /// The width of the choice that an operand of a `ret` is, if it is one.
-fn operand_choice(returned: Returned) -> Option<Width>
+fn operand_choice(returned: TypedOperand) -> Option<Width>
     ensures { option_map (λ (w : Width). w.bits) result ≡ undef_width returned.of_type returned.operand }
 {
     match (returned.of_type, returned.operand) {
@@ -58,7 +76,7 @@ fn operand_choice(returned: Returned) -> Option<Width>
     }
 }
 
-fn returned_choice(returned: Option<Returned>) -> Option<Width>
+fn returned_choice(returned: Option<TypedOperand>) -> Option<Width>
     ensures { widths_of (option_map (λ (w : Width). w.bits) result) ≡ returned_widths returned }
 {
     match returned {
@@ -102,6 +120,7 @@ fn wider(width: Width, inst: Inst) -> Width
     match inst {
         Inst::Freeze { width: choice, .. } if width.bits() < choice.bits() => choice,
         Inst::Freeze { .. } | Inst::Binary { .. } | Inst::Icmp { .. } => width,
+        Inst::Cast { .. } | Inst::Select { .. } => width,
     }
 }
 

@@ -2,9 +2,10 @@ ghost use Rattle.std.specs.Prelude.{◌≤◌, IfOk};
 ghost use Rattle.ir_tree.specs.Limits.{AreIntegers};
 
 use crate::slow;
+use byte_block::Value;
 use ir_tree::{
-    Block, Flags, Function, Inst, IrType, Name, Names, Op, Operand, Parameter, Predicate, Returned,
-    Terminator, is_within_limits,
+    Block, Flags, Function, Inst, IrType, Name, Names, Op, Operand, Parameter, Predicate,
+    Terminator, TypedOperand, is_within_limits,
 };
 use points::{Bounds, Budget, Cause, Pair, Verdict, has_same_signature};
 use std::alloc::Global;
@@ -21,9 +22,11 @@ fn names_to_3(alloc: Global) -> Result<Names, NoMemory> {
     Ok(names)
 }
 
-fn function(
+/// A function whose parameter is `noundef` or not.
+fn function_with(
     alloc: Global,
     width: Width,
+    no_undef: bool,
     insts: &[Inst],
     operand: Operand,
 ) -> Result<Function, NoMemory>
@@ -34,15 +37,32 @@ fn function(
     blocks.push(Block {
         label: 3,
         insts: Sequence::from_vec(insts.to_vec(alloc)?),
-        terminator: Terminator::Return(Some(Returned { of_type, operand })),
+        terminator: Terminator::Return(Some(TypedOperand { of_type, operand })),
     })?;
     Ok(Function {
         name: Name::Word(Sequence::from_vec(Vec::new(alloc))),
         returns: Some(of_type),
-        parameters: Sequence::from_vec(vec![in alloc; Parameter { of_type, name: 0 }; 1]?),
+        returns_no_undef: false,
+        parameters: Sequence::from_vec(vec![in alloc; Parameter {
+            of_type,
+            no_undef,
+            name: 0
+        }; 1]?),
         blocks: Sequence::from_vec(blocks),
         names: names_to_3(alloc)?,
     })
+}
+
+fn function(
+    alloc: Global,
+    width: Width,
+    insts: &[Inst],
+    operand: Operand,
+) -> Result<Function, NoMemory>
+    ensures { IfOk result (λ f. AreIntegers f.parameters) }
+{
+    let f = function_with(alloc, width, false, insts, operand)?;
+    Ok(f)
 }
 
 fn verdict_of(
@@ -144,6 +164,7 @@ fn below_0(predicate: Predicate, width: Width) -> Inst {
     Inst::Icmp {
         into: 1,
         predicate,
+        same_sign: false,
         width,
         left: Operand::Local(0),
         right: Operand::Number(0),
@@ -161,5 +182,58 @@ fn comparisons_read_signs_by_their_predicate(rt: HostRuntime) -> Result<(), Fail
     assert!(rt; matches!(&same, Some(Verdict::Correct)));
     let never = verdict_between(alloc, width, (&unsigned[..], Operand::Local(1)), sign)?;
     assert!(rt; matches!(&never, Some(Verdict::Incorrect(_))));
+    Ok(())
+}
+
+#[test]
+fn a_noundef_return_of_poison_is_undefined(rt: HostRuntime) -> Result<(), Fail> {
+    let alloc = rt.alloc();
+    let width = Width::of(4);
+    let source = function(alloc, width, &[], Operand::Poison)?;
+    let mut target = function(alloc, width, &[], Operand::Poison)?;
+    target.returns_no_undef = true;
+    let verdict = verdict_of(alloc, &source, &target, 1, 2)?;
+    assert!(rt; matches!(&verdict, Some(Verdict::Incorrect(_))));
+    let turned = verdict_of(alloc, &target, &source, 1, 2)?;
+    assert!(rt; matches!(&turned, Some(Verdict::Correct)));
+    Ok(())
+}
+
+#[test]
+fn a_noundef_argument_of_poison_is_undefined(rt: HostRuntime) -> Result<(), Fail> {
+    let alloc = rt.alloc();
+    let width = Width::of(4);
+    let source = function(alloc, width, &[], Operand::Local(0))?;
+    let target = function_with(alloc, width, true, &[], Operand::Local(0))?;
+    let verdict = verdict_of(alloc, &source, &target, 1, 2)?;
+    let Some(Verdict::Incorrect(point)) = verdict else {
+        return Err(Fail::from("poison is the counterexample"));
+    };
+    assert!(rt; matches!(point.input.args.as_slice(), [Value::Poison]));
+    let turned = verdict_of(alloc, &target, &source, 1, 2)?;
+    assert!(rt; matches!(&turned, Some(Verdict::Correct)));
+    Ok(())
+}
+
+#[test]
+fn a_product_costs_its_width_squared(rt: HostRuntime) -> Result<(), Fail> {
+    let alloc = rt.alloc();
+    let width = Width::of(4);
+    let flags = Flags {
+        nuw: false,
+        nsw: false,
+    };
+    let square = [Inst::Binary {
+        into: 1,
+        op: Op::Mul(flags),
+        width,
+        left: Operand::Local(0),
+        right: Operand::Local(0),
+    }];
+    let f = function(alloc, width, &square[..], Operand::Local(1))?;
+    let judged = verdict_of(alloc, &f, &f, 1, 34)?;
+    assert!(rt; matches!(&judged, Some(Verdict::Correct)));
+    let heavy = verdict_of(alloc, &f, &f, 1, 33)?;
+    assert!(rt; matches!(&heavy, Some(Verdict::Unknown(Cause::Weight))));
     Ok(())
 }

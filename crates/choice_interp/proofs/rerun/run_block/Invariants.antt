@@ -5,7 +5,7 @@ use Rattle.choice_interp.proofs.rerun.run_block.Given as goal
 abbrev pub invariant-loop-inst : goal.invariant-loop-inst
 invariant-loop-inst l = record {
   insts : l.inst-items ≡ l.block.insts;
-  rest : exit_insts (drop l.inst-index l.block.insts) l.block.terminator l.tape l.machine ≡ exit_insts l.block.insts l.block.terminator l.tape l.fn.machine;
+  rest : exit_insts l.no_undef (drop l.inst-index l.block.insts) l.block.terminator l.tape l.machine ≡ exit_insts l.no_undef l.block.insts l.block.terminator l.tape l.fn.machine;
   registers : length l.machine.registers ≡ length l.fn.machine.registers;
   memory : l.machine.memory ≡ l.fn.machine.memory;
 }

@@ -1,0 +1,2 @@
+mod Division
+mod Wrapping
