@@ -1,4 +1,4 @@
-ghost use Rattle.std.specs.Prelude.{◌≡◌, List, length, replicate, IfOk};
+ghost use Rattle.std.specs.Prelude.{◌≡◌, length, replicate, IfOk};
 ghost use Rattle.points.specs.Run.{Over, exit_insts, exit_by, with_args, breaks_noundef, first_machine, run_of};
 ghost use Rattle.choice_interp.specs.Ran.{run_with};
 

@@ -1,5 +1,5 @@
 ghost use Rattle.std.specs.Prelude.{◌≡◌, ◌++◌, ◌∷◌, [], IfOk, IsFalse, Some, None, if◌then◌else◌, length};
-ghost use Rattle.points.specs.Run.{operand_value, cut_value, typed_value, typed_operand_value, assigned, choice_of, act, is_poison, undef_width, returned_with, returned_run};
+ghost use Rattle.points.specs.Run.{operand_value, cut_value, typed_operand_value, assigned, choice_of, act, is_poison, undef_width, returned_with, returned_run};
 ghost use Rattle.choice_interp.specs.Ran.{run_with};
 
 use crate::ending::Ending;
