@@ -1,4 +1,5 @@
 pub mod Names
 pub mod Types
 pub mod Limits
+pub mod Sites
 pub mod WellFormed

@@ -1,86 +1,104 @@
--- What is asked of a function beside its spelling: each name is defined once, and each use of a name has a definition of the type written there that stands before it. The function has one block.
-use Rattle.std.specs.Prelude.{◌≡◌, ◌<◌, ℕ, ◌+◌, List, [], ◌∷◌, ◌++◌, length, map, flat_map, slice_get, Option, Some, None}
+-- What is asked of a function beside its spelling, each with the sites at which it fails. A reason is told at the first of its sites, and only where no reason before it has one.
+use Rattle.std.specs.Prelude.{◌≡◌, ◌<◌, ◌≤◌, ◌+◌, ◌⊎◌, ℕ, List, length, take, flat_map, slice_get, Option, Some, false}
 use Rattle.ir_tree.specs.declared.tree.IrType.{IrType}
-use Rattle.ir_tree.specs.declared.tree.IrType.TheVariants.{Int}
-use Rattle.ir_tree.specs.declared.tree.Operand.{Operand}
-use Rattle.ir_tree.specs.declared.tree.Operand.TheVariants.{Local}
-use Rattle.ir_tree.specs.declared.tree.Cast.{Cast}
-use Rattle.ir_tree.specs.declared.tree.Cast.TheVariants.{Truncate, ZeroExtend, SignExtend}
-use Rattle.ir_tree.specs.declared.tree.Inst.{Inst}
-use Rattle.ir_tree.specs.declared.tree.Inst.TheVariants as inst
-use Rattle.ir_tree.specs.declared.tree.TypedOperand.{TypedOperand}
-use Rattle.ir_tree.specs.declared.tree.Terminator.{Terminator}
-use Rattle.ir_tree.specs.declared.tree.Terminator.TheVariants.{Return}
-use Rattle.ir_tree.specs.declared.tree.Block.{Block}
-use Rattle.ir_tree.specs.declared.tree.Parameter.{Parameter}
 use Rattle.ir_tree.specs.declared.tree.Function.{Function}
-use Rattle.ir_tree.specs.Types.{one_bit}
+use Rattle.ir_tree.specs.declared.module.Reason.{Reason}
+use Rattle.ir_tree.specs.declared.module.Reason.TheVariants.{Syntax, Unsupported, Limit, NameTwice, NameUnknown, TypeClash, PhiEdges, Unassigned}
+use Rattle.ir_tree.specs.Sites.{Site, Defines, Uses, Written, sites, steps}
 
--- a name that is defined, and the type of its value; a label has no value
-pub record Definition : Type 0 where
+-- ---- names
+
+-- a site before this one defines the same name
+pub record DefinesAgain (f : Function) (n : ℕ) : Type 0 where
+  pub type : Option IrType
   pub name : ℕ
-  pub of_type : Option IrType
+  pub here : slice_get (sites f) n ≡ Some (Defines type name)
+  pub earlier : ℕ
+  pub before : earlier < n
+  pub other : Option IrType
+  pub there : slice_get (sites f) earlier ≡ Some (Defines other name)
 
-abbrev pub parameter_definition : Parameter → Definition
-parameter_definition p = record { name = p.name; of_type = Some p.of_type }
+-- some site gives the name a value
+abbrev pub HasValue : Function → ℕ → Type 0
+HasValue f name = (m : ℕ) × (type : IrType) × (slice_get (sites f) m ≡ Some (Defines (Some type) name))
 
-abbrev pub result_definition : Inst → Definition
-result_definition (inst.Binary into op width left right) = record { name = into; of_type = Some (Int width) }
-result_definition (inst.Icmp into predicate same_sign width left right) = record { name = into; of_type = Some (Int one_bit) }
-result_definition (inst.Cast into cast from operand to) = record { name = into; of_type = Some (Int to) }
-result_definition (inst.Select into condition if_true if_false) = record { name = into; of_type = Some if_true.of_type }
-result_definition (inst.Freeze into width operand) = record { name = into; of_type = Some (Int width) }
+-- a name is used as a value, and nothing gives it one
+pub record UsesUnknown (f : Function) (n : ℕ) : Type 0 where
+  pub type : IrType
+  pub name : ℕ
+  pub here : slice_get (sites f) n ≡ Some (Uses type name)
+  pub unknown : HasValue f name → ⊥
 
-abbrev pub label_definition : Block → Definition
-label_definition b = record { name = b.label; of_type = None }
+-- ---- types
 
-abbrev pub block_definitions : Block → List Definition
-block_definitions b = label_definition b ∷ map result_definition b.insts
+-- a name is used as a value of a type, and gets one of another
+pub record UsesOtherType (f : Function) (n : ℕ) : Type 0 where
+  pub type : IrType
+  pub name : ℕ
+  pub here : slice_get (sites f) n ≡ Some (Uses type name)
+  pub defined : ℕ
+  pub other : IrType
+  pub there : slice_get (sites f) defined ≡ Some (Defines (Some other) name)
+  pub differs : other ≡ type → ⊥
 
--- in order: the parameters, and then of each block the label, an entry's without one too, and the results
-abbrev pub definitions : Function → List Definition
-definitions f = map parameter_definition f.parameters ++ flat_map block_definitions f.blocks
+abbrev pub ClashesType : Function → ℕ → Type 0
+ClashesType f n = (slice_get (sites f) n ≡ Some (Written false)) ⊎ UsesOtherType f n
 
--- no two places define one name
-abbrev pub IsDefinedOnce : Function → Type 0
-IsDefinedOnce f = (i j : ℕ) (d e : Definition) → slice_get (definitions f) i ≡ Some d → slice_get (definitions f) j ≡ Some e → d.name ≡ e.name → i ≡ j
+-- ---- assignment, in a function of one block, whose parts run in text order
 
--- a definition before this place gives the name a value of the type
-pub record IsDefinedBefore (f : Function) (place : ℕ) (type : IrType) (name : ℕ) : Type 0 where
-  pub at : ℕ
-  pub before : at < place
-  pub defines : slice_get (definitions f) at ≡ Some (record { name = name; of_type = Some type })
+-- before this part of the function nothing defines the name
+abbrev pub IsUndefinedBefore : Function → ℕ → ℕ → Type 0
+IsUndefinedBefore f step name = (m : ℕ) (type : Option IrType) → slice_get (flat_map (λ (s : List Site). s) (take step (steps f))) m ≡ Some (Defines type name) → ⊥
 
--- an operand of this type may stand where what stands there defines the name at this place
-abbrev pub IsUsable : Function → ℕ → IrType → Operand → Type 0
-IsUsable f place type (Local name) = IsDefinedBefore f place type name
-IsUsable f place type _ = Unit {0}
+-- a part uses a name that nothing defines before
+pub record UsesUnassigned (f : Function) (n : ℕ) : Type 0 where
+  pub step : ℕ
+  pub inside : ℕ
+  pub part : List Site
+  pub at : slice_get (steps f) step ≡ Some part
+  pub place : n ≡ length (flat_map (λ (s : List Site). s) (take step (steps f))) + inside
+  pub type : IrType
+  pub name : ℕ
+  pub here : slice_get part inside ≡ Some (Uses type name)
+  pub unassigned : IsUndefinedBefore f step name
 
-abbrev pub IsTypedUsable : Function → ℕ → TypedOperand → Type 0
-IsTypedUsable f place t = IsUsable f place t.of_type t.operand
+-- ---- all of it
 
--- a truncation makes a number narrower, and an extension makes it wider
-abbrev pub ChangesWidth : Cast → ℕ → ℕ → Type 0
-ChangesWidth (Truncate flags) from to = to < from
-ChangesWidth (ZeroExtend non_negative) from to = from < to
-ChangesWidth SignExtend from to = from < to
+-- what a reason says of a site; the reasons that are told of tokens have none
+abbrev pub FailsBy : Reason → Function → ℕ → Type 0
+FailsBy Syntax f n = ⊥
+FailsBy Unsupported f n = ⊥
+FailsBy Limit f n = ⊥
+FailsBy NameTwice f n = DefinesAgain f n
+FailsBy NameUnknown f n = UsesUnknown f n
+FailsBy TypeClash f n = ClashesType f n
+FailsBy PhiEdges f n = ⊥
+FailsBy Unassigned f n = UsesUnassigned f n
 
-abbrev pub AreOperandsUsable : Function → ℕ → Inst → Type 0
-AreOperandsUsable f place (inst.Binary into op width left right) = IsUsable f place (Int width) left × IsUsable f place (Int width) right
-AreOperandsUsable f place (inst.Icmp into predicate same_sign width left right) = IsUsable f place (Int width) left × IsUsable f place (Int width) right
-AreOperandsUsable f place (inst.Cast into cast from operand to) = IsUsable f place (Int from) operand × ChangesWidth cast from.bits to.bits
-AreOperandsUsable f place (inst.Select into condition if_true if_false) =
-    IsUsable f place (Int one_bit) condition × (if_true.of_type ≡ if_false.of_type) × IsTypedUsable f place if_true × IsTypedUsable f place if_false
-AreOperandsUsable f place (inst.Freeze into width operand) = IsUsable f place (Int width) operand
+-- the reason holds nowhere
+abbrev pub Passes : Reason → Function → Type 0
+Passes reason f = (n : ℕ) → FailsBy reason f n → ⊥
 
--- the returned operand may stand behind all else, and its type is the header's
-abbrev pub IsReturnable : Function → Terminator → Type 0
-IsReturnable f (Return None) = f.returns ≡ None
-IsReturnable f (Return (Some r)) = (f.returns ≡ Some r.of_type) × IsTypedUsable f (length (definitions f)) r
+-- the first site of a reason
+pub record IsFirstSite (reason : Reason) (f : Function) (n : ℕ) : Type 0 where
+  pub fails : FailsBy reason f n
+  pub first : (k : ℕ) → FailsBy reason f k → n ≤ k
+
+abbrev pub PassesNames : Function → Type 0
+PassesNames f = Passes NameTwice f × Passes NameUnknown f
 
 pub record IsWellFormed (f : Function) : Type 0 where
-  pub block : Block
-  pub one_block : f.blocks ≡ block ∷ []
-  pub once : IsDefinedOnce f
-  pub uses : (k : ℕ) (i : Inst) → slice_get block.insts k ≡ Some i → AreOperandsUsable f (length f.parameters + 1 + k) i
-  pub returned : IsReturnable f block.terminator
+  pub names : PassesNames f
+  pub types : Passes TypeClash f
+  pub assigned : Passes Unassigned f
+
+-- the reasons before it pass, and this is its first site
+abbrev pub IsTestedAs : Reason → Function → ℕ → Type 0
+IsTestedAs Syntax f n = ⊥
+IsTestedAs Unsupported f n = ⊥
+IsTestedAs Limit f n = ⊥
+IsTestedAs NameTwice f n = IsFirstSite NameTwice f n
+IsTestedAs NameUnknown f n = Passes NameTwice f × IsFirstSite NameUnknown f n
+IsTestedAs TypeClash f n = PassesNames f × IsFirstSite TypeClash f n
+IsTestedAs PhiEdges f n = ⊥
+IsTestedAs Unassigned f n = PassesNames f × Passes TypeClash f × IsFirstSite Unassigned f n

@@ -1,7 +1,8 @@
 //! The tree of a module's text: functions, their blocks and instructions, and the names in them.
 //!
 //! It promises plain data: two functions with the same parts are equal. Limits of a function are
-//! stated here, with their test. It stands on `tv_num`; the reader makes trees, and whatever runs,
+//! stated here, with their test, and what is asked of a function beside its spelling
+//! (`specs/WellFormed.antt`). It stands on `tv_num` and `text_places`; the reader makes trees, and whatever runs,
 //! prints or checks a function takes them.
 #![tactic(auto)]
 
