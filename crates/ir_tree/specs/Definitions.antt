@@ -1,5 +1,5 @@
 -- Where the names of a list of sites are first defined.
-use Rattle.std.specs.Prelude.{◌≡◌, ◌<◌, ℕ, List, slice_get, Option, Some, None}
+use Rattle.std.specs.Prelude.{◌≡◌, ◌<◌, ℕ, List, length, slice_get, slice_index_or, Option, Some, None}
 use Rattle.ir_tree.specs.declared.tree.IrType.{IrType}
 use Rattle.ir_tree.specs.declared.sites.Site.{Site}
 use Rattle.ir_tree.specs.declared.sites.Site.TheVariants.{Defines}
@@ -16,4 +16,4 @@ IsFirstDefinition all end name (Some n) = (n < end) × IsDefinition all n name �
 
 -- for each name of the table its first definition among the sites before an end
 pub record AreFirst (all : List Site) (end : ℕ) (table : List (Option ℕ)) : Type 0 where
-  pub each : (name : ℕ) (first : Option ℕ) → slice_get table name ≡ Some first → IsFirstDefinition all end name first
+  pub each : (name : ℕ) → name < length table → IsFirstDefinition all end name (slice_index_or table name None)
