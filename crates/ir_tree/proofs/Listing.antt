@@ -1,6 +1,6 @@
 -- What a list of sites has when its parts went in.
 use Rattle.std.proofs.Common.{◌≡◌, ℕ, ◌+◌, ◌<◌, List, [], ◌∷◌, ◌++◌, Option, length, map, drop, get_or, refl, ap, sym, ◌∙◌, append_assoc, length-append, append-nil, arith}
-use Rattle.std.proofs.lemmas.List.{drop_more}
+use Rattle.std.proofs.lemmas.List.{drop_more, length-map}
 use Rattle.ir_tree.specs.declared.tree.IrType.{IrType}
 use Rattle.ir_tree.specs.declared.tree.Block.{Block}
 use Rattle.ir_tree.specs.declared.tree.Function.{Function}
@@ -43,3 +43,13 @@ function-made f list headed taken ended none none' p q r =
       ap (λ (made : SiteList). made.all) e ∙ with_parts-all list (steps f) ∙ ap (λ (xs : List Site). xs ++ sites f) none,
       ap (λ (made : SiteList). made.begins) e ∙ with_parts-begins list (steps f) ∙ rw (none, none') refl,
     )
+
+begins_from-length : (at : ℕ) (parts : List (List Site)) → length (begins_from at parts) ≡ length (sites_in parts)
+begins_from-length at [] = refl
+begins_from-length at (part ∷ parts) =
+    let each = length-map part (λ (site : Site). at) in
+    let others = begins_from-length (at + length part) parts in
+    length-append (map (λ (site : Site). at) part) (begins_from (at + length part) parts) ∙ omega (arith, each, others) ∙ sym (length-append part (sites_in parts))
+
+pub begins-length : (f : Function) (list : SiteList) → list.all ≡ sites f → list.begins ≡ begins f → length list.begins ≡ length list.all
+begins-length f list all firsts = rw (all, firsts) (begins_from-length 0 (steps f))

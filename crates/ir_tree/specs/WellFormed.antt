@@ -1,5 +1,5 @@
 -- What is asked of a function beside its spelling, each with the sites at which it fails. A reason is told at the first of its sites, and only where no reason before it has one.
-use Rattle.std.specs.Prelude.{◌≡◌, ◌<◌, ◌≤◌, ◌⊎◌, ℕ, List, slice_get, Option, Some, false}
+use Rattle.std.specs.Prelude.{◌≡◌, ◌<◌, ◌≤◌, ◌⊎◌, ℕ, List, slice_get, Option, Some, None, false}
 use Rattle.ir_tree.specs.declared.tree.IrType.{IrType}
 use Rattle.ir_tree.specs.declared.tree.Function.{Function}
 use Rattle.ir_tree.specs.declared.sites.Site.{Site}
@@ -55,14 +55,14 @@ ClashesType all n = (slice_get all n ≡ Some (Written false)) ⊎ UsesOtherType
 abbrev pub IsUndefinedBefore : List Site → ℕ → ℕ → Type 0
 IsUndefinedBefore all n name = (m : ℕ) (type : Option IrType) → m < n → slice_get all m ≡ Some (Defines type name) → ⊥
 
--- a name is used, and no part of the text before defines it
-pub record UsesUnassigned (f : Function) (n : ℕ) : Type 0 where
+-- a name is used, and no part of the text before defines it; each site has the number of the first site in its part
+pub record UsesUnassigned (all : List Site) (begins : List ℕ) (n : ℕ) : Type 0 where
   pub type : IrType
   pub name : ℕ
-  pub here : slice_get (sites f) n ≡ Some (Uses type name)
+  pub here : slice_get all n ≡ Some (Uses type name)
   pub begin : ℕ
-  pub part : slice_get (begins f) n ≡ Some begin
-  pub unassigned : IsUndefinedBefore (sites f) begin name
+  pub part : slice_get begins n ≡ Some begin
+  pub unassigned : IsUndefinedBefore all begin name
 
 -- ---- all of it
 
@@ -75,7 +75,7 @@ FailsBy NameTwice f n = DefinesAgain (sites f) n
 FailsBy NameUnknown f n = UsesUnknown (sites f) n
 FailsBy TypeClash f n = ClashesType (sites f) n
 FailsBy PhiEdges f n = ⊥
-FailsBy Unassigned f n = UsesUnassigned f n
+FailsBy Unassigned f n = UsesUnassigned (sites f) (begins f) n
 
 -- the reason holds nowhere
 abbrev pub Passes : Reason → Function → Type 0
@@ -116,6 +116,11 @@ pub record IsRefusedAt (reason : Reason) (f : Function) (refused : Refused) : Ty
   pub site : ℕ
   pub tested : IsTestedAs reason f site
   pub told : refused ≡ refusal_at reason f site
+
+-- where a test first fails, or that it fails nowhere
+abbrev pub IsFirstFailure : (ℕ → Type 0) → Option ℕ → Type 0
+IsFirstFailure Fails None = (n : ℕ) → Fails n → ⊥
+IsFirstFailure Fails (Some n) = Fails n × ((k : ℕ) → Fails k → n ≤ k)
 
 -- of a refusal this holds, and of want of memory nothing is said
 abbrev pub IfRefused : (Refused → Type 0) → CheckFault → Type 0

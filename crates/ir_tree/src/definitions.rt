@@ -1,7 +1,7 @@
 ghost use Rattle.std.specs.Prelude.{◌≡◌, ◌+◌, ◌<◌, ℕ, List, All, length, slice_get, Some, IfOk};
 ghost use Rattle.ir_tree.specs.declared.sites.Site.{Site};
 ghost use Rattle.ir_tree.specs.Sites.{IsNumbered};
-ghost use Rattle.ir_tree.specs.Definitions.{AreFirst};
+ghost use Rattle.ir_tree.specs.Definitions.{AreFirst, HasFirsts};
 
 use crate::sites::Site;
 use std::alloc::Global;
@@ -15,7 +15,7 @@ pub fn first_definitions(
 ) -> Result<Sequence<Option<usize>>, NoMemory>
     requires { All (IsNumbered names) sites.now }
     ensures len { IfOk result (λ table. length table ≡ names) }
-    ensures first { IfOk result (λ table. AreFirst sites.now (length sites.now) table) }
+    ensures first { IfOk result (λ table. HasFirsts sites.now table) }
 {
     let mut table = vec![in alloc; None; names]?;
     for (n, site) in sites.iter().enumerate() {

@@ -1,4 +1,4 @@
-ghost use Rattle.std.specs.Prelude.{◌≡◌, map, true, slice_index_or, OnOk, IfOk};
+ghost use Rattle.std.specs.Prelude.{◌≡◌, map, length, true, slice_index_or, OnOk, IfOk};
 ghost use Rattle.ir_tree.specs.Sites.{sites, begins, operand_site, is_same_type, changes_width, inst_sites, terminator_sites, parameter_sites, returns_type, block_steps, no_place};
 ghost use Rattle.ir_tree.specs.Types.{one_bit};
 ghost use Rattle.ir_tree.specs.SiteLists.{with_part, with_parts, block_parts};
@@ -46,6 +46,7 @@ pub struct SiteList {
 pub fn sites_of(alloc: Global, f: &Function) -> Result<SiteList, NoMemory>
     ensures all { IfOk result (λ list. list.all ≡ sites f.now) }
     ensures begins { IfOk result (λ list. list.begins ≡ begins f.now) }
+    ensures len { IfOk result (λ list. length list.begins ≡ length list.all) }
 {
     let mut list = SiteList {
         all: Sequence::from_vec(Vec::new(alloc)),
