@@ -1,3 +1,4 @@
+pub mod Failures
 pub mod Firsts
 pub mod Listing
 pub mod Widths
