@@ -13,6 +13,9 @@ ghost use Rattle.ir_tree.specs.Sites.{AreNumbered};
 ghost use Rattle.ir_tree.specs.WellFormed.{Passes, PassesNames, IsRefusedAt, IfRefused, IsFirstFailure, UsesUnassigned};
 ghost use Rattle.ir_tree.specs.Definitions.{HasFirsts};
 
+#[cfg(test)]
+mod tests;
+
 use ir_tree::{CheckFault, Function, Reason, Site, first_definitions, refusal_at, sites_of};
 use std::alloc::Global;
 

@@ -14,7 +14,7 @@ mod names;
 mod sites;
 mod tree;
 
-pub use definitions::first_definitions;
+pub use definitions::{are_numbered, first_definitions};
 pub use limits::is_within_limits;
 pub use module::{CheckFault, Entry, Module, Reason, Refused};
 pub use name::Name;
