@@ -7,6 +7,7 @@
 #![tactic(auto)]
 
 mod definitions;
+mod laws;
 mod limits;
 mod module;
 mod name;
@@ -15,6 +16,7 @@ mod sites;
 mod tree;
 
 pub use definitions::{are_numbered, first_definitions};
+pub use laws::is_one_refusal;
 pub use limits::is_within_limits;
 pub use module::{CheckFault, Entry, Module, Reason, Refused};
 pub use name::Name;
