@@ -1,4 +1,7 @@
 pub mod Names
 pub mod Types
 pub mod Limits
+pub mod Sites
+pub mod SiteLists
 pub mod WellFormed
+pub mod Definitions

@@ -1,86 +1,138 @@
--- What is asked of a function beside its spelling: each name is defined once, and each use of a name has a definition of the type written there that stands before it. The function has one block.
-use Rattle.std.specs.Prelude.{◌≡◌, ◌<◌, ℕ, ◌+◌, List, [], ◌∷◌, ◌++◌, length, map, flat_map, slice_get, Option, Some, None}
+-- What is asked of a function beside its spelling, each with the sites at which it fails. A reason is told at the first of its sites, and only where no reason before it has one.
+use Rattle.std.specs.Prelude.{◌≡◌, ◌<◌, ◌≤◌, ◌⊎◌, ℕ, List, slice_get, Option, Some, None, false}
 use Rattle.ir_tree.specs.declared.tree.IrType.{IrType}
-use Rattle.ir_tree.specs.declared.tree.IrType.TheVariants.{Int}
-use Rattle.ir_tree.specs.declared.tree.Operand.{Operand}
-use Rattle.ir_tree.specs.declared.tree.Operand.TheVariants.{Local}
-use Rattle.ir_tree.specs.declared.tree.Cast.{Cast}
-use Rattle.ir_tree.specs.declared.tree.Cast.TheVariants.{Truncate, ZeroExtend, SignExtend}
-use Rattle.ir_tree.specs.declared.tree.Inst.{Inst}
-use Rattle.ir_tree.specs.declared.tree.Inst.TheVariants as inst
-use Rattle.ir_tree.specs.declared.tree.TypedOperand.{TypedOperand}
-use Rattle.ir_tree.specs.declared.tree.Terminator.{Terminator}
-use Rattle.ir_tree.specs.declared.tree.Terminator.TheVariants.{Return}
-use Rattle.ir_tree.specs.declared.tree.Block.{Block}
-use Rattle.ir_tree.specs.declared.tree.Parameter.{Parameter}
 use Rattle.ir_tree.specs.declared.tree.Function.{Function}
-use Rattle.ir_tree.specs.Types.{one_bit}
+use Rattle.ir_tree.specs.declared.sites.Site.{Site}
+use Rattle.ir_tree.specs.declared.sites.Site.TheVariants.{Defines, Uses, Written}
+use Rattle.ir_tree.specs.declared.module.Reason.{Reason}
+use Rattle.ir_tree.specs.declared.module.Reason.TheVariants.{Syntax, Unsupported, Limit, NameTwice, NameUnknown, TypeClash, PhiEdges, Unassigned}
+use Rattle.ir_tree.specs.declared.module.Refused.{Refused}
+use Rattle.ir_tree.specs.declared.module.CheckFault.{CheckFault}
+use Rattle.ir_tree.specs.declared.module.CheckFault.TheVariants as fault
+use Rattle.ir_tree.specs.Sites.{sites, begins, is_same_type, place_of}
 
--- a name that is defined, and the type of its value; a label has no value
-pub record Definition : Type 0 where
+-- ---- names
+
+-- a site before this one defines the same name
+pub record DefinesAgain (all : List Site) (n : ℕ) : Type 0 where
+  pub type : Option IrType
   pub name : ℕ
-  pub of_type : Option IrType
+  pub here : slice_get all n ≡ Some (Defines type name)
+  pub earlier : ℕ
+  pub before : earlier < n
+  pub other : Option IrType
+  pub there : slice_get all earlier ≡ Some (Defines other name)
 
-abbrev pub parameter_definition : Parameter → Definition
-parameter_definition p = record { name = p.name; of_type = Some p.of_type }
+-- some site gives the name a value
+abbrev pub HasValue : List Site → ℕ → Type 0
+HasValue all name = (m : ℕ) × (type : IrType) × (slice_get all m ≡ Some (Defines (Some type) name))
 
-abbrev pub result_definition : Inst → Definition
-result_definition (inst.Binary into op width left right) = record { name = into; of_type = Some (Int width) }
-result_definition (inst.Icmp into predicate same_sign width left right) = record { name = into; of_type = Some (Int one_bit) }
-result_definition (inst.Cast into cast from operand to) = record { name = into; of_type = Some (Int to) }
-result_definition (inst.Select into condition if_true if_false) = record { name = into; of_type = Some if_true.of_type }
-result_definition (inst.Freeze into width operand) = record { name = into; of_type = Some (Int width) }
+-- a name is used as a value, and nothing gives it one
+pub record UsesUnknown (all : List Site) (n : ℕ) : Type 0 where
+  pub type : IrType
+  pub name : ℕ
+  pub here : slice_get all n ≡ Some (Uses type name)
+  pub unknown : HasValue all name → ⊥
 
-abbrev pub label_definition : Block → Definition
-label_definition b = record { name = b.label; of_type = None }
+-- ---- types
 
-abbrev pub block_definitions : Block → List Definition
-block_definitions b = label_definition b ∷ map result_definition b.insts
+-- a name is used as a value of a type, and gets one of another
+pub record UsesOtherType (all : List Site) (n : ℕ) : Type 0 where
+  pub type : IrType
+  pub name : ℕ
+  pub here : slice_get all n ≡ Some (Uses type name)
+  pub defined : ℕ
+  pub other : IrType
+  pub there : slice_get all defined ≡ Some (Defines (Some other) name)
+  pub differs : is_same_type other type ≡ false
 
--- in order: the parameters, and then of each block the label, an entry's without one too, and the results
-abbrev pub definitions : Function → List Definition
-definitions f = map parameter_definition f.parameters ++ flat_map block_definitions f.blocks
+abbrev pub ClashesType : List Site → ℕ → Type 0
+ClashesType all n = (slice_get all n ≡ Some (Written false)) ⊎ UsesOtherType all n
 
--- no two places define one name
-abbrev pub IsDefinedOnce : Function → Type 0
-IsDefinedOnce f = (i j : ℕ) (d e : Definition) → slice_get (definitions f) i ≡ Some d → slice_get (definitions f) j ≡ Some e → d.name ≡ e.name → i ≡ j
+-- ---- assignment, in a function of one block, whose parts run in text order
 
--- a definition before this place gives the name a value of the type
-pub record IsDefinedBefore (f : Function) (place : ℕ) (type : IrType) (name : ℕ) : Type 0 where
-  pub at : ℕ
-  pub before : at < place
-  pub defines : slice_get (definitions f) at ≡ Some (record { name = name; of_type = Some type })
+-- no site before this one defines the name
+abbrev pub IsUndefinedBefore : List Site → ℕ → ℕ → Type 0
+IsUndefinedBefore all n name = (m : ℕ) (type : Option IrType) → m < n → slice_get all m ≡ Some (Defines type name) → ⊥
 
--- an operand of this type may stand where what stands there defines the name at this place
-abbrev pub IsUsable : Function → ℕ → IrType → Operand → Type 0
-IsUsable f place type (Local name) = IsDefinedBefore f place type name
-IsUsable f place type _ = Unit {0}
+-- a name is used, and no part of the text before defines it; each site has the number of the first site in its part
+pub record UsesUnassigned (all : List Site) (begins : List ℕ) (n : ℕ) : Type 0 where
+  pub type : IrType
+  pub name : ℕ
+  pub here : slice_get all n ≡ Some (Uses type name)
+  pub begin : ℕ
+  pub part : slice_get begins n ≡ Some begin
+  pub unassigned : IsUndefinedBefore all begin name
 
-abbrev pub IsTypedUsable : Function → ℕ → TypedOperand → Type 0
-IsTypedUsable f place t = IsUsable f place t.of_type t.operand
+-- ---- all of it
 
--- a truncation makes a number narrower, and an extension makes it wider
-abbrev pub ChangesWidth : Cast → ℕ → ℕ → Type 0
-ChangesWidth (Truncate flags) from to = to < from
-ChangesWidth (ZeroExtend non_negative) from to = from < to
-ChangesWidth SignExtend from to = from < to
+-- what a reason says of a site; the reasons that are told of tokens have none
+abbrev pub FailsBy : Reason → Function → ℕ → Type 0
+FailsBy Syntax f n = ⊥
+FailsBy Unsupported f n = ⊥
+FailsBy Limit f n = ⊥
+FailsBy NameTwice f n = DefinesAgain (sites f) n
+FailsBy NameUnknown f n = UsesUnknown (sites f) n
+FailsBy TypeClash f n = ClashesType (sites f) n
+FailsBy PhiEdges f n = ⊥
+FailsBy Unassigned f n = UsesUnassigned (sites f) (begins f) n
 
-abbrev pub AreOperandsUsable : Function → ℕ → Inst → Type 0
-AreOperandsUsable f place (inst.Binary into op width left right) = IsUsable f place (Int width) left × IsUsable f place (Int width) right
-AreOperandsUsable f place (inst.Icmp into predicate same_sign width left right) = IsUsable f place (Int width) left × IsUsable f place (Int width) right
-AreOperandsUsable f place (inst.Cast into cast from operand to) = IsUsable f place (Int from) operand × ChangesWidth cast from.bits to.bits
-AreOperandsUsable f place (inst.Select into condition if_true if_false) =
-    IsUsable f place (Int one_bit) condition × (if_true.of_type ≡ if_false.of_type) × IsTypedUsable f place if_true × IsTypedUsable f place if_false
-AreOperandsUsable f place (inst.Freeze into width operand) = IsUsable f place (Int width) operand
+-- the reason holds nowhere
+abbrev pub Passes : Reason → Function → Type 0
+Passes reason f = (n : ℕ) → FailsBy reason f n → ⊥
 
--- the returned operand may stand behind all else, and its type is the header's
-abbrev pub IsReturnable : Function → Terminator → Type 0
-IsReturnable f (Return None) = f.returns ≡ None
-IsReturnable f (Return (Some r)) = (f.returns ≡ Some r.of_type) × IsTypedUsable f (length (definitions f)) r
+-- the first site of a reason
+pub record IsFirstSite (reason : Reason) (f : Function) (n : ℕ) : Type 0 where
+  pub fails : FailsBy reason f n
+  pub first : (k : ℕ) → FailsBy reason f k → n ≤ k
+
+abbrev pub PassesNames : Function → Type 0
+PassesNames f = Passes NameTwice f × Passes NameUnknown f
 
 pub record IsWellFormed (f : Function) : Type 0 where
-  pub block : Block
-  pub one_block : f.blocks ≡ block ∷ []
-  pub once : IsDefinedOnce f
-  pub uses : (k : ℕ) (i : Inst) → slice_get block.insts k ≡ Some i → AreOperandsUsable f (length f.parameters + 1 + k) i
-  pub returned : IsReturnable f block.terminator
+  pub names : PassesNames f
+  pub types : Passes TypeClash f
+  pub assigned : Passes Unassigned f
+
+-- the reasons before it pass, and this is its first site
+abbrev pub IsTestedAs : Reason → Function → ℕ → Type 0
+IsTestedAs Syntax f n = ⊥
+IsTestedAs Unsupported f n = ⊥
+IsTestedAs Limit f n = ⊥
+IsTestedAs NameTwice f n = IsFirstSite NameTwice f n
+IsTestedAs NameUnknown f n = Passes NameTwice f × IsFirstSite NameUnknown f n
+IsTestedAs TypeClash f n = PassesNames f × IsFirstSite TypeClash f n
+IsTestedAs PhiEdges f n = ⊥
+IsTestedAs Unassigned f n = PassesNames f × Passes TypeClash f × IsFirstSite Unassigned f n
+
+-- ---- what is told
+
+-- a reason at a site
+abbrev pub refusal_at : Reason → Function → ℕ → Refused
+refusal_at reason f n = record { reason = reason; line = (place_of f n).line; column = (place_of f n).column }
+
+-- the refusal has this reason, for which the function is refused, and its place
+pub record IsRefusedAt (reason : Reason) (f : Function) (refused : Refused) : Type 0 where
+  pub site : ℕ
+  pub tested : IsTestedAs reason f site
+  pub told : refused ≡ refusal_at reason f site
+
+-- where a test first fails, or that it fails nowhere
+abbrev pub IsFirstFailure : (ℕ → Type 0) → Option ℕ → Type 0
+IsFirstFailure Fails None = (n : ℕ) → Fails n → ⊥
+IsFirstFailure Fails (Some n) = Fails n × ((k : ℕ) → Fails k → n ≤ k)
+
+-- of a refusal this holds, and of want of memory nothing is said
+abbrev pub IfRefused : (Refused → Type 0) → CheckFault → Type 0
+IfRefused Holds (fault.Refused refused) = Holds refused
+IfRefused Holds fault.NoMemory = Unit {0}
+
+-- ---- laws
+
+-- a function is refused in one way
+abbrev pub OneRefusal : Type 0
+OneRefusal = (f : Function) (reason other : Reason) (a b : Refused) → IsRefusedAt reason f a → IsRefusedAt other f b → a ≡ b
+
+-- and not where it is well formed
+abbrev pub RefusedIsNotWellFormed : Type 0
+RefusedIsNotWellFormed = (f : Function) (reason : Reason) (refused : Refused) → IsRefusedAt reason f refused → IsWellFormed f → ⊥

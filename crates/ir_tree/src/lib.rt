@@ -1,20 +1,28 @@
 //! The tree of a module's text: functions, their blocks and instructions, and the names in them.
 //!
 //! It promises plain data: two functions with the same parts are equal. Limits of a function are
-//! stated here, with their test. It stands on `tv_num`; the reader makes trees, and whatever runs,
-//! prints or checks a function takes them.
+//! stated here, with their test, and what is asked of a function beside its spelling
+//! (`specs/WellFormed.antt`), with the list of what it is asked of: the function's sites
+//! (`sites_of`). It stands on `tv_num` and `text_places`; the reader makes trees, `ir_check` and
+//! `assigned_names` test them, and whatever runs or prints a function takes them.
 #![tactic(auto)]
 
+mod definitions;
+mod laws;
 mod limits;
 mod module;
 mod name;
 mod names;
+mod sites;
 mod tree;
 
+pub use definitions::{are_numbered, first_definitions, is_defined_before};
+pub use laws::is_one_refusal;
 pub use limits::is_within_limits;
-pub use module::{Entry, Module, Reason, Refused};
+pub use module::{CheckFault, Entry, Module, Reason, Refused};
 pub use name::Name;
 pub use names::Names;
+pub use sites::{Site, SiteList, is_same_type, one_bit, refusal_at, sites_of};
 pub use tree::{
     Block, Cast, Flags, Function, Inst, IrType, Op, Operand, Parameter, Predicate, Terminator,
     TypedOperand,

@@ -1,6 +1,7 @@
 use crate::name::Name;
 use crate::names::Names;
 use support::Sequence;
+use text_places::Place;
 use tv_num::Width;
 
 /// A type of a value (LLVM Language Reference, "Integer Type", "Pointer Type").
@@ -159,4 +160,7 @@ pub struct Function {
     pub parameters: Sequence<Parameter>,
     pub blocks: Sequence<Block>,
     pub names: Names,
+    /// The line and column of each of its types, names, literals and labels, in text order. They
+    /// are no part of what the function does.
+    pub places: Sequence<Place>,
 }

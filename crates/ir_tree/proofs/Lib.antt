@@ -1,0 +1,5 @@
+pub mod Failures
+pub mod Firsts
+pub mod Listing
+pub mod Refusals
+pub mod Widths
