@@ -1,6 +1,6 @@
 -- What is open behind one token more.
 use Rattle.std.proofs.Common.{◌≡◌, ℕ, ◌+◌, ◌-◌, ◌<◌, ◌≤◌, Bool, true, false, List, [], ◌∷◌, ◌++◌, length, get_or, slice_range, take, drop, Option, Some, None, refl, sym, ap, subst, ◌∙◌, inl, inr, arith}
-use Rattle.std.specs.Prelude.{fold}
+use Rattle.std.specs.Prelude.{fold, is_some}
 use Rattle.std.proofs.lemmas.Bool.{cases_order, cases_lt}
 use Rattle.std.proofs.lemmas.List.{take-append-drop, take-take, drop-take, drop-drop}
 use Rattle.std.proofs.lemmas.List.Edits.{between_more, between_none, split_between}
@@ -68,3 +68,19 @@ pub marks_next : (tokens : List Lexeme) (from place : ℕ) (t : Lexeme) (mark : 
     → marks tokens from place ≡ Some open_marks → mark ≡ mark_of t → marks_after (Some open_marks) mark ≡ now → marks tokens from (place + 1) ≡ now
 marks_next tokens from place t mark open_marks now le lt is here mark-is step =
     marks_more tokens from place t le lt is ∙ ap (λ (o : Option (List ℕ)). marks_after o (mark_of t)) here ∙ ap (marks_after (Some open_marks)) (sym mark-is) ∙ step
+
+-- ---- what is open fits
+
+open_fits : (o : Option (List ℕ)) → has_open o ≡ true → is_some o ≡ true
+open_fits None h = absurd (cc)
+open_fits (Some open_marks) h = refl
+
+pub balanced_fits : (tokens : List Lexeme) (from place : ℕ) → IsBalanced tokens from place → is_some (marks tokens from place) ≡ true
+balanced_fits tokens from place balanced = ap is_some balanced
+
+pub inside_fits : (tokens : List Lexeme) (first from place : ℕ) → first ≤ from → from ≤ place → IsBalanced tokens first from → IsInside tokens from place → is_some (marks tokens first place) ≡ true
+inside_fits tokens first from place ff fp balanced inside =
+    elim (cases_lt from place) [
+      | inl less ↦ open_fits (marks tokens first place) (ap has_open (marks_join tokens first from place ff fp balanced) ∙ inside place less (omega arith))
+      | inr same ↦ let e : place ≡ from = omega arith in rw e (balanced_fits tokens first from balanced)
+    ]
