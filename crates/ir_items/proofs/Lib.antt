@@ -3,3 +3,5 @@ pub mod Passing
 pub mod LayoutParts
 pub mod HeadTokens
 pub mod Phases
+pub mod Ends
+pub mod OneStop

@@ -43,7 +43,7 @@ marks_join tokens i k m ik km balanced =
     ∙ fold-append (λ (open_marks : Option (List ℕ)) (u : Lexeme). marks_after open_marks (mark_of u)) (Some []) (slice_range tokens i k) (slice_range tokens k m)
     ∙ ap (λ (start : Option (List ℕ)). marks_from start (slice_range tokens k m)) balanced
 
-not_balanced : (o : Option (List ℕ)) → has_open o ≡ true → o ≡ Some [] → ⊥
+pub not_balanced : (o : Option (List ℕ)) → has_open o ≡ true → o ≡ Some [] → ⊥
 not_balanced o h e = let bad : false ≡ true = (rw e at h) in cc
 
 -- inside a bracket nothing stands at depth 0
@@ -84,3 +84,28 @@ inside_fits tokens first from place ff fp balanced inside =
       | inl less ↦ open_fits (marks tokens first place) (ap has_open (marks_join tokens first from place ff fp balanced) ∙ inside place less (omega arith))
       | inr same ↦ let e : place ≡ from = omega arith in rw e (balanced_fits tokens first from balanced)
     ]
+
+-- ---- behind a mark that closes what isn't open
+
+from_none : (tokens : List Lexeme) → marks_from None tokens ≡ None
+from_none [] = refl
+from_none (t ∷ ts) = from_none ts
+
+none_stays : (tokens : List Lexeme) (i k m : ℕ) → i ≤ k → k ≤ m → marks tokens i k ≡ None → marks tokens i m ≡ None
+unfolding marks
+none_stays tokens i k m ik km none =
+    ap marks_behind (split_range tokens i k m ik km)
+    ∙ fold-append (λ (open_marks : Option (List ℕ)) (u : Lexeme). marks_after open_marks (mark_of u)) (Some []) (slice_range tokens i k) (slice_range tokens k m)
+    ∙ ap (λ (start : Option (List ℕ)). marks_from start (slice_range tokens k m)) none
+    ∙ from_none (slice_range tokens k m)
+
+-- what fits stands before it
+pub fits_before : (tokens : List Lexeme) (first place q : ℕ) → first ≤ place → marks tokens first place ≡ None → is_some (marks tokens first q) ≡ true → q < place
+fits_before tokens first place q fp none fits =
+    elim (cases_lt q place) [
+      | inl less ↦ less
+      | inr more ↦ let bad : false ≡ true = (rw (none_stays tokens first place q fp more none) at fits) in absurd (cc)
+    ]
+
+pub balanced_on : (tokens : List Lexeme) (i k m : ℕ) → i ≤ k → k ≤ m → IsBalanced tokens i k → IsBalanced tokens k m → IsBalanced tokens i m
+balanced_on tokens i k m ik km one two = marks_join tokens i k m ik km one ∙ two

@@ -28,7 +28,7 @@ further tokens first test low k e fk balanced before here inside m lo hi bal =
       | inr (inr more) ↦ absurd (deeper tokens first k m fk (omega arith) balanced (inside m more hi) bal)
     ]
 
-no_head_to : (tokens : List Lexeme) (first k e : ℕ) → first < k → IsBalanced tokens first k → NoHeadBetween tokens first k → begins_item tokens k ≡ false
+pub no_head_to : (tokens : List Lexeme) (first k e : ℕ) → first < k → IsBalanced tokens first k → NoHeadBetween tokens first k → begins_item tokens k ≡ false
     → ((m : ℕ) → k < m → m < e → has_open (marks tokens k m) ≡ true) → NoHeadBetween tokens first e
 no_head_to tokens first k e fk balanced before here inside m lo hi bal =
     further tokens first (begins_item tokens) (first + 1) k e (omega arith) balanced (λ n a b c. before n (omega arith) b c) here inside m (omega arith) hi bal
@@ -36,7 +36,7 @@ no_head_to tokens first k e fk balanced before here inside m lo hi bal =
 to_piece_end : (tokens : List Lexeme) (k e : ℕ) → IsPiece tokens k e → (m : ℕ) → k < m → m < e → has_open (marks tokens k m) ≡ true
 to_piece_end tokens k e piece m lo hi = piece.first m lo hi
 
-to_place : (tokens : List Lexeme) (k place : ℕ) → IsInside tokens k place → (m : ℕ) → k < m → m < place → has_open (marks tokens k m) ≡ true
+pub to_place : (tokens : List Lexeme) (k place : ℕ) → IsInside tokens k place → (m : ℕ) → k < m → m < place → has_open (marks tokens k m) ≡ true
 to_place tokens k place inside m lo hi = inside m lo (omega arith)
 
 or_left : (a b : Bool) → a ≡ true → (a || b) ≡ true
@@ -152,7 +152,7 @@ in_body_stops tokens defines first name body place reason new h bl (PieceStopsAt
 
 -- ---- the faults of pieces are those of their items
 
-wrong_and_right : {b : Bool} {P : Type 0} → b ≡ false → b ≡ true → P
+pub wrong_and_right : {b : Bool} {P : Type 0} → b ≡ false → b ≡ true → P
 wrong_and_right f t = let bad : false ≡ true = sym f ∙ t in absurd (cc)
 
 other_stops : (tokens : List Lexeme) (defines : List Define) (first k place : ℕ) (reason : Why) → IsBalanced tokens first k → begins_item tokens k ≡ false → is_wrong_layout tokens first ≡ false → OtherGoesOn tokens first k
