@@ -5,3 +5,4 @@ pub mod HeadTokens
 pub mod Phases
 pub mod Ends
 pub mod OneStop
+pub mod OneCut

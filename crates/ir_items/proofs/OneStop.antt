@@ -247,13 +247,13 @@ other_bracket tokens defines first end place item on within none =
     elim (cases_lt end place) [
       | inl less ↦ other_ends tokens defines first end place item on (omega arith) less
       | inr more ↦ let same : place ≡ end = omega arith in
-        elim item.ends [
-          | inl is ↦ absurd (omega (arith, is, same))
-          | inr head ↦
-            let next : IsBalanced tokens first (end + 1) = balanced_on tokens first end (end + 1) (omega arith) (omega arith) item.balanced (begins_balanced tokens end head) in
-            let again : end + 1 < place + 1 = fits_before tokens first (place + 1) (end + 1) (omega arith) none (balanced_fits tokens first (end + 1) next) in
-            absurd (omega arith)
-        ]
+          elim item.ends [
+            | inl is ↦ absurd (omega (arith, is, same))
+            | inr head ↦
+                let next : IsBalanced tokens first (end + 1) = balanced_on tokens first end (end + 1) (omega arith) (omega arith) item.balanced (begins_balanced tokens end head) in
+                let again : end + 1 < place + 1 = fits_before tokens first (place + 1) (end + 1) (omega arith) none (balanced_fits tokens first (end + 1) next) in
+                absurd (omega arith)
+          ]
     ]
 
 pub other_apart : (tokens : List Lexeme) (defines : List Define) (first end place : ℕ) (reason : Why) → IsOther tokens first end → StopsAt tokens defines first place reason → ⊥

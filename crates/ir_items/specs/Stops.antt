@@ -10,7 +10,7 @@ use Rattle.ir_items.specs.declared.fault.ItemFault.TheVariants.{Stop, NoMemory}
 use Rattle.ir_items.specs.Marks.{marks, has_open, IsBalanced, IsInside}
 use Rattle.ir_items.specs.Items.{is_head, is_define, begins_item, is_wrong_layout, OtherGoesOn, BeforeName, IsNamed, BeforeBody, HasBody, name_at, has_name, IsCut}
 
--- behind these defines one more begins at a place, and its name, which none of them has, stands at another
+-- behind these defines one more may stand: it begins at a place, and its name, which none of them has, stands at another
 pub record IsNew (tokens : List Lexeme) (defines : List Define) (first place : ℕ) : Type 0 where
   pub few : length defines < 4096
   pub named : IsNamed tokens first place

@@ -1,11 +1,13 @@
 ghost use Rattle.std.specs.Prelude.{◌≡◌, ◌+◌, ◌<◌, ◌≤◌, ℕ, List, length, map, IfOk, IfErr, OnOk, Some, true, false};
+ghost use Rattle.ir_lexer.specs.Lexeme.{Lexeme};
+ghost use Rattle.ir_items.specs.declared.fault.Why.{Why as TheWhy};
 ghost use Rattle.ir_items.specs.declared.item.Define.{Define as TheDefine};
 ghost use Rattle.ir_items.specs.Marks.{IsBalanced};
 ghost use Rattle.ir_items.specs.Items as spec;
 ghost use Rattle.ir_items.specs.Items.{IsCut};
 ghost use Rattle.ir_items.specs.Names.{name_in};
 ghost use Rattle.ir_items.specs.Pieces.{ItemStops, IsAdded};
-ghost use Rattle.ir_items.specs.Stops.{Stops, IsNew};
+ghost use Rattle.ir_items.specs.Stops.{Stops, IsNew, IsStop};
 
 use crate::fault::{ItemFault, Why};
 use crate::heads::{begins_item, is_brace, is_called, is_define, is_head, is_wrong_layout};
@@ -185,3 +187,10 @@ pub fn cut(alloc: Global, tokens: &[Token<'_>]) -> Result<Sequence<Define>, Item
     }
     Ok(Sequence::from_vec(defines))
 }
+
+/// The items of a list of tokens, or its stop, are one.
+pub fn is_one_cut()
+    ensures items { (tokens : List Lexeme) (d e : List TheDefine) → IsCut tokens (length tokens) d → IsCut tokens (length tokens) e → d ≡ e }
+    ensures apart { (tokens : List Lexeme) (d : List TheDefine) (place : ℕ) (why : TheWhy) → IsCut tokens (length tokens) d → IsStop tokens place why → ⊥ }
+    ensures stops { (tokens : List Lexeme) (p q : ℕ) (v w : TheWhy) → IsStop tokens p v → IsStop tokens q w → (p ≡ q) × (v ≡ w) }
+{}
