@@ -5,7 +5,9 @@ use Rattle.std.proofs.lemmas.List.{append-nil, length-append}
 use Rattle.ir_lexer.specs.Lexeme.{Lexeme}
 use Rattle.ir_tree.specs.declared.module.Reason.{Reason}
 use Rattle.ir_tree.specs.declared.module.Reason.TheVariants.{Syntax}
-use Rattle.ir_forms.specs.Form.{Class, never, either, Form, give, one, seq, upto, peek, tail, mapped, Why, unfit, limit, Reading, reads, stops, and_then, Judged, none, past, found, judged, taken, one_of, first_of, peeked, begun, parts, read}
+use Rattle.ir_forms.specs.Form.{Class, never, either, Form, give, one, seq, upto, peek, tail, mapped, Why, unfit, limit, Reading, reads, stops, and_then, Judged, none, past, found, judged, taken, one_of, first_of, peeked, begun, parts, read, balanced, until_closed}
+use Rattle.ir_forms.specs.declared.bracket.Bracket.{Bracket}
+use Rattle.ir_forms.proofs.Balanced.{all_closing, closed-ends, closed-whole, closed-halts}
 
 abbrev Tokens : Type 0
 Tokens = List Lexeme
@@ -845,6 +847,23 @@ also_lawful {A} {X} {o} {p} g1 h1 g2 h2 La Lb empty = join_lawful g1 h1 g2 h2 La
         go [] split = subst (λ (us : Tokens). Follows p us r) (sym split) (follows-left p o rest r f)
         go (t ∷ front) split = inl (subst (λ (us : Tokens). SameHead us (t ∷ (front ++ r))) (sym split) refl)
 
+-- ---- up to the mark that closes a bracket
+
+pub balanced_lawful : (b : Bracket) → Lawful never (λ ts. until_closed (b ∷ []) ts) (λ ts. until_closed (b ∷ []) ts)
+balanced_lawful b = record {
+  whole = λ ts x rest e. let (front, split, again) = closed-whole (b ∷ []) ts x rest e in record { front = front; split = split; again = λ r f. again r };
+  halts = λ ts why rest e. let H = closed-halts (b ∷ []) ts why rest e in record {
+    front = H.front;
+    split = H.split;
+    again = H.again;
+    ends = record { more = H.more; value = tt; whole = λ r f. H.ends r };
+    past_limit = λ f. let never : unfit Syntax ≡ limit = H.why_is ∙ f in absurd (cc never);
+  };
+  lifts = λ ts x rest e. e;
+  lifts_unfit = λ ts reason rest e. e;
+  ends = record { more = all_closing (b ∷ []); value = tt; whole = λ r f. closed-ends (b ∷ []) r };
+}
+
 -- ---- each form
 
 pub read_lawful : {o : Lexeme → Bool} {X : Type 0} (b : Bool) (f : Form o X) → Lawful o (λ ts. read b f ts) (λ ts. read false f ts)
@@ -857,4 +876,5 @@ read_lawful {o} {X} b (tail goes_on begins within part f) = also_lawful (λ ts. 
     (λ s ts. parts b goes_on begins within (λ s' a r. read b (part s' a) r) (length ts) s ts) (λ s ts. parts false goes_on begins within (λ s' a r. read false (part s' a) r) (length ts) s ts)
     (read_lawful b f) (λ s. tail_lawful b goes_on begins within (λ s' a ts. read b (part s' a) ts) (λ s' a ts. read false (part s' a) ts) (λ s' a. read_lawful b (part s' a)) s)
     (λ s. tail-empty b goes_on begins within (λ s' a ts. read b (part s' a) ts) (λ s' a ts. read false (part s' a) ts) (λ s' a. read_lawful b (part s' a)) s)
+read_lawful b (balanced c) = balanced_lawful c
 read_lawful b (mapped k f) = also_lawful (λ ts. read b f ts) (λ ts. read false f ts) (λ a ts. reads (k a) ts) (λ a ts. reads (k a) ts) (read_lawful b f) (λ a. give_lawful (k a)) (λ a. give-empty (k a))

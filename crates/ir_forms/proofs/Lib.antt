@@ -1,3 +1,4 @@
+pub mod Balanced
 pub mod Lawful
 pub mod Exact
 pub mod Loops

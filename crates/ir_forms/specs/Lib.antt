@@ -1,3 +1,4 @@
+pub mod Brackets
 pub mod Form
 pub mod Spelling
 pub mod Refusals

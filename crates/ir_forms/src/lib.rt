@@ -10,6 +10,8 @@
 //! and on `support`; the reader stands on it.
 #![tactic(auto)]
 
+mod bracket;
 mod fault;
 
+pub use bracket::{Bracket, Nesting, nesting_of};
 pub use fault::ReadFault;
