@@ -1,5 +1,5 @@
 -- Reading up to the mark that closes a bracket.
-use Rattle.std.proofs.Common.{◌≡◌, ◌≢◌, ℕ, ◌⊎◌, inl, inr, Bool, true, false, List, [], ◌∷◌, ◌++◌, Option, Some, None, refl, sym, ap, subst, ◌∙◌, append_assoc}
+use Rattle.std.proofs.Common.{◌≡◌, ℕ, ◌⊎◌, inl, inr, Bool, true, false, List, [], ◌∷◌, ◌++◌, refl, sym, ap, subst, ◌∙◌, append_assoc}
 use Rattle.ir_lexer.specs.declared.token.Kind.TheVariants as kind
 use Rattle.ir_lexer.specs.Lexeme.{Lexeme}
 use Rattle.ir_tree.specs.declared.module.Reason.{Reason}
@@ -9,7 +9,7 @@ use Rattle.ir_forms.specs.declared.bracket.Bracket.TheVariants.{Round, Square, C
 use Rattle.ir_forms.specs.declared.bracket.Nesting.{Nesting}
 use Rattle.ir_forms.specs.declared.bracket.Nesting.TheVariants.{Opens, Closes, Plain}
 use Rattle.ir_forms.specs.Brackets.{nesting_of, is_same, IsBalanced, nothing, plain, nested, IsClosed, IsInnermost, same, deeper}
-use Rattle.ir_forms.specs.Form.{Why, unfit, limit, Reading, reads, stops, open_behind, fitting, until_closed}
+use Rattle.ir_forms.specs.Form.{Why, unfit, Reading, reads, stops, until_closed}
 use Rattle.ir_forms.specs.Refusals.{LeavesOpen, StaysOpen}
 
 abbrev Tokens : Type 0
@@ -176,14 +176,17 @@ closed-found (b ∷ outer) (t ∷ q) x rest e = go (λ next e'. closed-found nex
         let (mid, C, O) = rec (b ∷ outer) (sym (step-plain b outer t n q) ∙ e) in
         (mid, record { inside = t ∷ C.inside; last = C.last; split = ap (λ (us : Tokens). t ∷ us) C.split; is_balanced = plain n C.is_balanced; closes = C.closes }, O)
     go rec (inr (inl (c, n))) =
-        let (mid, C, (mid', D, O)) = rec (c ∷ b ∷ outer) (sym (step-opens b outer t c n q) ∙ e) in
-        (mid', record {
-          inside = t ∷ (C.inside ++ C.last ∷ D.inside);
-          last = D.last;
-          split = ap (λ (us : Tokens). t ∷ us) (C.split ∙ ap (λ (us : Tokens). C.inside ++ C.last ∷ us) D.split ∙ sym (append_assoc C.inside (C.last ∷ D.inside) (D.last ∷ mid')));
-          is_balanced = nested c t C.inside C.last D.inside n C.is_balanced C.closes D.is_balanced;
-          closes = D.closes;
-        }, O)
+        let (mid, C, (mid', D, O)) = rec (c ∷ b ∷ outer) (sym (step-opens b outer t c n q) ∙ e) in (
+          mid',
+          record {
+            inside = t ∷ (C.inside ++ C.last ∷ D.inside);
+            last = D.last;
+            split = ap (λ (us : Tokens). t ∷ us) (C.split ∙ ap (λ (us : Tokens). C.inside ++ C.last ∷ us) D.split ∙ sym (append_assoc C.inside (C.last ∷ D.inside) (D.last ∷ mid')));
+            is_balanced = nested c t C.inside C.last D.inside n C.is_balanced C.closes D.is_balanced;
+            closes = D.closes;
+          },
+          O,
+        )
     go rec (inr (inr (inl n))) = (q, record { inside = []; last = t; split = refl; is_balanced = nothing; closes = n }, rec outer (sym (step-closes b outer t n q) ∙ e))
     go rec (inr (inr (inr (c, n, is)))) = let never : stops (unfit Syntax) (t ∷ q) ≡ reads x rest = sym (step-other b outer t c n is q) ∙ e in absurd (cc never)
 
@@ -261,13 +264,17 @@ closed-refused (b ∷ outer) r (t ∷ q) rest e = go (λ next e'. closed-refused
               leaves_open = S.leaves_open;
             })
         by (inr (mid, C, inr (mid', D, O))) =
-            inr (mid', record {
-              inside = t ∷ (C.inside ++ C.last ∷ D.inside);
-              last = D.last;
-              split = ap (λ (us : Tokens). t ∷ us) (C.split ∙ ap (λ (us : Tokens). C.inside ++ C.last ∷ us) D.split ∙ sym (append_assoc C.inside (C.last ∷ D.inside) (D.last ∷ mid')));
-              is_balanced = nested c t C.inside C.last D.inside n C.is_balanced C.closes D.is_balanced;
-              closes = D.closes;
-            }, O)
+            inr (
+              mid',
+              record {
+                inside = t ∷ (C.inside ++ C.last ∷ D.inside);
+                last = D.last;
+                split = ap (λ (us : Tokens). t ∷ us) (C.split ∙ ap (λ (us : Tokens). C.inside ++ C.last ∷ us) D.split ∙ sym (append_assoc C.inside (C.last ∷ D.inside) (D.last ∷ mid')));
+                is_balanced = nested c t C.inside C.last D.inside n C.is_balanced C.closes D.is_balanced;
+                closes = D.closes;
+              },
+              O,
+            )
     go rec (inr (inr (inl n))) = inr (q, record { inside = []; last = t; split = refl; is_balanced = nothing; closes = n }, rec outer (sym (step-closes b outer t n q) ∙ e))
     go rec (inr (inr (inr (c, n, is)))) = inl (here c n is (let both : stops (unfit Syntax) (t ∷ q) ≡ stops (unfit r) rest = sym (step-other b outer t c n is q) ∙ e in cc both))
 

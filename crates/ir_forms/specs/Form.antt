@@ -116,12 +116,16 @@ parts limits goes_on begins within part (suc n) s [] = reads s []
 parts limits goes_on begins within part (suc n) s (t ∷ ts) =
     first_of (begun limits (within s t) (goes_on t) (begins s t)) t ts (λ a rest. and_then (part s a rest) (λ s' rest'. parts limits goes_on begins within part n s' rest')) (λ rest. reads s rest)
 
--- the brackets that are open behind one more token, the innermost first, if it doesn't close another than the
--- innermost one
-abbrev pub open_behind : Nesting → Bracket → List Bracket → Option (List Bracket)
-open_behind Plain b outer = Some (b ∷ outer)
-open_behind (Opens c) b outer = Some (c ∷ b ∷ outer)
-open_behind (Closes c) b outer = (if is_same c b then Some outer else None)
+-- without the innermost of the open brackets, if it is this one
+abbrev pub closed_by : Bracket → List Bracket → Option (List Bracket)
+closed_by c [] = None
+closed_by c (b ∷ outer) = (if is_same c b then Some outer else None)
+
+-- the brackets that are open behind one more token, the innermost first; None where it closes another than that
+abbrev pub open_behind : Nesting → List Bracket → Option (List Bracket)
+open_behind Plain open_brackets = Some open_brackets
+open_behind (Opens c) open_brackets = Some (c ∷ open_brackets)
+open_behind (Closes c) open_brackets = closed_by c open_brackets
 
 abbrev pub fitting : Option (List Bracket) → Lexeme → List Lexeme → (List Bracket → Reading (Unit {0})) → Reading (Unit {0})
 fitting None t rest go_on = stops (unfit Syntax) (t ∷ rest)
@@ -131,7 +135,7 @@ fitting (Some open_brackets) t rest go_on = go_on open_brackets
 unfoldable pub until_closed : List Bracket → List Lexeme → Reading (Unit {0})
 until_closed [] ts = reads tt ts
 until_closed (b ∷ outer) [] = stops (unfit Syntax) []
-until_closed (b ∷ outer) (t ∷ ts) = fitting (open_behind (nesting_of t) b outer) t ts (λ open_brackets. until_closed open_brackets ts)
+until_closed (b ∷ outer) (t ∷ ts) = fitting (open_behind (nesting_of t) (b ∷ outer)) t ts (λ open_brackets. until_closed open_brackets ts)
 
 -- reading from the left, with limits or with limits lifted
 abbrev pub read : {o : Lexeme → Bool} {X : Type 0} → Bool → Form o X → List Lexeme → Reading X
