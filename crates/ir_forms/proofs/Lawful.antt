@@ -69,7 +69,7 @@ abbrev Either_of : {X : Type 0} → Reading X → (X → Tokens → Type 0) → 
 Either_of (reads x rest) R S = R x rest
 Either_of (stops why rest) R S = S why rest
 
-free-never : (r : Tokens) → is_free never r ≡ true
+pub free-never : (r : Tokens) → is_free never r ≡ true
 free-never [] = refl
 free-never (t ∷ r) = refl
 
@@ -472,7 +472,7 @@ begun-past : {A : Type 0} (b : Bool) (within : Bool) (go : Bool) (v : Option A) 
 begun-past b within true v e = judged-past b within v e
 begun-past b within false v e = absurd (cc e)
 
-free-left : (p q : Lexeme → Bool) (r : Tokens) → is_free (either p q) r ≡ true → is_free p r ≡ true
+pub free-left : (p q : Lexeme → Bool) (r : Tokens) → is_free (either p q) r ≡ true → is_free p r ≡ true
 free-left p q [] e = refl
 free-left p q (t ∷ r) e = go (p t) (q t) e
   where
@@ -480,7 +480,7 @@ free-left p q (t ∷ r) e = go (p t) (q t) e
     go true y e = e
     go false y e = refl
 
-free-right : (p q : Lexeme → Bool) (r : Tokens) → is_free (either p q) r ≡ true → is_free q r ≡ true
+pub free-right : (p q : Lexeme → Bool) (r : Tokens) → is_free (either p q) r ≡ true → is_free q r ≡ true
 free-right p q [] e = refl
 free-right p q (t ∷ r) e = go (p t) (q t) e
   where

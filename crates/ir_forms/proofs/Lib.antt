@@ -4,3 +4,4 @@ pub mod Exact
 pub mod Loops
 pub mod Stops
 pub mod Reasons
+pub mod Plain

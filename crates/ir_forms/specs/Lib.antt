@@ -2,4 +2,5 @@ pub mod Brackets
 pub mod Form
 pub mod Spelling
 pub mod Refusals
+pub mod Plain
 pub mod Answer
