@@ -1,10 +1,12 @@
 -- Forms that tell apart what comes next spell as the plain grammar does.
-use Rattle.std.proofs.Common.{◌≡◌, ℕ, zero, suc, ◌⊎◌, inl, inr, ◌↔◌, Bool, true, false, List, [], ◌∷◌, Option, Some, None, refl, sym, ap, subst, ◌∙◌}
+use Rattle.std.proofs.Common.{◌≡◌, ℕ, zero, suc, inl, inr, Bool, true, false, List, [], ◌∷◌, Option, Some, None, refl, sym, ap, subst, ◌∙◌}
 use Rattle.std.specs.Prelude.{not, ◌||◌, is_some}
 use Rattle.ir_lexer.specs.Lexeme.{Lexeme}
-use Rattle.ir_forms.specs.Form.{never, either, Form, give, one, seq, upto, peek, tail, balanced, mapped}
+use Rattle.ir_lexer.specs.declared.token.Kind.{Kind}
+use Rattle.ir_forms.specs.Form.{never, either, Form, give, one, seq, upto, peek, tail, balanced, mapped, reads}
 use Rattle.ir_forms.specs.Spelling.{Token, IsNone, part_value, part_begins, SpellParts, Spells}
-use Rattle.ir_forms.specs.Plain.{PlainParts, SpellsPlainly, AreApart, TellsApart, SpellsAsPlain}
+use Rattle.ir_forms.specs.Plain.{PlainParts, SpellsPlainly, AreApart, TellsApart, SpellsAsPlain, SpellsOne}
+use Rattle.ir_forms.proofs.Exact.{read-again}
 use Rattle.ir_forms.proofs.Lawful.{is_free, free-never, free-left, free-right}
 
 abbrev Tokens : Type 0
@@ -17,6 +19,14 @@ apart-free limits o stands within a ts rest apart T = subst (λ (us : Tokens). i
     go : (b : Bool) → o T.first ≡ b → is_free o (T.first ∷ rest) ≡ true
     go false is = ap not is
     go true is = let no : None ≡ Some a = sym (apart T.first is) ∙ T.stands_for in absurd (cc no)
+
+-- a token of the one class isn't of the other
+not-other : {A B : Type 0} (one-stands : Lexeme → Option A) (other-stands : Lexeme → Option B) (t : Lexeme) (b : B) → AreApart (λ u. is_some (one-stands u)) other-stands → other-stands t ≡ Some b → one-stands t ≡ None
+not-other {A} {B} one-stands other-stands t b apart is = go (one-stands t) refl
+  where
+    go : (o : Option A) → one-stands t ≡ o → o ≡ None
+    go None e = refl
+    go (Some a) e = let never-both : None ≡ Some b = sym (apart t (ap is_some e)) ∙ is in absurd (cc never-both)
 
 -- where nothing goes on, no part begins
 no-part : {A : Type 0} (goes_on : Lexeme → Bool) (begins : Lexeme → Option A) (rest : Tokens) → is_free goes_on rest ≡ true → IsNone (part_begins goes_on begins) rest
@@ -49,7 +59,7 @@ plain-spelled limits (upto {A} {B} {o} f c fits) (F, C) x ts rest free (mid, P, 
     (mid, plain-spelled limits f F x.0 ts mid (apart-free limits o (c x.0).stands (c x.0).within x.1 mid rest (C x.0) T) P, T)
 plain-spelled limits (peek c f d g) (C, F, G) x ts rest free (inl (a, mid, T, P)) = inl (a, mid, T, plain-spelled limits (f a) (F a) x mid rest free P)
 plain-spelled limits (peek c f d g) (C, F, G) x ts rest free (inr (b, mid, T, P)) =
-    inr (subst (λ us. IsNone c.stands us) (sym T.split) (C T.first (ap is_some T.stands_for)), b, mid, T, plain-spelled limits (g b) (G b) x mid rest free P)
+    inr (subst (λ us. IsNone c.stands us) (sym T.split) (not-other c.stands d.stands T.first b C T.stands_for), b, mid, T, plain-spelled limits (g b) (G b) x mid rest free P)
 plain-spelled limits (tail {A} {S} {o} {p} goes_on begins within part f) (F, E, apart, Q) x ts rest free (s, mid, P, n, more) =
     let ended = free-left goes_on o rest (free-right p (either goes_on o) rest free) in
     let parted = free-right goes_on o rest (free-right p (either goes_on o) rest free) in
@@ -84,3 +94,38 @@ spelled-plain limits (mapped k f) x ts rest (a, P, same) = (a, spelled-plain lim
 
 pub spells-as-plain : {o : Lexeme → Bool} {X : Type 0} (f : Form o X) → TellsApart f → SpellsAsPlain f
 spells-as-plain f apart limits x tokens = (λ P. plain-spelled limits f apart x tokens [] refl P, λ P. spelled-plain limits f x tokens [] P)
+
+pub spells-one : {o : Lexeme → Bool} {X : Type 0} (f : Form o X) → TellsApart f → SpellsOne f
+spells-one f apart limits x y tokens P Q =
+    let both : reads x [] ≡ reads y [] = sym (read-again limits f tokens x [] (plain-spelled limits f apart x tokens [] refl P)) ∙ read-again limits f tokens y [] (plain-spelled limits f apart y tokens [] refl Q) in
+    cc both
+
+-- ---- how a form shows that it tells apart
+
+pub apart-never : {A : Type 0} (stands : Lexeme → Option A) → AreApart never stands
+apart-never stands t e = absurd (cc e)
+
+-- a test that passes where one of two does
+pub apart-either : {A : Type 0} (p q : Lexeme → Bool) (stands : Lexeme → Option A) → AreApart p stands → AreApart q stands → AreApart (either p q) stands
+apart-either p q stands P Q t e = go (p t) (q t) refl refl e
+  where
+    go : (x y : Bool) → p t ≡ x → q t ≡ y → (x || y) ≡ true → stands t ≡ None
+    go true y is is' e' = P t is
+    go false true is is' e' = Q t is'
+    go false false is is' e' = absurd (cc e')
+
+-- a test that one spelling of one kind passes alone
+pub apart-spelled : {A : Type 0} (kind : Kind) (text : List ℕ) (test : Lexeme → Bool) (stands : Lexeme → Option A) → ((t : Lexeme) → test t ≡ true → (t.kind ≡ kind) × (t.text ≡ text)) → ((t : Lexeme) → stands (record t { kind = kind; text = text }) ≡ None) → AreApart test stands
+apart-spelled kind text test stands only differs t e = let (k, s) = only t e in rw (← k, ← s) at (differs t)
+
+-- the same where the class has one token of one kind alone
+pub apart-class : {A : Type 0} (kind : Kind) (text : List ℕ) (test : Lexeme → Bool) (stands : Lexeme → Option A) → ((t : Lexeme) (a : A) → stands t ≡ Some a → (t.kind ≡ kind) × (t.text ≡ text)) → ((t : Lexeme) → test (record t { kind = kind; text = text }) ≡ false) → AreApart test stands
+apart-class {A} kind text test stands only differs t e = go (stands t) refl
+  where
+    go : (o : Option A) → stands t ≡ o → o ≡ None
+    go None is = refl
+    go (Some a) is = let (k, s) = only t a is in let passes-not : test t ≡ false = rw (← k, ← s) at (differs t) in absurd (cc (passes-not, e))
+
+-- what may go on with parts, each of which nothing goes on with
+pub apart-tail : {A : Type 0} (goes_on : Lexeme → Bool) (stands : Lexeme → Option A) → AreApart goes_on stands → AreApart (either never (either goes_on never)) stands
+apart-tail goes_on stands G = apart-either never (either goes_on never) stands (apart-never stands) (apart-either goes_on never stands G (apart-never stands))

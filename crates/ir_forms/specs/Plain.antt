@@ -1,5 +1,5 @@
 -- The plain grammar of a form, in which no token is looked at ahead, and the forms that spell as it does.
-use Rattle.std.specs.Prelude.{◌≡◌, ◌⊎◌, ◌↔◌, ℕ, zero, suc, List, [], ◌∷◌, Option, Some, None, Bool, true, false, is_some}
+use Rattle.std.specs.Prelude.{◌≡◌, ◌⊎◌, ◌↔◌, ℕ, zero, suc, List, [], Option, None, Bool, true, is_some}
 use Rattle.ir_lexer.specs.Lexeme.{Lexeme}
 use Rattle.ir_forms.specs.Form.{Form, give, one, seq, upto, peek, tail, balanced, mapped}
 use Rattle.ir_forms.specs.Brackets.{IsClosed}
@@ -29,19 +29,23 @@ SpellsPlainly limits (mapped {A} k f) x tokens rest = (a : A) × SpellsPlainly l
 abbrev pub AreApart : {A : Type 0} → (Lexeme → Bool) → (Lexeme → Option A) → Type 0
 AreApart test stands = (t : Lexeme) → test t ≡ true → stands t ≡ None
 
--- What may go on with a form isn't of the class that comes behind it: the one that ends it, or that of a part's first
--- token. And the first tokens of two alternatives differ.
+-- No token that may go on with a form is of the class that comes behind it: of the one that ends it, or of the first
+-- tokens of parts. And no token begins both of two alternatives.
 abbrev pub TellsApart : {o : Lexeme → Bool} {X : Type 0} → Form o X → Type 0
 TellsApart (give y) = Unit {0}
 TellsApart (one c) = Unit {0}
 TellsApart (seq {A} f k) = TellsApart f × ((a : A) → TellsApart (k a))
 TellsApart (upto {A} {B} {o} f c fits) = TellsApart f × ((a : A) → AreApart o (c a).stands)
-TellsApart (peek {A} {B} c f d g) = AreApart (λ t. is_some (d.stands t)) c.stands × ((a : A) → TellsApart (f a)) × ((b : B) → TellsApart (g b))
+TellsApart (peek {A} {B} c f d g) = AreApart (λ t. is_some (c.stands t)) d.stands × ((a : A) → TellsApart (f a)) × ((b : B) → TellsApart (g b))
 TellsApart (tail {A} {S} {o} {p} goes_on begins within part f) =
     TellsApart f × ((s : S) → AreApart p (part_begins goes_on (begins s))) × ((s : S) → AreApart o (part_begins goes_on (begins s))) × ((s : S) (a : A) → TellsApart (part s a))
 TellsApart (balanced b) = Unit {0}
 TellsApart (mapped k f) = TellsApart f
 
--- Whole texts are spelled where they are spelled plainly: one token ahead loses nothing.
+-- Whole texts are spelled exactly where they are spelled plainly: looking one token ahead loses nothing.
 abbrev pub SpellsAsPlain : {o : Lexeme → Bool} {X : Type 0} → Form o X → Type 0
 SpellsAsPlain {o} {X} f = (limits : Bool) (x : X) (tokens : List Lexeme) → SpellsPlainly limits f x tokens [] ↔ Spells limits f x tokens []
+
+-- No text is spelled plainly by two values.
+abbrev pub SpellsOne : {o : Lexeme → Bool} {X : Type 0} → Form o X → Type 0
+SpellsOne {o} {X} f = (limits : Bool) (x y : X) (tokens : List Lexeme) → SpellsPlainly limits f x tokens [] → SpellsPlainly limits f y tokens [] → x ≡ y
