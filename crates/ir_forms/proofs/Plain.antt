@@ -7,7 +7,7 @@ use Rattle.ir_forms.specs.Form.{never, either, Form, give, one, seq, upto, peek,
 use Rattle.ir_forms.specs.Spelling.{Token, IsNone, part_value, part_begins, SpellParts, Spells}
 use Rattle.ir_forms.specs.Plain.{PlainParts, SpellsPlainly, AreApart, TellsApart, SpellsAsPlain, SpellsOne}
 use Rattle.ir_forms.proofs.Exact.{read-again}
-use Rattle.ir_forms.proofs.Lawful.{is_free, free-never, free-left, free-right}
+use Rattle.ir_forms.proofs.Laws.{is_free, free-never, free-left, free-right}
 
 abbrev Tokens : Type 0
 Tokens = List Lexeme

@@ -5,7 +5,8 @@ use Rattle.ir_tree.specs.declared.module.Reason.{Reason}
 use Rattle.ir_forms.specs.Form.{never, Form, give, one, seq, upto, peek, tail, mapped, Why, unfit, limit, Reading, reads, stops, and_then, Judged, none, past, found, judged, taken, token_of, first_of, peeked, begun, parts, read, balanced}
 use Rattle.ir_forms.specs.Spelling.{Token, part_value, part_begins, Spells}
 use Rattle.ir_forms.specs.Refusals.{Begins, Exceeds, ExceedParts, PassesLimit, StopsUnfit, StopsPast}
-use Rattle.ir_forms.proofs.Lawful.{Ends, read_lawful}
+use Rattle.ir_forms.proofs.Laws.{Ends}
+use Rattle.ir_forms.proofs.Lawful.{read_lawful}
 use Rattle.ir_forms.proofs.Exact.{read-found, read-again, shorter, token-found, token-again, peek-first, peek-other, judged-stands, stands-judged, begun-begins, judged-nothing}
 use Rattle.ir_forms.proofs.Balanced.{closed-halts}
 use Rattle.ir_tree.specs.declared.module.Reason.TheVariants.{Syntax}

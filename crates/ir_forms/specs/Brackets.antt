@@ -47,7 +47,7 @@ pub record IsClosed (b : Bracket) (tokens rest : List Lexeme) : Type 0 where
   pub is_balanced : IsBalanced inside
   pub closes : nesting_of last ≡ Closes b
 
--- behind these tokens, which stand inside a bracket, the innermost open one is another or the same
+-- these tokens stand inside the first bracket and leave it open; the second is the innermost one that is open behind them
 pub data IsInnermost : Bracket → Bracket → List Lexeme → Type 0 where
   same : {b : Bracket} {inside : List Lexeme} → IsBalanced inside → IsInnermost b b inside
   deeper : {b innermost : Bracket} (c : Bracket) (before : List Lexeme) (first : Lexeme) (inside : List Lexeme) → IsBalanced before → nesting_of first ≡ Opens c → IsInnermost c innermost inside → IsInnermost b innermost (before ++ first ∷ inside)
