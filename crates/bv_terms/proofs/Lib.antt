@@ -4,3 +4,4 @@ pub mod Same
 pub mod Distinct
 pub mod Below
 pub mod Zips
+pub mod Variables

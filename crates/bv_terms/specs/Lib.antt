@@ -1,3 +1,4 @@
 pub mod Tree
 pub mod Trees
 pub mod Faults
+pub mod Variables

@@ -13,7 +13,9 @@ mod term;
 mod terms;
 #[cfg(test)]
 mod tests;
+mod variable;
 
 pub use folding::{FoldFault, TermFold, fold};
 pub use term::{Term, TermId};
 pub use terms::Terms;
+pub use variable::Variable;

@@ -1,15 +1,16 @@
 -- Digits that are known, and inputs.
-use Rattle.std.proofs.Common.{ℕ, zero, suc, ◌≡◌, ◌<◌, ◌≤◌, ◌+◌, ◌*◌, ◌/◌, ◌%◌, ◌^◌, ◌++◌, inl, inr, Bool, false, List, [], ◌∷◌, Some, All, get_or, map, length, arith, sym, ap, subst, refl, ◌∙◌, length-append}
+use Rattle.std.proofs.Common.{ℕ, zero, suc, ◌≡◌, ◌<◌, ◌≤◌, ◌+◌, ◌*◌, ◌/◌, ◌%◌, ◌^◌, ◌++◌, inl, inr, Bool, false, List, [], ◌∷◌, Some, All, get_or, take, map, length, arith, sym, ap, subst, refl, ◌∙◌, length-append}
 use Rattle.std.specs.Prelude.{nat_eq, bit_and}
 use Rattle.std.proofs.Math.Nat.{div-eq_of_lt}
 use Rattle.std.proofs.lemmas.Nat.{shr-shr, div-add-mod'}
 use Rattle.std.proofs.lemmas.Nat.Bits.{shr_and_one, bit_at-lt}
 use Rattle.std.proofs.lemmas.Bool.{cases_eq}
-use Rattle.std.proofs.lemmas.List.{map_push, append_assoc, append-nil, get_or_push, get_or_append_left}
+use Rattle.std.proofs.lemmas.List.{map_push, append_assoc, append-nil, get_or_push, get_or_append_left, take_all, take-append-le}
 use Rattle.std.proofs.lemmas.Option.{slice_get_within, get_or_from_slice_get, slice_get-get_or}
 use Rattle.bv_terms.specs.Tree.{digit}
 use Rattle.gates.specs.declared.circuit.GateId.{GateId}
 use Rattle.gates.specs.declared.circuit.Gate.{Gate}
+use Rattle.gates.specs.declared.circuit.Gate.TheVariants.{Input}
 use Rattle.gates.specs.Numbering.{AreApart}
 use Rattle.gates.specs.Values.{gate_at, inputs_of, Grows, IsInput, Keeps, Makes}
 use Rattle.gate_digits.specs.Numbers.{AreFresh, AreGates, Writes, number_at, number_of}
@@ -83,7 +84,7 @@ all-push P [] y h here (suc k) d lt = absurd (omega arith)
 all-push P (x ∷ xs) y h here zero d lt = h 0 x (omega arith)
 all-push P (x ∷ xs) y h here (suc k) d lt = all-push P xs y (λ i e l. h (suc i) e (omega arith)) here k d (omega arith)
 
-grows_self : (gs : List Gate) → Grows gs gs
+pub grows_self : (gs : List Gate) → Grows gs gs
 grows_self gs = record { longer = omega arith; kept = λ v a lt. refl }
 
 pub grows_trans : (a b c : List Gate) → Grows a b → Grows b c → Grows a c
@@ -95,11 +96,13 @@ grows_trans a b c p q = record {
 -- so many of the inputs
 pub record ArePartFresh (old new : List Gate) (i : ℕ) (digits : List GateId) : Type 0 where
   pub grows : Grows old new
+  pub front : take (length old) new ≡ old
   pub fresh : AreFresh old new i digits
 
 pub none_fresh : (old : List Gate) (digits : List GateId) → digits ≡ [] → ArePartFresh old old 0 digits
 none_fresh old digits e = rw e (record {
   grows = grows_self old;
+  front = take_all (length old) old (omega arith);
   fresh = record {
     long = refl;
     plain = λ i d lt. absurd (omega arith);
@@ -111,10 +114,11 @@ none_fresh old digits e = rw e (record {
   };
 })
 
-pub fresh-more : (old mid new : List Gate) (i : ℕ) (digits digits' : List GateId) (one : GateId) → ArePartFresh old mid i digits → Grows mid new → IsInput new one → one.index ≡ length mid
+pub fresh-more : (old mid new : List Gate) (i : ℕ) (digits digits' : List GateId) (one : GateId) → ArePartFresh old mid i digits → new ≡ mid ++ Input (length mid) ∷ [] → Grows mid new → IsInput new one → one.index ≡ length mid
     → Makes new one (λ v. v (length mid)) → inputs_of new ≡ inputs_of mid ++ one.index ∷ [] → digits' ≡ digits ++ one ∷ [] → ArePartFresh old new (i + 1) digits'
-fresh-more old mid new i digits digits' one part grows input last made inputs is = rw is (record {
+fresh-more old mid new i digits digits' one part added grows input last made inputs is = rw is (record {
   grows = grows_trans old mid new part.grows grows;
+  front = ap (take (length old)) added ∙ (take-append-le (length old) mid (Input (length mid) ∷ []) part.grows.longer ∙ part.front);
   fresh = record {
     long = omega (arith, part.fresh.long, length-append digits (one ∷ []));
     plain = all-push (λ a. a.negated ≡ false) digits one part.fresh.plain input.plain;

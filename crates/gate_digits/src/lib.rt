@@ -15,6 +15,8 @@ mod products;
 mod quotients;
 mod shifts;
 mod sums;
+#[cfg(test)]
+mod tests;
 
 pub use bitwise::{and, choose, inverse, or, xor};
 pub use comparisons::{any, equal, less_signed};

@@ -1,6 +1,6 @@
 //! Digits that are known, repeated or free.
 
-ghost use Rattle.std.specs.Prelude.{◌≡◌, ◌<◌, ◌≤◌, ◌^◌, ◌/◌, ◌%◌, IfOk, length, replicate};
+ghost use Rattle.std.specs.Prelude.{◌≡◌, ◌<◌, ◌≤◌, ◌^◌, ◌/◌, ◌%◌, IfOk, OnErr, length, replicate, take};
 ghost use Rattle.bv_terms.specs.Tree.{digit};
 ghost use Rattle.gates.specs.Values.{Grows, Keeps};
 ghost use Rattle.gate_digits.specs.Numbers.{AreFresh, Writes};
@@ -46,9 +46,10 @@ pub fn constant(
     Ok(digits)
 }
 
-/// So many new inputs of the circuit.
-pub fn inputs(alloc: Global, circuit: &mut Circuit, width: u32) -> Result<Vec<GateId>, NoMemory>
+/// So many new inputs, behind the gates that were there. After want of memory some of them stand.
+fn some_inputs(alloc: Global, circuit: &mut Circuit, width: u32) -> Result<Vec<GateId>, NoMemory>
     ensures made { IfOk result (λ r. AreFresh circuit.old circuit.new width r.items) }
+    ensures front { take (length circuit.old) circuit.new ≡ circuit.old }
     ensures kept { Grows circuit.old circuit.new }
 {
     let mut digits = Vec::new(alloc);
@@ -57,4 +58,22 @@ pub fn inputs(alloc: Global, circuit: &mut Circuit, width: u32) -> Result<Vec<Ga
         digits.push(digit)?;
     }
     Ok(digits)
+}
+
+/// So many new inputs of the circuit, behind the gates that were there. After want of memory the
+/// circuit is as before.
+pub fn inputs(alloc: Global, circuit: &mut Circuit, width: u32) -> Result<Vec<GateId>, NoMemory>
+    ensures made { IfOk result (λ r. AreFresh circuit.old circuit.new width r.items) }
+    ensures front { take (length circuit.old) circuit.new ≡ circuit.old }
+    ensures err { OnErr result (circuit.new ≡ circuit.old) }
+    ensures kept { Grows circuit.old circuit.new }
+{
+    let before = circuit.len();
+    match some_inputs(alloc, circuit, width) {
+        Ok(digits) => Ok(digits),
+        Err(NoMemory) => {
+            circuit.truncate(before);
+            Err(NoMemory)
+        }
+    }
 }

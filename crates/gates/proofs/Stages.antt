@@ -1,5 +1,5 @@
 -- The values of gates as one more is stored.
-use Rattle.std.proofs.Common.{ℕ, zero, suc, ◌≡◌, ◌<◌, ◌+◌, ◌++◌, ◌⊎◌, inl, inr, Bool, true, false, not, ◌&&◌, cond, List, [], ◌∷◌, Some, get_or, slice_get, length, arith, sym, ap, subst, refl, ◌∙◌, length-append, append-nil}
+use Rattle.std.proofs.Common.{ℕ, zero, suc, ◌≡◌, ◌<◌, ◌+◌, ◌++◌, ◌⊎◌, inl, inr, Bool, true, false, not, ◌&&◌, cond, List, [], ◌∷◌, Some, get_or, slice_get, take, length, arith, sym, ap, subst, refl, ◌∙◌, length-append, append-nil}
 use mathlib.Core.Bool.{beq}
 use Rattle.std.proofs.lemmas.List.{get_or_push, get_or_append_left}
 use Rattle.gates.specs.declared.circuit.GateId.{GateId}
@@ -13,6 +13,12 @@ pub AreFit-push : (n : ℕ) (gs : List Gate) (g : Gate) → AreFit n gs → IsFi
 AreFit-push n [] g h fit = (subst (λ k. IsFit k g) (let e : n + 0 ≡ n = omega arith in e) fit, tt)
 AreFit-push n (x ∷ xs) g h fit =
     (h.0, AreFit-push (n + 1) xs g h.1 (subst (λ k. IsFit k g) (let e : n + suc (length xs) ≡ (n + 1) + length xs = omega arith in e) fit))
+
+-- the first gates go well by themselves
+pub AreFit-take : (n k : ℕ) (gs : List Gate) → AreFit n gs → AreFit n (take k gs)
+AreFit-take n zero gs h = tt
+AreFit-take n (suc k) [] h = tt
+AreFit-take n (suc k) (x ∷ xs) h = (h.0, AreFit-take (n + 1) k xs h.1)
 
 -- whether the gate was there or not
 pub AreFit-stored : (known : Bool) (gs stored : List Gate) (g : Gate) → stored ≡ cond known gs (gs ++ g ∷ []) → AreFit 0 gs → IsFit (length gs) g → AreFit 0 stored

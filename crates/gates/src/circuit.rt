@@ -1,6 +1,6 @@
 //! Gates, each over earlier ones.
 
-ghost use Rattle.std.specs.Prelude.{◌≡◌, ◌<◌, ◌&&◌, ◌||◌, ◌∷◌, [], ◌++◌, ◌↔◌, ◌⊎◌, Bool, ℕ, Some, slice_get, IfOk, IsOk, IsTrue, OnErr, cond, false, length, not};
+ghost use Rattle.std.specs.Prelude.{◌≡◌, ◌<◌, ◌&&◌, ◌||◌, ◌∷◌, [], ◌++◌, ◌↔◌, ◌⊎◌, Bool, ℕ, Some, slice_get, IfOk, IsOk, IsTrue, OnErr, OnOk, cond, false, length, not, take};
 
 use indexmap::IndexSet;
 use std::alloc::Global;
@@ -108,12 +108,20 @@ impl Circuit {
         ensures last { IfOk result (λ id. id.index ≡ length self.old) }
         ensures made { IfOk result (λ id. Makes self.new id (λ v. v (length self.old))) }
         ensures inputs { IfOk result (λ id. inputs_of self.new ≡ inputs_of self.old ++ id.index ∷ []) }
+        ensures added { OnOk result (self.new ≡ self.old ++ Input (length self.old) ∷ []) }
         ensures err { OnErr result (self.new ≡ self.old) }
         ensures kept { Grows self.old self.new }
     {
         let place = self.len();
         let id = self.store(Gate::Input(place))?;
         Ok(id)
+    }
+
+    /// Takes away all gates but the first ones, so many.
+    pub fn truncate(&mut self, count: usize)
+        ensures { self.new ≡ take count self.old }
+    {
+        self.gates.truncate(count);
     }
 
     /// A gate that is always this.

@@ -1,3 +1,4 @@
 pub mod Cuts
 pub mod Weights
 pub mod Values
+pub mod Substitutes

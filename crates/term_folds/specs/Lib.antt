@@ -1,3 +1,6 @@
 pub mod Evaluation
 pub mod Weight
 pub mod Kept
+pub mod Substitution
+pub mod Over
+pub mod Standing

@@ -1,17 +1,20 @@
-//! Folds over terms: their values, their weights and their texts.
+//! Folds over terms: their values, their weights, their texts, and terms with others in the place of variables.
 //!
 //! Each is only its step at one term; `bv_terms` has the fold and its proof. They promise that
-//! [`Evaluate`] gives the value of each term, and [`Weigh`] the number of nodes of the written-out
-//! tree, held at the greatest number of 64 bits. [`Print`] writes a term for a reader. It stands on `bv_terms`.
+//! [`Evaluate`] gives the value of each term, [`Substitute`] a term of another store with the value
+//! under the substituted assignment, and [`Weigh`] the number of nodes of the written-out tree, held
+//! at the greatest number of 64 bits. [`Print`] writes a term for a reader. It stands on `bv_terms`.
 #![tactic(auto)]
 
 mod evaluate;
 mod numbers;
 mod print;
+mod substitute;
 #[cfg(test)]
 mod tests;
 mod weigh;
 
 pub use evaluate::{Assigned, Evaluate};
 pub use print::Print;
+pub use substitute::Substitute;
 pub use weigh::Weigh;

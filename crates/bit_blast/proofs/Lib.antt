@@ -1,0 +1,4 @@
+pub mod Tables
+pub mod Found
+pub mod Standing
+pub mod Agreeing

@@ -1,0 +1,4 @@
+pub mod Table
+pub mod Bits
+pub mod Written
+pub mod Following

@@ -1,0 +1,137 @@
+//! How many gates and clauses each operation on terms takes.
+//!
+//! For each width among its words it prints a line for each operation: its name, the width, the gates without the inputs,
+//! and the clauses that ask for the highest bit of the result. `bench/gates.py` sets these lines
+//! beside what another tool makes of the same questions. It promises nothing; it stands on
+//! `bit_blast`, and nothing stands on it.
+#![tactic(auto)]
+
+ghost use Rattle.std.specs.Prelude.{◌≤◌};
+
+use bit_blast::Blast;
+use bv_terms::{TermId, Terms, fold};
+use gates::to_cnf;
+use std::alloc::Global;
+use std::process::ExitCode;
+use std::{env, io};
+use support::NoMemory;
+
+/// An operation over two terms of one width.
+#[derive(Clone, Copy, Debug, PartialEq, Eq)]
+enum Operation {
+    And,
+    Xor,
+    Add,
+    Sub,
+    Mul,
+    UnsignedDivision,
+    UnsignedRemainder,
+    ShiftLeft,
+    ShiftRight,
+    SignedShiftRight,
+    Equal,
+    Less,
+    SignedLess,
+}
+
+const OPERATIONS: [(&str, Operation); 13] = [
+    ("and", Operation::And),
+    ("xor", Operation::Xor),
+    ("add", Operation::Add),
+    ("sub", Operation::Sub),
+    ("mul", Operation::Mul),
+    ("udiv", Operation::UnsignedDivision),
+    ("urem", Operation::UnsignedRemainder),
+    ("shl", Operation::ShiftLeft),
+    ("lshr", Operation::ShiftRight),
+    ("ashr", Operation::SignedShiftRight),
+    ("eq", Operation::Equal),
+    ("ult", Operation::Less),
+    ("slt", Operation::SignedLess),
+];
+
+/// The term of the operation; the first operand where their widths differ.
+fn term_of(
+    terms: &mut Terms,
+    operation: Operation,
+    a: TermId,
+    b: TermId,
+) -> Result<TermId, NoMemory> {
+    let count = terms.as_slice().len();
+    if a.index >= count || b.index >= count || terms.width(a) != terms.width(b) {
+        return Ok(a);
+    }
+    match operation {
+        Operation::And => terms.and(a, b),
+        Operation::Xor => terms.xor(a, b),
+        Operation::Add => terms.add(a, b),
+        Operation::Sub => terms.sub(a, b),
+        Operation::Mul => terms.mul(a, b),
+        Operation::UnsignedDivision => terms.udiv(a, b),
+        Operation::UnsignedRemainder => terms.urem(a, b),
+        Operation::ShiftLeft => terms.shl(a, b),
+        Operation::ShiftRight => terms.lshr(a, b),
+        Operation::SignedShiftRight => terms.ashr(a, b),
+        Operation::Equal => terms.eq(a, b),
+        Operation::Less => terms.ult(a, b),
+        Operation::SignedLess => terms.slt(a, b),
+    }
+}
+
+/// The gates and clauses of the operation over two variables of the width.
+fn counts(alloc: Global, operation: Operation, width: u32) -> Result<(usize, usize), NoMemory>
+    requires least { 1 ≤ width }
+    requires most { width ≤ 128 }
+{
+    let mut terms = Terms::new(alloc);
+    let a = terms.variable(0, width)?;
+    let b = terms.variable(1, width)?;
+    let goal = term_of(&mut terms, operation, a, b)?;
+    let mut blast = Blast::new(alloc);
+    let Ok(bits) = fold(alloc, &terms, &mut blast) else {
+        return Err(NoMemory);
+    };
+    let inputs = blast.inputs()?;
+    let circuit = blast.circuit();
+    let highest = bits
+        .get(goal.index)
+        .and_then(|digits| digits.as_slice().first().copied());
+    let gates = circuit.len().saturating_sub(inputs.len());
+    match highest {
+        Some(out) if out.index < circuit.len() => {
+            let cnf = to_cnf(alloc, circuit, out, &inputs)?;
+            Ok((gates, cnf.clauses.len()))
+        }
+        _ => Ok((gates, 0)),
+    }
+}
+
+/// Prints a line for each operation at the width.
+fn print_counts(rt: &HostRuntime, width: u32) -> io::Result<()>
+    requires least { 1 ≤ width }
+    requires most { width ≤ 128 }
+{
+    for (name, operation) in OPERATIONS {
+        if let Ok((gates, clauses)) = counts(rt.alloc(), operation, width) {
+            println!(rt; "{name} {width} gates {gates} clauses {clauses}")?;
+        }
+    }
+    Ok(())
+}
+
+fn main(rt: HostRuntime) -> ExitCode {
+    let words: Vec<String> = match env::args(&rt) {
+        Ok(words) => match words.collect(rt.alloc()) {
+            Ok(words) => words,
+            Err(_) => return ExitCode::FAILURE,
+        },
+        Err(_) => return ExitCode::FAILURE,
+    };
+    for word in words.iter().skip(1) {
+        let width = word.parse::<u32>().unwrap_or(0);
+        if width < 1 || 128 < width || print_counts(&rt, width).is_err() {
+            return ExitCode::FAILURE;
+        }
+    }
+    ExitCode::SUCCESS
+}

@@ -1,0 +1,7 @@
+-- The table has the variables so far.
+use Rattle.std.proofs.Common.{◌≡◌, map, take}
+use Rattle.sat_ask.specs.Questions.{variables_of}
+use Rattle.sat_ask.proofs.question.add_all.Given as goal
+
+abbrev pub invariant-loop-a : goal.invariant-loop-a
+invariant-loop-a l = map (λ e. e.0) l.blast.table ≡ variables_of l.terms (take l.a-index l.order)

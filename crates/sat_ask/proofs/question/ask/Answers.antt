@@ -1,0 +1,21 @@
+-- The solver's answer on the goal's clauses is the answer to the question.
+use Rattle.std.proofs.Common.{◌∙◌, ap, subst, take}
+use Rattle.clause_search.specs.declared.answer.Answer.{Answer}
+use Rattle.clause_search.specs.Outcome.{IsAnswer}
+use Rattle.sat_ask.specs.Questions.{digit_count, goal_test, variables_of}
+use Rattle.sat_ask.proofs.Asking.{least-front, none-pass}
+use Rattle.sat_ask.proofs.question.ask.Goals as goal
+
+pub returns-in_ok-digits-in-Sat : goal.returns-in_ok-digits-in-Sat
+returns-in_ok-digits-in-Sat c =
+    let cnf = c.in_ok-cnf.cnf in
+    let h = subst (λ (a : Answer). IsAnswer cnf.variables cnf.front cnf.clauses c.args.limit a) c.in-Sat.is c.in_ok-places.ensures in
+    least-front (goal_test c.args.terms.now c.args.goal c.args.order.now) (digit_count (variables_of c.args.terms.now c.args.order.now)) cnf c.in_ok-cnf.ensures _ _ cnf.front_within h
+    (c.in_ok-digits-in-Sat.ensures.items ∙ (ap (take cnf.front) c.as_slice.ensures ∙ ap (λ n. take n c.in-Sat.places) c.in_ok-cnf.ensures.front))
+
+pub returns-in-Unsat : goal.returns-in-Unsat
+returns-in-Unsat c =
+    let cnf = c.in_ok-cnf.cnf in
+    let asks = c.in_ok-cnf.ensures in
+    let h = subst (λ (a : Answer). IsAnswer cnf.variables cnf.front cnf.clauses c.args.limit a) c.in-Unsat.is c.in_ok-places.ensures in
+    (none-pass (goal_test c.args.terms.now c.args.goal c.args.order.now) (digit_count (variables_of c.args.terms.now c.args.order.now)) cnf asks c.in-Unsat.log h.0, asks, h.0, h.1)

@@ -1,0 +1,36 @@
+-- Clauses that ask which digits pass a test, and what answers them.
+use Rattle.std.specs.Prelude.{ℕ, ◌≡◌, Bool, true, List, [], ◌∷◌, ◌++◌, length, take, Option, Some}
+use Rattle.clause_lits.specs.declared.lit.Lit.{Lit}
+use Rattle.clause_lits.specs.declared.cnf.Cnf.{Cnf}
+use Rattle.clause_lits.specs.Meaning.{IsModel, lit_true, values_of}
+use Rattle.clause_log.specs.Refutation.{Refutes}
+use Rattle.clause_search.specs.Outcome.{IsCareful, IsLess, IsSpent}
+use Rattle.sat_ask.specs.declared.asked.Asked.{Asked}
+use Rattle.sat_ask.specs.declared.asked.Asked.TheVariants as asked
+
+-- the last clause is one literal; of the others each list of so many digits is the front of exactly one model, and in each model the literal is true exactly where the front passes the test
+pub record Asks (test : List Bool → Bool) (count : ℕ) (cnf : Cnf) : Type 0 where
+  pub body : List (List Lit)
+  pub literal : Lit
+  pub clauses : cnf.clauses ≡ body ++ (literal ∷ []) ∷ []
+  pub front : cnf.front ≡ count
+  pub one : (digits : List Bool) → length digits ≡ count
+      → (places : List Bool) × IsModel cnf.variables body places × (take count places ≡ digits)
+      × ((others : List Bool) → IsModel cnf.variables body others → take count others ≡ digits → others ≡ places)
+  pub right : (places : List Bool) → IsModel cnf.variables body places → lit_true (values_of places) literal ≡ test (take count places)
+
+-- digits that pass, and no lesser ones do; the first digits count most
+pub record IsLeastOf (test : List Bool → Bool) (count : ℕ) (digits : List Bool) : Type 0 where
+  pub long : length digits ≡ count
+  pub passes : test digits ≡ true
+  pub least : (others : List Bool) → length others ≡ count → test others ≡ true → IsLess count others digits → ⊥
+
+-- no digits pass
+abbrev pub NonePass : (List Bool → Bool) → ℕ → Type 0
+NonePass test count = (digits : List Bool) → length digits ≡ count → test digits ≡ true → ⊥
+
+-- what is answered: the least digits that pass; that none do, with a refutation of clauses that ask which do; or as many learned clauses as the limit, of such clauses
+abbrev pub IsAsked : (List Bool → Bool) → ℕ → Option ℕ → Asked → Type 0
+IsAsked test count limit (asked.Least digits) = IsLeastOf test count digits.items
+IsAsked test count limit (asked.None cert) = NonePass test count × Asks test count cert.cnf × Refutes cert.cnf.clauses cert.log × IsCareful cert.cnf.clauses cert.log
+IsAsked test count limit (asked.Spent cert) = Asks test count cert.cnf × ((n : ℕ) × (limit ≡ Some n) × IsSpent cert.cnf.clauses cert.log n)

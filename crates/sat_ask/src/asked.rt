@@ -1,0 +1,15 @@
+//! What a question is answered.
+
+use clause_log::Cert;
+
+/// The answer to which digits of its variables make a term true.
+#[derive(Drop)]
+pub enum Asked {
+    /// The least digits that do, those of each variable with the highest first, in the order of the
+    /// question.
+    Least(Vec<bool>),
+    /// None do: clauses that ask which do, and a log that refutes them.
+    None(Cert),
+    /// Not known: clauses that ask which do, and a log of as many steps as the limit allows.
+    Spent(Cert),
+}

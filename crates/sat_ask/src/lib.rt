@@ -1,0 +1,15 @@
+//! Questions: which digits of its variables make a term true.
+//!
+//! [`ask`] answers the least digits, or that there are none, with clauses that ask the same question
+//! and a log that refutes them; under a limit it may also answer how far it came. It stands on
+//! `bit_blast`, which makes the circuit, `gates`, which makes the clauses, and `clause_solver`.
+#![tactic(auto)]
+
+mod asked;
+mod cone;
+mod question;
+#[cfg(test)]
+mod tests;
+
+pub use asked::Asked;
+pub use question::ask;
