@@ -1,9 +1,10 @@
 -- Clauses that ask which digits pass a test, and what answers them.
-use Rattle.std.specs.Prelude.{ℕ, ◌≡◌, Bool, true, List, [], ◌∷◌, ◌++◌, length, take, Option, Some}
+use Rattle.std.specs.Prelude.{ℕ, ◌+◌, ◌^◌, ◌<◌, ◌≡◌, Bool, true, List, [], ◌∷◌, ◌++◌, length, take, Option, Some}
 use Rattle.clause_lits.specs.declared.lit.Lit.{Lit}
 use Rattle.clause_lits.specs.declared.cnf.Cnf.{Cnf}
 use Rattle.clause_lits.specs.Meaning.{IsModel, lit_true, values_of}
 use Rattle.clause_log.specs.Refutation.{Refutes}
+use Rattle.clause_log.specs.declared.step.Cert.{Cert}
 use Rattle.clause_search.specs.Outcome.{IsCareful, IsLess, IsSpent}
 use Rattle.sat_ask.specs.declared.asked.Asked.{Asked}
 use Rattle.sat_ask.specs.declared.asked.Asked.TheVariants as asked
@@ -29,8 +30,22 @@ pub record IsLeastOf (test : List Bool → Bool) (count : ℕ) (digits : List Bo
 abbrev pub NonePass : (List Bool → Bool) → ℕ → Type 0
 NonePass test count = (digits : List Bool) → length digits ≡ count → test digits ≡ true → ⊥
 
--- what is answered: the least digits that pass; that none do, with a refutation of clauses that ask which do; or as many learned clauses as the limit, of such clauses
+-- what is found: the least digits that pass; that none do, with a refutation of clauses that ask which do; or as many learned clauses as the limit, of such clauses
+abbrev pub IsFound : (List Bool → Bool) → ℕ → Option ℕ → Asked → Type 0
+IsFound test count limit (asked.Least digits) = IsLeastOf test count digits.items
+IsFound test count limit (asked.None cert) = NonePass test count × Asks test count cert.cnf × Refutes cert.cnf.clauses cert.log × IsCareful cert.cnf.clauses cert.log
+IsFound test count limit (asked.Spent cert) = Asks test count cert.cnf × ((n : ℕ) × (limit ≡ Some n) × IsSpent cert.cnf.clauses cert.log n)
+
+-- variables and the numbers of clauses and steps are below 2^62, so that a text can hold them
+pub record HasSmallNumbers (cert : Cert) : Type 0 where
+  pub variables : cert.cnf.variables < 2 ^ 62
+  pub clauses : length cert.cnf.clauses + length cert.log < 2 ^ 62
+
+abbrev pub AreSmall : Asked → Type 0
+AreSmall (asked.Least digits) = Unit {0}
+AreSmall (asked.None cert) = HasSmallNumbers cert
+AreSmall (asked.Spent cert) = HasSmallNumbers cert
+
+-- what is answered
 abbrev pub IsAsked : (List Bool → Bool) → ℕ → Option ℕ → Asked → Type 0
-IsAsked test count limit (asked.Least digits) = IsLeastOf test count digits.items
-IsAsked test count limit (asked.None cert) = NonePass test count × Asks test count cert.cnf × Refutes cert.cnf.clauses cert.log × IsCareful cert.cnf.clauses cert.log
-IsAsked test count limit (asked.Spent cert) = Asks test count cert.cnf × ((n : ℕ) × (limit ≡ Some n) × IsSpent cert.cnf.clauses cert.log n)
+IsAsked test count limit asked = IsFound test count limit asked × AreSmall asked

@@ -1,12 +1,12 @@
 //! Questions to the solver.
 
-ghost use Rattle.std.specs.Prelude.{◌≡◌, ◌<◌, [], All, IfOk, IfSome, List, OnOk, length, map, true};
+ghost use Rattle.std.specs.Prelude.{◌≡◌, ◌<◌, [], All, IfOk, IfSome, IsTrue, List, OnOk, length, map, true};
 ghost use Rattle.bv_terms.specs.Tree.{Tree};
 ghost use Rattle.bv_terms.specs.Trees.{IsFit, IsTerm, IsWithin, tree_of};
 ghost use Rattle.bit_blast.specs.Bits.{AreBits, AreStanding};
 ghost use Rattle.bit_blast.specs.Table.{Follows};
 ghost use Rattle.bit_blast.specs.Written.{HasVariable};
-ghost use Rattle.sat_ask.specs.Asks.{Asks, IsAsked};
+ghost use Rattle.sat_ask.specs.Asks.{AreSmall, Asks, HasSmallNumbers, IsAsked, IsFound};
 ghost use Rattle.sat_ask.specs.Cones.{AreKnown, IsGoal};
 ghost use Rattle.sat_ask.specs.Questions.{AreDifferent, HasAll, IsVariable, digit_count, goal_test, variables_of};
 
@@ -25,7 +25,8 @@ use support::{NoMemory, Sequence};
 /// variable with the highest first; or that none do, or how far a limit of learned clauses, at least
 /// 1, went, each with clauses that ask just this. `order` names each variable of the goal, and no
 /// variable twice. Each of its variables has its digits in the front of the clauses, also where the
-/// goal hasn't the variable; of other terms than the goal's there is no gate.
+/// goal hasn't the variable; of other terms than the goal's there is no gate. The numbers of variables
+/// and of clauses and steps are below 2^62; that many can't be stored, so beyond it memory is short.
 pub fn ask(
     alloc: Global,
     terms: &Terms,
@@ -40,6 +41,29 @@ pub fn ask(
     requires limit { IfSome limit (λ n. 0 < n) }
     ensures { IfOk result (IsAsked (goal_test terms.now goal order.now) (digit_count (variables_of terms.now order.now)) limit) }
 {
+    let asked = searched(alloc, terms, goal, order, limit)?;
+    if are_small(&asked) {
+        Ok(asked)
+    } else {
+        Err(NoMemory)
+    }
+}
+
+/// The answer, whatever the numbers in it.
+fn searched(
+    alloc: Global,
+    terms: &Terms,
+    goal: TermId,
+    order: &[TermId],
+    limit: Option<u64>,
+) -> Result<Asked, NoMemory>
+    requires goal { IsTerm terms.now 1 goal }
+    requires order { All (IsVariable terms.now) order.now }
+    requires different { AreDifferent order.now }
+    requires all { HasAll terms.now goal order.now }
+    requires limit { IfSome limit (λ n. 0 < n) }
+    ensures { IfOk result (IsFound (goal_test terms.now goal order.now) (digit_count (variables_of terms.now order.now)) limit) }
+{
     let cnf = clauses_of(alloc, terms, goal, order)?;
     match solve(alloc, &cnf, limit)? {
         Answer::Sat(places) => {
@@ -50,6 +74,29 @@ pub fn ask(
         Answer::Unsat(log) => Ok(Asked::None(Cert { cnf, log })),
         Answer::Spent(log) => Ok(Asked::Spent(Cert { cnf, log })),
     }
+}
+
+/// The number that variables, and clauses and steps together, are below.
+const MOST_NUMBERS: usize = 1 << 62;
+
+/// Whether the numbers of an answer are below 2^62.
+fn are_small(asked: &Asked) -> bool
+    ensures { IsTrue result → AreSmall asked.now }
+{
+    match asked {
+        Asked::Least(_) => true,
+        Asked::None(cert) => has_small_numbers(cert),
+        Asked::Spent(cert) => has_small_numbers(cert),
+    }
+}
+
+fn has_small_numbers(cert: &Cert) -> bool
+    ensures { IsTrue result → HasSmallNumbers cert.now }
+{
+    let clauses = cert.cnf.clauses.len();
+    cert.cnf.variables < MOST_NUMBERS as u64
+        && clauses < MOST_NUMBERS
+        && cert.log.len() < MOST_NUMBERS - clauses
 }
 
 /// Clauses that ask which digits of the variables in `order` make the goal true.

@@ -4,7 +4,7 @@ use Rattle.clause_search.specs.declared.answer.Answer.{Answer}
 use Rattle.clause_search.specs.Outcome.{IsAnswer}
 use Rattle.sat_ask.specs.Questions.{digit_count, goal_test, variables_of}
 use Rattle.sat_ask.proofs.Asking.{least-front, none-pass}
-use Rattle.sat_ask.proofs.question.ask.Goals as goal
+use Rattle.sat_ask.proofs.question.searched.Goals as goal
 
 pub returns-in_ok-digits-in-Sat : goal.returns-in_ok-digits-in-Sat
 returns-in_ok-digits-in-Sat c =

@@ -1,0 +1,133 @@
+//! Questions to a search for models.
+
+ghost use Rattle.std.specs.Prelude.{◌≤◌};
+
+use bit_blast::Blast;
+use bv_terms::{TermId, Terms, fold};
+use clause_lits::{Clause, Cnf, Lit, are_within, is_clause};
+use gates::to_cnf;
+use smallvec::SmallVec;
+use std::alloc::Global;
+use support::{NoMemory, Sequence};
+
+/// The clause of these literals; want of memory stands for literals out of order.
+fn clause(literals: SmallVec<Lit, 4>) -> Result<Clause, NoMemory> {
+    if is_clause(literals.as_slice()) {
+        Ok(Clause::new(literals))
+    } else {
+        Err(NoMemory)
+    }
+}
+
+/// Whether pigeon `pigeon` sits in hole `hole`, both from 0.
+fn sits(holes: u64, pigeon: u64, hole: u64, positive: bool) -> Lit {
+    let variable = pigeon
+        .wrapping_mul(holes)
+        .wrapping_add(hole)
+        .wrapping_add(1);
+    Lit { variable, positive }
+}
+
+/// Each pigeon sits in some hole.
+fn sits_somewhere(alloc: Global, holes: u64, pigeon: u64) -> Result<Clause, NoMemory> {
+    let mut literals = SmallVec::new(alloc);
+    for hole in 0..holes {
+        literals.push(sits(holes, pigeon, hole, true))?;
+    }
+    clause(literals)
+}
+
+/// A pigeon doesn't sit in a hole together with a later one.
+fn sit_apart(
+    alloc: Global,
+    holes: u64,
+    first: u64,
+    later: u64,
+    clauses: &mut Sequence<Clause>,
+) -> Result<(), NoMemory> {
+    for hole in 0..holes {
+        let mut literals = SmallVec::new(alloc);
+        literals.push(sits(holes, first, hole, false))?;
+        literals.push(sits(holes, later, hole, false))?;
+        clauses.push(clause(literals)?)?;
+    }
+    Ok(())
+}
+
+/// A pigeon sits apart from each later one.
+fn sits_apart(
+    alloc: Global,
+    holes: u64,
+    pigeon: u64,
+    clauses: &mut Sequence<Clause>,
+) -> Result<(), NoMemory> {
+    for later in pigeon.saturating_add(1)..holes.saturating_add(1) {
+        sit_apart(alloc, holes, pigeon, later, clauses)?;
+    }
+    Ok(())
+}
+
+/// One pigeon more than there are holes, and no two in one.
+pub fn pigeons(alloc: Global, holes: u64) -> Result<Cnf, NoMemory> {
+    let mut clauses = Sequence::from_vec(Vec::new(alloc));
+    let pigeons = holes.saturating_add(1);
+    for pigeon in 0..pigeons {
+        clauses.push(sits_somewhere(alloc, holes, pigeon)?)?;
+    }
+    for pigeon in 0..pigeons {
+        sits_apart(alloc, holes, pigeon, &mut clauses)?;
+    }
+    let variables = pigeons.wrapping_mul(holes);
+    if !are_within(variables, clauses.as_slice()) {
+        return Err(NoMemory);
+    }
+    Ok(Cnf::new(variables, clauses, variables))
+}
+
+/// Clauses that ask for a goal of one bit, its variables being the front.
+fn clauses_of(alloc: Global, terms: &Terms, goal: TermId) -> Result<Cnf, NoMemory> {
+    let mut blast = Blast::new(alloc);
+    let Ok(bits) = fold(alloc, terms, &mut blast) else {
+        return Err(NoMemory);
+    };
+    let front = blast.inputs()?;
+    let circuit = blast.circuit();
+    let out = bits
+        .get(goal.index)
+        .and_then(|digits| digits.as_slice().first().copied());
+    match out {
+        Some(out) if out.index < circuit.len() => to_cnf(alloc, circuit, out, &front),
+        _ => Err(NoMemory),
+    }
+}
+
+/// Whether `x * 2` is ever another number than `x << 1`.
+pub fn double(alloc: Global, width: u32) -> Result<Cnf, NoMemory>
+    requires least { 2 ≤ width }
+    requires most { width ≤ 128 }
+{
+    let mut terms = Terms::new(alloc);
+    let x = terms.variable(0, width)?;
+    let two = terms.constant(2, width)?;
+    let one = terms.constant(1, width)?;
+    let product = terms.mul(x, two)?;
+    let shifted = terms.shl(x, one)?;
+    let same = terms.eq(product, shifted)?;
+    let goal = terms.not(same)?;
+    clauses_of(alloc, &terms, goal)
+}
+
+/// Whether `(x + y) - y` is ever another number than `x`.
+pub fn difference(alloc: Global, width: u32) -> Result<Cnf, NoMemory>
+    requires least { 2 ≤ width }
+    requires most { width ≤ 128 }
+{
+    let mut terms = Terms::new(alloc);
+    let x = terms.variable(0, width)?;
+    let y = terms.variable(1, width)?;
+    let sum = terms.add(x, y)?;
+    let back = terms.sub(sum, y)?;
+    let same = terms.eq(back, x)?;
+    let goal = terms.not(same)?;
+    clauses_of(alloc, &terms, goal)
+}
