@@ -50,6 +50,7 @@ fn function_with(
         }; 1]?),
         blocks: Sequence::from_vec(blocks),
         names: names_to_3(alloc)?,
+        places: Sequence::from_vec(Vec::new(alloc)),
     })
 }
 
