@@ -2,6 +2,7 @@
 use Rattle.std.proofs.Common.{◌≡◌, ℕ, zero, suc, ◌≤◌, ◌⊎◌, inl, inr, Bool, true, false, cond, List, [], ◌∷◌, length, Option, Some, None, refl, sym, ap, subst, ◌∙◌, arith}
 use Rattle.std.specs.Prelude.{◌||◌, not}
 use Rattle.ir_lexer.specs.Lexeme.{Lexeme}
+use Rattle.ir_tree.specs.declared.module.Reason.{Reason}
 use Rattle.ir_forms.specs.Form.{Class, Form, give, one, seq, upto, peek, tail, mapped, Reading, reads, stops, and_then, Judged, none, past, found, judged, taken, token_of, first_of, peeked, begun, parts, read}
 use Rattle.std.proofs.lemmas.List.{length-append}
 use Rattle.ir_forms.proofs.Lawful.{read_lawful}
@@ -30,11 +31,11 @@ judged-nothing {A} limits within (Some x) e = absurd (go (not limits || within) 
     go true e' = cc e'
     go false e' = cc e'
 
-pub token-found : {A : Type 0} (limits : Bool) (stands : Lexeme → Option A) (within : Lexeme → Bool) (ts : Tokens) (x : A) (rest : Tokens) → token_of limits stands within ts ≡ reads x rest → Token limits stands within x ts rest
-token-found limits stands within [] x rest e = absurd (cc e)
-token-found {A} limits stands within (t ∷ q) x rest e = go (judged limits (within t) (stands t)) refl e
+pub token-found : {A : Type 0} (limits : Bool) (stands : Lexeme → Option A) (within : Lexeme → Bool) (reason : Lexeme → Reason) (ts : Tokens) (x : A) (rest : Tokens) → token_of limits stands within reason ts ≡ reads x rest → Token limits stands within x ts rest
+token-found limits stands within reason [] x rest e = absurd (cc e)
+token-found {A} limits stands within reason (t ∷ q) x rest e = go (judged limits (within t) (stands t)) refl e
   where
-    go : (j : Judged A) → judged limits (within t) (stands t) ≡ j → taken j t q ≡ reads x rest → Token limits stands within x (t ∷ q) rest
+    go : (j : Judged A) → judged limits (within t) (stands t) ≡ j → taken j (reason t) t q ≡ reads x rest → Token limits stands within x (t ∷ q) rest
     go none is e' = absurd (cc e')
     go past is e' = absurd (cc e')
     go (found a) is e' =
@@ -43,10 +44,10 @@ token-found {A} limits stands within (t ∷ q) x rest e = go (judged limits (wit
         let J = judged-stands limits (within t) (stands t) a is in
         record { first = t; split = ap (λ (us : Tokens). t ∷ us) left; stands_for = J.0 ∙ ap (λ (y : A). Some y) same; keeps = J.1 }
 
-pub token-again : {A : Type 0} (limits : Bool) (stands : Lexeme → Option A) (within : Lexeme → Bool) (ts : Tokens) (x : A) (rest : Tokens) → Token limits stands within x ts rest → token_of limits stands within ts ≡ reads x rest
-token-again limits stands within ts x rest T =
+pub token-again : {A : Type 0} (limits : Bool) (stands : Lexeme → Option A) (within : Lexeme → Bool) (reason : Lexeme → Reason) (ts : Tokens) (x : A) (rest : Tokens) → Token limits stands within x ts rest → token_of limits stands within reason ts ≡ reads x rest
+token-again limits stands within reason ts x rest T =
     let is = stands-judged limits (within T.first) (stands T.first) x T.stands_for T.keeps in
-    ap (token_of limits stands within) T.split ∙ rw is refl
+    ap (token_of limits stands within reason) T.split ∙ rw is refl
 
 -- ---- parts
 
@@ -141,28 +142,28 @@ shorter limits f ts x rest e = let W = (read_lawful limits f).whole ts x rest e 
 
 pub read-found : {o : Lexeme → Bool} {X : Type 0} (limits : Bool) (f : Form o X) (ts : Tokens) (x : X) (rest : Tokens) → read limits f ts ≡ reads x rest → Spells limits f x ts rest
 read-found limits (give y) ts x rest e = (cc e, cc e)
-read-found limits (one c) ts x rest e = token-found limits c.stands c.within ts x rest e
+read-found limits (one c) ts x rest e = token-found limits c.stands c.within c.reason ts x rest e
 read-found limits (seq f k) ts x rest e =
     let T = then-found (read limits f ts) (λ a r. read limits (k a) r) x rest e in
     (T.0, T.1, read-found limits f ts T.0 T.1 T.2, read-found limits (k T.0) T.1 x rest T.3)
 read-found {o} {X} limits (upto {A} {B} f c fits) ts x rest e =
-    let T = then-found (read limits f ts) (λ a r. and_then (token_of limits (c a).stands (c a).within r) (λ b r'. reads (a, b) r')) x rest e in
-    let U = then-found (token_of limits (c T.0).stands (c T.0).within T.1) (λ b r'. reads (T.0, b) r') x rest T.3 in
+    let T = then-found (read limits f ts) (λ a r. and_then (token_of limits (c a).stands (c a).within (c a).reason r) (λ b r'. reads (a, b) r')) x rest e in
+    let U = then-found (token_of limits (c T.0).stands (c T.0).within (c T.0).reason T.1) (λ b r'. reads (T.0, b) r') x rest T.3 in
     let same : (T.0, U.0) ≡ x = cc U.3 in
     let left : U.1 ≡ rest = cc U.3 in
     subst (λ (p : A × B). (mid : Tokens) × Spells limits f p.0 ts mid × Token limits (c p.0).stands (c p.0).within p.1 mid rest) same
-    (T.1, read-found limits f ts T.0 T.1 T.2, subst (λ (us : Tokens). Token limits (c T.0).stands (c T.0).within U.0 T.1 us) left (token-found limits (c T.0).stands (c T.0).within T.1 U.0 U.1 U.2))
+    (T.1, read-found limits f ts T.0 T.1 T.2, subst (λ (us : Tokens). Token limits (c T.0).stands (c T.0).within U.0 T.1 us) left (token-found limits (c T.0).stands (c T.0).within (c T.0).reason T.1 U.0 U.1 U.2))
 read-found limits (peek {A} {B} {X} c f d g) ts x rest e =
     by (λ a mid e'. read-found limits (f a) mid x rest e') (λ b mid e'. read-found limits (g b) mid x rest e')
-    (peek-found limits c (λ a r. read limits (f a) r) (λ r. and_then (token_of limits d.stands d.within r) (λ b r'. read limits (g b) r')) ts x rest e)
+    (peek-found limits c (λ a r. read limits (f a) r) (λ r. and_then (token_of limits d.stands d.within d.reason r) (λ b r'. read limits (g b) r')) ts x rest e)
   where
     by : ((a : A) (mid : Tokens) → read limits (f a) mid ≡ reads x rest → Spells limits (f a) x mid rest) → ((b : B) (mid : Tokens) → read limits (g b) mid ≡ reads x rest → Spells limits (g b) x mid rest)
-        → ((a : A) × (mid : Tokens) × Token limits c.stands c.within a ts mid × (read limits (f a) mid ≡ reads x rest)) ⊎ (IsNone c.stands ts × (and_then (token_of limits d.stands d.within ts) (λ b r'. read limits (g b) r') ≡ reads x rest))
+        → ((a : A) × (mid : Tokens) × Token limits c.stands c.within a ts mid × (read limits (f a) mid ≡ reads x rest)) ⊎ (IsNone c.stands ts × (and_then (token_of limits d.stands d.within d.reason ts) (λ b r'. read limits (g b) r') ≡ reads x rest))
         → Spells limits (peek c f d g) x ts rest
     by F G (inl (a, mid, T, e')) = inl (a, mid, T, F a mid e')
     by F G (inr (nothing, e')) =
-        let U = then-found (token_of limits d.stands d.within ts) (λ b r'. read limits (g b) r') x rest e' in
-        inr (nothing, U.0, U.1, token-found limits d.stands d.within ts U.0 U.1 U.2, G U.0 U.1 U.3)
+        let U = then-found (token_of limits d.stands d.within d.reason ts) (λ b r'. read limits (g b) r') x rest e' in
+        inr (nothing, U.0, U.1, token-found limits d.stands d.within d.reason ts U.0 U.1 U.2, G U.0 U.1 U.3)
 read-found limits (tail goes_on begins within part f) ts x rest e =
     let T = then-found (read limits f ts) (λ s r. parts limits goes_on begins within (λ s' a r'. read limits (part s' a) r') (length r) s r) x rest e in
     let P = parts-found limits goes_on begins within (λ s' a r. read limits (part s' a) r) (λ s' a y r r'. Spells limits (part s' a) y r r')
@@ -177,14 +178,14 @@ read-found limits (mapped k f) ts x rest e =
 
 pub read-again : {o : Lexeme → Bool} {X : Type 0} (limits : Bool) (f : Form o X) (ts : Tokens) (x : X) (rest : Tokens) → Spells limits f x ts rest → read limits f ts ≡ reads x rest
 read-again limits (give y) ts x rest (same, left) = ap (λ z. reads z ts) same ∙ ap (λ (us : Tokens). reads x us) left
-read-again limits (one c) ts x rest T = token-again limits c.stands c.within ts x rest T
+read-again limits (one c) ts x rest T = token-again limits c.stands c.within c.reason ts x rest T
 read-again limits (seq f k) ts x rest (a, mid, F, K) = rw (read-again limits f ts a mid F) (read-again limits (k a) mid x rest K)
-read-again limits (upto f c fits) ts x rest (mid, F, T) = rw (read-again limits f ts x.0 mid F, token-again limits (c x.0).stands (c x.0).within mid x.1 rest T) refl
+read-again limits (upto f c fits) ts x rest (mid, F, T) = rw (read-again limits f ts x.0 mid F, token-again limits (c x.0).stands (c x.0).within (c x.0).reason mid x.1 rest T) refl
 read-again limits (peek c f d g) ts x rest (inl (a, mid, T, F)) =
-    peek-first limits c (λ a' r. read limits (f a') r) (λ r. and_then (token_of limits d.stands d.within r) (λ b r'. read limits (g b) r')) ts mid a T ∙ read-again limits (f a) mid x rest F
+    peek-first limits c (λ a' r. read limits (f a') r) (λ r. and_then (token_of limits d.stands d.within d.reason r) (λ b r'. read limits (g b) r')) ts mid a T ∙ read-again limits (f a) mid x rest F
 read-again limits (peek c f d g) ts x rest (inr (nothing, b, mid, T, G)) =
-    peek-other limits c (λ a' r. read limits (f a') r) (λ r. and_then (token_of limits d.stands d.within r) (λ b' r'. read limits (g b') r')) ts nothing
-    ∙ rw (token-again limits d.stands d.within ts b mid T) (read-again limits (g b) mid x rest G)
+    peek-other limits c (λ a' r. read limits (f a') r) (λ r. and_then (token_of limits d.stands d.within d.reason r) (λ b' r'. read limits (g b') r')) ts nothing
+    ∙ rw (token-again limits d.stands d.within d.reason ts b mid T) (read-again limits (g b) mid x rest G)
 read-again limits (tail goes_on begins within part f) ts x rest (s, mid, F, n, P) =
     rw (read-again limits f ts s mid F) (parts-again limits goes_on begins within (λ s' a r. read limits (part s' a) r) (λ s' a y r r'. Spells limits (part s' a) y r r')
     (λ s' a r y r' e'. shorter limits (part s' a) r y r' e') (λ s' a r y r' sp. read-again limits (part s' a) r y r' sp)

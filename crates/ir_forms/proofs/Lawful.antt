@@ -3,6 +3,8 @@ use Rattle.std.proofs.Common.{◌≡◌, ℕ, zero, suc, ◌≤◌, ◌⊎◌, i
 use Rattle.std.specs.Prelude.{◌||◌, not}
 use Rattle.std.proofs.lemmas.List.{append-nil, length-append}
 use Rattle.ir_lexer.specs.Lexeme.{Lexeme}
+use Rattle.ir_tree.specs.declared.module.Reason.{Reason}
+use Rattle.ir_tree.specs.declared.module.Reason.TheVariants.{Syntax}
 use Rattle.ir_forms.specs.Form.{Class, never, either, Form, give, one, seq, upto, peek, tail, mapped, Why, unfit, limit, Reading, reads, stops, and_then, Judged, none, past, found, judged, taken, one_of, first_of, peeked, begun, parts, read}
 
 abbrev Tokens : Type 0
@@ -56,7 +58,7 @@ pub record Lawful {X : Type 0} (o : Lexeme → Bool) (g h : Reader X) : Type 0 w
   pub whole : (ts : Tokens) (x : X) (rest : Tokens) → g ts ≡ reads x rest → Whole o g ts x rest
   pub halts : (ts : Tokens) (why : Why) (rest : Tokens) → g ts ≡ stops why rest → Halts o g h ts why rest
   pub lifts : (ts : Tokens) (x : X) (rest : Tokens) → g ts ≡ reads x rest → h ts ≡ reads x rest
-  pub lifts_unfit : (ts : Tokens) (rest : Tokens) → g ts ≡ stops unfit rest → h ts ≡ stops unfit rest
+  pub lifts_unfit : (ts : Tokens) (reason : Reason) (rest : Tokens) → g ts ≡ stops (unfit reason) rest → h ts ≡ stops (unfit reason) rest
   pub ends : Ends o h []
 
 -- ---- by cases on what was read
@@ -76,7 +78,7 @@ give_lawful {X} x = record {
   whole = λ ts y rest e. w ts y rest e;
   halts = λ ts why rest e. absurd (cc e);
   lifts = λ ts y rest e. e;
-  lifts_unfit = λ ts rest e. e;
+  lifts_unfit = λ ts reason rest e. e;
   ends = record { more = []; value = x; whole = λ r f. refl };
 }
   where
@@ -115,7 +117,7 @@ one_lawful {A} b c = record { whole = w; halts = s; lifts = l; lifts_unfit = u; 
     w [] x rest e = absurd (cc e)
     w (t ∷ q) x rest e = go (judged b (c.within t) (c.stands t)) refl e
       where
-        go : (j : Judged A) → judged b (c.within t) (c.stands t) ≡ j → taken j t q ≡ reads x rest → Whole never (one_of b c) (t ∷ q) x rest
+        go : (j : Judged A) → judged b (c.within t) (c.stands t) ≡ j → taken j (c.reason t) t q ≡ reads x rest → Whole never (one_of b c) (t ∷ q) x rest
         go none is e' = absurd (cc e')
         go past is e' = absurd (cc e')
         go (found a) is e' =
@@ -126,14 +128,14 @@ one_lawful {A} b c = record { whole = w; halts = s; lifts = l; lifts_unfit = u; 
     s : (ts : Tokens) (why : Why) (rest : Tokens) → one_of b c ts ≡ stops why rest → Halts never (one_of b c) (one_of false c) ts why rest
     s [] why rest e =
         let nil : [] ≡ rest = cc e in
-        let is : unfit ≡ why = cc e in
+        let is : unfit Syntax ≡ why = cc e in
         record { front = []; split = nil; again = λ t q r f. absurd (cc (nil, f)); ends = n; past_limit = λ f. absurd (cc (is, f)) }
     s (t ∷ q) why rest e = go (judged b (c.within t) (c.stands t)) refl e
       where
-        go : (j : Judged A) → judged b (c.within t) (c.stands t) ≡ j → taken j t q ≡ stops why rest → Halts never (one_of b c) (one_of false c) (t ∷ q) why rest
+        go : (j : Judged A) → judged b (c.within t) (c.stands t) ≡ j → taken j (c.reason t) t q ≡ stops why rest → Halts never (one_of b c) (one_of false c) (t ∷ q) why rest
         go none is e' =
             let left : t ∷ q ≡ rest = cc e' in
-            let why-is : unfit ≡ why = cc e' in
+            let why-is : unfit (c.reason t) ≡ why = cc e' in
             record {
               front = [];
               split = left;
@@ -158,16 +160,16 @@ one_lawful {A} b c = record { whole = w; halts = s; lifts = l; lifts_unfit = u; 
     l [] x rest e = absurd (cc e)
     l (t ∷ q) x rest e = go (judged b (c.within t) (c.stands t)) refl e
       where
-        go : (j : Judged A) → judged b (c.within t) (c.stands t) ≡ j → taken j t q ≡ reads x rest → one_of false c (t ∷ q) ≡ reads x rest
+        go : (j : Judged A) → judged b (c.within t) (c.stands t) ≡ j → taken j (c.reason t) t q ≡ reads x rest → one_of false c (t ∷ q) ≡ reads x rest
         go none is e' = absurd (cc e')
         go past is e' = absurd (cc e')
         go (found a) is e' = rw (judged-lifts b (c.within t) (c.stands t) a is) e'
 
-    u : (ts : Tokens) (rest : Tokens) → one_of b c ts ≡ stops unfit rest → one_of false c ts ≡ stops unfit rest
-    u [] rest e = e
-    u (t ∷ q) rest e = go (judged b (c.within t) (c.stands t)) refl e
+    u : (ts : Tokens) (reason : Reason) (rest : Tokens) → one_of b c ts ≡ stops (unfit reason) rest → one_of false c ts ≡ stops (unfit reason) rest
+    u [] reason rest e = e
+    u (t ∷ q) reason rest e = go (judged b (c.within t) (c.stands t)) refl e
       where
-        go : (j : Judged A) → judged b (c.within t) (c.stands t) ≡ j → taken j t q ≡ stops unfit rest → one_of false c (t ∷ q) ≡ stops unfit rest
+        go : (j : Judged A) → judged b (c.within t) (c.stands t) ≡ j → taken j (c.reason t) t q ≡ stops (unfit reason) rest → one_of false c (t ∷ q) ≡ stops (unfit reason) rest
         go none is e' = rw (judged-none b (c.within t) (c.stands t) is) e'
         go past is e' = absurd (cc e')
         go (found a) is e' = absurd (cc e')
@@ -269,15 +271,15 @@ module _ {A X : Type 0} {o o1 : Lexeme → Bool} (g1 h1 : Reader A) (g2 h2 : A �
       go (reads a mid) is e' = rw (La.lifts ts a mid is) ((Lb a).lifts mid x rest e')
       go (stops why r) is e' = absurd (cc e')
 
-  join_lifts_unfit : (ts : Tokens) (rest : Tokens) → and_then (g1 ts) g2 ≡ stops unfit rest → and_then (h1 ts) h2 ≡ stops unfit rest
-  join_lifts_unfit ts rest e = go (g1 ts) refl e
+  join_lifts_unfit : (ts : Tokens) (reason : Reason) (rest : Tokens) → and_then (g1 ts) g2 ≡ stops (unfit reason) rest → and_then (h1 ts) h2 ≡ stops (unfit reason) rest
+  join_lifts_unfit ts reason rest e = go (g1 ts) refl e
     where
-      go : (z : Reading A) → g1 ts ≡ z → and_then z g2 ≡ stops unfit rest → and_then (h1 ts) h2 ≡ stops unfit rest
-      go (reads a mid) is e' = rw (La.lifts ts a mid is) ((Lb a).lifts_unfit mid rest e')
+      go : (z : Reading A) → g1 ts ≡ z → and_then z g2 ≡ stops (unfit reason) rest → and_then (h1 ts) h2 ≡ stops (unfit reason) rest
+      go (reads a mid) is e' = rw (La.lifts ts a mid is) ((Lb a).lifts_unfit mid reason rest e')
       go (stops why r) is e' =
-          let w : why ≡ unfit = cc e' in
+          let w : why ≡ unfit reason = cc e' in
           let l : r ≡ rest = cc e' in
-          rw (La.lifts_unfit ts rest (is ∙ ap (λ (v : Why). stops v r) w ∙ ap (λ (us : Tokens). stops unfit us) l)) refl
+          rw (La.lifts_unfit ts reason rest (is ∙ ap (λ (v : Why). stops v r) w ∙ ap (λ (us : Tokens). stops (unfit reason) us) l)) refl
 
   pub join_lawful : Lawful o (λ ts. and_then (g1 ts) g2) (λ ts. and_then (h1 ts) h2)
   join_lawful = record { whole = join_whole; halts = join_halts; lifts = join_lifts; lifts_unfit = join_lifts_unfit; ends = ends_before [] La.ends }
@@ -299,7 +301,7 @@ with-takes : {A B : Type 0} (b : Bool) (c : Class B) (a : A) (ts : Tokens) (x : 
 with-takes b c a [] x rest e = absurd (cc e)
 with-takes {A} {B} b c a (t ∷ q) x rest e = go (judged b (c.within t) (c.stands t)) e
   where
-    go : (j : Judged B) → and_then (taken j t q) (λ y rest'. reads (a, y) rest') ≡ reads x rest → (u : Lexeme) × (t ∷ q ≡ u ∷ rest)
+    go : (j : Judged B) → and_then (taken j (c.reason t) t q) (λ y rest'. reads (a, y) rest') ≡ reads x rest → (u : Lexeme) × (t ∷ q ≡ u ∷ rest)
     go none e' = absurd (cc e')
     go past e' = absurd (cc e')
     go (found y) e' = let left : q ≡ rest = cc e' in (t, ap (λ (us : Tokens). t ∷ us) left)
@@ -344,7 +346,7 @@ module _ {A B X : Type 0} {o : Lexeme → Bool} (b : Bool) (c : Class A) (f f' :
   peek_whole [] x rest e = absurd (cc e)
   peek_whole (t ∷ q) x rest e = go (judged b (c.within t) (c.stands t)) refl e
     where
-      other : judged b (c.within t) (c.stands t) ≡ none → (j : Judged B) → judged b (d.within t) (d.stands t) ≡ j → and_then (taken j t q) g ≡ reads x rest → Whole o kept (t ∷ q) x rest
+      other : judged b (c.within t) (c.stands t) ≡ none → (j : Judged B) → judged b (d.within t) (d.stands t) ≡ j → and_then (taken j (d.reason t) t q) g ≡ reads x rest → Whole o kept (t ∷ q) x rest
       other not-c none is e' = absurd (cc e')
       other not-c past is e' = absurd (cc e')
       other not-c (found y) is e' =
@@ -361,14 +363,14 @@ module _ {A B X : Type 0} {o : Lexeme → Bool} (b : Bool) (c : Class A) (f f' :
   peek_halts : (ts : Tokens) (why : Why) (rest : Tokens) → kept ts ≡ stops why rest → Halts o kept lifted ts why rest
   peek_halts [] why rest e =
       let nil : [] ≡ rest = cc e in
-      let is : unfit ≡ why = cc e in
+      let is : unfit Syntax ≡ why = cc e in
       record { front = []; split = nil; again = λ t q r f. absurd (cc (nil, f)); ends = peek_ends; past_limit = λ f. absurd (cc (is, f)) }
   peek_halts (t ∷ q) why rest e = go (judged b (c.within t) (c.stands t)) refl e
     where
-      other : judged b (c.within t) (c.stands t) ≡ none → (j : Judged B) → judged b (d.within t) (d.stands t) ≡ j → and_then (taken j t q) g ≡ stops why rest → Halts o kept lifted (t ∷ q) why rest
+      other : judged b (c.within t) (c.stands t) ≡ none → (j : Judged B) → judged b (d.within t) (d.stands t) ≡ j → and_then (taken j (d.reason t) t q) g ≡ stops why rest → Halts o kept lifted (t ∷ q) why rest
       other not-c none is e' =
           let left : t ∷ q ≡ rest = cc e' in
-          let why-is : unfit ≡ why = cc e' in
+          let why-is : unfit (d.reason t) ≡ why = cc e' in
           record {
             front = [];
             split = left;
@@ -427,7 +429,7 @@ module _ {A B X : Type 0} {o : Lexeme → Bool} (b : Bool) (c : Class A) (f f' :
   peek_lifts [] x rest e = absurd (cc e)
   peek_lifts (t ∷ q) x rest e = go (judged b (c.within t) (c.stands t)) refl e
     where
-      other : judged b (c.within t) (c.stands t) ≡ none → (j : Judged B) → judged b (d.within t) (d.stands t) ≡ j → and_then (taken j t q) g ≡ reads x rest → lifted (t ∷ q) ≡ reads x rest
+      other : judged b (c.within t) (c.stands t) ≡ none → (j : Judged B) → judged b (d.within t) (d.stands t) ≡ j → and_then (taken j (d.reason t) t q) g ≡ reads x rest → lifted (t ∷ q) ≡ reads x rest
       other not-c none is e' = absurd (cc e')
       other not-c past is e' = absurd (cc e')
       other not-c (found y) is e' = rw (judged-none b (c.within t) (c.stands t) not-c, judged-lifts b (d.within t) (d.stands t) y is) ((G y).lifts q x rest e')
@@ -437,19 +439,19 @@ module _ {A B X : Type 0} {o : Lexeme → Bool} (b : Bool) (c : Class A) (f f' :
       go past is e' = absurd (cc e')
       go (found a) is e' = rw (judged-lifts b (c.within t) (c.stands t) a is) ((F a).lifts q x rest e')
 
-  peek_lifts_unfit : (ts : Tokens) (rest : Tokens) → kept ts ≡ stops unfit rest → lifted ts ≡ stops unfit rest
-  peek_lifts_unfit [] rest e = e
-  peek_lifts_unfit (t ∷ q) rest e = go (judged b (c.within t) (c.stands t)) refl e
+  peek_lifts_unfit : (ts : Tokens) (reason : Reason) (rest : Tokens) → kept ts ≡ stops (unfit reason) rest → lifted ts ≡ stops (unfit reason) rest
+  peek_lifts_unfit [] reason rest e = e
+  peek_lifts_unfit (t ∷ q) reason rest e = go (judged b (c.within t) (c.stands t)) refl e
     where
-      other : judged b (c.within t) (c.stands t) ≡ none → (j : Judged B) → judged b (d.within t) (d.stands t) ≡ j → and_then (taken j t q) g ≡ stops unfit rest → lifted (t ∷ q) ≡ stops unfit rest
+      other : judged b (c.within t) (c.stands t) ≡ none → (j : Judged B) → judged b (d.within t) (d.stands t) ≡ j → and_then (taken j (d.reason t) t q) g ≡ stops (unfit reason) rest → lifted (t ∷ q) ≡ stops (unfit reason) rest
       other not-c none is e' = rw (judged-none b (c.within t) (c.stands t) not-c, judged-none b (d.within t) (d.stands t) is) e'
       other not-c past is e' = absurd (cc e')
-      other not-c (found y) is e' = rw (judged-none b (c.within t) (c.stands t) not-c, judged-lifts b (d.within t) (d.stands t) y is) ((G y).lifts_unfit q rest e')
+      other not-c (found y) is e' = rw (judged-none b (c.within t) (c.stands t) not-c, judged-lifts b (d.within t) (d.stands t) y is) ((G y).lifts_unfit q reason rest e')
 
-      go : (j : Judged A) → judged b (c.within t) (c.stands t) ≡ j → first_of j t q f (λ rest'. and_then (one_of b d rest') g) ≡ stops unfit rest → lifted (t ∷ q) ≡ stops unfit rest
+      go : (j : Judged A) → judged b (c.within t) (c.stands t) ≡ j → first_of j t q f (λ rest'. and_then (one_of b d rest') g) ≡ stops (unfit reason) rest → lifted (t ∷ q) ≡ stops (unfit reason) rest
       go none is e' = other is (judged b (d.within t) (d.stands t)) refl e'
       go past is e' = absurd (cc e')
-      go (found a) is e' = rw (judged-lifts b (c.within t) (c.stands t) a is) ((F a).lifts_unfit q rest e')
+      go (found a) is e' = rw (judged-lifts b (c.within t) (c.stands t) a is) ((F a).lifts_unfit q reason rest e')
 
   pub peek_lawful : Lawful o kept lifted
   peek_lawful = record { whole = peek_whole; halts = peek_halts; lifts = peek_lifts; lifts_unfit = peek_lifts_unfit; ends = peek_ends }
@@ -763,23 +765,23 @@ module _ {A S : Type 0} {o : Lexeme → Bool} (b : Bool) (goes_on : Lexeme → B
           inner (stops why r) pe ee = absurd (cc ee)
           inner (reads s1 mid) pe ee = rw (begun-lifts b (within s t) (goes_on t) (begins s t) a is, (P s a).lifts q s1 mid pe) (rec s1 mid ee)
 
-  parts_lift_unfit : (n : ℕ) (s : S) (ts : Tokens) (rest : Tokens) → going n s ts ≡ stops unfit rest → free_going n s ts ≡ stops unfit rest
+  parts_lift_unfit : (n : ℕ) (s : S) (ts : Tokens) (reason : Reason) (rest : Tokens) → going n s ts ≡ stops (unfit reason) rest → free_going n s ts ≡ stops (unfit reason) rest
   unfolding parts
-  parts_lift_unfit zero s ts rest e = e
-  parts_lift_unfit (suc n) s [] rest e = e
-  parts_lift_unfit (suc n) s (t ∷ q) rest e = go (λ s1 mid. parts_lift_unfit n s1 mid rest) (begun b (within s t) (goes_on t) (begins s t)) refl e
+  parts_lift_unfit zero s ts reason rest e = e
+  parts_lift_unfit (suc n) s [] reason rest e = e
+  parts_lift_unfit (suc n) s (t ∷ q) reason rest e = go (λ s1 mid. parts_lift_unfit n s1 mid reason rest) (begun b (within s t) (goes_on t) (begins s t)) refl e
     where
-      go : ((s1 : S) (mid : Tokens) → going n s1 mid ≡ stops unfit rest → free_going n s1 mid ≡ stops unfit rest)
-          → (j : Judged A) → begun b (within s t) (goes_on t) (begins s t) ≡ j → first_of j t q (λ a rest'. and_then (part s a rest') (λ s' rest''. going n s' rest'')) (λ rest'. reads s rest') ≡ stops unfit rest → free_going (suc n) s (t ∷ q) ≡ stops unfit rest
+      go : ((s1 : S) (mid : Tokens) → going n s1 mid ≡ stops (unfit reason) rest → free_going n s1 mid ≡ stops (unfit reason) rest)
+          → (j : Judged A) → begun b (within s t) (goes_on t) (begins s t) ≡ j → first_of j t q (λ a rest'. and_then (part s a rest') (λ s' rest''. going n s' rest'')) (λ rest'. reads s rest') ≡ stops (unfit reason) rest → free_going (suc n) s (t ∷ q) ≡ stops (unfit reason) rest
       go rec none is e' = absurd (cc e')
       go rec past is e' = absurd (cc e')
       go rec (found a) is e' = inner (part s a q) refl e'
         where
-          inner : (z : Reading S) → part s a q ≡ z → and_then z (λ s' rest''. going n s' rest'') ≡ stops unfit rest → free_going (suc n) s (t ∷ q) ≡ stops unfit rest
+          inner : (z : Reading S) → part s a q ≡ z → and_then z (λ s' rest''. going n s' rest'') ≡ stops (unfit reason) rest → free_going (suc n) s (t ∷ q) ≡ stops (unfit reason) rest
           inner (stops w r) pe ee =
-              let why-is : w ≡ unfit = cc ee in
+              let why-is : w ≡ unfit reason = cc ee in
               let left : r ≡ rest = cc ee in
-              rw (begun-lifts b (within s t) (goes_on t) (begins s t) a is, (P s a).lifts_unfit q rest (pe ∙ ap (λ (v : Why). stops v r) why-is ∙ ap (λ (us : Tokens). stops unfit us) left)) refl
+              rw (begun-lifts b (within s t) (goes_on t) (begins s t) a is, (P s a).lifts_unfit q reason rest (pe ∙ ap (λ (v : Why). stops v r) why-is ∙ ap (λ (us : Tokens). stops (unfit reason) us) left)) refl
           inner (reads s1 mid) pe ee = rw (begun-lifts b (within s t) (goes_on t) (begins s t) a is, (P s a).lifts q s1 mid pe) (rec s1 mid ee)
 
   pub tail_lawful : (s : S) → Lawful (either goes_on o) (λ ts. going (length ts) s ts) (λ ts. free_going (length ts) s ts)
@@ -793,7 +795,7 @@ module _ {A S : Type 0} {o : Lexeme → Bool} (b : Bool) (goes_on : Lexeme → B
       past_limit = λ f. let L = H.past_limit f in record { token = L.token; others = L.others; is = L.is; ends = end (H.front ++ L.token ∷ []) L.ends };
     };
     lifts = λ ts x rest e. parts_lift (length ts) s ts x rest e;
-    lifts_unfit = λ ts rest e. parts_lift_unfit (length ts) s ts rest e;
+    lifts_unfit = λ ts reason rest e. parts_lift_unfit (length ts) s ts reason rest e;
     ends = end [] (parts_end s);
   }
     where

@@ -1,3 +1,5 @@
 pub mod Lawful
 pub mod Exact
 pub mod Loops
+pub mod Stops
+pub mod Reasons

@@ -97,12 +97,12 @@ module _ {A S : Type 0} (goes_on : Lexeme → Bool) (begins : S → Lexeme → O
 
   -- the same for what a function answers
   pub begin_fails : (s : S) (ts rest : List Lexeme) (fault : ReadFault) (whole : Reading S) → Fails fault rest (begins_at s ts) → Left goes_on begins within part s ts whole → Fails fault rest whole
-  begin_fails s ts rest Unfit whole e left = begin_stops s ts rest unfit whole e left
+  begin_fails s ts rest (Unfit reason) whole e left = begin_stops s ts rest (unfit reason) whole e left
   begin_fails s ts rest PastLimit whole e left = begin_stops s ts rest limit whole e left
   begin_fails s ts rest NoMemory whole e left = tt
 
   pub part_fails : (s : S) (ts q rest : List Lexeme) (a : A) (fault : ReadFault) (whole : Reading S) → begins_at s ts ≡ reads (Some a) q → Fails fault rest (part s a q) → Left goes_on begins within part s ts whole → Fails fault rest whole
-  part_fails s ts q rest a Unfit whole b e left = part_stops s ts q rest a unfit whole b e left
+  part_fails s ts q rest a (Unfit reason) whole b e left = part_stops s ts q rest a (unfit reason) whole b e left
   part_fails s ts q rest a PastLimit whole b e left = part_stops s ts q rest a limit whole b e left
   part_fails s ts q rest a NoMemory whole b e left = tt
 
@@ -168,6 +168,6 @@ module _ {A S : Type 0} (goes_on : Lexeme → Bool) (begins : S → Lexeme → O
         go (reads (Some a) q) is e' = inner a q is (part s a q) refl e'
 
     pub step-fails : (s : S) (ts rest : List Lexeme) (fault : ReadFault) (whole : Reading S) → Fails fault rest (step_of goes_on begins within part s ts) → Left goes_on begins within part s ts whole → Fails fault rest whole
-    step-fails s ts rest Unfit whole e left = step-stops s ts rest unfit whole e left
+    step-fails s ts rest (Unfit reason) whole e left = step-stops s ts rest (unfit reason) whole e left
     step-fails s ts rest PastLimit whole e left = step-stops s ts rest limit whole e left
     step-fails s ts rest NoMemory whole e left = tt

@@ -7,7 +7,7 @@ use Rattle.ir_forms.specs.Form.{Reading, reads, stops, unfit, limit}
 
 -- the fault is the stop, unless memory runs out
 abbrev pub Fails : {X : Type 0} → ReadFault → List Lexeme → Reading X → Type 0
-Fails Unfit rest reading = reading ≡ stops unfit rest
+Fails (Unfit reason) rest reading = reading ≡ stops (unfit reason) rest
 Fails PastLimit rest reading = reading ≡ stops limit rest
 Fails NoMemory rest reading = Unit {0}
 

@@ -1,12 +1,15 @@
 -- Forms: which tokens stand in a row, and the value that they spell.
 use Rattle.std.specs.Prelude.{◌≡◌, ℕ, zero, suc, List, [], ◌∷◌, length, Option, Some, None, Bool, true, false, ◌||◌, not, if◌then◌else◌}
 use Rattle.ir_lexer.specs.Lexeme.{Lexeme}
+use Rattle.ir_tree.specs.declared.module.Reason.{Reason}
+use Rattle.ir_tree.specs.declared.module.Reason.TheVariants.{Syntax}
 
--- A class of tokens: the value that a token stands for, and whether that keeps the limits. Some token of the
--- class is named, so that what was begun can be ended.
+-- A class of tokens: the value that a token stands for, whether that keeps the limits, and the reason that a token
+-- gives which doesn't stand. Some token of the class is named, so that what was begun can be ended.
 pub record Class (A : Type 0) : Type 0 where
   pub stands : Lexeme → Option A
   pub within : Lexeme → Bool
+  pub reason : Lexeme → Reason
   pub sample : Lexeme
   pub value : A
   pub fits : stands sample ≡ Some value
@@ -39,9 +42,9 @@ infixl 10 ◌>>=◌
 abbrev pub ◌>>=◌ : {A X : Type 0} {o : Lexeme → Bool} → Form never A → (A → Form o X) → Form o X
 f >>= k = seq f k
 
--- why reading stops: the next token can't stand there, or it can and passes a limit
+-- why reading stops: the next token can't stand there, and which reason that has, or it can and passes a limit
 pub data Why : Type 0 where
-  unfit : Why
+  unfit : Reason → Why
   limit : Why
 
 -- what reading gives: a value and the tokens behind it, or why it stops and the tokens from the stop on
@@ -64,17 +67,17 @@ abbrev pub judged : {A : Type 0} → Bool → Bool → Option A → Judged A
 judged limits within None = none
 judged limits within (Some a) = (if not limits || within then found a else past)
 
-abbrev pub taken : {A : Type 0} → Judged A → Lexeme → List Lexeme → Reading A
-taken none t rest = stops unfit (t ∷ rest)
-taken past t rest = stops limit (t ∷ rest)
-taken (found a) t rest = reads a rest
+abbrev pub taken : {A : Type 0} → Judged A → Reason → Lexeme → List Lexeme → Reading A
+taken none reason t rest = stops (unfit reason) (t ∷ rest)
+taken past reason t rest = stops limit (t ∷ rest)
+taken (found a) reason t rest = reads a rest
 
-abbrev pub token_of : {A : Type 0} → Bool → (Lexeme → Option A) → (Lexeme → Bool) → List Lexeme → Reading A
-token_of limits stands within [] = stops unfit []
-token_of limits stands within (t ∷ rest) = taken (judged limits (within t) (stands t)) t rest
+abbrev pub token_of : {A : Type 0} → Bool → (Lexeme → Option A) → (Lexeme → Bool) → (Lexeme → Reason) → List Lexeme → Reading A
+token_of limits stands within reason [] = stops (unfit Syntax) []
+token_of limits stands within reason (t ∷ rest) = taken (judged limits (within t) (stands t)) (reason t) t rest
 
 abbrev pub one_of : {A : Type 0} → Bool → Class A → List Lexeme → Reading A
-one_of limits c tokens = token_of limits c.stands c.within tokens
+one_of limits c tokens = token_of limits c.stands c.within c.reason tokens
 
 -- by the class of the first token
 abbrev pub first_of : {A X : Type 0} → Judged A → Lexeme → List Lexeme → (A → List Lexeme → Reading X) → (List Lexeme → Reading X) → Reading X

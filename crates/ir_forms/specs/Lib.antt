@@ -1,3 +1,4 @@
 pub mod Form
 pub mod Spelling
+pub mod Refusals
 pub mod Answer

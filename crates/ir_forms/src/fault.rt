@@ -1,13 +1,14 @@
 ghost use Rattle.std.specs.Prelude.{◌≡◌};
 ghost use Rattle.ir_forms.specs.declared.fault.ReadFault.TheVariants.{NoMemory};
 
+use ir_tree::Reason;
 use std::alloc::{AllocError, AllocFailed};
 
 /// Why reading stopped, at the first token that is left.
 #[derive(Clone, Copy, Debug, PartialEq, Eq)]
 pub enum ReadFault {
-    /// The token can't stand there, or there is none.
-    Unfit,
+    /// The token can't stand there, for this reason, or there is none, which is Syntax.
+    Unfit(Reason),
     /// The token can stand there, and a limit is passed.
     PastLimit,
     /// There was no memory for what was read.
