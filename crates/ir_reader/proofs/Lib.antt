@@ -1,9 +1,2 @@
 pub mod Digits
 pub mod Widths
-pub mod NameNumbers
-pub mod Checking
-pub mod Each
-pub mod EntryLemmas
-pub mod Limits
-pub mod OneModule
-pub mod Modules
