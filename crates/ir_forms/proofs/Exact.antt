@@ -3,10 +3,11 @@ use Rattle.std.proofs.Common.{◌≡◌, ℕ, zero, suc, ◌≤◌, ◌⊎◌, i
 use Rattle.std.specs.Prelude.{◌||◌, not}
 use Rattle.ir_lexer.specs.Lexeme.{Lexeme}
 use Rattle.ir_tree.specs.declared.module.Reason.{Reason}
-use Rattle.ir_forms.specs.Form.{Class, Form, give, one, seq, upto, peek, tail, mapped, Reading, reads, stops, and_then, Judged, none, past, found, judged, taken, token_of, first_of, peeked, begun, parts, read}
+use Rattle.ir_forms.specs.Form.{Class, Form, give, one, seq, upto, peek, tail, mapped, Reading, reads, stops, and_then, Judged, none, past, found, judged, taken, token_of, first_of, peeked, begun, parts, read, balanced}
 use Rattle.std.proofs.lemmas.List.{length-append}
 use Rattle.ir_forms.proofs.Lawful.{read_lawful}
 use Rattle.ir_forms.specs.Spelling.{Keeps, Token, IsNone, part_value, part_begins, SpellParts, Spells}
+use Rattle.ir_forms.proofs.Balanced.{balanced-found, balanced-again}
 
 abbrev Tokens : Type 0
 Tokens = List Lexeme
@@ -170,6 +171,7 @@ read-found limits (tail goes_on begins within part f) ts x rest e =
     (λ s' a r y r' e'. shorter limits (part s' a) r y r' e') (λ s' a r y r' e'. read-found limits (part s' a) r y r' e')
     (length T.1) T.0 T.1 x rest (omega arith) T.3 in
     (T.0, T.1, read-found limits f ts T.0 T.1 T.2, P.0, P.1)
+read-found limits (balanced b) ts x rest e = balanced-found b ts x rest e
 read-found limits (mapped k f) ts x rest e =
     let T = then-found (read limits f ts) (λ a r. reads (k a) r) x rest e in
     let value : k T.0 ≡ x = cc T.3 in
@@ -190,4 +192,5 @@ read-again limits (tail goes_on begins within part f) ts x rest (s, mid, F, n, P
     rw (read-again limits f ts s mid F) (parts-again limits goes_on begins within (λ s' a r. read limits (part s' a) r) (λ s' a y r r'. Spells limits (part s' a) y r r')
     (λ s' a r y r' e'. shorter limits (part s' a) r y r' e') (λ s' a r y r' sp. read-again limits (part s' a) r y r' sp)
     n (length mid) s mid x rest (omega arith) P)
+read-again limits (balanced b) ts x rest C = balanced-again b ts x rest C
 read-again limits (mapped k f) ts x rest (a, F, value) = rw (read-again limits f ts a rest F) (ap (λ z. reads z rest) value)

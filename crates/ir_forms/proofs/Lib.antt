@@ -1,5 +1,13 @@
+pub mod Laws
+pub mod Tokens
+pub mod Joined
+pub mod Peeked
+pub mod Parts
+pub mod Open
+pub mod Balanced
 pub mod Lawful
 pub mod Exact
 pub mod Loops
 pub mod Stops
 pub mod Reasons
+pub mod Plain

@@ -1,10 +1,15 @@
 -- Parts, as a loop reads them.
-use Rattle.std.proofs.Common.{◌≡◌, ℕ, zero, suc, ◌<◌, ◌≤◌, ◌⊎◌, inl, inr, Bool, true, false, List, [], ◌∷◌, length, Option, Some, None, refl, sym, ap, ◌∙◌, arith}
+use Rattle.std.proofs.Common.{◌≡◌, ◌≢◌, ◌-◌, take, drop, get_or, ℕ, zero, suc, ◌<◌, ◌≤◌, ◌⊎◌, inl, inr, Bool, true, false, List, [], ◌∷◌, length, Option, Some, None, refl, sym, ap, ◌∙◌, arith}
+use Rattle.std.proofs.Math.Seq.{take-length}
 use Rattle.ir_lexer.specs.Lexeme.{Lexeme}
 use Rattle.ir_forms.specs.declared.fault.ReadFault.{ReadFault}
 use Rattle.ir_forms.specs.declared.fault.ReadFault.TheVariants.{Unfit, PastLimit, NoMemory}
 use Rattle.ir_forms.specs.Answer.{Fails}
 use Rattle.ir_forms.specs.Form.{Why, unfit, limit, Reading, reads, stops, and_then, Judged, none, past, found, begun, beginning, begin_of, parts, step_from, step_of}
+use Rattle.ir_tree.specs.declared.module.Reason.TheVariants.{Syntax}
+use Rattle.ir_forms.specs.declared.bracket.Bracket.{Bracket}
+use Rattle.ir_forms.specs.Brackets.{nesting_of}
+use Rattle.ir_forms.specs.Form.{open_behind, until_closed}
 
 abbrev pub Part : Type 0 → Type 0 → Type 0
 Part A S = S → A → List Lexeme → Reading S
@@ -171,3 +176,33 @@ module _ {A S : Type 0} (goes_on : Lexeme → Bool) (begins : S → Lexeme → O
     step-fails s ts rest (Unfit reason) whole e left = step-stops s ts rest (unfit reason) whole e left
     step-fails s ts rest PastLimit whole e left = step-stops s ts rest limit whole e left
     step-fails s ts rest NoMemory whole e left = tt
+
+-- ---- up to where no bracket is open
+
+-- the first token of some, and the others
+pub first_and_others : (ts : List Lexeme) (t : Lexeme) → 1 ≤ length ts → t ≡ get_or ts 0 t → ts ≡ t ∷ take (length ts - 1) (drop 1 ts)
+first_and_others [] t some e = absurd (omega arith)
+first_and_others (u ∷ q) t some e =
+    let count : suc (length q) - 1 ≡ length q = omega arith in
+    let all : take (suc (length q) - 1) q ≡ q = ap (λ (n : ℕ). take n q) count ∙ take-length q in
+    ap (λ (v : Lexeme). v ∷ q) (sym e) ∙ ap (λ (us : List Lexeme). t ∷ us) (sym all)
+
+pub closed_more : (open_brackets next : List Bracket) (ts : List Lexeme) (t : Lexeme) (q : List Lexeme) (whole : Reading (Unit {0})) → open_brackets ≢ [] → ts ≡ t ∷ q → open_behind (nesting_of t) open_brackets ≡ Some next → until_closed open_brackets ts ≡ whole → until_closed next q ≡ whole
+unfolding until_closed
+closed_more [] next ts t q whole some split is e = absurd (some refl)
+closed_more (b ∷ outer) next ts t q whole some split is e = rw is at (rw split at e)
+
+pub closed_stops : (open_brackets : List Bracket) (ts : List Lexeme) (t : Lexeme) (q : List Lexeme) (whole : Reading (Unit {0})) → open_brackets ≢ [] → ts ≡ t ∷ q → open_behind (nesting_of t) open_brackets ≡ None → until_closed open_brackets ts ≡ whole → whole ≡ stops (unfit Syntax) ts
+unfolding until_closed
+closed_stops [] ts t q whole some split is e = absurd (some refl)
+closed_stops (b ∷ outer) ts t q whole some split is e = sym (rw is at (rw split at e)) ∙ ap (λ (us : List Lexeme). stops (unfit Syntax) us) (sym split)
+
+pub closed_ends : (open_brackets : List Bracket) (ts : List Lexeme) (whole : Reading (Unit {0})) → open_brackets ≢ [] → length ts < 1 → until_closed open_brackets ts ≡ whole → whole ≡ stops (unfit Syntax) ts
+unfolding until_closed
+closed_ends [] ts whole some short e = absurd (some refl)
+closed_ends (b ∷ outer) [] whole some short e = sym e
+closed_ends (b ∷ outer) (t ∷ q) whole some short e = absurd (omega arith)
+
+pub closed_done : (open_brackets : List Bracket) (rest : List Lexeme) (whole : Reading (Unit {0})) → open_brackets ≡ [] → until_closed open_brackets rest ≡ whole → whole ≡ reads tt rest
+unfolding until_closed
+closed_done open_brackets rest whole none_open e = sym (rw none_open at e)

@@ -2,11 +2,13 @@
 use Rattle.std.proofs.Common.{◌≡◌, ℕ, zero, suc, ◌⊎◌, inl, inr, Bool, true, List, [], ◌∷◌, length, Option, None, refl, sym, ◌∙◌}
 use Rattle.ir_lexer.specs.Lexeme.{Lexeme}
 use Rattle.ir_tree.specs.declared.module.Reason.{Reason}
-use Rattle.ir_forms.specs.Form.{Form, give, one, seq, upto, peek, tail, mapped, unfit, Reading, reads, stops, and_then, Judged, none, past, found, judged, taken, token_of, first_of, begun, parts, read}
+use Rattle.ir_forms.specs.Form.{Form, give, one, seq, upto, peek, tail, mapped, unfit, Reading, reads, stops, and_then, Judged, none, past, found, judged, taken, token_of, first_of, begun, parts, read, balanced}
 use Rattle.ir_forms.specs.Spelling.{Token, part_value, part_begins, Spells}
 use Rattle.ir_forms.specs.Refusals.{Misses, MissParts, RefusedAs}
 use Rattle.ir_forms.proofs.Exact.{read-found, token-found, judged-stands, begun-begins, judged-nothing}
 use Rattle.ir_forms.proofs.Stops.{then-stops}
+use Rattle.ir_forms.proofs.Balanced.{closed-halts, balanced-refused}
+use Rattle.ir_tree.specs.declared.module.Reason.TheVariants.{Syntax}
 
 token-misses : {A : Type 0} (stands : Lexeme → Option A) (within : Lexeme → Bool) (reason : Lexeme → Reason) (r : Reason) (ts rest : List Lexeme) → token_of true stands within reason ts ≡ stops (unfit r) rest → Misses stands reason ts rest r
 token-misses stands within reason r [] rest e = (cc e, cc e)
@@ -86,6 +88,7 @@ refused-as {o} {X} (tail goes_on begins within part f) r ts rest e =
         → (read true f ts ≡ stops (unfit r) rest) ⊎ ((s : X) × (mid : List Lexeme) × (read true f ts ≡ reads s mid) × (parts true goes_on begins within (λ s' a r'. read true (part s' a) r') (length mid) s mid ≡ stops (unfit r) rest)) → RefusedAs (tail goes_on begins within part f) r ts rest
     by F G (inl here) = inl (F here)
     by F G (inr (s, mid, first, later)) = let P = G s mid later in inr (s, mid, read-found true f ts s mid first, P.0, P.1)
+refused-as (balanced b) r ts rest e = (balanced-refused b r ts rest e, let is : unfit Syntax ≡ unfit r = (closed-halts (b ∷ []) ts (unfit r) rest e).why_is in cc is)
 refused-as (mapped {A} k f) r ts rest e = by (λ e'. refused-as f r ts rest e') (then-stops (read true f ts) (λ a r'. reads (k a) r') (unfit r) rest e)
   where
     by : (read true f ts ≡ stops (unfit r) rest → RefusedAs f r ts rest) → (read true f ts ≡ stops (unfit r) rest) ⊎ ((a : A) × (mid : List Lexeme) × (read true f ts ≡ reads a mid) × (reads (k a) mid ≡ stops (unfit r) rest)) → RefusedAs f r ts rest

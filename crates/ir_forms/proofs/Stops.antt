@@ -2,11 +2,14 @@
 use Rattle.std.proofs.Common.{◌≡◌, ℕ, zero, suc, ◌≤◌, ◌⊎◌, inl, inr, Bool, true, false, List, [], ◌∷◌, ◌++◌, length, Option, Some, None, refl, sym, ap, ◌∙◌, append_assoc, arith}
 use Rattle.ir_lexer.specs.Lexeme.{Lexeme}
 use Rattle.ir_tree.specs.declared.module.Reason.{Reason}
-use Rattle.ir_forms.specs.Form.{never, Form, give, one, seq, upto, peek, tail, mapped, Why, unfit, limit, Reading, reads, stops, and_then, Judged, none, past, found, judged, taken, token_of, first_of, peeked, begun, parts, read}
+use Rattle.ir_forms.specs.Form.{never, Form, give, one, seq, upto, peek, tail, mapped, Why, unfit, limit, Reading, reads, stops, and_then, Judged, none, past, found, judged, taken, token_of, first_of, peeked, begun, parts, read, balanced}
 use Rattle.ir_forms.specs.Spelling.{Token, part_value, part_begins, Spells}
 use Rattle.ir_forms.specs.Refusals.{Begins, Exceeds, ExceedParts, PassesLimit, StopsUnfit, StopsPast}
-use Rattle.ir_forms.proofs.Lawful.{Ends, read_lawful}
+use Rattle.ir_forms.proofs.Laws.{Ends}
+use Rattle.ir_forms.proofs.Lawful.{read_lawful}
 use Rattle.ir_forms.proofs.Exact.{read-found, read-again, shorter, token-found, token-again, peek-first, peek-other, judged-stands, stands-judged, begun-begins, judged-nothing}
+use Rattle.ir_forms.proofs.Balanced.{closed-halts}
+use Rattle.ir_tree.specs.declared.module.Reason.TheVariants.{Syntax}
 
 begins-by : {X : Type 0} (f : Form never X) (front : List Lexeme) → Ends never (λ ts. read false f ts) front → Begins f front
 begins-by f front E = (E.more ++ [], E.value, read-found false f (front ++ (E.more ++ [])) E.value [] (E.whole [] refl))
@@ -109,6 +112,7 @@ passes-limit {o} {X} (tail goes_on begins within part f) ts rest e =
         → (read true f ts ≡ stops limit rest) ⊎ ((s : X) × (mid : List Lexeme) × (read true f ts ≡ reads s mid) × (parts true goes_on begins within (λ s' a r'. read true (part s' a) r') (length mid) s mid ≡ stops limit rest)) → PassesLimit (tail goes_on begins within part f) ts rest
     by F G (inl here) = inl (F here)
     by F G (inr (s, mid, first, later)) = let P = G s mid later in inr (s, mid, read-found true f ts s mid first, P.0, P.1)
+passes-limit (balanced b) ts rest e = let never : unfit Syntax ≡ limit = (closed-halts (b ∷ []) ts limit rest e).why_is in absurd (cc never)
 passes-limit {o} {X} (mapped {A} k f) ts rest e = by (λ e'. passes-limit f ts rest e') (then-stops (read true f ts) (λ a r. reads (k a) r) limit rest e)
   where
     by : (read true f ts ≡ stops limit rest → PassesLimit f ts rest) → (read true f ts ≡ stops limit rest) ⊎ ((a : A) × (mid : List Lexeme) × (read true f ts ≡ reads a mid) × (reads (k a) mid ≡ stops limit rest)) → PassesLimit f ts rest
@@ -176,6 +180,7 @@ limit-again (tail goes_on begins within part f) ts rest (inl E) = rw (limit-agai
 limit-again (tail goes_on begins within part f) ts rest (inr (s, mid, F, n, E)) =
     rw (read-again true f ts s mid F) (parts-limit goes_on begins within (λ s' a r. read true (part s' a) r) (λ s' a y r r'. Spells true (part s' a) y r r') (λ s' a r r'. PassesLimit (part s' a) r r')
     (λ s' a r y r' sp. read-again true (part s' a) r y r' sp) (λ s' a r r' E'. limit-again (part s' a) r r' E') (λ s' a r y r' e'. shorter true (part s' a) r y r' e') n (length mid) s mid rest (omega arith) E)
+limit-again (balanced b) ts rest E = absurd E
 limit-again (mapped k f) ts rest E = rw (limit-again f ts rest E) refl
 
 pub stops-unfit : {X : Type 0} (f : Form never X) (ts : List Lexeme) (reason : Reason) (rest : List Lexeme) → read true f ts ≡ stops (unfit reason) rest → StopsUnfit f ts rest

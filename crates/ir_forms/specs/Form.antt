@@ -3,6 +3,10 @@ use Rattle.std.specs.Prelude.{◌≡◌, ℕ, zero, suc, List, [], ◌∷◌, le
 use Rattle.ir_lexer.specs.Lexeme.{Lexeme}
 use Rattle.ir_tree.specs.declared.module.Reason.{Reason}
 use Rattle.ir_tree.specs.declared.module.Reason.TheVariants.{Syntax}
+use Rattle.ir_forms.specs.declared.bracket.Bracket.{Bracket}
+use Rattle.ir_forms.specs.declared.bracket.Nesting.{Nesting}
+use Rattle.ir_forms.specs.declared.bracket.Nesting.TheVariants.{Opens, Closes, Plain}
+use Rattle.ir_forms.specs.Brackets.{nesting_of, is_same}
 
 -- A class of tokens: the value that a token stands for, whether that keeps the limits, and the reason that a token
 -- gives which doesn't stand. Some token of the class is named, so that what was begun can be ended.
@@ -35,6 +39,8 @@ pub data Form : (Lexeme → Bool) → Type 0 → Type 1 where
   peek : {A B X : Type 0} {o : Lexeme → Bool} → Class A → (A → Form o X) → Class B → (B → Form o X) → Form o X
   -- a form, and parts, as long as the next token begins one; each changes a state that the form gives
   tail : {A S : Type 0} {o p : Lexeme → Bool} → (goes_on : Lexeme → Bool) → (begins : S → Lexeme → Option A) → (within : S → Lexeme → Bool) → (part : S → A → Form o S) → Form p S → Form (either p (either goes_on o)) S
+  -- behind the mark that opens a bracket, any tokens up to the one that closes it, in which brackets nest and match
+  balanced : Bracket → Form never (Unit {0})
   -- a form whose value is seen another way
   mapped : {A X : Type 0} {o : Lexeme → Bool} → (A → X) → Form o A → Form (either o never) X
 
@@ -110,6 +116,27 @@ parts limits goes_on begins within part (suc n) s [] = reads s []
 parts limits goes_on begins within part (suc n) s (t ∷ ts) =
     first_of (begun limits (within s t) (goes_on t) (begins s t)) t ts (λ a rest. and_then (part s a rest) (λ s' rest'. parts limits goes_on begins within part n s' rest')) (λ rest. reads s rest)
 
+-- without the innermost of the open brackets, if it is this one
+abbrev pub closed_by : Bracket → List Bracket → Option (List Bracket)
+closed_by c [] = None
+closed_by c (b ∷ outer) = (if is_same c b then Some outer else None)
+
+-- the brackets that are open behind one more token, the innermost first; None where it closes another than that
+abbrev pub open_behind : Nesting → List Bracket → Option (List Bracket)
+open_behind Plain open_brackets = Some open_brackets
+open_behind (Opens c) open_brackets = Some (c ∷ open_brackets)
+open_behind (Closes c) open_brackets = closed_by c open_brackets
+
+abbrev pub fitting : Option (List Bracket) → Lexeme → List Lexeme → (List Bracket → Reading (Unit {0})) → Reading (Unit {0})
+fitting None t rest go_on = stops (unfit Syntax) (t ∷ rest)
+fitting (Some open_brackets) t rest go_on = go_on open_brackets
+
+-- up to where no bracket is open
+unfoldable pub until_closed : List Bracket → List Lexeme → Reading (Unit {0})
+until_closed [] ts = reads tt ts
+until_closed (b ∷ outer) [] = stops (unfit Syntax) []
+until_closed (b ∷ outer) (t ∷ ts) = fitting (open_behind (nesting_of t) (b ∷ outer)) t ts (λ open_brackets. until_closed open_brackets ts)
+
 -- reading from the left, with limits or with limits lifted
 abbrev pub read : {o : Lexeme → Bool} {X : Type 0} → Bool → Form o X → List Lexeme → Reading X
 read limits (give x) ts = reads x ts
@@ -118,6 +145,7 @@ read limits (seq f k) ts = and_then (read limits f ts) (λ a rest. read limits (
 read limits (upto f c fits) ts = and_then (read limits f ts) (λ a rest. and_then (one_of limits (c a) rest) (λ b rest'. reads (a, b) rest'))
 read limits (peek c f d g) ts = peeked limits c (λ a rest. read limits (f a) rest) (λ rest. and_then (one_of limits d rest) (λ b rest'. read limits (g b) rest')) ts
 read limits (tail goes_on begins within part f) ts = and_then (read limits f ts) (λ s rest. parts limits goes_on begins within (λ s' a rest'. read limits (part s' a) rest') (length rest) s rest)
+read limits (balanced b) ts = until_closed (b ∷ []) ts
 read limits (mapped k f) ts = and_then (read limits f ts) (λ a rest. reads (k a) rest)
 
 -- whether the first token passes a test

@@ -1,4 +1,6 @@
+pub mod Brackets
 pub mod Form
 pub mod Spelling
 pub mod Refusals
+pub mod Plain
 pub mod Answer

@@ -1,9 +1,12 @@
 -- Where tokens stop being the beginning of some that spell a value, and why.
-use Rattle.std.specs.Prelude.{◌≡◌, ◌⊎◌, ℕ, zero, suc, List, [], ◌∷◌, ◌++◌, Option, Some, None, Bool, true, false}
+use Rattle.std.specs.Prelude.{◌≡◌, ◌≢◌, ◌⊎◌, ℕ, zero, suc, List, [], ◌∷◌, ◌++◌, Option, Some, None, Bool, true, false}
 use Rattle.ir_lexer.specs.Lexeme.{Lexeme}
 use Rattle.ir_tree.specs.declared.module.Reason.{Reason}
 use Rattle.ir_tree.specs.declared.module.Reason.TheVariants.{Syntax}
-use Rattle.ir_forms.specs.Form.{never, Form, give, one, seq, upto, peek, tail, mapped}
+use Rattle.ir_forms.specs.Form.{never, Form, give, one, seq, upto, peek, tail, balanced, mapped}
+use Rattle.ir_forms.specs.declared.bracket.Bracket.{Bracket}
+use Rattle.ir_forms.specs.declared.bracket.Nesting.TheVariants.{Closes}
+use Rattle.ir_forms.specs.Brackets.{nesting_of, IsInnermost}
 use Rattle.ir_forms.specs.Spelling.{Token, IsNone, part_begins, Spells}
 
 -- the tokens are the beginning of what spells a value, with limits lifted
@@ -41,6 +44,7 @@ PassesLimit (peek {A} {B} c f d g) tokens rest =
 PassesLimit {o} {X} (tail goes_on begins within part f) tokens rest =
     PassesLimit f tokens rest
     ⊎ ((s : X) × (mid : List Lexeme) × Spells true f s tokens mid × (n : ℕ) × ExceedParts goes_on begins within (λ s' a next inside behind. Spells true (part s' a) next inside behind) (λ s' a inside rest'. PassesLimit (part s' a) inside rest') n s mid rest)
+PassesLimit (balanced b) tokens rest = ⊥
 PassesLimit (mapped k f) tokens rest = PassesLimit f tokens rest
 
 -- the first token isn't of the class, which gives the reason; where none is left it is a mistake in the text
@@ -53,6 +57,19 @@ MissParts {A} {S} goes_on begins within part miss zero s tokens rest =
     (a : A) × (inside : List Lexeme) × Token true (part_begins goes_on (begins s)) (within s) a tokens inside × miss s a inside rest
 MissParts {A} {S} goes_on begins within part miss (suc n) s tokens rest =
     (a : A) × (inside : List Lexeme) × (next : S) × (behind : List Lexeme) × Token true (part_begins goes_on (begins s)) (within s) a tokens inside × part s a next inside behind × MissParts goes_on begins within part miss n next behind rest
+
+-- the first token closes another bracket than this one, or none is left
+abbrev pub LeavesOpen : Bracket → List Lexeme → Type 0
+LeavesOpen b [] = Unit {0}
+LeavesOpen b (t ∷ rest) = (c : Bracket) × (nesting_of t ≡ Closes c) × (c ≢ b)
+
+-- the tokens before rest stand inside this bracket, and the first of rest doesn't close the innermost one
+pub record StaysOpen (b : Bracket) (tokens rest : List Lexeme) : Type 0 where
+  pub inside : List Lexeme
+  pub innermost : Bracket
+  pub split : tokens ≡ inside ++ rest
+  pub is_innermost : IsInnermost b innermost inside
+  pub leaves_open : LeavesOpen innermost rest
 
 -- the tokens before rest stand, and a class that the first of rest isn't of gives this reason
 abbrev pub RefusedAs : {o : Lexeme → Bool} {X : Type 0} → Form o X → Reason → List Lexeme → List Lexeme → Type 0
@@ -67,6 +84,7 @@ RefusedAs (peek {A} {B} c f d g) r tokens rest =
 RefusedAs {o} {X} (tail goes_on begins within part f) r tokens rest =
     RefusedAs f r tokens rest
     ⊎ ((s : X) × (mid : List Lexeme) × Spells true f s tokens mid × (n : ℕ) × MissParts goes_on begins within (λ s' a next inside behind. Spells true (part s' a) next inside behind) (λ s' a inside rest'. RefusedAs (part s' a) r inside rest') n s mid rest)
+RefusedAs (balanced b) r tokens rest = StaysOpen b tokens rest × (Syntax ≡ r)
 RefusedAs (mapped k f) r tokens rest = RefusedAs f r tokens rest
 
 -- The first of rest is the first token that can't stand: those before it begin what spells a value, and with it they

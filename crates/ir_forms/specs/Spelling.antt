@@ -1,7 +1,8 @@
 -- Which tokens spell a value.
 use Rattle.std.specs.Prelude.{◌≡◌, ◌⊎◌, ℕ, zero, suc, List, [], ◌∷◌, Option, Some, None, Bool, true, false}
 use Rattle.ir_lexer.specs.Lexeme.{Lexeme}
-use Rattle.ir_forms.specs.Form.{Form, give, one, seq, upto, peek, tail, mapped}
+use Rattle.ir_forms.specs.Form.{Form, give, one, seq, upto, peek, tail, balanced, mapped}
+use Rattle.ir_forms.specs.Brackets.{IsClosed}
 
 -- a token keeps its limit, where limits are kept
 abbrev pub Keeps : Bool → Bool → Type 0
@@ -44,4 +45,5 @@ Spells limits (peek {A} {B} c f d g) x tokens rest =
     ⊎ (IsNone c.stands tokens × (b : B) × (mid : List Lexeme) × Token limits d.stands d.within b tokens mid × Spells limits (g b) x mid rest)
 Spells {o} {X} limits (tail goes_on begins within part f) x tokens rest =
     (s : X) × (mid : List Lexeme) × Spells limits f s tokens mid × (n : ℕ) × SpellParts limits goes_on begins within (λ s' a next inside behind. Spells limits (part s' a) next inside behind) n s x mid rest
+Spells limits (balanced b) x tokens rest = IsClosed b tokens rest
 Spells limits (mapped {A} k f) x tokens rest = (a : A) × Spells limits f a tokens rest × (k a ≡ x)

@@ -6,10 +6,16 @@
 //! left with one token ahead. It promises that these are one, for every form: what is read is
 //! spelled, what is spelled is read, and a stop is the first token that can't stand, with the reason
 //! that the form gives, or the first that passes a limit. So a grammar above has its readers' laws
-//! for nothing. It holds no grammar itself. It stands on `ir_lexer`, on `ir_tree` for the reasons,
-//! and on `support`; the reader stands on it.
+//! for nothing. `specs/Plain.antt` has the plain grammar of a form, in which no token is looked at
+//! ahead, and which forms spell as it does. The one form with code of its own is what stands inside
+//! a bracket (`specs/Brackets.antt`, `pass_bracket`).
+//!
+//! It holds no grammar itself. It stands on `ir_lexer`, on `ir_tree` for the reasons, and on
+//! `support`; the reader stands on it.
 #![tactic(auto)]
 
+mod bracket;
 mod fault;
 
+pub use bracket::{Bracket, Nesting, OpenBrackets, nesting_of, pass_bracket};
 pub use fault::ReadFault;
