@@ -2,4 +2,6 @@ pub mod Names
 pub mod Types
 pub mod Limits
 pub mod Sites
+pub mod SiteLists
 pub mod WellFormed
+pub mod Definitions

@@ -1,5 +1,6 @@
 -- The sites of a function: the types, names, literals and labels of its text that a refusal may be about, in text order.
-use Rattle.std.specs.Prelude.{ℕ, List, [], ◌∷◌, ◌++◌, map, flat_map, Bool, true, false, ◌==◌, nat_lt, Option, Some, None, slice_index_or}
+use Rattle.std.specs.Prelude.{ℕ, ◌+◌, ◌<◌, List, [], ◌∷◌, ◌++◌, map, length, All, Bool, true, false, ◌==◌, nat_lt, Option, Some, None, slice_index_or}
+use Rattle.std.specs.List.{flat_map}
 use Rattle.text_places.specs.declared.place.Place.{Place}
 use Rattle.ir_tree.specs.declared.tree.IrType.{IrType}
 use Rattle.ir_tree.specs.declared.tree.IrType.TheVariants.{Int, Ptr}
@@ -15,16 +16,9 @@ use Rattle.ir_tree.specs.declared.tree.Terminator.TheVariants.{Return}
 use Rattle.ir_tree.specs.declared.tree.Block.{Block}
 use Rattle.ir_tree.specs.declared.tree.Parameter.{Parameter}
 use Rattle.ir_tree.specs.declared.tree.Function.{Function}
+use Rattle.ir_tree.specs.declared.sites.Site.{Site}
+use Rattle.ir_tree.specs.declared.sites.Site.TheVariants.{Defines, Uses, Written}
 use Rattle.ir_tree.specs.Types.{one_bit}
-
--- what stands at a site
-pub data Site : Type 0 where
-  -- a name that gets a value of this type; a block's label is a name without one
-  Defines : Option IrType → ℕ → Site
-  -- a name that is used as a value of this type
-  Uses : IrType → ℕ → Site
-  -- a type, a literal or the function's name, and whether it may stand there
-  Written : Bool → Site
 
 abbrev pub is_same_type : IrType → IrType → Bool
 is_same_type (Int a) (Int b) = a.bits == b.bits
@@ -91,8 +85,31 @@ header_sites = Written true ∷ Written true ∷ []
 unfoldable pub steps : Function → List (List Site)
 steps f = header_sites ∷ (map parameter_sites f.parameters ++ flat_map (block_steps f.returns) f.blocks)
 
+-- the sites of these parts, one after another
+abbrev pub sites_in : List (List Site) → List Site
+sites_in parts = flat_map (λ (part : List Site). part) parts
+
 abbrev pub sites : Function → List Site
-sites f = flat_map (λ (step : List Site). step) (steps f)
+sites f = sites_in (steps f)
+
+-- for each site of these parts, of which the first begins at this site, the site that its part begins with
+abbrev pub begins_from : ℕ → List (List Site) → List ℕ
+begins_from at [] = []
+begins_from at (part ∷ parts) = map (λ (site : Site). at) part ++ begins_from (at + length part) parts
+
+-- for each site of a function the number of the first site in its part
+abbrev pub begins : Function → List ℕ
+begins f = begins_from 0 (steps f)
+
+-- a name's number has its name in a table of so many
+abbrev pub IsNumbered : ℕ → Site → Type 0
+IsNumbered count (Defines type name) = name < count
+IsNumbered count (Uses type name) = name < count
+IsNumbered count (Written fits) = Unit {0}
+
+-- each name of the function stands in its table
+abbrev pub AreNumbered : Function → Type 0
+AreNumbered f = All (IsNumbered (length f.names)) (sites f)
 
 -- line 0 stands for no place; a function that was read has one for each site
 abbrev pub no_place : Place

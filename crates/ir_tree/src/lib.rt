@@ -6,16 +6,20 @@
 //! prints or checks a function takes them.
 #![tactic(auto)]
 
+mod definitions;
 mod limits;
 mod module;
 mod name;
 mod names;
+mod sites;
 mod tree;
 
+pub use definitions::first_definitions;
 pub use limits::is_within_limits;
-pub use module::{Entry, Module, Reason, Refused};
+pub use module::{CheckFault, Entry, Module, Reason, Refused};
 pub use name::Name;
 pub use names::Names;
+pub use sites::{Site, SiteList, is_same_type, one_bit, refusal_at, sites_of};
 pub use tree::{
     Block, Cast, Flags, Function, Inst, IrType, Op, Operand, Parameter, Predicate, Terminator,
     TypedOperand,

@@ -1,5 +1,9 @@
+ghost use Rattle.std.specs.Prelude.{◌≡◌};
+ghost use Rattle.ir_tree.specs.declared.module.CheckFault.TheVariants.{NoMemory};
+
 use crate::name::Name;
 use crate::tree::Function;
+use std::alloc::AllocError;
 use support::Sequence;
 
 /// Why a function is not judged, in the order in which the reasons are tested.
@@ -29,6 +33,31 @@ pub struct Refused {
     pub reason: Reason,
     pub line: u64,
     pub column: u64,
+}
+
+/// Why a check of a function didn't pass it.
+#[derive(Clone, Copy, Debug, PartialEq, Eq)]
+pub enum CheckFault {
+    /// The function is refused.
+    Refused(Refused),
+    /// There was no memory for the check, and nothing is said of the function.
+    NoMemory,
+}
+
+impl From<AllocError> for CheckFault {
+    ghost from_gives = { λ _ e. e ≡ NoMemory };
+
+    fn from(_: AllocError) -> Self {
+        CheckFault::NoMemory
+    }
+}
+
+impl From<support::NoMemory> for CheckFault {
+    ghost from_gives = { λ _ e. e ≡ NoMemory };
+
+    fn from(_: support::NoMemory) -> Self {
+        CheckFault::NoMemory
+    }
 }
 
 /// A function with a body in a module: its name, and the function or why it was refused.

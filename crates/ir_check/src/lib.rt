@@ -1,0 +1,15 @@
+//! Whether the names and the types of a function are right.
+//!
+//! It promises that a function passes exactly where no site of its text fails by the rules of
+//! `ir_tree`'s `specs/WellFormed.antt`, and that else the refusal tells the first site that does. It
+//! stands on `ir_tree`; the reader of functions stands on it, and on `assigned_names`, which asks
+//! whether a name has its value where it is used. The rules are those of the LLVM Language Reference,
+//! "Well-Formedness", "Identifiers", and of each instruction's section for its types.
+#![tactic(auto)]
+
+mod names;
+mod types;
+mod values;
+
+pub use names::check_names;
+pub use types::check_types;

@@ -1,0 +1,90 @@
+ghost use Rattle.std.specs.Prelude.{◌≡◌, ◌<◌, ◌↔◌, ◌⊎◌, IsTrue, ℕ, length, OnOk, IfErr, IsSomeAnd};
+ghost use Rattle.ir_tree.specs.declared.module.Reason.TheVariants.{NameTwice, NameUnknown};
+ghost use Rattle.ir_tree.specs.Sites.{AreNumbered};
+ghost use Rattle.ir_tree.specs.WellFormed.{PassesNames, IsRefusedAt, IfRefused, IsFirstFailure, DefinesAgain, UsesUnknown};
+ghost use Rattle.ir_tree.specs.Definitions.{HasFirsts};
+
+use crate::values::value_type;
+use ir_tree::{CheckFault, Function, Reason, Site, first_definitions, refusal_at, sites_of};
+use std::alloc::Global;
+
+/// Passes a function in which no name is defined twice, and each name that is used as a value is
+/// defined as one (LLVM Language Reference, "Identifiers", "Functions").
+///
+/// # Errors
+/// Refused with `NameTwice` at the second definition of a name, the first in the text; where there
+/// is none, with `NameUnknown` at the first use of a name that nothing gives a value.
+pub fn check_names(alloc: Global, f: &Function) -> Result<(), CheckFault>
+    requires { AreNumbered f.now }
+    ensures passes { OnOk result (PassesNames f.now) }
+    ensures refused { IfErr result (IfRefused (λ refused. IsRefusedAt NameTwice f.now refused ⊎ IsRefusedAt NameUnknown f.now refused)) }
+{
+    let list = sites_of(alloc, f)?;
+    let firsts = first_definitions(alloc, list.all.as_slice(), f.names.len())?;
+    if let Some(site) = first_again(list.all.as_slice(), firsts.as_slice()) {
+        return Err(CheckFault::Refused(refusal_at(f, Reason::NameTwice, site)));
+    }
+    if let Some(site) = first_unknown(list.all.as_slice(), firsts.as_slice()) {
+        return Err(CheckFault::Refused(refusal_at(f, Reason::NameUnknown, site)));
+    }
+    Ok(())
+}
+
+// The first site that defines a name again.
+fn first_again(sites: &[Site], firsts: &[Option<usize>]) -> Option<usize>
+    requires { HasFirsts sites.now firsts.now }
+    ensures { IsFirstFailure (DefinesAgain sites.now) result }
+{
+    for n in 0..sites.len() {
+        if defines_again(sites, firsts, n) {
+            return Some(n);
+        }
+    }
+    None
+}
+
+fn defines_again(sites: &[Site], firsts: &[Option<usize>], n: usize) -> bool
+    requires firsts { HasFirsts sites.now firsts.now }
+    requires within { n < length sites.now }
+    ensures { IsTrue result ↔ DefinesAgain sites.now n }
+{
+    match sites[n] {
+        Site::Defines { of_type: _, name } => is_first_before(firsts[name], n),
+        Site::Uses { .. } | Site::Written { .. } => false,
+    }
+}
+
+fn is_first_before(first: Option<usize>, n: usize) -> bool
+    ensures { IsTrue result ↔ IsSomeAnd first (λ d. d < n) }
+{
+    match first {
+        Some(first) => first < n,
+        None => false,
+    }
+}
+
+// The first site that uses a name without a value.
+fn first_unknown(sites: &[Site], firsts: &[Option<usize>]) -> Option<usize>
+    requires firsts { HasFirsts sites.now firsts.now }
+    requires once { (n : ℕ) → DefinesAgain sites.now n → ⊥ }
+    ensures { IsFirstFailure (UsesUnknown sites.now) result }
+{
+    for n in 0..sites.len() {
+        if uses_unknown(sites, firsts, n) {
+            return Some(n);
+        }
+    }
+    None
+}
+
+fn uses_unknown(sites: &[Site], firsts: &[Option<usize>], n: usize) -> bool
+    requires firsts { HasFirsts sites.now firsts.now }
+    requires once { (n : ℕ) → DefinesAgain sites.now n → ⊥ }
+    requires within { n < length sites.now }
+    ensures { IsTrue result ↔ UsesUnknown sites.now n }
+{
+    match sites[n] {
+        Site::Uses { of_type: _, name } => value_type(sites, firsts, name).is_none(),
+        Site::Defines { .. } | Site::Written { .. } => false,
+    }
+}

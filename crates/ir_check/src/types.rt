@@ -1,0 +1,70 @@
+ghost use Rattle.std.specs.Prelude.{◌≡◌, ◌<◌, ◌↔◌, IsTrue, ℕ, length, false, OnOk, IfErr, IsSomeAnd};
+ghost use Rattle.ir_tree.specs.declared.module.Reason.TheVariants.{TypeClash};
+ghost use Rattle.ir_tree.specs.Sites.{AreNumbered, is_same_type};
+ghost use Rattle.ir_tree.specs.WellFormed.{Passes, PassesNames, IsRefusedAt, IfRefused, IsFirstFailure, DefinesAgain, ClashesType};
+ghost use Rattle.ir_tree.specs.Definitions.{HasFirsts};
+
+use crate::values::value_type;
+use ir_tree::{
+    CheckFault, Function, IrType, Reason, Site, first_definitions, is_same_type, refusal_at,
+    sites_of,
+};
+use std::alloc::Global;
+
+/// Passes a function in which each type and each literal may stand where it is written, and each
+/// name is used at the type of its value: the widths of a cast are in its order, the arms of a
+/// `select` have one type, and what a `ret` gives has the type of the header (LLVM Language
+/// Reference, "Conversion Operations", "select Instruction", "ret Instruction").
+///
+/// # Errors
+/// Refused with `TypeClash` at the first site where it is not so.
+pub fn check_types(alloc: Global, f: &Function) -> Result<(), CheckFault>
+    requires numbered { AreNumbered f.now }
+    requires names { PassesNames f.now }
+    ensures passes { OnOk result (Passes TypeClash f.now) }
+    ensures refused { IfErr result (IfRefused (IsRefusedAt TypeClash f.now)) }
+{
+    let list = sites_of(alloc, f)?;
+    let firsts = first_definitions(alloc, list.all.as_slice(), f.names.len())?;
+    match first_clash(list.all.as_slice(), firsts.as_slice()) {
+        Some(site) => Err(CheckFault::Refused(refusal_at(f, Reason::TypeClash, site))),
+        None => Ok(()),
+    }
+}
+
+// The first site where a type is not the one that must stand there.
+fn first_clash(sites: &[Site], firsts: &[Option<usize>]) -> Option<usize>
+    requires firsts { HasFirsts sites.now firsts.now }
+    requires once { (n : ℕ) → DefinesAgain sites.now n → ⊥ }
+    ensures { IsFirstFailure (ClashesType sites.now) result }
+{
+    for n in 0..sites.len() {
+        if clashes(sites, firsts, n) {
+            return Some(n);
+        }
+    }
+    None
+}
+
+fn clashes(sites: &[Site], firsts: &[Option<usize>], n: usize) -> bool
+    requires firsts { HasFirsts sites.now firsts.now }
+    requires once { (n : ℕ) → DefinesAgain sites.now n → ⊥ }
+    requires within { n < length sites.now }
+    ensures { IsTrue result ↔ ClashesType sites.now n }
+{
+    match sites[n] {
+        Site::Defines { .. } => false,
+        Site::Uses { of_type, name } => is_other(value_type(sites, firsts, name), of_type),
+        Site::Written { fits } => !fits,
+    }
+}
+
+// Whether a value has another type than this.
+fn is_other(value: Option<IrType>, of_type: IrType) -> bool
+    ensures { IsTrue result ↔ IsSomeAnd value (λ type. is_same_type type of_type ≡ false) }
+{
+    match value {
+        Some(value) => !is_same_type(value, of_type),
+        None => false,
+    }
+}

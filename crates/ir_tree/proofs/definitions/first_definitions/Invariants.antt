@@ -1,0 +1,9 @@
+use Rattle.std.proofs.Common.{◌≡◌, length}
+use Rattle.ir_tree.specs.Definitions.{AreFirst}
+use Rattle.ir_tree.proofs.definitions.first_definitions.Given as goal
+
+abbrev pub invariant-loop-n : goal.invariant-loop-n
+invariant-loop-n l = record {
+  len : length l.table.items ≡ l.names;
+  first : AreFirst l.sites l.n l.table.items;
+}

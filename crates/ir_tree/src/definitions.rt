@@ -1,0 +1,40 @@
+ghost use Rattle.std.specs.Prelude.{◌≡◌, ◌+◌, ◌<◌, ℕ, List, All, length, slice_get, Some, IfOk};
+ghost use Rattle.ir_tree.specs.declared.sites.Site.{Site};
+ghost use Rattle.ir_tree.specs.Sites.{IsNumbered};
+ghost use Rattle.ir_tree.specs.Definitions.{AreFirst, HasFirsts};
+
+use crate::sites::Site;
+use std::alloc::Global;
+use support::{NoMemory, Sequence};
+
+/// For each of so many names, by their numbers, the first of the sites that defines it.
+pub fn first_definitions(
+    alloc: Global,
+    sites: &[Site],
+    names: usize,
+) -> Result<Sequence<Option<usize>>, NoMemory>
+    requires { All (IsNumbered names) sites.now }
+    ensures len { IfOk result (λ table. length table ≡ names) }
+    ensures first { IfOk result (λ table. HasFirsts sites.now table) }
+{
+    let mut table = vec![in alloc; None; names]?;
+    for (n, site) in sites.iter().enumerate() {
+        note(&mut table, n, *site);
+    }
+    Ok(Sequence::from_vec(table))
+}
+
+// Puts a definition into the table, where its name has none yet.
+fn note(table: &mut [Option<usize>], n: usize, site: Site)
+    requires { IsNumbered (length table.old) site }
+    ensures { (all : List Site) → slice_get all n ≡ Some site → AreFirst all n table.old → AreFirst all (n + 1) table.new }
+{
+    match site {
+        Site::Defines { of_type: _, name } => {
+            if table[name].is_none() {
+                table[name] = Some(n);
+            }
+        }
+        Site::Uses { .. } | Site::Written { .. } => {}
+    }
+}
