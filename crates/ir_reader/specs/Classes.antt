@@ -82,9 +82,13 @@ counted_type room = record { stands = λ t. typed_at (width_in t) t.place; withi
 abbrev pub int_type : Class WrittenType
 int_type = counted_type true
 
+pub bit_fits : bit_at (width_in (token kind.Word (codes "i1"))) start ≡ Some start
+unfolding width_of
+bit_fits = refl
+
 -- the type of one bit, and where it stands
 abbrev pub bit_type : Class Place
-bit_type = record { stands = λ t. bit_at (width_in t) t.place; within = any; reason = bit_reason; sample = token kind.Word (codes "i1"); value = start; fits = refl }
+bit_type = record { stands = λ t. bit_at (width_in t) t.place; within = any; reason = bit_reason; sample = token kind.Word (codes "i1"); value = start; fits = bit_fits }
 
 -- void or an integer type
 abbrev pub return_type : Class WrittenReturnType

@@ -5,7 +5,8 @@ use Rattle.text_places.specs.declared.place.Place.{Place}
 use Rattle.ir_lexer.specs.declared.token.Kind.{Kind}
 use Rattle.ir_lexer.specs.declared.token.Kind.TheVariants as kind
 use Rattle.ir_lexer.specs.Lexeme.{Lexeme}
-use Rattle.ir_forms.specs.Form.{Form, never, either, give, one, upto, peek, tail, ◌>>=◌}
+use Rattle.ir_forms.specs.declared.bracket.Bracket.TheVariants.{Round}
+use Rattle.ir_forms.specs.Form.{Form, never, either, give, one, upto, peek, tail, balanced, ◌>>=◌}
 use Rattle.ir_reader.specs.declared.word.LineStart.{LineStart}
 use Rattle.ir_reader.specs.declared.word.LineStart.TheVariants as start
 use Rattle.ir_reader.specs.declared.word.ParameterPart.{ParameterPart}
@@ -118,6 +119,12 @@ attachment = do
   number ← one metadata_number
   give tt
 
+-- behind the word of a record: what stands in parentheses
+unfoldable pub record_rest : Form never (Unit {0})
+record_rest = do
+  opening ← one (mark (codes "(") refl)
+  balanced Round
+
 abbrev pub is_local_kind : Kind → Bool
 is_local_kind kind.Local = true
 is_local_kind _ = false
@@ -126,8 +133,12 @@ abbrev pub is_label_kind : Kind → Bool
 is_label_kind kind.Label = true
 is_label_kind _ = false
 
+abbrev pub is_hash_kind : Kind → Bool
+is_hash_kind kind.Hash = true
+is_hash_kind _ = false
+
 abbrev pub starts_line : Lexeme → Bool
-starts_line t = is_local_kind t.kind || is_label_kind t.kind || is_comma t
+starts_line t = is_local_kind t.kind || is_label_kind t.kind || is_hash_kind t.kind || is_comma t
 
 abbrev pub line_begins : WrittenLines → Lexeme → Option LineStart
 line_begins s t = line_start s.phase t.kind t.text t.place
@@ -140,8 +151,9 @@ abbrev pub with_line : WrittenLines → LineStart → Form never WrittenLines
 with_line s (start.Label name) = give (record { label = Some name; insts = s.insts; phase = phase.Between })
 with_line s (start.Inst name) = inst_named name >>= λ more. give (record { label = s.label; insts = s.insts ++ more ∷ []; phase = phase.Behind })
 with_line s start.Attachment = attachment >>= λ passed. give (record { label = s.label; insts = s.insts; phase = phase.Behind })
+with_line s start.Record = record_rest >>= λ passed. give (record { label = s.label; insts = s.insts; phase = phase.Between })
 
--- a label or none, and instructions with what is attached to them
+-- a label or none, and instructions with what is attached to them and records between them
 unfoldable pub lines : Form (either never (either starts_line never)) WrittenLines
 lines = tail starts_line line_begins line_within with_line (give (record { label = None; insts = []; phase = phase.Start }))
 

@@ -1,5 +1,5 @@
 -- Which tokens spell an instruction (LLVM Language Reference, "Instruction Reference").
-use Rattle.std.specs.Prelude.{refl, ℕ, List, [], Option, Some, None, Bool, true, false, ◌×◌, ◌||◌, codes}
+use Rattle.std.specs.Prelude.{refl, ℕ, List, [], Option, Some, None, Bool, true, false, ◌||◌, codes}
 use Rattle.text_places.specs.declared.place.Place.{Place}
 use Rattle.ir_lexer.specs.Lexeme.{Lexeme}
 use Rattle.ir_tree.specs.Types.{one_bit}

@@ -5,3 +5,7 @@ pub mod Spelling
 pub mod Classes
 pub mod Instructions
 pub mod Grammar
+pub mod EntryName
+pub mod Places
+pub mod Numbering
+pub mod Answer

@@ -1,5 +1,5 @@
 -- A function whose names go by number: each name's number is its place in the order in which names are first mentioned, whether it is defined there or not.
-use Rattle.std.specs.Prelude.{ℕ, List, [], ◌∷◌, ◌++◌, map, Bool, Option, Some, None, ◌×◌}
+use Rattle.std.specs.Prelude.{ℕ, List, [], ◌∷◌, ◌++◌, map, Bool, Option, Some, None}
 use Rattle.tv_num.specs.declared.Width.{Width}
 use Rattle.ir_tree.specs.Names.{with_name, number_of}
 use Rattle.ir_tree.specs.declared.name.Name.{Name}

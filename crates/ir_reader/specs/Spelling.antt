@@ -207,7 +207,7 @@ abbrev pub inst_line : Option WrittenName → Option LineStart
 inst_line None = None
 inst_line (Some name) = Some (start.Inst name)
 
--- a label where nothing stands before, the name of an instruction's result, or a comma behind an instruction
+-- a label where nothing stands before, the name of an instruction's result, a comma behind an instruction, or a record
 abbrev pub label_start : LinePhase → Option WrittenName → Option LineStart
 label_start phase.Start name = label_line name
 label_start _ name = None
@@ -216,8 +216,17 @@ abbrev pub comma_start : LinePhase → List ℕ → Option LineStart
 comma_start phase.Behind text = (if bytes_eq text (codes ",") then Some start.Attachment else None)
 comma_start _ text = None
 
+-- #dbg_ and maybe more
+abbrev pub is_record : List ℕ → Bool
+is_record (a ∷ b ∷ c ∷ d ∷ e ∷ more_bytes) = a == 35 && b == 100 && c == 98 && d == 103 && e == 95
+is_record _ = false
+
+abbrev pub record_start : List ℕ → Option LineStart
+record_start text = (if is_record text then Some start.Record else None)
+
 abbrev pub line_start : LinePhase → Kind → List ℕ → Place → Option LineStart
 line_start p kind.Local text at = inst_line (named_at (name_in kind.Local text) at)
 line_start p kind.Label text at = label_start p (named_at (name_in kind.Label text) at)
 line_start p kind.Mark text at = comma_start p text
+line_start p kind.Hash text at = record_start text
 line_start p _ text at = None

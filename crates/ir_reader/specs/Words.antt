@@ -47,21 +47,24 @@ plain_word text =
     else (if bytes_eq text (codes "or") then Some opcode.Or
     else (if bytes_eq text (codes "xor") then Some (opcode.Plain op.Xor) else None)))))
 
+abbrev pub cast_word : List ℕ → Option Opcode
+cast_word text =
+    (if bytes_eq text (codes "trunc") then Some opcode.Truncate
+    else (if bytes_eq text (codes "zext") then Some opcode.ZeroExtend
+    else (if bytes_eq text (codes "sext") then Some opcode.SignExtend else None)))
+
 abbrev pub other_word : List ℕ → Option Opcode
 other_word text =
     (if bytes_eq text (codes "icmp") then Some opcode.Icmp
-    else (if bytes_eq text (codes "trunc") then Some opcode.Truncate
-    else (if bytes_eq text (codes "zext") then Some opcode.ZeroExtend
-    else (if bytes_eq text (codes "sext") then Some opcode.SignExtend
     else (if bytes_eq text (codes "select") then Some opcode.Select
-    else (if bytes_eq text (codes "freeze") then Some opcode.Freeze else None))))))
+    else (if bytes_eq text (codes "freeze") then Some opcode.Freeze else None)))
 
 abbrev pub or_else : Option Opcode → Option Opcode → Option Opcode
 or_else None other = other
 or_else (Some opcode) other = Some opcode
 
 abbrev pub opcode_named : List ℕ → Option Opcode
-opcode_named text = or_else (flagged_word text) (or_else (plain_word text) (other_word text))
+opcode_named text = or_else (flagged_word text) (or_else (plain_word text) (or_else (cast_word text) (other_word text)))
 
 abbrev pub opcode_of : Kind → List ℕ → Option Opcode
 opcode_of kind.Word text = opcode_named text

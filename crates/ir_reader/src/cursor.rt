@@ -1,6 +1,6 @@
 // Reading one token.
 ghost use Rattle.std.specs.Prelude.{◌≡◌, [], true, codes};
-ghost use Rattle.ir_forms.specs.Form.{one_of, token_of, begin_of, reads};
+ghost use Rattle.ir_forms.specs.Form.{one_of, token_of, begin_of, reads, read, balanced};
 ghost use Rattle.ir_forms.specs.Answer.{Reads, Passes};
 ghost use Rattle.ir_reader.specs.Reasons.{reason};
 ghost use Rattle.ir_reader.specs.Spelling.{bits_behind, spelled_width, width_in, word_value, is_void};
@@ -12,7 +12,7 @@ use crate::word::{Opcode, opcode_of, predicate_of};
 use crate::written::{
     WrittenName, WrittenOperand, WrittenReturnType, WrittenType, WrittenValue,
 };
-use ir_forms::ReadFault;
+use ir_forms::{Bracket, ReadFault, pass_bracket};
 use ir_items::name_behind_sign;
 use ir_lexer::{Kind, Token};
 use ir_tree::{Predicate, Reason};
@@ -127,6 +127,13 @@ impl<'a, 'b> Cursor<'a, 'b> {
         } else {
             Err(ReadFault::Unfit(reason_at(first)))
         }
+    }
+
+    /// Passes what stands inside a bracket that was opened, and the mark that closes it.
+    pub fn bracket(&mut self, bracket: Bracket) -> Result<(), ReadFault>
+        ensures { Passes result self.new (read true (balanced bracket) self.old) }
+    {
+        pass_bracket(self.alloc, bracket, &mut self.rest)
     }
 
     /// Passes a mark, if it stands next.

@@ -1,15 +1,36 @@
 //! Reading a text of LLVM IR.
+//!
+//! It promises that [`read`] reads every text: it gives the one module that a text is, with a
+//! function for each define or the reason and the place at which it is refused, or the place at which
+//! the text stops being tokens or items. `specs/Module.antt` says what a module of a text is,
+//! `specs/Functions.antt` what the tokens of one define are; `specs/Grammar.antt` and
+//! `specs/Instructions.antt` have the grammar, `specs/Numbering.antt` how names become numbers.
+//! It stands on `ir_lexer` for the tokens, on `ir_items` for the defines, on `ir_forms` for the laws
+//! of its grammar, on `ir_check` and `assigned_names` for what is asked of a function beside its
+//! grammar, and on `ir_tree` for what it makes; the command stands on it.
 #![tactic(auto)]
 
 mod cursor;
 mod define;
+mod entry_name;
 mod instructions;
 mod lines;
 mod lists;
+mod numbering;
 mod numbers;
 mod parameters;
+mod places;
 mod reasons;
 mod word;
 mod written;
 
-pub use written::WrittenFunction;
+use ir_forms::ReadFault;
+use ir_lexer::Token;
+use ir_tree::Function;
+use std::alloc::Global;
+
+pub fn stub(alloc: Global, tokens: &[Token]) -> Result<Function, ReadFault> {
+    let mut cursor = cursor::Cursor::new(alloc, tokens);
+    let written = cursor.define()?;
+    Ok(numbering::numbered(alloc, written)?)
+}

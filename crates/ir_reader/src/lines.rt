@@ -7,7 +7,7 @@ ghost use Rattle.ir_reader.specs.Spelling.{is_attached, is_numbered};
 ghost use Rattle.ir_reader.specs.Classes.{any, attachment_word, metadata_number};
 ghost use Rattle.ir_forms.specs.Form.{one_of};
 ghost use Rattle.ir_reader.specs.Grammar as spec;
-ghost use Rattle.ir_reader.specs.Grammar.{is_comma, comma_begins, attachment, is_local_kind, starts_line, line_begins, line_within, with_line};
+ghost use Rattle.ir_reader.specs.Grammar.{is_comma, comma_begins, attachment, record_rest, is_local_kind, starts_line, line_begins, line_within, with_line};
 
 use crate::cursor::Cursor;
 use crate::lists::pushed;
@@ -15,7 +15,7 @@ use crate::numbers::some_digits;
 use crate::reasons::reason_at;
 use crate::word::LineStart;
 use crate::written::{LinePhase, WrittenLines, WrittenName};
-use ir_forms::ReadFault;
+use ir_forms::{Bracket, ReadFault};
 use ir_items::{name_before_colon, name_behind_sign};
 use ir_lexer::{Kind, Token};
 use ir_tree::Reason;
@@ -40,6 +40,16 @@ pub fn is_numbered(text: &[u8]) -> bool
     }
 }
 
+// Whether the word of a record begins so.
+fn is_record(text: &[u8]) -> bool
+    ensures { result ≡ spelling.is_record text.now }
+{
+    match text {
+        [b'#', b'd', b'b', b'g', b'_', ..] => true,
+        _ => false,
+    }
+}
+
 // What a token begins a line with.
 fn start_at(
     alloc: Global,
@@ -59,6 +69,7 @@ fn start_at(
             Ok(Some(LineStart::Label(WrittenName { name, at })))
         }
         (Kind::Mark, b",", LinePhase::Behind) => Ok(Some(LineStart::Attachment)),
+        (Kind::Hash, text, _) if is_record(text) => Ok(Some(LineStart::Record)),
         _ => Ok(None),
     }
 }
@@ -135,6 +146,15 @@ impl<'a, 'b> Cursor<'a, 'b> {
         }
     }
 
+    // Passes a record behind its word.
+    #[tactic(auto, unfolding(crate::specs::Grammar::record_rest))]
+    fn record_rest(&mut self) -> Result<(), ReadFault>
+        ensures { Passes result self.new (read true record_rest self.old) }
+    {
+        self.mark(b"(".as_slice())?;
+        self.bracket(Bracket::Round)
+    }
+
     // Reads what begins a line here, if anything does; an instruction where there is room for it.
     fn line_start(&mut self, phase: LinePhase, room: bool) -> Result<Option<LineStart>, ReadFault>
         ensures { Reads (λ x. x) result self.new (begin_of true starts_line (λ t. spelling.line_start phase t.kind t.text t.place) (λ t. not (is_local_kind t.kind) || room) self.old) }
@@ -183,6 +203,14 @@ impl<'a, 'b> Cursor<'a, 'b> {
                     label,
                     insts,
                     phase: LinePhase::Behind,
+                })
+            }
+            LineStart::Record => {
+                self.record_rest()?;
+                Ok(WrittenLines {
+                    label,
+                    insts,
+                    phase: LinePhase::Between,
                 })
             }
         }

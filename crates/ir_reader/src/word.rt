@@ -51,13 +51,14 @@ pub enum Flag {
     SameSign,
 }
 
-/// What begins a line of a block: a label, the name of an instruction's result, or the comma before
-/// an attachment to the instruction before.
+/// What begins a line of a block: a label, the name of an instruction's result, the comma before an
+/// attachment to the instruction before, or the word of a record.
 #[derive(Drop)]
 pub enum LineStart {
     Label(WrittenName),
     Inst(WrittenName),
     Attachment,
+    Record,
 }
 
 /// What goes on with a parameter: `noundef`, an extension, its name, or the comma before the next.
@@ -132,14 +133,22 @@ fn plain_word(text: &[u8]) -> Option<Opcode>
     }
 }
 
+fn cast_word(text: &[u8]) -> Option<Opcode>
+    ensures { result ≡ spec.cast_word text.now }
+{
+    match text {
+        b"trunc" => Some(Opcode::Truncate),
+        b"zext" => Some(Opcode::ZeroExtend),
+        b"sext" => Some(Opcode::SignExtend),
+        _ => None,
+    }
+}
+
 fn other_word(text: &[u8]) -> Option<Opcode>
     ensures { result ≡ spec.other_word text.now }
 {
     match text {
         b"icmp" => Some(Opcode::Icmp),
-        b"trunc" => Some(Opcode::Truncate),
-        b"zext" => Some(Opcode::ZeroExtend),
-        b"sext" => Some(Opcode::SignExtend),
         b"select" => Some(Opcode::Select),
         b"freeze" => Some(Opcode::Freeze),
         _ => None,
@@ -153,6 +162,9 @@ fn opcode_named(text: &[u8]) -> Option<Opcode>
         return Some(opcode);
     }
     if let Some(opcode) = plain_word(text) {
+        return Some(opcode);
+    }
+    if let Some(opcode) = cast_word(text) {
         return Some(opcode);
     }
     other_word(text)

@@ -8,7 +8,7 @@ use Rattle.ir_reader.specs.Grammar.{starts_line, line_begins, line_within, with_
 use Rattle.ir_reader.specs.declared.word.LineStart.{LineStart}
 use Rattle.ir_reader.specs.declared.written.WrittenLines.{WrittenLines}
 use Rattle.ir_reader.specs.declared.written.LinePhase.TheVariants as phase
-use Rattle.ir_reader.proofs.lines.Cursor.lines.Goals as goal
+use Rattle.ir_reader.proofs.cursor.Cursor.lines.Goals as goal
 
 abbrev part : WrittenLines → LineStart → List Lexeme → Reading (WrittenLines)
 part s a ts = read true (with_line s a) ts

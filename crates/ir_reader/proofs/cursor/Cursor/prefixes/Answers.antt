@@ -3,7 +3,7 @@ use Rattle.ir_forms.specs.Form.{give, read, reads, begin_of}
 use Rattle.ir_forms.proofs.Loops.{at_start, one_more, no_more, begins-shorter}
 use Rattle.ir_reader.specs.Classes.{any}
 use Rattle.ir_reader.specs.Grammar.{prefixes, is_prefix, next_prefix}
-use Rattle.ir_reader.proofs.define.Cursor.prefixes.Goals as goal
+use Rattle.ir_reader.proofs.cursor.Cursor.prefixes.Goals as goal
 
 pub loop-more-init : goal.loop-more-init
 unfolding prefixes

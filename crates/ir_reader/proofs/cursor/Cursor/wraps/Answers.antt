@@ -4,7 +4,7 @@ use Rattle.ir_forms.proofs.Loops.{at_start, one_more, no_more, begins-shorter}
 use Rattle.ir_reader.specs.Classes.{any}
 use Rattle.ir_reader.specs.Words.{no_flags}
 use Rattle.ir_reader.specs.Instructions.{wraps, is_wrap, next_wrap}
-use Rattle.ir_reader.proofs.instructions.Cursor.wraps.Goals as goal
+use Rattle.ir_reader.proofs.cursor.Cursor.wraps.Goals as goal
 
 pub loop-more-init : goal.loop-more-init
 unfolding wraps

@@ -2,7 +2,7 @@ use Rattle.std.proofs.Common.{true, length}
 use Rattle.ir_forms.specs.Form.{read}
 use Rattle.ir_forms.proofs.Loops.{Left}
 use Rattle.ir_reader.specs.Grammar.{starts_line, line_begins, line_within, with_line, lines}
-use Rattle.ir_reader.proofs.lines.Cursor.lines.Given as goal
+use Rattle.ir_reader.proofs.cursor.Cursor.lines.Given as goal
 
 abbrev pub invariant-loop-next : goal.invariant-loop-next
 invariant-loop-next l = Left starts_line line_begins line_within (λ s a ts. read true (with_line s a) ts) l.so_far l.self (read true lines l.fn.self)

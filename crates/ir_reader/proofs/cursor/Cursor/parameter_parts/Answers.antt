@@ -8,7 +8,7 @@ use Rattle.ir_reader.specs.Classes.{any}
 use Rattle.ir_reader.specs.Grammar.{follows_parameter, parameter_begins, with_part, parameter_parts, new_parameter}
 use Rattle.ir_reader.specs.declared.word.ParameterPart.{ParameterPart}
 use Rattle.ir_reader.specs.declared.written.WrittenParameters.{WrittenParameters}
-use Rattle.ir_reader.proofs.parameters.Cursor.parameter_parts.Goals as goal
+use Rattle.ir_reader.proofs.cursor.Cursor.parameter_parts.Goals as goal
 
 abbrev part : WrittenParameters → ParameterPart → List Lexeme → Reading (WrittenParameters)
 part s a ts = read true (with_part s a) ts

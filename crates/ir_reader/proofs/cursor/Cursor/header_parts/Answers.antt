@@ -8,7 +8,7 @@ use Rattle.ir_reader.specs.Classes.{any}
 use Rattle.ir_reader.specs.Grammar.{follows_header, header_begins, with_header, header_parts}
 use Rattle.std.proofs.Common.{Bool}
 use Rattle.ir_reader.specs.declared.word.HeaderPart.{HeaderPart}
-use Rattle.ir_reader.proofs.define.Cursor.header_parts.Goals as goal
+use Rattle.ir_reader.proofs.cursor.Cursor.header_parts.Goals as goal
 
 abbrev part : Bool → HeaderPart → List Lexeme → Reading (Bool)
 part s a ts = read true (with_header s a) ts
