@@ -147,11 +147,14 @@ fn cast_word(text: &[u8]) -> Option<Opcode>
 fn other_word(text: &[u8]) -> Option<Opcode>
     ensures { result ≡ spec.other_word text.now }
 {
-    match text {
-        b"icmp" => Some(Opcode::Icmp),
-        b"select" => Some(Opcode::Select),
-        b"freeze" => Some(Opcode::Freeze),
-        _ => None,
+    if text == b"icmp".as_slice() {
+        Some(Opcode::Icmp)
+    } else if text == b"select".as_slice() {
+        Some(Opcode::Select)
+    } else if text == b"freeze".as_slice() {
+        Some(Opcode::Freeze)
+    } else {
+        None
     }
 }
 
