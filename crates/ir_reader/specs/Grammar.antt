@@ -175,9 +175,16 @@ comma_begins s t = as_mark (codes ",") t
 unfoldable pub attachments : Form (either never (either is_comma never)) (Unit {0})
 attachments = tail is_comma comma_begins (λ s. any) (λ s comma. attachment) (give tt)
 
+-- behind ret: what it gives, attachments, and the closing mark
+unfoldable pub ending : Form never WrittenReturn
+ending = do
+  value ← returned
+  closing ← upto attachments (λ s. mark (codes "}") refl) (λ s. refl)
+  give value
+
 -- ---- functions
 
--- define words type @name(parameters) words { lines ret value attachments }
+-- define words type @name(parameters) words { lines ret ending
 unfoldable pub define : Form never WrittenFunction
 define = do
   head ← one (word (codes "define") refl)
@@ -187,6 +194,5 @@ define = do
   all ← parameters
   body ← upto header_parts (λ s. brace) (λ s. refl)
   block ← upto lines (λ s. counted_word (codes "ret") (nat_lt (length s.insts) most_insts) refl) (λ s. refl)
-  value ← returned
-  closing ← upto attachments (λ s. mark (codes "}") refl) (λ s. refl)
+  value ← ending
   give (record { returns_no_undef = type.0; returns = type.1; name = name; parameters = all; brace = body.1; label = block.0.label; insts = block.0.insts; returned = value })

@@ -181,6 +181,17 @@ impl<'a, 'b> Cursor<'a, 'b> {
         self.returned_by(width, at)
     }
 
+    // Reads what stands behind `ret`, and the mark that closes the body.
+    #[tactic(auto, unfolding(crate::specs::Grammar::ending))]
+    fn ending(&mut self) -> Result<WrittenReturn, ReadFault>
+        ensures { Reads (λ x. x) result self.new (read true spec.ending self.old) }
+    {
+        let returned = self.returned()?;
+        self.attachments()?;
+        self.mark(b"}".as_slice())?;
+        Ok(returned)
+    }
+
     /// Reads a function with a body, its word first.
     #[tactic(auto, unfolding(crate::specs::Grammar::define))]
     pub fn define(&mut self) -> Result<WrittenFunction, ReadFault>
@@ -197,9 +208,7 @@ impl<'a, 'b> Cursor<'a, 'b> {
         let WrittenLines { label, insts, .. } = self.lines()?;
         let room = insts.len() < MOST_INSTS;
         self.counted_word(b"ret".as_slice(), room)?;
-        let returned = self.returned()?;
-        self.attachments()?;
-        self.mark(b"}".as_slice())?;
+        let returned = self.ending()?;
         Ok(WrittenFunction {
             returns_no_undef,
             returns,
