@@ -8,6 +8,8 @@
 #![tactic(auto)]
 
 mod names;
+#[cfg(test)]
+mod tests;
 mod types;
 mod values;
 

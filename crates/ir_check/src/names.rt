@@ -15,7 +15,7 @@ use std::alloc::Global;
 /// Refused with `NameTwice` at the second definition of a name, the first in the text; where there
 /// is none, with `NameUnknown` at the first use of a name that nothing gives a value.
 pub fn check_names(alloc: Global, f: &Function) -> Result<(), CheckFault>
-    requires { AreNumbered f.now }
+    requires numbered { AreNumbered f.now }
     ensures passes { OnOk result (PassesNames f.now) }
     ensures refused { IfErr result (IfRefused (λ refused. IsRefusedAt NameTwice f.now refused ⊎ IsRefusedAt NameUnknown f.now refused)) }
 {

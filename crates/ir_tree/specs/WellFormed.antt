@@ -126,3 +126,13 @@ IsFirstFailure Fails (Some n) = Fails n × ((k : ℕ) → Fails k → n ≤ k)
 abbrev pub IfRefused : (Refused → Type 0) → CheckFault → Type 0
 IfRefused Holds (fault.Refused refused) = Holds refused
 IfRefused Holds fault.NoMemory = Unit {0}
+
+-- ---- laws
+
+-- a function is refused in one way
+abbrev pub OneRefusal : Type 0
+OneRefusal = (f : Function) (reason other : Reason) (a b : Refused) → IsRefusedAt reason f a → IsRefusedAt other f b → a ≡ b
+
+-- and not where it is well formed
+abbrev pub RefusedIsNotWellFormed : Type 0
+RefusedIsNotWellFormed = (f : Function) (reason : Reason) (refused : Refused) → IsRefusedAt reason f refused → IsWellFormed f → ⊥

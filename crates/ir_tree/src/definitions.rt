@@ -1,4 +1,4 @@
-ghost use Rattle.std.specs.Prelude.{◌≡◌, ◌+◌, ◌<◌, ℕ, List, All, length, slice_get, Some, IfOk};
+ghost use Rattle.std.specs.Prelude.{◌≡◌, ◌↔◌, IsTrue, ◌+◌, ◌<◌, ℕ, List, All, length, slice_get, Some, IfOk};
 ghost use Rattle.ir_tree.specs.declared.sites.Site.{Site};
 ghost use Rattle.ir_tree.specs.Sites.{IsNumbered};
 ghost use Rattle.ir_tree.specs.Definitions.{AreFirst, HasFirsts};
@@ -13,7 +13,7 @@ pub fn first_definitions(
     sites: &[Site],
     names: usize,
 ) -> Result<Sequence<Option<usize>>, NoMemory>
-    requires { All (IsNumbered names) sites.now }
+    requires numbered { All (IsNumbered names) sites.now }
     ensures len { IfOk result (λ table. length table ≡ names) }
     ensures first { IfOk result (λ table. HasFirsts sites.now table) }
 {
@@ -22,6 +22,23 @@ pub fn first_definitions(
         note(&mut table, n, *site);
     }
     Ok(Sequence::from_vec(table))
+}
+
+/// Whether each name of the sites is one of so many: its number is below that.
+pub fn are_numbered(sites: &[Site], names: usize) -> bool
+    ensures { IsTrue result ↔ All (IsNumbered names) sites.now }
+{
+    sites.iter().all(|site| is_numbered(*site, names))
+}
+
+fn is_numbered(site: Site, names: usize) -> bool
+    ensures { IsTrue result ↔ IsNumbered names site }
+{
+    match site {
+        Site::Defines { of_type: _, name } => name < names,
+        Site::Uses { of_type: _, name } => name < names,
+        Site::Written { fits: _ } => true,
+    }
 }
 
 // Puts a definition into the table, where its name has none yet.

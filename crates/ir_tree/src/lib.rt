@@ -7,6 +7,7 @@
 #![tactic(auto)]
 
 mod definitions;
+mod laws;
 mod limits;
 mod module;
 mod name;
@@ -14,7 +15,8 @@ mod names;
 mod sites;
 mod tree;
 
-pub use definitions::first_definitions;
+pub use definitions::{are_numbered, first_definitions};
+pub use laws::is_one_refusal;
 pub use limits::is_within_limits;
 pub use module::{CheckFault, Entry, Module, Reason, Refused};
 pub use name::Name;
