@@ -10,11 +10,11 @@ use Rattle.ir_lexer.specs.declared.token.Kind.{Kind}
 use Rattle.ir_lexer.specs.declared.token.Kind.TheVariants as kind
 use Rattle.ir_lexer.specs.Lexeme.{Lexeme}
 use Rattle.ir_items.specs.Marks.{mark_in, mark_of, marks, marks_after, IsBalanced}
-use Rattle.ir_items.specs.Items.{passes, token_passes, is_word_of, is_word, is_head_word, is_name, is_global_kind, is_global, is_mark, is_head, is_define, is_called, is_first_on_line, begins_item, has_bad_layout, is_wrong_layout, OtherGoesOn, NoHeadBetween, name_from, name_at}
+use Rattle.ir_items.specs.Items.{passes, token_passes, is_word_of, is_word, is_head_word, is_name, is_global_kind, is_global, is_mark, is_head, is_define, is_called, is_brace, is_first_on_line, begins_item, is_plain_string, has_bad_layout, is_wrong_layout, OtherGoesOn, NoHeadBetween, name_from, name_at}
 use Rattle.ir_tree.specs.declared.name.Name.{Name}
 use Rattle.ir_items.specs.Names.{name_in}
 use Rattle.ir_items.proofs.Passing.{passes_at}
-use Rattle.ir_items.proofs.Opening.{at_start, marks_next}
+use Rattle.ir_items.proofs.Opening.{at_start, marks_next, balanced_on}
 
 kinds : (k : Kind) (text : List ℕ) → (k ≡ kind.Mark) ⊎ (mark_in k text ≡ 0)
 kinds kind.Mark text = inl refl
@@ -93,7 +93,7 @@ called_balanced tokens place h = go (slice_get tokens place) refl (and_parts _ _
     go None here p = absurd (cc)
     go (Some t) here p = plain_balanced tokens place t here (global_plain t.kind t.text p)
 
-passes_within : (tokens : List Lexeme) (test : Lexeme → Bool) (place : ℕ) → token_passes tokens test place ≡ true → place < length tokens
+pub passes_within : (tokens : List Lexeme) (test : Lexeme → Bool) (place : ℕ) → token_passes tokens test place ≡ true → place < length tokens
 passes_within tokens test place h = go (slice_get tokens place) refl h
   where
     go : (o : Option Lexeme) → slice_get tokens place ≡ o → passes test o ≡ true → place < length tokens
@@ -143,6 +143,89 @@ wrong_layout_goes_on tokens first head other h =
           | inl is ↦ rw is one
           | inr other_place ↦ let is : m ≡ first + 2 = omega arith in rw is two
         ]
+
+-- a token that passes a test, where no bracket does
+quiet_balanced : (tokens : List Lexeme) (test : Lexeme → Bool) (place : ℕ) → ((t : Lexeme) → test t ≡ true → marks_after (Some []) (mark_of t) ≡ Some []) → token_passes tokens test place ≡ true → IsBalanced tokens place (place + 1)
+quiet_balanced tokens test place quiet h = go (slice_get tokens place) refl h
+  where
+    go : (o : Option Lexeme) → slice_get tokens place ≡ o → passes test o ≡ true → IsBalanced tokens place (place + 1)
+    go None here p = absurd (cc)
+    go (Some t) here p =
+        let within : place < length tokens = slice_get_within tokens place t here in
+        let is : t ≡ get_or tokens place t = same_Some t (get_or tokens place t) (sym here ∙ slice_get-get_or tokens place t within) in
+        marks_next tokens place place t (mark_of t) [] (Some []) (omega arith) within is (at_start tokens place) refl (quiet t p)
+
+word_quiet : (word : List ℕ) (t : Lexeme) → is_word word t ≡ true → marks_after (Some []) (mark_of t) ≡ Some []
+word_quiet word t h = rw (word_kind t.kind t.text word h).0 refl
+
+equals_quiet : (t : Lexeme) → is_mark 61 t ≡ true → marks_after (Some []) (mark_of t) ≡ Some []
+equals_quiet t h = rw (eqb-true _ _ h) refl
+
+string_plain : (k : Kind) (text : List ℕ) → is_plain_string k text ≡ true → mark_in k text ≡ 0
+string_plain kind.String (b ∷ bs) h = refl
+string_plain kind.String [] h = refl
+string_plain kind.Local text h = absurd (cc)
+string_plain kind.Global text h = absurd (cc)
+string_plain _ text h = absurd (cc)
+
+layout_quiet : (t : Lexeme) → has_bad_layout t ≡ true → marks_after (Some []) (mark_of t) ≡ Some []
+layout_quiet t h = rw (string_plain t.kind t.text (and_parts _ _ h).0) refl
+
+-- no bracket stands in a wrong layout
+pub wrong_layout_balanced : (tokens : List Lexeme) (first : ℕ) → is_wrong_layout tokens first ≡ true → IsBalanced tokens first (first + 3) × IsBalanced tokens first (first + 3 + 1)
+unfolding is_wrong_layout
+wrong_layout_balanced tokens first h =
+    let p = and_parts _ _ h in
+    let q = and_parts _ _ p.0 in
+    let r = and_parts _ _ q.0 in
+    let one : IsBalanced tokens first (first + 1) = quiet_balanced tokens (is_word (codes "target")) first (word_quiet (codes "target")) r.0 in
+    let two : IsBalanced tokens (first + 1) (first + 1 + 1) = quiet_balanced tokens (is_word (codes "datalayout")) (first + 1) (word_quiet (codes "datalayout")) r.1 in
+    let three : IsBalanced tokens (first + 2) (first + 2 + 1) = quiet_balanced tokens (is_mark 61) (first + 2) equals_quiet q.1 in
+    let four : IsBalanced tokens (first + 3) (first + 3 + 1) = quiet_balanced tokens has_bad_layout (first + 3) layout_quiet p.1 in
+    let to_two : IsBalanced tokens first (first + 2) = balanced_on tokens first (first + 1) (first + 2) (omega arith) (omega arith) one (go (first + 1 + 1) (first + 2) (first + 1) (omega arith) two) in
+    let to_three : IsBalanced tokens first (first + 3) = balanced_on tokens first (first + 2) (first + 3) (omega arith) (omega arith) to_two (go (first + 2 + 1) (first + 3) (first + 2) (omega arith) three) in
+    (to_three, balanced_on tokens first (first + 3) (first + 3 + 1) (omega arith) (omega arith) to_three four)
+  where
+    go : (a b k : ℕ) → a ≡ b → IsBalanced tokens k a → IsBalanced tokens k b
+    go a b k e h = rw (sym e) h
+
+pub wrong_layout_within : (tokens : List Lexeme) (first : ℕ) → is_wrong_layout tokens first ≡ true → first + 3 < length tokens
+unfolding is_wrong_layout
+wrong_layout_within tokens first h = passes_within tokens has_bad_layout (first + 3) (and_parts _ _ h).1
+
+-- ---- where heads stand
+
+pub define_within : (tokens : List Lexeme) (first : ℕ) → is_define tokens first ≡ true → first < length tokens
+unfolding is_define
+define_within tokens first h = passes_within tokens (is_word (codes "define")) first h
+
+pub define_is_head : (tokens : List Lexeme) (first : ℕ) → is_define tokens first ≡ true → is_head tokens first ≡ true
+unfolding is_define is_head
+define_is_head tokens first h = go (slice_get tokens first) refl h
+  where
+    go : (o : Option Lexeme) → slice_get tokens first ≡ o → passes (is_word (codes "define")) o ≡ true → is_head tokens first ≡ true
+    go None here p = absurd (cc)
+    go (Some t) here p = rw (here, p) refl
+
+pub head_within : (tokens : List Lexeme) (first : ℕ) → is_head tokens first ≡ true → first < length tokens
+unfolding is_head
+head_within tokens first h = go (slice_get tokens first) refl h
+  where
+    go : (o : Option Lexeme) → slice_get tokens first ≡ o → (passes is_head_word o || passes is_name o && token_passes tokens (is_mark 61) (first + 1)) ≡ true → first < length tokens
+    go None here p = absurd (cc)
+    go (Some t) here p = slice_get_within tokens first t here
+
+pub begins_within : (tokens : List Lexeme) (place : ℕ) → begins_item tokens place ≡ true → place < length tokens
+unfolding begins_item
+begins_within tokens place h = head_within tokens place (and_parts _ _ h).0
+
+pub begins_balanced : (tokens : List Lexeme) (place : ℕ) → begins_item tokens place ≡ true → IsBalanced tokens place (place + 1)
+unfolding begins_item
+begins_balanced tokens place h = head_balanced tokens place (and_parts _ _ h).0
+
+pub brace_begins_nothing : (tokens : List Lexeme) (place : ℕ) → is_brace tokens place ≡ true → begins_item tokens place ≡ false
+unfolding is_brace
+brace_begins_nothing tokens place h = mark_begins_nothing tokens place 122 h
 
 -- ---- names
 

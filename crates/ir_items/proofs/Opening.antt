@@ -1,6 +1,6 @@
 -- What is open behind one token more.
 use Rattle.std.proofs.Common.{◌≡◌, ℕ, ◌+◌, ◌-◌, ◌<◌, ◌≤◌, Bool, true, false, List, [], ◌∷◌, ◌++◌, length, get_or, slice_range, take, drop, Option, Some, None, refl, sym, ap, subst, ◌∙◌, inl, inr, arith}
-use Rattle.std.specs.Prelude.{fold}
+use Rattle.std.specs.Prelude.{fold, is_some}
 use Rattle.std.proofs.lemmas.Bool.{cases_order, cases_lt}
 use Rattle.std.proofs.lemmas.List.{take-append-drop, take-take, drop-take, drop-drop}
 use Rattle.std.proofs.lemmas.List.Edits.{between_more, between_none, split_between}
@@ -43,7 +43,7 @@ marks_join tokens i k m ik km balanced =
     ∙ fold-append (λ (open_marks : Option (List ℕ)) (u : Lexeme). marks_after open_marks (mark_of u)) (Some []) (slice_range tokens i k) (slice_range tokens k m)
     ∙ ap (λ (start : Option (List ℕ)). marks_from start (slice_range tokens k m)) balanced
 
-not_balanced : (o : Option (List ℕ)) → has_open o ≡ true → o ≡ Some [] → ⊥
+pub not_balanced : (o : Option (List ℕ)) → has_open o ≡ true → o ≡ Some [] → ⊥
 not_balanced o h e = let bad : false ≡ true = (rw e at h) in cc
 
 -- inside a bracket nothing stands at depth 0
@@ -68,3 +68,44 @@ pub marks_next : (tokens : List Lexeme) (from place : ℕ) (t : Lexeme) (mark : 
     → marks tokens from place ≡ Some open_marks → mark ≡ mark_of t → marks_after (Some open_marks) mark ≡ now → marks tokens from (place + 1) ≡ now
 marks_next tokens from place t mark open_marks now le lt is here mark-is step =
     marks_more tokens from place t le lt is ∙ ap (λ (o : Option (List ℕ)). marks_after o (mark_of t)) here ∙ ap (marks_after (Some open_marks)) (sym mark-is) ∙ step
+
+-- ---- what is open fits
+
+open_fits : (o : Option (List ℕ)) → has_open o ≡ true → is_some o ≡ true
+open_fits None h = absurd (cc)
+open_fits (Some open_marks) h = refl
+
+pub balanced_fits : (tokens : List Lexeme) (from place : ℕ) → IsBalanced tokens from place → is_some (marks tokens from place) ≡ true
+balanced_fits tokens from place balanced = ap is_some balanced
+
+pub inside_fits : (tokens : List Lexeme) (first from place : ℕ) → first ≤ from → from ≤ place → IsBalanced tokens first from → IsInside tokens from place → is_some (marks tokens first place) ≡ true
+inside_fits tokens first from place ff fp balanced inside =
+    elim (cases_lt from place) [
+      | inl less ↦ open_fits (marks tokens first place) (ap has_open (marks_join tokens first from place ff fp balanced) ∙ inside place less (omega arith))
+      | inr same ↦ let e : place ≡ from = omega arith in rw e (balanced_fits tokens first from balanced)
+    ]
+
+-- ---- behind a mark that closes what isn't open
+
+from_none : (tokens : List Lexeme) → marks_from None tokens ≡ None
+from_none [] = refl
+from_none (t ∷ ts) = from_none ts
+
+none_stays : (tokens : List Lexeme) (i k m : ℕ) → i ≤ k → k ≤ m → marks tokens i k ≡ None → marks tokens i m ≡ None
+unfolding marks
+none_stays tokens i k m ik km none =
+    ap marks_behind (split_range tokens i k m ik km)
+    ∙ fold-append (λ (open_marks : Option (List ℕ)) (u : Lexeme). marks_after open_marks (mark_of u)) (Some []) (slice_range tokens i k) (slice_range tokens k m)
+    ∙ ap (λ (start : Option (List ℕ)). marks_from start (slice_range tokens k m)) none
+    ∙ from_none (slice_range tokens k m)
+
+-- what fits stands before it
+pub fits_before : (tokens : List Lexeme) (first place q : ℕ) → first ≤ place → marks tokens first place ≡ None → is_some (marks tokens first q) ≡ true → q < place
+fits_before tokens first place q fp none fits =
+    elim (cases_lt q place) [
+      | inl less ↦ less
+      | inr more ↦ let bad : false ≡ true = (rw (none_stays tokens first place q fp more none) at fits) in absurd (cc)
+    ]
+
+pub balanced_on : (tokens : List Lexeme) (i k m : ℕ) → i ≤ k → k ≤ m → IsBalanced tokens i k → IsBalanced tokens k m → IsBalanced tokens i m
+balanced_on tokens i k m ik km one two = marks_join tokens i k m ik km one ∙ two

@@ -1,11 +1,13 @@
 ghost use Rattle.std.specs.Prelude.{◌≡◌, ◌+◌, ◌<◌, ◌≤◌, ℕ, List, length, map, IfOk, IfErr, OnOk, Some, true, false};
+ghost use Rattle.ir_lexer.specs.Lexeme.{Lexeme};
+ghost use Rattle.ir_items.specs.declared.fault.Why.{Why as TheWhy};
 ghost use Rattle.ir_items.specs.declared.item.Define.{Define as TheDefine};
 ghost use Rattle.ir_items.specs.Marks.{IsBalanced};
 ghost use Rattle.ir_items.specs.Items as spec;
 ghost use Rattle.ir_items.specs.Items.{IsCut};
 ghost use Rattle.ir_items.specs.Names.{name_in};
 ghost use Rattle.ir_items.specs.Pieces.{ItemStops, IsAdded};
-ghost use Rattle.ir_items.specs.Stops.{Stops};
+ghost use Rattle.ir_items.specs.Stops.{Stops, IsNew, IsStop};
 
 use crate::fault::{ItemFault, Why};
 use crate::heads::{begins_item, is_brace, is_called, is_define, is_head, is_wrong_layout};
@@ -45,7 +47,7 @@ fn name_place(alloc: Global, tokens: &[Token<'_>], first: usize) -> Result<usize
     requires head { spec.is_head tokens.now first ≡ true }
     requires define { spec.is_define tokens.now first ≡ true }
     ensures ok { IfOk result (λ name. spec.IsNamed tokens.now first name) }
-    ensures stops { IfErr result (λ fault. (defines : List TheDefine) → ItemStops tokens.now defines first fault) }
+    ensures stops { IfErr result (λ fault. (defines : List TheDefine) → length defines < MOST_FUNCTIONS → ItemStops tokens.now defines first fault) }
 {
     let mut place = first + 1;
     while place < tokens.len() {
@@ -69,7 +71,7 @@ fn name_place(alloc: Global, tokens: &[Token<'_>], first: usize) -> Result<usize
 fn body_place(alloc: Global, tokens: &[Token<'_>], behind: usize) -> Result<usize, ItemFault>
     ensures ok { IfOk result (λ body. (first name : ℕ) → spec.BeforeBody tokens.now first name behind → IsBalanced tokens.now first behind → spec.HasBody tokens.now first name body) }
     ensures within { IfOk result (λ body. body < length tokens.now) }
-    ensures stops { IfErr result (λ fault. (defines : List TheDefine) (first name : ℕ) → spec.BeforeBody tokens.now first name behind → IsBalanced tokens.now first behind → ItemStops tokens.now defines first fault) }
+    ensures stops { IfErr result (λ fault. (defines : List TheDefine) (first name : ℕ) → IsNew tokens.now defines first name → spec.BeforeBody tokens.now first name behind → IsBalanced tokens.now first behind → ItemStops tokens.now defines first fault) }
 {
     let mut place = behind;
     while place < tokens.len() {
@@ -93,7 +95,7 @@ fn body_place(alloc: Global, tokens: &[Token<'_>], behind: usize) -> Result<usiz
 fn define_end(alloc: Global, tokens: &[Token<'_>], name: usize) -> Result<usize, ItemFault>
     requires { name + 1 < length tokens.now }
     ensures ok { IfOk result (λ end. (first : ℕ) → spec.IsNamed tokens.now first name → spec.IsDefine tokens.now first name end) }
-    ensures stops { IfErr result (λ fault. (defines : List TheDefine) (first : ℕ) → spec.IsNamed tokens.now first name → ItemStops tokens.now defines first fault) }
+    ensures stops { IfErr result (λ fault. (defines : List TheDefine) (first : ℕ) → IsNew tokens.now defines first name → ItemStops tokens.now defines first fault) }
 {
     let behind = piece_end(alloc, tokens, name + 1)?;
     let body = body_place(alloc, tokens, behind)?;
@@ -185,3 +187,10 @@ pub fn cut(alloc: Global, tokens: &[Token<'_>]) -> Result<Sequence<Define>, Item
     }
     Ok(Sequence::from_vec(defines))
 }
+
+/// The items of a list of tokens, or its stop, are one.
+pub fn is_one_cut()
+    ensures items { (tokens : List Lexeme) (d e : List TheDefine) → IsCut tokens (length tokens) d → IsCut tokens (length tokens) e → d ≡ e }
+    ensures apart { (tokens : List Lexeme) (d : List TheDefine) (place : ℕ) (why : TheWhy) → IsCut tokens (length tokens) d → IsStop tokens place why → ⊥ }
+    ensures stops { (tokens : List Lexeme) (p q : ℕ) (v w : TheWhy) → IsStop tokens p v → IsStop tokens q w → (p ≡ q) × (v ≡ w) }
+{}

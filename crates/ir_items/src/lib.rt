@@ -1,8 +1,8 @@
 //! The items of a text of LLVM IR, from its tokens.
 //!
 //! It promises that [`cut`] answers the functions with a body, where the text is items one after
-//! another, or the first token at which it stops being that, and why. It stands on `ir_lexer` and
-//! `ir_tree`; the reader takes the items.
+//! another, or the first token at which it stops being that, and why; a list of tokens has one of
+//! these answers alone. It stands on `ir_lexer` and `ir_tree`; the reader takes the items.
 #![tactic(auto)]
 
 mod cutting;
@@ -13,7 +13,7 @@ mod layout;
 mod marks;
 mod names;
 
-pub use cutting::{MOST_FUNCTIONS, cut};
+pub use cutting::{MOST_FUNCTIONS, cut, is_one_cut};
 pub use fault::{ItemFault, Why};
 pub use item::Define;
 pub use names::{name_before_colon, name_behind_sign, name_of};

@@ -24,6 +24,7 @@ pub fn without_zeros(digits: &[u8]) -> &[u8]
     rest
 }
 
+/// Whether a byte is a decimal digit, `0` to `9` (LLVM Language Reference, "Identifiers").
 pub fn is_digit(b: u8) -> bool
     ensures { result ≡ is_digit b }
 {

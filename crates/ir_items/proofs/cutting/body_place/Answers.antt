@@ -2,21 +2,21 @@ use Rattle.std.proofs.Common.{◌≡◌, ℕ, ◌+◌, ◌<◌, ◌≤◌, false
 use Rattle.std.proofs.lemmas.Result.{err_from_is_err_and}
 use Rattle.ir_items.specs.Marks.{IsBalanced}
 use Rattle.ir_items.specs.Items.{begins_item, is_brace, BeforeBody, HasBody}
-use Rattle.ir_items.specs.Stops.{GoesOn, GoesOnBeforeBody, RunsOut, StopsAt}
-use Rattle.ir_items.proofs.Opening.{piece_balanced}
-use Rattle.ir_items.proofs.Phases.{body_piece, body_fault}
+use Rattle.ir_items.specs.Stops.{GoesOn, StopsAt}
+use Rattle.ir_items.proofs.Opening.{piece_balanced, balanced_fits}
+use Rattle.ir_items.proofs.Phases.{body_piece, body_fault, define_ends}
 use Rattle.ir_items.proofs.cutting.body_place.Goals as goal
 
 pub returns-then-begins_item-clause-stops : goal.returns-then-begins_item-clause-stops
-returns-then-begins_item-clause-stops c = λ defines first name h b.
+returns-then-begins_item-clause-stops c = λ defines first name new h b.
     let i : BeforeBody c.args.tokens.now first name c.loop-place.place × IsBalanced c.args.tokens.now first c.loop-place.place = c.loop-place.invariant first name h b in
-    StopsAt.no_body (GoesOnBeforeBody.before_body i.0) i.1 (sym c.begins_item.ensures ∙ c.if-begins_item.true)
+    StopsAt.no_body i.0.named.before.word (GoesOn.before_body new i.0 (balanced_fits c.args.tokens.now first c.loop-place.place i.1)) i.1 (sym c.begins_item.ensures ∙ c.if-begins_item.true)
 
 pub returns-in_err-place-clause-stops : goal.returns-in_err-place-clause-stops
 returns-in_err-place-clause-stops c =
     let p = err_from_is_err_and c.from_residual.result c.from_residual.ensures.1 in
-    rw (p.1, p.2) (λ defines first name h b. let i : BeforeBody c.args.tokens.now first name c.loop-place.place × IsBalanced c.args.tokens.now first c.loop-place.place = c.loop-place.invariant first name h b in
-    body_fault c.args.tokens.now defines first name c.loop-place.place _ i.1 (sym c.begins_item.ensures ∙ c.if-begins_item.false) (sym c.is_brace.ensures ∙ c.if-is_brace.false) i.0 c.loop-place-test.true c.in_err-place.ensures.stops)
+    rw (p.1, p.2) (λ defines first name new h b. let i : BeforeBody c.args.tokens.now first name c.loop-place.place × IsBalanced c.args.tokens.now first c.loop-place.place = c.loop-place.invariant first name h b in
+    body_fault c.args.tokens.now defines first name c.loop-place.place _ new i.1 (sym c.begins_item.ensures ∙ c.if-begins_item.false) (sym c.is_brace.ensures ∙ c.if-is_brace.false) i.0 c.loop-place-test.true c.in_err-place.ensures.stops)
 
 pub loop-place-preserved : goal.loop-place-preserved
 loop-place-preserved c = λ first name h b.
@@ -26,10 +26,11 @@ loop-place-preserved c = λ first name h b.
     )
 
 pub returns-clause-stops : goal.returns-clause-stops
-returns-clause-stops c = λ defines first name h b.
+returns-clause-stops c = λ defines first name new h b.
     let i : BeforeBody c.args.tokens.now first name c.loop-place.place × IsBalanced c.args.tokens.now first c.loop-place.place = c.loop-place.invariant first name h b in
     let at_end : c.loop-place.place ≡ length c.args.tokens.now = omega (arith, c.loop-place-test.false, i.0.within) in
-    StopsAt.text_ends (RunsOut.define i.0.named.before.word (GoesOn.before_body (subst (λ (p : ℕ). BeforeBody c.args.tokens.now first name p) at_end i.0)))
+    define_ends c.args.tokens.now defines first i.0.named.before.word
+    (subst (λ (p : ℕ). GoesOn c.args.tokens.now defines first p) at_end (GoesOn.before_body new i.0 (balanced_fits c.args.tokens.now first c.loop-place.place i.1)))
 
 pub returns-then-is_brace-clause-ok : goal.returns-then-is_brace-clause-ok
 returns-then-is_brace-clause-ok c = λ first name h b.

@@ -16,7 +16,7 @@ returns-then-len-eq-MOST_FUNCTIONS-clause-stops c = StopsAt.too_many c.requires.
 pub returns-in_err-place-clause-stops : goal.returns-in_err-place-clause-stops
 returns-in_err-place-clause-stops c =
     let p = err_from_is_err_and c.from_residual.result c.from_residual.ensures.1 in
-    rw (p.1, p.2) (c.in_err-place.ensures.stops c.args.defines.now.items)
+    rw (p.1, p.2) (c.in_err-place.ensures.stops c.args.defines.now.items (grind (arith, common_steps)))
 
 pub bounds-tokens-place : goal.bounds-tokens-place
 bounds-tokens-place c = omega (arith, (called_opens c.args.tokens.now c.in_ok-place.place c.in_ok-place.ensures.ok.called).0)
@@ -28,7 +28,7 @@ global_name-requires c =
 pub returns-then-is_some-clause-stops : goal.returns-then-is_some-clause-stops
 returns-then-is_some-clause-stops c =
     let here : is_some (position (same_name c.in_ok-name.name) c.args.names.now) ≡ true = ap is_some (sym c.find.ensures.value) ∙ sym c.is_some.ensures ∙ c.if-is_some.true in
-    StopsAt.name_twice c.in_ok-place.ensures.ok
+    StopsAt.name_twice (grind (arith, common_steps)) c.in_ok-place.ensures.ok
     (name_at_token c.args.tokens.now c.in_ok-place.place c.index-tokens-place.result (omega (arith, (called_opens c.args.tokens.now c.in_ok-place.place c.in_ok-place.ensures.ok.called).0)) c.index-tokens-place.is ∙ c.in_ok-name.ensures)
     (ap (list_any (same_name c.in_ok-name.name)) (sym c.requires.names) ∙ sym (found_some (same_name c.in_ok-name.name) c.args.names.now) ∙ here)
 
@@ -38,7 +38,14 @@ define_end-requires c = (called_opens c.args.tokens.now c.in_ok-place.place c.in
 pub returns-in_err-end-clause-stops : goal.returns-in_err-end-clause-stops
 returns-in_err-end-clause-stops c =
     let p = err_from_is_err_and c.from_residual-in_err-end.result c.from_residual-in_err-end.ensures.1 in
-    rw (p.1, p.2) (c.in_err-end.ensures.stops c.args.defines.now.items c.args.first c.in_ok-place.ensures.ok)
+    let absent : is_some (position (same_name c.in_ok-name.name) c.args.names.now) ≡ false = ap is_some (sym c.find.ensures.value) ∙ sym c.is_some.ensures ∙ c.if-is_some.false in
+    rw (p.1, p.2) (c.in_err-end.ensures.stops c.args.defines.now.items c.args.first (record {
+      few = grind (arith, common_steps);
+      named = c.in_ok-place.ensures.ok;
+      name = c.in_ok-name.name;
+      spelled = name_at_token c.args.tokens.now c.in_ok-place.place c.index-tokens-place.result (omega (arith, (called_opens c.args.tokens.now c.in_ok-place.place c.in_ok-place.ensures.ok.called).0)) c.index-tokens-place.is ∙ c.in_ok-name.ensures;
+      fresh = ap (list_any (same_name c.in_ok-name.name)) (sym c.requires.names) ∙ sym (found_some (same_name c.in_ok-name.name) c.args.names.now) ∙ absent;
+    }))
 
 pub global_name-requires-2 : goal.global_name-requires-2
 global_name-requires-2 c =

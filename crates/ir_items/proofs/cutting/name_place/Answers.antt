@@ -1,10 +1,10 @@
 use Rattle.std.proofs.Common.{◌≡◌, ℕ, ◌+◌, ◌<◌, ◌≤◌, false, true, length, [], sym, subst, ◌∙◌, arith}
 use Rattle.std.proofs.lemmas.Result.{err_from_is_err_and}
-use Rattle.ir_items.specs.Items.{begins_item, is_called, BeforeName}
-use Rattle.ir_items.specs.Stops.{GoesOn, GoesOnBeforeBody, RunsOut, StopsAt}
-use Rattle.ir_items.proofs.Opening.{piece_balanced}
+use Rattle.ir_items.specs.Items.{begins_item, is_called}
+use Rattle.ir_items.specs.Stops.{GoesOn, StopsAt}
+use Rattle.ir_items.proofs.Opening.{piece_balanced, balanced_fits}
 use Rattle.ir_items.proofs.HeadTokens.{head_balanced}
-use Rattle.ir_items.proofs.Phases.{name_piece, name_fault}
+use Rattle.ir_items.proofs.Phases.{name_piece, name_fault, define_ends}
 use Rattle.ir_items.proofs.cutting.name_place.Goals as goal
 
 pub loop-place-init : goal.loop-place-init
@@ -21,12 +21,14 @@ loop-place-init c = record {
 
 pub returns-then-begins_item-clause-stops : goal.returns-then-begins_item-clause-stops
 returns-then-begins_item-clause-stops c =
-    λ defines. StopsAt.no_body (GoesOnBeforeBody.before_name c.loop-place.invariant.goes_on) c.loop-place.invariant.balanced (sym c.begins_item.ensures ∙ c.if-begins_item.true)
+    λ defines few. StopsAt.no_body c.requires.define
+    (GoesOn.before_name few c.loop-place.invariant.goes_on (balanced_fits c.args.tokens.now c.args.first c.loop-place.place c.loop-place.invariant.balanced))
+    c.loop-place.invariant.balanced (sym c.begins_item.ensures ∙ c.if-begins_item.true)
 
 pub returns-in_err-place-clause-stops : goal.returns-in_err-place-clause-stops
 returns-in_err-place-clause-stops c =
     let p = err_from_is_err_and c.from_residual.result c.from_residual.ensures.1 in
-    rw (p.1, p.2) (λ defines. name_fault c.args.tokens.now defines c.args.first c.loop-place.place _ c.loop-place.invariant.balanced (sym c.begins_item.ensures ∙ c.if-begins_item.false) (sym c.is_called.ensures ∙ c.if-is_called.false)
+    rw (p.1, p.2) (λ defines few. name_fault c.args.tokens.now defines c.args.first c.loop-place.place _ few c.loop-place.invariant.balanced (sym c.begins_item.ensures ∙ c.if-begins_item.false) (sym c.is_called.ensures ∙ c.if-is_called.false)
     c.loop-place.invariant.goes_on c.loop-place-test.true c.in_err-place.ensures.stops)
 
 pub loop-place-preserved : goal.loop-place-preserved
@@ -39,4 +41,6 @@ loop-place-preserved c = record {
 pub returns-clause-stops : goal.returns-clause-stops
 returns-clause-stops c =
     let at_end : c.loop-place.place ≡ length c.args.tokens.now = omega (arith, c.loop-place-test.false, c.loop-place.invariant.goes_on.within) in
-    λ defines. StopsAt.text_ends (RunsOut.define c.requires.define (GoesOn.before_name (subst (λ (p : ℕ). BeforeName c.args.tokens.now c.args.first p) at_end c.loop-place.invariant.goes_on)))
+    λ defines few. define_ends c.args.tokens.now defines c.args.first c.requires.define
+    (subst (λ (p : ℕ). GoesOn c.args.tokens.now defines c.args.first p) at_end
+    (GoesOn.before_name few c.loop-place.invariant.goes_on (balanced_fits c.args.tokens.now c.args.first c.loop-place.place c.loop-place.invariant.balanced)))

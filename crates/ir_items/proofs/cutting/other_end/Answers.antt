@@ -2,6 +2,7 @@ use Rattle.std.proofs.Common.{◌≡◌, ℕ, ◌+◌, ◌<◌, ◌≤◌, false
 use Rattle.std.proofs.lemmas.Result.{err_from_is_err_and}
 use Rattle.ir_items.specs.Items.{begins_item, is_wrong_layout, OtherGoesOn}
 use Rattle.ir_items.specs.Stops.{StopsAt}
+use Rattle.ir_items.specs.Stops.{StopsAt}
 use Rattle.ir_items.proofs.Opening.{piece_balanced}
 use Rattle.ir_items.proofs.HeadTokens.{head_balanced, wrong_layout_goes_on}
 use Rattle.ir_items.proofs.Phases.{other_piece, other_fault}
