@@ -1,3 +1,9 @@
 pub mod Digits
 pub mod Widths
 pub mod Each
+pub mod NumberOf
+pub mod NumberedSites
+pub mod Limits
+pub mod Answers
+pub mod OneFunction
+pub mod Entries

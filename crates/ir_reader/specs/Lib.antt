@@ -8,4 +8,7 @@ pub mod Grammar
 pub mod EntryName
 pub mod Places
 pub mod Numbering
+pub mod Functions
+pub mod Module
+pub mod Laws
 pub mod Answer

@@ -1,12 +1,9 @@
 // Reading the tokens of one define.
-ghost use Rattle.std.specs.Prelude.{◌≡◌, [], true, OnOk, IfOk, IfErr};
-ghost use Rattle.ir_tree.specs.Sites.{AreNumbered};
-ghost use Rattle.ir_tree.specs.WellFormed.{IsWellFormed};
-ghost use Rattle.ir_forms.specs.Spelling.{Spells};
+ghost use Rattle.std.specs.Prelude.{◌≡◌};
+ghost use Rattle.ir_tree.specs.Sites.{AreNumbered, no_place};
 ghost use Rattle.ir_reader.specs.Functions as spec;
-ghost use Rattle.ir_reader.specs.Functions.{Answers, IsFunction};
-ghost use Rattle.ir_reader.specs.Grammar.{define};
-ghost use Rattle.ir_reader.specs.Answer.{Writes, Tests};
+ghost use Rattle.ir_reader.specs.Functions.{Answers};
+ghost use Rattle.ir_reader.specs.Answer.{Writes, Tests, fault_at};
 
 use crate::cursor::Cursor;
 use crate::numbering::numbered;
@@ -32,7 +29,7 @@ fn refused_at(reason: Reason, place: Place) -> Refused
 
 // The place of the last of these tokens.
 fn last_place(tokens: &[Token]) -> Place
-    ensures { result ≡ spec.last_place spec.no_place tokens.now }
+    ensures { result ≡ spec.last_place no_place tokens.now }
 {
     let mut place = Place { line: 0, column: 0 };
     for token in tokens {
@@ -53,7 +50,7 @@ fn stop_place(tokens: &[Token], rest: &[Token]) -> Place
 
 // The fault of a stop before these tokens.
 fn fault_at(fault: ReadFault, tokens: &[Token], rest: &[Token]) -> CheckFault
-    ensures { result ≡ spec.fault_at fault tokens.now rest.now }
+    ensures { result ≡ fault_at fault tokens.now rest.now }
 {
     let reason = match fault {
         ReadFault::Unfit(reason) => reason,

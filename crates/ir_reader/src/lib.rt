@@ -13,24 +13,21 @@
 mod cursor;
 mod define;
 mod entry_name;
+mod fault;
+mod functions;
 mod instructions;
+mod laws;
 mod lines;
 mod lists;
 mod numbering;
 mod numbers;
 mod parameters;
 mod places;
+mod reading;
 mod reasons;
 mod word;
 mod written;
 
-use ir_forms::ReadFault;
-use ir_lexer::Token;
-use ir_tree::Function;
-use std::alloc::Global;
-
-pub fn stub(alloc: Global, tokens: &[Token]) -> Result<Function, ReadFault> {
-    let mut cursor = cursor::Cursor::new(alloc, tokens);
-    let written = cursor.define()?;
-    Ok(numbering::numbered(alloc, written)?)
-}
+pub use fault::ModuleFault;
+pub use laws::{has_all_places, is_one_function, is_one_module};
+pub use reading::read;

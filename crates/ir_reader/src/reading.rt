@@ -1,12 +1,12 @@
-ghost use Rattle.std.specs.Prelude.{◌≡◌, ◌<◌, ◌≤◌, ◌+◌, ℕ, List, length, slice_get, IfOk, IfErr};
+// Reading a text.
+ghost use Rattle.std.specs.Prelude.{◌≡◌, length, slice_get, Ok, IfOk, IfErr};
 ghost use Rattle.std.specs.List.{AllByRecursion};
-ghost use Rattle.ir_items.specs.declared.item.Define.{Define as TheDefine};
+ghost use Rattle.ir_lexer.specs.Tokens.{lexed};
 ghost use Rattle.ir_items.specs.Items.{IsCut};
-ghost use Rattle.ir_items.specs.Stops.{IsStop};
-ghost use Rattle.ir_reader.specs.Answer.{Lexes, Cuts, Reads_entry, Reads_entries};
-ghost use Rattle.ir_reader.specs.Module.{IsModule, IsFault, IsJudgeableEntry, place_or_end, tokens_of};
+ghost use Rattle.ir_reader.specs.Answer.{IsWithin, AreWithin};
 ghost use Rattle.ir_reader.specs.Functions.{IsFunction};
-ghost use Rattle.ir_reader.specs.Laws.{OneFunction, OneModule, APlaceForEachSite, EachNameIsNumbered};
+ghost use Rattle.ir_reader.specs.Module as spec;
+ghost use Rattle.ir_reader.specs.Module.{IsModule, IsFault, IsEntry, AreEntries, IsJudgeableEntry};
 
 use crate::fault::ModuleFault;
 use crate::functions::function;
@@ -26,11 +26,87 @@ use text_places::Place;
 /// token at which they stop being items, or at the end of the text, directly behind its last byte.
 pub fn read(alloc: Global, text: &[u8]) -> Result<Module, ModuleFault>
     ensures module { IfOk result (λ m. IsModule text.now m) }
-    ensures fault { IfErr result (λ fault. IsFault text.now fault) }
+    ensures fault { IfErr result (IsFault text.now) }
     ensures judgeable { IfOk result (λ m. AllByRecursion IsJudgeableEntry m.entries) }
 {
     let tokens = tokens(alloc, text)?;
     let defines = defines(alloc, text, tokens.as_slice())?;
     let entries = entries(alloc, tokens.as_slice(), defines)?;
     Ok(Module { entries })
+}
+
+fn tokens<'a>(alloc: Global, text: &'a [u8]) -> Result<Sequence<Token<'a>>, ModuleFault>
+    ensures tokens { IfOk result (λ tokens. lexed text.now ≡ Ok tokens) }
+    ensures fault { IfErr result (IsFault text.now) }
+{
+    match lex(alloc, text) {
+        Ok(tokens) => Ok(tokens),
+        Err(LexFault::NoToken { at: _, place }) => Err(ModuleFault::NoToken(place)),
+        Err(LexFault::NoMemory) => Err(ModuleFault::NoMemory),
+    }
+}
+
+// Where a token stands; behind the last one the end of the text.
+fn place_or_end(text: &[u8], tokens: &[Token], at: usize) -> Place
+    ensures { result ≡ spec.place_or_end text.now (slice_get tokens.now at) }
+{
+    match tokens.get(at) {
+        Some(token) => token.place(),
+        None => Place::start().behind(text),
+    }
+}
+
+fn defines(
+    alloc: Global,
+    text: &[u8],
+    tokens: &[Token],
+) -> Result<Sequence<Define>, ModuleFault>
+    requires { lexed text.now ≡ Ok tokens.now }
+    ensures cut { IfOk result (λ defines. IsCut tokens.now (length tokens.now) defines) }
+    ensures within { IfOk result (λ defines. AreWithin tokens.now defines) }
+    ensures fault { IfErr result (IsFault text.now) }
+{
+    match cut(alloc, tokens) {
+        Ok(defines) => Ok(defines),
+        Err(ItemFault::Stop { at, why }) => {
+            let place = place_or_end(text, tokens, at);
+            Err(ModuleFault::Item { why, place })
+        }
+        Err(ItemFault::NoMemory) => Err(ModuleFault::NoMemory),
+    }
+}
+
+// What the tokens of a define are.
+fn answer(alloc: Global, tokens: &[Token]) -> Result<Result<Function, Refused>, NoMemory>
+    ensures { IfOk result (IsFunction tokens.now) }
+{
+    match function(alloc, tokens) {
+        Ok(function) => Ok(Ok(function)),
+        Err(CheckFault::Refused(refused)) => Ok(Err(refused)),
+        Err(CheckFault::NoMemory) => Err(NoMemory),
+    }
+}
+
+fn entry(alloc: Global, tokens: &[Token], define: Define) -> Result<Entry, NoMemory>
+    requires { IsWithin tokens.now define }
+    ensures { IfOk result (IsEntry tokens.now define) }
+{
+    let Define { name, first, last } = define;
+    let function = answer(alloc, &tokens[first..last + 1])?;
+    Ok(Entry { name, function })
+}
+
+fn entries(
+    alloc: Global,
+    tokens: &[Token],
+    defines: Sequence<Define>,
+) -> Result<Sequence<Entry>, NoMemory>
+    requires { AreWithin tokens.now defines }
+    ensures { IfOk result (AreEntries tokens.now defines) }
+{
+    let mut entries = Vec::new(alloc);
+    for define in defines.into_vec() {
+        entries.push(entry(alloc, tokens, define)?)?;
+    }
+    Ok(Sequence::from_vec(entries))
 }

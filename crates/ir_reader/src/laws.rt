@@ -1,0 +1,19 @@
+ghost use Rattle.ir_reader.specs.Laws.{OneFunction, OneModule, APlaceForEachSite, EachNameIsNumbered};
+
+/// A text is one module alone. It does nothing.
+pub fn is_one_module()
+    ensures { OneModule }
+{}
+
+/// The tokens of a define are one function, or are refused for one reason at one place. It does
+/// nothing.
+pub fn is_one_function()
+    ensures { OneFunction }
+{}
+
+/// A function that was read has a place for each of its sites, and its names stand in its table. It
+/// does nothing.
+pub fn has_all_places()
+    ensures places { APlaceForEachSite }
+    ensures names { EachNameIsNumbered }
+{}
