@@ -1,6 +1,6 @@
 -- The entries of a module, as a loop makes them, and where its defines stand.
-use Rattle.std.proofs.Common.{◌≡◌, ℕ, ◌+◌, ◌-◌, ◌<◌, ◌≤◌, List, [], ◌∷◌, ◌++◌, length, refl, sym, ap, subst, ◌∙◌, append_assoc, append-nil, arith}
-use Rattle.std.specs.List.{AllByRecursion}
+use Rattle.std.proofs.Common.{◌≡◌, ℕ, zero, suc, ◌+◌, ◌-◌, ◌<◌, ◌≤◌, List, [], ◌∷◌, ◌++◌, length, get_or, Some, None, refl, sym, ap, subst, ◌∙◌, append_assoc, append-nil, arith}
+use Rattle.std.specs.List.{AllByRecursion, slice_get}
 use Rattle.ir_lexer.specs.Lexeme.{Lexeme}
 use Rattle.ir_items.specs.declared.item.Define.{Define}
 use Rattle.ir_items.specs.Items.{IsCut, nothing, other, define, IsDefine}
@@ -51,3 +51,19 @@ pub so-far-all : (tokens : List Lexeme) (all left : List Define) (entries : List
 so-far-all tokens all left entries e S =
     let T = subst (λ (ds : List Define). SoFar tokens all ds entries) e S in
     subst (λ (es : List Entry). AreEntries tokens all es) (append-nil entries) (T.goes_on [] tt)
+
+-- ---- the token at a place
+
+pub slice-some : (ts : List Lexeme) (i : ℕ) (t : Lexeme) → i < length ts → t ≡ get_or ts i t → slice_get ts i ≡ Some t
+slice-some [] i t h e = absurd (omega arith)
+slice-some (u ∷ ts) zero t h e = ap (λ (x : Lexeme). Some x) (sym e)
+slice-some (u ∷ ts) (suc i) t h e = slice-some ts i t (omega (arith, h)) e
+
+pub slice-none : (ts : List Lexeme) (i : ℕ) → length ts ≤ i → slice_get ts i ≡ None
+slice-none [] i h = refl
+slice-none (u ∷ ts) zero h = absurd (omega arith)
+slice-none (u ∷ ts) (suc i) h = slice-none ts i (omega (arith, h))
+
+pub none-left : (ds : List Define) → length ds ≡ 0 → ds ≡ []
+none-left [] h = refl
+none-left (d ∷ ds) h = absurd (omega arith)

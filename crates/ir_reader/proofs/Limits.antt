@@ -67,7 +67,7 @@ function-few w ts rest (head, m1, t1, (type, m2, u2, (name, m3, t3, (opening, m4
 
 -- ---- what is made of it
 
-each-length : {A B : Type 0} (one : List Name → A → Numbered B) (as : List A) (names : List Name) (bs : List B) (after : List Name) → each_in one names as ≡ so bs after → length bs ≡ length as
+each-length : {A B : Type 0} (one : List Name → A → Numbered B) (items : List A) (names : List Name) (bs : List B) (after : List Name) → each_in one names items ≡ so bs after → length bs ≡ length items
 each-length {A} {B} one [] names bs after e = let is : [] ≡ bs = cc e in ap length (sym is)
 each-length {A} {B} one (a ∷ more_items) names bs after e =
     let F = then-so (one names a) _ bs after e in
@@ -75,15 +75,19 @@ each-length {A} {B} one (a ∷ more_items) names bs after e =
     let is : F.value ∷ M.value ≡ bs = cc M.later in
     ap length (sym is) ∙ omega (arith, each-length one more_items F.mid M.value M.mid M.first)
 
-each-integer : (as : List NamedParameter) (names : List Name) (bs : List Parameter) (after : List Name) → each_in parameter_in names as ≡ so bs after → AreIntegers bs
+parameter-integer : (names : List Name) (p : NamedParameter) (x : Parameter) (after : List Name) → parameter_in names p ≡ so x after → IsInteger x.of_type
 unfolding parameter_in
+parameter-integer names p x after e =
+    let one : (let y : Parameter = record { of_type = Int p.width; no_undef = p.no_undef; name = number_of names p.name } in y) ≡ x = cc e in
+    subst (λ (y : Parameter). IsInteger y.of_type) one tt
+
+each-integer : (items : List NamedParameter) (names : List Name) (bs : List Parameter) (after : List Name) → each_in parameter_in names items ≡ so bs after → AreIntegers bs
 each-integer [] names bs after e = let is : [] ≡ bs = cc e in subst AreIntegers is tt
 each-integer (a ∷ more_items) names bs after e =
     let F = then-so (parameter_in names a) _ bs after e in
     let M = then-so (each_in parameter_in F.mid more_items) _ bs after F.later in
     let is : F.value ∷ M.value ≡ bs = cc M.later in
-    let one : (let p : Parameter = record { of_type = Int a.width; no_undef = a.no_undef; name = number_of names a.name } in p) ≡ F.value = cc F.first in
-    subst AreIntegers is (subst (λ (p : Parameter). IsInteger p.of_type) one tt, each-integer more_items F.mid M.value M.mid M.first)
+    subst AreIntegers is (parameter-integer names a F.value F.mid F.first, each-integer more_items F.mid M.value M.mid M.first)
 
 integer-or-void : (width : Option Width) → IsIntegerOrVoid (type_or_void width)
 integer-or-void None = tt

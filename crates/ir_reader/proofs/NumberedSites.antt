@@ -210,7 +210,7 @@ parameter-part at names p x after e =
 
 -- parts one after another
 each-part : {A B : Type 0} (one : List Name → A → Numbered B) (sites_of : B → List Site) (places : A → List Place) → ((names : List Name) (a : A) (b : B) (after : List Name) → one names a ≡ so b after → IsPart names after (sites_of b) (places a))
-    → (as : List A) (names : List Name) (bs : List B) (after : List Name) → each_in one names as ≡ so bs after → IsPart names after (sites_in (map sites_of bs)) (flat_map places as)
+    → (items : List A) (names : List Name) (bs : List B) (after : List Name) → each_in one names items ≡ so bs after → IsPart names after (sites_in (map sites_of bs)) (flat_map places items)
 each-part {A} {B} one sites_of places part [] names bs after e =
     let is : [] ≡ bs = cc e in
     let end : names ≡ after = cc e in

@@ -1,6 +1,7 @@
 // Reading a text.
 ghost use Rattle.std.specs.Prelude.{◌≡◌, length, slice_get, Ok, IfOk, IfErr};
 ghost use Rattle.std.specs.List.{AllByRecursion};
+ghost use Rattle.text_places.specs.Place.{place_at};
 ghost use Rattle.ir_lexer.specs.Tokens.{lexed};
 ghost use Rattle.ir_items.specs.Items.{IsCut};
 ghost use Rattle.ir_reader.specs.Answer.{IsWithin, AreWithin};
@@ -46,13 +47,20 @@ fn tokens<'a>(alloc: Global, text: &'a [u8]) -> Result<Sequence<Token<'a>>, Modu
     }
 }
 
+// The end of a text, directly behind its last byte.
+fn end_of(text: &[u8]) -> Place
+    ensures { result ≡ place_at text.now (length text.now) }
+{
+    Place::start().behind(text)
+}
+
 // Where a token stands; behind the last one the end of the text.
 fn place_or_end(text: &[u8], tokens: &[Token], at: usize) -> Place
     ensures { result ≡ spec.place_or_end text.now (slice_get tokens.now at) }
 {
     match tokens.get(at) {
         Some(token) => token.place(),
-        None => Place::start().behind(text),
+        None => end_of(text),
     }
 }
 
