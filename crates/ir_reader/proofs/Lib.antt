@@ -7,3 +7,4 @@ pub mod Limits
 pub mod Answers
 pub mod OneFunction
 pub mod Entries
+pub mod Different

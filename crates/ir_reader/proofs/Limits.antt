@@ -27,7 +27,8 @@ use Rattle.ir_reader.specs.Classes.{any}
 use Rattle.ir_reader.specs.Grammar.{follows_parameter, parameter_begins, with_part, parameter_parts, first_parameter, parameters, define}
 use Rattle.ir_reader.specs.Numbering.{Numbered, so, each_in, parameter_in, inst_in, block_in, parts_in, returned_in, function_of, named_behind, entry_name, type_or_void, numbered}
 use Rattle.ir_reader.specs.Functions.{IsFunction, well_formed, tested, unfit, past}
-use Rattle.ir_reader.specs.Module.{IsEntry, AreEntries, IsIntegerOrVoid, IsJudgeable, IsJudgeableEntry, tokens_of}
+use Rattle.ir_reader.specs.Module.{IsEntry, AreEntries, tokens_of}
+use Rattle.ir_reader.specs.Judgeable.{IsIntegerOrVoid, IsJudgeable, IsJudgeableEntry}
 use Rattle.ir_reader.proofs.NumberedSites.{then-so, named-count, block_with}
 
 and-first : (a b : Bool) → (a && b) ≡ true → a ≡ true

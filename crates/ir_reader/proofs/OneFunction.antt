@@ -1,11 +1,15 @@
 -- The tokens of a define are one function, or are refused in one way; a text is one module.
 use Rattle.std.proofs.Common.{◌≡◌, ℕ, ◌⊎◌, true, List, [], ◌∷◌, length, inl, inr, refl, sym, ap, subst, ◌∙◌}
 use Rattle.std.specs.Prelude.{Result, Ok, Err}
+use Rattle.text_places.specs.declared.place.Place.{Place}
+use Rattle.std.specs.List.{slice_get}
 use Rattle.ir_lexer.specs.Lexeme.{Lexeme}
 use Rattle.ir_lexer.specs.Tokens.{Spot}
 use Rattle.ir_items.specs.declared.item.Define.{Define}
 use Rattle.ir_items.specs.Items.{IsCut}
-use Rattle.ir_items.proofs.OneCut.{one_cut}
+use Rattle.ir_items.specs.declared.fault.Why.{Why}
+use Rattle.ir_items.specs.Stops.{IsStop}
+use Rattle.ir_items.proofs.OneCut.{one_cut, cut_apart, one_stop_of_all}
 use Rattle.ir_tree.specs.WellFormed.{IsWellFormed, IsRefusedAt}
 use Rattle.ir_tree.specs.declared.module.Reason.{Reason}
 use Rattle.ir_tree.specs.declared.module.Reason.TheVariants.{Limit}
@@ -25,7 +29,9 @@ use Rattle.ir_reader.specs.Reasons.{reason}
 use Rattle.ir_reader.specs.Grammar.{define}
 use Rattle.ir_reader.specs.Numbering.{numbered}
 use Rattle.ir_reader.specs.Functions.{IsFunction, well_formed, tested, unfit, past, IsUnfit, IsBehind, refused_at, stop_place}
-use Rattle.ir_reader.specs.Module.{IsModule, IsEntry, AreEntries, tokens_of}
+use Rattle.ir_reader.specs.declared.fault.ModuleFault.{ModuleFault}
+use Rattle.ir_reader.specs.declared.fault.ModuleFault.TheVariants as fault
+use Rattle.ir_reader.specs.Module.{IsModule, IsFault, IsEntry, AreEntries, tokens_of, place_or_end}
 
 -- what is told of a stop
 abbrev told_of : Reason → List Lexeme → List Lexeme → Result Function Refused
@@ -92,3 +98,33 @@ one_module text m n M N =
     let defines : M.defines ≡ N.defines = one_cut N.tokens M.defines N.defines cut N.cut in
     let same : m.entries ≡ n.entries = one-entries N.tokens N.defines m.entries n.entries (subst (λ (ds : List Define). AreEntries N.tokens ds m.entries) defines entries) N.entries in
     ap (λ (es : List Entry). let x : Module = record { entries = es } in x) same
+
+-- ---- the fault
+
+apart-lexed : (r : Result (List Lexeme) Spot) (ts : List Lexeme) (spot : Spot) → r ≡ Ok ts → r ≡ Err spot → ⊥
+apart-lexed r ts spot a b = let both : Ok ts ≡ Err spot = sym a ∙ b in absurd (cc both)
+
+same-spot : (r : Result (List Lexeme) Spot) (s t : Spot) → r ≡ Err s → r ≡ Err t → s ≡ t
+same-spot r s t a b = let both : Err s ≡ Err t = sym a ∙ b in cc both
+
+pub module_or_fault : (text : List ℕ) (m : Module) (f : ModuleFault) → IsModule text m → IsFault text f → f ≡ fault.NoMemory
+module_or_fault text m (fault.NoToken place) M F = absurd (apart-lexed _ M.tokens F.spot M.lexed_so F.lexed_so)
+module_or_fault text m (fault.Item why place) M F =
+    let tokens : M.tokens ≡ F.tokens = same-tokens _ _ _ M.lexed_so F.lexed_so in
+    absurd (cut_apart F.tokens M.defines F.at why (subst (λ (ts : List Lexeme). IsCut ts (length ts) M.defines) tokens M.cut) F.stop)
+module_or_fault text m fault.NoMemory M F = refl
+
+pub one_fault : (text : List ℕ) (f g : ModuleFault) → IsFault text f → IsFault text g → (f ≡ g) ⊎ (f ≡ fault.NoMemory) ⊎ (g ≡ fault.NoMemory)
+one_fault text fault.NoMemory g F G = inr (inl refl)
+one_fault text (fault.NoToken p) fault.NoMemory F G = inr (inr refl)
+one_fault text (fault.Item why p) fault.NoMemory F G = inr (inr refl)
+one_fault text (fault.NoToken p) (fault.NoToken q) F G =
+    let spots : F.spot ≡ G.spot = same-spot _ _ _ F.lexed_so G.lexed_so in
+    inl (ap (λ (x : Place). fault.NoToken x) (F.is ∙ ap (λ (s : Spot). s.place) spots ∙ sym G.is))
+one_fault text (fault.NoToken p) (fault.Item why q) F G = absurd (apart-lexed _ G.tokens F.spot G.lexed_so F.lexed_so)
+one_fault text (fault.Item why p) (fault.NoToken q) F G = absurd (apart-lexed _ F.tokens G.spot F.lexed_so G.lexed_so)
+one_fault text (fault.Item why p) (fault.Item other q) F G =
+    let tokens : F.tokens ≡ G.tokens = same-tokens _ _ _ F.lexed_so G.lexed_so in
+    let both = one_stop_of_all G.tokens F.at G.at why other (subst (λ (ts : List Lexeme). IsStop ts F.at why) tokens F.stop) G.stop in
+    let places : p ≡ q = F.is ∙ ap (λ (ts : List Lexeme). place_or_end text (slice_get ts F.at)) tokens ∙ ap (λ (at : ℕ). place_or_end text (slice_get G.tokens at)) both.0 ∙ sym G.is in
+    inl (ap (λ (w : Why). fault.Item w p) both.1 ∙ ap (λ (x : Place). fault.Item other x) places)

@@ -10,5 +10,6 @@ pub mod Places
 pub mod Numbering
 pub mod Functions
 pub mod Module
+pub mod Judgeable
 pub mod Laws
 pub mod Answer

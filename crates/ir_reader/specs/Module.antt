@@ -8,11 +8,8 @@ use Rattle.ir_items.specs.declared.item.Define.{Define}
 use Rattle.ir_items.specs.declared.fault.Why.{Why}
 use Rattle.ir_items.specs.Items.{IsCut}
 use Rattle.ir_items.specs.Stops.{IsStop}
-use Rattle.ir_tree.specs.Limits.{IsWithinLimits, IsInteger, AreIntegers}
 use Rattle.ir_tree.specs.declared.module.Entry.{Entry}
 use Rattle.ir_tree.specs.declared.module.Module.{Module}
-use Rattle.ir_tree.specs.declared.tree.IrType.{IrType}
-use Rattle.ir_tree.specs.declared.tree.Function.{Function}
 use Rattle.ir_reader.specs.declared.fault.ModuleFault.{ModuleFault}
 use Rattle.ir_reader.specs.declared.fault.ModuleFault.TheVariants as fault
 use Rattle.ir_reader.specs.Functions.{IsFunction}
@@ -67,19 +64,3 @@ abbrev pub IsFault : List ℕ → ModuleFault → Type 0
 IsFault text (fault.NoToken place) = IsNoToken text place
 IsFault text (fault.Item why place) = IsNoItem text why place
 IsFault text fault.NoMemory = Unit {0}
-
--- ---- functions that can be judged
-
--- an integer type, or nothing for void
-abbrev pub IsIntegerOrVoid : Option IrType → Type 0
-IsIntegerOrVoid None = Unit {0}
-IsIntegerOrVoid (Some type) = IsInteger type
-
--- a function that is read has few parameters and instructions, takes integers, and returns an integer or nothing
-pub record IsJudgeable (f : Function) : Type 0 where
-  pub limits : IsWithinLimits f
-  pub parameters : AreIntegers f.parameters
-  pub returns : IsIntegerOrVoid f.returns
-
-abbrev pub IsJudgeableEntry : Entry → Type 0
-IsJudgeableEntry e = (f : Function) → e.function ≡ Ok f → IsJudgeable f

@@ -117,7 +117,6 @@ block_in names label insts returned =
     number_in names label >>= λ number before. each_in inst_in before insts >>= λ all between. returned_in between returned >>= λ last after.
     so (record { label = number; insts = all; terminator = last }) after
 
-
 unfoldable pub parts_in : List NamedParameter → Name → List WrittenInst → WrittenReturn → Numbered (List Parameter × Block)
 parts_in named_parameters label insts returned =
     each_in parameter_in [] named_parameters >>= λ ps before. block_in before label insts returned >>= λ block after. so (ps, block) after

@@ -9,9 +9,7 @@ ghost use Rattle.ir_reader.specs.Classes.{as_word, as_mark, any, passed, brace, 
 use crate::numbers::{literal, some_digits, width};
 use crate::reasons::{reason_at, type_reason_at};
 use crate::word::{Opcode, opcode_of, predicate_of};
-use crate::written::{
-    WrittenName, WrittenOperand, WrittenReturnType, WrittenType, WrittenValue,
-};
+use crate::written::{WrittenName, WrittenOperand, WrittenReturnType, WrittenType, WrittenValue};
 use ir_forms::{Bracket, ReadFault, pass_bracket};
 use ir_items::name_behind_sign;
 use ir_lexer::{Kind, Token};

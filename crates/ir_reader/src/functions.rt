@@ -68,11 +68,7 @@ fn written(alloc: Global, tokens: &[Token]) -> Result<WrittenFunction, CheckFaul
     match cursor.define() {
         Ok(function) => match cursor.left() {
             [] => Ok(function),
-            [first, ..] => Err(fault_at(
-                ReadFault::Unfit(reason_at(first)),
-                tokens,
-                cursor.left(),
-            )),
+            [first, ..] => Err(fault_at(ReadFault::Unfit(reason_at(first)), tokens, cursor.left())),
         },
         Err(fault) => Err(fault_at(fault, tokens, cursor.left())),
     }

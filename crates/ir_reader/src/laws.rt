@@ -1,8 +1,10 @@
-ghost use Rattle.ir_reader.specs.Laws.{OneFunction, OneModule, APlaceForEachSite, EachNameIsNumbered};
+ghost use Rattle.ir_reader.specs.Laws.{OneFunction, OneModule, ModuleOrFault, OneFault, APlaceForEachSite, EachNameIsNumbered};
 
-/// A text is one module alone. It does nothing.
+/// A text is one module alone, or has one fault. It does nothing.
 pub fn is_one_module()
-    ensures { OneModule }
+    ensures modules { OneModule }
+    ensures apart { ModuleOrFault }
+    ensures faults { OneFault }
 {}
 
 /// The tokens of a define are one function, or are refused for one reason at one place. It does

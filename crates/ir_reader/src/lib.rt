@@ -31,3 +31,6 @@ mod written;
 pub use fault::ModuleFault;
 pub use laws::{has_all_places, is_one_function, is_one_module};
 pub use reading::read;
+
+#[cfg(test)]
+mod tests;

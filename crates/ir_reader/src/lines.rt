@@ -51,11 +51,7 @@ fn is_record(text: &[u8]) -> bool
 }
 
 // What a token begins a line with.
-fn start_at(
-    alloc: Global,
-    token: &Token,
-    phase: LinePhase,
-) -> Result<Option<LineStart>, ReadFault>
+fn start_at(alloc: Global, token: &Token, phase: LinePhase) -> Result<Option<LineStart>, ReadFault>
     ensures { Reads (λ x. x) result [] (reads (spelling.line_start phase token.now.kind token.now.text token.now.place) []) }
 {
     let at = token.place();

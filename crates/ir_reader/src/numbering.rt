@@ -8,8 +8,8 @@ ghost use Rattle.ir_reader.specs.Numbering.{each_in, parameter_in, inst_in};
 use crate::entry_name::next_name;
 use crate::places::places_of;
 use crate::written::{
-    WrittenFunction, WrittenInst, WrittenName, WrittenParameter, WrittenReturn,
-    WrittenTyped, WrittenValue,
+    WrittenFunction, WrittenInst, WrittenName, WrittenParameter, WrittenReturn, WrittenTyped,
+    WrittenValue,
 };
 use ir_tree::{
     Block, Cast, Function, Inst, IrType, Name, Names, Op, Operand, Parameter, Predicate,

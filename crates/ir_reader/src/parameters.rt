@@ -44,11 +44,7 @@ fn attribute(text: &[u8]) -> Option<ParameterPart>
 }
 
 // What a token goes on with, behind a parameter with a name or without.
-fn part_at(
-    alloc: Global,
-    token: &Token,
-    is_named: bool,
-) -> Result<Option<ParameterPart>, ReadFault>
+fn part_at(alloc: Global, token: &Token, is_named: bool) -> Result<Option<ParameterPart>, ReadFault>
     ensures { Reads (λ x. x) result [] (reads (spelling.parameter_part is_named token.now.kind token.now.text token.now.place) []) }
 {
     match (token.kind(), token.text()) {

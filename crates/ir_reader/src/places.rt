@@ -107,10 +107,7 @@ fn add_inst(places: &mut Sequence<Place>, inst: &WrittenInst) -> Result<(), NoMe
     }
 }
 
-fn add_parameter(
-    places: &mut Sequence<Place>,
-    parameter: &WrittenParameter,
-) -> Result<(), NoMemory>
+fn add_parameter(places: &mut Sequence<Place>, parameter: &WrittenParameter) -> Result<(), NoMemory>
     ensures { OnOk result (places.new ≡ places.old ++ parameter_places parameter.now) }
 {
     let of_type = parameter.of_type.at;

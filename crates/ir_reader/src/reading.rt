@@ -1,13 +1,15 @@
 // Reading a text.
-ghost use Rattle.std.specs.Prelude.{◌≡◌, length, slice_get, Ok, IfOk, IfErr};
-ghost use Rattle.std.specs.List.{AllByRecursion};
+ghost use Rattle.std.specs.Prelude.{◌≡◌, length, map, slice_get, Ok, IfOk, IfErr};
+ghost use Rattle.std.specs.List.{AllByRecursion, IsDistinct};
 ghost use Rattle.text_places.specs.Place.{place_at};
 ghost use Rattle.ir_lexer.specs.Tokens.{lexed};
 ghost use Rattle.ir_items.specs.Items.{IsCut};
 ghost use Rattle.ir_reader.specs.Answer.{IsWithin, AreWithin};
 ghost use Rattle.ir_reader.specs.Functions.{IsFunction};
 ghost use Rattle.ir_reader.specs.Module as spec;
-ghost use Rattle.ir_reader.specs.Module.{IsModule, IsFault, IsEntry, AreEntries, IsJudgeableEntry};
+ghost use Rattle.ir_reader.specs.Module.{IsModule, IsFault, IsEntry, AreEntries};
+ghost use Rattle.ir_reader.specs.Judgeable.{IsJudgeableEntry};
+ghost use Rattle.ir_tree.specs.Names.{same_name};
 
 use crate::fault::ModuleFault;
 use crate::functions::function;
@@ -29,6 +31,7 @@ pub fn read(alloc: Global, text: &[u8]) -> Result<Module, ModuleFault>
     ensures module { IfOk result (λ m. IsModule text.now m) }
     ensures fault { IfErr result (IsFault text.now) }
     ensures judgeable { IfOk result (λ m. AllByRecursion IsJudgeableEntry m.entries) }
+    ensures different { IfOk result (λ m. IsDistinct same_name (map (λ e. e.name) m.entries)) }
 {
     let tokens = tokens(alloc, text)?;
     let defines = defines(alloc, text, tokens.as_slice())?;
@@ -64,11 +67,7 @@ fn place_or_end(text: &[u8], tokens: &[Token], at: usize) -> Place
     }
 }
 
-fn defines(
-    alloc: Global,
-    text: &[u8],
-    tokens: &[Token],
-) -> Result<Sequence<Define>, ModuleFault>
+fn defines(alloc: Global, text: &[u8], tokens: &[Token]) -> Result<Sequence<Define>, ModuleFault>
     requires { lexed text.now ≡ Ok tokens.now }
     ensures cut { IfOk result (λ defines. IsCut tokens.now (length tokens.now) defines) }
     ensures within { IfOk result (λ defines. AreWithin tokens.now defines) }
