@@ -284,3 +284,28 @@ balanced-refused b r ts rest e = by (closed-refused (b ∷ []) r ts rest e)
     by : SomeOpen (b ∷ []) ts rest → StaysOpen b ts rest
     by (inl S) = S
     by (inr (mid, C, O)) = absurd O
+
+-- ---- where a bracket stays open reading stops
+
+other-bracket : (c b : Bracket) → (c ≡ b → ⊥) → is_same c b ≡ false
+other-bracket c b ne = go (is_same c b) refl
+  where
+    go : (is : Bool) → is_same c b ≡ is → is_same c b ≡ false
+    go true e = absurd (ne (is_same-one c b e))
+    go false e = e
+
+open-stops : (b : Bracket) (outer : List Bracket) (rest : Tokens) → LeavesOpen b rest → until_closed (b ∷ outer) rest ≡ stops (unfit Syntax) rest
+unfolding until_closed
+open-stops b outer [] L = refl
+open-stops b outer (t ∷ q) (c, n, ne) = step-other b outer t c n (other-bracket c b ne) q
+
+innermost-stops : (b innermost : Bracket) (outer : List Bracket) (inside rest : Tokens) → IsInnermost b innermost inside → LeavesOpen innermost rest → until_closed (b ∷ outer) (inside ++ rest) ≡ stops (unfit Syntax) rest
+innermost-stops b _ outer inside rest (same B) L = passed-balanced b outer inside rest B ∙ open-stops b outer rest L
+innermost-stops b innermost outer _ rest (deeper c before first inside B n I) L =
+    ap (λ (us : Tokens). until_closed (b ∷ outer) us) (append_assoc before (first ∷ inside) rest)
+    ∙ passed-balanced b outer before (first ∷ (inside ++ rest)) B
+    ∙ step-opens b outer first c n (inside ++ rest)
+    ∙ innermost-stops c innermost (b ∷ outer) inside rest I L
+
+pub open-again : (b : Bracket) (ts rest : Tokens) → StaysOpen b ts rest → until_closed (b ∷ []) ts ≡ stops (unfit Syntax) rest
+open-again b ts rest S = ap (λ (us : Tokens). until_closed (b ∷ []) us) S.split ∙ innermost-stops b S.innermost [] S.inside rest S.is_innermost S.leaves_open

@@ -11,3 +11,4 @@ pub mod Loops
 pub mod Stops
 pub mod Reasons
 pub mod Plain
+pub mod RefusedAgain

@@ -1,35 +1,27 @@
--- Each item of a list in turn, as a loop numbers them.
-use Rattle.std.proofs.Common.{◌≡◌, List, [], ◌∷◌, ◌++◌, Option, Some, None, refl, sym, ap, ◌∙◌, append_assoc}
-use Rattle.std.proofs.lemmas.List.{append-nil}
-use Rattle.std.specs.Prelude.{Err}
-use Rattle.ir_reader.specs.declared.fault.ModuleFault.{ModuleFault}
-use Rattle.ir_reader.specs.declared.fault.ModuleFault.TheVariants.{NotRead, NoMemory}
-use Rattle.ir_reader.specs.Answer.{Checks}
-use Rattle.ir_reader.specs.Checking.{each_in, ◌>>=◌}
+-- Each item of a list in turn, as a loop goes over them.
+use Rattle.std.proofs.Common.{◌≡◌, ℕ, suc, ◌+◌, ◌<◌, List, [], ◌∷◌, ◌++◌, length, drop, get_or, refl, sym, ap, ◌∙◌, append_assoc, add-one, drop-cons}
+use Rattle.std.specs.List.{flat_map}
+use Rattle.ir_tree.specs.declared.name.Name.{Name}
+use Rattle.ir_reader.specs.Numbering.{Numbered, so, each_in, ◌>>=◌}
 
-abbrev pub in_front : {S B : Type 0} → List B → Option (List B × S) → Option (List B × S)
-in_front front None = None
-in_front front (Some more) = Some (front ++ more.0, more.1)
+-- ---- items that are numbered
 
-pub front-nil : {S B : Type 0} (r : Option (List B × S)) → r ≡ in_front [] r
-front-nil None = refl
-front-nil (Some more) = refl
+abbrev pub in_front : {B : Type 0} → List B → Numbered (List B) → Numbered (List B)
+in_front front (so ys names) = so (front ++ ys) names
 
-front-cons : {S B : Type 0} (front : List B) (y : B) (r : Option (List B × S)) → in_front front (r >>= λ more. Some (y ∷ more.0, more.1)) ≡ in_front (front ++ y ∷ []) r
-front-cons front y None = refl
-front-cons {S} {B} front y (Some more) = ap (λ (ys : List B). Some (ys, more.1)) (sym (append_assoc front (y ∷ []) more.0))
+pub front-nil : {B : Type 0} (r : Numbered (List B)) → r ≡ in_front [] r
+front-nil (so ys names) = refl
 
-pub each-more : {S A B : Type 0} (one : S → A → Option (B × S)) (t next : S) (x : A) (xs ys : List A) (out : List B) (y : B) (whole : Option (List B × S)) → ys ≡ x ∷ xs → one t x ≡ Some (y, next) → whole ≡ in_front out (each_in one t ys) → whole ≡ in_front (out ++ y ∷ []) (each_in one next xs)
-each-more one t next x xs ys out y whole e is so = so ∙ ap (λ zs. in_front out (each_in one t zs)) e ∙ rw is (front-cons out y (each_in one next xs))
+front-cons : {B : Type 0} (front : List B) (y : B) (r : Numbered (List B)) → in_front front (r >>= λ others after. so (y ∷ others) after) ≡ in_front (front ++ y ∷ []) r
+front-cons {B} front y (so ys names) = ap (λ (zs : List B). so zs names) (sym (append_assoc front (y ∷ []) ys))
 
-pub each-none : {S A B : Type 0} (one : S → A → Option (B × S)) (t : S) (x : A) (xs ys : List A) (out : List B) (whole : Option (List B × S)) → ys ≡ x ∷ xs → one t x ≡ None → whole ≡ in_front out (each_in one t ys) → whole ≡ None
-each-none one t x xs ys out whole e is so = so ∙ ap (λ zs. in_front out (each_in one t zs)) e ∙ rw is refl
+pub each-more : {A B : Type 0} (one : List Name → A → Numbered B) (t next : List Name) (x : A) (xs ys : List A) (out : List B) (y : B) (whole : Numbered (List B)) → ys ≡ x ∷ xs → one t x ≡ so y next → whole ≡ in_front out (each_in one t ys) → whole ≡ in_front (out ++ y ∷ []) (each_in one next xs)
+each-more one t next x xs ys out y whole e is kept = kept ∙ ap (λ zs. in_front out (each_in one t zs)) e ∙ rw is (front-cons out y (each_in one next xs))
 
-pub each-done : {S A B : Type 0} (one : S → A → Option (B × S)) (t : S) (ys : List A) (out : List B) (whole : Option (List B × S)) → ys ≡ [] → whole ≡ in_front out (each_in one t ys) → whole ≡ Some (out, t)
-each-done {S} {A} {B} one t ys out whole e so = so ∙ ap (λ zs. in_front out (each_in one t zs)) e ∙ ap (λ (bs : List B). Some (bs, t)) (append-nil out)
+-- ---- items whose parts go behind others
 
--- where one of them isn't numbered
-pub checks-none : {S A B : Type 0} (one : S → A → Option (B × S)) (t : S) (x : A) (xs ys : List A) (out : List B) (whole : Option (List B × S)) (fault : ModuleFault) (after : S)
-    → ys ≡ x ∷ xs → Checks {S = S} {X = B} {Y = B} (λ z. z) (Err fault) after (one t x) → whole ≡ in_front out (each_in one t ys) → Checks {S = S} {X = List B} {Y = List B} (λ z. z) (Err fault) after whole
-checks-none one t x xs ys out whole NotRead after e is so = each-none one t x xs ys out whole e is so
-checks-none one t x xs ys out whole NoMemory after e is so = tt
+pub flat-more : {A B : Type 0} (f : A → List B) (xs : List A) (i : ℕ) (x : A) (before after whole : List B)
+    → i < length xs → x ≡ get_or xs i x → after ≡ before ++ f x → before ++ flat_map f (drop i xs) ≡ whole → after ++ flat_map f (drop (i + 1) xs) ≡ whole
+flat-more {A} {B} f xs i x before after whole lt is e kept =
+    let at : drop i xs ≡ x ∷ drop (i + 1) xs = drop-cons xs i x lt ∙ ap (λ (y : A). y ∷ drop (suc i) xs) (sym is) ∙ ap (λ (k : ℕ). x ∷ drop k xs) (sym (add-one i)) in
+    ap (λ (bs : List B). bs ++ flat_map f (drop (i + 1) xs)) e ∙ append_assoc before (f x) (flat_map f (drop (i + 1) xs)) ∙ sym (ap (λ (ys : List A). before ++ flat_map f ys) at) ∙ kept

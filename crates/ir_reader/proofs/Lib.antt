@@ -1,9 +1,10 @@
 pub mod Digits
 pub mod Widths
-pub mod NameNumbers
-pub mod Checking
 pub mod Each
-pub mod EntryLemmas
+pub mod NumberOf
+pub mod NumberedSites
 pub mod Limits
-pub mod OneModule
-pub mod Modules
+pub mod Answers
+pub mod OneFunction
+pub mod Entries
+pub mod Different

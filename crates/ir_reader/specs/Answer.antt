@@ -1,38 +1,51 @@
--- What reading a text may answer.
-use Rattle.std.specs.List.{list_any}
-use Rattle.ir_tree.specs.Names.{same_name}
+-- What the parts of the reader may answer.
+use Rattle.std.specs.Prelude.{◌≡◌, ◌≤◌, ◌+◌, List, [], ◌∷◌, length, true, Result, Ok, Err}
+use Rattle.std.specs.List.{AllByRecursion}
+use Rattle.support.specs.declared.no_memory.NoMemory.{NoMemory}
+use Rattle.ir_lexer.specs.Lexeme.{Lexeme}
+use Rattle.ir_items.specs.declared.item.Define.{Define}
+use Rattle.ir_tree.specs.WellFormed.{IsWellFormed, IsRefusedAt}
+use Rattle.ir_tree.specs.declared.module.Reason.{Reason}
+use Rattle.ir_tree.specs.declared.module.Reason.TheVariants.{Limit}
+use Rattle.ir_tree.specs.declared.module.CheckFault.{CheckFault}
+use Rattle.ir_tree.specs.declared.module.CheckFault.TheVariants as fault
 use Rattle.ir_tree.specs.declared.name.Name.{Name}
-use Rattle.std.specs.Prelude.{◌≡◌, ℕ, true, false, List, [], ◌∷◌, ◌++◌, length, Option, Some, None, Result, Ok, Err}
-use Rattle.ir_reader.specs.Checking.{Table}
-use Rattle.ir_tree.specs.declared.module.Module.{Module}
-use Rattle.ir_reader.specs.declared.fault.ModuleFault.{ModuleFault}
-use Rattle.ir_reader.specs.declared.fault.ModuleFault.TheVariants.{NotRead, NoMemory}
+use Rattle.ir_tree.specs.declared.tree.Function.{Function}
+use Rattle.ir_forms.specs.declared.fault.ReadFault.{ReadFault}
+use Rattle.ir_forms.specs.declared.fault.ReadFault.TheVariants as stop
+use Rattle.ir_forms.specs.Spelling.{Spells}
+use Rattle.ir_reader.specs.declared.written.WrittenFunction.{WrittenFunction}
+use Rattle.ir_reader.specs.Grammar.{define}
+use Rattle.ir_reader.specs.Numbering.{Numbered, so}
+use Rattle.ir_reader.specs.Functions.{refused_at, stop_place, IsFunction}
 
--- this module, unless memory ran out
-abbrev pub Gives : Result Module ModuleFault → Module → Type 0
-Gives (Ok read) m = read ≡ m
-Gives (Err fault) m = fault ≡ NoMemory
+-- this is numbered so and leaves these names, unless memory runs out
+abbrev pub Numbers : {X : Type 0} → Result X NoMemory → List Name → Numbered X → Type 0
+Numbers (Ok x) after answer = answer ≡ so x after
+Numbers (Err fault) after answer = Unit {0}
 
--- what is asked has this answer, or none, unless memory ran out
-abbrev pub Answers : {X : Type 0} → Result X ModuleFault → Option X → Type 0
-Answers (Ok x) answer = answer ≡ Some x
-Answers (Err NotRead) answer = answer ≡ None
-Answers (Err NoMemory) answer = Unit {0}
+-- a stop before the tokens that are left, as it is told
+abbrev pub fault_at : ReadFault → List Lexeme → List Lexeme → CheckFault
+fault_at (stop.Unfit why) tokens rest = fault.Refused (refused_at why (stop_place tokens rest))
+fault_at stop.PastLimit tokens rest = fault.Refused (refused_at Limit (stop_place tokens rest))
+fault_at stop.NoMemory tokens rest = fault.NoMemory
 
--- the same of a name's definition, which gives its number and the table with it
-abbrev pub Defines : Result ℕ ModuleFault → Table → Table → Option Table → Type 0
-Defines (Ok number) before after answer = (number ≡ length before.names) × (answer ≡ Some after)
-Defines (Err NotRead) before after answer = answer ≡ None
-Defines (Err NoMemory) before after answer = Unit {0}
+-- the tokens write this function, or are refused so
+abbrev pub Writes : List Lexeme → Result WrittenFunction CheckFault → Type 0
+Writes tokens (Ok w) = Spells true define w tokens []
+Writes tokens (Err (fault.Refused refused)) = IsFunction tokens (Err refused)
+Writes tokens (Err fault.NoMemory) = Unit {0}
 
--- the same of what is numbered, seen by view, with the state behind it
-abbrev pub Checks : {S X Y : Type 0} → (X → Y) → Result X ModuleFault → S → Option (Y × S) → Type 0
-Checks view (Ok x) after answer = answer ≡ Some (view x, after)
-Checks view (Err NotRead) after answer = answer ≡ None
-Checks view (Err NoMemory) after answer = Unit {0}
+-- the function is well formed, or is refused so
+abbrev pub Tests : Function → Result (Unit {0}) CheckFault → Type 0
+Tests f (Ok passed) = IsWellFormed f
+Tests f (Err (fault.Refused refused)) = (why : Reason) × IsRefusedAt why f refused
+Tests f (Err fault.NoMemory) = Unit {0}
 
--- the name is new among those before and goes behind them, or it is there, unless memory ran out
-abbrev pub Sees : Result (Unit {0}) ModuleFault → List Name → List Name → Name → Type 0
-Sees (Ok done) before after name = (list_any (same_name name) before ≡ false) × (after ≡ before ++ name ∷ [])
-Sees (Err NotRead) before after name = list_any (same_name name) before ≡ true
-Sees (Err NoMemory) before after name = Unit {0}
+-- the tokens of a define stand among these
+pub record IsWithin (tokens : List Lexeme) (d : Define) : Type 0 where
+  pub first : d.first ≤ d.last + 1
+  pub last : d.last + 1 ≤ length tokens
+
+abbrev pub AreWithin : List Lexeme → List Define → Type 0
+AreWithin tokens defines = AllByRecursion (IsWithin tokens) defines

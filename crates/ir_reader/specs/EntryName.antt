@@ -1,4 +1,4 @@
--- The name of an entry block without a label: one more than the greatest number among the parameters' names, or 0 (LLVM Language Reference, "Functions"). Numbers have any size, so this is said of decimal digits.
+-- The name of what is written without one, a parameter or an entry: one more than the greatest number among the names before, or 0 (LLVM Language Reference, "Functions"). Numbers have any size, so this is said of decimal digits.
 use Rattle.std.specs.Prelude.{ℕ, ◌+◌, List, [], ◌∷◌, length, reverse, Bool, false, ◌&&◌, ◌||◌, ◌==◌, nat_lt, if◌then◌else◌, codes}
 use Rattle.ir_tree.specs.declared.name.Name.{Name}
 use Rattle.ir_tree.specs.declared.name.Name.TheVariants.{Number, Word}
@@ -27,5 +27,5 @@ abbrev pub one_more : List ℕ → List ℕ
 one_more [] = codes "0"
 one_more (d ∷ ds) = reverse (carried (reverse (d ∷ ds)))
 
-abbrev pub entry_name : List Name → Name
-entry_name parameters = Number (one_more (greatest [] parameters))
+abbrev pub next_name : List Name → Name
+next_name names = Number (one_more (greatest [] names))

@@ -1,104 +1,110 @@
--- Which tokens spell the functions of a text.
-use Rattle.std.specs.Prelude.{refl, ℕ, List, [], ◌∷◌, ◌++◌, length, Option, Some, None, Bool, true, false, codes, nat_lt}
+-- Which tokens spell a function with a body (LLVM Language Reference, "Functions").
+use Rattle.std.specs.Prelude.{refl, ℕ, List, [], ◌∷◌, ◌++◌, length, ◌+◌, Option, Some, None, Bool, true, false, ◌&&◌, ◌||◌, not, codes, nat_lt, is_some}
 use Rattle.tv_num.specs.declared.Width.{Width}
+use Rattle.text_places.specs.declared.place.Place.{Place}
 use Rattle.ir_lexer.specs.declared.token.Kind.{Kind}
 use Rattle.ir_lexer.specs.declared.token.Kind.TheVariants as kind
 use Rattle.ir_lexer.specs.Lexeme.{Lexeme}
-use Rattle.ir_tree.specs.declared.name.Name.{Name}
-use Rattle.ir_tree.specs.declared.tree.Op.{Op}
-use Rattle.ir_reader.specs.declared.word.Opcode.{Opcode}
-use Rattle.ir_reader.specs.declared.word.Opcode.TheVariants as opcode
+use Rattle.ir_forms.specs.declared.bracket.Bracket.TheVariants.{Round}
+use Rattle.ir_forms.specs.Form.{Form, never, either, give, one, upto, peek, tail, balanced, ◌>>=◌}
 use Rattle.ir_reader.specs.declared.word.LineStart.{LineStart}
 use Rattle.ir_reader.specs.declared.word.LineStart.TheVariants as start
-use Rattle.ir_reader.specs.declared.written.WrittenOperand.{WrittenOperand}
-use Rattle.ir_reader.specs.declared.written.WrittenOperand.TheVariants as operand
+use Rattle.ir_reader.specs.declared.word.ParameterPart.{ParameterPart}
+use Rattle.ir_reader.specs.declared.word.ParameterPart.TheVariants as part
+use Rattle.ir_reader.specs.declared.word.HeaderPart.{HeaderPart}
+use Rattle.ir_reader.specs.declared.word.HeaderPart.TheVariants as header
+use Rattle.ir_reader.specs.declared.written.WrittenType.{WrittenType}
 use Rattle.ir_reader.specs.declared.written.WrittenParameter.{WrittenParameter}
-use Rattle.ir_reader.specs.declared.written.WrittenInst.{WrittenInst}
-use Rattle.ir_reader.specs.declared.written.WrittenInst.TheVariants as inst
+use Rattle.ir_reader.specs.declared.written.WrittenParameters.{WrittenParameters}
+use Rattle.ir_reader.specs.declared.written.LinePhase.TheVariants as phase
 use Rattle.ir_reader.specs.declared.written.WrittenLines.{WrittenLines}
 use Rattle.ir_reader.specs.declared.written.WrittenReturn.{WrittenReturn}
+use Rattle.ir_reader.specs.declared.written.WrittenReturn.TheVariants.{Void, Value}
 use Rattle.ir_reader.specs.declared.written.WrittenFunction.{WrittenFunction}
-use Rattle.ir_reader.specs.Spelling.{is_word_of, is_mark_of, line_start}
-use Rattle.ir_reader.specs.Classes.{any, word, mark, counted_word, as_word, as_mark, local, global, int_type, counted_type, operand_class, opcode_class, predicate_class}
-use Rattle.ir_forms.specs.Form.{Form, never, either, give, one, upto, peek, tail, ◌>>=◌}
+use Rattle.ir_reader.specs.Words.{is_word_of, is_mark_of, prefix_of}
+use Rattle.ir_reader.specs.Spelling.{parameter_part, header_part, header_word, is_numbered, is_metadata_of, line_start}
+use Rattle.ir_reader.specs.Classes.{any, word, mark, counted_word, brace, as_mark, local, global, counted_type, int_type, return_type, operand_class, attachment_word, metadata_number, comdat_name}
+use Rattle.ir_reader.specs.Instructions.{inst_named}
+
+abbrev pub is_comma : Lexeme → Bool
+is_comma t = is_mark_of t.kind t.text (codes ",")
+
+-- ---- before the return type
+
+abbrev pub is_prefix : Lexeme → Bool
+is_prefix t = is_some (prefix_of t.kind t.text false)
+
+abbrev pub next_prefix : Bool → Lexeme → Option Bool
+next_prefix no_undef t = prefix_of t.kind t.text no_undef
+
+-- words, and whether noundef is one of them
+unfoldable pub prefixes : Form (either never (either is_prefix never)) Bool
+prefixes = tail is_prefix next_prefix (λ s. any) (λ s more. give more) (give false)
 
 -- ---- parameters
 
 abbrev pub most_parameters : ℕ
 most_parameters = 16
 
-abbrev pub is_comma : Lexeme → Bool
-is_comma t = is_mark_of t.kind t.text (codes ",")
+abbrev pub new_parameter : WrittenType → WrittenParameter
+new_parameter type = record { of_type = type; no_undef = false; name = None }
 
-abbrev pub parameter_begins : List WrittenParameter → Lexeme → Option (Unit {0})
-parameter_begins s t = as_mark (codes ",") t
+abbrev pub follows_parameter : Lexeme → Bool
+follows_parameter t = is_some (parameter_part false t.kind t.text t.place)
 
--- type %name; a parameter is counted at its type
-unfoldable pub parameter : Bool → Form never WrittenParameter
-parameter room = do
-  type ← one (counted_type room)
-  name ← one local
-  give (record { width = type; name = name })
+abbrev pub parameter_begins : WrittenParameters → Lexeme → Option ParameterPart
+parameter_begins s t = parameter_part (is_some s.last.name) t.kind t.text t.place
 
-abbrev pub with_parameter : List WrittenParameter → Unit {0} → Form never (List WrittenParameter)
-with_parameter s comma = parameter (nat_lt (length s) most_parameters) >>= λ more. give (s ++ more ∷ [])
+-- attributes, a name or none, and behind a comma the next type; a parameter is counted at its type
+abbrev pub with_part : WrittenParameters → ParameterPart → Form never WrittenParameters
+with_part s part.NoUndef = give (record { before = s.before; last = record { of_type = s.last.of_type; no_undef = true; name = s.last.name } })
+with_part s part.Extension = give s
+with_part s (part.Name name) = give (record { before = s.before; last = record { of_type = s.last.of_type; no_undef = s.last.no_undef; name = Some name } })
+with_part s part.Next = one (counted_type (nat_lt (length s.before + 1) most_parameters)) >>= λ type. give (record { before = s.before ++ s.last ∷ []; last = new_parameter type })
 
-unfoldable pub more_parameters : List WrittenParameter → Form (either never (either is_comma never)) (List WrittenParameter)
-more_parameters s = tail is_comma parameter_begins (λ s. any) with_parameter (give s)
+-- the parameters behind the type of the first
+unfoldable pub parameter_parts : WrittenType → Form (either never (either follows_parameter never)) WrittenParameters
+parameter_parts type = tail follows_parameter parameter_begins (λ s. any) with_part (give (record { before = []; last = new_parameter type }))
 
-unfoldable pub first_parameter : Width → Form never (List WrittenParameter)
+unfoldable pub first_parameter : WrittenType → Form never (List WrittenParameter)
 first_parameter type = do
-  name ← one local
-  all ← upto (more_parameters (record { width = type; name = name } ∷ [])) (λ s. mark (codes ")") refl) (λ s. refl)
-  give all.0
+  all ← upto (parameter_parts type) (λ s. mark (codes ")") refl) (λ s. refl)
+  give (all.0.before ++ all.0.last ∷ [])
 
 -- the parameters, by commas, and the closing parenthesis
 unfoldable pub parameters : Form never (List WrittenParameter)
 parameters = peek (mark (codes ")") refl) (λ closed. give []) int_type first_parameter
 
--- ---- instructions
+-- ---- behind the parameters
 
--- an operand of a type, where undef may stand too
-unfoldable pub operand_or_undef : Width → Form never WrittenOperand
-operand_or_undef type = peek (word (codes "undef") refl) (λ undef. give operand.Undef) (operand_class type) (λ value. give value)
+abbrev pub follows_header : Lexeme → Bool
+follows_header t = is_some (header_part true t.kind t.text)
 
--- behind the word: type left, right
-unfoldable pub binary : Name → Op → Form never WrittenInst
-binary name op = do
-  type ← one int_type
-  left ← one (operand_class type)
-  comma ← one (mark (codes ",") refl)
-  right ← one (operand_class type)
-  give (inst.Binary name op type left right)
+abbrev pub header_begins : Bool → Lexeme → Option HeaderPart
+header_begins behind_comdat t = header_part behind_comdat t.kind t.text
 
--- behind the word: predicate type left, right
-unfoldable pub icmp : Name → Form never WrittenInst
-icmp name = do
-  predicate ← one predicate_class
-  type ← one int_type
-  left ← one (operand_class type)
-  comma ← one (mark (codes ",") refl)
-  right ← one (operand_class type)
-  give (inst.Icmp name predicate type left right)
+-- $name )
+unfoldable pub comdat_rest : Form never Bool
+comdat_rest = do
+  name ← one comdat_name
+  closing ← one (mark (codes ")") refl)
+  give false
 
--- behind the word: type value
-unfoldable pub freeze : Name → Form never WrittenInst
-freeze name = do
-  type ← one int_type
-  value ← operand_or_undef type
-  give (inst.Freeze name type value)
+-- !number
+unfoldable pub debug_rest : Form never Bool
+debug_rest = do
+  number ← one metadata_number
+  give false
 
-abbrev pub inst_by : Name → Opcode → Form never WrittenInst
-inst_by name (opcode.Binary op) = binary name op
-inst_by name opcode.Icmp = icmp name
-inst_by name opcode.Freeze = freeze name
+abbrev pub with_header : Bool → HeaderPart → Form never Bool
+with_header s header.Attribute = give false
+with_header s header.Comdat = give true
+with_header s header.Opening = comdat_rest
+with_header s header.Debug = debug_rest
 
--- behind the name: = and the instruction
-unfoldable pub inst_named : Name → Form never WrittenInst
-inst_named name = do
-  equals ← one (mark (codes "=") refl)
-  op ← one opcode_class
-  inst_by name op
+-- attributes, comdat with a name or none, and !dbg; whether comdat came last
+unfoldable pub header_parts : Form (either never (either follows_header never)) Bool
+header_parts = tail follows_header header_begins (λ s. any) with_header (give false)
 
 -- ---- the block
 
@@ -106,72 +112,87 @@ inst_named name = do
 abbrev pub most_insts : ℕ
 most_insts = 65536
 
-abbrev pub is_start : Kind → Bool
-is_start kind.Local = true
-is_start kind.Label = true
-is_start _ = false
+-- behind the comma: !word !number
+unfoldable pub attachment : Form never (Unit {0})
+attachment = do
+  kind_word ← one attachment_word
+  number ← one metadata_number
+  give tt
+
+-- behind the word of a record: what stands in parentheses
+unfoldable pub record_rest : Form never (Unit {0})
+record_rest = do
+  opening ← one (mark (codes "(") refl)
+  balanced Round
+
+abbrev pub is_local_kind : Kind → Bool
+is_local_kind kind.Local = true
+is_local_kind _ = false
+
+abbrev pub is_label_kind : Kind → Bool
+is_label_kind kind.Label = true
+is_label_kind _ = false
+
+abbrev pub is_hash_kind : Kind → Bool
+is_hash_kind kind.Hash = true
+is_hash_kind _ = false
 
 abbrev pub starts_line : Lexeme → Bool
-starts_line t = is_start t.kind
-
--- whether neither a label nor an instruction stands before
-abbrev pub is_first : Option Name → List WrittenInst → Bool
-is_first None [] = true
-is_first label insts = false
+starts_line t = is_local_kind t.kind || is_label_kind t.kind || is_hash_kind t.kind || is_comma t
 
 abbrev pub line_begins : WrittenLines → Lexeme → Option LineStart
-line_begins s t = line_start (is_first s.label s.insts) t.kind t.text
+line_begins s t = line_start s.phase t.kind t.text t.place
 
--- an instruction is counted at its first token; before the label there is none
+-- an instruction is counted at its first token
 abbrev pub line_within : WrittenLines → Lexeme → Bool
-line_within s t = nat_lt (length s.insts) most_insts
+line_within s t = not (is_local_kind t.kind) || nat_lt (length s.insts) most_insts
 
 abbrev pub with_line : WrittenLines → LineStart → Form never WrittenLines
-with_line s (start.Label name) = give (record { label = Some name; insts = s.insts })
-with_line s (start.Inst name) = inst_named name >>= λ more. give (record { label = s.label; insts = s.insts ++ more ∷ [] })
+with_line s (start.Label name) = give (record { label = Some name; insts = s.insts; phase = phase.Between })
+with_line s (start.Inst name) = inst_named name >>= λ more. give (record { label = s.label; insts = s.insts ++ more ∷ []; phase = phase.Behind })
+with_line s start.Attachment = attachment >>= λ passed. give (record { label = s.label; insts = s.insts; phase = phase.Behind })
+with_line s start.Record = record_rest >>= λ passed. give (record { label = s.label; insts = s.insts; phase = phase.Between })
 
--- a label or none, and instructions
+-- a label or none, and instructions with what is attached to them and records between them
 unfoldable pub lines : Form (either never (either starts_line never)) WrittenLines
-lines = tail starts_line line_begins line_within with_line (give (record { label = None; insts = [] }))
+lines = tail starts_line line_begins line_within with_line (give (record { label = None; insts = []; phase = phase.Start }))
+
+-- ---- the last instruction
+
+-- behind a type: its value, or nothing behind void
+abbrev pub returned_by : Option Width → Place → Form never WrittenReturn
+returned_by None at = give (Void at)
+returned_by (Some width) at = one (operand_class true width) >>= λ value. give (Value (record { of_type = record { width = width; at = at }; operand = value }))
 
 -- behind ret: void, or type value
-unfoldable pub returned : Form never (Option WrittenReturn)
-returned = peek (word (codes "void") refl) (λ nothing. give None) int_type (λ type. operand_or_undef type >>= λ value. give (Some (record { width = type; operand = value })))
+unfoldable pub returned : Form never WrittenReturn
+returned = one return_type >>= λ type. returned_by type.width type.at
+
+abbrev pub comma_begins : Unit {0} → Lexeme → Option (Unit {0})
+comma_begins s t = as_mark (codes ",") t
+
+-- attachments of the last instruction
+unfoldable pub attachments : Form (either never (either is_comma never)) (Unit {0})
+attachments = tail is_comma comma_begins (λ s. any) (λ s comma. attachment) (give tt)
+
+-- behind ret: what it gives, attachments, and the closing mark
+unfoldable pub ending : Form never WrittenReturn
+ending = do
+  value ← returned
+  closing ← upto attachments (λ s. mark (codes "}") refl) (λ s. refl)
+  give value
 
 -- ---- functions
 
--- how many functions a text may have
-abbrev pub most_functions : ℕ
-most_functions = 4096
-
--- void or an integer type
-unfoldable pub return_type : Form never (Option Width)
-return_type = peek (word (codes "void") refl) (λ nothing. give None) int_type (λ type. give (Some type))
-
--- behind define: type @name(parameters) { lines ret value }
-unfoldable pub function : Form never WrittenFunction
-function = do
-  type ← return_type
+-- define words type @name(parameters) words { lines ret ending
+unfoldable pub define : Form never WrittenFunction
+define = do
+  head ← one (word (codes "define") refl)
+  type ← upto prefixes (λ s. return_type) (λ s. refl)
   name ← one global
   opening ← one (mark (codes "(") refl)
   all ← parameters
-  body ← one (mark (codes "{") refl)
+  body ← upto header_parts (λ s. brace) (λ s. refl)
   block ← upto lines (λ s. counted_word (codes "ret") (nat_lt (length s.insts) most_insts) refl) (λ s. refl)
-  value ← returned
-  closing ← one (mark (codes "}") refl)
-  give (record { returns = type; name = name; parameters = all; label = block.0.label; insts = block.0.insts; returned = value })
-
-abbrev pub is_define : Lexeme → Bool
-is_define t = is_word_of t.kind t.text (codes "define")
-
-abbrev pub function_begins : List WrittenFunction → Lexeme → Option (Unit {0})
-function_begins s t = as_word (codes "define") t
-
-abbrev pub function_within : List WrittenFunction → Lexeme → Bool
-function_within s t = nat_lt (length s) most_functions
-
-abbrev pub with_function : List WrittenFunction → Unit {0} → Form never (List WrittenFunction)
-with_function s define = function >>= λ more. give (s ++ more ∷ [])
-
-unfoldable pub functions : Form (either never (either is_define never)) (List WrittenFunction)
-functions = tail is_define function_begins function_within with_function (give [])
+  value ← ending
+  give (record { returns_no_undef = type.0; returns = type.1; name = name; parameters = all; brace = body.1; label = block.0.label; insts = block.0.insts; returned = value })

@@ -1,9 +1,15 @@
 pub mod Numbers
+pub mod Words
+pub mod Reasons
 pub mod Spelling
 pub mod Classes
+pub mod Instructions
 pub mod Grammar
 pub mod EntryName
+pub mod Places
 pub mod Numbering
-pub mod Checking
-pub mod StraightLine
+pub mod Functions
+pub mod Module
+pub mod Judgeable
+pub mod Laws
 pub mod Answer

@@ -1,21 +1,23 @@
 // Reading one token.
-ghost use Rattle.std.specs.Prelude.{◌≡◌, [], true};
-ghost use Rattle.ir_forms.specs.Form.{one_of, token_of, begin_of, reads, first_is};
+ghost use Rattle.std.specs.Prelude.{◌≡◌, [], true, codes};
+ghost use Rattle.ir_forms.specs.Form.{one_of, token_of, begin_of, reads, read, balanced};
 ghost use Rattle.ir_forms.specs.Answer.{Reads, Passes};
-ghost use Rattle.ir_reader.specs.Spelling.{bits_behind, line_start, word_operand};
-ghost use Rattle.ir_reader.specs.Classes.{as_word, as_mark, any, passed, local, global, int_type, counted_type, spelled_width, width_in, operand_class, opcode_class, predicate_class};
-ghost use Rattle.ir_reader.specs.Grammar.{is_define, starts_line};
+ghost use Rattle.ir_reader.specs.Reasons.{reason};
+ghost use Rattle.ir_reader.specs.Spelling.{bits_behind, spelled_width, width_in, word_value, is_void};
+ghost use Rattle.ir_reader.specs.Classes.{as_word, as_mark, any, passed, brace, local, global, int_type, counted_type, bit_type, return_type, operand_class, opcode_class, predicate_class};
 
 use crate::numbers::{literal, some_digits, width};
-use crate::word::{LineStart, Opcode, opcode_of, predicate_of};
-use crate::written::WrittenOperand;
-use ir_forms::ReadFault;
-use ir_items::{name_before_colon, name_behind_sign};
+use crate::reasons::{reason_at, type_reason_at};
+use crate::word::{Opcode, opcode_of, predicate_of};
+use crate::written::{WrittenName, WrittenOperand, WrittenReturnType, WrittenType, WrittenValue};
+use ir_forms::{Bracket, ReadFault, pass_bracket};
+use ir_items::name_behind_sign;
 use ir_lexer::{Kind, Token};
-use ir_tree::{Name, Predicate};
+use ir_tree::{Predicate, Reason};
 use std::alloc::Global;
 use std::marker::Model;
 use support::Sequence;
+use text_places::Place;
 use tv_num::Width;
 
 /// The tokens that are left to read. Contracts see them as a list.
@@ -45,6 +47,11 @@ impl<'a, 'b> Cursor<'a, 'b> {
         }
     }
 
+    /// Where what is read takes its memory from.
+    pub fn alloc(&self) -> Global {
+        self.alloc
+    }
+
     /// A list without items. It takes no memory.
     pub fn no_items<T>(&self) -> Sequence<T>
         ensures { result ≡ [] }
@@ -59,15 +66,29 @@ impl<'a, 'b> Cursor<'a, 'b> {
         self.rest
     }
 
+    /// Goes on there.
+    pub fn go_to(&mut self, rest: &'b [Token<'a>])
+        ensures { self.new ≡ rest.now }
+    {
+        self.rest = rest;
+    }
+
+    /// Passes a word.
+    pub fn word(&mut self, text: &[u8]) -> Result<(), ReadFault>
+        ensures { Passes result self.new (token_of true (as_word text.now) any reason self.old) }
+    {
+        self.counted_word(text, true)
+    }
+
     /// Passes a word, where there is room for what it begins.
     pub fn counted_word(&mut self, text: &[u8], room: bool) -> Result<(), ReadFault>
-        ensures { Passes result self.new (token_of true (as_word text.now) (λ t. room) self.old) }
+        ensures { Passes result self.new (token_of true (as_word text.now) (λ t. room) reason self.old) }
     {
         let [first, rest @ ..] = self.rest else {
-            return Err(ReadFault::Unfit);
+            return Err(ReadFault::Unfit(Reason::Syntax));
         };
         if first.kind() != Kind::Word || first.text() != text {
-            return Err(ReadFault::Unfit);
+            return Err(ReadFault::Unfit(reason_at(first)));
         }
         if !room {
             return Err(ReadFault::PastLimit);
@@ -78,17 +99,39 @@ impl<'a, 'b> Cursor<'a, 'b> {
 
     /// Passes a mark.
     pub fn mark(&mut self, text: &[u8]) -> Result<(), ReadFault>
-        ensures { Passes result self.new (token_of true (as_mark text.now) any self.old) }
+        ensures { Passes result self.new (token_of true (as_mark text.now) any reason self.old) }
     {
         let [first, rest @ ..] = self.rest else {
-            return Err(ReadFault::Unfit);
+            return Err(ReadFault::Unfit(Reason::Syntax));
         };
         if first.kind() == Kind::Mark && first.text() == text {
             self.rest = rest;
             Ok(())
         } else {
-            Err(ReadFault::Unfit)
+            Err(ReadFault::Unfit(reason_at(first)))
         }
+    }
+
+    /// Passes the mark that opens a body, and tells its place.
+    pub fn brace(&mut self) -> Result<Place, ReadFault>
+        ensures { Reads (λ x. x) result self.new (one_of true brace self.old) }
+    {
+        let [first, rest @ ..] = self.rest else {
+            return Err(ReadFault::Unfit(Reason::Syntax));
+        };
+        if first.kind() == Kind::Mark && first.text() == b"{".as_slice() {
+            self.rest = rest;
+            Ok(first.place())
+        } else {
+            Err(ReadFault::Unfit(reason_at(first)))
+        }
+    }
+
+    /// Passes what stands inside a bracket that was opened, and the mark that closes it.
+    pub fn bracket(&mut self, bracket: Bracket) -> Result<(), ReadFault>
+        ensures { Passes result self.new (read true (balanced bracket) self.old) }
+    {
+        pass_bracket(self.alloc, bracket, &mut self.rest)
     }
 
     /// Passes a mark, if it stands next.
@@ -119,117 +162,131 @@ impl<'a, 'b> Cursor<'a, 'b> {
         false
     }
 
-    /// Reads what begins a line here, where there is room for it. A label does only where nothing
-    /// stands before it.
-    pub fn line_start(&mut self, is_first: bool, room: bool) -> Result<Option<LineStart>, ReadFault>
-        ensures { Reads (λ x. x) result self.new (begin_of true starts_line (λ t. line_start is_first t.kind t.text) (λ t. room) self.old) }
-    {
-        let [first, rest @ ..] = self.rest else {
-            return Ok(None);
-        };
-        if !starts_line(first) {
-            return Ok(None);
-        }
-        match line_at(self.alloc, first, is_first)? {
-            None => Ok(None),
-            Some(start) => {
-                if !room {
-                    return Err(ReadFault::PastLimit);
-                }
-                self.rest = rest;
-                Ok(Some(start))
-            }
-        }
-    }
-
-    /// Whether a function begins here.
-    pub fn begins_function(&self) -> bool
-        ensures { result ≡ first_is is_define self.now }
-    {
-        let [first, ..] = self.rest else {
-            return false;
-        };
-        first.kind() == Kind::Word && first.text() == b"define".as_slice()
-    }
-
     /// Reads a local name.
-    pub fn local(&mut self) -> Result<Name, ReadFault>
+    pub fn local(&mut self) -> Result<WrittenName, ReadFault>
         ensures { Reads (λ x. x) result self.new (one_of true local self.old) }
     {
         let [first, rest @ ..] = self.rest else {
-            return Err(ReadFault::Unfit);
+            return Err(ReadFault::Unfit(Reason::Syntax));
         };
         if first.kind() != Kind::Local {
-            return Err(ReadFault::Unfit);
+            return Err(ReadFault::Unfit(reason_at(first)));
         }
-        let local = name_behind_sign(self.alloc, first.text())?;
+        let name = name_behind_sign(self.alloc, first.text())?;
         self.rest = rest;
-        Ok(local)
+        let at = first.place();
+        Ok(WrittenName { name, at })
     }
 
     /// Reads a global name.
-    pub fn global(&mut self) -> Result<Name, ReadFault>
+    pub fn global(&mut self) -> Result<WrittenName, ReadFault>
         ensures { Reads (λ x. x) result self.new (one_of true global self.old) }
     {
         let [first, rest @ ..] = self.rest else {
-            return Err(ReadFault::Unfit);
+            return Err(ReadFault::Unfit(Reason::Syntax));
         };
         if first.kind() != Kind::Global {
-            return Err(ReadFault::Unfit);
+            return Err(ReadFault::Unfit(reason_at(first)));
         }
-        let global = name_behind_sign(self.alloc, first.text())?;
+        let name = name_behind_sign(self.alloc, first.text())?;
         self.rest = rest;
-        Ok(global)
+        let at = first.place();
+        Ok(WrittenName { name, at })
     }
 
     /// Reads an integer type.
-    pub fn int_type(&mut self) -> Result<Width, ReadFault>
+    pub fn int_type(&mut self) -> Result<WrittenType, ReadFault>
         ensures { Reads (λ x. x) result self.new (one_of true int_type self.old) }
     {
         self.counted_type(true)
     }
 
     /// Reads an integer type, where there is room for one more of what it is counted as.
-    pub fn counted_type(&mut self, room: bool) -> Result<Width, ReadFault>
+    pub fn counted_type(&mut self, room: bool) -> Result<WrittenType, ReadFault>
         ensures { Reads (λ x. x) result self.new (one_of true (counted_type room) self.old) }
     {
         let [first, rest @ ..] = self.rest else {
-            return Err(ReadFault::Unfit);
+            return Err(ReadFault::Unfit(Reason::Syntax));
         };
         match width_in(first) {
-            None => Err(ReadFault::Unfit),
+            None => Err(ReadFault::Unfit(type_reason_at(first))),
             Some(None) => Err(ReadFault::PastLimit),
             Some(Some(width)) => {
                 if !room {
                     return Err(ReadFault::PastLimit);
                 }
                 self.rest = rest;
-                Ok(width)
+                let at = first.place();
+                Ok(WrittenType { width, at })
             }
         }
     }
 
-    /// Reads an operand of a type.
-    pub fn operand(&mut self, width: Width) -> Result<WrittenOperand, ReadFault>
-        ensures { Reads (λ x. x) result self.new (one_of true (operand_class width) self.old) }
+    /// Passes the type of one bit, and tells its place.
+    pub fn bit_type(&mut self) -> Result<Place, ReadFault>
+        ensures { Reads (λ x. x) result self.new (one_of true bit_type self.old) }
     {
         let [first, rest @ ..] = self.rest else {
-            return Err(ReadFault::Unfit);
+            return Err(ReadFault::Unfit(Reason::Syntax));
         };
-        let operand = match (first.kind(), first.text()) {
-            (Kind::Local, text) => WrittenOperand::Local(name_behind_sign(self.alloc, text)?),
+        match width_in(first) {
+            None => Err(ReadFault::Unfit(type_reason_at(first))),
+            Some(None) => Err(ReadFault::Unfit(Reason::Limit)),
+            Some(Some(width)) => {
+                if width.bits() != 1 {
+                    return Err(ReadFault::Unfit(type_reason_at(first)));
+                }
+                self.rest = rest;
+                Ok(first.place())
+            }
+        }
+    }
+
+    /// Reads `void` or an integer type.
+    pub fn return_type(&mut self) -> Result<WrittenReturnType, ReadFault>
+        ensures { Reads (λ x. x) result self.new (one_of true return_type self.old) }
+    {
+        let [first, rest @ ..] = self.rest else {
+            return Err(ReadFault::Unfit(Reason::Syntax));
+        };
+        let at = first.place();
+        if is_void(first) {
+            self.rest = rest;
+            return Ok(WrittenReturnType { width: None, at });
+        }
+        match width_in(first) {
+            None => Err(ReadFault::Unfit(type_reason_at(first))),
+            Some(None) => Err(ReadFault::PastLimit),
+            Some(Some(width)) => {
+                self.rest = rest;
+                let width = Some(width);
+                Ok(WrittenReturnType { width, at })
+            }
+        }
+    }
+
+    /// Reads an operand of a type, `undef` only where it may stand.
+    pub fn operand(&mut self, undef_too: bool, width: Width) -> Result<WrittenOperand, ReadFault>
+        ensures { Reads (λ x. x) result self.new (one_of true (operand_class undef_too width) self.old) }
+    {
+        let [first, rest @ ..] = self.rest else {
+            return Err(ReadFault::Unfit(Reason::Syntax));
+        };
+        let value = match (first.kind(), first.text()) {
+            (Kind::Local, text) => WrittenValue::Local(name_behind_sign(self.alloc, text)?),
             (Kind::Number, text) => match literal(width, text) {
-                Some(value) => WrittenOperand::Literal(value),
+                Some(value) => WrittenValue::Literal(value),
                 None => return Err(ReadFault::PastLimit),
             },
-            (Kind::Word, text) => match word_operand(width, text) {
-                Some(operand) => operand,
-                None => return Err(ReadFault::Unfit),
+            (Kind::Word, text) => match word_value(undef_too, width, text) {
+                Some(value) => value,
+                None => return Err(ReadFault::Unfit(reason_at(first))),
             },
-            _ => return Err(ReadFault::Unfit),
+            _ => return Err(ReadFault::Unfit(reason_at(first))),
         };
         self.rest = rest;
-        Ok(operand)
+        let at = first.place();
+        Ok(WrittenOperand { value, at })
     }
 
     /// Reads the word that names an instruction.
@@ -237,10 +294,10 @@ impl<'a, 'b> Cursor<'a, 'b> {
         ensures { Reads (λ x. x) result self.new (one_of true opcode_class self.old) }
     {
         let [first, rest @ ..] = self.rest else {
-            return Err(ReadFault::Unfit);
+            return Err(ReadFault::Unfit(Reason::Syntax));
         };
         let Some(opcode) = opcode_of(first) else {
-            return Err(ReadFault::Unfit);
+            return Err(ReadFault::Unfit(reason_at(first)));
         };
         self.rest = rest;
         Ok(opcode)
@@ -251,48 +308,37 @@ impl<'a, 'b> Cursor<'a, 'b> {
         ensures { Reads (λ x. x) result self.new (one_of true predicate_class self.old) }
     {
         let [first, rest @ ..] = self.rest else {
-            return Err(ReadFault::Unfit);
+            return Err(ReadFault::Unfit(Reason::Syntax));
         };
         let Some(predicate) = predicate_of(first) else {
-            return Err(ReadFault::Unfit);
+            return Err(ReadFault::Unfit(reason_at(first)));
         };
         self.rest = rest;
         Ok(predicate)
     }
 }
 
-// What a word stands for as an operand of a type: a truth value of one bit, or poison.
-fn word_operand(width: Width, text: &[u8]) -> Option<WrittenOperand>
-    ensures { result ≡ word_operand width.bits text.now }
+// What a word stands for as an operand of a type: a truth value of one bit, poison, or undef.
+fn word_value(undef_too: bool, width: Width, text: &[u8]) -> Option<WrittenValue>
+    ensures { result ≡ word_value undef_too width.bits text.now }
 {
     if text == b"poison".as_slice() {
-        Some(WrittenOperand::Poison)
+        Some(WrittenValue::Poison)
     } else if width.bits() == 1 && text == b"true".as_slice() {
-        Some(WrittenOperand::Literal(1))
+        Some(WrittenValue::Literal(1))
     } else if width.bits() == 1 && text == b"false".as_slice() {
-        Some(WrittenOperand::Literal(0))
+        Some(WrittenValue::Literal(0))
+    } else if undef_too && text == b"undef".as_slice() {
+        Some(WrittenValue::Undef)
     } else {
         None
     }
 }
 
-fn starts_line(token: &Token) -> bool
-    ensures { result ≡ starts_line token.now }
+fn is_void(token: &Token) -> bool
+    ensures { result ≡ is_void token.now }
 {
-    matches!(token.kind(), Kind::Local | Kind::Label)
-}
-
-// What a token begins a line with.
-fn line_at(alloc: Global, token: &Token, is_first: bool) -> Result<Option<LineStart>, ReadFault>
-    ensures { Reads (λ x. x) result [] (reads (line_start is_first token.now.kind token.now.text) []) }
-{
-    match (token.kind(), token.text()) {
-        (Kind::Local, text) => Ok(Some(LineStart::Inst(name_behind_sign(alloc, text)?))),
-        (Kind::Label, text) if is_first => {
-            Ok(Some(LineStart::Label(name_before_colon(alloc, text)?)))
-        }
-        _ => Ok(None),
-    }
+    token.kind() == Kind::Word && token.text() == b"void".as_slice()
 }
 
 // The width of the type that a word spells: nothing where it spells none, nothing inside where there

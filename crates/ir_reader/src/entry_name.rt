@@ -1,10 +1,10 @@
-// The name of an entry block that has no label.
+// The name of what is written without one.
 ghost use Rattle.std.specs.Prelude.{◌≡◌, ◌∷◌, [], IfOk};
 ghost use Rattle.ir_tree.specs.declared.name.Name.TheVariants.{Number};
-ghost use Rattle.ir_reader.specs.EntryName.{is_greater, is_above, greatest, carried, one_more, entry_name};
-ghost use Rattle.ir_reader.specs.Numbering.{parameter_names};
+ghost use Rattle.ir_reader.specs.EntryName.{is_greater, is_above, greatest, carried, one_more, next_name};
+ghost use Rattle.ir_reader.specs.Numbering.{names_of};
 
-use crate::written::WrittenParameter;
+use crate::numbering::NamedParameter;
 use ir_tree::Name;
 use std::alloc::Global;
 use support::{NoMemory, Sequence};
@@ -47,8 +47,8 @@ fn greater<'a>(most: &'a [u8], name: &'a Name) -> &'a [u8]
     if is_above(digits, most) { digits } else { most }
 }
 
-fn greatest(parameters: &[WrittenParameter]) -> &[u8]
-    ensures { result.now ≡ greatest [] (parameter_names parameters.now) }
+fn greatest(parameters: &[NamedParameter]) -> &[u8]
+    ensures { result.now ≡ greatest [] (names_of parameters.now) }
 {
     let mut most = b"".as_slice();
     for parameter in parameters {
@@ -90,11 +90,11 @@ fn one_more(alloc: Global, digits: &[u8]) -> Result<Vec<u8>, NoMemory>
     Ok(more)
 }
 
-/// The name of the entry of a function with these parameters: one more than the greatest number
-/// among their names, or 0.
-pub fn entry_name(alloc: Global, parameters: &Sequence<WrittenParameter>) -> Result<Name, NoMemory>
-    ensures { IfOk result (λ name. name ≡ entry_name (parameter_names parameters.now)) }
+/// The name of what stands unnamed behind these parameters, another one or the entry: one more than
+/// the greatest number among their names, or 0.
+pub fn next_name(alloc: Global, parameters: &[NamedParameter]) -> Result<Name, NoMemory>
+    ensures { IfOk result (λ name. name ≡ next_name (names_of parameters.now)) }
 {
-    let digits = one_more(alloc, greatest(parameters.as_slice()))?;
+    let digits = one_more(alloc, greatest(parameters))?;
     Ok(Name::Number(Sequence::from_vec(digits)))
 }

@@ -1,13 +1,18 @@
 ghost use Rattle.std.specs.Prelude.{◌≡◌};
 ghost use Rattle.ir_reader.specs.declared.fault.ModuleFault.TheVariants.{NoMemory};
 
+use ir_items::Why;
 use std::alloc::{AllocError, AllocFailed};
+use text_places::Place;
 
 /// Why a text gives no module.
 #[derive(Clone, Copy, Debug, PartialEq, Eq)]
 pub enum ModuleFault {
-    /// The text isn't a list of straight-line functions that are well formed and within the limits.
-    NotRead,
+    /// No token begins at this place.
+    NoToken(Place),
+    /// The tokens stop being items one after another at this place: at a token, or behind the last
+    /// byte of the text.
+    Item { why: Why, place: Place },
     /// There was no memory for the module.
     NoMemory,
 }

@@ -1,80 +1,119 @@
-ghost use Rattle.std.specs.Prelude.{◌≡◌, ℕ, List, IfOk, true};
-ghost use Rattle.std.specs.List.{AllByRecursion};
-ghost use Rattle.ir_tree.specs.declared.module.Module.{Module};
-ghost use Rattle.ir_reader.specs.StraightLine.{IsStraightLine, IsJudgeableEntry};
-ghost use Rattle.ir_reader.specs.Answer.{Gives, Answers};
-ghost use Rattle.ir_reader.specs.Checking.{module_in, tokens_found, whole};
-ghost use Rattle.ir_reader.specs.Grammar.{functions};
+// Reading a text.
+ghost use Rattle.std.specs.Prelude.{◌≡◌, length, map, slice_get, Ok, IfOk, IfErr};
+ghost use Rattle.std.specs.List.{AllByRecursion, IsDistinct};
+ghost use Rattle.text_places.specs.Place.{place_at};
 ghost use Rattle.ir_lexer.specs.Tokens.{lexed};
-ghost use Rattle.ir_forms.specs.Form.{read};
+ghost use Rattle.ir_items.specs.Items.{IsCut};
+ghost use Rattle.ir_reader.specs.Answer.{IsWithin, AreWithin};
+ghost use Rattle.ir_reader.specs.Functions.{IsFunction};
+ghost use Rattle.ir_reader.specs.Module as spec;
+ghost use Rattle.ir_reader.specs.Module.{IsModule, IsFault, IsEntry, AreEntries};
+ghost use Rattle.ir_reader.specs.Judgeable.{IsJudgeableEntry};
+ghost use Rattle.ir_tree.specs.Names.{same_name};
 
-use crate::cursor::Cursor;
-use crate::entries::entries;
 use crate::fault::ModuleFault;
-use crate::written::WrittenFunction;
-use ir_forms::ReadFault;
+use crate::functions::function;
+use ir_items::{Define, ItemFault, cut};
 use ir_lexer::{LexFault, Token, lex};
-use ir_tree::{Module, Names};
+use ir_tree::{CheckFault, Entry, Function, Module, Refused};
 use std::alloc::Global;
-use support::Sequence;
+use support::{NoMemory, Sequence};
+use text_places::Place;
 
-/// The module that a text of straight-line functions is (LLVM Language Reference, "Functions",
-/// "Identifiers").
+/// The module that a text is (LLVM Language Reference, "Module Structure", "Functions",
+/// "Identifiers"): an entry for each function with a body, in text order, with the function, or the
+/// reason and the place at which it is refused.
 ///
-/// Such a text spells functions of different names, at most 4,096, and nothing else: `define`,
-/// `void` or an integer type of 1 to 64 bits, a global name, parameters of integer types with local
-/// names, at most 16, and in braces one block: a label or none, instructions, and then one `ret`, at
-/// most 65,536 together. The instructions are `add`, `sub`, `and`, `or`, `xor` without flags, `icmp`
-/// without flags, and `freeze`. Operands are local names, integer literals of their type, `true` and
-/// `false` for `i1`, and `poison`; in `freeze` and `ret` also `undef`. Each name is defined once,
-/// before its uses and of the type that is written there; labels and values share one space of
-/// names. `ret` has the header's type. `NotRead` comes exactly at every other text.
+/// # Errors
+/// `NoToken` at the first place where no token begins. Where the text is tokens, `Item` at the first
+/// token at which they stop being items, or at the end of the text, directly behind its last byte.
 pub fn read(alloc: Global, text: &[u8]) -> Result<Module, ModuleFault>
-    ensures found { IfOk result (λ m. IsStraightLine text.now m) }
-    ensures only { (m : Module) → IsStraightLine text.now m → Gives result m }
+    ensures module { IfOk result (λ m. IsModule text.now m) }
+    ensures fault { IfErr result (IsFault text.now) }
     ensures judgeable { IfOk result (λ m. AllByRecursion IsJudgeableEntry m.entries) }
-{
-    module(alloc, text)
-}
-
-#[tactic(auto, unfolding(crate::specs::Checking::module_in))]
-fn module(alloc: Global, text: &[u8]) -> Result<Module, ModuleFault>
-    ensures { Answers result (module_in text.now) }
+    ensures different { IfOk result (λ m. IsDistinct same_name (map (λ e. e.name) m.entries)) }
 {
     let tokens = tokens(alloc, text)?;
-    let written = written(alloc, tokens.as_slice())?;
-    let mut seen = Names::new(alloc);
-    let entries = entries(alloc, &mut seen, written)?;
+    let defines = defines(alloc, text, tokens.as_slice())?;
+    let entries = entries(alloc, tokens.as_slice(), defines)?;
     Ok(Module { entries })
 }
 
 fn tokens<'a>(alloc: Global, text: &'a [u8]) -> Result<Sequence<Token<'a>>, ModuleFault>
-    ensures { Answers result (tokens_found (lexed text.now)) }
+    ensures tokens { IfOk result (λ tokens. lexed text.now ≡ Ok tokens) }
+    ensures fault { IfErr result (IsFault text.now) }
 {
     match lex(alloc, text) {
         Ok(tokens) => Ok(tokens),
-        Err(LexFault::NoToken { .. }) => Err(ModuleFault::NotRead),
+        Err(LexFault::NoToken { at: _, place }) => Err(ModuleFault::NoToken(place)),
         Err(LexFault::NoMemory) => Err(ModuleFault::NoMemory),
     }
 }
 
-// The functions that all the tokens spell.
-fn written(alloc: Global, tokens: &[Token]) -> Result<Sequence<WrittenFunction>, ModuleFault>
-    ensures { Answers result (whole (read true functions tokens.now)) }
+// The end of a text, directly behind its last byte.
+fn end_of(text: &[u8]) -> Place
+    ensures { result ≡ place_at text.now (length text.now) }
 {
-    let mut cursor = Cursor::new(alloc, tokens);
-    match cursor.functions() {
-        Ok(functions) => match cursor.left() {
-            [] => Ok(functions),
-            [_, ..] => Err(ModuleFault::NotRead),
-        },
-        Err(ReadFault::Unfit) => Err(ModuleFault::NotRead),
-        Err(ReadFault::PastLimit) => Err(ModuleFault::NotRead),
-        Err(ReadFault::NoMemory) => Err(ModuleFault::NoMemory),
+    Place::start().behind(text)
+}
+
+// Where a token stands; behind the last one the end of the text.
+fn place_or_end(text: &[u8], tokens: &[Token], at: usize) -> Place
+    ensures { result ≡ spec.place_or_end text.now (slice_get tokens.now at) }
+{
+    match tokens.get(at) {
+        Some(token) => token.place(),
+        None => end_of(text),
     }
 }
 
-/// A text is one module alone.
-pub fn is_one_module()
-    ensures { (text : List ℕ) (m n : Module) → IsStraightLine text m → IsStraightLine text n → m ≡ n }
-{}
+fn defines(alloc: Global, text: &[u8], tokens: &[Token]) -> Result<Sequence<Define>, ModuleFault>
+    requires { lexed text.now ≡ Ok tokens.now }
+    ensures cut { IfOk result (λ defines. IsCut tokens.now (length tokens.now) defines) }
+    ensures within { IfOk result (λ defines. AreWithin tokens.now defines) }
+    ensures fault { IfErr result (IsFault text.now) }
+{
+    match cut(alloc, tokens) {
+        Ok(defines) => Ok(defines),
+        Err(ItemFault::Stop { at, why }) => {
+            let place = place_or_end(text, tokens, at);
+            Err(ModuleFault::Item { why, place })
+        }
+        Err(ItemFault::NoMemory) => Err(ModuleFault::NoMemory),
+    }
+}
+
+// What the tokens of a define are.
+fn answer(alloc: Global, tokens: &[Token]) -> Result<Result<Function, Refused>, NoMemory>
+    ensures { IfOk result (IsFunction tokens.now) }
+{
+    match function(alloc, tokens) {
+        Ok(function) => Ok(Ok(function)),
+        Err(CheckFault::Refused(refused)) => Ok(Err(refused)),
+        Err(CheckFault::NoMemory) => Err(NoMemory),
+    }
+}
+
+fn entry(alloc: Global, tokens: &[Token], define: Define) -> Result<Entry, NoMemory>
+    requires { IsWithin tokens.now define }
+    ensures { IfOk result (IsEntry tokens.now define) }
+{
+    let Define { name, first, last } = define;
+    let function = answer(alloc, &tokens[first..last + 1])?;
+    Ok(Entry { name, function })
+}
+
+fn entries(
+    alloc: Global,
+    tokens: &[Token],
+    defines: Sequence<Define>,
+) -> Result<Sequence<Entry>, NoMemory>
+    requires { AreWithin tokens.now defines }
+    ensures { IfOk result (AreEntries tokens.now defines) }
+{
+    let mut entries = Vec::new(alloc);
+    for define in defines.into_vec() {
+        entries.push(entry(alloc, tokens, define)?)?;
+    }
+    Ok(Sequence::from_vec(entries))
+}

@@ -1,0 +1,64 @@
+-- The entries of a module have different names.
+use Rattle.std.proofs.Common.{◌≡◌, ℕ, ◌+◌, ◌-◌, Bool, true, false, List, [], ◌∷◌, ◌++◌, map, refl, sym, ap, subst, ◌∙◌}
+use Rattle.std.specs.Prelude.{◌||◌}
+use Rattle.std.specs.List.{list_any, AllByRecursion, IsDistinct}
+use Rattle.std.proofs.lemmas.Slice.Eq.{bytes_eq-Decides}
+use Rattle.ir_lexer.specs.Lexeme.{Lexeme}
+use Rattle.ir_items.specs.declared.item.Define.{Define}
+use Rattle.ir_items.specs.Items.{IsCut, nothing, other, define, has_name}
+use Rattle.ir_tree.specs.Names.{same_name}
+use Rattle.ir_tree.specs.declared.name.Name.{Name}
+use Rattle.ir_tree.specs.declared.name.Name.TheVariants.{Number, Word}
+use Rattle.ir_tree.specs.declared.module.Entry.{Entry}
+use Rattle.ir_reader.specs.Module.{IsEntry, AreEntries}
+
+bytes-same : (xs ys : List ℕ) (b : Bool) → (b ≡ true → xs ≡ ys) × (xs ≡ ys → b ≡ true) → (c : Bool) → (c ≡ true → ys ≡ xs) × (ys ≡ xs → c ≡ true) → b ≡ c
+bytes-same xs ys true d true e = refl
+bytes-same xs ys false d false e = refl
+bytes-same xs ys true d false e = sym (e.1 (sym (d.0 refl)))
+bytes-same xs ys false d true e = d.1 (sym (e.0 refl))
+
+name-same : (x y : Name) → same_name x y ≡ same_name y x
+name-same (Number a) (Number b) = bytes-same a b _ (bytes_eq-Decides a b) _ (bytes_eq-Decides b a)
+name-same (Word a) (Word b) = bytes-same a b _ (bytes_eq-Decides a b) _ (bytes_eq-Decides b a)
+name-same (Number a) (Word b) = refl
+name-same (Word a) (Number b) = refl
+
+or-false : (a b : Bool) → (a || b) ≡ false → (a ≡ false) × (b ≡ false)
+or-false false false e = (refl, refl)
+or-false false true e = absurd (cc e)
+or-false true b e = absurd (cc e)
+
+others-push : (x name : Name) (names : List Name) → AllByRecursion (λ y. same_name x y ≡ false) names → same_name x name ≡ false → AllByRecursion (λ y. same_name x y ≡ false) (names ++ name ∷ [])
+others-push x name [] A e = (e, tt)
+others-push x name (y ∷ ys) (a, as_all) e = (a, others-push x name ys as_all e)
+
+distinct-push : (names : List Name) (name : Name) → IsDistinct same_name names → list_any (same_name name) names ≡ false → IsDistinct same_name (names ++ name ∷ [])
+unfolding IsDistinct
+distinct-push [] name D e = (tt, tt)
+distinct-push (x ∷ xs) name (A, D) e =
+    let both = or-false (same_name name x) (list_any (same_name name) xs) e in
+    (others-push x name xs A (name-same x name ∙ both.0), distinct-push xs name D both.1)
+
+abbrev names_of : List Define → List Name
+names_of defines = map (λ (d : Define). d.name) defines
+
+names-push : (defines : List Define) (d : Define) → names_of (defines ++ d ∷ []) ≡ names_of defines ++ d.name ∷ []
+names-push [] d = refl
+names-push (x ∷ xs) d = ap (λ (ns : List Name). x.name ∷ ns) (names-push xs d)
+
+cut-distinct : (tokens : List Lexeme) (end : ℕ) (defines : List Define) → IsCut tokens end defines → IsDistinct same_name (names_of defines)
+unfolding IsDistinct
+cut-distinct tokens _ _ nothing = tt
+cut-distinct tokens _ defines (other {first} cut item) = cut-distinct tokens first defines cut
+cut-distinct tokens _ _ (define {first} {place} {end} {name} {defines} cut item named fresh few) =
+    subst (λ (ns : List Name). IsDistinct same_name ns) (sym (names-push defines (record { name = name; first = first; last = end - 1 }))) (distinct-push (names_of defines) name (cut-distinct tokens first defines cut) fresh)
+
+entry-names : (tokens : List Lexeme) (defines : List Define) (entries : List Entry) → AreEntries tokens defines entries → names_of defines ≡ map (λ (e : Entry). e.name) entries
+entry-names tokens [] [] E = refl
+entry-names tokens [] (x ∷ xs) E = absurd E
+entry-names tokens (d ∷ ds) [] E = absurd E
+entry-names tokens (d ∷ ds) (x ∷ xs) (E, Es) = ap (λ (n : Name). n ∷ names_of ds) (sym E.name) ∙ ap (λ (ns : List Name). x.name ∷ ns) (entry-names tokens ds xs Es)
+
+pub different : (tokens : List Lexeme) (end : ℕ) (defines : List Define) (entries : List Entry) → IsCut tokens end defines → AreEntries tokens defines entries → IsDistinct same_name (map (λ (e : Entry). e.name) entries)
+different tokens end defines entries C E = subst (λ (ns : List Name). IsDistinct same_name ns) (entry-names tokens defines entries E) (cut-distinct tokens end defines C)

@@ -1,0 +1,16 @@
+use Rattle.std.proofs.Common.{◌≡◌, [], ap, sym, ◌∙◌, length, arith}
+use Rattle.std.proofs.lemmas.List.{take_all}
+use Rattle.text_places.specs.declared.place.Place.{Place}
+use Rattle.text_places.specs.Place.{place_behind, place_at}
+use Rattle.ir_reader.proofs.reading.end_of.Goals as goal
+
+pub behind-requires-clause-line : goal.behind-requires-clause-line
+unfolding place_behind
+behind-requires-clause-line c = let e : c.start.result.line ≡ 1 = ap (λ (p : Place). p.line) c.start.ensures in omega arith
+
+pub behind-requires-clause-column : goal.behind-requires-clause-column
+unfolding place_behind
+behind-requires-clause-column c = let e : c.start.result.column ≡ 1 = ap (λ (p : Place). p.column) c.start.ensures in omega arith
+
+pub returns : goal.returns
+returns c = c.behind.ensures [] c.start.ensures ∙ sym (ap place_behind (take_all (length c.args.text.now) c.args.text.now (omega arith)))

@@ -1,0 +1,39 @@
+-- Where the types, names, literals and labels of a function stand, in text order.
+use Rattle.std.specs.Prelude.{List, [], ◌∷◌, ◌++◌, flat_map, Option, Some, None}
+use Rattle.text_places.specs.declared.place.Place.{Place}
+use Rattle.ir_reader.specs.declared.written.WrittenName.{WrittenName}
+use Rattle.ir_reader.specs.declared.written.WrittenTyped.{WrittenTyped}
+use Rattle.ir_reader.specs.declared.written.WrittenParameter.{WrittenParameter}
+use Rattle.ir_reader.specs.declared.written.WrittenInst.{WrittenInst}
+use Rattle.ir_reader.specs.declared.written.WrittenInst.TheVariants as line
+use Rattle.ir_reader.specs.declared.written.WrittenReturn.{WrittenReturn}
+use Rattle.ir_reader.specs.declared.written.WrittenReturn.TheVariants.{Void, Value}
+use Rattle.ir_reader.specs.declared.written.WrittenFunction.{WrittenFunction}
+
+-- where a name stands, and where it would if it isn't written
+abbrev pub place_or : Option WrittenName → Place → Place
+place_or None other = other
+place_or (Some name) other = name.at
+
+abbrev pub typed_places : WrittenTyped → List Place
+typed_places t = t.of_type.at ∷ t.operand.at ∷ []
+
+-- the result, and then types and operands as they are written
+abbrev pub inst_places : WrittenInst → List Place
+inst_places (line.Binary into op type left right) = into.at ∷ type.at ∷ left.at ∷ right.at ∷ []
+inst_places (line.Icmp into predicate same_sign type left right) = into.at ∷ type.at ∷ left.at ∷ right.at ∷ []
+inst_places (line.Cast into cast from value to) = into.at ∷ from.at ∷ value.at ∷ to.at ∷ []
+inst_places (line.Select into bit condition if_true if_false) = into.at ∷ bit ∷ condition.at ∷ (typed_places if_true ++ typed_places if_false)
+inst_places (line.Freeze into value) = into.at ∷ typed_places value
+
+abbrev pub returned_places : WrittenReturn → List Place
+returned_places (Void at) = at ∷ []
+returned_places (Value typed) = typed_places typed
+
+-- a name that isn't written stands at the type
+abbrev pub parameter_places : WrittenParameter → List Place
+parameter_places p = p.of_type.at ∷ place_or p.name p.of_type.at ∷ []
+
+-- the return type, the function's name, its parameters, its label, which stands at the opening mark where none is written, its instructions
+unfoldable pub places_of : WrittenFunction → List Place
+places_of w = w.returns.at ∷ w.name.at ∷ (flat_map parameter_places w.parameters ++ (place_or w.label w.brace ∷ (flat_map inst_places w.insts ++ returned_places w.returned)))

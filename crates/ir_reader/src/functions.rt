@@ -1,0 +1,97 @@
+// Reading the tokens of one define.
+ghost use Rattle.std.specs.Prelude.{◌≡◌};
+ghost use Rattle.ir_tree.specs.Sites.{AreNumbered, no_place};
+ghost use Rattle.ir_reader.specs.Functions as spec;
+ghost use Rattle.ir_reader.specs.Functions.{Answers};
+ghost use Rattle.ir_reader.specs.Answer.{Writes, Tests, fault_at};
+
+use crate::cursor::Cursor;
+use crate::numbering::numbered;
+use crate::reasons::reason_at;
+use crate::written::WrittenFunction;
+use assigned_names::check_assigned;
+use ir_check::{check_names, check_types};
+use ir_forms::ReadFault;
+use ir_lexer::Token;
+use ir_tree::{CheckFault, Function, Reason, Refused};
+use std::alloc::Global;
+use text_places::Place;
+
+fn refused_at(reason: Reason, place: Place) -> Refused
+    ensures { result ≡ spec.refused_at reason place }
+{
+    Refused {
+        reason,
+        line: place.line,
+        column: place.column,
+    }
+}
+
+// The place of the last of these tokens.
+fn last_place(tokens: &[Token]) -> Place
+    ensures { result ≡ spec.last_place no_place tokens.now }
+{
+    let mut place = Place { line: 0, column: 0 };
+    for token in tokens {
+        place = token.place();
+    }
+    place
+}
+
+// Where the first token that is left stands; where none is left, the last of all tokens.
+fn stop_place(tokens: &[Token], rest: &[Token]) -> Place
+    ensures { result ≡ spec.stop_place tokens.now rest.now }
+{
+    match rest {
+        [] => last_place(tokens),
+        [first, ..] => first.place(),
+    }
+}
+
+// The fault of a stop before these tokens.
+fn fault_at(fault: ReadFault, tokens: &[Token], rest: &[Token]) -> CheckFault
+    ensures { result ≡ fault_at fault tokens.now rest.now }
+{
+    let reason = match fault {
+        ReadFault::Unfit(reason) => reason,
+        ReadFault::PastLimit => Reason::Limit,
+        ReadFault::NoMemory => return CheckFault::NoMemory,
+    };
+    CheckFault::Refused(refused_at(reason, stop_place(tokens, rest)))
+}
+
+// The function as the tokens write it.
+fn written(alloc: Global, tokens: &[Token]) -> Result<WrittenFunction, CheckFault>
+    ensures { Writes tokens.now result }
+{
+    let mut cursor = Cursor::new(alloc, tokens);
+    match cursor.define() {
+        Ok(function) => match cursor.left() {
+            [] => Ok(function),
+            [first, ..] => Err(fault_at(ReadFault::Unfit(reason_at(first)), tokens, cursor.left())),
+        },
+        Err(fault) => Err(fault_at(fault, tokens, cursor.left())),
+    }
+}
+
+// Whether the names and types of a function are right.
+fn test(alloc: Global, f: &Function) -> Result<(), CheckFault>
+    requires { AreNumbered f.now }
+    ensures { Tests f.now result }
+{
+    check_names(alloc, f)?;
+    check_types(alloc, f)?;
+    check_assigned(alloc, f)?;
+    Ok(())
+}
+
+/// The function that the tokens of a define are, its word first, or why it is refused and where
+/// (LLVM Language Reference, "Functions", "Well-Formedness").
+pub fn function(alloc: Global, tokens: &[Token]) -> Result<Function, CheckFault>
+    ensures { Answers tokens.now result }
+{
+    let written = written(alloc, tokens)?;
+    let function = numbered(alloc, written)?;
+    test(alloc, &function)?;
+    Ok(function)
+}

@@ -1,0 +1,21 @@
+ghost use Rattle.ir_reader.specs.Laws.{OneFunction, OneModule, ModuleOrFault, OneFault, APlaceForEachSite, EachNameIsNumbered};
+
+/// A text is one module alone, or has one fault. It does nothing.
+pub fn is_one_module()
+    ensures modules { OneModule }
+    ensures apart { ModuleOrFault }
+    ensures faults { OneFault }
+{}
+
+/// The tokens of a define are one function, or are refused for one reason at one place. It does
+/// nothing.
+pub fn is_one_function()
+    ensures { OneFunction }
+{}
+
+/// A function that was read has a place for each of its sites, and its names stand in its table. It
+/// does nothing.
+pub fn has_all_places()
+    ensures places { APlaceForEachSite }
+    ensures names { EachNameIsNumbered }
+{}
