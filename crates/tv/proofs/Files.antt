@@ -1,26 +1,21 @@
--- The modules of files.
-use Rattle.std.proofs.Common.{◌≡◌, List, [], ◌∷◌, ℕ, map, Option, Some, refl, sym, ap, subst, ◌∙◌}
-use Rattle.std.specs.List.{IsDistinct}
-use Rattle.ir_tree.specs.declared.name.Name.{Name}
+-- The modules and the faults of files.
+use Rattle.std.proofs.Common.{◌≡◌, ◌⊎◌, ℕ, List, Option, Some, sym, subst, ◌∙◌}
 use Rattle.ir_tree.specs.declared.module.Module.{Module}
-use Rattle.ir_tree.specs.Names.{same_name}
-use Rattle.ir_reader.specs.declared.written.WrittenFunction.{WrittenFunction}
-use Rattle.ir_reader.specs.declared.fault.ModuleFault.TheVariants.{NotRead, NoMemory}
-use Rattle.ir_reader.specs.StraightLine.{IsStraightLine, entry_of, function_names}
-use Rattle.tv.specs.Searching.{entry_names}
+use Rattle.ir_reader.specs.declared.fault.ModuleFault.{ModuleFault}
+use Rattle.ir_reader.specs.declared.fault.ModuleFault.TheVariants.{NoMemory}
+use Rattle.ir_reader.specs.Module.{IsModule, IsFault}
 use Rattle.tv.specs.Reports.{HasModule}
+use Rattle.tv.specs.Stops.{HasFault}
 
-names_are : (ws : List WrittenFunction) → entry_names (map entry_of ws) ≡ function_names ws
-names_are [] = refl
-names_are (w ∷ ws) = ap (λ (ns : List Name). w.name ∷ ns) (names_are ws)
+-- what the reader's law says of texts
+abbrev pub OneModule : Type 0
+OneModule = (text : List ℕ) (m n : Module) → IsModule text m → IsModule text n → m ≡ n
 
--- the functions of a text have different names
-pub names_differ : (text : List ℕ) (m : Module) → IsStraightLine text m → IsDistinct same_name (entry_names m.entries)
-names_differ text m f =
-    subst (λ (ns : List Name). IsDistinct same_name ns) (sym (ap entry_names f.entries ∙ names_are f.written)) f.different
+abbrev pub ModuleOrFault : Type 0
+ModuleOrFault = (text : List ℕ) (m : Module) (fault : ModuleFault) → IsModule text m → IsFault text fault → fault ≡ NoMemory
 
-pub not_memory : NotRead ≡ NoMemory → ⊥
-not_memory e = cc e
+abbrev pub OneFault : Type 0
+OneFault = (text : List ℕ) (f g : ModuleFault) → IsFault text f → IsFault text g → (f ≡ g) ⊎ (f ≡ NoMemory) ⊎ (g ≡ NoMemory)
 
 some_text : (a b : List ℕ) → Some a ≡ Some b → a ≡ b
 some_text a b e = cc e
@@ -28,6 +23,12 @@ some_text a b e = cc e
 pub same_text : (file : Option (List ℕ)) (a b : List ℕ) → file ≡ Some a → file ≡ Some b → a ≡ b
 same_text file a b p q = some_text a b (sym p ∙ q)
 
--- a text of no module, in its file
-pub no_module : (file : Option (List ℕ)) (text : List ℕ) → file ≡ Some text → ((m : Module) → IsStraightLine text m → ⊥) → (m : Module) → HasModule file m → ⊥
-no_module file text there none m h = none m (subst (λ (t : List ℕ). IsStraightLine t m) (same_text file h.text text h.there there) h.formed)
+-- the same of files
+pub module_one : OneModule → (file : Option (List ℕ)) (m n : Module) → HasModule file m → HasModule file n → m ≡ n
+module_one one file m n x y = one y.text m n (subst (λ (t : List ℕ). IsModule t m) (same_text file x.text y.text x.there y.there) x.formed) y.formed
+
+pub module_or_fault : ModuleOrFault → (file : Option (List ℕ)) (m : Module) (f : ModuleFault) → HasModule file m → HasFault file f → f ≡ NoMemory
+module_or_fault apart file m f x y = apart y.text m f (subst (λ (t : List ℕ). IsModule t m) (same_text file x.text y.text x.there y.there) x.formed) y.faulty
+
+pub fault_one : OneFault → (file : Option (List ℕ)) (f g : ModuleFault) → HasFault file f → HasFault file g → (f ≡ g) ⊎ (f ≡ NoMemory) ⊎ (g ≡ NoMemory)
+fault_one one file f g x y = one y.text f g (subst (λ (t : List ℕ). IsFault t f) (same_text file x.text y.text x.there y.there) x.faulty) y.faulty

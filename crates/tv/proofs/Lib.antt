@@ -4,4 +4,5 @@ pub mod Files
 pub mod Stopping
 pub mod Causes
 pub mod OneReport
+pub mod OneFault
 mod Sending

@@ -1,20 +1,12 @@
 -- Two files have one report.
-use Rattle.std.proofs.Common.{◌≡◌, ℕ, List, Option, sym, ap, subst, ◌∙◌}
+use Rattle.std.proofs.Common.{◌≡◌, sym, ap, subst, ◌∙◌}
 use Rattle.ir_tree.specs.declared.module.Module.{Module}
-use Rattle.ir_reader.specs.StraightLine.{IsStraightLine}
 use Rattle.report.specs.Rows.{AreRows, RowsAreOne}
 use Rattle.report.specs.Text.{report_text}
 use Rattle.report.specs.Status.{status_of}
 use Rattle.tv_words.proofs.Ranges.{job_in_range}
-use Rattle.tv.specs.Reports.{HasModule}
 use Rattle.tv.specs.Laws.{ReportsAreOne}
-use Rattle.tv.proofs.Files.{same_text}
-
-abbrev pub OneModule : Type 0
-OneModule = (text : List ℕ) (m n : Module) → IsStraightLine text m → IsStraightLine text n → m ≡ n
-
-module_one : OneModule → (file : Option (List ℕ)) (m n : Module) → HasModule file m → HasModule file n → m ≡ n
-module_one one file m n x y = one y.text m n (subst (λ (t : List ℕ). IsStraightLine t m) (same_text file x.text y.text x.there y.there) x.formed) y.formed
+use Rattle.tv.proofs.Files.{OneModule, module_one}
 
 pub reports_are_one : OneModule → RowsAreOne → ReportsAreOne
 reports_are_one one rows files words job text other status other_status is x y =

@@ -1,5 +1,5 @@
 -- What is written at a stop, and that a stop has a cause.
-use Rattle.std.proofs.Common.{◌≡◌, ℕ, arith, List, length, Option, Some, Result, Ok, Err, refl, sym, ap, subst, ◌∙◌, inl, inr}
+use Rattle.std.proofs.Common.{◌≡◌, ◌≢◌, ℕ, arith, List, length, Option, Some, Result, Ok, Err, refl, sym, ap, subst, ◌∙◌, inl, inr}
 use Rattle.std.specs.Prelude.{OnOk, OnErr}
 use Rattle.tv_io.specs.Count.{Rose}
 use Rattle.tv_io.specs.Files.{Files}
@@ -13,6 +13,7 @@ use Rattle.tv_words.specs.Words.{Job}
 use Rattle.tv.specs.Reports.{HasModule}
 use Rattle.tv.specs.Stops.{Counts, IsLonger, HasCause, stop_status, WritesLine}
 use Rattle.tv.specs.Answers.{IsUndisturbed}
+use Rattle.tv.specs.Laws.{ModulesHaveNoFault}
 use Rattle.tv.proofs.Files.{same_text}
 
 pub from_write : (line : List ℕ) (old new : Option (List ℕ)) (before now : ℕ) (r : Result (Unit {0}) Failed) → OnOk r (new ≡ then_taken old line) → TookFront old new line → OnErr r (Rose before now) → WritesLine line old new before now
@@ -27,16 +28,21 @@ too_long file m long h =
 job_is : (a b : Job) → Some a ≡ Some b → a ≡ b
 job_is a b e = cc e
 
-undisturbed_at : (told : Option Files) (words : Option Job) (before now : Counts) (why : Stop) (sink_before sink_now : ℕ) (u : IsUndisturbed told words before.faults now.faults sink_before sink_now) → HasCause told u.job before now why → stop_status why ≡ 8
-undisturbed_at told words before now (stop.Source trouble.CannotRead) sink_before sink_now u cause = absurd (u.no_shelf_fault cause.0)
-undisturbed_at told words before now (stop.Source trouble.TooLong) sink_before sink_now u cause = absurd (too_long (u.files u.job.source) u.source (cause.0.1 u.files u.told_so) u.source_is)
-undisturbed_at told words before now (stop.Source trouble.NotRead) sink_before sink_now u cause = absurd ((cause.0 u.files u.told_so).none u.source u.source_is)
-undisturbed_at told words before now (stop.Target trouble.CannotRead) sink_before sink_now u cause = absurd (u.no_shelf_fault cause.0)
-undisturbed_at told words before now (stop.Target trouble.TooLong) sink_before sink_now u cause = absurd (too_long (u.files u.job.target) u.target (cause.0.1 u.files u.told_so) u.target_is)
-undisturbed_at told words before now (stop.Target trouble.NotRead) sink_before sink_now u cause = absurd ((cause.0 u.files u.told_so).none u.target u.target_is)
-undisturbed_at told words before now stop.NoMemory sink_before sink_now u cause = refl
+undisturbed_at : ModulesHaveNoFault → (told : Option Files) (words : Option Job) (before now : Counts) (why : Stop) (sink_before sink_now : ℕ) (u : IsUndisturbed told words before.faults now.faults sink_before sink_now) → HasCause told u.job before now why → stop_status why ≡ 8
+undisturbed_at none told words before now why sink_before sink_now u cause = go why cause (none u.files u.job before now why u.source u.target u.source_is u.target_is (subst (λ (files : Option Files). HasCause files u.job before now why) u.told_so cause))
+  where
+    go : (s : Stop) → HasCause told u.job before now s → stop_status s ≢ 9 → stop_status s ≡ 8
+    go (stop.Source trouble.CannotRead) c fault = absurd (u.no_shelf_fault c.0)
+    go (stop.Source trouble.TooLong) c fault = absurd (too_long (u.files u.job.source) u.source (c.0.1 u.files u.told_so) u.source_is)
+    go (stop.Source (trouble.NoToken place)) c fault = absurd (fault refl)
+    go (stop.Source (trouble.Item w place)) c fault = absurd (fault refl)
+    go (stop.Target trouble.CannotRead) c fault = absurd (u.no_shelf_fault c.0)
+    go (stop.Target trouble.TooLong) c fault = absurd (too_long (u.files u.job.target) u.target (c.0.1 u.files u.told_so) u.target_is)
+    go (stop.Target (trouble.NoToken place)) c fault = absurd (fault refl)
+    go (stop.Target (trouble.Item w place)) c fault = absurd (fault refl)
+    go stop.NoMemory c fault = refl
 
 -- an undisturbed job stops for want of memory alone
-pub undisturbed : (told : Option Files) (words : Option Job) (job : Job) (before now : Counts) (why : Stop) (sink_before sink_now : ℕ) → words ≡ Some job → HasCause told job before now why → IsUndisturbed told words before.faults now.faults sink_before sink_now → stop_status why ≡ 8
-undisturbed told words job before now why sink_before sink_now is cause u =
-    undisturbed_at told words before now why sink_before sink_now u (subst (λ (j : Job). HasCause told j before now why) (job_is job u.job (sym is ∙ u.job_is)) cause)
+pub undisturbed : ModulesHaveNoFault → (told : Option Files) (words : Option Job) (job : Job) (before now : Counts) (why : Stop) (sink_before sink_now : ℕ) → words ≡ Some job → HasCause told job before now why → IsUndisturbed told words before.faults now.faults sink_before sink_now → stop_status why ≡ 8
+undisturbed none told words job before now why sink_before sink_now is cause u =
+    undisturbed_at none told words before now why sink_before sink_now u (subst (λ (j : Job). HasCause told j before now why) (job_is job u.job (sym is ∙ u.job_is)) cause)

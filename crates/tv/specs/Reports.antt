@@ -3,7 +3,7 @@ use Rattle.std.specs.Prelude.{◌≡◌, ℕ, ◌≤◌, List, length, Option, S
 use Rattle.tv_io.specs.Files.{Files}
 use Rattle.tv_io.specs.Taken.{then_taken, TookFront}
 use Rattle.ir_tree.specs.declared.module.Module.{Module}
-use Rattle.ir_reader.specs.StraightLine.{IsStraightLine}
+use Rattle.ir_reader.specs.Module.{IsModule}
 use Rattle.points.specs.declared.point.Bounds.{Bounds}
 use Rattle.points.specs.declared.point.Budget.{Budget}
 use Rattle.report.specs.declared.row.Row.{Row}
@@ -22,12 +22,12 @@ pub record IsWithin (file : Option (List ℕ)) : Type 0 where
   pub there : file ≡ Some text
   pub within : length text ≤ text_limit
 
--- the module of a file that is there, within the limit, and spells straight-line functions
+-- the module of a file that is there, within the limit
 pub record HasModule (file : Option (List ℕ)) (m : Module) : Type 0 where
   pub text : List ℕ
   pub there : file ≡ Some text
   pub within : length text ≤ text_limit
-  pub formed : IsStraightLine text m
+  pub formed : IsModule text m
 
 -- the rows of two modules within bounds and a budget, as a text and as a status
 pub record IsReport (bounds : Bounds) (budget : Budget) (source target : Module) (text : List ℕ) (status : ℕ) : Type 0 where

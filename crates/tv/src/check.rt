@@ -1,9 +1,10 @@
-ghost use Rattle.std.specs.Prelude.{◌≡◌, ◌≤◌, Err, IfOk, IfErr};
+ghost use Rattle.std.specs.Prelude.{◌≡◌, ◌≤◌, IfOk, IfErr};
 ghost use Rattle.std.specs.List.{IsDistinct, AllByRecursion};
 ghost use Rattle.tv_io.specs.Files.{Files};
 ghost use Rattle.ir_tree.specs.Names.{same_name};
 ghost use Rattle.ir_tree.specs.declared.module.Module.{Module};
-ghost use Rattle.ir_reader.specs.StraightLine.{IsStraightLine, IsJudgeableEntry};
+ghost use Rattle.ir_reader.specs.Module.{IsModule};
+ghost use Rattle.ir_reader.specs.Judgeable.{IsJudgeableEntry};
 ghost use Rattle.points.specs.Range.{AreInRange};
 ghost use Rattle.tv_words.specs.Seen.{seen};
 ghost use Rattle.tv.specs.Searching.{entry_names};
@@ -13,9 +14,8 @@ ghost use Rattle.tv.specs.Answers.{IsUnread};
 
 use crate::gate::Gate;
 use crate::rows::{Limits, all_rows};
-use crate::stop::{Stop, Trouble};
-use crate::texts::load;
-use ir_reader::{ModuleFault, read};
+use crate::stop::Stop;
+use crate::texts::{load, module_of};
 use ir_tree::Module;
 use report::{status_of, text_of};
 use std::alloc::Global;
@@ -67,7 +67,7 @@ pub fn report_of<S: Shelf, G: Gate>(
     )
 }
 
-/// The report of two texts, or which of them is not read.
+/// The report of two texts, or the first of them that has no module.
 fn report_of_texts<G: Gate>(
     alloc: Global,
     limits: &Limits,
@@ -76,21 +76,18 @@ fn report_of_texts<G: Gate>(
     target: &[u8],
 ) -> Result<Report, Stop>
     requires { AreInRange limits.now.bounds limits.now.budget }
-    ensures told { IfOk result (λ r. (m : Module) × (n : Module) × IsStraightLine source.now m × IsStraightLine target.now n × IsReport limits.now.bounds limits.now.budget m n r.text.items r.status) }
-    ensures source { result ≡ Err (Stop.Source Trouble.NotRead) → (m : Module) → ¬ (IsStraightLine source.now m) }
-    ensures target { result ≡ Err (Stop.Target Trouble.NotRead) → (m : Module) → ¬ (IsStraightLine target.now m) }
-    ensures first { result ≡ Err (Stop.Target Trouble.NotRead) → (m : Module) × IsStraightLine source.now m }
-    ensures others { IfErr result IsUnread }
+    ensures told { IfOk result (λ r. (m : Module) × (n : Module) × IsModule source.now m × IsModule target.now n × IsReport limits.now.bounds limits.now.budget m n r.text.items r.status) }
+    ensures unread { IfErr result (IsUnread source.now target.now) }
 {
-    let m = match read(alloc, source) {
+    let m = match module_of(alloc, source) {
         Ok(m) => m,
-        Err(ModuleFault::NotRead) => return Err(Stop::Source(Trouble::NotRead)),
-        Err(ModuleFault::NoMemory) => return Err(Stop::NoMemory),
+        Err(Some(trouble)) => return Err(Stop::Source(trouble)),
+        Err(None) => return Err(Stop::NoMemory),
     };
-    let n = match read(alloc, target) {
+    let n = match module_of(alloc, target) {
         Ok(n) => n,
-        Err(ModuleFault::NotRead) => return Err(Stop::Target(Trouble::NotRead)),
-        Err(ModuleFault::NoMemory) => return Err(Stop::NoMemory),
+        Err(Some(trouble)) => return Err(Stop::Target(trouble)),
+        Err(None) => return Err(Stop::NoMemory),
     };
     match report_of_modules(alloc, limits, gate, &m, &n) {
         Ok(report) => Ok(report),

@@ -1,6 +1,6 @@
 ghost use Rattle.std.specs.Prelude.{◌≡◌, IfOk, IfSome};
 ghost use Rattle.std.specs.List.{IsDistinct, AllByRecursion};
-ghost use Rattle.ir_reader.specs.StraightLine.{IsJudgeableEntry};
+ghost use Rattle.ir_reader.specs.Judgeable.{IsJudgeableEntry};
 ghost use Rattle.ir_tree.specs.Names.{same_name};
 ghost use Rattle.report.specs.Rows.{function_named};
 ghost use Rattle.tv.specs.Searching.{entry_names, function_found};

@@ -1,4 +1,4 @@
-ghost use Rattle.tv.specs.Laws.{ReportsAreOne};
+ghost use Rattle.tv.specs.Laws.{ReportsAreOne, FaultsAreOne, ModulesHaveNoFault};
 
 use ir_reader::is_one_module;
 use report::rows_are_one;
@@ -9,4 +9,18 @@ pub fn reports_are_one()
 {
     is_one_module();
     rows_are_one();
+}
+
+/// Two files have one fault, as a text has one fault or a module.
+pub fn faults_are_one()
+    ensures { FaultsAreOne }
+{
+    is_one_module();
+}
+
+/// Two files that have modules have no fault.
+pub fn modules_have_no_fault()
+    ensures { ModulesHaveNoFault }
+{
+    is_one_module();
 }

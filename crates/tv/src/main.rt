@@ -9,6 +9,7 @@ mod check;
 mod gate;
 mod index;
 mod laws;
+mod lines;
 mod rows;
 mod stop;
 mod texts;

@@ -1,7 +1,7 @@
 ghost use Rattle.std.specs.Prelude.{◌≡◌, ◌++◌, IfOk, IfSome, OnOk};
 ghost use Rattle.std.specs.List.{IsDistinct, AllByRecursion};
 ghost use Rattle.ir_tree.specs.Names.{same_name};
-ghost use Rattle.ir_reader.specs.StraightLine.{IsJudgeable, IsJudgeableEntry};
+ghost use Rattle.ir_reader.specs.Judgeable.{IsJudgeable, IsJudgeableEntry};
 ghost use Rattle.points.specs.Pair.{same_signature};
 ghost use Rattle.points.specs.Range.{AreInRange};
 ghost use Rattle.report.specs.Rows.{IsJudged, IsCompared, IsFinding, IsRow, AreSourceRows, AreRows, extra_rows};

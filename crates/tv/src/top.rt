@@ -10,6 +10,8 @@ ghost use Rattle.tv.specs.Answers.{IsUndisturbed};
 
 use crate::check::{Report, report_of};
 use crate::gate::Gate;
+use crate::laws::modules_have_no_fault;
+use crate::lines::{why_words, write_fault};
 use crate::stop::{Stop, Trouble};
 use support::NoMemory;
 use tv_io::{Shelf, Sink, write_line, write_whole};
@@ -20,10 +22,11 @@ use tv_words::{Job, read_job};
 /// The words are those of the command line, the program's name first; `tv_words` says which job they
 /// are. The status is 0 where all rows
 /// are correct, 1 where one is incorrect, else 2 where one is unknown, else 3; 4 where the words are no
-/// job; 5 where a text can't be read, 6 where it has more than 16,777,216 bytes, 9 where it is not of
-/// straight-line functions; 7 where the sink fails while the report is written; 8 for want of memory. The first
-/// cause counts, in the order words, source text, target text, source module, target module, judging,
-/// report. The whole report is made before its first byte is written, and a fault's line takes no
+/// job; 5 where a text can't be read, 6 where it has more than 16,777,216 bytes, 9 where it has a fault,
+/// which is told with its line and column; 7 where the sink fails while the report is written; 8 for
+/// want of memory. A function that isn't judged is a row of the report, with its reason and place. The
+/// first cause counts, in the order words, source text, target text, source module, target module,
+/// judging, report. The whole report is made before its first byte is written, and a fault's line takes no
 /// memory. Each pair that is judged passes the gate before.
 pub fn run<R: AllocGlobal, S: Shelf, K: Sink, G: Gate>(
     rt: &R,
@@ -41,7 +44,7 @@ pub fn run<R: AllocGlobal, S: Shelf, K: Sink, G: Gate>(
     // The sink failed while the report was written.
     ensures sink { result ≡ 7 → Rose (K.faults out.old) (K.faults out.new) }
     ensures part { result ≡ 7 → WhereTold (S.files shelf.old) (λ files. PartlyWritten files (job_of (map string_bytes words.now)) (K.taken out.old) (K.taken out.new)) }
-    // A text was not judged: 5 it can't be read, 6 it is too long, 9 it has no module.
+    // A text was not judged: 5 it can't be read, 6 it is too long, 9 it has a fault.
     ensures refused { 4 < result → result ≢ 7 → result ≢ 8 → Refuses (S.files shelf.old) (job_of (map string_bytes words.now))
         (record { faults = S.fetch_faults shelf.old; taken = S.bytes_taken shelf.old }) (record { faults = S.fetch_faults shelf.new; taken = S.bytes_taken shelf.new })
         result (K.taken out.old) (K.taken out.new) (K.faults out.old) (K.faults out.new) }
@@ -53,6 +56,7 @@ pub fn run<R: AllocGlobal, S: Shelf, K: Sink, G: Gate>(
     ensures known { result ≤ 9 }
     ensures same { S.files shelf.new ≡ S.files shelf.old }
 {
+    modules_have_no_fault();
     let job = match read_job(rt.alloc(), words) {
         Ok(Some(job)) => job,
         Ok(None) => {
@@ -105,8 +109,12 @@ fn refuse_text<K: Sink>(out: &mut K, name: &str, trouble: Trouble) -> u8
             let _ = write_line(out, b"too long ", name.as_bytes());
             6
         }
-        Trouble::NotRead => {
-            let _ = write_line(out, name.as_bytes(), b": not read yet");
+        Trouble::NoToken(place) => {
+            let _ = write_fault(out, name, place, b"no token");
+            9
+        }
+        Trouble::Item { why, place } => {
+            let _ = write_fault(out, name, place, why_words(why));
             9
         }
     }

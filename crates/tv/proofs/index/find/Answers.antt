@@ -3,7 +3,7 @@ use Rattle.std.specs.List.{position}
 use Rattle.ir_tree.specs.declared.name.Name.{Name}
 use Rattle.ir_tree.specs.declared.module.Entry.{Entry}
 use Rattle.ir_tree.specs.Names.{same_name}
-use Rattle.ir_reader.specs.StraightLine.{IsJudgeableEntry}
+use Rattle.ir_reader.specs.Judgeable.{IsJudgeableEntry}
 use Rattle.tv.specs.Searching.{entry_names}
 use Rattle.tv.proofs.Searches.{all_at, function_named-at, function_named-none, length-entry_names}
 use Rattle.tv.proofs.index.find.Goals as goal

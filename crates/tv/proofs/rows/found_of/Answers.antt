@@ -1,5 +1,5 @@
 use Rattle.std.proofs.Common.{rules}
-use Rattle.ir_reader.specs.StraightLine.{IsJudgeable, IsJudgeableEntry}
+use Rattle.ir_reader.specs.Judgeable.{IsJudgeable, IsJudgeableEntry}
 use Rattle.tv.proofs.rows.found_of.Goals as goal
 
 pub compared-requires-clause-source_judgeable : goal.compared-requires-clause-source_judgeable

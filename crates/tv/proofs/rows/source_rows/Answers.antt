@@ -1,5 +1,5 @@
 use Rattle.std.proofs.Common.{rules, sym, subst}
-use Rattle.ir_reader.specs.StraightLine.{IsJudgeableEntry}
+use Rattle.ir_reader.specs.Judgeable.{IsJudgeableEntry}
 use Rattle.tv.proofs.Searches.{all_at}
 use Rattle.tv.proofs.RowLists.{no_more_rows}
 use Rattle.tv.proofs.rows.source_rows.Goals as goal

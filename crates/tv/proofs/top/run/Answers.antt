@@ -17,4 +17,4 @@ returns-in-Ok-clause-part g c =
 pub returns-in-Err-report_of-clause-complete : goal.returns-in-Err-report_of-clause-complete
 returns-in-Err-report_of-clause-complete g c =
     let read : Some (seen c.in-Ok-Some.job) ≡ option_map seen c.in-Ok-Some.field-0 = ap (option_map seen) (sym c.in-Ok-Some.field-0-is) in
-    λ u. inr (c.refuse.ensures.status ∙ undisturbed _ _ (seen c.in-Ok-Some.job) _ _ _ _ _ (sym (read ∙ c.in-Ok-Some.ensures.job)) c.in-Err-report_of.ensures.cause u)
+    λ u. inr (c.refuse.ensures.status ∙ undisturbed c.modules_have_no_fault.ensures _ _ (seen c.in-Ok-Some.job) _ _ _ _ _ (sym (read ∙ c.in-Ok-Some.ensures.job)) c.in-Err-report_of.ensures.cause u)

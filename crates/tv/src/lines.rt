@@ -1,0 +1,54 @@
+ghost use Rattle.std.specs.Prelude.{◌≡◌, ◌≤◌, ◌++◌, codes, OnOk, OnErr};
+ghost use Rattle.std.specs.Fmt.{decimal};
+ghost use Rattle.tv_io.specs.Count.{Rose};
+ghost use Rattle.tv_io.specs.Taken.{then_taken, TookFront};
+ghost use Rattle.tv.specs.Stops.{why_text, fault_line};
+
+use ir_items::Why;
+use itoa::Buffer;
+use text_places::Place;
+use tv_io::{Failed, Sink, write_both, write_line, write_whole};
+
+/// Writes the line of a fault: the text's name, the fault's place, and what is there. It takes no
+/// memory. After an error the sink took some front of the line.
+pub fn write_fault<K: Sink>(
+    out: &mut K,
+    name: &str,
+    place: Place,
+    what: &[u8],
+) -> Result<(), Failed>
+    ensures whole { OnOk result (K.taken out.new ≡ then_taken (K.taken out.old) (fault_line name.now place what.now)) }
+    ensures front { TookFront (K.taken out.old) (K.taken out.new) (fault_line name.now place what.now) }
+    ensures failed { OnErr result (Rose (K.faults out.old) (K.faults out.new)) }
+{
+    write_both(out, name.as_bytes(), b":")?;
+    write_place(out, place)?;
+    write_line(out, b": ", what)
+}
+
+fn write_place<K: Sink>(out: &mut K, place: Place) -> Result<(), Failed>
+    ensures whole { OnOk result (K.taken out.new ≡ then_taken (K.taken out.old) (decimal place.line ++ codes ":" ++ decimal place.column)) }
+    ensures front { TookFront (K.taken out.old) (K.taken out.new) (decimal place.line ++ codes ":" ++ decimal place.column) }
+    ensures failed { OnErr result (Rose (K.faults out.old) (K.faults out.new)) }
+    ensures faults_stay { K.faults out.old ≤ K.faults out.new }
+{
+    let mut line = Buffer::new();
+    let mut column = Buffer::new();
+    write_both(out, line.format(place.line).as_bytes(), b":")?;
+    write_whole(out, column.format(place.column).as_bytes())
+}
+
+/// What the line of a fault says of its reason.
+pub fn why_words(why: Why) -> &'static [u8]
+    ensures { result.now ≡ why_text why }
+{
+    match why {
+        Why::NoItem => b"no item",
+        Why::Bracket => b"bracket",
+        Why::NoBody => b"no body",
+        Why::TextEnds => b"text ends",
+        Why::NameTwice => b"name twice",
+        Why::TooManyFunctions => b"too many functions",
+        Why::DataLayout => b"data layout",
+    }
+}
