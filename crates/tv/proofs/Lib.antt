@@ -6,3 +6,4 @@ pub mod Causes
 pub mod OneReport
 pub mod OneFault
 mod Sending
+mod Pieces
