@@ -3,19 +3,10 @@ use Rattle.std.proofs.Common.{◌≡◌, ◌⊎◌, ℕ, List, Option, Some, sym
 use Rattle.ir_tree.specs.declared.module.Module.{Module}
 use Rattle.ir_reader.specs.declared.fault.ModuleFault.{ModuleFault}
 use Rattle.ir_reader.specs.declared.fault.ModuleFault.TheVariants.{NoMemory}
+use Rattle.ir_reader.specs.Laws.{OneModule, ModuleOrFault, OneFault}
 use Rattle.ir_reader.specs.Module.{IsModule, IsFault}
 use Rattle.tv.specs.Reports.{HasModule}
 use Rattle.tv.specs.Stops.{HasFault}
-
--- what the reader's law says of texts
-abbrev pub OneModule : Type 0
-OneModule = (text : List ℕ) (m n : Module) → IsModule text m → IsModule text n → m ≡ n
-
-abbrev pub ModuleOrFault : Type 0
-ModuleOrFault = (text : List ℕ) (m : Module) (fault : ModuleFault) → IsModule text m → IsFault text fault → fault ≡ NoMemory
-
-abbrev pub OneFault : Type 0
-OneFault = (text : List ℕ) (f g : ModuleFault) → IsFault text f → IsFault text g → (f ≡ g) ⊎ (f ≡ NoMemory) ⊎ (g ≡ NoMemory)
 
 some_text : (a b : List ℕ) → Some a ≡ Some b → a ≡ b
 some_text a b e = cc e
@@ -23,7 +14,7 @@ some_text a b e = cc e
 pub same_text : (file : Option (List ℕ)) (a b : List ℕ) → file ≡ Some a → file ≡ Some b → a ≡ b
 same_text file a b p q = some_text a b (sym p ∙ q)
 
--- the same of files
+-- the reader's laws of texts, of files
 pub module_one : OneModule → (file : Option (List ℕ)) (m n : Module) → HasModule file m → HasModule file n → m ≡ n
 module_one one file m n x y = one y.text m n (subst (λ (t : List ℕ). IsModule t m) (same_text file x.text y.text x.there y.there) x.formed) y.formed
 

@@ -1,18 +1,18 @@
 -- Two files have one fault, or modules.
-use Rattle.std.proofs.Common.{◌≡◌, ◌≢◌, ◌⊎◌, ℕ, List, Some, refl, sym, ap, subst, ◌∙◌, inl, inr}
+use Rattle.std.proofs.Common.{◌≡◌, ◌≢◌, ◌⊎◌, ℕ, List, Some, refl, sym, ap, ◌∙◌, inl, inr}
 use Rattle.tv_io.specs.Files.{Files}
 use Rattle.ir_tree.specs.declared.module.Module.{Module}
 use Rattle.ir_reader.specs.declared.fault.ModuleFault.{ModuleFault}
 use Rattle.ir_reader.specs.declared.fault.ModuleFault.TheVariants as fault
+use Rattle.ir_reader.specs.Laws.{ModuleOrFault, OneFault}
 use Rattle.tv.specs.declared.stop.Trouble.{Trouble}
 use Rattle.tv.specs.declared.stop.Trouble.TheVariants as trouble
-use Rattle.tv.specs.declared.stop.Stop.{Stop}
 use Rattle.tv.specs.declared.stop.Stop.TheVariants as stop
 use Rattle.tv_words.specs.Words.{Job}
 use Rattle.tv.specs.Reports.{HasModule}
-use Rattle.tv.specs.Stops.{Counts, HasFault, HasTrouble, HasCause, IsBeforeTarget, trouble_status, stop_status}
+use Rattle.tv.specs.Stops.{Counts, HasFault, HasTrouble, IsBeforeTarget, trouble_status}
 use Rattle.tv.specs.Laws.{FaultsAreOne, ModulesHaveNoFault}
-use Rattle.tv.proofs.Files.{OneModule, ModuleOrFault, OneFault, module_or_fault, fault_one}
+use Rattle.tv.proofs.Files.{module_or_fault, fault_one}
 
 -- the trouble that tells a fault; none tells want of memory, for which any other stands here
 abbrev trouble_of : ModuleFault → Trouble
@@ -26,7 +26,6 @@ record TellsFault (files : Files) (name : List ℕ) (t : Trouble) : Type 0 where
   pub told : t ≡ trouble_of of
   pub fits : of ≢ fault.NoMemory
   pub has : HasFault (files name) of
-
 
 fault_told : (files : Files) (name : List ℕ) (before now : Counts) (t : Trouble) → HasTrouble (Some files) name before now t → trouble_status t ≡ 9 → TellsFault files name t
 fault_told files name before now trouble.CannotRead has nine = absurd (cc nine)

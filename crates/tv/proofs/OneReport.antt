@@ -1,12 +1,13 @@
 -- Two files have one report.
 use Rattle.std.proofs.Common.{◌≡◌, sym, ap, subst, ◌∙◌}
 use Rattle.ir_tree.specs.declared.module.Module.{Module}
+use Rattle.ir_reader.specs.Laws.{OneModule}
 use Rattle.report.specs.Rows.{AreRows, RowsAreOne}
 use Rattle.report.specs.Text.{report_text}
 use Rattle.report.specs.Status.{status_of}
 use Rattle.tv_words.proofs.Ranges.{job_in_range}
 use Rattle.tv.specs.Laws.{ReportsAreOne}
-use Rattle.tv.proofs.Files.{OneModule, module_one}
+use Rattle.tv.proofs.Files.{module_one}
 
 pub reports_are_one : OneModule → RowsAreOne → ReportsAreOne
 reports_are_one one rows files words job text other status other_status is x y =

@@ -88,7 +88,7 @@ why_text why.NameTwice = codes "name twice"
 why_text why.TooManyFunctions = codes "too many functions"
 why_text why.DataLayout = codes "data layout"
 
--- a name, line and column of a place, and what is there
+-- a text's name, line and column of a fault, and what it is
 abbrev pub fault_line : List ℕ → Place → List ℕ → List ℕ
 fault_line name place what = name ++ codes ":" ++ (decimal place.line ++ codes ":" ++ decimal place.column) ++ (codes ": " ++ what ++ 10 ∷ [])
 

@@ -81,12 +81,12 @@ fn report_of_texts<G: Gate>(
 {
     let m = match module_of(alloc, source) {
         Ok(m) => m,
-        Err(Some(trouble)) => return Err(Stop::Source(trouble)),
+        Err(Some(fault)) => return Err(Stop::Source(fault)),
         Err(None) => return Err(Stop::NoMemory),
     };
     let n = match module_of(alloc, target) {
         Ok(n) => n,
-        Err(Some(trouble)) => return Err(Stop::Target(trouble)),
+        Err(Some(fault)) => return Err(Stop::Target(fault)),
         Err(None) => return Err(Stop::NoMemory),
     };
     match report_of_modules(alloc, limits, gate, &m, &n) {

@@ -1,8 +1,9 @@
 //! The program: `tv check A B` with options judges the functions of module B against those of module A.
 //!
-//! It promises that what is written is the report of the two files, and that each other status has its
-//! cause (`top::run`). It stands on the words, the reader, the judge, the report and the outside;
-//! nothing stands on it.
+//! It promises that what is written is the report of the two files, or the one line of the first fault
+//! that keeps a file from having a module, and that each other status has its cause (`top::run`). A
+//! function that can't be judged is a row of the report like any other. It stands on the words, the
+//! reader, the judge, the report and the outside; nothing stands on it.
 #![tactic(auto)]
 
 mod check;
@@ -43,5 +44,7 @@ fn main(rt: HostRuntime) -> ExitCode {
 
 #[cfg(test)]
 mod choice_tests;
+#[cfg(test)]
+mod refusal_tests;
 #[cfg(test)]
 mod tests;

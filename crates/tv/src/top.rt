@@ -56,6 +56,7 @@ pub fn run<R: AllocGlobal, S: Shelf, K: Sink, G: Gate>(
     ensures known { result ≤ 9 }
     ensures same { S.files shelf.new ≡ S.files shelf.old }
 {
+    // The law that a stop with status 9 rests on; it does nothing.
     modules_have_no_fault();
     let job = match read_job(rt.alloc(), words) {
         Ok(Some(job)) => job,

@@ -1,4 +1,4 @@
-use Rattle.std.proofs.Common.{◌≡◌, ℕ, List, [], ◌∷◌, ◌++◌, refl, ap}
+use Rattle.std.proofs.Common.{ℕ, List, [], ◌∷◌, ◌++◌, refl, ap}
 use Rattle.tv_io.proofs.TakenLemmas.{TookFront-first}
 use Rattle.tv.proofs.Pieces.{TookFront-behind, TookFront-behind_two}
 use Rattle.tv.proofs.lines.write_fault.Goals as goal

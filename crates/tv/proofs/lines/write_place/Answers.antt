@@ -1,4 +1,4 @@
-use Rattle.std.proofs.Common.{◌≡◌, ℕ, List, [], ◌∷◌, ◌++◌, ap, ◌∙◌}
+use Rattle.std.proofs.Common.{ℕ, List, [], ◌∷◌, ◌++◌, ap, ◌∙◌}
 use Rattle.tv.proofs.Pieces.{TookFront-behind}
 use Rattle.tv.proofs.lines.write_place.Goals as goal
 
