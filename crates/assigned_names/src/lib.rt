@@ -7,7 +7,7 @@
 //! dominate its uses.
 #![tactic(auto)]
 
-ghost use Rattle.std.specs.Prelude.{◌≡◌, ◌<◌, ◌↔◌, IsTrue, length, OnOk, IfErr, IsSomeAnd};
+ghost use Rattle.std.specs.Prelude.{◌≡◌, ◌<◌, ◌↔◌, IsTrue, length, OnOk, IfErr};
 ghost use Rattle.ir_tree.specs.declared.module.Reason.TheVariants.{TypeClash, Unassigned};
 ghost use Rattle.ir_tree.specs.Sites.{AreNumbered};
 ghost use Rattle.ir_tree.specs.WellFormed.{Passes, PassesNames, IsRefusedAt, IfRefused, IsFirstFailure, UsesUnassigned};
@@ -16,7 +16,9 @@ ghost use Rattle.ir_tree.specs.Definitions.{HasFirsts};
 #[cfg(test)]
 mod tests;
 
-use ir_tree::{CheckFault, Function, Reason, Site, first_definitions, refusal_at, sites_of};
+use ir_tree::{
+    CheckFault, Function, Reason, Site, first_definitions, is_defined_before, refusal_at, sites_of,
+};
 use std::alloc::Global;
 
 /// Passes a function in which each use of a name stands in a later part of the text than the name's
@@ -65,16 +67,7 @@ fn uses_unassigned(sites: &[Site], begins: &[usize], firsts: &[Option<usize>], n
     ensures { IsTrue result ↔ UsesUnassigned sites.now begins.now n }
 {
     match sites[n] {
-        Site::Uses { of_type: _, name } => !is_first_before(firsts[name], begins[n]),
+        Site::Uses { of_type: _, name } => !is_defined_before(firsts, name, begins[n]),
         Site::Defines { .. } | Site::Written { .. } => false,
-    }
-}
-
-fn is_first_before(first: Option<usize>, begin: usize) -> bool
-    ensures { IsTrue result ↔ IsSomeAnd first (λ n. n < begin) }
-{
-    match first {
-        Some(first) => first < begin,
-        None => false,
     }
 }

@@ -1,13 +1,13 @@
 -- The value of a name is that of its first definition.
-use Rattle.std.proofs.Common.{◌≡◌, ℕ, ◌<◌, ◌⊎◌, List, Option, Some, None, length, get_or, inl, inr, refl, sym, ◌∙◌, ap, arith}
+use Rattle.std.proofs.Common.{◌≡◌, ℕ, ◌<◌, ◌⊎◌, List, Option, Some, None, length, inl, inr, refl, arith}
 use Rattle.std.proofs.lemmas.Bool.{cases_eq}
 use Rattle.std.proofs.lemmas.Option.{slice_get_within}
 use Rattle.std.specs.List.{slice_get}
 use Rattle.ir_tree.specs.declared.tree.IrType.{IrType}
 use Rattle.ir_tree.specs.declared.sites.Site.{Site}
-use Rattle.ir_tree.specs.declared.sites.Site.TheVariants.{Defines, Uses, Written}
-use Rattle.ir_tree.specs.WellFormed.{DefinesAgain, HasValue, IsUndefinedBefore}
-use Rattle.ir_tree.specs.Definitions.{IsDefinition, IsFirstDefinition, HasFirsts}
+use Rattle.ir_tree.specs.declared.sites.Site.TheVariants.{Defines}
+use Rattle.ir_tree.specs.WellFormed.{DefinesAgain}
+use Rattle.ir_tree.specs.Definitions.{IsFirstDefinition}
 use Rattle.ir_check.specs.Values.{GivesValue, defined_type}
 
 -- each definition of the name is its first one

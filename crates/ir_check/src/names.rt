@@ -1,11 +1,13 @@
-ghost use Rattle.std.specs.Prelude.{◌≡◌, ◌<◌, ◌↔◌, ◌⊎◌, IsTrue, ℕ, length, OnOk, IfErr, IsSomeAnd};
+ghost use Rattle.std.specs.Prelude.{◌<◌, ◌↔◌, ◌⊎◌, IsTrue, ℕ, length, OnOk, IfErr};
 ghost use Rattle.ir_tree.specs.declared.module.Reason.TheVariants.{NameTwice, NameUnknown};
 ghost use Rattle.ir_tree.specs.Sites.{AreNumbered};
 ghost use Rattle.ir_tree.specs.WellFormed.{PassesNames, IsRefusedAt, IfRefused, IsFirstFailure, DefinesAgain, UsesUnknown};
 ghost use Rattle.ir_tree.specs.Definitions.{HasFirsts};
 
 use crate::values::value_type;
-use ir_tree::{CheckFault, Function, Reason, Site, first_definitions, refusal_at, sites_of};
+use ir_tree::{
+    CheckFault, Function, Reason, Site, first_definitions, is_defined_before, refusal_at, sites_of,
+};
 use std::alloc::Global;
 
 /// Passes a function in which no name is defined twice, and each name that is used as a value is
@@ -49,17 +51,8 @@ fn defines_again(sites: &[Site], firsts: &[Option<usize>], n: usize) -> bool
     ensures { IsTrue result ↔ DefinesAgain sites.now n }
 {
     match sites[n] {
-        Site::Defines { of_type: _, name } => is_first_before(firsts[name], n),
+        Site::Defines { of_type: _, name } => is_defined_before(firsts, name, n),
         Site::Uses { .. } | Site::Written { .. } => false,
-    }
-}
-
-fn is_first_before(first: Option<usize>, n: usize) -> bool
-    ensures { IsTrue result ↔ IsSomeAnd first (λ d. d < n) }
-{
-    match first {
-        Some(first) => first < n,
-        None => false,
     }
 }
 

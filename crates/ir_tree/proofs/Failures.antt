@@ -1,5 +1,5 @@
 -- Where a test of numbers first fails.
-use Rattle.std.proofs.Common.{ℕ, ◌<◌, ◌≤◌, Some, None, arith}
+use Rattle.std.proofs.Common.{ℕ, ◌<◌, Some, None, arith}
 use Rattle.ir_tree.specs.WellFormed.{IsFirstFailure}
 
 -- it fails here, and not before

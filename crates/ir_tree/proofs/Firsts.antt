@@ -1,6 +1,5 @@
 -- The table of first definitions, when one more site is looked at.
-use Rattle.std.proofs.Common.{◌≡◌, ℕ, ◌+◌, ◌<◌, ◌⊎◌, Bool, true, false, not, List, Option, Some, None, length, get_or, set, length-set, refl, sym, ◌∙◌, ap, subst, arith, inl, inr}
-use Rattle.std.proofs.lemmas.Option.{slice_get_read, get_or_from_slice_get}
+use Rattle.std.proofs.Common.{◌≡◌, ℕ, ◌+◌, ◌<◌, ◌⊎◌, Bool, true, false, not, List, Option, Some, None, length, get_or, set, length-set, refl, ◌∙◌, ap, arith, inl, inr}
 use Rattle.std.proofs.lemmas.List.{get_or-set_same, get_or-set_other}
 use Rattle.std.proofs.lemmas.Bool.{cases_eq}
 use Rattle.std.specs.List.{slice_get}
@@ -8,7 +7,7 @@ use Rattle.std.specs.Option.{is_some}
 use borrow.Author.Count.{below_more}
 use Rattle.ir_tree.specs.declared.tree.IrType.{IrType}
 use Rattle.ir_tree.specs.declared.sites.Site.{Site}
-use Rattle.ir_tree.specs.declared.sites.Site.TheVariants.{Defines, Uses, Written}
+use Rattle.ir_tree.specs.declared.sites.Site.TheVariants.{Defines}
 use Rattle.ir_tree.specs.WellFormed.{IsUndefinedBefore}
 use Rattle.ir_tree.specs.Definitions.{IsDefinition, IsFirstDefinition, AreFirst}
 

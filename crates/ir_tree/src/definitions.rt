@@ -1,4 +1,4 @@
-ghost use Rattle.std.specs.Prelude.{◌≡◌, ◌↔◌, IsTrue, ◌+◌, ◌<◌, ℕ, List, All, length, slice_get, Some, IfOk};
+ghost use Rattle.std.specs.Prelude.{◌≡◌, ◌↔◌, IsTrue, ◌+◌, ◌<◌, ℕ, List, All, length, slice_get, slice_index_or, Some, None, IfOk, IsSomeAnd};
 ghost use Rattle.ir_tree.specs.declared.sites.Site.{Site};
 ghost use Rattle.ir_tree.specs.Sites.{IsNumbered};
 ghost use Rattle.ir_tree.specs.Definitions.{AreFirst, HasFirsts};
@@ -38,6 +38,17 @@ fn is_numbered(site: Site, names: usize) -> bool
         Site::Defines { of_type: _, name } => name < names,
         Site::Uses { of_type: _, name } => name < names,
         Site::Written { fits: _ } => true,
+    }
+}
+
+/// Whether a site before this one defines the name, by the table of first definitions.
+pub fn is_defined_before(firsts: &[Option<usize>], name: usize, site: usize) -> bool
+    requires { name < length firsts.now }
+    ensures { IsTrue result ↔ IsSomeAnd (slice_index_or firsts.now name None) (λ first. first < site) }
+{
+    match firsts[name] {
+        Some(first) => first < site,
+        None => false,
     }
 }
 

@@ -2,8 +2,9 @@
 //!
 //! It promises plain data: two functions with the same parts are equal. Limits of a function are
 //! stated here, with their test, and what is asked of a function beside its spelling
-//! (`specs/WellFormed.antt`). It stands on `tv_num` and `text_places`; the reader makes trees, and whatever runs,
-//! prints or checks a function takes them.
+//! (`specs/WellFormed.antt`), with the list of what it is asked of: the function's sites
+//! (`sites_of`). It stands on `tv_num` and `text_places`; the reader makes trees, `ir_check` and
+//! `assigned_names` test them, and whatever runs or prints a function takes them.
 #![tactic(auto)]
 
 mod definitions;
@@ -15,7 +16,7 @@ mod names;
 mod sites;
 mod tree;
 
-pub use definitions::{are_numbered, first_definitions};
+pub use definitions::{are_numbered, first_definitions, is_defined_before};
 pub use laws::is_one_refusal;
 pub use limits::is_within_limits;
 pub use module::{CheckFault, Entry, Module, Reason, Refused};

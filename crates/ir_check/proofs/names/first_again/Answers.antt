@@ -1,4 +1,4 @@
-use Rattle.std.proofs.Common.{◌≡◌, true, length, arith}
+use Rattle.std.proofs.Common.{length, arith}
 use Rattle.std.proofs.lemmas.Option.{slice_get_within}
 use Rattle.ir_tree.specs.declared.sites.Site.TheVariants.{Defines}
 use Rattle.ir_tree.specs.WellFormed.{DefinesAgain}

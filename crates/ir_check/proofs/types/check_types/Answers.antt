@@ -1,4 +1,3 @@
-use Rattle.std.proofs.Common.{sym, ◌∙◌}
 use Rattle.ir_check.proofs.types.check_types.Goals as goal
 
 pub first_clash-requires-clause-once : goal.first_clash-requires-clause-once

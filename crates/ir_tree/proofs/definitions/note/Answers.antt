@@ -1,4 +1,4 @@
-use Rattle.std.proofs.Common.{◌≡◌, ◌<◌, Option, Some, length, inl, inr, sym, ◌∙◌, ap, not}
+use Rattle.std.proofs.Common.{◌<◌, Some, length, inl, inr, ◌∙◌, ap}
 use Rattle.ir_tree.proofs.Firsts.{put, had, passed, none_when, some_when}
 use Rattle.ir_tree.proofs.definitions.note.Goals as goal
 
