@@ -1,5 +1,5 @@
 -- The items of a module's text, by the places of its tokens: a place is how many tokens stand before.
-use Rattle.std.specs.Prelude.{◌≡◌, ◌⊎◌, ℕ, ◌+◌, ◌-◌, ◌<◌, ◌≤◌, List, [], ◌∷◌, ◌++◌, length, take, take_while, drop, slice_get, map, codes, Option, Some, None, Bool, true, false, not, ◌&&◌, ◌||◌, ◌==◌, nat_lt, count_by, filter, is_some, if◌then◌else◌}
+use Rattle.std.specs.Prelude.{◌≡◌, ◌⊎◌, ℕ, ◌+◌, ◌-◌, ◌<◌, ◌≤◌, List, [], ◌∷◌, ◌++◌, length, take, take_while, drop, slice_get, map, codes, Option, Some, None, Bool, true, false, not, ◌&&◌, ◌||◌, ◌==◌, nat_lt, count_by, if◌then◌else◌}
 use Rattle.std.specs.List.{list_any}
 use Rattle.std.specs.Str.{bytes_eq}
 use Rattle.text_places.specs.Place.{is_line_feed}
@@ -12,7 +12,7 @@ use Rattle.ir_tree.specs.declared.name.Name.{Name}
 use Rattle.ir_tree.specs.Names.{same_name}
 use Rattle.ir_items.specs.declared.item.Define.{Define}
 use Rattle.ir_items.specs.Names.{name_in, without_zeros}
-use Rattle.ir_items.specs.Marks.{mark_of, marks, IsBalanced, IsPiece}
+use Rattle.ir_items.specs.Marks.{mark_of, IsBalanced, IsPiece}
 
 -- ---- tests of a token at a place
 

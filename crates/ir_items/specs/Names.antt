@@ -1,5 +1,5 @@
 -- The name that a token spells (LLVM Language Reference, "Identifiers").
-use Rattle.std.specs.Prelude.{ℕ, ◌+◌, ◌-◌, ◌*◌, List, [], ◌∷◌, length, take, drop, Option, Some, None, Bool, false, ◌&&◌, ◌==◌, nat_lt, nat_le, if◌then◌else◌}
+use Rattle.std.specs.Prelude.{ℕ, ◌+◌, ◌-◌, ◌*◌, List, [], ◌∷◌, length, take, drop, Option, Some, None, Bool, ◌&&◌, ◌==◌, nat_lt, nat_le, if◌then◌else◌}
 use Rattle.ir_lexer.specs.Bytes.{is_hexadecimal_digit}
 use Rattle.ir_lexer.specs.Spelling.{is_digits}
 use Rattle.ir_lexer.specs.declared.token.Kind.{Kind}

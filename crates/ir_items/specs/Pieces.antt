@@ -1,5 +1,5 @@
 -- What the parts of the cut answer.
-use Rattle.std.specs.Prelude.{◌≡◌, ℕ, ◌+◌, ◌-◌, ◌<◌, ◌≤◌, List, [], ◌∷◌, ◌++◌, length, Some, None, true, false}
+use Rattle.std.specs.Prelude.{◌≡◌, ℕ, ◌+◌, ◌-◌, ◌<◌, ◌≤◌, List, [], ◌∷◌, ◌++◌, length, Some, None, false}
 use Rattle.ir_lexer.specs.Lexeme.{Lexeme}
 use Rattle.ir_items.specs.declared.item.Define.{Define}
 use Rattle.ir_items.specs.declared.fault.Why.{Why}

@@ -1,7 +1,7 @@
-use Rattle.std.proofs.Common.{◌≡◌, ℕ, ◌+◌, ◌<◌, ◌≤◌, false, true, length, sym, subst, ◌∙◌, arith}
+use Rattle.std.proofs.Common.{◌≡◌, ℕ, false, true, length, sym, subst, ◌∙◌, arith}
 use Rattle.std.proofs.lemmas.Result.{err_from_is_err_and}
 use Rattle.ir_items.specs.Marks.{IsBalanced}
-use Rattle.ir_items.specs.Items.{begins_item, is_brace, BeforeBody, HasBody}
+use Rattle.ir_items.specs.Items.{begins_item, is_brace, BeforeBody}
 use Rattle.ir_items.specs.Stops.{GoesOn, StopsAt}
 use Rattle.ir_items.proofs.Opening.{piece_balanced, balanced_fits}
 use Rattle.ir_items.proofs.Phases.{body_piece, body_fault, define_ends}

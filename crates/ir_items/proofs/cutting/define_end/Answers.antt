@@ -1,4 +1,4 @@
-use Rattle.std.proofs.Common.{◌≡◌, ℕ, ◌+◌, ◌<◌, List, length, sym, arith}
+use Rattle.std.proofs.Common.{ℕ, List}
 use Rattle.ir_items.specs.declared.item.Define.{Define}
 use Rattle.ir_items.specs.Marks.{IsPiece}
 use Rattle.ir_items.specs.Items.{IsNamed, IsDefine}

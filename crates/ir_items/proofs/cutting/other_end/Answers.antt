@@ -1,6 +1,6 @@
-use Rattle.std.proofs.Common.{◌≡◌, ℕ, ◌+◌, ◌<◌, ◌≤◌, false, true, length, [], sym, subst, ◌∙◌, arith}
+use Rattle.std.proofs.Common.{◌≡◌, false, true, sym, ◌∙◌, arith}
 use Rattle.std.proofs.lemmas.Result.{err_from_is_err_and}
-use Rattle.ir_items.specs.Items.{begins_item, is_wrong_layout, OtherGoesOn}
+use Rattle.ir_items.specs.Items.{begins_item, is_wrong_layout}
 use Rattle.ir_items.specs.Stops.{StopsAt}
 use Rattle.ir_items.specs.Stops.{StopsAt}
 use Rattle.ir_items.proofs.Opening.{piece_balanced}

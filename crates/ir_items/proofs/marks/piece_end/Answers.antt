@@ -1,7 +1,7 @@
-use Rattle.std.proofs.Common.{◌≡◌, ℕ, ◌+◌, ◌<◌, ◌≤◌, Bool, true, false, cond, List, [], length, Option, Some, None, refl, sym, ap, subst, ◌∙◌, arith}
+use Rattle.std.proofs.Common.{◌≡◌, ℕ, ◌+◌, ◌<◌, Bool, true, false, cond, List, [], length, Some, None, refl, sym, ap, subst, ◌∙◌, arith}
 use Rattle.std.proofs.lemmas.Grind.{common_steps}
 use Rattle.std.proofs.lemmas.List.{nil_from_length}
-use Rattle.ir_items.specs.Marks.{marks, marks_after, has_open, IsInside, IsPiece}
+use Rattle.ir_items.specs.Marks.{marks, marks_after, has_open, IsInside}
 use Rattle.ir_items.specs.Pieces.{bracket, text_ends}
 use Rattle.ir_items.proofs.Opening.{at_start, marks_next, inside_more, nonempty_open}
 use Rattle.ir_items.proofs.marks.piece_end.Goals as goal
