@@ -8,3 +8,4 @@ pub mod Answers
 pub mod OneFunction
 pub mod Entries
 pub mod Different
+pub mod PlainGrammar

@@ -8,8 +8,8 @@ ghost use Rattle.ir_reader.specs.Numbering.{each_in, parameter_in, inst_in};
 use crate::entry_name::next_name;
 use crate::places::places_of;
 use crate::written::{
-    WrittenFunction, WrittenInst, WrittenName, WrittenParameter, WrittenReturn, WrittenTyped,
-    WrittenValue,
+    WrittenFunction, WrittenInst, WrittenName, WrittenOperand, WrittenParameter, WrittenReturn,
+    WrittenType, WrittenTyped, WrittenValue,
 };
 use ir_tree::{
     Block, Cast, Function, Inst, IrType, Name, Names, Op, Operand, Parameter, Predicate,
@@ -134,20 +134,20 @@ fn icmp(
     into: Name,
     predicate: Predicate,
     same_sign: bool,
-    width: Width,
-    left: WrittenValue,
-    right: WrittenValue,
+    of_type: WrittenType,
+    left: WrittenOperand,
+    right: WrittenOperand,
 ) -> Result<Inst, NoMemory>
-    ensures { Numbers result names.new (spec.icmp_in names.old into predicate same_sign width left right) }
+    ensures { Numbers result names.new (spec.icmp_in names.old into predicate same_sign of_type.width left.value right.value) }
 {
     let into = number(names, into)?;
-    let left = value(names, left)?;
-    let right = value(names, right)?;
+    let left = value(names, left.value)?;
+    let right = value(names, right.value)?;
     Ok(Inst::Icmp {
         into,
         predicate,
         same_sign,
-        width,
+        width: of_type.width,
         left,
         right,
     })
@@ -233,15 +233,7 @@ fn inst(names: &mut Names, inst: WrittenInst) -> Result<Inst, NoMemory>
             of_type,
             left,
             right,
-        } => icmp(
-            names,
-            into.name,
-            predicate,
-            same_sign,
-            of_type.width,
-            left.value,
-            right.value,
-        ),
+        } => icmp(names, into.name, predicate, same_sign, of_type, left, right),
         WrittenInst::Cast {
             into,
             cast: kind,
