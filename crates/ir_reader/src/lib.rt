@@ -33,4 +33,6 @@ pub use laws::{has_all_places, is_one_function, is_one_module, is_plain_grammar}
 pub use reading::read;
 
 #[cfg(test)]
+mod damaged_tests;
+#[cfg(test)]
 mod tests;
