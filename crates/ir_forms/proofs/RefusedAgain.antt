@@ -21,7 +21,7 @@ module _ {A S : Type 0} (goes_on : Lexeme → Bool) (begins : S → Lexeme → O
   unfolding parts
   one-part m s a ts inside z T e =
       let is : begun true (within s T.first) (goes_on T.first) (begins s T.first) ≡ found a =
-          begun-begins true (within s T.first) (goes_on T.first) (begins s T.first) ∙ stands-judged true (within s T.first) (part_value (goes_on T.first) (begins s T.first)) a T.stands_for T.keeps in
+      begun-begins true (within s T.first) (goes_on T.first) (begins s T.first) ∙ stands-judged true (within s T.first) (part_value (goes_on T.first) (begins s T.first)) a T.stands_for T.keeps in
       ap (λ (us : List Lexeme). parts true goes_on begins within part (suc m) s us) T.split ∙ rw (is, e) refl
 
   pub parts-miss : (n m : ℕ) (s : S) (ts rest : List Lexeme) → length ts ≤ m → MissParts goes_on begins within spell miss n s ts rest → parts true goes_on begins within part m s ts ≡ stops (unfit r) rest

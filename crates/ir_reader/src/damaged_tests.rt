@@ -61,7 +61,8 @@ const PIECES: [&str; 48] = [
 ];
 
 // With the first so many bytes alone.
-const CUT: &str = "nothing no-item@1:1 no-item@1:1 no-item@1:1 no-item@1:1 no-item@1:1 text-ends@1:7 text-ends@1:8
+const CUT: &str =
+    "nothing no-item@1:1 no-item@1:1 no-item@1:1 no-item@1:1 no-item@1:1 text-ends@1:7 text-ends@1:8
 text-ends@1:9 text-ends@1:10 text-ends@1:11 text-ends@1:12 text-ends@1:13 text-ends@1:14
 text-ends@1:15 text-ends@1:16 text-ends@1:17 text-ends@1:18 text-ends@1:19 no-token@1:19
 text-ends@1:21 text-ends@1:22 text-ends@1:23 text-ends@1:24 text-ends@1:25 text-ends@1:26
@@ -90,7 +91,8 @@ text-ends@6:2 text-ends@6:3 text-ends@6:4 text-ends@6:5 text-ends@6:6 text-ends@
 text-ends@6:8 text-ends@6:9 text-ends@6:10 no-token@6:10 text-ends@6:12 text-ends@7:1 read read";
 
 // Without one token.
-const DROPPED: &str = "no-item@1:2 read Unsupported@1:16 text-ends@7:2 bracket@1:41 Unsupported@1:23 read
+const DROPPED: &str =
+    "no-item@1:2 read Unsupported@1:16 text-ends@7:2 bracket@1:41 Unsupported@1:23 read
 NameUnknown@3:19 Unsupported@1:36 Unsupported@1:37 NameUnknown@5:18 text-ends@7:2 read
 no-body@3:3 read Syntax@2:8 Unsupported@3:6 Unsupported@3:8 read Unsupported@3:16 Syntax@3:18
 Syntax@3:22 Syntax@3:22 Unsupported@3:26 Unsupported@3:27 Unsupported@4:5 Syntax@3:34
@@ -99,7 +101,8 @@ Unsupported@5:15 Syntax@5:17 Unsupported@5:21 Unsupported@5:22 Syntax@5:24 Unsup
 Unsupported@5:29 Unsupported@6:3 Unsupported@5:39 Unsupported@6:7 Syntax@7:1 text-ends@6:12";
 
 // With one token twice.
-const DOUBLED: &str = "Unsupported@1:8 read Unsupported@1:19 Unsupported@1:22 text-ends@7:2 Unsupported@1:25 read
+const DOUBLED: &str =
+    "Unsupported@1:8 read Unsupported@1:19 Unsupported@1:22 text-ends@7:2 Unsupported@1:25 read
 Syntax@1:36 Syntax@1:37 Unsupported@1:40 Syntax@1:43 bracket@1:44 read text-ends@7:2 Syntax@2:8
 Syntax@3:6 Syntax@3:8 Unsupported@3:12 Unsupported@3:16 Unsupported@3:19 Syntax@3:22 Syntax@3:23
 Syntax@3:26 Syntax@3:27 Unsupported@3:32 Unsupported@3:35 Unsupported@4:16 bracket@7:1 read read
@@ -399,14 +402,24 @@ fn told(alloc: Global, text: &[u8]) -> Result<String, AllocError> {
     let module = match read(alloc, text) {
         Ok(module) => module,
         Err(ModuleFault::NoToken(place)) => return at(alloc, "no-token", place.line, place.column),
-        Err(ModuleFault::Item { why, place }) => return at(alloc, why_word(why), place.line, place.column),
+        Err(ModuleFault::Item { why, place }) => return at(
+            alloc,
+            why_word(why),
+            place.line,
+            place.column,
+        ),
         Err(ModuleFault::NoMemory) => return Err(AllocError),
     };
     match module.entries.as_slice().first() {
         None => format!(in alloc; "nothing"),
         Some(entry) => match entry.function {
             Ok(_) => format!(in alloc; "read"),
-            Err(refused) => at(alloc, reason_word(refused.reason), refused.line, refused.column),
+            Err(refused) => at(
+                alloc,
+                reason_word(refused.reason),
+                refused.line,
+                refused.column,
+            ),
         },
     }
 }
@@ -442,7 +455,12 @@ fn damaged(alloc: Global, damage: Damage<'_>) -> Result<Vec<u8>, AllocError> {
 }
 
 // Whether all answers are told of the text with a piece left out or kept, and another behind it.
-fn are_told(alloc: Global, answers: &str, kept: bool, other: Option<&str>) -> Result<bool, AllocError> {
+fn are_told(
+    alloc: Global,
+    answers: &str,
+    kept: bool,
+    other: Option<&str>,
+) -> Result<bool, AllocError> {
     let mut right = true;
     for (place, answer) in answers.split_whitespace().enumerate() {
         let own = PIECES.get(place).copied().unwrap_or("").trim_start();
@@ -463,7 +481,10 @@ fn each_token_is_needed(rt: HostRuntime) -> Result<(), Fail> {
 #[test]
 fn no_token_stands_for_another(rt: HostRuntime) -> Result<(), Fail> {
     for (other, answers) in REPLACED {
-        assert!(rt; are_told(rt.alloc(), answers, false, Some(other))?, "at {other:?}");
+        assert!(rt;
+            are_told(rt.alloc(), answers, false, Some(other))?,
+            "at {other:?}"
+        );
     }
     Ok(())
 }
@@ -503,7 +524,10 @@ fn a_byte_may_be_another(rt: HostRuntime) -> Result<(), Fail> {
             if let Some(changed) = text.as_mut_slice().get_mut(place) {
                 *changed = byte;
             }
-            assert!(rt; is_told(alloc, text.as_slice(), answer)?, "byte {byte} at {place}");
+            assert!(rt;
+                is_told(alloc, text.as_slice(), answer)?,
+                "byte {byte} at {place}"
+            );
         }
     }
     Ok(())

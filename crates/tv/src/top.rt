@@ -20,14 +20,13 @@ use tv_words::{Job, read_job};
 /// Judges the functions of the target's text against the source's, and writes the report.
 ///
 /// The words are those of the command line, the program's name first; `tv_words` says which job they
-/// are. The status is 0 where all rows
-/// are correct, 1 where one is incorrect, else 2 where one is unknown, else 3; 4 where the words are no
-/// job; 5 where a text can't be read, 6 where it has more than 16,777,216 bytes, 9 where it has a fault,
-/// which is told with its line and column; 7 where the sink fails while the report is written; 8 for
-/// want of memory. A function that isn't judged is a row of the report, with its reason and place. The
-/// first cause counts, in the order words, source text, target text, source module, target module,
-/// judging, report. The whole report is made before its first byte is written, and a fault's line takes no
-/// memory. Each pair that is judged passes the gate before.
+/// are. The status is 0 where all rows are correct, 1 where one is incorrect, else 2 where one is
+/// unknown, else 3; 4 where the words are no job; 5 where a text can't be read, 6 where it has more than
+/// 16,777,216 bytes, 9 where it has a fault, which is told with its line and column; 7 where the sink
+/// fails while the report is written; 8 for want of memory. A function that isn't judged is a row of the
+/// report, with its reason and place. The first cause counts, in the order words, source text, target
+/// text, source module, target module, judging, report. The whole report is made before its first byte
+/// is written, and a fault's line takes no memory. Each pair that is judged passes the gate before.
 pub fn run<R: AllocGlobal, S: Shelf, K: Sink, G: Gate>(
     rt: &R,
     words: &[String],
