@@ -6,7 +6,7 @@ use Rattle.std.specs.List.{range_with_len}
 use Rattle.std.proofs.lemmas.List.{same_lists, get_or-set_same, get_or-set_other, get_or-replicate, length-replicate, get_or_past}
 use Rattle.std.proofs.lemmas.List.FromFn.{length-map-range_with_len, get_or-map-range_with_len}
 use Rattle.std.proofs.lemmas.List.Sums.{sum_by-cons}
-use Rattle.std.proofs.lemmas.Nat.{div-mul-add, mod-mul-add, div_below, mod_below}
+use Rattle.std.proofs.lemmas.Nat.{and_le_l, div-mul-add, mod-mul-add, div_below, mod_below}
 use Rattle.std.proofs.lemmas.Nat.Bits.{bit_at-lt, bit_at_and, bit_at_set_same, bit_at_set_other, same_from_bits_below, bit_at_ones, bit_at-zero}
 use Rattle.std.proofs.lemmas.Bool.{cases_eq, and_right}
 use Rattle.std.proofs.lemmas.Bool.Decides.{nat_tests}
@@ -164,3 +164,46 @@ count-both_less (x ∷ xs) [] e differ = absurd (omega (arith, e))
 count-both_less (true ∷ xs) (true ∷ ys) e differ = omega (arith, count-both_less xs ys (omega (arith, e)) (λ same. differ (ap (λ s. true ∷ s) same)), count-cons true xs, count-cons true (both xs ys))
 count-both_less (true ∷ xs) (false ∷ ys) e differ = omega (arith, count-both xs ys, count-cons true xs, count-cons false (both xs ys), one-true, one-false)
 count-both_less (false ∷ xs) (y ∷ ys) e differ = omega (arith, count-both_less xs ys (omega (arith, e)) (λ same. differ (ap (λ s. false ∷ s) same)), count-cons false xs, count-cons false (both xs ys))
+
+-- what the words keep, where the set is what other words kept
+pub set_is-add : (words given new : List ℕ) (s : List Bool) (name : ℕ) → words ≡ given → names_in given ≡ s → name < length s → new ≡ set words (name / 64) (bit_or (get_or words (name / 64) 0) (1 * 2 ^ (name % 64) % 2 ^ 64)) → names_in new ≡ set s name true
+set_is-add words given new s name e view below is =
+    ap names_in is ∙ names_in-add words name (omega (arith, below, long)) ∙ ap (λ t. set t name true) whole
+  where
+    whole : names_in words ≡ s
+    whole = ap names_in e ∙ view
+    long : length s ≡ 64 * length words
+    long = ap length (sym whole) ∙ length-names_in words
+
+pub set_is-has : (words given : List ℕ) (s : List Bool) (name : ℕ) → words ≡ given → names_in given ≡ s → name < length s → has_bit words name ≡ has_name s name
+set_is-has words given s name e view below =
+    sym (has_name-names_in words name (omega (arith, below, long))) ∙ ap (λ t. has_name t name) whole
+  where
+    whole : names_in words ≡ s
+    whole = ap names_in e ∙ view
+    long : length s ≡ 64 * length words
+    long = ap length (sym whole) ∙ length-names_in words
+
+-- sets with as many places are kept by as many words
+pub same_words : (words others : List ℕ) (s t : List Bool) → names_in words ≡ s → names_in others ≡ t → length s ≡ length t → length words ≡ length others
+same_words words others s t view view' e = omega (arith, e, ap length view, ap length view', length-names_in words, length-names_in others)
+
+pub places_of : (words : List ℕ) (s : List Bool) → names_in words ≡ s → length s ≡ 64 * length words
+places_of words s view = ap length (sym view) ∙ length-names_in words
+
+pub set_is-both : (words given others given' new : List ℕ) (s t : List Bool) → words ≡ given → names_in given ≡ s → others ≡ given' → names_in given' ≡ t → length s ≡ length t → length new ≡ length words
+    → ((k : ℕ) → get_or new k 0 ≡ bit_and (get_or words k 0) (get_or others k 0)) → names_in new ≡ both s t
+set_is-both words given others given' new s t e view e' view' alike long f =
+    names_in-both new words others long (same_words words others s t (ap names_in e ∙ view) (ap names_in e' ∙ view') alike) f
+    ∙ (ap (λ x. both x (names_in others)) (ap names_in e ∙ view) ∙ ap (λ y. both s y) (ap names_in e' ∙ view'))
+
+pub set_differs : (words given others new : List ℕ) (s : List Bool) → words ≡ given → names_in given ≡ s → length new ≡ length words → ((k : ℕ) → get_or words k 0 < 2 ^ 64)
+    → ((k : ℕ) → get_or new k 0 ≡ bit_and (get_or words k 0) (get_or others k 0))
+    → (k : ℕ) × (k < length words) × (get_or new k 0 ≢ get_or words k 0)
+    → names_in new ≡ s → ⊥
+set_differs words given others new s e view long fits f found same =
+    names_in_differ new words found.0 long found.1
+        (let less : bit_and (get_or words found.0 0) (get_or others found.0 0) ≤ get_or words found.0 0 = and_le_l (get_or words found.0 0) (get_or others found.0 0) in
+         let whole : get_or words found.0 0 < 2 ^ 64 = fits found.0 in
+         omega (arith, f found.0, less, whole))
+        (fits found.0) found.2 (same ∙ sym (ap names_in e ∙ view))

@@ -1,9 +1,9 @@
 -- The search from its start to its end.
-use Rattle.std.proofs.Common.{ℕ, suc, zero, ◌+◌, ◌≡◌, ◌<◌, ◌≤◌, ◌⊎◌, inl, inr, Bool, true, false, List, [], ◌∷◌, ◌++◌, length, get_or, set, replicate, refl, ap, sym, subst, ◌∙◌, arith, length-set, length-append}
+use Rattle.std.proofs.Common.{ℕ, suc, zero, ◌+◌, ◌-◌, ◌≡◌, ◌<◌, ◌≤◌, ◌⊎◌, inl, inr, Bool, true, false, List, [], ◌∷◌, ◌++◌, length, get_or, set, replicate, refl, ap, sym, subst, ◌∙◌, arith, length-set, length-append}
 use Rattle.std.proofs.Math.ListN.{get_or-append}
 use Rattle.std.specs.Prelude.{IsTrue, ◌↔◌}
 use Rattle.std.specs.List.{All, Contains}
-use Rattle.std.proofs.lemmas.List.{get_or-set_same, get_or-set_other, get_or-replicate, length-replicate, get_or_past}
+use Rattle.std.proofs.lemmas.List.{get_or-set_same, get_or-set_other, get_or-replicate, length-replicate, get_or_past, replicate_more}
 use Rattle.std.proofs.lemmas.List.Elements.{All-contains, Contains-push, Contains-push_cases, All-nil, All-cons}
 use Rattle.std.proofs.lemmas.Bool.{cases_eq, cases_lt, cases_Bool, both_ways, false_from_ne_true}
 use Rattle.block_paths.specs.Paths.{Assigns, IsAssignedBefore, IsAssignedIn, IsPathTo, IsSuccessor}
@@ -180,3 +180,8 @@ search_ends successors assigns places state search none block name below place =
   where
     quiet : (b : ℕ) → is_waiting state b ≡ false
     quiet b = false_from_ne_true _ (λ t. let c : Contains state.waiting b = search.listed b t in omega (arith, c.1, ap length none))
+
+-- one more block at the start
+pub first_sets-more : (blocks names : ℕ) → 1 ≤ blocks → first_sets (blocks - 1) names ++ replicate (places_for names) true ∷ [] ≡ first_sets ((blocks + 1) - 1) names
+first_sets-more blocks names some =
+    ap (λ s. replicate (places_for names) false ∷ s) (replicate_more (blocks - 1) (replicate (places_for names) true) ∙ ap (λ n. replicate n (replicate (places_for names) true)) (let e : (blocks - 1) + 1 ≡ (blocks + 1) - 1 = omega (arith, some) in e))

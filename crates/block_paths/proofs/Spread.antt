@@ -1,8 +1,9 @@
 -- One block's names passed on to its successors.
 use Rattle.std.proofs.Common.{ℕ, ◌+◌, ◌≡◌, ◌<◌, ◌≤◌, ◌⊎◌, inl, inr, Bool, true, false, List, [], ◌∷◌, ◌++◌, length, get_or, set, refl, ap, sym, subst, ◌∙◌, arith, length-set, length-append}
-use Rattle.std.specs.Prelude.{IsTrue}
+use Rattle.std.specs.Prelude.{IsTrue, Some, slice_get}
+use Rattle.std.proofs.lemmas.Option.{get_or_from_slice_get}
 use Rattle.std.specs.List.{All, Contains, sum_by}
-use Rattle.std.proofs.lemmas.List.{get_or-set_same, get_or-set_other, set-get_or, get_or_past}
+use Rattle.std.proofs.lemmas.List.{get_or-set_same, get_or-set_other, set-get_or, get_or_default}
 use Rattle.std.proofs.lemmas.List.Elements.{All-push, Contains-append_left, Contains-append_right, Contains-append_cases, Contains-push, All-contains}
 use Rattle.std.proofs.lemmas.List.Sums.{sum_by-set}
 use Rattle.std.proofs.lemmas.Bool.{cases_eq, and_parts, and_from, both_ways}
@@ -117,3 +118,31 @@ spread_more a b c nexts next leaving p q =
     cut : (block name : ℕ) → IsTrue (has c.sets block name) → Contains nexts block ⊎ Contains (next ∷ []) block → IsTrue (has_name leaving name)
     cut block name t (inl found) = p.cut block name found (q.smaller block name t)
     cut block name t (inr found) = q.cut block name found t
+
+-- the same, of a set that is read and put back
+pub cut_keeps_at : (sets : List (List Bool)) (waiting : List ℕ) (marks : List Bool) (next : ℕ) (leaving row new : List Bool) → next < length sets → length (get_or sets next []) ≡ length leaving
+    → slice_get sets next ≡ Some row → new ≡ both row leaving → new ≡ row
+    → IsSpread (record { sets = sets; waiting = waiting; marks = marks }) (record { sets = set sets next new; waiting = waiting; marks = marks }) (next ∷ []) leaving
+cut_keeps_at sets waiting marks next leaving row new within alike read is same =
+    let at : get_or sets next [] ≡ row = get_or_from_slice_get sets next row [] read in
+    let is' : new ≡ both (get_or sets next []) leaving = is ∙ ap (λ r. both r leaving) (sym at) in
+    subst (λ n. IsSpread (record { sets = sets; waiting = waiting; marks = marks }) (record { sets = set sets next n; waiting = waiting; marks = marks }) (next ∷ []) leaving) (sym is')
+        (cut_keeps sets waiting marks next leaving within alike (sym is' ∙ (same ∙ sym at)))
+
+pub cut_again_at : (sets : List (List Bool)) (waiting : List ℕ) (marks : List Bool) (next : ℕ) (leaving row new : List Bool) → next < length sets → length marks ≡ length sets → length (get_or sets next []) ≡ length leaving
+    → slice_get sets next ≡ Some row → new ≡ both row leaving → (mark : Bool) → mark ≡ get_or marks next mark → mark ≡ true
+    → IsSpread (record { sets = sets; waiting = waiting; marks = marks }) (record { sets = set sets next new; waiting = waiting; marks = marks }) (next ∷ []) leaving
+cut_again_at sets waiting marks next leaving row new within long alike read is mark marked up =
+    let at : get_or sets next [] ≡ row = get_or_from_slice_get sets next row [] read in
+    let is' : new ≡ both (get_or sets next []) leaving = is ∙ ap (λ r. both r leaving) (sym at) in
+    subst (λ n. IsSpread (record { sets = sets; waiting = waiting; marks = marks }) (record { sets = set sets next n; waiting = waiting; marks = marks }) (next ∷ []) leaving) (sym is')
+        (cut_again sets waiting marks next leaving within alike (get_or_default marks next false mark (omega (arith, within, long)) ∙ (sym marked ∙ up)))
+
+pub cut_lists_at : (sets : List (List Bool)) (waiting : List ℕ) (marks : List Bool) (next : ℕ) (leaving row new : List Bool) → next < length sets → length marks ≡ length sets → length (get_or sets next []) ≡ length leaving
+    → slice_get sets next ≡ Some row → new ≡ both row leaving → (new ≡ row → ⊥)
+    → IsSpread (record { sets = sets; waiting = waiting; marks = marks }) (record { sets = set sets next new; waiting = waiting ++ next ∷ []; marks = set marks next true }) (next ∷ []) leaving
+cut_lists_at sets waiting marks next leaving row new within long alike read is differ =
+    let at : get_or sets next [] ≡ row = get_or_from_slice_get sets next row [] read in
+    let is' : new ≡ both (get_or sets next []) leaving = is ∙ ap (λ r. both r leaving) (sym at) in
+    subst (λ n. IsSpread (record { sets = sets; waiting = waiting; marks = marks }) (record { sets = set sets next n; waiting = waiting ++ next ∷ []; marks = set marks next true }) (next ∷ []) leaving) (sym is')
+        (cut_lists sets waiting marks next leaving within long alike (λ same. differ (is' ∙ (same ∙ at))))

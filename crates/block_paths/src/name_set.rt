@@ -32,7 +32,7 @@ impl NameSet {
         ensures { IfOk result (λ set. set ≡ replicate (places_for names) false) }
     {
         Ok(NameSet {
-            words: vec![in alloc; 0; names / 64 + 1]?,
+            words: words::alike(alloc, 0, names)?,
         })
     }
 
@@ -41,7 +41,7 @@ impl NameSet {
         ensures { IfOk result (λ set. set ≡ replicate (places_for names) true) }
     {
         Ok(NameSet {
-            words: vec![in alloc; u64::MAX; names / 64 + 1]?,
+            words: words::alike(alloc, u64::MAX, names)?,
         })
     }
 
