@@ -29,18 +29,18 @@ has_name-names_in words name below = at-names_in words name false below
 names_in_is : (words : List ℕ) (set : List Bool) → length set ≡ 64 * length words → ((name : ℕ) (d : Bool) → name < 64 * length words → get_or set name d ≡ has_bit words name) → names_in words ≡ set
 names_in_is words set long f =
     same_lists (names_in words) set (length-names_in words ∙ sym long)
-        (λ k d below. let within : k < 64 * length words = omega (arith, length-names_in words) in at-names_in words k d within ∙ sym (f k d within))
+    (λ k d below. let within : k < 64 * length words = omega (arith, length-names_in words) in at-names_in words k d within ∙ sym (f k d within))
 
 -- words that are all alike
 pub names_in-replicate : (n word : ℕ) (b : Bool) → ((i : ℕ) → i < 64 → nat_eq (bit_at word i) 1 ≡ b) → names_in (replicate n word) ≡ replicate (64 * n) b
 names_in-replicate n word b f =
     let long : length (replicate n word) ≡ n = length-replicate n word in
     names_in_is (replicate n word) (replicate (64 * n) b) (length-replicate (64 * n) b ∙ ap (λ m. 64 * m) (sym long))
-        (λ name d below.
-            let within : name < n * 64 = omega (arith, long) in
-            let place : name / 64 < n = div_below name 64 n (omega arith) within in
-            get_or-replicate (64 * n) name b d (omega arith)
-            ∙ sym (ap (λ w. nat_eq (bit_at w (name % 64)) 1) (get_or-replicate n (name / 64) word 0 place) ∙ f (name % 64) (mod_below name 64 (omega arith))))
+    (λ name d below.
+    let within : name < n * 64 = omega (arith, long) in
+    let place : name / 64 < n = div_below name 64 n (omega arith) within in
+    get_or-replicate (64 * n) name b d (omega arith)
+    ∙ sym (ap (λ w. nat_eq (bit_at w (name % 64)) 1) (get_or-replicate n (name / 64) word 0 place) ∙ f (name % 64) (mod_below name 64 (omega arith))))
 
 pub names_in-zeros : (n : ℕ) → names_in (replicate n 0) ≡ replicate (64 * n) false
 names_in-zeros n = names_in-replicate n 0 false (λ i below. ap (λ d. nat_eq d 1) (bit_at-zero i))
@@ -52,7 +52,7 @@ names_in-ones n = names_in-replicate n 18446744073709551615 true (λ i below. ap
 pub names_in-add : (words : List ℕ) (name : ℕ) → name < 64 * length words → names_in (set words (name / 64) (bit_or (get_or words (name / 64) 0) (1 * 2 ^ (name % 64) % 2 ^ 64))) ≡ set (names_in words) name true
 names_in-add words name below =
     names_in_is _ (set (names_in words) name true) (length-set (names_in words) name true ∙ (length-names_in words ∙ ap (λ m. 64 * m) (sym (length-set words (name / 64) new))))
-        (λ k d within. at k d (omega (arith, length-set words (name / 64) new)) (cases_eq k name) (cases_eq (k / 64) (name / 64)))
+    (λ k d within. at k d (omega (arith, length-set words (name / 64) new)) (cases_eq k name) (cases_eq (k / 64) (name / 64)))
   where
     new : ℕ
     new = bit_or (get_or words (name / 64) 0) (1 * 2 ^ (name % 64) % 2 ^ 64)
@@ -67,11 +67,11 @@ names_in-add words name below =
     at k d within (inl e) _ =
         rw e (get_or-set_same (names_in words) name true d (omega (arith, length-names_in words))
         ∙ sym (ap (λ w. nat_eq (bit_at w (name % 64)) 1) (get_or-set_same words (name / 64) new 0 place)
-            ∙ ap (λ b. nat_eq b 1) (bit_at_set_same w64 (get_or words (name / 64) 0) (name % 64) bit)))
+        ∙ ap (λ b. nat_eq b 1) (bit_at_set_same w64 (get_or words (name / 64) 0) (name % 64) bit)))
     at k d within (inr other) (inl e) =
         get_or-set_other (names_in words) name k true d other ∙ at-names_in words k d within
         ∙ sym (rw e (ap (λ w. nat_eq (bit_at w (k % 64)) 1) (get_or-set_same words (name / 64) new 0 place)
-            ∙ ap (λ b. nat_eq b 1) (bit_at_set_other w64 (get_or words (name / 64) 0) (name % 64) bit (k % 64) (λ same. other (omega (arith, e, same))))))
+        ∙ ap (λ b. nat_eq b 1) (bit_at_set_other w64 (get_or words (name / 64) 0) (name % 64) bit (k % 64) (λ same. other (omega (arith, e, same))))))
     at k d within (inr other) (inr away) =
         get_or-set_other (names_in words) name k true d other ∙ at-names_in words k d within
         ∙ sym (ap (λ w. nat_eq (bit_at w (k % 64)) 1) (get_or-set_other words (name / 64) (k / 64) new 0 away))
@@ -100,18 +100,18 @@ both_one (suc (suc a)) b below _ = absurd (omega (arith, below))
 pub names_in-both : (new words others : List ℕ) → length new ≡ length words → length words ≡ length others → ((k : ℕ) → get_or new k 0 ≡ bit_and (get_or words k 0) (get_or others k 0)) → names_in new ≡ both (names_in words) (names_in others)
 names_in-both new words others alike long f =
     names_in_is new (both (names_in words) (names_in others))
-        (length-both (names_in words) (names_in others) (length-names_in words ∙ ap (λ n. 64 * n) long ∙ sym (length-names_in others)) ∙ length-names_in words ∙ ap (λ n. 64 * n) (sym alike))
-        (λ k d below.
-            let within : k < 64 * length words = omega (arith, alike) in
-            let within' : k < 64 * length others = omega (arith, long, alike) in
-            let whole : length (both (names_in words) (names_in others)) ≡ 64 * length words = length-both (names_in words) (names_in others) (length-names_in words ∙ ap (λ n. 64 * n) long ∙ sym (length-names_in others)) ∙ length-names_in words in
-            default (both (names_in words) (names_in others)) k d (omega (arith, whole))
-            ∙ has_name-both (names_in words) (names_in others) k
-            ∙ ap (λ b. b && has_name (names_in others) k) (has_name-names_in words k within)
-            ∙ ap (λ b. has_bit words k && b) (has_name-names_in others k within')
-            ∙ sym (ap (λ w. nat_eq (bit_at w (k % 64)) 1) (f (k / 64))
-                ∙ ap (λ b. nat_eq b 1) (bit_at_and (get_or words (k / 64) 0) (get_or others (k / 64) 0) (k % 64))
-                ∙ both_one _ _ (bit_at-lt (get_or words (k / 64) 0) (k % 64)) (bit_at-lt (get_or others (k / 64) 0) (k % 64))))
+    (length-both (names_in words) (names_in others) (length-names_in words ∙ ap (λ n. 64 * n) long ∙ sym (length-names_in others)) ∙ length-names_in words ∙ ap (λ n. 64 * n) (sym alike))
+    (λ k d below.
+    let within : k < 64 * length words = omega (arith, alike) in
+    let within' : k < 64 * length others = omega (arith, long, alike) in
+    let whole : length (both (names_in words) (names_in others)) ≡ 64 * length words = length-both (names_in words) (names_in others) (length-names_in words ∙ ap (λ n. 64 * n) long ∙ sym (length-names_in others)) ∙ length-names_in words in
+    default (both (names_in words) (names_in others)) k d (omega (arith, whole))
+    ∙ has_name-both (names_in words) (names_in others) k
+    ∙ ap (λ b. b && has_name (names_in others) k) (has_name-names_in words k within)
+    ∙ ap (λ b. has_bit words k && b) (has_name-names_in others k within')
+    ∙ sym (ap (λ w. nat_eq (bit_at w (k % 64)) 1) (f (k / 64))
+    ∙ ap (λ b. nat_eq b 1) (bit_at_and (get_or words (k / 64) 0) (get_or others (k / 64) 0) (k % 64))
+    ∙ both_one _ _ (bit_at-lt (get_or words (k / 64) 0) (k % 64)) (bit_at-lt (get_or others (k / 64) 0) (k % 64))))
   where
     default : (set : List Bool) (k : ℕ) (d : Bool) → k < length set → get_or set k d ≡ get_or set k false
     default [] k d below = absurd (omega (arith, below))
@@ -125,7 +125,7 @@ same_digit a b p q e = grind (arith, nat_tests)
 pub names_in_differ : (new words : List ℕ) (k : ℕ) → length new ≡ length words → k < length words → get_or new k 0 < 2 ^ 64 → get_or words k 0 < 2 ^ 64 → get_or new k 0 ≢ get_or words k 0 → names_in new ≡ names_in words → ⊥
 names_in_differ new words k long place fits fits' differ same =
     differ (same_from_bits_below 64 (get_or new k 0) (get_or words k 0) fits fits' (λ i below.
-        same_digit _ _ (bit_at-lt (get_or new k 0) i) (bit_at-lt (get_or words k 0) i) (sym (read new i below (omega arith)) ∙ ap (λ s. has_name s (k * 64 + i)) same ∙ read words i below place)))
+    same_digit _ _ (bit_at-lt (get_or new k 0) i) (bit_at-lt (get_or words k 0) i) (sym (read new i below (omega arith)) ∙ ap (λ s. has_name s (k * 64 + i)) same ∙ read words i below place)))
   where
     read : (ws : List ℕ) (i : ℕ) → i < 64 → k < length ws → has_name (names_in ws) (k * 64 + i) ≡ nat_eq (bit_at (get_or ws k 0) i) 1
     read ws i below within =
@@ -172,6 +172,7 @@ set_is-add words given new s name e view below is =
   where
     whole : names_in words ≡ s
     whole = ap names_in e ∙ view
+
     long : length s ≡ 64 * length words
     long = ap length (sym whole) ∙ length-names_in words
 
@@ -181,6 +182,7 @@ set_is-has words given s name e view below =
   where
     whole : names_in words ≡ s
     whole = ap names_in e ∙ view
+
     long : length s ≡ 64 * length words
     long = ap length (sym whole) ∙ length-names_in words
 
@@ -203,7 +205,7 @@ pub set_differs : (words given others new : List ℕ) (s : List Bool) → words 
     → names_in new ≡ s → ⊥
 set_differs words given others new s e view long fits f found same =
     names_in_differ new words found.0 long found.1
-        (let less : bit_and (get_or words found.0 0) (get_or others found.0 0) ≤ get_or words found.0 0 = and_le_l (get_or words found.0 0) (get_or others found.0 0) in
-         let whole : get_or words found.0 0 < 2 ^ 64 = fits found.0 in
-         omega (arith, f found.0, less, whole))
-        (fits found.0) found.2 (same ∙ sym (ap names_in e ∙ view))
+    (let less : bit_and (get_or words found.0 0) (get_or others found.0 0) ≤ get_or words found.0 0 = and_le_l (get_or words found.0 0) (get_or others found.0 0) in
+    let whole : get_or words found.0 0 < 2 ^ 64 = fits found.0 in
+    omega (arith, f found.0, less, whole))
+    (fits found.0) found.2 (same ∙ sym (ap names_in e ∙ view))

@@ -1,9 +1,10 @@
 -- The search from its start to its end.
 use Rattle.std.proofs.Common.{ℕ, suc, zero, ◌+◌, ◌-◌, ◌≡◌, ◌<◌, ◌≤◌, ◌⊎◌, inl, inr, Bool, true, false, List, [], ◌∷◌, ◌++◌, length, get_or, set, replicate, refl, ap, sym, subst, ◌∙◌, arith, length-set, length-append}
 use Rattle.std.proofs.Math.ListN.{get_or-append}
-use Rattle.std.specs.Prelude.{IsTrue, ◌↔◌}
+use Rattle.std.specs.Prelude.{IsTrue, Some, slice_get, ◌↔◌}
+use Rattle.std.proofs.lemmas.Option.{get_or_from_slice_get}
 use Rattle.std.specs.List.{All, Contains}
-use Rattle.std.proofs.lemmas.List.{get_or-set_same, get_or-set_other, get_or-replicate, length-replicate, get_or_past, replicate_more}
+use Rattle.std.proofs.lemmas.List.{get_or-set_same, get_or-set_other, get_or-replicate, length-replicate, get_or_default, get_or_past, replicate_more}
 use Rattle.std.proofs.lemmas.List.Elements.{All-contains, Contains-push, Contains-push_cases, All-nil, All-cons}
 use Rattle.std.proofs.lemmas.Bool.{cases_eq, cases_lt, cases_Bool, both_ways, false_from_ne_true}
 use Rattle.block_paths.specs.Paths.{Assigns, IsAssignedBefore, IsAssignedIn, IsPathTo, IsSuccessor}
@@ -44,7 +45,7 @@ pub search_starts : (successors assigns : List (List ℕ)) (names others : ℕ) 
     → IsSearch successors assigns (places_for names) (record { sets = first_sets others names; waiting = 0 ∷ []; marks = set (replicate (others + 1) false) 0 true })
 search_starts successors assigns names others many within =
     record {
-      blocks = ap (λ n. suc n) (length-replicate others full) ∙ omega (arith, many);
+      many = ap (λ n. suc n) (length-replicate others full) ∙ omega (arith, many);
       marks = length-set (replicate (others + 1) false) 0 true ∙ (length-replicate (others + 1) false ∙ sym many);
       wide = wide;
       within = All-cons (λ block. block < length successors) 0 [] (omega (arith, many)) (All-nil (λ block. block < length successors));
@@ -109,7 +110,7 @@ pub search_goes_on : (successors assigns : List (List ℕ)) (places : ℕ) (old 
     → IsSearch successors assigns places new
 search_goes_on successors assigns places old taken new block leaving search sets waiting marks leaves spread =
     record {
-      blocks = spread.blocks ∙ (ap length sets ∙ search.blocks);
+      many = spread.many ∙ (ap length sets ∙ search.many);
       marks = spread.marks ∙ (ap length marks ∙ (length-set old.marks block false ∙ search.marks));
       wide = λ b below. spread.places b ∙ (ap (λ s. length (get_or s b [])) sets ∙ search.wide b below);
       within = subst (λ n. All (λ b. b < n) new.waiting) many (spread.within (subst (λ n. All (λ b. b < n) taken.waiting) (sym many) waiting_within));
@@ -120,7 +121,7 @@ search_goes_on successors assigns places old taken new block leaving search sets
     }
   where
     many : length taken.sets ≡ length successors
-    many = ap length sets ∙ search.blocks
+    many = ap length sets ∙ search.many
 
     all_within : All (λ b. b < length successors) (taken.waiting ++ block ∷ [])
     all_within = subst (λ ws. All (λ b. b < length successors) ws) waiting search.within
@@ -158,7 +159,7 @@ search_goes_on successors assigns places old taken new block leaving search sets
         cases (inl t) = t
         cases (inr f) =
             (leaves.names name).1 (inl (search.sound block name block_within place (handed_on successors assigns block b name edge before
-                (λ here. both_ways _ f ((leaves.names name).1 (inr here))))))
+            (λ here. both_ways _ f ((leaves.names name).1 (inr here))))))
 
     passes : (b next name : ℕ) → get_or new.marks b false ≡ false → IsSuccessor successors b next → IsTrue (has new.sets next name) → (b ≡ block) ⊎ (b ≡ block → ⊥) → IsTrue (has new.sets b name) ⊎ Assigns assigns b name
     passes b next name m edge t (inl e) = again ((leaves.names name).0 (spread.cut next name (subst (λ x. IsSuccessor successors x next) e edge) t))
@@ -173,15 +174,62 @@ search_goes_on successors assigns places old taken new block leaving search sets
         again (inr here) = inr here
 
 -- the end: no block waits
-pub search_ends : (successors assigns : List (List ℕ)) (places : ℕ) (state : State) → IsSearch successors assigns places state → state.waiting ≡ []
+pub search_ends : (successors assigns : List (List ℕ)) (places : ℕ) (state : State) → IsSearch successors assigns places state → length state.waiting ≡ 0
     → (block name : ℕ) → block < length successors → name < places → IsTrue (has state.sets block name) ↔ IsAssignedBefore successors assigns block name
 search_ends successors assigns places state search none block name below place =
     (on_each_path successors assigns state.sets name (search.entry name) (λ b next edge t. search.passed b next name (quiet b) edge t) block, search.sound block name below place)
   where
     quiet : (b : ℕ) → is_waiting state b ≡ false
-    quiet b = false_from_ne_true _ (λ t. let c : Contains state.waiting b = search.listed b t in omega (arith, c.1, ap length none))
+    quiet b = false_from_ne_true _ (λ t. let c : Contains state.waiting b = search.listed b t in omega (arith, c.1, none))
 
 -- one more block at the start
 pub first_sets-more : (blocks names : ℕ) → 1 ≤ blocks → first_sets (blocks - 1) names ++ replicate (places_for names) true ∷ [] ≡ first_sets ((blocks + 1) - 1) names
 first_sets-more blocks names some =
     ap (λ s. replicate (places_for names) false ∷ s) (replicate_more (blocks - 1) (replicate (places_for names) true) ∙ ap (λ n. replicate n (replicate (places_for names) true)) (let e : (blocks - 1) + 1 ≡ (blocks + 1) - 1 = omega (arith, some) in e))
+
+-- the block that is taken off the list
+pub block_below : (successors assigns : List (List ℕ)) (places : ℕ) (state : State) (ws : List ℕ) (block : ℕ) → IsSearch successors assigns places state → state.waiting ≡ ws ++ block ∷ [] → block < length successors
+block_below successors assigns places state ws block search e =
+    All-contains (λ b. b < length successors) (ws ++ block ∷ []) block (subst (λ xs. All (λ b. b < length successors) xs) e search.within) (Contains-push ws block)
+
+pub set_places : (successors assigns : List (List ℕ)) (places : ℕ) (state : State) (block : ℕ) (row : List Bool) → IsSearch successors assigns places state → block < length successors → slice_get state.sets block ≡ Some row → length row ≡ places
+set_places successors assigns places state block row search below read = ap length (sym (get_or_from_slice_get state.sets block row [] read)) ∙ search.wide block below
+
+-- a list that is read is the one at the block
+pub list_at : (lists : List (List ℕ)) (block : ℕ) (row xs : List ℕ) → block < length lists → xs ≡ row → row ≡ get_or lists block row → xs ≡ get_or lists block []
+list_at lists block row xs below e read = e ∙ (read ∙ get_or_default lists block row [] below)
+
+pub names_fit : (assigns : List (List ℕ)) (block names places : ℕ) (xs : List ℕ) → block < length assigns → All (All (λ name. name < names)) assigns → xs ≡ get_or assigns block [] → places ≡ places_for names → All (λ name. name < places) xs
+names_fit assigns block names places xs below all e long k d less =
+    let name_below : get_or xs k d < names = subst (λ ys. All (λ name. name < names) ys) (sym e) (all block [] below) k d less in
+    omega (arith, name_below, long)
+
+pub nexts_fit : (successors : List (List ℕ)) (block : ℕ) (xs : List ℕ) → block < length successors → All (All (λ next. next < length successors)) successors → xs ≡ get_or successors block [] → All (λ next. next < length successors) xs
+nexts_fit successors block xs below all e = subst (λ ys. All (λ next. next < length successors) ys) (sym e) (all block [] below)
+
+-- one turn of the search
+pub search_turns : (successors assigns : List (List ℕ)) (places : ℕ) (old taken new : State) (block : ℕ) (row leaving : List Bool) (assigned nexts : List ℕ)
+    → IsSearch successors assigns places old
+    → taken.sets ≡ old.sets → old.waiting ≡ taken.waiting ++ block ∷ [] → taken.marks ≡ set old.marks block false
+    → slice_get old.sets block ≡ Some row → assigned ≡ get_or assigns block [] → nexts ≡ get_or successors block []
+    → IsLeaving row assigned leaving → IsSpread taken new nexts leaving
+    → IsSearch successors assigns places new
+search_turns successors assigns places old taken new block row leaving assigned nexts search sets waiting marks read is is' leaves spread =
+    search_goes_on successors assigns places old taken new block leaving search sets waiting marks
+    (subst (λ r. IsLeaving r (get_or assigns block []) leaving) (sym (get_or_from_slice_get old.sets block row [] read)) (subst (λ xs. IsLeaving row xs leaving) is leaves))
+    (subst (λ xs. IsSpread taken new xs leaving) is' spread)
+
+pub search_starts_at : (successors assigns : List (List ℕ)) (names blocks : ℕ) (state : State) → length successors ≡ blocks → 0 < blocks → All (All (λ next. next < length successors)) successors
+    → state.sets ≡ first_sets (blocks - 1) names → state.waiting ≡ 0 ∷ [] → state.marks ≡ set (replicate blocks false) 0 true
+    → IsSearch successors assigns (places_for names) state
+search_starts_at successors assigns names blocks state long some within sets waiting marks =
+    subst (λ s. IsSearch successors assigns (places_for names) s) whole (search_starts successors assigns names (blocks - 1) (omega (arith, long, some)) within)
+  where
+    less : (blocks - 1) + 1 ≡ blocks
+    less = omega (arith, some)
+
+    marked : set (replicate ((blocks - 1) + 1) false) 0 true ≡ state.marks
+    marked = ap (λ n. set (replicate n false) 0 true) less ∙ sym marks
+
+    whole : record { sets = first_sets (blocks - 1) names; waiting = 0 ∷ []; marks = set (replicate ((blocks - 1) + 1) false) 0 true } ≡ state
+    whole = λ i. record { sets = sym sets i; waiting = sym waiting i; marks = marked i }

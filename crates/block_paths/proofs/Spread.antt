@@ -38,7 +38,7 @@ cut_spreads sets waiting waiting' marks marks' next leaving within alike long qu
     let row : List Bool = get_or sets next [] in
     let new : List Bool = both row leaving in
     record {
-      blocks = length-set sets next new;
+      many = length-set sets next new;
       marks = long;
       places = at_set sets next new within (λ block s. length s ≡ length (get_or sets block [])) (length-both row leaving alike) (λ block away. refl);
       smaller = at_set sets next new within (λ block s. (name : ℕ) → IsTrue (has_name s name) → IsTrue (has_name (get_or sets block []) name))
@@ -74,9 +74,9 @@ pub cut_lists : (sets : List (List Bool)) (waiting : List ℕ) (marks : List Boo
     → IsSpread (record { sets = sets; waiting = waiting; marks = marks }) (record { sets = set sets next (both (get_or sets next []) leaving); waiting = waiting ++ next ∷ []; marks = set marks next true }) (next ∷ []) leaving
 cut_lists sets waiting marks next leaving within long alike differ =
     cut_spreads sets waiting (waiting ++ next ∷ []) marks (set marks next true) next leaving within alike (length-set marks next true)
-        (λ m. absurd (both_ways _ m here)) (λ block m. unmarked block (cases_eq block next) m) (λ l block m. stands l block (cases_eq block next) m)
-        (λ a. All-push (λ block. block < length sets) waiting next a within)
-        (omega (arith, count-both_less (get_or sets next []) leaving alike differ, length-append waiting (next ∷ [])))
+    (λ m. absurd (both_ways _ m here)) (λ block m. unmarked block (cases_eq block next) m) (λ l block m. stands l block (cases_eq block next) m)
+    (λ a. All-push (λ block. block < length sets) waiting next a within)
+    (omega (arith, count-both_less (get_or sets next []) leaving alike differ, length-append waiting (next ∷ [])))
   where
     here : get_or (set marks next true) next false ≡ true
     here = get_or-set_same marks next true false (omega (arith, within, long))
@@ -93,16 +93,24 @@ cut_lists sets waiting marks next leaving within long alike differ =
 pub spread_none : (state : State) (leaving : List Bool) → IsSpread state state [] leaving
 spread_none state leaving =
     record {
-      blocks = refl; marks = refl; places = λ block. refl; smaller = λ block name t. t;
+      many = refl;
+      marks = refl;
+      places = λ block. refl;
+      smaller = λ block name t. t;
       cut = λ block name c t. absurd (omega (arith, c.1));
-      kept = λ block name t f. t; same = λ block m. refl; waits = λ block m. m; listed = λ l. l; within = λ a. a; rest = omega arith;
+      kept = λ block name t f. t;
+      same = λ block m. refl;
+      waits = λ block m. m;
+      listed = λ l. l;
+      within = λ a. a;
+      rest = omega arith;
     }
 
 -- and one more
 pub spread_more : (a b c : State) (nexts : List ℕ) (next : ℕ) (leaving : List Bool) → IsSpread a b nexts leaving → IsSpread b c (next ∷ []) leaving → IsSpread a c (nexts ++ next ∷ []) leaving
 spread_more a b c nexts next leaving p q =
     record {
-      blocks = q.blocks ∙ p.blocks;
+      many = q.many ∙ p.many;
       marks = q.marks ∙ p.marks;
       places = λ block. q.places block ∙ p.places block;
       smaller = λ block name t. p.smaller block name (q.smaller block name t);
@@ -111,7 +119,7 @@ spread_more a b c nexts next leaving p q =
       same = λ block m. q.same block m ∙ p.same block (q.waits block m);
       waits = λ block m. p.waits block (q.waits block m);
       listed = λ l. q.listed (p.listed l);
-      within = λ w. subst (λ n. All (λ block. block < n) c.waiting) p.blocks (q.within (subst (λ n. All (λ block. block < n) b.waiting) (sym p.blocks) (p.within w)));
+      within = λ w. subst (λ n. All (λ block. block < n) c.waiting) p.many (q.within (subst (λ n. All (λ block. block < n) b.waiting) (sym p.many) (p.within w)));
       rest = omega (arith, p.rest, q.rest);
     }
   where
@@ -127,7 +135,7 @@ cut_keeps_at sets waiting marks next leaving row new within alike read is same =
     let at : get_or sets next [] ≡ row = get_or_from_slice_get sets next row [] read in
     let is' : new ≡ both (get_or sets next []) leaving = is ∙ ap (λ r. both r leaving) (sym at) in
     subst (λ n. IsSpread (record { sets = sets; waiting = waiting; marks = marks }) (record { sets = set sets next n; waiting = waiting; marks = marks }) (next ∷ []) leaving) (sym is')
-        (cut_keeps sets waiting marks next leaving within alike (sym is' ∙ (same ∙ sym at)))
+    (cut_keeps sets waiting marks next leaving within alike (sym is' ∙ (same ∙ sym at)))
 
 pub cut_again_at : (sets : List (List Bool)) (waiting : List ℕ) (marks : List Bool) (next : ℕ) (leaving row new : List Bool) → next < length sets → length marks ≡ length sets → length (get_or sets next []) ≡ length leaving
     → slice_get sets next ≡ Some row → new ≡ both row leaving → (mark : Bool) → mark ≡ get_or marks next mark → mark ≡ true
@@ -136,7 +144,7 @@ cut_again_at sets waiting marks next leaving row new within long alike read is m
     let at : get_or sets next [] ≡ row = get_or_from_slice_get sets next row [] read in
     let is' : new ≡ both (get_or sets next []) leaving = is ∙ ap (λ r. both r leaving) (sym at) in
     subst (λ n. IsSpread (record { sets = sets; waiting = waiting; marks = marks }) (record { sets = set sets next n; waiting = waiting; marks = marks }) (next ∷ []) leaving) (sym is')
-        (cut_again sets waiting marks next leaving within alike (get_or_default marks next false mark (omega (arith, within, long)) ∙ (sym marked ∙ up)))
+    (cut_again sets waiting marks next leaving within alike (get_or_default marks next false mark (omega (arith, within, long)) ∙ (sym marked ∙ up)))
 
 pub cut_lists_at : (sets : List (List Bool)) (waiting : List ℕ) (marks : List Bool) (next : ℕ) (leaving row new : List Bool) → next < length sets → length marks ≡ length sets → length (get_or sets next []) ≡ length leaving
     → slice_get sets next ≡ Some row → new ≡ both row leaving → (new ≡ row → ⊥)
@@ -145,4 +153,4 @@ cut_lists_at sets waiting marks next leaving row new within long alike read is d
     let at : get_or sets next [] ≡ row = get_or_from_slice_get sets next row [] read in
     let is' : new ≡ both (get_or sets next []) leaving = is ∙ ap (λ r. both r leaving) (sym at) in
     subst (λ n. IsSpread (record { sets = sets; waiting = waiting; marks = marks }) (record { sets = set sets next n; waiting = waiting ++ next ∷ []; marks = set marks next true }) (next ∷ []) leaving) (sym is')
-        (cut_lists sets waiting marks next leaving within long alike (λ same. differ (is' ∙ (same ∙ at))))
+    (cut_lists sets waiting marks next leaving within long alike (λ same. differ (is' ∙ (same ∙ at))))

@@ -43,7 +43,7 @@ pub record IsLeaving (set : List Bool) (assigned : List ℕ) (leaving : List Boo
 
 -- the sets of some blocks are cut down to the names that leave, and a block whose set became smaller waits
 pub record IsSpread (old new : State) (nexts : List ℕ) (leaving : List Bool) : Type 0 where
-  pub blocks : length new.sets ≡ length old.sets
+  pub many : length new.sets ≡ length old.sets
   pub marks : length new.marks ≡ length old.marks
   pub places : (block : ℕ) → length (set_of new block) ≡ length (set_of old block)
   pub smaller : (block name : ℕ) → IsTrue (has new.sets block name) → IsTrue (has old.sets block name)
@@ -58,7 +58,7 @@ pub record IsSpread (old new : State) (nexts : List ℕ) (leaving : List Bool) :
 -- what holds all through the search: no set lacks a name that every path assigns, and the sets behind a
 -- block that does not wait have no name that the block does not hand on
 pub record IsSearch (successors assigns : List (List ℕ)) (places : ℕ) (state : State) : Type 0 where
-  pub blocks : length state.sets ≡ length successors
+  pub many : length state.sets ≡ length successors
   pub marks : length state.marks ≡ length successors
   pub wide : (block : ℕ) → block < length successors → length (set_of state block) ≡ places
   pub within : All (λ block. block < length successors) state.waiting

@@ -16,11 +16,8 @@ mod name_sets;
 mod words;
 mod work;
 
-
-
-pub use name_sets::NameSets;
-
 use name_set::NameSet;
+pub use name_sets::NameSets;
 use std::alloc::Global;
 use support::{NoMemory, Sequence};
 use work::Work;

@@ -12,9 +12,9 @@ pub returns-clause-both : goal.returns-clause-both
 returns-clause-both c =
     ap names_in (with_items_is c.self.inside.words c.cut.new.words (c.cut.auto.words ∙ c.deref_mut.ensures.len))
     ∙ set_is-both c.deref_mut.result.now c.self.inside.words.items c.deref.result.now c.other.inside.words.items c.cut.new.words c.args.self.now c.args.other.now
-        c.deref_mut.ensures.value c.self.view_is c.deref.ensures.value c.other.view_is c.requires c.cut.auto.words c.cut.ensures.both
+    c.deref_mut.ensures.value c.self.view_is c.deref.ensures.value c.other.view_is c.requires c.cut.auto.words c.cut.ensures.both
 
 pub returns-clause-changed : goal.returns-clause-changed
 returns-clause-changed c changed same =
     set_differs c.deref_mut.result.now c.self.inside.words.items c.deref.result.now c.cut.new.words c.args.self.now c.deref_mut.ensures.value c.self.view_is c.cut.auto.words c.cut.ensures.fits c.cut.ensures.both (c.cut.ensures.changed changed)
-        (sym (ap names_in (with_items_is c.self.inside.words c.cut.new.words (c.cut.auto.words ∙ c.deref_mut.ensures.len))) ∙ same)
+    (sym (ap names_in (with_items_is c.self.inside.words c.cut.new.words (c.cut.auto.words ∙ c.deref_mut.ensures.len))) ∙ same)

@@ -8,10 +8,10 @@ pub loop-next-init : goal.loop-next-init
 loop-next-init c = spread_none (state_of c.args.self.now) c.args.leaving.now
 
 pub cut-requires-clause-within : goal.cut-requires-clause-within
-cut-requires-clause-within c = omega (arith, c.requires.within c.loop-next.next-index 0 c.loop-next-test.true, c.loop-next.invariant.blocks)
+cut-requires-clause-within c = omega (arith, c.requires.within c.loop-next.next-index 0 c.loop-next-test.true, c.loop-next.invariant.many)
 
 pub cut-requires-clause-marks : goal.cut-requires-clause-marks
-cut-requires-clause-marks c = c.loop-next.invariant.marks ∙ (c.requires.marks ∙ sym c.loop-next.invariant.blocks)
+cut-requires-clause-marks c = c.loop-next.invariant.marks ∙ (c.requires.marks ∙ sym c.loop-next.invariant.many)
 
 pub cut-requires-clause-alike : goal.cut-requires-clause-alike
 cut-requires-clause-alike c = c.loop-next.invariant.places (get_or c.args.nexts.now c.loop-next.next-index 0) ∙ c.requires.alike c.loop-next.next-index 0 c.loop-next-test.true
