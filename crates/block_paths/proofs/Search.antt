@@ -7,9 +7,21 @@ use Rattle.std.specs.List.{All, Contains}
 use Rattle.std.proofs.lemmas.List.{get_or-set_same, get_or-set_other, get_or-replicate, length-replicate, get_or_default, get_or_past, replicate_more}
 use Rattle.std.proofs.lemmas.List.Elements.{All-contains, Contains-push, Contains-push_cases, All-nil, All-cons}
 use Rattle.std.proofs.lemmas.Bool.{cases_eq, cases_lt, cases_Bool, both_ways, false_from_ne_true}
-use Rattle.block_paths.specs.Paths.{Assigns, IsAssignedBefore, IsAssignedIn, IsPathTo, IsSuccessor}
+use Rattle.block_paths.specs.Paths.{Assigns, IsAssignedBefore, IsAssignedIn, IsSuccessor}
 use Rattle.block_paths.specs.Sets.{has, has_name, places_for}
-use Rattle.block_paths.specs.Work.{State, AreListed, IsLeaving, IsSearch, IsSpread, first_sets, is_waiting, set_of}
+use Rattle.block_paths.specs.Work.{AreListed, IsLeaving, IsSpread, State, first_sets, is_waiting, set_of}
+
+-- what holds all through the search: no set lacks a name that every path assigns, and the sets behind a
+-- block that does not wait have no name that the block does not hand on
+pub record IsSearch (successors assigns : List (List ℕ)) (places : ℕ) (state : State) : Type 0 where
+  pub many : length state.sets ≡ length successors
+  pub marks : length state.marks ≡ length successors
+  pub wide : (block : ℕ) → block < length successors → length (set_of state block) ≡ places
+  pub within : All (λ block. block < length successors) state.waiting
+  pub listed : AreListed state
+  pub entry : (name : ℕ) → has state.sets 0 name ≡ false
+  pub sound : (block name : ℕ) → block < length successors → name < places → IsAssignedBefore successors assigns block name → IsTrue (has state.sets block name)
+  pub passed : (block next name : ℕ) → is_waiting state block ≡ false → IsSuccessor successors block next → IsTrue (has state.sets next name) → IsTrue (has state.sets block name) ⊎ Assigns assigns block name
 
 -- a name of a set has a place there
 place_of : (s : List Bool) (name : ℕ) → IsTrue (has_name s name) → name < length s
@@ -108,23 +120,23 @@ pub search_goes_on : (successors assigns : List (List ℕ)) (places : ℕ) (old 
     → IsLeaving (set_of old block) (get_or assigns block []) leaving
     → IsSpread taken new (get_or successors block []) leaving
     → IsSearch successors assigns places new
-search_goes_on successors assigns places old taken new block leaving search sets waiting marks leaves spread =
+search_goes_on successors assigns places old taken new block leaving held sets waiting marks leaves spread =
     record {
-      many = spread.many ∙ (ap length sets ∙ search.many);
-      marks = spread.marks ∙ (ap length marks ∙ (length-set old.marks block false ∙ search.marks));
-      wide = λ b below. spread.places b ∙ (ap (λ s. length (get_or s b [])) sets ∙ search.wide b below);
+      many = spread.many ∙ (ap length sets ∙ held.many);
+      marks = spread.marks ∙ (ap length marks ∙ (length-set old.marks block false ∙ held.marks));
+      wide = λ b below. spread.places b ∙ (ap (λ s. length (get_or s b [])) sets ∙ held.wide b below);
       within = subst (λ n. All (λ b. b < n) new.waiting) many (spread.within (subst (λ n. All (λ b. b < n) taken.waiting) (sym many) waiting_within));
       listed = spread.listed listed;
-      entry = λ name. false_from_ne_true _ (λ t. both_ways _ (search.entry name) (was 0 name t));
-      sound = λ b name below place before. spread.kept b name (ap (λ s. has s b name) sets ∙ search.sound b name below place before) (λ edge. leaves_on b name edge place before);
+      entry = λ name. false_from_ne_true _ (λ t. both_ways _ (held.entry name) (was 0 name t));
+      sound = λ b name below place before. spread.kept b name (ap (λ s. has s b name) sets ∙ held.sound b name below place before) (λ edge. leaves_on b name edge place before);
       passed = λ b next name m edge t. passes b next name m edge t (cases_eq b block);
     }
   where
     many : length taken.sets ≡ length successors
-    many = ap length sets ∙ search.many
+    many = ap length sets ∙ held.many
 
     all_within : All (λ b. b < length successors) (taken.waiting ++ block ∷ [])
-    all_within = subst (λ ws. All (λ b. b < length successors) ws) waiting search.within
+    all_within = subst (λ ws. All (λ b. b < length successors) ws) waiting held.within
 
     block_within : block < length successors
     block_within = All-contains (λ b. b < length successors) (taken.waiting ++ block ∷ []) block all_within (Contains-push taken.waiting block)
@@ -136,7 +148,7 @@ search_goes_on successors assigns places old taken new block leaving search sets
     was b name t = ap (λ s. has s b name) (sym sets) ∙ spread.smaller b name t
 
     cleared : get_or taken.marks block false ≡ false
-    cleared = ap (λ m. get_or m block false) marks ∙ get_or-set_same old.marks block false false (omega (arith, block_within, search.marks))
+    cleared = ap (λ m. get_or m block false) marks ∙ get_or-set_same old.marks block false false (omega (arith, block_within, held.marks))
 
     other_mark : (b : ℕ) → (b ≡ block → ⊥) → get_or taken.marks b false ≡ get_or old.marks b false
     other_mark b away = ap (λ m. get_or m b false) marks ∙ get_or-set_other old.marks block b false false away
@@ -146,7 +158,7 @@ search_goes_on successors assigns places old taken new block leaving search sets
       where
         cases : (b ≡ block) ⊎ (b ≡ block → ⊥) → Contains taken.waiting b
         cases (inl e) = absurd (both_ways _ (ap (λ x. get_or taken.marks x false) e ∙ cleared) t)
-        cases (inr away) = found (Contains-push_cases taken.waiting block b (subst (λ ws. Contains ws b) waiting (search.listed b (sym (other_mark b away) ∙ t))))
+        cases (inr away) = found (Contains-push_cases taken.waiting block b (subst (λ ws. Contains ws b) waiting (held.listed b (sym (other_mark b away) ∙ t))))
           where
             found : Contains taken.waiting b ⊎ (block ≡ b) → Contains taken.waiting b
             found (inl c) = c
@@ -158,7 +170,7 @@ search_goes_on successors assigns places old taken new block leaving search sets
         cases : (has_name leaving name ≡ true) ⊎ (has_name leaving name ≡ false) → IsTrue (has_name leaving name)
         cases (inl t) = t
         cases (inr f) =
-            (leaves.names name).1 (inl (search.sound block name block_within place (handed_on successors assigns block b name edge before
+            (leaves.names name).1 (inl (held.sound block name block_within place (handed_on successors assigns block b name edge before
             (λ here. both_ways _ f ((leaves.names name).1 (inr here))))))
 
     passes : (b next name : ℕ) → get_or new.marks b false ≡ false → IsSuccessor successors b next → IsTrue (has new.sets next name) → (b ≡ block) ⊎ (b ≡ block → ⊥) → IsTrue (has new.sets b name) ⊎ Assigns assigns b name
@@ -167,7 +179,7 @@ search_goes_on successors assigns places old taken new block leaving search sets
         again : IsTrue (has_name (set_of old block) name) ⊎ Contains (get_or assigns block []) name → IsTrue (has new.sets b name) ⊎ Assigns assigns b name
         again (inl kept) = inl (ap (λ s. has_name s name) (spread.same b m) ∙ (ap (λ s. has s b name) sets ∙ (ap (λ x. has old.sets x name) e ∙ kept)))
         again (inr here) = inr (subst (λ x. Assigns assigns x name) (sym e) here)
-    passes b next name m edge t (inr away) = again (search.passed b next name (sym (other_mark b away) ∙ spread.waits b m) edge (was next name t))
+    passes b next name m edge t (inr away) = again (held.passed b next name (sym (other_mark b away) ∙ spread.waits b m) edge (was next name t))
       where
         again : IsTrue (has old.sets b name) ⊎ Assigns assigns b name → IsTrue (has new.sets b name) ⊎ Assigns assigns b name
         again (inl kept) = inl (ap (λ s. has_name s name) (spread.same b m) ∙ (ap (λ s. has s b name) sets ∙ kept))
@@ -176,11 +188,11 @@ search_goes_on successors assigns places old taken new block leaving search sets
 -- the end: no block waits
 pub search_ends : (successors assigns : List (List ℕ)) (places : ℕ) (state : State) → IsSearch successors assigns places state → length state.waiting ≡ 0
     → (block name : ℕ) → block < length successors → name < places → IsTrue (has state.sets block name) ↔ IsAssignedBefore successors assigns block name
-search_ends successors assigns places state search none block name below place =
-    (on_each_path successors assigns state.sets name (search.entry name) (λ b next edge t. search.passed b next name (quiet b) edge t) block, search.sound block name below place)
+search_ends successors assigns places state held none block name below place =
+    (on_each_path successors assigns state.sets name (held.entry name) (λ b next edge t. held.passed b next name (quiet b) edge t) block, held.sound block name below place)
   where
     quiet : (b : ℕ) → is_waiting state b ≡ false
-    quiet b = false_from_ne_true _ (λ t. let c : Contains state.waiting b = search.listed b t in omega (arith, c.1, none))
+    quiet b = false_from_ne_true _ (λ t. let c : Contains state.waiting b = held.listed b t in omega (arith, c.1, none))
 
 -- one more block at the start
 pub first_sets-more : (blocks names : ℕ) → 1 ≤ blocks → first_sets (blocks - 1) names ++ replicate (places_for names) true ∷ [] ≡ first_sets ((blocks + 1) - 1) names
@@ -188,34 +200,37 @@ first_sets-more blocks names some =
     ap (λ s. replicate (places_for names) false ∷ s) (replicate_more (blocks - 1) (replicate (places_for names) true) ∙ ap (λ n. replicate n (replicate (places_for names) true)) (let e : (blocks - 1) + 1 ≡ (blocks + 1) - 1 = omega (arith, some) in e))
 
 -- the block that is taken off the list
-pub block_below : (successors assigns : List (List ℕ)) (places : ℕ) (state : State) (ws : List ℕ) (block : ℕ) → IsSearch successors assigns places state → state.waiting ≡ ws ++ block ∷ [] → block < length successors
-block_below successors assigns places state ws block search e =
-    All-contains (λ b. b < length successors) (ws ++ block ∷ []) block (subst (λ xs. All (λ b. b < length successors) xs) e search.within) (Contains-push ws block)
+pub block_below : {successors assigns : List (List ℕ)} {places : ℕ} {state : State} (ws : List ℕ) (block : ℕ) → IsSearch successors assigns places state → state.waiting ≡ ws ++ block ∷ [] → block < length successors
+block_below {successors} ws block held e =
+    All-contains (λ b. b < length successors) (ws ++ block ∷ []) block (subst (λ xs. All (λ b. b < length successors) xs) e held.within) (Contains-push ws block)
 
-pub set_places : (successors assigns : List (List ℕ)) (places : ℕ) (state : State) (block : ℕ) (row : List Bool) → IsSearch successors assigns places state → block < length successors → slice_get state.sets block ≡ Some row → length row ≡ places
-set_places successors assigns places state block row search below read = ap length (sym (get_or_from_slice_get state.sets block row [] read)) ∙ search.wide block below
+-- its set has a place for each name
+pub set_places : {successors assigns : List (List ℕ)} {places : ℕ} {state : State} {block : ℕ} {row : List Bool} → IsSearch successors assigns places state → block < length successors → slice_get state.sets block ≡ Some row → length row ≡ places
+set_places {state = state} {block = block} {row = row} held below read = ap length (sym (get_or_from_slice_get state.sets block row [] read)) ∙ held.wide block below
 
 -- a list that is read is the one at the block
-pub list_at : (lists : List (List ℕ)) (block : ℕ) (row xs : List ℕ) → block < length lists → xs ≡ row → row ≡ get_or lists block row → xs ≡ get_or lists block []
-list_at lists block row xs below e read = e ∙ (read ∙ get_or_default lists block row [] below)
+pub list_at : (lists : List (List ℕ)) (block : ℕ) (row : List ℕ) {xs : List ℕ} → block < length lists → xs ≡ row → row ≡ get_or lists block row → xs ≡ get_or lists block []
+list_at lists block row below e read = e ∙ (read ∙ get_or_default lists block row [] below)
 
-pub names_fit : (assigns : List (List ℕ)) (block names places : ℕ) (xs : List ℕ) → block < length assigns → All (All (λ name. name < names)) assigns → xs ≡ get_or assigns block [] → places ≡ places_for names → All (λ name. name < places) xs
-names_fit assigns block names places xs below all e long k d less =
+-- the names that the block assigns have places
+pub names_fit : (assigns : List (List ℕ)) (block : ℕ) {xs : List ℕ} (names places : ℕ) → block < length assigns → All (All (λ name. name < names)) assigns → xs ≡ get_or assigns block [] → places ≡ places_for names → All (λ name. name < places) xs
+names_fit assigns block {xs} names places below all e long k d less =
     let name_below : get_or xs k d < names = subst (λ ys. All (λ name. name < names) ys) (sym e) (all block [] below) k d less in
     omega (arith, name_below, long)
 
-pub nexts_fit : (successors : List (List ℕ)) (block : ℕ) (xs : List ℕ) → block < length successors → All (All (λ next. next < length successors)) successors → xs ≡ get_or successors block [] → All (λ next. next < length successors) xs
-nexts_fit successors block xs below all e = subst (λ ys. All (λ next. next < length successors) ys) (sym e) (all block [] below)
+-- the block's successors are blocks
+pub nexts_fit : (successors : List (List ℕ)) (block : ℕ) {xs : List ℕ} → block < length successors → All (All (λ next. next < length successors)) successors → xs ≡ get_or successors block [] → All (λ next. next < length successors) xs
+nexts_fit successors block below all e = subst (λ ys. All (λ next. next < length successors) ys) (sym e) (all block [] below)
 
 -- one turn of the search
-pub search_turns : (successors assigns : List (List ℕ)) (places : ℕ) (old taken new : State) (block : ℕ) (row leaving : List Bool) (assigned nexts : List ℕ)
+pub search_turns : {successors assigns : List (List ℕ)} {places : ℕ} {old : State} (taken : State) {new : State} (block : ℕ) {row leaving : List Bool} {assigned nexts : List ℕ}
     → IsSearch successors assigns places old
     → taken.sets ≡ old.sets → old.waiting ≡ taken.waiting ++ block ∷ [] → taken.marks ≡ set old.marks block false
     → slice_get old.sets block ≡ Some row → assigned ≡ get_or assigns block [] → nexts ≡ get_or successors block []
     → IsLeaving row assigned leaving → IsSpread taken new nexts leaving
     → IsSearch successors assigns places new
-search_turns successors assigns places old taken new block row leaving assigned nexts search sets waiting marks read is is' leaves spread =
-    search_goes_on successors assigns places old taken new block leaving search sets waiting marks
+search_turns {successors} {assigns} {places} {old} taken {new} block {row} {leaving} held sets waiting marks read is is' leaves spread =
+    search_goes_on successors assigns places old taken new block leaving held sets waiting marks
     (subst (λ r. IsLeaving r (get_or assigns block []) leaving) (sym (get_or_from_slice_get old.sets block row [] read)) (subst (λ xs. IsLeaving row xs leaving) is leaves))
     (subst (λ xs. IsSpread taken new xs leaving) is' spread)
 

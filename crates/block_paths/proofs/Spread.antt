@@ -2,13 +2,13 @@
 use Rattle.std.proofs.Common.{ℕ, ◌+◌, ◌≡◌, ◌<◌, ◌≤◌, ◌⊎◌, inl, inr, Bool, true, false, List, [], ◌∷◌, ◌++◌, length, get_or, set, refl, ap, sym, subst, ◌∙◌, arith, length-set, length-append}
 use Rattle.std.specs.Prelude.{IsTrue, Some, slice_get}
 use Rattle.std.proofs.lemmas.Option.{get_or_from_slice_get}
-use Rattle.std.specs.List.{All, Contains, sum_by}
-use Rattle.std.proofs.lemmas.List.{get_or-set_same, get_or-set_other, set-get_or, get_or_default}
+use Rattle.std.specs.List.{All, Contains}
+use Rattle.std.proofs.lemmas.List.{get_or-set_same, get_or-set_other, get_or_default}
 use Rattle.std.proofs.lemmas.List.Elements.{All-push, Contains-append_left, Contains-append_right, Contains-append_cases, Contains-push, All-contains}
 use Rattle.std.proofs.lemmas.List.Sums.{sum_by-set}
 use Rattle.std.proofs.lemmas.Bool.{cases_eq, and_parts, and_from, both_ways}
 use Rattle.block_paths.specs.Sets.{both, has, has_name}
-use Rattle.block_paths.specs.Work.{State, AreListed, IsSpread, count, is_waiting, rest_of, set_of}
+use Rattle.block_paths.specs.Work.{State, AreListed, IsSpread, count}
 use Rattle.block_paths.proofs.Names.{has_name-both, length-both, count-both, count-both_less}
 
 -- a set is put in the place of one: what stands at a block

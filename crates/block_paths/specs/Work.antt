@@ -1,7 +1,6 @@
 -- The search for the sets: those that stand so far, and the blocks whose sets are still to be passed on.
-use Rattle.std.specs.Prelude.{ℕ, ◌+◌, ◌≡◌, ◌<◌, ◌≤◌, ◌⊎◌, ◌↔◌, Bool, true, false, IsTrue, List, [], ◌∷◌, ◌++◌, length, slice_index_or, slice_set, count_by, replicate}
+use Rattle.std.specs.Prelude.{ℕ, ◌+◌, ◌≡◌, ◌<◌, ◌≤◌, ◌⊎◌, ◌↔◌, Bool, true, false, IsTrue, List, [], ◌∷◌, length, slice_index_or, count_by, replicate}
 use Rattle.std.specs.List.{All, Contains, sum_by}
-use Rattle.block_paths.specs.Paths.{Assigns, IsAssignedBefore, IsSuccessor}
 use Rattle.block_paths.specs.Sets.{has, has_name, places_for}
 use Rattle.block_paths.specs.declared.work.Work.{Work}
 
@@ -54,15 +53,3 @@ pub record IsSpread (old new : State) (nexts : List ℕ) (leaving : List Bool) :
   pub listed : AreListed old → AreListed new
   pub within : All (λ block. block < length old.sets) old.waiting → All (λ block. block < length old.sets) new.waiting
   pub rest : rest_of new ≤ rest_of old
-
--- what holds all through the search: no set lacks a name that every path assigns, and the sets behind a
--- block that does not wait have no name that the block does not hand on
-pub record IsSearch (successors assigns : List (List ℕ)) (places : ℕ) (state : State) : Type 0 where
-  pub many : length state.sets ≡ length successors
-  pub marks : length state.marks ≡ length successors
-  pub wide : (block : ℕ) → block < length successors → length (set_of state block) ≡ places
-  pub within : All (λ block. block < length successors) state.waiting
-  pub listed : AreListed state
-  pub entry : (name : ℕ) → has state.sets 0 name ≡ false
-  pub sound : (block name : ℕ) → block < length successors → name < places → IsAssignedBefore successors assigns block name → IsTrue (has state.sets block name)
-  pub passed : (block next name : ℕ) → is_waiting state block ≡ false → IsSuccessor successors block next → IsTrue (has state.sets next name) → IsTrue (has state.sets block name) ⊎ Assigns assigns block name

@@ -13,6 +13,8 @@ ghost use Rattle.block_paths.specs.Sets.{AreRoomy, has};
 
 mod name_set;
 mod name_sets;
+#[cfg(test)]
+mod tests;
 mod words;
 mod work;
 

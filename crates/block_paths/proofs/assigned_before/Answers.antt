@@ -1,8 +1,8 @@
-use Rattle.std.proofs.Common.{rules, ℕ, Bool, List, [], ◌≡◌, ◌<◌, ◌-◌, ◌+◌, length, get_or, set, replicate, false, refl, ap, sym, subst, ◌∙◌, arith, length-set}
+use Rattle.std.proofs.Common.{rules, ◌<◌, ◌∙◌, false, length, get_or, set, refl, ap, sym, subst, arith}
 use Rattle.std.proofs.lemmas.List.{length-replicate}
 use Rattle.std.specs.List.{All}
-use Rattle.block_paths.specs.Sets.{has, places_for}
-use Rattle.block_paths.specs.Work.{State, state_of}
+use Rattle.block_paths.specs.Sets.{places_for}
+use Rattle.block_paths.specs.Work.{state_of}
 use Rattle.block_paths.proofs.Search.{block_below, list_at, names_fit, nexts_fit, search_ends, search_starts_at, search_turns, set_places}
 use Rattle.block_paths.proofs.assigned_before.Goals as goal
 
@@ -14,47 +14,49 @@ loop-block-init c =
     }
 
 pub index_mut-requires : goal.index_mut-requires
-index_mut-requires c = omega (arith, block_below c.args.successors.now c.args.assigns.now (places_for c.args.names) (state_of c.loop-block.work) c.pop.new.self.items c.in-Some.block c.loop-block.invariant.search c.in-Some.ensures.items, c.loop-block.invariant.search.marks, c.loop-block.work.is_waiting.ok.0)
+index_mut-requires c = omega (arith, block_below c.pop.new.self.items c.in-Some.block c.loop-block.invariant.search c.in-Some.ensures.items, c.loop-block.invariant.search.marks, c.loop-block.work.is_waiting.ok.0)
 
 pub get-requires : goal.get-requires
-get-requires c = omega (arith, block_below c.args.successors.now c.args.assigns.now (places_for c.args.names) (state_of c.loop-block.work) c.pop.new.self.items c.in-Some.block c.loop-block.invariant.search c.in-Some.ensures.items, c.loop-block.invariant.search.many)
+get-requires c = omega (arith, block_below c.pop.new.self.items c.in-Some.block c.loop-block.invariant.search c.in-Some.ensures.items, c.loop-block.invariant.search.many)
 
 pub bounds-assigns-block : goal.bounds-assigns-block
-bounds-assigns-block c = omega (arith, block_below c.args.successors.now c.args.assigns.now (places_for c.args.names) (state_of c.loop-block.work) c.pop.new.self.items c.in-Some.block c.loop-block.invariant.search c.in-Some.ensures.items, c.requires.alike)
+bounds-assigns-block c = omega (arith, block_below c.pop.new.self.items c.in-Some.block c.loop-block.invariant.search c.in-Some.ensures.items, c.requires.alike)
 
 pub offset_bounds-assigns-block : goal.offset_bounds-assigns-block
-offset_bounds-assigns-block c = let below = block_below c.args.successors.now c.args.assigns.now (places_for c.args.names) (state_of c.loop-block.work) c.pop.new.self.items c.in-Some.block c.loop-block.invariant.search c.in-Some.ensures.items in omega (arith, c.requires.alike)
+offset_bounds-assigns-block c = omega (arith, block_below c.pop.new.self.items c.in-Some.block c.loop-block.invariant.search c.in-Some.ensures.items, c.requires.alike)
 
 pub offset_bounds-successors-block : goal.offset_bounds-successors-block
-offset_bounds-successors-block c = let below = block_below c.args.successors.now c.args.assigns.now (places_for c.args.names) (state_of c.loop-block.work) c.pop.new.self.items c.in-Some.block c.loop-block.invariant.search c.in-Some.ensures.items in omega arith
+offset_bounds-successors-block c = omega (arith, block_below c.pop.new.self.items c.in-Some.block c.loop-block.invariant.search c.in-Some.ensures.items)
 
 pub bounds-successors-block : goal.bounds-successors-block
-bounds-successors-block c = block_below c.args.successors.now c.args.assigns.now (places_for c.args.names) (state_of c.loop-block.work) c.pop.new.self.items c.in-Some.block c.loop-block.invariant.search c.in-Some.ensures.items
+bounds-successors-block c = block_below c.pop.new.self.items c.in-Some.block c.loop-block.invariant.search c.in-Some.ensures.items
 
 pub fill-requires-clause-alike : goal.fill-requires-clause-alike
-fill-requires-clause-alike c = c.loop-block.invariant.long ∙ sym (set_places c.args.successors.now c.args.assigns.now (places_for c.args.names) (state_of c.loop-block.work) c.in-Some.block c.get.result.now c.loop-block.invariant.search (block_below c.args.successors.now c.args.assigns.now (places_for c.args.names) (state_of c.loop-block.work) c.pop.new.self.items c.in-Some.block c.loop-block.invariant.search c.in-Some.ensures.items) c.get.ensures)
+fill-requires-clause-alike c = c.loop-block.invariant.long ∙ sym (set_places c.loop-block.invariant.search (block_below c.pop.new.self.items c.in-Some.block c.loop-block.invariant.search c.in-Some.ensures.items) c.get.ensures)
 
 pub fill-requires-clause-within : goal.fill-requires-clause-within
 fill-requires-clause-within c =
-    names_fit c.args.assigns.now c.in-Some.block c.args.names (length c.get.result.now) c.as_slice.result.now (omega (arith, block_below c.args.successors.now c.args.assigns.now (places_for c.args.names) (state_of c.loop-block.work) c.pop.new.self.items c.in-Some.block c.loop-block.invariant.search c.in-Some.ensures.items, c.requires.alike)) c.requires.names (list_at c.args.assigns.now c.in-Some.block c.index-assigns-block.result c.as_slice.result.now (omega (arith, block_below c.args.successors.now c.args.assigns.now (places_for c.args.names) (state_of c.loop-block.work) c.pop.new.self.items c.in-Some.block c.loop-block.invariant.search c.in-Some.ensures.items, c.requires.alike)) c.as_slice.ensures c.index-assigns-block.is) (set_places c.args.successors.now c.args.assigns.now (places_for c.args.names) (state_of c.loop-block.work) c.in-Some.block c.get.result.now c.loop-block.invariant.search (block_below c.args.successors.now c.args.assigns.now (places_for c.args.names) (state_of c.loop-block.work) c.pop.new.self.items c.in-Some.block c.loop-block.invariant.search c.in-Some.ensures.items) c.get.ensures)
+    names_fit c.args.assigns.now c.in-Some.block c.args.names (length c.get.result.now) (omega (arith, block_below c.pop.new.self.items c.in-Some.block c.loop-block.invariant.search c.in-Some.ensures.items, c.requires.alike)) c.requires.names
+    (list_at c.args.assigns.now c.in-Some.block c.index-assigns-block.result (omega (arith, block_below c.pop.new.self.items c.in-Some.block c.loop-block.invariant.search c.in-Some.ensures.items, c.requires.alike)) c.as_slice.ensures c.index-assigns-block.is)
+    (set_places c.loop-block.invariant.search (block_below c.pop.new.self.items c.in-Some.block c.loop-block.invariant.search c.in-Some.ensures.items) c.get.ensures)
 
 pub spread-requires-clause-within : goal.spread-requires-clause-within
 spread-requires-clause-within c =
-    subst (λ n. All (λ next. next < n) c.as_slice-in-Some.result.now) (sym c.loop-block.invariant.search.many) (nexts_fit c.args.successors.now c.in-Some.block c.as_slice-in-Some.result.now (block_below c.args.successors.now c.args.assigns.now (places_for c.args.names) (state_of c.loop-block.work) c.pop.new.self.items c.in-Some.block c.loop-block.invariant.search c.in-Some.ensures.items) c.requires.within (list_at c.args.successors.now c.in-Some.block c.index-successors-block.result c.as_slice-in-Some.result.now (block_below c.args.successors.now c.args.assigns.now (places_for c.args.names) (state_of c.loop-block.work) c.pop.new.self.items c.in-Some.block c.loop-block.invariant.search c.in-Some.ensures.items) c.as_slice-in-Some.ensures c.index-successors-block.is))
+    subst (λ n. All (λ next. next < n) c.as_slice-in-Some.result.now) (sym c.loop-block.invariant.search.many) (nexts_fit c.args.successors.now c.in-Some.block (block_below c.pop.new.self.items c.in-Some.block c.loop-block.invariant.search c.in-Some.ensures.items) c.requires.within (list_at c.args.successors.now c.in-Some.block c.index-successors-block.result (block_below c.pop.new.self.items c.in-Some.block c.loop-block.invariant.search c.in-Some.ensures.items) c.as_slice-in-Some.ensures c.index-successors-block.is))
 
 pub spread-requires-clause-alike : goal.spread-requires-clause-alike
 spread-requires-clause-alike c k d less =
-    c.loop-block.invariant.search.wide (get_or c.as_slice-in-Some.result.now k d) (nexts_fit c.args.successors.now c.in-Some.block c.as_slice-in-Some.result.now (block_below c.args.successors.now c.args.assigns.now (places_for c.args.names) (state_of c.loop-block.work) c.pop.new.self.items c.in-Some.block c.loop-block.invariant.search c.in-Some.ensures.items) c.requires.within (list_at c.args.successors.now c.in-Some.block c.index-successors-block.result c.as_slice-in-Some.result.now (block_below c.args.successors.now c.args.assigns.now (places_for c.args.names) (state_of c.loop-block.work) c.pop.new.self.items c.in-Some.block c.loop-block.invariant.search c.in-Some.ensures.items) c.as_slice-in-Some.ensures c.index-successors-block.is) k d less)
-    ∙ sym (c.fill.ensures.places ∙ set_places c.args.successors.now c.args.assigns.now (places_for c.args.names) (state_of c.loop-block.work) c.in-Some.block c.get.result.now c.loop-block.invariant.search (block_below c.args.successors.now c.args.assigns.now (places_for c.args.names) (state_of c.loop-block.work) c.pop.new.self.items c.in-Some.block c.loop-block.invariant.search c.in-Some.ensures.items) c.get.ensures)
+    c.loop-block.invariant.search.wide (get_or c.as_slice-in-Some.result.now k d) (nexts_fit c.args.successors.now c.in-Some.block (block_below c.pop.new.self.items c.in-Some.block c.loop-block.invariant.search c.in-Some.ensures.items) c.requires.within (list_at c.args.successors.now c.in-Some.block c.index-successors-block.result (block_below c.pop.new.self.items c.in-Some.block c.loop-block.invariant.search c.in-Some.ensures.items) c.as_slice-in-Some.ensures c.index-successors-block.is) k d less)
+    ∙ sym (c.fill.ensures.places ∙ set_places c.loop-block.invariant.search (block_below c.pop.new.self.items c.in-Some.block c.loop-block.invariant.search c.in-Some.ensures.items) c.get.ensures)
 
 pub loop-block-preserved : goal.loop-block-preserved
 loop-block-preserved c =
     record {
-      search = search_turns c.args.successors.now c.args.assigns.now (places_for c.args.names) (state_of c.loop-block.work)
-          (record { sets = c.loop-block.work.sets; waiting = c.pop.new.self.items; marks = set c.loop-block.work.is_waiting.items c.in-Some.block false })
-          (state_of c.spread.new.self) c.in-Some.block c.get.result.now c.fill.new.self c.as_slice.result.now c.as_slice-in-Some.result.now
-          c.loop-block.invariant.search refl c.in-Some.ensures.items refl c.get.ensures (list_at c.args.assigns.now c.in-Some.block c.index-assigns-block.result c.as_slice.result.now (omega (arith, block_below c.args.successors.now c.args.assigns.now (places_for c.args.names) (state_of c.loop-block.work) c.pop.new.self.items c.in-Some.block c.loop-block.invariant.search c.in-Some.ensures.items, c.requires.alike)) c.as_slice.ensures c.index-assigns-block.is) (list_at c.args.successors.now c.in-Some.block c.index-successors-block.result c.as_slice-in-Some.result.now (block_below c.args.successors.now c.args.assigns.now (places_for c.args.names) (state_of c.loop-block.work) c.pop.new.self.items c.in-Some.block c.loop-block.invariant.search c.in-Some.ensures.items) c.as_slice-in-Some.ensures c.index-successors-block.is) c.fill.ensures c.in_ok-spread.ensures;
-      long = c.fill.ensures.places ∙ set_places c.args.successors.now c.args.assigns.now (places_for c.args.names) (state_of c.loop-block.work) c.in-Some.block c.get.result.now c.loop-block.invariant.search (block_below c.args.successors.now c.args.assigns.now (places_for c.args.names) (state_of c.loop-block.work) c.pop.new.self.items c.in-Some.block c.loop-block.invariant.search c.in-Some.ensures.items) c.get.ensures;
+      search = search_turns (record { sets = c.loop-block.work.sets; waiting = c.pop.new.self.items; marks = set c.loop-block.work.is_waiting.items c.in-Some.block false }) c.in-Some.block c.loop-block.invariant.search refl c.in-Some.ensures.items refl c.get.ensures
+          (list_at c.args.assigns.now c.in-Some.block c.index-assigns-block.result (omega (arith, block_below c.pop.new.self.items c.in-Some.block c.loop-block.invariant.search c.in-Some.ensures.items, c.requires.alike)) c.as_slice.ensures c.index-assigns-block.is)
+          (list_at c.args.successors.now c.in-Some.block c.index-successors-block.result (block_below c.pop.new.self.items c.in-Some.block c.loop-block.invariant.search c.in-Some.ensures.items) c.as_slice-in-Some.ensures c.index-successors-block.is)
+          c.fill.ensures c.in_ok-spread.ensures;
+      long = c.fill.ensures.places ∙ set_places c.loop-block.invariant.search (block_below c.pop.new.self.items c.in-Some.block c.loop-block.invariant.search c.in-Some.ensures.items) c.get.ensures;
     }
 
 pub returns-clause-exact : goal.returns-clause-exact

@@ -1,6 +1,7 @@
 use Rattle.std.proofs.Common.{◌≡◌, length}
 use Rattle.block_paths.specs.Sets.{places_for}
-use Rattle.block_paths.specs.Work.{IsSearch, rest_of, state_of}
+use Rattle.block_paths.specs.Work.{rest_of, state_of}
+use Rattle.block_paths.proofs.Search.{IsSearch}
 use Rattle.block_paths.proofs.assigned_before.Given as goal
 
 abbrev pub invariant-loop-block : goal.invariant-loop-block

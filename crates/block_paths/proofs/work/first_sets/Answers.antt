@@ -1,5 +1,4 @@
-use Rattle.std.proofs.Common.{ap, ◌∙◌, ◌≡◌, ◌≤◌, ◌∷◌, ◌++◌, [], arith, refl}
-use Rattle.block_paths.specs.Work.{first_sets}
+use Rattle.std.proofs.Common.{refl}
 use Rattle.block_paths.proofs.Search.{first_sets-more}
 use Rattle.block_paths.proofs.work.first_sets.Goals as goal
 

@@ -1,4 +1,4 @@
-use Rattle.std.proofs.Common.{ℕ, ◌≡◌, ap, length, sym, ◌∙◌, arith, get_or, ◌^◌, ◌<◌}
+use Rattle.std.proofs.Common.{ap, length, sym, ◌∙◌}
 use Rattle.std.proofs.lemmas.List.{with_items_is}
 use Rattle.block_paths.specs.Sets.{names_in}
 use Rattle.block_paths.proofs.Names.{same_words, set_is-both, set_differs}

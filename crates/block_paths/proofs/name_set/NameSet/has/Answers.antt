@@ -1,4 +1,4 @@
-use Rattle.std.proofs.Common.{ap, length, sym, ◌∙◌, arith}
+use Rattle.std.proofs.Common.{ap, length, ◌∙◌, arith}
 use Rattle.block_paths.proofs.Names.{places_of, set_is-has}
 use Rattle.block_paths.proofs.name_set.NameSet.has.Goals as goal
 
