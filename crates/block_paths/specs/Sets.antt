@@ -1,5 +1,5 @@
 -- Sets of names as lists of truth values, one for each name from 0 on, and the words that keep them.
-use Rattle.std.specs.Prelude.{ℕ, ◌+◌, ◌*◌, ◌/◌, ◌%◌, ◌≡◌, ◌≤◌, Bool, false, ◌&&◌, nat_eq, List, [], ◌∷◌, length, map, bit_and, slice_index_or}
+use Rattle.std.specs.Prelude.{ℕ, ◌+◌, ◌*◌, ◌/◌, ◌%◌, ◌≡◌, ◌≤◌, Bool, false, ◌&&◌, nat_eq, List, [], ◌∷◌, length, map, slice_index_or}
 use Rattle.std.specs.Int.{bit_at}
 use Rattle.std.specs.List.{All, range_with_len}
 
@@ -33,9 +33,3 @@ abbrev pub both : List Bool → List Bool → List Bool
 both [] other = []
 both (x ∷ xs) [] = []
 both (x ∷ xs) (y ∷ ys) = (x && y) ∷ both xs ys
-
--- the same of words
-abbrev pub both_words : List ℕ → List ℕ → List ℕ
-both_words [] other = []
-both_words (x ∷ xs) [] = []
-both_words (x ∷ xs) (y ∷ ys) = bit_and x y ∷ both_words xs ys
