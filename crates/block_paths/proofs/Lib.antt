@@ -1,0 +1,5 @@
+pub mod Leaving
+pub mod Names
+pub mod Search
+pub mod Spread
+pub mod Cuts
