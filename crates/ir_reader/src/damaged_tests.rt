@@ -424,14 +424,6 @@ fn told(alloc: Global, text: &[u8]) -> Result<String, AllocError> {
     }
 }
 
-// How many pieces at one place are left out, and what stands there before and in their place.
-#[derive(Clone, Copy)]
-struct Damage<'a> {
-    place: usize,
-    kept: bool,
-    other: &'a str,
-}
-
 fn push_all(text: &mut Vec<u8>, bytes: &[u8]) -> Result<(), AllocError> {
     for byte in bytes {
         text.push(*byte)?;
@@ -439,52 +431,53 @@ fn push_all(text: &mut Vec<u8>, bytes: &[u8]) -> Result<(), AllocError> {
     Ok(())
 }
 
-// The text with one piece left out or kept, and another token in its place or behind it.
-fn damaged(alloc: Global, damage: Damage<'_>) -> Result<Vec<u8>, AllocError> {
+// The text with the piece at a place left out or kept, and another token in its place or behind it.
+fn damaged(alloc: Global, damage: usize, kept: bool, other: &str) -> Result<Vec<u8>, AllocError> {
     let mut text = Vec::new(alloc);
     for (place, piece) in PIECES.iter().enumerate() {
-        if place != damage.place || damage.kept {
+        if place != damage || kept {
             push_all(&mut text, piece.as_bytes())?;
         }
-        if place == damage.place && !damage.other.is_empty() {
+        if place == damage && !other.is_empty() {
             text.push(b' ')?;
-            push_all(&mut text, damage.other.as_bytes())?;
+            push_all(&mut text, other.as_bytes())?;
         }
     }
     Ok(text)
 }
 
-// Whether all answers are told of the text with a piece left out or kept, and another behind it.
-fn are_told(
-    alloc: Global,
-    answers: &str,
-    kept: bool,
-    other: Option<&str>,
-) -> Result<bool, AllocError> {
+// Whether the answers are told of the text with each piece in turn replaced by another token, or left
+// out where that is empty.
+fn are_told(alloc: Global, answers: &str, other: &str) -> Result<bool, AllocError> {
     let mut right = true;
     for (place, answer) in answers.split_whitespace().enumerate() {
-        let own = PIECES.get(place).copied().unwrap_or("").trim_start();
-        let other = other.unwrap_or(own);
-        let text = damaged(alloc, Damage { place, kept, other })?;
-        right = right && told(alloc, text.as_slice())?.as_str() == answer;
+        let text = damaged(alloc, place, false, other)?;
+        right = right && is_told(alloc, text.as_slice(), answer)?;
     }
     Ok(right)
 }
 
 #[test]
 fn each_token_is_needed(rt: HostRuntime) -> Result<(), Fail> {
-    assert!(rt; are_told(rt.alloc(), DROPPED, false, Some(""))?);
-    assert!(rt; are_told(rt.alloc(), DOUBLED, true, None)?);
+    assert!(rt; are_told(rt.alloc(), DROPPED, "")?);
+    Ok(())
+}
+
+#[test]
+fn no_token_stands_twice(rt: HostRuntime) -> Result<(), Fail> {
+    let alloc = rt.alloc();
+    for (place, answer) in DOUBLED.split_whitespace().enumerate() {
+        let own = PIECES.get(place).copied().unwrap_or("").trim_start();
+        let text = damaged(alloc, place, true, own)?;
+        assert!(rt; is_told(alloc, text.as_slice(), answer)?, "at {place}");
+    }
     Ok(())
 }
 
 #[test]
 fn no_token_stands_for_another(rt: HostRuntime) -> Result<(), Fail> {
     for (other, answers) in REPLACED {
-        assert!(rt;
-            are_told(rt.alloc(), answers, false, Some(other))?,
-            "at {other:?}"
-        );
+        assert!(rt; are_told(rt.alloc(), answers, other)?, "at {other:?}");
     }
     Ok(())
 }
