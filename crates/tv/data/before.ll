@@ -168,7 +168,7 @@ attributes #1 = { nocallback nofree nosync nounwind willreturn memory(argmem: re
 !llvm.ident = !{!18}
 
 !0 = distinct !DICompileUnit(language: DW_LANG_C11, file: !1, producer: "Debian clang version 19.1.7 (3~deb12u1)", isOptimized: true, runtimeVersion: 0, emissionKind: FullDebug, retainedTypes: !2, splitDebugInlining: false, nameTableKind: None)
-!1 = !DIFile(filename: "functions.c", directory: "/tmp/real", checksumkind: CSK_MD5, checksum: "ef72b64b6b1f1b20bfdd16b85ec80541")
+!1 = !DIFile(filename: "functions.c", directory: "/src", checksumkind: CSK_MD5, checksum: "ef72b64b6b1f1b20bfdd16b85ec80541")
 !2 = !{!3, !8}
 !3 = !DIDerivedType(tag: DW_TAG_typedef, name: "uint8_t", file: !4, line: 24, baseType: !5)
 !4 = !DIFile(filename: "/usr/include/x86_64-linux-gnu/bits/stdint-uintn.h", directory: "", checksumkind: CSK_MD5, checksum: "2bf2ae53c58c01b1a1b9383b5195125c")
