@@ -37,6 +37,7 @@ fn block(
     let mut blocks = Vec::new(alloc);
     blocks.push(Block {
         label: LABEL,
+        phis: Sequence::from_vec(Vec::new(alloc)),
         insts: Sequence::from_vec(insts.to_vec(alloc)?),
         terminator: Terminator::Return(Some(returned)),
     })?;

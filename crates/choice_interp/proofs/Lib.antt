@@ -1,2 +1,3 @@
 mod Defined
 pub mod Endings
+pub mod Ways

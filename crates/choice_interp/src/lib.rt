@@ -2,10 +2,12 @@
 //!
 //! It promises that what it tells is the run that `points` defines. It stands on `points`; the judge
 //! by counting and whatever shows a counterexample stand on it. [`interpret`] makes a machine for
-//! one run; [`run_again`] runs in a machine that is there, and takes memory at most for choices.
+//! one run; [`run_again`] runs in a machine that is there, and takes memory at most for choices and
+//! for the values of phis.
 #![tactic(auto)]
 
 mod ending;
+mod flow;
 mod rerun;
 mod run;
 mod step;

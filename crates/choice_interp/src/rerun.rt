@@ -1,11 +1,13 @@
-ghost use Rattle.std.specs.Prelude.{◌≡◌, length, replicate, IfOk};
-ghost use Rattle.points.specs.Run.{Over, exit_insts, exit_by, with_args, breaks_noundef, first_machine, run_of};
+ghost use Rattle.std.specs.Prelude.{◌≡◌, length, replicate, IfOk, Some};
+ghost use Rattle.points.specs.Run.{exit_insts, exit_of, run_turns, with_args, breaks_noundef, first_machine, run_of};
+ghost use Rattle.choice_interp.specs.Left.{exit_with};
 ghost use Rattle.choice_interp.specs.Ran.{run_with};
 
 use crate::ending::Ending;
-use crate::step::{is_poison, return_from, step};
+use crate::flow::{Left, enter, jump, leave, place_of};
+use crate::step::{is_poison, step};
 use byte_block::{Memory, Value, copy_memory};
-use ir_tree::{Block, Function, Parameter, Terminator};
+use ir_tree::{Block, Function, Parameter};
 use points::{Bounds, Input, Machine};
 use std::alloc::{AllocError, Global};
 use support::{NoMemory, Sequence};
@@ -26,6 +28,7 @@ pub fn machine_for(alloc: Global, f: &Function, blocks: &Memory) -> Result<Machi
         registers: Sequence::from_vec(registers),
         memory: copy_memory(alloc, blocks)?,
         turn: 0,
+        block: 0,
         taken: Sequence::from_vec(Vec::new(alloc)),
     })
 }
@@ -69,6 +72,7 @@ fn begin(machine: &mut Machine, f: &Function, input: &Input)
         input.args.as_slice(),
     );
     machine.turn = 0;
+    machine.block = 0;
     machine.taken.clear();
 }
 
@@ -92,48 +96,84 @@ fn breaks_no_undef(parameters: &[Parameter], args: &[Value]) -> bool
     false
 }
 
-fn leave(
-    machine: &mut Machine,
-    no_undef: bool,
-    terminator: Terminator,
-    tape: &[u64],
-) -> Result<Ending, NoMemory>
-    ensures exit { IfOk result (λ ending. exit_by no_undef terminator tape.now machine.old ≡ Over (run_with ending machine.new)) }
-    ensures registers { machine.new.registers ≡ machine.old.registers }
-    ensures memory { machine.new.memory ≡ machine.old.memory }
-{
-    match terminator {
-        Terminator::Return(returned) => {
-            let ending = return_from(machine, no_undef, returned, tape)?;
-            Ok(ending)
-        }
-    }
-}
-
-/// A block of a function whose return is `noundef` or not.
-fn run_block(
+/// The instructions of a block and its end, in a function whose return is `noundef` or not.
+fn run_insts(
     machine: &mut Machine,
     no_undef: bool,
     block: &Block,
     tape: &[u64],
-) -> Result<Ending, NoMemory>
-    ensures exit { IfOk result (λ ending. exit_insts no_undef block.now.insts block.now.terminator tape.now machine.old ≡ Over (run_with ending machine.new)) }
+) -> Result<Left, NoMemory>
+    ensures exit { IfOk result (λ left. exit_insts no_undef block.now.insts block.now.terminator tape.now machine.old ≡ exit_with left machine.new) }
     ensures registers { length machine.new.registers ≡ length machine.old.registers }
     ensures memory { machine.new.memory ≡ machine.old.memory }
+    ensures turn { machine.new.turn ≡ machine.old.turn }
 {
     for inst in block.insts.as_slice() {
         if !step(machine, *inst, tape)? {
-            return Ok(Ending::Ub);
+            return Ok(Left::Over(Ending::Ub));
         }
     }
-    let ending = leave(machine, no_undef, block.terminator, tape)?;
-    Ok(ending)
+    let left = leave(machine, no_undef, &block.terminator, tape)?;
+    Ok(left)
+}
+
+/// A block, from its phis to its end.
+fn run_block(
+    alloc: Global,
+    machine: &mut Machine,
+    no_undef: bool,
+    block: &Block,
+    tape: &[u64],
+) -> Result<Left, NoMemory>
+    ensures exit { IfOk result (λ left. exit_of no_undef (Some block.now) tape.now machine.old ≡ exit_with left machine.new) }
+    ensures registers { length machine.new.registers ≡ length machine.old.registers }
+    ensures memory { machine.new.memory ≡ machine.old.memory }
+    ensures turn { machine.new.turn ≡ machine.old.turn }
+{
+    enter(alloc, machine, block)?;
+    let left = run_insts(machine, no_undef, block, tape)?;
+    Ok(left)
+}
+
+/// The blocks of a function, from the entry on, with so many backward jumps.
+fn run_blocks(
+    alloc: Global,
+    machine: &mut Machine,
+    f: &Function,
+    turns: u64,
+    tape: &[u64],
+) -> Result<Ending, NoMemory>
+    requires { machine.old.turn ≡ 0 }
+    ensures run { IfOk result (λ ending. run_turns f.now tape.now turns 0 machine.old ≡ run_with ending machine.new) }
+    ensures registers { length machine.new.registers ≡ length machine.old.registers }
+    ensures memory { machine.new.memory ≡ machine.old.memory }
+{
+    let blocks = f.blocks.as_slice();
+    let mut at = 0;
+    let mut jumps = turns;
+    while at < blocks.len() {
+        match run_block(alloc, machine, f.returns_no_undef, &blocks[at], tape)? {
+            Left::Over(ending) => return Ok(ending),
+            Left::To(label) => {
+                let to = place_of(f, label);
+                match jump(machine, at, to, jumps) {
+                    Some(rest) => {
+                        jumps = rest;
+                        at = to;
+                    }
+                    None => return Ok(Ending::Beyond),
+                }
+            }
+        }
+    }
+    Ok(Ending::Ub)
 }
 
 /// Runs a function on an input and a tape, in a machine for it that has the input's blocks. No
 /// memory is taken but for choices, more of them than any run in this machine took before. After
 /// want of memory the machine is one in the middle of the run, good for another run.
 pub fn run_again(
+    alloc: Global,
     machine: &mut Machine,
     f: &Function,
     bounds: &Bounds,
@@ -150,11 +190,6 @@ pub fn run_again(
     if breaks_no_undef(f.parameters.as_slice(), input.args.as_slice()) {
         return Ok(Ending::Ub);
     }
-    match f.blocks.as_slice() {
-        [entry, ..] => {
-            let ending = run_block(machine, f.returns_no_undef, entry, tape)?;
-            Ok(ending)
-        }
-        [] => Ok(Ending::Ub),
-    }
+    let ending = run_blocks(alloc, machine, f, bounds.turns, tape)?;
+    Ok(ending)
 }

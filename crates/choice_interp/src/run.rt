@@ -41,7 +41,7 @@ pub fn interpret(
     ensures { IfOk result (Shows tape.now (run_of f.now bounds.now input.now tape.now)) }
 {
     let mut machine = machine_for(alloc, f, &input.blocks)?;
-    let ending = run_again(&mut machine, f, bounds, input, tape)?;
+    let ending = run_again(alloc, &mut machine, f, bounds, input, tape)?;
     let read = machine.taken.len() as u64;
     let plain = is_plain(tape, machine.taken.as_slice());
     let Machine { memory, .. } = machine;

@@ -1,5 +1,5 @@
 ghost use Rattle.std.specs.Prelude.{◌≡◌, ◌++◌, ◌∷◌, [], IfOk, IsFalse, Some, None, if◌then◌else◌, length};
-ghost use Rattle.points.specs.Run.{operand_value, cut_value, typed_operand_value, assigned, choice_of, act, is_poison, undef_width, returned_with, returned_run};
+ghost use Rattle.points.specs.Run.{operand_value, cut_value, typed_value, typed_operand_value, assigned, choice_of, act, is_poison, undef_width, returned_with, returned_run};
 ghost use Rattle.choice_interp.specs.Ran.{run_with};
 
 use crate::ending::Ending;
@@ -10,7 +10,8 @@ use points::Machine;
 use support::NoMemory;
 use tv_num::Width;
 
-fn value_of(registers: &[Value], operand: Operand) -> Value
+/// What an operand reads of the registers.
+pub fn value_of(registers: &[Value], operand: Operand) -> Value
     ensures { result ≡ operand_value registers.now operand }
 {
     match operand {
@@ -44,6 +45,7 @@ fn choose(machine: &mut Machine, tape: &[u64], width: Width) -> Result<u64, NoMe
     ensures taken { IfOk result (λ choice. machine.new ≡ record machine.old { taken = machine.old.taken ++ choice ∷ [] }) }
     ensures registers { machine.new.registers ≡ machine.old.registers }
     ensures memory { machine.new.memory ≡ machine.old.memory }
+    ensures turn { machine.new.turn ≡ machine.old.turn }
 {
     let word = tape.get(machine.taken.len()).copied().unwrap_or(0);
     let choice = low_bits(word, width);
@@ -61,14 +63,20 @@ pub fn is_poison(value: Value) -> bool
     }
 }
 
-fn typed_value_of(registers: &[Value], operand: TypedOperand) -> Value
-    ensures { result ≡ typed_operand_value registers.now operand }
+/// A value where one of this type is used.
+pub fn typed_value(of_type: IrType, value: Value) -> Value
+    ensures { result ≡ typed_value of_type value }
 {
-    let value = value_of(registers, operand.operand);
-    match operand.of_type {
+    match of_type {
         IrType::Int(width) => cut(value, width),
         IrType::Ptr => value,
     }
+}
+
+fn typed_value_of(registers: &[Value], operand: TypedOperand) -> Value
+    ensures { result ≡ typed_operand_value registers.now operand }
+{
+    typed_value(operand.of_type, value_of(registers, operand.operand))
 }
 
 /// A `ret` of an operand. Undef is a choice, which is then taken.
@@ -80,6 +88,7 @@ fn return_operand(
     ensures run { IfOk result (λ ending. returned_with (undef_width returned.of_type returned.operand) returned tape.now machine.old ≡ run_with ending machine.new) }
     ensures registers { machine.new.registers ≡ machine.old.registers }
     ensures memory { machine.new.memory ≡ machine.old.memory }
+    ensures turn { machine.new.turn ≡ machine.old.turn }
 {
     match (returned.of_type, returned.operand) {
         (IrType::Int(width), Operand::Undef) => {
@@ -103,6 +112,7 @@ pub fn return_from(
     ensures run { IfOk result (λ ending. returned_run no_undef returned tape.now machine.old ≡ run_with ending machine.new) }
     ensures registers { machine.new.registers ≡ machine.old.registers }
     ensures memory { machine.new.memory ≡ machine.old.memory }
+    ensures turn { machine.new.turn ≡ machine.old.turn }
 {
     match returned {
         Some(returned) => {
@@ -122,6 +132,7 @@ pub fn step(machine: &mut Machine, inst: Inst, tape: &[u64]) -> Result<bool, NoM
     ensures stays { IfOk result (λ goes. IsFalse goes → machine.new ≡ machine.old) }
     ensures registers { length machine.new.registers ≡ length machine.old.registers }
     ensures memory { machine.new.memory ≡ machine.old.memory }
+    ensures turn { machine.new.turn ≡ machine.old.turn }
 {
     match inst {
         Inst::Binary {

@@ -50,6 +50,7 @@ fn block(
     let mut blocks = Vec::new(alloc);
     blocks.push(Block {
         label,
+        phis: Sequence::from_vec(Vec::new(alloc)),
         insts: Sequence::from_vec(insts.to_vec(alloc)?),
         terminator: Terminator::Return(returned),
     })?;

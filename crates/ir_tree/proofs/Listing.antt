@@ -1,55 +1,97 @@
 -- What a list of sites has when its parts went in.
-use Rattle.std.proofs.Common.{◌≡◌, ℕ, ◌+◌, ◌<◌, List, [], ◌∷◌, ◌++◌, Option, length, map, drop, get_or, refl, ap, sym, ◌∙◌, append_assoc, length-append, append-nil, arith}
-use Rattle.std.proofs.lemmas.List.{drop_more, length-map}
+use Rattle.std.proofs.Common.{◌≡◌, ℕ, ◌+◌, ◌<◌, List, [], ◌∷◌, ◌++◌, Option, length, map, drop, take, get_or, refl, ap, sym, ◌∙◌, append_assoc, length-append, append-nil, arith}
+use Rattle.std.specs.List.{flat_map}
+use Rattle.std.proofs.lemmas.List.{drop_more, take_more, length-map, map-append}
+use Rattle.std.proofs.Math.Seq.{drop-length}
+use Rattle.tv_num.specs.declared.Width.{Width}
 use Rattle.ir_tree.specs.declared.tree.IrType.{IrType}
 use Rattle.ir_tree.specs.declared.tree.Block.{Block}
+use Rattle.ir_tree.specs.declared.tree.PhiEntry.{PhiEntry}
+use Rattle.ir_tree.specs.declared.tree.Case.{Case}
 use Rattle.ir_tree.specs.declared.tree.Function.{Function}
+use Rattle.ir_tree.specs.declared.sites.Part.{Part}
+use Rattle.ir_tree.specs.declared.sites.Part.TheVariants as part
 use Rattle.ir_tree.specs.declared.sites.Site.{Site}
 use Rattle.ir_tree.specs.declared.sites.SiteList.{SiteList}
-use Rattle.ir_tree.specs.Sites.{sites, sites_in, begins, begins_from, steps, block_steps, label_sites, inst_sites, terminator_sites, header_sites, parameter_sites}
-use Rattle.ir_tree.specs.SiteLists.{with_part, with_parts, block_parts}
+use Rattle.ir_tree.specs.Sites.{Step, sites, sites_in, parts, parts_in, steps, block_steps, blocks_steps, phi_steps, inst_steps, parameter_steps, label_sites, entry_sites, case_sites, cases_sites, terminator_sites, header_sites}
+use Rattle.ir_tree.specs.SiteLists.{with_part, with_parts}
 
-pub with_parts-append : (list : SiteList) (parts more : List (List Site)) → with_parts list (parts ++ more) ≡ with_parts (with_parts list parts) more
+-- ---- one part
+
+pub with_part-none : (list : SiteList) (p : Part) → with_part list p [] ≡ list
+with_part-none list p = λ i. record { all = append-nil list.all i; parts = append-nil list.parts i }
+
+pub with_part-append : (list : SiteList) (p : Part) (xs ys : List Site) → with_part (with_part list p xs) p ys ≡ with_part list p (xs ++ ys)
+with_part-append list p xs ys =
+    let tag : Site → Part = λ (site : Site). p in
+    let all = append_assoc list.all xs ys in
+    let tags = append_assoc list.parts (map tag xs) (map tag ys) ∙ ap (λ (ts : List Part). list.parts ++ ts) (sym (map-append tag xs ys)) in
+    λ i. record { all = all i; parts = tags i }
+
+pub entries-next : (p : Part) (type : IrType) (entries : List PhiEntry) (i : ℕ) (entry : PhiEntry) (list next whole : SiteList) → i < length entries → entry ≡ get_or entries i entry → next ≡ with_part list p (entry_sites type entry)
+    → with_part list p (flat_map (entry_sites type) (drop i entries)) ≡ whole → with_part next p (flat_map (entry_sites type) (drop (i + 1) entries)) ≡ whole
+entries-next p type entries i entry list next whole within is made so_far =
+    let e = with_part-append list p (entry_sites type entry) (flat_map (entry_sites type) (drop (i + 1) entries)) in
+    let s = rw (drop_more entries i entry within, ← is) at so_far in cc
+
+pub entries-end : (p : Part) (type : IrType) (entries : List PhiEntry) (i : ℕ) (list whole : SiteList) → i ≡ length entries → with_part list p (flat_map (entry_sites type) (drop i entries)) ≡ whole → list ≡ whole
+entries-end p type entries i list whole end so_far = let e = with_part-none list p in let s = rw (end, drop-length entries) at so_far in cc
+
+pub cases-next : (p : Part) (width : Width) (cases : List Case) (i : ℕ) (case : Case) (list next whole : SiteList) → i < length cases → case ≡ get_or cases i case → next ≡ with_part list p (case_sites width (take i cases) case)
+    → with_part list p (cases_sites width (take i cases) (drop i cases)) ≡ whole → with_part next p (cases_sites width (take (i + 1) cases) (drop (i + 1) cases)) ≡ whole
+cases-next p width cases i case list next whole within is made so_far =
+    let e = with_part-append list p (case_sites width (take i cases) case) (cases_sites width (take i cases ++ case ∷ []) (drop (i + 1) cases)) in
+    let t : take (i + 1) cases ≡ take i cases ++ case ∷ [] = take_more cases i case within ∙ ap (λ (c : Case). take i cases ++ c ∷ []) (sym is) in
+    let s = rw (drop_more cases i case within, ← is) at so_far in rw t cc
+
+pub cases-end : (p : Part) (width : Width) (cases : List Case) (i : ℕ) (list whole : SiteList) → i ≡ length cases → with_part list p (cases_sites width (take i cases) (drop i cases)) ≡ whole → list ≡ whole
+cases-end p width cases i list whole end so_far = let e = with_part-none list p in let s = rw (end, drop-length cases) at so_far in cc
+
+-- ---- parts
+
+pub with_parts-append : (list : SiteList) (steps more : List Step) → with_parts list (steps ++ more) ≡ with_parts (with_parts list steps) more
 with_parts-append list [] more = refl
-with_parts-append list (part ∷ parts) more = with_parts-append (with_part list part) parts more
+with_parts-append list (step ∷ steps) more = with_parts-append (with_part list step.0 step.1) steps more
 
-pub with_parts-all : (list : SiteList) (parts : List (List Site)) → (with_parts list parts).all ≡ list.all ++ sites_in parts
+pub with_parts-all : (list : SiteList) (steps : List Step) → (with_parts list steps).all ≡ list.all ++ sites_in steps
 with_parts-all list [] = sym (append-nil list.all)
-with_parts-all list (part ∷ parts) = with_parts-all (with_part list part) parts ∙ append_assoc list.all part (sites_in parts)
+with_parts-all list (step ∷ steps) = with_parts-all (with_part list step.0 step.1) steps ∙ append_assoc list.all step.1 (sites_in steps)
 
-pub with_parts-begins : (list : SiteList) (parts : List (List Site)) → (with_parts list parts).begins ≡ list.begins ++ begins_from (length list.all) parts
-with_parts-begins list [] = sym (append-nil list.begins)
-with_parts-begins list (part ∷ parts) =
-    with_parts-begins (with_part list part) parts
-    ∙ ap (λ (k : ℕ). (list.begins ++ map (λ (site : Site). length list.all) part) ++ begins_from k parts) (length-append list.all part)
-    ∙ append_assoc list.begins (map (λ (site : Site). length list.all) part) (begins_from (length list.all + length part) parts)
+pub with_parts-parts : (list : SiteList) (steps : List Step) → (with_parts list steps).parts ≡ list.parts ++ parts_in steps
+with_parts-parts list [] = sym (append-nil list.parts)
+with_parts-parts list (step ∷ steps) = with_parts-parts (with_part list step.0 step.1) steps ∙ append_assoc list.parts (map (λ (site : Site). step.0) step.1) (parts_in steps)
 
-pub block-made : (header : Option IrType) (b : Block) (list labelled listed ended : SiteList) → labelled ≡ with_part list (label_sites b) → listed ≡ with_parts labelled (map inst_sites b.insts)
-    → ended ≡ with_part listed (terminator_sites header b.terminator) → ended ≡ with_parts list (block_steps header b)
-block-made header b list labelled listed ended p q r =
-    let e = with_parts-append (with_part list (label_sites b)) (map inst_sites b.insts) (terminator_sites header b.terminator ∷ []) in cc
+pub block-made : (header : Option IrType) (n : ℕ) (b : Block) (list labelled chosen listed ended : SiteList) → labelled ≡ with_part list (part.Label n) (label_sites b) → chosen ≡ with_parts labelled (phi_steps n 0 b.phis) → listed ≡ with_parts chosen (inst_steps n 0 b.insts)
+    → ended ≡ with_part listed (part.End n) (terminator_sites header b.terminator) → ended ≡ with_parts list (block_steps header n b)
+block-made header n b list labelled chosen listed ended p q r s =
+    let last : List Step = (part.End n, terminator_sites header b.terminator) ∷ [] in
+    let first = with_part list (part.Label n) (label_sites b) in
+    let e = with_parts-append first (phi_steps n 0 b.phis) (inst_steps n 0 b.insts ++ last) in
+    let f = with_parts-append (with_parts first (phi_steps n 0 b.phis)) (inst_steps n 0 b.insts) last in cc
 
-pub blocks-next : (header : Option IrType) (blocks : List Block) (i : ℕ) (b : Block) (list next : SiteList) (whole : SiteList) → i < length blocks → b ≡ get_or blocks i b → next ≡ with_parts list (block_steps header b)
-    → with_parts list (block_parts header (drop i blocks)) ≡ whole → with_parts next (block_parts header (drop (i + 1) blocks)) ≡ whole
+pub blocks-next : (header : Option IrType) (blocks : List Block) (i : ℕ) (b : Block) (list next : SiteList) (whole : SiteList) → i < length blocks → b ≡ get_or blocks i b → next ≡ with_parts list (block_steps header i b)
+    → with_parts list (blocks_steps header i (drop i blocks)) ≡ whole → with_parts next (blocks_steps header (i + 1) (drop (i + 1) blocks)) ≡ whole
 blocks-next header blocks i b list next whole within is made so_far =
-    let e = with_parts-append list (block_steps header b) (block_parts header (drop (i + 1) blocks)) in
+    let e = with_parts-append list (block_steps header i b) (blocks_steps header (i + 1) (drop (i + 1) blocks)) in
     let s = rw (drop_more blocks i b within, ← is) at so_far in cc
 
-pub function-made : (f : Function) (list headed taken ended : SiteList) → list.all ≡ [] → list.begins ≡ [] → headed ≡ with_part list header_sites → taken ≡ with_parts headed (map parameter_sites f.parameters)
-    → ended ≡ with_parts taken (block_parts f.returns f.blocks) → (ended.all ≡ sites f) × (ended.begins ≡ begins f)
+pub function-made : (f : Function) (list headed taken ended : SiteList) → list.all ≡ [] → list.parts ≡ [] → headed ≡ with_part list part.Header header_sites → taken ≡ with_parts headed (parameter_steps f.parameters)
+    → ended ≡ with_parts taken (blocks_steps f.returns 0 f.blocks) → (ended.all ≡ sites f) × (ended.parts ≡ parts f)
 unfolding steps
 function-made f list headed taken ended none none' p q r =
-    let e : ended ≡ with_parts list (steps f) = (let a = with_parts-append headed (map parameter_sites f.parameters) (block_parts f.returns f.blocks) in cc) in (
+    let e : ended ≡ with_parts list (steps f) = (let a = with_parts-append headed (parameter_steps f.parameters) (blocks_steps f.returns 0 f.blocks) in cc) in (
       ap (λ (made : SiteList). made.all) e ∙ with_parts-all list (steps f) ∙ ap (λ (xs : List Site). xs ++ sites f) none,
-      ap (λ (made : SiteList). made.begins) e ∙ with_parts-begins list (steps f) ∙ rw (none, none') refl,
+      ap (λ (made : SiteList). made.parts) e ∙ with_parts-parts list (steps f) ∙ ap (λ (xs : List Part). xs ++ parts f) none',
     )
 
-begins_from-length : (at : ℕ) (parts : List (List Site)) → length (begins_from at parts) ≡ length (sites_in parts)
-begins_from-length at [] = refl
-begins_from-length at (part ∷ parts) =
-    let each = length-map part (λ (site : Site). at) in
-    let others = begins_from-length (at + length part) parts in
-    length-append (map (λ (site : Site). at) part) (begins_from (at + length part) parts) ∙ omega (arith, each, others) ∙ sym (length-append part (sites_in parts))
+-- a part for each site
+parts-length : (steps : List Step) → length (parts_in steps) ≡ length (sites_in steps)
+parts-length [] = refl
+parts-length (step ∷ steps) =
+    let tag : Site → Part = λ (site : Site). step.0 in
+    let each = length-map step.1 tag in
+    let others = parts-length steps in
+    length-append (map tag step.1) (parts_in steps) ∙ omega (arith, each, others) ∙ sym (length-append step.1 (sites_in steps))
 
-pub begins-length : (f : Function) (list : SiteList) → list.all ≡ sites f → list.begins ≡ begins f → length list.begins ≡ length list.all
-begins-length f list all firsts = rw (all, firsts) (begins_from-length 0 (steps f))
+pub list-length : (f : Function) (list : SiteList) → list.all ≡ sites f → list.parts ≡ parts f → length list.parts ≡ length list.all
+list-length f list all tags = rw (all, tags) (parts-length (steps f))

@@ -1,6 +1,7 @@
 pub mod Names
 pub mod Types
 pub mod Limits
+pub mod Flow
 pub mod Sites
 pub mod SiteLists
 pub mod WellFormed

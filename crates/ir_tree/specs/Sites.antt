@@ -1,6 +1,7 @@
 -- The sites of a function: the types, names, literals and labels of its text that a refusal may be about, in text order.
-use Rattle.std.specs.Prelude.{ℕ, ◌+◌, ◌<◌, List, [], ◌∷◌, ◌++◌, map, length, All, Bool, true, false, ◌==◌, nat_lt, Option, Some, None, slice_index_or}
-use Rattle.std.specs.List.{flat_map}
+use Rattle.std.specs.Prelude.{ℕ, ◌+◌, ◌%◌, ◌^◌, ◌<◌, List, [], ◌∷◌, ◌++◌, map, length, All, Bool, true, false, not, ◌==◌, nat_lt, Option, Some, None, slice_index_or}
+use Rattle.std.specs.List.{flat_map, list_any}
+use Rattle.tv_num.specs.declared.Width.{Width}
 use Rattle.text_places.specs.declared.place.Place.{Place}
 use Rattle.ir_tree.specs.declared.tree.IrType.{IrType}
 use Rattle.ir_tree.specs.declared.tree.IrType.TheVariants.{Int, Ptr}
@@ -11,13 +12,18 @@ use Rattle.ir_tree.specs.declared.tree.Cast.TheVariants.{Truncate, ZeroExtend, S
 use Rattle.ir_tree.specs.declared.tree.Inst.{Inst}
 use Rattle.ir_tree.specs.declared.tree.Inst.TheVariants as inst
 use Rattle.ir_tree.specs.declared.tree.TypedOperand.{TypedOperand}
+use Rattle.ir_tree.specs.declared.tree.PhiEntry.{PhiEntry}
+use Rattle.ir_tree.specs.declared.tree.Phi.{Phi}
+use Rattle.ir_tree.specs.declared.tree.Case.{Case}
 use Rattle.ir_tree.specs.declared.tree.Terminator.{Terminator}
-use Rattle.ir_tree.specs.declared.tree.Terminator.TheVariants.{Return}
+use Rattle.ir_tree.specs.declared.tree.Terminator.TheVariants.{Return, Branch, CondBranch, Switch, Unreachable}
 use Rattle.ir_tree.specs.declared.tree.Block.{Block}
 use Rattle.ir_tree.specs.declared.tree.Parameter.{Parameter}
 use Rattle.ir_tree.specs.declared.tree.Function.{Function}
+use Rattle.ir_tree.specs.declared.sites.Part.{Part}
+use Rattle.ir_tree.specs.declared.sites.Part.TheVariants as part
 use Rattle.ir_tree.specs.declared.sites.Site.{Site}
-use Rattle.ir_tree.specs.declared.sites.Site.TheVariants.{Defines, Uses, Written}
+use Rattle.ir_tree.specs.declared.sites.Site.TheVariants.{Defines, Uses, Enters, Written}
 use Rattle.ir_tree.specs.Types.{one_bit}
 
 abbrev pub is_same_type : IrType → IrType → Bool
@@ -53,6 +59,31 @@ inst_sites (inst.Select into condition if_true if_false) =
 inst_sites (inst.Freeze into width operand) =
     Defines (Some (Int width)) into ∷ Written true ∷ operand_site (Int width) operand ∷ []
 
+-- an operand, and the block that it comes from
+abbrev pub entry_sites : IrType → PhiEntry → List Site
+entry_sites type entry = operand_site type entry.operand ∷ Enters entry.from ∷ []
+
+-- the result, the type, and then each entry
+abbrev pub phi_sites : Phi → List Site
+phi_sites phi = Defines (Some phi.of_type) phi.into ∷ Written true ∷ flat_map (entry_sites phi.of_type) phi.entries
+
+-- whether both are one number of so many bits
+abbrev pub same_number : ℕ → ℕ → ℕ → Bool
+same_number width a b = a % 2 ^ width == b % 2 ^ width
+
+-- whether one of the cases has this number
+abbrev pub has_case : ℕ → List Case → ℕ → Bool
+has_case width cases n = list_any (λ (c : Case). same_number width c.value n) cases
+
+-- a case's type, which is the switch's, its literal, which no case before has, and its label
+abbrev pub case_sites : Width → List Case → Case → List Site
+case_sites width before c = Written (c.width.bits == width.bits) ∷ Written (not (has_case width.bits before c.value)) ∷ Enters c.to ∷ []
+
+-- each case, the first of them behind these
+abbrev pub cases_sites : Width → List Case → List Case → List Site
+cases_sites width before [] = []
+cases_sites width before (c ∷ cases) = case_sites width before c ++ cases_sites width (before ++ c ∷ []) cases
+
 -- whether the type behind ret is the header's
 abbrev pub returns_type : Option IrType → IrType → Bool
 returns_type None type = false
@@ -66,6 +97,11 @@ is_void (Some type) = false
 abbrev pub terminator_sites : Option IrType → Terminator → List Site
 terminator_sites header (Return None) = Written (is_void header) ∷ []
 terminator_sites header (Return (Some returned)) = typed_sites (returns_type header returned.of_type) returned
+terminator_sites header (Branch to) = Enters to ∷ []
+terminator_sites header (CondBranch condition if_true if_false) = Written true ∷ operand_site (Int one_bit) condition ∷ Enters if_true ∷ Enters if_false ∷ []
+terminator_sites header (Switch width operand default cases) =
+    (Written true ∷ operand_site (Int width) operand ∷ Enters default ∷ []) ++ cases_sites width [] cases
+terminator_sites header Unreachable = []
 
 abbrev pub parameter_sites : Parameter → List Site
 parameter_sites p = Written true ∷ Defines (Some p.of_type) p.name ∷ []
@@ -73,38 +109,63 @@ parameter_sites p = Written true ∷ Defines (Some p.of_type) p.name ∷ []
 abbrev pub label_sites : Block → List Site
 label_sites b = Defines None b.label ∷ []
 
--- the sites of a block, a list for its label, for each instruction and for its end
-abbrev pub block_steps : Option IrType → Block → List (List Site)
-block_steps header b = label_sites b ∷ (map inst_sites b.insts ++ terminator_sites header b.terminator ∷ [])
-
 -- the return type and the function's name
 abbrev pub header_sites : List Site
 header_sites = Written true ∷ Written true ∷ []
 
--- the sites of a function, a list for each part of its text: the header, a parameter, a label, an instruction
-unfoldable pub steps : Function → List (List Site)
-steps f = header_sites ∷ (map parameter_sites f.parameters ++ flat_map (block_steps f.returns) f.blocks)
+-- ---- the parts of the text
+
+-- a part, and its sites
+abbrev pub Step : Type 0
+Step = Part × List Site
+
+abbrev pub parameter_steps : List Parameter → List Step
+parameter_steps ps = map (λ (p : Parameter). (part.Parameter, parameter_sites p)) ps
+
+-- phis of a block, the first of them with this number
+abbrev pub phi_steps : ℕ → ℕ → List Phi → List Step
+phi_steps block n [] = []
+phi_steps block n (phi ∷ phis) = (part.Phi block n, phi_sites phi) ∷ phi_steps block (n + 1) phis
+
+-- instructions of a block, the first of them with this number
+abbrev pub inst_steps : ℕ → ℕ → List Inst → List Step
+inst_steps block n [] = []
+inst_steps block n (inst ∷ insts) = (part.Inst block n, inst_sites inst) ∷ inst_steps block (n + 1) insts
+
+-- the block of this number: its label, its phis, its instructions and its end
+abbrev pub block_steps : Option IrType → ℕ → Block → List Step
+block_steps header n b =
+    (part.Label n, label_sites b) ∷ (phi_steps n 0 b.phis ++ (inst_steps n 0 b.insts ++ (part.End n, terminator_sites header b.terminator) ∷ []))
+
+-- blocks, the first of them with this number
+abbrev pub blocks_steps : Option IrType → ℕ → List Block → List Step
+blocks_steps header n [] = []
+blocks_steps header n (b ∷ bs) = block_steps header n b ++ blocks_steps header (n + 1) bs
+
+-- the header, the parameters and the blocks
+unfoldable pub steps : Function → List Step
+steps f = (part.Header, header_sites) ∷ (parameter_steps f.parameters ++ blocks_steps f.returns 0 f.blocks)
 
 -- the sites of these parts, one after another
-abbrev pub sites_in : List (List Site) → List Site
-sites_in parts = flat_map (λ (part : List Site). part) parts
+abbrev pub sites_in : List Step → List Site
+sites_in steps = flat_map (λ (step : Step). step.1) steps
 
 abbrev pub sites : Function → List Site
 sites f = sites_in (steps f)
 
--- for each site of these parts, of which the first begins at this site, the site that its part begins with
-abbrev pub begins_from : ℕ → List (List Site) → List ℕ
-begins_from at [] = []
-begins_from at (part ∷ parts) = map (λ (site : Site). at) part ++ begins_from (at + length part) parts
+-- for each site of these parts its part
+abbrev pub parts_in : List Step → List Part
+parts_in steps = flat_map (λ (step : Step). map (λ (site : Site). step.0) step.1) steps
 
--- for each site of a function the number of the first site in its part
-abbrev pub begins : Function → List ℕ
-begins f = begins_from 0 (steps f)
+-- for each site of a function the part of the text that it stands in
+abbrev pub parts : Function → List Part
+parts f = parts_in (steps f)
 
 -- a name's number has its name in a table of so many
 abbrev pub IsNumbered : ℕ → Site → Type 0
 IsNumbered count (Defines type name) = name < count
 IsNumbered count (Uses type name) = name < count
+IsNumbered count (Enters name) = name < count
 IsNumbered count (Written fits) = Unit {0}
 
 -- each name of the function stands in its table

@@ -37,6 +37,7 @@ fn is_numbered(site: Site, names: usize) -> bool
     match site {
         Site::Defines { of_type: _, name } => name < names,
         Site::Uses { of_type: _, name } => name < names,
+        Site::Enters { name } => name < names,
         Site::Written { fits: _ } => true,
     }
 }
@@ -63,6 +64,6 @@ fn note(table: &mut [Option<usize>], n: usize, site: Site)
                 table[name] = Some(n);
             }
         }
-        Site::Uses { .. } | Site::Written { .. } => {}
+        Site::Uses { .. } | Site::Enters { .. } | Site::Written { .. } => {}
     }
 }

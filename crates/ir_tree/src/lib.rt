@@ -22,8 +22,8 @@ pub use limits::is_within_limits;
 pub use module::{CheckFault, Entry, Module, Reason, Refused};
 pub use name::Name;
 pub use names::Names;
-pub use sites::{Site, SiteList, is_same_type, one_bit, refusal_at, sites_of};
+pub use sites::{Part, Site, SiteList, is_same_type, one_bit, refusal_at, sites_of};
 pub use tree::{
-    Block, Cast, Flags, Function, Inst, IrType, Op, Operand, Parameter, Predicate, Terminator,
-    TypedOperand,
+    Block, Case, Cast, Flags, Function, Inst, IrType, Op, Operand, Parameter, Phi, PhiEntry,
+    Predicate, Terminator, TypedOperand,
 };

@@ -1,17 +1,33 @@
-ghost use Rattle.std.specs.Prelude.{◌≡◌, map, length, true, slice_index_or, OnOk, IfOk};
-ghost use Rattle.ir_tree.specs.Sites.{sites, begins, operand_site, is_same_type, changes_width, inst_sites, terminator_sites, parameter_sites, returns_type, block_steps, no_place};
+ghost use Rattle.std.specs.Prelude.{◌≡◌, ◌∷◌, [], length, true, slice_index_or, OnOk, IfOk};
+ghost use Rattle.std.specs.List.{flat_map};
+ghost use Rattle.ir_tree.specs.Sites.{sites, parts, operand_site, is_same_type, same_number, changes_width, inst_sites, entry_sites, phi_sites, has_case, case_sites, cases_sites, terminator_sites, returns_type, parameter_steps, phi_steps, inst_steps, block_steps, blocks_steps, no_place};
 ghost use Rattle.ir_tree.specs.Types.{one_bit};
-ghost use Rattle.ir_tree.specs.SiteLists.{with_part, with_parts, block_parts};
+ghost use Rattle.ir_tree.specs.SiteLists.{with_part, with_parts};
 ghost use Rattle.ir_tree.specs.WellFormed.{refusal_at};
 
 use crate::module::{Reason, Refused};
 use crate::tree::{
-    Block, Cast, Function, Inst, IrType, Operand, Parameter, Terminator, TypedOperand,
+    Block, Case, Cast, Function, Inst, IrType, Operand, Parameter, Phi, PhiEntry, Terminator,
+    TypedOperand,
 };
 use std::alloc::Global;
 use support::{NoMemory, Sequence};
 use text_places::Place;
-use tv_num::Width;
+use tv_num::{Width, wrap};
+
+/// A part of a function's text. Blocks, and the phis and instructions of a block, are numbered from
+/// 0 in text order.
+#[derive(Clone, Copy, Debug, PartialEq, Eq)]
+pub enum Part {
+    /// The return type and the function's name.
+    Header,
+    Parameter,
+    Label { block: usize },
+    Phi { block: usize, phi: usize },
+    Inst { block: usize, inst: usize },
+    /// The terminator.
+    End { block: usize },
+}
 
 /// What stands at a place of a function's text that a refusal may be about.
 #[derive(Clone, Copy, Debug, PartialEq, Eq)]
@@ -26,6 +42,10 @@ pub enum Site {
         of_type: IrType,
         name: usize,
     },
+    /// A name that is used as a block: a phi's entry comes from it, or a jump leads to it.
+    Enters {
+        name: usize,
+    },
     /// A type, a literal or the function's name, and whether it may stand there.
     Written {
         fits: bool,
@@ -37,22 +57,21 @@ pub enum Site {
 pub struct SiteList {
     /// What stands at each site.
     pub all: Sequence<Site>,
-    /// For each site the number of the first site in its part of the text. A part is the header, a
-    /// parameter, a label or an instruction.
-    pub begins: Sequence<usize>,
+    /// For each site the part of the text that it stands in.
+    pub parts: Sequence<Part>,
 }
 
 /// The sites of a function, from its header to its last instruction.
 pub fn sites_of(alloc: Global, f: &Function) -> Result<SiteList, NoMemory>
     ensures all { IfOk result (λ list. list.all ≡ sites f.now) }
-    ensures begins { IfOk result (λ list. list.begins ≡ begins f.now) }
-    ensures len { IfOk result (λ list. length list.begins ≡ length list.all) }
+    ensures parts { IfOk result (λ list. list.parts ≡ parts f.now) }
+    ensures len { IfOk result (λ list. length list.parts ≡ length list.all) }
 {
     let mut list = SiteList {
         all: Sequence::from_vec(Vec::new(alloc)),
-        begins: Sequence::from_vec(Vec::new(alloc)),
+        parts: Sequence::from_vec(Vec::new(alloc)),
     };
-    list.part(&[fitting(), fitting()])?;
+    list.part(Part::Header, &[fitting(), fitting()])?;
     list.parameters(f.parameters.as_slice())?;
     list.blocks(f.returns, f.blocks.as_slice())?;
     Ok(list)
@@ -71,64 +90,113 @@ pub fn refusal_at(f: &Function, reason: Reason, site: usize) -> Refused
 }
 
 impl SiteList {
-    fn part(&mut self, sites: &[Site]) -> Result<(), NoMemory>
-        ensures { OnOk result (self.new ≡ with_part self.old sites.now) }
+    fn part(&mut self, part: Part, sites: &[Site]) -> Result<(), NoMemory>
+        ensures { OnOk result (self.new ≡ with_part self.old part sites.now) }
     {
-        let begin = self.all.len();
         for site in sites {
             self.all.push(*site)?;
-            self.begins.push(begin)?;
+            self.parts.push(part)?;
         }
         Ok(())
     }
 
     fn parameters(&mut self, parameters: &[Parameter]) -> Result<(), NoMemory>
-        ensures { OnOk result (self.new ≡ with_parts self.old (map parameter_sites parameters.now)) }
+        ensures { OnOk result (self.new ≡ with_parts self.old (parameter_steps parameters.now)) }
     {
         for parameter in parameters {
-            self.part(&[
-                fitting(),
-                Site::Defines {
-                    of_type: Some(parameter.of_type),
-                    name: parameter.name,
-                },
-            ])?;
+            self.part(
+                Part::Parameter,
+                &[
+                    fitting(),
+                    Site::Defines {
+                        of_type: Some(parameter.of_type),
+                        name: parameter.name,
+                    },
+                ],
+            )?;
         }
         Ok(())
     }
 
     fn blocks(&mut self, returns: Option<IrType>, blocks: &[Block]) -> Result<(), NoMemory>
-        ensures { OnOk result (self.new ≡ with_parts self.old (block_parts returns blocks.now)) }
+        ensures { OnOk result (self.new ≡ with_parts self.old (blocks_steps returns 0 blocks.now)) }
     {
-        for block in blocks {
-            self.block(returns, block)?;
+        for (place, block) in blocks.iter().enumerate() {
+            self.block(returns, place, block)?;
         }
         Ok(())
     }
 
-    fn block(&mut self, returns: Option<IrType>, block: &Block) -> Result<(), NoMemory>
-        ensures { OnOk result (self.new ≡ with_parts self.old (block_steps returns block.now)) }
+    fn block(
+        &mut self,
+        returns: Option<IrType>,
+        place: usize,
+        block: &Block,
+    ) -> Result<(), NoMemory>
+        ensures { OnOk result (self.new ≡ with_parts self.old (block_steps returns place block.now)) }
     {
-        self.part(&[Site::Defines {
-            of_type: None,
-            name: block.label,
-        }])?;
-        self.insts(block.insts.as_slice())?;
-        self.terminator(returns, block.terminator)?;
+        self.part(
+            Part::Label { block: place },
+            &[Site::Defines {
+                of_type: None,
+                name: block.label,
+            }],
+        )?;
+        self.phis(place, block.phis.as_slice())?;
+        self.insts(place, block.insts.as_slice())?;
+        self.terminator(Part::End { block: place }, returns, &block.terminator)?;
         Ok(())
     }
 
-    fn insts(&mut self, insts: &[Inst]) -> Result<(), NoMemory>
-        ensures { OnOk result (self.new ≡ with_parts self.old (map inst_sites insts.now)) }
+    fn phis(&mut self, block: usize, phis: &[Phi]) -> Result<(), NoMemory>
+        ensures { OnOk result (self.new ≡ with_parts self.old (phi_steps block 0 phis.now)) }
     {
-        for inst in insts {
-            self.inst(inst)?;
+        for (place, phi) in phis.iter().enumerate() {
+            self.phi(Part::Phi { block, phi: place }, phi)?;
         }
         Ok(())
     }
 
-    fn inst(&mut self, inst: &Inst) -> Result<(), NoMemory>
-        ensures { OnOk result (self.new ≡ with_part self.old (inst_sites inst.now)) }
+    fn phi(&mut self, part: Part, phi: &Phi) -> Result<(), NoMemory>
+        ensures { OnOk result (self.new ≡ with_part self.old part (phi_sites phi.now)) }
+    {
+        self.part(
+            part,
+            &[
+                Site::Defines {
+                    of_type: Some(phi.of_type),
+                    name: phi.into,
+                },
+                fitting(),
+            ],
+        )?;
+        self.entries(part, phi.of_type, phi.entries.as_slice())?;
+        Ok(())
+    }
+
+    fn entries(&mut self, part: Part, of_type: IrType, entries: &[PhiEntry]) -> Result<(), NoMemory>
+        ensures { OnOk result (self.new ≡ with_part self.old part (flat_map (entry_sites of_type) entries.now)) }
+    {
+        for entry in entries {
+            self.part(
+                part,
+                &[operand_site(of_type, entry.operand), enters(entry.from)],
+            )?;
+        }
+        Ok(())
+    }
+
+    fn insts(&mut self, block: usize, insts: &[Inst]) -> Result<(), NoMemory>
+        ensures { OnOk result (self.new ≡ with_parts self.old (inst_steps block 0 insts.now)) }
+    {
+        for (place, inst) in insts.iter().enumerate() {
+            self.inst(Part::Inst { block, inst: place }, inst)?;
+        }
+        Ok(())
+    }
+
+    fn inst(&mut self, part: Part, inst: &Inst) -> Result<(), NoMemory>
+        ensures { OnOk result (self.new ≡ with_part self.old part (inst_sites inst.now)) }
     {
         match *inst {
             Inst::Binary {
@@ -137,12 +205,15 @@ impl SiteList {
                 width,
                 left,
                 right,
-            } => self.part(&[
-                integer(into, width),
-                fitting(),
-                operand_site(IrType::Int(width), left),
-                operand_site(IrType::Int(width), right),
-            ]),
+            } => self.part(
+                part,
+                &[
+                    integer(into, width),
+                    fitting(),
+                    operand_site(IrType::Int(width), left),
+                    operand_site(IrType::Int(width), right),
+                ],
+            ),
             Inst::Icmp {
                 into,
                 predicate: _,
@@ -150,99 +221,195 @@ impl SiteList {
                 width,
                 left,
                 right,
-            } => self.part(&[
-                integer(into, one_bit()),
-                fitting(),
-                operand_site(IrType::Int(width), left),
-                operand_site(IrType::Int(width), right),
-            ]),
+            } => self.part(
+                part,
+                &[
+                    integer(into, one_bit()),
+                    fitting(),
+                    operand_site(IrType::Int(width), left),
+                    operand_site(IrType::Int(width), right),
+                ],
+            ),
             Inst::Cast {
                 into,
                 cast,
                 from,
                 operand,
                 to,
-            } => self.part(&[
-                integer(into, to),
-                fitting(),
-                operand_site(IrType::Int(from), operand),
-                Site::Written {
-                    fits: changes_width(cast, from, to),
-                },
-            ]),
+            } => self.part(
+                part,
+                &[
+                    integer(into, to),
+                    fitting(),
+                    operand_site(IrType::Int(from), operand),
+                    Site::Written {
+                        fits: changes_width(cast, from, to),
+                    },
+                ],
+            ),
             Inst::Select {
                 into,
                 condition,
                 if_true,
                 if_false,
-            } => self.select(into, condition, if_true, if_false),
+            } => self.select(part, into, condition, if_true, if_false),
             Inst::Freeze {
                 into,
                 width,
                 operand,
-            } => self.part(&[
-                integer(into, width),
-                fitting(),
-                operand_site(IrType::Int(width), operand),
-            ]),
+            } => self.part(
+                part,
+                &[
+                    integer(into, width),
+                    fitting(),
+                    operand_site(IrType::Int(width), operand),
+                ],
+            ),
         }
     }
 
     fn select(
         &mut self,
+        part: Part,
         into: usize,
         condition: Operand,
         if_true: TypedOperand,
         if_false: TypedOperand,
     ) -> Result<(), NoMemory>
-        ensures { OnOk result (self.new ≡ with_part self.old (inst_sites (Inst.Select into condition if_true if_false))) }
+        ensures { OnOk result (self.new ≡ with_part self.old part (inst_sites (Inst.Select into condition if_true if_false))) }
     {
-        self.part(&[
-            Site::Defines {
-                of_type: Some(if_true.of_type),
-                name: into,
-            },
-            fitting(),
-            operand_site(IrType::Int(one_bit()), condition),
-            fitting(),
-            operand_site(if_true.of_type, if_true.operand),
-            Site::Written {
-                fits: is_same_type(if_true.of_type, if_false.of_type),
-            },
-            operand_site(if_false.of_type, if_false.operand),
-        ])
+        self.part(
+            part,
+            &[
+                Site::Defines {
+                    of_type: Some(if_true.of_type),
+                    name: into,
+                },
+                fitting(),
+                operand_site(IrType::Int(one_bit()), condition),
+                fitting(),
+                operand_site(if_true.of_type, if_true.operand),
+                Site::Written {
+                    fits: is_same_type(if_true.of_type, if_false.of_type),
+                },
+                operand_site(if_false.of_type, if_false.operand),
+            ],
+        )
     }
 
     fn terminator(
         &mut self,
+        part: Part,
         returns: Option<IrType>,
-        terminator: Terminator,
+        terminator: &Terminator,
     ) -> Result<(), NoMemory>
-        ensures { OnOk result (self.new ≡ with_part self.old (terminator_sites returns terminator)) }
+        ensures { OnOk result (self.new ≡ with_part self.old part (terminator_sites returns terminator.now)) }
     {
         match terminator {
-            Terminator::Return(returned) => self.returned(returns, returned),
+            Terminator::Return(returned) => self.returned(part, returns, *returned),
+            Terminator::Branch { to } => self.part(part, &[enters(*to)]),
+            Terminator::CondBranch {
+                condition,
+                if_true,
+                if_false,
+            } => self.part(
+                part,
+                &[
+                    fitting(),
+                    operand_site(IrType::Int(one_bit()), *condition),
+                    enters(*if_true),
+                    enters(*if_false),
+                ],
+            ),
+            Terminator::Switch {
+                width,
+                operand,
+                default,
+                cases,
+            } => self.switch(part, *width, *operand, *default, cases.as_slice()),
+            Terminator::Unreachable => self.part(part, &[]),
         }
     }
 
     fn returned(
         &mut self,
+        part: Part,
         returns: Option<IrType>,
         returned: Option<TypedOperand>,
     ) -> Result<(), NoMemory>
-        ensures { OnOk result (self.new ≡ with_part self.old (terminator_sites returns (Terminator.Return returned))) }
+        ensures { OnOk result (self.new ≡ with_part self.old part (terminator_sites returns (Terminator.Return returned))) }
     {
         match returned {
-            Some(returned) => self.part(&[
-                Site::Written {
-                    fits: returns_type(returns, returned.of_type),
-                },
-                operand_site(returned.of_type, returned.operand),
-            ]),
-            None => self.part(&[Site::Written {
-                fits: returns.is_none(),
-            }]),
+            Some(returned) => self.part(
+                part,
+                &[
+                    Site::Written {
+                        fits: returns_type(returns, returned.of_type),
+                    },
+                    operand_site(returned.of_type, returned.operand),
+                ],
+            ),
+            None => self.part(
+                part,
+                &[Site::Written {
+                    fits: returns.is_none(),
+                }],
+            ),
         }
+    }
+
+    fn switch(
+        &mut self,
+        part: Part,
+        width: Width,
+        operand: Operand,
+        default: usize,
+        cases: &[Case],
+    ) -> Result<(), NoMemory>
+        ensures { OnOk result (self.new ≡ with_part self.old part (Site.Written true ∷ operand_site (IrType.Int width) operand ∷ Site.Enters default ∷ cases_sites width [] cases.now)) }
+    {
+        self.part(
+            part,
+            &[
+                fitting(),
+                operand_site(IrType::Int(width), operand),
+                enters(default),
+            ],
+        )?;
+        self.cases(part, width, cases)?;
+        Ok(())
+    }
+
+    fn cases(&mut self, part: Part, width: Width, cases: &[Case]) -> Result<(), NoMemory>
+        ensures { OnOk result (self.new ≡ with_part self.old part (cases_sites width [] cases.now)) }
+    {
+        for (place, case) in cases.iter().enumerate() {
+            self.case(part, width, &cases[..place], *case)?;
+        }
+        Ok(())
+    }
+
+    fn case(
+        &mut self,
+        part: Part,
+        width: Width,
+        before: &[Case],
+        case: Case,
+    ) -> Result<(), NoMemory>
+        ensures { OnOk result (self.new ≡ with_part self.old part (case_sites width before.now case)) }
+    {
+        self.part(
+            part,
+            &[
+                Site::Written {
+                    fits: case.width.bits() == width.bits(),
+                },
+                Site::Written {
+                    fits: !has_case(before, width, case.value),
+                },
+                enters(case.to),
+            ],
+        )
     }
 }
 
@@ -275,6 +442,20 @@ fn returns_type(header: Option<IrType>, of_type: IrType) -> bool
     }
 }
 
+fn is_same_number(width: Width, a: u64, b: u64) -> bool
+    ensures { result ≡ same_number width.bits a b }
+{
+    wrap(a as u128, width) == wrap(b as u128, width)
+}
+
+fn has_case(cases: &[Case], width: Width, value: u64) -> bool
+    ensures { result ≡ has_case width.bits cases.now value }
+{
+    cases
+        .iter()
+        .any(|case| is_same_number(width, case.value, value))
+}
+
 /// The width of a truth value.
 pub fn one_bit() -> Width
     ensures { result ≡ one_bit }
@@ -286,6 +467,12 @@ fn fitting() -> Site
     ensures { result ≡ Site.Written true }
 {
     Site::Written { fits: true }
+}
+
+fn enters(name: usize) -> Site
+    ensures { result ≡ Site.Enters name }
+{
+    Site::Enters { name }
 }
 
 fn integer(name: usize, width: Width) -> Site

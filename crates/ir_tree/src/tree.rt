@@ -124,18 +124,64 @@ pub enum Inst {
     },
 }
 
-/// How a block ends (LLVM Language Reference, "Terminator Instructions").
+/// What a phi takes where the block of a label was left: an operand, and the label's number.
 #[derive(Clone, Copy, Debug, PartialEq, Eq)]
+pub struct PhiEntry {
+    pub operand: Operand,
+    pub from: usize,
+}
+
+/// A phi: its result gets the operand of the block that was left (LLVM Language Reference, "phi
+/// Instruction"). All phis of a block read their operands before one result is assigned.
+#[derive(Drop)]
+pub struct Phi {
+    pub into: usize,
+    pub of_type: IrType,
+    pub entries: Sequence<PhiEntry>,
+}
+
+/// A case of a switch: a literal behind its own type, wrapped to that type's width, and the number
+/// of the label that it leads to.
+#[derive(Clone, Copy, Debug, PartialEq, Eq)]
+pub struct Case {
+    pub width: Width,
+    pub value: u64,
+    pub to: usize,
+}
+
+/// How a block ends (LLVM Language Reference, "Terminator Instructions"). Blocks go by the numbers
+/// of their labels.
+#[derive(Drop)]
 pub enum Terminator {
     /// `ret`, with nothing for `ret void`.
     Return(Option<TypedOperand>),
+    /// `br label`.
+    Branch {
+        to: usize,
+    },
+    /// `br i1`: the condition has one bit.
+    CondBranch {
+        condition: Operand,
+        if_true: usize,
+        if_false: usize,
+    },
+    /// `switch`: the case whose number is the operand's, or the default.
+    Switch {
+        width: Width,
+        operand: Operand,
+        default: usize,
+        cases: Sequence<Case>,
+    },
+    /// `unreachable`.
+    Unreachable,
 }
 
-/// A block: the number of its label among the function's names, its instructions in order, and how
-/// it ends. An entry without a label has the name that the language gives it.
+/// A block: the number of its label among the function's names, its phis and its other instructions
+/// in order, and how it ends. An entry without a label has the name that the language gives it.
 #[derive(Drop)]
 pub struct Block {
     pub label: usize,
+    pub phis: Sequence<Phi>,
     pub insts: Sequence<Inst>,
     pub terminator: Terminator,
 }

@@ -10,6 +10,7 @@ pub mod Memories
 pub mod One
 pub mod OneOfEach
 pub mod Order
+pub mod Placed
 pub mod Places
 pub mod Plain
 pub mod Pushes

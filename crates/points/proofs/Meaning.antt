@@ -53,6 +53,10 @@ end_small : (end : Terminator) → widest (end_widths end) ≤ 64
 unfolding widest
 end_small (terminator.Return None) = omega arith
 end_small (terminator.Return (Some r)) = undef_small r.of_type r.operand
+end_small (terminator.Branch to) = omega arith
+end_small (terminator.CondBranch condition if_true if_false) = omega arith
+end_small (terminator.Switch width operand default cases) = omega arith
+end_small terminator.Unreachable = omega arith
 
 none_small : widest [] ≤ 64
 unfolding widest

@@ -1,6 +1,7 @@
--- What a function does on an input and a tape of choices. It is told for every function: a name that was never assigned is poison, undef is poison where it is neither frozen nor returned, a number is read modulo the width at which it is used, and a place outside the text ends in undefined behaviour. In a function that is read none of these happens.
-use Rattle.std.specs.Prelude.{◌≡◌, ℕ, zero, suc, ◌+◌, ◌%◌, ◌^◌, List, [], ◌∷◌, ◌++◌, length, replicate, nat_lt, if◌then◌else◌, Bool, true, false, ◌&&◌, ◌||◌, Option, Some, None, slice_get, slice_index, slice_index_or, slice_set}
-use Rattle.std.specs.Option.{option_map}
+-- What a function does on an input and a tape of choices. It is told for every function: a name that was never assigned is poison, undef is poison where it is neither frozen nor returned, a number is read modulo the width at which it is used, and a jump to a label that no block has ends in undefined behaviour, and a phi without an entry for the block that was left is poison. In a function that is read none of these happens.
+use Rattle.std.specs.Prelude.{◌≡◌, ℕ, zero, suc, ◌+◌, ◌%◌, ◌^◌, List, [], ◌∷◌, ◌++◌, length, replicate, nat_eq, nat_lt, if◌then◌else◌, Bool, true, false, ◌&&◌, ◌||◌, Option, Some, None, slice_get, slice_index, slice_index_or, slice_set}
+use Rattle.std.specs.List.{find}
+use Rattle.std.specs.Option.{option_map, option_map_or}
 use Rattle.ir_tree.specs.declared.tree.IrType.{IrType}
 use Rattle.ir_tree.specs.declared.tree.IrType.TheVariants as type
 use Rattle.ir_tree.specs.declared.tree.Operand.{Operand}
@@ -8,11 +9,16 @@ use Rattle.ir_tree.specs.declared.tree.Operand.TheVariants as operand
 use Rattle.ir_tree.specs.declared.tree.Inst.{Inst}
 use Rattle.ir_tree.specs.declared.tree.Inst.TheVariants.{Binary, Icmp, Cast, Select, Freeze}
 use Rattle.ir_tree.specs.declared.tree.TypedOperand.{TypedOperand}
+use Rattle.ir_tree.specs.declared.tree.PhiEntry.{PhiEntry}
+use Rattle.ir_tree.specs.declared.tree.Phi.{Phi}
+use Rattle.ir_tree.specs.declared.tree.Case.{Case}
 use Rattle.ir_tree.specs.declared.tree.Terminator.{Terminator}
 use Rattle.ir_tree.specs.declared.tree.Terminator.TheVariants as terminator
 use Rattle.ir_tree.specs.declared.tree.Block.{Block}
 use Rattle.ir_tree.specs.declared.tree.Parameter.{Parameter}
 use Rattle.ir_tree.specs.declared.tree.Function.{Function}
+use Rattle.ir_tree.specs.Sites.{same_number}
+use Rattle.ir_tree.specs.Flow.{block_of}
 use Rattle.byte_block.specs.declared.value.Value.{Value}
 use Rattle.byte_block.specs.declared.value.Value.TheVariants as value
 use Rattle.byte_block.specs.declared.value.Value.TheVariants.{Num, Poison}
@@ -70,6 +76,24 @@ act (Select into condition if_true if_false) tape m =
     Some (assigned m into (selected (operand_value m.registers condition) (typed_operand_value m.registers if_true) (typed_operand_value m.registers if_false)))
 act (Freeze into width operand) tape m = Some (frozen tape m into width.bits (operand_value m.registers operand))
 
+-- ---- the phis of a block
+
+-- what stands in the entry for the block that was left
+abbrev pub entry_value : Machine → List PhiEntry → Value
+entry_value m entries = option_map_or (λ (e : PhiEntry). operand_value m.registers e.operand) (find (λ (e : PhiEntry). nat_eq e.from m.block) entries) Poison
+
+abbrev pub phi_value : Machine → Phi → Value
+phi_value m phi = typed_value phi.of_type (entry_value m phi.entries)
+
+-- each phi gets its value of the machine before them, so that none sees the result of another
+abbrev pub with_phis : Machine → List Phi → Machine → Machine
+with_phis before [] m = m
+with_phis before (phi ∷ phis) m = with_phis before phis (assigned m phi.into (phi_value before phi))
+
+-- a block is entered: all its phis at once
+abbrev pub entered : Block → Machine → Machine
+entered b m = record (with_phis m b.phis m) { block = b.label }
+
 -- ---- one block
 
 -- how a run ended, and the choices that it took, in order
@@ -77,7 +101,7 @@ pub record Run : Type 0 where
   pub outcome : Outcome
   pub taken : List ℕ
 
--- how a block is left: to the block at a place, or for good
+-- how a block is left: to the block of a label, or for good
 pub data Exit : Type 0 where
   To : ℕ → Machine → Exit
   Over : Run → Exit
@@ -110,8 +134,26 @@ returned_run no_undef (Some returned) tape m =
     if no_undef && is_poison (operand_value m.registers returned.operand) then ended Ub m
     else returned_with (undef_width returned.of_type returned.operand) returned tape m
 
+-- a condition of one bit; poison is undefined behaviour
+abbrev pub branch_on : Value → ℕ → ℕ → Machine → Exit
+branch_on (Num n) if_true if_false m = To (if nat_eq (n % 2) 1 then if_true else if_false) m
+branch_on _ if_true if_false m = Over (ended Ub m)
+
+-- the first case with this number of so many bits, or the default
+abbrev pub case_for : ℕ → ℕ → ℕ → List Case → ℕ
+case_for width n default cases = option_map_or (λ (c : Case). c.to) (find (λ (c : Case). same_number width c.value n) cases) default
+
+-- poison is undefined behaviour
+abbrev pub switch_on : ℕ → Value → ℕ → List Case → Machine → Exit
+switch_on width (Num n) default cases m = To (case_for width n default cases) m
+switch_on width _ default cases m = Over (ended Ub m)
+
 abbrev pub exit_by : Bool → Terminator → List ℕ → Machine → Exit
 exit_by no_undef (terminator.Return returned) tape m = Over (returned_run no_undef returned tape m)
+exit_by no_undef (terminator.Branch to) tape m = To to m
+exit_by no_undef (terminator.CondBranch condition if_true if_false) tape m = branch_on (operand_value m.registers condition) if_true if_false m
+exit_by no_undef (terminator.Switch width operand default cases) tape m = switch_on width.bits (operand_value m.registers operand) default cases m
+exit_by no_undef terminator.Unreachable tape m = Over (ended Ub m)
 
 abbrev pub exit_after : Option Machine → Machine → (Machine → Exit) → Exit
 exit_after None m go = Over (ended Ub m)
@@ -124,7 +166,7 @@ exit_insts no_undef (inst ∷ insts) end tape m = exit_after (act inst tape m) m
 
 abbrev pub exit_of : Bool → Option Block → List ℕ → Machine → Exit
 exit_of no_undef None tape m = Over (ended Ub m)
-exit_of no_undef (Some block) tape m = exit_insts no_undef block.insts block.terminator tape m
+exit_of no_undef (Some block) tape m = exit_insts no_undef block.insts block.terminator tape (entered block m)
 
 -- ---- the run
 
@@ -132,15 +174,19 @@ exit_of no_undef (Some block) tape m = exit_insts no_undef block.insts block.ter
 abbrev pub Go : Type 0
 Go = ℕ → Machine → Run
 
--- a jump to the same or an earlier place is backward, and is counted
-abbrev pub go_on : Exit → ℕ → Go → Go → Run
-go_on (Over run) at onward again = run
-go_on (To to m) at onward again = if nat_lt at to then onward to m else again to (record m { turn = m.turn + 1 })
+-- to the block at a place: a jump to the same or an earlier one is backward, and is counted
+abbrev pub jump : ℕ → ℕ → Machine → Go → Go → Run
+jump at to m onward again = if nat_lt at to then onward to m else again to (record m { turn = m.turn + 1 })
+
+-- the first number is the place of the block that is left; a label that no block has is at a place behind the text
+abbrev pub go_on : Function → Exit → ℕ → Go → Go → Run
+go_on f (Over run) at onward again = run
+go_on f (To label m) at onward again = jump at (block_of f label) m onward again
 
 -- up to the next backward jump, which goes on by `again`; `left` bounds the jumps forward, and the number of blocks suffices
 unfoldable pub forward : Function → List ℕ → Go → ℕ → Go
 forward f tape again zero at m = ended Ub m
-forward f tape again (suc left) at m = go_on (exit_of f.returns_no_undef (slice_get f.blocks at) tape m) at (forward f tape again left) again
+forward f tape again (suc left) at m = go_on f (exit_of f.returns_no_undef (slice_get f.blocks at) tape m) at (forward f tape again left) again
 
 -- with so many backward jumps left; the one after them ends the run
 unfoldable pub run_turns : Function → List ℕ → ℕ → Go
@@ -157,6 +203,7 @@ first_machine f input = record {
   registers = with_args f.parameters input.args (replicate (length f.names) Poison);
   memory = input.blocks;
   turn = 0;
+  block = 0;
   taken = [];
 }
 

@@ -31,7 +31,12 @@ returned_widths (Some returned) = widths_of (undef_width returned.of_type return
 
 abbrev pub end_widths : Terminator → List ℕ
 end_widths (terminator.Return returned) = returned_widths returned
+end_widths (terminator.Branch to) = []
+end_widths (terminator.CondBranch condition if_true if_false) = []
+end_widths (terminator.Switch width operand default cases) = []
+end_widths terminator.Unreachable = []
 
+-- a phi makes no choice
 abbrev pub block_widths : Block → List ℕ
 block_widths b = flat_map inst_widths b.insts ++ end_widths b.terminator
 

@@ -1,5 +1,5 @@
 -- How heavy a pair is, and when it is too large to be judged.
-use Rattle.std.specs.Prelude.{ℕ, ◌+◌, ◌*◌, ◌<◌, ◌⊎◌, List, sum_by}
+use Rattle.std.specs.Prelude.{ℕ, ◌+◌, ◌*◌, ◌<◌, ◌⊎◌, List, length, sum_by}
 use Rattle.ir_tree.specs.declared.tree.IrType.{IrType}
 use Rattle.ir_tree.specs.declared.tree.IrType.TheVariants as type
 use Rattle.ir_tree.specs.declared.tree.Parameter.{Parameter}
@@ -7,6 +7,7 @@ use Rattle.ir_tree.specs.declared.tree.Op.{Op}
 use Rattle.ir_tree.specs.declared.tree.Op.TheVariants.{Add, Sub, Mul, UnsignedDiv, UnsignedRem, SignedDiv, SignedRem, ShiftLeft, LogicalShiftRight, ArithmeticShiftRight, And, Or, Xor}
 use Rattle.ir_tree.specs.declared.tree.Inst.{Inst}
 use Rattle.ir_tree.specs.declared.tree.Inst.TheVariants.{Binary, Icmp, Cast, Select, Freeze}
+use Rattle.ir_tree.specs.declared.tree.Phi.{Phi}
 use Rattle.ir_tree.specs.declared.tree.Terminator.{Terminator}
 use Rattle.ir_tree.specs.declared.tree.Terminator.TheVariants as terminator
 use Rattle.ir_tree.specs.declared.tree.Block.{Block}
@@ -44,11 +45,19 @@ inst_cost (Cast into cast from operand to) = to.bits
 inst_cost (Select into condition if_true if_false) = type_width if_true.of_type
 inst_cost (Freeze into width operand) = width.bits
 
+abbrev pub phi_cost : Phi → ℕ
+phi_cost phi = type_width phi.of_type * length phi.entries
+
+-- a switch compares its operand with each case
 abbrev pub end_cost : Terminator → ℕ
 end_cost (terminator.Return returned) = 1
+end_cost (terminator.Branch to) = 1
+end_cost (terminator.CondBranch condition if_true if_false) = 1
+end_cost (terminator.Switch width operand default cases) = 1 + length cases * width.bits
+end_cost terminator.Unreachable = 1
 
 abbrev pub block_cost : Block → ℕ
-block_cost b = sum_by inst_cost b.insts + end_cost b.terminator
+block_cost b = sum_by phi_cost b.phis + (sum_by inst_cost b.insts + end_cost b.terminator)
 
 abbrev pub cost_of : Function → ℕ
 cost_of f = sum_by block_cost f.blocks

@@ -27,24 +27,13 @@ use Rattle.points.specs.Tapes.{need_of}
 use Rattle.points.specs.Covers.{covers, some_covers, shifted, is_covered}
 use Rattle.points.specs.Trail.{IsPoint, place_in, IsLeastUncovered, AreAllCovered}
 use Rattle.points.proofs.Order.{number_of-append, length_of_Digits}
-use Rattle.points.proofs.Runs.{run_end, run_after, run_insts, run_entry, run_entered_by, run_of_is}
+use Rattle.points.proofs.Placed.{with_memory, rerun, with_blocks, run_any_memory}
 use Rattle.points.proofs.Same.{blocks_digits}
 use Rattle.choice_interp.proofs.Endings.{blocks_allow-same}
 use Rattle.slow_judge.specs.Search.{AreSmall, empty_blocks, IsCell, IsLeastUncoveredCell, AreAllCellsCovered}
 use Rattle.slow_judge.proofs.Order.{empty_fit, middle_zeros, number_of-Zeros, few, short}
 
 -- ---- a run hands its memory on
-
-abbrev with_memory : List MemoryBlock → Outcome → Outcome
-with_memory memory (Return v m) = Return v memory
-with_memory memory Ub = Ub
-with_memory memory Beyond = Beyond
-
-abbrev placed : List MemoryBlock → Machine → Machine
-placed memory m = record m { memory = memory }
-
-abbrev rerun : List MemoryBlock → Run → Run
-rerun memory run = record { outcome = with_memory memory run.outcome; taken = run.taken }
 
 refined_any_memory : (a b : Outcome) (memory other : List MemoryBlock) → is_refined (with_memory memory a) (with_memory memory b) ≡ is_refined (with_memory other a) (with_memory other b)
 refined_any_memory (Return v m) (Return w n) memory other = rw (blocks_allow-same memory, blocks_allow-same other) refl
@@ -56,61 +45,6 @@ refined_any_memory Ub Beyond memory other = refl
 refined_any_memory Beyond (Return w n) memory other = refl
 refined_any_memory Beyond Ub memory other = refl
 refined_any_memory Beyond Beyond memory other = refl
-
-assigned_placed : (memory : List MemoryBlock) (m : Machine) (into : ℕ) (v : Option Value) → option_map (assigned (placed memory m) into) v ≡ option_map (placed memory) (option_map (assigned m into) v)
-assigned_placed memory m into None = refl
-assigned_placed memory m into (Some v) = refl
-
-frozen_placed : (memory : List MemoryBlock) (tape : List ℕ) (m : Machine) (into width : ℕ) (v : Value) → frozen tape (placed memory m) into width v ≡ placed memory (frozen tape m into width v)
-frozen_placed memory tape m into width (Num n) = refl
-frozen_placed memory tape m into width Poison = refl
-frozen_placed memory tape m into width (value.Ptr p) = refl
-
-act_placed : (memory : List MemoryBlock) (inst : Inst) (tape : List ℕ) (m : Machine) → act inst tape (placed memory m) ≡ option_map (placed memory) (act inst tape m)
-act_placed memory (Binary into op width left right) tape m = assigned_placed memory m into (value_result op width.bits (operand_value m.registers left) (operand_value m.registers right))
-act_placed memory (Icmp into predicate same_sign width left right) tape m = refl
-act_placed memory (Cast into cast from operand to) tape m = refl
-act_placed memory (Select into condition if_true if_false) tape m = refl
-act_placed memory (Freeze into width operand) tape m = ap Some (frozen_placed memory tape m into width.bits (operand_value m.registers operand))
-
-returned_placed : (memory : List MemoryBlock) (o : Option ℕ) (r : TypedOperand) (tape : List ℕ) (m : Machine) → returned_with o r tape (placed memory m) ≡ rerun memory (returned_with o r tape m)
-returned_placed memory None r tape m = refl
-returned_placed memory (Some width) r tape m = refl
-
-stopped_placed : (memory : List MemoryBlock) (stops : Bool) (o : Option ℕ) (r : TypedOperand) (tape : List ℕ) (m : Machine) → (if stops then ended Ub (placed memory m) else returned_with o r tape (placed memory m)) ≡ rerun memory (if stops then ended Ub m else returned_with o r tape m)
-stopped_placed memory true o r tape m = refl
-stopped_placed memory false o r tape m = returned_placed memory o r tape m
-
-end_placed : (memory : List MemoryBlock) (no_undef : Bool) (end : Terminator) (tape : List ℕ) (m : Machine) → run_end no_undef end tape (placed memory m) ≡ rerun memory (run_end no_undef end tape m)
-end_placed memory no_undef (terminator.Return None) tape m = refl
-end_placed memory no_undef (terminator.Return (Some r)) tape m = stopped_placed memory (no_undef && is_poison (operand_value m.registers r.operand)) (undef_width r.of_type r.operand) r tape m
-
-after_placed : (memory : List MemoryBlock) (o : Option Machine) (m : Machine) (go : Machine → Run) → ((m' : Machine) → go (placed memory m') ≡ rerun memory (go m')) → run_after (option_map (placed memory) o) (placed memory m) go ≡ rerun memory (run_after o m go)
-after_placed memory None m go h = refl
-after_placed memory (Some m') m go h = h m'
-
-insts_placed : (memory : List MemoryBlock) (no_undef : Bool) (insts : List Inst) (end : Terminator) (tape : List ℕ) (m : Machine) → run_insts no_undef insts end tape (placed memory m) ≡ rerun memory (run_insts no_undef insts end tape m)
-unfolding run_insts
-insts_placed memory no_undef [] end tape m = end_placed memory no_undef end tape m
-insts_placed memory no_undef (inst ∷ insts) end tape m =
-    ap (λ (o : Option Machine). run_after o (placed memory m) (run_insts no_undef insts end tape)) (act_placed memory inst tape m)
-    ∙ after_placed memory (act inst tape m) m (run_insts no_undef insts end tape) (λ m'. insts_placed memory no_undef insts end tape m')
-
-entry_placed : (memory : List MemoryBlock) (no_undef : Bool) (blocks : List Block) (tape : List ℕ) (m : Machine) → run_entry no_undef blocks tape (placed memory m) ≡ rerun memory (run_entry no_undef blocks tape m)
-entry_placed memory no_undef [] tape m = refl
-entry_placed memory no_undef (b ∷ bs) tape m = insts_placed memory no_undef b.insts b.terminator tape m
-
-entered_placed : (memory : List MemoryBlock) (broken : Bool) (f : Function) (tape : List ℕ) (m : Machine) → run_entered_by broken f tape (placed memory m) ≡ rerun memory (run_entered_by broken f tape m)
-entered_placed memory true f tape m = refl
-entered_placed memory false f tape m = entry_placed memory f.returns_no_undef f.blocks tape m
-
--- the same input with other blocks
-abbrev pub with_blocks : List MemoryBlock → Input → Input
-with_blocks memory input = record { args = input.args; blocks = memory }
-
-run_any_memory : (f : Function) (bounds : Bounds) (memory : List MemoryBlock) (input : Input) (tape : List ℕ) → run_of f bounds (with_blocks memory input) tape ≡ rerun memory (run_of f bounds input tape)
-run_any_memory f bounds memory input tape =
-    run_of_is f bounds (with_blocks memory input) tape ∙ entered_placed memory (breaks_noundef f.parameters input.args) f tape (first_machine f input) ∙ ap (rerun memory) (sym (run_of_is f bounds input tape))
 
 -- ---- the same point with empty blocks
 

@@ -18,10 +18,13 @@ use Rattle.ir_tree.specs.declared.tree.Terminator.TheVariants as terminator
 use Rattle.ir_tree.specs.declared.tree.Block.{Block}
 use Rattle.ir_tree.specs.declared.tree.Function.{Function}
 use Rattle.ir_tree.specs.declared.tree.Parameter.{Parameter}
-use Rattle.ir_tree.specs.Limits.{IsWithinLimits}
+use Rattle.std.specs.List.{AllByRecursion}
+use Rattle.std.proofs.lemmas.List.Elements.{recursion_from_All}
+use Rattle.ir_tree.specs.declared.tree.Phi.{Phi}
+use Rattle.ir_tree.specs.Limits.{IsWithinLimits, instructions_of, cases_in, HasFewCases, HasFewEntries}
 use Rattle.points.specs.Run.{undef_width}
 use Rattle.points.specs.Tapes.{inst_widths, widths_of, end_widths, block_widths, choice_widths, need_of, widest}
-use Rattle.points.specs.Weight.{type_width, op_cost, inst_cost, end_cost, block_cost, cost_of, type_bits, parameter_bits}
+use Rattle.points.specs.Weight.{type_width, op_cost, inst_cost, phi_cost, end_cost, block_cost, cost_of, type_bits, parameter_bits}
 use Rattle.points.proofs.Plain.{widest-append}
 
 -- ---- sums of parts that are bounded
@@ -101,9 +104,38 @@ one_choice (Some width) = omega arith
 one_end_word : (end : Terminator) → length (end_widths end) ≤ 1
 one_end_word (terminator.Return None) = omega arith
 one_end_word (terminator.Return (Some r)) = one_choice (undef_width r.of_type r.operand)
+one_end_word (terminator.Branch to) = omega arith
+one_end_word (terminator.CondBranch condition if_true if_false) = omega arith
+one_end_word (terminator.Switch width operand default cases) = omega arith
+one_end_word terminator.Unreachable = omega arith
 
-small_end : (end : Terminator) → end_cost end ≤ 1
-small_end (terminator.Return returned) = omega arith
+pub small_switch : (cases : ℕ) (w : Width) → cases ≤ 256 → cases * w.bits ≤ 16384
+small_switch cases w few = let most = w.at_most_64 in let m : cases * w.bits ≤ 256 * w.bits = mul-le-mul_right w.bits few in omega (arith, m, most)
+
+small_end : (end : Terminator) → cases_in end ≤ 256 → end_cost end ≤ 16385
+small_end (terminator.Return returned) few = omega arith
+small_end (terminator.Branch to) few = omega arith
+small_end (terminator.CondBranch condition if_true if_false) few = omega arith
+small_end (terminator.Switch width operand default cases) few = let m = small_switch (length cases) width few in omega (arith, m)
+small_end terminator.Unreachable few = omega arith
+
+pub small_phi : (t : IrType) (n : ℕ) → n ≤ 16777216 → type_width t * n ≤ 1073741824
+small_phi t n few = let w = narrow_type t in let m : type_width t * n ≤ 64 * n = mul-le-mul_right n w in omega (arith, m, few)
+  where
+    narrow_type : (t : IrType) → type_width t ≤ 64
+    narrow_type (type.Int width) = let most = width.at_most_64 in omega (arith, most)
+    narrow_type type.Ptr = omega arith
+
+abbrev pub FewEntries : Phi → Type 0
+FewEntries phi = length phi.entries ≤ 16777216
+
+pub small_phis : (phis : List Phi) → AllByRecursion FewEntries phis → sum_by phi_cost phis ≤ 1073741824 * length phis
+small_phis [] h = omega arith
+small_phis (phi ∷ phis) h =
+    let rest = small_phis phis h.1 in
+    let first = small_phi phi.of_type (length phi.entries) h.0 in
+    let times : 1073741824 * suc (length phis) ≡ 1073741824 + 1073741824 * length phis = omega arith in
+    rw (sum_by-cons phi_cost phi phis, times) (omega (arith, rest, first))
 
 -- ---- one block
 
@@ -111,7 +143,7 @@ abbrev pub words_of : Inst → ℕ
 words_of inst = length (inst_widths inst)
 
 abbrev pub size_of : Block → ℕ
-size_of b = length b.insts + 1
+size_of b = instructions_of b
 
 abbrev pub block_words : Block → ℕ
 block_words b = length (block_widths b)
@@ -126,11 +158,19 @@ few_block_words b =
     let end = one_end_word b.terminator in
     omega (arith, insts, is, end)
 
-pub small_block_cost : (b : Block) → block_cost b ≤ 4096 * size_of b
-small_block_cost b =
+pub small_block_cost : (b : Block) → HasFewCases b → HasFewEntries b → block_cost b ≤ 1073741824 * size_of b
+small_block_cost b cases entries =
+    let phis = small_phis b.phis (recursion_from_All FewEntries b.phis entries) in
     let insts = sum_within inst_cost b.insts 4096 small_cost in
-    let end = small_end b.terminator in
-    omega (arith, insts, end)
+    let end = small_end b.terminator cases in
+    omega (arith, phis, insts, end)
+
+small_costs : (bs : List Block) → AllByRecursion HasFewCases bs → AllByRecursion HasFewEntries bs → sum_by block_cost bs ≤ 1073741824 * sum_by size_of bs
+small_costs [] cases entries = omega arith
+small_costs (b ∷ bs) cases entries =
+    let rest = small_costs bs cases.1 entries.1 in
+    let first = small_block_cost b cases.0 entries.0 in
+    rw (sum_by-cons block_cost b bs, sum_by-cons size_of b bs) (omega (arith, rest, first))
 
 -- ---- one function
 
@@ -144,9 +184,9 @@ few_words f limits =
     let most = limits.instructions in
     omega (arith, is, few, most)
 
-pub small_cost_of : (f : Function) → IsWithinLimits f → cost_of f ≤ 268435456
+pub small_cost_of : (f : Function) → IsWithinLimits f → cost_of f ≤ 70368744177664
 small_cost_of f limits =
-    let cost = sum_times block_cost size_of 4096 f.blocks small_block_cost in
+    let cost = small_costs f.blocks (recursion_from_All HasFewCases f.blocks limits.cases) (recursion_from_All HasFewEntries f.blocks limits.entries) in
     let most = limits.instructions in
     omega (arith, cost, most)
 
@@ -156,7 +196,7 @@ small_need turns f few limits =
     let m : (turns + 1) * length (choice_widths f) ≤ 65 * length (choice_widths f) = mul-le-mul_right (length (choice_widths f)) (omega (arith, few)) in
     omega (arith, m, words)
 
-pub small_times : (turns n : ℕ) → turns ≤ 64 → n ≤ 536870912 → (turns + 1) * n ≤ 34896609280
+pub small_times : (turns n : ℕ) → turns ≤ 64 → n ≤ 140737488355328 → (turns + 1) * n ≤ 9147936743096320
 small_times turns n few most = let m : (turns + 1) * n ≤ 65 * n = mul-le-mul_right n (omega (arith, few)) in omega (arith, m, most)
 
 small_type : (t : IrType) → type_bits t ≤ 64

@@ -8,11 +8,13 @@ ghost use Rattle.slow_judge.specs.Search.{IsReady, IsUncovered, shift_of};
 use crate::bench::Bench;
 use choice_interp::{Ending, ending_refines, is_plain, run_again};
 use points::{Bounds, Machine, Pair, Point};
+use std::alloc::Global;
 use support::{NoMemory, Sequence};
 
 /// Whether the source's run on the tape allows the target's run on the point, which ended so.
 #[tactic(auto, using(crate::proofs::Covering::covers_at))]
 fn allows(
+    alloc: Global,
     pair: &Pair,
     bounds: &Bounds,
     point: &Point,
@@ -27,12 +29,13 @@ fn allows(
     ensures registers { length machine.new.registers ≡ length pair.now.source.names }
     ensures memory { machine.new.memory ≡ point.now.input.blocks }
 {
-    let source = run_again(machine, pair.source(), bounds, &point.input, tape)?;
+    let source = run_again(alloc, machine, pair.source(), bounds, &point.input, tape)?;
     Ok(ending_refines(source, target))
 }
 
 /// Whether one of the tapes covers the point, on which the target's run ended so.
 fn some_allows(
+    alloc: Global,
     pair: &Pair,
     bounds: &Bounds,
     point: &Point,
@@ -48,7 +51,7 @@ fn some_allows(
     ensures memory { machine.new.memory ≡ point.now.input.blocks }
 {
     for tape in tapes {
-        if allows(pair, bounds, point, target, tape.as_slice(), machine)? {
+        if allows(alloc, pair, bounds, point, target, tape.as_slice(), machine)? {
             return Ok(true);
         }
     }
@@ -99,6 +102,7 @@ fn shift_into(words: &mut Sequence<u64>, tape: &[u64], shift: Shift)
 
 /// Whether the target's tape, moved so, covers the point, on which the target's run ended so.
 fn shift_allows(
+    alloc: Global,
     pair: &Pair,
     bounds: &Bounds,
     point: &Point,
@@ -113,6 +117,7 @@ fn shift_allows(
 {
     shift_into(&mut bench.candidate, point.tape.as_slice(), shift);
     let holds = allows(
+        alloc,
         pair,
         bounds,
         point,
@@ -125,6 +130,7 @@ fn shift_allows(
 
 /// Whether the target's tape, as it is or moved by one or two places, covers the point.
 fn some_shift_allows(
+    alloc: Global,
     pair: &Pair,
     bounds: &Bounds,
     point: &Point,
@@ -136,24 +142,25 @@ fn some_shift_allows(
     ensures value { IfOk result (λ holds. holds ≡ some_covers pair.now bounds.now point.now (shifted (need_of bounds.now.turns pair.now.source) point.now.tape)) }
     ensures ready { IsReady pair.now bounds.now point.now.input.blocks bench.new }
 {
-    if shift_allows(pair, bounds, point, target, Shift::Behind(0), bench)? {
+    if shift_allows(alloc, pair, bounds, point, target, Shift::Behind(0), bench)? {
         return Ok(true);
     }
-    if shift_allows(pair, bounds, point, target, Shift::Behind(1), bench)? {
+    if shift_allows(alloc, pair, bounds, point, target, Shift::Behind(1), bench)? {
         return Ok(true);
     }
-    if shift_allows(pair, bounds, point, target, Shift::Behind(2), bench)? {
+    if shift_allows(alloc, pair, bounds, point, target, Shift::Behind(2), bench)? {
         return Ok(true);
     }
-    if shift_allows(pair, bounds, point, target, Shift::Before(1), bench)? {
+    if shift_allows(alloc, pair, bounds, point, target, Shift::Before(1), bench)? {
         return Ok(true);
     }
-    let holds = shift_allows(pair, bounds, point, target, Shift::Before(2), bench)?;
+    let holds = shift_allows(alloc, pair, bounds, point, target, Shift::Before(2), bench)?;
     Ok(holds)
 }
 
 /// Whether the source covers the point with the tape.
 pub fn is_cover(
+    alloc: Global,
     pair: &Pair,
     bounds: &Bounds,
     point: &Point,
@@ -165,18 +172,20 @@ pub fn is_cover(
     ensures ready { IsReady pair.now bounds.now point.now.input.blocks bench.new }
 {
     let target = run_again(
+        alloc,
         &mut bench.target,
         pair.target(),
         bounds,
         &point.input,
         point.tape.as_slice(),
     )?;
-    let holds = allows(pair, bounds, point, target, tape, &mut bench.source)?;
+    let holds = allows(alloc, pair, bounds, point, target, tape, &mut bench.source)?;
     Ok(holds)
 }
 
 /// Whether the point's tape is plain and neither a shift nor one of the tapes covers the point.
 pub fn is_uncovered(
+    alloc: Global,
     pair: &Pair,
     bounds: &Bounds,
     tapes: &[Sequence<u64>],
@@ -188,6 +197,7 @@ pub fn is_uncovered(
     ensures ready { IsReady pair.now bounds.now point.now.input.blocks bench.new }
 {
     let target = run_again(
+        alloc,
         &mut bench.target,
         pair.target(),
         bounds,
@@ -197,8 +207,8 @@ pub fn is_uncovered(
     if !is_plain(point.tape.as_slice(), bench.target.taken.as_slice()) {
         return Ok(false);
     }
-    if some_shift_allows(pair, bounds, point, target, bench)? {
+    if some_shift_allows(alloc, pair, bounds, point, target, bench)? {
         return Ok(false);
     }
-    Ok(!some_allows(pair, bounds, point, target, tapes, &mut bench.source)?)
+    Ok(!some_allows(alloc, pair, bounds, point, target, tapes, &mut bench.source)?)
 }

@@ -40,7 +40,7 @@ pub fn least_uncovered(
 {
     let mut point = first(alloc, pair, bounds, of_target.words)?;
     loop {
-        if is_uncovered(pair, bounds, tapes, &point, bench)? {
+        if is_uncovered(alloc, pair, bounds, tapes, &point, bench)? {
             return Ok(Some(point));
         }
         if !next(pair, bounds, of_target.width, &mut point) {
@@ -69,7 +69,7 @@ pub fn least_cover(
 {
     let mut tape = zeros(alloc, of_source.words)?;
     loop {
-        if is_cover(pair, bounds, point, tape.as_slice(), bench)? {
+        if is_cover(alloc, pair, bounds, point, tape.as_slice(), bench)? {
             return Ok(Some(tape));
         }
         if !next_words(&mut tape, of_source.width) {

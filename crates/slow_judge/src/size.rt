@@ -1,12 +1,14 @@
-ghost use Rattle.std.specs.Prelude.{◌≡◌, ◌↔◌, ◌<◌, ◌≤◌, ◌^◌, ◌+◌, ◌*◌, sum_by, max, length, IsTrue};
+ghost use Rattle.std.specs.Prelude.{◌≡◌, ◌↔◌, ◌<◌, ◌≤◌, ◌^◌, ◌+◌, ◌*◌, sum_by, max, length, All, IsTrue};
 ghost use Rattle.std.specs.Option.{option_map};
-ghost use Rattle.ir_tree.specs.Limits.{IsWithinLimits};
+ghost use Rattle.ir_tree.specs.Limits.{IsWithinLimits, instructions_of, cases_in, HasFewCases, HasFewEntries};
 ghost use Rattle.points.specs.Run.{undef_width};
 ghost use Rattle.points.specs.Tapes.{inst_widths, widths_of, returned_widths, end_widths, block_widths, choice_widths, need_of, widest, widest_choice};
-ghost use Rattle.points.specs.Weight.{type_width, op_cost, inst_cost, end_cost, block_cost, cost_of, weight_of, type_bits, parameter_bits, tape_bits, bits_of, IsTooLarge};
+ghost use Rattle.points.specs.Weight.{type_width, op_cost, inst_cost, phi_cost, end_cost, block_cost, cost_of, weight_of, type_bits, parameter_bits, tape_bits, bits_of, IsTooLarge};
 ghost use Rattle.slow_judge.specs.Search.{AreSmall};
 
-use ir_tree::{Block, Function, Inst, IrType, Op, Operand, Parameter, Terminator, TypedOperand};
+use ir_tree::{
+    Block, Function, Inst, IrType, Op, Operand, Parameter, Phi, Terminator, TypedOperand,
+};
 use points::{Bounds, Budget, Pair};
 use tv_num::Width;
 
@@ -86,16 +88,18 @@ fn returned_choice(returned: Option<TypedOperand>) -> Option<Width>
 }
 
 /// The width of the choice that a block ends in, if it ends in one.
-fn end_choice(terminator: Terminator) -> Option<Width>
-    ensures { widths_of (option_map (λ (w : Width). w.bits) result) ≡ end_widths terminator }
+fn end_choice(terminator: &Terminator) -> Option<Width>
+    ensures { widths_of (option_map (λ (w : Width). w.bits) result) ≡ end_widths terminator.now }
 {
     match terminator {
-        Terminator::Return(returned) => returned_choice(returned),
+        Terminator::Return(returned) => returned_choice(*returned),
+        Terminator::Branch { .. } | Terminator::CondBranch { .. } => None,
+        Terminator::Switch { .. } | Terminator::Unreachable => None,
     }
 }
 
-fn end_words(terminator: Terminator) -> usize
-    ensures value { result ≡ length (end_widths terminator) }
+fn end_words(terminator: &Terminator) -> usize
+    ensures value { result ≡ length (end_widths terminator.now) }
     ensures most { result ≤ 1 }
 {
     match end_choice(terminator) {
@@ -104,13 +108,45 @@ fn end_words(terminator: Terminator) -> usize
     }
 }
 
-fn cost_of_end(terminator: Terminator) -> u64
-    ensures value { result ≡ end_cost terminator }
-    ensures one { result ≤ 1 }
+fn cost_of_end(terminator: &Terminator) -> u64
+    requires { cases_in terminator.now ≤ 256 }
+    ensures value { result ≡ end_cost terminator.now }
+    ensures most { result ≤ 16385 }
 {
     match terminator {
-        Terminator::Return(_) => 1,
+        Terminator::Switch { width, cases, .. } => switch_cost(*width, cases.len()),
+        Terminator::Return(_) | Terminator::Branch { .. } => 1,
+        Terminator::CondBranch { .. } | Terminator::Unreachable => 1,
     }
+}
+
+#[tactic(auto, using(crate::proofs::Sizes::small_switch))]
+fn switch_cost(width: Width, cases: usize) -> u64
+    requires { cases ≤ 256 }
+    ensures value { result ≡ 1 + cases * width.bits }
+    ensures most { result ≤ 16385 }
+{
+    1 + cases as u64 * width.bits() as u64
+}
+
+#[tactic(auto, using(crate::proofs::Sizes::small_phi))]
+fn cost_of_phi(phi: &Phi) -> u64
+    requires { length phi.now.entries ≤ 16777216 }
+    ensures { result ≡ phi_cost phi.now }
+{
+    width_of(phi.of_type) * phi.entries.len() as u64
+}
+
+fn cost_of_phis(phis: &[Phi]) -> u64
+    requires few { length phis.now ≤ 65536 }
+    requires entries { All (λ phi. length phi.entries ≤ 16777216) phis.now }
+    ensures { result ≡ sum_by phi_cost phis.now }
+{
+    let mut total = 0;
+    for phi in phis {
+        total += cost_of_phi(phi);
+    }
+    total
 }
 
 #[tactic(auto, unfolding(points::specs::Tapes::widest))]
@@ -125,8 +161,8 @@ fn wider(width: Width, inst: Inst) -> Width
 }
 
 #[tactic(auto, unfolding(points::specs::Tapes::widest))]
-fn wider_end(width: Width, terminator: Terminator) -> Width
-    ensures { result.bits ≡ max width.bits (widest (end_widths terminator)) }
+fn wider_end(width: Width, terminator: &Terminator) -> Width
+    ensures { result.bits ≡ max width.bits (widest (end_widths terminator.now)) }
 {
     match end_choice(terminator) {
         Some(choice) if width.bits() < choice.bits() => choice,
@@ -148,7 +184,7 @@ fn words_of_block(block: &Block) -> usize
     requires { length block.now.insts ≤ 65536 }
     ensures { result ≡ length (block_widths block.now) }
 {
-    words_in(block.insts.as_slice()) + end_words(block.terminator)
+    words_in(block.insts.as_slice()) + end_words(&block.terminator)
 }
 
 fn words_of(f: &Function) -> usize
@@ -164,16 +200,19 @@ fn words_of(f: &Function) -> usize
 }
 
 fn cost_of_block(block: &Block) -> u64
-    requires { length block.now.insts ≤ 65536 }
+    requires few { instructions_of block.now ≤ 65536 }
+    requires cases { HasFewCases block.now }
+    requires entries { HasFewEntries block.now }
     ensures { result ≡ block_cost block.now }
 {
-    costs(block.insts.as_slice()) + cost_of_end(block.terminator)
+    let insts = costs(block.insts.as_slice()) + cost_of_end(&block.terminator);
+    cost_of_phis(block.phis.as_slice()) + insts
 }
 
 fn cost_within(f: &Function) -> u64
     requires { IsWithinLimits f.now }
     ensures value { result ≡ cost_of f.now }
-    ensures most { result ≤ 268435456 }
+    ensures most { result ≤ 70368744177664 }
 {
     let mut total = 0;
     for block in f.blocks.as_slice() {
@@ -189,7 +228,7 @@ fn widest_in_block(best: Width, block: &Block) -> Width
     for inst in block.insts.as_slice() {
         best = wider(best, *inst);
     }
-    wider_end(best, block.terminator)
+    wider_end(best, &block.terminator)
 }
 
 /// The width of a function's widest choice, and 1 where there is none.

@@ -36,6 +36,7 @@ fn function_with(
     let mut blocks = Vec::new(alloc);
     blocks.push(Block {
         label: 3,
+        phis: Sequence::from_vec(Vec::new(alloc)),
         insts: Sequence::from_vec(insts.to_vec(alloc)?),
         terminator: Terminator::Return(Some(TypedOperand { of_type, operand })),
     })?;

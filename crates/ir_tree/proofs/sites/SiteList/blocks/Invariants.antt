@@ -1,6 +1,7 @@
 use Rattle.std.proofs.Common.{◌≡◌, drop}
-use Rattle.ir_tree.specs.SiteLists.{with_parts, block_parts}
+use Rattle.ir_tree.specs.Sites.{blocks_steps}
+use Rattle.ir_tree.specs.SiteLists.{with_parts}
 use Rattle.ir_tree.proofs.sites.SiteList.blocks.Given as goal
 
-abbrev pub invariant-loop-block : goal.invariant-loop-block
-invariant-loop-block l = with_parts l.self (block_parts l.returns (drop l.block-index l.blocks)) ≡ with_parts l.fn.self (block_parts l.returns l.blocks)
+abbrev pub invariant-loop-place : goal.invariant-loop-place
+invariant-loop-place l = with_parts l.self (blocks_steps l.returns l.place (drop l.place l.blocks)) ≡ with_parts l.fn.self (blocks_steps l.returns 0 l.blocks)

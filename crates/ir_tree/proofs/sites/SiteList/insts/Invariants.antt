@@ -1,7 +1,7 @@
-use Rattle.std.proofs.Common.{◌≡◌, map, drop}
-use Rattle.ir_tree.specs.Sites.{inst_sites}
+use Rattle.std.proofs.Common.{◌≡◌, drop}
+use Rattle.ir_tree.specs.Sites.{inst_steps}
 use Rattle.ir_tree.specs.SiteLists.{with_parts}
 use Rattle.ir_tree.proofs.sites.SiteList.insts.Given as goal
 
-abbrev pub invariant-loop-inst : goal.invariant-loop-inst
-invariant-loop-inst l = with_parts l.self (map inst_sites (drop l.inst-index l.insts)) ≡ with_parts l.fn.self (map inst_sites l.insts)
+abbrev pub invariant-loop-place : goal.invariant-loop-place
+invariant-loop-place l = with_parts l.self (inst_steps l.block l.place (drop l.place l.insts)) ≡ with_parts l.fn.self (inst_steps l.block 0 l.insts)

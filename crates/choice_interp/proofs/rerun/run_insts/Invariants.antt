@@ -1,6 +1,6 @@
 use Rattle.std.proofs.Common.{◌≡◌, drop, length}
 use Rattle.points.specs.Run.{exit_insts}
-use Rattle.choice_interp.proofs.rerun.run_block.Given as goal
+use Rattle.choice_interp.proofs.rerun.run_insts.Given as goal
 
 abbrev pub invariant-loop-inst : goal.invariant-loop-inst
 invariant-loop-inst l = record {
@@ -8,4 +8,5 @@ invariant-loop-inst l = record {
   rest : exit_insts l.no_undef (drop l.inst-index l.block.insts) l.block.terminator l.tape l.machine ≡ exit_insts l.no_undef l.block.insts l.block.terminator l.tape l.fn.machine;
   registers : length l.machine.registers ≡ length l.fn.machine.registers;
   memory : l.machine.memory ≡ l.fn.machine.memory;
+  turn : l.machine.turn ≡ l.fn.machine.turn;
 }

@@ -2,7 +2,7 @@ use Rattle.std.proofs.Common.{◌≡◌, ◌<◌, length, get_or, Some, None, sy
 use Rattle.points.specs.Run.{act, Over, ended}
 use Rattle.points.specs.declared.outcome.Outcome.TheVariants.{Ub}
 use Rattle.points.proofs.Runs.{exit_goes, exit_stops, exit_ends}
-use Rattle.choice_interp.proofs.rerun.run_block.Goals as goal
+use Rattle.choice_interp.proofs.rerun.run_insts.Goals as goal
 
 pub returns-then-not-branch-clause-exit : goal.returns-then-not-branch-clause-exit
 returns-then-not-branch-clause-exit c =
@@ -26,10 +26,11 @@ loop-inst-preserved c =
       rest = sym exit ∙ c.loop-inst.invariant.rest;
       registers = c.step.ensures.registers ∙ c.loop-inst.invariant.registers;
       memory = c.step.ensures.memory ∙ c.loop-inst.invariant.memory;
+      turn = c.step.ensures.turn ∙ c.loop-inst.invariant.turn;
     }
 
 pub returns-clause-exit : goal.returns-clause-exit
 returns-clause-exit c =
     let insts = c.args.block.now.insts in
     let end : c.loop-inst.inst-index ≡ length insts = rw (← c.loop-inst.invariant.insts) (omega arith) in
-    sym c.loop-inst.invariant.rest ∙ exit_ends c.args.no_undef insts c.args.block.now.terminator c.args.tape.now c.loop-inst.machine c.loop-inst.inst-index end ∙ c.in_ok-ending.ensures.exit
+    sym c.loop-inst.invariant.rest ∙ exit_ends c.args.no_undef insts c.args.block.now.terminator c.args.tape.now c.loop-inst.machine c.loop-inst.inst-index end ∙ c.in_ok-left.ensures.exit

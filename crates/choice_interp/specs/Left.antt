@@ -1,0 +1,24 @@
+-- How a block is entered and left, and a jump.
+use Rattle.std.specs.Prelude.{◌≡◌, ◌⊎◌, ◌+◌, ◌<◌, ◌≤◌, ℕ, List, [], ◌∷◌, Option, Some, None}
+use Rattle.ir_tree.specs.declared.tree.Phi.{Phi}
+use Rattle.byte_block.specs.declared.value.Value.{Value}
+use Rattle.points.specs.declared.machine.Machine.{Machine}
+use Rattle.points.specs.Run.{Exit, To, Over, assigned}
+use Rattle.choice_interp.specs.Ran.{run_with}
+use Rattle.choice_interp.specs.declared.flow.Left.{Left}
+use Rattle.choice_interp.specs.declared.flow.Left.TheVariants as left
+
+-- each phi gets the value at its place
+abbrev pub assign_all : List Phi → List Value → Machine → Machine
+assign_all (phi ∷ phis) (v ∷ vs) m = assign_all phis vs (assigned m phi.into v)
+assign_all _ _ m = m
+
+-- the block that is left so, with the machine so
+abbrev pub exit_with : Left → Machine → Exit
+exit_with (left.To label) m = To label m
+exit_with (left.Over ending) m = Over (run_with ending m)
+
+-- from a place to one behind it; or to another, which takes one of the backward jumps; none where there is no such jump left
+abbrev pub IsJump : ℕ → ℕ → ℕ → Machine → Machine → Option ℕ → Type 0
+IsJump at to jumps m n (Some rest) = ((at < to) × (rest ≡ jumps) × (n ≡ m)) ⊎ ((to ≤ at) × (jumps ≡ rest + 1) × (n ≡ record m { turn = m.turn + 1 }))
+IsJump at to jumps m n None = (to ≤ at) × (jumps ≡ 0) × (n ≡ m)

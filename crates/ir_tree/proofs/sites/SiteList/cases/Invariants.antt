@@ -1,0 +1,7 @@
+use Rattle.std.proofs.Common.{◌≡◌, [], drop, take}
+use Rattle.ir_tree.specs.Sites.{cases_sites}
+use Rattle.ir_tree.specs.SiteLists.{with_part}
+use Rattle.ir_tree.proofs.sites.SiteList.cases.Given as goal
+
+abbrev pub invariant-loop-place : goal.invariant-loop-place
+invariant-loop-place l = with_part l.self l.part (cases_sites l.width (take l.place l.cases) (drop l.place l.cases)) ≡ with_part l.fn.self l.part (cases_sites l.width [] l.cases)
