@@ -17,12 +17,6 @@ use Rattle.slow_judge.specs.declared.bench.Bench.{Bench}
 use Rattle.slow_judge.specs.declared.cover.Shift.{Shift}
 use Rattle.slow_judge.specs.declared.cover.Shift.TheVariants.{Behind, Before}
 
--- bounds in the options' ranges
-pub record AreSmall (bounds : Bounds) : Type 0 where
-  pub turns : bounds.turns ≤ 64
-  pub blocks : bounds.blocks ≤ 4
-  pub bytes : bounds.bytes ≤ 32
-
 -- a given block of size 0, with room for so many bytes
 abbrev pub empty_block : ℕ → ℕ → MemoryBlock
 empty_block bytes number = record { name = Given number; size = 0; align = 16; places = replicate bytes (byte.Num 0) }

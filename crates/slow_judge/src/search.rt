@@ -2,7 +2,8 @@ ghost use Rattle.std.specs.Prelude.{◌≡◌, MatchOption, IfOk};
 ghost use Rattle.ir_tree.specs.Limits.{AreIntegers};
 ghost use Rattle.points.specs.Tapes.{need_of, widest_choice};
 ghost use Rattle.points.specs.Covers.{IsLeastCover, HasNoCover};
-ghost use Rattle.slow_judge.specs.Search.{AreSmall, empty_blocks, IsCell, IsReady, IsLeastUncoveredCell, AreAllCellsCovered};
+ghost use Rattle.unroll.specs.Small.{AreSmall};
+ghost use Rattle.slow_judge.specs.Search.{empty_blocks, IsCell, IsReady, IsLeastUncoveredCell, AreAllCellsCovered};
 
 use crate::bench::Bench;
 use crate::cells::{first, next, zeros};

@@ -1,0 +1,5 @@
+pub mod Copies
+pub mod Indexing
+pub mod Leaving
+pub mod Sizes
+pub mod Walking
