@@ -2,7 +2,7 @@ ghost use Rattle.std.specs.Prelude.{◌≡◌, ◌↔◌, IsTrue, IfOk, ℕ, sli
 ghost use Rattle.points.specs.Run.{run_of};
 ghost use Rattle.choice_interp.specs.Ran.{Shows};
 
-use crate::rerun::{machine_for, run_again};
+use crate::rerun::{Runner, run_again, runner_for};
 use ir_tree::Function;
 use points::{Bounds, Input, Machine, Outcome};
 use std::alloc::Global;
@@ -40,8 +40,9 @@ pub fn interpret(
 ) -> Result<Ran, NoMemory>
     ensures { IfOk result (Shows tape.now (run_of f.now bounds.now input.now tape.now)) }
 {
-    let mut machine = machine_for(alloc, f, &input.blocks)?;
-    let ending = run_again(alloc, &mut machine, f, bounds, input, tape)?;
+    let mut runner = runner_for(alloc, f, &input.blocks)?;
+    let ending = run_again(&mut runner, f, bounds, input, tape)?;
+    let Runner { machine, .. } = runner;
     let read = machine.taken.len() as u64;
     let plain = is_plain(tape, machine.taken.as_slice());
     let Machine { memory, .. } = machine;

@@ -1,0 +1,4 @@
+pub mod Copies
+pub mod Leaving
+pub mod Sizes
+pub mod Walking
