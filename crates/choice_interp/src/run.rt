@@ -1,7 +1,8 @@
 ghost use Rattle.std.specs.Prelude.{◌≡◌, ◌↔◌, IsTrue, IfOk, ℕ, slice_index};
 ghost use Rattle.points.specs.Run.{run_of};
-ghost use Rattle.choice_interp.specs.Ran.{Shows};
+ghost use Rattle.choice_interp.specs.Ran.{Shows, run_with};
 
+use crate::ending::Ending;
 use crate::rerun::{Runner, run_again, runner_for};
 use ir_tree::Function;
 use points::{Bounds, Input, Machine, Outcome};
@@ -30,6 +31,20 @@ pub fn is_plain(tape: &[u64], taken: &[u64]) -> bool
     true
 }
 
+// What is told of the run that ended so in this machine.
+fn ran_of(machine: Machine, ending: Ending, tape: &[u64]) -> Ran
+    ensures { Shows tape.now (run_with ending machine) result }
+{
+    let read = machine.taken.len() as u64;
+    let plain = is_plain(tape, machine.taken.as_slice());
+    let Machine { memory, .. } = machine;
+    Ran {
+        outcome: ending.with_memory(memory),
+        read,
+        plain,
+    }
+}
+
 /// The run of a function on an input and a tape.
 pub fn interpret(
     alloc: Global,
@@ -43,12 +58,5 @@ pub fn interpret(
     let mut runner = runner_for(alloc, f, &input.blocks)?;
     let ending = run_again(&mut runner, f, bounds, input, tape)?;
     let Runner { machine, .. } = runner;
-    let read = machine.taken.len() as u64;
-    let plain = is_plain(tape, machine.taken.as_slice());
-    let Machine { memory, .. } = machine;
-    Ok(Ran {
-        outcome: ending.with_memory(memory),
-        read,
-        plain,
-    })
+    Ok(ran_of(machine, ending, tape))
 }
