@@ -1,7 +1,7 @@
 -- A run through the copies, each once and in order, is the run.
 use Rattle.std.proofs.Common.{◌≡◌, ℕ, zero, suc, ◌+◌, ◌*◌, ◌<◌, ◌≤◌, List, [], ◌∷◌, ◌++◌, length, map, Bool, true, false, nat_eq, nat_lt, if◌then◌else◌, Option, Some, None, ◌⊎◌, inl, inr, refl, sym, ap, subst, ◌∙◌, arith}
 use Rattle.std.specs.Prelude.{slice_get}
-use Rattle.std.proofs.lemmas.Bool.{cases_Bool, cases_lt, lt-ltb, le-ltb, eqb-true, eqb-false}
+use Rattle.std.proofs.lemmas.Bool.{cases_Bool, cases_lt, lt-ltb, le-ltb, lt-leb, le-leb, eqb-true, eqb-false}
 use Rattle.std.proofs.lemmas.Option.{slice_get_past}
 use Rattle.std.proofs.Math.Nat.{mul-le-mul_right}
 use Rattle.ir_tree.specs.declared.tree.Block.{Block}
@@ -136,11 +136,11 @@ module _ (f : Function) (tape : List ℕ) (turns turn left at : ℕ) (whole : Ru
   stands_along : (to : ℕ) (m : Machine) → m.turn ≡ turn → jump at to m (rest_of f tape left) (again_of f tape left) ≡ whole → Stands f tape turns (suc here) (along (edge_to turns blocks turn at to) m) whole
   stands_along to m same goes = elim (cases_lt to blocks) [
     | inl inside ↦ elim (cases_lt at to) [
-      | inl onward ↦ rw (lt-ltb to blocks inside, lt-ltb at to onward) (stands_onward to m same inside onward (rw (lt-ltb at to onward) at goes))
-      | inr back ↦ rw (lt-ltb to blocks inside, le-ltb at to back) (stands_back left to m refl same inside (rw (le-ltb at to back) at goes))
+      | inl onward ↦ rw (lt-leb blocks to inside, lt-ltb at to onward) (stands_onward to m same inside onward (rw (lt-ltb at to onward) at goes))
+      | inr back ↦ rw (lt-leb blocks to inside, le-ltb at to back) (stands_back left to m refl same inside (rw (le-ltb at to back) at goes))
     ]
     | inr outside ↦ (let onward : at < to = omega (arith, within, outside) in
-        rw (le-ltb to blocks outside) (sym (forward_past f tape (again_of f tape left) blocks to m outside) ∙ (rw (lt-ltb at to onward) at goes)))
+        rw (le-leb blocks to outside) (sym (forward_past f tape (again_of f tape left) blocks to m outside) ∙ (rw (lt-ltb at to onward) at goes)))
   ]
 
   -- a block that was left so

@@ -1,5 +1,5 @@
 -- Copies of a function's blocks, one of each for each count of backward jumps, and a run through them: each copy once, in order.
-use Rattle.std.specs.Prelude.{◌≡◌, ℕ, zero, suc, ◌+◌, ◌*◌, List, [], ◌∷◌, ◌++◌, length, map, nat_eq, nat_lt, ◌==◌, if◌then◌else◌, slice_get, Option, Some, None}
+use Rattle.std.specs.Prelude.{◌≡◌, ℕ, zero, suc, ◌+◌, ◌*◌, List, [], ◌∷◌, ◌++◌, length, map, nat_eq, nat_le, nat_lt, ◌==◌, if◌then◌else◌, slice_get, Option, Some, None}
 use Rattle.ir_tree.specs.declared.tree.Block.{Block}
 use Rattle.ir_tree.specs.declared.tree.Function.{Function}
 use Rattle.ir_tree.specs.Flow.{targets, successors}
@@ -22,11 +22,10 @@ number_in blocks turn at = turn * blocks + at
 -- where a jump leads from the block at a place to the one at another; a jump to the same or an earlier one is backward, and a run may take `turns` of these
 abbrev pub edge_to : (turns blocks turn at to : ℕ) → Edge
 edge_to turns blocks turn at to =
-    if nat_lt to blocks then
-    (if nat_lt at to then edge.Copy (number_in blocks turn to)
+    if nat_le blocks to then edge.Nowhere
+    else if nat_lt at to then edge.Copy (number_in blocks turn to)
     else if nat_lt turn turns then edge.Copy (number_in blocks (turn + 1) to)
-    else edge.Beyond)
-    else edge.Nowhere
+    else edge.Beyond
 
 -- of the block at a place that leads to blocks at these places
 abbrev pub copy_of : (turns blocks turn at : ℕ) → List ℕ → BlockCopy

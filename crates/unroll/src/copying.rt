@@ -6,12 +6,14 @@ use ir_tree::{Function, successors};
 use std::alloc::Global;
 use support::{NoMemory, Sequence};
 
-/// The copies that are to be made: of so many blocks, for a count of backward jumps of 0 up to the
-/// bound.
+/// The copies that are made together: of so many blocks, for one count of backward jumps, of which
+/// there are 0 up to the bound.
 #[derive(Clone, Copy)]
 struct Layer {
+    /// The bound.
     turns: u64,
     blocks: usize,
+    /// The count.
     turn: u64,
 }
 
