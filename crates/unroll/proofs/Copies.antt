@@ -8,7 +8,7 @@ use Rattle.ir_tree.specs.Flow.{successors}
 use Rattle.unroll.specs.declared.layered.Edge.{Edge}
 use Rattle.unroll.specs.declared.layered.BlockCopy.{BlockCopy}
 use Rattle.unroll.specs.Layers.{edge_to, copy_of, layer_of, layers_of, copies_of}
-use Rattle.unroll.proofs.Indexing.{places_of}
+use Rattle.ir_tree.proofs.Indexing.{places_of}
 
 -- ---- one layer
 

@@ -20,7 +20,7 @@ use Rattle.unroll.specs.declared.layered.Layered.{Layered}
 use Rattle.unroll.specs.Layers.{number_in, edge_to, copy_of, layer_of, layers_of, copies_of, Where, At, Done, edge_of, along, labels_of, left_by, run_copy, pass_copy, walk, run_at_end, run_layers, HasRuns, LayersHaveRuns}
 use Rattle.unroll.proofs.Leaving.{Among, Leaves, block_leaves, edge_at}
 use Rattle.unroll.proofs.Copies.{no_copies}
-use Rattle.unroll.proofs.Indexing.{places_of}
+use Rattle.ir_tree.proofs.Indexing.{places_of}
 
 -- ---- the run, from a block on
 
