@@ -13,6 +13,3 @@ small_type type.Ptr = omega arith
 
 pub few_parameter_bits : (ps : List Parameter) → length ps ≤ 16 → parameter_bits ps ≤ 1024
 few_parameter_bits ps few = let sum = sum_within (λ (p : Parameter). type_bits p.of_type) ps 64 (λ p. small_type p.of_type) in omega (arith, sum, few)
-
-pub small_product : (need width : ℕ) → need ≤ 4259840 → width ≤ 64 → need * width ≤ 272629760
-small_product need width few narrow = let m : need * width ≤ 4259840 * width = mul-le-mul_right width few in omega (arith, m, narrow)

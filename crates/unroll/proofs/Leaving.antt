@@ -1,5 +1,5 @@
 -- How a block is left: for one of its terminator's labels, with the count of backward jumps that it was entered with.
-use Rattle.std.proofs.Common.{◌≡◌, ℕ, ◌+◌, ◌%◌, List, [], ◌∷◌, map, ◌==◌, nat_eq, Bool, true, false, cond, if◌then◌else◌, Option, Some, None, ◌⊎◌, inl, inr, refl, sym, ap, subst, ◌∙◌}
+use Rattle.std.proofs.Common.{◌≡◌, ℕ, ◌%◌, List, [], ◌∷◌, map, ◌==◌, nat_eq, Bool, true, false, cond, if◌then◌else◌, Option, Some, None, ◌⊎◌, inl, inr, refl, sym, ap, subst}
 use Rattle.std.specs.List.{find}
 use Rattle.std.specs.Option.{option_map, option_map_or}
 use Rattle.std.proofs.lemmas.Bool.{cases_Bool, eqb-true, eqb-false}
@@ -17,7 +17,7 @@ use Rattle.byte_block.specs.declared.value.Value.TheVariants.{Num, Poison}
 use Rattle.byte_block.specs.declared.value.Value.TheVariants as value
 use Rattle.points.specs.declared.machine.Machine.{Machine}
 use Rattle.points.specs.Table.{value_result}
-use Rattle.points.specs.Run.{Exit, Over, To, act, assigned, frozen, operand_value, phi_value, with_phis, entered, branch_on, case_for, switch_on, exit_by, exit_after, exit_insts, exit_of}
+use Rattle.points.specs.Run.{Exit, Over, To, act, assigned, frozen, operand_value, phi_value, with_phis, entered, branch_on, switch_on, exit_by, exit_after, exit_insts, exit_of}
 use Rattle.unroll.specs.declared.layered.Edge.{Edge}
 use Rattle.unroll.specs.Layers.{edge_of, labels_of}
 

@@ -17,14 +17,13 @@ use Rattle.ir_tree.specs.declared.tree.Terminator.{Terminator}
 use Rattle.ir_tree.specs.declared.tree.Terminator.TheVariants as terminator
 use Rattle.ir_tree.specs.declared.tree.Block.{Block}
 use Rattle.ir_tree.specs.declared.tree.Function.{Function}
-use Rattle.ir_tree.specs.declared.tree.Parameter.{Parameter}
 use Rattle.std.specs.List.{AllByRecursion}
 use Rattle.std.proofs.lemmas.List.Elements.{recursion_from_All}
 use Rattle.ir_tree.specs.declared.tree.Phi.{Phi}
 use Rattle.ir_tree.specs.Limits.{IsWithinLimits, instructions_of, cases_in, HasFewCases, HasFewEntries}
 use Rattle.points.specs.Run.{undef_width}
-use Rattle.points.specs.Tapes.{inst_widths, widths_of, end_widths, block_widths, choice_widths, need_of, widest}
-use Rattle.points.specs.Weight.{type_width, op_cost, inst_cost, phi_cost, end_cost, block_cost, cost_of, type_bits, parameter_bits}
+use Rattle.points.specs.Tapes.{inst_widths, widths_of, end_widths, block_widths, choice_widths, widest}
+use Rattle.points.specs.Weight.{type_width, op_cost, inst_cost, phi_cost, end_cost, block_cost, cost_of}
 use Rattle.points.proofs.Plain.{widest-append}
 
 -- ---- sums of parts that are bounded
@@ -189,15 +188,6 @@ small_cost_of f limits =
     let cost = small_costs f.blocks (recursion_from_All HasFewCases f.blocks limits.cases) (recursion_from_All HasFewEntries f.blocks limits.entries) in
     let most = limits.instructions in
     omega (arith, cost, most)
-
-pub small_need : (turns : ℕ) (f : Function) → turns ≤ 64 → IsWithinLimits f → need_of turns f ≤ 4259840
-small_need turns f few limits =
-    let words = few_words f limits in
-    let m : (turns + 1) * length (choice_widths f) ≤ 65 * length (choice_widths f) = mul-le-mul_right (length (choice_widths f)) (omega (arith, few)) in
-    omega (arith, m, words)
-
-pub small_times : (turns n : ℕ) → turns ≤ 64 → n ≤ 140737488355328 → (turns + 1) * n ≤ 9147936743096320
-small_times turns n few most = let m : (turns + 1) * n ≤ 65 * n = mul-le-mul_right n (omega (arith, few)) in omega (arith, m, most)
 
 -- ---- the widest choice, in a loop
 

@@ -1,5 +1,5 @@
 -- A run through the copies, each once and in order, is the run.
-use Rattle.std.proofs.Common.{◌≡◌, ℕ, zero, suc, ◌+◌, ◌*◌, ◌<◌, ◌≤◌, List, [], ◌∷◌, ◌++◌, length, map, Bool, true, false, nat_eq, nat_lt, if◌then◌else◌, Option, Some, None, ◌⊎◌, inl, inr, refl, sym, ap, subst, ◌∙◌, arith}
+use Rattle.std.proofs.Common.{◌≡◌, ℕ, zero, suc, ◌+◌, ◌*◌, ◌<◌, ◌≤◌, List, [], ◌∷◌, ◌++◌, length, map, Bool, true, false, nat_eq, nat_lt, if◌then◌else◌, Some, None, inl, inr, refl, sym, ap, subst, ◌∙◌, arith}
 use Rattle.std.specs.Prelude.{slice_get}
 use Rattle.std.proofs.lemmas.Bool.{cases_Bool, cases_lt, lt-ltb, le-ltb, lt-leb, le-leb, eqb-true, eqb-false}
 use Rattle.std.proofs.lemmas.Option.{slice_get_past}
@@ -11,14 +11,12 @@ use Rattle.points.specs.declared.machine.Machine.{Machine}
 use Rattle.points.specs.declared.outcome.Outcome.TheVariants.{Ub, Beyond}
 use Rattle.points.specs.declared.point.Bounds.{Bounds}
 use Rattle.points.specs.declared.point.Input.{Input}
-use Rattle.points.specs.Run.{Run, Exit, To, Over, ended, exit_of, Go, jump, go_on, forward, run_turns, breaks_noundef, first_machine, run_of}
+use Rattle.points.specs.Run.{Run, Exit, To, Over, ended, exit_of, Go, jump, go_on, forward, run_turns, breaks_noundef, first_machine}
 use Rattle.points.proofs.Runs.{run_of_is, run_entered_by}
-use Rattle.unroll.specs.declared.layered.Edge.{Edge}
 use Rattle.unroll.specs.declared.layered.Edge.TheVariants as edge
 use Rattle.unroll.specs.declared.layered.BlockCopy.{BlockCopy}
-use Rattle.unroll.specs.declared.layered.Layered.{Layered}
-use Rattle.unroll.specs.Layers.{number_in, edge_to, copy_of, layer_of, layers_of, copies_of, Where, At, Done, edge_of, along, labels_of, left_by, run_copy, pass_copy, walk, run_at_end, run_layers, HasRuns, LayersHaveRuns}
-use Rattle.unroll.proofs.Leaving.{Among, Leaves, block_leaves, edge_at}
+use Rattle.unroll.specs.Layers.{number_in, edge_to, copy_of, layer_of, layers_of, copies_of, Where, At, Done, along, left_by, run_copy, pass_copy, walk, run_at_end, LayersHaveRuns}
+use Rattle.unroll.proofs.Leaving.{Leaves, block_leaves, edge_at}
 use Rattle.unroll.proofs.Copies.{no_copies}
 use Rattle.ir_tree.proofs.Indexing.{places_of}
 

@@ -1,5 +1,4 @@
-use Rattle.std.proofs.Common.{length, ◌+◌, ◌-◌, ◌++◌, subst, sym, ◌≡◌, ℕ, ◌∙◌, arith}
-use Rattle.unroll.specs.Layers.{layers_of}
+use Rattle.std.proofs.Common.{length, ◌+◌, sym, ◌∙◌, arith}
 use Rattle.unroll.proofs.Copies.{no_layers, layer_joins, layers_done}
 use Rattle.unroll.proofs.copying.copies_for.Goals as goal
 
