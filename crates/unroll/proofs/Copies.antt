@@ -68,7 +68,7 @@ no_layers turns count (places ∷ graph) none = absurd (omega (arith, none))
 
 -- ---- of a function
 
-length_places : (f : Function) (bs : List Block) → length (map (places_of f) bs) ≡ length bs
+pub length_places : (f : Function) (bs : List Block) → length (map (places_of f) bs) ≡ length bs
 length_places f [] = refl
 length_places f (b ∷ bs) = ap suc (length_places f bs)
 

@@ -1,5 +1,5 @@
 -- Copies of a function's blocks, one of each for each count of backward jumps, and a run through them: each copy once, in order.
-use Rattle.std.specs.Prelude.{◌≡◌, ℕ, zero, suc, ◌+◌, ◌*◌, List, [], ◌∷◌, ◌++◌, length, map, nat_eq, nat_le, nat_lt, ◌==◌, if◌then◌else◌, slice_get, Option, Some, None}
+use Rattle.std.specs.Prelude.{◌≡◌, ℕ, zero, suc, ◌+◌, ◌*◌, ◌<◌, List, [], ◌∷◌, ◌++◌, length, map, nat_eq, nat_le, nat_lt, ◌==◌, if◌then◌else◌, slice_get, Option, Some, None}
 use Rattle.ir_tree.specs.declared.tree.Block.{Block}
 use Rattle.ir_tree.specs.declared.tree.Function.{Function}
 use Rattle.ir_tree.specs.Flow.{targets, successors}
@@ -44,6 +44,23 @@ layers_of turns blocks graph turn (suc count) = layer_of turns blocks turn 0 gra
 -- a label that no block has is at a place behind the text
 abbrev pub copies_of : (turns : ℕ) → Function → List BlockCopy
 copies_of turns f = layers_of turns (length f.blocks) (successors f) 0 (turns + 1)
+
+-- ---- where they lead
+
+-- from the copy of a number, where there are so many copies
+abbrev pub LeadsOn : (number count : ℕ) → Edge → Type 0
+LeadsOn number count (edge.Copy n) = (number < n) × (n < count)
+LeadsOn number count edge.Beyond = Unit {0}
+LeadsOn number count edge.Nowhere = Unit {0}
+
+abbrev pub AllLeadOn : (number count : ℕ) → List Edge → Type 0
+AllLeadOn number count [] = Unit {0}
+AllLeadOn number count (e ∷ es) = LeadsOn number count e × AllLeadOn number count es
+
+-- each edge of these copies, of which the first has this number, leads to a copy that stands later
+abbrev pub AreForward : (number count : ℕ) → List BlockCopy → Type 0
+AreForward number count [] = Unit {0}
+AreForward number count (copy ∷ copies) = AllLeadOn number count copy.edges × AreForward (suc number) count copies
 
 -- ---- a run through the copies
 

@@ -1,5 +1,5 @@
 ghost use Rattle.std.specs.Prelude.{◌≡◌, ◌<◌, ◌≤◌, ◌+◌, ◌*◌, ◌++◌, ◌^◌, map, length, IfOk, OnOk};
-ghost use Rattle.unroll.specs.Layers.{edge_to, layer_of, layers_of, copies_of, HasRuns};
+ghost use Rattle.unroll.specs.Layers.{AreForward, edge_to, layer_of, layers_of, copies_of, HasRuns};
 
 use crate::layered::{BlockCopy, Edge, Layered};
 use ir_tree::{Function, successors};
@@ -105,12 +105,14 @@ fn copies_for(
 
 /// The blocks of a function copied for each count of backward jumps of 0 up to `turns`, all blocks
 /// in text order each time. A jump to a block that stands later keeps the count; one to the same or
-/// an earlier block leads to the next count, and from the last one it is a jump too many. A run
-/// through the copies, each once and in order, is the run of the function. It fails for want of
-/// memory alone, so where there are more copies than a `usize` can number.
+/// an earlier block leads to the next count, and from the last one it is a jump too many. So each
+/// edge leads to a later copy, and a run through the copies, each once and in order, is the run of
+/// the function. It fails for want of memory alone, so where there are more copies than a `usize`
+/// can number.
 pub fn layers(alloc: Global, f: &Function, turns: u64) -> Result<Layered, NoMemory>
     ensures turns { IfOk result (λ layered. layered.turns ≡ turns) }
     ensures copies { IfOk result (λ layered. layered.copies ≡ copies_of turns f.now) }
+    ensures forward { IfOk result (λ layered. AreForward 0 (length layered.copies) layered.copies) }
     ensures runs { IfOk result (HasRuns turns f.now) }
 {
     let graph = successors(alloc, f)?;
