@@ -7,11 +7,15 @@
 //! "Well-Formedness", "Identifiers", and of each instruction's section for its types.
 #![tactic(auto)]
 
+mod edges;
+mod marks;
 mod names;
+mod predecessors;
 #[cfg(test)]
 mod tests;
 mod types;
 mod values;
 
+pub use edges::check_edges;
 pub use names::check_names;
 pub use types::check_types;
