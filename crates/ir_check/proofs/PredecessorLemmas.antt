@@ -21,6 +21,9 @@ use Rattle.ir_check.specs.Marks.{LeadsIn, ArePredecessors, IsUnfit, IsUnfitAt}
 pub taken : {X : Type 0} (xs : List X) (i : ℕ) (x : X) → i < length xs → x ≡ get_or xs i x → take (i + 1) xs ≡ take i xs ++ x ∷ []
 taken {X} xs i x below is = take_more xs i x below ∙ ap (λ (y : X). take i xs ++ y ∷ []) (sym is)
 
+pub got : {X : Type 0} (xs ys : List X) (i : ℕ) (x : X) → xs ≡ ys → i < length xs → x ≡ get_or xs i x → slice_get ys i ≡ Some x
+got {X} xs ys i x same below is = subst (λ (zs : List X). slice_get zs i ≡ Some x) same (slice_get_read xs (length xs) i x refl below is)
+
 -- ---- one label more
 
 pub record HaveAdded (old new : List (List ℕ)) (label : ℕ) (nexts : List ℕ) : Type 0 where
