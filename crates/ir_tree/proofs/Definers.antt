@@ -25,7 +25,10 @@ use Rattle.ir_tree.specs.declared.sites.Site.TheVariants.{Defines, Uses, Enters,
 use Rattle.ir_tree.specs.Sites.{sites, parts, steps, has_case, is_same_type, changes_width, typed_sites, operand_site, inst_sites, entry_sites, phi_sites, cases_sites, terminator_sites}
 use Rattle.ir_tree.specs.Types.{one_bit}
 use Rattle.ir_tree.specs.Flow.{targets, result_of}
-use Rattle.ir_tree.specs.WellFormed.{DefinesAgain}
+use Rattle.ir_tree.specs.WellFormed.{DefinesAgain, IsLabel}
+use Rattle.ir_tree.specs.Definitions.{DefinesIn}
+use Rattle.ir_tree.specs.declared.sites.SiteList.{SiteList}
+use Rattle.ir_tree.proofs.Listing.{list-length}
 use Rattle.ir_tree.proofs.Standing.{InFunction, Stands, behind, at_site, parameter_site, label_site, phi_site, inst_site, end_site}
 
 -- ---- lists
@@ -116,15 +119,6 @@ end_plain header Unreachable = tt
 
 -- ---- what a part defines
 
--- the part gives the name its value, or is the label of this name
-abbrev pub DefinesIn : Function → Part → ℕ → Type 0
-DefinesIn f part.Header name = ⊥
-DefinesIn f part.Parameter name = Contains (map (λ (p : Parameter). p.name) f.parameters) name
-DefinesIn f (part.Label k) name = (b : Block) × (slice_get f.blocks k ≡ Some b) × (b.label ≡ name)
-DefinesIn f (part.Phi k j) name = (b : Block) × (slice_get f.blocks k ≡ Some b) × (phi : Phi) × (slice_get b.phis j ≡ Some phi) × (phi.into ≡ name)
-DefinesIn f (part.Inst k j) name = (b : Block) × (slice_get f.blocks k ≡ Some b) × (i : Inst) × (slice_get b.insts j ≡ Some i) × (result_of i ≡ name)
-DefinesIn f (part.End k) name = ⊥
-
 parameter_defines : (f : Function) (k : ℕ) (p : Parameter) (type : Option IrType) (name : ℕ) → slice_get f.parameters k ≡ Some p → (j : ℕ) → j < 2 → get_or (Written true ∷ Defines (Some p.of_type) p.name ∷ []) j (Defines type name) ≡ Defines type name → DefinesIn f part.Parameter name
 parameter_defines f k p type name stands zero below e = absurd (let same : Written true ≡ Defines type name = e in cc)
 parameter_defines f k p type name stands (suc zero) below e =
@@ -151,6 +145,52 @@ inst_begins (inst.Icmp into predicate same_sign width left right) = (Some (Int o
 inst_begins (inst.Cast into cast from operand to) = (Some (Int to), (0, omega arith, refl))
 inst_begins (inst.Select into condition if_true if_false) = (Some if_true.of_type, (0, omega arith, refl))
 inst_begins (inst.Freeze into width operand) = (Some (Int width), (0, omega arith, refl))
+
+-- ---- labels
+
+no_label : (type : IrType) (into : ℕ) (rest : List Site) (k name : ℕ) → AllByRecursion IsNoDefinition rest → k < length (Defines (Some type) into ∷ rest) → get_or (Defines (Some type) into ∷ rest) k (Defines None name) ≡ Defines None name → ⊥
+no_label type into rest zero name all below e = let same : Defines (Some type) into ≡ Defines None name = e in cc
+no_label type into rest (suc k) name all below e = none_defines rest k None name all (omega (arith, below)) e
+
+inst_no_label : (i : Inst) (name : ℕ) → Contains (inst_sites i) (Defines None name) → ⊥
+inst_no_label (inst.Binary into op width left right) name found =
+    no_label _ into (Written true ∷ operand_site (Int width) left ∷ operand_site (Int width) right ∷ []) found.0 name (tt, (operand_plain (Int width) left, (operand_plain (Int width) right, tt))) found.1 found.2
+inst_no_label (inst.Icmp into predicate same_sign width left right) name found =
+    no_label _ into (Written true ∷ operand_site (Int width) left ∷ operand_site (Int width) right ∷ []) found.0 name (tt, (operand_plain (Int width) left, (operand_plain (Int width) right, tt))) found.1 found.2
+inst_no_label (inst.Cast into cast from operand to) name found =
+    no_label _ into (Written true ∷ operand_site (Int from) operand ∷ Written (changes_width cast from.bits to.bits) ∷ []) found.0 name (tt, (operand_plain (Int from) operand, (tt, tt))) found.1 found.2
+inst_no_label (inst.Select into condition if_true if_false) name found =
+    no_label _ into (Written true ∷ operand_site (Int one_bit) condition ∷ (typed_sites true if_true ++ typed_sites (is_same_type if_true.of_type if_false.of_type) if_false)) found.0 name
+    (tt, (operand_plain (Int one_bit) condition, (tt, (operand_plain if_true.of_type if_true.operand, (tt, (operand_plain if_false.of_type if_false.operand, tt)))))) found.1 found.2
+inst_no_label (inst.Freeze into width operand) name found = no_label _ into (Written true ∷ operand_site (Int width) operand ∷ []) found.0 name (tt, (operand_plain (Int width) operand, tt)) found.1 found.2
+
+parameter_no_label : (p : Parameter) (name k : ℕ) → k < 2 → get_or (Written true ∷ Defines (Some p.of_type) p.name ∷ []) k (Defines None name) ≡ Defines None name → ⊥
+parameter_no_label p name zero below e = let same : Written true ≡ Defines None name = e in cc
+parameter_no_label p name (suc zero) below e = let same : Defines (Some p.of_type) p.name ≡ Defines None name = e in cc
+parameter_no_label p name (suc (suc k)) below e = omega (arith, below)
+
+label_by : (f : Function) (p : Part) (name : ℕ) → InFunction f p (Defines None name) → (k : ℕ) × DefinesIn f (part.Label k) name
+label_by f part.Header name found = absurd (none_defines (Written true ∷ Written true ∷ []) found.0 None name (tt, (tt, tt)) found.1 found.2)
+label_by f part.Parameter name found = absurd (parameter_no_label found.0 name found.2.0 found.2.1 found.2.2)
+label_by f (part.Label k) name found = (k, defines_by f (part.Label k) None name found)
+label_by f (part.Phi k j) name found =
+    let phi : Phi = found.2.1 in
+    absurd (no_label phi.of_type phi.into (Written true ∷ flat_map (entry_sites phi.of_type) phi.entries) found.2.3.0 name (tt, entries_plain phi.of_type phi.entries) found.2.3.1 found.2.3.2)
+label_by f (part.Inst k j) name found = absurd (inst_no_label found.2.1 name found.2.3)
+label_by f (part.End k) name found = absurd (none_defines (terminator_sites f.returns found.0.terminator) found.2.1.0 None name (end_plain f.returns found.0.terminator) found.2.1.1 found.2.1.2)
+
+-- a site has a part
+pub part_at : (f : Function) (n : ℕ) (s : Site) → slice_get (sites f) n ≡ Some s → (p : Part) × (slice_get (parts f) n ≡ Some p)
+part_at f n s site =
+    let long = list-length f (record { all = sites f; parts = parts f }) refl refl in
+    let within = slice_get_within (sites f) n s site in
+    (get_or (parts f) n part.Header, slice_get-get_or (parts f) n part.Header (omega (arith, long, within)))
+
+-- a label is some block's
+pub label_of_block : (f : Function) (name : ℕ) → IsLabel (sites f) name → (k : ℕ) × DefinesIn f (part.Label k) name
+label_of_block f name label = let p = part_at f label.0 (Defines None name) label.1 in label_by f p.0 name (at_site f label.0 p.0 (Defines None name) label.1 p.1)
+
+-- ---- and back
 
 -- some site of the part defines the name
 abbrev pub DefinedAt : Function → Part → ℕ → Type 0
