@@ -167,19 +167,22 @@ at_unfit f table block place holder phi row are within is stands its unfit = eit
 -- ---- the sites
 
 pub phi_wrong : (f : Function) (n : ℕ) (type : Option IrType) (name block place : ℕ) → slice_get (sites f) n ≡ Some (Defines type name) → slice_get (parts f) n ≡ Some (part.Phi block place) → HasWrongEdge f n ↔ IsUnfitAt f block place
-phi_wrong f n type name block place site its = (λ wrong. there wrong, λ unfit. inl (record {
-  type = type;
-  name = name;
-  here = site;
-  block = block;
-  place = place;
-  part = its;
-  holder = unfit.0;
-  holds = unfit.1;
-  phi = unfit.2;
-  stands = unfit.3;
-  unfit = unfit.4;
-}))
+phi_wrong f n type name block place site its = (
+  λ wrong. there wrong,
+  λ unfit. inl (record {
+    type = type;
+    name = name;
+    here = site;
+    block = block;
+    place = place;
+    part = its;
+    holder = unfit.0;
+    holds = unfit.1;
+    phi = unfit.2;
+    stands = unfit.3;
+    unfit = unfit.4;
+  }),
+)
   where
     there : HasWrongEdge f n → IsUnfitAt f block place
     there (inl unfit) =

@@ -56,8 +56,11 @@ first_label all name n site once first here = rw is (given first.1.0 refl)
 
     given : (type : Option IrType) → type ≡ first.1.0 → IsTrue (is_label_of (Defines type name)) ↔ IsLabel all name
     given None e = (λ t. (n, (let there : slice_get all n ≡ Some (Defines first.1.0 name) = first.1.1 in cc)), λ has. refl)
-    given (Some type) e = (λ t. absurd (let f : false ≡ true = t in cc), λ has. absurd (let same : has.0 ≡ n = only all name n has.0 None once first has.1 in
-        let there : slice_get all n ≡ Some (Defines None name) = rw same at has.1 in let there' : slice_get all n ≡ Some (Defines first.1.0 name) = first.1.1 in cc))
+    given (Some type) e = (
+      λ t. absurd (let f : false ≡ true = t in cc),
+      λ has. absurd (let same : has.0 ≡ n = only all name n has.0 None once first has.1 in
+          let there : slice_get all n ≡ Some (Defines None name) = rw same at has.1 in let there' : slice_get all n ≡ Some (Defines first.1.0 name) = first.1.1 in cc),
+    )
 
 -- a site that fails stands in the list
 pub unknown_within : (all : List Site) (n : ℕ) → UsesUnknown all n → n < length all

@@ -11,10 +11,7 @@ use support::{NoMemory, Sequence};
 
 /// For each name of a function, the labels of the blocks that may be left for the block of that
 /// label; a label stands there once.
-pub fn predecessors_of(
-    alloc: Global,
-    f: &Function,
-) -> Result<Sequence<Sequence<usize>>, NoMemory>
+pub fn predecessors_of(alloc: Global, f: &Function) -> Result<Sequence<Sequence<usize>>, NoMemory>
     requires numbered { AreNumbered f.now }
     ensures len { IfOk result (λ table. length table ≡ length f.now.names) }
     ensures each { IfOk result (λ table. ArePredecessors f.now.blocks table) }
