@@ -4,13 +4,11 @@ use Rattle.std.specs.Map.{lookup}
 use Rattle.std.specs.List.{position_or_len}
 use Rattle.std.specs.Option.{option_map_or}
 use Rattle.std.proofs.lemmas.Bool.{cases_Bool, eqb-true, eqb-false, eq-eqb, ne_eqb}
-use Rattle.std.proofs.lemmas.List.{drop_more}
+use Rattle.std.proofs.lemmas.List.{drop_more, append_assoc}
 use Rattle.std.proofs.Math.Seq.{drop-length}
-use Rattle.ir_tree.specs.declared.tree.Case.{Case}
 use Rattle.ir_tree.specs.declared.tree.Block.{Block}
 use Rattle.ir_tree.specs.declared.tree.Function.{Function}
 use Rattle.ir_tree.specs.Flow.{targets, block_of}
-use Rattle.ir_tree.specs.BlockIndexes.{case_places}
 
 -- where a block leads
 abbrev pub places_of : Function → Block → List ℕ
@@ -41,13 +39,9 @@ index_more blocks place b old new below is put before = λ label. elim (cases_Bo
     more_at : (a b : ℕ) → (a + 1) + b ≡ a + (1 + b)
     more_at a b = omega arith
 
--- ---- cases
+-- ---- a list made of another
 
-map_twice : (f : Function) (cases : List Case) → map (block_of f) (map (λ (c : Case). c.to) cases) ≡ case_places f cases
-map_twice f [] = refl
-map_twice f (c ∷ cases) = ap (λ (ps : List ℕ). block_of f c.to ∷ ps) (map_twice f cases)
-
--- the default's place, and the cases'
-pub switch_places : (f : Function) (default place : ℕ) (cases slice : List Case) (none one all : List ℕ) → none ≡ [] → place ≡ block_of f default → one ≡ none ++ place ∷ [] → slice ≡ cases → all ≡ one ++ case_places f slice
-    → all ≡ map (block_of f) (default ∷ map (λ (c : Case). c.to) cases)
-switch_places f default place cases slice none one all empty is pushed same joined = rw (joined, pushed, empty, is, same) (ap (λ (ps : List ℕ). block_of f default ∷ ps) (sym (map_twice f cases)))
+pub mapped_more : (F : ℕ → ℕ) (xs : List ℕ) (i : ℕ) (done all : List ℕ) (y : ℕ) → i < length xs → y ≡ F (get_or xs i 0) → done ++ map F (drop i xs) ≡ all → (done ++ y ∷ []) ++ map F (drop (i + 1) xs) ≡ all
+mapped_more F xs i done all y below is so_far =
+    let e : map F (drop i xs) ≡ y ∷ map F (drop (i + 1) xs) = rw (drop_more xs i 0 below, is) refl in
+    append_assoc done (y ∷ []) (map F (drop (i + 1) xs)) ∙ (ap (λ (ys : List ℕ). done ++ ys) (sym e) ∙ so_far)

@@ -1,13 +1,47 @@
 // Where the blocks of a function lead.
-ghost use Rattle.std.specs.Prelude.{◌≡◌, ◌++◌, map, IfOk, OnOk};
+ghost use Rattle.std.specs.Prelude.{◌≡◌, ◌∷◌, map, IfOk};
+ghost use Rattle.ir_tree.specs.declared.tree.Case.{Case};
 ghost use Rattle.ir_tree.specs.Flow.{targets, block_of, successors};
-ghost use Rattle.ir_tree.specs.BlockIndexes.{IsIndex, case_places};
+ghost use Rattle.ir_tree.specs.BlockIndexes.{IsIndex};
 
 use crate::tree::{Case, Function, Terminator};
 use indexmap::IndexMap;
 use std::alloc::Global;
 use std::marker::Model;
 use support::{NoMemory, Sequence};
+
+/// The labels, by their numbers, of the blocks that may run behind a terminator, in text order. A
+/// label stands there as often as the terminator names it.
+pub fn targets_of(alloc: Global, terminator: &Terminator) -> Result<Sequence<usize>, NoMemory>
+    ensures { IfOk result (λ list. list ≡ targets terminator.now) }
+{
+    let labels = match terminator {
+        Terminator::Return(_) | Terminator::Unreachable => Vec::new(alloc),
+        Terminator::Branch { to } => vec![in alloc; *to; 1]?,
+        Terminator::CondBranch {
+            condition: _,
+            if_true,
+            if_false,
+        } => vec![in alloc; *if_true, *if_false]?,
+        Terminator::Switch {
+            width: _,
+            operand: _,
+            default,
+            cases,
+        } => switch_targets(alloc, *default, cases.as_slice())?,
+    };
+    Ok(Sequence::from_vec(labels))
+}
+
+fn switch_targets(alloc: Global, default: usize, cases: &[Case]) -> Result<Vec<usize>, NoMemory>
+    ensures { IfOk result (λ list. list.items ≡ default ∷ map (λ (case : Case). case.to) cases.now) }
+{
+    let mut labels = vec![in alloc; default; 1]?;
+    for case in cases {
+        labels.push(case.to)?;
+    }
+    Ok(labels)
+}
 
 /// The places of a function's blocks by their labels. Of blocks with one label it has the first's
 /// place. Contracts see its entries.
@@ -48,67 +82,34 @@ impl BlockIndex {
             None => f.blocks.len(),
         }
     }
-}
 
-fn push_cases(
-    places: &mut Vec<usize>,
-    index: &BlockIndex,
-    f: &Function,
-    cases: &[Case],
-) -> Result<(), NoMemory>
-    requires { IsIndex f.now index.now }
-    ensures { OnOk result (places.new.items ≡ places.old.items ++ case_places f.now cases.now) }
-{
-    for case in cases {
-        places.push(index.place(f, case.to))?;
-    }
-    Ok(())
-}
-
-/// The places of the blocks that a block may be left for, in the order of its terminator's labels.
-fn places_behind(
-    alloc: Global,
-    index: &BlockIndex,
-    f: &Function,
-    terminator: &Terminator,
-) -> Result<Vec<usize>, NoMemory>
-    requires { IsIndex f.now index.now }
-    ensures { IfOk result (λ places. places.items ≡ map (block_of f.now) (targets terminator.now)) }
-{
-    let mut places = Vec::new(alloc);
-    match terminator {
-        Terminator::Return(_) | Terminator::Unreachable => Ok(places),
-        Terminator::Branch { to } => {
-            places.push(index.place(f, *to))?;
-            Ok(places)
+    fn places(
+        &self,
+        alloc: Global,
+        f: &Function,
+        labels: &[usize],
+    ) -> Result<Sequence<usize>, NoMemory>
+        requires { IsIndex f.now self.now }
+        ensures { IfOk result (λ places. places ≡ map (block_of f.now) labels.now) }
+    {
+        let mut places = Sequence::from_vec(Vec::new(alloc));
+        for label in labels {
+            places.push(self.place(f, *label))?;
         }
-        Terminator::CondBranch {
-            if_true,
-            if_false,
-            ..
-        } => {
-            places.push(index.place(f, *if_true))?;
-            places.push(index.place(f, *if_false))?;
-            Ok(places)
-        }
-        Terminator::Switch { default, cases, .. } => {
-            places.push(index.place(f, *default))?;
-            push_cases(&mut places, index, f, cases.as_slice())?;
-            Ok(places)
-        }
+        Ok(places)
     }
 }
 
 /// For each block the places of those that may run next, in the order of its terminator's labels;
 /// the number of blocks stands for a label that no block has.
-pub fn successors(alloc: Global, f: &Function) -> Result<Vec<Sequence<usize>>, NoMemory>
-    ensures { IfOk result (λ graph. graph.items ≡ successors f.now) }
+pub fn successors(alloc: Global, f: &Function) -> Result<Sequence<Sequence<usize>>, NoMemory>
+    ensures { IfOk result (λ graph. graph ≡ successors f.now) }
 {
     let index = BlockIndex::of(alloc, f)?;
-    let mut graph = Vec::new(alloc);
+    let mut graph = Sequence::from_vec(Vec::new(alloc));
     for block in f.blocks.as_slice() {
-        let places = places_behind(alloc, &index, f, &block.terminator)?;
-        graph.push(Sequence::from_vec(places))?;
+        let labels = targets_of(alloc, &block.terminator)?;
+        graph.push(index.places(alloc, f, labels.as_slice())?)?;
     }
     Ok(graph)
 }
