@@ -23,9 +23,7 @@ mod uses;
 
 use block_paths::{NameSets, assigned_before};
 use graph::{assigns_of, successors_of};
-use ir_tree::{
-    CheckFault, Function, Reason, SiteList, first_definitions, refusal_at, sites_of,
-};
+use ir_tree::{CheckFault, Function, Reason, SiteList, first_definitions, refusal_at, sites_of};
 use std::alloc::Global;
 use support::NoMemory;
 use uses::first_unassigned;
