@@ -1,6 +1,6 @@
 -- What is spelled keeps the limits of a function.
 use Rattle.std.proofs.Common.{◌≡◌, ℕ, zero, suc, ◌+◌, ◌-◌, ◌<◌, ◌≤◌, Bool, true, false, ltb, cond, List, [], ◌∷◌, ◌++◌, length, Option, Some, None, sym, subst, ap, ◌∙◌, refl, inl, inr, arith}
-use Rattle.std.specs.Prelude.{◌&&◌, ◌||◌, not, Result, Ok, Err}
+use Rattle.std.specs.Prelude.{◌&&◌, ◌||◌, not, Result, Ok}
 use Rattle.std.specs.List.{All, AllByRecursion, sum_by}
 use Rattle.std.proofs.lemmas.Bool.{ltb-true}
 use Rattle.std.proofs.lemmas.List.{length-append}
@@ -11,6 +11,7 @@ use Rattle.ir_lexer.specs.Lexeme.{Lexeme}
 use Rattle.ir_lexer.specs.declared.token.Kind.{Kind}
 use Rattle.ir_lexer.specs.declared.token.Kind.TheVariants as kind
 use Rattle.ir_items.specs.declared.item.Define.{Define}
+use Rattle.ir_items.specs.Names.{name_in}
 use Rattle.ir_tree.specs.Limits.{IsInteger, AreIntegers, instructions_of, cases_in, HasFewCases, HasFewEntries}
 use Rattle.ir_tree.specs.Names.{with_name, number_of}
 use Rattle.ir_tree.specs.declared.module.Entry.{Entry}
@@ -49,12 +50,12 @@ use Rattle.ir_reader.specs.declared.written.WrittenTerminator.TheVariants as end
 use Rattle.ir_reader.specs.declared.written.WrittenReturn.TheVariants.{Void, Value}
 use Rattle.ir_reader.specs.declared.numbering.NamedParameter.{NamedParameter}
 use Rattle.ir_reader.specs.Classes.{any}
-use Rattle.ir_reader.specs.Spelling.{label_line, line_start}
+use Rattle.ir_reader.specs.Spelling.{named_at, label_line, is_record, line_start}
 use Rattle.ir_reader.specs.Instructions.{inst_line, phi, line_by, line_named, entry_or_attachment, next_entry, phi_number}
 use Rattle.ir_reader.specs.Grammar.{follows_parameter, parameter_begins, with_part, parameter_parts, first_parameter, parameters, is_comma, is_local_kind, starts_line, line_begins, line_within, started, line_comma, with_comma, whole_line, with_line, next_line, lines, is_type, case_begins, case_within, with_case, cases, branch, branch_to, cond_branch, switch, return_of, terminator_by, block, body_of, entry_block, begins_block, block_begins, next_block, blocks, define}
 use Rattle.ir_reader.specs.Numbering.{Numbered, so, each_in, parameter_in, inst_in, value_in, typed_in, entry_in, phi_in, case_in, branch_in, cond_branch_in, switch_in, terminator_in, block_in, labelled_in, blocks_in, parts_in, returned_in, function_of, named_behind, entry_name, type_or_void, numbered}
 use Rattle.ir_reader.specs.Functions.{IsFunction, well_formed, tested, unfit, past}
-use Rattle.ir_reader.specs.Module.{IsEntry, AreEntries, tokens_of}
+use Rattle.ir_reader.specs.Module.{AreEntries, tokens_of}
 use Rattle.ir_reader.specs.Judgeable.{IsIntegerOrVoid, IsJudgeable, IsJudgeableEntry}
 use Rattle.ir_reader.proofs.NumberedSites.{then-so, named-count, block_with}
 
@@ -86,7 +87,7 @@ parameters-few x ts rest (inr (nothing, type, mid, T, (all, mid2, (mid3, (s, mid
 
 all-push : {X : Type 0} (P : X → Type 0) (xs : List X) (x : X) → AllByRecursion P xs → P x → AllByRecursion P (xs ++ x ∷ [])
 all-push P [] x A h = (h, tt)
-all-push P (y ∷ ys) x (a, as) h = (a, all-push P ys x as h)
+all-push P (y ∷ ys) x (first, others) h = (first, all-push P ys x others h)
 
 abbrev FewEntries : WrittenPhi → Type 0
 FewEntries phi = length phi.entries ≤ 16777216
@@ -156,8 +157,8 @@ room-of s name t e w = go t.kind (starts_line t) e w
   where
     go : (k : Kind) (b : Bool) → part_value b (line_start s.is_new k t.text t.place) ≡ Some (start.Inst name) → (not (is_local_kind k) || ltb 0 s.room) ≡ true → 0 < s.room
     go kind.Local b e' w' = ltb-true 0 s.room w'
-    go kind.Label b e' w' = absurd (label-no-inst b s.is_new _ name e')
-    go kind.Hash b e' w' = absurd (record-no-inst b _ name e')
+    go kind.Label b e' w' = absurd (label-no-inst b s.is_new (named_at (name_in kind.Label t.text) t.place) name e')
+    go kind.Hash b e' w' = absurd (record-no-inst b (is_record t.text) name e')
     go _ b e' w' = absurd (nothing-no-inst b name e')
 
 record LinesFew (room : ℕ) (s : WrittenLines) : Type 0 where
@@ -249,8 +250,8 @@ FewBlock b = FewBody b.body
 
 record BlocksFew (entry : WrittenBody) (others : List WrittenBlock) (room : ℕ) : Type 0 where
   counted : count_of entry + (sum_by block_count others + room) ≤ 65536
-  entry : FewBody entry
-  others : AllByRecursion FewBlock others
+  first : FewBody entry
+  later : AllByRecursion FewBlock others
 
 abbrev AreFewSoFar : WrittenBlocks → Type 0
 AreFewSoFar s = BlocksFew s.entry s.others s.room
@@ -259,7 +260,7 @@ entry-few : (x : WrittenBlocks) (ts rest : List Lexeme) → Spells true entry_bl
 unfolding entry_block
 entry-few x ts rest (b, B, same) =
     let F = block-few true 65536 b ts rest B in
-    subst AreFewSoFar same (record { counted = omega (arith, F.counted); entry = F.few; others = tt })
+    subst AreFewSoFar same (record { counted = omega (arith, F.counted); first = F.few; later = tt })
 
 blocks-more : (n : ℕ) (s x : WrittenBlocks) (ts rest : List Lexeme) → SpellParts true begins_block block_begins (λ s'. any) (λ s' a next inside behind. Spells true (next_block s' a) next inside behind) n s x ts rest → AreFewSoFar s → AreFewSoFar x
 unfolding next_block
@@ -267,7 +268,7 @@ blocks-more zero s x ts rest (same, left, nothing) F = subst AreFewSoFar same F
 blocks-more (suc n) s x ts rest (name, inside, next, behind, T, (b, B, same), more) F =
     let G = block-few false s.room b inside behind B in
     let added : WrittenBlock = record { label = name; body = body_of b } in
-    blocks-more n next x behind rest more (subst AreFewSoFar same (record { counted = omega (arith, F.counted, G.counted, sum_by_push block_count s.others added); entry = F.entry; others = all-push FewBlock s.others added F.others G.few }))
+    blocks-more n next x behind rest more (subst AreFewSoFar same (record { counted = omega (arith, F.counted, G.counted, sum_by_push block_count s.others added); first = F.first; later = all-push FewBlock s.others added F.later G.few }))
 
 blocks-few : (x : WrittenBlocks) (ts rest : List Lexeme) → Spells true blocks x ts rest → AreFewSoFar x
 unfolding blocks
@@ -416,7 +417,7 @@ judgeable w few = go (parts_in named_ones label w.entry w.others) refl
         let ps : P.value ≡ parts.0 = ap (λ (p : List Parameter × List Block). p.0) parts-are in
         let bs : B.value ≡ parts.1 = ap (λ (p : List Parameter × List Block). p.1) parts-are in
         let F = few.blocks.1 in
-        let M = blocks-made P.mid label w.entry w.others B.value B.mid B.first F.entry F.others in
+        let M = blocks-made P.mid label w.entry w.others B.value B.mid B.first F.first F.later in
         record {
           limits = record {
             parameters = omega (arith, few.parameters, each-length parameter_in named_ones [] P.value P.mid P.first, named-count [] w.parameters, ap length ps);

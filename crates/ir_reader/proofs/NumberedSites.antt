@@ -1,5 +1,5 @@
 -- The sites of a function whose names were numbered: as many as places, and each name has its number in the table.
-use Rattle.std.proofs.Common.{◌≡◌, ℕ, ◌+◌, ◌*◌, ◌<◌, ◌≤◌, Bool, true, List, [], ◌∷◌, ◌++◌, length, map, Option, Some, None, refl, sym, ap, subst, ◌∙◌, arith}
+use Rattle.std.proofs.Common.{◌≡◌, ℕ, ◌+◌, ◌*◌, ◌≤◌, Bool, true, List, [], ◌∷◌, ◌++◌, length, Option, Some, None, refl, sym, ap, subst, ◌∙◌, arith}
 use Rattle.std.specs.List.{All, flat_map}
 use Rattle.std.proofs.lemmas.List.{length-append, append-nil}
 use Rattle.std.proofs.lemmas.Grind.{flat_map-append}
@@ -8,7 +8,6 @@ use Rattle.text_places.specs.declared.place.Place.{Place}
 use Rattle.tv_num.specs.declared.Width.{Width}
 use Rattle.ir_tree.specs.Names.{with_name, number_of}
 use Rattle.ir_tree.specs.Sites.{IsNumbered, AreNumbered, Step, sites, sites_in, steps, parameter_steps, phi_steps, inst_steps, block_steps, blocks_steps, header_sites, parameter_sites, entry_sites, phi_sites, inst_sites, case_sites, cases_sites, terminator_sites, typed_sites, operand_site}
-use Rattle.ir_tree.specs.declared.sites.Part.{Part}
 use Rattle.ir_tree.specs.declared.sites.Part.TheVariants as part_of
 use Rattle.ir_tree.specs.declared.sites.Site.{Site}
 use Rattle.ir_tree.specs.declared.sites.Site.TheVariants.{Defines, Uses, Enters, Written}
@@ -28,7 +27,6 @@ use Rattle.ir_tree.specs.declared.tree.Case.{Case}
 use Rattle.ir_tree.specs.declared.tree.Block.{Block}
 use Rattle.ir_tree.specs.declared.tree.Parameter.{Parameter}
 use Rattle.ir_tree.specs.declared.tree.Function.{Function}
-use Rattle.ir_reader.specs.declared.written.WrittenName.{WrittenName}
 use Rattle.ir_reader.specs.declared.written.WrittenValue.{WrittenValue}
 use Rattle.ir_reader.specs.declared.written.WrittenValue.TheVariants as written
 use Rattle.ir_reader.specs.declared.written.WrittenTyped.{WrittenTyped}
@@ -47,7 +45,7 @@ use Rattle.ir_reader.specs.declared.written.WrittenReturn.TheVariants.{Void, Val
 use Rattle.ir_reader.specs.declared.written.WrittenFunction.{WrittenFunction}
 use Rattle.ir_reader.specs.declared.numbering.NamedParameter.{NamedParameter}
 use Rattle.ir_reader.specs.Places.{place_or, places_of, inst_places, parameter_places, returned_places, typed_places, entry_places, phi_places, case_places, terminator_places, body_places, block_places}
-use Rattle.ir_reader.specs.Numbering.{Numbered, so, ◌>>=◌, number_in, value_in, typed_in, binary_in, icmp_in, cast_in, select_in, freeze_in, inst_in, returned_in, parameter_in, each_in, entry_in, phi_in, case_in, branch_in, cond_branch_in, switch_in, terminator_in, block_in, labelled_in, blocks_in, parts_in, function_of, named, named_behind, entry_name, numbered}
+use Rattle.ir_reader.specs.Numbering.{Numbered, so, ◌>>=◌, value_in, typed_in, binary_in, icmp_in, cast_in, select_in, freeze_in, inst_in, returned_in, parameter_in, each_in, entry_in, phi_in, case_in, branch_in, cond_branch_in, switch_in, terminator_in, block_in, labelled_in, blocks_in, parts_in, function_of, named, named_behind, entry_name, numbered}
 use Rattle.ir_reader.proofs.NumberOf.{joins}
 
 -- ---- what is numbered in turn

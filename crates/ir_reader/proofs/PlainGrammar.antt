@@ -1,5 +1,5 @@
 -- The forms of the grammar tell apart what comes next, so that looking one token ahead loses nothing.
-use Rattle.std.proofs.Common.{◌≡◌, ℕ, Bool, true, false, List, [], ◌∷◌, Option, Some, None, cond, refl, sym, subst, codes}
+use Rattle.std.proofs.Common.{◌≡◌, ℕ, Bool, true, false, List, Option, Some, None, cond, refl, sym, subst, codes}
 use Rattle.std.specs.Prelude.{◌||◌, is_some, nat_lt}
 use Rattle.std.specs.Str.{bytes_eq}
 use Rattle.std.proofs.lemmas.Slice.Eq.{bytes_eq-Decides}
@@ -10,11 +10,9 @@ use Rattle.ir_lexer.specs.declared.token.Kind.{Kind}
 use Rattle.ir_lexer.specs.declared.token.Kind.TheVariants as kind
 use Rattle.ir_tree.specs.declared.tree.Op.{Op}
 use Rattle.ir_tree.specs.declared.tree.Cast.{Cast}
-use Rattle.ir_forms.specs.Form.{Class, never, either}
+use Rattle.ir_forms.specs.Form.{never, either}
 use Rattle.ir_forms.specs.Plain.{AreApart, TellsApart, SpellsAsPlain, SpellsOne}
 use Rattle.ir_forms.proofs.Plain.{apart-never, apart-either, apart-spelled, apart-class, apart-tail, spells-as-plain, spells-one}
-use Rattle.ir_reader.specs.declared.word.WrapWord.{WrapWord}
-use Rattle.ir_reader.specs.declared.word.ExactWord.{ExactWord}
 use Rattle.ir_reader.specs.declared.word.Opcode.{Opcode}
 use Rattle.ir_reader.specs.declared.word.Opcode.TheVariants as opcode
 use Rattle.ir_reader.specs.declared.word.Flag.{Flag}
@@ -36,12 +34,10 @@ use Rattle.ir_reader.specs.declared.written.WrittenLines.{WrittenLines}
 use Rattle.ir_reader.specs.declared.written.WrittenLine.{WrittenLine}
 use Rattle.ir_reader.specs.declared.written.WrittenLine.TheVariants as line
 use Rattle.ir_reader.specs.declared.written.WrittenPhi.{WrittenPhi}
-use Rattle.ir_reader.specs.declared.written.WrittenCase.{WrittenCase}
-use Rattle.ir_reader.specs.declared.written.WrittenBlocks.{WrittenBlocks}
 use Rattle.ir_reader.specs.Words.{is_word_of, is_mark_of, terminator_of, flag_text, prefix_of, prefix_named, is_linkage, is_visibility}
-use Rattle.ir_reader.specs.Classes.{passed, passed_at, as_word, as_mark, any, int_type, bit_type, return_type, predicate_class, flag_word, terminator_word, attachment_word, brace, mark}
+use Rattle.ir_reader.specs.Classes.{passed, passed_at, as_word, as_mark, int_type, return_type, terminator_word, brace}
 use Rattle.ir_reader.specs.Instructions.{is_wrap, wraps, flagged_type, comparison, typed, binary, wrapping, exact, plain, disjunction, icmp, cast_by, truncate, zero_extend, sign_extend, select, freeze, inst_by, entry, phi, next_entry, phi_number, entry_or_attachment, inst_line, line_by, line_named}
-use Rattle.ir_reader.specs.Grammar.{is_comma, is_prefix, prefixes, follows_parameter, with_part, parameter_parts, first_parameter, parameters, follows_header, comdat_rest, debug_rest, with_header, header_parts, attachment, record_rest, starts_line, line_begins, started, commas, with_comma, whole_line, next_line, lines, returned_by, returned, target, cond_branch, branch_to, branch, is_type, with_case, cases, switch, return_of, terminator_by, attachments, block, begins_block, block_begins, entry_block, next_block, blocks, define}
+use Rattle.ir_reader.specs.Grammar.{is_comma, is_prefix, prefixes, follows_parameter, with_part, parameter_parts, first_parameter, parameters, follows_header, comdat_rest, debug_rest, with_header, header_parts, attachment, record_rest, starts_line, started, commas, with_comma, whole_line, next_line, lines, returned_by, returned, target, cond_branch, branch_to, branch, is_type, with_case, cases, switch, return_of, terminator_by, attachments, block, begins_block, entry_block, next_block, blocks, define}
 
 bytes-same : (xs ys : List ℕ) → bytes_eq xs ys ≡ true → xs ≡ ys
 bytes-same xs ys e = (bytes_eq-Decides xs ys).0 e

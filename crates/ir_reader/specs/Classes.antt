@@ -10,7 +10,6 @@ use Rattle.ir_tree.specs.declared.tree.Op.TheVariants as op
 use Rattle.ir_tree.specs.declared.tree.Predicate.{Predicate}
 use Rattle.ir_tree.specs.declared.tree.Predicate.TheVariants as predicate
 use Rattle.ir_forms.specs.Form.{Class}
-use Rattle.ir_reader.specs.declared.word.Opcode.{Opcode}
 use Rattle.ir_reader.specs.declared.word.Opcode.TheVariants as opcode
 use Rattle.ir_reader.specs.declared.word.LineWord.{LineWord}
 use Rattle.ir_reader.specs.declared.word.LineWord.TheVariants as line
@@ -24,7 +23,6 @@ use Rattle.ir_reader.specs.declared.written.WrittenReturnType.{WrittenReturnType
 use Rattle.ir_reader.specs.declared.written.WrittenOperand.{WrittenOperand}
 use Rattle.ir_reader.specs.declared.written.WrittenValue.TheVariants as value
 use Rattle.ir_reader.specs.declared.written.WrittenLiteral.{WrittenLiteral}
-use Rattle.ir_tree.specs.Types.{one_bit}
 use Rattle.ir_reader.specs.Numbers.{width_of, is_negative, magnitude, wrapped}
 use Rattle.ir_reader.specs.Reasons.{reason, type_reason}
 use Rattle.ir_reader.specs.Words.{is_word_of, is_mark_of, line_word_of, terminator_of, predicate_of, flag_text}

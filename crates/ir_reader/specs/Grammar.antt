@@ -27,14 +27,13 @@ use Rattle.ir_reader.specs.declared.written.WrittenCase.{WrittenCase}
 use Rattle.ir_reader.specs.declared.written.WrittenTerminator.{WrittenTerminator}
 use Rattle.ir_reader.specs.declared.written.WrittenTerminator.TheVariants as end
 use Rattle.ir_reader.specs.declared.written.WrittenBody.{WrittenBody}
-use Rattle.ir_reader.specs.declared.written.WrittenBlock.{WrittenBlock}
 use Rattle.ir_reader.specs.declared.written.WrittenBlocks.{WrittenBlocks}
 use Rattle.ir_reader.specs.declared.written.WrittenName.{WrittenName}
 use Rattle.ir_reader.specs.declared.written.WrittenReturn.{WrittenReturn}
 use Rattle.ir_reader.specs.declared.written.WrittenReturn.TheVariants.{Void, Value}
 use Rattle.ir_reader.specs.declared.written.WrittenFunction.{WrittenFunction}
-use Rattle.ir_reader.specs.Words.{is_word_of, is_mark_of, prefix_of}
-use Rattle.ir_reader.specs.Spelling.{parameter_part, header_part, header_word, is_numbered, is_metadata_of, line_start, label_of, named_at, width_in, typed_at, is_width}
+use Rattle.ir_reader.specs.Words.{is_mark_of, prefix_of}
+use Rattle.ir_reader.specs.Spelling.{parameter_part, header_part, line_start, label_of, named_at, width_in, typed_at, is_width}
 use Rattle.ir_reader.specs.Classes.{any, word, mark, mark_or_type, brace, as_mark, local, global, counted_type, int_type, bit_type, return_type, operand_class, literal_class, terminator_word, attachment_word, metadata_number, comdat_name}
 use Rattle.ir_reader.specs.Instructions.{line_named, entry_or_attachment}
 

@@ -1,6 +1,5 @@
 -- Which tokens spell an instruction (LLVM Language Reference, "Instruction Reference").
-use Rattle.std.specs.Prelude.{refl, ℕ, List, [], ◌∷◌, ◌++◌, length, Option, Some, None, Bool, true, false, ◌||◌, nat_lt, codes}
-use Rattle.text_places.specs.declared.place.Place.{Place}
+use Rattle.std.specs.Prelude.{refl, ℕ, [], ◌∷◌, ◌++◌, length, Option, Bool, true, false, ◌||◌, nat_lt, codes}
 use Rattle.ir_lexer.specs.Lexeme.{Lexeme}
 use Rattle.ir_tree.specs.Types.{one_bit}
 use Rattle.ir_tree.specs.declared.tree.Flags.{Flags}

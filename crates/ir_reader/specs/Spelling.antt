@@ -26,7 +26,7 @@ use Rattle.ir_reader.specs.declared.word.ParameterPart.{ParameterPart}
 use Rattle.ir_reader.specs.declared.word.ParameterPart.TheVariants as part
 use Rattle.ir_reader.specs.declared.word.HeaderPart.{HeaderPart}
 use Rattle.ir_reader.specs.declared.word.HeaderPart.TheVariants as header
-use Rattle.ir_reader.specs.Words.{is_word_of, is_mark_of}
+use Rattle.ir_reader.specs.Words.{is_word_of}
 use Rattle.ir_reader.specs.Reasons.{type_reason}
 use Rattle.ir_reader.specs.Numbers.{value_of, width_of, is_negative, magnitude, in_range, wrapped}
 

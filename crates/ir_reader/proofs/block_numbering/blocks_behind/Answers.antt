@@ -1,6 +1,6 @@
 use Rattle.std.proofs.Common.{◌≡◌, ◌∷◌}
 use Rattle.std.specs.Vec.Iter.{into_iter_items}
-use Rattle.ir_reader.specs.Numbering.{labelled_in, each_in, others_in}
+use Rattle.ir_reader.specs.Numbering.{labelled_in, others_in}
 use Rattle.ir_reader.proofs.Each.{each-more}
 use Rattle.ir_reader.proofs.block_numbering.blocks_behind.Goals as goal
 

@@ -1,4 +1,4 @@
-use Rattle.std.proofs.Common.{◌≡◌, ◌≤◌, List, [], true, false, length}
+use Rattle.std.proofs.Common.{◌≡◌, ◌≤◌, List, [], true, length}
 use Rattle.std.proofs.lemmas.Result.{err_from_is_err_and}
 use Rattle.ir_lexer.specs.Lexeme.{Lexeme}
 use Rattle.ir_forms.specs.Form.{Reading, reads, read}
@@ -17,7 +17,7 @@ short s a ts x rest e = shorter true (with_case s a) ts x rest e
 
 pub loop-next-init : goal.loop-next-init
 unfolding cases
-loop-next-init c = rw c.no_items.ensures (at_start is_type case_begins case_within part [] c.args.self.now)
+loop-next-init c = rw c.no_items-so_far.ensures (at_start is_type case_begins case_within part [] c.args.self.now)
 
 pub returns-in_err-next : goal.returns-in_err-next
 returns-in_err-next c =
