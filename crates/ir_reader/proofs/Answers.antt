@@ -1,8 +1,8 @@
 -- What reading the tokens of a define answers.
-use Rattle.std.proofs.Common.{◌≡◌, ℕ, ◌≤◌, ◌<◌, ◌⊎◌, true, List, [], ◌∷◌, length, get_or, inl, inr, refl, sym, ap, subst, ◌∙◌, arith}
-use Rattle.std.specs.Prelude.{Err, Result}
+use Rattle.std.proofs.Common.{◌≡◌, ◌≤◌, ◌<◌, true, List, [], ◌∷◌, length, get_or, inl, inr, refl, sym, ap, subst, ◌∙◌, arith}
+use Rattle.std.specs.Prelude.{Err}
 use Rattle.ir_lexer.specs.Lexeme.{Lexeme}
-use Rattle.ir_tree.specs.WellFormed.{IsWellFormed, IsRefusedAt}
+use Rattle.ir_tree.specs.WellFormed.{IsRefusedAt}
 use Rattle.ir_tree.specs.declared.module.Reason.{Reason}
 use Rattle.ir_tree.specs.declared.module.CheckFault.{CheckFault}
 use Rattle.ir_tree.specs.declared.module.CheckFault.TheVariants as fault
@@ -19,7 +19,7 @@ use Rattle.ir_reader.specs.declared.written.WrittenFunction.{WrittenFunction}
 use Rattle.ir_reader.specs.Reasons.{reason}
 use Rattle.ir_reader.specs.Grammar.{define}
 use Rattle.ir_reader.specs.Numbering.{numbered}
-use Rattle.ir_reader.specs.Functions.{IsFunction, tested, unfit, past, Answers}
+use Rattle.ir_reader.specs.Functions.{tested, unfit, past, Answers}
 use Rattle.ir_reader.specs.Answer.{Writes, Tests, fault_at}
 
 nil-of : (rest : List Lexeme) → length rest < 1 → rest ≡ []

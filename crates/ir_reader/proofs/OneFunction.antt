@@ -19,8 +19,7 @@ use Rattle.ir_tree.specs.declared.module.Module.{Module}
 use Rattle.ir_tree.specs.declared.tree.Function.{Function}
 use Rattle.ir_tree.proofs.Refusals.{one_refusal, never_well_formed}
 use Rattle.ir_forms.specs.Form.{Reading, reads, stops, unfit as unfit_why, limit, read}
-use Rattle.ir_forms.specs.Spelling.{Spells}
-use Rattle.ir_forms.specs.Refusals.{RefusedAs, StopsPast}
+use Rattle.ir_forms.specs.Refusals.{RefusedAs}
 use Rattle.ir_forms.proofs.Exact.{read-again}
 use Rattle.ir_forms.proofs.Stops.{limit-again}
 use Rattle.ir_forms.proofs.RefusedAgain.{refused-again}
@@ -28,10 +27,10 @@ use Rattle.ir_reader.specs.declared.written.WrittenFunction.{WrittenFunction}
 use Rattle.ir_reader.specs.Reasons.{reason}
 use Rattle.ir_reader.specs.Grammar.{define}
 use Rattle.ir_reader.specs.Numbering.{numbered}
-use Rattle.ir_reader.specs.Functions.{IsFunction, well_formed, tested, unfit, past, IsUnfit, IsBehind, refused_at, stop_place}
+use Rattle.ir_reader.specs.Functions.{IsFunction, well_formed, tested, unfit, past, IsBehind, refused_at, stop_place}
 use Rattle.ir_reader.specs.declared.fault.ModuleFault.{ModuleFault}
 use Rattle.ir_reader.specs.declared.fault.ModuleFault.TheVariants as fault
-use Rattle.ir_reader.specs.Module.{IsModule, IsFault, IsEntry, AreEntries, tokens_of, place_or_end}
+use Rattle.ir_reader.specs.Module.{IsModule, IsFault, AreEntries, tokens_of, place_or_end}
 
 -- what is told of a stop
 abbrev told_of : Reason → List Lexeme → List Lexeme → Result Function Refused

@@ -1,6 +1,6 @@
 -- The forms of the grammar tell apart what comes next, so that looking one token ahead loses nothing.
-use Rattle.std.proofs.Common.{◌≡◌, ℕ, Bool, true, false, List, [], ◌∷◌, Option, Some, None, cond, refl, sym, subst, codes}
-use Rattle.std.specs.Prelude.{◌||◌, is_some}
+use Rattle.std.proofs.Common.{◌≡◌, ℕ, Bool, true, false, List, Option, Some, None, cond, refl, sym, subst, codes}
+use Rattle.std.specs.Prelude.{◌||◌, is_some, nat_lt}
 use Rattle.std.specs.Str.{bytes_eq}
 use Rattle.std.proofs.lemmas.Slice.Eq.{bytes_eq-Decides}
 use Rattle.tv_num.specs.declared.Width.{Width}
@@ -10,15 +10,17 @@ use Rattle.ir_lexer.specs.declared.token.Kind.{Kind}
 use Rattle.ir_lexer.specs.declared.token.Kind.TheVariants as kind
 use Rattle.ir_tree.specs.declared.tree.Op.{Op}
 use Rattle.ir_tree.specs.declared.tree.Cast.{Cast}
-use Rattle.ir_forms.specs.Form.{Class, never, either}
+use Rattle.ir_forms.specs.Form.{never, either}
 use Rattle.ir_forms.specs.Plain.{AreApart, TellsApart, SpellsAsPlain, SpellsOne}
 use Rattle.ir_forms.proofs.Plain.{apart-never, apart-either, apart-spelled, apart-class, apart-tail, spells-as-plain, spells-one}
-use Rattle.ir_reader.specs.declared.word.WrapWord.{WrapWord}
-use Rattle.ir_reader.specs.declared.word.ExactWord.{ExactWord}
 use Rattle.ir_reader.specs.declared.word.Opcode.{Opcode}
 use Rattle.ir_reader.specs.declared.word.Opcode.TheVariants as opcode
 use Rattle.ir_reader.specs.declared.word.Flag.{Flag}
 use Rattle.ir_reader.specs.declared.word.Flag.TheVariants as flag
+use Rattle.ir_reader.specs.declared.word.LineWord.{LineWord}
+use Rattle.ir_reader.specs.declared.word.LineWord.TheVariants as word_of
+use Rattle.ir_reader.specs.declared.word.TerminatorWord.{TerminatorWord}
+use Rattle.ir_reader.specs.declared.word.TerminatorWord.TheVariants as finish
 use Rattle.ir_reader.specs.declared.word.LineStart.{LineStart}
 use Rattle.ir_reader.specs.declared.word.LineStart.TheVariants as start
 use Rattle.ir_reader.specs.declared.word.ParameterPart.{ParameterPart}
@@ -29,10 +31,13 @@ use Rattle.ir_reader.specs.declared.written.WrittenName.{WrittenName}
 use Rattle.ir_reader.specs.declared.written.WrittenType.{WrittenType}
 use Rattle.ir_reader.specs.declared.written.WrittenParameters.{WrittenParameters}
 use Rattle.ir_reader.specs.declared.written.WrittenLines.{WrittenLines}
-use Rattle.ir_reader.specs.Words.{is_word_of, is_mark_of, flag_text, prefix_of, prefix_named, is_linkage, is_visibility}
-use Rattle.ir_reader.specs.Classes.{passed, passed_at, as_word, as_mark, any, int_type, return_type, predicate_class, flag_word, brace, mark}
-use Rattle.ir_reader.specs.Instructions.{is_wrap, wraps, flagged_type, comparison, typed, binary, wrapping, exact, plain, disjunction, icmp, cast_by, truncate, zero_extend, sign_extend, select, freeze, inst_by, inst_named}
-use Rattle.ir_reader.specs.Grammar.{is_comma, is_prefix, prefixes, follows_parameter, with_part, parameter_parts, first_parameter, parameters, follows_header, comdat_rest, debug_rest, with_header, header_parts, attachment, record_rest, starts_line, with_line, lines, returned_by, returned, attachments, ending, define}
+use Rattle.ir_reader.specs.declared.written.WrittenLine.{WrittenLine}
+use Rattle.ir_reader.specs.declared.written.WrittenLine.TheVariants as line
+use Rattle.ir_reader.specs.declared.written.WrittenPhi.{WrittenPhi}
+use Rattle.ir_reader.specs.Words.{is_word_of, is_mark_of, terminator_of, flag_text, prefix_of, prefix_named, is_linkage, is_visibility}
+use Rattle.ir_reader.specs.Classes.{passed, passed_at, as_word, as_mark, int_type, return_type, terminator_word, brace}
+use Rattle.ir_reader.specs.Instructions.{is_wrap, wraps, flagged_type, comparison, typed, binary, wrapping, exact, plain, disjunction, icmp, cast_by, truncate, zero_extend, sign_extend, select, freeze, inst_by, entry, phi, next_entry, phi_number, entry_or_attachment, inst_line, line_by, line_named}
+use Rattle.ir_reader.specs.Grammar.{is_comma, is_prefix, prefixes, follows_parameter, with_part, parameter_parts, first_parameter, parameters, follows_header, comdat_rest, debug_rest, with_header, header_parts, attachment, record_rest, starts_line, started, commas, with_comma, whole_line, next_line, lines, returned_by, returned, target, cond_branch, branch_to, branch, is_type, with_case, cases, switch, return_of, terminator_by, attachments, block, begins_block, entry_block, next_block, blocks, define}
 
 bytes-same : (xs ys : List ℕ) → bytes_eq xs ys ≡ true → xs ≡ ys
 bytes-same xs ys e = (bytes_eq-Decides xs ys).0 e
@@ -122,9 +127,26 @@ tells-inst name opcode.SignExtend = (tt, λ a. tells-cast name _ _)
 tells-inst name opcode.Select = (tt, λ a. (tt, λ b. (tt, λ c. (tells-typed false, λ d. (tt, λ e. (tells-typed false, λ f. tt))))))
 tells-inst name opcode.Freeze = (tells-typed true, λ a. tt)
 
-tells-named : (name : WrittenName) → TellsApart (inst_named name)
-unfolding inst_named
-tells-named name = (tt, λ a. (tt, λ o. tells-inst name o))
+tells-entry : (type : WrittenType) → TellsApart (entry type)
+unfolding entry
+tells-entry type = (tt, λ a. (tt, λ b. (tt, λ c. (tt, λ d. tt))))
+
+tells-phi : (name : WrittenName) → TellsApart (phi name)
+unfolding phi
+tells-phi name = (tt, λ a. (tt, λ b. (tells-entry a, λ c. tt)))
+
+tells-behind-entry : (p : WrittenPhi) → TellsApart (entry_or_attachment p)
+unfolding entry_or_attachment next_entry phi_number
+tells-behind-entry p = (apart-spelled kind.Mark (codes "[") _ _ (λ t e. only-mark (codes "[") t (of-passed _ e)) (λ t. refl), (λ a. (tells-entry p.of_type, λ b. tt)), λ a. (tt, λ b. tt))
+
+tells-line-by : (name : WrittenName) (w : LineWord) → TellsApart (line_by name w)
+unfolding inst_line
+tells-line-by name word_of.Phi = tells-phi name
+tells-line-by name (word_of.Inst o) = (tells-inst name o, λ a. tt)
+
+tells-named : (phi_too : Bool) (name : WrittenName) → TellsApart (line_named phi_too name)
+unfolding line_named
+tells-named phi_too name = (tt, λ a. (tt, λ w. tells-line-by name w))
 
 -- ---- the header
 
@@ -216,27 +238,104 @@ tells-record : TellsApart record_rest
 unfolding record_rest
 tells-record = (tt, λ a. tt)
 
-tells-line : (s : WrittenLines) (a : LineStart) → TellsApart (with_line s a)
-tells-line s (start.Label name) = tt
-tells-line s (start.Inst name) = (tells-named name, λ a. tt)
-tells-line s start.Attachment = (tells-attachment, λ a. tt)
-tells-line s start.Record = (tells-record, λ a. tt)
+tells-started : (phi_too : Bool) (a : LineStart) → TellsApart (started phi_too a)
+tells-started phi_too (start.Label name) = tt
+tells-started phi_too (start.Inst name) = tells-named phi_too name
+tells-started phi_too start.Record = (tells-record, λ a. tt)
 
-tells-lines : TellsApart lines
-unfolding lines
-tells-lines = (tt, (λ s. apart-never _), (λ s. apart-never _), tells-line)
+tells-comma : (l : WrittenLine) → TellsApart (with_comma l)
+tells-comma (line.Label name) = tt
+tells-comma line.Record = tt
+tells-comma (line.Entries p) = tells-behind-entry p
+tells-comma (line.Phi p) = (tells-attachment, λ a. tt)
+tells-comma (line.Inst inst) = (tells-attachment, λ a. tt)
+
+tells-whole : (s : WrittenLines) (a : LineStart) → TellsApart (whole_line s a)
+unfolding whole_line
+tells-whole s a = (tells-started _ a, (λ l. apart-never _), (λ l. apart-never _), λ l comma. tells-comma l)
+
+-- a comma begins nothing that isn't spelled as one
+apart-comma : {A : Type 0} (stands : Lexeme → Option A) → ((t : Lexeme) → stands (record t { kind = kind.Mark; text = codes "," }) ≡ None) → AreApart is_comma stands
+apart-comma stands differs = apart-spelled kind.Mark (codes ",") is_comma stands (only-mark (codes ",")) differs
+
+-- what may go on with a line, or with the last instruction of a block
+apart-commas : {A : Type 0} (stands : Lexeme → Option A) → ((t : Lexeme) → stands (record t { kind = kind.Mark; text = codes "," }) ≡ None) → AreApart commas stands
+apart-commas stands differs = apart-tail is_comma stands (apart-comma stands differs)
+
+apart-behind : {A : Type 0} (stands : Lexeme → Option A) → ((t : Lexeme) → stands (record t { kind = kind.Mark; text = codes "," }) ≡ None) → AreApart (either commas never) stands
+apart-behind stands differs = apart-either commas never stands (apart-commas stands differs) (apart-never stands)
+
+apart-block : {A : Type 0} (stands : Lexeme → Option A) → ((t : Lexeme) → stands (record t { kind = kind.Mark; text = codes "," }) ≡ None) → AreApart (either (either commas never) never) stands
+apart-block stands differs = apart-either (either commas never) never stands (apart-behind stands differs) (apart-never stands)
+
+tells-lines : (is_new : Bool) (room : ℕ) → TellsApart (lines is_new room)
+unfolding lines next_line
+tells-lines is_new room = (tt, (λ s. apart-never _), (λ s. apart-behind _ (λ t. refl)), λ s a. tells-whole s a)
+
+-- no word begins a line
+no-terminator : (room : Bool) → AreApart starts_line (terminator_word room).stands
+no-terminator room t e = go t.kind refl e
+  where
+    go : (k : Kind) → t.kind ≡ k → starts_line (record t { kind = k; text = t.text }) ≡ true → terminator_of t.kind t.text ≡ None
+    go kind.Word is e' = absurd (cc e')
+    go k is e' = subst (λ (k' : Kind). terminator_of k' t.text ≡ None) (sym is) refl
 
 tells-returned : (width : Option Width) (at : Place) → TellsApart (returned_by width at)
 tells-returned None at = tt
 tells-returned (Some width) at = (tt, λ a. tt)
 
+tells-target : TellsApart target
+unfolding target
+tells-target = (tt, λ a. tt)
+
+tells-cond : (bit : Place) → TellsApart (cond_branch bit)
+unfolding cond_branch
+tells-cond bit = (tt, λ a. (tt, λ b. (tells-target, λ c. (tt, λ d. (tells-target, λ e. tt)))))
+
+tells-branch : TellsApart branch
+unfolding branch branch_to
+tells-branch = (apart-spelled kind.Word (codes "label") _ _ (λ t e. only-word (codes "label") t (of-passed _ e)) (λ t. refl), (λ a. (tt, λ b. tt)), tells-cond)
+
+tells-cases : TellsApart cases
+unfolding cases with_case
+tells-cases = (tt, (λ s. apart-never _), (λ s. apart-never _), λ s a. (tt, λ b. (tt, λ c. (tells-target, λ d. tt))))
+
+tells-switch : TellsApart switch
+unfolding switch
+tells-switch = (tt, λ a. (tt, λ b. (tt, λ c. (tells-target, λ d. (tt, λ e. ((tells-cases, λ s. apart-tail is_type _ (apart-from-mark (codes "]") is_type (λ t. refl))), λ f. tt))))))
+
+tells-terminator : (w : TerminatorWord) → TellsApart (terminator_by w)
+unfolding return_of returned
+tells-terminator finish.Return = ((tt, λ a. tells-returned _ _), λ b. tt)
+tells-terminator finish.Branch = tells-branch
+tells-terminator finish.Switch = tells-switch
+tells-terminator finish.Unreachable = tt
+
 tells-attachments : TellsApart attachments
 unfolding attachments
 tells-attachments = (tt, (λ s. apart-never _), (λ s. apart-never _), λ s a. tells-attachment)
 
-tells-ending : TellsApart ending
-unfolding ending returned
-tells-ending = ((tt, λ a. tells-returned _ _), λ v. ((tells-attachments, λ a. apart-tail is_comma _ (apart-from-mark (codes "}") is_comma (λ t. refl))), λ b. tt))
+-- ---- blocks
+
+no-end-of-lines : (room : Bool) → AreApart (either never (either starts_line (either commas never))) (terminator_word room).stands
+no-end-of-lines room =
+    apart-either never (either starts_line (either commas never)) _ (apart-never _) (apart-either starts_line (either commas never) _ (no-terminator room) (apart-behind _ (λ t. refl)))
+
+tells-block : (is_new : Bool) (room : ℕ) → TellsApart (block is_new room)
+unfolding block
+tells-block is_new room = ((tells-lines is_new room, λ s. no-end-of-lines (nat_lt 0 s.room)), λ all. (tells-terminator all.1, λ last. tells-attachments))
+
+tells-blocks : TellsApart blocks
+unfolding blocks entry_block next_block
+tells-blocks = (tells-block true _, (λ s. apart-block _ (λ t. refl)), (λ s. apart-block _ (λ t. refl)), λ s name. tells-block false s.room)
+
+no-label : AreApart begins_block (as_mark (codes "}"))
+no-label = apart-from-mark (codes "}") begins_block (λ t. refl)
+
+no-end-of-blocks : AreApart (either (either (either commas never) never) (either begins_block (either (either commas never) never))) (as_mark (codes "}"))
+no-end-of-blocks =
+    let behind : AreApart (either (either commas never) never) (as_mark (codes "}")) = apart-block _ (λ t. refl) in
+    apart-either (either (either commas never) never) (either begins_block (either (either commas never) never)) _ behind (apart-either begins_block (either (either commas never) never) _ no-label behind)
 
 tells-define : TellsApart define
 unfolding define
@@ -252,8 +351,7 @@ tells-define = (
           tells-parameters,
           λ all. (
             (tells-headers, λ a. apart-tail follows_header _ no-brace),
-            λ body.
-                ((tells-lines, λ a. apart-tail starts_line _ (apart-from-word (codes "ret") starts_line (λ t. refl))), λ block. (tells-ending, λ value. tt)),
+            λ body. ((tells-blocks, λ b. no-end-of-blocks), λ closed. tt),
           ),
         ),
       ),

@@ -10,8 +10,11 @@ use Rattle.ir_tree.specs.declared.tree.Op.TheVariants as op
 use Rattle.ir_tree.specs.declared.tree.Predicate.{Predicate}
 use Rattle.ir_tree.specs.declared.tree.Predicate.TheVariants as predicate
 use Rattle.ir_forms.specs.Form.{Class}
-use Rattle.ir_reader.specs.declared.word.Opcode.{Opcode}
 use Rattle.ir_reader.specs.declared.word.Opcode.TheVariants as opcode
+use Rattle.ir_reader.specs.declared.word.LineWord.{LineWord}
+use Rattle.ir_reader.specs.declared.word.LineWord.TheVariants as line
+use Rattle.ir_reader.specs.declared.word.TerminatorWord.{TerminatorWord}
+use Rattle.ir_reader.specs.declared.word.TerminatorWord.TheVariants as finish
 use Rattle.ir_reader.specs.declared.word.Flag.{Flag}
 use Rattle.ir_reader.specs.declared.word.Flag.TheVariants as flag
 use Rattle.ir_reader.specs.declared.written.WrittenName.{WrittenName}
@@ -19,11 +22,11 @@ use Rattle.ir_reader.specs.declared.written.WrittenType.{WrittenType}
 use Rattle.ir_reader.specs.declared.written.WrittenReturnType.{WrittenReturnType}
 use Rattle.ir_reader.specs.declared.written.WrittenOperand.{WrittenOperand}
 use Rattle.ir_reader.specs.declared.written.WrittenValue.TheVariants as value
-use Rattle.ir_tree.specs.Types.{one_bit}
-use Rattle.ir_reader.specs.Numbers.{width_of}
+use Rattle.ir_reader.specs.declared.written.WrittenLiteral.{WrittenLiteral}
+use Rattle.ir_reader.specs.Numbers.{width_of, is_negative, magnitude, wrapped}
 use Rattle.ir_reader.specs.Reasons.{reason, type_reason}
-use Rattle.ir_reader.specs.Words.{is_word_of, is_mark_of, opcode_of, predicate_of, flag_text}
-use Rattle.ir_reader.specs.Spelling.{local_of, global_of, named_at, width_in, width_or_one, typed_at, is_width, bit_at, bit_reason, is_void, return_type_of, value_in, operand_at, fits_bits, is_attached, is_numbered, is_metadata_of, is_comdat_kind}
+use Rattle.ir_reader.specs.Words.{is_word_of, is_mark_of, line_word_of, terminator_of, predicate_of, flag_text}
+use Rattle.ir_reader.specs.Spelling.{local_of, global_of, named_at, width_in, width_or_one, typed_at, is_width, bit_at, bit_reason, is_void, return_type_of, value_in, operand_at, literal_value, literal_at, fits_bits, is_attached, is_numbered, is_metadata_of, is_comdat_kind}
 
 -- where a text begins
 abbrev pub start : Place
@@ -57,9 +60,13 @@ word text fits = record { stands = as_word text; within = any; reason = reason; 
 abbrev pub mark : (text : List ℕ) → passed (is_mark_of kind.Mark text text) ≡ Some tt → Class (Unit {0})
 mark text fits = record { stands = as_mark text; within = any; reason = reason; sample = token kind.Mark text; value = tt; fits = fits }
 
--- a word, where there is room for what it begins
-abbrev pub counted_word : (text : List ℕ) → Bool → passed (is_word_of kind.Word text text) ≡ Some tt → Class (Unit {0})
-counted_word text room fits = record { stands = as_word text; within = λ t. room; reason = reason; sample = token kind.Word text; value = tt; fits = fits }
+-- a mark, where there is room for what it begins
+abbrev pub counted_mark : (text : List ℕ) → Bool → passed (is_mark_of kind.Mark text text) ≡ Some tt → Class (Unit {0})
+counted_mark text room fits = record { stands = as_mark text; within = λ t. room; reason = reason; sample = token kind.Mark text; value = tt; fits = fits }
+
+-- the mark that closes what stands where a type could
+abbrev pub mark_or_type : (text : List ℕ) → passed (is_mark_of kind.Mark text text) ≡ Some tt → Class (Unit {0})
+mark_or_type text fits = record { stands = as_mark text; within = any; reason = type_reason; sample = token kind.Mark text; value = tt; fits = fits }
 
 -- the place of the mark that opens a body
 abbrev pub brace : Class Place
@@ -100,11 +107,23 @@ return_type = record { stands = return_type_of; within = λ t. is_void t || is_w
 abbrev pub operand_class : Bool → Width → Class WrittenOperand
 operand_class undef_too w = record { stands = λ t. operand_at (value_in undef_too w.bits t.kind t.text) t.place; within = λ t. fits_bits w.bits t.kind t.text; reason = reason; sample = token kind.Local (codes "%a"); value = record { value = value.Local (name.Word (codes "a")); at = start }; fits = refl }
 
+-- a literal of a type
+abbrev pub literal_class : Width → Class WrittenLiteral
+literal_class w = record { stands = λ t. literal_at (literal_value w.bits t.kind t.text) t.place; within = λ t. fits_bits w.bits t.kind t.text; reason = reason; sample = token kind.Number (codes "0"); value = record { value = wrapped w.bits (is_negative (codes "0")) (magnitude (codes "0")); at = start }; fits = refl }
+
 -- ---- words
 
--- the word that names an instruction
-abbrev pub opcode_class : Class Opcode
-opcode_class = record { stands = λ t. opcode_of t.kind t.text; within = any; reason = reason; sample = token kind.Word (codes "and"); value = opcode.Plain op.And; fits = refl }
+abbrev pub line_word_fits : (phi_too : Bool) → line_word_of phi_too kind.Word (codes "and") ≡ Some (line.Inst (opcode.Plain op.And))
+line_word_fits true = refl
+line_word_fits false = refl
+
+-- the word that names an instruction behind its result, a phi only where one may stand
+abbrev pub line_word : Bool → Class LineWord
+line_word phi_too = record { stands = λ t. line_word_of phi_too t.kind t.text; within = any; reason = reason; sample = token kind.Word (codes "and"); value = line.Inst (opcode.Plain op.And); fits = line_word_fits phi_too }
+
+-- the word that names the last instruction of a block, where there is room for it
+abbrev pub terminator_word : Bool → Class TerminatorWord
+terminator_word room = record { stands = λ t. terminator_of t.kind t.text; within = λ t. room; reason = reason; sample = token kind.Word (codes "ret"); value = finish.Return; fits = refl }
 
 -- the word that names a comparison
 abbrev pub predicate_class : Class Predicate

@@ -1,6 +1,5 @@
 -- Which tokens spell an instruction (LLVM Language Reference, "Instruction Reference").
-use Rattle.std.specs.Prelude.{refl, ℕ, List, [], Option, Some, None, Bool, true, false, ◌||◌, codes}
-use Rattle.text_places.specs.declared.place.Place.{Place}
+use Rattle.std.specs.Prelude.{refl, ℕ, [], ◌∷◌, ◌++◌, length, Option, Bool, true, false, ◌||◌, nat_lt, codes}
 use Rattle.ir_lexer.specs.Lexeme.{Lexeme}
 use Rattle.ir_tree.specs.Types.{one_bit}
 use Rattle.ir_tree.specs.declared.tree.Flags.{Flags}
@@ -14,6 +13,8 @@ use Rattle.ir_reader.specs.declared.word.WrapWord.{WrapWord}
 use Rattle.ir_reader.specs.declared.word.ExactWord.{ExactWord}
 use Rattle.ir_reader.specs.declared.word.Opcode.{Opcode}
 use Rattle.ir_reader.specs.declared.word.Opcode.TheVariants as opcode
+use Rattle.ir_reader.specs.declared.word.LineWord.{LineWord}
+use Rattle.ir_reader.specs.declared.word.LineWord.TheVariants as word_of
 use Rattle.ir_reader.specs.declared.word.Flag.{Flag}
 use Rattle.ir_reader.specs.declared.word.Flag.TheVariants as flag
 use Rattle.ir_reader.specs.declared.written.WrittenName.{WrittenName}
@@ -21,9 +22,13 @@ use Rattle.ir_reader.specs.declared.written.WrittenType.{WrittenType}
 use Rattle.ir_reader.specs.declared.written.WrittenTyped.{WrittenTyped}
 use Rattle.ir_reader.specs.declared.written.WrittenInst.{WrittenInst}
 use Rattle.ir_reader.specs.declared.written.WrittenInst.TheVariants as inst
+use Rattle.ir_reader.specs.declared.written.WrittenEntry.{WrittenEntry}
+use Rattle.ir_reader.specs.declared.written.WrittenPhi.{WrittenPhi}
+use Rattle.ir_reader.specs.declared.written.WrittenLine.{WrittenLine}
+use Rattle.ir_reader.specs.declared.written.WrittenLine.TheVariants as line
 use Rattle.ir_reader.specs.Words.{is_word_of, no_flags, wrapping_op, exact_op}
 use Rattle.ir_reader.specs.Spelling.{wrap_of}
-use Rattle.ir_reader.specs.Classes.{any, word, mark, int_type, bit_type, operand_class, opcode_class, predicate_class, flag_word}
+use Rattle.ir_reader.specs.Classes.{any, word, mark, counted_mark, local, int_type, bit_type, operand_class, line_word, predicate_class, flag_word, attachment_word, metadata_number}
 
 -- ---- flags
 
@@ -153,9 +158,62 @@ inst_by name opcode.SignExtend = sign_extend name
 inst_by name opcode.Select = select name
 inst_by name opcode.Freeze = freeze name
 
--- behind the name: = and the instruction
-unfoldable pub inst_named : WrittenName → Form never WrittenInst
-inst_named name = do
+-- ---- phis
+
+-- how many entries a phi may have
+abbrev pub most_entries : ℕ
+most_entries = 16777216
+
+-- value, %block ], behind the opening mark
+unfoldable pub entry : WrittenType → Form never WrittenEntry
+entry type = do
+  value ← one (operand_class false type.width)
+  comma ← one (mark (codes ",") refl)
+  from ← one local
+  closing ← one (mark (codes "]") refl)
+  give (record { operand = value; from = from })
+
+-- type [ value, %block ], the first entry
+unfoldable pub phi : WrittenName → Form never WrittenLine
+phi name = do
+  type ← one int_type
+  opening ← one (mark (codes "[") refl)
+  first ← entry type
+  give (line.Entries (record { into = name; of_type = type; entries = first ∷ [] }))
+
+abbrev pub with_entry : WrittenPhi → WrittenEntry → WrittenPhi
+with_entry phi entry = record { into = phi.into; of_type = phi.of_type; entries = phi.entries ++ entry ∷ [] }
+
+-- behind a comma: the entry whose opening mark was read, counted at that mark
+unfoldable pub next_entry : WrittenPhi → Form never WrittenLine
+next_entry phi = do
+  more ← entry phi.of_type
+  give (line.Entries (with_entry phi more))
+
+-- !number, which ends the entries of a phi
+unfoldable pub phi_number : WrittenPhi → Form never WrittenLine
+phi_number phi = do
+  number ← one metadata_number
+  give (line.Phi phi)
+
+-- behind a comma: another entry, or an attachment
+unfoldable pub entry_or_attachment : WrittenPhi → Form never WrittenLine
+entry_or_attachment phi = peek (counted_mark (codes "[") (nat_lt (length phi.entries) most_entries) refl) (λ opening. next_entry phi) attachment_word (λ kind_word. phi_number phi)
+
+-- ---- any instruction with a result
+
+unfoldable pub inst_line : WrittenName → Opcode → Form never WrittenLine
+inst_line name o = do
+  i ← inst_by name o
+  give (line.Inst i)
+
+abbrev pub line_by : WrittenName → LineWord → Form never WrittenLine
+line_by name word_of.Phi = phi name
+line_by name (word_of.Inst o) = inst_line name o
+
+-- behind the name: = and the instruction, which may be a phi where one may stand
+unfoldable pub line_named : Bool → WrittenName → Form never WrittenLine
+line_named phi_too name = do
   equals ← one (mark (codes "=") refl)
-  o ← one opcode_class
-  inst_by name o
+  w ← one (line_word phi_too)
+  line_by name w

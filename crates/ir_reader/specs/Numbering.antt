@@ -13,20 +13,28 @@ use Rattle.ir_tree.specs.declared.tree.Cast.{Cast}
 use Rattle.ir_tree.specs.declared.tree.Predicate.{Predicate}
 use Rattle.ir_tree.specs.declared.tree.Inst.{Inst}
 use Rattle.ir_tree.specs.declared.tree.Inst.TheVariants as inst
+use Rattle.ir_tree.specs.declared.tree.PhiEntry.{PhiEntry}
+use Rattle.ir_tree.specs.declared.tree.Phi.{Phi}
+use Rattle.ir_tree.specs.declared.tree.Case.{Case}
 use Rattle.ir_tree.specs.declared.tree.Terminator.{Terminator}
-use Rattle.ir_tree.specs.declared.tree.Terminator.TheVariants.{Return}
+use Rattle.ir_tree.specs.declared.tree.Terminator.TheVariants.{Return, Branch, CondBranch, Switch, Unreachable}
 use Rattle.ir_tree.specs.declared.tree.Block.{Block}
 use Rattle.ir_tree.specs.declared.tree.Parameter.{Parameter}
 use Rattle.ir_tree.specs.declared.tree.Function.{Function}
 use Rattle.ir_reader.specs.declared.written.WrittenName.{WrittenName}
-use Rattle.ir_reader.specs.declared.written.WrittenType.{WrittenType}
 use Rattle.ir_reader.specs.declared.written.WrittenValue.{WrittenValue}
 use Rattle.ir_reader.specs.declared.written.WrittenValue.TheVariants as written
-use Rattle.ir_reader.specs.declared.written.WrittenOperand.{WrittenOperand}
 use Rattle.ir_reader.specs.declared.written.WrittenTyped.{WrittenTyped}
 use Rattle.ir_reader.specs.declared.written.WrittenParameter.{WrittenParameter}
 use Rattle.ir_reader.specs.declared.written.WrittenInst.{WrittenInst}
 use Rattle.ir_reader.specs.declared.written.WrittenInst.TheVariants as line
+use Rattle.ir_reader.specs.declared.written.WrittenEntry.{WrittenEntry}
+use Rattle.ir_reader.specs.declared.written.WrittenPhi.{WrittenPhi}
+use Rattle.ir_reader.specs.declared.written.WrittenCase.{WrittenCase}
+use Rattle.ir_reader.specs.declared.written.WrittenTerminator.{WrittenTerminator}
+use Rattle.ir_reader.specs.declared.written.WrittenTerminator.TheVariants as end
+use Rattle.ir_reader.specs.declared.written.WrittenBody.{WrittenBody}
+use Rattle.ir_reader.specs.declared.written.WrittenBlock.{WrittenBlock}
 use Rattle.ir_reader.specs.declared.written.WrittenReturn.{WrittenReturn}
 use Rattle.ir_reader.specs.declared.written.WrittenReturn.TheVariants.{Void, Value}
 use Rattle.ir_reader.specs.declared.written.WrittenFunction.{WrittenFunction}
@@ -111,28 +119,70 @@ abbrev pub each_in : {A B : Type 0} → (List Name → A → Numbered B) → Lis
 each_in one names [] = so [] names
 each_in one names (a ∷ more_items) = one names a >>= λ first before. each_in one before more_items >>= λ others after. so (first ∷ others) after
 
--- the one block of a function, behind its label
-unfoldable pub block_in : List Name → Name → List WrittenInst → WrittenReturn → Numbered Block
-block_in names label insts returned =
-    number_in names label >>= λ number before. each_in inst_in before insts >>= λ all between. returned_in between returned >>= λ last after.
-    so (record { label = number; insts = all; terminator = last }) after
+-- ---- blocks
 
-unfoldable pub parts_in : List NamedParameter → Name → List WrittenInst → WrittenReturn → Numbered (List Parameter × Block)
-parts_in named_parameters label insts returned =
-    each_in parameter_in [] named_parameters >>= λ ps before. block_in before label insts returned >>= λ block after. so (ps, block) after
+-- an operand, and then the label of the block that it comes from
+unfoldable pub entry_in : List Name → WrittenEntry → Numbered PhiEntry
+entry_in names e = value_in names e.operand.value >>= λ o before. number_in before e.from.name >>= λ label after. so (record { operand = o; from = label }) after
+
+unfoldable pub phi_in : List Name → WrittenPhi → Numbered Phi
+phi_in names phi =
+    number_in names phi.into.name >>= λ result before. each_in entry_in before phi.entries >>= λ all after. so (record { into = result; of_type = Int phi.of_type.width; entries = all }) after
+
+unfoldable pub case_in : List Name → WrittenCase → Numbered Case
+case_in names c = number_in names c.to.name >>= λ label after. so (record { width = c.of_type.width; value = c.literal.value; to = label }) after
+
+unfoldable pub branch_in : List Name → Name → Numbered Terminator
+branch_in names to = number_in names to >>= λ label after. so (Branch label) after
+
+unfoldable pub cond_branch_in : List Name → WrittenValue → Name → Name → Numbered Terminator
+cond_branch_in names condition if_true if_false =
+    value_in names condition >>= λ c before. number_in before if_true >>= λ first between. number_in between if_false >>= λ second after. so (CondBranch c first second) after
+
+unfoldable pub switch_in : List Name → Width → WrittenValue → Name → List WrittenCase → Numbered Terminator
+switch_in names width value default cases =
+    value_in names value >>= λ o before. number_in before default >>= λ label between. each_in case_in between cases >>= λ all after. so (Switch width o label all) after
+
+abbrev pub terminator_in : List Name → WrittenTerminator → Numbered Terminator
+terminator_in names (end.Return returned) = returned_in names returned
+terminator_in names (end.Branch to) = branch_in names to.name
+terminator_in names (end.CondBranch bit condition if_true if_false) = cond_branch_in names condition.value if_true.name if_false.name
+terminator_in names (end.Switch type value default cases) = switch_in names type.width value.value default.name cases
+terminator_in names end.Unreachable = so Unreachable names
+
+-- what stands behind a label
+unfoldable pub block_in : List Name → Name → WrittenBody → Numbered Block
+block_in names label b =
+    number_in names label >>= λ number before. each_in phi_in before b.phis >>= λ phis between. each_in inst_in between b.insts >>= λ insts behind. terminator_in behind b.terminator >>= λ last after.
+    so (record { label = number; phis = phis; insts = insts; terminator = last }) after
+
+abbrev pub labelled_in : List Name → WrittenBlock → Numbered Block
+labelled_in names b = block_in names b.label.name b.body
+
+-- this block, and the others behind it
+abbrev pub others_in : Block → List Name → List WrittenBlock → Numbered (List Block)
+others_in first names others = each_in labelled_in names others >>= λ more_blocks after. so (first ∷ more_blocks) after
+
+-- the entry, behind its label, and the other blocks
+unfoldable pub blocks_in : List Name → Name → WrittenBody → List WrittenBlock → Numbered (List Block)
+blocks_in names label entry others = block_in names label entry >>= λ first before. others_in first before others
+
+unfoldable pub parts_in : List NamedParameter → Name → WrittenBody → List WrittenBlock → Numbered (List Parameter × List Block)
+parts_in named_parameters label entry others =
+    each_in parameter_in [] named_parameters >>= λ ps before. blocks_in before label entry others >>= λ all after. so (ps, all) after
 
 -- nothing for void
 abbrev pub type_or_void : Option Width → Option IrType
 type_or_void None = None
 type_or_void (Some width) = Some (Int width)
 
-abbrev pub function_of : WrittenFunction → Numbered (List Parameter × Block) → Function
+abbrev pub function_of : WrittenFunction → Numbered (List Parameter × List Block) → Function
 function_of w (so parts names) = record {
   name = w.name.name;
   returns = type_or_void w.returns.width;
   returns_no_undef = w.returns_no_undef;
   parameters = parts.0;
-  blocks = parts.1 ∷ [];
+  blocks = parts.1;
   names = names;
   places = places_of w;
 }
@@ -142,4 +192,4 @@ abbrev pub entry_name : WrittenFunction → Name
 entry_name w = name_or w.label (next_name (names_of (named_behind [] w.parameters)))
 
 unfoldable pub numbered : WrittenFunction → Function
-numbered w = function_of w (parts_in (named_behind [] w.parameters) (entry_name w) w.insts w.returned)
+numbered w = function_of w (parts_in (named_behind [] w.parameters) (entry_name w) w.entry w.others)

@@ -19,15 +19,14 @@ use Rattle.ir_reader.specs.declared.written.WrittenReturnType.{WrittenReturnType
 use Rattle.ir_reader.specs.declared.written.WrittenValue.{WrittenValue}
 use Rattle.ir_reader.specs.declared.written.WrittenValue.TheVariants as value
 use Rattle.ir_reader.specs.declared.written.WrittenOperand.{WrittenOperand}
-use Rattle.ir_reader.specs.declared.written.LinePhase.{LinePhase}
-use Rattle.ir_reader.specs.declared.written.LinePhase.TheVariants as phase
+use Rattle.ir_reader.specs.declared.written.WrittenLiteral.{WrittenLiteral}
 use Rattle.ir_reader.specs.declared.word.LineStart.{LineStart}
 use Rattle.ir_reader.specs.declared.word.LineStart.TheVariants as start
 use Rattle.ir_reader.specs.declared.word.ParameterPart.{ParameterPart}
 use Rattle.ir_reader.specs.declared.word.ParameterPart.TheVariants as part
 use Rattle.ir_reader.specs.declared.word.HeaderPart.{HeaderPart}
 use Rattle.ir_reader.specs.declared.word.HeaderPart.TheVariants as header
-use Rattle.ir_reader.specs.Words.{is_word_of, is_mark_of}
+use Rattle.ir_reader.specs.Words.{is_word_of}
 use Rattle.ir_reader.specs.Reasons.{type_reason}
 use Rattle.ir_reader.specs.Numbers.{value_of, width_of, is_negative, magnitude, in_range, wrapped}
 
@@ -115,6 +114,20 @@ word_value undef_too bits text =
     else (if bits == 1 && bytes_eq text (codes "false") then Some (value.Literal 0)
     else (if undef_too && bytes_eq text (codes "undef") then Some value.Undef else None))))
 
+-- a truth value of one bit
+abbrev pub truth_value : ℕ → List ℕ → Option ℕ
+truth_value bits text = (if bits == 1 && bytes_eq text (codes "true") then Some 1 else (if bits == 1 && bytes_eq text (codes "false") then Some 0 else None))
+
+-- a literal, wrapped to so many bits, or a truth value
+abbrev pub literal_value : ℕ → Kind → List ℕ → Option ℕ
+literal_value bits kind.Number text = Some (wrapped bits (is_negative text) (magnitude text))
+literal_value bits kind.Word text = truth_value bits text
+literal_value bits _ text = None
+
+abbrev pub literal_at : Option ℕ → Place → Option WrittenLiteral
+literal_at None at = None
+literal_at (Some n) at = Some (record { value = n; at = at })
+
 -- a local name, a literal, wrapped to so many bits, or a word
 abbrev pub value_in : Bool → ℕ → Kind → List ℕ → Option WrittenValue
 value_in undef_too bits kind.Local text = local_value (name_in kind.Local text)
@@ -197,7 +210,11 @@ abbrev pub is_comdat_kind : Kind → Bool
 is_comdat_kind kind.Comdat = true
 is_comdat_kind _ = false
 
--- ---- what begins a line of a block
+-- ---- what begins a block or a line
+
+abbrev pub label_of : Kind → List ℕ → Option Name
+label_of kind.Label text = name_in kind.Label text
+label_of _ text = None
 
 abbrev pub label_line : Option WrittenName → Option LineStart
 label_line None = None
@@ -207,15 +224,6 @@ abbrev pub inst_line : Option WrittenName → Option LineStart
 inst_line None = None
 inst_line (Some name) = Some (start.Inst name)
 
--- a label where nothing stands before, the name of an instruction's result, a comma behind an instruction, or a record
-abbrev pub label_start : LinePhase → Option WrittenName → Option LineStart
-label_start phase.Start name = label_line name
-label_start _ name = None
-
-abbrev pub comma_start : LinePhase → List ℕ → Option LineStart
-comma_start phase.Behind text = (if bytes_eq text (codes ",") then Some start.Attachment else None)
-comma_start _ text = None
-
 -- #dbg_ and maybe more
 abbrev pub is_record : List ℕ → Bool
 is_record (a ∷ b ∷ c ∷ d ∷ e ∷ more_bytes) = a == 35 && b == 100 && c == 98 && d == 103 && e == 95
@@ -224,9 +232,9 @@ is_record _ = false
 abbrev pub record_start : List ℕ → Option LineStart
 record_start text = (if is_record text then Some start.Record else None)
 
-abbrev pub line_start : LinePhase → Kind → List ℕ → Place → Option LineStart
-line_start p kind.Local text at = inst_line (named_at (name_in kind.Local text) at)
-line_start p kind.Label text at = label_start p (named_at (name_in kind.Label text) at)
-line_start p kind.Mark text at = comma_start p text
-line_start p kind.Hash text at = record_start text
-line_start p _ text at = None
+-- the name of an instruction's result, a label where nothing stands before, or a record
+abbrev pub line_start : Bool → Kind → List ℕ → Place → Option LineStart
+line_start is_new kind.Local text at = inst_line (named_at (name_in kind.Local text) at)
+line_start is_new kind.Label text at = (if is_new then label_line (named_at (name_in kind.Label text) at) else None)
+line_start is_new kind.Hash text at = record_start text
+line_start is_new _ text at = None

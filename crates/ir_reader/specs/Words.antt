@@ -1,5 +1,5 @@
 -- Which words name an instruction, a comparison, a flag, or stand in a header.
-use Rattle.std.specs.Prelude.{ℕ, List, Option, Some, None, Bool, true, false, ◌||◌, if◌then◌else◌, codes}
+use Rattle.std.specs.Prelude.{ℕ, List, Option, Some, None, Bool, true, false, ◌&&◌, ◌||◌, if◌then◌else◌, codes}
 use Rattle.std.specs.Str.{bytes_eq}
 use Rattle.ir_lexer.specs.declared.token.Kind.{Kind}
 use Rattle.ir_lexer.specs.declared.token.Kind.TheVariants as kind
@@ -14,6 +14,10 @@ use Rattle.ir_reader.specs.declared.word.ExactWord.{ExactWord}
 use Rattle.ir_reader.specs.declared.word.ExactWord.TheVariants as exact
 use Rattle.ir_reader.specs.declared.word.Opcode.{Opcode}
 use Rattle.ir_reader.specs.declared.word.Opcode.TheVariants as opcode
+use Rattle.ir_reader.specs.declared.word.LineWord.{LineWord}
+use Rattle.ir_reader.specs.declared.word.LineWord.TheVariants as line
+use Rattle.ir_reader.specs.declared.word.TerminatorWord.{TerminatorWord}
+use Rattle.ir_reader.specs.declared.word.TerminatorWord.TheVariants as finish
 use Rattle.ir_reader.specs.declared.word.Flag.{Flag}
 use Rattle.ir_reader.specs.declared.word.Flag.TheVariants as flag
 
@@ -69,6 +73,27 @@ opcode_named text = or_else (flagged_word text) (or_else (plain_word text) (or_e
 abbrev pub opcode_of : Kind → List ℕ → Option Opcode
 opcode_of kind.Word text = opcode_named text
 opcode_of _ text = None
+
+abbrev pub inst_word : Option Opcode → Option LineWord
+inst_word None = None
+inst_word (Some opcode) = Some (line.Inst opcode)
+
+-- the word of a phi, where one may stand, or of another instruction
+abbrev pub line_word_of : Bool → Kind → List ℕ → Option LineWord
+line_word_of phi_too k text = (if phi_too && is_word_of k text (codes "phi") then Some line.Phi else inst_word (opcode_of k text))
+
+-- ---- the last instruction of a block
+
+abbrev pub terminator_named : List ℕ → Option TerminatorWord
+terminator_named text =
+    (if bytes_eq text (codes "ret") then Some finish.Return
+    else (if bytes_eq text (codes "br") then Some finish.Branch
+    else (if bytes_eq text (codes "switch") then Some finish.Switch
+    else (if bytes_eq text (codes "unreachable") then Some finish.Unreachable else None))))
+
+abbrev pub terminator_of : Kind → List ℕ → Option TerminatorWord
+terminator_of kind.Word text = terminator_named text
+terminator_of _ text = None
 
 -- ---- operations with flags
 

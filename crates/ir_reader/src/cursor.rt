@@ -2,14 +2,16 @@
 ghost use Rattle.std.specs.Prelude.{◌≡◌, [], true, codes};
 ghost use Rattle.ir_forms.specs.Form.{one_of, token_of, begin_of, reads, read, balanced};
 ghost use Rattle.ir_forms.specs.Answer.{Reads, Passes};
-ghost use Rattle.ir_reader.specs.Reasons.{reason};
-ghost use Rattle.ir_reader.specs.Spelling.{bits_behind, spelled_width, width_in, word_value, is_void};
-ghost use Rattle.ir_reader.specs.Classes.{as_word, as_mark, any, passed, brace, local, global, int_type, counted_type, bit_type, return_type, operand_class, opcode_class, predicate_class};
+ghost use Rattle.ir_reader.specs.Reasons.{reason, type_reason};
+ghost use Rattle.ir_reader.specs.Spelling.{bits_behind, spelled_width, width_in, word_value, truth_value, is_void};
+ghost use Rattle.ir_reader.specs.Classes.{as_word, as_mark, any, passed, brace, local, global, int_type, counted_type, bit_type, return_type, operand_class, literal_class, line_word, terminator_word, predicate_class};
 
 use crate::numbers::{literal, some_digits, width};
 use crate::reasons::{reason_at, type_reason_at};
-use crate::word::{Opcode, opcode_of, predicate_of};
-use crate::written::{WrittenName, WrittenOperand, WrittenReturnType, WrittenType, WrittenValue};
+use crate::word::{LineWord, TerminatorWord, line_word_of, predicate_of, terminator_of};
+use crate::written::{
+    WrittenLiteral, WrittenName, WrittenOperand, WrittenReturnType, WrittenType, WrittenValue,
+};
 use ir_forms::{Bracket, ReadFault, pass_bracket};
 use ir_items::name_behind_sign;
 use ir_lexer::{Kind, Token};
@@ -77,24 +79,15 @@ impl<'a, 'b> Cursor<'a, 'b> {
     pub fn word(&mut self, text: &[u8]) -> Result<(), ReadFault>
         ensures { Passes result self.new (token_of true (as_word text.now) any reason self.old) }
     {
-        self.counted_word(text, true)
-    }
-
-    /// Passes a word, where there is room for what it begins.
-    pub fn counted_word(&mut self, text: &[u8], room: bool) -> Result<(), ReadFault>
-        ensures { Passes result self.new (token_of true (as_word text.now) (λ t. room) reason self.old) }
-    {
         let [first, rest @ ..] = self.rest else {
             return Err(ReadFault::Unfit(Reason::Syntax));
         };
-        if first.kind() != Kind::Word || first.text() != text {
-            return Err(ReadFault::Unfit(reason_at(first)));
+        if first.kind() == Kind::Word && first.text() == text {
+            self.rest = rest;
+            Ok(())
+        } else {
+            Err(ReadFault::Unfit(reason_at(first)))
         }
-        if !room {
-            return Err(ReadFault::PastLimit);
-        }
-        self.rest = rest;
-        Ok(())
     }
 
     /// Passes a mark.
@@ -109,6 +102,21 @@ impl<'a, 'b> Cursor<'a, 'b> {
             Ok(())
         } else {
             Err(ReadFault::Unfit(reason_at(first)))
+        }
+    }
+
+    /// Passes a mark where a type could stand.
+    pub fn mark_or_type(&mut self, text: &[u8]) -> Result<(), ReadFault>
+        ensures { Passes result self.new (token_of true (as_mark text.now) any type_reason self.old) }
+    {
+        let [first, rest @ ..] = self.rest else {
+            return Err(ReadFault::Unfit(Reason::Syntax));
+        };
+        if first.kind() == Kind::Mark && first.text() == text {
+            self.rest = rest;
+            Ok(())
+        } else {
+            Err(ReadFault::Unfit(type_reason_at(first)))
         }
     }
 
@@ -146,6 +154,23 @@ impl<'a, 'b> Cursor<'a, 'b> {
             return true;
         }
         false
+    }
+
+    /// Passes a mark, if it stands next, where there is room for what it begins.
+    pub fn eat_counted_mark(&mut self, text: &[u8], room: bool) -> Result<bool, ReadFault>
+        ensures { Reads passed result self.new (begin_of true any (as_mark text.now) (λ t. room) self.old) }
+    {
+        let [first, rest @ ..] = self.rest else {
+            return Ok(false);
+        };
+        if first.kind() != Kind::Mark || first.text() != text {
+            return Ok(false);
+        }
+        if !room {
+            return Err(ReadFault::PastLimit);
+        }
+        self.rest = rest;
+        Ok(true)
     }
 
     /// Passes a word, if it stands next.
@@ -289,18 +314,58 @@ impl<'a, 'b> Cursor<'a, 'b> {
         Ok(WrittenOperand { value, at })
     }
 
-    /// Reads the word that names an instruction.
-    pub fn opcode(&mut self) -> Result<Opcode, ReadFault>
-        ensures { Reads (λ x. x) result self.new (one_of true opcode_class self.old) }
+    /// Reads a literal of a type.
+    pub fn literal(&mut self, width: Width) -> Result<WrittenLiteral, ReadFault>
+        ensures { Reads (λ x. x) result self.new (one_of true (literal_class width) self.old) }
     {
         let [first, rest @ ..] = self.rest else {
             return Err(ReadFault::Unfit(Reason::Syntax));
         };
-        let Some(opcode) = opcode_of(first) else {
+        let value = match (first.kind(), first.text()) {
+            (Kind::Number, text) => match literal(width, text) {
+                Some(value) => value,
+                None => return Err(ReadFault::PastLimit),
+            },
+            (Kind::Word, text) => match truth_value(width, text) {
+                Some(value) => value,
+                None => return Err(ReadFault::Unfit(reason_at(first))),
+            },
+            _ => return Err(ReadFault::Unfit(reason_at(first))),
+        };
+        self.rest = rest;
+        let at = first.place();
+        Ok(WrittenLiteral { value, at })
+    }
+
+    /// Reads the word that names an instruction behind its result, a phi only where one may stand.
+    pub fn line_word(&mut self, phi_too: bool) -> Result<LineWord, ReadFault>
+        ensures { Reads (λ x. x) result self.new (one_of true (line_word phi_too) self.old) }
+    {
+        let [first, rest @ ..] = self.rest else {
+            return Err(ReadFault::Unfit(Reason::Syntax));
+        };
+        let Some(word) = line_word_of(first, phi_too) else {
             return Err(ReadFault::Unfit(reason_at(first)));
         };
         self.rest = rest;
-        Ok(opcode)
+        Ok(word)
+    }
+
+    /// Reads the word that names the last instruction of a block, where there is room for it.
+    pub fn terminator_word(&mut self, room: bool) -> Result<TerminatorWord, ReadFault>
+        ensures { Reads (λ x. x) result self.new (one_of true (terminator_word room) self.old) }
+    {
+        let [first, rest @ ..] = self.rest else {
+            return Err(ReadFault::Unfit(Reason::Syntax));
+        };
+        let Some(word) = terminator_of(first) else {
+            return Err(ReadFault::Unfit(reason_at(first)));
+        };
+        if !room {
+            return Err(ReadFault::PastLimit);
+        }
+        self.rest = rest;
+        Ok(word)
     }
 
     /// Reads the word that names a comparison.
@@ -315,6 +380,19 @@ impl<'a, 'b> Cursor<'a, 'b> {
         };
         self.rest = rest;
         Ok(predicate)
+    }
+}
+
+// The truth value that a word spells, where the type has one bit.
+fn truth_value(width: Width, text: &[u8]) -> Option<u64>
+    ensures { result ≡ truth_value width.bits text.now }
+{
+    if width.bits() == 1 && text == b"true".as_slice() {
+        Some(1)
+    } else if width.bits() == 1 && text == b"false".as_slice() {
+        Some(0)
+    } else {
+        None
     }
 }
 
@@ -352,7 +430,9 @@ fn width_behind(text: &[u8]) -> Option<Option<Width>>
     }
 }
 
-fn width_in(token: &Token) -> Option<Option<Width>>
+/// The width of the type that a token spells: nothing where it spells none, nothing inside where
+/// there is no such width.
+pub fn width_in(token: &Token) -> Option<Option<Width>>
     ensures { result ≡ width_in token.now }
 {
     match token.kind() {

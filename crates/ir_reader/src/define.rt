@@ -9,17 +9,13 @@ ghost use Rattle.ir_reader.specs.Grammar as spec;
 ghost use Rattle.ir_reader.specs.Grammar.{is_prefix, next_prefix, follows_header, header_begins, with_header};
 
 use crate::cursor::Cursor;
-use crate::lines::{MOST_INSTS, is_numbered};
+use crate::lines::is_numbered;
 use crate::reasons::reason_at;
 use crate::word::{HeaderPart, prefix_of};
-use crate::written::{
-    WrittenFunction, WrittenLines, WrittenReturn, WrittenReturnType, WrittenType, WrittenTyped,
-};
+use crate::written::WrittenFunction;
 use ir_forms::ReadFault;
 use ir_lexer::{Kind, Token};
 use ir_tree::Reason;
-use text_places::Place;
-use tv_num::Width;
 
 fn is_attribute(text: &[u8]) -> bool
     ensures { result ≡ is_attribute text.now }
@@ -160,38 +156,6 @@ impl<'a, 'b> Cursor<'a, 'b> {
         }
     }
 
-    fn returned_by(&mut self, width: Option<Width>, at: Place) -> Result<WrittenReturn, ReadFault>
-        ensures { Reads (λ x. x) result self.new (read true (spec.returned_by width at) self.old) }
-    {
-        match width {
-            None => Ok(WrittenReturn::Void(at)),
-            Some(width) => {
-                let operand = self.operand(true, width)?;
-                let of_type = WrittenType { width, at };
-                Ok(WrittenReturn::Value(WrittenTyped { of_type, operand }))
-            }
-        }
-    }
-
-    #[tactic(auto, unfolding(crate::specs::Grammar::returned))]
-    fn returned(&mut self) -> Result<WrittenReturn, ReadFault>
-        ensures { Reads (λ x. x) result self.new (read true spec.returned self.old) }
-    {
-        let WrittenReturnType { width, at } = self.return_type()?;
-        self.returned_by(width, at)
-    }
-
-    // Reads what stands behind `ret`, and the mark that closes the body.
-    #[tactic(auto, unfolding(crate::specs::Grammar::ending))]
-    fn ending(&mut self) -> Result<WrittenReturn, ReadFault>
-        ensures { Reads (λ x. x) result self.new (read true spec.ending self.old) }
-    {
-        let returned = self.returned()?;
-        self.attachments()?;
-        self.mark(b"}".as_slice())?;
-        Ok(returned)
-    }
-
     /// Reads a function with a body, its word first.
     #[tactic(auto, unfolding(crate::specs::Grammar::define))]
     pub fn define(&mut self) -> Result<WrittenFunction, ReadFault>
@@ -205,19 +169,17 @@ impl<'a, 'b> Cursor<'a, 'b> {
         let parameters = self.parameters()?;
         let _behind_comdat = self.header_parts()?;
         let brace = self.brace()?;
-        let WrittenLines { label, insts, .. } = self.lines()?;
-        let room = insts.len() < MOST_INSTS;
-        self.counted_word(b"ret".as_slice(), room)?;
-        let returned = self.ending()?;
+        let blocks = self.blocks()?;
+        self.mark(b"}".as_slice())?;
         Ok(WrittenFunction {
             returns_no_undef,
             returns,
             name,
             parameters,
             brace,
-            label,
-            insts,
-            returned,
+            label: blocks.label,
+            entry: blocks.entry,
+            others: blocks.others,
         })
     }
 }

@@ -10,7 +10,7 @@ use crate::numbering::numbered;
 use crate::reasons::reason_at;
 use crate::written::WrittenFunction;
 use assigned_names::check_assigned;
-use ir_check::{check_names, check_types};
+use ir_check::{check_edges, check_names, check_types};
 use ir_forms::ReadFault;
 use ir_lexer::Token;
 use ir_tree::{CheckFault, Function, Reason, Refused};
@@ -81,6 +81,7 @@ fn test(alloc: Global, f: &Function) -> Result<(), CheckFault>
 {
     check_names(alloc, f)?;
     check_types(alloc, f)?;
+    check_edges(alloc, f)?;
     check_assigned(alloc, f)?;
     Ok(())
 }

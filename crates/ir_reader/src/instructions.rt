@@ -8,8 +8,8 @@ ghost use Rattle.ir_reader.specs.Classes.{any, as_word, passed};
 ghost use Rattle.ir_reader.specs.Instructions as spec;
 
 use crate::cursor::Cursor;
-use crate::word::{ExactWord, Flag, Opcode, WrapWord, exact_op, wrapping_op};
-use crate::written::{WrittenInst, WrittenName, WrittenType, WrittenTyped};
+use crate::word::{ExactWord, Flag, LineWord, Opcode, WrapWord, exact_op, wrapping_op};
+use crate::written::{WrittenInst, WrittenLine, WrittenName, WrittenType, WrittenTyped};
 use ir_forms::ReadFault;
 use ir_lexer::Kind;
 use ir_tree::{Cast, Flags, Op, Predicate};
@@ -20,8 +20,8 @@ const NO_FLAGS: Flags = Flags {
     nsw: false,
 };
 
-// The type of a truth value.
-fn one_bit() -> Width
+/// The type of a truth value.
+pub fn one_bit() -> Width
     ensures { result ≡ one_bit }
 {
     Width::of(1)
@@ -269,13 +269,30 @@ impl<'a, 'b> Cursor<'a, 'b> {
         }
     }
 
-    /// Reads an instruction behind its result's name.
-    #[tactic(auto, unfolding(crate::specs::Instructions::inst_named))]
-    pub fn inst_named(&mut self, into: WrittenName) -> Result<WrittenInst, ReadFault>
-        ensures { Reads (λ x. x) result self.new (read true (spec.inst_named into) self.old) }
+    #[tactic(auto, unfolding(crate::specs::Instructions::inst_line))]
+    fn inst_line(&mut self, into: WrittenName, opcode: Opcode) -> Result<WrittenLine, ReadFault>
+        ensures { Reads (λ x. x) result self.new (read true (spec.inst_line into opcode) self.old) }
+    {
+        let inst = self.inst_by(into, opcode)?;
+        Ok(WrittenLine::Inst(inst))
+    }
+
+    fn line_by(&mut self, into: WrittenName, word: LineWord) -> Result<WrittenLine, ReadFault>
+        ensures { Reads (λ x. x) result self.new (read true (spec.line_by into word) self.old) }
+    {
+        match word {
+            LineWord::Phi => self.phi(into),
+            LineWord::Inst(opcode) => self.inst_line(into, opcode),
+        }
+    }
+
+    /// Reads an instruction behind its result's name, which may be a phi where one may stand.
+    #[tactic(auto, unfolding(crate::specs::Instructions::line_named))]
+    pub fn line_named(&mut self, phi_too: bool, into: WrittenName) -> Result<WrittenLine, ReadFault>
+        ensures { Reads (λ x. x) result self.new (read true (spec.line_named phi_too into) self.old) }
     {
         self.mark(b"=".as_slice())?;
-        let opcode = self.opcode()?;
-        self.inst_by(into, opcode)
+        let word = self.line_word(phi_too)?;
+        self.line_by(into, word)
     }
 }

@@ -10,6 +10,8 @@
 //! grammar, and on `ir_tree` for what it makes; the command stands on it.
 #![tactic(auto)]
 
+mod block_numbering;
+mod blocks;
 mod cursor;
 mod define;
 mod entry_name;
@@ -22,9 +24,11 @@ mod lists;
 mod numbering;
 mod numbers;
 mod parameters;
+mod phis;
 mod places;
 mod reading;
 mod reasons;
+mod terminators;
 mod word;
 mod written;
 
@@ -32,6 +36,8 @@ pub use fault::ModuleFault;
 pub use laws::{has_all_places, is_one_function, is_one_module, is_plain_grammar};
 pub use reading::read;
 
+#[cfg(test)]
+mod blocks_tests;
 #[cfg(test)]
 mod damaged_tests;
 #[cfg(test)]

@@ -7,22 +7,22 @@ ghost use Rattle.ir_reader.specs.Spelling.{is_attached, is_numbered};
 ghost use Rattle.ir_reader.specs.Classes.{any, attachment_word, metadata_number};
 ghost use Rattle.ir_forms.specs.Form.{one_of};
 ghost use Rattle.ir_reader.specs.Grammar as spec;
-ghost use Rattle.ir_reader.specs.Grammar.{is_comma, comma_begins, attachment, record_rest, is_local_kind, starts_line, line_begins, line_within, with_line};
+ghost use Rattle.ir_reader.specs.Grammar.{is_comma, comma_begins, attachment, record_rest, is_local_kind, starts_line, line_begins, line_within, takes_comma, line_comma, with_comma};
+ghost use Rattle.ir_lexer.specs.declared.token.Kind.TheVariants as kind;
+ghost use Rattle.ir_reader.specs.declared.written.WrittenLine.TheVariants as line;
 
 use crate::cursor::Cursor;
 use crate::lists::pushed;
 use crate::numbers::some_digits;
 use crate::reasons::reason_at;
 use crate::word::LineStart;
-use crate::written::{LinePhase, WrittenLines, WrittenName};
+use crate::written::{WrittenInst, WrittenLine, WrittenLines, WrittenName, WrittenPhi};
 use ir_forms::{Bracket, ReadFault};
 use ir_items::{name_before_colon, name_behind_sign};
 use ir_lexer::{Kind, Token};
 use ir_tree::Reason;
 use std::alloc::Global;
-
-/// The greatest number of instructions of a function, the last one counted.
-pub const MOST_INSTS: usize = 65_536;
+use text_places::Place;
 
 fn is_attached(text: &[u8]) -> bool
     ensures { result ≡ is_attached text.now }
@@ -50,22 +50,34 @@ fn is_record(text: &[u8]) -> bool
     }
 }
 
-// What a token begins a line with.
-fn start_at(alloc: Global, token: &Token, phase: LinePhase) -> Result<Option<LineStart>, ReadFault>
-    ensures { Reads (λ x. x) result [] (reads (spelling.line_start phase token.now.kind token.now.text token.now.place) []) }
+// The label that a token is, where one may stand.
+fn label_start(
+    alloc: Global,
+    text: &[u8],
+    at: Place,
+    is_new: bool,
+) -> Result<Option<LineStart>, ReadFault>
+    ensures { Reads (λ x. x) result [] (reads (spelling.line_start is_new kind.Label text.now at) []) }
+{
+    if !is_new {
+        return Ok(None);
+    }
+    let name = name_before_colon(alloc, text)?;
+    Ok(Some(LineStart::Label(WrittenName { name, at })))
+}
+
+// What a token begins a line with; a label only where nothing stands before.
+fn start_at(alloc: Global, token: &Token, is_new: bool) -> Result<Option<LineStart>, ReadFault>
+    ensures { Reads (λ x. x) result [] (reads (spelling.line_start is_new token.now.kind token.now.text token.now.place) []) }
 {
     let at = token.place();
-    match (token.kind(), token.text(), phase) {
-        (Kind::Local, text, _) => {
+    match (token.kind(), token.text()) {
+        (Kind::Local, text) => {
             let name = name_behind_sign(alloc, text)?;
             Ok(Some(LineStart::Inst(WrittenName { name, at })))
         }
-        (Kind::Label, text, LinePhase::Start) => {
-            let name = name_before_colon(alloc, text)?;
-            Ok(Some(LineStart::Label(WrittenName { name, at })))
-        }
-        (Kind::Mark, b",", LinePhase::Behind) => Ok(Some(LineStart::Attachment)),
-        (Kind::Hash, text, _) if is_record(text) => Ok(Some(LineStart::Record)),
+        (Kind::Label, text) => label_start(alloc, text, at, is_new),
+        (Kind::Hash, text) if is_record(text) => Ok(Some(LineStart::Record)),
         _ => Ok(None),
     }
 }
@@ -79,8 +91,71 @@ fn is_local(token: &Token) -> bool
     }
 }
 
+// Whether something may stand behind a comma after this line.
+fn takes_comma(line: &WrittenLine) -> bool
+    ensures { result ≡ takes_comma line.now }
+{
+    match line {
+        WrittenLine::Label(_) | WrittenLine::Record => false,
+        WrittenLine::Entries(_) | WrittenLine::Phi(_) | WrittenLine::Inst(_) => true,
+    }
+}
+
+// The lines and one more phi.
+fn with_phi(so_far: WrittenLines, phi: WrittenPhi) -> Result<WrittenLines, ReadFault>
+    ensures { Reads (λ x. x) result [] (reads (spec.with_phi so_far phi) []) }
+{
+    let phis = pushed(so_far.phis, phi)?;
+    Ok(WrittenLines {
+        label: so_far.label,
+        phis,
+        insts: so_far.insts,
+        is_new: false,
+        room: so_far.room.saturating_sub(1),
+    })
+}
+
+// The lines and one more.
+fn with_line(so_far: WrittenLines, line: WrittenLine) -> Result<WrittenLines, ReadFault>
+    ensures { Reads (λ x. x) result [] (reads (spec.with_line so_far line) []) }
+{
+    match line {
+        WrittenLine::Label(name) => Ok(WrittenLines {
+            label: Some(name),
+            phis: so_far.phis,
+            insts: so_far.insts,
+            is_new: false,
+            room: so_far.room,
+        }),
+        WrittenLine::Record => Ok(WrittenLines {
+            label: so_far.label,
+            phis: so_far.phis,
+            insts: so_far.insts,
+            is_new: false,
+            room: so_far.room,
+        }),
+        WrittenLine::Entries(phi) | WrittenLine::Phi(phi) => with_phi(so_far, phi),
+        WrittenLine::Inst(inst) => with_inst(so_far, inst),
+    }
+}
+
+// The lines and one more instruction that is no phi.
+fn with_inst(so_far: WrittenLines, inst: WrittenInst) -> Result<WrittenLines, ReadFault>
+    ensures { Reads (λ x. x) result [] (reads (spec.with_line so_far (line.Inst inst)) []) }
+{
+    let insts = pushed(so_far.insts, inst)?;
+    Ok(WrittenLines {
+        label: so_far.label,
+        phis: so_far.phis,
+        insts,
+        is_new: false,
+        room: so_far.room.saturating_sub(1),
+    })
+}
+
 impl<'a, 'b> Cursor<'a, 'b> {
-    fn attachment_word(&mut self) -> Result<(), ReadFault>
+    /// Passes the word of an attachment.
+    pub fn attachment_word(&mut self) -> Result<(), ReadFault>
         ensures { Passes result self.new (one_of true attachment_word self.old) }
     {
         let [first, rest @ ..] = self.left() else {
@@ -152,13 +227,13 @@ impl<'a, 'b> Cursor<'a, 'b> {
     }
 
     // Reads what begins a line here, if anything does; an instruction where there is room for it.
-    fn line_start(&mut self, phase: LinePhase, room: bool) -> Result<Option<LineStart>, ReadFault>
-        ensures { Reads (λ x. x) result self.new (begin_of true starts_line (λ t. spelling.line_start phase t.kind t.text t.place) (λ t. not (is_local_kind t.kind) || room) self.old) }
+    fn line_start(&mut self, is_new: bool, room: bool) -> Result<Option<LineStart>, ReadFault>
+        ensures { Reads (λ x. x) result self.new (begin_of true starts_line (λ t. spelling.line_start is_new t.kind t.text t.place) (λ t. not (is_local_kind t.kind) || room) self.old) }
     {
         let [first, rest @ ..] = self.left() else {
             return Ok(None);
         };
-        match start_at(self.alloc(), first, phase)? {
+        match start_at(self.alloc(), first, is_new)? {
             None => Ok(None),
             Some(start) => {
                 if is_local(first) && !room {
@@ -170,68 +245,101 @@ impl<'a, 'b> Cursor<'a, 'b> {
         }
     }
 
-    fn line(&mut self, so_far: WrittenLines, start: LineStart) -> Result<WrittenLines, ReadFault>
-        ensures { Reads (λ x. x) result self.new (read true (with_line so_far start) self.old) }
+    // What stands before the first comma of a line.
+    fn started(&mut self, phi_too: bool, start: LineStart) -> Result<WrittenLine, ReadFault>
+        ensures { Reads (λ x. x) result self.new (read true (spec.started phi_too start) self.old) }
     {
-        let WrittenLines {
-            label,
-            insts,
-            phase: _,
-        } = so_far;
         match start {
-            LineStart::Label(name) => Ok(WrittenLines {
-                label: Some(name),
-                insts,
-                phase: LinePhase::Between,
-            }),
-            LineStart::Inst(name) => {
-                let inst = self.inst_named(name)?;
-                let insts = pushed(insts, inst)?;
-                Ok(WrittenLines {
-                    label,
-                    insts,
-                    phase: LinePhase::Behind,
-                })
-            }
-            LineStart::Attachment => {
-                self.attachment()?;
-                Ok(WrittenLines {
-                    label,
-                    insts,
-                    phase: LinePhase::Behind,
-                })
-            }
+            LineStart::Label(name) => Ok(WrittenLine::Label(name)),
+            LineStart::Inst(name) => self.line_named(phi_too, name),
             LineStart::Record => {
                 self.record_rest()?;
-                Ok(WrittenLines {
-                    label,
-                    insts,
-                    phase: LinePhase::Between,
-                })
+                Ok(WrittenLine::Record)
             }
         }
+    }
+
+    // What stands behind a comma.
+    fn with_comma(&mut self, line: WrittenLine) -> Result<WrittenLine, ReadFault>
+        ensures { Reads (λ x. x) result self.new (read true (with_comma line) self.old) }
+    {
+        match line {
+            WrittenLine::Label(name) => Ok(WrittenLine::Label(name)),
+            WrittenLine::Record => Ok(WrittenLine::Record),
+            WrittenLine::Entries(phi) => self.entry_or_attachment(phi),
+            WrittenLine::Phi(phi) => {
+                self.attachment()?;
+                Ok(WrittenLine::Phi(phi))
+            }
+            WrittenLine::Inst(inst) => {
+                self.attachment()?;
+                Ok(WrittenLine::Inst(inst))
+            }
+        }
+    }
+
+    // One more comma and what stands behind it, if one follows, and whether one did.
+    fn one_comma(&mut self, line: WrittenLine) -> Result<(WrittenLine, bool), ReadFault>
+        ensures { Reads (λ x. x) result self.new (step_of is_comma line_comma (λ l. any) (λ l comma ts. read true (with_comma l) ts) line self.old) }
+    {
+        if !takes_comma(&line) || !self.eat_mark(b",".as_slice()) {
+            return Ok((line, false));
+        }
+        Ok((self.with_comma(line)?, true))
+    }
+
+    // The line with what stands behind its commas.
+    fn behind_commas(&mut self, line: WrittenLine) -> Result<WrittenLine, ReadFault>
+        ensures { Reads (λ x. x) result self.new (read true (spec.behind_commas line) self.old) }
+    {
+        let mut so_far = line;
+        loop {
+            let (next, is_more) = self.one_comma(so_far)?;
+            so_far = next;
+            if !is_more {
+                return Ok(so_far);
+            }
+        }
+    }
+
+    // Reads a line behind what begins it.
+    #[tactic(auto, unfolding(crate::specs::Grammar::next_line, crate::specs::Grammar::whole_line, crate::specs::Grammar::behind_commas))]
+    fn next_line(
+        &mut self,
+        so_far: WrittenLines,
+        start: LineStart,
+    ) -> Result<WrittenLines, ReadFault>
+        ensures { Reads (λ x. x) result self.new (read true (spec.next_line so_far start) self.old) }
+    {
+        let phi_too = so_far.insts.len() == 0;
+        let started = self.started(phi_too, start)?;
+        let line = self.behind_commas(started)?;
+        with_line(so_far, line)
     }
 
     // One more line, if one begins here, and whether one did.
     fn one_line(&mut self, so_far: WrittenLines) -> Result<(WrittenLines, bool), ReadFault>
-        ensures { Reads (λ x. x) result self.new (step_of starts_line line_begins line_within (λ s a ts. read true (with_line s a) ts) so_far self.old) }
+        ensures { Reads (λ x. x) result self.new (step_of starts_line line_begins line_within (λ s a ts. read true (spec.next_line s a) ts) so_far self.old) }
     {
-        let room = so_far.insts.len() < MOST_INSTS;
-        let phase = so_far.phase;
-        match self.line_start(phase, room)? {
+        let room = 0 < so_far.room;
+        let is_new = so_far.is_new;
+        match self.line_start(is_new, room)? {
             None => Ok((so_far, false)),
-            Some(start) => Ok((self.line(so_far, start)?, true)),
+            Some(start) => Ok((self.next_line(so_far, start)?, true)),
         }
     }
 
-    /// Reads a label or none and instructions, as long as one begins.
-    pub fn lines(&mut self) -> Result<WrittenLines, ReadFault>
-        ensures { Reads (λ x. x) result self.new (read true spec.lines self.old) }
+    /// Reads a label, where it may stand, or none, and instructions, as long as one begins. The room
+    /// is how many instructions the function may have behind these tokens.
+    pub fn lines(&mut self, is_new: bool, room: usize) -> Result<WrittenLines, ReadFault>
+        ensures { Reads (λ x. x) result self.new (read true (spec.lines is_new room) self.old) }
     {
         let mut so_far = WrittenLines {
             label: None,
+            phis: self.no_items(),
             insts: self.no_items(),
-            phase: LinePhase::Start,
+            is_new,
+            room,
         };
         loop {
             let (next, is_more) = self.one_line(so_far)?;

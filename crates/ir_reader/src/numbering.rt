@@ -1,19 +1,20 @@
 // Numbering the names of a function in the order in which they are first mentioned.
-ghost use Rattle.std.specs.Prelude.{◌≡◌, ◌∷◌, [], IfOk};
+ghost use Rattle.std.specs.Prelude.{◌≡◌, [], IfOk};
 ghost use Rattle.ir_reader.specs.Answer.{Numbers};
 ghost use Rattle.ir_reader.specs.EntryName.{next_name};
 ghost use Rattle.ir_reader.specs.Numbering as spec;
 ghost use Rattle.ir_reader.specs.Numbering.{each_in, parameter_in, inst_in};
 
+use crate::block_numbering::blocks;
 use crate::entry_name::next_name;
 use crate::places::places_of;
 use crate::written::{
-    WrittenFunction, WrittenInst, WrittenName, WrittenOperand, WrittenParameter, WrittenReturn,
-    WrittenType, WrittenTyped, WrittenValue,
+    WrittenBlock, WrittenBody, WrittenFunction, WrittenInst, WrittenName, WrittenOperand,
+    WrittenParameter, WrittenType, WrittenTyped, WrittenValue,
 };
 use ir_tree::{
     Block, Cast, Function, Inst, IrType, Name, Names, Op, Operand, Parameter, Predicate,
-    Terminator, TypedOperand,
+    TypedOperand,
 };
 use std::alloc::Global;
 use support::{NoMemory, Sequence};
@@ -76,13 +77,15 @@ fn named_parameters(
     Ok(Sequence::from_vec(all))
 }
 
-fn number(names: &mut Names, name: Name) -> Result<usize, NoMemory>
+/// The number of a name behind those of the table.
+pub fn number(names: &mut Names, name: Name) -> Result<usize, NoMemory>
     ensures { Numbers result names.new (spec.number_in names.old name) }
 {
     names.number(name)
 }
 
-fn value(names: &mut Names, value: WrittenValue) -> Result<Operand, NoMemory>
+/// An operand whose name is numbered.
+pub fn value(names: &mut Names, value: WrittenValue) -> Result<Operand, NoMemory>
     ensures { Numbers result names.new (spec.value_in names.old value) }
 {
     match value {
@@ -93,8 +96,9 @@ fn value(names: &mut Names, value: WrittenValue) -> Result<Operand, NoMemory>
     }
 }
 
+/// An operand behind its type.
 #[tactic(auto, unfolding(crate::specs::Numbering::typed_in))]
-fn typed(names: &mut Names, typed: WrittenTyped) -> Result<TypedOperand, NoMemory>
+pub fn typed(names: &mut Names, typed: WrittenTyped) -> Result<TypedOperand, NoMemory>
     ensures { Numbers result names.new (spec.typed_in names.old typed) }
 {
     let WrittenTyped { of_type, operand } = typed;
@@ -255,16 +259,6 @@ fn inst(names: &mut Names, inst: WrittenInst) -> Result<Inst, NoMemory>
     }
 }
 
-#[tactic(auto, unfolding(crate::specs::Numbering::returned_in))]
-fn returned(names: &mut Names, returned: WrittenReturn) -> Result<Terminator, NoMemory>
-    ensures { Numbers result names.new (spec.returned_in names.old returned) }
-{
-    match returned {
-        WrittenReturn::Void(_) => Ok(Terminator::Return(None)),
-        WrittenReturn::Value(value) => Ok(Terminator::Return(Some(typed(names, value)?))),
-    }
-}
-
 #[tactic(auto, unfolding(crate::specs::Numbering::parameter_in))]
 fn parameter(names: &mut Names, parameter: NamedParameter) -> Result<Parameter, NoMemory>
     ensures { Numbers result names.new (parameter_in names.old parameter) }
@@ -296,7 +290,8 @@ fn parameters(
     Ok(Sequence::from_vec(numbered))
 }
 
-fn insts(
+/// Instructions in turn.
+pub fn insts(
     alloc: Global,
     names: &mut Names,
     insts: Sequence<WrittenInst>,
@@ -310,49 +305,20 @@ fn insts(
     Ok(Sequence::from_vec(numbered))
 }
 
-#[tactic(auto, unfolding(crate::specs::Numbering::block_in))]
-fn block(
-    alloc: Global,
-    names: &mut Names,
-    label: Name,
-    written: Sequence<WrittenInst>,
-    last: WrittenReturn,
-) -> Result<Block, NoMemory>
-    ensures { Numbers result names.new (spec.block_in names.old label written last) }
-{
-    let label = number(names, label)?;
-    let insts = insts(alloc, names, written)?;
-    let terminator = returned(names, last)?;
-    Ok(Block {
-        label,
-        insts,
-        terminator,
-    })
-}
-
 #[tactic(auto, unfolding(crate::specs::Numbering::parts_in))]
 fn parts(
     alloc: Global,
     named: Sequence<NamedParameter>,
     label: Name,
-    written: Sequence<WrittenInst>,
-    last: WrittenReturn,
-) -> Result<((Sequence<Parameter>, Block), Names), NoMemory>
-    ensures { IfOk result (λ parts. spec.parts_in named label written last ≡ spec.so parts.0 parts.1) }
+    entry: WrittenBody,
+    others: Sequence<WrittenBlock>,
+) -> Result<((Sequence<Parameter>, Sequence<Block>), Names), NoMemory>
+    ensures { IfOk result (λ parts. spec.parts_in named label entry others ≡ spec.so parts.0 parts.1) }
 {
     let mut names = Names::new(alloc);
     let parameters = parameters(alloc, &mut names, named)?;
-    let block = block(alloc, &mut names, label, written, last)?;
-    Ok(((parameters, block), names))
-}
-
-// The list of one block.
-fn one_block(alloc: Global, block: Block) -> Result<Sequence<Block>, NoMemory>
-    ensures { IfOk result (λ blocks. blocks ≡ block ∷ []) }
-{
-    let mut blocks = Sequence::from_vec(Vec::new(alloc));
-    blocks.push(block)?;
-    Ok(blocks)
+    let blocks = blocks(alloc, &mut names, label, entry, others)?;
+    Ok(((parameters, blocks), names))
 }
 
 fn type_or_void(width: Option<Width>) -> Option<IrType>
@@ -377,13 +343,12 @@ pub fn numbered(alloc: Global, written: WrittenFunction) -> Result<Function, NoM
         parameters,
         brace: _,
         label,
-        insts,
-        returned,
+        entry,
+        others,
     } = written;
     let named = named_parameters(alloc, parameters)?;
     let label = name_or_next(alloc, label, named.as_slice())?;
-    let ((parameters, block), names) = parts(alloc, named, label, insts, returned)?;
-    let blocks = one_block(alloc, block)?;
+    let ((parameters, blocks), names) = parts(alloc, named, label, entry, others)?;
     Ok(Function {
         name: name.name,
         returns: type_or_void(returns.width),

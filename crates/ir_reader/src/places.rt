@@ -1,10 +1,11 @@
 // Where the types, names, literals and labels of a function stand.
 ghost use Rattle.std.specs.Prelude.{◌≡◌, ◌++◌, ◌∷◌, [], flat_map, IfOk, OnOk};
 ghost use Rattle.ir_reader.specs.Places as spec;
-ghost use Rattle.ir_reader.specs.Places.{typed_places, inst_places, parameter_places, returned_places};
+ghost use Rattle.ir_reader.specs.Places.{typed_places, inst_places, parameter_places, returned_places, entry_places, phi_places, case_places, terminator_places, body_places, block_places};
 
 use crate::written::{
-    WrittenFunction, WrittenInst, WrittenName, WrittenParameter, WrittenReturn, WrittenTyped,
+    WrittenBlock, WrittenBody, WrittenCase, WrittenEntry, WrittenFunction, WrittenInst,
+    WrittenName, WrittenParameter, WrittenPhi, WrittenReturn, WrittenTerminator, WrittenTyped,
 };
 use std::alloc::Global;
 use support::{NoMemory, Sequence};
@@ -25,6 +26,26 @@ fn add_typed(places: &mut Sequence<Place>, typed: &WrittenTyped) -> Result<(), N
 {
     places.push(typed.of_type.at)?;
     places.push(typed.operand.at)
+}
+
+fn add_two(places: &mut Sequence<Place>, first: Place, second: Place) -> Result<(), NoMemory>
+    ensures { OnOk result (places.new ≡ places.old ++ (first ∷ second ∷ [])) }
+{
+    places.push(first)?;
+    places.push(second)
+}
+
+fn add_three(
+    places: &mut Sequence<Place>,
+    first: Place,
+    second: Place,
+    third: Place,
+) -> Result<(), NoMemory>
+    ensures { OnOk result (places.new ≡ places.old ++ (first ∷ second ∷ third ∷ [])) }
+{
+    places.push(first)?;
+    places.push(second)?;
+    places.push(third)
 }
 
 fn add_four(
@@ -145,6 +166,103 @@ fn add_returned(places: &mut Sequence<Place>, returned: &WrittenReturn) -> Resul
     }
 }
 
+fn add_entries(places: &mut Sequence<Place>, entries: &[WrittenEntry]) -> Result<(), NoMemory>
+    ensures { OnOk result (places.new ≡ places.old ++ flat_map entry_places entries.now) }
+{
+    for entry in entries {
+        add_two(places, entry.operand.at, entry.from.at)?;
+    }
+    Ok(())
+}
+
+fn add_phi(places: &mut Sequence<Place>, phi: &WrittenPhi) -> Result<(), NoMemory>
+    ensures { OnOk result (places.new ≡ places.old ++ phi_places phi.now) }
+{
+    add_two(places, phi.into.at, phi.of_type.at)?;
+    add_entries(places, phi.entries.as_slice())
+}
+
+fn add_phis(places: &mut Sequence<Place>, phis: &[WrittenPhi]) -> Result<(), NoMemory>
+    ensures { OnOk result (places.new ≡ places.old ++ flat_map phi_places phis.now) }
+{
+    for phi in phis {
+        add_phi(places, phi)?;
+    }
+    Ok(())
+}
+
+fn add_cases(places: &mut Sequence<Place>, cases: &[WrittenCase]) -> Result<(), NoMemory>
+    ensures { OnOk result (places.new ≡ places.old ++ flat_map case_places cases.now) }
+{
+    for case in cases {
+        add_three(places, case.of_type.at, case.literal.at, case.to.at)?;
+    }
+    Ok(())
+}
+
+fn add_switch(
+    places: &mut Sequence<Place>,
+    of_type: Place,
+    operand: Place,
+    default: Place,
+    cases: &[WrittenCase],
+) -> Result<(), NoMemory>
+    ensures { OnOk result (places.new ≡ places.old ++ ((of_type ∷ operand ∷ default ∷ []) ++ flat_map case_places cases.now)) }
+{
+    add_three(places, of_type, operand, default)?;
+    add_cases(places, cases)
+}
+
+fn add_terminator(
+    places: &mut Sequence<Place>,
+    terminator: &WrittenTerminator,
+) -> Result<(), NoMemory>
+    ensures { OnOk result (places.new ≡ places.old ++ terminator_places terminator.now) }
+{
+    match terminator {
+        WrittenTerminator::Return(returned) => add_returned(places, returned),
+        WrittenTerminator::Branch(to) => places.push(to.at),
+        WrittenTerminator::CondBranch {
+            bit,
+            condition,
+            if_true,
+            if_false,
+        } => add_four(places, *bit, condition.at, if_true.at, if_false.at),
+        WrittenTerminator::Switch {
+            of_type,
+            operand,
+            default,
+            cases,
+        } => add_switch(places, of_type.at, operand.at, default.at, cases.as_slice()),
+        WrittenTerminator::Unreachable => Ok(()),
+    }
+}
+
+#[tactic(auto, unfolding(crate::specs::Places::body_places))]
+fn add_body(places: &mut Sequence<Place>, body: &WrittenBody) -> Result<(), NoMemory>
+    ensures { OnOk result (places.new ≡ places.old ++ body_places body.now) }
+{
+    add_phis(places, body.phis.as_slice())?;
+    add_insts(places, body.insts.as_slice())?;
+    add_terminator(places, &body.terminator)
+}
+
+fn add_block(places: &mut Sequence<Place>, block: &WrittenBlock) -> Result<(), NoMemory>
+    ensures { OnOk result (places.new ≡ places.old ++ block_places block.now) }
+{
+    places.push(block.label.at)?;
+    add_body(places, &block.body)
+}
+
+fn add_blocks(places: &mut Sequence<Place>, blocks: &[WrittenBlock]) -> Result<(), NoMemory>
+    ensures { OnOk result (places.new ≡ places.old ++ flat_map block_places blocks.now) }
+{
+    for block in blocks {
+        add_block(places, block)?;
+    }
+    Ok(())
+}
+
 /// The places of a function's types, names, literals and labels, in text order.
 #[tactic(auto, unfolding(crate::specs::Places::places_of))]
 pub fn places_of(alloc: Global, written: &WrittenFunction) -> Result<Sequence<Place>, NoMemory>
@@ -155,7 +273,7 @@ pub fn places_of(alloc: Global, written: &WrittenFunction) -> Result<Sequence<Pl
     places.push(written.name.at)?;
     add_parameters(&mut places, written.parameters.as_slice())?;
     places.push(place_or(&written.label, written.brace))?;
-    add_insts(&mut places, written.insts.as_slice())?;
-    add_returned(&mut places, &written.returned)?;
+    add_body(&mut places, &written.entry)?;
+    add_blocks(&mut places, written.others.as_slice())?;
     Ok(places)
 }

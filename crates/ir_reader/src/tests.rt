@@ -6,7 +6,7 @@ use std::test::Fail;
 use text_places::Place;
 
 // Why and where the first function of a text is refused, if it is.
-fn refusal(alloc: Global, text: &str) -> Option<Refused> {
+pub fn refusal(alloc: Global, text: &str) -> Option<Refused> {
     let Ok(module) = read(alloc, text.as_bytes()) else {
         return None;
     };
@@ -17,7 +17,7 @@ fn refusal(alloc: Global, text: &str) -> Option<Refused> {
 }
 
 // Whether the first function of a text is read.
-fn is_read(alloc: Global, text: &str) -> bool {
+pub fn is_read(alloc: Global, text: &str) -> bool {
     let Ok(module) = read(alloc, text.as_bytes()) else {
         return false;
     };

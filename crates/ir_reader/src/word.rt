@@ -51,13 +51,28 @@ pub enum Flag {
     SameSign,
 }
 
-/// What begins a line of a block: a label, the name of an instruction's result, the comma before an
-/// attachment to the instruction before, or the word of a record.
+/// What stands behind the name of a result: the word of a phi, or of another instruction.
+#[derive(Clone, Copy, Debug, PartialEq, Eq)]
+pub enum LineWord {
+    Phi,
+    Inst(Opcode),
+}
+
+/// The word of the last instruction of a block.
+#[derive(Clone, Copy, Debug, PartialEq, Eq)]
+pub enum TerminatorWord {
+    Return,
+    Branch,
+    Switch,
+    Unreachable,
+}
+
+/// What begins a line of a block: a label, the name of an instruction's result, or the word of a
+/// record.
 #[derive(Drop)]
 pub enum LineStart {
     Label(WrittenName),
     Inst(WrittenName),
-    Attachment,
     Record,
 }
 
@@ -173,12 +188,58 @@ fn opcode_named(text: &[u8]) -> Option<Opcode>
     other_word(text)
 }
 
-/// The instruction that the token names, if it names one.
-pub fn opcode_of(token: &Token) -> Option<Opcode>
+// The instruction that the token names, if it names one.
+fn opcode_of(token: &Token) -> Option<Opcode>
     ensures { result ≡ spec.opcode_of token.now.kind token.now.text }
 {
     match token.kind() {
         Kind::Word => opcode_named(token.text()),
+        _ => None,
+    }
+}
+
+fn is_phi(token: &Token) -> bool
+    ensures { result ≡ spec.is_word_of token.now.kind token.now.text (codes "phi") }
+{
+    token.kind() == Kind::Word && token.text() == b"phi".as_slice()
+}
+
+/// What the token names behind the name of a result, if it names an instruction; a phi only where
+/// one may stand.
+pub fn line_word_of(token: &Token, phi_too: bool) -> Option<LineWord>
+    ensures { result ≡ spec.line_word_of phi_too token.now.kind token.now.text }
+{
+    if phi_too && is_phi(token) {
+        return Some(LineWord::Phi);
+    }
+    match opcode_of(token) {
+        Some(opcode) => Some(LineWord::Inst(opcode)),
+        None => None,
+    }
+}
+
+fn terminator_named(text: &[u8]) -> Option<TerminatorWord>
+    ensures { result ≡ spec.terminator_named text.now }
+{
+    if text == b"ret".as_slice() {
+        Some(TerminatorWord::Return)
+    } else if text == b"br".as_slice() {
+        Some(TerminatorWord::Branch)
+    } else if text == b"switch".as_slice() {
+        Some(TerminatorWord::Switch)
+    } else if text == b"unreachable".as_slice() {
+        Some(TerminatorWord::Unreachable)
+    } else {
+        None
+    }
+}
+
+/// The last instruction of a block that the token names, if it names one.
+pub fn terminator_of(token: &Token) -> Option<TerminatorWord>
+    ensures { result ≡ spec.terminator_of token.now.kind token.now.text }
+{
+    match token.kind() {
+        Kind::Word => terminator_named(token.text()),
         _ => None,
     }
 }

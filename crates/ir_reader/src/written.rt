@@ -99,23 +99,43 @@ pub enum WrittenInst {
     },
 }
 
-/// What stands before the next line of a block.
-#[derive(Clone, Copy)]
-pub enum LinePhase {
-    /// Nothing yet, so a label may follow.
-    Start,
-    /// An instruction, to which attachments may be added.
-    Behind,
-    /// Anything else.
-    Between,
+/// What a phi takes where a block was left: an operand, and the block's label.
+#[derive(Drop)]
+pub struct WrittenEntry {
+    pub operand: WrittenOperand,
+    pub from: WrittenName,
 }
 
-/// A block so far: its label, if it has one, and its instructions.
+#[derive(Drop)]
+pub struct WrittenPhi {
+    pub into: WrittenName,
+    pub of_type: WrittenType,
+    pub entries: Sequence<WrittenEntry>,
+}
+
+/// A line of a block, as far as it is read.
+#[derive(Drop)]
+pub enum WrittenLine {
+    Label(WrittenName),
+    /// A record; what stands in it is forgotten.
+    Record,
+    /// A phi, to which entries may be added.
+    Entries(WrittenPhi),
+    /// A phi with attachments.
+    Phi(WrittenPhi),
+    Inst(WrittenInst),
+}
+
+/// A block so far: its label, if it has one, its phis and its other instructions. `is_new` says that
+/// nothing stands before, so that a label may follow, and `room` how many more instructions the
+/// function may have.
 #[derive(Drop)]
 pub struct WrittenLines {
     pub label: Option<WrittenName>,
+    pub phis: Sequence<WrittenPhi>,
     pub insts: Sequence<WrittenInst>,
-    pub phase: LinePhase,
+    pub is_new: bool,
+    pub room: usize,
 }
 
 /// What `ret` gives.
@@ -126,7 +146,68 @@ pub enum WrittenReturn {
     Value(WrittenTyped),
 }
 
-/// `brace` is the place of the body's opening mark.
+/// A literal, wrapped to the width that is written before it.
+#[derive(Clone, Copy)]
+pub struct WrittenLiteral {
+    pub value: u64,
+    pub at: Place,
+}
+
+/// A case of a switch: a literal behind its type, and the label that it leads to.
+#[derive(Drop)]
+pub struct WrittenCase {
+    pub of_type: WrittenType,
+    pub literal: WrittenLiteral,
+    pub to: WrittenName,
+}
+
+/// How a block ends.
+#[derive(Drop)]
+pub enum WrittenTerminator {
+    Return(WrittenReturn),
+    Branch(WrittenName),
+    /// The place is that of the condition's type.
+    CondBranch {
+        bit: Place,
+        condition: WrittenOperand,
+        if_true: WrittenName,
+        if_false: WrittenName,
+    },
+    Switch {
+        of_type: WrittenType,
+        operand: WrittenOperand,
+        default: WrittenName,
+        cases: Sequence<WrittenCase>,
+    },
+    Unreachable,
+}
+
+/// What stands in a block behind its label.
+#[derive(Drop)]
+pub struct WrittenBody {
+    pub phis: Sequence<WrittenPhi>,
+    pub insts: Sequence<WrittenInst>,
+    pub terminator: WrittenTerminator,
+}
+
+/// A block behind the entry.
+#[derive(Drop)]
+pub struct WrittenBlock {
+    pub label: WrittenName,
+    pub body: WrittenBody,
+}
+
+/// The blocks of a function so far: the entry, with its label, if it has one, and the others. `room`
+/// says how many more instructions the function may have.
+#[derive(Drop)]
+pub struct WrittenBlocks {
+    pub label: Option<WrittenName>,
+    pub entry: WrittenBody,
+    pub others: Sequence<WrittenBlock>,
+    pub room: usize,
+}
+
+/// `brace` is the place of the body's opening mark, `label` that of the entry, if it has one.
 #[derive(Drop)]
 pub struct WrittenFunction {
     pub returns_no_undef: bool,
@@ -135,6 +216,6 @@ pub struct WrittenFunction {
     pub parameters: Sequence<WrittenParameter>,
     pub brace: Place,
     pub label: Option<WrittenName>,
-    pub insts: Sequence<WrittenInst>,
-    pub returned: WrittenReturn,
+    pub entry: WrittenBody,
+    pub others: Sequence<WrittenBlock>,
 }

@@ -1,7 +1,7 @@
 use Rattle.std.proofs.Common.{◌≡◌, [], ap, sym, ◌∙◌, length, arith}
 use Rattle.std.proofs.lemmas.List.{take_all}
 use Rattle.text_places.specs.declared.place.Place.{Place}
-use Rattle.text_places.specs.Place.{place_behind, place_at}
+use Rattle.text_places.specs.Place.{place_behind}
 use Rattle.ir_reader.proofs.reading.end_of.Goals as goal
 
 pub behind-requires-clause-line : goal.behind-requires-clause-line

@@ -1,4 +1,4 @@
-use Rattle.std.proofs.Common.{◌≡◌, ◌≤◌, List, [], None, true, false, length}
+use Rattle.std.proofs.Common.{◌≡◌, ◌≤◌, List, true, false, length}
 use Rattle.std.proofs.lemmas.Result.{err_from_is_err_and}
 use Rattle.ir_lexer.specs.Lexeme.{Lexeme}
 use Rattle.ir_forms.specs.Form.{Reading, reads, read}

@@ -1,24 +1,23 @@
-use Rattle.std.proofs.Common.{◌≡◌, ◌≤◌, List, [], None, true, false, length}
+use Rattle.std.proofs.Common.{◌≡◌, ◌≤◌, List, true, length}
 use Rattle.std.proofs.lemmas.Result.{err_from_is_err_and}
 use Rattle.ir_lexer.specs.Lexeme.{Lexeme}
 use Rattle.ir_forms.specs.Form.{Reading, reads, read}
 use Rattle.ir_forms.proofs.Exact.{shorter}
 use Rattle.ir_forms.proofs.Loops.{at_start, step-more, step-done, step-fails, step-shorter}
-use Rattle.ir_reader.specs.Grammar.{starts_line, line_begins, line_within, with_line, lines}
+use Rattle.ir_reader.specs.Grammar.{starts_line, line_begins, line_within, next_line, opened, lines}
 use Rattle.ir_reader.specs.declared.word.LineStart.{LineStart}
 use Rattle.ir_reader.specs.declared.written.WrittenLines.{WrittenLines}
-use Rattle.ir_reader.specs.declared.written.LinePhase.TheVariants as phase
 use Rattle.ir_reader.proofs.cursor.Cursor.lines.Goals as goal
 
 abbrev part : WrittenLines → LineStart → List Lexeme → Reading (WrittenLines)
-part s a ts = read true (with_line s a) ts
+part s a ts = read true (next_line s a) ts
 
 short : (s : WrittenLines) (a : LineStart) (ts : List Lexeme) (x : WrittenLines) (rest : List Lexeme) → part s a ts ≡ reads x rest → length rest ≤ length ts
-short s a ts x rest e = shorter true (with_line s a) ts x rest e
+short s a ts x rest e = shorter true (next_line s a) ts x rest e
 
 pub loop-next-init : goal.loop-next-init
 unfolding lines
-loop-next-init c = rw c.no_items.ensures (at_start starts_line line_begins line_within part (record { label = None; insts = []; phase = phase.Start }) c.args.self.now)
+loop-next-init c = rw (c.no_items.ensures, c.no_items-2.ensures) (at_start starts_line line_begins line_within part (opened c.args.is_new c.args.room) c.args.self.now)
 
 pub returns-in_err-next : goal.returns-in_err-next
 returns-in_err-next c =

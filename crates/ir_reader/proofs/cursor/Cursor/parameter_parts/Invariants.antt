@@ -2,7 +2,7 @@ use Rattle.std.proofs.Common.{true, length}
 use Rattle.ir_forms.specs.Form.{read}
 use Rattle.ir_forms.proofs.Loops.{Left}
 use Rattle.ir_reader.specs.Classes.{any}
-use Rattle.ir_reader.specs.Grammar.{follows_parameter, parameter_begins, with_part, parameter_parts, new_parameter}
+use Rattle.ir_reader.specs.Grammar.{follows_parameter, parameter_begins, with_part, parameter_parts}
 use Rattle.ir_reader.proofs.cursor.Cursor.parameter_parts.Given as goal
 
 abbrev pub invariant-loop-next : goal.invariant-loop-next

@@ -1,5 +1,5 @@
-use Rattle.std.proofs.Common.{◌≡◌, refl, sym, true, None, Some, arith}
-use Rattle.ir_forms.specs.Form.{give, read, reads, begin_of}
+use Rattle.std.proofs.Common.{refl, arith}
+use Rattle.ir_forms.specs.Form.{reads}
 use Rattle.ir_forms.proofs.Loops.{at_start, one_more, no_more, begins-shorter}
 use Rattle.ir_reader.specs.Classes.{any}
 use Rattle.ir_reader.specs.Words.{no_flags}
