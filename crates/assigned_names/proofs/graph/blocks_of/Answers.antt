@@ -1,4 +1,4 @@
-use Rattle.std.proofs.Common.{◌∙◌, map, get_or}
+use Rattle.std.proofs.Common.{map}
 use Rattle.ir_tree.specs.Flow.{block_of}
 use Rattle.assigned_names.proofs.DefinerLemmas.{mapped_more}
 use Rattle.assigned_names.proofs.graph.blocks_of.Goals as goal
