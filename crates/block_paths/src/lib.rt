@@ -1,9 +1,10 @@
 //! Which names every path from the entry of a graph of blocks assigns before it comes to a block.
 //!
 //! It promises that [`assigned_before`] keeps a name for a block exactly where each path to the block
-//! assigns the name in a block that it leaves: the ground for "a definition must dominate its uses"
-//! (LLVM Language Reference, "Well-Formedness"), where several blocks may assign. It knows blocks and
-//! names as numbers alone. It stands on `support`; what checks the names of a function may stand on it.
+//! assigns the name in a block that it leaves, and that else some path doesn't: the ground for "a
+//! definition must dominate its uses" (LLVM Language Reference, "Well-Formedness"), where several blocks
+//! may assign. It knows blocks and names as numbers alone. It stands on `support`; `assigned_names`,
+//! which checks the uses of a function, stands on it.
 #![tactic(auto)]
 
 ghost use Rattle.std.specs.Prelude.{◌≡◌, ◌<◌, ◌↔◌, ℕ, List, false, length, IfOk, IsTrue};
@@ -26,7 +27,8 @@ use work::Work;
 
 /// For each block of a graph, the names that every path from block 0 to it assigns in a block that it
 /// leaves. `successors` has the successors of each block, `assigns` the names that each assigns, all
-/// below `names`. A block that no path comes to has every name.
+/// below `names`. A block that no path comes to has every name. A name that a block's set lacks is
+/// missed by some path to it.
 ///
 /// A step passes one block's names on to a successor, and costs one word for each 64 names; a block is
 /// taken up again only when its set became smaller.

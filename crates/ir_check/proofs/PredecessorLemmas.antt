@@ -1,5 +1,5 @@
 -- The lists of predecessors as they are made, block by block.
-use Rattle.std.proofs.Common.{◌≡◌, ◌↔◌, ◌⊎◌, inl, inr, ℕ, zero, suc, ◌<◌, List, [], ◌∷◌, ◌++◌, length, take, ◌+◌, get_or, set, slice_get, replicate, Option, Some, refl, ap, sym, subst, ◌∙◌, arith, length-set, All, Contains}
+use Rattle.std.proofs.Common.{◌≡◌, ◌↔◌, ◌⊎◌, inl, inr, ℕ, ◌<◌, List, [], ◌∷◌, ◌++◌, length, take, ◌+◌, get_or, set, slice_get, replicate, Option, Some, refl, ap, sym, subst, ◌∙◌, arith, length-set, All, Contains}
 use Rattle.std.proofs.lemmas.Bool.{cases_eq}
 use Rattle.std.proofs.lemmas.List.{take_more, get_or_default, get_or-set_same, get_or-set_other, get_or-replicate, length-replicate}
 use Rattle.std.proofs.lemmas.List.Elements.{Contains-append_left, Contains-get_or, Contains-push, Contains-push_cases}

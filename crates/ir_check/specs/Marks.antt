@@ -7,7 +7,7 @@ use Rattle.ir_tree.specs.declared.tree.PhiEntry.{PhiEntry}
 use Rattle.ir_tree.specs.declared.tree.Phi.{Phi}
 use Rattle.ir_tree.specs.declared.tree.Block.{Block}
 use Rattle.ir_tree.specs.declared.tree.Function.{Function}
-use Rattle.ir_tree.specs.Flow.{IsPredecessor, targets}
+use Rattle.ir_tree.specs.Flow.{targets}
 use Rattle.ir_tree.specs.WellFormed.{is_same_operand, HasTwoOperands, ComesFromPredecessors}
 use Rattle.ir_check.specs.declared.marks.Mark.{Mark}
 use Rattle.ir_check.specs.declared.marks.Mark.TheVariants.{Stranger, Awaited, Given}

@@ -9,8 +9,8 @@ use ir_tree::{Function, targets_of};
 use std::alloc::Global;
 use support::{NoMemory, Sequence};
 
-/// For each name of a function, the labels of the blocks that may be left for the block of that
-/// label; a label stands there once.
+/// For each name of a function, by its number, the labels of the blocks that may be left for the
+/// block of that label.
 pub fn predecessors_of(alloc: Global, f: &Function) -> Result<Sequence<Sequence<usize>>, NoMemory>
     requires numbered { AreNumbered f.now }
     ensures len { IfOk result (λ table. length table ≡ length f.now.names) }

@@ -1,7 +1,7 @@
 -- Which names the parts of a function define, and which labels they enter.
-use Rattle.std.proofs.Common.{◌≡◌, ◌⊎◌, ℕ, true, not, ◌==◌, zero, suc, ◌<◌, ◌≤◌, List, [], ◌∷◌, ◌++◌, map, length, get_or, slice_get, Option, Some, None, inl, inr, refl, ap, sym, subst, ◌∙◌, arith, All, Contains}
+use Rattle.std.proofs.Common.{◌≡◌, ◌⊎◌, ℕ, true, not, ◌==◌, zero, suc, ◌<◌, ◌≤◌, List, [], ◌∷◌, ◌++◌, map, length, get_or, slice_get, Option, Some, None, inl, inr, refl, ap, subst, ◌∙◌, arith, All, Contains}
 use Rattle.std.specs.List.{flat_map, AllByRecursion}
-use Rattle.std.proofs.lemmas.Bool.{cases_lt, cases_eq}
+use Rattle.std.proofs.lemmas.Bool.{cases_lt}
 use Rattle.std.proofs.lemmas.Option.{slice_get-get_or, slice_get_within, get_or_from_slice_get, none-some, same_Some}
 use Rattle.tv_num.specs.declared.Width.{Width}
 use Rattle.ir_tree.specs.declared.tree.IrType.{IrType}
@@ -27,7 +27,6 @@ use Rattle.ir_tree.specs.Types.{one_bit}
 use Rattle.ir_tree.specs.Flow.{targets, result_of}
 use Rattle.ir_tree.specs.WellFormed.{DefinesAgain, IsLabel}
 use Rattle.ir_tree.specs.Definitions.{DefinesIn}
-use Rattle.ir_tree.specs.declared.sites.SiteList.{SiteList}
 use Rattle.ir_tree.proofs.Listing.{list-length}
 use Rattle.ir_tree.proofs.Standing.{InFunction, Stands, behind, at_site, parameter_site, label_site, phi_site, inst_site, end_site}
 

@@ -1,5 +1,5 @@
 use Rattle.std.proofs.Common.{◌∙◌}
-use Rattle.assigned_names.proofs.DefinerLemmas.{successors_fit, assigns_fit, lists_alike, are_before}
+use Rattle.assigned_names.proofs.DefinerLemmas.{successors_fit, assigns_fit, are_before}
 use Rattle.assigned_names.proofs.names_before.Goals as goal
 
 pub assigned_before-requires-clause-within : goal.assigned_before-requires-clause-within

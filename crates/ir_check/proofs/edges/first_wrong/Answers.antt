@@ -1,4 +1,4 @@
-use Rattle.std.proofs.Common.{◌≡◌, ◌∙◌, true, length, arith, ap, sym}
+use Rattle.std.proofs.Common.{◌≡◌, ◌∙◌, true, length, arith, ap}
 use borrow.Author.Count.{below_more}
 use Rattle.ir_tree.specs.Sites.{sites}
 use Rattle.ir_tree.specs.WellFormed.{HasWrongEdge}

@@ -1,4 +1,4 @@
-use Rattle.std.proofs.Common.{rules, ◌≡◌, slice_get, Some}
+use Rattle.std.proofs.Common.{◌≡◌, slice_get, Some}
 use Rattle.ir_tree.specs.declared.sites.Part.TheVariants as part
 use Rattle.ir_tree.specs.declared.sites.Site.TheVariants.{Defines}
 use Rattle.ir_tree.specs.Sites.{sites, parts}

@@ -1,6 +1,6 @@
 use Rattle.std.proofs.Common.{length, refl}
 use Rattle.std.proofs.lemmas.Option.{slice_get_read}
-use Rattle.ir_check.proofs.ValueLemmas.{no_label, first_label}
+use Rattle.ir_check.proofs.ValueLemmas.{first_label}
 use Rattle.ir_check.proofs.values.is_label.Goals as goal
 
 pub returns-in-Some : goal.returns-in-Some
