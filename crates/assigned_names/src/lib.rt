@@ -1,28 +1,37 @@
 //! Whether each name of a function has its value where it is used.
 //!
-//! It promises that a function passes exactly where no use can be reached without its name's
-//! definition, by the rule of `ir_tree`'s `specs/WellFormed.antt`, and that else the refusal tells
-//! the first use that can. It stands on `ir_tree`, beside `ir_check`; the reader of functions stands
-//! on both. The rule is that of the LLVM Language Reference, "Well-Formedness": a definition must
-//! dominate its uses.
+//! It promises that a function passes exactly where no path from the entry comes to a use without its
+//! name's definition, by the rule of `ir_tree`'s `specs/WellFormed.antt`, and that else the refusal
+//! tells the first use that some path does. So each use in a block that no path comes to passes, and
+//! an operand of a phi is used at the end of the block that it comes from. The rule is that of the
+//! LLVM Language Reference, "Well-Formedness": a definition must dominate its uses. It stands on
+//! `ir_tree`, on `block_paths`, which finds the names that every path assigns, and on `ir_check`,
+//! whose checks come first; the reader of functions stands on it.
 #![tactic(auto)]
 
-ghost use Rattle.std.specs.Prelude.{◌≡◌, ◌<◌, ◌↔◌, IsTrue, length, OnOk, IfErr};
-ghost use Rattle.ir_tree.specs.declared.module.Reason.TheVariants.{TypeClash, Unassigned};
+ghost use Rattle.std.specs.Prelude.{◌≡◌, ◌<◌, ◌↔◌, IsTrue, length, OnOk, IfErr, IfOk};
+ghost use Rattle.ir_tree.specs.declared.module.Reason.TheVariants.{TypeClash, PhiEdges, Unassigned};
 ghost use Rattle.ir_tree.specs.Sites.{AreNumbered};
-ghost use Rattle.ir_tree.specs.WellFormed.{Passes, PassesNames, IsRefusedAt, IfRefused, IsFirstFailure, UsesUnassigned};
-ghost use Rattle.ir_tree.specs.Definitions.{HasFirsts};
+ghost use Rattle.ir_tree.specs.WellFormed.{Passes, PassesNames, IsRefusedAt, IfRefused};
+ghost use Rattle.assigned_names.specs.Known.{AreKnown, AreBefore};
 
+mod definers;
+mod graph;
 #[cfg(test)]
 mod tests;
+mod uses;
 
+use block_paths::{NameSets, assigned_before};
+use graph::{assigns_of, successors_of};
 use ir_tree::{
-    CheckFault, Function, Reason, Site, first_definitions, is_defined_before, refusal_at, sites_of,
+    CheckFault, Function, Reason, SiteList, first_definitions, refusal_at, sites_of,
 };
 use std::alloc::Global;
+use support::NoMemory;
+use uses::first_unassigned;
 
-/// Passes a function in which each use of a name stands in a later part of the text than the name's
-/// definition (LLVM Language Reference, "Well-Formedness").
+/// Passes a function in which each path from the entry to a use of a name assigns that name (LLVM
+/// Language Reference, "Well-Formedness").
 ///
 /// # Errors
 /// Refused with `Unassigned` at the first use for which it is not so.
@@ -30,44 +39,38 @@ pub fn check_assigned(alloc: Global, f: &Function) -> Result<(), CheckFault>
     requires numbered { AreNumbered f.now }
     requires names { PassesNames f.now }
     requires types { Passes TypeClash f.now }
+    requires edges { Passes PhiEdges f.now }
     ensures passes { OnOk result (Passes Unassigned f.now) }
     ensures refused { IfErr result (IfRefused (IsRefusedAt Unassigned f.now)) }
 {
     let list = sites_of(alloc, f)?;
     let firsts = first_definitions(alloc, list.all.as_slice(), f.names.len())?;
-    let failure = first_unassigned(
-        list.all.as_slice(),
-        list.begins.as_slice(),
-        firsts.as_slice(),
-    );
-    match failure {
+    let before = names_before(alloc, f, &list, firsts.as_slice())?;
+    match first_unassigned(f, &list, firsts.as_slice(), &before) {
         Some(site) => Err(CheckFault::Refused(refusal_at(f, Reason::Unassigned, site))),
         None => Ok(()),
     }
 }
 
-// The first use of a name before which no part of the text defines it.
-fn first_unassigned(sites: &[Site], begins: &[usize], firsts: &[Option<usize>]) -> Option<usize>
-    requires firsts { HasFirsts sites.now firsts.now }
-    requires begins { length begins.now ≡ length sites.now }
-    ensures { IsFirstFailure (UsesUnassigned sites.now begins.now) result }
+// For each block the names that every path before it assigns.
+fn names_before(
+    alloc: Global,
+    f: &Function,
+    list: &SiteList,
+    firsts: &[Option<usize>],
+) -> Result<NameSets, NoMemory>
+    requires known { AreKnown f.now list.now firsts.now }
+    requires numbered { AreNumbered f.now }
+    requires names { PassesNames f.now }
+    ensures { IfOk result (λ sets. AreBefore f.now sets) }
 {
-    for n in 0..sites.len() {
-        if uses_unassigned(sites, begins, firsts, n) {
-            return Some(n);
-        }
-    }
-    None
-}
-
-fn uses_unassigned(sites: &[Site], begins: &[usize], firsts: &[Option<usize>], n: usize) -> bool
-    requires firsts { HasFirsts sites.now firsts.now }
-    requires begins { length begins.now ≡ length sites.now }
-    requires within { n < length sites.now }
-    ensures { IsTrue result ↔ UsesUnassigned sites.now begins.now n }
-{
-    match sites[n] {
-        Site::Uses { of_type: _, name } => !is_defined_before(firsts, name, begins[n]),
-        Site::Defines { .. } | Site::Written { .. } => false,
-    }
+    let successors = successors_of(alloc, f, list, firsts)?;
+    let assigns = assigns_of(alloc, f)?;
+    let sets = assigned_before(
+        alloc,
+        successors.as_slice(),
+        assigns.as_slice(),
+        f.names.len(),
+    )?;
+    Ok(sets)
 }

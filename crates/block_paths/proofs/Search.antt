@@ -5,13 +5,13 @@ use Rattle.std.specs.Prelude.{IsTrue, Some, slice_get, ◌↔◌}
 use Rattle.std.proofs.lemmas.Option.{get_or_from_slice_get}
 use Rattle.std.specs.List.{All, Contains}
 use Rattle.std.proofs.lemmas.List.{get_or-set_same, get_or-set_other, get_or-replicate, length-replicate, get_or_default, get_or_past, replicate_more}
-use Rattle.std.proofs.lemmas.List.Elements.{All-contains, Contains-push, Contains-push_cases, All-nil, All-cons}
+use Rattle.std.proofs.lemmas.List.Elements.{All-contains, Contains-append_cases, Contains-append_right, Contains-push, Contains-push_cases, All-nil, All-cons}
 use Rattle.std.proofs.lemmas.Bool.{cases_eq, cases_lt, cases_Bool, both_ways, false_from_ne_true}
-use Rattle.block_paths.specs.Paths.{Assigns, IsAssignedBefore, IsAssignedIn, IsSuccessor}
+use Rattle.block_paths.specs.Paths.{Assigns, IsAssignedBefore, IsAssignedIn, IsSuccessor, IsUnassignedBefore}
 use Rattle.block_paths.specs.Sets.{has, has_name, places_for}
 use Rattle.block_paths.specs.Work.{AreListed, IsLeaving, IsSpread, State, first_sets, is_waiting, set_of}
 
--- what holds all through the search: no set lacks a name that every path assigns, and the sets behind a
+-- what holds all through the search: where a set lacks a name, some path doesn't assign it, and the sets behind a
 -- block that does not wait have no name that the block does not hand on
 pub record IsSearch (successors assigns : List (List ℕ)) (places : ℕ) (state : State) : Type 0 where
   pub many : length state.sets ≡ length successors
@@ -20,7 +20,7 @@ pub record IsSearch (successors assigns : List (List ℕ)) (places : ℕ) (state
   pub within : All (λ block. block < length successors) state.waiting
   pub listed : AreListed state
   pub entry : (name : ℕ) → has state.sets 0 name ≡ false
-  pub sound : (block name : ℕ) → block < length successors → name < places → IsAssignedBefore successors assigns block name → IsTrue (has state.sets block name)
+  pub missed : (block name : ℕ) → block < length successors → name < places → has state.sets block name ≡ false → IsUnassignedBefore successors assigns block name
   pub passed : (block next name : ℕ) → is_waiting state block ≡ false → IsSuccessor successors block next → IsTrue (has state.sets next name) → IsTrue (has state.sets block name) ⊎ Assigns assigns block name
 
 -- a name of a set has a place there
@@ -31,13 +31,27 @@ place_of s name t = cases (cases_lt name (length s))
     cases (inl below) = below
     cases (inr past) = absurd (both_ways _ (get_or_past s name false past) t)
 
--- what every path to a successor assigns is assigned once the block is left
-pub handed_on : (successors assigns : List (List ℕ)) (block next name : ℕ) → IsSuccessor successors block next → IsAssignedBefore successors assigns next name → (Assigns assigns block name → ⊥) → IsAssignedBefore successors assigns block name
-handed_on successors assigns block next name edge before silent left path = behind (before (block ∷ left) (edge, path))
+-- a path that doesn't assign the name goes on through a block that doesn't assign it
+pub goes_on : (successors assigns : List (List ℕ)) (block next name : ℕ) → IsSuccessor successors block next → IsUnassignedBefore successors assigns block name → (Assigns assigns block name → ⊥) → IsUnassignedBefore successors assigns next name
+goes_on successors assigns block next name edge before silent = (block ∷ before.0, (edge, before.1), behind)
   where
-    behind : Assigns assigns block name ⊎ IsAssignedIn assigns left name → IsAssignedIn assigns left name
-    behind (inl here) = absurd (silent here)
-    behind (inr there) = there
+    behind : Assigns assigns block name ⊎ IsAssignedIn assigns before.0 name → ⊥
+    behind (inl here) = silent here
+    behind (inr there) = before.2 there
+
+-- a number is one of a list, or none of it
+contains_cases : (xs : List ℕ) (x : ℕ) → Contains xs x ⊎ (Contains xs x → ⊥)
+contains_cases [] x = inr (λ found. omega (arith, found.1))
+contains_cases (y ∷ ys) x = first (cases_eq y x) (contains_cases ys x)
+  where
+    first : (y ≡ x) ⊎ (y ≡ x → ⊥) → Contains ys x ⊎ (Contains ys x → ⊥) → Contains (y ∷ ys) x ⊎ (Contains (y ∷ ys) x → ⊥)
+    first (inl same) _ = inl (0, omega arith, same)
+    first (inr other) (inl there) = inl (Contains-append_right (y ∷ []) ys x there)
+    first (inr other) (inr absent) = inr (λ found. either (Contains-append_cases (y ∷ []) ys x found))
+      where
+        either : Contains (y ∷ []) x ⊎ Contains ys x → ⊥
+        either (inl here) = other (All-contains (λ (z : ℕ). y ≡ z) (y ∷ []) x (All-cons (λ (z : ℕ). y ≡ z) y [] refl (All-nil (λ (z : ℕ). y ≡ z))) here)
+        either (inr there) = absent there
 
 -- where each block hands on no more than it has or assigns, what a block has is assigned on each path
 pub on_each_path : (successors assigns : List (List ℕ)) (sets : List (List Bool)) (name : ℕ)
@@ -63,7 +77,7 @@ search_starts successors assigns names others many within =
       within = All-cons (λ block. block < length successors) 0 [] (omega (arith, many)) (All-nil (λ block. block < length successors));
       listed = λ block t. listed block (cases_eq block 0) t;
       entry = λ name. nothing name (cases_lt name (places_for names));
-      sound = sound;
+      missed = missed;
       passed = passed;
     }
   where
@@ -98,9 +112,9 @@ search_starts successors assigns names others many within =
     all_names : (block name : ℕ) → suc block < length successors → name < places_for names → IsTrue (has (first_sets others names) (suc block) name)
     all_names block name below place = ap (λ s. has_name s name) (row block below) ∙ get_or-replicate (places_for names) name true false place
 
-    sound : (block name : ℕ) → block < length successors → name < places_for names → IsAssignedBefore successors assigns block name → IsTrue (has (first_sets others names) block name)
-    sound zero name below place before = absurd (before [] refl)
-    sound (suc block) name below place before = all_names block name below place
+    missed : (block name : ℕ) → block < length successors → name < places_for names → has (first_sets others names) block name ≡ false → IsUnassignedBefore successors assigns block name
+    missed zero name below place lacks = ([], refl, λ assigned. assigned)
+    missed (suc block) name below place lacks = absurd (both_ways _ lacks (all_names block name below place))
 
     inside : (block next : ℕ) → IsSuccessor successors block next → (block < length successors) × (next < length successors)
     inside block next edge = cases (cases_lt block (length successors))
@@ -128,7 +142,7 @@ search_goes_on successors assigns places old taken new block leaving held sets w
       within = subst (λ n. All (λ b. b < n) new.waiting) many (spread.within (subst (λ n. All (λ b. b < n) taken.waiting) (sym many) waiting_within));
       listed = spread.listed listed;
       entry = λ name. false_from_ne_true _ (λ t. both_ways _ (held.entry name) (was 0 name t));
-      sound = λ b name below place before. spread.kept b name (ap (λ s. has s b name) sets ∙ held.sound b name below place before) (λ edge. leaves_on b name edge place before);
+      missed = λ b name below place lacks. misses b name below place lacks (cases_Bool (has old.sets b name));
       passed = λ b next name m edge t. passes b next name m edge t (cases_eq b block);
     }
   where
@@ -164,14 +178,22 @@ search_goes_on successors assigns places old taken new block leaving held sets w
             found (inl c) = c
             found (inr e) = absurd (away (sym e))
 
-    leaves_on : (b name : ℕ) → IsSuccessor successors block b → name < places → IsAssignedBefore successors assigns b name → IsTrue (has_name leaving name)
-    leaves_on b name edge place before = cases (cases_Bool (has_name leaving name))
+    -- the name leaves the block neither as one of its set nor as one that it assigns
+    stays : (b name : ℕ) → IsSuccessor successors block b → name < places → has_name leaving name ≡ false → IsUnassignedBefore successors assigns b name
+    stays b name edge place f =
+        goes_on successors assigns block b name edge (held.missed block name block_within place (false_from_ne_true _ (λ t. both_ways _ f ((leaves.names name).1 (inl t))))) (λ here. both_ways _ f ((leaves.names name).1 (inr here)))
+
+    misses : (b name : ℕ) → b < length successors → name < places → has new.sets b name ≡ false → (has old.sets b name ≡ true) ⊎ (has old.sets b name ≡ false) → IsUnassignedBefore successors assigns b name
+    misses b name below place lacks (inr lacked) = held.missed b name below place lacked
+    misses b name below place lacks (inl had) = by_edge (contains_cases (get_or successors block []) b) (cases_Bool (has_name leaving name))
       where
-        cases : (has_name leaving name ≡ true) ⊎ (has_name leaving name ≡ false) → IsTrue (has_name leaving name)
-        cases (inl t) = t
-        cases (inr f) =
-            (leaves.names name).1 (inl (held.sound block name block_within place (handed_on successors assigns block b name edge before
-            (λ here. both_ways _ f ((leaves.names name).1 (inr here))))))
+        still : (IsSuccessor successors block b → IsTrue (has_name leaving name)) → ⊥
+        still leaves_on = both_ways _ lacks (spread.kept b name (ap (λ s. has s b name) sets ∙ had) leaves_on)
+
+        by_edge : IsSuccessor successors block b ⊎ (IsSuccessor successors block b → ⊥) → (has_name leaving name ≡ true) ⊎ (has_name leaving name ≡ false) → IsUnassignedBefore successors assigns b name
+        by_edge (inl edge) (inr f) = stays b name edge place f
+        by_edge (inl edge) (inl t) = absurd (still (λ e. t))
+        by_edge (inr away) _ = absurd (still (λ edge. absurd (away edge)))
 
     passes : (b next name : ℕ) → get_or new.marks b false ≡ false → IsSuccessor successors b next → IsTrue (has new.sets next name) → (b ≡ block) ⊎ (b ≡ block → ⊥) → IsTrue (has new.sets b name) ⊎ Assigns assigns b name
     passes b next name m edge t (inl e) = again ((leaves.names name).0 (spread.cut next name (subst (λ x. IsSuccessor successors x next) e edge) t))
@@ -189,8 +211,12 @@ search_goes_on successors assigns places old taken new block leaving held sets w
 pub search_ends : (successors assigns : List (List ℕ)) (places : ℕ) (state : State) → IsSearch successors assigns places state → length state.waiting ≡ 0
     → (block name : ℕ) → block < length successors → name < places → IsTrue (has state.sets block name) ↔ IsAssignedBefore successors assigns block name
 search_ends successors assigns places state held none block name below place =
-    (on_each_path successors assigns state.sets name (held.entry name) (λ b next edge t. held.passed b next name (quiet b) edge t) block, held.sound block name below place)
+    (on_each_path successors assigns state.sets name (held.entry name) (λ b next edge t. held.passed b next name (quiet b) edge t) block, λ before. kept before (cases_Bool (has state.sets block name)))
   where
+    kept : IsAssignedBefore successors assigns block name → (has state.sets block name ≡ true) ⊎ (has state.sets block name ≡ false) → IsTrue (has state.sets block name)
+    kept before (inl t) = t
+    kept before (inr f) = let w = held.missed block name below place f in absurd (w.2 (before w.0 w.1))
+
     quiet : (b : ℕ) → is_waiting state b ≡ false
     quiet b = false_from_ne_true _ (λ t. let c : Contains state.waiting b = held.listed b t in omega (arith, c.1, none))
 

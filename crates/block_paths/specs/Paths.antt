@@ -25,3 +25,7 @@ IsAssignedIn assigns (block ∷ blocks) name = Assigns assigns block name ⊎ Is
 -- block that no path comes to, and for none at the entry
 abbrev pub IsAssignedBefore : List (List ℕ) → List (List ℕ) → ℕ → ℕ → Type 0
 IsAssignedBefore successors assigns block name = (left : List ℕ) → IsPathTo successors block left → IsAssignedIn assigns left name
+
+-- some path to the block leaves no block that assigns the name
+abbrev pub IsUnassignedBefore : List (List ℕ) → List (List ℕ) → ℕ → ℕ → Type 0
+IsUnassignedBefore successors assigns block name = (left : List ℕ) × IsPathTo successors block left × (IsAssignedIn assigns left name → ⊥)

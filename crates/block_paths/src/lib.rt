@@ -6,9 +6,9 @@
 //! names as numbers alone. It stands on `support`; what checks the names of a function may stand on it.
 #![tactic(auto)]
 
-ghost use Rattle.std.specs.Prelude.{◌≡◌, ◌<◌, ◌↔◌, ℕ, List, length, IfOk, IsTrue};
+ghost use Rattle.std.specs.Prelude.{◌≡◌, ◌<◌, ◌↔◌, ℕ, List, false, length, IfOk, IsTrue};
 ghost use Rattle.std.specs.List.{All};
-ghost use Rattle.block_paths.specs.Paths.{IsAssignedBefore};
+ghost use Rattle.block_paths.specs.Paths.{IsAssignedBefore, IsUnassignedBefore};
 ghost use Rattle.block_paths.specs.Sets.{AreRoomy, has};
 
 mod name_set;
@@ -44,6 +44,7 @@ pub fn assigned_before(
     requires names { All (All (λ name. name < names)) assigns.now }
     ensures room { IfOk result (λ sets. AreRoomy sets (length successors.now) names) }
     ensures exact { IfOk result (λ sets. (block name : ℕ) → block < length successors.now → name < names → IsTrue (has sets block name) ↔ IsAssignedBefore successors.now assigns.now block name) }
+    ensures missed { IfOk result (λ sets. (block name : ℕ) → block < length successors.now → name < names → has sets block name ≡ false → IsUnassignedBefore successors.now assigns.now block name) }
 {
     if successors.is_empty() {
         return Ok(NameSets::new(Sequence::from_vec(Vec::new(alloc))));

@@ -1,1 +1,4 @@
+pub mod EdgeLemmas
+pub mod PredecessorLemmas
+pub mod Rounds
 pub mod ValueLemmas

@@ -1,17 +1,23 @@
-//! Whether the names and the types of a function are right.
+//! Whether the names, the types and the edges of a function are right.
 //!
 //! It promises that a function passes exactly where no site of its text fails by the rules of
-//! `ir_tree`'s `specs/WellFormed.antt`, and that else the refusal tells the first site that does. It
-//! stands on `ir_tree`; the reader of functions stands on it, and on `assigned_names`, which asks
-//! whether a name has its value where it is used. The rules are those of the LLVM Language Reference,
-//! "Well-Formedness", "Identifiers", and of each instruction's section for its types.
+//! `ir_tree`'s `specs/WellFormed.antt`, and that else the refusal tells the first site that does:
+//! [`check_names`] for names, [`check_types`] for types, and [`check_edges`] for the blocks of phis
+//! and for jumps to the entry. It stands on `ir_tree`; `assigned_names`, which asks whether a name has
+//! its value where it is used, and the reader of functions stand on it. The rules are those of the
+//! LLVM Language Reference, "Well-Formedness", "Identifiers", "phi Instruction", and of each
+//! instruction's section for its types.
 #![tactic(auto)]
 
+mod edges;
+mod marks;
 mod names;
+mod predecessors;
 #[cfg(test)]
 mod tests;
 mod types;
 mod values;
 
+pub use edges::check_edges;
 pub use names::check_names;
 pub use types::check_types;

@@ -4,18 +4,20 @@ ghost use Rattle.ir_tree.specs.Sites.{AreNumbered};
 ghost use Rattle.ir_tree.specs.WellFormed.{PassesNames, IsRefusedAt, IfRefused, IsFirstFailure, DefinesAgain, UsesUnknown};
 ghost use Rattle.ir_tree.specs.Definitions.{HasFirsts};
 
-use crate::values::value_type;
+use crate::values::{is_label, value_type};
 use ir_tree::{
     CheckFault, Function, Reason, Site, first_definitions, is_defined_before, refusal_at, sites_of,
 };
 use std::alloc::Global;
 
-/// Passes a function in which no name is defined twice, and each name that is used as a value is
-/// defined as one (LLVM Language Reference, "Identifiers", "Functions").
+/// Passes a function in which no name is defined twice, each name that is used as a value gets one,
+/// and each that is used as a block is a block's label (LLVM Language Reference, "Identifiers",
+/// "Functions").
 ///
 /// # Errors
 /// Refused with `NameTwice` at the second definition of a name, the first in the text; where there
-/// is none, with `NameUnknown` at the first use of a name that nothing gives a value.
+/// is none, with `NameUnknown` at the first use of a name as a value that nothing gives one, or as a
+/// block where no block has it.
 pub fn check_names(alloc: Global, f: &Function) -> Result<(), CheckFault>
     requires numbered { AreNumbered f.now }
     ensures passes { OnOk result (PassesNames f.now) }
@@ -52,11 +54,11 @@ fn defines_again(sites: &[Site], firsts: &[Option<usize>], n: usize) -> bool
 {
     match sites[n] {
         Site::Defines { of_type: _, name } => is_defined_before(firsts, name, n),
-        Site::Uses { .. } | Site::Written { .. } => false,
+        Site::Uses { .. } | Site::Enters { .. } | Site::Written { .. } => false,
     }
 }
 
-// The first site that uses a name without a value.
+// The first site that uses a name as what it isn't.
 fn first_unknown(sites: &[Site], firsts: &[Option<usize>]) -> Option<usize>
     requires firsts { HasFirsts sites.now firsts.now }
     requires once { (n : ℕ) → DefinesAgain sites.now n → ⊥ }
@@ -78,6 +80,7 @@ fn uses_unknown(sites: &[Site], firsts: &[Option<usize>], n: usize) -> bool
 {
     match sites[n] {
         Site::Uses { of_type: _, name } => value_type(sites, firsts, name).is_none(),
+        Site::Enters { name } => !is_label(sites, firsts, name),
         Site::Defines { .. } | Site::Written { .. } => false,
     }
 }

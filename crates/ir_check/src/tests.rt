@@ -3,10 +3,14 @@
 // The site with number `n`, counted from 0, stands at line 1 and column `n + 1`. In `i8 @(i8 %a, i16 %b)`
 // of one block the sites 0 to 6 are the return type, the function's name, each parameter's type and name,
 // and the label; an instruction's begin with its result at 7.
-use crate::{check_names, check_types};
+//
+// Functions of three blocks have the labels `l`, `m` and `n`: `l` ends as is said, `m` in a jump, and `n`
+// begins with a phi and returns `%a`.
+use crate::{check_edges, check_names, check_types};
 use ir_tree::{
-    Block, Cast, CheckFault, Flags, Function, Inst, IrType, Name, Names, Op, Operand, Parameter,
-    Predicate, Reason, Refused, Terminator, TypedOperand, are_numbered, sites_of,
+    Block, Case, Cast, CheckFault, Flags, Function, Inst, IrType, Name, Names, Op, Operand,
+    Parameter, Phi, PhiEntry, Predicate, Reason, Refused, Terminator, TypedOperand, are_numbered,
+    sites_of,
 };
 use std::alloc::Global;
 use std::test::Fail;
@@ -24,9 +28,13 @@ const D: usize = 3;
 
 const LABEL: usize = 4;
 
+const M: usize = 5;
+
+const N: usize = 6;
+
 fn names(alloc: Global) -> Result<Names, NoMemory> {
     let mut names = Names::new(alloc);
-    for letter in b"abcdl" {
+    for letter in b"abcdlmn" {
         let letters = vec![in alloc; *letter; 1]?;
         names.number(Name::Word(Sequence::from_vec(letters)))?;
     }
@@ -133,6 +141,7 @@ fn checked(alloc: Global, f: &Function) -> Result<(), CheckFault> {
     }
     check_names(alloc, f)?;
     check_types(alloc, f)?;
+    check_edges(alloc, f)?;
     Ok(())
 }
 
@@ -286,4 +295,179 @@ fn what_is_right_passes(rt: HostRuntime) -> Result<(), Fail> {
     let widened = cast(Cast::SignExtend, 8, Operand::Local(A), 16);
     let joined = and(D, 16, Operand::Local(C), Operand::Local(B));
     of_insts(alloc, &[widened, joined]).map_err(|_| Fail::from("refused"))
+}
+
+fn empty_block(alloc: Global, label: usize, terminator: Terminator) -> Block {
+    Block {
+        label,
+        phis: Sequence::from_vec(Vec::new(alloc)),
+        insts: Sequence::from_vec(Vec::new(alloc)),
+        terminator,
+    }
+}
+
+fn phis(alloc: Global, entries: &[PhiEntry]) -> Result<Sequence<Phi>, NoMemory> {
+    let mut phis = Vec::new(alloc);
+    phis.push(Phi {
+        into: C,
+        of_type: int(8),
+        entries: Sequence::from_vec(entries.to_vec(alloc)?),
+    })?;
+    Ok(Sequence::from_vec(phis))
+}
+
+fn joined_blocks(
+    alloc: Global,
+    first: Terminator,
+    entries: &[PhiEntry],
+    to: usize,
+) -> Result<Sequence<Block>, NoMemory> {
+    let phis = phis(alloc, entries)?;
+    let mut blocks = Vec::new(alloc);
+    blocks.push(empty_block(alloc, LABEL, first))?;
+    blocks.push(empty_block(alloc, M, Terminator::Branch { to }))?;
+    blocks.push(Block {
+        label: N,
+        phis,
+        insts: Sequence::from_vec(Vec::new(alloc)),
+        terminator: Terminator::Return(Some(typed(8, Operand::Local(A)))),
+    })?;
+    Ok(Sequence::from_vec(blocks))
+}
+
+/// What is said of three blocks: how the first ends, the entries of the last one's phi, and where the
+/// one between them leads.
+fn joined(
+    alloc: Global,
+    first: Terminator,
+    entries: &[PhiEntry],
+    to: usize,
+) -> Result<(), CheckFault> {
+    let f = Function {
+        name: Name::Word(Sequence::from_vec(Vec::new(alloc))),
+        returns: Some(int(8)),
+        returns_no_undef: false,
+        parameters: parameters(alloc, B)?,
+        blocks: joined_blocks(alloc, first, entries, to)?,
+        names: names(alloc)?,
+        places: places(alloc)?,
+    };
+    checked(alloc, &f)
+}
+
+fn fork() -> Terminator {
+    Terminator::CondBranch {
+        condition: Operand::Number(1),
+        if_true: M,
+        if_false: N,
+    }
+}
+
+fn entry(operand: Operand, from: usize) -> PhiEntry {
+    PhiEntry { operand, from }
+}
+
+/// What is said of a fork that joins again, with these entries in its phi.
+fn of_entries(alloc: Global, entries: &[PhiEntry]) -> Result<(), CheckFault> {
+    joined(alloc, fork(), entries, N)
+}
+
+/// What is said of a switch on `%a` to `m`, with two cases that lead to `n`.
+fn of_cases(alloc: Global, one: (u32, u64), other: (u32, u64)) -> Result<(), CheckFault> {
+    let case = |(bits, value)| Case {
+        width: width(bits),
+        value,
+        to: N,
+    };
+    let cases = [case(one), case(other)].to_vec(alloc)?;
+    let first = Terminator::Switch {
+        width: width(8),
+        operand: Operand::Local(A),
+        default: M,
+        cases: Sequence::from_vec(cases),
+    };
+    let a = Operand::Local(A);
+    joined(alloc, first, &[entry(a, LABEL), entry(a, M)], N)
+}
+
+#[test]
+fn labels_are_no_values(rt: HostRuntime) {
+    let alloc = rt.alloc();
+    let a = Operand::Local(A);
+    let to_l = entry(a, LABEL);
+    let rows = [
+        ("no label", of_entries(alloc, &[to_l, entry(a, D)]), 19),
+        (
+            "a value as a label",
+            of_entries(alloc, &[to_l, entry(a, A)]),
+            19,
+        ),
+        (
+            "a label as a value",
+            of_entries(alloc, &[to_l, entry(Operand::Local(M), M)]),
+            18,
+        ),
+        ("a jump to no label", joined(alloc, fork(), &[to_l], D), 12),
+    ];
+    for (row, told, site) in rows {
+        assert_eq!(rt; told, refused(Reason::NameUnknown, site), "{row}");
+    }
+}
+
+#[test]
+fn cases_have_the_type_of_the_switch_and_differ(rt: HostRuntime) {
+    let alloc = rt.alloc();
+    let rows = [
+        ("a wider case", of_cases(alloc, (16, 1), (8, 2)), 10),
+        ("one number twice", of_cases(alloc, (8, 1), (8, 1)), 14),
+        (
+            "one number of 8 bits twice",
+            of_cases(alloc, (8, 1), (8, 257)),
+            14,
+        ),
+    ];
+    for (row, told, site) in rows {
+        assert_eq!(rt; told, refused(Reason::TypeClash, site), "{row}");
+    }
+}
+
+#[test]
+fn a_phi_has_its_predecessors(rt: HostRuntime) {
+    let alloc = rt.alloc();
+    let a = Operand::Local(A);
+    let three = Operand::Number(3);
+    let from_l = entry(a, LABEL);
+    let from_m = entry(three, M);
+    let rows = [
+        ("one is missing", of_entries(alloc, &[from_l]), 14),
+        (
+            "a stranger",
+            of_entries(alloc, &[from_l, from_m, entry(three, N)]),
+            14,
+        ),
+        (
+            "two operands",
+            of_entries(alloc, &[from_m, from_l, entry(Operand::Number(4), M)]),
+            14,
+        ),
+        (
+            "a jump to the entry",
+            joined(alloc, fork(), &[from_l], LABEL),
+            12,
+        ),
+    ];
+    for (row, told, site) in rows {
+        assert_eq!(rt; told, refused(Reason::PhiEdges, site), "{row}");
+    }
+}
+
+#[test]
+fn blocks_that_are_right_pass(rt: HostRuntime) -> Result<(), Fail> {
+    let alloc = rt.alloc();
+    let from_l = entry(Operand::Local(A), LABEL);
+    let from_m = entry(Operand::Number(3), M);
+    of_entries(alloc, &[from_m, from_l]).map_err(|_| Fail::from("a fork"))?;
+    let again = entry(Operand::Number(259), M);
+    of_entries(alloc, &[from_m, from_l, again]).map_err(|_| Fail::from("one operand twice"))?;
+    of_cases(alloc, (8, 1), (8, 2)).map_err(|_| Fail::from("a switch"))
 }

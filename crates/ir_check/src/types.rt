@@ -13,8 +13,9 @@ use std::alloc::Global;
 
 /// Passes a function in which each type and each literal may stand where it is written, and each
 /// name is used at the type of its value: the widths of a cast are in its order, the arms of a
-/// `select` have one type, and what a `ret` gives has the type of the header (LLVM Language
-/// Reference, "Conversion Operations", "select Instruction", "ret Instruction").
+/// `select` have one type, the cases of a `switch` have its type and differ, and what a `ret` gives
+/// has the type of the header (LLVM Language Reference, "Conversion Operations", "select
+/// Instruction", "switch Instruction", "ret Instruction").
 ///
 /// # Errors
 /// Refused with `TypeClash` at the first site where it is not so.
@@ -53,7 +54,7 @@ fn clashes(sites: &[Site], firsts: &[Option<usize>], n: usize) -> bool
     ensures { IsTrue result ↔ ClashesType sites.now n }
 {
     match sites[n] {
-        Site::Defines { .. } => false,
+        Site::Defines { .. } | Site::Enters { .. } => false,
         Site::Uses { of_type, name } => is_other(value_type(sites, firsts, name), of_type),
         Site::Written { fits } => !fits,
     }

@@ -62,3 +62,7 @@ loop-block-preserved c =
 pub returns-clause-exact : goal.returns-clause-exact
 returns-clause-exact c block name below place =
     rw c.new-2.ensures (search_ends c.args.successors.now c.args.assigns.now (places_for c.args.names) (state_of c.loop-block.work) c.loop-block.invariant.search (omega (arith, c.in_default.ensures.cases, c.loop-block.work.waiting.ok.0)) block name below (omega (arith, place)))
+
+pub returns-clause-missed : goal.returns-clause-missed
+returns-clause-missed c block name below place lacks =
+    c.loop-block.invariant.search.missed block name below (omega (arith, place)) (let same = c.new-2.ensures in rw same at lacks)

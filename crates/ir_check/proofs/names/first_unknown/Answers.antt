@@ -1,9 +1,8 @@
 use Rattle.std.proofs.Common.{◌≡◌, true, length, arith}
-use Rattle.std.proofs.lemmas.Option.{slice_get_within}
 use borrow.Author.Count.{below_more}
-use Rattle.ir_tree.specs.declared.sites.Site.TheVariants.{Uses}
 use Rattle.ir_tree.specs.WellFormed.{UsesUnknown}
 use Rattle.ir_tree.proofs.Failures.{failure, no_failure}
+use Rattle.ir_check.proofs.ValueLemmas.{unknown_within}
 use Rattle.ir_check.proofs.names.first_unknown.Goals as goal
 
 pub returns-then-uses_unknown : goal.returns-then-uses_unknown
@@ -13,4 +12,4 @@ pub loop-n-preserved : goal.loop-n-preserved
 loop-n-preserved c = below_more _ _ c.loop-n.invariant (λ d. absurd (let found : c.uses_unknown.result ≡ true = c.uses_unknown.ensures.1 d in cc))
 
 pub returns : goal.returns
-returns c = no_failure (UsesUnknown c.args.sites.now) (length c.args.sites.now) (λ k d. slice_get_within c.args.sites.now k (Uses d.type d.name) d.here) (λ k below. c.loop-n.invariant k (omega (arith, below)))
+returns c = no_failure (UsesUnknown c.args.sites.now) (length c.args.sites.now) (λ k d. unknown_within c.args.sites.now k d) (λ k below. c.loop-n.invariant k (omega (arith, below)))

@@ -1,0 +1,2 @@
+pub mod DefinerLemmas
+pub mod UseLemmas

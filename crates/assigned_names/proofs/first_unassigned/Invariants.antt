@@ -1,6 +1,0 @@
-use Rattle.std.proofs.Common.{◌<◌, ℕ}
-use Rattle.ir_tree.specs.WellFormed.{UsesUnassigned}
-use Rattle.assigned_names.proofs.first_unassigned.Given as goal
-
-abbrev pub invariant-loop-n : goal.invariant-loop-n
-invariant-loop-n l = (k : ℕ) → k < l.n → UsesUnassigned l.sites l.begins k → ⊥

@@ -1,0 +1,10 @@
+use Rattle.std.proofs.Common.{◌≡◌, [], length, take}
+use Rattle.ir_tree.specs.declared.tree.IrType.{IrType}
+use Rattle.ir_check.specs.Marks.{AreMarked}
+use Rattle.ir_check.proofs.edges.await_all.Given as goal
+
+abbrev pub invariant-loop-label : goal.invariant-loop-label
+invariant-loop-label l = record {
+  marks : length l.marks ≡ length l.fn.marks;
+  marked : (of_type : IrType) → AreMarked (take l.label-index l.predecessors) of_type [] l.marks;
+}

@@ -1,0 +1,9 @@
+use Rattle.std.proofs.Common.{◌≡◌, ◌<◌, ℕ, length}
+use Rattle.ir_tree.specs.WellFormed.{HasWrongEdge}
+use Rattle.ir_check.proofs.edges.first_wrong.Given as goal
+
+abbrev pub invariant-loop-n : goal.invariant-loop-n
+invariant-loop-n l = record {
+  marks : length l.marks ≡ length l.f.names;
+  none : (k : ℕ) → k < l.n → HasWrongEdge l.f k → ⊥;
+}
