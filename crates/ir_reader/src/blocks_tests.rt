@@ -1,6 +1,7 @@
 // Functions of several blocks: which are read, and why and where others are refused.
 use crate::tests::{is_read, refusal};
 use ir_tree::{Reason, Refused};
+use std::alloc::Global;
 use std::test::Fail;
 
 #[test]
@@ -243,7 +244,7 @@ fn cuts(rt: HostRuntime) {
             35,
         ),
         (
-            "flags of a jump",
+            "a flag behind the last instruction",
             "define void @f() { unreachable nuw }",
             Reason::Unsupported,
             1,
@@ -414,4 +415,46 @@ fn tested(rt: HostRuntime) {
         };
         assert_eq!(rt; refusal(rt.alloc(), text), Some(refused), "{row}");
     }
+}
+
+// A text with a piece in its middle so many times.
+fn repeated(
+    alloc: Global,
+    front: &str,
+    piece: &str,
+    times: usize,
+    end: &str,
+) -> Result<String, Fail> {
+    let mut text = String::new(alloc);
+    text.push_str(front)?;
+    for _ in 0..times {
+        text.push_str(piece)?;
+    }
+    text.push_str(end)?;
+    Ok(text)
+}
+
+// Cases of a switch, and instructions of all blocks, up to the limit and past it. Those up to the
+// limit are refused for what they say.
+#[test]
+fn limits(rt: HostRuntime) -> Result<(), Fail> {
+    let switch = "define void @f(i8 %x) { switch i8 %x, label %a [ ";
+    let blocks = "define void @f() { br label %a a: ";
+    let rows = [
+        (switch, "i8 1, label %a ", 256, "] a: ret void }", Reason::TypeClash, 68),
+        (switch, "i8 1, label %a ", 257, "] a: ret void }", Reason::Limit, 3890),
+        (blocks, "%r = freeze i8 1 ", 65_534, "ret void }", Reason::NameTwice, 52),
+        (blocks, "%r = freeze i8 1 ", 65_535, "ret void }", Reason::Limit, 1114130),
+        (blocks, "%r = freeze i8 1 ", 65_536, "ret void }", Reason::Limit, 1114130),
+    ];
+    for (front, piece, times, end, reason, column) in rows {
+        let text = repeated(rt.alloc(), front, piece, times, end)?;
+        let refused = Refused {
+            reason,
+            line: 1,
+            column,
+        };
+        assert_eq!(rt; refusal(rt.alloc(), text.as_str()), Some(refused), "{times}");
+    }
+    Ok(())
 }
