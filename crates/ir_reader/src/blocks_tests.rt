@@ -417,44 +417,33 @@ fn tested(rt: HostRuntime) {
     }
 }
 
-// A text with a piece in its middle so many times.
-fn repeated(
-    alloc: Global,
-    front: &str,
-    piece: &str,
-    times: usize,
-    end: &str,
-) -> Result<String, Fail> {
+// A function with a switch of so many cases, all equal.
+fn switch_of(alloc: Global, cases: usize) -> Result<String, Fail> {
     let mut text = String::new(alloc);
-    text.push_str(front)?;
-    for _ in 0..times {
-        text.push_str(piece)?;
+    text.push_str("define void @f(i8 %x) { switch i8 %x, label %a [ ")?;
+    for _ in 0..cases {
+        text.push_str("i8 1, label %a ")?;
     }
-    text.push_str(end)?;
+    text.push_str("] a: ret void }")?;
     Ok(text)
 }
 
-// Cases of a switch, and instructions of all blocks, up to the limit and past it. Those up to the
-// limit are refused for what they say.
+// As many cases as a switch may have, which are refused for being equal, and one more.
 #[test]
-fn limits(rt: HostRuntime) -> Result<(), Fail> {
-    let switch = "define void @f(i8 %x) { switch i8 %x, label %a [ ";
-    let blocks = "define void @f() { br label %a a: ";
-    let rows = [
-        (switch, "i8 1, label %a ", 256, "] a: ret void }", Reason::TypeClash, 68),
-        (switch, "i8 1, label %a ", 257, "] a: ret void }", Reason::Limit, 3890),
-        (blocks, "%r = freeze i8 1 ", 65_534, "ret void }", Reason::NameTwice, 52),
-        (blocks, "%r = freeze i8 1 ", 65_535, "ret void }", Reason::Limit, 1114130),
-        (blocks, "%r = freeze i8 1 ", 65_536, "ret void }", Reason::Limit, 1114130),
-    ];
-    for (front, piece, times, end, reason, column) in rows {
-        let text = repeated(rt.alloc(), front, piece, times, end)?;
+fn cases_up_to_the_limit(rt: HostRuntime) -> Result<(), Fail> {
+    let rows = [(256, Reason::TypeClash, 68), (257, Reason::Limit, 3_890)];
+    for (cases, reason, column) in rows {
+        let text = switch_of(rt.alloc(), cases)?;
         let refused = Refused {
             reason,
             line: 1,
             column,
         };
-        assert_eq!(rt; refusal(rt.alloc(), text.as_str()), Some(refused), "{times}");
+        assert_eq!(rt;
+            refusal(rt.alloc(), text.as_str()),
+            Some(refused),
+            "{cases} cases"
+        );
     }
     Ok(())
 }
