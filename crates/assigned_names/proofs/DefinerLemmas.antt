@@ -220,8 +220,8 @@ successors_fit f lists names is =
     subst (λ (ls : List (List ℕ)). All (All (λ next. next < length lists)) ls) (sym is)
     (all_map (All (λ (next : ℕ). next < length lists)) row f.blocks
     (λ i b stands. all_map (λ (next : ℕ). next < length lists) (block_of f) (targets b.terminator) (λ j t its.
-        let found : Contains (targets b.terminator) t = (j, slice_get_within (targets b.terminator) j t its, get_or_from_slice_get (targets b.terminator) j t t its) in
-        let least = target_within f i b t names stands found in omega (arith, least, same))))
+    let found : Contains (targets b.terminator) t = (j, slice_get_within (targets b.terminator) j t its, get_or_from_slice_get (targets b.terminator) j t t its) in
+    let least = target_within f i b t names stands found in omega (arith, least, same))))
 
 number_of_part : (f : Function) (p : Part) (name : ℕ) → AreNumbered f → DefinesIn f p name → name < length f.names
 number_of_part f p name numbered found = let w = defined_at f p name found in all_at (IsNumbered (length f.names)) (sites f) w.0 (Defines w.1 name) numbered w.2
@@ -231,8 +231,8 @@ assigns_fit f lists count numbered is same =
     subst (λ (ls : List (List ℕ)). All (All (λ (name : ℕ). name < count)) ls) (sym is)
     (all_map (All (λ (name : ℕ). name < count)) (λ (b : Block). assigned_with b b.insts) f.blocks
     (λ i b stands. All-append (λ (name : ℕ). name < count) (map (λ (phi : Phi). phi.into) b.phis) (map result_of b.insts)
-        (all_map (λ (name : ℕ). name < count) (λ (phi : Phi). phi.into) b.phis (λ j phi its. let least = number_of_part f (part.Phi i j) phi.into numbered (b, stands, phi, its, refl) in omega (arith, least, same)))
-        (all_map (λ (name : ℕ). name < count) result_of b.insts (λ j inst its. let least = number_of_part f (part.Inst i j) (result_of inst) numbered (b, stands, inst, its, refl) in omega (arith, least, same)))))
+    (all_map (λ (name : ℕ). name < count) (λ (phi : Phi). phi.into) b.phis (λ j phi its. let least = number_of_part f (part.Phi i j) phi.into numbered (b, stands, phi, its, refl) in omega (arith, least, same)))
+    (all_map (λ (name : ℕ). name < count) result_of b.insts (λ j inst its. let least = number_of_part f (part.Inst i j) (result_of inst) numbered (b, stands, inst, its, refl) in omega (arith, least, same)))))
 
 pub lists_alike : (f : Function) (ss as' : List (List ℕ)) → ss ≡ successors f → as' ≡ assigns f → length ss ≡ length as'
 lists_alike f ss as' is is' =

@@ -13,19 +13,17 @@ ghost use Rattle.std.specs.Prelude.{◌≡◌, ◌<◌, ◌↔◌, IsTrue, lengt
 ghost use Rattle.ir_tree.specs.declared.module.Reason.TheVariants.{TypeClash, PhiEdges, Unassigned};
 ghost use Rattle.ir_tree.specs.Sites.{AreNumbered};
 ghost use Rattle.ir_tree.specs.WellFormed.{Passes, PassesNames, IsRefusedAt, IfRefused};
-ghost use Rattle.assigned_names.specs.Known.{AreKnown, AreBefore};
+ghost use Rattle.assigned_names.specs.Known.{AreBefore};
 
+mod assigning;
 mod definers;
-mod graph;
 #[cfg(test)]
 mod tests;
 mod uses;
 
+use assigning::assigns_of;
 use block_paths::{NameSets, assigned_before};
-use graph::{assigns_of, successors_of};
-use ir_tree::{
-    CheckFault, Function, Reason, SiteList, first_definitions, refusal_at, sites_of,
-};
+use ir_tree::{CheckFault, Function, Reason, first_definitions, refusal_at, sites_of, successors};
 use std::alloc::Global;
 use support::NoMemory;
 use uses::first_unassigned;
@@ -45,7 +43,7 @@ pub fn check_assigned(alloc: Global, f: &Function) -> Result<(), CheckFault>
 {
     let list = sites_of(alloc, f)?;
     let firsts = first_definitions(alloc, list.all.as_slice(), f.names.len())?;
-    let before = names_before(alloc, f, &list, firsts.as_slice())?;
+    let before = names_before(alloc, f)?;
     match first_unassigned(f, &list, firsts.as_slice(), &before) {
         Some(site) => Err(CheckFault::Refused(refusal_at(f, Reason::Unassigned, site))),
         None => Ok(()),
@@ -53,18 +51,12 @@ pub fn check_assigned(alloc: Global, f: &Function) -> Result<(), CheckFault>
 }
 
 // For each block the names that every path before it assigns.
-fn names_before(
-    alloc: Global,
-    f: &Function,
-    list: &SiteList,
-    firsts: &[Option<usize>],
-) -> Result<NameSets, NoMemory>
-    requires known { AreKnown f.now list.now firsts.now }
+fn names_before(alloc: Global, f: &Function) -> Result<NameSets, NoMemory>
     requires numbered { AreNumbered f.now }
     requires names { PassesNames f.now }
     ensures { IfOk result (λ sets. AreBefore f.now sets) }
 {
-    let successors = successors_of(alloc, f, list, firsts)?;
+    let successors = successors(alloc, f)?;
     let assigns = assigns_of(alloc, f)?;
     let sets = assigned_before(
         alloc,

@@ -3,7 +3,6 @@
 ghost use Rattle.std.specs.Prelude.{◌≡◌, ◌+◌, ◌<◌, ◌^◌, ℕ, IfOk, OnOk, IfSome, length, map, nat_eq};
 ghost use Rattle.std.specs.List.{find};
 ghost use Rattle.ir_tree.specs.Sites.{same_number};
-ghost use Rattle.ir_tree.specs.Flow.{block_of};
 ghost use Rattle.points.specs.Run.{entry_value, phi_value, entered, branch_on, case_for, switch_on, exit_by};
 ghost use Rattle.choice_interp.specs.Left.{assign_all, exit_with, IsJump};
 
@@ -11,10 +10,9 @@ use crate::ending::Ending;
 use crate::step::{assign, return_from, typed_value, value_of};
 use crate::table::low_bits;
 use byte_block::Value;
-use ir_tree::{Block, Case, Function, Phi, PhiEntry, Terminator};
+use ir_tree::{Block, Case, Phi, PhiEntry, Terminator};
 use points::Machine;
-use std::alloc::Global;
-use support::NoMemory;
+use support::{NoMemory, Sequence};
 use tv_num::Width;
 
 /// How a block is left: for the block of a label, or for good.
@@ -45,14 +43,18 @@ fn phi_value(machine: &Machine, phi: &Phi) -> Value
     typed_value(phi.of_type, entry_value(machine, phi.entries.as_slice()))
 }
 
-fn phi_values(alloc: Global, machine: &Machine, phis: &[Phi]) -> Result<Vec<Value>, NoMemory>
-    ensures { IfOk result (λ values. values.items ≡ map (phi_value machine.now) phis.now) }
+fn take_phi_values(
+    values: &mut Sequence<Value>,
+    machine: &Machine,
+    phis: &[Phi],
+) -> Result<(), NoMemory>
+    ensures { OnOk result (values.new ≡ map (phi_value machine.now) phis.now) }
 {
-    let values = phis
-        .iter()
-        .map(|phi| phi_value(machine, phi))
-        .collect(alloc)?;
-    Ok(values)
+    values.clear();
+    for phi in phis {
+        values.push(phi_value(machine, phi))?;
+    }
+    Ok(())
 }
 
 fn assign_phis(machine: &mut Machine, phis: &[Phi], values: &[Value])
@@ -67,15 +69,19 @@ fn assign_phis(machine: &mut Machine, phis: &[Phi], values: &[Value])
     }
 }
 
-/// Enters a block: all its phis get their values at once. Where it has none, no memory is taken.
-/// After want of memory the machine is as before.
-pub fn enter(alloc: Global, machine: &mut Machine, block: &Block) -> Result<(), NoMemory>
+/// Enters a block: all its phis get their values at once. `values` is room for these; memory is taken
+/// where it is too small. After want of memory the machine is as before.
+pub fn enter(
+    machine: &mut Machine,
+    values: &mut Sequence<Value>,
+    block: &Block,
+) -> Result<(), NoMemory>
     ensures value { OnOk result (machine.new ≡ entered block.now machine.old) }
     ensures registers { length machine.new.registers ≡ length machine.old.registers }
     ensures memory { machine.new.memory ≡ machine.old.memory }
     ensures turn { machine.new.turn ≡ machine.old.turn }
 {
-    let values = phi_values(alloc, machine, block.phis.as_slice())?;
+    take_phi_values(values, machine, block.phis.as_slice())?;
     assign_phis(machine, block.phis.as_slice(), values.as_slice());
     machine.block = block.label;
     Ok(())
@@ -161,19 +167,6 @@ pub fn leave(
         }
         Terminator::Unreachable => Ok(Left::Over(Ending::Ub)),
     }
-}
-
-/// The place of the block with this label, and the number of blocks where there is none.
-pub fn place_of(f: &Function, label: usize) -> usize
-    ensures { result ≡ block_of f.now label }
-{
-    let blocks = f.blocks.as_slice();
-    for (place, block) in blocks.iter().enumerate() {
-        if block.label == label {
-            return place;
-        }
-    }
-    blocks.len()
 }
 
 /// Jumps from a place to another one, with so many backward jumps left: how many are left then, and

@@ -1,13 +1,15 @@
 ghost use Rattle.std.specs.Prelude.{◌≡◌, length, replicate, IfOk, Some};
 ghost use Rattle.points.specs.Run.{exit_insts, exit_of, run_turns, with_args, breaks_noundef, first_machine, run_of};
 ghost use Rattle.choice_interp.specs.Left.{exit_with};
+ghost use Rattle.ir_tree.specs.BlockIndexes.{IsIndex};
 ghost use Rattle.choice_interp.specs.Ran.{run_with};
+ghost use Rattle.choice_interp.specs.Runners.{IsRunner};
 
 use crate::ending::Ending;
-use crate::flow::{Left, enter, jump, leave, place_of};
+use crate::flow::{Left, enter, jump, leave};
 use crate::step::{is_poison, step};
 use byte_block::{Memory, Value, copy_memory};
-use ir_tree::{Block, Function, Parameter};
+use ir_tree::{Block, BlockIndex, Function, Parameter};
 use points::{Bounds, Input, Machine};
 use std::alloc::{AllocError, Global};
 use support::{NoMemory, Sequence};
@@ -18,18 +20,34 @@ fn poisons(alloc: Global, count: usize) -> Result<Vec<Value>, AllocError>
     vec![in alloc; Value::Poison; count]
 }
 
-/// A machine for runs of a function on inputs with these blocks.
-pub fn machine_for(alloc: Global, f: &Function, blocks: &Memory) -> Result<Machine, NoMemory>
-    ensures registers { IfOk result (λ machine. length machine.registers ≡ length f.now.names) }
-    ensures memory { IfOk result (λ machine. machine.memory ≡ blocks.now) }
+/// What the runs of one function use again: a machine, the places of the function's labels, and room
+/// for the values of a block's phis.
+#[derive(Drop)]
+pub struct Runner {
+    pub machine: Machine,
+    pub index: BlockIndex,
+    pub phis: Sequence<Value>,
+}
+
+/// A runner of a function on inputs with these blocks.
+///
+/// # Errors
+/// For want of memory alone.
+pub fn runner_for(alloc: Global, f: &Function, blocks: &Memory) -> Result<Runner, NoMemory>
+    ensures { IfOk result (IsRunner f.now blocks.now) }
 {
     let registers = poisons(alloc, f.names.len())?;
-    Ok(Machine {
+    let machine = Machine {
         registers: Sequence::from_vec(registers),
         memory: copy_memory(alloc, blocks)?,
         turn: 0,
         block: 0,
         taken: Sequence::from_vec(Vec::new(alloc)),
+    };
+    Ok(Runner {
+        machine,
+        index: BlockIndex::of(alloc, f)?,
+        phis: Sequence::from_vec(Vec::new(alloc)),
     })
 }
 
@@ -119,8 +137,8 @@ fn run_insts(
 
 /// A block, from its phis to its end.
 fn run_block(
-    alloc: Global,
     machine: &mut Machine,
+    phis: &mut Sequence<Value>,
     no_undef: bool,
     block: &Block,
     tape: &[u64],
@@ -130,20 +148,22 @@ fn run_block(
     ensures memory { machine.new.memory ≡ machine.old.memory }
     ensures turn { machine.new.turn ≡ machine.old.turn }
 {
-    enter(alloc, machine, block)?;
+    enter(machine, phis, block)?;
     let left = run_insts(machine, no_undef, block, tape)?;
     Ok(left)
 }
 
 /// The blocks of a function, from the entry on, with so many backward jumps.
 fn run_blocks(
-    alloc: Global,
     machine: &mut Machine,
+    phis: &mut Sequence<Value>,
     f: &Function,
+    index: &BlockIndex,
     turns: u64,
     tape: &[u64],
 ) -> Result<Ending, NoMemory>
-    requires { machine.old.turn ≡ 0 }
+    requires turn { machine.old.turn ≡ 0 }
+    requires index { IsIndex f.now index.now }
     ensures run { IfOk result (λ ending. run_turns f.now tape.now turns 0 machine.old ≡ run_with ending machine.new) }
     ensures registers { length machine.new.registers ≡ length machine.old.registers }
     ensures memory { machine.new.memory ≡ machine.old.memory }
@@ -152,10 +172,10 @@ fn run_blocks(
     let mut at = 0;
     let mut jumps = turns;
     while at < blocks.len() {
-        match run_block(alloc, machine, f.returns_no_undef, &blocks[at], tape)? {
+        match run_block(machine, phis, f.returns_no_undef, &blocks[at], tape)? {
             Left::Over(ending) => return Ok(ending),
             Left::To(label) => {
-                let to = place_of(f, label);
+                let to = index.place(f, label);
                 match jump(machine, at, to, jumps) {
                     Some(rest) => {
                         jumps = rest;
@@ -169,27 +189,31 @@ fn run_blocks(
     Ok(Ending::Ub)
 }
 
-/// Runs a function on an input and a tape, in a machine for it that has the input's blocks. No
-/// memory is taken but for choices, more of them than any run in this machine took before. After
-/// want of memory the machine is one in the middle of the run, good for another run.
+/// Runs a function on an input and a tape, by a runner of it that has the input's blocks. No memory is
+/// taken but for choices and for the phis of a block, more of them than any run by this runner had
+/// before. After want of memory the runner is one in the middle of the run, good for another run.
 pub fn run_again(
-    alloc: Global,
-    machine: &mut Machine,
+    runner: &mut Runner,
     f: &Function,
     bounds: &Bounds,
     input: &Input,
     tape: &[u64],
 ) -> Result<Ending, NoMemory>
-    requires registers { length machine.old.registers ≡ length f.now.names }
-    requires memory { machine.old.memory ≡ input.now.blocks }
-    ensures run { IfOk result (λ ending. run_of f.now bounds.now input.now tape.now ≡ run_with ending machine.new) }
-    ensures registers { length machine.new.registers ≡ length f.now.names }
-    ensures memory { machine.new.memory ≡ input.now.blocks }
+    requires ready { IsRunner f.now input.now.blocks runner.old }
+    ensures run { IfOk result (λ ending. run_of f.now bounds.now input.now tape.now ≡ run_with ending runner.new.machine) }
+    ensures ready { IsRunner f.now input.now.blocks runner.new }
 {
-    begin(machine, f, input);
+    begin(&mut runner.machine, f, input);
     if breaks_no_undef(f.parameters.as_slice(), input.args.as_slice()) {
         return Ok(Ending::Ub);
     }
-    let ending = run_blocks(alloc, machine, f, bounds.turns, tape)?;
+    let ending = run_blocks(
+        &mut runner.machine,
+        &mut runner.phis,
+        f,
+        &runner.index,
+        bounds.turns,
+        tape,
+    )?;
     Ok(ending)
 }

@@ -1,8 +1,9 @@
 ghost use Rattle.std.specs.Prelude.{◌≡◌, ◌↔◌, IsTrue, IfOk, ℕ, slice_index};
 ghost use Rattle.points.specs.Run.{run_of};
-ghost use Rattle.choice_interp.specs.Ran.{Shows};
+ghost use Rattle.choice_interp.specs.Ran.{Shows, run_with};
 
-use crate::rerun::{machine_for, run_again};
+use crate::ending::Ending;
+use crate::rerun::{Runner, run_again, runner_for};
 use ir_tree::Function;
 use points::{Bounds, Input, Machine, Outcome};
 use std::alloc::Global;
@@ -30,6 +31,20 @@ pub fn is_plain(tape: &[u64], taken: &[u64]) -> bool
     true
 }
 
+// What is told of the run that ended so in this machine.
+fn ran_of(machine: Machine, ending: Ending, tape: &[u64]) -> Ran
+    ensures { Shows tape.now (run_with ending machine) result }
+{
+    let read = machine.taken.len() as u64;
+    let plain = is_plain(tape, machine.taken.as_slice());
+    let Machine { memory, .. } = machine;
+    Ran {
+        outcome: ending.with_memory(memory),
+        read,
+        plain,
+    }
+}
+
 /// The run of a function on an input and a tape.
 pub fn interpret(
     alloc: Global,
@@ -40,14 +55,8 @@ pub fn interpret(
 ) -> Result<Ran, NoMemory>
     ensures { IfOk result (Shows tape.now (run_of f.now bounds.now input.now tape.now)) }
 {
-    let mut machine = machine_for(alloc, f, &input.blocks)?;
-    let ending = run_again(alloc, &mut machine, f, bounds, input, tape)?;
-    let read = machine.taken.len() as u64;
-    let plain = is_plain(tape, machine.taken.as_slice());
-    let Machine { memory, .. } = machine;
-    Ok(Ran {
-        outcome: ending.with_memory(memory),
-        read,
-        plain,
-    })
+    let mut runner = runner_for(alloc, f, &input.blocks)?;
+    let ending = run_again(&mut runner, f, bounds, input, tape)?;
+    let Runner { machine, .. } = runner;
+    Ok(ran_of(machine, ending, tape))
 }

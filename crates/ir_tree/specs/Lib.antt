@@ -2,6 +2,7 @@ pub mod Names
 pub mod Types
 pub mod Limits
 pub mod Flow
+pub mod BlockIndexes
 pub mod Sites
 pub mod SiteLists
 pub mod WellFormed

@@ -1,9 +1,13 @@
+// Where the blocks of a function lead.
 ghost use Rattle.std.specs.Prelude.{◌≡◌, ◌∷◌, map, IfOk};
 ghost use Rattle.ir_tree.specs.declared.tree.Case.{Case};
-ghost use Rattle.ir_tree.specs.Flow.{targets};
+ghost use Rattle.ir_tree.specs.Flow.{targets, block_of, successors};
+ghost use Rattle.ir_tree.specs.BlockIndexes.{IsIndex};
 
-use crate::tree::{Case, Terminator};
+use crate::tree::{Case, Function, Terminator};
+use indexmap::IndexMap;
 use std::alloc::Global;
+use std::marker::Model;
 use support::{NoMemory, Sequence};
 
 /// The labels, by their numbers, of the blocks that may run behind a terminator, in text order. A
@@ -37,4 +41,75 @@ fn switch_targets(alloc: Global, default: usize, cases: &[Case]) -> Result<Vec<u
         labels.push(case.to)?;
     }
     Ok(labels)
+}
+
+/// The places of a function's blocks by their labels. Of blocks with one label it has the first's
+/// place. Contracts see its entries.
+#[derive(Drop)]
+pub struct BlockIndex {
+    places: IndexMap<usize, usize>,
+}
+
+impl Model for BlockIndex {
+    ghost use Rattle.std.specs.Prelude.{ℕ, List};
+
+    ghost Value = { List (ℕ × ℕ) };
+
+    ghost view = { λ index. index.places.entries };
+}
+
+impl BlockIndex {
+    /// The places of this function's blocks.
+    pub fn of(alloc: Global, f: &Function) -> Result<BlockIndex, NoMemory>
+        ensures { IfOk result (IsIndex f.now) }
+    {
+        let blocks = f.blocks.as_slice();
+        let mut places = IndexMap::new(alloc);
+        for place in (0..blocks.len()).rev() {
+            places.insert(blocks[place].label, place)?;
+        }
+        Ok(BlockIndex { places })
+    }
+
+    /// The place of the block with this label, and the number of blocks where there is none, in the
+    /// function that the index is of.
+    pub fn place(&self, f: &Function, label: usize) -> usize
+        requires { IsIndex f.now self.now }
+        ensures { result ≡ block_of f.now label }
+    {
+        match self.places.get(&label) {
+            Some(place) => *place,
+            None => f.blocks.len(),
+        }
+    }
+
+    fn places(
+        &self,
+        alloc: Global,
+        f: &Function,
+        labels: &[usize],
+    ) -> Result<Sequence<usize>, NoMemory>
+        requires { IsIndex f.now self.now }
+        ensures { IfOk result (λ places. places ≡ map (block_of f.now) labels.now) }
+    {
+        let mut places = Sequence::from_vec(Vec::new(alloc));
+        for label in labels {
+            places.push(self.place(f, *label))?;
+        }
+        Ok(places)
+    }
+}
+
+/// For each block the places of those that may run next, in the order of its terminator's labels;
+/// the number of blocks stands for a label that no block has.
+pub fn successors(alloc: Global, f: &Function) -> Result<Sequence<Sequence<usize>>, NoMemory>
+    ensures { IfOk result (λ graph. graph ≡ successors f.now) }
+{
+    let index = BlockIndex::of(alloc, f)?;
+    let mut graph = Sequence::from_vec(Vec::new(alloc));
+    for block in f.blocks.as_slice() {
+        let labels = targets_of(alloc, &block.terminator)?;
+        graph.push(index.places(alloc, f, labels.as_slice())?)?;
+    }
+    Ok(graph)
 }

@@ -18,7 +18,7 @@ mod sites;
 mod tree;
 
 pub use definitions::{are_numbered, first_definitions, is_defined_before};
-pub use flow::targets_of;
+pub use flow::{BlockIndex, successors, targets_of};
 pub use laws::is_one_refusal;
 pub use limits::is_within_limits;
 pub use module::{CheckFault, Entry, Module, Reason, Refused};

@@ -30,7 +30,8 @@ use Rattle.points.proofs.Order.{number_of-append, length_of_Digits}
 use Rattle.points.proofs.Placed.{with_memory, rerun, with_blocks, run_any_memory}
 use Rattle.points.proofs.Same.{blocks_digits}
 use Rattle.choice_interp.proofs.Endings.{blocks_allow-same}
-use Rattle.slow_judge.specs.Search.{AreSmall, empty_blocks, IsCell, IsLeastUncoveredCell, AreAllCellsCovered}
+use Rattle.unroll.specs.Small.{AreSmall}
+use Rattle.slow_judge.specs.Search.{empty_blocks, IsCell, IsLeastUncoveredCell, AreAllCellsCovered}
 use Rattle.slow_judge.proofs.Order.{empty_fit, middle_zeros, number_of-Zeros, few, short}
 
 -- ---- a run hands its memory on

@@ -23,7 +23,8 @@ use Rattle.points.proofs.Args.{IsArgsCode, args_digits, digits_of, Digits-append
 use Rattle.points.proofs.Args as args
 use Rattle.points.proofs.Same.{Fits, blocks_digits, code_length, code_digits, same_point}
 use Rattle.points.proofs.Meaning.{widest_small}
-use Rattle.slow_judge.specs.Search.{AreSmall, empty_block, empty_blocks, IsCell, IsNextCell, IsLastCell}
+use Rattle.unroll.specs.Small.{AreSmall}
+use Rattle.slow_judge.specs.Search.{empty_block, empty_blocks, IsCell, IsNextCell, IsLastCell}
 
 -- ---- empty blocks fit
 

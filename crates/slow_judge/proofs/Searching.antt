@@ -8,7 +8,8 @@ use Rattle.points.specs.Pair.{Functions}
 use Rattle.points.specs.Run.{run_of, IsPlain}
 use Rattle.points.specs.Covers.{is_covered}
 use Rattle.points.specs.Trail.{place_in}
-use Rattle.slow_judge.specs.Search.{AreSmall, IsCell, IsNextCell, IsLastCell, IsUncovered, IsLeastUncoveredCell, AreAllCellsCovered}
+use Rattle.unroll.specs.Small.{AreSmall}
+use Rattle.slow_judge.specs.Search.{IsCell, IsNextCell, IsLastCell, IsUncovered, IsLeastUncoveredCell, AreAllCellsCovered}
 use Rattle.slow_judge.proofs.Order.{same_cell}
 
 -- the search has come to this cell: each one before it is covered

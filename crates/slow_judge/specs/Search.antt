@@ -13,15 +13,10 @@ use Rattle.points.specs.Run.{run_of, IsPlain}
 use Rattle.points.specs.Tapes.{need_of, widest_choice}
 use Rattle.points.specs.Covers.{is_covered, word_before, word_behind}
 use Rattle.points.specs.Trail.{place_in, Kept, TrailFrom, open_point, Ends}
+use Rattle.choice_interp.specs.Runners.{IsRunner}
 use Rattle.slow_judge.specs.declared.bench.Bench.{Bench}
 use Rattle.slow_judge.specs.declared.cover.Shift.{Shift}
 use Rattle.slow_judge.specs.declared.cover.Shift.TheVariants.{Behind, Before}
-
--- bounds in the options' ranges
-pub record AreSmall (bounds : Bounds) : Type 0 where
-  pub turns : bounds.turns ≤ 64
-  pub blocks : bounds.blocks ≤ 4
-  pub bytes : bounds.bytes ≤ 32
 
 -- a given block of size 0, with room for so many bytes
 abbrev pub empty_block : ℕ → ℕ → MemoryBlock
@@ -64,12 +59,10 @@ AreAllCellsCovered pair bounds tapes = (q : Point) → IsCell pair bounds q → 
 
 -- ---- what the judge works with
 
--- machines for both functions with these blocks, and room for one tape of the source
+-- runners of both functions with these blocks, and room for one tape of the source
 pub record IsReady (pair : Functions) (bounds : Bounds) (blocks : List MemoryBlock) (bench : Bench) : Type 0 where
-  pub source_registers : length bench.source.registers ≡ length pair.source.names
-  pub source_memory : bench.source.memory ≡ blocks
-  pub target_registers : length bench.target.registers ≡ length pair.target.names
-  pub target_memory : bench.target.memory ≡ blocks
+  pub source : IsRunner pair.source blocks bench.source
+  pub target : IsRunner pair.target blocks bench.target
   pub candidate : length bench.candidate ≡ need_of bounds.turns pair.source
 
 -- the verdict of a pair that is not too large

@@ -1,11 +1,11 @@
-use points::Machine;
+use choice_interp::Runner;
 use support::Sequence;
 
-/// What is used again from point to point: a machine for each function, and room for one tape of the
+/// What is used again from point to point: a runner of each function, and room for one tape of the
 /// source.
 #[derive(Drop)]
 pub struct Bench {
-    pub source: Machine,
-    pub target: Machine,
+    pub source: Runner,
+    pub target: Runner,
     pub candidate: Sequence<u64>,
 }

@@ -2,7 +2,8 @@ ghost use Rattle.std.specs.Prelude.{◌≡◌, IfOk, IsTrue, IsFalse, length, re
 ghost use Rattle.ir_tree.specs.Limits.{AreIntegers};
 ghost use Rattle.points.specs.Tapes.{need_of, widest_choice};
 ghost use Rattle.points.specs.Trail.{place_in};
-ghost use Rattle.slow_judge.specs.Search.{AreSmall, empty_block, empty_blocks, IsCell, IsNextCell, IsLastCell};
+ghost use Rattle.unroll.specs.Small.{AreSmall};
+ghost use Rattle.slow_judge.specs.Search.{empty_block, empty_blocks, IsCell, IsNextCell, IsLastCell};
 
 use byte_block::{BlockName, Byte, Memory, MemoryBlock, Value};
 use points::{Bounds, Input, Pair, Point, next_args, next_words, zero_from};

@@ -1,57 +1,51 @@
 ghost use Rattle.std.specs.Prelude.{◌≡◌, ◌↔◌, ◌≤◌, ◌<◌, ◌+◌, ◌^◌, IsTrue, IfOk, length, slice_index};
 ghost use Rattle.choice_interp.specs.Ran.{outcome_of};
+ghost use Rattle.choice_interp.specs.Runners.{IsRunner};
 ghost use Rattle.points.specs.Run.{run_of};
 ghost use Rattle.points.specs.Tapes.{need_of};
 ghost use Rattle.points.specs.Covers.{covers, some_covers, words_of, word_before, word_behind, shifted};
 ghost use Rattle.slow_judge.specs.Search.{IsReady, IsUncovered, shift_of};
 
 use crate::bench::Bench;
-use choice_interp::{Ending, ending_refines, is_plain, run_again};
-use points::{Bounds, Machine, Pair, Point};
-use std::alloc::Global;
+use choice_interp::{Ending, Runner, ending_refines, is_plain, run_again};
+use points::{Bounds, Pair, Point};
 use support::{NoMemory, Sequence};
 
 /// Whether the source's run on the tape allows the target's run on the point, which ended so.
 #[tactic(auto, using(crate::proofs::Covering::covers_at))]
 fn allows(
-    alloc: Global,
     pair: &Pair,
     bounds: &Bounds,
     point: &Point,
     target: Ending,
     tape: &[u64],
-    machine: &mut Machine,
+    runner: &mut Runner,
 ) -> Result<bool, NoMemory>
-    requires registers { length machine.old.registers ≡ length pair.now.source.names }
-    requires memory { machine.old.memory ≡ point.now.input.blocks }
+    requires ready { IsRunner pair.now.source point.now.input.blocks runner.old }
     requires target { (run_of pair.now.target bounds.now point.now.input point.now.tape).outcome ≡ outcome_of target point.now.input.blocks }
     ensures value { IfOk result (λ holds. holds ≡ covers pair.now bounds.now point.now tape.now) }
-    ensures registers { length machine.new.registers ≡ length pair.now.source.names }
-    ensures memory { machine.new.memory ≡ point.now.input.blocks }
+    ensures ready { IsRunner pair.now.source point.now.input.blocks runner.new }
 {
-    let source = run_again(alloc, machine, pair.source(), bounds, &point.input, tape)?;
+    let source = run_again(runner, pair.source(), bounds, &point.input, tape)?;
     Ok(ending_refines(source, target))
 }
 
 /// Whether one of the tapes covers the point, on which the target's run ended so.
 fn some_allows(
-    alloc: Global,
     pair: &Pair,
     bounds: &Bounds,
     point: &Point,
     target: Ending,
     tapes: &[Sequence<u64>],
-    machine: &mut Machine,
+    runner: &mut Runner,
 ) -> Result<bool, NoMemory>
-    requires registers { length machine.old.registers ≡ length pair.now.source.names }
-    requires memory { machine.old.memory ≡ point.now.input.blocks }
+    requires ready { IsRunner pair.now.source point.now.input.blocks runner.old }
     requires target { (run_of pair.now.target bounds.now point.now.input point.now.tape).outcome ≡ outcome_of target point.now.input.blocks }
     ensures value { IfOk result (λ holds. holds ≡ some_covers pair.now bounds.now point.now tapes.now) }
-    ensures registers { length machine.new.registers ≡ length pair.now.source.names }
-    ensures memory { machine.new.memory ≡ point.now.input.blocks }
+    ensures ready { IsRunner pair.now.source point.now.input.blocks runner.new }
 {
     for tape in tapes {
-        if allows(alloc, pair, bounds, point, target, tape.as_slice(), machine)? {
+        if allows(pair, bounds, point, target, tape.as_slice(), runner)? {
             return Ok(true);
         }
     }
@@ -102,7 +96,6 @@ fn shift_into(words: &mut Sequence<u64>, tape: &[u64], shift: Shift)
 
 /// Whether the target's tape, moved so, covers the point, on which the target's run ended so.
 fn shift_allows(
-    alloc: Global,
     pair: &Pair,
     bounds: &Bounds,
     point: &Point,
@@ -117,7 +110,6 @@ fn shift_allows(
 {
     shift_into(&mut bench.candidate, point.tape.as_slice(), shift);
     let holds = allows(
-        alloc,
         pair,
         bounds,
         point,
@@ -130,7 +122,6 @@ fn shift_allows(
 
 /// Whether the target's tape, as it is or moved by one or two places, covers the point.
 fn some_shift_allows(
-    alloc: Global,
     pair: &Pair,
     bounds: &Bounds,
     point: &Point,
@@ -142,25 +133,24 @@ fn some_shift_allows(
     ensures value { IfOk result (λ holds. holds ≡ some_covers pair.now bounds.now point.now (shifted (need_of bounds.now.turns pair.now.source) point.now.tape)) }
     ensures ready { IsReady pair.now bounds.now point.now.input.blocks bench.new }
 {
-    if shift_allows(alloc, pair, bounds, point, target, Shift::Behind(0), bench)? {
+    if shift_allows(pair, bounds, point, target, Shift::Behind(0), bench)? {
         return Ok(true);
     }
-    if shift_allows(alloc, pair, bounds, point, target, Shift::Behind(1), bench)? {
+    if shift_allows(pair, bounds, point, target, Shift::Behind(1), bench)? {
         return Ok(true);
     }
-    if shift_allows(alloc, pair, bounds, point, target, Shift::Behind(2), bench)? {
+    if shift_allows(pair, bounds, point, target, Shift::Behind(2), bench)? {
         return Ok(true);
     }
-    if shift_allows(alloc, pair, bounds, point, target, Shift::Before(1), bench)? {
+    if shift_allows(pair, bounds, point, target, Shift::Before(1), bench)? {
         return Ok(true);
     }
-    let holds = shift_allows(alloc, pair, bounds, point, target, Shift::Before(2), bench)?;
+    let holds = shift_allows(pair, bounds, point, target, Shift::Before(2), bench)?;
     Ok(holds)
 }
 
 /// Whether the source covers the point with the tape.
 pub fn is_cover(
-    alloc: Global,
     pair: &Pair,
     bounds: &Bounds,
     point: &Point,
@@ -172,20 +162,18 @@ pub fn is_cover(
     ensures ready { IsReady pair.now bounds.now point.now.input.blocks bench.new }
 {
     let target = run_again(
-        alloc,
         &mut bench.target,
         pair.target(),
         bounds,
         &point.input,
         point.tape.as_slice(),
     )?;
-    let holds = allows(alloc, pair, bounds, point, target, tape, &mut bench.source)?;
+    let holds = allows(pair, bounds, point, target, tape, &mut bench.source)?;
     Ok(holds)
 }
 
 /// Whether the point's tape is plain and neither a shift nor one of the tapes covers the point.
 pub fn is_uncovered(
-    alloc: Global,
     pair: &Pair,
     bounds: &Bounds,
     tapes: &[Sequence<u64>],
@@ -197,18 +185,17 @@ pub fn is_uncovered(
     ensures ready { IsReady pair.now bounds.now point.now.input.blocks bench.new }
 {
     let target = run_again(
-        alloc,
         &mut bench.target,
         pair.target(),
         bounds,
         &point.input,
         point.tape.as_slice(),
     )?;
-    if !is_plain(point.tape.as_slice(), bench.target.taken.as_slice()) {
+    if !is_plain(point.tape.as_slice(), bench.target.machine.taken.as_slice()) {
         return Ok(false);
     }
-    if some_shift_allows(alloc, pair, bounds, point, target, bench)? {
+    if some_shift_allows(pair, bounds, point, target, bench)? {
         return Ok(false);
     }
-    Ok(!some_allows(alloc, pair, bounds, point, target, tapes, &mut bench.source)?)
+    Ok(!some_allows(pair, bounds, point, target, tapes, &mut bench.source)?)
 }

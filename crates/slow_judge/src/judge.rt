@@ -3,16 +3,18 @@ ghost use Rattle.ir_tree.specs.Limits.{IsWithinLimits, AreIntegers};
 ghost use Rattle.points.specs.Range.{AreInRange};
 ghost use Rattle.points.specs.Tapes.{need_of, widest_choice};
 ghost use Rattle.points.specs.Trail.{IsVerdict};
-ghost use Rattle.slow_judge.specs.Search.{AreSmall, empty_blocks, IsReady, HasTrail};
+ghost use Rattle.unroll.specs.Small.{AreSmall};
+ghost use Rattle.slow_judge.specs.Search.{empty_blocks, IsReady, HasTrail};
 
 use crate::bench::Bench;
 use crate::cells::{blocks_without_bytes, zeros};
 use crate::search::{Tape, least_cover, least_uncovered};
-use crate::size::{is_too_large, need, widest_of};
-use choice_interp::machine_for;
+use crate::size::is_too_large;
+use choice_interp::runner_for;
 use points::{Bounds, Budget, Cause, Pair, Verdict};
 use std::alloc::Global;
 use support::{NoMemory, Sequence};
+use unroll::{need, widest_of};
 
 fn bench_for(alloc: Global, pair: &Pair, bounds: &Bounds, need: usize) -> Result<Bench, NoMemory>
     requires { need ≡ need_of bounds.now.turns pair.now.source }
@@ -20,8 +22,8 @@ fn bench_for(alloc: Global, pair: &Pair, bounds: &Bounds, need: usize) -> Result
 {
     let blocks = blocks_without_bytes(alloc, bounds)?;
     Ok(Bench {
-        source: machine_for(alloc, pair.source(), &blocks)?,
-        target: machine_for(alloc, pair.target(), &blocks)?,
+        source: runner_for(alloc, pair.source(), &blocks)?,
+        target: runner_for(alloc, pair.target(), &blocks)?,
         candidate: zeros(alloc, need)?,
     })
 }
@@ -87,11 +89,11 @@ pub fn slow(
         return Ok(Verdict::Unknown(Cause::Weight));
     }
     let of_source = Tape {
-        words: need(pair.source(), bounds),
+        words: need(pair.source(), bounds.turns) as usize,
         width: widest_of(pair.source()),
     };
     let of_target = Tape {
-        words: need(pair.target(), bounds),
+        words: need(pair.target(), bounds.turns) as usize,
         width: widest_of(pair.target()),
     };
     let verdict = grow(alloc, pair, bounds, budget, of_source, of_target)?;

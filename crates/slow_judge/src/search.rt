@@ -2,7 +2,8 @@ ghost use Rattle.std.specs.Prelude.{◌≡◌, MatchOption, IfOk};
 ghost use Rattle.ir_tree.specs.Limits.{AreIntegers};
 ghost use Rattle.points.specs.Tapes.{need_of, widest_choice};
 ghost use Rattle.points.specs.Covers.{IsLeastCover, HasNoCover};
-ghost use Rattle.slow_judge.specs.Search.{AreSmall, empty_blocks, IsCell, IsReady, IsLeastUncoveredCell, AreAllCellsCovered};
+ghost use Rattle.unroll.specs.Small.{AreSmall};
+ghost use Rattle.slow_judge.specs.Search.{empty_blocks, IsCell, IsReady, IsLeastUncoveredCell, AreAllCellsCovered};
 
 use crate::bench::Bench;
 use crate::cells::{first, next, zeros};
@@ -40,7 +41,7 @@ pub fn least_uncovered(
 {
     let mut point = first(alloc, pair, bounds, of_target.words)?;
     loop {
-        if is_uncovered(alloc, pair, bounds, tapes, &point, bench)? {
+        if is_uncovered(pair, bounds, tapes, &point, bench)? {
             return Ok(Some(point));
         }
         if !next(pair, bounds, of_target.width, &mut point) {
@@ -69,7 +70,7 @@ pub fn least_cover(
 {
     let mut tape = zeros(alloc, of_source.words)?;
     loop {
-        if is_cover(alloc, pair, bounds, point, tape.as_slice(), bench)? {
+        if is_cover(pair, bounds, point, tape.as_slice(), bench)? {
             return Ok(Some(tape));
         }
         if !next_words(&mut tape, of_source.width) {

@@ -45,6 +45,8 @@ fn main(rt: HostRuntime) -> ExitCode {
 #[cfg(test)]
 mod choice_tests;
 #[cfg(test)]
+mod flow_tests;
+#[cfg(test)]
 mod refusal_tests;
 #[cfg(test)]
 mod tests;

@@ -11,7 +11,7 @@ pub returns-clause-value : goal.returns-clause-value
 returns-clause-value c =
     let m = c.args.machine.now in
     let phis = c.args.block.now.phis in
-    let values = c.as_slice-3.ensures.value ∙ c.in_ok-values.ensures ∙ ap (λ (ps : List Phi). map (phi_value m) ps) c.as_slice.ensures in
+    let values = c.as_slice-3.ensures ∙ c.in_ok-take_phi_values.ensures ∙ ap (λ (ps : List Phi). map (phi_value m) ps) c.as_slice.ensures in
     let e : c.assign_phis.new.machine ≡ with_phis m phis m =
     c.assign_phis.ensures.value
     ∙ ap (λ (ps : List Phi). assign_all ps c.as_slice-3.result.now m) c.as_slice-2.ensures

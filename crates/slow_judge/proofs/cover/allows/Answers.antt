@@ -6,4 +6,4 @@ use Rattle.slow_judge.proofs.cover.allows.Goals as goal
 pub returns-clause-value : goal.returns-clause-value
 returns-clause-value c =
     let ran = ap (λ f. run_of f c.args.bounds.now c.args.point.now.input c.args.tape.now) (sym c.source.ensures) ∙ c.in_ok-source.ensures.run in
-    covers_at c.args.pair.now c.args.bounds.now c.args.point.now c.args.tape.now c.in_ok-source.source c.args.target c.run_again.new.machine c.ending_refines.result ran c.run_again.ensures.memory c.requires.target c.ending_refines.ensures
+    covers_at c.args.pair.now c.args.bounds.now c.args.point.now c.args.tape.now c.in_ok-source.source c.args.target c.run_again.new.runner.machine c.ending_refines.result ran c.run_again.ensures.ready.memory c.requires.target c.ending_refines.ensures

@@ -13,8 +13,7 @@ loop-tape-preserved c =
     let is : covers c.args.pair.now c.args.bounds.now c.args.point.now c.tape-item.result ≡ false = ap (covers c.args.pair.now c.args.bounds.now c.args.point.now) (sym c.as_slice.ensures) ∙ sym c.in_ok-allows.ensures.value ∙ c.if-branch.false in
     record {
       rest = c.loop-tape.invariant.rest ∙ some_covers_no c.args.pair.now c.args.bounds.now c.args.point.now c.args.tapes.now c.loop-tape.tape-index c.tape-item.result c.loop-tape-test.true c.tape-item.is is;
-      registers = c.allows.ensures.registers;
-      memory = c.allows.ensures.memory;
+      ready = c.allows.ensures.ready;
     }
 
 pub returns-clause-value : goal.returns-clause-value

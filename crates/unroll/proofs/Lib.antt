@@ -1,0 +1,5 @@
+pub mod Copies
+pub mod Forward
+pub mod Leaving
+pub mod Sizes
+pub mod Walking
