@@ -1,6 +1,7 @@
 // Functions of several blocks: which are read, and why and where others are refused.
 use crate::tests::{is_read, refusal};
 use ir_tree::{Reason, Refused};
+use std::alloc::Global;
 use std::test::Fail;
 
 #[test]
@@ -243,7 +244,7 @@ fn cuts(rt: HostRuntime) {
             35,
         ),
         (
-            "flags of a jump",
+            "a flag behind the last instruction",
             "define void @f() { unreachable nuw }",
             Reason::Unsupported,
             1,
@@ -414,4 +415,35 @@ fn tested(rt: HostRuntime) {
         };
         assert_eq!(rt; refusal(rt.alloc(), text), Some(refused), "{row}");
     }
+}
+
+// A function with a switch of so many cases, all equal.
+fn switch_of(alloc: Global, cases: usize) -> Result<String, Fail> {
+    let mut text = String::new(alloc);
+    text.push_str("define void @f(i8 %x) { switch i8 %x, label %a [ ")?;
+    for _ in 0..cases {
+        text.push_str("i8 1, label %a ")?;
+    }
+    text.push_str("] a: ret void }")?;
+    Ok(text)
+}
+
+// As many cases as a switch may have, which are refused for being equal, and one more.
+#[test]
+fn cases_up_to_the_limit(rt: HostRuntime) -> Result<(), Fail> {
+    let rows = [(256, Reason::TypeClash, 68), (257, Reason::Limit, 3_890)];
+    for (cases, reason, column) in rows {
+        let text = switch_of(rt.alloc(), cases)?;
+        let refused = Refused {
+            reason,
+            line: 1,
+            column,
+        };
+        assert_eq!(rt;
+            refusal(rt.alloc(), text.as_str()),
+            Some(refused),
+            "{cases} cases"
+        );
+    }
+    Ok(())
 }
