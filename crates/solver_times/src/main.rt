@@ -12,7 +12,7 @@ mod questions;
 
 use clause_lits::{Cnf, Lit};
 use clause_solver::{Answer, solve};
-use questions::{difference, double, pigeons};
+use questions::{difference, double, flips, parts, pigeons, swap, three};
 use std::alloc::Global;
 use std::process::ExitCode;
 use std::{env, io};
@@ -58,6 +58,10 @@ fn question(alloc: Global, name: &str, size: u32) -> Result<Option<Cnf>, NoMemor
         "pigeons" => Ok(Some(pigeons(alloc, u64::from(size))?)),
         "double" => Ok(Some(double(alloc, size)?)),
         "difference" => Ok(Some(difference(alloc, size)?)),
+        "three" => Ok(Some(three(alloc, size)?)),
+        "swap" => Ok(Some(swap(alloc, size)?)),
+        "flips" => Ok(Some(flips(alloc, size)?)),
+        "parts" => Ok(Some(parts(alloc, size)?)),
         _ => Ok(None),
     }
 }

@@ -101,6 +101,13 @@ fn clauses_of(alloc: Global, terms: &Terms, goal: TermId) -> Result<Cnf, NoMemor
     }
 }
 
+/// Clauses that ask whether two terms of one width ever differ.
+fn differ(alloc: Global, mut terms: Terms, left: TermId, right: TermId) -> Result<Cnf, NoMemory> {
+    let same = terms.eq(left, right)?;
+    let goal = terms.not(same)?;
+    clauses_of(alloc, &terms, goal)
+}
+
 /// Whether `x * 2` is ever another number than `x << 1`.
 pub fn double(alloc: Global, width: u32) -> Result<Cnf, NoMemory>
     requires least { 2 ≤ width }
@@ -130,4 +137,61 @@ pub fn difference(alloc: Global, width: u32) -> Result<Cnf, NoMemory>
     let same = terms.eq(back, x)?;
     let goal = terms.not(same)?;
     clauses_of(alloc, &terms, goal)
+}
+
+/// Whether `(x + y) + z` is ever another number than `x + (y + z)`.
+pub fn three(alloc: Global, width: u32) -> Result<Cnf, NoMemory>
+    requires least { 2 ≤ width }
+    requires most { width ≤ 128 }
+{
+    let mut terms = Terms::new(alloc);
+    let x = terms.variable(0, width)?;
+    let y = terms.variable(1, width)?;
+    let z = terms.variable(2, width)?;
+    let first = terms.add(x, y)?;
+    let left = terms.add(first, z)?;
+    let last = terms.add(y, z)?;
+    let right = terms.add(x, last)?;
+    differ(alloc, terms, left, right)
+}
+
+/// Whether `x + y` is ever another number than `y + x`.
+pub fn swap(alloc: Global, width: u32) -> Result<Cnf, NoMemory>
+    requires least { 2 ≤ width }
+    requires most { width ≤ 128 }
+{
+    let mut terms = Terms::new(alloc);
+    let x = terms.variable(0, width)?;
+    let y = terms.variable(1, width)?;
+    let left = terms.add(x, y)?;
+    let right = terms.add(y, x)?;
+    differ(alloc, terms, left, right)
+}
+
+/// Whether `x ^ y ^ y` is ever another number than `x`.
+pub fn flips(alloc: Global, width: u32) -> Result<Cnf, NoMemory>
+    requires least { 2 ≤ width }
+    requires most { width ≤ 128 }
+{
+    let mut terms = Terms::new(alloc);
+    let x = terms.variable(0, width)?;
+    let y = terms.variable(1, width)?;
+    let once = terms.xor(x, y)?;
+    let twice = terms.xor(once, y)?;
+    differ(alloc, terms, twice, x)
+}
+
+/// Whether `(x & y) + (x | y)` is ever another number than `x + y`.
+pub fn parts(alloc: Global, width: u32) -> Result<Cnf, NoMemory>
+    requires least { 2 ≤ width }
+    requires most { width ≤ 128 }
+{
+    let mut terms = Terms::new(alloc);
+    let x = terms.variable(0, width)?;
+    let y = terms.variable(1, width)?;
+    let both = terms.and(x, y)?;
+    let either = terms.or(x, y)?;
+    let left = terms.add(both, either)?;
+    let right = terms.add(x, y)?;
+    differ(alloc, terms, left, right)
 }
