@@ -1,17 +1,17 @@
 -- The tests of a byte's numbers say what kind of byte they are.
-use Rattle.std.proofs.Common.{ℕ, zero, suc, ◌≡◌, ◌<◌, ◌≤◌, ◌^◌, ◌↔◌, ◌⊎◌, inl, inr, Bool, true, false, ◌&&◌, ◌||◌, cond, nat_eq, nat_le, List, [], ◌∷◌, length, refl, sym, ap, subst, ◌∙◌, arith}
+use Rattle.std.proofs.Common.{ℕ, ◌≡◌, ◌<◌, ◌^◌, ◌↔◌, ◌⊎◌, Bool, true, false, ◌&&◌, ◌||◌, cond, nat_eq, nat_le, List, [], ◌∷◌, length, refl, sym, ap, ◌∙◌, arith}
 use Rattle.points.specs.Codes.{IsNumberByte, IsPartByte, IsCodeOfByte, IsUnused}
 use Rattle.bv_terms.specs.declared.term.TermId.{TermId}
 use Rattle.bv_terms.specs.declared.term.Term.{Term}
 use Rattle.bv_terms.specs.Tree.{width_of, truth}
-use Rattle.bv_terms.specs.Trees.{Keeps, Makes, Tests, IsTerm, AreInRange, bit_at, term_at, tree_in}
+use Rattle.bv_terms.specs.Trees.{Keeps, Makes, Tests, AreInRange, bit_at, term_at, tree_in}
 use Rattle.mem_terms.specs.declared.inputs.ByteTerms.{ByteTerms}
 use Rattle.mem_terms.proofs.Bits.{term-below}
 use Rattle.mem_terms.proofs.Later.{keeps_trans, bit-later, term-later}
-use Rattle.refine_terms.specs.Deciding.{Decides, IsNarrow}
+use Rattle.refine_terms.specs.Deciding.{Decides}
 use Rattle.refine_terms.specs.Numbers.{IsByteTerms, byte_numbers}
 use Rattle.refine_terms.specs.Groups.{IsCodeOfPlace}
-use Rattle.refine_terms.proofs.Truths.{and_left, and_right, and_both, equal_says, at_most_says}
+use Rattle.refine_terms.proofs.Truths.{and_left, and_right, equal_says, at_most_says}
 use Rattle.refine_terms.proofs.Deciders.{tested, at_equal, decides-later, either_decides}
 
 pub byte-later : (old new : List Term) (k : Keeps old new) (x : ByteTerms) → IsByteTerms old x → (v : ℕ → ℕ → ℕ) → byte_numbers v new x ≡ byte_numbers v old x
@@ -199,8 +199,8 @@ place_decides old a b c d x blocks place size byte unused is_past id h within ka
     let unused_c = decides-later b c kc unused (λ v. byte_numbers v old x ≡ (0 ∷ 0 ∷ 0 ∷ 0 ∷ 0 ∷ [])) unused_b in (
       record { within = m.within; wide = m.wide ∙ unused_c.0.wide },
       λ v.
-        let past_is : bit_at v c is_past ≡ nat_le (term_at v old size) place = t3.says v ∙ ap (λ n. nat_le n place) (term-later old b (keeps_trans old a b ka kb) v size within) in
-        let is : bit_at v d id ≡ truth (cond (nat_le (term_at v old size) place) (term_at v c unused) (term_at v c byte)) = ap truth (m.says v) ∙ ap (λ q. truth (cond q (term_at v c unused) (term_at v c byte))) past_is in
-        let told = placed (nat_le (term_at v old size) place) (term_at v c unused) (term_at v c byte) blocks (byte_numbers v old x) (unused_c.1 v) (byte_c.1 v) in
-        ((λ e. told.0 (sym is ∙ e)), (λ f. is ∙ told.1 f)),
+          let past_is : bit_at v c is_past ≡ nat_le (term_at v old size) place = t3.says v ∙ ap (λ n. nat_le n place) (term-later old b (keeps_trans old a b ka kb) v size within) in
+          let is : bit_at v d id ≡ truth (cond (nat_le (term_at v old size) place) (term_at v c unused) (term_at v c byte)) = ap truth (m.says v) ∙ ap (λ q. truth (cond q (term_at v c unused) (term_at v c byte))) past_is in
+          let told = placed (nat_le (term_at v old size) place) (term_at v c unused) (term_at v c byte) blocks (byte_numbers v old x) (unused_c.1 v) (byte_c.1 v) in
+          ((λ e. told.0 (sym is ∙ e)), (λ f. is ∙ told.1 f)),
     )

@@ -1,9 +1,8 @@
 -- What decides one fact decides another.
-use Rattle.std.proofs.Common.{ℕ, ◌≡◌, ◌<◌, ◌≤◌, ◌↔◌, ◌⊎◌, inl, inr, Bool, true, false, not, ◌&&◌, ◌||◌, cond, nat_eq, nat_le, List, length, refl, sym, ap, subst, ◌∙◌, arith}
+use Rattle.std.proofs.Common.{ℕ, ◌≡◌, ◌≤◌, ◌↔◌, ◌⊎◌, inl, inr, Bool, true, ◌&&◌, ◌||◌, nat_eq, nat_le, List, sym, subst, ◌∙◌}
 use Rattle.bv_terms.specs.declared.term.TermId.{TermId}
 use Rattle.bv_terms.specs.declared.term.Term.{Term}
-use Rattle.bv_terms.specs.Tree.{width_of, truth}
-use Rattle.bv_terms.specs.Trees.{Keeps, Makes, Tests, IsTerm, bit_at, term_at, tree_in}
+use Rattle.bv_terms.specs.Trees.{Keeps, Tests, IsTerm, bit_at}
 use Rattle.mem_terms.proofs.Later.{bit-later, is_term-later}
 use Rattle.refine_terms.specs.Deciding.{Decides}
 use Rattle.refine_terms.proofs.Truths.{and_left, and_right, and_both, or_left, or_right, or_either, equal_says, at_most_says}
@@ -41,10 +40,10 @@ either_decides old new a b id F G p q t = (
   record { within = t.within; wide = t.wide },
   λ v. (
     (λ e.
-      elim (or_either (bit_at v old a) (bit_at v old b) (sym (t.says v) ∙ e)) as (λ _. F v ⊎ G v) [
-      | inl h ↦ inl ((p.1 v).0 h)
-      | inr h ↦ inr ((q.1 v).0 h)
-      ]),
+        elim (or_either (bit_at v old a) (bit_at v old b) (sym (t.says v) ∙ e)) as (λ _. F v ⊎ G v) [
+          | inl h ↦ inl ((p.1 v).0 h)
+          | inr h ↦ inr ((q.1 v).0 h)
+        ]),
     (λ f. t.says v ∙ one v f),
   ),
 )
@@ -68,12 +67,12 @@ pub row_more : (a b c : List Term) (all one next : TermId) (F Rest Next Whole : 
 row_more a b c all one next F Rest Next Whole k h so d t more v =
     let was : bit_at v b all ≡ bit_at v a all = bit-later a b k v all h.within in (
       (λ p.
-        let both : (bit_at v b all && bit_at v b one) ≡ true = sym (t.says v) ∙ p.0 in
-        (so v).0 (sym was ∙ and_left (bit_at v b all) (bit_at v b one) both, (more v).1 ((d.1 v).0 (and_right (bit_at v b all) (bit_at v b one) both), p.1))),
+          let both : (bit_at v b all && bit_at v b one) ≡ true = sym (t.says v) ∙ p.0 in
+          (so v).0 (sym was ∙ and_left (bit_at v b all) (bit_at v b one) both, (more v).1 ((d.1 v).0 (and_right (bit_at v b all) (bit_at v b one) both), p.1))),
       (λ w.
-        let all_of = (so v).1 w in
-        let parts = (more v).0 all_of.1 in
-        (t.says v ∙ and_both (bit_at v b all) (bit_at v b one) (was ∙ all_of.0) ((d.1 v).1 parts.0), parts.1)),
+          let all_of = (so v).1 w in
+          let parts = (more v).0 all_of.1 in
+          (t.says v ∙ and_both (bit_at v b all) (bit_at v b one) (was ∙ all_of.0) ((d.1 v).1 parts.0), parts.1)),
     )
 
 pub row_starts : (a : List Term) (all : TermId) (Whole : (ℕ → ℕ → ℕ) → Type 0) → Tests a all (λ _. true) → (v : ℕ → ℕ → ℕ) → ((bit_at v a all ≡ true) × Whole v) ↔ Whole v

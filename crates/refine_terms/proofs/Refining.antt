@@ -1,8 +1,7 @@
 -- The test of coverage is refinement.
-use Rattle.std.proofs.Common.{ℕ, ◌≡◌, Bool, true, false, cond, not, ◌&&◌, ◌||◌, List, [], ◌∷◌, nat_eq, Option, refl, ap, sym, ◌∙◌}
+use Rattle.std.proofs.Common.{ℕ, ◌≡◌, Bool, true, false, cond, not, ◌&&◌, ◌||◌, List, [], ◌∷◌, nat_eq, Option, refl, ◌∙◌}
 use Rattle.std.specs.Option.{option_map}
 use Rattle.byte_block.specs.declared.value.Value.{Value}
-use Rattle.byte_block.specs.declared.value.Value.TheVariants.{Num, Poison}
 use Rattle.byte_block.specs.declared.value.BlockName.{BlockName}
 use Rattle.byte_block.specs.declared.value.BlockName.TheVariants.{Null, Given, Local}
 use Rattle.byte_block.specs.declared.value.Byte.{Byte}
@@ -19,7 +18,7 @@ use Rattle.mem_terms.specs.declared.values.SymValue.{SymValue}
 use Rattle.mem_terms.specs.declared.outcome.OutcomeTerms.{OutcomeTerms}
 use Rattle.mem_terms.specs.Values.{IsSymValue, value_from, value_at}
 use Rattle.mem_terms.specs.Outcomes.{IsOutcome, outcome_at}
-use Rattle.mem_terms.proofs.Later.{keeps_trans, bit-later, term-later}
+use Rattle.mem_terms.proofs.Later.{keeps_trans, bit-later}
 
 -- ---- a memory allows itself
 

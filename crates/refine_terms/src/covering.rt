@@ -13,11 +13,7 @@ use mem_terms::{OutcomeTerms, SymValue, both, either, equals, negation, truth};
 use support::NoMemory;
 
 /// True where the source's value allows the target's: poison allows every value.
-fn value_allowed(
-    source: SymValue,
-    target: SymValue,
-    terms: &mut Terms,
-) -> Result<TermId, NoMemory>
+fn value_allowed(source: SymValue, target: SymValue, terms: &mut Terms) -> Result<TermId, NoMemory>
     requires source { IsSymValue terms.old source }
     requires target { IsSymValue terms.old target }
     ensures made { IfOk result (λ id. Tests terms.new id (λ v. value_allows (value_at v terms.old source) (value_at v terms.old target))) }
