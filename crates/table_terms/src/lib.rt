@@ -22,6 +22,8 @@ mod selection;
 mod shifts;
 mod signs;
 mod sums;
+#[cfg(test)]
+mod tests;
 mod undefined;
 
 pub use binary_operations::{Computed, binary};
