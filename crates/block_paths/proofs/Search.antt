@@ -39,6 +39,14 @@ goes_on successors assigns block next name edge before silent = (block ∷ befor
     behind (inl here) = silent here
     behind (inr there) = before.2 there
 
+-- the first of a list
+first_of : (x : ℕ) (xs : List ℕ) → Contains (x ∷ xs) x
+first_of x xs = (0, omega arith, refl)
+
+-- and the only one of a list of one
+only : (y x : ℕ) → Contains (y ∷ []) x → y ≡ x
+only y x here = All-contains (λ (z : ℕ). y ≡ z) (y ∷ []) x (All-cons (λ (z : ℕ). y ≡ z) y [] refl (All-nil (λ (z : ℕ). y ≡ z))) here
+
 -- a number is one of a list, or none of it
 contains_cases : (xs : List ℕ) (x : ℕ) → Contains xs x ⊎ (Contains xs x → ⊥)
 contains_cases [] x = inr (λ found. omega (arith, found.1))
@@ -50,7 +58,7 @@ contains_cases (y ∷ ys) x = first (cases_eq y x) (contains_cases ys x)
     first (inr other) (inr absent) = inr (λ found. either (Contains-append_cases (y ∷ []) ys x found))
       where
         either : Contains (y ∷ []) x ⊎ Contains ys x → ⊥
-        either (inl here) = other (All-contains (λ (z : ℕ). y ≡ z) (y ∷ []) x (All-cons (λ (z : ℕ). y ≡ z) y [] refl (All-nil (λ (z : ℕ). y ≡ z))) here)
+        either (inl here) = other (only y x here)
         either (inr there) = absent there
 
 -- where each block hands on no more than it has or assigns, what a block has is assigned on each path
@@ -130,7 +138,7 @@ search_starts successors assigns names others many within =
 -- a block is taken off the list, and what leaves it is passed on
 pub search_goes_on : (successors assigns : List (List ℕ)) (places : ℕ) (old taken new : State) (block : ℕ) (leaving : List Bool)
     → IsSearch successors assigns places old
-    → taken.sets ≡ old.sets → old.waiting ≡ taken.waiting ++ block ∷ [] → taken.marks ≡ set old.marks block false
+    → taken.sets ≡ old.sets → old.waiting ≡ block ∷ taken.waiting → taken.marks ≡ set old.marks block false
     → IsLeaving (set_of old block) (get_or assigns block []) leaving
     → IsSpread taken new (get_or successors block []) leaving
     → IsSearch successors assigns places new
@@ -149,14 +157,14 @@ search_goes_on successors assigns places old taken new block leaving held sets w
     many : length taken.sets ≡ length successors
     many = ap length sets ∙ held.many
 
-    all_within : All (λ b. b < length successors) (taken.waiting ++ block ∷ [])
+    all_within : All (λ b. b < length successors) (block ∷ taken.waiting)
     all_within = subst (λ ws. All (λ b. b < length successors) ws) waiting held.within
 
     block_within : block < length successors
-    block_within = All-contains (λ b. b < length successors) (taken.waiting ++ block ∷ []) block all_within (Contains-push taken.waiting block)
+    block_within = All-contains (λ b. b < length successors) (block ∷ taken.waiting) block all_within (first_of block taken.waiting)
 
     waiting_within : All (λ b. b < length successors) taken.waiting
-    waiting_within k d below = subst (λ b. b < length successors) (get_or-append taken.waiting (block ∷ []) d k below) (all_within k d (omega (arith, below, length-append taken.waiting (block ∷ []))))
+    waiting_within k d below = all_within (suc k) d (omega (arith, below))
 
     was : (b name : ℕ) → IsTrue (has new.sets b name) → IsTrue (has old.sets b name)
     was b name t = ap (λ s. has s b name) (sym sets) ∙ spread.smaller b name t
@@ -172,11 +180,11 @@ search_goes_on successors assigns places old taken new block leaving held sets w
       where
         cases : (b ≡ block) ⊎ (b ≡ block → ⊥) → Contains taken.waiting b
         cases (inl e) = absurd (both_ways _ (ap (λ x. get_or taken.marks x false) e ∙ cleared) t)
-        cases (inr away) = found (Contains-push_cases taken.waiting block b (subst (λ ws. Contains ws b) waiting (held.listed b (sym (other_mark b away) ∙ t))))
+        cases (inr away) = found (Contains-append_cases (block ∷ []) taken.waiting b (subst (λ ws. Contains ws b) waiting (held.listed b (sym (other_mark b away) ∙ t))))
           where
-            found : Contains taken.waiting b ⊎ (block ≡ b) → Contains taken.waiting b
-            found (inl c) = c
-            found (inr e) = absurd (away (sym e))
+            found : Contains (block ∷ []) b ⊎ Contains taken.waiting b → Contains taken.waiting b
+            found (inl here) = absurd (away (sym (only block b here)))
+            found (inr there) = there
 
     -- the name leaves the block neither as one of its set nor as one that it assigns
     stays : (b name : ℕ) → IsSuccessor successors block b → name < places → has_name leaving name ≡ false → IsUnassignedBefore successors assigns b name
@@ -226,9 +234,9 @@ first_sets-more blocks names some =
     ap (λ s. replicate (places_for names) false ∷ s) (replicate_more (blocks - 1) (replicate (places_for names) true) ∙ ap (λ n. replicate n (replicate (places_for names) true)) (let e : (blocks - 1) + 1 ≡ (blocks + 1) - 1 = omega (arith, some) in e))
 
 -- the block that is taken off the list
-pub block_below : {successors assigns : List (List ℕ)} {places : ℕ} {state : State} (ws : List ℕ) (block : ℕ) → IsSearch successors assigns places state → state.waiting ≡ ws ++ block ∷ [] → block < length successors
+pub block_below : {successors assigns : List (List ℕ)} {places : ℕ} {state : State} (ws : List ℕ) (block : ℕ) → IsSearch successors assigns places state → state.waiting ≡ block ∷ ws → block < length successors
 block_below {successors} ws block held e =
-    All-contains (λ b. b < length successors) (ws ++ block ∷ []) block (subst (λ xs. All (λ b. b < length successors) xs) e held.within) (Contains-push ws block)
+    All-contains (λ b. b < length successors) (block ∷ ws) block (subst (λ xs. All (λ b. b < length successors) xs) e held.within) (first_of block ws)
 
 -- its set has a place for each name
 pub set_places : {successors assigns : List (List ℕ)} {places : ℕ} {state : State} {block : ℕ} {row : List Bool} → IsSearch successors assigns places state → block < length successors → slice_get state.sets block ≡ Some row → length row ≡ places
@@ -251,7 +259,7 @@ nexts_fit successors block below all e = subst (λ ys. All (λ next. next < leng
 -- one turn of the search
 pub search_turns : {successors assigns : List (List ℕ)} {places : ℕ} {old : State} (taken : State) {new : State} (block : ℕ) {row leaving : List Bool} {assigned nexts : List ℕ}
     → IsSearch successors assigns places old
-    → taken.sets ≡ old.sets → old.waiting ≡ taken.waiting ++ block ∷ [] → taken.marks ≡ set old.marks block false
+    → taken.sets ≡ old.sets → old.waiting ≡ block ∷ taken.waiting → taken.marks ≡ set old.marks block false
     → slice_get old.sets block ≡ Some row → assigned ≡ get_or assigns block [] → nexts ≡ get_or successors block []
     → IsLeaving row assigned leaving → IsSpread taken new nexts leaving
     → IsSearch successors assigns places new

@@ -31,7 +31,8 @@ use work::Work;
 /// missed by some path to it.
 ///
 /// A step passes one block's names on to a successor, and costs one word for each 64 names; a block is
-/// taken up again only when its set became smaller.
+/// taken up again only when its set became smaller. The block that has waited longest comes first, so
+/// that one where many paths meet is taken up once they have all come to it.
 ///
 /// # Errors
 /// For want of memory alone.
@@ -53,7 +54,7 @@ pub fn assigned_before(
     }
     let mut work = Work::start(alloc, successors.len(), names)?;
     let mut leaving = NameSet::none(alloc, names)?;
-    while let Some(block) = work.waiting.pop() {
+    while let Some(block) = work.waiting.pop_front() {
         work.is_waiting[block] = false;
         leaving.fill(work.sets.get(block), assigns[block].as_slice());
         work.spread(successors[block].as_slice(), &leaving)?;

@@ -6,13 +6,15 @@ ghost use Rattle.block_paths.specs.Work.{IsSpread, first_sets, state_of};
 
 use crate::name_set::NameSet;
 use std::alloc::Global;
+use std::collections::VecDeque;
 use support::{NoMemory, Sequence};
 
-/// The sets so far, the blocks that wait, and for each block whether it waits.
+/// The sets so far, the blocks that wait, the first one to wait in front, and for each block whether
+/// it waits.
 #[derive(Drop)]
 pub struct Work {
     pub sets: Sequence<NameSet>,
-    pub waiting: Vec<usize>,
+    pub waiting: VecDeque<usize>,
     pub is_waiting: Vec<bool>,
 }
 
@@ -37,7 +39,8 @@ impl Work {
         ensures marks { IfOk result (λ work. work.is_waiting.items ≡ slice_set (replicate blocks false) 0 true) }
     {
         let sets = first_sets(alloc, blocks, names)?;
-        let waiting = vec![in alloc; 0; 1]?;
+        let mut waiting = VecDeque::new(alloc);
+        waiting.push_back(0)?;
         let mut is_waiting = vec![in alloc; false; blocks]?;
         is_waiting[0] = true;
         Ok(Work {
@@ -61,7 +64,7 @@ impl Work {
         if self.is_waiting[next] {
             return Ok(());
         }
-        self.waiting.push(next)?;
+        self.waiting.push_back(next)?;
         self.is_waiting[next] = true;
         Ok(())
     }

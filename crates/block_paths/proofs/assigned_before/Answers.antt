@@ -14,49 +14,49 @@ loop-block-init c =
     }
 
 pub index_mut-requires : goal.index_mut-requires
-index_mut-requires c = omega (arith, block_below c.pop.new.self.items c.in-Some.block c.loop-block.invariant.search c.in-Some.ensures.items, c.loop-block.invariant.search.marks, c.loop-block.work.is_waiting.ok.0)
+index_mut-requires c = omega (arith, block_below c.pop_front.new.self.items c.in-Some.block c.loop-block.invariant.search c.in-Some.ensures.items, c.loop-block.invariant.search.marks, c.loop-block.work.is_waiting.ok.0)
 
 pub get-requires : goal.get-requires
-get-requires c = omega (arith, block_below c.pop.new.self.items c.in-Some.block c.loop-block.invariant.search c.in-Some.ensures.items, c.loop-block.invariant.search.many)
+get-requires c = omega (arith, block_below c.pop_front.new.self.items c.in-Some.block c.loop-block.invariant.search c.in-Some.ensures.items, c.loop-block.invariant.search.many)
 
 pub bounds-assigns-block : goal.bounds-assigns-block
-bounds-assigns-block c = omega (arith, block_below c.pop.new.self.items c.in-Some.block c.loop-block.invariant.search c.in-Some.ensures.items, c.requires.alike)
+bounds-assigns-block c = omega (arith, block_below c.pop_front.new.self.items c.in-Some.block c.loop-block.invariant.search c.in-Some.ensures.items, c.requires.alike)
 
 pub offset_bounds-assigns-block : goal.offset_bounds-assigns-block
-offset_bounds-assigns-block c = omega (arith, block_below c.pop.new.self.items c.in-Some.block c.loop-block.invariant.search c.in-Some.ensures.items, c.requires.alike)
+offset_bounds-assigns-block c = omega (arith, block_below c.pop_front.new.self.items c.in-Some.block c.loop-block.invariant.search c.in-Some.ensures.items, c.requires.alike)
 
 pub offset_bounds-successors-block : goal.offset_bounds-successors-block
-offset_bounds-successors-block c = omega (arith, block_below c.pop.new.self.items c.in-Some.block c.loop-block.invariant.search c.in-Some.ensures.items)
+offset_bounds-successors-block c = omega (arith, block_below c.pop_front.new.self.items c.in-Some.block c.loop-block.invariant.search c.in-Some.ensures.items)
 
 pub bounds-successors-block : goal.bounds-successors-block
-bounds-successors-block c = block_below c.pop.new.self.items c.in-Some.block c.loop-block.invariant.search c.in-Some.ensures.items
+bounds-successors-block c = block_below c.pop_front.new.self.items c.in-Some.block c.loop-block.invariant.search c.in-Some.ensures.items
 
 pub fill-requires-clause-alike : goal.fill-requires-clause-alike
-fill-requires-clause-alike c = c.loop-block.invariant.long ∙ sym (set_places c.loop-block.invariant.search (block_below c.pop.new.self.items c.in-Some.block c.loop-block.invariant.search c.in-Some.ensures.items) c.get.ensures)
+fill-requires-clause-alike c = c.loop-block.invariant.long ∙ sym (set_places c.loop-block.invariant.search (block_below c.pop_front.new.self.items c.in-Some.block c.loop-block.invariant.search c.in-Some.ensures.items) c.get.ensures)
 
 pub fill-requires-clause-within : goal.fill-requires-clause-within
 fill-requires-clause-within c =
-    names_fit c.args.assigns.now c.in-Some.block c.args.names (length c.get.result.now) (omega (arith, block_below c.pop.new.self.items c.in-Some.block c.loop-block.invariant.search c.in-Some.ensures.items, c.requires.alike)) c.requires.names
-    (list_at c.args.assigns.now c.in-Some.block c.index-assigns-block.result (omega (arith, block_below c.pop.new.self.items c.in-Some.block c.loop-block.invariant.search c.in-Some.ensures.items, c.requires.alike)) c.as_slice.ensures c.index-assigns-block.is)
-    (set_places c.loop-block.invariant.search (block_below c.pop.new.self.items c.in-Some.block c.loop-block.invariant.search c.in-Some.ensures.items) c.get.ensures)
+    names_fit c.args.assigns.now c.in-Some.block c.args.names (length c.get.result.now) (omega (arith, block_below c.pop_front.new.self.items c.in-Some.block c.loop-block.invariant.search c.in-Some.ensures.items, c.requires.alike)) c.requires.names
+    (list_at c.args.assigns.now c.in-Some.block c.index-assigns-block.result (omega (arith, block_below c.pop_front.new.self.items c.in-Some.block c.loop-block.invariant.search c.in-Some.ensures.items, c.requires.alike)) c.as_slice.ensures c.index-assigns-block.is)
+    (set_places c.loop-block.invariant.search (block_below c.pop_front.new.self.items c.in-Some.block c.loop-block.invariant.search c.in-Some.ensures.items) c.get.ensures)
 
 pub spread-requires-clause-within : goal.spread-requires-clause-within
 spread-requires-clause-within c =
-    subst (λ n. All (λ next. next < n) c.as_slice-in-Some.result.now) (sym c.loop-block.invariant.search.many) (nexts_fit c.args.successors.now c.in-Some.block (block_below c.pop.new.self.items c.in-Some.block c.loop-block.invariant.search c.in-Some.ensures.items) c.requires.within (list_at c.args.successors.now c.in-Some.block c.index-successors-block.result (block_below c.pop.new.self.items c.in-Some.block c.loop-block.invariant.search c.in-Some.ensures.items) c.as_slice-in-Some.ensures c.index-successors-block.is))
+    subst (λ n. All (λ next. next < n) c.as_slice-in-Some.result.now) (sym c.loop-block.invariant.search.many) (nexts_fit c.args.successors.now c.in-Some.block (block_below c.pop_front.new.self.items c.in-Some.block c.loop-block.invariant.search c.in-Some.ensures.items) c.requires.within (list_at c.args.successors.now c.in-Some.block c.index-successors-block.result (block_below c.pop_front.new.self.items c.in-Some.block c.loop-block.invariant.search c.in-Some.ensures.items) c.as_slice-in-Some.ensures c.index-successors-block.is))
 
 pub spread-requires-clause-alike : goal.spread-requires-clause-alike
 spread-requires-clause-alike c k d less =
-    c.loop-block.invariant.search.wide (get_or c.as_slice-in-Some.result.now k d) (nexts_fit c.args.successors.now c.in-Some.block (block_below c.pop.new.self.items c.in-Some.block c.loop-block.invariant.search c.in-Some.ensures.items) c.requires.within (list_at c.args.successors.now c.in-Some.block c.index-successors-block.result (block_below c.pop.new.self.items c.in-Some.block c.loop-block.invariant.search c.in-Some.ensures.items) c.as_slice-in-Some.ensures c.index-successors-block.is) k d less)
-    ∙ sym (c.fill.ensures.places ∙ set_places c.loop-block.invariant.search (block_below c.pop.new.self.items c.in-Some.block c.loop-block.invariant.search c.in-Some.ensures.items) c.get.ensures)
+    c.loop-block.invariant.search.wide (get_or c.as_slice-in-Some.result.now k d) (nexts_fit c.args.successors.now c.in-Some.block (block_below c.pop_front.new.self.items c.in-Some.block c.loop-block.invariant.search c.in-Some.ensures.items) c.requires.within (list_at c.args.successors.now c.in-Some.block c.index-successors-block.result (block_below c.pop_front.new.self.items c.in-Some.block c.loop-block.invariant.search c.in-Some.ensures.items) c.as_slice-in-Some.ensures c.index-successors-block.is) k d less)
+    ∙ sym (c.fill.ensures.places ∙ set_places c.loop-block.invariant.search (block_below c.pop_front.new.self.items c.in-Some.block c.loop-block.invariant.search c.in-Some.ensures.items) c.get.ensures)
 
 pub loop-block-preserved : goal.loop-block-preserved
 loop-block-preserved c =
     record {
-      search = search_turns (record { sets = c.loop-block.work.sets; waiting = c.pop.new.self.items; marks = set c.loop-block.work.is_waiting.items c.in-Some.block false }) c.in-Some.block c.loop-block.invariant.search refl c.in-Some.ensures.items refl c.get.ensures
-          (list_at c.args.assigns.now c.in-Some.block c.index-assigns-block.result (omega (arith, block_below c.pop.new.self.items c.in-Some.block c.loop-block.invariant.search c.in-Some.ensures.items, c.requires.alike)) c.as_slice.ensures c.index-assigns-block.is)
-          (list_at c.args.successors.now c.in-Some.block c.index-successors-block.result (block_below c.pop.new.self.items c.in-Some.block c.loop-block.invariant.search c.in-Some.ensures.items) c.as_slice-in-Some.ensures c.index-successors-block.is)
+      search = search_turns (record { sets = c.loop-block.work.sets; waiting = c.pop_front.new.self.items; marks = set c.loop-block.work.is_waiting.items c.in-Some.block false }) c.in-Some.block c.loop-block.invariant.search refl c.in-Some.ensures.items refl c.get.ensures
+          (list_at c.args.assigns.now c.in-Some.block c.index-assigns-block.result (omega (arith, block_below c.pop_front.new.self.items c.in-Some.block c.loop-block.invariant.search c.in-Some.ensures.items, c.requires.alike)) c.as_slice.ensures c.index-assigns-block.is)
+          (list_at c.args.successors.now c.in-Some.block c.index-successors-block.result (block_below c.pop_front.new.self.items c.in-Some.block c.loop-block.invariant.search c.in-Some.ensures.items) c.as_slice-in-Some.ensures c.index-successors-block.is)
           c.fill.ensures c.in_ok-spread.ensures;
-      long = c.fill.ensures.places ∙ set_places c.loop-block.invariant.search (block_below c.pop.new.self.items c.in-Some.block c.loop-block.invariant.search c.in-Some.ensures.items) c.get.ensures;
+      long = c.fill.ensures.places ∙ set_places c.loop-block.invariant.search (block_below c.pop_front.new.self.items c.in-Some.block c.loop-block.invariant.search c.in-Some.ensures.items) c.get.ensures;
     }
 
 pub returns-clause-exact : goal.returns-clause-exact

@@ -13,5 +13,5 @@ returns-then-index c =
 
 pub returns : goal.returns
 returns c =
-    rw c.in_ok-push.ensures.items (cut_lists_at c.args.self.now.sets c.args.self.now.waiting.items c.args.self.now.is_waiting.items c.args.next c.args.leaving.now c.get_mut.result.now c.cut.new.self c.requires.within c.requires.marks c.requires.alike
+    rw c.in_ok-push_back.ensures.items (cut_lists_at c.args.self.now.sets c.args.self.now.waiting.items c.args.self.now.is_waiting.items c.args.next c.args.leaving.now c.get_mut.result.now c.cut.new.self c.requires.within c.requires.marks c.requires.alike
     c.get_mut.ensures.value c.cut.ensures.both (c.cut.ensures.changed c.if-not-cut.false))
