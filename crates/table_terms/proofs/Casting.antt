@@ -1,15 +1,14 @@
 -- Casts of numbers.
-use Rattle.std.proofs.Common.{ℕ, zero, suc, ◌≡◌, ◌<◌, ◌≤◌, ◌+◌, ◌-◌, ◌*◌, ◌/◌, ◌%◌, ◌^◌, Bool, true, false, ◌&&◌, ◌||◌, nat_le, List, ℤ, pos, negsuc, inl, inr, refl, ap, sym, ◌∙◌, arith, pow_pos, subst}
-use Rattle.std.proofs.lemmas.Bool.{cases_lt, lt-leb, le-leb}
+use Rattle.std.proofs.Common.{ℕ, ◌≡◌, ◌<◌, ◌≤◌, ◌+◌, ◌-◌, ◌*◌, ◌/◌, ◌%◌, ◌^◌, Bool, false, ◌&&◌, ◌||◌, List, pos, inl, inr, refl, ap, sym, ◌∙◌, arith, pow_pos, subst}
+use Rattle.std.proofs.lemmas.Bool.{cases_lt, lt-leb}
 use Rattle.std.proofs.lemmas.Nat.{mod_below, mod-mul-add, shr_split, shr_below}
 use Rattle.std.proofs.Math.Nat.{mod-eq_of_lt}
 use Rattle.ir_tree.specs.declared.tree.Flags.{Flags}
-use Rattle.ir_tree.specs.declared.tree.Cast.{Cast}
 use Rattle.ir_tree.specs.declared.tree.Cast.TheVariants.{Truncate, ZeroExtend, SignExtend}
 use Rattle.bv_terms.specs.declared.term.TermId.{TermId}
 use Rattle.bv_terms.specs.declared.term.Term.{Term}
 use Rattle.bv_terms.specs.Tree.{width_of, extended_signed}
-use Rattle.bv_terms.specs.Trees.{Keeps, Makes, Tests, IsTerm, AreInRange, term_at, bit_at, tree_in}
+use Rattle.bv_terms.specs.Trees.{Makes, Tests, IsTerm, AreInRange, term_at, tree_in}
 use Rattle.tv_num.specs.Width.{signed_of, wrapped, is_outside_signed, is_outside_unsigned}
 use Rattle.points.specs.Table.{cast_number, is_flagged, is_negative}
 use Rattle.mem_terms.proofs.Bits.{term-below}

@@ -1,5 +1,5 @@
 -- What terms made one after another stand for.
-use Rattle.std.proofs.Common.{ℕ, zero, suc, ◌≡◌, ◌<◌, ◌≤◌, ◌-◌, ◌*◌, ◌/◌, ◌%◌, ◌^◌, Bool, not, nat_eq, nat_le, nat_lt, List, pos, refl, ap, sym, ◌∙◌, arith}
+use Rattle.std.proofs.Common.{ℕ, zero, suc, ◌≡◌, ◌<◌, ◌≤◌, ◌-◌, ◌*◌, ◌/◌, ◌%◌, ◌^◌, not, nat_eq, nat_le, nat_lt, List, pos, refl, ap, ◌∙◌, arith}
 use Rattle.std.specs.Prelude.{int_lt, int_le, ◌*ℤ◌}
 use Rattle.bv_terms.specs.declared.term.TermId.{TermId}
 use Rattle.bv_terms.specs.declared.term.Term.{Term}
@@ -7,8 +7,7 @@ use Rattle.bv_terms.specs.Tree.{width_of, truth, extended_signed, is_less_signed
 use Rattle.bv_terms.specs.Trees.{Keeps, Makes, Tests, IsTerm, AreInRange, term_at, bit_at, tree_in}
 use Rattle.tv_num.specs.Width.{signed_of, is_outside_signed, is_outside_unsigned}
 use Rattle.points.specs.Table as table
-use Rattle.mem_terms.specs.declared.values.SymValue.{SymValue}
-use Rattle.mem_terms.specs.Values.{IsSymValue, value_at, value_from}
+use Rattle.mem_terms.specs.Values.{value_at, value_from}
 use Rattle.mem_terms.proofs.Bits.{term-below}
 use Rattle.mem_terms.proofs.Later.{bit-later, term-later, keeps_trans}
 use Rattle.table_terms.specs.declared.narrow.NarrowValue.{NarrowValue}

@@ -1,6 +1,6 @@
 -- Numbers with fewer digits, and whether they are the same.
-use Rattle.std.proofs.Common.{ℕ, zero, suc, ◌≡◌, ◌≢◌, ◌<◌, ◌≤◌, ◌+◌, ◌-◌, ◌*◌, ◌/◌, ◌%◌, ◌^◌, Bool, true, false, not, cond, nat_eq, nat_le, ℤ, pos, negsuc, inl, inr, refl, ap, sym, ◌∙◌, arith, pow-add, pow_pos, pow_mono, subst}
-use Rattle.std.proofs.lemmas.Bool.{cases_lt, cases_eq, le-leb, lt-leb, eq-eqb, ne_eqb}
+use Rattle.std.proofs.Common.{ℕ, zero, suc, ◌≡◌, ◌≢◌, ◌<◌, ◌≤◌, ◌+◌, ◌-◌, ◌*◌, ◌/◌, ◌%◌, ◌^◌, not, nat_eq, nat_le, pos, inl, inr, refl, ap, sym, ◌∙◌, arith, pow-add, pow_pos, pow_mono, subst}
+use Rattle.std.proofs.lemmas.Bool.{cases_lt, le-leb, lt-leb, eq-eqb, ne_eqb}
 use Rattle.std.proofs.lemmas.Nat.{mod_below, mod-mul-add, shr_split, shr_below}
 use Rattle.std.proofs.Math.Nat.{mod-eq_of_lt, div-eq_of_lt}
 use Rattle.bv_terms.specs.Tree.{extended_signed}

@@ -1,12 +1,12 @@
 -- Where divisions are undefined.
-use Rattle.std.proofs.Common.{ℕ, ◌≡◌, ◌<◌, ◌-◌, ◌%◌, ◌^◌, Bool, true, false, ◌&&◌, ◌||◌, nat_eq, List, refl, ap, sym, ◌∙◌}
+use Rattle.std.proofs.Common.{ℕ, ◌≡◌, ◌<◌, ◌-◌, ◌^◌, Bool, true, false, ◌&&◌, ◌||◌, nat_eq, List, refl, ◌∙◌}
 use Rattle.byte_block.specs.declared.value.Value.{Value}
 use Rattle.bv_terms.specs.declared.term.TermId.{TermId}
 use Rattle.bv_terms.specs.declared.term.Term.{Term}
-use Rattle.bv_terms.specs.Trees.{Keeps, Tests, IsTerm, AreInRange, term_at, bit_at}
+use Rattle.bv_terms.specs.Trees.{Keeps, Tests, AreInRange, term_at, bit_at}
 use Rattle.mem_terms.specs.Values.{value_from}
 use Rattle.mem_terms.proofs.Bits.{term-below}
-use Rattle.mem_terms.proofs.Later.{bit-later, term-later}
+use Rattle.mem_terms.proofs.Later.{bit-later}
 use Rattle.mem_terms.proofs.Made.{small_mod}
 use Rattle.points.specs.Table.{has_no_quotient, is_least_or_poison, is_zero_or_poison}
 use Rattle.table_terms.specs.declared.narrow.NarrowValue.{NarrowValue}

@@ -1,5 +1,5 @@
 -- Exact products of numbers in two's complement.
-use Rattle.std.proofs.Common.{ℕ, zero, suc, ◌≡◌, ◌<◌, ◌≤◌, ◌+◌, ◌-◌, ◌*◌, ◌/◌, ◌%◌, ◌^◌, ℤ, pos, negsuc, neg_ℤ, inl, inr, refl, ap, sym, ◌∙◌, arith, pow-add, pow_pos}
+use Rattle.std.proofs.Common.{ℕ, zero, suc, ◌≡◌, ◌<◌, ◌≤◌, ◌+◌, ◌-◌, ◌*◌, ◌%◌, ◌^◌, ℤ, pos, negsuc, neg_ℤ, inl, inr, refl, ap, sym, ◌∙◌, arith, pow-add, pow_pos}
 use Rattle.std.specs.Prelude.{◌*ℤ◌}
 use Rattle.std.proofs.lemmas.Bool.{cases_lt}
 use Rattle.std.proofs.lemmas.Nat.{mod-mul-add, mul-lt, mul-le, mul-mod}
@@ -9,7 +9,7 @@ use Rattle.bv_terms.specs.Tree.{extended_signed}
 use Rattle.tv_num.specs.Width.{signed_of}
 use Rattle.table_terms.proofs.Halves.{halves, signed_low, signed_high}
 use Rattle.table_terms.proofs.Additions.{by-halves}
-use Rattle.table_terms.proofs.Cuts.{wider, powers, extended-low, extended-high}
+use Rattle.table_terms.proofs.Cuts.{wider, extended-low, extended-high}
 
 square : (n : ℕ) → 2 ^ (2 * n) ≡ 2 ^ n * 2 ^ n
 square n = let e : 2 * n ≡ n + n = omega arith in ap (λ k. 2 ^ k) e ∙ pow-add 2 n n

@@ -1,7 +1,7 @@
 //! Operations bit by bit (LLVM Language Reference, "and Instruction", "or Instruction", "xor
 //! Instruction").
 
-ghost use Rattle.std.specs.Prelude.{◌≡◌, ◌&&◌, not, false, IfOk, nat_eq, bit_and, bit_or, bit_xor};
+ghost use Rattle.std.specs.Prelude.{◌&&◌, not, false, IfOk, nat_eq, bit_and, bit_or, bit_xor};
 ghost use Rattle.bv_terms.specs.Trees.{IsTerm, Keeps, Makes, Tests, term_at};
 
 use crate::narrow::{NarrowValue, is_not_zero};

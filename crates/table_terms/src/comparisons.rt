@@ -1,6 +1,6 @@
 //! Comparisons (LLVM Language Reference, "icmp Instruction").
 
-ghost use Rattle.std.specs.Prelude.{◌≡◌, ◌&&◌, ℕ, IfOk, int_le, int_lt, nat_le};
+ghost use Rattle.std.specs.Prelude.{◌≡◌, ℕ, IfOk, int_le, int_lt, nat_le};
 ghost use Rattle.bv_terms.specs.Trees.{IsTerm, Keeps, Tests, bit_at, term_at};
 ghost use Rattle.tv_num.specs.Width.{signed_of};
 ghost use Rattle.points.specs.Table.{are_unlike, compared, holds_of, truth};

@@ -2,7 +2,7 @@
 //! Instruction", "srem Instruction"). What they give where the divisor is 0 is no matter. Those of
 //! numbers in two's complement are those of their magnitudes, with a sign put to them.
 
-ghost use Rattle.std.specs.Prelude.{◌≡◌, ◌&&◌, not, false, IfOk, nat_eq};
+ghost use Rattle.std.specs.Prelude.{◌&&◌, not, false, IfOk, nat_eq};
 ghost use Rattle.bv_terms.specs.Tree.{quotient, remainder};
 ghost use Rattle.bv_terms.specs.Trees.{IsTerm, Keeps, Makes, Tests, bit_at, term_at};
 ghost use Rattle.points.specs.Table.{have_two_signs, is_negative};

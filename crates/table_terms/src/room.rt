@@ -1,6 +1,6 @@
 //! Whether a number has room at a lesser width.
 
-ghost use Rattle.std.specs.Prelude.{◌≡◌, ◌<◌, ◌≤◌, ◌&&◌, IfOk, not, pos};
+ghost use Rattle.std.specs.Prelude.{◌<◌, ◌≤◌, IfOk, pos};
 ghost use Rattle.bv_terms.specs.Trees.{IsTerm, Keeps, Tests, term_at};
 ghost use Rattle.tv_num.specs.Width.{is_outside_signed, is_outside_unsigned, signed_of};
 

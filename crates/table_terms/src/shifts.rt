@@ -2,7 +2,7 @@
 //!
 //! A flag asks whether digits are lost, and they are where the result, moved back, is another number.
 
-ghost use Rattle.std.specs.Prelude.{◌≡◌, ◌&&◌, ◌||◌, IfOk, nat_eq, nat_le, not};
+ghost use Rattle.std.specs.Prelude.{◌&&◌, ◌||◌, IfOk, nat_eq, nat_le, not};
 ghost use Rattle.bv_terms.specs.Tree.{shifted_left, shifted_right, shifted_signed};
 ghost use Rattle.bv_terms.specs.Trees.{IsTerm, Keeps, Makes, Tests, term_at};
 

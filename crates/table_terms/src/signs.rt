@@ -1,6 +1,6 @@
 //! Signs in two's complement.
 
-ghost use Rattle.std.specs.Prelude.{◌≡◌, ◌&&◌, ◌||◌, not, IfOk};
+ghost use Rattle.std.specs.Prelude.{◌&&◌, ◌||◌, not, IfOk};
 ghost use Rattle.bv_terms.specs.Trees.{IsTerm, Keeps, Tests, bit_at, term_at};
 ghost use Rattle.points.specs.Table.{have_two_signs, is_negative};
 ghost use Rattle.table_terms.specs.Rows.{is_sign_alone};

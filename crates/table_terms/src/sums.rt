@@ -3,7 +3,7 @@
 //! The unsigned sum has no room where it is less than a part, and the signed one where both parts
 //! have the other sign.
 
-ghost use Rattle.std.specs.Prelude.{◌≡◌, ◌+◌, ◌-◌, ◌%◌, ◌^◌, ◌&&◌, ◌||◌, IfOk, nat_lt};
+ghost use Rattle.std.specs.Prelude.{◌+◌, ◌-◌, ◌%◌, ◌^◌, ◌&&◌, ◌||◌, IfOk, nat_lt};
 ghost use Rattle.bv_terms.specs.Trees.{IsTerm, Keeps, Makes, Tests, term_at};
 ghost use Rattle.table_terms.specs.Rows.{is_sign_alone};
 

@@ -1,6 +1,6 @@
 //! Where an operation is undefined behaviour.
 
-ghost use Rattle.std.specs.Prelude.{◌≡◌, ◌-◌, ◌^◌, ◌&&◌, IfOk, nat_eq};
+ghost use Rattle.std.specs.Prelude.{◌-◌, ◌^◌, ◌&&◌, IfOk, nat_eq};
 ghost use Rattle.bv_terms.specs.Trees.{IsTerm, Keeps, Tests, term_at};
 ghost use Rattle.points.specs.Table.{has_no_quotient, is_least_or_poison, is_undefined, is_zero_or_poison};
 ghost use Rattle.table_terms.specs.Narrow.{IsNarrow, narrow_at};
