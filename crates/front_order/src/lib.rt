@@ -9,8 +9,6 @@
 
 mod laws;
 mod reading;
-#[cfg(test)]
-mod tests;
 
 pub use laws::{least_digits_are_least_numbers, no_digits_are_no_numbers};
 pub use reading::numbers_of;

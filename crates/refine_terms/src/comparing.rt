@@ -1,6 +1,6 @@
 //! Numbers against known ones.
 
-ghost use Rattle.std.specs.Prelude.{◌<◌, ◌≤◌, ◌^◌, IfOk, length, nat_eq, nat_le};
+ghost use Rattle.std.specs.Prelude.{◌<◌, ◌≤◌, ◌^◌, All, IfOk, length, nat_eq, nat_le};
 ghost use Rattle.bv_terms.specs.Tree.{width_of};
 ghost use Rattle.bv_terms.specs.Trees.{Keeps, Tests, term_at, tree_in};
 ghost use Rattle.mem_terms.specs.Values.{Each};

@@ -1,9 +1,9 @@
 //! Places of given blocks in a code.
 
-ghost use Rattle.std.specs.Prelude.{◌≡◌, IfOk, length, map, nat_le};
+ghost use Rattle.std.specs.Prelude.{◌≡◌, ◌<◌, IfOk, length, map, nat_le};
 ghost use Rattle.std.specs.List.{flat_map};
 ghost use Rattle.points.specs.Codes.{IsCodeOfBlocks, IsCodeOfPlaces};
-ghost use Rattle.bv_terms.specs.Trees.{Keeps, term_at};
+ghost use Rattle.bv_terms.specs.Trees.{IsTerm, Keeps, term_at};
 ghost use Rattle.mem_terms.specs.Values.{Each};
 ghost use Rattle.refine_terms.specs.Deciding.{Decides, IsNarrow};
 ghost use Rattle.refine_terms.specs.Groups.{IsCodeOfPlace};
