@@ -2,54 +2,63 @@
 ghost use Rattle.std.specs.Prelude.{◌≡◌};
 ghost use Rattle.ir_lexer.specs.Bytes.{is_digit, begins_word, is_name_byte, begins_name, is_hexadecimal_digit, is_float_kind, is_sign, is_blank, is_mark_byte};
 
+/// A space, a tab, a line feed or a carriage return, which part tokens.
 pub fn is_blank(b: u8) -> bool
     ensures { result ≡ is_blank b }
 {
     b == b' ' || b == b'\t' || b == b'\n' || b == b'\r'
 }
 
+/// A decimal digit.
 pub fn is_digit(b: u8) -> bool
     ensures { result ≡ is_digit b }
 {
     48 <= b && b <= 57
 }
 
+/// A letter, `_` or `.`, with which a word begins.
 pub fn begins_word(b: u8) -> bool
     ensures { result ≡ begins_word b }
 {
     65 <= b && b <= 90 || 97 <= b && b <= 122 || b == b'_' || b == b'.'
 }
 
+/// A byte of a name or a word behind its first: what begins one, a digit, `-` or `$`.
 pub fn is_name_byte(b: u8) -> bool
     ensures { result ≡ is_name_byte b }
 {
     begins_word(b) || is_digit(b) || b == b'-' || b == b'$'
 }
 
+/// What may stand behind the sign of a name: what begins a word, `-` or `$`.
 pub fn begins_name(b: u8) -> bool
     ensures { result ≡ begins_name b }
 {
     begins_word(b) || b == b'-' || b == b'$'
 }
 
+/// A hexadecimal digit, with a small letter or a capital.
 pub fn is_hexadecimal_digit(b: u8) -> bool
     ensures { result ≡ is_hexadecimal_digit b }
 {
     is_digit(b) || 65 <= b && b <= 70 || 97 <= b && b <= 102
 }
 
+/// A letter that tells the format of a hexadecimal float behind `0x`.
 pub fn is_float_kind(b: u8) -> bool
     ensures { result ≡ is_float_kind b }
 {
     b == b'K' || b == b'L' || b == b'M' || b == b'H' || b == b'R'
 }
 
+/// A plus or a minus.
 pub fn is_sign(b: u8) -> bool
     ensures { result ≡ is_sign b }
 {
     b == b'+' || b == b'-'
 }
 
+/// A byte that is a mark by itself.
 pub fn is_mark_byte(b: u8) -> bool
     ensures { result ≡ is_mark_byte b }
 {

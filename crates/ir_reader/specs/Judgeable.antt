@@ -10,7 +10,7 @@ abbrev pub IsIntegerOrVoid : Option IrType → Type 0
 IsIntegerOrVoid None = Unit {0}
 IsIntegerOrVoid (Some type) = IsInteger type
 
--- a function that is read has few parameters and instructions, takes integers, and returns an integer or nothing
+-- a function that is read is within all limits, takes integers, and returns an integer or nothing
 pub record IsJudgeable (f : Function) : Type 0 where
   pub limits : IsWithinLimits f
   pub parameters : AreIntegers f.parameters
