@@ -3,11 +3,12 @@
 
     bench/solving.py [PATH OF solver_times]        (default: crates/solver_times/out/solver_times)
 
-`pigeons N` puts one pigeon more than N holes into them, `double N` asks whether x * 2 is ever another
-number than x << 1 at N bits, `difference N` the same of (x + y) - y and x. None has a model; the count is
-of the learned clauses. Times are of the whole program less those of a run that prints the clauses.
-minisat (`apt-get install minisat`) gets the same DIMACS; its column is left out where it isn't there. No
-test rests on these figures.
+`pigeons N` puts one pigeon more than N holes into them; the others ask at N bits whether one term is ever
+another number than a second (`crates/solver_times/src/main.rt` says which). None has a model. Beside the search
+in order stands that of a question, which takes the low digits of all variables first; the counts are of the
+learned clauses. Times are of the whole program less those of a run that prints the clauses. minisat (`apt-get
+install minisat`) gets the same DIMACS; its column is left out where it isn't there. No test rests on these
+figures.
 """
 import os
 import shutil
@@ -16,7 +17,7 @@ import sys
 import tempfile
 import time
 
-QUESTIONS = [("pigeons", n) for n in (3, 4, 5, 6)] + [(name, n) for name in ("double", "difference") for n in (8, 16, 32)]
+QUESTIONS = [("pigeons", n) for n in (3, 4, 5, 6)] + [(name, n) for name in ("double", "difference", "three", "swap", "flips", "parts") for n in (8, 16, 32)]
 LIMIT = 60
 
 
@@ -41,14 +42,18 @@ def shown(seconds):
     return f"over {LIMIT} s" if seconds is None else f"{1000 * seconds:9.1f} ms"
 
 
+def ours(program, name, size, action, printing):
+    seconds, answer = timed([program, name, str(size), action])
+    return f"{action} {answer.strip() or 'no answer':<10} {shown(None if seconds is None else max(seconds - printing, 0))}"
+
+
 def main():
     program = sys.argv[1] if len(sys.argv) > 1 else "crates/solver_times/out/solver_times"
     for name, size in QUESTIONS:
         printing, text = timed([program, name, str(size), "dimacs"])
-        seconds, answer = timed([program, name, str(size), "solve"])
-        ours = None if seconds is None else max(seconds - printing, 0)
         other = f"   minisat {shown(minisat_time(text))}" if shutil.which("minisat") else ""
-        print(f"{name:>10} {size:>2} {text.split(chr(10), 1)[0]:<20} {answer.strip() or 'no answer':<12} {shown(ours)}{other}", flush=True)
+        columns = "   ".join(ours(program, name, size, action, printing) for action in ("solve", "ask"))
+        print(f"{name:>10} {size:>2} {text.split(chr(10), 1)[0]:<20} {columns}{other}", flush=True)
 
 
 if __name__ == "__main__":

@@ -1,5 +1,6 @@
 pub mod Asking
+pub mod Building
 pub mod Marking
 pub mod Orders
-pub mod Building
+pub mod Renumbered
 pub mod Testing

@@ -12,11 +12,12 @@ ghost use Rattle.sat_ask.specs.Questions.{AreDifferent, HasAll, IsVariable, digi
 
 use crate::asked::Asked;
 use crate::cone::cone_of;
+use crate::searching::search;
 use bit_blast::Blast;
 use bv_terms::{Term, TermId, Terms, Variable};
 use clause_lits::Cnf;
 use clause_log::Cert;
-use clause_solver::{Answer, solve};
+use clause_solver::Answer;
 use gates::{GateId, to_cnf};
 use std::alloc::Global;
 use support::{NoMemory, Sequence};
@@ -65,7 +66,8 @@ fn searched(
     ensures { IfOk result (IsFound (goal_test terms.now goal order.now) (digit_count (variables_of terms.now order.now)) limit) }
 {
     let cnf = clauses_of(alloc, terms, goal, order)?;
-    match solve(alloc, &cnf, limit)? {
+    let widths = widths_of(alloc, terms, order)?;
+    match search(alloc, &cnf, &widths, limit)? {
         Answer::Sat(places) => {
             let front = cnf.front as usize;
             let digits = Vec::from_slice(alloc, &places.as_slice()[..front])?;
@@ -97,6 +99,17 @@ fn has_small_numbers(cert: &Cert) -> bool
     cert.cnf.variables < MOST_NUMBERS as u64
         && clauses < MOST_NUMBERS
         && cert.log.len() < MOST_NUMBERS - clauses
+}
+
+/// The widths of the variables among terms.
+fn widths_of(alloc: Global, terms: &Terms, order: &[TermId]) -> Result<Vec<u32>, NoMemory> {
+    let mut widths = Vec::new(alloc);
+    for name in order {
+        if let Some(Term::Variable { width, .. }) = terms.as_slice().get(name.index) {
+            widths.push(*width)?;
+        }
+    }
+    Ok(widths)
 }
 
 /// Clauses that ask which digits of the variables in `order` make the goal true.

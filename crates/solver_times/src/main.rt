@@ -1,18 +1,21 @@
 //! How long the search for models takes.
 //!
 //! Its words name a question, its size, and what to do with it: `pigeons N`, one pigeon more than N
-//! holes, `double N`, whether `x * 2` is ever another number than `x << 1` at N bits, or
-//! `difference N`, the same of `(x + y) - y` and `x`; then `dimacs`, which prints the clauses, or
-//! `solve`, which prints whether they have a model and how many clauses were learned.
-//! `bench/solving.py` measures the times. It promises nothing; it stands on `clause_solver` and
-//! `bit_blast`, and nothing stands on it.
+//! holes, or, at N bits, whether one term is ever another number than a second: `double N`, `x * 2`
+//! and `x << 1`; `difference N`, `(x + y) - y` and `x`; `three N`, `(x + y) + z` and `x + (y + z)`;
+//! `swap N`, `x + y` and `y + x`; `flips N`, `x ^ y ^ y` and `x`; `parts N`, `(x & y) + (x | y)` and
+//! `x + y`. Then comes `dimacs`, which prints the clauses, or `solve` or `ask`, which print whether
+//! they have a model and how many clauses were learned: by the search in order, and by that of a
+//! question, under other numbers first. `bench/solving.py` measures the times. It promises nothing;
+//! it stands on `sat_ask` and `bit_blast`, and nothing stands on it.
 #![tactic(auto)]
 
 mod questions;
 
 use clause_lits::{Cnf, Lit};
 use clause_solver::{Answer, solve};
-use questions::{difference, double, pigeons};
+use questions::{Question, difference, double, flips, parts, pigeons, swap, three};
+use sat_ask::search;
 use std::alloc::Global;
 use std::process::ExitCode;
 use std::{env, io};
@@ -23,6 +26,7 @@ use support::NoMemory;
 enum Action {
     Dimacs,
     Solve,
+    Ask,
 }
 
 fn print_clause(rt: &HostRuntime, literals: &[Lit]) -> io::Result<()> {
@@ -41,8 +45,8 @@ fn print_dimacs(rt: &HostRuntime, cnf: &Cnf) -> io::Result<()> {
     Ok(())
 }
 
-fn print_answer(rt: &HostRuntime, cnf: &Cnf) -> io::Result<()> {
-    match solve(rt.alloc(), cnf, None) {
+fn print_answer(rt: &HostRuntime, answer: Result<Answer, NoMemory>) -> io::Result<()> {
+    match answer {
         Ok(Answer::Sat(_)) => println!(rt; "model"),
         Ok(Answer::Unsat(log)) => println!(rt; "none {}", log.len()),
         Ok(Answer::Spent(log)) => println!(rt; "spent {}", log.len()),
@@ -50,7 +54,7 @@ fn print_answer(rt: &HostRuntime, cnf: &Cnf) -> io::Result<()> {
     }
 }
 
-fn question(alloc: Global, name: &str, size: u32) -> Result<Option<Cnf>, NoMemory> {
+fn question(alloc: Global, name: &str, size: u32) -> Result<Option<Question>, NoMemory> {
     if size < 2 || 64 < size {
         return Ok(None);
     }
@@ -58,6 +62,10 @@ fn question(alloc: Global, name: &str, size: u32) -> Result<Option<Cnf>, NoMemor
         "pigeons" => Ok(Some(pigeons(alloc, u64::from(size))?)),
         "double" => Ok(Some(double(alloc, size)?)),
         "difference" => Ok(Some(difference(alloc, size)?)),
+        "three" => Ok(Some(three(alloc, size)?)),
+        "swap" => Ok(Some(swap(alloc, size)?)),
+        "flips" => Ok(Some(flips(alloc, size)?)),
+        "parts" => Ok(Some(parts(alloc, size)?)),
         _ => Ok(None),
     }
 }
@@ -69,14 +77,17 @@ fn answer(rt: &HostRuntime, words: &[String]) -> io::Result<bool> {
     let action = match action.as_str() {
         "dimacs" => Action::Dimacs,
         "solve" => Action::Solve,
+        "ask" => Action::Ask,
         _ => return Ok(false),
     };
-    let Ok(Some(cnf)) = question(rt.alloc(), name.as_str(), size.parse::<u32>().unwrap_or(0)) else {
+    let size = size.parse::<u32>().unwrap_or(0);
+    let Ok(Some(Question { cnf, widths })) = question(rt.alloc(), name.as_str(), size) else {
         return Ok(false);
     };
     match action {
         Action::Dimacs => print_dimacs(rt, &cnf)?,
-        Action::Solve => print_answer(rt, &cnf)?,
+        Action::Solve => print_answer(rt, solve(rt.alloc(), &cnf, None))?,
+        Action::Ask => print_answer(rt, search(rt.alloc(), &cnf, &widths, None))?,
     }
     Ok(true)
 }

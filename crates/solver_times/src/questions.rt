@@ -1,6 +1,8 @@
 //! Questions to a search for models.
 
-ghost use Rattle.std.specs.Prelude.{◌≤◌};
+ghost use Rattle.std.specs.Prelude.{◌≡◌, ◌<◌, ◌≤◌, length};
+ghost use Rattle.bv_terms.specs.Tree.{width_of};
+ghost use Rattle.bv_terms.specs.Trees.{tree_in};
 
 use bit_blast::Blast;
 use bv_terms::{TermId, Terms, fold};
@@ -9,6 +11,13 @@ use gates::to_cnf;
 use smallvec::SmallVec;
 use std::alloc::Global;
 use support::{NoMemory, Sequence};
+
+/// Clauses, and the widths of the words that their front is.
+#[derive(Drop)]
+pub struct Question {
+    pub cnf: Cnf,
+    pub widths: Vec<u32>,
+}
 
 /// The clause of these literals; want of memory stands for literals out of order.
 fn clause(literals: SmallVec<Lit, 4>) -> Result<Clause, NoMemory> {
@@ -68,7 +77,7 @@ fn sits_apart(
 }
 
 /// One pigeon more than there are holes, and no two in one.
-pub fn pigeons(alloc: Global, holes: u64) -> Result<Cnf, NoMemory> {
+pub fn pigeons(alloc: Global, holes: u64) -> Result<Question, NoMemory> {
     let mut clauses = Sequence::from_vec(Vec::new(alloc));
     let pigeons = holes.saturating_add(1);
     for pigeon in 0..pigeons {
@@ -81,7 +90,10 @@ pub fn pigeons(alloc: Global, holes: u64) -> Result<Cnf, NoMemory> {
     if !are_within(variables, clauses.as_slice()) {
         return Err(NoMemory);
     }
-    Ok(Cnf::new(variables, clauses, variables))
+    Ok(Question {
+        cnf: Cnf::new(variables, clauses, variables),
+        widths: Vec::new(alloc),
+    })
 }
 
 /// Clauses that ask for a goal of one bit, its variables being the front.
@@ -101,8 +113,29 @@ fn clauses_of(alloc: Global, terms: &Terms, goal: TermId) -> Result<Cnf, NoMemor
     }
 }
 
+/// The question whether two terms of one width ever differ, with so many variables of that width.
+fn differ(
+    alloc: Global,
+    mut terms: Terms,
+    left: TermId,
+    right: TermId,
+    variables: usize,
+    width: u32,
+) -> Result<Question, NoMemory>
+    requires left { left.index < length terms }
+    requires right { right.index < length terms }
+    requires alike { width_of (tree_in terms left) ≡ width_of (tree_in terms right) }
+{
+    let same = terms.eq(left, right)?;
+    let goal = terms.not(same)?;
+    let cnf = clauses_of(alloc, &terms, goal)?;
+    let mut widths = Vec::new(alloc);
+    widths.resize(variables, width)?;
+    Ok(Question { cnf, widths })
+}
+
 /// Whether `x * 2` is ever another number than `x << 1`.
-pub fn double(alloc: Global, width: u32) -> Result<Cnf, NoMemory>
+pub fn double(alloc: Global, width: u32) -> Result<Question, NoMemory>
     requires least { 2 ≤ width }
     requires most { width ≤ 128 }
 {
@@ -112,13 +145,11 @@ pub fn double(alloc: Global, width: u32) -> Result<Cnf, NoMemory>
     let one = terms.constant(1, width)?;
     let product = terms.mul(x, two)?;
     let shifted = terms.shl(x, one)?;
-    let same = terms.eq(product, shifted)?;
-    let goal = terms.not(same)?;
-    clauses_of(alloc, &terms, goal)
+    differ(alloc, terms, product, shifted, 1, width)
 }
 
 /// Whether `(x + y) - y` is ever another number than `x`.
-pub fn difference(alloc: Global, width: u32) -> Result<Cnf, NoMemory>
+pub fn difference(alloc: Global, width: u32) -> Result<Question, NoMemory>
     requires least { 2 ≤ width }
     requires most { width ≤ 128 }
 {
@@ -127,7 +158,62 @@ pub fn difference(alloc: Global, width: u32) -> Result<Cnf, NoMemory>
     let y = terms.variable(1, width)?;
     let sum = terms.add(x, y)?;
     let back = terms.sub(sum, y)?;
-    let same = terms.eq(back, x)?;
-    let goal = terms.not(same)?;
-    clauses_of(alloc, &terms, goal)
+    differ(alloc, terms, back, x, 2, width)
+}
+
+/// Whether `(x + y) + z` is ever another number than `x + (y + z)`.
+pub fn three(alloc: Global, width: u32) -> Result<Question, NoMemory>
+    requires least { 2 ≤ width }
+    requires most { width ≤ 128 }
+{
+    let mut terms = Terms::new(alloc);
+    let x = terms.variable(0, width)?;
+    let y = terms.variable(1, width)?;
+    let z = terms.variable(2, width)?;
+    let first = terms.add(x, y)?;
+    let left = terms.add(first, z)?;
+    let last = terms.add(y, z)?;
+    let right = terms.add(x, last)?;
+    differ(alloc, terms, left, right, 3, width)
+}
+
+/// Whether `x + y` is ever another number than `y + x`.
+pub fn swap(alloc: Global, width: u32) -> Result<Question, NoMemory>
+    requires least { 2 ≤ width }
+    requires most { width ≤ 128 }
+{
+    let mut terms = Terms::new(alloc);
+    let x = terms.variable(0, width)?;
+    let y = terms.variable(1, width)?;
+    let left = terms.add(x, y)?;
+    let right = terms.add(y, x)?;
+    differ(alloc, terms, left, right, 2, width)
+}
+
+/// Whether `x ^ y ^ y` is ever another number than `x`.
+pub fn flips(alloc: Global, width: u32) -> Result<Question, NoMemory>
+    requires least { 2 ≤ width }
+    requires most { width ≤ 128 }
+{
+    let mut terms = Terms::new(alloc);
+    let x = terms.variable(0, width)?;
+    let y = terms.variable(1, width)?;
+    let once = terms.xor(x, y)?;
+    let twice = terms.xor(once, y)?;
+    differ(alloc, terms, twice, x, 2, width)
+}
+
+/// Whether `(x & y) + (x | y)` is ever another number than `x + y`.
+pub fn parts(alloc: Global, width: u32) -> Result<Question, NoMemory>
+    requires least { 2 ≤ width }
+    requires most { width ≤ 128 }
+{
+    let mut terms = Terms::new(alloc);
+    let x = terms.variable(0, width)?;
+    let y = terms.variable(1, width)?;
+    let both = terms.and(x, y)?;
+    let either = terms.or(x, y)?;
+    let left = terms.add(both, either)?;
+    let right = terms.add(x, y)?;
+    differ(alloc, terms, left, right, 2, width)
 }

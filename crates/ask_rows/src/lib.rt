@@ -1,0 +1,12 @@
+//! Rows of questions with answers that are known.
+//!
+//! [`pigeons`] is a goal that is never true, of many conflicts for its size. It promises that the
+//! goal has the one variable that it is given; the tests ask it. It stands on `sat_ask`, and nothing
+//! stands on it.
+#![tactic(auto)]
+
+mod rows;
+#[cfg(test)]
+mod tests;
+
+pub use rows::pigeons;
