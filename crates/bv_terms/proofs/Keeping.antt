@@ -1,23 +1,25 @@
 -- What was said of terms is said of more of them.
-use Rattle.std.proofs.Common.{Bool, true, false, cond, ap, ℕ, zero, suc, ◌≡◌, ◌<◌, ◌+◌, List, [], ◌∷◌, ◌++◌, length, get_or, slice_get, Some, sym, subst, arith, ◌∙◌, refl, length-append}
+use Rattle.std.proofs.Common.{Bool, true, false, cond, ap, ℕ, zero, suc, ◌≡◌, inl, inr, ◌<◌, ◌+◌, List, [], ◌∷◌, ◌++◌, length, get_or, slice_get, Some, sym, subst, arith, ◌∙◌, refl, length-append, append-nil, append_assoc}
 use Rattle.bv_terms.specs.declared.term.TermId.{TermId}
 use Rattle.bv_terms.specs.declared.term.Term.{Term}
+use Rattle.bv_terms.specs.declared.term.Term.TheVariants as term
+use Rattle.bv_terms.specs.declared.variable.Variable.{Variable}
 use Rattle.bv_terms.specs.Tree as tree
 use Rattle.bv_terms.specs.Tree.{Tree, width_of, value_of}
-use Rattle.bv_terms.specs.Trees.{AreFit, IsFit, IsWithin, AreMatched, tree_of, term_width, trees_from, trees_of, tree_in, Keeps, Makes}
+use Rattle.bv_terms.specs.Trees.{AreFit, IsFit, IsWithin, AreMatched, tree_of, term_width, trees_from, trees_of, tree_in, variable_in, variables_among, Extends, Gains, IsNoVariable, Keeps, Makes}
 use Rattle.bv_terms.proofs.Stages.{length-trees, trees-append, trees-front, tree-same, tree-stored, width-tree}
 
-pub keeps_self : (ts : List Term) → Keeps ts ts
-keeps_self ts = record { longer = omega arith; terms = λ i lt. refl; kept = λ a lt. refl }
+pub extends_self : (ts : List Term) → Extends ts ts
+extends_self ts = record { longer = omega arith; terms = λ i lt. refl; kept = λ a lt. refl }
 
 get-append : (old more : List Term) (i : ℕ) → i < length old → slice_get (old ++ more) i ≡ slice_get old i
 get-append [] more i lt = absurd (omega arith)
 get-append (x ∷ xs) more zero lt = refl
 get-append (x ∷ xs) more (suc i) lt = get-append xs more i (omega arith)
 
-keeps_append : (old more : List Term) → Keeps old (old ++ more)
+extends_append : (old more : List Term) → Extends old (old ++ more)
 unfolding trees_of
-keeps_append old more = record {
+extends_append old more = record {
   longer = omega (arith, length-append old more);
   terms = λ i lt. get-append old more i lt;
   kept = λ a lt.
@@ -25,11 +27,52 @@ keeps_append old more = record {
       ap (λ zs. get_or zs a.index (tree.Constant 0 1)) (trees-append [] old more) ∙ trees-front (trees_from [] old) more a.index (tree.Constant 0 1) within;
 }
 
-pub keeps_stored : (known : Bool) (old new : List Term) (t : Term) → new ≡ cond known old (old ++ t ∷ []) → Keeps old new
-keeps_stored true old new t e = rw e (keeps_self old)
-keeps_stored false old new t e = rw e (keeps_append old (t ∷ []))
+pub extends_stored : (known : Bool) (old new : List Term) (t : Term) → new ≡ cond known old (old ++ t ∷ []) → Extends old new
+extends_stored true old new t e = rw e (extends_self old)
+extends_stored false old new t e = rw e (extends_append old (t ∷ []))
 
-pub makes_stored : (old new : List Term) (id : TermId) (t : Term) → Keeps old new → AreFit [] new → IsWithin (length old) t → slice_get new id.index ≡ Some t → id.index < length new
+among-push : (old : List Term) (t : Term) → variables_among (old ++ t ∷ []) ≡ variables_among old ++ variable_in t
+unfolding variables_among
+among-push [] t = append-nil (variable_in t)
+among-push (x ∷ xs) t = ap (λ (zs : List Variable). variable_in x ++ zs) (among-push xs t) ∙ sym (append_assoc (variable_in x) (variables_among xs) (variable_in t))
+
+pub gains_stored : (known : Bool) (old new : List Term) (t : Term) → new ≡ cond known old (old ++ t ∷ []) → Gains old new (variable_in t)
+gains_stored true old new t e = inl (ap variables_among e)
+gains_stored false old new t e = inr (ap variables_among e ∙ among-push old t)
+
+none_in : (t : Term) → IsNoVariable t → variable_in t ≡ []
+none_in (term.Constant value width) none = refl
+none_in (term.Variable number width) none = absurd none
+none_in (term.Not a width) none = refl
+none_in (term.And a b width) none = refl
+none_in (term.Or a b width) none = refl
+none_in (term.Xor a b width) none = refl
+none_in (term.Add a b width) none = refl
+none_in (term.Sub a b width) none = refl
+none_in (term.Mul a b width) none = refl
+none_in (term.Udiv a b width) none = refl
+none_in (term.Urem a b width) none = refl
+none_in (term.Shl a b width) none = refl
+none_in (term.Lshr a b width) none = refl
+none_in (term.Ashr a b width) none = refl
+none_in (term.Eq a b width) none = refl
+none_in (term.Ult a b width) none = refl
+none_in (term.Slt a b width) none = refl
+none_in (term.Ite c a b width) none = refl
+none_in (term.Extract a from width) none = refl
+none_in (term.Concat high low below width) none = refl
+none_in (term.Zext a width) none = refl
+none_in (term.Sext a from width) none = refl
+
+-- an operation that is stored brings no variable
+pub keeps_stored : (old new : List Term) (t : Term) → Extends old new → Gains old new (variable_in t) → IsNoVariable t → Keeps old new
+keeps_stored old new t more gains none = record { longer = more.longer; terms = more.terms; kept = more.kept; calm = go gains }
+  where
+    go : Gains old new (variable_in t) → variables_among new ≡ variables_among old
+    go (inl same) = same
+    go (inr one) = one ∙ (ap (λ (zs : List Variable). variables_among old ++ zs) (none_in t none) ∙ append-nil (variables_among old))
+
+pub makes_stored : (old new : List Term) (id : TermId) (t : Term) → Extends old new → AreFit [] new → IsWithin (length old) t → slice_get new id.index ≡ Some t → id.index < length new
     → Makes new id (term_width t) (λ v. value_of v (tree_of (trees_of old) t))
 unfolding trees_of
 makes_stored old new id t kept fit within at lt =
