@@ -1,0 +1,4 @@
+pub mod Bits
+pub mod Eaches
+pub mod Later
+pub mod Made

@@ -1,0 +1,90 @@
+//! Numbers of a width, and what is asked of them.
+
+ghost use Rattle.std.specs.Prelude.{◌≡◌, ◌<◌, ◌≤◌, ◌%◌, ◌^◌, IfOk, length, cond, nat_eq, nat_lt};
+ghost use Rattle.bv_terms.specs.Tree.{is_less_signed, width_of};
+ghost use Rattle.bv_terms.specs.Trees.{IsTerm, IsWidth, Keeps, Makes, Tests, bit_at, term_at, tree_in};
+
+use bv_terms::{TermId, Terms};
+use support::NoMemory;
+
+/// A known number of 64 digits.
+pub fn number(terms: &mut Terms, n: u64) -> Result<TermId, NoMemory>
+    ensures made { IfOk result (λ id. Makes terms.new id 64 (λ _. n)) }
+    ensures kept { Keeps terms.old terms.new }
+{
+    terms.constant(n as u128, 64)
+}
+
+/// The low digits of a number, as many as the width, or the number with zeros before it.
+pub fn resize(terms: &mut Terms, a: TermId, width: u32) -> Result<TermId, NoMemory>
+    requires within { a.index < length terms.old }
+    requires wide { IsWidth width }
+    ensures made { IfOk result (λ id. Makes terms.new id width (λ v. term_at v terms.old a % 2 ^ width)) }
+    ensures kept { Keeps terms.old terms.new }
+{
+    terms.values_fit();
+    let from = terms.width(a);
+    if width < from {
+        let id = terms.extract(a, 0, width)?;
+        Ok(id)
+    } else if width == from {
+        Ok(a)
+    } else {
+        let id = terms.zext(a, width)?;
+        Ok(id)
+    }
+}
+
+/// The first of two of one width where the condition is true, and else the second. Where both are
+/// one term it is the answer.
+pub fn pick(terms: &mut Terms, c: TermId, a: TermId, b: TermId) -> Result<TermId, NoMemory>
+    requires c { IsTerm terms.old 1 c }
+    requires a { a.index < length terms.old }
+    requires b { b.index < length terms.old }
+    requires alike { width_of (tree_in terms.old a) ≡ width_of (tree_in terms.old b) }
+    ensures made { IfOk result (λ id. Makes terms.new id (width_of (tree_in terms.old a)) (λ v. cond (bit_at v terms.old c) (term_at v terms.old a) (term_at v terms.old b))) }
+    ensures kept { Keeps terms.old terms.new }
+{
+    if a == b {
+        Ok(a)
+    } else {
+        let id = terms.ite(c, a, b)?;
+        Ok(id)
+    }
+}
+
+/// Whether two of one width are equal.
+pub fn equals(terms: &mut Terms, a: TermId, b: TermId) -> Result<TermId, NoMemory>
+    requires a { a.index < length terms.old }
+    requires b { b.index < length terms.old }
+    requires alike { width_of (tree_in terms.old a) ≡ width_of (tree_in terms.old b) }
+    ensures made { IfOk result (λ id. Tests terms.new id (λ v. nat_eq (term_at v terms.old a) (term_at v terms.old b))) }
+    ensures kept { Keeps terms.old terms.new }
+{
+    let id = terms.eq(a, b)?;
+    Ok(id)
+}
+
+/// Whether the first of two of one width is less, as unsigned numbers.
+pub fn less(terms: &mut Terms, a: TermId, b: TermId) -> Result<TermId, NoMemory>
+    requires a { a.index < length terms.old }
+    requires b { b.index < length terms.old }
+    requires alike { width_of (tree_in terms.old a) ≡ width_of (tree_in terms.old b) }
+    ensures made { IfOk result (λ id. Tests terms.new id (λ v. nat_lt (term_at v terms.old a) (term_at v terms.old b))) }
+    ensures kept { Keeps terms.old terms.new }
+{
+    let id = terms.ult(a, b)?;
+    Ok(id)
+}
+
+/// Whether the first of two of one width is less, in two's complement.
+pub fn less_signed(terms: &mut Terms, a: TermId, b: TermId) -> Result<TermId, NoMemory>
+    requires a { a.index < length terms.old }
+    requires b { b.index < length terms.old }
+    requires alike { width_of (tree_in terms.old a) ≡ width_of (tree_in terms.old b) }
+    ensures made { IfOk result (λ id. Tests terms.new id (λ v. is_less_signed (width_of (tree_in terms.old a)) (term_at v terms.old a) (term_at v terms.old b))) }
+    ensures kept { Keeps terms.old terms.new }
+{
+    let id = terms.slt(a, b)?;
+    Ok(id)
+}
