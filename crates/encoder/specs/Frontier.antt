@@ -1,0 +1,143 @@
+-- Where a run is between two copies, told by what is known of the copies ahead and of how it ended.
+use Rattle.std.specs.Prelude.{◌≡◌, ℕ, zero, suc, ◌+◌, ◌≤◌, ◌<◌, Bool, true, false, cond, nat_le, if◌then◌else◌, List, [], ◌∷◌, length, map, All, Option, Some, None, IfSome, slice_get, slice_set}
+use Rattle.std.specs.Option.{option_map}
+use Rattle.ir_tree.specs.declared.tree.IrType.{IrType}
+use Rattle.ir_tree.specs.declared.tree.Terminator.{Terminator}
+use Rattle.ir_tree.specs.declared.tree.Terminator.TheVariants as terminator
+use Rattle.ir_tree.specs.declared.tree.Block.{Block}
+use Rattle.ir_tree.specs.declared.tree.Function.{Function}
+use Rattle.ir_tree.specs.Flow.{targets}
+use Rattle.byte_block.specs.declared.block.MemoryBlock.{MemoryBlock}
+use Rattle.points.specs.declared.machine.Machine.{Machine}
+use Rattle.points.specs.declared.outcome.Outcome.{Outcome}
+use Rattle.points.specs.declared.outcome.Outcome.TheVariants.{Return, Ub, Beyond}
+use Rattle.points.specs.Run.{Run, ended, entered}
+use Rattle.unroll.specs.declared.layered.Edge.{Edge}
+use Rattle.unroll.specs.declared.layered.BlockCopy.{BlockCopy}
+use Rattle.unroll.specs.Layers.{Where, At, Done}
+use Rattle.bv_terms.specs.declared.term.TermId.{TermId}
+use Rattle.bv_terms.specs.declared.term.Term.{Term}
+use Rattle.bv_terms.specs.Trees.{IsTerm, Keeps, bit_at, term_at}
+use Rattle.mem_terms.specs.declared.values.SymValue.{SymValue}
+use Rattle.mem_terms.specs.Values.{Each, IsSymValue, value_at}
+use Rattle.encoder.specs.declared.state.RunState.{RunState}
+use Rattle.encoder.specs.declared.ending.Ending.{Ending}
+use Rattle.encoder.specs.declared.frontier.Frontier.{Frontier}
+use Rattle.encoder.specs.Runs.{Scene, Sees, IsTally, IsState, Counts, Carries}
+
+-- ---- returns
+
+-- there is a value exactly where there is a type
+abbrev pub FitsType : {A : Type 0} → Option IrType → Option A → Type 0
+FitsType None None = Unit {0}
+FitsType None (Some x) = ⊥
+FitsType (Some t) None = ⊥
+FitsType (Some t) (Some x) = Unit {0}
+
+-- a `ret` has a value exactly where the function's header has a type
+abbrev pub FitsReturn : Option IrType → Terminator → Type 0
+FitsReturn returns (terminator.Return returned) = FitsType returns returned
+FitsReturn returns (terminator.Branch to) = Unit {0}
+FitsReturn returns (terminator.CondBranch condition if_true if_false) = Unit {0}
+FitsReturn returns (terminator.Switch width operand default cases) = Unit {0}
+FitsReturn returns terminator.Unreachable = Unit {0}
+
+abbrev pub ReturnsFit : Function → Type 0
+ReturnsFit f = All (λ (b : Block). FitsReturn f.returns b.terminator) f.blocks
+
+-- ---- how a run ended
+
+pub record IsEnding (terms : List Term) (returns : Option IrType) (e : Ending) : Type 0 where
+  pub ub : IsTerm terms 1 e.ub
+  pub beyond : IsTerm terms 1 e.beyond
+  pub value : IfSome e.value (IsSymValue terms)
+  pub fits_type : FitsType returns e.value
+  pub tally : IsTally terms e.tally
+
+abbrev pub ending_at : (ℕ → ℕ → ℕ) → List Term → List MemoryBlock → Ending → Outcome
+ending_at v terms memory e = cond (bit_at v terms e.ub) Ub (cond (bit_at v terms e.beyond) Beyond (Return (option_map (value_at v terms) e.value) memory))
+
+-- so
+pub record EndedSo (g : Scene) (terms : List Term) (e : Ending) (run : Run) : Type 0 where
+  pub outcome : ending_at g.v terms g.memory e ≡ run.outcome
+  pub tally : Counts g terms e.tally run.taken
+
+-- not yet
+pub record NotEnded (g : Scene) (terms : List Term) (e : Ending) : Type 0 where
+  pub ub : bit_at g.v terms e.ub ≡ false
+  pub beyond : bit_at g.v terms e.beyond ≡ false
+
+abbrev pub EndShows : Scene → List Term → Ending → Option Where → Type 0
+EndShows g terms e None = NotEnded g terms e
+EndShows g terms e (Some (At n m)) = NotEnded g terms e
+EndShows g terms e (Some (Done run)) = EndedSo g terms e run
+
+-- ---- the copies ahead
+
+pub record IsEntry (terms : List Term) (names : ℕ) (s : RunState) : Type 0 where
+  pub state : IsState terms s
+  pub count : length s.registers ≡ names
+
+abbrev pub AreEntries : List Term → ℕ → List (Option RunState) → Type 0
+AreEntries terms names ahead = Each (λ (entry : Option RunState). IfSome entry (IsEntry terms names)) ahead
+
+abbrev pub IsUnreached : Scene → List Term → Option RunState → Type 0
+IsUnreached g terms entry = IfSome entry (λ (s : RunState). bit_at g.v terms s.alive ≡ false)
+
+-- the run stands at the entry of the copy of a number, its phis done, and at no other
+pub record StandsAt (g : Scene) (terms : List Term) (ahead : List (Option RunState)) (n : ℕ) (m : Machine) : Type 0 where
+  pub entry : RunState
+  pub is : slice_get ahead n ≡ Some (Some entry)
+  pub alive : bit_at g.v terms entry.alive ≡ true
+  pub carries : Carries g terms m.block entry m
+  pub others : Each (IsUnreached g terms) (slice_set ahead n None)
+
+abbrev pub AheadShows : Scene → List Term → List (Option RunState) → Option Where → Type 0
+AheadShows g terms ahead None = Each (IsUnreached g terms) ahead
+AheadShows g terms ahead (Some (At n m)) = StandsAt g terms ahead n m
+AheadShows g terms ahead (Some (Done run)) = Each (IsUnreached g terms) ahead
+
+-- ---- both
+
+pub record IsFrontier (terms : List Term) (f : Function) (copies : List BlockCopy) (w : Frontier) : Type 0 where
+  pub ahead : AreEntries terms (length f.names) w.ahead
+  pub count : length w.ahead ≡ length copies
+  pub ending : IsEnding terms f.returns w.ending
+
+-- none is a run that has left one copy and isn't yet at another
+pub record Shows (g : Scene) (terms : List Term) (w : Frontier) (at : Option Where) : Type 0 where
+  pub ahead : AheadShows g terms w.ahead at
+  pub ending : EndShows g terms w.ending at
+
+-- ---- where a jump leads
+
+-- the machine at the entry of a copy, its phis done
+abbrev pub entering : Function → Option BlockCopy → Machine → Option Machine
+entering f None m = None
+entering f (Some copy) m = option_map (λ (b : Block). entered b (record m { turn = copy.turn })) (slice_get f.blocks copy.block)
+
+abbrev pub arrived : ℕ → Machine → Option Machine → Where
+arrived n m None = Done (ended Ub m)
+arrived n m (Some entry) = At n entry
+
+-- a run that goes to a copy before this number, or to one that isn't there, is at its end
+abbrev pub placed : Function → List BlockCopy → (from : ℕ) → Where → Where
+placed f copies from (Done run) = Done run
+placed f copies from (At n m) = if nat_le from n then arrived n m (entering f (slice_get copies n) m) else Done (ended Ub m)
+
+-- where the condition holds the run goes there from the state that it is in, and else nothing changes
+pub record Moves (old new : List Term) (tape : List TermId) (f : Function) (copies : List BlockCopy) (from : ℕ) (before after : Frontier) (c : TermId) (label : ℕ) (s : RunState) (to : List ℕ → Machine → Where) : Type 0 where
+  pub stays : (g : Scene) (at : Option Where) → bit_at g.v old c ≡ false → Shows g old before at → Shows g new after at
+  pub goes : (g : Scene) (m : Machine) → Sees g old tape → bit_at g.v old c ≡ true → Carries g old label s m → Shows g old before None
+      → Shows g new after (Some (placed f copies from (to g.tape m)))
+
+-- ---- the copies of a function
+
+-- each edge is that of its label
+abbrev pub AreByLabel : List ℕ → List Edge → Type 0
+AreByLabel labels edges = (edge : ℕ → Edge) × (edges ≡ map edge labels)
+
+pub record IsCopyIn (f : Function) (copy : BlockCopy) : Type 0 where
+  pub block : Block
+  pub is : slice_get f.blocks copy.block ≡ Some block
+  pub edges : AreByLabel (targets block.terminator) copy.edges
