@@ -1,0 +1,13 @@
+pub mod Halves
+pub mod Rows
+pub mod Additions
+pub mod Orders
+pub mod Cuts
+pub mod Multiplication
+pub mod Shifting
+pub mod Division
+pub mod Chains
+pub mod Divisors
+pub mod Operations
+pub mod Casting
+pub mod Wholes

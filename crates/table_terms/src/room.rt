@@ -1,0 +1,54 @@
+//! Whether a number has room at a lesser width.
+
+ghost use Rattle.std.specs.Prelude.{◌≡◌, ◌<◌, ◌≤◌, ◌&&◌, IfOk, not, pos};
+ghost use Rattle.bv_terms.specs.Trees.{IsTerm, Keeps, Tests, term_at};
+ghost use Rattle.tv_num.specs.Width.{is_outside_signed, is_outside_unsigned, signed_of};
+
+use bv_terms::{TermId, Terms};
+use mem_terms::{equals, negation};
+use support::NoMemory;
+
+/// Whether the number, without a sign, has no room in the lesser width: a higher digit is 1.
+pub fn is_outside_unsigned(
+    terms: &mut Terms,
+    a: TermId,
+    from: u32,
+    to: u32,
+) -> Result<TermId, NoMemory>
+    requires a { IsTerm terms.old from a }
+    requires least { 1 ≤ to }
+    requires less { to < from }
+    ensures made { IfOk result (λ id. Tests terms.new id (λ v. is_outside_unsigned to (pos (term_at v terms.old a)))) }
+    ensures kept { Keeps terms.old terms.new }
+{
+    terms.values_fit();
+    let _whole = terms.width(a);
+    let high = terms.extract(a, to, from - to)?;
+    let zero = terms.constant(0, from - to)?;
+    let none = equals(terms, high, zero)?;
+    let id = negation(terms, none)?;
+    Ok(id)
+}
+
+/// Whether the number in two's complement has no room in the lesser width: the low digits, with
+/// copies of their sign before them, are another number.
+pub fn is_outside_signed(
+    terms: &mut Terms,
+    a: TermId,
+    from: u32,
+    to: u32,
+) -> Result<TermId, NoMemory>
+    requires a { IsTerm terms.old from a }
+    requires least { 1 ≤ to }
+    requires less { to < from }
+    ensures made { IfOk result (λ id. Tests terms.new id (λ v. is_outside_signed to (signed_of from (term_at v terms.old a)))) }
+    ensures kept { Keeps terms.old terms.new }
+{
+    terms.values_fit();
+    let _whole = terms.width(a);
+    let low = terms.extract(a, 0, to)?;
+    let back = terms.sext(low, from)?;
+    let same = equals(terms, back, a)?;
+    let id = negation(terms, same)?;
+    Ok(id)
+}

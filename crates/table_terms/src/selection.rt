@@ -1,0 +1,34 @@
+//! Selections (LLVM Language Reference, "select Instruction").
+
+ghost use Rattle.std.specs.Prelude.{◌≡◌, ℕ, IfOk};
+ghost use Rattle.bv_terms.specs.Trees.{Keeps};
+ghost use Rattle.points.specs.Table.{selected};
+ghost use Rattle.mem_terms.specs.Values.{IsSymValue, value_at};
+
+use bv_terms::Terms;
+use mem_terms::{SymValue, either, pick_value};
+use support::NoMemory;
+
+/// The value that the condition's lowest digit chooses, and poison where the condition is; the other
+/// value has no effect. It fails for want of memory alone, and the terms that were there stay.
+pub fn select(
+    terms: &mut Terms,
+    condition: SymValue,
+    if_true: SymValue,
+    if_false: SymValue,
+) -> Result<SymValue, NoMemory>
+    requires condition { IsSymValue terms.old condition }
+    requires if_true { IsSymValue terms.old if_true }
+    requires if_false { IsSymValue terms.old if_false }
+    ensures made { IfOk result (IsSymValue terms.new) }
+    ensures stands { IfOk result (λ s. (v : ℕ → ℕ → ℕ) → value_at v terms.new s ≡ selected (value_at v terms.old condition) (value_at v terms.old if_true) (value_at v terms.old if_false)) }
+    ensures kept { Keeps terms.old terms.new }
+{
+    let lowest = terms.extract(condition.number, 0, 1)?;
+    let chosen = pick_value(terms, lowest, if_true, if_false)?;
+    let poison = either(terms, condition.poison, chosen.poison)?;
+    Ok(SymValue {
+        poison,
+        number: chosen.number,
+    })
+}
