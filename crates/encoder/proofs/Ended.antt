@@ -1,7 +1,6 @@
 -- How a run ended, with one way more to end.
 use Rattle.std.proofs.Common.{ℕ, ◌≡◌, Bool, true, false, ◌||◌, cond, List, Option, Some, None, IfSome, refl, ap, sym, ◌∙◌}
 use Rattle.std.specs.Option.{option_map}
-use Rattle.ir_tree.specs.declared.tree.IrType.{IrType}
 use Rattle.byte_block.specs.declared.block.MemoryBlock.{MemoryBlock}
 use Rattle.points.specs.declared.outcome.Outcome.TheVariants.{Return, Ub, Beyond}
 use Rattle.points.specs.Run.{Run}
@@ -29,7 +28,7 @@ same_end old new e d g None u b x t s = record { ub = u ∙ s.ub; beyond = b ∙
 same_end old new e d g (Some (At n m)) u b x t s = record { ub = u ∙ s.ub; beyond = b ∙ s.beyond }
 same_end old new e d g (Some (Done run)) u b x t s = record { outcome = rw (u, b, x) s.outcome; tally = t run.taken s.tally }
 
-module _ (old a b : List Term) (returns : Option IrType) (e : Ending) (own : IsEnding old returns e) (c : TermId) (tally : Tally) (hc : IsTerm old 1 c) (ka : Keeps old a) (kb : Keeps a b)
+module _ (old a b : List Term) (e : Ending) (own : IsEnding old e) (c : TermId) (tally : Tally) (hc : IsTerm old 1 c) (ka : Keeps old a) (kb : Keeps a b)
     (t : (g : Scene) (made : List ℕ) → bit_at g.v a c ≡ false → Counts g a e.tally made → Counts g b tally made) where
   counted : (g : Scene) → bit_at g.v old c ≡ false → (made : List ℕ) → Counts g old e.tally made → Counts g b tally made
   counted g none made k = t g made (bit-later old a ka g.v c hc.within ∙ none) (counts-later old a ka g e.tally made own.tally k)

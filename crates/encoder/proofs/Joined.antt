@@ -12,8 +12,7 @@ use Rattle.mem_terms.proofs.Eaches.{each-at, each-push, map-at, map-length, map-
 use Rattle.mem_terms.proofs.Later.{keeps_trans, bit-later, term-later, is_term-later, sym-later, syms-later, value-later, values-later}
 use Rattle.encoder.specs.declared.state.Tally.{Tally}
 use Rattle.encoder.specs.declared.state.RunState.{RunState}
-use Rattle.encoder.specs.Runs.{Scene, IsTally, Counts, Carries}
-use Rattle.encoder.specs.Frontier.{IsEntry}
+use Rattle.encoder.specs.Runs.{Scene, IsState, IsTally, Counts, Carries}
 use Rattle.encoder.proofs.Lasting.{counts-later}
 
 choice-push : (e : Bool) (xs ys : List Value) (x y : Value) → cond e xs ys ++ cond e x y ∷ [] ≡ cond e (xs ++ x ∷ []) (ys ++ y ∷ [])
@@ -62,7 +61,7 @@ module _ (old a b : List Term) (c read fits : TermId) (s t : Tally) (m n : ℕ) 
     fits = ap truth (mf.says g.v) ∙ rw (bit-later old a ka g.v c hc.within, none) (bit-later old a ka g.v t.fits ht.fits.within ∙ k.fits);
   }
 
-module _ (old a b d : List Term) (edge into : RunState) (alive : TermId) (tally : Tally) (registers : List SymValue) (most names : ℕ) (he : IsEntry old names edge) (hi : IsEntry old names into)
+module _ (old a b d : List Term) (edge into : RunState) (alive : TermId) (tally : Tally) (registers : List SymValue) (most : ℕ) (he : IsState old edge) (hi : IsState old into)
     (ka : Keeps old a) (kb : Keeps a b) (kd : Keeps b d) (greatest : most ≡ max edge.most into.most) (ht : IsTally b tally)
     (sd : (v : ℕ → ℕ → ℕ) → values_at v d registers ≡ cond (bit_at v b edge.alive) (values_at v b edge.registers) (values_at v b into.registers)) where
   abbrev joined : RunState
@@ -73,8 +72,8 @@ module _ (old a b d : List Term) (edge into : RunState) (alive : TermId) (tally 
   join_goes st g label m held h =
       let kab = keeps_trans old a b ka kb in
       record {
-        registers = sd g.v ∙ rw (bit-later old b kab g.v edge.alive he.state.alive.within, held) (values-later old b kab g.v edge.registers he.state.registers ∙ h.registers);
-        tally = counts-later b d kd g tally m.taken ht (st g m.taken (bit-later old a ka g.v edge.alive he.state.alive.within ∙ held) (counts-later old a ka g edge.tally m.taken he.state.tally h.tally));
+        registers = sd g.v ∙ rw (bit-later old b kab g.v edge.alive he.alive.within, held) (values-later old b kab g.v edge.registers he.registers ∙ h.registers);
+        tally = counts-later b d kd g tally m.taken ht (st g m.taken (bit-later old a ka g.v edge.alive he.alive.within ∙ held) (counts-later old a ka g edge.tally m.taken he.tally h.tally));
         most = rw greatest (omega (arith, h.most));
         memory = h.memory;
         block = h.block;
@@ -85,8 +84,8 @@ module _ (old a b d : List Term) (edge into : RunState) (alive : TermId) (tally 
   join_stays st g label m none h =
       let kab = keeps_trans old a b ka kb in
       record {
-        registers = sd g.v ∙ rw (bit-later old b kab g.v edge.alive he.state.alive.within, none) (values-later old b kab g.v into.registers hi.state.registers ∙ h.registers);
-        tally = counts-later b d kd g tally m.taken ht (st g m.taken (bit-later old a ka g.v edge.alive he.state.alive.within ∙ none) (counts-later old a ka g into.tally m.taken hi.state.tally h.tally));
+        registers = sd g.v ∙ rw (bit-later old b kab g.v edge.alive he.alive.within, none) (values-later old b kab g.v into.registers hi.registers ∙ h.registers);
+        tally = counts-later b d kd g tally m.taken ht (st g m.taken (bit-later old a ka g.v edge.alive he.alive.within ∙ none) (counts-later old a ka g into.tally m.taken hi.tally h.tally));
         most = rw greatest (omega (arith, h.most));
         memory = h.memory;
         block = h.block;

@@ -1,8 +1,7 @@
 -- What was said of a run so far is said of it over more terms.
-use Rattle.std.proofs.Common.{ℕ, ◌≡◌, ◌≤◌, ◌+◌, Bool, true, false, List, [], ◌∷◌, length, Option, Some, None, IfSome, refl, ap, sym, ◌∙◌, arith}
+use Rattle.std.proofs.Common.{ℕ, zero, suc, ◌≡◌, ◌≤◌, ◌+◌, Bool, true, false, List, [], ◌∷◌, length, Option, Some, None, IfSome, refl, ap, sym, subst, ◌∙◌, arith}
 use Rattle.std.specs.Prelude.{slice_get, slice_set}
 use Rattle.std.specs.Option.{option_map}
-use Rattle.ir_tree.specs.declared.tree.IrType.{IrType}
 use Rattle.byte_block.specs.declared.block.MemoryBlock.{MemoryBlock}
 use Rattle.points.specs.declared.machine.Machine.{Machine}
 use Rattle.points.specs.Run.{Run}
@@ -13,13 +12,19 @@ use Rattle.bv_terms.specs.Trees.{Keeps, IsTerm, bit_at, term_at}
 use Rattle.mem_terms.specs.declared.values.SymValue.{SymValue}
 use Rattle.mem_terms.specs.Values.{Each, IsSymValue, value_at}
 use Rattle.mem_terms.specs.Inputs.{AreWords}
-use Rattle.mem_terms.proofs.Eaches.{each-weaker}
+use Rattle.mem_terms.proofs.Eaches.{each-weaker, each-set}
 use Rattle.mem_terms.proofs.Later.{bit-later, term-later, is_term-later, syms-later, sym-later, values-later, value-later, words_at-later}
 use Rattle.encoder.specs.declared.state.Tally.{Tally}
 use Rattle.encoder.specs.declared.state.RunState.{RunState}
 use Rattle.encoder.specs.declared.ending.Ending.{Ending}
+use Rattle.encoder.specs.declared.frontier.Frontier.{Frontier}
 use Rattle.encoder.specs.Runs.{Scene, Sees, IsTally, IsState, Counts, Carries}
-use Rattle.encoder.specs.Frontier.{IsEnding, EndedSo, NotEnded, EndShows, IsEntry, AreEntries, IsUnreached, StandsAt, AheadShows, ending_at}
+use Rattle.encoder.specs.Frontier.{IsEnding, EndedSo, NotEnded, EndShows, AreStates, IsUnreached, StandsAt, AheadShows, IsFrontier, Shows, ending_at}
+
+pub each-get : {A : Type 0} (P : A → Type 0) (xs : List A) (n : ℕ) (x : A) → Each P xs → slice_get xs n ≡ Some x → P x
+each-get P [] n x h e = absurd (let c : ⊥ = cc in c)
+each-get P (y ∷ ys) zero x h e = (let is : y ≡ x = cc in subst P is h.0)
+each-get P (y ∷ ys) (suc n) x h e = each-get P ys n x h.1 e
 
 module _ (old new : List Term) (k : Keeps old new) where
   pub sees-later : (g : Scene) (tape : List TermId) → AreWords old tape → Sees g old tape → Sees g new tape
@@ -57,42 +62,57 @@ module _ (old new : List Term) (k : Keeps old new) where
   option-later v None h = refl
   option-later v (Some s) h = ap Some (value-later old new k v s h)
 
-  pub ending-later : (returns : Option IrType) (e : Ending) → IsEnding old returns e → IsEnding new returns e
-  ending-later returns e h = record {
+  pub ending-later : (e : Ending) → IsEnding old e → IsEnding new e
+  ending-later e h = record {
     ub = is_term-later old new k 1 e.ub h.ub;
     beyond = is_term-later old new k 1 e.beyond h.beyond;
     value = some-later e.value h.value;
-    fits_type = h.fits_type;
     tally = tally-later e.tally h.tally;
   }
 
-  pub ending_at-later : (v : ℕ → ℕ → ℕ) (memory : List MemoryBlock) (returns : Option IrType) (e : Ending) → IsEnding old returns e → ending_at v new memory e ≡ ending_at v old memory e
-  ending_at-later v memory returns e h = rw (bit-later old new k v e.ub h.ub.within, bit-later old new k v e.beyond h.beyond.within, option-later v e.value h.value) refl
+  pub ending_at-later : (v : ℕ → ℕ → ℕ) (memory : List MemoryBlock) (e : Ending) → IsEnding old e → ending_at v new memory e ≡ ending_at v old memory e
+  ending_at-later v memory e h = rw (bit-later old new k v e.ub h.ub.within, bit-later old new k v e.beyond h.beyond.within, option-later v e.value h.value) refl
 
-  pub end_shows-later : (g : Scene) (returns : Option IrType) (e : Ending) (at : Option Where) → IsEnding old returns e → EndShows g old e at → EndShows g new e at
-  end_shows-later g returns e None h s = record { ub = bit-later old new k g.v e.ub h.ub.within ∙ s.ub; beyond = bit-later old new k g.v e.beyond h.beyond.within ∙ s.beyond }
-  end_shows-later g returns e (Some (At n m)) h s = record { ub = bit-later old new k g.v e.ub h.ub.within ∙ s.ub; beyond = bit-later old new k g.v e.beyond h.beyond.within ∙ s.beyond }
-  end_shows-later g returns e (Some (Done run)) h s = record {
-    outcome = ending_at-later g.v g.memory returns e h ∙ s.outcome;
+  pub end_shows-later : (g : Scene) (e : Ending) (at : Option Where) → IsEnding old e → EndShows g old e at → EndShows g new e at
+  end_shows-later g e None h s = record { ub = bit-later old new k g.v e.ub h.ub.within ∙ s.ub; beyond = bit-later old new k g.v e.beyond h.beyond.within ∙ s.beyond }
+  end_shows-later g e (Some (At n m)) h s = record { ub = bit-later old new k g.v e.ub h.ub.within ∙ s.ub; beyond = bit-later old new k g.v e.beyond h.beyond.within ∙ s.beyond }
+  end_shows-later g e (Some (Done run)) h s = record {
+    outcome = ending_at-later g.v g.memory e h ∙ s.outcome;
     tally = counts-later g e.tally run.taken h.tally s.tally;
   }
 
   -- ---- the copies ahead
 
-  pub entry-later : (names : ℕ) (s : RunState) → IsEntry old names s → IsEntry new names s
-  entry-later names s h = record { state = state-later s h.state; count = h.count }
+  state_of-later : (o : Option RunState) → IfSome o (IsState old) → IfSome o (IsState new)
+  state_of-later None h = tt
+  state_of-later (Some s) h = state-later s h
 
-  entry_of-later : (names : ℕ) (o : Option RunState) → IfSome o (IsEntry old names) → IfSome o (IsEntry new names)
-  entry_of-later names None h = tt
-  entry_of-later names (Some s) h = entry-later names s h
+  pub states-later : (ahead : List (Option RunState)) → AreStates old ahead → AreStates new ahead
+  states-later ahead h = each-weaker (λ (o : Option RunState). IfSome o (IsState old)) (λ (o : Option RunState). IfSome o (IsState new)) ahead state_of-later h
 
-  pub entries-later : (names : ℕ) (ahead : List (Option RunState)) → AreEntries old names ahead → AreEntries new names ahead
-  entries-later names ahead h = each-weaker (λ (o : Option RunState). IfSome o (IsEntry old names)) (λ (o : Option RunState). IfSome o (IsEntry new names)) ahead (entry_of-later names) h
+  unreached_of-later : (g : Scene) (o : Option RunState) → IfSome o (IsState old) → IsUnreached g old o → IsUnreached g new o
+  unreached_of-later g None h u = tt
+  unreached_of-later g (Some s) h u = bit-later old new k g.v s.alive h.alive.within ∙ u
 
-  unreached_of-later : (g : Scene) (names : ℕ) (o : Option RunState) → IfSome o (IsEntry old names) → IsUnreached g old o → IsUnreached g new o
-  unreached_of-later g names None h u = tt
-  unreached_of-later g names (Some s) h u = bit-later old new k g.v s.alive h.state.alive.within ∙ u
+  pub unreached-later : (g : Scene) (ahead : List (Option RunState)) → AreStates old ahead → Each (IsUnreached g old) ahead → Each (IsUnreached g new) ahead
+  unreached-later g [] h u = tt
+  unreached-later g (o ∷ os) h u = (unreached_of-later g o h.0 u.0, unreached-later g os h.1 u.1)
 
-  pub unreached-later : (g : Scene) (names : ℕ) (ahead : List (Option RunState)) → AreEntries old names ahead → Each (IsUnreached g old) ahead → Each (IsUnreached g new) ahead
-  unreached-later g names [] h u = tt
-  unreached-later g names (o ∷ os) h u = (unreached_of-later g names o h.0 u.0, unreached-later g names os h.1 u.1)
+  pub ahead_shows-later : (g : Scene) (ahead : List (Option RunState)) (at : Option Where) → AreStates old ahead → AheadShows g old ahead at → AheadShows g new ahead at
+  ahead_shows-later g ahead None h s = unreached-later g ahead h s
+  ahead_shows-later g ahead (Some (At n m)) h s =
+      let entry = each-get (λ (o : Option RunState). IfSome o (IsState old)) ahead n (Some s.entry) h s.is in
+      record {
+        entry = s.entry;
+        is = s.is;
+        alive = bit-later old new k g.v s.entry.alive entry.alive.within ∙ s.alive;
+        carries = carries-later g m.block s.entry m entry s.carries;
+        others = unreached-later g (slice_set ahead n None) (each-set (λ (o : Option RunState). IfSome o (IsState old)) ahead n None h tt) s.others;
+      }
+  ahead_shows-later g ahead (Some (Done run)) h s = unreached-later g ahead h s
+
+  pub shows-later : (g : Scene) (w : Frontier) (at : Option Where) → IsFrontier old w → Shows g old w at → Shows g new w at
+  shows-later g w at h s = record { ahead = ahead_shows-later g w.ahead at h.ahead s.ahead; ending = end_shows-later g w.ending at h.ending s.ending }
+
+  pub frontier-later : (w : Frontier) → IsFrontier old w → IsFrontier new w
+  frontier-later w h = record { ahead = states-later w.ahead h.ahead; ending = ending-later w.ending h.ending }

@@ -5,3 +5,4 @@ pub mod Taking
 pub mod Joined
 pub mod Ended
 pub mod Entering
+pub mod Reached

@@ -1,5 +1,5 @@
 -- Where a run is between two copies, told by what is known of the copies ahead and of how it ended.
-use Rattle.std.specs.Prelude.{◌≡◌, ℕ, zero, suc, ◌+◌, ◌≤◌, ◌<◌, Bool, true, false, cond, nat_le, if◌then◌else◌, List, [], ◌∷◌, length, map, All, Option, Some, None, IfSome, slice_get, slice_set}
+use Rattle.std.specs.Prelude.{◌≡◌, ℕ, zero, suc, ◌+◌, ◌≤◌, ◌<◌, Bool, true, false, cond, is_some, nat_le, if◌then◌else◌, List, [], ◌∷◌, length, map, All, Option, Some, None, IfSome, slice_get, slice_set}
 use Rattle.std.specs.Option.{option_map}
 use Rattle.ir_tree.specs.declared.tree.IrType.{IrType}
 use Rattle.ir_tree.specs.declared.tree.Terminator.{Terminator}
@@ -27,16 +27,9 @@ use Rattle.encoder.specs.Runs.{Scene, Sees, IsTally, IsState, Counts, Carries}
 
 -- ---- returns
 
--- there is a value exactly where there is a type
-abbrev pub FitsType : {A : Type 0} → Option IrType → Option A → Type 0
-FitsType None None = Unit {0}
-FitsType None (Some x) = ⊥
-FitsType (Some t) None = ⊥
-FitsType (Some t) (Some x) = Unit {0}
-
 -- a `ret` has a value exactly where the function's header has a type
 abbrev pub FitsReturn : Option IrType → Terminator → Type 0
-FitsReturn returns (terminator.Return returned) = FitsType returns returned
+FitsReturn returns (terminator.Return returned) = is_some returned ≡ is_some returns
 FitsReturn returns (terminator.Branch to) = Unit {0}
 FitsReturn returns (terminator.CondBranch condition if_true if_false) = Unit {0}
 FitsReturn returns (terminator.Switch width operand default cases) = Unit {0}
@@ -47,11 +40,10 @@ ReturnsFit f = All (λ (b : Block). FitsReturn f.returns b.terminator) f.blocks
 
 -- ---- how a run ended
 
-pub record IsEnding (terms : List Term) (returns : Option IrType) (e : Ending) : Type 0 where
+pub record IsEnding (terms : List Term) (e : Ending) : Type 0 where
   pub ub : IsTerm terms 1 e.ub
   pub beyond : IsTerm terms 1 e.beyond
   pub value : IfSome e.value (IsSymValue terms)
-  pub fits_type : FitsType returns e.value
   pub tally : IsTally terms e.tally
 
 abbrev pub ending_at : (ℕ → ℕ → ℕ) → List Term → List MemoryBlock → Ending → Outcome
@@ -74,12 +66,12 @@ EndShows g terms e (Some (Done run)) = EndedSo g terms e run
 
 -- ---- the copies ahead
 
-pub record IsEntry (terms : List Term) (names : ℕ) (s : RunState) : Type 0 where
-  pub state : IsState terms s
-  pub count : length s.registers ≡ names
+abbrev pub AreStates : List Term → List (Option RunState) → Type 0
+AreStates terms ahead = Each (λ (entry : Option RunState). IfSome entry (IsState terms)) ahead
 
-abbrev pub AreEntries : List Term → ℕ → List (Option RunState) → Type 0
-AreEntries terms names ahead = Each (λ (entry : Option RunState). IfSome entry (IsEntry terms names)) ahead
+-- each has so many registers
+abbrev pub HaveRegisters : ℕ → List (Option RunState) → Type 0
+HaveRegisters names ahead = Each (λ (entry : Option RunState). IfSome entry (λ (s : RunState). length s.registers ≡ names)) ahead
 
 abbrev pub IsUnreached : Scene → List Term → Option RunState → Type 0
 IsUnreached g terms entry = IfSome entry (λ (s : RunState). bit_at g.v terms s.alive ≡ false)
@@ -99,10 +91,15 @@ AheadShows g terms ahead (Some (Done run)) = Each (IsUnreached g terms) ahead
 
 -- ---- both
 
-pub record IsFrontier (terms : List Term) (f : Function) (copies : List BlockCopy) (w : Frontier) : Type 0 where
-  pub ahead : AreEntries terms (length f.names) w.ahead
+pub record IsFrontier (terms : List Term) (w : Frontier) : Type 0 where
+  pub ahead : AreStates terms w.ahead
+  pub ending : IsEnding terms w.ending
+
+-- as the function and its copies have it
+pub record HasShape (f : Function) (copies : List BlockCopy) (w : Frontier) : Type 0 where
+  pub registers : HaveRegisters (length f.names) w.ahead
   pub count : length w.ahead ≡ length copies
-  pub ending : IsEnding terms f.returns w.ending
+  pub value : is_some w.ending.value ≡ is_some f.returns
 
 -- none is a run that has left one copy and isn't yet at another
 pub record Shows (g : Scene) (terms : List Term) (w : Frontier) (at : Option Where) : Type 0 where
@@ -126,10 +123,9 @@ placed f copies from (Done run) = Done run
 placed f copies from (At n m) = if nat_le from n then arrived n m (entering f (slice_get copies n) m) else Done (ended Ub m)
 
 -- where the condition holds the run goes there from the state that it is in, and else nothing changes
-pub record Moves (old new : List Term) (tape : List TermId) (f : Function) (copies : List BlockCopy) (from : ℕ) (before after : Frontier) (c : TermId) (label : ℕ) (s : RunState) (to : List ℕ → Machine → Where) : Type 0 where
-  pub stays : (g : Scene) (at : Option Where) → bit_at g.v old c ≡ false → Shows g old before at → Shows g new after at
-  pub goes : (g : Scene) (m : Machine) → Sees g old tape → bit_at g.v old c ≡ true → Carries g old label s m → Shows g old before None
-      → Shows g new after (Some (placed f copies from (to g.tape m)))
+pub record Moves (g : Scene) (old new : List Term) (before after : Frontier) (c : TermId) (label : ℕ) (s : RunState) (to : Machine → Where) : Type 0 where
+  pub stays : (at : Option Where) → bit_at g.v old c ≡ false → Shows g old before at → Shows g new after at
+  pub goes : (m : Machine) → bit_at g.v old c ≡ true → Carries g old label s m → Shows g old before None → Shows g new after (Some (to m))
 
 -- ---- the copies of a function
 

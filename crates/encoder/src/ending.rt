@@ -1,8 +1,7 @@
 //! How a run ended.
 
-ghost use Rattle.std.specs.Prelude.{◌≡◌, true, false, ℕ, List, IfOk, OnOk, IfSome, None, Some, Option, cond};
+ghost use Rattle.std.specs.Prelude.{◌≡◌, true, false, ℕ, List, IfOk, OnOk, IfSome, None, Some, Option, cond, is_some};
 ghost use Rattle.std.specs.Option.{option_map};
-ghost use Rattle.ir_tree.specs.declared.tree.IrType.{IrType};
 ghost use Rattle.points.specs.declared.machine.Machine.{Machine};
 ghost use Rattle.points.specs.declared.outcome.Outcome.TheVariants as outcome;
 ghost use Rattle.points.specs.Run.{Run};
@@ -10,7 +9,7 @@ ghost use Rattle.unroll.specs.Layers.{Where, Done};
 ghost use Rattle.bv_terms.specs.Trees.{IsTerm, Keeps, bit_at};
 ghost use Rattle.mem_terms.specs.Values.{IsSymValue, value_at};
 ghost use Rattle.encoder.specs.Runs.{Scene, IsTally, Counts};
-ghost use Rattle.encoder.specs.Frontier.{FitsType, IsEnding, EndShows};
+ghost use Rattle.encoder.specs.Frontier.{IsEnding, EndShows};
 
 use crate::joining::pick_tally;
 use crate::state::Tally;
@@ -37,10 +36,11 @@ impl Ending {
         c: TermId,
         tally: Tally,
     ) -> Result<(), NoMemory>
-        requires own { (returns : Option IrType) × IsEnding terms.old returns self.old }
+        requires own { IsEnding terms.old self.old }
         requires c { IsTerm terms.old 1 c }
         requires tally { IsTally terms.old tally }
-        ensures own { OnOk result ((returns : Option IrType) → IsEnding terms.old returns self.old → IsEnding terms.new returns self.new) }
+        ensures own { OnOk result (IsEnding terms.new self.new) }
+        ensures value { OnOk result (is_some self.new.value ≡ is_some self.old.value) }
         ensures stays { OnOk result ((g : Scene) (at : Option Where) → bit_at g.v terms.old c ≡ false → EndShows g terms.old self.old at → EndShows g terms.new self.new at) }
         ensures goes { OnOk result ((g : Scene) (made : List ℕ) → bit_at g.v terms.old c ≡ true → Counts g terms.old tally made → EndShows g terms.old self.old None
             → EndShows g terms.new self.new (Some (Done (record { outcome = outcome.Ub; taken = made })))) }
@@ -58,10 +58,11 @@ impl Ending {
         c: TermId,
         tally: Tally,
     ) -> Result<(), NoMemory>
-        requires own { (returns : Option IrType) × IsEnding terms.old returns self.old }
+        requires own { IsEnding terms.old self.old }
         requires c { IsTerm terms.old 1 c }
         requires tally { IsTally terms.old tally }
-        ensures own { OnOk result ((returns : Option IrType) → IsEnding terms.old returns self.old → IsEnding terms.new returns self.new) }
+        ensures own { OnOk result (IsEnding terms.new self.new) }
+        ensures value { OnOk result (is_some self.new.value ≡ is_some self.old.value) }
         ensures stays { OnOk result ((g : Scene) (at : Option Where) → bit_at g.v terms.old c ≡ false → EndShows g terms.old self.old at → EndShows g terms.new self.new at) }
         ensures goes { OnOk result ((g : Scene) (made : List ℕ) → bit_at g.v terms.old c ≡ true → Counts g terms.old tally made → EndShows g terms.old self.old None
             → EndShows g terms.new self.new (Some (Done (record { outcome = outcome.Beyond; taken = made })))) }
@@ -80,11 +81,13 @@ impl Ending {
         value: Option<SymValue>,
         tally: Tally,
     ) -> Result<(), NoMemory>
-        requires own { (returns : Option IrType) × IsEnding terms.old returns self.old × FitsType returns value }
+        requires own { IsEnding terms.old self.old }
+        requires alike { is_some value ≡ is_some self.old.value }
         requires value { IfSome value (IsSymValue terms.old) }
         requires c { IsTerm terms.old 1 c }
         requires tally { IsTally terms.old tally }
-        ensures own { OnOk result ((returns : Option IrType) → IsEnding terms.old returns self.old → FitsType returns value → IsEnding terms.new returns self.new) }
+        ensures own { OnOk result (IsEnding terms.new self.new) }
+        ensures value { OnOk result (is_some self.new.value ≡ is_some self.old.value) }
         ensures stays { OnOk result ((g : Scene) (at : Option Where) → bit_at g.v terms.old c ≡ false → EndShows g terms.old self.old at → EndShows g terms.new self.new at) }
         ensures goes { OnOk result ((g : Scene) (made : List ℕ) → bit_at g.v terms.old c ≡ true → Counts g terms.old tally made → EndShows g terms.old self.old None
             → EndShows g terms.new self.new (Some (Done (record { outcome = outcome.Return (option_map (value_at g.v terms.old) value) g.memory; taken = made })))) }
@@ -106,9 +109,9 @@ fn pick_returned(
     requires c { IsTerm terms.old 1 c }
     requires a { IfSome a (IsSymValue terms.old) }
     requires b { IfSome b (IsSymValue terms.old) }
-    requires alike { (returns : Option IrType) × FitsType returns a × FitsType returns b }
+    requires alike { is_some a ≡ is_some b }
     ensures made { IfOk result (λ r. IfSome r (IsSymValue terms.new)) }
-    ensures alike { IfOk result (λ r. (returns : Option IrType) → FitsType returns a → FitsType returns r) }
+    ensures alike { IfOk result (λ r. is_some r ≡ is_some b) }
     ensures stands { IfOk result (λ r. (v : ℕ → ℕ → ℕ) → option_map (value_at v terms.new) r ≡ cond (bit_at v terms.old c) (option_map (value_at v terms.old) a) (option_map (value_at v terms.old) b)) }
     ensures kept { Keeps terms.old terms.new }
 {

@@ -4,8 +4,7 @@ ghost use Rattle.std.specs.Prelude.{◌≡◌, ◌||◌, true, false, ℕ, List,
 ghost use Rattle.bv_terms.specs.Trees.{IsTerm, Keeps, Tests, bit_at};
 ghost use Rattle.mem_terms.specs.Values.{AreSymValues, values_at};
 ghost use Rattle.points.specs.declared.machine.Machine.{Machine};
-ghost use Rattle.encoder.specs.Runs.{Scene, IsTally, Counts, Carries};
-ghost use Rattle.encoder.specs.Frontier.{IsEntry};
+ghost use Rattle.encoder.specs.Runs.{Scene, IsState, IsTally, Counts, Carries};
 
 use crate::state::{RunState, Tally};
 use bv_terms::{TermId, Terms};
@@ -60,11 +59,12 @@ pub fn join(
     terms: &mut Terms,
     edge: &RunState,
     into: &RunState,
-    names: usize,
 ) -> Result<RunState, NoMemory>
-    requires edge { IsEntry terms.old names edge.now }
-    requires into { IsEntry terms.old names into.now }
-    ensures made { IfOk result (IsEntry terms.new names) }
+    requires edge { IsState terms.old edge.now }
+    requires into { IsState terms.old into.now }
+    requires count { length into.now.registers ≡ length edge.now.registers }
+    ensures made { IfOk result (IsState terms.new) }
+    ensures count { IfOk result (λ r. length r.registers ≡ length edge.now.registers) }
     ensures alive { IfOk result (λ r. Tests terms.new r.alive (λ v. bit_at v terms.old into.now.alive || bit_at v terms.old edge.now.alive)) }
     ensures stays { IfOk result (λ r. (g : Scene) (label : ℕ) (m : Machine) → bit_at g.v terms.old edge.now.alive ≡ false → Carries g terms.old label into.now m → Carries g terms.new label r m) }
     ensures goes { IfOk result (λ r. (g : Scene) (label : ℕ) (m : Machine) → bit_at g.v terms.old edge.now.alive ≡ true → Carries g terms.old label edge.now m → Carries g terms.new label r m) }

@@ -8,6 +8,7 @@
 #![tactic(auto)]
 
 mod choices;
+mod edges;
 mod ending;
 mod frontier;
 mod joining;
