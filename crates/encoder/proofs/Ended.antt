@@ -14,7 +14,7 @@ use Rattle.mem_terms.proofs.Later.{keeps_trans, bit-later}
 use Rattle.encoder.specs.declared.state.Tally.{Tally}
 use Rattle.encoder.specs.declared.ending.Ending.{Ending}
 use Rattle.encoder.specs.Runs.{Scene, IsTally, Counts}
-use Rattle.encoder.specs.Frontier.{IsEnding, EndedSo, NotEnded, EndShows, ending_at}
+use Rattle.encoder.specs.Frontier.{IsEnding, EndedSo, NotEnded, EndTells, ending_at}
 use Rattle.encoder.proofs.Lasting.{counts-later, option-later}
 
 or_false : (b : Bool) → (b || false) ≡ b
@@ -23,7 +23,7 @@ or_false false = refl
 
 -- all that is told stays
 same_end : (old new : List Term) (e d : Ending) (g : Scene) (at : Option Where) → bit_at g.v new d.ub ≡ bit_at g.v old e.ub → bit_at g.v new d.beyond ≡ bit_at g.v old e.beyond
-    → option_map (value_at g.v new) d.value ≡ option_map (value_at g.v old) e.value → ((made : List ℕ) → Counts g old e.tally made → Counts g new d.tally made) → EndShows g old e at → EndShows g new d at
+    → option_map (value_at g.v new) d.value ≡ option_map (value_at g.v old) e.value → ((made : List ℕ) → Counts g old e.tally made → Counts g new d.tally made) → EndTells g old e at → EndTells g new d at
 same_end old new e d g None u b x t s = record { ub = u ∙ s.ub; beyond = b ∙ s.beyond }
 same_end old new e d g (Some (At n m)) u b x t s = record { ub = u ∙ s.ub; beyond = b ∙ s.beyond }
 same_end old new e d g (Some (Done run)) u b x t s = record { outcome = rw (u, b, x) s.outcome; tally = t run.taken s.tally }
@@ -34,7 +34,7 @@ module _ (old a b : List Term) (e : Ending) (own : IsEnding old e) (c : TermId) 
   counted g none made k = t g made (bit-later old a ka g.v c hc.within ∙ none) (counts-later old a ka g e.tally made own.tally k)
 
   pub undefined_stays : (ub : TermId) → Tests a ub (λ v. bit_at v old e.ub || bit_at v old c)
-      → (g : Scene) (at : Option Where) → bit_at g.v old c ≡ false → EndShows g old e at → EndShows g b (record { ub = ub; beyond = e.beyond; value = e.value; tally = tally }) at
+      → (g : Scene) (at : Option Where) → bit_at g.v old c ≡ false → EndTells g old e at → EndTells g b (record { ub = ub; beyond = e.beyond; value = e.value; tally = tally }) at
   undefined_stays ub tu g at none s =
       let kab = keeps_trans old a b ka kb in
       same_end old b e (record { ub = ub; beyond = e.beyond; value = e.value; tally = tally }) g at
@@ -43,7 +43,7 @@ module _ (old a b : List Term) (e : Ending) (own : IsEnding old e) (c : TermId) 
       (option-later old b kab g.v e.value own.value) (counted g none) s
 
   pub beyond_stays : (beyond : TermId) → Tests a beyond (λ v. bit_at v old e.beyond || bit_at v old c)
-      → (g : Scene) (at : Option Where) → bit_at g.v old c ≡ false → EndShows g old e at → EndShows g b (record { ub = e.ub; beyond = beyond; value = e.value; tally = tally }) at
+      → (g : Scene) (at : Option Where) → bit_at g.v old c ≡ false → EndTells g old e at → EndTells g b (record { ub = e.ub; beyond = beyond; value = e.value; tally = tally }) at
   beyond_stays beyond tu g at none s =
       let kab = keeps_trans old a b ka kb in
       same_end old b e (record { ub = e.ub; beyond = beyond; value = e.value; tally = tally }) g at
@@ -53,7 +53,7 @@ module _ (old a b : List Term) (e : Ending) (own : IsEnding old e) (c : TermId) 
 
   module _ (value picked : Option SymValue) (hp : IfSome picked (IsSymValue a))
       (sp : (v : ℕ → ℕ → ℕ) → option_map (value_at v a) picked ≡ cond (bit_at v old c) (option_map (value_at v old) value) (option_map (value_at v old) e.value)) where
-    pub return_stays : (g : Scene) (at : Option Where) → bit_at g.v old c ≡ false → EndShows g old e at → EndShows g b (record { ub = e.ub; beyond = e.beyond; value = picked; tally = tally }) at
+    pub return_stays : (g : Scene) (at : Option Where) → bit_at g.v old c ≡ false → EndTells g old e at → EndTells g b (record { ub = e.ub; beyond = e.beyond; value = picked; tally = tally }) at
     return_stays g at none s =
         let kab = keeps_trans old a b ka kb in
         same_end old b e (record { ub = e.ub; beyond = e.beyond; value = picked; tally = tally }) g at

@@ -19,7 +19,7 @@ use Rattle.encoder.specs.declared.state.RunState.{RunState}
 use Rattle.encoder.specs.declared.ending.Ending.{Ending}
 use Rattle.encoder.specs.declared.frontier.Frontier.{Frontier}
 use Rattle.encoder.specs.Runs.{Scene, Sees, IsTally, IsState, Counts, Carries}
-use Rattle.encoder.specs.Frontier.{IsEnding, EndedSo, NotEnded, EndShows, AreStates, IsUnreached, StandsAt, AheadShows, IsFrontier, Shows, ending_at}
+use Rattle.encoder.specs.Frontier.{IsEnding, EndedSo, NotEnded, EndTells, AreStates, IsUnreached, StandsAt, AheadTells, IsFrontier, Tells, ending_at}
 
 pub each-get : {A : Type 0} (P : A → Type 0) (xs : List A) (n : ℕ) (x : A) → Each P xs → slice_get xs n ≡ Some x → P x
 each-get P [] n x h e = absurd (let c : ⊥ = cc in c)
@@ -73,10 +73,10 @@ module _ (old new : List Term) (k : Keeps old new) where
   pub ending_at-later : (v : ℕ → ℕ → ℕ) (memory : List MemoryBlock) (e : Ending) → IsEnding old e → ending_at v new memory e ≡ ending_at v old memory e
   ending_at-later v memory e h = rw (bit-later old new k v e.ub h.ub.within, bit-later old new k v e.beyond h.beyond.within, option-later v e.value h.value) refl
 
-  pub end_shows-later : (g : Scene) (e : Ending) (at : Option Where) → IsEnding old e → EndShows g old e at → EndShows g new e at
-  end_shows-later g e None h s = record { ub = bit-later old new k g.v e.ub h.ub.within ∙ s.ub; beyond = bit-later old new k g.v e.beyond h.beyond.within ∙ s.beyond }
-  end_shows-later g e (Some (At n m)) h s = record { ub = bit-later old new k g.v e.ub h.ub.within ∙ s.ub; beyond = bit-later old new k g.v e.beyond h.beyond.within ∙ s.beyond }
-  end_shows-later g e (Some (Done run)) h s = record {
+  pub end_tells-later : (g : Scene) (e : Ending) (at : Option Where) → IsEnding old e → EndTells g old e at → EndTells g new e at
+  end_tells-later g e None h s = record { ub = bit-later old new k g.v e.ub h.ub.within ∙ s.ub; beyond = bit-later old new k g.v e.beyond h.beyond.within ∙ s.beyond }
+  end_tells-later g e (Some (At n m)) h s = record { ub = bit-later old new k g.v e.ub h.ub.within ∙ s.ub; beyond = bit-later old new k g.v e.beyond h.beyond.within ∙ s.beyond }
+  end_tells-later g e (Some (Done run)) h s = record {
     outcome = ending_at-later g.v g.memory e h ∙ s.outcome;
     tally = counts-later g e.tally run.taken h.tally s.tally;
   }
@@ -98,9 +98,9 @@ module _ (old new : List Term) (k : Keeps old new) where
   unreached-later g [] h u = tt
   unreached-later g (o ∷ os) h u = (unreached_of-later g o h.0 u.0, unreached-later g os h.1 u.1)
 
-  pub ahead_shows-later : (g : Scene) (ahead : List (Option RunState)) (at : Option Where) → AreStates old ahead → AheadShows g old ahead at → AheadShows g new ahead at
-  ahead_shows-later g ahead None h s = unreached-later g ahead h s
-  ahead_shows-later g ahead (Some (At n m)) h s =
+  pub ahead_tells-later : (g : Scene) (ahead : List (Option RunState)) (at : Option Where) → AreStates old ahead → AheadTells g old ahead at → AheadTells g new ahead at
+  ahead_tells-later g ahead None h s = unreached-later g ahead h s
+  ahead_tells-later g ahead (Some (At n m)) h s =
       let entry = each-get (λ (o : Option RunState). IfSome o (IsState old)) ahead n (Some s.entry) h s.is in
       record {
         entry = s.entry;
@@ -109,10 +109,10 @@ module _ (old new : List Term) (k : Keeps old new) where
         carries = carries-later g m.block s.entry m entry s.carries;
         others = unreached-later g (slice_set ahead n None) (each-set (λ (o : Option RunState). IfSome o (IsState old)) ahead n None h tt) s.others;
       }
-  ahead_shows-later g ahead (Some (Done run)) h s = unreached-later g ahead h s
+  ahead_tells-later g ahead (Some (Done run)) h s = unreached-later g ahead h s
 
-  pub shows-later : (g : Scene) (w : Frontier) (at : Option Where) → IsFrontier old w → Shows g old w at → Shows g new w at
-  shows-later g w at h s = record { ahead = ahead_shows-later g w.ahead at h.ahead s.ahead; ending = end_shows-later g w.ending at h.ending s.ending }
+  pub tells-later : (g : Scene) (w : Frontier) (at : Option Where) → IsFrontier old w → Tells g old w at → Tells g new w at
+  tells-later g w at h s = record { ahead = ahead_tells-later g w.ahead at h.ahead s.ahead; ending = end_tells-later g w.ending at h.ending s.ending }
 
   pub frontier-later : (w : Frontier) → IsFrontier old w → IsFrontier new w
   frontier-later w h = record { ahead = states-later w.ahead h.ahead; ending = ending-later w.ending h.ending }

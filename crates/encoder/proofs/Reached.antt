@@ -12,7 +12,7 @@ use Rattle.mem_terms.proofs.Eaches.{each-set}
 use Rattle.mem_terms.proofs.Later.{bit-later}
 use Rattle.encoder.specs.declared.state.RunState.{RunState}
 use Rattle.encoder.specs.Runs.{Scene, IsState, Carries}
-use Rattle.encoder.specs.Frontier.{AreStates, IsUnreached, StandsAt, AheadShows}
+use Rattle.encoder.specs.Frontier.{AreStates, IsUnreached, StandsAt, AheadTells}
 use Rattle.encoder.proofs.Lasting.{each-get, carries-later, unreached-later, states-later}
 
 -- ---- lists with one item set
@@ -102,11 +102,11 @@ module _ (old new : List Term) (k : Keeps old new) (ahead : List (Option RunStat
             others = subst (λ (xs : List (Option RunState)). Each (IsUnreached g new) xs) (sym (set_swap ahead n c changed None apart)) (none-at c changed s.others (pass.unreached u));
           }
 
-  pub changed_shows : (known changed : Option RunState) (at : Option Where) → n < length ahead → slice_get ahead n ≡ Some known → Passes g old new known changed → AheadShows g old ahead at
-      → AheadShows g new (slice_set ahead n changed) at
-  changed_shows known changed None lt is pass s = changed_unreached changed s (pass.unreached (each-get (IsUnreached g old) ahead n known s is))
-  changed_shows known changed (Some (At c m)) lt is pass s = changed_stands known changed c m lt is pass s
-  changed_shows known changed (Some (Done run)) lt is pass s = changed_unreached changed s (pass.unreached (each-get (IsUnreached g old) ahead n known s is))
+  pub changed_tells : (known changed : Option RunState) (at : Option Where) → n < length ahead → slice_get ahead n ≡ Some known → Passes g old new known changed → AheadTells g old ahead at
+      → AheadTells g new (slice_set ahead n changed) at
+  changed_tells known changed None lt is pass s = changed_unreached changed s (pass.unreached (each-get (IsUnreached g old) ahead n known s is))
+  changed_tells known changed (Some (At c m)) lt is pass s = changed_stands known changed c m lt is pass s
+  changed_tells known changed (Some (Done run)) lt is pass s = changed_unreached changed s (pass.unreached (each-get (IsUnreached g old) ahead n known s is))
 
   -- the run comes to the entry
   pub changed_reached : (entry : RunState) (m : Machine) → n < length ahead → bit_at g.v new entry.alive ≡ true → Carries g new m.block entry m → Each (IsUnreached g old) ahead

@@ -1,20 +1,26 @@
 -- Where a run is between two copies, told by what is known of the copies ahead and of how it ended.
-use Rattle.std.specs.Prelude.{◌≡◌, ℕ, zero, suc, ◌+◌, ◌≤◌, ◌<◌, Bool, true, false, cond, is_some, nat_le, if◌then◌else◌, List, [], ◌∷◌, length, map, All, Option, Some, None, IfSome, slice_get, slice_set}
-use Rattle.std.specs.Option.{option_map}
+use Rattle.std.specs.Prelude.{◌≡◌, ℕ, zero, suc, ◌+◌, ◌≤◌, ◌<◌, Bool, true, false, cond, is_some, nat_eq, nat_le, ◌%◌, if◌then◌else◌, List, [], ◌∷◌, length, map, All, Option, Some, None, IfSome, slice_get, slice_set}
+use Rattle.std.specs.List.{find}
+use Rattle.std.specs.Option.{option_map, option_map_or}
 use Rattle.ir_tree.specs.declared.tree.IrType.{IrType}
+use Rattle.ir_tree.specs.declared.tree.Case.{Case}
 use Rattle.ir_tree.specs.declared.tree.Terminator.{Terminator}
 use Rattle.ir_tree.specs.declared.tree.Terminator.TheVariants as terminator
 use Rattle.ir_tree.specs.declared.tree.Block.{Block}
 use Rattle.ir_tree.specs.declared.tree.Function.{Function}
+use Rattle.ir_tree.specs.Sites.{same_number}
 use Rattle.ir_tree.specs.Flow.{targets}
+use Rattle.byte_block.specs.declared.value.Value.{Value}
+use Rattle.byte_block.specs.declared.value.Value.TheVariants.{Num, Poison}
 use Rattle.byte_block.specs.declared.block.MemoryBlock.{MemoryBlock}
 use Rattle.points.specs.declared.machine.Machine.{Machine}
 use Rattle.points.specs.declared.outcome.Outcome.{Outcome}
 use Rattle.points.specs.declared.outcome.Outcome.TheVariants.{Return, Ub, Beyond}
-use Rattle.points.specs.Run.{Run, ended, entered}
+use Rattle.points.specs.declared.point.Input.{Input}
+use Rattle.points.specs.Run.{Run, ended, entered, breaks_noundef, first_machine}
 use Rattle.unroll.specs.declared.layered.Edge.{Edge}
 use Rattle.unroll.specs.declared.layered.BlockCopy.{BlockCopy}
-use Rattle.unroll.specs.Layers.{Where, At, Done}
+use Rattle.unroll.specs.Layers.{Where, At, Done, along}
 use Rattle.bv_terms.specs.declared.term.TermId.{TermId}
 use Rattle.bv_terms.specs.declared.term.Term.{Term}
 use Rattle.bv_terms.specs.Trees.{IsTerm, Keeps, bit_at, term_at}
@@ -59,10 +65,10 @@ pub record NotEnded (g : Scene) (terms : List Term) (e : Ending) : Type 0 where
   pub ub : bit_at g.v terms e.ub ≡ false
   pub beyond : bit_at g.v terms e.beyond ≡ false
 
-abbrev pub EndShows : Scene → List Term → Ending → Option Where → Type 0
-EndShows g terms e None = NotEnded g terms e
-EndShows g terms e (Some (At n m)) = NotEnded g terms e
-EndShows g terms e (Some (Done run)) = EndedSo g terms e run
+abbrev pub EndTells : Scene → List Term → Ending → Option Where → Type 0
+EndTells g terms e None = NotEnded g terms e
+EndTells g terms e (Some (At n m)) = NotEnded g terms e
+EndTells g terms e (Some (Done run)) = EndedSo g terms e run
 
 -- ---- the copies ahead
 
@@ -84,10 +90,10 @@ pub record StandsAt (g : Scene) (terms : List Term) (ahead : List (Option RunSta
   pub carries : Carries g terms m.block entry m
   pub others : Each (IsUnreached g terms) (slice_set ahead n None)
 
-abbrev pub AheadShows : Scene → List Term → List (Option RunState) → Option Where → Type 0
-AheadShows g terms ahead None = Each (IsUnreached g terms) ahead
-AheadShows g terms ahead (Some (At n m)) = StandsAt g terms ahead n m
-AheadShows g terms ahead (Some (Done run)) = Each (IsUnreached g terms) ahead
+abbrev pub AheadTells : Scene → List Term → List (Option RunState) → Option Where → Type 0
+AheadTells g terms ahead None = Each (IsUnreached g terms) ahead
+AheadTells g terms ahead (Some (At n m)) = StandsAt g terms ahead n m
+AheadTells g terms ahead (Some (Done run)) = Each (IsUnreached g terms) ahead
 
 -- ---- both
 
@@ -102,9 +108,9 @@ pub record HasShape (f : Function) (copies : List BlockCopy) (w : Frontier) : Ty
   pub value : is_some w.ending.value ≡ is_some f.returns
 
 -- none is a run that has left one copy and isn't yet at another
-pub record Shows (g : Scene) (terms : List Term) (w : Frontier) (at : Option Where) : Type 0 where
-  pub ahead : AheadShows g terms w.ahead at
-  pub ending : EndShows g terms w.ending at
+pub record Tells (g : Scene) (terms : List Term) (w : Frontier) (at : Option Where) : Type 0 where
+  pub ahead : AheadTells g terms w.ahead at
+  pub ending : EndTells g terms w.ending at
 
 -- ---- where a jump leads
 
@@ -124,8 +130,24 @@ placed f copies from (At n m) = if nat_le from n then arrived n m (entering f (s
 
 -- where the condition holds the run goes there from the state that it is in, and else nothing changes
 pub record Moves (g : Scene) (old new : List Term) (before after : Frontier) (c : TermId) (label : ℕ) (s : RunState) (to : Machine → Where) : Type 0 where
-  pub stays : (at : Option Where) → bit_at g.v old c ≡ false → Shows g old before at → Shows g new after at
-  pub goes : (m : Machine) → bit_at g.v old c ≡ true → Carries g old label s m → Shows g old before None → Shows g new after (Some (to m))
+  pub stays : (at : Option Where) → bit_at g.v old c ≡ false → Tells g old before at → Tells g new after at
+  pub goes : (m : Machine) → bit_at g.v old c ≡ true → Carries g old label s m → Tells g old before None → Tells g new after (Some (to m))
+
+-- a run begins at the first copy, unless an argument breaks `noundef`
+abbrev pub first_place : Function → Input → Where
+first_place f input = if breaks_noundef f.parameters input.args then Done (ended Ub (first_machine f input)) else At 0 (first_machine f input)
+
+-- ---- by the edges of a branch and of a switch
+
+-- a condition of one bit; poison is undefined behaviour
+abbrev pub branched : Value → (if_true if_false : Edge) → Machine → Where
+branched (Num n) if_true if_false m = along (if nat_eq (n % 2) 1 then if_true else if_false) m
+branched _ if_true if_false m = Done (ended Ub m)
+
+-- the edge of the first case with this number of so many bits, or the default's; poison is undefined behaviour
+abbrev pub switched_on : ℕ → Value → (Case → Edge) → Edge → List Case → Machine → Where
+switched_on width (Num n) edge default cases m = along (option_map_or edge (find (λ (c : Case). same_number width c.value n) cases) default) m
+switched_on width _ edge default cases m = Done (ended Ub m)
 
 -- ---- the copies of a function
 

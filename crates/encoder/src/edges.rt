@@ -15,7 +15,7 @@ use crate::state::RunState;
 use bv_terms::{TermId, Terms};
 use ir_tree::Function;
 use std::alloc::Global;
-use support::NoMemory;
+use support::{NoMemory, Sequence};
 use unroll::{BlockCopy, Edge};
 
 /// The block that is left, by its label, and the number of the first copy ahead of it.
@@ -33,7 +33,7 @@ pub fn edge_at(edges: &[Edge], place: usize) -> Edge
 }
 
 /// The place of the block of a copy that is ahead, from this number on.
-fn block_ahead(f: &Function, copies: &[BlockCopy], ahead: usize, n: usize) -> Option<usize>
+fn block_ahead(f: &Function, copies: &Sequence<BlockCopy>, ahead: usize, n: usize) -> Option<usize>
     ensures some { IfSome result (λ at. at < length f.now.blocks) }
     ensures copy { IfSome result (λ at. n < length copies.now) }
     ensures goes { IfSome result (λ at. (block : Block) → slice_get f.now.blocks at ≡ Some block → (turn : ℕ) × ((m : Machine) → placed f.now copies.now ahead (At n m) ≡ At n (entered block (record m { turn = turn })))) }
@@ -42,11 +42,49 @@ fn block_ahead(f: &Function, copies: &[BlockCopy], ahead: usize, n: usize) -> Op
     if n < ahead {
         return None;
     }
-    let copy = copies.get(n)?;
+    if copies.len() <= n {
+        return None;
+    }
+    let copy = copies.get(n);
     if copy.block < f.blocks.len() {
         Some(copy.block)
     } else {
         None
+    }
+}
+
+/// Where the condition holds, the run leaves its block for the copy of this number.
+fn follow_to(
+    alloc: Global,
+    terms: &mut Terms,
+    f: &Function,
+    copies: &Sequence<BlockCopy>,
+    frontier: &mut Frontier,
+    leaving: Leaving,
+    c: TermId,
+    state: &RunState,
+    n: usize,
+) -> Result<(), NoMemory>
+    requires frontier { IsFrontier terms.old frontier.old }
+    requires shape { HasShape f.now copies.now frontier.old }
+    requires state { IsState terms.old state.now }
+    requires registers { length state.now.registers ≡ length f.now.names }
+    requires c { IsTerm terms.old 1 c }
+    ensures frontier { OnOk result (IsFrontier terms.new frontier.new) }
+    ensures shape { OnOk result (HasShape f.now copies.now frontier.new) }
+    ensures moves { OnOk result ((g : Scene) → Moves g terms.old terms.new frontier.old frontier.new c leaving.label state.now (λ m. placed f.now copies.now leaving.ahead (At n m))) }
+    ensures kept { Keeps terms.old terms.new }
+{
+    match block_ahead(f, copies, leaving.ahead, n) {
+        Some(at) => {
+            let block = f.blocks.get(at);
+            frontier.arrive(alloc, terms, c, leaving.label, state, n, block)?;
+            Ok(())
+        }
+        None => {
+            frontier.end_undefined(terms, c, state.tally)?;
+            Ok(())
+        }
     }
 }
 
@@ -55,7 +93,7 @@ pub fn follow(
     alloc: Global,
     terms: &mut Terms,
     f: &Function,
-    copies: &[BlockCopy],
+    copies: &Sequence<BlockCopy>,
     frontier: &mut Frontier,
     leaving: Leaving,
     c: TermId,
@@ -73,14 +111,14 @@ pub fn follow(
     ensures kept { Keeps terms.old terms.new }
 {
     match edge {
-        Edge::Copy(n) => match block_ahead(f, copies, leaving.ahead, n) {
-            Some(at) => {
-                let block = f.blocks.get(at);
-                frontier.arrive(alloc, terms, c, leaving.label, state, n, block)
-            }
-            None => frontier.end_undefined(terms, c, state),
-        },
-        Edge::Beyond => frontier.end_beyond(terms, c, state),
-        Edge::Nowhere => frontier.end_undefined(terms, c, state),
+        Edge::Copy(n) => follow_to(alloc, terms, f, copies, frontier, leaving, c, state, n),
+        Edge::Beyond => {
+            frontier.end_beyond(terms, c, state.tally)?;
+            Ok(())
+        }
+        Edge::Nowhere => {
+            frontier.end_undefined(terms, c, state.tally)?;
+            Ok(())
+        }
     }
 }

@@ -9,7 +9,7 @@ ghost use Rattle.unroll.specs.Layers.{Where, Done};
 ghost use Rattle.bv_terms.specs.Trees.{IsTerm, Keeps, bit_at};
 ghost use Rattle.mem_terms.specs.Values.{IsSymValue, value_at};
 ghost use Rattle.encoder.specs.Runs.{Scene, IsTally, Counts};
-ghost use Rattle.encoder.specs.Frontier.{IsEnding, EndShows};
+ghost use Rattle.encoder.specs.Frontier.{IsEnding, EndTells};
 
 use crate::joining::pick_tally;
 use crate::state::Tally;
@@ -41,9 +41,9 @@ impl Ending {
         requires tally { IsTally terms.old tally }
         ensures own { OnOk result (IsEnding terms.new self.new) }
         ensures value { OnOk result (is_some self.new.value ≡ is_some self.old.value) }
-        ensures stays { OnOk result ((g : Scene) (at : Option Where) → bit_at g.v terms.old c ≡ false → EndShows g terms.old self.old at → EndShows g terms.new self.new at) }
-        ensures goes { OnOk result ((g : Scene) (made : List ℕ) → bit_at g.v terms.old c ≡ true → Counts g terms.old tally made → EndShows g terms.old self.old None
-            → EndShows g terms.new self.new (Some (Done (record { outcome = outcome.Ub; taken = made })))) }
+        ensures stays { OnOk result ((g : Scene) (at : Option Where) → bit_at g.v terms.old c ≡ false → EndTells g terms.old self.old at → EndTells g terms.new self.new at) }
+        ensures goes { OnOk result ((g : Scene) (made : List ℕ) → bit_at g.v terms.old c ≡ true → Counts g terms.old tally made → EndTells g terms.old self.old None
+            → EndTells g terms.new self.new (Some (Done (record { outcome = outcome.Ub; taken = made })))) }
         ensures kept { Keeps terms.old terms.new }
     {
         self.ub = either(terms, self.ub, c)?;
@@ -63,9 +63,9 @@ impl Ending {
         requires tally { IsTally terms.old tally }
         ensures own { OnOk result (IsEnding terms.new self.new) }
         ensures value { OnOk result (is_some self.new.value ≡ is_some self.old.value) }
-        ensures stays { OnOk result ((g : Scene) (at : Option Where) → bit_at g.v terms.old c ≡ false → EndShows g terms.old self.old at → EndShows g terms.new self.new at) }
-        ensures goes { OnOk result ((g : Scene) (made : List ℕ) → bit_at g.v terms.old c ≡ true → Counts g terms.old tally made → EndShows g terms.old self.old None
-            → EndShows g terms.new self.new (Some (Done (record { outcome = outcome.Beyond; taken = made })))) }
+        ensures stays { OnOk result ((g : Scene) (at : Option Where) → bit_at g.v terms.old c ≡ false → EndTells g terms.old self.old at → EndTells g terms.new self.new at) }
+        ensures goes { OnOk result ((g : Scene) (made : List ℕ) → bit_at g.v terms.old c ≡ true → Counts g terms.old tally made → EndTells g terms.old self.old None
+            → EndTells g terms.new self.new (Some (Done (record { outcome = outcome.Beyond; taken = made })))) }
         ensures kept { Keeps terms.old terms.new }
     {
         self.beyond = either(terms, self.beyond, c)?;
@@ -88,9 +88,9 @@ impl Ending {
         requires tally { IsTally terms.old tally }
         ensures own { OnOk result (IsEnding terms.new self.new) }
         ensures value { OnOk result (is_some self.new.value ≡ is_some self.old.value) }
-        ensures stays { OnOk result ((g : Scene) (at : Option Where) → bit_at g.v terms.old c ≡ false → EndShows g terms.old self.old at → EndShows g terms.new self.new at) }
-        ensures goes { OnOk result ((g : Scene) (made : List ℕ) → bit_at g.v terms.old c ≡ true → Counts g terms.old tally made → EndShows g terms.old self.old None
-            → EndShows g terms.new self.new (Some (Done (record { outcome = outcome.Return (option_map (value_at g.v terms.old) value) g.memory; taken = made })))) }
+        ensures stays { OnOk result ((g : Scene) (at : Option Where) → bit_at g.v terms.old c ≡ false → EndTells g terms.old self.old at → EndTells g terms.new self.new at) }
+        ensures goes { OnOk result ((g : Scene) (made : List ℕ) → bit_at g.v terms.old c ≡ true → Counts g terms.old tally made → EndTells g terms.old self.old None
+            → EndTells g terms.new self.new (Some (Done (record { outcome = outcome.Return (option_map (value_at g.v terms.old) value) g.memory; taken = made })))) }
         ensures kept { Keeps terms.old terms.new }
     {
         self.value = pick_returned(terms, c, value, self.value)?;

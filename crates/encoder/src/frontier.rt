@@ -4,12 +4,12 @@ ghost use Rattle.std.specs.Prelude.{◌≡◌, ◌<◌, true, false, ℕ, List, 
 ghost use Rattle.std.specs.Option.{option_map};
 ghost use Rattle.points.specs.declared.machine.Machine.{Machine};
 ghost use Rattle.points.specs.declared.outcome.Outcome.TheVariants as outcome;
-ghost use Rattle.points.specs.Run.{ended, entered};
+ghost use Rattle.points.specs.Run.{entered};
 ghost use Rattle.unroll.specs.Layers.{Where, At, Done};
 ghost use Rattle.bv_terms.specs.Trees.{IsTerm, Keeps, bit_at};
 ghost use Rattle.mem_terms.specs.Values.{IsSymValue, value_at};
 ghost use Rattle.encoder.specs.Runs.{Scene, IsState, IsTally, Counts, Carries};
-ghost use Rattle.encoder.specs.Frontier.{AheadShows, AreStates, HaveRegisters, IsFrontier, Moves, Shows};
+ghost use Rattle.encoder.specs.Frontier.{AheadTells, AreStates, HaveRegisters, IsFrontier, Moves, Tells};
 
 use crate::ending::Ending;
 use crate::joining::join;
@@ -53,8 +53,8 @@ fn reach(
     ensures ahead { OnOk result (AreStates terms.new ahead.new) }
     ensures registers { OnOk result (HaveRegisters (length edge.registers) ahead.new) }
     ensures count { OnOk result (length ahead.new ≡ length ahead.old) }
-    ensures stays { OnOk result ((g : Scene) (at : Option Where) → bit_at g.v terms.old edge.alive ≡ false → AheadShows g terms.old ahead.old at → AheadShows g terms.new ahead.new at) }
-    ensures goes { OnOk result ((g : Scene) (m : Machine) → bit_at g.v terms.old edge.alive ≡ true → Carries g terms.old m.block edge m → AheadShows g terms.old ahead.old None → AheadShows g terms.new ahead.new (Some (At n m))) }
+    ensures stays { OnOk result ((g : Scene) (at : Option Where) → bit_at g.v terms.old edge.alive ≡ false → AheadTells g terms.old ahead.old at → AheadTells g terms.new ahead.new at) }
+    ensures goes { OnOk result ((g : Scene) (m : Machine) → bit_at g.v terms.old edge.alive ≡ true → Carries g terms.old m.block edge m → AheadTells g terms.old ahead.old None → AheadTells g terms.new ahead.new (Some (At n m))) }
     ensures kept { Keeps terms.old terms.new }
 {
     match take_entry(ahead, n) {
@@ -104,42 +104,48 @@ fn state_on_edge(
 }
 
 impl Frontier {
-    /// Where the condition holds, the run is in undefined behaviour.
+    /// Where the condition holds, the run ends in undefined behaviour, with these choices.
     pub fn end_undefined(
         &mut self,
         terms: &mut Terms,
         c: TermId,
-        state: &RunState,
+        tally: Tally,
     ) -> Result<(), NoMemory>
         requires own { IsFrontier terms.old self.old }
         requires c { IsTerm terms.old 1 c }
-        requires state { IsState terms.old state.now }
+        requires tally { IsTally terms.old tally }
         ensures own { OnOk result (IsFrontier terms.new self.new) }
         ensures ahead { OnOk result (self.new.ahead ≡ self.old.ahead) }
         ensures value { OnOk result (is_some self.new.ending.value ≡ is_some self.old.ending.value) }
-        ensures moves { OnOk result ((g : Scene) (label : ℕ) → Moves g terms.old terms.new self.old self.new c label state.now (λ m. Done (ended outcome.Ub m))) }
+        ensures stays { OnOk result ((g : Scene) (at : Option Where) → bit_at g.v terms.old c ≡ false → Tells g terms.old self.old at → Tells g terms.new self.new at) }
+        ensures goes { OnOk result ((g : Scene) (made : List ℕ) → bit_at g.v terms.old c ≡ true → Counts g terms.old tally made → Tells g terms.old self.old None
+            → Tells g terms.new self.new (Some (Done (record { outcome = outcome.Ub; taken = made })))) }
         ensures kept { Keeps terms.old terms.new }
     {
-        self.ending.end_undefined(terms, c, state.tally)
+        self.ending.end_undefined(terms, c, tally)?;
+        Ok(())
     }
 
-    /// Where the condition holds, the run would take a jump too many.
+    /// Where the condition holds, the run would take a jump too many, with these choices.
     pub fn end_beyond(
         &mut self,
         terms: &mut Terms,
         c: TermId,
-        state: &RunState,
+        tally: Tally,
     ) -> Result<(), NoMemory>
         requires own { IsFrontier terms.old self.old }
         requires c { IsTerm terms.old 1 c }
-        requires state { IsState terms.old state.now }
+        requires tally { IsTally terms.old tally }
         ensures own { OnOk result (IsFrontier terms.new self.new) }
         ensures ahead { OnOk result (self.new.ahead ≡ self.old.ahead) }
         ensures value { OnOk result (is_some self.new.ending.value ≡ is_some self.old.ending.value) }
-        ensures moves { OnOk result ((g : Scene) (label : ℕ) → Moves g terms.old terms.new self.old self.new c label state.now (λ m. Done (ended outcome.Beyond m))) }
+        ensures stays { OnOk result ((g : Scene) (at : Option Where) → bit_at g.v terms.old c ≡ false → Tells g terms.old self.old at → Tells g terms.new self.new at) }
+        ensures goes { OnOk result ((g : Scene) (made : List ℕ) → bit_at g.v terms.old c ≡ true → Counts g terms.old tally made → Tells g terms.old self.old None
+            → Tells g terms.new self.new (Some (Done (record { outcome = outcome.Beyond; taken = made })))) }
         ensures kept { Keeps terms.old terms.new }
     {
-        self.ending.end_beyond(terms, c, state.tally)
+        self.ending.end_beyond(terms, c, tally)?;
+        Ok(())
     }
 
     /// Where the condition holds, the run returns this value, or nothing, with these choices.
@@ -158,12 +164,13 @@ impl Frontier {
         ensures own { OnOk result (IsFrontier terms.new self.new) }
         ensures ahead { OnOk result (self.new.ahead ≡ self.old.ahead) }
         ensures value { OnOk result (is_some self.new.ending.value ≡ is_some self.old.ending.value) }
-        ensures stays { OnOk result ((g : Scene) (at : Option Where) → bit_at g.v terms.old c ≡ false → Shows g terms.old self.old at → Shows g terms.new self.new at) }
-        ensures goes { OnOk result ((g : Scene) (made : List ℕ) → bit_at g.v terms.old c ≡ true → Counts g terms.old tally made → Shows g terms.old self.old None
-            → Shows g terms.new self.new (Some (Done (record { outcome = outcome.Return (option_map (value_at g.v terms.old) value) g.memory; taken = made })))) }
+        ensures stays { OnOk result ((g : Scene) (at : Option Where) → bit_at g.v terms.old c ≡ false → Tells g terms.old self.old at → Tells g terms.new self.new at) }
+        ensures goes { OnOk result ((g : Scene) (made : List ℕ) → bit_at g.v terms.old c ≡ true → Counts g terms.old tally made → Tells g terms.old self.old None
+            → Tells g terms.new self.new (Some (Done (record { outcome = outcome.Return (option_map (value_at g.v terms.old) value) g.memory; taken = made })))) }
         ensures kept { Keeps terms.old terms.new }
     {
-        self.ending.end_return(terms, c, value, tally)
+        self.ending.end_return(terms, c, value, tally)?;
+        Ok(())
     }
 
     /// Where the condition holds, the run comes to the entry of a copy of a block from the one with
@@ -191,6 +198,7 @@ impl Frontier {
         ensures kept { Keeps terms.old terms.new }
     {
         let edge = state_on_edge(alloc, terms, c, label, state, block)?;
-        reach(alloc, terms, &mut self.ahead, n, edge)
+        reach(alloc, terms, &mut self.ahead, n, edge)?;
+        Ok(())
     }
 }

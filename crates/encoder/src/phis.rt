@@ -60,7 +60,8 @@ fn phi_value(
     Ok(value)
 }
 
-fn put(registers: &mut Sequence<SymValue>, name: usize, value: SymValue)
+/// Gives a name its value. A name that there is no register for is left out.
+pub fn put(registers: &mut Sequence<SymValue>, name: usize, value: SymValue)
     ensures { registers.new ≡ slice_set registers.old name value }
 {
     if name < registers.len() {
