@@ -142,3 +142,17 @@ module _ (g : Scene) (label : ℕ) (s : RunState) (f : Function) (copies : List 
       moves_to g label s old new start after c (switched hit (λ (x : Case). place (edge x)) (place e) (take i cases)) (λ (x : Machine). place (option_map_or edge (find hit cases) default) x)
       (λ x h. ap (λ (d : Edge). switched hit (λ (y : Case). place (edge y)) (place d) (take i cases) x) same ∙ (ap (λ (cs : List Case). switched hit (λ (y : Case). place (edge y)) (place default) cs x) (take_all i cases past) ∙ switched_is hit place edge default cases x))
       (so (place e) m)
+
+pub case_edge : (edges : List Edge) (default : Edge) (edge : Case → Edge) (cases : List Case) (i : ℕ) (case : Case) → edges ≡ default ∷ map edge cases → i < length cases → case ≡ get_or cases i case → slice_index_or edges (i + 1) edge.Nowhere ≡ edge case
+case_edge edges default edge cases i case is lt at = rw (is, add-one) (item cases i lt at)
+  where
+    item : (cs : List Case) (j : ℕ) → j < length cs → case ≡ get_or cs j case → slice_index_or (map edge cs) j edge.Nowhere ≡ edge case
+    item [] j h e = absurd (omega arith)
+    item (c ∷ cs) zero h e = ap edge (sym e)
+    item (c ∷ cs) (suc j) h e = item cs j (omega arith) e
+
+pub default_edge : (edges : List Edge) (default : Edge) (rest : List Edge) → edges ≡ default ∷ rest → slice_index_or edges 0 edge.Nowhere ≡ default
+default_edge edges default rest is = rw is refl
+
+pub hit_is : (v : ℕ → ℕ → ℕ) (old l : List Term) (k : Keeps old l) (number : TermId) (n value : ℕ) → IsTerm old n number → nat_eq (value % 2 ^ n) (term_at v l number) ≡ nat_eq (value % 2 ^ n) (term_at v old number)
+hit_is v old l k number n value h = ap (λ x. nat_eq (value % 2 ^ n) x) (term-later old l k v number h.within)

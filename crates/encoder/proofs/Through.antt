@@ -1,9 +1,11 @@
 -- A run through one copy, and through all.
 use Rattle.std.proofs.Common.{ℕ, zero, suc, ◌≡◌, ◌<◌, ◌≤◌, ◌+◌, ◌*◌, Bool, true, false, cond, not, ◌&&◌, nat_eq, nat_le, if◌then◌else◌, List, [], ◌∷◌, ◌++◌, length, map, drop, get_or, Option, Some, None, IfSome, ◌⊎◌, inl, inr, refl, ap, sym, subst, ◌∙◌, arith}
-use Rattle.std.specs.Prelude.{slice_get, slice_set}
+use Rattle.std.specs.Prelude.{slice_get, slice_set, is_some}
+use Rattle.std.specs.List.{All}
+use Rattle.std.proofs.lemmas.List.Elements.{All-get_or}
 use Rattle.std.specs.Option.{option_map}
 use Rattle.std.proofs.lemmas.Bool.{cases_Bool, cases_lt, lt-leb, le-leb, eqb-true, eqb-false}
-use Rattle.std.proofs.lemmas.Option.{slice_get_past, slice_get_within}
+use Rattle.std.proofs.lemmas.Option.{slice_get_past, slice_get_within, get_or_from_slice_get}
 use Rattle.std.proofs.lemmas.List.{drop_more, drop_all}
 use Rattle.ir_tree.specs.declared.tree.Inst.{Inst}
 use Rattle.ir_tree.specs.declared.tree.Terminator.{Terminator}
@@ -28,7 +30,7 @@ use Rattle.mem_terms.proofs.Later.{keeps_trans, bit-later}
 use Rattle.encoder.specs.declared.state.RunState.{RunState}
 use Rattle.encoder.specs.declared.frontier.Frontier.{Frontier}
 use Rattle.encoder.specs.Runs.{Scene, Sees, IsTally, IsState, Counts, Carries, Course, Idle, Dead, Live, advanced, steps, Follows}
-use Rattle.encoder.specs.Frontier.{AreStates, IsUnreached, AheadTells, HaveRegisters, IsFrontier, HasShape, Tells, Moves, StandsAt, AreByLabel, IsCopyIn, entering, arrived, placed}
+use Rattle.encoder.specs.Frontier.{AreStates, IsUnreached, AheadTells, HaveRegisters, IsFrontier, HasShape, Tells, Moves, StandsAt, AreByLabel, IsCopyIn, FitsReturn, ReturnsFit, entering, arrived, placed}
 use Rattle.encoder.proofs.Lasting.{each-get, sees-later, tally-later, counts-later, carries-later, tells-later}
 use Rattle.encoder.proofs.Reached.{set_length, set_other, changed_tells, passes_taken}
 
@@ -50,20 +52,22 @@ Comes no_undef insts end tape m =
     ((n : Machine) × (steps insts tape (Live m) ≡ Dead n) × (exit_insts no_undef insts end tape m ≡ Over (ended Ub n)))
     ⊎ ((n : Machine) × (steps insts tape (Live m) ≡ Live n) × (exit_insts no_undef insts end tape m ≡ exit_by no_undef end tape n))
 
+comes_by : (no_undef : Bool) (i : Inst) (is : List Inst) (end : Terminator) (tape : List ℕ) (m : Machine) (o : Option Machine) → act i tape m ≡ o → ((n : Machine) → Comes no_undef is end tape n) → Comes no_undef (i ∷ is) end tape m
+unfolding steps exit_insts
+comes_by no_undef i is end tape m None e further =
+    inl (m, ap (λ (x : Option Machine). steps is tape (advanced m x)) e ∙ steps_dead is tape m, ap (λ (x : Option Machine). exit_after x m (exit_insts no_undef is end tape)) e)
+comes_by no_undef i is end tape m (Some n) e further =
+    let here : steps is tape (advanced m (act i tape m)) ≡ steps is tape (Live n) = ap (λ (x : Option Machine). steps is tape (advanced m x)) e in
+    let there : exit_after (act i tape m) m (exit_insts no_undef is end tape) ≡ exit_insts no_undef is end tape n = ap (λ (x : Option Machine). exit_after x m (exit_insts no_undef is end tape)) e in
+    elim (further n) [
+      | inl d ↦ inl (d.0, here ∙ d.1, there ∙ d.2)
+      | inr l ↦ inr (l.0, here ∙ l.1, there ∙ l.2)
+    ]
+
 comes : (no_undef : Bool) (insts : List Inst) (end : Terminator) (tape : List ℕ) (m : Machine) → Comes no_undef insts end tape m
 unfolding steps exit_insts
 comes no_undef [] end tape m = inr (m, refl, refl)
-comes no_undef (i ∷ is) end tape m = by (act i tape m) refl
-  where
-    by : (o : Option Machine) → act i tape m ≡ o → Comes no_undef (i ∷ is) end tape m
-    by None e = inl (m, ap (λ (x : Option Machine). steps is tape (advanced m x)) e ∙ steps_dead is tape m, ap (λ (x : Option Machine). exit_after x m (exit_insts no_undef is end tape)) e)
-    by (Some n) e =
-        let here : steps is tape (advanced m (act i tape m)) ≡ steps is tape (Live n) = ap (λ (x : Option Machine). steps is tape (advanced m x)) e in
-        let there : exit_after (act i tape m) m (exit_insts no_undef is end tape) ≡ exit_insts no_undef is end tape n = ap (λ (x : Option Machine). exit_after x m (exit_insts no_undef is end tape)) e in
-        elim (comes no_undef is end tape n) [
-          | inl d ↦ inl (d.0, here ∙ d.1, there ∙ d.2)
-          | inr l ↦ inr (l.0, here ∙ l.1, there ∙ l.2)
-        ]
+comes no_undef (i ∷ is) end tape m = comes_by no_undef i is end tape m (act i tape m) refl (comes no_undef is end tape)
 
 module _ (old a b d new : List Term) (ka : Keeps old a) (kb : Keeps a b) (kd : Keeps b d) (before between after : Frontier) (hb : IsFrontier old before) (tape : List TermId) (words : AreWords old tape)
     (entry s : RunState) (he : IsState old entry) (hs : IsState a s) (block : Block) (no_undef : Bool) (undefined : TermId) (place : Exit → Where) where
@@ -169,10 +173,16 @@ pub pass_unknown : (g : Scene) (old : List Term) (f : Function) (copies : List B
 pass_unknown g old f copies w hw k copy block (Done run) none is found s = taken_out g old w hw k None (Done run) none tt s
 pass_unknown g old f copies w hw k copy block (At n m) none is found s = elim (cases_Bool (nat_eq k n)) [
   | inl t ↦ absurd (never (eqb-true k n t))
-  | inr f' ↦ rw (f', sym (placed_further f copies k n m (eqb-false k n f')))
-    (taken_out g old w hw k None (placed f copies k (At n m)) none (placed_elsewhere f copies k n m (eqb-false k n f')) s)
+  | inr f' ↦ there f' (eqb-false k n f')
 ]
   where
+    there : nat_eq k n ≡ false → (k ≡ n → ⊥) → Tells g old (record { ahead = slice_set w.ahead k None; ending = w.ending }) (Some (placed f copies (k + 1) (pass_copy f k copy g.tape (At n m))))
+    there off apart =
+        let stays : At n m ≡ pass_copy f k copy g.tape (At n m) = rw off refl in
+        subst (λ (y : Where). Tells g old (record { ahead = slice_set w.ahead k None; ending = w.ending }) (Some (placed f copies (k + 1) y))) stays
+        (subst (λ (y : Where). Tells g old (record { ahead = slice_set w.ahead k None; ending = w.ending }) (Some y)) (placed_further f copies k n m apart)
+          (taken_out g old w hw k None (placed f copies k (At n m)) none (placed_elsewhere f copies k n m apart) s))
+
     never : k ≡ n → ⊥
     never same =
         let at : placed f copies k (At n m) ≡ At k (entered block (record m { turn = copy.turn })) = ap (λ (i : ℕ). placed f copies k (At i m)) (sym same) ∙ placed_here f copies k copy block m is found in
@@ -188,12 +198,16 @@ pub pass_known : (g : Scene) (old new : List Term) (f : Function) (copies : List
 pass_known g old new f copies w after hw k copy block entry (Done run) known is found move s =
     move.stays (Some (Done run)) (unreached_here g old w.ahead k (Some entry) (Done run) known tt s.ahead) (taken_out g old w hw k (Some entry) (Done run) known tt s)
 pass_known g old new f copies w after hw k copy block entry (At n m) known is found move s = elim (cases_Bool (nat_eq k n)) [
-  | inl t ↦ rw (t, found) (here (eqb-true k n t))
-  | inr f' ↦ rw (f', sym (placed_further f copies k n m (eqb-false k n f'))) (there (eqb-false k n f'))
+  | inl t ↦ subst (λ (y : Where). Tells g new after (Some (placed f copies (k + 1) y))) (runs t) (here (eqb-true k n t))
+  | inr f' ↦ subst (λ (y : Where). Tells g new after (Some (placed f copies (k + 1) y))) (rests f')
+    (subst (λ (y : Where). Tells g new after (Some y)) (placed_further f copies k n m (eqb-false k n f')) (there (eqb-false k n f')))
 ]
   where
-    arrival : Machine
-    arrival = entered block (record m { turn = copy.turn })
+    runs : nat_eq k n ≡ true → left_by (targets block.terminator) copy.edges (exit_insts f.returns_no_undef block.insts block.terminator g.tape (entered block (record m { turn = copy.turn }))) ≡ pass_copy f k copy g.tape (At n m)
+    runs t = rw (t, found) refl
+
+    rests : nat_eq k n ≡ false → At n m ≡ pass_copy f k copy g.tape (At n m)
+    rests off = rw off refl
 
     here : k ≡ n → Tells g new after (Some (placed f copies (k + 1) (left_by (targets block.terminator) copy.edges (exit_insts f.returns_no_undef block.insts block.terminator g.tape (entered block (record m { turn = copy.turn }))))))
     here same =
@@ -287,3 +301,27 @@ entry_state old w k entry is h = each-get (λ (o : Option RunState). IfSome o (I
 
 pub entry_registers : (f : Function) (copies : List BlockCopy) (w : Frontier) (k : ℕ) (entry : RunState) → slice_get w.ahead k ≡ Some (Some entry) → HasShape f copies w → length entry.registers ≡ length f.names
 entry_registers f copies w k entry is h = each-get (λ (o : Option RunState). IfSome o (λ (s : RunState). length s.registers ≡ length f.names)) w.ahead k (Some entry) h.registers is
+
+-- ---- what a copy has of its function
+
+all_at : {A : Type 0} (P : A → Type 0) (xs : List A) (i : ℕ) (x : A) → All P xs → slice_get xs i ≡ Some x → P x
+all_at P xs i x h is =
+    let lt = slice_get_within xs i x is in
+    let e : get_or xs i x ≡ x = get_or_from_slice_get xs i x x is in
+    subst P e (All-get_or P xs i x lt h)
+
+pub fits_at : (f : Function) (at : ℕ) (block : Block) → ReturnsFit f → slice_get f.blocks at ≡ Some block → FitsReturn f.returns block.terminator
+fits_at f at block h is = all_at (λ (b : Block). FitsReturn f.returns b.terminator) f.blocks at block h is
+
+pub labels_at : (f : Function) (copy : BlockCopy) (block : Block) → IsCopyIn f copy → slice_get f.blocks copy.block ≡ Some block → AreByLabel (targets block.terminator) copy.edges
+labels_at f copy block h is =
+    let there = h.is in
+    let same : h.block ≡ block = cc in
+    subst (λ (b : Block). AreByLabel (targets b.terminator) copy.edges) same h.edges
+
+pub shape_after : (f : Function) (copies : List BlockCopy) (w after : Frontier) → after.ahead ≡ w.ahead → is_some after.ending.value ≡ is_some w.ending.value → HasShape f copies w → HasShape f copies after
+shape_after f copies w after ahead value h = record {
+  registers = subst (λ (xs : List (Option RunState)). HaveRegisters (length f.names) xs) (sym ahead) h.registers;
+  count = ap length ahead ∙ h.count;
+  value = value ∙ h.value;
+}

@@ -36,7 +36,8 @@ use Rattle.encoder.specs.declared.state.RunState.{RunState}
 use Rattle.encoder.specs.declared.ending.Ending.{Ending}
 use Rattle.encoder.specs.declared.frontier.Frontier.{Frontier}
 use Rattle.encoder.specs.Runs.{Scene, Sees, IsState, Counts, Carries, fits_from, zeros_past}
-use Rattle.encoder.specs.Frontier.{IsEnding, EndedSo, IsFrontier, Tells, Moves, first_place, placed, ending_at}
+use Rattle.encoder.specs.Frontier.{IsEnding, EndedSo, AreStates, HaveRegisters, IsUnreached, IsFrontier, Tells, Moves, first_place, placed, ending_at}
+use Rattle.mem_terms.specs.declared.values.SymValue.{SymValue}
 use Rattle.encoder.proofs.Lasting.{sees-later, counts-later, carries-later, tells-later, ending_at-later, state-later}
 use Rattle.encoder.proofs.Through.{placed_end, walk_over}
 
@@ -222,3 +223,49 @@ encode_stands old a b d f layered args tape entered passed o words copies ka kb 
     let t' = subst (λ (x : Where). Tells g b passed (Some x)) (placed_end f layered.copies (walk f 0 layered.copies (words_at v old tape) w)) t in
     let shows = fs g (run_at_end (walk f 0 layered.copies (words_at v old tape) w)) sees_b t'.ending in
     subst (λ (r : Run). Shows v d memory (words_at v old tape) r o) (run_is f layered input (words_at v old tape) ∙ layers_have_runs f layered layered.turns copies bounds input (words_at v old tape) same) shows
+
+-- ---- nothing is known at first
+
+pub snoc : {A : Type 0} (n : ℕ) (x : A) → replicate (suc n) x ≡ replicate n x ++ x ∷ []
+snoc zero x = refl
+snoc (suc n) x = ap (λ xs. x ∷ xs) (snoc n x)
+
+pub each-replicate : {A : Type 0} (P : A → Type 0) (n : ℕ) (x : A) → P x → Each P (replicate n x)
+each-replicate P zero x h = tt
+each-replicate P (suc n) x h = (h, each-replicate P n x h)
+
+pub map-replicate : {A B : Type 0} (f : A → B) (n : ℕ) (x : A) → map f (replicate n x) ≡ replicate n (f x)
+map-replicate f zero x = refl
+map-replicate f (suc n) x = ap (λ xs. f x ∷ xs) (map-replicate f n x)
+
+pub length-replicate : {A : Type 0} (n : ℕ) (x : A) → length (replicate n x) ≡ n
+length-replicate zero x = refl
+length-replicate (suc n) x = ap suc (length-replicate n x)
+
+pub unknown_states : (terms : List Term) (ahead : List (Option RunState)) (n : ℕ) → ahead ≡ replicate n None → AreStates terms ahead
+unknown_states terms ahead n is = subst (λ (xs : List (Option RunState)). AreStates terms xs) (sym is) (each-replicate (λ (o : Option RunState). IfSome o (IsState terms)) n None tt)
+
+pub unknown_registers : (names : ℕ) (ahead : List (Option RunState)) (n : ℕ) → ahead ≡ replicate n None → HaveRegisters names ahead
+unknown_registers names ahead n is = subst (λ (xs : List (Option RunState)). HaveRegisters names xs) (sym is) (each-replicate (λ (o : Option RunState). IfSome o (λ (s : RunState). length s.registers ≡ names)) n None tt)
+
+pub unknown_unreached : (g : Scene) (terms : List Term) (ahead : List (Option RunState)) (n : ℕ) → ahead ≡ replicate n None → Each (IsUnreached g terms) ahead
+unknown_unreached g terms ahead n is = subst (λ (xs : List (Option RunState)). Each (IsUnreached g terms) xs) (sym is) (each-replicate (IsUnreached g terms) n None tt)
+
+-- ---- the first state
+
+pub begin_carries : (old a b d : List Term) (f : Function) (args : List ArgTerms) (first registers : List SymValue) (s : RunState) (ka : Keeps old a) (kb : Keeps a b) (kd : Keeps b d)
+    → AreArgs old f.parameters args → AreSymValues b registers → s.registers ≡ registers
+    → ((v : ℕ → ℕ → ℕ) → values_at v a first ≡ replicate (length f.names) Poison)
+    → ((v : ℕ → ℕ → ℕ) → values_at v b registers ≡ with_args f.parameters (args_at v a args) (values_at v a first))
+    → ((v : ℕ → ℕ → ℕ) → term_at v d s.tally.read ≡ 0) → ((v : ℕ → ℕ → ℕ) → bit_at v d s.tally.fits ≡ true)
+    → (g : Scene) → Carries g d 0 s (first_machine f (record { args = args_at g.v old args; blocks = g.memory }))
+begin_carries old a b d f args first registers s ka kb kd hargs hr is poison given read fits g =
+    let given' : values_at g.v b registers ≡ with_args f.parameters (args_at g.v old args) (replicate (length f.names) Poison) =
+      given g.v ∙ rw (args_at-later old a ka g.v f.parameters args hargs, poison g.v) refl in
+    record {
+      registers = ap (values_at g.v d) is ∙ (values-later b d kd g.v registers hr ∙ given');
+      tally = record { read = read g.v; fits = fits g.v };
+      most = omega arith;
+      memory = refl;
+      block = refl;
+    }

@@ -1,6 +1,6 @@
 //! The instructions of a block.
 
-ghost use Rattle.std.specs.Prelude.{◌≡◌, ◌&&◌, false, not, cond, ℕ, IfOk, OnOk, IsTrue, length};
+ghost use Rattle.std.specs.Prelude.{◌≡◌, ◌<◌, ◌&&◌, false, not, cond, ℕ, IfOk, OnOk, IsTrue, length};
 ghost use Rattle.ir_tree.specs.declared.tree.Operand.{Operand};
 ghost use Rattle.byte_block.specs.declared.value.Value.TheVariants.{Num};
 ghost use Rattle.points.specs.declared.machine.Machine.{Machine};
