@@ -114,16 +114,16 @@ moves_arrive old mid new ka kb before hb ahead c hc label s edge n block is carr
 
 -- ---- edges by their labels
 
+label_later : (edge : ℕ → Edge) (l : ℕ) (ls : List ℕ) (i label : ℕ) → slice_get (l ∷ ls) i ≡ Some label → (label ≡ l → ⊥) → ((k : ℕ) → slice_get ls k ≡ Some label → edge_of label ls (map edge ls) ≡ edge label) → edge_of label ls (map edge ls) ≡ edge label
+label_later edge l ls zero label e apart next = absurd (apart (let x : label ≡ l = cc in x))
+label_later edge l ls (suc k) label e apart next = next k e
+
 pub edge_of_label : (edge : ℕ → Edge) (labels : List ℕ) (i label : ℕ) → slice_get labels i ≡ Some label → edge_of label labels (map edge labels) ≡ edge label
 edge_of_label edge [] i label is = absurd (let c : ⊥ = cc in c)
 edge_of_label edge (l ∷ ls) i label is = elim (cases_Bool (nat_eq label l)) [
   | inl t ↦ rw t (ap edge (sym (eqb-true label l t)))
-  | inr f ↦ rw f (further i is (eqb-false label l f))
+  | inr f ↦ rw f (label_later edge l ls i label is (eqb-false label l f) (λ k e. edge_of_label edge ls k label e))
 ]
-  where
-    further : (i' : ℕ) → slice_get (l ∷ ls) i' ≡ Some label → (label ≡ l → ⊥) → edge_of label ls (map edge ls) ≡ edge label
-    further zero e apart = absurd (apart (let x : label ≡ l = cc in x))
-    further (suc i') e apart = edge_of_label edge ls i' label e
 
 -- ---- cases of a switch
 
