@@ -6,4 +6,8 @@ pub mod Joined
 pub mod Ended
 pub mod Entering
 pub mod Reached
+pub mod Stepping
 pub mod Moving
+pub mod Through
+pub mod Whole
+pub mod Leaves

@@ -7,12 +7,19 @@
 //! judge stand on it.
 #![tactic(auto)]
 
+mod beginning;
 mod choices;
 mod edges;
 mod ending;
 mod frontier;
+mod function_run;
+mod instructions;
 mod joining;
 mod operands;
+mod passing;
 mod phis;
 mod state;
+mod terminators;
 mod words;
+
+pub use function_run::encode;
