@@ -1,0 +1,28 @@
+-- Values at a width.
+use Rattle.std.proofs.Common.{ℕ, ◌≡◌, ◌≤◌, ◌<◌, ◌%◌, ◌^◌, Bool, true, false, cond, List, length, refl, ap, sym, ◌∙◌, arith}
+use Rattle.std.proofs.lemmas.Nat.{pow_pos, mod_below}
+use Rattle.byte_block.specs.declared.value.Value.{Value}
+use Rattle.byte_block.specs.declared.value.Value.TheVariants.{Num, Poison}
+use Rattle.points.specs.Run.{cut_value}
+use Rattle.bv_terms.specs.declared.term.TermId.{TermId}
+use Rattle.bv_terms.specs.declared.term.Term.{Term}
+use Rattle.bv_terms.specs.Trees.{Keeps, Makes, Tests, IsTerm, term_at, bit_at}
+use Rattle.mem_terms.specs.declared.values.SymValue.{SymValue}
+use Rattle.mem_terms.specs.Values.{IsSymValue, value_at, value_from}
+use Rattle.mem_terms.proofs.Later.{keeps_trans, bit-later, term-later}
+use Rattle.mem_terms.proofs.Made.{small_mod, below-wider}
+
+-- a number of at most 64 digits has them in 64
+pub narrow : (x n : ℕ) → n ≤ 64 → x % 2 ^ n % 2 ^ 64 ≡ x % 2 ^ n
+narrow x n small = small_mod (x % 2 ^ n) (2 ^ 64) (below-wider (x % 2 ^ n) n 64 (mod_below x (2 ^ n) (pow_pos n)) small)
+
+cut-from : (p : Bool) (x y n : ℕ) → y ≡ x % 2 ^ n → value_from p y ≡ cut_value n (value_from p x)
+cut-from true x y n e = refl
+cut-from false x y n e = ap Num e
+
+pub cut-stands : (old a b : List Term) (s : SymValue) (low number : TermId) (n : ℕ) → n ≤ 64 → IsSymValue old s → Keeps old a → Makes a low n (λ v. term_at v old s.number % 2 ^ n)
+    → Keeps a b → Makes b number 64 (λ v. term_at v a low % 2 ^ 64) → (v : ℕ → ℕ → ℕ) → value_at v b (record { poison = s.poison; number = number }) ≡ cut_value n (value_at v old s)
+unfolding value_at
+cut-stands old a b s low number n small h ka ml kb mn v =
+    rw (bit-later old b (keeps_trans old a b ka kb) v s.poison h.poison.within)
+    (cut-from (bit_at v old s.poison) (term_at v old s.number) (term_at v b number) n (mn.says v ∙ (ap (λ x. x % 2 ^ 64) (ml.says v) ∙ narrow (term_at v old s.number) n small)))

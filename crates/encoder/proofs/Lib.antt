@@ -1,0 +1,13 @@
+pub mod Picking
+pub mod Cutting
+pub mod Lasting
+pub mod Taking
+pub mod Joined
+pub mod Ended
+pub mod Entering
+pub mod Reached
+pub mod Stepping
+pub mod Moving
+pub mod Through
+pub mod Whole
+pub mod Leaves

@@ -1,0 +1,13 @@
+use Rattle.std.proofs.Common.{◌≡◌, ◌≤◌, length, None, arith}
+use Rattle.std.specs.Prelude.{slice_get}
+use Rattle.std.proofs.lemmas.Option.{slice_get_past}
+use Rattle.encoder.proofs.Moving.{placed_at, placed_blockless}
+use Rattle.encoder.proofs.edges.block_ahead.Goals as goal
+
+pub returns-then-copy-len-clause-goes : goal.returns-then-copy-len-clause-goes
+returns-then-copy-len-clause-goes c = λ block found. placed_at c.args.f.now c.args.copies.now c.args.ahead c.args.n c.get-copy.result.now block c.if-n-ahead.false c.get-copy.ensures found
+
+pub returns-else-copy-len-clause-none : goal.returns-else-copy-len-clause-none
+returns-else-copy-len-clause-none c = λ e m.
+    let past : length c.args.f.now.blocks ≤ c.get-copy.result.now.block = omega arith in
+    placed_blockless c.args.f.now c.args.copies.now c.args.ahead c.args.n c.get-copy.result.now m c.get-copy.ensures (slice_get_past c.args.f.now.blocks c.get-copy.result.now.block past)

@@ -1,0 +1,10 @@
+use Rattle.mem_terms.proofs.Later.{keeps_trans}
+use Rattle.encoder.proofs.Lasting.{state-later, tally-later}
+use Rattle.encoder.proofs.Whole.{enter_stands}
+use Rattle.encoder.proofs.function_run.enter.Goals as goal
+
+pub returns-clause-stands : goal.returns-clause-stands
+returns-clause-stands c = enter_stands c.args.terms.now c.begin.new.terms c.unknown.new.terms c.end_undefined.new.terms c.follow.new.terms c.args.f.now c.args.copies.now c.args.args.now
+    c.in_ok-frontier.frontier c.end_undefined.new.self c.follow.new.frontier c.in_ok-start.start.undefined c.in_ok-start.start.state
+    c.begin.ensures.kept c.unknown.ensures.kept c.end_undefined.ensures.kept c.in_ok-start.ensures.state c.in_ok-start.ensures.undefined c.in_ok-start.ensures.alive c.in_ok-start.ensures.carries
+    c.in_ok-frontier.ensures.stands c.in_ok-end_undefined.ensures.stays c.in_ok-end_undefined.ensures.goes c.in_ok-follow.ensures.moves

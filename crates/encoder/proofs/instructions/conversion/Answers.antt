@@ -1,0 +1,5 @@
+use Rattle.std.proofs.Common.{◌∙◌, refl}
+use Rattle.encoder.proofs.instructions.conversion.Goals as goal
+
+pub returns-clause-stands : goal.returns-clause-stands
+returns-clause-stands c = λ v. c.in_ok-value.ensures.stands v ∙ rw (c.in_ok-operand.ensures.stands v) refl

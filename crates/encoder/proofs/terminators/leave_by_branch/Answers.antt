@@ -1,0 +1,50 @@
+use Rattle.std.proofs.Common.{◌≡◌, ◌%◌, ◌∙◌, ap, sym, refl, List, cond, nat_eq}
+use Rattle.byte_block.specs.declared.value.Value.{Value}
+use Rattle.points.specs.declared.machine.Machine.{Machine}
+use Rattle.points.specs.declared.outcome.Outcome.TheVariants.{Ub}
+use Rattle.points.specs.Run.{ended, operand_value}
+use Rattle.unroll.specs.Layers.{Where, Done, along}
+use Rattle.bv_terms.specs.Tree.{truth}
+use Rattle.bv_terms.specs.Trees.{bit_at, term_at}
+use Rattle.mem_terms.proofs.Later.{keeps_trans, bit-later, is_term-later}
+use Rattle.encoder.specs.Frontier.{placed}
+use Rattle.encoder.proofs.Lasting.{frontier-later, state-later}
+use Rattle.encoder.proofs.Moving.{moves_to, moves_later, moves_end}
+use Rattle.encoder.proofs.Leaves.{split_moves, lowest_is, branch_is}
+use Rattle.encoder.proofs.terminators.leave_by_branch.Goals as goal
+
+pub returns-clause-moves : goal.returns-clause-moves
+returns-clause-moves c = λ g.
+    let old = c.args.terms.now in
+    let o = c.operand_of.new.terms in
+    let a = c.resize.new.terms in
+    let b = c.split.new.terms in
+    let d = c.end_undefined.new.terms in
+    let e = c.leave_by_bit.new.terms in
+    let ko = c.operand_of.ensures.kept in
+    let kr = c.resize.ensures.kept in
+    let ka = keeps_trans old o a ko kr in
+    let kb = c.split.ensures.kept in
+    let kd = c.end_undefined.ensures.kept in
+    let s = c.args.state.now in
+    let label = c.args.leaving.label in
+    let test = c.in_ok-test.test in
+    let lowest = c.in_ok-lowest.lowest in
+    let p = bit_at g.v a test.poison in
+    let t = bit_at g.v d lowest in
+    let before = c.args.frontier.now in
+    let between = c.end_undefined.new.self in
+    let after = c.leave_by_bit.new.frontier in
+    let to : Machine → Where = λ (m : Machine). cond t (placed c.args.f.now c.args.copies.now c.args.leaving.ahead (along c.args.if_true m)) (placed c.args.f.now c.args.copies.now c.args.leaving.ahead (along c.args.if_false m)) in
+    let p_is : p ≡ bit_at g.v o test.poison = bit-later o a kr g.v test.poison c.in_ok-test.ensures.made.poison.within in
+    let t_is : t ≡ nat_eq (term_at g.v o test.number % 2) 1 = bit-later a d (keeps_trans a b d kb kd) g.v lowest c.in_ok-lowest.ensures.made.within ∙ (ap truth (c.in_ok-lowest.ensures.made.says g.v) ∙ lowest_is (term_at g.v o test.number)) in
+    moves_to g label s old e before after s.alive (λ (m : Machine). cond p (Done (ended Ub m)) (to m)) _
+    (λ m h.
+      let is = (rw c.as_slice.ensures at (c.in_ok-test.ensures.stands g.v)) ∙ ap (λ (rs : List Value). operand_value rs c.args.condition) h.registers in
+      rw p_is (branch_is g.v o test c.args.f.now c.args.copies.now c.args.leaving.ahead (operand_value m.registers c.args.condition) c.args.if_true c.args.if_false m t is t_is))
+    (moves_later g label s old a e ka before after s.alive (λ (m : Machine). cond p (Done (ended Ub m)) (to m)) c.requires.frontier c.requires.state c.requires.state.alive
+      (split_moves g label s a b e kb kd before between after s.alive c.in_ok-undefined.undefined c.in_ok-undefined.defined p (λ (m : Machine). Done (ended Ub m)) to
+        (frontier-later old a ka before c.requires.frontier) (state-later old a ka s c.requires.state) (is_term-later old a ka 1 s.alive c.requires.state.alive)
+        (record { within = c.in_ok-undefined.ensures.off.within; wide = c.in_ok-undefined.ensures.off.wide }) (c.in_ok-undefined.ensures.on.says g.v) (c.in_ok-undefined.ensures.off.says g.v)
+        (moves_end b d before between c.in_ok-undefined.undefined s label Ub c.in_ok-end_undefined.ensures.stays c.in_ok-end_undefined.ensures.goes g)
+        (c.in_ok-leave_by_bit.ensures.moves g)))

@@ -1,0 +1,25 @@
+//! Runs as terms: what a function does on every input and tape at once.
+//!
+//! It promises that under every assignment of the variables the terms of the outcome show the run of
+//! the function on what the terms of the input and of the tape stand for, within the bound on
+//! backward jumps that the layers were made for. It is told for every function, well formed or not,
+//! as the run is. It stands on `unroll`, `mem_terms` and `table_terms`; the questions of the circuit
+//! judge stand on it.
+#![tactic(auto)]
+
+mod beginning;
+mod choices;
+mod edges;
+mod ending;
+mod frontier;
+mod function_run;
+mod instructions;
+mod joining;
+mod operands;
+mod passing;
+mod phis;
+mod state;
+mod terminators;
+mod words;
+
+pub use function_run::encode;

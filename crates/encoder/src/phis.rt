@@ -1,0 +1,93 @@
+//! The phis of a block, on an edge to it (LLVM Language Reference, "phi Instruction").
+
+ghost use Rattle.std.specs.Prelude.{◌≡◌, ℕ, IfOk, length, nat_eq, slice_set};
+ghost use Rattle.std.specs.List.{find};
+ghost use Rattle.bv_terms.specs.Trees.{Keeps};
+ghost use Rattle.mem_terms.specs.Values.{AreSymValues, IsSymValue, value_at, values_at};
+ghost use Rattle.points.specs.declared.machine.Machine.{Machine};
+ghost use Rattle.points.specs.Run.{entry_value, phi_value, with_phis};
+
+use crate::operands::{operand_of, typed};
+use bv_terms::Terms;
+use ir_tree::{Phi, PhiEntry};
+use mem_terms::{SymValue, poison_value};
+use std::alloc::Global;
+use support::{NoMemory, Sequence};
+
+fn entry_from(entries: &[PhiEntry], from: usize) -> Option<PhiEntry>
+    ensures { result ≡ find (λ e. nat_eq e.from from) entries.now }
+{
+    entries.iter().copied().find(|entry| entry.from == from)
+}
+
+/// What stands in the entry for the block that is left, which has this label.
+fn entry_value(
+    terms: &mut Terms,
+    registers: &[SymValue],
+    label: usize,
+    entries: &[PhiEntry],
+) -> Result<SymValue, NoMemory>
+    requires { AreSymValues terms.old registers.now }
+    ensures made { IfOk result (IsSymValue terms.new) }
+    ensures stands { IfOk result (λ s. (v : ℕ → ℕ → ℕ) (m : Machine) → values_at v terms.old registers.now ≡ m.registers → m.block ≡ label → value_at v terms.new s ≡ entry_value m entries.now) }
+    ensures kept { Keeps terms.old terms.new }
+{
+    match entry_from(entries, label) {
+        Some(entry) => {
+            let value = operand_of(terms, registers, entry.operand)?;
+            Ok(value)
+        }
+        None => {
+            let value = poison_value(terms)?;
+            Ok(value)
+        }
+    }
+}
+
+fn phi_value(
+    terms: &mut Terms,
+    registers: &[SymValue],
+    label: usize,
+    phi: &Phi,
+) -> Result<SymValue, NoMemory>
+    requires { AreSymValues terms.old registers.now }
+    ensures made { IfOk result (IsSymValue terms.new) }
+    ensures stands { IfOk result (λ s. (v : ℕ → ℕ → ℕ) (m : Machine) → values_at v terms.old registers.now ≡ m.registers → m.block ≡ label → value_at v terms.new s ≡ phi_value m phi.now) }
+    ensures kept { Keeps terms.old terms.new }
+{
+    let entry = entry_value(terms, registers, label, phi.entries.as_slice())?;
+    let value = typed(terms, phi.of_type, entry)?;
+    Ok(value)
+}
+
+/// Gives a name its value. A name that there is no register for is left out.
+pub fn put(registers: &mut Sequence<SymValue>, name: usize, value: SymValue)
+    ensures { registers.new ≡ slice_set registers.old name value }
+{
+    if name < registers.len() {
+        registers.set(name, value);
+    }
+}
+
+/// The registers behind the phis of a block that is entered from the one with this label. All phis
+/// read the registers before them.
+pub fn registers_behind(
+    alloc: Global,
+    terms: &mut Terms,
+    registers: &[SymValue],
+    label: usize,
+    phis: &[Phi],
+) -> Result<Sequence<SymValue>, NoMemory>
+    requires { AreSymValues terms.old registers.now }
+    ensures made { IfOk result (AreSymValues terms.new) }
+    ensures count { IfOk result (λ behind. length behind ≡ length registers.now) }
+    ensures stands { IfOk result (λ behind. (v : ℕ → ℕ → ℕ) (m : Machine) → values_at v terms.old registers.now ≡ m.registers → m.block ≡ label → record m { registers = values_at v terms.new behind } ≡ with_phis m phis.now m) }
+    ensures kept { Keeps terms.old terms.new }
+{
+    let mut behind = Sequence::from_vec(registers.to_vec(alloc)?);
+    for phi in phis {
+        let value = phi_value(terms, registers, label, phi)?;
+        put(&mut behind, phi.into, value);
+    }
+    Ok(behind)
+}
