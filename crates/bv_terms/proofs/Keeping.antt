@@ -2,22 +2,23 @@
 use Rattle.std.proofs.Common.{Bool, true, false, cond, ap, ℕ, zero, suc, ◌≡◌, ◌<◌, ◌+◌, List, [], ◌∷◌, ◌++◌, length, get_or, slice_get, Some, sym, subst, arith, ◌∙◌, refl, length-append}
 use Rattle.bv_terms.specs.declared.term.TermId.{TermId}
 use Rattle.bv_terms.specs.declared.term.Term.{Term}
+use Rattle.bv_terms.specs.declared.term.Term.TheVariants as term
 use Rattle.bv_terms.specs.Tree as tree
 use Rattle.bv_terms.specs.Tree.{Tree, width_of, value_of}
-use Rattle.bv_terms.specs.Trees.{AreFit, IsFit, IsWithin, AreMatched, tree_of, term_width, trees_from, trees_of, tree_in, Keeps, Makes}
+use Rattle.bv_terms.specs.Trees.{AreFit, IsFit, IsWithin, AreMatched, tree_of, term_width, trees_from, trees_of, tree_in, Extends, IsNoVariable, Keeps, Makes}
 use Rattle.bv_terms.proofs.Stages.{length-trees, trees-append, trees-front, tree-same, tree-stored, width-tree}
 
-pub keeps_self : (ts : List Term) → Keeps ts ts
-keeps_self ts = record { longer = omega arith; terms = λ i lt. refl; kept = λ a lt. refl }
+pub extends_self : (ts : List Term) → Extends ts ts
+extends_self ts = record { longer = omega arith; terms = λ i lt. refl; kept = λ a lt. refl }
 
 get-append : (old more : List Term) (i : ℕ) → i < length old → slice_get (old ++ more) i ≡ slice_get old i
 get-append [] more i lt = absurd (omega arith)
 get-append (x ∷ xs) more zero lt = refl
 get-append (x ∷ xs) more (suc i) lt = get-append xs more i (omega arith)
 
-keeps_append : (old more : List Term) → Keeps old (old ++ more)
+extends_append : (old more : List Term) → Extends old (old ++ more)
 unfolding trees_of
-keeps_append old more = record {
+extends_append old more = record {
   longer = omega (arith, length-append old more);
   terms = λ i lt. get-append old more i lt;
   kept = λ a lt.
@@ -25,11 +26,35 @@ keeps_append old more = record {
       ap (λ zs. get_or zs a.index (tree.Constant 0 1)) (trees-append [] old more) ∙ trees-front (trees_from [] old) more a.index (tree.Constant 0 1) within;
 }
 
-pub keeps_stored : (known : Bool) (old new : List Term) (t : Term) → new ≡ cond known old (old ++ t ∷ []) → Keeps old new
-keeps_stored true old new t e = rw e (keeps_self old)
-keeps_stored false old new t e = rw e (keeps_append old (t ∷ []))
+pub extends_stored : (known : Bool) (old new : List Term) (t : Term) → new ≡ cond known old (old ++ t ∷ []) → Extends old new
+extends_stored true old new t e = rw e (extends_self old)
+extends_stored false old new t e = rw e (extends_append old (t ∷ []))
 
-pub makes_stored : (old new : List Term) (id : TermId) (t : Term) → Keeps old new → AreFit [] new → IsWithin (length old) t → slice_get new id.index ≡ Some t → id.index < length new
+-- a variable stands among terms before one that is none
+calm-push : (old : List Term) (t : Term) → IsNoVariable t → (i number width : ℕ) → slice_get (old ++ t ∷ []) i ≡ Some (term.Variable number width) → slice_get old i ≡ Some (term.Variable number width)
+calm-push [] t none zero number width e =
+    let is : t ≡ term.Variable number width = cc in
+    absurd (subst IsNoVariable is none)
+calm-push [] t none (suc i) number width e = e
+calm-push (s ∷ ss) t none zero number width e = e
+calm-push (s ∷ ss) t none (suc i) number width e = calm-push ss t none i number width e
+
+calm-stored : (known : Bool) (old : List Term) (t : Term) → IsNoVariable t → (i number width : ℕ) → slice_get (cond known old (old ++ t ∷ [])) i ≡ Some (term.Variable number width) → slice_get old i ≡ Some (term.Variable number width)
+calm-stored true old t none i number width e = e
+calm-stored false old t none i number width e = calm-push old t none i number width e
+
+-- an operation that is stored brings no variable
+pub keeps_stored : (known : Bool) (old new : List Term) (t : Term) → new ≡ cond known old (old ++ t ∷ []) → IsNoVariable t → Keeps old new
+keeps_stored known old new t e none =
+    let more = extends_stored known old new t e in
+    record {
+      longer = more.longer;
+      terms = more.terms;
+      kept = more.kept;
+      calm = λ i number width at. calm-stored known old t none i number width (subst (λ (ts : List Term). slice_get ts i ≡ Some (term.Variable number width)) e at);
+    }
+
+pub makes_stored : (old new : List Term) (id : TermId) (t : Term) → Extends old new → AreFit [] new → IsWithin (length old) t → slice_get new id.index ≡ Some t → id.index < length new
     → Makes new id (term_width t) (λ v. value_of v (tree_of (trees_of old) t))
 unfolding trees_of
 makes_stored old new id t kept fit within at lt =

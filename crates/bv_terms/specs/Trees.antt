@@ -151,11 +151,23 @@ term_at v terms a = value_of v (tree_in terms a)
 abbrev pub bit_at : (ℕ → ℕ → ℕ) → List Term → TermId → Bool
 bit_at v terms a = truth (term_at v terms a)
 
+-- the term is an operation or a constant
+abbrev pub IsNoVariable : Term → Type 0
+IsNoVariable (term.Variable number width) = ⊥
+IsNoVariable t = Unit {0}
+
 -- the terms stay, with their trees, and others may come after them
+pub record Extends (old new : List Term) : Type 0 where
+  pub longer : length old ≤ length new
+  pub terms : (i : ℕ) → i < length old → slice_get new i ≡ slice_get old i
+  pub kept : (a : TermId) → a.index < length old → tree_in new a ≡ tree_in old a
+
+-- the same, and no variable comes
 pub record Keeps (old new : List Term) : Type 0 where
   pub longer : length old ≤ length new
   pub terms : (i : ℕ) → i < length old → slice_get new i ≡ slice_get old i
   pub kept : (a : TermId) → a.index < length old → tree_in new a ≡ tree_in old a
+  pub calm : (i number width : ℕ) → slice_get new i ≡ Some (term.Variable number width) → slice_get old i ≡ Some (term.Variable number width)
 
 -- a term of this width, with this value under each assignment
 pub record Makes (new : List Term) (id : TermId) (width : ℕ) (value : (ℕ → ℕ → ℕ) → ℕ) : Type 0 where

@@ -3,14 +3,14 @@
 ghost use Rattle.std.specs.Prelude.{◌≡◌, ◌<◌, ◌≤◌, ◌+◌, ◌-◌, ◌*◌, ◌/◌, ◌%◌, ◌^◌, IfOk, Some, slice_get, length, cond, nat_eq, nat_lt, bit_and, bit_or, bit_xor};
 ghost use Rattle.bv_terms.specs.Tree.{digit, extended_signed, is_less_signed, quotient, remainder, shifted_left, shifted_right, shifted_signed, truth, width_of};
 ghost use Rattle.bv_terms.specs.declared.term.Term.TheVariants as variant;
-ghost use Rattle.bv_terms.specs.Trees.{IsWidth, Keeps, Makes, bit_at, tree_in, term_at};
+ghost use Rattle.bv_terms.specs.Trees.{Extends, IsWidth, Keeps, Makes, bit_at, tree_in, term_at};
 
 use crate::term::{Term, TermId};
 use crate::terms::Terms;
 use support::NoMemory;
 
 /// Each builder answers the term, which is stored unless it is there, and leaves those before it as
-/// they were, also where memory fails.
+/// they were, also where memory fails. Only [`Terms::variable`] brings a variable.
 impl Terms {
     /// A number, which is below 2 to the power of the width.
     pub fn constant(&mut self, value: u128, width: u32) -> Result<TermId, NoMemory>
@@ -20,7 +20,7 @@ impl Terms {
         ensures made { IfOk result (λ id. Makes self.new id width (λ _. value)) }
         ensures kept { Keeps self.old self.new }
     {
-        self.store(Term::Constant { value, width })
+        self.apply(Term::Constant { value, width })
     }
 
     /// A variable, which is its number and its width together.
@@ -28,7 +28,7 @@ impl Terms {
         requires { IsWidth width }
         ensures stored { IfOk result (λ id. slice_get self.new id.index ≡ Some (variant.Variable number width)) }
         ensures made { IfOk result (λ id. Makes self.new id width (λ v. v number width % 2 ^ width)) }
-        ensures kept { Keeps self.old self.new }
+        ensures kept { Extends self.old self.new }
     {
         self.store(Term::Variable { number, width })
     }
@@ -41,7 +41,7 @@ impl Terms {
         ensures kept { Keeps self.old self.new }
     {
         let width = self.width(a);
-        self.store(Term::Not { a, width })
+        self.apply(Term::Not { a, width })
     }
 
     /// The bits that are 1 in both.
@@ -54,7 +54,7 @@ impl Terms {
         ensures kept { Keeps self.old self.new }
     {
         let width = self.width(a);
-        self.store(Term::And { a, b, width })
+        self.apply(Term::And { a, b, width })
     }
 
     /// The bits that are 1 in either.
@@ -67,7 +67,7 @@ impl Terms {
         ensures kept { Keeps self.old self.new }
     {
         let width = self.width(a);
-        self.store(Term::Or { a, b, width })
+        self.apply(Term::Or { a, b, width })
     }
 
     /// The bits that are 1 in just one.
@@ -80,7 +80,7 @@ impl Terms {
         ensures kept { Keeps self.old self.new }
     {
         let width = self.width(a);
-        self.store(Term::Xor { a, b, width })
+        self.apply(Term::Xor { a, b, width })
     }
 
     /// The sum, which wraps.
@@ -93,7 +93,7 @@ impl Terms {
         ensures kept { Keeps self.old self.new }
     {
         let width = self.width(a);
-        self.store(Term::Add { a, b, width })
+        self.apply(Term::Add { a, b, width })
     }
 
     /// The difference, which wraps.
@@ -106,7 +106,7 @@ impl Terms {
         ensures kept { Keeps self.old self.new }
     {
         let width = self.width(a);
-        self.store(Term::Sub { a, b, width })
+        self.apply(Term::Sub { a, b, width })
     }
 
     /// The product, which wraps.
@@ -119,7 +119,7 @@ impl Terms {
         ensures kept { Keeps self.old self.new }
     {
         let width = self.width(a);
-        self.store(Term::Mul { a, b, width })
+        self.apply(Term::Mul { a, b, width })
     }
 
     /// The quotient of unsigned numbers; all ones where the divisor is 0.
@@ -132,7 +132,7 @@ impl Terms {
         ensures kept { Keeps self.old self.new }
     {
         let width = self.width(a);
-        self.store(Term::Udiv { a, b, width })
+        self.apply(Term::Udiv { a, b, width })
     }
 
     /// The remainder of unsigned numbers; the dividend where the divisor is 0.
@@ -145,7 +145,7 @@ impl Terms {
         ensures kept { Keeps self.old self.new }
     {
         let width = self.width(a);
-        self.store(Term::Urem { a, b, width })
+        self.apply(Term::Urem { a, b, width })
     }
 
     /// The first moved up by the second; 0 where that is the width or more.
@@ -158,7 +158,7 @@ impl Terms {
         ensures kept { Keeps self.old self.new }
     {
         let width = self.width(a);
-        self.store(Term::Shl { a, b, width })
+        self.apply(Term::Shl { a, b, width })
     }
 
     /// The first moved down by the second; 0 where that is the width or more.
@@ -171,7 +171,7 @@ impl Terms {
         ensures kept { Keeps self.old self.new }
     {
         let width = self.width(a);
-        self.store(Term::Lshr { a, b, width })
+        self.apply(Term::Lshr { a, b, width })
     }
 
     /// The first moved down by the second, with copies of its sign; nothing but these where that is the width or more.
@@ -184,7 +184,7 @@ impl Terms {
         ensures kept { Keeps self.old self.new }
     {
         let width = self.width(a);
-        self.store(Term::Ashr { a, b, width })
+        self.apply(Term::Ashr { a, b, width })
     }
 
     /// 1 where the two are equal, and else 0.
@@ -197,7 +197,7 @@ impl Terms {
         ensures kept { Keeps self.old self.new }
     {
         let width = self.width(a);
-        self.store(Term::Eq { a, b, width })
+        self.apply(Term::Eq { a, b, width })
     }
 
     /// 1 where the first is less, as unsigned numbers, and else 0.
@@ -210,7 +210,7 @@ impl Terms {
         ensures kept { Keeps self.old self.new }
     {
         let width = self.width(a);
-        self.store(Term::Ult { a, b, width })
+        self.apply(Term::Ult { a, b, width })
     }
 
     /// 1 where the first is less, in two's complement, and else 0.
@@ -223,7 +223,7 @@ impl Terms {
         ensures kept { Keeps self.old self.new }
     {
         let width = self.width(a);
-        self.store(Term::Slt { a, b, width })
+        self.apply(Term::Slt { a, b, width })
     }
 
     /// The first of two where the condition, of width 1, is 1, and else the second.
@@ -238,7 +238,7 @@ impl Terms {
         ensures kept { Keeps self.old self.new }
     {
         let width = self.width(a);
-        self.store(Term::Ite { c, a, b, width })
+        self.apply(Term::Ite { c, a, b, width })
     }
 
     /// The bits of `a` from the place `from` on, counted from the lowest, as many as `width`.
@@ -251,7 +251,7 @@ impl Terms {
         ensures kept { Keeps self.old self.new }
     {
         let _whole = self.width(a);
-        self.store(Term::Extract { a, from, width })
+        self.apply(Term::Extract { a, from, width })
     }
 
     /// The bits of `high` and then those of `low`, at most 128 in all.
@@ -267,7 +267,7 @@ impl Terms {
         let above = self.width(high);
         let below = self.width(low);
         let width = above + below;
-        self.store(Term::Concat {
+        self.apply(Term::Concat {
             high,
             low,
             below,
@@ -285,7 +285,7 @@ impl Terms {
         ensures kept { Keeps self.old self.new }
     {
         let _from = self.width(a);
-        self.store(Term::Zext { a, width })
+        self.apply(Term::Zext { a, width })
     }
 
     /// The same number in two's complement at a width that is as great or greater.
@@ -298,6 +298,6 @@ impl Terms {
         ensures kept { Keeps self.old self.new }
     {
         let from = self.width(a);
-        self.store(Term::Sext { a, from, width })
+        self.apply(Term::Sext { a, from, width })
     }
 }

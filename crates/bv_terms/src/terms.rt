@@ -28,7 +28,7 @@ impl Model for Terms {
 
 impl Terms {
     ghost use Rattle.bv_terms.specs.Tree.{value_of, width_of};
-    ghost use Rattle.bv_terms.specs.Trees.{AreDistinct, AreFit, AreInRange, AreMatched, IsWidth, IsWithin, Keeps, Makes, term_width, trees_of, tree_in, tree_of};
+    ghost use Rattle.bv_terms.specs.Trees.{AreDistinct, AreFit, AreInRange, AreMatched, Extends, IsNoVariable, IsWidth, IsWithin, Keeps, Makes, term_width, trees_of, tree_in, tree_of};
 
     /// No terms.
     pub fn new(alloc: Global) -> Self
@@ -45,7 +45,8 @@ impl Terms {
         requires matched { AreMatched (trees_of self.old) term }
         ensures stored { IfOk result (λ id. slice_get self.new id.index ≡ Some term) }
         ensures fit { AreFit [] self.new }
-        ensures kept { Keeps self.old self.new }
+        ensures kept { Extends self.old self.new }
+        ensures calm { IsNoVariable term → Keeps self.old self.new }
     {
         let (index, _) = self.terms.insert_full(term)?;
         Ok(TermId { index })
@@ -55,6 +56,19 @@ impl Terms {
     pub fn store(&mut self, term: Term) -> Result<TermId, NoMemory>
         requires within { IsWithin (length self.old) term }
         requires matched { AreMatched (trees_of self.old) term }
+        ensures stored { IfOk result (λ id. slice_get self.new id.index ≡ Some term) }
+        ensures made { IfOk result (λ id. Makes self.new id (term_width term) (λ v. value_of v (tree_of (trees_of self.old) term))) }
+        ensures kept { Extends self.old self.new }
+    {
+        let id = self.insert(term)?;
+        Ok(id)
+    }
+
+    /// The place of an operation or a constant, which is stored unless it is there. No variable comes.
+    pub(crate) fn apply(&mut self, term: Term) -> Result<TermId, NoMemory>
+        requires within { IsWithin (length self.old) term }
+        requires matched { AreMatched (trees_of self.old) term }
+        requires operation { IsNoVariable term }
         ensures stored { IfOk result (λ id. slice_get self.new id.index ≡ Some term) }
         ensures made { IfOk result (λ id. Makes self.new id (term_width term) (λ v. value_of v (tree_of (trees_of self.old) term))) }
         ensures kept { Keeps self.old self.new }

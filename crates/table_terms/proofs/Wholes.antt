@@ -14,7 +14,7 @@ use Rattle.points.specs.Table as table
 use Rattle.points.specs.Table.{is_undefined, value_result, are_unlike, holds_of, compared, cast_number, cast_value, selected}
 use Rattle.mem_terms.specs.declared.values.SymValue.{SymValue}
 use Rattle.mem_terms.specs.Values.{IsSymValue, value_at, value_from, option_from}
-use Rattle.mem_terms.proofs.Later.{bit-later, term-later, keeps_trans}
+use Rattle.mem_terms.proofs.Later.{bit-later, term-later, keeps_self, keeps_trans}
 use Rattle.table_terms.specs.declared.narrow.NarrowValue.{NarrowValue}
 use Rattle.table_terms.specs.Narrow.{IsNarrow, narrow_at}
 use Rattle.table_terms.specs.Rows.{IsRow, row_of}
@@ -57,7 +57,7 @@ pub binary-stands : (old g1 g2 g3 g4 g5 g6 : List Term) (op : Op) (n : ℕ) (lef
     → (v : ℕ → ℕ → ℕ) → option_from (bit_at v g6 undefined) (value_at v g6 value) ≡ value_result op n (value_at v old left) (value_at v old right)
 unfolding value_at
 binary-stands old g1 g2 g3 g4 g5 g6 op n left right a b row undefined poison value hl hr k1 ea ma k2 eb mb k3 tu k4 hw is k5 tp k6 sv v =
-    let k22 : Keeps g2 g2 = record { longer = omega arith; terms = λ i lt. refl; kept = λ i lt. refl } in
+    let k22 = keeps_self g2 in
     let o2 = operands-later old g1 g2 g2 n left right a b hl hr k1 ea ma k2 eb mb k22 in
     let o3 = operands-later old g1 g2 g3 n left right a b hl hr k1 ea ma k2 eb mb k3 in
     let k24 = keeps_trans g2 g3 g4 k3 k4 in
@@ -98,7 +98,7 @@ pub compare-stands : (old g1 g2 g3 g4 g5 g6 : List Term) (predicate : Predicate)
     → (v : ℕ → ℕ → ℕ) → value_at v g6 value ≡ compared predicate same_sign n (value_at v old left) (value_at v old right)
 unfolding value_at
 compare-stands old g1 g2 g3 g4 g5 g6 predicate same_sign n left right a b unlike test poison value hl hr k1 ea ma k2 eb mb k3 tu k4 tt k5 tp sv v =
-    let k22 : Keeps g2 g2 = record { longer = omega arith; terms = λ i lt. refl; kept = λ i lt. refl } in
+    let k22 = keeps_self g2 in
     let o2 = operands-later old g1 g2 g2 n left right a b hl hr k1 ea ma k2 eb mb k22 in
     let o3 = operands-later old g1 g2 g3 n left right a b hl hr k1 ea ma k2 eb mb k3 in
     let o4 = operands-later old g1 g2 g4 n left right a b hl hr k1 ea ma k2 eb mb (keeps_trans g2 g3 g4 k3 k4) in

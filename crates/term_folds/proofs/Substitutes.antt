@@ -10,7 +10,7 @@ use Rattle.bv_terms.specs.declared.term.Term.TheVariants as term
 use Rattle.bv_terms.specs.declared.variable.Variable.{Variable}
 use Rattle.bv_terms.specs.Tree as tree
 use Rattle.bv_terms.specs.Tree.{Tree, value_of, width_of, truth, digit, quotient, remainder, shifted_left, shifted_right, shifted_signed, is_less_signed, extended_signed}
-use Rattle.bv_terms.specs.Trees.{AreInRange, AreMatched, IsFit, IsTerm, IsWithin, Keeps, Makes, term_at, term_width, tree_at, tree_of, trees_of}
+use Rattle.bv_terms.specs.Trees.{AreInRange, AreMatched, IsFit, IsTerm, IsWithin, Extends, Makes, term_at, term_width, tree_at, tree_of, trees_of}
 use Rattle.bv_terms.specs.Variables.{is_variable}
 use Rattle.bv_terms.proofs.Variables.{same_variable}
 use Rattle.bv_terms.proofs.Zips.{AllZip-at}
@@ -22,13 +22,13 @@ two : (f : ℕ → ℕ → ℕ) {x x' y y' : ℕ} → x ≡ x' → y ≡ y' → 
 two f e g = cc
 
 -- replacements are terms of more terms too
-pub replacements_later : (old new : List Term) (replacements : List (Variable × TermId)) → Keeps old new → AreReplacements old replacements → AreReplacements new replacements
+pub replacements_later : (old new : List Term) (replacements : List (Variable × TermId)) → Extends old new → AreReplacements old replacements → AreReplacements new replacements
 replacements_later old new replacements k h x by found =
     let is = h x by found in
     record { within = omega (arith, is.within, k.longer); wide = ap width_of (k.kept by is.within) ∙ is.wide }
 
 -- and have the same values
-pub follows_keeps : (old new : List Term) (replacements : List (Variable × TermId)) → Keeps old new → AreReplacements old replacements
+pub follows_keeps : (old new : List Term) (replacements : List (Variable × TermId)) → Extends old new → AreReplacements old replacements
     → Follows (record { terms = old; replacements = replacements }) (record { terms = new; replacements = replacements })
 follows_keeps old new replacements k h = record {
   terms = k;

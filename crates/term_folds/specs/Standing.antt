@@ -4,23 +4,23 @@ use Rattle.std.proofs.Math.Path.{fun_ext}
 use Rattle.bv_terms.specs.declared.term.TermId.{TermId}
 use Rattle.bv_terms.specs.declared.term.Term.{Term}
 use Rattle.bv_terms.specs.Tree.{Tree, value_of, width_of}
-use Rattle.bv_terms.specs.Trees.{Keeps}
-use Rattle.bv_terms.proofs.Keeping.{keeps_self}
+use Rattle.bv_terms.specs.Trees.{Extends}
+use Rattle.bv_terms.proofs.Keeping.{extends_self}
 use Rattle.term_folds.specs.Substitution.{Follows, IsSubstituted, Substituting, substituted}
 
-keeps_trans : (a b c : List Term) → Keeps a b → Keeps b c → Keeps a c
-keeps_trans a b c p q = record {
+extends_trans : (a b c : List Term) → Extends a b → Extends b c → Extends a c
+extends_trans a b c p q = record {
   longer = omega (arith, p.longer, q.longer);
   terms = λ i lt. q.terms i (omega (arith, lt, p.longer)) ∙ p.terms i lt;
   kept = λ x lt. q.kept x (omega (arith, lt, p.longer)) ∙ p.kept x lt;
 }
 
 pub follows_self : (a : Substituting) → Follows a a
-follows_self a = record { terms = keeps_self a.terms; replacements = refl; assigns = λ v number width. refl }
+follows_self a = record { terms = extends_self a.terms; replacements = refl; assigns = λ v number width. refl }
 
 pub follows_trans : (a b c : Substituting) → Follows a b → Follows b c → Follows a c
 follows_trans a b c p q = record {
-  terms = keeps_trans a.terms b.terms c.terms p.terms q.terms;
+  terms = extends_trans a.terms b.terms c.terms p.terms q.terms;
   replacements = q.replacements ∙ p.replacements;
   assigns = λ v number width. q.assigns v number width ∙ p.assigns v number width;
 }

@@ -6,7 +6,7 @@ use Rattle.bv_terms.specs.declared.term.TermId.{TermId}
 use Rattle.bv_terms.specs.declared.term.Term.{Term}
 use Rattle.bv_terms.specs.declared.variable.Variable.{Variable}
 use Rattle.bv_terms.specs.Tree.{Tree, value_of, width_of}
-use Rattle.bv_terms.specs.Trees.{IsTerm, Keeps, term_at, tree_in}
+use Rattle.bv_terms.specs.Trees.{IsTerm, Extends, term_at, tree_in}
 use Rattle.bv_terms.specs.Variables.{is_variable}
 
 -- the terms of a store, and for some variables the term of it that replaces each
@@ -38,6 +38,6 @@ Replaces old new x by = (y : Variable) → replacement_of new y ≡ cond (is_var
 
 -- the store only grew, and each variable is given what it was
 pub record Follows (old new : Substituting) : Type 0 where
-  pub terms : Keeps old.terms new.terms
+  pub terms : Extends old.terms new.terms
   pub replacements : new.replacements ≡ old.replacements
   pub assigns : (v : ℕ → ℕ → ℕ) (number width : ℕ) → substituted new v number width ≡ substituted old v number width
