@@ -16,7 +16,7 @@ keeps_both a b c p q = record {
   longer = omega (arith, p.longer, q.longer);
   terms = λ i lt. let later : i < length b = omega (arith, lt, p.longer) in q.terms i later ∙ p.terms i lt;
   kept = λ t lt. let later : t.index < length b = omega (arith, lt, p.longer) in q.kept t later ∙ p.kept t lt;
-  calm = λ i number width at. p.calm i number width (q.calm i number width at);
+  calm = q.calm ∙ p.calm;
 }
 
 pub over_later : (old new : List Term) (a : TermId) → Keeps old new → IsOver old a → IsOver new a

@@ -1,11 +1,12 @@
 -- What was said of terms is said of more of them.
-use Rattle.std.proofs.Common.{Bool, true, false, cond, ap, ℕ, zero, suc, ◌≡◌, ◌<◌, ◌+◌, List, [], ◌∷◌, ◌++◌, length, get_or, slice_get, Some, sym, subst, arith, ◌∙◌, refl, length-append}
+use Rattle.std.proofs.Common.{Bool, true, false, cond, ap, ℕ, zero, suc, ◌≡◌, ◌⊎◌, inl, inr, ◌<◌, ◌+◌, List, [], ◌∷◌, ◌++◌, length, get_or, slice_get, Some, sym, subst, arith, ◌∙◌, refl, length-append, append-nil, append_assoc}
 use Rattle.bv_terms.specs.declared.term.TermId.{TermId}
 use Rattle.bv_terms.specs.declared.term.Term.{Term}
 use Rattle.bv_terms.specs.declared.term.Term.TheVariants as term
+use Rattle.bv_terms.specs.declared.variable.Variable.{Variable}
 use Rattle.bv_terms.specs.Tree as tree
 use Rattle.bv_terms.specs.Tree.{Tree, width_of, value_of}
-use Rattle.bv_terms.specs.Trees.{AreFit, IsFit, IsWithin, AreMatched, tree_of, term_width, trees_from, trees_of, tree_in, Extends, IsNoVariable, Keeps, Makes}
+use Rattle.bv_terms.specs.Trees.{AreFit, IsFit, IsWithin, AreMatched, tree_of, term_width, trees_from, trees_of, tree_in, variable_in, variables_among, Extends, Gains, IsNoVariable, Keeps, Makes}
 use Rattle.bv_terms.proofs.Stages.{length-trees, trees-append, trees-front, tree-same, tree-stored, width-tree}
 
 pub extends_self : (ts : List Term) → Extends ts ts
@@ -30,29 +31,46 @@ pub extends_stored : (known : Bool) (old new : List Term) (t : Term) → new ≡
 extends_stored true old new t e = rw e (extends_self old)
 extends_stored false old new t e = rw e (extends_append old (t ∷ []))
 
--- a variable stands among terms before one that is none
-calm-push : (old : List Term) (t : Term) → IsNoVariable t → (i number width : ℕ) → slice_get (old ++ t ∷ []) i ≡ Some (term.Variable number width) → slice_get old i ≡ Some (term.Variable number width)
-calm-push [] t none zero number width e =
-    let is : t ≡ term.Variable number width = cc in
-    absurd (subst IsNoVariable is none)
-calm-push [] t none (suc i) number width e = e
-calm-push (s ∷ ss) t none zero number width e = e
-calm-push (s ∷ ss) t none (suc i) number width e = calm-push ss t none i number width e
+among-push : (old : List Term) (t : Term) → variables_among (old ++ t ∷ []) ≡ variables_among old ++ variable_in t
+unfolding variables_among
+among-push [] t = append-nil (variable_in t)
+among-push (x ∷ xs) t = ap (λ (zs : List Variable). variable_in x ++ zs) (among-push xs t) ∙ sym (append_assoc (variable_in x) (variables_among xs) (variable_in t))
 
-calm-stored : (known : Bool) (old : List Term) (t : Term) → IsNoVariable t → (i number width : ℕ) → slice_get (cond known old (old ++ t ∷ [])) i ≡ Some (term.Variable number width) → slice_get old i ≡ Some (term.Variable number width)
-calm-stored true old t none i number width e = e
-calm-stored false old t none i number width e = calm-push old t none i number width e
+pub gains_stored : (known : Bool) (old new : List Term) (t : Term) → new ≡ cond known old (old ++ t ∷ []) → Gains old new (variable_in t)
+gains_stored true old new t e = inl (ap variables_among e)
+gains_stored false old new t e = inr (ap variables_among e ∙ among-push old t)
+
+none_in : (t : Term) → IsNoVariable t → variable_in t ≡ []
+none_in (term.Constant value width) none = refl
+none_in (term.Variable number width) none = absurd none
+none_in (term.Not a width) none = refl
+none_in (term.And a b width) none = refl
+none_in (term.Or a b width) none = refl
+none_in (term.Xor a b width) none = refl
+none_in (term.Add a b width) none = refl
+none_in (term.Sub a b width) none = refl
+none_in (term.Mul a b width) none = refl
+none_in (term.Udiv a b width) none = refl
+none_in (term.Urem a b width) none = refl
+none_in (term.Shl a b width) none = refl
+none_in (term.Lshr a b width) none = refl
+none_in (term.Ashr a b width) none = refl
+none_in (term.Eq a b width) none = refl
+none_in (term.Ult a b width) none = refl
+none_in (term.Slt a b width) none = refl
+none_in (term.Ite c a b width) none = refl
+none_in (term.Extract a from width) none = refl
+none_in (term.Concat high low below width) none = refl
+none_in (term.Zext a width) none = refl
+none_in (term.Sext a from width) none = refl
 
 -- an operation that is stored brings no variable
-pub keeps_stored : (known : Bool) (old new : List Term) (t : Term) → new ≡ cond known old (old ++ t ∷ []) → IsNoVariable t → Keeps old new
-keeps_stored known old new t e none =
-    let more = extends_stored known old new t e in
-    record {
-      longer = more.longer;
-      terms = more.terms;
-      kept = more.kept;
-      calm = λ i number width at. calm-stored known old t none i number width (subst (λ (ts : List Term). slice_get ts i ≡ Some (term.Variable number width)) e at);
-    }
+pub keeps_stored : (old new : List Term) (t : Term) → Extends old new → Gains old new (variable_in t) → IsNoVariable t → Keeps old new
+keeps_stored old new t more gains none = record { longer = more.longer; terms = more.terms; kept = more.kept; calm = go gains }
+  where
+    go : Gains old new (variable_in t) → variables_among new ≡ variables_among old
+    go (inl same) = same
+    go (inr one) = one ∙ (ap (λ (zs : List Variable). variables_among old ++ zs) (none_in t none) ∙ append-nil (variables_among old))
 
 pub makes_stored : (old new : List Term) (id : TermId) (t : Term) → Extends old new → AreFit [] new → IsWithin (length old) t → slice_get new id.index ≡ Some t → id.index < length new
     → Makes new id (term_width t) (λ v. value_of v (tree_of (trees_of old) t))

@@ -1,8 +1,9 @@
 -- The trees that a list of terms stands for, each term naming earlier ones, and what a term says under an assignment.
-use Rattle.std.specs.Prelude.{ℕ, ◌≡◌, ◌<◌, ◌≤◌, ◌+◌, ◌^◌, Bool, List, [], ◌∷◌, ◌++◌, length, slice_index_or, slice_get, Some}
+use Rattle.std.specs.Prelude.{ℕ, ◌≡◌, ◌⊎◌, ◌<◌, ◌≤◌, ◌+◌, ◌^◌, Bool, List, [], ◌∷◌, ◌++◌, length, slice_index_or, slice_get, Some}
 use Rattle.bv_terms.specs.declared.term.TermId.{TermId}
 use Rattle.bv_terms.specs.declared.term.Term.{Term}
 use Rattle.bv_terms.specs.declared.term.Term.TheVariants as term
+use Rattle.bv_terms.specs.declared.variable.Variable.{Variable}
 use Rattle.bv_terms.specs.Tree as tree
 use Rattle.bv_terms.specs.Tree.{Tree, width_of, value_of, truth}
 
@@ -162,12 +163,26 @@ pub record Extends (old new : List Term) : Type 0 where
   pub terms : (i : ℕ) → i < length old → slice_get new i ≡ slice_get old i
   pub kept : (a : TermId) → a.index < length old → tree_in new a ≡ tree_in old a
 
--- the same, and no variable comes
+-- the variable that a term is, if it is one
+abbrev pub variable_in : Term → List Variable
+variable_in (term.Variable number width) = record { number = number; width = width } ∷ []
+variable_in t = []
+
+-- the variables among terms, in order
+unfoldable pub variables_among : List Term → List Variable
+variables_among [] = []
+variables_among (t ∷ ts) = variable_in t ++ variables_among ts
+
+-- the terms stay, as above, and no variable comes
 pub record Keeps (old new : List Term) : Type 0 where
   pub longer : length old ≤ length new
   pub terms : (i : ℕ) → i < length old → slice_get new i ≡ slice_get old i
   pub kept : (a : TermId) → a.index < length old → tree_in new a ≡ tree_in old a
-  pub calm : (i number width : ℕ) → slice_get new i ≡ Some (term.Variable number width) → slice_get old i ≡ Some (term.Variable number width)
+  pub calm : variables_among new ≡ variables_among old
+
+-- these variables come, or none do
+abbrev pub Gains : (old new : List Term) → List Variable → Type 0
+Gains old new xs = (variables_among new ≡ variables_among old) ⊎ (variables_among new ≡ variables_among old ++ xs)
 
 -- a term of this width, with this value under each assignment
 pub record Makes (new : List Term) (id : TermId) (width : ℕ) (value : (ℕ → ℕ → ℕ) → ℕ) : Type 0 where

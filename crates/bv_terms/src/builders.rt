@@ -1,9 +1,9 @@
 //! A builder for each operation.
 
-ghost use Rattle.std.specs.Prelude.{◌≡◌, ◌<◌, ◌≤◌, ◌+◌, ◌-◌, ◌*◌, ◌/◌, ◌%◌, ◌^◌, IfOk, Some, slice_get, length, cond, nat_eq, nat_lt, bit_and, bit_or, bit_xor};
+ghost use Rattle.std.specs.Prelude.{◌≡◌, [], ◌∷◌, ◌<◌, ◌≤◌, ◌+◌, ◌-◌, ◌*◌, ◌/◌, ◌%◌, ◌^◌, IfOk, Some, slice_get, length, cond, nat_eq, nat_lt, bit_and, bit_or, bit_xor};
 ghost use Rattle.bv_terms.specs.Tree.{digit, extended_signed, is_less_signed, quotient, remainder, shifted_left, shifted_right, shifted_signed, truth, width_of};
 ghost use Rattle.bv_terms.specs.declared.term.Term.TheVariants as variant;
-ghost use Rattle.bv_terms.specs.Trees.{Extends, IsWidth, Keeps, Makes, bit_at, tree_in, term_at};
+ghost use Rattle.bv_terms.specs.Trees.{Extends, Gains, IsWidth, Keeps, Makes, bit_at, tree_in, term_at};
 
 use crate::term::{Term, TermId};
 use crate::terms::Terms;
@@ -29,6 +29,7 @@ impl Terms {
         ensures stored { IfOk result (λ id. slice_get self.new id.index ≡ Some (variant.Variable number width)) }
         ensures made { IfOk result (λ id. Makes self.new id width (λ v. v number width % 2 ^ width)) }
         ensures kept { Extends self.old self.new }
+        ensures gains { Gains self.old self.new (record { number = number; width = width } ∷ []) }
     {
         self.store(Term::Variable { number, width })
     }

@@ -28,7 +28,7 @@ impl Model for Terms {
 
 impl Terms {
     ghost use Rattle.bv_terms.specs.Tree.{value_of, width_of};
-    ghost use Rattle.bv_terms.specs.Trees.{AreDistinct, AreFit, AreInRange, AreMatched, Extends, IsNoVariable, IsWidth, IsWithin, Keeps, Makes, term_width, trees_of, tree_in, tree_of};
+    ghost use Rattle.bv_terms.specs.Trees.{AreDistinct, AreFit, AreInRange, AreMatched, Extends, Gains, IsNoVariable, IsWidth, IsWithin, Keeps, Makes, term_width, trees_of, tree_in, tree_of, variable_in};
 
     /// No terms.
     pub fn new(alloc: Global) -> Self
@@ -46,7 +46,7 @@ impl Terms {
         ensures stored { IfOk result (λ id. slice_get self.new id.index ≡ Some term) }
         ensures fit { AreFit [] self.new }
         ensures kept { Extends self.old self.new }
-        ensures calm { IsNoVariable term → Keeps self.old self.new }
+        ensures gains { Gains self.old self.new (variable_in term) }
     {
         let (index, _) = self.terms.insert_full(term)?;
         Ok(TermId { index })
@@ -59,6 +59,7 @@ impl Terms {
         ensures stored { IfOk result (λ id. slice_get self.new id.index ≡ Some term) }
         ensures made { IfOk result (λ id. Makes self.new id (term_width term) (λ v. value_of v (tree_of (trees_of self.old) term))) }
         ensures kept { Extends self.old self.new }
+        ensures gains { Gains self.old self.new (variable_in term) }
     {
         let id = self.insert(term)?;
         Ok(id)

@@ -21,11 +21,11 @@ keeps_trans a b c p q = record {
   longer = omega (arith, p.longer, q.longer);
   terms = λ i lt. q.terms i (omega (arith, p.longer)) ∙ p.terms i lt;
   kept = λ x lt. q.kept x (omega (arith, p.longer)) ∙ p.kept x lt;
-  calm = λ i number width at. p.calm i number width (q.calm i number width at);
+  calm = q.calm ∙ p.calm;
 }
 
 pub keeps_self : (a : List Term) → Keeps a a
-keeps_self a = record { longer = omega arith; terms = λ i lt. refl; kept = λ x lt. refl; calm = λ i number width at. at }
+keeps_self a = record { longer = omega arith; terms = λ i lt. refl; kept = λ x lt. refl; calm = refl }
 
 module _ (old new : List Term) (k : Keeps old new) where
   pub term-later : (v : ℕ → ℕ → ℕ) (a : TermId) → a.index < length old → term_at v new a ≡ term_at v old a
