@@ -1,0 +1,57 @@
+-- The numbers that the terms of a point stand for, in the order of its code.
+use Rattle.std.specs.Prelude.{ℕ, ◌≡◌, List, [], ◌∷◌, ◌++◌, length, map}
+use Rattle.std.specs.List.{flat_map}
+use Rattle.points.specs.declared.point.Shape.{Shape}
+use Rattle.bv_terms.specs.declared.term.Term.{Term}
+use Rattle.bv_terms.specs.Trees.{IsTerm, term_at}
+use Rattle.mem_terms.specs.declared.inputs.ArgTerms.{ArgTerms}
+use Rattle.mem_terms.specs.declared.inputs.ByteTerms.{ByteTerms}
+use Rattle.mem_terms.specs.declared.inputs.InputTerms.{InputTerms}
+use Rattle.mem_terms.specs.declared.inputs.TapeTerms.{TapeTerms}
+use Rattle.mem_terms.specs.Values.{Each}
+use Rattle.mem_terms.specs.Inputs.{AreArgs, words_at}
+
+-- ---- the numbers
+
+abbrev pub arg_numbers : (ℕ → ℕ → ℕ) → List Term → ArgTerms → List ℕ
+arg_numbers v terms a = term_at v terms a.flag ∷ term_at v terms a.number ∷ []
+
+abbrev pub byte_numbers : (ℕ → ℕ → ℕ) → List Term → ByteTerms → List ℕ
+byte_numbers v terms b = term_at v terms b.kind ∷ term_at v terms b.number ∷ term_at v terms b.block ∷ term_at v terms b.offset ∷ term_at v terms b.part ∷ []
+
+-- a block's places, one after the other
+abbrev pub block_numbers : (ℕ → ℕ → ℕ) → List Term → List ByteTerms → List ℕ
+block_numbers v terms places = flat_map (byte_numbers v terms) places
+
+-- the arguments, the sizes of the given blocks, their places, and the tape
+abbrev pub numbers_at : (ℕ → ℕ → ℕ) → List Term → InputTerms → TapeTerms → List ℕ
+numbers_at v terms input tape =
+    flat_map (arg_numbers v terms) input.args
+    ++ (map (term_at v terms) input.sizes ++ (flat_map (block_numbers v terms) input.places ++ words_at v terms tape.words))
+
+-- ---- the terms of a shape
+
+-- a byte has a kind below 4, a number below 256, a block below 8, an offset, and one of eight parts
+pub record IsByteTerms (terms : List Term) (b : ByteTerms) : Type 0 where
+  pub kind : IsTerm terms 2 b.kind
+  pub number : IsTerm terms 8 b.number
+  pub block : IsTerm terms 3 b.block
+  pub offset : IsTerm terms 64 b.offset
+  pub part : IsTerm terms 3 b.part
+
+-- so many places
+pub record IsBlockTerms (bytes : ℕ) (terms : List Term) (places : List ByteTerms) : Type 0 where
+  pub count : length places ≡ bytes
+  pub are : Each (IsByteTerms terms) places
+
+-- an argument for each parameter, and for each given block a size, below 64, and its places
+pub record IsInputOf (s : Shape) (terms : List Term) (input : InputTerms) : Type 0 where
+  pub args : AreArgs terms s.parameters input.args
+  pub size_count : length input.sizes ≡ s.blocks
+  pub sizes : Each (IsTerm terms 6) input.sizes
+  pub block_count : length input.places ≡ s.blocks
+  pub places : Each (IsBlockTerms s.bytes terms) input.places
+
+pub record IsTapeOf (s : Shape) (terms : List Term) (tape : TapeTerms) : Type 0 where
+  pub count : length tape.words ≡ s.words
+  pub words : Each (IsTerm terms 64) tape.words

@@ -1,0 +1,80 @@
+//! Places of given blocks in a code.
+
+ghost use Rattle.std.specs.Prelude.{◌≡◌, IfOk, length, map, nat_le};
+ghost use Rattle.std.specs.List.{flat_map};
+ghost use Rattle.points.specs.Codes.{IsCodeOfBlocks, IsCodeOfPlaces};
+ghost use Rattle.bv_terms.specs.Trees.{Keeps, term_at};
+ghost use Rattle.mem_terms.specs.Values.{Each};
+ghost use Rattle.refine_terms.specs.Deciding.{Decides, IsNarrow};
+ghost use Rattle.refine_terms.specs.Groups.{IsCodeOfPlace};
+ghost use Rattle.refine_terms.specs.Numbers.{IsBlockTerms, IsByteTerms, block_numbers, byte_numbers};
+
+use crate::bytes::{byte_code, kind_alone};
+use crate::comparing::at_most;
+use bv_terms::{TermId, Terms};
+use mem_terms::{ByteTerms, both, pick, truth};
+use support::{NoMemory, Sequence};
+
+/// True where the numbers of the place, counted from 0, are a byte's, or unused ones where the
+/// block's size is at most its count.
+fn place_code(
+    b: ByteTerms,
+    place: u64,
+    size: TermId,
+    blocks: u64,
+    terms: &mut Terms,
+) -> Result<TermId, NoMemory>
+    requires byte { IsByteTerms terms.old b }
+    requires size { IsNarrow terms.old size }
+    ensures made { IfOk result (λ id. Decides terms.new id (λ v. IsCodeOfPlace blocks (nat_le (term_at v terms.old size) place) (byte_numbers v terms.old b))) }
+    ensures kept { Keeps terms.old terms.new }
+{
+    let byte = byte_code(b, blocks, terms)?;
+    let unused = kind_alone(b, 0, terms)?;
+    let is_past = at_most(size, place, terms)?;
+    let id = pick(terms, is_past, unused, byte)?;
+    Ok(id)
+}
+
+/// True where the numbers of a block's places are those of a block of this size.
+fn block_code(
+    places: &[ByteTerms],
+    size: TermId,
+    blocks: u64,
+    terms: &mut Terms,
+) -> Result<TermId, NoMemory>
+    requires places { Each (IsByteTerms terms.old) places.now }
+    requires size { IsNarrow terms.old size }
+    ensures made { IfOk result (λ id. Decides terms.new id (λ v. IsCodeOfPlaces blocks (length places.now) (term_at v terms.old size) (block_numbers v terms.old places.now))) }
+    ensures kept { Keeps terms.old terms.new }
+{
+    let mut all = truth(terms, true)?;
+    for (i, b) in places.iter().enumerate() {
+        let one = place_code(*b, i as u64, size, blocks, terms)?;
+        all = both(terms, all, one)?;
+    }
+    Ok(all)
+}
+
+/// True where the numbers of all places are those of blocks of these sizes, with room for so many
+/// bytes each.
+pub fn blocks_code(
+    places: &[Sequence<ByteTerms>],
+    sizes: &[TermId],
+    bytes: u64,
+    blocks: u64,
+    terms: &mut Terms,
+) -> Result<TermId, NoMemory>
+    requires count { length sizes.now ≡ length places.now }
+    requires sizes { Each (IsNarrow terms.old) sizes.now }
+    requires places { Each (IsBlockTerms bytes terms.old) places.now }
+    ensures made { IfOk result (λ id. Decides terms.new id (λ v. IsCodeOfBlocks blocks bytes (map (term_at v terms.old) sizes.now) (flat_map (block_numbers v terms.old) places.now))) }
+    ensures kept { Keeps terms.old terms.new }
+{
+    let mut all = truth(terms, true)?;
+    for (i, size) in sizes.iter().enumerate() {
+        let one = block_code(places[i].as_slice(), *size, blocks, terms)?;
+        all = both(terms, all, one)?;
+    }
+    Ok(all)
+}
