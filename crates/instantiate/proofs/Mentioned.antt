@@ -1,7 +1,7 @@
 -- Terms whose variables are all named mention no other variable.
 use Rattle.std.proofs.Common.{ℕ, zero, suc, ◌≡◌, ◌<◌, ◌⊎◌, inl, inr, List, [], ◌∷◌, ◌++◌, Some, length, map, get_or, slice_get, refl, ap, sym, subst, arith, ◌∙◌, length-append}
 use Rattle.std.proofs.lemmas.Bool.{cases_eq}
-use Rattle.std.proofs.lemmas.List.{get_or_push, get_or_append_left}
+use Rattle.std.proofs.lemmas.List.{get_or-map, get_or_push, get_or_append_left}
 use Rattle.std.proofs.lemmas.Option.{get_or_from_slice_get}
 use Rattle.bv_terms.specs.declared.term.TermId.{TermId}
 use Rattle.bv_terms.specs.declared.term.Term.{Term}
@@ -96,9 +96,13 @@ contains terms from (a ∷ rest) (w ∷ ws) zero width h at =
 contains terms from (a ∷ rest) (w ∷ ws) (suc k) width h at =
     let r = contains terms (from + 1) rest ws k width h.1 at in
     let number : from + 1 + k ≡ from + suc k = omega arith in
-    (omega (arith, r.0), r.1 ∙ ap (λ n. let x : Variable = record { number = n; width = width } in x) number)
+    let make : ℕ → Variable = λ n. record { number = n; width = width } in
+    (omega (arith, r.0), r.1 ∙ ap make number)
 contains terms from [] (w ∷ ws) k width h at = absurd h
 contains terms from (a ∷ rest) [] k width h at = absurd h
+
+variable_at : List Term → TermId → Variable
+variable_at terms a = variable_of (get_or terms a.index (term.Constant 0 0))
 
 -- each term mentions only the variables of the order
 pub has_all : (terms : List Term) (order : List TermId) (widths : List ℕ) (goal : TermId) → AreFit [] terms → IsOrder terms order widths → goal.index < length terms → HasAll terms goal order
@@ -106,6 +110,6 @@ has_all terms order widths goal fit all lt x m =
     let at = terms_only (IsNumbered widths) terms goal fit all.named lt x m in
     let c = contains terms 0 order widths x.number x.width all.numbered at in
     let number : 0 + x.number ≡ x.number = omega arith in
-    let same = ap (λ n. let y : Variable = record { number = n; width = x.width } in y) number in
-    (x.number, omega (arith, c.0, map-length (λ (a : TermId). variable_of (get_or terms a.index (term.Constant 0 0))) order),
-        get_or-map (λ (a : TermId). variable_of (get_or terms a.index (term.Constant 0 0))) order x.number c.0 ∙ (c.1 ∙ same))
+    let make : ℕ → Variable = λ n. record { number = n; width = x.width } in
+    let same : make (0 + x.number) ≡ make x.number = ap make number in
+    (x.number, omega (arith, c.0, map-length (variable_at terms) order), get_or-map (variable_at terms) order x.number (record { index = 0 }) x c.0 ∙ (c.1 ∙ same))

@@ -1,5 +1,5 @@
 -- The two questions on a pair, as questions of lists of numbers, and what clauses show of them.
-use Rattle.std.specs.Prelude.{◌≡◌, ◌↔◌, ℕ, zero, suc, ◌+◌, Bool, true, false, is_some, All, List, [], ◌∷◌, ◌++◌, length, replicate, take, drop, Option, Some}
+use Rattle.std.specs.Prelude.{◌≡◌, ◌↔◌, ℕ, zero, suc, Bool, true, false, is_some, All, List, [], ◌∷◌, ◌++◌, length, replicate, Option, Some}
 use Rattle.ir_tree.specs.declared.tree.IrType.{IrType}
 use Rattle.ir_tree.specs.declared.tree.IrType.TheVariants as type
 use Rattle.ir_tree.specs.declared.tree.Parameter.{Parameter}
@@ -19,7 +19,7 @@ use Rattle.clause_lits.specs.declared.cnf.Cnf.{Cnf}
 use Rattle.clause_log.specs.declared.step.Cert.{Cert}
 use Rattle.clause_log.specs.Refutation.{Refutes}
 use Rattle.clause_search.specs.Outcome.{IsCareful, IsSpent}
-use Rattle.gate_digits.specs.Numbers.{number_of}
+use Rattle.front_order.specs.Fronts.{numbers_of, total}
 use Rattle.sat_ask.specs.Asks.{Asks, HasSmallNumbers}
 use Rattle.unroll.specs.Small.{AreSmall}
 use Rattle.instantiate.specs.declared.found.Found.{Found}
@@ -47,7 +47,7 @@ pub record CanBeAsked (pair : Functions) (bounds : Bounds) : Type 0 where
   pub target_returns : ReturnsFit pair.target
   pub small : AreSmall bounds
 
--- ---- the numbers of a question, and their digits
+-- ---- the widths of the numbers
 
 -- a flag and the number, or the block and the offset
 abbrev pub value_widths : IrType → List ℕ
@@ -75,15 +75,6 @@ point_widths pair bounds =
 -- how many digits each word of a tape of the source has
 abbrev pub tape_widths : Functions → Bounds → List ℕ
 tape_widths pair bounds = replicate (need_of bounds.turns pair.source) 64
-
-abbrev pub total : List ℕ → ℕ
-total [] = 0
-total (w ∷ ws) = w + total ws
-
--- the numbers that digits write, one after the other, the highest digit of each first
-abbrev pub numbers_of : List ℕ → List Bool → List ℕ
-numbers_of [] digits = []
-numbers_of (w ∷ ws) digits = number_of (take w digits) ∷ numbers_of ws (drop w digits)
 
 -- ---- the questions
 

@@ -7,10 +7,12 @@
 //! which write a pair as terms, and `sat_ask`, which asks the solver; the driver stands above it.
 #![tactic(auto)]
 
+mod asking;
 mod found;
 mod questions;
 mod settled;
 mod settling;
+mod variables;
 
 pub use settled::{Kept, Settled};
 pub use settling::settle;

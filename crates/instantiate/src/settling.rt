@@ -78,9 +78,11 @@ fn grow(alloc: Global, pair: &Pair, bounds: &Bounds, budget: &Budget) -> Result<
                 return Ok(settled(verdict, tapes, points, Some(cert)));
             }
         };
-        match least_cover(alloc, pair, bounds, &point, limit)? {
+        let answer = least_cover(alloc, pair, bounds, &point, limit)?;
+        let last = copy_point(alloc, &point)?;
+        points.push(point)?;
+        match answer {
             Found::Least(tape) => {
-                points.push(point)?;
                 if tapes.len() as u64 == budget.rounds {
                     let verdict = Verdict::Unknown(Cause::Rounds);
                     return Ok(settled(verdict, tapes, points, None));
@@ -88,13 +90,10 @@ fn grow(alloc: Global, pair: &Pair, bounds: &Bounds, budget: &Budget) -> Result<
                 tapes.push(tape)?;
             }
             Found::None(cert) => {
-                let verdict = Verdict::Incorrect(copy_point(alloc, &point)?);
-                points.push(point)?;
-                return Ok(settled(verdict, tapes, points, Some(cert)));
+                return Ok(settled(Verdict::Incorrect(last), tapes, points, Some(cert)));
             }
             Found::Spent(cert) => {
                 let verdict = Verdict::Unknown(Cause::Conflicts);
-                points.push(point)?;
                 return Ok(settled(verdict, tapes, points, Some(cert)));
             }
         }
