@@ -1,7 +1,6 @@
 -- What is answered in digits is answered in numbers.
-use Rattle.std.proofs.Common.{ℕ, zero, suc, ◌≡◌, ◌<◌, ◌+◌, ◌-◌, ◌%◌, ◌^◌, inl, inr, Bool, true, List, [], ◌∷◌, Some, slice_get, take, drop, map, length, arith, sym, ap, subst, refl, ◌∙◌}
+use Rattle.std.proofs.Common.{ℕ, zero, suc, ◌≡◌, ◌<◌, ◌+◌, ◌%◌, ◌^◌, inl, inr, Bool, true, List, [], ◌∷◌, Some, slice_get, map, length, arith, sym, ap, subst, refl, ◌∙◌}
 use Rattle.std.specs.Prelude.{slice_index}
-use Rattle.std.proofs.lemmas.List.{length-drop, length-take-le}
 use Rattle.bv_terms.specs.declared.term.TermId.{TermId}
 use Rattle.bv_terms.specs.declared.term.Term.{Term}
 use Rattle.bv_terms.specs.declared.term.Term.TheVariants as term
@@ -11,9 +10,8 @@ use Rattle.bv_terms.specs.Tree.{Tree, truth, value_of}
 use Rattle.bv_terms.specs.Trees.{AreFit, term_at, tree_in}
 use Rattle.clause_lits.specs.declared.cnf.Cnf.{Cnf}
 use Rattle.clause_search.specs.Outcome.{IsLess}
-use Rattle.gate_digits.specs.Numbers.{number_of}
-use Rattle.gate_digits.proofs.Digits.{number-below}
-use Rattle.front_order.specs.Fronts.{AreWidths, Fits, IsLeast, NonePass, numbers_of, total}
+use Rattle.front_order.specs.Fronts.{AreWidths, IsLeast, NonePass, numbers_of, total}
+use Rattle.front_order.proofs.Binary.{fits-numbers}
 use Rattle.front_order.proofs.Ordering.{least_digits, no_digits}
 use Rattle.sat_ask.specs.Asks as asks
 use Rattle.sat_ask.specs.Asks.{Asks}
@@ -67,12 +65,6 @@ same-at terms from (a ∷ rest) (u ∷ us) v w (suc k) width fit h e at =
 same-at terms from [] (u ∷ us) v w k width fit h e at = absurd h
 same-at terms from (a ∷ rest) [] v w k width fit h e at = absurd h
 
-fits-written : (widths : List ℕ) (digits : List Bool) → length digits ≡ total widths → Fits widths (numbers_of widths digits)
-fits-written [] digits long = tt
-fits-written (w ∷ ws) digits long =
-    let taken : length (take w digits) ≡ w = length-take-le w digits (omega (arith, long)) in
-    (subst (λ k. number_of (take w digits) < 2 ^ k) taken (number-below (take w digits)), fits-written ws (drop w digits) (omega (arith, length-drop w digits, long)))
-
 module _ (terms : List Term) (goal : TermId) (order : List TermId) (widths : List ℕ) (fit : AreFit [] terms) (is : IsOrder terms order widths) (within : goal.index < length terms) where
   same_test : (digits : List Bool) → length digits ≡ total widths → goal_test terms goal order digits ≡ number_test terms goal (numbers_of widths digits)
   same_test digits long =
@@ -80,7 +72,7 @@ module _ (terms : List Term) (goal : TermId) (order : List TermId) (widths : Lis
       let names = variables_are terms 0 order widths is.numbered in
       let v : ℕ → ℕ → ℕ = assigned_by (variables_from 0 widths) digits in
       let written = numbers-written terms 0 order widths v digits fit is.numbered (λ number width le. refl) long in
-      let looked = numbers-looked terms 0 order widths (looked_up numbers) numbers fit is.numbered (λ i width. let e : 0 + i ≡ i = omega arith in ap (slice_index numbers) e) (fits-written widths digits long) in
+      let looked = numbers-looked terms 0 order widths (looked_up numbers) numbers fit is.numbered (λ i width. let e : 0 + i ≡ i = omega arith in ap (slice_index numbers) e) (fits-numbers widths digits long) in
       let values : value_of v (tree_in terms goal) ≡ value_of (looked_up numbers) (tree_in terms goal) =
       agree v (looked_up numbers) (tree_in terms goal) (λ x m.
       let at = terms_only (IsNumbered widths) terms goal fit is.named within x m in
