@@ -1,0 +1,4 @@
+mod Answered
+mod Growing
+mod Mentioned
+mod Numbered

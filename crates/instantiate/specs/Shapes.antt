@@ -1,0 +1,29 @@
+-- What the points of a pair look like, and the terms of their numbers in order.
+use Rattle.std.specs.Prelude.{◌≡◌, ℕ, List, [], ◌∷◌, ◌++◌}
+use Rattle.std.specs.List.{flat_map}
+use Rattle.points.specs.declared.point.Bounds.{Bounds}
+use Rattle.points.specs.declared.point.Shape.{Shape}
+use Rattle.points.specs.Pair.{Functions}
+use Rattle.points.specs.Tapes.{need_of, widest_choice}
+use Rattle.bv_terms.specs.declared.term.TermId.{TermId}
+use Rattle.mem_terms.specs.declared.inputs.ArgTerms.{ArgTerms}
+use Rattle.mem_terms.specs.declared.inputs.ByteTerms.{ByteTerms}
+use Rattle.mem_terms.specs.declared.inputs.InputTerms.{InputTerms}
+
+-- the shape of a pair's points
+pub record IsShapeOf (pair : Functions) (bounds : Bounds) (s : Shape) : Type 0 where
+  pub parameters : s.parameters ≡ pair.target.parameters
+  pub blocks : s.blocks ≡ bounds.blocks
+  pub bytes : s.bytes ≡ bounds.bytes
+  pub words : s.words ≡ need_of bounds.turns pair.target
+  pub word_width : s.word_width.bits ≡ widest_choice pair.target
+
+abbrev pub arg_ids : ArgTerms → List TermId
+arg_ids a = a.flag ∷ a.number ∷ []
+
+abbrev pub byte_ids : ByteTerms → List TermId
+byte_ids b = b.kind ∷ b.number ∷ b.block ∷ b.offset ∷ b.part ∷ []
+
+-- the terms of the numbers before the tape, in the order of the code
+abbrev pub input_ids : InputTerms → List TermId
+input_ids input = flat_map arg_ids input.args ++ (input.sizes ++ flat_map (flat_map byte_ids) input.places)

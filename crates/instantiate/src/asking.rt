@@ -1,0 +1,41 @@
+//! Questions in numbers.
+
+ghost use Rattle.std.specs.Prelude.{◌<◌, IfOk, IfSome};
+ghost use Rattle.bv_terms.specs.Trees.{IsTerm};
+ghost use Rattle.front_order.specs.Fronts.{AreWidths};
+ghost use Rattle.instantiate.specs.Numbers.{IsFoundNumbers, number_test};
+ghost use Rattle.instantiate.specs.Orders.{IsOrder};
+
+use crate::found::Found;
+use bv_terms::{TermId, Terms};
+use front_order::numbers_of;
+use sat_ask::{Asked, ask};
+use std::alloc::Global;
+use support::{NoMemory, Sequence};
+
+/// The least numbers that make the goal true, one for each variable of the order, which has all
+/// variables of the terms, with these widths, each at most 64 bits.
+pub fn least_numbers(
+    alloc: Global,
+    terms: &Terms,
+    goal: TermId,
+    order: &[TermId],
+    widths: &[u32],
+    limit: Option<u64>,
+) -> Result<Found<Sequence<u64>>, NoMemory>
+    requires goal { IsTerm terms.now 1 goal }
+    requires order { IsOrder terms.now order.now widths.now }
+    requires widths { AreWidths widths.now }
+    requires limit { IfSome limit (λ n. 0 < n) }
+    ensures { IfOk result (IsFoundNumbers (number_test terms.now goal) widths.now limit) }
+{
+    terms.as_slice();
+    match ask(alloc, terms, goal, order, limit)? {
+        Asked::Least(digits) => {
+            let numbers = numbers_of(alloc, widths, digits.as_slice())?;
+            Ok(Found::Least(Sequence::from_vec(numbers)))
+        }
+        Asked::None(cert) => Ok(Found::None(cert)),
+        Asked::Spent(cert) => Ok(Found::Spent(cert)),
+    }
+}

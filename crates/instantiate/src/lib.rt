@@ -1,0 +1,18 @@
+//! The verdict on a pair of functions by questions to the solver.
+//!
+//! It promises that the verdict, the trail of points and tapes, and the certificate go together: a
+//! verdict of `correct` or `incorrect` comes with a refutation of the last question of its trail. It
+//! asks two questions, in turn: for the least point that neither a shift of its tape nor a tape so
+//! far covers, and for the least tape that covers it. It stands on `encoder` and `refine_terms`,
+//! which write a pair as terms, and `sat_ask`, which asks the solver; the driver stands above it.
+#![tactic(auto)]
+
+mod asking;
+mod found;
+mod questions;
+mod settled;
+mod settling;
+mod variables;
+
+pub use settled::{Kept, Settled};
+pub use settling::settle;
