@@ -56,6 +56,7 @@ use Rattle.ir_reader.specs.Grammar.{follows_parameter, parameter_begins, with_pa
 use Rattle.ir_reader.specs.Numbering.{Numbered, so, each_in, parameter_in, inst_in, value_in, typed_in, entry_in, phi_in, case_in, branch_in, cond_branch_in, switch_in, terminator_in, block_in, labelled_in, blocks_in, parts_in, returned_in, function_of, named_behind, entry_name, type_or_void, numbered}
 use Rattle.ir_reader.specs.Functions.{IsFunction, well_formed, tested, unfit, past}
 use Rattle.ir_reader.specs.Module.{AreEntries, tokens_of}
+use Rattle.ir_tree.specs.WellFormed.{IsWellFormed}
 use Rattle.ir_reader.specs.Judgeable.{IsIntegerOrVoid, IsJudgeable, IsJudgeableEntry}
 use Rattle.ir_reader.proofs.NumberedSites.{then-so, named-count, block_with}
 
@@ -399,9 +400,9 @@ blocks-made names label entry others bs after e first few =
     let is : F.value ∷ M.value ≡ bs = cc M.later in
     subst (λ (ys : List Block). AreMade (count_of entry + sum_by block_count others) ys) is (more-made entry F.value _ M.value (block-made names label entry F.value F.mid F.first first) (others-made others F.mid M.value M.mid M.first few))
 
-judgeable : (w : WrittenFunction) → AreFew w → IsJudgeable (numbered w)
+judgeable : (w : WrittenFunction) → AreFew w → IsWellFormed (numbered w) → IsJudgeable (numbered w)
 unfolding numbered parts_in
-judgeable w few = go (parts_in named_ones label w.entry w.others) refl
+judgeable w few formed = go (parts_in named_ones label w.entry w.others) refl formed
   where
     named_ones : List NamedParameter
     named_ones = named_behind [] w.parameters
@@ -409,8 +410,8 @@ judgeable w few = go (parts_in named_ones label w.entry w.others) refl
     label : Name
     label = entry_name w
 
-    go : (m : Numbered (List Parameter × List Block)) → parts_in named_ones label w.entry w.others ≡ m → IsJudgeable (function_of w m)
-    go (so parts names) e =
+    go : (m : Numbered (List Parameter × List Block)) → parts_in named_ones label w.entry w.others ≡ m → IsWellFormed (function_of w m) → IsJudgeable (function_of w m)
+    go (so parts names) e formed =
         let P = then-so (each_in parameter_in [] named_ones) _ parts names e in
         let B = then-so (blocks_in P.mid label w.entry w.others) _ parts names P.later in
         let parts-are : (let p : List Parameter × List Block = (P.value, B.value) in p) ≡ parts = cc B.later in
@@ -419,6 +420,7 @@ judgeable w few = go (parts_in named_ones label w.entry w.others) refl
         let F = few.blocks.1 in
         let M = blocks-made P.mid label w.entry w.others B.value B.mid B.first F.first F.later in
         record {
+          well_formed = formed;
           limits = record {
             parameters = omega (arith, few.parameters, each-length parameter_in named_ones [] P.value P.mid P.first, named-count [] w.parameters, ap length ps);
             instructions = omega (arith, F.counted, M.count, ap (λ (ys : List Block). sum_by instructions_of ys) bs);
@@ -430,7 +432,7 @@ judgeable w few = go (parts_in named_ones label w.entry w.others) refl
         }
 
 function-judgeable : (tokens : List Lexeme) (a : Result Function Refused) (f : Function) → IsFunction tokens a → a ≡ Ok f → IsJudgeable f
-function-judgeable tokens _ f (well_formed w s W) e = let same : numbered w ≡ f = cc e in subst IsJudgeable same (judgeable w (function-few w tokens [] s))
+function-judgeable tokens _ f (well_formed w s W) e = let same : numbered w ≡ f = cc e in subst IsJudgeable same (judgeable w (function-few w tokens [] s) W)
 function-judgeable tokens _ f (tested w why refused s R) e = absurd (cc e)
 function-judgeable tokens _ f (unfit why rest U) e = absurd (cc e)
 function-judgeable tokens _ f (past rest P) e = absurd (cc e)

@@ -4,16 +4,17 @@ use Rattle.std.proofs.lemmas.Bool.{cases_order}
 use Rattle.points.specs.declared.point.Bounds.{Bounds}
 use Rattle.points.specs.declared.point.Budget.{Budget}
 use Rattle.points.specs.declared.point.Point.{Point}
+use Rattle.points.specs.declared.verdict.Kept.{Kept}
 use Rattle.points.specs.declared.verdict.Verdict.{Verdict}
 use Rattle.points.specs.declared.verdict.Verdict.TheVariants.{Correct, Incorrect, Unknown}
 use Rattle.points.specs.declared.verdict.Cause.TheVariants.{Weight, Rounds, Conflicts}
 use Rattle.points.specs.Pair.{Functions}
 use Rattle.points.specs.Code.{number_of}
 use Rattle.points.specs.Range.{AreInRange}
-use Rattle.points.specs.Weight.{IsTooLarge}
+use Rattle.points.specs.Weight.{IsHeavy}
 use Rattle.points.specs.Tapes.{need_of, widest_choice}
 use Rattle.points.specs.Covers.{IsLeastCover, HasNoCover}
-use Rattle.points.specs.Trail.{IsPoint, place_in, IsLeastUncovered, AreAllCovered, Kept, TrailFrom, HasCover, Ends, Judges, IsTrail}
+use Rattle.points.specs.Trail.{IsPoint, place_in, IsLeastUncovered, AreAllCovered, TrailFrom, HasCover, Ends, Judges, IsTrail}
 use Rattle.points.specs.Laws.{VerdictsAreOne}
 use Rattle.points.proofs.Order.{number_of-same}
 use Rattle.points.proofs.Words.{WordsFit-digits}
@@ -153,14 +154,14 @@ one_end pair bounds budget before (t ∷ ts) (u ∷ us) (p ∷ ps) [] v w range 
 
 -- ---- the verdict
 
-record IsTooLargeEnd (pair : Functions) (bounds : Bounds) (budget : Budget) (v : Verdict) : Type 0 where
+record IsHeavyEnd (pair : Functions) (bounds : Bounds) (budget : Budget) (v : Verdict) : Type 0 where
   is : v ≡ Unknown Weight
-  too_large : IsTooLarge pair bounds budget
+  heavy : IsHeavy pair bounds budget
 
-judged_as : (pair : Functions) (bounds : Bounds) (budget : Budget) (kept : Kept) (v : Verdict) → Judges pair bounds budget kept v → IsTrail pair bounds budget kept v ⊎ IsTooLargeEnd pair bounds budget v
+judged_as : (pair : Functions) (bounds : Bounds) (budget : Budget) (kept : Kept) (v : Verdict) → Judges pair bounds budget kept v → IsTrail pair bounds budget kept v ⊎ IsHeavyEnd pair bounds budget v
 judged_as pair bounds budget kept Correct h = inl h
 judged_as pair bounds budget kept (Incorrect p) h = inl h
-judged_as pair bounds budget kept (Unknown Weight) h = inr (record { is = refl; too_large = h.too_large })
+judged_as pair bounds budget kept (Unknown Weight) h = inr (record { is = refl; heavy = h.heavy })
 judged_as pair bounds budget kept (Unknown Rounds) h = inl h
 judged_as pair bounds budget kept (Unknown Conflicts) h = inl h
 
@@ -169,10 +170,10 @@ verdicts_are_one = λ pair bounds budget v w range a b.
     elim (judged_as pair bounds budget a.kept v a.judges) as (λ _. v ≡ w) [
       | inl x ↦ elim (judged_as pair bounds budget b.kept w b.judges) as (λ _. v ≡ w) [
         | inl y ↦ one_end pair bounds budget [] a.kept.tapes b.kept.tapes a.kept.points b.kept.points v w range x.trail y.trail x.ends y.ends x.within y.within
-        | inr y ↦ absurd (x.not_too_large y.too_large)
+        | inr y ↦ absurd (x.not_heavy y.heavy)
       ]
       | inr x ↦ elim (judged_as pair bounds budget b.kept w b.judges) as (λ _. v ≡ w) [
-        | inl y ↦ absurd (y.not_too_large x.too_large)
+        | inl y ↦ absurd (y.not_heavy x.heavy)
         | inr y ↦ x.is ∙ sym y.is
       ]
     ]

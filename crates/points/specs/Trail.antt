@@ -3,6 +3,7 @@ use Rattle.std.specs.Prelude.{◌≡◌, ℕ, ◌<◌, ◌≤◌, List, [], ◌�
 use Rattle.points.specs.declared.point.Bounds.{Bounds}
 use Rattle.points.specs.declared.point.Budget.{Budget}
 use Rattle.points.specs.declared.point.Point.{Point}
+use Rattle.points.specs.declared.verdict.Kept.{Kept}
 use Rattle.points.specs.declared.verdict.Verdict.{Verdict}
 use Rattle.points.specs.declared.verdict.Verdict.TheVariants.{Correct, Incorrect, Unknown}
 use Rattle.points.specs.declared.verdict.Cause.TheVariants.{Weight, Rounds}
@@ -11,7 +12,7 @@ use Rattle.points.specs.Code.{ArgsFit, BlocksFit, WordsFit, place_of}
 use Rattle.points.specs.Run.{run_of, IsPlain}
 use Rattle.points.specs.Tapes.{need_of, widest_choice}
 use Rattle.points.specs.Covers.{covers, is_covered, IsLeastCover, HasNoCover}
-use Rattle.points.specs.Weight.{IsTooLarge}
+use Rattle.points.specs.Weight.{IsHeavy}
 
 -- an input within the bounds with a tape of the target, each of whose words is a choice that the target takes, or 0
 pub record IsPoint (pair : Functions) (bounds : Bounds) (p : Point) : Type 0 where
@@ -32,11 +33,6 @@ abbrev pub AreAllCovered : Functions → Bounds → List (List ℕ) → Type 0
 AreAllCovered pair bounds tapes = (q : Point) → IsPoint pair bounds q → is_covered pair bounds tapes q ≡ true
 
 -- ---- the trail
-
--- the tapes that were added, and the points that they were added for; the last point may have none
-pub record Kept : Type 0 where
-  pub tapes : List (List ℕ)
-  pub points : List Point
 
 -- each point is the least that neither a shift nor an earlier tape covers, and each tape the least that covers its point; `before` are the tapes that stood when it began
 abbrev pub TrailFrom : Functions → Bounds → List (List ℕ) → List (List ℕ) → List Point → Type 0
@@ -65,14 +61,14 @@ Ends pair bounds budget tapes (Some p) (Unknown Rounds) = (length tapes ≡ budg
 Ends pair bounds budget tapes _ _ = ⊥
 
 pub record IsTrail (pair : Functions) (bounds : Bounds) (budget : Budget) (kept : Kept) (v : Verdict) : Type 0 where
-  pub not_too_large : ¬ IsTooLarge pair bounds budget
+  pub not_heavy : ¬ IsHeavy pair bounds budget
   pub trail : TrailFrom pair bounds [] kept.tapes kept.points
   pub within : length kept.tapes ≤ budget.rounds
   pub ends : Ends pair bounds budget kept.tapes (open_point kept) v
 
--- a pair that is too large has no trail
+-- a pair that is too heavy has no trail
 pub record IsNoTrail (pair : Functions) (bounds : Bounds) (budget : Budget) (kept : Kept) : Type 0 where
-  pub too_large : IsTooLarge pair bounds budget
+  pub heavy : IsHeavy pair bounds budget
   pub tapes : kept.tapes ≡ []
   pub points : kept.points ≡ []
 

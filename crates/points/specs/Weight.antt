@@ -1,5 +1,5 @@
--- How heavy a pair is, and when it is too large to be judged.
-use Rattle.std.specs.Prelude.{ℕ, ◌+◌, ◌*◌, ◌<◌, ◌⊎◌, List, length, sum_by}
+-- How heavy a pair is, and when it is too heavy to be judged.
+use Rattle.std.specs.Prelude.{ℕ, ◌+◌, ◌*◌, ◌<◌, List, length, sum_by}
 use Rattle.ir_tree.specs.declared.tree.IrType.{IrType}
 use Rattle.ir_tree.specs.declared.tree.IrType.TheVariants as type
 use Rattle.ir_tree.specs.declared.tree.Parameter.{Parameter}
@@ -65,22 +65,6 @@ cost_of f = sum_by block_cost f.blocks
 abbrev pub weight_of : Functions → Bounds → ℕ
 weight_of pair bounds = (bounds.turns + 1) * (cost_of pair.source + cost_of pair.target)
 
--- ---- what counting can go through
-
-abbrev pub type_bits : IrType → ℕ
-type_bits (type.Int width) = width.bits
-type_bits type.Ptr = 0
-
-abbrev pub parameter_bits : List Parameter → ℕ
-parameter_bits ps = sum_by (λ (p : Parameter). type_bits p.of_type) ps
-
--- the bits of a function's choices in one run
-abbrev pub tape_bits : Bounds → Function → ℕ
-tape_bits bounds f = need_of bounds.turns f * widest_choice f
-
-abbrev pub bits_of : Functions → Bounds → ℕ
-bits_of pair bounds = parameter_bits pair.target.parameters + tape_bits bounds pair.target + tape_bits bounds pair.source
-
--- its weight is above the limit, or it has more than 16 bits to count through
-abbrev pub IsTooLarge : Functions → Bounds → Budget → Type 0
-IsTooLarge pair bounds budget = (budget.weight < weight_of pair bounds) ⊎ (16 < bits_of pair bounds)
+-- its weight is above the limit
+abbrev pub IsHeavy : Functions → Bounds → Budget → Type 0
+IsHeavy pair bounds budget = budget.weight < weight_of pair bounds

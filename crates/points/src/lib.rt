@@ -35,4 +35,4 @@ pub use point_steps::next;
 pub use reading::point_of;
 pub use refinement::{refines, returned_is_allowed};
 pub use steps::{next_args, next_words, zero_from};
-pub use verdict::{Cause, Shown, Verdict};
+pub use verdict::{Cause, Kept, Shown, Verdict};

@@ -1,5 +1,6 @@
 use crate::outcome::Outcome;
 use crate::point::Point;
+use support::Sequence;
 
 /// What was spent where there is no verdict.
 #[derive(Clone, Copy, Debug, PartialEq, Eq)]
@@ -16,6 +17,14 @@ pub enum Verdict {
     /// The least point that no choices of the source cover.
     Incorrect(Point),
     Unknown(Cause),
+}
+
+/// The tapes of the source that were added on the way to a verdict, and the points that they were
+/// added for, in order. The last point may have no tape.
+#[derive(Drop)]
+pub struct Kept {
+    pub tapes: Sequence<Sequence<u64>>,
+    pub points: Sequence<Point>,
 }
 
 /// What a counterexample shows: the target's outcome on the point, the source's outcome on the tape

@@ -1,4 +1,4 @@
--- Two modules have one list of rows, as a pair has one verdict.
+-- Two modules have one list of rows, where a judge may tell one verdict of each pair.
 use Rattle.std.proofs.Common.{◌≡◌, refl, sym, ap, subst, ◌∙◌, List, [], ◌∷◌, ◌++◌, Option, Some, None, Result, Ok, Err, Bool, true, false, ℕ}
 use Rattle.ir_tree.specs.declared.name.Name.{Name}
 use Rattle.ir_tree.specs.declared.tree.Function.{Function}
@@ -6,19 +6,17 @@ use Rattle.ir_tree.specs.declared.module.Refused.{Refused}
 use Rattle.ir_tree.specs.declared.module.Entry.{Entry}
 use Rattle.points.specs.declared.outcome.Outcome.{Outcome}
 use Rattle.points.specs.declared.point.Bounds.{Bounds}
-use Rattle.points.specs.declared.point.Budget.{Budget}
 use Rattle.points.specs.declared.point.Point.{Point}
 use Rattle.points.specs.declared.verdict.Cause.{Cause}
 use Rattle.points.specs.declared.verdict.Shown.{Shown}
+use Rattle.points.specs.declared.verdict.Verdict.{Verdict}
 use Rattle.points.specs.declared.verdict.Verdict.TheVariants as verdict
-use Rattle.points.specs.Laws.{VerdictsAreOne}
 use Rattle.points.specs.Pair.{Functions, same_signature}
-use Rattle.points.specs.Range.{AreInRange}
 use Rattle.points.specs.Shown.{IsShown}
 use Rattle.report.specs.declared.row.Finding.{Finding}
 use Rattle.report.specs.declared.row.Finding.TheVariants as finding
 use Rattle.report.specs.declared.row.Row.{Row}
-use Rattle.report.specs.Rows.{function_named, IsJudged, IsCompared, IsFinding, IsRow, AreSourceRows, extra_rows, RowsAreOne}
+use Rattle.report.specs.Rows.{function_named, IsJudged, IsCompared, IsFinding, IsRow, AreSourceRows, extra_rows, TellsOne, RowsAreOne}
 
 same_shown : (t t' s s' : Outcome) (r r' : ℕ) → t ≡ t' → s ≡ s' → r ≡ r' → ◌≡◌ {A = Shown} (record { target = t; source = s; read = r }) (record { target = t'; source = s'; read = r' })
 same_shown t t' s s' r r' p q e = cc
@@ -47,62 +45,62 @@ same_incorrect pair bounds p q s t e x y =
     let g : s ≡ t = shown_one pair bounds q s t f y in
     cc (e, g)
 
-judged_one : VerdictsAreOne → (bounds : Bounds) (budget : Budget) → AreInRange bounds budget → (pair : Functions) (found other : Finding) → IsJudged bounds budget pair found → IsJudged bounds budget pair other → found ≡ other
-judged_one one bounds budget fits pair finding.Correct finding.Correct x y = refl
-judged_one one bounds budget fits pair finding.Correct (finding.Incorrect q t) x y = absurd (correct-incorrect q (one pair bounds budget _ _ fits x y.0))
-judged_one one bounds budget fits pair finding.Correct (finding.Unknown b) x y = absurd (correct-unknown b (one pair bounds budget _ _ fits x y))
-judged_one one bounds budget fits pair (finding.Incorrect p s) finding.Correct x y = absurd (correct-incorrect p (one pair bounds budget _ _ fits y x.0))
-judged_one one bounds budget fits pair (finding.Incorrect p s) (finding.Incorrect q t) x y = same_incorrect pair bounds p q s t (point_of p q (one pair bounds budget _ _ fits x.0 y.0)) x.1 y.1
-judged_one one bounds budget fits pair (finding.Incorrect p s) (finding.Unknown b) x y = absurd (incorrect-unknown p b (one pair bounds budget _ _ fits x.0 y))
-judged_one one bounds budget fits pair (finding.Unknown a) finding.Correct x y = absurd (correct-unknown a (one pair bounds budget _ _ fits y x))
-judged_one one bounds budget fits pair (finding.Unknown a) (finding.Incorrect q t) x y = absurd (incorrect-unknown q a (one pair bounds budget _ _ fits y.0 x))
-judged_one one bounds budget fits pair (finding.Unknown a) (finding.Unknown b) x y = ap finding.Unknown (cause_of a b (one pair bounds budget _ _ fits x y))
-judged_one one bounds budget fits pair finding.Correct (finding.Refused side refused) x y = absurd y
-judged_one one bounds budget fits pair finding.Correct finding.Signature x y = absurd y
-judged_one one bounds budget fits pair finding.Correct finding.Missing x y = absurd y
-judged_one one bounds budget fits pair finding.Correct finding.Extra x y = absurd y
-judged_one one bounds budget fits pair (finding.Incorrect p s) (finding.Refused side refused) x y = absurd y
-judged_one one bounds budget fits pair (finding.Incorrect p s) finding.Signature x y = absurd y
-judged_one one bounds budget fits pair (finding.Incorrect p s) finding.Missing x y = absurd y
-judged_one one bounds budget fits pair (finding.Incorrect p s) finding.Extra x y = absurd y
-judged_one one bounds budget fits pair (finding.Unknown a) (finding.Refused side refused) x y = absurd y
-judged_one one bounds budget fits pair (finding.Unknown a) finding.Signature x y = absurd y
-judged_one one bounds budget fits pair (finding.Unknown a) finding.Missing x y = absurd y
-judged_one one bounds budget fits pair (finding.Unknown a) finding.Extra x y = absurd y
-judged_one one bounds budget fits pair (finding.Refused side refused) other x y = absurd x
-judged_one one bounds budget fits pair finding.Signature other x y = absurd x
-judged_one one bounds budget fits pair finding.Missing other x y = absurd x
-judged_one one bounds budget fits pair finding.Extra other x y = absurd x
+judged_one : (tells : Functions → Verdict → Type 0) → TellsOne tells → (bounds : Bounds) → (pair : Functions) (found other : Finding) → IsJudged tells bounds pair found → IsJudged tells bounds pair other → found ≡ other
+judged_one tells one bounds pair finding.Correct finding.Correct x y = refl
+judged_one tells one bounds pair finding.Correct (finding.Incorrect q t) x y = absurd (correct-incorrect q (one pair _ _ x y.0))
+judged_one tells one bounds pair finding.Correct (finding.Unknown b) x y = absurd (correct-unknown b (one pair _ _ x y))
+judged_one tells one bounds pair (finding.Incorrect p s) finding.Correct x y = absurd (correct-incorrect p (one pair _ _ y x.0))
+judged_one tells one bounds pair (finding.Incorrect p s) (finding.Incorrect q t) x y = same_incorrect pair bounds p q s t (point_of p q (one pair _ _ x.0 y.0)) x.1 y.1
+judged_one tells one bounds pair (finding.Incorrect p s) (finding.Unknown b) x y = absurd (incorrect-unknown p b (one pair _ _ x.0 y))
+judged_one tells one bounds pair (finding.Unknown a) finding.Correct x y = absurd (correct-unknown a (one pair _ _ y x))
+judged_one tells one bounds pair (finding.Unknown a) (finding.Incorrect q t) x y = absurd (incorrect-unknown q a (one pair _ _ y.0 x))
+judged_one tells one bounds pair (finding.Unknown a) (finding.Unknown b) x y = ap finding.Unknown (cause_of a b (one pair _ _ x y))
+judged_one tells one bounds pair finding.Correct (finding.Refused side refused) x y = absurd y
+judged_one tells one bounds pair finding.Correct finding.Signature x y = absurd y
+judged_one tells one bounds pair finding.Correct finding.Missing x y = absurd y
+judged_one tells one bounds pair finding.Correct finding.Extra x y = absurd y
+judged_one tells one bounds pair (finding.Incorrect p s) (finding.Refused side refused) x y = absurd y
+judged_one tells one bounds pair (finding.Incorrect p s) finding.Signature x y = absurd y
+judged_one tells one bounds pair (finding.Incorrect p s) finding.Missing x y = absurd y
+judged_one tells one bounds pair (finding.Incorrect p s) finding.Extra x y = absurd y
+judged_one tells one bounds pair (finding.Unknown a) (finding.Refused side refused) x y = absurd y
+judged_one tells one bounds pair (finding.Unknown a) finding.Signature x y = absurd y
+judged_one tells one bounds pair (finding.Unknown a) finding.Missing x y = absurd y
+judged_one tells one bounds pair (finding.Unknown a) finding.Extra x y = absurd y
+judged_one tells one bounds pair (finding.Refused side refused) other x y = absurd x
+judged_one tells one bounds pair finding.Signature other x y = absurd x
+judged_one tells one bounds pair finding.Missing other x y = absurd x
+judged_one tells one bounds pair finding.Extra other x y = absurd x
 
-compared_one : VerdictsAreOne → (bounds : Bounds) (budget : Budget) → AreInRange bounds budget → (pair : Functions) (same : Bool) (found other : Finding) → IsCompared bounds budget pair same found → IsCompared bounds budget pair same other → found ≡ other
-compared_one one bounds budget fits pair true found other x y = judged_one one bounds budget fits pair found other x y
-compared_one one bounds budget fits pair false found other x y = x ∙ sym y
+compared_one : (tells : Functions → Verdict → Type 0) → TellsOne tells → (bounds : Bounds) → (pair : Functions) (same : Bool) (found other : Finding) → IsCompared tells bounds pair same found → IsCompared tells bounds pair same other → found ≡ other
+compared_one tells one bounds pair true found other x y = judged_one tells one bounds pair found other x y
+compared_one tells one bounds pair false found other x y = x ∙ sym y
 
-finding_one : VerdictsAreOne → (bounds : Bounds) (budget : Budget) → AreInRange bounds budget → (source : Result Function Refused) (target : Option (Result Function Refused)) (found other : Finding) → IsFinding bounds budget source target found → IsFinding bounds budget source target other → found ≡ other
-finding_one one bounds budget fits source None found other x y = x ∙ sym y
-finding_one one bounds budget fits (Err refused) (Some target) found other x y = x ∙ sym y
-finding_one one bounds budget fits (Ok f) (Some (Err refused)) found other x y = x ∙ sym y
-finding_one one bounds budget fits (Ok f) (Some (Ok g)) found other x y = compared_one one bounds budget fits (record { source = f; target = g }) (same_signature f g) found other x y
+finding_one : (tells : Functions → Verdict → Type 0) → TellsOne tells → (bounds : Bounds) → (source : Result Function Refused) (target : Option (Result Function Refused)) (found other : Finding) → IsFinding tells bounds source target found → IsFinding tells bounds source target other → found ≡ other
+finding_one tells one bounds source None found other x y = x ∙ sym y
+finding_one tells one bounds (Err refused) (Some target) found other x y = x ∙ sym y
+finding_one tells one bounds (Ok f) (Some (Err refused)) found other x y = x ∙ sym y
+finding_one tells one bounds (Ok f) (Some (Ok g)) found other x y = compared_one tells one bounds (record { source = f; target = g }) (same_signature f g) found other x y
 
 same_row : (n n' : Name) (f f' : Finding) → n ≡ n' → f ≡ f' → ◌≡◌ {A = Row} (record { name = n; finding = f }) (record { name = n'; finding = f' })
 same_row n n' f f' p q = cc
 
-row_one : VerdictsAreOne → (bounds : Bounds) (budget : Budget) → AreInRange bounds budget → (targets : List Entry) (source : Entry) (row other : Row) → IsRow bounds budget targets source row → IsRow bounds budget targets source other → row ≡ other
-row_one one bounds budget fits targets source row other x y =
-    same_row row.name other.name row.finding other.finding (x.name ∙ sym y.name) (finding_one one bounds budget fits source.function (function_named targets source.name) row.finding other.finding x.found y.found)
+row_one : (tells : Functions → Verdict → Type 0) → TellsOne tells → (bounds : Bounds) → (targets : List Entry) (source : Entry) (row other : Row) → IsRow tells bounds targets source row → IsRow tells bounds targets source other → row ≡ other
+row_one tells one bounds targets source row other x y =
+    same_row row.name other.name row.finding other.finding (x.name ∙ sym y.name) (finding_one tells one bounds source.function (function_named targets source.name) row.finding other.finding x.found y.found)
 
-source_rows_one : VerdictsAreOne → (bounds : Bounds) (budget : Budget) → AreInRange bounds budget → (targets sources : List Entry) (rows others : List Row) → AreSourceRows bounds budget targets sources rows → AreSourceRows bounds budget targets sources others → rows ≡ others
-source_rows_one one bounds budget fits targets [] [] [] x y = refl
-source_rows_one one bounds budget fits targets [] [] (other ∷ others) x y = absurd y
-source_rows_one one bounds budget fits targets [] (row ∷ rows) others x y = absurd x
-source_rows_one one bounds budget fits targets (source ∷ sources) [] others x y = absurd x
-source_rows_one one bounds budget fits targets (source ∷ sources) (row ∷ rows) [] x y = absurd y
-source_rows_one one bounds budget fits targets (source ∷ sources) (row ∷ rows) (other ∷ others) x y =
-    let e : row ≡ other = row_one one bounds budget fits targets source row other x.0 y.0 in
-    let f : rows ≡ others = source_rows_one one bounds budget fits targets sources rows others x.1 y.1 in
+source_rows_one : (tells : Functions → Verdict → Type 0) → TellsOne tells → (bounds : Bounds) → (targets sources : List Entry) (rows others : List Row) → AreSourceRows tells bounds targets sources rows → AreSourceRows tells bounds targets sources others → rows ≡ others
+source_rows_one tells one bounds targets [] [] [] x y = refl
+source_rows_one tells one bounds targets [] [] (other ∷ others) x y = absurd y
+source_rows_one tells one bounds targets [] (row ∷ rows) others x y = absurd x
+source_rows_one tells one bounds targets (source ∷ sources) [] others x y = absurd x
+source_rows_one tells one bounds targets (source ∷ sources) (row ∷ rows) [] x y = absurd y
+source_rows_one tells one bounds targets (source ∷ sources) (row ∷ rows) (other ∷ others) x y =
+    let e : row ≡ other = row_one tells one bounds targets source row other x.0 y.0 in
+    let f : rows ≡ others = source_rows_one tells one bounds targets sources rows others x.1 y.1 in
     cc (e, f)
 
-pub rows_are_one : VerdictsAreOne → RowsAreOne
-rows_are_one one bounds budget source target rows others fits x y =
-    let e : x.judged ≡ y.judged = source_rows_one one bounds budget fits target.entries source.entries x.judged y.judged x.each y.each in
+pub rows_are_one : RowsAreOne
+rows_are_one tells one bounds source target rows others x y =
+    let e : x.judged ≡ y.judged = source_rows_one tells one bounds target.entries source.entries x.judged y.judged x.each y.each in
     x.all ∙ ap (λ (js : List Row). js ++ extra_rows source.entries target.entries) e ∙ sym y.all

@@ -8,7 +8,7 @@ use Rattle.points.specs.declared.verdict.Verdict.TheVariants.{Correct, Incorrect
 use Rattle.points.specs.declared.verdict.Cause.TheVariants.{Weight, Rounds, Conflicts}
 use Rattle.points.specs.Pair.{Functions}
 use Rattle.points.specs.Covers.{IsLeastCover, HasNoCover}
-use Rattle.points.specs.Weight.{IsTooLarge}
+use Rattle.points.specs.Weight.{IsHeavy}
 use Rattle.points.specs.Trail.{TrailFrom, IsLeastUncovered, AreAllCovered, Ends, Judges, IsTrail, IsVerdict}
 use Rattle.points.proofs.Meaning.{cons_after}
 use Rattle.std.proofs.Common.{subst}
@@ -103,11 +103,11 @@ verdict_of_trail pair bounds budget (Unknown Weight) trail h = absurd (no_weight
     no_weight None e = e
     no_weight (Some p) e = e
 
-pub verdict_is : (pair : Functions) (bounds : Bounds) (budget : Budget) (v : Verdict) → (IsTooLarge pair bounds budget → ⊥) → HasTrail pair bounds budget v → IsVerdict pair bounds budget v
-verdict_is pair bounds budget v not_too_large trail = record {
+pub verdict_is : (pair : Functions) (bounds : Bounds) (budget : Budget) (v : Verdict) → (IsHeavy pair bounds budget → ⊥) → HasTrail pair bounds budget v → IsVerdict pair bounds budget v
+verdict_is pair bounds budget v not_heavy trail = record {
   kept = trail.kept;
-  judges = verdict_of_trail pair bounds budget v trail (record { not_too_large = not_too_large; trail = trail.trail; within = trail.within; ends = trail.ends });
+  judges = verdict_of_trail pair bounds budget v trail (record { not_heavy = not_heavy; trail = trail.trail; within = trail.within; ends = trail.ends });
 }
 
-pub too_large_is : (pair : Functions) (bounds : Bounds) (budget : Budget) → IsTooLarge pair bounds budget → IsVerdict pair bounds budget (Unknown Weight)
-too_large_is pair bounds budget h = record { kept = record { tapes = []; points = [] }; judges = record { too_large = h; tapes = refl; points = refl } }
+pub heavy_is : (pair : Functions) (bounds : Bounds) (budget : Budget) → IsHeavy pair bounds budget → IsVerdict pair bounds budget (Unknown Weight)
+heavy_is pair bounds budget h = record { kept = record { tapes = []; points = [] }; judges = record { heavy = h; tapes = refl; points = refl } }

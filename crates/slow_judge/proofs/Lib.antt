@@ -1,4 +1,5 @@
 pub mod Blocks
+pub mod Counted
 pub mod Covering
 pub mod Growing
 pub mod Order

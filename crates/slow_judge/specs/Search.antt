@@ -6,13 +6,14 @@ use Rattle.byte_block.specs.declared.block.MemoryBlock.{MemoryBlock}
 use Rattle.points.specs.declared.point.Bounds.{Bounds}
 use Rattle.points.specs.declared.point.Budget.{Budget}
 use Rattle.points.specs.declared.point.Point.{Point}
+use Rattle.points.specs.declared.verdict.Kept.{Kept}
 use Rattle.points.specs.declared.verdict.Verdict.{Verdict}
 use Rattle.points.specs.Pair.{Functions}
 use Rattle.points.specs.Code.{ArgsFit, WordsFit}
 use Rattle.points.specs.Run.{run_of, IsPlain}
 use Rattle.points.specs.Tapes.{need_of, widest_choice}
 use Rattle.points.specs.Covers.{is_covered, word_before, word_behind}
-use Rattle.points.specs.Trail.{place_in, Kept, TrailFrom, open_point, Ends}
+use Rattle.points.specs.Trail.{place_in, TrailFrom, open_point, Ends}
 use Rattle.choice_interp.specs.Runners.{IsRunner}
 use Rattle.slow_judge.specs.declared.bench.Bench.{Bench}
 use Rattle.slow_judge.specs.declared.cover.Shift.{Shift}
@@ -65,7 +66,7 @@ pub record IsReady (pair : Functions) (bounds : Bounds) (blocks : List MemoryBlo
   pub target : IsRunner pair.target blocks bench.target
   pub candidate : length bench.candidate ≡ need_of bounds.turns pair.source
 
--- the verdict of a pair that is not too large
+-- the verdict of a pair that is not too heavy
 pub record HasTrail (pair : Functions) (bounds : Bounds) (budget : Budget) (v : Verdict) : Type 0 where
   pub kept : Kept
   pub trail : TrailFrom pair bounds [] kept.tapes kept.points

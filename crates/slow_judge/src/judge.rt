@@ -4,17 +4,18 @@ ghost use Rattle.points.specs.Range.{AreInRange};
 ghost use Rattle.points.specs.Tapes.{need_of, widest_choice};
 ghost use Rattle.points.specs.Trail.{IsVerdict};
 ghost use Rattle.unroll.specs.Small.{AreSmall};
+ghost use Rattle.slow_judge.specs.Bits.{IsCounted};
 ghost use Rattle.slow_judge.specs.Search.{empty_blocks, IsReady, HasTrail};
 
 use crate::bench::Bench;
 use crate::cells::{blocks_without_bytes, zeros};
 use crate::search::{Tape, least_cover, least_uncovered};
-use crate::size::is_too_large;
+use crate::size::bits;
 use choice_interp::runner_for;
 use points::{Bounds, Budget, Cause, Pair, Verdict};
 use std::alloc::Global;
 use support::{NoMemory, Sequence};
-use unroll::{need, widest_of};
+use unroll::{need, weight, widest_of};
 
 fn bench_for(alloc: Global, pair: &Pair, bounds: &Bounds, need: usize) -> Result<Bench, NoMemory>
     requires { need ≡ need_of bounds.now.turns pair.now.source }
@@ -28,7 +29,7 @@ fn bench_for(alloc: Global, pair: &Pair, bounds: &Bounds, need: usize) -> Result
     })
 }
 
-/// The verdict on a pair that is not too large.
+/// The verdict on a pair that is not too heavy.
 fn grow(
     alloc: Global,
     pair: &Pair,
@@ -71,7 +72,7 @@ fn grow(
 }
 
 /// The verdict on a pair of functions with integer parameters. Its time grows with two to the power
-/// of the pair's bits, which are at most 16; a pair with more of them is told as too heavy.
+/// of the pair's bits.
 pub fn slow(
     alloc: Global,
     pair: &Pair,
@@ -85,7 +86,7 @@ pub fn slow(
     requires in_range { AreInRange bounds.now budget.now }
     ensures { IfOk result (IsVerdict pair.now bounds.now budget.now) }
 {
-    if is_too_large(pair, bounds, budget) {
+    if budget.weight < weight(pair, bounds) {
         return Ok(Verdict::Unknown(Cause::Weight));
     }
     let of_source = Tape {
@@ -98,4 +99,27 @@ pub fn slow(
     };
     let verdict = grow(alloc, pair, bounds, budget, of_source, of_target)?;
     Ok(verdict)
+}
+
+/// The most bits that counting goes through.
+const MOST_BITS: u64 = 16;
+
+/// The verdict on a pair of at most 16 bits; one with more of them is told as too heavy.
+pub fn counted(
+    alloc: Global,
+    pair: &Pair,
+    bounds: &Bounds,
+    budget: &Budget,
+) -> Result<Verdict, NoMemory>
+    requires source_limits { IsWithinLimits pair.now.source }
+    requires target_limits { IsWithinLimits pair.now.target }
+    requires source_integers { AreIntegers pair.now.source.parameters }
+    requires target_integers { AreIntegers pair.now.target.parameters }
+    requires in_range { AreInRange bounds.now budget.now }
+    ensures { IfOk result (IsCounted pair.now bounds.now budget.now) }
+{
+    if MOST_BITS < bits(pair, bounds) {
+        return Ok(Verdict::Unknown(Cause::Weight));
+    }
+    slow(alloc, pair, bounds, budget)
 }

@@ -1,11 +1,11 @@
-ghost use Rattle.std.specs.Prelude.{◌≡◌, ◌↔◌, ◌≤◌, length, IsTrue};
+ghost use Rattle.std.specs.Prelude.{◌≡◌, ◌≤◌, length};
 ghost use Rattle.ir_tree.specs.Limits.{IsWithinLimits};
-ghost use Rattle.points.specs.Weight.{type_bits, parameter_bits, tape_bits, bits_of, IsTooLarge};
 ghost use Rattle.unroll.specs.Small.{AreSmall};
+ghost use Rattle.slow_judge.specs.Bits.{type_bits, parameter_bits, tape_bits, bits_of};
 
 use ir_tree::{Function, IrType, Parameter};
-use points::{Bounds, Budget, Pair};
-use unroll::{need, weight, widest_of};
+use points::{Bounds, Pair};
+use unroll::{need, widest_of};
 
 fn bits_in(of_type: IrType) -> u64
     ensures value { result ≡ type_bits of_type }
@@ -33,7 +33,8 @@ fn bits_of_tape(f: &Function, bounds: &Bounds) -> u64
     need(f, bounds.turns) * widest_of(f).bits() as u64
 }
 
-fn bits(pair: &Pair, bounds: &Bounds) -> u64
+/// The bits of a pair's parameters and of the choices of one run of each function.
+pub fn bits(pair: &Pair, bounds: &Bounds) -> u64
     requires source { IsWithinLimits pair.now.source }
     requires target { IsWithinLimits pair.now.target }
     requires small { AreSmall bounds.now }
@@ -42,17 +43,4 @@ fn bits(pair: &Pair, bounds: &Bounds) -> u64
     bits_of_parameters(pair.target().parameters.as_slice())
         + bits_of_tape(pair.target(), bounds)
         + bits_of_tape(pair.source(), bounds)
-}
-
-/// The most bits that the judge counts through.
-const MOST_BITS: u64 = 16;
-
-/// Whether the pair's weight is above its limit, or it has more bits than counting goes through.
-pub fn is_too_large(pair: &Pair, bounds: &Bounds, budget: &Budget) -> bool
-    requires source { IsWithinLimits pair.now.source }
-    requires target { IsWithinLimits pair.now.target }
-    requires small { AreSmall bounds.now }
-    ensures { IsTrue result ↔ IsTooLarge pair.now bounds.now budget.now }
-{
-    budget.weight < weight(pair, bounds) || MOST_BITS < bits(pair, bounds)
 }

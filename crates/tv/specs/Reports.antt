@@ -6,6 +6,9 @@ use Rattle.ir_tree.specs.declared.module.Module.{Module}
 use Rattle.ir_reader.specs.Module.{IsModule}
 use Rattle.points.specs.declared.point.Bounds.{Bounds}
 use Rattle.points.specs.declared.point.Budget.{Budget}
+use Rattle.points.specs.declared.verdict.Verdict.{Verdict}
+use Rattle.points.specs.Pair.{Functions}
+use Rattle.slow_judge.specs.Bits.{IsCounted}
 use Rattle.report.specs.declared.row.Row.{Row}
 use Rattle.report.specs.Rows.{AreRows}
 use Rattle.report.specs.Text.{report_text}
@@ -29,10 +32,14 @@ pub record HasModule (file : Option (List ℕ)) (m : Module) : Type 0 where
   pub within : length text ≤ text_limit
   pub formed : IsModule text m
 
+-- what the judge may tell of a pair within bounds and a budget
+abbrev pub may_tell : Bounds → Budget → Functions → Verdict → Type 0
+may_tell bounds budget pair v = IsCounted pair bounds budget v
+
 -- the rows of two modules within bounds and a budget, as a text and as a status
 pub record IsReport (bounds : Bounds) (budget : Budget) (source target : Module) (text : List ℕ) (status : ℕ) : Type 0 where
   pub rows : List Row
-  pub are_rows : AreRows bounds budget source target rows
+  pub are_rows : AreRows (may_tell bounds budget) bounds source target rows
   pub text_is : text ≡ report_text bounds budget rows
   pub status_is : status ≡ status_of rows
 

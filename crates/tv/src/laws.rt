@@ -2,6 +2,7 @@ ghost use Rattle.tv.specs.Laws.{ReportsAreOne, FaultsAreOne, ModulesHaveNoFault}
 
 use ir_reader::is_one_module;
 use report::rows_are_one;
+use slow_judge::counted_is_one;
 
 /// Two files have one report, as a text has one module and a pair one verdict.
 pub fn reports_are_one()
@@ -9,6 +10,7 @@ pub fn reports_are_one()
 {
     is_one_module();
     rows_are_one();
+    counted_is_one();
 }
 
 /// Two files have one fault, as a text has one fault or a module.

@@ -5,6 +5,7 @@ ghost use Rattle.ir_reader.specs.Judgeable.{IsJudgeable, IsJudgeableEntry};
 ghost use Rattle.points.specs.Pair.{same_signature};
 ghost use Rattle.points.specs.Range.{AreInRange};
 ghost use Rattle.report.specs.Rows.{IsJudged, IsCompared, IsFinding, IsRow, AreSourceRows, AreRows, extra_rows};
+ghost use Rattle.tv.specs.Reports.{may_tell};
 ghost use Rattle.tv.specs.Searching.{entry_names, function_found};
 
 use crate::gate::Gate;
@@ -13,7 +14,7 @@ use ir_tree::{Entry, Function, Module, Names};
 use points::{Bounds, Budget, Pair, Verdict, has_same_signature};
 use replay::replay;
 use report::{Finding, Row, Side};
-use slow_judge::slow;
+use slow_judge::counted;
 use std::alloc::Global;
 use support::NoMemory;
 
@@ -37,7 +38,7 @@ pub fn all_rows<G: Gate>(
     requires target_names { IsDistinct same_name (entry_names target.now.entries) }
     requires source_judgeable { AllByRecursion IsJudgeableEntry source.now.entries }
     requires target_judgeable { AllByRecursion IsJudgeableEntry target.now.entries }
-    ensures { IfOk result (λ rows. AreRows limits.now.bounds limits.now.budget source.now target.now rows.items) }
+    ensures { IfOk result (λ rows. AreRows (may_tell limits.now.bounds limits.now.budget) limits.now.bounds source.now target.now rows.items) }
 {
     let sources = source.entries.as_slice();
     let targets = target.entries.as_slice();
@@ -57,7 +58,7 @@ fn source_rows<G: Gate>(
     requires target_names { IsDistinct same_name (entry_names targets.now) }
     requires source_judgeable { AllByRecursion IsJudgeableEntry sources.now }
     requires target_judgeable { AllByRecursion IsJudgeableEntry targets.now }
-    ensures { IfOk result (λ rows. AreSourceRows limits.now.bounds limits.now.budget targets.now sources.now rows.items) }
+    ensures { IfOk result (λ rows. AreSourceRows (may_tell limits.now.bounds limits.now.budget) limits.now.bounds targets.now sources.now rows.items) }
 {
     let names = names_of(alloc, targets)?;
     let mut rows = Vec::new(alloc);
@@ -81,7 +82,7 @@ fn source_row<G: Gate>(
     requires names { names.now ≡ entry_names targets.now }
     requires source_judgeable { IsJudgeableEntry source.now }
     requires target_judgeable { AllByRecursion IsJudgeableEntry targets.now }
-    ensures { IfOk result (IsRow limits.now.bounds limits.now.budget targets.now source.now) }
+    ensures { IfOk result (IsRow (may_tell limits.now.bounds limits.now.budget) limits.now.bounds targets.now source.now) }
 {
     let target = find(targets, names, &source.name);
     let finding = found_of(alloc, limits, gate, passed, source, target)?;
@@ -100,7 +101,7 @@ fn found_of<G: Gate>(
     requires in_range { AreInRange limits.now.bounds limits.now.budget }
     requires source_judgeable { IsJudgeableEntry source.now }
     requires target_judgeable { IfSome target (λ e. IsJudgeableEntry e.now) }
-    ensures { IfOk result (IsFinding limits.now.bounds limits.now.budget source.now.function (function_found target.entry)) }
+    ensures { IfOk result (IsFinding (may_tell limits.now.bounds limits.now.budget) limits.now.bounds source.now.function (function_found target.entry)) }
 {
     let Some(target) = target else {
         return Ok(Finding::Missing);
@@ -134,7 +135,7 @@ fn compared<G: Gate>(
     requires in_range { AreInRange limits.now.bounds limits.now.budget }
     requires source_judgeable { IsJudgeable source.now }
     requires target_judgeable { IsJudgeable target.now }
-    ensures { IfOk result (IsCompared limits.now.bounds limits.now.budget (record { source = source.now; target = target.now }) (same_signature source.now target.now)) }
+    ensures { IfOk result (IsCompared (may_tell limits.now.bounds limits.now.budget) limits.now.bounds (record { source = source.now; target = target.now }) (same_signature source.now target.now)) }
 {
     if !has_same_signature(source, target) {
         return Ok(Finding::Signature);
@@ -152,11 +153,11 @@ fn judged<G: Gate>(
     requires in_range { AreInRange limits.now.bounds limits.now.budget }
     requires source_judgeable { IsJudgeable pair.now.source }
     requires target_judgeable { IsJudgeable pair.now.target }
-    ensures { IfOk result (IsJudged limits.now.bounds limits.now.budget pair.now) }
+    ensures { IfOk result (IsJudged (may_tell limits.now.bounds limits.now.budget) limits.now.bounds pair.now) }
 {
     gate.pass(*passed);
     *passed = passed.saturating_add(1);
-    match slow(alloc, pair, &limits.bounds, &limits.budget)? {
+    match counted(alloc, pair, &limits.bounds, &limits.budget)? {
         Verdict::Correct => Ok(Finding::Correct),
         Verdict::Incorrect(point) => {
             let shown = replay(alloc, pair, &limits.bounds, &point)?;
