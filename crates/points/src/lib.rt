@@ -8,6 +8,7 @@
 
 mod byte_steps;
 mod codes;
+mod copies;
 mod laws;
 mod machine;
 mod outcome;
@@ -23,6 +24,7 @@ mod value_steps;
 mod verdict;
 
 pub use codes::code_of;
+pub use copies::copy_point;
 pub use laws::{
     codes_tell_points, correct_holds, incorrect_fails, least_covers_are_plain,
     numbers_compare_from_front, places_tell_points, tapes_have_plain_forms, verdicts_are_one,
