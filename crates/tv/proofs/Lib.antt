@@ -1,7 +1,7 @@
 pub mod Searches
-pub mod RowLists
 pub mod Files
 pub mod Stopping
+pub mod Answered
 pub mod Causes
 pub mod OneReport
 pub mod OneFault

@@ -1,16 +1,22 @@
-ghost use Rattle.tv.specs.Laws.{ReportsAreOne, FaultsAreOne, ModulesHaveNoFault};
+ghost use Rattle.tv.specs.Laws.{ReportsAreDefined, ReportsAreOne, FaultsAreOne, ModulesHaveNoFault};
 
 use ir_reader::is_one_module;
+use points::verdicts_are_one;
 use report::rows_are_one;
-use slow_judge::counted_is_one;
 
-/// Two files have one report, as a text has one module and a pair one verdict.
+/// Without a limit on conflicts the report is the one that the definition of a verdict gives.
+pub fn reports_are_defined()
+    ensures { ReportsAreDefined }
+{}
+
+/// And two files have one report then, as a text has one module and a pair one verdict.
 pub fn reports_are_one()
     ensures { ReportsAreOne }
 {
     is_one_module();
     rows_are_one();
-    counted_is_one();
+    verdicts_are_one();
+    reports_are_defined();
 }
 
 /// Two files have one fault, as a text has one fault or a module.

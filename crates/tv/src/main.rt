@@ -38,7 +38,15 @@ fn main(rt: HostRuntime) -> ExitCode {
             return ExitCode::from(4);
         }
     };
-    let status = run(&rt, words.as_slice(), &mut shelf, &mut out, &OpenGate);
+    let mut judged = Vec::new(rt.alloc());
+    let status = run(
+        &rt,
+        words.as_slice(),
+        &mut shelf,
+        &mut out,
+        &OpenGate,
+        &mut judged,
+    );
     ExitCode::from(status)
 }
 

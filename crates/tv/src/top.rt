@@ -13,6 +13,7 @@ use crate::gate::Gate;
 use crate::laws::modules_have_no_fault;
 use crate::lines::{why_words, write_fault};
 use crate::stop::{Stop, Trouble};
+use pair_driver::Judged;
 use support::NoMemory;
 use tv_io::{Shelf, Sink, write_line, write_whole};
 use tv_words::{Job, read_job};
@@ -27,22 +28,28 @@ use tv_words::{Job, read_job};
 /// report, with its reason and place. The first cause counts, in the order words, source text, target
 /// text, source module, target module, judging, report. The whole report is made before its first byte
 /// is written, and a fault's line takes no memory. Each pair that is judged passes the gate before.
+/// After status 0 to 3, and 7, `judged` holds the judge's answer for each row with a verdict, in row
+/// order: the trail and the certificate behind it. After any other it is as before.
 pub fn run<R: AllocGlobal, S: Shelf, K: Sink, G: Gate>(
     rt: &R,
     words: &[String],
     shelf: &mut S,
     out: &mut K,
     gate: &G,
+    judged: &mut Vec<Judged>,
 ) -> u8
-    // The headline: what is written is the report of the two files.
-    ensures report { result ≤ 3 → WhereTold (S.files shelf.old) (λ files. Written files (job_of (map string_bytes words.now)) result (K.taken out.old) (K.taken out.new)) }
+    // The headline: what is written is the report of the two files, each row the defined one, but
+    // `unknown conflicts` where the limit was spent on the row's own answer in `judged`.
+    ensures report { result ≤ 3 → WhereTold (S.files shelf.old) (λ files. Written files (job_of (map string_bytes words.now)) result judged.new.items (K.taken out.old) (K.taken out.new)) }
     // The words aren't a job, and exactly then, but for want of memory.
     ensures words { result ≡ 4 → job_of (map string_bytes words.now) ≡ None }
     ensures no_job { job_of (map string_bytes words.now) ≡ None → (result ≡ 4) ⊎ (result ≡ 8) }
     ensures words_line { result ≡ 4 → WritesLine (codes "words refused" ++ 10 ∷ []) (K.taken out.old) (K.taken out.new) (K.faults out.old) (K.faults out.new) }
     // The sink failed while the report was written.
     ensures sink { result ≡ 7 → Rose (K.faults out.old) (K.faults out.new) }
-    ensures part { result ≡ 7 → WhereTold (S.files shelf.old) (λ files. PartlyWritten files (job_of (map string_bytes words.now)) (K.taken out.old) (K.taken out.new)) }
+    ensures part { result ≡ 7 → WhereTold (S.files shelf.old) (λ files. PartlyWritten files (job_of (map string_bytes words.now)) judged.new.items (K.taken out.old) (K.taken out.new)) }
+    // Without a report the answers that stood stay.
+    ensures unjudged { 3 < result → result ≢ 7 → judged.new.items ≡ judged.old.items }
     // A text was not judged: 5 it can't be read, 6 it is too long, 9 it has a fault.
     ensures refused { 4 < result → result ≢ 7 → result ≢ 8 → Refuses (S.files shelf.old) (job_of (map string_bytes words.now))
         (record { faults = S.fetch_faults shelf.old; taken = S.bytes_taken shelf.old }) (record { faults = S.fetch_faults shelf.new; taken = S.bytes_taken shelf.new })
@@ -66,7 +73,11 @@ pub fn run<R: AllocGlobal, S: Shelf, K: Sink, G: Gate>(
         Err(NoMemory) => return 8,
     };
     match report_of(rt.alloc(), shelf, gate, &job) {
-        Ok(report) => send(out, &report),
+        Ok(report) => {
+            let status = send(out, &report);
+            *judged = report.answers;
+            status
+        }
         Err(stop) => refuse(out, stop, &job),
     }
 }

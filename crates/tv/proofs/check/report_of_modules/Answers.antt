@@ -6,7 +6,9 @@ use Rattle.tv.proofs.check.report_of_modules.Goals as goal
 pub returns : goal.returns
 returns g c = record {
   rows = c.in_ok-rows.rows.items;
-  are_rows = c.in_ok-rows.ensures;
-  text_is = c.in_ok-text.ensures ∙ ap (report_text c.args.limits.now.bounds c.args.limits.now.budget) c.as_slice-2.ensures.value;
+  are_rows = c.in_ok-rows.ensures.rows;
+  answered = c.in_ok-rows.ensures.answered;
+  told = c.in_ok-rows.ensures.told;
+  text_is = c.in_ok-text.ensures ∙ ap (report_text c.args.judge.now.bounds c.args.judge.now.budget) c.as_slice-2.ensures.value;
   status_is = c.status_of-status.ensures.value ∙ ap status_of c.as_slice.ensures.value;
 }

@@ -1,0 +1,43 @@
+-- In a well-formed function each return has a value where the header has a type.
+use Rattle.std.proofs.Common.{◌≡◌, ℕ, ◌<◌, arith, refl, ap, cc, Bool, true, false, is_some, All, List, [], ◌∷◌, length, slice_get, Option, Some, None, inl}
+use Rattle.std.specs.List.{Contains, get_or}
+use Rattle.std.proofs.lemmas.List.Elements.{All-from_get_or}
+use Rattle.std.proofs.lemmas.Option.{slice_get-get_or}
+use Rattle.ir_tree.specs.declared.tree.IrType.{IrType}
+use Rattle.ir_tree.specs.declared.tree.TypedOperand.{TypedOperand}
+use Rattle.ir_tree.specs.declared.tree.Terminator.{Terminator}
+use Rattle.ir_tree.specs.declared.tree.Terminator.TheVariants as terminator
+use Rattle.ir_tree.specs.declared.tree.Block.{Block}
+use Rattle.ir_tree.specs.declared.tree.Function.{Function}
+use Rattle.ir_tree.specs.declared.sites.Site.{Site}
+use Rattle.ir_tree.specs.declared.sites.Site.TheVariants.{Written}
+use Rattle.ir_tree.specs.Sites.{sites, terminator_sites}
+use Rattle.ir_tree.specs.WellFormed.{IsWellFormed}
+use Rattle.ir_tree.proofs.Standing.{end_site}
+use Rattle.instantiate.specs.Questions.{FitsReturn, ReturnsFit}
+
+-- no end of a block has a site that was wrongly written
+AllIsWell : Option IrType → Terminator → Type 0
+AllIsWell header end = Contains (terminator_sites header end) (Written false) → ⊥
+
+fits : (header : Option IrType) (end : Terminator) → AllIsWell header end → FitsReturn header end
+fits None (terminator.Return None) well = refl
+fits (Some type) (terminator.Return None) well = absurd (well (0, omega arith, refl))
+fits None (terminator.Return (Some returned)) well = absurd (well (0, omega arith, refl))
+fits (Some type) (terminator.Return (Some returned)) well = refl
+fits header (terminator.Branch to) well = tt
+fits header (terminator.CondBranch condition if_true if_false) well = tt
+fits header (terminator.Switch width operand default cases) well = tt
+fits header terminator.Unreachable well = tt
+
+ends_well : (f : Function) → IsWellFormed f → (k : ℕ) (b : Block) → slice_get f.blocks k ≡ Some b → AllIsWell f.returns b.terminator
+ends_well f formed k b stands wrong =
+    let at = end_site f k b (Written false) stands wrong in
+    formed.types at.0 (inl at.1.0)
+
+pub returns_fit : (f : Function) → IsWellFormed f → ReturnsFit f
+returns_fit f formed = go f.blocks (λ k b stands. fits f.returns b.terminator (ends_well f formed k b stands))
+  where
+    go : (bs : List Block) → ((k : ℕ) (b : Block) → slice_get bs k ≡ Some b → FitsReturn f.returns b.terminator) → All (λ (b : Block). FitsReturn f.returns b.terminator) bs
+    go [] each = All-from_get_or (λ (b : Block). FitsReturn f.returns b.terminator) [] _ (λ i h. absurd (omega (arith, h)))
+    go (b ∷ bs) each = All-from_get_or (λ (b : Block). FitsReturn f.returns b.terminator) (b ∷ bs) b (λ i h. each i (get_or (b ∷ bs) i b) (slice_get-get_or (b ∷ bs) i b h))

@@ -1,0 +1,60 @@
+-- Which pairs of two modules are judged, and what the judge answered of them.
+use Rattle.std.specs.Prelude.{◌≡◌, List, [], ◌∷◌, ◌++◌, map, Option, Some, None, Result, Ok, Err, if◌then◌else◌}
+use Rattle.std.specs.List.{flat_map}
+use Rattle.ir_tree.specs.declared.tree.Function.{Function}
+use Rattle.ir_tree.specs.declared.module.Refused.{Refused}
+use Rattle.ir_tree.specs.declared.module.Entry.{Entry}
+use Rattle.points.specs.declared.point.Bounds.{Bounds}
+use Rattle.points.specs.declared.point.Budget.{Budget}
+use Rattle.points.specs.declared.verdict.Shown.{Shown}
+use Rattle.points.specs.declared.verdict.Verdict.{Verdict}
+use Rattle.points.specs.declared.verdict.Verdict.TheVariants as verdict
+use Rattle.points.specs.Pair.{Functions, same_signature}
+use Rattle.points.specs.Shown.{IsShown}
+use Rattle.pair_driver.specs.declared.judged.Judged.{Judged}
+use Rattle.pair_judge.specs.Answers.{IsAnswer}
+use Rattle.report.specs.declared.row.Finding.{Finding}
+use Rattle.report.specs.declared.row.Finding.TheVariants as finding
+use Rattle.report.specs.declared.row.Row.{Row}
+use Rattle.report.specs.Rows.{function_named}
+
+-- a function of the source and the target's of its name are judged where both are accepted and their signatures are equal
+abbrev pub pairs_in : Result Function Refused → Option (Result Function Refused) → List Functions
+pairs_in (Ok f) (Some (Ok g)) = if same_signature f g then record { source = f; target = g } ∷ [] else []
+pairs_in _ _ = []
+
+-- the pairs of these functions of the source, in text order
+abbrev pub judged_pairs : List Entry → List Entry → List Functions
+judged_pairs targets sources = flat_map (λ (source : Entry). pairs_in source.function (function_named targets source.name)) sources
+
+-- an answer for each pair, in order
+abbrev pub AreAnswers : Bounds → Budget → List Functions → List Judged → Type 0
+AreAnswers bounds budget [] [] = Unit {0}
+AreAnswers bounds budget (pair ∷ pairs) (answer ∷ answers) = IsAnswer pair bounds budget answer × AreAnswers bounds budget pairs answers
+AreAnswers bounds budget _ _ = ⊥
+
+abbrev pub verdicts_in : Finding → List Verdict
+verdicts_in finding.Correct = verdict.Correct ∷ []
+verdicts_in (finding.Incorrect point shown) = verdict.Incorrect point ∷ []
+verdicts_in (finding.Unknown cause) = verdict.Unknown cause ∷ []
+verdicts_in _ = []
+
+-- the verdicts of the rows that have one, in order
+abbrev pub verdicts_of : List Row → List Verdict
+verdicts_of rows = flat_map (λ (row : Row). verdicts_in row.finding) rows
+
+abbrev pub told_by : List Judged → List Verdict
+told_by answers = map (λ (answer : Judged). answer.verdict) answers
+
+-- behind the answers that stood, one for each of these pairs, with these verdicts
+pub record IsAnswered (bounds : Bounds) (budget : Budget) (pairs : List Functions) (verdicts : List Verdict) (old new : List Judged) : Type 0 where
+  pub added : List Judged
+  pub behind : new ≡ old ++ added
+  pub each : AreAnswers bounds budget pairs added
+  pub told : verdicts ≡ told_by added
+
+-- the finding of a verdict, with what a counterexample shows
+abbrev pub ShowsVerdict : Functions → Bounds → Verdict → Finding → Type 0
+ShowsVerdict pair bounds verdict.Correct found = found ≡ finding.Correct
+ShowsVerdict pair bounds (verdict.Incorrect point) found = (shown : Shown) × (found ≡ finding.Incorrect point shown) × IsShown pair bounds point shown
+ShowsVerdict pair bounds (verdict.Unknown cause) found = found ≡ finding.Unknown cause
