@@ -6,10 +6,9 @@ use Rattle.points.specs.declared.machine.Machine.{Machine}
 use Rattle.unroll.specs.Layers.{Where, At, Done}
 use Rattle.bv_terms.specs.declared.term.Term.{Term}
 use Rattle.bv_terms.specs.Trees.{Keeps, Tests, bit_at}
-use Rattle.bv_terms.proofs.Keeping.{keeps_self}
 use Rattle.mem_terms.specs.Values.{Each}
 use Rattle.mem_terms.proofs.Eaches.{each-set}
-use Rattle.mem_terms.proofs.Later.{bit-later}
+use Rattle.mem_terms.proofs.Later.{bit-later, keeps_self}
 use Rattle.encoder.specs.declared.state.RunState.{RunState}
 use Rattle.encoder.specs.Runs.{Scene, IsState, Carries}
 use Rattle.encoder.specs.Frontier.{AreStates, IsUnreached, StandsAt, AheadTells}

@@ -22,11 +22,10 @@ use Rattle.unroll.specs.Layers.{edge_to, copy_of, layer_of, layers_of, copies_of
 use Rattle.bv_terms.specs.declared.term.TermId.{TermId}
 use Rattle.bv_terms.specs.declared.term.Term.{Term}
 use Rattle.bv_terms.specs.Trees.{Keeps, Tests, IsTerm, bit_at}
-use Rattle.bv_terms.proofs.Keeping.{keeps_self}
 use Rattle.mem_terms.specs.Values.{Each}
 use Rattle.mem_terms.specs.Inputs.{AreWords}
 use Rattle.mem_terms.proofs.Eaches.{each-set}
-use Rattle.mem_terms.proofs.Later.{keeps_trans, bit-later}
+use Rattle.mem_terms.proofs.Later.{keeps_self, keeps_trans, bit-later}
 use Rattle.encoder.specs.declared.state.RunState.{RunState}
 use Rattle.encoder.specs.declared.frontier.Frontier.{Frontier}
 use Rattle.encoder.specs.Runs.{Scene, Sees, IsTally, IsState, Counts, Carries, Course, Idle, Dead, Live, advanced, steps, Follows}

@@ -27,10 +27,10 @@ use Rattle.bv_terms.specs.Tree.{width_of}
 use Rattle.bv_terms.specs.Trees.{Keeps, Makes, Tests, IsTerm, bit_at, term_at, tree_in}
 use Rattle.mem_terms.specs.declared.inputs.ArgTerms.{ArgTerms}
 use Rattle.mem_terms.specs.declared.outcome.OutcomeTerms.{OutcomeTerms}
-use Rattle.mem_terms.specs.Values.{Each, AreSymValues, value_from, values_at}
+use Rattle.mem_terms.specs.Values.{Each, AreSymValues, value_from, value_at, values_at}
 use Rattle.mem_terms.specs.Inputs.{IsArg, AreArgs, AreWords, arg_at, args_at, argument_width, words_at}
 use Rattle.mem_terms.specs.Outcomes.{Shows, outcome_at}
-use Rattle.mem_terms.proofs.Eaches.{each-at, map-at, map-length}
+use Rattle.mem_terms.proofs.Eaches.{each-at, map-at, map-length, map-set}
 use Rattle.mem_terms.proofs.Later.{keeps_trans, bit-later, term-later, words_at-later, args_at-later, values-later}
 use Rattle.encoder.specs.declared.state.RunState.{RunState}
 use Rattle.encoder.specs.declared.ending.Ending.{Ending}
@@ -269,3 +269,61 @@ begin_carries old a b d f args first registers s ka kb kd hargs hr is poison giv
       memory = refl;
       block = refl;
     }
+
+-- ---- the arguments
+
+pub poison_stands : (terms : List Term) (s : SymValue) (n : ℕ) (rs : List SymValue) → rs ≡ replicate n s → ((v : ℕ → ℕ → ℕ) → value_at v terms s ≡ Poison) → (v : ℕ → ℕ → ℕ) → values_at v terms rs ≡ replicate n Poison
+poison_stands terms s n rs is h v = ap (values_at v terms) is ∙ (map-replicate (value_at v terms) n s ∙ ap (λ (x : Value). replicate n x) (h v))
+
+pub args_front : (terms : List Term) (parameters ps : List Parameter) (p : Parameter) (args rest : List ArgTerms) (a : ArgTerms) → parameters ≡ p ∷ ps → args ≡ a ∷ rest → AreArgs terms parameters args → IsArg terms (argument_width p.of_type) a × AreArgs terms ps rest
+args_front terms parameters ps p args rest a is are h = subst (λ (qs : List Parameter). AreArgs terms qs (a ∷ rest)) is (subst (λ (bs : List ArgTerms). AreArgs terms parameters bs) are h)
+
+pub args_none : (terms : List Term) (parameters ps : List Parameter) (p : Parameter) (args : List ArgTerms) → parameters ≡ p ∷ ps → args ≡ [] → AreArgs terms parameters args → ⊥
+args_none terms parameters ps p args is are h = subst (λ (qs : List Parameter). AreArgs terms qs []) is (subst (λ (bs : List ArgTerms). AreArgs terms parameters bs) are h)
+
+pub given_more : (a b : List Term) (k : Keeps a b) (parameters ps : List Parameter) (p : Parameter) (args rest : List ArgTerms) (arg : ArgTerms) (rs : List SymValue) (value : SymValue) (whole : (ℕ → ℕ → ℕ) → List Value)
+    → parameters ≡ p ∷ ps → args ≡ arg ∷ rest → AreArgs a parameters args → AreSymValues a rs → ((v : ℕ → ℕ → ℕ) → value_at v b value ≡ arg_at v a arg)
+    → ((v : ℕ → ℕ → ℕ) → with_args parameters (args_at v a args) (values_at v a rs) ≡ whole v)
+    → (v : ℕ → ℕ → ℕ) → with_args ps (args_at v b rest) (values_at v b (slice_set rs p.name value)) ≡ whole v
+given_more a b k parameters ps p args rest arg rs value whole is are h hr one so v =
+    let set : values_at v b (slice_set rs p.name value) ≡ slice_set (values_at v a rs) p.name (arg_at v a arg) = map-set (value_at v b) rs p.name value ∙ rw (one v, values-later a b k v rs hr) refl in
+    let further : args_at v b rest ≡ args_at v a rest = args_at-later a b k v ps rest (args_front a parameters ps p args rest arg is are h).1 in
+    let so' : with_args (p ∷ ps) (args_at v a (arg ∷ rest)) (values_at v a rs) ≡ whole v =
+      subst (λ (qs : List Parameter). with_args qs (args_at v a (arg ∷ rest)) (values_at v a rs) ≡ whole v) is (subst (λ (bs : List ArgTerms). with_args parameters (args_at v a bs) (values_at v a rs) ≡ whole v) are (so v)) in
+    rw (set, further) so'
+
+or_assoc : (a b c : Bool) → ((a || b) || c) ≡ (a || (b || c))
+or_assoc true b c = refl
+or_assoc false b c = refl
+
+or_false : (b : Bool) → (b || false) ≡ b
+or_false true = refl
+or_false false = refl
+
+poison_flag : (flag : Bool) (n : ℕ) → is_poison (value_from flag n) ≡ flag
+poison_flag true n = refl
+poison_flag false n = refl
+
+module _ (a b : List Term) (k : Keeps a b) (parameters ps : List Parameter) (p : Parameter) (args rest : List ArgTerms) (arg : ArgTerms) (broken broken' : TermId) (whole : (ℕ → ℕ → ℕ) → Bool)
+    (is : parameters ≡ p ∷ ps) (are : args ≡ arg ∷ rest) (h : AreArgs a parameters args) (so : (v : ℕ → ℕ → ℕ) → (bit_at v a broken || breaks_noundef parameters (args_at v a args)) ≡ whole v) where
+  broken_so : (v : ℕ → ℕ → ℕ) → (bit_at v a broken || breaks_noundef (p ∷ ps) (args_at v a (arg ∷ rest))) ≡ whole v
+  broken_so v = subst (λ (qs : List Parameter). (bit_at v a broken || breaks_noundef qs (args_at v a (arg ∷ rest))) ≡ whole v) is
+      (subst (λ (bs : List ArgTerms). (bit_at v a broken || breaks_noundef parameters (args_at v a bs)) ≡ whole v) are (so v))
+
+  further_same : (v : ℕ → ℕ → ℕ) → args_at v b rest ≡ args_at v a rest
+  further_same v = args_at-later a b k v ps rest (args_front a parameters ps p args rest arg is are h).1
+
+  -- the parameter is noundef
+  pub broken_more : p.no_undef ≡ true → Tests b broken' (λ v. bit_at v a broken || bit_at v a arg.flag)
+      → (v : ℕ → ℕ → ℕ) → (bit_at v b broken' || breaks_noundef ps (args_at v b rest)) ≡ whole v
+  broken_more noundef t v =
+      let here : (bit_at v a broken || ((p.no_undef && is_poison (arg_at v a arg)) || breaks_noundef ps (args_at v a rest))) ≡ whole v = broken_so v in
+      let flag : is_poison (arg_at v a arg) ≡ bit_at v a arg.flag = poison_flag (bit_at v a arg.flag) (term_at v a arg.number) in
+      rw (t.says v, further_same v) (or_assoc (bit_at v a broken) (bit_at v a arg.flag) (breaks_noundef ps (args_at v a rest)) ∙ (rw (noundef, flag) at here))
+
+  -- or not
+  pub broken_same : p.no_undef ≡ false → ((v : ℕ → ℕ → ℕ) → bit_at v b broken ≡ bit_at v a broken)
+      → (v : ℕ → ℕ → ℕ) → (bit_at v b broken || breaks_noundef ps (args_at v b rest)) ≡ whole v
+  broken_same other same v =
+      let here : (bit_at v a broken || ((p.no_undef && is_poison (arg_at v a arg)) || breaks_noundef ps (args_at v a rest))) ≡ whole v = broken_so v in
+      rw (same v, further_same v) (rw other at here)

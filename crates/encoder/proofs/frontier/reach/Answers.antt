@@ -1,6 +1,6 @@
 use Rattle.std.proofs.Common.{◌≡◌, ◌∙◌, ap, sym, subst, List, [], Option, Some, None}
 use Rattle.std.specs.Prelude.{slice_get, slice_set}
-use Rattle.bv_terms.proofs.Keeping.{keeps_self}
+use Rattle.mem_terms.proofs.Later.{keeps_self}
 use Rattle.encoder.specs.declared.state.RunState.{RunState}
 use Rattle.encoder.specs.Frontier.{AreStates, AheadTells, StandsAt}
 use Rattle.encoder.proofs.Reached.{set_again, set_entries, changed_tells, changed_reached, passes_first, passes_joined, joined_alive}
