@@ -9,9 +9,13 @@
 
 mod asking;
 mod found;
+mod goals;
+mod inputs;
 mod questions;
+mod questions_asked;
 mod settled;
 mod settling;
+mod tapes;
 mod variables;
 
 pub use settled::{Kept, Settled};
