@@ -1,10 +1,10 @@
 //! The numbers of a point as variables, and known arguments.
 
-ghost use Rattle.std.specs.Prelude.{◌≡◌, ◌++◌, ◌≤◌, IfOk, List, OnOk, replicate, ℕ};
+ghost use Rattle.std.specs.Prelude.{◌≡◌, ◌++◌, ◌≤◌, IfOk, List, OnOk, length, replicate, ℕ};
 ghost use Rattle.ir_tree.specs.Limits.{AreIntegers};
 ghost use Rattle.points.specs.Code.{ArgsFit};
 ghost use Rattle.bv_terms.specs.Trees.{Extends, Keeps};
-ghost use Rattle.mem_terms.specs.Inputs.{AreArgs, args_at};
+ghost use Rattle.mem_terms.specs.Inputs.{AreArgs, AreWords, args_at};
 ghost use Rattle.refine_terms.specs.Numbers.{IsInputOf, IsTapeOf};
 ghost use Rattle.instantiate.specs.Orders.{IsOrder};
 ghost use Rattle.instantiate.specs.Questions.{args_widths, blocks_widths};
@@ -123,6 +123,8 @@ pub fn tape_variables(
     terms: &mut Terms,
     order: &mut Vec<TermId>,
 ) -> Result<TapeTerms, NoMemory>
+    ensures are { IfOk result (λ tape. AreWords terms.new tape.words) }
+    ensures count { IfOk result (λ tape. length tape.words ≡ words) }
     ensures order { OnOk result ((widths : List ℕ) → IsOrder terms.old order.old.items widths → IsOrder terms.new order.new.items (widths ++ replicate words 64)) }
     ensures ids { IfOk result (λ tape. order.new.items ≡ order.old.items ++ tape.words) }
     ensures kept { Extends terms.old terms.new }
