@@ -1,4 +1,5 @@
 mod Answered
+mod Decoding
 mod Growing
 mod Mentioned
 mod Numbered

@@ -9,9 +9,12 @@
 
 mod asking;
 mod found;
+mod goals;
+mod inputs;
 mod questions;
 mod settled;
 mod settling;
+mod tapes;
 mod variables;
 
 pub use settled::{Kept, Settled};
