@@ -1,5 +1,5 @@
 -- Numbers that are the code of a point give its arguments and its tape back.
-use Rattle.std.proofs.Common.{ℕ, zero, suc, ◌≡◌, ◌<◌, ◌+◌, ◌*◌, ◌^◌, List, [], ◌∷◌, ◌++◌, length, map, refl, ap, sym, subst, ◌∙◌, arith, length-append}
+use Rattle.std.proofs.Common.{ℕ, zero, suc, ◌≡◌, ◌<◌, ◌+◌, ◌*◌, ◌^◌, List, [], ◌∷◌, ◌++◌, length, map, refl, ap, sym, subst, ◌∙◌, arith, length-append, append_assoc}
 use Rattle.std.specs.List.{flat_map}
 use Rattle.std.proofs.lemmas.List.{map-append}
 use Rattle.ir_tree.specs.declared.tree.IrType.{IrType}
@@ -100,10 +100,6 @@ words_long width zero [] h = refl
 words_long width (suc n) (w ∷ ws) h = let more = words_long width n ws h.1 in omega (arith, more)
 words_long width zero (w ∷ ws) h = absurd h
 words_long width (suc n) [] h = absurd h
-
-append_assoc : (a b c : List ℕ) → ((a ++ b) ++ c) ≡ (a ++ (b ++ c))
-append_assoc [] b c = refl
-append_assoc (x ∷ a) b c = ap (λ xs. x ∷ xs) (append_assoc a b c)
 
 pub decoded : (v : ℕ → ℕ → ℕ) (terms : List Term) (s : Shape) (input : InputTerms) (tape : TapeTerms) (p : Point) → AreIntegers s.parameters → IsInputOf s terms input → IsTapeOf s terms tape → IsOfShape s p
     → code_of s.blocks s.parameters p ≡ numbers_at v terms input tape → (p.input.args ≡ args_at v terms input.args) × (p.tape ≡ words_at v terms tape.words)

@@ -177,8 +177,8 @@ pub fn tape_variables(
     terms: &mut Terms,
     order: &mut Vec<TermId>,
 ) -> Result<TapeTerms, NoMemory>
+    ensures are { IfOk result (λ tape. AreWords terms.new tape.words) }
     ensures count { IfOk result (λ tape. length tape.words ≡ words) }
-    ensures words { IfOk result (λ tape. AreWords terms.new tape.words) }
     ensures order { OnOk result ((widths : List ℕ) → IsOrder terms.old order.old.items widths → IsOrder terms.new order.new.items (widths ++ replicate words 64)) }
     ensures ids { IfOk result (λ tape. order.new.items ≡ order.old.items ++ tape.words) }
     ensures kept { Extends terms.old terms.new }
