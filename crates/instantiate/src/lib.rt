@@ -12,6 +12,7 @@ mod found;
 mod goals;
 mod inputs;
 mod questions;
+mod questions_asked;
 mod settled;
 mod settling;
 mod tapes;
