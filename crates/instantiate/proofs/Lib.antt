@@ -1,5 +1,9 @@
 mod Answered
-mod Decoding
+mod Decoded
+mod Extending
 mod Growing
 mod Mentioned
+mod Moved
 mod Numbered
+mod Trying
+mod Uncovering
