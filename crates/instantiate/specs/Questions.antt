@@ -10,8 +10,10 @@ use Rattle.ir_tree.specs.declared.tree.Function.{Function}
 use Rattle.ir_tree.specs.Limits.{AreIntegers, IsWithinLimits}
 use Rattle.points.specs.declared.point.Bounds.{Bounds}
 use Rattle.points.specs.declared.point.Point.{Point}
+use Rattle.points.specs.declared.point.Shape.{Shape}
 use Rattle.points.specs.Pair.{Functions}
-use Rattle.points.specs.Code.{WordsFit, code_of}
+use Rattle.points.specs.Code.{IsOfShape, WordsFit, code_of}
+use Rattle.points.specs.Codes.{IsCode}
 use Rattle.points.specs.Tapes.{need_of}
 use Rattle.points.specs.Covers.{covers, is_covered, IsLeastCover, HasNoCover}
 use Rattle.points.specs.Trail.{IsPoint, IsLeastUncovered, AreAllCovered}
@@ -115,6 +117,16 @@ abbrev pub IsFoundPoint : Functions → Bounds → List (List ℕ) → Option �
 IsFoundPoint pair bounds tapes limit (found.Least p) = IsLeastUncovered pair bounds tapes p
 IsFoundPoint pair bounds tapes limit (found.None cert) = AreAllCovered pair bounds tapes × IsRefuted (IsUncovered pair bounds tapes) (point_widths pair bounds) cert
 IsFoundPoint pair bounds tapes limit (found.Spent cert) = (n : ℕ) × (limit ≡ Some n) × IsSpentOn (IsUncovered pair bounds tapes) (point_widths pair bounds) n cert
+
+-- the code of the least such point: each point of the shape with this code is the least
+pub record IsLeastCode (pair : Functions) (bounds : Bounds) (s : Shape) (tapes : List (List ℕ)) (code : List ℕ) : Type 0 where
+  pub of_shape : IsCode s code
+  pub least : (p : Point) → IsOfShape s p → code_of s.blocks s.parameters p ≡ code → IsLeastUncovered pair bounds tapes p
+
+abbrev pub IsFoundCode : Functions → Bounds → Shape → List (List ℕ) → Option ℕ → Found (List ℕ) → Type 0
+IsFoundCode pair bounds s tapes limit (found.Least code) = IsLeastCode pair bounds s tapes code
+IsFoundCode pair bounds s tapes limit (found.None cert) = IsFoundPoint pair bounds tapes limit (found.None cert)
+IsFoundCode pair bounds s tapes limit (found.Spent cert) = IsFoundPoint pair bounds tapes limit (found.Spent cert)
 
 abbrev pub IsFoundTape : Functions → Bounds → Point → Option ℕ → Found (List ℕ) → Type 0
 IsFoundTape pair bounds p limit (found.Least tape) = IsLeastCover pair bounds p tape

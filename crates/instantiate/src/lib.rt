@@ -12,7 +12,6 @@ mod found;
 mod goals;
 mod inputs;
 mod questions;
-mod questions_asked;
 mod settled;
 mod settling;
 mod tapes;
