@@ -1,8 +1,13 @@
 mod Answered
+mod Decoded
 mod Decoding
 mod Extended
+mod Extending
 mod Fitting
 mod Growing
 mod Mentioned
+mod Moved
 mod Numbered
 mod Ordered
+mod Trying
+mod Uncovering
