@@ -10,7 +10,7 @@ use Rattle.points.specs.Pair.{Functions}
 use Rattle.points.specs.Trail.{TrailFrom, Ends}
 use Rattle.points.specs.Weight.{weight_of}
 use Rattle.clause_log.specs.declared.step.Cert.{Cert}
-use Rattle.instantiate.specs.declared.settled.Kept.{Kept}
+use Rattle.points.specs.declared.verdict.Kept.{Kept}
 use Rattle.instantiate.specs.declared.settled.Settled.{Settled}
 use Rattle.instantiate.specs.Questions.{IsUncovered, IsCovering, IsRefuted, IsSpentOn, point_widths, tape_widths}
 

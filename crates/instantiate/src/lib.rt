@@ -17,5 +17,5 @@ mod settling;
 mod tapes;
 mod variables;
 
-pub use settled::{Kept, Settled};
+pub use settled::Settled;
 pub use settling::settle;

@@ -9,25 +9,12 @@ ghost use Rattle.instantiate.specs.Settling.{IsSettled, IsTold, limit_of};
 
 use crate::found::Found;
 use crate::questions::{least_cover, least_uncovered};
-use crate::settled::{Kept, Settled};
-use byte_block::copy_memory;
+use crate::settled::Settled;
 use clause_log::Cert;
-use points::{Bounds, Budget, Cause, Input, Pair, Point, Verdict};
+use points::{Bounds, Budget, Cause, Kept, Pair, Point, Verdict, copy_point};
 use std::alloc::Global;
 use support::{NoMemory, Sequence};
 use unroll::weight;
-
-fn copy_point(alloc: Global, point: &Point) -> Result<Point, NoMemory>
-    ensures { IfOk result (λ copy. copy ≡ point.now) }
-{
-    let args = Sequence::from_vec(point.input.args.as_slice().to_vec(alloc)?);
-    let blocks = copy_memory(alloc, &point.input.blocks)?;
-    let tape = Sequence::from_vec(point.tape.as_slice().to_vec(alloc)?);
-    Ok(Point {
-        input: Input { args, blocks },
-        tape,
-    })
-}
 
 fn settled(
     verdict: Verdict,
