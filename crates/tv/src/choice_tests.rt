@@ -32,7 +32,7 @@ fn a_choice_that_no_shift_makes_costs_a_round(rt: HostRuntime) -> Result<(), Fai
             2
         )?
     );
-    assert!(rt; judges(&rt, "--rounds=64", source, target, "@f unknown weight\n", 2)?);
+    assert!(rt; judges(&rt, "--rounds=64", source, target, "@f correct\n", 0)?);
     Ok(())
 }
 

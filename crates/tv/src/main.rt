@@ -58,3 +58,5 @@ mod flow_tests;
 mod refusal_tests;
 #[cfg(test)]
 mod tests;
+#[cfg(test)]
+mod wide_tests;
