@@ -1,7 +1,6 @@
 ghost use Rattle.tv.specs.Laws.{ReportsAreOne, FaultsAreOne, ModulesHaveNoFault};
 
 use ir_reader::is_one_module;
-use report::rows_are_one;
 use slow_judge::counted_is_one;
 
 /// Two files have one report, as a text has one module and a pair one verdict.
@@ -9,7 +8,6 @@ pub fn reports_are_one()
     ensures { ReportsAreOne }
 {
     is_one_module();
-    rows_are_one();
     counted_is_one();
 }
 
