@@ -4,6 +4,7 @@ use Rattle.ir_tree.specs.declared.name.Name.{Name}
 use Rattle.ir_tree.specs.declared.tree.Function.{Function}
 use Rattle.ir_tree.specs.declared.module.Refused.{Refused}
 use Rattle.ir_tree.specs.declared.module.Entry.{Entry}
+use Rattle.ir_tree.specs.declared.module.Module.{Module}
 use Rattle.points.specs.declared.outcome.Outcome.{Outcome}
 use Rattle.points.specs.declared.point.Bounds.{Bounds}
 use Rattle.points.specs.declared.point.Point.{Point}
@@ -12,11 +13,17 @@ use Rattle.points.specs.declared.verdict.Shown.{Shown}
 use Rattle.points.specs.declared.verdict.Verdict.{Verdict}
 use Rattle.points.specs.declared.verdict.Verdict.TheVariants as verdict
 use Rattle.points.specs.Pair.{Functions, same_signature}
+use Rattle.points.specs.Laws.{VerdictsAreOne}
 use Rattle.points.specs.Shown.{IsShown}
+use Rattle.points.specs.Trail.{IsVerdict}
 use Rattle.report.specs.declared.row.Finding.{Finding}
 use Rattle.report.specs.declared.row.Finding.TheVariants as finding
 use Rattle.report.specs.declared.row.Row.{Row}
-use Rattle.report.specs.Rows.{function_named, IsJudged, IsCompared, IsFinding, IsRow, AreSourceRows, extra_rows, TellsOne, RowsAreOne}
+use Rattle.report.specs.Rows.{function_named, IsJudged, IsCompared, IsFinding, IsRow, AreSourceRows, AreRows, extra_rows, RowsAreOne}
+
+-- a judge that may tell one verdict of each pair
+abbrev pub TellsOne : (Functions → Verdict → Type 0) → Type 0
+TellsOne tells = (pair : Functions) (v w : Verdict) → tells pair v → tells pair w → v ≡ w
 
 same_shown : (t t' s s' : Outcome) (r r' : ℕ) → t ≡ t' → s ≡ s' → r ≡ r' → ◌≡◌ {A = Shown} (record { target = t; source = s; read = r }) (record { target = t'; source = s'; read = r' })
 same_shown t t' s s' r r' p q e = cc
@@ -100,7 +107,11 @@ source_rows_one tells one bounds targets (source ∷ sources) (row ∷ rows) (ot
     let f : rows ≡ others = source_rows_one tells one bounds targets sources rows others x.1 y.1 in
     cc (e, f)
 
-pub rows_are_one : RowsAreOne
-rows_are_one tells one bounds source target rows others x y =
+pub rows_one : (tells : Functions → Verdict → Type 0) → TellsOne tells → (bounds : Bounds) (source target : Module) (rows others : List Row) → AreRows tells bounds source target rows → AreRows tells bounds source target others → rows ≡ others
+rows_one tells one bounds source target rows others x y =
     let e : x.judged ≡ y.judged = source_rows_one tells one bounds target.entries source.entries x.judged y.judged x.each y.each in
     x.all ∙ ap (λ (js : List Row). js ++ extra_rows source.entries target.entries) e ∙ sym y.all
+
+pub rows_are_one : VerdictsAreOne → RowsAreOne
+rows_are_one one bounds budget source target rows others fits x y =
+    rows_one (λ pair v. IsVerdict pair bounds budget v) (λ pair v w. one pair bounds budget v w fits) bounds source target rows others x y

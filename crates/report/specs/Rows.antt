@@ -7,10 +7,13 @@ use Rattle.ir_tree.specs.declared.module.Entry.{Entry}
 use Rattle.ir_tree.specs.declared.module.Module.{Module}
 use Rattle.ir_tree.specs.Names.{same_name}
 use Rattle.points.specs.declared.point.Bounds.{Bounds}
+use Rattle.points.specs.declared.point.Budget.{Budget}
 use Rattle.points.specs.declared.verdict.Verdict.{Verdict}
 use Rattle.points.specs.declared.verdict.Verdict.TheVariants as verdict
 use Rattle.points.specs.Pair.{Functions, same_signature}
+use Rattle.points.specs.Range.{AreInRange}
 use Rattle.points.specs.Shown.{IsShown}
+use Rattle.points.specs.Trail.{IsVerdict}
 use Rattle.report.specs.declared.row.Side.TheVariants as side
 use Rattle.report.specs.declared.row.Finding.{Finding}
 use Rattle.report.specs.declared.row.Finding.TheVariants as finding
@@ -64,10 +67,7 @@ pub record AreRows (tells : Functions → Verdict → Type 0) (bounds : Bounds) 
   pub each : AreSourceRows tells bounds target.entries source.entries judged
   pub all : rows ≡ judged ++ extra_rows source.entries target.entries
 
--- a judge that may tell one verdict of each pair
-abbrev pub TellsOne : (Functions → Verdict → Type 0) → Type 0
-TellsOne tells = (pair : Functions) (v w : Verdict) → tells pair v → tells pair w → v ≡ w
-
--- with such a judge two modules have one list of rows
-abbrev pub RowsAreOne : Type 1
-RowsAreOne = (tells : Functions → Verdict → Type 0) → TellsOne tells → (bounds : Bounds) (source target : Module) (rows others : List Row) → AreRows tells bounds source target rows → AreRows tells bounds source target others → rows ≡ others
+-- with the verdicts by their definition two modules have one list of rows
+abbrev pub RowsAreOne : Type 0
+RowsAreOne = (bounds : Bounds) (budget : Budget) (source target : Module) (rows others : List Row) → AreInRange bounds budget
+    → AreRows (λ pair v. IsVerdict pair bounds budget v) bounds source target rows → AreRows (λ pair v. IsVerdict pair bounds budget v) bounds source target others → rows ≡ others

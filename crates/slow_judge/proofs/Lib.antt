@@ -1,7 +1,7 @@
 pub mod Blocks
-pub mod Counted
 pub mod Covering
 pub mod Growing
+pub mod OneCount
 pub mod Order
 pub mod Searching
 pub mod Sizes

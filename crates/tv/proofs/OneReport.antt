@@ -8,7 +8,6 @@ use Rattle.ir_reader.specs.Laws.{OneModule}
 use Rattle.points.specs.declared.point.Bounds.{Bounds}
 use Rattle.points.specs.declared.point.Budget.{Budget}
 use Rattle.points.specs.declared.verdict.Verdict.{Verdict}
-use Rattle.points.specs.Laws.{VerdictsAreOne}
 use Rattle.points.specs.Pair.{Functions, same_signature}
 use Rattle.points.specs.Trail.{IsVerdict}
 use Rattle.report.specs.declared.row.Finding.{Finding}
@@ -70,8 +69,8 @@ reports_are_defined bounds budget source target answers text status none report 
   status_is = report.status_is;
 }
 
-pub reports_are_one : OneModule → RowsAreOne → VerdictsAreOne → ReportsAreOne
-reports_are_one one rows verdicts files words job answers others text other status other_status is none x y =
+pub reports_are_one : OneModule → RowsAreOne → ReportsAreOne
+reports_are_one one rows files words job answers others text other status other_status is none x y =
     let s : y.source ≡ x.source = module_one one (files job.source) y.source x.source y.source_is x.source_is in
     let t : y.target ≡ x.target = module_one one (files job.target) y.target x.target y.target_is x.target_is in
     let a = reports_are_defined job.bounds job.budget x.source x.target answers text status none x.report in
@@ -79,7 +78,7 @@ reports_are_one one rows verdicts files words job answers others text other stat
     let are : AreRows (λ pair v. IsVerdict pair job.bounds job.budget v) job.bounds x.source x.target b.rows =
     subst (λ (m : Module). AreRows (λ pair v. IsVerdict pair job.bounds job.budget v) job.bounds m x.target b.rows) s
     (subst (λ (n : Module). AreRows (λ pair v. IsVerdict pair job.bounds job.budget v) job.bounds y.source n b.rows) t b.are_rows) in
-    let e : a.rows ≡ b.rows = rows (λ pair v. IsVerdict pair job.bounds job.budget v) (λ pair v w. verdicts pair job.bounds job.budget v w (job_in_range words job is)) job.bounds x.source x.target a.rows b.rows a.are_rows are in (
+    let e : a.rows ≡ b.rows = rows job.bounds job.budget x.source x.target a.rows b.rows (job_in_range words job is) a.are_rows are in (
       a.text_is ∙ ap (report_text job.bounds job.budget) e ∙ sym b.text_is,
       a.status_is ∙ ap status_of e ∙ sym b.status_is,
     )

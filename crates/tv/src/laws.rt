@@ -1,7 +1,6 @@
 ghost use Rattle.tv.specs.Laws.{ReportsAreDefined, ReportsAreOne, FaultsAreOne, ModulesHaveNoFault};
 
 use ir_reader::is_one_module;
-use points::verdicts_are_one;
 use report::rows_are_one;
 
 /// Without a limit on conflicts the report is the one that the definition of a verdict gives.
@@ -15,7 +14,6 @@ pub fn reports_are_one()
 {
     is_one_module();
     rows_are_one();
-    verdicts_are_one();
     reports_are_defined();
 }
 

@@ -1,4 +1,4 @@
-use Rattle.slow_judge.proofs.Counted.{counted_is_one}
+use Rattle.slow_judge.proofs.OneCount.{counted_is_one}
 use Rattle.slow_judge.proofs.laws.counted_is_one.Goals as goal
 
 pub returns : goal.returns
