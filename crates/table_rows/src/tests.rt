@@ -5,13 +5,13 @@ ghost use Rattle.std.specs.Prelude.{◌≡◌, ◌<◌, IfOk};
 ghost use Rattle.bv_terms.specs.Trees.{Extends};
 ghost use Rattle.mem_terms.specs.Values.{IsSymValue};
 
-use crate::{binary, cast, compare, select};
 use bv_terms::{TermId, Terms, fold};
 use ir_tree::{Cast, Flags, Op, Predicate};
 use mem_terms::{SymValue, number_value, poison_value};
 use std::alloc::Global;
 use std::test::Fail;
 use support::{NoMemory, Sequence};
+use table_terms::{binary, cast, compare, select};
 use term_folds::{Assigned, Evaluate};
 use tv_num::Width;
 
