@@ -3,11 +3,13 @@
 ghost use Rattle.std.specs.Prelude.{◌≡◌, [], IfOk};
 ghost use Rattle.bv_terms.specs.Trees.{Keeps};
 ghost use Rattle.mem_terms.specs.Outcomes.{IsOutcome};
+ghost use Rattle.mem_terms.specs.Values.{IsSymValue};
 
 use bv_terms::{TermId, Terms, fold};
 use ir_tree::{IrType, Parameter};
 use mem_terms::{
-    ArgTerms, InputTerms, OutcomeTerms, TapeTerms, number, number_value, poison_value, truth,
+    ArgTerms, InputTerms, OutcomeTerms, SymValue, TapeTerms, number, number_value, poison_value,
+    truth,
 };
 use points::Shape;
 use refine_terms::{covered, well_point};
@@ -26,6 +28,17 @@ enum End {
     Number(u64),
 }
 
+/// What a run that ends so returns, if it returns.
+fn returned(terms: &mut Terms, end: End) -> Result<SymValue, NoMemory>
+    ensures made { IfOk result (IsSymValue terms.new) }
+    ensures kept { Keeps terms.old terms.new }
+{
+    match end {
+        End::Number(n) => number_value(terms, n),
+        End::Undefined | End::Beyond | End::Poison => poison_value(terms),
+    }
+}
+
 /// An outcome that is this end, on a tape that is plain or isn't.
 fn outcome(terms: &mut Terms, end: End, is_plain: bool) -> Result<OutcomeTerms, NoMemory>
     ensures made { IfOk result (IsOutcome terms.new) }
@@ -35,10 +48,7 @@ fn outcome(terms: &mut Terms, end: End, is_plain: bool) -> Result<OutcomeTerms, 
     let beyond = truth(terms, matches!(end, End::Beyond))?;
     let read = number(terms, 0)?;
     let plain = truth(terms, is_plain)?;
-    let value = match end {
-        End::Number(n) => number_value(terms, n)?,
-        End::Undefined | End::Beyond | End::Poison => poison_value(terms)?,
-    };
+    let value = returned(terms, end)?;
     Ok(OutcomeTerms {
         ub,
         beyond,
