@@ -1,8 +1,8 @@
 //! Rows of questions with answers that are known.
 //!
 //! [`pigeons`] is a goal that is never true, of many conflicts for its size. It promises that the
-//! goal has the one variable that it is given; the tests ask it. It stands on `sat_ask`, and nothing
-//! stands on it.
+//! goal has the one variable that it is given; the tests ask it, and read digits as numbers. It
+//! stands on `sat_ask` and `front_order`, and nothing stands on it.
 #![tactic(auto)]
 
 mod rows;

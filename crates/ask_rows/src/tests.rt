@@ -3,6 +3,7 @@ ghost use Rattle.std.specs.Prelude.{◌<◌, IfSome};
 use crate::pigeons;
 use bv_terms::Terms;
 use clause_log::check_log;
+use front_order::numbers_of;
 use sat_ask::{Asked, ask};
 use std::alloc::Global;
 use std::test::Fail;
@@ -49,5 +50,13 @@ fn one_clause_may_not_do(rt: HostRuntime) -> Result<(), Fail> {
     let alloc = rt.alloc();
     let asked = seats_of_pigeons(alloc, Some(1))?;
     assert!(rt; is_right(&rt, alloc, &asked));
+    Ok(())
+}
+
+/// A number of three digits, one of none, and one of two.
+#[test]
+fn digits_are_read_from_the_front(rt: HostRuntime) -> Result<(), Fail> {
+    let numbers = numbers_of(rt.alloc(), &[3, 0, 2], &[true, false, false, true, true])?;
+    assert_eq!(rt; numbers.as_slice(), [4, 0, 3].as_slice());
     Ok(())
 }

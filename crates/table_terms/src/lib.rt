@@ -22,8 +22,6 @@ mod selection;
 mod shifts;
 mod signs;
 mod sums;
-#[cfg(test)]
-mod tests;
 mod undefined;
 
 pub use binary_operations::{Computed, binary};

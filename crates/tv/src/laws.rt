@@ -14,7 +14,6 @@ pub fn reports_are_one()
 {
     is_one_module();
     rows_are_one();
-    reports_are_defined();
 }
 
 /// Two files have one fault, as a text has one fault or a module.

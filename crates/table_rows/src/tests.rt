@@ -2,16 +2,16 @@
 // Language Reference: each goes over all numbers of the width and poison, the left one slower. Digits
 // above the width are set too, and change nothing.
 ghost use Rattle.std.specs.Prelude.{◌≡◌, ◌<◌, IfOk};
-ghost use Rattle.bv_terms.specs.Trees.{Keeps};
+ghost use Rattle.bv_terms.specs.Trees.{Extends};
 ghost use Rattle.mem_terms.specs.Values.{IsSymValue};
 
-use crate::{binary, cast, compare, select};
 use bv_terms::{TermId, Terms, fold};
 use ir_tree::{Cast, Flags, Op, Predicate};
 use mem_terms::{SymValue, number_value, poison_value};
 use std::alloc::Global;
 use std::test::Fail;
 use support::{NoMemory, Sequence};
+use table_terms::{binary, cast, compare, select};
 use term_folds::{Assigned, Evaluate};
 use tv_num::Width;
 
@@ -47,7 +47,7 @@ fn upper_half(sum: u64) -> u64 {
 fn operand(terms: &mut Terms, first: u64) -> Result<SymValue, NoMemory>
     requires { first < 100 }
     ensures made { IfOk result (IsSymValue terms.new) }
-    ensures kept { Keeps terms.old terms.new }
+    ensures kept { Extends terms.old terms.new }
 {
     let poison = terms.variable(first, 1)?;
     let number = terms.variable(first + 1, 64)?;
