@@ -199,7 +199,7 @@ steps_end insts i tape c past = rw (drop_all i insts past) refl
 
 pub plainly_false : (terms : List Term) (a : TermId) (value width : ℕ) → AreFit [] terms → slice_get terms a.index ≡ Some (term.Constant value width) → value ≡ 0 → (v : ℕ → ℕ → ℕ) → bit_at v terms a ≡ false
 unfolding trees_of
-plainly_false terms a value width fit is zero v =
+plainly_false terms a value width fit is none v =
     let e : a.index ≡ 0 + a.index = omega arith in
     ap (λ (i : ℕ). truth (value_of v (slice_index_or (trees_from [] terms) i (tree.Constant 0 1)))) e
-    ∙ (ap (λ (t : Tree). truth (value_of v t)) (tree-stored [] terms a.index (term.Constant value width) fit is) ∙ ap truth zero)
+    ∙ (ap (λ (t : Tree). truth (value_of v t)) (tree-stored [] terms a.index (term.Constant value width) fit is) ∙ ap truth none)
