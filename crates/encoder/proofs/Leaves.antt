@@ -9,14 +9,15 @@ use Rattle.ir_tree.specs.declared.tree.Case.{Case}
 use Rattle.ir_tree.specs.declared.tree.Function.{Function}
 use Rattle.ir_tree.specs.Sites.{same_number}
 use Rattle.byte_block.specs.declared.value.Value.{Value}
+use Rattle.byte_block.specs.declared.value.Value.TheVariants as value
 use Rattle.byte_block.specs.declared.value.Value.TheVariants.{Num, Poison}
 use Rattle.points.specs.declared.machine.Machine.{Machine}
 use Rattle.points.specs.declared.outcome.Outcome.TheVariants.{Return, Ub, Beyond}
-use Rattle.points.specs.Run.{Run, ended, is_poison}
+use Rattle.points.specs.Run.{Run, branch_on, ended, is_poison, switch_on}
 use Rattle.unroll.specs.declared.layered.Edge.{Edge}
-use Rattle.unroll.specs.declared.layered.Edge.TheVariants as edge
+use Rattle.unroll.specs.declared.layered.Edge.TheVariants.{Nowhere}
 use Rattle.unroll.specs.declared.layered.BlockCopy.{BlockCopy}
-use Rattle.unroll.specs.Layers.{Where, At, Done, along}
+use Rattle.unroll.specs.Layers.{Where, At, Done, along, edge_of, left_by}
 use Rattle.bv_terms.specs.declared.term.TermId.{TermId}
 use Rattle.bv_terms.specs.declared.term.Term.{Term}
 use Rattle.bv_terms.specs.Tree.{truth}
@@ -28,9 +29,9 @@ use Rattle.encoder.specs.declared.state.Tally.{Tally}
 use Rattle.encoder.specs.declared.state.RunState.{RunState}
 use Rattle.encoder.specs.declared.frontier.Frontier.{Frontier}
 use Rattle.encoder.specs.Runs.{Scene, IsState, Counts, Carries}
-use Rattle.encoder.specs.Frontier.{IsFrontier, Tells, Moves, branched, placed, switched_on}
+use Rattle.encoder.specs.Frontier.{AreByLabel, IsFrontier, Tells, Moves, branched, placed, switched_on}
 use Rattle.encoder.proofs.Lasting.{state-later, tells-later}
-use Rattle.encoder.proofs.Moving.{moves_to, moves_later, moves_choice, moves_end, switched, switched_push, switched_is, take_push}
+use Rattle.encoder.proofs.Moving.{moves_to, moves_later, moves_choice, moves_end, edge_of_label, switched, switched_push, switched_is, take_push}
 
 -- ---- one way or the other
 
@@ -74,9 +75,9 @@ moves_return g label s old a b ka before after hb c hc value tally x taken st go
     record {
       stays = λ at none sh. st at (same ∙ none) (tells-later old a ka g before at hb sh);
       goes = λ m held h sh.
-        let it = so m held h in
-        let e : Done (record { outcome = Return (option_map (value_at g.v a) value) g.memory; taken = taken m }) ≡ Done (record { outcome = Return (x m) m.memory; taken = taken m }) = rw (it.1, h.memory) refl in
-        subst (λ (w : Where). Tells g b after (Some w)) e (go (taken m) (same ∙ held) it.0 (tells-later old a ka g before None hb sh));
+          let it = so m held h in
+          let e : Done (record { outcome = Return (option_map (value_at g.v a) value) g.memory; taken = taken m }) ≡ Done (record { outcome = Return (x m) m.memory; taken = taken m }) = rw (it.1, h.memory) refl in
+          subst (λ (w : Where). Tells g b after (Some w)) e (go (taken m) (same ∙ held) it.0 (tells-later old a ka g before None hb sh));
     }
 
 -- ---- branches
@@ -143,16 +144,73 @@ module _ (g : Scene) (label : ℕ) (s : RunState) (f : Function) (copies : List 
       (λ x h. ap (λ (d : Edge). switched hit (λ (y : Case). place (edge y)) (place d) (take i cases) x) same ∙ (ap (λ (cs : List Case). switched hit (λ (y : Case). place (edge y)) (place default) cs x) (take_all i cases past) ∙ switched_is hit place edge default cases x))
       (so (place e) m)
 
-pub case_edge : (edges : List Edge) (default : Edge) (edge : Case → Edge) (cases : List Case) (i : ℕ) (case : Case) → edges ≡ default ∷ map edge cases → i < length cases → case ≡ get_or cases i case → slice_index_or edges (i + 1) edge.Nowhere ≡ edge case
+pub case_edge : (edges : List Edge) (default : Edge) (edge : Case → Edge) (cases : List Case) (i : ℕ) (case : Case) → edges ≡ default ∷ map edge cases → i < length cases → case ≡ get_or cases i case → slice_index_or edges (i + 1) Nowhere ≡ edge case
 case_edge edges default edge cases i case is lt at = rw (is, add-one) (item cases i lt at)
   where
-    item : (cs : List Case) (j : ℕ) → j < length cs → case ≡ get_or cs j case → slice_index_or (map edge cs) j edge.Nowhere ≡ edge case
+    item : (cs : List Case) (j : ℕ) → j < length cs → case ≡ get_or cs j case → slice_index_or (map edge cs) j Nowhere ≡ edge case
     item [] j h e = absurd (omega arith)
     item (c ∷ cs) zero h e = ap edge (sym e)
     item (c ∷ cs) (suc j) h e = item cs j (omega arith) e
 
-pub default_edge : (edges : List Edge) (default : Edge) (rest : List Edge) → edges ≡ default ∷ rest → slice_index_or edges 0 edge.Nowhere ≡ default
+pub default_edge : (edges : List Edge) (default : Edge) (rest : List Edge) → edges ≡ default ∷ rest → slice_index_or edges 0 Nowhere ≡ default
 default_edge edges default rest is = rw is refl
 
 pub hit_is : (v : ℕ → ℕ → ℕ) (old l : List Term) (k : Keeps old l) (number : TermId) (n value : ℕ) → IsTerm old n number → nat_eq (value % 2 ^ n) (term_at v l number) ≡ nat_eq (value % 2 ^ n) (term_at v old number)
 hit_is v old l k number n value h = ap (λ x. nat_eq (value % 2 ^ n) x) (term-later old l k v number h.within)
+
+-- ---- edges by their labels
+
+label_place : (edge : ℕ → Edge) (labels : List ℕ) (i label : ℕ) → slice_get labels i ≡ Some label → slice_index_or (map edge labels) i Nowhere ≡ edge label
+label_place edge [] i label is = absurd (let c : ⊥ = cc in c)
+label_place edge (l ∷ ls) zero label is = (let e : l ≡ label = cc in ap edge e)
+label_place edge (l ∷ ls) (suc i) label is = label_place edge ls i label is
+
+-- the edge of a label is the one at its place
+pub label_edge : (labels : List ℕ) (edges : List Edge) → AreByLabel labels edges → (i label : ℕ) → slice_get labels i ≡ Some label → slice_index_or edges i Nowhere ≡ edge_of label labels edges
+label_edge labels edges h i label is = rw h.1 (label_place h.0 labels i label is ∙ sym (edge_of_label h.0 labels i label is))
+
+pub branch_left : (x : Value) (if_true if_false : ℕ) (edges : List Edge) (m : Machine) → AreByLabel (if_true ∷ if_false ∷ []) edges
+    → branched x (slice_index_or edges 0 Nowhere) (slice_index_or edges 1 Nowhere) m ≡ left_by (if_true ∷ if_false ∷ []) edges (branch_on x if_true if_false m)
+branch_left (Num n) if_true if_false edges m h = by (nat_eq (n % 2) 1)
+  where
+    by : (b : Bool) → along (if b then slice_index_or edges 0 Nowhere else slice_index_or edges 1 Nowhere) m ≡ along (edge_of (if b then if_true else if_false) (if_true ∷ if_false ∷ []) edges) m
+    by true = ap (λ (e : Edge). along e m) (label_edge (if_true ∷ if_false ∷ []) edges h 0 if_true refl)
+    by false = ap (λ (e : Edge). along e m) (label_edge (if_true ∷ if_false ∷ []) edges h 1 if_false refl)
+branch_left Poison if_true if_false edges m h = refl
+branch_left (value.Ptr p) if_true if_false edges m h = refl
+
+-- the label that a switch goes on to is the default's or a case's
+later_place : (c : Case) (cs : List Case) (default label i : ℕ) → slice_get (default ∷ map (λ (x : Case). x.to) cs) i ≡ Some label → (j : ℕ) × (slice_get (default ∷ map (λ (x : Case). x.to) (c ∷ cs)) j ≡ Some label)
+later_place c cs default label zero is = (0, is)
+later_place c cs default label (suc i) is = (suc (suc i), is)
+
+label_found : (hit : Case → Bool) (default : ℕ) (cases : List Case) → (i : ℕ) × (slice_get (default ∷ map (λ (c : Case). c.to) cases) i ≡ Some (option_map_or (λ (c : Case). c.to) (find hit cases) default))
+label_found hit default [] = (0, refl)
+label_found hit default (c ∷ cs) = elim (cases_Bool (hit c)) [
+  | inl t ↦ (1, rw t refl)
+  | inr f ↦
+      let rest = label_found hit default cs in
+      rw f (later_place c cs default (option_map_or (λ (x : Case). x.to) (find hit cs) default) rest.0 rest.1)
+]
+
+-- the edges of the cases
+edges_of_cases : (edge : ℕ → Edge) (cases : List Case) → map edge (map (λ (c : Case). c.to) cases) ≡ map (λ (c : Case). edge c.to) cases
+edges_of_cases edge [] = refl
+edges_of_cases edge (c ∷ cs) = ap (λ (es : List Edge). edge c.to ∷ es) (edges_of_cases edge cs)
+
+pub switch_edges : (default : ℕ) (cases : List Case) (edges : List Edge) → (h : AreByLabel (default ∷ map (λ (c : Case). c.to) cases) edges) → edges ≡ h.0 default ∷ map (λ (c : Case). h.0 c.to) cases
+switch_edges default cases edges h = h.1 ∙ ap (λ (es : List Edge). h.0 default ∷ es) (edges_of_cases h.0 cases)
+
+edge_found : (edge : ℕ → Edge) (default : ℕ) (o : Option Case) → option_map_or (λ (c : Case). edge c.to) o (edge default) ≡ edge (option_map_or (λ (c : Case). c.to) o default)
+edge_found edge default None = refl
+edge_found edge default (Some c) = refl
+
+pub switch_left : (width : ℕ) (x : Value) (default : ℕ) (cases : List Case) (edges : List Edge) (m : Machine) → (h : AreByLabel (default ∷ map (λ (c : Case). c.to) cases) edges)
+    → switched_on width x (λ (c : Case). h.0 c.to) (h.0 default) cases m ≡ left_by (default ∷ map (λ (c : Case). c.to) cases) edges (switch_on width x default cases m)
+switch_left width (Num n) default cases edges m h =
+    let hit : Case → Bool = λ (c : Case). same_number width c.value n in
+    let at = label_found hit default cases in
+    ap (λ (e : Edge). along e m) (edge_found h.0 default (find hit cases) ∙ (sym (edge_of_label h.0 (default ∷ map (λ (c : Case). c.to) cases) at.0 (option_map_or (λ (c : Case). c.to) (find hit cases) default) at.1)
+    ∙ ap (λ (es : List Edge). edge_of (option_map_or (λ (c : Case). c.to) (find hit cases) default) (default ∷ map (λ (c : Case). c.to) cases) es) (sym h.1)))
+switch_left width Poison default cases edges m h = refl
+switch_left width (value.Ptr p) default cases edges m h = refl

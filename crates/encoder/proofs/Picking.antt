@@ -29,18 +29,21 @@ word_more old a b c d tape i place number here next word picked words at lt is k
     let kb = keeps_trans old a b k0 k1 in
     let kc = keeps_trans old b c kb k2 in
     let kac = keeps_trans a b c k1 k2 in
-    let item = each-at (IsTerm old 64) tape i next words lt is in
-    (keeps_trans old c d kc k3, record {
-      within = m3.within;
-      wide = m3.wide ∙ (is_term-later old c kc 64 next item).wide;
-      says = λ v.
-        let picked_at = take_pick (words_at v old tape) i (term_at v old place) (term_at v old next) (omega (arith, map-length (term_at v old) tape)) (map-at (term_at v old) tape i next 0 lt is) in
-        m3.says v ∙ rw (m2.says v, term-later old b kb v place at.within, m1.says v, term-later old c kc v next item.within, term-later a c kac v word m0.within, m0.says v, add-one) (sym picked_at);
-    })
+    let item = each-at (IsTerm old 64) tape i next words lt is in (
+      keeps_trans old c d kc k3,
+      record {
+        within = m3.within;
+        wide = m3.wide ∙ (is_term-later old c kc 64 next item).wide;
+        says = λ v.
+            let picked_at = take_pick (words_at v old tape) i (term_at v old place) (term_at v old next) (omega (arith, map-length (term_at v old) tape)) (map-at (term_at v old) tape i next 0 lt is) in
+            m3.says v ∙ rw (m2.says v, term-later old b kb v place at.within, m1.says v, term-later old c kc v next item.within, term-later a c kac v word m0.within, m0.says v, add-one) (sym picked_at);
+      },
+    )
 
 pub take_whole : (old new : List Term) (tape : List TermId) (i : ℕ) (place word : TermId) → length tape ≤ i
     → Makes new word 64 (λ v. slice_index (take i (words_at v old tape)) (term_at v old place)) → Makes new word 64 (λ v. slice_index (words_at v old tape) (term_at v old place))
 take_whole old new tape i place word long m = record {
-  within = m.within; wide = m.wide;
+  within = m.within;
+  wide = m.wide;
   says = λ v. m.says v ∙ ap (λ ws. get_or ws (term_at v old place) 0) (take_all i (words_at v old tape) (omega (arith, map-length (term_at v old) tape)));
 }

@@ -32,6 +32,16 @@ use Rattle.encoder.specs.declared.state.RunState.{RunState}
 use Rattle.encoder.specs.Runs.{Scene, Sees, IsTally, IsState, Counts, Carries, Course, Idle, Dead, Live, advanced, stepped, steps, Follows}
 use Rattle.encoder.proofs.Lasting.{sees-later, tally-later, counts-later, carries-later}
 
+-- ---- more terms
+
+pub follows-later : (old new : List Term) (k : Keeps old new) (g : Scene) (label : ℕ) (s : RunState) (hs : IsState old s) (c : Course) → Follows g old label s c → Follows g new label s c
+follows-later old new k g label s hs Idle h = bit-later old new k g.v s.alive hs.alive.within ∙ h
+follows-later old new k g label s hs (Dead m) h = (bit-later old new k g.v s.alive hs.alive.within ∙ h.0, counts-later old new k g s.tally m.taken hs.tally h.1, h.2)
+follows-later old new k g label s hs (Live m) h = (bit-later old new k g.v s.alive hs.alive.within ∙ h.0, carries-later old new k g label s m hs h.1)
+
+pub live_registers : (terms : List Term) (g : Scene) (label : ℕ) (s : RunState) (c : Course) (m : Machine) → c ≡ Live m → Follows g terms label s c → values_at g.v terms s.registers ≡ m.registers
+live_registers terms g label s c m is h = (subst (λ (x : Course). Follows g terms label s x) is h).1.registers
+
 -- ---- a name gets a value
 
 module _ (old new : List Term) (k : Keeps old new) (s : RunState) (hs : IsState old s) (into : ℕ) (x : SymValue) where
@@ -124,7 +134,7 @@ module _ (old a b d : List Term) (ka : Keeps old a) (kb : Keeps a b) (kd : Keeps
     (t : Tests a taken (λ v. bit_at v old s.alive && bit_at v old x.poison))
     (stays : (g : Scene) (made : List ℕ) → bit_at g.v a taken ≡ false → Counts g a s.tally made → Counts g b tally made)
     (takes : (g : Scene) (m : Machine) → Sees g a tape → bit_at g.v a taken ≡ true → length m.taken ≤ s.most → Counts g a s.tally m.taken
-        → Counts g b tally (m.taken ++ choice_of g.tape m width.bits ∷ []) × (term_at g.v b number ≡ choice_of g.tape m width.bits))
+    → Counts g b tally (m.taken ++ choice_of g.tape m width.bits ∷ []) × (term_at g.v b number ≡ choice_of g.tape m width.bits))
     (at : (v : ℕ → ℕ → ℕ) → value_at v d z ≡ Num (cond (bit_at v b x.poison) (term_at v b number) (term_at v b x.number))) where
   after : RunState
   after = record { alive = s.alive; registers = slice_set s.registers into z; tally = tally; most = most }
@@ -189,7 +199,7 @@ steps_end insts i tape c past = rw (drop_all i insts past) refl
 
 pub plainly_false : (terms : List Term) (a : TermId) (value width : ℕ) → AreFit [] terms → slice_get terms a.index ≡ Some (term.Constant value width) → value ≡ 0 → (v : ℕ → ℕ → ℕ) → bit_at v terms a ≡ false
 unfolding trees_of
-plainly_false terms a value width fit is zero v =
+plainly_false terms a value width fit is none v =
     let e : a.index ≡ 0 + a.index = omega arith in
     ap (λ (i : ℕ). truth (value_of v (slice_index_or (trees_from [] terms) i (tree.Constant 0 1)))) e
-    ∙ (ap (λ (t : Tree). truth (value_of v t)) (tree-stored [] terms a.index (term.Constant value width) fit is) ∙ ap truth zero)
+    ∙ (ap (λ (t : Tree). truth (value_of v t)) (tree-stored [] terms a.index (term.Constant value width) fit is) ∙ ap truth none)

@@ -54,16 +54,18 @@ module _ (old new : List Term) (tape near : List TermId) (number read fits oread
       let r = length m.taken in
       let c = choice_of g.tape m n in
       let w : word g.v ≡ slice_index g.tape r =
-        ap (λ i. slice_index (words_at g.v old near) i) k.read
-        ∙ (ap (λ (ns : List TermId). slice_index (words_at g.v old ns) r) is
-        ∙ (near_index (term_at g.v old) tape (most + 1) r (omega (arith, within)) ∙ ap (λ ws. slice_index ws r) sees)) in
+      ap (λ i. slice_index (words_at g.v old near) i) k.read
+      ∙ (ap (λ (ns : List TermId). slice_index (words_at g.v old ns) r) is
+      ∙ (near_index (term_at g.v old) tape (most + 1) r (omega (arith, within)) ∙ ap (λ ws. slice_index ws r) sees)) in
       let whole : word g.v % 2 ^ n % 2 ^ 64 ≡ c = ap (λ x. x % 2 ^ n % 2 ^ 64) w ∙ narrow (slice_index g.tape r) n small in
       let e_read : cond (bit_at g.v old taken) ((term_at g.v old oread + 1) % 2 ^ 64) (term_at g.v old oread) ≡ (r + 1) % 2 ^ 64 = rw (held, k.read) refl in
       let count : (r + 1) % 2 ^ 64 ≡ length (m.taken ++ c ∷ []) = small_mod (r + 1) (2 ^ 64) (omega (arith, room, within)) ∙ omega (arith, length-append m.taken (c ∷ [])) in
       let place : 0 + r ≡ r = omega arith in
       let e_fits : (bit_at g.v old ofits && (not (bit_at g.v old taken) || nat_eq (word g.v) (word g.v % 2 ^ n % 2 ^ 64))) ≡ (fits_from g.tape 0 m.taken && nat_eq (slice_index g.tape r) c) =
-        rw (whole, w, held, k.fits) refl in
-      (record {
-        read = mr.says g.v ∙ (e_read ∙ count);
-        fits = tf.says g.v ∙ (e_fits ∙ (ap (λ i. fits_from g.tape 0 m.taken && nat_eq (slice_index g.tape i) c) (sym place) ∙ sym (fits-push g.tape 0 m.taken c)));
-      }, mn.says g.v ∙ whole)
+      rw (whole, w, held, k.fits) refl in (
+        record {
+          read = mr.says g.v ∙ (e_read ∙ count);
+          fits = tf.says g.v ∙ (e_fits ∙ (ap (λ i. fits_from g.tape 0 m.taken && nat_eq (slice_index g.tape i) c) (sym place) ∙ sym (fits-push g.tape 0 m.taken c)));
+        },
+        mn.says g.v ∙ whole,
+      )

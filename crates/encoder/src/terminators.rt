@@ -180,8 +180,12 @@ fn leave_by_bit(
     ensures kept { Keeps terms.old terms.new }
 {
     let (on, off) = split(terms, c, bit)?;
-    follow(alloc, terms, f, copies, frontier, leaving, on, state, if_true)?;
-    follow(alloc, terms, f, copies, frontier, leaving, off, state, if_false)?;
+    follow(
+        alloc, terms, f, copies, frontier, leaving, on, state, if_true,
+    )?;
+    follow(
+        alloc, terms, f, copies, frontier, leaving, off, state, if_false,
+    )?;
     Ok(())
 }
 
@@ -264,18 +268,22 @@ fn leave_by_cases(
     ensures shape { OnOk result (HasShape f.now copies.now frontier.new) }
     ensures moves { OnOk result ((g : Scene) (edge : Case → Edge) (default : Edge) → edges.now ≡ default ∷ map edge cases.now
         → Moves g terms.old terms.new frontier.old frontier.new c leaving.label state.now (λ m. placed f.now copies.now leaving.ahead
-            (along (option_map_or edge (find (λ case. nat_eq (case.value % 2 ^ width.bits) (term_at g.v terms.old number)) cases.now) default) m))) }
+        (along (option_map_or edge (find (λ case. nat_eq (case.value % 2 ^ width.bits) (term_at g.v terms.old number)) cases.now) default) m))) }
     ensures kept { Keeps terms.old terms.new }
 {
     let mut left = c;
     for (i, case) in cases.iter().enumerate() {
         let (here, rest) = split_by_case(terms, left, number, width, case.value)?;
         let edge = edge_at(edges, i + 1);
-        follow(alloc, terms, f, copies, frontier, leaving, here, state, edge)?;
+        follow(
+            alloc, terms, f, copies, frontier, leaving, here, state, edge,
+        )?;
         left = rest;
     }
     let default = edge_at(edges, 0);
-    follow(alloc, terms, f, copies, frontier, leaving, left, state, default)?;
+    follow(
+        alloc, terms, f, copies, frontier, leaving, left, state, default,
+    )?;
     Ok(())
 }
 
@@ -301,7 +309,7 @@ fn leave_by_switch(
     ensures shape { OnOk result (HasShape f.now copies.now frontier.new) }
     ensures moves { OnOk result ((g : Scene) (edge : Case → Edge) (default : Edge) → edges.now ≡ default ∷ map edge cases.now
         → Moves g terms.old terms.new frontier.old frontier.new state.now.alive leaving.label state.now (λ m. placed f.now copies.now leaving.ahead
-            (switched_on width.bits (operand_value m.registers operand) edge default cases.now m))) }
+        (switched_on width.bits (operand_value m.registers operand) edge default cases.now m))) }
     ensures kept { Keeps terms.old terms.new }
 {
     let value = operand_of(terms, state.registers.as_slice(), operand)?;
@@ -347,7 +355,17 @@ pub fn leave(
         }
         Terminator::Branch { .. } => {
             let edge = edge_at(edges, 0);
-            follow(alloc, terms, f, copies, frontier, leaving, state.alive, state, edge)?;
+            follow(
+                alloc,
+                terms,
+                f,
+                copies,
+                frontier,
+                leaving,
+                state.alive,
+                state,
+                edge,
+            )?;
             Ok(())
         }
         Terminator::CondBranch { condition, .. } => {

@@ -16,7 +16,7 @@ returns-clause-stands c = λ v.
     let rs = values_at v old c.args.registers.now in
     let test : value_at v d c.in_ok-test.test ≡ operand_value rs c.args.condition = value-later a d (keeps_trans a b d kb kd) v c.in_ok-test.test c.in_ok-test.ensures.made ∙ c.in_ok-test.ensures.stands v in
     let first : value_at v d c.in_ok-first.first ≡ typed_operand_value rs c.args.if_true = value-later b d kd v c.in_ok-first.first c.in_ok-first.ensures.made
-      ∙ (c.in_ok-first.ensures.stands v ∙ ap (λ (vs : List Value). typed_operand_value vs c.args.if_true) (values-later old a c.operand_of.ensures.kept v c.args.registers.now c.requires)) in
+    ∙ (c.in_ok-first.ensures.stands v ∙ ap (λ (vs : List Value). typed_operand_value vs c.args.if_true) (values-later old a c.operand_of.ensures.kept v c.args.registers.now c.requires)) in
     let second : value_at v d c.in_ok-second.second ≡ typed_operand_value rs c.args.if_false = c.in_ok-second.ensures.stands v
-      ∙ ap (λ (vs : List Value). typed_operand_value vs c.args.if_false) (values-later old b (keeps_trans old a b c.operand_of.ensures.kept kb) v c.args.registers.now c.requires) in
+    ∙ ap (λ (vs : List Value). typed_operand_value vs c.args.if_false) (values-later old b (keeps_trans old a b c.operand_of.ensures.kept kb) v c.args.registers.now c.requires) in
     c.in_ok-value.ensures.stands v ∙ rw (test, first, second) refl

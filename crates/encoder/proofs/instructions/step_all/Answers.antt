@@ -10,14 +10,16 @@ step-requires c = record { state = c.loop-inst.invariant.0; tape = words-later c
 
 pub loop-inst-preserved : goal.loop-inst-preserved
 loop-inst-preserved c = (
-    c.in_ok-step.ensures.state,
-    keeps_trans c.args.terms.now c.loop-inst.terms c.step.new.terms c.loop-inst.invariant.1 c.step.ensures.kept,
-    c.in_ok-step.ensures.count ∙ c.loop-inst.invariant.2,
-    λ g label start sees h.
-      let so = c.loop-inst.invariant.3 g label start sees h in
-      (stepped c.inst-item.result g.tape so.0,
-       sym (steps_more c.args.insts.now c.loop-inst.inst-index c.inst-item.result g.tape so.0 c.loop-inst-test.true c.inst-item.is) ∙ so.1,
-       c.in_ok-step.ensures.stands g label so.0 (sees-later c.args.terms.now c.loop-inst.terms c.loop-inst.invariant.1 g c.args.tape.now c.requires.tape sees) so.2))
+  c.in_ok-step.ensures.state,
+  keeps_trans c.args.terms.now c.loop-inst.terms c.step.new.terms c.loop-inst.invariant.1 c.step.ensures.kept,
+  c.in_ok-step.ensures.count ∙ c.loop-inst.invariant.2,
+  λ g label start sees h.
+      let so = c.loop-inst.invariant.3 g label start sees h in (
+        stepped c.inst-item.result g.tape so.0,
+        sym (steps_more c.args.insts.now c.loop-inst.inst-index c.inst-item.result g.tape so.0 c.loop-inst-test.true c.inst-item.is) ∙ so.1,
+        c.in_ok-step.ensures.stands g label so.0 (sees-later c.args.terms.now c.loop-inst.terms c.loop-inst.invariant.1 g c.args.tape.now c.requires.tape sees) so.2,
+      ),
+)
 
 pub returns-clause-stands : goal.returns-clause-stands
 returns-clause-stands c = λ g label start sees h.

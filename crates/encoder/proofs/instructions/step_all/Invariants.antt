@@ -10,4 +10,4 @@ invariant-loop-inst l =
     × Keeps l.fn.terms l.terms
     × (length l.state.registers ≡ length l.fn.state.registers)
     × ((g : Scene) (label : ℕ) (c : Course) → Sees g l.fn.terms l.tape → Follows g l.fn.terms label l.fn.state c
-      → (now : Course) × (steps (drop l.inst-index l.insts) g.tape now ≡ steps l.insts g.tape c) × Follows g l.terms label l.state now)
+    → (now : Course) × (steps (drop l.inst-index l.insts) g.tape now ≡ steps l.insts g.tape c) × Follows g l.terms label l.state now)

@@ -43,11 +43,11 @@ returns-clause-moves c = λ g edge default es.
     let n_is : n ≡ term_at g.v o value.number % 2 ^ c.args.width.bits = term-later a d (keeps_trans a b d kb kd) g.v number made.within ∙ made.says g.v in
     moves_to g label s old e before after s.alive (λ (m : Machine). cond p (Done (ended Ub m)) (to m)) _
     (λ m h.
-      let is = (rw c.as_slice.ensures at (c.in_ok-value.ensures.stands g.v)) ∙ ap (λ (rs : List Value). operand_value rs c.args.operand) h.registers in
-      rw p_is (switch_is g.v o value c.args.f.now c.args.copies.now c.args.leaving.ahead c.args.width.bits n (operand_value m.registers c.args.operand) edge default c.args.cases.now m is n_is))
+    let is = (rw c.as_slice.ensures at (c.in_ok-value.ensures.stands g.v)) ∙ ap (λ (rs : List Value). operand_value rs c.args.operand) h.registers in
+    rw p_is (switch_is g.v o value c.args.f.now c.args.copies.now c.args.leaving.ahead c.args.width.bits n (operand_value m.registers c.args.operand) edge default c.args.cases.now m is n_is))
     (moves_later g label s old a e ka before after s.alive (λ (m : Machine). cond p (Done (ended Ub m)) (to m)) c.requires.frontier c.requires.state c.requires.state.alive
-      (split_moves g label s a b e kb kd before between after s.alive c.in_ok-undefined.undefined c.in_ok-undefined.defined p (λ (m : Machine). Done (ended Ub m)) to
-        (frontier-later old a ka before c.requires.frontier) (state-later old a ka s c.requires.state) (is_term-later old a ka 1 s.alive c.requires.state.alive)
-        (record { within = c.in_ok-undefined.ensures.off.within; wide = c.in_ok-undefined.ensures.off.wide }) (c.in_ok-undefined.ensures.on.says g.v) (c.in_ok-undefined.ensures.off.says g.v)
-        (moves_end b d before between c.in_ok-undefined.undefined s label Ub c.in_ok-end_undefined.ensures.stays c.in_ok-end_undefined.ensures.goes g)
-        (c.in_ok-leave_by_cases.ensures.moves g edge default es)))
+    (split_moves g label s a b e kb kd before between after s.alive c.in_ok-undefined.undefined c.in_ok-undefined.defined p (λ (m : Machine). Done (ended Ub m)) to
+    (frontier-later old a ka before c.requires.frontier) (state-later old a ka s c.requires.state) (is_term-later old a ka 1 s.alive c.requires.state.alive)
+    (record { within = c.in_ok-undefined.ensures.off.within; wide = c.in_ok-undefined.ensures.off.wide }) (c.in_ok-undefined.ensures.on.says g.v) (c.in_ok-undefined.ensures.off.says g.v)
+    (moves_end b d before between c.in_ok-undefined.undefined s label Ub c.in_ok-end_undefined.ensures.stays c.in_ok-end_undefined.ensures.goes g)
+    (c.in_ok-leave_by_cases.ensures.moves g edge default es)))

@@ -31,11 +31,11 @@ returns-clause-moves c = λ g label sees.
     let sees_d = sees-later old d (keeps_trans old a d ka (keeps_trans a b d kb kd)) g c.args.tape.now c.requires.tape sees in
     moves_to g label s old e before after s.alive (λ (m : Machine). cond p (Done (ended Ub m)) (to m)) _
     (λ m h.
-      let is : p ≡ is_poison (operand_value m.registers r.operand) = sym (poison_bit g.v a c.in_ok-value.value) ∙ ap is_poison ((rw c.as_slice.ensures at (c.in_ok-value.ensures.stands g.v)) ∙ ap (λ (rs : List Value). operand_value rs r.operand) h.registers) in
-      done_if p (ended Ub m) (returned_with (undef_width r.of_type r.operand) r g.tape m) ∙ ap (λ (x : Bool). Done (if x then ended Ub m else returned_with (undef_width r.of_type r.operand) r g.tape m)) is)
+    let is : p ≡ is_poison (operand_value m.registers r.operand) = sym (poison_bit g.v a c.in_ok-value.value) ∙ ap is_poison ((rw c.as_slice.ensures at (c.in_ok-value.ensures.stands g.v)) ∙ ap (λ (rs : List Value). operand_value rs r.operand) h.registers) in
+    done_if p (ended Ub m) (returned_with (undef_width r.of_type r.operand) r g.tape m) ∙ ap (λ (x : Bool). Done (if x then ended Ub m else returned_with (undef_width r.of_type r.operand) r g.tape m)) is)
     (moves_later g label s old a e ka before after s.alive (λ (m : Machine). cond p (Done (ended Ub m)) (to m)) c.requires.frontier c.requires.state c.requires.state.alive
-      (split_moves g label s a b e kb kd before between after s.alive c.in_ok-undefined.undefined c.in_ok-undefined.defined p (λ (m : Machine). Done (ended Ub m)) to
-        (frontier-later old a ka before c.requires.frontier) (state-later old a ka s c.requires.state) (is_term-later old a ka 1 s.alive c.requires.state.alive)
-        (record { within = c.in_ok-undefined.ensures.off.within; wide = c.in_ok-undefined.ensures.off.wide }) (c.in_ok-undefined.ensures.on.says g.v) (c.in_ok-undefined.ensures.off.says g.v)
-        (moves_end b d before between c.in_ok-undefined.undefined s label Ub c.in_ok-end_undefined.ensures.stays c.in_ok-end_undefined.ensures.goes g)
-        (c.in_ok-return_operand.ensures.moves g label sees_d)))
+    (split_moves g label s a b e kb kd before between after s.alive c.in_ok-undefined.undefined c.in_ok-undefined.defined p (λ (m : Machine). Done (ended Ub m)) to
+    (frontier-later old a ka before c.requires.frontier) (state-later old a ka s c.requires.state) (is_term-later old a ka 1 s.alive c.requires.state.alive)
+    (record { within = c.in_ok-undefined.ensures.off.within; wide = c.in_ok-undefined.ensures.off.wide }) (c.in_ok-undefined.ensures.on.says g.v) (c.in_ok-undefined.ensures.off.says g.v)
+    (moves_end b d before between c.in_ok-undefined.undefined s label Ub c.in_ok-end_undefined.ensures.stays c.in_ok-end_undefined.ensures.goes g)
+    (c.in_ok-return_operand.ensures.moves g label sees_d)))

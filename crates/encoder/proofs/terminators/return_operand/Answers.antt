@@ -19,11 +19,12 @@ returns-in_ok-end_return-in-Some-clause-moves c = λ g label sees.
     let e : Some w ≡ undef_width c.args.returned.of_type c.args.returned.operand = ap (option_map (λ (x : Width). x.bits)) (sym c.in-Some.is) ∙ c.undef_width.ensures in
     moves_to g label c.args.state.now old c.end_return.new.terms c.args.frontier.now c.end_return.new.self c.args.c _ _ (λ m h. ap (λ (o : Option ℕ). Done (returned_with o c.args.returned g.tape m)) e)
     (moves_return g label c.args.state.now old c.truth.new.terms c.end_return.new.terms (keeps_trans old c.choose.new.terms c.truth.new.terms c.choose.ensures.kept c.truth.ensures.kept) c.args.frontier.now c.end_return.new.self c.requires.frontier c.args.c c.requires.c
-      (Some (record { poison = c.in_ok-poison-in-Some.poison; number = c.in_ok-choice-in-Some.choice.number })) c.in_ok-choice-in-Some.choice.tally (λ (m : Machine). Some (Num (choice_of g.tape m w))) (λ (m : Machine). m.taken ++ choice_of g.tape m w ∷ []) (c.in_ok-end_return-in-Some.ensures.stays g) (c.in_ok-end_return-in-Some.ensures.goes g)
-      (λ m held h.
-        let took = c.in_ok-choice-in-Some.ensures.takes g m sees held h.most h.tally in
-        (counts-later c.choose.new.terms c.truth.new.terms c.truth.ensures.kept g c.in_ok-choice-in-Some.choice.tally (m.taken ++ choice_of g.tape m w ∷ []) c.in_ok-choice-in-Some.ensures.tally took.0,
-         ap Some (chosen_value g.v c.choose.new.terms c.truth.new.terms c.truth.ensures.kept c.in_ok-poison-in-Some.poison c.in_ok-choice-in-Some.choice.number (choice_of g.tape m w) c.in_ok-choice-in-Some.ensures.number c.in_ok-poison-in-Some.ensures.made took.1))))
+    (Some (record { poison = c.in_ok-poison-in-Some.poison; number = c.in_ok-choice-in-Some.choice.number })) c.in_ok-choice-in-Some.choice.tally (λ (m : Machine). Some (Num (choice_of g.tape m w))) (λ (m : Machine). m.taken ++ choice_of g.tape m w ∷ []) (c.in_ok-end_return-in-Some.ensures.stays g) (c.in_ok-end_return-in-Some.ensures.goes g)
+    (λ m held h.
+    let took = c.in_ok-choice-in-Some.ensures.takes g m sees held h.most h.tally in (
+      counts-later c.choose.new.terms c.truth.new.terms c.truth.ensures.kept g c.in_ok-choice-in-Some.choice.tally (m.taken ++ choice_of g.tape m w ∷ []) c.in_ok-choice-in-Some.ensures.tally took.0,
+      ap Some (chosen_value g.v c.choose.new.terms c.truth.new.terms c.truth.ensures.kept c.in_ok-poison-in-Some.poison c.in_ok-choice-in-Some.choice.number (choice_of g.tape m w) c.in_ok-choice-in-Some.ensures.number c.in_ok-poison-in-Some.ensures.made took.1),
+    )))
 
 pub returns-in_ok-end_return-2-in-None-clause-moves : goal.returns-in_ok-end_return-2-in-None-clause-moves
 returns-in_ok-end_return-2-in-None-clause-moves c = λ g label sees.
@@ -31,7 +32,8 @@ returns-in_ok-end_return-2-in-None-clause-moves c = λ g label sees.
     let e : None ≡ undef_width c.args.returned.of_type c.args.returned.operand = ap (option_map (λ (x : Width). x.bits)) (sym c.in-None.is) ∙ c.undef_width.ensures in
     moves_to g label c.args.state.now old c.end_return-2.new.terms c.args.frontier.now c.end_return-2.new.self c.args.c _ _ (λ m h. ap (λ (o : Option ℕ). Done (returned_with o c.args.returned g.tape m)) e)
     (moves_return g label c.args.state.now old c.typed_operand_of.new.terms c.end_return-2.new.terms c.typed_operand_of.ensures.kept c.args.frontier.now c.end_return-2.new.self c.requires.frontier c.args.c c.requires.c
-      (Some c.in_ok-value-in-None.value) c.args.state.now.tally (λ (m : Machine). Some (typed_operand_value m.registers c.args.returned)) (λ (m : Machine). m.taken) (c.in_ok-end_return-2-in-None.ensures.stays g) (c.in_ok-end_return-2-in-None.ensures.goes g)
-      (λ m held h.
-        (counts-later old c.typed_operand_of.new.terms c.typed_operand_of.ensures.kept g c.args.state.now.tally m.taken c.requires.state.tally h.tally,
-         ap Some ((rw c.as_slice.ensures at (c.in_ok-value-in-None.ensures.stands g.v)) ∙ ap (λ (rs : List Value). typed_operand_value rs c.args.returned) h.registers))))
+    (Some c.in_ok-value-in-None.value) c.args.state.now.tally (λ (m : Machine). Some (typed_operand_value m.registers c.args.returned)) (λ (m : Machine). m.taken) (c.in_ok-end_return-2-in-None.ensures.stays g) (c.in_ok-end_return-2-in-None.ensures.goes g)
+    (λ m held h. (
+      counts-later old c.typed_operand_of.new.terms c.typed_operand_of.ensures.kept g c.args.state.now.tally m.taken c.requires.state.tally h.tally,
+      ap Some ((rw c.as_slice.ensures at (c.in_ok-value-in-None.ensures.stands g.v)) ∙ ap (λ (rs : List Value). typed_operand_value rs c.args.returned) h.registers),
+    )))

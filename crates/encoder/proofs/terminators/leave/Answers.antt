@@ -1,0 +1,43 @@
+use Rattle.std.proofs.Common.{◌≡◌, ◌∙◌, ◌∷◌, [], ap, sym, refl, map}
+use Rattle.ir_tree.specs.declared.tree.Case.{Case}
+use Rattle.points.specs.declared.outcome.Outcome.TheVariants.{Ub}
+use Rattle.points.specs.Run.{operand_value}
+use Rattle.unroll.specs.declared.layered.Edge.{Edge}
+use Rattle.unroll.specs.Layers.{along}
+use Rattle.encoder.specs.Frontier.{placed}
+use Rattle.encoder.proofs.Moving.{moves_to, moves_end}
+use Rattle.encoder.proofs.Leaves.{branch_left, label_edge, switch_edges, switch_left}
+use Rattle.encoder.proofs.terminators.leave.Goals as goal
+
+pub leave_by_return-requires-clause-value : goal.leave_by_return-requires-clause-value
+leave_by_return-requires-clause-value c = (rw c.in-Return.is at c.requires.returned) ∙ sym c.requires.shape.value
+
+pub returns-in_ok-leave_by_return-in-Return-clause-moves : goal.returns-in_ok-leave_by_return-in-Return-clause-moves
+returns-in_ok-leave_by_return-in-Return-clause-moves c = rw c.in-Return.is (λ g sees. c.in_ok-leave_by_return-in-Return.ensures.moves g c.args.leaving.label sees)
+
+pub returns-in_ok-follow-in-Branch-clause-moves : goal.returns-in_ok-follow-in-Branch-clause-moves
+returns-in_ok-follow-in-Branch-clause-moves c = rw c.in-Branch.is (λ g sees.
+    let by = rw c.in-Branch.is at c.requires.edges in
+    moves_to g c.args.leaving.label c.args.state.now c.args.terms.now c.follow.new.terms c.args.frontier.now c.follow.new.frontier c.args.state.now.alive _ _
+    (λ m h. ap (λ (e : Edge). placed c.args.f.now c.args.copies.now c.args.leaving.ahead (along e m)) (c.edge_at-edge.ensures ∙ label_edge (c.in-Branch.to ∷ []) c.args.edges.now by 0 c.in-Branch.to refl))
+    (c.in_ok-follow-in-Branch.ensures.moves g))
+
+pub returns-in_ok-leave_by_branch-in-CondBranch-clause-moves : goal.returns-in_ok-leave_by_branch-in-CondBranch-clause-moves
+returns-in_ok-leave_by_branch-in-CondBranch-clause-moves c = rw c.in-CondBranch.is (λ g sees.
+    let by = rw c.in-CondBranch.is at c.requires.edges in
+    moves_to g c.args.leaving.label c.args.state.now c.args.terms.now c.leave_by_branch.new.terms c.args.frontier.now c.leave_by_branch.new.frontier c.args.state.now.alive _ _
+    (λ m h. ap (placed c.args.f.now c.args.copies.now c.args.leaving.ahead) (branch_left (operand_value m.registers c.in-CondBranch.condition) c.in-CondBranch.if_true c.in-CondBranch.if_false c.args.edges.now m by))
+    (rw (c.edge_at-if_true.ensures, c.edge_at-if_false.ensures) at (c.in_ok-leave_by_branch-in-CondBranch.ensures.moves g)))
+
+pub returns-in_ok-leave_by_switch-in-Switch-clause-moves : goal.returns-in_ok-leave_by_switch-in-Switch-clause-moves
+returns-in_ok-leave_by_switch-in-Switch-clause-moves c = rw c.in-Switch.is (λ g sees.
+    let by = rw c.in-Switch.is at c.requires.edges in
+    let cases = c.in-Switch.cases in
+    moves_to g c.args.leaving.label c.args.state.now c.args.terms.now c.leave_by_switch.new.terms c.args.frontier.now c.leave_by_switch.new.frontier c.args.state.now.alive _ _
+    (λ m h. ap (placed c.args.f.now c.args.copies.now c.args.leaving.ahead) (switch_left c.in-Switch.width.bits (operand_value m.registers c.in-Switch.operand) c.in-Switch.default cases c.args.edges.now m by))
+    (c.in_ok-leave_by_switch-in-Switch.ensures.moves g (λ (x : Case). by.0 x.to) (by.0 c.in-Switch.default) (switch_edges c.in-Switch.default cases c.args.edges.now by)))
+
+pub returns-in_ok-end_undefined-in-Unreachable-clause-moves : goal.returns-in_ok-end_undefined-in-Unreachable-clause-moves
+returns-in_ok-end_undefined-in-Unreachable-clause-moves c = rw c.in-Unreachable.is (λ g sees.
+    moves_end c.args.terms.now c.end_undefined.new.terms c.args.frontier.now c.end_undefined.new.self c.args.state.now.alive c.args.state.now c.args.leaving.label Ub
+    c.in_ok-end_undefined-in-Unreachable.ensures.stays c.in_ok-end_undefined-in-Unreachable.ensures.goes g)
