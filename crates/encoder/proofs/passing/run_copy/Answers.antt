@@ -61,3 +61,17 @@ returns-clause-moves c = λ g block sees found.
       here c.args.f.now.returns_no_undef c.in_ok-undefined.undefined (λ (x : Exit). placed c.args.f.now c.args.copies.now (c.args.number + 1) (left_by (targets here.terminator) c.args.copy.now.edges x))
       (λ g' label at. rw c.as_slice.ensures at (c.in_ok-step_all.ensures.stands g' label at)) c.in_ok-undefined.ensures.made c.in_ok-end_undefined.ensures.stays c.in_ok-end_undefined.ensures.goes (λ r. refl) g sees
       (rw c.as_slice-2.ensures at (c.in_ok-leave.ensures.moves g sees_d)))
+
+pub returns-in_err-leave-clause-kept : goal.returns-in_err-leave-clause-kept
+returns-in_err-leave-clause-kept c =
+    let ka = c.step_all.ensures.kept in
+    let kb = c.and_not.ensures.kept in
+    let kd = c.end_undefined.ensures.kept in
+    keeps_trans c.args.terms.now c.step_all.new.terms c.leave.new.terms ka (keeps_trans c.step_all.new.terms c.and_not.new.terms c.leave.new.terms kb (keeps_trans c.and_not.new.terms c.end_undefined.new.terms c.leave.new.terms kd c.leave.ensures.kept))
+
+pub returns-clause-kept : goal.returns-clause-kept
+returns-clause-kept c =
+    let ka = c.step_all.ensures.kept in
+    let kb = c.and_not.ensures.kept in
+    let kd = c.end_undefined.ensures.kept in
+    keeps_trans c.args.terms.now c.step_all.new.terms c.leave.new.terms ka (keeps_trans c.step_all.new.terms c.and_not.new.terms c.leave.new.terms kb (keeps_trans c.and_not.new.terms c.end_undefined.new.terms c.leave.new.terms kd c.leave.ensures.kept))
