@@ -58,8 +58,12 @@ loop-i-preserved c = record {
       (rw c.edge_at.ensures at (c.in_ok-follow.ensures.moves g)) (c.loop-i.invariant.moves g edge default is new after) m;
 }
 
-pub follow-2-requires-clause-state : goal.follow-2-requires-clause-state
-follow-2-requires-clause-state c = state-later c.args.terms.now c.loop-i.terms c.loop-i.invariant.kept c.args.state.now c.requires.state
+pub follow-requires-2-clause-state : goal.follow-requires-2-clause-state
+follow-requires-2-clause-state c = state-later c.args.terms.now c.loop-i.terms c.loop-i.invariant.kept c.args.state.now c.requires.state
+
+pub returns-in_err-follow-clause-kept : goal.returns-in_err-follow-clause-kept
+returns-in_err-follow-clause-kept c =
+    keeps_trans c.args.terms.now c.loop-i.terms c.follow.new.terms c.loop-i.invariant.kept (keeps_trans c.loop-i.terms c.split_by_case.new.terms c.follow.new.terms c.split_by_case.ensures.kept c.follow.ensures.kept)
 
 pub returns-clause-moves : goal.returns-clause-moves
 returns-clause-moves c = λ g edge default is.
