@@ -45,9 +45,9 @@ loop-i-preserved c = record {
       let a = c.split_by_case.new.terms in
       let b = c.follow.new.terms in
       let w = c.args.width.bits in
-      let x = c.loop-i-item.result in
+      let x = c.index-cases-i.result in
       let same = hit_is g.v old l c.loop-i.invariant.kept c.args.number w x.value c.requires.number in
-      let at = c.loop-i-item.is in
+      let at = c.index-cases-i.is in
       cases_step g c.args.leaving.label c.args.state.now c.args.f.now c.args.copies.now c.args.leaving.ahead (λ (y : Case). nat_eq (y.value % 2 ^ w) (term_at g.v old c.args.number)) edge
       old l a b new c.split_by_case.ensures.kept c.follow.ensures.kept c.args.frontier.now c.loop-i.frontier c.follow.new.frontier after c.args.c c.loop-i.left c.in_ok-here.here c.in_ok-here.rest
       cases i x (slice_index_or c.args.edges.now (i + 1) Nowhere) to
@@ -55,7 +55,7 @@ loop-i-preserved c = record {
       c.loop-i-test.true at (case_edge c.args.edges.now default edge cases i x is c.loop-i-test.true at)
       (c.in_ok-here.ensures.on.says g.v ∙ ap (λ t. bit_at g.v l c.loop-i.left && t) same)
       (c.in_ok-here.ensures.off.says g.v ∙ ap (λ t. bit_at g.v l c.loop-i.left && not t) same)
-      (rw c.edge_at.ensures at (c.in_ok-follow.ensures.moves g)) (c.loop-i.invariant.moves g edge default is new after) m;
+      (rw c.edge_at-edge.ensures at (c.in_ok-follow.ensures.moves g)) (c.loop-i.invariant.moves g edge default is new after) m;
 }
 
 pub follow-requires-2-clause-state : goal.follow-requires-2-clause-state
