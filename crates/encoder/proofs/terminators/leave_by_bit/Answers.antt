@@ -1,8 +1,5 @@
-use Rattle.unroll.specs.Layers.{Where, along}
-use Rattle.points.specs.declared.machine.Machine.{Machine}
 use Rattle.bv_terms.specs.Trees.{bit_at}
 use Rattle.mem_terms.proofs.Later.{keeps_trans}
-use Rattle.encoder.specs.Frontier.{placed}
 use Rattle.encoder.proofs.Lasting.{frontier-later, state-later}
 use Rattle.encoder.proofs.Leaves.{split_moves}
 use Rattle.encoder.proofs.terminators.leave_by_bit.Goals as goal

@@ -1,4 +1,4 @@
-use Rattle.std.proofs.Common.{◌≡◌, ◌%◌, ◌∙◌, ap, sym, refl, List, cond, nat_eq}
+use Rattle.std.proofs.Common.{◌≡◌, ◌%◌, ◌∙◌, ap, List, cond, nat_eq}
 use Rattle.byte_block.specs.declared.value.Value.{Value}
 use Rattle.points.specs.declared.machine.Machine.{Machine}
 use Rattle.points.specs.declared.outcome.Outcome.TheVariants.{Ub}

@@ -1,13 +1,10 @@
-use Rattle.std.proofs.Common.{ℕ, zero, suc, ◌≡◌, ◌<◌, ◌≤◌, ◌+◌, ◌∷◌, ◌%◌, ◌^◌, ◌∙◌, ◌&&◌, not, List, length, map, get_or, nat_eq, ap, sym, refl, arith}
+use Rattle.std.proofs.Common.{◌+◌, ◌%◌, ◌^◌, ◌∙◌, ◌&&◌, not, map, nat_eq, ap, arith}
 use Rattle.std.specs.Prelude.{slice_index_or}
 use Rattle.ir_tree.specs.declared.tree.Case.{Case}
-use Rattle.unroll.specs.declared.layered.Edge.{Edge}
 use Rattle.unroll.specs.declared.layered.Edge.TheVariants.{Nowhere}
-use Rattle.bv_terms.specs.Trees.{IsTerm, bit_at, term_at}
+use Rattle.bv_terms.specs.Trees.{bit_at, term_at}
 use Rattle.mem_terms.proofs.Later.{keeps_self, keeps_trans, is_term-later}
 use Rattle.encoder.proofs.Lasting.{frontier-later, state-later}
-use Rattle.encoder.specs.declared.frontier.Frontier.{Frontier}
-use Rattle.encoder.specs.Frontier.{placed}
 use Rattle.encoder.proofs.Leaves.{cases_step, cases_end, case_edge, default_edge, hit_is}
 use Rattle.encoder.proofs.terminators.leave_by_cases.Goals as goal
 

@@ -1,5 +1,5 @@
 -- Wherever what is left of the cases takes the run, all of them take it there.
-use Rattle.std.proofs.Common.{ℕ, ◌≡◌, ◌≤◌, ◌∷◌, ◌%◌, ◌^◌, List, length, map, take, nat_eq}
+use Rattle.std.proofs.Common.{◌≡◌, ◌≤◌, ◌∷◌, ◌%◌, ◌^◌, List, length, map, take, nat_eq}
 use Rattle.ir_tree.specs.declared.tree.Case.{Case}
 use Rattle.points.specs.declared.machine.Machine.{Machine}
 use Rattle.unroll.specs.declared.layered.Edge.{Edge}

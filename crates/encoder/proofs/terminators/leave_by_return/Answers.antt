@@ -1,5 +1,4 @@
-use Rattle.std.proofs.Common.{◌≡◌, sym, refl, Option, Some, None, true, is_some}
-use Rattle.byte_block.specs.declared.value.Value.{Value}
+use Rattle.std.proofs.Common.{sym, refl, None}
 use Rattle.points.specs.declared.machine.Machine.{Machine}
 use Rattle.mem_terms.proofs.Later.{keeps_self}
 use Rattle.encoder.proofs.Leaves.{moves_return}

@@ -1,4 +1,4 @@
-use Rattle.std.proofs.Common.{◌≡◌, ◌∙◌, ap, sym, refl, Bool, List, cond, if◌then◌else◌}
+use Rattle.std.proofs.Common.{◌≡◌, ◌∙◌, ap, sym, Bool, List, cond, if◌then◌else◌}
 use Rattle.byte_block.specs.declared.value.Value.{Value}
 use Rattle.points.specs.declared.machine.Machine.{Machine}
 use Rattle.points.specs.declared.outcome.Outcome.TheVariants.{Ub}
@@ -6,7 +6,7 @@ use Rattle.points.specs.Run.{ended, is_poison, operand_value, returned_with, und
 use Rattle.unroll.specs.Layers.{Where, Done}
 use Rattle.bv_terms.specs.Trees.{bit_at}
 use Rattle.mem_terms.proofs.Later.{keeps_trans, is_term-later, words-later}
-use Rattle.encoder.proofs.Lasting.{frontier-later, state-later, tally-later, sees-later}
+use Rattle.encoder.proofs.Lasting.{frontier-later, state-later, sees-later}
 use Rattle.encoder.proofs.Moving.{moves_to, moves_later, moves_end}
 use Rattle.encoder.proofs.Leaves.{split_moves, poison_bit, done_if}
 use Rattle.encoder.proofs.terminators.return_defined.Goals as goal
