@@ -47,7 +47,7 @@ fn run_copy(
     ensures shape { OnOk result (HasShape f.now copies.now frontier.new) }
     ensures moves { OnOk result ((g : Scene) (block : Block) → Sees g terms.old tape.now → slice_get f.now.blocks copy.now.block ≡ Some block
         → Moves g terms.old terms.new frontier.old frontier.new entry.alive block.label entry (λ m. placed f.now copies.now (number + 1)
-            (left_by (targets block.terminator) copy.now.edges (exit_insts f.now.returns_no_undef block.insts block.terminator g.tape m)))) }
+        (left_by (targets block.terminator) copy.now.edges (exit_insts f.now.returns_no_undef block.insts block.terminator g.tape m)))) }
     ensures kept { Keeps terms.old terms.new }
 {
     let block = f.blocks.get(copy.block);

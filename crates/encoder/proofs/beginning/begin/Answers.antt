@@ -1,7 +1,5 @@
-use Rattle.std.proofs.Common.{◌≡◌, ◌∙◌, refl, ap, not, Bool, List}
-use Rattle.byte_block.specs.declared.value.Value.{Value}
-use Rattle.points.specs.Run.{breaks_noundef}
-use Rattle.mem_terms.proofs.Later.{keeps_trans, args-later, args_at-later, bit-later, term-later, tests-later, syms-later, is_term-later}
+use Rattle.std.proofs.Common.{◌∙◌, refl, ap, not}
+use Rattle.mem_terms.proofs.Later.{keeps_trans, args-later, args_at-later, term-later, tests-later, syms-later, is_term-later}
 use Rattle.encoder.proofs.Whole.{begin_carries}
 use Rattle.encoder.proofs.beginning.begin.Goals as goal
 

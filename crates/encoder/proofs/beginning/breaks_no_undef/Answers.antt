@@ -34,6 +34,6 @@ loop-parameters-preserved-in_ok-broken-2 c =
       made = record { within = c.in_ok-broken-2.ensures.made.within; wide = c.in_ok-broken-2.ensures.made.wide };
       fit = args-later a b k more_ps more_bs (args_front a ps more_ps p bs more_bs arg is are c.loop-parameters.invariant.fit).1;
       tests = broken_more a b k ps more_ps p bs more_bs arg c.loop-parameters.broken c.in_ok-broken-2.broken
-        (λ v. breaks_noundef c.args.parameters.now (args_at v c.args.terms.now c.args.args.now))
-        is are c.loop-parameters.invariant.fit c.loop-parameters.invariant.tests c.if-parameter.true c.in_ok-broken-2.ensures.made;
+          (λ v. breaks_noundef c.args.parameters.now (args_at v c.args.terms.now c.args.args.now))
+          is are c.loop-parameters.invariant.fit c.loop-parameters.invariant.tests c.if-parameter.true c.in_ok-broken-2.ensures.made;
     }

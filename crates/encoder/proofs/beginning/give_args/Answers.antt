@@ -31,6 +31,6 @@ loop-parameters-preserved c =
       count = ap (λ (rs : List SymValue). length rs) c.put.ensures ∙ (set_length c.loop-parameters.registers p.name c.in_ok-value.value ∙ c.loop-parameters.invariant.count);
       fit = args-later a b k more_ps more_bs (args_front a ps more_ps p bs more_bs arg is are c.loop-parameters.invariant.fit).1;
       given = rw c.put.ensures (given_more a b k ps more_ps p bs more_bs arg c.loop-parameters.registers c.in_ok-value.value
-        (λ v. with_args c.args.parameters.now (args_at v c.args.terms.now c.args.args.now) (values_at v c.args.terms.now c.args.registers.now))
-        is are c.loop-parameters.invariant.fit c.loop-parameters.invariant.made c.in_ok-value.ensures.stands c.loop-parameters.invariant.given);
+          (λ v. with_args c.args.parameters.now (args_at v c.args.terms.now c.args.args.now) (values_at v c.args.terms.now c.args.registers.now))
+          is are c.loop-parameters.invariant.fit c.loop-parameters.invariant.made c.in_ok-value.ensures.stands c.loop-parameters.invariant.given);
     }

@@ -1,5 +1,5 @@
 use Rattle.mem_terms.proofs.Later.{keeps_trans}
-use Rattle.encoder.proofs.Lasting.{state-later, tally-later}
+use Rattle.encoder.proofs.Lasting.{state-later}
 use Rattle.encoder.proofs.Whole.{enter_stands}
 use Rattle.encoder.proofs.function_run.enter.Goals as goal
 

@@ -1,6 +1,5 @@
-use Rattle.std.proofs.Common.{◌≡◌, ◌+◌, ◌∙◌, suc, replicate, ap, arith, None, Option, List}
+use Rattle.std.proofs.Common.{◌≡◌, ◌+◌, ◌∙◌, suc, replicate, ap, arith, None}
 use Rattle.encoder.proofs.Whole.{snoc}
-use Rattle.encoder.specs.declared.state.RunState.{RunState}
 use Rattle.encoder.proofs.function_run.nothing_known.Goals as goal
 
 pub loop-preserved : goal.loop-preserved

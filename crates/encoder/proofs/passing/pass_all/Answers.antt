@@ -1,7 +1,5 @@
 use Rattle.std.proofs.Common.{◌≡◌, ◌∙◌, ℕ, length, sym, subst, refl, arith, Some}
-use Rattle.std.specs.Prelude.{slice_get}
 use Rattle.std.proofs.lemmas.Option.{slice_get_read}
-use Rattle.unroll.specs.declared.layered.BlockCopy.{BlockCopy}
 use Rattle.unroll.specs.Layers.{Where, pass_copy, walk}
 use Rattle.mem_terms.proofs.Eaches.{each-at}
 use Rattle.mem_terms.proofs.Later.{keeps_trans, words-later}
@@ -26,10 +24,11 @@ loop-number-preserved c = record {
   frontier = c.in_ok-pass_copy.ensures.frontier;
   shape = c.in_ok-pass_copy.ensures.shape;
   tells = λ g w sees s.
-    let so = c.loop-number.invariant.tells g w sees s in
-    (pass_copy c.args.f.now c.loop-number.number c.copy-item.result g.tape so.0,
-     sym (walk_more c.args.f.now c.args.copies.now c.loop-number.number c.copy-item.result g.tape so.0 (rw c.as_slice-copy-items.ensures at c.loop-number-test.true) (rw c.as_slice-copy-items.ensures at c.copy-item.is)) ∙ so.1,
-     c.in_ok-pass_copy.ensures.passes g so.0 (sees-later c.args.terms.now c.loop-number.terms c.loop-number.invariant.kept g c.args.tape.now c.requires.tape sees) so.2);
+      let so = c.loop-number.invariant.tells g w sees s in (
+        pass_copy c.args.f.now c.loop-number.number c.copy-item.result g.tape so.0,
+        sym (walk_more c.args.f.now c.args.copies.now c.loop-number.number c.copy-item.result g.tape so.0 (rw c.as_slice-copy-items.ensures at c.loop-number-test.true) (rw c.as_slice-copy-items.ensures at c.copy-item.is)) ∙ so.1,
+        c.in_ok-pass_copy.ensures.passes g so.0 (sees-later c.args.terms.now c.loop-number.terms c.loop-number.invariant.kept g c.args.tape.now c.requires.tape sees) so.2,
+      );
 }
 
 pub returns-clause-passes : goal.returns-clause-passes

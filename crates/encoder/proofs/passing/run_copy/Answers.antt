@@ -1,4 +1,4 @@
-use Rattle.std.proofs.Common.{◌≡◌, ◌+◌, sym, subst, refl, Some}
+use Rattle.std.proofs.Common.{◌≡◌, ◌+◌, subst, refl}
 use Rattle.std.proofs.lemmas.Option.{slice_get_within}
 use Rattle.ir_tree.specs.declared.tree.Block.{Block}
 use Rattle.ir_tree.specs.Flow.{targets}
@@ -56,11 +56,11 @@ returns-clause-moves c = λ g block sees found.
     let same : here ≡ block = cc in
     let sees_d = sees-later old d (keeps_trans old a d ka (keeps_trans a b d kb kd)) g c.args.tape.now c.requires.tape sees in
     subst (λ (x : Block). Moves g old c.leave.new.terms c.args.frontier.now c.leave.new.frontier c.args.entry.alive x.label c.args.entry
-      (λ (m : Machine). placed c.args.f.now c.args.copies.now (c.args.number + 1) (left_by (targets x.terminator) c.args.copy.now.edges (exit_insts c.args.f.now.returns_no_undef x.insts x.terminator g.tape m)))) same
+    (λ (m : Machine). placed c.args.f.now c.args.copies.now (c.args.number + 1) (left_by (targets x.terminator) c.args.copy.now.edges (exit_insts c.args.f.now.returns_no_undef x.insts x.terminator g.tape m)))) same
     (copy_moves old a b d c.leave.new.terms ka kb kd c.args.frontier.now c.end_undefined.new.self c.leave.new.frontier c.requires.frontier c.args.tape.now c.requires.tape c.args.entry c.step_all.new.state c.requires.entry c.in_ok-step_all.ensures.state
-      here c.args.f.now.returns_no_undef c.in_ok-undefined.undefined (λ (x : Exit). placed c.args.f.now c.args.copies.now (c.args.number + 1) (left_by (targets here.terminator) c.args.copy.now.edges x))
-      (λ g' label at. rw c.as_slice.ensures at (c.in_ok-step_all.ensures.stands g' label at)) c.in_ok-undefined.ensures.made c.in_ok-end_undefined.ensures.stays c.in_ok-end_undefined.ensures.goes (λ r. refl) g sees
-      (rw c.as_slice-2.ensures at (c.in_ok-leave.ensures.moves g sees_d)))
+    here c.args.f.now.returns_no_undef c.in_ok-undefined.undefined (λ (x : Exit). placed c.args.f.now c.args.copies.now (c.args.number + 1) (left_by (targets here.terminator) c.args.copy.now.edges x))
+    (λ g' label at. rw c.as_slice.ensures at (c.in_ok-step_all.ensures.stands g' label at)) c.in_ok-undefined.ensures.made c.in_ok-end_undefined.ensures.stays c.in_ok-end_undefined.ensures.goes (λ r. refl) g sees
+    (rw c.as_slice-2.ensures at (c.in_ok-leave.ensures.moves g sees_d)))
 
 pub returns-in_err-leave-clause-kept : goal.returns-in_err-leave-clause-kept
 returns-in_err-leave-clause-kept c =
