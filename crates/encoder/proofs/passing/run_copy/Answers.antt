@@ -12,7 +12,7 @@ use Rattle.encoder.proofs.Through.{copy_moves, fits_at, labels_at, shape_after}
 use Rattle.encoder.proofs.passing.run_copy.Goals as goal
 
 pub get-block-requires : goal.get-block-requires
-get-block-requires c = slice_get_within c.args.f.now.blocks c.args.copy.now.block c.requires.copy.block c.requires.copy.is
+get-block-requires c = slice_get_within _ c.args.copy.now.block c.requires.copy.block c.requires.copy.is
 
 pub and_not-requires-clause-a : goal.and_not-requires-clause-a
 and_not-requires-clause-a c = is_term-later c.args.terms.now c.step_all.new.terms c.step_all.ensures.kept 1 c.args.entry.alive c.requires.entry.alive
