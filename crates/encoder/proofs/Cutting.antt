@@ -1,15 +1,14 @@
 -- Values at a width.
-use Rattle.std.proofs.Common.{ℕ, ◌≡◌, ◌≤◌, ◌<◌, ◌%◌, ◌^◌, Bool, true, false, cond, List, length, refl, ap, sym, ◌∙◌, arith}
+use Rattle.std.proofs.Common.{ℕ, ◌≡◌, ◌≤◌, ◌%◌, ◌^◌, Bool, true, false, List, refl, ap, ◌∙◌}
 use Rattle.std.proofs.lemmas.Nat.{pow_pos, mod_below}
-use Rattle.byte_block.specs.declared.value.Value.{Value}
-use Rattle.byte_block.specs.declared.value.Value.TheVariants.{Num, Poison}
+use Rattle.byte_block.specs.declared.value.Value.TheVariants.{Num}
 use Rattle.points.specs.Run.{cut_value}
 use Rattle.bv_terms.specs.declared.term.TermId.{TermId}
 use Rattle.bv_terms.specs.declared.term.Term.{Term}
-use Rattle.bv_terms.specs.Trees.{Keeps, Makes, Tests, IsTerm, term_at, bit_at}
+use Rattle.bv_terms.specs.Trees.{Keeps, Makes, term_at, bit_at}
 use Rattle.mem_terms.specs.declared.values.SymValue.{SymValue}
 use Rattle.mem_terms.specs.Values.{IsSymValue, value_at, value_from}
-use Rattle.mem_terms.proofs.Later.{keeps_trans, bit-later, term-later}
+use Rattle.mem_terms.proofs.Later.{keeps_trans, bit-later}
 use Rattle.mem_terms.proofs.Made.{small_mod, below-wider}
 
 -- a number of at most 64 digits has them in 64

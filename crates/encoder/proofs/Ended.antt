@@ -1,20 +1,18 @@
 -- How a run ended, with one way more to end.
-use Rattle.std.proofs.Common.{ℕ, ◌≡◌, Bool, true, false, ◌||◌, cond, List, Option, Some, None, IfSome, refl, ap, sym, ◌∙◌}
+use Rattle.std.proofs.Common.{ℕ, ◌≡◌, Bool, true, false, ◌||◌, cond, List, Option, Some, None, IfSome, refl, ◌∙◌}
 use Rattle.std.specs.Option.{option_map}
-use Rattle.byte_block.specs.declared.block.MemoryBlock.{MemoryBlock}
-use Rattle.points.specs.declared.outcome.Outcome.TheVariants.{Return, Ub, Beyond}
-use Rattle.points.specs.Run.{Run}
+use Rattle.points.specs.declared.outcome.Outcome.TheVariants.{Return}
 use Rattle.unroll.specs.Layers.{Where, At, Done}
 use Rattle.bv_terms.specs.declared.term.TermId.{TermId}
 use Rattle.bv_terms.specs.declared.term.Term.{Term}
-use Rattle.bv_terms.specs.Trees.{Keeps, Tests, IsTerm, bit_at, term_at}
+use Rattle.bv_terms.specs.Trees.{Keeps, Tests, IsTerm, bit_at}
 use Rattle.mem_terms.specs.declared.values.SymValue.{SymValue}
 use Rattle.mem_terms.specs.Values.{IsSymValue, value_at}
 use Rattle.mem_terms.proofs.Later.{keeps_trans, bit-later}
 use Rattle.encoder.specs.declared.state.Tally.{Tally}
 use Rattle.encoder.specs.declared.ending.Ending.{Ending}
 use Rattle.encoder.specs.Runs.{Scene, IsTally, Counts}
-use Rattle.encoder.specs.Frontier.{IsEnding, EndedSo, NotEnded, EndTells, ending_at}
+use Rattle.encoder.specs.Frontier.{IsEnding, EndedSo, NotEnded, EndTells}
 use Rattle.encoder.proofs.Lasting.{counts-later, option-later}
 
 or_false : (b : Bool) → (b || false) ≡ b

@@ -1,16 +1,15 @@
 -- The phis of a block, one after another.
-use Rattle.std.proofs.Common.{ℕ, ◌≡◌, ◌<◌, ◌≤◌, ◌+◌, List, [], ◌∷◌, length, map, drop, get_or, slice_set, refl, ap, sym, subst, ◌∙◌, arith}
+use Rattle.std.proofs.Common.{ℕ, ◌≡◌, ◌<◌, ◌≤◌, ◌+◌, List, ◌∷◌, length, drop, get_or, slice_set, refl, ap, sym, subst, ◌∙◌}
 use Rattle.std.proofs.lemmas.List.{drop_more, drop_all}
 use Rattle.ir_tree.specs.declared.tree.Phi.{Phi}
 use Rattle.ir_tree.specs.declared.tree.Block.{Block}
 use Rattle.byte_block.specs.declared.value.Value.{Value}
 use Rattle.points.specs.declared.machine.Machine.{Machine}
 use Rattle.points.specs.Run.{phi_value, with_phis, entered}
-use Rattle.bv_terms.specs.declared.term.TermId.{TermId}
 use Rattle.bv_terms.specs.declared.term.Term.{Term}
-use Rattle.bv_terms.specs.Trees.{Keeps, IsTerm}
+use Rattle.bv_terms.specs.Trees.{Keeps}
 use Rattle.mem_terms.specs.declared.values.SymValue.{SymValue}
-use Rattle.mem_terms.specs.Values.{AreSymValues, IsSymValue, value_at, values_at}
+use Rattle.mem_terms.specs.Values.{AreSymValues, value_at, values_at}
 use Rattle.mem_terms.proofs.Eaches.{map-set}
 use Rattle.mem_terms.proofs.Later.{values-later}
 use Rattle.encoder.specs.declared.state.RunState.{RunState}
@@ -29,7 +28,7 @@ pub phis_more : (old a b : List Term) (registers behind : List SymValue) (label 
 phis_more old a b registers behind label phis i phi value hr ka hb lt is kb one so v m e at =
     let item : value_at v b value ≡ phi_value m phi = one v m (values-later old a ka v registers hr ∙ e) at in
     let set : values_at v b (slice_set behind phi.into value) ≡ slice_set (values_at v a behind) phi.into (phi_value m phi) =
-      map-set (value_at v b) behind phi.into value ∙ rw (item, values-later a b kb v behind hb) refl in
+    map-set (value_at v b) behind phi.into value ∙ rw (item, values-later a b kb v behind hb) refl in
     let more : drop i phis ≡ phi ∷ drop (i + 1) phis = drop_more phis i phi lt ∙ ap (λ (p : Phi). p ∷ drop (i + 1) phis) (sym is) in
     ap (λ (rs : List Value). with_phis m (drop (i + 1) phis) (record m { registers = rs })) set
     ∙ (ap (λ (ps : List Phi). with_phis m ps (record m { registers = values_at v a behind })) (sym more) ∙ so v m e at)

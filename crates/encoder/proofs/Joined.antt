@@ -1,15 +1,15 @@
 -- One of two states of a run.
-use Rattle.std.proofs.Common.{ℕ, zero, suc, ◌≡◌, ◌<◌, ◌≤◌, ◌+◌, max, Bool, true, false, ◌||◌, cond, List, [], ◌∷◌, ◌++◌, length, map, take, get_or, refl, ap, sym, subst, ◌∙◌, arith, add-one, length-append}
+use Rattle.std.proofs.Common.{ℕ, zero, suc, ◌≡◌, ◌<◌, ◌≤◌, ◌+◌, max, Bool, true, false, cond, List, [], ◌∷◌, ◌++◌, length, take, get_or, refl, ap, sym, subst, ◌∙◌, arith, add-one, length-append}
 use Rattle.byte_block.specs.declared.value.Value.{Value}
 use Rattle.points.specs.declared.machine.Machine.{Machine}
 use Rattle.bv_terms.specs.declared.term.TermId.{TermId}
 use Rattle.bv_terms.specs.declared.term.Term.{Term}
 use Rattle.bv_terms.specs.Tree.{truth}
-use Rattle.bv_terms.specs.Trees.{Keeps, Makes, Tests, IsTerm, term_at, bit_at}
+use Rattle.bv_terms.specs.Trees.{Keeps, Makes, IsTerm, term_at, bit_at}
 use Rattle.mem_terms.specs.declared.values.SymValue.{SymValue}
 use Rattle.mem_terms.specs.Values.{AreSymValues, IsSymValue, value_at, values_at}
 use Rattle.mem_terms.proofs.Eaches.{each-at, each-push, map-at, map-length, map-push}
-use Rattle.mem_terms.proofs.Later.{keeps_trans, bit-later, term-later, is_term-later, sym-later, syms-later, value-later, values-later}
+use Rattle.mem_terms.proofs.Later.{keeps_trans, bit-later, term-later, syms-later, value-later, values-later}
 use Rattle.encoder.specs.declared.state.Tally.{Tally}
 use Rattle.encoder.specs.declared.state.RunState.{RunState}
 use Rattle.encoder.specs.Runs.{Scene, IsState, IsTally, Counts, Carries}
@@ -32,20 +32,23 @@ pub registers_more : (old a b : List Term) (c : TermId) (xs ys picked new : List
     → Keeps old b × AreSymValues b new × (length new ≡ i + 1) × (i + 1 ≤ length xs) × ((v : ℕ → ℕ → ℕ) → values_at v b new ≡ cond (bit_at v old c) (take (i + 1) (values_at v old xs)) (take (i + 1) (values_at v old ys)))
 registers_more old a b c xs ys picked new i x y r hc hxs hys len lt ix iy ka hp count so kb hr sr is =
     let hx = each-at (IsSymValue old) xs i x hxs lt ix in
-    let hy = each-at (IsSymValue old) ys i y hys (omega arith) iy in
-    (keeps_trans old a b ka kb,
-     subst (AreSymValues b) (sym is) (each-push (IsSymValue b) picked r (syms-later a b kb picked hp) hr),
-     ap length is ∙ omega (arith, count, length-append picked (r ∷ [])),
-     omega (arith, lt),
-     λ v.
-       let e_r : value_at v b r ≡ cond (bit_at v old c) (value_at v old x) (value_at v old y) =
-         sr v ∙ rw (bit-later old a ka v c hc.within, value-later old a ka v x hx, value-later old a ka v y hy) refl in
-       ap (values_at v b) is ∙ (map-push (value_at v b) picked r
-       ∙ (ap (λ zs. zs ++ value_at v b r ∷ []) (values-later a b kb v picked hp ∙ so v)
-       ∙ (ap (λ z. cond (bit_at v old c) (take i (values_at v old xs)) (take i (values_at v old ys)) ++ z ∷ []) e_r
-       ∙ (choice-push (bit_at v old c) (take i (values_at v old xs)) (take i (values_at v old ys)) (value_at v old x) (value_at v old y)
-       ∙ rw (take_push (values_at v old xs) i (value_at v old x) (value_at v old x) (omega (arith, map-length (value_at v old) xs)) (map-at (value_at v old) xs i x (value_at v old x) lt ix),
-             take_push (values_at v old ys) i (value_at v old y) (value_at v old y) (omega (arith, map-length (value_at v old) ys)) (map-at (value_at v old) ys i y (value_at v old y) (omega arith) iy)) refl)))))
+    let hy = each-at (IsSymValue old) ys i y hys (omega arith) iy in (
+      keeps_trans old a b ka kb,
+      subst (AreSymValues b) (sym is) (each-push (IsSymValue b) picked r (syms-later a b kb picked hp) hr),
+      ap length is ∙ omega (arith, count, length-append picked (r ∷ [])),
+      omega (arith, lt),
+      λ v.
+          let e_r : value_at v b r ≡ cond (bit_at v old c) (value_at v old x) (value_at v old y) =
+          sr v ∙ rw (bit-later old a ka v c hc.within, value-later old a ka v x hx, value-later old a ka v y hy) refl in
+          ap (values_at v b) is ∙ (map-push (value_at v b) picked r
+          ∙ (ap (λ zs. zs ++ value_at v b r ∷ []) (values-later a b kb v picked hp ∙ so v)
+          ∙ (ap (λ z. cond (bit_at v old c) (take i (values_at v old xs)) (take i (values_at v old ys)) ++ z ∷ []) e_r
+          ∙ (choice-push (bit_at v old c) (take i (values_at v old xs)) (take i (values_at v old ys)) (value_at v old x) (value_at v old y)
+          ∙ rw (
+            take_push (values_at v old xs) i (value_at v old x) (value_at v old x) (omega (arith, map-length (value_at v old) xs)) (map-at (value_at v old) xs i x (value_at v old x) lt ix),
+            take_push (values_at v old ys) i (value_at v old y) (value_at v old y) (omega (arith, map-length (value_at v old) ys)) (map-at (value_at v old) ys i y (value_at v old y) (omega arith) iy),
+          ) refl)))),
+    )
 
 module _ (old a b : List Term) (c read fits : TermId) (s t : Tally) (m n : ℕ) (hc : IsTerm old 1 c) (hs : IsTally old s) (ht : IsTally old t) (ka : Keeps old a) (kb : Keeps a b)
     (mr : Makes a read m (λ v. cond (bit_at v old c) (term_at v old s.read) (term_at v old t.read))) (mf : Makes b fits n (λ v. cond (bit_at v a c) (term_at v a s.fits) (term_at v a t.fits))) where

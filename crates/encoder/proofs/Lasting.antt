@@ -1,14 +1,13 @@
 -- What was said of a run so far is said of it over more terms.
-use Rattle.std.proofs.Common.{ℕ, zero, suc, ◌≡◌, ◌≤◌, ◌+◌, Bool, true, false, List, [], ◌∷◌, length, Option, Some, None, IfSome, refl, ap, sym, subst, ◌∙◌, arith}
+use Rattle.std.proofs.Common.{ℕ, zero, suc, ◌≡◌, List, [], ◌∷◌, Option, Some, None, IfSome, refl, ap, subst, ◌∙◌}
 use Rattle.std.specs.Prelude.{slice_get, slice_set}
 use Rattle.std.specs.Option.{option_map}
 use Rattle.byte_block.specs.declared.block.MemoryBlock.{MemoryBlock}
 use Rattle.points.specs.declared.machine.Machine.{Machine}
-use Rattle.points.specs.Run.{Run}
 use Rattle.unroll.specs.Layers.{Where, At, Done}
 use Rattle.bv_terms.specs.declared.term.TermId.{TermId}
 use Rattle.bv_terms.specs.declared.term.Term.{Term}
-use Rattle.bv_terms.specs.Trees.{Keeps, IsTerm, bit_at, term_at}
+use Rattle.bv_terms.specs.Trees.{Keeps}
 use Rattle.mem_terms.specs.declared.values.SymValue.{SymValue}
 use Rattle.mem_terms.specs.Values.{Each, IsSymValue, value_at}
 use Rattle.mem_terms.specs.Inputs.{AreWords}
@@ -19,7 +18,7 @@ use Rattle.encoder.specs.declared.state.RunState.{RunState}
 use Rattle.encoder.specs.declared.ending.Ending.{Ending}
 use Rattle.encoder.specs.declared.frontier.Frontier.{Frontier}
 use Rattle.encoder.specs.Runs.{Scene, Sees, IsTally, IsState, Counts, Carries}
-use Rattle.encoder.specs.Frontier.{IsEnding, EndedSo, NotEnded, EndTells, AreStates, IsUnreached, StandsAt, AheadTells, IsFrontier, Tells, ending_at}
+use Rattle.encoder.specs.Frontier.{IsEnding, EndTells, AreStates, IsUnreached, AheadTells, IsFrontier, Tells, ending_at}
 
 pub each-get : {A : Type 0} (P : A → Type 0) (xs : List A) (n : ℕ) (x : A) → Each P xs → slice_get xs n ≡ Some x → P x
 each-get P [] n x h e = absurd (let c : ⊥ = cc in c)

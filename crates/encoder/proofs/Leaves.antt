@@ -12,26 +12,26 @@ use Rattle.byte_block.specs.declared.value.Value.{Value}
 use Rattle.byte_block.specs.declared.value.Value.TheVariants as value
 use Rattle.byte_block.specs.declared.value.Value.TheVariants.{Num, Poison}
 use Rattle.points.specs.declared.machine.Machine.{Machine}
-use Rattle.points.specs.declared.outcome.Outcome.TheVariants.{Return, Ub, Beyond}
+use Rattle.points.specs.declared.outcome.Outcome.TheVariants.{Return, Ub}
 use Rattle.points.specs.Run.{Run, branch_on, ended, is_poison, switch_on}
 use Rattle.unroll.specs.declared.layered.Edge.{Edge}
 use Rattle.unroll.specs.declared.layered.Edge.TheVariants.{Nowhere}
 use Rattle.unroll.specs.declared.layered.BlockCopy.{BlockCopy}
-use Rattle.unroll.specs.Layers.{Where, At, Done, along, edge_of, left_by}
+use Rattle.unroll.specs.Layers.{Where, Done, along, edge_of, left_by}
 use Rattle.bv_terms.specs.declared.term.TermId.{TermId}
 use Rattle.bv_terms.specs.declared.term.Term.{Term}
 use Rattle.bv_terms.specs.Tree.{truth}
-use Rattle.bv_terms.specs.Trees.{Keeps, Makes, Tests, IsTerm, bit_at, term_at}
+use Rattle.bv_terms.specs.Trees.{Keeps, Tests, IsTerm, bit_at, term_at}
 use Rattle.mem_terms.specs.declared.values.SymValue.{SymValue}
 use Rattle.mem_terms.specs.Values.{value_at, value_from}
-use Rattle.mem_terms.proofs.Later.{keeps_trans, bit-later, term-later}
+use Rattle.mem_terms.proofs.Later.{bit-later, term-later}
 use Rattle.encoder.specs.declared.state.Tally.{Tally}
 use Rattle.encoder.specs.declared.state.RunState.{RunState}
 use Rattle.encoder.specs.declared.frontier.Frontier.{Frontier}
 use Rattle.encoder.specs.Runs.{Scene, IsState, Counts, Carries}
 use Rattle.encoder.specs.Frontier.{AreByLabel, IsFrontier, Tells, Moves, branched, placed, switched_on}
 use Rattle.encoder.proofs.Lasting.{state-later, tells-later}
-use Rattle.encoder.proofs.Moving.{moves_to, moves_later, moves_choice, moves_end, edge_of_label, switched, switched_push, switched_is, take_push}
+use Rattle.encoder.proofs.Moving.{moves_to, moves_later, moves_choice, edge_of_label, switched, switched_push, switched_is, take_push}
 
 -- ---- one way or the other
 

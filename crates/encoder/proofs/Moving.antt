@@ -1,36 +1,30 @@
 -- A run goes on from where it is.
-use Rattle.std.proofs.Common.{ℕ, zero, suc, ◌≡◌, ◌<◌, ◌≤◌, ◌+◌, ◌%◌, ◌^◌, Bool, true, false, cond, not, ◌&&◌, nat_eq, nat_le, if◌then◌else◌, List, [], ◌∷◌, ◌++◌, length, map, take, get_or, Option, Some, None, IfSome, inl, inr, refl, ap, sym, subst, ◌∙◌, arith, add-one}
-use Rattle.std.specs.Prelude.{slice_get, slice_set, slice_index_or, is_some}
-use Rattle.std.specs.Option.{option_map, option_map_or}
+use Rattle.std.proofs.Common.{ℕ, zero, suc, ◌≡◌, ◌<◌, ◌≤◌, ◌+◌, Bool, true, false, cond, not, ◌&&◌, nat_eq, nat_le, List, [], ◌∷◌, ◌++◌, length, map, take, get_or, Option, Some, None, inl, inr, refl, ap, sym, subst, ◌∙◌, arith, add-one}
+use Rattle.std.specs.Prelude.{slice_get}
+use Rattle.std.specs.Option.{option_map_or}
 use Rattle.std.specs.List.{find}
-use Rattle.std.proofs.lemmas.Bool.{cases_Bool, cases_lt, lt-leb, le-leb, eqb-true, eqb-false}
-use Rattle.std.proofs.lemmas.Option.{slice_get_past}
+use Rattle.std.proofs.lemmas.Bool.{cases_Bool, lt-leb, le-leb, eqb-true, eqb-false}
 use Rattle.ir_tree.specs.declared.tree.Case.{Case}
 use Rattle.ir_tree.specs.declared.tree.Block.{Block}
 use Rattle.ir_tree.specs.declared.tree.Function.{Function}
-use Rattle.byte_block.specs.declared.value.Value.{Value}
 use Rattle.points.specs.declared.machine.Machine.{Machine}
 use Rattle.points.specs.declared.outcome.Outcome.{Outcome}
-use Rattle.points.specs.declared.outcome.Outcome.TheVariants.{Return, Ub, Beyond}
+use Rattle.points.specs.declared.outcome.Outcome.TheVariants.{Ub}
 use Rattle.points.specs.Run.{Run, ended, entered}
 use Rattle.unroll.specs.declared.layered.Edge.{Edge}
-use Rattle.unroll.specs.declared.layered.Edge.TheVariants as edge
 use Rattle.unroll.specs.declared.layered.BlockCopy.{BlockCopy}
-use Rattle.unroll.specs.Layers.{Where, At, Done, edge_of, along}
+use Rattle.unroll.specs.Layers.{Where, At, Done, edge_of}
 use Rattle.bv_terms.specs.declared.term.TermId.{TermId}
 use Rattle.bv_terms.specs.declared.term.Term.{Term}
-use Rattle.bv_terms.specs.Trees.{Keeps, Tests, IsTerm, bit_at}
-use Rattle.mem_terms.specs.Values.{Each}
-use Rattle.mem_terms.proofs.Eaches.{each-set}
+use Rattle.bv_terms.specs.Trees.{Keeps, IsTerm, bit_at}
 use Rattle.mem_terms.proofs.Later.{keeps_trans, bit-later}
 use Rattle.encoder.specs.declared.state.Tally.{Tally}
 use Rattle.encoder.specs.declared.state.RunState.{RunState}
 use Rattle.encoder.specs.declared.ending.Ending.{Ending}
 use Rattle.encoder.specs.declared.frontier.Frontier.{Frontier}
 use Rattle.encoder.specs.Runs.{Scene, IsState, Counts, Carries}
-use Rattle.encoder.specs.Frontier.{IsEnding, EndTells, AreStates, AheadTells, HaveRegisters, IsFrontier, Tells, Moves, entering, arrived, placed}
-use Rattle.encoder.proofs.Lasting.{each-get, carries-later, state-later, tells-later, ahead_tells-later, end_tells-later, states-later, ending-later}
-use Rattle.encoder.proofs.Reached.{set_length}
+use Rattle.encoder.specs.Frontier.{EndTells, AheadTells, IsFrontier, Tells, Moves, placed}
+use Rattle.encoder.proofs.Lasting.{carries-later, tells-later, ahead_tells-later, end_tells-later}
 
 -- ---- moves, one after another
 
@@ -62,7 +56,7 @@ module _ (g : Scene) (label : ℕ) (s : RunState) where
       → Moves g old mid before between c1 label s to1 → Moves g mid new between after c2 label s to2 → Moves g old new before after c label s (λ (m : Machine). cond test (to1 m) (to2 m))
   moves_choice old mid new k before between after c c1 c2 test to1 to2 hs hc e1 e2 m1 m2 = record {
     stays = λ at none sh.
-      m2.stays at (bit-later old mid k g.v c2 hc.within ∙ (e2 ∙ ap (λ b. b && not test) none)) (m1.stays at (e1 ∙ ap (λ b. b && test) none) sh);
+        m2.stays at (bit-later old mid k g.v c2 hc.within ∙ (e2 ∙ ap (λ b. b && not test) none)) (m1.stays at (e1 ∙ ap (λ b. b && test) none) sh);
     goes = λ x held h sh. by x held h sh test refl;
   }
     where

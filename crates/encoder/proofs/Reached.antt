@@ -8,7 +8,7 @@ use Rattle.bv_terms.specs.declared.term.Term.{Term}
 use Rattle.bv_terms.specs.Trees.{Keeps, Tests, bit_at}
 use Rattle.mem_terms.specs.Values.{Each}
 use Rattle.mem_terms.proofs.Eaches.{each-set}
-use Rattle.mem_terms.proofs.Later.{bit-later, keeps_self}
+use Rattle.mem_terms.proofs.Later.{bit-later}
 use Rattle.encoder.specs.declared.state.RunState.{RunState}
 use Rattle.encoder.specs.Runs.{Scene, IsState, Carries}
 use Rattle.encoder.specs.Frontier.{AreStates, IsUnreached, StandsAt, AheadTells}
@@ -85,7 +85,7 @@ module _ (old new : List Term) (k : Keeps old new) (ahead : List (Option RunStat
             alive = after.2;
             carries = after.3;
             others = subst (λ (xs : List (Option RunState)). Each (IsUnreached g new) xs) (sym (ap (λ (i : ℕ). slice_set (slice_set ahead n changed) i None) (sym same) ∙ (set_again ahead n changed None ∙ ap (λ (i : ℕ). slice_set ahead i None) same)))
-              (unreached-later old new k g (slice_set ahead c None) (none_entries c) s.others);
+                (unreached-later old new k g (slice_set ahead c None) (none_entries c) s.others);
           }
 
       there : (n ≡ c → ⊥) → StandsAt g new (slice_set ahead n changed) c m
@@ -140,8 +140,8 @@ passes_joined old new g edge known entry t none st =
     record {
       unreached = λ u. same ∙ u;
       stands = λ x label m e alive h.
-        let is : known ≡ x = cc in
-        (entry, refl, same ∙ (ap (λ (s : RunState). bit_at g.v old s.alive) is ∙ alive), st label m (subst (λ (s : RunState). Carries g old label s m) (sym is) h));
+          let is : known ≡ x = cc in
+          (entry, refl, same ∙ (ap (λ (s : RunState). bit_at g.v old s.alive) is ∙ alive), st label m (subst (λ (s : RunState). Carries g old label s m) (sym is) h));
     }
 
 pub joined_alive : (old new : List Term) (g : Scene) (edge known entry : RunState) → Tests new entry.alive (λ v. bit_at v old known.alive || bit_at v old edge.alive) → bit_at g.v old edge.alive ≡ true → bit_at g.v new entry.alive ≡ true
@@ -153,7 +153,7 @@ passes_taken old g None u = record { unreached = λ w. tt; stands = λ entry lab
 passes_taken old g (Some s) u = record {
   unreached = λ w. tt;
   stands = λ entry label m e alive h.
-    let is : s ≡ entry = cc in
-    let none : bit_at g.v old entry.alive ≡ false = ap (λ (x : RunState). bit_at g.v old x.alive) (sym is) ∙ u in
-    absurd (let c : ⊥ = cc in c);
+      let is : s ≡ entry = cc in
+      let none : bit_at g.v old entry.alive ≡ false = ap (λ (x : RunState). bit_at g.v old x.alive) (sym is) ∙ u in
+      absurd (let c : ⊥ = cc in c);
 }

@@ -1,8 +1,7 @@
 -- The terms of a state follow an instruction.
-use Rattle.std.proofs.Common.{ℕ, zero, suc, ◌≡◌, ◌<◌, ◌≤◌, ◌+◌, Bool, true, false, cond, not, ◌&&◌, List, [], ◌∷◌, ◌++◌, length, map, drop, get_or, slice_set, Option, Some, None, inl, inr, refl, ap, sym, subst, ◌∙◌, arith, length-append}
+use Rattle.std.proofs.Common.{ℕ, ◌≡◌, ◌<◌, ◌≤◌, ◌+◌, Bool, true, false, cond, not, ◌&&◌, List, [], ◌∷◌, ◌++◌, length, drop, get_or, slice_set, Option, Some, refl, ap, sym, subst, ◌∙◌, arith, length-append}
 use Rattle.std.specs.Prelude.{slice_get, slice_index_or}
 use Rattle.std.specs.Option.{option_map}
-use Rattle.std.proofs.lemmas.Bool.{cases_Bool}
 use Rattle.std.proofs.lemmas.List.{drop_more, drop_all}
 use Rattle.ir_tree.specs.declared.tree.Inst.{Inst}
 use Rattle.ir_tree.specs.declared.tree.Inst.TheVariants as inst
@@ -23,14 +22,14 @@ use Rattle.bv_terms.specs.Tree.{Tree, truth, value_of}
 use Rattle.bv_terms.proofs.Stages.{tree-stored}
 use Rattle.bv_terms.specs.Trees.{AreFit, Keeps, Tests, IsTerm, bit_at, term_at, trees_from, trees_of}
 use Rattle.mem_terms.specs.declared.values.SymValue.{SymValue}
-use Rattle.mem_terms.specs.Values.{IsSymValue, AreSymValues, option_from, value_at, value_from, values_at}
+use Rattle.mem_terms.specs.Values.{IsSymValue, option_from, value_at, values_at}
 use Rattle.mem_terms.specs.Inputs.{AreWords}
 use Rattle.mem_terms.proofs.Eaches.{each-set, map-set}
-use Rattle.mem_terms.proofs.Later.{keeps_trans, bit-later, term-later, is_term-later, syms-later, value-later, values-later}
+use Rattle.mem_terms.proofs.Later.{keeps_trans, bit-later, term-later, syms-later, value-later, values-later}
 use Rattle.encoder.specs.declared.state.Tally.{Tally}
 use Rattle.encoder.specs.declared.state.RunState.{RunState}
 use Rattle.encoder.specs.Runs.{Scene, Sees, IsTally, IsState, Counts, Carries, Course, Idle, Dead, Live, advanced, stepped, steps, Follows}
-use Rattle.encoder.proofs.Lasting.{sees-later, tally-later, counts-later, carries-later}
+use Rattle.encoder.proofs.Lasting.{sees-later, counts-later, carries-later}
 
 -- ---- more terms
 
@@ -199,7 +198,7 @@ steps_end insts i tape c past = rw (drop_all i insts past) refl
 
 pub plainly_false : (terms : List Term) (a : TermId) (value width : ℕ) → AreFit [] terms → slice_get terms a.index ≡ Some (term.Constant value width) → value ≡ 0 → (v : ℕ → ℕ → ℕ) → bit_at v terms a ≡ false
 unfolding trees_of
-plainly_false terms a value width fit is zero v =
+plainly_false terms a value width fit is none v =
     let e : a.index ≡ 0 + a.index = omega arith in
     ap (λ (i : ℕ). truth (value_of v (slice_index_or (trees_from [] terms) i (tree.Constant 0 1)))) e
-    ∙ (ap (λ (t : Tree). truth (value_of v t)) (tree-stored [] terms a.index (term.Constant value width) fit is) ∙ ap truth zero)
+    ∙ (ap (λ (t : Tree). truth (value_of v t)) (tree-stored [] terms a.index (term.Constant value width) fit is) ∙ ap truth none)

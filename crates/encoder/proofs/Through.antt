@@ -1,9 +1,8 @@
 -- A run through one copy, and through all.
-use Rattle.std.proofs.Common.{ℕ, zero, suc, ◌≡◌, ◌<◌, ◌≤◌, ◌+◌, ◌*◌, Bool, true, false, cond, not, ◌&&◌, nat_eq, nat_le, if◌then◌else◌, List, [], ◌∷◌, ◌++◌, length, map, drop, get_or, Option, Some, None, IfSome, ◌⊎◌, inl, inr, refl, ap, sym, subst, ◌∙◌, arith}
+use Rattle.std.proofs.Common.{ℕ, zero, suc, ◌≡◌, ◌<◌, ◌≤◌, ◌+◌, Bool, true, false, not, ◌&&◌, nat_eq, nat_le, if◌then◌else◌, List, [], ◌∷◌, ◌++◌, length, map, drop, get_or, Option, Some, None, IfSome, ◌⊎◌, inl, inr, refl, ap, sym, subst, ◌∙◌, arith}
 use Rattle.std.specs.Prelude.{slice_get, slice_set, is_some}
 use Rattle.std.specs.List.{All}
 use Rattle.std.proofs.lemmas.List.Elements.{All-get_or}
-use Rattle.std.specs.Option.{option_map}
 use Rattle.std.proofs.lemmas.Bool.{cases_Bool, cases_lt, lt-leb, le-leb, eqb-true, eqb-false}
 use Rattle.std.proofs.lemmas.Option.{slice_get_past, slice_get_within, get_or_from_slice_get}
 use Rattle.std.proofs.lemmas.List.{drop_more, drop_all}
@@ -14,23 +13,23 @@ use Rattle.ir_tree.specs.declared.tree.Function.{Function}
 use Rattle.ir_tree.specs.Flow.{targets, block_of, successors}
 use Rattle.ir_tree.proofs.Indexing.{places_of}
 use Rattle.points.specs.declared.machine.Machine.{Machine}
-use Rattle.points.specs.declared.outcome.Outcome.TheVariants.{Return, Ub, Beyond}
-use Rattle.points.specs.Run.{Run, Exit, To, Over, act, ended, entered, exit_after, exit_by, exit_insts}
+use Rattle.points.specs.declared.outcome.Outcome.TheVariants.{Ub}
+use Rattle.points.specs.Run.{Run, Exit, Over, act, ended, entered, exit_after, exit_by, exit_insts}
 use Rattle.unroll.specs.declared.layered.Edge.{Edge}
 use Rattle.unroll.specs.declared.layered.BlockCopy.{BlockCopy}
-use Rattle.unroll.specs.Layers.{edge_to, copy_of, layer_of, layers_of, copies_of, Where, At, Done, left_by, pass_copy, walk, run_at_end}
+use Rattle.unroll.specs.Layers.{edge_to, layer_of, layers_of, copies_of, Where, At, Done, left_by, pass_copy, walk, run_at_end}
 use Rattle.bv_terms.specs.declared.term.TermId.{TermId}
 use Rattle.bv_terms.specs.declared.term.Term.{Term}
-use Rattle.bv_terms.specs.Trees.{Keeps, Tests, IsTerm, bit_at}
+use Rattle.bv_terms.specs.Trees.{Keeps, Tests, bit_at}
 use Rattle.mem_terms.specs.Values.{Each}
 use Rattle.mem_terms.specs.Inputs.{AreWords}
 use Rattle.mem_terms.proofs.Eaches.{each-set}
 use Rattle.mem_terms.proofs.Later.{keeps_self, keeps_trans, bit-later}
 use Rattle.encoder.specs.declared.state.RunState.{RunState}
 use Rattle.encoder.specs.declared.frontier.Frontier.{Frontier}
-use Rattle.encoder.specs.Runs.{Scene, Sees, IsTally, IsState, Counts, Carries, Course, Idle, Dead, Live, advanced, steps, Follows}
-use Rattle.encoder.specs.Frontier.{AreStates, IsUnreached, AheadTells, HaveRegisters, IsFrontier, HasShape, Tells, Moves, StandsAt, AreByLabel, IsCopyIn, FitsReturn, ReturnsFit, entering, arrived, placed}
-use Rattle.encoder.proofs.Lasting.{each-get, sees-later, tally-later, counts-later, carries-later, tells-later}
+use Rattle.encoder.specs.Runs.{Scene, Sees, IsState, Counts, Carries, Course, Idle, Dead, Live, advanced, steps, Follows}
+use Rattle.encoder.specs.Frontier.{AreStates, IsUnreached, AheadTells, HaveRegisters, IsFrontier, HasShape, Tells, Moves, AreByLabel, IsCopyIn, FitsReturn, ReturnsFit, entering, arrived, placed}
+use Rattle.encoder.proofs.Lasting.{each-get, counts-later, carries-later, tells-later}
 use Rattle.encoder.proofs.Reached.{set_length, set_other, changed_tells, passes_taken}
 
 -- ---- the instructions of a block and its end
@@ -84,17 +83,17 @@ module _ (old a b d new : List Term) (ka : Keeps old a) (kb : Keeps a b) (kd : K
       let und : bit_at g.v b undefined ≡ (bit_at g.v old entry.alive && not (bit_at g.v a s.alive)) = t.says g.v ∙ ap (λ x. x && not (bit_at g.v a s.alive)) (bit-later old a ka g.v entry.alive he.alive.within) in
       record {
         stays = λ at none sh.
-          let idle = run g block.label Idle sees none in
-          let sh' : Tells g b before at = tells-later old b kab g before at hb sh in
-          let off : bit_at g.v a s.alive ≡ false = idle_is none idle in
-          last.stays at (bit-later a d kad g.v s.alive hs.alive.within ∙ off) (st g at (und ∙ rw none refl) sh');
+            let idle = run g block.label Idle sees none in
+            let sh' : Tells g b before at = tells-later old b kab g before at hb sh in
+            let off : bit_at g.v a s.alive ≡ false = idle_is none idle in
+            last.stays at (bit-later a d kad g.v s.alive hs.alive.within ∙ off) (st g at (und ∙ rw none refl) sh');
         goes = λ m held h sh.
-          let sh' : Tells g b before None = tells-later old b kab g before None hb sh in
-          let follows = run g block.label (Live m) sees (held, h) in
-          elim (comes no_undef block.insts block.terminator g.tape m) [
-            | inl e ↦ dies m held sh' e.0 e.1 e.2 follows und
-            | inr e ↦ lives m held sh' e.0 e.1 e.2 follows und
-          ];
+            let sh' : Tells g b before None = tells-later old b kab g before None hb sh in
+            let follows = run g block.label (Live m) sees (held, h) in
+            elim (comes no_undef block.insts block.terminator g.tape m) [
+              | inl e ↦ dies m held sh' e.0 e.1 e.2 follows und
+              | inr e ↦ lives m held sh' e.0 e.1 e.2 follows und
+            ];
       }
     where
       idle_is : bit_at g.v old entry.alive ≡ false → Follows g a block.label s (steps block.insts g.tape Idle) → bit_at g.v a s.alive ≡ false
@@ -180,7 +179,7 @@ pass_unknown g old f copies w hw k copy block (At n m) none is found s = elim (c
         let stays : At n m ≡ pass_copy f k copy g.tape (At n m) = rw off refl in
         subst (λ (y : Where). Tells g old (record { ahead = slice_set w.ahead k None; ending = w.ending }) (Some (placed f copies (k + 1) y))) stays
         (subst (λ (y : Where). Tells g old (record { ahead = slice_set w.ahead k None; ending = w.ending }) (Some y)) (placed_further f copies k n m apart)
-          (taken_out g old w hw k None (placed f copies k (At n m)) none (placed_elsewhere f copies k n m apart) s))
+        (taken_out g old w hw k None (placed f copies k (At n m)) none (placed_elsewhere f copies k n m apart) s))
 
     never : k ≡ n → ⊥
     never same =
@@ -199,7 +198,7 @@ pass_known g old new f copies w after hw k copy block entry (Done run) known is 
 pass_known g old new f copies w after hw k copy block entry (At n m) known is found move s = elim (cases_Bool (nat_eq k n)) [
   | inl t ↦ subst (λ (y : Where). Tells g new after (Some (placed f copies (k + 1) y))) (runs t) (here (eqb-true k n t))
   | inr f' ↦ subst (λ (y : Where). Tells g new after (Some (placed f copies (k + 1) y))) (rests f')
-    (subst (λ (y : Where). Tells g new after (Some y)) (placed_further f copies k n m (eqb-false k n f')) (there (eqb-false k n f')))
+      (subst (λ (y : Where). Tells g new after (Some y)) (placed_further f copies k n m (eqb-false k n f')) (there (eqb-false k n f')))
 ]
   where
     runs : nat_eq k n ≡ true → left_by (targets block.terminator) copy.edges (exit_insts f.returns_no_undef block.insts block.terminator g.tape (entered block (record m { turn = copy.turn }))) ≡ pass_copy f k copy g.tape (At n m)
@@ -263,12 +262,14 @@ layer_in : (f : Function) (turns n turn at : ℕ) (bs : List Block) → ((i : �
 unfolding layer_of
 layer_in f turns n turn at [] from = tt
 layer_in f turns n turn at (b ∷ bs) from =
-    let here : at ≡ at + 0 = omega arith in
-    (record {
-      block = b;
-      is = ap (λ (i : ℕ). slice_get f.blocks i) here ∙ from 0;
-      edges = (λ (l : ℕ). edge_to turns n turn at (block_of f l), map_map (edge_to turns n turn at) (block_of f) (targets b.terminator));
-    }, layer_in f turns n turn (suc at) bs (λ i. ap (λ (j : ℕ). slice_get f.blocks j) (let e : suc at + i ≡ at + suc i = omega arith in e) ∙ from (suc i)))
+    let here : at ≡ at + 0 = omega arith in (
+      record {
+        block = b;
+        is = ap (λ (i : ℕ). slice_get f.blocks i) here ∙ from 0;
+        edges = (λ (l : ℕ). edge_to turns n turn at (block_of f l), map_map (edge_to turns n turn at) (block_of f) (targets b.terminator));
+      },
+      layer_in f turns n turn (suc at) bs (λ i. ap (λ (j : ℕ). slice_get f.blocks j) (let e : suc at + i ≡ at + suc i = omega arith in e) ∙ from (suc i)),
+    )
 
 layers_in : (f : Function) (turns n turn count : ℕ) → Each (IsCopyIn f) (layers_of turns n (successors f) turn count)
 unfolding layers_of

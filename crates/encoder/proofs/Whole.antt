@@ -1,5 +1,5 @@
 -- A run from its beginning to its end.
-use Rattle.std.proofs.Common.{ℕ, zero, suc, ◌≡◌, ◌<◌, ◌≤◌, ◌+◌, Bool, true, false, cond, not, ◌&&◌, ◌||◌, if◌then◌else◌, List, [], ◌∷◌, ◌++◌, length, map, drop, replicate, get_or, nat_eq, nat_lt, Option, Some, None, IfSome, ◌⊎◌, inl, inr, refl, ap, sym, subst, ◌∙◌, arith}
+use Rattle.std.proofs.Common.{ℕ, zero, suc, ◌≡◌, ◌<◌, ◌≤◌, ◌+◌, ◌-◌, Bool, true, false, not, ◌&&◌, ◌||◌, if◌then◌else◌, List, [], ◌∷◌, ◌++◌, length, map, drop, take, replicate, get_or, nat_eq, nat_lt, Option, Some, None, IfSome, inl, inr, refl, ap, sym, subst, ◌∙◌, arith}
 use Rattle.std.specs.Prelude.{slice_index, slice_set}
 use Rattle.std.proofs.lemmas.Bool.{cases_Bool, cases_lt, eqb-true, eq-eqb}
 use Rattle.std.proofs.lemmas.Bool.Decides.{nat_tests}
@@ -10,12 +10,12 @@ use Rattle.ir_tree.specs.declared.tree.Parameter.{Parameter}
 use Rattle.ir_tree.specs.declared.tree.Function.{Function}
 use Rattle.byte_block.specs.declared.block.MemoryBlock.{MemoryBlock}
 use Rattle.byte_block.specs.declared.value.Value.{Value}
-use Rattle.byte_block.specs.declared.value.Value.TheVariants.{Num, Poison}
+use Rattle.byte_block.specs.declared.value.Value.TheVariants.{Poison}
 use Rattle.points.specs.declared.machine.Machine.{Machine}
-use Rattle.points.specs.declared.outcome.Outcome.TheVariants.{Return, Ub, Beyond}
+use Rattle.points.specs.declared.outcome.Outcome.TheVariants.{Ub}
 use Rattle.points.specs.declared.point.Bounds.{Bounds}
 use Rattle.points.specs.declared.point.Input.{Input}
-use Rattle.points.specs.Run.{Run, IsPlain, breaks_noundef, ended, first_machine, is_poison, run_of, with_args}
+use Rattle.points.specs.Run.{Run, breaks_noundef, ended, first_machine, is_poison, run_of, with_args}
 use Rattle.unroll.specs.declared.layered.Edge.TheVariants as edge
 use Rattle.unroll.specs.declared.layered.BlockCopy.{BlockCopy}
 use Rattle.unroll.specs.declared.layered.Layered.{Layered}
@@ -24,21 +24,21 @@ use Rattle.unroll.proofs.Walking.{layers_have_runs}
 use Rattle.bv_terms.specs.declared.term.TermId.{TermId}
 use Rattle.bv_terms.specs.declared.term.Term.{Term}
 use Rattle.bv_terms.specs.Tree.{width_of}
-use Rattle.bv_terms.specs.Trees.{Keeps, Makes, Tests, IsTerm, bit_at, term_at, tree_in}
+use Rattle.bv_terms.specs.Trees.{Keeps, Tests, IsTerm, bit_at, term_at, tree_in}
 use Rattle.mem_terms.specs.declared.inputs.ArgTerms.{ArgTerms}
 use Rattle.mem_terms.specs.declared.outcome.OutcomeTerms.{OutcomeTerms}
 use Rattle.mem_terms.specs.Values.{Each, AreSymValues, value_from, value_at, values_at}
 use Rattle.mem_terms.specs.Inputs.{IsArg, AreArgs, AreWords, arg_at, args_at, argument_width, words_at}
-use Rattle.mem_terms.specs.Outcomes.{Shows, outcome_at}
+use Rattle.mem_terms.specs.Outcomes.{Shows}
 use Rattle.mem_terms.proofs.Eaches.{each-at, map-at, map-length, map-set}
-use Rattle.mem_terms.proofs.Later.{keeps_trans, bit-later, term-later, words_at-later, args_at-later, values-later}
+use Rattle.mem_terms.proofs.Later.{keeps_trans, bit-later, term-later, args_at-later, values-later}
 use Rattle.encoder.specs.declared.state.RunState.{RunState}
 use Rattle.encoder.specs.declared.ending.Ending.{Ending}
 use Rattle.encoder.specs.declared.frontier.Frontier.{Frontier}
 use Rattle.encoder.specs.Runs.{Scene, Sees, IsState, Counts, Carries, fits_from, zeros_past}
-use Rattle.encoder.specs.Frontier.{IsEnding, EndedSo, AreStates, HaveRegisters, IsUnreached, IsFrontier, Tells, Moves, first_place, placed, ending_at}
+use Rattle.encoder.specs.Frontier.{IsEnding, EndedSo, AreStates, HaveRegisters, IsUnreached, Tells, Moves, first_place, placed}
 use Rattle.mem_terms.specs.declared.values.SymValue.{SymValue}
-use Rattle.encoder.proofs.Lasting.{sees-later, counts-later, carries-later, tells-later, ending_at-later, state-later}
+use Rattle.encoder.proofs.Lasting.{sees-later, counts-later, carries-later, ending_at-later}
 use Rattle.encoder.proofs.Through.{placed_end, walk_over}
 
 -- ---- plain
@@ -113,8 +113,10 @@ plain_to tape taken h k =
 
 plain_from : (tape taken : List ℕ) → ((k : ℕ) → slice_index tape k ≡ slice_index taken k) → (fits_from tape 0 taken && zeros_past (length taken) 0 tape) ≡ true
 plain_from tape taken h =
-    rw (at-fits tape 0 taken (λ k lt. let e : 0 + k ≡ k = omega arith in ap (slice_index tape) e ∙ h k),
-        at-zeros (length taken) 0 tape (λ k far. h k ∙ past-end taken k (omega (arith, far)))) refl
+    rw (
+      at-fits tape 0 taken (λ k lt. let e : 0 + k ≡ k = omega arith in ap (slice_index tape) e ∙ h k),
+      at-zeros (length taken) 0 tape (λ k far. h k ∙ past-end taken k (omega (arith, far))),
+    ) refl
 
 -- ---- the words that weren't read
 
@@ -147,7 +149,7 @@ pub finish_stands : (old a b : List Term) (ka : Keeps old a) (kb : Keeps a b) (e
 finish_stands old a b ka kb e he tape rest plain tr tp g run sees h =
     let k = keeps_trans old a b ka kb in
     let same : bit_at g.v b plain ≡ (fits_from g.tape 0 run.taken && zeros_past (length run.taken) 0 g.tape) =
-      tp.says g.v ∙ rw (bit-later old a ka g.v e.tally.fits he.tally.fits.within, h.tally.fits, tr.says g.v, h.tally.read, sees) refl in
+    tp.says g.v ∙ rw (bit-later old a ka g.v e.tally.fits he.tally.fits.within, h.tally.fits, tr.says g.v, h.tally.read, sees) refl in
     record {
       outcome = ending_at-later old b k g.v g.memory e he ∙ h.outcome;
       read = term-later old b k g.v e.tally.read he.tally.read.within ∙ h.tally.read;
@@ -261,7 +263,7 @@ pub begin_carries : (old a b d : List Term) (f : Function) (args : List ArgTerms
     → (g : Scene) → Carries g d 0 s (first_machine f (record { args = args_at g.v old args; blocks = g.memory }))
 begin_carries old a b d f args first registers s ka kb kd hargs hr is poison given read fits g =
     let given' : values_at g.v b registers ≡ with_args f.parameters (args_at g.v old args) (replicate (length f.names) Poison) =
-      given g.v ∙ rw (args_at-later old a ka g.v f.parameters args hargs, poison g.v) refl in
+    given g.v ∙ rw (args_at-later old a ka g.v f.parameters args hargs, poison g.v) refl in
     record {
       registers = ap (values_at g.v d) is ∙ (values-later b d kd g.v registers hr ∙ given');
       tally = record { read = read g.v; fits = fits g.v };
@@ -289,7 +291,7 @@ given_more a b k parameters ps p args rest arg rs value whole is are h hr one so
     let set : values_at v b (slice_set rs p.name value) ≡ slice_set (values_at v a rs) p.name (arg_at v a arg) = map-set (value_at v b) rs p.name value ∙ rw (one v, values-later a b k v rs hr) refl in
     let further : args_at v b rest ≡ args_at v a rest = args_at-later a b k v ps rest (args_front a parameters ps p args rest arg is are h).1 in
     let so' : with_args (p ∷ ps) (args_at v a (arg ∷ rest)) (values_at v a rs) ≡ whole v =
-      subst (λ (qs : List Parameter). with_args qs (args_at v a (arg ∷ rest)) (values_at v a rs) ≡ whole v) is (subst (λ (bs : List ArgTerms). with_args parameters (args_at v a bs) (values_at v a rs) ≡ whole v) are (so v)) in
+    subst (λ (qs : List Parameter). with_args qs (args_at v a (arg ∷ rest)) (values_at v a rs) ≡ whole v) is (subst (λ (bs : List ArgTerms). with_args parameters (args_at v a bs) (values_at v a rs) ≡ whole v) are (so v)) in
     rw (set, further) so'
 
 or_assoc : (a b c : Bool) → ((a || b) || c) ≡ (a || (b || c))
@@ -327,3 +329,14 @@ module _ (a b : List Term) (k : Keeps a b) (parameters ps : List Parameter) (p :
   broken_same other same v =
       let here : (bit_at v a broken || ((p.no_undef && is_poison (arg_at v a arg)) || breaks_noundef ps (args_at v a rest))) ≡ whole v = broken_so v in
       rw (same v, further_same v) (rw other at here)
+
+take_whole : {A : Type 0} (xs : List A) → take (length xs) xs ≡ xs
+take_whole [] = refl
+take_whole (x ∷ xs) = ap (λ ys. x ∷ ys) (take_whole xs)
+
+-- a list is its first item and the part from the second on
+pub front_is : {A : Type 0} (xs : List A) (x : A) → 1 ≤ length xs → x ≡ get_or xs 0 x → xs ≡ x ∷ take (length xs - 1) (drop 1 xs)
+front_is [] x some is = absurd (omega arith)
+front_is (y ∷ ys) x some is =
+    let n : length (y ∷ ys) - 1 ≡ length ys = omega arith in
+    ap (λ z. z ∷ ys) (sym is) ∙ ap (λ zs. x ∷ zs) (sym (ap (λ k. take k ys) n ∙ take_whole ys))

@@ -1,5 +1,5 @@
 -- Where a run is between two copies, told by what is known of the copies ahead and of how it ended.
-use Rattle.std.specs.Prelude.{◌≡◌, ℕ, zero, suc, ◌+◌, ◌≤◌, ◌<◌, Bool, true, false, cond, is_some, nat_eq, nat_le, ◌%◌, if◌then◌else◌, List, [], ◌∷◌, length, map, All, Option, Some, None, IfSome, slice_get, slice_set}
+use Rattle.std.specs.Prelude.{◌≡◌, ℕ, true, false, cond, is_some, nat_eq, nat_le, ◌%◌, if◌then◌else◌, List, length, map, All, Option, Some, None, IfSome, slice_get, slice_set}
 use Rattle.std.specs.List.{find}
 use Rattle.std.specs.Option.{option_map, option_map_or}
 use Rattle.ir_tree.specs.declared.tree.IrType.{IrType}
@@ -11,7 +11,7 @@ use Rattle.ir_tree.specs.declared.tree.Function.{Function}
 use Rattle.ir_tree.specs.Sites.{same_number}
 use Rattle.ir_tree.specs.Flow.{targets}
 use Rattle.byte_block.specs.declared.value.Value.{Value}
-use Rattle.byte_block.specs.declared.value.Value.TheVariants.{Num, Poison}
+use Rattle.byte_block.specs.declared.value.Value.TheVariants.{Num}
 use Rattle.byte_block.specs.declared.block.MemoryBlock.{MemoryBlock}
 use Rattle.points.specs.declared.machine.Machine.{Machine}
 use Rattle.points.specs.declared.outcome.Outcome.{Outcome}
@@ -23,13 +23,12 @@ use Rattle.unroll.specs.declared.layered.BlockCopy.{BlockCopy}
 use Rattle.unroll.specs.Layers.{Where, At, Done, along}
 use Rattle.bv_terms.specs.declared.term.TermId.{TermId}
 use Rattle.bv_terms.specs.declared.term.Term.{Term}
-use Rattle.bv_terms.specs.Trees.{IsTerm, Keeps, bit_at, term_at}
-use Rattle.mem_terms.specs.declared.values.SymValue.{SymValue}
+use Rattle.bv_terms.specs.Trees.{IsTerm, bit_at}
 use Rattle.mem_terms.specs.Values.{Each, IsSymValue, value_at}
 use Rattle.encoder.specs.declared.state.RunState.{RunState}
 use Rattle.encoder.specs.declared.ending.Ending.{Ending}
 use Rattle.encoder.specs.declared.frontier.Frontier.{Frontier}
-use Rattle.encoder.specs.Runs.{Scene, Sees, IsTally, IsState, Counts, Carries}
+use Rattle.encoder.specs.Runs.{Scene, IsTally, IsState, Counts, Carries}
 
 -- ---- returns
 

@@ -81,7 +81,7 @@ fn choose_among(
     ensures read { IfOk result (λ c. Makes terms.new c.1.read 64 (λ v. cond (bit_at v terms.old taken) ((term_at v terms.old tally.read + 1) % 2 ^ 64) (term_at v terms.old tally.read))) }
     ensures fits { IfOk result (λ c. Tests terms.new c.1.fits (λ v. bit_at v terms.old tally.fits
         && (not (bit_at v terms.old taken) || nat_eq (slice_index (words_at v terms.old words.now) (term_at v terms.old tally.read))
-            (slice_index (words_at v terms.old words.now) (term_at v terms.old tally.read) % 2 ^ width.bits % 2 ^ 64)))) }
+        (slice_index (words_at v terms.old words.now) (term_at v terms.old tally.read) % 2 ^ width.bits % 2 ^ 64)))) }
     ensures kept { Keeps terms.old terms.new }
 {
     let word = word_at(terms, words, tally.read)?;

@@ -52,12 +52,7 @@ impl Ending {
     }
 
     /// Where the condition holds the run would take a jump too many, with these choices.
-    pub fn end_beyond(
-        &mut self,
-        terms: &mut Terms,
-        c: TermId,
-        tally: Tally,
-    ) -> Result<(), NoMemory>
+    pub fn end_beyond(&mut self, terms: &mut Terms, c: TermId, tally: Tally) -> Result<(), NoMemory>
         requires own { IsEnding terms.old self.old }
         requires c { IsTerm terms.old 1 c }
         requires tally { IsTally terms.old tally }

@@ -109,7 +109,17 @@ fn enter(
     frontier.end_undefined(terms, start.undefined, state.tally)?;
     let leaving = Leaving { label: 0, ahead: 0 };
     let alive = state.alive;
-    follow(alloc, terms, f, copies, &mut frontier, leaving, alive, &state, Edge::Copy(0))?;
+    follow(
+        alloc,
+        terms,
+        f,
+        copies,
+        &mut frontier,
+        leaving,
+        alive,
+        &state,
+        Edge::Copy(0),
+    )?;
     Ok(frontier)
 }
 
@@ -189,7 +199,7 @@ pub fn encode(
     ensures valued { IfOk result (λ o. is_some o.value ≡ is_some f.now.returns) }
     ensures stands { IfOk result (λ o. (v : ℕ → ℕ → ℕ) (bounds : Bounds) (memory : List MemoryBlock) → bounds.turns ≡ layered.now.turns
         → Shows v terms.new memory (words_at v terms.old tape.now.words)
-            (run_of f.now bounds (record { args = args_at v terms.old input.now.args; blocks = memory }) (words_at v terms.old tape.now.words)) o) }
+        (run_of f.now bounds (record { args = args_at v terms.old input.now.args; blocks = memory }) (words_at v terms.old tape.now.words)) o) }
     ensures kept { Keeps terms.old terms.new }
 {
     let words = tape.words.as_slice();

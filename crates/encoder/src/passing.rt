@@ -1,6 +1,6 @@
 //! One copy after another.
 
-ghost use Rattle.std.specs.Prelude.{◌≡◌, ◌<◌, ◌+◌, ℕ, IfOk, OnOk, None, Some, length, slice_get};
+ghost use Rattle.std.specs.Prelude.{◌≡◌, ◌<◌, ◌+◌, ◌^◌, ℕ, IfOk, OnOk, None, Some, length, slice_get};
 ghost use Rattle.ir_tree.specs.declared.tree.Block.{Block};
 ghost use Rattle.ir_tree.specs.Flow.{targets};
 ghost use Rattle.points.specs.declared.machine.Machine.{Machine};
@@ -37,7 +37,7 @@ fn run_copy(
 ) -> Result<(), NoMemory>
     requires frontier { IsFrontier terms.old frontier.old }
     requires shape { HasShape f.now copies.now frontier.old }
-    requires number { number < length copies.now }
+    requires number { number + 1 < 2 ^ 64 }
     requires copy { IsCopyIn f.now copy.now }
     requires returned { ReturnsFit f.now }
     requires entry { IsState terms.old entry }
@@ -47,7 +47,7 @@ fn run_copy(
     ensures shape { OnOk result (HasShape f.now copies.now frontier.new) }
     ensures moves { OnOk result ((g : Scene) (block : Block) → Sees g terms.old tape.now → slice_get f.now.blocks copy.now.block ≡ Some block
         → Moves g terms.old terms.new frontier.old frontier.new entry.alive block.label entry (λ m. placed f.now copies.now (number + 1)
-            (left_by (targets block.terminator) copy.now.edges (exit_insts f.now.returns_no_undef block.insts block.terminator g.tape m)))) }
+        (left_by (targets block.terminator) copy.now.edges (exit_insts f.now.returns_no_undef block.insts block.terminator g.tape m)))) }
     ensures kept { Keeps terms.old terms.new }
 {
     let block = f.blocks.get(copy.block);
@@ -89,6 +89,7 @@ fn pass_copy(
     requires frontier { IsFrontier terms.old frontier.old }
     requires shape { HasShape f.now copies.now frontier.old }
     requires number { slice_get copies.now number ≡ Some copy.now }
+    requires next { number + 1 < 2 ^ 64 }
     requires copy { IsCopyIn f.now copy.now }
     requires returned { ReturnsFit f.now }
     requires tape { AreWords terms.old tape.now }
@@ -122,6 +123,7 @@ pub fn pass_all(
     requires returned { ReturnsFit f.now }
     requires tape { AreWords terms.old tape.now }
     ensures frontier { OnOk result (IsFrontier terms.new frontier.new) }
+    ensures shape { OnOk result (HasShape f.now copies.now frontier.new) }
     ensures passes { OnOk result ((g : Scene) (w : Where) → Sees g terms.old tape.now → Tells g terms.old frontier.old (Some (placed f.now copies.now 0 w))
         → Tells g terms.new frontier.new (Some (placed f.now copies.now (length copies.now) (walk f.now 0 copies.now g.tape w)))) }
     ensures kept { Keeps terms.old terms.new }

@@ -1,7 +1,5 @@
-use Rattle.std.proofs.Common.{◌≡◌, ◌∙◌, refl, ap, not, Bool, List}
-use Rattle.byte_block.specs.declared.value.Value.{Value}
-use Rattle.points.specs.Run.{breaks_noundef}
-use Rattle.mem_terms.proofs.Later.{keeps_trans, args-later, args_at-later, bit-later, term-later, tests-later, syms-later, is_term-later}
+use Rattle.std.proofs.Common.{◌∙◌, refl, ap, not}
+use Rattle.mem_terms.proofs.Later.{keeps_trans, args-later, args_at-later, term-later, tests-later, syms-later, is_term-later}
 use Rattle.encoder.proofs.Whole.{begin_carries}
 use Rattle.encoder.proofs.beginning.begin.Goals as goal
 
@@ -60,3 +58,23 @@ returns-clause-carries c =
     c.poison_registers.ensures.kept c.give_args.ensures.kept (keeps_trans b z d kbz c.truth.ensures.kept) c.requires c.in_ok-give_args.ensures.made refl
     (λ v. rw c.len.ensures at (c.in_ok-registers.ensures.stands v)) (λ v. rw c.as_slice.ensures at (c.in_ok-give_args.ensures.stands v))
     (λ v. term-later z d c.truth.ensures.kept v c.in_ok-read.read c.in_ok-read.ensures.made.within ∙ c.in_ok-read.ensures.made.says v) (λ v. c.in_ok-fits.ensures.made.says v)
+
+pub returns-clause-state : goal.returns-clause-state
+returns-clause-state c =
+    let b = c.give_args.new.terms in
+    let x = c.breaks_no_undef.new.terms in
+    let y = c.negation.new.terms in
+    let z = c.number.new.terms in
+    let d = c.truth.new.terms in
+    let kbz = keeps_trans b x z c.breaks_no_undef.ensures.kept (keeps_trans x y z c.negation.ensures.kept c.number.ensures.kept) in
+    let alive = c.in_ok-alive.ensures.made in
+    let read = c.in_ok-read.ensures.made in
+    let fits = c.in_ok-fits.ensures.made in
+    record {
+      alive = is_term-later y d (keeps_trans y z d c.number.ensures.kept c.truth.ensures.kept) 1 c.in_ok-alive.alive (record { within = alive.within; wide = alive.wide });
+      registers = syms-later b d (keeps_trans b z d kbz c.truth.ensures.kept) c.give_args.new.registers c.in_ok-give_args.ensures.made;
+      tally = record {
+        read = is_term-later z d c.truth.ensures.kept 64 c.in_ok-read.read (record { within = read.within; wide = read.wide });
+        fits = record { within = fits.within; wide = fits.wide };
+      };
+    }

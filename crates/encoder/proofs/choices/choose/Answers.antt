@@ -1,4 +1,3 @@
-use Rattle.std.proofs.Common.{◌∙◌, sym, refl}
 use Rattle.encoder.proofs.Taking.{choice_stays, choice_taken}
 use Rattle.encoder.proofs.choices.choose.Goals as goal
 

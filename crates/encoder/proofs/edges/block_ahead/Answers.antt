@@ -1,5 +1,4 @@
-use Rattle.std.proofs.Common.{◌≡◌, ◌≤◌, length, None, arith}
-use Rattle.std.specs.Prelude.{slice_get}
+use Rattle.std.proofs.Common.{◌≤◌, length, arith}
 use Rattle.std.proofs.lemmas.Option.{slice_get_past}
 use Rattle.encoder.proofs.Moving.{placed_at, placed_blockless}
 use Rattle.encoder.proofs.edges.block_ahead.Goals as goal

@@ -9,3 +9,6 @@ returns-in_ok-end_beyond-in-Beyond-clause-moves c = rw c.in-Beyond.is
 pub returns-in_ok-end_undefined-in-Nowhere-clause-moves : goal.returns-in_ok-end_undefined-in-Nowhere-clause-moves
 returns-in_ok-end_undefined-in-Nowhere-clause-moves c = rw c.in-Nowhere.is
     (moves_end c.args.terms.now c.end_undefined.new.terms c.args.frontier.now c.end_undefined.new.self c.args.c c.args.state.now c.args.leaving.label Ub c.in_ok-end_undefined-in-Nowhere.ensures.stays c.in_ok-end_undefined-in-Nowhere.ensures.goes)
+
+pub returns-in-Copy-clause-moves : goal.returns-in-Copy-clause-moves
+returns-in-Copy-clause-moves c = rw c.in-Copy.is c.follow_to.ensures.moves

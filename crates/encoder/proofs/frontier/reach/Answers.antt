@@ -1,5 +1,5 @@
 use Rattle.std.proofs.Common.{◌≡◌, ◌∙◌, ap, sym, subst, List, [], Option, Some, None}
-use Rattle.std.specs.Prelude.{slice_get, slice_set}
+use Rattle.std.specs.Prelude.{slice_set}
 use Rattle.mem_terms.proofs.Later.{keeps_self}
 use Rattle.encoder.specs.declared.state.RunState.{RunState}
 use Rattle.encoder.specs.Frontier.{AreStates, AheadTells, StandsAt}
@@ -9,14 +9,14 @@ use Rattle.encoder.proofs.frontier.reach.Goals as goal
 pub returns-in_ok-entry-in-Some-clause-ahead : goal.returns-in_ok-entry-in-Some-clause-ahead
 returns-in_ok-entry-in-Some-clause-ahead c =
     let is : c.set.new.self ≡ slice_set c.args.ahead.now c.args.n (Some c.in_ok-entry-in-Some.entry) =
-      c.set.ensures ∙ (ap (λ (xs : List (Option RunState)). slice_set xs c.args.n (Some c.in_ok-entry-in-Some.entry)) c.take_entry.ensures.rest ∙ set_again c.args.ahead.now c.args.n None (Some c.in_ok-entry-in-Some.entry)) in
+    c.set.ensures ∙ (ap (λ (xs : List (Option RunState)). slice_set xs c.args.n (Some c.in_ok-entry-in-Some.entry)) c.take_entry.ensures.rest ∙ set_again c.args.ahead.now c.args.n None (Some c.in_ok-entry-in-Some.entry)) in
     subst (λ (xs : List (Option RunState)). AreStates c.join.new.terms xs) (sym is)
     (set_entries c.args.terms.now c.join.new.terms c.join.ensures.kept c.args.ahead.now c.requires.ahead (record { v = λ a b. 0; tape = []; memory = [] }) c.args.n (Some c.in_ok-entry-in-Some.entry) c.in_ok-entry-in-Some.ensures.made)
 
 pub returns-in_ok-entry-in-Some-clause-stays : goal.returns-in_ok-entry-in-Some-clause-stays
 returns-in_ok-entry-in-Some-clause-stays c = λ g at none s.
     let is : c.set.new.self ≡ slice_set c.args.ahead.now c.args.n (Some c.in_ok-entry-in-Some.entry) =
-      c.set.ensures ∙ (ap (λ (xs : List (Option RunState)). slice_set xs c.args.n (Some c.in_ok-entry-in-Some.entry)) c.take_entry.ensures.rest ∙ set_again c.args.ahead.now c.args.n None (Some c.in_ok-entry-in-Some.entry)) in
+    c.set.ensures ∙ (ap (λ (xs : List (Option RunState)). slice_set xs c.args.n (Some c.in_ok-entry-in-Some.entry)) c.take_entry.ensures.rest ∙ set_again c.args.ahead.now c.args.n None (Some c.in_ok-entry-in-Some.entry)) in
     subst (λ (xs : List (Option RunState)). AheadTells g c.join.new.terms xs at) (sym is)
     (changed_tells c.args.terms.now c.join.new.terms c.join.ensures.kept c.args.ahead.now c.requires.ahead g c.args.n (Some c.in-Some.known) (Some c.in_ok-entry-in-Some.entry) at c.requires.n (c.take_entry.ensures.value ∙ ap Some c.in-Some.is)
     (passes_joined c.args.terms.now c.join.new.terms g c.args.edge c.in-Some.known c.in_ok-entry-in-Some.entry c.in_ok-entry-in-Some.ensures.alive none (λ label m h. c.in_ok-entry-in-Some.ensures.stays g label m none h)) s)
@@ -24,7 +24,7 @@ returns-in_ok-entry-in-Some-clause-stays c = λ g at none s.
 pub returns-in_ok-entry-in-Some-clause-goes : goal.returns-in_ok-entry-in-Some-clause-goes
 returns-in_ok-entry-in-Some-clause-goes c = λ g m held h s.
     let is : c.set.new.self ≡ slice_set c.args.ahead.now c.args.n (Some c.in_ok-entry-in-Some.entry) =
-      c.set.ensures ∙ (ap (λ (xs : List (Option RunState)). slice_set xs c.args.n (Some c.in_ok-entry-in-Some.entry)) c.take_entry.ensures.rest ∙ set_again c.args.ahead.now c.args.n None (Some c.in_ok-entry-in-Some.entry)) in
+    c.set.ensures ∙ (ap (λ (xs : List (Option RunState)). slice_set xs c.args.n (Some c.in_ok-entry-in-Some.entry)) c.take_entry.ensures.rest ∙ set_again c.args.ahead.now c.args.n None (Some c.in_ok-entry-in-Some.entry)) in
     subst (λ (xs : List (Option RunState)). StandsAt g c.join.new.terms xs c.args.n m) (sym is)
     (changed_reached c.args.terms.now c.join.new.terms c.join.ensures.kept c.args.ahead.now c.requires.ahead g c.args.n c.in_ok-entry-in-Some.entry m c.requires.n
     (joined_alive c.args.terms.now c.join.new.terms g c.args.edge c.in-Some.known c.in_ok-entry-in-Some.entry c.in_ok-entry-in-Some.ensures.alive held) (c.in_ok-entry-in-Some.ensures.goes g m.block m held h) s)
@@ -32,7 +32,7 @@ returns-in_ok-entry-in-Some-clause-goes c = λ g m held h s.
 pub returns-in-None-clause-stays : goal.returns-in-None-clause-stays
 returns-in-None-clause-stays c = λ g at none s.
     let is : c.set-in-None.new.self ≡ slice_set c.args.ahead.now c.args.n (Some c.args.edge) =
-      c.set-in-None.ensures ∙ (ap (λ (xs : List (Option RunState)). slice_set xs c.args.n (Some c.args.edge)) c.take_entry.ensures.rest ∙ set_again c.args.ahead.now c.args.n None (Some c.args.edge)) in
+    c.set-in-None.ensures ∙ (ap (λ (xs : List (Option RunState)). slice_set xs c.args.n (Some c.args.edge)) c.take_entry.ensures.rest ∙ set_again c.args.ahead.now c.args.n None (Some c.args.edge)) in
     subst (λ (xs : List (Option RunState)). AheadTells g c.args.terms.now xs at) (sym is)
     (changed_tells c.args.terms.now c.args.terms.now (keeps_self c.args.terms.now) c.args.ahead.now c.requires.ahead g c.args.n None (Some c.args.edge) at c.requires.n (c.take_entry.ensures.value ∙ ap Some c.in-None.is)
     (passes_first c.args.terms.now g c.args.edge none) s)
@@ -40,6 +40,6 @@ returns-in-None-clause-stays c = λ g at none s.
 pub returns-in-None-clause-goes : goal.returns-in-None-clause-goes
 returns-in-None-clause-goes c = λ g m held h s.
     let is : c.set-in-None.new.self ≡ slice_set c.args.ahead.now c.args.n (Some c.args.edge) =
-      c.set-in-None.ensures ∙ (ap (λ (xs : List (Option RunState)). slice_set xs c.args.n (Some c.args.edge)) c.take_entry.ensures.rest ∙ set_again c.args.ahead.now c.args.n None (Some c.args.edge)) in
+    c.set-in-None.ensures ∙ (ap (λ (xs : List (Option RunState)). slice_set xs c.args.n (Some c.args.edge)) c.take_entry.ensures.rest ∙ set_again c.args.ahead.now c.args.n None (Some c.args.edge)) in
     subst (λ (xs : List (Option RunState)). StandsAt g c.args.terms.now xs c.args.n m) (sym is)
     (changed_reached c.args.terms.now c.args.terms.now (keeps_self c.args.terms.now) c.args.ahead.now c.requires.ahead g c.args.n c.args.edge m c.requires.n held h s)

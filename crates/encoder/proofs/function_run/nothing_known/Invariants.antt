@@ -1,8 +1,8 @@
 use Rattle.std.proofs.Common.{◌≡◌, ◌≤◌, replicate, None}
 use Rattle.encoder.proofs.function_run.nothing_known.Given as goal
 
-abbrev pub invariant-loop-_number : goal.invariant-loop-_number
-invariant-loop-_number l = record {
-  within : l._number ≤ l.copies;
-  made : l.ahead.items ≡ replicate l._number None;
+abbrev pub invariant-loop : goal.invariant-loop
+invariant-loop l = record {
+  within : l.counter ≤ l.copies;
+  made : l.ahead.items ≡ replicate l.counter None;
 }

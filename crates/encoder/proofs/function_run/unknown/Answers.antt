@@ -1,4 +1,4 @@
-use Rattle.std.proofs.Common.{◌∙◌, ap, length, replicate, None}
+use Rattle.std.proofs.Common.{◌∙◌, ap, length, None}
 use Rattle.encoder.proofs.Whole.{length-replicate, unknown_states, unknown_registers, unknown_unreached}
 use Rattle.encoder.proofs.function_run.unknown.Goals as goal
 

@@ -5,6 +5,6 @@ use Rattle.encoder.proofs.Stepping.{plainly_false}
 use Rattle.encoder.proofs.instructions.is_plainly_false.Goals as goal
 
 pub returns-in-Constant : goal.returns-in-Constant
-returns-in-Constant c = λ zero.
+returns-in-Constant c = λ is.
     plainly_false c.args.terms.now c.args.a c.in-Constant.value _ c.as_slice.ensures.fit
-    (term_place c.args.terms.now c.args.a.index (term.Constant 0 0) c.requires ∙ ap Some (rw c.as_slice.ensures.value at c.in-Constant.is)) (eqb-true c.in-Constant.value 0 zero)
+    (term_place c.args.terms.now c.args.a.index (term.Constant 0 0) c.requires ∙ ap Some (rw c.as_slice.ensures.value at c.in-Constant.is)) (eqb-true c.in-Constant.value 0 is)

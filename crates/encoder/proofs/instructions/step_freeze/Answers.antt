@@ -1,8 +1,7 @@
-use Rattle.std.proofs.Common.{ℕ, ◌≡◌, ◌∙◌, ap, List}
+use Rattle.std.proofs.Common.{◌∙◌, ap, List}
 use Rattle.std.proofs.lemmas.Result.{on_ok_weaker}
 use Rattle.byte_block.specs.declared.value.Value.{Value}
 use Rattle.points.specs.Run.{cut_value, operand_value}
-use Rattle.mem_terms.specs.Values.{value_at, values_at}
 use Rattle.mem_terms.proofs.Later.{keeps_trans, is_term-later, words-later}
 use Rattle.encoder.proofs.Lasting.{sees-later, state-later, tally-later}
 use Rattle.encoder.proofs.Stepping.{follows-later, live_registers, plain_follows, set_state}

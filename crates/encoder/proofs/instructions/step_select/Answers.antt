@@ -2,7 +2,7 @@ use Rattle.std.proofs.Common.{List, refl}
 use Rattle.ir_tree.specs.declared.tree.Inst.TheVariants as inst
 use Rattle.byte_block.specs.declared.value.Value.{Value}
 use Rattle.points.specs.Run.{operand_value, typed_operand_value}
-use Rattle.points.specs.Table.{cast_value, compared, selected}
+use Rattle.points.specs.Table.{selected}
 use Rattle.mem_terms.proofs.Later.{is_term-later}
 use Rattle.encoder.proofs.Lasting.{tally-later}
 use Rattle.encoder.proofs.Stepping.{value_follows, set_state}

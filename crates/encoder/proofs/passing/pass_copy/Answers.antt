@@ -1,8 +1,11 @@
-use Rattle.std.proofs.Common.{◌∙◌, ap, sym, subst, List, Option, Some, None, arith}
-use Rattle.std.specs.Prelude.{slice_set}
+use Rattle.std.proofs.Common.{◌+◌, ◌∙◌, ap, sym, subst, List, Option, Some, arith}
 use Rattle.std.proofs.lemmas.Option.{slice_get_within}
 use Rattle.encoder.specs.declared.state.RunState.{RunState}
-use Rattle.encoder.specs.Frontier.{Moves, Tells}
+use Rattle.ir_tree.specs.Flow.{targets}
+use Rattle.points.specs.declared.machine.Machine.{Machine}
+use Rattle.points.specs.Run.{exit_insts}
+use Rattle.unroll.specs.Layers.{left_by, pass_copy}
+use Rattle.encoder.specs.Frontier.{Moves, Tells, placed}
 use Rattle.encoder.proofs.Through.{taken_frontier, taken_shape, entry_state, entry_registers, pass_unknown, pass_known}
 use Rattle.encoder.proofs.passing.pass_copy.Goals as goal
 
@@ -11,9 +14,6 @@ run_copy-requires-clause-frontier c = taken_frontier c.args.terms.now c.args.fro
 
 pub run_copy-requires-clause-shape : goal.run_copy-requires-clause-shape
 run_copy-requires-clause-shape c = taken_shape c.args.f.now c.args.copies.now c.args.frontier.now c.take_entry.new.ahead c.args.number c.take_entry.ensures.rest c.requires.shape
-
-pub run_copy-requires-clause-number : goal.run_copy-requires-clause-number
-run_copy-requires-clause-number c = slice_get_within c.args.copies.now c.args.number c.args.copy.now c.requires.number
 
 pub run_copy-requires-clause-entry : goal.run_copy-requires-clause-entry
 run_copy-requires-clause-entry c = entry_state c.args.terms.now c.args.frontier.now c.args.number c.in-Some.entry (c.take_entry.ensures.value ∙ ap Some c.in-Some.is) c.requires.frontier
@@ -29,8 +29,9 @@ returns-in_ok-run_copy-in-Some-clause-passes c = λ g w sees s.
     let known = c.take_entry.ensures.value ∙ ap Some c.in-Some.is in
     let it = c.requires.copy in
     pass_known g c.args.terms.now c.run_copy.new.terms c.args.f.now c.args.copies.now c.args.frontier.now c.run_copy.new.frontier c.requires.frontier c.args.number c.args.copy.now it.block c.in-Some.entry w known c.requires.number it.is
-    (subst (λ (xs : List (Option RunState)). Moves g c.args.terms.now c.run_copy.new.terms (record { ahead = xs; ending = c.args.frontier.now.ending }) c.run_copy.new.frontier c.in-Some.entry.alive it.block.label c.in-Some.entry _) c.take_entry.ensures.rest
-      (c.in_ok-run_copy-in-Some.ensures.moves g it.block sees it.is)) s
+    (subst (λ (xs : List (Option RunState)). Moves g c.args.terms.now c.run_copy.new.terms (record { ahead = xs; ending = c.args.frontier.now.ending }) c.run_copy.new.frontier c.in-Some.entry.alive it.block.label c.in-Some.entry
+    (λ (m : Machine). placed c.args.f.now c.args.copies.now (c.args.number + 1) (left_by (targets it.block.terminator) c.args.copy.now.edges (exit_insts c.args.f.now.returns_no_undef it.block.insts it.block.terminator g.tape m)))) c.take_entry.ensures.rest
+    (c.in_ok-run_copy-in-Some.ensures.moves g it.block sees it.is)) s
 
 pub returns-in-None-clause-frontier : goal.returns-in-None-clause-frontier
 returns-in-None-clause-frontier c = taken_frontier c.args.terms.now c.args.frontier.now c.take_entry.new.ahead c.args.number c.take_entry.ensures.rest c.requires.frontier
@@ -41,5 +42,6 @@ returns-in-None-clause-shape c = taken_shape c.args.f.now c.args.copies.now c.ar
 pub returns-in-None-clause-passes : goal.returns-in-None-clause-passes
 returns-in-None-clause-passes c = λ g w sees s.
     let it = c.requires.copy in
-    subst (λ (xs : List (Option RunState)). Tells g c.args.terms.now (record { ahead = xs; ending = c.args.frontier.now.ending }) _) (sym c.take_entry.ensures.rest)
+    subst (λ (xs : List (Option RunState)). Tells g c.args.terms.now (record { ahead = xs; ending = c.args.frontier.now.ending })
+    (Some (placed c.args.f.now c.args.copies.now (c.args.number + 1) (pass_copy c.args.f.now c.args.number c.args.copy.now g.tape w)))) (sym c.take_entry.ensures.rest)
     (pass_unknown g c.args.terms.now c.args.f.now c.args.copies.now c.args.frontier.now c.requires.frontier c.args.number c.args.copy.now it.block w (c.take_entry.ensures.value ∙ ap Some c.in-None.is) c.requires.number it.is s)

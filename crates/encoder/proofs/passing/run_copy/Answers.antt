@@ -1,4 +1,4 @@
-use Rattle.std.proofs.Common.{◌≡◌, ◌+◌, sym, subst, refl, Some}
+use Rattle.std.proofs.Common.{◌≡◌, ◌+◌, subst, refl}
 use Rattle.std.proofs.lemmas.Option.{slice_get_within}
 use Rattle.ir_tree.specs.declared.tree.Block.{Block}
 use Rattle.ir_tree.specs.Flow.{targets}
@@ -12,7 +12,7 @@ use Rattle.encoder.proofs.Through.{copy_moves, fits_at, labels_at, shape_after}
 use Rattle.encoder.proofs.passing.run_copy.Goals as goal
 
 pub get-block-requires : goal.get-block-requires
-get-block-requires c = slice_get_within c.args.f.now.blocks c.args.copy.now.block c.requires.copy.block c.requires.copy.is
+get-block-requires c = slice_get_within _ c.args.copy.now.block c.requires.copy.block c.requires.copy.is
 
 pub and_not-requires-clause-a : goal.and_not-requires-clause-a
 and_not-requires-clause-a c = is_term-later c.args.terms.now c.step_all.new.terms c.step_all.ensures.kept 1 c.args.entry.alive c.requires.entry.alive
@@ -56,8 +56,22 @@ returns-clause-moves c = λ g block sees found.
     let same : here ≡ block = cc in
     let sees_d = sees-later old d (keeps_trans old a d ka (keeps_trans a b d kb kd)) g c.args.tape.now c.requires.tape sees in
     subst (λ (x : Block). Moves g old c.leave.new.terms c.args.frontier.now c.leave.new.frontier c.args.entry.alive x.label c.args.entry
-      (λ (m : Machine). placed c.args.f.now c.args.copies.now (c.args.number + 1) (left_by (targets x.terminator) c.args.copy.now.edges (exit_insts c.args.f.now.returns_no_undef x.insts x.terminator g.tape m)))) same
+    (λ (m : Machine). placed c.args.f.now c.args.copies.now (c.args.number + 1) (left_by (targets x.terminator) c.args.copy.now.edges (exit_insts c.args.f.now.returns_no_undef x.insts x.terminator g.tape m)))) same
     (copy_moves old a b d c.leave.new.terms ka kb kd c.args.frontier.now c.end_undefined.new.self c.leave.new.frontier c.requires.frontier c.args.tape.now c.requires.tape c.args.entry c.step_all.new.state c.requires.entry c.in_ok-step_all.ensures.state
-      here c.args.f.now.returns_no_undef c.in_ok-undefined.undefined (λ (x : Exit). placed c.args.f.now c.args.copies.now (c.args.number + 1) (left_by (targets here.terminator) c.args.copy.now.edges x))
-      (λ g' label at. rw c.as_slice.ensures at (c.in_ok-step_all.ensures.stands g' label at)) c.in_ok-undefined.ensures.made c.in_ok-end_undefined.ensures.stays c.in_ok-end_undefined.ensures.goes (λ r. refl) g sees
-      (rw c.as_slice-2.ensures at (c.in_ok-leave.ensures.moves g sees_d)))
+    here c.args.f.now.returns_no_undef c.in_ok-undefined.undefined (λ (x : Exit). placed c.args.f.now c.args.copies.now (c.args.number + 1) (left_by (targets here.terminator) c.args.copy.now.edges x))
+    (λ g' label at. rw c.as_slice.ensures at (c.in_ok-step_all.ensures.stands g' label at)) c.in_ok-undefined.ensures.made c.in_ok-end_undefined.ensures.stays c.in_ok-end_undefined.ensures.goes (λ r. refl) g sees
+    (rw c.as_slice-2.ensures at (c.in_ok-leave.ensures.moves g sees_d)))
+
+pub returns-in_err-leave-clause-kept : goal.returns-in_err-leave-clause-kept
+returns-in_err-leave-clause-kept c =
+    let ka = c.step_all.ensures.kept in
+    let kb = c.and_not.ensures.kept in
+    let kd = c.end_undefined.ensures.kept in
+    keeps_trans c.args.terms.now c.step_all.new.terms c.leave.new.terms ka (keeps_trans c.step_all.new.terms c.and_not.new.terms c.leave.new.terms kb (keeps_trans c.and_not.new.terms c.end_undefined.new.terms c.leave.new.terms kd c.leave.ensures.kept))
+
+pub returns-clause-kept : goal.returns-clause-kept
+returns-clause-kept c =
+    let ka = c.step_all.ensures.kept in
+    let kb = c.and_not.ensures.kept in
+    let kd = c.end_undefined.ensures.kept in
+    keeps_trans c.args.terms.now c.step_all.new.terms c.leave.new.terms ka (keeps_trans c.step_all.new.terms c.and_not.new.terms c.leave.new.terms kb (keeps_trans c.and_not.new.terms c.end_undefined.new.terms c.leave.new.terms kd c.leave.ensures.kept))

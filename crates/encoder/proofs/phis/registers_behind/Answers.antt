@@ -3,7 +3,7 @@ use Rattle.mem_terms.specs.Values.{IsSymValue}
 use Rattle.mem_terms.proofs.Eaches.{each-set}
 use Rattle.mem_terms.proofs.Later.{keeps_trans, syms-later}
 use Rattle.encoder.proofs.Reached.{set_length}
-use Rattle.encoder.proofs.Entering.{phis_begin, phis_more, phis_end}
+use Rattle.encoder.proofs.Entering.{phis_more, phis_end}
 use Rattle.encoder.proofs.phis.registers_behind.Goals as goal
 
 pub phi_value-requires : goal.phi_value-requires
@@ -11,11 +11,12 @@ phi_value-requires c = syms-later c.args.terms.now c.loop-phi.terms c.loop-phi.i
 
 pub loop-phi-preserved : goal.loop-phi-preserved
 loop-phi-preserved c = rw c.put.ensures (
-    keeps_trans c.args.terms.now c.loop-phi.terms c.phi_value.new.terms c.loop-phi.invariant.0 c.phi_value.ensures.kept,
-    each-set (IsSymValue c.phi_value.new.terms) c.loop-phi.behind c.phi-item.result.into c.in_ok-value.value (syms-later c.loop-phi.terms c.phi_value.new.terms c.phi_value.ensures.kept c.loop-phi.behind c.loop-phi.invariant.1) c.in_ok-value.ensures.made,
-    set_length c.loop-phi.behind c.phi-item.result.into c.in_ok-value.value ∙ c.loop-phi.invariant.2,
-    phis_more c.args.terms.now c.loop-phi.terms c.phi_value.new.terms c.args.registers.now c.loop-phi.behind c.args.label c.args.phis.now c.loop-phi.phi-index c.phi-item.result c.in_ok-value.value
-    c.requires c.loop-phi.invariant.0 c.loop-phi.invariant.1 c.loop-phi-test.true c.phi-item.is c.phi_value.ensures.kept c.in_ok-value.ensures.stands c.loop-phi.invariant.3)
+  keeps_trans c.args.terms.now c.loop-phi.terms c.phi_value.new.terms c.loop-phi.invariant.0 c.phi_value.ensures.kept,
+  each-set (IsSymValue c.phi_value.new.terms) c.loop-phi.behind c.phi-item.result.into c.in_ok-value.value (syms-later c.loop-phi.terms c.phi_value.new.terms c.phi_value.ensures.kept c.loop-phi.behind c.loop-phi.invariant.1) c.in_ok-value.ensures.made,
+  set_length c.loop-phi.behind c.phi-item.result.into c.in_ok-value.value ∙ c.loop-phi.invariant.2,
+  phis_more c.args.terms.now c.loop-phi.terms c.phi_value.new.terms c.args.registers.now c.loop-phi.behind c.args.label c.args.phis.now c.loop-phi.phi-index c.phi-item.result c.in_ok-value.value
+      c.requires c.loop-phi.invariant.0 c.loop-phi.invariant.1 c.loop-phi-test.true c.phi-item.is c.phi_value.ensures.kept c.in_ok-value.ensures.stands c.loop-phi.invariant.3,
+)
 
 pub returns-clause-stands : goal.returns-clause-stands
 returns-clause-stands c = λ v m e at. phis_end c.loop-phi.terms c.loop-phi.behind c.args.phis.now c.loop-phi.phi-index v m c.loop-phi-test.false (c.loop-phi.invariant.3 v m e at)

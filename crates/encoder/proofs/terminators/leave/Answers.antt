@@ -1,4 +1,4 @@
-use Rattle.std.proofs.Common.{◌≡◌, ◌∙◌, ◌∷◌, [], ap, sym, refl, map}
+use Rattle.std.proofs.Common.{◌∙◌, ◌∷◌, [], ap, sym, refl}
 use Rattle.ir_tree.specs.declared.tree.Case.{Case}
 use Rattle.points.specs.declared.outcome.Outcome.TheVariants.{Ub}
 use Rattle.points.specs.Run.{operand_value}
@@ -6,11 +6,20 @@ use Rattle.unroll.specs.declared.layered.Edge.{Edge}
 use Rattle.unroll.specs.Layers.{along}
 use Rattle.encoder.specs.Frontier.{placed}
 use Rattle.encoder.proofs.Moving.{moves_to, moves_end}
+use Rattle.encoder.proofs.Through.{shape_after}
 use Rattle.encoder.proofs.Leaves.{branch_left, label_edge, switch_edges, switch_left}
 use Rattle.encoder.proofs.terminators.leave.Goals as goal
 
 pub leave_by_return-requires-clause-value : goal.leave_by_return-requires-clause-value
 leave_by_return-requires-clause-value c = (rw c.in-Return.is at c.requires.returned) ∙ sym c.requires.shape.value
+
+pub returns-in_ok-leave_by_return-in-Return-clause-shape : goal.returns-in_ok-leave_by_return-in-Return-clause-shape
+returns-in_ok-leave_by_return-in-Return-clause-shape c =
+    shape_after c.args.f.now c.args.copies.now c.args.frontier.now c.leave_by_return.new.frontier c.in_ok-leave_by_return-in-Return.ensures.ahead c.in_ok-leave_by_return-in-Return.ensures.value c.requires.shape
+
+pub returns-in_ok-end_undefined-in-Unreachable-clause-shape : goal.returns-in_ok-end_undefined-in-Unreachable-clause-shape
+returns-in_ok-end_undefined-in-Unreachable-clause-shape c =
+    shape_after c.args.f.now c.args.copies.now c.args.frontier.now c.end_undefined.new.self c.in_ok-end_undefined-in-Unreachable.ensures.ahead c.in_ok-end_undefined-in-Unreachable.ensures.value c.requires.shape
 
 pub returns-in_ok-leave_by_return-in-Return-clause-moves : goal.returns-in_ok-leave_by_return-in-Return-clause-moves
 returns-in_ok-leave_by_return-in-Return-clause-moves c = rw c.in-Return.is (λ g sees. c.in_ok-leave_by_return-in-Return.ensures.moves g c.args.leaving.label sees)
@@ -35,7 +44,7 @@ returns-in_ok-leave_by_switch-in-Switch-clause-moves c = rw c.in-Switch.is (λ g
     let cases = c.in-Switch.cases in
     moves_to g c.args.leaving.label c.args.state.now c.args.terms.now c.leave_by_switch.new.terms c.args.frontier.now c.leave_by_switch.new.frontier c.args.state.now.alive _ _
     (λ m h. ap (placed c.args.f.now c.args.copies.now c.args.leaving.ahead) (switch_left c.in-Switch.width.bits (operand_value m.registers c.in-Switch.operand) c.in-Switch.default cases c.args.edges.now m by))
-    (c.in_ok-leave_by_switch-in-Switch.ensures.moves g (λ (x : Case). by.0 x.to) (by.0 c.in-Switch.default) (switch_edges c.in-Switch.default cases c.args.edges.now by)))
+    ((rw c.as_slice-cases.ensures at (c.in_ok-leave_by_switch-in-Switch.ensures.moves g)) (λ (x : Case). by.0 x.to) (by.0 c.in-Switch.default) (switch_edges c.in-Switch.default cases c.args.edges.now by)))
 
 pub returns-in_ok-end_undefined-in-Unreachable-clause-moves : goal.returns-in_ok-end_undefined-in-Unreachable-clause-moves
 returns-in_ok-end_undefined-in-Unreachable-clause-moves c = rw c.in-Unreachable.is (λ g sees.

@@ -1,4 +1,4 @@
-use Rattle.std.proofs.Common.{◌≡◌, ◌%◌, ◌∙◌, ap, sym, refl, List, cond, nat_eq}
+use Rattle.std.proofs.Common.{◌≡◌, ◌%◌, ◌∙◌, ap, List, cond, nat_eq}
 use Rattle.byte_block.specs.declared.value.Value.{Value}
 use Rattle.points.specs.declared.machine.Machine.{Machine}
 use Rattle.points.specs.declared.outcome.Outcome.TheVariants.{Ub}
@@ -12,6 +12,37 @@ use Rattle.encoder.proofs.Lasting.{frontier-later, state-later}
 use Rattle.encoder.proofs.Moving.{moves_to, moves_later, moves_end}
 use Rattle.encoder.proofs.Leaves.{split_moves, lowest_is, branch_is}
 use Rattle.encoder.proofs.terminators.leave_by_branch.Goals as goal
+
+pub end_undefined-requires-clause-own : goal.end_undefined-requires-clause-own
+end_undefined-requires-clause-own c =
+    let old = c.args.terms.now in
+    let k2 = keeps_trans old c.operand_of.new.terms c.resize.new.terms c.operand_of.ensures.kept c.resize.ensures.kept in
+    let k3 = keeps_trans old c.resize.new.terms c.split.new.terms k2 c.split.ensures.kept in
+    frontier-later old c.split.new.terms k3 c.args.frontier.now c.requires.frontier
+
+pub leave_by_bit-requires-clause-state : goal.leave_by_bit-requires-clause-state
+leave_by_bit-requires-clause-state c =
+    let old = c.args.terms.now in
+    let k2 = keeps_trans old c.operand_of.new.terms c.resize.new.terms c.operand_of.ensures.kept c.resize.ensures.kept in
+    let k3 = keeps_trans old c.resize.new.terms c.split.new.terms k2 c.split.ensures.kept in
+    let k4 = keeps_trans old c.split.new.terms c.end_undefined.new.terms k3 c.end_undefined.ensures.kept in
+    state-later old c.end_undefined.new.terms k4 c.args.state.now c.requires.state
+
+pub returns-in_err-leave_by_bit-clause-kept : goal.returns-in_err-leave_by_bit-clause-kept
+returns-in_err-leave_by_bit-clause-kept c =
+    let old = c.args.terms.now in
+    let k2 = keeps_trans old c.operand_of.new.terms c.resize.new.terms c.operand_of.ensures.kept c.resize.ensures.kept in
+    let k3 = keeps_trans old c.resize.new.terms c.split.new.terms k2 c.split.ensures.kept in
+    let k4 = keeps_trans old c.split.new.terms c.end_undefined.new.terms k3 c.end_undefined.ensures.kept in
+    keeps_trans old c.end_undefined.new.terms c.leave_by_bit.new.terms k4 c.leave_by_bit.ensures.kept
+
+pub returns-clause-kept : goal.returns-clause-kept
+returns-clause-kept c =
+    let old = c.args.terms.now in
+    let k2 = keeps_trans old c.operand_of.new.terms c.resize.new.terms c.operand_of.ensures.kept c.resize.ensures.kept in
+    let k3 = keeps_trans old c.resize.new.terms c.split.new.terms k2 c.split.ensures.kept in
+    let k4 = keeps_trans old c.split.new.terms c.end_undefined.new.terms k3 c.end_undefined.ensures.kept in
+    keeps_trans old c.end_undefined.new.terms c.leave_by_bit.new.terms k4 c.leave_by_bit.ensures.kept
 
 pub returns-clause-moves : goal.returns-clause-moves
 returns-clause-moves c = λ g.
@@ -43,7 +74,7 @@ returns-clause-moves c = λ g.
     let is = (rw c.as_slice.ensures at (c.in_ok-test.ensures.stands g.v)) ∙ ap (λ (rs : List Value). operand_value rs c.args.condition) h.registers in
     rw p_is (branch_is g.v o test c.args.f.now c.args.copies.now c.args.leaving.ahead (operand_value m.registers c.args.condition) c.args.if_true c.args.if_false m t is t_is))
     (moves_later g label s old a e ka before after s.alive (λ (m : Machine). cond p (Done (ended Ub m)) (to m)) c.requires.frontier c.requires.state c.requires.state.alive
-    (split_moves g label s a b e kb kd before between after s.alive c.in_ok-undefined.undefined c.in_ok-undefined.defined p (λ (m : Machine). Done (ended Ub m)) to
+    (split_moves g label s a b d e kb kd before between after s.alive c.in_ok-undefined.undefined c.in_ok-undefined.defined p (λ (m : Machine). Done (ended Ub m)) to
     (frontier-later old a ka before c.requires.frontier) (state-later old a ka s c.requires.state) (is_term-later old a ka 1 s.alive c.requires.state.alive)
     (record { within = c.in_ok-undefined.ensures.off.within; wide = c.in_ok-undefined.ensures.off.wide }) (c.in_ok-undefined.ensures.on.says g.v) (c.in_ok-undefined.ensures.off.says g.v)
     (moves_end b d before between c.in_ok-undefined.undefined s label Ub c.in_ok-end_undefined.ensures.stays c.in_ok-end_undefined.ensures.goes g)

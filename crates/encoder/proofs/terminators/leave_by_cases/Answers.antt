@@ -1,13 +1,10 @@
-use Rattle.std.proofs.Common.{ℕ, zero, suc, ◌≡◌, ◌<◌, ◌≤◌, ◌+◌, ◌∷◌, ◌%◌, ◌^◌, ◌∙◌, ◌&&◌, not, List, length, map, get_or, nat_eq, ap, sym, refl, arith}
+use Rattle.std.proofs.Common.{◌+◌, ◌%◌, ◌^◌, ◌∙◌, ◌&&◌, not, map, nat_eq, ap, arith}
 use Rattle.std.specs.Prelude.{slice_index_or}
 use Rattle.ir_tree.specs.declared.tree.Case.{Case}
-use Rattle.unroll.specs.declared.layered.Edge.{Edge}
 use Rattle.unroll.specs.declared.layered.Edge.TheVariants.{Nowhere}
-use Rattle.bv_terms.specs.Trees.{IsTerm, bit_at, term_at}
+use Rattle.bv_terms.specs.Trees.{bit_at, term_at}
 use Rattle.mem_terms.proofs.Later.{keeps_self, keeps_trans, is_term-later}
 use Rattle.encoder.proofs.Lasting.{frontier-later, state-later}
-use Rattle.encoder.specs.declared.frontier.Frontier.{Frontier}
-use Rattle.encoder.specs.Frontier.{placed}
 use Rattle.encoder.proofs.Leaves.{cases_step, cases_end, case_edge, default_edge, hit_is}
 use Rattle.encoder.proofs.terminators.leave_by_cases.Goals as goal
 
@@ -45,9 +42,9 @@ loop-i-preserved c = record {
       let a = c.split_by_case.new.terms in
       let b = c.follow.new.terms in
       let w = c.args.width.bits in
-      let x = c.loop-i-item.result in
+      let x = c.index-cases-i.result in
       let same = hit_is g.v old l c.loop-i.invariant.kept c.args.number w x.value c.requires.number in
-      let at = c.loop-i-item.is in
+      let at = c.index-cases-i.is in
       cases_step g c.args.leaving.label c.args.state.now c.args.f.now c.args.copies.now c.args.leaving.ahead (λ (y : Case). nat_eq (y.value % 2 ^ w) (term_at g.v old c.args.number)) edge
       old l a b new c.split_by_case.ensures.kept c.follow.ensures.kept c.args.frontier.now c.loop-i.frontier c.follow.new.frontier after c.args.c c.loop-i.left c.in_ok-here.here c.in_ok-here.rest
       cases i x (slice_index_or c.args.edges.now (i + 1) Nowhere) to
@@ -55,11 +52,15 @@ loop-i-preserved c = record {
       c.loop-i-test.true at (case_edge c.args.edges.now default edge cases i x is c.loop-i-test.true at)
       (c.in_ok-here.ensures.on.says g.v ∙ ap (λ t. bit_at g.v l c.loop-i.left && t) same)
       (c.in_ok-here.ensures.off.says g.v ∙ ap (λ t. bit_at g.v l c.loop-i.left && not t) same)
-      (rw c.edge_at.ensures at (c.in_ok-follow.ensures.moves g)) (c.loop-i.invariant.moves g edge default is new after) m;
+      (rw c.edge_at-edge.ensures at (c.in_ok-follow.ensures.moves g)) (c.loop-i.invariant.moves g edge default is new after) m;
 }
 
-pub follow-2-requires-clause-state : goal.follow-2-requires-clause-state
-follow-2-requires-clause-state c = state-later c.args.terms.now c.loop-i.terms c.loop-i.invariant.kept c.args.state.now c.requires.state
+pub follow-requires-2-clause-state : goal.follow-requires-2-clause-state
+follow-requires-2-clause-state c = state-later c.args.terms.now c.loop-i.terms c.loop-i.invariant.kept c.args.state.now c.requires.state
+
+pub returns-in_err-follow-clause-kept : goal.returns-in_err-follow-clause-kept
+returns-in_err-follow-clause-kept c =
+    keeps_trans c.args.terms.now c.loop-i.terms c.follow.new.terms c.loop-i.invariant.kept (keeps_trans c.loop-i.terms c.split_by_case.new.terms c.follow.new.terms c.split_by_case.ensures.kept c.follow.ensures.kept)
 
 pub returns-clause-moves : goal.returns-clause-moves
 returns-clause-moves c = λ g edge default is.

@@ -1,5 +1,5 @@
 -- Wherever what is left of the cases takes the run, all of them take it there.
-use Rattle.std.proofs.Common.{ℕ, ◌≡◌, ◌≤◌, ◌∷◌, ◌%◌, ◌^◌, List, length, map, take, nat_eq}
+use Rattle.std.proofs.Common.{◌≡◌, ◌≤◌, ◌∷◌, ◌%◌, ◌^◌, List, length, map, take, nat_eq}
 use Rattle.ir_tree.specs.declared.tree.Case.{Case}
 use Rattle.points.specs.declared.machine.Machine.{Machine}
 use Rattle.unroll.specs.declared.layered.Edge.{Edge}
@@ -20,6 +20,6 @@ invariant-loop-i l = record {
   frontier : IsFrontier l.terms l.frontier;
   shape : HasShape l.f l.copies l.frontier;
   moves : (g : Scene) (edge : Case → Edge) (default : Edge) → l.edges ≡ default ∷ map edge l.cases → (new : List Term) (after : Frontier) (to : Machine → Where) → Moves g l.terms new l.frontier after l.left l.leaving.label l.state to
-      → Moves g l.fn.terms new l.fn.frontier after l.c l.leaving.label l.state
+      → Moves g l.fn.terms new l.fn.frontier after l.fn.c l.leaving.label l.state
       (switched (λ (case : Case). nat_eq (case.value % 2 ^ l.width.bits) (term_at g.v l.fn.terms l.number)) (λ (case : Case) (m : Machine). placed l.f l.copies l.leaving.ahead (along (edge case) m)) to (take l.i l.cases));
 }

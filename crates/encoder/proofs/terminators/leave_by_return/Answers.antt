@@ -1,5 +1,4 @@
-use Rattle.std.proofs.Common.{◌≡◌, sym, refl, Option, Some, None, true, is_some}
-use Rattle.byte_block.specs.declared.value.Value.{Value}
+use Rattle.std.proofs.Common.{sym, refl, None}
 use Rattle.points.specs.declared.machine.Machine.{Machine}
 use Rattle.mem_terms.proofs.Later.{keeps_self}
 use Rattle.encoder.proofs.Leaves.{moves_return}
@@ -17,8 +16,8 @@ returns-in_ok-end_return-in-None-clause-moves c = rw c.in-None.is (λ g label se
     moves_return g label c.args.state.now old old c.end_return.new.terms (keeps_self old) c.args.frontier.now c.end_return.new.self c.requires.frontier c.args.state.now.alive c.requires.state.alive
     None c.args.state.now.tally (λ (m : Machine). None) (λ (m : Machine). m.taken) (c.in_ok-end_return-in-None.ensures.stays g) (c.in_ok-end_return-in-None.ensures.goes g) (λ m held h. (h.tally, refl)))
 
-pub returns-then-no_undef-in-Some-clause-moves : goal.returns-then-no_undef-in-Some-clause-moves
-returns-then-no_undef-in-Some-clause-moves c = rw (c.in-Some.is, c.if-no_undef.true) c.return_defined.ensures.moves
+pub returns-then-no_undef-clause-moves : goal.returns-then-no_undef-clause-moves
+returns-then-no_undef-clause-moves c = rw (c.in-Some.is, c.if-no_undef.true) c.return_defined.ensures.moves
 
-pub returns-else-no_undef-in-Some-clause-moves : goal.returns-else-no_undef-in-Some-clause-moves
-returns-else-no_undef-in-Some-clause-moves c = rw (c.in-Some.is, c.if-no_undef.false) c.return_operand.ensures.moves
+pub returns-else-no_undef-clause-moves : goal.returns-else-no_undef-clause-moves
+returns-else-no_undef-clause-moves c = rw (c.in-Some.is, c.if-no_undef.false) c.return_operand.ensures.moves

@@ -1,4 +1,4 @@
-use Rattle.std.proofs.Common.{ℕ, ◌≡◌, ◌%◌, ◌^◌, ◌∙◌, ap, sym, refl, List, cond, nat_eq}
+use Rattle.std.proofs.Common.{◌≡◌, ◌%◌, ◌^◌, ◌∙◌, ap, List, cond, nat_eq}
 use Rattle.std.specs.List.{find}
 use Rattle.std.specs.Option.{option_map_or}
 use Rattle.ir_tree.specs.declared.tree.Case.{Case}
@@ -14,6 +14,37 @@ use Rattle.encoder.proofs.Lasting.{frontier-later, state-later}
 use Rattle.encoder.proofs.Moving.{moves_to, moves_later, moves_end}
 use Rattle.encoder.proofs.Leaves.{split_moves, switch_is}
 use Rattle.encoder.proofs.terminators.leave_by_switch.Goals as goal
+
+pub end_undefined-requires-clause-own : goal.end_undefined-requires-clause-own
+end_undefined-requires-clause-own c =
+    let old = c.args.terms.now in
+    let k2 = keeps_trans old c.operand_of.new.terms c.resize.new.terms c.operand_of.ensures.kept c.resize.ensures.kept in
+    let k3 = keeps_trans old c.resize.new.terms c.split.new.terms k2 c.split.ensures.kept in
+    frontier-later old c.split.new.terms k3 c.args.frontier.now c.requires.frontier
+
+pub leave_by_cases-requires-clause-state : goal.leave_by_cases-requires-clause-state
+leave_by_cases-requires-clause-state c =
+    let old = c.args.terms.now in
+    let k2 = keeps_trans old c.operand_of.new.terms c.resize.new.terms c.operand_of.ensures.kept c.resize.ensures.kept in
+    let k3 = keeps_trans old c.resize.new.terms c.split.new.terms k2 c.split.ensures.kept in
+    let k4 = keeps_trans old c.split.new.terms c.end_undefined.new.terms k3 c.end_undefined.ensures.kept in
+    state-later old c.end_undefined.new.terms k4 c.args.state.now c.requires.state
+
+pub returns-in_err-leave_by_cases-clause-kept : goal.returns-in_err-leave_by_cases-clause-kept
+returns-in_err-leave_by_cases-clause-kept c =
+    let old = c.args.terms.now in
+    let k2 = keeps_trans old c.operand_of.new.terms c.resize.new.terms c.operand_of.ensures.kept c.resize.ensures.kept in
+    let k3 = keeps_trans old c.resize.new.terms c.split.new.terms k2 c.split.ensures.kept in
+    let k4 = keeps_trans old c.split.new.terms c.end_undefined.new.terms k3 c.end_undefined.ensures.kept in
+    keeps_trans old c.end_undefined.new.terms c.leave_by_cases.new.terms k4 c.leave_by_cases.ensures.kept
+
+pub returns-clause-kept : goal.returns-clause-kept
+returns-clause-kept c =
+    let old = c.args.terms.now in
+    let k2 = keeps_trans old c.operand_of.new.terms c.resize.new.terms c.operand_of.ensures.kept c.resize.ensures.kept in
+    let k3 = keeps_trans old c.resize.new.terms c.split.new.terms k2 c.split.ensures.kept in
+    let k4 = keeps_trans old c.split.new.terms c.end_undefined.new.terms k3 c.end_undefined.ensures.kept in
+    keeps_trans old c.end_undefined.new.terms c.leave_by_cases.new.terms k4 c.leave_by_cases.ensures.kept
 
 pub returns-clause-moves : goal.returns-clause-moves
 returns-clause-moves c = λ g edge default es.
@@ -46,7 +77,7 @@ returns-clause-moves c = λ g edge default es.
     let is = (rw c.as_slice.ensures at (c.in_ok-value.ensures.stands g.v)) ∙ ap (λ (rs : List Value). operand_value rs c.args.operand) h.registers in
     rw p_is (switch_is g.v o value c.args.f.now c.args.copies.now c.args.leaving.ahead c.args.width.bits n (operand_value m.registers c.args.operand) edge default c.args.cases.now m is n_is))
     (moves_later g label s old a e ka before after s.alive (λ (m : Machine). cond p (Done (ended Ub m)) (to m)) c.requires.frontier c.requires.state c.requires.state.alive
-    (split_moves g label s a b e kb kd before between after s.alive c.in_ok-undefined.undefined c.in_ok-undefined.defined p (λ (m : Machine). Done (ended Ub m)) to
+    (split_moves g label s a b d e kb kd before between after s.alive c.in_ok-undefined.undefined c.in_ok-undefined.defined p (λ (m : Machine). Done (ended Ub m)) to
     (frontier-later old a ka before c.requires.frontier) (state-later old a ka s c.requires.state) (is_term-later old a ka 1 s.alive c.requires.state.alive)
     (record { within = c.in_ok-undefined.ensures.off.within; wide = c.in_ok-undefined.ensures.off.wide }) (c.in_ok-undefined.ensures.on.says g.v) (c.in_ok-undefined.ensures.off.says g.v)
     (moves_end b d before between c.in_ok-undefined.undefined s label Ub c.in_ok-end_undefined.ensures.stays c.in_ok-end_undefined.ensures.goes g)

@@ -1,4 +1,4 @@
-use Rattle.std.proofs.Common.{◌≡◌, ◌∙◌, ap, sym, refl, Bool, List, cond, if◌then◌else◌}
+use Rattle.std.proofs.Common.{◌≡◌, ◌∙◌, ap, sym, Bool, List, cond, if◌then◌else◌}
 use Rattle.byte_block.specs.declared.value.Value.{Value}
 use Rattle.points.specs.declared.machine.Machine.{Machine}
 use Rattle.points.specs.declared.outcome.Outcome.TheVariants.{Ub}
@@ -6,10 +6,44 @@ use Rattle.points.specs.Run.{ended, is_poison, operand_value, returned_with, und
 use Rattle.unroll.specs.Layers.{Where, Done}
 use Rattle.bv_terms.specs.Trees.{bit_at}
 use Rattle.mem_terms.proofs.Later.{keeps_trans, is_term-later, words-later}
-use Rattle.encoder.proofs.Lasting.{frontier-later, state-later, tally-later, sees-later}
+use Rattle.encoder.proofs.Lasting.{frontier-later, state-later, sees-later}
 use Rattle.encoder.proofs.Moving.{moves_to, moves_later, moves_end}
 use Rattle.encoder.proofs.Leaves.{split_moves, poison_bit, done_if}
 use Rattle.encoder.proofs.terminators.return_defined.Goals as goal
+
+pub end_undefined-requires-clause-own : goal.end_undefined-requires-clause-own
+end_undefined-requires-clause-own c =
+    let old = c.args.terms.now in
+    let k2 = keeps_trans old c.operand_of.new.terms c.split.new.terms c.operand_of.ensures.kept c.split.ensures.kept in
+    frontier-later old c.split.new.terms k2 c.args.frontier.now c.requires.frontier
+
+pub return_operand-requires-clause-state : goal.return_operand-requires-clause-state
+return_operand-requires-clause-state c =
+    let old = c.args.terms.now in
+    let k2 = keeps_trans old c.operand_of.new.terms c.split.new.terms c.operand_of.ensures.kept c.split.ensures.kept in
+    let k3 = keeps_trans old c.split.new.terms c.end_undefined.new.terms k2 c.end_undefined.ensures.kept in
+    state-later old c.end_undefined.new.terms k3 c.args.state.now c.requires.state
+
+pub return_operand-requires-clause-tape : goal.return_operand-requires-clause-tape
+return_operand-requires-clause-tape c =
+    let old = c.args.terms.now in
+    let k2 = keeps_trans old c.operand_of.new.terms c.split.new.terms c.operand_of.ensures.kept c.split.ensures.kept in
+    let k3 = keeps_trans old c.split.new.terms c.end_undefined.new.terms k2 c.end_undefined.ensures.kept in
+    words-later old c.end_undefined.new.terms k3 c.args.tape.now c.requires.tape
+
+pub returns-in_err-return_operand-clause-kept : goal.returns-in_err-return_operand-clause-kept
+returns-in_err-return_operand-clause-kept c =
+    let old = c.args.terms.now in
+    let k2 = keeps_trans old c.operand_of.new.terms c.split.new.terms c.operand_of.ensures.kept c.split.ensures.kept in
+    let k3 = keeps_trans old c.split.new.terms c.end_undefined.new.terms k2 c.end_undefined.ensures.kept in
+    keeps_trans old c.end_undefined.new.terms c.return_operand.new.terms k3 c.return_operand.ensures.kept
+
+pub returns-clause-kept : goal.returns-clause-kept
+returns-clause-kept c =
+    let old = c.args.terms.now in
+    let k2 = keeps_trans old c.operand_of.new.terms c.split.new.terms c.operand_of.ensures.kept c.split.ensures.kept in
+    let k3 = keeps_trans old c.split.new.terms c.end_undefined.new.terms k2 c.end_undefined.ensures.kept in
+    keeps_trans old c.end_undefined.new.terms c.return_operand.new.terms k3 c.return_operand.ensures.kept
 
 pub returns-clause-moves : goal.returns-clause-moves
 returns-clause-moves c = λ g label sees.
@@ -34,7 +68,7 @@ returns-clause-moves c = λ g label sees.
     let is : p ≡ is_poison (operand_value m.registers r.operand) = sym (poison_bit g.v a c.in_ok-value.value) ∙ ap is_poison ((rw c.as_slice.ensures at (c.in_ok-value.ensures.stands g.v)) ∙ ap (λ (rs : List Value). operand_value rs r.operand) h.registers) in
     done_if p (ended Ub m) (returned_with (undef_width r.of_type r.operand) r g.tape m) ∙ ap (λ (x : Bool). Done (if x then ended Ub m else returned_with (undef_width r.of_type r.operand) r g.tape m)) is)
     (moves_later g label s old a e ka before after s.alive (λ (m : Machine). cond p (Done (ended Ub m)) (to m)) c.requires.frontier c.requires.state c.requires.state.alive
-    (split_moves g label s a b e kb kd before between after s.alive c.in_ok-undefined.undefined c.in_ok-undefined.defined p (λ (m : Machine). Done (ended Ub m)) to
+    (split_moves g label s a b d e kb kd before between after s.alive c.in_ok-undefined.undefined c.in_ok-undefined.defined p (λ (m : Machine). Done (ended Ub m)) to
     (frontier-later old a ka before c.requires.frontier) (state-later old a ka s c.requires.state) (is_term-later old a ka 1 s.alive c.requires.state.alive)
     (record { within = c.in_ok-undefined.ensures.off.within; wide = c.in_ok-undefined.ensures.off.wide }) (c.in_ok-undefined.ensures.on.says g.v) (c.in_ok-undefined.ensures.off.says g.v)
     (moves_end b d before between c.in_ok-undefined.undefined s label Ub c.in_ok-end_undefined.ensures.stays c.in_ok-end_undefined.ensures.goes g)

@@ -1,4 +1,4 @@
-use Rattle.std.proofs.Common.{ℕ, ◌≡◌, ◌++◌, ◌∷◌, [], ◌∙◌, ap, sym, refl, List, Option, Some, None}
+use Rattle.std.proofs.Common.{ℕ, ◌≡◌, ◌++◌, ◌∷◌, [], ◌∙◌, ap, sym, List, Option, Some, None}
 use Rattle.std.specs.Option.{option_map}
 use Rattle.byte_block.specs.declared.value.Value.{Value}
 use Rattle.byte_block.specs.declared.value.Value.TheVariants.{Num}
@@ -7,10 +7,23 @@ use Rattle.points.specs.Run.{choice_of, returned_with, typed_operand_value, unde
 use Rattle.tv_num.specs.declared.Width.{Width}
 use Rattle.unroll.specs.Layers.{Done}
 use Rattle.mem_terms.proofs.Later.{keeps_trans}
-use Rattle.encoder.proofs.Lasting.{counts-later}
+use Rattle.encoder.proofs.Lasting.{counts-later, frontier-later}
 use Rattle.encoder.proofs.Moving.{moves_to}
 use Rattle.encoder.proofs.Leaves.{chosen_value, moves_return}
 use Rattle.encoder.proofs.terminators.return_operand.Goals as goal
+
+pub end_return-requires-clause-own : goal.end_return-requires-clause-own
+end_return-requires-clause-own c =
+    let old = c.args.terms.now in
+    frontier-later old c.truth.new.terms (keeps_trans old c.choose.new.terms c.truth.new.terms c.choose.ensures.kept c.truth.ensures.kept) c.args.frontier.now c.requires.frontier
+
+pub end_return-requires-in-None-clause-own : goal.end_return-requires-in-None-clause-own
+end_return-requires-in-None-clause-own c = frontier-later c.args.terms.now c.typed_operand_of.new.terms c.typed_operand_of.ensures.kept c.args.frontier.now c.requires.frontier
+
+pub returns-in_ok-end_return-in-Some-clause-kept : goal.returns-in_ok-end_return-in-Some-clause-kept
+returns-in_ok-end_return-in-Some-clause-kept c =
+    let old = c.args.terms.now in
+    keeps_trans old c.truth.new.terms c.end_return.new.terms (keeps_trans old c.choose.new.terms c.truth.new.terms c.choose.ensures.kept c.truth.ensures.kept) c.end_return.ensures.kept
 
 pub returns-in_ok-end_return-in-Some-clause-moves : goal.returns-in_ok-end_return-in-Some-clause-moves
 returns-in_ok-end_return-in-Some-clause-moves c = λ g label sees.
@@ -26,13 +39,13 @@ returns-in_ok-end_return-in-Some-clause-moves c = λ g label sees.
       ap Some (chosen_value g.v c.choose.new.terms c.truth.new.terms c.truth.ensures.kept c.in_ok-poison-in-Some.poison c.in_ok-choice-in-Some.choice.number (choice_of g.tape m w) c.in_ok-choice-in-Some.ensures.number c.in_ok-poison-in-Some.ensures.made took.1),
     )))
 
-pub returns-in_ok-end_return-2-in-None-clause-moves : goal.returns-in_ok-end_return-2-in-None-clause-moves
-returns-in_ok-end_return-2-in-None-clause-moves c = λ g label sees.
+pub returns-in_ok-end_return-in-None-clause-moves : goal.returns-in_ok-end_return-in-None-clause-moves
+returns-in_ok-end_return-in-None-clause-moves c = λ g label sees.
     let old = c.args.terms.now in
     let e : None ≡ undef_width c.args.returned.of_type c.args.returned.operand = ap (option_map (λ (x : Width). x.bits)) (sym c.in-None.is) ∙ c.undef_width.ensures in
-    moves_to g label c.args.state.now old c.end_return-2.new.terms c.args.frontier.now c.end_return-2.new.self c.args.c _ _ (λ m h. ap (λ (o : Option ℕ). Done (returned_with o c.args.returned g.tape m)) e)
-    (moves_return g label c.args.state.now old c.typed_operand_of.new.terms c.end_return-2.new.terms c.typed_operand_of.ensures.kept c.args.frontier.now c.end_return-2.new.self c.requires.frontier c.args.c c.requires.c
-    (Some c.in_ok-value-in-None.value) c.args.state.now.tally (λ (m : Machine). Some (typed_operand_value m.registers c.args.returned)) (λ (m : Machine). m.taken) (c.in_ok-end_return-2-in-None.ensures.stays g) (c.in_ok-end_return-2-in-None.ensures.goes g)
+    moves_to g label c.args.state.now old c.end_return-in-None.new.terms c.args.frontier.now c.end_return-in-None.new.self c.args.c _ _ (λ m h. ap (λ (o : Option ℕ). Done (returned_with o c.args.returned g.tape m)) e)
+    (moves_return g label c.args.state.now old c.typed_operand_of.new.terms c.end_return-in-None.new.terms c.typed_operand_of.ensures.kept c.args.frontier.now c.end_return-in-None.new.self c.requires.frontier c.args.c c.requires.c
+    (Some c.in_ok-value-in-None.value) c.args.state.now.tally (λ (m : Machine). Some (typed_operand_value m.registers c.args.returned)) (λ (m : Machine). m.taken) (c.in_ok-end_return-in-None.ensures.stays g) (c.in_ok-end_return-in-None.ensures.goes g)
     (λ m held h. (
       counts-later old c.typed_operand_of.new.terms c.typed_operand_of.ensures.kept g c.args.state.now.tally m.taken c.requires.state.tally h.tally,
       ap Some ((rw c.as_slice.ensures at (c.in_ok-value-in-None.ensures.stands g.v)) ∙ ap (λ (rs : List Value). typed_operand_value rs c.args.returned) h.registers),

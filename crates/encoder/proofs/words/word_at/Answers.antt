@@ -1,4 +1,4 @@
-use Rattle.std.proofs.Common.{get_or, arith, ◌≤◌, length}
+use Rattle.std.proofs.Common.{get_or, arith}
 use Rattle.mem_terms.proofs.Eaches.{at-any}
 use Rattle.encoder.proofs.Picking.{word_more, take_whole}
 use Rattle.encoder.proofs.words.word_at.Goals as goal

@@ -1,4 +1,4 @@
-use Rattle.points.specs.declared.outcome.Outcome.TheVariants.{Ub, Beyond}
+use Rattle.points.specs.declared.outcome.Outcome.TheVariants.{Beyond}
 use Rattle.encoder.proofs.Lasting.{states-later}
 use Rattle.encoder.proofs.Moving.{end_stays, end_goes}
 use Rattle.encoder.proofs.frontier.Frontier.end_beyond.Goals as goal
