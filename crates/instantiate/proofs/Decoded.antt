@@ -112,8 +112,7 @@ decoded v terms s input tape p i h h' of_shape e =
     let words = words_at v terms tape.words in
     let long : length args ≡ length args' = args_long s.blocks s.parameters p.input.args i of_shape.args ∙ sym (numbers_long v terms s.parameters input.args h.args) in
     let parts = same_front args (blocks ++ p.tape) args' (sizes ++ (places ++ words)) long e in
-    let count : length p.tape ≡ length words = words_long s.word_width.bits s.words p.tape of_shape.tape ∙ (sym h'.count ∙ sym (map-length (term_at v terms) tape.words)) in
-    (
+    let count : length p.tape ≡ length words = words_long s.word_width.bits s.words p.tape of_shape.tape ∙ (sym h'.count ∙ sym (map-length (term_at v terms) tape.words)) in (
       args_decoded v terms s.blocks s.parameters p.input.args input.args i of_shape.args h.args parts.0,
       same_back blocks p.tape (sizes ++ places) words count (parts.1 ∙ sym (append_assoc sizes places words)),
     )

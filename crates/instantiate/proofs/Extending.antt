@@ -102,6 +102,9 @@ pub flat_map_push : {A B : Type 0} (f : A → List B) (xs : List A) (x : A) → 
 flat_map_push f [] x = append-nil (f x)
 flat_map_push f (y ∷ ys) x = ap (λ zs. f y ++ zs) (flat_map_push f ys x) ∙ sym (append_assoc (f y) (flat_map f ys) (f x))
 
+pub ids_pushed : {A B : Type 0} (f : A → List B) (start end : List B) (xs more : List A) (x : A) → more ≡ xs ++ x ∷ [] → end ≡ start ++ (flat_map f xs ++ f x) → end ≡ start ++ flat_map f more
+ids_pushed f start end xs more x e p = p ∙ ap (λ zs. start ++ zs) (sym (flat_map_push f xs x) ∙ sym (ap (flat_map f) e))
+
 -- ---- one more of each
 
 pub replicate_more : (n w : ℕ) → replicate n w ++ w ∷ [] ≡ replicate (n + 1) w

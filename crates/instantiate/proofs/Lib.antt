@@ -5,6 +5,7 @@ mod Extended
 mod Extending
 mod Fitting
 mod Growing
+mod Knowing
 mod Mentioned
 mod Moved
 mod Numbered

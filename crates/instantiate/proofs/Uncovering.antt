@@ -147,6 +147,9 @@ a_point pair bounds s p is h plain = record {
   plain = plain;
 }
 
+shape_code : {pair : Functions} {bounds : Bounds} {s : Shape} {numbers : List ℕ} (p : Point) → IsShapeOf pair bounds s → code_of s.blocks s.parameters p ≡ numbers → code_of bounds.blocks pair.target.parameters p ≡ numbers
+shape_code p is e = two (λ n ps. code_of n ps p) (sym is.blocks) (sym is.parameters) ∙ e
+
 not_true : (b : Bool) → not b ≡ true → b ≡ false
 not_true true e = absurd (let z : ⊥ = cc in z)
 not_true false e = refl
@@ -174,7 +177,7 @@ module _ (pair : Functions) (bounds : Bounds) (tapes : List (List ℕ)) (s : Sha
       record {
         of = p;
         point = a_point pair bounds s p shape found.1.of_shape plain_there;
-        code = rw (shape.parameters, shape.blocks) at found.1.code;
+        code = shape_code p shape found.1.code;
         uncovered = subst (λ (q : Point). is_covered pair bounds tapes q ≡ false) same free;
       }
 
