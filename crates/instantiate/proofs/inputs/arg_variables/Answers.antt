@@ -12,7 +12,7 @@ loop-parameter-preserved c =
     let old = c.args.terms.now in
     let before = c.loop-parameter.terms in
     let one = c.variable.new.terms in
-    let after = c.variable-2.new.terms in
+    let after = c.variable-in-loop-parameter.new.terms in
     let ps = c.args.parameters.now in
     let i = c.loop-parameter.parameter-index in
     let flag = c.in_ok-flag.flag in
@@ -21,13 +21,13 @@ loop-parameter-preserved c =
     let start = c.args.order.now.items in
     let middle = c.loop-parameter.order.items in
     let next = c.variable.new.order.items in
-    let end = c.variable-2.new.order.items in
-    let both = extends_trans before one after c.variable.ensures.kept c.variable-2.ensures.kept in
+    let end = c.variable-in-loop-parameter.new.order.items in
+    let both = extends_trans before one after c.variable.ensures.kept c.variable-in-loop-parameter.ensures.kept in
     record {
       kept = extends_trans old before after c.loop-parameter.invariant.kept both;
       args = args_more after ps i _ c.loop-parameter.args.items c.push.new.self.items (record { flag = flag; number = number }) c.loop-parameter-test.true
           (args_extended before after both (take i ps) c.loop-parameter.args.items c.loop-parameter.invariant.args)
-          (record { flag = term_extended one after c.variable-2.ensures.kept 1 flag c.in_ok-flag.ensures.term; number = rw c.bits_of.ensures.bits at c.in_ok-number.ensures.term }) c.in_ok-push.ensures.items;
+          (record { flag = term_extended one after c.variable-in-loop-parameter.ensures.kept 1 flag c.in_ok-flag.ensures.term; number = rw c.bits_of.ensures.bits at c.in_ok-number.ensures.term }) c.in_ok-push.ensures.items;
       order = grows_as old after start end (args_widths (take i ps) ++ (1 ∷ width ∷ [])) (args_widths (take (i + 1) ps))
           (rw c.bits_of.ensures.bits (widths_more ps i _ c.requires c.loop-parameter-test.true))
           (grows_trans old before after start middle end (args_widths (take i ps)) (1 ∷ width ∷ []) c.loop-parameter.invariant.order

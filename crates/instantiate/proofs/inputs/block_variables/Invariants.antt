@@ -9,8 +9,8 @@ use Rattle.instantiate.specs.Shapes.{byte_ids}
 use Rattle.instantiate.proofs.Extending.{Grows}
 use Rattle.instantiate.proofs.inputs.block_variables.Given as goal
 
-abbrev pub invariant-loop-_place : goal.invariant-loop-_place
-invariant-loop-_place l = record {
+abbrev pub invariant-loop-place : goal.invariant-loop-place
+invariant-loop-place l = record {
   within : l._place ≤ l.bytes;
   kept : Extends l.fn.terms l.terms;
   count : length l.places.items ≡ l._place;

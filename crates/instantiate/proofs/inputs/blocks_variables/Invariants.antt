@@ -9,8 +9,8 @@ use Rattle.instantiate.specs.Shapes.{byte_ids}
 use Rattle.instantiate.proofs.Extending.{Grows}
 use Rattle.instantiate.proofs.inputs.blocks_variables.Given as goal
 
-abbrev pub invariant-loop-_block : goal.invariant-loop-_block
-invariant-loop-_block l = record {
+abbrev pub invariant-loop-block : goal.invariant-loop-block
+invariant-loop-block l = record {
   within : l._block ≤ l.blocks;
   kept : Extends l.fn.terms l.terms;
   count : length l.places.items ≡ l._block;

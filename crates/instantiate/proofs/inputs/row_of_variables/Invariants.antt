@@ -5,8 +5,8 @@ use Rattle.mem_terms.specs.Values.{Each}
 use Rattle.instantiate.proofs.Extending.{Grows}
 use Rattle.instantiate.proofs.inputs.row_of_variables.Given as goal
 
-abbrev pub invariant-loop-_variable : goal.invariant-loop-_variable
-invariant-loop-_variable l = record {
+abbrev pub invariant-loop-variable : goal.invariant-loop-variable
+invariant-loop-variable l = record {
   within : l._variable ≤ l.count;
   kept : Extends l.fn.terms l.terms;
   count : length l.row.items ≡ l._variable;
