@@ -1,4 +1,4 @@
-use Rattle.std.proofs.Common.{◌<◌, length, take, get_or, sym, subst, arith}
+use Rattle.std.proofs.Common.{◌<◌, length, take, get_or, sym, subst, ◌∙◌, arith}
 use Rattle.std.proofs.lemmas.List.{take_all}
 use Rattle.ir_tree.specs.declared.tree.Parameter.{Parameter}
 use Rattle.ir_tree.specs.Limits.{IsInteger}
@@ -44,4 +44,6 @@ loop-i-preserved c =
     }
 
 pub returns-clause-stands : goal.returns-clause-stands
-returns-clause-stands c = ?
+returns-clause-stands c v =
+    let count = fit_count 0 c.args.parameters.now c.args.args.now c.requires.fit in
+    rw c.from_vec.ensures (c.loop-i.invariant.stands v ∙ take_all c.loop-i.i c.args.args.now (omega (arith, count, c.loop-i-test.false)))
