@@ -1,5 +1,5 @@
 -- Numbers that are the code of a point give its arguments and its tape back.
-use Rattle.std.proofs.Common.{ℕ, zero, suc, ◌≡◌, ◌<◌, ◌+◌, ◌*◌, ◌^◌, List, [], ◌∷◌, ◌++◌, length, map, refl, ap, sym, subst, ◌∙◌, arith, length-append, append_assoc}
+use Rattle.std.proofs.Common.{ℕ, zero, suc, ◌≡◌, ◌*◌, List, [], ◌∷◌, ◌++◌, length, map, refl, ap, sym, ◌∙◌, arith, length-append, append_assoc}
 use Rattle.std.specs.List.{flat_map}
 use Rattle.std.proofs.lemmas.List.{map-append}
 use Rattle.ir_tree.specs.declared.tree.IrType.{IrType}
@@ -14,7 +14,7 @@ use Rattle.points.specs.Code.{ValueFits, ArgsFit, WordsFit, IsOfShape, value_cod
 use Rattle.bv_terms.specs.declared.term.TermId.{TermId}
 use Rattle.bv_terms.specs.declared.term.Term.{Term}
 use Rattle.bv_terms.specs.Tree.{truth}
-use Rattle.bv_terms.specs.Trees.{Keeps, bit_at, term_at}
+use Rattle.bv_terms.specs.Trees.{bit_at, term_at}
 use Rattle.mem_terms.specs.declared.inputs.ArgTerms.{ArgTerms}
 use Rattle.mem_terms.specs.declared.inputs.ByteTerms.{ByteTerms}
 use Rattle.mem_terms.specs.declared.inputs.InputTerms.{InputTerms}
@@ -22,7 +22,7 @@ use Rattle.mem_terms.specs.declared.inputs.TapeTerms.{TapeTerms}
 use Rattle.mem_terms.specs.Values.{value_from}
 use Rattle.mem_terms.specs.Inputs.{AreArgs, args_at, words_at}
 use Rattle.mem_terms.proofs.Eaches.{map-length}
-use Rattle.refine_terms.specs.Numbers.{IsInputOf, IsTapeOf, arg_numbers, byte_numbers, block_numbers, numbers_at}
+use Rattle.refine_terms.specs.Numbers.{IsInputOf, IsTapeOf, arg_numbers, block_numbers, numbers_at}
 use Rattle.instantiate.specs.Shapes.{arg_ids, byte_ids, input_ids}
 
 -- ---- lists in two parts

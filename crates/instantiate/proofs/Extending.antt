@@ -10,15 +10,14 @@ use Rattle.points.specs.declared.point.Shape.{Shape}
 use Rattle.bv_terms.specs.declared.term.TermId.{TermId}
 use Rattle.bv_terms.specs.declared.term.Term.{Term}
 use Rattle.bv_terms.specs.Tree.{width_of}
-use Rattle.bv_terms.specs.Trees.{Extends, Keeps, IsTerm, tree_in}
+use Rattle.bv_terms.specs.Trees.{Extends, Keeps, IsTerm}
 use Rattle.mem_terms.specs.declared.inputs.ArgTerms.{ArgTerms}
 use Rattle.mem_terms.specs.declared.inputs.ByteTerms.{ByteTerms}
 use Rattle.mem_terms.specs.declared.inputs.InputTerms.{InputTerms}
-use Rattle.mem_terms.specs.declared.inputs.TapeTerms.{TapeTerms}
 use Rattle.mem_terms.specs.Values.{Each}
-use Rattle.mem_terms.specs.Inputs.{IsArg, AreArgs, AreWords, argument_width}
+use Rattle.mem_terms.specs.Inputs.{IsArg, AreArgs, argument_width}
 use Rattle.mem_terms.proofs.Eaches.{each-weaker, each-push}
-use Rattle.refine_terms.specs.Numbers.{IsByteTerms, IsBlockTerms, IsInputOf, IsTapeOf}
+use Rattle.refine_terms.specs.Numbers.{IsByteTerms, IsBlockTerms, IsInputOf}
 use Rattle.instantiate.specs.Orders.{IsOrder}
 use Rattle.instantiate.specs.Questions.{value_widths, args_widths, places_widths, blocks_widths}
 

@@ -1,19 +1,18 @@
 -- Tapes of the source tried one after another.
-use Rattle.std.proofs.Common.{ℕ, zero, suc, ◌≡◌, ◌<◌, ◌≤◌, ◌+◌, Bool, true, false, not, ◌&&◌, List, [], ◌∷◌, ◌++◌, length, map, drop, get_or, refl, ap, sym, subst, ◌∙◌, arith}
-use Rattle.std.proofs.lemmas.List.{drop_more}
+use Rattle.std.proofs.Common.{ℕ, zero, suc, ◌≡◌, ◌<◌, ◌+◌, Bool, true, false, not, ◌&&◌, List, [], ◌∷◌, length, map, drop, get_or, refl, ap, ◌∙◌, arith}
 use Rattle.ir_tree.specs.declared.tree.Function.{Function}
 use Rattle.byte_block.specs.declared.block.MemoryBlock.{MemoryBlock}
 use Rattle.points.specs.declared.point.Bounds.{Bounds}
 use Rattle.points.specs.declared.point.Input.{Input}
 use Rattle.points.specs.declared.outcome.Outcome.{Outcome}
 use Rattle.points.specs.Refines.{is_refined}
-use Rattle.points.specs.Run.{Run, run_of}
+use Rattle.points.specs.Run.{run_of}
 use Rattle.bv_terms.specs.declared.term.TermId.{TermId}
 use Rattle.bv_terms.specs.declared.term.Term.{Term}
-use Rattle.bv_terms.specs.Trees.{IsTerm, Keeps, Tests, bit_at, term_at}
+use Rattle.bv_terms.specs.Trees.{IsTerm, Keeps, Tests, bit_at}
 use Rattle.mem_terms.specs.declared.inputs.InputTerms.{InputTerms}
 use Rattle.mem_terms.specs.declared.outcome.OutcomeTerms.{OutcomeTerms}
-use Rattle.mem_terms.specs.Inputs.{AreArgs, AreWords, args_at, words_at}
+use Rattle.mem_terms.specs.Inputs.{AreArgs, words_at}
 use Rattle.mem_terms.specs.Outcomes.{IsOutcome, Shows, outcome_at}
 use Rattle.mem_terms.proofs.Later.{keeps_trans, bit-later, args_at-later, outcome-later}
 use Rattle.instantiate.specs.Candidates.{input_at, none_allows}

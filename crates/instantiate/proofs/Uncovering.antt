@@ -1,5 +1,5 @@
 -- The goals of the two questions are true exactly on their answers.
-use Rattle.std.proofs.Common.{ℕ, zero, suc, ◌≡◌, ◌<◌, ◌^◌, ◌↔◌, Bool, true, false, not, ◌&&◌, ◌||◌, List, [], ◌∷◌, ◌++◌, length, map, refl, ap, sym, subst, ◌∙◌, arith}
+use Rattle.std.proofs.Common.{ℕ, ◌≡◌, ◌↔◌, Bool, true, false, not, ◌&&◌, ◌||◌, List, [], ◌∷◌, ◌++◌, length, refl, ap, sym, subst, ◌∙◌}
 use Rattle.std.specs.List.{flat_map}
 use Rattle.std.proofs.lemmas.Bool.{eqb-true}
 use Rattle.ir_tree.specs.declared.tree.IrType.{IrType}
@@ -18,7 +18,6 @@ use Rattle.points.specs.Pair.{Functions, same_type, same_types, same_return, sam
 use Rattle.points.specs.Code.{WordsFit, IsOfShape, code_of}
 use Rattle.points.specs.Codes.{IsCode}
 use Rattle.points.specs.Covers.{covers, some_covers, shifted, is_covered}
-use Rattle.points.specs.Laws.{CodesTellPoints}
 use Rattle.points.specs.Refines.{is_refined}
 use Rattle.points.specs.Run.{run_of, IsPlain}
 use Rattle.points.specs.Tapes.{need_of}

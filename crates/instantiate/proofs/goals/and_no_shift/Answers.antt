@@ -1,8 +1,8 @@
-use Rattle.std.proofs.Common.{ℕ, ◌≡◌, ◌&&◌, ◌+◌, [], List, Bool, drop, get_or, length, refl, ap, ◌∙◌, arith}
+use Rattle.std.proofs.Common.{ℕ, ◌&&◌, ◌+◌, [], List, Bool, drop, get_or, refl, ap, ◌∙◌}
 use Rattle.std.proofs.lemmas.List.{drop_all}
 use Rattle.points.specs.declared.point.Bounds.{Bounds}
 use Rattle.points.specs.Covers.{shifted, words_of}
-use Rattle.bv_terms.specs.Trees.{IsTerm, bit_at}
+use Rattle.bv_terms.specs.Trees.{bit_at}
 use Rattle.mem_terms.specs.Inputs.{words_at}
 use Rattle.mem_terms.specs.Outcomes.{outcome_at}
 use Rattle.mem_terms.proofs.Later.{keeps_trans, args-later, words_at-later}

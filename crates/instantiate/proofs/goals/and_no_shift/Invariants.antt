@@ -1,8 +1,8 @@
 -- The goal so far and the shifts that are left are the goal before and all shifts.
-use Rattle.std.proofs.Common.{ℕ, ◌≡◌, ◌&&◌, List, map, drop}
+use Rattle.std.proofs.Common.{ℕ, ◌≡◌, ◌&&◌, List, drop}
 use Rattle.byte_block.specs.declared.block.MemoryBlock.{MemoryBlock}
 use Rattle.points.specs.declared.point.Bounds.{Bounds}
-use Rattle.points.specs.Covers.{shifted, words_of}
+use Rattle.points.specs.Covers.{shifted}
 use Rattle.bv_terms.specs.Trees.{IsTerm, Keeps, bit_at}
 use Rattle.mem_terms.specs.Inputs.{words_at}
 use Rattle.mem_terms.specs.Outcomes.{outcome_at}

@@ -1,7 +1,7 @@
-use Rattle.std.proofs.Common.{ℕ, ◌≡◌, ◌&&◌, ◌+◌, [], List, Bool, drop, get_or, refl, sym, ap, ◌∙◌}
+use Rattle.std.proofs.Common.{◌&&◌, ◌+◌, [], drop, refl, ◌∙◌}
 use Rattle.std.proofs.lemmas.List.{drop_all, drop_more}
 use Rattle.points.specs.declared.point.Bounds.{Bounds}
-use Rattle.bv_terms.specs.Trees.{IsTerm, bit_at}
+use Rattle.bv_terms.specs.Trees.{bit_at}
 use Rattle.mem_terms.specs.Outcomes.{outcome_at}
 use Rattle.mem_terms.proofs.Later.{keeps_trans, args-later}
 use Rattle.instantiate.specs.Candidates.{input_at, none_allows}
