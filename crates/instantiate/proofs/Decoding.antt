@@ -181,3 +181,11 @@ module _ (old new : List Term) (goal : TermId) (order : List TermId) (widths : L
       let v = looked_up numbers in
       let same : words_at v old tape.words ≡ numbers = sym (ap (map (term_at v old)) ids) ∙ looked_at old order widths numbers fit numbered fits in
       subst (λ (ns : List ℕ). (number_test new goal numbers ≡ true) ↔ Answer ns) same (decides.1 v)
+
+-- ---- what is answered
+
+pub ids_are : (first second third inputs words : List TermId) → first ≡ [] → second ≡ first ++ inputs → third ≡ second ++ words → third ≡ inputs ++ words
+ids_are first second third inputs words e f g = g ∙ ap (λ xs. xs ++ words) (f ∙ ap (λ xs. xs ++ inputs) e)
+
+pub words_are : (first second words : List TermId) → first ≡ [] → second ≡ first ++ words → second ≡ words
+words_are first second words e f = f ∙ ap (λ xs. xs ++ words) e

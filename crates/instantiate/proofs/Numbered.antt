@@ -121,7 +121,7 @@ number-at terms from (b ∷ rest) (w ∷ ws) (suc i) a h at =
 number-at terms from [] (w ∷ ws) i a h at = absurd h
 number-at terms from (b ∷ rest) [] i a h at = absurd h
 
-number-in : Option Term → ℕ
+abbrev number-in : Option Term → ℕ
 number-in None = 0
 number-in (Some t) = (variable_of t).number
 

@@ -72,7 +72,7 @@ IsTold pair bounds budget s = ComesWith pair bounds budget s.kept s.cert s.verdi
 pub record IsNotAsked (kept : Kept) (cert : Option Cert) : Type 0 where
   pub tapes : kept.tapes ≡ []
   pub points : kept.points ≡ []
-  pub cert : cert ≡ None
+  pub uncertified : cert ≡ None
 
 -- a pair that is too heavy is not asked about, and no other is told as too heavy
 abbrev pub IsJudged : Functions → Bounds → Budget → Kept → Option Cert → Verdict → Type 0
