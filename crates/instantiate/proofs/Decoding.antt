@@ -72,7 +72,7 @@ module _ (pair : Functions) (bounds : Bounds) (s : Shape) (is : IsShapeOf pair b
 
   -- a point whose code the test refuses is covered
   refused : (q : Point) → IsPoint pair bounds q → test (code q) ≡ false → is_covered pair bounds tapes q ≡ true
-  refused q h no = elim (cases_Bool (is_covered pair bounds tapes q)) [
+  refused q h fails = elim (cases_Bool (is_covered pair bounds tapes q)) [
     | inl covered ↦ covered
     | inr uncovered ↦
         let passed : test (code q) ≡ true = (passes (code q) (fits q h)).1 (record { of = q; point = h; code = refl; uncovered = uncovered }) in
@@ -119,9 +119,9 @@ module _ (pair : Functions) (bounds : Bounds) (p : Point) (test : List ℕ → B
 
   -- a tape that the test refuses doesn't cover the point
   no_cover : (tape : List ℕ) → Fits (tape_widths pair bounds) tape → test tape ≡ false → covers pair bounds p tape ≡ false
-  no_cover tape fits no = elim (cases_Bool (covers pair bounds p tape)) [
+  no_cover tape within fails = elim (cases_Bool (covers pair bounds p tape)) [
     | inl cover ↦
-        let passed : test tape ≡ true = (passes tape fits).1 (record { fits = fit_words need tape fits; cover = cover }) in
+        let passed : test tape ≡ true = (passes tape within).1 (record { fits = fit_words need tape within; cover = cover }) in
         absurd (let z : ⊥ = cc in z)
     | inr none ↦ none
   ]
@@ -129,9 +129,9 @@ module _ (pair : Functions) (bounds : Bounds) (p : Point) (test : List ℕ → B
   pub found_tape : (limit : Option ℕ) (found : Found (List ℕ)) → IsFoundNumbers test (tape_widths pair bounds) limit found → IsFoundTape pair bounds p limit found
   found_tape limit (found.Least tape) h =
       let c = (passes tape h.fits).0 h.passes in
-      record { fits = c.fits; cover = c.cover; least = λ other w lt. let fits = words_fit 64 need other (omega arith) w in no_cover other fits (h.least other fits lt) }
+      record { fits = c.fits; cover = c.cover; least = λ other w lt. let within = words_fit 64 need other (omega arith) w in no_cover other within (h.least other within lt) }
   found_tape limit (found.None cert) h =
-      ((λ tape w. let fits = words_fit 64 need tape (omega arith) w in no_cover tape fits (h.0 tape fits)), refuted_for test (tape_widths pair bounds) (IsCovering pair bounds p) passes cert h.1)
+      ((λ tape w. let within = words_fit 64 need tape (omega arith) w in no_cover tape within (h.0 tape within)), refuted_for test (tape_widths pair bounds) (IsCovering pair bounds p) passes cert h.1)
   found_tape limit (found.Spent cert) h = spent_for test (tape_widths pair bounds) (IsCovering pair bounds p) passes limit cert h
 
 -- ---- the numbers of terms

@@ -101,7 +101,7 @@ contains terms from (a ∷ rest) (w ∷ ws) (suc k) width h at =
 contains terms from [] (w ∷ ws) k width h at = absurd h
 contains terms from (a ∷ rest) [] k width h at = absurd h
 
-variable_at : List Term → TermId → Variable
+abbrev variable_at : List Term → TermId → Variable
 variable_at terms a = variable_of (get_or terms a.index (term.Constant 0 0))
 
 -- each term mentions only the variables of the order

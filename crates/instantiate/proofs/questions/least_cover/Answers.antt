@@ -38,8 +38,8 @@ least_numbers-requires-clause-widths c =
     let widths = counted c.tape_variables.new.terms c.tape_variables.new.order.items c.as_slice.result.now (tape_widths c.args.pair.now c.args.bounds.now) c.in_ok-widths.widths.items c.in_ok-widths.ensures.fit is c.as_slice.ensures.value c.in_ok-widths.ensures.widths in
     subst (λ (ws : List ℕ). AreWidths ws) (sym (c.as_slice-3.ensures.value ∙ widths)) (tape_narrow c.args.pair.now c.args.bounds.now)
 
-pub returns-in_ok-found : goal.returns-in_ok-found
-returns-in_ok-found c =
+pub returns : goal.returns
+returns c =
     let need = rw c.source.ensures at c.need-words.ensures.value in
     let is = tape_order c.args.pair.now c.args.bounds.now c.need-words.result c.new-terms.result c.tape_variables.new.terms c.new-order.result.items c.tape_variables.new.order.items
     need c.new-terms.ensures c.new-order.ensures.items c.in_ok-tape.ensures.order in
