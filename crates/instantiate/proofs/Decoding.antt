@@ -14,7 +14,7 @@ use Rattle.points.specs.declared.point.Shape.{Shape}
 use Rattle.points.specs.Pair.{Functions}
 use Rattle.points.specs.Code.{IsOfShape, code_of, number_of}
 use Rattle.points.specs.Codes.{IsCode}
-use Rattle.points.specs.Covers.{HasNoCover, IsLeastCover, covers, is_covered}
+use Rattle.points.specs.Covers.{covers, is_covered}
 use Rattle.points.specs.Tapes.{need_of}
 use Rattle.points.specs.Trail.{AreAllCovered, IsLeastUncovered, IsPoint}
 use Rattle.points.proofs.Decoded.{codes_tell_points}
@@ -49,9 +49,9 @@ module _ (test : List ℕ → Bool) (widths : List ℕ) (Answer : List ℕ → T
     test = h.of_digits;
     asks = h.asks;
     means = λ digits long.
-    let same = h.means digits long in
-    let both = passes (numbers_of widths digits) (fits-numbers widths digits long) in
-    ((λ p. both.0 (sym same ∙ p)), (λ a. same ∙ both.1 a));
+        let same = h.means digits long in
+        let both = passes (numbers_of widths digits) (fits-numbers widths digits long) in
+        ((λ p. both.0 (sym same ∙ p)), (λ a. same ∙ both.1 a));
   }
 
   pub refuted_for : (cert : Cert) → IsRefutedTest test widths cert → IsRefuted Answer widths cert

@@ -1,5 +1,5 @@
 -- The variables are the numbers of a code, and what is found of numbers is found of points.
-use Rattle.std.proofs.Common.{◌≡◌, ℕ, List, sym, subst, ◌∙◌}
+use Rattle.std.proofs.Common.{ℕ, List, sym, subst, ◌∙◌}
 use Rattle.ir_tree.specs.declared.tree.Parameter.{Parameter}
 use Rattle.ir_tree.specs.Limits.{AreIntegers}
 use Rattle.front_order.specs.Fronts.{AreWidths}

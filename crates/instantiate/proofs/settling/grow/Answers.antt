@@ -1,5 +1,5 @@
 -- Each end of the loop is told with its trail and its certificate.
-use Rattle.std.proofs.Common.{◌<◌, length, ℕ, arith, ◌∙◌, sym}
+use Rattle.std.proofs.Common.{◌<◌, length, arith, ◌∙◌, sym}
 use Rattle.instantiate.proofs.Growing.{grown_more, told_correct, told_incorrect, told_rounds, told_spent_point, told_spent_tape}
 use Rattle.instantiate.proofs.settling.grow.Goals as goal
 
