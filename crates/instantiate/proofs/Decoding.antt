@@ -14,7 +14,7 @@ use Rattle.points.specs.declared.point.Shape.{Shape}
 use Rattle.points.specs.Pair.{Functions}
 use Rattle.points.specs.Code.{IsOfShape, code_of, number_of}
 use Rattle.points.specs.Codes.{IsCode}
-use Rattle.points.specs.Covers.{HasNoCover, IsLeastCover, covers, is_covered}
+use Rattle.points.specs.Covers.{covers, is_covered}
 use Rattle.points.specs.Tapes.{need_of}
 use Rattle.points.specs.Trail.{AreAllCovered, IsLeastUncovered, IsPoint}
 use Rattle.points.proofs.Decoded.{codes_tell_points}
@@ -49,9 +49,9 @@ module _ (test : List ℕ → Bool) (widths : List ℕ) (Answer : List ℕ → T
     test = h.of_digits;
     asks = h.asks;
     means = λ digits long.
-    let same = h.means digits long in
-    let both = passes (numbers_of widths digits) (fits-numbers widths digits long) in
-    ((λ p. both.0 (sym same ∙ p)), (λ a. same ∙ both.1 a));
+        let same = h.means digits long in
+        let both = passes (numbers_of widths digits) (fits-numbers widths digits long) in
+        ((λ p. both.0 (sym same ∙ p)), (λ a. same ∙ both.1 a));
   }
 
   pub refuted_for : (cert : Cert) → IsRefutedTest test widths cert → IsRefuted Answer widths cert
@@ -72,7 +72,7 @@ module _ (pair : Functions) (bounds : Bounds) (s : Shape) (is : IsShapeOf pair b
 
   -- a point whose code the test refuses is covered
   refused : (q : Point) → IsPoint pair bounds q → test (code q) ≡ false → is_covered pair bounds tapes q ≡ true
-  refused q h no = elim (cases_Bool (is_covered pair bounds tapes q)) [
+  refused q h fails = elim (cases_Bool (is_covered pair bounds tapes q)) [
     | inl covered ↦ covered
     | inr uncovered ↦
         let passed : test (code q) ≡ true = (passes (code q) (fits q h)).1 (record { of = q; point = h; code = refl; uncovered = uncovered }) in
@@ -119,9 +119,9 @@ module _ (pair : Functions) (bounds : Bounds) (p : Point) (test : List ℕ → B
 
   -- a tape that the test refuses doesn't cover the point
   no_cover : (tape : List ℕ) → Fits (tape_widths pair bounds) tape → test tape ≡ false → covers pair bounds p tape ≡ false
-  no_cover tape fits no = elim (cases_Bool (covers pair bounds p tape)) [
+  no_cover tape within fails = elim (cases_Bool (covers pair bounds p tape)) [
     | inl cover ↦
-        let passed : test tape ≡ true = (passes tape fits).1 (record { fits = fit_words need tape fits; cover = cover }) in
+        let passed : test tape ≡ true = (passes tape within).1 (record { fits = fit_words need tape within; cover = cover }) in
         absurd (let z : ⊥ = cc in z)
     | inr none ↦ none
   ]
@@ -129,9 +129,9 @@ module _ (pair : Functions) (bounds : Bounds) (p : Point) (test : List ℕ → B
   pub found_tape : (limit : Option ℕ) (found : Found (List ℕ)) → IsFoundNumbers test (tape_widths pair bounds) limit found → IsFoundTape pair bounds p limit found
   found_tape limit (found.Least tape) h =
       let c = (passes tape h.fits).0 h.passes in
-      record { fits = c.fits; cover = c.cover; least = λ other w lt. let fits = words_fit 64 need other (omega arith) w in no_cover other fits (h.least other fits lt) }
+      record { fits = c.fits; cover = c.cover; least = λ other w lt. let within = words_fit 64 need other (omega arith) w in no_cover other within (h.least other within lt) }
   found_tape limit (found.None cert) h =
-      ((λ tape w. let fits = words_fit 64 need tape (omega arith) w in no_cover tape fits (h.0 tape fits)), refuted_for test (tape_widths pair bounds) (IsCovering pair bounds p) passes cert h.1)
+      ((λ tape w. let within = words_fit 64 need tape (omega arith) w in no_cover tape within (h.0 tape within)), refuted_for test (tape_widths pair bounds) (IsCovering pair bounds p) passes cert h.1)
   found_tape limit (found.Spent cert) h = spent_for test (tape_widths pair bounds) (IsCovering pair bounds p) passes limit cert h
 
 -- ---- the numbers of terms
@@ -181,3 +181,11 @@ module _ (old new : List Term) (goal : TermId) (order : List TermId) (widths : L
       let v = looked_up numbers in
       let same : words_at v old tape.words ≡ numbers = sym (ap (map (term_at v old)) ids) ∙ looked_at old order widths numbers fit numbered fits in
       subst (λ (ns : List ℕ). (number_test new goal numbers ≡ true) ↔ Answer ns) same (decides.1 v)
+
+-- ---- what is answered
+
+pub ids_are : (first second third inputs words : List TermId) → first ≡ [] → second ≡ first ++ inputs → third ≡ second ++ words → third ≡ inputs ++ words
+ids_are first second third inputs words e f g = g ∙ ap (λ xs. xs ++ words) (f ∙ ap (λ xs. xs ++ inputs) e)
+
+pub words_are : (first second words : List TermId) → first ≡ [] → second ≡ first ++ words → second ≡ words
+words_are first second words e f = f ∙ ap (λ xs. xs ++ words) e

@@ -1,5 +1,5 @@
 -- What was said of terms is said of them where a variable came too.
-use Rattle.std.proofs.Common.{◌≡◌, ℕ, ◌<◌, ◌+◌, All, List, [], ◌∷◌, ◌++◌, length, map, slice_get, Some, zero, suc, refl, sym, ap, subst, ◌∙◌, arith}
+use Rattle.std.proofs.Common.{◌≡◌, ℕ, ◌<◌, ◌+◌, All, List, [], ◌∷◌, length, map, zero, suc, refl, ap, ◌∙◌, arith}
 use Rattle.std.proofs.lemmas.Option.{slice_get_within}
 use Rattle.ir_tree.specs.declared.tree.Parameter.{Parameter}
 use Rattle.points.specs.declared.point.Shape.{Shape}

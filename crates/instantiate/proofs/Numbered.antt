@@ -1,5 +1,5 @@
 -- Numbered variables: how they grow, which questions they fit, and what digits and numbers make of them.
-use Rattle.std.proofs.Common.{ℕ, zero, suc, ◌≡◌, ◌<◌, ◌≤◌, ◌+◌, ◌-◌, ◌%◌, ◌^◌, ◌++◌, ◌⊎◌, inl, inr, Bool, true, false, cond, eqb, All, List, [], ◌∷◌, Option, Some, None, get_or, slice_get, take, drop, map, length, arith, sym, ap, subst, refl, ◌∙◌, length-append}
+use Rattle.std.proofs.Common.{ℕ, zero, suc, ◌≡◌, ◌<◌, ◌≤◌, ◌+◌, ◌%◌, ◌^◌, ◌++◌, inl, inr, Bool, false, cond, All, List, [], ◌∷◌, Option, Some, None, slice_get, take, drop, map, length, arith, sym, ap, subst, refl, ◌∙◌}
 use Rattle.std.specs.Prelude.{nat_eq, ◌&&◌, slice_index}
 use Rattle.std.proofs.lemmas.Bool.{eq-eqb, ne_eqb}
 use Rattle.std.proofs.lemmas.List.{length-drop, length-take-le}
@@ -9,9 +9,8 @@ use Rattle.bv_terms.specs.declared.term.TermId.{TermId}
 use Rattle.bv_terms.specs.declared.term.Term.{Term}
 use Rattle.bv_terms.specs.declared.term.Term.TheVariants as term
 use Rattle.bv_terms.specs.declared.variable.Variable.{Variable}
-use Rattle.bv_terms.specs.Tree.{Tree, value_of}
-use Rattle.bv_terms.specs.Trees.{AreFit, Extends, Gains, Keeps, term_at, tree_in, variables_among}
-use Rattle.bv_terms.specs.Variables.{is_variable}
+use Rattle.bv_terms.specs.Tree.{value_of}
+use Rattle.bv_terms.specs.Trees.{AreFit, Extends, Gains, Keeps, term_at, variables_among}
 use Rattle.gate_digits.specs.Numbers.{number_of}
 use Rattle.gate_digits.proofs.Digits.{number-below}
 use Rattle.front_order.specs.Fronts.{Fits, numbers_of, total}
@@ -19,7 +18,6 @@ use Rattle.sat_ask.specs.Questions.{AreDifferent, IsVariable, assigned_by, digit
 use Rattle.sat_ask.proofs.Marking.{tree_placed}
 use Rattle.mem_terms.specs.Values.{Each}
 use Rattle.mem_terms.proofs.Eaches.{each-push, each-weaker}
-use Rattle.instantiate.specs.Numbers.{looked_up}
 use Rattle.instantiate.specs.Orders.{AreNumbered, IsNumbered, IsOrder}
 
 -- ---- more variables, and more terms
@@ -121,7 +119,7 @@ number-at terms from (b ∷ rest) (w ∷ ws) (suc i) a h at =
 number-at terms from [] (w ∷ ws) i a h at = absurd h
 number-at terms from (b ∷ rest) [] i a h at = absurd h
 
-number-in : Option Term → ℕ
+abbrev number-in : Option Term → ℕ
 number-in None = 0
 number-in (Some t) = (variable_of t).number
 
