@@ -82,9 +82,6 @@ module _ (old new : List Term) (e : Extends old new) where
 abbrev pub Grows : (old new : List Term) (before after : List TermId) → List ℕ → Type 0
 Grows old new before after more = (widths : List ℕ) → IsOrder old before widths → IsOrder new after (widths ++ more)
 
-pub grows_none : (old : List Term) (order : List TermId) → Grows old old order order []
-grows_none old order widths h = subst (IsOrder old order) (sym (append-nil widths)) h
-
 pub grows_trans : (a b c : List Term) (x y z : List TermId) (more further : List ℕ) → Grows a b x y more → Grows b c y z further → Grows a c x z (more ++ further)
 grows_trans a b c x y z more further g h widths is = subst (IsOrder c z) (append_assoc widths more further) (h (widths ++ more) (g widths is))
 

@@ -1,5 +1,5 @@
 -- Tapes of the source tried one after another.
-use Rattle.std.proofs.Common.{ℕ, zero, suc, ◌≡◌, ◌<◌, ◌+◌, Bool, true, false, not, ◌&&◌, List, [], ◌∷◌, length, map, drop, get_or, refl, ap, ◌∙◌, arith}
+use Rattle.std.proofs.Common.{ℕ, zero, suc, ◌≡◌, ◌<◌, ◌+◌, Bool, true, false, not, ◌&&◌, List, [], ◌∷◌, length, map, drop, get_or, refl, ap, sym, subst, ◌∙◌, arith}
 use Rattle.ir_tree.specs.declared.tree.Function.{Function}
 use Rattle.byte_block.specs.declared.block.MemoryBlock.{MemoryBlock}
 use Rattle.points.specs.declared.point.Bounds.{Bounds}
@@ -14,13 +14,34 @@ use Rattle.mem_terms.specs.declared.inputs.InputTerms.{InputTerms}
 use Rattle.mem_terms.specs.declared.outcome.OutcomeTerms.{OutcomeTerms}
 use Rattle.mem_terms.specs.Inputs.{AreArgs, words_at}
 use Rattle.mem_terms.specs.Outcomes.{IsOutcome, Shows, outcome_at}
-use Rattle.mem_terms.proofs.Later.{keeps_trans, bit-later, args_at-later, outcome-later}
-use Rattle.instantiate.specs.Candidates.{input_at, none_allows}
+use Rattle.mem_terms.proofs.Later.{keeps_trans, bit-later, args-later, args_at-later, is_outcome-later, outcome-later}
+use Rattle.unroll.specs.Layers.{copies_of}
+use Rattle.instantiate.specs.declared.goals.Trial.{Trial}
+use Rattle.instantiate.specs.Candidates.{IsTrial, input_at, none_allows}
+use Rattle.instantiate.specs.Questions.{ReturnsFit}
 
 pub input_at-later : (old new : List Term) (k : Keeps old new) (f : Function) (input : InputTerms) → AreArgs old f.parameters input.args → (v : ℕ → ℕ → ℕ) (memory : List MemoryBlock) → input_at v new memory input ≡ input_at v old memory input
 input_at-later old new k f input h v memory =
     let same = args_at-later old new k v f.parameters input.args h in
     rw same refl
+
+-- ---- what tapes are tried for
+
+pub trial_later : (old new : List Term) (k : Keeps old new) (t : Trial) → IsTrial old t → IsTrial new t
+trial_later old new k t h = record {
+  layers = h.layers;
+  returns = h.returns;
+  args = args-later old new k t.source.now.parameters t.input.now.args h.args;
+  target = is_outcome-later old new k t.target.now h.target;
+}
+
+pub a_trial : (terms : List Term) (t : Trial) (f : Function) (turns : ℕ) → t.source.now ≡ f → t.layered.now.turns ≡ turns → t.layered.now.copies ≡ copies_of turns f → ReturnsFit f → AreArgs terms f.parameters t.input.now.args → IsOutcome terms t.target.now → IsTrial terms t
+a_trial terms t f turns is same copies returns args target = record {
+  layers = copies ∙ (ap (λ n. copies_of n f) (sym same) ∙ ap (copies_of t.layered.now.turns) (sym is));
+  returns = subst ReturnsFit (sym is) returns;
+  args = subst (λ (g : Function). AreArgs terms g.parameters t.input.now.args) (sym is) args;
+  target = target;
+}
 
 -- ---- one tape
 

@@ -5,19 +5,18 @@ use Rattle.points.specs.Covers.{shifted, words_of}
 use Rattle.bv_terms.specs.Trees.{bit_at}
 use Rattle.mem_terms.specs.Inputs.{words_at}
 use Rattle.mem_terms.specs.Outcomes.{outcome_at}
-use Rattle.mem_terms.proofs.Later.{keeps_trans, args-later, words_at-later}
+use Rattle.mem_terms.proofs.Later.{keeps_trans, words_at-later}
 use Rattle.instantiate.specs.declared.tapes.Shift.{Shift}
 use Rattle.instantiate.specs.declared.tapes.Shift.TheVariants.{Behind}
 use Rattle.instantiate.specs.declared.tapes.TheConstants.{SHIFTS}
 use Rattle.instantiate.specs.Candidates.{input_at, none_allows}
 use Rattle.instantiate.specs.Tapes.{shift_of}
-use Rattle.instantiate.proofs.Trying.{tried_more, tried_all, mapped_more}
+use Rattle.instantiate.proofs.Trying.{trial_later, tried_more, tried_all, mapped_more}
 use Rattle.instantiate.proofs.goals.and_no_shift.Goals as goal
 
-pub and_uncovered-requires-clause-args : goal.and_uncovered-requires-clause-args
-and_uncovered-requires-clause-args c =
-    args-later c.args.terms.now c.moved.new.terms (keeps_trans c.args.terms.now c.loop-shift.terms c.moved.new.terms c.loop-shift.invariant.kept c.moved.ensures.kept)
-    c.args.trial.now.source.now.parameters c.args.trial.now.input.now.args c.requires.args
+pub and_uncovered-requires-clause-trial : goal.and_uncovered-requires-clause-trial
+and_uncovered-requires-clause-trial c =
+    trial_later c.args.terms.now c.moved.new.terms (keeps_trans c.args.terms.now c.loop-shift.terms c.moved.new.terms c.loop-shift.invariant.kept c.moved.ensures.kept) c.args.trial.now c.requires.trial
 
 pub loop-shift-preserved : goal.loop-shift-preserved
 loop-shift-preserved c =
@@ -40,7 +39,7 @@ loop-shift-preserved c =
           let candidate : (ℕ → ℕ → ℕ) → Shift → List ℕ = λ v shift. words_of c.args.need (shift_of shift (words_at v old words)) in
           let whole : (ℕ → ℕ → ℕ) → Bool = λ v. bit_at v old c.args.goal && none_allows f bounds (input_at v old memory input) (outcome_at v old memory target) (shifted c.args.need (words_at v old words)) in
           tried_more old before middle after f bounds memory input target c.loop-shift.goal c.in_ok-goal.goal (λ v. candidate v (get_or SHIFTS i (Behind 0))) c.in_ok-candidate.candidate.words
-          (λ v. drop (i + 1) (shifted c.args.need (words_at v old words))) whole c.requires.args c.requires.target kept c.moved.ensures.kept c.loop-shift.invariant.goal
+          (λ v. drop (i + 1) (shifted c.args.need (words_at v old words))) whole c.requires.trial.args c.requires.trial.target kept c.moved.ensures.kept c.loop-shift.invariant.goal
           (λ v. c.in_ok-candidate.ensures.stands v ∙ ap (λ ws. words_of c.args.need (shift_of (get_or SHIFTS i (Behind 0)) ws)) (words_at-later old before c.loop-shift.invariant.kept v words c.requires.words))
           (c.in_ok-goal.ensures.made bounds memory turns)
           (λ v. rw (mapped_more (candidate v) SHIFTS (shifted c.args.need (words_at v old words)) i (Behind 0) refl c.loop-shift-test.true) at (c.loop-shift.invariant.rest bounds memory turns v));

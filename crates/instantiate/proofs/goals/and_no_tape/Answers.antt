@@ -3,15 +3,14 @@ use Rattle.std.proofs.lemmas.List.{drop_all, drop_more}
 use Rattle.points.specs.declared.point.Bounds.{Bounds}
 use Rattle.bv_terms.specs.Trees.{bit_at}
 use Rattle.mem_terms.specs.Outcomes.{outcome_at}
-use Rattle.mem_terms.proofs.Later.{keeps_trans, args-later}
+use Rattle.mem_terms.proofs.Later.{keeps_trans}
 use Rattle.instantiate.specs.Candidates.{input_at, none_allows}
-use Rattle.instantiate.proofs.Trying.{tried_more, tried_all}
+use Rattle.instantiate.proofs.Trying.{trial_later, tried_more, tried_all}
 use Rattle.instantiate.proofs.goals.and_no_tape.Goals as goal
 
-pub and_uncovered-requires-clause-args : goal.and_uncovered-requires-clause-args
-and_uncovered-requires-clause-args c =
-    args-later c.args.terms.now c.known.new.terms (keeps_trans c.args.terms.now c.loop-tape.terms c.known.new.terms c.loop-tape.invariant.kept c.known.ensures.kept)
-    c.args.trial.now.source.now.parameters c.args.trial.now.input.now.args c.requires.args
+pub and_uncovered-requires-clause-trial : goal.and_uncovered-requires-clause-trial
+and_uncovered-requires-clause-trial c =
+    trial_later c.args.terms.now c.known.new.terms (keeps_trans c.args.terms.now c.loop-tape.terms c.known.new.terms c.loop-tape.invariant.kept c.known.ensures.kept) c.args.trial.now c.requires.trial
 
 pub loop-tape-preserved : goal.loop-tape-preserved
 loop-tape-preserved c =
@@ -34,7 +33,7 @@ loop-tape-preserved c =
           tried_more old before middle after f bounds memory input target c.loop-tape.goal c.in_ok-goal.goal (λ v. c.tape-item.result) c.in_ok-candidate.candidate.words
           (λ v. drop (i + 1) tapes)
           (λ v. bit_at v old c.args.goal && none_allows f bounds (input_at v old memory input) (outcome_at v old memory target) tapes)
-          c.requires.args c.requires.target kept c.known.ensures.kept c.loop-tape.invariant.goal
+          c.requires.trial.args c.requires.trial.target kept c.known.ensures.kept c.loop-tape.invariant.goal
           (λ v. c.in_ok-candidate.ensures.stands v ∙ c.as_slice.ensures) (c.in_ok-goal.ensures.made bounds memory turns)
           (λ v. rw (drop_more tapes i c.tape-item.result c.loop-tape-test.true, ← c.tape-item.is) at (c.loop-tape.invariant.rest bounds memory turns v));
     }

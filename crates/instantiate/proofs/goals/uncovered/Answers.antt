@@ -1,6 +1,7 @@
 use Rattle.std.proofs.Common.{[], sym}
-use Rattle.mem_terms.proofs.Later.{keeps_trans, args-later, words-later}
+use Rattle.mem_terms.proofs.Later.{keeps_trans, args-later, words-later, is_outcome-later}
 use Rattle.instantiate.proofs.Extending.{extends_kept, input_extended}
+use Rattle.instantiate.proofs.Trying.{a_trial}
 use Rattle.instantiate.proofs.Uncovering.{source_args, uncovered_decides}
 use Rattle.instantiate.proofs.goals.uncovered.Goals as goal
 
@@ -14,14 +15,17 @@ well_point-requires-clause-tape c = record {
   words = words-later c.args.terms.now c.encode.new.terms c.encode.ensures.kept c.args.tape.now.words c.requires.tape.words;
 }
 
-pub and_no_shift-requires-clause-args : goal.and_no_shift-requires-clause-args
-and_no_shift-requires-clause-args c =
+pub and_no_shift-requires-clause-trial : goal.and_no_shift-requires-clause-trial
+and_no_shift-requires-clause-trial c =
     let old = c.args.terms.now in
+    let one = c.encode.new.terms in
     let two = c.well_point.new.terms in
+    let source = c.args.pair.now.source in
     let args = c.args.input.now.args in
-    rw c.source-3.ensures
-    (args-later old two (keeps_trans old c.encode.new.terms two c.encode.ensures.kept c.well_point.ensures.kept) c.args.pair.now.source.parameters args
-    (source_args old c.args.pair.now.source c.args.pair.now.target args c.target.ensures.signature (rw c.requires.shape.parameters at c.requires.input.args)))
+    a_trial two _ source c.args.bounds.now.turns c.source-3.ensures c.in_ok-of_source.ensures.turns (rw c.source.ensures at c.in_ok-of_source.ensures.copies) c.requires.ready.source_returns
+    (args-later old two (keeps_trans old one two c.encode.ensures.kept c.well_point.ensures.kept) source.parameters args
+    (source_args old source c.args.pair.now.target args c.target.ensures.signature (rw c.requires.shape.parameters at c.requires.input.args)))
+    (is_outcome-later one two c.well_point.ensures.kept c.in_ok-target.target c.in_ok-target.ensures.made)
 
 pub and_no_shift-requires-clause-words : goal.and_no_shift-requires-clause-words
 and_no_shift-requires-clause-words c =
@@ -29,16 +33,19 @@ and_no_shift-requires-clause-words c =
     let two = c.well_point.new.terms in
     rw c.as_slice.ensures (words-later old two (keeps_trans old c.encode.new.terms two c.encode.ensures.kept c.well_point.ensures.kept) c.args.tape.now.words c.requires.tape.words)
 
-pub and_no_tape-requires-clause-args : goal.and_no_tape-requires-clause-args
-and_no_tape-requires-clause-args c =
+pub and_no_tape-requires-clause-trial : goal.and_no_tape-requires-clause-trial
+and_no_tape-requires-clause-trial c =
     let old = c.args.terms.now in
     let one = c.encode.new.terms in
     let two = c.well_point.new.terms in
     let three = c.and_no_shift.new.terms in
+    let further = keeps_trans one two three c.well_point.ensures.kept c.and_no_shift.ensures.kept in
+    let source = c.args.pair.now.source in
     let args = c.args.input.now.args in
-    rw c.source-3.ensures
-    (args-later old three (keeps_trans old two three (keeps_trans old one two c.encode.ensures.kept c.well_point.ensures.kept) c.and_no_shift.ensures.kept) c.args.pair.now.source.parameters args
-    (source_args old c.args.pair.now.source c.args.pair.now.target args c.target.ensures.signature (rw c.requires.shape.parameters at c.requires.input.args)))
+    a_trial three _ source c.args.bounds.now.turns c.source-3.ensures c.in_ok-of_source.ensures.turns (rw c.source.ensures at c.in_ok-of_source.ensures.copies) c.requires.ready.source_returns
+    (args-later old three (keeps_trans old one three c.encode.ensures.kept further) source.parameters args
+    (source_args old source c.args.pair.now.target args c.target.ensures.signature (rw c.requires.shape.parameters at c.requires.input.args)))
+    (is_outcome-later one three further c.in_ok-target.target c.in_ok-target.ensures.made)
 
 pub and_no_tape-requires-clause-goal : goal.and_no_tape-requires-clause-goal
 and_no_tape-requires-clause-goal c =
