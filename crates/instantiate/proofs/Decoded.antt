@@ -10,7 +10,6 @@ use Rattle.byte_block.specs.declared.value.Value.TheVariants as value
 use Rattle.points.specs.declared.point.Point.{Point}
 use Rattle.points.specs.declared.point.Shape.{Shape}
 use Rattle.points.specs.Code.{ValueFits, ArgsFit, WordsFit, IsOfShape, value_code, args_code, blocks_code, code_of}
-use Rattle.bv_terms.specs.declared.term.TermId.{TermId}
 use Rattle.bv_terms.specs.declared.term.Term.{Term}
 use Rattle.bv_terms.specs.Tree.{truth}
 use Rattle.bv_terms.specs.Trees.{bit_at, term_at}

@@ -1,20 +1,16 @@
 -- The words of a moved tape, and of a known one.
-use Rattle.std.proofs.Common.{ℕ, zero, suc, ◌≡◌, ◌<◌, ◌≤◌, ◌+◌, ◌-◌, ◌^◌, Bool, true, false, if◌then◌else◌, List, [], ◌∷◌, ◌++◌, Some, None, length, map, take, get_or, refl, ap, sym, subst, ◌∙◌, arith}
-use Rattle.std.specs.Prelude.{nat_lt}
-use Rattle.std.proofs.lemmas.Bool.Decides.{nat_tests}
-use Rattle.std.proofs.lemmas.List.{get_or_past, take_more}
+use Rattle.std.proofs.Common.{ℕ, ◌≡◌, ◌<◌, ◌+◌, List, [], ◌∷◌, ◌++◌, length, take, get_or, ap, sym, subst, ◌∙◌, arith}
+use Rattle.std.proofs.lemmas.List.{take_more}
 use Rattle.std.proofs.lemmas.List.FromFn.{map-range_with_len_more}
 use Rattle.points.specs.Covers.{words_of}
 use Rattle.bv_terms.specs.declared.term.TermId.{TermId}
 use Rattle.bv_terms.specs.declared.term.Term.{Term}
 use Rattle.bv_terms.specs.Trees.{IsTerm, Keeps, Makes, term_at}
-use Rattle.mem_terms.specs.Values.{Each}
 use Rattle.mem_terms.specs.Inputs.{AreWords, words_at}
-use Rattle.mem_terms.proofs.Eaches.{each-push, map-push, map-length}
+use Rattle.mem_terms.proofs.Eaches.{each-push, map-push}
 use Rattle.mem_terms.proofs.Later.{words_at-later}
 use Rattle.instantiate.specs.declared.tapes.Shift.{Shift}
-use Rattle.instantiate.specs.declared.tapes.Shift.TheVariants.{Behind, Before}
-use Rattle.instantiate.specs.Tapes.{shift_of, source_of}
+use Rattle.instantiate.specs.Tapes.{shift_of}
 
 pub are_more : (terms : List Term) (tape more : List TermId) (word : TermId) → AreWords terms tape → IsTerm terms 64 word → more ≡ tape ++ word ∷ [] → AreWords terms more
 are_more terms tape more word h w e = subst (AreWords terms) (sym e) (each-push (IsTerm terms 64) tape word h w)
