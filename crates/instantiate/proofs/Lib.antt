@@ -1,8 +1,14 @@
 mod Answered
+mod Decoded
 mod Decoding
 mod Extended
+mod Extending
 mod Fitting
 mod Growing
+mod Knowing
 mod Mentioned
+mod Moved
 mod Numbered
 mod Ordered
+mod Trying
+mod Uncovering

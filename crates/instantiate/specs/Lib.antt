@@ -1,3 +1,4 @@
+pub mod Candidates
 pub mod Numbers
 pub mod Orders
 pub mod Questions

@@ -1,19 +1,26 @@
 //! The goals of the two questions.
 
-ghost use Rattle.std.specs.Prelude.{◌≡◌, IfOk, length, true};
-ghost use Rattle.bv_terms.specs.Trees.{Keeps};
-ghost use Rattle.mem_terms.specs.Inputs.{AreWords, words_at};
+ghost use Rattle.std.specs.Prelude.{◌≡◌, ◌&&◌, ◌∷◌, [], IfOk, List, length, true};
+ghost use Rattle.byte_block.specs.declared.block.MemoryBlock.{MemoryBlock};
+ghost use Rattle.points.specs.declared.point.Bounds.{Bounds};
+ghost use Rattle.points.specs.Covers.{shifted};
 ghost use Rattle.points.specs.Tapes.{need_of};
 ghost use Rattle.points.specs.Trail.{IsPoint};
+ghost use Rattle.unroll.specs.Layers.{copies_of};
+ghost use Rattle.bv_terms.specs.Trees.{IsTerm, Keeps, Tests, bit_at};
+ghost use Rattle.mem_terms.specs.Inputs.{AreArgs, AreWords, words_at};
+ghost use Rattle.mem_terms.specs.Outcomes.{IsOutcome, outcome_at};
 ghost use Rattle.refine_terms.specs.Deciding.{Decides};
 ghost use Rattle.refine_terms.specs.Numbers.{IsInputOf, IsTapeOf, numbers_at};
-ghost use Rattle.instantiate.specs.Questions.{CanBeAsked, IsCovering, IsUncovered};
+ghost use Rattle.instantiate.specs.Candidates.{input_at, none_allows};
+ghost use Rattle.instantiate.specs.Questions.{CanBeAsked, IsCovering, IsUncovered, ReturnsFit};
 ghost use Rattle.instantiate.specs.Shapes.{IsShapeOf};
 
 use crate::inputs::known_input;
 use crate::tapes::{SHIFTS, known, moved};
 use bv_terms::{TermId, Terms};
 use encoder::encode;
+use ir_tree::Function;
 use mem_terms::{InputTerms, OutcomeTerms, TapeTerms, both, negation};
 use points::{Bounds, Pair, Point, Shape};
 use refine_terms::{covered, well_point};
@@ -21,21 +28,100 @@ use std::alloc::Global;
 use support::{NoMemory, Sequence};
 use unroll::{Layered, layers, need};
 
+/// What tapes of the source are tried for: an input, and the target's outcome on it.
+#[derive(Clone, Copy)]
+struct Trial<'t> {
+    source: &'t Function,
+    layered: &'t Layered,
+    input: &'t InputTerms,
+    target: &'t OutcomeTerms,
+}
+
 /// True where the goal is and the source's run on this tape doesn't allow the target's outcome.
 fn and_uncovered(
     alloc: Global,
-    pair: &Pair,
-    layered: &Layered,
-    input: &InputTerms,
+    trial: &Trial,
     candidate: &TapeTerms,
-    target: &OutcomeTerms,
     goal: TermId,
     terms: &mut Terms,
-) -> Result<TermId, NoMemory> {
-    let source = encode(alloc, pair.source(), layered, input, candidate, terms)?;
-    let is_covered = covered(&source, target, terms)?;
+) -> Result<TermId, NoMemory>
+    requires layers { trial.now.layered.now.copies ≡ copies_of trial.now.layered.now.turns trial.now.source.now }
+    requires returns { ReturnsFit trial.now.source.now }
+    requires args { AreArgs terms.old trial.now.source.now.parameters trial.now.input.now.args }
+    requires target { IsOutcome terms.old trial.now.target.now }
+    requires words { AreWords terms.old candidate.now.words }
+    requires goal { IsTerm terms.old 1 goal }
+    ensures made { IfOk result (λ id. (bounds : Bounds) (memory : List MemoryBlock) → bounds.turns ≡ trial.now.layered.now.turns
+        → Tests terms.new id (λ v. bit_at v terms.old goal && none_allows trial.now.source.now bounds (input_at v terms.old memory trial.now.input.now)
+        (outcome_at v terms.old memory trial.now.target.now) (words_at v terms.old candidate.now.words ∷ []))) }
+    ensures kept { Keeps terms.old terms.new }
+{
+    let source = encode(
+        alloc,
+        trial.source,
+        trial.layered,
+        trial.input,
+        candidate,
+        terms,
+    )?;
+    let is_covered = covered(&source, trial.target, terms)?;
     let is_uncovered = negation(terms, is_covered)?;
-    both(terms, goal, is_uncovered)
+    let id = both(terms, goal, is_uncovered)?;
+    Ok(id)
+}
+
+/// True where the goal is and no shift of the tape lets the source's run allow the target's outcome.
+fn and_no_shift(
+    alloc: Global,
+    trial: &Trial,
+    words: &[TermId],
+    need: usize,
+    goal: TermId,
+    terms: &mut Terms,
+) -> Result<TermId, NoMemory>
+    requires layers { trial.now.layered.now.copies ≡ copies_of trial.now.layered.now.turns trial.now.source.now }
+    requires returns { ReturnsFit trial.now.source.now }
+    requires args { AreArgs terms.old trial.now.source.now.parameters trial.now.input.now.args }
+    requires target { IsOutcome terms.old trial.now.target.now }
+    requires words { AreWords terms.old words.now }
+    requires goal { IsTerm terms.old 1 goal }
+    ensures made { IfOk result (λ id. (bounds : Bounds) (memory : List MemoryBlock) → bounds.turns ≡ trial.now.layered.now.turns
+        → Tests terms.new id (λ v. bit_at v terms.old goal && none_allows trial.now.source.now bounds (input_at v terms.old memory trial.now.input.now)
+        (outcome_at v terms.old memory trial.now.target.now) (shifted need (words_at v terms.old words.now)))) }
+    ensures kept { Keeps terms.old terms.new }
+{
+    let mut goal = goal;
+    for shift in SHIFTS {
+        let candidate = moved(alloc, words, shift, need, terms)?;
+        goal = and_uncovered(alloc, trial, &candidate, goal, terms)?;
+    }
+    Ok(goal)
+}
+
+/// True where the goal is and on none of these tapes the source's run allows the target's outcome.
+fn and_no_tape(
+    alloc: Global,
+    trial: &Trial,
+    tapes: &[Sequence<u64>],
+    goal: TermId,
+    terms: &mut Terms,
+) -> Result<TermId, NoMemory>
+    requires layers { trial.now.layered.now.copies ≡ copies_of trial.now.layered.now.turns trial.now.source.now }
+    requires returns { ReturnsFit trial.now.source.now }
+    requires args { AreArgs terms.old trial.now.source.now.parameters trial.now.input.now.args }
+    requires target { IsOutcome terms.old trial.now.target.now }
+    requires goal { IsTerm terms.old 1 goal }
+    ensures made { IfOk result (λ id. (bounds : Bounds) (memory : List MemoryBlock) → bounds.turns ≡ trial.now.layered.now.turns
+        → Tests terms.new id (λ v. bit_at v terms.old goal && none_allows trial.now.source.now bounds (input_at v terms.old memory trial.now.input.now)
+        (outcome_at v terms.old memory trial.now.target.now) tapes.now)) }
+    ensures kept { Keeps terms.old terms.new }
+{
+    let mut goal = goal;
+    for tape in tapes {
+        let candidate = known(alloc, tape.as_slice(), terms)?;
+        goal = and_uncovered(alloc, trial, &candidate, goal, terms)?;
+    }
+    Ok(goal)
 }
 
 /// True where the numbers of the terms are the code of a point that neither a shift of its tape nor
@@ -61,16 +147,16 @@ pub fn uncovered(
     let of_source = layers(alloc, pair.source(), bounds.turns)?;
     let words = need(pair.source(), bounds.turns) as usize;
     let target = encode(alloc, pair.target(), &of_target, input, tape, terms)?;
-    let mut goal = well_point(shape, input, tape, &target, terms)?;
-    for shift in SHIFTS {
-        let candidate = moved(alloc, tape.words.as_slice(), shift, words, terms)?;
-        goal = and_uncovered(alloc, pair, &of_source, input, &candidate, &target, goal, terms)?;
-    }
-    for fixed in tapes {
-        let candidate = known(alloc, fixed.as_slice(), terms)?;
-        goal = and_uncovered(alloc, pair, &of_source, input, &candidate, &target, goal, terms)?;
-    }
-    Ok(goal)
+    let is_point = well_point(shape, input, tape, &target, terms)?;
+    let trial = Trial {
+        source: pair.source(),
+        layered: &of_source,
+        input,
+        target: &target,
+    };
+    let goal = and_no_shift(alloc, &trial, tape.words.as_slice(), words, is_point, terms)?;
+    let id = and_no_tape(alloc, &trial, tapes, goal, terms)?;
+    Ok(id)
 }
 
 /// True where the words of the terms are a tape of the source that covers the point.
@@ -89,6 +175,7 @@ pub fn covering(
     ensures made { IfOk result (λ id. Decides terms.new id (λ v. IsCovering pair.now bounds.now point.now (words_at v terms.old tape.now.words))) }
     ensures kept { Keeps terms.old terms.new }
 {
+    terms.values_fit();
     let of_target = layers(alloc, pair.target(), bounds.turns)?;
     let of_source = layers(alloc, pair.source(), bounds.turns)?;
     let parameters = pair.target().parameters.as_slice();
@@ -96,5 +183,6 @@ pub fn covering(
     let choices = known(alloc, point.tape.as_slice(), terms)?;
     let target = encode(alloc, pair.target(), &of_target, &input, &choices, terms)?;
     let source = encode(alloc, pair.source(), &of_source, &input, tape, terms)?;
-    covered(&source, &target, terms)
+    let id = covered(&source, &target, terms)?;
+    Ok(id)
 }

@@ -1,20 +1,22 @@
 //! The numbers of a point as variables, and known arguments.
 
-ghost use Rattle.std.specs.Prelude.{◌≡◌, ◌++◌, ◌≤◌, IfOk, List, OnOk, length, replicate, ℕ};
-ghost use Rattle.ir_tree.specs.Limits.{AreIntegers};
-ghost use Rattle.points.specs.Code.{ArgsFit};
-ghost use Rattle.bv_terms.specs.Trees.{Extends, Keeps};
-ghost use Rattle.mem_terms.specs.Inputs.{AreArgs, AreWords, args_at};
-ghost use Rattle.refine_terms.specs.Numbers.{IsInputOf, IsTapeOf};
+ghost use Rattle.std.specs.Prelude.{◌≡◌, ◌++◌, ◌∷◌, ◌≤◌, [], IfOk, List, OnOk, length, replicate, ℕ};
+ghost use Rattle.std.specs.List.{flat_map};
+ghost use Rattle.ir_tree.specs.Limits.{AreIntegers, IsInteger};
+ghost use Rattle.points.specs.Code.{ArgsFit, ValueFits};
+ghost use Rattle.bv_terms.specs.Trees.{Extends, IsTerm, IsWidth, Keeps};
+ghost use Rattle.mem_terms.specs.Values.{Each};
+ghost use Rattle.mem_terms.specs.Inputs.{AreArgs, AreWords, IsArg, arg_at, args_at, argument_width};
+ghost use Rattle.refine_terms.specs.Numbers.{IsBlockTerms, IsByteTerms, IsInputOf};
 ghost use Rattle.instantiate.specs.Orders.{IsOrder};
-ghost use Rattle.instantiate.specs.Questions.{args_widths, blocks_widths};
-ghost use Rattle.instantiate.specs.Shapes.{input_ids};
+ghost use Rattle.instantiate.specs.Questions.{args_widths, blocks_widths, places_widths};
+ghost use Rattle.instantiate.specs.Shapes.{arg_ids, byte_ids, input_ids};
 
 use crate::variables::variable;
 use bv_terms::{TermId, Terms};
 use byte_block::Value;
 use ir_tree::{IrType, Parameter};
-use mem_terms::{ArgTerms, ByteTerms, InputTerms, TapeTerms};
+use mem_terms::{ArgTerms, ByteTerms, InputTerms, TapeTerms, truth};
 use points::Shape;
 use std::alloc::Global;
 use support::{NoMemory, Sequence};
@@ -26,7 +28,10 @@ const SIZE_WIDTH: u32 = 6;
 const WORD_WIDTH: u32 = 64;
 
 /// How many bits an integer has, or a pointer's offset.
-fn bits_of(of_type: IrType) -> u32 {
+fn bits_of(of_type: IrType) -> u32
+    ensures bits { result ≡ argument_width of_type }
+    ensures range { IsWidth result }
+{
     match of_type {
         IrType::Int(width) => width.bits(),
         IrType::Ptr => WORD_WIDTH,
@@ -39,24 +44,40 @@ fn arg_variables(
     parameters: &[Parameter],
     terms: &mut Terms,
     order: &mut Vec<TermId>,
-) -> Result<Vec<ArgTerms>, NoMemory> {
+) -> Result<Sequence<ArgTerms>, NoMemory>
+    requires { AreIntegers parameters.now }
+    ensures args { IfOk result (AreArgs terms.new parameters.now) }
+    ensures order { OnOk result ((widths : List ℕ) → IsOrder terms.old order.old.items widths → IsOrder terms.new order.new.items (widths ++ args_widths parameters.now)) }
+    ensures ids { IfOk result (λ args. order.new.items ≡ order.old.items ++ flat_map arg_ids args) }
+    ensures kept { Extends terms.old terms.new }
+{
     let mut args = Vec::new(alloc);
     for parameter in parameters {
         let flag = variable(terms, order, 1)?;
         let number = variable(terms, order, bits_of(parameter.of_type))?;
         args.push(ArgTerms { flag, number })?;
     }
-    Ok(args)
+    Ok(Sequence::from_vec(args))
 }
 
 /// The five numbers of a place.
-fn place_variables(terms: &mut Terms, order: &mut Vec<TermId>) -> Result<ByteTerms, NoMemory> {
+fn place_variables(terms: &mut Terms, order: &mut Vec<TermId>) -> Result<ByteTerms, NoMemory>
+    ensures place { IfOk result (IsByteTerms terms.new) }
+    ensures order { OnOk result ((widths : List ℕ) → IsOrder terms.old order.old.items widths → IsOrder terms.new order.new.items (widths ++ places_widths 1)) }
+    ensures ids { IfOk result (λ place. order.new.items ≡ order.old.items ++ byte_ids place) }
+    ensures kept { Extends terms.old terms.new }
+{
+    let kind = variable(terms, order, 2)?;
+    let number = variable(terms, order, 8)?;
+    let block = variable(terms, order, 3)?;
+    let offset = variable(terms, order, 64)?;
+    let part = variable(terms, order, 3)?;
     Ok(ByteTerms {
-        kind: variable(terms, order, 2)?,
-        number: variable(terms, order, 8)?,
-        block: variable(terms, order, 3)?,
-        offset: variable(terms, order, 64)?,
-        part: variable(terms, order, 3)?,
+        kind,
+        number,
+        block,
+        offset,
+        part,
     })
 }
 
@@ -66,10 +87,38 @@ fn block_variables(
     bytes: u64,
     terms: &mut Terms,
     order: &mut Vec<TermId>,
-) -> Result<Sequence<ByteTerms>, NoMemory> {
+) -> Result<Sequence<ByteTerms>, NoMemory>
+    ensures places { IfOk result (IsBlockTerms bytes terms.new) }
+    ensures order { OnOk result ((widths : List ℕ) → IsOrder terms.old order.old.items widths → IsOrder terms.new order.new.items (widths ++ places_widths bytes)) }
+    ensures ids { IfOk result (λ places. order.new.items ≡ order.old.items ++ flat_map byte_ids places) }
+    ensures kept { Extends terms.old terms.new }
+{
     let mut places = Vec::new(alloc);
-    for _ in 0..bytes {
-        places.push(place_variables(terms, order)?)?;
+    for _place in 0..bytes {
+        let place = place_variables(terms, order)?;
+        places.push(place)?;
+    }
+    Ok(Sequence::from_vec(places))
+}
+
+/// The places of so many given blocks.
+fn blocks_variables(
+    alloc: Global,
+    blocks: u64,
+    bytes: u64,
+    terms: &mut Terms,
+    order: &mut Vec<TermId>,
+) -> Result<Sequence<Sequence<ByteTerms>>, NoMemory>
+    ensures count { IfOk result (λ places. length places ≡ blocks) }
+    ensures places { IfOk result (Each (IsBlockTerms bytes terms.new)) }
+    ensures order { OnOk result ((widths : List ℕ) → IsOrder terms.old order.old.items widths → IsOrder terms.new order.new.items (widths ++ blocks_widths bytes blocks)) }
+    ensures ids { IfOk result (λ places. order.new.items ≡ order.old.items ++ flat_map (flat_map byte_ids) places) }
+    ensures kept { Extends terms.old terms.new }
+{
+    let mut places = Vec::new(alloc);
+    for _block in 0..blocks {
+        let block = block_variables(alloc, bytes, terms, order)?;
+        places.push(block)?;
     }
     Ok(Sequence::from_vec(places))
 }
@@ -81,10 +130,18 @@ fn row_of_variables(
     width: u32,
     terms: &mut Terms,
     order: &mut Vec<TermId>,
-) -> Result<Sequence<TermId>, NoMemory> {
+) -> Result<Sequence<TermId>, NoMemory>
+    requires { IsWidth width }
+    ensures count { IfOk result (λ row. length row ≡ count) }
+    ensures row { IfOk result (Each (IsTerm terms.new width)) }
+    ensures order { OnOk result ((widths : List ℕ) → IsOrder terms.old order.old.items widths → IsOrder terms.new order.new.items (widths ++ replicate count width)) }
+    ensures ids { IfOk result (λ row. order.new.items ≡ order.old.items ++ row) }
+    ensures kept { Extends terms.old terms.new }
+{
     let mut row = Vec::new(alloc);
-    for _ in 0..count {
-        row.push(variable(terms, order, width)?)?;
+    for _variable in 0..count {
+        let id = variable(terms, order, width)?;
+        row.push(id)?;
     }
     Ok(Sequence::from_vec(row))
 }
@@ -105,14 +162,11 @@ pub fn input_variables(
 {
     let args = arg_variables(alloc, shape.parameters.as_slice(), terms, order)?;
     let sizes = row_of_variables(alloc, shape.blocks, SIZE_WIDTH, terms, order)?;
-    let mut places = Vec::new(alloc);
-    for _ in 0..shape.blocks {
-        places.push(block_variables(alloc, shape.bytes, terms, order)?)?;
-    }
+    let places = blocks_variables(alloc, shape.blocks, shape.bytes, terms, order)?;
     Ok(InputTerms {
-        args: Sequence::from_vec(args),
+        args,
         sizes,
-        places: Sequence::from_vec(places),
+        places,
     })
 }
 
@@ -133,6 +187,23 @@ pub fn tape_variables(
     Ok(TapeTerms { words })
 }
 
+/// An argument that is this value, which fits the type.
+fn known_arg(of_type: IrType, value: Value, terms: &mut Terms) -> Result<ArgTerms, NoMemory>
+    requires integer { IsInteger of_type }
+    requires fits { ValueFits 0 of_type value }
+    ensures is { IfOk result (IsArg terms.new (argument_width of_type)) }
+    ensures stands { IfOk result (λ arg. (v : ℕ → ℕ → ℕ) → arg_at v terms.new arg ≡ value) }
+    ensures kept { Keeps terms.old terms.new }
+{
+    let (is_poison, known) = match value {
+        Value::Num(number) => (false, number),
+        Value::Ptr(_) | Value::Poison => (true, 0),
+    };
+    let flag = truth(terms, is_poison)?;
+    let number = terms.constant(known as u128, bits_of(of_type))?;
+    Ok(ArgTerms { flag, number })
+}
+
 /// Arguments that are these values, which fit their parameters.
 pub fn known_input(
     alloc: Global,
@@ -147,15 +218,9 @@ pub fn known_input(
     ensures kept { Keeps terms.old terms.new }
 {
     let mut known = Vec::new(alloc);
-    for (parameter, value) in parameters.iter().zip(args) {
-        let (is_poison, number) = match value {
-            Value::Num(number) => (false, *number),
-            Value::Ptr(_) | Value::Poison => (true, 0),
-        };
-        known.push(ArgTerms {
-            flag: terms.constant(u128::from(is_poison), 1)?,
-            number: terms.constant(u128::from(number), bits_of(parameter.of_type))?,
-        })?;
+    for (i, parameter) in parameters.iter().enumerate() {
+        let arg = known_arg(parameter.of_type, args[i], terms)?;
+        known.push(arg)?;
     }
     Ok(InputTerms {
         args: Sequence::from_vec(known),

@@ -1,7 +1,8 @@
 //! Tapes of the source, as terms.
 
-ghost use Rattle.std.specs.Prelude.{◌≡◌, IfOk, ℕ};
-ghost use Rattle.bv_terms.specs.Trees.{Keeps};
+ghost use Rattle.std.specs.Prelude.{◌≡◌, IfOk, List, ℕ};
+ghost use Rattle.bv_terms.specs.declared.term.Term.{Term};
+ghost use Rattle.bv_terms.specs.Trees.{IsTerm, Keeps, term_at};
 ghost use Rattle.mem_terms.specs.Inputs.{AreWords, words_at};
 ghost use Rattle.points.specs.Covers.{words_of};
 ghost use Rattle.instantiate.specs.Tapes.{shift_of, source_of};
@@ -39,6 +40,17 @@ impl Shift {
     }
 }
 
+/// The word at a place of a moved tape, which is the zero outside the tape.
+fn moved_word(words: &[TermId], shift: Shift, place: usize, zero: TermId) -> TermId
+    ensures is { (terms : List Term) → AreWords terms words.now → IsTerm terms 64 zero → IsTerm terms 64 result }
+    ensures stands { (v : ℕ → ℕ → ℕ) (terms : List Term) → term_at v terms zero ≡ 0 → term_at v terms result ≡ shift_of shift (words_at v terms words.now) place }
+{
+    match shift.source_of(place) {
+        Some(source) if source < words.len() => words[source],
+        _ => zero,
+    }
+}
+
 /// So many words of a moved tape; outside the tape they are 0.
 pub fn moved(
     alloc: Global,
@@ -55,11 +67,7 @@ pub fn moved(
     let zero = number(terms, 0)?;
     let mut tape = Vec::new(alloc);
     for place in 0..need {
-        let word = match shift.source_of(place) {
-            Some(source) if source < words.len() => words[source],
-            _ => zero,
-        };
-        tape.push(word)?;
+        tape.push(moved_word(words, shift, place, zero))?;
     }
     Ok(TapeTerms {
         words: Sequence::from_vec(tape),
@@ -74,7 +82,8 @@ pub fn known(alloc: Global, words: &[u64], terms: &mut Terms) -> Result<TapeTerm
 {
     let mut tape = Vec::new(alloc);
     for word in words {
-        tape.push(number(terms, *word)?)?;
+        let id = number(terms, *word)?;
+        tape.push(id)?;
     }
     Ok(TapeTerms {
         words: Sequence::from_vec(tape),
