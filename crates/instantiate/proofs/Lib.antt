@@ -1,8 +1,7 @@
 mod Answered
 mod Decoded
-mod Decoding
-mod Extended
 mod Extending
+mod Findings
 mod Fitting
 mod Growing
 mod Knowing

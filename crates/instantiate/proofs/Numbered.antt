@@ -9,8 +9,8 @@ use Rattle.bv_terms.specs.declared.term.TermId.{TermId}
 use Rattle.bv_terms.specs.declared.term.Term.{Term}
 use Rattle.bv_terms.specs.declared.term.Term.TheVariants as term
 use Rattle.bv_terms.specs.declared.variable.Variable.{Variable}
-use Rattle.bv_terms.specs.Tree.{value_of}
-use Rattle.bv_terms.specs.Trees.{AreFit, Extends, Gains, Keeps, term_at, variables_among}
+use Rattle.bv_terms.specs.Tree.{value_of, width_of}
+use Rattle.bv_terms.specs.Trees.{AreFit, Extends, Gains, Keeps, term_at, tree_in, variables_among}
 use Rattle.gate_digits.specs.Numbers.{number_of}
 use Rattle.gate_digits.proofs.Digits.{number-below}
 use Rattle.front_order.specs.Fronts.{Fits, numbers_of, total}
@@ -104,6 +104,20 @@ are_variables terms from (a ∷ rest) (w ∷ ws) h zero d lt = (from, w, h.0)
 are_variables terms from (a ∷ rest) (w ∷ ws) h (suc i) d lt = are_variables terms (from + 1) rest ws h.1 i d (omega arith)
 are_variables terms from [] (w ∷ ws) h i d lt = absurd h
 are_variables terms from (a ∷ rest) [] h i d lt = absurd h
+
+pub all_within : (terms : List Term) (from : ℕ) (order : List TermId) (widths : List ℕ) → AreNumbered terms from order widths → All (λ (a : TermId). a.index < length terms) order
+all_within terms from [] [] h i d lt = absurd (omega arith)
+all_within terms from (a ∷ rest) (w ∷ ws) h zero d lt = slice_get_within terms a.index (term.Variable from w) h.0
+all_within terms from (a ∷ rest) (w ∷ ws) h (suc i) d lt = all_within terms (from + 1) rest ws h.1 i d (omega arith)
+all_within terms from [] (w ∷ ws) h i d lt = absurd h
+all_within terms from (a ∷ rest) [] h i d lt = absurd h
+
+pub widths_are : (terms : List Term) (from : ℕ) (order : List TermId) (widths : List ℕ) → AreFit [] terms → AreNumbered terms from order widths → map (λ (a : TermId). width_of (tree_in terms a)) order ≡ widths
+widths_are terms from [] [] fit h = refl
+widths_are terms from (a ∷ rest) (w ∷ ws) fit h =
+    ap (λ n. n ∷ map (λ (b : TermId). width_of (tree_in terms b)) rest) (ap width_of (tree_placed terms a.index (term.Variable from w) fit h.0)) ∙ ap (λ ns. w ∷ ns) (widths_are terms (from + 1) rest ws fit h.1)
+widths_are terms from [] (w ∷ ws) fit h = absurd h
+widths_are terms from (a ∷ rest) [] fit h = absurd h
 
 number-at : (terms : List Term) (from : ℕ) (order : List TermId) (widths : List ℕ) (i : ℕ) (a : TermId) → AreNumbered terms from order widths → slice_get order i ≡ Some a
     → (w : ℕ) × (slice_get terms a.index ≡ Some (term.Variable (from + i) w))

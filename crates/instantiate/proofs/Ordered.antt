@@ -11,8 +11,7 @@ use Rattle.points.specs.Tapes.{need_of}
 use Rattle.instantiate.specs.Orders.{IsOrder}
 use Rattle.instantiate.specs.Questions.{args_widths, blocks_widths, point_widths, tape_widths}
 use Rattle.instantiate.specs.Shapes.{IsShapeOf}
-use Rattle.instantiate.proofs.Extended.{all_within, widths_are}
-use Rattle.instantiate.proofs.Numbered.{order_kept}
+use Rattle.instantiate.proofs.Numbered.{all_within, order_kept, widths_are}
 
 order_start : (terms : List Term) (order : List TermId) → terms ≡ [] → order ≡ [] → IsOrder terms order []
 unfolding variables_among

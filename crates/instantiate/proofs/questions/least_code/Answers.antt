@@ -6,8 +6,8 @@ use Rattle.front_order.specs.Fronts.{AreWidths}
 use Rattle.instantiate.specs.Numbers.{IsFoundNumbers, number_test}
 use Rattle.instantiate.specs.Questions.{IsUncovered, point_widths}
 use Rattle.instantiate.specs.Shapes.{input_ids}
-use Rattle.instantiate.proofs.Decoding.{found_code, ids_are, point_passes}
-use Rattle.instantiate.proofs.Extended.{input_extended}
+use Rattle.instantiate.proofs.Findings.{found_code, ids_are, point_passes}
+use Rattle.instantiate.proofs.Extending.{input_extended}
 use Rattle.instantiate.proofs.Fitting.{point_narrow}
 use Rattle.instantiate.proofs.Ordered.{counted, order_asked, order_within, point_order}
 use Rattle.instantiate.proofs.questions.least_code.Goals as goal

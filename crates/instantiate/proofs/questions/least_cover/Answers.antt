@@ -3,7 +3,7 @@ use Rattle.std.proofs.Common.{ℕ, List, sym, subst, ◌∙◌}
 use Rattle.front_order.specs.Fronts.{AreWidths}
 use Rattle.instantiate.specs.Numbers.{IsFoundNumbers, number_test}
 use Rattle.instantiate.specs.Questions.{IsCovering, tape_widths}
-use Rattle.instantiate.proofs.Decoding.{found_tape, tape_passes, words_are}
+use Rattle.instantiate.proofs.Findings.{found_tape, tape_passes, words_are}
 use Rattle.instantiate.proofs.Fitting.{tape_narrow}
 use Rattle.instantiate.proofs.Ordered.{counted, order_asked, order_within, tape_order}
 use Rattle.instantiate.proofs.questions.least_cover.Goals as goal
