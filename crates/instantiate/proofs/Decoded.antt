@@ -1,6 +1,7 @@
 -- Numbers that are the code of a point give its arguments and its tape back.
 use Rattle.std.proofs.Common.{ℕ, zero, suc, ◌≡◌, ◌*◌, List, [], ◌∷◌, ◌++◌, length, map, refl, ap, sym, ◌∙◌, arith, length-append, append_assoc}
 use Rattle.std.specs.List.{flat_map}
+use Rattle.std.proofs.lemmas.List.{map-append}
 use Rattle.ir_tree.specs.declared.tree.IrType.{IrType}
 use Rattle.ir_tree.specs.declared.tree.IrType.TheVariants as type
 use Rattle.ir_tree.specs.declared.tree.Parameter.{Parameter}
@@ -10,16 +11,19 @@ use Rattle.byte_block.specs.declared.value.Value.TheVariants as value
 use Rattle.points.specs.declared.point.Point.{Point}
 use Rattle.points.specs.declared.point.Shape.{Shape}
 use Rattle.points.specs.Code.{ValueFits, ArgsFit, WordsFit, IsOfShape, value_code, args_code, blocks_code, code_of}
+use Rattle.bv_terms.specs.declared.term.TermId.{TermId}
 use Rattle.bv_terms.specs.declared.term.Term.{Term}
 use Rattle.bv_terms.specs.Tree.{truth}
 use Rattle.bv_terms.specs.Trees.{bit_at, term_at}
 use Rattle.mem_terms.specs.declared.inputs.ArgTerms.{ArgTerms}
+use Rattle.mem_terms.specs.declared.inputs.ByteTerms.{ByteTerms}
 use Rattle.mem_terms.specs.declared.inputs.InputTerms.{InputTerms}
 use Rattle.mem_terms.specs.declared.inputs.TapeTerms.{TapeTerms}
 use Rattle.mem_terms.specs.Values.{value_from}
 use Rattle.mem_terms.specs.Inputs.{AreArgs, args_at, words_at}
 use Rattle.mem_terms.proofs.Eaches.{map-length}
 use Rattle.refine_terms.specs.Numbers.{IsInputOf, IsTapeOf, arg_numbers, block_numbers, numbers_at}
+use Rattle.instantiate.specs.Shapes.{arg_ids, byte_ids, input_ids}
 
 -- ---- lists in two parts
 
@@ -112,3 +116,35 @@ decoded v terms s input tape p i h h' of_shape e =
       args_decoded v terms s.blocks s.parameters p.input.args input.args i of_shape.args h.args parts.0,
       same_back blocks p.tape (sizes ++ places) words count (parts.1 ∙ sym (append_assoc sizes places words)),
     )
+
+-- ---- the numbers are those of the terms in order
+
+args_numbered : (v : ℕ → ℕ → ℕ) (terms : List Term) (args : List ArgTerms) → map (term_at v terms) (flat_map arg_ids args) ≡ flat_map (arg_numbers v terms) args
+args_numbered v terms [] = refl
+args_numbered v terms (a ∷ rest) = ap (λ ns. term_at v terms a.flag ∷ term_at v terms a.number ∷ ns) (args_numbered v terms rest)
+
+block_numbered : (v : ℕ → ℕ → ℕ) (terms : List Term) (places : List ByteTerms) → map (term_at v terms) (flat_map byte_ids places) ≡ block_numbers v terms places
+block_numbered v terms [] = refl
+block_numbered v terms (b ∷ rest) =
+    ap (λ ns. term_at v terms b.kind ∷ term_at v terms b.number ∷ term_at v terms b.block ∷ term_at v terms b.offset ∷ term_at v terms b.part ∷ ns) (block_numbered v terms rest)
+
+joined : (a b c d : List ℕ) → a ≡ b → c ≡ d → (a ++ c) ≡ (b ++ d)
+joined a b c d e f = cc
+
+blocks_numbered : (v : ℕ → ℕ → ℕ) (terms : List Term) (places : List (List ByteTerms)) → map (term_at v terms) (flat_map (flat_map byte_ids) places) ≡ flat_map (block_numbers v terms) places
+blocks_numbered v terms [] = refl
+blocks_numbered v terms (x ∷ rest) =
+    map-append (term_at v terms) (flat_map byte_ids x) (flat_map (flat_map byte_ids) rest)
+    ∙ joined (map (term_at v terms) (flat_map byte_ids x)) (block_numbers v terms x) (map (term_at v terms) (flat_map (flat_map byte_ids) rest)) (flat_map (block_numbers v terms) rest)
+    (block_numbered v terms x) (blocks_numbered v terms rest)
+
+pub numbers_in_order : (v : ℕ → ℕ → ℕ) (terms : List Term) (input : InputTerms) (tape : TapeTerms) → map (term_at v terms) (input_ids input ++ tape.words) ≡ numbers_at v terms input tape
+numbers_in_order v terms input tape =
+    let args = flat_map arg_ids input.args in
+    let places = flat_map (flat_map byte_ids) input.places in
+    let f : TermId → ℕ = term_at v terms in
+    map-append f (args ++ (input.sizes ++ places)) tape.words
+    ∙ (ap (λ ns. ns ++ map f tape.words) (map-append f args (input.sizes ++ places) ∙ joined (map f args) (flat_map (arg_numbers v terms) input.args) (map f (input.sizes ++ places)) (map f input.sizes ++ flat_map (block_numbers v terms) input.places)
+    (args_numbered v terms input.args) (map-append f input.sizes places ∙ ap (λ ns. map f input.sizes ++ ns) (blocks_numbered v terms input.places)))
+    ∙ (append_assoc (flat_map (arg_numbers v terms) input.args) (map f input.sizes ++ flat_map (block_numbers v terms) input.places) (map f tape.words)
+    ∙ ap (λ ns. flat_map (arg_numbers v terms) input.args ++ ns) (append_assoc (map f input.sizes) (flat_map (block_numbers v terms) input.places) (map f tape.words))))
