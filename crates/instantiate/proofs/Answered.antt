@@ -1,5 +1,5 @@
 -- What is answered in digits is answered in numbers.
-use Rattle.std.proofs.Common.{ℕ, zero, suc, ◌≡◌, ◌<◌, ◌+◌, ◌%◌, ◌^◌, inl, inr, Bool, true, List, [], ◌∷◌, Some, slice_get, map, length, arith, sym, ap, subst, refl, ◌∙◌}
+use Rattle.std.proofs.Common.{ℕ, zero, suc, ◌≡◌, ◌<◌, ◌+◌, ◌%◌, ◌^◌, inl, inr, Bool, List, [], ◌∷◌, Some, slice_get, map, length, arith, sym, ap, subst, refl, ◌∙◌}
 use Rattle.std.specs.Prelude.{slice_index}
 use Rattle.bv_terms.specs.declared.term.TermId.{TermId}
 use Rattle.bv_terms.specs.declared.term.Term.{Term}

@@ -1,5 +1,5 @@
 -- Numbers that are the code of a point give its arguments and its tape back.
-use Rattle.std.proofs.Common.{ℕ, zero, suc, ◌≡◌, ◌<◌, ◌+◌, ◌*◌, ◌^◌, List, [], ◌∷◌, ◌++◌, length, map, refl, ap, sym, subst, ◌∙◌, arith, length-append, append_assoc}
+use Rattle.std.proofs.Common.{ℕ, zero, suc, ◌≡◌, ◌*◌, List, [], ◌∷◌, ◌++◌, length, map, refl, ap, sym, ◌∙◌, arith, length-append, append_assoc}
 use Rattle.std.specs.List.{flat_map}
 use Rattle.std.proofs.lemmas.List.{map-append}
 use Rattle.ir_tree.specs.declared.tree.IrType.{IrType}
@@ -14,7 +14,7 @@ use Rattle.points.specs.Code.{ValueFits, ArgsFit, WordsFit, IsOfShape, value_cod
 use Rattle.bv_terms.specs.declared.term.TermId.{TermId}
 use Rattle.bv_terms.specs.declared.term.Term.{Term}
 use Rattle.bv_terms.specs.Tree.{truth}
-use Rattle.bv_terms.specs.Trees.{Keeps, bit_at, term_at}
+use Rattle.bv_terms.specs.Trees.{bit_at, term_at}
 use Rattle.mem_terms.specs.declared.inputs.ArgTerms.{ArgTerms}
 use Rattle.mem_terms.specs.declared.inputs.ByteTerms.{ByteTerms}
 use Rattle.mem_terms.specs.declared.inputs.InputTerms.{InputTerms}
@@ -22,7 +22,7 @@ use Rattle.mem_terms.specs.declared.inputs.TapeTerms.{TapeTerms}
 use Rattle.mem_terms.specs.Values.{value_from}
 use Rattle.mem_terms.specs.Inputs.{AreArgs, args_at, words_at}
 use Rattle.mem_terms.proofs.Eaches.{map-length}
-use Rattle.refine_terms.specs.Numbers.{IsInputOf, IsTapeOf, arg_numbers, byte_numbers, block_numbers, numbers_at}
+use Rattle.refine_terms.specs.Numbers.{IsInputOf, IsTapeOf, arg_numbers, block_numbers, numbers_at}
 use Rattle.instantiate.specs.Shapes.{arg_ids, byte_ids, input_ids}
 
 -- ---- lists in two parts
@@ -112,8 +112,7 @@ decoded v terms s input tape p i h h' of_shape e =
     let words = words_at v terms tape.words in
     let long : length args ≡ length args' = args_long s.blocks s.parameters p.input.args i of_shape.args ∙ sym (numbers_long v terms s.parameters input.args h.args) in
     let parts = same_front args (blocks ++ p.tape) args' (sizes ++ (places ++ words)) long e in
-    let count : length p.tape ≡ length words = words_long s.word_width.bits s.words p.tape of_shape.tape ∙ (sym h'.count ∙ sym (map-length (term_at v terms) tape.words)) in
-    (
+    let count : length p.tape ≡ length words = words_long s.word_width.bits s.words p.tape of_shape.tape ∙ (sym h'.count ∙ sym (map-length (term_at v terms) tape.words)) in (
       args_decoded v terms s.blocks s.parameters p.input.args input.args i of_shape.args h.args parts.0,
       same_back blocks p.tape (sizes ++ places) words count (parts.1 ∙ sym (append_assoc sizes places words)),
     )

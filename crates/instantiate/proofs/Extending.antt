@@ -10,15 +10,14 @@ use Rattle.points.specs.declared.point.Shape.{Shape}
 use Rattle.bv_terms.specs.declared.term.TermId.{TermId}
 use Rattle.bv_terms.specs.declared.term.Term.{Term}
 use Rattle.bv_terms.specs.Tree.{width_of}
-use Rattle.bv_terms.specs.Trees.{Extends, Keeps, IsTerm, tree_in}
+use Rattle.bv_terms.specs.Trees.{Extends, Keeps, IsTerm}
 use Rattle.mem_terms.specs.declared.inputs.ArgTerms.{ArgTerms}
 use Rattle.mem_terms.specs.declared.inputs.ByteTerms.{ByteTerms}
 use Rattle.mem_terms.specs.declared.inputs.InputTerms.{InputTerms}
-use Rattle.mem_terms.specs.declared.inputs.TapeTerms.{TapeTerms}
 use Rattle.mem_terms.specs.Values.{Each}
-use Rattle.mem_terms.specs.Inputs.{IsArg, AreArgs, AreWords, argument_width}
+use Rattle.mem_terms.specs.Inputs.{IsArg, AreArgs, argument_width}
 use Rattle.mem_terms.proofs.Eaches.{each-weaker, each-push}
-use Rattle.refine_terms.specs.Numbers.{IsByteTerms, IsBlockTerms, IsInputOf, IsTapeOf}
+use Rattle.refine_terms.specs.Numbers.{IsByteTerms, IsBlockTerms, IsInputOf}
 use Rattle.instantiate.specs.Orders.{IsOrder}
 use Rattle.instantiate.specs.Questions.{value_widths, args_widths, places_widths, blocks_widths}
 
@@ -83,9 +82,6 @@ module _ (old new : List Term) (e : Extends old new) where
 abbrev pub Grows : (old new : List Term) (before after : List TermId) → List ℕ → Type 0
 Grows old new before after more = (widths : List ℕ) → IsOrder old before widths → IsOrder new after (widths ++ more)
 
-pub grows_none : (old : List Term) (order : List TermId) → Grows old old order order []
-grows_none old order widths h = subst (IsOrder old order) (sym (append-nil widths)) h
-
 pub grows_trans : (a b c : List Term) (x y z : List TermId) (more further : List ℕ) → Grows a b x y more → Grows b c y z further → Grows a c x z (more ++ further)
 grows_trans a b c x y z more further g h widths is = subst (IsOrder c z) (append_assoc widths more further) (h (widths ++ more) (g widths is))
 
@@ -101,6 +97,9 @@ ids_as start end a b e p = p ∙ ap (λ xs. start ++ xs) e
 pub flat_map_push : {A B : Type 0} (f : A → List B) (xs : List A) (x : A) → flat_map f (xs ++ x ∷ []) ≡ flat_map f xs ++ f x
 flat_map_push f [] x = append-nil (f x)
 flat_map_push f (y ∷ ys) x = ap (λ zs. f y ++ zs) (flat_map_push f ys x) ∙ sym (append_assoc (f y) (flat_map f ys) (f x))
+
+pub ids_pushed : {A B : Type 0} (f : A → List B) (start end : List B) (xs more : List A) (x : A) → more ≡ xs ++ x ∷ [] → end ≡ start ++ (flat_map f xs ++ f x) → end ≡ start ++ flat_map f more
+ids_pushed f start end xs more x e p = p ∙ ap (λ zs. start ++ zs) (sym (flat_map_push f xs x) ∙ sym (ap (flat_map f) e))
 
 -- ---- one more of each
 

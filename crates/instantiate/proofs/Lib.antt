@@ -1,10 +1,10 @@
 mod Answered
 mod Decoded
-mod Decoding
-mod Extended
 mod Extending
+mod Findings
 mod Fitting
 mod Growing
+mod Knowing
 mod Mentioned
 mod Moved
 mod Numbered

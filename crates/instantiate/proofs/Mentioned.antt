@@ -1,5 +1,5 @@
 -- Terms whose variables are all named mention no other variable.
-use Rattle.std.proofs.Common.{ℕ, zero, suc, ◌≡◌, ◌<◌, ◌⊎◌, inl, inr, List, [], ◌∷◌, ◌++◌, Some, length, map, get_or, slice_get, refl, ap, sym, subst, arith, ◌∙◌, length-append}
+use Rattle.std.proofs.Common.{ℕ, zero, suc, ◌≡◌, ◌<◌, ◌+◌, ◌⊎◌, inl, inr, List, [], ◌∷◌, ◌++◌, Some, length, get_or, slice_get, ap, sym, subst, arith, ◌∙◌, length-append}
 use Rattle.std.proofs.lemmas.Bool.{cases_eq}
 use Rattle.std.proofs.lemmas.List.{get_or-map, get_or_push, get_or_append_left}
 use Rattle.std.proofs.lemmas.Option.{get_or_from_slice_get}
@@ -101,7 +101,7 @@ contains terms from (a ∷ rest) (w ∷ ws) (suc k) width h at =
 contains terms from [] (w ∷ ws) k width h at = absurd h
 contains terms from (a ∷ rest) [] k width h at = absurd h
 
-variable_at : List Term → TermId → Variable
+abbrev variable_at : List Term → TermId → Variable
 variable_at terms a = variable_of (get_or terms a.index (term.Constant 0 0))
 
 -- each term mentions only the variables of the order

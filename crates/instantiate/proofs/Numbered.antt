@@ -1,5 +1,5 @@
 -- Numbered variables: how they grow, which questions they fit, and what digits and numbers make of them.
-use Rattle.std.proofs.Common.{ℕ, zero, suc, ◌≡◌, ◌<◌, ◌≤◌, ◌+◌, ◌-◌, ◌%◌, ◌^◌, ◌++◌, ◌⊎◌, inl, inr, Bool, true, false, cond, eqb, All, List, [], ◌∷◌, Option, Some, None, get_or, slice_get, take, drop, map, length, arith, sym, ap, subst, refl, ◌∙◌, length-append}
+use Rattle.std.proofs.Common.{ℕ, zero, suc, ◌≡◌, ◌<◌, ◌≤◌, ◌+◌, ◌%◌, ◌^◌, ◌++◌, inl, inr, Bool, false, cond, All, List, [], ◌∷◌, Option, Some, None, slice_get, take, drop, map, length, arith, sym, ap, subst, refl, ◌∙◌}
 use Rattle.std.specs.Prelude.{nat_eq, ◌&&◌, slice_index}
 use Rattle.std.proofs.lemmas.Bool.{eq-eqb, ne_eqb}
 use Rattle.std.proofs.lemmas.List.{length-drop, length-take-le}
@@ -9,9 +9,8 @@ use Rattle.bv_terms.specs.declared.term.TermId.{TermId}
 use Rattle.bv_terms.specs.declared.term.Term.{Term}
 use Rattle.bv_terms.specs.declared.term.Term.TheVariants as term
 use Rattle.bv_terms.specs.declared.variable.Variable.{Variable}
-use Rattle.bv_terms.specs.Tree.{Tree, value_of}
+use Rattle.bv_terms.specs.Tree.{value_of, width_of}
 use Rattle.bv_terms.specs.Trees.{AreFit, Extends, Gains, Keeps, term_at, tree_in, variables_among}
-use Rattle.bv_terms.specs.Variables.{is_variable}
 use Rattle.gate_digits.specs.Numbers.{number_of}
 use Rattle.gate_digits.proofs.Digits.{number-below}
 use Rattle.front_order.specs.Fronts.{Fits, numbers_of, total}
@@ -19,7 +18,6 @@ use Rattle.sat_ask.specs.Questions.{AreDifferent, IsVariable, assigned_by, digit
 use Rattle.sat_ask.proofs.Marking.{tree_placed}
 use Rattle.mem_terms.specs.Values.{Each}
 use Rattle.mem_terms.proofs.Eaches.{each-push, each-weaker}
-use Rattle.instantiate.specs.Numbers.{looked_up}
 use Rattle.instantiate.specs.Orders.{AreNumbered, IsNumbered, IsOrder}
 
 -- ---- more variables, and more terms
@@ -107,6 +105,20 @@ are_variables terms from (a ∷ rest) (w ∷ ws) h (suc i) d lt = are_variables 
 are_variables terms from [] (w ∷ ws) h i d lt = absurd h
 are_variables terms from (a ∷ rest) [] h i d lt = absurd h
 
+pub all_within : (terms : List Term) (from : ℕ) (order : List TermId) (widths : List ℕ) → AreNumbered terms from order widths → All (λ (a : TermId). a.index < length terms) order
+all_within terms from [] [] h i d lt = absurd (omega arith)
+all_within terms from (a ∷ rest) (w ∷ ws) h zero d lt = slice_get_within terms a.index (term.Variable from w) h.0
+all_within terms from (a ∷ rest) (w ∷ ws) h (suc i) d lt = all_within terms (from + 1) rest ws h.1 i d (omega arith)
+all_within terms from [] (w ∷ ws) h i d lt = absurd h
+all_within terms from (a ∷ rest) [] h i d lt = absurd h
+
+pub widths_are : (terms : List Term) (from : ℕ) (order : List TermId) (widths : List ℕ) → AreFit [] terms → AreNumbered terms from order widths → map (λ (a : TermId). width_of (tree_in terms a)) order ≡ widths
+widths_are terms from [] [] fit h = refl
+widths_are terms from (a ∷ rest) (w ∷ ws) fit h =
+    ap (λ n. n ∷ map (λ (b : TermId). width_of (tree_in terms b)) rest) (ap width_of (tree_placed terms a.index (term.Variable from w) fit h.0)) ∙ ap (λ ns. w ∷ ns) (widths_are terms (from + 1) rest ws fit h.1)
+widths_are terms from [] (w ∷ ws) fit h = absurd h
+widths_are terms from (a ∷ rest) [] fit h = absurd h
+
 number-at : (terms : List Term) (from : ℕ) (order : List TermId) (widths : List ℕ) (i : ℕ) (a : TermId) → AreNumbered terms from order widths → slice_get order i ≡ Some a
     → (w : ℕ) × (slice_get terms a.index ≡ Some (term.Variable (from + i) w))
 number-at terms from [] [] i a h at = absurd (let z : ⊥ = cc in z)
@@ -121,7 +133,7 @@ number-at terms from (b ∷ rest) (w ∷ ws) (suc i) a h at =
 number-at terms from [] (w ∷ ws) i a h at = absurd h
 number-at terms from (b ∷ rest) [] i a h at = absurd h
 
-number-in : Option Term → ℕ
+abbrev number-in : Option Term → ℕ
 number-in None = 0
 number-in (Some t) = (variable_of t).number
 

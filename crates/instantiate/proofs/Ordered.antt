@@ -1,8 +1,9 @@
 -- The variables of a question come in the order of its numbers.
-use Rattle.std.proofs.Common.{◌≡◌, ℕ, List, [], ◌++◌, replicate, ap, subst, ◌∙◌, append_assoc}
+use Rattle.std.proofs.Common.{◌≡◌, ℕ, All, ◌<◌, List, [], ◌++◌, length, map, replicate, ap, subst, sym, ◌∙◌, append_assoc}
 use Rattle.bv_terms.specs.declared.term.TermId.{TermId}
 use Rattle.bv_terms.specs.declared.term.Term.{Term}
-use Rattle.bv_terms.specs.Trees.{variables_among}
+use Rattle.bv_terms.specs.Tree.{width_of}
+use Rattle.bv_terms.specs.Trees.{AreFit, Keeps, tree_in, variables_among}
 use Rattle.points.specs.declared.point.Bounds.{Bounds}
 use Rattle.points.specs.declared.point.Shape.{Shape}
 use Rattle.points.specs.Pair.{Functions}
@@ -10,6 +11,7 @@ use Rattle.points.specs.Tapes.{need_of}
 use Rattle.instantiate.specs.Orders.{IsOrder}
 use Rattle.instantiate.specs.Questions.{args_widths, blocks_widths, point_widths, tape_widths}
 use Rattle.instantiate.specs.Shapes.{IsShapeOf}
+use Rattle.instantiate.proofs.Numbered.{all_within, order_kept, widths_are}
 
 order_start : (terms : List Term) (order : List TermId) → terms ≡ [] → order ≡ [] → IsOrder terms order []
 unfolding variables_among
@@ -40,3 +42,14 @@ pub tape_order : (pair : Functions) (bounds : Bounds) (words : ℕ) (none all : 
     → ((widths : List ℕ) → IsOrder none order widths → IsOrder all order' (widths ++ replicate words 64)) → IsOrder all order' (tape_widths pair bounds)
 tape_order pair bounds words none all order order' count e f tape =
     subst (λ n. IsOrder all order' (replicate n 64)) count (tape [] (order_start none order e f))
+
+-- ---- what is asked
+
+pub order_within : (terms : List Term) (order ids : List TermId) (widths : List ℕ) → IsOrder terms order widths → ids ≡ order → All (λ (id : TermId). id.index < length terms) ids
+order_within terms order ids widths is e = subst (λ (xs : List TermId). All (λ (id : TermId). id.index < length terms) xs) (sym e) (all_within terms 0 order widths is.numbered)
+
+pub counted : (terms : List Term) (order ids : List TermId) (widths items : List ℕ) → AreFit [] terms → IsOrder terms order widths → ids ≡ order → items ≡ map (λ (id : TermId). width_of (tree_in terms id)) ids → items ≡ widths
+counted terms order ids widths items fit is e f = f ∙ (ap (map (λ (id : TermId). width_of (tree_in terms id))) e ∙ widths_are terms 0 order widths fit is.numbered)
+
+pub order_asked : (old new : List Term) (order ids : List TermId) (widths items : List ℕ) → Keeps old new → IsOrder old order widths → ids ≡ order → items ≡ widths → IsOrder new ids items
+order_asked old new order ids widths items k is e f = rw (e, f) (order_kept old new order widths k is)

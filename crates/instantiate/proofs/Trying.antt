@@ -1,27 +1,47 @@
 -- Tapes of the source tried one after another.
-use Rattle.std.proofs.Common.{ℕ, zero, suc, ◌≡◌, ◌<◌, ◌≤◌, Bool, true, false, not, ◌&&◌, List, [], ◌∷◌, ◌++◌, length, map, drop, get_or, refl, ap, sym, subst, ◌∙◌, arith}
-use Rattle.std.proofs.lemmas.List.{drop_more}
+use Rattle.std.proofs.Common.{ℕ, zero, suc, ◌≡◌, ◌<◌, ◌+◌, Bool, true, false, not, ◌&&◌, List, [], ◌∷◌, length, map, drop, get_or, refl, ap, sym, subst, ◌∙◌, arith}
 use Rattle.ir_tree.specs.declared.tree.Function.{Function}
 use Rattle.byte_block.specs.declared.block.MemoryBlock.{MemoryBlock}
 use Rattle.points.specs.declared.point.Bounds.{Bounds}
 use Rattle.points.specs.declared.point.Input.{Input}
 use Rattle.points.specs.declared.outcome.Outcome.{Outcome}
 use Rattle.points.specs.Refines.{is_refined}
-use Rattle.points.specs.Run.{Run, run_of}
+use Rattle.points.specs.Run.{run_of}
 use Rattle.bv_terms.specs.declared.term.TermId.{TermId}
 use Rattle.bv_terms.specs.declared.term.Term.{Term}
-use Rattle.bv_terms.specs.Trees.{IsTerm, Keeps, Tests, bit_at, term_at}
+use Rattle.bv_terms.specs.Trees.{IsTerm, Keeps, Tests, bit_at}
 use Rattle.mem_terms.specs.declared.inputs.InputTerms.{InputTerms}
 use Rattle.mem_terms.specs.declared.outcome.OutcomeTerms.{OutcomeTerms}
-use Rattle.mem_terms.specs.Inputs.{AreArgs, AreWords, args_at, words_at}
+use Rattle.mem_terms.specs.Inputs.{AreArgs, words_at}
 use Rattle.mem_terms.specs.Outcomes.{IsOutcome, Shows, outcome_at}
-use Rattle.mem_terms.proofs.Later.{keeps_trans, bit-later, args_at-later, outcome-later}
-use Rattle.instantiate.specs.Candidates.{input_at, none_allows}
+use Rattle.mem_terms.proofs.Later.{keeps_trans, bit-later, args-later, args_at-later, is_outcome-later, outcome-later}
+use Rattle.unroll.specs.Layers.{copies_of}
+use Rattle.instantiate.specs.declared.goals.Trial.{Trial}
+use Rattle.instantiate.specs.Candidates.{IsTrial, input_at, none_allows}
+use Rattle.instantiate.specs.Questions.{ReturnsFit}
 
 pub input_at-later : (old new : List Term) (k : Keeps old new) (f : Function) (input : InputTerms) → AreArgs old f.parameters input.args → (v : ℕ → ℕ → ℕ) (memory : List MemoryBlock) → input_at v new memory input ≡ input_at v old memory input
 input_at-later old new k f input h v memory =
     let same = args_at-later old new k v f.parameters input.args h in
     rw same refl
+
+-- ---- what tapes are tried for
+
+pub trial_later : (old new : List Term) (k : Keeps old new) (t : Trial) → IsTrial old t → IsTrial new t
+trial_later old new k t h = record {
+  layers = h.layers;
+  returns = h.returns;
+  args = args-later old new k t.source.now.parameters t.input.now.args h.args;
+  target = is_outcome-later old new k t.target.now h.target;
+}
+
+pub a_trial : (terms : List Term) (t : Trial) (f : Function) (turns : ℕ) → t.source.now ≡ f → t.layered.now.turns ≡ turns → t.layered.now.copies ≡ copies_of turns f → ReturnsFit f → AreArgs terms f.parameters t.input.now.args → IsOutcome terms t.target.now → IsTrial terms t
+a_trial terms t f turns is same copies returns args target = record {
+  layers = copies ∙ (ap (λ n. copies_of n f) (sym same) ∙ ap (copies_of t.layered.now.turns) (sym is));
+  returns = subst ReturnsFit (sym is) returns;
+  args = subst (λ (g : Function). AreArgs terms g.parameters t.input.now.args) (sym is) args;
+  target = target;
+}
 
 -- ---- one tape
 
@@ -49,6 +69,9 @@ tried t0 t1 t2 t3 t4 f bounds memory input words source target goal c n id k1 k2
 
 -- ---- one tape more
 
+three : {A B C D : Type 0} (f : A → B → C → D) {x x' : A} {y y' : B} {z z' : C} → x ≡ x' → y ≡ y' → z ≡ z' → f x y z ≡ f x' y' z'
+three f e g h = cc
+
 and_more : (g x n r w : Bool) → n ≡ (g && (x && true)) → (g && (x && r)) ≡ w → (n && r) ≡ w
 and_more true true n r w e h = rw e h
 and_more true false n r w e h = rw e h
@@ -66,11 +89,16 @@ tried_more old a b c f bounds memory input target goal next tape words rest whol
     let same_target : outcome_at v b memory target ≡ outcome_at v old memory target = outcome-later old b kob v memory target is_target in
     and_more (bit_at v a goal) (not (is_refined (run_of f bounds (input_at v old memory input) (tape v)).outcome (outcome_at v old memory target))) (bit_at v c next)
     (none_allows f bounds (input_at v old memory input) (outcome_at v old memory target) (rest v)) (whole v)
-    (rw (same_goal, same_input, same_target, stands v) at (t.says v)) (so v)
+    (t.says v ∙ (rw same_goal (ap (λ b. bit_at v a goal && b)
+    (three (λ (i : Input) (o : Outcome) (ws : List ℕ). not (is_refined (run_of f bounds i ws).outcome o) && true) same_input same_target (stands v))))) (so v)
 
 pub tried_all : (b w : Bool) (f : Function) (bounds : Bounds) (input : Input) (target : Outcome) (rest : List (List ℕ)) → rest ≡ [] → (b && none_allows f bounds input target rest) ≡ w → b ≡ w
 unfolding none_allows
 tried_all b w f bounds input target rest e h = and_true b ∙ (rw e at h)
 
-pub none_more : {A : Type 0} (g : A → List ℕ) (xs : List A) (i : ℕ) (d : A) → i < length xs → map g (drop i xs) ≡ g (get_or xs i d) ∷ map g (drop (i + 1) xs)
-none_more g xs i d lt = ap (map g) (drop_more xs i d lt)
+pub mapped_more : {A B : Type 0} (g : A → B) (xs : List A) (ys : List B) (i : ℕ) (d : A) → ys ≡ map g xs → i < length xs → drop i ys ≡ g (get_or xs i d) ∷ drop (i + 1) ys
+mapped_more g [] ys i d e lt = absurd (omega arith)
+mapped_more g (x ∷ xs) ys zero d e lt = rw e refl
+mapped_more g (x ∷ xs) ys (suc i) d e lt =
+    let n : suc i + 1 ≡ suc (i + 1) = omega arith in
+    rw (e, n) (mapped_more g xs (map g xs) i d refl (omega arith))

@@ -1,5 +1,5 @@
 -- The goals of the two questions are true exactly on their answers.
-use Rattle.std.proofs.Common.{ℕ, zero, suc, ◌≡◌, ◌<◌, ◌^◌, ◌↔◌, Bool, true, false, not, ◌&&◌, ◌||◌, List, [], ◌∷◌, ◌++◌, length, map, refl, ap, sym, subst, ◌∙◌, arith}
+use Rattle.std.proofs.Common.{ℕ, ◌≡◌, ◌↔◌, Bool, true, false, not, ◌&&◌, ◌||◌, List, [], ◌∷◌, ◌++◌, length, refl, ap, sym, subst, ◌∙◌}
 use Rattle.std.specs.List.{flat_map}
 use Rattle.std.proofs.lemmas.Bool.{eqb-true}
 use Rattle.ir_tree.specs.declared.tree.IrType.{IrType}
@@ -18,7 +18,6 @@ use Rattle.points.specs.Pair.{Functions, same_type, same_types, same_return, sam
 use Rattle.points.specs.Code.{WordsFit, IsOfShape, code_of}
 use Rattle.points.specs.Codes.{IsCode}
 use Rattle.points.specs.Covers.{covers, some_covers, shifted, is_covered}
-use Rattle.points.specs.Laws.{CodesTellPoints}
 use Rattle.points.specs.Refines.{is_refined}
 use Rattle.points.specs.Run.{run_of, IsPlain}
 use Rattle.points.specs.Tapes.{need_of}
@@ -147,6 +146,9 @@ a_point pair bounds s p is h plain = record {
   plain = plain;
 }
 
+shape_code : {pair : Functions} {bounds : Bounds} {s : Shape} {numbers : List ℕ} (p : Point) → IsShapeOf pair bounds s → code_of s.blocks s.parameters p ≡ numbers → code_of bounds.blocks pair.target.parameters p ≡ numbers
+shape_code p is e = two (λ n ps. code_of n ps p) (sym is.blocks) (sym is.parameters) ∙ e
+
 not_true : (b : Bool) → not b ≡ true → b ≡ false
 not_true true e = absurd (let z : ⊥ = cc in z)
 not_true false e = refl
@@ -174,7 +176,7 @@ module _ (pair : Functions) (bounds : Bounds) (tapes : List (List ℕ)) (s : Sha
       record {
         of = p;
         point = a_point pair bounds s p shape found.1.of_shape plain_there;
-        code = rw (shape.parameters, shape.blocks) at found.1.code;
+        code = shape_code p shape found.1.code;
         uncovered = subst (λ (q : Point). is_covered pair bounds tapes q ≡ false) same free;
       }
 

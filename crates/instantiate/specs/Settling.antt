@@ -1,5 +1,5 @@
 -- The verdict by questions, with the trail that leads to it and the certificate of its last question.
-use Rattle.std.specs.Prelude.{◌≡◌, ℕ, zero, suc, ◌<◌, ◌≤◌, List, [], length, slice_get, Option, Some, None}
+use Rattle.std.specs.Prelude.{◌≡◌, ℕ, zero, suc, ◌<◌, ◌≤◌, [], length, slice_get, Option, Some, None}
 use Rattle.points.specs.declared.point.Bounds.{Bounds}
 use Rattle.points.specs.declared.point.Budget.{Budget}
 use Rattle.points.specs.declared.point.Point.{Point}
@@ -72,7 +72,7 @@ IsTold pair bounds budget s = ComesWith pair bounds budget s.kept s.cert s.verdi
 pub record IsNotAsked (kept : Kept) (cert : Option Cert) : Type 0 where
   pub tapes : kept.tapes ≡ []
   pub points : kept.points ≡ []
-  pub cert : cert ≡ None
+  pub uncertified : cert ≡ None
 
 -- a pair that is too heavy is not asked about, and no other is told as too heavy
 abbrev pub IsJudged : Functions → Bounds → Budget → Kept → Option Cert → Verdict → Type 0

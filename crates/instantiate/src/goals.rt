@@ -1,19 +1,15 @@
 //! The goals of the two questions.
 
-ghost use Rattle.std.specs.Prelude.{◌≡◌, ◌&&◌, ◌∷◌, [], IfOk, List, length, true};
-ghost use Rattle.byte_block.specs.declared.block.MemoryBlock.{MemoryBlock};
-ghost use Rattle.points.specs.declared.point.Bounds.{Bounds};
+ghost use Rattle.std.specs.Prelude.{◌≡◌, ◌∷◌, [], IfOk, length};
 ghost use Rattle.points.specs.Covers.{shifted};
 ghost use Rattle.points.specs.Tapes.{need_of};
 ghost use Rattle.points.specs.Trail.{IsPoint};
-ghost use Rattle.unroll.specs.Layers.{copies_of};
-ghost use Rattle.bv_terms.specs.Trees.{IsTerm, Keeps, Tests, bit_at};
-ghost use Rattle.mem_terms.specs.Inputs.{AreArgs, AreWords, words_at};
-ghost use Rattle.mem_terms.specs.Outcomes.{IsOutcome, outcome_at};
+ghost use Rattle.bv_terms.specs.Trees.{IsTerm, Keeps};
+ghost use Rattle.mem_terms.specs.Inputs.{AreWords, words_at};
 ghost use Rattle.refine_terms.specs.Deciding.{Decides};
 ghost use Rattle.refine_terms.specs.Numbers.{IsInputOf, IsTapeOf, numbers_at};
-ghost use Rattle.instantiate.specs.Candidates.{input_at, none_allows};
-ghost use Rattle.instantiate.specs.Questions.{CanBeAsked, IsCovering, IsUncovered, ReturnsFit};
+ghost use Rattle.instantiate.specs.Candidates.{IsTrial, Narrows};
+ghost use Rattle.instantiate.specs.Questions.{CanBeAsked, IsCovering, IsUncovered};
 ghost use Rattle.instantiate.specs.Shapes.{IsShapeOf};
 
 use crate::inputs::known_input;
@@ -45,15 +41,10 @@ fn and_uncovered(
     goal: TermId,
     terms: &mut Terms,
 ) -> Result<TermId, NoMemory>
-    requires layers { trial.now.layered.now.copies ≡ copies_of trial.now.layered.now.turns trial.now.source.now }
-    requires returns { ReturnsFit trial.now.source.now }
-    requires args { AreArgs terms.old trial.now.source.now.parameters trial.now.input.now.args }
-    requires target { IsOutcome terms.old trial.now.target.now }
+    requires trial { IsTrial terms.old trial.now }
     requires words { AreWords terms.old candidate.now.words }
     requires goal { IsTerm terms.old 1 goal }
-    ensures made { IfOk result (λ id. (bounds : Bounds) (memory : List MemoryBlock) → bounds.turns ≡ trial.now.layered.now.turns
-        → Tests terms.new id (λ v. bit_at v terms.old goal && none_allows trial.now.source.now bounds (input_at v terms.old memory trial.now.input.now)
-        (outcome_at v terms.old memory trial.now.target.now) (words_at v terms.old candidate.now.words ∷ []))) }
+    ensures made { IfOk result (Narrows trial.now terms.old terms.new goal (λ v. words_at v terms.old candidate.now.words ∷ [])) }
     ensures kept { Keeps terms.old terms.new }
 {
     let source = encode(
@@ -79,15 +70,10 @@ fn and_no_shift(
     goal: TermId,
     terms: &mut Terms,
 ) -> Result<TermId, NoMemory>
-    requires layers { trial.now.layered.now.copies ≡ copies_of trial.now.layered.now.turns trial.now.source.now }
-    requires returns { ReturnsFit trial.now.source.now }
-    requires args { AreArgs terms.old trial.now.source.now.parameters trial.now.input.now.args }
-    requires target { IsOutcome terms.old trial.now.target.now }
+    requires trial { IsTrial terms.old trial.now }
     requires words { AreWords terms.old words.now }
     requires goal { IsTerm terms.old 1 goal }
-    ensures made { IfOk result (λ id. (bounds : Bounds) (memory : List MemoryBlock) → bounds.turns ≡ trial.now.layered.now.turns
-        → Tests terms.new id (λ v. bit_at v terms.old goal && none_allows trial.now.source.now bounds (input_at v terms.old memory trial.now.input.now)
-        (outcome_at v terms.old memory trial.now.target.now) (shifted need (words_at v terms.old words.now)))) }
+    ensures made { IfOk result (Narrows trial.now terms.old terms.new goal (λ v. shifted need (words_at v terms.old words.now))) }
     ensures kept { Keeps terms.old terms.new }
 {
     let mut goal = goal;
@@ -106,14 +92,9 @@ fn and_no_tape(
     goal: TermId,
     terms: &mut Terms,
 ) -> Result<TermId, NoMemory>
-    requires layers { trial.now.layered.now.copies ≡ copies_of trial.now.layered.now.turns trial.now.source.now }
-    requires returns { ReturnsFit trial.now.source.now }
-    requires args { AreArgs terms.old trial.now.source.now.parameters trial.now.input.now.args }
-    requires target { IsOutcome terms.old trial.now.target.now }
+    requires trial { IsTrial terms.old trial.now }
     requires goal { IsTerm terms.old 1 goal }
-    ensures made { IfOk result (λ id. (bounds : Bounds) (memory : List MemoryBlock) → bounds.turns ≡ trial.now.layered.now.turns
-        → Tests terms.new id (λ v. bit_at v terms.old goal && none_allows trial.now.source.now bounds (input_at v terms.old memory trial.now.input.now)
-        (outcome_at v terms.old memory trial.now.target.now) tapes.now)) }
+    ensures made { IfOk result (Narrows trial.now terms.old terms.new goal (λ _. tapes.now)) }
     ensures kept { Keeps terms.old terms.new }
 {
     let mut goal = goal;

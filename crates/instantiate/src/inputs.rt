@@ -94,7 +94,7 @@ fn block_variables(
     ensures kept { Extends terms.old terms.new }
 {
     let mut places = Vec::new(alloc);
-    for _ in 0..bytes {
+    for _place in 0..bytes {
         let place = place_variables(terms, order)?;
         places.push(place)?;
     }
@@ -116,7 +116,7 @@ fn blocks_variables(
     ensures kept { Extends terms.old terms.new }
 {
     let mut places = Vec::new(alloc);
-    for _ in 0..blocks {
+    for _block in 0..blocks {
         let block = block_variables(alloc, bytes, terms, order)?;
         places.push(block)?;
     }
@@ -139,7 +139,7 @@ fn row_of_variables(
     ensures kept { Extends terms.old terms.new }
 {
     let mut row = Vec::new(alloc);
-    for _ in 0..count {
+    for _variable in 0..count {
         let id = variable(terms, order, width)?;
         row.push(id)?;
     }
@@ -218,8 +218,8 @@ pub fn known_input(
     ensures kept { Keeps terms.old terms.new }
 {
     let mut known = Vec::new(alloc);
-    for (parameter, value) in parameters.iter().zip(args) {
-        let arg = known_arg(parameter.of_type, *value, terms)?;
+    for (i, parameter) in parameters.iter().enumerate() {
+        let arg = known_arg(parameter.of_type, args[i], terms)?;
         known.push(arg)?;
     }
     Ok(InputTerms {

@@ -82,7 +82,8 @@ pub fn known(alloc: Global, words: &[u64], terms: &mut Terms) -> Result<TapeTerm
 {
     let mut tape = Vec::new(alloc);
     for word in words {
-        tape.push(number(terms, *word)?)?;
+        let id = number(terms, *word)?;
+        tape.push(id)?;
     }
     Ok(TapeTerms {
         words: Sequence::from_vec(tape),

@@ -1,8 +1,6 @@
 -- What is found of numbers is found of points and of tapes.
-use Rattle.std.proofs.Common.{◌≡◌, ◌↔◌, ℕ, ◌+◌, ◌<◌, inl, inr, Bool, true, false, List, [], ◌∷◌, ◌++◌, map, slice_index, Option, Some, refl, sym, ap, subst, ◌∙◌, arith, append_assoc}
-use Rattle.std.specs.List.{flat_map}
+use Rattle.std.proofs.Common.{◌≡◌, ◌↔◌, ℕ, ◌+◌, ◌<◌, inl, inr, Bool, true, false, List, [], ◌++◌, map, slice_index, Option, Some, refl, sym, ap, subst, ◌∙◌, arith}
 use Rattle.std.proofs.lemmas.Bool.{cases_Bool}
-use Rattle.std.proofs.lemmas.List.{map-append}
 use Rattle.bv_terms.specs.declared.term.TermId.{TermId}
 use Rattle.bv_terms.specs.declared.term.Term.{Term}
 use Rattle.bv_terms.specs.Trees.{AreFit, term_at}
@@ -14,26 +12,25 @@ use Rattle.points.specs.declared.point.Shape.{Shape}
 use Rattle.points.specs.Pair.{Functions}
 use Rattle.points.specs.Code.{IsOfShape, code_of, number_of}
 use Rattle.points.specs.Codes.{IsCode}
-use Rattle.points.specs.Covers.{HasNoCover, IsLeastCover, covers, is_covered}
+use Rattle.points.specs.Covers.{covers, is_covered}
 use Rattle.points.specs.Tapes.{need_of}
 use Rattle.points.specs.Trail.{AreAllCovered, IsLeastUncovered, IsPoint}
 use Rattle.points.proofs.Decoded.{codes_tell_points}
 use Rattle.front_order.specs.Fronts.{Fits, IsLeast, NonePass, numbers_of}
 use Rattle.front_order.proofs.Binary.{fits-numbers}
-use Rattle.mem_terms.specs.declared.inputs.ArgTerms.{ArgTerms}
-use Rattle.mem_terms.specs.declared.inputs.ByteTerms.{ByteTerms}
 use Rattle.mem_terms.specs.declared.inputs.InputTerms.{InputTerms}
 use Rattle.mem_terms.specs.declared.inputs.TapeTerms.{TapeTerms}
 use Rattle.mem_terms.specs.Inputs.{words_at}
 use Rattle.refine_terms.specs.Deciding.{Decides}
-use Rattle.refine_terms.specs.Numbers.{arg_numbers, block_numbers, byte_numbers, numbers_at}
+use Rattle.refine_terms.specs.Numbers.{numbers_at}
 use Rattle.unroll.specs.Small.{AreSmall}
 use Rattle.instantiate.specs.declared.found.Found.{Found}
 use Rattle.instantiate.specs.declared.found.Found.TheVariants as found
 use Rattle.instantiate.specs.Numbers.{AsksNumbers, IsFoundNumbers, IsRefutedTest, IsSpentTest, looked_up, number_test}
 use Rattle.instantiate.specs.Orders.{AreNumbered}
 use Rattle.instantiate.specs.Questions.{AsksFor, IsCovering, IsFoundCode, IsFoundTape, IsLeastCode, IsRefuted, IsSpentOn, IsUncovered, point_widths, tape_widths}
-use Rattle.instantiate.specs.Shapes.{IsShapeOf, arg_ids, byte_ids, input_ids}
+use Rattle.instantiate.specs.Shapes.{IsShapeOf, input_ids}
+use Rattle.instantiate.proofs.Decoded.{numbers_in_order}
 use Rattle.instantiate.proofs.Fitting.{fit_words, of_shape, point_fits, words_fit}
 use Rattle.instantiate.proofs.Numbered.{numbers-looked}
 
@@ -49,9 +46,9 @@ module _ (test : List ℕ → Bool) (widths : List ℕ) (Answer : List ℕ → T
     test = h.of_digits;
     asks = h.asks;
     means = λ digits long.
-    let same = h.means digits long in
-    let both = passes (numbers_of widths digits) (fits-numbers widths digits long) in
-    ((λ p. both.0 (sym same ∙ p)), (λ a. same ∙ both.1 a));
+        let same = h.means digits long in
+        let both = passes (numbers_of widths digits) (fits-numbers widths digits long) in
+        ((λ p. both.0 (sym same ∙ p)), (λ a. same ∙ both.1 a));
   }
 
   pub refuted_for : (cert : Cert) → IsRefutedTest test widths cert → IsRefuted Answer widths cert
@@ -72,7 +69,7 @@ module _ (pair : Functions) (bounds : Bounds) (s : Shape) (is : IsShapeOf pair b
 
   -- a point whose code the test refuses is covered
   refused : (q : Point) → IsPoint pair bounds q → test (code q) ≡ false → is_covered pair bounds tapes q ≡ true
-  refused q h no = elim (cases_Bool (is_covered pair bounds tapes q)) [
+  refused q h fails = elim (cases_Bool (is_covered pair bounds tapes q)) [
     | inl covered ↦ covered
     | inr uncovered ↦
         let passed : test (code q) ≡ true = (passes (code q) (fits q h)).1 (record { of = q; point = h; code = refl; uncovered = uncovered }) in
@@ -119,9 +116,9 @@ module _ (pair : Functions) (bounds : Bounds) (p : Point) (test : List ℕ → B
 
   -- a tape that the test refuses doesn't cover the point
   no_cover : (tape : List ℕ) → Fits (tape_widths pair bounds) tape → test tape ≡ false → covers pair bounds p tape ≡ false
-  no_cover tape fits no = elim (cases_Bool (covers pair bounds p tape)) [
+  no_cover tape within fails = elim (cases_Bool (covers pair bounds p tape)) [
     | inl cover ↦
-        let passed : test tape ≡ true = (passes tape fits).1 (record { fits = fit_words need tape fits; cover = cover }) in
+        let passed : test tape ≡ true = (passes tape within).1 (record { fits = fit_words need tape within; cover = cover }) in
         absurd (let z : ⊥ = cc in z)
     | inr none ↦ none
   ]
@@ -129,39 +126,12 @@ module _ (pair : Functions) (bounds : Bounds) (p : Point) (test : List ℕ → B
   pub found_tape : (limit : Option ℕ) (found : Found (List ℕ)) → IsFoundNumbers test (tape_widths pair bounds) limit found → IsFoundTape pair bounds p limit found
   found_tape limit (found.Least tape) h =
       let c = (passes tape h.fits).0 h.passes in
-      record { fits = c.fits; cover = c.cover; least = λ other w lt. let fits = words_fit 64 need other (omega arith) w in no_cover other fits (h.least other fits lt) }
+      record { fits = c.fits; cover = c.cover; least = λ other w lt. let within = words_fit 64 need other (omega arith) w in no_cover other within (h.least other within lt) }
   found_tape limit (found.None cert) h =
-      ((λ tape w. let fits = words_fit 64 need tape (omega arith) w in no_cover tape fits (h.0 tape fits)), refuted_for test (tape_widths pair bounds) (IsCovering pair bounds p) passes cert h.1)
+      ((λ tape w. let within = words_fit 64 need tape (omega arith) w in no_cover tape within (h.0 tape within)), refuted_for test (tape_widths pair bounds) (IsCovering pair bounds p) passes cert h.1)
   found_tape limit (found.Spent cert) h = spent_for test (tape_widths pair bounds) (IsCovering pair bounds p) passes limit cert h
 
--- ---- the numbers of terms
-
-module _ (v : ℕ → ℕ → ℕ) (terms : List Term) where
-  arg_ids_at : (args : List ArgTerms) → map (term_at v terms) (flat_map arg_ids args) ≡ flat_map (arg_numbers v terms) args
-  arg_ids_at [] = refl
-  arg_ids_at (a ∷ args) = ap (λ ns. term_at v terms a.flag ∷ term_at v terms a.number ∷ ns) (arg_ids_at args)
-
-  byte_ids_at : (places : List ByteTerms) → map (term_at v terms) (flat_map byte_ids places) ≡ block_numbers v terms places
-  byte_ids_at [] = refl
-  byte_ids_at (b ∷ places) = ap (λ ns. byte_numbers v terms b ++ ns) (byte_ids_at places)
-
-  block_ids_at : (blocks : List (List ByteTerms)) → map (term_at v terms) (flat_map (flat_map byte_ids) blocks) ≡ flat_map (block_numbers v terms) blocks
-  block_ids_at [] = refl
-  block_ids_at (b ∷ blocks) =
-      map-append (term_at v terms) (flat_map byte_ids b) (flat_map (flat_map byte_ids) blocks)
-      ∙ (ap (λ ns. ns ++ map (term_at v terms) (flat_map (flat_map byte_ids) blocks)) (byte_ids_at b) ∙ ap (λ ns. block_numbers v terms b ++ ns) (block_ids_at blocks))
-
-  ids_at : (input : InputTerms) (tape : TapeTerms) → map (term_at v terms) (input_ids input ++ tape.words) ≡ numbers_at v terms input tape
-  ids_at input tape =
-      let f : TermId → ℕ = term_at v terms in
-      let args = flat_map arg_ids input.args in
-      let places = flat_map (flat_map byte_ids) input.places in
-      map-append f (input_ids input) tape.words
-      ∙ (ap (λ ns. ns ++ words_at v terms tape.words) (map-append f args (input.sizes ++ places)
-      ∙ (ap (λ ns. ns ++ map f (input.sizes ++ places)) (arg_ids_at input.args)
-      ∙ ap (λ ns. flat_map (arg_numbers v terms) input.args ++ ns) (map-append f input.sizes places ∙ ap (λ ns. map f input.sizes ++ ns) (block_ids_at input.places))))
-      ∙ (append_assoc (flat_map (arg_numbers v terms) input.args) (map f input.sizes ++ flat_map (block_numbers v terms) input.places) (words_at v terms tape.words)
-      ∙ ap (λ ns. flat_map (arg_numbers v terms) input.args ++ ns) (append_assoc (map f input.sizes) (flat_map (block_numbers v terms) input.places) (words_at v terms tape.words))))
+-- ---- tests
 
 -- the numbers of an order under the numbers that are looked up are these
 looked_at : (terms : List Term) (order : List TermId) (widths numbers : List ℕ) → AreFit [] terms → AreNumbered terms 0 order widths → Fits widths numbers → map (term_at (looked_up numbers) terms) order ≡ numbers
@@ -173,7 +143,7 @@ module _ (old new : List Term) (goal : TermId) (order : List TermId) (widths : L
       → Passes (number_test new goal) widths Answer
   point_passes input tape Answer ids decides numbers fits =
       let v = looked_up numbers in
-      let same : numbers_at v old input tape ≡ numbers = sym (ids_at v old input tape) ∙ (sym (ap (map (term_at v old)) ids) ∙ looked_at old order widths numbers fit numbered fits) in
+      let same : numbers_at v old input tape ≡ numbers = sym (numbers_in_order v old input tape) ∙ (sym (ap (map (term_at v old)) ids) ∙ looked_at old order widths numbers fit numbered fits) in
       subst (λ (ns : List ℕ). (number_test new goal numbers ≡ true) ↔ Answer ns) same (decides.1 v)
 
   pub tape_passes : (tape : TapeTerms) (Answer : List ℕ → Type 0) → order ≡ tape.words → Decides new goal (λ v. Answer (words_at v old tape.words)) → Passes (number_test new goal) widths Answer
@@ -181,3 +151,11 @@ module _ (old new : List Term) (goal : TermId) (order : List TermId) (widths : L
       let v = looked_up numbers in
       let same : words_at v old tape.words ≡ numbers = sym (ap (map (term_at v old)) ids) ∙ looked_at old order widths numbers fit numbered fits in
       subst (λ (ns : List ℕ). (number_test new goal numbers ≡ true) ↔ Answer ns) same (decides.1 v)
+
+-- ---- what is answered
+
+pub ids_are : (first second third inputs words : List TermId) → first ≡ [] → second ≡ first ++ inputs → third ≡ second ++ words → third ≡ inputs ++ words
+ids_are first second third inputs words e f g = g ∙ ap (λ xs. xs ++ words) (f ∙ ap (λ xs. xs ++ inputs) e)
+
+pub words_are : (first second words : List TermId) → first ≡ [] → second ≡ first ++ words → second ≡ words
+words_are first second words e f = f ∙ ap (λ xs. xs ++ words) e
