@@ -13,7 +13,8 @@ use Rattle.points.proofs.Meaning.{cons_after}
 use Rattle.clause_log.specs.declared.step.Cert.{Cert}
 use Rattle.instantiate.specs.declared.settled.Kept.{Kept}
 use Rattle.instantiate.specs.Questions.{IsUncovered, IsCovering, IsRefuted, IsSpentOn, point_widths, tape_widths}
-use Rattle.instantiate.specs.Settling.{ComesWith, IsHeavy, IsJudged, IsSpentNext, IsTrailSoFar, limit_of}
+use Rattle.points.specs.Weight.{IsHeavy}
+use Rattle.instantiate.specs.Settling.{ComesWith, IsJudged, IsSpentNext, IsTrailSoFar, limit_of}
 
 module _ (pair : Functions) (bounds : Bounds) (budget : Budget) where
   -- each point has its tape

@@ -18,7 +18,7 @@ use Rattle.mem_terms.proofs.Later.{keeps_trans, bit-later, args-later, args_at-l
 use Rattle.unroll.specs.Layers.{copies_of}
 use Rattle.instantiate.specs.declared.goals.Trial.{Trial}
 use Rattle.instantiate.specs.Candidates.{IsTrial, input_at, none_allows}
-use Rattle.instantiate.specs.Questions.{ReturnsFit}
+use Rattle.encoder.specs.Frontier.{ReturnsFit}
 
 pub input_at-later : (old new : List Term) (k : Keeps old new) (f : Function) (input : InputTerms) → AreArgs old f.parameters input.args → (v : ℕ → ℕ → ℕ) (memory : List MemoryBlock) → input_at v new memory input ≡ input_at v old memory input
 input_at-later old new k f input h v memory =

@@ -15,7 +15,7 @@ use Rattle.mem_terms.specs.declared.inputs.InputTerms.{InputTerms}
 use Rattle.mem_terms.specs.Inputs.{AreArgs, args_at}
 use Rattle.mem_terms.specs.Outcomes.{IsOutcome, outcome_at}
 use Rattle.instantiate.specs.declared.goals.Trial.{Trial}
-use Rattle.instantiate.specs.Questions.{ReturnsFit}
+use Rattle.encoder.specs.Frontier.{ReturnsFit}
 
 -- the source's run on none of the tapes allows the outcome
 unfoldable pub none_allows : Function → Bounds → Input → Outcome → List (List ℕ) → Bool

@@ -3,10 +3,6 @@ use Rattle.std.specs.Prelude.{◌≡◌, ◌↔◌, ℕ, zero, suc, Bool, true, 
 use Rattle.ir_tree.specs.declared.tree.IrType.{IrType}
 use Rattle.ir_tree.specs.declared.tree.IrType.TheVariants as type
 use Rattle.ir_tree.specs.declared.tree.Parameter.{Parameter}
-use Rattle.ir_tree.specs.declared.tree.Terminator.{Terminator}
-use Rattle.ir_tree.specs.declared.tree.Terminator.TheVariants as terminator
-use Rattle.ir_tree.specs.declared.tree.Block.{Block}
-use Rattle.ir_tree.specs.declared.tree.Function.{Function}
 use Rattle.ir_tree.specs.Limits.{AreIntegers, IsWithinLimits}
 use Rattle.points.specs.declared.point.Bounds.{Bounds}
 use Rattle.points.specs.declared.point.Point.{Point}
@@ -24,21 +20,11 @@ use Rattle.clause_search.specs.Outcome.{IsCareful, IsSpent}
 use Rattle.front_order.specs.Fronts.{numbers_of, total}
 use Rattle.sat_ask.specs.Asks.{Asks, HasSmallNumbers}
 use Rattle.unroll.specs.Small.{AreSmall}
+use Rattle.encoder.specs.Frontier.{ReturnsFit}
 use Rattle.instantiate.specs.declared.found.Found.{Found}
 use Rattle.instantiate.specs.declared.found.Found.TheVariants as found
 
 -- ---- what may be asked about
-
--- a `ret` has a value exactly where the function's header has a type
-abbrev pub FitsReturn : Option IrType → Terminator → Type 0
-FitsReturn returns (terminator.Return returned) = is_some returned ≡ is_some returns
-FitsReturn returns (terminator.Branch to) = Unit {0}
-FitsReturn returns (terminator.CondBranch condition if_true if_false) = Unit {0}
-FitsReturn returns (terminator.Switch width operand default cases) = Unit {0}
-FitsReturn returns terminator.Unreachable = Unit {0}
-
-abbrev pub ReturnsFit : Function → Type 0
-ReturnsFit f = All (λ (b : Block). FitsReturn f.returns b.terminator) f.blocks
 
 pub record CanBeAsked (pair : Functions) (bounds : Bounds) : Type 0 where
   pub source_limits : IsWithinLimits pair.source

@@ -7,24 +7,17 @@ use Rattle.points.specs.declared.verdict.Verdict.{Verdict}
 use Rattle.points.specs.declared.verdict.Verdict.TheVariants.{Correct, Incorrect, Unknown}
 use Rattle.points.specs.declared.verdict.Cause.TheVariants.{Weight, Rounds, Conflicts}
 use Rattle.points.specs.Pair.{Functions}
-use Rattle.points.specs.Trail.{TrailFrom, Ends}
-use Rattle.points.specs.Weight.{weight_of}
+use Rattle.points.specs.Trail.{TrailFrom, open_point, Ends}
+use Rattle.points.specs.Weight.{IsHeavy}
 use Rattle.clause_log.specs.declared.step.Cert.{Cert}
 use Rattle.points.specs.declared.verdict.Kept.{Kept}
 use Rattle.instantiate.specs.declared.settled.Settled.{Settled}
 use Rattle.instantiate.specs.Questions.{IsUncovered, IsCovering, IsRefuted, IsSpentOn, point_widths, tape_widths}
 
-abbrev pub IsHeavy : Functions → Bounds → Budget → Type 0
-IsHeavy pair bounds budget = budget.weight < weight_of pair bounds
-
 -- the clauses that a question may learn; 0 sets no limit
 abbrev pub limit_of : ℕ → Option ℕ
 limit_of zero = None
 limit_of (suc n) = Some (suc n)
-
--- the point that has no tape yet
-abbrev pub open_point : Kept → Option Point
-open_point kept = slice_get kept.points (length kept.tapes)
 
 -- ---- the trail
 

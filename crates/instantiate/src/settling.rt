@@ -3,8 +3,8 @@
 ghost use Rattle.std.specs.Prelude.{◌≡◌, ◌<◌, IfOk, IfSome};
 ghost use Rattle.ir_tree.specs.Limits.{AreIntegers, IsWithinLimits};
 ghost use Rattle.points.specs.Range.{AreInRange};
-ghost use Rattle.points.specs.Weight.{weight_of};
-ghost use Rattle.instantiate.specs.Questions.{CanBeAsked, ReturnsFit};
+ghost use Rattle.encoder.specs.Frontier.{ReturnsFit};
+ghost use Rattle.instantiate.specs.Questions.{CanBeAsked};
 ghost use Rattle.instantiate.specs.Settling.{IsSettled, IsTold, limit_of};
 
 use crate::found::Found;

@@ -1,7 +1,6 @@
 -- In a well-formed function each return has a value where the header has a type.
-use Rattle.std.proofs.Common.{◌≡◌, ℕ, ◌<◌, arith, refl, ap, cc, Bool, true, false, is_some, All, List, [], ◌∷◌, length, slice_get, Option, Some, None, inl}
-use Rattle.std.specs.List.{Contains, get_or}
-use Rattle.std.proofs.lemmas.List.Elements.{All-from_get_or}
+use Rattle.std.proofs.Common.{◌≡◌, ℕ, ◌<◌, arith, refl, ap, Bool, true, false, is_some, All, List, [], ◌∷◌, length, get_or, slice_get, Option, Some, None, inl}
+use Rattle.std.specs.List.{Contains}
 use Rattle.std.proofs.lemmas.Option.{slice_get-get_or}
 use Rattle.ir_tree.specs.declared.tree.IrType.{IrType}
 use Rattle.ir_tree.specs.declared.tree.TypedOperand.{TypedOperand}
@@ -14,10 +13,10 @@ use Rattle.ir_tree.specs.declared.sites.Site.TheVariants.{Written}
 use Rattle.ir_tree.specs.Sites.{sites, terminator_sites}
 use Rattle.ir_tree.specs.WellFormed.{IsWellFormed}
 use Rattle.ir_tree.proofs.Standing.{end_site}
-use Rattle.instantiate.specs.Questions.{FitsReturn, ReturnsFit}
+use Rattle.encoder.specs.Frontier.{FitsReturn, ReturnsFit}
 
 -- no end of a block has a site that was wrongly written
-AllIsWell : Option IrType → Terminator → Type 0
+abbrev AllIsWell : Option IrType → Terminator → Type 0
 AllIsWell header end = Contains (terminator_sites header end) (Written false) → ⊥
 
 fits : (header : Option IrType) (end : Terminator) → AllIsWell header end → FitsReturn header end
@@ -33,11 +32,7 @@ fits header terminator.Unreachable well = tt
 ends_well : (f : Function) → IsWellFormed f → (k : ℕ) (b : Block) → slice_get f.blocks k ≡ Some b → AllIsWell f.returns b.terminator
 ends_well f formed k b stands wrong =
     let at = end_site f k b (Written false) stands wrong in
-    formed.types at.0 (inl at.1.0)
+    formed.types at.0 (inl at.1)
 
 pub returns_fit : (f : Function) → IsWellFormed f → ReturnsFit f
-returns_fit f formed = go f.blocks (λ k b stands. fits f.returns b.terminator (ends_well f formed k b stands))
-  where
-    go : (bs : List Block) → ((k : ℕ) (b : Block) → slice_get bs k ≡ Some b → FitsReturn f.returns b.terminator) → All (λ (b : Block). FitsReturn f.returns b.terminator) bs
-    go [] each = All-from_get_or (λ (b : Block). FitsReturn f.returns b.terminator) [] _ (λ i h. absurd (omega (arith, h)))
-    go (b ∷ bs) each = All-from_get_or (λ (b : Block). FitsReturn f.returns b.terminator) (b ∷ bs) b (λ i h. each i (get_or (b ∷ bs) i b) (slice_get-get_or (b ∷ bs) i b h))
+returns_fit f formed = λ k d below. fits f.returns (get_or f.blocks k d).terminator (ends_well f formed k (get_or f.blocks k d) (slice_get-get_or f.blocks k d below))

@@ -1,6 +1,6 @@
 -- A pair that is too heavy is not asked about.
 use Rattle.std.proofs.Common.{arith}
-use Rattle.instantiate.specs.Settling.{IsHeavy}
+use Rattle.points.specs.Weight.{IsHeavy}
 use Rattle.instantiate.proofs.Growing.{judged}
 use Rattle.instantiate.proofs.settling.settle.Goals as goal
 
