@@ -1,4 +1,3 @@
-
 use crate::{Both, both_verdicts};
 use ir_reader::read;
 use points::{Bounds, Budget, Cause, Pair, Point, Verdict, has_same_signature};

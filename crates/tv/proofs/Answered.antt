@@ -59,18 +59,18 @@ pub one_row : (bounds : Bounds) (budget : Budget) (targets sources : List Entry)
     → IsSoFar bounds budget targets sources (i + 1) rows' new
 one_row bounds budget targets sources i source row rows rows' old new below is e far one said = rw (e, said.behind) (record {
   rows_so_far = λ more are.
-    let here : drop i sources ≡ source ∷ drop (i + 1) sources = drop_more sources i source below ∙ ap (λ (x : Entry). x ∷ drop (i + 1) sources) is in
-    let next : AreSourceRows (may_tell bounds budget) bounds targets (drop i sources) (row ∷ more) = subst (λ (es : List Entry). AreSourceRows (may_tell bounds budget) bounds targets es (row ∷ more)) (sym here) (one, are) in
-    subst (λ (rs : List Row). AreSourceRows (may_tell bounds budget) bounds targets sources rs) (sym (append_assoc rows (row ∷ []) more)) (far.rows_so_far (row ∷ more) next);
+      let here : drop i sources ≡ source ∷ drop (i + 1) sources = drop_more sources i source below ∙ ap (λ (x : Entry). x ∷ drop (i + 1) sources) is in
+      let next : AreSourceRows (may_tell bounds budget) bounds targets (drop i sources) (row ∷ more) = subst (λ (es : List Entry). AreSourceRows (may_tell bounds budget) bounds targets es (row ∷ more)) (sym here) (one, are) in
+      subst (λ (rs : List Row). AreSourceRows (may_tell bounds budget) bounds targets sources rs) (sym (append_assoc rows (row ∷ []) more)) (far.rows_so_far (row ∷ more) next);
   answered =
-    let taken : take (i + 1) sources ≡ take i sources ++ source ∷ [] = ap (λ (n : ℕ). take n sources) (add-one i) ∙ take-suc sources i source below ∙ ap (λ (x : Entry). take i sources ++ x ∷ []) is in
-    let pairs : judged_pairs targets (take (i + 1) sources) ≡ judged_pairs targets (take i sources) ++ pairs_in source.function (function_named targets source.name) =
+      let taken : take (i + 1) sources ≡ take i sources ++ source ∷ [] = ap (λ (n : ℕ). take n sources) (add-one i) ∙ take-suc sources i source below ∙ ap (λ (x : Entry). take i sources ++ x ∷ []) is in
+      let pairs : judged_pairs targets (take (i + 1) sources) ≡ judged_pairs targets (take i sources) ++ pairs_in source.function (function_named targets source.name) =
       ap (λ (es : List Entry). judged_pairs targets es) taken
-        ∙ flat_map-append (λ (s : Entry). pairs_in s.function (function_named targets s.name)) (take i sources) (source ∷ [])
-        ∙ ap (λ (ps : List Functions). judged_pairs targets (take i sources) ++ ps) (append-nil (pairs_in source.function (function_named targets source.name))) in
-    subst (λ (ps : List Functions). AreAnswers bounds budget ps (old ++ said.added)) (sym pairs) (answers_behind bounds budget _ _ old said.added far.answered said.each);
+      ∙ flat_map-append (λ (s : Entry). pairs_in s.function (function_named targets s.name)) (take i sources) (source ∷ [])
+      ∙ ap (λ (ps : List Functions). judged_pairs targets (take i sources) ++ ps) (append-nil (pairs_in source.function (function_named targets source.name))) in
+      subst (λ (ps : List Functions). AreAnswers bounds budget ps (old ++ said.added)) (sym pairs) (answers_behind bounds budget _ _ old said.added far.answered said.each);
   told =
-    flat_map-append (λ (r : Row). verdicts_in r.finding) rows (row ∷ [])
+      flat_map-append (λ (r : Row). verdicts_in r.finding) rows (row ∷ [])
       ∙ ap (λ (vs : List Verdict). verdicts_of rows ++ vs) (append-nil (verdicts_in row.finding))
       ∙ ap (λ (vs : List Verdict). vs ++ verdicts_in row.finding) far.told
       ∙ ap (λ (vs : List Verdict). told_by old ++ vs) said.told
@@ -85,8 +85,8 @@ pub record IsWhole (bounds : Bounds) (budget : Budget) (targets sources : List E
 pub all_rows : (bounds : Bounds) (budget : Budget) (targets sources : List Entry) (i : ℕ) (rows : List Row) (answers : List Judged) → length sources ≤ i → IsSoFar bounds budget targets sources i rows answers → IsWhole bounds budget targets sources rows answers
 all_rows bounds budget targets sources i rows answers past far = record {
   rows_are =
-    let none : AreSourceRows (may_tell bounds budget) bounds targets (drop i sources) [] = subst (λ (es : List Entry). AreSourceRows (may_tell bounds budget) bounds targets es []) (sym (drop_all i sources past)) tt in
-    subst (λ (rs : List Row). AreSourceRows (may_tell bounds budget) bounds targets sources rs) (append-nil rows) (far.rows_so_far [] none);
+      let none : AreSourceRows (may_tell bounds budget) bounds targets (drop i sources) [] = subst (λ (es : List Entry). AreSourceRows (may_tell bounds budget) bounds targets es []) (sym (drop_all i sources past)) tt in
+      subst (λ (rs : List Row). AreSourceRows (may_tell bounds budget) bounds targets sources rs) (append-nil rows) (far.rows_so_far [] none);
   answered = subst (λ (es : List Entry). AreAnswers bounds budget (judged_pairs targets es) answers) (take_all i sources past) far.answered;
   told = far.told;
 }

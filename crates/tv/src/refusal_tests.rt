@@ -65,7 +65,14 @@ fn a_line_of_a_fault_may_break_off(rt: HostRuntime) -> Result<(), Fail> {
     let mut out = FailingSink::new(alloc, 1_000, 10, vec![in alloc; 4]?)?;
     let words = words_of(&rt, "tv check A B")?;
     let mut judged = Vec::new(rt.alloc());
-    let status = run(&rt, words.as_slice(), &mut shelf, &mut out, &OpenGate, &mut judged);
+    let status = run(
+        &rt,
+        words.as_slice(),
+        &mut shelf,
+        &mut out,
+        &OpenGate,
+        &mut judged,
+    );
     assert!(rt; status == 9 && out.sink.bytes.as_slice() == b"A:2".as_slice());
     Ok(())
 }

@@ -47,7 +47,14 @@ pub fn ends<R: AllocGlobal>(
     let mut out = MemorySink::new(rt.alloc(), 1_000)?;
     let words = words_of(rt, line)?;
     let mut judged = Vec::new(rt.alloc());
-    let answer = run(rt, words.as_slice(), shelf, &mut out, &OpenGate, &mut judged);
+    let answer = run(
+        rt,
+        words.as_slice(),
+        shelf,
+        &mut out,
+        &OpenGate,
+        &mut judged,
+    );
     let mut wanted = Vec::from_slice(rt.alloc(), start.as_bytes())?;
     wanted.extend_from_slice(text.as_bytes())?;
     Ok(answer == status && out.bytes.as_slice() == wanted.as_slice())
@@ -86,7 +93,14 @@ pub fn judges<R: AllocGlobal>(
         words.push(String::from_str(rt.alloc(), option)?)?;
     }
     let mut judged = Vec::new(rt.alloc());
-    let answer = run(rt, words.as_slice(), &mut shelf, &mut out, &OpenGate, &mut judged);
+    let answer = run(
+        rt,
+        words.as_slice(),
+        &mut shelf,
+        &mut out,
+        &OpenGate,
+        &mut judged,
+    );
     let text = out.bytes.as_slice();
     let first = text.iter().take_while(|b| **b != b'\n').count();
     let rows = text.get(first + 1..).unwrap_or(&[]);
@@ -214,7 +228,14 @@ fn a_sink_that_fails_has_a_front_of_the_report(rt: HostRuntime) -> Result<(), Fa
     let mut out = FailingSink::new(alloc, 1_000, 10, vec![in alloc; 2]?)?;
     let words = words_of(&rt, "tv check A B")?;
     let mut judged = Vec::new(rt.alloc());
-    let status = run(&rt, words.as_slice(), &mut shelf, &mut out, &OpenGate, &mut judged);
+    let status = run(
+        &rt,
+        words.as_slice(),
+        &mut shelf,
+        &mut out,
+        &OpenGate,
+        &mut judged,
+    );
     assert!(rt; status == 7 && out.sink.bytes.as_slice() == b"tv 1 turns".as_slice());
     Ok(())
 }
@@ -246,7 +267,14 @@ fn each_judged_pair_passes_the_gate(rt: HostRuntime) -> Result<(), Fail> {
         sum: AtomicU64::new(0),
     };
     let mut judged = Vec::new(rt.alloc());
-    let status = run(&rt, words.as_slice(), &mut shelf, &mut out, &gate, &mut judged);
+    let status = run(
+        &rt,
+        words.as_slice(),
+        &mut shelf,
+        &mut out,
+        &gate,
+        &mut judged,
+    );
     assert!(rt; status == 0 && gate.sum.load(Ordering::SeqCst) == 3);
     Ok(())
 }
