@@ -4,13 +4,11 @@ ghost use Rattle.points.specs.Range.{AreInRange};
 ghost use Rattle.points.specs.Tapes.{need_of, widest_choice};
 ghost use Rattle.points.specs.Trail.{IsVerdict};
 ghost use Rattle.unroll.specs.Small.{AreSmall};
-ghost use Rattle.slow_judge.specs.Bits.{IsCounted};
 ghost use Rattle.slow_judge.specs.Search.{empty_blocks, IsReady, HasTrail};
 
 use crate::bench::Bench;
 use crate::cells::{blocks_without_bytes, zeros};
 use crate::search::{Tape, least_cover, least_uncovered};
-use crate::size::bits;
 use choice_interp::runner_for;
 use points::{Bounds, Budget, Cause, Pair, Verdict};
 use std::alloc::Global;
@@ -99,27 +97,4 @@ pub fn slow(
     };
     let verdict = grow(alloc, pair, bounds, budget, of_source, of_target)?;
     Ok(verdict)
-}
-
-/// The most bits that counting goes through.
-const MOST_BITS: u64 = 16;
-
-/// The verdict on a pair of at most 16 bits; one with more of them is told as too heavy.
-pub fn counted(
-    alloc: Global,
-    pair: &Pair,
-    bounds: &Bounds,
-    budget: &Budget,
-) -> Result<Verdict, NoMemory>
-    requires source_limits { IsWithinLimits pair.now.source }
-    requires target_limits { IsWithinLimits pair.now.target }
-    requires source_integers { AreIntegers pair.now.source.parameters }
-    requires target_integers { AreIntegers pair.now.target.parameters }
-    requires in_range { AreInRange bounds.now budget.now }
-    ensures { IfOk result (IsCounted pair.now bounds.now budget.now) }
-{
-    if MOST_BITS < bits(pair, bounds) {
-        return Ok(Verdict::Unknown(Cause::Weight));
-    }
-    slow(alloc, pair, bounds, budget)
 }

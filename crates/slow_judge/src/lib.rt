@@ -1,19 +1,16 @@
 //! The verdict on a pair of functions by plain counting.
 //!
-//! It promises that its answer is the defined verdict (`slow`), and that `counted` tells it of the
-//! pairs that are small enough to count through, and `unknown weight` of the others. It stands on
-//! `choice_interp`, and goes through points and tapes one after another.
+//! It promises that its answer is the defined verdict. It stands on `choice_interp`, and goes through
+//! points and tapes one after another, so its time grows with two to the power of their bits. Tests
+//! hold the judge by questions against it.
 #![tactic(auto)]
 
 mod bench;
 mod cells;
 mod cover;
 mod judge;
-mod laws;
 mod search;
-mod size;
 #[cfg(test)]
 mod tests;
 
-pub use judge::{counted, slow};
-pub use laws::counted_is_one;
+pub use judge::slow;

@@ -1,7 +1,7 @@
 ghost use Rattle.std.specs.Prelude.{◌≤◌, IfOk};
 ghost use Rattle.ir_tree.specs.Limits.{AreIntegers};
 
-use crate::counted;
+use crate::slow;
 use byte_block::Value;
 use ir_tree::{
     Block, Flags, Function, Inst, IrType, Name, Names, Op, Operand, Parameter, Predicate,
@@ -97,7 +97,7 @@ fn verdict_of(
         weight,
     };
     let pair = Pair::new(source, target);
-    Ok(Some(counted(alloc, &pair, &bounds, &budget)?))
+    Ok(Some(slow(alloc, &pair, &bounds, &budget)?))
 }
 
 #[test]
