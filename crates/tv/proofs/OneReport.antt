@@ -23,7 +23,7 @@ use Rattle.tv.proofs.Files.{module_one}
 
 -- ---- a judge that tells only what another may tell
 
-Implies : (Functions → Verdict → Type 0) → (Functions → Verdict → Type 0) → Type 0
+abbrev Implies : (Functions → Verdict → Type 0) → (Functions → Verdict → Type 0) → Type 0
 Implies tells may = (pair : Functions) (v : Verdict) → tells pair v → may pair v
 
 judged_by : (tells may : Functions → Verdict → Type 0) → Implies tells may → (bounds : Bounds) (pair : Functions) (found : Finding) → IsJudged tells bounds pair found → IsJudged may bounds pair found
