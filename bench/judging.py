@@ -1,10 +1,11 @@
 #!/usr/bin/env python3
-"""How many points a second `tv` judges by counting.
+"""How long `tv` takes for small pairs, each by itself, from start to end.
 
     bench/judging.py [PATH OF tv]        (default: crates/tv/out/tv)
 
-A module of equal pairs over one i16, 65,537 points each, against the same module with fewer pairs:
-the difference is the judging alone. No test rests on these figures.
+Pairs of one or a few instructions at the usual bounds: sums, products, shifts, divisions, comparisons,
+choices, a loop. Each line is the best of a few runs, with the row that the report has. The last two
+lines are the same questions under a limit on learned clauses. No test rests on these figures.
 """
 import os
 import subprocess
@@ -12,46 +13,44 @@ import sys
 import tempfile
 import time
 
-POINTS_A_PAIR = 2**16 + 1
 RUNS = 5
-BODIES = {
-    "no instruction": ("  ret i16 %x", "  ret i16 %x"),
-    "one instruction": ("  %r = add i16 %x, %x\n  ret i16 %r", "  %r = add i16 %x, %x\n  ret i16 %r"),
-    "four instructions": (
-        "  %a = xor i16 %x, -1\n  %b = and i16 %a, 255\n  %c = or i16 %b, 1\n  %r = sub i16 %c, %x\n  ret i16 %r",
-        "  %a = xor i16 %x, -1\n  %b = and i16 %a, 255\n  %c = or i16 %b, 1\n  %r = sub i16 %c, %x\n  ret i16 %r",
-    ),
-}
-
-
-def module(body, pairs):
-    return "".join(f"define i16 @f{k}(i16 %x) {{\n{body}\n}}\n" for k in range(pairs))
-
-
-def best_seconds(tv, bodies, pairs):
-    with tempfile.TemporaryDirectory() as folder:
-        names = [os.path.join(folder, name) for name in ("source.ll", "target.ll")]
-        for name, body in zip(names, bodies):
-            with open(name, "w") as file:
-                file.write(module(body, pairs))
-        best = None
-        for _ in range(RUNS):
-            start = time.perf_counter()
-            done = subprocess.run([tv, "check", *names], stdout=subprocess.DEVNULL)
-            seconds = time.perf_counter() - start
-            if done.returncode != 0:
-                sys.exit(f"status {done.returncode}: a pair is not correct")
-            best = seconds if best is None else min(best, seconds)
-        return best
+LOOP = "entry:\n  br label %loop\nloop:\n  %i = phi i8 [ 0, %entry ], [ %j, %loop ]\n  %j = add i8 %i, 1\n  %c = icmp ult i8 %j, %n\n  br i1 %c, label %loop, label %done\ndone:\n"
+PAIRS = [
+    ("x + x, x << 1", "i8 @f(i8 %x)", "  %r = add i8 %x, %x\n  ret i8 %r", "  %r = shl i8 %x, 1\n  ret i8 %r", []),
+    ("x + 1, with nsw", "i8 @f(i8 %x)", "  %r = add i8 %x, 1\n  ret i8 %r", "  %r = add nsw i8 %x, 1\n  ret i8 %r", []),
+    ("a choice, 3", "i4 @f()", "  %a = freeze i4 poison\n  ret i4 %a", "  ret i4 3", []),
+    ("7, a choice", "i8 @f()", "  ret i8 7", "  %a = freeze i8 poison\n  ret i8 %a", []),
+    ("a choice less itself, 0", "i8 @f()", "  %a = freeze i8 poison\n  %b = sub i8 %a, %a\n  ret i8 %b", "  ret i8 0", []),
+    ("x / x, 1", "i8 @f(i8 %x)", "  %r = udiv i8 %x, %x\n  ret i8 %r", "  ret i8 1", []),
+    ("a loop but for 4, 2 turns", "i8 @f(i8 %n)", LOOP + "  ret i8 %j", LOOP + "  %e = icmp eq i8 %j, 4\n  %r = select i1 %e, i8 0, i8 %j\n  ret i8 %r", ["--turns", "2"]),
+    ("a loop but for 4, 3 turns", "i8 @f(i8 %n)", LOOP + "  ret i8 %j", LOOP + "  %e = icmp eq i8 %j, 4\n  %r = select i1 %e, i8 0, i8 %j\n  ret i8 %r", ["--turns", "3"]),
+    ("x * 2, x << 1 at i64", "i64 @f(i64 %x)", "  %r = mul i64 %x, 2\n  ret i64 %r", "  %r = shl i64 %x, 1\n  ret i64 %r", []),
+    ("and, select", "i1 @f(i1 %a, i1 %b)", "  %r = and i1 %a, %b\n  ret i1 %r", "  %r = select i1 %a, i1 %b, i1 false\n  ret i1 %r", []),
+    ("x / -1, 0 - x", "i8 @f(i8 %x)", "  %r = sdiv i8 %x, -1\n  ret i8 %r", "  %r = sub i8 0, %x\n  ret i8 %r", []),
+    ("undef, 5", "i8 @f()", "  ret i8 undef", "  ret i8 5", []),
+    ("x << 1, x + x at i32", "i32 @f(i32 %x)", "  %r = shl nsw i32 %x, 1\n  ret i32 %r", "  %r = add nsw i32 %x, %x\n  ret i32 %r", []),
+    ("x plus a choice, 0: 15 rounds", "i4 @f(i4 %x)", "  %a = freeze i4 poison\n  %r = add i4 %x, %a\n  ret i4 %r", "  ret i4 0", ["--rounds", "15"]),
+    ("(x + y) - y, x at i8", "i8 @f(i8 %x, i8 %y)", "  %a = add i8 %x, %y\n  %r = sub i8 %a, %y\n  ret i8 %r", "  ret i8 %x", []),
+    ("(x + y) + z, x + (y + z) at i8", "i8 @f(i8 %x, i8 %y, i8 %z)", "  %a = add i8 %x, %y\n  %r = add i8 %a, %z\n  ret i8 %r", "  %a = add i8 %y, %z\n  %r = add i8 %x, %a\n  ret i8 %r", []),
+    ("7, 8, 1 clause", "i8 @f()", "  ret i8 7", "  ret i8 8", ["--blocks", "0", "--conflicts", "1"]),
+    ("x, x at i64, 100000 clauses", "i64 @f(i64 %x)", "  ret i64 %x", "  ret i64 %x", ["--blocks", "0", "--conflicts", "100000"]),
+]
 
 
 def main():
     tv = sys.argv[1] if len(sys.argv) > 1 else "crates/tv/out/tv"
-    print(f"one pair, start to end: {best_seconds(tv, BODIES['no instruction'], 1) * 1000:.1f} ms for {POINTS_A_PAIR} points")
-    for title, bodies in BODIES.items():
-        few, many = best_seconds(tv, bodies, 10), best_seconds(tv, bodies, 110)
-        rate = 100 * POINTS_A_PAIR / (many - few)
-        print(f"  {title:>20} {rate / 1e6:8.1f} million points a second, {many / few:6.1f} times for 11 times the pairs")
+    with tempfile.TemporaryDirectory() as folder:
+        names = [os.path.join(folder, name) for name in ("before.ll", "after.ll")]
+        for title, header, source, target, options in PAIRS:
+            for name, body in zip(names, (source, target)):
+                with open(name, "w") as file:
+                    file.write(f"define {header} {{\n{body}\n}}\n")
+            times = []
+            for _ in range(RUNS):
+                start = time.perf_counter()
+                done = subprocess.run([tv, "check", *options, *names], capture_output=True, text=True)
+                times.append(time.perf_counter() - start)
+            print(f"  {title:>32} {min(times) * 1000:8.1f} ms  {done.stdout.splitlines()[1]}")
 
 
 if __name__ == "__main__":
