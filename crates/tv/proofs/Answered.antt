@@ -1,8 +1,10 @@
 -- Answers of the judge, and rows of the source, one at a time.
-use Rattle.std.proofs.Common.{◌≡◌, ℕ, ◌+◌, ◌<◌, ◌≤◌, List, [], ◌∷◌, ◌++◌, length, drop, take, get_or, map, refl, sym, ap, subst, ◌∙◌, add-one, add-zero, Option, Some, None, is_some, if◌then◌else◌}
+use Rattle.std.proofs.Common.{◌≡◌, ℕ, ◌+◌, ◌<◌, ◌≤◌, List, [], ◌∷◌, ◌++◌, length, drop, take, get_or, map, refl, sym, ap, subst, ◌∙◌, add-one, add-zero, Option, Some, None, Result, is_some, if◌then◌else◌}
 use Rattle.std.proofs.lemmas.Grind.{flat_map-append}
 use Rattle.std.proofs.lemmas.List.{append-nil, append_assoc, drop_all, drop_more, map-append, take_all}
 use Rattle.std.proofs.Math.Seq.{take-suc}
+use Rattle.ir_tree.specs.declared.tree.Function.{Function}
+use Rattle.ir_tree.specs.declared.module.Refused.{Refused}
 use Rattle.ir_tree.specs.declared.module.Entry.{Entry}
 use Rattle.points.specs.declared.point.Bounds.{Bounds}
 use Rattle.points.specs.declared.point.Budget.{Budget}
@@ -95,11 +97,11 @@ all_rows bounds budget targets sources i rows answers past far = record {
 
 extra_verdicts : (sources targets : List Entry) → verdicts_of (extra_rows sources targets) ≡ []
 extra_verdicts sources [] = refl
-extra_verdicts sources (t ∷ ts) = cases (function_named sources t.name)
+extra_verdicts sources (t ∷ ts) = cases (function_named sources t.name) (extra_verdicts sources ts)
   where
-    cases : (o : Option _) → verdicts_of (if is_some o then extra_rows sources ts else extra_row t ∷ extra_rows sources ts) ≡ []
-    cases (Some f) = extra_verdicts sources ts
-    cases None = extra_verdicts sources ts
+    cases : (o : Option (Result Function Refused)) → verdicts_of (extra_rows sources ts) ≡ [] → verdicts_of (if is_some o then extra_rows sources ts else extra_row t ∷ extra_rows sources ts) ≡ []
+    cases (Some f) none = none
+    cases None none = none
 
 pub told_with_extra : (sources targets : List Entry) (rows all : List Row) → all ≡ rows ++ extra_rows sources targets → verdicts_of all ≡ verdicts_of rows
 told_with_extra sources targets rows all e =

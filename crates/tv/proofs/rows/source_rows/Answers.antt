@@ -5,7 +5,7 @@ use Rattle.tv.proofs.Answered.{no_rows, one_row, all_rows}
 use Rattle.tv.proofs.rows.source_rows.Goals as goal
 
 pub loop-source-init : goal.loop-source-init
-loop-source-init g c = no_rows _ _ _ _ _ _ c.new-rows.ensures c.requires.none
+loop-source-init g c = no_rows _ _ _ _ _ _ c.new-rows.ensures.items c.requires.none
 
 pub source_row-requires-clause-source_judgeable : goal.source_row-requires-clause-source_judgeable
 source_row-requires-clause-source_judgeable g c =
