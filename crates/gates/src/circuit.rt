@@ -223,6 +223,9 @@ impl Circuit {
         ensures made { IfOk result (λ id. Makes self.new id (λ v. cond (gate_at v self.old c) (gate_at v self.old a) (gate_at v self.old b))) }
         ensures kept { Keeps self.old self.new }
     {
+        if a == b {
+            return Ok(a);
+        }
         let not_c = self.not(c)?;
         let first = self.and(c, a)?;
         let second = self.and(not_c, b)?;

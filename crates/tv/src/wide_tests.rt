@@ -16,6 +16,12 @@ const EIGHT: &str = "define i8 @f() {\n  ret i8 8\n}\n";
 const ANY_SUM: &str =
     "define i4 @f(i4 %x) {\n  %a = freeze i4 poison\n  %r = add i4 %x, %a\n  ret i4 %r\n}\n";
 
+const SUM_WITH_ITSELF: &str =
+    "define noundef i32 @f(i32 noundef %x) {\n  %r = add nsw i32 %x, %x\n  ret i32 %r\n}\n";
+
+const SHIFT_BY_ONE: &str =
+    "define noundef i32 @f(i32 noundef %x) {\n  %r = shl nsw i32 %x, 1\n  ret i32 %r\n}\n";
+
 const ZERO: &str = "define i4 @f(i4 %x) {\n  ret i4 0\n}\n";
 
 #[test]
@@ -48,5 +54,13 @@ fn a_limit_is_spent_only_where_it_must_be(rt: HostRuntime) -> Result<(), Fail> {
 fn each_argument_costs_a_round(rt: HostRuntime) -> Result<(), Fail> {
     assert!(rt; judges(&rt, "--rounds 15", ANY_SUM, ZERO, "@f correct\n", 0)?);
     assert!(rt; judges(&rt, "--rounds 14", ANY_SUM, ZERO, "@f unknown rounds\n", 2)?);
+    Ok(())
+}
+
+/// Which bits are lost is the same question for a sum and for a shift.
+#[test]
+fn a_sum_with_itself_is_a_shift_with_its_flags(rt: HostRuntime) -> Result<(), Fail> {
+    assert!(rt; judges(&rt, "", SUM_WITH_ITSELF, SHIFT_BY_ONE, "@f correct\n", 0)?);
+    assert!(rt; judges(&rt, "", SHIFT_BY_ONE, SUM_WITH_ITSELF, "@f correct\n", 0)?);
     Ok(())
 }
