@@ -17,8 +17,6 @@ ghost use Rattle.assigned_names.specs.Known.{AreBefore};
 
 mod assigning;
 mod definers;
-#[cfg(test)]
-mod tests;
 mod uses;
 
 use assigning::assigns_of;

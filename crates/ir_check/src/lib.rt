@@ -13,8 +13,6 @@ mod edges;
 mod marks;
 mod names;
 mod predecessors;
-#[cfg(test)]
-mod tests;
 mod types;
 mod values;
 

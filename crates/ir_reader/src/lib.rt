@@ -36,9 +36,3 @@ pub use fault::ModuleFault;
 pub use laws::{has_all_places, is_one_function, is_one_module, is_plain_grammar};
 pub use reading::read;
 
-#[cfg(test)]
-mod blocks_tests;
-#[cfg(test)]
-mod damaged_tests;
-#[cfg(test)]
-mod tests;

@@ -7,6 +7,8 @@
 
 mod both;
 #[cfg(test)]
+mod counting_tests;
+#[cfg(test)]
 mod tests;
 
 pub use both::{Both, both_verdicts};

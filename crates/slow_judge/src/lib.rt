@@ -10,7 +10,5 @@ mod cells;
 mod cover;
 mod judge;
 mod search;
-#[cfg(test)]
-mod tests;
 
 pub use judge::slow;

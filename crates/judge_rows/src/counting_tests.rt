@@ -1,7 +1,7 @@
 ghost use Rattle.std.specs.Prelude.{◌≤◌, IfOk};
 ghost use Rattle.ir_tree.specs.Limits.{AreIntegers};
 
-use crate::slow;
+use slow_judge::slow;
 use byte_block::Value;
 use ir_tree::{
     Block, Flags, Function, Inst, IrType, Name, Names, Op, Operand, Parameter, Predicate,

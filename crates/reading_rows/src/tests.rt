@@ -1,5 +1,5 @@
-use crate::{ModuleFault, read};
 use ir_items::Why;
+use ir_reader::{ModuleFault, read};
 use ir_tree::{Function, Inst, Operand, Reason, Refused};
 use std::alloc::Global;
 use std::test::Fail;

@@ -2,8 +2,8 @@
 //
 // The answers are from a reader in another language. Each is `read`, `nothing` where no function is
 // left, or what is told and where: the reason of the function, or why the text is none.
-use crate::{ModuleFault, read};
 use ir_items::Why;
+use ir_reader::{ModuleFault, read};
 use ir_tree::Reason;
 use std::alloc::{AllocError, Global};
 use std::test::Fail;

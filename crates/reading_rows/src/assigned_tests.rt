@@ -3,7 +3,7 @@
 // In `i8 @(i8 %a)` the sites 0 to 4 are the return type, the function's name, the parameter's type and
 // name, and the first label; an `and` has its result, type and two operands, a phi its result, type and an
 // operand and a label for each entry. The site with number `n`, counted from 0, stands at column `n + 1`.
-use crate::check_assigned;
+use assigned_names::check_assigned;
 use ir_check::{check_edges, check_names, check_types};
 use ir_tree::{
     Block, CheckFault, Function, Inst, IrType, Name, Names, Op, Operand, Parameter, Phi, PhiEntry,

@@ -6,7 +6,7 @@
 //
 // Functions of three blocks have the labels `l`, `m` and `n`: `l` ends as is said, `m` in a jump, and `n`
 // begins with a phi and returns `%a`.
-use crate::{check_edges, check_names, check_types};
+use ir_check::{check_edges, check_names, check_types};
 use ir_tree::{
     Block, Case, Cast, CheckFault, Flags, Function, Inst, IrType, Name, Names, Op, Operand,
     Parameter, Phi, PhiEntry, Predicate, Reason, Refused, Terminator, TypedOperand, are_numbered,
