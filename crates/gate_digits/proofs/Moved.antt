@@ -244,45 +244,35 @@ shifted-writes old g1 g2 g3 new direction a amount value zeros digits s past off
     three : {p p' : Bool} {q q' r r' : ℕ} → p ≡ p' → q ≡ q' → r ≡ r' → cond p q r ≡ cond p' q' r'
     three e f g = cc
 
--- turned where the sign is 1, shifted, and turned again
-pub signed-writes : (g0 g1 g2 g3 g4 new : List Gate) (a b turned positive down back digits : List GateId) (d : GateId) → AreGates g0 a → AreGates g0 b → 1 ≤ length a
+-- turned, shifted and turned again where the sign is 1, and else shifted
+pub signed-writes : (g0 g1 g2 g3 g4 new : List Gate) (a b turned turned_down negative positive digits : List GateId) (d : GateId) → AreGates g0 a → AreGates g0 b → 1 ≤ length a
     → Keeps g0 g1 → Writes g1 turned (length a) (λ v. 2 ^ length a - 1 - number_at v g0 a)
-    → Keeps g1 g2 → Writes g2 positive (length turned) (λ v. cond (gate_at v g1 (get_or a 0 d)) (number_at v g1 turned) (number_at v g1 a))
-    → Keeps g2 g3 → Writes g3 down (length positive) (λ v. shifted_right (length positive) (number_at v g2 positive) (number_at v g2 b))
-    → Keeps g3 g4 → Writes g4 back (length down) (λ v. 2 ^ length down - 1 - number_at v g3 down)
-    → Writes new digits (length back) (λ v. cond (gate_at v g4 (get_or a 0 d)) (number_at v g4 back) (number_at v g4 down))
+    → Keeps g1 g2 → Writes g2 turned_down (length turned) (λ v. shifted_right (length turned) (number_at v g1 turned) (number_at v g1 b))
+    → Keeps g2 g3 → Writes g3 negative (length turned_down) (λ v. 2 ^ length turned_down - 1 - number_at v g2 turned_down)
+    → Keeps g3 g4 → Writes g4 positive (length a) (λ v. shifted_right (length a) (number_at v g3 a) (number_at v g3 b))
+    → Writes new digits (length negative) (λ v. cond (gate_at v g4 (get_or a 0 d)) (number_at v g4 negative) (number_at v g4 positive))
     → Writes new digits (length a) (λ v. shifted_signed (length a) (number_at v g0 a) (number_at v g0 b))
-signed-writes g0 g1 g2 g3 g4 new a b turned positive down back digits d ina inb least k1 w1 k2 w2 k3 w3 k4 w4 w5 =
-    let k02 = keeps_trans g0 g1 g2 k1 k2 in
-    let k04 = keeps_trans g0 g2 g4 k02 (keeps_trans g2 g3 g4 k3 k4) in
-    let positive_long : length positive ≡ length a = w2.long ∙ w1.long in
-    let down_long : length down ≡ length a = w3.long ∙ positive_long in
+signed-writes g0 g1 g2 g3 g4 new a b turned turned_down negative positive digits d ina inb least k1 w1 k2 w2 k3 w3 k4 w4 w5 =
+    let k03 = keeps_trans g0 g2 g3 (keeps_trans g0 g1 g2 k1 k2) k3 in
+    let k04 = keeps_trans g0 g3 g4 k03 k4 in
+    let down_long : length turned_down ≡ length a = w2.long ∙ w1.long in
     record {
       within = w5.within;
-      long = w5.long ∙ (w4.long ∙ down_long);
+      long = w5.long ∙ (w3.long ∙ down_long);
       says = λ v.
           let n = length a in
           let x = number_at v g0 a in
           let y = number_at v g0 b in
-          let sign = gate_at v g0 (get_or a 0 d) in
-          let inside = ina 0 d least in
-          let s1 : gate_at v g1 (get_or a 0 d) ≡ sign = k1.kept v (get_or a 0 d) inside in
-          let s4 : gate_at v g4 (get_or a 0 d) ≡ sign = k04.kept v (get_or a 0 d) inside in
-          let plain : number_at v g2 positive ≡ cond sign (2 ^ n - 1 - x) x = w2.says v ∙ three s1 (w1.says v) (number-kept g0 g1 k1 a ina v) in
-          let amount : number_at v g2 b ≡ y = number-kept g0 g2 k02 b inb v in
-          let fallen : number_at v g3 down ≡ shifted_right n (cond sign (2 ^ n - 1 - x) x) y =
-          w3.says v ∙ (ap (λ k. shifted_right k (number_at v g2 positive) (number_at v g2 b)) positive_long
-          ∙ (ap (λ k. shifted_right n k (number_at v g2 b)) plain ∙ ap (λ k. shifted_right n (cond sign (2 ^ n - 1 - x) x) k) amount)) in
-          let fallen4 : number_at v g4 down ≡ shifted_right n (cond sign (2 ^ n - 1 - x) x) y = number-kept g3 g4 k4 down w3.within v ∙ fallen in
-          let raised : number_at v g4 back ≡ 2 ^ n - 1 - shifted_right n (cond sign (2 ^ n - 1 - x) x) y =
-          w4.says v ∙ (ap (λ k. 2 ^ k - 1 - number_at v g3 down) down_long ∙ ap (λ k. 2 ^ n - 1 - k) fallen) in
-          w5.says v ∙ (three s4 raised fallen4 ∙ (same sign n x y ∙ ap (λ s. cond s (2 ^ n - 1 - shifted_right n (2 ^ n - 1 - x) y) (shifted_right n x y)) (sym (sign-at v g0 a d least))));
+          let sign : gate_at v g4 (get_or a 0 d) ≡ gate_at v g0 (get_or a 0 d) = k04.kept v (get_or a 0 d) (ina 0 d least) in
+          let fallen : number_at v g2 turned_down ≡ shifted_right n (2 ^ n - 1 - x) y =
+          w2.says v ∙ (ap (λ k. shifted_right k (number_at v g1 turned) (number_at v g1 b)) w1.long
+          ∙ (ap (λ k. shifted_right n k (number_at v g1 b)) (w1.says v) ∙ ap (λ k. shifted_right n (2 ^ n - 1 - x) k) (number-kept g0 g1 k1 b inb v))) in
+          let raised : number_at v g4 negative ≡ 2 ^ n - 1 - shifted_right n (2 ^ n - 1 - x) y =
+          number-kept g3 g4 k4 negative w3.within v ∙ (w3.says v ∙ (ap (λ k. 2 ^ k - 1 - number_at v g2 turned_down) down_long ∙ ap (λ k. 2 ^ n - 1 - k) fallen)) in
+          let plain : number_at v g4 positive ≡ shifted_right n x y =
+          w4.says v ∙ (ap (λ k. shifted_right n k (number_at v g3 b)) (number-kept g0 g3 k03 a ina v) ∙ ap (λ k. shifted_right n x k) (number-kept g0 g3 k03 b inb v)) in
+          w5.says v ∙ (three sign raised plain ∙ ap (λ s. cond s (2 ^ n - 1 - shifted_right n (2 ^ n - 1 - x) y) (shifted_right n x y)) (sym (sign-at v g0 a d least)));
     }
   where
     three : {p p' : Bool} {q q' r r' : ℕ} → p ≡ p' → q ≡ q' → r ≡ r' → cond p q r ≡ cond p' q' r'
     three e f g = cc
-
-    same : (s : Bool) (n x y : ℕ) → cond s (2 ^ n - 1 - shifted_right n (cond s (2 ^ n - 1 - x) x) y) (shifted_right n (cond s (2 ^ n - 1 - x) x) y)
-        ≡ cond s (2 ^ n - 1 - shifted_right n (2 ^ n - 1 - x) y) (shifted_right n x y)
-    same true n x y = refl
-    same false n x y = refl

@@ -196,7 +196,8 @@ pub fn shift_right(
 }
 
 /// The first moved down by the second, with copies of its sign; nothing but these where that is the
-/// width or more. Where the sign is 1, each digit is turned before and after.
+/// width or more. The number is moved as it is and with each digit turned before and after, and the
+/// sign chooses; so a known amount leaves its digits as they are, but for the copies.
 pub fn shift_right_signed(
     alloc: Global,
     circuit: &mut Circuit,
@@ -212,9 +213,9 @@ pub fn shift_right_signed(
     ensures kept { Keeps circuit.old circuit.new }
 {
     let turned = inverse(alloc, circuit, a)?;
-    let positive = choose(alloc, circuit, a[0], &turned, a)?;
-    let down = shift_right(alloc, circuit, &positive, b)?;
-    let back = inverse(alloc, circuit, &down)?;
-    let digits = choose(alloc, circuit, a[0], &back, &down)?;
+    let turned_down = shift_right(alloc, circuit, &turned, b)?;
+    let negative = inverse(alloc, circuit, &turned_down)?;
+    let positive = shift_right(alloc, circuit, a, b)?;
+    let digits = choose(alloc, circuit, a[0], &negative, &positive)?;
     Ok(digits)
 }
