@@ -35,4 +35,3 @@ mod written;
 pub use fault::ModuleFault;
 pub use laws::{has_all_places, is_one_function, is_one_module, is_plain_grammar};
 pub use reading::read;
-

@@ -1,13 +1,13 @@
 ghost use Rattle.std.specs.Prelude.{◌≤◌, IfOk};
 ghost use Rattle.ir_tree.specs.Limits.{AreIntegers};
 
-use slow_judge::slow;
 use byte_block::Value;
 use ir_tree::{
     Block, Flags, Function, Inst, IrType, Name, Names, Op, Operand, Parameter, Predicate,
     Terminator, TypedOperand, is_within_limits,
 };
 use points::{Bounds, Budget, Cause, Pair, Verdict, has_same_signature};
+use slow_judge::slow;
 use std::alloc::Global;
 use std::test::Fail;
 use support::{NoMemory, Sequence};
