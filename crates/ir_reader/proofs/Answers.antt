@@ -15,10 +15,10 @@ use Rattle.ir_forms.specs.Answer.{Fails}
 use Rattle.ir_forms.proofs.Exact.{read-found}
 use Rattle.ir_forms.proofs.Stops.{stops-unfit, stops-past, stops-behind}
 use Rattle.ir_forms.proofs.Reasons.{refused-as}
-use Rattle.ir_reader.specs.declared.written.WrittenFunction.{WrittenFunction}
-use Rattle.ir_reader.specs.Reasons.{reason}
-use Rattle.ir_reader.specs.Grammar.{define}
-use Rattle.ir_reader.specs.Numbering.{numbered}
+use Rattle.ir_grammar.specs.declared.written.WrittenFunction.{WrittenFunction}
+use Rattle.ir_grammar.specs.Reasons.{reason}
+use Rattle.ir_grammar.specs.Grammar.{define}
+use Rattle.ir_numbering.specs.Numbering.{numbered}
 use Rattle.ir_reader.specs.Functions.{tested, unfit, past, Answers}
 use Rattle.ir_reader.specs.Answer.{Writes, Tests, fault_at}
 

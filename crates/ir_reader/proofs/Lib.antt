@@ -1,11 +1,5 @@
-pub mod Digits
-pub mod Widths
-pub mod Each
-pub mod NumberOf
-pub mod NumberedSites
 pub mod Limits
 pub mod Answers
 pub mod OneFunction
 pub mod Entries
 pub mod Different
-pub mod PlainGrammar

@@ -25,40 +25,40 @@ use Rattle.ir_tree.specs.declared.tree.Block.{Block}
 use Rattle.ir_tree.specs.declared.tree.Parameter.{Parameter}
 use Rattle.ir_tree.specs.declared.tree.Function.{Function}
 use Rattle.ir_forms.specs.Spelling.{SpellParts, Spells, part_value, part_begins}
-use Rattle.ir_reader.specs.declared.word.LineStart.{LineStart}
-use Rattle.ir_reader.specs.declared.word.LineStart.TheVariants as start
-use Rattle.ir_reader.specs.declared.word.LineWord.{LineWord}
-use Rattle.ir_reader.specs.declared.word.LineWord.TheVariants as word_of
-use Rattle.ir_reader.specs.declared.word.TerminatorWord.{TerminatorWord}
-use Rattle.ir_reader.specs.declared.word.TerminatorWord.TheVariants as finish
-use Rattle.ir_reader.specs.declared.word.ParameterPart.{ParameterPart}
-use Rattle.ir_reader.specs.declared.word.ParameterPart.TheVariants as part
-use Rattle.ir_reader.specs.declared.written.WrittenParameter.{WrittenParameter}
-use Rattle.ir_reader.specs.declared.written.WrittenParameters.{WrittenParameters}
-use Rattle.ir_reader.specs.declared.written.WrittenName.{WrittenName}
-use Rattle.ir_reader.specs.declared.written.WrittenPhi.{WrittenPhi}
-use Rattle.ir_reader.specs.declared.written.WrittenLine.{WrittenLine}
-use Rattle.ir_reader.specs.declared.written.WrittenLines.{WrittenLines}
-use Rattle.ir_reader.specs.declared.written.WrittenCase.{WrittenCase}
-use Rattle.ir_reader.specs.declared.written.WrittenTerminator.{WrittenTerminator}
-use Rattle.ir_reader.specs.declared.written.WrittenBody.{WrittenBody}
-use Rattle.ir_reader.specs.declared.written.WrittenBlock.{WrittenBlock}
-use Rattle.ir_reader.specs.declared.written.WrittenBlocks.{WrittenBlocks}
-use Rattle.ir_reader.specs.declared.written.WrittenFunction.{WrittenFunction}
-use Rattle.ir_reader.specs.declared.written.WrittenLine.TheVariants as line
-use Rattle.ir_reader.specs.declared.written.WrittenTerminator.TheVariants as end
-use Rattle.ir_reader.specs.declared.written.WrittenReturn.TheVariants.{Void, Value}
-use Rattle.ir_reader.specs.declared.numbering.NamedParameter.{NamedParameter}
-use Rattle.ir_reader.specs.Classes.{any}
-use Rattle.ir_reader.specs.Spelling.{named_at, label_line, is_record, line_start}
-use Rattle.ir_reader.specs.Instructions.{inst_line, phi, line_by, line_named, entry_or_attachment, next_entry, phi_number}
-use Rattle.ir_reader.specs.Grammar.{follows_parameter, parameter_begins, with_part, parameter_parts, first_parameter, parameters, is_comma, is_local_kind, starts_line, line_begins, line_within, started, line_comma, with_comma, whole_line, with_line, next_line, lines, is_type, case_begins, case_within, with_case, cases, branch, branch_to, cond_branch, switch, return_of, terminator_by, block, body_of, entry_block, begins_block, block_begins, next_block, blocks, define}
-use Rattle.ir_reader.specs.Numbering.{Numbered, so, each_in, parameter_in, inst_in, value_in, typed_in, entry_in, phi_in, case_in, branch_in, cond_branch_in, switch_in, terminator_in, block_in, labelled_in, blocks_in, parts_in, returned_in, function_of, named_behind, entry_name, type_or_void, numbered}
+use Rattle.ir_grammar.specs.declared.word.LineStart.{LineStart}
+use Rattle.ir_grammar.specs.declared.word.LineStart.TheVariants as start
+use Rattle.ir_grammar.specs.declared.word.LineWord.{LineWord}
+use Rattle.ir_grammar.specs.declared.word.LineWord.TheVariants as word_of
+use Rattle.ir_grammar.specs.declared.word.TerminatorWord.{TerminatorWord}
+use Rattle.ir_grammar.specs.declared.word.TerminatorWord.TheVariants as finish
+use Rattle.ir_grammar.specs.declared.word.ParameterPart.{ParameterPart}
+use Rattle.ir_grammar.specs.declared.word.ParameterPart.TheVariants as part
+use Rattle.ir_grammar.specs.declared.written.WrittenParameter.{WrittenParameter}
+use Rattle.ir_grammar.specs.declared.written.WrittenParameters.{WrittenParameters}
+use Rattle.ir_grammar.specs.declared.written.WrittenName.{WrittenName}
+use Rattle.ir_grammar.specs.declared.written.WrittenPhi.{WrittenPhi}
+use Rattle.ir_grammar.specs.declared.written.WrittenLine.{WrittenLine}
+use Rattle.ir_grammar.specs.declared.written.WrittenLines.{WrittenLines}
+use Rattle.ir_grammar.specs.declared.written.WrittenCase.{WrittenCase}
+use Rattle.ir_grammar.specs.declared.written.WrittenTerminator.{WrittenTerminator}
+use Rattle.ir_grammar.specs.declared.written.WrittenBody.{WrittenBody}
+use Rattle.ir_grammar.specs.declared.written.WrittenBlock.{WrittenBlock}
+use Rattle.ir_grammar.specs.declared.written.WrittenBlocks.{WrittenBlocks}
+use Rattle.ir_grammar.specs.declared.written.WrittenFunction.{WrittenFunction}
+use Rattle.ir_grammar.specs.declared.written.WrittenLine.TheVariants as line
+use Rattle.ir_grammar.specs.declared.written.WrittenTerminator.TheVariants as end
+use Rattle.ir_grammar.specs.declared.written.WrittenReturn.TheVariants.{Void, Value}
+use Rattle.ir_numbering.specs.declared.numbering.NamedParameter.{NamedParameter}
+use Rattle.ir_grammar.specs.Classes.{any}
+use Rattle.ir_grammar.specs.Spelling.{named_at, label_line, is_record, line_start}
+use Rattle.ir_grammar.specs.Instructions.{inst_line, phi, line_by, line_named, entry_or_attachment, next_entry, phi_number}
+use Rattle.ir_grammar.specs.Grammar.{follows_parameter, parameter_begins, with_part, parameter_parts, first_parameter, parameters, is_comma, is_local_kind, starts_line, line_begins, line_within, started, line_comma, with_comma, whole_line, with_line, next_line, lines, is_type, case_begins, case_within, with_case, cases, branch, branch_to, cond_branch, switch, return_of, terminator_by, block, body_of, entry_block, begins_block, block_begins, next_block, blocks, define}
+use Rattle.ir_numbering.specs.Numbering.{Numbered, so, each_in, parameter_in, inst_in, value_in, typed_in, entry_in, phi_in, case_in, branch_in, cond_branch_in, switch_in, terminator_in, block_in, labelled_in, blocks_in, parts_in, returned_in, function_of, named_behind, entry_name, type_or_void, numbered}
 use Rattle.ir_reader.specs.Functions.{IsFunction, well_formed, tested, unfit, past}
 use Rattle.ir_reader.specs.Module.{AreEntries, tokens_of}
 use Rattle.ir_tree.specs.WellFormed.{IsWellFormed}
 use Rattle.ir_reader.specs.Judgeable.{IsIntegerOrVoid, IsJudgeable, IsJudgeableEntry}
-use Rattle.ir_reader.proofs.NumberedSites.{then-so, named-count, block_with}
+use Rattle.ir_numbering.proofs.NumberedSites.{then-so, named-count, block_with}
 
 and-first : (a b : Bool) → (a && b) ≡ true → a ≡ true
 and-first true b e = refl

@@ -23,10 +23,10 @@ use Rattle.ir_forms.specs.Refusals.{RefusedAs}
 use Rattle.ir_forms.proofs.Exact.{read-again}
 use Rattle.ir_forms.proofs.Stops.{limit-again}
 use Rattle.ir_forms.proofs.RefusedAgain.{refused-again}
-use Rattle.ir_reader.specs.declared.written.WrittenFunction.{WrittenFunction}
-use Rattle.ir_reader.specs.Reasons.{reason}
-use Rattle.ir_reader.specs.Grammar.{define}
-use Rattle.ir_reader.specs.Numbering.{numbered}
+use Rattle.ir_grammar.specs.declared.written.WrittenFunction.{WrittenFunction}
+use Rattle.ir_grammar.specs.Reasons.{reason}
+use Rattle.ir_grammar.specs.Grammar.{define}
+use Rattle.ir_numbering.specs.Numbering.{numbered}
 use Rattle.ir_reader.specs.Functions.{IsFunction, well_formed, tested, unfit, past, IsBehind, refused_at, stop_place}
 use Rattle.ir_reader.specs.declared.fault.ModuleFault.{ModuleFault}
 use Rattle.ir_reader.specs.declared.fault.ModuleFault.TheVariants as fault

@@ -1,7 +1,6 @@
 -- What the parts of the reader may answer.
 use Rattle.std.specs.Prelude.{◌≡◌, ◌≤◌, ◌+◌, List, [], length, true, Result, Ok, Err}
 use Rattle.std.specs.List.{AllByRecursion}
-use Rattle.support.specs.declared.no_memory.NoMemory.{NoMemory}
 use Rattle.ir_lexer.specs.Lexeme.{Lexeme}
 use Rattle.ir_items.specs.declared.item.Define.{Define}
 use Rattle.ir_tree.specs.WellFormed.{IsWellFormed, IsRefusedAt}
@@ -9,20 +8,13 @@ use Rattle.ir_tree.specs.declared.module.Reason.{Reason}
 use Rattle.ir_tree.specs.declared.module.Reason.TheVariants.{Limit}
 use Rattle.ir_tree.specs.declared.module.CheckFault.{CheckFault}
 use Rattle.ir_tree.specs.declared.module.CheckFault.TheVariants as fault
-use Rattle.ir_tree.specs.declared.name.Name.{Name}
 use Rattle.ir_tree.specs.declared.tree.Function.{Function}
 use Rattle.ir_forms.specs.declared.fault.ReadFault.{ReadFault}
 use Rattle.ir_forms.specs.declared.fault.ReadFault.TheVariants as stop
 use Rattle.ir_forms.specs.Spelling.{Spells}
-use Rattle.ir_reader.specs.declared.written.WrittenFunction.{WrittenFunction}
-use Rattle.ir_reader.specs.Grammar.{define}
-use Rattle.ir_reader.specs.Numbering.{Numbered, so}
+use Rattle.ir_grammar.specs.declared.written.WrittenFunction.{WrittenFunction}
+use Rattle.ir_grammar.specs.Grammar.{define}
 use Rattle.ir_reader.specs.Functions.{refused_at, stop_place, IsFunction}
-
--- this is numbered so and leaves these names, unless memory runs out
-abbrev pub Numbers : {X : Type 0} → Result X NoMemory → List Name → Numbered X → Type 0
-Numbers (Ok x) after answer = answer ≡ so x after
-Numbers (Err fault) after answer = Unit {0}
 
 -- a stop before the tokens that are left, as it is told
 abbrev pub fault_at : ReadFault → List Lexeme → List Lexeme → CheckFault

@@ -12,10 +12,10 @@ use Rattle.ir_tree.specs.declared.module.CheckFault.TheVariants as fault
 use Rattle.ir_tree.specs.declared.tree.Function.{Function}
 use Rattle.ir_forms.specs.Spelling.{Spells}
 use Rattle.ir_forms.specs.Refusals.{RefusedAs, StopsUnfit, StopsPast}
-use Rattle.ir_reader.specs.declared.written.WrittenFunction.{WrittenFunction}
-use Rattle.ir_reader.specs.Reasons.{reason}
-use Rattle.ir_reader.specs.Grammar.{define}
-use Rattle.ir_reader.specs.Numbering.{numbered}
+use Rattle.ir_grammar.specs.declared.written.WrittenFunction.{WrittenFunction}
+use Rattle.ir_grammar.specs.Reasons.{reason}
+use Rattle.ir_grammar.specs.Grammar.{define}
+use Rattle.ir_numbering.specs.Numbering.{numbered}
 
 -- a refusal at a place
 abbrev pub refused_at : Reason → Place → Refused

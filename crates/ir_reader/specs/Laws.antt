@@ -1,16 +1,13 @@
 -- What is one of a text.
-use Rattle.std.specs.Prelude.{◌≡◌, ◌⊎◌, ℕ, List, length, Result}
+use Rattle.std.specs.Prelude.{◌≡◌, ◌⊎◌, ℕ, List, Result}
 use Rattle.ir_lexer.specs.Lexeme.{Lexeme}
-use Rattle.ir_tree.specs.Sites.{sites, AreNumbered}
 use Rattle.ir_tree.specs.declared.module.Module.{Module}
 use Rattle.ir_tree.specs.declared.module.Refused.{Refused}
 use Rattle.ir_tree.specs.declared.tree.Function.{Function}
 use Rattle.ir_reader.specs.declared.fault.ModuleFault.{ModuleFault}
 use Rattle.ir_reader.specs.declared.fault.ModuleFault.TheVariants.{NoMemory}
-use Rattle.ir_reader.specs.declared.written.WrittenFunction.{WrittenFunction}
 use Rattle.ir_reader.specs.Functions.{IsFunction}
 use Rattle.ir_reader.specs.Module.{IsModule, IsFault}
-use Rattle.ir_reader.specs.Numbering.{numbered}
 
 -- the tokens of a define are one function, or are refused in one way
 abbrev pub OneFunction : Type 0
@@ -27,11 +24,3 @@ ModuleOrFault = (text : List ℕ) (m : Module) (fault : ModuleFault) → IsModul
 -- a text has one fault, or memory runs out
 abbrev pub OneFault : Type 0
 OneFault = (text : List ℕ) (f g : ModuleFault) → IsFault text f → IsFault text g → (f ≡ g) ⊎ (f ≡ NoMemory) ⊎ (g ≡ NoMemory)
-
--- a function that was read has a place for each site
-abbrev pub APlaceForEachSite : Type 0
-APlaceForEachSite = (w : WrittenFunction) → length (numbered w).places ≡ length (sites (numbered w))
-
--- and each of its names stands in its table
-abbrev pub EachNameIsNumbered : Type 0
-EachNameIsNumbered = (w : WrittenFunction) → AreNumbered (numbered w)

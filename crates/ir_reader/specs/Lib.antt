@@ -1,13 +1,3 @@
-pub mod Numbers
-pub mod Words
-pub mod Reasons
-pub mod Spelling
-pub mod Classes
-pub mod Instructions
-pub mod Grammar
-pub mod EntryName
-pub mod Places
-pub mod Numbering
 pub mod Functions
 pub mod Module
 pub mod Judgeable

@@ -5,14 +5,12 @@ ghost use Rattle.ir_reader.specs.Functions as spec;
 ghost use Rattle.ir_reader.specs.Functions.{Answers};
 ghost use Rattle.ir_reader.specs.Answer.{Writes, Tests, fault_at};
 
-use crate::cursor::Cursor;
-use crate::numbering::numbered;
-use crate::reasons::reason_at;
-use crate::written::WrittenFunction;
 use assigned_names::check_assigned;
 use ir_check::{check_edges, check_names, check_types};
 use ir_forms::ReadFault;
+use ir_grammar::{Cursor, WrittenFunction, reason_at};
 use ir_lexer::Token;
+use ir_numbering::numbered;
 use ir_tree::{CheckFault, Function, Reason, Refused};
 use std::alloc::Global;
 use text_places::Place;

@@ -4,7 +4,7 @@ use Rattle.ir_tree.specs.Sites.{AreNumbered}
 use Rattle.ir_tree.specs.WellFormed.{IsWellFormed}
 use Rattle.ir_tree.specs.declared.tree.Function.{Function}
 use Rattle.ir_reader.specs.Functions.{IsFunction, well_formed}
-use Rattle.ir_reader.proofs.NumberedSites.{whole}
+use Rattle.ir_numbering.proofs.NumberedSites.{whole}
 use Rattle.ir_reader.proofs.Answers.{answers-tested}
 use Rattle.ir_reader.proofs.functions.function.Goals as goal
 

@@ -1,0 +1,12 @@
+use Rattle.std.proofs.Common.{true, length}
+use Rattle.ir_forms.specs.Form.{read}
+use Rattle.ir_forms.proofs.Loops.{Left}
+use Rattle.ir_grammar.specs.Classes.{any}
+use Rattle.ir_grammar.specs.Grammar.{is_comma, line_comma, with_comma, behind_commas}
+use Rattle.ir_grammar.proofs.cursor.Cursor.behind_commas.Given as goal
+
+abbrev pub invariant-loop-next : goal.invariant-loop-next
+invariant-loop-next l = Left is_comma line_comma (λ l. any) (λ s a ts. read true (with_comma s) ts) l.so_far l.self (read true (behind_commas l.fn.line) l.fn.self)
+
+abbrev pub decreases-loop-next : goal.decreases-loop-next
+decreases-loop-next l = length l.self

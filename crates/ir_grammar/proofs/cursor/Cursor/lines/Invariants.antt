@@ -1,0 +1,11 @@
+use Rattle.std.proofs.Common.{true, length}
+use Rattle.ir_forms.specs.Form.{read}
+use Rattle.ir_forms.proofs.Loops.{Left}
+use Rattle.ir_grammar.specs.Grammar.{starts_line, line_begins, line_within, next_line, lines}
+use Rattle.ir_grammar.proofs.cursor.Cursor.lines.Given as goal
+
+abbrev pub invariant-loop-next : goal.invariant-loop-next
+invariant-loop-next l = Left starts_line line_begins line_within (λ s a ts. read true (next_line s a) ts) l.so_far l.self (read true (lines l.fn.is_new l.fn.room) l.fn.self)
+
+abbrev pub decreases-loop-next : goal.decreases-loop-next
+decreases-loop-next l = length l.self

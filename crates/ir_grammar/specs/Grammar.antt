@@ -1,0 +1,362 @@
+-- Which tokens spell a function with a body (LLVM Language Reference, "Functions").
+use Rattle.std.specs.Prelude.{refl, ℕ, List, [], ◌∷◌, ◌++◌, length, ◌+◌, ◌-◌, ◌==◌, if◌then◌else◌, Option, Some, None, Bool, true, false, ◌&&◌, ◌||◌, not, codes, nat_lt, is_some}
+use Rattle.tv_num.specs.declared.Width.{Width}
+use Rattle.text_places.specs.declared.place.Place.{Place}
+use Rattle.ir_lexer.specs.declared.token.Kind.{Kind}
+use Rattle.ir_lexer.specs.declared.token.Kind.TheVariants as kind
+use Rattle.ir_lexer.specs.Lexeme.{Lexeme}
+use Rattle.ir_tree.specs.Types.{one_bit}
+use Rattle.ir_forms.specs.declared.bracket.Bracket.TheVariants.{Round}
+use Rattle.ir_forms.specs.Form.{Form, never, either, give, one, upto, peek, tail, balanced, mapped, ◌>>=◌}
+use Rattle.ir_grammar.specs.declared.word.LineStart.{LineStart}
+use Rattle.ir_grammar.specs.declared.word.LineStart.TheVariants as start
+use Rattle.ir_grammar.specs.declared.word.TerminatorWord.{TerminatorWord}
+use Rattle.ir_grammar.specs.declared.word.TerminatorWord.TheVariants as finish
+use Rattle.ir_grammar.specs.declared.word.ParameterPart.{ParameterPart}
+use Rattle.ir_grammar.specs.declared.word.ParameterPart.TheVariants as part
+use Rattle.ir_grammar.specs.declared.word.HeaderPart.{HeaderPart}
+use Rattle.ir_grammar.specs.declared.word.HeaderPart.TheVariants as header
+use Rattle.ir_grammar.specs.declared.written.WrittenType.{WrittenType}
+use Rattle.ir_grammar.specs.declared.written.WrittenParameter.{WrittenParameter}
+use Rattle.ir_grammar.specs.declared.written.WrittenParameters.{WrittenParameters}
+use Rattle.ir_grammar.specs.declared.written.WrittenLines.{WrittenLines}
+use Rattle.ir_grammar.specs.declared.written.WrittenPhi.{WrittenPhi}
+use Rattle.ir_grammar.specs.declared.written.WrittenLine.{WrittenLine}
+use Rattle.ir_grammar.specs.declared.written.WrittenLine.TheVariants as line
+use Rattle.ir_grammar.specs.declared.written.WrittenCase.{WrittenCase}
+use Rattle.ir_grammar.specs.declared.written.WrittenTerminator.{WrittenTerminator}
+use Rattle.ir_grammar.specs.declared.written.WrittenTerminator.TheVariants as end
+use Rattle.ir_grammar.specs.declared.written.WrittenBody.{WrittenBody}
+use Rattle.ir_grammar.specs.declared.written.WrittenBlocks.{WrittenBlocks}
+use Rattle.ir_grammar.specs.declared.written.WrittenName.{WrittenName}
+use Rattle.ir_grammar.specs.declared.written.WrittenReturn.{WrittenReturn}
+use Rattle.ir_grammar.specs.declared.written.WrittenReturn.TheVariants.{Void, Value}
+use Rattle.ir_grammar.specs.declared.written.WrittenFunction.{WrittenFunction}
+use Rattle.ir_grammar.specs.Words.{is_mark_of, prefix_of}
+use Rattle.ir_grammar.specs.Spelling.{parameter_part, header_part, line_start, label_of, named_at, width_in, typed_at, is_width}
+use Rattle.ir_grammar.specs.Classes.{any, word, mark, mark_or_type, brace, as_mark, local, global, counted_type, int_type, bit_type, return_type, operand_class, literal_class, terminator_word, attachment_word, metadata_number, comdat_name}
+use Rattle.ir_grammar.specs.Instructions.{line_named, entry_or_attachment}
+
+abbrev pub is_comma : Lexeme → Bool
+is_comma t = is_mark_of t.kind t.text (codes ",")
+
+-- ---- before the return type
+
+abbrev pub is_prefix : Lexeme → Bool
+is_prefix t = is_some (prefix_of t.kind t.text false)
+
+abbrev pub next_prefix : Bool → Lexeme → Option Bool
+next_prefix no_undef t = prefix_of t.kind t.text no_undef
+
+-- words, and whether noundef is one of them
+unfoldable pub prefixes : Form (either never (either is_prefix never)) Bool
+prefixes = tail is_prefix next_prefix (λ s. any) (λ s more. give more) (give false)
+
+-- ---- parameters
+
+abbrev pub most_parameters : ℕ
+most_parameters = 16
+
+abbrev pub new_parameter : WrittenType → WrittenParameter
+new_parameter type = record { of_type = type; no_undef = false; name = None }
+
+abbrev pub follows_parameter : Lexeme → Bool
+follows_parameter t = is_some (parameter_part false t.kind t.text t.place)
+
+abbrev pub parameter_begins : WrittenParameters → Lexeme → Option ParameterPart
+parameter_begins s t = parameter_part (is_some s.last.name) t.kind t.text t.place
+
+-- attributes, a name or none, and behind a comma the next type; a parameter is counted at its type
+abbrev pub with_part : WrittenParameters → ParameterPart → Form never WrittenParameters
+with_part s part.NoUndef = give (record { before = s.before; last = record { of_type = s.last.of_type; no_undef = true; name = s.last.name } })
+with_part s part.Extension = give s
+with_part s (part.Name name) = give (record { before = s.before; last = record { of_type = s.last.of_type; no_undef = s.last.no_undef; name = Some name } })
+with_part s part.Next = one (counted_type (nat_lt (length s.before + 1) most_parameters)) >>= λ type. give (record { before = s.before ++ s.last ∷ []; last = new_parameter type })
+
+-- the parameters behind the type of the first
+unfoldable pub parameter_parts : WrittenType → Form (either never (either follows_parameter never)) WrittenParameters
+parameter_parts type = tail follows_parameter parameter_begins (λ s. any) with_part (give (record { before = []; last = new_parameter type }))
+
+unfoldable pub first_parameter : WrittenType → Form never (List WrittenParameter)
+first_parameter type = do
+  all ← upto (parameter_parts type) (λ s. mark (codes ")") refl) (λ s. refl)
+  give (all.0.before ++ all.0.last ∷ [])
+
+-- the parameters, by commas, and the closing parenthesis
+unfoldable pub parameters : Form never (List WrittenParameter)
+parameters = peek (mark (codes ")") refl) (λ closed. give []) int_type first_parameter
+
+-- ---- behind the parameters
+
+abbrev pub follows_header : Lexeme → Bool
+follows_header t = is_some (header_part true t.kind t.text)
+
+abbrev pub header_begins : Bool → Lexeme → Option HeaderPart
+header_begins behind_comdat t = header_part behind_comdat t.kind t.text
+
+-- $name )
+unfoldable pub comdat_rest : Form never Bool
+comdat_rest = do
+  name ← one comdat_name
+  closing ← one (mark (codes ")") refl)
+  give false
+
+-- !number
+unfoldable pub debug_rest : Form never Bool
+debug_rest = do
+  number ← one metadata_number
+  give false
+
+abbrev pub with_header : Bool → HeaderPart → Form never Bool
+with_header s header.Attribute = give false
+with_header s header.Comdat = give true
+with_header s header.Opening = comdat_rest
+with_header s header.Debug = debug_rest
+
+-- attributes, comdat with a name or none, and !dbg; whether comdat came last
+unfoldable pub header_parts : Form (either never (either follows_header never)) Bool
+header_parts = tail follows_header header_begins (λ s. any) with_header (give false)
+
+-- ---- the lines of a block
+
+-- how many instructions a function may have, the last one of each block counted
+abbrev pub most_insts : ℕ
+most_insts = 65536
+
+-- behind the comma: !word !number
+unfoldable pub attachment : Form never (Unit {0})
+attachment = do
+  kind_word ← one attachment_word
+  number ← one metadata_number
+  give tt
+
+-- behind the word of a record: what stands in parentheses
+unfoldable pub record_rest : Form never (Unit {0})
+record_rest = do
+  opening ← one (mark (codes "(") refl)
+  balanced Round
+
+abbrev pub is_local_kind : Kind → Bool
+is_local_kind kind.Local = true
+is_local_kind _ = false
+
+abbrev pub is_label_kind : Kind → Bool
+is_label_kind kind.Label = true
+is_label_kind _ = false
+
+abbrev pub is_hash_kind : Kind → Bool
+is_hash_kind kind.Hash = true
+is_hash_kind _ = false
+
+abbrev pub starts_line : Lexeme → Bool
+starts_line t = is_local_kind t.kind || is_label_kind t.kind || is_hash_kind t.kind
+
+abbrev pub line_begins : WrittenLines → Lexeme → Option LineStart
+line_begins s t = line_start s.is_new t.kind t.text t.place
+
+-- an instruction is counted at its first token
+abbrev pub line_within : WrittenLines → Lexeme → Bool
+line_within s t = not (is_local_kind t.kind) || nat_lt 0 s.room
+
+-- a phi may stand only before all other instructions of its block
+abbrev pub may_have_phi : WrittenLines → Bool
+may_have_phi s = length s.insts == 0
+
+-- what stands before the first comma of a line
+abbrev pub started : Bool → LineStart → Form never WrittenLine
+started phi_too (start.Label name) = give (line.Label name)
+started phi_too (start.Inst name) = line_named phi_too name
+started phi_too start.Record = record_rest >>= λ passed. give line.Record
+
+abbrev pub takes_comma : WrittenLine → Bool
+takes_comma (line.Label name) = false
+takes_comma line.Record = false
+takes_comma (line.Entries phi) = true
+takes_comma (line.Phi phi) = true
+takes_comma (line.Inst inst) = true
+
+abbrev pub line_comma : WrittenLine → Lexeme → Option (Unit {0})
+line_comma l t = (if takes_comma l then as_mark (codes ",") t else None)
+
+-- behind a comma an attachment, or another entry of a phi
+abbrev pub with_comma : WrittenLine → Form never WrittenLine
+with_comma (line.Label name) = give (line.Label name)
+with_comma line.Record = give line.Record
+with_comma (line.Entries phi) = entry_or_attachment phi
+with_comma (line.Phi phi) = attachment >>= λ passed. give (line.Phi phi)
+with_comma (line.Inst inst) = attachment >>= λ passed. give (line.Inst inst)
+
+abbrev pub commas : Lexeme → Bool
+commas = either never (either is_comma never)
+
+-- what was read of a line, with what stands behind its commas
+unfoldable pub behind_commas : WrittenLine → Form commas WrittenLine
+behind_commas l = tail is_comma line_comma (λ l'. any) (λ l' comma. with_comma l') (give l)
+
+unfoldable pub whole_line : WrittenLines → LineStart → Form commas WrittenLine
+whole_line s a = tail is_comma line_comma (λ l. any) (λ l comma. with_comma l) (started (may_have_phi s) a)
+
+abbrev pub with_phi : WrittenLines → WrittenPhi → WrittenLines
+with_phi s phi = record { label = s.label; phis = s.phis ++ phi ∷ []; insts = s.insts; is_new = false; room = s.room - 1 }
+
+abbrev pub with_line : WrittenLines → WrittenLine → WrittenLines
+with_line s (line.Label name) = record { label = Some name; phis = s.phis; insts = s.insts; is_new = false; room = s.room }
+with_line s line.Record = record { label = s.label; phis = s.phis; insts = s.insts; is_new = false; room = s.room }
+with_line s (line.Entries phi) = with_phi s phi
+with_line s (line.Phi phi) = with_phi s phi
+with_line s (line.Inst inst) = record { label = s.label; phis = s.phis; insts = s.insts ++ inst ∷ []; is_new = false; room = s.room - 1 }
+
+unfoldable pub next_line : WrittenLines → LineStart → Form (either commas never) WrittenLines
+next_line s a = mapped (with_line s) (whole_line s a)
+
+-- a block before its first line; a label may follow where it is new
+abbrev pub opened : Bool → ℕ → WrittenLines
+opened is_new room = record { label = None; phis = []; insts = []; is_new = is_new; room = room }
+
+-- a label or none, and instructions with what is attached to them and records between them
+unfoldable pub lines : Bool → ℕ → Form (either never (either starts_line (either commas never))) WrittenLines
+lines is_new room = tail starts_line line_begins line_within next_line (give (opened is_new room))
+
+-- ---- the last instruction of a block
+
+-- behind a type: its value, or nothing behind void
+abbrev pub returned_by : Option Width → Place → Form never WrittenReturn
+returned_by None at = give (Void at)
+returned_by (Some width) at = one (operand_class true width) >>= λ value. give (Value (record { of_type = record { width = width; at = at }; operand = value }))
+
+-- behind ret: void, or type value
+unfoldable pub returned : Form never WrittenReturn
+returned = one return_type >>= λ type. returned_by type.width type.at
+
+-- label %block
+unfoldable pub target : Form never WrittenName
+target = do
+  label_word ← one (word (codes "label") refl)
+  one local
+
+-- value, label %block, label %block, behind i1
+unfoldable pub cond_branch : Place → Form never WrittenTerminator
+cond_branch bit = do
+  condition ← one (operand_class false one_bit)
+  comma ← one (mark (codes ",") refl)
+  if_true ← target
+  comma' ← one (mark (codes ",") refl)
+  if_false ← target
+  give (end.CondBranch bit condition if_true if_false)
+
+unfoldable pub branch_to : Form never WrittenTerminator
+branch_to = do
+  to ← one local
+  give (end.Branch to)
+
+-- behind br: a label, or i1 and what it chooses
+unfoldable pub branch : Form never WrittenTerminator
+branch = peek (word (codes "label") refl) (λ label_word. branch_to) bit_type cond_branch
+
+-- how many cases a switch may have
+abbrev pub most_cases : ℕ
+most_cases = 256
+
+abbrev pub is_type : Lexeme → Bool
+is_type t = is_some (width_in t)
+
+abbrev pub case_begins : List WrittenCase → Lexeme → Option WrittenType
+case_begins s t = typed_at (width_in t) t.place
+
+-- a case is counted at its type
+abbrev pub case_within : List WrittenCase → Lexeme → Bool
+case_within s t = nat_lt (length s) most_cases && is_width (width_in t)
+
+-- literal, label %block, behind the type
+unfoldable pub with_case : List WrittenCase → WrittenType → Form never (List WrittenCase)
+with_case s type = do
+  literal ← one (literal_class type.width)
+  comma ← one (mark (codes ",") refl)
+  to ← target
+  give (s ++ (record { of_type = type; literal = literal; to = to }) ∷ [])
+
+unfoldable pub cases : Form (either never (either is_type never)) (List WrittenCase)
+cases = tail is_type case_begins case_within with_case (give [])
+
+-- behind switch: type value, label %block [ cases ]
+unfoldable pub switch : Form never WrittenTerminator
+switch = do
+  type ← one int_type
+  value ← one (operand_class false type.width)
+  comma ← one (mark (codes ",") refl)
+  default ← target
+  opening ← one (mark (codes "[") refl)
+  all ← upto cases (λ s. mark_or_type (codes "]") refl) (λ s. refl)
+  give (end.Switch type value default all.0)
+
+unfoldable pub return_of : Form never WrittenTerminator
+return_of = do
+  value ← returned
+  give (end.Return value)
+
+abbrev pub terminator_by : TerminatorWord → Form never WrittenTerminator
+terminator_by finish.Return = return_of
+terminator_by finish.Branch = branch
+terminator_by finish.Switch = switch
+terminator_by finish.Unreachable = give end.Unreachable
+
+abbrev pub comma_begins : Unit {0} → Lexeme → Option (Unit {0})
+comma_begins s t = as_mark (codes ",") t
+
+-- attachments of the last instruction of a block
+unfoldable pub attachments : Form (either never (either is_comma never)) (Unit {0})
+attachments = tail is_comma comma_begins (λ s. any) (λ s comma. attachment) (give tt)
+
+-- ---- blocks
+
+-- the lines of a block and its last instruction, with what is attached to it
+unfoldable pub block : Bool → ℕ → Form (either commas never) (WrittenLines × WrittenTerminator)
+block is_new room = do
+  all ← upto (lines is_new room) (λ s. terminator_word (nat_lt 0 s.room)) (λ s. refl)
+  last ← terminator_by all.1
+  mapped (λ passed. (all.0, last)) attachments
+
+abbrev pub body_of : WrittenLines × WrittenTerminator → WrittenBody
+body_of b = record { phis = b.0.phis; insts = b.0.insts; terminator = b.1 }
+
+-- the entry, whose label may stand or not
+abbrev pub entry_alone : WrittenLines × WrittenTerminator → WrittenBlocks
+entry_alone b = record { label = b.0.label; entry = body_of b; others = []; room = b.0.room - 1 }
+
+unfoldable pub entry_block : Form (either (either commas never) never) WrittenBlocks
+entry_block = mapped entry_alone (block true most_insts)
+
+abbrev pub begins_block : Lexeme → Bool
+begins_block t = is_label_kind t.kind
+
+abbrev pub block_begins : WrittenBlocks → Lexeme → Option WrittenName
+block_begins s t = named_at (label_of t.kind t.text) t.place
+
+abbrev pub with_block : WrittenBlocks → WrittenName → WrittenLines × WrittenTerminator → WrittenBlocks
+with_block s name b = record { label = s.label; entry = s.entry; others = s.others ++ (record { label = name; body = body_of b }) ∷ []; room = b.0.room - 1 }
+
+-- a block behind its label
+unfoldable pub next_block : WrittenBlocks → WrittenName → Form (either (either commas never) never) WrittenBlocks
+next_block s name = mapped (with_block s name) (block false s.room)
+
+-- what was read of the blocks, and others, each behind its label
+unfoldable pub other_blocks : WrittenBlocks → Form (either never (either begins_block (either (either commas never) never))) WrittenBlocks
+other_blocks s = tail begins_block block_begins (λ s'. any) next_block (give s)
+
+-- the entry, and others, each behind its label
+unfoldable pub blocks : Form (either (either (either commas never) never) (either begins_block (either (either commas never) never))) WrittenBlocks
+blocks = tail begins_block block_begins (λ s. any) next_block entry_block
+
+-- ---- functions
+
+-- define words type @name(parameters) words { blocks }
+unfoldable pub define : Form never WrittenFunction
+define = do
+  head ← one (word (codes "define") refl)
+  type ← upto prefixes (λ s. return_type) (λ s. refl)
+  name ← one global
+  opening ← one (mark (codes "(") refl)
+  all ← parameters
+  body ← upto header_parts (λ s. brace) (λ s. refl)
+  closed ← upto blocks (λ s. mark (codes "}") refl) (λ s. refl)
+  give (record { returns_no_undef = type.0; returns = type.1; name = name; parameters = all; brace = body.1; label = closed.0.label; entry = closed.0.entry; others = closed.0.others })

@@ -1,0 +1,442 @@
+// Reading one token.
+ghost use Rattle.std.specs.Prelude.{◌≡◌, [], true, codes};
+ghost use Rattle.ir_forms.specs.Form.{one_of, token_of, begin_of, reads, read, balanced};
+ghost use Rattle.ir_forms.specs.Answer.{Reads, Passes};
+ghost use Rattle.ir_grammar.specs.Reasons.{reason, type_reason};
+ghost use Rattle.ir_grammar.specs.Spelling.{bits_behind, spelled_width, width_in, word_value, truth_value, is_void};
+ghost use Rattle.ir_grammar.specs.Classes.{as_word, as_mark, any, passed, brace, local, global, int_type, counted_type, bit_type, return_type, operand_class, literal_class, line_word, terminator_word, predicate_class};
+
+use crate::numbers::{literal, some_digits, width};
+use crate::reasons::{reason_at, type_reason_at};
+use crate::word::{LineWord, TerminatorWord, line_word_of, predicate_of, terminator_of};
+use crate::written::{
+    WrittenLiteral, WrittenName, WrittenOperand, WrittenReturnType, WrittenType, WrittenValue,
+};
+use ir_forms::{Bracket, ReadFault, pass_bracket};
+use ir_items::name_behind_sign;
+use ir_lexer::{Kind, Token};
+use ir_tree::{Predicate, Reason};
+use std::alloc::Global;
+use std::marker::Model;
+use support::Sequence;
+use text_places::Place;
+use tv_num::Width;
+
+/// The tokens that are left to read. Contracts see them as a list.
+#[derive(Drop)]
+pub struct Cursor<'a, 'b> {
+    alloc: Global,
+    rest: &'b [Token<'a>],
+}
+
+impl<'a, 'b> Model for Cursor<'a, 'b> {
+    ghost use Rattle.std.specs.Prelude.{List};
+    ghost use Rattle.ir_lexer.specs.Lexeme.{Lexeme};
+
+    ghost Value = { List Lexeme };
+
+    ghost view = { λ r. r.rest.now };
+}
+
+impl<'a, 'b> Cursor<'a, 'b> {
+    /// A cursor before these tokens; what is read takes its memory from the allocator.
+    pub fn new(alloc: Global, tokens: &'b [Token<'a>]) -> Self
+        ensures { result ≡ tokens.now }
+    {
+        Cursor {
+            alloc,
+            rest: tokens,
+        }
+    }
+
+    /// Where what is read takes its memory from.
+    pub fn alloc(&self) -> Global {
+        self.alloc
+    }
+
+    /// A list without items. It takes no memory.
+    pub fn no_items<T>(&self) -> Sequence<T>
+        ensures { result ≡ [] }
+    {
+        Sequence::from_vec(Vec::new(self.alloc))
+    }
+
+    /// What is left.
+    pub fn left(&self) -> &'b [Token<'a>]
+        ensures { result.now ≡ self.now }
+    {
+        self.rest
+    }
+
+    /// Goes on there.
+    pub fn go_to(&mut self, rest: &'b [Token<'a>])
+        ensures { self.new ≡ rest.now }
+    {
+        self.rest = rest;
+    }
+
+    /// Passes a word.
+    pub fn word(&mut self, text: &[u8]) -> Result<(), ReadFault>
+        ensures { Passes result self.new (token_of true (as_word text.now) any reason self.old) }
+    {
+        let [first, rest @ ..] = self.rest else {
+            return Err(ReadFault::Unfit(Reason::Syntax));
+        };
+        if first.kind() == Kind::Word && first.text() == text {
+            self.rest = rest;
+            Ok(())
+        } else {
+            Err(ReadFault::Unfit(reason_at(first)))
+        }
+    }
+
+    /// Passes a mark.
+    pub fn mark(&mut self, text: &[u8]) -> Result<(), ReadFault>
+        ensures { Passes result self.new (token_of true (as_mark text.now) any reason self.old) }
+    {
+        let [first, rest @ ..] = self.rest else {
+            return Err(ReadFault::Unfit(Reason::Syntax));
+        };
+        if first.kind() == Kind::Mark && first.text() == text {
+            self.rest = rest;
+            Ok(())
+        } else {
+            Err(ReadFault::Unfit(reason_at(first)))
+        }
+    }
+
+    /// Passes a mark where a type could stand.
+    pub fn mark_or_type(&mut self, text: &[u8]) -> Result<(), ReadFault>
+        ensures { Passes result self.new (token_of true (as_mark text.now) any type_reason self.old) }
+    {
+        let [first, rest @ ..] = self.rest else {
+            return Err(ReadFault::Unfit(Reason::Syntax));
+        };
+        if first.kind() == Kind::Mark && first.text() == text {
+            self.rest = rest;
+            Ok(())
+        } else {
+            Err(ReadFault::Unfit(type_reason_at(first)))
+        }
+    }
+
+    /// Passes the mark that opens a body, and tells its place.
+    pub fn brace(&mut self) -> Result<Place, ReadFault>
+        ensures { Reads (λ x. x) result self.new (one_of true brace self.old) }
+    {
+        let [first, rest @ ..] = self.rest else {
+            return Err(ReadFault::Unfit(Reason::Syntax));
+        };
+        if first.kind() == Kind::Mark && first.text() == b"{".as_slice() {
+            self.rest = rest;
+            Ok(first.place())
+        } else {
+            Err(ReadFault::Unfit(reason_at(first)))
+        }
+    }
+
+    /// Passes what stands inside a bracket that was opened, and the mark that closes it.
+    pub fn bracket(&mut self, bracket: Bracket) -> Result<(), ReadFault>
+        ensures { Passes result self.new (read true (balanced bracket) self.old) }
+    {
+        pass_bracket(self.alloc, bracket, &mut self.rest)
+    }
+
+    /// Passes a mark, if it stands next.
+    pub fn eat_mark(&mut self, text: &[u8]) -> bool
+        ensures { begin_of true any (as_mark text.now) any self.old ≡ reads (passed result) self.new }
+    {
+        let [first, rest @ ..] = self.rest else {
+            return false;
+        };
+        if first.kind() == Kind::Mark && first.text() == text {
+            self.rest = rest;
+            return true;
+        }
+        false
+    }
+
+    /// Passes a mark, if it stands next, where there is room for what it begins.
+    pub fn eat_counted_mark(&mut self, text: &[u8], room: bool) -> Result<bool, ReadFault>
+        ensures { Reads passed result self.new (begin_of true any (as_mark text.now) (λ t. room) self.old) }
+    {
+        let [first, rest @ ..] = self.rest else {
+            return Ok(false);
+        };
+        if first.kind() != Kind::Mark || first.text() != text {
+            return Ok(false);
+        }
+        if !room {
+            return Err(ReadFault::PastLimit);
+        }
+        self.rest = rest;
+        Ok(true)
+    }
+
+    /// Passes a word, if it stands next.
+    pub fn eat_word(&mut self, text: &[u8]) -> bool
+        ensures { begin_of true any (as_word text.now) any self.old ≡ reads (passed result) self.new }
+    {
+        let [first, rest @ ..] = self.rest else {
+            return false;
+        };
+        if first.kind() == Kind::Word && first.text() == text {
+            self.rest = rest;
+            return true;
+        }
+        false
+    }
+
+    /// Reads a local name.
+    pub fn local(&mut self) -> Result<WrittenName, ReadFault>
+        ensures { Reads (λ x. x) result self.new (one_of true local self.old) }
+    {
+        let [first, rest @ ..] = self.rest else {
+            return Err(ReadFault::Unfit(Reason::Syntax));
+        };
+        if first.kind() != Kind::Local {
+            return Err(ReadFault::Unfit(reason_at(first)));
+        }
+        let name = name_behind_sign(self.alloc, first.text())?;
+        self.rest = rest;
+        let at = first.place();
+        Ok(WrittenName { name, at })
+    }
+
+    /// Reads a global name.
+    pub fn global(&mut self) -> Result<WrittenName, ReadFault>
+        ensures { Reads (λ x. x) result self.new (one_of true global self.old) }
+    {
+        let [first, rest @ ..] = self.rest else {
+            return Err(ReadFault::Unfit(Reason::Syntax));
+        };
+        if first.kind() != Kind::Global {
+            return Err(ReadFault::Unfit(reason_at(first)));
+        }
+        let name = name_behind_sign(self.alloc, first.text())?;
+        self.rest = rest;
+        let at = first.place();
+        Ok(WrittenName { name, at })
+    }
+
+    /// Reads an integer type.
+    pub fn int_type(&mut self) -> Result<WrittenType, ReadFault>
+        ensures { Reads (λ x. x) result self.new (one_of true int_type self.old) }
+    {
+        self.counted_type(true)
+    }
+
+    /// Reads an integer type, where there is room for one more of what it is counted as.
+    pub fn counted_type(&mut self, room: bool) -> Result<WrittenType, ReadFault>
+        ensures { Reads (λ x. x) result self.new (one_of true (counted_type room) self.old) }
+    {
+        let [first, rest @ ..] = self.rest else {
+            return Err(ReadFault::Unfit(Reason::Syntax));
+        };
+        match width_in(first) {
+            None => Err(ReadFault::Unfit(type_reason_at(first))),
+            Some(None) => Err(ReadFault::PastLimit),
+            Some(Some(width)) => {
+                if !room {
+                    return Err(ReadFault::PastLimit);
+                }
+                self.rest = rest;
+                let at = first.place();
+                Ok(WrittenType { width, at })
+            }
+        }
+    }
+
+    /// Passes the type of one bit, and tells its place.
+    pub fn bit_type(&mut self) -> Result<Place, ReadFault>
+        ensures { Reads (λ x. x) result self.new (one_of true bit_type self.old) }
+    {
+        let [first, rest @ ..] = self.rest else {
+            return Err(ReadFault::Unfit(Reason::Syntax));
+        };
+        match width_in(first) {
+            None => Err(ReadFault::Unfit(type_reason_at(first))),
+            Some(None) => Err(ReadFault::Unfit(Reason::Limit)),
+            Some(Some(width)) => {
+                if width.bits() != 1 {
+                    return Err(ReadFault::Unfit(type_reason_at(first)));
+                }
+                self.rest = rest;
+                Ok(first.place())
+            }
+        }
+    }
+
+    /// Reads `void` or an integer type.
+    pub fn return_type(&mut self) -> Result<WrittenReturnType, ReadFault>
+        ensures { Reads (λ x. x) result self.new (one_of true return_type self.old) }
+    {
+        let [first, rest @ ..] = self.rest else {
+            return Err(ReadFault::Unfit(Reason::Syntax));
+        };
+        let at = first.place();
+        if is_void(first) {
+            self.rest = rest;
+            return Ok(WrittenReturnType { width: None, at });
+        }
+        match width_in(first) {
+            None => Err(ReadFault::Unfit(type_reason_at(first))),
+            Some(None) => Err(ReadFault::PastLimit),
+            Some(Some(width)) => {
+                self.rest = rest;
+                let width = Some(width);
+                Ok(WrittenReturnType { width, at })
+            }
+        }
+    }
+
+    /// Reads an operand of a type, `undef` only where it may stand.
+    pub fn operand(&mut self, undef_too: bool, width: Width) -> Result<WrittenOperand, ReadFault>
+        ensures { Reads (λ x. x) result self.new (one_of true (operand_class undef_too width) self.old) }
+    {
+        let [first, rest @ ..] = self.rest else {
+            return Err(ReadFault::Unfit(Reason::Syntax));
+        };
+        let value = match (first.kind(), first.text()) {
+            (Kind::Local, text) => WrittenValue::Local(name_behind_sign(self.alloc, text)?),
+            (Kind::Number, text) => match literal(width, text) {
+                Some(value) => WrittenValue::Literal(value),
+                None => return Err(ReadFault::PastLimit),
+            },
+            (Kind::Word, text) => match word_value(undef_too, width, text) {
+                Some(value) => value,
+                None => return Err(ReadFault::Unfit(reason_at(first))),
+            },
+            _ => return Err(ReadFault::Unfit(reason_at(first))),
+        };
+        self.rest = rest;
+        let at = first.place();
+        Ok(WrittenOperand { value, at })
+    }
+
+    /// Reads a literal of a type.
+    pub fn literal(&mut self, width: Width) -> Result<WrittenLiteral, ReadFault>
+        ensures { Reads (λ x. x) result self.new (one_of true (literal_class width) self.old) }
+    {
+        let [first, rest @ ..] = self.rest else {
+            return Err(ReadFault::Unfit(Reason::Syntax));
+        };
+        let value = match (first.kind(), first.text()) {
+            (Kind::Number, text) => match literal(width, text) {
+                Some(value) => value,
+                None => return Err(ReadFault::PastLimit),
+            },
+            (Kind::Word, text) => match truth_value(width, text) {
+                Some(value) => value,
+                None => return Err(ReadFault::Unfit(reason_at(first))),
+            },
+            _ => return Err(ReadFault::Unfit(reason_at(first))),
+        };
+        self.rest = rest;
+        let at = first.place();
+        Ok(WrittenLiteral { value, at })
+    }
+
+    /// Reads the word that names an instruction behind its result, a phi only where one may stand.
+    pub fn line_word(&mut self, phi_too: bool) -> Result<LineWord, ReadFault>
+        ensures { Reads (λ x. x) result self.new (one_of true (line_word phi_too) self.old) }
+    {
+        let [first, rest @ ..] = self.rest else {
+            return Err(ReadFault::Unfit(Reason::Syntax));
+        };
+        let Some(word) = line_word_of(first, phi_too) else {
+            return Err(ReadFault::Unfit(reason_at(first)));
+        };
+        self.rest = rest;
+        Ok(word)
+    }
+
+    /// Reads the word that names the last instruction of a block, where there is room for it.
+    pub fn terminator_word(&mut self, room: bool) -> Result<TerminatorWord, ReadFault>
+        ensures { Reads (λ x. x) result self.new (one_of true (terminator_word room) self.old) }
+    {
+        let [first, rest @ ..] = self.rest else {
+            return Err(ReadFault::Unfit(Reason::Syntax));
+        };
+        let Some(word) = terminator_of(first) else {
+            return Err(ReadFault::Unfit(reason_at(first)));
+        };
+        if !room {
+            return Err(ReadFault::PastLimit);
+        }
+        self.rest = rest;
+        Ok(word)
+    }
+
+    /// Reads the word that names a comparison.
+    pub fn predicate(&mut self) -> Result<Predicate, ReadFault>
+        ensures { Reads (λ x. x) result self.new (one_of true predicate_class self.old) }
+    {
+        let [first, rest @ ..] = self.rest else {
+            return Err(ReadFault::Unfit(Reason::Syntax));
+        };
+        let Some(predicate) = predicate_of(first) else {
+            return Err(ReadFault::Unfit(reason_at(first)));
+        };
+        self.rest = rest;
+        Ok(predicate)
+    }
+}
+
+// The truth value that a word spells, where the type has one bit.
+fn truth_value(width: Width, text: &[u8]) -> Option<u64>
+    ensures { result ≡ truth_value width.bits text.now }
+{
+    if width.bits() == 1 && text == b"true".as_slice() {
+        Some(1)
+    } else if width.bits() == 1 && text == b"false".as_slice() {
+        Some(0)
+    } else {
+        None
+    }
+}
+
+// What a word stands for as an operand of a type: a truth value of one bit, poison, or undef.
+fn word_value(undef_too: bool, width: Width, text: &[u8]) -> Option<WrittenValue>
+    ensures { result ≡ word_value undef_too width.bits text.now }
+{
+    if text == b"poison".as_slice() {
+        Some(WrittenValue::Poison)
+    } else if width.bits() == 1 && text == b"true".as_slice() {
+        Some(WrittenValue::Literal(1))
+    } else if width.bits() == 1 && text == b"false".as_slice() {
+        Some(WrittenValue::Literal(0))
+    } else if undef_too && text == b"undef".as_slice() {
+        Some(WrittenValue::Undef)
+    } else {
+        None
+    }
+}
+
+fn is_void(token: &Token) -> bool
+    ensures { result ≡ is_void token.now }
+{
+    token.kind() == Kind::Word && token.text() == b"void".as_slice()
+}
+
+// The width of the type that a word spells: nothing where it spells none, nothing inside where there
+// is no such width.
+fn width_behind(text: &[u8]) -> Option<Option<Width>>
+    ensures { result ≡ spelled_width (bits_behind text.now) }
+{
+    match text {
+        [b'i', digits @ ..] if some_digits(digits) => Some(width(digits)),
+        _ => None,
+    }
+}
+
+/// The width of the type that a token spells: nothing where it spells none, nothing inside where
+/// there is no such width.
+pub fn width_in(token: &Token) -> Option<Option<Width>>
+    ensures { result ≡ width_in token.now }
+{
+    match token.kind() {
+        Kind::Word => width_behind(token.text()),
+        _ => None,
+    }
+}

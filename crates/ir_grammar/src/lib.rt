@@ -1,0 +1,35 @@
+//! The grammar of a function, and a function as it is written.
+//!
+//! [`Cursor::define`] reads the tokens of one define from the left. It promises that what it reads is
+//! what the grammar spells, with names, types and literals as they stand there and the place of each,
+//! and that a stop is the first token that can't stand, with its reason, or the first that passes a
+//! limit. `specs/Grammar.antt` and `specs/Instructions.antt` have the grammar, `specs/Classes.antt`
+//! and `specs/Words.antt` its words (LLVM Language Reference). It stands on `ir_forms` for the laws of
+//! a grammar, on `ir_lexer` for the tokens and on `ir_tree` for reasons; `ir_numbering` makes a
+//! function of what is written, and the reader stands on both.
+#![tactic(auto)]
+
+mod blocks;
+mod cursor;
+mod define;
+mod instructions;
+mod laws;
+mod lines;
+mod lists;
+mod numbers;
+mod parameters;
+mod phis;
+mod reasons;
+mod terminators;
+mod word;
+mod written;
+
+pub use cursor::Cursor;
+pub use laws::is_plain_grammar;
+pub use reasons::reason_at;
+pub use written::{
+    WrittenBlock, WrittenBlocks, WrittenBody, WrittenCase, WrittenEntry, WrittenFunction,
+    WrittenInst, WrittenLine, WrittenLines, WrittenLiteral, WrittenName, WrittenOperand,
+    WrittenParameter, WrittenParameters, WrittenPhi, WrittenReturn, WrittenReturnType,
+    WrittenTerminator, WrittenType, WrittenTyped, WrittenValue,
+};

@@ -1,0 +1,352 @@
+// Reading the lines of a block and what is attached to them.
+ghost use Rattle.std.specs.Prelude.{◌≡◌, ◌||◌, ◌<◌, [], true, not};
+ghost use Rattle.ir_forms.specs.Form.{reads, read, begin_of, step_of, token_of};
+ghost use Rattle.ir_forms.specs.Answer.{Reads, Passes};
+ghost use Rattle.ir_grammar.specs.Spelling as spelling;
+ghost use Rattle.ir_grammar.specs.Spelling.{is_attached, is_numbered};
+ghost use Rattle.ir_grammar.specs.Classes.{any, attachment_word, metadata_number};
+ghost use Rattle.ir_forms.specs.Form.{one_of};
+ghost use Rattle.ir_grammar.specs.Grammar as spec;
+ghost use Rattle.ir_grammar.specs.Grammar.{is_comma, comma_begins, attachment, record_rest, is_local_kind, starts_line, line_begins, line_within, takes_comma, line_comma, with_comma};
+ghost use Rattle.ir_lexer.specs.declared.token.Kind.TheVariants as kind;
+ghost use Rattle.ir_grammar.specs.declared.written.WrittenLine.TheVariants as line;
+
+use crate::cursor::Cursor;
+use crate::lists::pushed;
+use crate::numbers::some_digits;
+use crate::reasons::reason_at;
+use crate::word::LineStart;
+use crate::written::{WrittenInst, WrittenLine, WrittenLines, WrittenName, WrittenPhi};
+use ir_forms::{Bracket, ReadFault};
+use ir_items::{name_before_colon, name_behind_sign};
+use ir_lexer::{Kind, Token};
+use ir_tree::Reason;
+use std::alloc::Global;
+use text_places::Place;
+
+fn is_attached(text: &[u8]) -> bool
+    ensures { result ≡ is_attached text.now }
+{
+    text == b"!dbg".as_slice() || text == b"!prof".as_slice() || text == b"!llvm.loop".as_slice()
+}
+
+/// Whether digits alone stand behind a sign.
+pub fn is_numbered(text: &[u8]) -> bool
+    ensures { result ≡ is_numbered text.now }
+{
+    match text {
+        [] => false,
+        [_, digits @ ..] => some_digits(digits),
+    }
+}
+
+// Whether the word of a record begins so.
+fn is_record(text: &[u8]) -> bool
+    ensures { result ≡ spelling.is_record text.now }
+{
+    match text {
+        [b'#', b'd', b'b', b'g', b'_', ..] => true,
+        _ => false,
+    }
+}
+
+// The label that a token is, where one may stand.
+fn label_start(
+    alloc: Global,
+    text: &[u8],
+    at: Place,
+    is_new: bool,
+) -> Result<Option<LineStart>, ReadFault>
+    ensures { Reads (λ x. x) result [] (reads (spelling.line_start is_new kind.Label text.now at) []) }
+{
+    if !is_new {
+        return Ok(None);
+    }
+    let name = name_before_colon(alloc, text)?;
+    Ok(Some(LineStart::Label(WrittenName { name, at })))
+}
+
+// What a token begins a line with; a label only where nothing stands before.
+fn start_at(alloc: Global, token: &Token, is_new: bool) -> Result<Option<LineStart>, ReadFault>
+    ensures { Reads (λ x. x) result [] (reads (spelling.line_start is_new token.now.kind token.now.text token.now.place) []) }
+{
+    let at = token.place();
+    match (token.kind(), token.text()) {
+        (Kind::Local, text) => {
+            let name = name_behind_sign(alloc, text)?;
+            Ok(Some(LineStart::Inst(WrittenName { name, at })))
+        }
+        (Kind::Label, text) => label_start(alloc, text, at, is_new),
+        (Kind::Hash, text) if is_record(text) => Ok(Some(LineStart::Record)),
+        _ => Ok(None),
+    }
+}
+
+fn is_local(token: &Token) -> bool
+    ensures { result ≡ is_local_kind token.now.kind }
+{
+    match token.kind() {
+        Kind::Local => true,
+        _ => false,
+    }
+}
+
+// Whether something may stand behind a comma after this line.
+fn takes_comma(line: &WrittenLine) -> bool
+    ensures { result ≡ takes_comma line.now }
+{
+    match line {
+        WrittenLine::Label(_) | WrittenLine::Record => false,
+        WrittenLine::Entries(_) | WrittenLine::Phi(_) | WrittenLine::Inst(_) => true,
+    }
+}
+
+// The lines and one more phi.
+fn with_phi(so_far: WrittenLines, phi: WrittenPhi) -> Result<WrittenLines, ReadFault>
+    ensures { Reads (λ x. x) result [] (reads (spec.with_phi so_far phi) []) }
+{
+    let phis = pushed(so_far.phis, phi)?;
+    Ok(WrittenLines {
+        label: so_far.label,
+        phis,
+        insts: so_far.insts,
+        is_new: false,
+        room: so_far.room.saturating_sub(1),
+    })
+}
+
+// The lines and one more.
+fn with_line(so_far: WrittenLines, line: WrittenLine) -> Result<WrittenLines, ReadFault>
+    ensures { Reads (λ x. x) result [] (reads (spec.with_line so_far line) []) }
+{
+    match line {
+        WrittenLine::Label(name) => Ok(WrittenLines {
+            label: Some(name),
+            phis: so_far.phis,
+            insts: so_far.insts,
+            is_new: false,
+            room: so_far.room,
+        }),
+        WrittenLine::Record => Ok(WrittenLines {
+            label: so_far.label,
+            phis: so_far.phis,
+            insts: so_far.insts,
+            is_new: false,
+            room: so_far.room,
+        }),
+        WrittenLine::Entries(phi) | WrittenLine::Phi(phi) => with_phi(so_far, phi),
+        WrittenLine::Inst(inst) => with_inst(so_far, inst),
+    }
+}
+
+// The lines and one more instruction that is no phi.
+fn with_inst(so_far: WrittenLines, inst: WrittenInst) -> Result<WrittenLines, ReadFault>
+    ensures { Reads (λ x. x) result [] (reads (spec.with_line so_far (line.Inst inst)) []) }
+{
+    let insts = pushed(so_far.insts, inst)?;
+    Ok(WrittenLines {
+        label: so_far.label,
+        phis: so_far.phis,
+        insts,
+        is_new: false,
+        room: so_far.room.saturating_sub(1),
+    })
+}
+
+impl<'a, 'b> Cursor<'a, 'b> {
+    /// Passes the word of an attachment.
+    pub fn attachment_word(&mut self) -> Result<(), ReadFault>
+        ensures { Passes result self.new (one_of true attachment_word self.old) }
+    {
+        let [first, rest @ ..] = self.left() else {
+            return Err(ReadFault::Unfit(Reason::Syntax));
+        };
+        if first.kind() == Kind::Metadata && is_attached(first.text()) {
+            self.go_to(rest);
+            Ok(())
+        } else {
+            Err(ReadFault::Unfit(reason_at(first)))
+        }
+    }
+
+    /// Passes a metadata name that is a number.
+    pub fn metadata_number(&mut self) -> Result<(), ReadFault>
+        ensures { Passes result self.new (one_of true metadata_number self.old) }
+    {
+        let [first, rest @ ..] = self.left() else {
+            return Err(ReadFault::Unfit(Reason::Syntax));
+        };
+        if first.kind() == Kind::Metadata && is_numbered(first.text()) {
+            self.go_to(rest);
+            Ok(())
+        } else {
+            Err(ReadFault::Unfit(reason_at(first)))
+        }
+    }
+
+    // Passes an attachment behind its comma.
+    #[tactic(auto, unfolding(crate::specs::Grammar::attachment))]
+    fn attachment(&mut self) -> Result<(), ReadFault>
+        ensures { Passes result self.new (read true attachment self.old) }
+    {
+        self.attachment_word()?;
+        self.metadata_number()?;
+        Ok(())
+    }
+
+    // One more attachment, if one begins here, and whether one did.
+    fn one_attachment(&mut self) -> Result<bool, ReadFault>
+        ensures { Reads (λ b. (tt, b)) result self.new (step_of is_comma comma_begins (λ s. any) (λ s a ts. read true attachment ts) tt self.old) }
+    {
+        if !self.eat_mark(b",".as_slice()) {
+            return Ok(false);
+        }
+        self.attachment()?;
+        Ok(true)
+    }
+
+    /// Passes attachments, as long as one begins.
+    pub fn attachments(&mut self) -> Result<(), ReadFault>
+        ensures { Passes result self.new (read true spec.attachments self.old) }
+    {
+        loop {
+            let is_more = self.one_attachment()?;
+            if !is_more {
+                return Ok(());
+            }
+        }
+    }
+
+    // Passes a record behind its word.
+    #[tactic(auto, unfolding(crate::specs::Grammar::record_rest))]
+    fn record_rest(&mut self) -> Result<(), ReadFault>
+        ensures { Passes result self.new (read true record_rest self.old) }
+    {
+        self.mark(b"(".as_slice())?;
+        self.bracket(Bracket::Round)
+    }
+
+    // Reads what begins a line here, if anything does; an instruction where there is room for it.
+    fn line_start(&mut self, is_new: bool, room: bool) -> Result<Option<LineStart>, ReadFault>
+        ensures { Reads (λ x. x) result self.new (begin_of true starts_line (λ t. spelling.line_start is_new t.kind t.text t.place) (λ t. not (is_local_kind t.kind) || room) self.old) }
+    {
+        let [first, rest @ ..] = self.left() else {
+            return Ok(None);
+        };
+        match start_at(self.alloc(), first, is_new)? {
+            None => Ok(None),
+            Some(start) => {
+                if is_local(first) && !room {
+                    return Err(ReadFault::PastLimit);
+                }
+                self.go_to(rest);
+                Ok(Some(start))
+            }
+        }
+    }
+
+    // What stands before the first comma of a line.
+    fn started(&mut self, phi_too: bool, start: LineStart) -> Result<WrittenLine, ReadFault>
+        ensures { Reads (λ x. x) result self.new (read true (spec.started phi_too start) self.old) }
+    {
+        match start {
+            LineStart::Label(name) => Ok(WrittenLine::Label(name)),
+            LineStart::Inst(name) => self.line_named(phi_too, name),
+            LineStart::Record => {
+                self.record_rest()?;
+                Ok(WrittenLine::Record)
+            }
+        }
+    }
+
+    // What stands behind a comma.
+    fn with_comma(&mut self, line: WrittenLine) -> Result<WrittenLine, ReadFault>
+        ensures { Reads (λ x. x) result self.new (read true (with_comma line) self.old) }
+    {
+        match line {
+            WrittenLine::Label(name) => Ok(WrittenLine::Label(name)),
+            WrittenLine::Record => Ok(WrittenLine::Record),
+            WrittenLine::Entries(phi) => self.entry_or_attachment(phi),
+            WrittenLine::Phi(phi) => {
+                self.attachment()?;
+                Ok(WrittenLine::Phi(phi))
+            }
+            WrittenLine::Inst(inst) => {
+                self.attachment()?;
+                Ok(WrittenLine::Inst(inst))
+            }
+        }
+    }
+
+    // One more comma and what stands behind it, if one follows, and whether one did.
+    fn one_comma(&mut self, line: WrittenLine) -> Result<(WrittenLine, bool), ReadFault>
+        ensures { Reads (λ x. x) result self.new (step_of is_comma line_comma (λ l. any) (λ l comma ts. read true (with_comma l) ts) line self.old) }
+    {
+        if !takes_comma(&line) || !self.eat_mark(b",".as_slice()) {
+            return Ok((line, false));
+        }
+        Ok((self.with_comma(line)?, true))
+    }
+
+    // The line with what stands behind its commas.
+    fn behind_commas(&mut self, line: WrittenLine) -> Result<WrittenLine, ReadFault>
+        ensures { Reads (λ x. x) result self.new (read true (spec.behind_commas line) self.old) }
+    {
+        let mut so_far = line;
+        loop {
+            let (next, is_more) = self.one_comma(so_far)?;
+            so_far = next;
+            if !is_more {
+                return Ok(so_far);
+            }
+        }
+    }
+
+    // Reads a line behind what begins it.
+    #[tactic(auto, unfolding(crate::specs::Grammar::next_line, crate::specs::Grammar::whole_line, crate::specs::Grammar::behind_commas))]
+    fn next_line(
+        &mut self,
+        so_far: WrittenLines,
+        start: LineStart,
+    ) -> Result<WrittenLines, ReadFault>
+        ensures { Reads (λ x. x) result self.new (read true (spec.next_line so_far start) self.old) }
+    {
+        let phi_too = so_far.insts.len() == 0;
+        let started = self.started(phi_too, start)?;
+        let line = self.behind_commas(started)?;
+        with_line(so_far, line)
+    }
+
+    // One more line, if one begins here, and whether one did.
+    fn one_line(&mut self, so_far: WrittenLines) -> Result<(WrittenLines, bool), ReadFault>
+        ensures { Reads (λ x. x) result self.new (step_of starts_line line_begins line_within (λ s a ts. read true (spec.next_line s a) ts) so_far self.old) }
+    {
+        let room = 0 < so_far.room;
+        let is_new = so_far.is_new;
+        match self.line_start(is_new, room)? {
+            None => Ok((so_far, false)),
+            Some(start) => Ok((self.next_line(so_far, start)?, true)),
+        }
+    }
+
+    /// Reads a label, where it may stand, or none, and instructions, as long as one begins. The room
+    /// is how many instructions the function may have behind these tokens.
+    pub fn lines(&mut self, is_new: bool, room: usize) -> Result<WrittenLines, ReadFault>
+        ensures { Reads (λ x. x) result self.new (read true (spec.lines is_new room) self.old) }
+    {
+        let mut so_far = WrittenLines {
+            label: None,
+            phis: self.no_items(),
+            insts: self.no_items(),
+            is_new,
+            room,
+        };
+        loop {
+            let (next, is_more) = self.one_line(so_far)?;
+            so_far = next;
+            if !is_more {
+                return Ok(so_far);
+            }
+        }
+    }
+}

@@ -1,0 +1,45 @@
+// The reason at a token that can't stand where it stands.
+ghost use Rattle.std.specs.Prelude.{◌≡◌};
+ghost use Rattle.ir_grammar.specs.Reasons.{is_type_mark, reason, type_reason};
+
+use ir_lexer::{Kind, Token};
+use ir_tree::Reason;
+
+fn is_type_mark(text: &[u8]) -> bool
+    ensures { result ≡ is_type_mark text.now }
+{
+    text == b"<".as_slice() || text == b"{".as_slice() || text == b"...".as_slice()
+}
+
+/// The reason at a token that can't stand.
+pub fn reason_at(token: &Token) -> Reason
+    ensures { result ≡ reason token.now }
+{
+    match token.kind() {
+        Kind::Word
+        | Kind::Metadata
+        | Kind::Hash
+        | Kind::Global
+        | Kind::Float
+        | Kind::Hexadecimal
+        | Kind::String => Reason::Unsupported,
+        Kind::Mark => {
+            if is_type_mark(token.text()) {
+                Reason::Unsupported
+            } else {
+                Reason::Syntax
+            }
+        }
+        Kind::Number | Kind::Local | Kind::Comdat | Kind::Caret | Kind::Label => Reason::Syntax,
+    }
+}
+
+/// The reason at a token that can't stand where a type begins.
+pub fn type_reason_at(token: &Token) -> Reason
+    ensures { result ≡ type_reason token.now }
+{
+    match token.kind() {
+        Kind::Local => Reason::Unsupported,
+        _ => reason_at(token),
+    }
+}

@@ -1,0 +1,7 @@
+use Rattle.std.proofs.Common.{◌≡◌, []}
+use Rattle.std.specs.Vec.Iter.{into_iter_items}
+use Rattle.ir_numbering.specs.Numbering.{named_behind}
+use Rattle.ir_numbering.proofs.numbering.named_parameters.Given as goal
+
+abbrev pub invariant-loop-parameter : goal.invariant-loop-parameter
+invariant-loop-parameter l = named_behind l.all.items (into_iter_items l.parameter-iterator) ≡ named_behind [] l.fn.parameters

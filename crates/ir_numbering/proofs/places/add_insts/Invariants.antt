@@ -1,0 +1,7 @@
+use Rattle.std.proofs.Common.{◌≡◌, ◌++◌, drop}
+use Rattle.std.specs.List.{flat_map}
+use Rattle.ir_numbering.specs.Places.{inst_places}
+use Rattle.ir_numbering.proofs.places.add_insts.Given as goal
+
+abbrev pub invariant-loop-inst : goal.invariant-loop-inst
+invariant-loop-inst l = l.places ++ flat_map inst_places (drop l.inst-index l.insts) ≡ l.fn.places ++ flat_map inst_places l.insts

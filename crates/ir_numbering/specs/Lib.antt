@@ -1,0 +1,5 @@
+pub mod EntryName
+pub mod Places
+pub mod Numbering
+pub mod Laws
+pub mod Answer

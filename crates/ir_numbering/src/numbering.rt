@@ -1,0 +1,361 @@
+// Numbering the names of a function in the order in which they are first mentioned.
+ghost use Rattle.std.specs.Prelude.{◌≡◌, [], IfOk};
+ghost use Rattle.ir_numbering.specs.Answer.{Numbers};
+ghost use Rattle.ir_numbering.specs.EntryName.{next_name};
+ghost use Rattle.ir_numbering.specs.Numbering as spec;
+ghost use Rattle.ir_numbering.specs.Numbering.{each_in, parameter_in, inst_in};
+
+use crate::block_numbering::blocks;
+use crate::entry_name::next_name;
+use crate::places::places_of;
+use ir_grammar::{
+    WrittenBlock, WrittenBody, WrittenFunction, WrittenInst, WrittenName, WrittenOperand,
+    WrittenParameter, WrittenType, WrittenTyped, WrittenValue,
+};
+use ir_tree::{
+    Block, Cast, Function, Inst, IrType, Name, Names, Op, Operand, Parameter, Predicate,
+    TypedOperand,
+};
+use std::alloc::Global;
+use support::{NoMemory, Sequence};
+use tv_num::Width;
+
+/// A parameter whose name is known, written or not.
+#[derive(Drop)]
+pub struct NamedParameter {
+    pub width: Width,
+    pub no_undef: bool,
+    pub name: Name,
+}
+
+// The name that is written, or the next one behind those of these parameters.
+fn name_or_next(
+    alloc: Global,
+    name: Option<WrittenName>,
+    before: &[NamedParameter],
+) -> Result<Name, NoMemory>
+    ensures { IfOk result (λ n. n ≡ spec.name_or name (next_name (spec.names_of before.now))) }
+{
+    match name {
+        Some(written) => Ok(written.name),
+        None => next_name(alloc, before),
+    }
+}
+
+fn named(
+    alloc: Global,
+    before: &[NamedParameter],
+    parameter: WrittenParameter,
+) -> Result<NamedParameter, NoMemory>
+    ensures { IfOk result (λ p. p ≡ spec.named before.now parameter) }
+{
+    let WrittenParameter {
+        of_type,
+        no_undef,
+        name,
+    } = parameter;
+    let name = name_or_next(alloc, name, before)?;
+    Ok(NamedParameter {
+        width: of_type.width,
+        no_undef,
+        name,
+    })
+}
+
+// The parameters, each with a name.
+fn named_parameters(
+    alloc: Global,
+    parameters: Sequence<WrittenParameter>,
+) -> Result<Sequence<NamedParameter>, NoMemory>
+    ensures { IfOk result (λ ps. ps ≡ spec.named_behind [] parameters) }
+{
+    let mut all = Vec::new(alloc);
+    for parameter in parameters.into_vec() {
+        let next = named(alloc, all.as_slice(), parameter)?;
+        all.push(next)?;
+    }
+    Ok(Sequence::from_vec(all))
+}
+
+/// The number of a name behind those of the table.
+pub fn number(names: &mut Names, name: Name) -> Result<usize, NoMemory>
+    ensures { Numbers result names.new (spec.number_in names.old name) }
+{
+    names.number(name)
+}
+
+/// An operand whose name is numbered.
+pub fn value(names: &mut Names, value: WrittenValue) -> Result<Operand, NoMemory>
+    ensures { Numbers result names.new (spec.value_in names.old value) }
+{
+    match value {
+        WrittenValue::Local(name) => Ok(Operand::Local(number(names, name)?)),
+        WrittenValue::Literal(number) => Ok(Operand::Number(number)),
+        WrittenValue::Poison => Ok(Operand::Poison),
+        WrittenValue::Undef => Ok(Operand::Undef),
+    }
+}
+
+/// An operand behind its type.
+#[tactic(auto, unfolding(crate::specs::Numbering::typed_in))]
+pub fn typed(names: &mut Names, typed: WrittenTyped) -> Result<TypedOperand, NoMemory>
+    ensures { Numbers result names.new (spec.typed_in names.old typed) }
+{
+    let WrittenTyped { of_type, operand } = typed;
+    let operand = value(names, operand.value)?;
+    Ok(TypedOperand {
+        of_type: IrType::Int(of_type.width),
+        operand,
+    })
+}
+
+#[tactic(auto, unfolding(crate::specs::Numbering::binary_in))]
+fn binary(
+    names: &mut Names,
+    into: Name,
+    op: Op,
+    width: Width,
+    left: WrittenValue,
+    right: WrittenValue,
+) -> Result<Inst, NoMemory>
+    ensures { Numbers result names.new (spec.binary_in names.old into op width left right) }
+{
+    let into = number(names, into)?;
+    let left = value(names, left)?;
+    let right = value(names, right)?;
+    Ok(Inst::Binary {
+        into,
+        op,
+        width,
+        left,
+        right,
+    })
+}
+
+#[tactic(auto, unfolding(crate::specs::Numbering::icmp_in))]
+fn icmp(
+    names: &mut Names,
+    into: Name,
+    predicate: Predicate,
+    same_sign: bool,
+    of_type: WrittenType,
+    left: WrittenOperand,
+    right: WrittenOperand,
+) -> Result<Inst, NoMemory>
+    ensures { Numbers result names.new (spec.icmp_in names.old into predicate same_sign of_type.width left.value right.value) }
+{
+    let into = number(names, into)?;
+    let left = value(names, left.value)?;
+    let right = value(names, right.value)?;
+    Ok(Inst::Icmp {
+        into,
+        predicate,
+        same_sign,
+        width: of_type.width,
+        left,
+        right,
+    })
+}
+
+#[tactic(auto, unfolding(crate::specs::Numbering::cast_in))]
+fn cast(
+    names: &mut Names,
+    into: Name,
+    cast: Cast,
+    from: Width,
+    operand: WrittenValue,
+    to: Width,
+) -> Result<Inst, NoMemory>
+    ensures { Numbers result names.new (spec.cast_in names.old into cast from operand to) }
+{
+    let into = number(names, into)?;
+    let operand = value(names, operand)?;
+    Ok(Inst::Cast {
+        into,
+        cast,
+        from,
+        operand,
+        to,
+    })
+}
+
+#[tactic(auto, unfolding(crate::specs::Numbering::select_in))]
+fn select(
+    names: &mut Names,
+    into: Name,
+    condition: WrittenValue,
+    if_true: WrittenTyped,
+    if_false: WrittenTyped,
+) -> Result<Inst, NoMemory>
+    ensures { Numbers result names.new (spec.select_in names.old into condition if_true if_false) }
+{
+    let into = number(names, into)?;
+    let condition = value(names, condition)?;
+    let if_true = typed(names, if_true)?;
+    let if_false = typed(names, if_false)?;
+    Ok(Inst::Select {
+        into,
+        condition,
+        if_true,
+        if_false,
+    })
+}
+
+#[tactic(auto, unfolding(crate::specs::Numbering::freeze_in))]
+fn freeze(
+    names: &mut Names,
+    into: Name,
+    width: Width,
+    operand: WrittenValue,
+) -> Result<Inst, NoMemory>
+    ensures { Numbers result names.new (spec.freeze_in names.old into width operand) }
+{
+    let into = number(names, into)?;
+    let operand = value(names, operand)?;
+    Ok(Inst::Freeze {
+        into,
+        width,
+        operand,
+    })
+}
+
+fn inst(names: &mut Names, inst: WrittenInst) -> Result<Inst, NoMemory>
+    ensures { Numbers result names.new (inst_in names.old inst) }
+{
+    match inst {
+        WrittenInst::Binary {
+            into,
+            op,
+            of_type,
+            left,
+            right,
+        } => binary(names, into.name, op, of_type.width, left.value, right.value),
+        WrittenInst::Icmp {
+            into,
+            predicate,
+            same_sign,
+            of_type,
+            left,
+            right,
+        } => icmp(names, into.name, predicate, same_sign, of_type, left, right),
+        WrittenInst::Cast {
+            into,
+            cast: kind,
+            from,
+            operand,
+            to,
+        } => cast(names, into.name, kind, from.width, operand.value, to.width),
+        WrittenInst::Select {
+            into,
+            bit: _,
+            condition,
+            if_true,
+            if_false,
+        } => select(names, into.name, condition.value, if_true, if_false),
+        WrittenInst::Freeze { into, value } => {
+            let WrittenTyped { of_type, operand } = value;
+            freeze(names, into.name, of_type.width, operand.value)
+        }
+    }
+}
+
+#[tactic(auto, unfolding(crate::specs::Numbering::parameter_in))]
+fn parameter(names: &mut Names, parameter: NamedParameter) -> Result<Parameter, NoMemory>
+    ensures { Numbers result names.new (parameter_in names.old parameter) }
+{
+    let NamedParameter {
+        width,
+        no_undef,
+        name,
+    } = parameter;
+    let name = number(names, name)?;
+    Ok(Parameter {
+        of_type: IrType::Int(width),
+        no_undef,
+        name,
+    })
+}
+
+fn parameters(
+    alloc: Global,
+    names: &mut Names,
+    parameters: Sequence<NamedParameter>,
+) -> Result<Sequence<Parameter>, NoMemory>
+    ensures { Numbers result names.new (each_in parameter_in names.old parameters) }
+{
+    let mut numbered = Vec::new(alloc);
+    for one in parameters.into_vec() {
+        numbered.push(parameter(names, one)?)?;
+    }
+    Ok(Sequence::from_vec(numbered))
+}
+
+/// Instructions in turn.
+pub fn insts(
+    alloc: Global,
+    names: &mut Names,
+    insts: Sequence<WrittenInst>,
+) -> Result<Sequence<Inst>, NoMemory>
+    ensures { Numbers result names.new (each_in inst_in names.old insts) }
+{
+    let mut numbered = Vec::new(alloc);
+    for one in insts.into_vec() {
+        numbered.push(inst(names, one)?)?;
+    }
+    Ok(Sequence::from_vec(numbered))
+}
+
+#[tactic(auto, unfolding(crate::specs::Numbering::parts_in))]
+fn parts(
+    alloc: Global,
+    named: Sequence<NamedParameter>,
+    label: Name,
+    entry: WrittenBody,
+    others: Sequence<WrittenBlock>,
+) -> Result<((Sequence<Parameter>, Sequence<Block>), Names), NoMemory>
+    ensures { IfOk result (λ parts. spec.parts_in named label entry others ≡ spec.so parts.0 parts.1) }
+{
+    let mut names = Names::new(alloc);
+    let parameters = parameters(alloc, &mut names, named)?;
+    let blocks = blocks(alloc, &mut names, label, entry, others)?;
+    Ok(((parameters, blocks), names))
+}
+
+fn type_or_void(width: Option<Width>) -> Option<IrType>
+    ensures { result ≡ spec.type_or_void width }
+{
+    match width {
+        Some(width) => Some(IrType::Int(width)),
+        None => None,
+    }
+}
+
+/// The function with its names numbered and the places of its sites.
+#[tactic(auto, unfolding(crate::specs::Numbering::numbered))]
+pub fn numbered(alloc: Global, written: WrittenFunction) -> Result<Function, NoMemory>
+    ensures { IfOk result (λ f. f ≡ spec.numbered written) }
+{
+    let places = places_of(alloc, &written)?;
+    let WrittenFunction {
+        returns_no_undef,
+        returns,
+        name,
+        parameters,
+        brace: _,
+        label,
+        entry,
+        others,
+    } = written;
+    let named = named_parameters(alloc, parameters)?;
+    let label = name_or_next(alloc, label, named.as_slice())?;
+    let ((parameters, blocks), names) = parts(alloc, named, label, entry, others)?;
+    Ok(Function {
+        name: name.name,
+        returns: type_or_void(returns.width),
+        returns_no_undef,
+        parameters,
+        blocks,
+        names,
+        places,
+    })
+}

@@ -1,8 +1,0 @@
-use Rattle.std.proofs.Common.{◌≡◌}
-use Rattle.std.specs.Vec.Iter.{into_iter_items}
-use Rattle.ir_reader.specs.Numbering.{labelled_in, each_in, others_in}
-use Rattle.ir_reader.proofs.Each.{in_front}
-use Rattle.ir_reader.proofs.block_numbering.blocks_behind.Given as goal
-
-abbrev pub invariant-loop-one : goal.invariant-loop-one
-invariant-loop-one l = others_in l.fn.first l.fn.names l.fn.others ≡ in_front l.numbered.items (each_in labelled_in l.names (into_iter_items l.one-iterator))

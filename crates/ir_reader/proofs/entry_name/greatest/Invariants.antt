@@ -1,7 +1,0 @@
-use Rattle.std.proofs.Common.{◌≡◌, drop, []}
-use Rattle.ir_reader.specs.EntryName.{greatest}
-use Rattle.ir_reader.specs.Numbering.{names_of}
-use Rattle.ir_reader.proofs.entry_name.greatest.Given as goal
-
-abbrev pub invariant-loop-parameter : goal.invariant-loop-parameter
-invariant-loop-parameter l = greatest l.most (names_of (drop l.parameter-index l.parameters)) ≡ greatest [] (names_of l.parameters)

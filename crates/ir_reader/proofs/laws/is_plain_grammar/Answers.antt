@@ -1,5 +1,0 @@
-use Rattle.ir_reader.proofs.PlainGrammar.{plain-define, one-define}
-use Rattle.ir_reader.proofs.laws.is_plain_grammar.Goals as goal
-
-pub returns : goal.returns
-returns c = record { plain = plain-define; one = one-define }

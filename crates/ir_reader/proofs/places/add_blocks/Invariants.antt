@@ -1,7 +1,0 @@
-use Rattle.std.proofs.Common.{◌≡◌, ◌++◌, drop}
-use Rattle.std.specs.List.{flat_map}
-use Rattle.ir_reader.specs.Places.{block_places}
-use Rattle.ir_reader.proofs.places.add_blocks.Given as goal
-
-abbrev pub invariant-loop-block : goal.invariant-loop-block
-invariant-loop-block l = l.places ++ flat_map block_places (drop l.block-index l.blocks) ≡ l.fn.places ++ flat_map block_places l.blocks

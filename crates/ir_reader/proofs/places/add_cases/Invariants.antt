@@ -1,7 +1,0 @@
-use Rattle.std.proofs.Common.{◌≡◌, ◌++◌, drop}
-use Rattle.std.specs.List.{flat_map}
-use Rattle.ir_reader.specs.Places.{case_places}
-use Rattle.ir_reader.proofs.places.add_cases.Given as goal
-
-abbrev pub invariant-loop-case : goal.invariant-loop-case
-invariant-loop-case l = l.places ++ flat_map case_places (drop l.case-index l.cases) ≡ l.fn.places ++ flat_map case_places l.cases

@@ -1,7 +1,0 @@
-use Rattle.std.proofs.Common.{◌≡◌, ◌++◌, drop}
-use Rattle.std.specs.List.{flat_map}
-use Rattle.ir_reader.specs.Places.{entry_places}
-use Rattle.ir_reader.proofs.places.add_entries.Given as goal
-
-abbrev pub invariant-loop-entry : goal.invariant-loop-entry
-invariant-loop-entry l = l.places ++ flat_map entry_places (drop l.entry-index l.entries) ≡ l.fn.places ++ flat_map entry_places l.entries

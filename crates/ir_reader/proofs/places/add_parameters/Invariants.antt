@@ -1,7 +1,0 @@
-use Rattle.std.proofs.Common.{◌≡◌, ◌++◌, drop}
-use Rattle.std.specs.List.{flat_map}
-use Rattle.ir_reader.specs.Places.{parameter_places}
-use Rattle.ir_reader.proofs.places.add_parameters.Given as goal
-
-abbrev pub invariant-loop-parameter : goal.invariant-loop-parameter
-invariant-loop-parameter l = l.places ++ flat_map parameter_places (drop l.parameter-index l.parameters) ≡ l.fn.places ++ flat_map parameter_places l.parameters

@@ -1,7 +1,0 @@
-use Rattle.std.proofs.Common.{◌≡◌, ◌++◌, drop}
-use Rattle.std.specs.List.{flat_map}
-use Rattle.ir_reader.specs.Places.{phi_places}
-use Rattle.ir_reader.proofs.places.add_phis.Given as goal
-
-abbrev pub invariant-loop-phi : goal.invariant-loop-phi
-invariant-loop-phi l = l.places ++ flat_map phi_places (drop l.phi-index l.phis) ≡ l.fn.places ++ flat_map phi_places l.phis
