@@ -2,6 +2,7 @@ pub mod Searches
 pub mod Files
 pub mod Stopping
 pub mod Answered
+pub mod OwnAnswers
 pub mod Causes
 pub mod OneReport
 pub mod OneFault

@@ -58,3 +58,16 @@ abbrev pub ShowsVerdict : Functions → Bounds → Verdict → Finding → Type 
 ShowsVerdict pair bounds verdict.Correct found = found ≡ finding.Correct
 ShowsVerdict pair bounds (verdict.Incorrect point) found = (shown : Shown) × (found ≡ finding.Incorrect point shown) × IsShown pair bounds point shown
 ShowsVerdict pair bounds (verdict.Unknown cause) found = found ≡ finding.Unknown cause
+
+-- where this is a pair that is judged, the finding tells the verdict of the next answer, which is an answer on it, and the others are left; where there is none it tells no verdict
+abbrev pub TellsNext : Bounds → Budget → List Functions → Finding → List Judged → (List Judged → Type 0) → Type 0
+TellsNext bounds budget [] found answers Left = (verdicts_in found ≡ []) × Left answers
+TellsNext bounds budget (pair ∷ pairs) found [] Left = ⊥
+TellsNext bounds budget (pair ∷ pairs) found (answer ∷ answers) Left = IsAnswer pair bounds budget answer × (verdicts_in found ≡ answer.verdict ∷ []) × Left answers
+
+-- each row of a pair that is judged tells the verdict of that pair's own answer, and no other row tells one
+abbrev pub TellOwnAnswers : Bounds → Budget → (targets sources : List Entry) → List Row → List Judged → Type 0
+TellOwnAnswers bounds budget targets [] rows answers = answers ≡ []
+TellOwnAnswers bounds budget targets (source ∷ sources) [] answers = ⊥
+TellOwnAnswers bounds budget targets (source ∷ sources) (row ∷ rows) answers =
+    TellsNext bounds budget (pairs_in source.function (function_named targets source.name)) row.finding answers (λ left. TellOwnAnswers bounds budget targets sources rows left)

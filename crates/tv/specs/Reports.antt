@@ -16,7 +16,7 @@ use Rattle.report.specs.Rows.{AreRows}
 use Rattle.report.specs.Text.{report_text}
 use Rattle.report.specs.Status.{status_of}
 use Rattle.tv_words.specs.Words.{Job}
-use Rattle.tv.specs.Judging.{AreAnswers, judged_pairs, verdicts_of, told_by}
+use Rattle.tv.specs.Judging.{TellOwnAnswers}
 
 -- the most bytes of a module's text
 abbrev pub text_limit : ℕ
@@ -39,12 +39,11 @@ pub record HasModule (file : Option (List ℕ)) (m : Module) : Type 0 where
 abbrev pub may_tell : Bounds → Budget → Functions → Verdict → Type 0
 may_tell bounds budget pair v = MayBeTold pair bounds budget v
 
--- the rows of two modules within bounds and a budget, as a text and as a status, with the judge's answer for each row that has a verdict
+-- the rows of two modules within bounds and a budget, as a text and as a status, with the judge's own answer for each row that has a verdict
 pub record IsReport (bounds : Bounds) (budget : Budget) (source target : Module) (answers : List Judged) (text : List ℕ) (status : ℕ) : Type 0 where
   pub rows : List Row
   pub are_rows : AreRows (may_tell bounds budget) bounds source target rows
-  pub answered : AreAnswers bounds budget (judged_pairs target.entries source.entries) answers
-  pub told : verdicts_of rows ≡ told_by answers
+  pub answered : TellOwnAnswers bounds budget target.entries source.entries are_rows.judged answers
   pub text_is : text ≡ report_text bounds budget rows
   pub status_is : status ≡ status_of rows
 
