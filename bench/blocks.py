@@ -80,21 +80,21 @@ def seconds(tv, text, weight, row):
         return best
 
 
+def print_sizes(tv, title, shape, sizes, width, weight, row, ending):
+    """A line for each size, with how many times as long it took as the one before."""
+    before = None
+    for blocks in sizes:
+        took = seconds(tv, shape(blocks, width), weight, row)
+        times = "" if before is None else f"  {took / before:4.1f} times for twice as many"
+        print(f"  {title:>7} of {blocks:>6} blocks  {took * 1000:8.1f} ms{ending}{times}")
+        before = took
+
+
 def main():
     tv = sys.argv[1] if len(sys.argv) > 1 else "crates/tv/out/tv"
     for title, shape in (("ladder", ladder), ("fans", fans)):
-        before = None
-        for blocks in BLOCKS:
-            took = seconds(tv, shape(blocks, 64), "1", "@f unknown weight")
-            times = "" if before is None else f"  {took / before:4.1f} times for twice as many"
-            print(f"  {title:>7} of {blocks:>6} blocks  {took * 1000:8.1f} ms{times}")
-            before = took
-    before = None
-    for blocks in JUDGED:
-        took = seconds(tv, ladder(blocks, 8), "10000000", "@f correct")
-        times = "" if before is None else f"  {took / before:4.1f} times for twice as many"
-        print(f"   ladder of {blocks:>6} blocks  {took * 1000:8.1f} ms, judged{times}")
-        before = took
+        print_sizes(tv, title, shape, BLOCKS, 64, "1", "@f unknown weight", "")
+    print_sizes(tv, "ladder", ladder, JUDGED, 8, "10000000", "@f correct", ", judged")
 
 
 if __name__ == "__main__":
