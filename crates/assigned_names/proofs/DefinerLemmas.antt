@@ -4,8 +4,8 @@ use Rattle.std.specs.List.{position_or_len}
 use Rattle.std.proofs.lemmas.Bool.{cases_lt, cases_Bool, both_ways}
 use Rattle.std.proofs.lemmas.Bool.Decides.{nat_tests}
 use Rattle.std.proofs.lemmas.List.{length-map, drop_more}
-use Rattle.block_paths.specs.Paths.{IsAssignedBefore, IsUnassignedBefore}
-use Rattle.block_paths.specs.Sets.{AreRoomy, has}
+use Rattle.definite_assignment.specs.Paths.{IsAssignedBefore, IsUnassignedBefore}
+use Rattle.definite_assignment.specs.Sets.{AreRoomy, has}
 use Rattle.std.proofs.lemmas.List.Sums.{position_or_len_is}
 use Rattle.std.proofs.lemmas.List.Elements.{All-append, Contains-append_left, Contains-append_right, Contains-append_cases}
 use Rattle.std.proofs.lemmas.Option.{slice_get_within, slice_get-map, get_or_from_slice_get, none-some, same_Some}

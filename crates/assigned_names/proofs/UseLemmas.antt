@@ -3,7 +3,7 @@ use Rattle.std.proofs.Common.{◌≡◌, ◌↔◌, ◌⊎◌, inl, inr, IsTrue,
 use Rattle.std.proofs.lemmas.Bool.{cases_Bool, both_ways}
 use Rattle.std.proofs.lemmas.List.{take_all}
 use Rattle.std.proofs.lemmas.Option.{slice_get_within, none-some, same_Some}
-use Rattle.block_paths.specs.Sets.{has}
+use Rattle.definite_assignment.specs.Sets.{has}
 use Rattle.ir_tree.specs.declared.tree.Block.{Block}
 use Rattle.ir_tree.specs.declared.tree.Function.{Function}
 use Rattle.ir_tree.specs.declared.tree.IrType.{IrType}

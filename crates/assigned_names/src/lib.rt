@@ -5,7 +5,7 @@
 //! tells the first use that some path does. So each use in a block that no path comes to passes, and
 //! an operand of a phi is used at the end of the block that it comes from. The rule is that of the
 //! LLVM Language Reference, "Well-Formedness": a definition must dominate its uses. It stands on
-//! `ir_tree`, on `block_paths`, which finds the names that every path assigns, and on `ir_check`,
+//! `ir_tree`, on `definite_assignment`, which finds the names that every path assigns, and on `ir_check`,
 //! whose checks come first; the reader of functions stands on it.
 #![tactic(auto)]
 
@@ -20,7 +20,7 @@ mod definers;
 mod uses;
 
 use assigning::assigns_of;
-use block_paths::{NameSets, assigned_before};
+use definite_assignment::{NameSets, assigned_before};
 use ir_tree::{CheckFault, Function, Reason, first_definitions, refusal_at, sites_of, successors};
 use std::alloc::Global;
 use support::NoMemory;

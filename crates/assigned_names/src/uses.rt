@@ -7,7 +7,7 @@ ghost use Rattle.ir_tree.specs.WellFormed.{IsFirstFailure, IsMissed, IsMissedAt,
 ghost use Rattle.assigned_names.specs.Known.{AreKnown, AreBefore, IsEntered};
 
 use crate::definers::{block_of, is_assigned_in};
-use block_paths::NameSets;
+use definite_assignment::NameSets;
 use ir_tree::{Function, Part, Site, SiteList};
 
 /// The first use of a name that some path comes to without the name's definition.

@@ -7,7 +7,7 @@ use Rattle.bv_terms.specs.Tree.{digit}
 use Rattle.gates.specs.declared.circuit.GateId.{GateId}
 use Rattle.gates.specs.declared.circuit.Gate.{Gate}
 use Rattle.gates.specs.Numbering.{AreApart}
-use Rattle.gate_digits.specs.Numbers.{number_of}
+use Rattle.gate_arith.specs.Numbers.{number_of}
 use Rattle.bv_terms.specs.declared.variable.Variable.{Variable}
 use Rattle.bv_terms.specs.Variables.{is_variable}
 use Rattle.bv_terms.proofs.Variables.{same_variable}

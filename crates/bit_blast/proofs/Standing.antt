@@ -13,7 +13,7 @@ use Rattle.bv_terms.proofs.Zips.{AllZip-at}
 use Rattle.gates.specs.declared.circuit.GateId.{GateId}
 use Rattle.gates.specs.declared.circuit.Gate.{Gate}
 use Rattle.gates.specs.Values.{gate_at}
-use Rattle.gate_digits.specs.Numbers.{Writes, number_at, number_of}
+use Rattle.gate_arith.specs.Numbers.{Writes, number_at, number_of}
 use Rattle.bv_terms.specs.declared.variable.Variable.{Variable}
 use Rattle.bit_blast.specs.Following.{bits_kept}
 use Rattle.bit_blast.specs.Table.{Agrees, Blasted, Follows, AreDigits, IsTable}

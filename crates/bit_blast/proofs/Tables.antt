@@ -12,8 +12,8 @@ use Rattle.gates.specs.declared.circuit.Gate.{Gate}
 use Rattle.gates.specs.Numbering.{AreApart}
 use Rattle.gates.specs.Encoding.{AreAllNamed, AreInputs}
 use Rattle.gates.specs.Values.{inputs_of, Grows, Keeps}
-use Rattle.gate_digits.specs.Numbers.{AreFresh, AreGates}
-use Rattle.gate_digits.proofs.Digits.{gates_later, grows_kept, map-grown}
+use Rattle.gate_arith.specs.Numbers.{AreFresh, AreGates}
+use Rattle.gate_arith.proofs.Digits.{gates_later, grows_kept, map-grown}
 use Rattle.bv_terms.specs.declared.variable.Variable.{Variable}
 use Rattle.bv_terms.specs.Variables.{is_variable}
 use Rattle.bv_terms.proofs.Variables.{same_variable}

@@ -5,7 +5,7 @@ use Rattle.bv_terms.specs.Tree.{Tree, value_of, width_of}
 use Rattle.bv_terms.specs.Trees.{tree_at}
 use Rattle.gates.specs.declared.circuit.GateId.{GateId}
 use Rattle.gates.specs.declared.circuit.Gate.{Gate}
-use Rattle.gate_digits.specs.Numbers.{AreGates, number_at}
+use Rattle.gate_arith.specs.Numbers.{AreGates, number_at}
 use Rattle.bv_terms.specs.declared.variable.Variable.{Variable}
 use Rattle.bit_blast.specs.Table.{Agrees}
 use Rattle.bit_blast.specs.Written.{digits_at, operands}

@@ -2,9 +2,9 @@
 use Rattle.std.proofs.Common.{ap, ◌∙◌, List}
 use Rattle.bv_terms.specs.Tree.{Tree}
 use Rattle.gates.specs.declared.circuit.GateId.{GateId}
-use Rattle.gate_digits.specs.Numbers.{number_of}
-use Rattle.gate_digits.proofs.Digits.{gates_later, map-grown}
-use Rattle.gate_digits.proofs.Known.{grows_self, grows_trans}
+use Rattle.gate_arith.specs.Numbers.{number_of}
+use Rattle.gate_arith.proofs.Digits.{gates_later, map-grown}
+use Rattle.gate_arith.proofs.Known.{grows_self, grows_trans}
 use Rattle.bit_blast.specs.Bits.{AreBits}
 use Rattle.bit_blast.specs.Table.{Blasted, Follows}
 

@@ -4,7 +4,7 @@ use Rattle.gates.specs.declared.circuit.GateId.{GateId}
 use Rattle.gates.specs.declared.circuit.Gate.{Gate}
 use Rattle.gates.specs.Numbering.{AreApart}
 use Rattle.gates.specs.Values.{gate_at, inputs_of, Grows}
-use Rattle.gate_digits.specs.Numbers.{AreGates, number_of}
+use Rattle.gate_arith.specs.Numbers.{AreGates, number_of}
 use Rattle.bv_terms.specs.declared.variable.Variable.{Variable}
 use Rattle.bv_terms.specs.Variables.{is_variable}
 

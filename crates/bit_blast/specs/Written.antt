@@ -9,7 +9,7 @@ use Rattle.bv_terms.specs.Trees.{IsWidth}
 use Rattle.gates.specs.declared.circuit.GateId.{GateId}
 use Rattle.gates.specs.declared.circuit.Gate.{Gate}
 use Rattle.gates.specs.Values.{gate_at}
-use Rattle.gate_digits.specs.Numbers.{AreGates, number_at}
+use Rattle.gate_arith.specs.Numbers.{AreGates, number_at}
 use Rattle.bv_terms.specs.declared.variable.Variable.{Variable}
 use Rattle.bit_blast.specs.Table.{digits_of}
 

@@ -4,12 +4,10 @@
 //! gates of one circuit, highest digit first; a fold with it is bit blasting, as in D. Kroening and
 //! O. Strichman, "Decision Procedures" (2016), chapter 6. It promises that the bits write the term's value
 //! wherever the inputs agree with the assignment of the variables, and that each assignment has
-//! inputs that agree. It stands on `bv_terms` and `gate_digits`; questions to a solver are made of it.
+//! inputs that agree. It stands on `bv_terms` and `gate_arith`; questions to a solver are made of it.
 #![tactic(auto)]
 
 mod blast;
 mod step;
-#[cfg(test)]
-mod tests;
 
 pub use blast::Blast;

@@ -5,12 +5,12 @@ ghost use Rattle.std.specs.Option.{option_copied};
 ghost use Rattle.bv_terms.specs.Tree.{digit, is_less_signed};
 ghost use Rattle.bv_terms.specs.Trees.{IsWithin};
 ghost use Rattle.gates.specs.Values.{Grows, Keeps};
-ghost use Rattle.gate_digits.specs.Numbers.{AreGates, Writes, number_at};
+ghost use Rattle.gate_arith.specs.Numbers.{AreGates, Writes, number_at};
 ghost use Rattle.bit_blast.specs.Table.{Adds, Appends, IsTable, all_digits, digits_of};
 ghost use Rattle.bit_blast.specs.Written.{AreReady, digits_at, digits_or_none, written, written_size};
 
 use bv_terms::{Term, TermId, Variable};
-use gate_digits::{
+use gate_arith::{
     and, choose, constant, difference, divided, equal, extended, inputs, inverse, joined, less,
     less_signed, or, part, product, shift_left, shift_right, shift_right_signed, sign_extended,
     sum, xor,

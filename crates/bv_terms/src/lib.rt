@@ -11,8 +11,6 @@ mod builders;
 mod folding;
 mod term;
 mod terms;
-#[cfg(test)]
-mod tests;
 mod variable;
 
 pub use folding::{FoldFault, TermFold, fold};

@@ -12,8 +12,6 @@ mod rerun;
 mod run;
 mod step;
 mod table;
-#[cfg(test)]
-mod tests;
 
 pub use ending::{Ending, ending_refines};
 pub use rerun::{Runner, run_again, runner_for};

@@ -8,8 +8,6 @@
 mod clause;
 mod cnf;
 mod lit;
-#[cfg(test)]
-mod tests;
 
 pub use clause::{Clause, is_clause};
 pub use cnf::{Assignment, Cnf, are_within, holds};

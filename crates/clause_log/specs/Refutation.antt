@@ -1,4 +1,6 @@
--- Which logs refute their clauses, and what is wrong first with one that doesn't.
+-- Which logs refute their clauses, and the first wrong step of one that doesn't. A step is a clause with the chain of
+-- earlier clauses that it is resolved from, as a RUP step with its hints is in LRAT (L. Cruz-Filipe and others,
+-- "Efficient Certified RAT Verification", 2017).
 use Rattle.std.specs.Prelude.{ℕ, ◌≡◌, ◌<◌, ◌-◌, ◌++◌, ◌⊎◌, List, [], Some, slice_get, map, take, length}
 use Rattle.clause_lits.specs.declared.lit.Lit.{Lit}
 use Rattle.clause_log.specs.declared.step.Step.{Step}

@@ -11,8 +11,6 @@ mod checking;
 mod laws;
 mod resolver;
 mod step;
-#[cfg(test)]
-mod tests;
 
 pub use chains::{chain_resolvent, clause_numbered};
 pub use checking::{LogFault, check_log};

@@ -1,4 +1,5 @@
--- What is learned from a conflict.
+-- What is learned from a conflict: an asserting clause at the first unique implication point (J. Marques-Silva and
+-- K. Sakallah, "GRASP", 1996; M. Moskewicz and others, "Chaff", 2001).
 use Rattle.std.specs.Prelude.{ℕ, ◌≡◌, ◌<◌, ◌≤◌, List, Some, slice_get, take, length}
 use Rattle.clause_log.specs.Members.{Has}
 use Rattle.clause_lits.specs.declared.lit.Lit.{Lit}
@@ -16,7 +17,8 @@ pub record IsLastDecision (trail : List Entry) (place : ℕ) : Type 0 where
   pub at : IsDecisionAt trail place
   pub later : (i : ℕ) (e : Entry) → place < i → slice_get trail i ≡ Some e → e.reason ≡ 0 → ⊥
 
--- a clause of the chain's that is unit at the last decision, where its one literal isn't assigned
+-- the asserting clause: the chain's resolvent, which after going back to the place `low` is unit, its one
+-- unassigned literal the asserting one
 pub record IsLearned (variables : ℕ) (clauses : List (List Lit)) (trail : List Entry) (low : ℕ) (learned : Learned) : Type 0 where
   pub chain : chain_resolvent clauses learned.chain ≡ Some learned.clause
   pub has : Has learned.clause learned.literal

@@ -1,4 +1,5 @@
--- What stands on a trail of literals, and why.
+-- The trail of a search: the literals that are assigned true, in order, each a decision or implied by a clause, its
+-- reason (N. Eén and N. Sörensson, "An Extensible SAT-solver", 2003).
 use Rattle.clause_log.specs.Members.{Has}
 use Rattle.clause_log.specs.Resolution.{same_sign}
 use Rattle.std.specs.Prelude.{Bool, nat_eq, ◌&&◌, ℕ, ◌≡◌, ◌<◌, ◌≤◌, ◌⊎◌, false, List, [], ◌∷◌, ◌++◌, Some, map}

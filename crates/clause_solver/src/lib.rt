@@ -8,8 +8,6 @@
 
 mod finding;
 mod solver;
-#[cfg(test)]
-mod tests;
 
 pub use clause_search::Answer;
 pub use finding::find;

@@ -15,10 +15,10 @@ use crate::choices::choose;
 use crate::operands::{cut, operand_of, typed_operand_of};
 use crate::state::RunState;
 use bv_terms::{Term, TermId, Terms};
+use inst_terms::{Computed, binary, cast, compare, select};
 use ir_tree::{Cast, Inst, Op, Operand, Predicate, TypedOperand};
 use mem_terms::{SymValue, both, negation, pick, truth};
 use support::NoMemory;
-use table_terms::{Computed, binary, cast, compare, select};
 use tv_num::Width;
 
 /// What two operands read of the registers.

@@ -1,4 +1,5 @@
--- Which clauses say what a circuit does.
+-- Which clauses say what a circuit does: the encoding of G. Tseitin, "On the complexity of derivation in
+-- propositional calculus" (1968). Each assignment of the inputs extends to exactly one model.
 use Rattle.std.specs.Prelude.{ℕ, ◌≡◌, ◌<◌, ◌≤◌, ◌+◌, Bool, All, Contains, List, [], ◌∷◌, ◌++◌, length, take, slice_get, slice_index, Some}
 use Rattle.clause_lits.specs.declared.lit.Lit.{Lit}
 use Rattle.clause_lits.specs.declared.cnf.Cnf.{Cnf}
@@ -12,7 +13,8 @@ use Rattle.gates.specs.Values.{IsInput, gate_at, inputs_of}
 abbrev pub AreInputs : List Gate → List GateId → Type 0
 AreInputs gates order = All (λ a. IsInput gates a) order
 
--- the clauses before the last one have exactly one model over each assignment of the inputs, and in it the last one, a single literal, is the value of the gate `out`
+-- each assignment of the inputs extends to exactly one model of the clauses before the last one; the last clause is
+-- one literal, which in each such model has the value of the gate `out`
 pub record Encodes (gates : List Gate) (out : GateId) (order : List GateId) (cnf : Cnf) : Type 0 where
   -- the variable of each gate, none of them twice
   pub number : List ℕ

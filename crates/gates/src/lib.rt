@@ -11,8 +11,6 @@
 mod circuit;
 mod encoding;
 mod numbering;
-#[cfg(test)]
-mod tests;
 
 pub use circuit::{Circuit, Gate, GateId};
 pub use encoding::to_cnf;

@@ -10,9 +10,9 @@ use Rattle.bv_terms.specs.Tree.{Tree, truth, value_of}
 use Rattle.bv_terms.specs.Trees.{AreFit, term_at, tree_in}
 use Rattle.clause_lits.specs.declared.cnf.Cnf.{Cnf}
 use Rattle.clause_search.specs.Outcome.{IsLess}
-use Rattle.front_order.specs.Fronts.{AreWidths, IsLeast, NonePass, numbers_of, total}
-use Rattle.front_order.proofs.Binary.{fits-numbers}
-use Rattle.front_order.proofs.Ordering.{least_digits, no_digits}
+use Rattle.answer_order.specs.Fronts.{AreWidths, IsLeast, NonePass, numbers_of, total}
+use Rattle.answer_order.proofs.Binary.{fits-numbers}
+use Rattle.answer_order.proofs.Ordering.{least_digits, no_digits}
 use Rattle.sat_ask.specs.Asks as asks
 use Rattle.sat_ask.specs.Asks.{Asks}
 use Rattle.sat_ask.specs.Questions.{Mentions, assigned_by, digit_count, goal_test, variables_of}

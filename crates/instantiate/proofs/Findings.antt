@@ -16,8 +16,8 @@ use Rattle.points.specs.Covers.{covers, is_covered}
 use Rattle.points.specs.Tapes.{need_of}
 use Rattle.points.specs.Trail.{AreAllCovered, IsLeastUncovered, IsPoint}
 use Rattle.points.proofs.Decoded.{codes_tell_points}
-use Rattle.front_order.specs.Fronts.{Fits, IsLeast, NonePass, numbers_of}
-use Rattle.front_order.proofs.Binary.{fits-numbers}
+use Rattle.answer_order.specs.Fronts.{Fits, IsLeast, NonePass, numbers_of}
+use Rattle.answer_order.proofs.Binary.{fits-numbers}
 use Rattle.mem_terms.specs.declared.inputs.InputTerms.{InputTerms}
 use Rattle.mem_terms.specs.declared.inputs.TapeTerms.{TapeTerms}
 use Rattle.mem_terms.specs.Inputs.{words_at}

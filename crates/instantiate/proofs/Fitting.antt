@@ -20,7 +20,7 @@ use Rattle.points.specs.Tapes.{need_of, widest_choice}
 use Rattle.points.specs.Trail.{IsPoint}
 use Rattle.points.proofs.ByteOrder.{name_at_most}
 use Rattle.points.proofs.Same.{blocks_count, sizes_of}
-use Rattle.front_order.specs.Fronts.{AreWidths, Fits}
+use Rattle.answer_order.specs.Fronts.{AreWidths, Fits}
 use Rattle.unroll.specs.Small.{AreSmall}
 use Rattle.instantiate.specs.Questions.{args_widths, blocks_widths, places_widths, point_widths, tape_widths, value_widths}
 use Rattle.instantiate.specs.Shapes.{IsShapeOf}

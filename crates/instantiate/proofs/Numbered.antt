@@ -11,9 +11,9 @@ use Rattle.bv_terms.specs.declared.term.Term.TheVariants as term
 use Rattle.bv_terms.specs.declared.variable.Variable.{Variable}
 use Rattle.bv_terms.specs.Tree.{value_of, width_of}
 use Rattle.bv_terms.specs.Trees.{AreFit, Extends, Gains, Keeps, term_at, tree_in, variables_among}
-use Rattle.gate_digits.specs.Numbers.{number_of}
-use Rattle.gate_digits.proofs.Digits.{number-below}
-use Rattle.front_order.specs.Fronts.{Fits, numbers_of, total}
+use Rattle.gate_arith.specs.Numbers.{number_of}
+use Rattle.gate_arith.proofs.Digits.{number-below}
+use Rattle.answer_order.specs.Fronts.{Fits, numbers_of, total}
 use Rattle.sat_ask.specs.Questions.{AreDifferent, IsVariable, assigned_by, digit_count, variable_of, variables_of}
 use Rattle.sat_ask.proofs.Marking.{tree_placed}
 use Rattle.mem_terms.specs.Values.{Each}

@@ -17,7 +17,7 @@ use Rattle.clause_lits.specs.declared.cnf.Cnf.{Cnf}
 use Rattle.clause_log.specs.declared.step.Cert.{Cert}
 use Rattle.clause_log.specs.Refutation.{Refutes}
 use Rattle.clause_search.specs.Outcome.{IsCareful, IsSpent}
-use Rattle.front_order.specs.Fronts.{numbers_of, total}
+use Rattle.answer_order.specs.Fronts.{numbers_of, total}
 use Rattle.sat_ask.specs.Asks.{Asks, HasSmallNumbers}
 use Rattle.unroll.specs.Small.{AreSmall}
 use Rattle.encoder.specs.Frontier.{ReturnsFit}

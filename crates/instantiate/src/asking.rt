@@ -2,13 +2,13 @@
 
 ghost use Rattle.std.specs.Prelude.{◌<◌, IfOk, IfSome};
 ghost use Rattle.bv_terms.specs.Trees.{IsTerm};
-ghost use Rattle.front_order.specs.Fronts.{AreWidths};
+ghost use Rattle.answer_order.specs.Fronts.{AreWidths};
 ghost use Rattle.instantiate.specs.Numbers.{IsFoundNumbers, number_test};
 ghost use Rattle.instantiate.specs.Orders.{IsOrder};
 
 use crate::found::Found;
+use answer_order::numbers_of;
 use bv_terms::{TermId, Terms};
-use front_order::numbers_of;
 use sat_ask::{Asked, ask};
 use std::alloc::Global;
 use support::{NoMemory, Sequence};

@@ -10,9 +10,9 @@ use Rattle.ir_lexer.specs.declared.token.Kind.{Kind}
 use Rattle.ir_lexer.specs.declared.token.Kind.TheVariants as kind
 use Rattle.ir_tree.specs.declared.tree.Op.{Op}
 use Rattle.ir_tree.specs.declared.tree.Cast.{Cast}
-use Rattle.ir_forms.specs.Form.{never, either}
-use Rattle.ir_forms.specs.Plain.{AreApart, TellsApart, SpellsAsPlain, SpellsOne}
-use Rattle.ir_forms.proofs.Plain.{apart-never, apart-either, apart-spelled, apart-class, apart-tail, spells-as-plain, spells-one}
+use Rattle.token_forms.specs.Form.{never, either}
+use Rattle.token_forms.specs.Plain.{AreApart, TellsApart, SpellsAsPlain, SpellsOne}
+use Rattle.token_forms.proofs.Plain.{apart-never, apart-either, apart-spelled, apart-class, apart-tail, spells-as-plain, spells-one}
 use Rattle.ir_grammar.specs.declared.word.Opcode.{Opcode}
 use Rattle.ir_grammar.specs.declared.word.Opcode.TheVariants as opcode
 use Rattle.ir_grammar.specs.declared.word.Flag.{Flag}

@@ -9,7 +9,7 @@ use Rattle.ir_tree.specs.declared.name.Name.TheVariants as name
 use Rattle.ir_tree.specs.declared.tree.Op.TheVariants as op
 use Rattle.ir_tree.specs.declared.tree.Predicate.{Predicate}
 use Rattle.ir_tree.specs.declared.tree.Predicate.TheVariants as predicate
-use Rattle.ir_forms.specs.Form.{Class}
+use Rattle.token_forms.specs.Form.{Class}
 use Rattle.ir_grammar.specs.declared.word.Opcode.TheVariants as opcode
 use Rattle.ir_grammar.specs.declared.word.LineWord.{LineWord}
 use Rattle.ir_grammar.specs.declared.word.LineWord.TheVariants as line

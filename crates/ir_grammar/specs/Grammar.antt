@@ -6,8 +6,8 @@ use Rattle.ir_lexer.specs.declared.token.Kind.{Kind}
 use Rattle.ir_lexer.specs.declared.token.Kind.TheVariants as kind
 use Rattle.ir_lexer.specs.Lexeme.{Lexeme}
 use Rattle.ir_tree.specs.Types.{one_bit}
-use Rattle.ir_forms.specs.declared.bracket.Bracket.TheVariants.{Round}
-use Rattle.ir_forms.specs.Form.{Form, never, either, give, one, upto, peek, tail, balanced, mapped, ◌>>=◌}
+use Rattle.token_forms.specs.declared.bracket.Bracket.TheVariants.{Round}
+use Rattle.token_forms.specs.Form.{Form, never, either, give, one, upto, peek, tail, balanced, mapped, ◌>>=◌}
 use Rattle.ir_grammar.specs.declared.word.LineStart.{LineStart}
 use Rattle.ir_grammar.specs.declared.word.LineStart.TheVariants as start
 use Rattle.ir_grammar.specs.declared.word.TerminatorWord.{TerminatorWord}

@@ -8,7 +8,7 @@ use Rattle.ir_tree.specs.declared.tree.Op.TheVariants as op
 use Rattle.ir_tree.specs.declared.tree.Predicate.{Predicate}
 use Rattle.ir_tree.specs.declared.tree.Cast.{Cast}
 use Rattle.ir_tree.specs.declared.tree.Cast.TheVariants as cast
-use Rattle.ir_forms.specs.Form.{Form, never, either, give, one, upto, peek, tail, ◌>>=◌}
+use Rattle.token_forms.specs.Form.{Form, never, either, give, one, upto, peek, tail, ◌>>=◌}
 use Rattle.ir_grammar.specs.declared.word.WrapWord.{WrapWord}
 use Rattle.ir_grammar.specs.declared.word.ExactWord.{ExactWord}
 use Rattle.ir_grammar.specs.declared.word.Opcode.{Opcode}

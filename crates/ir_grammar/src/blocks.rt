@@ -1,7 +1,7 @@
 // Reading the blocks of a function.
 ghost use Rattle.std.specs.Prelude.{◌≡◌, [], true};
-ghost use Rattle.ir_forms.specs.Form.{reads, read, begin_of, step_of};
-ghost use Rattle.ir_forms.specs.Answer.{Reads};
+ghost use Rattle.token_forms.specs.Form.{reads, read, begin_of, step_of};
+ghost use Rattle.token_forms.specs.Answer.{Reads};
 ghost use Rattle.ir_grammar.specs.Classes.{any};
 ghost use Rattle.ir_grammar.specs.Grammar as spec;
 ghost use Rattle.ir_grammar.specs.Grammar.{begins_block, block_begins};
@@ -12,10 +12,10 @@ use crate::lists::pushed;
 use crate::written::{
     WrittenBlock, WrittenBlocks, WrittenBody, WrittenLines, WrittenName, WrittenTerminator,
 };
-use ir_forms::ReadFault;
 use ir_items::name_before_colon;
 use ir_lexer::Kind;
 use support::Sequence;
+use token_forms::ReadFault;
 
 /// The greatest number of instructions of a function, phis and terminators counted.
 const MOST_INSTS: usize = 65_536;

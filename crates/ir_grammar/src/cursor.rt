@@ -1,7 +1,7 @@
 // Reading one token.
 ghost use Rattle.std.specs.Prelude.{◌≡◌, [], true, codes};
-ghost use Rattle.ir_forms.specs.Form.{one_of, token_of, begin_of, reads, read, balanced};
-ghost use Rattle.ir_forms.specs.Answer.{Reads, Passes};
+ghost use Rattle.token_forms.specs.Form.{one_of, token_of, begin_of, reads, read, balanced};
+ghost use Rattle.token_forms.specs.Answer.{Reads, Passes};
 ghost use Rattle.ir_grammar.specs.Reasons.{reason, type_reason};
 ghost use Rattle.ir_grammar.specs.Spelling.{bits_behind, spelled_width, width_in, word_value, truth_value, is_void};
 ghost use Rattle.ir_grammar.specs.Classes.{as_word, as_mark, any, passed, brace, local, global, int_type, counted_type, bit_type, return_type, operand_class, literal_class, line_word, terminator_word, predicate_class};
@@ -12,7 +12,6 @@ use crate::word::{LineWord, TerminatorWord, line_word_of, predicate_of, terminat
 use crate::written::{
     WrittenLiteral, WrittenName, WrittenOperand, WrittenReturnType, WrittenType, WrittenValue,
 };
-use ir_forms::{Bracket, ReadFault, pass_bracket};
 use ir_items::name_behind_sign;
 use ir_lexer::{Kind, Token};
 use ir_tree::{Predicate, Reason};
@@ -20,6 +19,7 @@ use std::alloc::Global;
 use std::marker::Model;
 use support::Sequence;
 use text_places::Place;
+use token_forms::{Bracket, ReadFault, pass_bracket};
 use tv_num::Width;
 
 /// The tokens that are left to read. Contracts see them as a list.

@@ -1,7 +1,7 @@
 // Reading a function with a body.
 ghost use Rattle.std.specs.Prelude.{◌≡◌, [], true};
-ghost use Rattle.ir_forms.specs.Form.{reads, read, begin_of, step_of, one_of};
-ghost use Rattle.ir_forms.specs.Answer.{Reads, Passes};
+ghost use Rattle.token_forms.specs.Form.{reads, read, begin_of, step_of, one_of};
+ghost use Rattle.token_forms.specs.Answer.{Reads, Passes};
 ghost use Rattle.ir_grammar.specs.Spelling as spelling;
 ghost use Rattle.ir_grammar.specs.Spelling.{is_attribute};
 ghost use Rattle.ir_grammar.specs.Classes.{any, comdat_name};
@@ -13,9 +13,9 @@ use crate::lines::is_numbered;
 use crate::reasons::reason_at;
 use crate::word::{HeaderPart, prefix_of};
 use crate::written::WrittenFunction;
-use ir_forms::ReadFault;
 use ir_lexer::{Kind, Token};
 use ir_tree::Reason;
+use token_forms::ReadFault;
 
 fn is_attribute(text: &[u8]) -> bool
     ensures { result ≡ is_attribute text.now }

@@ -1,7 +1,7 @@
 // Reading an instruction behind the name of its result.
 ghost use Rattle.std.specs.Prelude.{◌≡◌, true};
-ghost use Rattle.ir_forms.specs.Form.{reads, read, begin_of};
-ghost use Rattle.ir_forms.specs.Answer.{Reads};
+ghost use Rattle.token_forms.specs.Form.{reads, read, begin_of};
+ghost use Rattle.token_forms.specs.Answer.{Reads};
 ghost use Rattle.ir_tree.specs.Types.{one_bit};
 ghost use Rattle.ir_grammar.specs.Words.{flag_text};
 ghost use Rattle.ir_grammar.specs.Classes.{any, as_word, passed};
@@ -10,9 +10,9 @@ ghost use Rattle.ir_grammar.specs.Instructions as spec;
 use crate::cursor::Cursor;
 use crate::word::{ExactWord, Flag, LineWord, Opcode, WrapWord, exact_op, wrapping_op};
 use crate::written::{WrittenInst, WrittenLine, WrittenName, WrittenType, WrittenTyped};
-use ir_forms::ReadFault;
 use ir_lexer::Kind;
 use ir_tree::{Cast, Flags, Op, Predicate};
+use token_forms::ReadFault;
 use tv_num::Width;
 
 const NO_FLAGS: Flags = Flags {

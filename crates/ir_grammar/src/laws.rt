@@ -1,4 +1,4 @@
-ghost use Rattle.ir_forms.specs.Plain.{SpellsAsPlain, SpellsOne};
+ghost use Rattle.token_forms.specs.Plain.{SpellsAsPlain, SpellsOne};
 ghost use Rattle.ir_grammar.specs.Grammar.{define};
 
 /// The tokens that spell a function when one token is looked at ahead are those that the plain

@@ -1,11 +1,11 @@
 // Reading the lines of a block and what is attached to them.
 ghost use Rattle.std.specs.Prelude.{◌≡◌, ◌||◌, ◌<◌, [], true, not};
-ghost use Rattle.ir_forms.specs.Form.{reads, read, begin_of, step_of, token_of};
-ghost use Rattle.ir_forms.specs.Answer.{Reads, Passes};
+ghost use Rattle.token_forms.specs.Form.{reads, read, begin_of, step_of, token_of};
+ghost use Rattle.token_forms.specs.Answer.{Reads, Passes};
 ghost use Rattle.ir_grammar.specs.Spelling as spelling;
 ghost use Rattle.ir_grammar.specs.Spelling.{is_attached, is_numbered};
 ghost use Rattle.ir_grammar.specs.Classes.{any, attachment_word, metadata_number};
-ghost use Rattle.ir_forms.specs.Form.{one_of};
+ghost use Rattle.token_forms.specs.Form.{one_of};
 ghost use Rattle.ir_grammar.specs.Grammar as spec;
 ghost use Rattle.ir_grammar.specs.Grammar.{is_comma, comma_begins, attachment, record_rest, is_local_kind, starts_line, line_begins, line_within, takes_comma, line_comma, with_comma};
 ghost use Rattle.ir_lexer.specs.declared.token.Kind.TheVariants as kind;
@@ -17,12 +17,12 @@ use crate::numbers::some_digits;
 use crate::reasons::reason_at;
 use crate::word::LineStart;
 use crate::written::{WrittenInst, WrittenLine, WrittenLines, WrittenName, WrittenPhi};
-use ir_forms::{Bracket, ReadFault};
 use ir_items::{name_before_colon, name_behind_sign};
 use ir_lexer::{Kind, Token};
 use ir_tree::Reason;
 use std::alloc::Global;
 use text_places::Place;
+use token_forms::{Bracket, ReadFault};
 
 fn is_attached(text: &[u8]) -> bool
     ensures { result ≡ is_attached text.now }

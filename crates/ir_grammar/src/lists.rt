@@ -1,10 +1,10 @@
 // Lists that grow while tokens are read.
 ghost use Rattle.std.specs.Prelude.{◌++◌, ◌∷◌, []};
-ghost use Rattle.ir_forms.specs.Form.{reads};
-ghost use Rattle.ir_forms.specs.Answer.{Reads};
+ghost use Rattle.token_forms.specs.Form.{reads};
+ghost use Rattle.token_forms.specs.Answer.{Reads};
 
-use ir_forms::ReadFault;
 use support::Sequence;
+use token_forms::ReadFault;
 
 /// The items and one more.
 pub fn pushed<T: Drop>(items: Sequence<T>, item: T) -> Result<Sequence<T>, ReadFault>

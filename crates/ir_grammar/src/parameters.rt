@@ -1,7 +1,7 @@
 // Reading the parameters of a function.
 ghost use Rattle.std.specs.Prelude.{◌≡◌, ◌++◌, ◌∷◌, [], true, is_some};
-ghost use Rattle.ir_forms.specs.Form.{reads, read, begin_of, step_of};
-ghost use Rattle.ir_forms.specs.Answer.{Reads};
+ghost use Rattle.token_forms.specs.Form.{reads, read, begin_of, step_of};
+ghost use Rattle.token_forms.specs.Answer.{Reads};
 ghost use Rattle.ir_grammar.specs.Spelling as spelling;
 ghost use Rattle.ir_grammar.specs.Classes.{any};
 ghost use Rattle.ir_grammar.specs.Grammar as spec;
@@ -11,11 +11,11 @@ use crate::cursor::Cursor;
 use crate::lists::pushed;
 use crate::word::ParameterPart;
 use crate::written::{WrittenName, WrittenParameter, WrittenParameters, WrittenType};
-use ir_forms::ReadFault;
 use ir_items::name_behind_sign;
 use ir_lexer::{Kind, Token};
 use std::alloc::Global;
 use support::Sequence;
+use token_forms::ReadFault;
 
 /// The greatest number of parameters.
 const MOST_PARAMETERS: usize = 16;

@@ -1,13 +1,13 @@
 // Reading a phi, and what stands behind its commas.
 ghost use Rattle.std.specs.Prelude.{◌≡◌, true};
-ghost use Rattle.ir_forms.specs.Form.{read};
-ghost use Rattle.ir_forms.specs.Answer.{Reads};
+ghost use Rattle.token_forms.specs.Form.{read};
+ghost use Rattle.token_forms.specs.Answer.{Reads};
 ghost use Rattle.ir_grammar.specs.Instructions as spec;
 
 use crate::cursor::Cursor;
 use crate::lists::pushed;
 use crate::written::{WrittenEntry, WrittenLine, WrittenName, WrittenPhi, WrittenType};
-use ir_forms::ReadFault;
+use token_forms::ReadFault;
 
 /// The greatest number of entries of a phi.
 const MOST_ENTRIES: usize = 16_777_216;

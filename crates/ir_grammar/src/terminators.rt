@@ -1,7 +1,7 @@
 // Reading the last instruction of a block, behind its word.
 ghost use Rattle.std.specs.Prelude.{◌≡◌, ◌&&◌, true};
-ghost use Rattle.ir_forms.specs.Form.{reads, read, begin_of, step_of};
-ghost use Rattle.ir_forms.specs.Answer.{Reads};
+ghost use Rattle.token_forms.specs.Form.{reads, read, begin_of, step_of};
+ghost use Rattle.token_forms.specs.Answer.{Reads};
 ghost use Rattle.ir_grammar.specs.Spelling.{width_in, typed_at, is_width};
 ghost use Rattle.ir_grammar.specs.Grammar as spec;
 ghost use Rattle.ir_grammar.specs.Grammar.{is_type, case_begins, case_within, with_case};
@@ -14,9 +14,9 @@ use crate::written::{
     WrittenCase, WrittenName, WrittenReturn, WrittenReturnType, WrittenTerminator, WrittenType,
     WrittenTyped,
 };
-use ir_forms::ReadFault;
 use support::Sequence;
 use text_places::Place;
+use token_forms::ReadFault;
 use tv_num::Width;
 
 /// The greatest number of cases of a switch.

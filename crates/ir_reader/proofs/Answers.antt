@@ -7,14 +7,14 @@ use Rattle.ir_tree.specs.declared.module.Reason.{Reason}
 use Rattle.ir_tree.specs.declared.module.CheckFault.{CheckFault}
 use Rattle.ir_tree.specs.declared.module.CheckFault.TheVariants as fault
 use Rattle.ir_tree.specs.declared.tree.Function.{Function}
-use Rattle.ir_forms.specs.declared.fault.ReadFault.{ReadFault}
-use Rattle.ir_forms.specs.declared.fault.ReadFault.TheVariants as stop
-use Rattle.ir_forms.specs.Form.{reads, read}
-use Rattle.ir_forms.specs.Spelling.{Spells}
-use Rattle.ir_forms.specs.Answer.{Fails}
-use Rattle.ir_forms.proofs.Exact.{read-found}
-use Rattle.ir_forms.proofs.Stops.{stops-unfit, stops-past, stops-behind}
-use Rattle.ir_forms.proofs.Reasons.{refused-as}
+use Rattle.token_forms.specs.declared.fault.ReadFault.{ReadFault}
+use Rattle.token_forms.specs.declared.fault.ReadFault.TheVariants as stop
+use Rattle.token_forms.specs.Form.{reads, read}
+use Rattle.token_forms.specs.Spelling.{Spells}
+use Rattle.token_forms.specs.Answer.{Fails}
+use Rattle.token_forms.proofs.Exact.{read-found}
+use Rattle.token_forms.proofs.Stops.{stops-unfit, stops-past, stops-behind}
+use Rattle.token_forms.proofs.Reasons.{refused-as}
 use Rattle.ir_grammar.specs.declared.written.WrittenFunction.{WrittenFunction}
 use Rattle.ir_grammar.specs.Reasons.{reason}
 use Rattle.ir_grammar.specs.Grammar.{define}

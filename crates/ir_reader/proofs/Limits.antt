@@ -24,7 +24,7 @@ use Rattle.ir_tree.specs.declared.tree.Terminator.TheVariants.{Return, Branch, C
 use Rattle.ir_tree.specs.declared.tree.Block.{Block}
 use Rattle.ir_tree.specs.declared.tree.Parameter.{Parameter}
 use Rattle.ir_tree.specs.declared.tree.Function.{Function}
-use Rattle.ir_forms.specs.Spelling.{SpellParts, Spells, part_value, part_begins}
+use Rattle.token_forms.specs.Spelling.{SpellParts, Spells, part_value, part_begins}
 use Rattle.ir_grammar.specs.declared.word.LineStart.{LineStart}
 use Rattle.ir_grammar.specs.declared.word.LineStart.TheVariants as start
 use Rattle.ir_grammar.specs.declared.word.LineWord.{LineWord}

@@ -18,11 +18,11 @@ use Rattle.ir_tree.specs.declared.module.Entry.{Entry}
 use Rattle.ir_tree.specs.declared.module.Module.{Module}
 use Rattle.ir_tree.specs.declared.tree.Function.{Function}
 use Rattle.ir_tree.proofs.Refusals.{one_refusal, never_well_formed}
-use Rattle.ir_forms.specs.Form.{Reading, reads, stops, unfit as unfit_why, limit, read}
-use Rattle.ir_forms.specs.Refusals.{RefusedAs}
-use Rattle.ir_forms.proofs.Exact.{read-again}
-use Rattle.ir_forms.proofs.Stops.{limit-again}
-use Rattle.ir_forms.proofs.RefusedAgain.{refused-again}
+use Rattle.token_forms.specs.Form.{Reading, reads, stops, unfit as unfit_why, limit, read}
+use Rattle.token_forms.specs.Refusals.{RefusedAs}
+use Rattle.token_forms.proofs.Exact.{read-again}
+use Rattle.token_forms.proofs.Stops.{limit-again}
+use Rattle.token_forms.proofs.RefusedAgain.{refused-again}
 use Rattle.ir_grammar.specs.declared.written.WrittenFunction.{WrittenFunction}
 use Rattle.ir_grammar.specs.Reasons.{reason}
 use Rattle.ir_grammar.specs.Grammar.{define}

@@ -9,9 +9,9 @@ use Rattle.ir_tree.specs.declared.module.Reason.TheVariants.{Limit}
 use Rattle.ir_tree.specs.declared.module.CheckFault.{CheckFault}
 use Rattle.ir_tree.specs.declared.module.CheckFault.TheVariants as fault
 use Rattle.ir_tree.specs.declared.tree.Function.{Function}
-use Rattle.ir_forms.specs.declared.fault.ReadFault.{ReadFault}
-use Rattle.ir_forms.specs.declared.fault.ReadFault.TheVariants as stop
-use Rattle.ir_forms.specs.Spelling.{Spells}
+use Rattle.token_forms.specs.declared.fault.ReadFault.{ReadFault}
+use Rattle.token_forms.specs.declared.fault.ReadFault.TheVariants as stop
+use Rattle.token_forms.specs.Spelling.{Spells}
 use Rattle.ir_grammar.specs.declared.written.WrittenFunction.{WrittenFunction}
 use Rattle.ir_grammar.specs.Grammar.{define}
 use Rattle.ir_reader.specs.Functions.{refused_at, stop_place, IsFunction}

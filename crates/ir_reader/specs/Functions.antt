@@ -10,8 +10,8 @@ use Rattle.ir_tree.specs.declared.module.Refused.{Refused}
 use Rattle.ir_tree.specs.declared.module.CheckFault.{CheckFault}
 use Rattle.ir_tree.specs.declared.module.CheckFault.TheVariants as fault
 use Rattle.ir_tree.specs.declared.tree.Function.{Function}
-use Rattle.ir_forms.specs.Spelling.{Spells}
-use Rattle.ir_forms.specs.Refusals.{RefusedAs, StopsUnfit, StopsPast}
+use Rattle.token_forms.specs.Spelling.{Spells}
+use Rattle.token_forms.specs.Refusals.{RefusedAs, StopsUnfit, StopsPast}
 use Rattle.ir_grammar.specs.declared.written.WrittenFunction.{WrittenFunction}
 use Rattle.ir_grammar.specs.Reasons.{reason}
 use Rattle.ir_grammar.specs.Grammar.{define}

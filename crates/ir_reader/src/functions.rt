@@ -7,13 +7,13 @@ ghost use Rattle.ir_reader.specs.Answer.{Writes, Tests, fault_at};
 
 use assigned_names::check_assigned;
 use ir_check::{check_edges, check_names, check_types};
-use ir_forms::ReadFault;
 use ir_grammar::{Cursor, WrittenFunction, reason_at};
 use ir_lexer::Token;
 use ir_numbering::numbered;
 use ir_tree::{CheckFault, Function, Reason, Refused};
 use std::alloc::Global;
 use text_places::Place;
+use token_forms::ReadFault;
 
 fn refused_at(reason: Reason, place: Place) -> Refused
     ensures { result ≡ spec.refused_at reason place }

@@ -3,7 +3,7 @@
 //! It promises plain data: two functions with the same parts are equal. Limits of a function are
 //! stated here, with their test, and what is asked of a function beside its spelling
 //! (`specs/WellFormed.antt`), with the list of what it is asked of: the function's sites
-//! (`sites_of`), and where its blocks lead (`targets_of`, `successors`). It stands on `block_paths`,
+//! (`sites_of`), and where its blocks lead (`targets_of`, `successors`). It stands on `definite_assignment`,
 //! `tv_num` and `text_places`; the reader makes trees, `ir_check` and `assigned_names` test them, and
 //! whatever runs or prints a function takes them.
 #![tactic(auto)]

@@ -9,8 +9,6 @@
 mod inputs;
 mod numbers;
 mod outcome;
-#[cfg(test)]
-mod tests;
 mod truths;
 mod values;
 

@@ -1,11 +1,22 @@
-//! Judges of pairs, and what is kept of their answers.
+//! The judge interface with its result type, and the driver that judges pairs by many workers.
 //!
-//! It promises that each answer that a judge gives is one that its meaning allows. It stands on
-//! `points` and `clause_log`; each judge stands above it, and so does the program.
+//! It promises that [`drive`] answers as many judgements as there are pairs, each one that the judge's
+//! meaning allows for the pair of its index, for every number of workers and every schedule. It stands on
+//! `points`, `clause_log` and `claim_board`; each judge stands above it, and so does the program.
 #![tactic(auto)]
 
+mod gate;
 mod judge;
 mod judged;
+mod pairs;
+mod place;
+mod share;
+mod tasks;
+mod work;
 
+pub use gate::{Gate, OpenGate};
 pub use judge::Judge;
 pub use judged::Judged;
+pub use pairs::drive;
+pub use share::run_all;
+pub use tasks::Tasks;

@@ -1,4 +1,10 @@
--- What a function does on an input and a tape of choices. It is told for every function: a name that was never assigned is poison, undef is poison where it is neither frozen nor returned, a number is read modulo the width at which it is used, and a jump to a label that no block has ends in undefined behaviour, and a phi without an entry for the block that was left is poison. In a function that is read none of these happens.
+-- What a function does on an input and a tape of choices (LLVM Language Reference, "Functions", "Instruction
+-- Reference", "Poison Values", "Undefined Values", "Freeze Instruction").
+--
+-- It is defined for every function, also for those that the reader rejects: a name that was never assigned is poison,
+-- undef is poison where it is neither frozen nor returned, a number is read modulo the width at which it is used, a phi
+-- without an entry for the block that was left is poison, and a jump to a label that no block has ends in undefined
+-- behaviour. None of these happens in a function that the reader accepts.
 use Rattle.std.specs.Prelude.{◌≡◌, ℕ, zero, suc, ◌+◌, ◌%◌, ◌^◌, List, [], ◌∷◌, ◌++◌, length, replicate, nat_eq, nat_lt, if◌then◌else◌, Bool, true, false, ◌&&◌, ◌||◌, Option, Some, None, slice_get, slice_index, slice_index_or, slice_set}
 use Rattle.std.specs.List.{find}
 use Rattle.std.specs.Option.{option_map, option_map_or}
@@ -60,7 +66,7 @@ choice_of tape m width = slice_index tape (length m.taken) % 2 ^ width
 abbrev pub chosen : Machine → ℕ → ℕ → Machine
 chosen m name choice = record (assigned m name (Num choice)) { taken = m.taken ++ choice ∷ [] }
 
--- poison becomes a choice, undef too, and any other value stays as it is
+-- freeze: poison and undef become one choice, and any other value stays as it is ("freeze Instruction")
 abbrev pub frozen : List ℕ → Machine → ℕ → ℕ → Value → Machine
 frozen tape m name width Poison = chosen m name (choice_of tape m width)
 frozen tape m name width v = assigned m name (cut_value width v)
@@ -76,7 +82,7 @@ act (Select into condition if_true if_false) tape m =
     Some (assigned m into (selected (operand_value m.registers condition) (typed_operand_value m.registers if_true) (typed_operand_value m.registers if_false)))
 act (Freeze into width operand) tape m = Some (frozen tape m into width.bits (operand_value m.registers operand))
 
--- ---- the phis of a block
+-- ---- the phis of a block ("phi Instruction")
 
 -- what stands in the entry for the block that was left
 abbrev pub entry_value : Machine → List PhiEntry → Value
@@ -112,7 +118,7 @@ ended outcome m = record { outcome = outcome; taken = m.taken }
 abbrev pub returns : Option Value → Machine → Run
 returns v m = ended (Return v m.memory) m
 
--- the width of the choice that stands there: undef of an integer type is one
+-- the width of the choice that stands there: undef of an integer type is one ("Undefined Values")
 abbrev pub undef_width : IrType → Operand → Option ℕ
 undef_width (type.Int width) operand.Undef = Some width.bits
 undef_width _ _ = None
@@ -127,14 +133,15 @@ is_poison (Num n) = false
 is_poison Poison = true
 is_poison (value.Ptr p) = false
 
--- undef is returned as a choice; where the return is noundef, undef and poison are undefined behaviour
+-- undef is returned as a choice; where the return is noundef, undef and poison are undefined behaviour ("ret
+-- Instruction"; "Parameter Attributes", noundef)
 abbrev pub returned_run : Bool → Option TypedOperand → List ℕ → Machine → Run
 returned_run no_undef None tape m = returns None m
 returned_run no_undef (Some returned) tape m =
     if no_undef && is_poison (operand_value m.registers returned.operand) then ended Ub m
     else returned_with (undef_width returned.of_type returned.operand) returned tape m
 
--- a condition of one bit; poison is undefined behaviour
+-- a condition of one bit; poison is undefined behaviour ("br Instruction")
 abbrev pub branch_on : Value → ℕ → ℕ → Machine → Exit
 branch_on (Num n) if_true if_false m = To (if nat_eq (n % 2) 1 then if_true else if_false) m
 branch_on _ if_true if_false m = Over (ended Ub m)
@@ -143,7 +150,7 @@ branch_on _ if_true if_false m = Over (ended Ub m)
 abbrev pub case_for : ℕ → ℕ → ℕ → List Case → ℕ
 case_for width n default cases = option_map_or (λ (c : Case). c.to) (find (λ (c : Case). same_number width c.value n) cases) default
 
--- poison is undefined behaviour
+-- poison is undefined behaviour ("switch Instruction")
 abbrev pub switch_on : ℕ → Value → ℕ → List Case → Machine → Exit
 switch_on width (Num n) default cases m = To (case_for width n default cases) m
 switch_on width _ default cases m = Over (ended Ub m)
@@ -212,7 +219,8 @@ abbrev pub breaks_noundef : List Parameter → List Value → Bool
 breaks_noundef (p ∷ ps) (v ∷ vs) = (p.no_undef && is_poison v) || breaks_noundef ps vs
 breaks_noundef _ _ = false
 
--- the first block is the entry; a poison argument of a noundef parameter is undefined behaviour before it
+-- the first block is the entry; a poison argument of a noundef parameter is undefined behaviour before it ("Parameter
+-- Attributes", noundef)
 abbrev pub run_of : Function → Bounds → Input → List ℕ → Run
 run_of f bounds input tape =
     if breaks_noundef f.parameters input.args then ended Ub (first_machine f input)

@@ -18,8 +18,6 @@ mod point_steps;
 mod reading;
 mod refinement;
 mod steps;
-#[cfg(test)]
-mod tests;
 mod value_steps;
 mod verdict;
 

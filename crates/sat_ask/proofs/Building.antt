@@ -13,7 +13,7 @@ use Rattle.bv_terms.proofs.Zips.{IsStage, IsStage-fit, IsStage-more, stage_start
 use Rattle.gates.specs.declared.circuit.GateId.{GateId}
 use Rattle.gates.specs.declared.circuit.Gate.{Gate}
 use Rattle.gates.specs.Values.{gate_at}
-use Rattle.gate_digits.specs.Numbers.{number_at}
+use Rattle.gate_arith.specs.Numbers.{number_at}
 use Rattle.bv_terms.specs.declared.variable.Variable.{Variable}
 use Rattle.bit_blast.specs.Bits.{AreBits, AreStanding}
 use Rattle.bit_blast.specs.Following.{bits_kept}

@@ -13,8 +13,8 @@ use Rattle.clause_lits.specs.declared.cnf.Cnf.{Cnf}
 use Rattle.gates.specs.declared.circuit.GateId.{GateId}
 use Rattle.gates.specs.declared.circuit.Gate.{Gate}
 use Rattle.gates.specs.Encoding.{AreAllNamed, Encodes, HasOneModelAFront}
-use Rattle.gate_digits.specs.Numbers.{number_of}
-use Rattle.gate_digits.proofs.Digits.{number-below}
+use Rattle.gate_arith.specs.Numbers.{number_of}
+use Rattle.gate_arith.proofs.Digits.{number-below}
 use Rattle.bv_terms.specs.declared.variable.Variable.{Variable}
 use Rattle.bv_terms.specs.Variables.{is_variable}
 use Rattle.bit_blast.specs.Table.{Adds, Agrees, AreDigits, IsTable, all_digits, digits_of}

@@ -6,8 +6,8 @@ use Rattle.clause_log.specs.Refutation.{Refutes}
 use Rattle.clause_search.specs.Outcome.{IsAnswer, IsCareful, IsSpent}
 use Rattle.clause_search.specs.declared.answer.Answer.{Answer}
 use Rattle.clause_search.specs.declared.answer.Answer.TheVariants as answer
-use Rattle.renamed_log.specs.Turned.{AreClauses, IsRenumbering, turned, turned_log}
-use Rattle.renamed_log.proofs.Renamed.{found_logs_are_spent, found_logs_refute}
+use Rattle.cnf_renumber.specs.Turned.{AreClauses, IsRenumbering, turned, turned_log}
+use Rattle.cnf_renumber.proofs.Renamed.{found_logs_are_spent, found_logs_refute}
 
 module _ (p q : ℕ → ℕ) (clauses others : List (List Lit)) (log new : List Step) (way : IsRenumbering p q) (is : others ≡ map (turned p) clauses) (back : new ≡ turned_log q log)
     (h : AreClauses clauses) (hl : AreClauses (map (λ s. s.clause) log)) (variables front outside : ℕ) (limit : Option ℕ) where

@@ -6,7 +6,7 @@ use Rattle.bv_terms.specs.declared.term.Term.TheVariants as term
 use Rattle.bv_terms.specs.Tree as tree
 use Rattle.bv_terms.specs.Tree.{Tree}
 use Rattle.bv_terms.specs.Trees.{bit_at, tree_in}
-use Rattle.gate_digits.specs.Numbers.{number_of}
+use Rattle.gate_arith.specs.Numbers.{number_of}
 use Rattle.bv_terms.specs.declared.variable.Variable.{Variable}
 use Rattle.bv_terms.specs.Variables.{is_variable}
 

@@ -3,15 +3,13 @@
 //! [`ask`] answers the least digits, or that there are none, with clauses that ask the same question
 //! and a log that refutes them; under a limit it may also answer how far it came. It stands on
 //! `bit_blast`, which makes the circuit, `gates`, which makes the clauses, `clause_solver`, and
-//! `renamed_log`, since a search under other numbers is quicker where there is no model.
+//! `cnf_renumber`, since a search under other numbers is quicker where there is no model.
 #![tactic(auto)]
 
 mod asked;
 mod cone;
 mod question;
 mod searching;
-#[cfg(test)]
-mod tests;
 
 pub use asked::Asked;
 pub use question::ask;

@@ -5,7 +5,7 @@ ghost use Rattle.clause_search.specs.Outcome.{IsAnswer};
 
 use clause_lits::Cnf;
 use clause_solver::{Answer, solve};
-use renamed_log::{Renumbering, by_digit};
+use cnf_renumber::{Renumbering, by_digit};
 use std::alloc::Global;
 use support::NoMemory;
 

@@ -10,8 +10,6 @@ mod evaluate;
 mod numbers;
 mod print;
 mod substitute;
-#[cfg(test)]
-mod tests;
 mod weigh;
 
 pub use evaluate::{Assigned, Evaluate};

@@ -38,24 +38,3 @@ impl Place {
         Place { line, column }
     }
 }
-
-#[cfg(test)]
-mod tests {
-    use crate::Place;
-
-    fn is_behind(text: &str, line: u64, column: u64) -> bool {
-        let bytes = text.as_bytes();
-        let start = Place { line: 1, column: 1 };
-        bytes.len() < 100 && start.behind(bytes) == Place { line, column }
-    }
-
-    #[test]
-    fn places(rt: HostRuntime) {
-        assert_eq!(rt; Place::start(), Place { line: 1, column: 1 });
-        assert!(rt; is_behind("", 1, 1));
-        assert!(rt; is_behind("ab", 1, 3));
-        assert!(rt; is_behind("ab\n", 2, 1));
-        assert!(rt; is_behind("a\r\nbc", 2, 3));
-        assert!(rt; is_behind("\n\n\tx", 3, 3));
-    }
-}

@@ -1,6 +1,7 @@
-ghost use Rattle.std.specs.Prelude.{◌≡◌, ◌↔◌, ◌⊎◌, [], ◌+◌, ◌-◌, ◌<◌, ◌≤◌, min, length, take, Some, None, IsTrue, IfOk, OnOk, OnErr, IsErrOf, IsErr, vec_len};
-ghost use Rattle.tv_io.specs.Count.{Rose, RoseBy, IsListed};
+ghost use Rattle.std.specs.Prelude.{◌≡◌, ◌↔◌, ◌⊎◌, [], ◌+◌, ◌-◌, ◌<◌, ◌≤◌, min, length, take, true, Some, None, IsTrue, IfOk, OnOk, OnErr, IsErrOf, IsErr, vec_len};
+ghost use Rattle.tv_io.specs.Count.{Rose, RoseBy, CountsFetch, CountsPut, IsListed};
 ghost use Rattle.tv_io.specs.Files.{IsFetchedFrom, SameFiles, SameElsewhere, HoldsFile, HasNoFile};
+ghost use Rattle.tv_io.specs.State.{ShelfState, SinkState};
 ghost use Rattle.tv_io.specs.Taken.{then_taken};
 
 use crate::memory::{MemoryShelf, MemorySink};
@@ -37,11 +38,11 @@ pub struct FailingShelf {
 }
 
 impl FailingShelf {
-    ghost use Rattle.tv_io.specs.MemoryShelf.{files_of};
+    ghost use Rattle.tv_io.specs.MemoryShelf.{memory_state};
 
     /// A shelf with these files, by name, where the calls with these numbers fail. No call was made.
     pub fn new(files: BTreeMap<String, Vec<u8>>, fails: Vec<u64>) -> FailingShelf
-        ensures files { ⟦<MemoryShelf as Shelf>⟧.files result.shelf ≡ Some (files_of files) }
+        ensures shelf { ⟦<MemoryShelf as Shelf>⟧.state result.shelf ≡ memory_state files 0 0 0 }
         ensures calls { result.calls ≡ record { fails = fails; made = 0 } }
     {
         FailingShelf {
@@ -52,27 +53,24 @@ impl FailingShelf {
 }
 
 impl Shelf for FailingShelf {
-    ghost files = { λ s. ⟦<MemoryShelf as Shelf>⟧.files s.shelf };
-
-    ghost fetch_faults = { λ s. ⟦<MemoryShelf as Shelf>⟧.fetch_faults s.shelf };
-
-    ghost put_faults = { λ s. ⟦<MemoryShelf as Shelf>⟧.put_faults s.shelf };
-
-    ghost bytes_taken = { λ s. ⟦<MemoryShelf as Shelf>⟧.bytes_taken s.shelf };
+    // A fetch of any name may fail.
+    ghost state = { λ s. record (⟦<MemoryShelf as Shelf>⟧.state s.shelf) { may_fail = λ _. true } };
 
     fn fetch(&mut self, name: &str, most: u64, into: &mut Vec<u8>) -> Result<Size, FetchFault>
-        ensures fetched { IfOk result (λ size. IsFetchedFrom (⟦<MemoryShelf as Shelf>⟧.files self.old.shelf) name.now most size into.new.items) }
-        ensures longer { result ≡ Ok Size.Longer → RoseBy (most + 1) (⟦<MemoryShelf as Shelf>⟧.bytes_taken self.old.shelf) (⟦<MemoryShelf as Shelf>⟧.bytes_taken self.new.shelf) }
-        ensures taken { result ≡ Ok Size.Whole → RoseBy (length into.new.items) (⟦<MemoryShelf as Shelf>⟧.bytes_taken self.old.shelf) (⟦<MemoryShelf as Shelf>⟧.bytes_taken self.new.shelf) }
-        ensures failed { IsErrOf result FetchFault.Failed → Rose (⟦<MemoryShelf as Shelf>⟧.fetch_faults self.old.shelf) (⟦<MemoryShelf as Shelf>⟧.fetch_faults self.new.shelf) }
+        ensures fetched { IfOk result (λ size. IsFetchedFrom (⟦<MemoryShelf as Shelf>⟧.state self.old.shelf).files name.now most size into.new.items) }
+        ensures longer { result ≡ Ok Size.Longer → RoseBy (most + 1) (⟦<MemoryShelf as Shelf>⟧.state self.old.shelf).bytes_taken (⟦<MemoryShelf as Shelf>⟧.state self.new.shelf).bytes_taken }
+        ensures taken { result ≡ Ok Size.Whole → RoseBy (length into.new.items) (⟦<MemoryShelf as Shelf>⟧.state self.old.shelf).bytes_taken (⟦<MemoryShelf as Shelf>⟧.state self.new.shelf).bytes_taken }
+        ensures most { (⟦<MemoryShelf as Shelf>⟧.state self.new.shelf).bytes_taken ≤ (⟦<MemoryShelf as Shelf>⟧.state self.old.shelf).bytes_taken + (most + 1) }
+        ensures failed { IsErrOf result FetchFault.Failed → (⟦<FailingShelf as Shelf>⟧.state self.old).may_fail name.now ≡ true }
+        ensures counted { CountsFetch result (⟦<MemoryShelf as Shelf>⟧.state self.old.shelf).fetch_faults (⟦<MemoryShelf as Shelf>⟧.state self.new.shelf).fetch_faults }
 
-        ensures same { ⟦<MemoryShelf as Shelf>⟧.files self.new.shelf ≡ ⟦<MemoryShelf as Shelf>⟧.files self.old.shelf }
-        ensures most { ⟦<MemoryShelf as Shelf>⟧.bytes_taken self.new.shelf ≤ ⟦<MemoryShelf as Shelf>⟧.bytes_taken self.old.shelf + (most + 1) }
-        ensures fetch_faults_stay { ⟦<MemoryShelf as Shelf>⟧.fetch_faults self.old.shelf ≤ ⟦<MemoryShelf as Shelf>⟧.fetch_faults self.new.shelf }
-        ensures put_faults_stay { ⟦<MemoryShelf as Shelf>⟧.put_faults self.old.shelf ≤ ⟦<MemoryShelf as Shelf>⟧.put_faults self.new.shelf }
-        ensures bytes_taken_stay { ⟦<MemoryShelf as Shelf>⟧.bytes_taken self.old.shelf ≤ ⟦<MemoryShelf as Shelf>⟧.bytes_taken self.new.shelf }
+        ensures same { (⟦<MemoryShelf as Shelf>⟧.state self.new.shelf).files ≡ (⟦<MemoryShelf as Shelf>⟧.state self.old.shelf).files }
+        ensures same_fails { (⟦<FailingShelf as Shelf>⟧.state self.new).may_fail ≡ (⟦<FailingShelf as Shelf>⟧.state self.old).may_fail }
+        ensures put_faults { (⟦<MemoryShelf as Shelf>⟧.state self.new.shelf).put_faults ≡ (⟦<MemoryShelf as Shelf>⟧.state self.old.shelf).put_faults }
+        ensures fetch_faults_stay { (⟦<MemoryShelf as Shelf>⟧.state self.old.shelf).fetch_faults ≤ (⟦<MemoryShelf as Shelf>⟧.state self.new.shelf).fetch_faults }
+        ensures bytes_taken_stay { (⟦<MemoryShelf as Shelf>⟧.state self.old.shelf).bytes_taken ≤ (⟦<MemoryShelf as Shelf>⟧.state self.new.shelf).bytes_taken }
 
-        ensures only { IsErrOf result FetchFault.Failed → IsListed self.old.calls.fails.items self.old.calls.made ⊎ HasNoFile (⟦<MemoryShelf as Shelf>⟧.files self.old.shelf) name.now }
+        ensures only { IsErrOf result FetchFault.Failed → IsListed self.old.calls.fails.items self.old.calls.made ⊎ HasNoFile (⟦<MemoryShelf as Shelf>⟧.state self.old.shelf).files name.now }
         ensures listed { IsListed self.old.calls.fails.items self.old.calls.made → IsErrOf result FetchFault.Failed }
         ensures calls { self.new.calls ≡ record self.old.calls { made = min (self.old.calls.made + 1) u64.MAX } }
     {
@@ -85,14 +83,14 @@ impl Shelf for FailingShelf {
     }
 
     fn put(&mut self, alloc: Global, name: &str, bytes: &[u8]) -> Result<(), PutFault>
-        ensures put { OnOk result (HoldsFile (⟦<MemoryShelf as Shelf>⟧.files self.new.shelf) name.now bytes.now) }
-        ensures no_memory { IsErrOf result PutFault.NoMemory → SameFiles (⟦<MemoryShelf as Shelf>⟧.files self.old.shelf) (⟦<MemoryShelf as Shelf>⟧.files self.new.shelf) }
-        ensures failed { IsErrOf result PutFault.Failed → Rose (⟦<MemoryShelf as Shelf>⟧.put_faults self.old.shelf) (⟦<MemoryShelf as Shelf>⟧.put_faults self.new.shelf) }
+        ensures put { OnOk result (HoldsFile (⟦<MemoryShelf as Shelf>⟧.state self.new.shelf).files name.now bytes.now) }
+        ensures no_memory { IsErrOf result PutFault.NoMemory → SameFiles (⟦<MemoryShelf as Shelf>⟧.state self.old.shelf).files (⟦<MemoryShelf as Shelf>⟧.state self.new.shelf).files }
+        ensures counted { CountsPut result (⟦<MemoryShelf as Shelf>⟧.state self.old.shelf).put_faults (⟦<MemoryShelf as Shelf>⟧.state self.new.shelf).put_faults }
 
-        ensures same_elsewhere { SameElsewhere name.now (⟦<MemoryShelf as Shelf>⟧.files self.old.shelf) (⟦<MemoryShelf as Shelf>⟧.files self.new.shelf) }
-        ensures fetch_faults_stay { ⟦<MemoryShelf as Shelf>⟧.fetch_faults self.old.shelf ≤ ⟦<MemoryShelf as Shelf>⟧.fetch_faults self.new.shelf }
-        ensures put_faults_stay { ⟦<MemoryShelf as Shelf>⟧.put_faults self.old.shelf ≤ ⟦<MemoryShelf as Shelf>⟧.put_faults self.new.shelf }
-        ensures bytes_taken_stay { ⟦<MemoryShelf as Shelf>⟧.bytes_taken self.old.shelf ≤ ⟦<MemoryShelf as Shelf>⟧.bytes_taken self.new.shelf }
+        ensures same_elsewhere { SameElsewhere name.now (⟦<MemoryShelf as Shelf>⟧.state self.old.shelf).files (⟦<MemoryShelf as Shelf>⟧.state self.new.shelf).files }
+        ensures fetch_faults { (⟦<MemoryShelf as Shelf>⟧.state self.new.shelf).fetch_faults ≡ (⟦<MemoryShelf as Shelf>⟧.state self.old.shelf).fetch_faults }
+        ensures put_faults_stay { (⟦<MemoryShelf as Shelf>⟧.state self.old.shelf).put_faults ≤ (⟦<MemoryShelf as Shelf>⟧.state self.new.shelf).put_faults }
+        ensures bytes_taken_stay { (⟦<MemoryShelf as Shelf>⟧.state self.old.shelf).bytes_taken ≤ (⟦<MemoryShelf as Shelf>⟧.state self.new.shelf).bytes_taken }
 
         ensures only { IsErrOf result PutFault.Failed → IsListed self.old.calls.fails.items self.old.calls.made }
         ensures listed { IsListed self.old.calls.fails.items self.old.calls.made → IsErrOf result PutFault.Failed }
@@ -106,7 +104,7 @@ impl Shelf for FailingShelf {
     }
 }
 
-/// Output in memory, which takes at most so many bytes a call, and where the calls of a list fail,
+/// Output in memory, which takes at most `most` bytes a call, and where the calls of a list fail,
 /// counted from 1.
 #[derive(Drop)]
 pub struct FailingSink {
@@ -118,7 +116,7 @@ pub struct FailingSink {
 
 impl FailingSink {
     /// An empty sink with room for `room` bytes, which takes at most `most` bytes a call, and where the
-    /// calls with these numbers fail. `NoMemory` where the room can't be had.
+    /// calls with these numbers fail. `NoMemory` where the room can't be allocated.
     pub fn new(
         alloc: Global,
         room: usize,
@@ -139,16 +137,18 @@ impl FailingSink {
 }
 
 impl Sink for FailingSink {
-    ghost taken = { λ s. ⟦<MemorySink as Sink>⟧.taken s.sink };
-
-    ghost faults = { λ s. ⟦<MemorySink as Sink>⟧.faults s.sink };
+    // It has no room for certain, since the next call may fail.
+    ghost state = { λ s. record (⟦<MemorySink as Sink>⟧.state s.sink) { room = 0 } };
 
     fn write(&mut self, piece: &[u8]) -> Result<usize, Failed>
         ensures count { IfOk result (λ n. (n ≤ length piece.now) × (0 < length piece.now → 0 < n)) }
         ensures took { IfOk result (λ n. Some self.new.sink.bytes.items ≡ then_taken (Some self.old.sink.bytes.items) (take n piece.now)) }
-        ensures failed { OnErr result (Rose (⟦<MemorySink as Sink>⟧.faults self.old.sink) (⟦<MemorySink as Sink>⟧.faults self.new.sink)) }
+        ensures used { IfOk result (λ n. 0 ≤ 0 + n) }
+        ensures counted { OnOk result ((⟦<MemorySink as Sink>⟧.state self.new.sink).faults ≡ (⟦<MemorySink as Sink>⟧.state self.old.sink).faults) }
+        ensures failed { OnErr result (Rose (⟦<MemorySink as Sink>⟧.state self.old.sink).faults (⟦<MemorySink as Sink>⟧.state self.new.sink).faults) }
         ensures failed_took { OnErr result (Some self.new.sink.bytes.items ≡ Some self.old.sink.bytes.items) }
-        ensures faults_stay { ⟦<MemorySink as Sink>⟧.faults self.old.sink ≤ ⟦<MemorySink as Sink>⟧.faults self.new.sink }
+        ensures full { OnErr result (0 < length piece.now → 0 < length piece.now) }
+        ensures faults_stay { (⟦<MemorySink as Sink>⟧.state self.old.sink).faults ≤ (⟦<MemorySink as Sink>⟧.state self.new.sink).faults }
 
         ensures only { OnErr result (IsListed self.old.calls.fails.items self.old.calls.made ⊎ ((vec_len self.old.sink.bytes ≡ self.old.sink.room) × (0 < length piece.now))) }
         ensures listed { IsListed self.old.calls.fails.items self.old.calls.made → IsErr result }

@@ -1,9 +1,10 @@
 //! Files and output as the program sees them: a shelf of named files, and a sink of bytes.
 //!
-//! It promises that a fault is counted before it is answered, that a fetch gives exactly the file
-//! that the shelf tells, and that a sink holds what it took and nothing else. [`MemoryShelf`] and
-//! [`MemorySink`] tell their bytes; [`FileShelf`] and [`StandardSink`] are the system's and tell
-//! nothing. It stands on `support`; the top call takes any shelf and any sink.
+//! It promises that a failed call is counted and no other, that a fetch gives exactly the file that
+//! the shelf reports, and that a sink holds what it took and nothing else. [`MemoryShelf`] and
+//! [`MemorySink`] report their bytes, and fail only at an absent file and at a full sink;
+//! [`FileShelf`] and [`StandardSink`] are the system's, report nothing, and may fail at any call. It
+//! uses `support`; `tv_run::run` takes any shelf and any sink.
 #![tactic(auto)]
 
 mod failing;
@@ -17,6 +18,3 @@ pub use memory::{MemoryShelf, MemorySink};
 pub use real::{FileShelf, StandardSink};
 pub use shelf::{FetchFault, PutFault, Shelf, Size};
 pub use sink::{Failed, Sink, write_both, write_line, write_whole};
-
-#[cfg(test)]
-mod tests;

@@ -1,6 +1,7 @@
-ghost use Rattle.std.specs.Prelude.{◌≡◌, ◌+◌, ◌-◌, ◌<◌, ◌≤◌, [], min, length, take, IfOk, OnOk, OnErr, IsErrOf, IsOkUnless, vec_len, vec_capacity, Some, None};
-ghost use Rattle.tv_io.specs.Count.{Rose, RoseBy};
+ghost use Rattle.std.specs.Prelude.{◌≡◌, ◌+◌, ◌-◌, ◌<◌, ◌≤◌, [], min, length, take, true, is_none, IfOk, OnOk, OnErr, IsErrOf, IsOkUnless, vec_len, vec_capacity, Some, None};
+ghost use Rattle.tv_io.specs.Count.{Rose, RoseBy, CountsFetch, CountsPut};
 ghost use Rattle.tv_io.specs.Files.{IsFetchedFrom, SameFiles, SameElsewhere, HoldsFile};
+ghost use Rattle.tv_io.specs.State.{ShelfState, SinkState};
 ghost use Rattle.tv_io.specs.Taken.{then_taken};
 
 use crate::shelf::{FetchFault, PutFault, Shelf, Size};
@@ -19,14 +20,11 @@ pub struct MemoryShelf {
 }
 
 impl MemoryShelf {
-    ghost use Rattle.tv_io.specs.MemoryShelf.{files_of};
+    ghost use Rattle.tv_io.specs.MemoryShelf.{memory_state};
 
     /// A shelf with these files, by name. Nothing was counted.
     pub fn new(files: BTreeMap<String, Vec<u8>>) -> MemoryShelf
-        ensures files { ⟦<MemoryShelf as Shelf>⟧.files result ≡ Some (files_of files) }
-        ensures fetch_faults { ⟦<MemoryShelf as Shelf>⟧.fetch_faults result ≡ 0 }
-        ensures put_faults { ⟦<MemoryShelf as Shelf>⟧.put_faults result ≡ 0 }
-        ensures bytes_taken { ⟦<MemoryShelf as Shelf>⟧.bytes_taken result ≡ 0 }
+        ensures { ⟦<MemoryShelf as Shelf>⟧.state result ≡ memory_state files 0 0 0 }
     {
         MemoryShelf {
             files,
@@ -54,29 +52,23 @@ impl MemoryShelf {
 }
 
 impl Shelf for MemoryShelf {
-    ghost use Rattle.tv_io.specs.MemoryShelf.{files_of};
+    ghost use Rattle.tv_io.specs.MemoryShelf.{files_of, fails_absent, memory_state};
 
-    ghost files = { λ s. Some (files_of s.files) };
-
-    ghost fetch_faults = { λ s. s.fetch_faults };
-
-    ghost put_faults = { λ s. s.put_faults };
-
-    ghost bytes_taken = { λ s. s.bytes_taken };
+    ghost state = { λ s. memory_state s.files s.fetch_faults s.put_faults s.bytes_taken };
 
     fn fetch(&mut self, name: &str, most: u64, into: &mut Vec<u8>) -> Result<Size, FetchFault>
         ensures fetched { IfOk result (λ size. IsFetchedFrom (Some (files_of self.old.files)) name.now most size into.new.items) }
         ensures longer { result ≡ Ok Size.Longer → RoseBy (most + 1) self.old.bytes_taken self.new.bytes_taken }
         ensures taken { result ≡ Ok Size.Whole → RoseBy (length into.new.items) self.old.bytes_taken self.new.bytes_taken }
-        ensures failed { IsErrOf result FetchFault.Failed → Rose self.old.fetch_faults self.new.fetch_faults }
+        ensures most { self.new.bytes_taken ≤ self.old.bytes_taken + (most + 1) }
+        ensures failed { IsErrOf result FetchFault.Failed → fails_absent (files_of self.old.files) name.now ≡ true }
+        ensures counted { CountsFetch result self.old.fetch_faults self.new.fetch_faults }
 
         ensures same { Some (files_of self.new.files) ≡ Some (files_of self.old.files) }
-        ensures most { self.new.bytes_taken ≤ self.old.bytes_taken + (most + 1) }
+        ensures same_fails { fails_absent (files_of self.new.files) ≡ fails_absent (files_of self.old.files) }
+        ensures put_faults { self.new.put_faults ≡ self.old.put_faults }
         ensures fetch_faults_stay { self.old.fetch_faults ≤ self.new.fetch_faults }
-        ensures put_faults_stay { self.old.put_faults ≤ self.new.put_faults }
         ensures bytes_taken_stay { self.old.bytes_taken ≤ self.new.bytes_taken }
-
-        ensures absent { IsErrOf result FetchFault.Failed → files_of self.old.files name.now ≡ None }
     {
         into.clear();
         let Some(bytes) = self.files.get(name) else {
@@ -98,12 +90,14 @@ impl Shelf for MemoryShelf {
         ensures put { OnOk result (HoldsFile (Some (files_of self.new.files)) name.now bytes.now) }
         ensures no_memory { IsErrOf result PutFault.NoMemory → SameFiles (Some (files_of self.old.files)) (Some (files_of self.new.files)) }
 
+        ensures counted { CountsPut result self.old.put_faults self.new.put_faults }
+
         ensures same_elsewhere { SameElsewhere name.now (Some (files_of self.old.files)) (Some (files_of self.new.files)) }
-        ensures fetch_faults_stay { self.old.fetch_faults ≤ self.new.fetch_faults }
+        ensures fetch_faults { self.new.fetch_faults ≡ self.old.fetch_faults }
         ensures put_faults_stay { self.old.put_faults ≤ self.new.put_faults }
         ensures bytes_taken_stay { self.old.bytes_taken ≤ self.new.bytes_taken }
 
-        // Memory is its one want.
+        // It fails only out of memory.
         ensures failed { IsOkUnless result PutFault.NoMemory }
     {
         let Ok(key) = String::from_str(alloc, name) else {
@@ -130,9 +124,9 @@ pub struct MemorySink {
 }
 
 impl MemorySink {
-    /// An empty sink with room for `room` bytes. `NoMemory` where the room can't be had.
+    /// An empty sink with room for `room` bytes. `NoMemory` where the room can't be allocated.
     pub fn new(alloc: Global, room: usize) -> Result<MemorySink, NoMemory>
-        ensures { IfOk result (λ sink. (sink.bytes.items ≡ []) × (sink.room ≡ room) × (⟦<MemorySink as Sink>⟧.faults sink ≡ 0)) }
+        ensures { IfOk result (λ sink. (sink.bytes.items ≡ []) × (sink.room ≡ room) × (⟦<MemorySink as Sink>⟧.state sink ≡ record { taken = Some []; room = room; faults = 0 })) }
     {
         Ok(MemorySink {
             bytes: Vec::with_capacity(alloc, room)?,
@@ -151,18 +145,19 @@ impl MemorySink {
 }
 
 impl Sink for MemorySink {
-    ghost taken = { λ s. Some s.bytes.items };
-
-    ghost faults = { λ s. s.faults };
+    ghost state = { λ s. record { taken = Some s.bytes.items; room = s.room - vec_len s.bytes; faults = s.faults } };
 
     fn write(&mut self, piece: &[u8]) -> Result<usize, Failed>
         ensures count { IfOk result (λ n. (n ≤ length piece.now) × (0 < length piece.now → 0 < n)) }
         ensures took { IfOk result (λ n. Some self.new.bytes.items ≡ then_taken (Some self.old.bytes.items) (take n piece.now)) }
+        ensures used { IfOk result (λ n. self.old.room - vec_len self.old.bytes ≤ (self.new.room - vec_len self.new.bytes) + n) }
+        ensures counted { OnOk result (self.new.faults ≡ self.old.faults) }
         ensures failed { OnErr result (Rose self.old.faults self.new.faults) }
         ensures failed_took { OnErr result (Some self.new.bytes.items ≡ Some self.old.bytes.items) }
+        ensures full { OnErr result (0 < length piece.now → self.old.room - vec_len self.old.bytes < length piece.now) }
         ensures faults_stay { self.old.faults ≤ self.new.faults }
 
-        ensures full { OnErr result ((vec_len self.old.bytes ≡ self.old.room) × (0 < length piece.now)) }
+        ensures no_room { OnErr result ((vec_len self.old.bytes ≡ self.old.room) × (0 < length piece.now)) }
         ensures most { IfOk result (λ n. n ≡ min (length piece.now) (self.old.room - vec_len self.old.bytes)) }
         ensures same_room { self.new.room ≡ self.old.room }
     {

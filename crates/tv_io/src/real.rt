@@ -1,5 +1,6 @@
-ghost use Rattle.std.specs.Prelude.{◌≡◌, ◌≤◌, ◌+◌, [], length, None};
+ghost use Rattle.std.specs.Prelude.{◌≡◌, ◌≤◌, ◌+◌, [], length, true, None};
 ghost use Rattle.tv_io.specs.Count.{RoseBy};
+ghost use Rattle.tv_io.specs.State.{ShelfState, SinkState};
 
 use crate::shelf::{FetchFault, PutFault, Shelf, Size};
 use crate::sink::{Failed, Sink};
@@ -10,7 +11,7 @@ use std::rt::Files;
 
 const BUFFER: usize = 4096;
 
-/// The files of the system. It tells nothing of what they hold.
+/// The files of the system. It reports nothing of what they hold, and any fetch may fail.
 #[derive(Drop)]
 pub struct FileShelf<'a, R: Files> {
     rt: &'a R,
@@ -36,13 +37,7 @@ impl<'a, R: Files> FileShelf<'a, R> {
 }
 
 impl<'a, R: Files> Shelf for FileShelf<'a, R> {
-    ghost files = { λ _. None };
-
-    ghost fetch_faults = { λ s. s.fetch_faults };
-
-    ghost put_faults = { λ s. s.put_faults };
-
-    ghost bytes_taken = { λ s. s.bytes_taken };
+    ghost state = { λ s. record { files = None; may_fail = λ _. true; fetch_faults = s.fetch_faults; put_faults = s.put_faults; bytes_taken = s.bytes_taken } };
 
     fn fetch(&mut self, name: &str, most: u64, into: &mut Vec<u8>) -> Result<Size, FetchFault> {
         into.clear();
@@ -99,7 +94,7 @@ fn read_up_to<F: Read>(
     }
 }
 
-/// Standard output. It tells nothing of what it took.
+/// Standard output. It reports nothing of what it took, and any write may fail.
 #[derive(Drop)]
 pub struct StandardSink<'a, R: Print> {
     rt: &'a R,
@@ -116,9 +111,7 @@ impl<'a, R: Print> StandardSink<'a, R> {
 }
 
 impl<'a, R: Print> Sink for StandardSink<'a, R> {
-    ghost taken = { λ _. None };
-
-    ghost faults = { λ s. s.faults };
+    ghost state = { λ s. record { taken = None; room = 0; faults = s.faults } };
 
     fn write(&mut self, piece: &[u8]) -> Result<usize, Failed> {
         let count = self.rt.write_some(piece).unwrap_or(0);

@@ -1,6 +1,7 @@
-ghost use Rattle.std.specs.Prelude.{◌≡◌, ℕ, ◌+◌, ◌≤◌, List, length, Option, Ok, IfOk, OnOk, IsErrOf};
-ghost use Rattle.tv_io.specs.Count.{Rose, RoseBy};
-ghost use Rattle.tv_io.specs.Files.{Files, IsFetchedFrom, SameFiles, SameElsewhere, HoldsFile};
+ghost use Rattle.std.specs.Prelude.{◌≡◌, ℕ, ◌+◌, ◌≤◌, length, true, Ok, IfOk, OnOk, IsErrOf};
+ghost use Rattle.tv_io.specs.Count.{RoseBy, CountsFetch, CountsPut};
+ghost use Rattle.tv_io.specs.Files.{IsFetchedFrom, SameFiles, SameElsewhere, HoldsFile};
+ghost use Rattle.tv_io.specs.State.{ShelfState};
 ghost use Rattle.tv_io.specs.declared.shelf.Size.TheVariants.{Longer, Whole};
 
 use std::alloc::Global;
@@ -33,37 +34,33 @@ pub enum PutFault {
 
 /// Named files.
 pub trait Shelf {
-    // What the files hold, where the shelf tells.
-    ghost files: { Self → Option Files };
-    // How many fetches failed, how many puts, and how many bytes were taken.
-    ghost fetch_faults: { Self → ℕ };
-
-    ghost put_faults: { Self → ℕ };
-
-    ghost bytes_taken: { Self → ℕ };
+    // The files, which fetches may fail, and the counts of faults and bytes.
+    ghost state: { Self → ShelfState };
 
     /// Empties `into` and reads a file of at most `most` bytes into it. After an error or
     /// `Longer`, `into` holds some prefix of the file.
     fn fetch(&mut self, name: &str, most: u64, into: &mut Vec<u8>) -> Result<Size, FetchFault>
-        ensures fetched { IfOk result (λ size. IsFetchedFrom (files self.old) name.now most size into.new.items) }
-        ensures longer { result ≡ Ok Longer → RoseBy (most + 1) (bytes_taken self.old) (bytes_taken self.new) }
-        ensures taken { result ≡ Ok Whole → RoseBy (length into.new.items) (bytes_taken self.old) (bytes_taken self.new) }
-        ensures failed { IsErrOf result FetchFault.Failed → Rose (fetch_faults self.old) (fetch_faults self.new) }
+        ensures fetched { IfOk result (λ size. IsFetchedFrom (state self.old).files name.now most size into.new.items) }
+        ensures longer { result ≡ Ok Longer → RoseBy (most + 1) (state self.old).bytes_taken (state self.new).bytes_taken }
+        ensures taken { result ≡ Ok Whole → RoseBy (length into.new.items) (state self.old).bytes_taken (state self.new).bytes_taken }
+        ensures most { (state self.new).bytes_taken ≤ (state self.old).bytes_taken + (most + 1) }
+        ensures failed { IsErrOf result FetchFault.Failed → (state self.old).may_fail name.now ≡ true }
+        ensures counted { CountsFetch result (state self.old).fetch_faults (state self.new).fetch_faults }
 
-        ensures same { files self.new ≡ files self.old }
-        ensures most { bytes_taken self.new ≤ bytes_taken self.old + (most + 1) }
-        ensures fetch_faults_stay { fetch_faults self.old ≤ fetch_faults self.new }
-        ensures put_faults_stay { put_faults self.old ≤ put_faults self.new }
-        ensures bytes_taken_stay { bytes_taken self.old ≤ bytes_taken self.new };
+        ensures same { (state self.new).files ≡ (state self.old).files }
+        ensures same_fails { (state self.new).may_fail ≡ (state self.old).may_fail }
+        ensures put_faults { (state self.new).put_faults ≡ (state self.old).put_faults }
+        ensures fetch_faults_stay { (state self.old).fetch_faults ≤ (state self.new).fetch_faults }
+        ensures bytes_taken_stay { (state self.old).bytes_taken ≤ (state self.new).bytes_taken };
 
     /// Makes the file of that name hold `bytes`.
     fn put(&mut self, alloc: Global, name: &str, bytes: &[u8]) -> Result<(), PutFault>
-        ensures put { OnOk result (HoldsFile (files self.new) name.now bytes.now) }
-        ensures no_memory { IsErrOf result PutFault.NoMemory → SameFiles (files self.old) (files self.new) }
-        ensures failed { IsErrOf result PutFault.Failed → Rose (put_faults self.old) (put_faults self.new) }
+        ensures put { OnOk result (HoldsFile (state self.new).files name.now bytes.now) }
+        ensures no_memory { IsErrOf result PutFault.NoMemory → SameFiles (state self.old).files (state self.new).files }
+        ensures counted { CountsPut result (state self.old).put_faults (state self.new).put_faults }
 
-        ensures same_elsewhere { SameElsewhere name.now (files self.old) (files self.new) }
-        ensures fetch_faults_stay { fetch_faults self.old ≤ fetch_faults self.new }
-        ensures put_faults_stay { put_faults self.old ≤ put_faults self.new }
-        ensures bytes_taken_stay { bytes_taken self.old ≤ bytes_taken self.new };
+        ensures same_elsewhere { SameElsewhere name.now (state self.old).files (state self.new).files }
+        ensures fetch_faults { (state self.new).fetch_faults ≡ (state self.old).fetch_faults }
+        ensures put_faults_stay { (state self.old).put_faults ≤ (state self.new).put_faults }
+        ensures bytes_taken_stay { (state self.old).bytes_taken ≤ (state self.new).bytes_taken };
 }

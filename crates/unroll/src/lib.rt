@@ -9,8 +9,6 @@ mod copying;
 mod laws;
 mod layered;
 mod size;
-#[cfg(test)]
-mod tests;
 
 pub use copying::layers;
 pub use laws::layers_have_runs;

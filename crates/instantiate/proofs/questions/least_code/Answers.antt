@@ -2,7 +2,7 @@
 use Rattle.std.proofs.Common.{ℕ, List, sym, subst, ◌∙◌}
 use Rattle.ir_tree.specs.declared.tree.Parameter.{Parameter}
 use Rattle.ir_tree.specs.Limits.{AreIntegers}
-use Rattle.front_order.specs.Fronts.{AreWidths}
+use Rattle.answer_order.specs.Fronts.{AreWidths}
 use Rattle.instantiate.specs.Numbers.{IsFoundNumbers, number_test}
 use Rattle.instantiate.specs.Questions.{IsUncovered, point_widths}
 use Rattle.instantiate.specs.Shapes.{input_ids}

@@ -1,6 +1,6 @@
 -- The variables are the words of a tape, and what is found of numbers is found of tapes.
 use Rattle.std.proofs.Common.{ℕ, List, sym, subst, ◌∙◌}
-use Rattle.front_order.specs.Fronts.{AreWidths}
+use Rattle.answer_order.specs.Fronts.{AreWidths}
 use Rattle.instantiate.specs.Numbers.{IsFoundNumbers, number_test}
 use Rattle.instantiate.specs.Questions.{IsCovering, tape_widths}
 use Rattle.instantiate.proofs.Findings.{found_tape, tape_passes, words_are}

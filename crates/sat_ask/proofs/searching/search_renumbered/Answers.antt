@@ -2,7 +2,7 @@
 use Rattle.std.proofs.Common.{subst}
 use Rattle.clause_search.specs.declared.answer.Answer.{Answer}
 use Rattle.clause_search.specs.Outcome.{IsAnswer}
-use Rattle.renamed_log.specs.Turned.{numbered}
+use Rattle.cnf_renumber.specs.Turned.{numbered}
 use Rattle.sat_ask.proofs.Renumbered.{spent-back, unsat-back}
 use Rattle.sat_ask.proofs.searching.search_renumbered.Goals as goal
 

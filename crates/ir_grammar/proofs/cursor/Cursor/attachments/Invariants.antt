@@ -1,6 +1,6 @@
 use Rattle.std.proofs.Common.{true, length}
-use Rattle.ir_forms.specs.Form.{read}
-use Rattle.ir_forms.proofs.Loops.{Left}
+use Rattle.token_forms.specs.Form.{read}
+use Rattle.token_forms.proofs.Loops.{Left}
 use Rattle.ir_grammar.specs.Classes.{any}
 use Rattle.ir_grammar.specs.Grammar.{is_comma, comma_begins, attachment, attachments}
 use Rattle.ir_grammar.proofs.cursor.Cursor.attachments.Given as goal

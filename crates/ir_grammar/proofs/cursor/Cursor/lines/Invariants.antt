@@ -1,6 +1,6 @@
 use Rattle.std.proofs.Common.{true, length}
-use Rattle.ir_forms.specs.Form.{read}
-use Rattle.ir_forms.proofs.Loops.{Left}
+use Rattle.token_forms.specs.Form.{read}
+use Rattle.token_forms.proofs.Loops.{Left}
 use Rattle.ir_grammar.specs.Grammar.{starts_line, line_begins, line_within, next_line, lines}
 use Rattle.ir_grammar.proofs.cursor.Cursor.lines.Given as goal
 

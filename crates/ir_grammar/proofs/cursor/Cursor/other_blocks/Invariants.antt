@@ -1,6 +1,6 @@
 use Rattle.std.proofs.Common.{true, length}
-use Rattle.ir_forms.specs.Form.{read}
-use Rattle.ir_forms.proofs.Loops.{Left}
+use Rattle.token_forms.specs.Form.{read}
+use Rattle.token_forms.proofs.Loops.{Left}
 use Rattle.ir_grammar.specs.Classes.{any}
 use Rattle.ir_grammar.specs.Grammar.{begins_block, block_begins, next_block, other_blocks}
 use Rattle.ir_grammar.proofs.cursor.Cursor.other_blocks.Given as goal

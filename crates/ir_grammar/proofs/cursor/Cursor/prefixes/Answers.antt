@@ -1,6 +1,6 @@
 use Rattle.std.proofs.Common.{refl, false, arith}
-use Rattle.ir_forms.specs.Form.{reads}
-use Rattle.ir_forms.proofs.Loops.{at_start, one_more, no_more, begins-shorter}
+use Rattle.token_forms.specs.Form.{reads}
+use Rattle.token_forms.proofs.Loops.{at_start, one_more, no_more, begins-shorter}
 use Rattle.ir_grammar.specs.Classes.{any}
 use Rattle.ir_grammar.specs.Grammar.{prefixes, is_prefix, next_prefix}
 use Rattle.ir_grammar.proofs.cursor.Cursor.prefixes.Goals as goal

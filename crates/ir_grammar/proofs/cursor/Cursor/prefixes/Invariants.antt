@@ -1,6 +1,6 @@
 use Rattle.std.proofs.Common.{true, length}
-use Rattle.ir_forms.specs.Form.{give, read}
-use Rattle.ir_forms.proofs.Loops.{Left}
+use Rattle.token_forms.specs.Form.{give, read}
+use Rattle.token_forms.proofs.Loops.{Left}
 use Rattle.ir_grammar.specs.Classes.{any}
 use Rattle.ir_grammar.specs.Grammar.{prefixes, is_prefix, next_prefix}
 use Rattle.ir_grammar.proofs.cursor.Cursor.prefixes.Given as goal

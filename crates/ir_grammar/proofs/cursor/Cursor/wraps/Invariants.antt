@@ -1,6 +1,6 @@
 use Rattle.std.proofs.Common.{true, length}
-use Rattle.ir_forms.specs.Form.{give, read}
-use Rattle.ir_forms.proofs.Loops.{Left}
+use Rattle.token_forms.specs.Form.{give, read}
+use Rattle.token_forms.proofs.Loops.{Left}
 use Rattle.ir_grammar.specs.Classes.{any}
 use Rattle.ir_grammar.specs.Instructions.{wraps, is_wrap, next_wrap}
 use Rattle.ir_grammar.proofs.cursor.Cursor.wraps.Given as goal

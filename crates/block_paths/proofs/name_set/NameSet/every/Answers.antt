@@ -1,7 +1,0 @@
-use Rattle.std.proofs.Common.{ap, ◌+◌, ◌/◌, ◌∙◌}
-use Rattle.block_paths.specs.Sets.{names_in}
-use Rattle.block_paths.proofs.Names.{names_in-ones}
-use Rattle.block_paths.proofs.name_set.NameSet.every.Goals as goal
-
-pub returns : goal.returns
-returns c = ap names_in c.in_ok-alike.ensures ∙ names_in-ones (c.args.names / 64 + 1)

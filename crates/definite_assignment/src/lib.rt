@@ -1,0 +1,61 @@
+//! Which names every path from the entry of a graph of blocks assigns before it comes to a block.
+//!
+//! It promises that [`assigned_before`] keeps a name for a block exactly where each path to the block
+//! assigns the name in a block that it leaves, and that else some path doesn't: the ground for "a
+//! definition must dominate its uses" (LLVM Language Reference, "Well-Formedness"), where several blocks
+//! may assign. It knows blocks and names as numbers alone. It stands on `support`; `assigned_names`,
+//! which checks the uses of a function, stands on it.
+#![tactic(auto)]
+
+ghost use Rattle.std.specs.Prelude.{◌≡◌, ◌<◌, ◌↔◌, ℕ, List, false, length, IfOk, IsTrue};
+ghost use Rattle.std.specs.List.{All};
+ghost use Rattle.definite_assignment.specs.Paths.{IsAssignedBefore, IsUnassignedBefore};
+ghost use Rattle.definite_assignment.specs.Sets.{AreRoomy, has};
+
+mod name_set;
+mod name_sets;
+mod words;
+mod work;
+
+use name_set::NameSet;
+pub use name_sets::NameSets;
+use std::alloc::Global;
+use support::{NoMemory, Sequence};
+use work::Work;
+
+/// For each block of a graph, the names that every path from block 0 to it assigns in a block that it
+/// leaves. `successors` has the successors of each block, `assigns` the names that each assigns, all
+/// below `names`. A block that no path comes to has every name. A name that a block's set lacks is
+/// missed by some path to it.
+///
+/// A step passes one block's names on to a successor, and costs one word for each 64 names; a block is
+/// taken up again only when its set became smaller. The block that has waited longest comes first, so
+/// that one where many paths meet is taken up once they have all come to it.
+///
+/// # Errors
+/// For want of memory alone.
+pub fn assigned_before(
+    alloc: Global,
+    successors: &[Sequence<usize>],
+    assigns: &[Sequence<usize>],
+    names: usize,
+) -> Result<NameSets, NoMemory>
+    requires alike { length successors.now ≡ length assigns.now }
+    requires within { All (All (λ next. next < length successors.now)) successors.now }
+    requires names { All (All (λ name. name < names)) assigns.now }
+    ensures room { IfOk result (λ sets. AreRoomy sets (length successors.now) names) }
+    ensures exact { IfOk result (λ sets. (block name : ℕ) → block < length successors.now → name < names → IsTrue (has sets block name) ↔ IsAssignedBefore successors.now assigns.now block name) }
+    ensures missed { IfOk result (λ sets. (block name : ℕ) → block < length successors.now → name < names → has sets block name ≡ false → IsUnassignedBefore successors.now assigns.now block name) }
+{
+    if successors.is_empty() {
+        return Ok(NameSets::new(Sequence::from_vec(Vec::new(alloc))));
+    }
+    let mut work = Work::start(alloc, successors.len(), names)?;
+    let mut leaving = NameSet::none(alloc, names)?;
+    while let Some(block) = work.waiting.pop_front() {
+        work.is_waiting[block] = false;
+        leaving.fill(work.sets.get(block), assigns[block].as_slice());
+        work.spread(successors[block].as_slice(), &leaving)?;
+    }
+    Ok(NameSets::new(work.sets))
+}

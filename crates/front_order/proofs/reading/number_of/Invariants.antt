@@ -1,6 +1,0 @@
-use Rattle.std.proofs.Common.{◌≡◌, take}
-use Rattle.gate_digits.specs.Numbers.{number_of}
-use Rattle.front_order.proofs.reading.number_of.Given as goal
-
-abbrev pub invariant-loop-digit : goal.invariant-loop-digit
-invariant-loop-digit l = l.number ≡ number_of (take l.digit-index l.digits)

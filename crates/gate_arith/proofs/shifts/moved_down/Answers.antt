@@ -1,0 +1,6 @@
+use Rattle.gate_arith.proofs.Moved.{down-writes}
+use Rattle.gate_arith.proofs.shifts.moved_down.Goals as goal
+
+pub returns-clause-made : goal.returns-clause-made
+returns-clause-made c = down-writes c.args.circuit.now c.constant.new.self c.args.a.now c.in_ok-zeros.zeros.items c.in_ok-digits.digits.items c.in_ok-zero.zero c.saturating_sub-left.result c.args.count
+    c.in_ok-zero.ensures.kept c.requires c.in_ok-zero.ensures.made c.saturating_sub-left.ensures c.in_ok-zeros.ensures (rw c.deref.ensures.value at c.in_ok-digits.ensures)

@@ -1,0 +1,26 @@
+//! Numbers as lists of gates, highest digit first.
+//!
+//! Each function makes the gates of one operation on binary numbers of a fixed width, as the circuits
+//! of hardware do (ripple carry, barrel shifts, shift and add, restoring division). It promises that
+//! the digits write the operation's number under all values of the inputs, and that the gates that
+//! stood before keep their values. It stands on `gates`, and takes from `bv_terms` the words for the
+//! operations; the bits of terms are made of it.
+#![tactic(auto)]
+
+mod bitwise;
+mod comparisons;
+mod parts;
+mod places;
+mod products;
+mod quotients;
+mod shifts;
+mod sums;
+
+pub use bitwise::{and, choose, inverse, or, xor};
+pub use comparisons::{any, equal, less_signed};
+pub use parts::{extended, joined, part, sign_extended};
+pub use places::{constant, copies, inputs};
+pub use products::product;
+pub use quotients::{Division, divided};
+pub use shifts::{shift_left, shift_right, shift_right_signed};
+pub use sums::{Carried, difference, less, sum, sum_with_carry};

@@ -1,5 +1,0 @@
-use Rattle.gate_digits.proofs.Known.{IsPartConstant}
-use Rattle.gate_digits.proofs.places.constant.Given as goal
-
-abbrev pub invariant-loop-place : goal.invariant-loop-place
-invariant-loop-place l = IsPartConstant l.fn.circuit l.circuit l.fn.value l.fn.width l.digits.items l.place

@@ -1,5 +1,0 @@
-use Rattle.gate_digits.proofs.Known.{digit-one}
-use Rattle.gate_digits.proofs.places.has_bit.Goals as goal
-
-pub returns : goal.returns
-returns c = digit-one c.args.value c.args.place

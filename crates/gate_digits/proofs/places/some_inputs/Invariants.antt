@@ -1,5 +1,0 @@
-use Rattle.gate_digits.proofs.Known.{ArePartFresh}
-use Rattle.gate_digits.proofs.places.some_inputs.Given as goal
-
-abbrev pub invariant-loop-i : goal.invariant-loop-i
-invariant-loop-i l = ArePartFresh l.fn.circuit l.circuit l.i l.digits.items

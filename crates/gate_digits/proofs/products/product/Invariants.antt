@@ -1,5 +1,0 @@
-use Rattle.gate_digits.proofs.Rows.{IsPartProduct}
-use Rattle.gate_digits.proofs.products.product.Given as goal
-
-abbrev pub invariant-loop-place : goal.invariant-loop-place
-invariant-loop-place l = IsPartProduct l.fn.circuit l.circuit l.fn.a l.fn.b l.total.items l.row.items l.zeros.items l.place

@@ -1,5 +1,0 @@
-use Rattle.gate_digits.proofs.Steps.{IsPartDivision}
-use Rattle.gate_digits.proofs.quotients.divided.Given as goal
-
-abbrev pub invariant-loop-i : goal.invariant-loop-i
-invariant-loop-i l = IsPartDivision l.fn.circuit l.circuit l.fn.a l.fn.b l.left.items l.digits.items l.i

@@ -1,5 +1,0 @@
-use Rattle.gate_digits.proofs.Moved.{IsPartMoved}
-use Rattle.gate_digits.proofs.shifts.staged.Given as goal
-
-abbrev pub invariant-loop-place : goal.invariant-loop-place
-invariant-loop-place l = IsPartMoved l.fn.circuit l.circuit l.fn.direction l.fn.a l.fn.amount l.value.items l.count l.place

@@ -1,0 +1,177 @@
+-- The results of the public calls stand for what the table gives.
+use Rattle.std.proofs.Common.{ℕ, zero, suc, ◌≡◌, ◌<◌, ◌/◌, ◌%◌, ◌^◌, Bool, true, false, cond, ◌||◌, nat_eq, List, refl, ap, subst, ◌∙◌, arith}
+use Rattle.std.specs.Prelude.{if◌then◌else◌}
+use Rattle.ir_tree.specs.declared.tree.Op.{Op}
+use Rattle.ir_tree.specs.declared.tree.Cast.{Cast}
+use Rattle.ir_tree.specs.declared.tree.Predicate.{Predicate}
+use Rattle.byte_block.specs.declared.value.Value.{Value}
+use Rattle.byte_block.specs.declared.value.Value.TheVariants.{Num}
+use Rattle.bv_terms.specs.declared.term.TermId.{TermId}
+use Rattle.bv_terms.specs.declared.term.Term.{Term}
+use Rattle.bv_terms.specs.Tree.{truth}
+use Rattle.bv_terms.specs.Trees.{Keeps, Makes, Tests, term_at, bit_at}
+use Rattle.points.specs.Table as table
+use Rattle.points.specs.Table.{is_undefined, value_result, are_unlike, holds_of, compared, cast_number, cast_value, selected}
+use Rattle.mem_terms.specs.declared.values.SymValue.{SymValue}
+use Rattle.mem_terms.specs.Values.{IsSymValue, value_at, value_from, option_from}
+use Rattle.mem_terms.proofs.Later.{bit-later, term-later, keeps_self, keeps_trans}
+use Rattle.inst_terms.specs.declared.narrow.NarrowValue.{NarrowValue}
+use Rattle.inst_terms.specs.Narrow.{IsNarrow, narrow_at}
+use Rattle.inst_terms.specs.Rows.{IsRow, row_of}
+use Rattle.inst_terms.proofs.Rows.{binary_is, from_is-if}
+
+-- ---- two operands at their width
+
+-- the terms of two operands that were made one after the other, at a later list
+record AreOperands (old new : List Term) (n : ℕ) (left right : SymValue) (a b : NarrowValue) : Type 0 where
+  first_poison : (v : ℕ → ℕ → ℕ) → bit_at v new a.poison ≡ bit_at v old left.poison
+  first_number : (v : ℕ → ℕ → ℕ) → term_at v new a.number ≡ term_at v old left.number % 2 ^ n
+  second_poison : (v : ℕ → ℕ → ℕ) → bit_at v new b.poison ≡ bit_at v old right.poison
+  second_number : (v : ℕ → ℕ → ℕ) → term_at v new b.number ≡ term_at v old right.number % 2 ^ n
+
+-- ... which stand in the lists old, g1, g2 and the later one
+operands-later : (old g1 g2 new : List Term) (n : ℕ) (left right : SymValue) (a b : NarrowValue) → IsSymValue old left → IsSymValue old right
+    → Keeps old g1 → a.poison ≡ left.poison → Makes g1 a.number n (λ v. term_at v old left.number % 2 ^ n)
+    → Keeps g1 g2 → b.poison ≡ right.poison → Makes g2 b.number n (λ v. term_at v g1 right.number % 2 ^ n)
+    → Keeps g2 new → AreOperands old new n left right a b
+operands-later old g1 g2 new n left right a b hl hr k1 ea ma k2 eb mb k3 =
+    let k13 = keeps_trans g1 g2 new k2 k3 in
+    let k03 = keeps_trans old g1 new k1 k13 in
+    record {
+      first_poison = λ v. ap (bit_at v new) ea ∙ bit-later old new k03 v left.poison hl.poison.within;
+      first_number = λ v. term-later g1 new k13 v a.number ma.within ∙ ma.says v;
+      second_poison = λ v. ap (bit_at v new) eb ∙ bit-later old new k03 v right.poison hr.poison.within;
+      second_number = λ v. term-later g2 new k3 v b.number mb.within ∙ (mb.says v ∙ ap (λ k. k % 2 ^ n) (term-later old g1 k1 v right.number hr.number.within));
+    }
+
+three : {p p' q q' r r' : Bool} → p ≡ p' → q ≡ q' → r ≡ r' → ((p || q) || r) ≡ ((p' || q') || r')
+three e f g = cc
+
+pub binary-stands : (old g1 g2 g3 g4 g5 g6 : List Term) (op : Op) (n : ℕ) (left right : SymValue) (a b row : NarrowValue) (undefined poison : TermId) (value : SymValue) → IsSymValue old left → IsSymValue old right
+    → Keeps old g1 → a.poison ≡ left.poison → Makes g1 a.number n (λ v. term_at v old left.number % 2 ^ n)
+    → Keeps g1 g2 → b.poison ≡ right.poison → Makes g2 b.number n (λ v. term_at v g1 right.number % 2 ^ n)
+    → Keeps g2 g3 → Tests g3 undefined (λ v. is_undefined op n (narrow_at v g2 a) (narrow_at v g2 b))
+    → Keeps g3 g4 → IsNarrow g4 n row → IsRow g3 g4 op n a.number b.number row
+    → Keeps g4 g5 → Tests g5 poison (λ v. (bit_at v g4 a.poison || bit_at v g4 b.poison) || bit_at v g4 row.poison)
+    → Keeps g5 g6 → ((v : ℕ → ℕ → ℕ) → value_at v g6 value ≡ narrow_at v g5 (record { poison = poison; number = row.number }))
+    → (v : ℕ → ℕ → ℕ) → option_from (bit_at v g6 undefined) (value_at v g6 value) ≡ value_result op n (value_at v old left) (value_at v old right)
+unfolding value_at
+binary-stands old g1 g2 g3 g4 g5 g6 op n left right a b row undefined poison value hl hr k1 ea ma k2 eb mb k3 tu k4 hw is k5 tp k6 sv v =
+    let k22 = keeps_self g2 in
+    let o2 = operands-later old g1 g2 g2 n left right a b hl hr k1 ea ma k2 eb mb k22 in
+    let o3 = operands-later old g1 g2 g3 n left right a b hl hr k1 ea ma k2 eb mb k3 in
+    let k24 = keeps_trans g2 g3 g4 k3 k4 in
+    let o4 = operands-later old g1 g2 g4 n left right a b hl hr k1 ea ma k2 eb mb k24 in
+    let k36 = keeps_trans g3 g4 g6 k4 (keeps_trans g4 g5 g6 k5 k6) in
+    let p = bit_at v old left.poison in
+    let q = bit_at v old right.poison in
+    let x = term_at v old left.number in
+    let y = term_at v old right.number in
+    let first : narrow_at v g2 a ≡ value_from p (x % 2 ^ n) = ap (λ t. value_from t (term_at v g2 a.number)) (o2.first_poison v) ∙ ap (value_from p) (o2.first_number v) in
+    let second : narrow_at v g2 b ≡ value_from q (y % 2 ^ n) = ap (λ t. value_from t (term_at v g2 b.number)) (o2.second_poison v) ∙ ap (value_from q) (o2.second_number v) in
+    let never : bit_at v g6 undefined ≡ is_undefined op n (value_from p (x % 2 ^ n)) (value_from q (y % 2 ^ n)) =
+    bit-later g3 g6 k36 v undefined tu.within ∙ (tu.says v ∙ (ap (λ z. is_undefined op n z (narrow_at v g2 b)) first ∙ ap (is_undefined op n (value_from p (x % 2 ^ n))) second)) in
+    let stands : is_undefined op n (Num (x % 2 ^ n)) (Num (y % 2 ^ n)) ≡ false → narrow_at v g4 row ≡ row_of op n (x % 2 ^ n) (y % 2 ^ n) =
+    subst (λ j. is_undefined op n (Num (x % 2 ^ n)) (Num j) ≡ false → narrow_at v g4 row ≡ row_of op n (x % 2 ^ n) j) (o3.second_number v)
+    (subst (λ i. is_undefined op n (Num i) (Num (term_at v g3 b.number)) ≡ false → narrow_at v g4 row ≡ row_of op n i (term_at v g3 b.number)) (o3.first_number v) (is v)) in
+    let any : bit_at v g5 poison ≡ ((p || q) || bit_at v g4 row.poison) = tp.says v ∙ three (o4.first_poison v) (o4.second_poison v) refl in
+    let whole : narrow_at v g5 (record { poison = poison; number = row.number }) ≡ value_from ((p || q) || bit_at v g4 row.poison) (term_at v g4 row.number) =
+    ap (λ t. value_from t (term_at v g5 row.number)) any ∙ ap (value_from ((p || q) || bit_at v g4 row.poison)) (term-later g4 g5 k5 v row.number hw.number.within) in
+    ap (option_from (bit_at v g6 undefined)) (sv v ∙ whole)
+    ∙ binary_is op n p q (bit_at v g6 undefined) (bit_at v g4 row.poison) x y (term_at v g4 row.number) never stands
+
+-- ---- comparisons
+
+compare_is : (predicate : Predicate) (same_sign : Bool) (n : ℕ) (p q : Bool) (x y : ℕ)
+    → value_from ((p || q) || are_unlike same_sign n (x % 2 ^ n) (y % 2 ^ n)) (table.truth (holds_of predicate n (x % 2 ^ n) (y % 2 ^ n))) ≡ compared predicate same_sign n (value_from p x) (value_from q y)
+compare_is predicate same_sign n true q x y = refl
+compare_is predicate same_sign n false true x y = refl
+compare_is predicate same_sign n false false x y = from_is-if (are_unlike same_sign n (x % 2 ^ n) (y % 2 ^ n)) (table.truth (holds_of predicate n (x % 2 ^ n) (y % 2 ^ n)))
+
+pub compare-stands : (old g1 g2 g3 g4 g5 g6 : List Term) (predicate : Predicate) (same_sign : Bool) (n : ℕ) (left right : SymValue) (a b : NarrowValue) (unlike test poison : TermId) (value : SymValue) → IsSymValue old left → IsSymValue old right
+    → Keeps old g1 → a.poison ≡ left.poison → Makes g1 a.number n (λ v. term_at v old left.number % 2 ^ n)
+    → Keeps g1 g2 → b.poison ≡ right.poison → Makes g2 b.number n (λ v. term_at v g1 right.number % 2 ^ n)
+    → Keeps g2 g3 → Tests g3 unlike (λ v. are_unlike same_sign n (term_at v g2 a.number) (term_at v g2 b.number))
+    → Keeps g3 g4 → Tests g4 test (λ v. holds_of predicate n (term_at v g3 a.number) (term_at v g3 b.number))
+    → Keeps g4 g5 → Tests g5 poison (λ v. (bit_at v g4 a.poison || bit_at v g4 b.poison) || bit_at v g4 unlike)
+    → ((v : ℕ → ℕ → ℕ) → value_at v g6 value ≡ value_from (bit_at v g5 poison) (table.truth (bit_at v g5 test)))
+    → (v : ℕ → ℕ → ℕ) → value_at v g6 value ≡ compared predicate same_sign n (value_at v old left) (value_at v old right)
+unfolding value_at
+compare-stands old g1 g2 g3 g4 g5 g6 predicate same_sign n left right a b unlike test poison value hl hr k1 ea ma k2 eb mb k3 tu k4 tt k5 tp sv v =
+    let k22 = keeps_self g2 in
+    let o2 = operands-later old g1 g2 g2 n left right a b hl hr k1 ea ma k2 eb mb k22 in
+    let o3 = operands-later old g1 g2 g3 n left right a b hl hr k1 ea ma k2 eb mb k3 in
+    let o4 = operands-later old g1 g2 g4 n left right a b hl hr k1 ea ma k2 eb mb (keeps_trans g2 g3 g4 k3 k4) in
+    let p = bit_at v old left.poison in
+    let q = bit_at v old right.poison in
+    let x = term_at v old left.number in
+    let y = term_at v old right.number in
+    let own : bit_at v g4 unlike ≡ are_unlike same_sign n (x % 2 ^ n) (y % 2 ^ n) =
+    bit-later g3 g4 k4 v unlike tu.within ∙ (tu.says v ∙ (ap (λ k. are_unlike same_sign n k (term_at v g2 b.number)) (o2.first_number v) ∙ ap (are_unlike same_sign n (x % 2 ^ n)) (o2.second_number v))) in
+    let holds : bit_at v g5 test ≡ holds_of predicate n (x % 2 ^ n) (y % 2 ^ n) =
+    bit-later g4 g5 k5 v test tt.within ∙ (tt.says v ∙ (ap (λ k. holds_of predicate n k (term_at v g3 b.number)) (o3.first_number v) ∙ ap (holds_of predicate n (x % 2 ^ n)) (o3.second_number v))) in
+    let any : bit_at v g5 poison ≡ ((p || q) || are_unlike same_sign n (x % 2 ^ n) (y % 2 ^ n)) = tp.says v ∙ three (o4.first_poison v) (o4.second_poison v) own in
+    sv v ∙ (ap (λ t. value_from t (table.truth (bit_at v g5 test))) any ∙ (ap (λ t. value_from ((p || q) || are_unlike same_sign n (x % 2 ^ n) (y % 2 ^ n)) (table.truth t)) holds
+    ∙ compare_is predicate same_sign n p q x y))
+
+-- ---- casts
+
+cast_is : (cast : Cast) (from to : ℕ) (p r : Bool) (x z : ℕ) → value_from r z ≡ cast_number cast from to (x % 2 ^ from) → value_from (p || r) z ≡ cast_value cast from to (value_from p x)
+cast_is cast from to true r x z e = refl
+cast_is cast from to false r x z e = e
+
+pub cast-stands : (old g1 g2 g3 g4 : List Term) (cast : Cast) (from to : ℕ) (operand : SymValue) (a row : NarrowValue) (poison : TermId) (value : SymValue) → IsSymValue old operand
+    → Keeps old g1 → a.poison ≡ operand.poison → Makes g1 a.number from (λ v. term_at v old operand.number % 2 ^ from)
+    → Keeps g1 g2 → IsNarrow g2 to row → ((v : ℕ → ℕ → ℕ) → narrow_at v g2 row ≡ cast_number cast from to (term_at v g1 a.number))
+    → Keeps g2 g3 → Tests g3 poison (λ v. bit_at v g2 a.poison || bit_at v g2 row.poison)
+    → ((v : ℕ → ℕ → ℕ) → value_at v g4 value ≡ narrow_at v g3 (record { poison = poison; number = row.number }))
+    → (v : ℕ → ℕ → ℕ) → value_at v g4 value ≡ cast_value cast from to (value_at v old operand)
+unfolding value_at
+cast-stands old g1 g2 g3 g4 cast from to operand a row poison value ho k1 ea ma k2 hw is k3 tp sv v =
+    let p = bit_at v old operand.poison in
+    let x = term_at v old operand.number in
+    let operand_poison : bit_at v g2 a.poison ≡ p = ap (bit_at v g2) ea ∙ bit-later old g2 (keeps_trans old g1 g2 k1 k2) v operand.poison ho.poison.within in
+    let any : bit_at v g3 poison ≡ (p || bit_at v g2 row.poison) = tp.says v ∙ ap (λ t. t || bit_at v g2 row.poison) operand_poison in
+    let whole : narrow_at v g3 (record { poison = poison; number = row.number }) ≡ value_from (p || bit_at v g2 row.poison) (term_at v g2 row.number) =
+    ap (λ t. value_from t (term_at v g3 row.number)) any ∙ ap (value_from (p || bit_at v g2 row.poison)) (term-later g2 g3 k3 v row.number hw.number.within) in
+    let stands : narrow_at v g2 row ≡ cast_number cast from to (x % 2 ^ from) = is v ∙ ap (cast_number cast from to) (ma.says v) in
+    sv v ∙ (whole ∙ cast_is cast from to p (bit_at v g2 row.poison) x (term_at v g2 row.number) stands)
+
+-- ---- selections
+
+lowest-of : (r : ℕ) → r < 2 → truth r ≡ nat_eq r 1
+lowest-of zero lt = refl
+lowest-of (suc zero) lt = refl
+lowest-of (suc (suc r)) lt = absurd (omega (arith, lt))
+
+lowest : (x : ℕ) → truth (x / 2 ^ 0 % 2 ^ 1) ≡ nat_eq (x % 2) 1
+lowest x = let e : x / 2 ^ 0 ≡ x = omega arith in let below : x % 2 < 2 = omega arith in ap (λ k. truth (k % 2 ^ 1)) e ∙ lowest-of (x % 2) below
+
+select_is : (p c r : Bool) (x z : ℕ) (t f : Value) → c ≡ nat_eq (x % 2) 1 → value_from r z ≡ cond c t f → value_from (p || r) z ≡ selected (value_from p x) t f
+select_is true c r x z t f e h = refl
+select_is false c r x z t f e h = h ∙ (ap (λ b. cond b t f) e ∙ choice (nat_eq (x % 2) 1) t f)
+  where
+    choice : (b : Bool) (t f : Value) → cond b t f ≡ (if b then t else f)
+    choice true t f = refl
+    choice false t f = refl
+
+pub select-stands : (old g1 g2 g3 : List Term) (condition if_true if_false chosen : SymValue) (low poison : TermId) → IsSymValue old condition → IsSymValue old if_true → IsSymValue old if_false
+    → Keeps old g1 → Makes g1 low 1 (λ v. term_at v old condition.number / 2 ^ 0 % 2 ^ 1)
+    → Keeps g1 g2 → IsSymValue g2 chosen → ((v : ℕ → ℕ → ℕ) → value_at v g2 chosen ≡ cond (bit_at v g1 low) (value_at v g1 if_true) (value_at v g1 if_false))
+    → Keeps g2 g3 → Tests g3 poison (λ v. bit_at v g2 condition.poison || bit_at v g2 chosen.poison)
+    → (v : ℕ → ℕ → ℕ) → value_at v g3 (record { poison = poison; number = chosen.number }) ≡ selected (value_at v old condition) (value_at v old if_true) (value_at v old if_false)
+unfolding value_at
+select-stands old g1 g2 g3 condition if_true if_false chosen low poison hc ht hf k1 ml k2 hh sv k3 tp v =
+    let k02 = keeps_trans old g1 g2 k1 k2 in
+    let p = bit_at v old condition.poison in
+    let x = term_at v old condition.number in
+    let t = value_from (bit_at v old if_true.poison) (term_at v old if_true.number) in
+    let f = value_from (bit_at v old if_false.poison) (term_at v old if_false.number) in
+    let et : value_from (bit_at v g1 if_true.poison) (term_at v g1 if_true.number) ≡ t = rw (bit-later old g1 k1 v if_true.poison ht.poison.within, term-later old g1 k1 v if_true.number ht.number.within) refl in
+    let ef : value_from (bit_at v g1 if_false.poison) (term_at v g1 if_false.number) ≡ f = rw (bit-later old g1 k1 v if_false.poison hf.poison.within, term-later old g1 k1 v if_false.number hf.number.within) refl in
+    let any : bit_at v g3 poison ≡ (p || bit_at v g2 chosen.poison) = tp.says v ∙ ap (λ z. z || bit_at v g2 chosen.poison) (bit-later old g2 k02 v condition.poison hc.poison.within) in
+    let whole : value_from (bit_at v g3 poison) (term_at v g3 chosen.number) ≡ value_from (p || bit_at v g2 chosen.poison) (term_at v g2 chosen.number) =
+    ap (λ z. value_from z (term_at v g3 chosen.number)) any ∙ ap (value_from (p || bit_at v g2 chosen.poison)) (term-later g2 g3 k3 v chosen.number hh.number.within) in
+    let bit : bit_at v g1 low ≡ nat_eq (x % 2) 1 = ap truth (ml.says v) ∙ lowest x in
+    let stands : value_from (bit_at v g2 chosen.poison) (term_at v g2 chosen.number) ≡ cond (bit_at v g1 low) t f = sv v ∙ (ap (λ z. cond (bit_at v g1 low) z (value_from (bit_at v g1 if_false.poison) (term_at v g1 if_false.number))) et ∙ ap (cond (bit_at v g1 low) t) ef) in
+    whole ∙ select_is p (bit_at v g1 low) (bit_at v g2 chosen.poison) x (term_at v g2 chosen.number) t f bit stands

@@ -1,5 +1,0 @@
-use Rattle.renamed_log.proofs.Renamed.{found_logs_are_spent}
-use Rattle.renamed_log.proofs.laws.found_log_is_spent.Goals as goal
-
-pub returns : goal.returns
-returns c = found_logs_are_spent

@@ -1,7 +1,0 @@
-use Rattle.std.proofs.Common.{arith}
-use Rattle.table_terms.proofs.Casting.{signed_room-stands}
-use Rattle.table_terms.proofs.casts.has_no_signed_room.Goals as goal
-
-pub returns-in_ok-never-clause-made : goal.returns-in_ok-never-clause-made
-returns-in_ok-never-clause-made c =
-    signed_room-stands c.args.terms.now c.truth.new.terms c.args.a c.in_ok-never.never c.args.from.bits c.args.to.bits c.args.from.at_least_1 (omega arith) c.values_fit.ensures c.requires c.in_ok-never.ensures.made

@@ -1,0 +1,156 @@
+ghost use Rattle.bv_terms.specs.Trees.{IsTerm};
+
+use crate::term_values::value_of;
+use bv_terms::{TermId, Terms};
+use mem_terms::{
+    ArgTerms, arg_value, both, either, equals, implies, less, less_signed, negation, number,
+    number_value, pick, pick_value, poison_value, resize, truth,
+};
+use std::alloc::Global;
+use std::test::Fail;
+use support::NoMemory;
+
+/// A choice between a value and itself makes no term.
+#[test]
+fn one_value_is_its_own_choice(rt: HostRuntime) -> Result<(), Fail> {
+    let mut terms = Terms::new(rt.alloc());
+    let condition = terms.variable(0, 1)?;
+    let seven = number_value(&mut terms, 7)?;
+    let count = terms.as_slice().len();
+    assert!(rt; pick_value(&mut terms, condition, seven, seven)? == seven);
+    assert_eq!(rt; terms.as_slice().len(), count);
+    Ok(())
+}
+
+/// A choice between two values is neither.
+#[test]
+fn two_values_make_a_choice(rt: HostRuntime) -> Result<(), Fail> {
+    let mut terms = Terms::new(rt.alloc());
+    let condition = terms.variable(0, 1)?;
+    let poison = poison_value(&mut terms)?;
+    let seven = number_value(&mut terms, 7)?;
+    let choice = pick_value(&mut terms, condition, seven, poison)?;
+    assert!(rt; choice != seven && choice != poison);
+    Ok(())
+}
+
+/// The functions of two truths.
+#[derive(Clone, Copy)]
+enum Truth {
+    Negation,
+    Both,
+    Either,
+    Implies,
+}
+
+fn truth_term(terms: &mut Terms, op: Truth, a: TermId, b: TermId) -> Result<TermId, NoMemory>
+    requires a { IsTerm terms.old 1 a }
+    requires b { IsTerm terms.old 1 b }
+{
+    match op {
+        Truth::Negation => negation(terms, a),
+        Truth::Both => both(terms, a, b),
+        Truth::Either => either(terms, a, b),
+        Truth::Implies => implies(terms, a, b),
+    }
+}
+
+/// The value of a function of two truths; the negation is that of the first.
+fn truth_of(alloc: Global, op: Truth, a: bool, b: bool) -> Result<Option<u128>, NoMemory> {
+    let mut terms = Terms::new(alloc);
+    let a = truth(&mut terms, a)?;
+    let b = truth(&mut terms, b)?;
+    let id = truth_term(&mut terms, op, a, b)?;
+    value_of(alloc, &terms, id)
+}
+
+/// For each function its values at false and false, false and true, true and false, true and true.
+#[test]
+fn truths_of_two(rt: HostRuntime) -> Result<(), Fail> {
+    let rows = [
+        (Truth::Negation, [1, 1, 0, 0]),
+        (Truth::Both, [0, 0, 0, 1]),
+        (Truth::Either, [0, 1, 1, 1]),
+        (Truth::Implies, [1, 1, 0, 1]),
+    ];
+    for (op, wants) in rows {
+        for (case, want) in wants.into_iter().enumerate() {
+            let found = truth_of(rt.alloc(), op, case & 2 == 2, case & 1 == 1)?;
+            assert_eq!(rt; found, Some(want), "case {case}");
+        }
+    }
+    Ok(())
+}
+
+/// The functions of two numbers of 64 bits.
+#[derive(Clone, Copy)]
+enum Number {
+    Equals,
+    Less,
+    LessSigned,
+    /// The first number.
+    Pick,
+    /// The low 8 bits of the first number.
+    Byte,
+    /// The first number at 128 bits.
+    Wide,
+}
+
+fn number_term(terms: &mut Terms, op: Number, a: TermId, b: TermId) -> Result<TermId, NoMemory>
+    requires a { IsTerm terms.old 64 a }
+    requires b { IsTerm terms.old 64 b }
+{
+    match op {
+        Number::Equals => equals(terms, a, b),
+        Number::Less => less(terms, a, b),
+        Number::LessSigned => less_signed(terms, a, b),
+        Number::Pick => {
+            let always = truth(terms, true)?;
+            pick(terms, always, a, b)
+        }
+        Number::Byte => resize(terms, a, 8),
+        Number::Wide => resize(terms, a, 128),
+    }
+}
+
+fn number_of(alloc: Global, op: Number, a: u64, b: u64) -> Result<Option<u128>, NoMemory> {
+    let mut terms = Terms::new(alloc);
+    let a = number(&mut terms, a)?;
+    let b = number(&mut terms, b)?;
+    let id = number_term(&mut terms, op, a, b)?;
+    value_of(alloc, &terms, id)
+}
+
+#[test]
+fn numbers_of_two(rt: HostRuntime) -> Result<(), Fail> {
+    let rows = [
+        (Number::Equals, 5, 5, 1),
+        (Number::Equals, 5, 6, 0),
+        (Number::Less, 1, 2, 1),
+        (Number::Less, 2, 2, 0),
+        (Number::Less, u64::MAX, 0, 0),
+        (Number::LessSigned, 1, 2, 1),
+        (Number::LessSigned, 2, 2, 0),
+        (Number::LessSigned, u64::MAX, 0, 1),
+        (Number::LessSigned, (1 << 63) - 1, 1 << 63, 0),
+        (Number::Pick, 3, 4, 3),
+        (Number::Byte, 300, 0, 44),
+        (Number::Wide, u64::MAX, 0, 18_446_744_073_709_551_615),
+    ];
+    for (op, a, b, want) in rows {
+        assert_eq!(rt; number_of(rt.alloc(), op, a, b)?, Some(want), "{a} and {b}");
+    }
+    Ok(())
+}
+
+/// An argument of 8 bits that is 200 is the number 200, without a sign.
+#[test]
+fn an_argument_is_a_value(rt: HostRuntime) -> Result<(), Fail> {
+    let mut terms = Terms::new(rt.alloc());
+    let flag = truth(&mut terms, false)?;
+    let number = terms.constant(200, 8)?;
+    let value = arg_value(&mut terms, ArgTerms { flag, number })?;
+    assert!(rt; value.poison == flag);
+    assert_eq!(rt; value_of(rt.alloc(), &terms, value.number)?, Some(200));
+    Ok(())
+}

@@ -1,0 +1,63 @@
+//! What each instruction gives on the operands of its columns, as sums: `tools/instruction_sums.py`
+//! prints these lines.
+
+/// An instruction with its flags, and a sum for each column.
+pub const SUMS: &str = "\
+add: 26c6a1a3 f7491e4d 8e11b1d2 6b45d496 14adcf33 d84d6e83 49997bef abd1125a
+add nuw: ce7037e3 56a7e696 909372ea 9fd0f82d 13951151 83d50902 57f1ee39 cd8ebaf2
+add nsw: ce7037e3 55e659f4 99d5222d 192a90ea f07695a8 511ecad8 188fd073 0af26bf8
+add nuw nsw: ce7037e3 522dcf24 996ba342 5fd770ba a7a7313a b4de3337 a19d8d56 9e0fd261
+sub: 26c6a1a3 63ae5bd5 43e7537e 25f29148 1d030bb9 5b869fa2 4a4a5025 633bd6c8
+sub nuw: d34922df a540de5d c9d30087 448b7a83 fa4c890f 123c09ad 7640c486 d2872e65
+sub nsw: d34922df 90e85404 4bbf43e1 0095741e 4aac402d 66637e23 fb8d9c93 ef7ad5cd
+sub nuw nsw: d34922df 6326ed4c 8f6a2e03 5fc50856 5b5774c5 b225ccd1 7b8aaee1 7edb3f53
+mul: 7da76f93 4f7df4f8 357cbe18 3332fea1 5fc2a1b2 a7080935 947e6b12 2baabdbb
+mul nuw: 7da76f93 a5c29bb3 93a0df73 d76784f0 fbe4fd3a 12c45cc7 d0a27a9b 06b20f41
+mul nsw: ffaa0f41 dc031fa2 db9486e2 b8961b11 4d0eb1e1 ef8a1057 67922feb 42b4adcc
+mul nuw nsw: ffaa0f41 a5c29bb3 0efe1a98 81b917fc e6fe0e2b 1ca5ccd3 57c70197 7781fccc
+shl: a36e71b1 47f3b12f a171bf98 2ae24bcc 4af55d29 92de4179 375ac83a 488c169a
+shl nuw: a36e71b1 fa8a8dea 23f3414b defa5605 4194b3cf 9f992488 f2c4f18b eccac0a7
+shl nsw: a36e71b1 546d0da5 dd6a1e0b 4c1819d8 d003d764 afadb0c6 ba1895e3 7ff4ef98
+shl nuw nsw: a36e71b1 e54b5494 95ee3b76 1cd6e2f3 9212af35 81b561e1 abfef140 2ee2f1fc
+udiv: c3b72ab1 5d093e29 a188552c 90d21778 e9307772 1a66084f 81bcf5d5 2d4bb6f0
+udiv exact: c3b72ab1 176d8fe1 dcabeba7 e29090a0 402d46cb 26b20cf6 15302e09 0ee16473
+sdiv: 04d1fbfa b85016ed 43d02053 c4caa2c1 c1656338 9581199b c1724ec8 effe51a8
+sdiv exact: 04d1fbfa 964ab892 39ae8dba 469c6d4d 462fda98 92a858d4 55b0b48e d5a1d789
+lshr: a36e71b1 7edf08cf a89eec97 69b18dc7 8f2e9146 a0b7571e bad75238 9046d879
+lshr exact: a36e71b1 c7760235 643cbf36 dfe72f33 ae378825 62f85306 45b7153c deb01f69
+ashr: a36e71b1 dd80c06e 9acf4602 e193eada da72b988 d812ea50 748de745 b7c92776
+ashr exact: a36e71b1 e4c992da 2a40c458 f75a2d88 e869c4fd e4004c75 59133925 972fd3fc
+urem: d705a64f d1afd06c ace4b7ee 35204436 aa31e851 6d59b12a 0728c4b7 249c507d
+srem: 04d1fbfa a09dde2d fd2a53f7 dde224fe e8371e77 37e05fef 8e59a826 793a7c4c
+and: 7da76f93 8fdbcea7 5650547b f23ea64d 3c0ece28 7a382925 20e04c62 013b9bea
+or: 13782606 897faff5 cacf2ae6 7ff46bc7 286fd763 3e565ba7 b92b2850 f3cf4581
+or disjoint: ce7037e3 522dcf24 b24322c0 78a2b7e2 2dc69fd5 4796ecb8 698e0a06 e622d06f
+xor: 26c6a1a3 5a782c22 329ddc96 d6ef948b 359ad84c 0d580193 e184aaff 3bcd78a8
+icmp eq: a5dec597 bdd51b24 1cd55990 ecf2f7ab 7980f720 ecf2f7ab ecf2f7ab ecf2f7ab
+icmp ne: 26c6a1a3 fda482da bf90124d 0752c413 7ac4c49e 0752c413 0752c413 0752c413
+icmp ugt: db8cf06c b6f9ca01 d49aeefe 5d1d7b21 797483e4 49111d67 49111d67 49111d67
+icmp uge: f075cad3 13fa9a50 33514263 00d6a3bb a9bbabf2 ecca4601 ecca4601 ecca4601
+icmp ult: dc2f9c67 a77f03ae a914297a f36f1803 4a8a0fcc 077b75bd 077b75bd 077b75bd
+icmp ule: f11876ce 047fd3fd 07ca7cdf 9728409d 7ad137da ab349e57 ab349e57 ab349e57
+icmp sgt: dc2f9c67 57552d32 7e5d3493 ddf5ecec a7430e29 76dfa7ad 76dfa7ad 76dfa7ad
+icmp sge: f11876ce b455fd81 dd1387f8 81af1586 d78a3638 1a98d046 1a98d046 1a98d046
+icmp slt: db8cf06c 0723a07d ff51e3e5 7296a638 1cbb8586 d9aceb78 d9aceb78 d9aceb78
+icmp sle: f075cad3 642470cc 5e08374a 164fced2 4d02ad95 7d661411 7d661411 7d661411
+icmp samesign eq: 4c8da3c2 e87167f8 42b36e5d 90ec62bd 76c79504 cfb0a73d cfb0a73d cfb0a73d
+icmp samesign ne: 14a26e28 93ea1479 adb3eac0 76a6732e d0aa69ad 77c15774 77c15774 77c15774
+icmp samesign ugt: 14a26e28 2be58044 250da5d8 3790aae8 1331d390 6a8138bc 6a8138bc 6a8138bc
+icmp samesign uge: 4c8da3c2 20d302fd d1234dc4 930bfeb6 4b4f8c9b fb880400 fb880400 fb880400
+icmp samesign ult: 14a26e28 5b887973 1f440b5a 7486d734 fc227216 4be9fab1 4be9fab1 4be9fab1
+icmp samesign ule: 4c8da3c2 5075fc2c cb59b345 d0022b02 34402b21 dcf0c5f5 dcf0c5f5 dcf0c5f5
+icmp samesign sgt: 14a26e28 2be58044 250da5d8 3790aae8 1331d390 6a8138bc 6a8138bc 6a8138bc
+icmp samesign sge: 4c8da3c2 20d302fd d1234dc4 930bfeb6 4b4f8c9b fb880400 fb880400 fb880400
+icmp samesign slt: 14a26e28 5b887973 1f440b5a 7486d734 fc227216 4be9fab1 4be9fab1 4be9fab1
+icmp samesign sle: 4c8da3c2 5075fc2c cb59b345 d0022b02 34402b21 dcf0c5f5 dcf0c5f5 dcf0c5f5
+trunc: 7e031d09 f4c3f2e9 07469040 303ccdeb a924456e 62586004 d356c4a5 08c3d028
+trunc nuw: 81bf6ec9 5de42241 ea2cc088 4d4d4cde b2fa3906 885f5017 ea2cc088 33297e38
+trunc nsw: c9e87ee1 0dd7e17a 5853c62f 331eccd2 7a7a452b d8dba433 102ab617 e23c8219
+trunc nuw nsw: 59d24567 4c967fc6 9c31a4ed fc233441 b2fa3906 885f5017 9c31a4ed 33297e38
+zext: 64a5ef2b 5b876a96 64a5ef2b 9edc2663 cdd1a1bb fc7d3827 64a5ef2b ea5d9413
+zext nneg: 82f63df4 81bf6ec9 82f63df4 5de42241 f5e35a91 303b0c71 82f63df4 5e4a3da9
+sext: 143036a1 169005b0 316de362 d0b89df6 e4cecfc3 27b394ee b51ba7b6 ae18fb08
+";

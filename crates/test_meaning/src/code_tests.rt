@@ -1,0 +1,213 @@
+//! The order of points by their codes, on three small shapes: which code comes after which.
+
+ghost use Rattle.std.specs.Prelude.{◌≡◌, ◌∷◌, [], replicate, IfOk};
+ghost use Rattle.points.specs.Code.{IsOfShape};
+ghost use Rattle.points.specs.Codes.{IsCode};
+
+use ir_tree::{IrType, Parameter};
+use points::{Point, Shape, code_of, next, point_of};
+use std::alloc::{AllocError, Global};
+use std::test::Fail;
+use support::{NoMemory, Sequence};
+use tv_num::Width;
+
+fn repeated(alloc: Global, parameter: Parameter, count: usize) -> Result<Vec<Parameter>, AllocError>
+    ensures { IfOk result (λ parameters. parameters.items ≡ replicate count parameter) }
+{
+    vec![in alloc; parameter; count]
+}
+
+/// `count` equal parameters, one given block of at most `bytes` bytes, and `words` words of one
+/// bit.
+fn shape_with(
+    alloc: Global,
+    parameter: Parameter,
+    count: usize,
+    bytes: u64,
+    words: u64,
+) -> Result<Shape, NoMemory>
+    ensures parameters { IfOk result (λ s. s.parameters ≡ replicate count parameter) }
+    ensures blocks { IfOk result (λ s. s.blocks ≡ 1) }
+    ensures bytes { IfOk result (λ s. s.bytes ≡ bytes) }
+    ensures words { IfOk result (λ s. s.words ≡ words) }
+    ensures width { IfOk result (λ s. s.word_width.bits ≡ 1) }
+{
+    Ok(Shape {
+        parameters: Sequence::from_vec(repeated(alloc, parameter, count)?),
+        blocks: 1,
+        bytes,
+        words,
+        word_width: Width::of(1),
+    })
+}
+
+/// A parameter of one bit, one given block of at most one byte, and one word of one bit.
+fn one_of_each(alloc: Global) -> Result<Shape, NoMemory>
+    ensures no_byte { IfOk result (λ s. IsCode s (0 ∷ 0 ∷ 0 ∷ 0 ∷ 0 ∷ 0 ∷ 0 ∷ 0 ∷ 1 ∷ [])) }
+    ensures last_number { IfOk result (λ s. IsCode s (0 ∷ 0 ∷ 1 ∷ 0 ∷ 255 ∷ 0 ∷ 0 ∷ 0 ∷ 1 ∷ [])) }
+    ensures sixth_part { IfOk result (λ s. IsCode s (0 ∷ 0 ∷ 1 ∷ 1 ∷ 0 ∷ 0 ∷ 5 ∷ 6 ∷ 1 ∷ [])) }
+    ensures last_of_null { IfOk result
+        (λ s. IsCode s (0 ∷ 0 ∷ 1 ∷ 1 ∷ 0 ∷ 0 ∷ 18446744073709551615 ∷ 7 ∷ 1 ∷ [])) }
+    ensures last_part { IfOk result
+        (λ s. IsCode s (0 ∷ 0 ∷ 1 ∷ 1 ∷ 0 ∷ 1 ∷ 18446744073709551615 ∷ 7 ∷ 1 ∷ [])) }
+    ensures poison_byte { IfOk result (λ s. IsCode s (0 ∷ 1 ∷ 1 ∷ 2 ∷ 0 ∷ 0 ∷ 0 ∷ 0 ∷ 1 ∷ [])) }
+    ensures last { IfOk result (λ s. IsCode s (1 ∷ 0 ∷ 1 ∷ 2 ∷ 0 ∷ 0 ∷ 0 ∷ 0 ∷ 1 ∷ [])) }
+{
+    let bit = Parameter {
+        of_type: IrType::Int(Width::of(1)),
+        no_undef: false,
+        name: 0,
+    };
+    let shape = shape_with(alloc, bit, 1, 1, 1)?;
+    Ok(shape)
+}
+
+/// Whether the point after the one with this code has the wanted code, or there is none, where none
+/// is wanted.
+fn is_followed_by(
+    alloc: Global,
+    shape: &Shape,
+    code: &[u64],
+    wanted: Option<&[u64]>,
+) -> Result<bool, NoMemory>
+    requires { IsCode shape.now code.now }
+{
+    let mut point = point_of(alloc, code, shape)?;
+    if !next(&mut point, shape) {
+        return Ok(wanted.is_none());
+    }
+    let after = code_of(alloc, &point, shape)?;
+    match wanted {
+        Some(wanted) => Ok(after.as_slice() == wanted),
+        None => Ok(false),
+    }
+}
+
+#[test]
+fn codes_come_back_from_their_points(rt: HostRuntime) -> Result<(), Fail> {
+    let alloc = rt.alloc();
+    let shape = one_of_each(alloc)?;
+    let code = [0, 0, 1, 1, 0, 0, 5, 6, 1];
+    let point = point_of(alloc, &code, &shape)?;
+    let again = code_of(alloc, &point, &shape)?;
+    assert!(rt; again.as_slice() == code.as_slice());
+    Ok(())
+}
+
+#[test]
+fn bytes_come_before_sizes_and_sizes_before_arguments(rt: HostRuntime) -> Result<(), Fail> {
+    let alloc = rt.alloc();
+    let shape = one_of_each(alloc)?;
+    let most = u64::MAX;
+    assert!(rt;
+        is_followed_by(
+            alloc,
+            &shape,
+            &[0, 0, 0, 0, 0, 0, 0, 0, 1],
+            Some(&[0, 0, 1, 0, 0, 0, 0, 0, 0])
+        )?
+    );
+    assert!(rt;
+        is_followed_by(
+            alloc,
+            &shape,
+            &[0, 0, 1, 0, 255, 0, 0, 0, 1],
+            Some(&[0, 0, 1, 1, 0, 0, 0, 0, 0])
+        )?
+    );
+    assert!(rt;
+        is_followed_by(
+            alloc,
+            &shape,
+            &[0, 0, 1, 1, 0, 0, 5, 6, 1],
+            Some(&[0, 0, 1, 1, 0, 0, 5, 7, 0])
+        )?
+    );
+    assert!(rt;
+        is_followed_by(
+            alloc,
+            &shape,
+            &[0, 0, 1, 1, 0, 0, most, 7, 1],
+            Some(&[0, 0, 1, 1, 0, 1, 0, 0, 0])
+        )?
+    );
+    assert!(rt;
+        is_followed_by(
+            alloc,
+            &shape,
+            &[0, 0, 1, 1, 0, 1, most, 7, 1],
+            Some(&[0, 0, 1, 2, 0, 0, 0, 0, 0])
+        )?
+    );
+    assert!(rt;
+        is_followed_by(
+            alloc,
+            &shape,
+            &[0, 1, 1, 2, 0, 0, 0, 0, 1],
+            Some(&[1, 0, 0, 0, 0, 0, 0, 0, 0])
+        )?
+    );
+    assert!(rt; is_followed_by(alloc, &shape, &[1, 0, 1, 2, 0, 0, 0, 0, 1], None)?);
+    Ok(())
+}
+
+/// Two parameters of one bit, one given block that has no byte, and two words of one bit.
+fn without_bytes(alloc: Global) -> Result<Shape, NoMemory>
+    ensures { IfOk result (λ s. IsCode s (0 ∷ 0 ∷ 0 ∷ 0 ∷ 0 ∷ 0 ∷ 0 ∷ [])) }
+{
+    let bit = Parameter {
+        of_type: IrType::Int(Width::of(1)),
+        no_undef: false,
+        name: 0,
+    };
+    let shape = shape_with(alloc, bit, 2, 0, 2)?;
+    Ok(shape)
+}
+
+/// How many points there are from this one on, if at most a hundred.
+fn points_from(point: &mut Point, shape: &Shape) -> Option<u64>
+    requires { IsOfShape shape.now point.old }
+    ensures { IsOfShape shape.now point.new }
+{
+    for step in 0..100 {
+        if !next(point, shape) {
+            return Some(step + 1);
+        }
+    }
+    None
+}
+
+#[test]
+fn a_walk_meets_each_point_of_a_shape(rt: HostRuntime) -> Result<(), Fail> {
+    let alloc = rt.alloc();
+    let shape = without_bytes(alloc)?;
+    let mut point = point_of(alloc, &[0, 0, 0, 0, 0, 0, 0], &shape)?;
+    assert!(rt; points_from(&mut point, &shape) == Some(3 * 3 * 2 * 2));
+    assert!(rt; !next(&mut point, &shape));
+    Ok(())
+}
+
+/// A pointer, one given block that has no byte, and no word.
+fn one_pointer(alloc: Global) -> Result<Shape, NoMemory>
+    ensures last_of_null { IfOk result (λ s. IsCode s (0 ∷ 0 ∷ 18446744073709551615 ∷ 0 ∷ [])) }
+    ensures last_given { IfOk result (λ s. IsCode s (0 ∷ 1 ∷ 18446744073709551615 ∷ 0 ∷ [])) }
+    ensures poison { IfOk result (λ s. IsCode s (1 ∷ 0 ∷ 0 ∷ 0 ∷ [])) }
+{
+    let pointer = Parameter {
+        of_type: IrType::Ptr,
+        no_undef: false,
+        name: 0,
+    };
+    let shape = shape_with(alloc, pointer, 1, 0, 0)?;
+    Ok(shape)
+}
+
+#[test]
+fn offsets_move_before_blocks(rt: HostRuntime) -> Result<(), Fail> {
+    let alloc = rt.alloc();
+    let shape = one_pointer(alloc)?;
+    assert!(rt; is_followed_by(alloc, &shape, &[0, 0, u64::MAX, 0], Some(&[0, 1, 0, 0]))?);
+    assert!(rt; is_followed_by(alloc, &shape, &[0, 1, u64::MAX, 0], Some(&[1, 0, 0, 0]))?);
+    assert!(rt; is_followed_by(alloc, &shape, &[1, 0, 0, 0], None)?);
+    Ok(())
+}

@@ -1,0 +1,31 @@
+use crate::made_functions::function_of;
+use assigned_names::check_assigned;
+use ir_check::{check_edges, check_names, check_types};
+use ir_tree::{CheckFault, Function, are_numbered, sites_of};
+use std::alloc::Global;
+use std::test::Fail;
+
+/// The checks of a function, one after another.
+fn checked(alloc: Global, f: &Function) -> Result<bool, CheckFault> {
+    let list = sites_of(alloc, f)?;
+    if !are_numbered(list.all.as_slice(), f.names.len()) {
+        return Ok(false);
+    }
+    check_names(alloc, f)?;
+    check_types(alloc, f)?;
+    check_edges(alloc, f)?;
+    check_assigned(alloc, f)?;
+    Ok(true)
+}
+
+/// A function is read token by token, its names `%x`, `%r` and that of the entry are numbered, and
+/// it passes each check.
+#[test]
+fn a_function_is_read_step_by_step(rt: HostRuntime) -> Result<(), Fail> {
+    let text = "define i8 @f(i8 %x) {\n  %r = add i8 %x, 1\n  ret i8 %r\n}";
+    let f = function_of(rt.alloc(), text)?;
+    assert_eq!(rt; f.names.len(), 3);
+    assert_eq!(rt; f.blocks.len(), 1);
+    assert_eq!(rt; checked(rt.alloc(), &f), Ok(true));
+    Ok(())
+}

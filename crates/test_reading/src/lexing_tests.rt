@@ -1,0 +1,112 @@
+use ir_lexer::{LexFault, lex};
+use std::alloc::Global;
+use std::test::Fail;
+use text_places::Place;
+
+/// The class and the spelling of each token of a text, each after `; `.
+fn lexed(alloc: Global, text: &str) -> Result<Vec<u8>, Fail> {
+    let tokens = lex(alloc, text.as_bytes())?;
+    let mut all = Vec::new(alloc);
+    for token in tokens.as_slice() {
+        let kind = format!(in alloc; "; {:?} ", token.kind())?;
+        all.extend_from_slice(kind.as_bytes())?;
+        all.extend_from_slice(token.text())?;
+    }
+    Ok(all)
+}
+
+// The tokens are from a lexer of regular expressions in another language.
+#[test]
+fn tokens_of_each_class(rt: HostRuntime) -> Result<(), Fail> {
+    let rows = [
+        (
+            "%r1 = add i8 -5, @a.b ; rest\n...",
+            "; Local %r1; Mark =; Word add; Word i8; Number -5; Mark ,; Global @a.b; Mark ...",
+        ),
+        (
+            "%5a %-x $a $1b @\"x y\" %\"\\22\"",
+            "; Local %5; Word a; Local %-x; Comdat $a; Comdat $1; Word b; Global @\"x y\"; Local \
+            %\"\\22\"",
+        ),
+        (
+            "$a: -5: ...: \"a\": 1.5: a:b:",
+            "; Label $a:; Label -5:; Label ...:; Label \"a\":; Label 1.5:; Label a:; Label b:",
+        ),
+        (
+            "1.5e+7 1.5e7 -0.25 +3.0 1. 5",
+            "; Float 1.5e+7; Float 1.5; Word e7; Float -0.25; Float +3.0; Number 1; Word .; \
+            Number 5",
+        ),
+        (
+            "0xK12 0x1F 0xg 0xKR 0x",
+            "; Hexadecimal 0xK12; Hexadecimal 0x1F; Number 0; Word xg; Number 0; Word xKR; Number \
+            0; Word x",
+        ),
+        (
+            "!llvm.loop !5 !-1 !{ !\"s\" #12 #-1 #nounwind ^3 ^-3",
+            "; Metadata !llvm.loop; Metadata !5; Metadata !-1; Mark !; Mark {; Mark !; String \
+            \"s\"; Hash #12; Hash #-1; Hash #nounwind; Caret ^3; Caret ^-3",
+        ),
+        (
+            "c\"a\\00\" c \"b\" c\"q\":",
+            "; String c\"a\\00\"; Word c; String \"b\"; String c\"q\"; Mark :",
+        ),
+        (
+            ".... ...a ( ) [ ] { } < > , = * : ! |",
+            "; Word ....; Word ...a; Mark (; Mark ); Mark [; Mark ]; Mark {; Mark }; Mark <; Mark \
+            >; Mark ,; Mark =; Mark *; Mark :; Mark !; Mark |",
+        ),
+        (
+            "1-1-1 1-1-1:",
+            "; Number 1; Number -1; Number -1; Label 1-1-1:",
+        ),
+        ("a\r\n;c\r\n\tb", "; Word a; Word b"),
+        (";", ""),
+        (
+            "declare void @f(ptr) \"k\"=\"v\"",
+            "; Word declare; Word void; Global @f; Mark (; Word ptr; Mark ); String \"k\"; Mark \
+            =; String \"v\"",
+        ),
+        (
+            "1.5e+7: $\"q\": %\"l\":",
+            "; Float 1.5e+7; Mark :; Comdat $\"q\"; Mark :; Local %\"l\"; Mark :",
+        ),
+        ("", ""),
+    ];
+    for (text, want) in rows {
+        let found = lexed(rt.alloc(), text)?;
+        assert!(rt; found.as_slice() == want.as_bytes(), "in {text:?}");
+    }
+    let bytes = lex(rt.alloc(), b" \"\xff\x00\"")?;
+    assert_eq!(rt; bytes.len(), 1);
+    Ok(())
+}
+
+#[test]
+fn places_without_a_token(rt: HostRuntime) -> Result<(), Fail> {
+    let alloc = rt.alloc();
+    for (text, at, line, column) in [
+        ("a ?", 2, 1, 3),
+        ("% a", 0, 1, 1),
+        ("\n \"abc", 2, 2, 2),
+        ("x\r\n  %\"abc", 5, 2, 3),
+        ("@\"", 0, 1, 1),
+        ("$\"a", 0, 1, 1),
+        ("+5", 0, 1, 1),
+        ("ok # ", 3, 1, 4),
+        ("c\"x", 1, 1, 2),
+        ("^a", 0, 1, 1),
+        ("a\n\n   ~", 6, 3, 4),
+        ("-", 0, 1, 1),
+        ("$", 0, 1, 1),
+        ("$a $", 3, 1, 4),
+        ("-\n-", 0, 1, 1),
+    ] {
+        let place = Place { line, column };
+        let fault = lex(alloc, text.as_bytes()).err();
+        assert_eq!(rt; fault, Some(LexFault::NoToken { at, place }), "in {text:?}");
+    }
+    assert!(rt; lex(alloc, b"a\x00").is_err());
+    assert!(rt; lex(alloc, b"\xc3").is_err());
+    Ok(())
+}

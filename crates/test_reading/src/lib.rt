@@ -1,0 +1,34 @@
+//! Modules and functions with answers that are known, for the reader and the checks that it makes.
+//!
+//! These are the tests of the crates from `text_places` to `ir_reader`. The crates that they test
+//! have no tests of their own, so that each is proved once. Nothing stands on this crate.
+#![tactic(auto)]
+
+#[cfg(test)]
+mod answers;
+#[cfg(test)]
+mod assigned_tests;
+#[cfg(test)]
+mod blocks_tests;
+#[cfg(test)]
+mod bracket_tests;
+#[cfg(test)]
+mod check_tests;
+#[cfg(test)]
+mod damaged_tests;
+#[cfg(test)]
+mod definite_assignment_tests;
+#[cfg(test)]
+mod flow_tests;
+#[cfg(test)]
+mod grammar_tests;
+#[cfg(test)]
+mod item_tests;
+#[cfg(test)]
+mod lexing_tests;
+#[cfg(test)]
+mod made_functions;
+#[cfg(test)]
+mod position_tests;
+#[cfg(test)]
+mod tests;

@@ -1,0 +1,91 @@
+//! A row of a table, and how it is asked of `run`.
+
+use pair_driver::OpenGate;
+use std::alloc::Global;
+use std::collections::BTreeMap;
+use std::test::*;
+use std::thread::Threads;
+use support::NoMemory;
+use tv_io::{MemoryShelf, MemorySink};
+use tv_run::run;
+
+/// The first line of a report at the default limits.
+pub const DEFAULTS: &str = "tv 1 turns 4 blocks 2 bytes 8 rounds 64 conflicts 0 weight 100000\n";
+
+/// The last lines of reports without a row, and with one.
+pub const NO_ROWS: &str =
+    "correct 0 incorrect 0 unknown 0 refused 0 signature 0 missing 0 extra 0\n";
+
+pub const ONE_CORRECT: &str =
+    "correct 1 incorrect 0 unknown 0 refused 0 signature 0 missing 0 extra 0\n";
+
+pub const ONE_INCORRECT: &str =
+    "correct 0 incorrect 1 unknown 0 refused 0 signature 0 missing 0 extra 0\n";
+
+pub const ONE_UNKNOWN: &str =
+    "correct 0 incorrect 0 unknown 1 refused 0 signature 0 missing 0 extra 0\n";
+
+pub const ONE_REFUSED: &str =
+    "correct 0 incorrect 0 unknown 0 refused 1 signature 0 missing 0 extra 0\n";
+
+/// A command line over a source file A and a target file B, and what it must answer.
+#[derive(Drop)]
+pub struct Row {
+    pub name: &'static str,
+    pub line: &'static str,
+    pub source: &'static str,
+    pub target: &'static str,
+    /// All that is written, in three pieces: of a report its first line, its rows and its last
+    /// line.
+    pub output: [&'static str; 3],
+    pub status: u8,
+}
+
+/// The arguments of a command line, separated by spaces.
+pub fn arguments_of(alloc: Global, line: &str) -> Result<Vec<String>, NoMemory> {
+    let mut arguments = Vec::new(alloc);
+    for argument in line.split_whitespace() {
+        arguments.push(String::from_str(alloc, argument)?)?;
+    }
+    Ok(arguments)
+}
+
+/// A shelf with the files A and B.
+pub fn shelf_of(alloc: Global, source: Vec<u8>, target: Vec<u8>) -> Result<MemoryShelf, NoMemory> {
+    let mut files = BTreeMap::new(alloc);
+    files.insert(String::from_str(alloc, "A")?, source)?;
+    files.insert(String::from_str(alloc, "B")?, target)?;
+    Ok(MemoryShelf::new(files))
+}
+
+/// Whether a row's output and status are what `run` answers.
+pub fn is_answered<R: AllocGlobal + Threads + Sync>(rt: &R, row: &Row) -> Result<bool, Fail> {
+    let alloc = rt.alloc();
+    let source = Vec::from_slice(alloc, row.source.as_bytes())?;
+    let target = Vec::from_slice(alloc, row.target.as_bytes())?;
+    let mut shelf = shelf_of(alloc, source, target)?;
+    let mut out = MemorySink::new(alloc, 1_000)?;
+    let arguments = arguments_of(alloc, row.line)?;
+    let mut judged = Vec::new(alloc);
+    let status = run(
+        rt,
+        arguments.as_slice(),
+        &mut shelf,
+        &mut out,
+        &OpenGate,
+        &mut judged,
+    );
+    Ok(status == row.status && is_output(out.bytes.as_slice(), &row.output))
+}
+
+/// Whether the bytes are the pieces, one after the other.
+pub fn is_output(bytes: &[u8], pieces: &[&str]) -> bool {
+    let mut rest = bytes;
+    for piece in pieces {
+        match rest.strip_prefix(piece.as_bytes()) {
+            Some(after) => rest = after,
+            None => return false,
+        }
+    }
+    rest.is_empty()
+}

@@ -1,0 +1,146 @@
+//! What command lines ask for.
+//!
+//! A row is a line of arguments, separated by single spaces (two spaces in a row hold the empty
+//! argument), and what it asks for: the two files, the bounds (turns, blocks, bytes), the budget
+//! (rounds, conflicts, weight) and the workers; or `-` where it is rejected.
+
+use std::test::*;
+use tv_cli::{Job, read_job};
+
+/// Bounds are taken up to their ends.
+const BOUNDS: [(&str, &str); 10] = [
+    ("tv check A B", "A B 4 2 8 64 0 100000 4"),
+    ("tv check --turns 0 A B", "A B 0 2 8 64 0 100000 4"),
+    ("tv check --turns 64 A B", "A B 64 2 8 64 0 100000 4"),
+    ("tv check --turns 65 A B", "-"),
+    ("tv check --blocks 0 A B", "A B 4 0 8 64 0 100000 4"),
+    ("tv check --blocks 4 A B", "A B 4 4 8 64 0 100000 4"),
+    ("tv check --blocks 5 A B", "-"),
+    ("tv check --bytes 0 A B", "A B 4 2 0 64 0 100000 4"),
+    ("tv check --bytes 32 A B", "A B 4 2 32 64 0 100000 4"),
+    ("tv check --bytes 33 A B", "-"),
+];
+
+/// And so are budgets.
+const BUDGETS: [(&str, &str); 13] = [
+    ("tv check --rounds 0 A B", "A B 4 2 8 0 0 100000 4"),
+    ("tv check --rounds 4096 A B", "A B 4 2 8 4096 0 100000 4"),
+    ("tv check --rounds 4097 A B", "-"),
+    (
+        "tv check --conflicts 9223372036854775807 A B",
+        "A B 4 2 8 64 9223372036854775807 100000 4",
+    ),
+    ("tv check --conflicts 9223372036854775808 A B", "-"),
+    ("tv check --weight 0 A B", "-"),
+    ("tv check --weight 1 A B", "A B 4 2 8 64 0 1 4"),
+    (
+        "tv check --weight 10000000 A B",
+        "A B 4 2 8 64 0 10000000 4",
+    ),
+    ("tv check --weight 10000001 A B", "-"),
+    ("tv check --workers 0 A B", "-"),
+    ("tv check --workers 1 A B", "A B 4 2 8 64 0 100000 1"),
+    ("tv check --workers 64 A B", "A B 4 2 8 64 0 100000 64"),
+    ("tv check --workers 65 A B", "-"),
+];
+
+/// An option comes before, between or after the files, and once.
+const OPTIONS: [(&str, &str); 14] = [
+    ("tv check --turns=3 A B", "A B 3 2 8 64 0 100000 4"),
+    ("tv check A --turns 3 B", "A B 3 2 8 64 0 100000 4"),
+    ("tv check A B --turns=3", "A B 3 2 8 64 0 100000 4"),
+    (
+        "tv check --weight 5 A --turns=1 B --bytes 2",
+        "A B 1 2 2 64 0 5 4",
+    ),
+    ("tv check --turns 3 --turns 3 A B", "-"),
+    ("tv check --turns=3 A B --turns 4", "-"),
+    ("tv check --workers=2 A B --workers=2", "-"),
+    ("tv check --turns", "-"),
+    ("tv check A B --turns", "-"),
+    ("tv check --turn 3 A B", "-"),
+    ("tv check -t 3 A B", "-"),
+    ("tv check --proof P A B", "-"),
+    ("tv check --first A B", "-"),
+    ("tv --turns 3 check A B", "-"),
+];
+
+/// Numbers are read as `parse` reads them.
+const NUMBERS: [(&str, &str); 10] = [
+    ("tv check --turns +5 A B", "A B 5 2 8 64 0 100000 4"),
+    ("tv check --turns 007 A B", "A B 7 2 8 64 0 100000 4"),
+    ("tv check --turns= A B", "-"),
+    ("tv check --turns  A B", "-"),
+    ("tv check --turns=-1 A B", "-"),
+    ("tv check --turns -1 A B", "-"),
+    ("tv check --turns=++5 A B", "-"),
+    ("tv check --turns 1x A B", "-"),
+    ("tv check --turns 18446744073709551620 A B", "-"),
+    ("tv check --turns==5 A B", "-"),
+];
+
+/// There are two files, and `--` ends the options.
+const FILES: [(&str, &str); 13] = [
+    ("tv check -- -a --turns", "-a --turns 4 2 8 64 0 100000 4"),
+    ("tv check --turns 3 -- A --", "A -- 3 2 8 64 0 100000 4"),
+    ("tv check A -- --turns=3", "A --turns=3 4 2 8 64 0 100000 4"),
+    ("tv check --turns -- A B", "-"),
+    ("tv check --turns -- 3 A B", "-"),
+    ("tv check - -", "- - 4 2 8 64 0 100000 4"),
+    ("tv check  B", " B 4 2 8 64 0 100000 4"),
+    ("tv check -A B", "-"),
+    ("tv check A", "-"),
+    ("tv check A B C", "-"),
+    ("tv check A B -- C", "-"),
+    ("tv check check check", "check check 4 2 8 64 0 100000 4"),
+    ("tv check B A", "B A 4 2 8 64 0 100000 4"),
+];
+
+/// There is one command, and no help.
+const COMMANDS: [(&str, &str); 12] = [
+    ("tv", "-"),
+    ("tv help", "-"),
+    ("tv --help", "-"),
+    ("tv -h", "-"),
+    ("tv --version", "-"),
+    ("tv check --help A B", "-"),
+    ("tv check -h", "-"),
+    ("tv checks A B", "-"),
+    ("tv log A", "-"),
+    ("tv make", "-"),
+    ("tv -- check A B", "-"),
+    ("tv --", "-"),
+];
+
+/// What a line of arguments asks for, as the rows write it.
+fn asked<R: AllocGlobal>(rt: &R, line: &str) -> Result<String, Fail> {
+    let mut arguments = Vec::new(rt.alloc());
+    for argument in line.split(' ') {
+        arguments.push(String::from_str(rt.alloc(), argument)?)?;
+    }
+    match read_job(rt.alloc(), arguments.as_slice())? {
+        Some(job) => shown(rt, &job),
+        None => Ok(String::from_str(rt.alloc(), "-")?),
+    }
+}
+
+fn shown<R: AllocGlobal>(rt: &R, job: &Job<'_>) -> Result<String, Fail> {
+    let bounds = job.bounds;
+    let budget = job.budget;
+    let files = format!(in rt.alloc(); "{} {}", job.source, job.target)?;
+    let within = format!(in rt.alloc(); "{} {} {}", bounds.turns, bounds.blocks, bounds.bytes)?;
+    let spent = format!(in rt.alloc(); "{} {} {}", budget.rounds, budget.conflicts, budget.weight)?;
+    Ok(format!(in rt.alloc(); "{files} {within} {spent} {}", job.workers)?)
+}
+
+#[test]
+fn command_lines_are_read(rt: HostRuntime) -> Result<(), Fail> {
+    let tables: [&[(&str, &str)]; 6] = [&BOUNDS, &BUDGETS, &OPTIONS, &NUMBERS, &FILES, &COMMANDS];
+    for table in tables {
+        for (line, wanted) in table {
+            let answer = asked(&rt, line)?;
+            assert!(rt; answer.as_str() == *wanted, "at {line}");
+        }
+    }
+    Ok(())
+}

@@ -1,0 +1,116 @@
+//! Workers: that they judge beside each other, and that the report is the same for each number.
+
+use crate::asking::{DEFAULTS, NO_ROWS, Row, arguments_of, is_answered, shelf_of};
+use pair_driver::Gate;
+use std::sync::atomic::{AtomicU64, Ordering};
+use std::test::*;
+use tv_io::MemorySink;
+use tv_run::run;
+
+const NO_FUNCTION: &str = "; no function\n";
+
+const ONE_FUNCTION: &str = "define i8 @f() {\n  ret i8 7\n}\n";
+
+const THREE_FUNCTIONS: &str =
+    "define i8 @f() {\n  ret i8 7\n}\ndefine i8 @g() {\n  ret i8 7\n}\ndefine i8 @h() {\n  ret i8 7\n}\n";
+
+const OTHER_SECOND: &str =
+    "define i8 @f() {\n  ret i8 7\n}\ndefine i8 @g() {\n  ret i8 6\n}\ndefine i8 @h() {\n  ret i8 7\n}\n";
+
+const FOUR_FUNCTIONS: &str =
+    "define i8 @a() {\n  ret i8 7\n}\ndefine i8 @b() {\n  ret i8 7\n}\ndefine i8 @c() {\n  ret i8 7\n}\ndefine i8 @d() {\n  ret i8 7\n}\n";
+
+#[test]
+fn reports_do_not_depend_on_the_number_of_workers(rt: HostRuntime) -> Result<(), Fail> {
+    for line in [
+        "tv check --workers 1 A B",
+        "tv check --workers 2 A B",
+        "tv check --workers 64 A B",
+    ] {
+        for (name, source, target, rows, status) in [
+            ("no pairs", NO_FUNCTION, NO_FUNCTION, ["", NO_ROWS], 0),
+            (
+                "a pair that holds",
+                ONE_FUNCTION,
+                ONE_FUNCTION,
+                [
+                    "@f correct\n",
+                    "correct 1 incorrect 0 unknown 0 refused 0 signature 0 missing 0 extra 0\n",
+                ],
+                0,
+            ),
+            (
+                "the second of three is wrong",
+                THREE_FUNCTIONS,
+                OTHER_SECOND,
+                [
+                    "@f correct\n@g incorrect\n  source returns 7\n  target returns 6\n@h correct\n",
+                    "correct 2 incorrect 1 unknown 0 refused 0 signature 0 missing 0 extra 0\n",
+                ],
+                1,
+            ),
+        ] {
+            let row = Row {
+                name,
+                line,
+                source,
+                target,
+                output: [DEFAULTS, rows[0], rows[1]],
+                status,
+            };
+            assert!(rt; is_answered(&rt, &row)?, "{line}: {name}");
+        }
+    }
+    Ok(())
+}
+
+/// A gate that holds the first pair until so many others have passed, or gives up.
+#[derive(Drop)]
+struct HoldsFirst {
+    others: u64,
+    passed: AtomicU64,
+    gave_up: AtomicU64,
+}
+
+impl Gate for HoldsFirst {
+    fn pass(&self, pair: u64) {
+        if pair != 0 {
+            self.passed.fetch_add(1, Ordering::SeqCst);
+            return;
+        }
+        for _ in 0..2_000_000_000u64 {
+            if self.passed.load(Ordering::SeqCst) >= self.others {
+                return;
+            }
+        }
+        self.gave_up.store(1, Ordering::SeqCst);
+    }
+}
+
+/// While one worker is held at the first pair, another judges all the others: a split of the pairs
+/// in advance would give up at three.
+#[test]
+fn a_free_worker_takes_the_rest(rt: HostRuntime) -> Result<(), Fail> {
+    let alloc = rt.alloc();
+    let gate = HoldsFirst {
+        others: 3,
+        passed: AtomicU64::new(0),
+        gave_up: AtomicU64::new(0),
+    };
+    let source = Vec::from_slice(alloc, FOUR_FUNCTIONS.as_bytes())?;
+    let target = Vec::from_slice(alloc, FOUR_FUNCTIONS.as_bytes())?;
+    let mut shelf = shelf_of(alloc, source, target)?;
+    let mut out = MemorySink::new(alloc, 1_000)?;
+    let arguments = arguments_of(alloc, "tv check --workers 2 A B")?;
+    let mut judged = Vec::new(alloc);
+    let status = run(
+        &rt,
+        arguments.as_slice(),
+        &mut shelf,
+        &mut out,
+        &gate,
+        &mut judged,
+    );
+    assert!(rt; status == 0 && judged.len() == 4 && gate.gave_up.load(Ordering::SeqCst) == 0);
+    Ok(())
+}

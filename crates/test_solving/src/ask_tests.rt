@@ -1,0 +1,195 @@
+ghost use Rattle.std.specs.Prelude.{◌≡◌, ◌<◌, [], IfOk, IfSome, Some, slice_get};
+ghost use Rattle.bv_terms.specs.declared.term.Term.TheVariants as variant;
+ghost use Rattle.bv_terms.specs.Trees.{AreFit, IsTerm, tree_in};
+ghost use Rattle.bv_terms.specs.declared.variable.Variable.{Variable};
+ghost use Rattle.sat_ask.specs.Questions.{Mentions};
+
+use crate::clauses::{PIGEONS, cnf};
+use crate::pigeons::all_of;
+use bv_terms::{TermId, Terms};
+use clause_log::check_log;
+use clause_solver::Answer;
+use sat_ask::{Asked, ask, search};
+use std::alloc::Global;
+use std::test::Fail;
+use std::thread::Threads;
+use support::NoMemory;
+
+/// Terms with two variables x and y of width 8 and a constant.
+fn leaves(alloc: Global, value: u128) -> Result<(Terms, TermId, TermId, TermId), NoMemory>
+    requires { value < 256 }
+    ensures x { IfOk result (λ r. slice_get r.0 r.1.index ≡ Some (variant.Variable 0 8)) }
+    ensures y { IfOk result (λ r. slice_get r.0 r.2.index ≡ Some (variant.Variable 1 8)) }
+    ensures c { IfOk result (λ r. slice_get r.0 r.3.index ≡ Some (variant.Constant value 8)) }
+    ensures wide_x { IfOk result (λ r. IsTerm r.0 8 r.1) }
+    ensures wide_c { IfOk result (λ r. IsTerm r.0 8 r.3) }
+{
+    let mut terms = Terms::new(alloc);
+    let x = terms.variable(0, 8)?;
+    let y = terms.variable(1, 8)?;
+    let c = terms.constant(value, 8)?;
+    Ok((terms, x, y, c))
+}
+
+/// Asks for y and x, where the goal has x alone.
+fn asked(
+    alloc: Global,
+    terms: &Terms,
+    goal: TermId,
+    x: TermId,
+    y: TermId,
+    limit: Option<u64>,
+) -> Result<Asked, NoMemory>
+    requires goal { IsTerm terms.now 1 goal }
+    requires x { slice_get terms.now x.index ≡ Some (variant.Variable 0 8) }
+    requires y { slice_get terms.now y.index ≡ Some (variant.Variable 1 8) }
+    requires all { AreFit [] terms.now → (v : Variable) → Mentions v (tree_in terms.now goal) →
+        v ≡ record { number = 0; width = 8 } }
+    requires limit { IfSome limit (λ n. 0 < n) }
+{
+    terms.as_slice();
+    ask(alloc, terms, goal, &[y, x], limit)
+}
+
+/// Which x are above a constant.
+fn above(alloc: Global, value: u128) -> Result<Asked, NoMemory>
+    requires { value < 256 }
+{
+    let (mut terms, x, y, c) = leaves(alloc, value)?;
+    let goal = terms.ult(c, x)?;
+    asked(alloc, &terms, goal, x, y, None)
+}
+
+/// Which x are below a constant.
+fn below(alloc: Global, value: u128) -> Result<Asked, NoMemory>
+    requires { value < 256 }
+{
+    let (mut terms, x, y, c) = leaves(alloc, value)?;
+    let goal = terms.ult(x, c)?;
+    asked(alloc, &terms, goal, x, y, None)
+}
+
+/// Which x have a constant for their square.
+fn roots(alloc: Global, value: u128, limit: Option<u64>) -> Result<Asked, NoMemory>
+    requires value { value < 256 }
+    requires limit { IfSome limit (λ n. 0 < n) }
+{
+    let (mut terms, x, y, c) = leaves(alloc, value)?;
+    let square = terms.mul(x, x)?;
+    let goal = terms.eq(square, c)?;
+    asked(alloc, &terms, goal, x, y, limit)
+}
+
+/// The least x above 5 is 6, after the zeros of y, which the goal does not mention; each is written
+/// most significant bit first.
+#[test]
+fn the_least_above_5_is_6(rt: HostRuntime) -> Result<(), Fail> {
+    let want = [
+        false, false, false, false, false, false, false, false, false, false, false, false, false,
+        true, true, false,
+    ];
+    match above(rt.alloc(), 5)? {
+        Asked::Least(digits) => assert!(rt; digits.as_slice() == want.as_slice()),
+        Asked::None(_) | Asked::Spent(_) => assert!(rt; false),
+    }
+    Ok(())
+}
+
+/// No x is below 0, and the checker accepts the certificate, whose front has x and y.
+#[test]
+fn none_is_below_0(rt: HostRuntime) -> Result<(), Fail> {
+    let alloc = rt.alloc();
+    match below(alloc, 0)? {
+        Asked::None(cert) => {
+            assert!(rt; cert.cnf.front == 16);
+            assert!(rt; check_log(&rt, alloc, &cert.cnf, &cert.log) == Ok(()));
+        }
+        Asked::Least(_) | Asked::Spent(_) => assert!(rt; false),
+    }
+    Ok(())
+}
+
+/// No square is 2 modulo 256, also where a limit of 1 would do.
+#[test]
+fn no_square_is_2(rt: HostRuntime) -> Result<(), Fail> {
+    let alloc = rt.alloc();
+    match roots(alloc, 2, None)? {
+        Asked::None(cert) => assert!(rt; check_log(&rt, alloc, &cert.cnf, &cert.log) == Ok(())),
+        Asked::Least(_) | Asked::Spent(_) => assert!(rt; false),
+    }
+    assert!(rt; matches!(&roots(alloc, 2, Some(1))?, Asked::None(_)));
+    Ok(())
+}
+
+/// The least root of 17 modulo 256 is 23. With a limit of 1 one clause is learned, and no more is
+/// known.
+#[test]
+fn a_limit_of_1_is_spent(rt: HostRuntime) -> Result<(), Fail> {
+    let alloc = rt.alloc();
+    match roots(alloc, 17, None)? {
+        Asked::Least(digits) => {
+            let want = [false, false, false, true, false, true, true, true];
+            assert!(rt; digits.len() == 16);
+            assert!(rt; digits.iter().skip(8).eq(want.iter()));
+        }
+        Asked::None(_) | Asked::Spent(_) => assert!(rt; false),
+    }
+    match roots(alloc, 17, Some(1))? {
+        Asked::Spent(cert) => assert!(rt; cert.log.len() == 1),
+        Asked::None(_) | Asked::Least(_) => assert!(rt; false),
+    }
+    Ok(())
+}
+
+/// Whether four pigeons sit in three holes: a bit of the seats is that a pigeon sits in a hole.
+fn pigeons(alloc: Global, limit: Option<u64>) -> Result<Asked, NoMemory>
+    requires { IfSome limit (λ n. 0 < n) }
+{
+    let mut terms = Terms::new(alloc);
+    let seats = terms.variable(0, 12)?;
+    let goal = all_of(&mut terms, seats, &PIGEONS)?;
+    ask(alloc, &terms, goal, &[seats], limit)
+}
+
+/// Four pigeons have no seats in three holes, and the checker accepts the certificate.
+#[test]
+fn pigeons_have_no_seats(rt: HostRuntime) -> Result<(), Fail> {
+    let alloc = rt.alloc();
+    match pigeons(alloc, None)? {
+        Asked::None(cert) => {
+            assert!(rt; cert.cnf.front == 12);
+            assert!(rt; check_log(&rt, alloc, &cert.cnf, &cert.log) == Ok(()));
+        }
+        Asked::Least(_) | Asked::Spent(_) => assert!(rt; false),
+    }
+    Ok(())
+}
+
+/// Whether it is one step, or a whole certificate.
+fn is_right(rt: &(impl Threads + Sync), alloc: Global, asked: &Asked) -> bool {
+    match asked {
+        Asked::Spent(cert) => cert.log.len() == 1,
+        Asked::None(cert) => check_log(rt, alloc, &cert.cnf, &cert.log).is_ok(),
+        Asked::Least(_) => false,
+    }
+}
+
+/// With a limit of 1 either one clause is learned, and no more is known, or the certificate is
+/// whole.
+#[test]
+fn one_clause_may_not_do(rt: HostRuntime) -> Result<(), Fail> {
+    let asked = pigeons(rt.alloc(), Some(1))?;
+    assert!(rt; is_right(&rt, rt.alloc(), &asked));
+    Ok(())
+}
+
+/// Of the models of `1 2`, as two numbers of one bit, the least is 0 1.
+#[test]
+fn a_search_finds_the_least(rt: HostRuntime) -> Result<(), Fail> {
+    let clauses = cnf(rt.alloc(), 2, 2, &[&[1, 2]])?;
+    let answer = search(rt.alloc(), &clauses, &[1, 1], None)?;
+    assert!(rt;
+        matches!(&answer, Answer::Sat(model) if model.as_slice() == [false, true].as_slice())
+    );
+    Ok(())
+}

@@ -1,5 +1,0 @@
-use Rattle.tv.proofs.OneFault.{modules_have_no_fault}
-use Rattle.tv.proofs.laws.modules_have_no_fault.Goals as goal
-
-pub returns : goal.returns
-returns c = modules_have_no_fault c.is_one_module.ensures.apart

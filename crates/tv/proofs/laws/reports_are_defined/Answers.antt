@@ -1,5 +1,0 @@
-use Rattle.tv.proofs.OneReport.{reports_are_defined}
-use Rattle.tv.proofs.laws.reports_are_defined.Goals as goal
-
-pub returns : goal.returns
-returns c = reports_are_defined

@@ -1,5 +1,0 @@
-use Rattle.tv.proofs.OneReport.{reports_are_one}
-use Rattle.tv.proofs.laws.reports_are_one.Goals as goal
-
-pub returns : goal.returns
-returns c = reports_are_one c.is_one_module.ensures.modules c.rows_are_one.ensures

@@ -1,6 +1,0 @@
-pub mod Reports
-pub mod Stops
-pub mod Answers
-pub mod Searching
-pub mod Judging
-pub mod Laws

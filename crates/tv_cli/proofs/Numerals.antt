@@ -1,0 +1,63 @@
+-- A number as a text.
+use Rattle.std.proofs.Common.{◌≡◌, ◌≤◌, ◌&&◌, ℕ, Bool, true, false, true≢false, refl, sym, List, [], ◌∷◌, length, Some, None, nat_lt, nat_le, lt-ltb, ltb-true}
+use Rattle.std.proofs.lemmas.Bool.{leb-true}
+use Rattle.std.proofs.Math.Bool.{and-false}
+use Rattle.std.specs.List.{list_all}
+use Rattle.std.specs.Char.{digit_value}
+use Rattle.std.specs.Str.Parse.{AllDigits, IsNumeral, digits_value, without_leading_plus}
+use Rattle.tv_cli.specs.declared.number.Range.{Range}
+use Rattle.tv_cli.specs.Words.{number_within}
+
+digits_pass : (ds : List ℕ) → AllDigits 10 ds → list_all (λ d. nat_lt (digit_value d) 10) ds ≡ true
+digits_pass [] h = refl
+digits_pass (d ∷ ds) h = rw (lt-ltb (digit_value d) 10 h.0) (digits_pass ds h.1)
+
+pub both : (a b : Bool) → (a && b) ≡ true → (a ≡ true) × (b ≡ true)
+both true b e = (refl, e)
+both false b e = absurd (true≢false (sym e))
+
+digits_from : (ds : List ℕ) → list_all (λ d. nat_lt (digit_value d) 10) ds ≡ true → AllDigits 10 ds
+digits_from [] e = tt
+digits_from (d ∷ ds) e =
+    let parts = both _ _ e in
+    (ltb-true _ _ parts.0, digits_from ds parts.1)
+
+-- a numeral is the number, where the range has it
+pub numeral_is : (text : List ℕ) (r : Range) → IsNumeral 10 (without_leading_plus text)
+    → nat_le r.least (digits_value 10 (without_leading_plus text)) ≡ true → nat_le (digits_value 10 (without_leading_plus text)) r.most ≡ true
+    → number_within r text ≡ Some (digits_value 10 (without_leading_plus text))
+numeral_is text r numeral least most = rw (lt-ltb 0 (length (without_leading_plus text)) numeral.0, digits_pass (without_leading_plus text) numeral.1, least, most) refl
+
+-- and none where the range hasn't
+pub numeral_below : (text : List ℕ) (r : Range) → nat_le r.least (digits_value 10 (without_leading_plus text)) ≡ false → number_within r text ≡ None
+numeral_below text r out = rw (out, and-false (nat_lt 0 (length (without_leading_plus text)) && list_all (λ d. nat_lt (digit_value d) 10) (without_leading_plus text))) refl
+
+pub numeral_above : (text : List ℕ) (r : Range) → nat_le (digits_value 10 (without_leading_plus text)) r.most ≡ false → number_within r text ≡ None
+numeral_above text r out =
+    rw (out, and-false (nat_lt 0 (length (without_leading_plus text)) && list_all (λ d. nat_lt (digit_value d) 10) (without_leading_plus text) && nat_le r.least (digits_value 10 (without_leading_plus text)))) refl
+
+-- what a text says that is a number
+record Passes (text : List ℕ) (r : Range) : Type 0 where
+  numeral : IsNumeral 10 (without_leading_plus text)
+  most : digits_value 10 (without_leading_plus text) ≤ r.most
+
+passes : (text : List ℕ) (r : Range)
+    → (nat_lt 0 (length (without_leading_plus text)) && list_all (λ d. nat_lt (digit_value d) 10) (without_leading_plus text) && nat_le r.least (digits_value 10 (without_leading_plus text)) && nat_le (digits_value 10 (without_leading_plus text)) r.most) ≡ true
+    → Passes text r
+passes text r e =
+    let most = both _ _ e in
+    let least = both _ _ most.0 in
+    let numeral = both _ _ least.0 in
+    record { numeral = (ltb-true _ _ numeral.0, digits_from (without_leading_plus text) numeral.1); most = leb-true _ _ most.1 }
+
+-- a text that is no numeral, or one past the range, is no number
+pub no_numeral : (text : List ℕ) (r : Range) → (IsNumeral 10 (without_leading_plus text) → digits_value 10 (without_leading_plus text) ≤ r.most → ⊥) → number_within r text ≡ None
+no_numeral text r out = go _ refl
+  where
+    go : (b : Bool)
+        → (nat_lt 0 (length (without_leading_plus text)) && list_all (λ d. nat_lt (digit_value d) 10) (without_leading_plus text) && nat_le r.least (digits_value 10 (without_leading_plus text)) && nat_le (digits_value 10 (without_leading_plus text)) r.most) ≡ b
+        → number_within r text ≡ None
+    go false e = rw e refl
+    go true e =
+        let p = passes text r e in
+        absurd (out p.numeral p.most)

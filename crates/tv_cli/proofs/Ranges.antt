@@ -1,0 +1,121 @@
+-- The bounds and the budget of a job are in their ranges.
+use Rattle.std.proofs.Common.{◌≡◌, ◌≤◌, ◌&&◌, ℕ, Bool, true, false, true≢false, cond, refl, sym, ap, subst, arith, List, [], ◌∷◌, length, Option, Some, None, is_some, codes, nat_lt, nat_le}
+use Rattle.std.proofs.lemmas.Bool.{leb-true}
+use Rattle.std.specs.List.{list_all}
+use Rattle.std.specs.Char.{digit_value}
+use Rattle.std.specs.Str.{bytes_eq}
+use Rattle.std.specs.Str.Parse.{digits_value, without_leading_plus}
+use Rattle.points.specs.declared.point.Bounds.{Bounds}
+use Rattle.points.specs.declared.point.Budget.{Budget}
+use Rattle.points.specs.Range.{AreInRange}
+use Rattle.tv_cli.specs.declared.number.Range.{Range}
+use Rattle.tv_cli.specs.Words.{Text, Part, Job, number_within, number_once, values_in, bounds_with, budget_with, job_with, job_named, job_in_parts, job_of, names_in, are_known, parts_of, turns_range, blocks_range, bytes_range, rounds_range, conflicts_range, weight_range}
+
+none≢some : {X : Type 0} (x : X) → None ≡ Some x → ⊥
+none≢some x e = true≢false (sym (ap (λ o. is_some o) e))
+
+some_is : {X : Type 0} (x y : X) → Some x ≡ Some y → x ≡ y
+some_is x y e = ap (λ o. Rattle.std.specs.Prelude.unwrap_or o x) e
+
+record Within (r : Range) (n : ℕ) : Type 0 where
+  least : r.least ≤ n
+  most : n ≤ r.most
+
+within : (r : Range) (text : Text) (n : ℕ) → number_within r text ≡ Some n → Within r n
+within r text n e = go (nat_lt 0 (length digits) && list_all (λ d. nat_lt (digit_value d) 10) digits) (nat_le r.least value) (nat_le value r.most) refl refl e
+  where
+    digits : List ℕ
+    digits = without_leading_plus text
+
+    value : ℕ
+    value = digits_value 10 digits
+
+    go : (a b c : Bool) → nat_le r.least value ≡ b → nat_le value r.most ≡ c → cond (a && b && c) (Some value) None ≡ Some n → Within r n
+    go true true true p q e = subst (Within r) (some_is value n e) (record { least = leb-true _ _ p; most = leb-true _ _ q })
+    go true true false p q e = absurd (none≢some n e)
+    go true false c p q e = absurd (none≢some n e)
+    go false b c p q e = absurd (none≢some n e)
+
+once : (r : Range) (values : List Text) (n : ℕ) → Within r r.usual → number_once r values ≡ Some n → Within r n
+once r [] n usual e = subst (Within r) (some_is r.usual n e) usual
+once r (value ∷ []) n usual e = within r value n e
+once r (value ∷ other ∷ values) n usual e = absurd (none≢some n e)
+
+record BoundsWithin (b : Bounds) : Type 0 where
+  turns : Within turns_range b.turns
+  blocks : Within blocks_range b.blocks
+  bytes : Within bytes_range b.bytes
+
+record BudgetWithin (b : Budget) : Type 0 where
+  rounds : Within rounds_range b.rounds
+  conflicts : Within conflicts_range b.conflicts
+  weight : Within weight_range b.weight
+
+bounds : (turns blocks bytes : Option ℕ) (b : Bounds) → ((n : ℕ) → turns ≡ Some n → Within turns_range n) → ((n : ℕ) → blocks ≡ Some n → Within blocks_range n) → ((n : ℕ) → bytes ≡ Some n → Within bytes_range n)
+    → bounds_with turns blocks bytes ≡ Some b → BoundsWithin b
+bounds (Some x) (Some y) (Some z) b p q r e = subst BoundsWithin (some_is _ b e) (record { turns = p x refl; blocks = q y refl; bytes = r z refl })
+bounds (Some x) (Some y) None b p q r e = absurd (none≢some b e)
+bounds (Some x) None z b p q r e = absurd (none≢some b e)
+bounds None y z b p q r e = absurd (none≢some b e)
+
+budget : (rounds conflicts weight : Option ℕ) (b : Budget) → ((n : ℕ) → rounds ≡ Some n → Within rounds_range n) → ((n : ℕ) → conflicts ≡ Some n → Within conflicts_range n) → ((n : ℕ) → weight ≡ Some n → Within weight_range n)
+    → budget_with rounds conflicts weight ≡ Some b → BudgetWithin b
+budget (Some x) (Some y) (Some z) b p q r e = subst BudgetWithin (some_is _ b e) (record { rounds = p x refl; conflicts = q y refl; weight = r z refl })
+budget (Some x) (Some y) None b p q r e = absurd (none≢some b e)
+budget (Some x) None z b p q r e = absurd (none≢some b e)
+budget None y z b p q r e = absurd (none≢some b e)
+
+joined : (source target : Text) (b : Option Bounds) (g : Option Budget) (w : Option ℕ) (job : Job) → ((x : Bounds) → b ≡ Some x → BoundsWithin x) → ((x : Budget) → g ≡ Some x → BudgetWithin x)
+    → job_with source target b g w ≡ Some job → BoundsWithin job.bounds × BudgetWithin job.budget
+joined source target (Some b) (Some g) (Some w) job p q e = subst (λ (j : Job). BoundsWithin j.bounds × BudgetWithin j.budget) (some_is _ job e) (p b refl, q g refl)
+joined source target (Some b) (Some g) None job p q e = absurd (none≢some job e)
+joined source target (Some b) None w job p q e = absurd (none≢some job e)
+joined source target None g w job p q e = absurd (none≢some job e)
+
+named : (names : List Text) (parts : List Part) (job : Job) → job_named names parts ≡ Some job → BoundsWithin job.bounds × BudgetWithin job.budget
+named [] parts job e = absurd (none≢some job e)
+named (source ∷ []) parts job e = absurd (none≢some job e)
+named (source ∷ target ∷ other ∷ names) parts job e = absurd (none≢some job e)
+named (source ∷ target ∷ []) parts job e =
+    joined source target _ _ _ job
+    (λ x. bounds _ _ _ x
+    (λ n. once turns_range (values_in (codes "turns") parts) n (record { least = omega arith; most = omega arith }))
+    (λ n. once blocks_range (values_in (codes "blocks") parts) n (record { least = omega arith; most = omega arith }))
+    (λ n. once bytes_range (values_in (codes "bytes") parts) n (record { least = omega arith; most = omega arith })))
+    (λ x. budget _ _ _ x
+    (λ n. once rounds_range (values_in (codes "rounds") parts) n (record { least = omega arith; most = omega arith }))
+    (λ n. once conflicts_range (values_in (codes "conflicts") parts) n (record { least = omega arith; most = omega arith }))
+    (λ n. once weight_range (values_in (codes "weight") parts) n (record { least = omega arith; most = omega arith })))
+    e
+
+parted : (parts : Option (List Part)) (job : Job) → job_in_parts parts ≡ Some job → BoundsWithin job.bounds × BudgetWithin job.budget
+parted None job e = absurd (none≢some job e)
+parted (Some parts) job e = go (are_known parts) e
+  where
+    go : (b : Bool) → cond b (job_named (names_in parts) parts) None ≡ Some job → BoundsWithin job.bounds × BudgetWithin job.budget
+    go true e = named (names_in parts) parts job e
+    go false e = absurd (none≢some job e)
+
+all_within : (words : List Text) (job : Job) → job_of words ≡ Some job → BoundsWithin job.bounds × BudgetWithin job.budget
+all_within [] job e = absurd (none≢some job e)
+all_within (program ∷ []) job e = absurd (none≢some job e)
+all_within (program ∷ command ∷ words) job e = go (bytes_eq (codes "check") command) e
+  where
+    go : (b : Bool) → cond b (job_in_parts (parts_of None words)) None ≡ Some job → BoundsWithin job.bounds × BudgetWithin job.budget
+    go true e = parted (parts_of None words) job e
+    go false e = absurd (none≢some job e)
+
+pub job_in_range : (words : List Text) (job : Job) → job_of words ≡ Some job → AreInRange job.bounds job.budget
+job_in_range words job e =
+    let w = all_within words job e in
+    let b = w.0 in
+    let g = w.1 in
+    record {
+      turns = b.turns.most;
+      blocks = b.blocks.most;
+      bytes = b.bytes.most;
+      rounds = g.rounds.most;
+      conflicts = omega (arith, g.conflicts.most);
+      least_weight = g.weight.least;
+      most_weight = g.weight.most;
+    }

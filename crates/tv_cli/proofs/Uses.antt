@@ -1,0 +1,91 @@
+-- What is used by the words of `check`, one use after another, and the rows that hold it.
+use Rattle.std.proofs.Common.{◌≡◌, ◌||◌, ◌++◌, Bool, true, false, true≢false, refl, sym, ap, ◌∙◌, List, [], ◌∷◌, map, Option, Some, None, codes, if◌then◌else◌}
+use Rattle.std.specs.List.{list_any}
+use Rattle.std.specs.Str.{bytes_eq}
+use Rattle.clap.specs.Walk.{Held, Row, at_row, has_row, with_values, without, more_values}
+use Rattle.clap.specs.declared.parser.matches.ValueSource.TheVariants.{CommandLine}
+use Rattle.clap.specs.declared.builder.value_parser.Reading.TheVariants.{AsWritten}
+use Rattle.tv_cli.specs.Words.{Text, Part, is_option}
+use Rattle.tv_cli.specs.Words.Part.{option, name}
+
+-- an argument's name with its value
+abbrev pub Use : Type 0
+Use = Text × Text
+
+abbrev pub row_of_use : Use → Row
+row_of_use u = record { id = u.0; values = u.1 ∷ []; count = None; source = Some CommandLine; reading = AsWritten }
+
+abbrev pub rows_of_uses : List Use → List Row
+rows_of_uses us = map row_of_use us
+
+abbrev pub has : Text → List Use → Bool
+has id us = list_any (λ u. bytes_eq u.0 id) us
+
+-- the use that is still to be noted, as what is pending
+abbrev pub pending_use : Option Use → Option (Text × List Text)
+pending_use None = None
+pending_use (Some u) = Some (u.0, u.1 ∷ [])
+
+abbrev pub held_with : List Use → Option Use → Held
+held_with us p = record { rows = rows_of_uses us; pending = pending_use p; skip = 0 }
+
+-- the uses with one more; none where its argument was used before
+abbrev pub noted : List Use → Use → Option (List Use)
+noted us u = (if has u.0 us then None else Some (us ++ u ∷ []))
+
+abbrev pub settle : List Use → Option Use → Option (List Use)
+settle us None = Some us
+settle us (Some u) = noted us u
+
+-- which positional comes next
+pub data Place : Type 0 where
+  first : Place
+  second : Place
+  past : Place
+
+-- the uses after these parts
+abbrev pub taken : List Part → List Use → Place → Option (List Use)
+taken [] us place = Some us
+taken (option n v ∷ ps) us place = (if is_option n then (if has n us then None else taken ps (us ++ (n, v) ∷ []) place) else None)
+taken (name t ∷ ps) us first = (if has (codes "A") us then None else taken ps (us ++ (codes "A", t) ∷ []) second)
+taken (name t ∷ ps) us second = (if has (codes "B") us then None else taken ps (us ++ (codes "B", t) ∷ []) past)
+taken (name t ∷ ps) us past = None
+
+abbrev pub after : Option (List Use) → Place → Option (List Part) → Option (List Use)
+after None place parts = None
+after (Some us) place None = None
+after (Some us) place (Some ps) = taken ps us place
+
+-- ---- rows
+
+pub has_row-uses : (id : Text) (us : List Use) → has_row id (rows_of_uses us) ≡ has id us
+has_row-uses id [] = refl
+has_row-uses id (u ∷ us) = ap (λ b. bytes_eq u.0 id || b) (has_row-uses id us)
+
+pub or_false : (a b : Bool) → (a || b) ≡ false → (a ≡ false) × (b ≡ false)
+or_false true b e = absurd (true≢false e)
+or_false false b e = (refl, e)
+
+at_row-missing : (id : Text) (change : Row → List Row) (missing rows : List Row) → has_row id rows ≡ false → at_row id change missing rows ≡ rows ++ missing
+at_row-missing id change missing [] e = refl
+at_row-missing id change missing (r ∷ rs) e =
+    let parts = or_false _ _ e in
+    let other : bytes_eq r.id id ≡ false = parts.0 in
+    rw other (ap (λ xs. r ∷ xs) (at_row-missing id change missing rs parts.1))
+
+append_nil : (rows : List Row) → rows ++ [] ≡ rows
+append_nil [] = refl
+append_nil (r ∷ rs) = ap (λ xs. r ∷ xs) (append_nil rs)
+
+map_end : (us : List Use) (u : Use) → rows_of_uses (us ++ u ∷ []) ≡ rows_of_uses us ++ row_of_use u ∷ []
+map_end [] u = refl
+map_end (x ∷ us) u = ap (λ xs. row_of_use x ∷ xs) (map_end us u)
+
+-- a first use of an argument is one more row
+pub used-first : (us : List Use) (u : Use) → has u.0 us ≡ false
+    → with_values u.0 AsWritten CommandLine (u.1 ∷ []) (without u.0 (rows_of_uses us)) ≡ rows_of_uses (us ++ u ∷ [])
+used-first us u e =
+    let none : has_row u.0 (rows_of_uses us) ≡ false = has_row-uses u.0 us ∙ e in
+    ap (with_values u.0 AsWritten CommandLine (u.1 ∷ [])) (at_row-missing u.0 (λ _. []) [] (rows_of_uses us) none ∙ append_nil (rows_of_uses us))
+    ∙ at_row-missing u.0 (more_values CommandLine (u.1 ∷ [])) (row_of_use u ∷ []) (rows_of_uses us) none
+    ∙ sym (map_end us u)

@@ -1,0 +1,25 @@
+use Rattle.std.proofs.Common.{◌≡◌, List, [], Some, map, option_map, string_bytes, sym, ap, ◌∙◌, subst}
+use Rattle.clap.specs.Words.{Row, app_of, fault_of, found_of, HasKind, is_simple, is_simple_and_free, rows_of, subcommand_of}
+use Rattle.tv_cli.specs.Words.{Text}
+use Rattle.tv_cli.specs.Walked.{tv_app}
+use Rattle.tv_cli.proofs.Walking.{walked-found, tv_is_simple, tv_is_read, walked-refused}
+use Rattle.tv_cli.proofs.reading.walked.Goals as goal
+
+pub returns-clause-job : goal.returns-clause-job
+returns-clause-job c =
+    let words : List Text = map string_bytes c.args.words.now in
+    let inner = c.in-Some.inner.now in
+    let app : app_of c.in_ok-command.command ≡ tv_app = c.in_ok-command.ensures in
+    let none : fault_of tv_app words ≡ [] = subst (λ a. fault_of a words ≡ []) app (c.in-Ok.ensures.kinds (ap is_simple_and_free app ∙ tv_is_simple)) in
+    let rows = (c.in-Ok.ensures.matches (ap is_simple app ∙ tv_is_read)).1 ∙ ap (λ a. subcommand_of a words) app in
+    let found : option_map (λ p. p.1) (subcommand_of tv_app words) ≡ Some (rows_of (found_of inner)) = ap (option_map (λ (p : Text × List Row). p.1)) (sym rows) ∙ sym c.in-Some.ensures.rows in
+    c.job_in.ensures.job ∙ sym (walked-found words _ none found)
+
+pub returns-in-Err-clause-job : goal.returns-in-Err-clause-job
+returns-in-Err-clause-job c =
+    let words : List Text = map string_bytes c.args.words.now in
+    let app : app_of c.in_ok-command.command ≡ tv_app = c.in_ok-command.ensures in
+    let has : HasKind (fault_of tv_app words) c.in-Err.error = subst (λ a. HasKind (fault_of a words) c.in-Err.error) app (c.in-Err.ensures.kinds (ap is_simple_and_free app ∙ tv_is_simple)) in
+    walked-refused words c.in-Err.error has (λ memory.
+    let yes = c.is_memory.ensures.1 memory in
+    let no = c.if-is_memory.false in cc)

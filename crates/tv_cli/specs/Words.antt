@@ -1,0 +1,176 @@
+-- What the words of a command line ask for.
+use Rattle.std.specs.Prelude.{ℕ, ◌==◌, ◌&&◌, List, [], ◌∷◌, length, map, Option, Some, None, option_map, Bool, true, codes, if◌then◌else◌, nat_lt, nat_le}
+use Rattle.std.specs.List.{list_all, list_any, before_first, after_first}
+use Rattle.std.specs.Char.{digit_value}
+use Rattle.std.specs.Str.{bytes_eq}
+use Rattle.std.specs.Str.Parse.{digits_value, without_leading_plus}
+use Rattle.points.specs.declared.point.Bounds.{Bounds}
+use Rattle.points.specs.declared.point.Budget.{Budget}
+use Rattle.tv_cli.specs.declared.number.Range.{Range}
+
+-- a word, by its bytes
+abbrev pub Text : Type 0
+Text = List ℕ
+
+-- the names of the source's text and of the target's, and what pairs are judged within
+pub record Job : Type 0 where
+  pub source : Text
+  pub target : Text
+  pub bounds : Bounds
+  pub budget : Budget
+  pub workers : ℕ
+
+-- ---- which kind of word a word is
+
+pub data Kind : Type 0 where
+  -- `--` alone: no word behind it is an option
+  end : Kind
+  -- `--name=value`, cut at its first `=`
+  attached : Text → Text → Kind
+  -- `--name`, whose value is the next word
+  separate : Text → Kind
+  -- any other word of two or more characters that begins with `-`
+  dashed : Kind
+  -- all else, so also `-` and the empty word
+  plain : Kind
+
+abbrev pub is_equals : ℕ → Bool
+is_equals b = b == 61
+
+-- the kind of `--` and these bytes
+abbrev pub kind_behind : Text → Kind
+kind_behind [] = end
+kind_behind (b ∷ name) = (if list_any is_equals (b ∷ name) then attached (before_first is_equals (b ∷ name)) (after_first is_equals (b ∷ name)) else separate (b ∷ name))
+
+abbrev pub kind_of : Text → Kind
+kind_of [] = plain
+kind_of (b ∷ []) = plain
+kind_of (b ∷ c ∷ word) = (if b == 45 then (if c == 45 then kind_behind word else dashed) else plain)
+
+-- ---- what the words behind the command are
+
+-- an option with its value, or a name
+pub data Part : Type 0 where
+  option : Text → Text → Part
+  name : Text → Part
+
+-- one more part at the front
+abbrev pub with_part : Part → Option (List Part) → Option (List Part)
+with_part part parts = option_map (λ ps. part ∷ ps) parts
+
+-- the parts that begin with a word of this kind, before the words `rest`: `parts` are those of the rest, and `awaited` gives them where the rest begins with the value of an option
+abbrev pub parts_from : Text → List Text → Option (List Part) → (Text → Option (List Part)) → Kind → Option (List Part)
+parts_from word rest parts awaited end = Some (map name rest)
+parts_from word rest parts awaited (attached option_name value) = with_part (option option_name value) parts
+parts_from word rest parts awaited (separate option_name) = awaited option_name
+parts_from word rest parts awaited dashed = None
+parts_from word rest parts awaited plain = with_part (name word) parts
+
+-- the parts where the first word is the value of this option
+abbrev pub value_from : Text → Text → Option (List Part) → Kind → Option (List Part)
+value_from option_name word parts plain = with_part (option option_name word) parts
+value_from option_name word parts _ = None
+
+-- the parts of the words, from the front; `awaited` is the option whose value is the first word
+abbrev pub parts_of : Option Text → List Text → Option (List Part)
+parts_of None [] = Some []
+parts_of (Some option_name) [] = None
+parts_of None (word ∷ rest) = parts_from word rest (parts_of None rest) (λ option_name. parts_of (Some option_name) rest) (kind_of word)
+parts_of (Some option_name) (word ∷ rest) = value_from option_name word (parts_of None rest) (kind_of word)
+
+-- ---- what the parts ask for
+
+-- the names, in order
+abbrev pub names_in : List Part → List Text
+names_in [] = []
+names_in (option option_name value ∷ parts) = names_in parts
+names_in (name text ∷ parts) = text ∷ names_in parts
+
+-- the values of an option, in order
+abbrev pub values_in : Text → List Part → List Text
+values_in wanted [] = []
+values_in wanted (option option_name value ∷ parts) = (if bytes_eq option_name wanted then value ∷ values_in wanted parts else values_in wanted parts)
+values_in wanted (name text ∷ parts) = values_in wanted parts
+
+-- the number that a text is in base 10, digits behind one plus or none, where it lies in the range
+abbrev pub number_within : Range → Text → Option ℕ
+number_within range text =
+    let digits = without_leading_plus text in
+    (if nat_lt 0 (length digits) && list_all (λ d. nat_lt (digit_value d) 10) digits && nat_le range.least (digits_value 10 digits) && nat_le (digits_value 10 digits) range.most
+    then Some (digits_value 10 digits) else None)
+
+-- an option stands at most once; where it doesn't stand it has the usual number
+abbrev pub number_once : Range → List Text → Option ℕ
+number_once range [] = Some range.usual
+number_once range (value ∷ []) = number_within range value
+number_once range (value ∷ other ∷ values) = None
+
+abbrev pub option_names : List Text
+option_names = codes "turns" ∷ codes "blocks" ∷ codes "bytes" ∷ codes "rounds" ∷ codes "conflicts" ∷ codes "weight" ∷ codes "workers" ∷ []
+
+abbrev pub is_option : Text → Bool
+is_option text = list_any (λ known. bytes_eq known text) option_names
+
+-- each option is one that `check` has
+abbrev pub are_known : List Part → Bool
+are_known [] = true
+are_known (option option_name value ∷ parts) = is_option option_name && are_known parts
+are_known (name text ∷ parts) = are_known parts
+
+abbrev pub range : ℕ → ℕ → ℕ → Range
+range least most usual = record { least = least; most = most; usual = usual }
+
+abbrev pub bounds_with : Option ℕ → Option ℕ → Option ℕ → Option Bounds
+bounds_with (Some turns) (Some blocks) (Some bytes) = Some (record { turns = turns; blocks = blocks; bytes = bytes })
+bounds_with _ _ _ = None
+
+abbrev pub budget_with : Option ℕ → Option ℕ → Option ℕ → Option Budget
+budget_with (Some rounds) (Some conflicts) (Some weight) = Some (record { rounds = rounds; conflicts = conflicts; weight = weight })
+budget_with _ _ _ = None
+
+abbrev pub job_with : Text → Text → Option Bounds → Option Budget → Option ℕ → Option Job
+job_with source target (Some bounds) (Some budget) (Some workers) = Some (record { source = source; target = target; bounds = bounds; budget = budget; workers = workers })
+job_with source target _ _ _ = None
+
+-- backward jumps; given blocks; the greatest size of a given block
+abbrev pub turns_range : Range
+turns_range = range 0 64 4
+
+abbrev pub blocks_range : Range
+blocks_range = range 0 4 2
+
+abbrev pub bytes_range : Range
+bytes_range = range 0 32 8
+
+-- added tapes; learned clauses a question, 0 being no limit; the greatest weight
+abbrev pub rounds_range : Range
+rounds_range = range 0 4096 64
+
+abbrev pub conflicts_range : Range
+conflicts_range = range 0 9223372036854775807 0
+
+abbrev pub weight_range : Range
+weight_range = range 1 10000000 100000
+
+abbrev pub workers_range : Range
+workers_range = range 1 64 4
+
+abbrev pub number_of : Text → Range → List Part → Option ℕ
+number_of option_name r parts = number_once r (values_in option_name parts)
+
+-- two names, and each option at most once, with a number of its range
+abbrev pub job_named : List Text → List Part → Option Job
+job_named (source ∷ target ∷ []) parts = job_with source target
+    (bounds_with (number_of (codes "turns") turns_range parts) (number_of (codes "blocks") blocks_range parts) (number_of (codes "bytes") bytes_range parts))
+    (budget_with (number_of (codes "rounds") rounds_range parts) (number_of (codes "conflicts") conflicts_range parts) (number_of (codes "weight") weight_range parts))
+    (number_of (codes "workers") workers_range parts)
+job_named _ parts = None
+
+abbrev pub job_in_parts : Option (List Part) → Option Job
+job_in_parts (Some parts) = (if are_known parts then job_named (names_in parts) parts else None)
+job_in_parts None = None
+
+-- the job that the words are: the program's name, `check`, and the parts
+abbrev pub job_of : List Text → Option Job
+job_of (program ∷ command ∷ words) = (if bytes_eq (codes "check") command then job_in_parts (parts_of None words) else None)
+job_of _ = None

@@ -1,0 +1,77 @@
+ghost use Rattle.std.specs.Prelude.{◌≡◌, ◌↔◌, IfOk, IsTrue, false};
+ghost use Rattle.clap.specs.Words.{app_of, kind_of, rule_of};
+ghost use Rattle.clap.specs.declared.builder.command.Command.TheViews.{out-Command};
+ghost use Rattle.tv_cli.specs.Walked.{tv_app, check_app, bounded_app, name_rule, option_rule};
+
+use clap::error::ErrorKind;
+use clap::{Arg, ArgAction, Command, Error};
+use std::alloc::{AllocError, Global};
+
+/// The command line of the program, as `clap` walks it.
+pub fn command<'a>(alloc: Global) -> Result<Command<'a>, AllocError>
+    ensures { IfOk result (λ c. app_of c ≡ tv_app) }
+{
+    let check = check_command(alloc)?;
+    let tv = Command::new(alloc, "tv")
+        .disable_help_flag(true)
+        .disable_help_subcommand(true)
+        .subcommand_required(true)
+        .subcommand(check)?;
+    Ok(tv)
+}
+
+fn check_command<'a>(alloc: Global) -> Result<Command<'a>, AllocError>
+    ensures app { IfOk result (λ c. app_of c ≡ check_app) }
+    ensures local { IfOk result (λ c. (out-Command c).has_globals ≡ false) }
+{
+    let rounds = option(alloc, "rounds");
+    let conflicts = option(alloc, "conflicts");
+    let weight = option(alloc, "weight");
+    let workers = option(alloc, "workers");
+    let bounded = bounded_command(alloc)?;
+    let check = bounded
+        .arg(rounds)?
+        .arg(conflicts)?
+        .arg(weight)?
+        .arg(workers)?;
+    Ok(check)
+}
+
+fn bounded_command<'a>(alloc: Global) -> Result<Command<'a>, AllocError>
+    ensures app { IfOk result (λ c. app_of c ≡ bounded_app) }
+    ensures local { IfOk result (λ c. (out-Command c).has_globals ≡ false) }
+{
+    let source = name(alloc, "A");
+    let target = name(alloc, "B");
+    let turns = option(alloc, "turns");
+    let blocks = option(alloc, "blocks");
+    let bytes = option(alloc, "bytes");
+    let check = Command::new(alloc, "check")
+        .arg(source)?
+        .arg(target)?
+        .arg(turns)?
+        .arg(blocks)?
+        .arg(bytes)?;
+    Ok(check)
+}
+
+fn name<'a>(alloc: Global, id: &'a str) -> Arg<'a>
+    ensures rule { rule_of result ≡ name_rule id.entry.now }
+    ensures local { result.global ≡ false }
+{
+    Arg::new(alloc, id).required(true).action(ArgAction::Set)
+}
+
+fn option<'a>(alloc: Global, id: &'a str) -> Arg<'a>
+    ensures rule { rule_of result ≡ option_rule id.entry.now }
+    ensures local { result.global ≡ false }
+{
+    Arg::new(alloc, id).long(id).action(ArgAction::Set)
+}
+
+/// Whether a walk ended for want of memory.
+pub fn is_memory(error: &Error) -> bool
+    ensures { IsTrue result ↔ (kind_of error.now ≡ ErrorKind.OutOfMemory) }
+{
+    matches!(error.kind(), ErrorKind::OutOfMemory)
+}

@@ -1,0 +1,12 @@
+pub mod Soundness
+pub mod Searches
+pub mod Files
+pub mod Stopping
+pub mod Answered
+pub mod Pairs
+pub mod OwnAnswers
+pub mod OneReport
+pub mod OneFault
+pub mod InMemory
+mod Sending
+mod Pieces

@@ -1,0 +1,278 @@
+-- The rows of two modules are sound.
+use Rattle.std.proofs.Common.{◌≡◌, ◌⊎◌, ℕ, zero, suc, arith, Bool, true, false, List, [], ◌∷◌, Option, Some, None, Result, Ok, Err, refl, sym, ap, subst, ◌∙◌, inl, inr, is_some, if◌then◌else◌}
+use Rattle.std.specs.Prelude.{Contains}
+use Rattle.std.specs.List.{IsDistinct, AllByRecursion}
+use Rattle.std.proofs.lemmas.List.Elements.{Contains-append_cases, Contains-append_left}
+use Rattle.std.proofs.lemmas.Map.Keys.{IsDistinct-head, IsDistinct-tail}
+use Rattle.std.proofs.lemmas.Slice.Eq.{bytes_eq-Decides}
+use Rattle.ir_tree.specs.declared.name.Name.{Name}
+use Rattle.ir_tree.specs.declared.name.Name.TheVariants.{Number, Word}
+use Rattle.ir_tree.specs.declared.tree.Function.{Function}
+use Rattle.ir_tree.specs.declared.module.Refused.{Refused}
+use Rattle.ir_tree.specs.declared.module.Entry.{Entry}
+use Rattle.ir_tree.specs.declared.module.Module.{Module}
+use Rattle.ir_tree.specs.Names.{same_name}
+use Rattle.ir_reader.specs.Module.{IsModule}
+use Rattle.ir_reader.proofs.Different.{different}
+use Rattle.points.specs.declared.point.Bounds.{Bounds}
+use Rattle.points.specs.declared.point.Budget.{Budget}
+use Rattle.points.specs.declared.point.Point.{Point}
+use Rattle.points.specs.declared.verdict.Shown.{Shown}
+use Rattle.points.specs.declared.verdict.Verdict.{Verdict}
+use Rattle.points.specs.declared.verdict.Verdict.TheVariants as verdict
+use Rattle.points.specs.Pair.{Functions, same_signature}
+use Rattle.points.specs.Laws.{Holds, IsCounterexample, CorrectHolds, IncorrectFails}
+use Rattle.report.specs.declared.row.Finding.{Finding}
+use Rattle.report.specs.declared.row.Finding.TheVariants as finding
+use Rattle.report.specs.declared.row.Row.{Row}
+use Rattle.report.specs.Rows.{function_named, IsJudged, IsCompared, IsFinding, IsRow, AreSourceRows, AreRows, extra_row, extra_rows}
+use Rattle.tv_run.specs.Laws.{ReportsAreSound}
+use Rattle.tv_run.specs.Reports.{may_answer}
+use Rattle.tv_run.specs.Searching.{entry_names}
+use Rattle.tv_run.specs.Sound.{HasFunction, IsPairNamed, HasVerdict, IsSound}
+use Rattle.tv_run.proofs.Searches.{same_name-flips}
+
+-- ---- elements of a list
+
+no_element : {X : Type 0} (y : X) → Contains [] y → ⊥
+no_element y (k, lt, e) = absurd (omega arith)
+
+contains_first : {X : Type 0} (x : X) (xs : List X) → Contains (x ∷ xs) x
+contains_first x xs = (0, omega arith, refl)
+
+contains_later : {X : Type 0} (x : X) (xs : List X) (y : X) → Contains xs y → Contains (x ∷ xs) y
+contains_later x xs y (k, lt, e) = (suc k, omega arith, e)
+
+contains_cases : {X : Type 0} (x : X) (xs : List X) (y : X) → Contains (x ∷ xs) y → (x ≡ y) ⊎ Contains xs y
+contains_cases x xs y (zero, lt, e) = inl e
+contains_cases x xs y (suc k, lt, e) = inr (k, omega arith, e)
+
+-- ---- names
+
+same_name-same : (m n : Name) → same_name m n ≡ true → m ≡ n
+same_name-same (Number a) (Number b) e = ap Number ((bytes_eq-Decides a b).0 e)
+same_name-same (Word a) (Word b) e = ap Word ((bytes_eq-Decides a b).0 e)
+same_name-same (Number a) (Word b) e = absurd (cc e)
+same_name-same (Word a) (Number b) e = absurd (cc e)
+
+same_name-itself : (n : Name) → same_name n n ≡ true
+same_name-itself (Number a) = (bytes_eq-Decides a a).1 refl
+same_name-itself (Word a) = (bytes_eq-Decides a a).1 refl
+
+-- an entry of that name, with this function
+record IsEntryNamed (es : List Entry) (name : Name) (function : Result Function Refused) : Type 0 where
+  pub entry : Entry
+  pub there : Contains es entry
+  pub named : entry.name ≡ name
+  pub function_is : entry.function ≡ function
+
+some_is : (a b : Result Function Refused) → Some a ≡ Some b → a ≡ b
+some_is a b e = cc e
+
+entry_named : (es : List Entry) (name : Name) (function : Result Function Refused) → function_named es name ≡ Some function → IsEntryNamed es name function
+entry_named [] name function e = absurd (cc e)
+entry_named (x ∷ es) name function e = go (same_name name x.name) refl (entry_named es name function) e
+  where
+    go : (b : Bool) → same_name name x.name ≡ b → (function_named es name ≡ Some function → IsEntryNamed es name function) → (if b then Some x.function else function_named es name) ≡ Some function → IsEntryNamed (x ∷ es) name function
+    go true is rest h = record { entry = x; there = contains_first x es; named = sym (same_name-same name x.name is); function_is = some_is x.function function h }
+    go false is rest h = let r = rest h in record { entry = r.entry; there = contains_later x es r.entry r.there; named = r.named; function_is = r.function_is }
+
+other_name : (es : List Entry) (n : Name) (e : Entry) → AllByRecursion (λ (m : Name). same_name n m ≡ false) (entry_names es) → Contains es e → same_name n e.name ≡ false
+other_name [] n e all here = absurd (no_element e here)
+other_name (x ∷ es) n e all here = go (contains_cases x es e here) (other_name es n e all.1)
+  where
+    go : (x ≡ e) ⊎ Contains es e → (Contains es e → same_name n e.name ≡ false) → same_name n e.name ≡ false
+    go (inl is) rest = subst (λ (y : Entry). same_name n y.name ≡ false) is all.0
+    go (inr later) rest = rest later
+
+-- where no two entries have one name, each is the one of its name
+function_named-once : (es : List Entry) (e : Entry) → IsDistinct same_name (entry_names es) → Contains es e → function_named es e.name ≡ Some e.function
+function_named-once [] e apart here = absurd (no_element e here)
+function_named-once (x ∷ es) e apart here = go (contains_cases x es e here) (function_named-once es e (IsDistinct-tail same_name x.name (entry_names es) apart))
+  where
+    go : (x ≡ e) ⊎ Contains es e → (Contains es e → function_named es e.name ≡ Some e.function) → function_named (x ∷ es) e.name ≡ Some e.function
+    go (inl is) rest = subst (λ (y : Entry). function_named (x ∷ es) y.name ≡ Some y.function) is (rw (same_name-itself x.name) refl)
+    go (inr later) rest =
+        let apart_from : same_name e.name x.name ≡ false = same_name-flips e.name x.name ∙ other_name es x.name e (IsDistinct-head same_name x.name (entry_names es) apart) later in
+        rw apart_from (rest later)
+
+-- ---- rows
+
+-- a row is that of some function of the source
+row_of : (may : Functions → Verdict → Type 0) (bounds : Bounds) (targets sources : List Entry) (rows : List Row) (row : Row) → AreSourceRows may bounds targets sources rows → Contains rows row → (source : Entry) × Contains sources source × IsRow may bounds targets source row
+row_of may bounds targets [] [] row are here = absurd (no_element row here)
+row_of may bounds targets [] (r ∷ rows) row are here = absurd are
+row_of may bounds targets (s ∷ sources) [] row are here = absurd are
+row_of may bounds targets (s ∷ sources) (r ∷ rows) row are here = go (contains_cases r rows row here) (row_of may bounds targets sources rows row are.1)
+  where
+    go : (r ≡ row) ⊎ Contains rows row → (Contains rows row → (source : Entry) × Contains sources source × IsRow may bounds targets source row) → (source : Entry) × Contains (s ∷ sources) source × IsRow may bounds targets source row
+    go (inl is) rest = (s, contains_first s sources, subst (λ (x : Row). IsRow may bounds targets s x) is are.0)
+    go (inr later) rest = let found = rest later in (found.0, contains_later s sources found.0 found.1, found.2)
+
+-- each function of the source has a row
+row_for : (may : Functions → Verdict → Type 0) (bounds : Bounds) (targets sources : List Entry) (rows : List Row) (source : Entry) → AreSourceRows may bounds targets sources rows → Contains sources source → (row : Row) × Contains rows row × IsRow may bounds targets source row
+row_for may bounds targets [] rows source are here = absurd (no_element source here)
+row_for may bounds targets (s ∷ sources) [] source are here = absurd are
+row_for may bounds targets (s ∷ sources) (r ∷ rows) source are here = go (contains_cases s sources source here) (row_for may bounds targets sources rows source are.1)
+  where
+    go : (s ≡ source) ⊎ Contains sources source → (Contains sources source → (row : Row) × Contains rows row × IsRow may bounds targets source row) → (row : Row) × Contains (r ∷ rows) row × IsRow may bounds targets source row
+    go (inl is) rest = (r, contains_first r rows, subst (λ (x : Entry). IsRow may bounds targets x r) is are.0)
+    go (inr later) rest = let found = rest later in (found.0, contains_later r rows found.0 found.1, found.2)
+
+extra_finding : (sources targets : List Entry) (row : Row) → Contains (extra_rows sources targets) row → row.finding ≡ finding.Extra
+extra_finding sources [] row here = absurd (no_element row here)
+extra_finding sources (t ∷ ts) row here = go (function_named sources t.name) (extra_finding sources ts row) here
+  where
+    first : (extra_row t ≡ row) ⊎ Contains (extra_rows sources ts) row → (Contains (extra_rows sources ts) row → row.finding ≡ finding.Extra) → row.finding ≡ finding.Extra
+    first (inl is) rest = ap (λ (r : Row). r.finding) (sym is)
+    first (inr later) rest = rest later
+
+    go : (o : Option (Result Function Refused)) → (Contains (extra_rows sources ts) row → row.finding ≡ finding.Extra) → Contains (if is_some o then extra_rows sources ts else extra_row t ∷ extra_rows sources ts) row → row.finding ≡ finding.Extra
+    go (Some f) rest h = rest h
+    go None rest h = first (contains_cases (extra_row t) (extra_rows sources ts) row h) rest
+
+-- ---- rows with a verdict
+
+-- the pair that a finding judges
+record IsFoundOf (may : Functions → Verdict → Type 0) (bounds : Bounds) (source : Result Function Refused) (target : Option (Result Function Refused)) (found : Finding) : Type 0 where
+  pub pair : Functions
+  pub source_is : source ≡ Ok pair.source
+  pub target_is : target ≡ Some (Ok pair.target)
+  pub signature : same_signature pair.source pair.target ≡ true
+  pub judged : IsJudged may bounds pair found
+
+without_verdict : (found other : Finding) → HasVerdict found → found ≡ other → HasVerdict other
+without_verdict found other has is = subst HasVerdict is has
+
+found_of : (may : Functions → Verdict → Type 0) (bounds : Bounds) (source : Result Function Refused) (target : Option (Result Function Refused)) (found : Finding) → HasVerdict found → IsFinding may bounds source target found → IsFoundOf may bounds source target found
+found_of may bounds source None found has is = absurd (without_verdict found finding.Missing has is)
+found_of may bounds (Err refused) (Some target) found has is = absurd (without_verdict found _ has is)
+found_of may bounds (Ok f) (Some (Err refused)) found has is = absurd (without_verdict found _ has is)
+found_of may bounds (Ok f) (Some (Ok g)) found has is = go (same_signature f g) refl is
+  where
+    go : (same : Bool) → same_signature f g ≡ same → IsCompared may bounds (record { source = f; target = g }) same found → IsFoundOf may bounds (Ok f) (Some (Ok g)) found
+    go true e h = record { pair = record { source = f; target = g }; source_is = refl; target_is = refl; signature = e; judged = h }
+    go false e h = absurd (without_verdict found finding.Signature has h)
+
+-- the pair of a row with a verdict
+record IsRowOf (may : Functions → Verdict → Type 0) (bounds : Bounds) (source target : Module) (row : Row) : Type 0 where
+  pub pair : Functions
+  pub named : IsPairNamed source target row.name pair
+  pub judged : IsJudged may bounds pair row.finding
+
+judged_row : (may : Functions → Verdict → Type 0) (bounds : Bounds) (source target : Module) (rows : List Row) (row : Row) → AreRows may bounds source target rows → Contains rows row → HasVerdict row.finding → IsRowOf may bounds source target row
+judged_row may bounds source target rows row are here has = go (Contains-append_cases are.judged (extra_rows source.entries target.entries) row (subst (λ (rs : List Row). Contains rs row) are.all here))
+  where
+    go : Contains are.judged row ⊎ Contains (extra_rows source.entries target.entries) row → IsRowOf may bounds source target row
+    go (inr extra) = absurd (without_verdict row.finding finding.Extra has (extra_finding source.entries target.entries row extra))
+    go (inl judged) =
+        let of = row_of may bounds target.entries source.entries are.judged row are.each judged in
+        let found = found_of may bounds of.0.function (function_named target.entries of.0.name) row.finding has of.2.found in
+        let at = entry_named target.entries of.0.name (Ok found.pair.target) found.target_is in
+        record {
+          pair = found.pair;
+          named = record {
+            source_has = record { entry = of.0; there = of.1; named = sym of.2.name; accepted = found.source_is };
+            target_has = record { entry = at.entry; there = at.there; named = at.named ∙ sym of.2.name; accepted = at.function_is };
+            signature = found.signature;
+          };
+          judged = found.judged;
+        }
+
+-- ---- what a verdict means
+
+correct_row : CorrectHolds → (bounds : Bounds) (budget : Budget) (pair : Functions) (found : Finding) → found ≡ finding.Correct → IsJudged (may_answer bounds budget) bounds pair found → Holds pair bounds
+correct_row holds bounds budget pair found is judged = go (subst (IsJudged (may_answer bounds budget) bounds pair) is judged)
+  where
+    go : may_answer bounds budget pair verdict.Correct → Holds pair bounds
+    go (inl v) = holds pair bounds budget v
+    go (inr spent) = absurd (let e = spent.is in cc e)
+
+incorrect_row : IncorrectFails → (bounds : Bounds) (budget : Budget) (pair : Functions) (found : Finding) (p : Point) (shown : Shown) → found ≡ finding.Incorrect p shown → IsJudged (may_answer bounds budget) bounds pair found → IsCounterexample pair bounds p
+incorrect_row fails bounds budget pair found p shown is judged = let h = subst (IsJudged (may_answer bounds budget) bounds pair) is judged in go h.0
+  where
+    go : may_answer bounds budget pair (verdict.Incorrect p) → IsCounterexample pair bounds p
+    go (inl v) = fails pair bounds budget p v
+    go (inr spent) = absurd (let e = spent.is in cc e)
+
+-- ---- a name has one pair
+
+some_function : (f g : Function) (a b : Option (Result Function Refused)) → a ≡ b → a ≡ Some (Ok f) → b ≡ Some (Ok g) → f ≡ g
+some_function f g a b e is has = cc
+
+function_at : (m : Module) (name : Name) (f : Function) → IsDistinct same_name (entry_names m.entries) → HasFunction m name f → function_named m.entries name ≡ Some (Ok f)
+function_at m name f apart has =
+    ap (function_named m.entries) (sym has.named) ∙ function_named-once m.entries has.entry apart has.there ∙ ap (λ (r : Result Function Refused). Some r) has.accepted
+
+function_one : (m : Module) (name : Name) (f g : Function) → IsDistinct same_name (entry_names m.entries) → HasFunction m name f → HasFunction m name g → f ≡ g
+function_one m name f g apart x y = some_function f g (function_named m.entries name) (function_named m.entries name) refl (function_at m name f apart x) (function_at m name g apart y)
+
+pair_one : (source target : Module) (name : Name) (pair other : Functions) → IsDistinct same_name (entry_names source.entries) → IsDistinct same_name (entry_names target.entries) → IsPairNamed source target name pair → IsPairNamed source target name other → pair ≡ other
+pair_one source target name pair other apart target_apart x y =
+    let make : Function → Function → Functions = λ s t. record { source = s; target = t } in
+    ap (λ (s : Function). make s pair.target) (function_one source name pair.source other.source apart x.source_has y.source_has)
+    ∙ ap (λ (t : Function). make other.source t) (function_one target name pair.target other.target target_apart x.target_has y.target_has)
+
+-- ---- no pair is left out
+
+judged_verdict : (may : Functions → Verdict → Type 0) (bounds : Bounds) (pair : Functions) (found : Finding) → IsJudged may bounds pair found → HasVerdict found
+judged_verdict may bounds pair finding.Correct h = tt
+judged_verdict may bounds pair (finding.Incorrect p shown) h = tt
+judged_verdict may bounds pair (finding.Unknown cause) h = tt
+judged_verdict may bounds pair (finding.Refused side refused) h = absurd h
+judged_verdict may bounds pair finding.Signature h = absurd h
+judged_verdict may bounds pair finding.Missing h = absurd h
+judged_verdict may bounds pair finding.Extra h = absurd h
+
+pair_verdict : (may : Functions → Verdict → Type 0) (bounds : Bounds) (source : Result Function Refused) (target : Option (Result Function Refused)) (pair : Functions) (found : Finding) → source ≡ Ok pair.source → target ≡ Some (Ok pair.target) → same_signature pair.source pair.target ≡ true → IsFinding may bounds source target found → HasVerdict found
+pair_verdict may bounds source target pair found is has same h =
+    let at : IsFinding may bounds (Ok pair.source) (Some (Ok pair.target)) found =
+    subst (λ (s : Result Function Refused). IsFinding may bounds s (Some (Ok pair.target)) found) is (subst (λ (t : Option (Result Function Refused)). IsFinding may bounds source t found) has h) in
+    judged_verdict may bounds pair found (subst (λ (b : Bool). IsCompared may bounds pair b found) same at)
+
+pair_row : (may : Functions → Verdict → Type 0) (bounds : Bounds) (source target : Module) (rows : List Row) (name : Name) (pair : Functions) → IsDistinct same_name (entry_names target.entries) → AreRows may bounds source target rows → IsPairNamed source target name pair
+    → (row : Row) × Contains rows row × (row.name ≡ name) × HasVerdict row.finding
+pair_row may bounds source target rows name pair apart are named =
+    let s = named.source_has.entry in
+    let of = row_for may bounds target.entries source.entries are.judged s are.each named.source_has.there in
+    let here : Contains rows of.0 = subst (λ (rs : List Row). Contains rs of.0) (sym are.all) (Contains-append_left are.judged (extra_rows source.entries target.entries) of.0 of.1) in
+    let target_is : function_named target.entries s.name ≡ Some (Ok pair.target) =
+    ap (function_named target.entries) named.source_has.named ∙ function_at target name pair.target apart named.target_has in
+    (of.0, here, of.2.name ∙ named.source_has.named, pair_verdict may bounds s.function (function_named target.entries s.name) pair of.0.finding named.source_has.accepted target_is named.signature of.2.found)
+
+-- ---- the theorem
+
+has_verdict : (found other : Finding) → found ≡ other → HasVerdict other → HasVerdict found
+has_verdict found other is has = subst HasVerdict (sym is) has
+
+rows_are_sound : CorrectHolds → IncorrectFails → (bounds : Bounds) (budget : Budget) (source target : Module) (rows : List Row) → IsDistinct same_name (entry_names source.entries) → IsDistinct same_name (entry_names target.entries) → AreRows (may_answer bounds budget) bounds source target rows → IsSound bounds source target rows
+rows_are_sound holds fails bounds budget source target rows apart target_apart are = record {
+  correct = λ row here is.
+      let of = judged_row (may_answer bounds budget) bounds source target rows row are here (has_verdict row.finding finding.Correct is tt) in
+      (of.pair, of.named, correct_row holds bounds budget of.pair row.finding is of.judged);
+  incorrect = λ row point shown here is.
+      let of = judged_row (may_answer bounds budget) bounds source target rows row are here (has_verdict row.finding (finding.Incorrect point shown) is tt) in
+      (of.pair, of.named, incorrect_row fails bounds budget of.pair row.finding point shown is of.judged);
+  one = λ name pair other x y. pair_one source target name pair other apart target_apart x y;
+  whole = λ name pair named. pair_row (may_answer bounds budget) bounds source target rows name pair target_apart are named;
+}
+
+-- a text that is a module has distinct names
+distinct : (text : List ℕ) (m : Module) → IsModule text m → IsDistinct same_name (entry_names m.entries)
+distinct text m formed = different formed.tokens _ formed.defines m.entries formed.cut formed.entries
+
+pub reports_are_sound : CorrectHolds → IncorrectFails → ReportsAreSound
+reports_are_sound holds fails files job answers text status report = record {
+  source = report.source;
+  target = report.target;
+  source_is = report.source_is;
+  target_is = report.target_is;
+  rows = report.report.rows;
+  sound =
+      rows_are_sound holds fails job.bounds job.budget report.source report.target report.report.rows
+      (distinct report.source_is.text report.source report.source_is.holds.1)
+      (distinct report.target_is.text report.target report.target_is.holds.1)
+      report.report.are_rows;
+  text_is = report.report.text_is;
+  status_is = report.report.status_is;
+}

@@ -1,0 +1,34 @@
+-- What follows from the definitions: a report is sound; without a limit on conflicts it is the defined one, and two files have one; and they have one fault.
+use Rattle.std.specs.Prelude.{◌≡◌, ◌≢◌, ℕ, List, Some}
+use Rattle.tv_io.specs.Files.{Files}
+use Rattle.tv_io.specs.State.{ShelfState}
+use Rattle.ir_tree.specs.declared.module.Module.{Module}
+use Rattle.tv_run.specs.declared.stop.Stop.{Stop}
+use Rattle.points.specs.declared.point.Bounds.{Bounds}
+use Rattle.points.specs.declared.point.Budget.{Budget}
+use Rattle.pair_driver.specs.declared.judged.Judged.{Judged}
+use Rattle.tv_cli.specs.Words.{Job, job_of}
+use Rattle.tv_run.specs.Files.{HasModule}
+use Rattle.tv_run.specs.Reports.{Reports, IsReport, IsDefinedReport}
+use Rattle.tv_run.specs.Sound.{SaysRefinement}
+use Rattle.tv_run.specs.Stops.{HasCause, stop_status}
+
+-- the report of two files says how their functions refine
+abbrev pub ReportsAreSound : Type 0
+ReportsAreSound = (files : Files) (job : Job) (answers : List Judged) (text : List ℕ) (status : ℕ) → Reports files job answers text status → SaysRefinement files job text status
+
+-- without a limit on conflicts the rows are those of the verdicts' definition
+abbrev pub ReportsAreDefined : Type 0
+ReportsAreDefined = (bounds : Bounds) (budget : Budget) (source target : Module) (answers : List Judged) (text : List ℕ) (status : ℕ) → budget.conflicts ≡ 0 → IsReport bounds budget source target answers text status → IsDefinedReport bounds budget source target text status
+
+-- and two files have one report
+abbrev pub ReportsAreOne : Type 0
+ReportsAreOne = (files : Files) (arguments : List (List ℕ)) (job : Job) (answers others : List Judged) (text other : List ℕ) (status other_status : ℕ) → job_of arguments ≡ Some job → job.budget.conflicts ≡ 0 → Reports files job answers text status → Reports files job others other other_status → (text ≡ other) × (status ≡ other_status)
+
+-- two runs over the same files that stop at a fault of a module stop at one fault: the same file, the same position, the same reason
+abbrev pub FaultsAreOne : Type 0
+FaultsAreOne = (files : Files) (job : Job) (old new other_old other_new : ShelfState) (why other : Stop) → old.files ≡ Some files → other_old.files ≡ Some files → HasCause old new job why → HasCause other_old other_new job other → stop_status why ≡ 9 → stop_status other ≡ 9 → why ≡ other
+
+-- and there is none where both files are modules
+abbrev pub ModulesHaveNoFault : Type 0
+ModulesHaveNoFault = (files : Files) (job : Job) (old new : ShelfState) (why : Stop) (source target : Module) → old.files ≡ Some files → HasModule (files job.source) source → HasModule (files job.target) target → HasCause old new job why → stop_status why ≢ 9

@@ -1,0 +1,73 @@
+-- What a report says of the two files, in the words of refinement: a row `correct` means that the target's function refines the source's, a row `incorrect` gives a counterexample, and each pair of functions has its row.
+use Rattle.std.specs.Prelude.{◌≡◌, ℕ, true, List, Contains, Option, Some, Ok}
+use Rattle.tv_io.specs.Files.{Files}
+use Rattle.tv_io.specs.State.{SinkState}
+use Rattle.tv_io.specs.Taken.{IsWritten}
+use Rattle.ir_tree.specs.declared.name.Name.{Name}
+use Rattle.ir_tree.specs.declared.tree.Function.{Function}
+use Rattle.ir_tree.specs.declared.module.Entry.{Entry}
+use Rattle.ir_tree.specs.declared.module.Module.{Module}
+use Rattle.points.specs.declared.point.Bounds.{Bounds}
+use Rattle.points.specs.declared.point.Point.{Point}
+use Rattle.points.specs.declared.verdict.Shown.{Shown}
+use Rattle.points.specs.Pair.{Functions, same_signature}
+use Rattle.points.specs.Laws.{Holds, IsCounterexample}
+use Rattle.report.specs.declared.row.Finding.{Finding}
+use Rattle.report.specs.declared.row.Finding.TheVariants as finding
+use Rattle.report.specs.declared.row.Row.{Row}
+use Rattle.report.specs.Text.{report_text}
+use Rattle.report.specs.Status.{status_of}
+use Rattle.tv_cli.specs.Words.{Job}
+use Rattle.tv_run.specs.Files.{HasModule}
+
+-- the module has this function under the name
+pub record HasFunction (m : Module) (name : Name) (f : Function) : Type 0 where
+  pub entry : Entry
+  pub there : Contains m.entries entry
+  pub named : entry.name ≡ name
+  pub accepted : entry.function ≡ Ok f
+
+-- the functions of that name in both modules, with one signature
+pub record IsPairNamed (source target : Module) (name : Name) (pair : Functions) : Type 0 where
+  pub source_has : HasFunction source name pair.source
+  pub target_has : HasFunction target name pair.target
+  pub signature : same_signature pair.source pair.target ≡ true
+
+-- correct, incorrect or unknown
+abbrev pub HasVerdict : Finding → Type 0
+HasVerdict finding.Correct = Unit {0}
+HasVerdict (finding.Incorrect point shown) = Unit {0}
+HasVerdict (finding.Unknown cause) = Unit {0}
+HasVerdict _ = ⊥
+
+pub record IsSound (bounds : Bounds) (source target : Module) (rows : List Row) : Type 0 where
+  -- a correct row: on every input within the bounds, each run of the target's function is allowed by a run of the source's
+  pub correct : (row : Row) → Contains rows row → row.finding ≡ finding.Correct
+      → (pair : Functions) × IsPairNamed source target row.name pair × Holds pair bounds
+  -- an incorrect row: the target's run at this point is allowed by no run of the source
+  pub incorrect : (row : Row) (point : Point) (shown : Shown) → Contains rows row → row.finding ≡ finding.Incorrect point shown
+      → (pair : Functions) × IsPairNamed source target row.name pair × IsCounterexample pair bounds point
+  -- a name has one pair
+  pub one : (name : Name) (pair other : Functions) → IsPairNamed source target name pair → IsPairNamed source target name other → pair ≡ other
+  -- no pair is left out
+  pub whole : (name : Name) (pair : Functions) → IsPairNamed source target name pair
+      → (row : Row) × Contains rows row × (row.name ≡ name) × HasVerdict row.finding
+
+-- the text and the status of a report on the two files that the job names, with rows that are sound
+pub record SaysRefinement (files : Files) (job : Job) (text : List ℕ) (status : ℕ) : Type 0 where
+  pub source : Module
+  pub target : Module
+  pub source_is : HasModule (files job.source) source
+  pub target_is : HasModule (files job.target) target
+  pub rows : List Row
+  pub sound : IsSound job.bounds source target rows
+  pub text_is : text ≡ report_text job.bounds job.budget rows
+  pub status_is : status ≡ status_of rows
+
+-- such a report was written, and nothing else
+pub record MeansRefinement (files : Files) (command : Option Job) (status : ℕ) (old new : SinkState) : Type 0 where
+  pub job : Job
+  pub text : List ℕ
+  pub job_is : command ≡ Some job
+  pub says : SaysRefinement files job text status
+  pub written : IsWritten text old new

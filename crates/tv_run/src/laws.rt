@@ -1,0 +1,41 @@
+ghost use Rattle.tv_run.specs.Laws.{ReportsAreSound, ReportsAreDefined, ReportsAreOne, FaultsAreOne, ModulesHaveNoFault};
+
+use ir_reader::is_one_module;
+use points::{correct_holds, incorrect_fails};
+use report::rows_are_one;
+
+/// What a report says of two files holds: a correct row means refinement on every input within the
+/// bounds, an incorrect row has a counterexample, and each pair of functions has its row.
+pub fn reports_are_sound()
+    ensures { ReportsAreSound }
+{
+    correct_holds();
+    incorrect_fails();
+}
+
+/// Without a limit on conflicts the report is the one that the definition of a verdict gives.
+pub fn reports_are_defined()
+    ensures { ReportsAreDefined }
+{}
+
+/// And two files have one report then, as a text has one module and a pair one verdict.
+pub fn reports_are_one()
+    ensures { ReportsAreOne }
+{
+    is_one_module();
+    rows_are_one();
+}
+
+/// Two files have one fault, as a text has one fault or a module.
+pub fn faults_are_one()
+    ensures { FaultsAreOne }
+{
+    is_one_module();
+}
+
+/// Two files that are modules have no fault.
+pub fn modules_have_no_fault()
+    ensures { ModulesHaveNoFault }
+{
+    is_one_module();
+}

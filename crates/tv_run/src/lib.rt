@@ -1,0 +1,25 @@
+//! Checks one module against another: `run` reads the command line, loads both files, judges each
+//! pair of functions and writes the report.
+//!
+//! It promises that the report is sound (`sound`, the first clause of `run`): a row `correct` means that
+//! the target's function refines the source's on every input within the bounds, a row `incorrect` gives
+//! a counterexample, and each pair of functions has its row. Each other status has its cause. A function
+//! that can't be judged is a row of the report like any other. It uses the command line, the reader, the
+//! judge, the report and `tv_io`; the program `tv` is `run` over the system's files and output.
+#![tactic(auto)]
+
+mod check;
+mod in_memory;
+mod index;
+mod laws;
+mod lines;
+mod rows;
+mod stop;
+mod texts;
+mod top;
+
+pub use in_memory::{Checked, run_in_memory};
+pub use laws::{
+    faults_are_one, modules_have_no_fault, reports_are_defined, reports_are_one, reports_are_sound,
+};
+pub use top::run;
