@@ -1,7 +1,7 @@
 #!/usr/bin/env python3
 """How many gates and clauses each operation on terms takes, beside those of z3.
 
-    bench/gates.py [PATH OF gate_counts]        (default: crates/gate_counts/out/gate_counts)
+    bench/gates.py [PATH OF bench_gates]        (default: crates/bench_gates/out/bench_gates)
 
 Ours are and gates without the inputs, and the clauses that ask for the highest bit of the result. Those
 of z3 are the clauses of its own bit blasting of the same question (`apt-get install python3-z3`); the
@@ -46,7 +46,7 @@ def clauses_of_z3(name, width):
 
 
 def main():
-    program = sys.argv[1] if len(sys.argv) > 1 else "crates/gate_counts/out/gate_counts"
+    program = sys.argv[1] if len(sys.argv) > 1 else "crates/bench_gates/out/bench_gates"
     lines = subprocess.run([program, "8", "32", "64"], capture_output=True, text=True, check=True).stdout.splitlines()
     for line in lines:
         name, width, _, gates, _, clauses = line.split()

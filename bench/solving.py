@@ -1,10 +1,10 @@
 #!/usr/bin/env python3
 """How long the search for models takes, beside minisat on the same clauses.
 
-    bench/solving.py [PATH OF solver_times]        (default: crates/solver_times/out/solver_times)
+    bench/solving.py [PATH OF bench_solver]        (default: crates/bench_solver/out/bench_solver)
 
 `pigeons N` puts one pigeon more than N holes into them; the others ask at N bits whether one term is ever
-another number than a second (`crates/solver_times/src/main.rt` says which). None has a model. Beside the search
+another number than a second (`crates/bench_solver/src/main.rt` says which). None has a model. Beside the search
 in order stands that of a question, which takes the low digits of all variables first; the counts are of the
 learned clauses. Times are of the whole program less those of a run that prints the clauses. minisat (`apt-get
 install minisat`) gets the same DIMACS; its column is left out where it isn't there. No test rests on these
@@ -48,7 +48,7 @@ def ours(program, name, size, action, printing):
 
 
 def main():
-    program = sys.argv[1] if len(sys.argv) > 1 else "crates/solver_times/out/solver_times"
+    program = sys.argv[1] if len(sys.argv) > 1 else "crates/bench_solver/out/bench_solver"
     for name, size in QUESTIONS:
         printing, text = timed([program, name, str(size), "dimacs"])
         other = f"   minisat {shown(minisat_time(text))}" if shutil.which("minisat") else ""

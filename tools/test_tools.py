@@ -1,0 +1,453 @@
+#!/usr/bin/env python3
+"""Tests of the scripts in this folder, on the small modules in testdata.
+
+    tools/test_tools.py [-v]
+
+Each case runs a script as a user does, with a fake opt whose passes are partly wrong, and
+compares its status and what it wrote with what must come out. The cases run with a fake tv, then
+with the real one where it is built, and those of LLVM's own passes where opt-19 or opt is
+installed; what isn't there is skipped, and said. The last line counts; the status is 1 where a
+case failed.
+"""
+import concurrent.futures
+import csv
+import html.parser
+import os
+import shutil
+import signal
+import subprocess
+import sys
+import tempfile
+import time
+
+TOOLS = os.path.dirname(os.path.realpath(__file__))
+DATA = os.path.join(TOOLS, "testdata")
+ARITH = os.path.join(DATA, "tree", "arith.ll")
+NAMES = os.path.join(DATA, "tree", "sub", "names.ll")
+BROKEN = os.path.join(DATA, "tree", "sub", "broken.ll")
+SLOW = os.path.join(DATA, "slow", "slow.ll")
+WHOLE = os.path.join(DATA, "whole", "whole.ll")
+SCRIPTS = ["opt-tv", "tv-tree", "tv-vacuous", "tv-reduce", "tv-html", "tv-baseline"]
+AT_A_TIME = 2
+
+
+class Bench:
+    """A folder and an environment in which scripts run."""
+
+    def __init__(self, folder, **variables):
+        self.folder = folder
+        kept = {name: value for name, value in os.environ.items()
+                if not name.startswith("TV") and name != "REAL_OPT"}
+        path = os.path.dirname(sys.executable) + os.pathsep + kept.get("PATH", os.defpath)
+        self.variables = {**kept, "PATH": path, **variables}
+
+    def run(self, script, *args, data="", **variables):
+        path = os.path.join(TOOLS, script)
+        return subprocess.run([path, *args], cwd=self.folder, input=data, text=True,
+                              capture_output=True, env={**self.variables, **variables}, timeout=300)
+
+    def file(self, *names):
+        with open(os.path.join(self.folder, *names)) as file:
+            return file.read()
+
+    def write(self, name, text):
+        with open(os.path.join(self.folder, name), "w") as file:
+            file.write(text)
+
+    def only(self, folder, ending):
+        names = [name for name in os.listdir(os.path.join(self.folder, folder))
+                 if name.endswith(ending)]
+        equal(len(names), 1, f"files {ending} in {folder}")
+        return self.file(folder, names[0])
+
+    def passes(self, name, file):
+        return self.run(os.path.join(DATA, "wrong-opt"), "-S", f"-passes={name}", file).stdout
+
+
+def equal(found, wanted, what):
+    if found != wanted:
+        raise AssertionError(f"{what}: found {shown(found)}, wanted {shown(wanted)}")
+
+
+def shown(value):
+    text = repr(value)
+    return text if len(text) <= 1000 else text[:1000] + ".."
+
+
+def has(text, *wanted):
+    for part in wanted:
+        if part not in text:
+            raise AssertionError(f"{part!r} is not in {shown(text)}")
+
+
+def has_not(text, *unwanted):
+    for part in unwanted:
+        if part in text:
+            raise AssertionError(f"{part!r} is in {shown(text)}")
+
+
+# All scripts.
+
+def help_is_one_screen(bench):
+    for script in SCRIPTS:
+        done = bench.run(script, "--help")
+        equal((done.returncode, done.stderr), (0, ""), f"{script} --help")
+        has(done.stdout, script, "TV" if script != "tv-baseline" else "BASELINE")
+        equal(len(done.stdout.splitlines()) <= 50, True, f"{script} --help is one screen")
+
+
+# opt-tv.
+
+def opt_output_is_passed_on(bench):
+    done = bench.run("opt-tv", "-S", "-passes=double,wrong", ARITH)
+    equal(done.returncode, 0, "status")
+    equal(done.stdout, bench.passes("double,wrong", ARITH), "output")
+    equal(done.stderr, "", "messages")
+    has(bench.only("tv-out", ".txt"), "opt-tv: -S -passes=double,wrong", "@twice correct",
+        "@bad_sum incorrect\n  arg 0 = 0\n", "@calls refused source Unsupported 33:8",
+        "@heavy unknown weight")
+    equal(bench.only("tv-out", ".before.ll"), open(ARITH).read(), "kept source")
+    equal(bench.only("tv-out", ".after.ll"), done.stdout, "kept target")
+
+
+def opt_reads_standard_input(bench):
+    done = bench.run("opt-tv", "-S", "-passes=double", "-o", "out.ll", data=open(ARITH).read(),
+                     TV_OUT="r/s")
+    equal((done.returncode, done.stdout), (0, ""), "status and output")
+    equal(bench.file("out.ll"), bench.passes("double", ARITH), "output")
+    has(bench.only("r/s", ".txt"), "incorrect 0 unknown 1")
+
+
+def opt_gate(bench):
+    done = bench.run("opt-tv", "-S", "-passes=wrong", ARITH, "-o", "out.ll", TV_GATE="1")
+    equal(done.returncode, 1, "status")
+    has(done.stderr, "opt-tv: incorrect: @bad_sum; see tv-out/arith.ll-")
+    done = bench.run("opt-tv", "-S", "-passes=double", ARITH, TV_GATE="1")
+    equal(done.returncode, 0, "status of right passes")
+
+
+def opt_failure_is_passed_on(bench):
+    done = bench.run("opt-tv", "-S", "-passes=double", BROKEN, TV_GATE="1")
+    equal(done.returncode, 1, "status")
+    equal(done.stderr, "wrong-opt: error: expected top-level entity\n", "messages")
+    equal(os.path.exists(os.path.join(bench.folder, "tv-out")), False, "a report")
+
+
+def opt_changed_names(bench):
+    bench.run("opt-tv", "-S", "-passes=rename,widen", NAMES)
+    has(bench.only("tv-out", ".txt"), "@old missing", "@new extra", "@wide signature")
+
+
+def opt_steps(bench):
+    bench.run("opt-tv", "-S", "-passes=double,wrong,rename", ARITH, TV_STEPS="1")
+    report = bench.only("tv-out", ".txt")
+    has(report, "steps 3", "step 1 double\n@twice correct", "step 2 wrong\n@bad_sum incorrect",
+        "@bad_sum incorrect at step 2: wrong\n")
+    has_not(report, "step 3 rename")
+
+
+def opt_not_text(bench):
+    done = bench.run("opt-tv", "-S", "-passes=double", ARITH, "-o", "/dev/null", TV_GATE="1")
+    equal(done.returncode, 0, "status")
+    has(bench.only("tv-out", ".txt"), "not judged: the output is not textual IR")
+
+
+def opt_without_tv(bench):
+    args = ("opt-tv", "-S", "-passes=double", ARITH)
+    equal(bench.run(*args, TV="/no/tv").returncode, 0, "status without the gate")
+    has(bench.only("tv-out", ".txt"), "not judged: TV=/no/tv: no such program")
+    equal(bench.run(*args, TV="/no/tv", TV_GATE="1").returncode, 127, "status with the gate")
+
+
+def opt_slow_pair(bench):
+    bench.run("opt-tv", "-S", "-passes=double", SLOW, TV_TIME="1")
+    has(bench.only("tv-out", ".txt"), "function by function", "time-out after 1 s",
+        "@slow time-out 1 s")
+
+
+def opt_whole_refusal(bench):
+    bench.run("opt-tv", "-S", "-passes=double", WHOLE)
+    has(bench.only("tv-out", ".txt"), "before.ll:1:1: no token", "@good correct")
+
+
+# tv-tree.
+
+PASSES = ("-p", "double,wrong", "-p", "rename,widen")
+TOTALS = """modules 6 opt failed 2 functions 15
+same             7
+correct          2
+                 1  vacuous
+incorrect        1
+unknown          1
+                 1  unknown weight
+refused          1
+                 1  refused source Unsupported call
+signature        1
+missing          1
+extra            1
+one/rows.csv one/index.html
+"""
+
+
+def tree_run(bench, *args, **variables):
+    folder = os.path.join(DATA, "tree")
+    return bench.run("tv-tree", "run", folder, *PASSES, "--jobs", "2", *args, **variables)
+
+
+def tree_totals(bench):
+    done = tree_run(bench, "--out", "one", "--vacuous")
+    equal((done.returncode, done.stdout), (1, TOTALS), "status and totals")
+    rows = {(row["passes"], row["function"]): row
+            for row in csv.DictReader(bench.file("one", "rows.csv").splitlines())}
+    row = rows["double,wrong", "calls"]
+    equal([row[key] for key in ("kind", "cause", "word", "column")],
+          ["refused", "source Unsupported", "call", "8"], "a refused row")
+    equal(rows["double,wrong", "never"]["vacuous"], "vacuous", "a vacuous row")
+    page = bench.file("one", "index.html")
+    well_formed(page)
+    has(page, "@bad_sum incorrect", "opt failed", "source Unsupported")
+
+
+def tree_resumes(bench):
+    log = os.path.join(bench.folder, "log")
+    tree_run(bench, "--out", "one", FAKE_TV_LOG=log)
+    first = bench.file("log").count("\n")
+    equal(first, 6, "pairs that were asked")
+    done = tree_run(bench, "--out", "one", FAKE_TV_LOG=log)
+    equal((done.returncode, bench.file("log").count("\n")), (1, first), "status and pairs")
+
+
+def tree_by_lines(bench):
+    tree_run(bench, "--out", "one")
+    folder = os.path.join(DATA, "tree")
+    lines = bench.run("tv-tree", "list", folder, *PASSES).stdout
+    equal(len(lines.splitlines()), 6, "lines of work")
+    for line in lines.splitlines()[:2]:
+        equal(bench.run("tv-tree", "do", "--out", "two", line).returncode, 0, "status of do")
+    bench.run("tv-tree", "do", "--out", "two", "-", data="".join(lines.splitlines(True)[2:]))
+    equal(bench.run("tv-tree", "table", "--out", "two").returncode, 1, "status of table")
+    done = bench.run("tv-tree", "table", "--out", "two", "--work", "-", data=lines + "more\tp\n")
+    equal((done.returncode, done.stderr), (3, "tv-tree: 1 lines of work aren't done\n"), "lacking")
+    equal(rows_without_times(bench, "two"), rows_without_times(bench, "one"), "rows")
+
+
+def rows_without_times(bench, folder):
+    rows = csv.DictReader(bench.file(folder, "rows.csv").splitlines())
+    return sorted([value for key, value in row.items() if key != "seconds"] for row in rows)
+
+
+def tree_time_out(bench):
+    done = bench.run("tv-tree", "run", SLOW, "-p", "double", "--out", "one", "--seconds", "1")
+    equal(done.returncode, 0, "status")
+    has(done.stdout, "time-out         1")
+
+
+def tree_stopped(bench):
+    args = ["tv-tree", "run", SLOW, ARITH, "-p", "double", "--out", "one", "--seconds", "30"]
+    child = subprocess.Popen([os.path.join(TOOLS, args[0]), *args[1:]], cwd=bench.folder,
+                             env={**bench.variables, "TMPDIR": bench.folder},
+                             stdout=subprocess.DEVNULL, stderr=subprocess.DEVNULL)
+    time.sleep(1)
+    child.send_signal(signal.SIGTERM)
+    begun = time.monotonic()
+    equal(child.wait(timeout=20), 143, "status")
+    equal(time.monotonic() - begun < 5, True, "ended at once")
+    left = [name for name in os.listdir(bench.folder) if name.startswith("tv-")]
+    equal(left, [], "temporary files")
+    done = bench.run(*args[:-1], "1")
+    has(done.stdout, "modules 2 opt failed 0 functions 6", "time-out         1")
+
+
+def tree_bad_folder(bench):
+    done = bench.run("tv-tree", "run", "nowhere", "-p", "double", "--out", "one")
+    equal((done.returncode, done.stderr), (2, "tv-tree: nowhere: no such folder\n"), "answer")
+
+
+# tv-vacuous, tv-reduce, tv-html, tv-baseline.
+
+def vacuous_rows(bench):
+    bench.write("after.ll", bench.passes("double,wrong", ARITH))
+    done = bench.run("tv-vacuous", ARITH, "after.ll")
+    equal((done.returncode, done.stdout),
+          (1, "@never vacuous\ncorrect 2 vacuous 1 time-out 0 unknown 0\n"), "status and rows")
+    done = bench.run("tv-vacuous", NAMES, NAMES)
+    equal((done.returncode, done.stdout), (0, "correct 2 vacuous 0 time-out 0 unknown 0\n"), "none")
+    equal(bench.run("tv-vacuous", NAMES, "nowhere.ll").returncode, 5, "status without a file")
+
+
+def reduced(bench):
+    bench.write("in.ll", open(NAMES).read() + open(ARITH).read().split("\n\n")[2] + "\n")
+    done = bench.run("tv-reduce", "in.ll", "-f", "@bad_sum", "-p", "double,wrong")
+    equal(done.returncode, 0, "status " + done.stderr)
+    has(done.stdout, "in.reduced.ll", "@bad_sum incorrect\n", "  target ")
+    small = bench.file("in.reduced.ll")
+    has(small, "@bad_sum(")
+    has_not(small, "@old", "@wide")
+    has(bench.file("in.reduced.after.ll"), "@bad_sum(")
+
+
+def nothing_to_reduce(bench):
+    done = bench.run("tv-reduce", ARITH, "-f", "twice", "-p", "double", "-o", "out.ll")
+    equal((done.returncode, done.stderr),
+          (1, "tv-reduce: nothing to reduce: @twice correct\n"), "answer")
+    equal(os.path.exists(os.path.join(bench.folder, "out.ll")), False, "a file")
+
+
+class Tags(html.parser.HTMLParser):
+    """Holds that tags are closed in the order in which they were opened."""
+    VOID = {"meta", "link", "br"}
+
+    def __init__(self):
+        super().__init__()
+        self.open = []
+
+    def handle_starttag(self, tag, attrs):
+        equal(tag != "script", True, "no script")
+        if tag not in self.VOID:
+            self.open.append(tag)
+
+    def handle_endtag(self, tag):
+        equal(self.open.pop(), tag, "closing tag")
+
+
+def well_formed(page):
+    tags = Tags()
+    tags.feed(page)
+    equal(tags.open, [], "open tags at the end")
+
+
+def pages(bench):
+    bench.write("after.ll", bench.passes("double,wrong", ARITH))
+    done = bench.run("tv-html", ARITH, "after.ll")
+    equal((done.returncode, done.stderr), (0, ""), "status")
+    well_formed(done.stdout)
+    has(done.stdout, "@bad_sum incorrect", "<code>returns 255</code></td><td>-1, 0xff",
+        "<mark>call</mark>", "incorrect <strong>1</strong>",
+        '<div class="new"><span class="no">+ 10</span>  %r = sub i8')
+    bench.write("report", "tv 1 turns 4\n@twice unknown rounds\n")
+    bench.run("tv-html", ARITH, "after.ll", "--report", "report", "-o", "page.html")
+    has(bench.file("page.html"), "@twice unknown rounds")
+
+
+def baseline(bench):
+    kinds = ["unknown weight", "correct"]
+    for name, a, (b, c), end in [
+            ("old", "refused source Unsupported 3:4", kinds, "correct 1"),
+            ("moved", "refused source Unsupported 9:9", ["correct", "correct"], "correct 2"),
+            ("new", "refused source Limit 3:4", ["unknown weight", "missing"], "correct 0"),
+            ("wrong", "refused source Unsupported 3:4",
+             ["unknown weight", "incorrect\n  arg 0 = 1\n  source ub"], "correct 0"),
+            ("cut", "correct", kinds, "@d correct")]:
+        bench.write(name, f"tv 1 turns 4\n@a {a}\n@b {b}\n@c {c}\n{end}\n")
+    for report, args, status, wanted in [
+            ("old", [], 1, ["new: f @a refused source Unsupported", "new: f @b unknown weight"]),
+            ("old", ["--write"], 0, ["rows 3 incorrect 0 new 0 gone 0"]),
+            ("old", [], 0, ["rows 3 incorrect 0 new 0 gone 0"]),
+            ("moved", [], 0, ["gone: f @b unknown weight", "new 0 gone 1"]),
+            ("new", [], 1, ["new: f @a refused source Limit", "new: f @c missing", "new 2 gone 1"]),
+            ("new", ["--allow", "missing"], 1, ["new 1 gone 1"]),
+            ("wrong", [], 1, ["incorrect: f @c incorrect", "new 0 gone 0"]),
+            ("wrong", ["--write"], 1, ["incorrect: f @c incorrect"]),
+            ("cut", [], 2, []), ("nowhere", [], 2, [])]:
+        done = bench.run("tv-baseline", "base", report, "--name", "f", *args)
+        equal(done.returncode, status, f"status of {report} {args}")
+        has(done.stdout, *wanted)
+    equal(bench.file("base"), "f @a refused source Unsupported\nf @b unknown weight\n", "the list")
+
+
+def baseline_of_tree(bench):
+    tree_run(bench, "--out", "one")
+    done = bench.run("tv-baseline", "base", "one/rows.csv", "--write")
+    equal(done.returncode, 1, "status, for a row is incorrect")
+    has(bench.file("base"), "arith.ll double,wrong @calls refused source Unsupported call\n",
+        "names.ll rename,widen @wide signature\n", "broken.ll double,wrong opt failed")
+
+
+# LLVM's own passes.
+
+def llvm_tree(bench):
+    done = bench.run("tv-tree", "run", ARITH, "-p", "instcombine", "--out", "one", "--vacuous")
+    equal(done.returncode, 0, "status " + done.stderr)
+    has(done.stdout, "refused source Unsupported call", "vacuous")
+
+
+def llvm_steps(bench):
+    done = bench.run("opt-tv", "-S", "-passes=default<O1>", ARITH, "-o", "out.ll", TV_STEPS="1",
+                     TV_GATE="1")
+    equal(done.returncode, 0, "status " + done.stderr)
+    has(bench.only("tv-out", ".txt"), "no function went wrong at a step", "instcombine")
+
+
+def llvm_bitcode(bench):
+    done = bench.run("opt-tv", "-passes=instcombine", ARITH, "-o", "out.bc", TV_GATE="1")
+    equal(done.returncode, 0, "status")
+    has(bench.only("tv-out", ".txt"), "not judged: the output is not textual IR")
+
+
+EVERY = [opt_output_is_passed_on, opt_gate, opt_changed_names, opt_steps, tree_totals,
+         vacuous_rows, pages]
+FAKE_ONLY = [help_is_one_screen, opt_reads_standard_input, opt_failure_is_passed_on, opt_not_text,
+             opt_without_tv, opt_slow_pair, opt_whole_refusal, tree_by_lines, tree_resumes,
+             tree_time_out, tree_stopped, tree_bad_folder, reduced, nothing_to_reduce, baseline,
+             baseline_of_tree]
+LLVM = [llvm_tree, llvm_steps, llvm_bitcode]
+
+
+def real_tv():
+    built = os.path.join(os.path.dirname(TOOLS), "crates", "tv", "out", "tv")
+    return os.environ.get("TV") or shutil.which(built) or shutil.which("tv")
+
+
+def cases():
+    """Name, test and environment of each case; says what is skipped."""
+    fake = {"TV": os.path.join(DATA, "fake-tv"), "TV_OPT": os.path.join(DATA, "wrong-opt"),
+            "TV_REDUCE": os.path.join(DATA, "fake-reduce")}
+    real = real_tv()
+    opt = os.environ.get("TV_OPT") or shutil.which("opt-19") or shutil.which("opt")
+    reduce = os.environ.get("TV_REDUCE") or shutil.which("llvm-reduce-19")
+    reduce = reduce or shutil.which("llvm-reduce")
+    for test in EVERY + FAKE_ONLY:
+        yield f"fake tv, {test.__name__}", test, fake
+    if real:
+        for test in EVERY:
+            yield f"tv, {test.__name__}", test, {**fake, "TV": os.path.abspath(real)}
+    else:
+        print("skipped: tv is not built (crates/tv/out/tv), nor named by TV")
+    if opt:
+        for test in LLVM:
+            yield f"opt, {test.__name__}", test, {**fake, "TV_OPT": opt, "TV": real or fake["TV"]}
+    else:
+        print("skipped: neither opt-19 nor opt is installed")
+    if reduce and real:
+        there = {**fake, "TV": os.path.abspath(real), "TV_REDUCE": reduce}
+        yield "llvm-reduce, reduced", reduced, there
+    else:
+        print("skipped: llvm-reduce-19 or tv is not there")
+
+
+def tried(case):
+    """Runs one case in a folder of its own: whether it passed, and what there is to say of it."""
+    name, test, variables = case
+    with tempfile.TemporaryDirectory(prefix="test-tools-") as folder:
+        begun = time.monotonic()
+        try:
+            test(Bench(folder, **variables))
+        except (AssertionError, OSError, ValueError, LookupError,
+                subprocess.TimeoutExpired) as error:
+            return False, f"failed: {name}: {type(error).__name__}: {error}"
+        return True, f"passed: {name} {time.monotonic() - begun:.1f} s"
+
+
+def main():
+    passed = failed = 0
+    with concurrent.futures.ThreadPoolExecutor(AT_A_TIME) as pool:
+        for good, line in pool.map(tried, cases()):
+            passed, failed = passed + good, failed + (not good)
+            if not good or "-v" in sys.argv[1:]:
+                print(line, flush=True)
+    print(f"{passed} passed, {failed} failed")
+    return 1 if failed else 0
+
+
+if __name__ == "__main__":
+    sys.exit(main())
