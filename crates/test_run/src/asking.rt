@@ -35,9 +35,11 @@ pub struct Row {
     pub line: &'static str,
     pub source: &'static str,
     pub target: &'static str,
-    /// All that is written, in three pieces: of a report its first line, its rows and its last
-    /// line.
-    pub output: [&'static str; 3],
+    /// What is written: the first line, the rows and the last line of a report, or the one line of
+    /// a fault.
+    pub first: &'static str,
+    pub rows: &'static str,
+    pub last: &'static str,
     pub status: u8,
 }
 
@@ -75,7 +77,7 @@ pub fn is_answered<R: AllocGlobal + Threads + Sync>(rt: &R, row: &Row) -> Result
         &OpenGate,
         &mut judged,
     );
-    Ok(status == row.status && is_output(out.bytes.as_slice(), &row.output))
+    Ok(status == row.status && is_output(out.bytes.as_slice(), &[row.first, row.rows, row.last]))
 }
 
 /// Whether the bytes are the pieces, one after the other.

@@ -45,11 +45,9 @@ const CHOICES: [Row; 10] = [
         line: "tv check A B --turns 0",
         source: CHOSEN,
         target: THREE,
-        output: [
-            "tv 1 turns 0 blocks 2 bytes 8 rounds 64 conflicts 0 weight 100000\n",
-            "@f correct\n",
-            ONE_CORRECT,
-        ],
+        first: "tv 1 turns 0 blocks 2 bytes 8 rounds 64 conflicts 0 weight 100000\n",
+        rows: "@f correct\n",
+        last: ONE_CORRECT,
         status: 0,
     },
     Row {
@@ -57,11 +55,9 @@ const CHOICES: [Row; 10] = [
         line: "tv check A B --turns 0 --rounds 0",
         source: CHOSEN,
         target: THREE,
-        output: [
-            "tv 1 turns 0 blocks 2 bytes 8 rounds 0 conflicts 0 weight 100000\n",
-            "@f unknown rounds\n",
-            ONE_UNKNOWN,
-        ],
+        first: "tv 1 turns 0 blocks 2 bytes 8 rounds 0 conflicts 0 weight 100000\n",
+        rows: "@f unknown rounds\n",
+        last: ONE_UNKNOWN,
         status: 2,
     },
     Row {
@@ -69,7 +65,9 @@ const CHOICES: [Row; 10] = [
         line: "tv check A B --rounds=64",
         source: CHOSEN,
         target: THREE,
-        output: [DEFAULTS, "@f correct\n", ONE_CORRECT],
+        first: DEFAULTS,
+        rows: "@f correct\n",
+        last: ONE_CORRECT,
         status: 0,
     },
     Row {
@@ -77,11 +75,9 @@ const CHOICES: [Row; 10] = [
         line: "tv check A B --turns 0",
         source: SEVEN,
         target: FROZEN,
-        output: [
-            "tv 1 turns 0 blocks 2 bytes 8 rounds 64 conflicts 0 weight 100000\n",
-            "@f incorrect\n  choice 0 = 0\n  source returns 7\n  target returns 0\n",
-            ONE_INCORRECT,
-        ],
+        first: "tv 1 turns 0 blocks 2 bytes 8 rounds 64 conflicts 0 weight 100000\n",
+        rows: "@f incorrect\n  choice 0 = 0\n  source returns 7\n  target returns 0\n",
+        last: ONE_INCORRECT,
         status: 1,
     },
     Row {
@@ -89,11 +85,9 @@ const CHOICES: [Row; 10] = [
         line: "tv check A B --turns 0",
         source: FIVE,
         target: UNDEF,
-        output: [
-            "tv 1 turns 0 blocks 2 bytes 8 rounds 64 conflicts 0 weight 100000\n",
-            "@f incorrect\n  choice 0 = 0\n  source returns 5\n  target returns 0\n",
-            ONE_INCORRECT,
-        ],
+        first: "tv 1 turns 0 blocks 2 bytes 8 rounds 64 conflicts 0 weight 100000\n",
+        rows: "@f incorrect\n  choice 0 = 0\n  source returns 5\n  target returns 0\n",
+        last: ONE_INCORRECT,
         status: 1,
     },
     Row {
@@ -101,11 +95,9 @@ const CHOICES: [Row; 10] = [
         line: "tv check A B --turns 0",
         source: UNDEF,
         target: FIVE,
-        output: [
-            "tv 1 turns 0 blocks 2 bytes 8 rounds 64 conflicts 0 weight 100000\n",
-            "@f correct\n",
-            ONE_CORRECT,
-        ],
+        first: "tv 1 turns 0 blocks 2 bytes 8 rounds 64 conflicts 0 weight 100000\n",
+        rows: "@f correct\n",
+        last: ONE_CORRECT,
         status: 0,
     },
     Row {
@@ -113,11 +105,9 @@ const CHOICES: [Row; 10] = [
         line: "tv check A B --turns 0",
         source: FROZEN_TWICE_USED,
         target: ZERO,
-        output: [
-            "tv 1 turns 0 blocks 2 bytes 8 rounds 64 conflicts 0 weight 100000\n",
-            "@f correct\n",
-            ONE_CORRECT,
-        ],
+        first: "tv 1 turns 0 blocks 2 bytes 8 rounds 64 conflicts 0 weight 100000\n",
+        rows: "@f correct\n",
+        last: ONE_CORRECT,
         status: 0,
     },
     Row {
@@ -125,11 +115,9 @@ const CHOICES: [Row; 10] = [
         line: "tv check A B --turns 0",
         source: ZERO,
         target: FROZEN_TWICE_USED,
-        output: [
-            "tv 1 turns 0 blocks 2 bytes 8 rounds 64 conflicts 0 weight 100000\n",
-            "@f correct\n",
-            ONE_CORRECT,
-        ],
+        first: "tv 1 turns 0 blocks 2 bytes 8 rounds 64 conflicts 0 weight 100000\n",
+        rows: "@f correct\n",
+        last: ONE_CORRECT,
         status: 0,
     },
     Row {
@@ -137,11 +125,9 @@ const CHOICES: [Row; 10] = [
         line: "tv check A B --rounds 15",
         source: ANY_SUM,
         target: ALWAYS_ZERO,
-        output: [
-            "tv 1 turns 4 blocks 2 bytes 8 rounds 15 conflicts 0 weight 100000\n",
-            "@f correct\n",
-            ONE_CORRECT,
-        ],
+        first: "tv 1 turns 4 blocks 2 bytes 8 rounds 15 conflicts 0 weight 100000\n",
+        rows: "@f correct\n",
+        last: ONE_CORRECT,
         status: 0,
     },
     Row {
@@ -149,11 +135,9 @@ const CHOICES: [Row; 10] = [
         line: "tv check A B --rounds 14",
         source: ANY_SUM,
         target: ALWAYS_ZERO,
-        output: [
-            "tv 1 turns 4 blocks 2 bytes 8 rounds 14 conflicts 0 weight 100000\n",
-            "@f unknown rounds\n",
-            ONE_UNKNOWN,
-        ],
+        first: "tv 1 turns 4 blocks 2 bytes 8 rounds 14 conflicts 0 weight 100000\n",
+        rows: "@f unknown rounds\n",
+        last: ONE_UNKNOWN,
         status: 2,
     },
 ];

@@ -84,11 +84,9 @@ const FLOWS: [Row; 9] = [
         line: "tv check A B --turns 0",
         source: BACK,
         target: TWO,
-        output: [
-            "tv 1 turns 0 blocks 2 bytes 8 rounds 64 conflicts 0 weight 100000\n",
-            "@f correct\n",
-            ONE_CORRECT,
-        ],
+        first: "tv 1 turns 0 blocks 2 bytes 8 rounds 64 conflicts 0 weight 100000\n",
+        rows: "@f correct\n",
+        last: ONE_CORRECT,
         status: 0,
     },
     Row {
@@ -96,11 +94,9 @@ const FLOWS: [Row; 9] = [
         line: "tv check A B --turns 0",
         source: TWO,
         target: BACK,
-        output: [
-            "tv 1 turns 0 blocks 2 bytes 8 rounds 64 conflicts 0 weight 100000\n",
-            "@f correct\n",
-            ONE_CORRECT,
-        ],
+        first: "tv 1 turns 0 blocks 2 bytes 8 rounds 64 conflicts 0 weight 100000\n",
+        rows: "@f correct\n",
+        last: ONE_CORRECT,
         status: 0,
     },
     Row {
@@ -108,11 +104,9 @@ const FLOWS: [Row; 9] = [
         line: "tv check A B --turns 1",
         source: BACK,
         target: TWO,
-        output: [
-            "tv 1 turns 1 blocks 2 bytes 8 rounds 64 conflicts 0 weight 100000\n",
-            "@f incorrect\n  source returns 1\n  target returns 2\n",
-            ONE_INCORRECT,
-        ],
+        first: "tv 1 turns 1 blocks 2 bytes 8 rounds 64 conflicts 0 weight 100000\n",
+        rows: "@f incorrect\n  source returns 1\n  target returns 2\n",
+        last: ONE_INCORRECT,
         status: 1,
     },
     Row {
@@ -120,11 +114,9 @@ const FLOWS: [Row; 9] = [
         line: "tv check A B --turns 1",
         source: TWO,
         target: BACK,
-        output: [
-            "tv 1 turns 1 blocks 2 bytes 8 rounds 64 conflicts 0 weight 100000\n",
-            "@f incorrect\n  source returns 2\n  target returns 1\n",
-            ONE_INCORRECT,
-        ],
+        first: "tv 1 turns 1 blocks 2 bytes 8 rounds 64 conflicts 0 weight 100000\n",
+        rows: "@f incorrect\n  source returns 2\n  target returns 1\n",
+        last: ONE_INCORRECT,
         status: 1,
     },
     Row {
@@ -132,11 +124,9 @@ const FLOWS: [Row; 9] = [
         line: "tv check A B --turns 2",
         source: COUNTED,
         target: COUNTED_BUT_4,
-        output: [
-            "tv 1 turns 2 blocks 2 bytes 8 rounds 64 conflicts 0 weight 100000\n",
-            "@f correct\n",
-            ONE_CORRECT,
-        ],
+        first: "tv 1 turns 2 blocks 2 bytes 8 rounds 64 conflicts 0 weight 100000\n",
+        rows: "@f correct\n",
+        last: ONE_CORRECT,
         status: 0,
     },
     Row {
@@ -144,11 +134,9 @@ const FLOWS: [Row; 9] = [
         line: "tv check A B --turns 3",
         source: COUNTED,
         target: COUNTED_BUT_4,
-        output: [
-            "tv 1 turns 3 blocks 2 bytes 8 rounds 64 conflicts 0 weight 100000\n",
-            "@f incorrect\n  arg 0 = 4\n  source returns 4\n  target returns 0\n",
-            ONE_INCORRECT,
-        ],
+        first: "tv 1 turns 3 blocks 2 bytes 8 rounds 64 conflicts 0 weight 100000\n",
+        rows: "@f incorrect\n  arg 0 = 4\n  source returns 4\n  target returns 0\n",
+        last: ONE_INCORRECT,
         status: 1,
     },
     Row {
@@ -156,7 +144,9 @@ const FLOWS: [Row; 9] = [
         line: "tv check A B",
         source: SWITCHED,
         target: COMPARED,
-        output: [DEFAULTS, "@f correct\n", ONE_CORRECT],
+        first: DEFAULTS,
+        rows: "@f correct\n",
+        last: ONE_CORRECT,
         status: 0,
     },
     Row {
@@ -164,11 +154,9 @@ const FLOWS: [Row; 9] = [
         line: "tv check A B",
         source: COMPARED,
         target: SWITCHED,
-        output: [
-            DEFAULTS,
-            "@f incorrect\n  arg 0 = poison\n  source returns poison\n  target ub\n",
-            ONE_INCORRECT,
-        ],
+        first: DEFAULTS,
+        rows: "@f incorrect\n  arg 0 = poison\n  source returns poison\n  target ub\n",
+        last: ONE_INCORRECT,
         status: 1,
     },
     Row {
@@ -176,11 +164,9 @@ const FLOWS: [Row; 9] = [
         line: "tv check A B --turns 1",
         source: EXCHANGED,
         target: CHOSEN_ARM,
-        output: [
-            "tv 1 turns 1 blocks 2 bytes 8 rounds 64 conflicts 0 weight 100000\n",
-            "@f correct\n",
-            ONE_CORRECT,
-        ],
+        first: "tv 1 turns 1 blocks 2 bytes 8 rounds 64 conflicts 0 weight 100000\n",
+        rows: "@f correct\n",
+        last: ONE_CORRECT,
         status: 0,
     },
 ];

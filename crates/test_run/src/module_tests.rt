@@ -82,7 +82,9 @@ const MODULES: [Row; 14] = [
         line: "tv check A B",
         source: "",
         target: "",
-        output: [DEFAULTS, "", NO_ROWS],
+        first: DEFAULTS,
+        rows: "",
+        last: NO_ROWS,
         status: 0,
     },
     Row {
@@ -90,7 +92,9 @@ const MODULES: [Row; 14] = [
         line: "tv check A B",
         source: IDENTITY,
         target: IDENTITY,
-        output: [DEFAULTS, "@f correct\n", ONE_CORRECT],
+        first: DEFAULTS,
+        rows: "@f correct\n",
+        last: ONE_CORRECT,
         status: 0,
     },
     Row {
@@ -98,7 +102,9 @@ const MODULES: [Row; 14] = [
         line: "tv check A B",
         source: "define i17 @f(i17 %x) {\n  ret i17 %x\n}\n",
         target: "define i17 @f(i17 %x) {\n  ret i17 %x\n}\n",
-        output: [DEFAULTS, "@f correct\n", ONE_CORRECT],
+        first: DEFAULTS,
+        rows: "@f correct\n",
+        last: ONE_CORRECT,
         status: 0,
     },
     Row {
@@ -106,7 +112,9 @@ const MODULES: [Row; 14] = [
         line: "tv check A B",
         source: "define void @f(i8 %x) {\nstart:\n  %y = add i8 %x, 1\n  ret void\n}\n",
         target: "define void @f(i8 %x) {\n  ret void\n}\n",
-        output: [DEFAULTS, "@f correct\n", ONE_CORRECT],
+        first: DEFAULTS,
+        rows: "@f correct\n",
+        last: ONE_CORRECT,
         status: 0,
     },
     Row {
@@ -114,11 +122,9 @@ const MODULES: [Row; 14] = [
         line: "tv check A B",
         source: "define void @f(i8 %x) {\n  ret void\n}\n",
         target: "define i8 @f(i8 %x) {\n  ret i8 %x\n}\n",
-        output: [
-            DEFAULTS,
-            "@f signature\n",
-            "correct 0 incorrect 0 unknown 0 refused 0 signature 1 missing 0 extra 0\n",
-        ],
+        first: DEFAULTS,
+        rows: "@f signature\n",
+        last: "correct 0 incorrect 0 unknown 0 refused 0 signature 1 missing 0 extra 0\n",
         status: 3,
     },
     Row {
@@ -126,11 +132,9 @@ const MODULES: [Row; 14] = [
         line: "tv check A B",
         source: "define i8 @a(i8 %x) {\n  ret i8 %x\n}\ndefine i8 @b() {\n  ret i8 0\n}\n",
         target: "define i8 @a(i16 %x) {\n  ret i8 0\n}\ndefine i8 @c() {\n  ret i8 -1\n}\n",
-        output: [
-            DEFAULTS,
-            "@a signature\n@b missing\n@c extra\n",
-            "correct 0 incorrect 0 unknown 0 refused 0 signature 1 missing 1 extra 1\n",
-        ],
+        first: DEFAULTS,
+        rows: "@a signature\n@b missing\n@c extra\n",
+        last: "correct 0 incorrect 0 unknown 0 refused 0 signature 1 missing 1 extra 1\n",
         status: 3,
     },
     Row {
@@ -138,7 +142,9 @@ const MODULES: [Row; 14] = [
         line: "tv check A B",
         source: SIX_SOURCES,
         target: SIX_TARGETS,
-        output: [DEFAULTS, SIX_ROWS, SIX_COUNTS],
+        first: DEFAULTS,
+        rows: SIX_ROWS,
+        last: SIX_COUNTS,
         status: 1,
     },
     Row {
@@ -146,11 +152,10 @@ const MODULES: [Row; 14] = [
         line: "tv check A B --conflicts 9223372036854775807",
         source: SIX_SOURCES,
         target: SIX_TARGETS,
-        output: [
-            "tv 1 turns 4 blocks 2 bytes 8 rounds 64 conflicts 9223372036854775807 weight 100000\n",
-            SIX_ROWS,
-            SIX_COUNTS,
-        ],
+        first: "tv 1 turns 4 blocks 2 bytes 8 rounds 64 conflicts 9223372036854775807 \
+                weight 100000\n",
+        rows: SIX_ROWS,
+        last: SIX_COUNTS,
         status: 1,
     },
     Row {
@@ -158,7 +163,9 @@ const MODULES: [Row; 14] = [
         line: "tv check A B --workers 1",
         source: SIX_SOURCES,
         target: SIX_TARGETS,
-        output: [DEFAULTS, SIX_ROWS, SIX_COUNTS],
+        first: DEFAULTS,
+        rows: SIX_ROWS,
+        last: SIX_COUNTS,
         status: 1,
     },
     Row {
@@ -166,7 +173,9 @@ const MODULES: [Row; 14] = [
         line: "tv check A B --workers 64",
         source: SIX_SOURCES,
         target: SIX_TARGETS,
-        output: [DEFAULTS, SIX_ROWS, SIX_COUNTS],
+        first: DEFAULTS,
+        rows: SIX_ROWS,
+        last: SIX_COUNTS,
         status: 1,
     },
     Row {
@@ -174,11 +183,9 @@ const MODULES: [Row; 14] = [
         line: "tv check A B --weight 89",
         source: DOUBLED,
         target: SHIFTED,
-        output: [
-            "tv 1 turns 4 blocks 2 bytes 8 rounds 64 conflicts 0 weight 89\n",
-            "@f unknown weight\n",
-            ONE_UNKNOWN,
-        ],
+        first: "tv 1 turns 4 blocks 2 bytes 8 rounds 64 conflicts 0 weight 89\n",
+        rows: "@f unknown weight\n",
+        last: ONE_UNKNOWN,
         status: 2,
     },
     Row {
@@ -186,11 +193,9 @@ const MODULES: [Row; 14] = [
         line: "tv check A B --weight 90",
         source: DOUBLED,
         target: SHIFTED,
-        output: [
-            "tv 1 turns 4 blocks 2 bytes 8 rounds 64 conflicts 0 weight 90\n",
-            "@f correct\n",
-            ONE_CORRECT,
-        ],
+        first: "tv 1 turns 4 blocks 2 bytes 8 rounds 64 conflicts 0 weight 90\n",
+        rows: "@f correct\n",
+        last: ONE_CORRECT,
         status: 0,
     },
     Row {
@@ -198,11 +203,9 @@ const MODULES: [Row; 14] = [
         line: "tv check --weight 1 A B",
         source: IDENTITY,
         target: IDENTITY,
-        output: [
-            "tv 1 turns 4 blocks 2 bytes 8 rounds 64 conflicts 0 weight 1\n",
-            "@f unknown weight\n",
-            ONE_UNKNOWN,
-        ],
+        first: "tv 1 turns 4 blocks 2 bytes 8 rounds 64 conflicts 0 weight 1\n",
+        rows: "@f unknown weight\n",
+        last: ONE_UNKNOWN,
         status: 2,
     },
     Row {
@@ -210,11 +213,9 @@ const MODULES: [Row; 14] = [
         line: "tv check A --turns=0 B --conflicts 100000",
         source: IDENTITY,
         target: IDENTITY,
-        output: [
-            "tv 1 turns 0 blocks 2 bytes 8 rounds 64 conflicts 100000 weight 100000\n",
-            "@f correct\n",
-            ONE_CORRECT,
-        ],
+        first: "tv 1 turns 0 blocks 2 bytes 8 rounds 64 conflicts 100000 weight 100000\n",
+        rows: "@f correct\n",
+        last: ONE_CORRECT,
         status: 0,
     },
 ];

@@ -34,7 +34,9 @@ const PAIRS: [Row; 14] = [
         line: "tv check A B",
         source: DOUBLED,
         target: SHIFTED,
-        output: [DEFAULTS, "@f correct\n", ONE_CORRECT],
+        first: DEFAULTS,
+        rows: "@f correct\n",
+        last: ONE_CORRECT,
         status: 0,
     },
     Row {
@@ -42,11 +44,9 @@ const PAIRS: [Row; 14] = [
         line: "tv check A B",
         source: DOUBLED,
         target: "define i8 @f(i8 %x) {\n  %r = add i8 %x, 1 ; one more\n  ret i8 %r\n}\n",
-        output: [
-            DEFAULTS,
-            "@f incorrect\n  arg 0 = 0\n  source returns 0\n  target returns 1\n",
-            ONE_INCORRECT,
-        ],
+        first: DEFAULTS,
+        rows: "@f incorrect\n  arg 0 = 0\n  source returns 0\n  target returns 1\n",
+        last: ONE_INCORRECT,
         status: 1,
     },
     Row {
@@ -54,11 +54,9 @@ const PAIRS: [Row; 14] = [
         line: "tv check A B",
         source: "define i8 @f(i8 %x) {\n  %r = add i8 %x, 1\n  ret i8 %r\n}\n",
         target: "define i8 @f(i8 %x) {\n  %r = add nsw i8 %x, 1\n  ret i8 %r\n}\n",
-        output: [
-            DEFAULTS,
-            "@f incorrect\n  arg 0 = 127\n  source returns 128\n  target returns poison\n",
-            ONE_INCORRECT,
-        ],
+        first: DEFAULTS,
+        rows: "@f incorrect\n  arg 0 = 127\n  source returns 128\n  target returns poison\n",
+        last: ONE_INCORRECT,
         status: 1,
     },
     Row {
@@ -66,7 +64,9 @@ const PAIRS: [Row; 14] = [
         line: "tv check A B",
         source: "define i8 @f(i8 %x) {\n  %r = add nsw i8 %x, 1\n  ret i8 %r\n}\n",
         target: "define i8 @f(i8 %x) {\n  %r = add i8 %x, 1\n  ret i8 %r\n}\n",
-        output: [DEFAULTS, "@f correct\n", ONE_CORRECT],
+        first: DEFAULTS,
+        rows: "@f correct\n",
+        last: ONE_CORRECT,
         status: 0,
     },
     Row {
@@ -74,7 +74,9 @@ const PAIRS: [Row; 14] = [
         line: "tv check A B",
         source: "define i8 @f(i8 %x) {\n  %r = udiv i8 %x, %x\n  ret i8 %r\n}\n",
         target: "define i8 @f(i8 %x) {\n  ret i8 1\n}\n",
-        output: [DEFAULTS, "@f correct\n", ONE_CORRECT],
+        first: DEFAULTS,
+        rows: "@f correct\n",
+        last: ONE_CORRECT,
         status: 0,
     },
     Row {
@@ -82,11 +84,9 @@ const PAIRS: [Row; 14] = [
         line: "tv check A B",
         source: "define i8 @f(i8 %x) {\n  ret i8 1\n}\n",
         target: "define i8 @f(i8 %x) {\n  %r = udiv i8 %x, %x\n  ret i8 %r\n}\n",
-        output: [
-            DEFAULTS,
-            "@f incorrect\n  arg 0 = 0\n  source returns 1\n  target ub\n",
-            ONE_INCORRECT,
-        ],
+        first: DEFAULTS,
+        rows: "@f incorrect\n  arg 0 = 0\n  source returns 1\n  target ub\n",
+        last: ONE_INCORRECT,
         status: 1,
     },
     Row {
@@ -94,7 +94,9 @@ const PAIRS: [Row; 14] = [
         line: "tv check A B",
         source: "define i8 @f(i8 %x) {\n  %r = sdiv i8 %x, -1\n  ret i8 %r\n}\n",
         target: "define i8 @f(i8 %x) {\n  %r = sub i8 0, %x\n  ret i8 %r\n}\n",
-        output: [DEFAULTS, "@f correct\n", ONE_CORRECT],
+        first: DEFAULTS,
+        rows: "@f correct\n",
+        last: ONE_CORRECT,
         status: 0,
     },
     Row {
@@ -102,11 +104,9 @@ const PAIRS: [Row; 14] = [
         line: "tv check A B",
         source: "define i8 @f(i8 %x) {\n  %r = sub i8 0, %x\n  ret i8 %r\n}\n",
         target: "define i8 @f(i8 %x) {\n  %r = sdiv i8 %x, -1\n  ret i8 %r\n}\n",
-        output: [
-            DEFAULTS,
-            "@f incorrect\n  arg 0 = 128\n  source returns 128\n  target ub\n",
-            ONE_INCORRECT,
-        ],
+        first: DEFAULTS,
+        rows: "@f incorrect\n  arg 0 = 128\n  source returns 128\n  target ub\n",
+        last: ONE_INCORRECT,
         status: 1,
     },
     Row {
@@ -115,7 +115,9 @@ const PAIRS: [Row; 14] = [
         source: "define i1 @f(i1 %a, i1 %b) {\n  %r = and i1 %a, %b\n  ret i1 %r\n}\n",
         target: "define i1 @f(i1 %a, i1 %b) {\n  \
                  %r = select i1 %a, i1 %b, i1 false\n  ret i1 %r\n}\n",
-        output: [DEFAULTS, "@f correct\n", ONE_CORRECT],
+        first: DEFAULTS,
+        rows: "@f correct\n",
+        last: ONE_CORRECT,
         status: 0,
     },
     Row {
@@ -124,12 +126,10 @@ const PAIRS: [Row; 14] = [
         source: "define i1 @f(i1 %a, i1 %b) {\n  \
                  %r = select i1 %a, i1 %b, i1 false\n  ret i1 %r\n}\n",
         target: "define i1 @f(i1 %a, i1 %b) {\n  %r = and i1 %a, %b\n  ret i1 %r\n}\n",
-        output: [
-            DEFAULTS,
-            "@f incorrect\n  arg 0 = 0\n  arg 1 = poison\n  \
+        first: DEFAULTS,
+        rows: "@f incorrect\n  arg 0 = 0\n  arg 1 = poison\n  \
              source returns 0\n  target returns poison\n",
-            ONE_INCORRECT,
-        ],
+        last: ONE_INCORRECT,
         status: 1,
     },
     Row {
@@ -137,7 +137,9 @@ const PAIRS: [Row; 14] = [
         line: "tv check A B",
         source: "define i1 @f(i8 %x) {\n  %c = icmp slt i8 %x, 0\n  ret i1 %c\n}\n",
         target: "define i1 @f(i8 %x) {\n  %c = icmp ugt i8 %x, 127\n  ret i1 %c\n}\n",
-        output: [DEFAULTS, "@f correct\n", ONE_CORRECT],
+        first: DEFAULTS,
+        rows: "@f correct\n",
+        last: ONE_CORRECT,
         status: 0,
     },
     Row {
@@ -145,11 +147,9 @@ const PAIRS: [Row; 14] = [
         line: "tv check A B",
         source: "define i1 @f(i8 %x) {\n  %c = icmp slt i8 %x, 0\n  ret i1 %c\n}\n",
         target: "define i1 @f(i8 %x) {\n  %c = icmp ugt i8 %x, 128\n  ret i1 %c\n}\n",
-        output: [
-            DEFAULTS,
-            "@f incorrect\n  arg 0 = 128\n  source returns 1\n  target returns 0\n",
-            ONE_INCORRECT,
-        ],
+        first: DEFAULTS,
+        rows: "@f incorrect\n  arg 0 = 128\n  source returns 1\n  target returns 0\n",
+        last: ONE_INCORRECT,
         status: 1,
     },
     Row {
@@ -157,7 +157,9 @@ const PAIRS: [Row; 14] = [
         line: "tv check A B",
         source: SHIFT_AS_PRINTED,
         target: SUM_AS_PRINTED,
-        output: [DEFAULTS, "@f correct\n", ONE_CORRECT],
+        first: DEFAULTS,
+        rows: "@f correct\n",
+        last: ONE_CORRECT,
         status: 0,
     },
     Row {
@@ -165,7 +167,9 @@ const PAIRS: [Row; 14] = [
         line: "tv check A B",
         source: SUM_AS_PRINTED,
         target: SHIFT_AS_PRINTED,
-        output: [DEFAULTS, "@f correct\n", ONE_CORRECT],
+        first: DEFAULTS,
+        rows: "@f correct\n",
+        last: ONE_CORRECT,
         status: 0,
     },
 ];

@@ -19,7 +19,9 @@ const WIDE: [Row; 5] = [
         line: "tv check A B",
         source: DOUBLED,
         target: SHIFTED,
-        output: [DEFAULTS, "@f correct\n", ONE_CORRECT],
+        first: DEFAULTS,
+        rows: "@f correct\n",
+        last: ONE_CORRECT,
         status: 0,
     },
     Row {
@@ -27,7 +29,9 @@ const WIDE: [Row; 5] = [
         line: "tv check A B",
         source: SHIFTED,
         target: DOUBLED,
-        output: [DEFAULTS, "@f correct\n", ONE_CORRECT],
+        first: DEFAULTS,
+        rows: "@f correct\n",
+        last: ONE_CORRECT,
         status: 0,
     },
     Row {
@@ -35,11 +39,9 @@ const WIDE: [Row; 5] = [
         line: "tv check A B --blocks 0 --conflicts 1",
         source: SEVEN,
         target: SEVEN,
-        output: [
-            "tv 1 turns 4 blocks 0 bytes 8 rounds 64 conflicts 1 weight 100000\n",
-            "@f correct\n",
-            ONE_CORRECT,
-        ],
+        first: "tv 1 turns 4 blocks 0 bytes 8 rounds 64 conflicts 1 weight 100000\n",
+        rows: "@f correct\n",
+        last: ONE_CORRECT,
         status: 0,
     },
     Row {
@@ -47,11 +49,9 @@ const WIDE: [Row; 5] = [
         line: "tv check A B --blocks 0 --conflicts 1",
         source: SEVEN,
         target: EIGHT,
-        output: [
-            "tv 1 turns 4 blocks 0 bytes 8 rounds 64 conflicts 1 weight 100000\n",
-            "@f incorrect\n  source returns 7\n  target returns 8\n",
-            ONE_INCORRECT,
-        ],
+        first: "tv 1 turns 4 blocks 0 bytes 8 rounds 64 conflicts 1 weight 100000\n",
+        rows: "@f incorrect\n  source returns 7\n  target returns 8\n",
+        last: ONE_INCORRECT,
         status: 1,
     },
     Row {
@@ -59,11 +59,9 @@ const WIDE: [Row; 5] = [
         line: "tv check A B --blocks 0 --conflicts 100000",
         source: IDENTITY,
         target: IDENTITY,
-        output: [
-            "tv 1 turns 4 blocks 0 bytes 8 rounds 64 conflicts 100000 weight 100000\n",
-            "@f correct\n",
-            ONE_CORRECT,
-        ],
+        first: "tv 1 turns 4 blocks 0 bytes 8 rounds 64 conflicts 100000 weight 100000\n",
+        rows: "@f correct\n",
+        last: ONE_CORRECT,
         status: 0,
     },
 ];

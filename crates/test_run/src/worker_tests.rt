@@ -1,6 +1,6 @@
 //! Workers: that they judge beside each other, and that the report is the same for each number.
 
-use crate::asking::{DEFAULTS, NO_ROWS, Row, arguments_of, is_answered, shelf_of};
+use crate::asking::{DEFAULTS, NO_ROWS, ONE_CORRECT, Row, arguments_of, is_answered, shelf_of};
 use pair_driver::Gate;
 use std::sync::atomic::{AtomicU64, Ordering};
 use std::test::*;
@@ -11,14 +11,18 @@ const NO_FUNCTION: &str = "; no function\n";
 
 const ONE_FUNCTION: &str = "define i8 @f() {\n  ret i8 7\n}\n";
 
-const THREE_FUNCTIONS: &str =
-    "define i8 @f() {\n  ret i8 7\n}\ndefine i8 @g() {\n  ret i8 7\n}\ndefine i8 @h() {\n  ret i8 7\n}\n";
+const THREE_FUNCTIONS: &str = "define i8 @f() {\n  ret i8 7\n}\n\
+     define i8 @g() {\n  ret i8 7\n}\n\
+     define i8 @h() {\n  ret i8 7\n}\n";
 
-const OTHER_SECOND: &str =
-    "define i8 @f() {\n  ret i8 7\n}\ndefine i8 @g() {\n  ret i8 6\n}\ndefine i8 @h() {\n  ret i8 7\n}\n";
+const OTHER_SECOND: &str = "define i8 @f() {\n  ret i8 7\n}\n\
+     define i8 @g() {\n  ret i8 6\n}\n\
+     define i8 @h() {\n  ret i8 7\n}\n";
 
-const FOUR_FUNCTIONS: &str =
-    "define i8 @a() {\n  ret i8 7\n}\ndefine i8 @b() {\n  ret i8 7\n}\ndefine i8 @c() {\n  ret i8 7\n}\ndefine i8 @d() {\n  ret i8 7\n}\n";
+const FOUR_FUNCTIONS: &str = "define i8 @a() {\n  ret i8 7\n}\n\
+     define i8 @b() {\n  ret i8 7\n}\n\
+     define i8 @c() {\n  ret i8 7\n}\n\
+     define i8 @d() {\n  ret i8 7\n}\n";
 
 #[test]
 fn reports_do_not_depend_on_the_number_of_workers(rt: HostRuntime) -> Result<(), Fail> {
@@ -27,26 +31,22 @@ fn reports_do_not_depend_on_the_number_of_workers(rt: HostRuntime) -> Result<(),
         "tv check --workers 2 A B",
         "tv check --workers 64 A B",
     ] {
-        for (name, source, target, rows, status) in [
-            ("no pairs", NO_FUNCTION, NO_FUNCTION, ["", NO_ROWS], 0),
+        for (name, source, target, rows, last, status) in [
+            ("no pairs", NO_FUNCTION, NO_FUNCTION, "", NO_ROWS, 0),
             (
                 "a pair that holds",
                 ONE_FUNCTION,
                 ONE_FUNCTION,
-                [
-                    "@f correct\n",
-                    "correct 1 incorrect 0 unknown 0 refused 0 signature 0 missing 0 extra 0\n",
-                ],
+                "@f correct\n",
+                ONE_CORRECT,
                 0,
             ),
             (
                 "the second of three is wrong",
                 THREE_FUNCTIONS,
                 OTHER_SECOND,
-                [
-                    "@f correct\n@g incorrect\n  source returns 7\n  target returns 6\n@h correct\n",
-                    "correct 2 incorrect 1 unknown 0 refused 0 signature 0 missing 0 extra 0\n",
-                ],
+                "@f correct\n@g incorrect\n  source returns 7\n  target returns 6\n@h correct\n",
+                "correct 2 incorrect 1 unknown 0 refused 0 signature 0 missing 0 extra 0\n",
                 1,
             ),
         ] {
@@ -55,7 +55,9 @@ fn reports_do_not_depend_on_the_number_of_workers(rt: HostRuntime) -> Result<(),
                 line,
                 source,
                 target,
-                output: [DEFAULTS, rows[0], rows[1]],
+                first: DEFAULTS,
+                rows,
+                last,
                 status,
             };
             assert!(rt; is_answered(&rt, &row)?, "{line}: {name}");
