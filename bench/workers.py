@@ -3,10 +3,10 @@
 
     bench/workers.py [PATH OF tv]        (default: crates/tv/out/tv)
 
-Two modules, each judged with 1, 2 and 4 workers; the reports have to be the same. In the first, 256
-pairs cost about the same: the ratio of the times is the gain. In the second, one heavy pair comes
-first, and 255 light ones after it: with more than one worker the whole should take little longer than
-the heavy pair alone. Run it on an idle machine. No test depends on these figures.
+Modules that are judged with 1, 2 and 4 workers; the reports have to be the same. In the first, 256
+pairs cost about the same: the ratio of the times is the gain. In the last, one heavy pair comes first,
+and 255 light ones after it: with more workers the whole should take little longer than the heavy pair
+alone. Run it on an idle machine, for some two minutes. No test depends on these figures.
 """
 import os
 import subprocess
@@ -15,27 +15,30 @@ import tempfile
 import time
 
 PAIRS = 256
-RUNS = 3
-EQUAL = ("  %a = add i8 %x, %y\n  %b = add i8 %a, %x\n  ret i8 %b", "  %a = add i8 %x, %x\n  %b = add i8 %a, %y\n  ret i8 %b")
-HEAVY = ("  %r = udiv i8 %x, %x\n  ret i8 %r", "  ret i8 1")
+RUNS = 1
+EQUAL = (8, "  %a = add i8 %x, %y\n  %b = add i8 %a, %x\n  ret i8 %b", "  %a = add i8 %x, %x\n  %b = add i8 %a, %y\n  ret i8 %b")
+HEAVY = (6, "  %a = udiv i6 %x, %y\n  %b = mul i6 %a, %y\n  %r = sub i6 %x, %b\n  ret i6 %r", "  %r = urem i6 %x, %y\n  ret i6 %r")
 
 
-def module(bodies):
-    return "".join(f"define i8 @f{k}(i8 %x, i8 %y) {{\n{body}\n}}\n" for k, body in enumerate(bodies))
+def module(pairs, side):
+    return "".join(
+        f"define i{pair[0]} @f{k}(i{pair[0]} %x, i{pair[0]} %y) {{\n{pair[side]}\n}}\n"
+        for k, pair in enumerate(pairs)
+    )
 
 
-def measured(tv, pairs):
+def measured(tv, pairs, options):
     """The best time of a few runs for each number of workers, and whether all reports were one."""
     with tempfile.TemporaryDirectory() as folder:
         names = [os.path.join(folder, name) for name in ("before.ll", "after.ll")]
-        for side, name in enumerate(names):
+        for side, name in enumerate(names, 1):
             with open(name, "w") as file:
-                file.write(module([pair[side] for pair in pairs]))
+                file.write(module(pairs, side))
         best, reports = {}, set()
         for workers in (1, 2, 4):
             for _ in range(RUNS):
                 start = time.perf_counter()
-                done = subprocess.run([tv, "check", "--workers", str(workers), *names], capture_output=True)
+                done = subprocess.run([tv, "check", *options, "--workers", str(workers), *names], capture_output=True)
                 taken = time.perf_counter() - start
                 best[workers] = min(taken, best.get(workers, taken))
                 reports.add((done.returncode, done.stdout))
@@ -44,12 +47,13 @@ def measured(tv, pairs):
 
 def main():
     tv = sys.argv[1] if len(sys.argv) > 1 else "crates/tv/out/tv"
-    for title, pairs in (
-        (f"{PAIRS} equal pairs", [EQUAL] * PAIRS),
-        ("one heavy pair", [HEAVY]),
-        (f"one heavy pair, {PAIRS - 1} light ones", [HEAVY] + [EQUAL] * (PAIRS - 1)),
+    light = ("--blocks", "0")
+    for title, pairs, options in (
+        (f"{PAIRS} equal pairs", [EQUAL] * PAIRS, ()),
+        ("one heavy pair", [HEAVY], light),
+        (f"one heavy pair, {PAIRS - 1} light ones", [HEAVY] + [EQUAL] * (PAIRS - 1), light),
     ):
-        best, same = measured(tv, pairs)
+        best, same = measured(tv, pairs, options)
         times = "  ".join(f"{workers}: {seconds:6.2f} s" for workers, seconds in best.items())
         print(f"{title:>32}  {times}  1 to 4: {best[1] / best[4]:4.2f} times  {'one report' if same else 'REPORTS DIFFER'}")
 
