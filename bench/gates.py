@@ -3,9 +3,10 @@
 
     bench/gates.py [PATH OF bench_gates]        (default: crates/bench_gates/out/bench_gates)
 
-Ours are and gates without the inputs, and the clauses that ask for the highest bit of the result. Those
-of z3 are the clauses of its own bit blasting of the same question (`apt-get install python3-z3`); the
-column is left out where z3 isn't there. No test rests on these figures.
+Ours are gates without the inputs, and the clauses that ask whether the result is 0 (of a comparison:
+whether it holds). Those of z3 are the clauses of its own bit blasting of the operation, where all bits
+of the result are made and the highest is asked for (`apt-get install python3-z3`); the column is left
+out where z3 isn't there. No test rests on these figures.
 """
 import subprocess
 import sys

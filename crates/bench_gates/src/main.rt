@@ -1,9 +1,9 @@
 //! How many gates and clauses each operation on terms takes.
 //!
 //! For each width among its words it prints a line for each operation: its name, the width, the gates without the inputs,
-//! and the clauses that ask for the highest bit of the result. `bench/gates.py` sets these lines
-//! beside what another tool makes of the same questions. It promises nothing; it stands on
-//! `bit_blast`, and nothing stands on it.
+//! and the clauses that ask whether the result is 0, so that each bit of it is needed, or of a
+//! comparison whether it holds. `bench/gates.py` sets these lines beside what another tool makes of
+//! the same operations. It promises nothing; it stands on `bit_blast`, and nothing stands on it.
 #![tactic(auto)]
 
 ghost use Rattle.std.specs.Prelude.{◌≤◌};
@@ -86,18 +86,20 @@ fn counts(alloc: Global, operation: Operation, width: u32) -> Result<(usize, usi
     let mut terms = Terms::new(alloc);
     let a = terms.variable(0, width)?;
     let b = terms.variable(1, width)?;
-    let goal = term_of(&mut terms, operation, a, b)?;
+    let result = term_of(&mut terms, operation, a, b)?;
+    let zero = terms.constant(0, width)?;
+    let goal = term_of(&mut terms, Operation::Equal, result, zero)?;
     let mut blast = Blast::new(alloc);
     let Ok(bits) = fold(alloc, &terms, &mut blast) else {
         return Err(NoMemory);
     };
     let inputs = blast.inputs()?;
     let circuit = blast.circuit();
-    let highest = bits
+    let asked = bits
         .get(goal.index)
         .and_then(|digits| digits.as_slice().first().copied());
     let gates = circuit.len().saturating_sub(inputs.len());
-    match highest {
+    match asked {
         Some(out) if out.index < circuit.len() => {
             let cnf = to_cnf(alloc, circuit, out, &inputs)?;
             Ok((gates, cnf.clauses.len()))

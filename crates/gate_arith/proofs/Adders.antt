@@ -1,5 +1,5 @@
 -- Sums digit by digit.
-use Rattle.std.proofs.Common.{ℕ, suc, ◌≡◌, ◌<◌, ◌≤◌, ◌+◌, ◌-◌, ◌*◌, ◌%◌, ◌^◌, ◌++◌, Bool, true, false, not, ◌&&◌, ◌||◌, List, [], ◌∷◌, get_or, drop, map, reverse, length, arith, sym, ap, subst, refl, ◌∙◌, length-append}
+use Rattle.std.proofs.Common.{ℕ, suc, ◌≡◌, ◌<◌, ◌≤◌, ◌+◌, ◌-◌, ◌*◌, ◌%◌, ◌^◌, ◌++◌, Bool, true, false, not, cond, List, [], ◌∷◌, get_or, drop, map, reverse, length, arith, sym, ap, subst, refl, ◌∙◌, length-append}
 use Rattle.std.specs.Prelude.{nat_lt}
 use Rattle.std.proofs.Math.Nat.{pow-suc, add-mul-mod_self_right, mod-eq_of_lt}
 use Rattle.std.proofs.lemmas.List.{length-map, length-reverse, length-drop, reverse-append, drop_more, drop_all}
@@ -12,7 +12,7 @@ use Rattle.gate_arith.specs.Adder.{IsDifference, IsFullSum}
 use Rattle.gate_arith.specs.Numbers.{AreGates, IsSum, Writes, number_at}
 use Rattle.gate_arith.proofs.Digits.{keeps_self, keeps_trans, gates_later, gates_push, number-kept, number-at-below}
 
-full : (a b c : Bool) → digit (exclusive (exclusive a b) c) + 2 * digit ((a && b) || (exclusive a b && c)) ≡ digit a + digit b + digit c
+full : (a b c : Bool) → digit (exclusive (exclusive a b) c) + 2 * digit (cond (exclusive a b) c a) ≡ digit a + digit b + digit c
 full true true true = refl
 full true true false = refl
 full true false true = refl
@@ -22,38 +22,29 @@ full false true false = refl
 full false false true = refl
 full false false false = refl
 
--- the five gates of a full adder, one after the other
-pub full-adds : (g0 g1 g2 g3 g4 g5 : List Gate) (a b c half sum both passed carry : GateId)
+-- the three gates of a full adder, one after the other
+pub full-adds : (g0 g1 g2 g3 : List Gate) (a b c half sum carry : GateId)
     → a.index < length g0 → b.index < length g0 → c.index < length g0
     → Keeps g0 g1 → Makes g1 half (λ v. exclusive (gate_at v g0 a) (gate_at v g0 b))
     → Keeps g1 g2 → Makes g2 sum (λ v. exclusive (gate_at v g1 half) (gate_at v g1 c))
-    → Keeps g2 g3 → Makes g3 both (λ v. gate_at v g2 a && gate_at v g2 b)
-    → Keeps g3 g4 → Makes g4 passed (λ v. gate_at v g3 half && gate_at v g3 c)
-    → Keeps g4 g5 → Makes g5 carry (λ v. gate_at v g4 both || gate_at v g4 passed)
-    → IsFullSum g0 g5 a b c sum carry
-full-adds g0 g1 g2 g3 g4 g5 a b c half sum both passed carry ia ib ic k1 m1 k2 m2 k3 m3 k4 m4 k5 m5 =
+    → Keeps g2 g3 → Makes g3 carry (λ v. cond (gate_at v g2 half) (gate_at v g2 c) (gate_at v g2 a))
+    → IsFullSum g0 g3 a b c sum carry
+full-adds g0 g1 g2 g3 a b c half sum carry ia ib ic k1 m1 k2 m2 k3 m3 =
     let k02 = keeps_trans g0 g1 g2 k1 k2 in
-    let k03 = keeps_trans g0 g2 g3 k02 k3 in
-    let k13 = keeps_trans g1 g2 g3 k2 k3 in
-    let k35 = keeps_trans g3 g4 g5 k4 k5 in
-    let k25 = keeps_trans g2 g3 g5 k3 k35 in
     record {
-      within = omega (arith, m2.within, k25.longer);
-      out = m5.within;
+      within = omega (arith, m2.within, k3.longer);
+      out = m3.within;
       says = λ v.
           let x = gate_at v g0 a in
           let y = gate_at v g0 b in
           let z = gate_at v g0 c in
           let h1 : gate_at v g1 half ≡ exclusive x y = m1.says v in
-          let s : gate_at v g5 sum ≡ exclusive (exclusive x y) z =
-          k25.kept v sum m2.within ∙ (m2.says v ∙ (ap (λ p. exclusive p (gate_at v g1 c)) h1 ∙ ap (λ p. exclusive (exclusive x y) p) (k1.kept v c ic))) in
-          let bo : gate_at v g4 both ≡ (x && y) =
-          k4.kept v both m3.within ∙ (m3.says v ∙ (ap (λ p. p && gate_at v g2 b) (k02.kept v a ia) ∙ ap (λ p. x && p) (k02.kept v b ib))) in
-          let h3 : gate_at v g3 half ≡ exclusive x y = k13.kept v half m1.within ∙ h1 in
-          let pa : gate_at v g4 passed ≡ (exclusive x y && z) =
-          m4.says v ∙ (ap (λ p. p && gate_at v g3 c) h3 ∙ ap (λ p. exclusive x y && p) (k03.kept v c ic)) in
-          let ca : gate_at v g5 carry ≡ ((x && y) || (exclusive x y && z)) =
-          m5.says v ∙ (ap (λ p. p || gate_at v g4 passed) bo ∙ ap (λ p. (x && y) || p) pa) in
+          let s : gate_at v g3 sum ≡ exclusive (exclusive x y) z =
+          k3.kept v sum m2.within ∙ (m2.says v ∙ (ap (λ p. exclusive p (gate_at v g1 c)) h1 ∙ ap (λ p. exclusive (exclusive x y) p) (k1.kept v c ic))) in
+          let h2 : gate_at v g2 half ≡ exclusive x y = k2.kept v half m1.within ∙ h1 in
+          let ca : gate_at v g3 carry ≡ cond (exclusive x y) z x =
+          m3.says v ∙ (ap (λ p. cond p (gate_at v g2 c) (gate_at v g2 a)) h2
+          ∙ (ap (λ p. cond (exclusive x y) p (gate_at v g2 a)) (k02.kept v c ic) ∙ ap (λ p. cond (exclusive x y) z p) (k02.kept v a ia))) in
           rw (s, ca) (full x y z);
     }
 

@@ -17,7 +17,8 @@ pub struct Carried {
     pub carry: GateId,
 }
 
-/// The sum of three digits and what it carries.
+/// The sum of three digits and what it carries: where the first two differ the third is passed on, and
+/// else either of the two is the carry.
 fn full_adder(
     circuit: &mut Circuit,
     a: GateId,
@@ -32,9 +33,7 @@ fn full_adder(
 {
     let half = circuit.xor(a, b)?;
     let digit = circuit.xor(half, c)?;
-    let both = circuit.and(a, b)?;
-    let passed = circuit.and(half, c)?;
-    let carry = circuit.or(both, passed)?;
+    let carry = circuit.choose(half, c, a)?;
     Ok((digit, carry))
 }
 

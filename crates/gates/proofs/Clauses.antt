@@ -111,3 +111,45 @@ and-says v cs items own a b first second third e1 e2 e3 is =
     ∙ (ap (λ t. ((k && (not o || x)) && t) && clause_true v third) f2 ∙ ap (λ t. ((k && (not o || x)) && (not o || y)) && t) f3)))) in
     let iff = and-iff k o x y in
     (λ h. iff.0 (sym all ∙ h), λ h. all ∙ iff.1 h)
+
+choose-iff : (k o c a b : Bool)
+    → (((((k && (not c || (not a || o))) && (not c || (a || not o))) && (c || (not b || o))) && (c || (b || not o))) ≡ true) ↔ ((k ≡ true) × (o ≡ cond c a b))
+choose-iff true true true true b = (λ _. (refl, refl), λ _. refl)
+choose-iff true true true false b = (λ e. cc, λ h. let x = h.1 in cc)
+choose-iff true true false a true = (λ _. (refl, refl), λ _. refl)
+choose-iff true true false a false = (λ e. cc, λ h. let x = h.1 in cc)
+choose-iff true false true true b = (λ e. cc, λ h. let x = h.1 in cc)
+choose-iff true false true false b = (λ _. (refl, refl), λ _. refl)
+choose-iff true false false a true = (λ e. cc, λ h. let x = h.1 in cc)
+choose-iff true false false a false = (λ _. (refl, refl), λ _. refl)
+choose-iff false o c a b = (λ e. cc, λ h. let x = h.0 in cc)
+
+-- the four clauses of a choice
+pub choose-says : (v : ℕ → Bool) (cs items : List (List Lit)) (own c a b : Lit) (first second third fourth : List Lit)
+    → clause_true v first ≡ (lit_true v (opposite_of c) || (lit_true v (opposite_of a) || lit_true v own))
+    → clause_true v second ≡ (lit_true v (opposite_of c) || (lit_true v a || lit_true v (opposite_of own)))
+    → clause_true v third ≡ (lit_true v c || (lit_true v (opposite_of b) || lit_true v own))
+    → clause_true v fourth ≡ (lit_true v c || (lit_true v b || lit_true v (opposite_of own)))
+    → items ≡ (((cs ++ first ∷ []) ++ second ∷ []) ++ third ∷ []) ++ fourth ∷ []
+    → (clauses_true v items ≡ true) ↔ ((clauses_true v cs ≡ true) × (lit_true v own ≡ cond (lit_true v c) (lit_true v a) (lit_true v b)))
+choose-says v cs items own c a b first second third fourth e1 e2 e3 e4 is =
+    let o = lit_true v own in
+    let x = lit_true v c in
+    let y = lit_true v a in
+    let z = lit_true v b in
+    let k = clauses_true v cs in
+    let f1 : clause_true v first ≡ (not x || (not y || o)) = e1 ∙ (ap (λ t. t || (lit_true v (opposite_of a) || o)) (lit-opposite v c) ∙ ap (λ t. not x || (t || o)) (lit-opposite v a)) in
+    let f2 : clause_true v second ≡ (not x || (y || not o)) = e2 ∙ (ap (λ t. t || (y || lit_true v (opposite_of own))) (lit-opposite v c) ∙ ap (λ t. not x || (y || t)) (lit-opposite v own)) in
+    let f3 : clause_true v third ≡ (x || (not z || o)) = e3 ∙ ap (λ t. x || (t || o)) (lit-opposite v b) in
+    let f4 : clause_true v fourth ≡ (x || (z || not o)) = e4 ∙ ap (λ t. x || (z || t)) (lit-opposite v own) in
+    let all : clauses_true v items ≡ ((((k && (not x || (not y || o))) && (not x || (y || not o))) && (x || (not z || o))) && (x || (z || not o))) =
+    ap (clauses_true v) is ∙ (clauses-push v (((cs ++ first ∷ []) ++ second ∷ []) ++ third ∷ []) fourth
+    ∙ (ap (λ t. t && clause_true v fourth) (clauses-push v ((cs ++ first ∷ []) ++ second ∷ []) third)
+    ∙ (ap (λ t. (t && clause_true v third) && clause_true v fourth) (clauses-push v (cs ++ first ∷ []) second)
+    ∙ (ap (λ t. ((t && clause_true v second) && clause_true v third) && clause_true v fourth) (clauses-push v cs first)
+    ∙ (ap (λ t. (((k && t) && clause_true v second) && clause_true v third) && clause_true v fourth) f1
+    ∙ (ap (λ t. (((k && (not x || (not y || o))) && t) && clause_true v third) && clause_true v fourth) f2
+    ∙ (ap (λ t. (((k && (not x || (not y || o))) && (not x || (y || not o))) && t) && clause_true v fourth) f3
+    ∙ ap (λ t. (((k && (not x || (not y || o))) && (not x || (y || not o))) && (x || (not z || o))) && t) f4))))))) in
+    let iff = choose-iff k o x y z in
+    (λ h. iff.0 (sym all ∙ h), λ h. all ∙ iff.1 h)

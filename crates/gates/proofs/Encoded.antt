@@ -1,5 +1,5 @@
 -- The clauses that say what the gates do have one model over each assignment of the inputs.
-use Rattle.std.proofs.Common.{ℕ, zero, suc, ◌≡◌, ◌<◌, ◌≤◌, ◌+◌, ◌-◌, ◌++◌, ◌↔◌, Bool, true, false, List, [], ◌∷◌, Some, get_or, slice_get, map, take, drop, length, arith, ap, sym, subst, refl, ◌∙◌}
+use Rattle.std.proofs.Common.{All, ℕ, suc, ◌≡◌, ◌<◌, ◌≤◌, ◌+◌, ◌-◌, ◌++◌, ◌↔◌, inl, inr, Bool, true, false, List, [], ◌∷◌, Some, get_or, slice_get, map, take, drop, length, arith, ap, sym, subst, refl, ◌∙◌}
 use Rattle.std.specs.Prelude.{Contains}
 use Rattle.std.proofs.lemmas.List.{length-map, get_or-map, get_or-take, drop_more, take_all}
 use Rattle.clause_lits.specs.declared.lit.Lit.{Lit}
@@ -8,33 +8,33 @@ use Rattle.clause_lits.specs.Meaning as meaning
 use Rattle.clause_lits.specs.Meaning.{IsModel, clauses_true, lit_true}
 use Rattle.gates.specs.declared.circuit.GateId.{GateId}
 use Rattle.gates.specs.declared.circuit.Gate.{Gate}
-use Rattle.gates.specs.Values.{AreFit, exclusive, gate_at, inputs_of, values_of}
+use Rattle.gates.specs.declared.circuit.Gate.TheVariants.{Input}
+use Rattle.gates.specs.Values.{AreFit, IsFit, exclusive, gate_at, inputs_of, values_of}
 use Rattle.gates.specs.Facts.{AreFacts}
-use Rattle.gates.specs.Numbering.{AreNamed, IsNumbering}
-use Rattle.gates.specs.Encoding.{AreAllNamed, AreInputs, Encodes}
-use Rattle.gates.proofs.FactLemmas.{input_within, value-input, value_fact, values-determined, values-same}
+use Rattle.gates.specs.Cone.{IsNeeded, operands}
+use Rattle.gates.specs.Cone.IsNeeded.{output, operand}
+use Rattle.gates.specs.Numbering.{HasNumber, IsNumberingOf}
+use Rattle.gates.specs.Encoding.{AreAllNamed, AreInputs, Encodes, Extends}
+use Rattle.gates.proofs.Stages.{input-place}
+use Rattle.gates.proofs.FactLemmas.{fit_stored, input_named, value-input, value_fact, values-determined}
+use Rattle.gates.proofs.Marks.{all-contains, operands-below}
+use Rattle.gates.proofs.Named.{number-ranged, within_order}
 
 -- what is known once the clauses are made
 pub record IsEncoding (gates : List Gate) (out : GateId) (order : List GateId) (cnf : Cnf) : Type 0 where
   pub number : List ℕ
   pub gate_of : List ℕ
   pub fit : AreFit 0 gates
-  pub numbering : IsNumbering (length gates) number gate_of
-  pub named : AreNamed number order (length order)
-  pub room : length order ≤ length gates
-  pub variables : cnf.variables ≡ length gates
+  pub inputs : AreInputs gates order
+  pub numbering : IsNumberingOf gates out.index order number gate_of
+  pub variables : cnf.variables ≡ length gate_of
   pub front : cnf.front ≡ length order
   pub body : List (List Lit)
   pub literal : Lit
   pub clauses : cnf.clauses ≡ body ++ (literal ∷ []) ∷ []
-  pub says : (v : ℕ → Bool) → (clauses_true v body ≡ true) ↔ AreFacts v number gates (length gates)
+  pub says : (v : ℕ → Bool) → (clauses_true v body ≡ true) ↔ AreFacts v number gates gate_of (length gate_of)
   pub within : out.index < length gates
   pub output : (v : ℕ → Bool) → lit_true v literal ≡ exclusive out.negated (v (get_or number out.index 0))
-
-within_order : (order : List GateId) (j : ℕ) (a : GateId) → slice_get order j ≡ Some a → j < length order
-within_order [] j a e = absurd (let z : ⊥ = cc in z)
-within_order (x ∷ xs) zero a e = omega arith
-within_order (x ∷ xs) (suc j) a e = omega (arith, within_order xs j a e)
 
 same_list : (xs ys : List Bool) → length xs ≡ length ys → ((j : ℕ) → j < length xs → get_or xs j false ≡ get_or ys j false) → xs ≡ ys
 same_list [] [] e h = refl
@@ -48,84 +48,108 @@ module _ (gates : List Gate) (out : GateId) (order : List GateId) (cnf : Cnf) (e
   places_for : List Bool → List Bool
   places_for values = map (λ g. get_or values g false) e.gate_of
 
-  places-at : (values : List Bool) (i : ℕ) → i < length gates → meaning.values_of (places_for values) (get_or e.number i 0) ≡ get_or values i false
+  places-at : (values : List Bool) (i : ℕ) → HasNumber e.number i → meaning.values_of (places_for values) (get_or e.number i 0) ≡ get_or values i false
   unfolding places_for
-  places-at values i lt =
-      let r = e.numbering.ranged i lt in
-      let inside : get_or e.number i 0 - 1 < length e.gate_of = omega (arith, e.numbering.long, r.0, r.1) in
-      get_or-map (λ g. get_or values g false) e.gate_of (get_or e.number i 0 - 1) 0 false inside ∙ ap (λ g. get_or values g false) (e.numbering.back i lt)
+  places-at values i has =
+      let b = e.numbering.numbering.back i has in
+      let inside : get_or e.number i 0 - 1 < length e.gate_of = omega (arith, b.0, has) in
+      get_or-map (λ g. get_or values g false) e.gate_of (get_or e.number i 0 - 1) 0 false inside ∙ ap (λ g. get_or values g false) b.1
 
-  model : (inputs : ℕ → Bool) → (places : List Bool) × IsModel cnf.variables e.body places
-      × ((i : ℕ) → Contains (inputs_of gates) i → meaning.values_of places (get_or e.number i 0) ≡ inputs i)
+  below-at : (i : ℕ) (g : Gate) → slice_get gates i ≡ Some g → All (λ j. j < i) (operands g)
+  below-at i g at = operands-below i g (subst (λ n. IsFit n g) (let z : 0 + i ≡ i = omega arith in z) (fit_stored 0 gates i g e.fit at))
+
+  -- an input is at its own place
+  input_own : (i place : ℕ) → slice_get gates i ≡ Some (Input place) → place ≡ i
+  input_own i place at = omega (arith, input-place 0 gates i place e.fit at)
+
+  model : (inputs : ℕ → Bool) → (places : List Bool) × IsModel cnf.variables e.body places × Extends gates e.number inputs places
   unfolding places_for
   model inputs =
       let values = values_of inputs gates in
       let places = places_for values in
-      let facts : AreFacts (meaning.values_of places) e.number gates (length gates) = λ i g lt at.
-      value_fact inputs (λ k. meaning.values_of places (get_or e.number k 0)) gates e.fit (λ k low. places-at values k low) i g lt at in (
+      let w : ℕ → Bool = λ k. meaning.values_of places (get_or e.number k 0) in
+      let facts : AreFacts (meaning.values_of places) e.number gates e.gate_of (length e.gate_of) = λ j g lt at.
+      (let i = get_or e.gate_of j 0 in
+      let forth = e.numbering.numbering.forth j lt in
+      let has : HasNumber e.number i = omega (arith, forth.1) in
+      value_fact inputs w gates e.fit i g at (sym (places-at values i has))
+      (λ k d l. sym (places-at values (get_or (operands g) k d) (e.numbering.closed i g has at k d l)))
+      (λ place is.
+      let here = at ∙ ap Some is in
+      let own = input_own i place here in
+      sym (value-input inputs gates place e.fit (input_named gates i place here)) ∙ sym (places-at values place (subst (HasNumber e.number) (sym own) has)))) in (
         places,
-        (length-map e.gate_of (λ g. get_or values g false) ∙ (e.numbering.long ∙ sym e.variables), (e.says (meaning.values_of places)).1 facts),
-        λ i h. places-at values i (input_within gates i e.fit h) ∙ value-input inputs gates i e.fit h,
+        (length-map e.gate_of (λ g. get_or values g false) ∙ sym e.variables, (e.says (meaning.values_of places)).1 facts),
+        λ i h has. places-at values i has ∙ value-input inputs gates i e.fit h,
       )
 
-  determined : (places : List Bool) → IsModel cnf.variables e.body places → (i : ℕ) → i < length gates
-      → get_or (values_of (λ k. meaning.values_of places (get_or e.number k 0)) gates) i false ≡ meaning.values_of places (get_or e.number i 0)
-  determined places m i lt =
+  -- in a model each gate with a variable has its value in the circuit
+  determined : (inputs : ℕ → Bool) (places : List Bool) → IsModel cnf.variables e.body places → Extends gates e.number inputs places → (i : ℕ) → i < length gates → HasNumber e.number i
+      → get_or (values_of inputs gates) i false ≡ meaning.values_of places (get_or e.number i 0)
+  determined inputs places m extends i lt has =
+      let w : ℕ → Bool = λ k. meaning.values_of places (get_or e.number k 0) in
       let facts = (e.says (meaning.values_of places)).0 m.1 in
-      values-determined (λ k. meaning.values_of places (get_or e.number k 0)) gates e.fit (λ k g at. facts k g (within_gates gates k g at) at) i lt
-    where
-      within_gates : (gs : List Gate) (k : ℕ) (g : Gate) → slice_get gs k ≡ Some g → k < length gs
-      within_gates [] k g at = absurd (let z : ⊥ = cc in z)
-      within_gates (x ∷ xs) zero g at = omega arith
-      within_gates (x ∷ xs) (suc k) g at = omega (arith, within_gates xs k g at)
+      values-determined inputs w gates e.fit (HasNumber e.number) below-at e.numbering.closed
+      (λ k g own at.
+      let b = e.numbering.numbering.back k own in
+      let inside : get_or e.number k 0 - 1 < length e.gate_of = omega (arith, b.0, own) in
+      let fact = facts (get_or e.number k 0 - 1) g inside (ap (slice_get gates) b.1 ∙ at) in
+      ap w (sym b.1) ∙ fact)
+      (λ k place own at. sym (extends place (input_named gates k place at) (subst (HasNumber e.number) (sym (input_own k place at)) own)))
+      i lt has
 
-  one : (a b : List Bool) → IsModel cnf.variables e.body a → IsModel cnf.variables e.body b
-      → ((i : ℕ) → Contains (inputs_of gates) i → meaning.values_of a (get_or e.number i 0) ≡ meaning.values_of b (get_or e.number i 0)) → a ≡ b
-  one a b ma mb h =
-      let va : ℕ → Bool = λ k. meaning.values_of a (get_or e.number k 0) in
-      let vb : ℕ → Bool = λ k. meaning.values_of b (get_or e.number k 0) in
-      let same = values-same va vb gates h in
+  one : (inputs : ℕ → Bool) (a b : List Bool) → IsModel cnf.variables e.body a → IsModel cnf.variables e.body b → Extends gates e.number inputs a → Extends gates e.number inputs b → a ≡ b
+  one inputs a b ma mb ea eb =
       same_list a b (ma.0 ∙ sym mb.0) (λ j lt.
-      let low : j < length gates = omega (arith, ma.0, e.variables) in
+      let low : j < length e.gate_of = omega (arith, lt, ma.0, e.variables) in
       let g = get_or e.gate_of j 0 in
-      let inside = e.numbering.inside j low in
-      let both : va g ≡ vb g = sym (determined a ma g inside) ∙ (ap (λ vs. get_or vs g false) same ∙ determined b mb g inside) in
-      let forth = e.numbering.forth j low in
-      let back : j + 1 - 1 ≡ j = omega arith in
-      let here = rw forth at both in
-      sym (ap (λ k. get_or a k false) back) ∙ (here ∙ ap (λ k. get_or b k false) back))
+      let forth = e.numbering.numbering.forth j low in
+      let has : HasNumber e.number g = omega (arith, forth.1) in
+      let both = sym (determined inputs a ma ea g forth.0 has) ∙ determined inputs b mb eb g forth.0 has in
+      let at : get_or e.number g 0 - 1 ≡ j = omega (arith, forth.1) in
+      sym (ap (λ k. get_or a k false) at) ∙ (both ∙ ap (λ k. get_or b k false) at))
 
-  output : (places : List Bool) → IsModel cnf.variables e.body places
-      → lit_true (meaning.values_of places) e.literal ≡ gate_at (λ i. meaning.values_of places (get_or e.number i 0)) gates out
+  output-value : (inputs : ℕ → Bool) (places : List Bool) → IsModel cnf.variables e.body places → Extends gates e.number inputs places
+      → lit_true (meaning.values_of places) e.literal ≡ gate_at inputs gates out
   unfolding gate_at
-  output places m = e.output (meaning.values_of places) ∙ ap (λ b. exclusive out.negated b) (sym (determined places m out.index e.within))
+  output-value inputs places m extends =
+      e.output (meaning.values_of places) ∙ ap (λ b. exclusive out.negated b) (sym (determined inputs places m extends out.index e.within e.numbering.root))
+
+  -- what the output needs has a variable
+  needed-number : (i : ℕ) → IsNeeded gates out.index i → HasNumber e.number i
+  needed-number i output = e.numbering.root
+  needed-number i (operand {i = k} {g = g} h at among) = all-contains (HasNumber e.number) (operands g) i (e.numbering.closed k g (needed-number k h) at) among
 
   pub encoded : Encodes gates out order cnf
   encoded = record {
     number = e.number;
-    numbered = e.numbering.numbered;
-    variables = e.variables;
-    ranged = e.numbering.ranged;
-    apart = λ i j li lj same. sym (e.numbering.back i li) ∙ (ap (λ k. get_or e.gate_of (k - 1) 0) same ∙ e.numbering.back j lj);
+    numbered = e.numbering.numbering.numbered;
+    ranged = λ i. omega (arith, number-ranged (length gates) e.number e.gate_of e.numbering.numbering i, e.variables);
+    apart = λ i j has same.
+        let b = e.numbering.numbering.back i has in
+        let c = e.numbering.numbering.back j (omega (arith, has, same)) in
+        sym b.1 ∙ (ap (λ k. get_or e.gate_of (k - 1) 0) same ∙ c.1);
+    used = λ x some le.
+        let f = e.numbering.numbering.forth (x - 1) (omega (arith, some, le, e.variables)) in
+        (get_or e.gate_of (x - 1) 0, omega (arith, f.1, some));
+    cone = λ i. (
+      e.numbering.cone i,
+      λ h. elim h [
+        | inl named ↦ (let at = e.numbering.named named.0 named.1 named.2 in let is = ap (λ k. get_or e.number k 0) named.3 in omega (arith, at, is))
+        | inr needed ↦ needed-number i needed
+      ],
+    );
     front = e.front;
-    ordered = λ j a at. e.named j a (within_order order j a at) at;
+    ordered = e.numbering.named;
     body = e.body;
     literal = e.literal;
     clauses = e.clauses;
     model = model;
     one = one;
-    output = output;
+    output = output-value;
   }
 
 -- ---- fronts
-
--- what holds of all holds of the one at a place
-pub inputs_stored : (gates : List Gate) (order : List GateId) → AreInputs gates order → (j : ℕ) (a : GateId) → slice_get order j ≡ Some a → Contains (inputs_of gates) a.index
-inputs_stored gates [] h j a e = absurd (let z : ⊥ = cc in z)
-inputs_stored gates (x ∷ xs) h zero a e =
-    let is : x ≡ a = cc in
-    subst (λ (g : GateId). Contains (inputs_of gates) g.index) is (h 0 a (omega arith)).input
-inputs_stored gates (x ∷ xs) h (suc j) a e = inputs_stored gates xs (λ i d lt. h (suc i) d (omega arith)) j a e
 
 -- the first places are the values of the gates that have these variables
 front-from : (number : List ℕ) (places : List Bool) (k : ℕ) (order : List GateId) → ((j : ℕ) (a : GateId) → slice_get order j ≡ Some a → get_or number a.index 0 ≡ (k + j) + 1)
@@ -153,7 +177,7 @@ body-same (a ∷ xs) (b ∷ ys) x y e =
     let tail : xs ++ x ∷ [] ≡ ys ++ y ∷ [] = cc in
     ap (λ z. z ∷ xs) head ∙ ap (λ zs. b ∷ zs) (body-same xs ys x y tail)
 
-module _ (gates : List Gate) (out : GateId) (order : List GateId) (cnf : Cnf) (e : Encodes gates out order cnf) (room : length order ≤ length gates)
+module _ (gates : List Gate) (out : GateId) (order : List GateId) (cnf : Cnf) (e : Encodes gates out order cnf) (room : length order ≤ cnf.variables)
     (inputs : (j : ℕ) (a : GateId) → slice_get order j ≡ Some a → Contains (inputs_of gates) a.index) (all : AreAllNamed gates order) where
   front : (places : List Bool) → length order ≤ length places → take cnf.front places ≡ map (λ a. meaning.values_of places (get_or e.number a.index 0)) order
   front places fits =
@@ -164,19 +188,21 @@ module _ (gates : List Gate) (out : GateId) (order : List GateId) (cnf : Cnf) (e
   some digits len =
       let v : ℕ → Bool = λ i. meaning.values_of digits (get_or e.number i 0) in
       let m = e.model v in
-      let fits : length order ≤ length m.0 = omega (arith, m.1.0, e.variables, room) in
-      let agree = map-agree (λ a. meaning.values_of m.0 (get_or e.number a.index 0)) (λ a. v a.index) order (λ j a at. m.2 a.index (inputs j a at)) in
+      let fits : length order ≤ length m.0 = omega (arith, m.1.0, room) in
+      let agree = map-agree (λ a. meaning.values_of m.0 (get_or e.number a.index 0)) (λ a. v a.index) order (λ j a at. m.2 a.index (inputs j a at) (let o = e.ordered j a at in omega (arith, o))) in
       let back = front digits (omega (arith, len, e.front)) in
       (m.0, m.1, front m.0 fits ∙ (agree ∙ (sym back ∙ take_all cnf.front digits (omega (arith, len)))))
 
   only : (a b : List Bool) → IsModel cnf.variables e.body a → IsModel cnf.variables e.body b → take cnf.front a ≡ take cnf.front b → a ≡ b
-  only a b ma mb same = e.one a b ma mb (λ i at.
+  only a b ma mb same = e.one (λ i. meaning.values_of b (get_or e.number i 0)) a b ma mb
+      (λ i at has.
       let found = all i at in
       let number : get_or e.number i 0 ≡ found.0 + 1 = ap (λ k. get_or e.number k 0) (sym found.3) ∙ e.ordered found.0 found.1 found.2 in
       let lt : found.0 < cnf.front = omega (arith, e.front, within_order order found.0 found.1 found.2) in
       let place : (found.0 + 1) - 1 ≡ found.0 = omega arith in
       let here = λ (c : List Bool). ap (λ x. get_or c (x - 1) false) number ∙ ap (λ x. get_or c x false) place in
       here a ∙ (sym (get_or-take cnf.front a found.0 false lt) ∙ (ap (λ c. get_or c found.0 false) same ∙ (get_or-take cnf.front b found.0 false lt ∙ sym (here b)))))
+      (λ i at has. refl)
 
   pub one-a_front : (body : List (List Lit)) (last : List Lit) → cnf.clauses ≡ body ++ last ∷ [] → (values : List Bool) → length values ≡ cnf.front
       → (places : List Bool) × IsModel cnf.variables body places × (take cnf.front places ≡ values)

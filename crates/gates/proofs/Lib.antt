@@ -1,5 +1,7 @@
 pub mod Stages
-pub mod Named
+pub mod Folding
 pub mod Clauses
 pub mod FactLemmas
+pub mod Marks
+pub mod Named
 pub mod Encoded

@@ -4,7 +4,7 @@ use mathlib.Core.Bool.{beq}
 use Rattle.std.proofs.lemmas.List.{get_or_push, get_or_append_left}
 use Rattle.gates.specs.declared.circuit.GateId.{GateId}
 use Rattle.gates.specs.declared.circuit.Gate.{Gate}
-use Rattle.gates.specs.declared.circuit.Gate.TheVariants.{Zero, Input, And}
+use Rattle.gates.specs.declared.circuit.Gate.TheVariants.{Zero, Input, And, Xor, Choose}
 use Rattle.std.specs.Prelude.{Contains, Result, Ok, Err, IfOk}
 use Rattle.std.proofs.lemmas.List.Elements.{Contains-append_right}
 use Rattle.gates.specs.Values.{value_at, gate_value, values_from, values_of, exclusive, gate_at, inputs_of, IsFit, AreFit, IsInput, Keeps, Grows, Makes}
@@ -52,6 +52,11 @@ value-same v n early late (Input place) fit h = refl
 value-same v n early late (And a b) fit h =
     let lower : a.index < n = omega arith in
     rw (h a.index lower, h b.index fit.1) refl
+value-same v n early late (Xor a b) fit h =
+    let lower : a < n = omega arith in
+    rw (h a lower, h b fit.1) refl
+value-same v n early late (Choose test first second) fit h =
+    rw (h test fit.0, h first fit.1, h second.index fit.2) refl
 
 -- the value of the gate at a place is the one over all values
 pub value-stored : (v : ℕ → Bool) (vs : List Bool) (gs : List Gate) (i : ℕ) (g : Gate) → AreFit (length vs) gs → slice_get gs i ≡ Some g
@@ -89,6 +94,8 @@ inputs-append [] hs = refl
 inputs-append (Zero ∷ gs) hs = inputs-append gs hs
 inputs-append (Input place ∷ gs) hs = ap (λ zs. place ∷ zs) (inputs-append gs hs)
 inputs-append (And a b ∷ gs) hs = inputs-append gs hs
+inputs-append (Xor a b ∷ gs) hs = inputs-append gs hs
+inputs-append (Choose test first second ∷ gs) hs = inputs-append gs hs
 
 grows_append : (old more : List Gate) → Grows old (old ++ more)
 unfolding gate_at values_of

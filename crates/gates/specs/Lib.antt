@@ -1,4 +1,5 @@
 pub mod Values
+pub mod Cone
 pub mod Numbering
 pub mod Facts
 pub mod Encoding

@@ -1,30 +1,66 @@
 -- Variables for gates, and gates for variables.
-use Rattle.std.specs.Prelude.{ℕ, ◌≡◌, ◌≢◌, ◌<◌, ◌≤◌, ◌+◌, ◌-◌, List, length, slice_index, slice_get, Some}
+use Rattle.std.specs.Prelude.{ℕ, ◌≡◌, ◌≢◌, ◌<◌, ◌≤◌, ◌+◌, ◌-◌, ◌⊎◌, Bool, All, List, length, slice_index, slice_get, Some}
 use Rattle.gates.specs.declared.circuit.GateId.{GateId}
+use Rattle.gates.specs.declared.circuit.Gate.{Gate}
+use Rattle.gates.specs.Cone.{IsMarked, IsNeeded, operands}
 
--- each of n gates has a variable from 1 to n, and each variable a gate
-pub record IsNumbering (n : ℕ) (number gate_of : List ℕ) : Type 0 where
-  pub numbered : length number ≡ n
-  pub long : length gate_of ≡ n
-  pub ranged : (i : ℕ) → i < n → (0 < slice_index number i) × (slice_index number i ≤ n)
-  pub back : (i : ℕ) → i < n → slice_index gate_of (slice_index number i - 1) ≡ i
-  pub forth : (j : ℕ) → j < n → slice_index number (slice_index gate_of j) ≡ j + 1
-  pub inside : (j : ℕ) → j < n → slice_index gate_of j < n
+-- the gate at a place has a variable: its number isn't 0
+abbrev pub HasNumber : List ℕ → ℕ → Type 0
+HasNumber number i = 0 < slice_index number i
+
+-- the gate at a place is named in the order
+abbrev pub IsNamed : List GateId → ℕ → Type 0
+IsNamed order i = (j : ℕ) × (a : GateId) × (slice_get order j ≡ Some a) × (a.index ≡ i)
 
 -- no gate is named twice
 abbrev pub AreApart : List GateId → Type 0
-AreApart order = (i j : ℕ) (a b : GateId) → i < j → slice_get order i ≡ Some a → slice_get order j ≡ Some b → a.index ≢ b.index
+AreApart order = (i j : ℕ) (a b : GateId) → i < j
+    → slice_get order i ≡ Some a → slice_get order j ≡ Some b → a.index ≢ b.index
 
--- the gates that are named before `end` have the variables 1, 2 and so on
-abbrev pub AreNamed : List ℕ → List GateId → ℕ → Type 0
-AreNamed number order end = (j : ℕ) (a : GateId) → j < end → slice_get order j ≡ Some a → slice_index number a.index ≡ j + 1
+-- the gates that are named have the variables 1, 2 and so on
+abbrev pub AreNamed : List ℕ → List GateId → Type 0
+AreNamed number order = (j : ℕ) (a : GateId) → slice_get order j ≡ Some a
+    → slice_index number a.index ≡ j + 1
 
--- every gate keeps its variable, but the one that gets the variable of the place and the one that had it
-abbrev pub Exchanges : List ℕ → List ℕ → ℕ → ℕ → Type 0
-Exchanges old new gate place = (i : ℕ) → i ≢ gate → slice_index old i ≢ place + 1 → slice_index new i ≡ slice_index old i
+-- each variable, from 1 on, is that of one of so many gates
+pub record IsNumbering (count : ℕ) (number gate_of : List ℕ) : Type 0 where
+  pub numbered : length number ≡ count
+  pub back : (i : ℕ) → HasNumber number i
+      → (slice_index number i ≤ length gate_of)
+      × (slice_index gate_of (slice_index number i - 1) ≡ i)
+  pub forth : (j : ℕ) → j < length gate_of
+      → (slice_index gate_of j < count) × (slice_index number (slice_index gate_of j) ≡ j + 1)
 
--- n different variables from 1 to n
-pub record AreNumbers (n : ℕ) (number : List ℕ) : Type 0 where
-  pub numbered : length number ≡ n
-  pub ranged : (i : ℕ) → i < n → (0 < slice_index number i) × (slice_index number i ≤ n)
-  pub apart : (i j : ℕ) → i < n → j < n → slice_index number i ≡ slice_index number j → i ≡ j
+-- the variables are those of the gates that are named before `end`, in order
+pub record AreNumbered (count : ℕ) (number gate_of : List ℕ) (order : List GateId)
+    (end : ℕ) : Type 0 where
+  pub numbering : IsNumbering count number gate_of
+  pub long : length gate_of ≡ end
+  pub gates : (j : ℕ) (a : GateId) → j < end → slice_get order j ≡ Some a
+      → slice_index gate_of j ≡ a.index
+
+-- the gates that are named have their variables, and of those before `end` the marked ones; only
+-- gates that are named or marked have one
+pub record IsPartNumbering (count : ℕ) (number gate_of : List ℕ) (order : List GateId)
+    (needed : List Bool) (end : ℕ) : Type 0 where
+  pub numbering : IsNumbering count number gate_of
+  pub named : AreNamed number order
+  pub room : length order ≤ length gate_of
+  pub all : (i : ℕ) → i < end → IsMarked needed i → HasNumber number i
+  pub only : (i : ℕ) → HasNumber number i → IsNamed order i ⊎ IsMarked needed i
+
+-- the operands of a gate with a variable have variables
+abbrev pub IsClosed : List Gate → List ℕ → Type 0
+IsClosed gates number = (i : ℕ) (g : Gate) → HasNumber number i → slice_get gates i ≡ Some g
+    → All (HasNumber number) (operands g)
+
+-- the gates with a variable are those that are named, first and in order, and those that the output
+-- needs
+pub record IsNumberingOf (gates : List Gate) (out : ℕ) (order : List GateId)
+    (number gate_of : List ℕ) : Type 0 where
+  pub numbering : IsNumbering (length gates) number gate_of
+  pub named : AreNamed number order
+  pub room : length order ≤ length gate_of
+  pub root : HasNumber number out
+  pub closed : IsClosed gates number
+  pub cone : (i : ℕ) → HasNumber number i → IsNamed order i ⊎ IsNeeded gates out i

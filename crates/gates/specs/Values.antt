@@ -1,8 +1,8 @@
 -- What the gates of a circuit say under values of its inputs.
-use Rattle.std.specs.Prelude.{ℕ, ◌≡◌, ◌<◌, ◌≤◌, ◌+◌, Bool, false, not, ◌&&◌, cond, Contains, List, [], ◌∷◌, ◌++◌, length, slice_index_or}
+use Rattle.std.specs.Prelude.{ℕ, ◌≡◌, ◌≢◌, ◌<◌, ◌≤◌, ◌+◌, Bool, false, not, ◌&&◌, cond, Contains, List, [], ◌∷◌, ◌++◌, length, slice_index_or}
 use Rattle.gates.specs.declared.circuit.GateId.{GateId}
 use Rattle.gates.specs.declared.circuit.Gate.{Gate}
-use Rattle.gates.specs.declared.circuit.Gate.TheVariants.{Zero, Input, And}
+use Rattle.gates.specs.declared.circuit.Gate.TheVariants.{Zero, Input, And, Xor, Choose}
 
 -- just one of the two
 abbrev pub exclusive : Bool → Bool → Bool
@@ -17,6 +17,11 @@ abbrev pub gate_value : (ℕ → Bool) → List Bool → Gate → Bool
 gate_value inputs earlier Zero = false
 gate_value inputs earlier (Input place) = inputs place
 gate_value inputs earlier (And a b) = value_at earlier a && value_at earlier b
+gate_value inputs earlier (Xor a b) =
+    exclusive (slice_index_or earlier a false) (slice_index_or earlier b false)
+gate_value inputs earlier (Choose test first second) =
+    cond (slice_index_or earlier test false) (slice_index_or earlier first false)
+    (value_at earlier second)
 
 abbrev pub values_from : (ℕ → Bool) → List Bool → List Gate → List Bool
 values_from inputs earlier [] = earlier
@@ -25,11 +30,15 @@ values_from inputs earlier (g ∷ gs) = values_from inputs (earlier ++ gate_valu
 unfoldable pub values_of : (ℕ → Bool) → List Gate → List Bool
 values_of inputs gates = values_from inputs [] gates
 
--- the gate goes well at place n: an input carries its place, and an and gate names two earlier ones in order
+-- the gate goes well at place n: an input carries its place, and another names different earlier
+-- ones, two of them in order
 abbrev pub IsFit : ℕ → Gate → Type 0
 IsFit n Zero = Unit {0}
 IsFit n (Input place) = place ≡ n
 IsFit n (And a b) = (a.index < b.index) × (b.index < n)
+IsFit n (Xor a b) = (a < b) × (b < n)
+IsFit n (Choose test first second) = (test < n) × (first < n) × (second.index < n)
+    × (test ≢ first) × (test ≢ second.index) × (first ≢ second.index)
 
 -- each gate goes well at its place, the first of them being at n
 abbrev pub AreFit : ℕ → List Gate → Type 0
@@ -42,6 +51,8 @@ inputs_of [] = []
 inputs_of (Zero ∷ gs) = inputs_of gs
 inputs_of (Input place ∷ gs) = place ∷ inputs_of gs
 inputs_of (And a b ∷ gs) = inputs_of gs
+inputs_of (Xor a b ∷ gs) = inputs_of gs
+inputs_of (Choose test first second ∷ gs) = inputs_of gs
 
 -- the value of a gate of a circuit
 unfoldable pub gate_at : (ℕ → Bool) → List Gate → GateId → Bool

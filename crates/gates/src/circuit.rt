@@ -1,6 +1,6 @@
 //! Gates, each over earlier ones.
 
-ghost use Rattle.std.specs.Prelude.{◌≡◌, ◌<◌, ◌&&◌, ◌||◌, ◌∷◌, [], ◌++◌, ◌↔◌, ◌⊎◌, Bool, ℕ, Some, slice_get, IfOk, IsOk, IsTrue, OnErr, OnOk, cond, false, length, not, take};
+ghost use Rattle.std.specs.Prelude.{◌≡◌, ◌≢◌, ◌<◌, ◌&&◌, ◌||◌, ◌∷◌, [], ◌++◌, ◌↔◌, ◌⊎◌, Bool, List, None, ℕ, Some, slice_get, IfOk, IfSome, IsOk, IsTrue, OnErr, OnOk, cond, false, length, not, take, true};
 
 use indexmap::IndexSet;
 use std::alloc::Global;
@@ -14,12 +14,49 @@ pub struct GateId {
     pub negated: bool,
 }
 
+impl GateId {
+    ghost use Rattle.gates.specs.Values.{exclusive, gate_at};
+
+    /// The gate, or its negation if `negate` is true.
+    fn negated_if(self, negate: bool) -> GateId
+        ensures index { result.index ≡ self.index }
+        ensures negated { result.negated ≡ exclusive negate self.negated }
+        ensures says { (v : ℕ → Bool) (gates : List Gate) → gate_at v gates result ≡ exclusive negate (gate_at v gates self) }
+    {
+        GateId {
+            index: self.index,
+            negated: self.negated != negate,
+        }
+    }
+}
+
 /// A gate over earlier ones. An input carries its own place.
+///
+/// A sign that can stand on the result doesn't stand on an operand, so that gates that differ in
+/// signs alone are one: both operands of `Xor` are plain, and so are the test and the first arm of
+/// `Choose`.
 #[derive(Clone, Copy, PartialEq, Eq, Hash, Debug)]
 pub enum Gate {
+    /// Always 0.
     Zero,
+    /// An input of the circuit.
     Input(usize),
-    And(GateId, GateId),
+    /// 1 where both are; `a` comes before `b`.
+    And {
+        a: GateId,
+        b: GateId,
+    },
+    /// 1 where just one of the gates at these places is; `a` comes before `b`.
+    Xor {
+        a: usize,
+        b: usize,
+    },
+    /// `first` where `test` is 1, and else `second`; no two of them are the same gate or opposite.
+    Choose {
+        test: usize,
+        first: usize,
+        second: GateId,
+    },
 }
 
 /// Gates, each once and after those that it names. Contracts see the list of gates.
@@ -155,6 +192,36 @@ impl Circuit {
         matches!(self.as_slice()[a.index], Gate::Zero)
     }
 
+    /// Whether the gate at the place of `b` is an and gate, one operand of which is `a`. It is then 0
+    /// wherever `a` is.
+    fn is_over(&self, b: GateId, a: GateId) -> bool
+        requires { b.index < length self.now }
+        ensures { IsTrue result → (v : ℕ → Bool) → gate_at v self.now a ≡ false → gate_at v self.now b ≡ b.negated }
+    {
+        match self.as_slice()[b.index] {
+            Gate::And {
+                a: first,
+                b: second,
+            } => first == a || second == a,
+            Gate::Zero | Gate::Input(_) | Gate::Xor { .. } | Gate::Choose { .. } => false,
+        }
+    }
+
+    /// The value of `a` wherever `c` is 1, if `a` is `c`, its negation, or the constant.
+    fn value_where(&self, c: GateId, a: GateId) -> Option<bool>
+        requires { a.index < length self.now }
+        ensures some { IfSome result (λ value. (v : ℕ → Bool) → gate_at v self.now c ≡ true → gate_at v self.now a ≡ value) }
+        ensures none { (result ≡ None) → c.index ≢ a.index }
+    {
+        if c.index == a.index {
+            Some(c.negated == a.negated)
+        } else if self.is_constant(a) {
+            Some(a.negated)
+        } else {
+            None
+        }
+    }
+
     /// A gate that is 1 where both are.
     pub fn and(&mut self, a: GateId, b: GateId) -> Result<GateId, NoMemory>
         requires a { a.index < length self.old }
@@ -168,10 +235,8 @@ impl Circuit {
             if a.negated { Ok(b) } else { Ok(a) }
         } else if self.is_constant(b) {
             if b.negated { Ok(a) } else { Ok(b) }
-        } else if a.index < b.index {
-            self.add(Gate::And(a, b))
         } else {
-            self.add(Gate::And(b, a))
+            self.and_apart(a, b)
         }
     }
 
@@ -186,6 +251,50 @@ impl Circuit {
             Ok(a)
         } else {
             self.constant(false)
+        }
+    }
+
+    /// The and of two gates at different places, looking one level down.
+    fn and_apart(&mut self, a: GateId, b: GateId) -> Result<GateId, NoMemory>
+        requires a { a.index < length self.old }
+        requires b { b.index < length self.old }
+        requires apart { a.index ≢ b.index }
+        ensures made { IfOk result (λ id. Makes self.new id (λ v. gate_at v self.old a && gate_at v self.old b)) }
+        ensures kept { Keeps self.old self.new }
+    {
+        if let Some(id) = self.absorbed(a, b)? {
+            return Ok(id);
+        }
+        if let Some(id) = self.absorbed(b, a)? {
+            return Ok(id);
+        }
+        if a.index < b.index {
+            self.add(Gate::And { a, b })
+        } else {
+            self.add(Gate::And { a: b, b: a })
+        }
+    }
+
+    /// The and of two gates, where the second is an and over the first or its negation, or is the
+    /// negation of one over the first's negation: `a & (a & x)` is the second, `a & (!a & x)` is 0 and
+    /// `a & !(!a & x)` is `a`. This is the absorption of Brummayer and Biere, "Local two-level
+    /// and-inverter graph minimization without blowup" (2006).
+    fn absorbed(&mut self, a: GateId, b: GateId) -> Result<Option<GateId>, NoMemory>
+        requires a { a.index < length self.old }
+        requires b { b.index < length self.old }
+        ensures made { IfOk result (λ r. IfSome r (λ id. Makes self.new id (λ v. gate_at v self.old a && gate_at v self.old b))) }
+        ensures kept { Keeps self.old self.new }
+    {
+        let not_a = self.not(a)?;
+        if !b.negated && self.is_over(b, a) {
+            Ok(Some(b))
+        } else if !self.is_over(b, not_a) {
+            Ok(None)
+        } else if b.negated {
+            Ok(Some(a))
+        } else {
+            let zero = self.constant(false)?;
+            Ok(Some(zero))
         }
     }
 
@@ -209,10 +318,31 @@ impl Circuit {
         ensures made { IfOk result (λ id. Makes self.new id (λ v. exclusive (gate_at v self.old a) (gate_at v self.old b))) }
         ensures kept { Keeps self.old self.new }
     {
-        let both = self.and(a, b)?;
-        let either = self.or(a, b)?;
-        let not_both = self.not(both)?;
-        self.and(either, not_both)
+        if a.index == b.index {
+            self.constant(a.negated != b.negated)
+        } else if self.is_constant(a) {
+            Ok(b.negated_if(a.negated))
+        } else if self.is_constant(b) {
+            Ok(a.negated_if(b.negated))
+        } else if a.index < b.index {
+            self.xor_in_order(a, b)
+        } else {
+            self.xor_in_order(b, a)
+        }
+    }
+
+    /// The exclusive or of two gates, the first at the lesser place. Both signs go to the result.
+    fn xor_in_order(&mut self, a: GateId, b: GateId) -> Result<GateId, NoMemory>
+        requires order { a.index < b.index }
+        requires b { b.index < length self.old }
+        ensures made { IfOk result (λ id. Makes self.new id (λ v. exclusive (gate_at v self.old a) (gate_at v self.old b))) }
+        ensures kept { Keeps self.old self.new }
+    {
+        let plain = self.add(Gate::Xor {
+            a: a.index,
+            b: b.index,
+        })?;
+        Ok(plain.negated_if(a.negated != b.negated))
     }
 
     /// A gate that has the value of `a` where `c` is 1, and else that of `b`.
@@ -223,12 +353,67 @@ impl Circuit {
         ensures made { IfOk result (λ id. Makes self.new id (λ v. cond (gate_at v self.old c) (gate_at v self.old a) (gate_at v self.old b))) }
         ensures kept { Keeps self.old self.new }
     {
-        if a == b {
-            return Ok(a);
+        if self.is_constant(c) {
+            return Ok(if c.negated { a } else { b });
         }
-        let not_c = self.not(c)?;
-        let first = self.and(c, a)?;
-        let second = self.and(not_c, b)?;
-        self.or(first, second)
+        if a.index == b.index {
+            return self.choose_same(c, a, b);
+        }
+        let not_c = c.negated_if(true);
+        if let Some(value) = self.value_where(c, a) {
+            return if value {
+                self.or(c, b)
+            } else {
+                self.and(not_c, b)
+            };
+        }
+        if let Some(value) = self.value_where(not_c, b) {
+            return if value {
+                self.or(not_c, a)
+            } else {
+                self.and(c, a)
+            };
+        }
+        if c.negated {
+            self.choose_plain(not_c, b, a)
+        } else {
+            self.choose_plain(c, a, b)
+        }
+    }
+
+    /// A choice between a gate and itself or its negation: that gate, or an exclusive or.
+    fn choose_same(&mut self, c: GateId, a: GateId, b: GateId) -> Result<GateId, NoMemory>
+        requires c { c.index < length self.old }
+        requires a { a.index < length self.old }
+        requires same { a.index ≡ b.index }
+        ensures made { IfOk result (λ id. Makes self.new id (λ v. cond (gate_at v self.old c) (gate_at v self.old a) (gate_at v self.old b))) }
+        ensures kept { Keeps self.old self.new }
+    {
+        if a.negated == b.negated {
+            Ok(a)
+        } else {
+            self.xor(c, b)
+        }
+    }
+
+    /// A choice by a plain test between gates at other places. The sign of the first arm goes to the
+    /// second and to the result.
+    fn choose_plain(&mut self, c: GateId, a: GateId, b: GateId) -> Result<GateId, NoMemory>
+        requires c { c.index < length self.old }
+        requires a { a.index < length self.old }
+        requires b { b.index < length self.old }
+        requires plain { c.negated ≡ false }
+        requires c_a { c.index ≢ a.index }
+        requires c_b { c.index ≢ b.index }
+        requires a_b { a.index ≢ b.index }
+        ensures made { IfOk result (λ id. Makes self.new id (λ v. cond (gate_at v self.old c) (gate_at v self.old a) (gate_at v self.old b))) }
+        ensures kept { Keeps self.old self.new }
+    {
+        let plain = self.add(Gate::Choose {
+            test: c.index,
+            first: a.index,
+            second: b.negated_if(a.negated),
+        })?;
+        Ok(plain.negated_if(a.negated))
     }
 }

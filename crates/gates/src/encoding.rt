@@ -1,10 +1,11 @@
 //! The clauses that say what a circuit does.
 
-ghost use Rattle.std.specs.Prelude.{◌≡◌, ◌≢◌, ◌<◌, ◌≤◌, ◌↔◌, ◌∷◌, [], ◌&&◌, ◌||◌, ◌⊎◌, ℕ, Bool, All, IfOk, OnOk, length, slice_index, true};
+ghost use Rattle.std.specs.Prelude.{◌≡◌, ◌≢◌, ◌<◌, ◌≤◌, ◌↔◌, ◌∷◌, [], ◌&&◌, ◌||◌, ◌⊎◌, ℕ, Bool, All, IfOk, OnOk, Some, cond, length, slice_get, slice_index, true};
 ghost use Rattle.clause_lits.specs.Meaning.{AreWithin, clause_true, clauses_true, lit_true};
+ghost use Rattle.gates.specs.Cone.{operands};
 ghost use Rattle.gates.specs.Encoding.{AreInputs, Encodes, HasOneModelAFront};
-ghost use Rattle.gates.specs.Facts.{AreFacts, IsFact, IsOver};
-ghost use Rattle.gates.specs.Numbering.{AreApart, AreNumbers};
+ghost use Rattle.gates.specs.Facts.{AreDistinct, AreFacts, IsFact, IsOver};
+ghost use Rattle.gates.specs.Numbering.{AreApart, HasNumber, IsClosed, IsNumbering};
 ghost use Rattle.gates.specs.Values.{AreFit, IsFit, exclusive};
 
 use crate::circuit::{Circuit, Gate, GateId};
@@ -15,11 +16,12 @@ use std::alloc::Global;
 use support::{NoMemory, Sequence};
 
 /// Clauses that have exactly one model over each assignment of the inputs, but for the last clause,
-/// which is one literal and has the value of `out` there. Each gate has one variable; the inputs of
-/// `order` have the variables from 1 on, in this order, and are the ordered front.
+/// which is one literal and has the value of `out` there. The inputs of `order` have the variables
+/// from 1 on, in this order, and are the ordered front; beside them each gate that `out` needs has a
+/// variable, and no other gate has a variable or a clause.
 ///
 /// This is the encoding of G. Tseitin, "On the complexity of derivation in propositional calculus"
-/// (1968): three clauses for an and gate.
+/// (1968): three clauses for an and gate, and four for an exclusive or or a choice.
 pub fn to_cnf(
     alloc: Global,
     circuit: &Circuit,
@@ -33,20 +35,20 @@ pub fn to_cnf(
     ensures fronts { IfOk result (HasOneModelAFront circuit.now order.now) }
 {
     let gates = circuit.as_slice();
-    let numbering = numbering_of(alloc, gates.len(), order)?;
-    let mut clauses = body_of(alloc, gates, &numbering.number)?;
+    let numbering = numbering_of(alloc, gates, out, order)?;
+    let mut clauses = body_of(alloc, gates, &numbering.number, &numbering.gate_of)?;
     let last = one(alloc, literal_of(&numbering.number, out))?;
     clauses.push(last)?;
     Ok(Cnf::new(
-        gates.len() as u64,
+        numbering.gate_of.len() as u64,
         Sequence::from_vec(clauses),
         order.len() as u64,
     ))
 }
 
-/// The literal of a gate.
+/// The literal of a gate that has a variable.
 fn literal_of(number: &[u64], a: GateId) -> Lit
-    requires { a.index < length number.now }
+    requires { HasNumber number.now a.index }
     ensures variable { result.variable ≡ slice_index number.now a.index }
     ensures says { (v : ℕ → Bool) → lit_true v result ≡ exclusive a.negated (v (slice_index number.now a.index)) }
 {
@@ -56,16 +58,34 @@ fn literal_of(number: &[u64], a: GateId) -> Lit
     }
 }
 
-/// The clauses of the gates.
-fn body_of(alloc: Global, gates: &[Gate], number: &[u64]) -> Result<Vec<Clause>, NoMemory>
+/// The literal of the gate at a place.
+fn plain_literal(number: &[u64], index: usize) -> Lit
+    requires { HasNumber number.now index }
+    ensures variable { result.variable ≡ slice_index number.now index }
+    ensures says { (v : ℕ → Bool) → lit_true v result ≡ v (slice_index number.now index) }
+{
+    Lit {
+        variable: number[index],
+        positive: true,
+    }
+}
+
+/// The clauses of the gates that have variables.
+fn body_of(
+    alloc: Global,
+    gates: &[Gate],
+    number: &[u64],
+    gate_of: &[usize],
+) -> Result<Vec<Clause>, NoMemory>
     requires fit { AreFit 0 gates.now }
-    requires numbers { AreNumbers (length gates.now) number.now }
-    ensures within { IfOk result (λ r. AreWithin (length gates.now) r.items) }
-    ensures says { IfOk result (λ r. (v : ℕ → Bool) → (clauses_true v r.items ≡ true) ↔ AreFacts v number.now gates.now (length gates.now)) }
+    requires numbering { IsNumbering (length gates.now) number.now gate_of.now }
+    requires closed { IsClosed gates.now number.now }
+    ensures within { IfOk result (λ r. AreWithin (length gate_of.now) r.items) }
+    ensures says { IfOk result (λ r. (v : ℕ → Bool) → (clauses_true v r.items ≡ true) ↔ AreFacts v number.now gates.now gate_of.now (length gate_of.now)) }
 {
     let mut clauses = Vec::new(alloc);
-    for (place, gate) in gates.iter().enumerate() {
-        push_gate(alloc, &mut clauses, number, place, *gate)?;
+    for place in gate_of {
+        push_gate(alloc, &mut clauses, number, *place, gates[*place])?;
     }
     Ok(clauses)
 }
@@ -78,31 +98,45 @@ fn push_gate(
     place: usize,
     gate: Gate,
 ) -> Result<(), NoMemory>
-    requires numbers { AreNumbers (length number.now) number.now }
-    requires place { place < length number.now }
+    requires distinct { AreDistinct number.now }
+    requires place { HasNumber number.now place }
+    requires operands { All (HasNumber number.now) (operands gate) }
     requires fit { IsFit place gate }
-    requires within { AreWithin (length number.now) clauses.old.items }
-    ensures within { OnOk result (AreWithin (length number.now) clauses.new.items) }
+    ensures within { OnOk result ((n : ℕ) → ((i : ℕ) → slice_index number.now i ≤ n)
+        → AreWithin n clauses.old.items → AreWithin n clauses.new.items) }
     ensures says { OnOk result ((v : ℕ → Bool) → (clauses_true v clauses.new.items ≡ true)
         ↔ ((clauses_true v clauses.old.items ≡ true) × IsFact v number.now place gate)) }
 {
-    let plain = GateId {
-        index: place,
-        negated: false,
-    };
-    let own = literal_of(number, plain);
+    let own = plain_literal(number, place);
     match gate {
         Gate::Zero => {
             clauses.push(one(alloc, own.opposite())?)?;
             Ok(())
         }
         Gate::Input(_) => Ok(()),
-        Gate::And(a, b) => push_and(
+        Gate::And { a, b } => push_and(
             alloc,
             clauses,
             own,
             literal_of(number, a),
             literal_of(number, b),
+        ),
+        Gate::Xor { a, b } => {
+            let test = plain_literal(number, a);
+            let same = plain_literal(number, b);
+            push_choose(alloc, clauses, own, test, same.opposite(), same)
+        }
+        Gate::Choose {
+            test,
+            first,
+            second,
+        } => push_choose(
+            alloc,
+            clauses,
+            own,
+            plain_literal(number, test),
+            plain_literal(number, first),
+            literal_of(number, second),
         ),
     }
 }
@@ -129,6 +163,37 @@ fn push_and(
     clauses.push(two(alloc, own.opposite(), a)?)?;
     clauses.push(two(alloc, own.opposite(), b)?)?;
     clauses.push(three(alloc, own, a.opposite(), b.opposite())?)?;
+    Ok(())
+}
+
+/// Adds the clauses that say that a literal is `a` where `c` is true, and else `b`. Where `a` is the
+/// opposite of `b` they are those of an exclusive or.
+fn push_choose(
+    alloc: Global,
+    clauses: &mut Vec<Clause>,
+    own: Lit,
+    c: Lit,
+    a: Lit,
+    b: Lit,
+) -> Result<(), NoMemory>
+    requires own { 0 < own.variable }
+    requires c { 0 < c.variable }
+    requires a { 0 < a.variable }
+    requires b { 0 < b.variable }
+    requires own_c { own.variable ≢ c.variable }
+    requires own_a { own.variable ≢ a.variable }
+    requires own_b { own.variable ≢ b.variable }
+    requires c_a { c.variable ≢ a.variable }
+    requires c_b { c.variable ≢ b.variable }
+    ensures within { OnOk result ((n : ℕ) → own.variable ≤ n → c.variable ≤ n → a.variable ≤ n → b.variable ≤ n
+        → AreWithin n clauses.old.items → AreWithin n clauses.new.items) }
+    ensures says { OnOk result ((v : ℕ → Bool) → (clauses_true v clauses.new.items ≡ true)
+        ↔ ((clauses_true v clauses.old.items ≡ true) × (lit_true v own ≡ cond (lit_true v c) (lit_true v a) (lit_true v b)))) }
+{
+    clauses.push(three(alloc, c.opposite(), a.opposite(), own)?)?;
+    clauses.push(three(alloc, c.opposite(), a, own.opposite())?)?;
+    clauses.push(three(alloc, c, b.opposite(), own)?)?;
+    clauses.push(three(alloc, c, b, own.opposite())?)?;
     Ok(())
 }
 

@@ -1,13 +1,16 @@
-//! A variable for each gate, the inputs of a stated order first.
+//! A variable for each gate of a question, the inputs of a stated order first.
 
-ghost use Rattle.std.specs.Prelude.{◌≡◌, ◌<◌, ◌≤◌, ◌+◌, ℕ, All, IfOk, length, slice_index};
-ghost use Rattle.gates.specs.Numbering.{AreNamed, AreApart, Exchanges, IsNumbering};
+ghost use Rattle.std.specs.Prelude.{◌≡◌, ◌<◌, ◌+◌, ◌∷◌, [], ◌++◌, All, IfOk, OnOk, length, slice_set};
+ghost use Rattle.gates.specs.Encoding.{AreInputs};
+ghost use Rattle.gates.specs.Numbering.{AreApart, AreNumbered, IsNumberingOf};
+ghost use Rattle.gates.specs.Values.{AreFit};
 
-use crate::circuit::GateId;
+use crate::circuit::{Gate, GateId};
+use crate::cone::cone_of;
 use std::alloc::Global;
 use support::NoMemory;
 
-/// The variable of each gate, counted from 1, and the gate of each variable, by their places.
+/// The variable of each gate, counted from 1, or 0 where it has none; and the gate of each variable.
 #[derive(Drop)]
 pub struct Numbering {
     pub number: Vec<u64>,
@@ -15,49 +18,56 @@ pub struct Numbering {
 }
 
 impl Numbering {
-    /// Each gate has one more than its place.
-    fn identity(alloc: Global, count: usize) -> Result<Numbering, NoMemory>
-        ensures { IfOk result (λ r. IsNumbering count r.number.items r.gate_of.items) }
+    /// The next variable is that of a gate.
+    fn add(&mut self, gate: usize) -> Result<(), NoMemory>
+        requires { gate < length self.old.number.items }
+        ensures number { OnOk result (self.new.number.items ≡ slice_set self.old.number.items gate (length self.old.gate_of.items + 1)) }
+        ensures gates { OnOk result (self.new.gate_of.items ≡ self.old.gate_of.items ++ gate ∷ []) }
     {
-        let mut number = Vec::new(alloc);
-        let mut gate_of = Vec::new(alloc);
-        for i in 0..count {
-            number.push(i as u64 + 1)?;
-            gate_of.push(i)?;
-        }
-        Ok(Numbering { number, gate_of })
-    }
-
-    /// The gate gets the variable of a place, and the gate that had it gets the gate's own.
-    fn exchange(&mut self, gate: usize, place: usize)
-        requires numbering { IsNumbering (length self.old.number.items) self.old.number.items self.old.gate_of.items }
-        requires gate { gate < length self.old.number.items }
-        requires place { place < length self.old.number.items }
-        ensures numbering { IsNumbering (length self.old.number.items) self.new.number.items self.new.gate_of.items }
-        ensures len { length self.new.number.items ≡ length self.old.number.items }
-        ensures given { slice_index self.new.number.items gate ≡ place + 1 }
-        ensures others { Exchanges self.old.number.items self.new.number.items gate place }
-    {
-        let was = self.number[gate] as usize - 1;
-        let other = self.gate_of[place];
-        self.gate_of[was] = other;
-        self.gate_of[place] = gate;
-        self.number[other] = was as u64 + 1;
-        self.number[gate] = place as u64 + 1;
+        self.gate_of.push(gate)?;
+        self.number[gate] = self.gate_of.len() as u64;
+        Ok(())
     }
 }
 
-/// The variables of that many gates; the gates that are named have 1, 2 and so on, in their order.
-pub fn numbering_of(alloc: Global, count: usize, order: &[GateId]) -> Result<Numbering, NoMemory>
+/// The first variables are those of the inputs of an order, and no other of the gates has one.
+fn named_first(alloc: Global, count: usize, order: &[GateId]) -> Result<Numbering, NoMemory>
     requires within { All (λ a. a.index < count) order.now }
     requires apart { AreApart order.now }
-    ensures numbering { IfOk result (λ r. IsNumbering count r.number.items r.gate_of.items) }
-    ensures named { IfOk result (λ r. AreNamed r.number.items order.now (length order.now)) }
-    ensures room { IfOk result (λ _. length order.now ≤ count) }
+    ensures { IfOk result (λ r. AreNumbered count r.number.items r.gate_of.items order.now (length order.now)) }
 {
-    let mut numbering = Numbering::identity(alloc, count)?;
-    for (place, gate) in order.iter().enumerate() {
-        numbering.exchange(gate.index, place);
+    let mut number = Vec::new(alloc);
+    number.resize(count, 0)?;
+    let mut numbering = Numbering {
+        number,
+        gate_of: Vec::new(alloc),
+    };
+    for a in order {
+        numbering.add(a.index)?;
+    }
+    Ok(numbering)
+}
+
+/// Variables for the inputs of `order`, 1, 2 and so on, and after them for each other gate that the
+/// output needs; for no other gate.
+pub fn numbering_of(
+    alloc: Global,
+    gates: &[Gate],
+    out: GateId,
+    order: &[GateId],
+) -> Result<Numbering, NoMemory>
+    requires fit { AreFit 0 gates.now }
+    requires out { out.index < length gates.now }
+    requires order { AreInputs gates.now order.now }
+    requires apart { AreApart order.now }
+    ensures { IfOk result (λ r. IsNumberingOf gates.now out.index order.now r.number.items r.gate_of.items) }
+{
+    let needed = cone_of(alloc, gates, out)?;
+    let mut numbering = named_first(alloc, gates.len(), order)?;
+    for place in 0..gates.len() {
+        if needed[place] && numbering.number[place] == 0 {
+            numbering.add(place)?;
+        }
     }
     Ok(numbering)
 }

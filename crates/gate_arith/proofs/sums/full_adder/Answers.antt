@@ -1,9 +1,8 @@
--- The five gates in turn.
+-- The three gates in turn.
 use Rattle.gate_arith.proofs.Adders.{full-adds}
 use Rattle.gate_arith.proofs.sums.full_adder.Goals as goal
 
 pub returns-clause-sum : goal.returns-clause-sum
-returns-clause-sum c = full-adds c.args.circuit.now c.xor.new.self c.xor-2.new.self c.and.new.self c.and-2.new.self c.or.new.self
-    c.args.a c.args.b c.args.c c.in_ok-half.half c.in_ok-digit.digit c.in_ok-both.both c.in_ok-passed.passed c.in_ok-carry.carry c.requires.a c.requires.b c.requires.c
-    c.in_ok-half.ensures.kept c.in_ok-half.ensures.made c.in_ok-digit.ensures.kept c.in_ok-digit.ensures.made c.in_ok-both.ensures.kept c.in_ok-both.ensures.made
-    c.in_ok-passed.ensures.kept c.in_ok-passed.ensures.made c.in_ok-carry.ensures.kept c.in_ok-carry.ensures.made
+returns-clause-sum c = full-adds c.args.circuit.now c.xor.new.self c.xor-2.new.self c.choose.new.self
+    c.args.a c.args.b c.args.c c.in_ok-half.half c.in_ok-digit.digit c.in_ok-carry.carry c.requires.a c.requires.b c.requires.c
+    c.in_ok-half.ensures.kept c.in_ok-half.ensures.made c.in_ok-digit.ensures.kept c.in_ok-digit.ensures.made c.in_ok-carry.ensures.kept c.in_ok-carry.ensures.made

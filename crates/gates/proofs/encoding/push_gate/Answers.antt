@@ -1,16 +1,28 @@
-use Rattle.std.proofs.Common.{◌<◌, arith, length}
+-- The variables of a gate and its operands are among all.
+use Rattle.std.proofs.Common.{ap, arith}
+use Rattle.clause_lits.specs.declared.lit.Lit.{Lit}
 use Rattle.gates.proofs.Clauses.{OnOk-then}
 use Rattle.gates.proofs.encoding.push_gate.Goals as goal
 
 pub returns-in-And-clause-within : goal.returns-in-And-clause-within
-returns-in-And-clause-within c =
-    let fit = rw c.in-And.is at c.requires.fit in
-    let n = length c.args.number.now in
-    let lower : c.in-And.b.index < n = omega (arith, fit.1, c.requires.place) in
-    let first : c.in-And.a.index < n = omega (arith, fit.0, lower) in
-    OnOk-then c.push_and.result _ _ c.push_and.ensures.within
-    (λ h. h n
-    (omega (arith, c.literal_of-own.ensures.variable, (c.requires.numbers.ranged c.args.place c.requires.place).1))
-    (omega (arith, c.literal_of.ensures.variable, (c.requires.numbers.ranged c.in-And.a.index first).1))
-    (omega (arith, c.literal_of-in-And.ensures.variable, (c.requires.numbers.ranged c.in-And.b.index lower).1))
-    c.requires.within)
+returns-in-And-clause-within c = OnOk-then c.push_and.result _ _ c.push_and.ensures.within (λ h. λ n all within. h n
+    (omega (arith, c.plain_literal-own.ensures.variable, all c.args.place))
+    (omega (arith, c.literal_of.ensures.variable, all c.in-And.a.index))
+    (omega (arith, c.literal_of-in-And.ensures.variable, all c.in-And.b.index))
+    within)
+
+pub returns-in-Xor-clause-within : goal.returns-in-Xor-clause-within
+returns-in-Xor-clause-within c = OnOk-then c.push_choose.result _ _ c.push_choose.ensures.within (λ h. λ n all within. h n
+    (omega (arith, c.plain_literal-own.ensures.variable, all c.args.place))
+    (omega (arith, c.plain_literal-test.ensures.variable, all c.in-Xor.a))
+    (omega (arith, c.plain_literal-same.ensures.variable, all c.in-Xor.b, ap (λ (l : Lit). l.variable) c.opposite-in-Xor.ensures))
+    (omega (arith, c.plain_literal-same.ensures.variable, all c.in-Xor.b))
+    within)
+
+pub returns-in-Choose-clause-within : goal.returns-in-Choose-clause-within
+returns-in-Choose-clause-within c = OnOk-then c.push_choose-in-Choose.result _ _ c.push_choose-in-Choose.ensures.within (λ h. λ n all within. h n
+    (omega (arith, c.plain_literal-own.ensures.variable, all c.args.place))
+    (omega (arith, c.plain_literal.ensures.variable, all c.in-Choose.test))
+    (omega (arith, c.plain_literal-in-Choose.ensures.variable, all c.in-Choose.first))
+    (omega (arith, c.literal_of-in-Choose.ensures.variable, all c.in-Choose.second.index))
+    within)

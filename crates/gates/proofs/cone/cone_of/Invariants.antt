@@ -1,0 +1,6 @@
+-- The operands of marked gates are marked, from a place on.
+use Rattle.gates.specs.Cone.{IsCone}
+use Rattle.gates.proofs.cone.cone_of.Given as goal
+
+abbrev pub invariant-loop-place : goal.invariant-loop-place
+invariant-loop-place l = IsCone l.gates l.fn.out.index l.place l.needed.items
