@@ -12,6 +12,7 @@ use crate::words::{word_at, words_up_to};
 use bv_terms::{TermId, Terms};
 use mem_terms::{both, equals, implies, number, pick, resize};
 use support::NoMemory;
+use term_rules::add;
 use tv_num::Width;
 
 /// A choice, in 64 digits, and which choices were made once it was made where it is taken.
@@ -31,7 +32,7 @@ fn one_more(terms: &mut Terms, read: TermId, taken: TermId) -> Result<TermId, No
     ensures kept { Keeps terms.old terms.new }
 {
     let one = number(terms, 1)?;
-    let next = terms.add(read, one)?;
+    let next = add(terms, read, one)?;
     pick(terms, taken, next, read)
 }
 

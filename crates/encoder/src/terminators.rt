@@ -25,6 +25,7 @@ use ir_tree::{Case, Function, IrType, Operand, Terminator, TypedOperand};
 use mem_terms::{SymValue, both, equals, resize, truth};
 use std::alloc::Global;
 use support::{NoMemory, Sequence};
+use term_rules::constant;
 use tv_num::{Width, wrap};
 use unroll::{BlockCopy, Edge};
 
@@ -237,7 +238,7 @@ fn split_by_case(
     ensures kept { Keeps terms.old terms.new }
 {
     let low = wrap(value as u128, width);
-    let known = terms.constant(low as u128, width.bits())?;
+    let known = constant(terms, low as u128, width.bits())?;
     let same = equals(terms, known, number)?;
     split(terms, left, same)
 }

@@ -8,6 +8,7 @@ use crate::narrow::{NarrowValue, is_not_zero};
 use bv_terms::{TermId, Terms};
 use mem_terms::truth;
 use support::NoMemory;
+use term_rules::{and, or, xor};
 use tv_num::Width;
 
 /// The bits that are 1 in both.
@@ -23,7 +24,7 @@ pub fn conjunction(
     ensures poison { IfOk result (λ s. Tests terms.new s.poison (λ _. false)) }
     ensures kept { Keeps terms.old terms.new }
 {
-    let number = terms.and(a, b)?;
+    let number = and(terms, a, b)?;
     let poison = truth(terms, false)?;
     Ok(NarrowValue { poison, number })
 }
@@ -42,7 +43,7 @@ fn share_a_bit_where(
     ensures kept { Keeps terms.old terms.new }
 {
     if flag {
-        let shared = terms.and(a, b)?;
+        let shared = and(terms, a, b)?;
         is_not_zero(terms, shared, width)
     } else {
         truth(terms, false)
@@ -63,7 +64,7 @@ pub fn disjunction(
     ensures poison { IfOk result (λ s. Tests terms.new s.poison (λ v. disjoint && not (nat_eq (bit_and (term_at v terms.old a) (term_at v terms.old b)) 0))) }
     ensures kept { Keeps terms.old terms.new }
 {
-    let number = terms.or(a, b)?;
+    let number = or(terms, a, b)?;
     let poison = share_a_bit_where(terms, disjoint, a, b, width)?;
     Ok(NarrowValue { poison, number })
 }
@@ -81,7 +82,7 @@ pub fn exclusive_disjunction(
     ensures poison { IfOk result (λ s. Tests terms.new s.poison (λ _. false)) }
     ensures kept { Keeps terms.old terms.new }
 {
-    let number = terms.xor(a, b)?;
+    let number = xor(terms, a, b)?;
     let poison = truth(terms, false)?;
     Ok(NarrowValue { poison, number })
 }

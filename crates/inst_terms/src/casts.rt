@@ -15,6 +15,7 @@ use bv_terms::{TermId, Terms};
 use ir_tree::{Cast, Flags};
 use mem_terms::{SymValue, either, resize, truth};
 use support::NoMemory;
+use term_rules::sext;
 use tv_num::Width;
 
 /// Whether the number without a sign has no room at another width.
@@ -151,7 +152,7 @@ fn resized_signed(terms: &mut Terms, a: TermId, from: Width, to: Width) -> Resul
 {
     terms.values_fit();
     if from.bits() <= to.bits() {
-        let extended = terms.sext(a, to.bits())?;
+        let extended = sext(terms, a, to.bits())?;
         Ok(extended)
     } else {
         let low = resize(terms, a, to.bits())?;

@@ -12,6 +12,7 @@ use bv_terms::{TermId, Terms};
 use ir_tree::Predicate;
 use mem_terms::{SymValue, equals, less, less_signed, negation, truth};
 use support::NoMemory;
+use term_rules::zext;
 use tv_num::Width;
 
 /// Whether the first is less or equal, without a sign.
@@ -111,7 +112,7 @@ fn truth_value(terms: &mut Terms, poison: TermId, test: TermId) -> Result<SymVal
     ensures kept { Keeps terms.old terms.new }
 {
     terms.values_fit();
-    let number = terms.zext(test, 64)?;
+    let number = zext(terms, test, 64)?;
     Ok(SymValue { poison, number })
 }
 

@@ -8,6 +8,7 @@ ghost use Rattle.inst_terms.specs.Narrow.{IsNarrow, narrow_at};
 use bv_terms::{TermId, Terms};
 use mem_terms::{SymValue, either, equals, negation, resize};
 use support::NoMemory;
+use term_rules::{constant, zext};
 use tv_num::Width;
 
 /// A value at a width: poison where the first is true, and else the number, of so many digits.
@@ -39,7 +40,7 @@ pub fn widened(terms: &mut Terms, value: NarrowValue, width: Width) -> Result<Sy
     ensures stands { IfOk result (λ s. (v : ℕ → ℕ → ℕ) → value_at v terms.new s ≡ narrow_at v terms.old value) }
     ensures kept { Keeps terms.old terms.new }
 {
-    let number = terms.zext(value.number, 64)?;
+    let number = zext(terms, value.number, 64)?;
     Ok(SymValue {
         poison: value.poison,
         number,
@@ -52,7 +53,7 @@ pub fn is_zero(terms: &mut Terms, a: TermId, width: Width) -> Result<TermId, NoM
     ensures made { IfOk result (λ id. Tests terms.new id (λ v. nat_eq (term_at v terms.old a) 0)) }
     ensures kept { Keeps terms.old terms.new }
 {
-    let zero = terms.constant(0, width.bits())?;
+    let zero = constant(terms, 0, width.bits())?;
     equals(terms, a, zero)
 }
 

@@ -13,6 +13,7 @@ use bv_terms::{TermId, Terms};
 use ir_tree::Flags;
 use mem_terms::{either, resize, truth};
 use support::NoMemory;
+use term_rules::{mul, sext, zext};
 use tv_num::Width;
 
 /// The exact product of numbers without a sign, of twice the digits.
@@ -24,9 +25,9 @@ fn whole_product(terms: &mut Terms, a: TermId, b: TermId, width: Width) -> Resul
 {
     terms.values_fit();
     let twice = 2 * width.bits();
-    let wide_a = terms.zext(a, twice)?;
-    let wide_b = terms.zext(b, twice)?;
-    let id = terms.mul(wide_a, wide_b)?;
+    let wide_a = zext(terms, a, twice)?;
+    let wide_b = zext(terms, b, twice)?;
+    let id = mul(terms, wide_a, wide_b)?;
     Ok(id)
 }
 
@@ -47,9 +48,9 @@ fn whole_signed_product(
 {
     terms.values_fit();
     let twice = 2 * width.bits();
-    let wide_a = terms.sext(a, twice)?;
-    let wide_b = terms.sext(b, twice)?;
-    let id = terms.mul(wide_a, wide_b)?;
+    let wide_a = sext(terms, a, twice)?;
+    let wide_b = sext(terms, b, twice)?;
+    let id = mul(terms, wide_a, wide_b)?;
     Ok(id)
 }
 
@@ -73,7 +74,7 @@ fn low_product(
         let whole = whole_signed_product(terms, a, b, width)?;
         resize(terms, whole, width.bits())
     } else {
-        terms.mul(a, b)
+        mul(terms, a, b)
     }
 }
 

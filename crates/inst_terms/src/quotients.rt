@@ -13,6 +13,7 @@ use crate::signs::{sign, signs_differ};
 use bv_terms::{TermId, Terms};
 use mem_terms::{pick, truth};
 use support::NoMemory;
+use term_rules::{constant, sub, udiv, urem};
 use tv_num::Width;
 
 /// Where the flag is set, whether the division leaves a remainder.
@@ -29,7 +30,7 @@ fn leaves_a_rest_where(
     ensures kept { Keeps terms.old terms.new }
 {
     if flag {
-        let rest = terms.urem(a, b)?;
+        let rest = urem(terms, a, b)?;
         is_not_zero(terms, rest, width)
     } else {
         truth(terms, false)
@@ -50,7 +51,7 @@ pub fn unsigned_quotient(
     ensures poison { IfOk result (λ s. Tests terms.new s.poison (λ v. exact && not (nat_eq (remainder (term_at v terms.old a) (term_at v terms.old b)) 0))) }
     ensures kept { Keeps terms.old terms.new }
 {
-    let number = terms.udiv(a, b)?;
+    let number = udiv(terms, a, b)?;
     let poison = leaves_a_rest_where(terms, exact, a, b, width)?;
     Ok(NarrowValue { poison, number })
 }
@@ -68,7 +69,7 @@ pub fn unsigned_remainder(
     ensures poison { IfOk result (λ s. Tests terms.new s.poison (λ _. false)) }
     ensures kept { Keeps terms.old terms.new }
 {
-    let number = terms.urem(a, b)?;
+    let number = urem(terms, a, b)?;
     let poison = truth(terms, false)?;
     Ok(NarrowValue { poison, number })
 }
@@ -85,8 +86,8 @@ fn negated_where(
     ensures made { IfOk result (λ id. Makes terms.new id width.bits (λ v. negated_if width.bits (bit_at v terms.old condition) (term_at v terms.old a))) }
     ensures kept { Keeps terms.old terms.new }
 {
-    let zero = terms.constant(0, width.bits())?;
-    let opposite = terms.sub(zero, a)?;
+    let zero = constant(terms, 0, width.bits())?;
+    let opposite = sub(terms, zero, a)?;
     pick(terms, condition, opposite, a)
 }
 
@@ -117,7 +118,7 @@ pub fn signed_quotient(
 {
     let size_a = magnitude(terms, a, width)?;
     let size_b = magnitude(terms, b, width)?;
-    let size = terms.udiv(size_a, size_b)?;
+    let size = udiv(terms, size_a, size_b)?;
     let negative = signs_differ(terms, a, b, width)?;
     let number = negated_where(terms, negative, size, width)?;
     let poison = leaves_a_rest_where(terms, exact, size_a, size_b, width)?;
@@ -140,7 +141,7 @@ pub fn signed_remainder(
 {
     let size_a = magnitude(terms, a, width)?;
     let size_b = magnitude(terms, b, width)?;
-    let size = terms.urem(size_a, size_b)?;
+    let size = urem(terms, size_a, size_b)?;
     let negative = sign(terms, a, width)?;
     let number = negated_where(terms, negative, size, width)?;
     let poison = truth(terms, false)?;

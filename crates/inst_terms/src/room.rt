@@ -7,6 +7,7 @@ ghost use Rattle.tv_num.specs.Width.{is_outside_signed, is_outside_unsigned, sig
 use bv_terms::{TermId, Terms};
 use mem_terms::{equals, negation};
 use support::NoMemory;
+use term_rules::{constant, extract, sext};
 
 /// Whether the number, without a sign, has no room in the lesser width: a higher digit is 1.
 pub fn is_outside_unsigned(
@@ -23,8 +24,8 @@ pub fn is_outside_unsigned(
 {
     terms.values_fit();
     let _whole = terms.width(a);
-    let high = terms.extract(a, to, from - to)?;
-    let zero = terms.constant(0, from - to)?;
+    let high = extract(terms, a, to, from - to)?;
+    let zero = constant(terms, 0, from - to)?;
     let none = equals(terms, high, zero)?;
     let id = negation(terms, none)?;
     Ok(id)
@@ -46,8 +47,8 @@ pub fn is_outside_signed(
 {
     terms.values_fit();
     let _whole = terms.width(a);
-    let low = terms.extract(a, 0, to)?;
-    let back = terms.sext(low, from)?;
+    let low = extract(terms, a, 0, to)?;
+    let back = sext(terms, low, from)?;
     let same = equals(terms, back, a)?;
     let id = negation(terms, same)?;
     Ok(id)

@@ -8,6 +8,7 @@ ghost use Rattle.mem_terms.specs.Values.{IsSymValue, value_at};
 use bv_terms::Terms;
 use mem_terms::{SymValue, either, pick_value};
 use support::NoMemory;
+use term_rules::extract;
 
 /// The value that the condition's lowest digit chooses, and poison where the condition is; the other
 /// value has no effect. It fails for want of memory alone, and the terms that were there stay.
@@ -24,7 +25,7 @@ pub fn select(
     ensures stands { IfOk result (λ s. (v : ℕ → ℕ → ℕ) → value_at v terms.new s ≡ selected (value_at v terms.old condition) (value_at v terms.old if_true) (value_at v terms.old if_false)) }
     ensures kept { Keeps terms.old terms.new }
 {
-    let lowest = terms.extract(condition.number, 0, 1)?;
+    let lowest = extract(terms, condition.number, 0, 1)?;
     let chosen = pick_value(terms, lowest, if_true, if_false)?;
     let poison = either(terms, condition.poison, chosen.poison)?;
     Ok(SymValue {

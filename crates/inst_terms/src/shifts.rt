@@ -11,6 +11,7 @@ use bv_terms::{TermId, Terms};
 use ir_tree::Flags;
 use mem_terms::{either, less, negation, truth};
 use support::NoMemory;
+use term_rules::{ashr, constant, lshr, shl};
 use tv_num::Width;
 
 /// Whether the amount is the width or more.
@@ -19,7 +20,7 @@ fn is_past(terms: &mut Terms, amount: TermId, width: Width) -> Result<TermId, No
     ensures made { IfOk result (λ id. Tests terms.new id (λ v. nat_le width.bits (term_at v terms.old amount))) }
     ensures kept { Keeps terms.old terms.new }
 {
-    let digits = terms.constant(width.bits() as u128, width.bits())?;
+    let digits = constant(terms, width.bits() as u128, width.bits())?;
     let below = less(terms, amount, digits)?;
     let id = negation(terms, below)?;
     Ok(id)
@@ -41,7 +42,7 @@ fn is_other_below_where(
     ensures kept { Keeps terms.old terms.new }
 {
     if flag {
-        let back = terms.lshr(moved, amount)?;
+        let back = lshr(terms, moved, amount)?;
         is_another(terms, back, before, width)
     } else {
         truth(terms, false)
@@ -64,7 +65,7 @@ fn is_other_below_signed_where(
     ensures kept { Keeps terms.old terms.new }
 {
     if flag {
-        let back = terms.ashr(moved, amount)?;
+        let back = ashr(terms, moved, amount)?;
         is_another(terms, back, before, width)
     } else {
         truth(terms, false)
@@ -87,7 +88,7 @@ fn is_other_above_where(
     ensures kept { Keeps terms.old terms.new }
 {
     if flag {
-        let back = terms.shl(moved, amount)?;
+        let back = shl(terms, moved, amount)?;
         is_another(terms, back, before, width)
     } else {
         truth(terms, false)
@@ -110,7 +111,7 @@ pub fn shift_left(
         || (flags.nsw && not (nat_eq (shifted_signed width.bits (shifted_left width.bits (term_at v terms.old a) (term_at v terms.old b)) (term_at v terms.old b)) (term_at v terms.old a)))))) }
     ensures kept { Keeps terms.old terms.new }
 {
-    let number = terms.shl(a, b)?;
+    let number = shl(terms, a, b)?;
     let past = is_past(terms, b, width)?;
     let unsigned = is_other_below_where(terms, flags.nuw, number, b, a, width)?;
     let signed = is_other_below_signed_where(terms, flags.nsw, number, b, a, width)?;
@@ -134,7 +135,7 @@ pub fn logical_shift_right(
         || (exact && not (nat_eq (shifted_left width.bits (shifted_right width.bits (term_at v terms.old a) (term_at v terms.old b)) (term_at v terms.old b)) (term_at v terms.old a))))) }
     ensures kept { Keeps terms.old terms.new }
 {
-    let number = terms.lshr(a, b)?;
+    let number = lshr(terms, a, b)?;
     let past = is_past(terms, b, width)?;
     let lost = is_other_above_where(terms, exact, number, b, a, width)?;
     let poison = either(terms, past, lost)?;
@@ -156,7 +157,7 @@ pub fn arithmetic_shift_right(
         || (exact && not (nat_eq (shifted_left width.bits (shifted_signed width.bits (term_at v terms.old a) (term_at v terms.old b)) (term_at v terms.old b)) (term_at v terms.old a))))) }
     ensures kept { Keeps terms.old terms.new }
 {
-    let number = terms.ashr(a, b)?;
+    let number = ashr(terms, a, b)?;
     let past = is_past(terms, b, width)?;
     let lost = is_other_above_where(terms, exact, number, b, a, width)?;
     let poison = either(terms, past, lost)?;

@@ -8,6 +8,7 @@ ghost use Rattle.inst_terms.specs.Rows.{is_sign_alone};
 use bv_terms::{TermId, Terms};
 use mem_terms::{both, truth};
 use support::NoMemory;
+use term_rules::{extract, xor};
 use tv_num::Width;
 
 /// Whether the number is negative: its highest digit.
@@ -17,7 +18,7 @@ pub fn sign(terms: &mut Terms, a: TermId, width: Width) -> Result<TermId, NoMemo
     ensures kept { Keeps terms.old terms.new }
 {
     terms.values_fit();
-    let id = terms.extract(a, width.bits() - 1, 1)?;
+    let id = extract(terms, a, width.bits() - 1, 1)?;
     Ok(id)
 }
 
@@ -29,7 +30,7 @@ fn differ(terms: &mut Terms, a: TermId, b: TermId) -> Result<TermId, NoMemory>
     ensures kept { Keeps terms.old terms.new }
 {
     terms.values_fit();
-    let id = terms.xor(a, b)?;
+    let id = xor(terms, a, b)?;
     Ok(id)
 }
 

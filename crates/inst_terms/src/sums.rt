@@ -13,6 +13,7 @@ use bv_terms::{TermId, Terms};
 use ir_tree::Flags;
 use mem_terms::{either, less, truth};
 use support::NoMemory;
+use term_rules::{add, sub};
 use tv_num::Width;
 
 /// Where the flag is set, whether the first is less.
@@ -51,7 +52,7 @@ pub fn sum(
         || (flags.nsw && is_sign_alone width.bits ((term_at v terms.old a + term_at v terms.old b) % 2 ^ width.bits) (term_at v terms.old a) (term_at v terms.old b)))) }
     ensures kept { Keeps terms.old terms.new }
 {
-    let number = terms.add(a, b)?;
+    let number = add(terms, a, b)?;
     let unsigned = less_where(terms, flags.nuw, number, a, width)?;
     let signed = is_sign_alone_where(terms, flags.nsw, number, a, b, width)?;
     let poison = either(terms, unsigned, signed)?;
@@ -74,7 +75,7 @@ pub fn difference(
         || (flags.nsw && is_sign_alone width.bits (term_at v terms.old a) (term_at v terms.old b) ((term_at v terms.old a + (2 ^ width.bits - term_at v terms.old b)) % 2 ^ width.bits)))) }
     ensures kept { Keeps terms.old terms.new }
 {
-    let number = terms.sub(a, b)?;
+    let number = sub(terms, a, b)?;
     let unsigned = less_where(terms, flags.nuw, a, b, width)?;
     let signed = is_sign_alone_where(terms, flags.nsw, a, b, number, width)?;
     let poison = either(terms, unsigned, signed)?;

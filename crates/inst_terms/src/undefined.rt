@@ -10,6 +10,7 @@ use bv_terms::{TermId, Terms};
 use ir_tree::Op;
 use mem_terms::{both, either, equals, truth};
 use support::NoMemory;
+use term_rules::constant;
 use tv_num::Width;
 
 /// Whether the divisor is 0, or poison, which might be it.
@@ -34,7 +35,7 @@ fn is_all_ones(terms: &mut Terms, a: TermId, width: Width) -> Result<TermId, NoM
     ensures made { IfOk result (λ id. Tests terms.new id (λ v. nat_eq (term_at v terms.old a) (2 ^ width.bits - 1))) }
     ensures kept { Keeps terms.old terms.new }
 {
-    let ones = terms.constant(width.mask() as u128, width.bits())?;
+    let ones = constant(terms, width.mask() as u128, width.bits())?;
     equals(terms, a, ones)
 }
 
@@ -44,7 +45,7 @@ fn is_least(terms: &mut Terms, a: TermId, width: Width) -> Result<TermId, NoMemo
     ensures made { IfOk result (λ id. Tests terms.new id (λ v. nat_eq (term_at v terms.old a) (2 ^ (width.bits - 1)))) }
     ensures kept { Keeps terms.old terms.new }
 {
-    let least = terms.constant(width.half() as u128, width.bits())?;
+    let least = constant(terms, width.half() as u128, width.bits())?;
     equals(terms, a, least)
 }
 

@@ -35,18 +35,6 @@ makes-widened old new a id n range within le m = record {
   says = λ v. m.says v ∙ sym (small_mod (term_at v old a) (2 ^ n) (below-wider (term_at v old a) (width_of (tree_in old a)) n (range v a within) le));
 }
 
-pub makes-same : (old : List Term) (a : TermId) (n : ℕ) → AreInRange old → a.index < length old → width_of (tree_in old a) ≡ n → Makes old a n (λ v. term_at v old a % 2 ^ n)
-makes-same old a n range within is = makes-widened old old a a n range within (omega (arith, is)) (record { within = within; wide = is; says = λ v. refl })
-
--- ---- one of two
-
-cond-same : (b : Bool) (x : ℕ) → x ≡ cond b x x
-cond-same true x = refl
-cond-same false x = refl
-
-pub makes-one : (old : List Term) (c a b : TermId) → a.index < length old → a ≡ b → Makes old a (width_of (tree_in old a)) (λ v. cond (bit_at v old c) (term_at v old a) (term_at v old b))
-makes-one old c a b within is = record { within = within; wide = refl; says = λ v. cond-same (bit_at v old c) (term_at v old a) ∙ ap (λ k. cond (bit_at v old c) (term_at v old a) (term_at v old k)) is }
-
 -- ---- values
 
 -- a number made first and its poison after it

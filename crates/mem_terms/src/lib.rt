@@ -2,7 +2,7 @@
 //!
 //! What each stands for under an assignment of the variables is a function of the assignment, and
 //! each call here promises what its term or value stands for under every one. It stands on
-//! `bv_terms`, and on `points` for the values and outcomes that are meant; the instruction table as
+//! `bv_terms` and `term_rules`, and on `points` for the values and outcomes that are meant; the instruction table as
 //! terms, and runs as terms, stand on it.
 #![tactic(auto)]
 

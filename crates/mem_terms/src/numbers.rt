@@ -6,13 +6,14 @@ ghost use Rattle.bv_terms.specs.Trees.{IsTerm, IsWidth, Keeps, Makes, Tests, bit
 
 use bv_terms::{TermId, Terms};
 use support::NoMemory;
+use term_rules::{constant, eq, extract, ite, slt, ult, zext};
 
 /// A known number of 64 digits.
 pub fn number(terms: &mut Terms, n: u64) -> Result<TermId, NoMemory>
     ensures made { IfOk result (λ id. Makes terms.new id 64 (λ _. n)) }
     ensures kept { Keeps terms.old terms.new }
 {
-    terms.constant(n as u128, 64)
+    constant(terms, n as u128, 64)
 }
 
 /// The low digits of a number, as many as the width, or the number with zeros before it.
@@ -23,20 +24,16 @@ pub fn resize(terms: &mut Terms, a: TermId, width: u32) -> Result<TermId, NoMemo
     ensures kept { Keeps terms.old terms.new }
 {
     terms.values_fit();
-    let from = terms.width(a);
-    if width < from {
-        let id = terms.extract(a, 0, width)?;
+    if width <= terms.width(a) {
+        let id = extract(terms, a, 0, width)?;
         Ok(id)
-    } else if width == from {
-        Ok(a)
     } else {
-        let id = terms.zext(a, width)?;
+        let id = zext(terms, a, width)?;
         Ok(id)
     }
 }
 
-/// The first of two of one width where the condition is true, and else the second. Where both are
-/// one term it is the answer.
+/// The first of two of one width where the condition is true, and else the second.
 pub fn pick(terms: &mut Terms, c: TermId, a: TermId, b: TermId) -> Result<TermId, NoMemory>
     requires c { IsTerm terms.old 1 c }
     requires a { a.index < length terms.old }
@@ -45,12 +42,8 @@ pub fn pick(terms: &mut Terms, c: TermId, a: TermId, b: TermId) -> Result<TermId
     ensures made { IfOk result (λ id. Makes terms.new id (width_of (tree_in terms.old a)) (λ v. cond (bit_at v terms.old c) (term_at v terms.old a) (term_at v terms.old b))) }
     ensures kept { Keeps terms.old terms.new }
 {
-    if a == b {
-        Ok(a)
-    } else {
-        let id = terms.ite(c, a, b)?;
-        Ok(id)
-    }
+    let id = ite(terms, c, a, b)?;
+    Ok(id)
 }
 
 /// Whether two of one width are equal.
@@ -61,7 +54,7 @@ pub fn equals(terms: &mut Terms, a: TermId, b: TermId) -> Result<TermId, NoMemor
     ensures made { IfOk result (λ id. Tests terms.new id (λ v. nat_eq (term_at v terms.old a) (term_at v terms.old b))) }
     ensures kept { Keeps terms.old terms.new }
 {
-    let id = terms.eq(a, b)?;
+    let id = eq(terms, a, b)?;
     Ok(id)
 }
 
@@ -73,7 +66,7 @@ pub fn less(terms: &mut Terms, a: TermId, b: TermId) -> Result<TermId, NoMemory>
     ensures made { IfOk result (λ id. Tests terms.new id (λ v. nat_lt (term_at v terms.old a) (term_at v terms.old b))) }
     ensures kept { Keeps terms.old terms.new }
 {
-    let id = terms.ult(a, b)?;
+    let id = ult(terms, a, b)?;
     Ok(id)
 }
 
@@ -85,6 +78,6 @@ pub fn less_signed(terms: &mut Terms, a: TermId, b: TermId) -> Result<TermId, No
     ensures made { IfOk result (λ id. Tests terms.new id (λ v. is_less_signed (width_of (tree_in terms.old a)) (term_at v terms.old a) (term_at v terms.old b))) }
     ensures kept { Keeps terms.old terms.new }
 {
-    let id = terms.slt(a, b)?;
+    let id = slt(terms, a, b)?;
     Ok(id)
 }

@@ -5,6 +5,7 @@ ghost use Rattle.bv_terms.specs.Trees.{IsTerm, Keeps, Tests, bit_at};
 
 use bv_terms::{TermId, Terms};
 use support::NoMemory;
+use term_rules::{and, constant, not, or};
 
 /// True always, or never.
 pub fn truth(terms: &mut Terms, value: bool) -> Result<TermId, NoMemory>
@@ -12,9 +13,9 @@ pub fn truth(terms: &mut Terms, value: bool) -> Result<TermId, NoMemory>
     ensures kept { Keeps terms.old terms.new }
 {
     if value {
-        terms.constant(1, 1)
+        constant(terms, 1, 1)
     } else {
-        terms.constant(0, 1)
+        constant(terms, 0, 1)
     }
 }
 
@@ -24,7 +25,7 @@ pub fn negation(terms: &mut Terms, a: TermId) -> Result<TermId, NoMemory>
     ensures made { IfOk result (λ id. Tests terms.new id (λ v. not (bit_at v terms.old a))) }
     ensures kept { Keeps terms.old terms.new }
 {
-    let id = terms.not(a)?;
+    let id = not(terms, a)?;
     Ok(id)
 }
 
@@ -36,7 +37,7 @@ pub fn both(terms: &mut Terms, a: TermId, b: TermId) -> Result<TermId, NoMemory>
     ensures kept { Keeps terms.old terms.new }
 {
     terms.values_fit();
-    let id = terms.and(a, b)?;
+    let id = and(terms, a, b)?;
     Ok(id)
 }
 
@@ -48,7 +49,7 @@ pub fn either(terms: &mut Terms, a: TermId, b: TermId) -> Result<TermId, NoMemor
     ensures kept { Keeps terms.old terms.new }
 {
     terms.values_fit();
-    let id = terms.or(a, b)?;
+    let id = or(terms, a, b)?;
     Ok(id)
 }
 

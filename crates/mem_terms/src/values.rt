@@ -43,7 +43,7 @@ pub fn number_value(terms: &mut Terms, n: u64) -> Result<SymValue, NoMemory>
     Ok(SymValue { poison, number })
 }
 
-/// The first value where the condition is true, and else the second. Terms that both share stay.
+/// The first value where the condition is true, and else the second.
 pub fn pick_value(
     terms: &mut Terms,
     c: TermId,

@@ -9,6 +9,7 @@ ghost use Rattle.refine_terms.specs.Deciding.{Decides, IsNarrow};
 use bv_terms::{TermId, Terms};
 use mem_terms::{both, equals, less, negation, number, resize, truth};
 use support::NoMemory;
+use term_rules::constant;
 
 /// True where the term is this number.
 pub fn is_number(a: TermId, n: u8, terms: &mut Terms) -> Result<TermId, NoMemory>
@@ -18,7 +19,7 @@ pub fn is_number(a: TermId, n: u8, terms: &mut Terms) -> Result<TermId, NoMemory
     ensures kept { Keeps terms.old terms.new }
 {
     let width = terms.width(a);
-    let known = terms.constant(n as u128, width)?;
+    let known = constant(terms, n as u128, width)?;
     let id = equals(terms, a, known)?;
     Ok(id)
 }

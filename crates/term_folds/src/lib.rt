@@ -3,11 +3,12 @@
 //! Each is only its step at one term; `bv_terms` has the fold and its proof. They promise that
 //! [`Evaluate`] gives the value of each term, [`Substitute`] a term of another store with the value
 //! under the substituted assignment, and [`Weigh`] the number of nodes of the written-out tree, held
-//! at the greatest number of 64 bits. [`Print`] writes a term for a reader. It stands on `bv_terms`.
+//! at the greatest number of 64 bits. [`Print`] writes a term for a reader. The operations on known
+//! numbers are [`numbers`]' functions. It stands on `bv_terms`.
 #![tactic(auto)]
 
 mod evaluate;
-mod numbers;
+pub mod numbers;
 mod print;
 mod substitute;
 mod weigh;

@@ -4,7 +4,7 @@ use Rattle.inst_terms.proofs.casts.resized_signed.Goals as goal
 
 pub returns-in_ok-extended-clause-made : goal.returns-in_ok-extended-clause-made
 returns-in_ok-extended-clause-made c =
-    extended-made c.args.terms.now c.sext.new.self c.args.a c.in_ok-extended.extended c.args.from.bits c.args.to.bits c.args.from.at_least_1 (omega arith) c.values_fit.ensures c.requires (rw c.bits-then-bits.ensures at c.in_ok-extended.ensures.made)
+    extended-made c.args.terms.now c.sext.new.terms c.args.a c.in_ok-extended.extended c.args.from.bits c.args.to.bits c.args.from.at_least_1 (omega arith) c.values_fit.ensures c.requires (rw c.bits-then-bits.ensures at c.in_ok-extended.ensures.made)
 
 pub returns-in_ok-low-clause-made : goal.returns-in_ok-low-clause-made
 returns-in_ok-low-clause-made c =

@@ -1,0 +1,111 @@
+-- Why the rules of choices are right.
+use Rattle.std.proofs.Common.{ap, ℕ, ◌≡◌, ◌<◌, ◌≤◌, ◌+◌, ◌-◌, ◌^◌, Bool, true, false, cond, not, List, length, arith, ◌∙◌, sym, subst, refl, inl, inr}
+use Rattle.std.specs.Prelude.{bit_and, bit_or}
+use Rattle.std.specs.Int.Bits.{and_zero_l, or_zero_l}
+use Rattle.std.proofs.lemmas.Bool.{cases_eq}
+use Rattle.std.proofs.lemmas.Nat.{and_comm, or_comm}
+use Rattle.bv_terms.specs.declared.term.TermId.{TermId}
+use Rattle.bv_terms.specs.declared.term.Term.{Term}
+use Rattle.bv_terms.specs.declared.term.Term.TheVariants as term
+use Rattle.bv_terms.specs.Tree as tree
+use Rattle.bv_terms.specs.Tree.{Tree, value_of, width_of, truth}
+use Rattle.bv_terms.specs.Trees.{AreInRange, bit_at, term_at, tree_in}
+use Rattle.term_folds.specs.Weight.{weight_of}
+use Rattle.term_rules.specs.declared.form.Form.{Form}
+use Rattle.term_rules.specs.declared.form.Form.TheVariants.{Built}
+use Rattle.term_rules.specs.Forms.{Simplifies}
+use Rattle.term_rules.proofs.Simplifying.{same_tree, simplifies_like}
+use Rattle.term_rules.proofs.BitRules.{and_ones, or_ones}
+
+-- ---- truths as numbers
+
+either_is : (c b : ℕ) → c < 2 → b < 2 → bit_or c b ≡ cond (truth c) 1 b
+either_is c b lc lb = elim (cases_eq c 0) [
+  | inl none ↦ rw none (or_zero_l b)
+  | inr some ↦ let one : c ≡ 1 = omega (arith, some) in rw one (or_comm 1 b ∙ or_ones b 1 lb)
+]
+
+both_are : (c a : ℕ) → c < 2 → a < 2 → bit_and c a ≡ cond (truth c) a 0
+both_are c a lc la = elim (cases_eq c 0) [
+  | inl none ↦ rw none (and_zero_l a)
+  | inr some ↦ let one : c ≡ 1 = omega (arith, some) in rw one (and_comm 1 a ∙ and_ones a 1 la)
+]
+
+turned_truth : (x : ℕ) → x < 2 → truth (2 ^ 1 - 1 - x) ≡ not (truth x)
+turned_truth x lt = elim (cases_eq x 0) [
+  | inl none ↦ rw none refl
+  | inr some ↦ let one : x ≡ 1 = omega (arith, some) in rw one refl
+]
+
+cond-not : (b : Bool) (x y : ℕ) → cond (not b) x y ≡ cond b y x
+cond-not true x y = refl
+cond-not false x y = refl
+
+module _ (terms : List Term) (c a b : TermId) (range : AreInRange terms) (lc : c.index < length terms) (la : a.index < length terms) (lb : b.index < length terms)
+    (bit : width_of (tree_in terms c) ≡ 1) where
+  below : (x : TermId) → x.index < length terms → width_of (tree_in terms x) ≡ 1 → (v : ℕ → ℕ → ℕ) → term_at v terms x < 2
+  below x lt e v = subst (λ n. term_at v terms x < 2 ^ n) e (range v x lt)
+
+  pub choice_or : (first : width_of (tree_in terms a) ≡ 1) → (second : width_of (tree_in terms b) ≡ 1) → (n : ℕ) → n ≡ 1 → ((v : ℕ → ℕ → ℕ) → term_at v terms a ≡ n)
+      → Simplifies terms (tree.Ite (tree_in terms c) (tree_in terms a) (tree_in terms b) (width_of (tree_in terms a))) (Built (term.Or c b 1))
+  choice_or first second n one h = record {
+    fit = record { within = ((omega arith, omega arith), lc, lb); matched = (bit, second); operation = tt };
+    wide = sym first;
+    says = λ v. either_is (term_at v terms c) (term_at v terms b) (below c lc bit v) (below b lb second v)
+        ∙ ap (λ k. cond (bit_at v terms c) k (term_at v terms b)) (sym (h v ∙ one));
+    least = omega arith;
+  }
+
+  pub choice_and : (first : width_of (tree_in terms a) ≡ 1) → (n : ℕ) → n ≡ 0 → ((v : ℕ → ℕ → ℕ) → term_at v terms b ≡ n)
+      → Simplifies terms (tree.Ite (tree_in terms c) (tree_in terms a) (tree_in terms b) (width_of (tree_in terms a))) (Built (term.And c a 1))
+  choice_and first n none h = record {
+    fit = record { within = ((omega arith, omega arith), lc, la); matched = (bit, first); operation = tt };
+    wide = sym first;
+    says = λ v. both_are (term_at v terms c) (term_at v terms a) (below c lc bit v) (below a la first v)
+        ∙ ap (λ k. cond (bit_at v terms c) (term_at v terms a) k) (sym (h v ∙ none));
+    least = omega arith;
+  }
+
+  -- the condition is the inverse of another
+  pub choice_turned : (t : TermId) (width : ℕ) (form : Form) → t.index < length terms → width_of (tree_in terms t) ≡ width → tree.Not (tree_in terms t) width ≡ tree_in terms c
+      → width_of (tree_in terms a) ≡ width_of (tree_in terms b)
+      → Simplifies terms (tree.Ite (tree_in terms t) (tree_in terms b) (tree_in terms a) (width_of (tree_in terms b))) form
+      → Simplifies terms (tree.Ite (tree_in terms c) (tree_in terms a) (tree_in terms b) (width_of (tree_in terms a))) form
+  choice_turned t width form lt wide is alike s =
+      let one : width ≡ 1 = ap width_of is ∙ bit in
+      let says : (v : ℕ → ℕ → ℕ) → bit_at v terms c ≡ not (bit_at v terms t) = λ v.
+      ap (λ (x : Tree). truth (value_of v x)) (sym is) ∙ (ap (λ k. truth (2 ^ k - 1 - term_at v terms t)) one ∙ turned_truth (term_at v terms t) (below t lt (wide ∙ one) v)) in
+      let weight : weight_of (tree_in terms c) ≡ 1 + weight_of (tree_in terms t) = ap weight_of (sym is) in
+      simplifies_like terms _ _ form s (sym alike)
+      (λ v. sym (ap (λ k. cond k (term_at v terms a) (term_at v terms b)) (says v) ∙ cond-not (bit_at v terms t) (term_at v terms a) (term_at v terms b)))
+      (omega (arith, weight))
+
+-- ---- arms that are choices by the same condition
+
+cond-arms : (k : Bool) (x y x' y' : ℕ) → (k ≡ true → x' ≡ x) → (k ≡ false → y' ≡ y) → cond k x' y' ≡ cond k x y
+cond-arms true x y x' y' f s = f refl
+cond-arms false x y x' y' f s = s refl
+
+pub choice_arms : (terms : List Term) (c a b a' b' : TermId) (form : Form)
+    → width_of (tree_in terms a') ≡ width_of (tree_in terms a)
+    → ((v : ℕ → ℕ → ℕ) → bit_at v terms c ≡ true → term_at v terms a' ≡ term_at v terms a)
+    → ((v : ℕ → ℕ → ℕ) → bit_at v terms c ≡ false → term_at v terms b' ≡ term_at v terms b)
+    → weight_of (tree_in terms a') ≤ weight_of (tree_in terms a) → weight_of (tree_in terms b') ≤ weight_of (tree_in terms b)
+    → Simplifies terms (tree.Ite (tree_in terms c) (tree_in terms a') (tree_in terms b') (width_of (tree_in terms a'))) form
+    → Simplifies terms (tree.Ite (tree_in terms c) (tree_in terms a) (tree_in terms b) (width_of (tree_in terms a))) form
+choice_arms terms c a b a' b' form wide f s wa wb simple = simplifies_like terms _ _ form simple wide
+    (λ v. cond-arms (bit_at v terms c) (term_at v terms a) (term_at v terms b) (term_at v terms a') (term_at v terms b') (f v) (s v))
+    (omega (arith, wa, wb))
+
+module _ (terms : List Term) (c same first second a : TermId) (width : ℕ)
+    (is : tree.Ite (tree_in terms same) (tree_in terms first) (tree_in terms second) width ≡ tree_in terms a) (e : same.index ≡ c.index) where
+  value-is : (v : ℕ → ℕ → ℕ) → term_at v terms a ≡ cond (bit_at v terms c) (term_at v terms first) (term_at v terms second)
+  value-is v =
+      ap (value_of v) (sym is)
+      ∙ ap (λ (x : Tree). cond (truth (value_of v x)) (term_at v terms first) (term_at v terms second)) (same_tree terms same c e)
+
+  pub first_arm : (v : ℕ → ℕ → ℕ) → bit_at v terms c ≡ true → term_at v terms first ≡ term_at v terms a
+  first_arm v h = sym (value-is v ∙ ap (λ k. cond k (term_at v terms first) (term_at v terms second)) h)
+
+  pub second_arm : (v : ℕ → ℕ → ℕ) → bit_at v terms c ≡ false → term_at v terms second ≡ term_at v terms a
+  second_arm v h = sym (value-is v ∙ ap (λ k. cond k (term_at v terms first) (term_at v terms second)) h)

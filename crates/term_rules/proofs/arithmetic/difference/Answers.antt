@@ -1,0 +1,10 @@
+use Rattle.term_rules.proofs.SumRules.{difference_of_rest, difference_with_number}
+use Rattle.term_rules.proofs.arithmetic.difference.Goals as goal
+
+pub returns-in-Some : goal.returns-in-Some
+returns-in-Some c = difference_with_number c.args.terms.now c.args.a c.args.b c.in-Some.value c.difference-by.result c.width-width.result c.raised.result
+    c.width-width.ensures.width c.in-Some.ensures.says c.difference-by.ensures c.raised.ensures
+
+pub returns-in-Some-rest_of_sum : goal.returns-in-Some-rest_of_sum
+returns-in-Some-rest_of_sum c = difference_of_rest c.args.terms.now c.args.a c.args.b c.values_fit.ensures c.requires.a c.requires.b c.requires.alike
+    c.in-Some-rest_of_sum.rest c.in-Some-rest_of_sum.ensures

@@ -1,0 +1,9 @@
+-- A variable is one node.
+use Rattle.std.proofs.Common.{ap, arith}
+use Rattle.bv_terms.specs.declared.term.Term.TheVariants as term
+use Rattle.term_folds.specs.Weight.{weight_of}
+use Rattle.term_rules.proofs.Stored.{tree_stored}
+use Rattle.term_rules.proofs.builders.variable.Goals as goal
+
+pub returns-clause-least : goal.returns-clause-least
+returns-clause-least c = omega (arith, ap weight_of (tree_stored c.variable.new.self c.in_ok-id.id (term.Variable c.args.number c.args.width) c.as_slice.ensures.fit c.in_ok-id.ensures.stored))

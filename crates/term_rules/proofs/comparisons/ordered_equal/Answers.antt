@@ -1,0 +1,7 @@
+use Rattle.std.proofs.Common.{refl}
+use Rattle.term_rules.proofs.OtherRules.{equal_to_turned}
+use Rattle.term_rules.proofs.comparisons.ordered_equal.Goals as goal
+
+pub returns-then-are_inverse : goal.returns-then-are_inverse
+returns-then-are_inverse c = equal_to_turned c.args.terms.now c.args.a c.args.b c.width-width.result c.values_fit.ensures c.requires.a
+    c.width-width.ensures.range c.width-width.ensures.width (c.if-are_inverse.ensures refl)

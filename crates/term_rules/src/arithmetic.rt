@@ -1,0 +1,203 @@
+//! Rules of sums, differences and products.
+
+ghost use Rattle.std.specs.Prelude.{◌≡◌, ◌<◌, ◌≤◌, ◌+◌, ◌%◌, ◌^◌, IfSome, length};
+ghost use Rattle.bv_terms.specs.Tree as tree;
+ghost use Rattle.bv_terms.specs.Tree.{width_of};
+ghost use Rattle.bv_terms.specs.Trees.{IsWidth, tree_in};
+ghost use Rattle.term_rules.specs.Forms.{AreOperands, IsNumber, IsPart, IsRest, Simplifies};
+
+use crate::form::Form;
+use crate::reading::{are_in_order, number, term};
+use bv_terms::{Term, TermId, Terms};
+use term_folds::numbers;
+
+/// The sum with a number that may be 0.
+fn plus(terms: &Terms, a: TermId, by: u128, width: u32) -> Form
+    requires { AreOperands terms.now a by width }
+    ensures { Simplifies terms.now (tree.Add (tree_in terms.now a) (tree.Constant by width) width) result }
+{
+    terms.values_fit();
+    if by == 0 {
+        Form::Known(a)
+    } else {
+        Form::Raised { a, by, width }
+    }
+}
+
+/// The sum with a number. Numbers that are added one after the other are added together.
+fn raised(terms: &Terms, a: TermId, by: u128, width: u32) -> Form
+    requires { AreOperands terms.now a by width }
+    ensures { Simplifies terms.now (tree.Add (tree_in terms.now a) (tree.Constant by width) width) result }
+{
+    match term(terms, a) {
+        Term::Add { a: inner, b, .. } => match number(terms, b) {
+            Some(first) => plus(terms, inner, numbers::sum(first, by, width), width),
+            None => plus(terms, a, by, width),
+        },
+        _ => plus(terms, a, by, width),
+    }
+}
+
+/// What plainly gives the first as its sum with the second.
+fn rest_of_sum(terms: &Terms, a: TermId, b: TermId) -> Option<TermId>
+    requires a { a.index < length terms.now }
+    requires b { b.index < length terms.now }
+    ensures { IfSome result (IsRest terms.now a b) }
+{
+    match term(terms, a) {
+        Term::Add {
+            a: first,
+            b: second,
+            ..
+        } if second.index == b.index => Some(first),
+        Term::Add {
+            a: first,
+            b: second,
+            ..
+        } if first.index == b.index => Some(second),
+        _ => None,
+    }
+}
+
+/// What is plainly the sum of the two: the first is a difference from it.
+fn whole_of_difference(terms: &Terms, a: TermId, b: TermId) -> Option<TermId>
+    requires a { a.index < length terms.now }
+    requires b { b.index < length terms.now }
+    ensures { IfSome result (IsPart terms.now a b) }
+{
+    match term(terms, a) {
+        Term::Sub {
+            a: whole,
+            b: taken,
+            ..
+        } if taken.index == b.index => Some(whole),
+        _ => None,
+    }
+}
+
+/// The sum of two in order.
+fn ordered_sum(terms: &Terms, a: TermId, b: TermId) -> Form
+    requires a { a.index < length terms.now }
+    requires b { b.index < length terms.now }
+    requires alike { width_of (tree_in terms.now a) ≡ width_of (tree_in terms.now b) }
+    ensures { Simplifies terms.now (tree.Add (tree_in terms.now a) (tree_in terms.now b) (width_of (tree_in terms.now a))) result }
+{
+    terms.values_fit();
+    let width = terms.width(a);
+    if let Some(by) = number(terms, b) {
+        return raised(terms, a, by, width);
+    }
+    if a.index == b.index && 1 < width {
+        return Form::Shifted { a, by: 1, width };
+    }
+    if let Some(whole) = whole_of_difference(terms, a, b) {
+        return Form::Known(whole);
+    }
+    if let Some(whole) = whole_of_difference(terms, b, a) {
+        return Form::Known(whole);
+    }
+    Form::Built(Term::Add { a, b, width })
+}
+
+/// The sum.
+pub fn sum(terms: &Terms, a: TermId, b: TermId) -> Form
+    requires a { a.index < length terms.now }
+    requires b { b.index < length terms.now }
+    requires alike { width_of (tree_in terms.now a) ≡ width_of (tree_in terms.now b) }
+    ensures { Simplifies terms.now (tree.Add (tree_in terms.now a) (tree_in terms.now b) (width_of (tree_in terms.now a))) result }
+{
+    if are_in_order(terms, a, b) {
+        ordered_sum(terms, a, b)
+    } else {
+        ordered_sum(terms, b, a)
+    }
+}
+
+/// The difference. A number is taken away by adding its opposite.
+pub fn difference(terms: &Terms, a: TermId, b: TermId) -> Form
+    requires a { a.index < length terms.now }
+    requires b { b.index < length terms.now }
+    requires alike { width_of (tree_in terms.now a) ≡ width_of (tree_in terms.now b) }
+    ensures { Simplifies terms.now (tree.Sub (tree_in terms.now a) (tree_in terms.now b) (width_of (tree_in terms.now a))) result }
+{
+    terms.values_fit();
+    let width = terms.width(a);
+    if a.index == b.index {
+        return Form::Built(Term::Constant { value: 0, width });
+    }
+    if let Some(value) = number(terms, b) {
+        let by = numbers::difference(0, value, width);
+        return raised(terms, a, by, width);
+    }
+    if let Some(rest) = rest_of_sum(terms, a, b) {
+        return Form::Known(rest);
+    }
+    Form::Built(Term::Sub { a, b, width })
+}
+
+/// The exponent of a power of 2, if it is below the width.
+fn exponent_of(value: u128, width: u32) -> Option<u32>
+    requires { IsWidth width }
+    ensures { IfSome result (λ k. (value ≡ 2 ^ k) × (k < width)) }
+{
+    let exponent = value.trailing_zeros();
+    if exponent < width && value == 1 << exponent {
+        Some(exponent)
+    } else {
+        None
+    }
+}
+
+/// The product with a number. A product with a power of 2 is moved up.
+fn multiplied(terms: &Terms, a: TermId, b: TermId, by: u128) -> Form
+    requires a { a.index < length terms.now }
+    requires b { b.index < length terms.now }
+    requires alike { width_of (tree_in terms.now a) ≡ width_of (tree_in terms.now b) }
+    requires by { IsNumber terms.now b by }
+    ensures { Simplifies terms.now (tree.Mul (tree_in terms.now a) (tree_in terms.now b) (width_of (tree_in terms.now a))) result }
+{
+    terms.values_fit();
+    let width = terms.width(a);
+    if by == 0 {
+        return Form::Known(b);
+    }
+    if by == 1 {
+        return Form::Known(a);
+    }
+    match exponent_of(by, width) {
+        Some(exponent) => {
+            let by = exponent as u128;
+            Form::Shifted { a, by, width }
+        }
+        None => Form::Built(Term::Mul { a, b, width }),
+    }
+}
+
+/// The product of two in order.
+fn ordered_product(terms: &Terms, a: TermId, b: TermId) -> Form
+    requires a { a.index < length terms.now }
+    requires b { b.index < length terms.now }
+    requires alike { width_of (tree_in terms.now a) ≡ width_of (tree_in terms.now b) }
+    ensures { Simplifies terms.now (tree.Mul (tree_in terms.now a) (tree_in terms.now b) (width_of (tree_in terms.now a))) result }
+{
+    terms.values_fit();
+    let width = terms.width(a);
+    match number(terms, b) {
+        Some(by) => multiplied(terms, a, b, by),
+        None => Form::Built(Term::Mul { a, b, width }),
+    }
+}
+
+/// The product.
+pub fn product(terms: &Terms, a: TermId, b: TermId) -> Form
+    requires a { a.index < length terms.now }
+    requires b { b.index < length terms.now }
+    requires alike { width_of (tree_in terms.now a) ≡ width_of (tree_in terms.now b) }
+    ensures { Simplifies terms.now (tree.Mul (tree_in terms.now a) (tree_in terms.now b) (width_of (tree_in terms.now a))) result }
+{
+    if are_in_order(terms, a, b) {
+        ordered_product(terms, a, b)
+    } else {
+        ordered_product(terms, b, a)
+    }
+}

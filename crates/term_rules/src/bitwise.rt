@@ -1,0 +1,280 @@
+//! Rules of operations bit by bit.
+
+ghost use Rattle.std.specs.Prelude.{◌≡◌, ◌<◌, ℕ, IfSome, IsTrue, bit_and, bit_or, length};
+ghost use Rattle.bv_terms.specs.Tree as tree;
+ghost use Rattle.bv_terms.specs.Tree.{width_of};
+ghost use Rattle.bv_terms.specs.Trees.{IsTerm, IsWidth, term_at, tree_in};
+ghost use Rattle.term_rules.specs.declared.form.Form.TheVariants.{Known};
+ghost use Rattle.term_rules.specs.Forms.{Simplifies};
+
+use crate::complements::{are_apart, are_whole, left_of_and, left_of_or};
+use crate::form::Form;
+use crate::reading::{are_in_order, number, term};
+use bv_terms::{Term, TermId, Terms};
+use term_folds::numbers::ones;
+
+/// Each bit turned: twice is not at all.
+pub fn inverse(terms: &Terms, a: TermId) -> Form
+    requires { a.index < length terms.now }
+    ensures { Simplifies terms.now (tree.Not (tree_in terms.now a) (width_of (tree_in terms.now a))) result }
+{
+    terms.values_fit();
+    let width = terms.width(a);
+    match term(terms, a) {
+        Term::Not { a: turned, .. } => Form::Known(turned),
+        _ => Form::Built(Term::Not { a, width }),
+    }
+}
+
+/// Whether the second is plainly an operand of the first, a conjunction.
+fn is_in_and(terms: &Terms, a: TermId, b: TermId) -> bool
+    requires a { a.index < length terms.now }
+    requires b { b.index < length terms.now }
+    ensures and { IsTrue result → (v : ℕ → ℕ → ℕ) → bit_and (term_at v terms.now a) (term_at v terms.now b) ≡ term_at v terms.now a }
+    ensures or { IsTrue result → (v : ℕ → ℕ → ℕ) → bit_or (term_at v terms.now a) (term_at v terms.now b) ≡ term_at v terms.now b }
+{
+    match term(terms, a) {
+        Term::And {
+            a: first,
+            b: second,
+            ..
+        } => first.index == b.index || second.index == b.index,
+        _ => false,
+    }
+}
+
+/// Whether the second is plainly an operand of the first, a disjunction.
+fn is_in_or(terms: &Terms, a: TermId, b: TermId) -> bool
+    requires a { a.index < length terms.now }
+    requires b { b.index < length terms.now }
+    ensures and { IsTrue result → (v : ℕ → ℕ → ℕ) → bit_and (term_at v terms.now a) (term_at v terms.now b) ≡ term_at v terms.now b }
+    ensures or { IsTrue result → (v : ℕ → ℕ → ℕ) → bit_or (term_at v terms.now a) (term_at v terms.now b) ≡ term_at v terms.now a }
+{
+    match term(terms, a) {
+        Term::Or {
+            a: first,
+            b: second,
+            ..
+        } => first.index == b.index || second.index == b.index,
+        _ => false,
+    }
+}
+
+/// The one of the two whose bits all are in the other, if one plainly is an operand of the other.
+fn lesser(terms: &Terms, a: TermId, b: TermId) -> Option<TermId>
+    requires a { a.index < length terms.now }
+    requires b { b.index < length terms.now }
+    requires alike { width_of (tree_in terms.now a) ≡ width_of (tree_in terms.now b) }
+    ensures { IfSome result (λ r. Simplifies terms.now (tree.And (tree_in terms.now a) (tree_in terms.now b) (width_of (tree_in terms.now a))) (Known r)) }
+{
+    if is_in_and(terms, a, b) {
+        Some(a)
+    } else if is_in_and(terms, b, a) {
+        Some(b)
+    } else if is_in_or(terms, a, b) {
+        Some(b)
+    } else if is_in_or(terms, b, a) {
+        Some(a)
+    } else {
+        None
+    }
+}
+
+/// The one of the two that has all bits of the other, if one plainly is an operand of the other.
+fn greater(terms: &Terms, a: TermId, b: TermId) -> Option<TermId>
+    requires a { a.index < length terms.now }
+    requires b { b.index < length terms.now }
+    requires alike { width_of (tree_in terms.now a) ≡ width_of (tree_in terms.now b) }
+    ensures { IfSome result (λ r. Simplifies terms.now (tree.Or (tree_in terms.now a) (tree_in terms.now b) (width_of (tree_in terms.now a))) (Known r)) }
+{
+    if is_in_or(terms, a, b) {
+        Some(a)
+    } else if is_in_or(terms, b, a) {
+        Some(b)
+    } else if is_in_and(terms, a, b) {
+        Some(b)
+    } else if is_in_and(terms, b, a) {
+        Some(a)
+    } else {
+        None
+    }
+}
+
+/// The operands in order, and no rule.
+fn plain_and(terms: &Terms, a: TermId, b: TermId, width: u32) -> Form
+    requires a { IsTerm terms.now width a }
+    requires b { IsTerm terms.now width b }
+    requires wide { IsWidth width }
+    ensures { Simplifies terms.now (tree.And (tree_in terms.now a) (tree_in terms.now b) width) result }
+{
+    if are_in_order(terms, a, b) {
+        Form::Built(Term::And { a, b, width })
+    } else {
+        Form::Built(Term::And { a: b, b: a, width })
+    }
+}
+
+/// The bits that are 1 in both, of two in order.
+fn ordered_and(terms: &Terms, a: TermId, b: TermId) -> Form
+    requires a { a.index < length terms.now }
+    requires b { b.index < length terms.now }
+    requires alike { width_of (tree_in terms.now a) ≡ width_of (tree_in terms.now b) }
+    ensures { Simplifies terms.now (tree.And (tree_in terms.now a) (tree_in terms.now b) (width_of (tree_in terms.now a))) result }
+{
+    terms.values_fit();
+    let width = terms.width(a);
+    if a.index == b.index {
+        return Form::Known(a);
+    }
+    if are_apart(terms, a, b) {
+        return Form::Built(Term::Constant { value: 0, width });
+    }
+    if let Some(known) = lesser(terms, a, b) {
+        return Form::Known(known);
+    }
+    if let Some(rest) = left_of_or(terms, a, b) {
+        return plain_and(terms, a, rest, width);
+    }
+    if let Some(rest) = left_of_or(terms, b, a) {
+        return plain_and(terms, b, rest, width);
+    }
+    match number(terms, b) {
+        Some(value) if value == 0 => Form::Known(b),
+        Some(value) if value == ones(width) => Form::Known(a),
+        _ => Form::Built(Term::And { a, b, width }),
+    }
+}
+
+/// The bits that are 1 in both.
+pub fn conjunction(terms: &Terms, a: TermId, b: TermId) -> Form
+    requires a { a.index < length terms.now }
+    requires b { b.index < length terms.now }
+    requires alike { width_of (tree_in terms.now a) ≡ width_of (tree_in terms.now b) }
+    ensures { Simplifies terms.now (tree.And (tree_in terms.now a) (tree_in terms.now b) (width_of (tree_in terms.now a))) result }
+{
+    if are_in_order(terms, a, b) {
+        ordered_and(terms, a, b)
+    } else {
+        ordered_and(terms, b, a)
+    }
+}
+
+/// The operands in order, and no rule.
+fn plain_or(terms: &Terms, a: TermId, b: TermId, width: u32) -> Form
+    requires a { IsTerm terms.now width a }
+    requires b { IsTerm terms.now width b }
+    requires wide { IsWidth width }
+    ensures { Simplifies terms.now (tree.Or (tree_in terms.now a) (tree_in terms.now b) width) result }
+{
+    if are_in_order(terms, a, b) {
+        Form::Built(Term::Or { a, b, width })
+    } else {
+        Form::Built(Term::Or { a: b, b: a, width })
+    }
+}
+
+/// The bits that are 1 in either, of two in order.
+fn ordered_or(terms: &Terms, a: TermId, b: TermId) -> Form
+    requires a { a.index < length terms.now }
+    requires b { b.index < length terms.now }
+    requires alike { width_of (tree_in terms.now a) ≡ width_of (tree_in terms.now b) }
+    ensures { Simplifies terms.now (tree.Or (tree_in terms.now a) (tree_in terms.now b) (width_of (tree_in terms.now a))) result }
+{
+    terms.values_fit();
+    let width = terms.width(a);
+    if a.index == b.index {
+        return Form::Known(a);
+    }
+    if are_whole(terms, a, b) {
+        let value = ones(width);
+        return Form::Built(Term::Constant { value, width });
+    }
+    if let Some(known) = greater(terms, a, b) {
+        return Form::Known(known);
+    }
+    if let Some(rest) = left_of_and(terms, a, b) {
+        return plain_or(terms, a, rest, width);
+    }
+    if let Some(rest) = left_of_and(terms, b, a) {
+        return plain_or(terms, b, rest, width);
+    }
+    match number(terms, b) {
+        Some(value) if value == 0 => Form::Known(a),
+        Some(value) if value == ones(width) => Form::Known(b),
+        _ => Form::Built(Term::Or { a, b, width }),
+    }
+}
+
+/// The bits that are 1 in either.
+pub fn disjunction(terms: &Terms, a: TermId, b: TermId) -> Form
+    requires a { a.index < length terms.now }
+    requires b { b.index < length terms.now }
+    requires alike { width_of (tree_in terms.now a) ≡ width_of (tree_in terms.now b) }
+    ensures { Simplifies terms.now (tree.Or (tree_in terms.now a) (tree_in terms.now b) (width_of (tree_in terms.now a))) result }
+{
+    if are_in_order(terms, a, b) {
+        ordered_or(terms, a, b)
+    } else {
+        ordered_or(terms, b, a)
+    }
+}
+
+/// What plainly gives the first as its exclusive disjunction with the second.
+fn rest_of_xor(terms: &Terms, a: TermId, b: TermId) -> Option<TermId>
+    requires a { a.index < length terms.now }
+    requires b { b.index < length terms.now }
+    ensures { IfSome result (λ r. Simplifies terms.now (tree.Xor (tree_in terms.now a) (tree_in terms.now b) (width_of (tree_in terms.now a))) (Known r)) }
+{
+    match term(terms, a) {
+        Term::Xor {
+            a: first,
+            b: second,
+            ..
+        } if second.index == b.index => Some(first),
+        Term::Xor {
+            a: first,
+            b: second,
+            ..
+        } if first.index == b.index => Some(second),
+        _ => None,
+    }
+}
+
+/// The bits that are 1 in just one, of two in order.
+fn ordered_xor(terms: &Terms, a: TermId, b: TermId) -> Form
+    requires a { a.index < length terms.now }
+    requires b { b.index < length terms.now }
+    requires alike { width_of (tree_in terms.now a) ≡ width_of (tree_in terms.now b) }
+    ensures { Simplifies terms.now (tree.Xor (tree_in terms.now a) (tree_in terms.now b) (width_of (tree_in terms.now a))) result }
+{
+    terms.values_fit();
+    let width = terms.width(a);
+    if a.index == b.index {
+        return Form::Built(Term::Constant { value: 0, width });
+    }
+    if let Some(rest) = rest_of_xor(terms, a, b) {
+        return Form::Known(rest);
+    }
+    if let Some(rest) = rest_of_xor(terms, b, a) {
+        return Form::Known(rest);
+    }
+    match number(terms, b) {
+        Some(value) if value == 0 => Form::Known(a),
+        Some(value) if value == ones(width) => Form::Built(Term::Not { a, width }),
+        _ => Form::Built(Term::Xor { a, b, width }),
+    }
+}
+
+/// The bits that are 1 in just one.
+pub fn exclusive(terms: &Terms, a: TermId, b: TermId) -> Form
+    requires a { a.index < length terms.now }
+    requires b { b.index < length terms.now }
+    requires alike { width_of (tree_in terms.now a) ≡ width_of (tree_in terms.now b) }
+    ensures { Simplifies terms.now (tree.Xor (tree_in terms.now a) (tree_in terms.now b) (width_of (tree_in terms.now a))) result }
+{
+    if are_in_order(terms, a, b) {
+        ordered_xor(terms, a, b)
+    } else {
+        ordered_xor(terms, b, a)
+    }
+}

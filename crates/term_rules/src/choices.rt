@@ -1,0 +1,132 @@
+//! Rules of choices.
+
+ghost use Rattle.std.specs.Prelude.{◌≡◌, ◌<◌, ◌≤◌, ℕ, IfSome, false, length, true};
+ghost use Rattle.bv_terms.specs.Tree as tree;
+ghost use Rattle.bv_terms.specs.Tree.{width_of};
+ghost use Rattle.bv_terms.specs.Trees.{bit_at, term_at, tree_in};
+ghost use Rattle.term_folds.specs.Weight.{weight_of};
+ghost use Rattle.term_rules.specs.Forms.{Simplifies};
+
+use crate::form::Form;
+use crate::reading::{number, term};
+use bv_terms::{Term, TermId, Terms};
+
+/// A choice between truths of which one or both are constants, if it is an operation on truths.
+fn choice_of_truths(terms: &Terms, c: TermId, a: TermId, b: TermId) -> Option<Form>
+    requires c { c.index < length terms.now }
+    requires a { a.index < length terms.now }
+    requires b { b.index < length terms.now }
+    requires bit { width_of (tree_in terms.now c) ≡ 1 }
+    requires first { width_of (tree_in terms.now a) ≡ 1 }
+    requires second { width_of (tree_in terms.now b) ≡ 1 }
+    ensures { IfSome result (Simplifies terms.now (tree.Ite (tree_in terms.now c) (tree_in terms.now a) (tree_in terms.now b) (width_of (tree_in terms.now a)))) }
+{
+    terms.values_fit();
+    match (number(terms, a), number(terms, b)) {
+        (Some(x), Some(y)) if x == 1 && y == 0 => Some(Form::Known(c)),
+        (Some(x), Some(y)) if x == 0 && y == 1 => Some(Form::Built(Term::Not { a: c, width: 1 })),
+        (Some(x), None) if x == 1 => Some(Form::Built(Term::Or { a: c, b, width: 1 })),
+        (None, Some(y)) if y == 0 => Some(Form::Built(Term::And {
+            a: c,
+            b: a,
+            width: 1,
+        })),
+        _ => None,
+    }
+}
+
+/// What the term is where the condition is true: the first arm of a choice by the same condition.
+fn where_true(terms: &Terms, c: TermId, a: TermId) -> TermId
+    requires c { c.index < length terms.now }
+    requires a { a.index < length terms.now }
+    ensures within { result.index < length terms.now }
+    ensures wide { width_of (tree_in terms.now result) ≡ width_of (tree_in terms.now a) }
+    ensures says { (v : ℕ → ℕ → ℕ) → bit_at v terms.now c ≡ true → term_at v terms.now result ≡ term_at v terms.now a }
+    ensures least { weight_of (tree_in terms.now result) ≤ weight_of (tree_in terms.now a) }
+{
+    match term(terms, a) {
+        Term::Ite {
+            c: same,
+            a: first,
+            ..
+        } if same.index == c.index => first,
+        _ => a,
+    }
+}
+
+/// What the term is where the condition is false: the second arm of a choice by the same condition.
+fn where_false(terms: &Terms, c: TermId, a: TermId) -> TermId
+    requires c { c.index < length terms.now }
+    requires a { a.index < length terms.now }
+    ensures within { result.index < length terms.now }
+    ensures wide { width_of (tree_in terms.now result) ≡ width_of (tree_in terms.now a) }
+    ensures says { (v : ℕ → ℕ → ℕ) → bit_at v terms.now c ≡ false → term_at v terms.now result ≡ term_at v terms.now a }
+    ensures least { weight_of (tree_in terms.now result) ≤ weight_of (tree_in terms.now a) }
+{
+    match term(terms, a) {
+        Term::Ite {
+            c: same,
+            b: second,
+            ..
+        } if same.index == c.index => second,
+        _ => a,
+    }
+}
+
+/// The choice between two arms, neither of which is a choice by the same condition.
+fn choice_of_arms(terms: &Terms, c: TermId, a: TermId, b: TermId) -> Form
+    requires c { c.index < length terms.now }
+    requires a { a.index < length terms.now }
+    requires b { b.index < length terms.now }
+    requires bit { width_of (tree_in terms.now c) ≡ 1 }
+    requires alike { width_of (tree_in terms.now a) ≡ width_of (tree_in terms.now b) }
+    ensures { Simplifies terms.now (tree.Ite (tree_in terms.now c) (tree_in terms.now a) (tree_in terms.now b) (width_of (tree_in terms.now a))) result }
+{
+    let width = terms.width(a);
+    if a.index == b.index {
+        return Form::Known(a);
+    }
+    if let Some(condition) = number(terms, c) {
+        return if condition == 0 {
+            Form::Known(b)
+        } else {
+            Form::Known(a)
+        };
+    }
+    if width == 1 {
+        if let Some(form) = choice_of_truths(terms, c, a, b) {
+            return form;
+        }
+    }
+    Form::Built(Term::Ite { c, a, b, width })
+}
+
+/// The choice by a condition that is not plainly another's negation.
+fn choice_by(terms: &Terms, c: TermId, a: TermId, b: TermId) -> Form
+    requires c { c.index < length terms.now }
+    requires a { a.index < length terms.now }
+    requires b { b.index < length terms.now }
+    requires bit { width_of (tree_in terms.now c) ≡ 1 }
+    requires alike { width_of (tree_in terms.now a) ≡ width_of (tree_in terms.now b) }
+    ensures { Simplifies terms.now (tree.Ite (tree_in terms.now c) (tree_in terms.now a) (tree_in terms.now b) (width_of (tree_in terms.now a))) result }
+{
+    let first = where_true(terms, c, a);
+    let second = where_false(terms, c, b);
+    choice_of_arms(terms, c, first, second)
+}
+
+/// The first of two where the condition is 1, and else the second.
+pub fn choice(terms: &Terms, c: TermId, a: TermId, b: TermId) -> Form
+    requires c { c.index < length terms.now }
+    requires a { a.index < length terms.now }
+    requires b { b.index < length terms.now }
+    requires bit { width_of (tree_in terms.now c) ≡ 1 }
+    requires alike { width_of (tree_in terms.now a) ≡ width_of (tree_in terms.now b) }
+    ensures { Simplifies terms.now (tree.Ite (tree_in terms.now c) (tree_in terms.now a) (tree_in terms.now b) (width_of (tree_in terms.now a))) result }
+{
+    terms.values_fit();
+    match term(terms, c) {
+        Term::Not { a: turned, .. } => choice_by(terms, turned, b, a),
+        _ => choice_by(terms, c, a, b),
+    }
+}

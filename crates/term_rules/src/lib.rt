@@ -1,0 +1,27 @@
+//! Builders of terms that simplify.
+//!
+//! Each builder answers a term with the value of its operation under every assignment and with at
+//! most as many nodes as the operation itself. A rule is a function that looks at terms and answers
+//! a form: a term that is there, or one over terms that are there. The rules are those
+//! that solvers of bit vectors rewrite by (Bitwuzla, CAV 2023; Z3's rewriter). It stands on
+//! `bv_terms`, and on `term_folds` for operations on known numbers and for weights; the encoding of
+//! runs stands on it.
+#![tactic(auto)]
+
+mod arithmetic;
+mod bitwise;
+mod builders;
+mod building;
+mod choices;
+mod comparisons;
+mod complements;
+mod divisions;
+mod form;
+mod reading;
+mod shifts;
+mod widths;
+
+pub use builders::{
+    add, and, ashr, concat, constant, eq, extract, ite, lshr, mul, not, or, sext, shl, slt, sub,
+    udiv, ult, urem, variable, xor, zext,
+};

@@ -1,0 +1,150 @@
+//! Rules of parts of numbers, and of numbers at other widths.
+
+ghost use Rattle.std.specs.Prelude.{◌≡◌, ◌<◌, ◌≤◌, ◌+◌, IfSome, length};
+ghost use Rattle.bv_terms.specs.Tree as tree;
+ghost use Rattle.bv_terms.specs.Tree.{width_of};
+ghost use Rattle.bv_terms.specs.Trees.{tree_in};
+ghost use Rattle.term_rules.specs.Forms.{Simplifies};
+
+use crate::form::Form;
+use crate::reading::{number, term};
+use bv_terms::{Term, TermId, Terms};
+
+/// The bits of the term, which is all of it or a part.
+fn bits(terms: &Terms, a: TermId, from: u32, width: u32) -> Form
+    requires a { a.index < length terms.now }
+    requires least { 1 ≤ width }
+    requires most { from + width ≤ width_of (tree_in terms.now a) }
+    ensures { Simplifies terms.now (tree.Extract (tree_in terms.now a) from width) result }
+{
+    terms.values_fit();
+    if width == terms.width(a) {
+        Form::Known(a)
+    } else {
+        Form::Built(Term::Extract { a, from, width })
+    }
+}
+
+/// The bits of `a` from the place `from` on.
+pub fn part(terms: &Terms, a: TermId, from: u32, width: u32) -> Form
+    requires a { a.index < length terms.now }
+    requires least { 1 ≤ width }
+    requires most { from + width ≤ width_of (tree_in terms.now a) }
+    ensures { Simplifies terms.now (tree.Extract (tree_in terms.now a) from width) result }
+{
+    terms.values_fit();
+    let _whole = terms.width(a);
+    match term(terms, a) {
+        Term::Extract {
+            a: inner,
+            from: below,
+            ..
+        } => {
+            let _inner = terms.width(inner);
+            bits(terms, inner, below + from, width)
+        }
+        Term::Concat { low, below, .. } if from + width <= below => bits(terms, low, from, width),
+        Term::Concat { high, below, .. } if below <= from => bits(terms, high, from - below, width),
+        Term::Zext { a: inner, .. } if from + width <= terms.width(inner) => bits(
+            terms, inner, from, width,
+        ),
+        Term::Zext { a: inner, .. } if terms.width(inner) <= from => Form::Built(Term::Constant {
+            value: 0,
+            width,
+        }),
+        _ => bits(terms, a, from, width),
+    }
+}
+
+/// The same number at a width that is as great or greater.
+pub fn widened(terms: &Terms, a: TermId, width: u32) -> Form
+    requires a { a.index < length terms.now }
+    requires least { width_of (tree_in terms.now a) ≤ width }
+    requires most { width ≤ 128 }
+    ensures { Simplifies terms.now (tree.Zext (tree_in terms.now a) width) result }
+{
+    if width == terms.width(a) {
+        return Form::Known(a);
+    }
+    match term(terms, a) {
+        Term::Zext { a: inner, .. } => Form::Built(Term::Zext { a: inner, width }),
+        _ => Form::Built(Term::Zext { a, width }),
+    }
+}
+
+/// The same number in two's complement at a width that is as great or greater.
+pub fn widened_signed(terms: &Terms, a: TermId, width: u32) -> Form
+    requires a { a.index < length terms.now }
+    requires least { width_of (tree_in terms.now a) ≤ width }
+    requires most { width ≤ 128 }
+    ensures { Simplifies terms.now (tree.Sext (tree_in terms.now a) (width_of (tree_in terms.now a)) width) result }
+{
+    terms.values_fit();
+    let from = terms.width(a);
+    if width == from {
+        return Form::Known(a);
+    }
+    match term(terms, a) {
+        Term::Zext { a: inner, .. } if terms.width(inner) < from => Form::Built(Term::Zext {
+            a: inner,
+            width,
+        }),
+        _ => Form::Built(Term::Sext { a, from, width }),
+    }
+}
+
+/// Two parts of one term, the second right below the first, as one part of it.
+fn adjacent(terms: &Terms, high: TermId, low: TermId) -> Option<Form>
+    requires high { high.index < length terms.now }
+    requires low { low.index < length terms.now }
+    requires most { width_of (tree_in terms.now high) + width_of (tree_in terms.now low) ≤ 128 }
+    ensures { IfSome result (Simplifies terms.now (tree.Concat (tree_in terms.now high) (tree_in terms.now low)
+        (width_of (tree_in terms.now low)) (width_of (tree_in terms.now high) + width_of (tree_in terms.now low)))) }
+{
+    match (term(terms, high), term(terms, low)) {
+        (
+            Term::Extract {
+                a: whole,
+                from: above,
+                width: upper,
+            },
+            Term::Extract {
+                a: same,
+                from,
+                width: lower,
+            },
+        ) if whole.index == same.index => {
+            let _whole = terms.width(same);
+            if above == from + lower {
+                Some(bits(terms, whole, from, upper + lower))
+            } else {
+                None
+            }
+        }
+        _ => None,
+    }
+}
+
+/// The bits of `high` and then those of `low`.
+pub fn joined(terms: &Terms, high: TermId, low: TermId) -> Form
+    requires high { high.index < length terms.now }
+    requires low { low.index < length terms.now }
+    requires most { width_of (tree_in terms.now high) + width_of (tree_in terms.now low) ≤ 128 }
+    ensures { Simplifies terms.now (tree.Concat (tree_in terms.now high) (tree_in terms.now low)
+        (width_of (tree_in terms.now low)) (width_of (tree_in terms.now high) + width_of (tree_in terms.now low))) result }
+{
+    let below = terms.width(low);
+    let width = terms.width(high) + below;
+    if let Some(form) = adjacent(terms, high, low) {
+        return form;
+    }
+    match number(terms, high) {
+        Some(value) if value == 0 => Form::Built(Term::Zext { a: low, width }),
+        _ => Form::Built(Term::Concat {
+            high,
+            low,
+            below,
+            width,
+        }),
+    }
+}
