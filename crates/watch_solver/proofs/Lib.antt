@@ -1,0 +1,10 @@
+pub mod Codes
+pub mod Deciding
+pub mod Keeping
+pub mod Learned
+pub mod Linking
+pub mod Lists
+pub mod Looking
+pub mod Starting
+pub mod Visiting
+pub mod Walking

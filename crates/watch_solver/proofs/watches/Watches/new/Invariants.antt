@@ -1,0 +1,8 @@
+-- All lists so far are empty.
+use Rattle.std.proofs.Common.{◌≡◌, ℕ, List, [], Some, slice_get, length}
+use Rattle.watch_solver.specs.declared.watches.Watch.{Watch}
+use Rattle.watch_solver.proofs.watches.Watches.new.Given as goal
+
+abbrev pub invariant-loop-literal : goal.invariant-loop-literal
+invariant-loop-literal l =
+    (length l.lists.items ≡ l._literal) × ((k : ℕ) (ws : List Watch) → slice_get l.lists.items k ≡ Some ws → ws ≡ [])
