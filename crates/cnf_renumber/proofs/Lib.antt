@@ -1,3 +1,6 @@
-pub mod Renamed
+pub mod Inverse
+pub mod Literals
+pub mod Models
+pub mod Renumbered
 pub mod Sorting
-pub mod Tables
+pub mod Steps

@@ -1,17 +1,18 @@
--- Literals with other numbers, once they are sorted, are the turned clause.
-use Rattle.std.proofs.Common.{ℕ, zero, suc, ◌≡◌, ◌<◌, ◌≤◌, ◌+◌, inl, inr, true, false, List, [], ◌∷◌, ◌++◌, length, map, take, drop, slice_get, slice_index, get_or, eqb, Some, refl, ap, sym, subst, ◌∙◌, arith}
+-- Renumbered literals, once they are sorted, are the renumbered clause.
+use Rattle.std.proofs.Common.{ℕ, zero, suc, ◌≡◌, ◌<◌, ◌+◌, inl, inr, false, List, [], ◌∷◌, ◌++◌, length, map, take, drop, slice_get, slice_index, eqb, Some, refl, ap, sym, subst, ◌∙◌, arith}
 use Rattle.std.specs.List.{IsDistinct, AllByRecursion, Contains, refill}
 use Rattle.std.specs.List.Sorted.{IsNonDecreasing, IsNonDecreasingBy, IsPermutation, IsStrictlyIncreasing}
 use Rattle.std.proofs.lemmas.Bool.{cases_Bool, eqb-true, eqb-false}
 use Rattle.std.proofs.lemmas.List.{get_or-map}
 use Rattle.std.proofs.lemmas.List.Sorted.{Contains-permutation, IsPermutation-map, IsPermutation-sym}
-use Rattle.std.proofs.lemmas.Map.Keys.{IsDistinct-cons, IsDistinct-IsPermutation, IsStrictlyIncreasing-from_distinct}
+use Rattle.std.proofs.lemmas.Map.Keys.{IsDistinct-IsPermutation, IsStrictlyIncreasing-from_distinct}
 use Rattle.clause_lits.specs.declared.lit.Lit.{Lit}
 use Rattle.clause_lits.specs.Meaning.{IsClause, RisesFrom}
 use Rattle.clause_log.specs.Members.{Has}
 use Rattle.clause_log.proofs.Membership.{rises-has, same_members}
-use Rattle.cnf_renumber.specs.Turned.{turn, turned, IsRenumbering}
-use Rattle.cnf_renumber.proofs.Renamed.{has-placed, placed-has, number-one, turned-rises}
+use Rattle.cnf_renumber.specs.Renumbered.{IsRenumbering, renumbered}
+use Rattle.cnf_renumber.proofs.Literals.{variable-one}
+use Rattle.cnf_renumber.proofs.Renumbered.{has-placed, placed-has, renumbered-rises}
 
 -- ---- what is written over a whole list
 
@@ -34,14 +35,14 @@ contains-has [] x c = absurd (omega (arith, c.1))
 contains-has (y ∷ ys) x (zero, lt, e) = inl e
 contains-has (y ∷ ys) x (suc k, lt, e) = inr (contains-has ys x (k, omega arith, e))
 
-map-has : (p : ℕ → ℕ) (c : List Lit) (l : Lit) → Has (map (turn p) c) l → Has (turned p c) l
+map-has : (p : Lit → Lit) (c : List Lit) (l : Lit) → Has (map p c) l → Has (renumbered p c) l
 map-has p [] l h = absurd h
-map-has p (x ∷ xs) l (inl e) = has-placed (turn p x) (turned p xs) l (inl e)
-map-has p (x ∷ xs) l (inr h) = has-placed (turn p x) (turned p xs) l (inr (map-has p xs l h))
+map-has p (x ∷ xs) l (inl e) = has-placed (p x) (renumbered p xs) l (inl e)
+map-has p (x ∷ xs) l (inr h) = has-placed (p x) (renumbered p xs) l (inr (map-has p xs l h))
 
-has-map : (p : ℕ → ℕ) (c : List Lit) (l : Lit) → Has (turned p c) l → Has (map (turn p) c) l
+has-map : (p : Lit → Lit) (c : List Lit) (l : Lit) → Has (renumbered p c) l → Has (map p c) l
 has-map p [] l h = absurd h
-has-map p (x ∷ xs) l h = elim (placed-has (turn p x) (turned p xs) l h) [ inl e ↦ inl e | inr g ↦ inr (has-map p xs l g) ]
+has-map p (x ∷ xs) l h = elim (placed-has (p x) (renumbered p xs) l h) [ inl e ↦ inl e | inr g ↦ inr (has-map p xs l g) ]
 
 first-has : (ys : List Lit) (y : Lit) → slice_get ys 0 ≡ Some y → Has ys y
 first-has [] y e = absurd (let x : ⊥ = cc in x)
@@ -91,39 +92,39 @@ same-flipped x y = elim (cases_Bool (eqb x y)) [
   ]
 ]
 
-module _ (p q : ℕ → ℕ) (way : IsRenumbering p q) where
+module _ (p q : Lit → Lit) (way : IsRenumbering p q) where
   apart-all : (x : Lit) (ls : List Lit) → ((l : Lit) → Has ls l → x.variable ≡ l.variable → ⊥)
-      → AllByRecursion (λ (y : ℕ). eqb (p x.variable) y ≡ false) (variables (map (turn p) ls))
+      → AllByRecursion (λ (y : ℕ). eqb (p x).variable y ≡ false) (variables (map p ls))
   apart-all x [] f = tt
   apart-all x (l ∷ ls) f = (here, apart-all x ls (λ k h. f k (inr h)))
     where
-      here : eqb (p x.variable) (p l.variable) ≡ false
-      here = elim (cases_Bool (eqb (p x.variable) (p l.variable))) [
-        | inl t ↦ absurd (f l (inl refl) (number-one p q way x.variable l.variable (eqb-true (p x.variable) (p l.variable) t)))
+      here : eqb (p x).variable (p l).variable ≡ false
+      here = elim (cases_Bool (eqb (p x).variable (p l).variable)) [
+        | inl t ↦ absurd (f l (inl refl) (variable-one p q way x l (eqb-true (p x).variable (p l).variable t)))
         | inr g ↦ g
       ]
 
-  distinct-turned : (n : ℕ) (c : List Lit) → RisesFrom n c → IsDistinct eqb (variables (map (turn p) c))
+  distinct-renumbered : (n : ℕ) (c : List Lit) → RisesFrom n c → IsDistinct eqb (variables (map p c))
   unfolding IsDistinct
-  distinct-turned n [] h = tt
-  distinct-turned n (x ∷ xs) h =
-      (apart-all x xs (λ l has e. let lt = rises-has x.variable xs l h.1 has in omega (arith, lt, e)), distinct-turned x.variable xs h.1)
+  distinct-renumbered n [] h = tt
+  distinct-renumbered n (x ∷ xs) h =
+      (apart-all x xs (λ l has e. let lt = rises-has x.variable xs l h.1 has in omega (arith, lt, e)), distinct-renumbered x.variable xs h.1)
 
-  sorted-turned : (c ys : List Lit) → IsClause c → IsPermutation (map (turn p) c) ys → IsNonDecreasingBy (λ (l : Lit). l.variable) ys → ys ≡ turned p c
-  sorted-turned c ys h moved sorted =
-      let rising = turned-rises p q way 0 c h in
-      let to : (l : Lit) → Has ys l → Has (turned p c) l =
-      λ l has. map-has p c l (contains-has (map (turn p) c) l (Contains-permutation ys (map (turn p) c) l (IsPermutation-sym (map (turn p) c) ys moved) (has-contains ys l has))) in
-      let from : (l : Lit) → Has (turned p c) l → Has ys l =
-      λ l has. contains-has ys l (Contains-permutation (map (turn p) c) ys l moved (has-contains (map (turn p) c) l (has-map p c l has))) in
-      let apart = IsDistinct-IsPermutation eqb same-flipped (variables (map (turn p) c)) (variables ys) (IsPermutation-map (λ (l : Lit). l.variable) (map (turn p) c) ys moved) (distinct-turned 0 c h) in
-      let rises = rises-from 0 ys (λ y e. rises-has 0 (turned p c) y rising (to y (first-has ys y e)))
+  sorted-renumbered : (c ys : List Lit) → IsClause c → IsPermutation (map p c) ys → IsNonDecreasingBy (λ (l : Lit). l.variable) ys → ys ≡ renumbered p c
+  sorted-renumbered c ys h moved sorted =
+      let rising = renumbered-rises p q way 0 c h in
+      let to : (l : Lit) → Has ys l → Has (renumbered p c) l =
+      λ l has. map-has p c l (contains-has (map p c) l (Contains-permutation ys (map p c) l (IsPermutation-sym (map p c) ys moved) (has-contains ys l has))) in
+      let from : (l : Lit) → Has (renumbered p c) l → Has ys l =
+      λ l has. contains-has ys l (Contains-permutation (map p c) ys l moved (has-contains (map p c) l (has-map p c l has))) in
+      let apart = IsDistinct-IsPermutation eqb same-flipped (variables (map p c)) (variables ys) (IsPermutation-map (λ (l : Lit). l.variable) (map p c) ys moved) (distinct-renumbered 0 c h) in
+      let rises = rises-from 0 ys (λ y e. rises-has 0 (renumbered p c) y rising (to y (first-has ys y e)))
       (IsStrictlyIncreasing-from_distinct (variables ys) (nondecreasing-map ys sorted) apart) in
-      same_members 0 ys (turned p c) rises rising to from
+      same_members 0 ys (renumbered p c) rises rising to from
 
   -- the literals of a clause, numbered and then sorted where they are
-  pub put-in-order : (c whole before ys : List Lit) → IsClause c → whole ≡ map (turn p) c → before ≡ whole → length ys ≡ length before → IsPermutation before ys
-      → IsNonDecreasingBy (λ (l : Lit). l.variable) ys → refill (length whole) whole ys ≡ turned p c
+  pub put-in-order : (c whole before ys : List Lit) → IsClause c → whole ≡ map p c → before ≡ whole → length ys ≡ length before → IsPermutation before ys
+      → IsNonDecreasingBy (λ (l : Lit). l.variable) ys → refill (length whole) whole ys ≡ renumbered p c
   put-in-order c whole before ys h is same long moved sorted =
       refilled whole ys (long ∙ ap (λ (ls : List Lit). length ls) same)
-      ∙ sorted-turned c ys h (subst (λ (xs : List Lit). IsPermutation xs ys) (same ∙ is) moved) sorted
+      ∙ sorted-renumbered c ys h (subst (λ (xs : List Lit). IsPermutation xs ys) (same ∙ is) moved) sorted

@@ -1,16 +1,20 @@
-//! Clauses and logs with other numbers for their variables.
+//! Clauses with other numbers and signs for their variables, and logs and models mapped back.
 //!
-//! A search decides variables in order of their numbers, so other numbers are another search. A
-//! [`Renumbering`] turns clauses forth and logs back. It promises that a log that is found for the
-//! turned clauses shows the same of the clauses themselves once it is turned back. It stands on
-//! `clause_search`; questions stand on it.
+//! A search decides the variables in order of their numbers, each as 0 first, so other numbers and
+//! signs are another search. A [`Renumbering`] is a bijection of literals that keeps opposites
+//! opposite. It promises that a log that is found for the renumbered clauses shows the same of the
+//! clauses themselves once it is mapped back, and that a model of them is then one of the clauses.
+//! It stands on `clause_search`; searches in turn stand on it.
 #![tactic(auto)]
 
 mod laws;
-mod numbering;
-mod numbers;
-mod turning;
+mod mapping;
+mod orders;
+mod tables;
 
-pub use laws::{found_log_is_spent, found_log_refutes, turned_log_is_careful, turned_log_refutes};
-pub use numbering::by_digit;
-pub use numbers::{Renumbering, are_inverse};
+pub use laws::{
+    found_log_is_spent, found_log_refutes, found_model_is_model, renumbered_log_is_careful,
+    renumbered_log_refutes,
+};
+pub use orders::{by_bit, in_order};
+pub use tables::{Renumbering, are_inverse};

@@ -71,7 +71,7 @@ asks gates out order test cnf t e fronts within = record {
   right = λ places m.
       let fits : length order ≤ length places = omega (arith, m.0, e.front, within) in
       let front = front-from e.number places 0 order (λ j a at. e.ordered j a at ∙ (omega arith)) (omega arith) in
-      e.output places m ∙ (t.says (λ i. meaning.values_of places (get_or e.number i 0)) ∙ ap test (sym front));
+      e.output (λ i. meaning.values_of places (get_or e.number i 0)) places m (λ i at has. refl) ∙ (t.says (λ i. meaning.values_of places (get_or e.number i 0)) ∙ ap test (sym front));
 }
 
 module _ (test : List Bool → Bool) (count : ℕ) (cnf : Cnf) (q : Asks test count cnf) where

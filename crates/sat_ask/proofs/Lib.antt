@@ -2,5 +2,4 @@ pub mod Asking
 pub mod Building
 pub mod Marking
 pub mod Orders
-pub mod Renumbered
 pub mod Testing

@@ -1,9 +1,9 @@
-//! Questions: which digits of its variables make a term true.
+//! Questions: which bits of its variables make a term true.
 //!
-//! [`ask`] answers the least digits, or that there are none, with clauses that ask the same question
+//! [`ask`] answers the least bits, or that there are none, with clauses that ask the same question
 //! and a log that refutes them; under a limit it may also answer how far it came. It stands on
-//! `bit_blast`, which makes the circuit, `gates`, which makes the clauses, `clause_solver`, and
-//! `cnf_renumber`, since a search under other numbers is quicker where there is no model.
+//! `bit_blast`, which makes the circuit, `gates`, which makes the clauses, and `sat_restarts`, which
+//! searches them.
 #![tactic(auto)]
 
 mod asked;

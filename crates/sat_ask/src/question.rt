@@ -17,7 +17,7 @@ use bit_blast::Blast;
 use bv_terms::{Term, TermId, Terms, Variable};
 use clause_lits::Cnf;
 use clause_log::Cert;
-use clause_solver::Answer;
+use clause_search::Answer;
 use gates::{GateId, to_cnf};
 use std::alloc::Global;
 use support::{NoMemory, Sequence};

@@ -1,18 +1,19 @@
-//! The search, under other numbers first.
+//! The search for the least model.
 
-ghost use Rattle.std.specs.Prelude.{◌+◌, ◌<◌, ◌≤◌, IfOk, IfSome, length};
+ghost use Rattle.std.specs.Prelude.{◌<◌, IfOk, IfSome};
 ghost use Rattle.clause_search.specs.Outcome.{IsAnswer};
 
 use clause_lits::Cnf;
-use clause_solver::{Answer, solve};
-use cnf_renumber::{Renumbering, by_digit};
+use clause_search::Answer;
+use sat_restarts::{Searched, least};
 use std::alloc::Global;
 use support::NoMemory;
 
 /// The answer to which models the clauses have, whose front is words of these widths, each with its
-/// highest digit first. The clauses are searched with the low digits of all words first, which is
-/// quick where there is no model; only where there is one are they searched in order, for the least.
-/// Each search has the limit anew, so an answer that is spent has the steps of one search.
+/// most significant bit first. Searches in turn, under other numbers and signs for the variables,
+/// find whether there is a model; only where there is one are the clauses searched for the least.
+/// The limit is for all of them together: each search has what the log so far leaves of it, and an
+/// answer that is spent has the steps of them all.
 pub fn search(
     alloc: Global,
     cnf: &Cnf,
@@ -22,30 +23,9 @@ pub fn search(
     requires { IfSome limit (λ n. 0 < n) }
     ensures { IfOk result (IsAnswer cnf.now.variables cnf.now.front cnf.now.clauses limit) }
 {
-    if let Some(numbers) = by_digit(alloc, widths, cnf.variables)? {
-        if let Some(answer) = search_renumbered(alloc, cnf, &numbers, limit)? {
-            return Ok(answer);
-        }
-    }
-    solve(alloc, cnf, limit)
-}
-
-/// What a search of the clauses under other numbers shows of them, or `None` where it finds a model,
-/// which needn't be the least.
-fn search_renumbered(
-    alloc: Global,
-    cnf: &Cnf,
-    numbers: &Renumbering,
-    limit: Option<u64>,
-) -> Result<Option<Answer>, NoMemory>
-    requires few { length numbers.now.forth ≤ cnf.now.variables + 1 }
-    requires limit { IfSome limit (λ n. 0 < n) }
-    ensures { IfOk result (λ r. IfSome r (IsAnswer cnf.now.variables cnf.now.front cnf.now.clauses limit)) }
-{
-    let turned = numbers.turn(alloc, cnf)?;
-    match solve(alloc, &turned, limit)? {
-        Answer::Sat(_) => Ok(None),
-        Answer::Unsat(log) => Ok(Some(Answer::Unsat(numbers.turn_back(alloc, log)?))),
-        Answer::Spent(log) => Ok(Some(Answer::Spent(numbers.turn_back(alloc, log)?))),
+    match sat_restarts::search(alloc, cnf, widths, limit)? {
+        Searched::Model { values, learned } => least(alloc, cnf, widths, values, learned, limit),
+        Searched::Refuted(log) => Ok(Answer::Unsat(log)),
+        Searched::Spent(log) => Ok(Answer::Spent(log)),
     }
 }

@@ -1,0 +1,8 @@
+-- The steps so far.
+use Rattle.std.specs.Vec.Iter.{into_iter_items}
+use Rattle.cnf_renumber.specs.Renumbered.{renumbered_literal}
+use Rattle.cnf_renumber.proofs.Inverse.{LogSoFar}
+use Rattle.cnf_renumber.proofs.tables.Renumbering.log_back.Given as goal
+
+abbrev pub invariant-loop-step : goal.invariant-loop-step
+invariant-loop-step l = LogSoFar (renumbered_literal l.self.back) l.fn.log (into_iter_items l.step-iterator) l.all.items

@@ -1,9 +1,0 @@
--- The clauses so far.
-use Rattle.std.proofs.Common.{ℕ, ◌≡◌, ◌<◌, List, get_or, map, take}
-use Rattle.clause_lits.specs.declared.lit.Lit.{Lit}
-use Rattle.clause_lits.specs.Meaning.{IsClause}
-use Rattle.cnf_renumber.specs.Turned.{numbered as numbered_by, turned}
-use Rattle.cnf_renumber.proofs.turning.turned_clauses.Given as goal
-
-abbrev pub invariant-loop-clause : goal.invariant-loop-clause
-invariant-loop-clause l = (l.all.items ≡ map (turned (numbered_by l.table)) (take l.clause-index l.clauses)) × ((k : ℕ) (d : List Lit) → k < l.clause-index → IsClause (get_or l.clauses k d))

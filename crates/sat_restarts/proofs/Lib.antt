@@ -1,0 +1,5 @@
+pub mod Logs
+pub mod Models
+pub mod Ranges
+pub mod Runs
+pub mod Settling

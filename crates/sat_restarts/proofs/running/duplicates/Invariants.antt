@@ -1,0 +1,6 @@
+-- The clauses so far.
+use Rattle.std.proofs.Common.{◌≡◌, take}
+use Rattle.sat_restarts.proofs.running.duplicates.Given as goal
+
+abbrev pub invariant-loop-clause : goal.invariant-loop-clause
+invariant-loop-clause l = l.all ≡ take l.clause-index l.clauses
