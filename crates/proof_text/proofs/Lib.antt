@@ -1,0 +1,9 @@
+pub mod Numbers
+pub mod Splits
+pub mod Clauses
+pub mod Chains
+pub mod Languages
+pub mod Moves
+pub mod Escapes
+pub mod Reading
+pub mod Top

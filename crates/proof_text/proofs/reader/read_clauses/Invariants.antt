@@ -1,0 +1,11 @@
+use Rattle.std.proofs.Common.{◌≡◌, ◌-◌, All, length, map}
+use Rattle.proof_text.specs.Format.{IsClauseOver, clause_line}
+use Rattle.proof_text.specs.Following.{Clauses, Moves}
+use Rattle.proof_text.proofs.reader.read_clauses.Given as goal
+
+abbrev pub invariant-loop-index : goal.invariant-loop-index
+invariant-loop-index l = record {
+  count : length l.all ≡ l.index;
+  fit : All (IsClauseOver l.counts.variables) l.all;
+  moves : Moves (Clauses l.counts.variables l.counts.clauses) l.fn.lines (map clause_line l.all) (Clauses l.counts.variables (l.counts.clauses - l.index)) l.lines;
+}

@@ -1,0 +1,27 @@
+use Rattle.std.proofs.Common.{◌≡◌}
+use Rattle.std.proofs.lemmas.List.Elements.{All-push}
+use Rattle.std.proofs.lemmas.Result.{err_from_is_err_and}
+use Rattle.proof_text.specs.declared.part.Part.{Part}
+use Rattle.proof_text.specs.Format.{IsPart, proof_lines}
+use Rattle.proof_text.specs.Following.{File, Rows}
+use Rattle.proof_text.proofs.Moves.{stopped_after}
+use Rattle.proof_text.proofs.Reading.{parts_push}
+use Rattle.proof_text.proofs.reader.read_parts.Goals as goal
+
+pub returns-in_err-read_part-clause-err : goal.returns-in_err-read_part-clause-err
+returns-in_err-read_part-clause-err c =
+    let i = c.loop-lines in
+    let p = err_from_is_err_and c.from_residual-in_err-read_part.result c.from_residual-in_err-read_part.ensures.1 in
+    rw (p.1, p.2) (stopped_after File Rows c.args.text.now i.lines (proof_lines i.parts) c.in_err-read_part.field-0.0 i.invariant.moves c.in_err-read_part.ensures.err)
+
+pub loop-lines-preserved : goal.loop-lines-preserved
+loop-lines-preserved c =
+    let i = c.loop-lines in
+    let x = c.in_ok-read_part.field-0 in
+    let one = c.in_ok-read_part.ensures.ok in
+    let pushed = c.in_ok-push.ensures.ok in
+    record {
+      fit = rw pushed (All-push IsPart i.parts x i.invariant.fit one.0);
+      fronts = rw pushed (All-push (λ (p : Part). p.cert.cnf.front ≡ 0) i.parts x i.invariant.fronts one.1);
+      moves = rw pushed (parts_push c.args.text.now i.lines c.read_part.new.lines i.parts x i.invariant.moves one.2);
+    }

@@ -1,0 +1,7 @@
+use Rattle.std.proofs.Common.{◌≡◌, ◌++◌, take}
+use Rattle.std.specs.List.{flat_map}
+use Rattle.proof_text.specs.Format.{literal_text, spaced}
+use Rattle.proof_text.proofs.writer.push_literals.Given as goal
+
+abbrev pub invariant-loop-literal : goal.invariant-loop-literal
+invariant-loop-literal l = l.out.items ≡ l.fn.out.items ++ flat_map (λ l. spaced (literal_text l)) (take l.literal-index l.literals)

@@ -1,0 +1,98 @@
+-- The text of a proof file: for each part its clauses, as in the DIMACS CNF format, and the steps of a log.
+use Rattle.std.specs.Prelude.{ℕ, ◌≡◌, ◌<◌, ◌≤◌, ◌^◌, ◌⊎◌, Bool, true, cond, All, List, [], ◌∷◌, ◌++◌, length, map, codes, slice_get, Some}
+use Rattle.std.specs.Fmt.{decimal}
+use Rattle.std.specs.List.{flat_map}
+use Rattle.clause_lits.specs.declared.lit.Lit.{Lit}
+use Rattle.clause_lits.specs.Meaning.{IsClause}
+use Rattle.clause_log.specs.declared.step.Step.{Step}
+use Rattle.ir_tree.specs.declared.name.Name.TheVariants.{Word}
+use Rattle.report.specs.Naming.{is_digit, name_text}
+use Rattle.proof_text.specs.declared.part.Part.{Part}
+
+-- ---- lines
+
+abbrev pub spaced : List ℕ → List ℕ
+spaced text = text ++ codes " "
+
+-- a variable, after a minus where the literal is negative
+abbrev pub literal_text : Lit → List ℕ
+literal_text l = cond l.positive (decimal l.variable) (codes "-" ++ decimal l.variable)
+
+-- the literals, each with a space after it, and 0
+abbrev pub clause_line : List Lit → List ℕ
+clause_line c = flat_map (λ l. spaced (literal_text l)) c ++ codes "0"
+
+-- the numbers of the chain, each with a space after it, 0, and after a space the clause
+abbrev pub step_line : Step → List ℕ
+step_line s = flat_map (λ n. spaced (decimal n)) s.chain ++ codes "0 " ++ clause_line s.clause
+
+abbrev pub status_text : Bool → List ℕ
+status_text is_correct = cond is_correct (codes " correct") (codes " incorrect")
+
+abbrev pub row_line : List ℕ → Bool → List ℕ
+row_line name is_correct = codes "row @" ++ name ++ status_text is_correct
+
+abbrev pub counts_line : ℕ → ℕ → List ℕ
+counts_line variables clauses = codes "p cnf " ++ decimal variables ++ codes " " ++ decimal clauses
+
+abbrev pub log_line : ℕ → List ℕ
+log_line steps = codes "log " ++ decimal steps
+
+-- ---- parts
+
+abbrev pub part_lines : Part → List (List ℕ)
+part_lines p = row_line p.name p.is_correct
+    ∷ counts_line p.cert.cnf.variables (length p.cert.cnf.clauses)
+    ∷ map clause_line p.cert.cnf.clauses
+    ++ log_line (length p.cert.log)
+    ∷ map step_line p.cert.log
+
+abbrev pub proof_lines : List Part → List (List ℕ)
+proof_lines parts = codes "tvproof 1" ∷ flat_map part_lines parts
+
+-- each line ends with a newline
+abbrev pub ended : List (List ℕ) → List ℕ
+ended lines = flat_map (λ line. line ++ 10 ∷ []) lines
+
+abbrev pub proof_text : List Part → List ℕ
+proof_text parts = ended (proof_lines parts)
+
+-- ---- what has a text
+
+-- a number that the format has room for
+abbrev pub IsSmall : ℕ → Type 0
+IsSmall n = n < 2 ^ 62
+
+-- a word as a report prints it, with or without quotes
+abbrev pub IsPrintedWord : List ℕ → Type 0
+IsPrintedWord text = (bytes : List ℕ) × All (λ b. b < 256) bytes × (text ≡ name_text (Word bytes))
+
+-- digits without a leading zero
+abbrev pub IsPrintedNumber : List ℕ → Type 0
+IsPrintedNumber text = (0 < length text) × All (λ b. is_digit b ≡ true) text × (slice_get text 0 ≡ Some 48 → length text ≡ 1)
+
+-- a function's name as a report prints it
+abbrev pub IsPrintedName : List ℕ → Type 0
+IsPrintedName text = IsPrintedNumber text ⊎ IsPrintedWord text
+
+-- a clause over the variables 1 to `variables`
+abbrev pub IsClauseOver : ℕ → List Lit → Type 0
+IsClauseOver variables c = IsClause c × All (λ l. l.variable ≤ variables) c
+
+-- the numbers of a chain are positive
+pub record IsStepOver (variables : ℕ) (s : Step) : Type 0 where
+  pub chain : All (λ n. (0 < n) × IsSmall n) s.chain
+  pub clause : IsClauseOver variables s.clause
+
+pub record IsPart (p : Part) : Type 0 where
+  pub name : IsPrintedName p.name
+  pub variables : IsSmall p.cert.cnf.variables
+  pub clause_count : IsSmall (length p.cert.cnf.clauses)
+  pub step_count : IsSmall (length p.cert.log)
+  pub clauses : All (IsClauseOver p.cert.cnf.variables) p.cert.cnf.clauses
+  pub steps : All (IsStepOver p.cert.cnf.variables) p.cert.log
+
+-- the text is that of these parts
+pub record IsProof (text : List ℕ) (parts : List Part) : Type 0 where
+  pub fit : All IsPart parts
+  pub is : text ≡ proof_text parts

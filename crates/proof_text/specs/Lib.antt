@@ -1,0 +1,4 @@
+pub mod Format
+pub mod Words
+pub mod FirstFault
+pub mod Following

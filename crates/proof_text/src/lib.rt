@@ -1,0 +1,20 @@
+//! Proof files: the certificates of a report's rows as text, with the clauses as in the DIMACS CNF
+//! format and the steps of a log as in LRAT (L. Cruz-Filipe and others, "Efficient Certified RAT
+//! Verification", 2017).
+//!
+//! It promises that [`write`] gives the one text of its parts, that [`parse`] gives the parts of a text
+//! exactly where it is a proof file, and that otherwise it names the first line that no proof file has
+//! there. Both take time and memory in proportion to the text, whatever numbers it names. It uses
+//! `clause_log` and `report`, which prints the names; the command `log` and the option `--proof` use it.
+#![tactic(auto)]
+
+mod cursor;
+mod names;
+mod part;
+mod reader;
+mod words;
+mod writer;
+
+pub use part::{Part, ProofFault};
+pub use reader::parse;
+pub use writer::write;

@@ -1,0 +1,152 @@
+//! From parts to their text.
+
+ghost use Rattle.std.specs.Prelude.{◌≡◌, ◌++◌, ◌∷◌, [], All, IfOk, OnOk, Bool, codes, map};
+ghost use Rattle.std.specs.Fmt.{decimal};
+ghost use Rattle.std.specs.List.{flat_map};
+ghost use Rattle.proof_text.specs.Format.{IsPart, IsProof, clause_line, counts_line, ended, literal_text, log_line, part_lines, proof_lines, row_line, spaced, step_line};
+
+use crate::part::Part;
+use clause_lits::{Clause, Cnf, Lit};
+use clause_log::Step;
+use std::alloc::Global;
+use support::NoMemory;
+
+fn push_number(alloc: Global, out: &mut Vec<u8>, n: u64) -> Result<(), NoMemory>
+    ensures { OnOk result (out.new.items ≡ out.old.items ++ decimal n) }
+{
+    out.extend_from_slice(n.to_string(alloc)?.as_bytes())?;
+    Ok(())
+}
+
+fn push_literal(alloc: Global, out: &mut Vec<u8>, literal: Lit) -> Result<(), NoMemory>
+    ensures { OnOk result (out.new.items ≡ out.old.items ++ spaced (literal_text literal)) }
+{
+    if !literal.positive {
+        out.extend_from_slice(b"-")?;
+    }
+    push_number(alloc, out, literal.variable)?;
+    out.extend_from_slice(b" ")?;
+    Ok(())
+}
+
+fn push_literals(alloc: Global, out: &mut Vec<u8>, literals: &[Lit]) -> Result<(), NoMemory>
+    ensures { OnOk result (out.new.items ≡ out.old.items ++ flat_map (λ l. spaced (literal_text l)) literals.now) }
+{
+    for literal in literals {
+        push_literal(alloc, out, *literal)?;
+    }
+    Ok(())
+}
+
+fn push_clause(alloc: Global, out: &mut Vec<u8>, clause: &Clause) -> Result<(), NoMemory>
+    ensures { OnOk result (out.new.items ≡ out.old.items ++ (clause_line clause.now ++ 10 ∷ [])) }
+{
+    push_literals(alloc, out, clause.literals())?;
+    out.extend_from_slice(b"0\n")?;
+    Ok(())
+}
+
+fn push_chain(alloc: Global, out: &mut Vec<u8>, chain: &[u64]) -> Result<(), NoMemory>
+    ensures { OnOk result (out.new.items ≡ out.old.items ++ flat_map (λ n. spaced (decimal n)) chain.now) }
+{
+    for number in chain {
+        push_number(alloc, out, *number)?;
+        out.extend_from_slice(b" ")?;
+    }
+    Ok(())
+}
+
+fn push_step(alloc: Global, out: &mut Vec<u8>, step: &Step) -> Result<(), NoMemory>
+    ensures { OnOk result (out.new.items ≡ out.old.items ++ (step_line step.now ++ 10 ∷ [])) }
+{
+    push_chain(alloc, out, step.chain.as_slice())?;
+    out.extend_from_slice(b"0 ")?;
+    push_clause(alloc, out, &step.clause)
+}
+
+fn push_clauses(alloc: Global, out: &mut Vec<u8>, clauses: &[Clause]) -> Result<(), NoMemory>
+    ensures { OnOk result (out.new.items ≡ out.old.items ++ ended (map clause_line clauses.now)) }
+{
+    for clause in clauses {
+        push_clause(alloc, out, clause)?;
+    }
+    Ok(())
+}
+
+fn push_steps(alloc: Global, out: &mut Vec<u8>, steps: &[Step]) -> Result<(), NoMemory>
+    ensures { OnOk result (out.new.items ≡ out.old.items ++ ended (map step_line steps.now)) }
+{
+    for step in steps {
+        push_step(alloc, out, step)?;
+    }
+    Ok(())
+}
+
+fn push_row(out: &mut Vec<u8>, name: &[u8], is_correct: bool) -> Result<(), NoMemory>
+    ensures { OnOk result (out.new.items ≡ out.old.items ++ (row_line name.now is_correct ++ 10 ∷ [])) }
+{
+    out.extend_from_slice(b"row @")?;
+    out.extend_from_slice(name)?;
+    if is_correct {
+        out.extend_from_slice(b" correct\n")?;
+    } else {
+        out.extend_from_slice(b" incorrect\n")?;
+    }
+    Ok(())
+}
+
+fn push_counts(
+    alloc: Global,
+    out: &mut Vec<u8>,
+    variables: u64,
+    clauses: u64,
+) -> Result<(), NoMemory>
+    ensures { OnOk result (out.new.items ≡ out.old.items ++ (counts_line variables clauses ++ 10 ∷ [])) }
+{
+    out.extend_from_slice(b"p cnf ")?;
+    push_number(alloc, out, variables)?;
+    out.extend_from_slice(b" ")?;
+    push_number(alloc, out, clauses)?;
+    out.extend_from_slice(b"\n")?;
+    Ok(())
+}
+
+fn push_log_count(alloc: Global, out: &mut Vec<u8>, steps: u64) -> Result<(), NoMemory>
+    ensures { OnOk result (out.new.items ≡ out.old.items ++ (log_line steps ++ 10 ∷ [])) }
+{
+    out.extend_from_slice(b"log ")?;
+    push_number(alloc, out, steps)?;
+    out.extend_from_slice(b"\n")?;
+    Ok(())
+}
+
+fn push_part(alloc: Global, out: &mut Vec<u8>, part: &Part) -> Result<(), NoMemory>
+    ensures { OnOk result (out.new.items ≡ out.old.items ++ ended (part_lines part.now)) }
+{
+    let cnf = &part.cert.cnf;
+    push_row(out, part.name.as_slice(), part.is_correct)?;
+    push_counts(alloc, out, cnf.variables, cnf.clauses.len() as u64)?;
+    push_clauses(alloc, out, cnf.clauses.as_slice())?;
+    push_log_count(alloc, out, part.cert.log.len() as u64)?;
+    push_steps(alloc, out, part.cert.log.as_slice())
+}
+
+fn push_parts(alloc: Global, out: &mut Vec<u8>, parts: &[Part]) -> Result<(), NoMemory>
+    ensures { OnOk result (out.new.items ≡ out.old.items ++ ended (flat_map part_lines parts.now)) }
+{
+    for part in parts {
+        push_part(alloc, out, part)?;
+    }
+    Ok(())
+}
+
+/// The text of the parts: the first line `tvproof 1`, and for each part its row, its clauses as in the
+/// DIMACS CNF format, and its steps.
+pub fn write(alloc: Global, parts: &[Part]) -> Result<Vec<u8>, NoMemory>
+    requires { All IsPart parts.now }
+    ensures { IfOk result (λ text. IsProof text.items parts.now) }
+{
+    let mut out = Vec::from_slice(alloc, b"tvproof 1\n")?;
+    push_parts(alloc, &mut out, parts)?;
+    Ok(out)
+}
