@@ -1,24 +1,47 @@
 #!/usr/bin/env python3
-"""How long the search for models takes, beside minisat on the same clauses.
+"""How long the search for models takes, beside other solvers on the same clauses.
 
-    bench/solving.py [PATH OF bench_solver]        (default: crates/bench_solver/out/bench_solver)
+    bench/solving.py [PATH OF bench_solver] [PAIRS A PASS]    (defaults: crates/bench_solver/out/bench_solver, 12)
 
-`pigeons N` puts one pigeon more than N holes into them; the others ask at N bits whether one term is ever
-another number than a second (`crates/bench_solver/src/main.rt` says which). None has a model. Beside the search
-in order stands that of a question, which takes the low digits of all variables first; the counts are of the
-learned clauses. Times are of the whole program less those of a run that prints the clauses. minisat (`apt-get
-install minisat`) gets the same DIMACS; its column is left out where it isn't there. No test rests on these
-figures.
+Three kinds of questions, all in the DIMACS format and none made for one solver:
+
+- terms: pigeons in holes, and pairs of terms that are equal, at several widths (`bench_solver question NAME BITS`);
+- identities: pairs of functions that are judged without given blocks (`bench_solver check`), and then the
+  clauses of the pair's last question;
+- passes: the same of functions that a pass of opt 19 changed, out of bench/pairs.c, where clang 19 is there.
+
+`ask` is the search of a question, `order` the search for the least model alone. Times are of the whole program,
+less nothing: reading the clauses counts for each. minisat and cadical (`apt-get install minisat cadical`) get the
+same file; a column is left out where its solver isn't there. The last lines say of how many questions, of those
+that minisat decides within 8 s, ours decides how many within 8 s, and the median of the ratios of the times. No
+test rests on these figures.
 """
 import os
 import shutil
+import statistics
 import subprocess
 import sys
 import tempfile
 import time
 
-QUESTIONS = [("pigeons", n) for n in (3, 4, 5, 6)] + [(name, n) for name in ("double", "difference", "three", "swap", "flips", "parts") for n in (8, 16, 32)]
-LIMIT = 60
+import pairs
+
+LIMIT = 8
+TERMS = [("pigeons", n) for n in (4, 5, 6, 8)] + [(name, n) for name, widths in [
+    ("three", (16, 64)), ("difference", (32, 64)), ("parts", (16, 32, 64)), ("commuted", (6, 8)), ("whole", (6, 8)),
+    ("remains", (6, 8, 10)), ("shifts", (16, 32))] for n in widths]
+IDENTITIES = [
+    ("(x + y) * 11, x * 11 + y * 11", 16, "%s = add T %x, %y\n%r = mul T %s, 11", "%a = mul T %x, 11\n%b = mul T %y, 11\n%r = add T %a, %b"),
+    ("(x + y) * 11, x * 11 + y * 11", 32, "%s = add T %x, %y\n%r = mul T %s, 11", "%a = mul T %x, 11\n%b = mul T %y, 11\n%r = add T %a, %b"),
+    ("x * y, y * x", 32, "%r = mul T %x, %y", "%r = mul T %y, %x"),
+    ("x & y ^ x, x & ~y", 64, "%a = and T %x, %y\n%r = xor T %a, %x", "%n = xor T %y, -1\n%r = and T %x, %n"),
+    ("x - (x & y), x & ~y", 32, "%a = and T %x, %y\n%r = sub T %x, %a", "%n = xor T %y, -1\n%r = and T %x, %n"),
+    ("x * 3 / 3 nuw, x", 12, "%a = mul nuw T %x, 3\n%r = udiv T %a, 3", "%z = and T %y, 0\n%r = or T %x, %z"),
+    ("x / y * y + x % y, x", 8, "%q = udiv T %x, %y\n%p = mul T %q, %y\n%m = urem T %x, %y\n%r = add T %p, %m", "%z = and T %y, 0\n%r = or T %x, %z"),
+    ("x % y % y, x % y", 10, "%m = urem T %x, %y\n%r = urem T %m, %y", "%r = urem T %x, %y"),
+    ("x << 3 << y, x << y << 3", 32, "%a = shl T %x, 3\n%r = shl T %a, %y", "%a = shl T %x, %y\n%r = shl T %a, 3"),
+    ("average", 32, "%a = and T %x, %y\n%e = xor T %x, %y\n%h = lshr T %e, 1\n%r = add T %a, %h", "%o = or T %x, %y\n%e = xor T %x, %y\n%h = lshr T %e, 1\n%r = sub T %o, %h"),
+]
 
 
 def timed(command):
@@ -30,30 +53,70 @@ def timed(command):
     return time.perf_counter() - start, done.stdout
 
 
-def minisat_time(text):
-    with tempfile.NamedTemporaryFile("w", suffix=".cnf", delete=False) as file:
-        file.write(text)
-    seconds, _ = timed(["minisat", "-verb=0", file.name])
-    os.unlink(file.name)
-    return seconds
+def function(width, body):
+    lines = "\n".join("  " + line.replace("T", f"i{width}") for line in body.split("\n"))
+    return f"define i{width} @f(i{width} %x, i{width} %y) {{\n{lines}\n  ret i{width} %r\n}}\n"
+
+
+def clauses_of(program, folder, source, target, options):
+    """The clauses of the pair's last question, or none where there was no question."""
+    names = [os.path.join(folder, name) for name in ("before.ll", "after.ll")]
+    for name, text in zip(names, (source, target)):
+        with open(name, "w") as file:
+            file.write(text)
+    try:
+        done = subprocess.run([program, "check", *options, "--conflicts", "20000", *names], capture_output=True, text=True, timeout=60)
+    except subprocess.TimeoutExpired:
+        return None
+    return done.stdout or None
+
+
+def with_widths(text, width):
+    """The clauses with the widths of their front: for each argument a flag and its number."""
+    lines = text.split("\n", 1)
+    return f"c widths 1 {width} 1 {width}\n{lines[1]}"
+
+
+def questions(program, folder, most):
+    for name, bits in TERMS:
+        yield f"{name} {bits}", subprocess.run([program, "question", name, str(bits)], capture_output=True, text=True).stdout
+    for title, width, source, target in IDENTITIES:
+        text = clauses_of(program, folder, function(width, source), function(width, target), ["--blocks", "0"])
+        if text:
+            yield f"{title} i{width}", with_widths(text, width)
+    if shutil.which("clang-19") and shutil.which("opt-19"):
+        seen = {}
+        for passes, name, before, after in pairs.made_pairs(folder):
+            seen[passes] = seen.get(passes, 0) + 1
+            text = clauses_of(program, folder, before, after, []) if seen[passes] <= most else None
+            if text:
+                yield f"{name} by {passes}", text
 
 
 def shown(seconds):
-    return f"over {LIMIT} s" if seconds is None else f"{1000 * seconds:9.1f} ms"
-
-
-def ours(program, name, size, action, printing):
-    seconds, answer = timed([program, name, str(size), action])
-    return f"{action} {answer.strip() or 'no answer':<10} {shown(None if seconds is None else max(seconds - printing, 0))}"
+    return f"over {LIMIT} s  " if seconds is None else f"{1000 * seconds:7.0f} ms"
 
 
 def main():
     program = sys.argv[1] if len(sys.argv) > 1 else "crates/bench_solver/out/bench_solver"
-    for name, size in QUESTIONS:
-        printing, text = timed([program, name, str(size), "dimacs"])
-        other = f"   minisat {shown(minisat_time(text))}" if shutil.which("minisat") else ""
-        columns = "   ".join(ours(program, name, size, action, printing) for action in ("solve", "ask"))
-        print(f"{name:>10} {size:>2} {text.split(chr(10), 1)[0]:<20} {columns}{other}", flush=True)
+    most = int(sys.argv[2]) if len(sys.argv) > 2 else 12
+    peers = [name for name in ("minisat", "cadical") if shutil.which(name)]
+    decided, ratios = [], []
+    with tempfile.TemporaryDirectory() as folder:
+        for title, text in questions(program, folder, most):
+            name = os.path.join(folder, "question.cnf")
+            with open(name, "w") as file:
+                file.write(text)
+            (ask, answer), (order, _) = timed([program, "ask", name]), timed([program, "solve", name])
+            quiet = {"minisat": ["-verb=0"], "cadical": ["-q"]}
+            others = [timed([peer, *quiet[peer], name])[0] for peer in peers]
+            columns = "".join(f"  {peer} {shown(seconds)}" for peer, seconds in zip(peers, others))
+            print(f"{title:>44} {text.split(chr(10), 2)[1]:<18} ask {shown(ask)} {answer.strip():<12} order {shown(order)}{columns}", flush=True)
+            if others and others[0] is not None:
+                decided.append(ask is not None)
+                ratios += [ask / others[0]] if ask is not None else []
+    if decided:
+        print(f"of {len(decided)} questions that minisat decides in {LIMIT} s ours decides {sum(decided)}, {100 * sum(decided) / len(decided):.0f}%; median of the ratios of times {statistics.median(ratios):.2f}")
 
 
 if __name__ == "__main__":

@@ -1,48 +1,36 @@
 //! How long the search for models takes.
 //!
-//! Its words name a question, its size, and what to do with it: `pigeons N`, one pigeon more than N
-//! holes, or, at N bits, whether one term is ever another number than a second: `double N`, `x * 2`
-//! and `x << 1`; `difference N`, `(x + y) - y` and `x`; `three N`, `(x + y) + z` and `x + (y + z)`;
-//! `swap N`, `x + y` and `y + x`; `flips N`, `x ^ y ^ y` and `x`; `parts N`, `(x & y) + (x | y)` and
-//! `x + y`. Then comes `dimacs`, which prints the clauses, or `solve` or `ask`, which print whether
-//! they have a model and how many clauses were learned: by the search in order, and by that of a
-//! question, under other numbers first. `bench/solving.py` measures the times. It promises nothing;
-//! it stands on `sat_ask` and `bit_blast`, and nothing stands on it.
+//! `question NAME BITS` prints the clauses of a question in the DIMACS format (`questions.rt` has the
+//! names); `check A B ..`, with the options of `tv`, prints those of the last question of each pair of
+//! functions. `solve FILE` and `ask FILE` read clauses and print whether they have a model and how many
+//! clauses were learned: by the search in order, and by that of a question. `bench/solving.py` measures
+//! the times, beside other solvers. It promises nothing; it stands on `sat_ask` and `tv_run`, and
+//! nothing stands on it.
 #![tactic(auto)]
 
+mod dimacs;
+mod pairs;
 mod questions;
 
-use clause_lits::{Cnf, Lit};
-use clause_solver::{Answer, solve};
-use questions::{Question, difference, double, flips, parts, pigeons, swap, three};
+use pair_driver::OpenGate;
+use pairs::print_questions;
+use questions::{Question, question_named};
 use sat_ask::search;
-use std::alloc::Global;
 use std::process::ExitCode;
-use std::{env, io};
+use std::{env, fs, io};
 use support::NoMemory;
+use tv_io::{FileShelf, MemorySink};
+use tv_run::run;
+use watch_solver::{Answer, solve};
 
-/// What is done with a question.
+/// The room of the report, which isn't shown.
+const ROOM: usize = 1 << 20;
+
+/// How a question is searched.
 #[derive(Clone, Copy, Debug, PartialEq, Eq)]
-enum Action {
-    Dimacs,
-    Solve,
-    Ask,
-}
-
-fn print_clause(rt: &HostRuntime, literals: &[Lit]) -> io::Result<()> {
-    for literal in literals {
-        let sign = if literal.positive { "" } else { "-" };
-        print!(rt; "{sign}{} ", literal.variable)?;
-    }
-    println!(rt; "0")
-}
-
-fn print_dimacs(rt: &HostRuntime, cnf: &Cnf) -> io::Result<()> {
-    println!(rt; "p cnf {} {}", cnf.variables, cnf.clauses.len())?;
-    for clause in cnf.clauses.as_slice() {
-        print_clause(rt, clause.literals())?;
-    }
-    Ok(())
+enum How {
+    InOrder,
+    AsAsked,
 }
 
 fn print_answer(rt: &HostRuntime, answer: Result<Answer, NoMemory>) -> io::Result<()> {
@@ -54,42 +42,44 @@ fn print_answer(rt: &HostRuntime, answer: Result<Answer, NoMemory>) -> io::Resul
     }
 }
 
-fn question(alloc: Global, name: &str, size: u32) -> Result<Option<Question>, NoMemory> {
-    if size < 2 || 64 < size {
-        return Ok(None);
-    }
-    match name {
-        "pigeons" => Ok(Some(pigeons(alloc, u64::from(size))?)),
-        "double" => Ok(Some(double(alloc, size)?)),
-        "difference" => Ok(Some(difference(alloc, size)?)),
-        "three" => Ok(Some(three(alloc, size)?)),
-        "swap" => Ok(Some(swap(alloc, size)?)),
-        "flips" => Ok(Some(flips(alloc, size)?)),
-        "parts" => Ok(Some(parts(alloc, size)?)),
-        _ => Ok(None),
+/// Prints a question by its name; whether there is one.
+fn print_question(rt: &HostRuntime, name: &str, bits: &str) -> io::Result<bool> {
+    let bits = bits.parse::<u32>().unwrap_or(0);
+    match question_named(rt.alloc(), name, bits) {
+        Ok(Some(Question { cnf, widths })) => {
+            dimacs::print(rt, &cnf, widths.as_slice())?;
+            Ok(true)
+        }
+        _ => Ok(false),
     }
 }
 
-fn answer(rt: &HostRuntime, words: &[String]) -> io::Result<bool> {
-    let [_, name, size, action] = words else {
+/// Answers the clauses of a file; whether it has some.
+fn print_found(rt: &HostRuntime, name: &str, how: How) -> io::Result<bool> {
+    let text = fs::read_to_string(rt, name)?;
+    let alloc = rt.alloc();
+    let Ok(Some(Question { cnf, widths })) = dimacs::read(alloc, text.as_str()) else {
         return Ok(false);
     };
-    let action = match action.as_str() {
-        "dimacs" => Action::Dimacs,
-        "solve" => Action::Solve,
-        "ask" => Action::Ask,
-        _ => return Ok(false),
+    let answer = match how {
+        How::InOrder => solve(alloc, &cnf, None),
+        How::AsAsked => search(alloc, &cnf, widths.as_slice(), None),
     };
-    let size = size.parse::<u32>().unwrap_or(0);
-    let Ok(Some(Question { cnf, widths })) = question(rt.alloc(), name.as_str(), size) else {
-        return Ok(false);
-    };
-    match action {
-        Action::Dimacs => print_dimacs(rt, &cnf)?,
-        Action::Solve => print_answer(rt, solve(rt.alloc(), &cnf, None))?,
-        Action::Ask => print_answer(rt, search(rt.alloc(), &cnf, &widths, None))?,
-    }
+    print_answer(rt, answer)?;
     Ok(true)
+}
+
+fn answer(rt: &HostRuntime, words: &[String]) -> io::Result<bool> {
+    match words {
+        [_, first, name, bits] if first.as_str() == "question" => {
+            print_question(rt, name.as_str(), bits.as_str())
+        }
+        [_, first, name] if first.as_str() == "solve" => {
+            print_found(rt, name.as_str(), How::InOrder)
+        }
+        [_, first, name] if first.as_str() == "ask" => print_found(rt, name.as_str(), How::AsAsked),
+        _ => Ok(false),
+    }
 }
 
 fn main(rt: HostRuntime) -> ExitCode {
@@ -100,7 +90,25 @@ fn main(rt: HostRuntime) -> ExitCode {
         },
         Err(_) => return ExitCode::FAILURE,
     };
-    if words.len() < 2 || matches!(answer(&rt, words.as_slice()), Ok(true)) {
+    let is_check = matches!(words.as_slice(), [_, first, ..] if first.as_str() == "check");
+    let is_answered = if is_check {
+        let Ok(mut report) = MemorySink::new(rt.alloc(), ROOM) else {
+            return ExitCode::FAILURE;
+        };
+        let mut judged = Vec::new(rt.alloc());
+        let status = run(
+            &rt,
+            words.as_slice(),
+            &mut FileShelf::new(&rt),
+            &mut report,
+            &OpenGate,
+            &mut judged,
+        );
+        status <= 3 && print_questions(&rt, judged.as_slice()).is_ok()
+    } else {
+        words.len() < 2 || matches!(answer(&rt, words.as_slice()), Ok(true))
+    };
+    if is_answered {
         ExitCode::SUCCESS
     } else {
         ExitCode::FAILURE

@@ -19,7 +19,29 @@ pub struct Question {
     pub widths: Vec<u32>,
 }
 
-/// The clause of these literals; want of memory stands for literals out of order.
+/// The question of a name, at so many bits (or holes), or `None` where there is none.
+pub fn question_named(alloc: Global, name: &str, bits: u32) -> Result<Option<Question>, NoMemory> {
+    if bits < 2 || 64 < bits {
+        return Ok(None);
+    }
+    let found = match name {
+        "pigeons" => pigeons(alloc, u64::from(bits))?,
+        "double" => double(alloc, bits)?,
+        "difference" => difference(alloc, bits)?,
+        "three" => three(alloc, bits)?,
+        "swap" => swap(alloc, bits)?,
+        "flips" => flips(alloc, bits)?,
+        "parts" => parts(alloc, bits)?,
+        "commuted" => commuted(alloc, bits)?,
+        "whole" => whole(alloc, bits)?,
+        "remains" => remains(alloc, bits)?,
+        "shifts" => shifts(alloc, bits)?,
+        _ => return Ok(None),
+    };
+    Ok(Some(found))
+}
+
+/// The clause of these literals; out of memory stands for literals out of order.
 fn clause(literals: SmallVec<Lit, 4>) -> Result<Clause, NoMemory> {
     if is_clause(literals.as_slice()) {
         Ok(Clause::new(literals))
@@ -77,7 +99,7 @@ fn sits_apart(
 }
 
 /// One pigeon more than there are holes, and no two in one.
-pub fn pigeons(alloc: Global, holes: u64) -> Result<Question, NoMemory> {
+fn pigeons(alloc: Global, holes: u64) -> Result<Question, NoMemory> {
     let mut clauses = Sequence::from_vec(Vec::new(alloc));
     let pigeons = holes.saturating_add(1);
     for pigeon in 0..pigeons {
@@ -135,7 +157,7 @@ fn differ(
 }
 
 /// Whether `x * 2` is ever another number than `x << 1`.
-pub fn double(alloc: Global, width: u32) -> Result<Question, NoMemory>
+fn double(alloc: Global, width: u32) -> Result<Question, NoMemory>
     requires least { 2 ≤ width }
     requires most { width ≤ 128 }
 {
@@ -149,7 +171,7 @@ pub fn double(alloc: Global, width: u32) -> Result<Question, NoMemory>
 }
 
 /// Whether `(x + y) - y` is ever another number than `x`.
-pub fn difference(alloc: Global, width: u32) -> Result<Question, NoMemory>
+fn difference(alloc: Global, width: u32) -> Result<Question, NoMemory>
     requires least { 2 ≤ width }
     requires most { width ≤ 128 }
 {
@@ -162,7 +184,7 @@ pub fn difference(alloc: Global, width: u32) -> Result<Question, NoMemory>
 }
 
 /// Whether `(x + y) + z` is ever another number than `x + (y + z)`.
-pub fn three(alloc: Global, width: u32) -> Result<Question, NoMemory>
+fn three(alloc: Global, width: u32) -> Result<Question, NoMemory>
     requires least { 2 ≤ width }
     requires most { width ≤ 128 }
 {
@@ -178,7 +200,7 @@ pub fn three(alloc: Global, width: u32) -> Result<Question, NoMemory>
 }
 
 /// Whether `x + y` is ever another number than `y + x`.
-pub fn swap(alloc: Global, width: u32) -> Result<Question, NoMemory>
+fn swap(alloc: Global, width: u32) -> Result<Question, NoMemory>
     requires least { 2 ≤ width }
     requires most { width ≤ 128 }
 {
@@ -191,7 +213,7 @@ pub fn swap(alloc: Global, width: u32) -> Result<Question, NoMemory>
 }
 
 /// Whether `x ^ y ^ y` is ever another number than `x`.
-pub fn flips(alloc: Global, width: u32) -> Result<Question, NoMemory>
+fn flips(alloc: Global, width: u32) -> Result<Question, NoMemory>
     requires least { 2 ≤ width }
     requires most { width ≤ 128 }
 {
@@ -204,7 +226,7 @@ pub fn flips(alloc: Global, width: u32) -> Result<Question, NoMemory>
 }
 
 /// Whether `(x & y) + (x | y)` is ever another number than `x + y`.
-pub fn parts(alloc: Global, width: u32) -> Result<Question, NoMemory>
+fn parts(alloc: Global, width: u32) -> Result<Question, NoMemory>
     requires least { 2 ≤ width }
     requires most { width ≤ 128 }
 {
@@ -216,4 +238,61 @@ pub fn parts(alloc: Global, width: u32) -> Result<Question, NoMemory>
     let left = terms.add(both, either)?;
     let right = terms.add(x, y)?;
     differ(alloc, terms, left, right, 2, width)
+}
+
+/// Whether `x * y` is ever another number than `y * x`.
+fn commuted(alloc: Global, width: u32) -> Result<Question, NoMemory>
+    requires least { 2 ≤ width }
+    requires most { width ≤ 128 }
+{
+    let mut terms = Terms::new(alloc);
+    let x = terms.variable(0, width)?;
+    let y = terms.variable(1, width)?;
+    let left = terms.mul(x, y)?;
+    let right = terms.mul(y, x)?;
+    differ(alloc, terms, left, right, 2, width)
+}
+
+/// Whether `x / y * y + x % y` is ever another number than `x`.
+fn whole(alloc: Global, width: u32) -> Result<Question, NoMemory>
+    requires least { 2 ≤ width }
+    requires most { width ≤ 128 }
+{
+    let mut terms = Terms::new(alloc);
+    let x = terms.variable(0, width)?;
+    let y = terms.variable(1, width)?;
+    let quotient = terms.udiv(x, y)?;
+    let product = terms.mul(quotient, y)?;
+    let remainder = terms.urem(x, y)?;
+    let sum = terms.add(product, remainder)?;
+    differ(alloc, terms, sum, x, 2, width)
+}
+
+/// Whether `(x % y) % y` is ever another number than `x % y`.
+fn remains(alloc: Global, width: u32) -> Result<Question, NoMemory>
+    requires least { 2 ≤ width }
+    requires most { width ≤ 128 }
+{
+    let mut terms = Terms::new(alloc);
+    let x = terms.variable(0, width)?;
+    let y = terms.variable(1, width)?;
+    let once = terms.urem(x, y)?;
+    let twice = terms.urem(once, y)?;
+    differ(alloc, terms, twice, once, 2, width)
+}
+
+/// Whether `(x << y) << z` is ever another number than `(x << z) << y`.
+fn shifts(alloc: Global, width: u32) -> Result<Question, NoMemory>
+    requires least { 2 ≤ width }
+    requires most { width ≤ 128 }
+{
+    let mut terms = Terms::new(alloc);
+    let x = terms.variable(0, width)?;
+    let y = terms.variable(1, width)?;
+    let z = terms.variable(2, width)?;
+    let by_y = terms.shl(x, y)?;
+    let left = terms.shl(by_y, z)?;
+    let by_z = terms.shl(x, z)?;
+    let right = terms.shl(by_z, y)?;
+    differ(alloc, terms, left, right, 3, width)
 }

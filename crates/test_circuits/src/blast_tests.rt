@@ -224,3 +224,27 @@ fn terms_that_look_random(rt: HostRuntime) -> Result<(), Fail> {
     }
     Ok(())
 }
+
+/// How many gates the quotient of two numbers takes, and how many it takes with the remainder.
+fn division_gates(alloc: Global, with_remainder: bool) -> Result<usize, NoMemory> {
+    let mut terms = Terms::new(alloc);
+    let a = terms.variable(0, 8)?;
+    let b = terms.variable(1, 8)?;
+    terms.udiv(a, b)?;
+    if with_remainder {
+        terms.urem(a, b)?;
+    }
+    let mut blast = Blast::new(alloc);
+    match fold(alloc, &terms, &mut blast) {
+        Ok(_) => Ok(blast.circuit().len()),
+        Err(_) => Err(NoMemory),
+    }
+}
+
+/// The quotient and the remainder of the same numbers are one circuit.
+#[test]
+fn a_remainder_beside_its_quotient_is_free(rt: HostRuntime) -> Result<(), Fail> {
+    let alone = division_gates(rt.alloc(), false)?;
+    assert_eq!(rt; division_gates(rt.alloc(), true)?, alone);
+    Ok(())
+}

@@ -9,6 +9,11 @@ pub fn value_at(values: &[bool], a: GateId) -> bool {
     values.get(a.index).copied().unwrap_or(false) != a.negated
 }
 
+/// The value of the gate at a place among those of all gates.
+fn plain_value_at(values: &[bool], index: usize) -> bool {
+    values.get(index).copied().unwrap_or(false)
+}
+
 /// The values of all gates where the inputs, in order, are the bits of a number, least significant
 /// bit first.
 pub fn values_of(alloc: Global, circuit: &Circuit, code: u32) -> Result<Vec<bool>, NoMemory> {
@@ -18,7 +23,19 @@ pub fn values_of(alloc: Global, circuit: &Circuit, code: u32) -> Result<Vec<bool
         let value = match *gate {
             Gate::Zero => false,
             Gate::Input(_) => left & 1 == 1,
-            Gate::And(a, b) => value_at(&values, a) && value_at(&values, b),
+            Gate::And { a, b } => value_at(&values, a) && value_at(&values, b),
+            Gate::Xor { a, b } => plain_value_at(&values, a) != plain_value_at(&values, b),
+            Gate::Choose {
+                test,
+                first,
+                second,
+            } => {
+                if plain_value_at(&values, test) {
+                    plain_value_at(&values, first)
+                } else {
+                    value_at(&values, second)
+                }
+            }
         };
         if matches!(gate, Gate::Input(_)) {
             left >>= 1;

@@ -23,6 +23,8 @@ mod mem_term_tests;
 #[cfg(test)]
 mod refine_tests;
 #[cfg(test)]
+mod rule_tests;
+#[cfg(test)]
 mod term_tests;
 #[cfg(test)]
 mod term_values;

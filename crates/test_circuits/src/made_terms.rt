@@ -55,16 +55,22 @@ pub const OPS: [Op; 20] = [
     Op::Slt,
 ];
 
-/// Adds an operation over a condition and two earlier terms, where the widths allow it, the terms of
-/// `concat`, `zext` and `sext` having at most 6 bits.
-pub fn apply(terms: &mut Terms, op: Op, c: TermId, a: TermId, b: TermId) -> Result<(), NoMemory> {
+/// An operation over a condition and two earlier terms, where the widths allow it, and else the first
+/// of them; the terms of `concat`, `zext` and `sext` have at most 6 bits.
+pub fn apply(
+    terms: &mut Terms,
+    op: Op,
+    c: TermId,
+    a: TermId,
+    b: TermId,
+) -> Result<TermId, NoMemory> {
     let count = terms.as_slice().len();
     if a.index >= count || b.index >= count || c.index >= count {
-        return Ok(());
+        return Ok(a);
     }
     let width = terms.width(a);
     let other = terms.width(b);
-    match op {
+    let id = match op {
         Op::Not => terms.not(a)?,
         Op::ExtractFromOne if width > 1 => terms.extract(a, 1, width - 1)?,
         Op::Zext if width < 6 => terms.zext(a, 6)?,
@@ -88,7 +94,7 @@ pub fn apply(terms: &mut Terms, op: Op, c: TermId, a: TermId, b: TermId) -> Resu
         Op::Slt => terms.slt(a, b)?,
         Op::ExtractFromOne | Op::Zext | Op::Sext | Op::Concat | Op::Ite => a,
     };
-    Ok(())
+    Ok(id)
 }
 
 /// A step that makes a term.

@@ -1,8 +1,8 @@
 //! Tests of the whole program below `main`: command lines and files in memory, and what is written.
 //!
 //! There are tests alone: tables of command lines, modules and reports that were worked out outside
-//! go through `tv_run::run`; the readers of command lines (`tv_cli`) and the files and sinks of
-//! `tv_io` have their own. Nothing stands on this.
+//! go through `tv_run::run`; the readers of command lines (`tv_cli`), the files and sinks of `tv_io`
+//! and the reader and writer of proof files (`proof_text`) have their own. Nothing stands on this.
 #![tactic(auto)]
 
 #[cfg(test)]
@@ -23,6 +23,8 @@ mod module_tests;
 mod outside_tests;
 #[cfg(test)]
 mod pair_tests;
+#[cfg(test)]
+mod proof_tests;
 #[cfg(test)]
 mod refusal_tests;
 #[cfg(test)]

@@ -13,6 +13,8 @@ mod clause_tests;
 #[cfg(test)]
 mod clauses;
 #[cfg(test)]
+mod drawn;
+#[cfg(test)]
 mod log_tests;
 #[cfg(test)]
 mod order_tests;
@@ -21,6 +23,10 @@ mod pigeons;
 #[cfg(test)]
 mod renumber_tests;
 #[cfg(test)]
+mod restart_tests;
+#[cfg(test)]
 mod solver_tests;
 #[cfg(test)]
 mod trail_tests;
+#[cfg(test)]
+mod watch_tests;

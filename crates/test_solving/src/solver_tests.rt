@@ -1,15 +1,13 @@
 use crate::clauses::{PIGEONS, clause, cnf};
-use clause_lits::{Clause, Cnf, Lit, are_within, holds, is_clause};
+use crate::drawn::{drawn_cnf, is_right};
 use clause_log::{Step, check_log};
 use clause_solver::{Answer, solve};
-use smallvec::SmallVec;
 use std::alloc::Global;
 use std::test::Fail;
-use std::thread::Threads;
-use support::{NoMemory, Sequence};
+use support::NoMemory;
 
 /// Whether these are the clauses of the steps.
-fn are_steps(alloc: Global, steps: &[Step], rows: &[&[i64]]) -> Result<bool, NoMemory> {
+pub fn are_steps(alloc: Global, steps: &[Step], rows: &[&[i64]]) -> Result<bool, NoMemory> {
     if steps.len() != rows.len() {
         return Ok(false);
     }
@@ -22,7 +20,7 @@ fn are_steps(alloc: Global, steps: &[Step], rows: &[&[i64]]) -> Result<bool, NoM
 }
 
 /// The steps of an answer that is no model, or `None` of a model.
-fn steps_of(answer: &Answer) -> Option<&[Step]> {
+pub fn steps_of(answer: &Answer) -> Option<&[Step]> {
     match answer {
         Answer::Sat(_) => None,
         Answer::Unsat(log) => Some(log.as_slice()),
@@ -31,7 +29,7 @@ fn steps_of(answer: &Answer) -> Option<&[Step]> {
 }
 
 /// The model of an answer, if it is one.
-fn model_of(answer: &Answer) -> Option<&[bool]> {
+pub fn model_of(answer: &Answer) -> Option<&[bool]> {
     match answer {
         Answer::Sat(model) => Some(model.as_slice()),
         Answer::Unsat(_) | Answer::Spent(_) => None,
@@ -69,7 +67,7 @@ fn the_empty_clause_is_refuted(rt: HostRuntime) -> Result<(), Fail> {
 }
 
 /// Three pigeons in two holes, pigeon i in hole j being variable 2 (i - 1) + j.
-const THREE_PIGEONS: [&[i64]; 9] = [
+pub const THREE_PIGEONS: [&[i64]; 9] = [
     &[1, 2],
     &[3, 4],
     &[5, 6],
@@ -111,89 +109,6 @@ fn four_pigeons_in_three_holes(rt: HostRuntime) -> Result<(), Fail> {
         Answer::Sat(_) | Answer::Spent(_) => assert!(rt; false),
     }
     Ok(())
-}
-
-/// The next number of a fixed sequence that looks random, below `below`.
-fn draw(state: &mut u64, below: u64) -> u64 {
-    *state = state
-        .wrapping_mul(6_364_136_223_846_793_005)
-        .wrapping_add(1_442_695_040_888_963_407);
-    if below == 0 {
-        0
-    } else {
-        (*state >> 33) % below
-    }
-}
-
-/// A clause over n variables, each of which occurs in it with one chance in two.
-fn drawn_clause(alloc: Global, state: &mut u64, variables: u64) -> Result<Clause, NoMemory> {
-    let mut literals = SmallVec::new(alloc);
-    for place in 0..variables {
-        let choice = draw(state, 4);
-        if choice < 2 {
-            literals.push(Lit {
-                variable: place + 1,
-                positive: choice == 0,
-            })?;
-        }
-    }
-    if !is_clause(literals.as_slice()) {
-        return Err(NoMemory);
-    }
-    Ok(Clause::new(literals))
-}
-
-/// Up to 20 clauses over 6 variables at most, some of which are the front.
-fn drawn_cnf(alloc: Global, state: &mut u64) -> Result<Cnf, NoMemory> {
-    let variables = draw(state, 7);
-    let front = draw(state, variables.saturating_add(1));
-    let mut clauses = Sequence::from_vec(Vec::new(alloc));
-    for _ in 0..draw(state, 21) {
-        clauses.push(drawn_clause(alloc, state, variables)?)?;
-    }
-    if !are_within(variables, clauses.as_slice()) || front > variables {
-        return Err(NoMemory);
-    }
-    Ok(Cnf::new(variables, clauses, front))
-}
-
-/// The assignment whose values are the bits of a number, variable 1 the most significant of n.
-fn assignment(alloc: Global, variables: u64, number: u64) -> Result<Sequence<bool>, NoMemory> {
-    let mut values = Sequence::from_vec(Vec::new(alloc));
-    for place in 0..variables {
-        values.push((number >> ((variables - 1 - place) & 63)) & 1 == 1)?;
-    }
-    Ok(values)
-}
-
-/// The first of all assignments, in the order of their numbers, that is a model.
-fn first_model(alloc: Global, cnf: &Cnf) -> Result<Option<Sequence<bool>>, NoMemory> {
-    for number in 0..1 << (cnf.variables & 7) {
-        let values = assignment(alloc, cnf.variables, number)?;
-        if values.len() as u64 == cnf.variables && holds(cnf, &values) {
-            return Ok(Some(values));
-        }
-    }
-    Ok(None)
-}
-
-/// Whether the answer is a model whose front is the one of this model, or a log that is accepted
-/// where there is none.
-fn is_right(
-    rt: &(impl Threads + Sync),
-    alloc: Global,
-    cnf: &Cnf,
-    answer: &Answer,
-) -> Result<bool, NoMemory> {
-    Ok(match (answer, first_model(alloc, cnf)?) {
-        (Answer::Sat(model), Some(least)) => {
-            let same = (0..cnf.front as usize).all(|i| model.as_slice().get(i)
-                == least.as_slice().get(i));
-            same && model.len() as u64 == cnf.variables && holds(cnf, model)
-        }
-        (Answer::Unsat(log), None) => check_log(rt, alloc, cnf, log) == Ok(()),
-        _ => false,
-    })
 }
 
 /// Small sets of clauses have the answer that trying all assignments gives.
