@@ -3,9 +3,10 @@
 
     bench/solving.py [PATH OF bench_solver] [PAIRS A PASS]    (defaults: crates/bench_solver/out/bench_solver, 12)
 
-Three kinds of questions, all in the DIMACS format and none made for one solver:
+Four kinds of questions, all in the DIMACS format and none made for one solver:
 
 - terms: pigeons in holes, and pairs of terms that are equal, at several widths (`bench_solver question NAME BITS`);
+- exchanges: two stores to bytes that aren't the same, in one order and in the other;
 - identities: pairs of functions that are judged without given blocks (`bench_solver check`), and then the
   clauses of the pair's last question;
 - passes: the same of functions that a pass of opt 19 changed, out of bench/pairs.c, where clang 19 is there.
@@ -16,6 +17,7 @@ same file; a column is left out where its solver isn't there. The last lines say
 that minisat decides within 8 s, ours decides how many within 8 s, and the median of the ratios of the times. No
 test rests on these figures.
 """
+import functools
 import os
 import shutil
 import statistics
@@ -27,7 +29,8 @@ import time
 import pairs
 
 LIMIT = 8
-TERMS = [("pigeons", n) for n in (4, 5, 6, 8)] + [(name, n) for name, widths in [
+EXCHANGES = (16, 32)
+TERMS = [("pigeons", n) for n in (4, 5, 6, 8, 9)] + [(name, n) for name, widths in [
     ("three", (16, 64)), ("difference", (32, 64)), ("parts", (16, 32, 64)), ("commuted", (6, 8)), ("whole", (6, 8)),
     ("remains", (6, 8, 10)), ("shifts", (16, 32))] for n in widths]
 IDENTITIES = [
@@ -71,6 +74,53 @@ def clauses_of(program, folder, source, target, options):
     return done.stdout or None
 
 
+class Gates:
+    """Clauses of gates, each gate once."""
+
+    def __init__(self):
+        self.variables, self.clauses, self.made = 0, [], {}
+
+    def word(self, width):
+        self.variables += width
+        return list(range(self.variables - width + 1, self.variables + 1))
+
+    def gate(self, key, clauses):
+        if key not in self.made:
+            self.made[key] = out = self.word(1)[0]
+            self.clauses += clauses(out)
+        return self.made[key]
+
+    def both(self, a, b):
+        return self.gate(("and", a, b), lambda out: [[-out, a], [-out, b], [out, -a, -b]])
+
+    def differ(self, a, b):
+        return self.gate(("xor", a, b), lambda out: [[-a, -b, -out], [a, b, -out], [-a, b, out], [a, -b, out]])
+
+    def choice(self, c, a, b):
+        return self.gate(("ite", c, a, b), lambda out: [[-c, -a, out], [-c, a, -out], [c, -b, out], [c, b, -out]])
+
+    def is_number(self, word, number):
+        digits = [digit if number >> place & 1 else -digit for place, digit in enumerate(reversed(word))]
+        return functools.reduce(self.both, digits)
+
+    def stored(self, memory, address, byte):
+        return [[self.choice(self.is_number(address, place), new, old) for new, old in zip(byte, before)] for place, before in enumerate(memory)]
+
+
+def exchange(size):
+    """Whether two stores to different bytes of a memory of this size ever give another memory in the other order."""
+    gates, width = Gates(), (size - 1).bit_length()
+    memory = [gates.word(8) for _ in range(size)]
+    (p, q), (x, y) = (gates.word(width), gates.word(width)), (gates.word(8), gates.word(8))
+    before = gates.stored(gates.stored(memory, p, x), q, y)
+    after = gates.stored(gates.stored(memory, q, y), p, x)
+    gates.clauses.append([gates.differ(a, b) for left, right in zip(before, after) for a, b in zip(left, right)])
+    gates.clauses.append([gates.differ(a, b) for a, b in zip(p, q)])
+    lines = [" ".join(map(str, clause)) + " 0" for clause in gates.clauses]
+    widths = " ".join(map(str, [8] * size + [width, width, 8, 8]))
+    return "\n".join([f"c widths {widths}", f"p cnf {gates.variables} {len(lines)}", *lines]) + "\n"
+
+
 def with_widths(text, width):
     """The clauses with the widths of their front: for each argument a flag and its number."""
     lines = text.split("\n", 1)
@@ -80,6 +130,8 @@ def with_widths(text, width):
 def questions(program, folder, most):
     for name, bits in TERMS:
         yield f"{name} {bits}", subprocess.run([program, "question", name, str(bits)], capture_output=True, text=True).stdout
+    for size in EXCHANGES:
+        yield f"two stores exchanged, {size} bytes", exchange(size)
     for title, width, source, target in IDENTITIES:
         text = clauses_of(program, folder, function(width, source), function(width, target), ["--blocks", "0"])
         if text:

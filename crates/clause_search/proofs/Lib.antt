@@ -7,11 +7,15 @@ pub mod Deciding
 pub mod Falls
 pub mod Findings
 pub mod Getting
+pub mod Jumping
 pub mod Learns
+pub mod Marking
 pub mod Leastness
+pub mod Ordering
 pub mod Outcomes
 pub mod Placing
 pub mod Ranges
 pub mod Root
 pub mod Searches
 pub mod Seeing
+pub mod Walking

@@ -3,6 +3,7 @@ pub mod Ending
 pub mod Findings
 pub mod Learning
 pub mod Looks
+pub mod Marking
 pub mod Outcome
 pub mod Placing
 pub mod Searching

@@ -11,6 +11,7 @@ mod answer;
 mod assignment;
 mod learning;
 mod looking;
+mod marks;
 mod refuting;
 mod trail;
 

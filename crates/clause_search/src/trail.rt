@@ -1,6 +1,6 @@
 //! The literals that stand, in the order in which they came.
 
-ghost use Rattle.std.specs.Prelude.{◌≡◌, ◌<◌, ◌≤◌, ◌↔◌, ◌++◌, ◌∷◌, [], IsTrue, OnOk, OnErr, length, take, slice_get, Some, ℕ};
+ghost use Rattle.std.specs.Prelude.{◌≡◌, ◌<◌, ◌≤◌, ◌↔◌, ◌++◌, ◌∷◌, [], IfSome, IsTrue, OnOk, OnErr, length, take, slice_get, Some, ℕ};
 ghost use Rattle.clause_search.specs.Trail.{IsAssigned, IsUnassigned, Stands, literal_eq};
 ghost use Rattle.clause_search.specs.Assigning.{IsLastBelow, IsLastPlace};
 ghost use Rattle.clause_search.specs.Placing.{IsPlaceOf};
@@ -97,8 +97,9 @@ impl Trail {
     }
 
     /// Where a literal of the variable stands.
-    fn place_of(&self, variable: u64) -> Option<usize>
-        ensures { IsPlaceOf self.now variable result }
+    pub(crate) fn place_of(&self, variable: u64) -> Option<usize>
+        ensures place { IsPlaceOf self.now variable result }
+        ensures within { IfSome result (λ place. place < usize.MAX) }
     {
         let place = *self.places.get(variable as usize)?;
         let mark = self.marks.get(place)?;

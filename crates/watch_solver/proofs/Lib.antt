@@ -1,5 +1,6 @@
 pub mod Codes
 pub mod Deciding
+pub mod Freeing
 pub mod Keeping
 pub mod Learned
 pub mod Linking

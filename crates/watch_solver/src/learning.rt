@@ -38,7 +38,7 @@ fn watch_learned(
 {
     let last = trail.decision_before(place).unwrap_or(0);
     let first = Code::of(literal);
-    match free_literal(trail, last, clause, literal) {
+    match free_literal(trail, last, clause, literal, 0) {
         Some(other) => {
             let second = Code::of(other);
             watches.add_pair(Pair { first, second })

@@ -74,7 +74,8 @@ pub fn look_at(
     let Some(clause) = clause_numbered(clauses, log, u64::from(watch.clause) + 1) else {
         unreachable!()
     };
-    match free_literal(trail, trail.len(), clause, other) {
+    let variable = falsified.literal().variable;
+    match free_literal(trail, trail.len(), clause, other, variable) {
         Some(literal) => Verdict::Move(Pair {
             first: Code::of(literal),
             second,

@@ -3,9 +3,9 @@ use Rattle.std.proofs.Common.{◌≡◌, ◌⊎◌, drop, take}
 use Rattle.clause_log.specs.Members.{Has}
 use Rattle.clause_lits.specs.declared.lit.Lit.{Lit}
 use Rattle.clause_search.specs.Trail.{IsFalse}
-use Rattle.watch_solver.proofs.free.free_literal.Given as goal
+use Rattle.watch_solver.proofs.free.free_among.Given as goal
 
 abbrev pub invariant-loop-literal : goal.invariant-loop-literal
 invariant-loop-literal l =
-    ((k : Lit) → Has (drop l.literal-index l.literal-items) k → Has l.clause k)
-    × ((k : Lit) → Has l.clause k → ((k ≡ l.other) ⊎ IsFalse (take l.place l.trail) k) ⊎ Has (drop l.literal-index l.literal-items) k)
+    ((k : Lit) → Has (drop l.literal-index l.literals) k → Has l.literals k)
+    × ((k : Lit) → Has l.literals k → ((k ≡ l.other) ⊎ IsFalse (take l.place l.trail) k) ⊎ Has (drop l.literal-index l.literals) k)

@@ -1,0 +1,12 @@
+-- The literals so far are the one or false before the place, and before no earlier one.
+use Rattle.std.proofs.Common.{ℕ, ◌≤◌, ◌≡◌, ◌⊎◌, drop, take}
+use Rattle.clause_log.specs.Members.{Has}
+use Rattle.clause_lits.specs.declared.lit.Lit.{Lit}
+use Rattle.clause_search.specs.Trail.{FalseBut, IsFalse}
+use Rattle.clause_search.proofs.learning.place_past.Given as goal
+
+abbrev pub invariant-loop-other : goal.invariant-loop-other
+invariant-loop-other l =
+    ((k : Lit) → Has (drop l.other-index l.other-items) k → Has l.clause k)
+    × ((n : ℕ) → l.past ≤ n → (k : Lit) → Has l.clause k → ((k ≡ l.literal) ⊎ IsFalse (take n l.trail) k) ⊎ Has (drop l.other-index l.other-items) k)
+    × ((n : ℕ) → FalseBut (take n l.trail) l.clause l.literal → l.past ≤ n)
