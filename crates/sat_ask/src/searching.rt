@@ -5,6 +5,7 @@ ghost use Rattle.clause_search.specs.Outcome.{IsAnswer};
 
 use clause_lits::Cnf;
 use clause_search::Answer;
+use log_tidy::trim;
 use sat_restarts::{Searched, least};
 use std::alloc::Global;
 use support::NoMemory;
@@ -12,6 +13,7 @@ use support::NoMemory;
 /// The answer to which models the clauses have, whose front is words of these widths, each with its
 /// most significant bit first. Searches in turn, under other numbers and signs for the variables,
 /// find whether there is a model; only where there is one are the clauses searched for the least.
+/// A refutation has the steps that its end needs, and no others.
 /// The limit is for all of them together: each search has what the log so far leaves of it, and an
 /// answer that is spent has the steps of them all.
 pub fn search(
@@ -25,7 +27,10 @@ pub fn search(
 {
     match sat_restarts::search(alloc, cnf, widths, limit)? {
         Searched::Model { values, learned } => least(alloc, cnf, widths, values, learned, limit),
-        Searched::Refuted(log) => Ok(Answer::Unsat(log)),
+        Searched::Refuted(log) => {
+            let needed = trim(alloc, cnf.clauses.as_slice(), log)?;
+            Ok(Answer::Unsat(needed))
+        }
         Searched::Spent(log) => Ok(Answer::Spent(log)),
     }
 }

@@ -1,0 +1,6 @@
+-- It is a literal of the clause.
+use Rattle.clause_log.specs.Members.{Has}
+use Rattle.log_tidy.proofs.index.Index.rarest.Given as goal
+
+abbrev pub invariant-loop-literal : goal.invariant-loop-literal
+invariant-loop-literal l = Has l.clause l.rarest

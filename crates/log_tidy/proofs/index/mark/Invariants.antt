@@ -1,0 +1,8 @@
+-- The slots of the literals so far are marked.
+use Rattle.std.proofs.Common.{◌≡◌, ◌+◌, true, length, take}
+use Rattle.log_tidy.specs.Indexed.{AreCovered}
+use Rattle.log_tidy.proofs.index.mark.Given as goal
+
+abbrev pub invariant-loop-literal : goal.invariant-loop-literal
+invariant-loop-literal l =
+    (length l.marks ≡ l.half + l.half) × (l.value ≡ true → AreCovered l.half l.marks (take l.literal-index l.clause))
