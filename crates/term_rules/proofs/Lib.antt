@@ -6,3 +6,8 @@ pub mod ChoiceRules
 pub mod ComplementRules
 pub mod OtherRules
 pub mod WidthRules
+pub mod FactorRules
+pub mod LowRules
+pub mod ShrinkRules
+pub mod MultipleRules
+pub mod BoundRules

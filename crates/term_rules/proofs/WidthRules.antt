@@ -129,7 +129,7 @@ parts_adjacent terms high low whole same above from upper lower form ih il e nex
 
 -- ---- a number with zeros before it has no sign
 
-unsigned : (w from x : ℕ) → w < from → x < 2 ^ w → is_negative from x ≡ false
+pub unsigned : (w from x : ℕ) → w < from → x < 2 ^ w → is_negative from x ≡ false
 unsigned w from x le lt = lt-leb (2 ^ (from - 1)) x (omega (arith, lt, pow-le w (from - 1) (omega arith)))
 
 pub signed_of_zext : (terms : List Term) (a inner : TermId) (n width : ℕ) → AreInRange terms → IsWidth width → tree.Zext (tree_in terms inner) n ≡ tree_in terms a → inner.index < length terms

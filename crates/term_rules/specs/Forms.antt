@@ -1,13 +1,19 @@
 -- What it means that a form has the value of a tree, and at most as many nodes.
-use Rattle.std.specs.Prelude.{ℕ, ◌≡◌, ◌<◌, ◌≤◌, ◌+◌, ◌-◌, ◌%◌, ◌^◌, List, bit_and, bit_or, length}
+use Rattle.std.specs.Prelude.{ℕ, ◌≡◌, ◌<◌, ◌≤◌, ◌+◌, ◌-◌, ◌*◌, ◌%◌, ◌^◌, List, bit_and, bit_or, bit_xor, length}
 use Rattle.bv_terms.specs.declared.term.TermId.{TermId}
 use Rattle.bv_terms.specs.declared.term.Term.{Term}
 use Rattle.bv_terms.specs.Tree as tree
-use Rattle.bv_terms.specs.Tree.{Tree, value_of, width_of}
-use Rattle.bv_terms.specs.Trees.{AreMatched, IsNoVariable, IsWidth, IsWithin, term_at, tree_in, tree_of, trees_of}
+use Rattle.bv_terms.specs.Tree.{Tree, quotient, value_of, width_of}
+use Rattle.bv_terms.specs.Trees.{AreMatched, IsNoVariable, IsTerm, IsWidth, IsWithin, term_at, tree_in, tree_of, trees_of}
 use Rattle.term_folds.specs.Weight.{weight_of}
+use Rattle.term_rules.specs.declared.factors.Factors.{Factors}
 use Rattle.term_rules.specs.declared.form.Form.{Form}
 use Rattle.term_rules.specs.declared.form.Form.TheVariants.{Built, Known, Raised, Shifted}
+use Rattle.term_rules.specs.declared.low_bits.Kind.{Kind}
+use Rattle.term_rules.specs.declared.low_bits.Kind.TheVariants.{Sum, Difference, Reverse, Product, Conjunction, Disjunction, Exclusive}
+use Rattle.term_rules.specs.declared.low_bits.Narrowing.{Narrowing}
+use Rattle.term_rules.specs.declared.low_bits.Operation.{Operation}
+use Rattle.term_rules.specs.declared.shrinking.Shrunk.{Shrunk}
 
 -- a term that is there, one over terms that are there, the sum of one with a number, or one moved up
 abbrev pub form_tree : List Term → Form → Tree
@@ -75,3 +81,105 @@ pub record IsOrPart (terms : List Term) (a b part : TermId) : Type 0 where
   pub wide : width_of (tree_in terms part) ≡ width_of (tree_in terms b)
   pub says : (v : ℕ → ℕ → ℕ) → bit_or (term_at v terms a) (term_at v terms part) ≡ bit_or (term_at v terms a) (term_at v terms b)
   pub least : weight_of (tree_in terms part) < weight_of (tree_in terms b)
+
+-- the first is the product of the second and this under each assignment, at its width
+pub record IsCofactor (terms : List Term) (a common rest : TermId) : Type 0 where
+  pub within : rest.index < length terms
+  pub wide : width_of (tree_in terms rest) ≡ width_of (tree_in terms a)
+  pub alike : width_of (tree_in terms common) ≡ width_of (tree_in terms a)
+  pub says : (v : ℕ → ℕ → ℕ) → term_at v terms a ≡ (term_at v terms common * term_at v terms rest) % 2 ^ width_of (tree_in terms a)
+  pub least : 1 + weight_of (tree_in terms common) + weight_of (tree_in terms rest) ≤ weight_of (tree_in terms a)
+
+-- the two are products of the common factor with one more each
+pub record IsFactored (terms : List Term) (a b : TermId) (f : Factors) : Type 0 where
+  pub within : f.common.index < length terms
+  pub first : IsCofactor terms a f.common f.first
+  pub second : IsCofactor terms b f.common f.second
+
+-- ---- operations whose low bits come from the low bits of their operands
+
+abbrev pub operation_tree : Kind → Tree → Tree → ℕ → Tree
+operation_tree Sum a b width = tree.Add a b width
+operation_tree Difference a b width = tree.Sub a b width
+operation_tree Reverse a b width = tree.Sub b a width
+operation_tree Product a b width = tree.Mul a b width
+operation_tree Conjunction a b width = tree.And a b width
+operation_tree Disjunction a b width = tree.Or a b width
+operation_tree Exclusive a b width = tree.Xor a b width
+
+abbrev pub operated : Kind → (width x y : ℕ) → ℕ
+operated Sum width x y = (x + y) % 2 ^ width
+operated Difference width x y = (x + (2 ^ width - y)) % 2 ^ width
+operated Reverse width x y = (y + (2 ^ width - x)) % 2 ^ width
+operated Product width x y = (x * y) % 2 ^ width
+operated Conjunction width x y = bit_and x y
+operated Disjunction width x y = bit_or x y
+operated Exclusive width x y = bit_xor x y
+
+-- the term is this operation on these terms
+pub record IsOperation (terms : List Term) (a : TermId) (o : Operation) : Type 0 where
+  pub left : IsTerm terms (width_of (tree_in terms a)) o.a
+  pub right : IsTerm terms (width_of (tree_in terms a)) o.b
+  pub says : (v : ℕ → ℕ → ℕ) → term_at v terms a ≡ operated o.kind (width_of (tree_in terms a)) (term_at v terms o.a) (term_at v terms o.b)
+  pub least : 1 + weight_of (tree_in terms o.a) + weight_of (tree_in terms o.b) ≤ weight_of (tree_in terms a)
+
+-- the form has the term's low bits and at most as many nodes as the term
+pub record IsLow (terms : List Term) (a : TermId) (width : ℕ) (form : Form) : Type 0 where
+  pub fit : IsForm terms form
+  pub wide : width_of (form_tree terms form) ≡ width
+  pub says : (v : ℕ → ℕ → ℕ) → value_of v (form_tree terms form) ≡ term_at v terms a % 2 ^ width
+  pub least : weight_of (form_tree terms form) ≤ weight_of (tree_in terms a)
+
+-- the term's low bits are those of the operation on the form and the low bits of the other operand
+pub record IsNarrowing (terms : List Term) (a : TermId) (width : ℕ) (n : Narrowing) : Type 0 where
+  pub fit : IsForm terms n.form
+  pub wide : width_of (form_tree terms n.form) ≡ width
+  pub rest : IsTerm terms (width_of (tree_in terms a)) n.rest
+  pub says : (v : ℕ → ℕ → ℕ) → term_at v terms a % 2 ^ width ≡ operated n.kind width (value_of v (form_tree terms n.form)) (term_at v terms n.rest % 2 ^ width)
+  pub least : 1 + weight_of (form_tree terms n.form) + weight_of (tree_in terms n.rest) ≤ weight_of (tree_in terms a)
+
+-- ---- numbers at the width that they had before they were widened
+
+-- the term is this one, widened with zeros
+pub record IsWidened (terms : List Term) (a inner : TermId) : Type 0 where
+  pub within : inner.index < length terms
+  pub narrow : width_of (tree_in terms inner) ≤ width_of (tree_in terms a)
+  pub says : (v : ℕ → ℕ → ℕ) → term_at v terms inner ≡ term_at v terms a
+  pub least : 1 + weight_of (tree_in terms inner) ≤ weight_of (tree_in terms a)
+
+-- the first and the form can be made, and are of one width
+pub record IsPair (terms : List Term) (s : Shrunk) : Type 0 where
+  pub within : s.first.index < length terms
+  pub fit : IsForm terms s.second
+  pub wide : width_of (tree_in terms s.first) ≡ width_of (form_tree terms s.second)
+
+-- the two have the values of these, of which the first was widened
+pub record IsShrunk (terms : List Term) (a b : TermId) (s : Shrunk) : Type 0 where
+  pub pair : IsPair terms s
+  pub narrow : width_of (tree_in terms s.first) ≤ width_of (tree_in terms a)
+  pub first : (v : ℕ → ℕ → ℕ) → term_at v terms s.first ≡ term_at v terms a
+  pub second : (v : ℕ → ℕ → ℕ) → value_of v (form_tree terms s.second) ≡ term_at v terms b
+  pub least : 1 + weight_of (tree_in terms s.first) + weight_of (form_tree terms s.second) ≤ weight_of (tree_in terms a) + weight_of (tree_in terms b)
+
+-- the first is the greatest number of this term's width, and the second is this term, widened
+pub record IsTaken (terms : List Term) (a b inner : TermId) : Type 0 where
+  pub widened : IsWidened terms b inner
+  pub ones : (v : ℕ → ℕ → ℕ) → term_at v terms a ≡ 2 ^ width_of (tree_in terms inner) - 1
+
+-- ---- divisions
+
+-- the term is the quotient of the two
+pub record IsQuotient (terms : List Term) (q a b : TermId) : Type 0 where
+  pub left : width_of (tree_in terms a) ≡ width_of (tree_in terms q)
+  pub right : width_of (tree_in terms b) ≡ width_of (tree_in terms q)
+  pub says : (v : ℕ → ℕ → ℕ) → term_at v terms q ≡ quotient (width_of (tree_in terms q)) (term_at v terms a) (term_at v terms b)
+  pub least : 1 + weight_of (tree_in terms a) + weight_of (tree_in terms b) ≤ weight_of (tree_in terms q)
+
+-- the second is the quotient of the first by this, times this
+pub record IsMultiple (terms : List Term) (a b divisor : TermId) : Type 0 where
+  pub within : divisor.index < length terms
+  pub left : width_of (tree_in terms a) ≡ width_of (tree_in terms b)
+  pub right : width_of (tree_in terms divisor) ≡ width_of (tree_in terms b)
+  pub says : (v : ℕ → ℕ → ℕ) → term_at v terms b
+      ≡ (quotient (width_of (tree_in terms b)) (term_at v terms a) (term_at v terms divisor) * term_at v terms divisor) % 2 ^ width_of (tree_in terms b)
+  pub least : 2 + weight_of (tree_in terms a) + weight_of (tree_in terms divisor) ≤ weight_of (tree_in terms b)

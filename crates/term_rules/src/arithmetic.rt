@@ -7,6 +7,7 @@ ghost use Rattle.bv_terms.specs.Trees.{IsWidth, tree_in};
 ghost use Rattle.term_rules.specs.Forms.{AreOperands, IsNumber, IsPart, IsRest, Simplifies};
 
 use crate::form::Form;
+use crate::multiples::dividend;
 use crate::reading::{are_in_order, number, term};
 use bv_terms::{Term, TermId, Terms};
 use term_folds::numbers;
@@ -59,7 +60,8 @@ fn rest_of_sum(terms: &Terms, a: TermId, b: TermId) -> Option<TermId>
     }
 }
 
-/// What is plainly the sum of the two: the first is a difference from it.
+/// What is plainly the sum of the two: the first is a difference from it, or a quotient of it times
+/// the divisor, of which the second is the remainder.
 fn whole_of_difference(terms: &Terms, a: TermId, b: TermId) -> Option<TermId>
     requires a { a.index < length terms.now }
     requires b { b.index < length terms.now }
@@ -71,6 +73,7 @@ fn whole_of_difference(terms: &Terms, a: TermId, b: TermId) -> Option<TermId>
             b: taken,
             ..
         } if taken.index == b.index => Some(whole),
+        Term::Mul { .. } => dividend(terms, a, b),
         _ => None,
     }
 }

@@ -11,7 +11,14 @@ ghost use Rattle.bv_terms.specs.Trees.{Extends, Gains, IsWidth, Keeps, Makes, bi
 ghost use Rattle.term_folds.specs.Weight.{weight_of};
 
 use crate::building::build;
+use crate::factors::{common_factor, distributed};
 use crate::form::Form;
+use crate::low_bits::low;
+use crate::multiples::divisor;
+use crate::shrinking::{
+    are_equal, is_greater, is_less, rest_of_ones, shrunk_by_number, shrunk_further, shrunk_pair,
+    widened_inverse, widened_quotient, widened_remainder,
+};
 use crate::{arithmetic, bitwise, choices, comparisons, divisions, shifts, widths};
 use bv_terms::{Term, TermId, Terms};
 use support::NoMemory;
@@ -100,6 +107,10 @@ pub fn add(terms: &mut Terms, a: TermId, b: TermId) -> Result<TermId, NoMemory>
     ensures least { IfOk result (λ id. weight_of (tree_in terms.new id) ≤ weight_of (tree.Add (tree_in terms.old a) (tree_in terms.old b) (width_of (tree_in terms.old a)))) }
     ensures kept { Keeps terms.old terms.new }
 {
+    if let Some(parts) = common_factor(terms, a, b) {
+        let id = distributed(terms, parts)?;
+        return Ok(id);
+    }
     let form = arithmetic::sum(terms, a, b);
     build(terms, form)
 }
@@ -113,6 +124,16 @@ pub fn sub(terms: &mut Terms, a: TermId, b: TermId) -> Result<TermId, NoMemory>
     ensures least { IfOk result (λ id. weight_of (tree_in terms.new id) ≤ weight_of (tree.Sub (tree_in terms.old a) (tree_in terms.old b) (width_of (tree_in terms.old a)))) }
     ensures kept { Keeps terms.old terms.new }
 {
+    terms.values_fit();
+    if let Some(inner) = rest_of_ones(terms, a, b) {
+        let width = terms.width(a);
+        let id = widened_inverse(terms, inner, width)?;
+        return Ok(id);
+    }
+    if let Some(by) = divisor(terms, a, b) {
+        let id = urem(terms, a, by)?;
+        return Ok(id);
+    }
     let form = arithmetic::difference(terms, a, b);
     build(terms, form)
 }
@@ -139,6 +160,11 @@ pub fn udiv(terms: &mut Terms, a: TermId, b: TermId) -> Result<TermId, NoMemory>
     ensures least { IfOk result (λ id. weight_of (tree_in terms.new id) ≤ weight_of (tree.Udiv (tree_in terms.old a) (tree_in terms.old b) (width_of (tree_in terms.old a)))) }
     ensures kept { Keeps terms.old terms.new }
 {
+    if let Some(pair) = shrunk_by_number(terms, a, b) {
+        let width = terms.width(a);
+        let id = widened_quotient(terms, pair, width)?;
+        return Ok(id);
+    }
     let form = divisions::quotient(terms, a, b);
     build(terms, form)
 }
@@ -152,6 +178,11 @@ pub fn urem(terms: &mut Terms, a: TermId, b: TermId) -> Result<TermId, NoMemory>
     ensures least { IfOk result (λ id. weight_of (tree_in terms.new id) ≤ weight_of (tree.Urem (tree_in terms.old a) (tree_in terms.old b) (width_of (tree_in terms.old a)))) }
     ensures kept { Keeps terms.old terms.new }
 {
+    if let Some(pair) = shrunk_pair(terms, a, b) {
+        let width = terms.width(a);
+        let id = widened_remainder(terms, pair, width)?;
+        return Ok(id);
+    }
     let form = divisions::remainder(terms, a, b);
     build(terms, form)
 }
@@ -205,6 +236,10 @@ pub fn eq(terms: &mut Terms, a: TermId, b: TermId) -> Result<TermId, NoMemory>
     ensures least { IfOk result (λ id. weight_of (tree_in terms.new id) ≤ weight_of (tree.Eq (tree_in terms.old a) (tree_in terms.old b) (width_of (tree_in terms.old a)))) }
     ensures kept { Keeps terms.old terms.new }
 {
+    if let Some(pair) = shrunk_pair(terms, a, b) {
+        let id = are_equal(terms, pair)?;
+        return Ok(id);
+    }
     let form = comparisons::equal(terms, a, b);
     build(terms, form)
 }
@@ -218,6 +253,14 @@ pub fn ult(terms: &mut Terms, a: TermId, b: TermId) -> Result<TermId, NoMemory>
     ensures least { IfOk result (λ id. weight_of (tree_in terms.new id) ≤ weight_of (tree.Ult (tree_in terms.old a) (tree_in terms.old b) (width_of (tree_in terms.old a)))) }
     ensures kept { Keeps terms.old terms.new }
 {
+    if let Some(pair) = shrunk_pair(terms, a, b) {
+        let id = is_less(terms, pair)?;
+        return Ok(id);
+    }
+    if let Some(pair) = shrunk_pair(terms, b, a) {
+        let id = is_greater(terms, pair)?;
+        return Ok(id);
+    }
     let form = comparisons::less(terms, a, b);
     build(terms, form)
 }
@@ -231,6 +274,15 @@ pub fn slt(terms: &mut Terms, a: TermId, b: TermId) -> Result<TermId, NoMemory>
     ensures least { IfOk result (λ id. weight_of (tree_in terms.new id) ≤ weight_of (tree.Slt (tree_in terms.old a) (tree_in terms.old b) (width_of (tree_in terms.old a)))) }
     ensures kept { Keeps terms.old terms.new }
 {
+    terms.values_fit();
+    if let Some(pair) = shrunk_further(terms, a, b) {
+        let id = is_less(terms, pair)?;
+        return Ok(id);
+    }
+    if let Some(pair) = shrunk_further(terms, b, a) {
+        let id = is_greater(terms, pair)?;
+        return Ok(id);
+    }
     let form = comparisons::less_signed(terms, a, b);
     build(terms, form)
 }
@@ -259,6 +311,10 @@ pub fn extract(terms: &mut Terms, a: TermId, from: u32, width: u32) -> Result<Te
     ensures least { IfOk result (λ id. weight_of (tree_in terms.new id) ≤ weight_of (tree.Extract (tree_in terms.old a) from width)) }
     ensures kept { Keeps terms.old terms.new }
 {
+    if from == 0 && width < terms.width(a) {
+        let id = low(terms, a, width)?;
+        return Ok(id);
+    }
     let form = widths::part(terms, a, from, width);
     build(terms, form)
 }

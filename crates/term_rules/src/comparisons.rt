@@ -6,6 +6,7 @@ ghost use Rattle.bv_terms.specs.Tree.{width_of};
 ghost use Rattle.bv_terms.specs.Trees.{tree_in};
 ghost use Rattle.term_rules.specs.Forms.{Simplifies};
 
+use crate::bounds::is_sum_with;
 use crate::complements::are_inverse;
 use crate::form::Form;
 use crate::reading::{are_in_order, number};
@@ -56,6 +57,9 @@ pub fn less(terms: &Terms, a: TermId, b: TermId) -> Form
 {
     let width = terms.width(a);
     if a.index == b.index {
+        return Form::Built(Term::Constant { value: 0, width: 1 });
+    }
+    if is_sum_with(terms, a, b) {
         return Form::Built(Term::Constant { value: 0, width: 1 });
     }
     match number(terms, b) {

@@ -2,23 +2,30 @@
 //!
 //! Each builder answers a term with the value of its operation under every assignment and with at
 //! most as many nodes as the operation itself. A rule is a function that looks at terms and answers
-//! a form: a term that is there, or one over terms that are there. The rules are those
-//! that solvers of bit vectors rewrite by (Bitwuzla, CAV 2023; Z3's rewriter). It stands on
+//! a form: a term that is there, or one over terms that are there. Where a rule makes two
+//! operations, one over the other (`factors`, `low_bits`, `shrinking`), it finds their operands
+//! first and makes both by rules. The rules are those that solvers of bit vectors rewrite by
+//! (Bitwuzla, CAV 2023; Z3's rewriter; LLVM's InstCombine). It stands on
 //! `bv_terms`, and on `term_folds` for operations on known numbers and for weights; the encoding of
 //! runs stands on it.
 #![tactic(auto)]
 
 mod arithmetic;
 mod bitwise;
+mod bounds;
 mod builders;
 mod building;
 mod choices;
 mod comparisons;
 mod complements;
 mod divisions;
+mod factors;
 mod form;
+mod low_bits;
+mod multiples;
 mod reading;
 mod shifts;
+mod shrinking;
 mod widths;
 
 pub use builders::{

@@ -1,0 +1,12 @@
+use Rattle.std.proofs.Common.{◌+◌, arith}
+use Rattle.std.proofs.lemmas.Bool.{ltb-true}
+use Rattle.term_rules.proofs.BoundRules.{product_is_small, zext_small}
+use Rattle.term_rules.proofs.bounds.is_small.Goals as goal
+
+pub returns-in-Zext : goal.returns-in-Zext
+returns-in-Zext c = λ h. zext_small c.args.terms.now c.args.a c.in-Zext.inner c.in-Zext.width c.values_fit.ensures c.in-Zext.ensures.tree c.in-Zext.ensures.within.1
+    (omega (arith, ltb-true c.width.result c.width-width.result h, c.width.ensures.width, c.width-width.ensures.width))
+
+pub returns-in-Mul : goal.returns-in-Mul
+returns-in-Mul c = λ h. product_is_small c.args.terms.now c.args.a c.in-Mul.first c.in-Mul.second c.in-Mul.width c.bits_before.result c.bits_before-in-Mul.result c.in-Mul.ensures.tree
+    (omega (arith, ltb-true (c.bits_before.result + c.bits_before-in-Mul.result) c.width-width.result h, c.width-width.ensures.width)) c.bits_before.ensures.range c.bits_before-in-Mul.ensures.range

@@ -1,0 +1,243 @@
+//! The low bits of operations on numbers that were widened.
+//!
+//! The low bits of a sum, a difference, a product or an operation bit by bit come from the low bits
+//! of its operands alone. Where one of these was widened from at most so many bits, or is a
+//! constant, its low bits have no more nodes than it has, and so the operation is moved to the
+//! lesser width. This goes two operations deep.
+
+ghost use Rattle.std.specs.Prelude.{◌≡◌, ◌<◌, ◌≤◌, ◌+◌, ◌%◌, ◌^◌, ℕ, IfOk, IfSome, length};
+ghost use Rattle.bv_terms.specs.Tree.{width_of};
+ghost use Rattle.bv_terms.specs.Trees.{Keeps, Makes, term_at, tree_in};
+ghost use Rattle.term_folds.specs.Weight.{weight_of};
+ghost use Rattle.term_rules.specs.Forms.{IsLow, IsNarrowing, IsOperation, Simplifies, operated, operation_tree};
+
+use crate::building::build;
+use crate::form::Form;
+use crate::reading::term;
+use crate::widths::{part, widened, widened_signed};
+use crate::{arithmetic, bitwise};
+use bv_terms::{Term, TermId, Terms};
+use support::NoMemory;
+use term_folds::numbers::cut;
+
+/// An operation whose low bits come from its operands' low bits alone.
+#[derive(Clone, Copy)]
+pub enum Kind {
+    Sum,
+    Difference,
+    /// The second without the first.
+    Reverse,
+    Product,
+    Conjunction,
+    Disjunction,
+    Exclusive,
+}
+
+/// Such an operation on two terms.
+#[derive(Clone, Copy)]
+pub struct Operation {
+    pub kind: Kind,
+    pub a: TermId,
+    pub b: TermId,
+}
+
+/// The low bits of one operand as a form, and the other operand.
+#[derive(Clone, Copy)]
+pub struct Narrowing {
+    pub kind: Kind,
+    pub form: Form,
+    pub rest: TermId,
+}
+
+/// The operation that the term is, if it is such a one.
+fn as_operation(terms: &Terms, a: TermId) -> Option<Operation>
+    requires { a.index < length terms.now }
+    ensures { IfSome result (IsOperation terms.now a) }
+{
+    match term(terms, a) {
+        Term::Add { a, b, .. } => Some(Operation {
+            kind: Kind::Sum,
+            a,
+            b,
+        }),
+        Term::Sub { a, b, .. } => Some(Operation {
+            kind: Kind::Difference,
+            a,
+            b,
+        }),
+        Term::Mul { a, b, .. } => Some(Operation {
+            kind: Kind::Product,
+            a,
+            b,
+        }),
+        Term::And { a, b, .. } => Some(Operation {
+            kind: Kind::Conjunction,
+            a,
+            b,
+        }),
+        Term::Or { a, b, .. } => Some(Operation {
+            kind: Kind::Disjunction,
+            a,
+            b,
+        }),
+        Term::Xor { a, b, .. } => Some(Operation {
+            kind: Kind::Exclusive,
+            a,
+            b,
+        }),
+        _ => None,
+    }
+}
+
+/// The same operation with its operands the other way round.
+fn turned(kind: Kind) -> Kind
+    ensures { (width x y : ℕ) → operated result width y x ≡ operated kind width x y }
+{
+    match kind {
+        Kind::Sum => Kind::Sum,
+        Kind::Difference => Kind::Reverse,
+        Kind::Reverse => Kind::Difference,
+        Kind::Product => Kind::Product,
+        Kind::Conjunction => Kind::Conjunction,
+        Kind::Disjunction => Kind::Disjunction,
+        Kind::Exclusive => Kind::Exclusive,
+    }
+}
+
+/// The low bits of a term that was widened from at most so many, or is a constant.
+fn narrow(terms: &Terms, a: TermId, width: u32) -> Option<Form>
+    requires a { a.index < length terms.now }
+    requires least { 1 ≤ width }
+    requires most { width ≤ width_of (tree_in terms.now a) }
+    ensures { IfSome result (IsLow terms.now a width) }
+{
+    terms.values_fit();
+    let _whole = terms.width(a);
+    match term(terms, a) {
+        Term::Constant { value, .. } => {
+            let value = cut(value, width);
+            Some(Form::Built(Term::Constant { value, width }))
+        }
+        Term::Zext { a: inner, .. } if terms.width(inner) <= width => Some(widened(
+            terms, inner, width,
+        )),
+        Term::Sext { a: inner, .. } if terms.width(inner) <= width => Some(widened_signed(
+            terms, inner, width,
+        )),
+        _ => None,
+    }
+}
+
+/// What the low bits of the term come from, if it is an operation on a term that is narrow.
+fn first_narrow(terms: &Terms, a: TermId, width: u32) -> Option<Narrowing>
+    requires a { a.index < length terms.now }
+    requires least { 1 ≤ width }
+    requires most { width ≤ width_of (tree_in terms.now a) }
+    ensures { IfSome result (IsNarrowing terms.now a width) }
+{
+    terms.values_fit();
+    let whole = as_operation(terms, a)?;
+    if let Some(form) = narrow(terms, whole.a, width) {
+        return Some(Narrowing {
+            kind: whole.kind,
+            form,
+            rest: whole.b,
+        });
+    }
+    let form = narrow(terms, whole.b, width)?;
+    let kind = turned(whole.kind);
+    Some(Narrowing {
+        kind,
+        form,
+        rest: whole.a,
+    })
+}
+
+/// The operation on two terms of one width.
+fn form_of(terms: &Terms, kind: Kind, a: TermId, b: TermId) -> Form
+    requires a { a.index < length terms.now }
+    requires b { b.index < length terms.now }
+    requires alike { width_of (tree_in terms.now a) ≡ width_of (tree_in terms.now b) }
+    ensures { Simplifies terms.now (operation_tree kind (tree_in terms.now a) (tree_in terms.now b) (width_of (tree_in terms.now a))) result }
+{
+    match kind {
+        Kind::Sum => arithmetic::sum(terms, a, b),
+        Kind::Difference => arithmetic::difference(terms, a, b),
+        Kind::Reverse => arithmetic::difference(terms, b, a),
+        Kind::Product => arithmetic::product(terms, a, b),
+        Kind::Conjunction => bitwise::conjunction(terms, a, b),
+        Kind::Disjunction => bitwise::disjunction(terms, a, b),
+        Kind::Exclusive => bitwise::exclusive(terms, a, b),
+    }
+}
+
+/// The low bits, where no operation is moved to the lesser width.
+fn plain_low(terms: &mut Terms, a: TermId, width: u32) -> Result<TermId, NoMemory>
+    requires a { a.index < length terms.old }
+    requires least { 1 ≤ width }
+    requires most { width ≤ width_of (tree_in terms.old a) }
+    ensures made { IfOk result (λ id. Makes terms.new id width (λ v. term_at v terms.old a % 2 ^ width)) }
+    ensures least { IfOk result (λ id. weight_of (tree_in terms.new id) ≤ 1 + weight_of (tree_in terms.old a)) }
+    ensures kept { Keeps terms.old terms.new }
+{
+    if let Some(form) = narrow(terms, a, width) {
+        let id = build(terms, form)?;
+        return Ok(id);
+    }
+    let form = part(terms, a, 0, width);
+    let id = build(terms, form)?;
+    Ok(id)
+}
+
+/// The operation on the low bits of a term and a term of that width.
+fn joined(terms: &mut Terms, kind: Kind, a: TermId, b: TermId) -> Result<TermId, NoMemory>
+    requires a { a.index < length terms.old }
+    requires b { b.index < length terms.old }
+    requires alike { width_of (tree_in terms.old a) ≡ width_of (tree_in terms.old b) }
+    ensures made { IfOk result (λ id. Makes terms.new id (width_of (tree_in terms.old a)) (λ v. operated kind (width_of (tree_in terms.old a)) (term_at v terms.old a) (term_at v terms.old b))) }
+    ensures least { IfOk result (λ id. weight_of (tree_in terms.new id) ≤ 1 + weight_of (tree_in terms.old a) + weight_of (tree_in terms.old b)) }
+    ensures kept { Keeps terms.old terms.new }
+{
+    let form = form_of(terms, kind, a, b);
+    let id = build(terms, form)?;
+    Ok(id)
+}
+
+/// The low bits, where an operation on plain terms is moved to the lesser width.
+fn shallow_low(terms: &mut Terms, a: TermId, width: u32) -> Result<TermId, NoMemory>
+    requires a { a.index < length terms.old }
+    requires least { 1 ≤ width }
+    requires most { width ≤ width_of (tree_in terms.old a) }
+    ensures made { IfOk result (λ id. Makes terms.new id width (λ v. term_at v terms.old a % 2 ^ width)) }
+    ensures least { IfOk result (λ id. weight_of (tree_in terms.new id) ≤ 1 + weight_of (tree_in terms.old a)) }
+    ensures kept { Keeps terms.old terms.new }
+{
+    match first_narrow(terms, a, width) {
+        Some(found) => {
+            let first = build(terms, found.form)?;
+            let second = plain_low(terms, found.rest, width)?;
+            joined(terms, found.kind, first, second)
+        }
+        None => plain_low(terms, a, width),
+    }
+}
+
+/// The low bits, where an operation on plain terms, or on one and such an operation, is moved to
+/// the lesser width.
+pub fn low(terms: &mut Terms, a: TermId, width: u32) -> Result<TermId, NoMemory>
+    requires a { a.index < length terms.old }
+    requires least { 1 ≤ width }
+    requires most { width ≤ width_of (tree_in terms.old a) }
+    ensures made { IfOk result (λ id. Makes terms.new id width (λ v. term_at v terms.old a % 2 ^ width)) }
+    ensures least { IfOk result (λ id. weight_of (tree_in terms.new id) ≤ 1 + weight_of (tree_in terms.old a)) }
+    ensures kept { Keeps terms.old terms.new }
+{
+    match first_narrow(terms, a, width) {
+        Some(found) => {
+            let first = build(terms, found.form)?;
+            let second = shallow_low(terms, found.rest, width)?;
+            joined(terms, found.kind, first, second)
+        }
+        None => plain_low(terms, a, width),
+    }
+}

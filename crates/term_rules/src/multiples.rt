@@ -1,0 +1,69 @@
+//! Sums and differences with a quotient times its divisor.
+
+ghost use Rattle.std.specs.Prelude.{◌<◌, IfSome, IsTrue, length};
+ghost use Rattle.term_rules.specs.Forms.{IsMultiple, IsPart, IsQuotient};
+
+use crate::reading::term;
+use bv_terms::{Term, TermId, Terms};
+
+/// Whether the term plainly is the quotient of the two.
+fn is_quotient(terms: &Terms, q: TermId, a: TermId, b: TermId) -> bool
+    requires q { q.index < length terms.now }
+    requires a { a.index < length terms.now }
+    requires b { b.index < length terms.now }
+    ensures { IsTrue result → IsQuotient terms.now q a b }
+{
+    match term(terms, q) {
+        Term::Udiv {
+            a: first,
+            b: second,
+            ..
+        } => first.index == a.index && second.index == b.index,
+        _ => false,
+    }
+}
+
+/// The divisor, if the second plainly is the quotient of the first by it, times it.
+pub fn divisor(terms: &Terms, a: TermId, b: TermId) -> Option<TermId>
+    requires a { a.index < length terms.now }
+    requires b { b.index < length terms.now }
+    ensures { IfSome result (IsMultiple terms.now a b) }
+{
+    match term(terms, b) {
+        Term::Mul {
+            a: left,
+            b: right,
+            ..
+        } => {
+            if is_quotient(terms, left, a, right) {
+                return Some(right);
+            }
+            if is_quotient(terms, right, a, left) {
+                return Some(left);
+            }
+            None
+        }
+        _ => None,
+    }
+}
+
+/// What is plainly the sum of the two: the first is a quotient of it times the divisor, and the second
+/// is the remainder of that division.
+pub fn dividend(terms: &Terms, a: TermId, b: TermId) -> Option<TermId>
+    requires a { a.index < length terms.now }
+    requires b { b.index < length terms.now }
+    ensures { IfSome result (IsPart terms.now a b) }
+{
+    terms.values_fit();
+    match term(terms, b) {
+        Term::Urem {
+            a: whole,
+            b: second,
+            ..
+        } => match divisor(terms, whole, a) {
+            Some(first) if first.index == second.index => Some(whole),
+            _ => None,
+        },
+        _ => None,
+    }
+}
