@@ -1,0 +1,7 @@
+pub mod Found
+pub mod ByteLists
+pub mod Sums
+pub mod Windows
+pub mod Values
+pub mod Stores
+pub mod Zeros

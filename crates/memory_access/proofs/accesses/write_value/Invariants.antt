@@ -1,0 +1,7 @@
+use Rattle.std.proofs.Common.{◌≡◌}
+use lib.Seq.{paste}
+use Rattle.memory_access.specs.Bytes.{value_bytes}
+use Rattle.memory_access.proofs.accesses.write_value.Given as goal
+
+abbrev pub invariant-loop-k : goal.invariant-loop-k
+invariant-loop-k l = l.places ≡ paste l.fn.places l.from (value_bytes l.access l.value) l.k

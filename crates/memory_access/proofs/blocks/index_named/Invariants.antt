@@ -1,0 +1,7 @@
+use Rattle.std.proofs.Common.{◌≡◌, drop}
+use Rattle.std.specs.List.{position_from}
+use Rattle.memory_access.specs.Blocks.{names}
+use Rattle.memory_access.proofs.blocks.index_named.Given as goal
+
+abbrev pub invariant-loop-i : goal.invariant-loop-i
+invariant-loop-i l = position_from (names l.name) 0 l.blocks ≡ position_from (names l.name) l.i (drop l.i l.blocks)

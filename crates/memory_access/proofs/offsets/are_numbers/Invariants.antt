@@ -1,0 +1,7 @@
+use Rattle.std.proofs.Common.{◌≡◌, drop}
+use Rattle.std.specs.List.{list_all}
+use Rattle.memory_access.specs.Offsets.{is_index}
+use Rattle.memory_access.proofs.offsets.are_numbers.Given as goal
+
+abbrev pub invariant-loop-index : goal.invariant-loop-index
+invariant-loop-index l = list_all is_index l.indices ≡ list_all is_index (drop l.index-index l.indices)

@@ -1,0 +1,15 @@
+use Rattle.std.proofs.Common.{refl, sym}
+use Rattle.memory_access.specs.Blocks.{names}
+use Rattle.memory_access.proofs.Found.{first_at, find-none}
+use Rattle.memory_access.proofs.offsets.size_named.Goals as goal
+
+pub get-requires : goal.get-requires
+get-requires c = (first_at (names c.args.name) c.args.memory.now c.in-Some.i (sym (rw c.as_slice.ensures at c.in-Some.ensures))).within
+
+pub returns-in-Some : goal.returns-in-Some
+returns-in-Some c =
+    let first = first_at (names c.args.name) c.args.memory.now c.in-Some.i (sym (rw c.as_slice.ensures at c.in-Some.ensures)) in
+    rw (c.bytes_in.ensures, first.found c.get.result.now c.get.ensures) refl
+
+pub returns-in-None : goal.returns-in-None
+returns-in-None c = rw (find-none (names c.args.name) c.args.memory.now 0 (sym (rw c.as_slice.ensures at c.in-None.ensures))) refl

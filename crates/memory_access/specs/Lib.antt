@@ -1,0 +1,5 @@
+pub mod Blocks
+pub mod Bytes
+pub mod Accesses
+pub mod Offsets
+pub mod Laws
