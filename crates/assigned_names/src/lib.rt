@@ -10,9 +10,10 @@
 #![tactic(auto)]
 
 ghost use Rattle.std.specs.Prelude.{◌≡◌, ◌<◌, ◌↔◌, IsTrue, length, OnOk, IfErr, IfOk};
-ghost use Rattle.ir_tree.specs.declared.module.Reason.TheVariants.{TypeClash, PhiEdges, Unassigned};
+ghost use Rattle.ir_tree.specs.declared.module.Reason.TheVariants.{Unassigned};
 ghost use Rattle.ir_tree.specs.Sites.{AreNumbered};
-ghost use Rattle.ir_tree.specs.WellFormed.{Passes, PassesNames, IsRefusedAt, IfRefused};
+ghost use Rattle.ir_tree.specs.WellFormed.{Passes, PassesNames, IfRefused};
+ghost use Rattle.ir_check.specs.Told.{IsToldAt};
 ghost use Rattle.assigned_names.specs.Known.{AreBefore};
 
 mod assigning;
@@ -34,10 +35,8 @@ use uses::first_unassigned;
 pub fn check_assigned(alloc: Global, f: &Function) -> Result<(), CheckFault>
     requires numbered { AreNumbered f.now }
     requires names { PassesNames f.now }
-    requires types { Passes TypeClash f.now }
-    requires edges { Passes PhiEdges f.now }
     ensures passes { OnOk result (Passes Unassigned f.now) }
-    ensures refused { IfErr result (IfRefused (IsRefusedAt Unassigned f.now)) }
+    ensures refused { IfErr result (IfRefused (IsToldAt Unassigned f.now)) }
 {
     let list = sites_of(alloc, f)?;
     let firsts = first_definitions(alloc, list.all.as_slice(), f.names.len())?;

@@ -3,10 +3,11 @@ ghost use Rattle.std.specs.List.{All, list_any};
 ghost use Rattle.ir_tree.specs.declared.tree.IrType.{IrType};
 ghost use Rattle.ir_tree.specs.declared.tree.PhiEntry.{PhiEntry};
 ghost use Rattle.ir_tree.specs.declared.tree.Block.{Block};
-ghost use Rattle.ir_tree.specs.declared.module.Reason.TheVariants.{TypeClash, PhiEdges};
+ghost use Rattle.ir_tree.specs.declared.module.Reason.TheVariants.{PhiEdges};
 ghost use Rattle.ir_tree.specs.Sites.{AreNumbered, sites, parts};
-ghost use Rattle.ir_tree.specs.WellFormed.{Passes, PassesNames, IsRefusedAt, IfRefused, IsFirstFailure, HasWrongEdge, is_same_operand};
+ghost use Rattle.ir_tree.specs.WellFormed.{Passes, PassesNames, IfRefused, IsFirstFailure, HasWrongEdge, is_same_operand};
 ghost use Rattle.ir_check.specs.declared.marks.Mark.TheVariants.{Stranger};
+ghost use Rattle.ir_check.specs.Told.{IsToldAt};
 ghost use Rattle.ir_check.specs.Marks.{ArePredecessors, AreMarked, HasUnfitEntry, IsUnfit, IsUnfitAt, IsUnfitEntry, is_awaited};
 
 use crate::marks::{Mark, Marks, is_awaited};
@@ -29,9 +30,8 @@ use tv_num::wrap;
 pub fn check_edges(alloc: Global, f: &Function) -> Result<(), CheckFault>
     requires numbered { AreNumbered f.now }
     requires names { PassesNames f.now }
-    requires types { Passes TypeClash f.now }
     ensures passes { OnOk result (Passes PhiEdges f.now) }
-    ensures refused { IfErr result (IfRefused (IsRefusedAt PhiEdges f.now)) }
+    ensures refused { IfErr result (IfRefused (IsToldAt PhiEdges f.now)) }
 {
     let list = sites_of(alloc, f)?;
     let predecessors = predecessors_of(alloc, f)?;

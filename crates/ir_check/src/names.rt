@@ -1,8 +1,8 @@
-ghost use Rattle.std.specs.Prelude.{◌<◌, ◌↔◌, ◌⊎◌, IsTrue, ℕ, length, OnOk, IfErr};
-ghost use Rattle.ir_tree.specs.declared.module.Reason.TheVariants.{NameTwice, NameUnknown};
+ghost use Rattle.std.specs.Prelude.{◌<◌, ◌↔◌, IsTrue, ℕ, length, OnOk, IfErr};
 ghost use Rattle.ir_tree.specs.Sites.{AreNumbered};
-ghost use Rattle.ir_tree.specs.WellFormed.{PassesNames, IsRefusedAt, IfRefused, IsFirstFailure, DefinesAgain, UsesUnknown};
+ghost use Rattle.ir_tree.specs.WellFormed.{PassesNames, IfRefused, IsFirstFailure, DefinesAgain, UsesUnknown};
 ghost use Rattle.ir_tree.specs.Definitions.{HasFirsts};
+ghost use Rattle.ir_check.specs.Told.{AreNamesToldAt};
 
 use crate::values::{is_label, value_type};
 use ir_tree::{
@@ -21,7 +21,7 @@ use std::alloc::Global;
 pub fn check_names(alloc: Global, f: &Function) -> Result<(), CheckFault>
     requires numbered { AreNumbered f.now }
     ensures passes { OnOk result (PassesNames f.now) }
-    ensures refused { IfErr result (IfRefused (λ refused. IsRefusedAt NameTwice f.now refused ⊎ IsRefusedAt NameUnknown f.now refused)) }
+    ensures refused { IfErr result (IfRefused (AreNamesToldAt f.now)) }
 {
     let list = sites_of(alloc, f)?;
     let firsts = first_definitions(alloc, list.all.as_slice(), f.names.len())?;

@@ -1,8 +1,9 @@
 ghost use Rattle.std.specs.Prelude.{◌≡◌, ◌<◌, ◌↔◌, IsTrue, ℕ, length, false, OnOk, IfErr, IsSomeAnd};
 ghost use Rattle.ir_tree.specs.declared.module.Reason.TheVariants.{TypeClash};
 ghost use Rattle.ir_tree.specs.Sites.{AreNumbered, is_same_type};
-ghost use Rattle.ir_tree.specs.WellFormed.{Passes, PassesNames, IsRefusedAt, IfRefused, IsFirstFailure, DefinesAgain, ClashesType};
+ghost use Rattle.ir_tree.specs.WellFormed.{Passes, PassesNames, IfRefused, IsFirstFailure, DefinesAgain, ClashesType};
 ghost use Rattle.ir_tree.specs.Definitions.{HasFirsts};
+ghost use Rattle.ir_check.specs.Told.{IsToldAt};
 
 use crate::values::value_type;
 use ir_tree::{
@@ -23,7 +24,7 @@ pub fn check_types(alloc: Global, f: &Function) -> Result<(), CheckFault>
     requires numbered { AreNumbered f.now }
     requires names { PassesNames f.now }
     ensures passes { OnOk result (Passes TypeClash f.now) }
-    ensures refused { IfErr result (IfRefused (IsRefusedAt TypeClash f.now)) }
+    ensures refused { IfErr result (IfRefused (IsToldAt TypeClash f.now)) }
 {
     let list = sites_of(alloc, f)?;
     let firsts = first_definitions(alloc, list.all.as_slice(), f.names.len())?;

@@ -2,6 +2,7 @@
 ghost use Rattle.std.specs.Prelude.{◌≡◌, [], true};
 ghost use Rattle.token_forms.specs.Form.{reads, read, begin_of, step_of, one_of};
 ghost use Rattle.token_forms.specs.Answer.{Reads, Passes};
+ghost use Rattle.token_forms.specs.Spelled.{SpellsOrStops};
 ghost use Rattle.ir_grammar.specs.Spelling as spelling;
 ghost use Rattle.ir_grammar.specs.Spelling.{is_attribute};
 ghost use Rattle.ir_grammar.specs.Classes.{any, comdat_name};
@@ -157,8 +158,18 @@ impl<'a, 'b> Cursor<'a, 'b> {
     }
 
     /// Reads a function with a body, its word first.
-    #[tactic(auto, unfolding(crate::specs::Grammar::define))]
+    ///
+    /// # Errors
+    /// `Unfit` where the first token that is left can't stand there, `PastLimit` where it can and is
+    /// the first that passes a limit.
     pub fn define(&mut self) -> Result<WrittenFunction, ReadFault>
+        ensures { SpellsOrStops spec.define result self.old self.new }
+    {
+        self.function()
+    }
+
+    #[tactic(auto, unfolding(crate::specs::Grammar::define))]
+    fn function(&mut self) -> Result<WrittenFunction, ReadFault>
         ensures { Reads (λ x. x) result self.new (read true spec.define self.old) }
     {
         self.word(b"define".as_slice())?;

@@ -25,7 +25,7 @@ mod word;
 mod written;
 
 pub use cursor::Cursor;
-pub use laws::is_plain_grammar;
+pub use laws::{is_plain_grammar, is_read_grammar};
 pub use reasons::reason_at;
 pub use written::{
     WrittenBlock, WrittenBlocks, WrittenBody, WrittenCase, WrittenEntry, WrittenFunction,

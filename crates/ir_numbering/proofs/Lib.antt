@@ -1,3 +1,5 @@
 pub mod Each
 pub mod NumberOf
+pub mod NextValue
+pub mod MentionPlaces
 pub mod NumberedSites

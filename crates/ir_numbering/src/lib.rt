@@ -13,5 +13,5 @@ mod laws;
 mod numbering;
 mod places;
 
-pub use laws::has_all_places;
+pub use laws::{has_all_places, has_names_as_written, is_next_number};
 pub use numbering::numbered;

@@ -1,20 +1,20 @@
 -- What reading the tokens of a define answers.
-use Rattle.std.proofs.Common.{◌≡◌, ◌≤◌, ◌<◌, true, List, [], ◌∷◌, length, get_or, inl, inr, refl, sym, ap, subst, ◌∙◌, arith}
+use Rattle.std.proofs.Common.{◌≡◌, ◌≤◌, ◌<◌, true, List, [], ◌∷◌, length, get_or, inl, inr, refl, sym, ap, subst, arith}
 use Rattle.std.specs.Prelude.{Err}
 use Rattle.ir_lexer.specs.Lexeme.{Lexeme}
-use Rattle.ir_tree.specs.WellFormed.{IsRefusedAt}
+use Rattle.ir_tree.specs.WellFormed.{Passes, PassesNames, IsRefusedAt, IfRefused}
+use Rattle.ir_check.specs.Told.{IsToldAt, AreNamesToldAt}
 use Rattle.ir_tree.specs.declared.module.Reason.{Reason}
+use Rattle.ir_tree.specs.declared.module.Reason.TheVariants.{NameTwice, NameUnknown, TypeClash, PhiEdges, Unassigned}
 use Rattle.ir_tree.specs.declared.module.CheckFault.{CheckFault}
 use Rattle.ir_tree.specs.declared.module.CheckFault.TheVariants as fault
 use Rattle.ir_tree.specs.declared.tree.Function.{Function}
 use Rattle.token_forms.specs.declared.fault.ReadFault.{ReadFault}
 use Rattle.token_forms.specs.declared.fault.ReadFault.TheVariants as stop
-use Rattle.token_forms.specs.Form.{reads, read}
 use Rattle.token_forms.specs.Spelling.{Spells}
-use Rattle.token_forms.specs.Answer.{Fails}
-use Rattle.token_forms.proofs.Exact.{read-found}
-use Rattle.token_forms.proofs.Stops.{stops-unfit, stops-past, stops-behind}
-use Rattle.token_forms.proofs.Reasons.{refused-as}
+use Rattle.token_forms.specs.Refusals.{StopsPast}
+use Rattle.token_forms.specs.Spelled.{SpellsOrStops}
+use Rattle.token_forms.proofs.AsSpelled.{whole-ends}
 use Rattle.ir_grammar.specs.declared.written.WrittenFunction.{WrittenFunction}
 use Rattle.ir_grammar.specs.Reasons.{reason}
 use Rattle.ir_grammar.specs.Grammar.{define}
@@ -26,22 +26,41 @@ nil-of : (rest : List Lexeme) → length rest < 1 → rest ≡ []
 nil-of [] h = refl
 nil-of (t ∷ q) h = absurd (omega arith)
 
-pub writes-whole : (ts rest : List Lexeme) (w : WrittenFunction) → read true define ts ≡ reads w rest → length rest < 1 → Spells true define w ts []
-writes-whole ts rest w e h = read-found true define ts w [] (e ∙ ap (λ (us : List Lexeme). reads w us) (nil-of rest h))
+pub writes-whole : (ts rest : List Lexeme) (w : WrittenFunction) → Spells true define w ts rest → length rest < 1 → Spells true define w ts []
+writes-whole ts rest w s h = subst (λ (us : List Lexeme). Spells true define w ts us) (nil-of rest h) s
 
 -- a token is left behind the function
-pub writes-more : (ts rest left : List Lexeme) (w : WrittenFunction) (why : Reason) (first : Lexeme) → read true define ts ≡ reads w rest → left ≡ rest → 1 ≤ length left → first ≡ get_or left 0 first → why ≡ reason first → Writes ts (Err (fault_at (stop.Unfit why) ts left))
-writes-more ts rest [] w why first e l h is why-is = absurd (omega arith)
-writes-more ts rest (t ∷ q) w why first e l h is why-is =
-    let here : read true define ts ≡ reads w (t ∷ q) = e ∙ ap (λ (us : List Lexeme). reads w us) (sym l) in
-    unfit why (t ∷ q) (record { stops = stops-behind define ts w t q here; because = inr (record { function = w; whole = read-found true define ts w (t ∷ q) here; first = first; others = q; split = ap (λ (u : Lexeme). u ∷ q) (sym is); why_is = why-is }) })
+pub writes-more : (ts rest left : List Lexeme) (w : WrittenFunction) (why : Reason) (first : Lexeme) → Spells true define w ts rest → left ≡ rest → 1 ≤ length left → first ≡ get_or left 0 first → why ≡ reason first → Writes ts (Err (fault_at (stop.Unfit why) ts left))
+writes-more ts rest [] w why first s l h is why-is = absurd (omega arith)
+writes-more ts rest (t ∷ q) w why first s l h is why-is =
+    let here : Spells true define w ts (t ∷ q) = subst (λ (us : List Lexeme). Spells true define w ts us) (sym l) s in
+    unfit why (t ∷ q) (record { stops = whole-ends define w ts t q here; because = inr (record { function = w; whole = here; first = first; others = q; split = ap (λ (u : Lexeme). u ∷ q) (sym is); why_is = why-is }) })
 
-pub writes-fault : (ts rest left : List Lexeme) (fault : ReadFault) → Fails fault rest (read true define ts) → left ≡ rest → Writes ts (Err (fault_at fault ts left))
-writes-fault ts rest left (stop.Unfit why) e l =
-    let here = subst (λ (us : List Lexeme). Fails (stop.Unfit why) us (read true define ts)) (sym l) e in
-    unfit why left (record { stops = stops-unfit define ts why left here; because = inl (refused-as define why ts left here) })
-writes-fault ts rest left stop.PastLimit e l = past left (stops-past define ts left (subst (λ (us : List Lexeme). Fails stop.PastLimit us (read true define ts)) (sym l) e))
-writes-fault ts rest left stop.NoMemory e l = tt
+pub writes-fault : (ts rest left : List Lexeme) (fault : ReadFault) → SpellsOrStops define (Err fault) ts rest → left ≡ rest → Writes ts (Err (fault_at fault ts left))
+writes-fault ts rest left (stop.Unfit why) s l =
+    let here = subst (λ (us : List Lexeme). SpellsOrStops define (Err (stop.Unfit why)) ts us) (sym l) s in
+    unfit why left (record { stops = here.0; because = inl here.1 })
+writes-fault ts rest left stop.PastLimit s l = past left (subst (λ (us : List Lexeme). StopsPast define ts us) (sym l) s)
+writes-fault ts rest left stop.NoMemory s l = tt
+
+-- ---- the checks of a function, each behind those before it
+
+pub names-tested : (f : Function) (fault : CheckFault) → IfRefused (AreNamesToldAt f) fault → Tests f (Err fault)
+names-tested f (fault.Refused refused) (inl T) = (NameTwice, record { site = T.site; tested = T.first; told = T.told })
+names-tested f (fault.Refused refused) (inr (once, T)) = (NameUnknown, record { site = T.site; tested = (once, T.first); told = T.told })
+names-tested f fault.NoMemory t = tt
+
+pub types-tested : (f : Function) (fault : CheckFault) → PassesNames f → IfRefused (IsToldAt TypeClash f) fault → Tests f (Err fault)
+types-tested f (fault.Refused refused) names T = (TypeClash, record { site = T.site; tested = (names, T.first); told = T.told })
+types-tested f fault.NoMemory names t = tt
+
+pub edges-tested : (f : Function) (fault : CheckFault) → PassesNames f → Passes TypeClash f → IfRefused (IsToldAt PhiEdges f) fault → Tests f (Err fault)
+edges-tested f (fault.Refused refused) names types T = (PhiEdges, record { site = T.site; tested = (names, types, T.first); told = T.told })
+edges-tested f fault.NoMemory names types t = tt
+
+pub assigned-tested : (f : Function) (fault : CheckFault) → PassesNames f → Passes TypeClash f → Passes PhiEdges f → IfRefused (IsToldAt Unassigned f) fault → Tests f (Err fault)
+assigned-tested f (fault.Refused refused) names types edges T = (Unassigned, record { site = T.site; tested = (names, types, edges, T.first); told = T.told })
+assigned-tested f fault.NoMemory names types edges t = tt
 
 pub answers-fault : (ts : List Lexeme) (fault : CheckFault) → Writes ts (Err fault) → Answers ts (Err fault)
 answers-fault ts (fault.Refused refused) e = e

@@ -12,3 +12,4 @@ pub mod Stops
 pub mod Reasons
 pub mod Plain
 pub mod RefusedAgain
+pub mod AsSpelled

@@ -4,3 +4,5 @@ pub mod Spelling
 pub mod Refusals
 pub mod Plain
 pub mod Answer
+pub mod Spelled
+pub mod Laws

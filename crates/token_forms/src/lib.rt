@@ -16,6 +16,8 @@
 
 mod bracket;
 mod fault;
+mod reading;
 
 pub use bracket::{Bracket, Nesting, OpenBrackets, nesting_of, pass_bracket};
 pub use fault::ReadFault;
+pub use reading::{Spelled, is_read_as_spelled};

@@ -1,0 +1,7 @@
+use Rattle.ir_numbering.specs.Numbering.{numbered}
+use Rattle.ir_numbering.proofs.MentionPlaces.{places-written}
+use Rattle.ir_numbering.proofs.NumberedSites.{whole, numbered-places, named-count}
+use Rattle.ir_numbering.proofs.laws.has_names_as_written.Goals as goal
+
+pub returns : goal.returns
+returns c = record { places = λ w. numbered-places w; names = λ w. (whole w).named }
