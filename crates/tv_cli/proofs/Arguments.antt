@@ -1,8 +1,9 @@
--- The arguments of `check`, as `clap` has them.
-use Rattle.std.proofs.Common.{◌≡◌, ◌||◌, ℕ, Bool, true, false, true≢false, refl, sym, subst, List, [], ◌∷◌, Some, None, codes}
+-- The arguments of the commands, as `clap` has them.
+use Rattle.std.proofs.Common.{◌≡◌, ◌||◌, ◌+◌, ℕ, min, Bool, true, false, true≢false, refl, sym, subst, List, [], ◌∷◌, Some, None, codes}
 use Rattle.std.specs.List.{list_any}
 use Rattle.std.specs.Str.{bytes_eq}
 use Rattle.std.proofs.lemmas.Slice.Eq.{bytes_eq-Decides}
+use Rattle.clap.specs.Lexer.{usize_max}
 use Rattle.clap.specs.Words.{Row, Rule}
 use Rattle.clap.specs.Walk.{arg_by_id, arg_by_index, arg_by_long, arg_by_short, is_append, action_of, most_values, takes_several, takes_values, used, with_values, without}
 use Rattle.clap.specs.Kinds.{or_else}
@@ -12,7 +13,7 @@ use Rattle.clap.specs.declared.parser.matches.ValueSource.TheVariants.{CommandLi
 use Rattle.clap.specs.declared.builder.value_parser.Reading.TheVariants.{AsWritten}
 use Rattle.clap.specs.declared.error.kind.ErrorKind.TheVariants as kind
 use Rattle.tv_cli.specs.Words.{Text, is_option, option_names}
-use Rattle.tv_cli.specs.Walked.{check_app, name_rule, option_rule, tv_app}
+use Rattle.tv_cli.specs.Walked.{check_app, log_app, name_rule, option_rule, tv_app}
 use Rattle.tv_cli.proofs.Uses.{or_false}
 
 -- an argument that takes one value, once
@@ -33,26 +34,42 @@ pub record OptionOf (c : List Rule) (id : Text) : Type 0 where
   pub of : RuleOf c id
   pub by_long : arg_by_long c id ≡ Some of.rule
 
-pub record IsCheck (s : Shape) : Type 0 where
+-- a command with these options
+pub record IsCommand (is_known : Text → Bool) (s : Shape) : Type 0 where
   pub again : s.args_override_self ≡ false
-  pub first : RuleOf s.rules (codes "A")
-  pub first_at : arg_by_index s.rules 1 ≡ Some first.rule
-  pub second : RuleOf s.rules (codes "B")
-  pub second_at : arg_by_index s.rules 2 ≡ Some second.rule
-  pub third_at : arg_by_index s.rules 3 ≡ None
   pub leaf : s.is_leaf ≡ true
-  pub known : (n : Text) → is_option n ≡ true → OptionOf s.rules n
-  pub unknown : (n : Text) → is_option n ≡ false → arg_by_long s.rules n ≡ None
+  pub known : (n : Text) → is_known n ≡ true → OptionOf s.rules n
+  pub unknown : (n : Text) → is_known n ≡ false → arg_by_long s.rules n ≡ None
   pub no_short : (x : ℕ) → arg_by_short s.rules x ≡ None
 
+-- the name at this position
+pub record NameAt (c : List Rule) (position : ℕ) (id : Text) : Type 0 where
+  pub of : RuleOf c id
+  pub found : arg_by_index c position ≡ Some of.rule
+
+abbrev pub next_position : ℕ → ℕ
+next_position position = min (position + 1) usize_max
+
+-- the names from this position on
+abbrev pub NamesFrom : List Rule → ℕ → List Text → Type 0
+NamesFrom c position [] = arg_by_index c position ≡ None
+NamesFrom c position (id ∷ ids) = NameAt c position id × NamesFrom c (next_position position) ids
+
+-- a command of `tv`, built
+abbrev pub shape_in_tv : Shape → Shape
+shape_in_tv s = built_leaf (inherited (on_top with_leaf_noted (on_top marked_built tv_app)).top s)
+
 abbrev pub check_shape : Shape
-check_shape = built_leaf (inherited (on_top with_leaf_noted (on_top marked_built tv_app)).top check_app.top)
+check_shape = shape_in_tv check_app.top
+
+abbrev pub log_shape : Shape
+log_shape = shape_in_tv log_app.top
 
 abbrev rules : List Rule
 rules = check_shape.rules
 
-positional : (id : Text) (i : ℕ) → arg_by_id rules id ≡ Some (with_index i (filled (name_rule id))) → RuleOf rules id
-positional id i e = record {
+name_of : (c : List Rule) (id : Text) (i : ℕ) → arg_by_id c id ≡ Some (with_index i (filled (name_rule id))) → RuleOf c id
+name_of c id i e = record {
   rule = with_index i (filled (name_rule id));
   by_id = e;
   id_is = refl;
@@ -114,7 +131,7 @@ options = (
           option_of (codes "conflicts") refl refl,
           (
             option_of (codes "weight") refl refl,
-            (option_of (codes "workers") refl refl, tt),
+            (option_of (codes "workers") refl refl, (option_of (codes "proof") refl refl, tt)),
           ),
         ),
       ),
@@ -131,6 +148,7 @@ no_option n e =
     let f = or_false _ _ d.1 in
     let g = or_false _ _ f.1 in
     let h = or_false _ _ g.1 in
+    let j = or_false _ _ h.1 in
     let turns : bytes_eq (codes "turns") n ≡ false = a.0 in
     let blocks : bytes_eq (codes "blocks") n ≡ false = b.0 in
     let bytes : bytes_eq (codes "bytes") n ≡ false = c.0 in
@@ -138,22 +156,35 @@ no_option n e =
     let conflicts : bytes_eq (codes "conflicts") n ≡ false = f.0 in
     let weight : bytes_eq (codes "weight") n ≡ false = g.0 in
     let workers : bytes_eq (codes "workers") n ≡ false = h.0 in
-    rw (turns, blocks, bytes, rounds, conflicts, weight, workers) refl
+    let proof : bytes_eq (codes "proof") n ≡ false = j.0 in
+    rw (turns, blocks, bytes, rounds, conflicts, weight, workers, proof) refl
 
-pub is_check : IsCheck check_shape
-unfolding positional
-is_check = record {
-  again = refl;
-  first = positional (codes "A") 1 refl;
-  first_at = refl;
-  second = positional (codes "B") 2 refl;
-  second_at = refl;
-  third_at = refl;
-  leaf = refl;
-  known = each (OptionOf rules) option_names options;
-  unknown = no_option;
-  no_short = λ x. refl;
-}
+-- ---- `check`
 
-pub built_subs : (built tv_app).subs ≡ check_shape ∷ []
+pub is_check : IsCommand is_option check_shape
+is_check = record { again = refl; leaf = refl; known = each (OptionOf rules) option_names options; unknown = no_option; no_short = λ x. refl }
+
+abbrev pub check_names : List Text
+check_names = codes "A" ∷ codes "B" ∷ []
+
+pub names_of_check : NamesFrom check_shape.rules 1 check_names
+unfolding name_of
+names_of_check = (record { of = name_of rules (codes "A") 1 refl; found = refl }, (record { of = name_of rules (codes "B") 2 refl; found = refl }, refl))
+
+-- ---- `log`
+
+abbrev pub is_no_option : Text → Bool
+is_no_option n = false
+
+pub is_log : IsCommand is_no_option log_shape
+is_log = record { again = refl; leaf = refl; known = λ n e. absurd (true≢false (sym e)); unknown = λ n e. refl; no_short = λ x. refl }
+
+abbrev pub log_names : List Text
+log_names = codes "FILE" ∷ []
+
+pub names_of_log : NamesFrom log_shape.rules 1 log_names
+unfolding name_of
+names_of_log = (record { of = name_of log_shape.rules (codes "FILE") 1 refl; found = refl }, refl)
+
+pub built_subs : (built tv_app).subs ≡ check_shape ∷ log_shape ∷ []
 built_subs = refl

@@ -3,23 +3,24 @@ use Rattle.std.proofs.Common.{◌≡◌, Bool, true, false, cond, refl, sym, ap,
 use Rattle.std.specs.Prelude.{option_and_then}
 use Rattle.std.specs.Str.{bytes_eq}
 use Rattle.std.proofs.lemmas.Str.{IsUtf8-string_bytes}
-use Rattle.clap.specs.Words.{Row, Rule, Kinds, fault_of, subcommand_of}
+use Rattle.clap.specs.Words.{Row, Rule, Kinds, fault_of, first_of, subcommand_of}
 use Rattle.clap.specs.Walk.{Held, Names, Walk, finished, has_row, nothing_held, rows_after, settled, walk, walk_from, walked, with_default}
 use Rattle.clap.specs.Kinds.{or_else}
 use Rattle.clap.specs.Faults.{check_fault, defaults_fault, default_fault, entered_fault, flags_fault, level_fault, settle_fault, turn_fault, walk_fault}
 use Rattle.clap.specs.Simple.{App, Shape, built, entered}
 use Rattle.clap.proofs.WalkLemmas.{walk_stopped}
 use Rattle.clap.proofs.OnLiterals.{clap_on_literals}
-use Rattle.tv_cli.specs.Words.{Text, Kind, Part, Job, job_in_parts, job_of, kind_of, parts_of}
+use Rattle.tv_cli.specs.Words.{Text, Kind, Part, Job, check_in_parts, file_in_parts, is_option, job_of, kind_of, parts_of}
+use Rattle.tv_cli.specs.Words.Job.{check, log}
 use Rattle.tv_cli.specs.Words.Kind.{end, attached, separate, dashed, plain}
-use Rattle.tv_cli.specs.Walked.{job_in_rows, job_walked, tv_app, unless_fault}
+use Rattle.tv_cli.specs.Words.Part.{option, name}
+use Rattle.tv_cli.specs.Walked.{check_in_rows, job_in_rows, job_walked, tv_app, unless_fault}
 use Rattle.tv_cli.proofs.Uses.{Use, after, rows_of_uses}
-use Rattle.tv_cli.proofs.Uses.Place.{first}
 use Rattle.tv_cli.proofs.WordKinds.{Met, ends_options, met}
-use Rattle.tv_cli.proofs.Arguments.{check_shape, is_check}
+use Rattle.tv_cli.proofs.Arguments.{IsCommand, NamesFrom, check_names, check_shape, is_check, is_log, is_no_option, log_names, log_shape, names_of_check, names_of_log}
 use Rattle.tv_cli.proofs.Steps.{AgreesFrom, IsFault, at, fault_left}
 use Rattle.tv_cli.proofs.Walks.{AreTexts, walks}
-use Rattle.tv_cli.proofs.Outcomes.{outcome, parts-outcome}
+use Rattle.tv_cli.proofs.Outcomes.{outcome_of, parts-outcome}
 
 -- ---- no argument has a default
 
@@ -58,9 +59,12 @@ finished-none [] rows none = refl
 finished-none (r ∷ rules) rows none = ap (λ x. fold with_default x rules) (with_default-none rows r none.0) ∙ finished-none rules rows none.1
 
 check_defaults : NoDefaults check_shape.rules
-check_defaults = (refl, (refl, (refl, (refl, (refl, (refl, (refl, (refl, (refl, tt)))))))))
+check_defaults = (refl, (refl, (refl, (refl, (refl, (refl, (refl, (refl, (refl, (refl, tt))))))))))
 
--- ---- the words behind `check`
+log_defaults : NoDefaults log_shape.rules
+log_defaults = (refl, tt)
+
+-- ---- the words after a command
 
 or_else-empty : (x y : Kinds) → or_else x y ≡ [] → (x ≡ []) × (y ≡ [])
 or_else-empty [] y e = (refl, e)
@@ -70,32 +74,63 @@ fault-through : (x y z : Kinds) → IsFault (or_else x y) → IsFault (or_else x
 fault-through [] y z f = fault_left y z f
 fault-through (k ∷ ks) y z f = tt
 
-no-job : (kinds : Kinds) (job : Option Job) → IsFault kinds → unless_fault kinds job ≡ None
-no-job [] job f = absurd f
-no-job (k ∷ ks) job f = refl
+unless_fault-fault : {A : Type 0} (kinds : Kinds) (found : Option A) → IsFault kinds → unless_fault kinds found ≡ None
+unless_fault-fault [] found f = absurd f
+unless_fault-fault (k ∷ ks) found f = refl
+
+unless_fault-map : {A : Type 0} (f : A → Job) (kinds : Kinds) (found : Option A) → unless_fault kinds (option_map f found) ≡ option_map f (unless_fault kinds found)
+unless_fault-map f [] found = refl
+unless_fault-map f (k ∷ ks) found = refl
 
 abbrev start : Walk
 start = walk_from nothing_held
 
-level : (ws : List Text) (o : Option (List Use)) → AgreesFrom check_shape is_check o (at false [] None 1) ws
-    → unless_fault (or_else (level_fault check_shape [] nothing_held ws false []) []) (job_in_rows (rows_after check_shape.rules [] ws)) ≡ outcome o
-level ws None fault =
-    no-job _ _ (fault_left _ [] (fault-through (walk_fault check_shape [] start ws) (settle_fault check_shape.rules false (fold (walked check_shape.rules []) start ws).held) _ fault))
-level ws (Some us) agrees =
-    let held : Held = (fold (walked check_shape.rules []) start ws).held in
-    let parts = or_else-empty (walk_fault check_shape [] start ws) (settle_fault check_shape.rules false held) agrees.0 in
-    let rows : finished check_shape.rules held ≡ rows_of_uses us = finished-none check_shape.rules (settled check_shape.rules held).rows check_defaults ∙ agrees.1 in
-    let kinds : level_fault check_shape [] nothing_held ws false [] ≡ check_fault check_shape (rows_of_uses us) false =
-    (λ i. or_else (parts.0 i) (or_else (parts.1 i) (or_else (defaults-none check_shape.rules (settled check_shape.rules held).rows check_defaults i) (check_fault check_shape (rows i) false)))) in
-    ap₂ (λ x y. unless_fault (or_else x []) (job_in_rows y)) kinds rows
+abbrev faults_after : Shape → List Text → Kinds
+faults_after s ws = or_else (level_fault s [] nothing_held ws false []) []
 
-behind : (parts : Option (List Part)) → outcome (after (Some []) first parts) ≡ job_in_parts parts
-behind None = refl
-behind (Some ps) = parts-outcome ps
+-- of a command without defaults
+module _ {A : Type 0} (is_known : Text → Bool) (s : Shape) (k : IsCommand is_known s) (none : NoDefaults s.rules) (read : List Row → Option A) where
+  level : (ws : List Text) (o : Option (List Use)) → AgreesFrom is_known s k o (at false [] None 1) ws → unless_fault (faults_after s ws) (read (rows_after s.rules [] ws)) ≡ outcome_of s read o
+  level ws None fault =
+      ap (λ again. unless_fault (or_else (or_else (walk_fault s [] start ws) (or_else (settle_fault s.rules again (fold (walked s.rules []) start ws).held) (after_settling again))) []) (read (rows_after s.rules [] ws))) k.again
+      ∙ unless_fault-fault _ _ (fault_left _ [] (fault-through (walk_fault s [] start ws) (settle_fault s.rules false (fold (walked s.rules []) start ws).held) (after_settling false) fault))
+    where
+      after_settling : Bool → Kinds
+      after_settling again = or_else (defaults_fault (settled s.rules (fold (walked s.rules []) start ws).held).rows s.rules) (check_fault s (finished s.rules (fold (walked s.rules []) start ws).held) false)
+  level ws (Some us) agrees =
+      let held : Held = (fold (walked s.rules []) start ws).held in
+      let parts = or_else-empty (walk_fault s [] start ws) (settle_fault s.rules false held) agrees.0 in
+      let settling : settle_fault s.rules s.args_override_self held ≡ [] = ap (λ again. settle_fault s.rules again held) k.again ∙ parts.1 in
+      let rows : finished s.rules held ≡ rows_of_uses us = finished-none s.rules (settled s.rules held).rows none ∙ agrees.1 in
+      let kinds : level_fault s [] nothing_held ws false [] ≡ check_fault s (rows_of_uses us) false =
+      (λ i. or_else (parts.0 i) (or_else (settling i) (or_else (defaults-none s.rules (settled s.rules held).rows none i) (check_fault s (rows i) false)))) in
+      ap₂ (λ x y. unless_fault (or_else x []) (read y)) kinds rows
 
-check_walked : (ws : List Text) → AreTexts ws
-    → unless_fault (or_else (level_fault check_shape [] nothing_held ws false []) []) (job_in_rows (rows_after check_shape.rules [] ws)) ≡ job_in_parts (parts_of None ws)
-check_walked ws texts = level ws (after (Some []) first (parts_of None ws)) ((walks check_shape is_check ws texts).idles [] None first tt) ∙ behind (parts_of None ws)
+  command_walked : (ids : List Text) → NamesFrom s.rules 1 ids → (ws : List Text) → AreTexts ws
+      → unless_fault (faults_after s ws) (read (rows_after s.rules [] ws)) ≡ outcome_of s read (after is_known (Some []) ids (parts_of None ws))
+  command_walked ids names ws texts = level ws (after is_known (Some []) ids (parts_of None ws)) ((walks is_known s k ws texts).idles [] None ids 1 names tt)
+
+check-parts : (parts : Option (List Part)) → outcome_of check_shape check_in_rows (after is_option (Some []) check_names parts) ≡ check_in_parts parts
+check-parts None = refl
+check-parts (Some ps) = parts-outcome ps
+
+file_in_rows : List Row → Option Text
+file_in_rows rows = first_of (codes "FILE") rows
+
+log-parts : (parts : Option (List Part)) → outcome_of log_shape file_in_rows (after is_no_option (Some []) log_names parts) ≡ file_in_parts parts
+unfolding file_in_rows
+log-parts None = refl
+log-parts (Some []) = refl
+log-parts (Some (option n v ∷ ps)) = refl
+log-parts (Some (name t ∷ [])) = refl
+log-parts (Some (name t ∷ option n v ∷ ps)) = refl
+log-parts (Some (name t ∷ name u ∷ ps)) = refl
+
+check_walked : (ws : List Text) → AreTexts ws → unless_fault (faults_after check_shape ws) (check_in_rows (rows_after check_shape.rules [] ws)) ≡ check_in_parts (parts_of None ws)
+check_walked ws texts = command_walked is_option check_shape is_check check_defaults check_in_rows check_names names_of_check ws texts ∙ check-parts (parts_of None ws)
+
+log_walked : (ws : List Text) → AreTexts ws → unless_fault (faults_after log_shape ws) (file_in_rows (rows_after log_shape.rules [] ws)) ≡ file_in_parts (parts_of None ws)
+log_walked ws texts = command_walked is_no_option log_shape is_log log_defaults file_in_rows log_names names_of_log ws texts ∙ log-parts (parts_of None ws)
 
 -- ---- the first word
 
@@ -108,23 +143,29 @@ stopped-fault s names w stop [] = refl
 stopped-fault s names w stop (word ∷ ws) = stopped-fault s names w (stop.0, stop.1 ++ word ∷ []) ws
 
 abbrev names : Names
-names = (codes "check", []) ∷ []
+names = (codes "check", []) ∷ (codes "log", []) ∷ []
 
 walk_fault-step : (s : Shape) (ns : Names) (w : Walk) (word : Text) (ws : List Text) → walk_fault s ns w (word ∷ ws) ≡ or_else (turn_fault s ns w word) (walk_fault s ns (walked s.rules ns w word) ws)
 unfolding walk_fault
 walk_fault-step s ns w word ws = refl
 
-check-step : (command : Text) → bytes_eq (codes "check") command ≡ true → walked [] names start command ≡ record start { stopped = Some (codes "check", []) }
+-- the first word is this command
+record IsMet (n command : Text) : Type 0 where
+  turn : turn_fault tv.top names start command ≡ []
+  step : walked [] names start command ≡ record start { stopped = Some (n, []) }
+
+check-met : (command : Text) → bytes_eq (codes "check") command ≡ true → IsMet (codes "check") command
 unfolding walked
-check-step command e = rw e refl
+check-met command e = record { turn = rw e refl; step = rw e refl }
 
-check-turn : (command : Text) → bytes_eq (codes "check") command ≡ true → turn_fault tv.top names start command ≡ []
-check-turn command e = rw e refl
+log-met : (command : Text) → bytes_eq (codes "check") command ≡ false → bytes_eq (codes "log") command ≡ true → IsMet (codes "log") command
+unfolding walked
+log-met command e f = record { turn = rw (e, f) refl; step = rw (e, f) refl }
 
-entered_walk : (command : Text) (ws : List Text) → bytes_eq (codes "check") command ≡ true → walk [] names nothing_held (command ∷ ws) ≡ record start { stopped = Some (codes "check", ws) }
-entered_walk command ws e = ap (λ w. fold (walked [] names) w ws) (check-step command e) ∙ sym (walk_stopped [] names start (codes "check") [] ws)
+met-walk : (n command : Text) (ws : List Text) → IsMet n command → walk [] names nothing_held (command ∷ ws) ≡ record start { stopped = Some (n, ws) }
+met-walk n command ws m = ap (λ w. fold (walked [] names) w ws) m.step ∙ sym (walk_stopped [] names start n [] ws)
 
--- the faults of a walk of the words behind the program's name, by its end
+-- the faults of a walk of the words after the program's name, by its end
 abbrev faults_at : Kinds → Walk → Kinds
 faults_at kinds w =
     or_else kinds (or_else (entered_fault tv w.stopped) (or_else (settle_fault tv.top.rules tv.top.args_override_self w.held) (or_else (defaults_fault (settled tv.top.rules w.held).rows tv.top.rules) (check_fault tv.top (finished tv.top.rules w.held) (is_some (entered tv w.stopped))))))
@@ -132,34 +173,57 @@ faults_at kinds w =
 faults-are : (program command : Text) (ws : List Text) → fault_of tv_app (program ∷ command ∷ ws) ≡ faults_at (walk_fault tv.top names start (command ∷ ws)) (walk [] names nothing_held (command ∷ ws))
 faults-are program command ws = refl
 
-check-fault : (program command : Text) (ws : List Text) → bytes_eq (codes "check") command ≡ true → fault_of tv_app (program ∷ command ∷ ws) ≡ or_else (level_fault check_shape [] nothing_held ws false []) []
-unfolding defaults_fault
-check-fault program command ws e =
+met-fault : (program n command : Text) (ws : List Text) → IsMet n command → fault_of tv_app (program ∷ command ∷ ws) ≡ faults_at [] (record start { stopped = Some (n, ws) })
+met-fault program n command ws m =
     let none : walk_fault tv.top names start (command ∷ ws) ≡ [] = walk_fault-step tv.top names start command ws
-    ∙ ap₂ (λ x w. or_else x (walk_fault tv.top names w ws)) (check-turn command e) (check-step command e)
-    ∙ stopped-fault tv.top names start (codes "check", []) ws in
-    faults-are program command ws ∙ ap₂ faults_at none (entered_walk command ws e)
+    ∙ ap₂ (λ x w. or_else x (walk_fault tv.top names w ws)) m.turn m.step
+    ∙ stopped-fault tv.top names start (n, []) ws in
+    faults-are program command ws ∙ ap₂ faults_at none (met-walk n command ws m)
 
-check-entered : (program command : Text) (ws : List Text) → bytes_eq (codes "check") command ≡ true → option_map (λ p. p.1) (subcommand_of tv_app (program ∷ command ∷ ws)) ≡ Some (rows_after check_shape.rules [] ws)
-check-entered program command ws e = ap (λ (w : Walk). option_map (λ (p : Text × List Row). p.1) (entered tv w.stopped)) (entered_walk command ws e)
+met-entered : (program n command : Text) (ws : List Text) → IsMet n command → subcommand_of tv_app (program ∷ command ∷ ws) ≡ entered tv (Some (n, ws))
+met-entered program n command ws m = ap (λ (w : Walk). entered tv w.stopped) (met-walk n command ws m)
+
+check-fault : (ws : List Text) → faults_at [] (record start { stopped = Some (codes "check", ws) }) ≡ faults_after check_shape ws
+unfolding defaults_fault
+check-fault ws = refl
+
+log-fault : (ws : List Text) → faults_at [] (record start { stopped = Some (codes "log", ws) }) ≡ faults_after log_shape ws
+unfolding defaults_fault
+log-fault ws = refl
+
+check-job : (program command : Text) (ws : List Text) → AreTexts ws → IsMet (codes "check") command → job_walked (program ∷ command ∷ ws) ≡ option_map check (check_in_parts (parts_of None ws))
+check-job program command ws texts m =
+    ap₂ (λ kinds found. unless_fault kinds (option_and_then job_in_rows found)) (met-fault program (codes "check") command ws m ∙ check-fault ws) (met-entered program (codes "check") command ws m)
+    ∙ unless_fault-map check (faults_after check_shape ws) (check_in_rows (rows_after check_shape.rules [] ws))
+    ∙ ap (option_map check) (check_walked ws texts)
+
+log-job : (program command : Text) (ws : List Text) → AreTexts ws → IsMet (codes "log") command → job_walked (program ∷ command ∷ ws) ≡ option_map log (file_in_parts (parts_of None ws))
+unfolding file_in_rows
+log-job program command ws texts m =
+    ap₂ (λ kinds found. unless_fault kinds (option_and_then job_in_rows found)) (met-fault program (codes "log") command ws m ∙ log-fault ws) (met-entered program (codes "log") command ws m)
+    ∙ unless_fault-map log (faults_after log_shape ws) (file_in_rows (rows_after log_shape.rules [] ws))
+    ∙ ap (option_map log) (log_walked ws texts)
 
 -- any other word is a fault, but for `--`
-other-turn : (kind : Kind) (command : Text) → Met kind command → bytes_eq (codes "check") command ≡ false → (ends_options command ≡ true) ⊎ IsFault (turn_fault tv.top names start command)
+abbrev IsNoCommand : Text → Type 0
+IsNoCommand command = (bytes_eq (codes "check") command ≡ false) × (bytes_eq (codes "log") command ≡ false)
+
+other-turn : (kind : Kind) (command : Text) → Met kind command → IsNoCommand command → (ends_options command ≡ true) ⊎ IsFault (turn_fault tv.top names start command)
 unfolding flags_fault
 other-turn end command m e = inl m
-other-turn (attached n v) command m e = inr (rw (e, m.end, m.long) tt)
-other-turn (separate n) command m e = inr (rw (e, m.end, m.long) tt)
-other-turn dashed command m e = inr (rw (e, m.end, m.long, m.short, m.char) tt)
-other-turn plain command m e = inr (rw (e, m.end, m.long, m.short) tt)
+other-turn (attached n v) command m e = inr (rw (e.0, e.1, m.end, m.long) tt)
+other-turn (separate n) command m e = inr (rw (e.0, e.1, m.end, m.long) tt)
+other-turn dashed command m e = inr (rw (e.0, e.1, m.end, m.long, m.short, m.char) tt)
+other-turn plain command m e = inr (rw (e.0, e.1, m.end, m.long, m.short) tt)
 
-end-turn : (command : Text) → bytes_eq (codes "check") command ≡ false → ends_options command ≡ true → turn_fault tv.top names start command ≡ []
-end-turn command e f = rw (e, f) refl
+end-turn : (command : Text) → IsNoCommand command → ends_options command ≡ true → turn_fault tv.top names start command ≡ []
+end-turn command e f = rw (e.0, e.1, f) refl
 
-end-step : (command : Text) → bytes_eq (codes "check") command ≡ false → ends_options command ≡ true → walked [] names start command ≡ record start { is_trailing = true }
+end-step : (command : Text) → IsNoCommand command → ends_options command ≡ true → walked [] names start command ≡ record start { is_trailing = true }
 unfolding walked
-end-step command e f = rw (e, f) refl
+end-step command e f = rw (e.0, e.1, f) refl
 
-end-fault : (program command : Text) (ws : List Text) → bytes_eq (codes "check") command ≡ false → ends_options command ≡ true → IsFault (fault_of tv_app (program ∷ command ∷ ws))
+end-fault : (program command : Text) (ws : List Text) → IsNoCommand command → ends_options command ≡ true → IsFault (fault_of tv_app (program ∷ command ∷ ws))
 unfolding walk_fault defaults_fault
 end-fault program command [] e f =
     subst IsFault (sym (faults-are program command [] ∙ ap₂ faults_at (ap (λ x. or_else x []) (end-turn command e f)) (end-step command e f))) tt
@@ -168,7 +232,7 @@ end-fault program command (word ∷ ws) e f =
     ap₂ (λ x w. or_else x (or_else (turn_fault tv.top names w word) (walk_fault tv.top names (walked [] names w word) ws))) (end-turn command e f) (end-step command e f) in
     subst IsFault (sym (faults-are program command (word ∷ ws))) (fault_left _ _ (subst IsFault (sym kinds) tt))
 
-other-fault : (program command : Text) (ws : List Text) → IsUtf8 command → bytes_eq (codes "check") command ≡ false → IsFault (fault_of tv_app (program ∷ command ∷ ws))
+other-fault : (program command : Text) (ws : List Text) → IsUtf8 command → IsNoCommand command → IsFault (fault_of tv_app (program ∷ command ∷ ws))
 other-fault program command ws utf8 e = elim (other-turn (kind_of command) command (met command utf8) e) [
   | inl f ↦ end-fault program command ws e f
   | inr fault ↦ subst IsFault (sym (faults-are program command ws)) (fault_left _ _ (subst IsFault (sym (walk_fault-step tv.top names start command ws)) (fault_left _ _ fault)))
@@ -178,12 +242,13 @@ pub walked-job : (words : List Text) → AreTexts words → job_walked words ≡
 unfolding clap_on_literals
 walked-job [] texts = refl
 walked-job (program ∷ []) texts = refl
-walked-job (program ∷ command ∷ ws) texts = go (bytes_eq (codes "check") command) refl
+walked-job (program ∷ command ∷ ws) texts = go (bytes_eq (codes "check") command) (bytes_eq (codes "log") command) refl refl
   where
-    go : (b : Bool) → bytes_eq (codes "check") command ≡ b → job_walked (program ∷ command ∷ ws) ≡ cond b (job_in_parts (parts_of None ws)) None
-    go true e =
-        ap₂ (λ kinds rows. unless_fault kinds (option_and_then job_in_rows rows)) (check-fault program command ws e) (check-entered program command ws e) ∙ check_walked ws texts.1.1
-    go false e = no-job _ _ (other-fault program command ws texts.1.0 e)
+    go : (a b : Bool) → bytes_eq (codes "check") command ≡ a → bytes_eq (codes "log") command ≡ b
+        → job_walked (program ∷ command ∷ ws) ≡ cond a (option_map check (check_in_parts (parts_of None ws))) (cond b (option_map log (file_in_parts (parts_of None ws))) None)
+    go true b e f = check-job program command ws texts.1.1 (check-met command e)
+    go false true e f = log-job program command ws texts.1.1 (log-met command e f)
+    go false false e f = unless_fault-fault _ _ (other-fault program command ws texts.1.0 (e, f))
 
 module _ {Z : Type 0} where
   pub are_texts : (words : List (String Z)) → AreTexts (map string_bytes words)

@@ -1,19 +1,19 @@
--- What the uses of a walk ask for, and that it is what their parts ask for.
+-- What the uses of a walk of `check` ask for, and that it is what their parts ask for.
 use Rattle.std.proofs.Common.{◌≡◌, ◌++◌, ◌||◌, ◌&&◌, ℕ, Bool, true, false, true≢false, not, cond, refl, sym, ap, ap₂, subst, ◌∙◌, List, [], ◌∷◌, Option, Some, None, codes, append_assoc, append-nil}
 use Rattle.std.specs.Str.{bytes_eq}
 use Rattle.std.proofs.lemmas.Slice.Eq.{bytes_eq-Decides}
-use Rattle.clap.specs.Words.{first_of}
+use Rattle.clap.specs.Words.{Row, first_of}
 use Rattle.clap.specs.Kinds.{check_kinds, or_else}
 use Rattle.clap.specs.Faults.{check_fault}
+use Rattle.clap.specs.Simple.{Shape}
 use Rattle.clap.specs.Takes.{is_given}
 use Rattle.tv_cli.specs.declared.number.Range.{Range}
-use Rattle.tv_cli.specs.Words.{Text, Part, Job, are_known, bounds_with, budget_with, is_option, job_in_parts, job_named, job_with, names_in, number_once, option_names, values_in, turns_range, blocks_range, bytes_range, rounds_range, conflicts_range, weight_range, workers_range}
+use Rattle.tv_cli.specs.Words.{Text, Part, Check, are_known, bounds_with, budget_with, is_option, check_in_parts, check_named, check_with, names_in, number_once, option_names, text_once, values_in, turns_range, blocks_range, bytes_range, rounds_range, conflicts_range, weight_range, workers_range}
 use Rattle.tv_cli.specs.Words.Part.{option, name}
-use Rattle.tv_cli.specs.Walked.{job_in_rows, job_of_names, number_or_usual, unless_fault}
-use Rattle.tv_cli.proofs.Given.{no_bounds, no_budget, no_workers}
-use Rattle.tv_cli.proofs.Uses.{Use, Place, has, rows_of_uses, taken}
-use Rattle.tv_cli.proofs.Uses.Place.{first, second, past}
-use Rattle.tv_cli.proofs.Arguments.{check_shape, each, same}
+use Rattle.tv_cli.specs.Walked.{check_in_rows, check_of_names, number_or_usual, unless_fault}
+use Rattle.tv_cli.proofs.Given.{no_bounds, no_budget, no_workers, no_proof}
+use Rattle.tv_cli.proofs.Uses.{Use, has, rows_of_uses, taken}
+use Rattle.tv_cli.proofs.Arguments.{check_names, check_shape, each, same}
 
 -- the values of an argument's uses, in order
 abbrev pub used_values : Text → List Use → List Text
@@ -64,23 +64,24 @@ used_values-end id (x ∷ us) u = go (bytes_eq x.0 id) (used_values-end id us u)
     go true e = ap (λ vs. x.1 ∷ vs) e
     go false e = e
 
--- ---- jobs, by names and values
+-- ---- what is checked, by names and values
 
-abbrev pub job_values : List Text → (Text → List Text) → Option Job
-job_values (source ∷ target ∷ []) values = job_with source target
+abbrev pub check_values : List Text → (Text → List Text) → Option Check
+check_values (source ∷ target ∷ []) values = check_with source target
     (bounds_with (number_once turns_range (values (codes "turns"))) (number_once blocks_range (values (codes "blocks"))) (number_once bytes_range (values (codes "bytes"))))
     (budget_with (number_once rounds_range (values (codes "rounds"))) (number_once conflicts_range (values (codes "conflicts"))) (number_once weight_range (values (codes "weight"))))
     (number_once workers_range (values (codes "workers")))
-job_values _ values = None
+    (text_once (values (codes "proof")))
+check_values _ values = None
 
-named-values : (names : List Text) (parts : List Part) → job_values names (λ n. values_in n parts) ≡ job_named names parts
+named-values : (names : List Text) (parts : List Part) → check_values names (λ n. values_in n parts) ≡ check_named names parts
 named-values [] parts = refl
 named-values (a ∷ []) parts = refl
 named-values (a ∷ b ∷ []) parts = refl
 named-values (a ∷ b ∷ c ∷ names) parts = refl
 
-pub parts-values : (parts : List Part) → cond (are_known parts) (job_values (names_in parts) (λ n. values_in n parts)) None ≡ job_in_parts (Some parts)
-parts-values parts = ap (λ job. cond (are_known parts) job None) (named-values (names_in parts) parts)
+pub parts-values : (parts : List Part) → cond (are_known parts) (check_values (names_in parts) (λ n. values_in n parts)) None ≡ check_in_parts (Some parts)
+parts-values parts = ap (λ found. cond (are_known parts) found None) (named-values (names_in parts) parts)
 
 no_turns : (a b c : Option ℕ) → a ≡ None → bounds_with a b c ≡ None
 no_turns a b c e = rw e refl
@@ -106,24 +107,41 @@ no_weight None b c e = refl
 no_weight (Some a) None c e = refl
 no_weight (Some a) (Some b) c e = rw e refl
 
--- an option whose values are no number makes no job
+-- ---- an option that occurs twice
+
+abbrev IsTwice : List Text → Type 0
+IsTwice [] = ⊥
+IsTwice (v ∷ []) = ⊥
+IsTwice (v ∷ w ∷ vs) = Unit {0}
+
+number_once-twice : (r : Range) (vs : List Text) → IsTwice vs → number_once r vs ≡ None
+number_once-twice r [] twice = absurd twice
+number_once-twice r (v ∷ []) twice = absurd twice
+number_once-twice r (v ∷ w ∷ vs) twice = refl
+
+text_once-twice : (vs : List Text) → IsTwice vs → text_once vs ≡ None
+text_once-twice [] twice = absurd twice
+text_once-twice (v ∷ []) twice = absurd twice
+text_once-twice (v ∷ w ∷ vs) twice = refl
+
+-- makes no job
 abbrev Needs : (Text → List Text) → Text → Type 0
-Needs values n = ((r : Range) → number_once r (values n) ≡ None) → (names : List Text) → job_values names values ≡ None
+Needs values n = IsTwice (values n) → (names : List Text) → check_values names values ≡ None
 
 needs : (values : Text → List Text) → (n : Text) → is_option n ≡ true → Needs values n
 needs values = each (Needs values) option_names (
-  (λ none names. two names (λ a b. no_bounds a b _ _ _ (no_turns _ _ _ (none turns_range)))),
+  (λ twice names. two names (λ a b. no_bounds a b _ _ _ _ (no_turns _ _ _ (number_once-twice turns_range _ twice)))),
   (
-    (λ none names. two names (λ a b. no_bounds a b _ _ _ (no_blocks _ _ _ (none blocks_range)))),
+    (λ twice names. two names (λ a b. no_bounds a b _ _ _ _ (no_blocks _ _ _ (number_once-twice blocks_range _ twice)))),
     (
-      (λ none names. two names (λ a b. no_bounds a b _ _ _ (no_bytes _ _ _ (none bytes_range)))),
+      (λ twice names. two names (λ a b. no_bounds a b _ _ _ _ (no_bytes _ _ _ (number_once-twice bytes_range _ twice)))),
       (
-        (λ none names. two names (λ a b. no_budget a b _ _ _ (no_rounds _ _ _ (none rounds_range)))),
+        (λ twice names. two names (λ a b. no_budget a b _ _ _ _ (no_rounds _ _ _ (number_once-twice rounds_range _ twice)))),
         (
-          (λ none names. two names (λ a b. no_budget a b _ _ _ (no_conflicts _ _ _ (none conflicts_range)))),
+          (λ twice names. two names (λ a b. no_budget a b _ _ _ _ (no_conflicts _ _ _ (number_once-twice conflicts_range _ twice)))),
           (
-            (λ none names. two names (λ a b. no_budget a b _ _ _ (no_weight _ _ _ (none weight_range)))),
-            ((λ none names. two names (λ a b. no_workers a b _ _ _ (none workers_range))), tt),
+            (λ twice names. two names (λ a b. no_budget a b _ _ _ _ (no_weight _ _ _ (number_once-twice weight_range _ twice)))),
+            ((λ twice names. two names (λ a b. no_workers a b _ _ _ _ (number_once-twice workers_range _ twice))), ((λ twice names. two names (λ a b. no_proof a b _ _ _ _ (text_once-twice _ twice))), tt)),
           ),
         ),
       ),
@@ -131,7 +149,7 @@ needs values = each (Needs values) option_names (
   ),
 )
   where
-    two : (names : List Text) → ((a b : Text) → job_values (a ∷ b ∷ []) values ≡ None) → job_values names values ≡ None
+    two : (names : List Text) → ((a b : Text) → check_values (a ∷ b ∷ []) values ≡ None) → check_values names values ≡ None
     two [] h = refl
     two (a ∷ []) h = refl
     two (a ∷ b ∷ []) h = h a b
@@ -139,9 +157,23 @@ needs values = each (Needs values) option_names (
 
 -- ---- what a walk that used these asks for
 
-abbrev pub outcome : Option (List Use) → Option Job
-outcome None = None
-outcome (Some us) = unless_fault (or_else (check_fault check_shape (rows_of_uses us) false) []) (job_in_rows (rows_of_uses us))
+abbrev pub outcome_of : {A : Type 0} → Shape → (List Row → Option A) → Option (List Use) → Option A
+outcome_of s read None = None
+outcome_of s read (Some us) = unless_fault (or_else (check_fault s (rows_of_uses us) false) []) (read (rows_of_uses us))
+
+abbrev outcome : Option (List Use) → Option Check
+outcome uses = outcome_of check_shape check_in_rows uses
+
+-- which name of `check` comes next
+data Place : Type 0 where
+  first : Place
+  second : Place
+  past : Place
+
+abbrev left : Place → List Text
+left first = codes "A" ∷ codes "B" ∷ []
+left second = codes "B" ∷ []
+left past = []
 
 abbrev names_used : List Use → List Text
 names_used us = used_values (codes "A") us ++ used_values (codes "B") us
@@ -169,45 +201,55 @@ once-number r (v ∷ w ∷ vs) once = absurd once
 number-uses : (us : List Use) → ((n : Text) → IsOnce (used_values n us)) → (r : Range) (n : Text) → number_or_usual r (first_of n (rows_of_uses us)) ≡ number_once r (used_values n us ++ [])
 number-uses us once r n = ap (number_or_usual r) (first_of-uses n us) ∙ once-number r (used_values n us) (once n)
 
-ended : (us : List Use) (place : Place) → Placed us place → ((n : Text) → IsOnce (used_values n us)) → outcome (Some us) ≡ job_values (names_used us ++ []) (λ n. used_values n us ++ [])
+once-text : (vs : List Text) → IsOnce vs → Some (head_value vs) ≡ text_once (vs ++ [])
+once-text [] once = refl
+once-text (v ∷ []) once = refl
+once-text (v ∷ w ∷ vs) once = absurd once
+
+text-uses : (us : List Use) → ((n : Text) → IsOnce (used_values n us)) → (n : Text) → Some (first_of n (rows_of_uses us)) ≡ text_once (used_values n us ++ [])
+text-uses us once n = ap (λ (v : Option Text). Some v) (first_of-uses n us) ∙ once-text (used_values n us) (once n)
+
+ended : (us : List Use) (place : Place) → Placed us place → ((n : Text) → IsOnce (used_values n us)) → outcome (Some us) ≡ check_values (names_used us ++ []) (λ n. used_values n us ++ [])
 ended us first placed once =
-    ap (λ kinds. unless_fault (or_else kinds []) (job_in_rows (rows_of_uses us))) (check-uses us ∙ ap (λ vs. check_kinds false false (not (some_value vs) || (not (some_value (used_values (codes "B") us)) || false))) placed.0)
-    ∙ sym (ap₂ (λ x y. job_values ((x ++ y) ++ []) (λ n. used_values n us ++ [])) placed.0 placed.1)
+    ap (λ kinds. unless_fault (or_else kinds []) (check_in_rows (rows_of_uses us))) (check-uses us ∙ ap (λ vs. check_kinds false false (not (some_value vs) || (not (some_value (used_values (codes "B") us)) || false))) placed.0)
+    ∙ sym (ap₂ (λ x y. check_values ((x ++ y) ++ []) (λ n. used_values n us ++ [])) placed.0 placed.1)
 ended us second placed once =
-    ap (λ kinds. unless_fault (or_else kinds []) (job_in_rows (rows_of_uses us))) (check-uses us ∙ ap₂ (λ vs ws. check_kinds false false (not (some_value vs) || (not (some_value ws) || false))) placed.1 placed.2)
-    ∙ sym (ap₂ (λ x y. job_values ((x ++ y) ++ []) (λ n. used_values n us ++ [])) placed.1 placed.2)
+    ap (λ kinds. unless_fault (or_else kinds []) (check_in_rows (rows_of_uses us))) (check-uses us ∙ ap₂ (λ vs ws. check_kinds false false (not (some_value vs) || (not (some_value ws) || false))) placed.1 placed.2)
+    ∙ sym (ap₂ (λ x y. check_values ((x ++ y) ++ []) (λ n. used_values n us ++ [])) placed.1 placed.2)
 ended us past placed once =
-    ap (λ kinds. unless_fault (or_else kinds []) (job_in_rows (rows_of_uses us))) (check-uses us ∙ ap₂ (λ vs ws. check_kinds false false (not (some_value vs) || (not (some_value ws) || false))) placed.2 placed.3)
-    ∙ ap₂ (λ x y. job_of_names x y (rows_of_uses us)) (first_of-uses (codes "A") us ∙ ap head_value placed.2) (first_of-uses (codes "B") us ∙ ap head_value placed.3)
-    ∙ (λ i. job_with placed.0 placed.1
+    ap (λ kinds. unless_fault (or_else kinds []) (check_in_rows (rows_of_uses us))) (check-uses us ∙ ap₂ (λ vs ws. check_kinds false false (not (some_value vs) || (not (some_value ws) || false))) placed.2 placed.3)
+    ∙ ap₂ (λ x y. check_of_names x y (rows_of_uses us)) (first_of-uses (codes "A") us ∙ ap head_value placed.2) (first_of-uses (codes "B") us ∙ ap head_value placed.3)
+    ∙ (λ i. check_with placed.0 placed.1
     (bounds_with (number-uses us once turns_range (codes "turns") i) (number-uses us once blocks_range (codes "blocks") i) (number-uses us once bytes_range (codes "bytes") i))
     (budget_with (number-uses us once rounds_range (codes "rounds") i) (number-uses us once conflicts_range (codes "conflicts") i) (number-uses us once weight_range (codes "weight") i))
-    (number-uses us once workers_range (codes "workers") i))
-    ∙ sym (ap₂ (λ x y. job_values ((x ++ y) ++ []) (λ n. used_values n us ++ [])) placed.2 placed.3)
+    (number-uses us once workers_range (codes "workers") i)
+    (text-uses us once (codes "proof") i))
+    ∙ sym (ap₂ (λ x y. check_values ((x ++ y) ++ []) (λ n. used_values n us ++ [])) placed.2 placed.3)
 
--- jobs look at the values of options alone
-job-same : (names : List Text) (f g : Text → List Text) → ((n : Text) → is_option n ≡ true → f n ≡ g n) → job_values names f ≡ job_values names g
-job-same [] f g h = refl
-job-same (a ∷ []) f g h = refl
-job-same (a ∷ b ∷ c ∷ names) f g h = refl
-job-same (a ∷ b ∷ []) f g h =
-    λ i. job_with a b
+-- only the values of options count
+check-same : (names : List Text) (f g : Text → List Text) → ((n : Text) → is_option n ≡ true → f n ≡ g n) → check_values names f ≡ check_values names g
+check-same [] f g h = refl
+check-same (a ∷ []) f g h = refl
+check-same (a ∷ b ∷ c ∷ names) f g h = refl
+check-same (a ∷ b ∷ []) f g h =
+    λ i. check_with a b
     (bounds_with (number_once turns_range (h (codes "turns") refl i)) (number_once blocks_range (h (codes "blocks") refl i)) (number_once bytes_range (h (codes "bytes") refl i)))
     (budget_with (number_once rounds_range (h (codes "rounds") refl i)) (number_once conflicts_range (h (codes "conflicts") refl i)) (number_once weight_range (h (codes "weight") refl i)))
     (number_once workers_range (h (codes "workers") refl i))
+    (text_once (h (codes "proof") refl i))
 
 -- options are no names
 source_apart : (n : Text) → is_option n ≡ true → bytes_eq n (codes "A") ≡ false
-source_apart = each (λ n. bytes_eq n (codes "A") ≡ false) option_names (refl, (refl, (refl, (refl, (refl, (refl, (refl, tt)))))))
+source_apart = each (λ n. bytes_eq n (codes "A") ≡ false) option_names (refl, (refl, (refl, (refl, (refl, (refl, (refl, (refl, tt))))))))
 
 target_apart : (n : Text) → is_option n ≡ true → bytes_eq n (codes "B") ≡ false
-target_apart = each (λ n. bytes_eq n (codes "B") ≡ false) option_names (refl, (refl, (refl, (refl, (refl, (refl, (refl, tt)))))))
+target_apart = each (λ n. bytes_eq n (codes "B") ≡ false) option_names (refl, (refl, (refl, (refl, (refl, (refl, (refl, (refl, tt))))))))
 
 apart_source : (n : Text) → is_option n ≡ true → bytes_eq (codes "A") n ≡ false
-apart_source = each (λ n. bytes_eq (codes "A") n ≡ false) option_names (refl, (refl, (refl, (refl, (refl, (refl, (refl, tt)))))))
+apart_source = each (λ n. bytes_eq (codes "A") n ≡ false) option_names (refl, (refl, (refl, (refl, (refl, (refl, (refl, (refl, tt))))))))
 
 apart_target : (n : Text) → is_option n ≡ true → bytes_eq (codes "B") n ≡ false
-apart_target = each (λ n. bytes_eq (codes "B") n ≡ false) option_names (refl, (refl, (refl, (refl, (refl, (refl, (refl, tt)))))))
+apart_target = each (λ n. bytes_eq (codes "B") n ≡ false) option_names (refl, (refl, (refl, (refl, (refl, (refl, (refl, (refl, tt))))))))
 
 used_values-other : (id : Text) (us : List Use) (u : Use) → bytes_eq u.0 id ≡ false → used_values id (us ++ u ∷ []) ≡ used_values id us
 used_values-other id us u e = used_values-end id us u ∙ ap (λ b. used_values id us ++ cond b (u.1 ∷ []) []) e ∙ append-nil (used_values id us)
@@ -230,10 +272,10 @@ placed-same us vs first a b p = (a ∙ p.0, b ∙ p.1)
 placed-same us vs second a b p = (p.0, a ∙ p.1, b ∙ p.2)
 placed-same us vs past a b p = (p.0, p.1, a ∙ p.2, b ∙ p.3)
 
-twice : (r : Range) (vs ws : List Text) (v : Text) → some_value vs ≡ true → number_once r (vs ++ v ∷ ws) ≡ None
-twice r [] ws v e = absurd (true≢false (sym e))
-twice r (x ∷ []) ws v e = refl
-twice r (x ∷ y ∷ vs) ws v e = refl
+twice-more : (vs ws : List Text) (v : Text) → some_value vs ≡ true → IsTwice (vs ++ v ∷ ws)
+twice-more [] ws v e = absurd (true≢false (sym e))
+twice-more (x ∷ []) ws v e = tt
+twice-more (x ∷ y ∷ vs) ws v e = tt
 
 same_text : (t : Text) → bytes_eq t t ≡ true
 same_text t = (bytes_eq-Decides t t).1 refl
@@ -241,12 +283,12 @@ same_text t = (bytes_eq-Decides t t).1 refl
 abbrev all_values : List Use → List Part → Text → List Text
 all_values us ps n = used_values n us ++ values_in n ps
 
-abbrev asked : List Use → List Part → Option Job
-asked us ps = cond (are_known ps) (job_values (names_used us ++ names_in ps) (all_values us ps)) None
+abbrev asked : List Use → List Part → Option Check
+asked us ps = cond (are_known ps) (check_values (names_used us ++ names_in ps) (all_values us ps)) None
 
-cond_none : (b : Bool) (job : Option Job) → job ≡ None → cond b job None ≡ None
-cond_none true job e = e
-cond_none false job e = refl
+cond_none : (b : Bool) (found : Option Check) → found ≡ None → cond b found None ≡ None
+cond_none true found e = e
+cond_none false found e = refl
 
 -- one more option's use and its part
 values-moved : (us : List Use) (n v : Text) (ps : List Part) (m : Text) → all_values (us ++ (n, v) ∷ []) ps m ≡ all_values us (option n v ∷ ps) m
@@ -259,47 +301,46 @@ values-moved us n v ps m = ap (λ vs. vs ++ values_in m ps) (used_values-end m u
 used-twice : (us : List Use) (n v : Text) (ps : List Part) → is_option n ≡ true → has n us ≡ true → None ≡ asked us (option n v ∷ ps)
 used-twice us n v ps e again =
     let some : some_value (used_values n us) ≡ true = sym (has-values n us) ∙ again in
-    sym (cond_none (is_option n && are_known ps) _ (needs (all_values us (option n v ∷ ps)) n e
-    (λ r. ap (λ b. number_once r (used_values n us ++ cond b (v ∷ values_in n ps) (values_in n ps))) (same_text n) ∙ twice r (used_values n us) (values_in n ps) v some)
-    (names_used us ++ names_in ps)))
+    let twice : IsTwice (all_values us (option n v ∷ ps) n) = subst (λ b. IsTwice (used_values n us ++ cond b (v ∷ values_in n ps) (values_in n ps))) (sym (same_text n)) (twice-more (used_values n us) (values_in n ps) v some) in
+    sym (cond_none (is_option n && are_known ps) _ (needs (all_values us (option n v ∷ ps)) n e twice (names_used us ++ names_in ps)))
 
 option-moved : (us : List Use) (n v : Text) (ps : List Part) → is_option n ≡ true → asked (us ++ (n, v) ∷ []) ps ≡ asked us (option n v ∷ ps)
 option-moved us n v ps e =
     let names : names_used (us ++ (n, v) ∷ []) ≡ names_used us = ap₂ (λ x y. x ++ y) (used_values-other (codes "A") us (n, v) (source_apart n e)) (used_values-other (codes "B") us (n, v) (target_apart n e)) in
-    ap (λ x. cond (are_known ps) (job_values (x ++ names_in ps) (all_values (us ++ (n, v) ∷ []) ps)) None) names
-    ∙ ap (λ job. cond (are_known ps) job None) (job-same (names_used us ++ names_in ps) (all_values (us ++ (n, v) ∷ []) ps) (all_values us (option n v ∷ ps)) (λ m _. values-moved us n v ps m))
-    ∙ sym (ap (λ b. cond (b && are_known ps) (job_values (names_used us ++ names_in ps) (all_values us (option n v ∷ ps))) None) e)
+    ap (λ x. cond (are_known ps) (check_values (x ++ names_in ps) (all_values (us ++ (n, v) ∷ []) ps)) None) names
+    ∙ ap (λ found. cond (are_known ps) found None) (check-same (names_used us ++ names_in ps) (all_values (us ++ (n, v) ∷ []) ps) (all_values us (option n v ∷ ps)) (λ m _. values-moved us n v ps m))
+    ∙ sym (ap (λ b. cond (b && are_known ps) (check_values (names_used us ++ names_in ps) (all_values us (option n v ∷ ps))) None) e)
 
 option-unknown : (us : List Use) (n v : Text) (ps : List Part) → is_option n ≡ false → None ≡ asked us (option n v ∷ ps)
-option-unknown us n v ps e = sym (ap (λ b. cond (b && are_known ps) (job_values (names_used us ++ names_in ps) (all_values us (option n v ∷ ps))) None) e)
+option-unknown us n v ps e = sym (ap (λ b. cond (b && are_known ps) (check_values (names_used us ++ names_in ps) (all_values us (option n v ∷ ps))) None) e)
 
 name-moved : (us vs : List Use) (t : Text) (ps : List Part) → names_used vs ++ names_in ps ≡ names_used us ++ t ∷ names_in ps → ((m : Text) → is_option m ≡ true → used_values m vs ≡ used_values m us) → asked vs ps ≡ asked us (name t ∷ ps)
 name-moved us vs t ps names values =
-    ap (λ x. cond (are_known ps) (job_values x (all_values vs ps)) None) names
-    ∙ ap (λ job. cond (are_known ps) job None) (job-same (names_used us ++ t ∷ names_in ps) (all_values vs ps) (all_values us (name t ∷ ps)) (λ m e. ap (λ x. x ++ values_in m ps) (values m e)))
+    ap (λ x. cond (are_known ps) (check_values x (all_values vs ps)) None) names
+    ∙ ap (λ found. cond (are_known ps) found None) (check-same (names_used us ++ t ∷ names_in ps) (all_values vs ps) (all_values us (name t ∷ ps)) (λ m e. ap (λ x. x ++ values_in m ps) (values m e)))
 
 -- the uses of the parts ask for what the parts ask for
-pub taken-outcome : (ps : List Part) (us : List Use) (place : Place) → Placed us place → ((n : Text) → IsOnce (used_values n us)) → outcome (taken ps us place) ≡ asked us ps
+taken-outcome : (ps : List Part) (us : List Use) (place : Place) → Placed us place → ((n : Text) → IsOnce (used_values n us)) → outcome (taken is_option ps us (left place)) ≡ asked us ps
 taken-outcome [] us place placed once = ended us place placed once
 taken-outcome (option n v ∷ ps) us place placed once =
     go (is_option n) refl
     (λ e fresh. taken-outcome ps (us ++ (n, v) ∷ []) place (placed-same us (us ++ (n, v) ∷ []) place (used_values-other (codes "A") us (n, v) (source_apart n e)) (used_values-other (codes "B") us (n, v) (target_apart n e)) placed) (once-more us (n, v) once fresh))
   where
-    more : (b : Bool) → has n us ≡ b → is_option n ≡ true → (has n us ≡ false → outcome (taken ps (us ++ (n, v) ∷ []) place) ≡ asked (us ++ (n, v) ∷ []) ps)
-        → outcome (cond b None (taken ps (us ++ (n, v) ∷ []) place)) ≡ asked us (option n v ∷ ps)
+    more : (b : Bool) → has n us ≡ b → is_option n ≡ true → (has n us ≡ false → outcome (taken is_option ps (us ++ (n, v) ∷ []) (left place)) ≡ asked (us ++ (n, v) ∷ []) ps)
+        → outcome (cond b None (taken is_option ps (us ++ (n, v) ∷ []) (left place))) ≡ asked us (option n v ∷ ps)
     more true f e rest = used-twice us n v ps e f
     more false f e rest = rest f ∙ option-moved us n v ps e
 
-    go : (b : Bool) → is_option n ≡ b → (is_option n ≡ true → has n us ≡ false → outcome (taken ps (us ++ (n, v) ∷ []) place) ≡ asked (us ++ (n, v) ∷ []) ps)
-        → outcome (taken (option n v ∷ ps) us place) ≡ asked us (option n v ∷ ps)
-    go true e rest = ap (λ x. outcome (cond x (cond (has n us) None (taken ps (us ++ (n, v) ∷ []) place)) None)) e ∙ more (has n us) refl e (rest e)
-    go false e rest = ap (λ x. outcome (cond x (cond (has n us) None (taken ps (us ++ (n, v) ∷ []) place)) None)) e ∙ option-unknown us n v ps e
+    go : (b : Bool) → is_option n ≡ b → (is_option n ≡ true → has n us ≡ false → outcome (taken is_option ps (us ++ (n, v) ∷ []) (left place)) ≡ asked (us ++ (n, v) ∷ []) ps)
+        → outcome (taken is_option (option n v ∷ ps) us (left place)) ≡ asked us (option n v ∷ ps)
+    go true e rest = ap (λ x. outcome (cond x (cond (has n us) None (taken is_option ps (us ++ (n, v) ∷ []) (left place))) None)) e ∙ more (has n us) refl e (rest e)
+    go false e rest = ap (λ x. outcome (cond x (cond (has n us) None (taken is_option ps (us ++ (n, v) ∷ []) (left place))) None)) e ∙ option-unknown us n v ps e
 taken-outcome (name t ∷ ps) us first placed once =
     let vs : List Use = us ++ (codes "A", t) ∷ [] in
     let fresh : has (codes "A") us ≡ false = has-values (codes "A") us ∙ ap some_value placed.0 in
     let source : used_values (codes "A") vs ≡ t ∷ [] = used_values-end (codes "A") us (codes "A", t) ∙ ap (λ x. x ++ t ∷ []) placed.0 in
     let target : used_values (codes "B") vs ≡ [] = used_values-other (codes "B") us (codes "A", t) refl ∙ placed.1 in
-    ap (λ b. outcome (cond b None (taken ps vs second))) fresh
+    ap (λ b. outcome (cond b None (taken is_option ps vs (left second)))) fresh
     ∙ taken-outcome ps vs second (t, source, target) (once-more us (codes "A", t) once fresh)
     ∙ name-moved us vs t ps (ap₂ (λ x y. (x ++ y) ++ names_in ps) source target ∙ sym (ap₂ (λ x y. (x ++ y) ++ t ∷ names_in ps) placed.0 placed.1)) (λ m e. used_values-other m us (codes "A", t) (apart_source m e))
 taken-outcome (name t ∷ ps) us second placed once =
@@ -307,12 +348,12 @@ taken-outcome (name t ∷ ps) us second placed once =
     let fresh : has (codes "B") us ≡ false = has-values (codes "B") us ∙ ap some_value placed.2 in
     let source : used_values (codes "A") vs ≡ placed.0 ∷ [] = used_values-other (codes "A") us (codes "B", t) refl ∙ placed.1 in
     let target : used_values (codes "B") vs ≡ t ∷ [] = used_values-end (codes "B") us (codes "B", t) ∙ ap (λ x. x ++ t ∷ []) placed.2 in
-    ap (λ b. outcome (cond b None (taken ps vs past))) fresh
+    ap (λ b. outcome (cond b None (taken is_option ps vs (left past)))) fresh
     ∙ taken-outcome ps vs past (placed.0, t, source, target) (once-more us (codes "B", t) once fresh)
     ∙ name-moved us vs t ps (ap₂ (λ x y. (x ++ y) ++ names_in ps) source target ∙ sym (ap₂ (λ x y. (x ++ y) ++ t ∷ names_in ps) placed.1 placed.2)) (λ m e. used_values-other m us (codes "B", t) (apart_target m e))
 taken-outcome (name t ∷ ps) us past placed once =
-    sym (cond_none (are_known ps) _ (ap₂ (λ x y. job_values ((x ++ y) ++ t ∷ names_in ps) (all_values us (name t ∷ ps))) placed.2 placed.3))
+    sym (cond_none (are_known ps) _ (ap₂ (λ x y. check_values ((x ++ y) ++ t ∷ names_in ps) (all_values us (name t ∷ ps))) placed.2 placed.3))
 
 -- from no uses
-pub parts-outcome : (ps : List Part) → outcome (taken ps [] first) ≡ job_in_parts (Some ps)
+pub parts-outcome : (ps : List Part) → outcome (taken is_option ps [] check_names) ≡ check_in_parts (Some ps)
 parts-outcome ps = taken-outcome ps [] first (refl, refl) (λ n. tt) ∙ parts-values ps

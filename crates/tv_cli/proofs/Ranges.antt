@@ -1,5 +1,5 @@
 -- The bounds and the budget of a job are in their ranges.
-use Rattle.std.proofs.Common.{◌≡◌, ◌≤◌, ◌&&◌, ℕ, Bool, true, false, true≢false, cond, refl, sym, ap, subst, arith, List, [], ◌∷◌, length, Option, Some, None, is_some, codes, nat_lt, nat_le}
+use Rattle.std.proofs.Common.{◌≡◌, ◌≤◌, ◌&&◌, ℕ, Bool, true, false, true≢false, cond, refl, sym, ap, subst, arith, List, [], ◌∷◌, length, Option, Some, None, option_map, is_some, ◌∙◌, codes, nat_lt, nat_le}
 use Rattle.std.proofs.lemmas.Bool.{leb-true}
 use Rattle.std.specs.List.{list_all}
 use Rattle.std.specs.Char.{digit_value}
@@ -9,12 +9,13 @@ use Rattle.points.specs.declared.point.Bounds.{Bounds}
 use Rattle.points.specs.declared.point.Budget.{Budget}
 use Rattle.points.specs.Range.{AreInRange}
 use Rattle.tv_cli.specs.declared.number.Range.{Range}
-use Rattle.tv_cli.specs.Words.{Text, Part, Job, number_within, number_once, values_in, bounds_with, budget_with, job_with, job_named, job_in_parts, job_of, names_in, are_known, parts_of, turns_range, blocks_range, bytes_range, rounds_range, conflicts_range, weight_range}
+use Rattle.tv_cli.specs.Words.Job.{check, log}
+use Rattle.tv_cli.specs.Words.{Text, Part, Check, Job, number_within, number_once, values_in, bounds_with, budget_with, check_with, check_named, check_in_parts, file_in_parts, job_of, names_in, are_known, parts_of, turns_range, blocks_range, bytes_range, rounds_range, conflicts_range, weight_range}
 
-none≢some : {X : Type 0} (x : X) → None ≡ Some x → ⊥
+pub none≢some : {X : Type 0} (x : X) → None ≡ Some x → ⊥
 none≢some x e = true≢false (sym (ap (λ o. is_some o) e))
 
-some_is : {X : Type 0} (x y : X) → Some x ≡ Some y → x ≡ y
+pub some_is : {X : Type 0} (x y : X) → Some x ≡ Some y → x ≡ y
 some_is x y e = ap (λ o. Rattle.std.specs.Prelude.unwrap_or o x) e
 
 record Within (r : Range) (n : ℕ) : Type 0 where
@@ -65,19 +66,23 @@ budget (Some x) (Some y) None b p q r e = absurd (none≢some b e)
 budget (Some x) None z b p q r e = absurd (none≢some b e)
 budget None y z b p q r e = absurd (none≢some b e)
 
-joined : (source target : Text) (b : Option Bounds) (g : Option Budget) (w : Option ℕ) (job : Job) → ((x : Bounds) → b ≡ Some x → BoundsWithin x) → ((x : Budget) → g ≡ Some x → BudgetWithin x)
-    → job_with source target b g w ≡ Some job → BoundsWithin job.bounds × BudgetWithin job.budget
-joined source target (Some b) (Some g) (Some w) job p q e = subst (λ (j : Job). BoundsWithin j.bounds × BudgetWithin j.budget) (some_is _ job e) (p b refl, q g refl)
-joined source target (Some b) (Some g) None job p q e = absurd (none≢some job e)
-joined source target (Some b) None w job p q e = absurd (none≢some job e)
-joined source target None g w job p q e = absurd (none≢some job e)
+abbrev AreWithin : Check → Type 0
+AreWithin c = BoundsWithin c.bounds × BudgetWithin c.budget
 
-named : (names : List Text) (parts : List Part) (job : Job) → job_named names parts ≡ Some job → BoundsWithin job.bounds × BudgetWithin job.budget
-named [] parts job e = absurd (none≢some job e)
-named (source ∷ []) parts job e = absurd (none≢some job e)
-named (source ∷ target ∷ other ∷ names) parts job e = absurd (none≢some job e)
-named (source ∷ target ∷ []) parts job e =
-    joined source target _ _ _ job
+joined : (source target : Text) (b : Option Bounds) (g : Option Budget) (w : Option ℕ) (f : Option (Option Text)) (c : Check) → ((x : Bounds) → b ≡ Some x → BoundsWithin x) → ((x : Budget) → g ≡ Some x → BudgetWithin x)
+    → check_with source target b g w f ≡ Some c → AreWithin c
+joined source target (Some b) (Some g) (Some w) (Some f) c p q e = subst AreWithin (some_is _ c e) (p b refl, q g refl)
+joined source target (Some b) (Some g) (Some w) None c p q e = absurd (none≢some c e)
+joined source target (Some b) (Some g) None f c p q e = absurd (none≢some c e)
+joined source target (Some b) None w f c p q e = absurd (none≢some c e)
+joined source target None g w f c p q e = absurd (none≢some c e)
+
+named : (names : List Text) (parts : List Part) (c : Check) → check_named names parts ≡ Some c → AreWithin c
+named [] parts c e = absurd (none≢some c e)
+named (source ∷ []) parts c e = absurd (none≢some c e)
+named (source ∷ target ∷ other ∷ names) parts c e = absurd (none≢some c e)
+named (source ∷ target ∷ []) parts c e =
+    joined source target _ _ _ _ c
     (λ x. bounds _ _ _ x
     (λ n. once turns_range (values_in (codes "turns") parts) n (record { least = omega arith; most = omega arith }))
     (λ n. once blocks_range (values_in (codes "blocks") parts) n (record { least = omega arith; most = omega arith }))
@@ -88,26 +93,47 @@ named (source ∷ target ∷ []) parts job e =
     (λ n. once weight_range (values_in (codes "weight") parts) n (record { least = omega arith; most = omega arith })))
     e
 
-parted : (parts : Option (List Part)) (job : Job) → job_in_parts parts ≡ Some job → BoundsWithin job.bounds × BudgetWithin job.budget
-parted None job e = absurd (none≢some job e)
-parted (Some parts) job e = go (are_known parts) e
+parted : (parts : Option (List Part)) (c : Check) → check_in_parts parts ≡ Some c → AreWithin c
+parted None c e = absurd (none≢some c e)
+parted (Some parts) c e = go (are_known parts) e
   where
-    go : (b : Bool) → cond b (job_named (names_in parts) parts) None ≡ Some job → BoundsWithin job.bounds × BudgetWithin job.budget
-    go true e = named (names_in parts) parts job e
-    go false e = absurd (none≢some job e)
+    go : (b : Bool) → cond b (check_named (names_in parts) parts) None ≡ Some c → AreWithin c
+    go true e = named (names_in parts) parts c e
+    go false e = absurd (none≢some c e)
 
-all_within : (words : List Text) (job : Job) → job_of words ≡ Some job → BoundsWithin job.bounds × BudgetWithin job.budget
-all_within [] job e = absurd (none≢some job e)
-all_within (program ∷ []) job e = absurd (none≢some job e)
-all_within (program ∷ command ∷ words) job e = go (bytes_eq (codes "check") command) e
+-- what a job checks
+checked : Option Job → Option Check
+checked None = None
+checked (Some (check c)) = Some c
+checked (Some (log file)) = None
+
+checked-check : (found : Option Check) → checked (option_map check found) ≡ found
+unfolding checked
+checked-check None = refl
+checked-check (Some c) = refl
+
+checked-log : (found : Option Text) → checked (option_map log found) ≡ None
+unfolding checked
+checked-log None = refl
+checked-log (Some file) = refl
+
+checked-some : (c : Check) → checked (Some (check c)) ≡ Some c
+unfolding checked
+checked-some c = refl
+
+all_within : (words : List Text) (c : Check) → job_of words ≡ Some (check c) → AreWithin c
+all_within [] c e = absurd (none≢some (check c) e)
+all_within (program ∷ []) c e = absurd (none≢some (check c) e)
+all_within (program ∷ command ∷ words) c e = go (bytes_eq (codes "check") command) (bytes_eq (codes "log") command) e
   where
-    go : (b : Bool) → cond b (job_in_parts (parts_of None words)) None ≡ Some job → BoundsWithin job.bounds × BudgetWithin job.budget
-    go true e = parted (parts_of None words) job e
-    go false e = absurd (none≢some job e)
+    go : (a b : Bool) → cond a (option_map check (check_in_parts (parts_of None words))) (cond b (option_map log (file_in_parts (parts_of None words))) None) ≡ Some (check c) → AreWithin c
+    go true b e = parted (parts_of None words) c (sym (checked-check (check_in_parts (parts_of None words))) ∙ ap checked e ∙ checked-some c)
+    go false true e = absurd (none≢some c (sym (checked-log (file_in_parts (parts_of None words))) ∙ ap checked e ∙ checked-some c))
+    go false false e = absurd (none≢some (check c) e)
 
-pub job_in_range : (words : List Text) (job : Job) → job_of words ≡ Some job → AreInRange job.bounds job.budget
-job_in_range words job e =
-    let w = all_within words job e in
+pub check_in_range : (words : List Text) (c : Check) → job_of words ≡ Some (check c) → AreInRange c.bounds c.budget
+check_in_range words c e =
+    let w = all_within words c e in
     let b = w.0 in
     let g = w.1 in
     record {

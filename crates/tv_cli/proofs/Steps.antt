@@ -1,4 +1,4 @@
--- One word of a walk of `clap` over the words of `check`.
+-- One word of a walk of `clap` over the words of a command.
 use Rattle.std.proofs.Common.{◌≡◌, ◌&&◌, ◌++◌, ◌+◌, ℕ, Bool, true, false, cond, refl, sym, ap, subst, ◌∙◌, min, List, [], ◌∷◌, Option, Some, None, fold}
 use Rattle.std.proofs.Math.Bool.{and-false}
 use Rattle.std.specs.Str.{bytes_eq}
@@ -10,10 +10,10 @@ use Rattle.clap.specs.Kinds.{or_else}
 use Rattle.clap.specs.Faults.{flags_fault, settle_fault, turn_fault, use_fault, walk_fault}
 use Rattle.clap.specs.Simple.{Shape}
 use Rattle.clap.specs.declared.error.kind.ErrorKind.TheVariants as kind
-use Rattle.tv_cli.specs.Words.{Text, is_option}
+use Rattle.tv_cli.specs.Words.{Text}
 use Rattle.tv_cli.proofs.Uses.{Use, has, has_row-uses, held_with, noted, pending_use, rows_of_uses, settle, used-first}
 use Rattle.tv_cli.proofs.WordKinds.{IsPlain, IsDashed, IsLong, ends_options}
-use Rattle.tv_cli.proofs.Arguments.{IsCheck, OptionOf, RuleOf}
+use Rattle.tv_cli.proofs.Arguments.{IsCommand, OptionOf, RuleOf}
 
 abbrev pub IsFault : Kinds → Type 0
 IsFault [] = ⊥
@@ -44,7 +44,7 @@ moved trailing rows pending waiting position = record { held = record { rows = r
 same_text : (t : Text) → bytes_eq t t ≡ true
 same_text t = (bytes_eq-Decides t t).1 refl
 
-module _ (s : Shape) (k : IsCheck s) where
+module _ (is_known : Text → Bool) (s : Shape) (k : IsCommand is_known s) where
   -- the fault of the words from here on, without that of a missing argument
   abbrev pub kinds_from : Walk → List Text → Kinds
   kinds_from w ws = or_else (walk_fault s [] w ws) (settle_fault s.rules false (fold (walked s.rules []) w ws).held)
@@ -102,8 +102,8 @@ module _ (s : Shape) (k : IsCheck s) where
   unfolding walked
   plain-walked us p position word id r found plain = rw (plain.end, plain.long, plain.short, found, r.several, and-false (is_pending r.rule (pending_use p)), r.multiple, r.trailing) refl
 
-  pub plain-stray : (us : List Use) (p : Option Use) (word : Text) → IsPlain word → IsFault (turn_fault s [] (at false us p 3) word)
-  plain-stray us p word plain = rw (plain.end, plain.long, plain.short, k.third_at, k.leaf) tt
+  pub plain-stray : (us : List Use) (p : Option Use) (position : ℕ) (word : Text) → arg_by_index s.rules position ≡ None → IsPlain word → IsFault (turn_fault s [] (at false us p position) word)
+  plain-stray us p position word none plain = rw (plain.end, plain.long, plain.short, none, k.leaf) tt
 
   pub trailing-turn : (us : List Use) (p : Option Use) (position : ℕ) (word id : Text) (r : RuleOf s.rules id) → arg_by_index s.rules position ≡ Some r.rule
       → turn_fault s [] (at true us p position) word ≡ settle_fault s.rules false (held_with us p)
@@ -114,8 +114,8 @@ module _ (s : Shape) (k : IsCheck s) where
   unfolding walked
   trailing-walked us p position word id r found = rw (found, r.several, and-false (is_pending r.rule (pending_use p)), r.multiple) refl
 
-  pub trailing-stray : (us : List Use) (p : Option Use) (word : Text) → IsFault (turn_fault s [] (at true us p 3) word)
-  trailing-stray us p word = rw (k.third_at, k.leaf) tt
+  pub trailing-stray : (us : List Use) (p : Option Use) (position : ℕ) (word : Text) → arg_by_index s.rules position ≡ None → IsFault (turn_fault s [] (at true us p position) word)
+  trailing-stray us p position word none = rw (none, k.leaf) tt
 
   -- ---- `--`
 
@@ -143,7 +143,7 @@ module _ (s : Shape) (k : IsCheck s) where
   unfolding flags_fault
   dashed-awaiting-turn us id position word d = rw (d.end, d.long, d.short, d.char, k.no_short d.first) tt
 
-  pub unknown-turn : (us : List Use) (p : Option Use) (position : ℕ) (word name : Text) (value : Option Text) → IsLong word name value → is_option name ≡ false → IsFault (turn_fault s [] (at false us p position) word)
+  pub unknown-turn : (us : List Use) (p : Option Use) (position : ℕ) (word name : Text) (value : Option Text) → IsLong word name value → is_known name ≡ false → IsFault (turn_fault s [] (at false us p position) word)
   unknown-turn us p position word name value l unknown = rw (l.end, l.long, k.unknown name unknown) tt
 
   -- `--name=value`
@@ -182,7 +182,7 @@ module _ (s : Shape) (k : IsCheck s) where
   unfolding walked
   awaiting-plain-walked us id position word r plain = rw (plain.end, plain.long, plain.short, r.by_id, r.id_is, r.most, same_text id) refl
 
-  pub awaiting-unknown-turn : (us : List Use) (id : Text) (position : ℕ) (word name : Text) (value : Option Text) → IsLong word name value → is_option name ≡ false → IsFault (turn_fault s [] (awaiting false us id position) word)
+  pub awaiting-unknown-turn : (us : List Use) (id : Text) (position : ℕ) (word name : Text) (value : Option Text) → IsLong word name value → is_known name ≡ false → IsFault (turn_fault s [] (awaiting false us id position) word)
   awaiting-unknown-turn us id position word name value l unknown = rw (l.end, l.long, k.unknown name unknown) tt
 
   pub awaiting-long-turn : (us : List Use) (id : Text) (position : ℕ) (word name : Text) (value : Option Text) (r : RuleOf s.rules id) (o : OptionOf s.rules name) → IsLong word name value → IsFault (turn_fault s [] (awaiting false us id position) word)
@@ -194,5 +194,5 @@ module _ (s : Shape) (k : IsCheck s) where
       → IsFault (turn_fault s [] (awaiting true us id position) word)
   awaiting-trailing-turn us id position word other r q found = rw (found, q.several, and-false (bytes_eq id q.rule.id), k.again, awaiting-settles us id r) tt
 
-  pub awaiting-trailing-stray : (us : List Use) (id word : Text) → IsFault (turn_fault s [] (awaiting true us id 3) word)
-  awaiting-trailing-stray us id word = rw (k.third_at, k.leaf) tt
+  pub awaiting-trailing-stray : (us : List Use) (id : Text) (position : ℕ) (word : Text) → arg_by_index s.rules position ≡ None → IsFault (turn_fault s [] (awaiting true us id position) word)
+  awaiting-trailing-stray us id position word none = rw (none, k.leaf) tt

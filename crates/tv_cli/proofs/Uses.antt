@@ -1,11 +1,11 @@
--- What is used by the words of `check`, one use after another, and the rows that hold it.
-use Rattle.std.proofs.Common.{◌≡◌, ◌||◌, ◌++◌, Bool, true, false, true≢false, refl, sym, ap, ◌∙◌, List, [], ◌∷◌, map, Option, Some, None, codes, if◌then◌else◌}
+-- What is used by the words of a command, one use after another, and the rows that hold it.
+use Rattle.std.proofs.Common.{◌≡◌, ◌||◌, ◌++◌, Bool, true, false, true≢false, refl, sym, ap, ◌∙◌, List, [], ◌∷◌, map, Option, Some, None, if◌then◌else◌}
 use Rattle.std.specs.List.{list_any}
 use Rattle.std.specs.Str.{bytes_eq}
 use Rattle.clap.specs.Walk.{Held, Row, at_row, has_row, with_values, without, more_values}
 use Rattle.clap.specs.declared.parser.matches.ValueSource.TheVariants.{CommandLine}
 use Rattle.clap.specs.declared.builder.value_parser.Reading.TheVariants.{AsWritten}
-use Rattle.tv_cli.specs.Words.{Text, Part, is_option}
+use Rattle.tv_cli.specs.Words.{Text, Part}
 use Rattle.tv_cli.specs.Words.Part.{option, name}
 
 -- an argument's name with its value
@@ -37,24 +37,17 @@ abbrev pub settle : List Use → Option Use → Option (List Use)
 settle us None = Some us
 settle us (Some u) = noted us u
 
--- which positional comes next
-pub data Place : Type 0 where
-  first : Place
-  second : Place
-  past : Place
+-- the uses after these parts, of a command with these options and with these names still to come
+abbrev pub taken : (Text → Bool) → List Part → List Use → List Text → Option (List Use)
+taken is_known [] us ids = Some us
+taken is_known (option n v ∷ ps) us ids = (if is_known n then (if has n us then None else taken is_known ps (us ++ (n, v) ∷ []) ids) else None)
+taken is_known (name t ∷ ps) us (id ∷ ids) = (if has id us then None else taken is_known ps (us ++ (id, t) ∷ []) ids)
+taken is_known (name t ∷ ps) us [] = None
 
--- the uses after these parts
-abbrev pub taken : List Part → List Use → Place → Option (List Use)
-taken [] us place = Some us
-taken (option n v ∷ ps) us place = (if is_option n then (if has n us then None else taken ps (us ++ (n, v) ∷ []) place) else None)
-taken (name t ∷ ps) us first = (if has (codes "A") us then None else taken ps (us ++ (codes "A", t) ∷ []) second)
-taken (name t ∷ ps) us second = (if has (codes "B") us then None else taken ps (us ++ (codes "B", t) ∷ []) past)
-taken (name t ∷ ps) us past = None
-
-abbrev pub after : Option (List Use) → Place → Option (List Part) → Option (List Use)
-after None place parts = None
-after (Some us) place None = None
-after (Some us) place (Some ps) = taken ps us place
+abbrev pub after : (Text → Bool) → Option (List Use) → List Text → Option (List Part) → Option (List Use)
+after is_known None ids parts = None
+after is_known (Some us) ids None = None
+after is_known (Some us) ids (Some ps) = taken is_known ps us ids
 
 -- ---- rows
 

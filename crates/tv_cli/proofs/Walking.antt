@@ -1,12 +1,17 @@
 -- What the matches of the command line say of the job.
-use Rattle.std.proofs.Common.{◌≡◌, ◌≢◌, true, List, [], ◌∷◌, None, Some, option_map, refl, sym, ap, ◌∙◌, subst, inl, inr}
+use Rattle.std.proofs.Common.{◌≡◌, ◌≢◌, true, List, [], ◌∷◌, Option, None, Some, option_map, refl, sym, ap, ap₂, ◌∙◌, subst, inl, inr}
 use Rattle.clap.specs.Words.{Row, HasKind, Kinds, fault_of, is_simple, is_simple_and_free, kind_of, subcommand_of}
 use Rattle.clap.specs.declared.Error.{Error}
 use Rattle.clap.specs.declared.error.ErrorKind.TheVariants as kind
 use Rattle.clap.proofs.OnLiterals.{clap_on_literals}
-use Rattle.std.specs.Prelude.{option_and_then}
+use Rattle.clap.specs.Simple.{subcommand_rows}
+use Rattle.clap.specs.declared.parser.matches.ArgMatches.TheViews.{out-SubCommand}
+use Rattle.clap.specs.declared.parser.matches.SubCommand.{SubCommand}
+use Rattle.std.specs.Prelude.{Box, option_and_then}
+use Rattle.std.specs.Box.{box_value}
 use Rattle.tv_cli.specs.Words.{Text}
 use Rattle.tv_cli.specs.Walked.{job_in_rows, job_walked, tv_app, unless_fault}
+use Rattle.tv_cli.proofs.Ranges.{none≢some, some_is}
 
 pub tv_is_simple : is_simple_and_free tv_app ≡ true
 unfolding clap_on_literals
@@ -16,14 +21,12 @@ pub tv_is_read : is_simple tv_app ≡ true
 unfolding clap_on_literals
 tv_is_read = refl
 
-pub walked-found : (words : List Text) (rows : List Row) → fault_of tv_app words ≡ [] → option_map (λ p. p.1) (subcommand_of tv_app words) ≡ Some rows → job_walked words ≡ job_in_rows rows
-walked-found words rows none found =
-    ap (λ kinds. unless_fault kinds (option_and_then job_in_rows (option_map (λ p. p.1) (subcommand_of tv_app words)))) none
-    ∙ ap (option_and_then job_in_rows) found
+pub walked-found : (words : List Text) (command : Text × List Row) → fault_of tv_app words ≡ [] → subcommand_of tv_app words ≡ Some command → job_walked words ≡ job_in_rows command
+walked-found words command none found = ap (λ kinds. unless_fault kinds (option_and_then job_in_rows (subcommand_of tv_app words))) none ∙ ap (option_and_then job_in_rows) found
 
 walked-fault : (words : List Text) → fault_of tv_app words ≢ [] → job_walked words ≡ None
 walked-fault words some = nothing (fault_of tv_app words) some where
-  nothing : (kinds : Kinds) → kinds ≢ [] → unless_fault kinds (option_and_then job_in_rows (option_map (λ p. p.1) (subcommand_of tv_app words))) ≡ None
+  nothing : (kinds : Kinds) → kinds ≢ [] → unless_fault kinds (option_and_then job_in_rows (subcommand_of tv_app words)) ≡ None
   nothing [] ne = absurd (ne refl)
   nothing (kind ∷ kinds) ne = refl
 
@@ -32,3 +35,10 @@ walked-refused words e has other = sym (walked-fault words (λ none. none_has (s
   none_has : HasKind [] e → ⊥
   none_has (inl memory) = other memory
   none_has (inr among) = among
+
+module _ {Z : Type 0} where
+  -- a subcommand's name and its rows
+  pub subcommand_pair : (sub : Option (Box SubCommand Z)) (name : Text) (rows : List Row) → Some name ≡ option_map (λ b. (out-SubCommand (box_value b)).name.now) sub
+      → Some rows ≡ option_map (λ p. p.1) (subcommand_rows sub) → subcommand_rows sub ≡ Some (name, rows)
+  subcommand_pair None name rows e f = absurd (none≢some name (sym e))
+  subcommand_pair (Some b) name rows e f = ap₂ (λ (n : Text) (r : List Row). Some (n, r)) (sym (some_is name _ e)) (sym (some_is rows _ f))

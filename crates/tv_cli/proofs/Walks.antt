@@ -1,247 +1,222 @@
--- A walk of `clap` over the words of `check` uses what their parts are, in order, or ends in a fault.
-use Rattle.std.proofs.Common.{◌≡◌, ◌++◌, ℕ, Bool, true, false, cond, refl, sym, ap, subst, ◌∙◌, List, [], ◌∷◌, map, Option, Some, None, codes, IsUtf8}
+-- A walk of `clap` over the words of a command uses what their parts are, in order, or ends in a fault.
+use Rattle.std.proofs.Common.{◌≡◌, ◌++◌, ℕ, Bool, true, false, cond, refl, sym, ap, subst, ◌∙◌, List, [], ◌∷◌, map, Option, Some, None, IsUtf8}
 use Rattle.clap.specs.Words.{Kinds}
 use Rattle.clap.specs.Walk.{Waiting, Walk, idle, settled, used, walked}
 use Rattle.clap.specs.Walk.{option as option_waits}
 use Rattle.clap.specs.Kinds.{or_else}
 use Rattle.clap.specs.Faults.{settle_fault, turn_fault, use_fault, walk_fault}
 use Rattle.clap.specs.Simple.{Shape}
-use Rattle.tv_cli.specs.Words.{Text, Kind, Part, is_option, kind_of, parts_from, parts_of, value_from, with_part}
+use Rattle.tv_cli.specs.Words.{Text, Kind, Part, kind_of, parts_from, parts_of, value_from, with_part}
 use Rattle.tv_cli.specs.Words.Kind.{end, attached, separate, dashed, plain}
 use Rattle.tv_cli.specs.Words.Part.{option, name}
-use Rattle.tv_cli.proofs.Uses.{Use, Place, has, held_with, noted, rows_of_uses, settle, taken, after}
-use Rattle.tv_cli.proofs.Uses.Place.{first, second, past}
+use Rattle.tv_cli.proofs.Uses.{Use, has, held_with, noted, rows_of_uses, settle, taken, after}
 use Rattle.tv_cli.proofs.WordKinds.{IsLong, IsPlain, Met, met}
-use Rattle.tv_cli.proofs.Arguments.{IsCheck, OptionOf, RuleOf}
+use Rattle.tv_cli.proofs.Arguments.{IsCommand, NamesFrom, OptionOf, RuleOf, next_position}
 use Rattle.tv_cli.proofs.Steps.{Agrees, AgreesFrom, IsFault, Known, at, awaiting, bad, fault_left, kinds_from, moved, next, settles, use-agrees}
 use Rattle.tv_cli.proofs.Steps.{plain-turn, plain-walked, plain-stray, trailing-turn, trailing-walked, trailing-stray, end-turn, end-walked, end-awaiting-turn, end-awaiting-walked, dashed-turn, dashed-awaiting-turn}
 use Rattle.tv_cli.proofs.Steps.{unknown-turn, attached-turn, attached-walked, separate-turn, separate-walked, awaiting-end, awaiting-plain-turn, awaiting-plain-walked, awaiting-unknown-turn, awaiting-long-turn, awaiting-trailing-turn, awaiting-trailing-stray}
 
 -- ---- parts, by their uses
 
-name-first : (us : List Use) (word : Text) (parts : Option (List Part)) → after (Some us) first (with_part (name word) parts) ≡ after (noted us (codes "A", word)) second parts
-name-first us word None = go (has (codes "A") us)
+name-next : (is_known : Text → Bool) (us : List Use) (id : Text) (ids : List Text) (word : Text) (parts : Option (List Part))
+    → after is_known (Some us) (id ∷ ids) (with_part (name word) parts) ≡ after is_known (noted us (id, word)) ids parts
+name-next is_known us id ids word None = go (has id us)
   where
-    go : (b : Bool) → None ≡ after (cond b None (Some (us ++ (codes "A", word) ∷ []))) second None
+    go : (b : Bool) → None ≡ after is_known (cond b None (Some (us ++ (id, word) ∷ []))) ids None
     go true = refl
     go false = refl
-name-first us word (Some ps) = go (has (codes "A") us)
+name-next is_known us id ids word (Some ps) = go (has id us)
   where
-    go : (b : Bool) → cond b None (taken ps (us ++ (codes "A", word) ∷ []) second) ≡ after (cond b None (Some (us ++ (codes "A", word) ∷ []))) second (Some ps)
-    go true = refl
-    go false = refl
-
-name-second : (us : List Use) (word : Text) (parts : Option (List Part)) → after (Some us) second (with_part (name word) parts) ≡ after (noted us (codes "B", word)) past parts
-name-second us word None = go (has (codes "B") us)
-  where
-    go : (b : Bool) → None ≡ after (cond b None (Some (us ++ (codes "B", word) ∷ []))) past None
-    go true = refl
-    go false = refl
-name-second us word (Some ps) = go (has (codes "B") us)
-  where
-    go : (b : Bool) → cond b None (taken ps (us ++ (codes "B", word) ∷ []) past) ≡ after (cond b None (Some (us ++ (codes "B", word) ∷ []))) past (Some ps)
+    go : (b : Bool) → cond b None (taken is_known ps (us ++ (id, word) ∷ []) ids) ≡ after is_known (cond b None (Some (us ++ (id, word) ∷ []))) ids (Some ps)
     go true = refl
     go false = refl
 
-name-past : (o : Option (List Use)) (word : Text) (parts : Option (List Part)) → after o past (with_part (name word) parts) ≡ None
-name-past None word parts = refl
-name-past (Some us) word None = refl
-name-past (Some us) word (Some ps) = refl
+name-past : (is_known : Text → Bool) (o : Option (List Use)) (word : Text) (parts : Option (List Part)) → after is_known o [] (with_part (name word) parts) ≡ None
+name-past is_known None word parts = refl
+name-past is_known (Some us) word None = refl
+name-past is_known (Some us) word (Some ps) = refl
 
-option-known : (us : List Use) (place : Place) (n v : Text) (parts : Option (List Part)) → is_option n ≡ true → after (Some us) place (with_part (option n v) parts) ≡ after (noted us (n, v)) place parts
-option-known us place n v None e = go (has n us)
+option-known : (is_known : Text → Bool) (us : List Use) (ids : List Text) (n v : Text) (parts : Option (List Part)) → is_known n ≡ true
+    → after is_known (Some us) ids (with_part (option n v) parts) ≡ after is_known (noted us (n, v)) ids parts
+option-known is_known us ids n v None e = go (has n us)
   where
-    go : (b : Bool) → None ≡ after (cond b None (Some (us ++ (n, v) ∷ []))) place None
+    go : (b : Bool) → None ≡ after is_known (cond b None (Some (us ++ (n, v) ∷ []))) ids None
     go true = refl
     go false = refl
-option-known us place n v (Some ps) e = ap (λ x. cond x (cond (has n us) None (taken ps (us ++ (n, v) ∷ []) place)) None) e ∙ go (has n us)
+option-known is_known us ids n v (Some ps) e = ap (λ x. cond x (cond (has n us) None (taken is_known ps (us ++ (n, v) ∷ []) ids)) None) e ∙ go (has n us)
   where
-    go : (b : Bool) → cond b None (taken ps (us ++ (n, v) ∷ []) place) ≡ after (cond b None (Some (us ++ (n, v) ∷ []))) place (Some ps)
+    go : (b : Bool) → cond b None (taken is_known ps (us ++ (n, v) ∷ []) ids) ≡ after is_known (cond b None (Some (us ++ (n, v) ∷ []))) ids (Some ps)
     go true = refl
     go false = refl
 
-option-unknown : (o : Option (List Use)) (place : Place) (n v : Text) (parts : Option (List Part)) → is_option n ≡ false → after o place (with_part (option n v) parts) ≡ None
-option-unknown None place n v parts e = refl
-option-unknown (Some us) place n v None e = refl
-option-unknown (Some us) place n v (Some ps) e = ap (λ x. cond x (cond (has n us) None (taken ps (us ++ (n, v) ∷ []) place)) None) e
+option-unknown : (is_known : Text → Bool) (o : Option (List Use)) (ids : List Text) (n v : Text) (parts : Option (List Part)) → is_known n ≡ false → after is_known o ids (with_part (option n v) parts) ≡ None
+option-unknown is_known None ids n v parts e = refl
+option-unknown is_known (Some us) ids n v None e = refl
+option-unknown is_known (Some us) ids n v (Some ps) e = ap (λ x. cond x (cond (has n us) None (taken is_known ps (us ++ (n, v) ∷ []) ids)) None) e
 
-no-parts : (o : Option (List Use)) (place : Place) → after o place None ≡ None
-no-parts None place = refl
-no-parts (Some us) place = refl
+no-parts : (is_known : Text → Bool) (o : Option (List Use)) (ids : List Text) → after is_known o ids None ≡ None
+no-parts is_known None ids = refl
+no-parts is_known (Some us) ids = refl
 
-value-unknown : (o : Option (List Use)) (place : Place) (n : Text) (ws : List Text) → is_option n ≡ false → after o place (parts_of (Some n) ws) ≡ None
-value-unknown o place n [] e = no-parts o place
-value-unknown o place n (word ∷ ws) e = go (kind_of word)
+value-unknown : (is_known : Text → Bool) (o : Option (List Use)) (ids : List Text) (n : Text) (ws : List Text) → is_known n ≡ false → after is_known o ids (parts_of (Some n) ws) ≡ None
+value-unknown is_known o ids n [] e = no-parts is_known o ids
+value-unknown is_known o ids n (word ∷ ws) e = go (kind_of word)
   where
-    go : (kind : Kind) → after o place (value_from n word (parts_of None ws) kind) ≡ None
-    go plain = option-unknown o place n word (parts_of None ws) e
-    go end = no-parts o place
-    go (attached m v) = no-parts o place
-    go (separate m) = no-parts o place
-    go dashed = no-parts o place
+    go : (kind : Kind) → after is_known o ids (value_from n word (parts_of None ws) kind) ≡ None
+    go plain = option-unknown is_known o ids n word (parts_of None ws) e
+    go end = no-parts is_known o ids
+    go (attached m v) = no-parts is_known o ids
+    go (separate m) = no-parts is_known o ids
+    go dashed = no-parts is_known o ids
 
 pub or_else-nil : (x : Kinds) → or_else x [] ≡ x
 or_else-nil [] = refl
 or_else-nil (k ∷ ks) = refl
 
-abbrev pub number : Place → ℕ
-number first = 1
-number second = 2
-number past = 3
-
 abbrev pub AreTexts : List Text → Type 0
 AreTexts [] = Unit {0}
 AreTexts (word ∷ ws) = IsUtf8 word × AreTexts ws
 
-module _ (s : Shape) (k : IsCheck s) where
+module _ (is_known : Text → Bool) (s : Shape) (k : IsCommand is_known s) where
   -- a word that first settles what is pending
   settle-step : (t : Bool) (us : List Use) (p : Option Use) (word : Text) (ws : List Text) (position after_it : ℕ) (B : Option (List Use) → Option (List Use)) (pending : Option (Text × List Text)) (waiting : Waiting)
-      → B None ≡ None → Known s k p → turn_fault s [] (at t us p position) word ≡ settle_fault s.rules false (held_with us p)
+      → B None ≡ None → Known is_known s k p → turn_fault s [] (at t us p position) word ≡ settle_fault s.rules false (held_with us p)
       → walked s.rules [] (at t us p position) word ≡ moved t (settled s.rules (held_with us p)).rows pending waiting after_it
-      → ((vs : List Use) → AgreesFrom s k (B (Some vs)) (moved t (rows_of_uses vs) pending waiting after_it) ws)
-      → AgreesFrom s k (B (settle us p)) (at t us p position) (word ∷ ws)
-  settle-step t us p word ws position after_it B pending waiting none known turn is rest = go (settle us p) (settles s k us p known)
+      → ((vs : List Use) → AgreesFrom is_known s k (B (Some vs)) (moved t (rows_of_uses vs) pending waiting after_it) ws)
+      → AgreesFrom is_known s k (B (settle us p)) (at t us p position) (word ∷ ws)
+  settle-step t us p word ws position after_it B pending waiting none known turn is rest = go (settle us p) (settles is_known s k us p known)
     where
-      go : (o : Option (List Use)) → Agrees o (settle_fault s.rules false (held_with us p)) (settled s.rules (held_with us p)).rows → AgreesFrom s k (B o) (at t us p position) (word ∷ ws)
+      go : (o : Option (List Use)) → Agrees o (settle_fault s.rules false (held_with us p)) (settled s.rules (held_with us p)).rows → AgreesFrom is_known s k (B o) (at t us p position) (word ∷ ws)
       go None fault =
-          subst (λ o. AgreesFrom s k o (at t us p position) (word ∷ ws)) (sym none) (bad s k (at t us p position) word ws (subst IsFault (sym turn) fault))
-      go (Some vs) agrees = next s k (B (Some vs)) (at t us p position) (moved t (rows_of_uses vs) pending waiting after_it) word ws (turn ∙ agrees.0) (is ∙ ap (λ rows. moved t rows pending waiting after_it) agrees.1) (rest vs)
+          subst (λ o. AgreesFrom is_known s k o (at t us p position) (word ∷ ws)) (sym none) (bad is_known s k (at t us p position) word ws (subst IsFault (sym turn) fault))
+      go (Some vs) agrees = next is_known s k (B (Some vs)) (at t us p position) (moved t (rows_of_uses vs) pending waiting after_it) word ws (turn ∙ agrees.0) (is ∙ ap (λ rows. moved t rows pending waiting after_it) agrees.1) (rest vs)
 
   -- ---- behind `--`
 
-  pub trails : (ws : List Text) (us : List Use) (p : Option Use) (place : Place) → Known s k p → AgreesFrom s k (after (settle us p) place (Some (map name ws))) (at true us p (number place)) ws
+  pub trails : (ws : List Text) (us : List Use) (p : Option Use) (ids : List Text) (position : ℕ) → NamesFrom s.rules position ids → Known is_known s k p → AgreesFrom is_known s k (after is_known (settle us p) ids (Some (map name ws))) (at true us p position) ws
   unfolding walk_fault
-  trails [] us p place known = go (settle us p) (settles s k us p known)
+  trails [] us p ids position names known = go (settle us p) (settles is_known s k us p known)
     where
       go : (o : Option (List Use)) → Agrees o (settle_fault s.rules false (held_with us p)) (settled s.rules (held_with us p)).rows
-          → Agrees (after o place (Some [])) (settle_fault s.rules false (held_with us p)) (settled s.rules (held_with us p)).rows
+          → Agrees (after is_known o ids (Some [])) (settle_fault s.rules false (held_with us p)) (settled s.rules (held_with us p)).rows
       go None agrees = agrees
       go (Some vs) agrees = agrees
-  trails (word ∷ ws) us p first known =
-      settle-step true us p word ws 1 2 (λ o. after o first (Some (name word ∷ map name ws))) (Some (codes "A", word ∷ [])) idle refl known (trailing-turn s k us p 1 word (codes "A") k.first k.first_at)
-      (trailing-walked s k us p 1 word (codes "A") k.first k.first_at ∙ ap (λ id. moved true (settled s.rules (held_with us p)).rows (Some (id, word ∷ [])) idle 2) k.first.id_is)
-      (λ vs. subst (λ o. AgreesFrom s k o (at true vs (Some (codes "A", word)) 2) ws) (sym (name-first vs word (Some (map name ws)))) (trails ws vs (Some (codes "A", word)) second k.first))
-  trails (word ∷ ws) us p second known =
-      settle-step true us p word ws 2 3 (λ o. after o second (Some (name word ∷ map name ws))) (Some (codes "B", word ∷ [])) idle refl known (trailing-turn s k us p 2 word (codes "B") k.second k.second_at)
-      (trailing-walked s k us p 2 word (codes "B") k.second k.second_at ∙ ap (λ id. moved true (settled s.rules (held_with us p)).rows (Some (id, word ∷ [])) idle 3) k.second.id_is)
-      (λ vs. subst (λ o. AgreesFrom s k o (at true vs (Some (codes "B", word)) 3) ws) (sym (name-second vs word (Some (map name ws)))) (trails ws vs (Some (codes "B", word)) past k.second))
-  trails (word ∷ ws) us p past known =
-      subst (λ o. AgreesFrom s k o (at true us p 3) (word ∷ ws)) (sym (name-past (settle us p) word (Some (map name ws)))) (bad s k (at true us p 3) word ws (trailing-stray s k us p word))
+  trails (word ∷ ws) us p (id ∷ ids) position names known =
+      settle-step true us p word ws position (next_position position) (λ o. after is_known o (id ∷ ids) (Some (name word ∷ map name ws))) (Some (id, word ∷ [])) idle refl known (trailing-turn is_known s k us p position word id names.0.of names.0.found)
+      (trailing-walked is_known s k us p position word id names.0.of names.0.found ∙ ap (λ i. moved true (settled s.rules (held_with us p)).rows (Some (i, word ∷ [])) idle (next_position position)) names.0.of.id_is)
+      (λ vs. subst (λ o. AgreesFrom is_known s k o (at true vs (Some (id, word)) (next_position position)) ws) (sym (name-next is_known vs id ids word (Some (map name ws)))) (trails ws vs (Some (id, word)) ids (next_position position) names.1 names.0.of))
+  trails (word ∷ ws) us p [] position none known =
+      subst (λ o. AgreesFrom is_known s k o (at true us p position) (word ∷ ws)) (sym (name-past is_known (settle us p) word (Some (map name ws)))) (bad is_known s k (at true us p position) word ws (trailing-stray is_known s k us p position word none))
 
-  broken : (ws : List Text) (us : List Use) (id : Text) (place : Place) → RuleOf s.rules id → IsFault (kinds_from s k (awaiting true us id (number place)) ws)
-  broken [] us id place r = awaiting-end s k true us id (number place) r
-  broken (word ∷ ws) us id first r = bad s k (awaiting true us id 1) word ws (awaiting-trailing-turn s k us id 1 word (codes "A") r k.first k.first_at)
-  broken (word ∷ ws) us id second r = bad s k (awaiting true us id 2) word ws (awaiting-trailing-turn s k us id 2 word (codes "B") r k.second k.second_at)
-  broken (word ∷ ws) us id past r = bad s k (awaiting true us id 3) word ws (awaiting-trailing-stray s k us id word)
+  broken : (ws : List Text) (us : List Use) (id : Text) (ids : List Text) (position : ℕ) → NamesFrom s.rules position ids → RuleOf s.rules id → IsFault (kinds_from is_known s k (awaiting true us id position) ws)
+  broken [] us id ids position names r = awaiting-end is_known s k true us id position r
+  broken (word ∷ ws) us id (other ∷ ids) position names r = bad is_known s k (awaiting true us id position) word ws (awaiting-trailing-turn is_known s k us id position word other r names.0.of names.0.found)
+  broken (word ∷ ws) us id [] position none r = bad is_known s k (awaiting true us id position) word ws (awaiting-trailing-stray is_known s k us id position word none)
 
   -- ---- all words
 
   pub record Walks (ws : List Text) : Type 0 where
-    pub idles : (us : List Use) (p : Option Use) (place : Place) → Known s k p → AgreesFrom s k (after (settle us p) place (parts_of None ws)) (at false us p (number place)) ws
-    pub waits : (us : List Use) (n : Text) (place : Place) → is_option n ≡ true → AgreesFrom s k (after (Some us) place (parts_of (Some n) ws)) (awaiting false us n (number place)) ws
+    pub idles : (us : List Use) (p : Option Use) (ids : List Text) (position : ℕ) → NamesFrom s.rules position ids → Known is_known s k p → AgreesFrom is_known s k (after is_known (settle us p) ids (parts_of None ws)) (at false us p position) ws
+    pub waits : (us : List Use) (n : Text) (ids : List Text) (position : ℕ) → NamesFrom s.rules position ids → is_known n ≡ true → AgreesFrom is_known s k (after is_known (Some us) ids (parts_of (Some n) ws)) (awaiting false us n position) ws
 
-  attached-step : (word n v : Text) (ws : List Text) → Walks ws → IsLong word n (Some v) → (us : List Use) (p : Option Use) (place : Place) → Known s k p → is_option n ≡ true
-      → AgreesFrom s k (after (settle us p) place (with_part (option n v) (parts_of None ws))) (at false us p (number place)) (word ∷ ws)
-  attached-step word n v ws ih l us p place known e = go (settle us p) (settles s k us p known)
+  attached-step : (word n v : Text) (ws : List Text) → Walks ws → IsLong word n (Some v) → (us : List Use) (p : Option Use) (ids : List Text) (position : ℕ) → NamesFrom s.rules position ids → Known is_known s k p → is_known n ≡ true
+      → AgreesFrom is_known s k (after is_known (settle us p) ids (with_part (option n v) (parts_of None ws))) (at false us p position) (word ∷ ws)
+  attached-step word n v ws ih l us p ids position names known e = go (settle us p) (settles is_known s k us p known)
     where
       o : OptionOf s.rules n
       o = k.known n e
 
       w : Walk
-      w = at false us p (number place)
+      w = at false us p position
 
-      more : (vs : List Use) (q : Option (List Use)) → turn_fault s [] (at false us p (number place)) word ≡ use_fault false o.of.rule (v ∷ []) (rows_of_uses vs)
-          → walked s.rules [] (at false us p (number place)) word ≡ moved false (used o.of.rule (v ∷ []) (rows_of_uses vs)) None idle (number place)
+      more : (vs : List Use) (q : Option (List Use)) → turn_fault s [] (at false us p position) word ≡ use_fault false o.of.rule (v ∷ []) (rows_of_uses vs)
+          → walked s.rules [] (at false us p position) word ≡ moved false (used o.of.rule (v ∷ []) (rows_of_uses vs)) None idle position
           → Agrees q (use_fault false o.of.rule (v ∷ []) (rows_of_uses vs)) (used o.of.rule (v ∷ []) (rows_of_uses vs))
-          → AgreesFrom s k (after q place (parts_of None ws)) (at false us p (number place)) (word ∷ ws)
-      more vs None turn is fault = bad s k (at false us p (number place)) word ws (subst IsFault (sym turn) fault)
+          → AgreesFrom is_known s k (after is_known q ids (parts_of None ws)) (at false us p position) (word ∷ ws)
+      more vs None turn is fault = bad is_known s k (at false us p position) word ws (subst IsFault (sym turn) fault)
       more vs (Some us') turn is agrees =
-          next s k (after (Some us') place (parts_of None ws)) (at false us p (number place)) (at false us' None (number place)) word ws (turn ∙ agrees.0) (is ∙ ap (λ rows. moved false rows None idle (number place)) agrees.1) (ih.idles us' None place tt)
+          next is_known s k (after is_known (Some us') ids (parts_of None ws)) (at false us p position) (at false us' None position) word ws (turn ∙ agrees.0) (is ∙ ap (λ rows. moved false rows None idle position) agrees.1) (ih.idles us' None ids position names tt)
 
       go : (q : Option (List Use)) → Agrees q (settle_fault s.rules false (held_with us p)) (settled s.rules (held_with us p)).rows
-          → AgreesFrom s k (after q place (with_part (option n v) (parts_of None ws))) (at false us p (number place)) (word ∷ ws)
+          → AgreesFrom is_known s k (after is_known q ids (with_part (option n v) (parts_of None ws))) (at false us p position) (word ∷ ws)
       go None fault =
-          bad s k (at false us p (number place)) word ws (subst IsFault (sym (attached-turn s k us p (number place) word n v o l)) (fault_left _ [] (fault_left _ (use_fault false o.of.rule (v ∷ []) (settled s.rules (held_with us p)).rows) fault)))
+          bad is_known s k (at false us p position) word ws (subst IsFault (sym (attached-turn is_known s k us p position word n v o l)) (fault_left _ [] (fault_left _ (use_fault false o.of.rule (v ∷ []) (settled s.rules (held_with us p)).rows) fault)))
       go (Some vs) agrees =
-          subst (λ q. AgreesFrom s k q (at false us p (number place)) (word ∷ ws)) (sym (option-known vs place n v (parts_of None ws) e))
+          subst (λ q. AgreesFrom is_known s k q (at false us p position) (word ∷ ws)) (sym (option-known is_known vs ids n v (parts_of None ws) e))
           (more vs (noted vs (n, v))
-          (attached-turn s k us p (number place) word n v o l ∙ (λ i. or_else (or_else (agrees.0 i) (use_fault false o.of.rule (v ∷ []) (agrees.1 i))) []) ∙ or_else-nil (use_fault false o.of.rule (v ∷ []) (rows_of_uses vs)))
-          (attached-walked s k us p (number place) word n v o l ∙ ap (λ rows. moved false (used o.of.rule (v ∷ []) rows) None idle (number place)) agrees.1)
-          (use-agrees s k vs (n, v) o.of))
+          (attached-turn is_known s k us p position word n v o l ∙ (λ i. or_else (or_else (agrees.0 i) (use_fault false o.of.rule (v ∷ []) (agrees.1 i))) []) ∙ or_else-nil (use_fault false o.of.rule (v ∷ []) (rows_of_uses vs)))
+          (attached-walked is_known s k us p position word n v o l ∙ ap (λ rows. moved false (used o.of.rule (v ∷ []) rows) None idle position) agrees.1)
+          (use-agrees is_known s k vs (n, v) o.of))
 
-  separate-step : (word n : Text) (ws : List Text) → Walks ws → IsLong word n None → (us : List Use) (p : Option Use) (place : Place) → Known s k p → is_option n ≡ true
-      → AgreesFrom s k (after (settle us p) place (parts_of (Some n) ws)) (at false us p (number place)) (word ∷ ws)
-  separate-step word n ws ih l us p place known e =
+  separate-step : (word n : Text) (ws : List Text) → Walks ws → IsLong word n None → (us : List Use) (p : Option Use) (ids : List Text) (position : ℕ) → NamesFrom s.rules position ids → Known is_known s k p → is_known n ≡ true
+      → AgreesFrom is_known s k (after is_known (settle us p) ids (parts_of (Some n) ws)) (at false us p position) (word ∷ ws)
+  separate-step word n ws ih l us p ids position names known e =
       let o : OptionOf s.rules n = k.known n e in
-      settle-step false us p word ws (number place) (number place) (λ q. after q place (parts_of (Some n) ws)) (Some (n, [])) (option_waits n) refl known
-      (separate-turn s k us p (number place) word n o l ∙ or_else-nil (settle_fault s.rules false (held_with us p)))
-      (separate-walked s k us p (number place) word n o l ∙ ap (λ id. moved false (settled s.rules (held_with us p)).rows (Some (id, [])) (option_waits id) (number place)) o.of.id_is)
-      (λ vs. ih.waits vs n place e)
+      settle-step false us p word ws position position (λ q. after is_known q ids (parts_of (Some n) ws)) (Some (n, [])) (option_waits n) refl known
+      (separate-turn is_known s k us p position word n o l ∙ or_else-nil (settle_fault s.rules false (held_with us p)))
+      (separate-walked is_known s k us p position word n o l ∙ ap (λ id. moved false (settled s.rules (held_with us p)).rows (Some (id, [])) (option_waits id) position) o.of.id_is)
+      (λ vs. ih.waits vs n ids position names e)
 
-  plain-step : (word : Text) (ws : List Text) → Walks ws → IsPlain word → (us : List Use) (p : Option Use) (place : Place) → Known s k p
-      → AgreesFrom s k (after (settle us p) place (with_part (name word) (parts_of None ws))) (at false us p (number place)) (word ∷ ws)
-  plain-step word ws ih l us p first known =
-      settle-step false us p word ws 1 2 (λ o. after o first (with_part (name word) (parts_of None ws))) (Some (codes "A", word ∷ [])) idle refl known (plain-turn s k us p 1 word (codes "A") k.first k.first_at l)
-      (plain-walked s k us p 1 word (codes "A") k.first k.first_at l ∙ ap (λ id. moved false (settled s.rules (held_with us p)).rows (Some (id, word ∷ [])) idle 2) k.first.id_is)
-      (λ vs. subst (λ o. AgreesFrom s k o (at false vs (Some (codes "A", word)) 2) ws) (sym (name-first vs word (parts_of None ws))) (ih.idles vs (Some (codes "A", word)) second k.first))
-  plain-step word ws ih l us p second known =
-      settle-step false us p word ws 2 3 (λ o. after o second (with_part (name word) (parts_of None ws))) (Some (codes "B", word ∷ [])) idle refl known (plain-turn s k us p 2 word (codes "B") k.second k.second_at l)
-      (plain-walked s k us p 2 word (codes "B") k.second k.second_at l ∙ ap (λ id. moved false (settled s.rules (held_with us p)).rows (Some (id, word ∷ [])) idle 3) k.second.id_is)
-      (λ vs. subst (λ o. AgreesFrom s k o (at false vs (Some (codes "B", word)) 3) ws) (sym (name-second vs word (parts_of None ws))) (ih.idles vs (Some (codes "B", word)) past k.second))
-  plain-step word ws ih l us p past known =
-      subst (λ o. AgreesFrom s k o (at false us p 3) (word ∷ ws)) (sym (name-past (settle us p) word (parts_of None ws))) (bad s k (at false us p 3) word ws (plain-stray s k us p word l))
+  plain-step : (word : Text) (ws : List Text) → Walks ws → IsPlain word → (us : List Use) (p : Option Use) (ids : List Text) (position : ℕ) → NamesFrom s.rules position ids → Known is_known s k p
+      → AgreesFrom is_known s k (after is_known (settle us p) ids (with_part (name word) (parts_of None ws))) (at false us p position) (word ∷ ws)
+  plain-step word ws ih l us p (id ∷ ids) position names known =
+      settle-step false us p word ws position (next_position position) (λ o. after is_known o (id ∷ ids) (with_part (name word) (parts_of None ws))) (Some (id, word ∷ [])) idle refl known (plain-turn is_known s k us p position word id names.0.of names.0.found l)
+      (plain-walked is_known s k us p position word id names.0.of names.0.found l ∙ ap (λ i. moved false (settled s.rules (held_with us p)).rows (Some (i, word ∷ [])) idle (next_position position)) names.0.of.id_is)
+      (λ vs. subst (λ o. AgreesFrom is_known s k o (at false vs (Some (id, word)) (next_position position)) ws) (sym (name-next is_known vs id ids word (parts_of None ws))) (ih.idles vs (Some (id, word)) ids (next_position position) names.1 names.0.of))
+  plain-step word ws ih l us p [] position none known =
+      subst (λ o. AgreesFrom is_known s k o (at false us p position) (word ∷ ws)) (sym (name-past is_known (settle us p) word (parts_of None ws))) (bad is_known s k (at false us p position) word ws (plain-stray is_known s k us p position word none l))
 
-  idle-step : (kind : Kind) (word : Text) → Met kind word → (ws : List Text) → Walks ws → (us : List Use) (p : Option Use) (place : Place) → Known s k p
-      → AgreesFrom s k (after (settle us p) place (parts_from word ws (parts_of None ws) (λ n. parts_of (Some n) ws) kind)) (at false us p (number place)) (word ∷ ws)
-  idle-step end word m ws ih us p place known =
-      next s k (after (settle us p) place (Some (map name ws))) (at false us p (number place)) (at true us p (number place)) word ws (end-turn s k us p (number place) word m) (end-walked s k us p (number place) word m) (trails ws us p place known)
-  idle-step (attached n v) word m ws ih us p place known = go (is_option n) refl
+  idle-step : (kind : Kind) (word : Text) → Met kind word → (ws : List Text) → Walks ws → (us : List Use) (p : Option Use) (ids : List Text) (position : ℕ) → NamesFrom s.rules position ids → Known is_known s k p
+      → AgreesFrom is_known s k (after is_known (settle us p) ids (parts_from word ws (parts_of None ws) (λ n. parts_of (Some n) ws) kind)) (at false us p position) (word ∷ ws)
+  idle-step end word m ws ih us p ids position names known =
+      next is_known s k (after is_known (settle us p) ids (Some (map name ws))) (at false us p position) (at true us p position) word ws (end-turn is_known s k us p position word m) (end-walked is_known s k us p position word m) (trails ws us p ids position names known)
+  idle-step (attached n v) word m ws ih us p ids position names known = go (is_known n) refl
     where
-      go : (b : Bool) → is_option n ≡ b → AgreesFrom s k (after (settle us p) place (with_part (option n v) (parts_of None ws))) (at false us p (number place)) (word ∷ ws)
-      go true e = attached-step word n v ws ih m us p place known e
+      go : (b : Bool) → is_known n ≡ b → AgreesFrom is_known s k (after is_known (settle us p) ids (with_part (option n v) (parts_of None ws))) (at false us p position) (word ∷ ws)
+      go true e = attached-step word n v ws ih m us p ids position names known e
       go false e =
-          subst (λ o. AgreesFrom s k o (at false us p (number place)) (word ∷ ws)) (sym (option-unknown (settle us p) place n v (parts_of None ws) e)) (bad s k (at false us p (number place)) word ws (unknown-turn s k us p (number place) word n (Some v) m e))
-  idle-step (separate n) word m ws ih us p place known = go (is_option n) refl
+          subst (λ o. AgreesFrom is_known s k o (at false us p position) (word ∷ ws)) (sym (option-unknown is_known (settle us p) ids n v (parts_of None ws) e)) (bad is_known s k (at false us p position) word ws (unknown-turn is_known s k us p position word n (Some v) m e))
+  idle-step (separate n) word m ws ih us p ids position names known = go (is_known n) refl
     where
-      go : (b : Bool) → is_option n ≡ b → AgreesFrom s k (after (settle us p) place (parts_of (Some n) ws)) (at false us p (number place)) (word ∷ ws)
-      go true e = separate-step word n ws ih m us p place known e
+      go : (b : Bool) → is_known n ≡ b → AgreesFrom is_known s k (after is_known (settle us p) ids (parts_of (Some n) ws)) (at false us p position) (word ∷ ws)
+      go true e = separate-step word n ws ih m us p ids position names known e
       go false e =
-          subst (λ o. AgreesFrom s k o (at false us p (number place)) (word ∷ ws)) (sym (value-unknown (settle us p) place n ws e)) (bad s k (at false us p (number place)) word ws (unknown-turn s k us p (number place) word n None m e))
-  idle-step dashed word m ws ih us p place known =
-      subst (λ o. AgreesFrom s k o (at false us p (number place)) (word ∷ ws)) (sym (no-parts (settle us p) place)) (bad s k (at false us p (number place)) word ws (dashed-turn s k us p (number place) word m))
-  idle-step plain word m ws ih us p place known = plain-step word ws ih m us p place known
+          subst (λ o. AgreesFrom is_known s k o (at false us p position) (word ∷ ws)) (sym (value-unknown is_known (settle us p) ids n ws e)) (bad is_known s k (at false us p position) word ws (unknown-turn is_known s k us p position word n None m e))
+  idle-step dashed word m ws ih us p ids position names known =
+      subst (λ o. AgreesFrom is_known s k o (at false us p position) (word ∷ ws)) (sym (no-parts is_known (settle us p) ids)) (bad is_known s k (at false us p position) word ws (dashed-turn is_known s k us p position word m))
+  idle-step plain word m ws ih us p ids position names known = plain-step word ws ih m us p ids position names known
 
-  waits-step : (kind : Kind) (word : Text) → Met kind word → (ws : List Text) → Walks ws → (us : List Use) (n : Text) (place : Place) → is_option n ≡ true
-      → AgreesFrom s k (after (Some us) place (value_from n word (parts_of None ws) kind)) (awaiting false us n (number place)) (word ∷ ws)
-  waits-step plain word m ws ih us n place e =
+  waits-step : (kind : Kind) (word : Text) → Met kind word → (ws : List Text) → Walks ws → (us : List Use) (n : Text) (ids : List Text) (position : ℕ) → NamesFrom s.rules position ids → is_known n ≡ true
+      → AgreesFrom is_known s k (after is_known (Some us) ids (value_from n word (parts_of None ws) kind)) (awaiting false us n position) (word ∷ ws)
+  waits-step plain word m ws ih us n ids position names e =
       let o : OptionOf s.rules n = k.known n e in
-      next s k (after (Some us) place (with_part (option n word) (parts_of None ws))) (awaiting false us n (number place)) (at false us (Some (n, word)) (number place)) word ws (awaiting-plain-turn s k us n (number place) word m) (awaiting-plain-walked s k us n (number place) word o.of m)
-      (subst (λ q. AgreesFrom s k q (at false us (Some (n, word)) (number place)) ws) (sym (option-known us place n word (parts_of None ws) e)) (ih.idles us (Some (n, word)) place o.of))
-  waits-step end word m ws ih us n place e =
-      next s k None (awaiting false us n (number place)) (awaiting true us n (number place)) word ws (end-awaiting-turn s k us n (number place) word m) (end-awaiting-walked s k us n (number place) word m) (broken ws us n place (k.known n e).of)
-  waits-step (attached other v) word m ws ih us n place e = go (is_option other) refl
+      next is_known s k (after is_known (Some us) ids (with_part (option n word) (parts_of None ws))) (awaiting false us n position) (at false us (Some (n, word)) position) word ws (awaiting-plain-turn is_known s k us n position word m) (awaiting-plain-walked is_known s k us n position word o.of m)
+      (subst (λ q. AgreesFrom is_known s k q (at false us (Some (n, word)) position) ws) (sym (option-known is_known us ids n word (parts_of None ws) e)) (ih.idles us (Some (n, word)) ids position names o.of))
+  waits-step end word m ws ih us n ids position names e =
+      next is_known s k None (awaiting false us n position) (awaiting true us n position) word ws (end-awaiting-turn is_known s k us n position word m) (end-awaiting-walked is_known s k us n position word m) (broken ws us n ids position names (k.known n e).of)
+  waits-step (attached other v) word m ws ih us n ids position names e = go (is_known other) refl
     where
-      go : (b : Bool) → is_option other ≡ b → AgreesFrom s k None (awaiting false us n (number place)) (word ∷ ws)
-      go true f = bad s k (awaiting false us n (number place)) word ws (awaiting-long-turn s k us n (number place) word other (Some v) (k.known n e).of (k.known other f) m)
-      go false f = bad s k (awaiting false us n (number place)) word ws (awaiting-unknown-turn s k us n (number place) word other (Some v) m f)
-  waits-step (separate other) word m ws ih us n place e = go (is_option other) refl
+      go : (b : Bool) → is_known other ≡ b → AgreesFrom is_known s k None (awaiting false us n position) (word ∷ ws)
+      go true f = bad is_known s k (awaiting false us n position) word ws (awaiting-long-turn is_known s k us n position word other (Some v) (k.known n e).of (k.known other f) m)
+      go false f = bad is_known s k (awaiting false us n position) word ws (awaiting-unknown-turn is_known s k us n position word other (Some v) m f)
+  waits-step (separate other) word m ws ih us n ids position names e = go (is_known other) refl
     where
-      go : (b : Bool) → is_option other ≡ b → AgreesFrom s k None (awaiting false us n (number place)) (word ∷ ws)
-      go true f = bad s k (awaiting false us n (number place)) word ws (awaiting-long-turn s k us n (number place) word other None (k.known n e).of (k.known other f) m)
-      go false f = bad s k (awaiting false us n (number place)) word ws (awaiting-unknown-turn s k us n (number place) word other None m f)
-  waits-step dashed word m ws ih us n place e = bad s k (awaiting false us n (number place)) word ws (dashed-awaiting-turn s k us n (number place) word m)
+      go : (b : Bool) → is_known other ≡ b → AgreesFrom is_known s k None (awaiting false us n position) (word ∷ ws)
+      go true f = bad is_known s k (awaiting false us n position) word ws (awaiting-long-turn is_known s k us n position word other None (k.known n e).of (k.known other f) m)
+      go false f = bad is_known s k (awaiting false us n position) word ws (awaiting-unknown-turn is_known s k us n position word other None m f)
+  waits-step dashed word m ws ih us n ids position names e = bad is_known s k (awaiting false us n position) word ws (dashed-awaiting-turn is_known s k us n position word m)
 
-  no-words : (us : List Use) (p : Option Use) (place : Place) → Known s k p → AgreesFrom s k (after (settle us p) place (Some [])) (at false us p (number place)) []
+  no-words : (us : List Use) (p : Option Use) (ids : List Text) (position : ℕ) → NamesFrom s.rules position ids → Known is_known s k p → AgreesFrom is_known s k (after is_known (settle us p) ids (Some [])) (at false us p position) []
   unfolding walk_fault
-  no-words us p place known = go (settle us p) (settles s k us p known)
+  no-words us p ids position names known = go (settle us p) (settles is_known s k us p known)
     where
       go : (o : Option (List Use)) → Agrees o (settle_fault s.rules false (held_with us p)) (settled s.rules (held_with us p)).rows
-          → Agrees (after o place (Some [])) (settle_fault s.rules false (held_with us p)) (settled s.rules (held_with us p)).rows
+          → Agrees (after is_known o ids (Some [])) (settle_fault s.rules false (held_with us p)) (settled s.rules (held_with us p)).rows
       go None agrees = agrees
       go (Some vs) agrees = agrees
 
   pub walks : (ws : List Text) → AreTexts ws → Walks ws
-  walks [] texts = record { idles = no-words; waits = λ us n place e. awaiting-end s k false us n (number place) (k.known n e).of }
+  walks [] texts = record { idles = no-words; waits = λ us n ids position names e. awaiting-end is_known s k false us n position (k.known n e).of }
   walks (word ∷ ws) texts =
       let ih = walks ws texts.1 in
       let m = met word texts.0 in

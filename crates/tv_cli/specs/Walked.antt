@@ -1,12 +1,14 @@
 -- What `clap` walks the words by, and what its matches say. `specs/Words` says what the words mean.
-use Rattle.std.specs.Prelude.{ℕ, true, List, [], ◌∷◌, Option, None, Some, codes, option_map, option_and_then}
+use Rattle.std.specs.Prelude.{ℕ, true, if◌then◌else◌, List, [], ◌∷◌, Option, None, Some, codes, option_map, option_and_then}
+use Rattle.std.specs.Str.{bytes_eq}
 use Rattle.clap.specs.Words.{App, Row, Rule, Kinds, fault_of, first_of, new_app, new_rule, subcommand_of, with_rule, with_subcommand}
 use Rattle.clap.specs.Simple.{on_top}
 use Rattle.clap.specs.declared.builder.ArgAction.TheVariants.{Set}
 use Rattle.points.specs.declared.point.Bounds.{Bounds}
 use Rattle.points.specs.declared.point.Budget.{Budget}
 use Rattle.tv_cli.specs.declared.number.Range.{Range}
-use Rattle.tv_cli.specs.Words.{Job, Text, number_within, bounds_with, budget_with, job_with, turns_range, blocks_range, bytes_range, rounds_range, conflicts_range, weight_range, workers_range}
+use Rattle.tv_cli.specs.Words.Job.{check, log}
+use Rattle.tv_cli.specs.Words.{Check, Job, Text, number_within, bounds_with, budget_with, check_with, turns_range, blocks_range, bytes_range, rounds_range, conflicts_range, weight_range, workers_range}
 
 -- an option `--name VALUE`
 abbrev pub option_rule : Text → Rule
@@ -19,11 +21,14 @@ abbrev pub bounded_app : App
 bounded_app = with_rule (with_rule (with_rule (with_rule (with_rule (new_app (codes "check")) (name_rule (codes "A"))) (name_rule (codes "B"))) (option_rule (codes "turns"))) (option_rule (codes "blocks"))) (option_rule (codes "bytes"))
 
 abbrev pub check_app : App
-check_app = with_rule (with_rule (with_rule (with_rule bounded_app (option_rule (codes "rounds"))) (option_rule (codes "conflicts"))) (option_rule (codes "weight"))) (option_rule (codes "workers"))
+check_app = with_rule (with_rule (with_rule (with_rule (with_rule bounded_app (option_rule (codes "rounds"))) (option_rule (codes "conflicts"))) (option_rule (codes "weight"))) (option_rule (codes "workers"))) (option_rule (codes "proof"))
+
+abbrev pub log_app : App
+log_app = with_rule (new_app (codes "log")) (name_rule (codes "FILE"))
 
 -- the command line of the program
 abbrev pub tv_app : App
-tv_app = with_subcommand (on_top (λ s. record s { disable_help_flag = true; disable_help_subcommand = true; subcommand_required = true }) (new_app (codes "tv"))) check_app.top
+tv_app = with_subcommand (with_subcommand (on_top (λ s. record s { disable_help_flag = true; disable_help_subcommand = true; subcommand_required = true }) (new_app (codes "tv"))) check_app.top) log_app.top
 
 -- the number of an option, by its written value
 abbrev pub number_or_usual : Range → Option Text → Option ℕ
@@ -36,18 +41,22 @@ bounds_in_rows rows = bounds_with (number_or_usual turns_range (first_of (codes 
 abbrev pub budget_in_rows : List Row → Option Budget
 budget_in_rows rows = budget_with (number_or_usual rounds_range (first_of (codes "rounds") rows)) (number_or_usual conflicts_range (first_of (codes "conflicts") rows)) (number_or_usual weight_range (first_of (codes "weight") rows))
 
-abbrev pub job_of_names : Option Text → Option Text → List Row → Option Job
-job_of_names (Some source) (Some target) rows = job_with source target (bounds_in_rows rows) (budget_in_rows rows) (number_or_usual workers_range (first_of (codes "workers") rows))
-job_of_names _ _ rows = None
+abbrev pub check_of_names : Option Text → Option Text → List Row → Option Check
+check_of_names (Some source) (Some target) rows = check_with source target (bounds_in_rows rows) (budget_in_rows rows) (number_or_usual workers_range (first_of (codes "workers") rows)) (Some (first_of (codes "proof") rows))
+check_of_names _ _ rows = None
 
 -- what the matches of `check` ask for
-abbrev pub job_in_rows : List Row → Option Job
-job_in_rows rows = job_of_names (first_of (codes "A") rows) (first_of (codes "B") rows) rows
+abbrev pub check_in_rows : List Row → Option Check
+check_in_rows rows = check_of_names (first_of (codes "A") rows) (first_of (codes "B") rows) rows
 
-abbrev pub unless_fault : Kinds → Option Job → Option Job
-unless_fault [] job = job
-unless_fault (kind ∷ kinds) job = None
+-- what the matches of a command ask for
+abbrev pub job_in_rows : Text × List Row → Option Job
+job_in_rows command = (if bytes_eq (codes "check") command.0 then option_map check (check_in_rows command.1) else option_map log (first_of (codes "FILE") command.1))
+
+abbrev pub unless_fault : {A : Type 0} → Kinds → Option A → Option A
+unless_fault [] found = found
+unless_fault (kind ∷ kinds) found = None
 
 -- what a walk of the words comes to
 abbrev pub job_walked : List Text → Option Job
-job_walked words = unless_fault (fault_of tv_app words) (option_and_then job_in_rows (option_map (λ p. p.1) (subcommand_of tv_app words)))
+job_walked words = unless_fault (fault_of tv_app words) (option_and_then job_in_rows (subcommand_of tv_app words))

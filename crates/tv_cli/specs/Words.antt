@@ -12,13 +12,19 @@ use Rattle.tv_cli.specs.declared.number.Range.{Range}
 abbrev pub Text : Type 0
 Text = List ℕ
 
--- the names of the source's text and of the target's, and what pairs are judged within
-pub record Job : Type 0 where
+-- two files, what their pairs are judged within, and the file for the proof
+pub record Check : Type 0 where
   pub source : Text
   pub target : Text
   pub bounds : Bounds
   pub budget : Budget
   pub workers : ℕ
+  pub proof : Option Text
+
+-- judge the pairs of two files, or check a proof file
+pub data Job : Type 0 where
+  check : Check → Job
+  log : Text → Job
 
 -- ---- which kind of word a word is
 
@@ -105,8 +111,15 @@ number_once range [] = Some range.usual
 number_once range (value ∷ []) = number_within range value
 number_once range (value ∷ other ∷ values) = None
 
+-- so does an option with a text, which has none where it doesn't stand
+abbrev pub text_once : List Text → Option (Option Text)
+text_once [] = Some None
+text_once (value ∷ []) = Some (Some value)
+text_once (value ∷ other ∷ values) = None
+
+-- the options of `check`
 abbrev pub option_names : List Text
-option_names = codes "turns" ∷ codes "blocks" ∷ codes "bytes" ∷ codes "rounds" ∷ codes "conflicts" ∷ codes "weight" ∷ codes "workers" ∷ []
+option_names = codes "turns" ∷ codes "blocks" ∷ codes "bytes" ∷ codes "rounds" ∷ codes "conflicts" ∷ codes "weight" ∷ codes "workers" ∷ codes "proof" ∷ []
 
 abbrev pub is_option : Text → Bool
 is_option text = list_any (λ known. bytes_eq known text) option_names
@@ -128,9 +141,9 @@ abbrev pub budget_with : Option ℕ → Option ℕ → Option ℕ → Option Bud
 budget_with (Some rounds) (Some conflicts) (Some weight) = Some (record { rounds = rounds; conflicts = conflicts; weight = weight })
 budget_with _ _ _ = None
 
-abbrev pub job_with : Text → Text → Option Bounds → Option Budget → Option ℕ → Option Job
-job_with source target (Some bounds) (Some budget) (Some workers) = Some (record { source = source; target = target; bounds = bounds; budget = budget; workers = workers })
-job_with source target _ _ _ = None
+abbrev pub check_with : Text → Text → Option Bounds → Option Budget → Option ℕ → Option (Option Text) → Option Check
+check_with source target (Some bounds) (Some budget) (Some workers) (Some proof) = Some (record { source = source; target = target; bounds = bounds; budget = budget; workers = workers; proof = proof })
+check_with source target _ _ _ _ = None
 
 -- backward jumps; given blocks; the greatest size of a given block
 abbrev pub turns_range : Range
@@ -158,19 +171,27 @@ workers_range = range 1 64 4
 abbrev pub number_of : Text → Range → List Part → Option ℕ
 number_of option_name r parts = number_once r (values_in option_name parts)
 
--- two names, and each option at most once, with a number of its range
-abbrev pub job_named : List Text → List Part → Option Job
-job_named (source ∷ target ∷ []) parts = job_with source target
+-- two names, and each option at most once, with a number of its range or a text
+abbrev pub check_named : List Text → List Part → Option Check
+check_named (source ∷ target ∷ []) parts = check_with source target
     (bounds_with (number_of (codes "turns") turns_range parts) (number_of (codes "blocks") blocks_range parts) (number_of (codes "bytes") bytes_range parts))
     (budget_with (number_of (codes "rounds") rounds_range parts) (number_of (codes "conflicts") conflicts_range parts) (number_of (codes "weight") weight_range parts))
     (number_of (codes "workers") workers_range parts)
-job_named _ parts = None
+    (text_once (values_in (codes "proof") parts))
+check_named _ parts = None
 
-abbrev pub job_in_parts : Option (List Part) → Option Job
-job_in_parts (Some parts) = (if are_known parts then job_named (names_in parts) parts else None)
-job_in_parts None = None
+abbrev pub check_in_parts : Option (List Part) → Option Check
+check_in_parts (Some parts) = (if are_known parts then check_named (names_in parts) parts else None)
+check_in_parts None = None
 
--- the job that the words are: the program's name, `check`, and the parts
+-- one name and no option
+abbrev pub file_in_parts : Option (List Part) → Option Text
+file_in_parts (Some (name file ∷ [])) = Some file
+file_in_parts _ = None
+
+-- the job that the arguments are: the program's name, the command, and its parts
 abbrev pub job_of : List Text → Option Job
-job_of (program ∷ command ∷ words) = (if bytes_eq (codes "check") command then job_in_parts (parts_of None words) else None)
+job_of (program ∷ command ∷ words) =
+    (if bytes_eq (codes "check") command then option_map check (check_in_parts (parts_of None words))
+    else (if bytes_eq (codes "log") command then option_map log (file_in_parts (parts_of None words)) else None))
 job_of _ = None

@@ -1,7 +1,7 @@
 ghost use Rattle.std.specs.Prelude.{◌≡◌, ◌↔◌, IfOk, IsTrue, false};
 ghost use Rattle.clap.specs.Words.{app_of, kind_of, rule_of};
 ghost use Rattle.clap.specs.declared.builder.command.Command.TheViews.{out-Command};
-ghost use Rattle.tv_cli.specs.Walked.{tv_app, check_app, bounded_app, name_rule, option_rule};
+ghost use Rattle.tv_cli.specs.Walked.{tv_app, check_app, log_app, bounded_app, name_rule, option_rule};
 
 use clap::error::ErrorKind;
 use clap::{Arg, ArgAction, Command, Error};
@@ -12,12 +12,23 @@ pub fn command<'a>(alloc: Global) -> Result<Command<'a>, AllocError>
     ensures { IfOk result (λ c. app_of c ≡ tv_app) }
 {
     let check = check_command(alloc)?;
+    let log = log_command(alloc)?;
     let tv = Command::new(alloc, "tv")
         .disable_help_flag(true)
         .disable_help_subcommand(true)
         .subcommand_required(true)
-        .subcommand(check)?;
+        .subcommand(check)?
+        .subcommand(log)?;
     Ok(tv)
+}
+
+fn log_command<'a>(alloc: Global) -> Result<Command<'a>, AllocError>
+    ensures app { IfOk result (λ c. app_of c ≡ log_app) }
+    ensures local { IfOk result (λ c. (out-Command c).has_globals ≡ false) }
+{
+    let file = name(alloc, "FILE");
+    let log = Command::new(alloc, "log").arg(file)?;
+    Ok(log)
 }
 
 fn check_command<'a>(alloc: Global) -> Result<Command<'a>, AllocError>
@@ -28,12 +39,14 @@ fn check_command<'a>(alloc: Global) -> Result<Command<'a>, AllocError>
     let conflicts = option(alloc, "conflicts");
     let weight = option(alloc, "weight");
     let workers = option(alloc, "workers");
+    let proof = option(alloc, "proof");
     let bounded = bounded_command(alloc)?;
     let check = bounded
         .arg(rounds)?
         .arg(conflicts)?
         .arg(weight)?
-        .arg(workers)?;
+        .arg(workers)?
+        .arg(proof)?;
     Ok(check)
 }
 
@@ -69,7 +82,7 @@ fn option<'a>(alloc: Global, id: &'a str) -> Arg<'a>
     Arg::new(alloc, id).long(id).action(ArgAction::Set)
 }
 
-/// Whether a walk ended for want of memory.
+/// Whether a walk ended because memory ran out.
 pub fn is_memory(error: &Error) -> bool
     ensures { IsTrue result ↔ (kind_of error.now ≡ ErrorKind.OutOfMemory) }
 {

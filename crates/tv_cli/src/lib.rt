@@ -1,7 +1,7 @@
-//! What the words of a command line ask of the program.
+//! What the arguments of a command line ask of the program.
 //!
-//! [`read_job`] reads them: `check`, the names of two texts, and options, each at most once. It promises the
-//! job that the words are, or that they are none (`specs/Words`). The words are walked by `clap`. It
+//! [`read_job`] reads them: `check` with two files and options, or `log` with one file. It promises the
+//! job that the arguments are, or that the command line is rejected (`specs/Words`). `clap` walks them. It
 //! stands on the bounds and budgets of `points`; the program stands on it.
 #![tactic(auto)]
 
@@ -9,4 +9,4 @@ mod command;
 mod number;
 mod reading;
 
-pub use reading::{Job, read_job};
+pub use reading::{Check, Job, read_job};

@@ -2,8 +2,8 @@ ghost use Rattle.std.specs.Prelude.{◌≡◌, ◌≤◌, ◌<◌, ◌^◌, IfOk
 ghost use Rattle.clap.specs.Words.{first_of, found_of, rows_of};
 ghost use Rattle.points.specs.Range.{AreInRange};
 ghost use Rattle.tv_cli.specs.Words.{job_of};
-ghost use Rattle.tv_cli.specs.Walked.{bounds_in_rows, budget_in_rows, job_in_rows, job_walked, number_or_usual};
-ghost use Rattle.tv_cli.specs.Seen.{seen};
+ghost use Rattle.tv_cli.specs.Walked.{bounds_in_rows, budget_in_rows, check_in_rows, job_in_rows, job_walked, number_or_usual};
+ghost use Rattle.tv_cli.specs.Seen.{seen, seen_check, IsInRange};
 
 use crate::command::{command, is_memory};
 use crate::number::{Range, number_in};
@@ -12,32 +12,40 @@ use points::{Bounds, Budget};
 use std::alloc::Global;
 use support::NoMemory;
 
-/// What the words of a command line ask for: the names of the source's text and of the target's, what
-/// their pairs are judged within, and how many workers judge them.
+/// What a command line asks for.
 #[derive(Drop)]
-pub struct Job<'w> {
+pub enum Job<'w> {
+    /// `check A B`: the report of two files.
+    Check(Check<'w>),
+    /// `log FILE`: check a proof file.
+    Log { file: &'w str },
+}
+
+/// The files that are checked, what their pairs are judged within, how many workers judge them, and the
+/// file that the proof is written to, if any.
+#[derive(Drop)]
+pub struct Check<'w> {
     pub source: &'w str,
     pub target: &'w str,
     pub bounds: Bounds,
     pub budget: Budget,
     pub workers: u64,
+    pub proof: Option<&'w str>,
 }
 
-/// The job that the words of a command line are, the program's name first, or `None` where they are no
-/// job. It has no other error than want of memory.
+/// The job that the arguments of a command line are, the program's name first, or `None` where the command
+/// line is rejected. The one error is out of memory.
 pub fn read_job<'w>(alloc: Global, words: &'w [String]) -> Result<Option<Job<'w>>, NoMemory>
     ensures job { IfOk result (λ found. option_map seen found ≡ job_of (map string_bytes words.entry.now)) }
-    ensures in_range { IfOk result (λ found. IfSome found (λ j. AreInRange j.bounds j.budget)) }
-    ensures workers { IfOk result (λ found. IfSome found (λ j. (1 ≤ j.workers) × (j.workers ≤ 64))) }
+    ensures in_range { IfOk result (λ found. IfSome found IsInRange) }
 {
     walked(alloc, words)
 }
 
-// What a walk of the words comes to.
+// What a walk of the arguments comes to.
 fn walked<'w>(alloc: Global, words: &'w [String]) -> Result<Option<Job<'w>>, NoMemory>
     ensures job { IfOk result (λ found. option_map seen found ≡ job_walked (map string_bytes words.entry.now)) }
-    ensures in_range { IfOk result (λ found. IfSome found (λ j. AreInRange j.bounds j.budget)) }
-    ensures workers { IfOk result (λ found. IfSome found (λ j. (1 ≤ j.workers) × (j.workers ≤ 64))) }
+    ensures in_range { IfOk result (λ found. IfSome found IsInRange) }
 {
     let command = command(alloc)?;
     let matches = match command.try_get_matches_from(words) {
@@ -49,17 +57,34 @@ fn walked<'w>(alloc: Global, words: &'w [String]) -> Result<Option<Job<'w>>, NoM
             return Ok(None);
         }
     };
-    let Some((_, inner)) = matches.subcommand() else {
+    let Some((name, inner)) = matches.subcommand() else {
         return Ok(None);
     };
-    Ok(job_in(inner))
+    Ok(job_in(name, inner))
+}
+
+// What the matches of a command ask for.
+fn job_in<'w>(name: &str, matches: &ArgMatches<'w>) -> Option<Job<'w>>
+    ensures job { option_map seen result ≡ job_in_rows (name.now, rows_of (found_of matches.now)) }
+    ensures in_range { IfSome result IsInRange }
+{
+    if name == "check" {
+        let Some(check) = check_in(matches) else {
+            return None;
+        };
+        return Some(Job::Check(check));
+    }
+    let Some(file) = matches.get_str("FILE") else {
+        return None;
+    };
+    Some(Job::Log { file })
 }
 
 // What the matches of `check` ask for.
-fn job_in<'w>(matches: &ArgMatches<'w>) -> Option<Job<'w>>
-    ensures job { option_map seen result ≡ job_in_rows (rows_of (found_of matches.now)) }
-    ensures in_range { IfSome result (λ j. AreInRange j.bounds j.budget) }
-    ensures workers { IfSome result (λ j. (1 ≤ j.workers) × (j.workers ≤ 64)) }
+fn check_in<'w>(matches: &ArgMatches<'w>) -> Option<Check<'w>>
+    ensures check { option_map seen_check result ≡ check_in_rows (rows_of (found_of matches.now)) }
+    ensures in_range { IfSome result (λ c. AreInRange c.bounds c.budget) }
+    ensures workers { IfSome result (λ c. (1 ≤ c.workers) × (c.workers ≤ 64)) }
 {
     let Some(source) = matches.get_str("A") else {
         return None;
@@ -84,12 +109,14 @@ fn job_in<'w>(matches: &ArgMatches<'w>) -> Option<Job<'w>>
     ) else {
         return None;
     };
-    Some(Job {
+    let proof = matches.get_str("proof");
+    Some(Check {
         source,
         target,
         bounds,
         budget,
         workers,
+        proof,
     })
 }
 
@@ -181,7 +208,7 @@ fn budget_in(matches: &ArgMatches<'_>) -> Option<Budget>
     })
 }
 
-// The number of an option, or the usual one where it isn't written.
+// The number of an option, or the usual one where it is not given.
 fn number_of(matches: &ArgMatches<'_>, name: &str, range: Range) -> Option<u64>
     requires { (range.least ≤ range.usual) × (range.usual ≤ range.most) }
     ensures value { result ≡ number_or_usual range (first_of name.now (rows_of (found_of matches.now))) }

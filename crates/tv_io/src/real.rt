@@ -6,12 +6,23 @@ use crate::shelf::{FetchFault, PutFault, Shelf, Size};
 use crate::sink::{Failed, Sink};
 use std::alloc::Global;
 use std::fs;
-use std::io::Read;
+use std::io::{Read, Write};
 use std::rt::Files;
 
 const BUFFER: usize = 4096;
 
-/// The files of the system. It reports nothing of what they hold, and any fetch may fail.
+/// What is added to a name for the file that is written beside it.
+const BESIDE: &str = ".tv-new";
+
+/// The files of the system. It reports nothing of what they hold, and any fetch or put may fail.
+///
+/// A put never leaves half of its bytes in a file: they are written to a file beside it, the name with
+/// `.tv-new` added, and that file is renamed. So the name holds what it held before or all of the bytes, also
+/// where the program is killed; that a rename is one step is the system's promise. If a put fails, the file
+/// beside it is removed; one that a killed program left is overwritten by the next put. The file is a new one,
+/// with the permissions that new files have. What is no regular file (a device, a pipe, a symbolic link) is
+/// written in place. Two programs that put the same name at the same time are not kept apart, and nothing is
+/// said of a system that stops.
 #[derive(Drop)]
 pub struct FileShelf<'a, R: Files> {
     rt: &'a R,
@@ -51,12 +62,42 @@ impl<'a, R: Files> Shelf for FileShelf<'a, R> {
         fetched
     }
 
-    fn put(&mut self, _alloc: Global, name: &str, bytes: &[u8]) -> Result<(), PutFault> {
-        if fs::write(self.rt, name, bytes).is_err() {
+    fn put(&mut self, alloc: Global, name: &str, bytes: &[u8]) -> Result<(), PutFault> {
+        let put = replace(self.rt, alloc, name, bytes);
+        if let Err(PutFault::Failed) = put {
             self.put_faults = self.put_faults.saturating_add(1);
-            return Err(PutFault::Failed);
         }
-        Ok(())
+        put
+    }
+}
+
+/// Writes the bytes to a new file beside the one of that name, and renames it. What is no regular file is
+/// written in place.
+fn replace<R: Files>(rt: &R, alloc: Global, name: &str, bytes: &[u8]) -> Result<(), PutFault> {
+    if is_special(rt, name) {
+        return fs::write(rt, name, bytes).map_err(|_| PutFault::Failed);
+    }
+    let Ok(mut beside) = String::from_str(alloc, name) else {
+        return Err(PutFault::NoMemory);
+    };
+    if beside.push_str(BESIDE).is_err() {
+        return Err(PutFault::NoMemory);
+    }
+    let Ok(mut file) = fs::create(rt, beside.as_str()) else {
+        return Err(PutFault::Failed);
+    };
+    if file.write_all(bytes).is_err() || fs::rename(rt, beside.as_str(), name).is_err() {
+        let _ = fs::remove_file(rt, beside.as_str());
+        return Err(PutFault::Failed);
+    }
+    Ok(())
+}
+
+/// Whether there is something of that name that is no regular file; a link is none.
+fn is_special<R: Files>(rt: &R, name: &str) -> bool {
+    match fs::symlink_metadata(rt, name) {
+        Ok(metadata) => !metadata.is_file(),
+        Err(_) => false,
     }
 }
 

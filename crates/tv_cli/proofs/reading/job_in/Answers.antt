@@ -1,27 +1,24 @@
-use Rattle.std.proofs.Common.{◌≡◌, Some, None, codes, ◌∙◌, sym, ap}
+use Rattle.std.proofs.Common.{◌≡◌, Some, None, codes, false, true≢false, sym, ◌∙◌}
+use Rattle.std.specs.Str.{bytes_eq}
+use Rattle.std.proofs.lemmas.Slice.Eq.{slice_eq-Decides}
+use Rattle.std.proofs.lemmas.Bool.Decides.{Decides-eqb}
 use Rattle.clap.specs.Words.{first_of, found_of, rows_of}
 use Rattle.clap.proofs.WalkLemmas.{first_value-rows}
-use Rattle.tv_cli.specs.Words.{job_with}
-use Rattle.tv_cli.specs.Walked.{job_of_names}
-use Rattle.tv_cli.proofs.Given.{no_target}
+use Rattle.tv_cli.proofs.Given.{other_command, other_text}
 use Rattle.tv_cli.proofs.reading.job_in.Goals as goal
-
-pub returns-in_default-clause-job : goal.returns-in_default-clause-job
-returns-in_default-clause-job c =
-    let f = found_of c.args.matches.now in
-    let source : None ≡ first_of (codes "A") (rows_of f) = c.in_default.ensures ∙ first_value-rows f (codes "A") in
-    ap (λ o. job_of_names o (first_of (codes "B") (rows_of f)) (rows_of f)) source
 
 pub returns-in_default-get_str-clause-job : goal.returns-in_default-get_str-clause-job
 returns-in_default-get_str-clause-job c =
     let f = found_of c.args.matches.now in
-    let target : None ≡ first_of (codes "B") (rows_of f) = c.in_default-get_str.ensures ∙ first_value-rows f (codes "B") in
-    sym (no_target (first_of (codes "A") (rows_of f)) _ (rows_of f) (sym target))
+    let name = c.args.name.now in
+    let file : None ≡ first_of (codes "FILE") (rows_of f) = c.in_default-get_str.ensures ∙ first_value-rows f (codes "FILE") in
+    let other : bytes_eq (codes "check") name ≡ false = other_text name (codes "check") (λ e. true≢false (sym ((slice_eq-Decides Decides-eqb name (codes "check") c.eq.result c.eq.ensures).1 e) ∙ c.if-eq.false)) in
+    other_command name (rows_of f) None other file
 
 pub returns-clause-job : goal.returns-clause-job
 returns-clause-job c =
     let f = found_of c.args.matches.now in
-    let source : Some c.in-Some.source.now ≡ first_of (codes "A") (rows_of f) = c.in-Some.ensures ∙ first_value-rows f (codes "A") in
-    let target : Some c.in-Some-get_str.target.now ≡ first_of (codes "B") (rows_of f) = c.in-Some-get_str.ensures ∙ first_value-rows f (codes "B") in
-    (λ i. job_with c.in-Some.source.now c.in-Some-get_str.target.now (c.in-Some-bounds_in.ensures.value i) (c.in-Some-budget_in.ensures.value i) (c.in-Some-number_of.ensures.value i))
-    ∙ (λ i. job_of_names (source i) (target i) (rows_of f))
+    let name = c.args.name.now in
+    let file : Some c.in-Some-get_str.file.now ≡ first_of (codes "FILE") (rows_of f) = c.in-Some-get_str.ensures ∙ first_value-rows f (codes "FILE") in
+    let other : bytes_eq (codes "check") name ≡ false = other_text name (codes "check") (λ e. true≢false (sym ((slice_eq-Decides Decides-eqb name (codes "check") c.eq.result c.eq.ensures).1 e) ∙ c.if-eq.false)) in
+    other_command name (rows_of f) (Some c.in-Some-get_str.file.now) other file

@@ -1,8 +1,8 @@
-use Rattle.std.proofs.Common.{◌≡◌, List, [], Some, map, option_map, string_bytes, sym, ap, ◌∙◌, subst}
-use Rattle.clap.specs.Words.{Row, app_of, fault_of, found_of, HasKind, is_simple, is_simple_and_free, rows_of, subcommand_of}
+use Rattle.std.proofs.Common.{◌≡◌, List, [], Some, map, string_bytes, sym, ap, ◌∙◌, subst}
+use Rattle.clap.specs.Words.{app_of, fault_of, found_of, HasKind, is_simple, is_simple_and_free, rows_of, subcommand_of, subcommand_rows_of}
 use Rattle.tv_cli.specs.Words.{Text}
 use Rattle.tv_cli.specs.Walked.{tv_app}
-use Rattle.tv_cli.proofs.Walking.{walked-found, tv_is_simple, tv_is_read, walked-refused}
+use Rattle.tv_cli.proofs.Walking.{subcommand_pair, walked-found, tv_is_simple, tv_is_read, walked-refused}
 use Rattle.tv_cli.proofs.reading.walked.Goals as goal
 
 pub returns-clause-job : goal.returns-clause-job
@@ -12,7 +12,8 @@ returns-clause-job c =
     let app : app_of c.in_ok-command.command ≡ tv_app = c.in_ok-command.ensures in
     let none : fault_of tv_app words ≡ [] = subst (λ a. fault_of a words ≡ []) app (c.in-Ok.ensures.kinds (ap is_simple_and_free app ∙ tv_is_simple)) in
     let rows = (c.in-Ok.ensures.matches (ap is_simple app ∙ tv_is_read)).1 ∙ ap (λ a. subcommand_of a words) app in
-    let found : option_map (λ p. p.1) (subcommand_of tv_app words) ≡ Some (rows_of (found_of inner)) = ap (option_map (λ (p : Text × List Row). p.1)) (sym rows) ∙ sym c.in-Some.ensures.rows in
+    let pair : subcommand_rows_of c.in-Ok.matches ≡ Some (c.in-Some.name.now, rows_of (found_of inner)) = subcommand_pair _ c.in-Some.name.now (rows_of (found_of inner)) c.in-Some.ensures.name c.in-Some.ensures.rows in
+    let found : subcommand_of tv_app words ≡ Some (c.in-Some.name.now, rows_of (found_of inner)) = sym rows ∙ pair in
     c.job_in.ensures.job ∙ sym (walked-found words _ none found)
 
 pub returns-in-Err-clause-job : goal.returns-in-Err-clause-job
