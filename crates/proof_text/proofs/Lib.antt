@@ -7,3 +7,4 @@ pub mod Moves
 pub mod Escapes
 pub mod Reading
 pub mod Top
+pub mod Growing

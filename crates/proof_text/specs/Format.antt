@@ -4,6 +4,7 @@ use Rattle.std.specs.Fmt.{decimal}
 use Rattle.std.specs.List.{flat_map}
 use Rattle.clause_lits.specs.declared.lit.Lit.{Lit}
 use Rattle.clause_lits.specs.Meaning.{IsClause}
+use Rattle.clause_log.specs.declared.step.Cert.{Cert}
 use Rattle.clause_log.specs.declared.step.Step.{Step}
 use Rattle.ir_tree.specs.declared.name.Name.TheVariants.{Word}
 use Rattle.report.specs.Naming.{is_digit, name_text}
@@ -40,12 +41,18 @@ log_line steps = codes "log " ++ decimal steps
 
 -- ---- parts
 
+-- the part of a row of this name
+abbrev pub part_of : List ℕ → Bool → Cert → Part
+part_of name is_correct cert = record { name = name; is_correct = is_correct; cert = cert }
+
+abbrev pub cert_lines : Cert → List (List ℕ)
+cert_lines cert = counts_line cert.cnf.variables (length cert.cnf.clauses)
+    ∷ map clause_line cert.cnf.clauses
+    ++ log_line (length cert.log)
+    ∷ map step_line cert.log
+
 abbrev pub part_lines : Part → List (List ℕ)
-part_lines p = row_line p.name p.is_correct
-    ∷ counts_line p.cert.cnf.variables (length p.cert.cnf.clauses)
-    ∷ map clause_line p.cert.cnf.clauses
-    ++ log_line (length p.cert.log)
-    ∷ map step_line p.cert.log
+part_lines p = row_line p.name p.is_correct ∷ cert_lines p.cert
 
 abbrev pub proof_lines : List Part → List (List ℕ)
 proof_lines parts = codes "tvproof 1" ∷ flat_map part_lines parts

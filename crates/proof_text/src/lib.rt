@@ -4,8 +4,9 @@
 //!
 //! It promises that [`write`] gives the one text of its parts, that [`parse`] gives the parts of a text
 //! exactly where it is a proof file, and that otherwise it names the first line that no proof file has
-//! there. Both take time and memory in proportion to the text, whatever numbers it names. It uses
-//! `clause_log` and `report`, which prints the names; the command `log` and the option `--proof` use it.
+//! there. [`begin`] and [`push_part`] write the same text part by part, from certificates that others
+//! own. All take time and memory in proportion to the text, whatever numbers it names. It uses
+//! `clause_log` and `report`, which prints the names; `proof_files` writes and checks proof files by it.
 #![tactic(auto)]
 
 mod cursor;
@@ -17,4 +18,4 @@ mod writer;
 
 pub use part::{Part, ProofFault};
 pub use reader::parse;
-pub use writer::write;
+pub use writer::{begin, push_part, write};

@@ -1,13 +1,14 @@
 //! From parts to their text.
 
-ghost use Rattle.std.specs.Prelude.{◌≡◌, ◌++◌, ◌∷◌, [], All, IfOk, OnOk, Bool, codes, map};
+ghost use Rattle.std.specs.Prelude.{◌≡◌, ◌++◌, ◌∷◌, [], All, IfOk, List, OnOk, Bool, codes, map};
 ghost use Rattle.std.specs.Fmt.{decimal};
 ghost use Rattle.std.specs.List.{flat_map};
-ghost use Rattle.proof_text.specs.Format.{IsPart, IsProof, clause_line, counts_line, ended, literal_text, log_line, part_lines, proof_lines, row_line, spaced, step_line};
+ghost use Rattle.proof_text.specs.declared.part.Part.{Part};
+ghost use Rattle.proof_text.specs.Format.{IsPart, IsProof, cert_lines, clause_line, counts_line, ended, literal_text, log_line, part_of, row_line, spaced, step_line};
 
 use crate::part::Part;
-use clause_lits::{Clause, Cnf, Lit};
-use clause_log::Step;
+use clause_lits::{Clause, Lit};
+use clause_log::{Cert, Step};
 use std::alloc::Global;
 use support::NoMemory;
 
@@ -120,22 +121,55 @@ fn push_log_count(alloc: Global, out: &mut Vec<u8>, steps: u64) -> Result<(), No
     Ok(())
 }
 
-fn push_part(alloc: Global, out: &mut Vec<u8>, part: &Part) -> Result<(), NoMemory>
-    ensures { OnOk result (out.new.items ≡ out.old.items ++ ended (part_lines part.now)) }
+fn push_cert(alloc: Global, out: &mut Vec<u8>, cert: &Cert) -> Result<(), NoMemory>
+    ensures { OnOk result (out.new.items ≡ out.old.items ++ ended (cert_lines cert.now)) }
 {
-    let cnf = &part.cert.cnf;
-    push_row(out, part.name.as_slice(), part.is_correct)?;
+    let cnf = &cert.cnf;
     push_counts(alloc, out, cnf.variables, cnf.clauses.len() as u64)?;
     push_clauses(alloc, out, cnf.clauses.as_slice())?;
-    push_log_count(alloc, out, part.cert.log.len() as u64)?;
-    push_steps(alloc, out, part.cert.log.as_slice())
+    push_log_count(alloc, out, cert.log.len() as u64)?;
+    push_steps(alloc, out, cert.log.as_slice())
 }
 
-fn push_parts(alloc: Global, out: &mut Vec<u8>, parts: &[Part]) -> Result<(), NoMemory>
-    ensures { OnOk result (out.new.items ≡ out.old.items ++ ended (flat_map part_lines parts.now)) }
+/// The text of no parts: the first line `tvproof 1`.
+pub fn begin(alloc: Global) -> Result<Vec<u8>, NoMemory>
+    ensures { IfOk result (λ text. IsProof text.items []) }
+{
+    Ok(Vec::from_slice(alloc, b"tvproof 1\n")?)
+}
+
+/// Adds a part at the end of a text of parts: its row, its clauses as in the DIMACS CNF format, and its
+/// steps. So a text is written while others own the certificates. After an error the text is of no use.
+pub fn push_part(
+    alloc: Global,
+    text: &mut Vec<u8>,
+    name: &[u8],
+    is_correct: bool,
+    cert: &Cert,
+) -> Result<(), NoMemory>
+    requires { IsPart (part_of name.now is_correct cert.now) }
+    // The text of some parts is then that of these and one more.
+    ensures { OnOk result ((parts : List Part) → IsProof text.old.items parts
+        → IsProof text.new.items (parts ++ part_of name.now is_correct cert.now ∷ [])) }
+{
+    push_row(text, name, is_correct)?;
+    push_cert(alloc, text, cert)?;
+    Ok(())
+}
+
+fn push_parts(alloc: Global, text: &mut Vec<u8>, parts: &[Part]) -> Result<(), NoMemory>
+    requires fit { All IsPart parts.now }
+    requires begun { IsProof text.old.items [] }
+    ensures { OnOk result (IsProof text.new.items parts.now) }
 {
     for part in parts {
-        push_part(alloc, out, part)?;
+        push_part(
+            alloc,
+            text,
+            part.name.as_slice(),
+            part.is_correct,
+            &part.cert,
+        )?;
     }
     Ok(())
 }
@@ -146,7 +180,7 @@ pub fn write(alloc: Global, parts: &[Part]) -> Result<Vec<u8>, NoMemory>
     requires { All IsPart parts.now }
     ensures { IfOk result (λ text. IsProof text.items parts.now) }
 {
-    let mut out = Vec::from_slice(alloc, b"tvproof 1\n")?;
+    let mut out = begin(alloc)?;
     push_parts(alloc, &mut out, parts)?;
     Ok(out)
 }

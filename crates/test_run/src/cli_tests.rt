@@ -2,10 +2,11 @@
 //!
 //! A row is a line of arguments, separated by single spaces (two spaces in a row hold the empty
 //! argument), and what it asks for: the two files, the bounds (turns, blocks, bytes), the budget
-//! (rounds, conflicts, weight) and the workers; or `-` where it is rejected.
+//! (rounds, conflicts, weight) and the workers, and where there is one `to` and the file for the
+//! proof; or `log` and the file; or `-` where it is rejected.
 
 use std::test::*;
-use tv_cli::{Job, read_job};
+use tv_cli::{Check, Job, read_job};
 
 /// Bounds are taken up to their ends.
 const BOUNDS: [(&str, &str); 10] = [
@@ -45,7 +46,7 @@ const BUDGETS: [(&str, &str); 13] = [
 ];
 
 /// An option comes before, between or after the files, and once.
-const OPTIONS: [(&str, &str); 14] = [
+const OPTIONS: [(&str, &str); 13] = [
     ("tv check --turns=3 A B", "A B 3 2 8 64 0 100000 4"),
     ("tv check A --turns 3 B", "A B 3 2 8 64 0 100000 4"),
     ("tv check A B --turns=3", "A B 3 2 8 64 0 100000 4"),
@@ -60,7 +61,6 @@ const OPTIONS: [(&str, &str); 14] = [
     ("tv check A B --turns", "-"),
     ("tv check --turn 3 A B", "-"),
     ("tv check -t 3 A B", "-"),
-    ("tv check --proof P A B", "-"),
     ("tv check --first A B", "-"),
     ("tv --turns 3 check A B", "-"),
 ];
@@ -96,7 +96,47 @@ const FILES: [(&str, &str); 13] = [
     ("tv check B A", "B A 4 2 8 64 0 100000 4"),
 ];
 
-/// There is one command, and no help.
+/// The proof goes to one file, which may have any name.
+const PROOFS: [(&str, &str); 12] = [
+    ("tv check --proof P A B", "A B 4 2 8 64 0 100000 4 to P"),
+    (
+        "tv check A B --turns 3 --proof=P",
+        "A B 3 2 8 64 0 100000 4 to P",
+    ),
+    ("tv check A B --proof=", "A B 4 2 8 64 0 100000 4 to "),
+    ("tv check A B --proof ", "A B 4 2 8 64 0 100000 4 to "),
+    ("tv check A B --proof -", "A B 4 2 8 64 0 100000 4 to -"),
+    (
+        "tv check A B --proof=--turns=3",
+        "A B 4 2 8 64 0 100000 4 to --turns=3",
+    ),
+    ("tv check A B --proof==P", "A B 4 2 8 64 0 100000 4 to =P"),
+    ("tv check -- --proof P", "--proof P 4 2 8 64 0 100000 4"),
+    ("tv check A B --proof P --proof P", "-"),
+    ("tv check A B --proof=P --proof=Q", "-"),
+    ("tv check A B --proof", "-"),
+    ("tv check A B --proof --turns 3", "-"),
+];
+
+/// A proof file is checked by itself.
+const LOGS: [(&str, &str); 14] = [
+    ("tv log FILE", "log FILE"),
+    ("tv log ", "log "),
+    ("tv log -", "log -"),
+    ("tv log -- --turns", "log --turns"),
+    ("tv log -- -h", "log -h"),
+    ("tv log log", "log log"),
+    ("tv log", "-"),
+    ("tv log --", "-"),
+    ("tv log A B", "-"),
+    ("tv log --proof P FILE", "-"),
+    ("tv log --turns=3 FILE", "-"),
+    ("tv log FILE --FILE=F", "-"),
+    ("tv log -h", "-"),
+    ("tv -- log FILE", "-"),
+];
+
+/// There are two commands, and no help.
 const COMMANDS: [(&str, &str); 12] = [
     ("tv", "-"),
     ("tv help", "-"),
@@ -106,7 +146,7 @@ const COMMANDS: [(&str, &str); 12] = [
     ("tv check --help A B", "-"),
     ("tv check -h", "-"),
     ("tv checks A B", "-"),
-    ("tv log A", "-"),
+    ("tv logs A", "-"),
     ("tv make", "-"),
     ("tv -- check A B", "-"),
     ("tv --", "-"),
@@ -125,17 +165,30 @@ fn asked<R: AllocGlobal>(rt: &R, line: &str) -> Result<String, Fail> {
 }
 
 fn shown<R: AllocGlobal>(rt: &R, job: &Job<'_>) -> Result<String, Fail> {
-    let bounds = job.bounds;
-    let budget = job.budget;
-    let files = format!(in rt.alloc(); "{} {}", job.source, job.target)?;
+    match job {
+        Job::Check(check) => shown_check(rt, check),
+        Job::Log { file } => Ok(format!(in rt.alloc(); "log {file}")?),
+    }
+}
+
+fn shown_check<R: AllocGlobal>(rt: &R, check: &Check<'_>) -> Result<String, Fail> {
+    let bounds = check.bounds;
+    let budget = check.budget;
+    let files = format!(in rt.alloc(); "{} {}", check.source, check.target)?;
     let within = format!(in rt.alloc(); "{} {} {}", bounds.turns, bounds.blocks, bounds.bytes)?;
     let spent = format!(in rt.alloc(); "{} {} {}", budget.rounds, budget.conflicts, budget.weight)?;
-    Ok(format!(in rt.alloc(); "{files} {within} {spent} {}", job.workers)?)
+    let workers = check.workers;
+    match check.proof {
+        Some(proof) => Ok(format!(in rt.alloc(); "{files} {within} {spent} {workers} to {proof}")?),
+        None => Ok(format!(in rt.alloc(); "{files} {within} {spent} {workers}")?),
+    }
 }
 
 #[test]
 fn command_lines_are_read(rt: HostRuntime) -> Result<(), Fail> {
-    let tables: [&[(&str, &str)]; 6] = [&BOUNDS, &BUDGETS, &OPTIONS, &NUMBERS, &FILES, &COMMANDS];
+    let tables: [&[(&str, &str)]; 8] = [
+        &BOUNDS, &BUDGETS, &OPTIONS, &NUMBERS, &FILES, &PROOFS, &LOGS, &COMMANDS,
+    ];
     for table in tables {
         for (line, wanted) in table {
             let answer = asked(&rt, line)?;

@@ -18,6 +18,8 @@ mod in_memory_tests;
 #[cfg(test)]
 mod io_tests;
 #[cfg(test)]
+mod log_tests;
+#[cfg(test)]
 mod module_tests;
 #[cfg(test)]
 mod outside_tests;
@@ -25,6 +27,8 @@ mod outside_tests;
 mod pair_tests;
 #[cfg(test)]
 mod proof_tests;
+#[cfg(test)]
+mod put_tests;
 #[cfg(test)]
 mod refusal_tests;
 #[cfg(test)]

@@ -368,8 +368,8 @@ const REFUSALS: [Row; 33] = [
         status: 4,
     },
     Row {
-        name: "a proof is not written",
-        line: "tv check --proof P A B",
+        name: "a proof file has a name",
+        line: "tv check A B --proof",
         source: "",
         target: "",
         first: "words refused\n",

@@ -8,5 +8,9 @@ pub mod OwnAnswers
 pub mod OneReport
 pub mod OneFault
 pub mod InMemory
+pub mod OneJob
+pub mod Named
+pub mod Certified
+mod Logging
 mod Sending
 mod Pieces

@@ -9,7 +9,7 @@ use Rattle.ir_reader.specs.Laws.{ModuleOrFault, OneFault}
 use Rattle.tv_run.specs.declared.stop.Trouble.{Trouble}
 use Rattle.tv_run.specs.declared.stop.Trouble.TheVariants as trouble
 use Rattle.tv_run.specs.declared.stop.Stop.TheVariants as stop
-use Rattle.tv_cli.specs.Words.{Job}
+use Rattle.tv_cli.specs.Words.{Check}
 use Rattle.tv_run.specs.Files.{HasModule, HasFault}
 use Rattle.tv_run.specs.Stops.{HasTrouble, IsBeforeTarget, trouble_status}
 use Rattle.tv_run.specs.Laws.{FaultsAreOne, ModulesHaveNoFault}
@@ -35,11 +35,11 @@ fault_reported files name old new (trouble.NoToken place) known has nine = recor
 fault_reported files name old new (trouble.Item w place) known has nine = record { of = fault.Item w place; is = refl; fits = λ e. cc e; has = has files known }
 
 -- where the target has a fault the source is a module
-source_of : (files : Files) (job : Job) (t : Trouble) → IsBeforeTarget (files job.source) t → trouble_status t ≡ 9 → (m : Module) × HasModule (files job.source) m
-source_of files job trouble.CannotRead is nine = absurd (cc nine)
-source_of files job trouble.TooLong is nine = absurd (cc nine)
-source_of files job (trouble.NoToken place) is nine = is
-source_of files job (trouble.Item w place) is nine = is
+source_of : (files : Files) (of_check : Check) (t : Trouble) → IsBeforeTarget (files of_check.source) t → trouble_status t ≡ 9 → (m : Module) × HasModule (files of_check.source) m
+source_of files of_check trouble.CannotRead is nine = absurd (cc nine)
+source_of files of_check trouble.TooLong is nine = absurd (cc nine)
+source_of files of_check (trouble.NoToken place) is nine = is
+source_of files of_check (trouble.Item w place) is nine = is
 
 trouble_one : OneFault → (files : Files) (name : List ℕ) (t u : Trouble) → ReportsFault files name t → ReportsFault files name u → t ≡ u
 trouble_one one files name t u x y = go (fault_one one (files name) x.of y.of x.has y.has)
@@ -53,21 +53,21 @@ no_fault : ModuleOrFault → (files : Files) (name : List ℕ) (t : Trouble) (m 
 no_fault apart files name t m has x = x.fits (module_or_fault apart (files name) m x.of has x.has)
 
 pub faults_are_one : ModuleOrFault → OneFault → FaultsAreOne
-faults_are_one apart one files job b n c o (stop.Source t) (stop.Source u) k l x y nine other_nine =
-    ap stop.Source (trouble_one one files job.source t u (fault_reported files job.source b n t k x.0 nine) (fault_reported files job.source c o u l y.0 other_nine))
-faults_are_one apart one files job b n c o (stop.Source t) (stop.Target u) k l x y nine other_nine =
-    let m = source_of files job u (y.1 files l) other_nine in
-    absurd (no_fault apart files job.source t m.0 m.1 (fault_reported files job.source b n t k x.0 nine))
-faults_are_one apart one files job b n c o (stop.Target t) (stop.Source u) k l x y nine other_nine =
-    let m = source_of files job t (x.1 files k) nine in
-    absurd (no_fault apart files job.source u m.0 m.1 (fault_reported files job.source c o u l y.0 other_nine))
-faults_are_one apart one files job b n c o (stop.Target t) (stop.Target u) k l x y nine other_nine =
-    ap stop.Target (trouble_one one files job.target t u (fault_reported files job.target b n t k x.0 nine) (fault_reported files job.target c o u l y.0 other_nine))
-faults_are_one apart one files job b n c o stop.NoMemory other k l x y nine other_nine = absurd (cc nine)
-faults_are_one apart one files job b n c o (stop.Source t) stop.NoMemory k l x y nine other_nine = absurd (cc other_nine)
-faults_are_one apart one files job b n c o (stop.Target t) stop.NoMemory k l x y nine other_nine = absurd (cc other_nine)
+faults_are_one apart one files of_check b n c o (stop.Source t) (stop.Source u) k l x y nine other_nine =
+    ap stop.Source (trouble_one one files of_check.source t u (fault_reported files of_check.source b n t k x.0 nine) (fault_reported files of_check.source c o u l y.0 other_nine))
+faults_are_one apart one files of_check b n c o (stop.Source t) (stop.Target u) k l x y nine other_nine =
+    let m = source_of files of_check u (y.1 files l) other_nine in
+    absurd (no_fault apart files of_check.source t m.0 m.1 (fault_reported files of_check.source b n t k x.0 nine))
+faults_are_one apart one files of_check b n c o (stop.Target t) (stop.Source u) k l x y nine other_nine =
+    let m = source_of files of_check t (x.1 files k) nine in
+    absurd (no_fault apart files of_check.source u m.0 m.1 (fault_reported files of_check.source c o u l y.0 other_nine))
+faults_are_one apart one files of_check b n c o (stop.Target t) (stop.Target u) k l x y nine other_nine =
+    ap stop.Target (trouble_one one files of_check.target t u (fault_reported files of_check.target b n t k x.0 nine) (fault_reported files of_check.target c o u l y.0 other_nine))
+faults_are_one apart one files of_check b n c o stop.NoMemory other k l x y nine other_nine = absurd (cc nine)
+faults_are_one apart one files of_check b n c o (stop.Source t) stop.NoMemory k l x y nine other_nine = absurd (cc other_nine)
+faults_are_one apart one files of_check b n c o (stop.Target t) stop.NoMemory k l x y nine other_nine = absurd (cc other_nine)
 
 pub modules_have_no_fault : ModuleOrFault → ModulesHaveNoFault
-modules_have_no_fault apart files job old new (stop.Source t) m n known source target cause nine = no_fault apart files job.source t m source (fault_reported files job.source old new t known cause.0 nine)
-modules_have_no_fault apart files job old new (stop.Target t) m n known source target cause nine = no_fault apart files job.target t n target (fault_reported files job.target old new t known cause.0 nine)
-modules_have_no_fault apart files job old new stop.NoMemory m n known source target cause nine = absurd (cc nine)
+modules_have_no_fault apart files of_check old new (stop.Source t) m n known source target cause nine = no_fault apart files of_check.source t m source (fault_reported files of_check.source old new t known cause.0 nine)
+modules_have_no_fault apart files of_check old new (stop.Target t) m n known source target cause nine = no_fault apart files of_check.target t n target (fault_reported files of_check.target old new t known cause.0 nine)
+modules_have_no_fault apart files of_check old new stop.NoMemory m n known source target cause nine = absurd (cc nine)

@@ -16,7 +16,7 @@ use Rattle.report.specs.declared.row.Row.{Row}
 use Rattle.report.specs.Rows.{function_named, IsJudged, IsCompared, IsFinding, AreSourceRows, AreRows, RowsAreOne}
 use Rattle.report.specs.Text.{report_text}
 use Rattle.report.specs.Status.{status_of}
-use Rattle.tv_cli.proofs.Ranges.{job_in_range}
+use Rattle.tv_cli.proofs.Ranges.{check_in_range}
 use Rattle.tv_run.specs.Laws.{ReportsAreDefined, ReportsAreOne}
 use Rattle.tv_run.specs.Reports.{may_answer}
 use Rattle.tv_run.proofs.Files.{module_one}
@@ -70,15 +70,15 @@ reports_are_defined bounds budget source target answers text status none report 
 }
 
 pub reports_are_one : OneModule → RowsAreOne → ReportsAreOne
-reports_are_one one rows files words job answers others text other status other_status is none x y =
-    let s : y.source ≡ x.source = module_one one (files job.source) y.source x.source y.source_is x.source_is in
-    let t : y.target ≡ x.target = module_one one (files job.target) y.target x.target y.target_is x.target_is in
-    let a = reports_are_defined job.bounds job.budget x.source x.target answers text status none x.report in
-    let b = reports_are_defined job.bounds job.budget y.source y.target others other other_status none y.report in
-    let are : AreRows (λ pair v. IsVerdict pair job.bounds job.budget v) job.bounds x.source x.target b.rows =
-    subst (λ (m : Module). AreRows (λ pair v. IsVerdict pair job.bounds job.budget v) job.bounds m x.target b.rows) s
-    (subst (λ (n : Module). AreRows (λ pair v. IsVerdict pair job.bounds job.budget v) job.bounds y.source n b.rows) t b.are_rows) in
-    let e : a.rows ≡ b.rows = rows job.bounds job.budget x.source x.target a.rows b.rows (job_in_range words job is) a.are_rows are in (
-      a.text_is ∙ ap (report_text job.bounds job.budget) e ∙ sym b.text_is,
+reports_are_one one rows files words c answers others text other status other_status is none x y =
+    let s : y.source ≡ x.source = module_one one (files c.source) y.source x.source y.source_is x.source_is in
+    let t : y.target ≡ x.target = module_one one (files c.target) y.target x.target y.target_is x.target_is in
+    let a = reports_are_defined c.bounds c.budget x.source x.target answers text status none x.report in
+    let b = reports_are_defined c.bounds c.budget y.source y.target others other other_status none y.report in
+    let are : AreRows (λ pair v. IsVerdict pair c.bounds c.budget v) c.bounds x.source x.target b.rows =
+    subst (λ (m : Module). AreRows (λ pair v. IsVerdict pair c.bounds c.budget v) c.bounds m x.target b.rows) s
+    (subst (λ (n : Module). AreRows (λ pair v. IsVerdict pair c.bounds c.budget v) c.bounds y.source n b.rows) t b.are_rows) in
+    let e : a.rows ≡ b.rows = rows c.bounds c.budget x.source x.target a.rows b.rows (check_in_range words c is) a.are_rows are in (
+      a.text_is ∙ ap (report_text c.bounds c.budget) e ∙ sym b.text_is,
       a.status_is ∙ ap status_of e ∙ sym b.status_is,
     )

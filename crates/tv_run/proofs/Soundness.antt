@@ -262,14 +262,14 @@ distinct : (text : List ℕ) (m : Module) → IsModule text m → IsDistinct sam
 distinct text m formed = different formed.tokens _ formed.defines m.entries formed.cut formed.entries
 
 pub reports_are_sound : CorrectHolds → IncorrectFails → ReportsAreSound
-reports_are_sound holds fails files job answers text status report = record {
+reports_are_sound holds fails files c answers text status report = record {
   source = report.source;
   target = report.target;
   source_is = report.source_is;
   target_is = report.target_is;
   rows = report.report.rows;
   sound =
-      rows_are_sound holds fails job.bounds job.budget report.source report.target report.report.rows
+      rows_are_sound holds fails c.bounds c.budget report.source report.target report.report.rows
       (distinct report.source_is.text report.source report.source_is.holds.1)
       (distinct report.target_is.text report.target report.target_is.holds.1)
       report.report.are_rows;

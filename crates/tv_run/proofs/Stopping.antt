@@ -8,7 +8,10 @@ use Rattle.ir_tree.specs.declared.module.Module.{Module}
 use Rattle.tv_run.specs.declared.stop.Trouble.TheVariants as trouble
 use Rattle.tv_run.specs.declared.stop.Stop.{Stop}
 use Rattle.tv_run.specs.declared.stop.Stop.TheVariants as stop
-use Rattle.tv_cli.specs.Words.{Job}
+use Rattle.tv_io.specs.Files.{Files}
+use Rattle.tv_cli.specs.Words.{Check}
+use Rattle.tv_cli.specs.Words.Job.{check}
+use Rattle.tv_run.proofs.OneJob.{check_is}
 use Rattle.tv_run.specs.Files.{IsLonger, HasModule}
 use Rattle.tv_run.specs.Stops.{HasCause, stop_status, WritesLine}
 use Rattle.tv_run.specs.Answers.{AreModules, CountsStop}
@@ -26,26 +29,24 @@ too_long file m long h =
     let e : long.text ≡ h.text = same_text file long.text h.text long.there h.there in
     absurd (omega (arith, long.holds, h.holds.0, ap (λ (t : List ℕ). length t) e))
 
-job_is : (a b : Job) → Some a ≡ Some b → a ≡ b
-job_is a b e = cc e
+module _ (none : ModulesHaveNoFault) (c : Check) (old new : ShelfState) (why : Stop) (files : Files) (source target : Module) (known : old.files ≡ Some files) (source_is : HasModule (files c.source) source) (target_is : HasModule (files c.target) target) where
+  judged_at : HasCause old new c why → (stop_status why ≡ 5) ⊎ (stop_status why ≡ 8)
+  judged_at cause = go why cause (none files c old new why source target known source_is target_is cause)
+    where
+      go : (s : Stop) → HasCause old new c s → stop_status s ≢ 9 → (stop_status s ≡ 5) ⊎ (stop_status s ≡ 8)
+      go (stop.Source trouble.CannotRead) h fault = inl refl
+      go (stop.Source trouble.TooLong) h fault = absurd (too_long (files c.source) source (h.0.1 files known) source_is)
+      go (stop.Source (trouble.NoToken place)) h fault = absurd (fault refl)
+      go (stop.Source (trouble.Item w place)) h fault = absurd (fault refl)
+      go (stop.Target trouble.CannotRead) h fault = inl refl
+      go (stop.Target trouble.TooLong) h fault = absurd (too_long (files c.target) target (h.0.1 files known) target_is)
+      go (stop.Target (trouble.NoToken place)) h fault = absurd (fault refl)
+      go (stop.Target (trouble.Item w place)) h fault = absurd (fault refl)
+      go stop.NoMemory h fault = inr refl
 
-judged_at : ModulesHaveNoFault → (command : Option Job) (old new : ShelfState) (why : Stop) (both : AreModules old.files command) → HasCause old new both.job why → (stop_status why ≡ 5) ⊎ (stop_status why ≡ 8)
-judged_at none command old new why both cause = go why cause (none both.files both.job old new why both.source both.target both.files_are both.source_is both.target_is cause)
-  where
-    go : (s : Stop) → HasCause old new both.job s → stop_status s ≢ 9 → (stop_status s ≡ 5) ⊎ (stop_status s ≡ 8)
-    go (stop.Source trouble.CannotRead) c fault = inl refl
-    go (stop.Source trouble.TooLong) c fault = absurd (too_long (both.files both.job.source) both.source (c.0.1 both.files both.files_are) both.source_is)
-    go (stop.Source (trouble.NoToken place)) c fault = absurd (fault refl)
-    go (stop.Source (trouble.Item w place)) c fault = absurd (fault refl)
-    go (stop.Target trouble.CannotRead) c fault = inl refl
-    go (stop.Target trouble.TooLong) c fault = absurd (too_long (both.files both.job.target) both.target (c.0.1 both.files both.files_are) both.target_is)
-    go (stop.Target (trouble.NoToken place)) c fault = absurd (fault refl)
-    go (stop.Target (trouble.Item w place)) c fault = absurd (fault refl)
-    go stop.NoMemory c fault = inr refl
-
--- a job on two modules stops at a failed read or out of memory
-pub complete : ModulesHaveNoFault → (command : Option Job) (job : Job) (old new : ShelfState) (why : Stop) (result : ℕ) → command ≡ Some job → HasCause old new job why → result ≡ stop_status why → AreModules old.files command → (result ≤ 3) ⊎ (result ≡ 5) ⊎ (result ≡ 7) ⊎ (result ≡ 8)
-complete none command job old new why result is cause status both = go (judged_at none command old new why both (subst (λ (j : Job). HasCause old new j why) (job_is job both.job (sym is ∙ both.job_is)) cause))
+-- a check of two modules stops at a failed read or out of memory
+pub complete : ModulesHaveNoFault → (c : Check) (old new : ShelfState) (why : Stop) (result : ℕ) → HasCause old new c why → result ≡ stop_status why → AreModules old.files (Some (check c)) → (result ≤ 3) ⊎ (result ≡ 5) ⊎ (result ≡ 7) ⊎ (result ≡ 8)
+complete none c old new why result cause status both = go (judged_at none both.c old new why both.files both.source both.target both.files_are both.source_is both.target_is (subst (λ (d : Check). HasCause old new d why) (check_is c both.c both.job_is) cause))
   where
     go : (stop_status why ≡ 5) ⊎ (stop_status why ≡ 8) → (result ≤ 3) ⊎ (result ≡ 5) ⊎ (result ≡ 7) ⊎ (result ≡ 8)
     go (inl five) = inr (inl (status ∙ five))

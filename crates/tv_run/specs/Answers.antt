@@ -1,10 +1,11 @@
 -- What the steps of a run answer.
-use Rattle.std.specs.Prelude.{◌≡◌, ◌≤◌, ℕ, List, length, Option, Some, Result, Ok, Err}
+use Rattle.std.specs.Prelude.{◌≡◌, ◌≤◌, ◌⊎◌, ℕ, List, length, Option, Some, None, Result, Ok, Err}
 use Rattle.std.specs.List.{IsDistinct, AllByRecursion}
 use Rattle.std.specs.Global.{Vec}
 use Rattle.tv_io.specs.Count.{Rose}
-use Rattle.tv_io.specs.Files.{Files}
-use Rattle.tv_io.specs.State.{ShelfState}
+use Rattle.tv_io.specs.Files.{Files, HoldsFile}
+use Rattle.tv_io.specs.State.{ShelfState, SinkState}
+use Rattle.tv_io.specs.Taken.{IsWritten, IsCutOff}
 use Rattle.ir_tree.specs.Names.{same_name}
 use Rattle.ir_tree.specs.declared.module.Module.{Module}
 use Rattle.ir_reader.specs.declared.fault.ModuleFault.TheVariants as fault
@@ -17,11 +18,20 @@ use Rattle.tv_run.specs.declared.stop.LoadFault.TheVariants as loading
 use Rattle.tv_run.specs.declared.stop.Stop.{Stop}
 use Rattle.tv_run.specs.declared.stop.Stop.TheVariants as stop
 use Rattle.pair_driver.specs.declared.judged.Judged.{Judged}
-use Rattle.tv_cli.specs.Words.{Job}
-use Rattle.tv_run.specs.Files.{text_limit, HasModule, WhereKnown}
-use Rattle.tv_run.specs.Reports.{Reports}
+use Rattle.report.specs.declared.row.Row.{Row}
+use Rattle.proof_text.specs.declared.part.Part.{Part}
+use Rattle.proof_text.specs.declared.part.ProofFault.TheVariants as proof_fault
+use Rattle.proof_text.specs.FirstFault.{IsFaultOf as IsWrongLine}
+use Rattle.proof_files.specs.Parts.{IsReadName}
+use Rattle.tv_cli.specs.Words.{Text, Check, Job}
+use Rattle.tv_cli.specs.Words.Job.{check, log}
+use Rattle.tv_run.specs.Files.{text_limit, proof_limit, HasModule, HasParts, WhereKnown}
+use Rattle.tv_run.specs.Reports.{Reports, IsReport, IsProofFile}
 use Rattle.tv_run.specs.Searching.{entry_names}
-use Rattle.tv_run.specs.Stops.{HasTrouble}
+use Rattle.tv_run.specs.declared.stop.LogTrouble.TheVariants as log_trouble
+use Rattle.tv_run.specs.declared.stop.LogStop.{LogStop}
+use Rattle.tv_run.specs.declared.stop.LogStop.TheVariants as log_stop
+use Rattle.tv_run.specs.Stops.{HasTrouble, HasLogTrouble, IsNotPut}
 
 -- ---- loading a file
 
@@ -50,11 +60,15 @@ IsFaultOf text (trouble.NoToken place) = IsFault text (fault.NoToken place)
 IsFaultOf text (trouble.Item w place) = IsFault text (fault.Item w place)
 IsFaultOf text _ = ⊥
 
--- a module that the judge takes: its names are distinct
-pub record IsParsed (text : List ℕ) (m : Module) : Type 0 where
-  pub formed : IsModule text m
+-- a module that the judge takes: its names are distinct, and numbers among them have no leading zeros
+pub record IsJudgeableModule (m : Module) : Type 0 where
   pub judgeable : AllByRecursion IsJudgeableEntry m.entries
   pub distinct : IsDistinct same_name (entry_names m.entries)
+  pub named : AllByRecursion IsReadName (entry_names m.entries)
+
+pub record IsParsed (text : List ℕ) (m : Module) : Type 0 where
+  pub formed : IsModule text m
+  pub taken : IsJudgeableModule m
 
 -- the module of a text, or why there is none
 abbrev pub Parses : List ℕ → Result Module LoadFault → Type 0
@@ -84,18 +98,90 @@ CountsStop (stop.Source trouble.CannotRead) old new = Rose old.fetch_faults new.
 CountsStop (stop.Target trouble.CannotRead) old new = Rose old.fetch_faults new.fetch_faults
 CountsStop _ old new = new.fetch_faults ≡ old.fetch_faults
 
--- the files of the job are known, and both are modules
+-- the files of the check are known, and both are modules
 pub record AreModules (known : Option Files) (command : Option Job) : Type 0 where
   pub files : Files
-  pub job : Job
+  pub c : Check
   pub source : Module
   pub target : Module
   pub files_are : known ≡ Some files
-  pub job_is : command ≡ Some job
-  pub source_is : HasModule (files job.source) source
-  pub target_is : HasModule (files job.target) target
+  pub job_is : command ≡ Some (check c)
+  pub source_is : HasModule (files c.source) source
+  pub target_is : HasModule (files c.target) target
 
--- two files in memory are modules, and their report fits into this room
+-- two files in memory are modules, no proof file is asked for, and the report fits into this room
 pub record FitsIn (room : ℕ) (files : Files) (command : Option Job) : Type 0 where
   pub both : AreModules (Some files) command
-  pub fits : (job : Job) (answers : List Judged) (text : List ℕ) (status : ℕ) → command ≡ Some job → Reports files job answers text status → length text ≤ room
+  pub unput : both.c.proof ≡ None
+  pub fits : (answers : List Judged) (text : List ℕ) (status : ℕ) → Reports files both.c answers text status → length text ≤ room
+
+-- the file that the job checks is known, and is a proof file
+pub record AreParts (known : Option Files) (command : Option Job) : Type 0 where
+  pub files : Files
+  pub name : Text
+  pub parts : List Part
+  pub files_are : known ≡ Some files
+  pub job_is : command ≡ Some (log name)
+  pub parts_are : HasParts (files name) parts
+
+-- ---- the proof file of a report
+
+-- its text, where one is asked for
+abbrev pub IsProofAsked : Option Text → List Row → List Judged → Option (Vec ℕ) → Type 0
+IsProofAsked None rows answers proof = Unit {0}
+IsProofAsked (Some name) rows answers None = ⊥
+IsProofAsked (Some name) rows answers (Some text) = IsProofFile rows answers text.items
+
+-- the report of two modules, with that text
+pub record IsReportOf (c : Check) (source target : Module) (answers : List Judged) (text : List ℕ) (status : ℕ) (proof : Option (Vec ℕ)) : Type 0 where
+  pub report : IsReport c.bounds c.budget source target answers text status
+  pub asked : IsProofAsked c.proof report.rows answers proof
+
+-- and of two files
+pub record HasReport (files : Files) (c : Check) (answers : List Judged) (text : List ℕ) (status : ℕ) (proof : Option (Vec ℕ)) : Type 0 where
+  pub reports : Reports files c answers text status
+  pub asked : IsProofAsked c.proof reports.report.rows answers proof
+
+-- ---- delivering it
+
+-- the sink took a text whole, or was cut off at it, which is status 7
+abbrev pub IsSent : (status result : ℕ) → List ℕ → SinkState → SinkState → Type 0
+IsSent status result text old new = ((result ≡ status) × IsWritten text old new) ⊎ ((result ≡ 7) × IsCutOff text old new)
+
+-- the file of this name holds the text that was put
+abbrev pub HoldsText : Option Text → Option (Vec ℕ) → Option Files → Type 0
+HoldsText (Some name) (Some text) after = HoldsFile after name text.items
+HoldsText _ _ after = Unit {0}
+
+-- the proof file was put, if one is asked for, and the report sent
+pub record IsPutAndSent (asked : Option Text) (proof : Option (Vec ℕ)) (text : List ℕ) (status result : ℕ) (shelf_old shelf_new : ShelfState) (out_old out_new : SinkState) : Type 0 where
+  pub put : HoldsText asked proof shelf_new.files
+  pub counted : shelf_new.put_faults ≡ shelf_old.put_faults
+  pub sent : IsSent status result text out_old out_new
+
+-- or the proof file could not be put, which is status 7
+abbrev pub IsDelivered : (asked : Option Text) (proof : Option (Vec ℕ)) (text : List ℕ) (status result : ℕ) (shelf_old shelf_new : ShelfState) (out_old out_new : SinkState) → Type 0
+IsDelivered asked proof text status result shelf_old shelf_new out_old out_new =
+    IsPutAndSent asked proof text status result shelf_old shelf_new out_old out_new ⊎ ((result ≡ 7) × IsNotPut asked shelf_old shelf_new out_old out_new)
+
+-- ---- checking a proof file
+
+-- its bytes
+abbrev pub LoadsProof : ShelfState → Text → Vec ℕ → Type 0
+LoadsProof old name text = WhereKnown old.files (λ files. (files name ≡ Some text.items) × (length text.items ≤ proof_limit))
+
+-- why it is not checked; out of memory needs no reason
+abbrev pub IsLogStop : ShelfState → ShelfState → Text → LogStop → Type 0
+IsLogStop old new name (log_stop.Trouble t) = HasLogTrouble old new name t
+IsLogStop old new name log_stop.NoMemory = Unit {0}
+
+-- a text that is no proof file
+abbrev pub IsNoProof : List ℕ → LogStop → Type 0
+IsNoProof text (log_stop.Trouble (log_trouble.Line line)) = IsWrongLine text (proof_fault.Line line)
+IsNoProof text (log_stop.Trouble _) = ⊥
+IsNoProof text log_stop.NoMemory = Unit {0}
+
+-- only a failed fetch is counted
+abbrev pub CountsLog : LogStop → ShelfState → ShelfState → Type 0
+CountsLog (log_stop.Trouble log_trouble.CannotRead) old new = Rose old.fetch_faults new.fetch_faults
+CountsLog _ old new = new.fetch_faults ≡ old.fetch_faults

@@ -7,7 +7,8 @@ use Rattle.tv_run.specs.declared.stop.Stop.{Stop}
 use Rattle.points.specs.declared.point.Bounds.{Bounds}
 use Rattle.points.specs.declared.point.Budget.{Budget}
 use Rattle.pair_driver.specs.declared.judged.Judged.{Judged}
-use Rattle.tv_cli.specs.Words.{Job, job_of}
+use Rattle.tv_cli.specs.Words.{Check, job_of}
+use Rattle.tv_cli.specs.Words.Job.{check}
 use Rattle.tv_run.specs.Files.{HasModule}
 use Rattle.tv_run.specs.Reports.{Reports, IsReport, IsDefinedReport}
 use Rattle.tv_run.specs.Sound.{SaysRefinement}
@@ -15,7 +16,7 @@ use Rattle.tv_run.specs.Stops.{HasCause, stop_status}
 
 -- the report of two files says how their functions refine
 abbrev pub ReportsAreSound : Type 0
-ReportsAreSound = (files : Files) (job : Job) (answers : List Judged) (text : List ℕ) (status : ℕ) → Reports files job answers text status → SaysRefinement files job text status
+ReportsAreSound = (files : Files) (c : Check) (answers : List Judged) (text : List ℕ) (status : ℕ) → Reports files c answers text status → SaysRefinement files c text status
 
 -- without a limit on conflicts the rows are those of the verdicts' definition
 abbrev pub ReportsAreDefined : Type 0
@@ -23,12 +24,12 @@ ReportsAreDefined = (bounds : Bounds) (budget : Budget) (source target : Module)
 
 -- and two files have one report
 abbrev pub ReportsAreOne : Type 0
-ReportsAreOne = (files : Files) (arguments : List (List ℕ)) (job : Job) (answers others : List Judged) (text other : List ℕ) (status other_status : ℕ) → job_of arguments ≡ Some job → job.budget.conflicts ≡ 0 → Reports files job answers text status → Reports files job others other other_status → (text ≡ other) × (status ≡ other_status)
+ReportsAreOne = (files : Files) (arguments : List (List ℕ)) (c : Check) (answers others : List Judged) (text other : List ℕ) (status other_status : ℕ) → job_of arguments ≡ Some (check c) → c.budget.conflicts ≡ 0 → Reports files c answers text status → Reports files c others other other_status → (text ≡ other) × (status ≡ other_status)
 
 -- two runs over the same files that stop at a fault of a module stop at one fault: the same file, the same position, the same reason
 abbrev pub FaultsAreOne : Type 0
-FaultsAreOne = (files : Files) (job : Job) (old new other_old other_new : ShelfState) (why other : Stop) → old.files ≡ Some files → other_old.files ≡ Some files → HasCause old new job why → HasCause other_old other_new job other → stop_status why ≡ 9 → stop_status other ≡ 9 → why ≡ other
+FaultsAreOne = (files : Files) (c : Check) (old new other_old other_new : ShelfState) (why other : Stop) → old.files ≡ Some files → other_old.files ≡ Some files → HasCause old new c why → HasCause other_old other_new c other → stop_status why ≡ 9 → stop_status other ≡ 9 → why ≡ other
 
 -- and there is none where both files are modules
 abbrev pub ModulesHaveNoFault : Type 0
-ModulesHaveNoFault = (files : Files) (job : Job) (old new : ShelfState) (why : Stop) (source target : Module) → old.files ≡ Some files → HasModule (files job.source) source → HasModule (files job.target) target → HasCause old new job why → stop_status why ≢ 9
+ModulesHaveNoFault = (files : Files) (c : Check) (old new : ShelfState) (why : Stop) (source target : Module) → old.files ≡ Some files → HasModule (files c.source) source → HasModule (files c.target) target → HasCause old new c why → stop_status why ≢ 9

@@ -1,6 +1,8 @@
 pub mod Sound
+pub mod Jobs
 pub mod Files
 pub mod Reports
+pub mod Logs
 pub mod Stops
 pub mod Answers
 pub mod Searching

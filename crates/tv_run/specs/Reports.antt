@@ -1,8 +1,6 @@
--- The report of two files.
-use Rattle.std.specs.Prelude.{◌≡◌, ℕ, List, Option, Some, map, string_bytes}
-use Rattle.std.specs.Global.{Global}
-use Rattle.std.specs.declared.string.String.{String}
-use Rattle.tv_io.specs.Files.{Files}
+-- The report of two files, and its proof file.
+use Rattle.std.specs.Prelude.{◌≡◌, ℕ, All, List, Option, Some, None}
+use Rattle.tv_io.specs.Files.{Files, HoldsFile}
 use Rattle.tv_io.specs.State.{SinkState}
 use Rattle.tv_io.specs.Taken.{IsWritten, IsCutOff}
 use Rattle.ir_tree.specs.declared.module.Module.{Module}
@@ -17,13 +15,12 @@ use Rattle.report.specs.declared.row.Row.{Row}
 use Rattle.report.specs.Rows.{AreRows}
 use Rattle.report.specs.Text.{report_text}
 use Rattle.report.specs.Status.{status_of}
-use Rattle.tv_cli.specs.Words.{Job, job_of}
+use Rattle.clause_log.specs.Refutation.{Refutes}
+use Rattle.proof_text.specs.Format.{IsProof}
+use Rattle.proof_files.specs.Parts.{parts_of}
+use Rattle.tv_cli.specs.Words.{Text, Check}
 use Rattle.tv_run.specs.Files.{HasModule}
 use Rattle.tv_run.specs.Judging.{ReportOwnAnswers}
-
--- the job that a command line asks for, if it asks for one
-abbrev pub job_in : List (String Global) → Option Job
-job_in arguments = job_of (map string_bytes arguments)
 
 -- what the judge may answer of a pair within bounds and a budget
 abbrev pub may_answer : Bounds → Budget → Functions → Verdict → Type 0
@@ -37,30 +34,46 @@ pub record IsReport (bounds : Bounds) (budget : Budget) (source target : Module)
   pub text_is : text ≡ report_text bounds budget rows
   pub status_is : status ≡ status_of rows
 
--- the report of the two files that a job names, within its bounds and its budget
-pub record Reports (files : Files) (job : Job) (answers : List Judged) (text : List ℕ) (status : ℕ) : Type 0 where
+-- the report of the two files that a check names, within its bounds and its budget
+pub record Reports (files : Files) (c : Check) (answers : List Judged) (text : List ℕ) (status : ℕ) : Type 0 where
   pub source : Module
   pub target : Module
-  pub source_is : HasModule (files job.source) source
-  pub target_is : HasModule (files job.target) target
-  pub report : IsReport job.bounds job.budget source target answers text status
+  pub source_is : HasModule (files c.source) source
+  pub target_is : HasModule (files c.target) target
+  pub report : IsReport c.bounds c.budget source target answers text status
 
--- the sink took the report that the command line asks for, and nothing else
-pub record Written (files : Files) (command : Option Job) (status : ℕ) (answers : List Judged) (old new : SinkState) : Type 0 where
-  pub job : Job
+-- ---- its proof file
+
+-- a part for each correct and each incorrect row, in order, and each part's log refutes its clauses
+pub record IsProofFile (rows : List Row) (answers : List Judged) (text : List ℕ) : Type 0 where
+  pub parts : IsProof text (parts_of rows answers)
+  pub refute : All (λ p. Refutes p.cert.cnf.clauses p.cert.log) (parts_of rows answers)
+
+-- the file that `--proof` names holds it
+abbrev pub HoldsProof : Option Text → List Row → List Judged → Option Files → Type 0
+HoldsProof None rows answers after = Unit {0}
+HoldsProof (Some name) rows answers after = (text : List ℕ) × HoldsFile after name text × IsProofFile rows answers text
+
+-- ---- what is written
+
+-- the sink took the report that the command line asks for, and nothing else; the proof file was put
+pub record Written (files : Files) (c : Check) (status : ℕ) (answers : List Judged) (after : Option Files) (old new : SinkState) : Type 0 where
   pub text : List ℕ
-  pub job_is : command ≡ Some job
-  pub reports : Reports files job answers text status
+  pub reports : Reports files c answers text status
+  pub put : HoldsProof c.proof reports.report.rows answers after
   pub written : IsWritten text old new
 
--- the sink had no room for it, and took a prefix
-pub record PartlyWritten (files : Files) (command : Option Job) (answers : List Judged) (old new : SinkState) : Type 0 where
-  pub job : Job
+-- the proof file was put, and the sink had no room for the report, and took a prefix
+pub record PartlyWritten (files : Files) (c : Check) (answers : List Judged) (after : Option Files) (old new : SinkState) : Type 0 where
   pub text : List ℕ
   pub status : ℕ
-  pub job_is : command ≡ Some job
-  pub reports : Reports files job answers text status
+  pub reports : Reports files c answers text status
+  pub put : HoldsProof c.proof reports.report.rows answers after
   pub cut_off : IsCutOff text old new
+
+-- these are the judge's answers on the two files
+abbrev pub IsJudgedSo : Files → Check → List Judged → Type 0
+IsJudgedSo files c answers = (text : List ℕ) × (status : ℕ) × Reports files c answers text status
 
 -- ---- without a limit on conflicts
 

@@ -1,5 +1,5 @@
 -- What a report says of the two files, in the words of refinement: a row `correct` means that the target's function refines the source's, a row `incorrect` gives a counterexample, and each pair of functions has its row.
-use Rattle.std.specs.Prelude.{◌≡◌, ℕ, true, List, Contains, Option, Some, Ok}
+use Rattle.std.specs.Prelude.{◌≡◌, ℕ, true, List, Contains, Ok}
 use Rattle.tv_io.specs.Files.{Files}
 use Rattle.tv_io.specs.State.{SinkState}
 use Rattle.tv_io.specs.Taken.{IsWritten}
@@ -17,7 +17,7 @@ use Rattle.report.specs.declared.row.Finding.TheVariants as finding
 use Rattle.report.specs.declared.row.Row.{Row}
 use Rattle.report.specs.Text.{report_text}
 use Rattle.report.specs.Status.{status_of}
-use Rattle.tv_cli.specs.Words.{Job}
+use Rattle.tv_cli.specs.Words.{Check}
 use Rattle.tv_run.specs.Files.{HasModule}
 
 -- the module has this function under the name
@@ -53,21 +53,19 @@ pub record IsSound (bounds : Bounds) (source target : Module) (rows : List Row) 
   pub whole : (name : Name) (pair : Functions) → IsPairNamed source target name pair
       → (row : Row) × Contains rows row × (row.name ≡ name) × HasVerdict row.finding
 
--- the text and the status of a report on the two files that the job names, with rows that are sound
-pub record SaysRefinement (files : Files) (job : Job) (text : List ℕ) (status : ℕ) : Type 0 where
+-- the text and the status of a report on the two files that a check names, with rows that are sound
+pub record SaysRefinement (files : Files) (c : Check) (text : List ℕ) (status : ℕ) : Type 0 where
   pub source : Module
   pub target : Module
-  pub source_is : HasModule (files job.source) source
-  pub target_is : HasModule (files job.target) target
+  pub source_is : HasModule (files c.source) source
+  pub target_is : HasModule (files c.target) target
   pub rows : List Row
-  pub sound : IsSound job.bounds source target rows
-  pub text_is : text ≡ report_text job.bounds job.budget rows
+  pub sound : IsSound c.bounds source target rows
+  pub text_is : text ≡ report_text c.bounds c.budget rows
   pub status_is : status ≡ status_of rows
 
 -- such a report was written, and nothing else
-pub record MeansRefinement (files : Files) (command : Option Job) (status : ℕ) (old new : SinkState) : Type 0 where
-  pub job : Job
+pub record MeansRefinement (files : Files) (c : Check) (status : ℕ) (old new : SinkState) : Type 0 where
   pub text : List ℕ
-  pub job_is : command ≡ Some job
-  pub says : SaysRefinement files job text status
+  pub says : SaysRefinement files c text status
   pub written : IsWritten text old new

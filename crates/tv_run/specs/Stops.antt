@@ -1,5 +1,5 @@
--- Why there is no report, which status says so, and which line.
-use Rattle.std.specs.Prelude.{◌≡◌, ◌⊎◌, ℕ, true, ◌+◌, List, [], ◌∷◌, ◌++◌, codes, Option, Some}
+-- Why there is no report, or no check of a proof file, which status says so, and which line.
+use Rattle.std.specs.Prelude.{◌≡◌, ◌⊎◌, ℕ, true, ◌+◌, List, [], ◌∷◌, ◌++◌, codes, Option, Some, None}
 use Rattle.std.specs.Fmt.{decimal}
 use Rattle.text_places.specs.declared.place.Place.{Place}
 use Rattle.tv_io.specs.Count.{Rose, RoseBy}
@@ -13,8 +13,11 @@ use Rattle.tv_run.specs.declared.stop.Trouble.{Trouble}
 use Rattle.tv_run.specs.declared.stop.Trouble.TheVariants as trouble
 use Rattle.tv_run.specs.declared.stop.Stop.{Stop}
 use Rattle.tv_run.specs.declared.stop.Stop.TheVariants as stop
-use Rattle.tv_cli.specs.Words.{Job}
-use Rattle.tv_run.specs.Files.{text_limit, IsWithin, IsLonger, HasModule, HasFault, WhereKnown}
+use Rattle.tv_run.specs.declared.stop.LogTrouble.{LogTrouble}
+use Rattle.tv_run.specs.declared.stop.LogTrouble.TheVariants as log_trouble
+use Rattle.tv_cli.specs.Words.{Text, Check, Job}
+use Rattle.tv_cli.specs.Words.Job.{check, log}
+use Rattle.tv_run.specs.Files.{text_limit, proof_limit, IsWithin, IsLonger, IsLongerProof, HasModule, HasFault, HasWrongLine, WhereKnown}
 
 -- ---- causes
 
@@ -40,10 +43,16 @@ IsBeforeTarget source (trouble.NoToken place) = (m : Module) × HasModule source
 IsBeforeTarget source (trouble.Item w place) = (m : Module) × HasModule source m
 
 -- the first cause, in the order fetch of the source, fetch of the target, source module, target module; out of memory has none
-abbrev pub HasCause : ShelfState → ShelfState → Job → Stop → Type 0
-HasCause old new job (stop.Source t) = HasTrouble old new job.source t × WhereKnown old.files (λ files. IsBeforeSource (files job.target) t)
-HasCause old new job (stop.Target t) = HasTrouble old new job.target t × WhereKnown old.files (λ files. IsBeforeTarget (files job.source) t)
-HasCause old new job stop.NoMemory = Unit {0}
+abbrev pub HasCause : ShelfState → ShelfState → Check → Stop → Type 0
+HasCause old new c (stop.Source t) = HasTrouble old new c.source t × WhereKnown old.files (λ files. IsBeforeSource (files c.target) t)
+HasCause old new c (stop.Target t) = HasTrouble old new c.target t × WhereKnown old.files (λ files. IsBeforeTarget (files c.source) t)
+HasCause old new c stop.NoMemory = Unit {0}
+
+-- why a proof file is not checked: a fetch of it failed, it is longer than the limit, or it is none, and this is the first line that shows it
+abbrev pub HasLogTrouble : ShelfState → ShelfState → Text → LogTrouble → Type 0
+HasLogTrouble old new name log_trouble.CannotRead = (old.may_fail name ≡ true) × Rose old.fetch_faults new.fetch_faults
+HasLogTrouble old new name log_trouble.TooLong = RoseBy (proof_limit + 1) old.bytes_taken new.bytes_taken × WhereKnown old.files (λ files. IsLongerProof (files name))
+HasLogTrouble old new name (log_trouble.Line line) = WhereKnown old.files (λ files. HasWrongLine (files name) line)
 
 -- ---- statuses
 
@@ -57,6 +66,11 @@ abbrev pub stop_status : Stop → ℕ
 stop_status (stop.Source t) = trouble_status t
 stop_status (stop.Target t) = trouble_status t
 stop_status stop.NoMemory = 8
+
+abbrev pub log_trouble_status : LogTrouble → ℕ
+log_trouble_status log_trouble.CannotRead = 5
+log_trouble_status log_trouble.TooLong = 6
+log_trouble_status (log_trouble.Line line) = 9
 
 -- ---- lines
 
@@ -80,21 +94,60 @@ trouble_line name trouble.TooLong = codes "too long " ++ name ++ 10 ∷ []
 trouble_line name (trouble.NoToken place) = fault_line name place (codes "no token")
 trouble_line name (trouble.Item w place) = fault_line name place (why_text w)
 
+-- the file's name, the number of a line, and what is wrong with it
+abbrev pub line_fault_line : List ℕ → ℕ → List ℕ → List ℕ
+line_fault_line name line what = name ++ codes ":" ++ decimal line ++ (codes ": " ++ what ++ 10 ∷ [])
+
+-- the line of a proof file that is not checked
+abbrev pub log_trouble_line : List ℕ → LogTrouble → List ℕ
+log_trouble_line name log_trouble.CannotRead = codes "cannot read " ++ name ++ 10 ∷ []
+log_trouble_line name log_trouble.TooLong = codes "too long " ++ name ++ 10 ∷ []
+log_trouble_line name (log_trouble.Line line) = line_fault_line name line (codes "proof text")
+
+-- the line of a proof file that cannot be put
+abbrev pub unput_line : List ℕ → List ℕ
+unput_line name = codes "cannot write " ++ name ++ 10 ∷ []
+
 -- a line was written, or cut off by the sink
 abbrev pub WritesLine : List ℕ → SinkState → SinkState → Type 0
 WritesLine line old new = IsWritten line old new ⊎ IsCutOff line old new
 
--- the line of the file that stops the job; nothing where memory ran out
-abbrev pub Says : Job → Stop → SinkState → SinkState → Type 0
-Says job (stop.Source t) old new = WritesLine (trouble_line job.source t) old new
-Says job (stop.Target t) old new = WritesLine (trouble_line job.target t) old new
-Says job stop.NoMemory old new = new ≡ old
+-- the line of the file that stops the check; nothing where memory ran out
+abbrev pub Says : Check → Stop → SinkState → SinkState → Type 0
+Says c (stop.Source t) old new = WritesLine (trouble_line c.source t) old new
+Says c (stop.Target t) old new = WritesLine (trouble_line c.target t) old new
+Says c stop.NoMemory old new = new ≡ old
 
--- the job of the command line stops, with its cause, its status and its line
-pub record Refuses (command : Option Job) (shelf_old shelf_new : ShelfState) (out_old out_new : SinkState) (status : ℕ) : Type 0 where
-  pub job : Job
+-- ---- both commands
+
+-- the check stops, with its cause, its status and its line
+pub record Refuses (c : Check) (shelf_old shelf_new : ShelfState) (out_old out_new : SinkState) (status : ℕ) : Type 0 where
   pub why : Stop
-  pub job_is : command ≡ Some job
-  pub cause : HasCause shelf_old shelf_new job why
+  pub cause : HasCause shelf_old shelf_new c why
   pub status_is : status ≡ stop_status why
-  pub says : Says job why out_old out_new
+  pub says : Says c why out_old out_new
+
+-- the proof file of this name is not checked
+pub record RefusesLog (name : Text) (shelf_old shelf_new : ShelfState) (out_old out_new : SinkState) (status : ℕ) : Type 0 where
+  pub why : LogTrouble
+  pub cause : HasLogTrouble shelf_old shelf_new name why
+  pub status_is : status ≡ log_trouble_status why
+  pub says : WritesLine (log_trouble_line name why) out_old out_new
+
+-- the job of the command line stops
+abbrev pub RefusesJob : Option Job → (shelf_old shelf_new : ShelfState) (out_old out_new : SinkState) (status : ℕ) → Type 0
+RefusesJob (Some (check c)) shelf_old shelf_new out_old out_new status = Refuses c shelf_old shelf_new out_old out_new status
+RefusesJob (Some (log name)) shelf_old shelf_new out_old out_new status = RefusesLog name shelf_old shelf_new out_old out_new status
+RefusesJob None shelf_old shelf_new out_old out_new status = ⊥
+
+-- the proof file could not be put: the failure was counted, and the sink took its line, or a prefix of it, and nothing of the report
+pub record IsNotPut (asked : Option Text) (shelf_old shelf_new : ShelfState) (out_old out_new : SinkState) : Type 0 where
+  pub name : Text
+  pub asked_is : asked ≡ Some name
+  pub counted : Rose shelf_old.put_faults shelf_new.put_faults
+  pub says : WritesLine (unput_line name) out_old out_new
+
+-- the sink failed, or the proof file that the job names could not be put
+abbrev pub IsUnwritten : Option Job → (shelf_old shelf_new : ShelfState) (out_old out_new : SinkState) → Type 0
+IsUnwritten (Some (check c)) shelf_old shelf_new out_old out_new = Rose out_old.faults out_new.faults ⊎ IsNotPut c.proof shelf_old shelf_new out_old out_new
+IsUnwritten _ shelf_old shelf_new out_old out_new = Rose out_old.faults out_new.faults

@@ -1,8 +1,7 @@
-ghost use Rattle.std.specs.Prelude.{◌≡◌, ◌≤◌, Some, IfOk};
-ghost use Rattle.tv_cli.specs.Words.{Job};
+ghost use Rattle.std.specs.Prelude.{◌≤◌, IfOk};
 ghost use Rattle.tv_io.specs.MemoryShelf.{files_of};
 ghost use Rattle.tv_run.specs.Answers.{FitsIn};
-ghost use Rattle.tv_run.specs.Reports.{job_in};
+ghost use Rattle.tv_run.specs.Jobs.{OfCheck, job_in};
 ghost use Rattle.tv_run.specs.Sound.{SaysRefinement};
 
 use crate::top::run;
@@ -27,8 +26,8 @@ pub fn run_in_memory<R: AllocGlobal + Threads + Sync>(
     files: BTreeMap<String, Vec<u8>>,
     room: usize,
 ) -> Result<Checked, NoMemory>
-    ensures sound { IfOk result (λ checked. checked.status ≤ 3 → (job : Job) × (job_in arguments.now ≡ Some job)
-        × SaysRefinement (files_of files) job checked.written.items checked.status) }
+    ensures sound { IfOk result (λ checked. checked.status ≤ 3
+        → OfCheck (job_in arguments.now) (λ c. SaysRefinement (files_of files) c checked.written.items checked.status)) }
     // Two files that are modules are judged, where the report fits.
     ensures complete { IfOk result (λ checked. FitsIn room (files_of files) (job_in arguments.now)
         → checked.status ≤ 3) }

@@ -1,11 +1,14 @@
 //! Checks one module against another: `run` reads the command line, loads both files, judges each
-//! pair of functions and writes the report.
+//! pair of functions, puts the proof file that is asked for, and writes the report. The command `log`
+//! checks a proof file in its place.
 //!
 //! It promises that the report is sound (`sound`, the first clause of `run`): a row `correct` means that
 //! the target's function refines the source's on every input within the bounds, a row `incorrect` gives
-//! a counterexample, and each pair of functions has its row. Each other status has its cause. A function
-//! that can't be judged is a row of the report like any other. It uses the command line, the reader, the
-//! judge, the report and `tv_io`; the program `tv` is `run` over the system's files and output.
+//! a counterexample, and each pair of functions has its row. The proof file has a part for each correct
+//! and each incorrect row, whose log refutes its clauses, and `log` says `verified` exactly of such parts.
+//! Each other status has its cause. A function that can't be judged is a row of the report like any
+//! other. It uses the command line, the reader, the judge, the report, `proof_files` and `tv_io`; the
+//! program `tv` is `run` over the system's files and output.
 #![tactic(auto)]
 
 mod check;
@@ -13,6 +16,7 @@ mod in_memory;
 mod index;
 mod laws;
 mod lines;
+mod log;
 mod rows;
 mod stop;
 mod texts;

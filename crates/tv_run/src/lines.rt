@@ -2,7 +2,7 @@ ghost use Rattle.std.specs.Prelude.{◌≡◌, ◌≤◌, ◌++◌, codes, OnOk,
 ghost use Rattle.std.specs.Fmt.{decimal};
 ghost use Rattle.tv_io.specs.State.{SinkState};
 ghost use Rattle.tv_io.specs.Taken.{IsWritten, IsCutOff};
-ghost use Rattle.tv_run.specs.Stops.{why_text, fault_line};
+ghost use Rattle.tv_run.specs.Stops.{why_text, fault_line, line_fault_line};
 
 use ir_items::Why;
 use itoa::Buffer;
@@ -22,6 +22,23 @@ pub fn write_fault<K: Sink>(
 {
     write_both(out, name.as_bytes(), b":")?;
     write_place(out, place)?;
+    write_line(out, b": ", what)
+}
+
+/// Writes the line of a fault that is at a line of a file: the file's name, the line's number, and what
+/// is wrong. It allocates nothing. After an error the sink took some prefix of it.
+pub fn write_line_fault<K: Sink>(
+    out: &mut K,
+    name: &str,
+    line: u64,
+    what: &[u8],
+) -> Result<(), Failed>
+    ensures written { OnOk result (IsWritten (line_fault_line name.now line what.now) (K.state out.old) (K.state out.new)) }
+    ensures cut_off { OnErr result (IsCutOff (line_fault_line name.now line what.now) (K.state out.old) (K.state out.new)) }
+{
+    let mut number = Buffer::new();
+    write_both(out, name.as_bytes(), b":")?;
+    write_whole(out, number.format(line).as_bytes())?;
     write_line(out, b": ", what)
 }
 

@@ -34,6 +34,24 @@ pub enum Stop {
     NoMemory,
 }
 
+/// What keeps a proof file from being checked.
+#[derive(Clone, Copy, Debug, PartialEq, Eq)]
+pub enum LogTrouble {
+    /// The shelf failed to read it.
+    CannotRead,
+    /// It has more bytes than the limit.
+    TooLong,
+    /// The first line, counted from 1, that no proof file has there.
+    Line(u64),
+}
+
+/// Why a proof file is not checked.
+#[derive(Clone, Copy, Debug, PartialEq, Eq)]
+pub enum LogStop {
+    Trouble(LogTrouble),
+    NoMemory,
+}
+
 impl LoadFault {
     /// Why there is no report where the source's file has this fault.
     pub fn at_source(self) -> Stop
@@ -53,6 +71,17 @@ impl LoadFault {
             LoadFault::Trouble(trouble) => Stop::Target(trouble),
             LoadFault::NoMemory => Stop::NoMemory,
         }
+    }
+}
+
+impl From<NoMemory> for LogStop {
+    ghost use Rattle.std.specs.Prelude.{◌≡◌};
+    ghost use Rattle.tv_run.specs.declared.stop.LogStop.TheVariants.{NoMemory};
+
+    ghost from_gives = { λ _ stop. stop ≡ NoMemory };
+
+    fn from(_error: NoMemory) -> LogStop {
+        LogStop::NoMemory
     }
 }
 

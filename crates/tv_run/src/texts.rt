@@ -18,6 +18,7 @@ pub fn load<S: Shelf>(alloc: Global, shelf: &mut S, name: &str) -> Result<Vec<u8
 
     ensures same { (S.state shelf.new).files ≡ (S.state shelf.old).files }
     ensures same_fails { (S.state shelf.new).may_fail ≡ (S.state shelf.old).may_fail }
+    ensures put_faults { (S.state shelf.new).put_faults ≡ (S.state shelf.old).put_faults }
     ensures bytes_taken_stay { (S.state shelf.old).bytes_taken ≤ (S.state shelf.new).bytes_taken }
 {
     let mut text = Vec::new(alloc);

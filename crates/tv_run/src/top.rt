@@ -1,43 +1,58 @@
-ghost use Rattle.std.specs.Prelude.{◌≡◌, ◌≢◌, ◌≤◌, ◌<◌, ◌⊎◌, ◌++◌, ◌∷◌, [], None, codes};
+ghost use Rattle.std.specs.Prelude.{◌≡◌, ◌≢◌, ◌≤◌, ◌<◌, ◌⊎◌, ◌++◌, ◌∷◌, [], None, Some, codes, IfOk, OnErr, option_map};
+ghost use Rattle.points.specs.Range.{AreInRange};
 ghost use Rattle.tv_io.specs.Count.{Rose};
+ghost use Rattle.tv_io.specs.Files.{SameFiles};
 ghost use Rattle.tv_io.specs.State.{ShelfState, SinkState};
 ghost use Rattle.tv_io.specs.Taken.{IsWritten, IsCutOff};
-ghost use Rattle.tv_cli.specs.Seen.{seen};
+ghost use Rattle.tv_cli.specs.Seen.{seen_check};
+ghost use Rattle.tv_cli.specs.Words.Job.{check as check_job, log as log_job};
+ghost use Rattle.tv_run.specs.Jobs.{FileChanges, OfLog, ProofChanges, WhereChecked, WhereLogged, job_in};
 ghost use Rattle.tv_run.specs.Files.{WhereKnown};
 ghost use Rattle.tv_run.specs.Sound.{MeansRefinement};
-ghost use Rattle.tv_run.specs.Reports.{job_in, Written, PartlyWritten};
-ghost use Rattle.tv_run.specs.Stops.{trouble_status, trouble_line, stop_status, WritesLine, Says, Refuses};
-ghost use Rattle.tv_run.specs.Answers.{AreModules};
+ghost use Rattle.tv_run.specs.Reports.{IsJudgedSo, PartlyWritten, Written};
+ghost use Rattle.tv_run.specs.Logs.{LogPartlyWritten, LogWritten};
+ghost use Rattle.tv_run.specs.Stops.{IsNotPut, IsUnwritten, Refuses, RefusesJob, RefusesLog, Says, WritesLine, log_trouble_line, log_trouble_status, stop_status, trouble_line, trouble_status};
+ghost use Rattle.tv_run.specs.Answers.{AreModules, AreParts, IsDelivered, IsSent};
 
 use crate::check::{Report, report_of};
 use crate::laws::{modules_have_no_fault, reports_are_sound};
-use crate::lines::{why_words, write_fault};
-use crate::stop::{Stop, Trouble};
+use crate::lines::{why_words, write_fault, write_line_fault};
+use crate::log::check_file;
+use crate::stop::{LogStop, LogTrouble, Stop, Trouble};
 use pair_driver::{Gate, Judged};
+use std::alloc::Global;
 use std::thread::Threads;
 use support::NoMemory;
-use tv_cli::{Job, read_job};
-use tv_io::{Shelf, Sink, write_line, write_whole};
+use tv_cli::{Check, Job, read_job};
+use tv_io::{PutFault, Shelf, Sink, write_line, write_whole};
 
-/// Judges the functions of the target's module against the source's, and writes the report.
+/// Does what the command line asks for: `check` judges the functions of the target's module against the
+/// source's and writes the report, `log` checks a proof file.
 ///
 /// The arguments are the command line, the program's name first; `tv_cli` says which job they ask
 /// for. The status is
 ///
-/// - 0 where all rows are correct, 1 where one is incorrect, else 2 where one is unknown, else 3;
+/// - 0 where all rows are correct, 1 where one is incorrect, else 2 where one is unknown, else 3; for
+///   `log` 0 where all parts are verified, else 1;
 /// - 4 where the arguments ask for no job;
-/// - 5 where a file can't be read, 6 where it has more than 16,777,216 bytes, 9 where it is no module,
-///   which is reported with its line and column;
-/// - 7 where the sink fails while the report is written;
+/// - 5 where a file can't be read, 6 where it has more than 16,777,216 bytes, a proof file more than
+///   268,435,456; 9 where it is no module, which is reported with its line and column, or no proof file,
+///   which is reported with the first line that no proof file has there;
+/// - 7 where the sink fails while the report is written, or the proof file can't be written;
 /// - 8 where memory runs out.
 ///
 /// A function that isn't judged is a row of the report, with its reason and position. The first cause
 /// counts, in the order arguments, read of the source, read of the target, source module, target
-/// module, judging, write of the report. The whole report is made before its first byte is written,
-/// and a line of a fault allocates nothing. Each pair passes the gate before it is judged.
+/// module, judging, write of the proof file, write of the report. The whole report is made before its
+/// first byte is written, and the proof file is written before that. A line of a fault allocates
+/// nothing. Each pair passes the gate before it is judged.
+///
+/// With `--proof` the named file holds a part for each correct and each incorrect row, in order, with
+/// the certificate of the row's answer. It may be one of the two files that are judged.
 ///
 /// After status 0 to 3, and 7, `judged` holds the judge's answer for each row with a verdict, in row
-/// order: the trail and the certificate of the verdict. After any other status it is as before.
+/// order: the trail and the certificate of the verdict; for `log` it is empty. After any other status it
+/// is as before.
 pub fn run<R: AllocGlobal + Threads + Sync, S: Shelf, K: Sink, G: Gate>(
     rt: &R,
     arguments: &[String],
@@ -48,79 +63,210 @@ pub fn run<R: AllocGlobal + Threads + Sync, S: Shelf, K: Sink, G: Gate>(
 ) -> u8
     // The report is sound: `correct` means that the target refines the source on every input within
     // the bounds, `incorrect` gives a counterexample, and no pair of functions is left out.
-    ensures sound { result ≤ 3 → WhereKnown (S.state shelf.old).files
-        (λ files. MeansRefinement files (job_in arguments.now) result (K.state out.old) (K.state out.new)) }
+    ensures sound { result ≤ 3 → WhereChecked (S.state shelf.old).files (job_in arguments.now)
+        (λ files c. MeansRefinement files c result (K.state out.old) (K.state out.new)) }
     // It is the report of the two files, each row the defined one, but `unknown conflicts` where the
-    // limit was spent on the row's own answer in `judged`.
-    ensures report { result ≤ 3 → WhereKnown (S.state shelf.old).files
-        (λ files. Written files (job_in arguments.now) result judged.new.items (K.state out.old) (K.state out.new)) }
+    // limit was spent on the row's own answer in `judged`. The proof file that is asked for was put.
+    ensures report { result ≤ 3 → WhereChecked (S.state shelf.old).files (job_in arguments.now)
+        (λ files c. Written files c result judged.new.items (S.state shelf.new).files (K.state out.old) (K.state out.new)) }
+    // A proof file is checked: a part is verified exactly where its log refutes its clauses.
+    ensures logged { result ≤ 3 → WhereLogged (S.state shelf.old).files (job_in arguments.now)
+        (λ files name. LogWritten files name result (K.state out.old) (K.state out.new)) }
+    ensures logged_status { result ≤ 3 → OfLog (job_in arguments.now) (λ name. result ≤ 1) }
     // The arguments ask for no job, and exactly then, unless memory runs out.
     ensures words { result ≡ 4 → job_in arguments.now ≡ None }
     ensures no_job { job_in arguments.now ≡ None → (result ≡ 4) ⊎ (result ≡ 8) }
     ensures words_line { result ≡ 4 → WritesLine (codes "words refused" ++ 10 ∷ []) (K.state out.old) (K.state out.new) }
-    // The sink failed while the report was written, for which it had no room.
-    ensures sink { result ≡ 7 → Rose (K.state out.old).faults (K.state out.new).faults }
-    ensures part { result ≡ 7 → WhereKnown (S.state shelf.old).files
-        (λ files. PartlyWritten files (job_in arguments.now) judged.new.items (K.state out.old) (K.state out.new)) }
-    // Without a report the earlier answers stay.
+    // The sink failed at the report or at the lines of a proof file, or the proof file that is asked for
+    // could not be put: that failure was counted, and its line was written, and nothing of the report.
+    ensures unwritten { result ≡ 7 → IsUnwritten (job_in arguments.now)
+        (S.state shelf.old) (S.state shelf.new) (K.state out.old) (K.state out.new) }
+    ensures part { result ≡ 7 → WhereChecked (S.state shelf.old).files (job_in arguments.now)
+        (λ files c. PartlyWritten files c judged.new.items (S.state shelf.new).files (K.state out.old) (K.state out.new)
+        ⊎ IsNotPut c.proof (S.state shelf.old) (S.state shelf.new) (K.state out.old) (K.state out.new)) }
+    ensures answers { result ≡ 7 → WhereChecked (S.state shelf.old).files (job_in arguments.now)
+        (λ files c. IsJudgedSo files c judged.new.items) }
+    ensures logged_part { result ≡ 7 → WhereLogged (S.state shelf.old).files (job_in arguments.now)
+        (λ files name. LogPartlyWritten files name (K.state out.old) (K.state out.new)) }
+    // Without a report the earlier answers stay, and a proof file that is checked has none.
     ensures unjudged { 3 < result → result ≢ 7 → judged.new.items ≡ judged.old.items }
-    // A file was not judged: 5 it can't be read, 6 it is too long, 9 it is no module.
-    ensures refused { 4 < result → result ≢ 7 → result ≢ 8 → Refuses (job_in arguments.now)
+    ensures none_judged { (result ≤ 3) ⊎ (result ≡ 7) → OfLog (job_in arguments.now) (λ name. judged.new.items ≡ []) }
+    // A file was not judged, or not checked: 5 it can't be read, 6 it is too long, 9 it is no module, or
+    // no proof file.
+    ensures refused { 4 < result → result ≢ 7 → result ≢ 8 → RefusesJob (job_in arguments.now)
         (S.state shelf.old) (S.state shelf.new) (K.state out.old) (K.state out.new) result }
     // Memory ran out, and nothing was written.
     ensures memory { result ≡ 8 → K.state out.new ≡ K.state out.old }
-    // Two files that are modules are judged, unless a read or the write of the report fails, or memory
-    // runs out.
+    // Two files that are modules are judged, and a proof file is checked, unless a read or a write fails,
+    // or memory runs out.
     ensures complete { AreModules (S.state shelf.old).files (job_in arguments.now)
         → (result ≤ 3) ⊎ (result ≡ 5) ⊎ (result ≡ 7) ⊎ (result ≡ 8) }
+    ensures complete_log { AreParts (S.state shelf.old).files (job_in arguments.now)
+        → (result ≤ 1) ⊎ (result ≡ 5) ⊎ (result ≡ 7) ⊎ (result ≡ 8) }
     // No other failure is counted.
     ensures quiet_shelf { result ≢ 5 → (S.state shelf.new).fetch_faults ≡ (S.state shelf.old).fetch_faults }
+    ensures quiet_puts { result ≢ 7 → (S.state shelf.new).put_faults ≡ (S.state shelf.old).put_faults }
     ensures quiet_sink { result ≤ 3 → (K.state out.new).faults ≡ (K.state out.old).faults }
-    // No other status comes, and no file changes.
+    // No other status comes. No file changes but the one that `--proof` names, and none where there is no
+    // report.
     ensures known { result ≤ 9 }
-    ensures same { (S.state shelf.new).files ≡ (S.state shelf.old).files }
+    ensures files { FileChanges (job_in arguments.now) (S.state shelf.old).files (S.state shelf.new).files }
+    ensures same { 3 < result → result ≢ 7 → SameFiles (S.state shelf.old).files (S.state shelf.new).files }
+{
+    match read_job(rt.alloc(), arguments) {
+        Ok(Some(Job::Check(check))) => run_check(rt, &check, shelf, out, gate, judged),
+        Ok(Some(Job::Log { file })) => run_log(rt, file, shelf, out, judged),
+        Ok(None) => refuse_words(out),
+        Err(NoMemory) => 8,
+    }
+}
+
+/// Judges the functions of two files, and puts and writes what they give.
+fn run_check<R: AllocGlobal + Threads + Sync, S: Shelf, K: Sink, G: Gate>(
+    rt: &R,
+    check: &Check<'_>,
+    shelf: &mut S,
+    out: &mut K,
+    gate: &G,
+    judged: &mut Vec<Judged>,
+) -> u8
+    requires in_range { AreInRange check.now.bounds check.now.budget }
+    requires workers { (1 ≤ check.now.workers) × (check.now.workers ≤ 64) }
+    ensures sound { result ≤ 3 → WhereKnown (S.state shelf.old).files
+        (λ files. MeansRefinement files (seen_check check.now) result (K.state out.old) (K.state out.new)) }
+    ensures report { result ≤ 3 → WhereKnown (S.state shelf.old).files
+        (λ files. Written files (seen_check check.now) result judged.new.items (S.state shelf.new).files (K.state out.old) (K.state out.new)) }
+    ensures unwritten { result ≡ 7 → Rose (K.state out.old).faults (K.state out.new).faults
+        ⊎ IsNotPut (seen_check check.now).proof (S.state shelf.old) (S.state shelf.new) (K.state out.old) (K.state out.new) }
+    ensures part { result ≡ 7 → WhereKnown (S.state shelf.old).files
+        (λ files. PartlyWritten files (seen_check check.now) judged.new.items (S.state shelf.new).files (K.state out.old) (K.state out.new)
+        ⊎ IsNotPut (seen_check check.now).proof (S.state shelf.old) (S.state shelf.new) (K.state out.old) (K.state out.new)) }
+    ensures answers { result ≡ 7 → WhereKnown (S.state shelf.old).files (λ files. IsJudgedSo files (seen_check check.now) judged.new.items) }
+    ensures unjudged { 3 < result → result ≢ 7 → judged.new.items ≡ judged.old.items }
+    ensures refused { 4 < result → result ≢ 7 → result ≢ 8 → Refuses (seen_check check.now)
+        (S.state shelf.old) (S.state shelf.new) (K.state out.old) (K.state out.new) result }
+    ensures memory { result ≡ 8 → K.state out.new ≡ K.state out.old }
+    ensures complete { AreModules (S.state shelf.old).files (Some (check_job (seen_check check.now)))
+        → (result ≤ 3) ⊎ (result ≡ 5) ⊎ (result ≡ 7) ⊎ (result ≡ 8) }
+    ensures quiet_shelf { result ≢ 5 → (S.state shelf.new).fetch_faults ≡ (S.state shelf.old).fetch_faults }
+    ensures quiet_puts { result ≢ 7 → (S.state shelf.new).put_faults ≡ (S.state shelf.old).put_faults }
+    ensures quiet_sink { result ≤ 3 → (K.state out.new).faults ≡ (K.state out.old).faults }
+    ensures known { (result ≤ 9) × (result ≢ 4) }
+    ensures files { ProofChanges (seen_check check.now).proof (S.state shelf.old).files (S.state shelf.new).files }
+    ensures same { 3 < result → result ≢ 7 → SameFiles (S.state shelf.old).files (S.state shelf.new).files }
 {
     // The laws that `sound` and `complete` rest on; they do nothing.
     reports_are_sound();
     modules_have_no_fault();
-    let job = match read_job(rt.alloc(), arguments) {
-        Ok(Some(job)) => job,
-        Ok(None) => {
-            let _ = write_line(out, b"words refused", b"");
-            return 4;
-        }
-        Err(NoMemory) => return 8,
-    };
-    match report_of(rt, rt.alloc(), shelf, gate, &job) {
+    match report_of(rt, rt.alloc(), shelf, gate, check) {
         Ok(report) => {
-            let status = send(out, &report);
+            let Ok(status) = deliver(rt.alloc(), shelf, out, check.proof, &report) else {
+                return 8;
+            };
             *judged = report.answers;
             status
         }
-        Err(stop) => refuse(out, stop, &job),
+        Err(stop) => refuse(out, stop, check),
     }
 }
 
-/// Writes a report, and answers its status, or 7 where the sink failed.
-fn send<K: Sink>(out: &mut K, report: &Report) -> u8
-    ensures either { ((result ≡ report.now.status) × IsWritten report.now.text.items (K.state out.old) (K.state out.new))
-        ⊎ ((result ≡ 7) × IsCutOff report.now.text.items (K.state out.old) (K.state out.new)) }
+/// Puts the proof file, if one is asked for, and writes the report. Answers the report's status, or 7
+/// where a write failed. The one error is out of memory, before anything is written.
+fn deliver<S: Shelf, K: Sink>(
+    alloc: Global,
+    shelf: &mut S,
+    out: &mut K,
+    asked: Option<&str>,
+    report: &Report,
+) -> Result<u8, NoMemory>
+    ensures delivered { IfOk result (λ status. IsDelivered (option_map (λ name. name.now) asked.entry) report.now.proof report.now.text.items report.now.status status
+        (S.state shelf.old) (S.state shelf.new) (K.state out.old) (K.state out.new)) }
+    ensures memory { OnErr result (K.state out.new ≡ K.state out.old) }
+    ensures unput { OnErr result ((S.state shelf.new).put_faults ≡ (S.state shelf.old).put_faults) }
+    ensures same { OnErr result (SameFiles (S.state shelf.old).files (S.state shelf.new).files) }
+    ensures files { ProofChanges (option_map (λ name. name.now) asked.entry) (S.state shelf.old).files (S.state shelf.new).files }
+    ensures fetch_faults { (S.state shelf.new).fetch_faults ≡ (S.state shelf.old).fetch_faults }
     ensures known { report.now.status ≤ 3 }
 {
-    match write_whole(out, report.text.as_slice()) {
-        Ok(()) => report.status,
+    let Some(name) = asked else {
+        return Ok(send(out, report.text.as_slice(), report.status));
+    };
+    let Some(proof) = &report.proof else {
+        return Ok(send(out, report.text.as_slice(), report.status));
+    };
+    match shelf.put(alloc, name, proof.as_slice()) {
+        Ok(()) => Ok(send(out, report.text.as_slice(), report.status)),
+        Err(PutFault::Failed) => {
+            let _ = write_line(out, b"cannot write ", name.as_bytes());
+            Ok(7)
+        }
+        Err(PutFault::NoMemory) => Err(NoMemory),
+    }
+}
+
+/// Checks a proof file, and writes what is found.
+fn run_log<R: AllocGlobal + Threads + Sync, S: Shelf, K: Sink>(
+    rt: &R,
+    name: &str,
+    shelf: &mut S,
+    out: &mut K,
+    judged: &mut Vec<Judged>,
+) -> u8
+    ensures logged { result ≤ 3 → WhereKnown (S.state shelf.old).files
+        (λ files. LogWritten files name.now result (K.state out.old) (K.state out.new)) }
+    ensures logged_part { result ≡ 7 → WhereKnown (S.state shelf.old).files
+        (λ files. LogPartlyWritten files name.now (K.state out.old) (K.state out.new)) }
+    ensures unwritten { result ≡ 7 → Rose (K.state out.old).faults (K.state out.new).faults }
+    ensures unjudged { 3 < result → result ≢ 7 → judged.new.items ≡ judged.old.items }
+    ensures none_judged { (result ≤ 3) ⊎ (result ≡ 7) → judged.new.items ≡ [] }
+    ensures refused { 4 < result → result ≢ 7 → result ≢ 8 → RefusesLog name.now
+        (S.state shelf.old) (S.state shelf.new) (K.state out.old) (K.state out.new) result }
+    ensures memory { result ≡ 8 → K.state out.new ≡ K.state out.old }
+    ensures complete { AreParts (S.state shelf.old).files (Some (log_job name.now))
+        → (result ≤ 1) ⊎ (result ≡ 5) ⊎ (result ≡ 7) ⊎ (result ≡ 8) }
+    ensures quiet_shelf { result ≢ 5 → (S.state shelf.new).fetch_faults ≡ (S.state shelf.old).fetch_faults }
+    ensures quiet_puts { (S.state shelf.new).put_faults ≡ (S.state shelf.old).put_faults }
+    ensures quiet_sink { result ≤ 3 → (K.state out.new).faults ≡ (K.state out.old).faults }
+    ensures known { (result ≤ 1) ⊎ ((4 < result) × (result ≤ 9)) }
+    ensures same { (S.state shelf.new).files ≡ (S.state shelf.old).files }
+{
+    match check_file(rt, rt.alloc(), shelf, name) {
+        Ok(checked) => {
+            judged.clear();
+            send(out, checked.text.as_slice(), checked.status)
+        }
+        Err(LogStop::Trouble(trouble)) => refuse_log(out, name, trouble),
+        Err(LogStop::NoMemory) => 8,
+    }
+}
+
+/// Writes a text, and answers the status, or 7 where the sink failed.
+fn send<K: Sink>(out: &mut K, text: &[u8], status: u8) -> u8
+    ensures { IsSent status result text.now (K.state out.old) (K.state out.new) }
+{
+    match write_whole(out, text) {
+        Ok(()) => status,
         Err(_) => 7,
     }
 }
 
+/// Writes the line of a command line that is rejected, and answers its status.
+fn refuse_words<K: Sink>(out: &mut K) -> u8
+    ensures status { result ≡ 4 }
+    ensures line { WritesLine (codes "words refused" ++ 10 ∷ []) (K.state out.old) (K.state out.new) }
+{
+    let _ = write_line(out, b"words refused", b"");
+    4
+}
+
 /// Writes the line of a stop, and answers its status.
-fn refuse<K: Sink>(out: &mut K, stop: Stop, job: &Job<'_>) -> u8
+fn refuse<K: Sink>(out: &mut K, stop: Stop, check: &Check<'_>) -> u8
     ensures status { result ≡ stop_status stop }
-    ensures line { Says (seen job.now) stop (K.state out.old) (K.state out.new) }
+    ensures line { Says (seen_check check.now) stop (K.state out.old) (K.state out.new) }
 {
     match stop {
-        Stop::Source(trouble) => refuse_file(out, job.source, trouble),
-        Stop::Target(trouble) => refuse_file(out, job.target, trouble),
+        Stop::Source(trouble) => refuse_file(out, check.source, trouble),
+        Stop::Target(trouble) => refuse_file(out, check.target, trouble),
         Stop::NoMemory => 8,
     }
 }
@@ -145,6 +291,27 @@ fn refuse_file<K: Sink>(out: &mut K, name: &str, trouble: Trouble) -> u8
         }
         Trouble::Item { why, place } => {
             let _ = write_fault(out, name, place, why_words(why));
+            9
+        }
+    }
+}
+
+/// Writes the line of a proof file that is not checked, and answers its status.
+fn refuse_log<K: Sink>(out: &mut K, name: &str, trouble: LogTrouble) -> u8
+    ensures status { result ≡ log_trouble_status trouble }
+    ensures line { WritesLine (log_trouble_line name.now trouble) (K.state out.old) (K.state out.new) }
+{
+    match trouble {
+        LogTrouble::CannotRead => {
+            let _ = write_line(out, b"cannot read ", name.as_bytes());
+            5
+        }
+        LogTrouble::TooLong => {
+            let _ = write_line(out, b"too long ", name.as_bytes());
+            6
+        }
+        LogTrouble::Line(line) => {
+            let _ = write_line_fault(out, name, line, b"proof text");
             9
         }
     }

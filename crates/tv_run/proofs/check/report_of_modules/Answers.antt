@@ -1,18 +1,40 @@
-use Rattle.std.proofs.Common.{ap, sym, ◌∙◌}
+use Rattle.std.proofs.Common.{All, List, ap, subst, sym, ◌∙◌}
+use Rattle.pair_driver.specs.declared.judged.Judged.{Judged}
+use Rattle.report.specs.declared.row.Row.{Row}
 use Rattle.report.specs.Text.{report_text}
 use Rattle.report.specs.Status.{status_of}
+use Rattle.proof_files.specs.Parts.{IsCertified, IsReadName, parts_of}
+use Rattle.tv_cli.specs.Seen.{seen_check}
+use Rattle.tv_run.specs.Answers.{IsProofAsked}
 use Rattle.tv_run.specs.Reports.{may_answer}
 use Rattle.tv_run.proofs.Answered.{verdicts_with_extra}
+use Rattle.tv_run.proofs.Certified.{rows_certified, rows_named}
 use Rattle.tv_run.proofs.OwnAnswers.{rows_have_answers}
 use Rattle.tv_run.proofs.check.report_of_modules.Goals as goal
 
+pub proof_asked-requires-clause-names : goal.proof_asked-requires-clause-names
+proof_asked-requires-clause-names g c =
+    subst (λ (rows : List Row). All (λ (row : Row). IsReadName row.name) rows) (sym c.as_slice.ensures.value)
+    (rows_named (may_answer c.args.check.now.bounds c.args.check.now.budget) _ c.args.source.now c.args.target.now _ c.in_ok-rows.ensures.rows c.requires.source_is.named c.requires.target_is.named)
+
+pub proof_asked-requires-clause-certified : goal.proof_asked-requires-clause-certified
+proof_asked-requires-clause-certified g c =
+    subst (λ (rows : List Row). All IsCertified (parts_of rows c.as_slice-2.result.now)) (sym c.as_slice.ensures.value)
+    (subst (λ (answers : List Judged). All IsCertified (parts_of c.in_ok-rows.field-0.rows.items answers)) (sym c.as_slice-2.ensures.value)
+    (rows_certified c.args.check.now.bounds c.args.check.now.budget _ c.in_ok-rows.field-0.rows.items c.in_ok-rows.field-0.answers.items c.in_ok-rows.ensures.answered c.in_ok-rows.ensures.reported))
+
 pub returns : goal.returns
 returns g c = record {
-  rows = c.in_ok-rows.field-0.rows.items;
-  are_rows = c.in_ok-rows.ensures.rows;
-  answered =
-      rows_have_answers (may_answer c.args.judge.now.bounds c.args.judge.now.budget) _ _ _ _ _ _ c.in_ok-rows.ensures.rows.each c.in_ok-rows.ensures.answered
-      (sym (verdicts_with_extra c.args.source.now.entries c.args.target.now.entries c.in_ok-rows.ensures.rows.judged c.in_ok-rows.field-0.rows.items c.in_ok-rows.ensures.rows.all) ∙ c.in_ok-rows.ensures.reported);
-  text_is = c.in_ok-text.ensures ∙ ap (report_text c.args.judge.now.bounds c.args.judge.now.budget) c.as_slice-2.ensures.value;
-  status_is = c.status_of-status.ensures.value ∙ ap status_of c.as_slice.ensures.value;
+  report = record {
+    rows = c.in_ok-rows.field-0.rows.items;
+    are_rows = c.in_ok-rows.ensures.rows;
+    answered =
+        rows_have_answers (may_answer c.args.check.now.bounds c.args.check.now.budget) _ _ _ _ _ _ c.in_ok-rows.ensures.rows.each c.in_ok-rows.ensures.answered
+        (sym (verdicts_with_extra c.args.source.now.entries c.args.target.now.entries c.in_ok-rows.ensures.rows.judged c.in_ok-rows.field-0.rows.items c.in_ok-rows.ensures.rows.all) ∙ c.in_ok-rows.ensures.reported);
+    text_is = c.in_ok-text.ensures ∙ ap (report_text c.args.check.now.bounds c.args.check.now.budget) c.as_slice-4.ensures.value;
+    status_is = c.status_of-status.ensures.value ∙ ap status_of c.as_slice-3.ensures.value;
+  };
+  asked =
+      subst (λ (rows : List Row). IsProofAsked (seen_check c.args.check.now).proof rows c.in_ok-rows.field-0.answers.items c.in_ok-proof.proof) c.as_slice.ensures.value
+      (subst (λ (answers : List Judged). IsProofAsked (seen_check c.args.check.now).proof c.as_slice.result.now answers c.in_ok-proof.proof) c.as_slice-2.ensures.value c.in_ok-proof.ensures);
 }

@@ -1,14 +1,14 @@
 use Rattle.std.proofs.Common.{◌-◌, Some, refl, ap, vec_len}
 use Rattle.tv_io.specs.MemoryShelf.{files_of, memory_state}
 use Rattle.tv_io.specs.State.{ShelfState, SinkState}
-use Rattle.tv_run.specs.Reports.{job_in}
+use Rattle.tv_run.specs.Jobs.{job_in}
 use Rattle.tv_run.proofs.InMemory.{complete, sound}
 use Rattle.tv_run.proofs.in_memory.run_in_memory.Goals as goal
 
 pub returns-clause-sound : goal.returns-clause-sound
-returns-clause-sound g c = λ within.
-    sound (files_of c.args.files) (job_in c.args.arguments.now) c.run-status.result _ _ c.run-status.new.out.bytes.items (ap Some c.in_ok-out.ensures.0) refl
-    (c.run-status.ensures.sound within (files_of c.args.files) (ap (λ (s : ShelfState). s.files) c.new-shelf.ensures))
+returns-clause-sound g c = λ within check is.
+    sound (files_of c.args.files) check c.run-status.result _ _ c.run-status.new.out.bytes.items (ap Some c.in_ok-out.ensures.0) refl
+    (c.run-status.ensures.sound within (files_of c.args.files) check (ap (λ (s : ShelfState). s.files) c.new-shelf.ensures) is)
 
 pub returns-clause-complete : goal.returns-clause-complete
 returns-clause-complete g c =

@@ -1,0 +1,3 @@
+pub mod Parts
+pub mod Checks
+pub mod Laws

@@ -1,0 +1,15 @@
+//! What a run does with proof files: the text of the certificates of a report, and the check of one.
+//!
+//! It promises that [`proof_of`] writes a part for each correct and each incorrect row, in order, with the
+//! certificate of the row's own answer, and that [`check_parts`] says `verified` of a part exactly where
+//! its log refutes its clauses, and else names the first bad step. It uses `proof_text` for the format
+//! and `clause_log` for the check; `tv_run` uses it for `--proof` and `log`.
+#![tactic(auto)]
+
+mod checking;
+mod laws;
+mod writing;
+
+pub use checking::{Checked, check_parts};
+pub use laws::{proofs_are_verified, refuted_has_no_bad_step};
+pub use writing::proof_of;

@@ -1,0 +1,28 @@
+-- What a check of a proof file writes.
+use Rattle.std.specs.Prelude.{ℕ, List}
+use Rattle.tv_io.specs.Files.{Files}
+use Rattle.tv_io.specs.State.{SinkState}
+use Rattle.tv_io.specs.Taken.{IsWritten, IsCutOff}
+use Rattle.proof_text.specs.declared.part.Part.{Part}
+use Rattle.proof_files.specs.Checks.{AreChecked}
+use Rattle.tv_cli.specs.Words.{Text}
+use Rattle.tv_run.specs.Files.{HasParts}
+
+-- these lines say which parts of the proof file of this name are verified, and which step of each other is bad
+pub record SaysVerified (files : Files) (name : Text) (text : List ℕ) (status : ℕ) : Type 0 where
+  pub parts : List Part
+  pub parts_are : HasParts (files name) parts
+  pub checked : AreChecked parts text status
+
+-- the sink took those lines, and nothing else
+pub record LogWritten (files : Files) (name : Text) (status : ℕ) (old new : SinkState) : Type 0 where
+  pub text : List ℕ
+  pub says : SaysVerified files name text status
+  pub written : IsWritten text old new
+
+-- the sink had no room for them, and took a prefix
+pub record LogPartlyWritten (files : Files) (name : Text) (old new : SinkState) : Type 0 where
+  pub text : List ℕ
+  pub status : ℕ
+  pub says : SaysVerified files name text status
+  pub cut_off : IsCutOff text old new
