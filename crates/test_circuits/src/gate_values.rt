@@ -14,15 +14,15 @@ fn plain_value_at(values: &[bool], index: usize) -> bool {
     values.get(index).copied().unwrap_or(false)
 }
 
-/// The values of all gates where the inputs, in order, are the bits of a number, least significant
-/// bit first.
+/// The values of all gates where the inputs, in order, are the bits of a number of 6 bits, most
+/// significant bit first.
 pub fn values_of(alloc: Global, circuit: &Circuit, code: u32) -> Result<Vec<bool>, NoMemory> {
     let mut values = Vec::new(alloc);
     let mut left = code;
     for gate in circuit.as_slice() {
         let value = match *gate {
             Gate::Zero => false,
-            Gate::Input(_) => left & 1 == 1,
+            Gate::Input(_) => left & 32 == 32,
             Gate::And { a, b } => value_at(&values, a) && value_at(&values, b),
             Gate::Xor { a, b } => plain_value_at(&values, a) != plain_value_at(&values, b),
             Gate::Choose {
@@ -38,7 +38,7 @@ pub fn values_of(alloc: Global, circuit: &Circuit, code: u32) -> Result<Vec<bool
             }
         };
         if matches!(gate, Gate::Input(_)) {
-            left >>= 1;
+            left <<= 1;
         }
         values.push(value)?;
     }

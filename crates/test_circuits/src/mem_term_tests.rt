@@ -10,27 +10,14 @@ use std::alloc::Global;
 use std::test::Fail;
 use support::NoMemory;
 
-/// A choice between a value and itself makes no term.
+/// A choice by a known condition is one of the values.
 #[test]
-fn one_value_is_its_own_choice(rt: HostRuntime) -> Result<(), Fail> {
+fn a_known_choice_makes_no_term(rt: HostRuntime) -> Result<(), Fail> {
     let mut terms = Terms::new(rt.alloc());
-    let condition = terms.variable(0, 1)?;
+    let always = truth(&mut terms, true)?;
     let seven = number_value(&mut terms, 7)?;
-    let count = terms.as_slice().len();
-    assert!(rt; pick_value(&mut terms, condition, seven, seven)? == seven);
-    assert_eq!(rt; terms.as_slice().len(), count);
-    Ok(())
-}
-
-/// A choice between two values is neither.
-#[test]
-fn two_values_make_a_choice(rt: HostRuntime) -> Result<(), Fail> {
-    let mut terms = Terms::new(rt.alloc());
-    let condition = terms.variable(0, 1)?;
     let poison = poison_value(&mut terms)?;
-    let seven = number_value(&mut terms, 7)?;
-    let choice = pick_value(&mut terms, condition, seven, poison)?;
-    assert!(rt; choice != seven && choice != poison);
+    assert!(rt; pick_value(&mut terms, always, seven, poison)? == seven);
     Ok(())
 }
 
@@ -64,19 +51,20 @@ fn truth_of(alloc: Global, op: Truth, a: bool, b: bool) -> Result<Option<u128>, 
     value_of(alloc, &terms, id)
 }
 
-/// For each function its values at false and false, false and true, true and false, true and true.
+/// For each function the bits of its values at true and true, true and false, false and true, false
+/// and false, most significant bit first.
 #[test]
 fn truths_of_two(rt: HostRuntime) -> Result<(), Fail> {
     let rows = [
-        (Truth::Negation, [1, 1, 0, 0]),
-        (Truth::Both, [0, 0, 0, 1]),
-        (Truth::Either, [0, 1, 1, 1]),
-        (Truth::Implies, [1, 1, 0, 1]),
+        (Truth::Negation, 0b0011),
+        (Truth::Both, 0b1000),
+        (Truth::Either, 0b1110),
+        (Truth::Implies, 0b1011),
     ];
     for (op, wants) in rows {
-        for (case, want) in wants.into_iter().enumerate() {
+        for case in 0..4u32 {
             let found = truth_of(rt.alloc(), op, case & 2 == 2, case & 1 == 1)?;
-            assert_eq!(rt; found, Some(want), "case {case}");
+            assert_eq!(rt; found, Some(wants >> case & 1), "case {case}");
         }
     }
     Ok(())

@@ -3,60 +3,18 @@
 ghost use Rattle.std.specs.Prelude.{◌≡◌, [], IfOk};
 ghost use Rattle.bv_terms.specs.Trees.{Keeps};
 ghost use Rattle.mem_terms.specs.Outcomes.{IsOutcome};
-ghost use Rattle.mem_terms.specs.Values.{IsSymValue};
 
 use crate::term_values::value_of;
 use bv_terms::{TermId, Terms};
+use byte_block::Value;
 use ir_tree::{IrType, Parameter};
-use mem_terms::{
-    ArgTerms, InputTerms, OutcomeTerms, SymValue, TapeTerms, number, number_value, poison_value,
-    truth,
-};
-use points::Shape;
+use mem_terms::{ArgTerms, InputTerms, OutcomeTerms, TapeTerms, number, truth};
+use points::{Outcome, Shape, refines};
 use refine_terms::{covered, well_point};
 use std::alloc::Global;
 use std::test::Fail;
 use support::{NoMemory, Sequence};
 use tv_num::Width;
-
-/// How a run ends under every assignment.
-#[derive(Clone, Copy, Debug)]
-enum End {
-    Undefined,
-    Beyond,
-    Poison,
-    Number(u64),
-}
-
-/// What a run that ends so returns, if it returns.
-fn returned(terms: &mut Terms, end: End) -> Result<SymValue, NoMemory>
-    ensures made { IfOk result (IsSymValue terms.new) }
-    ensures kept { Keeps terms.old terms.new }
-{
-    match end {
-        End::Number(n) => number_value(terms, n),
-        End::Undefined | End::Beyond | End::Poison => poison_value(terms),
-    }
-}
-
-/// An outcome that is this end, on a tape that is plain or isn't.
-fn outcome(terms: &mut Terms, end: End, is_plain: bool) -> Result<OutcomeTerms, NoMemory>
-    ensures made { IfOk result (IsOutcome terms.new) }
-    ensures kept { Keeps terms.old terms.new }
-{
-    let ub = truth(terms, matches!(end, End::Undefined))?;
-    let beyond = truth(terms, matches!(end, End::Beyond))?;
-    let read = number(terms, 0)?;
-    let plain = truth(terms, is_plain)?;
-    let value = returned(terms, end)?;
-    Ok(OutcomeTerms {
-        ub,
-        beyond,
-        value: Some(value),
-        read,
-        plain,
-    })
-}
 
 fn nothing<T>(alloc: Global) -> Sequence<T>
     ensures { result ≡ [] }
@@ -64,42 +22,60 @@ fn nothing<T>(alloc: Global) -> Sequence<T>
     Sequence::from_vec(Vec::new(alloc))
 }
 
+/// Undefined behaviour, a run past the bounds, poison, 3 and 4, by their places.
+fn end(alloc: Global, place: usize) -> Outcome {
+    match place {
+        0 => Outcome::Ub,
+        1 => Outcome::Beyond,
+        2 => Outcome::Return(Some(Value::Poison), nothing(alloc)),
+        3 => Outcome::Return(Some(Value::Num(3)), nothing(alloc)),
+        _ => Outcome::Return(Some(Value::Num(4)), nothing(alloc)),
+    }
+}
+
+/// A row for each end of the source, and in it 1 for each end of the target that it allows.
+const ALLOWS: [&str; 5] = ["11111", "11111", "01111", "01010", "01001"];
+
+#[test]
+fn ends_allow_what_alive2_says(rt: HostRuntime) -> Result<(), Fail> {
+    for (source, row) in ALLOWS.into_iter().enumerate() {
+        for (target, want) in row.as_bytes().iter().enumerate() {
+            let found = refines(&end(rt.alloc(), source), &end(rt.alloc(), target));
+            assert_eq!(rt; found, *want == b'1', "{source} and {target}");
+        }
+    }
+    Ok(())
+}
+
+/// The outcome of a run that returns nothing and reads nothing, on a tape that is plain or isn't.
+fn outcome(terms: &mut Terms, is_plain: bool) -> Result<OutcomeTerms, NoMemory>
+    ensures made { IfOk result (IsOutcome terms.new) }
+    ensures kept { Keeps terms.old terms.new }
+{
+    let never = truth(terms, false)?;
+    let read = number(terms, 0)?;
+    let plain = truth(terms, is_plain)?;
+    Ok(OutcomeTerms {
+        ub: never,
+        beyond: never,
+        value: None,
+        read,
+        plain,
+    })
+}
+
 /// Whether a term without a variable is true.
 fn is_true(alloc: Global, terms: &Terms, id: TermId) -> Result<bool, NoMemory> {
     Ok(value_of(alloc, terms, id)? == Some(1))
 }
 
-fn is_covered(alloc: Global, source: End, target: End) -> Result<bool, NoMemory> {
-    let mut terms = Terms::new(alloc);
-    let source = outcome(&mut terms, source, true)?;
-    let target = outcome(&mut terms, target, true)?;
-    let id = covered(&source, &target, &mut terms)?;
-    is_true(alloc, &terms, id)
-}
-
-/// A row for each end of the source, and in it one answer for each end of the target.
+/// An outcome allows itself.
 #[test]
-fn ends_allow_what_alive2_says(rt: HostRuntime) -> Result<(), Fail> {
-    let ends = [
-        End::Undefined,
-        End::Beyond,
-        End::Poison,
-        End::Number(3),
-        End::Number(4),
-    ];
-    let rows = [
-        [true, true, true, true, true],
-        [true, true, true, true, true],
-        [false, true, true, true, true],
-        [false, true, false, true, false],
-        [false, true, false, false, true],
-    ];
-    for (source, row) in ends.into_iter().zip(rows) {
-        for (target, want) in ends.into_iter().zip(row) {
-            let found = is_covered(rt.alloc(), source, target)?;
-            assert_eq!(rt; found, want, "{source:?} and {target:?}");
-        }
-    }
+fn an_outcome_is_covered_by_itself(rt: HostRuntime) -> Result<(), Fail> {
+    let mut terms = Terms::new(rt.alloc());
+    let end = outcome(&mut terms, true)?;
+    let id = covered(&end, &end, &mut terms)?;
+    assert!(rt; is_true(rt.alloc(), &terms, id)?);
     Ok(())
 }
 
@@ -107,7 +83,7 @@ fn ends_allow_what_alive2_says(rt: HostRuntime) -> Result<(), Fail> {
 /// isn't.
 fn is_point(alloc: Global, flag: bool, byte: u8, is_plain: bool) -> Result<bool, NoMemory> {
     let mut terms = Terms::new(alloc);
-    let outcome = outcome(&mut terms, End::Poison, is_plain)?;
+    let outcome = outcome(&mut terms, is_plain)?;
     let flag = truth(&mut terms, flag)?;
     let number = terms.constant(u128::from(byte), 8)?;
     let parameter = Parameter {

@@ -1,21 +1,166 @@
-use crate::made_terms::Step::{Apply, Byte, Wide};
-use crate::made_terms::{Op, terms_of};
+use crate::gate_values::{number, values_of};
+use crate::written_terms::written;
+use bit_blast::Blast;
+use bv_terms::{Terms, fold};
+use gates::GateId;
+use std::alloc::Global;
 use std::test::Fail;
+use support::{NoMemory, Sequence};
+use term_folds::{Assigned, Evaluate};
 
-/// Equal terms are stored once, and others are not: of x, y, x + y, x - y, x, x + y and an x of 16
-/// bits the fifth and the sixth are no new ones.
+/// A number for a variable of 3 bits.
+fn assigned(number: u64, value: u128) -> Assigned {
+    Assigned {
+        number,
+        width: 3,
+        value,
+    }
+}
+
+/// The value of the term that a text writes where the variables have these values.
+fn value_of(alloc: Global, text: &str, x: u128, y: u128) -> Result<Option<u128>, NoMemory> {
+    let mut terms = Terms::new(alloc);
+    let id = written(alloc, &mut terms, text)?;
+    let values = Vec::from_array(alloc, [assigned(0, x), assigned(1, y)])?;
+    let mut evaluate = Evaluate {
+        values: Sequence::from_vec(values),
+    };
+    match fold(alloc, &terms, &mut evaluate) {
+        Ok(found) => Ok(found.get(id.index).copied()),
+        Err(_) => Err(NoMemory),
+    }
+}
+
+/// The number that bits write where the inputs of the circuit, in order, are the bits of a word of 6
+/// bits.
+fn number_at(
+    alloc: Global,
+    blast: &Blast,
+    bits: &Sequence<GateId>,
+    word: u32,
+) -> Result<u128, NoMemory> {
+    let values = values_of(alloc, blast.circuit(), word)?;
+    Ok(u128::from(number(&values, bits.as_slice())))
+}
+
+/// The number that the bits of the term write where the inputs are those of a word.
+fn bits_of(alloc: Global, text: &str, word: u32) -> Result<Option<u128>, NoMemory> {
+    let mut terms = Terms::new(alloc);
+    let id = written(alloc, &mut terms, text)?;
+    let mut blast = Blast::new(alloc);
+    match fold(alloc, &terms, &mut blast) {
+        Ok(all) => match all.get(id.index) {
+            Some(bits) => Ok(Some(number_at(alloc, &blast, bits, word)?)),
+            None => Ok(None),
+        },
+        Err(_) => Err(NoMemory),
+    }
+}
+
+/// The values of x and y in the columns of the table, and both as one word.
+const COLUMNS: [(u128, u128, u32); 4] = [(6, 3, 51), (5, 1, 41), (2, 0, 16), (1, 2, 10)];
+
+/// Whether the term of a text has these values, one a column, as a number and as bits.
+fn has_values(alloc: Global, text: &str, values: &[u128]) -> Result<bool, NoMemory> {
+    for ((x, y, word), want) in COLUMNS.into_iter().zip(values.iter()) {
+        let value = value_of(alloc, text, x, y)?;
+        let bits = bits_of(alloc, text, word)?;
+        if value != Some(*want) || bits != Some(*want) {
+            return Ok(false);
+        }
+    }
+    Ok(true)
+}
+
+/// Terms over x and y, and their values where x and y are 6 and 3, 5 and 1, 2 and 0, and 1 and 2.
+const VALUES: [(&str, u128, u128, u128, u128); 20] = [
+    ("x~", 1, 2, 5, 6),
+    ("xp", 3, 2, 1, 0),
+    ("xz", 6, 5, 2, 1),
+    ("xs", 62, 61, 2, 1),
+    ("xy:", 51, 41, 16, 10),
+    ("xy<xy?", 3, 1, 0, 1),
+    ("xy&", 2, 1, 0, 0),
+    ("xy|", 7, 5, 2, 3),
+    ("xy^", 5, 4, 2, 3),
+    ("xy+", 1, 6, 2, 3),
+    ("xy-", 3, 4, 2, 7),
+    ("xy*", 2, 5, 0, 2),
+    ("xy/", 2, 5, 7, 0),
+    ("xy%", 0, 0, 2, 1),
+    ("xyl", 0, 2, 2, 4),
+    ("xyr", 0, 2, 2, 0),
+    ("xya", 7, 6, 2, 0),
+    ("xy=", 0, 0, 0, 0),
+    ("xy<", 0, 0, 0, 1),
+    ("xyi", 1, 1, 0, 1),
+];
+
 #[test]
-fn equal_terms_are_one(rt: HostRuntime) -> Result<(), Fail> {
-    let sum = Apply(Op::Add, 0, 1);
-    let difference = Apply(Op::Sub, 0, 1);
-    let steps = [Byte(0), Byte(1), sum, difference, Byte(0), sum, Wide(0)];
-    for (count, want) in [1, 2, 3, 4, 4, 4, 5].into_iter().enumerate() {
-        let made = steps.get(..count + 1).unwrap_or(&[]);
-        assert_eq!(rt;
-            terms_of(rt.alloc(), made)?.as_slice().len(),
-            want,
-            "{count}"
-        );
+fn terms_have_values(rt: HostRuntime) -> Result<(), Fail> {
+    for (text, first, second, third, fourth) in VALUES {
+        let values = [first, second, third, fourth];
+        assert!(rt; has_values(rt.alloc(), text, &values)?, "{text}");
+    }
+    Ok(())
+}
+
+/// A text and another one that writes the same term: what is plainly one of the operands, or a
+/// number, is it, operands that change places are one term, and operations on numbers are computed.
+const SAME: [(&str, &str); 40] = [
+    ("xx&", "x"),
+    ("xx|", "x"),
+    ("x0+", "x"),
+    ("x0-", "x"),
+    ("x0^", "x"),
+    ("x7&", "x"),
+    ("0x|", "x"),
+    ("xx^", "0"),
+    ("xx-", "0"),
+    ("x0&", "0"),
+    ("x~x&", "0"),
+    ("xx~|", "7"),
+    ("x~~", "x"),
+    ("1x*", "x"),
+    ("x1/", "x"),
+    ("xx%", "0"),
+    ("x7l", "0"),
+    ("xy<xx?", "x"),
+    ("xy+y-", "x"),
+    ("xy-y+", "x"),
+    ("xxy|&", "x"),
+    ("xy&y|", "y"),
+    ("xy^x^", "y"),
+    ("xy&", "yx&"),
+    ("xy|", "yx|"),
+    ("xy^", "yx^"),
+    ("xy+", "yx+"),
+    ("xy*", "yx*"),
+    ("xy=", "yx="),
+    ("xx=", "00="),
+    ("xx~=", "00<"),
+    ("xx<", "00<"),
+    ("x2*", "x1l"),
+    ("x~xy|&", "x~y&"),
+    ("x~xy&|", "x~y|"),
+    ("xy<77=00<?", "xy<"),
+    ("32+", "5"),
+    ("3~", "4"),
+    ("12l", "4"),
+    ("72/", "3"),
+];
+
+/// Whether two texts write one term of the same store.
+fn are_one(alloc: Global, first: &str, second: &str) -> Result<bool, NoMemory> {
+    let mut terms = Terms::new(alloc);
+    let one = written(alloc, &mut terms, first)?;
+    Ok(written(alloc, &mut terms, second)? == one)
+}
+
+#[test]
+fn terms_are_simplified(rt: HostRuntime) -> Result<(), Fail> {
+    for (first, second) in SAME {
+        assert!(rt; are_one(rt.alloc(), first, second)?, "{first} and {second}");
     }
     Ok(())
 }

@@ -4,15 +4,13 @@ ghost use Rattle.bv_terms.specs.Trees.{AreFit, IsTerm, tree_in};
 ghost use Rattle.bv_terms.specs.declared.variable.Variable.{Variable};
 ghost use Rattle.sat_ask.specs.Questions.{Mentions};
 
-use crate::clauses::{PIGEONS, cnf};
-use crate::pigeons::all_of;
+use crate::clauses::cnf;
 use bv_terms::{TermId, Terms};
 use clause_log::check_log;
 use clause_solver::Answer;
 use sat_ask::{Asked, ask, search};
 use std::alloc::Global;
 use std::test::Fail;
-use std::thread::Threads;
 use support::NoMemory;
 
 /// Terms with two variables x and y of width 8 and a constant.
@@ -138,48 +136,6 @@ fn a_limit_of_1_is_spent(rt: HostRuntime) -> Result<(), Fail> {
         Asked::Spent(cert) => assert!(rt; cert.log.len() == 1),
         Asked::None(_) | Asked::Least(_) => assert!(rt; false),
     }
-    Ok(())
-}
-
-/// Whether four pigeons sit in three holes: a bit of the seats is that a pigeon sits in a hole.
-fn pigeons(alloc: Global, limit: Option<u64>) -> Result<Asked, NoMemory>
-    requires { IfSome limit (λ n. 0 < n) }
-{
-    let mut terms = Terms::new(alloc);
-    let seats = terms.variable(0, 12)?;
-    let goal = all_of(&mut terms, seats, &PIGEONS)?;
-    ask(alloc, &terms, goal, &[seats], limit)
-}
-
-/// Four pigeons have no seats in three holes, and the checker accepts the certificate.
-#[test]
-fn pigeons_have_no_seats(rt: HostRuntime) -> Result<(), Fail> {
-    let alloc = rt.alloc();
-    match pigeons(alloc, None)? {
-        Asked::None(cert) => {
-            assert!(rt; cert.cnf.front == 12);
-            assert!(rt; check_log(&rt, alloc, &cert.cnf, &cert.log) == Ok(()));
-        }
-        Asked::Least(_) | Asked::Spent(_) => assert!(rt; false),
-    }
-    Ok(())
-}
-
-/// Whether it is one step, or a whole certificate.
-fn is_right(rt: &(impl Threads + Sync), alloc: Global, asked: &Asked) -> bool {
-    match asked {
-        Asked::Spent(cert) => cert.log.len() == 1,
-        Asked::None(cert) => check_log(rt, alloc, &cert.cnf, &cert.log).is_ok(),
-        Asked::Least(_) => false,
-    }
-}
-
-/// With a limit of 1 either one clause is learned, and no more is known, or the certificate is
-/// whole.
-#[test]
-fn one_clause_may_not_do(rt: HostRuntime) -> Result<(), Fail> {
-    let asked = pigeons(rt.alloc(), Some(1))?;
-    assert!(rt; is_right(&rt, rt.alloc(), &asked));
     Ok(())
 }
 

@@ -1,13 +1,18 @@
 use crate::clauses::clause;
+use std::alloc::Global;
 use std::test::Fail;
+use support::NoMemory;
 
-/// The copy of `1 -3 0` is `1 -3 0`, and a clause of `1` alone is another.
+/// Whether the copy of a clause is this clause.
+fn is_copied_to(alloc: Global, numbers: &[i64], want: &[i64]) -> Result<bool, NoMemory> {
+    let copy = clause(alloc, numbers)?.duplicate(alloc)?;
+    Ok(copy.is_same(&clause(alloc, want)?))
+}
+
+/// The copy of `1 -3 0` is `1 -3 0`, and not `1 0`.
 #[test]
 fn a_clause_is_copied(rt: HostRuntime) -> Result<(), Fail> {
-    let pair = clause(rt.alloc(), &[1, -3])?;
-    let unit = clause(rt.alloc(), &[1])?;
-    let copy = pair.duplicate(rt.alloc())?;
-    assert!(rt; copy.is_same(&pair));
-    assert!(rt; !copy.is_same(&unit));
+    assert!(rt; is_copied_to(rt.alloc(), &[1, -3], &[1, -3])?);
+    assert!(rt; !is_copied_to(rt.alloc(), &[1, -3], &[1])?);
     Ok(())
 }

@@ -5,32 +5,6 @@ use smallvec::SmallVec;
 use std::alloc::Global;
 use support::{NoMemory, Sequence};
 
-/// Four pigeons in three holes: variable 3 (i - 1) + j is that pigeon i sits in hole j.
-pub const PIGEONS: [&[i64]; 22] = [
-    &[1, 2, 3],
-    &[4, 5, 6],
-    &[7, 8, 9],
-    &[10, 11, 12],
-    &[-1, -4],
-    &[-1, -7],
-    &[-1, -10],
-    &[-4, -7],
-    &[-4, -10],
-    &[-7, -10],
-    &[-2, -5],
-    &[-2, -8],
-    &[-2, -11],
-    &[-5, -8],
-    &[-5, -11],
-    &[-8, -11],
-    &[-3, -6],
-    &[-3, -9],
-    &[-3, -12],
-    &[-6, -9],
-    &[-6, -12],
-    &[-9, -12],
-];
-
 /// The literal of a number other than 0.
 pub fn literal(number: i64) -> Lit {
     Lit {
@@ -51,14 +25,66 @@ pub fn clause(alloc: Global, numbers: &[i64]) -> Result<Clause, NoMemory> {
     Ok(Clause::new(literals))
 }
 
+/// Whether a clause is there, and is this one.
+pub fn is_found(alloc: Global, found: Option<Clause>, want: &[i64]) -> Result<bool, NoMemory> {
+    match found {
+        Some(found) => Ok(found.is_same(&clause(alloc, want)?)),
+        None => Ok(false),
+    }
+}
+
+/// Clauses over n variables, the first of which are the front. An error where they are none.
+pub fn over(variables: u64, front: u64, clauses: Sequence<Clause>) -> Result<Cnf, NoMemory> {
+    if !are_within(variables, clauses.as_slice()) || front > variables {
+        return Err(NoMemory);
+    }
+    Ok(Cnf::new(variables, clauses, front))
+}
+
 /// Clauses over n variables, the first of which are the front. An error where the rows are none.
 pub fn cnf(alloc: Global, variables: u64, front: u64, rows: &[&[i64]]) -> Result<Cnf, NoMemory> {
     let mut clauses = Sequence::from_vec(Vec::new(alloc));
     for row in rows {
         clauses.push(clause(alloc, row)?)?;
     }
-    if !are_within(variables, clauses.as_slice()) || front > variables {
-        return Err(NoMemory);
+    over(variables, front, clauses)
+}
+
+/// A pigeon, counted from 0, sits in one of the holes: its variables are the `holes` ones after
+/// those of the pigeons before it.
+fn seated(alloc: Global, pigeon: i64, holes: i64) -> Result<Clause, NoMemory> {
+    let before = pigeon.wrapping_mul(holes);
+    let mut seats = Vec::new(alloc);
+    for hole in 1..=holes {
+        seats.push(before.wrapping_add(hole))?;
     }
-    Ok(Cnf::new(variables, clauses, front))
+    clause(alloc, &seats)
+}
+
+/// A pigeon sits in no hole where one before it sits.
+fn apart(
+    alloc: Global,
+    clauses: &mut Sequence<Clause>,
+    pigeon: i64,
+    holes: i64,
+) -> Result<(), NoMemory> {
+    let before = pigeon.wrapping_mul(holes);
+    for taken in 0..before {
+        let hole = taken.checked_rem(holes).unwrap_or(0);
+        let own = before.wrapping_add(hole).wrapping_add(1);
+        let other = taken.wrapping_add(1);
+        clauses.push(clause(alloc, &[other.wrapping_neg(), own.wrapping_neg()])?)?;
+    }
+    Ok(())
+}
+
+/// So many pigeons in so many holes, no two of them in one.
+pub fn pigeons(alloc: Global, pigeons: i64, holes: i64) -> Result<Cnf, NoMemory> {
+    let mut clauses = Sequence::from_vec(Vec::new(alloc));
+    for pigeon in 0..pigeons {
+        clauses.push(seated(alloc, pigeon, holes)?)?;
+        apart(alloc, &mut clauses, pigeon, holes)?;
+    }
+    let variables = pigeons.wrapping_mul(holes).unsigned_abs();
+    over(variables, variables, clauses)
 }

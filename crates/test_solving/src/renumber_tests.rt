@@ -1,22 +1,10 @@
-use crate::clauses::{clause, cnf, literal};
-use clause_lits::{Cnf, Lit};
+use crate::clauses::{clause, cnf, is_found, literal};
+use clause_lits::{Clause, Lit};
 use clause_log::{Log, Step};
 use cnf_renumber::{Renumbering, are_inverse, by_bit, in_order};
 use std::alloc::Global;
 use std::test::Fail;
 use support::{NoMemory, Sequence};
-
-/// A log of one step with the chain 1.
-fn log(alloc: Global, row: &[i64]) -> Result<Log, NoMemory> {
-    let mut chain = Sequence::from_vec(Vec::new(alloc));
-    chain.push(1)?;
-    let mut steps = Sequence::from_vec(Vec::new(alloc));
-    steps.push(Step {
-        chain,
-        clause: clause(alloc, row)?,
-    })?;
-    Ok(steps)
-}
 
 /// The literals of these numbers.
 fn literals(alloc: Global, numbers: &[i64]) -> Result<Vec<Lit>, NoMemory> {
@@ -27,15 +15,18 @@ fn literals(alloc: Global, numbers: &[i64]) -> Result<Vec<Lit>, NoMemory> {
     Ok(all)
 }
 
+/// Whether the order of the bits of two numbers of two bits is this one.
+fn is_order(alloc: Global, variables: u64, want: &[i64]) -> Result<bool, NoMemory> {
+    let found = by_bit(alloc, &[2, 2], variables)?;
+    Ok(found.as_slice() == literals(alloc, want)?.as_slice())
+}
+
 /// Two numbers of two bits, 1 2 and 3 4, and one more variable, 5: the least significant bits 2 and
 /// 4 come first, then 1 and 3.
 #[test]
 fn low_bits_come_first(rt: HostRuntime) -> Result<(), Fail> {
-    let alloc = rt.alloc();
-    let want = literals(alloc, &[2, 4, 1, 3, 5])?;
-    assert!(rt; by_bit(alloc, &[2, 2], 5)?.as_slice() == want.as_slice());
-    let fewer = literals(alloc, &[2, 1, 3])?;
-    assert!(rt; by_bit(alloc, &[2, 2], 3)?.as_slice() == fewer.as_slice());
+    assert!(rt; is_order(rt.alloc(), 5, &[2, 4, 1, 3, 5])?);
+    assert!(rt; is_order(rt.alloc(), 3, &[2, 1, 3])?);
     Ok(())
 }
 
@@ -44,28 +35,43 @@ fn numbers(alloc: Global) -> Result<Renumbering, NoMemory> {
     in_order(alloc, &literals(alloc, &[3, -1, 2])?)
 }
 
-/// The clauses of three variables, renumbered. An error where there are more.
-fn renumbered(alloc: Global, numbers: &Renumbering, clauses: &Cnf) -> Result<Cnf, NoMemory> {
+/// A clause over three variables, under these numbers.
+fn renumbered(alloc: Global, row: &[i64]) -> Result<Option<Clause>, NoMemory> {
+    let numbers = numbers(alloc)?;
+    let clauses = cnf(alloc, 3, 3, &[row])?;
     if numbers.forth.len() > 4 || clauses.variables != 3 {
         return Err(NoMemory);
     }
-    numbers.renumber(alloc, clauses, &[])
+    let renumbered = numbers.renumber(alloc, &clauses, &[])?;
+    Ok(renumbered.clauses.into_vec().pop())
+}
+
+/// A log of one step with the chain 1.
+fn log(alloc: Global, row: &[i64]) -> Result<Log, NoMemory> {
+    let mut steps = Sequence::from_vec(Vec::new(alloc));
+    steps.push(Step {
+        chain: Sequence::from_vec(Vec::from_slice(alloc, &[1])?),
+        clause: clause(alloc, row)?,
+    })?;
+    Ok(steps)
+}
+
+/// The step of a clause with the chain 1, mapped back: its clause, where its chain is 1 again.
+fn mapped_back(alloc: Global, row: &[i64]) -> Result<Option<Clause>, NoMemory> {
+    let back = numbers(alloc)?.log_back(alloc, log(alloc, row)?)?;
+    match back.into_vec().pop() {
+        Some(Step { chain, clause }) if chain.as_slice() == [1].as_slice() => Ok(Some(clause)),
+        _ => Ok(None),
+    }
 }
 
 /// The clause `1 -2` is `-2 -3` under these numbers, and is mapped back with its chain.
 #[test]
 fn clauses_are_renumbered(rt: HostRuntime) -> Result<(), Fail> {
-    let alloc = rt.alloc();
-    let numbers = numbers(alloc)?;
-    let clauses = cnf(alloc, 3, 3, &[&[1, -2]])?;
-    let renumbered = renumbered(alloc, &numbers, &clauses)?;
-    assert_eq!(rt; renumbered.clauses.len(), 1);
-    let want = clause(alloc, &[-2, -3])?;
-    assert!(rt; renumbered.clauses.get(0).is_same(&want));
-    let back = numbers.log_back(alloc, log(alloc, &[-2, -3])?)?;
-    assert_eq!(rt; back.len(), 1);
-    assert!(rt; back.get(0).clause.is_same(&clause(alloc, &[1, -2])?));
-    assert!(rt; back.get(0).chain.as_slice() == [1].as_slice());
+    let forth = renumbered(rt.alloc(), &[1, -2])?;
+    assert!(rt; is_found(rt.alloc(), forth, &[-2, -3])?);
+    let back = mapped_back(rt.alloc(), &[-2, -3])?;
+    assert!(rt; is_found(rt.alloc(), back, &[1, -2])?);
     Ok(())
 }
 
@@ -79,18 +85,18 @@ fn values_are_mapped_back(rt: HostRuntime) -> Result<(), Fail> {
     Ok(())
 }
 
+/// Whether a table is the inverse of itself.
+fn is_own_inverse(alloc: Global, numbers: &[i64]) -> Result<bool, NoMemory> {
+    let table = literals(alloc, numbers)?;
+    Ok(are_inverse(&table, &table))
+}
+
 /// A table that repeats a number is no renumbering, and an order that does changes nothing.
 #[test]
 fn numbers_that_are_none(rt: HostRuntime) -> Result<(), Fail> {
-    let alloc = rt.alloc();
-    let swapped = literals(alloc, &[0, 2, -1])?;
-    let repeated = literals(alloc, &[0, 1, 1])?;
-    assert!(rt; !are_inverse(&swapped, &swapped));
-    assert!(rt; !are_inverse(&repeated, &repeated));
-    assert!(rt;
-        in_order(alloc, &literals(alloc, &[1, 1])?)?
-            .forth
-            .is_empty()
-    );
+    assert!(rt; !is_own_inverse(rt.alloc(), &[0, 2, -1])?);
+    assert!(rt; !is_own_inverse(rt.alloc(), &[0, 1, 1])?);
+    let order = literals(rt.alloc(), &[1, 1])?;
+    assert!(rt; in_order(rt.alloc(), &order)?.forth.is_empty());
     Ok(())
 }

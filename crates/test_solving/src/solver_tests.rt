@@ -1,10 +1,29 @@
-use crate::clauses::{PIGEONS, clause, cnf};
-use crate::drawn::{drawn_cnf, is_right};
+use crate::clauses::{clause, cnf, pigeons};
+use clause_lits::Cnf;
 use clause_log::{Step, check_log};
-use clause_solver::{Answer, solve};
+use clause_search::Answer;
 use std::alloc::Global;
 use std::test::Fail;
+use std::thread::Threads;
 use support::NoMemory;
+
+/// The two solvers of one contract.
+#[derive(Clone, Copy, Debug)]
+enum Solver {
+    Clauses,
+    Watches,
+}
+
+const SOLVERS: [Solver; 2] = [Solver::Clauses, Solver::Watches];
+
+/// What a solver answers, within a limit that isn't 0.
+fn solved(alloc: Global, solver: Solver, cnf: &Cnf, limit: u64) -> Result<Answer, NoMemory> {
+    let limit = if limit == 0 { None } else { Some(limit) };
+    match solver {
+        Solver::Clauses => clause_solver::solve(alloc, cnf, limit),
+        Solver::Watches => watch_solver::solve(alloc, cnf, limit),
+    }
+}
 
 /// Whether these are the clauses of the steps.
 pub fn are_steps(alloc: Global, steps: &[Step], rows: &[&[i64]]) -> Result<bool, NoMemory> {
@@ -19,112 +38,97 @@ pub fn are_steps(alloc: Global, steps: &[Step], rows: &[&[i64]]) -> Result<bool,
     Ok(true)
 }
 
-/// The steps of an answer that is no model, or `None` of a model.
-pub fn steps_of(answer: &Answer) -> Option<&[Step]> {
+/// Whether an answer is a refutation by these learned clauses.
+fn is_refuted_by(alloc: Global, answer: &Answer, rows: &[&[i64]]) -> Result<bool, NoMemory> {
     match answer {
-        Answer::Sat(_) => None,
-        Answer::Unsat(log) => Some(log.as_slice()),
-        Answer::Spent(log) => Some(log.as_slice()),
+        Answer::Unsat(log) => are_steps(alloc, log.as_slice(), rows),
+        Answer::Sat(_) | Answer::Spent(_) => Ok(false),
     }
 }
 
-/// The model of an answer, if it is one.
-pub fn model_of(answer: &Answer) -> Option<&[bool]> {
+/// Whether an answer is this model.
+pub fn is_model(answer: &Answer, values: &[bool]) -> bool {
     match answer {
-        Answer::Sat(model) => Some(model.as_slice()),
-        Answer::Unsat(_) | Answer::Spent(_) => None,
+        Answer::Sat(model) => model.as_slice() == values,
+        Answer::Unsat(_) | Answer::Spent(_) => false,
     }
 }
 
 /// Of the models of `1 2` the least on 1 and 2 is 0 1.
 #[test]
 fn the_least_model_is_found(rt: HostRuntime) -> Result<(), Fail> {
-    let answer = solve(rt.alloc(), &cnf(rt.alloc(), 2, 2, &[&[1, 2]])?, Some(1))?;
-    assert!(rt; model_of(&answer) == Some([false, true].as_slice()));
-    Ok(())
-}
-
-/// The model of no clauses over no variables is empty.
-#[test]
-fn no_clauses_have_a_model(rt: HostRuntime) -> Result<(), Fail> {
-    let answer = solve(rt.alloc(), &cnf(rt.alloc(), 0, 0, &[])?, None)?;
-    assert!(rt; model_of(&answer) == Some([].as_slice()));
-    Ok(())
-}
-
-/// The empty clause is refuted by one step, whose chain is that clause.
-#[test]
-fn the_empty_clause_is_refuted(rt: HostRuntime) -> Result<(), Fail> {
-    let answer = solve(rt.alloc(), &cnf(rt.alloc(), 0, 0, &[&[]])?, None)?;
-    match steps_of(&answer) {
-        Some([step]) => {
-            assert!(rt; step.chain.as_slice() == [1].as_slice());
-            assert!(rt; step.clause.is_empty());
-        }
-        _ => assert!(rt; false),
+    let clauses = cnf(rt.alloc(), 2, 2, &[&[1, 2]])?;
+    for solver in SOLVERS {
+        let answer = solved(rt.alloc(), solver, &clauses, 1)?;
+        assert!(rt; is_model(&answer, &[false, true]), "{solver:?}");
     }
     Ok(())
 }
 
-/// Three pigeons in two holes, pigeon i in hole j being variable 2 (i - 1) + j.
-pub const THREE_PIGEONS: [&[i64]; 9] = [
-    &[1, 2],
-    &[3, 4],
-    &[5, 6],
-    &[-1, -3],
-    &[-1, -5],
-    &[-3, -5],
-    &[-2, -4],
-    &[-2, -6],
-    &[-4, -6],
-];
+/// The empty clause is refuted by one step.
+#[test]
+fn the_empty_clause_is_refuted(rt: HostRuntime) -> Result<(), Fail> {
+    let clauses = cnf(rt.alloc(), 0, 0, &[&[]])?;
+    for solver in SOLVERS {
+        let answer = solved(rt.alloc(), solver, &clauses, 0)?;
+        assert!(rt; is_refuted_by(rt.alloc(), &answer, &[&[]])?, "{solver:?}");
+    }
+    Ok(())
+}
 
 /// Three pigeons in two holes are refuted by one learned clause and the empty one, though the limit
 /// is 1.
 #[test]
 fn three_pigeons_in_two_holes(rt: HostRuntime) -> Result<(), Fail> {
-    let answer = solve(rt.alloc(), &cnf(rt.alloc(), 6, 6, &THREE_PIGEONS)?, Some(1))?;
-    assert!(rt; matches!(&answer, Answer::Unsat(_)));
-    let steps = steps_of(&answer).unwrap_or(&[]);
-    assert!(rt; are_steps(rt.alloc(), steps, &[&[-2], &[]])?);
-    Ok(())
-}
-
-/// The first clause that is learned of four pigeons in three holes is `-5 9 12`.
-#[test]
-fn a_limit_of_one_clause(rt: HostRuntime) -> Result<(), Fail> {
-    let answer = solve(rt.alloc(), &cnf(rt.alloc(), 12, 12, &PIGEONS)?, Some(1))?;
-    assert!(rt; matches!(&answer, Answer::Spent(_)));
-    let steps = steps_of(&answer).unwrap_or(&[]);
-    assert!(rt; are_steps(rt.alloc(), steps, &[&[-5, 9, 12]])?);
-    Ok(())
-}
-
-/// Without a limit four pigeons in three holes are refuted by a log that the checker accepts.
-#[test]
-fn four_pigeons_in_three_holes(rt: HostRuntime) -> Result<(), Fail> {
-    let question = cnf(rt.alloc(), 12, 12, &PIGEONS)?;
-    match solve(rt.alloc(), &question, None)? {
-        Answer::Unsat(log) => assert!(rt; check_log(&rt, rt.alloc(), &question, &log) == Ok(())),
-        Answer::Sat(_) | Answer::Spent(_) => assert!(rt; false),
+    let clauses = pigeons(rt.alloc(), 3, 2)?;
+    for solver in SOLVERS {
+        let answer = solved(rt.alloc(), solver, &clauses, 1)?;
+        assert!(rt;
+            is_refuted_by(rt.alloc(), &answer, &[&[-2], &[]])?,
+            "{solver:?}"
+        );
     }
     Ok(())
 }
 
-/// Small sets of clauses have the answer that trying all assignments gives.
+/// Four pigeons in four holes: the least model has the first pigeon in the last hole, the second in
+/// the one before, and so on.
+pub const FOUR: [bool; 16] = [
+    false, false, false, true, false, false, true, false, false, true, false, false, true, false,
+    false, false,
+];
+
 #[test]
-fn drawn_clauses_agree_with_enumeration(rt: HostRuntime) -> Result<(), Fail> {
-    let alloc = rt.alloc();
-    let mut state = 1;
-    let mut refuted: u64 = 0;
-    for _ in 0..500 {
-        let question = drawn_cnf(alloc, &mut state)?;
-        let answer = solve(alloc, &question, None)?;
-        assert!(rt; is_right(&rt, alloc, &question, &answer)?);
-        if matches!(&answer, Answer::Unsat(_)) {
-            refuted = refuted.saturating_add(1);
-        }
+fn four_pigeons_in_four_holes(rt: HostRuntime) -> Result<(), Fail> {
+    let clauses = pigeons(rt.alloc(), 4, 4)?;
+    for solver in SOLVERS {
+        let answer = solved(rt.alloc(), solver, &clauses, 0)?;
+        assert!(rt; is_model(&answer, &FOUR), "{solver:?}");
     }
-    assert!(rt; 100 < refuted && refuted < 400);
+    Ok(())
+}
+
+/// Whether a limit of one learned clause is spent on five pigeons in four holes, and without a limit
+/// they are refuted by a log that the checker accepts.
+fn are_refuted(
+    rt: &(impl Threads + Sync),
+    alloc: Global,
+    solver: Solver,
+) -> Result<bool, NoMemory> {
+    let clauses = pigeons(alloc, 5, 4)?;
+    let spent = solved(alloc, solver, &clauses, 1)?;
+    match solved(alloc, solver, &clauses, 0)? {
+        Answer::Unsat(log) => Ok(
+            matches!(spent, Answer::Spent(_)) && check_log(rt, alloc, &clauses, &log).is_ok(),
+        ),
+        Answer::Sat(_) | Answer::Spent(_) => Ok(false),
+    }
+}
+
+#[test]
+fn five_pigeons_in_four_holes(rt: HostRuntime) -> Result<(), Fail> {
+    for solver in SOLVERS {
+        assert!(rt; are_refuted(&rt, rt.alloc(), solver)?, "{solver:?}");
+    }
     Ok(())
 }

@@ -1,0 +1,75 @@
+//! The builders of terms without rules.
+
+ghost use Rattle.std.specs.Prelude.{◌≡◌, ◌<◌, length};
+ghost use Rattle.bv_terms.specs.Tree.{width_of};
+ghost use Rattle.bv_terms.specs.Trees.{tree_in};
+
+use bv_terms::{TermId, Terms};
+use std::alloc::Global;
+use std::test::Fail;
+use support::NoMemory;
+
+/// The operation of a number from 0 to 19, over a condition and two terms of 3 bits.
+fn operation(
+    terms: &mut Terms,
+    number: usize,
+    c: TermId,
+    a: TermId,
+    b: TermId,
+) -> Result<TermId, NoMemory>
+    requires a { a.index < length terms.old }
+    requires b { b.index < length terms.old }
+    requires c { c.index < length terms.old }
+    requires bit { width_of (tree_in terms.old c) ≡ 1 }
+    requires wide_a { width_of (tree_in terms.old a) ≡ 3 }
+    requires wide_b { width_of (tree_in terms.old b) ≡ 3 }
+{
+    match number {
+        0 => terms.not(a),
+        1 => terms.and(a, b),
+        2 => terms.or(a, b),
+        3 => terms.xor(a, b),
+        4 => terms.add(a, b),
+        5 => terms.sub(a, b),
+        6 => terms.mul(a, b),
+        7 => terms.udiv(a, b),
+        8 => terms.urem(a, b),
+        9 => terms.shl(a, b),
+        10 => terms.lshr(a, b),
+        11 => terms.ashr(a, b),
+        12 => terms.eq(a, b),
+        13 => terms.ult(a, b),
+        14 => terms.slt(a, b),
+        15 => terms.ite(c, a, b),
+        16 => terms.extract(a, 1, 2),
+        17 => terms.concat(a, b),
+        18 => terms.zext(a, 6),
+        _ => terms.sext(a, 6),
+    }
+}
+
+/// How many terms there are with the operation of a number over three variables.
+fn count_with(alloc: Global, number: usize) -> Result<usize, NoMemory> {
+    let mut terms = Terms::new(alloc);
+    let c = terms.variable(2, 1)?;
+    let a = terms.variable(0, 3)?;
+    let b = terms.variable(1, 3)?;
+    let count = terms.as_slice().len();
+    if a.index >= count || b.index >= count || c.index >= count {
+        return Err(NoMemory);
+    }
+    if terms.width(c) != 1 || terms.width(a) != 3 || terms.width(b) != 3 {
+        return Err(NoMemory);
+    }
+    operation(&mut terms, number, c, a, b)?;
+    Ok(terms.as_slice().len())
+}
+
+/// Each operation is one more term.
+#[test]
+fn operations_are_stored(rt: HostRuntime) -> Result<(), Fail> {
+    for number in 0..20usize {
+        assert_eq!(rt; count_with(rt.alloc(), number)?, 4, "{number}");
+    }
+    Ok(())
+}
