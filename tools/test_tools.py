@@ -27,7 +27,9 @@ NAMES = os.path.join(DATA, "tree", "sub", "names.ll")
 BROKEN = os.path.join(DATA, "tree", "sub", "broken.ll")
 SLOW = os.path.join(DATA, "slow", "slow.ll")
 WHOLE = os.path.join(DATA, "whole", "whole.ll")
-SCRIPTS = ["opt-tv", "tv-tree", "tv-vacuous", "tv-reduce", "tv-html", "tv-baseline"]
+PROOF = os.path.join(DATA, "two.tvproof")
+SCRIPTS = ["opt-tv", "tv-tree", "tv-vacuous", "tv-reduce", "tv-html", "tv-baseline", "tv-proof"]
+SOLVERS = ["cadical", "minisat", "picosat"]
 AT_A_TIME = 2
 
 
@@ -92,7 +94,7 @@ def help_is_one_screen(bench):
     for script in SCRIPTS:
         done = bench.run(script, "--help")
         equal((done.returncode, done.stderr), (0, ""), f"{script} --help")
-        has(done.stdout, script, "TV" if script != "tv-baseline" else "BASELINE")
+        has(done.stdout, script, {"tv-baseline": "BASELINE", "tv-proof": "FOLDER"}.get(script, "TV"))
         equal(len(done.stdout.splitlines()) <= 50, True, f"{script} --help is one screen")
 
 
@@ -243,18 +245,21 @@ def tree_time_out(bench):
 
 
 def tree_stopped(bench):
-    args = ["tv-tree", "run", SLOW, ARITH, "-p", "double", "--out", "one", "--seconds", "30"]
+    args = ["tv-tree", "run", SLOW, ARITH, "-p", "double", "--out", "one", "--seconds", "120"]
     child = subprocess.Popen([os.path.join(TOOLS, args[0]), *args[1:]], cwd=bench.folder,
                              env={**bench.variables, "TMPDIR": bench.folder},
                              stdout=subprocess.DEVNULL, stderr=subprocess.DEVNULL)
+    # it is at work once its folder of temporary files is there
+    for _ in range(600):
+        if any(name.startswith("tv-") for name in os.listdir(bench.folder)):
+            break
+        time.sleep(0.1)
     time.sleep(1)
     child.send_signal(signal.SIGTERM)
-    begun = time.monotonic()
-    equal(child.wait(timeout=20), 143, "status")
-    equal(time.monotonic() - begun < 5, True, "ended at once")
+    equal(child.wait(timeout=60), 143, "status, before a pair's time is over")
     left = [name for name in os.listdir(bench.folder) if name.startswith("tv-")]
     equal(left, [], "temporary files")
-    done = bench.run(*args[:-1], "1")
+    done = bench.run(*args[:-1], "3")
     has(done.stdout, "modules 2 opt failed 0 functions 6", "time-out         1")
 
 
@@ -384,18 +389,102 @@ def llvm_bitcode(bench):
     has(bench.only("tv-out", ".txt"), "not judged: the output is not textual IR")
 
 
+# tv-proof and lrat.py.
+
+PARTS = """@f correct variables 1 clauses 2 steps 1 refuted yes
+@"a b" incorrect variables 3 clauses 5 steps 3 refuted yes
+parts 2 passed 2 failed 0
+"""
+
+
+def proof_parts(bench):
+    done = bench.run("tv-proof", PROOF, "-o", "parts", "--no-solvers")
+    equal((done.returncode, done.stdout, done.stderr), (0, PARTS, ""), "status and output")
+    equal(bench.file("parts", "1-f.cnf"), "p cnf 1 2\n1 0\n-1 0\n", "clauses")
+    equal(bench.file("parts", "1-f.lrat"), "3 0 2 1 0\n", "log")
+    # Resolving clause 1 with 2 and 3 gives clause 1 again; 2 is true where 1 is false.
+    equal(bench.file("parts", "2-_a_b_.lrat"), "6 1 2 0 3 1 0\n7 1 0 4 6 0\n8 0 5 7 0\n", "log")
+    for stem in ("1-f", "2-_a_b_"):
+        done = bench.run("lrat.py", f"parts/{stem}.cnf", f"parts/{stem}.lrat")
+        equal(done.returncode, 0, f"status of lrat.py on {stem}")
+
+
+def wrong_logs(bench):
+    proof = open(PROOF).read()
+    for old, new in (("6 4 0 1 0", "6 4 0 3 0"), ("7 5 0 0", "6 5 0 0"), ("7 5 0 0", "9 5 0 0"),
+                     ("log 3", "log 2"), ("-1 0\nlog 3", "-2 0\nlog 3")):
+        lines = proof.replace(old, new)
+        bench.write("wrong", lines if new != "log 2" else lines.replace("7 5 0 0\n", ""))
+        done = bench.run("tv-proof", "wrong", "--no-solvers")
+        equal(done.returncode, 1, f"status with {new}")
+        has(done.stdout, "steps", "refuted no\n", "parts 2 passed 1 failed 1\n")
+
+
+def no_proof_files(bench):
+    proof = open(PROOF).read()
+    for text, line in (("", 1), ("tvproof 2\n", 1), (proof.replace("log 1", "log 2"), 8),
+                       (proof.replace("p cnf 1 2", "p cnf 1 02"), 3), (proof[:-1], 18)):
+        bench.write("other", text)
+        done = bench.run("tv-proof", "other", "--no-solvers")
+        wanted = f"tv-proof: other:{line}: not a line of a proof file\n"
+        equal((done.returncode, done.stderr), (2, wanted), f"status and message of {text!r}")
+
+
+def wrong_lrat(bench):
+    bench.run("tv-proof", PROOF, "-o", "parts", "--no-solvers")
+    right = bench.file("parts", "2-_a_b_.lrat")
+    for old, new in (("3 1 0\n7", "1 3 0\n7"), ("4 6 0", "4 2 6 0"), ("8 0 5 7 0\n", ""),
+                     ("8 0 5 7 0", "8 0 5 9 0"), ("7 1 0", "3 1 0"), ("4 6 0", "4 0"),
+                     ("5 7 0", "-5 7 0"), ("7 1 0", "6 d 6 0\n7 1 0")):
+        bench.write("wrong", right.replace(old, new, 1))
+        done = bench.run("lrat.py", "parts/2-_a_b_.cnf", "wrong")
+        equal(done.returncode, 1, f"status with {new!r} for {old!r}")
+    bench.write("longer", right.replace("8 0", "6 d 6 1 0\n8 0"))
+    equal(bench.run("lrat.py", "parts/2-_a_b_.cnf", "longer").returncode, 0, "with deletions")
+
+
+def solvers_agree(bench):
+    done = bench.run("tv-proof", PROOF)
+    equal(done.returncode, 0, "status")
+    found = list(filter(shutil.which, SOLVERS))
+    for line in done.stdout.splitlines()[:2]:
+        has(line, *(f"{solver} unsat" for solver in found))
+    bench.write("sat", "tvproof 1\nrow @f correct\np cnf 2 1\n1 -2 0\nlog 0\n")
+    done = bench.run("tv-proof", "sat")
+    equal(done.returncode, 1, "status of clauses with a model")
+    has(done.stdout, "refuted no", *(f"{solver} sat" for solver in found))
+
+
+def proof_of_tv(bench):
+    before, after = (os.path.join(DATA, f"loop_{name}.ll") for name in ("before", "after"))
+    tv = bench.variables["TV"]
+    report = subprocess.run([tv, "check", "--turns", "2", before, after, "--proof", "out.tvproof"],
+                            cwd=bench.folder, capture_output=True, text=True)
+    has(report.stdout, "@count correct\n")
+    done = bench.run("tv-proof", "out.tvproof")
+    equal(done.returncode, 0, "status")
+    has(done.stdout, "@count correct", "refuted yes", "parts 1 passed 1 failed 0\n")
+
+
 EVERY = [opt_output_is_passed_on, opt_gate, opt_changed_names, opt_steps, tree_totals,
          vacuous_rows, pages]
 FAKE_ONLY = [help_is_one_screen, opt_reads_standard_input, opt_failure_is_passed_on, opt_not_text,
              opt_without_tv, opt_slow_pair, opt_whole_refusal, tree_by_lines, tree_resumes,
              tree_time_out, tree_stopped, tree_bad_folder, reduced, nothing_to_reduce, baseline,
-             baseline_of_tree]
+             baseline_of_tree, proof_parts, wrong_logs, no_proof_files, wrong_lrat]
 LLVM = [llvm_tree, llvm_steps, llvm_bitcode]
 
 
 def real_tv():
     built = os.path.join(os.path.dirname(TOOLS), "crates", "tv", "out", "tv")
     return os.environ.get("TV") or shutil.which(built) or shutil.which("tv")
+
+
+def writes_proofs(tv):
+    """Whether this tv knows --proof: an older one rejects the command line."""
+    module = os.path.join(DATA, "loop_before.ll")
+    command = [tv, "check", "--weight", "1", module, module, "--proof", os.devnull]
+    return subprocess.run(command, capture_output=True).returncode != 4
 
 
 def cases():
@@ -413,6 +502,14 @@ def cases():
             yield f"tv, {test.__name__}", test, {**fake, "TV": os.path.abspath(real)}
     else:
         print("skipped: tv is not built (crates/tv/out/tv), nor named by TV")
+    if real and writes_proofs(real):
+        yield "tv, proof_of_tv", proof_of_tv, {**fake, "TV": os.path.abspath(real)}
+    else:
+        print("skipped: there is no tv that writes proof files")
+    if any(map(shutil.which, SOLVERS)):
+        yield "solvers, solvers_agree", solvers_agree, fake
+    else:
+        print(f"skipped: none of {', '.join(SOLVERS)} is installed")
     if opt:
         for test in LLVM:
             yield f"opt, {test.__name__}", test, {**fake, "TV_OPT": opt, "TV": real or fake["TV"]}
