@@ -9,51 +9,33 @@
 ghost use Rattle.std.specs.Prelude.{◌≤◌};
 
 use bit_blast::Blast;
-use bv_terms::{TermId, Terms, fold};
+use bv_terms::{BinaryOp, TermId, Terms, fold};
 use gates::to_cnf;
 use std::alloc::Global;
 use std::process::ExitCode;
 use std::{env, io};
 use support::NoMemory;
 
-/// An operation over two terms of one width.
-#[derive(Clone, Copy, Debug, PartialEq, Eq)]
-enum Operation {
-    And,
-    Xor,
-    Add,
-    Sub,
-    Mul,
-    UnsignedDivision,
-    UnsignedRemainder,
-    ShiftLeft,
-    ShiftRight,
-    SignedShiftRight,
-    Equal,
-    Less,
-    SignedLess,
-}
-
-const OPERATIONS: [(&str, Operation); 13] = [
-    ("and", Operation::And),
-    ("xor", Operation::Xor),
-    ("add", Operation::Add),
-    ("sub", Operation::Sub),
-    ("mul", Operation::Mul),
-    ("udiv", Operation::UnsignedDivision),
-    ("urem", Operation::UnsignedRemainder),
-    ("shl", Operation::ShiftLeft),
-    ("lshr", Operation::ShiftRight),
-    ("ashr", Operation::SignedShiftRight),
-    ("eq", Operation::Equal),
-    ("ult", Operation::Less),
-    ("slt", Operation::SignedLess),
+const OPERATIONS: [(&str, BinaryOp); 13] = [
+    ("and", BinaryOp::And),
+    ("xor", BinaryOp::Xor),
+    ("add", BinaryOp::Add),
+    ("sub", BinaryOp::Sub),
+    ("mul", BinaryOp::Mul),
+    ("udiv", BinaryOp::Udiv),
+    ("urem", BinaryOp::Urem),
+    ("shl", BinaryOp::Shl),
+    ("lshr", BinaryOp::Lshr),
+    ("ashr", BinaryOp::Ashr),
+    ("eq", BinaryOp::Eq),
+    ("ult", BinaryOp::Ult),
+    ("slt", BinaryOp::Slt),
 ];
 
 /// The term of the operation; the first operand where their widths differ.
 fn term_of(
     terms: &mut Terms,
-    operation: Operation,
+    operation: BinaryOp,
     a: TermId,
     b: TermId,
 ) -> Result<TermId, NoMemory> {
@@ -61,25 +43,11 @@ fn term_of(
     if a.index >= count || b.index >= count || terms.width(a) != terms.width(b) {
         return Ok(a);
     }
-    match operation {
-        Operation::And => terms.and(a, b),
-        Operation::Xor => terms.xor(a, b),
-        Operation::Add => terms.add(a, b),
-        Operation::Sub => terms.sub(a, b),
-        Operation::Mul => terms.mul(a, b),
-        Operation::UnsignedDivision => terms.udiv(a, b),
-        Operation::UnsignedRemainder => terms.urem(a, b),
-        Operation::ShiftLeft => terms.shl(a, b),
-        Operation::ShiftRight => terms.lshr(a, b),
-        Operation::SignedShiftRight => terms.ashr(a, b),
-        Operation::Equal => terms.eq(a, b),
-        Operation::Less => terms.ult(a, b),
-        Operation::SignedLess => terms.slt(a, b),
-    }
+    terms.binary(operation, a, b)
 }
 
 /// The gates and clauses of the operation over two variables of the width.
-fn counts(alloc: Global, operation: Operation, width: u32) -> Result<(usize, usize), NoMemory>
+fn counts(alloc: Global, operation: BinaryOp, width: u32) -> Result<(usize, usize), NoMemory>
     requires least { 1 ≤ width }
     requires most { width ≤ 128 }
 {
@@ -88,7 +56,7 @@ fn counts(alloc: Global, operation: Operation, width: u32) -> Result<(usize, usi
     let b = terms.variable(1, width)?;
     let result = term_of(&mut terms, operation, a, b)?;
     let zero = terms.constant(0, width)?;
-    let goal = term_of(&mut terms, Operation::Equal, result, zero)?;
+    let goal = term_of(&mut terms, BinaryOp::Eq, result, zero)?;
     let mut blast = Blast::new(alloc);
     let Ok(bits) = fold(alloc, &terms, &mut blast) else {
         return Err(NoMemory);

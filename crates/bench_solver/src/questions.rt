@@ -5,7 +5,7 @@ ghost use Rattle.bv_terms.specs.Tree.{width_of};
 ghost use Rattle.bv_terms.specs.Trees.{tree_in};
 
 use bit_blast::Blast;
-use bv_terms::{TermId, Terms, fold};
+use bv_terms::{BinaryOp, TermId, Terms, fold};
 use clause_lits::{Clause, Cnf, Lit, are_within, is_clause};
 use gates::to_cnf;
 use smallvec::SmallVec;
@@ -148,7 +148,7 @@ fn differ(
     requires right { right.index < length terms }
     requires alike { width_of (tree_in terms left) ≡ width_of (tree_in terms right) }
 {
-    let same = terms.eq(left, right)?;
+    let same = terms.binary(BinaryOp::Eq, left, right)?;
     let goal = terms.not(same)?;
     let cnf = clauses_of(alloc, &terms, goal)?;
     let mut widths = Vec::new(alloc);
@@ -165,8 +165,8 @@ fn double(alloc: Global, width: u32) -> Result<Question, NoMemory>
     let x = terms.variable(0, width)?;
     let two = terms.constant(2, width)?;
     let one = terms.constant(1, width)?;
-    let product = terms.mul(x, two)?;
-    let shifted = terms.shl(x, one)?;
+    let product = terms.binary(BinaryOp::Mul, x, two)?;
+    let shifted = terms.binary(BinaryOp::Shl, x, one)?;
     differ(alloc, terms, product, shifted, 1, width)
 }
 
@@ -178,8 +178,8 @@ fn difference(alloc: Global, width: u32) -> Result<Question, NoMemory>
     let mut terms = Terms::new(alloc);
     let x = terms.variable(0, width)?;
     let y = terms.variable(1, width)?;
-    let sum = terms.add(x, y)?;
-    let back = terms.sub(sum, y)?;
+    let sum = terms.binary(BinaryOp::Add, x, y)?;
+    let back = terms.binary(BinaryOp::Sub, sum, y)?;
     differ(alloc, terms, back, x, 2, width)
 }
 
@@ -192,10 +192,10 @@ fn three(alloc: Global, width: u32) -> Result<Question, NoMemory>
     let x = terms.variable(0, width)?;
     let y = terms.variable(1, width)?;
     let z = terms.variable(2, width)?;
-    let first = terms.add(x, y)?;
-    let left = terms.add(first, z)?;
-    let last = terms.add(y, z)?;
-    let right = terms.add(x, last)?;
+    let first = terms.binary(BinaryOp::Add, x, y)?;
+    let left = terms.binary(BinaryOp::Add, first, z)?;
+    let last = terms.binary(BinaryOp::Add, y, z)?;
+    let right = terms.binary(BinaryOp::Add, x, last)?;
     differ(alloc, terms, left, right, 3, width)
 }
 
@@ -207,8 +207,8 @@ fn swap(alloc: Global, width: u32) -> Result<Question, NoMemory>
     let mut terms = Terms::new(alloc);
     let x = terms.variable(0, width)?;
     let y = terms.variable(1, width)?;
-    let left = terms.add(x, y)?;
-    let right = terms.add(y, x)?;
+    let left = terms.binary(BinaryOp::Add, x, y)?;
+    let right = terms.binary(BinaryOp::Add, y, x)?;
     differ(alloc, terms, left, right, 2, width)
 }
 
@@ -220,8 +220,8 @@ fn flips(alloc: Global, width: u32) -> Result<Question, NoMemory>
     let mut terms = Terms::new(alloc);
     let x = terms.variable(0, width)?;
     let y = terms.variable(1, width)?;
-    let once = terms.xor(x, y)?;
-    let twice = terms.xor(once, y)?;
+    let once = terms.binary(BinaryOp::Xor, x, y)?;
+    let twice = terms.binary(BinaryOp::Xor, once, y)?;
     differ(alloc, terms, twice, x, 2, width)
 }
 
@@ -233,10 +233,10 @@ fn parts(alloc: Global, width: u32) -> Result<Question, NoMemory>
     let mut terms = Terms::new(alloc);
     let x = terms.variable(0, width)?;
     let y = terms.variable(1, width)?;
-    let both = terms.and(x, y)?;
-    let either = terms.or(x, y)?;
-    let left = terms.add(both, either)?;
-    let right = terms.add(x, y)?;
+    let both = terms.binary(BinaryOp::And, x, y)?;
+    let either = terms.binary(BinaryOp::Or, x, y)?;
+    let left = terms.binary(BinaryOp::Add, both, either)?;
+    let right = terms.binary(BinaryOp::Add, x, y)?;
     differ(alloc, terms, left, right, 2, width)
 }
 
@@ -248,8 +248,8 @@ fn commuted(alloc: Global, width: u32) -> Result<Question, NoMemory>
     let mut terms = Terms::new(alloc);
     let x = terms.variable(0, width)?;
     let y = terms.variable(1, width)?;
-    let left = terms.mul(x, y)?;
-    let right = terms.mul(y, x)?;
+    let left = terms.binary(BinaryOp::Mul, x, y)?;
+    let right = terms.binary(BinaryOp::Mul, y, x)?;
     differ(alloc, terms, left, right, 2, width)
 }
 
@@ -261,10 +261,10 @@ fn whole(alloc: Global, width: u32) -> Result<Question, NoMemory>
     let mut terms = Terms::new(alloc);
     let x = terms.variable(0, width)?;
     let y = terms.variable(1, width)?;
-    let quotient = terms.udiv(x, y)?;
-    let product = terms.mul(quotient, y)?;
-    let remainder = terms.urem(x, y)?;
-    let sum = terms.add(product, remainder)?;
+    let quotient = terms.binary(BinaryOp::Udiv, x, y)?;
+    let product = terms.binary(BinaryOp::Mul, quotient, y)?;
+    let remainder = terms.binary(BinaryOp::Urem, x, y)?;
+    let sum = terms.binary(BinaryOp::Add, product, remainder)?;
     differ(alloc, terms, sum, x, 2, width)
 }
 
@@ -276,8 +276,8 @@ fn remains(alloc: Global, width: u32) -> Result<Question, NoMemory>
     let mut terms = Terms::new(alloc);
     let x = terms.variable(0, width)?;
     let y = terms.variable(1, width)?;
-    let once = terms.urem(x, y)?;
-    let twice = terms.urem(once, y)?;
+    let once = terms.binary(BinaryOp::Urem, x, y)?;
+    let twice = terms.binary(BinaryOp::Urem, once, y)?;
     differ(alloc, terms, twice, once, 2, width)
 }
 
@@ -290,9 +290,9 @@ fn shifts(alloc: Global, width: u32) -> Result<Question, NoMemory>
     let x = terms.variable(0, width)?;
     let y = terms.variable(1, width)?;
     let z = terms.variable(2, width)?;
-    let by_y = terms.shl(x, y)?;
-    let left = terms.shl(by_y, z)?;
-    let by_z = terms.shl(x, z)?;
-    let right = terms.shl(by_z, y)?;
+    let by_y = terms.binary(BinaryOp::Shl, x, y)?;
+    let left = terms.binary(BinaryOp::Shl, by_y, z)?;
+    let by_z = terms.binary(BinaryOp::Shl, x, z)?;
+    let right = terms.binary(BinaryOp::Shl, by_z, y)?;
     differ(alloc, terms, left, right, 3, width)
 }

@@ -1,13 +1,12 @@
 -- Digits that stand for what a term names make digits that stand for the term.
 use Rattle.std.proofs.Common.{ℕ, zero, suc, ◌≡◌, ◌<◌, ◌+◌, ◌-◌, ◌*◌, ◌/◌, ◌%◌, ◌^◌, Bool, true, false, cond, List, [], ◌∷◌, All, get_or, length, arith, sym, subst, ap, refl, ◌∙◌}
-use Rattle.std.specs.Prelude.{nat_eq, nat_lt, bit_and, bit_or, bit_xor}
 use Rattle.std.specs.Option.{unwrap_or}
 use Rattle.std.specs.List.{AllZip}
 use Rattle.bv_terms.specs.declared.term.TermId.{TermId}
 use Rattle.bv_terms.specs.declared.term.Term.{Term}
 use Rattle.bv_terms.specs.declared.term.Term.TheVariants as term
 use Rattle.bv_terms.specs.Tree as tree
-use Rattle.bv_terms.specs.Tree.{Tree, value_of, width_of, truth, digit, quotient, remainder, shifted_left, shifted_right, shifted_signed, is_less_signed, extended_signed}
+use Rattle.bv_terms.specs.Tree.{Tree, binary_value, binary_width, value_of, width_of, truth, digit, extended_signed}
 use Rattle.bv_terms.specs.Trees.{IsFit, IsWithin, tree_at, tree_of}
 use Rattle.bv_terms.proofs.Zips.{AllZip-at}
 use Rattle.gates.specs.declared.circuit.GateId.{GateId}
@@ -39,20 +38,7 @@ pub operands-within : (P : TermId → Type 0) (n : ℕ) → ((a : TermId) → a.
 operands-within P n h (term.Constant value width) w = none P
 operands-within P n h (term.Variable number width) w = none P
 operands-within P n h (term.Not a width) w = one_of P a (h a w.1)
-operands-within P n h (term.And a b width) w = two_of P a b (h a w.1) (h b w.2)
-operands-within P n h (term.Or a b width) w = two_of P a b (h a w.1) (h b w.2)
-operands-within P n h (term.Xor a b width) w = two_of P a b (h a w.1) (h b w.2)
-operands-within P n h (term.Add a b width) w = two_of P a b (h a w.1) (h b w.2)
-operands-within P n h (term.Sub a b width) w = two_of P a b (h a w.1) (h b w.2)
-operands-within P n h (term.Mul a b width) w = two_of P a b (h a w.1) (h b w.2)
-operands-within P n h (term.Udiv a b width) w = two_of P a b (h a w.1) (h b w.2)
-operands-within P n h (term.Urem a b width) w = two_of P a b (h a w.1) (h b w.2)
-operands-within P n h (term.Shl a b width) w = two_of P a b (h a w.1) (h b w.2)
-operands-within P n h (term.Lshr a b width) w = two_of P a b (h a w.1) (h b w.2)
-operands-within P n h (term.Ashr a b width) w = two_of P a b (h a w.1) (h b w.2)
-operands-within P n h (term.Eq a b width) w = two_of P a b (h a w.1) (h b w.2)
-operands-within P n h (term.Ult a b width) w = two_of P a b (h a w.1) (h b w.2)
-operands-within P n h (term.Slt a b width) w = two_of P a b (h a w.1) (h b w.2)
+operands-within P n h (term.Binary op a b width) w = two_of P a b (h a w.1) (h b w.2)
 operands-within P n h (term.Ite c a b width) w = with_one P c (a ∷ b ∷ []) (h c w.3) (two_of P a b (h a w.1) (h b w.2))
 operands-within P n h (term.Extract a from width) w = one_of P a (h a w.1)
 operands-within P n h (term.Concat high low below width) w = two_of P high low (h high w.1) (h low w.2)
@@ -88,62 +74,10 @@ module _ (gates : List Gate) (table : List (Variable × List GateId)) (trees : L
     written-is (term.Not a width) is h s fit =
         let p = s 0 any (omega arith) in
         three (λ n x y. 2 ^ n - 1 - x) (p.long ∙ fit.matched) (p.says inputs v agrees) (p.says inputs v agrees)
-    written-is (term.And a b width) is h s fit =
+    written-is (term.Binary op a b width) is h s fit =
         let p = s 0 any (omega arith) in
         let q = s 1 any (omega arith) in
-        three (λ n x y. bit_and x y) (p.long ∙ fit.matched.0) (p.says inputs v agrees) (q.says inputs v agrees)
-    written-is (term.Or a b width) is h s fit =
-        let p = s 0 any (omega arith) in
-        let q = s 1 any (omega arith) in
-        three (λ n x y. bit_or x y) (p.long ∙ fit.matched.0) (p.says inputs v agrees) (q.says inputs v agrees)
-    written-is (term.Xor a b width) is h s fit =
-        let p = s 0 any (omega arith) in
-        let q = s 1 any (omega arith) in
-        three (λ n x y. bit_xor x y) (p.long ∙ fit.matched.0) (p.says inputs v agrees) (q.says inputs v agrees)
-    written-is (term.Add a b width) is h s fit =
-        let p = s 0 any (omega arith) in
-        let q = s 1 any (omega arith) in
-        three (λ n x y. (x + y) % 2 ^ n) (p.long ∙ fit.matched.0) (p.says inputs v agrees) (q.says inputs v agrees)
-    written-is (term.Sub a b width) is h s fit =
-        let p = s 0 any (omega arith) in
-        let q = s 1 any (omega arith) in
-        three (λ n x y. (x + (2 ^ n - y)) % 2 ^ n) (p.long ∙ fit.matched.0) (p.says inputs v agrees) (q.says inputs v agrees)
-    written-is (term.Mul a b width) is h s fit =
-        let p = s 0 any (omega arith) in
-        let q = s 1 any (omega arith) in
-        three (λ n x y. (x * y) % 2 ^ n) (p.long ∙ fit.matched.0) (p.says inputs v agrees) (q.says inputs v agrees)
-    written-is (term.Udiv a b width) is h s fit =
-        let p = s 0 any (omega arith) in
-        let q = s 1 any (omega arith) in
-        three (λ n x y. quotient n x y) (p.long ∙ fit.matched.0) (p.says inputs v agrees) (q.says inputs v agrees)
-    written-is (term.Urem a b width) is h s fit =
-        let p = s 0 any (omega arith) in
-        let q = s 1 any (omega arith) in
-        three (λ n x y. remainder x y) (p.long ∙ fit.matched.0) (p.says inputs v agrees) (q.says inputs v agrees)
-    written-is (term.Shl a b width) is h s fit =
-        let p = s 0 any (omega arith) in
-        let q = s 1 any (omega arith) in
-        three (λ n x y. shifted_left n x y) (p.long ∙ fit.matched.0) (p.says inputs v agrees) (q.says inputs v agrees)
-    written-is (term.Lshr a b width) is h s fit =
-        let p = s 0 any (omega arith) in
-        let q = s 1 any (omega arith) in
-        three (λ n x y. shifted_right n x y) (p.long ∙ fit.matched.0) (p.says inputs v agrees) (q.says inputs v agrees)
-    written-is (term.Ashr a b width) is h s fit =
-        let p = s 0 any (omega arith) in
-        let q = s 1 any (omega arith) in
-        three (λ n x y. shifted_signed n x y) (p.long ∙ fit.matched.0) (p.says inputs v agrees) (q.says inputs v agrees)
-    written-is (term.Eq a b width) is h s fit =
-        let p = s 0 any (omega arith) in
-        let q = s 1 any (omega arith) in
-        three (λ n x y. digit (nat_eq x y)) (p.long ∙ fit.matched.0) (p.says inputs v agrees) (q.says inputs v agrees)
-    written-is (term.Ult a b width) is h s fit =
-        let p = s 0 any (omega arith) in
-        let q = s 1 any (omega arith) in
-        three (λ n x y. digit (nat_lt x y)) (p.long ∙ fit.matched.0) (p.says inputs v agrees) (q.says inputs v agrees)
-    written-is (term.Slt a b width) is h s fit =
-        let p = s 0 any (omega arith) in
-        let q = s 1 any (omega arith) in
-        three (λ n x y. digit (is_less_signed n x y)) (p.long ∙ fit.matched.0) (p.says inputs v agrees) (q.says inputs v agrees)
+        three (λ n x y. binary_value op n x y) (p.long ∙ fit.matched.0) (p.says inputs v agrees) (q.says inputs v agrees)
     written-is (term.Ite c a b width) is h s fit =
         let r = s 0 any (omega arith) in
         let p = s 1 any (omega arith) in
@@ -177,20 +111,7 @@ module _ (gates : List Gate) (table : List (Variable × List GateId)) (trees : L
   size-is (term.Constant value width) is h s fit = refl
   size-is (term.Variable number width) is h s fit = (known number width h is).long
   size-is (term.Not a width) is h s fit = (s 0 any (omega arith)).long ∙ fit.matched
-  size-is (term.And a b width) is h s fit = (s 0 any (omega arith)).long ∙ fit.matched.0
-  size-is (term.Or a b width) is h s fit = (s 0 any (omega arith)).long ∙ fit.matched.0
-  size-is (term.Xor a b width) is h s fit = (s 0 any (omega arith)).long ∙ fit.matched.0
-  size-is (term.Add a b width) is h s fit = (s 0 any (omega arith)).long ∙ fit.matched.0
-  size-is (term.Sub a b width) is h s fit = (s 0 any (omega arith)).long ∙ fit.matched.0
-  size-is (term.Mul a b width) is h s fit = (s 0 any (omega arith)).long ∙ fit.matched.0
-  size-is (term.Udiv a b width) is h s fit = (s 0 any (omega arith)).long ∙ fit.matched.0
-  size-is (term.Urem a b width) is h s fit = (s 0 any (omega arith)).long ∙ fit.matched.0
-  size-is (term.Shl a b width) is h s fit = (s 0 any (omega arith)).long ∙ fit.matched.0
-  size-is (term.Lshr a b width) is h s fit = (s 0 any (omega arith)).long ∙ fit.matched.0
-  size-is (term.Ashr a b width) is h s fit = (s 0 any (omega arith)).long ∙ fit.matched.0
-  size-is (term.Eq a b width) is h s fit = refl
-  size-is (term.Ult a b width) is h s fit = refl
-  size-is (term.Slt a b width) is h s fit = refl
+  size-is (term.Binary op a b width) is h s fit = ap (binary_width op) ((s 0 any (omega arith)).long ∙ fit.matched.0)
   size-is (term.Ite c a b width) is h s fit = (s 1 any (omega arith)).long ∙ fit.matched.0
   size-is (term.Extract a from width) is h s fit = refl
   size-is (term.Concat high low below width) is h s fit =
@@ -204,62 +125,10 @@ module _ (gates : List Gate) (table : List (Variable × List GateId)) (trees : L
   are_ready (term.Constant value width) is h s fit = fit.within
   are_ready (term.Variable number width) is h s fit = (known number width h is).within
   are_ready (term.Not a width) is h s fit = (s 0 any (omega arith)).within
-  are_ready (term.And a b width) is h s fit =
-      let p = s 0 any (omega arith) in
-      let q = s 1 any (omega arith) in
-      record { left = p.within; right = q.within; alike = p.long ∙ (fit.matched.0 ∙ (sym fit.matched.1 ∙ sym q.long)) }
-  are_ready (term.Or a b width) is h s fit =
-      let p = s 0 any (omega arith) in
-      let q = s 1 any (omega arith) in
-      record { left = p.within; right = q.within; alike = p.long ∙ (fit.matched.0 ∙ (sym fit.matched.1 ∙ sym q.long)) }
-  are_ready (term.Xor a b width) is h s fit =
-      let p = s 0 any (omega arith) in
-      let q = s 1 any (omega arith) in
-      record { left = p.within; right = q.within; alike = p.long ∙ (fit.matched.0 ∙ (sym fit.matched.1 ∙ sym q.long)) }
-  are_ready (term.Add a b width) is h s fit =
-      let p = s 0 any (omega arith) in
-      let q = s 1 any (omega arith) in
-      record { left = p.within; right = q.within; alike = p.long ∙ (fit.matched.0 ∙ (sym fit.matched.1 ∙ sym q.long)) }
-  are_ready (term.Sub a b width) is h s fit =
-      let p = s 0 any (omega arith) in
-      let q = s 1 any (omega arith) in
-      record { left = p.within; right = q.within; alike = p.long ∙ (fit.matched.0 ∙ (sym fit.matched.1 ∙ sym q.long)) }
-  are_ready (term.Mul a b width) is h s fit =
-      let p = s 0 any (omega arith) in
-      let q = s 1 any (omega arith) in
-      record { left = p.within; right = q.within; alike = p.long ∙ (fit.matched.0 ∙ (sym fit.matched.1 ∙ sym q.long)) }
-  are_ready (term.Udiv a b width) is h s fit =
-      let p = s 0 any (omega arith) in
-      let q = s 1 any (omega arith) in
-      record { left = p.within; right = q.within; alike = p.long ∙ (fit.matched.0 ∙ (sym fit.matched.1 ∙ sym q.long)) }
-  are_ready (term.Urem a b width) is h s fit =
-      let p = s 0 any (omega arith) in
-      let q = s 1 any (omega arith) in
-      record { left = p.within; right = q.within; alike = p.long ∙ (fit.matched.0 ∙ (sym fit.matched.1 ∙ sym q.long)) }
-  are_ready (term.Shl a b width) is h s fit =
+  are_ready (term.Binary op a b width) is h s fit =
       let p = s 0 any (omega arith) in
       let q = s 1 any (omega arith) in
       (record { left = p.within; right = q.within; alike = p.long ∙ (fit.matched.0 ∙ (sym fit.matched.1 ∙ sym q.long)) }, omega (arith, p.long, fit.matched.0, fit.within.0.0), omega (arith, p.long, fit.matched.0, fit.within.0.1))
-  are_ready (term.Lshr a b width) is h s fit =
-      let p = s 0 any (omega arith) in
-      let q = s 1 any (omega arith) in
-      (record { left = p.within; right = q.within; alike = p.long ∙ (fit.matched.0 ∙ (sym fit.matched.1 ∙ sym q.long)) }, omega (arith, p.long, fit.matched.0, fit.within.0.0), omega (arith, p.long, fit.matched.0, fit.within.0.1))
-  are_ready (term.Ashr a b width) is h s fit =
-      let p = s 0 any (omega arith) in
-      let q = s 1 any (omega arith) in
-      (record { left = p.within; right = q.within; alike = p.long ∙ (fit.matched.0 ∙ (sym fit.matched.1 ∙ sym q.long)) }, omega (arith, p.long, fit.matched.0, fit.within.0.0), omega (arith, p.long, fit.matched.0, fit.within.0.1))
-  are_ready (term.Eq a b width) is h s fit =
-      let p = s 0 any (omega arith) in
-      let q = s 1 any (omega arith) in
-      record { left = p.within; right = q.within; alike = p.long ∙ (fit.matched.0 ∙ (sym fit.matched.1 ∙ sym q.long)) }
-  are_ready (term.Ult a b width) is h s fit =
-      let p = s 0 any (omega arith) in
-      let q = s 1 any (omega arith) in
-      record { left = p.within; right = q.within; alike = p.long ∙ (fit.matched.0 ∙ (sym fit.matched.1 ∙ sym q.long)) }
-  are_ready (term.Slt a b width) is h s fit =
-      let p = s 0 any (omega arith) in
-      let q = s 1 any (omega arith) in
-      (record { left = p.within; right = q.within; alike = p.long ∙ (fit.matched.0 ∙ (sym fit.matched.1 ∙ sym q.long)) }, omega (arith, p.long, fit.matched.0, fit.within.0.0))
   are_ready (term.Ite c a b width) is h s fit =
       let r = s 0 any (omega arith) in
       let p = s 1 any (omega arith) in

@@ -1,5 +1,5 @@
 -- Which inputs of a circuit are the digits of which variable.
-use Rattle.std.specs.Prelude.{ℕ, ◌≡◌, ◌%◌, ◌^◌, ◌++◌, ◌&&◌, ◌⊎◌, Bool, cond, false, nat_eq, All, List, [], ◌∷◌, length, map, slice_get, Option, Some, None}
+use Rattle.std.specs.Prelude.{ℕ, ◌≡◌, ◌%◌, ◌^◌, ◌++◌, ◌⊎◌, Bool, cond, false, All, List, [], ◌∷◌, length, map, slice_get, Option, Some, None}
 use Rattle.gates.specs.declared.circuit.GateId.{GateId}
 use Rattle.gates.specs.declared.circuit.Gate.{Gate}
 use Rattle.gates.specs.Numbering.{AreApart}

@@ -1,10 +1,10 @@
 -- The number that is written for a term by gates over those of earlier ones.
-use Rattle.std.specs.Prelude.{ℕ, ◌≡◌, ◌<◌, ◌≤◌, ◌+◌, ◌-◌, ◌*◌, ◌/◌, ◌%◌, ◌^◌, Bool, false, cond, nat_eq, nat_lt, bit_and, bit_or, bit_xor, List, [], ◌∷◌, length, slice_index_or, Some}
+use Rattle.std.specs.Prelude.{ℕ, ◌≡◌, ◌<◌, ◌≤◌, ◌+◌, ◌-◌, ◌*◌, ◌/◌, ◌%◌, ◌^◌, Bool, false, cond, List, [], ◌∷◌, length, slice_index_or, Some}
 use Rattle.std.specs.Option.{unwrap_or}
 use Rattle.bv_terms.specs.declared.term.TermId.{TermId}
 use Rattle.bv_terms.specs.declared.term.Term.{Term}
 use Rattle.bv_terms.specs.declared.term.Term.TheVariants as term
-use Rattle.bv_terms.specs.Tree.{digit, quotient, remainder, shifted_left, shifted_right, shifted_signed, is_less_signed, extended_signed}
+use Rattle.bv_terms.specs.Tree.{binary_value, binary_width, extended_signed}
 use Rattle.bv_terms.specs.Trees.{IsWidth}
 use Rattle.gates.specs.declared.circuit.GateId.{GateId}
 use Rattle.gates.specs.declared.circuit.Gate.{Gate}
@@ -18,20 +18,7 @@ abbrev pub operands : Term → List TermId
 operands (term.Constant value width) = []
 operands (term.Variable number width) = []
 operands (term.Not a width) = a ∷ []
-operands (term.And a b width) = a ∷ b ∷ []
-operands (term.Or a b width) = a ∷ b ∷ []
-operands (term.Xor a b width) = a ∷ b ∷ []
-operands (term.Add a b width) = a ∷ b ∷ []
-operands (term.Sub a b width) = a ∷ b ∷ []
-operands (term.Mul a b width) = a ∷ b ∷ []
-operands (term.Udiv a b width) = a ∷ b ∷ []
-operands (term.Urem a b width) = a ∷ b ∷ []
-operands (term.Shl a b width) = a ∷ b ∷ []
-operands (term.Lshr a b width) = a ∷ b ∷ []
-operands (term.Ashr a b width) = a ∷ b ∷ []
-operands (term.Eq a b width) = a ∷ b ∷ []
-operands (term.Ult a b width) = a ∷ b ∷ []
-operands (term.Slt a b width) = a ∷ b ∷ []
+operands (term.Binary op a b width) = a ∷ b ∷ []
 operands (term.Ite c a b width) = c ∷ a ∷ b ∷ []
 operands (term.Extract a from width) = a ∷ []
 operands (term.Concat high low below width) = high ∷ low ∷ []
@@ -62,20 +49,7 @@ abbrev pub written : (ℕ → Bool) → List Gate → List (Variable × List Gat
 written inputs gates table done (term.Constant value width) = value
 written inputs gates table done (term.Variable number width) = number_at inputs gates (digits_or_none table number width)
 written inputs gates table done (term.Not a width) = 2 ^ size_in done a - 1 - number_in inputs gates done a
-written inputs gates table done (term.And a b width) = bit_and (number_in inputs gates done a) (number_in inputs gates done b)
-written inputs gates table done (term.Or a b width) = bit_or (number_in inputs gates done a) (number_in inputs gates done b)
-written inputs gates table done (term.Xor a b width) = bit_xor (number_in inputs gates done a) (number_in inputs gates done b)
-written inputs gates table done (term.Add a b width) = (number_in inputs gates done a + number_in inputs gates done b) % 2 ^ size_in done a
-written inputs gates table done (term.Sub a b width) = (number_in inputs gates done a + (2 ^ size_in done a - number_in inputs gates done b)) % 2 ^ size_in done a
-written inputs gates table done (term.Mul a b width) = (number_in inputs gates done a * number_in inputs gates done b) % 2 ^ size_in done a
-written inputs gates table done (term.Udiv a b width) = quotient (size_in done a) (number_in inputs gates done a) (number_in inputs gates done b)
-written inputs gates table done (term.Urem a b width) = remainder (number_in inputs gates done a) (number_in inputs gates done b)
-written inputs gates table done (term.Shl a b width) = shifted_left (size_in done a) (number_in inputs gates done a) (number_in inputs gates done b)
-written inputs gates table done (term.Lshr a b width) = shifted_right (size_in done a) (number_in inputs gates done a) (number_in inputs gates done b)
-written inputs gates table done (term.Ashr a b width) = shifted_signed (size_in done a) (number_in inputs gates done a) (number_in inputs gates done b)
-written inputs gates table done (term.Eq a b width) = digit (nat_eq (number_in inputs gates done a) (number_in inputs gates done b))
-written inputs gates table done (term.Ult a b width) = digit (nat_lt (number_in inputs gates done a) (number_in inputs gates done b))
-written inputs gates table done (term.Slt a b width) = digit (is_less_signed (size_in done a) (number_in inputs gates done a) (number_in inputs gates done b))
+written inputs gates table done (term.Binary op a b width) = binary_value op (size_in done a) (number_in inputs gates done a) (number_in inputs gates done b)
 written inputs gates table done (term.Ite c a b width) = cond (first_in inputs gates done c) (number_in inputs gates done a) (number_in inputs gates done b)
 written inputs gates table done (term.Extract a from width) = number_in inputs gates done a / 2 ^ from % 2 ^ width
 written inputs gates table done (term.Concat high low below width) = number_in inputs gates done high * 2 ^ size_in done low + number_in inputs gates done low
@@ -87,20 +61,7 @@ abbrev pub written_size : List (Variable × List GateId) → List (List GateId) 
 written_size table done (term.Constant value width) = width
 written_size table done (term.Variable number width) = length (digits_or_none table number width)
 written_size table done (term.Not a width) = size_in done a
-written_size table done (term.And a b width) = size_in done a
-written_size table done (term.Or a b width) = size_in done a
-written_size table done (term.Xor a b width) = size_in done a
-written_size table done (term.Add a b width) = size_in done a
-written_size table done (term.Sub a b width) = size_in done a
-written_size table done (term.Mul a b width) = size_in done a
-written_size table done (term.Udiv a b width) = size_in done a
-written_size table done (term.Urem a b width) = size_in done a
-written_size table done (term.Shl a b width) = size_in done a
-written_size table done (term.Lshr a b width) = size_in done a
-written_size table done (term.Ashr a b width) = size_in done a
-written_size table done (term.Eq a b width) = 1
-written_size table done (term.Ult a b width) = 1
-written_size table done (term.Slt a b width) = 1
+written_size table done (term.Binary op a b width) = binary_width op (size_in done a)
 written_size table done (term.Ite c a b width) = size_in done a
 written_size table done (term.Extract a from width) = width
 written_size table done (term.Concat high low below width) = size_in done high + size_in done low
@@ -112,20 +73,7 @@ abbrev pub HasVariable : List (Variable × List GateId) → Term → Type 0
 HasVariable table (term.Variable number width) = (digits : List GateId) × (digits_of table (record { number = number; width = width }) ≡ Some digits)
 HasVariable table (term.Constant value width) = Unit {0}
 HasVariable table (term.Not a width) = Unit {0}
-HasVariable table (term.And a b width) = Unit {0}
-HasVariable table (term.Or a b width) = Unit {0}
-HasVariable table (term.Xor a b width) = Unit {0}
-HasVariable table (term.Add a b width) = Unit {0}
-HasVariable table (term.Sub a b width) = Unit {0}
-HasVariable table (term.Mul a b width) = Unit {0}
-HasVariable table (term.Udiv a b width) = Unit {0}
-HasVariable table (term.Urem a b width) = Unit {0}
-HasVariable table (term.Shl a b width) = Unit {0}
-HasVariable table (term.Lshr a b width) = Unit {0}
-HasVariable table (term.Ashr a b width) = Unit {0}
-HasVariable table (term.Eq a b width) = Unit {0}
-HasVariable table (term.Ult a b width) = Unit {0}
-HasVariable table (term.Slt a b width) = Unit {0}
+HasVariable table (term.Binary op a b width) = Unit {0}
 HasVariable table (term.Ite c a b width) = Unit {0}
 HasVariable table (term.Extract a from width) = Unit {0}
 HasVariable table (term.Concat high low below width) = Unit {0}
@@ -143,20 +91,7 @@ abbrev pub AreReady : List Gate → List (Variable × List GateId) → List (Lis
 AreReady gates table done (term.Constant value width) = IsWidth width × (value < 2 ^ width)
 AreReady gates table done (term.Variable number width) = AreGates gates (digits_or_none table number width)
 AreReady gates table done (term.Not a width) = AreGates gates (digits_at done a)
-AreReady gates table done (term.And a b width) = ArePaired gates done a b
-AreReady gates table done (term.Or a b width) = ArePaired gates done a b
-AreReady gates table done (term.Xor a b width) = ArePaired gates done a b
-AreReady gates table done (term.Add a b width) = ArePaired gates done a b
-AreReady gates table done (term.Sub a b width) = ArePaired gates done a b
-AreReady gates table done (term.Mul a b width) = ArePaired gates done a b
-AreReady gates table done (term.Udiv a b width) = ArePaired gates done a b
-AreReady gates table done (term.Urem a b width) = ArePaired gates done a b
-AreReady gates table done (term.Shl a b width) = ArePaired gates done a b × (1 ≤ size_in done a) × (size_in done a ≤ 128)
-AreReady gates table done (term.Lshr a b width) = ArePaired gates done a b × (1 ≤ size_in done a) × (size_in done a ≤ 128)
-AreReady gates table done (term.Ashr a b width) = ArePaired gates done a b × (1 ≤ size_in done a) × (size_in done a ≤ 128)
-AreReady gates table done (term.Eq a b width) = ArePaired gates done a b
-AreReady gates table done (term.Ult a b width) = ArePaired gates done a b
-AreReady gates table done (term.Slt a b width) = ArePaired gates done a b × (1 ≤ size_in done a)
+AreReady gates table done (term.Binary op a b width) = ArePaired gates done a b × (1 ≤ size_in done a) × (size_in done a ≤ 128)
 AreReady gates table done (term.Ite c a b width) = ArePaired gates done a b × AreGates gates (digits_at done c) × (1 ≤ size_in done c)
 AreReady gates table done (term.Extract a from width) = AreGates gates (digits_at done a) × (from + width ≤ size_in done a)
 AreReady gates table done (term.Concat high low below width) = AreGates gates (digits_at done high) × AreGates gates (digits_at done low)

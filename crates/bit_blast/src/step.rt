@@ -1,15 +1,15 @@
 //! The bits of one term over those of earlier ones.
 
-ghost use Rattle.std.specs.Prelude.{◌≡◌, ◌<◌, ◌≤◌, ◌++◌, ◌∷◌, [], IfOk, OnErr, OnOk, List, Some, None, length, nat_eq, nat_lt, slice_index_or};
+ghost use Rattle.std.specs.Prelude.{◌≡◌, ◌<◌, ◌≤◌, ◌++◌, ◌∷◌, [], IfOk, OnErr, OnOk, List, Some, None, length, slice_index_or};
 ghost use Rattle.std.specs.Option.{option_copied};
-ghost use Rattle.bv_terms.specs.Tree.{digit, is_less_signed};
+ghost use Rattle.bv_terms.specs.Tree.{binary_value, binary_width};
 ghost use Rattle.bv_terms.specs.Trees.{IsWithin};
 ghost use Rattle.gates.specs.Values.{Grows, Keeps};
 ghost use Rattle.gate_arith.specs.Numbers.{AreGates, Writes, number_at};
 ghost use Rattle.bit_blast.specs.Table.{Adds, Appends, IsTable, all_digits, digits_of};
 ghost use Rattle.bit_blast.specs.Written.{AreReady, digits_at, digits_or_none, written, written_size};
 
-use bv_terms::{Term, TermId, Variable};
+use bv_terms::{BinaryOp, Term, TermId, Variable};
 use gate_arith::{
     and, choose, constant, difference, divided, equal, extended, inputs, inverse, joined, less,
     less_signed, or, part, product, shift_left, shift_right, shift_right_signed, sign_extended,
@@ -122,59 +122,39 @@ fn bit(alloc: Global, test: GateId) -> Result<Vec<GateId>, NoMemory>
     Ok(digits)
 }
 
-/// Whether two numbers are equal, as a digit.
-fn equal_bit(
+/// The digits of an operation on two numbers of one width.
+fn operation(
     alloc: Global,
     circuit: &mut Circuit,
+    op: BinaryOp,
     a: &[GateId],
     b: &[GateId],
 ) -> Result<Vec<GateId>, NoMemory>
     requires alike { length a.now ≡ length b.now }
+    requires least { 1 ≤ length a.now }
+    requires most { length a.now ≤ 128 }
     requires a { AreGates circuit.old a.now }
     requires b { AreGates circuit.old b.now }
-    ensures made { IfOk result (λ r. Writes circuit.new r.items 1 (λ v. digit (nat_eq (number_at v circuit.old a.now) (number_at v circuit.old b.now)))) }
+    ensures made { IfOk result (λ r. Writes circuit.new r.items (binary_width op (length a.now))
+        (λ v. binary_value op (length a.now) (number_at v circuit.old a.now) (number_at v circuit.old b.now))) }
     ensures kept { Keeps circuit.old circuit.new }
 {
-    let test = equal(alloc, circuit, a, b)?;
-    let digits = bit(alloc, test)?;
-    Ok(digits)
-}
-
-/// Whether the first is less, as unsigned numbers, as a digit.
-fn less_bit(
-    alloc: Global,
-    circuit: &mut Circuit,
-    a: &[GateId],
-    b: &[GateId],
-) -> Result<Vec<GateId>, NoMemory>
-    requires alike { length a.now ≡ length b.now }
-    requires a { AreGates circuit.old a.now }
-    requires b { AreGates circuit.old b.now }
-    ensures made { IfOk result (λ r. Writes circuit.new r.items 1 (λ v. digit (nat_lt (number_at v circuit.old a.now) (number_at v circuit.old b.now)))) }
-    ensures kept { Keeps circuit.old circuit.new }
-{
-    let test = less(alloc, circuit, a, b)?;
-    let digits = bit(alloc, test)?;
-    Ok(digits)
-}
-
-/// Whether the first is less, in two's complement, as a digit.
-fn less_signed_bit(
-    alloc: Global,
-    circuit: &mut Circuit,
-    a: &[GateId],
-    b: &[GateId],
-) -> Result<Vec<GateId>, NoMemory>
-    requires signed { 1 ≤ length a.now }
-    requires alike { length a.now ≡ length b.now }
-    requires a { AreGates circuit.old a.now }
-    requires b { AreGates circuit.old b.now }
-    ensures made { IfOk result (λ r. Writes circuit.new r.items 1 (λ v. digit (is_less_signed (length a.now) (number_at v circuit.old a.now) (number_at v circuit.old b.now)))) }
-    ensures kept { Keeps circuit.old circuit.new }
-{
-    let test = less_signed(alloc, circuit, a, b)?;
-    let digits = bit(alloc, test)?;
-    Ok(digits)
+    match op {
+        BinaryOp::And => and(alloc, circuit, a, b),
+        BinaryOp::Or => or(alloc, circuit, a, b),
+        BinaryOp::Xor => xor(alloc, circuit, a, b),
+        BinaryOp::Add => sum(alloc, circuit, a, b),
+        BinaryOp::Sub => difference(alloc, circuit, a, b),
+        BinaryOp::Mul => product(alloc, circuit, a, b),
+        BinaryOp::Udiv => Ok(divided(alloc, circuit, a, b)?.quotient),
+        BinaryOp::Urem => Ok(divided(alloc, circuit, a, b)?.remainder),
+        BinaryOp::Shl => shift_left(alloc, circuit, a, b),
+        BinaryOp::Lshr => shift_right(alloc, circuit, a, b),
+        BinaryOp::Ashr => shift_right_signed(alloc, circuit, a, b),
+        BinaryOp::Eq => bit(alloc, equal(alloc, circuit, a, b)?),
+        BinaryOp::Ult => bit(alloc, less(alloc, circuit, a, b)?),
+        BinaryOp::Slt => bit(alloc, less_signed(alloc, circuit, a, b)?),
+    }
 }
 
 /// The digits of a term over those of the earlier ones and of the variables.
@@ -194,20 +174,7 @@ pub fn written(
         Term::Constant { value, width } => constant(alloc, circuit, value, width),
         Term::Variable { number, width } => digits_in(alloc, table, number, width),
         Term::Not { a, .. } => inverse(alloc, circuit, at(done, a)),
-        Term::And { a, b, .. } => and(alloc, circuit, at(done, a), at(done, b)),
-        Term::Or { a, b, .. } => or(alloc, circuit, at(done, a), at(done, b)),
-        Term::Xor { a, b, .. } => xor(alloc, circuit, at(done, a), at(done, b)),
-        Term::Add { a, b, .. } => sum(alloc, circuit, at(done, a), at(done, b)),
-        Term::Sub { a, b, .. } => difference(alloc, circuit, at(done, a), at(done, b)),
-        Term::Mul { a, b, .. } => product(alloc, circuit, at(done, a), at(done, b)),
-        Term::Udiv { a, b, .. } => Ok(divided(alloc, circuit, at(done, a), at(done, b))?.quotient),
-        Term::Urem { a, b, .. } => Ok(divided(alloc, circuit, at(done, a), at(done, b))?.remainder),
-        Term::Shl { a, b, .. } => shift_left(alloc, circuit, at(done, a), at(done, b)),
-        Term::Lshr { a, b, .. } => shift_right(alloc, circuit, at(done, a), at(done, b)),
-        Term::Ashr { a, b, .. } => shift_right_signed(alloc, circuit, at(done, a), at(done, b)),
-        Term::Eq { a, b, .. } => equal_bit(alloc, circuit, at(done, a), at(done, b)),
-        Term::Ult { a, b, .. } => less_bit(alloc, circuit, at(done, a), at(done, b)),
-        Term::Slt { a, b, .. } => less_signed_bit(alloc, circuit, at(done, a), at(done, b)),
+        Term::Binary(op, a, b, _) => operation(alloc, circuit, op, at(done, a), at(done, b)),
         Term::Ite { c, a, b, .. } => {
             choose(alloc, circuit, at(done, c)[0], at(done, a), at(done, b))
         }

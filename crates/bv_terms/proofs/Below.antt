@@ -6,10 +6,12 @@ use Rattle.std.proofs.lemmas.Bool.Decides.{Decides-eqb}
 use Rattle.std.proofs.lemmas.Nat.{mod_below, pow_pos, and_le_l, or_lt, xor_lt, mul-le}
 use Rattle.std.proofs.Math.Nat.{div-le_self}
 use Rattle.bv_terms.specs.declared.term.TermId.{TermId}
+use Rattle.bv_terms.specs.declared.term.BinaryOp.{BinaryOp}
+use Rattle.bv_terms.specs.declared.term.BinaryOp.TheVariants as op
 use Rattle.bv_terms.specs.declared.term.Term.{Term}
 use Rattle.bv_terms.specs.declared.term.Term.TheVariants as term
 use Rattle.bv_terms.specs.Tree as tree
-use Rattle.bv_terms.specs.Tree.{Tree, width_of, value_of, truth, digit, quotient, remainder, is_negative, shifted_left, shifted_right, shifted_signed, extended_signed}
+use Rattle.bv_terms.specs.Tree.{Tree, binary_value, binary_width, width_of, value_of, truth, digit, is_negative, shifted_right, extended_signed}
 use Rattle.bv_terms.specs.Trees.{AreFit, IsFit, tree_at, tree_of, trees_from, trees_of, tree_in, term_at}
 use Rattle.bv_terms.proofs.Stages.{length-trees}
 
@@ -61,6 +63,24 @@ extended-below from width a le h =
 zext-below : (from width a : ℕ) → from ≤ width → a < 2 ^ from → a < 2 ^ width
 zext-below from width a le h = omega (arith, pow-le from width le, h)
 
+-- the value of an operation fits what it answers
+binary-below : (o : BinaryOp) (width x y : ℕ) → x < 2 ^ width → y < 2 ^ width → binary_value o width x y < 2 ^ binary_width o width
+binary-below op.And width x y p q = omega (arith, and_le_l x y, p)
+binary-below op.Or width x y p q = or_lt width x y p q
+binary-below op.Xor width x y p q = xor_lt width x y p q
+binary-below op.Add width x y p q = mod_below _ (2 ^ width) (pow_pos width)
+binary-below op.Sub width x y p q = mod_below _ (2 ^ width) (pow_pos width)
+binary-below op.Mul width x y p q = mod_below _ (2 ^ width) (pow_pos width)
+binary-below op.Udiv width x y p q = cond-below (eqb y 0) (2 ^ width - 1) (x / y) (2 ^ width) (omega (arith, pow_pos width)) (omega (arith, div-le_self x y, p))
+binary-below op.Urem width x y p q = mod-below-cond y x (2 ^ width) p q
+binary-below op.Shl width x y p q = cond-below (ltb y width) (x * 2 ^ y % 2 ^ width) 0 (2 ^ width) (mod_below _ (2 ^ width) (pow_pos width)) (pow_pos width)
+binary-below op.Lshr width x y p q = shifted_right-below width x y p
+binary-below op.Ashr width x y p q =
+    cond-below (is_negative width x) (2 ^ width - 1 - shifted_right width (2 ^ width - 1 - x) y) (shifted_right width x y) (2 ^ width) (omega (arith, pow_pos width)) (shifted_right-below width x y p)
+binary-below op.Eq width x y p q = digit-below _
+binary-below op.Ult width x y p q = digit-below _
+binary-below op.Slt width x y p q = digit-below _
+
 module _ (v : ℕ → ℕ → ℕ) where
   abbrev pub AreBelow : List Tree → Type 0
   AreBelow trees = (i : ℕ) → i < length trees → IsBelow v (get_or trees i (tree.Constant 0 1))
@@ -73,20 +93,8 @@ module _ (v : ℕ → ℕ → ℕ) where
   tree-below earlier (term.Constant value width) h fit = fit.within.1
   tree-below earlier (term.Variable number width) h fit = mod_below (v number width) (2 ^ width) (pow_pos width)
   tree-below earlier (term.Not a width) h fit = omega (arith, pow_pos width)
-  tree-below earlier (term.And a b width) h fit = omega (arith, and_le_l (value_of v (tree_at earlier a)) (value_of v (tree_at earlier b)), at-width earlier a width h fit.within.1 fit.matched.0)
-  tree-below earlier (term.Or a b width) h fit = or_lt width (value_of v (tree_at earlier a)) (value_of v (tree_at earlier b)) (at-width earlier a width h fit.within.1 fit.matched.0) (at-width earlier b width h fit.within.2 fit.matched.1)
-  tree-below earlier (term.Xor a b width) h fit = xor_lt width (value_of v (tree_at earlier a)) (value_of v (tree_at earlier b)) (at-width earlier a width h fit.within.1 fit.matched.0) (at-width earlier b width h fit.within.2 fit.matched.1)
-  tree-below earlier (term.Add a b width) h fit = mod_below _ (2 ^ width) (pow_pos width)
-  tree-below earlier (term.Sub a b width) h fit = mod_below _ (2 ^ width) (pow_pos width)
-  tree-below earlier (term.Mul a b width) h fit = mod_below _ (2 ^ width) (pow_pos width)
-  tree-below earlier (term.Udiv a b width) h fit = cond-below (eqb (value_of v (tree_at earlier b)) 0) (2 ^ width - 1) ((value_of v (tree_at earlier a)) / (value_of v (tree_at earlier b))) (2 ^ width) (omega (arith, pow_pos width)) (omega (arith, div-le_self (value_of v (tree_at earlier a)) (value_of v (tree_at earlier b)), at-width earlier a width h fit.within.1 fit.matched.0))
-  tree-below earlier (term.Urem a b width) h fit = mod-below-cond (value_of v (tree_at earlier b)) (value_of v (tree_at earlier a)) (2 ^ width) (at-width earlier a width h fit.within.1 fit.matched.0) (at-width earlier b width h fit.within.2 fit.matched.1)
-  tree-below earlier (term.Shl a b width) h fit = cond-below (ltb (value_of v (tree_at earlier b)) width) ((value_of v (tree_at earlier a)) * 2 ^ (value_of v (tree_at earlier b)) % 2 ^ width) 0 (2 ^ width) (mod_below _ (2 ^ width) (pow_pos width)) (pow_pos width)
-  tree-below earlier (term.Lshr a b width) h fit = shifted_right-below width (value_of v (tree_at earlier a)) (value_of v (tree_at earlier b)) (at-width earlier a width h fit.within.1 fit.matched.0)
-  tree-below earlier (term.Ashr a b width) h fit = cond-below (is_negative width (value_of v (tree_at earlier a))) (2 ^ width - 1 - shifted_right width (2 ^ width - 1 - (value_of v (tree_at earlier a))) (value_of v (tree_at earlier b))) (shifted_right width (value_of v (tree_at earlier a)) (value_of v (tree_at earlier b))) (2 ^ width) (omega (arith, pow_pos width)) (shifted_right-below width (value_of v (tree_at earlier a)) (value_of v (tree_at earlier b)) (at-width earlier a width h fit.within.1 fit.matched.0))
-  tree-below earlier (term.Eq a b width) h fit = digit-below _
-  tree-below earlier (term.Ult a b width) h fit = digit-below _
-  tree-below earlier (term.Slt a b width) h fit = digit-below _
+  tree-below earlier (term.Binary o a b width) h fit =
+      binary-below o width (value_of v (tree_at earlier a)) (value_of v (tree_at earlier b)) (at-width earlier a width h fit.within.1 fit.matched.0) (at-width earlier b width h fit.within.2 fit.matched.1)
   tree-below earlier (term.Ite c a b width) h fit = cond-below (truth (value_of v (tree_at earlier c))) (value_of v (tree_at earlier a)) (value_of v (tree_at earlier b)) (2 ^ width) (at-width earlier a width h fit.within.1 fit.matched.0) (at-width earlier b width h fit.within.2 fit.matched.1)
   tree-below earlier (term.Extract a from width) h fit = mod_below _ (2 ^ width) (pow_pos width)
   tree-below earlier (term.Concat high low below width) h fit =

@@ -7,7 +7,7 @@ use Rattle.bv_terms.specs.declared.term.Term.{Term}
 use Rattle.bv_terms.specs.declared.term.Term.TheVariants as term
 use Rattle.bv_terms.specs.Trees.{AreDistinct}
 use Rattle.bv_terms.specs.contracts.term.TermPartialEq.TheImpl.{eq-value}
-use Rattle.bv_terms.proofs.Same.{term_found}
+use Rattle.bv_terms.specs.contracts.term.TermEq.TheImpl.Laws.{laws-law}
 
 stored-at : (ts : List Term) (i : ℕ) (d t : Term) → slice_get ts i ≡ Some t → (i < length ts) × (get_or ts i d ≡ t)
 stored-at [] i d t e = absurd (let x : ⊥ = cc in x)
@@ -19,8 +19,8 @@ distinct_terms ts h i j t ei ej =
     let d = term.Constant 0 0 in
     let a = stored-at ts i d t ei in
     let b = stored-at ts j d t ej in
-    let found : eq-value.it (get_or ts i d) (get_or ts j d) ≡ true = subst (λ (x : Term). eq-value.it x (get_or ts j d) ≡ true) (sym a.1) (subst (λ (y : Term). eq-value.it t y ≡ true) (sym b.1) (term_found t)) in
-    let back : eq-value.it (get_or ts j d) (get_or ts i d) ≡ true = subst (λ (x : Term). eq-value.it x (get_or ts i d) ≡ true) (sym b.1) (subst (λ (y : Term). eq-value.it t y ≡ true) (sym a.1) (term_found t)) in
+    let found : eq-value.it (get_or ts i d) (get_or ts j d) ≡ true = subst (λ (x : Term). eq-value.it x (get_or ts j d) ≡ true) (sym a.1) (subst (λ (y : Term). eq-value.it t y ≡ true) (sym b.1) (laws-law.refl t)) in
+    let back : eq-value.it (get_or ts j d) (get_or ts i d) ≡ true = subst (λ (x : Term). eq-value.it x (get_or ts i d) ≡ true) (sym b.1) (subst (λ (y : Term). eq-value.it t y ≡ true) (sym a.1) (laws-law.refl t)) in
     elim (cases_eq i j) [
       | inl e ↦ e
       | inr ne ↦ elim (cases_lt i j) [

@@ -3,8 +3,11 @@ use Rattle.std.proofs.Common.{ℕ, ◌≡◌, ◌&&◌, Bool, true, false, eqb, 
 use Rattle.std.proofs.lemmas.Bool.{false≢true}
 use Rattle.std.proofs.lemmas.Bool.Decides.{Decides-eqb}
 use Rattle.bv_terms.specs.declared.term.TermId.{TermId}
+use Rattle.bv_terms.specs.declared.term.BinaryOp.{BinaryOp}
+use Rattle.bv_terms.specs.declared.term.BinaryOp.TheVariants as op
 use Rattle.bv_terms.specs.declared.term.Term.{Term}
 use Rattle.bv_terms.specs.declared.term.Term.TheVariants as term
+use Rattle.bv_terms.specs.contracts.term.BinaryOpPartialEq.TheImpl as found_op
 use Rattle.bv_terms.specs.contracts.term.TermPartialEq.TheImpl.{eq-value}
 
 and_left : (a b : Bool) → (a && b) ≡ true → a ≡ true
@@ -21,6 +24,23 @@ number_same x y h = (Decides-eqb x y).0 h
 id_same : (a b : TermId) → eqb a.index b.index ≡ true → a ≡ b
 id_same a b h = let F : ℕ → TermId = λ i. record { index = i } in ap F (number_same a.index b.index h)
 
+op_same : (o p : BinaryOp) → found_op.eq-value.it o p ≡ true → o ≡ p
+op_same op.And op.And h = refl
+op_same op.Or op.Or h = refl
+op_same op.Xor op.Xor h = refl
+op_same op.Add op.Add h = refl
+op_same op.Sub op.Sub h = refl
+op_same op.Mul op.Mul h = refl
+op_same op.Udiv op.Udiv h = refl
+op_same op.Urem op.Urem h = refl
+op_same op.Shl op.Shl h = refl
+op_same op.Lshr op.Lshr h = refl
+op_same op.Ashr op.Ashr h = refl
+op_same op.Eq op.Eq h = refl
+op_same op.Ult op.Ult h = refl
+op_same op.Slt op.Slt h = refl
+op_same o p h = absurd (false≢true h)
+
 pub term_same : (s t : Term) → eq-value.it s t ≡ true → s ≡ t
 term_same (term.Constant value width) (term.Constant value' width') h =
     let e0 : value ≡ value' = number_same value value' (and_left (eqb value value') (eqb width width') h) in
@@ -34,75 +54,12 @@ term_same (term.Not a width) (term.Not a' width') h =
     let e0 : a ≡ a' = id_same a a' (and_left (eqb a.index a'.index) (eqb width width') h) in
     let e1 : width ≡ width' = number_same width width' (and_right (eqb a.index a'.index) (eqb width width') h) in
     cc
-term_same (term.And a b width) (term.And a' b' width') h =
-    let e0 : a ≡ a' = id_same a a' (and_left (eqb a.index a'.index) (eqb b.index b'.index && (eqb width width')) h) in
-    let e1 : b ≡ b' = id_same b b' (and_left (eqb b.index b'.index) (eqb width width') (and_right (eqb a.index a'.index) (eqb b.index b'.index && (eqb width width')) h)) in
-    let e2 : width ≡ width' = number_same width width' (and_right (eqb b.index b'.index) (eqb width width') (and_right (eqb a.index a'.index) (eqb b.index b'.index && (eqb width width')) h)) in
-    cc
-term_same (term.Or a b width) (term.Or a' b' width') h =
-    let e0 : a ≡ a' = id_same a a' (and_left (eqb a.index a'.index) (eqb b.index b'.index && (eqb width width')) h) in
-    let e1 : b ≡ b' = id_same b b' (and_left (eqb b.index b'.index) (eqb width width') (and_right (eqb a.index a'.index) (eqb b.index b'.index && (eqb width width')) h)) in
-    let e2 : width ≡ width' = number_same width width' (and_right (eqb b.index b'.index) (eqb width width') (and_right (eqb a.index a'.index) (eqb b.index b'.index && (eqb width width')) h)) in
-    cc
-term_same (term.Xor a b width) (term.Xor a' b' width') h =
-    let e0 : a ≡ a' = id_same a a' (and_left (eqb a.index a'.index) (eqb b.index b'.index && (eqb width width')) h) in
-    let e1 : b ≡ b' = id_same b b' (and_left (eqb b.index b'.index) (eqb width width') (and_right (eqb a.index a'.index) (eqb b.index b'.index && (eqb width width')) h)) in
-    let e2 : width ≡ width' = number_same width width' (and_right (eqb b.index b'.index) (eqb width width') (and_right (eqb a.index a'.index) (eqb b.index b'.index && (eqb width width')) h)) in
-    cc
-term_same (term.Add a b width) (term.Add a' b' width') h =
-    let e0 : a ≡ a' = id_same a a' (and_left (eqb a.index a'.index) (eqb b.index b'.index && (eqb width width')) h) in
-    let e1 : b ≡ b' = id_same b b' (and_left (eqb b.index b'.index) (eqb width width') (and_right (eqb a.index a'.index) (eqb b.index b'.index && (eqb width width')) h)) in
-    let e2 : width ≡ width' = number_same width width' (and_right (eqb b.index b'.index) (eqb width width') (and_right (eqb a.index a'.index) (eqb b.index b'.index && (eqb width width')) h)) in
-    cc
-term_same (term.Sub a b width) (term.Sub a' b' width') h =
-    let e0 : a ≡ a' = id_same a a' (and_left (eqb a.index a'.index) (eqb b.index b'.index && (eqb width width')) h) in
-    let e1 : b ≡ b' = id_same b b' (and_left (eqb b.index b'.index) (eqb width width') (and_right (eqb a.index a'.index) (eqb b.index b'.index && (eqb width width')) h)) in
-    let e2 : width ≡ width' = number_same width width' (and_right (eqb b.index b'.index) (eqb width width') (and_right (eqb a.index a'.index) (eqb b.index b'.index && (eqb width width')) h)) in
-    cc
-term_same (term.Mul a b width) (term.Mul a' b' width') h =
-    let e0 : a ≡ a' = id_same a a' (and_left (eqb a.index a'.index) (eqb b.index b'.index && (eqb width width')) h) in
-    let e1 : b ≡ b' = id_same b b' (and_left (eqb b.index b'.index) (eqb width width') (and_right (eqb a.index a'.index) (eqb b.index b'.index && (eqb width width')) h)) in
-    let e2 : width ≡ width' = number_same width width' (and_right (eqb b.index b'.index) (eqb width width') (and_right (eqb a.index a'.index) (eqb b.index b'.index && (eqb width width')) h)) in
-    cc
-term_same (term.Udiv a b width) (term.Udiv a' b' width') h =
-    let e0 : a ≡ a' = id_same a a' (and_left (eqb a.index a'.index) (eqb b.index b'.index && (eqb width width')) h) in
-    let e1 : b ≡ b' = id_same b b' (and_left (eqb b.index b'.index) (eqb width width') (and_right (eqb a.index a'.index) (eqb b.index b'.index && (eqb width width')) h)) in
-    let e2 : width ≡ width' = number_same width width' (and_right (eqb b.index b'.index) (eqb width width') (and_right (eqb a.index a'.index) (eqb b.index b'.index && (eqb width width')) h)) in
-    cc
-term_same (term.Urem a b width) (term.Urem a' b' width') h =
-    let e0 : a ≡ a' = id_same a a' (and_left (eqb a.index a'.index) (eqb b.index b'.index && (eqb width width')) h) in
-    let e1 : b ≡ b' = id_same b b' (and_left (eqb b.index b'.index) (eqb width width') (and_right (eqb a.index a'.index) (eqb b.index b'.index && (eqb width width')) h)) in
-    let e2 : width ≡ width' = number_same width width' (and_right (eqb b.index b'.index) (eqb width width') (and_right (eqb a.index a'.index) (eqb b.index b'.index && (eqb width width')) h)) in
-    cc
-term_same (term.Shl a b width) (term.Shl a' b' width') h =
-    let e0 : a ≡ a' = id_same a a' (and_left (eqb a.index a'.index) (eqb b.index b'.index && (eqb width width')) h) in
-    let e1 : b ≡ b' = id_same b b' (and_left (eqb b.index b'.index) (eqb width width') (and_right (eqb a.index a'.index) (eqb b.index b'.index && (eqb width width')) h)) in
-    let e2 : width ≡ width' = number_same width width' (and_right (eqb b.index b'.index) (eqb width width') (and_right (eqb a.index a'.index) (eqb b.index b'.index && (eqb width width')) h)) in
-    cc
-term_same (term.Lshr a b width) (term.Lshr a' b' width') h =
-    let e0 : a ≡ a' = id_same a a' (and_left (eqb a.index a'.index) (eqb b.index b'.index && (eqb width width')) h) in
-    let e1 : b ≡ b' = id_same b b' (and_left (eqb b.index b'.index) (eqb width width') (and_right (eqb a.index a'.index) (eqb b.index b'.index && (eqb width width')) h)) in
-    let e2 : width ≡ width' = number_same width width' (and_right (eqb b.index b'.index) (eqb width width') (and_right (eqb a.index a'.index) (eqb b.index b'.index && (eqb width width')) h)) in
-    cc
-term_same (term.Ashr a b width) (term.Ashr a' b' width') h =
-    let e0 : a ≡ a' = id_same a a' (and_left (eqb a.index a'.index) (eqb b.index b'.index && (eqb width width')) h) in
-    let e1 : b ≡ b' = id_same b b' (and_left (eqb b.index b'.index) (eqb width width') (and_right (eqb a.index a'.index) (eqb b.index b'.index && (eqb width width')) h)) in
-    let e2 : width ≡ width' = number_same width width' (and_right (eqb b.index b'.index) (eqb width width') (and_right (eqb a.index a'.index) (eqb b.index b'.index && (eqb width width')) h)) in
-    cc
-term_same (term.Eq a b width) (term.Eq a' b' width') h =
-    let e0 : a ≡ a' = id_same a a' (and_left (eqb a.index a'.index) (eqb b.index b'.index && (eqb width width')) h) in
-    let e1 : b ≡ b' = id_same b b' (and_left (eqb b.index b'.index) (eqb width width') (and_right (eqb a.index a'.index) (eqb b.index b'.index && (eqb width width')) h)) in
-    let e2 : width ≡ width' = number_same width width' (and_right (eqb b.index b'.index) (eqb width width') (and_right (eqb a.index a'.index) (eqb b.index b'.index && (eqb width width')) h)) in
-    cc
-term_same (term.Ult a b width) (term.Ult a' b' width') h =
-    let e0 : a ≡ a' = id_same a a' (and_left (eqb a.index a'.index) (eqb b.index b'.index && (eqb width width')) h) in
-    let e1 : b ≡ b' = id_same b b' (and_left (eqb b.index b'.index) (eqb width width') (and_right (eqb a.index a'.index) (eqb b.index b'.index && (eqb width width')) h)) in
-    let e2 : width ≡ width' = number_same width width' (and_right (eqb b.index b'.index) (eqb width width') (and_right (eqb a.index a'.index) (eqb b.index b'.index && (eqb width width')) h)) in
-    cc
-term_same (term.Slt a b width) (term.Slt a' b' width') h =
-    let e0 : a ≡ a' = id_same a a' (and_left (eqb a.index a'.index) (eqb b.index b'.index && (eqb width width')) h) in
-    let e1 : b ≡ b' = id_same b b' (and_left (eqb b.index b'.index) (eqb width width') (and_right (eqb a.index a'.index) (eqb b.index b'.index && (eqb width width')) h)) in
-    let e2 : width ≡ width' = number_same width width' (and_right (eqb b.index b'.index) (eqb width width') (and_right (eqb a.index a'.index) (eqb b.index b'.index && (eqb width width')) h)) in
+term_same (term.Binary o a b width) (term.Binary o' a' b' width') h =
+    let same = found_op.eq-value.it o o' in
+    let e0 : o ≡ o' = op_same o o' (and_left same (eqb a.index a'.index && (eqb b.index b'.index && (eqb width width'))) h) in
+    let e1 : a ≡ a' = id_same a a' (and_left (eqb a.index a'.index) (eqb b.index b'.index && (eqb width width')) (and_right same (eqb a.index a'.index && (eqb b.index b'.index && (eqb width width'))) h)) in
+    let e2 : b ≡ b' = id_same b b' (and_left (eqb b.index b'.index) (eqb width width') (and_right (eqb a.index a'.index) (eqb b.index b'.index && (eqb width width')) (and_right same (eqb a.index a'.index && (eqb b.index b'.index && (eqb width width'))) h))) in
+    let e3 : width ≡ width' = number_same width width' (and_right (eqb b.index b'.index) (eqb width width') (and_right (eqb a.index a'.index) (eqb b.index b'.index && (eqb width width')) (and_right same (eqb a.index a'.index && (eqb b.index b'.index && (eqb width width'))) h))) in
     cc
 term_same (term.Ite c a b width) (term.Ite c' a' b' width') h =
     let e0 : c ≡ c' = id_same c c' (and_left (eqb c.index c'.index) (eqb a.index a'.index && (eqb b.index b'.index && (eqb width width'))) h) in
@@ -131,31 +88,3 @@ term_same (term.Sext a from width) (term.Sext a' from' width') h =
     let e2 : width ≡ width' = number_same width width' (and_right (eqb from from') (eqb width width') (and_right (eqb a.index a'.index) (eqb from from' && (eqb width width')) h)) in
     cc
 term_same s t h = absurd (false≢true h)
-
-number_found : (x : ℕ) → eqb x x ≡ true
-number_found x = (Decides-eqb x x).1 refl
-
--- each term is found equal to itself
-pub term_found : (t : Term) → eq-value.it t t ≡ true
-term_found (term.Constant value width) = rw (number_found value, number_found width) refl
-term_found (term.Variable number width) = rw (number_found number, number_found width) refl
-term_found (term.Not a width) = rw (number_found a.index, number_found width) refl
-term_found (term.And a b width) = rw (number_found a.index, number_found b.index, number_found width) refl
-term_found (term.Or a b width) = rw (number_found a.index, number_found b.index, number_found width) refl
-term_found (term.Xor a b width) = rw (number_found a.index, number_found b.index, number_found width) refl
-term_found (term.Add a b width) = rw (number_found a.index, number_found b.index, number_found width) refl
-term_found (term.Sub a b width) = rw (number_found a.index, number_found b.index, number_found width) refl
-term_found (term.Mul a b width) = rw (number_found a.index, number_found b.index, number_found width) refl
-term_found (term.Udiv a b width) = rw (number_found a.index, number_found b.index, number_found width) refl
-term_found (term.Urem a b width) = rw (number_found a.index, number_found b.index, number_found width) refl
-term_found (term.Shl a b width) = rw (number_found a.index, number_found b.index, number_found width) refl
-term_found (term.Lshr a b width) = rw (number_found a.index, number_found b.index, number_found width) refl
-term_found (term.Ashr a b width) = rw (number_found a.index, number_found b.index, number_found width) refl
-term_found (term.Eq a b width) = rw (number_found a.index, number_found b.index, number_found width) refl
-term_found (term.Ult a b width) = rw (number_found a.index, number_found b.index, number_found width) refl
-term_found (term.Slt a b width) = rw (number_found a.index, number_found b.index, number_found width) refl
-term_found (term.Ite c a b width) = rw (number_found c.index, number_found a.index, number_found b.index, number_found width) refl
-term_found (term.Extract a from width) = rw (number_found a.index, number_found from, number_found width) refl
-term_found (term.Concat high low below width) = rw (number_found high.index, number_found low.index, number_found below, number_found width) refl
-term_found (term.Zext a width) = rw (number_found a.index, number_found width) refl
-term_found (term.Sext a from width) = rw (number_found a.index, number_found from, number_found width) refl

@@ -1,11 +1,13 @@
 -- The trees of terms as one more is stored.
-use Rattle.std.proofs.Common.{Bool, true, false, cond, ap, ℕ, zero, suc, ◌≡◌, ◌<◌, ◌+◌, List, [], ◌∷◌, ◌++◌, length, get_or, slice_get, Some, sym, subst, arith, ◌∙◌, refl, length-append}
+use Rattle.std.proofs.Common.{Bool, true, false, cond, ap, ℕ, zero, suc, ◌≡◌, ◌<◌, ◌≤◌, ◌+◌, List, [], ◌∷◌, ◌++◌, length, get_or, slice_get, Some, sym, subst, arith, ◌∙◌, refl, length-append}
 use Rattle.std.proofs.lemmas.List.{get_or_push, get_or_append_left}
 use Rattle.bv_terms.specs.declared.term.TermId.{TermId}
+use Rattle.bv_terms.specs.declared.term.BinaryOp.{BinaryOp}
+use Rattle.bv_terms.specs.declared.term.BinaryOp.TheVariants as op
 use Rattle.bv_terms.specs.declared.term.Term.{Term}
 use Rattle.bv_terms.specs.declared.term.Term.TheVariants as term
 use Rattle.bv_terms.specs.Tree as tree
-use Rattle.bv_terms.specs.Tree.{Tree, width_of, value_of}
+use Rattle.bv_terms.specs.Tree.{Tree, binary_width, width_of, value_of}
 use Rattle.bv_terms.specs.Trees.{AreFit, IsFit, IsWidth, IsWithin, tree_at, tree_of, term_width, trees_from}
 
 pub AreFit-push : (earlier : List Tree) (terms : List Term) (t : Term) → AreFit earlier terms → IsFit (trees_from earlier terms) t → AreFit earlier (terms ++ t ∷ [])
@@ -37,20 +39,7 @@ pub width-tree : (earlier : List Tree) (t : Term) → width_of (tree_of earlier 
 width-tree earlier (term.Constant value width) = refl
 width-tree earlier (term.Variable number width) = refl
 width-tree earlier (term.Not a width) = refl
-width-tree earlier (term.And a b width) = refl
-width-tree earlier (term.Or a b width) = refl
-width-tree earlier (term.Xor a b width) = refl
-width-tree earlier (term.Add a b width) = refl
-width-tree earlier (term.Sub a b width) = refl
-width-tree earlier (term.Mul a b width) = refl
-width-tree earlier (term.Udiv a b width) = refl
-width-tree earlier (term.Urem a b width) = refl
-width-tree earlier (term.Shl a b width) = refl
-width-tree earlier (term.Lshr a b width) = refl
-width-tree earlier (term.Ashr a b width) = refl
-width-tree earlier (term.Eq a b width) = refl
-width-tree earlier (term.Ult a b width) = refl
-width-tree earlier (term.Slt a b width) = refl
+width-tree earlier (term.Binary o a b width) = refl
 width-tree earlier (term.Ite c a b width) = refl
 width-tree earlier (term.Extract a from width) = refl
 width-tree earlier (term.Concat high low below width) = refl
@@ -63,20 +52,7 @@ pub tree-same : (early late : List Tree) (t : Term) → IsWithin (length early) 
 tree-same early late (term.Constant value width) w h = refl
 tree-same early late (term.Variable number width) w h = refl
 tree-same early late (term.Not a width) w h = ap (λ x. tree.Not x width) (h a w.1)
-tree-same early late (term.And a b width) w h = rw (h a w.1, h b w.2) refl
-tree-same early late (term.Or a b width) w h = rw (h a w.1, h b w.2) refl
-tree-same early late (term.Xor a b width) w h = rw (h a w.1, h b w.2) refl
-tree-same early late (term.Add a b width) w h = rw (h a w.1, h b w.2) refl
-tree-same early late (term.Sub a b width) w h = rw (h a w.1, h b w.2) refl
-tree-same early late (term.Mul a b width) w h = rw (h a w.1, h b w.2) refl
-tree-same early late (term.Udiv a b width) w h = rw (h a w.1, h b w.2) refl
-tree-same early late (term.Urem a b width) w h = rw (h a w.1, h b w.2) refl
-tree-same early late (term.Shl a b width) w h = rw (h a w.1, h b w.2) refl
-tree-same early late (term.Lshr a b width) w h = rw (h a w.1, h b w.2) refl
-tree-same early late (term.Ashr a b width) w h = rw (h a w.1, h b w.2) refl
-tree-same early late (term.Eq a b width) w h = rw (h a w.1, h b w.2) refl
-tree-same early late (term.Ult a b width) w h = rw (h a w.1, h b w.2) refl
-tree-same early late (term.Slt a b width) w h = rw (h a w.1, h b w.2) refl
+tree-same early late (term.Binary o a b width) w h = rw (h a w.1, h b w.2) refl
 tree-same early late (term.Ite c a b width) w h = rw (h c w.3, h a w.1, h b w.2) refl
 tree-same early late (term.Extract a from width) w h = ap (λ x. tree.Extract x from width) (h a w.1)
 tree-same early late (term.Concat high low below width) w h = rw (h high w.1, h low w.2) refl
@@ -102,36 +78,41 @@ tree-stored earlier (s ∷ ss) (suc i) t fit e =
     ∙ tree-stored (earlier ++ tree_of earlier s ∷ []) ss i t fit.1 e
 
 -- the width of a term that goes well is one
+one_width : IsWidth 1
+one_width = (omega arith, omega arith)
+
+binary-range : (o : BinaryOp) (width : ℕ) → IsWidth width → IsWidth (binary_width o width)
+binary-range op.Eq width is = one_width
+binary-range op.Ult width is = one_width
+binary-range op.Slt width is = one_width
+binary-range _ width is = is
+
+pub width-within : (n : ℕ) (t : Term) → IsWithin n t → IsWidth (term_width t)
+width-within n (term.Constant value width) w = w.0
+width-within n (term.Variable number width) w = w
+width-within n (term.Not a width) w = w.0
+width-within n (term.Binary o a b width) w = binary-range o width w.0
+width-within n (term.Ite c a b width) w = w.0
+width-within n (term.Extract a from width) w = w.0
+width-within n (term.Concat high low below width) w = w.0
+width-within n (term.Zext a width) w = w.0
+width-within n (term.Sext a from width) w = w.0
+
 pub width-range : (earlier : List Tree) (ts : List Term) (i : ℕ) (t : Term) → AreFit earlier ts → slice_get ts i ≡ Some t → IsWidth (term_width t)
 width-range earlier [] i t fit e = absurd (let x : ⊥ = cc in x)
 width-range earlier (s ∷ ss) zero t fit e =
     let is : s ≡ t = cc in
-    subst (λ (x : Term). IsWidth (term_width x)) is (own (length earlier) s fit.0.within)
-  where
-    one : IsWidth 1
-    one = (omega arith, omega arith)
-
-    own : (n : ℕ) (x : Term) → IsWithin n x → IsWidth (term_width x)
-    own n (term.Constant value width) w = w.0
-    own n (term.Variable number width) w = w
-    own n (term.Not a width) w = w.0
-    own n (term.And a b width) w = w.0
-    own n (term.Or a b width) w = w.0
-    own n (term.Xor a b width) w = w.0
-    own n (term.Add a b width) w = w.0
-    own n (term.Sub a b width) w = w.0
-    own n (term.Mul a b width) w = w.0
-    own n (term.Udiv a b width) w = w.0
-    own n (term.Urem a b width) w = w.0
-    own n (term.Shl a b width) w = w.0
-    own n (term.Lshr a b width) w = w.0
-    own n (term.Ashr a b width) w = w.0
-    own n (term.Eq a b width) w = one
-    own n (term.Ult a b width) w = one
-    own n (term.Slt a b width) w = one
-    own n (term.Ite c a b width) w = w.0
-    own n (term.Extract a from width) w = w.0
-    own n (term.Concat high low below width) w = w.0
-    own n (term.Zext a width) w = w.0
-    own n (term.Sext a from width) w = w.0
+    subst (λ (x : Term). IsWidth (term_width x)) is (width-within (length earlier) s fit.0.within)
 width-range earlier (s ∷ ss) (suc i) t fit e = width-range (earlier ++ tree_of earlier s ∷ []) ss i t fit.1 e
+
+-- what names some of the first terms names some of more
+pub within-more : (m n : ℕ) (t : Term) → m ≤ n → IsWithin m t → IsWithin n t
+within-more m n (term.Constant value width) le w = w
+within-more m n (term.Variable number width) le w = w
+within-more m n (term.Not a width) le w = (w.0, omega (arith, le, w.1))
+within-more m n (term.Binary o a b width) le w = (w.0, omega (arith, le, w.1), omega (arith, le, w.2))
+within-more m n (term.Ite c a b width) le w = (w.0, omega (arith, le, w.1), omega (arith, le, w.2), omega (arith, le, w.3))
+within-more m n (term.Extract a from width) le w = (w.0, omega (arith, le, w.1))
+within-more m n (term.Concat high low below width) le w = (w.0, omega (arith, le, w.1), omega (arith, le, w.2))
+within-more m n (term.Zext a width) le w = (w.0, omega (arith, le, w.1))
+within-more m n (term.Sext a from width) le w = (w.0, omega (arith, le, w.1))

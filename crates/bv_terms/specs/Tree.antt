@@ -1,25 +1,21 @@
 -- A term written out, its width, and its value under an assignment.
 use Rattle.std.specs.Prelude.{ℕ, ◌+◌, ◌-◌, ◌*◌, ◌/◌, ◌%◌, ◌^◌, Bool, true, false, not, cond, nat_eq, nat_lt, nat_le, bit_and, bit_or, bit_xor}
+use Rattle.bv_terms.specs.declared.term.BinaryOp.{BinaryOp}
+use Rattle.bv_terms.specs.declared.term.BinaryOp.TheVariants as op
 
--- the number that follows the parts is the width; at a comparison it is that of the two parts
+-- how many bits an operation answers for operands of this width: a comparison answers one
+abbrev pub binary_width : BinaryOp → ℕ → ℕ
+binary_width op.Eq width = 1
+binary_width op.Ult width = 1
+binary_width op.Slt width = 1
+binary_width _ width = width
+
+-- the number that follows the parts is the width; at a binary operation it is that of the two parts
 pub data Tree : Type 0 where
   Constant : (value width : ℕ) → Tree
   Variable : (number width : ℕ) → Tree
   Not : (a : Tree) (width : ℕ) → Tree
-  And : (a b : Tree) (width : ℕ) → Tree
-  Or : (a b : Tree) (width : ℕ) → Tree
-  Xor : (a b : Tree) (width : ℕ) → Tree
-  Add : (a b : Tree) (width : ℕ) → Tree
-  Sub : (a b : Tree) (width : ℕ) → Tree
-  Mul : (a b : Tree) (width : ℕ) → Tree
-  Udiv : (a b : Tree) (width : ℕ) → Tree
-  Urem : (a b : Tree) (width : ℕ) → Tree
-  Shl : (a b : Tree) (width : ℕ) → Tree
-  Lshr : (a b : Tree) (width : ℕ) → Tree
-  Ashr : (a b : Tree) (width : ℕ) → Tree
-  Eq : (a b : Tree) (width : ℕ) → Tree
-  Ult : (a b : Tree) (width : ℕ) → Tree
-  Slt : (a b : Tree) (width : ℕ) → Tree
+  Binary : (op : BinaryOp) (a b : Tree) (width : ℕ) → Tree
   Ite : (c a b : Tree) (width : ℕ) → Tree
   Extract : (a : Tree) (from width : ℕ) → Tree
   Concat : (high low : Tree) (below width : ℕ) → Tree
@@ -30,20 +26,7 @@ abbrev pub width_of : Tree → ℕ
 width_of (Constant value width) = width
 width_of (Variable number width) = width
 width_of (Not a width) = width
-width_of (And a b width) = width
-width_of (Or a b width) = width
-width_of (Xor a b width) = width
-width_of (Add a b width) = width
-width_of (Sub a b width) = width
-width_of (Mul a b width) = width
-width_of (Udiv a b width) = width
-width_of (Urem a b width) = width
-width_of (Shl a b width) = width
-width_of (Lshr a b width) = width
-width_of (Ashr a b width) = width
-width_of (Eq a b width) = 1
-width_of (Ult a b width) = 1
-width_of (Slt a b width) = 1
+width_of (Binary op a b width) = binary_width op width
 width_of (Ite c a b width) = width
 width_of (Extract a from width) = width
 width_of (Concat high low below width) = width
@@ -87,25 +70,29 @@ is_less_signed width a b = cond (is_negative width a) (cond (is_negative width b
 abbrev pub extended_signed : ℕ → ℕ → ℕ → ℕ
 extended_signed from width a = cond (is_negative from a) (2 ^ width - 2 ^ from + a) a
 
+-- the value of an operation on two numbers of the width
+abbrev pub binary_value : BinaryOp → (width x y : ℕ) → ℕ
+binary_value op.And width x y = bit_and x y
+binary_value op.Or width x y = bit_or x y
+binary_value op.Xor width x y = bit_xor x y
+binary_value op.Add width x y = (x + y) % 2 ^ width
+binary_value op.Sub width x y = (x + (2 ^ width - y)) % 2 ^ width
+binary_value op.Mul width x y = (x * y) % 2 ^ width
+binary_value op.Udiv width x y = quotient width x y
+binary_value op.Urem width x y = remainder x y
+binary_value op.Shl width x y = shifted_left width x y
+binary_value op.Lshr width x y = shifted_right width x y
+binary_value op.Ashr width x y = shifted_signed width x y
+binary_value op.Eq width x y = digit (nat_eq x y)
+binary_value op.Ult width x y = digit (nat_lt x y)
+binary_value op.Slt width x y = digit (is_less_signed width x y)
+
 -- the value where each variable, by its number and width, has what is assigned, cut to the width
 abbrev pub value_of : (ℕ → ℕ → ℕ) → Tree → ℕ
 value_of v (Constant value width) = value
 value_of v (Variable number width) = v number width % 2 ^ width
 value_of v (Not a width) = 2 ^ width - 1 - value_of v a
-value_of v (And a b width) = bit_and (value_of v a) (value_of v b)
-value_of v (Or a b width) = bit_or (value_of v a) (value_of v b)
-value_of v (Xor a b width) = bit_xor (value_of v a) (value_of v b)
-value_of v (Add a b width) = (value_of v a + value_of v b) % 2 ^ width
-value_of v (Sub a b width) = (value_of v a + (2 ^ width - value_of v b)) % 2 ^ width
-value_of v (Mul a b width) = (value_of v a * value_of v b) % 2 ^ width
-value_of v (Udiv a b width) = quotient width (value_of v a) (value_of v b)
-value_of v (Urem a b width) = remainder (value_of v a) (value_of v b)
-value_of v (Shl a b width) = shifted_left width (value_of v a) (value_of v b)
-value_of v (Lshr a b width) = shifted_right width (value_of v a) (value_of v b)
-value_of v (Ashr a b width) = shifted_signed width (value_of v a) (value_of v b)
-value_of v (Eq a b width) = digit (nat_eq (value_of v a) (value_of v b))
-value_of v (Ult a b width) = digit (nat_lt (value_of v a) (value_of v b))
-value_of v (Slt a b width) = digit (is_less_signed width (value_of v a) (value_of v b))
+value_of v (Binary op a b width) = binary_value op width (value_of v a) (value_of v b)
 value_of v (Ite c a b width) = cond (truth (value_of v c)) (value_of v a) (value_of v b)
 value_of v (Extract a from width) = value_of v a / 2 ^ from % 2 ^ width
 value_of v (Concat high low below width) = value_of v high * 2 ^ below + value_of v low

@@ -5,7 +5,7 @@ use Rattle.bv_terms.specs.declared.term.Term.{Term}
 use Rattle.bv_terms.specs.declared.term.Term.TheVariants as term
 use Rattle.bv_terms.specs.declared.variable.Variable.{Variable}
 use Rattle.bv_terms.specs.Tree as tree
-use Rattle.bv_terms.specs.Tree.{Tree, width_of, value_of, truth}
+use Rattle.bv_terms.specs.Tree.{Tree, binary_width, width_of, value_of, truth}
 
 -- the tree of an earlier term
 abbrev pub tree_at : List Tree → TermId → Tree
@@ -16,20 +16,7 @@ abbrev pub tree_of : List Tree → Term → Tree
 tree_of earlier (term.Constant value width) = tree.Constant value width
 tree_of earlier (term.Variable number width) = tree.Variable number width
 tree_of earlier (term.Not a width) = tree.Not (tree_at earlier a) width
-tree_of earlier (term.And a b width) = tree.And (tree_at earlier a) (tree_at earlier b) width
-tree_of earlier (term.Or a b width) = tree.Or (tree_at earlier a) (tree_at earlier b) width
-tree_of earlier (term.Xor a b width) = tree.Xor (tree_at earlier a) (tree_at earlier b) width
-tree_of earlier (term.Add a b width) = tree.Add (tree_at earlier a) (tree_at earlier b) width
-tree_of earlier (term.Sub a b width) = tree.Sub (tree_at earlier a) (tree_at earlier b) width
-tree_of earlier (term.Mul a b width) = tree.Mul (tree_at earlier a) (tree_at earlier b) width
-tree_of earlier (term.Udiv a b width) = tree.Udiv (tree_at earlier a) (tree_at earlier b) width
-tree_of earlier (term.Urem a b width) = tree.Urem (tree_at earlier a) (tree_at earlier b) width
-tree_of earlier (term.Shl a b width) = tree.Shl (tree_at earlier a) (tree_at earlier b) width
-tree_of earlier (term.Lshr a b width) = tree.Lshr (tree_at earlier a) (tree_at earlier b) width
-tree_of earlier (term.Ashr a b width) = tree.Ashr (tree_at earlier a) (tree_at earlier b) width
-tree_of earlier (term.Eq a b width) = tree.Eq (tree_at earlier a) (tree_at earlier b) width
-tree_of earlier (term.Ult a b width) = tree.Ult (tree_at earlier a) (tree_at earlier b) width
-tree_of earlier (term.Slt a b width) = tree.Slt (tree_at earlier a) (tree_at earlier b) width
+tree_of earlier (term.Binary op a b width) = tree.Binary op (tree_at earlier a) (tree_at earlier b) width
 tree_of earlier (term.Ite c a b width) = tree.Ite (tree_at earlier c) (tree_at earlier a) (tree_at earlier b) width
 tree_of earlier (term.Extract a from width) = tree.Extract (tree_at earlier a) from width
 tree_of earlier (term.Concat high low below width) = tree.Concat (tree_at earlier high) (tree_at earlier low) below width
@@ -41,20 +28,7 @@ abbrev pub term_width : Term → ℕ
 term_width (term.Constant value width) = width
 term_width (term.Variable number width) = width
 term_width (term.Not a width) = width
-term_width (term.And a b width) = width
-term_width (term.Or a b width) = width
-term_width (term.Xor a b width) = width
-term_width (term.Add a b width) = width
-term_width (term.Sub a b width) = width
-term_width (term.Mul a b width) = width
-term_width (term.Udiv a b width) = width
-term_width (term.Urem a b width) = width
-term_width (term.Shl a b width) = width
-term_width (term.Lshr a b width) = width
-term_width (term.Ashr a b width) = width
-term_width (term.Eq a b width) = 1
-term_width (term.Ult a b width) = 1
-term_width (term.Slt a b width) = 1
+term_width (term.Binary op a b width) = binary_width op width
 term_width (term.Ite c a b width) = width
 term_width (term.Extract a from width) = width
 term_width (term.Concat high low below width) = width
@@ -69,20 +43,7 @@ abbrev pub IsWithin : ℕ → Term → Type 0
 IsWithin n (term.Constant value width) = IsWidth width × (value < 2 ^ width)
 IsWithin n (term.Variable number width) = IsWidth width
 IsWithin n (term.Not a width) = IsWidth width × (a.index < n)
-IsWithin n (term.And a b width) = IsWidth width × (a.index < n) × (b.index < n)
-IsWithin n (term.Or a b width) = IsWidth width × (a.index < n) × (b.index < n)
-IsWithin n (term.Xor a b width) = IsWidth width × (a.index < n) × (b.index < n)
-IsWithin n (term.Add a b width) = IsWidth width × (a.index < n) × (b.index < n)
-IsWithin n (term.Sub a b width) = IsWidth width × (a.index < n) × (b.index < n)
-IsWithin n (term.Mul a b width) = IsWidth width × (a.index < n) × (b.index < n)
-IsWithin n (term.Udiv a b width) = IsWidth width × (a.index < n) × (b.index < n)
-IsWithin n (term.Urem a b width) = IsWidth width × (a.index < n) × (b.index < n)
-IsWithin n (term.Shl a b width) = IsWidth width × (a.index < n) × (b.index < n)
-IsWithin n (term.Lshr a b width) = IsWidth width × (a.index < n) × (b.index < n)
-IsWithin n (term.Ashr a b width) = IsWidth width × (a.index < n) × (b.index < n)
-IsWithin n (term.Eq a b width) = IsWidth width × (a.index < n) × (b.index < n)
-IsWithin n (term.Ult a b width) = IsWidth width × (a.index < n) × (b.index < n)
-IsWithin n (term.Slt a b width) = IsWidth width × (a.index < n) × (b.index < n)
+IsWithin n (term.Binary op a b width) = IsWidth width × (a.index < n) × (b.index < n)
 IsWithin n (term.Ite c a b width) = IsWidth width × (a.index < n) × (b.index < n) × (c.index < n)
 IsWithin n (term.Extract a from width) = IsWidth width × (a.index < n)
 IsWithin n (term.Concat high low below width) = IsWidth width × (high.index < n) × (low.index < n)
@@ -98,20 +59,7 @@ abbrev pub AreMatched : List Tree → Term → Type 0
 AreMatched earlier (term.Constant value width) = Unit {0}
 AreMatched earlier (term.Variable number width) = Unit {0}
 AreMatched earlier (term.Not a width) = HasWidth earlier a width
-AreMatched earlier (term.And a b width) = HasWidth earlier a width × HasWidth earlier b width
-AreMatched earlier (term.Or a b width) = HasWidth earlier a width × HasWidth earlier b width
-AreMatched earlier (term.Xor a b width) = HasWidth earlier a width × HasWidth earlier b width
-AreMatched earlier (term.Add a b width) = HasWidth earlier a width × HasWidth earlier b width
-AreMatched earlier (term.Sub a b width) = HasWidth earlier a width × HasWidth earlier b width
-AreMatched earlier (term.Mul a b width) = HasWidth earlier a width × HasWidth earlier b width
-AreMatched earlier (term.Udiv a b width) = HasWidth earlier a width × HasWidth earlier b width
-AreMatched earlier (term.Urem a b width) = HasWidth earlier a width × HasWidth earlier b width
-AreMatched earlier (term.Shl a b width) = HasWidth earlier a width × HasWidth earlier b width
-AreMatched earlier (term.Lshr a b width) = HasWidth earlier a width × HasWidth earlier b width
-AreMatched earlier (term.Ashr a b width) = HasWidth earlier a width × HasWidth earlier b width
-AreMatched earlier (term.Eq a b width) = HasWidth earlier a width × HasWidth earlier b width
-AreMatched earlier (term.Ult a b width) = HasWidth earlier a width × HasWidth earlier b width
-AreMatched earlier (term.Slt a b width) = HasWidth earlier a width × HasWidth earlier b width
+AreMatched earlier (term.Binary op a b width) = HasWidth earlier a width × HasWidth earlier b width
 AreMatched earlier (term.Ite c a b width) = HasWidth earlier a width × HasWidth earlier b width × HasWidth earlier c 1
 AreMatched earlier (term.Extract a from width) = from + width ≤ width_of (tree_at earlier a)
 AreMatched earlier (term.Concat high low below width) = HasWidth earlier low below × (width_of (tree_at earlier high) + below ≡ width)

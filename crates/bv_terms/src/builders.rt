@@ -1,11 +1,11 @@
 //! A builder for each operation.
 
-ghost use Rattle.std.specs.Prelude.{◌≡◌, [], ◌∷◌, ◌<◌, ◌≤◌, ◌+◌, ◌-◌, ◌*◌, ◌/◌, ◌%◌, ◌^◌, IfOk, Some, slice_get, length, cond, nat_eq, nat_lt, bit_and, bit_or, bit_xor};
-ghost use Rattle.bv_terms.specs.Tree.{digit, extended_signed, is_less_signed, quotient, remainder, shifted_left, shifted_right, shifted_signed, truth, width_of};
+ghost use Rattle.std.specs.Prelude.{◌≡◌, [], ◌∷◌, ◌<◌, ◌≤◌, ◌+◌, ◌-◌, ◌*◌, ◌/◌, ◌%◌, ◌^◌, IfOk, Some, slice_get, length, cond};
+ghost use Rattle.bv_terms.specs.Tree.{binary_value, binary_width, extended_signed, width_of};
 ghost use Rattle.bv_terms.specs.declared.term.Term.TheVariants as variant;
 ghost use Rattle.bv_terms.specs.Trees.{Extends, Gains, IsWidth, Keeps, Makes, bit_at, tree_in, term_at};
 
-use crate::term::{Term, TermId};
+use crate::term::{BinaryOp, Term, TermId};
 use crate::terms::Terms;
 use support::NoMemory;
 
@@ -45,186 +45,18 @@ impl Terms {
         self.apply(Term::Not { a, width })
     }
 
-    /// The bits that are 1 in both.
-    pub fn and(&mut self, a: TermId, b: TermId) -> Result<TermId, NoMemory>
+    /// The value of the operation on the two.
+    pub fn binary(&mut self, op: BinaryOp, a: TermId, b: TermId) -> Result<TermId, NoMemory>
         requires a { a.index < length self.old }
         requires b { b.index < length self.old }
         requires alike { width_of (tree_in self.old a) ≡ width_of (tree_in self.old b) }
-        ensures stored { IfOk result (λ id. slice_get self.new id.index ≡ Some (variant.And a b (width_of (tree_in self.old a)))) }
-        ensures made { IfOk result (λ id. Makes self.new id (width_of (tree_in self.old a)) (λ v. bit_and (term_at v self.old a) (term_at v self.old b))) }
+        ensures stored { IfOk result (λ id. slice_get self.new id.index ≡ Some (variant.Binary op a b (width_of (tree_in self.old a)))) }
+        ensures made { IfOk result (λ id. Makes self.new id (binary_width op (width_of (tree_in self.old a)))
+            (λ v. binary_value op (width_of (tree_in self.old a)) (term_at v self.old a) (term_at v self.old b))) }
         ensures kept { Keeps self.old self.new }
     {
         let width = self.width(a);
-        self.apply(Term::And { a, b, width })
-    }
-
-    /// The bits that are 1 in either.
-    pub fn or(&mut self, a: TermId, b: TermId) -> Result<TermId, NoMemory>
-        requires a { a.index < length self.old }
-        requires b { b.index < length self.old }
-        requires alike { width_of (tree_in self.old a) ≡ width_of (tree_in self.old b) }
-        ensures stored { IfOk result (λ id. slice_get self.new id.index ≡ Some (variant.Or a b (width_of (tree_in self.old a)))) }
-        ensures made { IfOk result (λ id. Makes self.new id (width_of (tree_in self.old a)) (λ v. bit_or (term_at v self.old a) (term_at v self.old b))) }
-        ensures kept { Keeps self.old self.new }
-    {
-        let width = self.width(a);
-        self.apply(Term::Or { a, b, width })
-    }
-
-    /// The bits that are 1 in just one.
-    pub fn xor(&mut self, a: TermId, b: TermId) -> Result<TermId, NoMemory>
-        requires a { a.index < length self.old }
-        requires b { b.index < length self.old }
-        requires alike { width_of (tree_in self.old a) ≡ width_of (tree_in self.old b) }
-        ensures stored { IfOk result (λ id. slice_get self.new id.index ≡ Some (variant.Xor a b (width_of (tree_in self.old a)))) }
-        ensures made { IfOk result (λ id. Makes self.new id (width_of (tree_in self.old a)) (λ v. bit_xor (term_at v self.old a) (term_at v self.old b))) }
-        ensures kept { Keeps self.old self.new }
-    {
-        let width = self.width(a);
-        self.apply(Term::Xor { a, b, width })
-    }
-
-    /// The sum, which wraps.
-    pub fn add(&mut self, a: TermId, b: TermId) -> Result<TermId, NoMemory>
-        requires a { a.index < length self.old }
-        requires b { b.index < length self.old }
-        requires alike { width_of (tree_in self.old a) ≡ width_of (tree_in self.old b) }
-        ensures stored { IfOk result (λ id. slice_get self.new id.index ≡ Some (variant.Add a b (width_of (tree_in self.old a)))) }
-        ensures made { IfOk result (λ id. Makes self.new id (width_of (tree_in self.old a)) (λ v. (term_at v self.old a + term_at v self.old b) % 2 ^ width_of (tree_in self.old a))) }
-        ensures kept { Keeps self.old self.new }
-    {
-        let width = self.width(a);
-        self.apply(Term::Add { a, b, width })
-    }
-
-    /// The difference, which wraps.
-    pub fn sub(&mut self, a: TermId, b: TermId) -> Result<TermId, NoMemory>
-        requires a { a.index < length self.old }
-        requires b { b.index < length self.old }
-        requires alike { width_of (tree_in self.old a) ≡ width_of (tree_in self.old b) }
-        ensures stored { IfOk result (λ id. slice_get self.new id.index ≡ Some (variant.Sub a b (width_of (tree_in self.old a)))) }
-        ensures made { IfOk result (λ id. Makes self.new id (width_of (tree_in self.old a)) (λ v. (term_at v self.old a + (2 ^ width_of (tree_in self.old a) - term_at v self.old b)) % 2 ^ width_of (tree_in self.old a))) }
-        ensures kept { Keeps self.old self.new }
-    {
-        let width = self.width(a);
-        self.apply(Term::Sub { a, b, width })
-    }
-
-    /// The product, which wraps.
-    pub fn mul(&mut self, a: TermId, b: TermId) -> Result<TermId, NoMemory>
-        requires a { a.index < length self.old }
-        requires b { b.index < length self.old }
-        requires alike { width_of (tree_in self.old a) ≡ width_of (tree_in self.old b) }
-        ensures stored { IfOk result (λ id. slice_get self.new id.index ≡ Some (variant.Mul a b (width_of (tree_in self.old a)))) }
-        ensures made { IfOk result (λ id. Makes self.new id (width_of (tree_in self.old a)) (λ v. (term_at v self.old a * term_at v self.old b) % 2 ^ width_of (tree_in self.old a))) }
-        ensures kept { Keeps self.old self.new }
-    {
-        let width = self.width(a);
-        self.apply(Term::Mul { a, b, width })
-    }
-
-    /// The quotient of unsigned numbers; all ones where the divisor is 0.
-    pub fn udiv(&mut self, a: TermId, b: TermId) -> Result<TermId, NoMemory>
-        requires a { a.index < length self.old }
-        requires b { b.index < length self.old }
-        requires alike { width_of (tree_in self.old a) ≡ width_of (tree_in self.old b) }
-        ensures stored { IfOk result (λ id. slice_get self.new id.index ≡ Some (variant.Udiv a b (width_of (tree_in self.old a)))) }
-        ensures made { IfOk result (λ id. Makes self.new id (width_of (tree_in self.old a)) (λ v. quotient (width_of (tree_in self.old a)) (term_at v self.old a) (term_at v self.old b))) }
-        ensures kept { Keeps self.old self.new }
-    {
-        let width = self.width(a);
-        self.apply(Term::Udiv { a, b, width })
-    }
-
-    /// The remainder of unsigned numbers; the dividend where the divisor is 0.
-    pub fn urem(&mut self, a: TermId, b: TermId) -> Result<TermId, NoMemory>
-        requires a { a.index < length self.old }
-        requires b { b.index < length self.old }
-        requires alike { width_of (tree_in self.old a) ≡ width_of (tree_in self.old b) }
-        ensures stored { IfOk result (λ id. slice_get self.new id.index ≡ Some (variant.Urem a b (width_of (tree_in self.old a)))) }
-        ensures made { IfOk result (λ id. Makes self.new id (width_of (tree_in self.old a)) (λ v. remainder (term_at v self.old a) (term_at v self.old b))) }
-        ensures kept { Keeps self.old self.new }
-    {
-        let width = self.width(a);
-        self.apply(Term::Urem { a, b, width })
-    }
-
-    /// The first moved up by the second; 0 where that is the width or more.
-    pub fn shl(&mut self, a: TermId, b: TermId) -> Result<TermId, NoMemory>
-        requires a { a.index < length self.old }
-        requires b { b.index < length self.old }
-        requires alike { width_of (tree_in self.old a) ≡ width_of (tree_in self.old b) }
-        ensures stored { IfOk result (λ id. slice_get self.new id.index ≡ Some (variant.Shl a b (width_of (tree_in self.old a)))) }
-        ensures made { IfOk result (λ id. Makes self.new id (width_of (tree_in self.old a)) (λ v. shifted_left (width_of (tree_in self.old a)) (term_at v self.old a) (term_at v self.old b))) }
-        ensures kept { Keeps self.old self.new }
-    {
-        let width = self.width(a);
-        self.apply(Term::Shl { a, b, width })
-    }
-
-    /// The first moved down by the second; 0 where that is the width or more.
-    pub fn lshr(&mut self, a: TermId, b: TermId) -> Result<TermId, NoMemory>
-        requires a { a.index < length self.old }
-        requires b { b.index < length self.old }
-        requires alike { width_of (tree_in self.old a) ≡ width_of (tree_in self.old b) }
-        ensures stored { IfOk result (λ id. slice_get self.new id.index ≡ Some (variant.Lshr a b (width_of (tree_in self.old a)))) }
-        ensures made { IfOk result (λ id. Makes self.new id (width_of (tree_in self.old a)) (λ v. shifted_right (width_of (tree_in self.old a)) (term_at v self.old a) (term_at v self.old b))) }
-        ensures kept { Keeps self.old self.new }
-    {
-        let width = self.width(a);
-        self.apply(Term::Lshr { a, b, width })
-    }
-
-    /// The first moved down by the second, with copies of its sign; nothing but these where that is the width or more.
-    pub fn ashr(&mut self, a: TermId, b: TermId) -> Result<TermId, NoMemory>
-        requires a { a.index < length self.old }
-        requires b { b.index < length self.old }
-        requires alike { width_of (tree_in self.old a) ≡ width_of (tree_in self.old b) }
-        ensures stored { IfOk result (λ id. slice_get self.new id.index ≡ Some (variant.Ashr a b (width_of (tree_in self.old a)))) }
-        ensures made { IfOk result (λ id. Makes self.new id (width_of (tree_in self.old a)) (λ v. shifted_signed (width_of (tree_in self.old a)) (term_at v self.old a) (term_at v self.old b))) }
-        ensures kept { Keeps self.old self.new }
-    {
-        let width = self.width(a);
-        self.apply(Term::Ashr { a, b, width })
-    }
-
-    /// 1 where the two are equal, and else 0.
-    pub fn eq(&mut self, a: TermId, b: TermId) -> Result<TermId, NoMemory>
-        requires a { a.index < length self.old }
-        requires b { b.index < length self.old }
-        requires alike { width_of (tree_in self.old a) ≡ width_of (tree_in self.old b) }
-        ensures stored { IfOk result (λ id. slice_get self.new id.index ≡ Some (variant.Eq a b (width_of (tree_in self.old a)))) }
-        ensures made { IfOk result (λ id. Makes self.new id 1 (λ v. digit (nat_eq (term_at v self.old a) (term_at v self.old b)))) }
-        ensures kept { Keeps self.old self.new }
-    {
-        let width = self.width(a);
-        self.apply(Term::Eq { a, b, width })
-    }
-
-    /// 1 where the first is less, as unsigned numbers, and else 0.
-    pub fn ult(&mut self, a: TermId, b: TermId) -> Result<TermId, NoMemory>
-        requires a { a.index < length self.old }
-        requires b { b.index < length self.old }
-        requires alike { width_of (tree_in self.old a) ≡ width_of (tree_in self.old b) }
-        ensures stored { IfOk result (λ id. slice_get self.new id.index ≡ Some (variant.Ult a b (width_of (tree_in self.old a)))) }
-        ensures made { IfOk result (λ id. Makes self.new id 1 (λ v. digit (nat_lt (term_at v self.old a) (term_at v self.old b)))) }
-        ensures kept { Keeps self.old self.new }
-    {
-        let width = self.width(a);
-        self.apply(Term::Ult { a, b, width })
-    }
-
-    /// 1 where the first is less, in two's complement, and else 0.
-    pub fn slt(&mut self, a: TermId, b: TermId) -> Result<TermId, NoMemory>
-        requires a { a.index < length self.old }
-        requires b { b.index < length self.old }
-        requires alike { width_of (tree_in self.old a) ≡ width_of (tree_in self.old b) }
-        ensures stored { IfOk result (λ id. slice_get self.new id.index ≡ Some (variant.Slt a b (width_of (tree_in self.old a)))) }
-        ensures made { IfOk result (λ id. Makes self.new id 1 (λ v. digit (is_less_signed (width_of (tree_in self.old a)) (term_at v self.old a) (term_at v self.old b)))) }
-        ensures kept { Keeps self.old self.new }
-    {
-        let width = self.width(a);
-        self.apply(Term::Slt { a, b, width })
+        self.apply(Term::Binary(op, a, b, width))
     }
 
     /// The first of two where the condition, of width 1, is 1, and else the second.

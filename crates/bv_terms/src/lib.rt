@@ -14,6 +14,6 @@ mod terms;
 mod variable;
 
 pub use folding::{FoldFault, TermFold, fold};
-pub use term::{Term, TermId};
+pub use term::{BinaryOp, Term, TermId};
 pub use terms::Terms;
 pub use variable::Variable;

@@ -8,8 +8,42 @@ pub struct TermId {
     pub index: usize,
 }
 
-/// A term over earlier ones, with its width in bits; at a comparison that is the width of the two
-/// that are compared, and the term itself has width 1.
+/// An operation on two numbers of one width. The comparisons answer 1 bit, the others as many as
+/// their operands have.
+#[derive(Clone, Copy, PartialEq, Eq, Hash, Debug)]
+pub enum BinaryOp {
+    And,
+    Or,
+    Xor,
+    Add,
+    Sub,
+    Mul,
+    Udiv,
+    Urem,
+    Shl,
+    Lshr,
+    Ashr,
+    Eq,
+    Ult,
+    Slt,
+}
+
+impl BinaryOp {
+    ghost use Rattle.bv_terms.specs.Tree.{binary_width};
+
+    /// How many bits the operation answers for operands of this width.
+    pub fn width(self, operands: u32) -> u32
+        ensures { result ≡ binary_width self operands }
+    {
+        match self {
+            BinaryOp::Eq | BinaryOp::Ult | BinaryOp::Slt => 1,
+            _ => operands,
+        }
+    }
+}
+
+/// A term over earlier ones, with its width in bits; at a binary operation it is the width of the two
+/// operands.
 #[derive(Clone, Copy, PartialEq, Eq, Hash, Debug)]
 pub enum Term {
     Constant {
@@ -24,76 +58,8 @@ pub enum Term {
         a: TermId,
         width: u32,
     },
-    And {
-        a: TermId,
-        b: TermId,
-        width: u32,
-    },
-    Or {
-        a: TermId,
-        b: TermId,
-        width: u32,
-    },
-    Xor {
-        a: TermId,
-        b: TermId,
-        width: u32,
-    },
-    Add {
-        a: TermId,
-        b: TermId,
-        width: u32,
-    },
-    Sub {
-        a: TermId,
-        b: TermId,
-        width: u32,
-    },
-    Mul {
-        a: TermId,
-        b: TermId,
-        width: u32,
-    },
-    Udiv {
-        a: TermId,
-        b: TermId,
-        width: u32,
-    },
-    Urem {
-        a: TermId,
-        b: TermId,
-        width: u32,
-    },
-    Shl {
-        a: TermId,
-        b: TermId,
-        width: u32,
-    },
-    Lshr {
-        a: TermId,
-        b: TermId,
-        width: u32,
-    },
-    Ashr {
-        a: TermId,
-        b: TermId,
-        width: u32,
-    },
-    Eq {
-        a: TermId,
-        b: TermId,
-        width: u32,
-    },
-    Ult {
-        a: TermId,
-        b: TermId,
-        width: u32,
-    },
-    Slt {
-        a: TermId,
-        b: TermId,
-        width: u32,
-    },
+    /// The operation, its two operands, and their width.
+    Binary(BinaryOp, TermId, TermId, u32),
     Ite {
         c: TermId,
         a: TermId,
@@ -132,11 +98,7 @@ impl Term {
         match *self {
             Term::Constant { width, .. } | Term::Variable { width, .. } | Term::Not { width, .. } =>
                 width,
-            Term::And { width, .. } | Term::Or { width, .. } | Term::Xor { width, .. } => width,
-            Term::Add { width, .. } | Term::Sub { width, .. } | Term::Mul { width, .. } => width,
-            Term::Udiv { width, .. } | Term::Urem { width, .. } => width,
-            Term::Shl { width, .. } | Term::Lshr { width, .. } | Term::Ashr { width, .. } => width,
-            Term::Eq { .. } | Term::Ult { .. } | Term::Slt { .. } => 1,
+            Term::Binary(op, _, _, width) => op.width(width),
             Term::Ite { width, .. } | Term::Extract { width, .. } => width,
             Term::Concat { width, .. } | Term::Zext { width, .. } | Term::Sext { width, .. } =>
                 width,

@@ -1,7 +1,6 @@
 -- The term over the answers for what a term names stands for the tree.
 use Rattle.std.proofs.Common.{ℕ, ◌≡◌, ◌<◌, ◌+◌, ◌-◌, ◌*◌, ◌/◌, ◌%◌, ◌^◌, Bool, true, false, cond, List, length, Option, Some, None, arith, sym, subst, ap, refl, ◌∙◌}
 use Rattle.std.proofs.Math.Nat.{mod-eq_of_lt}
-use Rattle.std.specs.Prelude.{nat_eq, nat_lt, bit_and, bit_or, bit_xor}
 use Rattle.std.specs.Option.{option_map_or}
 use Rattle.std.specs.List.{AllZip}
 use Rattle.bv_terms.specs.declared.term.TermId.{TermId}
@@ -9,7 +8,7 @@ use Rattle.bv_terms.specs.declared.term.Term.{Term}
 use Rattle.bv_terms.specs.declared.term.Term.TheVariants as term
 use Rattle.bv_terms.specs.declared.variable.Variable.{Variable}
 use Rattle.bv_terms.specs.Tree as tree
-use Rattle.bv_terms.specs.Tree.{Tree, value_of, width_of, truth, digit, quotient, remainder, shifted_left, shifted_right, shifted_signed, is_less_signed, extended_signed}
+use Rattle.bv_terms.specs.Tree.{Tree, binary_value, value_of, width_of, truth, extended_signed}
 use Rattle.bv_terms.specs.Trees.{AreInRange, AreMatched, IsFit, IsTerm, IsWithin, Extends, Makes, term_at, term_width, tree_at, tree_of, trees_of}
 use Rattle.bv_terms.specs.Variables.{is_variable}
 use Rattle.bv_terms.proofs.Variables.{same_variable}
@@ -59,20 +58,7 @@ module _ (s : Substituting) (trees : List Tree) (done : List TermId) (stood : Al
   over-within (term.Constant value width) fit = fit.within
   over-within (term.Variable number width) fit = fit.within
   over-within (term.Not a width) fit = (fit.within.0, (at a fit.within.1).within)
-  over-within (term.And a b width) fit = (fit.within.0, (at a fit.within.1).within, (at b fit.within.2).within)
-  over-within (term.Or a b width) fit = (fit.within.0, (at a fit.within.1).within, (at b fit.within.2).within)
-  over-within (term.Xor a b width) fit = (fit.within.0, (at a fit.within.1).within, (at b fit.within.2).within)
-  over-within (term.Add a b width) fit = (fit.within.0, (at a fit.within.1).within, (at b fit.within.2).within)
-  over-within (term.Sub a b width) fit = (fit.within.0, (at a fit.within.1).within, (at b fit.within.2).within)
-  over-within (term.Mul a b width) fit = (fit.within.0, (at a fit.within.1).within, (at b fit.within.2).within)
-  over-within (term.Udiv a b width) fit = (fit.within.0, (at a fit.within.1).within, (at b fit.within.2).within)
-  over-within (term.Urem a b width) fit = (fit.within.0, (at a fit.within.1).within, (at b fit.within.2).within)
-  over-within (term.Shl a b width) fit = (fit.within.0, (at a fit.within.1).within, (at b fit.within.2).within)
-  over-within (term.Lshr a b width) fit = (fit.within.0, (at a fit.within.1).within, (at b fit.within.2).within)
-  over-within (term.Ashr a b width) fit = (fit.within.0, (at a fit.within.1).within, (at b fit.within.2).within)
-  over-within (term.Eq a b width) fit = (fit.within.0, (at a fit.within.1).within, (at b fit.within.2).within)
-  over-within (term.Ult a b width) fit = (fit.within.0, (at a fit.within.1).within, (at b fit.within.2).within)
-  over-within (term.Slt a b width) fit = (fit.within.0, (at a fit.within.1).within, (at b fit.within.2).within)
+  over-within (term.Binary op a b width) fit = (fit.within.0, (at a fit.within.1).within, (at b fit.within.2).within)
   over-within (term.Ite c a b width) fit = (fit.within.0, (at a fit.within.1).within, (at b fit.within.2).within, (at c fit.within.3).within)
   over-within (term.Extract a from width) fit = (fit.within.0, (at a fit.within.1).within)
   over-within (term.Concat high low below width) fit = (fit.within.0, (at high fit.within.1).within, (at low fit.within.2).within)
@@ -83,20 +69,7 @@ module _ (s : Substituting) (trees : List Tree) (done : List TermId) (stood : Al
   over-matched (term.Constant value width) fit = tt
   over-matched (term.Variable number width) fit = tt
   over-matched (term.Not a width) fit = (at a fit.within.1).wide ∙ fit.matched
-  over-matched (term.And a b width) fit = ((at a fit.within.1).wide ∙ fit.matched.0, (at b fit.within.2).wide ∙ fit.matched.1)
-  over-matched (term.Or a b width) fit = ((at a fit.within.1).wide ∙ fit.matched.0, (at b fit.within.2).wide ∙ fit.matched.1)
-  over-matched (term.Xor a b width) fit = ((at a fit.within.1).wide ∙ fit.matched.0, (at b fit.within.2).wide ∙ fit.matched.1)
-  over-matched (term.Add a b width) fit = ((at a fit.within.1).wide ∙ fit.matched.0, (at b fit.within.2).wide ∙ fit.matched.1)
-  over-matched (term.Sub a b width) fit = ((at a fit.within.1).wide ∙ fit.matched.0, (at b fit.within.2).wide ∙ fit.matched.1)
-  over-matched (term.Mul a b width) fit = ((at a fit.within.1).wide ∙ fit.matched.0, (at b fit.within.2).wide ∙ fit.matched.1)
-  over-matched (term.Udiv a b width) fit = ((at a fit.within.1).wide ∙ fit.matched.0, (at b fit.within.2).wide ∙ fit.matched.1)
-  over-matched (term.Urem a b width) fit = ((at a fit.within.1).wide ∙ fit.matched.0, (at b fit.within.2).wide ∙ fit.matched.1)
-  over-matched (term.Shl a b width) fit = ((at a fit.within.1).wide ∙ fit.matched.0, (at b fit.within.2).wide ∙ fit.matched.1)
-  over-matched (term.Lshr a b width) fit = ((at a fit.within.1).wide ∙ fit.matched.0, (at b fit.within.2).wide ∙ fit.matched.1)
-  over-matched (term.Ashr a b width) fit = ((at a fit.within.1).wide ∙ fit.matched.0, (at b fit.within.2).wide ∙ fit.matched.1)
-  over-matched (term.Eq a b width) fit = ((at a fit.within.1).wide ∙ fit.matched.0, (at b fit.within.2).wide ∙ fit.matched.1)
-  over-matched (term.Ult a b width) fit = ((at a fit.within.1).wide ∙ fit.matched.0, (at b fit.within.2).wide ∙ fit.matched.1)
-  over-matched (term.Slt a b width) fit = ((at a fit.within.1).wide ∙ fit.matched.0, (at b fit.within.2).wide ∙ fit.matched.1)
+  over-matched (term.Binary op a b width) fit = ((at a fit.within.1).wide ∙ fit.matched.0, (at b fit.within.2).wide ∙ fit.matched.1)
   over-matched (term.Ite c a b width) fit = ((at a fit.within.1).wide ∙ fit.matched.0, (at b fit.within.2).wide ∙ fit.matched.1, (at c fit.within.3).wide ∙ fit.matched.2)
   over-matched (term.Extract a from width) fit = omega (arith, (at a fit.within.1).wide, fit.matched)
   over-matched (term.Concat high low below width) fit = ((at low fit.within.2).wide ∙ fit.matched.0, ap (λ n. n + below) (at high fit.within.1).wide ∙ fit.matched.1)
@@ -107,20 +80,7 @@ module _ (s : Substituting) (trees : List Tree) (done : List TermId) (stood : Al
   over-width (term.Constant value width) = refl
   over-width (term.Variable number width) = refl
   over-width (term.Not a width) = refl
-  over-width (term.And a b width) = refl
-  over-width (term.Or a b width) = refl
-  over-width (term.Xor a b width) = refl
-  over-width (term.Add a b width) = refl
-  over-width (term.Sub a b width) = refl
-  over-width (term.Mul a b width) = refl
-  over-width (term.Udiv a b width) = refl
-  over-width (term.Urem a b width) = refl
-  over-width (term.Shl a b width) = refl
-  over-width (term.Lshr a b width) = refl
-  over-width (term.Ashr a b width) = refl
-  over-width (term.Eq a b width) = refl
-  over-width (term.Ult a b width) = refl
-  over-width (term.Slt a b width) = refl
+  over-width (term.Binary op a b width) = refl
   over-width (term.Ite c a b width) = refl
   over-width (term.Extract a from width) = refl
   over-width (term.Concat high low below width) = refl
@@ -131,20 +91,7 @@ module _ (s : Substituting) (trees : List Tree) (done : List TermId) (stood : Al
   over-value v (term.Constant value width) none fit = refl
   over-value v (term.Variable number width) none fit = ap (λ o. option_map_or (term_at v s.terms) o (v number width) % 2 ^ width) (sym none)
   over-value v (term.Not a width) none fit = ap (λ x. 2 ^ width - 1 - x) ((at a fit.within.1).says v)
-  over-value v (term.And a b width) none fit = two (λ x y. bit_and x y) ((at a fit.within.1).says v) ((at b fit.within.2).says v)
-  over-value v (term.Or a b width) none fit = two (λ x y. bit_or x y) ((at a fit.within.1).says v) ((at b fit.within.2).says v)
-  over-value v (term.Xor a b width) none fit = two (λ x y. bit_xor x y) ((at a fit.within.1).says v) ((at b fit.within.2).says v)
-  over-value v (term.Add a b width) none fit = two (λ x y. (x + y) % 2 ^ width) ((at a fit.within.1).says v) ((at b fit.within.2).says v)
-  over-value v (term.Sub a b width) none fit = two (λ x y. (x + (2 ^ width - y)) % 2 ^ width) ((at a fit.within.1).says v) ((at b fit.within.2).says v)
-  over-value v (term.Mul a b width) none fit = two (λ x y. (x * y) % 2 ^ width) ((at a fit.within.1).says v) ((at b fit.within.2).says v)
-  over-value v (term.Udiv a b width) none fit = two (λ x y. quotient width x y) ((at a fit.within.1).says v) ((at b fit.within.2).says v)
-  over-value v (term.Urem a b width) none fit = two (λ x y. remainder x y) ((at a fit.within.1).says v) ((at b fit.within.2).says v)
-  over-value v (term.Shl a b width) none fit = two (λ x y. shifted_left width x y) ((at a fit.within.1).says v) ((at b fit.within.2).says v)
-  over-value v (term.Lshr a b width) none fit = two (λ x y. shifted_right width x y) ((at a fit.within.1).says v) ((at b fit.within.2).says v)
-  over-value v (term.Ashr a b width) none fit = two (λ x y. shifted_signed width x y) ((at a fit.within.1).says v) ((at b fit.within.2).says v)
-  over-value v (term.Eq a b width) none fit = two (λ x y. digit (nat_eq x y)) ((at a fit.within.1).says v) ((at b fit.within.2).says v)
-  over-value v (term.Ult a b width) none fit = two (λ x y. digit (nat_lt x y)) ((at a fit.within.1).says v) ((at b fit.within.2).says v)
-  over-value v (term.Slt a b width) none fit = two (λ x y. digit (is_less_signed width x y)) ((at a fit.within.1).says v) ((at b fit.within.2).says v)
+  over-value v (term.Binary op a b width) none fit = two (λ x y. binary_value op width x y) ((at a fit.within.1).says v) ((at b fit.within.2).says v)
   over-value v (term.Ite c a b width) none fit =
       ap (λ z. cond (truth z) (term_at v s.terms (id_at done a)) (term_at v s.terms (id_at done b))) ((at c fit.within.3).says v)
       ∙ two (λ x y. cond (truth (value_of (substituted s v) (tree_at trees c))) x y) ((at a fit.within.1).says v) ((at b fit.within.2).says v)
@@ -173,20 +120,7 @@ module _ (s : Substituting) (trees : List Tree) (done : List TermId) (stood : Al
       }
   replacement_stands (term.Constant value width) by found h range = absurd (let z : ⊥ = cc in z)
   replacement_stands (term.Not a width) by found h range = absurd (let z : ⊥ = cc in z)
-  replacement_stands (term.And a b width) by found h range = absurd (let z : ⊥ = cc in z)
-  replacement_stands (term.Or a b width) by found h range = absurd (let z : ⊥ = cc in z)
-  replacement_stands (term.Xor a b width) by found h range = absurd (let z : ⊥ = cc in z)
-  replacement_stands (term.Add a b width) by found h range = absurd (let z : ⊥ = cc in z)
-  replacement_stands (term.Sub a b width) by found h range = absurd (let z : ⊥ = cc in z)
-  replacement_stands (term.Mul a b width) by found h range = absurd (let z : ⊥ = cc in z)
-  replacement_stands (term.Udiv a b width) by found h range = absurd (let z : ⊥ = cc in z)
-  replacement_stands (term.Urem a b width) by found h range = absurd (let z : ⊥ = cc in z)
-  replacement_stands (term.Shl a b width) by found h range = absurd (let z : ⊥ = cc in z)
-  replacement_stands (term.Lshr a b width) by found h range = absurd (let z : ⊥ = cc in z)
-  replacement_stands (term.Ashr a b width) by found h range = absurd (let z : ⊥ = cc in z)
-  replacement_stands (term.Eq a b width) by found h range = absurd (let z : ⊥ = cc in z)
-  replacement_stands (term.Ult a b width) by found h range = absurd (let z : ⊥ = cc in z)
-  replacement_stands (term.Slt a b width) by found h range = absurd (let z : ⊥ = cc in z)
+  replacement_stands (term.Binary op a b width) by found h range = absurd (let z : ⊥ = cc in z)
   replacement_stands (term.Ite c a b width) by found h range = absurd (let z : ⊥ = cc in z)
   replacement_stands (term.Extract a from width) by found h range = absurd (let z : ⊥ = cc in z)
   replacement_stands (term.Concat high low below width) by found h range = absurd (let z : ⊥ = cc in z)

@@ -6,40 +6,13 @@ use Rattle.bv_terms.specs.declared.term.Term.{Term}
 use Rattle.bv_terms.specs.declared.term.Term.TheVariants as term
 use Rattle.bv_terms.specs.Tree as tree
 use Rattle.bv_terms.specs.Tree.{Tree, value_of, width_of}
-use Rattle.bv_terms.specs.Trees.{IsFit, IsWidth, IsWithin, tree_at, tree_of, term_width}
+use Rattle.bv_terms.specs.Trees.{IsFit, IsWidth, tree_at, tree_of}
 use Rattle.bv_terms.proofs.Below.{tree-below, AreBelow}
-use Rattle.bv_terms.proofs.Stages.{width-tree}
+use Rattle.bv_terms.proofs.Stages.{width-tree, width-within}
 use Rattle.bv_terms.proofs.Zips.{AllZip-at}
 use Rattle.term_folds.specs.declared.evaluate.Assigned.{Assigned}
 use Rattle.term_folds.specs.Evaluation.{AreSmall, IsValue, applied, assigned_by, number_at}
 use Rattle.term_folds.proofs.Cuts.{pow-le}
-
-one_width : IsWidth 1
-one_width = (omega arith, omega arith)
-
-width-within : (n : ℕ) (t : Term) → IsWithin n t → IsWidth (term_width t)
-width-within n (term.Constant value width) w = w.0
-width-within n (term.Variable number width) w = w
-width-within n (term.Not a width) w = w.0
-width-within n (term.And a b width) w = w.0
-width-within n (term.Or a b width) w = w.0
-width-within n (term.Xor a b width) w = w.0
-width-within n (term.Add a b width) w = w.0
-width-within n (term.Sub a b width) w = w.0
-width-within n (term.Mul a b width) w = w.0
-width-within n (term.Udiv a b width) w = w.0
-width-within n (term.Urem a b width) w = w.0
-width-within n (term.Shl a b width) w = w.0
-width-within n (term.Lshr a b width) w = w.0
-width-within n (term.Ashr a b width) w = w.0
-width-within n (term.Eq a b width) w = one_width
-width-within n (term.Ult a b width) w = one_width
-width-within n (term.Slt a b width) w = one_width
-width-within n (term.Ite c a b width) w = w.0
-width-within n (term.Extract a from width) w = w.0
-width-within n (term.Concat high low below width) w = w.0
-width-within n (term.Zext a width) w = w.0
-width-within n (term.Sext a from width) w = w.0
 
 module _ (values : List Assigned) (trees : List Tree) (done : List ℕ) (stood : AllZip (IsValue values) trees done) where
   at : (a : TermId) → a.index < length trees → IsValue values (tree_at trees a) (number_at done a)
@@ -58,20 +31,7 @@ module _ (values : List Assigned) (trees : List Tree) (done : List ℕ) (stood :
   applied-is (term.Constant value width) fit = refl
   applied-is (term.Variable number width) fit = refl
   applied-is (term.Not a width) fit = rw ((at a fit.within.1).value) refl
-  applied-is (term.And a b width) fit = rw ((at a fit.within.1).value, (at b fit.within.2).value) refl
-  applied-is (term.Or a b width) fit = rw ((at a fit.within.1).value, (at b fit.within.2).value) refl
-  applied-is (term.Xor a b width) fit = rw ((at a fit.within.1).value, (at b fit.within.2).value) refl
-  applied-is (term.Add a b width) fit = rw ((at a fit.within.1).value, (at b fit.within.2).value) refl
-  applied-is (term.Sub a b width) fit = rw ((at a fit.within.1).value, (at b fit.within.2).value) refl
-  applied-is (term.Mul a b width) fit = rw ((at a fit.within.1).value, (at b fit.within.2).value) refl
-  applied-is (term.Udiv a b width) fit = rw ((at a fit.within.1).value, (at b fit.within.2).value) refl
-  applied-is (term.Urem a b width) fit = rw ((at a fit.within.1).value, (at b fit.within.2).value) refl
-  applied-is (term.Shl a b width) fit = rw ((at a fit.within.1).value, (at b fit.within.2).value) refl
-  applied-is (term.Lshr a b width) fit = rw ((at a fit.within.1).value, (at b fit.within.2).value) refl
-  applied-is (term.Ashr a b width) fit = rw ((at a fit.within.1).value, (at b fit.within.2).value) refl
-  applied-is (term.Eq a b width) fit = rw ((at a fit.within.1).value, (at b fit.within.2).value) refl
-  applied-is (term.Ult a b width) fit = rw ((at a fit.within.1).value, (at b fit.within.2).value) refl
-  applied-is (term.Slt a b width) fit = rw ((at a fit.within.1).value, (at b fit.within.2).value) refl
+  applied-is (term.Binary op a b width) fit = rw ((at a fit.within.1).value, (at b fit.within.2).value) refl
   applied-is (term.Ite c a b width) fit = rw ((at c fit.within.3).value, (at a fit.within.1).value, (at b fit.within.2).value) refl
   applied-is (term.Extract a from width) fit = rw ((at a fit.within.1).value) refl
   applied-is (term.Concat high low below width) fit = rw ((at high fit.within.1).value, (at low fit.within.2).value) refl
@@ -91,20 +51,7 @@ module _ (values : List Assigned) (trees : List Tree) (done : List ℕ) (stood :
   small_stands (term.Constant value width) fit = tt
   small_stands (term.Variable number width) fit = tt
   small_stands (term.Not a width) fit = small_at a width fit.within.1 fit.matched
-  small_stands (term.And a b width) fit = tt
-  small_stands (term.Or a b width) fit = tt
-  small_stands (term.Xor a b width) fit = tt
-  small_stands (term.Add a b width) fit = tt
-  small_stands (term.Sub a b width) fit = small_at b width fit.within.2 fit.matched.1
-  small_stands (term.Mul a b width) fit = tt
-  small_stands (term.Udiv a b width) fit = tt
-  small_stands (term.Urem a b width) fit = tt
-  small_stands (term.Shl a b width) fit = tt
-  small_stands (term.Lshr a b width) fit = tt
-  small_stands (term.Ashr a b width) fit = small_at a width fit.within.1 fit.matched.0
-  small_stands (term.Eq a b width) fit = tt
-  small_stands (term.Ult a b width) fit = tt
-  small_stands (term.Slt a b width) fit = tt
+  small_stands (term.Binary op a b width) fit = (small_at a width fit.within.1 fit.matched.0, small_at b width fit.within.2 fit.matched.1)
   small_stands (term.Ite c a b width) fit = tt
   small_stands (term.Extract a from width) fit = omega (arith, fit.matched, (at a fit.within.1).width.1, fit.within.0.0)
   small_stands (term.Concat high low below width) fit =

@@ -1,9 +1,9 @@
 -- The value of a term over the values of earlier ones.
-use Rattle.std.specs.Prelude.{ℕ, ◌≡◌, ◌+◌, ◌-◌, ◌*◌, ◌/◌, ◌%◌, ◌^◌, ◌<◌, ◌≤◌, ◌&&◌, cond, nat_eq, nat_lt, bit_and, bit_or, bit_xor, List, [], ◌∷◌, slice_index}
+use Rattle.std.specs.Prelude.{ℕ, ◌≡◌, ◌+◌, ◌-◌, ◌*◌, ◌/◌, ◌%◌, ◌^◌, ◌<◌, ◌≤◌, ◌&&◌, cond, nat_eq, List, [], ◌∷◌, slice_index}
 use Rattle.bv_terms.specs.declared.term.TermId.{TermId}
 use Rattle.bv_terms.specs.declared.term.Term.{Term}
 use Rattle.bv_terms.specs.declared.term.Term.TheVariants as term
-use Rattle.bv_terms.specs.Tree.{Tree, width_of, value_of, truth, digit, quotient, remainder, shifted_left, shifted_right, shifted_signed, is_less_signed, extended_signed}
+use Rattle.bv_terms.specs.Tree.{Tree, binary_value, width_of, value_of, truth, extended_signed}
 use Rattle.bv_terms.specs.Trees.{IsWidth}
 use Rattle.term_folds.specs.declared.evaluate.Assigned.{Assigned}
 
@@ -27,20 +27,7 @@ abbrev pub applied : (ℕ → ℕ → ℕ) → List ℕ → Term → ℕ
 applied v done (term.Constant value width) = value
 applied v done (term.Variable number width) = v number width % 2 ^ width
 applied v done (term.Not a width) = 2 ^ width - 1 - number_at done a
-applied v done (term.And a b width) = bit_and (number_at done a) (number_at done b)
-applied v done (term.Or a b width) = bit_or (number_at done a) (number_at done b)
-applied v done (term.Xor a b width) = bit_xor (number_at done a) (number_at done b)
-applied v done (term.Add a b width) = (number_at done a + number_at done b) % 2 ^ width
-applied v done (term.Sub a b width) = (number_at done a + (2 ^ width - number_at done b)) % 2 ^ width
-applied v done (term.Mul a b width) = (number_at done a * number_at done b) % 2 ^ width
-applied v done (term.Udiv a b width) = quotient width (number_at done a) (number_at done b)
-applied v done (term.Urem a b width) = remainder (number_at done a) (number_at done b)
-applied v done (term.Shl a b width) = shifted_left width (number_at done a) (number_at done b)
-applied v done (term.Lshr a b width) = shifted_right width (number_at done a) (number_at done b)
-applied v done (term.Ashr a b width) = shifted_signed width (number_at done a) (number_at done b)
-applied v done (term.Eq a b width) = digit (nat_eq (number_at done a) (number_at done b))
-applied v done (term.Ult a b width) = digit (nat_lt (number_at done a) (number_at done b))
-applied v done (term.Slt a b width) = digit (is_less_signed width (number_at done a) (number_at done b))
+applied v done (term.Binary op a b width) = binary_value op width (number_at done a) (number_at done b)
 applied v done (term.Ite c a b width) = cond (truth (number_at done c)) (number_at done a) (number_at done b)
 applied v done (term.Extract a from width) = number_at done a / 2 ^ from % 2 ^ width
 applied v done (term.Concat high low below width) = number_at done high * 2 ^ below + number_at done low
@@ -52,20 +39,7 @@ abbrev pub AreSmall : List ℕ → Term → Type 0
 AreSmall done (term.Constant value width) = Unit {0}
 AreSmall done (term.Variable number width) = Unit {0}
 AreSmall done (term.Not a width) = number_at done a < 2 ^ width
-AreSmall done (term.And a b width) = Unit {0}
-AreSmall done (term.Or a b width) = Unit {0}
-AreSmall done (term.Xor a b width) = Unit {0}
-AreSmall done (term.Add a b width) = Unit {0}
-AreSmall done (term.Sub a b width) = number_at done b < 2 ^ width
-AreSmall done (term.Mul a b width) = Unit {0}
-AreSmall done (term.Udiv a b width) = Unit {0}
-AreSmall done (term.Urem a b width) = Unit {0}
-AreSmall done (term.Shl a b width) = Unit {0}
-AreSmall done (term.Lshr a b width) = Unit {0}
-AreSmall done (term.Ashr a b width) = number_at done a < 2 ^ width
-AreSmall done (term.Eq a b width) = Unit {0}
-AreSmall done (term.Ult a b width) = Unit {0}
-AreSmall done (term.Slt a b width) = Unit {0}
+AreSmall done (term.Binary op a b width) = (number_at done a < 2 ^ width) × (number_at done b < 2 ^ width)
 AreSmall done (term.Ite c a b width) = Unit {0}
 AreSmall done (term.Extract a from width) = from < 128
 AreSmall done (term.Concat high low below width) = (below < 128) × (number_at done high * 2 ^ below + number_at done low < 2 ^ 128)

@@ -6,10 +6,7 @@ ghost use Rattle.bv_terms.specs.Trees.{IsWithin};
 ghost use Rattle.term_folds.specs.Evaluation.{AreSmall, IsValue, applied, assigned_by};
 ghost use Rattle.term_folds.specs.Kept.{stands_kept};
 
-use crate::numbers::{
-    choice, cut, difference, digit_of, divided, extended, inverse, joined, left_over, less_signed,
-    moved_down, moved_down_signed, moved_up, part, product, sum,
-};
+use crate::numbers::{binary, choice, cut, extended, inverse, joined, part};
 use bv_terms::{Term, TermFold};
 use std::convert::Infallible;
 use support::Sequence;
@@ -51,20 +48,7 @@ impl Evaluate {
             Term::Constant { value, .. } => value,
             Term::Variable { number, width } => cut(self.assigned(number, width), width),
             Term::Not { a, width } => inverse(done[a.index], width),
-            Term::And { a, b, .. } => done[a.index] & done[b.index],
-            Term::Or { a, b, .. } => done[a.index] | done[b.index],
-            Term::Xor { a, b, .. } => done[a.index] ^ done[b.index],
-            Term::Add { a, b, width } => sum(done[a.index], done[b.index], width),
-            Term::Sub { a, b, width } => difference(done[a.index], done[b.index], width),
-            Term::Mul { a, b, width } => product(done[a.index], done[b.index], width),
-            Term::Udiv { a, b, width } => divided(done[a.index], done[b.index], width),
-            Term::Urem { a, b, .. } => left_over(done[a.index], done[b.index]),
-            Term::Shl { a, b, width } => moved_up(done[a.index], done[b.index], width),
-            Term::Lshr { a, b, width } => moved_down(done[a.index], done[b.index], width),
-            Term::Ashr { a, b, width } => moved_down_signed(done[a.index], done[b.index], width),
-            Term::Eq { a, b, .. } => digit_of(done[a.index] == done[b.index]),
-            Term::Ult { a, b, .. } => digit_of(done[a.index] < done[b.index]),
-            Term::Slt { a, b, width } => digit_of(less_signed(done[a.index], done[b.index], width)),
+            Term::Binary(op, a, b, width) => binary(op, done[a.index], done[b.index], width),
             Term::Ite { c, a, b, .. } => choice(done[c.index], done[a.index], done[b.index]),
             Term::Extract { a, from, width } => part(done[a.index], from, width),
             Term::Concat {

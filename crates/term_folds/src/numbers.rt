@@ -1,8 +1,10 @@
 //! The operations on numbers of a width.
 
 ghost use Rattle.std.specs.Prelude.{◌≡◌, cond, nat_eq, nat_lt, ◌+◌, ◌-◌, ◌*◌, ◌/◌, ◌%◌, ◌^◌, ◌<◌, ◌≤◌};
-ghost use Rattle.bv_terms.specs.Tree.{digit, extended_signed, is_less_signed, is_negative, quotient, remainder, shifted_left, shifted_right, shifted_signed, truth};
+ghost use Rattle.bv_terms.specs.Tree.{binary_value, digit, extended_signed, is_less_signed, is_negative, quotient, remainder, shifted_left, shifted_right, shifted_signed, truth};
 ghost use Rattle.bv_terms.specs.Trees.{IsWidth};
+
+use bv_terms::BinaryOp;
 
 /// The number cut to the width.
 pub fn cut(n: u128, width: u32) -> u128
@@ -131,6 +133,31 @@ pub fn less_signed(a: u128, b: u128, width: u32) -> bool
         if has_sign(b, width) { a < b } else { true }
     } else {
         if has_sign(b, width) { false } else { a < b }
+    }
+}
+
+/// The value of an operation on two numbers of the width.
+pub fn binary(op: BinaryOp, a: u128, b: u128, width: u32) -> u128
+    requires width { IsWidth width }
+    requires a { a < 2 ^ width }
+    requires b { b < 2 ^ width }
+    ensures { result ≡ binary_value op width a b }
+{
+    match op {
+        BinaryOp::And => a & b,
+        BinaryOp::Or => a | b,
+        BinaryOp::Xor => a ^ b,
+        BinaryOp::Add => sum(a, b, width),
+        BinaryOp::Sub => difference(a, b, width),
+        BinaryOp::Mul => product(a, b, width),
+        BinaryOp::Udiv => divided(a, b, width),
+        BinaryOp::Urem => left_over(a, b),
+        BinaryOp::Shl => moved_up(a, b, width),
+        BinaryOp::Lshr => moved_down(a, b, width),
+        BinaryOp::Ashr => moved_down_signed(a, b, width),
+        BinaryOp::Eq => digit_of(a == b),
+        BinaryOp::Ult => digit_of(a < b),
+        BinaryOp::Slt => digit_of(less_signed(a, b, width)),
     }
 }
 

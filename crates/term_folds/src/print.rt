@@ -3,7 +3,7 @@
 ghost use Rattle.std.specs.Prelude.{◌≡◌, List, length};
 ghost use Rattle.bv_terms.specs.Trees.{IsWithin};
 
-use bv_terms::{Term, TermFold};
+use bv_terms::{BinaryOp, Term, TermFold};
 use std::alloc::Global;
 use support::NoMemory;
 
@@ -12,6 +12,26 @@ use support::NoMemory;
 #[derive(Drop)]
 pub struct Print {
     pub alloc: Global,
+}
+
+/// The name of an operation.
+fn name(op: BinaryOp) -> &'static str {
+    match op {
+        BinaryOp::And => "and",
+        BinaryOp::Or => "or",
+        BinaryOp::Xor => "xor",
+        BinaryOp::Add => "add",
+        BinaryOp::Sub => "sub",
+        BinaryOp::Mul => "mul",
+        BinaryOp::Udiv => "udiv",
+        BinaryOp::Urem => "urem",
+        BinaryOp::Shl => "shl",
+        BinaryOp::Lshr => "lshr",
+        BinaryOp::Ashr => "ashr",
+        BinaryOp::Eq => "eq",
+        BinaryOp::Ult => "ult",
+        BinaryOp::Slt => "slt",
+    }
 }
 
 /// An operation and its one part.
@@ -37,40 +57,14 @@ fn text(alloc: Global, term: &Term, done: &[String]) -> Result<String, NoMemory>
         Term::Constant { value, width } => Ok(format!(in alloc; "{value}:{width}")?),
         Term::Variable { number, width } => Ok(format!(in alloc; "v{number}:{width}")?),
         Term::Not { a, .. } => one(alloc, "not", done[a.index].as_str()),
-        Term::And { a, b, .. } => two(alloc, "and", done[a.index].as_str(), done[b.index].as_str()),
-        Term::Or { a, b, .. } => two(alloc, "or", done[a.index].as_str(), done[b.index].as_str()),
-        Term::Xor { a, b, .. } => two(alloc, "xor", done[a.index].as_str(), done[b.index].as_str()),
-        Term::Add { a, b, .. } => two(alloc, "add", done[a.index].as_str(), done[b.index].as_str()),
-        Term::Sub { a, b, .. } => two(alloc, "sub", done[a.index].as_str(), done[b.index].as_str()),
-        Term::Mul { a, b, .. } => two(alloc, "mul", done[a.index].as_str(), done[b.index].as_str()),
-        Term::Udiv { a, b, .. } => two(
-            alloc,
-            "udiv",
-            done[a.index].as_str(),
-            done[b.index].as_str(),
-        ),
-        Term::Urem { a, b, .. } => two(
-            alloc,
-            "urem",
-            done[a.index].as_str(),
-            done[b.index].as_str(),
-        ),
-        Term::Shl { a, b, .. } => two(alloc, "shl", done[a.index].as_str(), done[b.index].as_str()),
-        Term::Lshr { a, b, .. } => two(
-            alloc,
-            "lshr",
-            done[a.index].as_str(),
-            done[b.index].as_str(),
-        ),
-        Term::Ashr { a, b, .. } => two(
-            alloc,
-            "ashr",
-            done[a.index].as_str(),
-            done[b.index].as_str(),
-        ),
-        Term::Eq { a, b, .. } => two(alloc, "eq", done[a.index].as_str(), done[b.index].as_str()),
-        Term::Ult { a, b, .. } => two(alloc, "ult", done[a.index].as_str(), done[b.index].as_str()),
-        Term::Slt { a, b, .. } => two(alloc, "slt", done[a.index].as_str(), done[b.index].as_str()),
+        Term::Binary(op, a, b, _) => {
+            two(
+                alloc,
+                name(op),
+                done[a.index].as_str(),
+                done[b.index].as_str(),
+            )
+        }
         Term::Ite { c, a, b, .. } => {
             let condition = done[c.index].as_str();
             let first = done[a.index].as_str();

@@ -95,76 +95,7 @@ fn over(term: &Term, done: &[TermId]) -> Term
             a: done[a.index],
             width,
         },
-        Term::And { a, b, width } => Term::And {
-            a: done[a.index],
-            b: done[b.index],
-            width,
-        },
-        Term::Or { a, b, width } => Term::Or {
-            a: done[a.index],
-            b: done[b.index],
-            width,
-        },
-        Term::Xor { a, b, width } => Term::Xor {
-            a: done[a.index],
-            b: done[b.index],
-            width,
-        },
-        Term::Add { a, b, width } => Term::Add {
-            a: done[a.index],
-            b: done[b.index],
-            width,
-        },
-        Term::Sub { a, b, width } => Term::Sub {
-            a: done[a.index],
-            b: done[b.index],
-            width,
-        },
-        Term::Mul { a, b, width } => Term::Mul {
-            a: done[a.index],
-            b: done[b.index],
-            width,
-        },
-        Term::Udiv { a, b, width } => Term::Udiv {
-            a: done[a.index],
-            b: done[b.index],
-            width,
-        },
-        Term::Urem { a, b, width } => Term::Urem {
-            a: done[a.index],
-            b: done[b.index],
-            width,
-        },
-        Term::Shl { a, b, width } => Term::Shl {
-            a: done[a.index],
-            b: done[b.index],
-            width,
-        },
-        Term::Lshr { a, b, width } => Term::Lshr {
-            a: done[a.index],
-            b: done[b.index],
-            width,
-        },
-        Term::Ashr { a, b, width } => Term::Ashr {
-            a: done[a.index],
-            b: done[b.index],
-            width,
-        },
-        Term::Eq { a, b, width } => Term::Eq {
-            a: done[a.index],
-            b: done[b.index],
-            width,
-        },
-        Term::Ult { a, b, width } => Term::Ult {
-            a: done[a.index],
-            b: done[b.index],
-            width,
-        },
-        Term::Slt { a, b, width } => Term::Slt {
-            a: done[a.index],
-            b: done[b.index],
-            width,
-        },
+        Term::Binary(op, a, b, width) => Term::Binary(op, done[a.index], done[b.index], width),
         Term::Ite { c, a, b, width } => Term::Ite {
             c: done[c.index],
             a: done[a.index],

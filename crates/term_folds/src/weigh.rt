@@ -43,23 +43,7 @@ fn weight(term: &Term, done: &[u64]) -> u64
         | Term::Extract { a, .. }
         | Term::Zext { a, .. }
         | Term::Sext { a, .. } => over_one(done[a.index]),
-        Term::And { a, b, .. } | Term::Or { a, b, .. } | Term::Xor { a, b, .. } => over_two(
-            done[a.index],
-            done[b.index],
-        ),
-        Term::Add { a, b, .. } | Term::Sub { a, b, .. } | Term::Mul { a, b, .. } => over_two(
-            done[a.index],
-            done[b.index],
-        ),
-        Term::Udiv { a, b, .. } | Term::Urem { a, b, .. } => over_two(done[a.index], done[b.index]),
-        Term::Shl { a, b, .. } | Term::Lshr { a, b, .. } | Term::Ashr { a, b, .. } => over_two(
-            done[a.index],
-            done[b.index],
-        ),
-        Term::Eq { a, b, .. } | Term::Ult { a, b, .. } | Term::Slt { a, b, .. } => over_two(
-            done[a.index],
-            done[b.index],
-        ),
+        Term::Binary(_, a, b, _) => over_two(done[a.index], done[b.index]),
         Term::Ite { c, a, b, .. } => over_three(done[c.index], done[a.index], done[b.index]),
         Term::Concat { high, low, .. } => over_two(done[high.index], done[low.index]),
     }

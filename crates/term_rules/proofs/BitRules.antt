@@ -4,6 +4,7 @@ use Rattle.std.specs.Prelude.{bit_and, bit_or, bit_xor}
 use Rattle.std.specs.Int.Bits.{and_self, or_self, xor_self, or_add_and, xor_add_and, or_zero_r, xor_assoc, xor_zero_r}
 use Rattle.std.proofs.lemmas.Nat.{and_assoc, and_comm, and_mask, and-not, and_or_self, or_comm, pow_pos, xor_comm}
 use Rattle.std.proofs.Math.Nat.{mod-eq_of_lt}
+use Rattle.bv_terms.specs.declared.term.BinaryOp.TheVariants as op
 use Rattle.bv_terms.specs.declared.term.TermId.{TermId}
 use Rattle.bv_terms.specs.declared.term.Term.{Term}
 use Rattle.bv_terms.specs.declared.term.Term.TheVariants as term
@@ -49,36 +50,36 @@ xor_again x m = xor_assoc x m m ∙ (ap (λ k. bit_xor x k) (xor_self m) ∙ xor
 -- ---- operands of operands
 
 module _ (terms : List Term) (a b first second : TermId) (n : ℕ) where
-  pub in_and_first : tree.And (tree_in terms first) (tree_in terms second) n ≡ tree_in terms a → first.index ≡ b.index
+  pub in_and_first : tree.Binary op.And (tree_in terms first) (tree_in terms second) n ≡ tree_in terms a → first.index ≡ b.index
       → (v : ℕ → ℕ → ℕ) → bit_and (term_at v terms a) (term_at v terms b) ≡ term_at v terms a
   in_and_first is same v =
       let value : term_at v terms a ≡ bit_and (term_at v terms second) (term_at v terms b) =
       ap (value_of v) (sym is) ∙ (and_comm (term_at v terms first) (term_at v terms second) ∙ ap (λ (t : Tree). bit_and (term_at v terms second) (value_of v t)) (same_tree terms first b same)) in
       ap (λ k. bit_and k (term_at v terms b)) value ∙ (and_again (term_at v terms second) (term_at v terms b) ∙ sym value)
 
-  pub in_and_second : tree.And (tree_in terms first) (tree_in terms second) n ≡ tree_in terms a → second.index ≡ b.index
+  pub in_and_second : tree.Binary op.And (tree_in terms first) (tree_in terms second) n ≡ tree_in terms a → second.index ≡ b.index
       → (v : ℕ → ℕ → ℕ) → bit_and (term_at v terms a) (term_at v terms b) ≡ term_at v terms a
   in_and_second is same v =
       let value : term_at v terms a ≡ bit_and (term_at v terms first) (term_at v terms b) =
       ap (value_of v) (sym is) ∙ ap (λ (t : Tree). bit_and (term_at v terms first) (value_of v t)) (same_tree terms second b same) in
       ap (λ k. bit_and k (term_at v terms b)) value ∙ (and_again (term_at v terms first) (term_at v terms b) ∙ sym value)
 
-  pub in_or_first : tree.Or (tree_in terms first) (tree_in terms second) n ≡ tree_in terms a → first.index ≡ b.index
+  pub in_or_first : tree.Binary op.Or (tree_in terms first) (tree_in terms second) n ≡ tree_in terms a → first.index ≡ b.index
       → (v : ℕ → ℕ → ℕ) → bit_and (term_at v terms a) (term_at v terms b) ≡ term_at v terms b
   in_or_first is same v =
       let value : term_at v terms a ≡ bit_or (term_at v terms second) (term_at v terms b) =
       ap (value_of v) (sym is) ∙ (or_comm (term_at v terms first) (term_at v terms second) ∙ ap (λ (t : Tree). bit_or (term_at v terms second) (value_of v t)) (same_tree terms first b same)) in
       ap (λ k. bit_and k (term_at v terms b)) value ∙ and_or_self (term_at v terms b) (term_at v terms second)
 
-  pub in_or_second : tree.Or (tree_in terms first) (tree_in terms second) n ≡ tree_in terms a → second.index ≡ b.index
+  pub in_or_second : tree.Binary op.Or (tree_in terms first) (tree_in terms second) n ≡ tree_in terms a → second.index ≡ b.index
       → (v : ℕ → ℕ → ℕ) → bit_and (term_at v terms a) (term_at v terms b) ≡ term_at v terms b
   in_or_second is same v =
       let value : term_at v terms a ≡ bit_or (term_at v terms first) (term_at v terms b) =
       ap (value_of v) (sym is) ∙ ap (λ (t : Tree). bit_or (term_at v terms first) (value_of v t)) (same_tree terms second b same) in
       ap (λ k. bit_and k (term_at v terms b)) value ∙ and_or_self (term_at v terms b) (term_at v terms first)
 
-  pub xor_first : tree.Xor (tree_in terms first) (tree_in terms second) n ≡ tree_in terms a → first.index < length terms → width_of (tree_in terms first) ≡ n → second.index ≡ b.index
-      → Simplifies terms (tree.Xor (tree_in terms a) (tree_in terms b) (width_of (tree_in terms a))) (Known first)
+  pub xor_first : tree.Binary op.Xor (tree_in terms first) (tree_in terms second) n ≡ tree_in terms a → first.index < length terms → width_of (tree_in terms first) ≡ n → second.index ≡ b.index
+      → Simplifies terms (tree.Binary op.Xor (tree_in terms a) (tree_in terms b) (width_of (tree_in terms a))) (Known first)
   xor_first is lt wide same = record {
     fit = lt;
     wide = wide ∙ ap width_of is;
@@ -89,8 +90,8 @@ module _ (terms : List Term) (a b first second : TermId) (n : ℕ) where
     least = let heavier : weight_of (tree_in terms a) ≡ 1 + weight_of (tree_in terms first) + weight_of (tree_in terms second) = ap weight_of (sym is) in omega (arith, heavier);
   }
 
-  pub xor_second : tree.Xor (tree_in terms first) (tree_in terms second) n ≡ tree_in terms a → second.index < length terms → width_of (tree_in terms second) ≡ n → first.index ≡ b.index
-      → Simplifies terms (tree.Xor (tree_in terms a) (tree_in terms b) (width_of (tree_in terms a))) (Known second)
+  pub xor_second : tree.Binary op.Xor (tree_in terms first) (tree_in terms second) n ≡ tree_in terms a → second.index < length terms → width_of (tree_in terms second) ≡ n → first.index ≡ b.index
+      → Simplifies terms (tree.Binary op.Xor (tree_in terms a) (tree_in terms b) (width_of (tree_in terms a))) (Known second)
   xor_second is lt wide same = record {
     fit = lt;
     wide = wide ∙ ap width_of is;
@@ -121,11 +122,11 @@ module _ (terms : List Term) (a b : TermId) (range : AreInRange terms) (la : a.i
 
   pub and_of_apart : (width : ℕ) → IsWidth width → width ≡ width_of (tree_in terms a)
       → ((v : ℕ → ℕ → ℕ) → bit_and (term_at v terms a) (term_at v terms b) ≡ 0)
-      → Simplifies terms (tree.And (tree_in terms a) (tree_in terms b) (width_of (tree_in terms a))) (Built (term.Constant 0 width))
+      → Simplifies terms (tree.Binary op.And (tree_in terms a) (tree_in terms b) (width_of (tree_in terms a))) (Built (term.Constant 0 width))
   and_of_apart width is e h = constant_form terms _ 0 width is (pow_pos width) e h
 
   pub and_of_ones : (n width : ℕ) → width ≡ width_of (tree_in terms a) → n ≡ 2 ^ width - 1 → ((v : ℕ → ℕ → ℕ) → term_at v terms b ≡ n)
-      → Simplifies terms (tree.And (tree_in terms a) (tree_in terms b) (width_of (tree_in terms a))) (Known a)
+      → Simplifies terms (tree.Binary op.And (tree_in terms a) (tree_in terms b) (width_of (tree_in terms a))) (Known a)
   and_of_ones n width e ones h = record {
     fit = la;
     wide = refl;
@@ -133,7 +134,7 @@ module _ (terms : List Term) (a b : TermId) (range : AreInRange terms) (la : a.i
     least = omega arith;
   }
 
-  pub or_of_same : a.index ≡ b.index → Simplifies terms (tree.Or (tree_in terms a) (tree_in terms b) (width_of (tree_in terms a))) (Known a)
+  pub or_of_same : a.index ≡ b.index → Simplifies terms (tree.Binary op.Or (tree_in terms a) (tree_in terms b) (width_of (tree_in terms a))) (Known a)
   or_of_same same = record {
     fit = la;
     wide = refl;
@@ -143,12 +144,12 @@ module _ (terms : List Term) (a b : TermId) (range : AreInRange terms) (la : a.i
 
   pub or_of_whole : (n width : ℕ) → IsWidth width → width ≡ width_of (tree_in terms a) → n ≡ 2 ^ width - 1
       → ((v : ℕ → ℕ → ℕ) → bit_or (term_at v terms a) (term_at v terms b) ≡ 2 ^ width_of (tree_in terms a) - 1)
-      → Simplifies terms (tree.Or (tree_in terms a) (tree_in terms b) (width_of (tree_in terms a))) (Built (term.Constant n width))
+      → Simplifies terms (tree.Binary op.Or (tree_in terms a) (tree_in terms b) (width_of (tree_in terms a))) (Built (term.Constant n width))
   or_of_whole n width is e ones h = constant_form terms _ n width is (omega (arith, ones, pow_pos width)) e
       (λ v. h v ∙ sym (ones ∙ ap (λ k. 2 ^ k - 1) e))
 
   pub or_of_zero : (n : ℕ) → n ≡ 0 → ((v : ℕ → ℕ → ℕ) → term_at v terms b ≡ n)
-      → Simplifies terms (tree.Or (tree_in terms a) (tree_in terms b) (width_of (tree_in terms a))) (Known a)
+      → Simplifies terms (tree.Binary op.Or (tree_in terms a) (tree_in terms b) (width_of (tree_in terms a))) (Known a)
   or_of_zero n zero_n h = record {
     fit = la;
     wide = refl;
@@ -157,7 +158,7 @@ module _ (terms : List Term) (a b : TermId) (range : AreInRange terms) (la : a.i
   }
 
   pub or_of_ones : (n width : ℕ) → width ≡ width_of (tree_in terms a) → n ≡ 2 ^ width - 1 → ((v : ℕ → ℕ → ℕ) → term_at v terms b ≡ n)
-      → Simplifies terms (tree.Or (tree_in terms a) (tree_in terms b) (width_of (tree_in terms a))) (Known b)
+      → Simplifies terms (tree.Binary op.Or (tree_in terms a) (tree_in terms b) (width_of (tree_in terms a))) (Known b)
   or_of_ones n width e ones h = record {
     fit = lb;
     wide = sym alike;
@@ -168,12 +169,12 @@ module _ (terms : List Term) (a b : TermId) (range : AreInRange terms) (la : a.i
   }
 
   pub xor_of_same : (width : ℕ) → IsWidth width → width ≡ width_of (tree_in terms a) → a.index ≡ b.index
-      → Simplifies terms (tree.Xor (tree_in terms a) (tree_in terms b) (width_of (tree_in terms a))) (Built (term.Constant 0 width))
+      → Simplifies terms (tree.Binary op.Xor (tree_in terms a) (tree_in terms b) (width_of (tree_in terms a))) (Built (term.Constant 0 width))
   xor_of_same width is e same = constant_form terms _ 0 width is (pow_pos width) e
       (λ v. ap (λ t. bit_xor (term_at v terms a) (value_of v t)) (sym (same_tree terms a b same)) ∙ xor_self (term_at v terms a))
 
   pub xor_of_ones : (n width : ℕ) → IsWidth width → width ≡ width_of (tree_in terms a) → n ≡ 2 ^ width - 1 → ((v : ℕ → ℕ → ℕ) → term_at v terms b ≡ n)
-      → Simplifies terms (tree.Xor (tree_in terms a) (tree_in terms b) (width_of (tree_in terms a))) (Built (term.Not a width))
+      → Simplifies terms (tree.Binary op.Xor (tree_in terms a) (tree_in terms b) (width_of (tree_in terms a))) (Built (term.Not a width))
   xor_of_ones n width is e ones h = record {
     fit = record { within = (is, la); matched = sym e; operation = tt };
     wide = e;
@@ -187,39 +188,39 @@ module _ (terms : List Term) (a b : TermId) (range : AreInRange terms) (la : a.i
 
 module _ (terms : List Term) (a b : TermId) (la : a.index < length terms) (lb : b.index < length terms) (alike : width_of (tree_in terms a) ≡ width_of (tree_in terms b)) where
   pub and_is_first : ((v : ℕ → ℕ → ℕ) → bit_and (term_at v terms a) (term_at v terms b) ≡ term_at v terms a)
-      → Simplifies terms (tree.And (tree_in terms a) (tree_in terms b) (width_of (tree_in terms a))) (Known a)
+      → Simplifies terms (tree.Binary op.And (tree_in terms a) (tree_in terms b) (width_of (tree_in terms a))) (Known a)
   and_is_first h = record { fit = la; wide = refl; says = λ v. sym (h v); least = omega arith }
 
   pub and_is_second : ((v : ℕ → ℕ → ℕ) → bit_and (term_at v terms a) (term_at v terms b) ≡ term_at v terms b)
-      → Simplifies terms (tree.And (tree_in terms a) (tree_in terms b) (width_of (tree_in terms a))) (Known b)
+      → Simplifies terms (tree.Binary op.And (tree_in terms a) (tree_in terms b) (width_of (tree_in terms a))) (Known b)
   and_is_second h = record { fit = lb; wide = sym alike; says = λ v. sym (h v); least = omega arith }
 
   pub or_is_first : ((v : ℕ → ℕ → ℕ) → bit_or (term_at v terms a) (term_at v terms b) ≡ term_at v terms a)
-      → Simplifies terms (tree.Or (tree_in terms a) (tree_in terms b) (width_of (tree_in terms a))) (Known a)
+      → Simplifies terms (tree.Binary op.Or (tree_in terms a) (tree_in terms b) (width_of (tree_in terms a))) (Known a)
   or_is_first h = record { fit = la; wide = refl; says = λ v. sym (h v); least = omega arith }
 
   pub or_is_second : ((v : ℕ → ℕ → ℕ) → bit_or (term_at v terms a) (term_at v terms b) ≡ term_at v terms b)
-      → Simplifies terms (tree.Or (tree_in terms a) (tree_in terms b) (width_of (tree_in terms a))) (Known b)
+      → Simplifies terms (tree.Binary op.Or (tree_in terms a) (tree_in terms b) (width_of (tree_in terms a))) (Known b)
   or_is_second h = record { fit = lb; wide = sym alike; says = λ v. sym (h v); least = omega arith }
 
 -- ---- operands in the other order
 
 module _ (terms : List Term) (a b : TermId) (alike : width_of (tree_in terms a) ≡ width_of (tree_in terms b)) (form : Form) where
-  pub and_swapped : Simplifies terms (tree.And (tree_in terms b) (tree_in terms a) (width_of (tree_in terms b))) form
-      → Simplifies terms (tree.And (tree_in terms a) (tree_in terms b) (width_of (tree_in terms a))) form
+  pub and_swapped : Simplifies terms (tree.Binary op.And (tree_in terms b) (tree_in terms a) (width_of (tree_in terms b))) form
+      → Simplifies terms (tree.Binary op.And (tree_in terms a) (tree_in terms b) (width_of (tree_in terms a))) form
   and_swapped s = simplifies_like terms _ _ form s (sym alike) (λ v. and_comm (term_at v terms b) (term_at v terms a)) (omega arith)
 
-  pub or_swapped : Simplifies terms (tree.Or (tree_in terms b) (tree_in terms a) (width_of (tree_in terms b))) form
-      → Simplifies terms (tree.Or (tree_in terms a) (tree_in terms b) (width_of (tree_in terms a))) form
+  pub or_swapped : Simplifies terms (tree.Binary op.Or (tree_in terms b) (tree_in terms a) (width_of (tree_in terms b))) form
+      → Simplifies terms (tree.Binary op.Or (tree_in terms a) (tree_in terms b) (width_of (tree_in terms a))) form
   or_swapped s = simplifies_like terms _ _ form s (sym alike) (λ v. or_comm (term_at v terms b) (term_at v terms a)) (omega arith)
 
-  pub xor_swapped : Simplifies terms (tree.Xor (tree_in terms b) (tree_in terms a) (width_of (tree_in terms b))) form
-      → Simplifies terms (tree.Xor (tree_in terms a) (tree_in terms b) (width_of (tree_in terms a))) form
+  pub xor_swapped : Simplifies terms (tree.Binary op.Xor (tree_in terms b) (tree_in terms a) (width_of (tree_in terms b))) form
+      → Simplifies terms (tree.Binary op.Xor (tree_in terms a) (tree_in terms b) (width_of (tree_in terms a))) form
   xor_swapped s = simplifies_like terms _ _ form s (sym alike) (λ v. xor_comm (term_at v terms b) (term_at v terms a)) (omega arith)
 
 module _ (terms : List Term) (a b : TermId) (width : ℕ) (range : IsWidth width) (la : a.index < length terms) (wa : width_of (tree_in terms a) ≡ width)
     (lb : b.index < length terms) (wb : width_of (tree_in terms b) ≡ width) where
-  pub and_turned_round : Simplifies terms (tree.And (tree_in terms a) (tree_in terms b) width) (Built (term.And b a width))
+  pub and_turned_round : Simplifies terms (tree.Binary op.And (tree_in terms a) (tree_in terms b) width) (Built (term.Binary op.And b a width))
   and_turned_round = record {
     fit = record { within = (range, lb, la); matched = (wb, wa); operation = tt };
     wide = refl;
@@ -227,7 +228,7 @@ module _ (terms : List Term) (a b : TermId) (width : ℕ) (range : IsWidth width
     least = omega arith;
   }
 
-  pub or_turned_round : Simplifies terms (tree.Or (tree_in terms a) (tree_in terms b) width) (Built (term.Or b a width))
+  pub or_turned_round : Simplifies terms (tree.Binary op.Or (tree_in terms a) (tree_in terms b) width) (Built (term.Binary op.Or b a width))
   or_turned_round = record {
     fit = record { within = (range, lb, la); matched = (wb, wa); operation = tt };
     wide = refl;

@@ -3,6 +3,7 @@ use Rattle.std.proofs.Common.{ap, ℕ, ◌≡◌, ◌<◌, ◌≤◌, ◌+◌, �
 use Rattle.std.proofs.lemmas.Bool.{le-ltb}
 use Rattle.std.proofs.lemmas.Nat.{mul-add-lt, pow-add}
 use Rattle.std.proofs.Math.Nat.{mod-eq_of_lt, mod-le, mul-le-mul_right, mul_comm}
+use Rattle.bv_terms.specs.declared.term.BinaryOp.TheVariants as op
 use Rattle.bv_terms.specs.declared.term.TermId.{TermId}
 use Rattle.bv_terms.specs.declared.term.Term.{Term}
 use Rattle.bv_terms.specs.declared.term.Term.TheVariants as term
@@ -42,7 +43,7 @@ zext_small terms a inner n range is lt less v =
     let same : term_at v terms inner ≡ term_at v terms a = ap (value_of v) is in
     omega (arith, same, range v inner lt, pow-le (width_of (tree_in terms inner)) (width_of (tree_in terms a) - 1) (omega (arith, less)))
 
-pub product_is_small : (terms : List Term) (a first second : TermId) (n i j : ℕ) → tree.Mul (tree_in terms first) (tree_in terms second) n ≡ tree_in terms a → i + j < width_of (tree_in terms a)
+pub product_is_small : (terms : List Term) (a first second : TermId) (n i j : ℕ) → tree.Binary op.Mul (tree_in terms first) (tree_in terms second) n ≡ tree_in terms a → i + j < width_of (tree_in terms a)
     → ((v : ℕ → ℕ → ℕ) → term_at v terms first < 2 ^ i) → ((v : ℕ → ℕ → ℕ) → term_at v terms second < 2 ^ j) → (v : ℕ → ℕ → ℕ) → term_at v terms a < 2 ^ (width_of (tree_in terms a) - 1)
 product_is_small terms a first second n i j is less rf rs v =
     let w = width_of (tree_in terms a) in
@@ -50,7 +51,7 @@ product_is_small terms a first second n i j is less rf rs v =
     ap (value_of v) (sym is) ∙ ap (λ k. (term_at v terms first * term_at v terms second) % 2 ^ k) (ap width_of is) in
     subst (λ k. k < 2 ^ (w - 1)) (sym same) (product_small i j w (term_at v terms first) (term_at v terms second) less (rf v) (rs v))
 
-module _ (terms : List Term) (a b first second : TermId) (n : ℕ) (is : tree.Add (tree_in terms first) (tree_in terms second) n ≡ tree_in terms a) (pos : 1 ≤ n)
+module _ (terms : List Term) (a b first second : TermId) (n : ℕ) (is : tree.Binary op.Add (tree_in terms first) (tree_in terms second) n ≡ tree_in terms a) (pos : 1 ≤ n)
     (wf : width_of (tree_in terms first) ≡ n) (ws : width_of (tree_in terms second) ≡ n)
     (sf : (v : ℕ → ℕ → ℕ) → term_at v terms first < 2 ^ (width_of (tree_in terms first) - 1)) (ss : (v : ℕ → ℕ → ℕ) → term_at v terms second < 2 ^ (width_of (tree_in terms second) - 1)) where
   whole : (v : ℕ → ℕ → ℕ) → term_at v terms a ≡ term_at v terms first + term_at v terms second
@@ -69,5 +70,5 @@ module _ (terms : List Term) (a b first second : TermId) (n : ℕ) (is : tree.Ad
       let e : term_at v terms second ≡ term_at v terms b = ap (value_of v) (same_tree terms second b same) in
       omega (arith, whole v, e)
 
-pub never_less : (terms : List Term) (a b : TermId) (w : ℕ) → ((v : ℕ → ℕ → ℕ) → term_at v terms b ≤ term_at v terms a) → Simplifies terms (tree.Ult (tree_in terms a) (tree_in terms b) w) (Built (term.Constant 0 1))
+pub never_less : (terms : List Term) (a b : TermId) (w : ℕ) → ((v : ℕ → ℕ → ℕ) → term_at v terms b ≤ term_at v terms a) → Simplifies terms (tree.Binary op.Ult (tree_in terms a) (tree_in terms b) w) (Built (term.Constant 0 1))
 never_less terms a b w h = constant_form terms _ 0 1 (omega arith, omega arith) (lit< tt) refl (λ v. ap digit (le-ltb (term_at v terms a) (term_at v terms b) (h v)))

@@ -4,6 +4,7 @@ use Rattle.std.specs.Prelude.{bit_and, bit_or}
 use Rattle.std.specs.Int.Bits.{and_zero_l, or_zero_l}
 use Rattle.std.proofs.lemmas.Bool.{cases_eq}
 use Rattle.std.proofs.lemmas.Nat.{and_comm, or_comm}
+use Rattle.bv_terms.specs.declared.term.BinaryOp.TheVariants as op
 use Rattle.bv_terms.specs.declared.term.TermId.{TermId}
 use Rattle.bv_terms.specs.declared.term.Term.{Term}
 use Rattle.bv_terms.specs.declared.term.Term.TheVariants as term
@@ -47,7 +48,7 @@ module _ (terms : List Term) (c a b : TermId) (range : AreInRange terms) (lc : c
   below x lt e v = subst (λ n. term_at v terms x < 2 ^ n) e (range v x lt)
 
   pub choice_or : (first : width_of (tree_in terms a) ≡ 1) → (second : width_of (tree_in terms b) ≡ 1) → (n : ℕ) → n ≡ 1 → ((v : ℕ → ℕ → ℕ) → term_at v terms a ≡ n)
-      → Simplifies terms (tree.Ite (tree_in terms c) (tree_in terms a) (tree_in terms b) (width_of (tree_in terms a))) (Built (term.Or c b 1))
+      → Simplifies terms (tree.Ite (tree_in terms c) (tree_in terms a) (tree_in terms b) (width_of (tree_in terms a))) (Built (term.Binary op.Or c b 1))
   choice_or first second n one h = record {
     fit = record { within = ((omega arith, omega arith), lc, lb); matched = (bit, second); operation = tt };
     wide = sym first;
@@ -57,7 +58,7 @@ module _ (terms : List Term) (c a b : TermId) (range : AreInRange terms) (lc : c
   }
 
   pub choice_and : (first : width_of (tree_in terms a) ≡ 1) → (n : ℕ) → n ≡ 0 → ((v : ℕ → ℕ → ℕ) → term_at v terms b ≡ n)
-      → Simplifies terms (tree.Ite (tree_in terms c) (tree_in terms a) (tree_in terms b) (width_of (tree_in terms a))) (Built (term.And c a 1))
+      → Simplifies terms (tree.Ite (tree_in terms c) (tree_in terms a) (tree_in terms b) (width_of (tree_in terms a))) (Built (term.Binary op.And c a 1))
   choice_and first n none h = record {
     fit = record { within = ((omega arith, omega arith), lc, la); matched = (bit, first); operation = tt };
     wide = sym first;

@@ -3,6 +3,7 @@ use Rattle.std.proofs.Common.{ap, ℕ, ◌≡◌, ◌<◌, ◌+◌, ◌-◌, ◌
 use Rattle.std.specs.Prelude.{bit_and, bit_or}
 use Rattle.std.specs.Int.Bits.{and_zero_l, and_zero_r, or_add_and}
 use Rattle.std.proofs.lemmas.Nat.{and_assoc, and_comm, and-not, and_or_self, or_comm, or_lt}
+use Rattle.bv_terms.specs.declared.term.BinaryOp.TheVariants as op
 use Rattle.bv_terms.specs.declared.term.TermId.{TermId}
 use Rattle.bv_terms.specs.declared.term.Term.{Term}
 use Rattle.bv_terms.specs.Tree as tree
@@ -65,7 +66,7 @@ module _ (terms : List Term) (range : AreInRange terms) (a b first second : Term
   below : (x : TermId) → x.index < length terms → width_of (tree_in terms x) ≡ n → (v : ℕ → ℕ → ℕ) → term_at v terms x < 2 ^ n
   below x lt e v = subst (λ k. term_at v terms x < 2 ^ k) e (range v x lt)
 
-  pub excludes_first : tree.And (tree_in terms first) (tree_in terms second) n ≡ tree_in terms a
+  pub excludes_first : tree.Binary op.And (tree_in terms first) (tree_in terms second) n ≡ tree_in terms a
       → ((v : ℕ → ℕ → ℕ) → term_at v terms b ≡ 2 ^ width_of (tree_in terms first) - 1 - term_at v terms first)
       → (v : ℕ → ℕ → ℕ) → bit_and (term_at v terms a) (term_at v terms b) ≡ 0
   excludes_first is h v =
@@ -74,7 +75,7 @@ module _ (terms : List Term) (range : AreInRange terms) (a b first second : Term
       ∙ (ap (λ k. bit_and (bit_and (term_at v terms second) (term_at v terms first)) k) (h v ∙ ap (λ k. 2 ^ k - 1 - term_at v terms first) wf)
       ∙ and_excluded (term_at v terms first) (term_at v terms second) n (below first lf wf v)))
 
-  pub excludes_second : tree.And (tree_in terms first) (tree_in terms second) n ≡ tree_in terms a
+  pub excludes_second : tree.Binary op.And (tree_in terms first) (tree_in terms second) n ≡ tree_in terms a
       → ((v : ℕ → ℕ → ℕ) → term_at v terms b ≡ 2 ^ width_of (tree_in terms second) - 1 - term_at v terms second)
       → (v : ℕ → ℕ → ℕ) → bit_and (term_at v terms a) (term_at v terms b) ≡ 0
   excludes_second is h v =
@@ -82,7 +83,7 @@ module _ (terms : List Term) (range : AreInRange terms) (a b first second : Term
       ∙ (ap (λ k. bit_and (bit_and (term_at v terms first) (term_at v terms second)) k) (h v ∙ ap (λ k. 2 ^ k - 1 - term_at v terms second) ws)
       ∙ and_excluded (term_at v terms second) (term_at v terms first) n (below second ls ws v))
 
-  pub completes_first : tree.Or (tree_in terms first) (tree_in terms second) n ≡ tree_in terms a
+  pub completes_first : tree.Binary op.Or (tree_in terms first) (tree_in terms second) n ≡ tree_in terms a
       → ((v : ℕ → ℕ → ℕ) → term_at v terms b ≡ 2 ^ width_of (tree_in terms first) - 1 - term_at v terms first)
       → (v : ℕ → ℕ → ℕ) → bit_or (term_at v terms a) (term_at v terms b) ≡ 2 ^ width_of (tree_in terms a) - 1
   completes_first is h v =
@@ -92,7 +93,7 @@ module _ (terms : List Term) (range : AreInRange terms) (a b first second : Term
       ∙ (or_completed (term_at v terms first) (term_at v terms second) n (below first lf wf v) (below second ls ws v)
       ∙ ap (λ (t : Tree). 2 ^ width_of t - 1) is)))
 
-  pub completes_second : tree.Or (tree_in terms first) (tree_in terms second) n ≡ tree_in terms a
+  pub completes_second : tree.Binary op.Or (tree_in terms first) (tree_in terms second) n ≡ tree_in terms a
       → ((v : ℕ → ℕ → ℕ) → term_at v terms b ≡ 2 ^ width_of (tree_in terms second) - 1 - term_at v terms second)
       → (v : ℕ → ℕ → ℕ) → bit_or (term_at v terms a) (term_at v terms b) ≡ 2 ^ width_of (tree_in terms a) - 1
   completes_second is h v =
@@ -108,7 +109,7 @@ module _ (terms : List Term) (range : AreInRange terms) (a b first second : Term
   near : (x : TermId) → x.index < length terms → width_of (tree_in terms x) ≡ n → width_of (tree_in terms b) ≡ n → (v : ℕ → ℕ → ℕ) → term_at v terms x < 2 ^ width_of (tree_in terms a)
   near x lt e eb v = subst (λ k. term_at v terms x < 2 ^ k) (e ∙ (sym eb ∙ sym alike)) (range v x lt)
 
-  pub and_part_second : tree.Or (tree_in terms first) (tree_in terms second) n ≡ tree_in terms b
+  pub and_part_second : tree.Binary op.Or (tree_in terms first) (tree_in terms second) n ≡ tree_in terms b
       → ((v : ℕ → ℕ → ℕ) → term_at v terms first ≡ 2 ^ width_of (tree_in terms a) - 1 - term_at v terms a) → IsAndPart terms a b second
   and_part_second is h = record {
     within = ls;
@@ -119,7 +120,7 @@ module _ (terms : List Term) (range : AreInRange terms) (a b first second : Term
     least = let heavy : weight_of (tree_in terms b) ≡ 1 + weight_of (tree_in terms first) + weight_of (tree_in terms second) = ap weight_of (sym is) in omega (arith, heavy);
   }
 
-  pub and_part_first : tree.Or (tree_in terms first) (tree_in terms second) n ≡ tree_in terms b
+  pub and_part_first : tree.Binary op.Or (tree_in terms first) (tree_in terms second) n ≡ tree_in terms b
       → ((v : ℕ → ℕ → ℕ) → term_at v terms second ≡ 2 ^ width_of (tree_in terms a) - 1 - term_at v terms a) → IsAndPart terms a b first
   and_part_first is h = record {
     within = lf;
@@ -131,7 +132,7 @@ module _ (terms : List Term) (range : AreInRange terms) (a b first second : Term
     least = let heavy : weight_of (tree_in terms b) ≡ 1 + weight_of (tree_in terms first) + weight_of (tree_in terms second) = ap weight_of (sym is) in omega (arith, heavy);
   }
 
-  pub or_part_second : tree.And (tree_in terms first) (tree_in terms second) n ≡ tree_in terms b
+  pub or_part_second : tree.Binary op.And (tree_in terms first) (tree_in terms second) n ≡ tree_in terms b
       → ((v : ℕ → ℕ → ℕ) → term_at v terms first ≡ 2 ^ width_of (tree_in terms a) - 1 - term_at v terms a) → IsOrPart terms a b second
   or_part_second is h = record {
     within = ls;
@@ -142,7 +143,7 @@ module _ (terms : List Term) (range : AreInRange terms) (a b first second : Term
     least = let heavy : weight_of (tree_in terms b) ≡ 1 + weight_of (tree_in terms first) + weight_of (tree_in terms second) = ap weight_of (sym is) in omega (arith, heavy);
   }
 
-  pub or_part_first : tree.And (tree_in terms first) (tree_in terms second) n ≡ tree_in terms b
+  pub or_part_first : tree.Binary op.And (tree_in terms first) (tree_in terms second) n ≡ tree_in terms b
       → ((v : ℕ → ℕ → ℕ) → term_at v terms second ≡ 2 ^ width_of (tree_in terms a) - 1 - term_at v terms a) → IsOrPart terms a b first
   or_part_first is h = record {
     within = lf;
@@ -157,9 +158,9 @@ module _ (terms : List Term) (range : AreInRange terms) (a b first second : Term
 -- ---- a form of the lesser operation is one of the whole
 
 pub and_by_part : (terms : List Term) (a b part : TermId) (width : ℕ) (form : Form) → width ≡ width_of (tree_in terms a) → IsAndPart terms a b part
-    → Simplifies terms (tree.And (tree_in terms a) (tree_in terms part) width) form → Simplifies terms (tree.And (tree_in terms a) (tree_in terms b) (width_of (tree_in terms a))) form
+    → Simplifies terms (tree.Binary op.And (tree_in terms a) (tree_in terms part) width) form → Simplifies terms (tree.Binary op.And (tree_in terms a) (tree_in terms b) (width_of (tree_in terms a))) form
 and_by_part terms a b part width form e h s = simplifies_like terms _ _ form s e h.says (omega (arith, h.least))
 
 pub or_by_part : (terms : List Term) (a b part : TermId) (width : ℕ) (form : Form) → width ≡ width_of (tree_in terms a) → IsOrPart terms a b part
-    → Simplifies terms (tree.Or (tree_in terms a) (tree_in terms part) width) form → Simplifies terms (tree.Or (tree_in terms a) (tree_in terms b) (width_of (tree_in terms a))) form
+    → Simplifies terms (tree.Binary op.Or (tree_in terms a) (tree_in terms part) width) form → Simplifies terms (tree.Binary op.Or (tree_in terms a) (tree_in terms b) (width_of (tree_in terms a))) form
 or_by_part terms a b part width form e h s = simplifies_like terms _ _ form s e h.says (omega (arith, h.least))

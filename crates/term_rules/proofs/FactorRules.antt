@@ -2,6 +2,7 @@
 use Rattle.std.proofs.Common.{ap, ℕ, ◌≡◌, ◌<◌, ◌+◌, ◌*◌, ◌%◌, ◌^◌, List, length, arith, ◌∙◌, sym}
 use Rattle.std.proofs.lemmas.Nat.{mul-mod_second}
 use Rattle.std.proofs.Math.Nat.{add-mod-mod, mod-add-mod, mul_comm}
+use Rattle.bv_terms.specs.declared.term.BinaryOp.TheVariants as op
 use Rattle.bv_terms.specs.declared.term.TermId.{TermId}
 use Rattle.bv_terms.specs.declared.term.Term.{Term}
 use Rattle.bv_terms.specs.Tree as tree
@@ -18,7 +19,7 @@ distributed_number c x y m =
     ∙ (ap (λ k. k % m) (let e : c * (x + y) ≡ c * x + c * y = grind arith in e)
     ∙ (sym (mod-add-mod (c * x) m (c * y)) ∙ sym (add-mod-mod ((c * x) % m) (c * y) m)))
 
-module _ (terms : List Term) (a common first second : TermId) (n : ℕ) (is : tree.Mul (tree_in terms first) (tree_in terms second) n ≡ tree_in terms a)
+module _ (terms : List Term) (a common first second : TermId) (n : ℕ) (is : tree.Binary op.Mul (tree_in terms first) (tree_in terms second) n ≡ tree_in terms a)
     (lf : first.index < length terms) (wf : width_of (tree_in terms first) ≡ n) (ws : width_of (tree_in terms second) ≡ n) where
   value-at : (v : ℕ → ℕ → ℕ) → term_at v terms a ≡ (term_at v terms first * term_at v terms second) % 2 ^ width_of (tree_in terms a)
   value-at v = ap (value_of v) (sym is) ∙ ap (λ k. (term_at v terms first * term_at v terms second) % 2 ^ k) (ap width_of is)

@@ -3,6 +3,7 @@ use Rattle.std.proofs.Common.{ap, ℕ, ◌≡◌, ◌<◌, ◌+◌, ◌-◌, ◌
 use Rattle.std.proofs.lemmas.Bool.{eqb-true}
 use Rattle.std.proofs.lemmas.Nat.{div-add-mod'}
 use Rattle.std.proofs.Math.Nat.{add-mod_right, mod-eq_of_lt, zero-mod}
+use Rattle.bv_terms.specs.declared.term.BinaryOp.TheVariants as op
 use Rattle.bv_terms.specs.declared.term.TermId.{TermId}
 use Rattle.bv_terms.specs.declared.term.Term.{Term}
 use Rattle.bv_terms.specs.Tree as tree
@@ -34,7 +35,7 @@ part-of p r x m e lt =
 
 -- ---- terms
 
-pub dividend_part : (terms : List Term) (a b whole first second : TermId) (n : ℕ) → AreInRange terms → tree.Urem (tree_in terms whole) (tree_in terms second) n ≡ tree_in terms b
+pub dividend_part : (terms : List Term) (a b whole first second : TermId) (n : ℕ) → AreInRange terms → tree.Binary op.Urem (tree_in terms whole) (tree_in terms second) n ≡ tree_in terms b
     → whole.index < length terms → first.index ≡ second.index → IsMultiple terms whole a first → IsPart terms a b whole
 dividend_part terms a b whole first second n range is lt same h =
     let w = width_of (tree_in terms a) in

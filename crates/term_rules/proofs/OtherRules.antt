@@ -3,6 +3,7 @@ use Rattle.std.proofs.Common.{ap, ℕ, ◌≡◌, ◌<◌, ◌≤◌, ◌+◌, �
 use Rattle.std.proofs.lemmas.Bool.{eqb-true, ne_eqb, lt-ltb}
 use Rattle.std.proofs.lemmas.Nat.{pow_pos, pow-add}
 use Rattle.std.proofs.Math.Nat.{mod-eq_of_lt, mod_self}
+use Rattle.bv_terms.specs.declared.term.BinaryOp.TheVariants as op
 use Rattle.bv_terms.specs.declared.term.TermId.{TermId}
 use Rattle.bv_terms.specs.declared.term.Term.{Term}
 use Rattle.bv_terms.specs.declared.term.Term.TheVariants as term
@@ -22,7 +23,7 @@ own_remainder x = go (eqb x 0) refl
     go false e = mod_self x
 
 pub rest_of_same : (terms : List Term) (a b : TermId) (width : ℕ) → IsWidth width → width ≡ width_of (tree_in terms a) → a.index ≡ b.index
-    → Simplifies terms (tree.Urem (tree_in terms a) (tree_in terms b) (width_of (tree_in terms a))) (Built (term.Constant 0 width))
+    → Simplifies terms (tree.Binary op.Urem (tree_in terms a) (tree_in terms b) (width_of (tree_in terms a))) (Built (term.Constant 0 width))
 rest_of_same terms a b width is e same = constant_form terms _ 0 width is (pow_pos width) e
     (λ v. ap (λ t. remainder (term_at v terms a) (value_of v t)) (sym (same_tree terms a b same)) ∙ own_remainder (term_at v terms a))
 
@@ -33,7 +34,7 @@ unmoved w x pos lt =
     ∙ (ap (λ k. k % 2 ^ w) (let e : x * 2 ^ 0 ≡ x = omega arith in e) ∙ mod-eq_of_lt lt)
 
 pub left_of_zero : (terms : List Term) (a b : TermId) (n width : ℕ) → AreInRange terms → a.index < length terms → IsWidth width → width ≡ width_of (tree_in terms a)
-    → n ≡ 0 → ((v : ℕ → ℕ → ℕ) → term_at v terms b ≡ n) → Simplifies terms (tree.Shl (tree_in terms a) (tree_in terms b) (width_of (tree_in terms a))) (Known a)
+    → n ≡ 0 → ((v : ℕ → ℕ → ℕ) → term_at v terms b ≡ n) → Simplifies terms (tree.Binary op.Shl (tree_in terms a) (tree_in terms b) (width_of (tree_in terms a))) (Known a)
 left_of_zero terms a b n width range la is e none h = record {
   fit = la;
   wide = refl;
@@ -51,6 +52,6 @@ apart x w pos lt =
 
 pub equal_to_turned : (terms : List Term) (a b : TermId) (width : ℕ) → AreInRange terms → a.index < length terms → IsWidth width → width ≡ width_of (tree_in terms a)
     → ((v : ℕ → ℕ → ℕ) → term_at v terms b ≡ 2 ^ width_of (tree_in terms a) - 1 - term_at v terms a)
-    → Simplifies terms (tree.Eq (tree_in terms a) (tree_in terms b) (width_of (tree_in terms a))) (Built (term.Constant 0 1))
+    → Simplifies terms (tree.Binary op.Eq (tree_in terms a) (tree_in terms b) (width_of (tree_in terms a))) (Built (term.Constant 0 1))
 equal_to_turned terms a b width range la is e h = constant_form terms _ 0 1 (omega arith, omega arith) (lit< tt) refl
     (λ v. ap (λ y. digit (eqb (term_at v terms a) y)) (h v) ∙ apart (term_at v terms a) (width_of (tree_in terms a)) (subst (λ k. 1 ≤ k) e is.0) (range v a la))

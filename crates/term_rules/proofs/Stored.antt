@@ -5,36 +5,11 @@ use Rattle.bv_terms.specs.declared.term.Term.{Term}
 use Rattle.bv_terms.specs.declared.term.Term.TheVariants as term
 use Rattle.bv_terms.specs.Tree as tree
 use Rattle.bv_terms.specs.Tree.{Tree, width_of, value_of}
-use Rattle.bv_terms.specs.Trees.{AreFit, AreInRange, AreMatched, Extends, IsFit, IsWidth, IsWithin, tree_at, tree_in, tree_of, term_width, trees_from, trees_of}
-use Rattle.bv_terms.proofs.Stages.{length-trees, tree-same, tree-stored, trees-front, width-tree}
+use Rattle.bv_terms.specs.Trees.{AreFit, AreInRange, AreMatched, Extends, IsFit, IsWithin, tree_at, tree_in, tree_of, term_width, trees_from, trees_of}
+use Rattle.bv_terms.proofs.Stages.{length-trees, tree-same, tree-stored, trees-front, width-tree, within-more}
 use Rattle.bv_terms.proofs.Keeping.{term_place}
 use Rattle.bv_terms.proofs.Below.{AreBelow, tree-below}
 use Rattle.term_folds.specs.Weight.{weight_of}
-
--- what names the first terms names some of more
-within_more : (m n : ℕ) (t : Term) → m ≤ n → IsWithin m t → IsWithin n t
-within_more m n (term.Constant value width) le w = w
-within_more m n (term.Variable number width) le w = w
-within_more m n (term.Not a width) le w = (w.0, omega (arith, w.1))
-within_more m n (term.And a b width) le w = (w.0, omega (arith, w.1), omega (arith, w.2))
-within_more m n (term.Or a b width) le w = (w.0, omega (arith, w.1), omega (arith, w.2))
-within_more m n (term.Xor a b width) le w = (w.0, omega (arith, w.1), omega (arith, w.2))
-within_more m n (term.Add a b width) le w = (w.0, omega (arith, w.1), omega (arith, w.2))
-within_more m n (term.Sub a b width) le w = (w.0, omega (arith, w.1), omega (arith, w.2))
-within_more m n (term.Mul a b width) le w = (w.0, omega (arith, w.1), omega (arith, w.2))
-within_more m n (term.Udiv a b width) le w = (w.0, omega (arith, w.1), omega (arith, w.2))
-within_more m n (term.Urem a b width) le w = (w.0, omega (arith, w.1), omega (arith, w.2))
-within_more m n (term.Shl a b width) le w = (w.0, omega (arith, w.1), omega (arith, w.2))
-within_more m n (term.Lshr a b width) le w = (w.0, omega (arith, w.1), omega (arith, w.2))
-within_more m n (term.Ashr a b width) le w = (w.0, omega (arith, w.1), omega (arith, w.2))
-within_more m n (term.Eq a b width) le w = (w.0, omega (arith, w.1), omega (arith, w.2))
-within_more m n (term.Ult a b width) le w = (w.0, omega (arith, w.1), omega (arith, w.2))
-within_more m n (term.Slt a b width) le w = (w.0, omega (arith, w.1), omega (arith, w.2))
-within_more m n (term.Ite c a b width) le w = (w.0, omega (arith, w.1), omega (arith, w.2), omega (arith, w.3))
-within_more m n (term.Extract a from width) le w = (w.0, omega (arith, w.1))
-within_more m n (term.Concat high low below width) le w = (w.0, omega (arith, w.1), omega (arith, w.2))
-within_more m n (term.Zext a width) le w = (w.0, omega (arith, w.1))
-within_more m n (term.Sext a from width) le w = (w.0, omega (arith, w.1))
 
 -- widths go together over lists that agree on what the term names
 module _ (early late : List Tree) (same : (a : TermId) → a.index < length early → tree_at late a ≡ tree_at early a) where
@@ -45,20 +20,7 @@ module _ (early late : List Tree) (same : (a : TermId) → a.index < length earl
   matched_more (term.Constant value width) w m = m
   matched_more (term.Variable number width) w m = m
   matched_more (term.Not a width) w m = one a width w.1 m
-  matched_more (term.And a b width) w m = (one a width w.1 m.0, one b width w.2 m.1)
-  matched_more (term.Or a b width) w m = (one a width w.1 m.0, one b width w.2 m.1)
-  matched_more (term.Xor a b width) w m = (one a width w.1 m.0, one b width w.2 m.1)
-  matched_more (term.Add a b width) w m = (one a width w.1 m.0, one b width w.2 m.1)
-  matched_more (term.Sub a b width) w m = (one a width w.1 m.0, one b width w.2 m.1)
-  matched_more (term.Mul a b width) w m = (one a width w.1 m.0, one b width w.2 m.1)
-  matched_more (term.Udiv a b width) w m = (one a width w.1 m.0, one b width w.2 m.1)
-  matched_more (term.Urem a b width) w m = (one a width w.1 m.0, one b width w.2 m.1)
-  matched_more (term.Shl a b width) w m = (one a width w.1 m.0, one b width w.2 m.1)
-  matched_more (term.Lshr a b width) w m = (one a width w.1 m.0, one b width w.2 m.1)
-  matched_more (term.Ashr a b width) w m = (one a width w.1 m.0, one b width w.2 m.1)
-  matched_more (term.Eq a b width) w m = (one a width w.1 m.0, one b width w.2 m.1)
-  matched_more (term.Ult a b width) w m = (one a width w.1 m.0, one b width w.2 m.1)
-  matched_more (term.Slt a b width) w m = (one a width w.1 m.0, one b width w.2 m.1)
+  matched_more (term.Binary op a b width) w m = (one a width w.1 m.0, one b width w.2 m.1)
   matched_more (term.Ite c a b width) w m = (one a width w.1 m.0, one b width w.2 m.1, one c 1 w.3 m.2)
   matched_more (term.Extract a from width) w m = omega (arith, m, ap width_of (same a w.1))
   matched_more (term.Concat high low below width) w m = (one low below w.2 m.0, omega (arith, m.1, ap width_of (same high w.1)))
@@ -73,7 +35,7 @@ fit-from earlier (s ∷ ss) zero t fit e =
     let is : s ≡ t = cc in
     let longer : length earlier ≤ length (trees_from earlier (s ∷ ss)) = omega (arith, length-trees earlier (s ∷ ss)) in
     subst (λ (x : Term). IsFit (trees_from earlier (s ∷ ss)) x) is (record {
-      within = within_more (length earlier) (length (trees_from earlier (s ∷ ss))) s longer fit.0.within;
+      within = within-more (length earlier) (length (trees_from earlier (s ∷ ss))) s longer fit.0.within;
       matched = matched_more earlier (trees_from earlier (s ∷ ss)) (λ a lt. trees-front earlier (s ∷ ss) a.index (tree.Constant 0 1) lt) s fit.0.within fit.0.matched;
     })
 fit-from earlier (s ∷ ss) (suc i) t fit e = fit-from (earlier ++ tree_of earlier s ∷ []) ss i t fit.1 e
@@ -102,50 +64,12 @@ tree_made old new id t kept fit within at =
     tree_stored new id t fit at
     ∙ tree-same (trees_from [] old) (trees_from [] new) t (subst (λ n. IsWithin n t) (sym whole) within) (λ a below. kept.kept a (omega (arith, below, length-trees [] old)))
 
--- the width of a term that goes well is one
-pub width_within : (n : ℕ) (t : Term) → IsWithin n t → IsWidth (term_width t)
-width_within n (term.Constant value width) w = w.0
-width_within n (term.Variable number width) w = w
-width_within n (term.Not a width) w = w.0
-width_within n (term.And a b width) w = w.0
-width_within n (term.Or a b width) w = w.0
-width_within n (term.Xor a b width) w = w.0
-width_within n (term.Add a b width) w = w.0
-width_within n (term.Sub a b width) w = w.0
-width_within n (term.Mul a b width) w = w.0
-width_within n (term.Udiv a b width) w = w.0
-width_within n (term.Urem a b width) w = w.0
-width_within n (term.Shl a b width) w = w.0
-width_within n (term.Lshr a b width) w = w.0
-width_within n (term.Ashr a b width) w = w.0
-width_within n (term.Eq a b width) w = (omega arith, omega arith)
-width_within n (term.Ult a b width) w = (omega arith, omega arith)
-width_within n (term.Slt a b width) w = (omega arith, omega arith)
-width_within n (term.Ite c a b width) w = w.0
-width_within n (term.Extract a from width) w = w.0
-width_within n (term.Concat high low below width) w = w.0
-width_within n (term.Zext a width) w = w.0
-width_within n (term.Sext a from width) w = w.0
-
 -- a tree has a node
 pub weight_positive : (t : Tree) → 1 ≤ weight_of t
 weight_positive (tree.Constant value width) = omega arith
 weight_positive (tree.Variable number width) = omega arith
 weight_positive (tree.Not a width) = omega arith
-weight_positive (tree.And a b width) = omega arith
-weight_positive (tree.Or a b width) = omega arith
-weight_positive (tree.Xor a b width) = omega arith
-weight_positive (tree.Add a b width) = omega arith
-weight_positive (tree.Sub a b width) = omega arith
-weight_positive (tree.Mul a b width) = omega arith
-weight_positive (tree.Udiv a b width) = omega arith
-weight_positive (tree.Urem a b width) = omega arith
-weight_positive (tree.Shl a b width) = omega arith
-weight_positive (tree.Lshr a b width) = omega arith
-weight_positive (tree.Ashr a b width) = omega arith
-weight_positive (tree.Eq a b width) = omega arith
-weight_positive (tree.Ult a b width) = omega arith
-weight_positive (tree.Slt a b width) = omega arith
+weight_positive (tree.Binary op a b width) = omega arith
 weight_positive (tree.Ite c a b width) = omega arith
 weight_positive (tree.Extract a from width) = omega arith
 weight_positive (tree.Concat high low below width) = omega arith

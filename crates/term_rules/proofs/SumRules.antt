@@ -2,6 +2,7 @@
 use Rattle.std.proofs.Common.{ap, ℕ, zero, suc, ◌≡◌, ◌<◌, ◌+◌, ◌-◌, ◌*◌, ◌%◌, ◌^◌, cond, List, length, arith, ◌∙◌, sym, subst, refl}
 use Rattle.std.proofs.lemmas.Bool.{lt-ltb}
 use Rattle.std.proofs.Math.Nat.{add-mod-mod, add-mod_right, mod-add-mod, mod-eq_of_lt, pow-suc}
+use Rattle.bv_terms.specs.declared.term.BinaryOp.TheVariants as op
 use Rattle.bv_terms.specs.declared.term.TermId.{TermId}
 use Rattle.bv_terms.specs.declared.term.Term.{Term}
 use Rattle.bv_terms.specs.Tree as tree
@@ -33,10 +34,10 @@ sub-cancel x b m lx lb =
 
 -- ---- sums with a number
 
-pub raised_twice : (terms : List Term) (a inner b : TermId) (first by n width : ℕ) (form : Form) → tree.Add (tree_in terms inner) (tree_in terms b) n ≡ tree_in terms a
+pub raised_twice : (terms : List Term) (a inner b : TermId) (first by n width : ℕ) (form : Form) → tree.Binary op.Add (tree_in terms inner) (tree_in terms b) n ≡ tree_in terms a
     → width_of (tree_in terms a) ≡ width → ((v : ℕ → ℕ → ℕ) → term_at v terms b ≡ first)
-    → Simplifies terms (tree.Add (tree_in terms inner) (tree.Constant ((first + by) % 2 ^ width) width) width) form
-    → Simplifies terms (tree.Add (tree_in terms a) (tree.Constant by width) width) form
+    → Simplifies terms (tree.Binary op.Add (tree_in terms inner) (tree.Constant ((first + by) % 2 ^ width) width) width) form
+    → Simplifies terms (tree.Binary op.Add (tree_in terms a) (tree.Constant by width) width) form
 raised_twice terms a inner b first by n width form is wide h s =
     let same : n ≡ width = ap width_of is ∙ wide in
     let weight : weight_of (tree_in terms a) ≡ 1 + weight_of (tree_in terms inner) + weight_of (tree_in terms b) = ap weight_of (sym is) in
@@ -47,16 +48,16 @@ raised_twice terms a inner b first by n width form is wide h s =
     (omega (arith, weight))
 
 pub sum_with_number : (terms : List Term) (a b : TermId) (by width : ℕ) (form : Form) → width ≡ width_of (tree_in terms a) → ((v : ℕ → ℕ → ℕ) → term_at v terms b ≡ by)
-    → Simplifies terms (tree.Add (tree_in terms a) (tree.Constant by width) width) form
-    → Simplifies terms (tree.Add (tree_in terms a) (tree_in terms b) (width_of (tree_in terms a))) form
+    → Simplifies terms (tree.Binary op.Add (tree_in terms a) (tree.Constant by width) width) form
+    → Simplifies terms (tree.Binary op.Add (tree_in terms a) (tree_in terms b) (width_of (tree_in terms a))) form
 sum_with_number terms a b by width form e h s = simplifies_like terms _ _ form s e
     (λ v. ap (λ k. (term_at v terms a + k) % 2 ^ width) (sym (h v)) ∙ ap (λ k. (term_at v terms a + term_at v terms b) % 2 ^ k) e)
     (omega (arith, weight_positive (tree_in terms b)))
 
 pub difference_with_number : (terms : List Term) (a b : TermId) (value by width : ℕ) (form : Form) → width ≡ width_of (tree_in terms a) → ((v : ℕ → ℕ → ℕ) → term_at v terms b ≡ value)
     → by ≡ (0 + (2 ^ width - value)) % 2 ^ width
-    → Simplifies terms (tree.Add (tree_in terms a) (tree.Constant by width) width) form
-    → Simplifies terms (tree.Sub (tree_in terms a) (tree_in terms b) (width_of (tree_in terms a))) form
+    → Simplifies terms (tree.Binary op.Add (tree_in terms a) (tree.Constant by width) width) form
+    → Simplifies terms (tree.Binary op.Sub (tree_in terms a) (tree_in terms b) (width_of (tree_in terms a))) form
 difference_with_number terms a b value by width form e h is s = simplifies_like terms _ _ form s e
     (λ v. ap (λ k. (term_at v terms a + k) % 2 ^ width) is
     ∙ (add-mod-mod (term_at v terms a) (0 + (2 ^ width - value)) (2 ^ width)
@@ -67,7 +68,7 @@ difference_with_number terms a b value by width form e h is s = simplifies_like 
 
 -- ---- what is added and taken away again
 
-module _ (terms : List Term) (a b first second : TermId) (n : ℕ) (is : tree.Add (tree_in terms first) (tree_in terms second) n ≡ tree_in terms a)
+module _ (terms : List Term) (a b first second : TermId) (n : ℕ) (is : tree.Binary op.Add (tree_in terms first) (tree_in terms second) n ≡ tree_in terms a)
     (lf : first.index < length terms) (ls : second.index < length terms) (wf : width_of (tree_in terms first) ≡ n) (ws : width_of (tree_in terms second) ≡ n) where
   value-at : (v : ℕ → ℕ → ℕ) → term_at v terms a ≡ (term_at v terms first + term_at v terms second) % 2 ^ width_of (tree_in terms a)
   value-at v = ap (value_of v) (sym is) ∙ ap (λ k. (term_at v terms first + term_at v terms second) % 2 ^ k) (ap width_of is)
@@ -93,7 +94,7 @@ module _ (terms : List Term) (a b first second : TermId) (n : ℕ) (is : tree.Ad
     least = omega (arith, heavier);
   }
 
-pub part_whole : (terms : List Term) (a b whole taken : TermId) (n : ℕ) → tree.Sub (tree_in terms whole) (tree_in terms taken) n ≡ tree_in terms a
+pub part_whole : (terms : List Term) (a b whole taken : TermId) (n : ℕ) → tree.Binary op.Sub (tree_in terms whole) (tree_in terms taken) n ≡ tree_in terms a
     → whole.index < length terms → width_of (tree_in terms whole) ≡ n → taken.index ≡ b.index → IsPart terms a b whole
 part_whole terms a b whole taken n is lt wide same = record {
   within = lt;
@@ -108,7 +109,7 @@ module _ (terms : List Term) (a b : TermId) (range : AreInRange terms) (la : a.i
   below : (x : TermId) → x.index < length terms → width_of (tree_in terms x) ≡ width_of (tree_in terms a) → (v : ℕ → ℕ → ℕ) → term_at v terms x < 2 ^ width_of (tree_in terms a)
   below x lt e v = subst (λ n. term_at v terms x < 2 ^ n) e (range v x lt)
 
-  pub difference_of_rest : (rest : TermId) → IsRest terms a b rest → Simplifies terms (tree.Sub (tree_in terms a) (tree_in terms b) (width_of (tree_in terms a))) (Known rest)
+  pub difference_of_rest : (rest : TermId) → IsRest terms a b rest → Simplifies terms (tree.Binary op.Sub (tree_in terms a) (tree_in terms b) (width_of (tree_in terms a))) (Known rest)
   difference_of_rest rest h = record {
     fit = h.within;
     wide = h.wide;
@@ -117,7 +118,7 @@ module _ (terms : List Term) (a b : TermId) (range : AreInRange terms) (la : a.i
     least = omega (arith, h.least);
   }
 
-  pub sum_of_part : (whole : TermId) → IsPart terms a b whole → Simplifies terms (tree.Add (tree_in terms a) (tree_in terms b) (width_of (tree_in terms a))) (Known whole)
+  pub sum_of_part : (whole : TermId) → IsPart terms a b whole → Simplifies terms (tree.Binary op.Add (tree_in terms a) (tree_in terms b) (width_of (tree_in terms a))) (Known whole)
   sum_of_part whole h = record {
     fit = h.within;
     wide = h.wide;
@@ -126,8 +127,8 @@ module _ (terms : List Term) (a b : TermId) (range : AreInRange terms) (la : a.i
     least = omega (arith, h.least);
   }
 
-  pub sum_swapped : (form : Form) → Simplifies terms (tree.Add (tree_in terms b) (tree_in terms a) (width_of (tree_in terms b))) form
-      → Simplifies terms (tree.Add (tree_in terms a) (tree_in terms b) (width_of (tree_in terms a))) form
+  pub sum_swapped : (form : Form) → Simplifies terms (tree.Binary op.Add (tree_in terms b) (tree_in terms a) (width_of (tree_in terms b))) form
+      → Simplifies terms (tree.Binary op.Add (tree_in terms a) (tree_in terms b) (width_of (tree_in terms a))) form
   sum_swapped form s = simplifies_like terms _ _ form s (sym alike)
       (λ v. ap (λ k. k % 2 ^ width_of (tree_in terms b)) (let e : term_at v terms b + term_at v terms a ≡ term_at v terms a + term_at v terms b = omega arith in e)
       ∙ ap (λ k. (term_at v terms a + term_at v terms b) % 2 ^ k) (sym alike))
@@ -147,7 +148,7 @@ below-power k w lt = omega (arith, lt, own-power w)
 
 pub product_shifted : (terms : List Term) (a b : TermId) (value k width : ℕ) → a.index < length terms → IsWidth width → width ≡ width_of (tree_in terms a)
     → ((v : ℕ → ℕ → ℕ) → term_at v terms b ≡ value) → value ≡ 2 ^ k → k < width
-    → Simplifies terms (tree.Mul (tree_in terms a) (tree_in terms b) (width_of (tree_in terms a))) (Shifted a k width)
+    → Simplifies terms (tree.Binary op.Mul (tree_in terms a) (tree_in terms b) (width_of (tree_in terms a))) (Shifted a k width)
 product_shifted terms a b value k width la is e h power lt = record {
   fit = record { within = la; wide = sym e; range = is; fits = below-power k width lt };
   wide = e;
@@ -157,7 +158,7 @@ product_shifted terms a b value k width la is e h power lt = record {
 }
 
 pub sum_shifted : (terms : List Term) (a b : TermId) (width : ℕ) → a.index < length terms → IsWidth width → width ≡ width_of (tree_in terms a) → a.index ≡ b.index → 1 < width
-    → Simplifies terms (tree.Add (tree_in terms a) (tree_in terms b) (width_of (tree_in terms a))) (Shifted a 1 width)
+    → Simplifies terms (tree.Binary op.Add (tree_in terms a) (tree_in terms b) (width_of (tree_in terms a))) (Shifted a 1 width)
 sum_shifted terms a b width la is e same lt = record {
   fit = record { within = la; wide = sym e; range = is; fits = below-power 1 width lt };
   wide = e;

@@ -1,5 +1,6 @@
 -- What it means that a form has the value of a tree, and at most as many nodes.
 use Rattle.std.specs.Prelude.{ℕ, ◌≡◌, ◌<◌, ◌≤◌, ◌+◌, ◌-◌, ◌*◌, ◌%◌, ◌^◌, List, bit_and, bit_or, bit_xor, length}
+use Rattle.bv_terms.specs.declared.term.BinaryOp.TheVariants as op
 use Rattle.bv_terms.specs.declared.term.TermId.{TermId}
 use Rattle.bv_terms.specs.declared.term.Term.{Term}
 use Rattle.bv_terms.specs.Tree as tree
@@ -19,8 +20,8 @@ use Rattle.term_rules.specs.declared.shrinking.Shrunk.{Shrunk}
 abbrev pub form_tree : List Term → Form → Tree
 form_tree terms (Known id) = tree_in terms id
 form_tree terms (Built t) = tree_of (trees_of terms) t
-form_tree terms (Raised a by width) = tree.Add (tree_in terms a) (tree.Constant by width) width
-form_tree terms (Shifted a by width) = tree.Shl (tree_in terms a) (tree.Constant by width) width
+form_tree terms (Raised a by width) = tree.Binary op.Add (tree_in terms a) (tree.Constant by width) width
+form_tree terms (Shifted a by width) = tree.Binary op.Shl (tree_in terms a) (tree.Constant by width) width
 
 -- a term that goes well after these, and is no variable
 pub record IsApplied (terms : List Term) (t : Term) : Type 0 where
@@ -99,13 +100,13 @@ pub record IsFactored (terms : List Term) (a b : TermId) (f : Factors) : Type 0 
 -- ---- operations whose low bits come from the low bits of their operands
 
 abbrev pub operation_tree : Kind → Tree → Tree → ℕ → Tree
-operation_tree Sum a b width = tree.Add a b width
-operation_tree Difference a b width = tree.Sub a b width
-operation_tree Reverse a b width = tree.Sub b a width
-operation_tree Product a b width = tree.Mul a b width
-operation_tree Conjunction a b width = tree.And a b width
-operation_tree Disjunction a b width = tree.Or a b width
-operation_tree Exclusive a b width = tree.Xor a b width
+operation_tree Sum a b width = tree.Binary op.Add a b width
+operation_tree Difference a b width = tree.Binary op.Sub a b width
+operation_tree Reverse a b width = tree.Binary op.Sub b a width
+operation_tree Product a b width = tree.Binary op.Mul a b width
+operation_tree Conjunction a b width = tree.Binary op.And a b width
+operation_tree Disjunction a b width = tree.Binary op.Or a b width
+operation_tree Exclusive a b width = tree.Binary op.Xor a b width
 
 abbrev pub operated : Kind → (width x y : ℕ) → ℕ
 operated Sum width x y = (x + y) % 2 ^ width

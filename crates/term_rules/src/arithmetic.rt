@@ -1,6 +1,7 @@
 //! Rules of sums, differences and products.
 
 ghost use Rattle.std.specs.Prelude.{◌≡◌, ◌<◌, ◌≤◌, ◌+◌, ◌%◌, ◌^◌, IfSome, length};
+ghost use Rattle.bv_terms.specs.declared.term.BinaryOp.TheVariants as op;
 ghost use Rattle.bv_terms.specs.Tree as tree;
 ghost use Rattle.bv_terms.specs.Tree.{width_of};
 ghost use Rattle.bv_terms.specs.Trees.{IsWidth, tree_in};
@@ -9,13 +10,13 @@ ghost use Rattle.term_rules.specs.Forms.{AreOperands, IsNumber, IsPart, IsRest, 
 use crate::form::Form;
 use crate::multiples::dividend;
 use crate::reading::{are_in_order, number, term};
-use bv_terms::{Term, TermId, Terms};
+use bv_terms::{BinaryOp, Term, TermId, Terms};
 use term_folds::numbers;
 
 /// The sum with a number that may be 0.
 fn plus(terms: &Terms, a: TermId, by: u128, width: u32) -> Form
     requires { AreOperands terms.now a by width }
-    ensures { Simplifies terms.now (tree.Add (tree_in terms.now a) (tree.Constant by width) width) result }
+    ensures { Simplifies terms.now (tree.Binary op.Add (tree_in terms.now a) (tree.Constant by width) width) result }
 {
     terms.values_fit();
     if by == 0 {
@@ -28,10 +29,10 @@ fn plus(terms: &Terms, a: TermId, by: u128, width: u32) -> Form
 /// The sum with a number. Numbers that are added one after the other are added together.
 fn raised(terms: &Terms, a: TermId, by: u128, width: u32) -> Form
     requires { AreOperands terms.now a by width }
-    ensures { Simplifies terms.now (tree.Add (tree_in terms.now a) (tree.Constant by width) width) result }
+    ensures { Simplifies terms.now (tree.Binary op.Add (tree_in terms.now a) (tree.Constant by width) width) result }
 {
     match term(terms, a) {
-        Term::Add { a: inner, b, .. } => match number(terms, b) {
+        Term::Binary(BinaryOp::Add, inner, b, _) => match number(terms, b) {
             Some(first) => plus(terms, inner, numbers::sum(first, by, width), width),
             None => plus(terms, a, by, width),
         },
@@ -46,16 +47,8 @@ fn rest_of_sum(terms: &Terms, a: TermId, b: TermId) -> Option<TermId>
     ensures { IfSome result (IsRest terms.now a b) }
 {
     match term(terms, a) {
-        Term::Add {
-            a: first,
-            b: second,
-            ..
-        } if second.index == b.index => Some(first),
-        Term::Add {
-            a: first,
-            b: second,
-            ..
-        } if first.index == b.index => Some(second),
+        Term::Binary(BinaryOp::Add, first, second, _) if second.index == b.index => Some(first),
+        Term::Binary(BinaryOp::Add, first, second, _) if first.index == b.index => Some(second),
         _ => None,
     }
 }
@@ -68,12 +61,8 @@ fn whole_of_difference(terms: &Terms, a: TermId, b: TermId) -> Option<TermId>
     ensures { IfSome result (IsPart terms.now a b) }
 {
     match term(terms, a) {
-        Term::Sub {
-            a: whole,
-            b: taken,
-            ..
-        } if taken.index == b.index => Some(whole),
-        Term::Mul { .. } => dividend(terms, a, b),
+        Term::Binary(BinaryOp::Sub, whole, taken, _) if taken.index == b.index => Some(whole),
+        Term::Binary(BinaryOp::Mul, ..) => dividend(terms, a, b),
         _ => None,
     }
 }
@@ -83,7 +72,7 @@ fn ordered_sum(terms: &Terms, a: TermId, b: TermId) -> Form
     requires a { a.index < length terms.now }
     requires b { b.index < length terms.now }
     requires alike { width_of (tree_in terms.now a) ≡ width_of (tree_in terms.now b) }
-    ensures { Simplifies terms.now (tree.Add (tree_in terms.now a) (tree_in terms.now b) (width_of (tree_in terms.now a))) result }
+    ensures { Simplifies terms.now (tree.Binary op.Add (tree_in terms.now a) (tree_in terms.now b) (width_of (tree_in terms.now a))) result }
 {
     terms.values_fit();
     let width = terms.width(a);
@@ -99,7 +88,7 @@ fn ordered_sum(terms: &Terms, a: TermId, b: TermId) -> Form
     if let Some(whole) = whole_of_difference(terms, b, a) {
         return Form::Known(whole);
     }
-    Form::Built(Term::Add { a, b, width })
+    Form::Built(Term::Binary(BinaryOp::Add, a, b, width))
 }
 
 /// The sum.
@@ -107,7 +96,7 @@ pub fn sum(terms: &Terms, a: TermId, b: TermId) -> Form
     requires a { a.index < length terms.now }
     requires b { b.index < length terms.now }
     requires alike { width_of (tree_in terms.now a) ≡ width_of (tree_in terms.now b) }
-    ensures { Simplifies terms.now (tree.Add (tree_in terms.now a) (tree_in terms.now b) (width_of (tree_in terms.now a))) result }
+    ensures { Simplifies terms.now (tree.Binary op.Add (tree_in terms.now a) (tree_in terms.now b) (width_of (tree_in terms.now a))) result }
 {
     if are_in_order(terms, a, b) {
         ordered_sum(terms, a, b)
@@ -121,7 +110,7 @@ pub fn difference(terms: &Terms, a: TermId, b: TermId) -> Form
     requires a { a.index < length terms.now }
     requires b { b.index < length terms.now }
     requires alike { width_of (tree_in terms.now a) ≡ width_of (tree_in terms.now b) }
-    ensures { Simplifies terms.now (tree.Sub (tree_in terms.now a) (tree_in terms.now b) (width_of (tree_in terms.now a))) result }
+    ensures { Simplifies terms.now (tree.Binary op.Sub (tree_in terms.now a) (tree_in terms.now b) (width_of (tree_in terms.now a))) result }
 {
     terms.values_fit();
     let width = terms.width(a);
@@ -135,7 +124,7 @@ pub fn difference(terms: &Terms, a: TermId, b: TermId) -> Form
     if let Some(rest) = rest_of_sum(terms, a, b) {
         return Form::Known(rest);
     }
-    Form::Built(Term::Sub { a, b, width })
+    Form::Built(Term::Binary(BinaryOp::Sub, a, b, width))
 }
 
 /// The exponent of a power of 2, if it is below the width.
@@ -157,7 +146,7 @@ fn multiplied(terms: &Terms, a: TermId, b: TermId, by: u128) -> Form
     requires b { b.index < length terms.now }
     requires alike { width_of (tree_in terms.now a) ≡ width_of (tree_in terms.now b) }
     requires by { IsNumber terms.now b by }
-    ensures { Simplifies terms.now (tree.Mul (tree_in terms.now a) (tree_in terms.now b) (width_of (tree_in terms.now a))) result }
+    ensures { Simplifies terms.now (tree.Binary op.Mul (tree_in terms.now a) (tree_in terms.now b) (width_of (tree_in terms.now a))) result }
 {
     terms.values_fit();
     let width = terms.width(a);
@@ -172,7 +161,7 @@ fn multiplied(terms: &Terms, a: TermId, b: TermId, by: u128) -> Form
             let by = exponent as u128;
             Form::Shifted { a, by, width }
         }
-        None => Form::Built(Term::Mul { a, b, width }),
+        None => Form::Built(Term::Binary(BinaryOp::Mul, a, b, width)),
     }
 }
 
@@ -181,13 +170,13 @@ fn ordered_product(terms: &Terms, a: TermId, b: TermId) -> Form
     requires a { a.index < length terms.now }
     requires b { b.index < length terms.now }
     requires alike { width_of (tree_in terms.now a) ≡ width_of (tree_in terms.now b) }
-    ensures { Simplifies terms.now (tree.Mul (tree_in terms.now a) (tree_in terms.now b) (width_of (tree_in terms.now a))) result }
+    ensures { Simplifies terms.now (tree.Binary op.Mul (tree_in terms.now a) (tree_in terms.now b) (width_of (tree_in terms.now a))) result }
 {
     terms.values_fit();
     let width = terms.width(a);
     match number(terms, b) {
         Some(by) => multiplied(terms, a, b, by),
-        None => Form::Built(Term::Mul { a, b, width }),
+        None => Form::Built(Term::Binary(BinaryOp::Mul, a, b, width)),
     }
 }
 
@@ -196,7 +185,7 @@ pub fn product(terms: &Terms, a: TermId, b: TermId) -> Form
     requires a { a.index < length terms.now }
     requires b { b.index < length terms.now }
     requires alike { width_of (tree_in terms.now a) ≡ width_of (tree_in terms.now b) }
-    ensures { Simplifies terms.now (tree.Mul (tree_in terms.now a) (tree_in terms.now b) (width_of (tree_in terms.now a))) result }
+    ensures { Simplifies terms.now (tree.Binary op.Mul (tree_in terms.now a) (tree_in terms.now b) (width_of (tree_in terms.now a))) result }
 {
     if are_in_order(terms, a, b) {
         ordered_product(terms, a, b)

@@ -1,6 +1,7 @@
 //! Rules of operations bit by bit.
 
 ghost use Rattle.std.specs.Prelude.{◌≡◌, ◌<◌, ℕ, IfSome, IsTrue, bit_and, bit_or, length};
+ghost use Rattle.bv_terms.specs.declared.term.BinaryOp.TheVariants as op;
 ghost use Rattle.bv_terms.specs.Tree as tree;
 ghost use Rattle.bv_terms.specs.Tree.{width_of};
 ghost use Rattle.bv_terms.specs.Trees.{IsTerm, IsWidth, term_at, tree_in};
@@ -10,7 +11,7 @@ ghost use Rattle.term_rules.specs.Forms.{Simplifies};
 use crate::complements::{are_apart, are_whole, left_of_and, left_of_or};
 use crate::form::Form;
 use crate::reading::{are_in_order, number, term};
-use bv_terms::{Term, TermId, Terms};
+use bv_terms::{BinaryOp, Term, TermId, Terms};
 use term_folds::numbers::ones;
 
 /// Each bit turned: twice is not at all.
@@ -34,11 +35,8 @@ fn is_in_and(terms: &Terms, a: TermId, b: TermId) -> bool
     ensures or { IsTrue result → (v : ℕ → ℕ → ℕ) → bit_or (term_at v terms.now a) (term_at v terms.now b) ≡ term_at v terms.now b }
 {
     match term(terms, a) {
-        Term::And {
-            a: first,
-            b: second,
-            ..
-        } => first.index == b.index || second.index == b.index,
+        Term::Binary(BinaryOp::And, first, second, _) => first.index == b.index
+            || second.index == b.index,
         _ => false,
     }
 }
@@ -51,11 +49,8 @@ fn is_in_or(terms: &Terms, a: TermId, b: TermId) -> bool
     ensures or { IsTrue result → (v : ℕ → ℕ → ℕ) → bit_or (term_at v terms.now a) (term_at v terms.now b) ≡ term_at v terms.now a }
 {
     match term(terms, a) {
-        Term::Or {
-            a: first,
-            b: second,
-            ..
-        } => first.index == b.index || second.index == b.index,
+        Term::Binary(BinaryOp::Or, first, second, _) => first.index == b.index
+            || second.index == b.index,
         _ => false,
     }
 }
@@ -65,7 +60,7 @@ fn lesser(terms: &Terms, a: TermId, b: TermId) -> Option<TermId>
     requires a { a.index < length terms.now }
     requires b { b.index < length terms.now }
     requires alike { width_of (tree_in terms.now a) ≡ width_of (tree_in terms.now b) }
-    ensures { IfSome result (λ r. Simplifies terms.now (tree.And (tree_in terms.now a) (tree_in terms.now b) (width_of (tree_in terms.now a))) (Known r)) }
+    ensures { IfSome result (λ r. Simplifies terms.now (tree.Binary op.And (tree_in terms.now a) (tree_in terms.now b) (width_of (tree_in terms.now a))) (Known r)) }
 {
     if is_in_and(terms, a, b) {
         Some(a)
@@ -85,7 +80,7 @@ fn greater(terms: &Terms, a: TermId, b: TermId) -> Option<TermId>
     requires a { a.index < length terms.now }
     requires b { b.index < length terms.now }
     requires alike { width_of (tree_in terms.now a) ≡ width_of (tree_in terms.now b) }
-    ensures { IfSome result (λ r. Simplifies terms.now (tree.Or (tree_in terms.now a) (tree_in terms.now b) (width_of (tree_in terms.now a))) (Known r)) }
+    ensures { IfSome result (λ r. Simplifies terms.now (tree.Binary op.Or (tree_in terms.now a) (tree_in terms.now b) (width_of (tree_in terms.now a))) (Known r)) }
 {
     if is_in_or(terms, a, b) {
         Some(a)
@@ -105,12 +100,12 @@ fn plain_and(terms: &Terms, a: TermId, b: TermId, width: u32) -> Form
     requires a { IsTerm terms.now width a }
     requires b { IsTerm terms.now width b }
     requires wide { IsWidth width }
-    ensures { Simplifies terms.now (tree.And (tree_in terms.now a) (tree_in terms.now b) width) result }
+    ensures { Simplifies terms.now (tree.Binary op.And (tree_in terms.now a) (tree_in terms.now b) width) result }
 {
     if are_in_order(terms, a, b) {
-        Form::Built(Term::And { a, b, width })
+        Form::Built(Term::Binary(BinaryOp::And, a, b, width))
     } else {
-        Form::Built(Term::And { a: b, b: a, width })
+        Form::Built(Term::Binary(BinaryOp::And, b, a, width))
     }
 }
 
@@ -119,7 +114,7 @@ fn ordered_and(terms: &Terms, a: TermId, b: TermId) -> Form
     requires a { a.index < length terms.now }
     requires b { b.index < length terms.now }
     requires alike { width_of (tree_in terms.now a) ≡ width_of (tree_in terms.now b) }
-    ensures { Simplifies terms.now (tree.And (tree_in terms.now a) (tree_in terms.now b) (width_of (tree_in terms.now a))) result }
+    ensures { Simplifies terms.now (tree.Binary op.And (tree_in terms.now a) (tree_in terms.now b) (width_of (tree_in terms.now a))) result }
 {
     terms.values_fit();
     let width = terms.width(a);
@@ -141,7 +136,7 @@ fn ordered_and(terms: &Terms, a: TermId, b: TermId) -> Form
     match number(terms, b) {
         Some(value) if value == 0 => Form::Known(b),
         Some(value) if value == ones(width) => Form::Known(a),
-        _ => Form::Built(Term::And { a, b, width }),
+        _ => Form::Built(Term::Binary(BinaryOp::And, a, b, width)),
     }
 }
 
@@ -150,7 +145,7 @@ pub fn conjunction(terms: &Terms, a: TermId, b: TermId) -> Form
     requires a { a.index < length terms.now }
     requires b { b.index < length terms.now }
     requires alike { width_of (tree_in terms.now a) ≡ width_of (tree_in terms.now b) }
-    ensures { Simplifies terms.now (tree.And (tree_in terms.now a) (tree_in terms.now b) (width_of (tree_in terms.now a))) result }
+    ensures { Simplifies terms.now (tree.Binary op.And (tree_in terms.now a) (tree_in terms.now b) (width_of (tree_in terms.now a))) result }
 {
     if are_in_order(terms, a, b) {
         ordered_and(terms, a, b)
@@ -164,12 +159,12 @@ fn plain_or(terms: &Terms, a: TermId, b: TermId, width: u32) -> Form
     requires a { IsTerm terms.now width a }
     requires b { IsTerm terms.now width b }
     requires wide { IsWidth width }
-    ensures { Simplifies terms.now (tree.Or (tree_in terms.now a) (tree_in terms.now b) width) result }
+    ensures { Simplifies terms.now (tree.Binary op.Or (tree_in terms.now a) (tree_in terms.now b) width) result }
 {
     if are_in_order(terms, a, b) {
-        Form::Built(Term::Or { a, b, width })
+        Form::Built(Term::Binary(BinaryOp::Or, a, b, width))
     } else {
-        Form::Built(Term::Or { a: b, b: a, width })
+        Form::Built(Term::Binary(BinaryOp::Or, b, a, width))
     }
 }
 
@@ -178,7 +173,7 @@ fn ordered_or(terms: &Terms, a: TermId, b: TermId) -> Form
     requires a { a.index < length terms.now }
     requires b { b.index < length terms.now }
     requires alike { width_of (tree_in terms.now a) ≡ width_of (tree_in terms.now b) }
-    ensures { Simplifies terms.now (tree.Or (tree_in terms.now a) (tree_in terms.now b) (width_of (tree_in terms.now a))) result }
+    ensures { Simplifies terms.now (tree.Binary op.Or (tree_in terms.now a) (tree_in terms.now b) (width_of (tree_in terms.now a))) result }
 {
     terms.values_fit();
     let width = terms.width(a);
@@ -201,7 +196,7 @@ fn ordered_or(terms: &Terms, a: TermId, b: TermId) -> Form
     match number(terms, b) {
         Some(value) if value == 0 => Form::Known(a),
         Some(value) if value == ones(width) => Form::Known(b),
-        _ => Form::Built(Term::Or { a, b, width }),
+        _ => Form::Built(Term::Binary(BinaryOp::Or, a, b, width)),
     }
 }
 
@@ -210,7 +205,7 @@ pub fn disjunction(terms: &Terms, a: TermId, b: TermId) -> Form
     requires a { a.index < length terms.now }
     requires b { b.index < length terms.now }
     requires alike { width_of (tree_in terms.now a) ≡ width_of (tree_in terms.now b) }
-    ensures { Simplifies terms.now (tree.Or (tree_in terms.now a) (tree_in terms.now b) (width_of (tree_in terms.now a))) result }
+    ensures { Simplifies terms.now (tree.Binary op.Or (tree_in terms.now a) (tree_in terms.now b) (width_of (tree_in terms.now a))) result }
 {
     if are_in_order(terms, a, b) {
         ordered_or(terms, a, b)
@@ -223,19 +218,11 @@ pub fn disjunction(terms: &Terms, a: TermId, b: TermId) -> Form
 fn rest_of_xor(terms: &Terms, a: TermId, b: TermId) -> Option<TermId>
     requires a { a.index < length terms.now }
     requires b { b.index < length terms.now }
-    ensures { IfSome result (λ r. Simplifies terms.now (tree.Xor (tree_in terms.now a) (tree_in terms.now b) (width_of (tree_in terms.now a))) (Known r)) }
+    ensures { IfSome result (λ r. Simplifies terms.now (tree.Binary op.Xor (tree_in terms.now a) (tree_in terms.now b) (width_of (tree_in terms.now a))) (Known r)) }
 {
     match term(terms, a) {
-        Term::Xor {
-            a: first,
-            b: second,
-            ..
-        } if second.index == b.index => Some(first),
-        Term::Xor {
-            a: first,
-            b: second,
-            ..
-        } if first.index == b.index => Some(second),
+        Term::Binary(BinaryOp::Xor, first, second, _) if second.index == b.index => Some(first),
+        Term::Binary(BinaryOp::Xor, first, second, _) if first.index == b.index => Some(second),
         _ => None,
     }
 }
@@ -245,7 +232,7 @@ fn ordered_xor(terms: &Terms, a: TermId, b: TermId) -> Form
     requires a { a.index < length terms.now }
     requires b { b.index < length terms.now }
     requires alike { width_of (tree_in terms.now a) ≡ width_of (tree_in terms.now b) }
-    ensures { Simplifies terms.now (tree.Xor (tree_in terms.now a) (tree_in terms.now b) (width_of (tree_in terms.now a))) result }
+    ensures { Simplifies terms.now (tree.Binary op.Xor (tree_in terms.now a) (tree_in terms.now b) (width_of (tree_in terms.now a))) result }
 {
     terms.values_fit();
     let width = terms.width(a);
@@ -261,7 +248,7 @@ fn ordered_xor(terms: &Terms, a: TermId, b: TermId) -> Form
     match number(terms, b) {
         Some(value) if value == 0 => Form::Known(a),
         Some(value) if value == ones(width) => Form::Built(Term::Not { a, width }),
-        _ => Form::Built(Term::Xor { a, b, width }),
+        _ => Form::Built(Term::Binary(BinaryOp::Xor, a, b, width)),
     }
 }
 
@@ -270,7 +257,7 @@ pub fn exclusive(terms: &Terms, a: TermId, b: TermId) -> Form
     requires a { a.index < length terms.now }
     requires b { b.index < length terms.now }
     requires alike { width_of (tree_in terms.now a) ≡ width_of (tree_in terms.now b) }
-    ensures { Simplifies terms.now (tree.Xor (tree_in terms.now a) (tree_in terms.now b) (width_of (tree_in terms.now a))) result }
+    ensures { Simplifies terms.now (tree.Binary op.Xor (tree_in terms.now a) (tree_in terms.now b) (width_of (tree_in terms.now a))) result }
 {
     if are_in_order(terms, a, b) {
         ordered_xor(terms, a, b)

@@ -5,7 +5,7 @@ ghost use Rattle.bv_terms.specs.Tree.{width_of};
 ghost use Rattle.bv_terms.specs.Trees.{term_at, tree_in};
 
 use crate::reading::term;
-use bv_terms::{Term, TermId, Terms};
+use bv_terms::{BinaryOp, Term, TermId, Terms};
 
 /// How many bits the number surely fits: those that it had before it was widened.
 fn bits_before(terms: &Terms, a: TermId) -> u32
@@ -30,11 +30,9 @@ fn is_small(terms: &Terms, a: TermId) -> bool
     let width = terms.width(a);
     match term(terms, a) {
         Term::Zext { a: inner, .. } => terms.width(inner) < width,
-        Term::Mul {
-            a: first,
-            b: second,
-            ..
-        } => bits_before(terms, first) + bits_before(terms, second) < width,
+        Term::Binary(BinaryOp::Mul, first, second, _) => bits_before(terms, first)
+            + bits_before(terms, second)
+            < width,
         _ => false,
     }
 }
@@ -46,11 +44,7 @@ pub fn is_sum_with(terms: &Terms, a: TermId, b: TermId) -> bool
     ensures { IsTrue result → (v : ℕ → ℕ → ℕ) → term_at v terms.now b ≤ term_at v terms.now a }
 {
     match term(terms, a) {
-        Term::Add {
-            a: first,
-            b: second,
-            ..
-        } => {
+        Term::Binary(BinaryOp::Add, first, second, _) => {
             if is_small(terms, first) {
                 if is_small(terms, second) {
                     return first.index == b.index || second.index == b.index;

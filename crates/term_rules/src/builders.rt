@@ -5,6 +5,7 @@
 
 ghost use Rattle.std.specs.Prelude.{◌≡◌, [], ◌∷◌, ◌<◌, ◌≤◌, ◌+◌, ◌-◌, ◌*◌, ◌/◌, ◌%◌, ◌^◌, IfOk, Some, length, slice_get, cond, nat_eq, nat_lt, bit_and, bit_or, bit_xor};
 ghost use Rattle.bv_terms.specs.declared.term.Term.TheVariants as variant;
+ghost use Rattle.bv_terms.specs.declared.term.BinaryOp.TheVariants as op;
 ghost use Rattle.bv_terms.specs.Tree as tree;
 ghost use Rattle.bv_terms.specs.Tree.{digit, extended_signed, is_less_signed, quotient, remainder, shifted_left, shifted_right, shifted_signed, width_of};
 ghost use Rattle.bv_terms.specs.Trees.{Extends, Gains, IsWidth, Keeps, Makes, bit_at, term_at, tree_in};
@@ -65,7 +66,7 @@ pub fn and(terms: &mut Terms, a: TermId, b: TermId) -> Result<TermId, NoMemory>
     requires b { b.index < length terms.old }
     requires alike { width_of (tree_in terms.old a) ≡ width_of (tree_in terms.old b) }
     ensures made { IfOk result (λ id. Makes terms.new id (width_of (tree_in terms.old a)) (λ v. bit_and (term_at v terms.old a) (term_at v terms.old b))) }
-    ensures least { IfOk result (λ id. weight_of (tree_in terms.new id) ≤ weight_of (tree.And (tree_in terms.old a) (tree_in terms.old b) (width_of (tree_in terms.old a)))) }
+    ensures least { IfOk result (λ id. weight_of (tree_in terms.new id) ≤ weight_of (tree.Binary op.And (tree_in terms.old a) (tree_in terms.old b) (width_of (tree_in terms.old a)))) }
     ensures kept { Keeps terms.old terms.new }
 {
     let form = bitwise::conjunction(terms, a, b);
@@ -78,7 +79,7 @@ pub fn or(terms: &mut Terms, a: TermId, b: TermId) -> Result<TermId, NoMemory>
     requires b { b.index < length terms.old }
     requires alike { width_of (tree_in terms.old a) ≡ width_of (tree_in terms.old b) }
     ensures made { IfOk result (λ id. Makes terms.new id (width_of (tree_in terms.old a)) (λ v. bit_or (term_at v terms.old a) (term_at v terms.old b))) }
-    ensures least { IfOk result (λ id. weight_of (tree_in terms.new id) ≤ weight_of (tree.Or (tree_in terms.old a) (tree_in terms.old b) (width_of (tree_in terms.old a)))) }
+    ensures least { IfOk result (λ id. weight_of (tree_in terms.new id) ≤ weight_of (tree.Binary op.Or (tree_in terms.old a) (tree_in terms.old b) (width_of (tree_in terms.old a)))) }
     ensures kept { Keeps terms.old terms.new }
 {
     let form = bitwise::disjunction(terms, a, b);
@@ -91,7 +92,7 @@ pub fn xor(terms: &mut Terms, a: TermId, b: TermId) -> Result<TermId, NoMemory>
     requires b { b.index < length terms.old }
     requires alike { width_of (tree_in terms.old a) ≡ width_of (tree_in terms.old b) }
     ensures made { IfOk result (λ id. Makes terms.new id (width_of (tree_in terms.old a)) (λ v. bit_xor (term_at v terms.old a) (term_at v terms.old b))) }
-    ensures least { IfOk result (λ id. weight_of (tree_in terms.new id) ≤ weight_of (tree.Xor (tree_in terms.old a) (tree_in terms.old b) (width_of (tree_in terms.old a)))) }
+    ensures least { IfOk result (λ id. weight_of (tree_in terms.new id) ≤ weight_of (tree.Binary op.Xor (tree_in terms.old a) (tree_in terms.old b) (width_of (tree_in terms.old a)))) }
     ensures kept { Keeps terms.old terms.new }
 {
     let form = bitwise::exclusive(terms, a, b);
@@ -104,7 +105,7 @@ pub fn add(terms: &mut Terms, a: TermId, b: TermId) -> Result<TermId, NoMemory>
     requires b { b.index < length terms.old }
     requires alike { width_of (tree_in terms.old a) ≡ width_of (tree_in terms.old b) }
     ensures made { IfOk result (λ id. Makes terms.new id (width_of (tree_in terms.old a)) (λ v. (term_at v terms.old a + term_at v terms.old b) % 2 ^ width_of (tree_in terms.old a))) }
-    ensures least { IfOk result (λ id. weight_of (tree_in terms.new id) ≤ weight_of (tree.Add (tree_in terms.old a) (tree_in terms.old b) (width_of (tree_in terms.old a)))) }
+    ensures least { IfOk result (λ id. weight_of (tree_in terms.new id) ≤ weight_of (tree.Binary op.Add (tree_in terms.old a) (tree_in terms.old b) (width_of (tree_in terms.old a)))) }
     ensures kept { Keeps terms.old terms.new }
 {
     if let Some(parts) = common_factor(terms, a, b) {
@@ -121,7 +122,7 @@ pub fn sub(terms: &mut Terms, a: TermId, b: TermId) -> Result<TermId, NoMemory>
     requires b { b.index < length terms.old }
     requires alike { width_of (tree_in terms.old a) ≡ width_of (tree_in terms.old b) }
     ensures made { IfOk result (λ id. Makes terms.new id (width_of (tree_in terms.old a)) (λ v. (term_at v terms.old a + (2 ^ width_of (tree_in terms.old a) - term_at v terms.old b)) % 2 ^ width_of (tree_in terms.old a))) }
-    ensures least { IfOk result (λ id. weight_of (tree_in terms.new id) ≤ weight_of (tree.Sub (tree_in terms.old a) (tree_in terms.old b) (width_of (tree_in terms.old a)))) }
+    ensures least { IfOk result (λ id. weight_of (tree_in terms.new id) ≤ weight_of (tree.Binary op.Sub (tree_in terms.old a) (tree_in terms.old b) (width_of (tree_in terms.old a)))) }
     ensures kept { Keeps terms.old terms.new }
 {
     terms.values_fit();
@@ -144,7 +145,7 @@ pub fn mul(terms: &mut Terms, a: TermId, b: TermId) -> Result<TermId, NoMemory>
     requires b { b.index < length terms.old }
     requires alike { width_of (tree_in terms.old a) ≡ width_of (tree_in terms.old b) }
     ensures made { IfOk result (λ id. Makes terms.new id (width_of (tree_in terms.old a)) (λ v. (term_at v terms.old a * term_at v terms.old b) % 2 ^ width_of (tree_in terms.old a))) }
-    ensures least { IfOk result (λ id. weight_of (tree_in terms.new id) ≤ weight_of (tree.Mul (tree_in terms.old a) (tree_in terms.old b) (width_of (tree_in terms.old a)))) }
+    ensures least { IfOk result (λ id. weight_of (tree_in terms.new id) ≤ weight_of (tree.Binary op.Mul (tree_in terms.old a) (tree_in terms.old b) (width_of (tree_in terms.old a)))) }
     ensures kept { Keeps terms.old terms.new }
 {
     let form = arithmetic::product(terms, a, b);
@@ -157,7 +158,7 @@ pub fn udiv(terms: &mut Terms, a: TermId, b: TermId) -> Result<TermId, NoMemory>
     requires b { b.index < length terms.old }
     requires alike { width_of (tree_in terms.old a) ≡ width_of (tree_in terms.old b) }
     ensures made { IfOk result (λ id. Makes terms.new id (width_of (tree_in terms.old a)) (λ v. quotient (width_of (tree_in terms.old a)) (term_at v terms.old a) (term_at v terms.old b))) }
-    ensures least { IfOk result (λ id. weight_of (tree_in terms.new id) ≤ weight_of (tree.Udiv (tree_in terms.old a) (tree_in terms.old b) (width_of (tree_in terms.old a)))) }
+    ensures least { IfOk result (λ id. weight_of (tree_in terms.new id) ≤ weight_of (tree.Binary op.Udiv (tree_in terms.old a) (tree_in terms.old b) (width_of (tree_in terms.old a)))) }
     ensures kept { Keeps terms.old terms.new }
 {
     if let Some(pair) = shrunk_by_number(terms, a, b) {
@@ -175,7 +176,7 @@ pub fn urem(terms: &mut Terms, a: TermId, b: TermId) -> Result<TermId, NoMemory>
     requires b { b.index < length terms.old }
     requires alike { width_of (tree_in terms.old a) ≡ width_of (tree_in terms.old b) }
     ensures made { IfOk result (λ id. Makes terms.new id (width_of (tree_in terms.old a)) (λ v. remainder (term_at v terms.old a) (term_at v terms.old b))) }
-    ensures least { IfOk result (λ id. weight_of (tree_in terms.new id) ≤ weight_of (tree.Urem (tree_in terms.old a) (tree_in terms.old b) (width_of (tree_in terms.old a)))) }
+    ensures least { IfOk result (λ id. weight_of (tree_in terms.new id) ≤ weight_of (tree.Binary op.Urem (tree_in terms.old a) (tree_in terms.old b) (width_of (tree_in terms.old a)))) }
     ensures kept { Keeps terms.old terms.new }
 {
     if let Some(pair) = shrunk_pair(terms, a, b) {
@@ -193,7 +194,7 @@ pub fn shl(terms: &mut Terms, a: TermId, b: TermId) -> Result<TermId, NoMemory>
     requires b { b.index < length terms.old }
     requires alike { width_of (tree_in terms.old a) ≡ width_of (tree_in terms.old b) }
     ensures made { IfOk result (λ id. Makes terms.new id (width_of (tree_in terms.old a)) (λ v. shifted_left (width_of (tree_in terms.old a)) (term_at v terms.old a) (term_at v terms.old b))) }
-    ensures least { IfOk result (λ id. weight_of (tree_in terms.new id) ≤ weight_of (tree.Shl (tree_in terms.old a) (tree_in terms.old b) (width_of (tree_in terms.old a)))) }
+    ensures least { IfOk result (λ id. weight_of (tree_in terms.new id) ≤ weight_of (tree.Binary op.Shl (tree_in terms.old a) (tree_in terms.old b) (width_of (tree_in terms.old a)))) }
     ensures kept { Keeps terms.old terms.new }
 {
     let form = shifts::left(terms, a, b);
@@ -206,7 +207,7 @@ pub fn lshr(terms: &mut Terms, a: TermId, b: TermId) -> Result<TermId, NoMemory>
     requires b { b.index < length terms.old }
     requires alike { width_of (tree_in terms.old a) ≡ width_of (tree_in terms.old b) }
     ensures made { IfOk result (λ id. Makes terms.new id (width_of (tree_in terms.old a)) (λ v. shifted_right (width_of (tree_in terms.old a)) (term_at v terms.old a) (term_at v terms.old b))) }
-    ensures least { IfOk result (λ id. weight_of (tree_in terms.new id) ≤ weight_of (tree.Lshr (tree_in terms.old a) (tree_in terms.old b) (width_of (tree_in terms.old a)))) }
+    ensures least { IfOk result (λ id. weight_of (tree_in terms.new id) ≤ weight_of (tree.Binary op.Lshr (tree_in terms.old a) (tree_in terms.old b) (width_of (tree_in terms.old a)))) }
     ensures kept { Keeps terms.old terms.new }
 {
     let form = shifts::logical_right(terms, a, b);
@@ -220,7 +221,7 @@ pub fn ashr(terms: &mut Terms, a: TermId, b: TermId) -> Result<TermId, NoMemory>
     requires b { b.index < length terms.old }
     requires alike { width_of (tree_in terms.old a) ≡ width_of (tree_in terms.old b) }
     ensures made { IfOk result (λ id. Makes terms.new id (width_of (tree_in terms.old a)) (λ v. shifted_signed (width_of (tree_in terms.old a)) (term_at v terms.old a) (term_at v terms.old b))) }
-    ensures least { IfOk result (λ id. weight_of (tree_in terms.new id) ≤ weight_of (tree.Ashr (tree_in terms.old a) (tree_in terms.old b) (width_of (tree_in terms.old a)))) }
+    ensures least { IfOk result (λ id. weight_of (tree_in terms.new id) ≤ weight_of (tree.Binary op.Ashr (tree_in terms.old a) (tree_in terms.old b) (width_of (tree_in terms.old a)))) }
     ensures kept { Keeps terms.old terms.new }
 {
     let form = shifts::arithmetic_right(terms, a, b);
@@ -233,7 +234,7 @@ pub fn eq(terms: &mut Terms, a: TermId, b: TermId) -> Result<TermId, NoMemory>
     requires b { b.index < length terms.old }
     requires alike { width_of (tree_in terms.old a) ≡ width_of (tree_in terms.old b) }
     ensures made { IfOk result (λ id. Makes terms.new id 1 (λ v. digit (nat_eq (term_at v terms.old a) (term_at v terms.old b)))) }
-    ensures least { IfOk result (λ id. weight_of (tree_in terms.new id) ≤ weight_of (tree.Eq (tree_in terms.old a) (tree_in terms.old b) (width_of (tree_in terms.old a)))) }
+    ensures least { IfOk result (λ id. weight_of (tree_in terms.new id) ≤ weight_of (tree.Binary op.Eq (tree_in terms.old a) (tree_in terms.old b) (width_of (tree_in terms.old a)))) }
     ensures kept { Keeps terms.old terms.new }
 {
     if let Some(pair) = shrunk_pair(terms, a, b) {
@@ -250,7 +251,7 @@ pub fn ult(terms: &mut Terms, a: TermId, b: TermId) -> Result<TermId, NoMemory>
     requires b { b.index < length terms.old }
     requires alike { width_of (tree_in terms.old a) ≡ width_of (tree_in terms.old b) }
     ensures made { IfOk result (λ id. Makes terms.new id 1 (λ v. digit (nat_lt (term_at v terms.old a) (term_at v terms.old b)))) }
-    ensures least { IfOk result (λ id. weight_of (tree_in terms.new id) ≤ weight_of (tree.Ult (tree_in terms.old a) (tree_in terms.old b) (width_of (tree_in terms.old a)))) }
+    ensures least { IfOk result (λ id. weight_of (tree_in terms.new id) ≤ weight_of (tree.Binary op.Ult (tree_in terms.old a) (tree_in terms.old b) (width_of (tree_in terms.old a)))) }
     ensures kept { Keeps terms.old terms.new }
 {
     if let Some(pair) = shrunk_pair(terms, a, b) {
@@ -271,7 +272,7 @@ pub fn slt(terms: &mut Terms, a: TermId, b: TermId) -> Result<TermId, NoMemory>
     requires b { b.index < length terms.old }
     requires alike { width_of (tree_in terms.old a) ≡ width_of (tree_in terms.old b) }
     ensures made { IfOk result (λ id. Makes terms.new id 1 (λ v. digit (is_less_signed (width_of (tree_in terms.old a)) (term_at v terms.old a) (term_at v terms.old b)))) }
-    ensures least { IfOk result (λ id. weight_of (tree_in terms.new id) ≤ weight_of (tree.Slt (tree_in terms.old a) (tree_in terms.old b) (width_of (tree_in terms.old a)))) }
+    ensures least { IfOk result (λ id. weight_of (tree_in terms.new id) ≤ weight_of (tree.Binary op.Slt (tree_in terms.old a) (tree_in terms.old b) (width_of (tree_in terms.old a)))) }
     ensures kept { Keeps terms.old terms.new }
 {
     terms.values_fit();

@@ -8,118 +8,29 @@ ghost use Rattle.term_rules.specs.Forms.{IsApplied, IsForm, AreOperands, form_tr
 
 use crate::form::Form;
 use crate::reading::{number, numbers};
-use bv_terms::{Term, TermId, Terms};
+use bv_terms::{BinaryOp, Term, TermId, Terms};
 use support::NoMemory;
-use term_folds::numbers::{
-    choice, difference, digit_of, divided, extended, inverse, joined, left_over, less_signed,
-    moved_down, moved_down_signed, moved_up, part, product, sum,
-};
+use term_folds::numbers::{binary, choice, extended, inverse, joined, part};
 
-/// The value of an operation on one operand or of a choice, over constants.
-fn folded_part(terms: &Terms, term: &Term) -> Option<u128>
+/// The value of an operation over constants.
+fn folded(terms: &Terms, term: &Term) -> Option<u128>
     requires { IsApplied terms.now term.now }
     ensures { IfSome result (λ n. (v : ℕ → ℕ → ℕ) → value_of v (tree_of (trees_of terms.now) term.now) ≡ n) }
 {
     match *term {
+        Term::Constant { .. } | Term::Variable { .. } => None,
         Term::Not { a, width } => Some(inverse(number(terms, a)?, width)),
-        Term::Extract { a, from, width } => {
-            let _whole = terms.width(a);
-            Some(part(number(terms, a)?, from, width))
-        }
-        Term::Zext { a, .. } => Some(number(terms, a)?),
-        Term::Sext { a, from, width } => {
-            let _narrow = terms.width(a);
-            Some(extended(number(terms, a)?, from, width))
-        }
-        _ => None,
-    }
-}
-
-/// The value of an operation bit by bit, or of a sum, a difference or a product, over constants.
-fn folded_number(terms: &Terms, term: &Term) -> Option<u128>
-    requires { IsApplied terms.now term.now }
-    ensures { IfSome result (λ n. (v : ℕ → ℕ → ℕ) → value_of v (tree_of (trees_of terms.now) term.now) ≡ n) }
-{
-    match *term {
-        Term::And { a, b, .. } => {
+        Term::Binary(op, a, b, width) => {
             let (x, y) = numbers(terms, a, b)?;
-            Some(x & y)
-        }
-        Term::Or { a, b, .. } => {
-            let (x, y) = numbers(terms, a, b)?;
-            Some(x | y)
-        }
-        Term::Xor { a, b, .. } => {
-            let (x, y) = numbers(terms, a, b)?;
-            Some(x ^ y)
-        }
-        Term::Add { a, b, width } => {
-            let (x, y) = numbers(terms, a, b)?;
-            Some(sum(x, y, width))
-        }
-        Term::Sub { a, b, width } => {
-            let (x, y) = numbers(terms, a, b)?;
-            Some(difference(x, y, width))
-        }
-        Term::Mul { a, b, width } => {
-            let (x, y) = numbers(terms, a, b)?;
-            Some(product(x, y, width))
-        }
-        _ => None,
-    }
-}
-
-/// The value of a division or a shift over constants.
-fn folded_quotient(terms: &Terms, term: &Term) -> Option<u128>
-    requires { IsApplied terms.now term.now }
-    ensures { IfSome result (λ n. (v : ℕ → ℕ → ℕ) → value_of v (tree_of (trees_of terms.now) term.now) ≡ n) }
-{
-    match *term {
-        Term::Udiv { a, b, width } => {
-            let (x, y) = numbers(terms, a, b)?;
-            Some(divided(x, y, width))
-        }
-        Term::Urem { a, b, .. } => {
-            let (x, y) = numbers(terms, a, b)?;
-            Some(left_over(x, y))
-        }
-        Term::Shl { a, b, width } => {
-            let (x, y) = numbers(terms, a, b)?;
-            Some(moved_up(x, y, width))
-        }
-        Term::Lshr { a, b, width } => {
-            let (x, y) = numbers(terms, a, b)?;
-            Some(moved_down(x, y, width))
-        }
-        Term::Ashr { a, b, width } => {
-            let (x, y) = numbers(terms, a, b)?;
-            Some(moved_down_signed(x, y, width))
-        }
-        _ => None,
-    }
-}
-
-/// The value of a comparison, a choice or a concatenation over constants.
-fn folded_test(terms: &Terms, term: &Term) -> Option<u128>
-    requires { IsApplied terms.now term.now }
-    ensures { IfSome result (λ n. (v : ℕ → ℕ → ℕ) → value_of v (tree_of (trees_of terms.now) term.now) ≡ n) }
-{
-    match *term {
-        Term::Eq { a, b, .. } => {
-            let (x, y) = numbers(terms, a, b)?;
-            Some(digit_of(x == y))
-        }
-        Term::Ult { a, b, .. } => {
-            let (x, y) = numbers(terms, a, b)?;
-            Some(digit_of(x < y))
-        }
-        Term::Slt { a, b, width } => {
-            let (x, y) = numbers(terms, a, b)?;
-            Some(digit_of(less_signed(x, y, width)))
+            Some(binary(op, x, y, width))
         }
         Term::Ite { c, a, b, .. } => {
             let (x, y) = numbers(terms, a, b)?;
             Some(choice(number(terms, c)?, x, y))
+        }
+        Term::Extract { a, from, width } => {
+            let _whole = terms.width(a);
+            Some(part(number(terms, a)?, from, width))
         }
         Term::Concat {
             high,
@@ -131,25 +42,11 @@ fn folded_test(terms: &Terms, term: &Term) -> Option<u128>
             let (x, y) = numbers(terms, high, low)?;
             Some(joined(x, y, below))
         }
-        _ => None,
-    }
-}
-
-/// The value of an operation over constants.
-fn folded(terms: &Terms, term: &Term) -> Option<u128>
-    requires { IsApplied terms.now term.now }
-    ensures { IfSome result (λ n. (v : ℕ → ℕ → ℕ) → value_of v (tree_of (trees_of terms.now) term.now) ≡ n) }
-{
-    match *term {
-        Term::Constant { .. } | Term::Variable { .. } => None,
-        Term::Not { .. } | Term::Extract { .. } | Term::Zext { .. } | Term::Sext { .. } =>
-            folded_part(terms, term),
-        Term::And { .. } | Term::Or { .. } | Term::Xor { .. } => folded_number(terms, term),
-        Term::Add { .. } | Term::Sub { .. } | Term::Mul { .. } => folded_number(terms, term),
-        Term::Udiv { .. } | Term::Urem { .. } => folded_quotient(terms, term),
-        Term::Shl { .. } | Term::Lshr { .. } | Term::Ashr { .. } => folded_quotient(terms, term),
-        Term::Eq { .. } | Term::Ult { .. } | Term::Slt { .. } => folded_test(terms, term),
-        Term::Ite { .. } | Term::Concat { .. } => folded_test(terms, term),
+        Term::Zext { a, .. } => Some(number(terms, a)?),
+        Term::Sext { a, from, width } => {
+            let _narrow = terms.width(a);
+            Some(extended(number(terms, a)?, from, width))
+        }
     }
 }
 
@@ -195,7 +92,7 @@ fn raise(terms: &mut Terms, a: TermId, by: u128, width: u32) -> Result<TermId, N
     ensures kept { Keeps terms.old terms.new }
 {
     let b = store(terms, Term::Constant { value: by, width })?;
-    let id = apply(terms, Term::Add { a, b, width })?;
+    let id = apply(terms, Term::Binary(BinaryOp::Add, a, b, width))?;
     Ok(id)
 }
 
@@ -207,7 +104,7 @@ fn shift(terms: &mut Terms, a: TermId, by: u128, width: u32) -> Result<TermId, N
     ensures kept { Keeps terms.old terms.new }
 {
     let b = store(terms, Term::Constant { value: by, width })?;
-    let id = apply(terms, Term::Shl { a, b, width })?;
+    let id = apply(terms, Term::Binary(BinaryOp::Shl, a, b, width))?;
     Ok(id)
 }
 

@@ -9,7 +9,7 @@ ghost use Rattle.term_rules.specs.Forms.{Simplifies};
 
 use crate::form::Form;
 use crate::reading::{number, term};
-use bv_terms::{Term, TermId, Terms};
+use bv_terms::{BinaryOp, Term, TermId, Terms};
 
 /// A choice between truths of which one or both are constants, if it is an operation on truths.
 fn choice_of_truths(terms: &Terms, c: TermId, a: TermId, b: TermId) -> Option<Form>
@@ -25,12 +25,8 @@ fn choice_of_truths(terms: &Terms, c: TermId, a: TermId, b: TermId) -> Option<Fo
     match (number(terms, a), number(terms, b)) {
         (Some(x), Some(y)) if x == 1 && y == 0 => Some(Form::Known(c)),
         (Some(x), Some(y)) if x == 0 && y == 1 => Some(Form::Built(Term::Not { a: c, width: 1 })),
-        (Some(x), None) if x == 1 => Some(Form::Built(Term::Or { a: c, b, width: 1 })),
-        (None, Some(y)) if y == 0 => Some(Form::Built(Term::And {
-            a: c,
-            b: a,
-            width: 1,
-        })),
+        (Some(x), None) if x == 1 => Some(Form::Built(Term::Binary(BinaryOp::Or, c, b, 1))),
+        (None, Some(y)) if y == 0 => Some(Form::Built(Term::Binary(BinaryOp::And, c, a, 1))),
         _ => None,
     }
 }

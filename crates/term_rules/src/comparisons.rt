@@ -1,6 +1,7 @@
 //! Rules of comparisons.
 
 ghost use Rattle.std.specs.Prelude.{◌≡◌, ◌<◌, length};
+ghost use Rattle.bv_terms.specs.declared.term.BinaryOp.TheVariants as op;
 ghost use Rattle.bv_terms.specs.Tree as tree;
 ghost use Rattle.bv_terms.specs.Tree.{width_of};
 ghost use Rattle.bv_terms.specs.Trees.{tree_in};
@@ -10,14 +11,14 @@ use crate::bounds::is_sum_with;
 use crate::complements::are_inverse;
 use crate::form::Form;
 use crate::reading::{are_in_order, number};
-use bv_terms::{Term, TermId, Terms};
+use bv_terms::{BinaryOp, Term, TermId, Terms};
 
 /// Whether two in order are equal.
 fn ordered_equal(terms: &Terms, a: TermId, b: TermId) -> Form
     requires a { a.index < length terms.now }
     requires b { b.index < length terms.now }
     requires alike { width_of (tree_in terms.now a) ≡ width_of (tree_in terms.now b) }
-    ensures { Simplifies terms.now (tree.Eq (tree_in terms.now a) (tree_in terms.now b) (width_of (tree_in terms.now a))) result }
+    ensures { Simplifies terms.now (tree.Binary op.Eq (tree_in terms.now a) (tree_in terms.now b) (width_of (tree_in terms.now a))) result }
 {
     terms.values_fit();
     let width = terms.width(a);
@@ -30,7 +31,7 @@ fn ordered_equal(terms: &Terms, a: TermId, b: TermId) -> Form
     match number(terms, b) {
         Some(value) if width == 1 && value == 1 => Form::Known(a),
         Some(value) if width == 1 && value == 0 => Form::Built(Term::Not { a, width }),
-        _ => Form::Built(Term::Eq { a, b, width }),
+        _ => Form::Built(Term::Binary(BinaryOp::Eq, a, b, width)),
     }
 }
 
@@ -39,7 +40,7 @@ pub fn equal(terms: &Terms, a: TermId, b: TermId) -> Form
     requires a { a.index < length terms.now }
     requires b { b.index < length terms.now }
     requires alike { width_of (tree_in terms.now a) ≡ width_of (tree_in terms.now b) }
-    ensures { Simplifies terms.now (tree.Eq (tree_in terms.now a) (tree_in terms.now b) (width_of (tree_in terms.now a))) result }
+    ensures { Simplifies terms.now (tree.Binary op.Eq (tree_in terms.now a) (tree_in terms.now b) (width_of (tree_in terms.now a))) result }
 {
     if are_in_order(terms, a, b) {
         ordered_equal(terms, a, b)
@@ -53,7 +54,7 @@ pub fn less(terms: &Terms, a: TermId, b: TermId) -> Form
     requires a { a.index < length terms.now }
     requires b { b.index < length terms.now }
     requires alike { width_of (tree_in terms.now a) ≡ width_of (tree_in terms.now b) }
-    ensures { Simplifies terms.now (tree.Ult (tree_in terms.now a) (tree_in terms.now b) (width_of (tree_in terms.now a))) result }
+    ensures { Simplifies terms.now (tree.Binary op.Ult (tree_in terms.now a) (tree_in terms.now b) (width_of (tree_in terms.now a))) result }
 {
     let width = terms.width(a);
     if a.index == b.index {
@@ -64,7 +65,7 @@ pub fn less(terms: &Terms, a: TermId, b: TermId) -> Form
     }
     match number(terms, b) {
         Some(value) if value == 0 => Form::Built(Term::Constant { value: 0, width: 1 }),
-        _ => Form::Built(Term::Ult { a, b, width }),
+        _ => Form::Built(Term::Binary(BinaryOp::Ult, a, b, width)),
     }
 }
 
@@ -73,11 +74,11 @@ pub fn less_signed(terms: &Terms, a: TermId, b: TermId) -> Form
     requires a { a.index < length terms.now }
     requires b { b.index < length terms.now }
     requires alike { width_of (tree_in terms.now a) ≡ width_of (tree_in terms.now b) }
-    ensures { Simplifies terms.now (tree.Slt (tree_in terms.now a) (tree_in terms.now b) (width_of (tree_in terms.now a))) result }
+    ensures { Simplifies terms.now (tree.Binary op.Slt (tree_in terms.now a) (tree_in terms.now b) (width_of (tree_in terms.now a))) result }
 {
     let width = terms.width(a);
     if a.index == b.index {
         return Form::Built(Term::Constant { value: 0, width: 1 });
     }
-    Form::Built(Term::Slt { a, b, width })
+    Form::Built(Term::Binary(BinaryOp::Slt, a, b, width))
 }

@@ -6,7 +6,7 @@ ghost use Rattle.bv_terms.specs.Trees.{term_at, tree_in};
 ghost use Rattle.term_rules.specs.Forms.{IsAndPart, IsOrPart};
 
 use crate::reading::term;
-use bv_terms::{Term, TermId, Terms};
+use bv_terms::{BinaryOp, Term, TermId, Terms};
 
 /// Whether the first is plainly each bit of the second turned.
 fn is_inverse(terms: &Terms, a: TermId, b: TermId) -> bool
@@ -40,11 +40,7 @@ fn excludes(terms: &Terms, a: TermId, b: TermId) -> bool
 {
     terms.values_fit();
     match term(terms, a) {
-        Term::And {
-            a: first,
-            b: second,
-            ..
-        } => {
+        Term::Binary(BinaryOp::And, first, second, _) => {
             if are_inverse(terms, first, b) {
                 return true;
             }
@@ -80,11 +76,7 @@ fn completes(terms: &Terms, a: TermId, b: TermId) -> bool
 {
     terms.values_fit();
     match term(terms, a) {
-        Term::Or {
-            a: first,
-            b: second,
-            ..
-        } => {
+        Term::Binary(BinaryOp::Or, first, second, _) => {
             if are_inverse(terms, first, b) {
                 return true;
             }
@@ -121,11 +113,7 @@ pub fn left_of_or(terms: &Terms, a: TermId, b: TermId) -> Option<TermId>
 {
     terms.values_fit();
     match term(terms, b) {
-        Term::Or {
-            a: first,
-            b: second,
-            ..
-        } => {
+        Term::Binary(BinaryOp::Or, first, second, _) => {
             if are_inverse(terms, a, first) {
                 return Some(second);
             }
@@ -148,11 +136,7 @@ pub fn left_of_and(terms: &Terms, a: TermId, b: TermId) -> Option<TermId>
 {
     terms.values_fit();
     match term(terms, b) {
-        Term::And {
-            a: first,
-            b: second,
-            ..
-        } => {
+        Term::Binary(BinaryOp::And, first, second, _) => {
             if are_inverse(terms, a, first) {
                 return Some(second);
             }

@@ -9,7 +9,7 @@ ghost use Rattle.term_rules.specs.Forms.{IsCofactor, IsFactored};
 use crate::arithmetic::{product, sum};
 use crate::building::build;
 use crate::reading::term;
-use bv_terms::{Term, TermId, Terms};
+use bv_terms::{BinaryOp, Term, TermId, Terms};
 use support::NoMemory;
 
 /// The common factor of two products, and the other factor of each.
@@ -27,16 +27,12 @@ fn cofactor(terms: &Terms, a: TermId, common: TermId) -> Option<TermId>
     ensures { IfSome result (IsCofactor terms.now a common) }
 {
     match term(terms, a) {
-        Term::Mul {
-            a: first,
-            b: second,
-            ..
-        } if first.index == common.index => Some(second),
-        Term::Mul {
-            a: first,
-            b: second,
-            ..
-        } if second.index == common.index => Some(first),
+        Term::Binary(BinaryOp::Mul, first, second, _) if first.index == common.index => Some(
+            second,
+        ),
+        Term::Binary(BinaryOp::Mul, first, second, _) if second.index == common.index => Some(
+            first,
+        ),
         _ => None,
     }
 }
@@ -51,11 +47,7 @@ pub fn common_factor(terms: &Terms, a: TermId, b: TermId) -> Option<Factors>
         return None;
     }
     match term(terms, a) {
-        Term::Mul {
-            a: left,
-            b: right,
-            ..
-        } => {
+        Term::Binary(BinaryOp::Mul, left, right, _) => {
             if let Some(second) = cofactor(terms, b, left) {
                 return Some(Factors {
                     common: left,

@@ -16,7 +16,7 @@ use crate::form::Form;
 use crate::reading::term;
 use crate::widths::{part, widened, widened_signed};
 use crate::{arithmetic, bitwise};
-use bv_terms::{Term, TermId, Terms};
+use bv_terms::{BinaryOp, Term, TermId, Terms};
 use support::NoMemory;
 use term_folds::numbers::cut;
 
@@ -55,32 +55,32 @@ fn as_operation(terms: &Terms, a: TermId) -> Option<Operation>
     ensures { IfSome result (IsOperation terms.now a) }
 {
     match term(terms, a) {
-        Term::Add { a, b, .. } => Some(Operation {
+        Term::Binary(BinaryOp::Add, a, b, _) => Some(Operation {
             kind: Kind::Sum,
             a,
             b,
         }),
-        Term::Sub { a, b, .. } => Some(Operation {
+        Term::Binary(BinaryOp::Sub, a, b, _) => Some(Operation {
             kind: Kind::Difference,
             a,
             b,
         }),
-        Term::Mul { a, b, .. } => Some(Operation {
+        Term::Binary(BinaryOp::Mul, a, b, _) => Some(Operation {
             kind: Kind::Product,
             a,
             b,
         }),
-        Term::And { a, b, .. } => Some(Operation {
+        Term::Binary(BinaryOp::And, a, b, _) => Some(Operation {
             kind: Kind::Conjunction,
             a,
             b,
         }),
-        Term::Or { a, b, .. } => Some(Operation {
+        Term::Binary(BinaryOp::Or, a, b, _) => Some(Operation {
             kind: Kind::Disjunction,
             a,
             b,
         }),
-        Term::Xor { a, b, .. } => Some(Operation {
+        Term::Binary(BinaryOp::Xor, a, b, _) => Some(Operation {
             kind: Kind::Exclusive,
             a,
             b,

@@ -4,7 +4,7 @@ ghost use Rattle.std.specs.Prelude.{◌<◌, IfSome, IsTrue, length};
 ghost use Rattle.term_rules.specs.Forms.{IsMultiple, IsPart, IsQuotient};
 
 use crate::reading::term;
-use bv_terms::{Term, TermId, Terms};
+use bv_terms::{BinaryOp, Term, TermId, Terms};
 
 /// Whether the term plainly is the quotient of the two.
 fn is_quotient(terms: &Terms, q: TermId, a: TermId, b: TermId) -> bool
@@ -14,11 +14,8 @@ fn is_quotient(terms: &Terms, q: TermId, a: TermId, b: TermId) -> bool
     ensures { IsTrue result → IsQuotient terms.now q a b }
 {
     match term(terms, q) {
-        Term::Udiv {
-            a: first,
-            b: second,
-            ..
-        } => first.index == a.index && second.index == b.index,
+        Term::Binary(BinaryOp::Udiv, first, second, _) => first.index == a.index
+            && second.index == b.index,
         _ => false,
     }
 }
@@ -30,11 +27,7 @@ pub fn divisor(terms: &Terms, a: TermId, b: TermId) -> Option<TermId>
     ensures { IfSome result (IsMultiple terms.now a b) }
 {
     match term(terms, b) {
-        Term::Mul {
-            a: left,
-            b: right,
-            ..
-        } => {
+        Term::Binary(BinaryOp::Mul, left, right, _) => {
             if is_quotient(terms, left, a, right) {
                 return Some(right);
             }
@@ -56,11 +49,7 @@ pub fn dividend(terms: &Terms, a: TermId, b: TermId) -> Option<TermId>
 {
     terms.values_fit();
     match term(terms, b) {
-        Term::Urem {
-            a: whole,
-            b: second,
-            ..
-        } => match divisor(terms, whole, a) {
+        Term::Binary(BinaryOp::Urem, whole, second, _) => match divisor(terms, whole, a) {
             Some(first) if first.index == second.index => Some(whole),
             _ => None,
         },

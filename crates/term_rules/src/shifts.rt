@@ -1,6 +1,7 @@
 //! Rules of shifts.
 
 ghost use Rattle.std.specs.Prelude.{◌≡◌, ◌<◌, length};
+ghost use Rattle.bv_terms.specs.declared.term.BinaryOp.TheVariants as op;
 ghost use Rattle.bv_terms.specs.Tree as tree;
 ghost use Rattle.bv_terms.specs.Tree.{width_of};
 ghost use Rattle.bv_terms.specs.Trees.{tree_in};
@@ -8,21 +9,21 @@ ghost use Rattle.term_rules.specs.Forms.{Simplifies};
 
 use crate::form::Form;
 use crate::reading::number;
-use bv_terms::{Term, TermId, Terms};
+use bv_terms::{BinaryOp, Term, TermId, Terms};
 
 /// The first moved up by the second.
 pub fn left(terms: &Terms, a: TermId, b: TermId) -> Form
     requires a { a.index < length terms.now }
     requires b { b.index < length terms.now }
     requires alike { width_of (tree_in terms.now a) ≡ width_of (tree_in terms.now b) }
-    ensures { Simplifies terms.now (tree.Shl (tree_in terms.now a) (tree_in terms.now b) (width_of (tree_in terms.now a))) result }
+    ensures { Simplifies terms.now (tree.Binary op.Shl (tree_in terms.now a) (tree_in terms.now b) (width_of (tree_in terms.now a))) result }
 {
     terms.values_fit();
     let width = terms.width(a);
     match number(terms, b) {
         Some(count) if count == 0 => Form::Known(a),
         Some(count) if count >= width as u128 => Form::Built(Term::Constant { value: 0, width }),
-        _ => Form::Built(Term::Shl { a, b, width }),
+        _ => Form::Built(Term::Binary(BinaryOp::Shl, a, b, width)),
     }
 }
 
@@ -31,13 +32,13 @@ pub fn logical_right(terms: &Terms, a: TermId, b: TermId) -> Form
     requires a { a.index < length terms.now }
     requires b { b.index < length terms.now }
     requires alike { width_of (tree_in terms.now a) ≡ width_of (tree_in terms.now b) }
-    ensures { Simplifies terms.now (tree.Lshr (tree_in terms.now a) (tree_in terms.now b) (width_of (tree_in terms.now a))) result }
+    ensures { Simplifies terms.now (tree.Binary op.Lshr (tree_in terms.now a) (tree_in terms.now b) (width_of (tree_in terms.now a))) result }
 {
     let width = terms.width(a);
     match number(terms, b) {
         Some(count) if count == 0 => Form::Known(a),
         Some(count) if count >= width as u128 => Form::Built(Term::Constant { value: 0, width }),
-        _ => Form::Built(Term::Lshr { a, b, width }),
+        _ => Form::Built(Term::Binary(BinaryOp::Lshr, a, b, width)),
     }
 }
 
@@ -46,12 +47,12 @@ pub fn arithmetic_right(terms: &Terms, a: TermId, b: TermId) -> Form
     requires a { a.index < length terms.now }
     requires b { b.index < length terms.now }
     requires alike { width_of (tree_in terms.now a) ≡ width_of (tree_in terms.now b) }
-    ensures { Simplifies terms.now (tree.Ashr (tree_in terms.now a) (tree_in terms.now b) (width_of (tree_in terms.now a))) result }
+    ensures { Simplifies terms.now (tree.Binary op.Ashr (tree_in terms.now a) (tree_in terms.now b) (width_of (tree_in terms.now a))) result }
 {
     terms.values_fit();
     let width = terms.width(a);
     match number(terms, b) {
         Some(count) if count == 0 => Form::Known(a),
-        _ => Form::Built(Term::Ashr { a, b, width }),
+        _ => Form::Built(Term::Binary(BinaryOp::Ashr, a, b, width)),
     }
 }

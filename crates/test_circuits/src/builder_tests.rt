@@ -4,7 +4,7 @@ ghost use Rattle.std.specs.Prelude.{◌≡◌, ◌<◌, length};
 ghost use Rattle.bv_terms.specs.Tree.{width_of};
 ghost use Rattle.bv_terms.specs.Trees.{tree_in};
 
-use bv_terms::{TermId, Terms};
+use bv_terms::{BinaryOp, TermId, Terms};
 use std::alloc::Global;
 use std::test::Fail;
 use support::NoMemory;
@@ -26,20 +26,20 @@ fn operation(
 {
     match number {
         0 => terms.not(a),
-        1 => terms.and(a, b),
-        2 => terms.or(a, b),
-        3 => terms.xor(a, b),
-        4 => terms.add(a, b),
-        5 => terms.sub(a, b),
-        6 => terms.mul(a, b),
-        7 => terms.udiv(a, b),
-        8 => terms.urem(a, b),
-        9 => terms.shl(a, b),
-        10 => terms.lshr(a, b),
-        11 => terms.ashr(a, b),
-        12 => terms.eq(a, b),
-        13 => terms.ult(a, b),
-        14 => terms.slt(a, b),
+        1 => terms.binary(BinaryOp::And, a, b),
+        2 => terms.binary(BinaryOp::Or, a, b),
+        3 => terms.binary(BinaryOp::Xor, a, b),
+        4 => terms.binary(BinaryOp::Add, a, b),
+        5 => terms.binary(BinaryOp::Sub, a, b),
+        6 => terms.binary(BinaryOp::Mul, a, b),
+        7 => terms.binary(BinaryOp::Udiv, a, b),
+        8 => terms.binary(BinaryOp::Urem, a, b),
+        9 => terms.binary(BinaryOp::Shl, a, b),
+        10 => terms.binary(BinaryOp::Lshr, a, b),
+        11 => terms.binary(BinaryOp::Ashr, a, b),
+        12 => terms.binary(BinaryOp::Eq, a, b),
+        13 => terms.binary(BinaryOp::Ult, a, b),
+        14 => terms.binary(BinaryOp::Slt, a, b),
         15 => terms.ite(c, a, b),
         16 => terms.extract(a, 1, 2),
         17 => terms.concat(a, b),

@@ -89,6 +89,7 @@ fn is_point(alloc: Global, flag: bool, byte: u8, is_plain: bool) -> Result<bool,
     let parameter = Parameter {
         of_type: IrType::Int(Width::of(8)),
         no_undef: false,
+        non_null: false,
         name: 0,
     };
     let shape = Shape {

@@ -1,6 +1,7 @@
 -- Terms of the tests, and which variables they have.
 use Rattle.std.proofs.Common.{ℕ, zero, suc, ◌≡◌, inl, inr, All, List, [], ◌∷◌, Some, slice_get, arith, sym, ap, subst, ◌∙◌}
 use Rattle.std.proofs.lemmas.Option.{get_or_from_slice_get, slice_get_within}
+use Rattle.bv_terms.specs.declared.term.BinaryOp.{BinaryOp}
 use Rattle.bv_terms.specs.declared.term.TermId.{TermId}
 use Rattle.bv_terms.specs.declared.term.Term.{Term}
 use Rattle.bv_terms.specs.declared.term.Term.TheVariants as term
@@ -27,14 +28,8 @@ module _ (terms : List Term) (x : Variable) (fit : AreFit [] terms) where
   pub alone-variable : (a : TermId) → slice_get terms a.index ≡ Some (term.Variable x.number x.width) → HasAlone terms x a
   alone-variable a at v m = placed a (term.Variable x.number x.width) at v m
 
-  pub alone-ult : (goal a b : TermId) (width : ℕ) → slice_get terms goal.index ≡ Some (term.Ult a b width) → HasAlone terms x a → HasAlone terms x b → HasAlone terms x goal
-  alone-ult goal a b width at p q v m = elim (placed goal (term.Ult a b width) at v m) [ inl l ↦ p v l | inr r ↦ q v r ]
-
-  pub alone-eq : (goal a b : TermId) (width : ℕ) → slice_get terms goal.index ≡ Some (term.Eq a b width) → HasAlone terms x a → HasAlone terms x b → HasAlone terms x goal
-  alone-eq goal a b width at p q v m = elim (placed goal (term.Eq a b width) at v m) [ inl l ↦ p v l | inr r ↦ q v r ]
-
-  pub alone-mul : (goal a b : TermId) (width : ℕ) → slice_get terms goal.index ≡ Some (term.Mul a b width) → HasAlone terms x a → HasAlone terms x b → HasAlone terms x goal
-  alone-mul goal a b width at p q v m = elim (placed goal (term.Mul a b width) at v m) [ inl l ↦ p v l | inr r ↦ q v r ]
+  pub alone-binary : (goal : TermId) (op : BinaryOp) (a b : TermId) (width : ℕ) → slice_get terms goal.index ≡ Some (term.Binary op a b width) → HasAlone terms x a → HasAlone terms x b → HasAlone terms x goal
+  alone-binary goal op a b width at p q v m = elim (placed goal (term.Binary op a b width) at v m) [ inl l ↦ p v l | inr r ↦ q v r ]
 
 -- two variables
 module _ (terms : List Term) (x y : TermId) (own : slice_get terms x.index ≡ Some (term.Variable 0 8)) (other : slice_get terms y.index ≡ Some (term.Variable 1 8)) where

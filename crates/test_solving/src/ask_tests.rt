@@ -5,7 +5,7 @@ ghost use Rattle.bv_terms.specs.declared.variable.Variable.{Variable};
 ghost use Rattle.sat_ask.specs.Questions.{Mentions};
 
 use crate::clauses::cnf;
-use bv_terms::{TermId, Terms};
+use bv_terms::{BinaryOp, TermId, Terms};
 use clause_log::check_log;
 use clause_solver::Answer;
 use sat_ask::{Asked, ask, search};
@@ -54,7 +54,7 @@ fn above(alloc: Global, value: u128) -> Result<Asked, NoMemory>
     requires { value < 256 }
 {
     let (mut terms, x, y, c) = leaves(alloc, value)?;
-    let goal = terms.ult(c, x)?;
+    let goal = terms.binary(BinaryOp::Ult, c, x)?;
     asked(alloc, &terms, goal, x, y, None)
 }
 
@@ -63,7 +63,7 @@ fn below(alloc: Global, value: u128) -> Result<Asked, NoMemory>
     requires { value < 256 }
 {
     let (mut terms, x, y, c) = leaves(alloc, value)?;
-    let goal = terms.ult(x, c)?;
+    let goal = terms.binary(BinaryOp::Ult, x, c)?;
     asked(alloc, &terms, goal, x, y, None)
 }
 
@@ -73,8 +73,8 @@ fn roots(alloc: Global, value: u128, limit: Option<u64>) -> Result<Asked, NoMemo
     requires limit { IfSome limit (λ n. 0 < n) }
 {
     let (mut terms, x, y, c) = leaves(alloc, value)?;
-    let square = terms.mul(x, x)?;
-    let goal = terms.eq(square, c)?;
+    let square = terms.binary(BinaryOp::Mul, x, x)?;
+    let goal = terms.binary(BinaryOp::Eq, square, c)?;
     asked(alloc, &terms, goal, x, y, limit)
 }
 

@@ -1,7 +1,8 @@
 -- The value of an operation fits its width.
 use Rattle.std.proofs.Common.{ℕ, ◌<◌, ◌^◌, subst}
 use Rattle.bv_terms.specs.Trees.{term_width}
-use Rattle.term_rules.proofs.Stored.{value_fits, width_within}
+use Rattle.bv_terms.proofs.Stages.{width-within}
+use Rattle.term_rules.proofs.Stored.{value_fits}
 use Rattle.term_rules.proofs.building.apply.Goals as goal
 
 pub store-requires : goal.store-requires
@@ -10,7 +11,7 @@ store-requires c =
     let t = c.args.term in
     let fits = value_fits c.args.terms.now t v c.values_fit.ensures c.requires.within c.requires.matched in
     record {
-      within = rw c.width-width.ensures (width_within _ t c.requires.within, subst (λ n. n < 2 ^ term_width t) (c.in-Some.ensures v) fits);
+      within = rw c.width-width.ensures (width-within _ t c.requires.within, subst (λ n. n < 2 ^ term_width t) (c.in-Some.ensures v) fits);
       matched = tt;
       operation = tt;
     }

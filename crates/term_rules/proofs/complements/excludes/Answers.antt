@@ -3,9 +3,13 @@ use Rattle.term_rules.proofs.ComplementRules.{excludes_first, excludes_second}
 use Rattle.term_rules.proofs.complements.excludes.Goals as goal
 
 pub returns-then-are_inverse : goal.returns-then-are_inverse
-returns-then-are_inverse c = λ _. excludes_first c.args.terms.now c.values_fit.ensures c.args.a c.args.b c.in-And.first c.in-And.second c.in-And.width
-    c.in-And.ensures.within.1 c.in-And.ensures.within.2 c.in-And.ensures.matched.0 c.in-And.ensures.matched.1 c.in-And.ensures.tree (c.if-are_inverse.ensures refl)
+returns-then-are_inverse c =
+    let found = c.in-Binary-And-default-default-default in
+    λ _. excludes_first c.args.terms.now c.values_fit.ensures c.args.a c.args.b found.first found.second found.field-3
+    found.ensures.within.1 found.ensures.within.2 found.ensures.matched.0 found.ensures.matched.1 (rw found.field-0-is at found.ensures.tree) (c.if-are_inverse.ensures refl)
 
 pub returns-else-are_inverse : goal.returns-else-are_inverse
-returns-else-are_inverse c = λ h. excludes_second c.args.terms.now c.values_fit.ensures c.args.a c.args.b c.in-And.first c.in-And.second c.in-And.width
-    c.in-And.ensures.within.1 c.in-And.ensures.within.2 c.in-And.ensures.matched.0 c.in-And.ensures.matched.1 c.in-And.ensures.tree (c.are_inverse-in-And.ensures h)
+returns-else-are_inverse c =
+    let found = c.in-Binary-And-default-default-default in
+    λ h. excludes_second c.args.terms.now c.values_fit.ensures c.args.a c.args.b found.first found.second found.field-3
+    found.ensures.within.1 found.ensures.within.2 found.ensures.matched.0 found.ensures.matched.1 (rw found.field-0-is at found.ensures.tree) (c.are_inverse-in-Binary-And-default-default-default.ensures h)

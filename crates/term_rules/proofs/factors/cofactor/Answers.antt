@@ -1,6 +1,8 @@
 use Rattle.term_rules.proofs.FactorRules.{cofactor_first}
 use Rattle.term_rules.proofs.factors.cofactor.Goals as goal
 
-pub returns-in-Mul-2 : goal.returns-in-Mul-2
-returns-in-Mul-2 c = cofactor_first c.args.terms.now c.args.a c.args.common c.in-Mul.first c.in-Mul.second c.in-Mul.width c.in-Mul.ensures.tree
-    c.in-Mul.ensures.within.1 c.in-Mul.ensures.matched.0 c.in-Mul.ensures.matched.1 c.if-second-common.true
+pub returns-in-Binary-Mul-default-default-default-2 : goal.returns-in-Binary-Mul-default-default-default-2
+returns-in-Binary-Mul-default-default-default-2 c =
+    let found = c.in-Binary-Mul-default-default-default in
+    cofactor_first c.args.terms.now c.args.a c.args.common found.first found.second found.field-3 (rw found.field-0-is at found.ensures.tree)
+    found.ensures.within.1 found.ensures.matched.0 found.ensures.matched.1 c.if-second-common.true

@@ -2,7 +2,7 @@
 use Rattle.std.proofs.Common.{ℕ, ◌≡◌, ◌<◌, ◌≤◌, ◌+◌, ◌*◌, ◌^◌, arith, subst, pow-add}
 use Rattle.std.proofs.lemmas.Nat.{mul-add-lt}
 use Rattle.term_folds.proofs.Cuts.{pow-le}
-use Rattle.term_rules.proofs.building.folded_test.Goals as goal
+use Rattle.term_rules.proofs.building.folded.Goals as goal
 
 joined_fits : (x y above below width : ℕ) → x < 2 ^ above → y < 2 ^ below → above + below ≡ width → width ≤ 128 → x * 2 ^ below + y < 2 ^ 128
 joined_fits x y above below width lx ly e most =
