@@ -1,4 +1,5 @@
 pub mod Chain
+pub mod Marking
 pub mod Members
 pub mod Refutation
 pub mod Reported

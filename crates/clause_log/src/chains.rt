@@ -1,8 +1,12 @@
 //! The resolvent of a chain.
 
-ghost use Rattle.std.specs.Prelude.{◌≡◌, ◌++◌, IfOk, option_copied, map, length};
+ghost use Rattle.std.specs.Prelude.{◌≡◌, ◌++◌, [], IfOk, IsTrue, List, Some, option_copied, map, length};
+ghost use Rattle.clause_lits.specs.declared.lit.Lit.{Lit};
+ghost use Rattle.clause_lits.specs.Meaning.{IsClause};
 ghost use Rattle.clause_log.specs.Chain as spec;
+ghost use Rattle.clause_log.specs.Marking.{AreMarks};
 
+use crate::marks::Marks;
 use crate::resolver::resolve;
 use crate::step::Step;
 use clause_lits::Clause;
@@ -55,4 +59,31 @@ pub fn chain_resolvent(
         }
     }
     Ok(Some(current))
+}
+
+/// Whether a chain of clauses has a resolvent, which is then marked. Where there is no room for one
+/// of its clauses, the answer is no.
+pub fn mark_resolvent(marks: &mut Marks, clauses: &[Clause], steps: &[Step], chain: &[u64]) -> bool
+    requires { AreMarks marks.old.signs.items [] }
+    ensures { IsTrue result → (c : List Lit) × IsClause c × AreMarks marks.new.signs.items c
+        × (spec.chain_resolvent (clauses.now ++ map (λ s. s.clause) steps.now) chain.now ≡ Some c) }
+{
+    let [first, rest @ ..] = chain else {
+        return false;
+    };
+    let Some(start) = clause_numbered(clauses, steps, *first) else {
+        return false;
+    };
+    let Some(false) = marks.join(start) else {
+        return false;
+    };
+    for number in rest {
+        let Some(next) = clause_numbered(clauses, steps, *number) else {
+            return false;
+        };
+        let Some(true) = marks.join(next) else {
+            return false;
+        };
+    }
+    true
 }

@@ -5,7 +5,8 @@ ghost use Rattle.clause_log.specs.Refutation.{EndsEmpty, IsSoundAt, Refutes};
 ghost use Rattle.clause_log.specs.Verdicts.{AreVerdicts};
 ghost use Rattle.clause_log.specs.Reported.{IsReported};
 
-use crate::chains::chain_resolvent;
+use crate::chains::{chain_resolvent, mark_resolvent};
+use crate::marks::Marks;
 use crate::step::{Log, Step};
 use clause_lits::{Clause, Cnf};
 use rayon::prelude::*;
@@ -37,7 +38,8 @@ impl From<AllocError> for LogFault {
 }
 
 /// Checks that each step is the resolvent of its chain of earlier clauses, and the last one empty.
-/// The steps are checked side by side, and the answer is that of one loop over them.
+/// The steps are checked side by side, and the answer is that of one loop over them. A sound step
+/// takes time in the length of its chain's clauses, where there is room to mark its variables.
 pub fn check_log(
     rt: &(impl Threads + Sync),
     alloc: Global,
@@ -49,14 +51,21 @@ pub fn check_log(
 {
     let clauses = cnf.clauses.as_slice();
     let steps = log.as_slice();
-    let verdicts = verdicts(rt, alloc, clauses, steps)?;
+    let verdicts = verdicts(rt, alloc, room_for(cnf), clauses, steps)?;
     first_fault(clauses, steps, &verdicts)
+}
+
+/// Room for the marks of all variables, unless there are many more variables than clauses.
+fn room_for(cnf: &Cnf) -> usize {
+    let most = cnf.clauses.len().saturating_mul(8);
+    (cnf.variables as usize).min(most).saturating_add(1)
 }
 
 /// Whether the step at each index is sound.
 fn verdicts(
     rt: &(impl Threads + Sync),
     alloc: Global,
+    room: usize,
     clauses: &[Clause],
     log: &[Step],
 ) -> Result<Vec<Result<bool, NoMemory>>, AllocError>
@@ -64,12 +73,36 @@ fn verdicts(
 {
     (0..log.len())
         .into_par_iter()
-        .map(
-            |i: usize| -> Result<bool, NoMemory>
+        .map_init(
+            || Marks::new(alloc, room),
+            |marks: &mut Marks, i: usize| -> Result<bool, NoMemory>
                 ensures { IfOk result (λ b. IsTrue b ↔ IsSoundAt clauses.entry.now log.entry.now i) }
-            { is_sound_at(alloc, clauses, log, i) },
+            {
+                if is_shown_at(marks, clauses, log, i) {
+                    Ok(true)
+                } else {
+                    is_sound_at(alloc, clauses, log, i)
+                }
+            },
         )
         .collect(rt, alloc)
+}
+
+/// Whether marks show that the step is the resolvent of its chain of earlier clauses. Marks that
+/// didn't show one step, as an unsound one or one without room, show none after it.
+fn is_shown_at(marks: &mut Marks, clauses: &[Clause], log: &[Step], index: usize) -> bool
+    ensures { IsTrue result → IsSoundAt clauses.now log.now index }
+{
+    let Some(step) = log.get(index) else {
+        return false;
+    };
+    if !marks.is_empty() {
+        return false;
+    }
+    if !mark_resolvent(marks, clauses, &log[..index], step.chain.as_slice()) {
+        return false;
+    }
+    marks.take_all(&step.clause)
 }
 
 /// Whether the step is the resolvent of its chain of earlier clauses.

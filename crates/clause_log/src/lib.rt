@@ -9,6 +9,7 @@
 mod chains;
 mod checking;
 mod laws;
+mod marks;
 mod resolver;
 mod step;
 
