@@ -1,5 +1,5 @@
 -- The solver's answer on a circuit's clauses is the answer to its question.
-use Rattle.std.proofs.Common.{ℕ, suc, ◌≡◌, ◌<◌, ◌≤◌, ◌+◌, ◌-◌, Bool, true, false, ◌&&◌, ◌||◌, List, [], ◌∷◌, ◌++◌, length, map, take, drop, get_or, slice_get, Some, refl, ap, sym, subst, ◌∙◌, arith}
+use Rattle.std.proofs.Common.{ℕ, suc, ◌≡◌, ◌<◌, ◌≤◌, ◌+◌, ◌-◌, Bool, true, false, ◌&&◌, ◌||◌, List, [], ◌∷◌, ◌++◌, length, map, take, drop, get_or, slice_get, Option, Some, refl, ap, sym, subst, ◌∙◌, arith}
 use Rattle.std.proofs.lemmas.List.{length-take-le, get_or-take, drop_more}
 use Rattle.clause_lits.specs.declared.lit.Lit.{Lit}
 use Rattle.clause_lits.specs.declared.cnf.Cnf.{Cnf}
@@ -8,12 +8,14 @@ use Rattle.clause_lits.specs.Meaning.{IsModel, clauses_true, clause_true, lit_tr
 use Rattle.clause_log.specs.declared.step.Step.{Step}
 use Rattle.clause_log.specs.Refutation.{Refutes}
 use Rattle.clause_log.proofs.Soundness.{refuted-false}
-use Rattle.clause_search.specs.Outcome.{IsLeast, IsLess}
+use Rattle.clause_search.specs.declared.answer.Answer.{Answer}
+use Rattle.clause_search.specs.declared.answer.Answer.TheVariants as answer
+use Rattle.clause_search.specs.Outcome.{IsAnswer, IsLeast, IsLess}
 use Rattle.gates.specs.declared.circuit.GateId.{GateId}
 use Rattle.gates.specs.declared.circuit.Gate.{Gate}
 use Rattle.gates.specs.Values.{gate_at}
 use Rattle.gates.specs.Encoding.{AreAllNamed, Encodes, HasOneModelAFront}
-use Rattle.sat_ask.specs.Asks.{Asks, IsLeastOf, NonePass}
+use Rattle.sat_ask.specs.Asks.{Asks, IsLeastOf, NonePass, UsesEachStepOf}
 
 and_left : (a b : Bool) → (a && b) ≡ true → a ≡ true
 and_left true b h = refl
@@ -119,3 +121,9 @@ module _ (test : List Bool → Bool) (count : ℕ) (cnf : Cnf) (q : Asks test co
       let found = q.one digits len in
       let model = model-join found.0 found.1 (ap test found.2 ∙ passes) in
       refuted-false (meaning.values_of found.0) cnf.clauses log h model.1
+
+-- clauses that have a model are not refuted
+pub model-uses : (variables front : ℕ) (clauses : List (List Lit)) (limit : Option ℕ) (places : List Bool) (a : Answer) → IsModel variables clauses places → IsAnswer variables front clauses limit a → UsesEachStepOf clauses a
+model-uses variables front clauses limit places (answer.Sat least) model is = tt
+model-uses variables front clauses limit places (answer.Unsat log) model is = absurd (refuted-false (meaning.values_of places) clauses log is.0 model.1)
+model-uses variables front clauses limit places (answer.Spent log) model is = tt

@@ -67,20 +67,7 @@ built-known terms goal used table i d fit lt cone m known = go (get_or terms i d
         let own : Mentions x (tree_in terms (record { index = i })) = subst (λ (z : Tree). Mentions x z) (sym (tree_placed terms i (term.Variable number width) fit at)) refl in
         known x (cone.sound i m x own)
     go (term.Not a width) at = tt
-    go (term.And a b width) at = tt
-    go (term.Or a b width) at = tt
-    go (term.Xor a b width) at = tt
-    go (term.Add a b width) at = tt
-    go (term.Sub a b width) at = tt
-    go (term.Mul a b width) at = tt
-    go (term.Udiv a b width) at = tt
-    go (term.Urem a b width) at = tt
-    go (term.Shl a b width) at = tt
-    go (term.Lshr a b width) at = tt
-    go (term.Ashr a b width) at = tt
-    go (term.Eq a b width) at = tt
-    go (term.Ult a b width) at = tt
-    go (term.Slt a b width) at = tt
+    go (term.Binary op a b width) at = tt
     go (term.Ite c a b width) at = tt
     go (term.Extract a from width) at = tt
     go (term.Concat high low below width) at = tt

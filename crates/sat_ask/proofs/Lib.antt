@@ -2,4 +2,3 @@ pub mod Asking
 pub mod Building
 pub mod Marking
 pub mod Orders
-pub mod Testing

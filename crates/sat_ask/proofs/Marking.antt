@@ -33,30 +33,6 @@ within-at earlier (t ∷ ts) (suc i) d fit lt =
     let e : length (earlier ++ tree_of earlier t ∷ []) + i ≡ length earlier + suc i = omega (arith, length-append earlier (tree_of earlier t ∷ [])) in
     subst (λ n. IsWithin n (get_or ts i d)) e (within-at (earlier ++ tree_of earlier t ∷ []) ts i d fit.1 (omega arith))
 
-pub within-more : (m n : ℕ) (t : Term) → m ≤ n → IsWithin m t → IsWithin n t
-within-more m n (term.Constant value width) le w = w
-within-more m n (term.Variable number width) le w = w
-within-more m n (term.Not a width) le w = (w.0, omega (arith, le, w.1))
-within-more m n (term.And a b width) le w = (w.0, omega (arith, le, w.1), omega (arith, le, w.2))
-within-more m n (term.Or a b width) le w = (w.0, omega (arith, le, w.1), omega (arith, le, w.2))
-within-more m n (term.Xor a b width) le w = (w.0, omega (arith, le, w.1), omega (arith, le, w.2))
-within-more m n (term.Add a b width) le w = (w.0, omega (arith, le, w.1), omega (arith, le, w.2))
-within-more m n (term.Sub a b width) le w = (w.0, omega (arith, le, w.1), omega (arith, le, w.2))
-within-more m n (term.Mul a b width) le w = (w.0, omega (arith, le, w.1), omega (arith, le, w.2))
-within-more m n (term.Udiv a b width) le w = (w.0, omega (arith, le, w.1), omega (arith, le, w.2))
-within-more m n (term.Urem a b width) le w = (w.0, omega (arith, le, w.1), omega (arith, le, w.2))
-within-more m n (term.Shl a b width) le w = (w.0, omega (arith, le, w.1), omega (arith, le, w.2))
-within-more m n (term.Lshr a b width) le w = (w.0, omega (arith, le, w.1), omega (arith, le, w.2))
-within-more m n (term.Ashr a b width) le w = (w.0, omega (arith, le, w.1), omega (arith, le, w.2))
-within-more m n (term.Eq a b width) le w = (w.0, omega (arith, le, w.1), omega (arith, le, w.2))
-within-more m n (term.Ult a b width) le w = (w.0, omega (arith, le, w.1), omega (arith, le, w.2))
-within-more m n (term.Slt a b width) le w = (w.0, omega (arith, le, w.1), omega (arith, le, w.2))
-within-more m n (term.Ite c a b width) le w = (w.0, omega (arith, le, w.1), omega (arith, le, w.2), omega (arith, le, w.3))
-within-more m n (term.Extract a from width) le w = (w.0, omega (arith, le, w.1))
-within-more m n (term.Concat high low below width) le w = (w.0, omega (arith, le, w.1), omega (arith, le, w.2))
-within-more m n (term.Zext a width) le w = (w.0, omega (arith, le, w.1))
-within-more m n (term.Sext a from width) le w = (w.0, omega (arith, le, w.1))
-
 -- what a term names has no variable that the term hasn't
 AreWithin : Variable → List Tree → Tree → List TermId → Type 0
 AreWithin x trees whole gs = All (λ a. Mentions x (tree_at trees a) → Mentions x whole) gs
@@ -76,47 +52,8 @@ operands-mention x trees (term.Variable number width) = none x trees (tree_of tr
 operands-mention x trees (term.Not a width) =
     let whole = tree_of trees (term.Not a width) in
     with_one x trees whole a [] (λ h. h) (none x trees whole)
-operands-mention x trees (term.And a b width) =
-    let whole = tree_of trees (term.And a b width) in
-    with_one x trees whole a (b ∷ []) (λ h. inl h) (with_one x trees whole b [] (λ h. inr h) (none x trees whole))
-operands-mention x trees (term.Or a b width) =
-    let whole = tree_of trees (term.Or a b width) in
-    with_one x trees whole a (b ∷ []) (λ h. inl h) (with_one x trees whole b [] (λ h. inr h) (none x trees whole))
-operands-mention x trees (term.Xor a b width) =
-    let whole = tree_of trees (term.Xor a b width) in
-    with_one x trees whole a (b ∷ []) (λ h. inl h) (with_one x trees whole b [] (λ h. inr h) (none x trees whole))
-operands-mention x trees (term.Add a b width) =
-    let whole = tree_of trees (term.Add a b width) in
-    with_one x trees whole a (b ∷ []) (λ h. inl h) (with_one x trees whole b [] (λ h. inr h) (none x trees whole))
-operands-mention x trees (term.Sub a b width) =
-    let whole = tree_of trees (term.Sub a b width) in
-    with_one x trees whole a (b ∷ []) (λ h. inl h) (with_one x trees whole b [] (λ h. inr h) (none x trees whole))
-operands-mention x trees (term.Mul a b width) =
-    let whole = tree_of trees (term.Mul a b width) in
-    with_one x trees whole a (b ∷ []) (λ h. inl h) (with_one x trees whole b [] (λ h. inr h) (none x trees whole))
-operands-mention x trees (term.Udiv a b width) =
-    let whole = tree_of trees (term.Udiv a b width) in
-    with_one x trees whole a (b ∷ []) (λ h. inl h) (with_one x trees whole b [] (λ h. inr h) (none x trees whole))
-operands-mention x trees (term.Urem a b width) =
-    let whole = tree_of trees (term.Urem a b width) in
-    with_one x trees whole a (b ∷ []) (λ h. inl h) (with_one x trees whole b [] (λ h. inr h) (none x trees whole))
-operands-mention x trees (term.Shl a b width) =
-    let whole = tree_of trees (term.Shl a b width) in
-    with_one x trees whole a (b ∷ []) (λ h. inl h) (with_one x trees whole b [] (λ h. inr h) (none x trees whole))
-operands-mention x trees (term.Lshr a b width) =
-    let whole = tree_of trees (term.Lshr a b width) in
-    with_one x trees whole a (b ∷ []) (λ h. inl h) (with_one x trees whole b [] (λ h. inr h) (none x trees whole))
-operands-mention x trees (term.Ashr a b width) =
-    let whole = tree_of trees (term.Ashr a b width) in
-    with_one x trees whole a (b ∷ []) (λ h. inl h) (with_one x trees whole b [] (λ h. inr h) (none x trees whole))
-operands-mention x trees (term.Eq a b width) =
-    let whole = tree_of trees (term.Eq a b width) in
-    with_one x trees whole a (b ∷ []) (λ h. inl h) (with_one x trees whole b [] (λ h. inr h) (none x trees whole))
-operands-mention x trees (term.Ult a b width) =
-    let whole = tree_of trees (term.Ult a b width) in
-    with_one x trees whole a (b ∷ []) (λ h. inl h) (with_one x trees whole b [] (λ h. inr h) (none x trees whole))
-operands-mention x trees (term.Slt a b width) =
-    let whole = tree_of trees (term.Slt a b width) in
+operands-mention x trees (term.Binary op a b width) =
+    let whole = tree_of trees (term.Binary op a b width) in
     with_one x trees whole a (b ∷ []) (λ h. inl h) (with_one x trees whole b [] (λ h. inr h) (none x trees whole))
 operands-mention x trees (term.Ite c a b width) =
     let whole = tree_of trees (term.Ite c a b width) in

@@ -5,7 +5,10 @@ use Rattle.clause_lits.specs.declared.cnf.Cnf.{Cnf}
 use Rattle.clause_lits.specs.Meaning.{IsModel, lit_true, values_of}
 use Rattle.clause_log.specs.Refutation.{Refutes}
 use Rattle.clause_log.specs.declared.step.Cert.{Cert}
+use Rattle.clause_search.specs.declared.answer.Answer.{Answer}
+use Rattle.clause_search.specs.declared.answer.Answer.TheVariants as answer
 use Rattle.clause_search.specs.Outcome.{IsCareful, IsLess, IsSpent}
+use Rattle.log_tidy.specs.Used.{AreUsed}
 use Rattle.sat_ask.specs.declared.asked.Asked.{Asked}
 use Rattle.sat_ask.specs.declared.asked.Asked.TheVariants as asked
 
@@ -49,3 +52,15 @@ AreSmall (asked.Spent cert) = HasSmallNumbers cert
 -- what is answered
 abbrev pub IsAsked : (List Bool → Bool) → ℕ → Option ℕ → Asked → Type 0
 IsAsked test count limit asked = IsFound test count limit asked × AreSmall asked
+
+-- ---- the steps of a refutation
+
+-- each step but the last is used by a later one
+abbrev pub UsesEachStep : Asked → Type 0
+UsesEachStep (asked.None cert) = AreUsed cert.cnf.clauses cert.log
+UsesEachStep _ = Unit {0}
+
+-- likewise of what a search of these clauses answers
+abbrev pub UsesEachStepOf : List (List Lit) → Answer → Type 0
+UsesEachStepOf clauses (answer.Unsat log) = AreUsed clauses log
+UsesEachStepOf clauses _ = Unit {0}

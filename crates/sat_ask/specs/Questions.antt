@@ -32,20 +32,7 @@ abbrev pub Mentions : Variable → Tree → Type 0
 Mentions x (tree.Constant value width) = ⊥
 Mentions x (tree.Variable number width) = x ≡ record { number = number; width = width }
 Mentions x (tree.Not a width) = Mentions x a
-Mentions x (tree.And a b width) = Mentions x a ⊎ Mentions x b
-Mentions x (tree.Or a b width) = Mentions x a ⊎ Mentions x b
-Mentions x (tree.Xor a b width) = Mentions x a ⊎ Mentions x b
-Mentions x (tree.Add a b width) = Mentions x a ⊎ Mentions x b
-Mentions x (tree.Sub a b width) = Mentions x a ⊎ Mentions x b
-Mentions x (tree.Mul a b width) = Mentions x a ⊎ Mentions x b
-Mentions x (tree.Udiv a b width) = Mentions x a ⊎ Mentions x b
-Mentions x (tree.Urem a b width) = Mentions x a ⊎ Mentions x b
-Mentions x (tree.Shl a b width) = Mentions x a ⊎ Mentions x b
-Mentions x (tree.Lshr a b width) = Mentions x a ⊎ Mentions x b
-Mentions x (tree.Ashr a b width) = Mentions x a ⊎ Mentions x b
-Mentions x (tree.Eq a b width) = Mentions x a ⊎ Mentions x b
-Mentions x (tree.Ult a b width) = Mentions x a ⊎ Mentions x b
-Mentions x (tree.Slt a b width) = Mentions x a ⊎ Mentions x b
+Mentions x (tree.Binary op a b width) = Mentions x a ⊎ Mentions x b
 Mentions x (tree.Ite c a b width) = Mentions x c ⊎ (Mentions x a ⊎ Mentions x b)
 Mentions x (tree.Extract a from width) = Mentions x a
 Mentions x (tree.Concat high low below width) = Mentions x high ⊎ Mentions x low

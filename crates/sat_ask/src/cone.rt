@@ -28,20 +28,7 @@ fn mark_operands(used: &mut [bool], term: &Term)
         | Term::Extract { a, .. }
         | Term::Zext { a, .. }
         | Term::Sext { a, .. } => mark(used, a),
-        Term::And { a, b, .. }
-        | Term::Or { a, b, .. }
-        | Term::Xor { a, b, .. }
-        | Term::Add { a, b, .. }
-        | Term::Sub { a, b, .. }
-        | Term::Mul { a, b, .. }
-        | Term::Udiv { a, b, .. }
-        | Term::Urem { a, b, .. }
-        | Term::Shl { a, b, .. }
-        | Term::Lshr { a, b, .. }
-        | Term::Ashr { a, b, .. }
-        | Term::Eq { a, b, .. }
-        | Term::Ult { a, b, .. }
-        | Term::Slt { a, b, .. } => {
+        Term::Binary(_, a, b, _) => {
             mark(used, a);
             mark(used, b);
         }

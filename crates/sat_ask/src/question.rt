@@ -6,7 +6,7 @@ ghost use Rattle.bv_terms.specs.Trees.{IsFit, IsTerm, IsWithin, tree_of};
 ghost use Rattle.bit_blast.specs.Bits.{AreBits, AreStanding};
 ghost use Rattle.bit_blast.specs.Table.{Follows};
 ghost use Rattle.bit_blast.specs.Written.{HasVariable};
-ghost use Rattle.sat_ask.specs.Asks.{AreSmall, Asks, HasSmallNumbers, IsAsked, IsFound};
+ghost use Rattle.sat_ask.specs.Asks.{AreSmall, Asks, HasSmallNumbers, IsAsked, IsFound, UsesEachStep};
 ghost use Rattle.sat_ask.specs.Cones.{AreKnown, IsGoal};
 ghost use Rattle.sat_ask.specs.Questions.{AreDifferent, HasAll, IsVariable, digit_count, goal_test, variables_of};
 
@@ -40,7 +40,9 @@ pub fn ask(
     requires different { AreDifferent order.now }
     requires all { HasAll terms.now goal order.now }
     requires limit { IfSome limit (λ n. 0 < n) }
-    ensures { IfOk result (IsAsked (goal_test terms.now goal order.now) (digit_count (variables_of terms.now order.now)) limit) }
+    ensures asked { IfOk result (IsAsked (goal_test terms.now goal order.now) (digit_count (variables_of terms.now order.now)) limit) }
+    // A refutation has no step but the last that no later step is resolved from.
+    ensures used { IfOk result UsesEachStep }
 {
     let asked = searched(alloc, terms, goal, order, limit)?;
     if are_small(&asked) {
@@ -63,7 +65,8 @@ fn searched(
     requires different { AreDifferent order.now }
     requires all { HasAll terms.now goal order.now }
     requires limit { IfSome limit (λ n. 0 < n) }
-    ensures { IfOk result (IsFound (goal_test terms.now goal order.now) (digit_count (variables_of terms.now order.now)) limit) }
+    ensures found { IfOk result (IsFound (goal_test terms.now goal order.now) (digit_count (variables_of terms.now order.now)) limit) }
+    ensures used { IfOk result UsesEachStep }
 {
     let cnf = clauses_of(alloc, terms, goal, order)?;
     let widths = widths_of(alloc, terms, order)?;

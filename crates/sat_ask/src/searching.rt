@@ -2,6 +2,7 @@
 
 ghost use Rattle.std.specs.Prelude.{◌<◌, IfOk, IfSome};
 ghost use Rattle.clause_search.specs.Outcome.{IsAnswer};
+ghost use Rattle.sat_ask.specs.Asks.{UsesEachStepOf};
 
 use clause_lits::Cnf;
 use clause_search::Answer;
@@ -23,7 +24,8 @@ pub fn search(
     limit: Option<u64>,
 ) -> Result<Answer, NoMemory>
     requires { IfSome limit (λ n. 0 < n) }
-    ensures { IfOk result (IsAnswer cnf.now.variables cnf.now.front cnf.now.clauses limit) }
+    ensures answer { IfOk result (IsAnswer cnf.now.variables cnf.now.front cnf.now.clauses limit) }
+    ensures used { IfOk result (UsesEachStepOf cnf.now.clauses) }
 {
     match sat_restarts::search(alloc, cnf, widths, limit)? {
         Searched::Model { values, learned } => least(alloc, cnf, widths, values, learned, limit),

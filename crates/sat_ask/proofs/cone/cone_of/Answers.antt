@@ -5,7 +5,8 @@ use Rattle.bv_terms.specs.declared.term.Term.TheVariants as term
 use Rattle.bv_terms.specs.Trees.{IsWithin}
 use Rattle.bit_blast.specs.Written.{operands}
 use Rattle.sat_ask.specs.Cones.{IsCone}
-use Rattle.sat_ask.proofs.Marking.{got-at, length-marked, mark-step, within-at, within-more, written-back}
+use Rattle.bv_terms.proofs.Stages.{within-more}
+use Rattle.sat_ask.proofs.Marking.{got-at, length-marked, mark-step, within-at, written-back}
 use Rattle.sat_ask.proofs.cone.cone_of.Goals as goal
 
 pub mark_operands-requires : goal.mark_operands-requires
