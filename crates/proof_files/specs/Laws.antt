@@ -1,9 +1,29 @@
--- What follows from the definitions: parts that are certified are verified.
-use Rattle.std.specs.Prelude.{ℕ, ◌≡◌, All, List}
+-- What follows from the definitions: parts whose logs refute their clauses are verified, and so is their text.
+use Rattle.std.specs.Prelude.{ℕ, ◌≡◌, ◌++◌, All, List, None, length}
+use Rattle.std.specs.List.{flat_map}
+use Rattle.clause_log.specs.Refutation.{Refutes}
 use Rattle.proof_text.specs.declared.part.Part.{Part}
-use Rattle.proof_files.specs.Checks.{AreChecked}
-use Rattle.proof_files.specs.Parts.{IsCertified}
+use Rattle.proof_text.specs.Format.{IsProof}
+use Rattle.proof_files.specs.Checks.{AreChecked, counts_line, outcome_line}
 
--- a check of parts whose logs refute their clauses names no bad step
+-- the log of each part refutes its clauses
+abbrev pub AllRefute : List Part → Type 0
+AllRefute parts = All (λ p. Refutes p.cert.cnf.clauses p.cert.log) parts
+
+-- a line `verified` for each part, and the count of none that is bad
+abbrev pub verified_lines : List Part → List ℕ
+verified_lines parts = flat_map (λ p. outcome_line p None) parts ++ counts_line (length parts) 0
+
+-- these lines say that each part is verified, and the status is 0
+pub record AreVerified (parts : List Part) (lines : List ℕ) (status : ℕ) : Type 0 where
+  pub lines_are : lines ≡ verified_lines parts
+  pub status_is : status ≡ 0
+
+-- a check of parts that refute says that each is verified
 abbrev pub ProofsAreVerified : Type 0
-ProofsAreVerified = (parts : List Part) (text : List ℕ) (status : ℕ) → All IsCertified parts → AreChecked parts text status → status ≡ 0
+ProofsAreVerified = (parts : List Part) (lines : List ℕ) (status : ℕ) → AllRefute parts → AreChecked parts lines status → AreVerified parts lines status
+
+-- and so does a check of whatever parts are read of their text
+abbrev pub TextsAreVerified : Type 0
+TextsAreVerified = (text : List ℕ) (parts others : List Part) (lines : List ℕ) (status : ℕ)
+    → IsProof text parts → AllRefute parts → IsProof text others → AreChecked others lines status → AreVerified parts lines status

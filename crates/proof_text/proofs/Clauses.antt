@@ -1,15 +1,15 @@
 -- Reading the literals of a clause.
-use Rattle.std.proofs.Common.{ℕ, ◌≡◌, ◌<◌, ◌≤◌, ◌^◌, Bool, true, false, cond, List, [], ◌∷◌, ◌++◌, codes, drop, get_or, Contains, append_assoc, append-nil, subst, sym, ap, ap₂, ◌∙◌, refl, ⊎_elim, arith}
+use Rattle.std.proofs.Common.{ℕ, ◌≡◌, ◌<◌, ◌≤◌, ◌^◌, Bool, true, false, cond, List, [], ◌∷◌, ◌++◌, codes, drop, get_or, All, Contains, append_assoc, append-nil, subst, sym, ap, ap₂, ◌∙◌, refl, ⊎_elim, arith}
 use Rattle.std.specs.Fmt.{decimal}
 use Rattle.std.specs.List.{flat_map}
 use Rattle.std.proofs.lemmas.Fmt.{decimal_injective}
 use Rattle.std.proofs.lemmas.Grind.{flat_map-append}
-use Rattle.std.proofs.lemmas.List.Elements.{All-contains, Contains-append_right}
+use Rattle.std.proofs.lemmas.List.Elements.{All-contains, All-head, All-tail, Contains-append_right}
 use Rattle.clause_lits.specs.declared.lit.Lit.{Lit}
 use Rattle.proof_text.specs.Format.{IsClauseOver, IsSmall, clause_line, literal_text, spaced}
 use Rattle.proof_text.specs.Words.{Parts}
 use Rattle.proof_text.proofs.Numbers.{free_decimal}
-use Rattle.proof_text.proofs.Splits.{contains_it, first_or_later, here, same_parts}
+use Rattle.proof_text.proofs.Splits.{contains_it, first_or_later, here, parted, same_parts}
 
 -- ---- literals
 
@@ -52,6 +52,24 @@ clause_start v line = record { is = refl; goes_on = λ c f e. (c, refl, e) }
 
 line_cons : (l : Lit) (c : List Lit) → clause_line (l ∷ c) ≡ literal_text l ++ 32 ∷ clause_line c
 line_cons l c = simp append_assoc
+
+no_space : (a b : List ℕ) → codes "0" ≡ a ++ 32 ∷ b → ⊥
+no_space a b e = ⊎_elim (λ z. absurd (omega arith)) (λ l. absurd (omega (arith, l.1))) (first_or_later 48 32 [] (contains_it 32 (codes "0") a b e))
+
+small_first : (v : ℕ) (l : Lit) (c : List Lit) → IsSmall v → All (λ x. x.variable ≤ v) (l ∷ c) → IsSmall l.variable
+small_first v l c h f = let first = All-head (λ x. x.variable ≤ v) l c f in omega arith
+
+-- the clause that a line has is determined
+pub same_clause : (v w : ℕ) (c d : List Lit) → IsSmall v → IsSmall w → All (λ l. l.variable ≤ v) c → All (λ l. l.variable ≤ w) d → clause_line c ≡ clause_line d → c ≡ d
+same_clause v w [] [] hv hw fc fd e = refl
+same_clause v w [] (l ∷ d) hv hw fc fd e = absurd (no_space (literal_text l) (clause_line d) (e ∙ line_cons l d))
+same_clause v w (k ∷ c) [] hv hw fc fd e = absurd (no_space (literal_text k) (clause_line c) (sym e ∙ line_cons k c))
+same_clause v w (k ∷ c) (l ∷ d) hv hw fc fd e =
+    let hk = small_first v k c hv fc in
+    let hl = small_first w l d hw fd in
+    let apart = parted 32 (literal_text k) (literal_text l) (clause_line c) (clause_line d) (free_literal k hk) (free_literal l hl) (sym (line_cons k c) ∙ e ∙ line_cons l d) in
+    ap₂ (λ (x : Lit) (xs : List Lit). x ∷ xs) (same_literal k l hk hl apart.0)
+    (same_clause v w c d hv hw (All-tail (λ x. x.variable ≤ v) k c fc) (All-tail (λ x. x.variable ≤ w) l d fd) apart.1)
 
 small_at : (v : ℕ) (c read : List Lit) (l : Lit) (more : List Lit) → v < 2 ^ 62 → IsClauseOver v c → c ≡ read ++ l ∷ more → IsSmall l.variable
 small_at v c read l more h f e =

@@ -61,7 +61,7 @@ clauses_within v cs f = All-weaker (IsClauseOver v) (λ c. All (λ l. (0 < l.var
 
 -- ---- a row
 
-part_first : (p : Part) (ps : List Part) → flat_map part_lines (p ∷ ps)
+pub part_first : (p : Part) (ps : List Part) → flat_map part_lines (p ∷ ps)
     ≡ row_line p.name p.is_correct ∷ counts_line p.cert.cnf.variables (length p.cert.cnf.clauses)
     ∷ (map clause_line p.cert.cnf.clauses ++ (log_line (length p.cert.log) ∷ (map step_line p.cert.log ++ flat_map part_lines ps)))
 part_first p ps = ap (λ (t : Lines). row_line p.name p.is_correct ∷ counts_line p.cert.cnf.variables (length p.cert.cnf.clauses) ∷ t)
@@ -159,7 +159,7 @@ free_small n h i = free_decimal n 32 (omega arith) (omega arith) i
 counts_regroup : (v n : ℕ) → counts_line v n ≡ codes "p cnf " ++ (decimal v ++ 32 ∷ decimal n)
 counts_regroup v n = simp append_assoc
 
-same_counts : (v n w m : ℕ) → IsSmall v → IsSmall n → IsSmall w → IsSmall m → counts_line v n ≡ counts_line w m → (v ≡ w) × (n ≡ m)
+pub same_counts : (v n w m : ℕ) → IsSmall v → IsSmall n → IsSmall w → IsSmall m → counts_line v n ≡ counts_line w m → (v ≡ w) × (n ≡ m)
 same_counts v n w m hv hn hw hm e =
     let inner = append_cancel_left (codes "p cnf ") (decimal v ++ 32 ∷ decimal n) (decimal w ++ 32 ∷ decimal m) (sym (counts_regroup v n) ∙ e ∙ counts_regroup w m) in
     let apart = parted 32 (decimal v) (decimal w) (decimal n) (decimal m) (free_small v hv) (free_small w hw) inner in
@@ -182,7 +182,7 @@ counts_missing line none more k = let whole = k.5 in let is : line ≡ counts_li
 pub counts_nil : Counts [] → ⊥
 counts_nil k = let whole = k.5 in absurd cc
 
-same_log : (n m : ℕ) → IsSmall n → IsSmall m → log_line n ≡ log_line m → n ≡ m
+pub same_log : (n m : ℕ) → IsSmall n → IsSmall m → log_line n ≡ log_line m → n ≡ m
 same_log n m hn hm e = decimal_injective n m (omega arith) (omega arith) (append_cancel_left (codes "log ") (decimal n) (decimal m) e)
 
 log_to : (v n : ℕ) (more : Lines) → IsSmall n → Log v (log_line n ∷ more) → Steps v n more
@@ -268,6 +268,12 @@ same_status n m true true e = append_cancel_right n m (codes " correct") e
 same_status n m false false e = append_cancel_right n m (codes " incorrect") e
 same_status n m true false e = absurd (apart n m e)
 same_status n m false true e = absurd (apart m n (sym e))
+
+pub same_verdict : (n m : List ℕ) (p q : Bool) → n ++ status_text p ≡ m ++ status_text q → p ≡ q
+same_verdict n m true true e = refl
+same_verdict n m false false e = refl
+same_verdict n m true false e = absurd (apart n m e)
+same_verdict n m false true e = absurd (apart m n (sym e))
 
 pub same_name : (line rest name own : List ℕ) (p q : Bool) → line ≡ codes "row @" ++ rest → rest ≡ name ++ status_text p → line ≡ row_line own q → own ≡ name
 same_name line rest name own p q h r e =

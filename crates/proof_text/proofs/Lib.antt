@@ -8,3 +8,4 @@ pub mod Escapes
 pub mod Reading
 pub mod Top
 pub mod Growing
+pub mod OneReading

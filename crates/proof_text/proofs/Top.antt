@@ -172,6 +172,16 @@ parted_lines (l ∷ lines) (t ∷ taken) rest fl ft e =
     let next = parted_lines lines taken rest (All-tail Free l lines fl) (All-tail Free t taken ft) both.1 in
     (next.0, ap₂ (λ (a : List ℕ) (b : Lines). a ∷ b) both.0 next.1, next.2)
 
+-- the lines of a text are determined
+pub same_lines : (lines others : Lines) → AreFree lines → AreFree others → ended lines ≡ ended others → lines ≡ others
+same_lines [] [] fl fo e = refl
+same_lines [] (o ∷ others) fl fo e = absurd (free_nil (contains_it 10 [] o (ended others) (e ∙ append_assoc o (10 ∷ []) (ended others))))
+same_lines (l ∷ lines) [] fl fo e = absurd (free_nil (contains_it 10 [] l (ended lines) (sym e ∙ append_assoc l (10 ∷ []) (ended lines))))
+same_lines (l ∷ lines) (o ∷ others) fl fo e =
+    let both = parted 10 l o (ended lines) (ended others) (All-head Free l lines fl) (All-head Free o others fo)
+    (sym (append_assoc l (10 ∷ []) (ended lines)) ∙ e ∙ append_assoc o (10 ∷ []) (ended others)) in
+    ap₂ (λ (a : List ℕ) (b : Lines). a ∷ b) both.0 (same_lines lines others (All-tail Free l lines fl) (All-tail Free o others fo) both.1)
+
 -- ---- the first fault
 
 wrong_rest : (taken more : Lines) (rest : List ℕ) → AreFree more → rest ≡ ended more → IsWrong File taken rest → File (taken ++ more) → ⊥

@@ -2,7 +2,9 @@
 
 ghost use Rattle.std.specs.Prelude.{◌≡◌, ◌==◌, ◌<◌, ◌≤◌, ◌-◌, ◌++◌, ◌∷◌, [], ◌+◌, ℕ, All, Bool, IfErr, IfNone, IfOk, IfSome, List, OnOk, codes, count_by, length, map, take};
 ghost use Rattle.proof_text.specs.Format.{IsClauseOver, IsPart, IsPrintedName, IsProof, IsSmall, IsStepOver, clause_line, counts_line, log_line, part_lines, row_line, status_text, step_line};
+ghost use Rattle.proof_text.specs.declared.part.Part.{Part};
 ghost use Rattle.proof_text.specs.FirstFault.{IsFaultOf};
+ghost use Rattle.proof_text.specs.OneReading.{AreSameButFronts};
 ghost use Rattle.proof_text.specs.Following as follow;
 ghost use Rattle.proof_text.specs.Following.{IsStopped, Moves};
 
@@ -217,6 +219,8 @@ pub fn parse(alloc: Global, text: &[u8]) -> Result<Sequence<Part>, ProofFault>
     // The text is that of these parts.
     ensures parts { IfOk result (IsProof text.now) }
     ensures fronts { IfOk result (All (λ p. p.cert.cnf.front ≡ 0)) }
+    // They are the parts that it was written of, but for their fronts.
+    ensures written { (parts : List Part) → IsProof text.now parts → IfOk result (AreSameButFronts parts) }
     // It is that of no parts, and this is the first line that shows it.
     ensures fault { IfErr result (IsFaultOf text.now) }
 {
