@@ -1,14 +1,15 @@
 -- The one part that defines a name, and the blocks that go by their labels.
 use Rattle.std.proofs.Common.{◌≡◌, ◌↔◌, ◌⊎◌, inl, inr, IsTrue, ℕ, zero, suc, ◌+◌, ◌<◌, ◌≤◌, ◌==◌, Bool, true, false, List, [], ◌∷◌, ◌++◌, length, get_or, take, map, slice_get, Option, Some, None, option_map, refl, ap, sym, subst, ◌∙◌, arith, All, Contains, append_assoc, drop, one-add}
-use Rattle.std.specs.List.{position_or_len}
+use Rattle.std.specs.List.{flat_map, position_or_len}
 use Rattle.std.proofs.lemmas.Bool.{cases_lt, cases_Bool, both_ways}
 use Rattle.std.proofs.lemmas.Bool.Decides.{nat_tests}
 use Rattle.std.proofs.lemmas.List.{length-map, drop_more}
-use Rattle.definite_assignment.specs.Paths.{IsAssignedBefore, IsUnassignedBefore}
+use Rattle.block_paths.specs.Paths.{IsAssignedBefore, IsUnassignedBefore}
 use Rattle.definite_assignment.specs.Sets.{AreRoomy, has}
 use Rattle.std.proofs.lemmas.List.Sums.{position_or_len_is}
-use Rattle.std.proofs.lemmas.List.Elements.{All-append, Contains-append_left, Contains-append_right, Contains-append_cases}
+use Rattle.std.proofs.lemmas.List.Elements.{All-append, Contains-append_left, Contains-append_right, Contains-append_cases, Contains-get_or}
 use Rattle.std.proofs.lemmas.Option.{slice_get_within, slice_get-map, get_or_from_slice_get, none-some, same_Some}
+use Rattle.ir_tree.specs.declared.tree.Inst.{Inst}
 use Rattle.ir_tree.specs.declared.tree.Phi.{Phi}
 use Rattle.ir_tree.specs.declared.tree.Block.{Block}
 use Rattle.ir_tree.specs.declared.tree.Parameter.{Parameter}
@@ -20,7 +21,7 @@ use Rattle.ir_tree.specs.declared.sites.Site.TheVariants.{Defines}
 use Rattle.ir_tree.specs.declared.sites.SiteList.{SiteList}
 use Rattle.ir_tree.specs.declared.module.Reason.TheVariants.{NameTwice}
 use Rattle.ir_tree.specs.Sites.{AreNumbered, IsNumbered, sites, parts}
-use Rattle.ir_tree.specs.Flow.{assigned_with, assigns, block_of, labels, result_of, successors, targets}
+use Rattle.ir_tree.specs.Flow.{assigned_with, assigns, block_of, labels, results_of, successors, targets}
 use Rattle.ir_tree.specs.Definitions.{DefinesIn, IsFirstDefinition}
 use Rattle.ir_tree.specs.WellFormed.{Passes, PassesNames}
 use Rattle.ir_tree.proofs.Definers.{all_at, made_of, makes, one_site, defines_in, defined_at, entered_at, label_of_block}
@@ -144,19 +145,34 @@ take_slice [] (suc n) k x below e = absurd (none-some x e)
 take_slice (y ∷ xs) (suc n) zero x below e = e
 take_slice (y ∷ xs) (suc n) (suc k) x below e = take_slice xs n k x (omega (arith, below)) e
 
+-- what a list of instructions assigns is a result of one of them
+assigned_of : (insts : List Inst) (name : ℕ) → Contains (flat_map results_of insts) name → (j : ℕ) × (i : Inst) × (slice_get insts j ≡ Some i) × Contains (results_of i) name
+assigned_of [] name found = absurd (omega (arith, found.1))
+assigned_of (i ∷ insts) name found = choose (Contains-append_cases (results_of i) (flat_map results_of insts) name found) (λ there. assigned_of insts name there)
+  where
+    choose : Contains (results_of i) name ⊎ Contains (flat_map results_of insts) name → (Contains (flat_map results_of insts) name → (j : ℕ) × (other : Inst) × (slice_get insts j ≡ Some other) × Contains (results_of other) name)
+        → (j : ℕ) × (other : Inst) × (slice_get (i ∷ insts) j ≡ Some other) × Contains (results_of other) name
+    choose (inl here) later = (0, i, refl, here)
+    choose (inr there) later = let w = later there in (suc w.0, w.1, w.2, w.3)
+
+assigns_of : (insts : List Inst) (j : ℕ) (i : Inst) (name : ℕ) → slice_get insts j ≡ Some i → Contains (results_of i) name → Contains (flat_map results_of insts) name
+assigns_of [] j i name its found = absurd (none-some i its)
+assigns_of (first ∷ insts) zero i name its found = Contains-append_left (results_of first) (flat_map results_of insts) name (subst (λ (x : Inst). Contains (results_of x) name) (sym (same_Some first i its)) found)
+assigns_of (first ∷ insts) (suc j) i name its found = Contains-append_right (results_of first) (flat_map results_of insts) name (assigns_of insts j i name its found)
+
 abbrev pub IsAssignedThere : Function → Block → ℕ → ℕ → Type 0
 IsAssignedThere f b ran name = Contains (map (λ (p : Parameter). p.name) f.parameters) name ⊎ Contains (assigned_with b (take ran b.insts)) name
 
 to_part : (f : Function) (block ran name : ℕ) (b : Block) → slice_get f.blocks block ≡ Some b → IsAssignedThere f b ran name → (p : Part) × DefinesIn f p name × IsBehind block ran p
 to_part f block ran name b stands (inl parameter) = (part.Parameter, parameter, tt)
-to_part f block ran name b stands (inr found) = either (Contains-append_cases (map (λ (phi : Phi). phi.into) b.phis) (map result_of (take ran b.insts)) name found)
+to_part f block ran name b stands (inr found) = either (Contains-append_cases (map (λ (phi : Phi). phi.into) b.phis) (flat_map results_of (take ran b.insts)) name found)
   where
-    either : Contains (map (λ (phi : Phi). phi.into) b.phis) name ⊎ Contains (map result_of (take ran b.insts)) name → (p : Part) × DefinesIn f p name × IsBehind block ran p
+    either : Contains (map (λ (phi : Phi). phi.into) b.phis) name ⊎ Contains (flat_map results_of (take ran b.insts)) name → (p : Part) × DefinesIn f p name × IsBehind block ran p
     either (inl of_phi) = let w = made_of (λ (phi : Phi). phi.into) b.phis of_phi.0 name of_phi.1 of_phi.2 in (part.Phi block of_phi.0, (b, stands, w.0, w.1, w.2), refl)
     either (inr of_inst) =
-        let w = made_of result_of (take ran b.insts) of_inst.0 name of_inst.1 of_inst.2 in
-        let t = slice_take b.insts ran of_inst.0 w.0 w.1 in
-        (part.Inst block of_inst.0, (b, stands, w.0, t.1, w.2), (refl, t.0))
+        let w = assigned_of (take ran b.insts) name of_inst in
+        let t = slice_take b.insts ran w.0 w.1 w.2 in
+        (part.Inst block w.0, (b, stands, w.1, t.1, w.3), (refl, t.0))
 
 same_block : (f : Function) (k block : ℕ) (b c : Block) → k ≡ block → slice_get f.blocks k ≡ Some c → slice_get f.blocks block ≡ Some b → c ≡ b
 same_block f k block b c same there here = same_Some c b (sym there ∙ (ap (λ (n : ℕ). slice_get f.blocks n) same ∙ here))
@@ -169,12 +185,12 @@ from_part f block ran name b (part.Phi k j) stands found behind =
     let same = same_block f k block b found.0 behind found.1 stands in
     let its : slice_get b.phis j ≡ Some found.2 = ap (λ (c : Block). slice_get c.phis j) (sym same) ∙ found.3 in
     let in_phis : Contains (map (λ (phi : Phi). phi.into) b.phis) name = subst (λ (n : ℕ). Contains (map (λ (phi : Phi). phi.into) b.phis) n) found.4 (makes (λ (phi : Phi). phi.into) b.phis j found.2 its) in
-    inr (Contains-append_left (map (λ (phi : Phi). phi.into) b.phis) (map result_of (take ran b.insts)) name in_phis)
+    inr (Contains-append_left (map (λ (phi : Phi). phi.into) b.phis) (flat_map results_of (take ran b.insts)) name in_phis)
 from_part f block ran name b (part.Inst k j) stands found behind =
     let same = same_block f k block b found.0 behind.0 found.1 stands in
     let its : slice_get (take ran b.insts) j ≡ Some found.2 = take_slice b.insts ran j found.2 behind.1 (ap (λ (c : Block). slice_get c.insts j) (sym same) ∙ found.3) in
-    let in_insts : Contains (map result_of (take ran b.insts)) name = subst (λ (n : ℕ). Contains (map result_of (take ran b.insts)) n) found.4 (makes result_of (take ran b.insts) j found.2 its) in
-    inr (Contains-append_right (map (λ (phi : Phi). phi.into) b.phis) (map result_of (take ran b.insts)) name in_insts)
+    let in_insts : Contains (flat_map results_of (take ran b.insts)) name = assigns_of (take ran b.insts) j found.2 name its found.4 in
+    inr (Contains-append_right (map (λ (phi : Phi). phi.into) b.phis) (flat_map results_of (take ran b.insts)) name in_insts)
 from_part f block ran name b (part.End k) stands found behind = absurd found
 
 pub assigned_by_part : (f : Function) (block ran name : ℕ) (b : Block) (p : Part) (r : Bool) → slice_get f.blocks block ≡ Some b → IsDefiner f name (Some p) → IsTrue r ↔ IsBehind block ran p → IsTrue r ↔ IsAssignedThere f b ran name
@@ -229,9 +245,11 @@ pub assigns_fit : (f : Function) (lists : List (List ℕ)) (count : ℕ) → Are
 assigns_fit f lists count numbered is same =
     subst (λ (ls : List (List ℕ)). All (All (λ (name : ℕ). name < count)) ls) (sym is)
     (all_map (All (λ (name : ℕ). name < count)) (λ (b : Block). assigned_with b b.insts) f.blocks
-    (λ i b stands. All-append (λ (name : ℕ). name < count) (map (λ (phi : Phi). phi.into) b.phis) (map result_of b.insts)
+    (λ i b stands. All-append (λ (name : ℕ). name < count) (map (λ (phi : Phi). phi.into) b.phis) (flat_map results_of b.insts)
     (all_map (λ (name : ℕ). name < count) (λ (phi : Phi). phi.into) b.phis (λ j phi its. let least = number_of_part f (part.Phi i j) phi.into numbered (b, stands, phi, its, refl) in omega (arith, least, same)))
-    (all_map (λ (name : ℕ). name < count) result_of b.insts (λ j inst its. let least = number_of_part f (part.Inst i j) (result_of inst) numbered (b, stands, inst, its, refl) in omega (arith, least, same)))))
+    (λ k d below.
+    let w = assigned_of b.insts (get_or (flat_map results_of b.insts) k d) (Contains-get_or (flat_map results_of b.insts) k d below) in
+    let least = number_of_part f (part.Inst i w.0) (get_or (flat_map results_of b.insts) k d) numbered (b, stands, w.1, w.2, w.3) in omega (arith, least, same))))
 
 pub lists_alike : (f : Function) (ss as' : List (List ℕ)) → ss ≡ successors f → as' ≡ assigns f → length ss ≡ length as'
 lists_alike f ss as' is is' =

@@ -1,8 +1,9 @@
 //! What each block of a function assigns.
 
-ghost use Rattle.std.specs.Prelude.{◌≡◌, ◌++◌, map, IfOk, OnOk};
+ghost use Rattle.std.specs.Prelude.{◌≡◌, ◌∷◌, ◌++◌, [], map, IfOk, OnOk, MatchOption};
+ghost use Rattle.std.specs.List.{flat_map};
 ghost use Rattle.ir_tree.specs.declared.tree.Phi.{Phi};
-ghost use Rattle.ir_tree.specs.Flow.{assigned_with, assigns, result_of};
+ghost use Rattle.ir_tree.specs.Flow.{assigned_with, assigns, results_of};
 
 use ir_tree::{Block, Function, Inst, Phi};
 use std::alloc::Global;
@@ -38,22 +39,29 @@ fn push_phis(names: &mut Sequence<usize>, phis: &[Phi]) -> Result<(), NoMemory>
 }
 
 fn push_results(names: &mut Sequence<usize>, insts: &[Inst]) -> Result<(), NoMemory>
-    ensures { OnOk result (names.new ≡ names.old ++ map result_of insts.now) }
+    ensures { OnOk result (names.new ≡ names.old ++ flat_map results_of insts.now) }
 {
     for inst in insts {
-        names.push(result_of(*inst))?;
+        if let Some(into) = result_of(inst) {
+            names.push(into)?;
+        }
     }
     Ok(())
 }
 
-fn result_of(inst: Inst) -> usize
-    ensures { result ≡ result_of inst }
+// The name that an instruction assigns; a store assigns none.
+fn result_of(inst: &Inst) -> Option<usize>
+    ensures { MatchOption result (results_of inst.now ≡ []) (λ into. results_of inst.now ≡ into ∷ []) }
 {
     match inst {
-        Inst::Binary { into, .. } => into,
-        Inst::Icmp { into, .. } => into,
-        Inst::Cast { into, .. } => into,
-        Inst::Select { into, .. } => into,
-        Inst::Freeze { into, .. } => into,
+        Inst::Binary { into, .. } => Some(*into),
+        Inst::Icmp { into, .. } => Some(*into),
+        Inst::Cast { into, .. } => Some(*into),
+        Inst::Select { into, .. } => Some(*into),
+        Inst::Freeze { into, .. } => Some(*into),
+        Inst::Alloca { into, .. } => Some(*into),
+        Inst::Load { into, .. } => Some(*into),
+        Inst::Store { .. } => None,
+        Inst::GetElementPtr { into, .. } => Some(*into),
     }
 }

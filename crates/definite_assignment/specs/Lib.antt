@@ -1,3 +1,2 @@
-pub mod Paths
 pub mod Sets
 pub mod Work

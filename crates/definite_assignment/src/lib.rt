@@ -3,13 +3,13 @@
 //! It promises that [`assigned_before`] keeps a name for a block exactly where each path to the block
 //! assigns the name in a block that it leaves, and that else some path doesn't: the ground for "a
 //! definition must dominate its uses" (LLVM Language Reference, "Well-Formedness"), where several blocks
-//! may assign. It knows blocks and names as numbers alone. It stands on `support`; `assigned_names`,
-//! which checks the uses of a function, stands on it.
+//! may assign. It knows blocks and names as numbers alone. It stands on `block_paths` and `support`;
+//! `assigned_names`, which checks the uses of a function, stands on it.
 #![tactic(auto)]
 
 ghost use Rattle.std.specs.Prelude.{◌≡◌, ◌<◌, ◌↔◌, ℕ, List, false, length, IfOk, IsTrue};
 ghost use Rattle.std.specs.List.{All};
-ghost use Rattle.definite_assignment.specs.Paths.{IsAssignedBefore, IsUnassignedBefore};
+ghost use Rattle.block_paths.specs.Paths.{IsAssignedBefore, IsUnassignedBefore};
 ghost use Rattle.definite_assignment.specs.Sets.{AreRoomy, has};
 
 mod name_set;

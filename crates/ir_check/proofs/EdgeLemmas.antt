@@ -10,7 +10,7 @@ use Rattle.std.proofs.lemmas.Option.{slice_get_read, slice_get_within, get_or_fr
 use Rattle.ir_tree.specs.declared.tree.IrType.{IrType}
 use Rattle.ir_tree.specs.declared.tree.IrType.TheVariants.{Int, Ptr}
 use Rattle.ir_tree.specs.declared.tree.Operand.{Operand}
-use Rattle.ir_tree.specs.declared.tree.Operand.TheVariants.{Local, Number, Poison, Undef}
+use Rattle.ir_tree.specs.declared.tree.Operand.TheVariants.{Local, Number, Null, Poison, Undef}
 use Rattle.ir_tree.specs.declared.tree.PhiEntry.{PhiEntry}
 use Rattle.ir_tree.specs.declared.tree.Phi.{Phi}
 use Rattle.ir_tree.specs.WellFormed.{is_same_operand, HasTwoOperands}
@@ -31,47 +31,68 @@ one a = grind (arith, nat_tests)
 pub alike : (type : IrType) (a b : Operand) → is_same_operand type a b ≡ true → (c : Operand) → is_same_operand type b c ≡ is_same_operand type a c
 alike (Int width) (Local a) (Local b) e c = ap (λ (n : ℕ). is_same_operand (Int width) (Local n) c) (sym (equal a b e))
 alike (Int width) (Local a) (Number b) e c = absurd (both_ways _ refl e)
+alike (Int width) (Local a) Null e c = absurd (both_ways _ refl e)
 alike (Int width) (Local a) Poison e c = absurd (both_ways _ refl e)
 alike (Int width) (Local a) Undef e c = absurd (both_ways _ refl e)
 alike (Int width) (Number a) (Local b) e c = absurd (both_ways _ refl e)
 alike (Int width) (Number a) (Number b) e (Local c) = refl
 alike (Int width) (Number a) (Number b) e (Number c) = ap (λ (n : ℕ). n == (c % 2 ^ width.bits)) (sym (equal (a % 2 ^ width.bits) (b % 2 ^ width.bits) e))
+alike (Int width) (Number a) (Number b) e Null = refl
 alike (Int width) (Number a) (Number b) e Poison = refl
 alike (Int width) (Number a) (Number b) e Undef = refl
+alike (Int width) (Number a) Null e c = absurd (both_ways _ refl e)
 alike (Int width) (Number a) Poison e c = absurd (both_ways _ refl e)
 alike (Int width) (Number a) Undef e c = absurd (both_ways _ refl e)
+alike (Int width) Null (Local b) e c = absurd (both_ways _ refl e)
+alike (Int width) Null (Number b) e c = absurd (both_ways _ refl e)
+alike (Int width) Null Null e c = refl
+alike (Int width) Null Poison e c = absurd (both_ways _ refl e)
+alike (Int width) Null Undef e c = absurd (both_ways _ refl e)
 alike (Int width) Poison (Local b) e c = absurd (both_ways _ refl e)
 alike (Int width) Poison (Number b) e c = absurd (both_ways _ refl e)
+alike (Int width) Poison Null e c = absurd (both_ways _ refl e)
 alike (Int width) Poison Poison e c = refl
 alike (Int width) Poison Undef e c = absurd (both_ways _ refl e)
 alike (Int width) Undef (Local b) e c = absurd (both_ways _ refl e)
 alike (Int width) Undef (Number b) e c = absurd (both_ways _ refl e)
+alike (Int width) Undef Null e c = absurd (both_ways _ refl e)
 alike (Int width) Undef Poison e c = absurd (both_ways _ refl e)
 alike (Int width) Undef Undef e c = refl
 alike Ptr (Local a) (Local b) e c = ap (λ (n : ℕ). is_same_operand Ptr (Local n) c) (sym (equal a b e))
 alike Ptr (Local a) (Number b) e c = absurd (both_ways _ refl e)
+alike Ptr (Local a) Null e c = absurd (both_ways _ refl e)
 alike Ptr (Local a) Poison e c = absurd (both_ways _ refl e)
 alike Ptr (Local a) Undef e c = absurd (both_ways _ refl e)
 alike Ptr (Number a) (Local b) e c = absurd (both_ways _ refl e)
 alike Ptr (Number a) (Number b) e c = ap (λ (n : ℕ). is_same_operand Ptr (Number n) c) (sym (equal a b e))
+alike Ptr (Number a) Null e c = absurd (both_ways _ refl e)
 alike Ptr (Number a) Poison e c = absurd (both_ways _ refl e)
 alike Ptr (Number a) Undef e c = absurd (both_ways _ refl e)
+alike Ptr Null (Local b) e c = absurd (both_ways _ refl e)
+alike Ptr Null (Number b) e c = absurd (both_ways _ refl e)
+alike Ptr Null Null e c = refl
+alike Ptr Null Poison e c = absurd (both_ways _ refl e)
+alike Ptr Null Undef e c = absurd (both_ways _ refl e)
 alike Ptr Poison (Local b) e c = absurd (both_ways _ refl e)
 alike Ptr Poison (Number b) e c = absurd (both_ways _ refl e)
+alike Ptr Poison Null e c = absurd (both_ways _ refl e)
 alike Ptr Poison Poison e c = refl
 alike Ptr Poison Undef e c = absurd (both_ways _ refl e)
 alike Ptr Undef (Local b) e c = absurd (both_ways _ refl e)
 alike Ptr Undef (Number b) e c = absurd (both_ways _ refl e)
+alike Ptr Undef Null e c = absurd (both_ways _ refl e)
 alike Ptr Undef Poison e c = absurd (both_ways _ refl e)
 alike Ptr Undef Undef e c = refl
 
 pub itself : (type : IrType) (a : Operand) → is_same_operand type a a ≡ true
 itself (Int width) (Local a) = one a
 itself (Int width) (Number a) = one (a % 2 ^ width.bits)
+itself (Int width) Null = refl
 itself (Int width) Poison = refl
 itself (Int width) Undef = refl
 itself Ptr (Local a) = one a
 itself Ptr (Number a) = one a
+itself Ptr Null = refl
 itself Ptr Poison = refl
 itself Ptr Undef = refl
 

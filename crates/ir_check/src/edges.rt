@@ -198,6 +198,7 @@ fn is_same_operand(of_type: IrType, a: Operand, b: Operand) -> bool
     match (a, b) {
         (Operand::Local(a), Operand::Local(b)) => a == b,
         (Operand::Number(a), Operand::Number(b)) => is_same_number(of_type, a, b),
+        (Operand::Null, Operand::Null) => true,
         (Operand::Poison, Operand::Poison) => true,
         (Operand::Undef, Operand::Undef) => true,
         _ => false,

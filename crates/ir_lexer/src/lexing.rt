@@ -11,13 +11,16 @@ use crate::token::Token;
 use std::alloc::{AllocError, AllocFailed, Global};
 use support::Sequence;
 use text_places::Place;
+use thiserror::Error;
 
 /// Why a text has no tokens.
-#[derive(Clone, Copy, Debug, PartialEq, Eq)]
+#[derive(Clone, Copy, Debug, PartialEq, Eq, Error)]
 pub enum LexFault {
     /// No token begins at this place: so many bytes stand before it.
+    #[error("no token begins at byte {at}")]
     NoToken { at: usize, place: Place },
     /// There was no memory for the tokens.
+    #[error("out of memory")]
     NoMemory,
 }
 

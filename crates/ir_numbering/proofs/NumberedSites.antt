@@ -1,5 +1,5 @@
 -- The sites of a function whose names were numbered: each name has its number in the table, and is the one that is written there.
-use Rattle.std.proofs.Common.{◌≡◌, ℕ, ◌+◌, ◌*◌, ◌≤◌, Bool, true, List, [], ◌∷◌, ◌++◌, length, map, Option, Some, None, refl, sym, ap, subst, ◌∙◌, append_assoc, arith}
+use Rattle.std.proofs.Common.{◌≡◌, ℕ, ◌+◌, ◌*◌, ◌≤◌, Bool, true, false, List, [], ◌∷◌, ◌++◌, length, map, Option, Some, None, refl, sym, ap, subst, ◌∙◌, append_assoc, arith}
 use Rattle.std.specs.List.{All, flat_map}
 use Rattle.std.proofs.lemmas.List.{length-append, length-map, append-nil, map-append}
 use Rattle.std.proofs.lemmas.Grind.{flat_map-append}
@@ -202,7 +202,7 @@ inst-part names (line.Select into bit condition if_true if_false) x after e =
     (then-sound C.mid T.mid after (typed_sites true T.value) _ P Q))))
 inst-part names (line.Freeze into value) x after e =
     let V = then-so (value_in (with_name names into.name) value.operand.value) _ x after e in
-    let is : inst.Freeze (number_of names into.name) value.of_type.width V.value ≡ x = cc V.later in
+    let is : inst.Freeze (number_of names into.name) (Int value.of_type.width) V.value ≡ x = cc V.later in
     let end : V.mid ≡ after = cc V.later in
     let before = with_name names into.name in
     subst (λ (y : Inst). IsPart names after (inst_sites y) (mention into ∷ typed_mentions value)) is
@@ -228,7 +228,7 @@ two_mentions at p = nameless at ∷ mention_at at p.name ∷ []
 parameter-part : (at : Place) (names : List Name) (p : NamedParameter) (x : Parameter) (after : List Name) → parameter_in names p ≡ so x after → IsPart names after (parameter_sites x) (two_mentions at p)
 unfolding parameter_in
 parameter-part at names p x after e =
-    let is : (let y : Parameter = record { of_type = Int p.width; no_undef = p.no_undef; name = number_of names p.name } in y) ≡ x = cc e in
+    let is : (let y : Parameter = record { of_type = Int p.width; no_undef = p.no_undef; non_null = false; name = number_of names p.name } in y) ≡ x = cc e in
     let end : with_name names p.name ≡ after = cc e in
     subst (λ (y : Parameter). IsPart names after (parameter_sites y) (two_mentions at p)) is
     (subst (λ (ns : List Name). IsPart names ns (Written true ∷ Defines (Some (Int p.width)) (number_of names p.name) ∷ []) (two_mentions at p)) end

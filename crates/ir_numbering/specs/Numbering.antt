@@ -1,5 +1,5 @@
 -- A function whose names go by number: each name's number is its place in the order in which names are first mentioned, whether it is defined there or not.
-use Rattle.std.specs.Prelude.{ℕ, List, [], ◌∷◌, ◌++◌, map, Bool, Option, Some, None}
+use Rattle.std.specs.Prelude.{ℕ, List, [], ◌∷◌, ◌++◌, map, Bool, false, Option, Some, None}
 use Rattle.tv_num.specs.declared.Width.{Width}
 use Rattle.ir_tree.specs.Names.{with_name, number_of}
 use Rattle.ir_tree.specs.declared.name.Name.{Name}
@@ -98,7 +98,7 @@ select_in names into condition if_true if_false =
     number_in names into >>= λ result before. value_in before condition >>= λ c between. typed_in between if_true >>= λ first behind. typed_in behind if_false >>= λ second after. so (inst.Select result c first second) after
 
 unfoldable pub freeze_in : List Name → Name → Width → WrittenValue → Numbered Inst
-freeze_in names into width value = number_in names into >>= λ result before. value_in before value >>= λ o after. so (inst.Freeze result width o) after
+freeze_in names into width value = number_in names into >>= λ result before. value_in before value >>= λ o after. so (inst.Freeze result (Int width) o) after
 
 abbrev pub inst_in : List Name → WrittenInst → Numbered Inst
 inst_in names (line.Binary into op type left right) = binary_in names into.name op type.width left.value right.value
@@ -112,7 +112,7 @@ returned_in names (Void at) = so (Return None) names
 returned_in names (Value typed) = typed_in names typed >>= λ t after. so (Return (Some t)) after
 
 unfoldable pub parameter_in : List Name → NamedParameter → Numbered Parameter
-parameter_in names p = number_in names p.name >>= λ number after. so (record { of_type = Int p.width; no_undef = p.no_undef; name = number }) after
+parameter_in names p = number_in names p.name >>= λ number after. so (record { of_type = Int p.width; no_undef = p.no_undef; non_null = false; name = number }) after
 
 -- each in turn
 abbrev pub each_in : {A B : Type 0} → (List Name → A → Numbered B) → List Name → List A → Numbered (List B)

@@ -214,7 +214,7 @@ fn freeze(
     let operand = value(names, operand)?;
     Ok(Inst::Freeze {
         into,
-        width,
+        of_type: IrType::Int(width),
         operand,
     })
 }
@@ -272,6 +272,7 @@ fn parameter(names: &mut Names, parameter: NamedParameter) -> Result<Parameter, 
     Ok(Parameter {
         of_type: IrType::Int(width),
         no_undef,
+        non_null: false,
         name,
     })
 }

@@ -6,13 +6,13 @@ use Rattle.std.proofs.lemmas.Bool.{ltb-true}
 use Rattle.std.proofs.lemmas.List.{length-append}
 use Rattle.std.proofs.lemmas.List.Elements.{All-nil, All-cons}
 use Rattle.std.proofs.lemmas.List.Sums.{sum_by-cons, sum_by_push}
-use Rattle.tv_num.specs.declared.Width.{Width}
 use Rattle.ir_lexer.specs.Lexeme.{Lexeme}
 use Rattle.ir_lexer.specs.declared.token.Kind.{Kind}
 use Rattle.ir_lexer.specs.declared.token.Kind.TheVariants as kind
 use Rattle.ir_items.specs.declared.item.Define.{Define}
 use Rattle.ir_items.specs.Names.{name_in}
-use Rattle.ir_tree.specs.Limits.{IsInteger, AreIntegers, instructions_of, cases_in, HasFewCases, HasFewEntries}
+use Rattle.ir_tree.specs.Limits.{instructions_of, cases_in, HasFewCases, HasFewEntries}
+use Rattle.ir_tree.specs.Pointers.{AreIntegers, IsBlockOnIntegers}
 use Rattle.ir_tree.specs.Names.{with_name, number_of}
 use Rattle.ir_tree.specs.declared.module.Entry.{Entry}
 use Rattle.ir_tree.specs.declared.module.Refused.{Refused}
@@ -53,12 +53,13 @@ use Rattle.ir_grammar.specs.Classes.{any}
 use Rattle.ir_grammar.specs.Spelling.{named_at, label_line, is_record, line_start}
 use Rattle.ir_grammar.specs.Instructions.{inst_line, phi, line_by, line_named, entry_or_attachment, next_entry, phi_number}
 use Rattle.ir_grammar.specs.Grammar.{follows_parameter, parameter_begins, with_part, parameter_parts, first_parameter, parameters, is_comma, is_local_kind, starts_line, line_begins, line_within, started, line_comma, with_comma, whole_line, with_line, next_line, lines, is_type, case_begins, case_within, with_case, cases, branch, branch_to, cond_branch, switch, return_of, terminator_by, block, body_of, entry_block, begins_block, block_begins, next_block, blocks, define}
-use Rattle.ir_numbering.specs.Numbering.{Numbered, so, each_in, parameter_in, inst_in, value_in, typed_in, entry_in, phi_in, case_in, branch_in, cond_branch_in, switch_in, terminator_in, block_in, labelled_in, blocks_in, parts_in, returned_in, function_of, named_behind, entry_name, type_or_void, numbered}
+use Rattle.ir_numbering.specs.Numbering.{Numbered, so, each_in, parameter_in, inst_in, value_in, typed_in, entry_in, phi_in, case_in, branch_in, cond_branch_in, switch_in, terminator_in, block_in, labelled_in, blocks_in, parts_in, returned_in, function_of, named_behind, entry_name, numbered}
 use Rattle.ir_reader.specs.Functions.{IsFunction, well_formed, tested, unfit, past}
 use Rattle.ir_reader.specs.Module.{AreEntries, tokens_of}
 use Rattle.ir_tree.specs.WellFormed.{IsWellFormed}
-use Rattle.ir_reader.specs.Judgeable.{IsIntegerOrVoid, IsJudgeable, IsJudgeableEntry}
+use Rattle.ir_reader.specs.Judgeable.{IsJudgeable, IsJudgeableEntry}
 use Rattle.ir_numbering.proofs.NumberedSites.{then-so, named-count, block_with}
+use Rattle.ir_reader.proofs.Integers.{parameters-integer, integer-or-void, block-integers, block-small}
 
 and-first : (a b : Bool) → (a && b) ≡ true → a ≡ true
 and-first true b e = refl
@@ -294,24 +295,6 @@ each-length {A} {B} one (a ∷ more_items) names bs after e =
     let is : F.value ∷ M.value ≡ bs = cc M.later in
     ap length (sym is) ∙ omega (arith, each-length one more_items F.mid M.value M.mid M.first)
 
-parameter-integer : (names : List Name) (p : NamedParameter) (x : Parameter) (after : List Name) → parameter_in names p ≡ so x after → IsInteger x.of_type
-unfolding parameter_in
-parameter-integer names p x after e =
-    let one : (let y : Parameter = record { of_type = Int p.width; no_undef = p.no_undef; name = number_of names p.name } in y) ≡ x = cc e in
-    subst (λ (y : Parameter). IsInteger y.of_type) one tt
-
-each-integer : (items : List NamedParameter) (names : List Name) (bs : List Parameter) (after : List Name) → each_in parameter_in names items ≡ so bs after → AreIntegers bs
-each-integer [] names bs after e = let is : [] ≡ bs = cc e in subst AreIntegers is tt
-each-integer (a ∷ more_items) names bs after e =
-    let F = then-so (parameter_in names a) _ bs after e in
-    let M = then-so (each_in parameter_in F.mid more_items) _ bs after F.later in
-    let is : F.value ∷ M.value ≡ bs = cc M.later in
-    subst AreIntegers is (parameter-integer names a F.value F.mid F.first, each-integer more_items F.mid M.value M.mid M.first)
-
-integer-or-void : (width : Option Width) → IsIntegerOrVoid (type_or_void width)
-integer-or-void None = tt
-integer-or-void (Some width) = tt
-
 phi-few : (names : List Name) (w : WrittenPhi) (x : Phi) (after : List Name) → phi_in names w ≡ so x after → FewEntries w → length x.entries ≤ 16777216
 unfolding phi_in
 phi-few names w x after e few =
@@ -353,6 +336,7 @@ record IsMade (w : WrittenBody) (x : Block) : Type 0 where
   counted : instructions_of x ≡ count_of w
   cases : HasFewCases x
   entries : HasFewEntries x
+  integers : IsBlockOnIntegers x
 
 block-made : (names : List Name) (label : Name) (w : WrittenBody) (x : Block) (after : List Name) → block_in names label w ≡ so x after → FewBody w → IsMade w x
 unfolding block_in
@@ -365,21 +349,28 @@ block-made names label w x after e few =
     let phis : length P.value ≡ length w.phis = each-length phi_in w.phis before P.value P.mid P.first in
     let insts : length I.value ≡ length w.insts = each-length inst_in w.insts P.mid I.value I.mid I.first in
     let cases : cases_in T.value ≡ written_cases w.terminator = terminator-cases I.mid w.terminator T.value T.mid T.first in
-    subst (λ (y : Block). IsMade w y) is (record { counted = omega (arith, phis, insts); cases = omega (arith, cases, few.cases); entries = phis-few w.phis before P.value P.mid P.first few.entries })
+    subst (λ (y : Block). IsMade w y) is (record {
+      counted = omega (arith, phis, insts);
+      cases = omega (arith, cases, few.cases);
+      entries = phis-few w.phis before P.value P.mid P.first few.entries;
+      integers = subst IsBlockOnIntegers (sym is) (block-integers names label w x after e);
+    })
 
 record AreMade (counted : ℕ) (bs : List Block) : Type 0 where
   count : sum_by instructions_of bs ≡ counted
   cases : All HasFewCases bs
   entries : All HasFewEntries bs
+  integers : All IsBlockOnIntegers bs
 
 none-made : AreMade 0 []
-none-made = record { count = refl; cases = All-nil HasFewCases; entries = All-nil HasFewEntries }
+none-made = record { count = refl; cases = All-nil HasFewCases; entries = All-nil HasFewEntries; integers = All-nil IsBlockOnIntegers }
 
 more-made : (w : WrittenBody) (x : Block) (counted : ℕ) (bs : List Block) → IsMade w x → AreMade counted bs → AreMade (count_of w + counted) (x ∷ bs)
 more-made w x counted bs M Ms = record {
   count = omega (arith, sum_by-cons instructions_of x bs, M.counted, Ms.count);
   cases = All-cons HasFewCases x bs M.cases Ms.cases;
   entries = All-cons HasFewEntries x bs M.entries Ms.entries;
+  integers = All-cons IsBlockOnIntegers x bs M.integers Ms.integers;
 }
 
 others-made : (items : List WrittenBlock) (names : List Name) (bs : List Block) (after : List Name) → each_in labelled_in names items ≡ so bs after → AllByRecursion FewBlock items → AreMade (sum_by block_count items) bs
@@ -419,6 +410,7 @@ judgeable w few formed = go (parts_in named_ones label w.entry w.others) refl fo
         let bs : B.value ≡ parts.1 = ap (λ (p : List Parameter × List Block). p.1) parts-are in
         let F = few.blocks.1 in
         let M = blocks-made P.mid label w.entry w.others B.value B.mid B.first F.first F.later in
+        let integers = subst (λ (ys : List Block). All IsBlockOnIntegers ys) bs M.integers in
         record {
           well_formed = formed;
           limits = record {
@@ -426,9 +418,13 @@ judgeable w few formed = go (parts_in named_ones label w.entry w.others) refl fo
             instructions = omega (arith, F.counted, M.count, ap (λ (ys : List Block). sum_by instructions_of ys) bs);
             cases = subst (λ (ys : List Block). All HasFewCases ys) bs M.cases;
             entries = subst (λ (ys : List Block). All HasFewEntries ys) bs M.entries;
+            objects = λ k d below. block-small _ (integers k d below);
           };
-          parameters = subst AreIntegers ps (each-integer named_ones [] P.value P.mid P.first);
-          returns = integer-or-void w.returns.width;
+          pointers = record {
+            parameters = subst AreIntegers ps (parameters-integer named_ones [] P.value P.mid P.first);
+            returns = integer-or-void w.returns.width;
+            blocks = integers;
+          };
         }
 
 function-judgeable : (tokens : List Lexeme) (a : Result Function Refused) (f : Function) → IsFunction tokens a → a ≡ Ok f → IsJudgeable f

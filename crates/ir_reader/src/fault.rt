@@ -4,16 +4,20 @@ ghost use Rattle.ir_reader.specs.declared.fault.ModuleFault.TheVariants.{NoMemor
 use ir_items::Why;
 use std::alloc::{AllocError, AllocFailed};
 use text_places::Place;
+use thiserror::Error;
 
 /// Why a text gives no module.
-#[derive(Clone, Copy, Debug, PartialEq, Eq)]
+#[derive(Clone, Copy, Debug, PartialEq, Eq, Error)]
 pub enum ModuleFault {
     /// No token begins at this place.
+    #[error("no token begins here")]
     NoToken(Place),
     /// The tokens stop being items one after another at this place: at a token, or behind the last
     /// byte of the text.
+    #[error("{why}")]
     Item { why: Why, place: Place },
     /// There was no memory for the module.
+    #[error("out of memory")]
     NoMemory,
 }
 

@@ -1,15 +1,16 @@
 -- Which names the parts of a function define, and which labels they enter.
-use Rattle.std.proofs.Common.{◌≡◌, ◌⊎◌, ℕ, true, not, ◌==◌, zero, suc, ◌<◌, ◌≤◌, List, [], ◌∷◌, ◌++◌, map, length, get_or, slice_get, Option, Some, None, inl, inr, refl, ap, subst, ◌∙◌, arith, All, Contains}
+use Rattle.std.proofs.Common.{◌≡◌, ◌⊎◌, ℕ, true, not, ◌==◌, zero, suc, ◌+◌, ◌<◌, ◌≤◌, List, [], ◌∷◌, ◌++◌, map, length, get_or, slice_get, Option, Some, None, inl, inr, refl, ap, subst, ◌∙◌, arith, All, Contains}
 use Rattle.std.specs.List.{flat_map, AllByRecursion}
 use Rattle.std.proofs.lemmas.Bool.{cases_lt}
 use Rattle.std.proofs.lemmas.Option.{slice_get-get_or, slice_get_within, get_or_from_slice_get, none-some, same_Some}
 use Rattle.tv_num.specs.declared.Width.{Width}
 use Rattle.ir_tree.specs.declared.tree.IrType.{IrType}
-use Rattle.ir_tree.specs.declared.tree.IrType.TheVariants.{Int}
+use Rattle.ir_tree.specs.declared.tree.IrType.TheVariants.{Int, Ptr}
 use Rattle.ir_tree.specs.declared.tree.Operand.{Operand}
-use Rattle.ir_tree.specs.declared.tree.Operand.TheVariants.{Local, Number, Poison, Undef}
+use Rattle.ir_tree.specs.declared.tree.Operand.TheVariants.{Local, Number, Null, Poison, Undef}
 use Rattle.ir_tree.specs.declared.tree.Inst.{Inst}
 use Rattle.ir_tree.specs.declared.tree.Inst.TheVariants as inst
+use Rattle.ir_tree.specs.declared.tree.GepIndex.{GepIndex}
 use Rattle.ir_tree.specs.declared.tree.PhiEntry.{PhiEntry}
 use Rattle.ir_tree.specs.declared.tree.Phi.{Phi}
 use Rattle.ir_tree.specs.declared.tree.Case.{Case}
@@ -22,9 +23,9 @@ use Rattle.ir_tree.specs.declared.sites.Part.{Part}
 use Rattle.ir_tree.specs.declared.sites.Part.TheVariants as part
 use Rattle.ir_tree.specs.declared.sites.Site.{Site}
 use Rattle.ir_tree.specs.declared.sites.Site.TheVariants.{Defines, Uses, Enters, Written}
-use Rattle.ir_tree.specs.Sites.{sites, parts, steps, has_case, is_same_type, changes_width, typed_sites, operand_site, inst_sites, entry_sites, phi_sites, cases_sites, terminator_sites}
+use Rattle.ir_tree.specs.Sites.{sites, parts, steps, has_case, operand_site, indices_sites, inst_sites, entry_sites, phi_sites, cases_sites, terminator_sites}
 use Rattle.ir_tree.specs.Types.{one_bit}
-use Rattle.ir_tree.specs.Flow.{targets, result_of}
+use Rattle.ir_tree.specs.Flow.{targets, results_of}
 use Rattle.ir_tree.specs.WellFormed.{DefinesAgain, IsLabel}
 use Rattle.ir_tree.specs.Definitions.{DefinesIn}
 use Rattle.ir_tree.proofs.Listing.{list-length}
@@ -85,17 +86,57 @@ first_defines t into rest type name all found = first_at t into rest found.0 typ
 operand_plain : (type : IrType) (operand : Operand) → IsNoDefinition (operand_site type operand)
 operand_plain type (Local name) = tt
 operand_plain type (Number n) = tt
+operand_plain type Null = tt
 operand_plain type Poison = tt
 operand_plain type Undef = tt
 
-inst_defines : (i : Inst) (type : Option IrType) (name : ℕ) → Contains (inst_sites i) (Defines type name) → result_of i ≡ name
-inst_defines (inst.Binary into op width left right) type name found = first_defines _ into (Written true ∷ operand_site (Int width) left ∷ operand_site (Int width) right ∷ []) type name (tt, (operand_plain (Int width) left, (operand_plain (Int width) right, tt))) found
-inst_defines (inst.Icmp into predicate same_sign width left right) type name found = first_defines _ into (Written true ∷ operand_site (Int width) left ∷ operand_site (Int width) right ∷ []) type name (tt, (operand_plain (Int width) left, (operand_plain (Int width) right, tt))) found
-inst_defines (inst.Cast into cast from operand to) type name found = first_defines _ into (Written true ∷ operand_site (Int from) operand ∷ Written (changes_width cast from.bits to.bits) ∷ []) type name (tt, (operand_plain (Int from) operand, (tt, tt))) found
-inst_defines (inst.Select into condition if_true if_false) type name found =
-    first_defines _ into (Written true ∷ operand_site (Int one_bit) condition ∷ (typed_sites true if_true ++ typed_sites (is_same_type if_true.of_type if_false.of_type) if_false)) type name
-    (tt, (operand_plain (Int one_bit) condition, (tt, (operand_plain if_true.of_type if_true.operand, (tt, (operand_plain if_false.of_type if_false.operand, tt)))))) found
-inst_defines (inst.Freeze into width operand) type name found = first_defines _ into (Written true ∷ operand_site (Int width) operand ∷ []) type name (tt, (operand_plain (Int width) operand, tt)) found
+indices_plain : (arrays n : ℕ) (indices : List GepIndex) → AllByRecursion IsNoDefinition (indices_sites arrays n indices)
+indices_plain arrays n [] = tt
+indices_plain arrays n (index ∷ indices) = (tt, (operand_plain (Int index.width) index.operand, (tt, indices_plain arrays (n + 1) indices)))
+
+-- the instruction's sites are its result, and others that define nothing
+record HasResult (i : Inst) : Type 0 where
+  type : IrType
+  into : ℕ
+  others : List Site
+  result : results_of i ≡ into ∷ []
+  all : inst_sites i ≡ Defines (Some type) into ∷ others
+  plain : AllByRecursion IsNoDefinition others
+
+-- it has no result, and none of its sites defines anything
+record HasNoResult (i : Inst) : Type 0 where
+  none : results_of i ≡ []
+  plain : AllByRecursion IsNoDefinition (inst_sites i)
+
+with_result : (i : Inst) (type : IrType) (into : ℕ) (others : List Site) → results_of i ≡ into ∷ [] → inst_sites i ≡ Defines (Some type) into ∷ others → AllByRecursion IsNoDefinition others → HasResult i ⊎ HasNoResult i
+with_result i type into others result all plain = inl (record { type = type; into = into; others = others; result = result; all = all; plain = plain })
+
+results_in : (i : Inst) → HasResult i ⊎ HasNoResult i
+results_in (inst.Binary into op width left right) = with_result _ (Int width) into _ refl refl (tt, (operand_plain (Int width) left, (operand_plain (Int width) right, tt)))
+results_in (inst.Icmp into predicate same_sign width left right) = with_result _ (Int one_bit) into _ refl refl (tt, (operand_plain (Int width) left, (operand_plain (Int width) right, tt)))
+results_in (inst.Cast into cast from operand to) = with_result _ (Int to) into _ refl refl (tt, (operand_plain (Int from) operand, (tt, tt)))
+results_in (inst.Select into condition if_true if_false) =
+    with_result _ if_true.of_type into _ refl refl (tt, (operand_plain (Int one_bit) condition, (tt, (operand_plain if_true.of_type if_true.operand, (tt, (operand_plain if_false.of_type if_false.operand, tt))))))
+results_in (inst.Freeze into type operand) = with_result _ type into _ refl refl (tt, (operand_plain type operand, tt))
+results_in (inst.Alloca into number type align) = with_result _ Ptr into _ refl refl (tt, tt)
+results_in (inst.Load into type pointer align) = with_result _ type into _ refl refl (tt, (tt, (operand_plain Ptr pointer, tt)))
+results_in (inst.Store value pointer align) = inr (record { none = refl; plain = (tt, (operand_plain value.of_type value.operand, (tt, (operand_plain Ptr pointer, tt)))) })
+results_in (inst.GetElementPtr into inbounds nuw type base indices) = with_result _ Ptr into _ refl refl (tt, (tt, (operand_plain Ptr base, indices_plain (length type.lengths) 0 indices)))
+
+-- a list of one name has that name alone
+only : (into name : ℕ) → Contains (into ∷ []) name → into ≡ name
+only into name found = at found.0 found.1 found.2
+  where
+    at : (k : ℕ) → k < 1 → get_or (into ∷ []) k name ≡ name → into ≡ name
+    at zero below e = e
+    at (suc k) below e = absurd (omega (arith, below))
+
+inst_defines : (i : Inst) (type : Option IrType) (name : ℕ) → Contains (inst_sites i) (Defines type name) → Contains (results_of i) name
+inst_defines i type name found = by (results_in i)
+  where
+    by : HasResult i ⊎ HasNoResult i → Contains (results_of i) name
+    by (inl r) = rw r.result (0, omega arith, first_defines (Some r.type) r.into r.others type name r.plain (rw r.all at found))
+    by (inr r) = absurd (none_defines (inst_sites i) found.0 type name r.plain found.1 found.2)
 
 entries_plain : (type : IrType) (entries : List PhiEntry) → AllByRecursion IsNoDefinition (flat_map (entry_sites type) entries)
 entries_plain type [] = tt
@@ -138,12 +179,12 @@ defines_by f (part.End k) type name found = absurd (none_defines (terminator_sit
 pub defines_in : (f : Function) (n : ℕ) (p : Part) (type : Option IrType) (name : ℕ) → slice_get (sites f) n ≡ Some (Defines type name) → slice_get (parts f) n ≡ Some p → DefinesIn f p name
 defines_in f n p type name site its = defines_by f p type name (at_site f n p (Defines type name) site its)
 
-inst_begins : (i : Inst) → (type : Option IrType) × Contains (inst_sites i) (Defines type (result_of i))
-inst_begins (inst.Binary into op width left right) = (Some (Int width), (0, omega arith, refl))
-inst_begins (inst.Icmp into predicate same_sign width left right) = (Some (Int one_bit), (0, omega arith, refl))
-inst_begins (inst.Cast into cast from operand to) = (Some (Int to), (0, omega arith, refl))
-inst_begins (inst.Select into condition if_true if_false) = (Some if_true.of_type, (0, omega arith, refl))
-inst_begins (inst.Freeze into width operand) = (Some (Int width), (0, omega arith, refl))
+inst_begins : (i : Inst) (name : ℕ) → Contains (results_of i) name → (type : Option IrType) × Contains (inst_sites i) (Defines type name)
+inst_begins i name found = by (results_in i)
+  where
+    by : HasResult i ⊎ HasNoResult i → (type : Option IrType) × Contains (inst_sites i) (Defines type name)
+    by (inl r) = (Some r.type, rw r.all (0, omega arith, ap (Defines (Some r.type)) (only r.into name (rw r.result at found))))
+    by (inr r) = absurd (let none : Contains [] name = rw r.none at found in omega (arith, none.1))
 
 -- ---- labels
 
@@ -152,16 +193,11 @@ no_label type into rest zero name all below e = let same : Defines (Some type) i
 no_label type into rest (suc k) name all below e = none_defines rest k None name all (omega (arith, below)) e
 
 inst_no_label : (i : Inst) (name : ℕ) → Contains (inst_sites i) (Defines None name) → ⊥
-inst_no_label (inst.Binary into op width left right) name found =
-    no_label _ into (Written true ∷ operand_site (Int width) left ∷ operand_site (Int width) right ∷ []) found.0 name (tt, (operand_plain (Int width) left, (operand_plain (Int width) right, tt))) found.1 found.2
-inst_no_label (inst.Icmp into predicate same_sign width left right) name found =
-    no_label _ into (Written true ∷ operand_site (Int width) left ∷ operand_site (Int width) right ∷ []) found.0 name (tt, (operand_plain (Int width) left, (operand_plain (Int width) right, tt))) found.1 found.2
-inst_no_label (inst.Cast into cast from operand to) name found =
-    no_label _ into (Written true ∷ operand_site (Int from) operand ∷ Written (changes_width cast from.bits to.bits) ∷ []) found.0 name (tt, (operand_plain (Int from) operand, (tt, tt))) found.1 found.2
-inst_no_label (inst.Select into condition if_true if_false) name found =
-    no_label _ into (Written true ∷ operand_site (Int one_bit) condition ∷ (typed_sites true if_true ++ typed_sites (is_same_type if_true.of_type if_false.of_type) if_false)) found.0 name
-    (tt, (operand_plain (Int one_bit) condition, (tt, (operand_plain if_true.of_type if_true.operand, (tt, (operand_plain if_false.of_type if_false.operand, tt)))))) found.1 found.2
-inst_no_label (inst.Freeze into width operand) name found = no_label _ into (Written true ∷ operand_site (Int width) operand ∷ []) found.0 name (tt, (operand_plain (Int width) operand, tt)) found.1 found.2
+inst_no_label i name found = by (results_in i)
+  where
+    by : HasResult i ⊎ HasNoResult i → ⊥
+    by (inl r) = let those : Contains (Defines (Some r.type) r.into ∷ r.others) (Defines None name) = rw r.all at found in no_label r.type r.into r.others those.0 name r.plain those.1 those.2
+    by (inr r) = none_defines (inst_sites i) found.0 None name r.plain found.1 found.2
 
 parameter_no_label : (p : Parameter) (name k : ℕ) → k < 2 → get_or (Written true ∷ Defines (Some p.of_type) p.name ∷ []) k (Defines None name) ≡ Defines None name → ⊥
 parameter_no_label p name zero below e = let same : Written true ≡ Defines None name = e in cc
@@ -206,10 +242,10 @@ defined_at f part.Parameter name found =
 defined_at f (part.Label k) name found = defined f (part.Label k) None found.0.label name found.2 (label_site f k found.0 (Defines None found.0.label) found.1 (0, omega arith, refl))
 defined_at f (part.Phi k j) name found =
     defined f (part.Phi k j) (Some found.2.of_type) found.2.into name found.4 (phi_site f k found.0 j found.2 (Defines (Some found.2.of_type) found.2.into) found.1 found.3 (0, omega arith, refl))
-defined_at f (part.Inst k j) name found = with_type (inst_begins found.2)
+defined_at f (part.Inst k j) name found = with_type (inst_begins found.2 name found.4)
   where
-    with_type : (type : Option IrType) × Contains (inst_sites found.2) (Defines type (result_of found.2)) → DefinedAt f (part.Inst k j) name
-    with_type w = defined f (part.Inst k j) w.0 (result_of found.2) name found.4 (inst_site f k found.0 j found.2 (Defines w.0 (result_of found.2)) found.1 found.3 w.1)
+    with_type : (type : Option IrType) × Contains (inst_sites found.2) (Defines type name) → DefinedAt f (part.Inst k j) name
+    with_type w = defined f (part.Inst k j) w.0 name name refl (inst_site f k found.0 j found.2 (Defines w.0 name) found.1 found.3 w.1)
 defined_at f (part.End k) name found = absurd found
 
 -- ---- what a block enters

@@ -4,5 +4,6 @@ pub mod Firsts
 pub mod Indexing
 pub mod Listing
 pub mod Refusals
+pub mod Sizes
 pub mod Standing
 pub mod Widths

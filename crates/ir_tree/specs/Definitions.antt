@@ -11,7 +11,7 @@ use Rattle.ir_tree.specs.declared.sites.Part.{Part}
 use Rattle.ir_tree.specs.declared.sites.Part.TheVariants as part
 use Rattle.ir_tree.specs.declared.sites.Site.{Site}
 use Rattle.ir_tree.specs.declared.sites.Site.TheVariants.{Defines}
-use Rattle.ir_tree.specs.Flow.{result_of}
+use Rattle.ir_tree.specs.Flow.{results_of}
 use Rattle.ir_tree.specs.Sites.{IsNumbered}
 use Rattle.ir_tree.specs.WellFormed.{IsUndefinedBefore}
 
@@ -39,5 +39,5 @@ DefinesIn f part.Header name = ⊥
 DefinesIn f part.Parameter name = Contains (map (λ (p : Parameter). p.name) f.parameters) name
 DefinesIn f (part.Label k) name = (b : Block) × (slice_get f.blocks k ≡ Some b) × (b.label ≡ name)
 DefinesIn f (part.Phi k j) name = (b : Block) × (slice_get f.blocks k ≡ Some b) × (phi : Phi) × (slice_get b.phis j ≡ Some phi) × (phi.into ≡ name)
-DefinesIn f (part.Inst k j) name = (b : Block) × (slice_get f.blocks k ≡ Some b) × (i : Inst) × (slice_get b.insts j ≡ Some i) × (result_of i ≡ name)
+DefinesIn f (part.Inst k j) name = (b : Block) × (slice_get f.blocks k ≡ Some b) × (i : Inst) × (slice_get b.insts j ≡ Some i) × Contains (results_of i) name
 DefinesIn f (part.End k) name = ⊥

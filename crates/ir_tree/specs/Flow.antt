@@ -1,8 +1,8 @@
 -- Where the blocks of a function lead, and which names they assign. Blocks are numbered from 0 in text order; the first is the entry.
 use Rattle.std.specs.Prelude.{◌≡◌, ℕ, List, [], ◌∷◌, ◌++◌, map, ◌==◌}
-use Rattle.std.specs.List.{Contains, position_or_len}
+use Rattle.std.specs.List.{Contains, flat_map, position_or_len}
 use Rattle.ir_tree.specs.declared.tree.Inst.{Inst}
-use Rattle.ir_tree.specs.declared.tree.Inst.TheVariants.{Binary, Icmp, Cast, Select, Freeze}
+use Rattle.ir_tree.specs.declared.tree.Inst.TheVariants.{Binary, Icmp, Cast, Select, Freeze, Alloca, Load, Store, GetElementPtr}
 use Rattle.ir_tree.specs.declared.tree.Phi.{Phi}
 use Rattle.ir_tree.specs.declared.tree.Case.{Case}
 use Rattle.ir_tree.specs.declared.tree.Terminator.{Terminator}
@@ -40,16 +40,21 @@ successors f = map (λ (b : Block). map (block_of f) (targets b.terminator)) f.b
 
 -- ---- what a block assigns
 
-abbrev pub result_of : Inst → ℕ
-result_of (Binary into op width left right) = into
-result_of (Icmp into predicate same_sign width left right) = into
-result_of (Cast into cast from operand to) = into
-result_of (Select into condition if_true if_false) = into
-result_of (Freeze into width operand) = into
+-- the names that an instruction assigns: a store has no result, and any other one
+abbrev pub results_of : Inst → List ℕ
+results_of (Binary into op width left right) = into ∷ []
+results_of (Icmp into predicate same_sign width left right) = into ∷ []
+results_of (Cast into cast from operand to) = into ∷ []
+results_of (Select into condition if_true if_false) = into ∷ []
+results_of (Freeze into type operand) = into ∷ []
+results_of (Alloca into number type align) = into ∷ []
+results_of (Load into type pointer align) = into ∷ []
+results_of (Store value pointer align) = []
+results_of (GetElementPtr into inbounds nuw type base indices) = into ∷ []
 
 -- by its phis and these of its instructions
 abbrev pub assigned_with : Block → List Inst → List ℕ
-assigned_with b insts = map (λ (phi : Phi). phi.into) b.phis ++ map result_of insts
+assigned_with b insts = map (λ (phi : Phi). phi.into) b.phis ++ flat_map results_of insts
 
 -- for each block the names that it assigns
 abbrev pub assigns : Function → List (List ℕ)

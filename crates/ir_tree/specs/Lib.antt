@@ -1,6 +1,7 @@
 pub mod Names
 pub mod Types
 pub mod Limits
+pub mod Pointers
 pub mod Flow
 pub mod BlockIndexes
 pub mod Sites

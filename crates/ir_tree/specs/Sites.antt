@@ -1,5 +1,5 @@
 -- The sites of a function: the types, names, literals and labels of its text that a refusal may be about, in text order.
-use Rattle.std.specs.Prelude.{ℕ, ◌+◌, ◌%◌, ◌^◌, ◌<◌, List, [], ◌∷◌, ◌++◌, map, length, All, Bool, true, false, not, ◌==◌, nat_lt, Option, Some, None, slice_index_or}
+use Rattle.std.specs.Prelude.{ℕ, ◌+◌, ◌%◌, ◌^◌, ◌<◌, List, [], ◌∷◌, ◌++◌, map, length, All, Bool, true, false, not, ◌==◌, nat_lt, nat_le, Option, Some, None, slice_index_or}
 use Rattle.std.specs.List.{flat_map, list_any}
 use Rattle.tv_num.specs.declared.Width.{Width}
 use Rattle.text_places.specs.declared.place.Place.{Place}
@@ -12,6 +12,7 @@ use Rattle.ir_tree.specs.declared.tree.Cast.TheVariants.{Truncate, ZeroExtend, S
 use Rattle.ir_tree.specs.declared.tree.Inst.{Inst}
 use Rattle.ir_tree.specs.declared.tree.Inst.TheVariants as inst
 use Rattle.ir_tree.specs.declared.tree.TypedOperand.{TypedOperand}
+use Rattle.ir_tree.specs.declared.tree.GepIndex.{GepIndex}
 use Rattle.ir_tree.specs.declared.tree.PhiEntry.{PhiEntry}
 use Rattle.ir_tree.specs.declared.tree.Phi.{Phi}
 use Rattle.ir_tree.specs.declared.tree.Case.{Case}
@@ -46,6 +47,15 @@ operand_site type _ = Written true
 abbrev pub typed_sites : Bool → TypedOperand → List Site
 typed_sites fits t = Written fits ∷ operand_site t.of_type t.operand ∷ []
 
+-- the type of an index, its operand, and whether the operand may stand there: the first index counts objects, and each further one goes into an array
+abbrev pub index_sites : Bool → GepIndex → List Site
+index_sites enters index = Written true ∷ operand_site (Int index.width) index.operand ∷ Written enters ∷ []
+
+-- indices into so many nested arrays, the first of them with this number
+abbrev pub indices_sites : ℕ → ℕ → List GepIndex → List Site
+indices_sites arrays n [] = []
+indices_sites arrays n (index ∷ indices) = index_sites (nat_le n arrays) index ++ indices_sites arrays (n + 1) indices
+
 -- the result, and then types and operands as they are written
 abbrev pub inst_sites : Inst → List Site
 inst_sites (inst.Binary into op width left right) =
@@ -56,8 +66,16 @@ inst_sites (inst.Cast into cast from operand to) =
     Defines (Some (Int to)) into ∷ Written true ∷ operand_site (Int from) operand ∷ Written (changes_width cast from.bits to.bits) ∷ []
 inst_sites (inst.Select into condition if_true if_false) =
     Defines (Some if_true.of_type) into ∷ Written true ∷ operand_site (Int one_bit) condition ∷ (typed_sites true if_true ++ typed_sites (is_same_type if_true.of_type if_false.of_type) if_false)
-inst_sites (inst.Freeze into width operand) =
-    Defines (Some (Int width)) into ∷ Written true ∷ operand_site (Int width) operand ∷ []
+inst_sites (inst.Freeze into type operand) =
+    Defines (Some type) into ∷ Written true ∷ operand_site type operand ∷ []
+inst_sites (inst.Alloca into number type align) =
+    Defines (Some Ptr) into ∷ Written true ∷ []
+inst_sites (inst.Load into type pointer align) =
+    Defines (Some type) into ∷ Written true ∷ Written true ∷ operand_site Ptr pointer ∷ []
+inst_sites (inst.Store value pointer align) =
+    typed_sites true value ++ Written true ∷ operand_site Ptr pointer ∷ []
+inst_sites (inst.GetElementPtr into inbounds nuw type base indices) =
+    Defines (Some Ptr) into ∷ Written true ∷ Written true ∷ operand_site Ptr base ∷ indices_sites (length type.lengths) 0 indices
 
 -- an operand, and the block that it comes from
 abbrev pub entry_sites : IrType → PhiEntry → List Site

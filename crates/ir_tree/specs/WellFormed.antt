@@ -1,7 +1,7 @@
 -- What is asked of a function beside its spelling, each with the sites at which it fails. A reason is told at the first of its sites, and only where no reason before it has one.
 use Rattle.std.specs.Prelude.{◌≡◌, ◌+◌, ◌<◌, ◌≤◌, ◌⊎◌, ◌↔◌, ◌==◌, ℕ, Bool, true, false, List, map, take, slice_get, Option, Some, None}
 use Rattle.std.specs.List.{Contains}
-use Rattle.definite_assignment.specs.Paths.{IsPathTo, IsAssignedIn}
+use Rattle.block_paths.specs.Paths.{IsPathTo, IsAssignedIn}
 use Rattle.ir_tree.specs.declared.tree.IrType.{IrType}
 use Rattle.ir_tree.specs.declared.tree.IrType.TheVariants as type
 use Rattle.ir_tree.specs.declared.tree.Operand.{Operand}
@@ -86,6 +86,7 @@ abbrev pub is_same_operand : IrType → Operand → Operand → Bool
 is_same_operand of_type (operand.Local a) (operand.Local b) = a == b
 is_same_operand (type.Int width) (operand.Number a) (operand.Number b) = same_number width.bits a b
 is_same_operand type.Ptr (operand.Number a) (operand.Number b) = a == b
+is_same_operand of_type operand.Null operand.Null = true
 is_same_operand of_type operand.Poison operand.Poison = true
 is_same_operand of_type operand.Undef operand.Undef = true
 is_same_operand _ _ _ = false

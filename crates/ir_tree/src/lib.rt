@@ -3,7 +3,7 @@
 //! It promises plain data: two functions with the same parts are equal. Limits of a function are
 //! stated here, with their test, and what is asked of a function beside its spelling
 //! (`specs/WellFormed.antt`), with the list of what it is asked of: the function's sites
-//! (`sites_of`), and where its blocks lead (`targets_of`, `successors`). It stands on `definite_assignment`,
+//! (`sites_of`), and where its blocks lead (`targets_of`, `successors`). It stands on `block_paths`,
 //! `tv_num` and `text_places`; the reader makes trees, `ir_check` and `assigned_names` test them, and
 //! whatever runs or prints a function takes them.
 #![tactic(auto)]
@@ -21,12 +21,12 @@ mod tree;
 pub use definitions::{are_numbered, first_definitions, is_defined_before};
 pub use flow::{BlockIndex, successors, targets_of};
 pub use laws::is_one_refusal;
-pub use limits::is_within_limits;
+pub use limits::{indexed_size, is_within_limits, type_size};
 pub use module::{CheckFault, Entry, Module, Reason, Refused};
 pub use name::Name;
 pub use names::Names;
 pub use sites::{Part, Site, SiteList, is_same_type, one_bit, refusal_at, sites_of};
 pub use tree::{
-    Block, Case, Cast, Flags, Function, Inst, IrType, Op, Operand, Parameter, Phi, PhiEntry,
-    Predicate, Terminator, TypedOperand,
+    Block, Case, Cast, Flags, Function, GepIndex, Inst, IrType, MemoryType, Op, Operand, Parameter,
+    Phi, PhiEntry, Predicate, Terminator, TypedOperand,
 };

@@ -5,30 +5,40 @@ use crate::name::Name;
 use crate::tree::Function;
 use std::alloc::AllocError;
 use support::Sequence;
+use thiserror::Error;
 
 /// Why a function is not judged, in the order in which the reasons are tested.
-#[derive(Clone, Copy, Debug, PartialEq, Eq)]
+#[derive(Clone, Copy, Debug, PartialEq, Eq, Error)]
 pub enum Reason {
     /// A token that can't stand where it stands.
+    #[error("a token that cannot stand here")]
     Syntax,
     /// A form of the language that the program doesn't read.
+    #[error("a form of the language that is not read")]
     Unsupported,
     /// A quantity that is past its limit.
+    #[error("a limit is passed")]
     Limit,
     /// A name that is defined twice.
+    #[error("a name is defined twice")]
     NameTwice,
     /// A name that is not defined, or not as it is used.
+    #[error("a name is not defined, or not as it is used")]
     NameUnknown,
     /// A type that isn't the one that must stand there.
+    #[error("a type that is not the one that must stand here")]
     TypeClash,
     /// A phi whose blocks aren't its predecessors, or a jump to the entry.
+    #[error("the blocks of a phi are not its block's predecessors, or a jump leads to the entry")]
     PhiEdges,
     /// A use that some path reaches without a definition.
+    #[error("some path reaches a use before the definition")]
     Unassigned,
 }
 
 /// A refusal, with the line and the column, both from 1, of what it is about.
-#[derive(Clone, Copy, Debug, PartialEq, Eq)]
+#[derive(Clone, Copy, Debug, PartialEq, Eq, Error)]
+#[error("{line}:{column}: {reason}")]
 pub struct Refused {
     pub reason: Reason,
     pub line: u64,
@@ -36,11 +46,13 @@ pub struct Refused {
 }
 
 /// Why a check of a function didn't pass it.
-#[derive(Clone, Copy, Debug, PartialEq, Eq)]
+#[derive(Clone, Copy, Debug, PartialEq, Eq, Error)]
 pub enum CheckFault {
     /// The function is refused.
+    #[error("{0}")]
     Refused(Refused),
     /// There was no memory for the check, and nothing is said of the function.
+    #[error("out of memory")]
     NoMemory,
 }
 

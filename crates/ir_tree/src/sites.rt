@@ -1,14 +1,14 @@
-ghost use Rattle.std.specs.Prelude.{◌≡◌, ◌∷◌, [], length, true, slice_index_or, OnOk, IfOk};
+ghost use Rattle.std.specs.Prelude.{◌≡◌, ◌∷◌, [], length, true, Some, slice_index_or, OnOk, IfOk};
 ghost use Rattle.std.specs.List.{flat_map};
-ghost use Rattle.ir_tree.specs.Sites.{sites, parts, operand_site, is_same_type, same_number, changes_width, inst_sites, entry_sites, phi_sites, has_case, case_sites, cases_sites, terminator_sites, returns_type, parameter_steps, phi_steps, inst_steps, block_steps, blocks_steps, no_place};
+ghost use Rattle.ir_tree.specs.Sites.{sites, parts, operand_site, is_same_type, same_number, changes_width, indices_sites, index_sites, inst_sites, entry_sites, phi_sites, has_case, case_sites, cases_sites, terminator_sites, returns_type, parameter_steps, phi_steps, inst_steps, block_steps, blocks_steps, no_place};
 ghost use Rattle.ir_tree.specs.Types.{one_bit};
 ghost use Rattle.ir_tree.specs.SiteLists.{with_part, with_parts};
 ghost use Rattle.ir_tree.specs.WellFormed.{refusal_at};
 
 use crate::module::{Reason, Refused};
 use crate::tree::{
-    Block, Case, Cast, Function, Inst, IrType, Operand, Parameter, Phi, PhiEntry, Terminator,
-    TypedOperand,
+    Block, Case, Cast, Function, GepIndex, Inst, IrType, Operand, Parameter, Phi, PhiEntry,
+    Terminator, TypedOperand,
 };
 use std::alloc::Global;
 use support::{NoMemory, Sequence};
@@ -106,13 +106,7 @@ impl SiteList {
         for parameter in parameters {
             self.part(
                 Part::Parameter,
-                &[
-                    fitting(),
-                    Site::Defines {
-                        of_type: Some(parameter.of_type),
-                        name: parameter.name,
-                    },
-                ],
+                &[fitting(), defines(parameter.name, parameter.of_type)],
             )?;
         }
         Ok(())
@@ -160,16 +154,7 @@ impl SiteList {
     fn phi(&mut self, part: Part, phi: &Phi) -> Result<(), NoMemory>
         ensures { OnOk result (self.new ≡ with_part self.old part (phi_sites phi.now)) }
     {
-        self.part(
-            part,
-            &[
-                Site::Defines {
-                    of_type: Some(phi.of_type),
-                    name: phi.into,
-                },
-                fitting(),
-            ],
-        )?;
+        self.part(part, &[defines(phi.into, phi.of_type), fitting()])?;
         self.entries(part, phi.of_type, phi.entries.as_slice())?;
         Ok(())
     }
@@ -198,22 +183,14 @@ impl SiteList {
     fn inst(&mut self, part: Part, inst: &Inst) -> Result<(), NoMemory>
         ensures { OnOk result (self.new ≡ with_part self.old part (inst_sites inst.now)) }
     {
-        match *inst {
+        match inst {
             Inst::Binary {
                 into,
                 op: _,
                 width,
                 left,
                 right,
-            } => self.part(
-                part,
-                &[
-                    integer(into, width),
-                    fitting(),
-                    operand_site(IrType::Int(width), left),
-                    operand_site(IrType::Int(width), right),
-                ],
-            ),
+            } => self.on_two(part, integer(*into, *width), *width, *left, *right),
             Inst::Icmp {
                 into,
                 predicate: _,
@@ -221,15 +198,7 @@ impl SiteList {
                 width,
                 left,
                 right,
-            } => self.part(
-                part,
-                &[
-                    integer(into, one_bit()),
-                    fitting(),
-                    operand_site(IrType::Int(width), left),
-                    operand_site(IrType::Int(width), right),
-                ],
-            ),
+            } => self.on_two(part, integer(*into, one_bit()), *width, *left, *right),
             Inst::Cast {
                 into,
                 cast,
@@ -239,12 +208,10 @@ impl SiteList {
             } => self.part(
                 part,
                 &[
-                    integer(into, to),
+                    integer(*into, *to),
                     fitting(),
-                    operand_site(IrType::Int(from), operand),
-                    Site::Written {
-                        fits: changes_width(cast, from, to),
-                    },
+                    operand_site(IrType::Int(*from), *operand),
+                    written(changes_width(*cast, *from, *to)),
                 ],
             ),
             Inst::Select {
@@ -252,20 +219,125 @@ impl SiteList {
                 condition,
                 if_true,
                 if_false,
-            } => self.select(part, into, condition, if_true, if_false),
+            } => self.select(part, *into, *condition, *if_true, *if_false),
             Inst::Freeze {
                 into,
-                width,
+                of_type,
                 operand,
             } => self.part(
                 part,
                 &[
-                    integer(into, width),
+                    defines(*into, *of_type),
                     fitting(),
-                    operand_site(IrType::Int(width), operand),
+                    operand_site(*of_type, *operand),
                 ],
             ),
+            Inst::Alloca { into, .. } => {
+                self.part(part, &[defines(*into, IrType::Ptr), fitting()])
+            }
+            Inst::Load {
+                into,
+                of_type,
+                pointer,
+                align: _,
+            } => self.part(
+                part,
+                &[
+                    defines(*into, *of_type),
+                    fitting(),
+                    fitting(),
+                    operand_site(IrType::Ptr, *pointer),
+                ],
+            ),
+            Inst::Store {
+                value,
+                pointer,
+                align: _,
+            } => self.part(
+                part,
+                &[
+                    fitting(),
+                    operand_site(value.of_type, value.operand),
+                    fitting(),
+                    operand_site(IrType::Ptr, *pointer),
+                ],
+            ),
+            Inst::GetElementPtr {
+                into,
+                inbounds: _,
+                nuw: _,
+                of_type,
+                base,
+                indices,
+            } => self.address(
+                part,
+                *into,
+                *base,
+                of_type.lengths.len(),
+                indices.as_slice(),
+            ),
         }
+    }
+
+    // A result, the type of two operands, and the operands.
+    fn on_two(
+        &mut self,
+        part: Part,
+        result_site: Site,
+        width: Width,
+        left: Operand,
+        right: Operand,
+    ) -> Result<(), NoMemory>
+        ensures { OnOk result (self.new ≡ with_part self.old part (result_site ∷ Site.Written true ∷ operand_site (IrType.Int width) left ∷ operand_site (IrType.Int width) right ∷ [])) }
+    {
+        self.part(
+            part,
+            &[
+                result_site,
+                fitting(),
+                operand_site(IrType::Int(width), left),
+                operand_site(IrType::Int(width), right),
+            ],
+        )
+    }
+
+    fn address(
+        &mut self,
+        part: Part,
+        into: usize,
+        base: Operand,
+        arrays: usize,
+        indices: &[GepIndex],
+    ) -> Result<(), NoMemory>
+        ensures { OnOk result (self.new ≡ with_part self.old part (Site.Defines (Some IrType.Ptr) into ∷ Site.Written true ∷ Site.Written true ∷ operand_site IrType.Ptr base ∷ indices_sites arrays 0 indices.now)) }
+    {
+        self.part(
+            part,
+            &[
+                defines(into, IrType::Ptr),
+                fitting(),
+                fitting(),
+                operand_site(IrType::Ptr, base),
+            ],
+        )?;
+        self.indices(part, arrays, indices)?;
+        Ok(())
+    }
+
+    fn indices(&mut self, part: Part, arrays: usize, indices: &[GepIndex]) -> Result<(), NoMemory>
+        ensures { OnOk result (self.new ≡ with_part self.old part (indices_sites arrays 0 indices.now)) }
+    {
+        for (n, index) in indices.iter().enumerate() {
+            self.part(
+                part,
+                &[
+                    fitting(),
+                    operand_site(IrType::Int(index.width), index.operand),
+                    written(n <= arrays),
+                ],
+            )?;
+        }
+        Ok(())
     }
 
     fn select(
@@ -281,17 +353,12 @@ impl SiteList {
         self.part(
             part,
             &[
-                Site::Defines {
-                    of_type: Some(if_true.of_type),
-                    name: into,
-                },
+                defines(into, if_true.of_type),
                 fitting(),
                 operand_site(IrType::Int(one_bit()), condition),
                 fitting(),
                 operand_site(if_true.of_type, if_true.operand),
-                Site::Written {
-                    fits: is_same_type(if_true.of_type, if_false.of_type),
-                },
+                written(is_same_type(if_true.of_type, if_false.of_type)),
                 operand_site(if_false.of_type, if_false.operand),
             ],
         )
@@ -343,18 +410,11 @@ impl SiteList {
             Some(returned) => self.part(
                 part,
                 &[
-                    Site::Written {
-                        fits: returns_type(returns, returned.of_type),
-                    },
+                    written(returns_type(returns, returned.of_type)),
                     operand_site(returned.of_type, returned.operand),
                 ],
             ),
-            None => self.part(
-                part,
-                &[Site::Written {
-                    fits: returns.is_none(),
-                }],
-            ),
+            None => self.part(part, &[written(returns.is_none())]),
         }
     }
 
@@ -401,12 +461,8 @@ impl SiteList {
         self.part(
             part,
             &[
-                Site::Written {
-                    fits: case.width.bits() == width.bits(),
-                },
-                Site::Written {
-                    fits: !has_case(before, width, case.value),
-                },
+                written(case.width.bits() == width.bits()),
+                written(!has_case(before, width, case.value)),
                 enters(case.to),
             ],
         )
@@ -469,6 +525,12 @@ fn fitting() -> Site
     Site::Written { fits: true }
 }
 
+fn written(fits: bool) -> Site
+    ensures { result ≡ Site.Written fits }
+{
+    Site::Written { fits }
+}
+
 fn enters(name: usize) -> Site
     ensures { result ≡ Site.Enters name }
 {
@@ -478,8 +540,14 @@ fn enters(name: usize) -> Site
 fn integer(name: usize, width: Width) -> Site
     ensures { result ≡ Site.Defines (Some (IrType.Int width)) name }
 {
+    defines(name, IrType::Int(width))
+}
+
+fn defines(name: usize, of_type: IrType) -> Site
+    ensures { result ≡ Site.Defines (Some of_type) name }
+{
     Site::Defines {
-        of_type: Some(IrType::Int(width)),
+        of_type: Some(of_type),
         name,
     }
 }
@@ -489,7 +557,7 @@ fn operand_site(of_type: IrType, operand: Operand) -> Site
 {
     match operand {
         Operand::Local(name) => Site::Uses { of_type, name },
-        Operand::Number(_) | Operand::Poison | Operand::Undef => fitting(),
+        Operand::Number(_) | Operand::Null | Operand::Poison | Operand::Undef => fitting(),
     }
 }
 

@@ -17,6 +17,8 @@ pub enum IrType {
 pub enum Operand {
     Local(usize),
     Number(u64),
+    /// The pointer `null`.
+    Null,
     Poison,
     /// Any value of the type, another at each use (LLVM Language Reference, "Undefined Values").
     /// It may stand in `freeze` and `ret` alone.
@@ -83,8 +85,23 @@ pub struct TypedOperand {
     pub operand: Operand,
 }
 
-/// An instruction; `into` is the number of the name that gets the result.
+/// A type of an object in memory: an element, or nested arrays of elements. The outermost array's
+/// length comes first; an element alone has none (LLVM Language Reference, "Array Type").
+#[derive(Drop)]
+pub struct MemoryType {
+    pub lengths: Sequence<u64>,
+    pub element: IrType,
+}
+
+/// An index of a `getelementptr`: a number of this width.
 #[derive(Clone, Copy, Debug, PartialEq, Eq)]
+pub struct GepIndex {
+    pub width: Width,
+    pub operand: Operand,
+}
+
+/// An instruction; `into` is the number of the name that gets the result.
+#[derive(Drop)]
 pub enum Inst {
     Binary {
         into: usize,
@@ -119,8 +136,39 @@ pub enum Inst {
     },
     Freeze {
         into: usize,
-        width: Width,
+        of_type: IrType,
         operand: Operand,
+    },
+    /// A block of memory for one object, which is freed at the return; `number` is the
+    /// instruction's own among those of the function, from 0 ("alloca Instruction").
+    Alloca {
+        into: usize,
+        number: usize,
+        of_type: MemoryType,
+        align: u64,
+    },
+    /// "load Instruction".
+    Load {
+        into: usize,
+        of_type: IrType,
+        pointer: Operand,
+        align: u64,
+    },
+    /// "store Instruction". It has no result.
+    Store {
+        value: TypedOperand,
+        pointer: Operand,
+        align: u64,
+    },
+    /// An address: the base, and so many objects of the type, and then elements of the array that
+    /// was entered, further ("getelementptr Instruction"). `nuw` stands beside `inbounds` alone.
+    GetElementPtr {
+        into: usize,
+        inbounds: bool,
+        nuw: bool,
+        of_type: MemoryType,
+        base: Operand,
+        indices: Sequence<GepIndex>,
     },
 }
 
@@ -186,12 +234,13 @@ pub struct Block {
     pub terminator: Terminator,
 }
 
-/// A parameter: its type, whether it is `noundef`, and the number of its name (LLVM Language
-/// Reference, "Parameter Attributes").
+/// A parameter: its type, whether it is `noundef` and `nonnull`, and the number of its name (LLVM
+/// Language Reference, "Parameter Attributes").
 #[derive(Clone, Copy, Debug, PartialEq, Eq)]
 pub struct Parameter {
     pub of_type: IrType,
     pub no_undef: bool,
+    pub non_null: bool,
     pub name: usize,
 }
 

@@ -29,6 +29,8 @@ mod lexing_tests;
 #[cfg(test)]
 mod made_functions;
 #[cfg(test)]
+mod memory_tests;
+#[cfg(test)]
 mod position_tests;
 #[cfg(test)]
 mod tests;

@@ -395,7 +395,7 @@ fn faults(rt: HostRuntime) -> Result<(), Fail> {
 /// Where the first instruction of a function puts its result, its operands, and its first place.
 fn first_inst(function: &Function) -> Option<(usize, Operand, Operand, Place)> {
     let place = *function.places.as_slice().get(5)?;
-    match *function
+    match function
         .blocks
         .as_slice()
         .first()?
@@ -408,8 +408,10 @@ fn first_inst(function: &Function) -> Option<(usize, Operand, Operand, Place)> {
             left,
             right,
             ..
-        } => Some((into, left, right, place)),
+        } => Some((*into, *left, *right, place)),
         Inst::Icmp { .. } | Inst::Cast { .. } | Inst::Select { .. } | Inst::Freeze { .. } => None,
+        Inst::Alloca { .. } | Inst::Load { .. } => None,
+        Inst::Store { .. } | Inst::GetElementPtr { .. } => None,
     }
 }
 

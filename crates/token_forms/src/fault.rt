@@ -3,15 +3,19 @@ ghost use Rattle.token_forms.specs.declared.fault.ReadFault.TheVariants.{NoMemor
 
 use ir_tree::Reason;
 use std::alloc::{AllocError, AllocFailed};
+use thiserror::Error;
 
 /// Why reading stopped, at the first token that is left.
-#[derive(Clone, Copy, Debug, PartialEq, Eq)]
+#[derive(Clone, Copy, Debug, PartialEq, Eq, Error)]
 pub enum ReadFault {
     /// The token can't stand there, for this reason, or there is none, which is Syntax.
+    #[error("{0}")]
     Unfit(Reason),
     /// The token can stand there, and a limit is passed.
+    #[error("a limit is passed")]
     PastLimit,
     /// There was no memory for what was read.
+    #[error("out of memory")]
     NoMemory,
 }
 

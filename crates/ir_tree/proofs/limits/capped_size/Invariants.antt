@@ -1,0 +1,10 @@
+use Rattle.std.proofs.Common.{◌≡◌, ◌≤◌, length, drop, min}
+use Rattle.ir_tree.specs.Types.{nested_size}
+use Rattle.ir_tree.proofs.limits.capped_size.Given as goal
+
+abbrev pub invariant-loop-i : goal.invariant-loop-i
+invariant-loop-i l = record {
+  lengths : l.lengths ≡ l.of_type.lengths;
+  within : l.i ≤ length l.lengths;
+  size : l.size ≡ min (nested_size (drop l.i l.lengths) l.of_type.element) 65;
+}

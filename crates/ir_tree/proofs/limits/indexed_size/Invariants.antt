@@ -1,0 +1,11 @@
+use Rattle.std.proofs.Common.{◌≡◌, ◌≤◌, ◌%◌, ◌^◌, length, drop, min}
+use Rattle.ir_tree.specs.Types.{nested_size}
+use Rattle.ir_tree.proofs.limits.indexed_size.Given as goal
+
+abbrev pub invariant-loop-i : goal.invariant-loop-i
+invariant-loop-i l = record {
+  lengths : l.lengths ≡ l.of_type.lengths;
+  from : min l.n (length l.lengths) ≤ l.i;
+  within : l.i ≤ length l.lengths;
+  size : l.size ≡ nested_size (drop l.i l.lengths) l.of_type.element % 2 ^ 64;
+}

@@ -1,0 +1,206 @@
+//! Instructions on memory, which no text makes yet: sizes, limits and sites.
+use crate::made_functions::function_of;
+use ir_tree::{
+    Block, Function, GepIndex, Inst, IrType, MemoryType, Operand, Site, Terminator, TypedOperand,
+    indexed_size, is_within_limits, sites_of, type_size,
+};
+use std::alloc::Global;
+use std::test::Fail;
+use support::Sequence;
+use tv_num::Width;
+
+fn byte() -> IrType {
+    IrType::Int(Width::of(8))
+}
+
+/// Nested arrays, the outermost first.
+fn arrays(alloc: Global, lengths: &[u64], element: IrType) -> Result<MemoryType, Fail> {
+    let mut all = Sequence::from_vec(Vec::new(alloc));
+    for length in lengths {
+        all.push(*length)?;
+    }
+    Ok(MemoryType {
+        lengths: all,
+        element,
+    })
+}
+
+/// A function of one instruction.
+fn with_inst(alloc: Global, inst: Inst) -> Result<Function, Fail> {
+    let mut f = function_of(alloc, "define void @f() { ret void }")?;
+    let mut insts = Sequence::from_vec(Vec::new(alloc));
+    insts.push(inst)?;
+    let mut blocks = Sequence::from_vec(Vec::new(alloc));
+    blocks.push(Block {
+        label: 0,
+        phis: Sequence::from_vec(Vec::new(alloc)),
+        insts,
+        terminator: Terminator::Unreachable,
+    })?;
+    f.blocks = blocks;
+    Ok(f)
+}
+
+/// An integer takes whole bytes, a pointer eight; an index counts what its array holds.
+#[test]
+fn types_have_sizes(rt: HostRuntime) -> Result<(), Fail> {
+    assert_eq!(rt; type_size(IrType::Int(Width::of(1))), 1);
+    assert_eq!(rt; type_size(IrType::Int(Width::of(9))), 2);
+    assert_eq!(rt; type_size(IrType::Int(Width::of(64))), 8);
+    assert_eq!(rt; type_size(IrType::Ptr), 8);
+    let of_type = arrays(rt.alloc(), &[3, 4], IrType::Int(Width::of(16)))?;
+    assert_eq!(rt; indexed_size(&of_type, 0), 24);
+    assert_eq!(rt; indexed_size(&of_type, 1), 8);
+    assert_eq!(rt; indexed_size(&of_type, 2), 2);
+    assert_eq!(rt; indexed_size(&of_type, 3), 2);
+    let large = arrays(rt.alloc(), &[1 << 40, 1 << 40], byte())?;
+    assert_eq!(rt; indexed_size(&large, 0), 0);
+    Ok(())
+}
+
+/// Lengths of arrays of bytes, the alignment, and whether an alloca of them is within the limits.
+const ALLOCAS: &[(&[u64], u64, bool)] = &[
+    (&[], 1, true),
+    (&[64], 4096, true),
+    (&[65], 1, false),
+    (&[8, 8], 1, true),
+    (&[8, 9], 1, false),
+    (&[0, 1 << 40], 1, true),
+    (&[1, 1, 1, 1, 1, 1, 1, 1], 1, true),
+    (&[1, 1, 1, 1, 1, 1, 1, 1, 1], 1, false),
+    (&[1], 0, false),
+    (&[1], 3, false),
+    (&[1], 8192, false),
+];
+
+#[test]
+fn allocas_have_limits(rt: HostRuntime) -> Result<(), Fail> {
+    for (lengths, align, fits) in ALLOCAS {
+        let inst = Inst::Alloca {
+            into: 1,
+            number: 0,
+            of_type: arrays(rt.alloc(), lengths, byte())?,
+            align: *align,
+        };
+        let f = with_inst(rt.alloc(), inst)?;
+        assert_eq!(rt; is_within_limits(&f), *fits);
+    }
+    Ok(())
+}
+
+/// Lengths of arrays of bytes, and whether a getelementptr of them is within the limits.
+const ADDRESSES: &[(&[u64], bool)] = &[
+    (&[1_048_576], true),
+    (&[1_048_577], false),
+    (&[1024, 1024], true),
+    (&[1024, 1025], false),
+    (&[0, 1_048_577], false),
+    (&[1 << 32, 1 << 32], false),
+];
+
+fn address(alloc: Global, lengths: &[u64], indices: &[GepIndex]) -> Result<Inst, Fail> {
+    let mut all = Sequence::from_vec(Vec::new(alloc));
+    for index in indices {
+        all.push(*index)?;
+    }
+    Ok(Inst::GetElementPtr {
+        into: 1,
+        inbounds: true,
+        nuw: false,
+        of_type: arrays(alloc, lengths, byte())?,
+        base: Operand::Local(2),
+        indices: all,
+    })
+}
+
+fn address_fits(alloc: Global, lengths: &[u64]) -> Result<bool, Fail> {
+    let inst = address(alloc, lengths, &[])?;
+    let f = with_inst(alloc, inst)?;
+    Ok(is_within_limits(&f))
+}
+
+#[test]
+fn addresses_have_limits(rt: HostRuntime) -> Result<(), Fail> {
+    for (lengths, fits) in ADDRESSES {
+        let found = address_fits(rt.alloc(), lengths)?;
+        assert_eq!(rt; found, *fits);
+    }
+    Ok(())
+}
+
+/// Two arrays take a first index and two further ones; the fourth goes into none.
+#[test]
+fn an_index_enters_an_array(rt: HostRuntime) -> Result<(), Fail> {
+    let width = Width::of(64);
+    let index = GepIndex {
+        width,
+        operand: Operand::Local(3),
+    };
+    let inst = address(rt.alloc(), &[3, 4], &[index, index, index, index])?;
+    let list = sites_of(rt.alloc(), &with_inst(rt.alloc(), inst)?)?;
+    let written = Site::Written { fits: true };
+    let of_type = IrType::Int(width);
+    let used = Site::Uses { of_type, name: 3 };
+    let expected = [
+        written,
+        written,
+        Site::Defines {
+            of_type: None,
+            name: 0,
+        },
+        Site::Defines {
+            of_type: Some(IrType::Ptr),
+            name: 1,
+        },
+        written,
+        written,
+        Site::Uses {
+            of_type: IrType::Ptr,
+            name: 2,
+        },
+        written,
+        used,
+        written,
+        written,
+        used,
+        written,
+        written,
+        used,
+        written,
+        written,
+        used,
+        Site::Written { fits: false },
+    ];
+    assert!(rt; list.all.as_slice() == expected.as_slice());
+    Ok(())
+}
+
+/// A store defines no name.
+#[test]
+fn a_store_has_no_result(rt: HostRuntime) -> Result<(), Fail> {
+    let of_type = byte();
+    let inst = Inst::Store {
+        value: TypedOperand {
+            of_type,
+            operand: Operand::Local(1),
+        },
+        pointer: Operand::Null,
+        align: 1,
+    };
+    let list = sites_of(rt.alloc(), &with_inst(rt.alloc(), inst)?)?;
+    let written = Site::Written { fits: true };
+    let expected = [
+        written,
+        written,
+        Site::Defines {
+            of_type: None,
+            name: 0,
+        },
+        written,
+        Site::Uses { of_type, name: 1 },
+        written,
+        written,
+    ];
+    assert!(rt; list.all.as_slice() == expected.as_slice());
+    Ok(())
+}
