@@ -1,5 +1,7 @@
--- Two endings with one memory.
-use Rattle.std.proofs.Common.{◌≡◌, List, Bool, true, false, ◌&&◌, refl, eq-eqb, ℕ, Option}
+-- Two endings with one memory, and an ending once local blocks are freed.
+use Rattle.std.proofs.Common.{◌≡◌, List, Bool, true, false, ◌&&◌, refl, sym, ap, ◌∙◌, eq-eqb, ℕ, Option}
+use Rattle.std.specs.Prelude.{All}
+use Rattle.std.specs.List.{filter}
 use Rattle.byte_block.specs.declared.value.Value.{Value}
 use Rattle.byte_block.specs.declared.value.BlockName.{BlockName}
 use Rattle.byte_block.specs.declared.value.BlockName.TheVariants.{Null, Given, Local}
@@ -8,8 +10,14 @@ use Rattle.byte_block.specs.declared.value.Byte.TheVariants as byte
 use Rattle.byte_block.specs.declared.block.MemoryBlock.{MemoryBlock}
 use Rattle.points.specs.Refines.{same_name, same_pointer, byte_allows, bytes_of, block_allows, blocks_allow, returned_allows, is_refined}
 use Rattle.points.proofs.Allowed.{pairs_pass-same}
+use Rattle.points.specs.declared.machine.Machine.{Machine}
+use Rattle.points.specs.Run.{Run, is_given}
+use Rattle.choice_interp.specs.declared.ending.Ending.{Ending}
 use Rattle.choice_interp.specs.declared.ending.Ending.TheVariants.{Return}
-use Rattle.choice_interp.specs.Ran.{outcome_of}
+use Rattle.choice_interp.specs.Keeping.{IsGiven}
+use Rattle.choice_interp.specs.Left.{left_by}
+use Rattle.choice_interp.proofs.Items.{all_kept}
+use Rattle.choice_interp.specs.Ran.{outcome_of, run_with}
 
 same_name-same : (b : BlockName) → same_name b b ≡ true
 same_name-same Null = refl
@@ -38,3 +46,13 @@ refines_with_memory v w memory = rw (blocks_allow-same memory) (and_true (return
     and_true : (b : Bool) → b ≡ (b && true)
     and_true true = refl
     and_true false = refl
+
+-- local blocks are freed
+pub left_freed : (ending : Ending) (m : Machine) (memory : List MemoryBlock) → memory ≡ filter is_given m.memory → left_by ending m ≡ run_with ending (record m { memory = memory })
+left_freed ending m memory freed = ap (λ (bs : List MemoryBlock). run_with ending (record m { memory = bs })) (sym freed)
+
+-- there are none to free
+pub left_given : (ending : Ending) (m : Machine) (blocks : List MemoryBlock) → m.memory ≡ blocks → All IsGiven blocks → left_by ending m ≡ run_with ending m
+left_given ending m blocks same given =
+    let kept : filter is_given m.memory ≡ m.memory = ap (λ (bs : List MemoryBlock). filter is_given bs) same ∙ all_kept is_given blocks given ∙ sym same in
+    ap (λ (bs : List MemoryBlock). run_with ending (record m { memory = bs })) kept

@@ -1,3 +1,5 @@
 mod Defined
 pub mod Endings
+pub mod Items
+pub mod SmallSizes
 pub mod Ways

@@ -13,10 +13,9 @@ use Rattle.points.specs.declared.outcome.Outcome.TheVariants as outcome
 use Rattle.points.specs.Run.{Run, Exit, To, Over, ended, phi_value, with_phis, assigned, exit_of, Go, jump, go_on, forward, run_turns}
 use Rattle.choice_interp.specs.declared.ending.Ending.{Ending}
 use Rattle.choice_interp.specs.declared.ending.Ending.TheVariants as ending
-use Rattle.choice_interp.specs.Ran.{run_with}
 use Rattle.choice_interp.specs.declared.flow.Left.{Left}
 use Rattle.choice_interp.specs.declared.flow.Left.TheVariants as left
-use Rattle.choice_interp.specs.Left.{assign_all, exit_with, IsJump}
+use Rattle.choice_interp.specs.Left.{assign_all, left_by, exit_with, IsJump}
 
 -- the values of all phis, read before, and given one after another
 pub all_phis : (before : Machine) (phis : List Phi) (m : Machine) → assign_all phis (map (phi_value before) phis) m ≡ with_phis before phis m
@@ -74,7 +73,7 @@ left_at f tape jumps at m n xs b l k whole way same below is exit left =
     let there : slice_get f.blocks at ≡ Some b = ap (λ (ys : List Block). slice_get ys at) (sym same) ∙ slice_get_read _ _ _ _ refl below is in
     left_so f tape jumps at m n b k whole way (subst (λ (ys : List Block). at < length ys) same below) there (exit ∙ ap (λ (x : Left). exit_with x n) left)
 
-pub way_over : (f : Function) (tape : List ℕ) (jumps at : ℕ) (n : Machine) (e : Ending) (whole : Run) → IsLeftSo f tape jumps at (exit_with (left.Over e) n) whole → whole ≡ run_with e n
+pub way_over : (f : Function) (tape : List ℕ) (jumps at : ℕ) (n : Machine) (e : Ending) (whole : Run) → IsLeftSo f tape jumps at (exit_with (left.Over e) n) whole → whole ≡ left_by e n
 way_over f tape jumps at n e whole so = sym so.goes
 
 pub way_on : (f : Function) (tape : List ℕ) (jumps at label to rest : ℕ) (n p : Machine) (whole : Run) → IsLeftSo f tape jumps at (exit_with (left.To label) n) whole → to ≡ block_of f label → IsJump at to jumps n p (Some rest) → IsOnTheWay f tape rest to p whole
@@ -91,18 +90,18 @@ way_on f tape jumps at label to rest n p whole so is (inr back) =
     let goes' = rw less at goes in
     rw back.2 (record { spare = length f.blocks; enough = omega arith; rest = sym (run_turns_is f tape rest to (record n { turn = n.turn + 1 })) ∙ goes' })
 
-pub way_beyond : (f : Function) (tape : List ℕ) (jumps at label to : ℕ) (n p : Machine) (whole : Run) → IsLeftSo f tape jumps at (exit_with (left.To label) n) whole → to ≡ block_of f label → IsJump at to jumps n p None → whole ≡ run_with ending.Beyond p
+pub way_beyond : (f : Function) (tape : List ℕ) (jumps at label to : ℕ) (n p : Machine) (whole : Run) → IsLeftSo f tape jumps at (exit_with (left.To label) n) whole → to ≡ block_of f label → IsJump at to jumps n p None → whole ≡ left_by ending.Beyond p
 way_beyond f tape jumps at label to n p whole so is back =
     let again = again_of f tape jumps in
     let there = ap (λ (k : ℕ). jump at k n (forward f tape again so.spare) again) is ∙ so.goes in
     let goes = rw (le-ltb at to back.0) at there in
     let goes' = rw back.1 at goes in
-    sym goes' ∙ ap (λ (q : Machine). run_with ending.Beyond q) (sym back.2)
+    sym goes' ∙ ap (λ (q : Machine). left_by ending.Beyond q) (sym back.2)
 
-pub way_outside : (f : Function) (tape : List ℕ) (jumps at : ℕ) (m : Machine) (whole : Run) → IsOnTheWay f tape jumps at m whole → length f.blocks ≤ at → whole ≡ run_with ending.Ub m
+pub way_outside : (f : Function) (tape : List ℕ) (jumps at : ℕ) (m : Machine) (whole : Run) → IsOnTheWay f tape jumps at m whole → length f.blocks ≤ at → whole ≡ left_by ending.Ub m
 unfolding forward
 way_outside f tape jumps at m whole way past = by_spare way.spare way.rest
   where
-    by_spare : (spare : ℕ) → forward f tape (again_of f tape jumps) spare at m ≡ whole → whole ≡ run_with ending.Ub m
+    by_spare : (spare : ℕ) → forward f tape (again_of f tape jumps) spare at m ≡ whole → whole ≡ left_by ending.Ub m
     by_spare zero rest = sym rest
     by_spare (suc spare) rest = let none : slice_get f.blocks at ≡ None = slice_get_past f.blocks at past in sym (rw none at rest)

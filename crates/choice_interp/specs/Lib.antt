@@ -1,3 +1,4 @@
 pub mod Ran
 pub mod Left
+pub mod Keeping
 pub mod Runners

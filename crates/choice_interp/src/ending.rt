@@ -3,6 +3,7 @@ ghost use Rattle.byte_block.specs.declared.block.MemoryBlock.{MemoryBlock};
 ghost use Rattle.points.specs.Refines.{is_refined};
 ghost use Rattle.choice_interp.specs.Ran.{outcome_of};
 
+use crate::comparing::blocks_are_allowed;
 use byte_block::{Memory, Value};
 use points::{Outcome, returned_is_allowed};
 
@@ -36,5 +37,24 @@ pub fn ending_refines(source: Ending, target: Ending) -> bool
         (_, Ending::Beyond) | (Ending::Ub | Ending::Beyond, _) => true,
         (Ending::Return(_), Ending::Ub) => false,
         (Ending::Return(s), Ending::Return(t)) => returned_is_allowed(s, t),
+    }
+}
+
+/// Whether the source's run, which ended so and left this memory, allows the target's.
+pub fn runs_refine(
+    source: Ending,
+    source_memory: &Memory,
+    target: Ending,
+    target_memory: &Memory,
+) -> bool
+    ensures { result ≡ is_refined (outcome_of source source_memory.now) (outcome_of target target_memory.now) }
+{
+    match (source, target) {
+        (_, Ending::Beyond) | (Ending::Ub | Ending::Beyond, _) => true,
+        (Ending::Return(_), Ending::Ub) => false,
+        (Ending::Return(s), Ending::Return(t)) => {
+            returned_is_allowed(s, t)
+                && blocks_are_allowed(source_memory.as_slice(), target_memory.as_slice())
+        }
     }
 }

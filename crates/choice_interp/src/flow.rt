@@ -6,8 +6,10 @@ ghost use Rattle.ir_tree.specs.Sites.{same_number};
 ghost use Rattle.points.specs.Run.{entry_value, phi_value, entered, branch_on, case_for, switch_on, exit_by};
 ghost use Rattle.choice_interp.specs.Left.{assign_all, exit_with, IsJump};
 
+use crate::assigning::assign;
 use crate::ending::Ending;
-use crate::step::{assign, return_from, typed_value, value_of};
+use crate::reading::{typed_value, value_of};
+use crate::returning::return_from;
 use crate::table::low_bits;
 use byte_block::Value;
 use ir_tree::{Block, Case, Phi, PhiEntry, Terminator};

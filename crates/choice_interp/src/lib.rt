@@ -1,18 +1,30 @@
 //! Runs of a function on an input, with choices from a tape.
 //!
-//! It promises that what it tells is the run that `points` defines. It stands on `points`; the judge
-//! by counting and whatever shows a counterexample stand on it. [`interpret`] is one run; [`run_again`]
-//! runs by a [`Runner`] that is there, and takes memory at most for choices and for the values of
-//! phis.
+//! It promises that what it reports is the run that `points` defines, memory included. It stands on
+//! `points` and `memory_access`; the judge by counting and whatever shows a counterexample stand on
+//! it. [`interpret`] is one run; [`run_again`] runs by a [`Runner`], whose room is used again.
 #![tactic(auto)]
 
+mod assigning;
+mod blocks;
+mod choosing;
+mod comparing;
 mod ending;
+mod entry;
 mod flow;
+mod keeping;
+mod memory_steps;
+mod reading;
 mod rerun;
+mod returning;
+mod room;
 mod run;
+mod runners;
 mod step;
 mod table;
 
-pub use ending::{Ending, ending_refines};
-pub use rerun::{Runner, run_again, runner_for};
+pub use ending::{Ending, ending_refines, runs_refine};
+pub use rerun::run_again;
+pub use room::Room;
 pub use run::{Ran, interpret, is_plain};
+pub use runners::{Runner, give_blocks, runner_for};

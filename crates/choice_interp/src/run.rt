@@ -1,9 +1,11 @@
 ghost use Rattle.std.specs.Prelude.{◌≡◌, ◌↔◌, IsTrue, IfOk, ℕ, slice_index};
+ghost use Rattle.ir_tree.specs.Limits.{IsWithinLimits};
 ghost use Rattle.points.specs.Run.{run_of};
 ghost use Rattle.choice_interp.specs.Ran.{Shows, run_with};
 
 use crate::ending::Ending;
-use crate::rerun::{Runner, run_again, runner_for};
+use crate::rerun::run_again;
+use crate::runners::{Runner, runner_for};
 use ir_tree::Function;
 use points::{Bounds, Input, Machine, Outcome};
 use std::alloc::Global;
@@ -53,6 +55,7 @@ pub fn interpret(
     input: &Input,
     tape: &[u64],
 ) -> Result<Ran, NoMemory>
+    requires limits { IsWithinLimits f.now }
     ensures { IfOk result (Shows tape.now (run_of f.now bounds.now input.now tape.now)) }
 {
     let mut runner = runner_for(alloc, f, &input.blocks)?;

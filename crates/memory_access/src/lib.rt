@@ -4,7 +4,8 @@
 //! [`load`] and [`store`], poison one of [`load`] and [`gep`]; [`alloca`] alone takes memory.
 //! The rules are those of the LLVM Language Reference and of the block model of Alive2 (Lee, Kim,
 //! Hur, Lopes, "An SMT encoding of LLVM's memory model for bounded translation validation", CAV
-//! 2021). It stands on `byte_block` and `tv_num`; nothing stands on it yet.
+//! 2021). It stands on `byte_block` and `tv_num`; `points` defines runs by it, which `choice_interp`
+//! computes.
 #![tactic(auto)]
 
 mod access_types;

@@ -9,7 +9,7 @@ use Rattle.ir_tree.specs.declared.tree.IrType.TheVariants as type
 use Rattle.ir_tree.specs.declared.tree.Operand.{Operand}
 use Rattle.ir_tree.specs.declared.tree.Operand.TheVariants as operand
 use Rattle.ir_tree.specs.declared.tree.Inst.{Inst}
-use Rattle.ir_tree.specs.declared.tree.Inst.TheVariants.{Binary, Icmp, Cast, Select, Freeze}
+use Rattle.ir_tree.specs.declared.tree.Inst.TheVariants.{Binary, Icmp, Cast, Select, Freeze, Alloca, Load, Store, GetElementPtr}
 use Rattle.ir_tree.specs.declared.tree.Terminator.{Terminator}
 use Rattle.ir_tree.specs.declared.tree.Terminator.TheVariants as terminator
 use Rattle.ir_tree.specs.declared.tree.Block.{Block}
@@ -22,8 +22,8 @@ use Rattle.points.specs.declared.verdict.Verdict.TheVariants.{Correct, Incorrect
 use Rattle.points.specs.Pair.{Functions}
 use Rattle.points.specs.Refines.{is_refined}
 use Rattle.points.specs.Code.{WordsFit, number_of}
-use Rattle.points.specs.Run.{Run, undef_width, run_of}
-use Rattle.points.specs.Tapes.{inst_widths, widths_of, end_widths, block_widths, need_of, widest, widest_choice, plain_form, HasPlainForm}
+use Rattle.points.specs.Run.{Run, undef_type, run_of}
+use Rattle.points.specs.Tapes.{word_widths, inst_widths, widths_of, end_widths, block_widths, need_of, widest, widest_choice, plain_form, HasPlainForm}
 use Rattle.points.specs.Covers.{covers, some_covers, is_covered, shifted, HasNoCover}
 use Rattle.points.specs.Trail.{IsPoint, IsLeastUncovered, AreAllCovered, TrailFrom, Ends}
 use Rattle.points.specs.Laws.{IsAllowed, IsWithin, CorrectHolds, IncorrectFails, LeastCoversArePlain}
@@ -33,21 +33,32 @@ use Rattle.points.proofs.Plain.{tapes_have_plain_forms, widest-append}
 
 -- ---- no choice is wider than 64 bits
 
-inst_small : (inst : Inst) → widest (inst_widths inst) ≤ 64
+choice_small : (type : IrType) → widest (word_widths type) ≤ 64
 unfolding widest
-inst_small (Binary into op width left right) = omega arith
-inst_small (Icmp into predicate same_sign width left right) = omega arith
-inst_small (Cast into cast from operand to) = omega arith
-inst_small (Select into condition if_true if_false) = omega arith
-inst_small (Freeze into width operand) = let most = width.at_most_64 in omega (arith, most)
+choice_small (type.Int width) = let most = width.at_most_64 in omega (arith, most)
+choice_small type.Ptr = omega arith
 
-undef_small : (t : IrType) (o : Operand) → widest (widths_of (undef_width t o)) ≤ 64
+none_small : widest [] ≤ 64
 unfolding widest
-undef_small (type.Int width) operand.Undef = let most = width.at_most_64 in omega (arith, most)
-undef_small (type.Int width) (operand.Local name) = omega arith
-undef_small (type.Int width) (operand.Number n) = omega arith
-undef_small (type.Int width) operand.Poison = omega arith
-undef_small type.Ptr o = omega arith
+none_small = omega arith
+
+inst_small : (inst : Inst) → widest (inst_widths inst) ≤ 64
+inst_small (Binary into op width left right) = none_small
+inst_small (Icmp into predicate same_sign width left right) = none_small
+inst_small (Cast into cast from operand to) = none_small
+inst_small (Select into condition if_true if_false) = none_small
+inst_small (Freeze into type operand) = choice_small type
+inst_small (Alloca into number type align) = none_small
+inst_small (Load into type pointer align) = none_small
+inst_small (Store v pointer align) = none_small
+inst_small (GetElementPtr into inbounds nuw type base indices) = none_small
+
+undef_small : (type : IrType) (o : Operand) → widest (widths_of (undef_type type o)) ≤ 64
+undef_small type operand.Undef = choice_small type
+undef_small type (operand.Local name) = none_small
+undef_small type (operand.Number n) = none_small
+undef_small type operand.Null = none_small
+undef_small type operand.Poison = none_small
 
 end_small : (end : Terminator) → widest (end_widths end) ≤ 64
 unfolding widest
@@ -57,10 +68,6 @@ end_small (terminator.Branch to) = omega arith
 end_small (terminator.CondBranch condition if_true if_false) = omega arith
 end_small (terminator.Switch width operand default cases) = omega arith
 end_small terminator.Unreachable = omega arith
-
-none_small : widest [] ≤ 64
-unfolding widest
-none_small = omega arith
 
 flat_small : {A : Type 0} (f : A → List ℕ) (xs : List A) → ((x : A) → widest (f x) ≤ 64) → widest (flat_map f xs) ≤ 64
 flat_small f [] h = none_small

@@ -7,7 +7,7 @@ use Rattle.points.specs.declared.point.Shape.{Shape}
 use Rattle.points.specs.Codes.{IsCodeOfValue, IsCodeOfPlaces, IsCode}
 
 abbrev pub bit : Width → Parameter
-bit w = record { of_type = Int w; no_undef = false; name = 0 }
+bit w = record { of_type = Int w; no_undef = false; non_null = false; name = 0 }
 
 pub one_of_each : (s : Shape) (w : Width) (flag n size kind m block offset part word : ℕ) → w.bits ≡ 1 → s.parameters ≡ bit w ∷ [] → s.blocks ≡ 1 → s.bytes ≡ 1 → s.words ≡ 1 → s.word_width.bits ≡ 1 → IsCodeOfValue 1 (Int w) (flag ∷ n ∷ []) → size ≤ 1 → IsCodeOfPlaces 1 1 size (kind ∷ m ∷ block ∷ offset ∷ part ∷ []) → word < 2 → IsCode s (flag ∷ n ∷ size ∷ kind ∷ m ∷ block ∷ offset ∷ part ∷ word ∷ [])
 one_of_each s w flag n size kind m block offset part word bits parameters blocks bytes words width value small places low = record {
@@ -69,7 +69,7 @@ without_bytes s w bits parameters blocks bytes words width = record {
   };
 }
 
-pub one_pointer : (s : Shape) (flag block offset : ℕ) → s.parameters ≡ record { of_type = Ptr; no_undef = false; name = 0 } ∷ [] → s.blocks ≡ 1 → s.bytes ≡ 0 → s.words ≡ 0 → IsCodeOfValue 1 Ptr (flag ∷ block ∷ offset ∷ []) → IsCode s (flag ∷ block ∷ offset ∷ 0 ∷ [])
+pub one_pointer : (s : Shape) (flag block offset : ℕ) → s.parameters ≡ record { of_type = Ptr; no_undef = false; non_null = false; name = 0 } ∷ [] → s.blocks ≡ 1 → s.bytes ≡ 0 → s.words ≡ 0 → IsCodeOfValue 1 Ptr (flag ∷ block ∷ offset ∷ []) → IsCode s (flag ∷ block ∷ offset ∷ 0 ∷ [])
 one_pointer s flag block offset parameters blocks bytes words value = record {
   front = flag ∷ block ∷ offset ∷ [];
   back = 0 ∷ [];

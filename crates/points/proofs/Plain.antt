@@ -1,17 +1,17 @@
 -- What a run reads of its tape.
-use Rattle.std.proofs.Common.{◌≡◌, inl, inr, ℕ, zero, suc, ◌+◌, ◌-◌, ◌*◌, ◌^◌, ◌%◌, ◌<◌, ◌≤◌, max, Bool, true, false, ◌&&◌, if◌then◌else◌, List, [], ◌∷◌, ◌++◌, length, get_or, drop, replicate, Some, None, Option, refl, sym, ap, subst, ◌∙◌, arith, append_assoc, append-nil, length-append, add-zero}
+use Rattle.std.proofs.Common.{◌≡◌, inl, inr, ℕ, zero, suc, ◌+◌, ◌-◌, ◌*◌, ◌^◌, ◌%◌, ◌<◌, ◌≤◌, max, Bool, true, false, ◌&&◌, if◌then◌else◌, List, [], ◌∷◌, ◌++◌, length, get_or, drop, replicate, Some, None, Option, refl, sym, ap, subst, ◌∙◌, arith, append_assoc, append-nil, length-append}
 use Rattle.std.specs.Prelude.{slice_index, slice_get, nat_lt}
-use Rattle.std.specs.List.{flat_map}
+use Rattle.std.specs.List.{flat_map, list_any}
 use Rattle.std.specs.Option.{option_map}
 use Rattle.std.proofs.lemmas.Nat.{mod_below, pow_pos}
 use Rattle.std.proofs.lemmas.Bool.{cases_lt, ltb-true}
 use Rattle.std.proofs.Math.Nat.{mod-le, mod-eq_of_lt, mul-le-mul_right}
 use Rattle.std.proofs.Math.Pow.{pow_mono}
-use Rattle.std.proofs.Math.Seq.{get_or-append_seam}
 use Rattle.std.proofs.lemmas.List.{length-replicate}
-use Rattle.tv_num.specs.declared.Width.{Width}
+use Rattle.ir_tree.specs.declared.tree.IrType.{IrType}
+use Rattle.ir_tree.specs.declared.tree.IrType.TheVariants as type
 use Rattle.ir_tree.specs.declared.tree.Inst.{Inst}
-use Rattle.ir_tree.specs.declared.tree.Inst.TheVariants.{Binary, Icmp, Cast, Select, Freeze}
+use Rattle.ir_tree.specs.declared.tree.Inst.TheVariants.{Binary, Icmp, Cast, Select, Freeze, Alloca, Load, Store, GetElementPtr}
 use Rattle.ir_tree.specs.declared.tree.TypedOperand.{TypedOperand}
 use Rattle.ir_tree.specs.declared.tree.Case.{Case}
 use Rattle.ir_tree.specs.declared.tree.Terminator.{Terminator}
@@ -19,17 +19,27 @@ use Rattle.ir_tree.specs.declared.tree.Terminator.TheVariants as terminator
 use Rattle.ir_tree.specs.declared.tree.Block.{Block}
 use Rattle.ir_tree.specs.declared.tree.Function.{Function}
 use Rattle.ir_tree.specs.Flow.{block_of}
+use Rattle.byte_block.specs.declared.value.BlockName.{BlockName}
+use Rattle.byte_block.specs.declared.value.BlockName.TheVariants.{Null, Given}
+use Rattle.byte_block.specs.declared.block.MemoryBlock.{MemoryBlock}
 use Rattle.byte_block.specs.declared.value.Value.{Value}
 use Rattle.byte_block.specs.declared.value.Value.TheVariants.{Num, Poison}
 use Rattle.byte_block.specs.declared.value.Value.TheVariants as value
+use Rattle.memory_access.specs.declared.access_types.Loaded.{Loaded}
+use Rattle.memory_access.specs.declared.access_types.Loaded.TheVariants as load
+use Rattle.memory_access.specs.declared.access_types.Stored.{Stored}
+use Rattle.memory_access.specs.declared.access_types.Stored.TheVariants as store
+use Rattle.memory_access.specs.Blocks.{names}
+use Rattle.memory_access.specs.Accesses.{load_result, store_result, after_store}
+use Rattle.memory_access.specs.Offsets.{gep_result}
 use Rattle.points.specs.declared.machine.Machine.{Machine}
 use Rattle.points.specs.declared.point.Bounds.{Bounds}
 use Rattle.points.specs.declared.point.Input.{Input}
 use Rattle.points.specs.Code.{number_of, WordsFit}
 use Rattle.points.specs.declared.outcome.Outcome.TheVariants.{Ub, Beyond}
 use Rattle.points.specs.Table.{value_result, compared, cast_value, selected}
-use Rattle.points.specs.Run.{act, ended, frozen, choice_of, assigned, operand_value, typed_operand_value, is_poison, undef_width, returned_with, breaks_noundef, first_machine, run_of, Exit, Over, To, exit_by, exit_after, exit_insts, exit_of, branch_on, switch_on, entered, Go, jump, go_on, forward, run_turns}
-use Rattle.points.specs.Tapes.{inst_widths, widths_of, end_widths, block_widths, choice_widths, need_of, widest, widest_choice, plain_form, TapesHavePlainForms}
+use Rattle.points.specs.Run.{act, ended, frozen, Choice, next_word, block_number, given_or_null, integer_choice, pointer_choice, choice_of, with_taken, assigned, operand_value, typed_value, typed_operand_value, access_of, allocated, loaded, stored, index_values, returns, is_poison, undef_type, returned_with, breaks_noundef, first_machine, run_of, Exit, Over, To, exit_by, exit_after, exit_insts, exit_of, branch_on, switch_on, entered, Go, jump, go_on, forward, run_turns}
+use Rattle.points.specs.Tapes.{word_widths, inst_widths, widths_of, end_widths, block_widths, choice_widths, need_of, widest, widest_choice, plain_form, TapesHavePlainForms}
 use Rattle.points.proofs.Runs.{exit_taken, entered_taken, run_entered_by, run_of_is}
 
 -- ---- the widest of two lists
@@ -125,46 +135,98 @@ took_then ws vs tape from mid to t r =
 
 -- ---- by an instruction
 
-choice_one : (tape : List ℕ) (m : Machine) (width : ℕ) → Took (width ∷ []) tape m.taken (m.taken ++ choice_of tape m width ∷ [])
+-- two words, the one behind the other
+both_below : (a b bound : ℕ) → a < bound → b < bound → (k : ℕ) → k < 2 → get_or (a ∷ b ∷ []) k 0 < bound
+both_below a b bound first second zero h = first
+both_below a b bound first second (suc zero) h = second
+both_below a b bound first second (suc (suc k)) h = absurd (omega arith)
+
+both_no_greater : (a b from : ℕ) (tape : List ℕ) → a ≤ slice_index tape (from + 0) → b ≤ slice_index tape (from + 1) → (k : ℕ) → k < 2 → get_or (a ∷ b ∷ []) k 0 ≤ slice_index tape (from + k)
+both_no_greater a b from tape first second zero h = first
+both_no_greater a b from tape first second (suc zero) h = second
+both_no_greater a b from tape first second (suc (suc k)) h = absurd (omega arith)
+
+-- a block goes by no greater number than the one that named it
+named_no_greater : (memory : List MemoryBlock) (n : ℕ) → block_number (given_or_null memory n) ≤ n
+named_no_greater memory n = go (nat_lt 0 n && list_any (names (Given n)) memory)
+  where
+    go : (found : Bool) → block_number (if found then Given n else Null) ≤ n
+    go true = omega arith
+    go false = omega arith
+
+choice_took : (type : IrType) (tape : List ℕ) (m : Machine) → Took (word_widths type) tape m.taken (with_taken m (choice_of type tape m)).taken
 unfolding widest
-choice_one tape m width = record {
-  more = choice_of tape m width ∷ [];
+choice_took (type.Int width) tape m = record {
+  more = next_word tape m 0 % 2 ^ width.bits ∷ [];
   is = refl;
   words = omega arith;
-  below = λ k h. let e : k ≡ 0 = omega arith in rw e (below_wider _ width (max width 1) (omega arith) (mod_below _ _ (pow_pos width)));
-  no_greater = λ k h. let e : k ≡ 0 = omega arith in rw (e, add-zero) (mod-le _ _);
+  below = λ k h. let e : k ≡ 0 = omega arith in rw e (below_wider _ width.bits (max width.bits 1) (omega arith) (mod_below _ _ (pow_pos width.bits)));
+  no_greater = λ k h. let e : k ≡ 0 = omega arith in rw e (mod-le _ _);
 }
+choice_took type.Ptr tape m =
+    let number = next_word tape m 0 % 65536 in
+    let low : number < 65536 = mod_below (next_word tape m 0) 65536 (omega arith) in
+    let named : block_number (given_or_null m.memory number) ≤ number = named_no_greater m.memory number in
+    let less : number ≤ next_word tape m 0 = mod-le (next_word tape m 0) 65536 in
+    record {
+      more = block_number (given_or_null m.memory number) ∷ next_word tape m 1 % 2 ^ 64 ∷ [];
+      is = refl;
+      words = omega arith;
+      below = both_below _ _ (2 ^ 64) (omega (arith, named, low)) (mod_below _ _ (pow_pos 64));
+      no_greater = both_no_greater _ _ (length m.taken) tape (omega (arith, named, less)) (mod-le _ _);
+    }
 
-took_frozen : (tape : List ℕ) (m : Machine) (into : ℕ) (w : Width) (v : Value) → Took (w.bits ∷ []) tape m.taken (frozen tape m into w.bits v).taken
-took_frozen tape m into w (Num n) = took_nothing _ tape m.taken m.taken refl
-took_frozen tape m into w (value.Ptr p) = took_nothing _ tape m.taken m.taken refl
-took_frozen tape m into w Poison = choice_one tape m w.bits
+took_frozen : (tape : List ℕ) (m : Machine) (into : ℕ) (type : IrType) (v : Value) → Took (word_widths type) tape m.taken (frozen tape m into type v).taken
+took_frozen tape m into type (Num n) = took_nothing _ tape m.taken m.taken refl
+took_frozen tape m into type (value.Ptr p) = took_nothing _ tape m.taken m.taken refl
+took_frozen tape m into type Poison = choice_took type tape m
 
-took_assigned : (widths tape : List ℕ) (m m' : Machine) (into : ℕ) (v : Option Value) → option_map (assigned m into) v ≡ Some m' → Took widths tape m.taken m'.taken
-took_assigned widths tape m m' into None e = absurd (cc)
-took_assigned widths tape m m' into (Some v) e = let same : assigned m into v ≡ m' = cc in took_nothing widths tape m.taken m'.taken (rw (← same) refl)
+took_none : (tape : List ℕ) (m n m' : Machine) → n.taken ≡ m.taken → Some n ≡ Some m' → Took [] tape m.taken m'.taken
+took_none tape m n m' as_was e = let same : n ≡ m' = cc in took_nothing [] tape m.taken m'.taken (rw (← same) as_was)
+
+took_assigned : (tape : List ℕ) (m m' : Machine) (into : ℕ) (v : Option Value) → option_map (assigned m into) v ≡ Some m' → Took [] tape m.taken m'.taken
+took_assigned tape m m' into None e = absurd (cc)
+took_assigned tape m m' into (Some v) e = took_none tape m (assigned m into v) m' refl e
+
+took_loaded : (tape : List ℕ) (m m' : Machine) (into : ℕ) (result : Loaded) → loaded m into result ≡ Some m' → Took [] tape m.taken m'.taken
+took_loaded tape m m' into load.Ub e = absurd (cc)
+took_loaded tape m m' into (load.Done v) e = took_none tape m (assigned m into v) m' refl e
+
+took_stored : (tape : List ℕ) (m m' : Machine) (memory : List MemoryBlock) (result : Stored) → stored m memory result ≡ Some m' → Took [] tape m.taken m'.taken
+took_stored tape m m' memory store.Ub e = absurd (cc)
+took_stored tape m m' memory store.Done e = took_none tape m (record m { memory = memory }) m' refl e
 
 pub act_took : (inst : Inst) (tape : List ℕ) (m m' : Machine) → act inst tape m ≡ Some m' → Took (inst_widths inst) tape m.taken m'.taken
-act_took (Binary into op w left right) tape m m' e = took_assigned [] tape m m' into (value_result op w.bits (operand_value m.registers left) (operand_value m.registers right)) e
-act_took (Icmp into predicate same_sign w left right) tape m m' e = took_assigned [] tape m m' into (Some (compared predicate same_sign w.bits (operand_value m.registers left) (operand_value m.registers right))) e
-act_took (Cast into cast from operand to) tape m m' e = took_assigned [] tape m m' into (Some (cast_value cast from.bits to.bits (operand_value m.registers operand))) e
+act_took (Binary into op w left right) tape m m' e = took_assigned tape m m' into (value_result op w.bits (operand_value m.registers left) (operand_value m.registers right)) e
+act_took (Icmp into predicate same_sign w left right) tape m m' e = took_assigned tape m m' into (Some (compared predicate same_sign w.bits (operand_value m.registers left) (operand_value m.registers right))) e
+act_took (Cast into cast from operand to) tape m m' e = took_assigned tape m m' into (Some (cast_value cast from.bits to.bits (operand_value m.registers operand))) e
 act_took (Select into condition if_true if_false) tape m m' e =
-    took_assigned [] tape m m' into (Some (selected (operand_value m.registers condition) (typed_operand_value m.registers if_true) (typed_operand_value m.registers if_false))) e
-act_took (Freeze into w operand) tape m m' e =
-    let same : frozen tape m into w.bits (operand_value m.registers operand) ≡ m' = cc in
-    let t = took_frozen tape m into w (operand_value m.registers operand) in
-    rw same at t
+    took_assigned tape m m' into (Some (selected (operand_value m.registers condition) (typed_operand_value m.registers if_true) (typed_operand_value m.registers if_false))) e
+act_took (Freeze into type operand) tape m m' e =
+    let v = typed_value type (operand_value m.registers operand) in
+    let same : frozen tape m into type v ≡ m' = some_is (frozen tape m into type v) m' e in
+    subst (λ (n : Machine). Took (word_widths type) tape m.taken n.taken) same (took_frozen tape m into type v)
+  where
+    some_is : (n m' : Machine) → Some n ≡ Some m' → n ≡ m'
+    some_is n m' e = cc
+act_took (Alloca into number type align) tape m m' e = took_none tape m (allocated m into number type align) m' refl e
+act_took (Load into type pointer align) tape m m' e = took_loaded tape m m' into (load_result m.memory (operand_value m.registers pointer) (access_of type) align) e
+act_took (Store v pointer align) tape m m' e =
+    took_stored tape m m' (after_store m.memory (typed_operand_value m.registers v) (access_of v.of_type) (operand_value m.registers pointer) align)
+    (store_result m.memory (access_of v.of_type) (operand_value m.registers pointer) align) e
+act_took (GetElementPtr into inbounds nuw type base indices) tape m m' e =
+    took_assigned tape m m' into (Some (gep_result m.memory (operand_value m.registers base) (index_values m.registers type 0 indices) inbounds nuw)) e
 
 -- ---- by a run
 
 took_as : (ws vs tape from to : List ℕ) → ws ≡ vs → Took ws tape from to → Took vs tape from to
 took_as ws vs tape from to e t = rw e at t
 
-returned_took : (o : Option ℕ) (r : TypedOperand) (tape : List ℕ) (m : Machine) → Took (widths_of o) tape m.taken (returned_with o r tape m).taken
+returned_took : (o : Option IrType) (r : TypedOperand) (tape : List ℕ) (m : Machine) → Took (widths_of o) tape m.taken (returned_with o r tape m).taken
 returned_took None r tape m = took_nothing [] tape m.taken m.taken refl
-returned_took (Some width) r tape m = choice_one tape m width
+returned_took (Some type) r tape m = choice_took type tape m
 
-stopped_took : (stops : Bool) (o : Option ℕ) (r : TypedOperand) (tape : List ℕ) (m : Machine) → Took (widths_of o) tape m.taken (if stops then ended Ub m else returned_with o r tape m).taken
+stopped_took : (stops : Bool) (o : Option IrType) (r : TypedOperand) (tape : List ℕ) (m : Machine) → Took (widths_of o) tape m.taken (if stops then ended Ub m else returned_with o r tape m).taken
 stopped_took true o r tape m = took_nothing (widths_of o) tape m.taken m.taken refl
 stopped_took false o r tape m = returned_took o r tape m
 
@@ -180,7 +242,7 @@ switched_taken width (value.Ptr p) default cases m = refl
 
 end_took : (no_undef : Bool) (end : Terminator) (tape : List ℕ) (m : Machine) → Took (end_widths end) tape m.taken (exit_taken (exit_by no_undef end tape m))
 end_took no_undef (terminator.Return None) tape m = took_nothing [] tape m.taken m.taken refl
-end_took no_undef (terminator.Return (Some r)) tape m = stopped_took (no_undef && is_poison (operand_value m.registers r.operand)) (undef_width r.of_type r.operand) r tape m
+end_took no_undef (terminator.Return (Some r)) tape m = stopped_took (no_undef && is_poison (typed_operand_value m.registers r)) (undef_type r.of_type r.operand) r tape m
 end_took no_undef (terminator.Branch to) tape m = took_nothing [] tape m.taken m.taken refl
 end_took no_undef (terminator.CondBranch condition if_true if_false) tape m = took_nothing [] tape m.taken _ (branched_taken (operand_value m.registers condition) if_true if_false m)
 end_took no_undef (terminator.Switch width operand default cases) tape m = took_nothing [] tape m.taken _ (switched_taken width.bits (operand_value m.registers operand) default cases m)
@@ -304,35 +366,66 @@ run_took f bounds input tape = rw (run_of_is f bounds input tape) (entered_took 
 abbrev pub Agrees : List ℕ → List ℕ → List ℕ → Type 0
 Agrees other from taken = (k : ℕ) → length from ≤ k → k < length taken → slice_index other k ≡ slice_index taken k
 
-choice_same : (tape other : List ℕ) (m : Machine) (width : ℕ) → Agrees other m.taken (m.taken ++ choice_of tape m width ∷ []) → choice_of other m width ≡ choice_of tape m width
-choice_same tape other m width agree =
-    let len = length-append m.taken (choice_of tape m width ∷ []) in
-    let word : slice_index other (length m.taken) ≡ choice_of tape m width = agree (length m.taken) (omega arith) (omega (arith, len)) ∙ get_or-append_seam m.taken (choice_of tape m width) [] 0 in
-    ap (λ n. n % 2 ^ width) word ∙ mod-eq_of_lt (mod_below (slice_index tape (length m.taken)) (2 ^ width) (pow_pos width))
+-- a word behind those that were read
+word_same : (other from words : List ℕ) (k : ℕ) → k < length words → Agrees other from (from ++ words) → slice_index other (length from + k) ≡ get_or words k 0
+word_same other from words k below agree =
+    let len = length-append from words in
+    agree (length from + k) (omega arith) (omega (arith, len, below)) ∙ get_back from words k
 
-frozen_same : (tape other : List ℕ) (m : Machine) (into : ℕ) (w : Width) (v : Value) → Agrees other m.taken (frozen tape m into w.bits v).taken → frozen other m into w.bits v ≡ frozen tape m into w.bits v
-frozen_same tape other m into w (Num n) agree = refl
-frozen_same tape other m into w (value.Ptr p) agree = refl
-frozen_same tape other m into w Poison agree = rw (choice_same tape other m w.bits agree) refl
+-- a block's number names it again
+named_again : (memory : List MemoryBlock) (n : ℕ) → n < 65536 → given_or_null memory (block_number (given_or_null memory n) % 65536) ≡ given_or_null memory n
+named_again memory n low = go (nat_lt 0 n && list_any (names (Given n)) memory) refl
+  where
+    go : (found : Bool) → (nat_lt 0 n && list_any (names (Given n)) memory) ≡ found → given_or_null memory (block_number (if found then Given n else Null) % 65536) ≡ (if found then Given n else Null)
+    go true e = rw (mod-eq_of_lt low, e) refl
+    go false e = refl
+
+choice_same : (type : IrType) (tape other : List ℕ) (m : Machine) → Agrees other m.taken (with_taken m (choice_of type tape m)).taken → choice_of type other m ≡ choice_of type tape m
+choice_same (type.Int width) tape other m agree =
+    let n = next_word tape m 0 % 2 ^ width.bits in
+    let word = word_same other m.taken (n ∷ []) 0 (omega arith) agree in
+    let again : next_word other m 0 % 2 ^ width.bits ≡ n = ap (λ w. w % 2 ^ width.bits) word ∙ mod-eq_of_lt (mod_below (next_word tape m 0) (2 ^ width.bits) (pow_pos width.bits)) in
+    ap integer_choice again
+choice_same type.Ptr tape other m agree =
+    let n = next_word tape m 0 % 65536 in
+    let offset = next_word tape m 1 % 2 ^ 64 in
+    let words = block_number (given_or_null m.memory n) ∷ offset ∷ [] in
+    let first = word_same other m.taken words 0 (omega arith) agree in
+    let second = word_same other m.taken words 1 (omega arith) agree in
+    let block : given_or_null m.memory (next_word other m 0 % 65536) ≡ given_or_null m.memory n =
+    ap (λ w. given_or_null m.memory (w % 65536)) first ∙ named_again m.memory n (mod_below (next_word tape m 0) 65536 (omega arith)) in
+    let again : next_word other m 1 % 2 ^ 64 ≡ offset = ap (λ w. w % 2 ^ 64) second ∙ mod-eq_of_lt (mod_below (next_word tape m 1) (2 ^ 64) (pow_pos 64)) in
+    ap (λ (b : BlockName). pointer_choice b (next_word other m 1 % 2 ^ 64)) block ∙ ap (λ w. pointer_choice (given_or_null m.memory n) w) again
+
+frozen_same : (tape other : List ℕ) (m : Machine) (into : ℕ) (type : IrType) (v : Value) → Agrees other m.taken (frozen tape m into type v).taken → frozen other m into type v ≡ frozen tape m into type v
+frozen_same tape other m into type (Num n) agree = refl
+frozen_same tape other m into type (value.Ptr p) agree = refl
+frozen_same tape other m into type Poison agree = ap (λ (c : Choice). assigned (with_taken m c) into c.value) (choice_same type tape other m agree)
 
 act_same : (inst : Inst) (tape other : List ℕ) (m : Machine) → ((m' : Machine) → act inst tape m ≡ Some m' → Agrees other m.taken m'.taken) → act inst other m ≡ act inst tape m
 act_same (Binary into op w left right) tape other m agree = refl
 act_same (Icmp into predicate same_sign w left right) tape other m agree = refl
 act_same (Cast into cast from operand to) tape other m agree = refl
 act_same (Select into condition if_true if_false) tape other m agree = refl
-act_same (Freeze into w operand) tape other m agree = ap Some (frozen_same tape other m into w (operand_value m.registers operand) (agree (frozen tape m into w.bits (operand_value m.registers operand)) refl))
+act_same (Freeze into type operand) tape other m agree =
+    let v = typed_value type (operand_value m.registers operand) in
+    ap Some (frozen_same tape other m into type v (agree (frozen tape m into type v) refl))
+act_same (Alloca into number type align) tape other m agree = refl
+act_same (Load into type pointer align) tape other m agree = refl
+act_same (Store v pointer align) tape other m agree = refl
+act_same (GetElementPtr into inbounds nuw type base indices) tape other m agree = refl
 
-returned_same : (o : Option ℕ) (r : TypedOperand) (tape other : List ℕ) (m : Machine) → Agrees other m.taken (returned_with o r tape m).taken → returned_with o r other m ≡ returned_with o r tape m
+returned_same : (o : Option IrType) (r : TypedOperand) (tape other : List ℕ) (m : Machine) → Agrees other m.taken (returned_with o r tape m).taken → returned_with o r other m ≡ returned_with o r tape m
 returned_same None r tape other m agree = refl
-returned_same (Some width) r tape other m agree = rw (choice_same tape other m width agree) refl
+returned_same (Some type) r tape other m agree = ap (λ (c : Choice). returns (Some c.value) (with_taken m c)) (choice_same type tape other m agree)
 
-stopped_same : (stops : Bool) (o : Option ℕ) (r : TypedOperand) (tape other : List ℕ) (m : Machine) → Agrees other m.taken (if stops then ended Ub m else returned_with o r tape m).taken → (if stops then ended Ub m else returned_with o r other m) ≡ (if stops then ended Ub m else returned_with o r tape m)
+stopped_same : (stops : Bool) (o : Option IrType) (r : TypedOperand) (tape other : List ℕ) (m : Machine) → Agrees other m.taken (if stops then ended Ub m else returned_with o r tape m).taken → (if stops then ended Ub m else returned_with o r other m) ≡ (if stops then ended Ub m else returned_with o r tape m)
 stopped_same true o r tape other m agree = refl
 stopped_same false o r tape other m agree = returned_same o r tape other m agree
 
 end_same : (no_undef : Bool) (end : Terminator) (tape other : List ℕ) (m : Machine) → Agrees other m.taken (exit_taken (exit_by no_undef end tape m)) → exit_by no_undef end other m ≡ exit_by no_undef end tape m
 end_same no_undef (terminator.Return None) tape other m agree = refl
-end_same no_undef (terminator.Return (Some r)) tape other m agree = ap Over (stopped_same (no_undef && is_poison (operand_value m.registers r.operand)) (undef_width r.of_type r.operand) r tape other m agree)
+end_same no_undef (terminator.Return (Some r)) tape other m agree = ap Over (stopped_same (no_undef && is_poison (typed_operand_value m.registers r)) (undef_type r.of_type r.operand) r tape other m agree)
 end_same no_undef (terminator.Branch to) tape other m agree = refl
 end_same no_undef (terminator.CondBranch condition if_true if_false) tape other m agree = refl
 end_same no_undef (terminator.Switch width operand default cases) tape other m agree = refl

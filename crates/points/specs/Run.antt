@@ -2,18 +2,21 @@
 -- Reference", "Poison Values", "Undefined Values", "Freeze Instruction").
 --
 -- It is defined for every function, also for those that the reader rejects: a name that was never assigned is poison,
--- undef is poison where it is neither frozen nor returned, a number is read modulo the width at which it is used, a phi
--- without an entry for the block that was left is poison, and a jump to a label that no block has ends in undefined
--- behaviour. None of these happens in a function that the reader accepts.
+-- undef is poison where it is neither frozen nor returned, a number is read modulo the width at which it is used, a
+-- pointer where a number is used is poison, and so is a number where a pointer is used, a phi without an entry for the
+-- block that was left is poison, and a jump to a label that no block has ends in undefined behaviour. None of these
+-- happens in a function that the reader accepts.
 use Rattle.std.specs.Prelude.{◌≡◌, ℕ, zero, suc, ◌+◌, ◌%◌, ◌^◌, List, [], ◌∷◌, ◌++◌, length, replicate, nat_eq, nat_lt, if◌then◌else◌, Bool, true, false, ◌&&◌, ◌||◌, Option, Some, None, slice_get, slice_index, slice_index_or, slice_set}
-use Rattle.std.specs.List.{find}
+use Rattle.std.specs.List.{find, filter, list_any}
 use Rattle.std.specs.Option.{option_map, option_map_or}
 use Rattle.ir_tree.specs.declared.tree.IrType.{IrType}
 use Rattle.ir_tree.specs.declared.tree.IrType.TheVariants as type
 use Rattle.ir_tree.specs.declared.tree.Operand.{Operand}
 use Rattle.ir_tree.specs.declared.tree.Operand.TheVariants as operand
 use Rattle.ir_tree.specs.declared.tree.Inst.{Inst}
-use Rattle.ir_tree.specs.declared.tree.Inst.TheVariants.{Binary, Icmp, Cast, Select, Freeze}
+use Rattle.ir_tree.specs.declared.tree.Inst.TheVariants.{Binary, Icmp, Cast, Select, Freeze, Alloca, Load, Store, GetElementPtr}
+use Rattle.ir_tree.specs.declared.tree.MemoryType.{MemoryType}
+use Rattle.ir_tree.specs.declared.tree.GepIndex.{GepIndex}
 use Rattle.ir_tree.specs.declared.tree.TypedOperand.{TypedOperand}
 use Rattle.ir_tree.specs.declared.tree.PhiEntry.{PhiEntry}
 use Rattle.ir_tree.specs.declared.tree.Phi.{Phi}
@@ -25,9 +28,24 @@ use Rattle.ir_tree.specs.declared.tree.Parameter.{Parameter}
 use Rattle.ir_tree.specs.declared.tree.Function.{Function}
 use Rattle.ir_tree.specs.Sites.{same_number}
 use Rattle.ir_tree.specs.Flow.{block_of}
+use Rattle.ir_tree.specs.Types.{object_size, indexed_size}
+use Rattle.byte_block.specs.declared.value.BlockName.{BlockName}
+use Rattle.byte_block.specs.declared.value.BlockName.TheVariants.{Null, Given, Local}
+use Rattle.byte_block.specs.declared.value.Ptr.{Ptr}
 use Rattle.byte_block.specs.declared.value.Value.{Value}
 use Rattle.byte_block.specs.declared.value.Value.TheVariants as value
 use Rattle.byte_block.specs.declared.value.Value.TheVariants.{Num, Poison}
+use Rattle.byte_block.specs.declared.block.MemoryBlock.{MemoryBlock}
+use Rattle.memory_access.specs.declared.access_types.Access.{Access}
+use Rattle.memory_access.specs.declared.access_types.Access.TheVariants as access
+use Rattle.memory_access.specs.declared.access_types.Loaded.{Loaded}
+use Rattle.memory_access.specs.declared.access_types.Loaded.TheVariants as load
+use Rattle.memory_access.specs.declared.access_types.Stored.{Stored}
+use Rattle.memory_access.specs.declared.access_types.Stored.TheVariants as store
+use Rattle.memory_access.specs.declared.offsets.Index.{Index}
+use Rattle.memory_access.specs.Blocks.{equal_pointers, names}
+use Rattle.memory_access.specs.Accesses.{load_result, store_result, after_store, after_alloca}
+use Rattle.memory_access.specs.Offsets.{gep_result}
 use Rattle.points.specs.declared.machine.Machine.{Machine}
 use Rattle.points.specs.declared.outcome.Outcome.{Outcome}
 use Rattle.points.specs.declared.outcome.Outcome.TheVariants.{Return, Ub, Beyond}
@@ -35,23 +53,34 @@ use Rattle.points.specs.declared.point.Bounds.{Bounds}
 use Rattle.points.specs.declared.point.Input.{Input}
 use Rattle.points.specs.Table.{value_result, compared, cast_value, selected}
 
--- ---- one instruction
+-- ---- operands
+
+abbrev pub null_pointer : Ptr
+null_pointer = record { block = Null; offset = 0 }
 
 abbrev pub operand_value : List Value → Operand → Value
 operand_value registers (operand.Local name) = slice_index_or registers name Poison
 operand_value registers (operand.Number n) = Num n
+operand_value registers operand.Null = value.Ptr null_pointer
 operand_value registers operand.Poison = Poison
 operand_value registers operand.Undef = Poison
 
--- a number is cut to the width
+-- a number is cut to the width, and a pointer is none
 abbrev pub cut_value : ℕ → Value → Value
 cut_value width (Num n) = Num (n % 2 ^ width)
 cut_value width Poison = Poison
-cut_value width (value.Ptr p) = value.Ptr p
+cut_value width (value.Ptr p) = Poison
 
+-- a pointer, and a number is none
+abbrev pub address_value : Value → Value
+address_value (Num n) = Poison
+address_value Poison = Poison
+address_value (value.Ptr p) = value.Ptr p
+
+-- a value where one of a type is used
 abbrev pub typed_value : IrType → Value → Value
 typed_value (type.Int width) v = cut_value width.bits v
-typed_value type.Ptr v = v
+typed_value type.Ptr v = address_value v
 
 abbrev pub typed_operand_value : List Value → TypedOperand → Value
 typed_operand_value registers t = typed_value t.of_type (operand_value registers t.operand)
@@ -59,17 +88,75 @@ typed_operand_value registers t = typed_value t.of_type (operand_value registers
 abbrev pub assigned : Machine → ℕ → Value → Machine
 assigned m name v = record m { registers = slice_set m.registers name v }
 
--- the next choice of this width: the tape's next word cut to it, 0 past the tape's end
-abbrev pub choice_of : List ℕ → Machine → ℕ → ℕ
-choice_of tape m width = slice_index tape (length m.taken) % 2 ^ width
+-- ---- choices
 
-abbrev pub chosen : Machine → ℕ → ℕ → Machine
-chosen m name choice = record (assigned m name (Num choice)) { taken = m.taken ++ choice ∷ [] }
+-- a value that a run chose, and the words of a tape that stand for it
+pub record Choice : Type 0 where
+  pub value : Value
+  pub words : List ℕ
 
--- freeze: poison and undef become one choice, and any other value stays as it is ("freeze Instruction")
-abbrev pub frozen : List ℕ → Machine → ℕ → ℕ → Value → Machine
-frozen tape m name width Poison = chosen m name (choice_of tape m width)
-frozen tape m name width v = assigned m name (cut_value width v)
+-- the tape's word so many places behind those that were read; 0 past the tape's end
+abbrev pub next_word : List ℕ → Machine → ℕ → ℕ
+next_word tape m k = slice_index tape (length m.taken + k)
+
+-- a given block by its number, null by 0
+abbrev pub block_number : BlockName → ℕ
+block_number Null = 0
+block_number (Given n) = n
+block_number (Local turn number) = 0
+
+-- the given block with this number from 1 on; null where the memory has none
+abbrev pub given_or_null : List MemoryBlock → ℕ → BlockName
+given_or_null memory n = if nat_lt 0 n && list_any (names (Given n)) memory then Given n else Null
+
+-- an integer is the next word cut to its width
+abbrev pub integer_choice : ℕ → Choice
+integer_choice n = record { value = Num n; words = n ∷ [] }
+
+-- a pointer is two words: the low 16 bits of the first name a given block, and the second is the offset
+abbrev pub pointer_choice : BlockName → ℕ → Choice
+pointer_choice block offset = record { value = value.Ptr (record { block = block; offset = offset }); words = block_number block ∷ offset ∷ [] }
+
+abbrev pub choice_of : IrType → List ℕ → Machine → Choice
+choice_of (type.Int width) tape m = integer_choice (next_word tape m 0 % 2 ^ width.bits)
+choice_of type.Ptr tape m = pointer_choice (given_or_null m.memory (next_word tape m 0 % 65536)) (next_word tape m 1 % 2 ^ 64)
+
+abbrev pub with_taken : Machine → Choice → Machine
+with_taken m choice = record m { taken = m.taken ++ choice.words }
+
+-- freeze: poison and undef become a choice, and any other value stays as it is ("freeze Instruction")
+abbrev pub frozen : List ℕ → Machine → ℕ → IrType → Value → Machine
+frozen tape m name type Poison = assigned (with_taken m (choice_of type tape m)) name (choice_of type tape m).value
+frozen tape m name type v = assigned m name v
+
+-- ---- memory ("Memory Access and Addressing Operations")
+
+abbrev pub access_of : IrType → Access
+access_of (type.Int width) = access.Int width
+access_of type.Ptr = access.Pointer
+
+-- the block of an alloca is one of this turn
+abbrev pub allocated : Machine → ℕ → ℕ → MemoryType → ℕ → Machine
+allocated m into number type align =
+    assigned (record m { memory = after_alloca m.memory (Local m.turn number) (object_size type) align }) into (value.Ptr (record { block = Local m.turn number; offset = 0 }))
+
+abbrev pub loaded : Machine → ℕ → Loaded → Option Machine
+loaded m into (load.Done v) = Some (assigned m into v)
+loaded m into load.Ub = None
+
+abbrev pub stored : Machine → List MemoryBlock → Stored → Option Machine
+stored m memory store.Done = Some (record m { memory = memory })
+stored m memory store.Ub = None
+
+abbrev pub index_value : List Value → MemoryType → ℕ → GepIndex → Index
+index_value registers type n index = record { value = cut_value index.width.bits (operand_value registers index.operand); width = index.width; scale = indexed_size type n }
+
+-- indices, the first of them with this number
+abbrev pub index_values : List Value → MemoryType → ℕ → List GepIndex → List Index
+index_values registers type n [] = []
+index_values registers type n (index ∷ indices) = index_value registers type n index ∷ index_values registers type (n + 1) indices
+
+-- ---- one instruction
 
 -- none is undefined behaviour
 abbrev pub act : Inst → List ℕ → Machine → Option Machine
@@ -80,7 +167,14 @@ act (Icmp into predicate same_sign width left right) tape m =
 act (Cast into cast from operand to) tape m = Some (assigned m into (cast_value cast from.bits to.bits (operand_value m.registers operand)))
 act (Select into condition if_true if_false) tape m =
     Some (assigned m into (selected (operand_value m.registers condition) (typed_operand_value m.registers if_true) (typed_operand_value m.registers if_false)))
-act (Freeze into width operand) tape m = Some (frozen tape m into width.bits (operand_value m.registers operand))
+act (Freeze into type operand) tape m = Some (frozen tape m into type (typed_value type (operand_value m.registers operand)))
+act (Alloca into number type align) tape m = Some (allocated m into number type align)
+act (Load into type pointer align) tape m = loaded m into (load_result m.memory (operand_value m.registers pointer) (access_of type) align)
+act (Store v pointer align) tape m =
+    stored m (after_store m.memory (typed_operand_value m.registers v) (access_of v.of_type) (operand_value m.registers pointer) align)
+    (store_result m.memory (access_of v.of_type) (operand_value m.registers pointer) align)
+act (GetElementPtr into inbounds nuw type base indices) tape m =
+    Some (assigned m into (gep_result m.memory (operand_value m.registers base) (index_values m.registers type 0 indices) inbounds nuw))
 
 -- ---- the phis of a block ("phi Instruction")
 
@@ -115,17 +209,25 @@ pub data Exit : Type 0 where
 abbrev pub ended : Outcome → Machine → Run
 ended outcome m = record { outcome = outcome; taken = m.taken }
 
+abbrev pub is_given_name : BlockName → Bool
+is_given_name Null = false
+is_given_name (Given n) = true
+is_given_name (Local turn number) = false
+
+abbrev pub is_given : MemoryBlock → Bool
+is_given b = is_given_name b.name
+
+-- a return frees the blocks of allocas and leaves the given ones
 abbrev pub returns : Option Value → Machine → Run
-returns v m = ended (Return v m.memory) m
+returns v m = ended (Return v (filter is_given m.memory)) m
 
--- the width of the choice that stands there: undef of an integer type is one ("Undefined Values")
-abbrev pub undef_width : IrType → Operand → Option ℕ
-undef_width (type.Int width) operand.Undef = Some width.bits
-undef_width _ _ = None
+-- the type of the choice that stands there: undef is one ("Undefined Values")
+abbrev pub undef_type : IrType → Operand → Option IrType
+undef_type type operand.Undef = Some type
+undef_type type _ = None
 
-abbrev pub returned_with : Option ℕ → TypedOperand → List ℕ → Machine → Run
-returned_with (Some width) returned tape m =
-    returns (Some (Num (choice_of tape m width))) (record m { taken = m.taken ++ choice_of tape m width ∷ [] })
+abbrev pub returned_with : Option IrType → TypedOperand → List ℕ → Machine → Run
+returned_with (Some type) returned tape m = returns (Some (choice_of type tape m).value) (with_taken m (choice_of type tape m))
 returned_with None returned tape m = returns (Some (typed_operand_value m.registers returned)) m
 
 abbrev pub is_poison : Value → Bool
@@ -138,8 +240,8 @@ is_poison (value.Ptr p) = false
 abbrev pub returned_run : Bool → Option TypedOperand → List ℕ → Machine → Run
 returned_run no_undef None tape m = returns None m
 returned_run no_undef (Some returned) tape m =
-    if no_undef && is_poison (operand_value m.registers returned.operand) then ended Ub m
-    else returned_with (undef_width returned.of_type returned.operand) returned tape m
+    if no_undef && is_poison (typed_operand_value m.registers returned) then ended Ub m
+    else returned_with (undef_type returned.of_type returned.operand) returned tape m
 
 -- a condition of one bit; poison is undefined behaviour ("br Instruction")
 abbrev pub branch_on : Value → ℕ → ℕ → Machine → Exit
@@ -200,9 +302,18 @@ unfoldable pub run_turns : Function → List ℕ → ℕ → Go
 run_turns f tape zero = forward f tape (λ at m. ended Beyond m) (length f.blocks)
 run_turns f tape (suc turns) = forward f tape (run_turns f tape turns) (length f.blocks)
 
+abbrev pub is_null : Value → Bool
+is_null (Num n) = false
+is_null Poison = false
+is_null (value.Ptr p) = equal_pointers p null_pointer
+
+-- null is poison where the parameter is nonnull ("Parameter Attributes", nonnull)
+abbrev pub argument_value : Parameter → Value → Value
+argument_value p v = if p.non_null && is_null v then Poison else v
+
 -- the parameters' names get the arguments
 abbrev pub with_args : List Parameter → List Value → List Value → List Value
-with_args (p ∷ ps) (v ∷ vs) registers = with_args ps vs (slice_set registers p.name v)
+with_args (p ∷ ps) (v ∷ vs) registers = with_args ps vs (slice_set registers p.name (argument_value p v))
 with_args _ _ registers = registers
 
 abbrev pub first_machine : Function → Input → Machine
@@ -216,7 +327,7 @@ first_machine f input = record {
 
 -- an argument is poison whose parameter is noundef
 abbrev pub breaks_noundef : List Parameter → List Value → Bool
-breaks_noundef (p ∷ ps) (v ∷ vs) = (p.no_undef && is_poison v) || breaks_noundef ps vs
+breaks_noundef (p ∷ ps) (v ∷ vs) = (p.no_undef && is_poison (argument_value p v)) || breaks_noundef ps vs
 breaks_noundef _ _ = false
 
 -- the first block is the entry; a poison argument of a noundef parameter is undefined behaviour before it ("Parameter

@@ -1,9 +1,11 @@
 -- How many words a run reads, how wide they are, and the plain form of a tape.
 use Rattle.std.specs.Prelude.{◌≡◌, ℕ, ◌+◌, ◌-◌, ◌*◌, ◌≤◌, max, List, [], ◌∷◌, ◌++◌, length, replicate, Option, Some, None}
 use Rattle.std.specs.List.{flat_map}
+use Rattle.ir_tree.specs.declared.tree.IrType.{IrType}
+use Rattle.ir_tree.specs.declared.tree.IrType.TheVariants as type
 use Rattle.ir_tree.specs.declared.tree.TypedOperand.{TypedOperand}
 use Rattle.ir_tree.specs.declared.tree.Inst.{Inst}
-use Rattle.ir_tree.specs.declared.tree.Inst.TheVariants.{Binary, Icmp, Cast, Select, Freeze}
+use Rattle.ir_tree.specs.declared.tree.Inst.TheVariants.{Binary, Icmp, Cast, Select, Freeze, Alloca, Load, Store, GetElementPtr}
 use Rattle.ir_tree.specs.declared.tree.Terminator.{Terminator}
 use Rattle.ir_tree.specs.declared.tree.Terminator.TheVariants as terminator
 use Rattle.ir_tree.specs.declared.tree.Block.{Block}
@@ -11,23 +13,32 @@ use Rattle.ir_tree.specs.declared.tree.Function.{Function}
 use Rattle.points.specs.declared.point.Bounds.{Bounds}
 use Rattle.points.specs.declared.point.Input.{Input}
 use Rattle.points.specs.Code.{number_of, WordsFit}
-use Rattle.points.specs.Run.{run_of, undef_width, IsPlain}
+use Rattle.points.specs.Run.{run_of, undef_type, IsPlain}
 
--- the widths of the choices that an instruction may make, in order
+-- the widths of the words of a choice, in order
+abbrev pub word_widths : IrType → List ℕ
+word_widths (type.Int width) = width.bits ∷ []
+word_widths type.Ptr = 64 ∷ 64 ∷ []
+
+-- of the choices that an instruction may make
 abbrev pub inst_widths : Inst → List ℕ
 inst_widths (Binary into op width left right) = []
 inst_widths (Icmp into predicate same_sign width left right) = []
 inst_widths (Cast into cast from operand to) = []
 inst_widths (Select into condition if_true if_false) = []
-inst_widths (Freeze into width operand) = width.bits ∷ []
+inst_widths (Freeze into type operand) = word_widths type
+inst_widths (Alloca into number type align) = []
+inst_widths (Load into type pointer align) = []
+inst_widths (Store v pointer align) = []
+inst_widths (GetElementPtr into inbounds nuw type base indices) = []
 
-abbrev pub widths_of : Option ℕ → List ℕ
+abbrev pub widths_of : Option IrType → List ℕ
 widths_of None = []
-widths_of (Some width) = width ∷ []
+widths_of (Some type) = word_widths type
 
 abbrev pub returned_widths : Option TypedOperand → List ℕ
 returned_widths None = []
-returned_widths (Some returned) = widths_of (undef_width returned.of_type returned.operand)
+returned_widths (Some returned) = widths_of (undef_type returned.of_type returned.operand)
 
 abbrev pub end_widths : Terminator → List ℕ
 end_widths (terminator.Return returned) = returned_widths returned

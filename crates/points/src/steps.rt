@@ -1,5 +1,5 @@
 ghost use Rattle.std.specs.Prelude.{◌≡◌, ◌≤◌, ◌<◌, ◌+◌, ◌-◌, ◌^◌, IsTrue, IsFalse, take, replicate, length, ◌++◌};
-ghost use Rattle.ir_tree.specs.Limits.{AreIntegers};
+ghost use Rattle.ir_tree.specs.Pointers.{AreIntegers};
 ghost use Rattle.points.specs.Code.{WordsFit, ArgsFit};
 ghost use Rattle.points.specs.Next.{IsNextWords, IsLastWords, IsNextArgs, IsLastArgs};
 

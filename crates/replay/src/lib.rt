@@ -5,6 +5,7 @@
 #![tactic(auto)]
 
 ghost use Rattle.std.specs.Prelude.{IfOk};
+ghost use Rattle.ir_tree.specs.Limits.{IsWithinLimits};
 ghost use Rattle.points.specs.Shown.{IsShown};
 
 use choice_interp::interpret;
@@ -15,6 +16,8 @@ use support::NoMemory;
 /// The target's outcome on the point, the source's outcome on the tape of zeros, and how many words
 /// the target read.
 pub fn replay(alloc: Global, pair: &Pair, bounds: &Bounds, point: &Point) -> Result<Shown, NoMemory>
+    requires source { IsWithinLimits pair.now.source }
+    requires target { IsWithinLimits pair.now.target }
     ensures { IfOk result (IsShown pair.now bounds.now point.now) }
 {
     let tape = point.tape.as_slice();

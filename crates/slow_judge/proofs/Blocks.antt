@@ -1,37 +1,25 @@
--- Functions that touch no memory: the points with empty blocks decide.
-use Rattle.std.proofs.Common.{◌≡◌, ℕ, ◌+◌, ◌≤◌, List, [], ◌∷◌, ◌++◌, length, Bool, true, false, ◌&&◌, if◌then◌else◌, Option, Some, None, refl, sym, ap, ◌∙◌, arith, length-append}
-use Rattle.std.specs.Option.{option_map}
-use Rattle.ir_tree.specs.declared.tree.Inst.{Inst}
-use Rattle.ir_tree.specs.declared.tree.Inst.TheVariants.{Binary, Icmp, Cast, Select, Freeze}
-use Rattle.ir_tree.specs.declared.tree.TypedOperand.{TypedOperand}
-use Rattle.ir_tree.specs.declared.tree.Block.{Block}
-use Rattle.ir_tree.specs.declared.tree.Function.{Function}
-use Rattle.ir_tree.specs.declared.tree.Terminator.{Terminator}
-use Rattle.ir_tree.specs.declared.tree.Terminator.TheVariants as terminator
-use Rattle.byte_block.specs.declared.value.Value.{Value}
-use Rattle.byte_block.specs.declared.value.Value.TheVariants.{Num, Poison}
-use Rattle.byte_block.specs.declared.value.Value.TheVariants as value
+-- Functions without pointers: the points with empty blocks decide.
+use Rattle.std.proofs.Common.{◌≡◌, ℕ, ◌+◌, ◌≤◌, List, [], ◌∷◌, ◌++◌, length, Option, Some, None, refl, sym, ap, ◌∙◌, arith, length-append}
+use Rattle.std.specs.Prelude.{MatchOption, slice_index}
+use Rattle.std.specs.List.{filter}
 use Rattle.byte_block.specs.declared.block.MemoryBlock.{MemoryBlock}
-use Rattle.points.specs.declared.machine.Machine.{Machine}
 use Rattle.points.specs.declared.outcome.Outcome.{Outcome}
 use Rattle.points.specs.declared.outcome.Outcome.TheVariants.{Return, Ub, Beyond}
 use Rattle.points.specs.declared.point.Bounds.{Bounds}
-use Rattle.points.specs.declared.point.Input.{Input}
 use Rattle.points.specs.declared.point.Point.{Point}
 use Rattle.points.specs.Pair.{Functions}
 use Rattle.points.specs.Refines.{is_refined}
 use Rattle.points.specs.Code.{number_of, args_code, blocks_code, BlocksFit}
-use Rattle.points.specs.Table.{value_result}
-use Rattle.points.specs.Run.{Run, ended, act, assigned, frozen, operand_value, is_poison, undef_width, returned_with, breaks_noundef, first_machine, run_of, IsPlain}
+use Rattle.points.specs.Run.{Run, is_given, run_of, IsPlain}
 use Rattle.points.specs.Tapes.{need_of}
 use Rattle.points.specs.Covers.{covers, some_covers, shifted, is_covered}
 use Rattle.points.specs.Trail.{IsPoint, place_in, IsLeastUncovered, AreAllCovered}
 use Rattle.points.proofs.Order.{number_of-append, length_of_Digits}
-use Rattle.points.proofs.Placed.{with_memory, rerun, with_blocks, run_any_memory}
+use Rattle.points.proofs.Placed.{with_memory, with_blocks, run_any_memory}
 use Rattle.points.proofs.Same.{blocks_digits}
 use Rattle.choice_interp.proofs.Endings.{blocks_allow-same}
 use Rattle.unroll.specs.Small.{AreSmall}
-use Rattle.slow_judge.specs.Search.{empty_blocks, IsCell, IsLeastUncoveredCell, AreAllCellsCovered}
+use Rattle.slow_judge.specs.Search.{HaveNoPointers, empty_blocks, IsCell, IsLeastAmong, AreCoveredAmong}
 use Rattle.slow_judge.proofs.Order.{empty_fit, middle_zeros, number_of-Zeros, few, short}
 
 -- ---- a run hands its memory on
@@ -55,23 +43,24 @@ emptied bounds q = record { input = with_blocks (empty_blocks bounds.bytes bound
 refined_2 : (x x' y y' : Outcome) → x ≡ x' → y ≡ y' → is_refined x y ≡ is_refined x' y'
 refined_2 x x' y y' e f = rw (e, f) refl
 
-covers_emptied : (pair : Functions) (bounds : Bounds) (q : Point) (tape : List ℕ) → covers pair bounds (emptied bounds q) tape ≡ covers pair bounds q tape
+covers_emptied : (pair : Functions) → HaveNoPointers pair → (bounds : Bounds) (q : Point) (tape : List ℕ) → covers pair bounds (emptied bounds q) tape ≡ covers pair bounds q tape
 unfolding covers
-covers_emptied pair bounds q tape =
+covers_emptied pair none bounds q tape =
     let empty = empty_blocks bounds.bytes bounds.blocks in
-    let a = ap (λ (r : Run). r.outcome) (run_any_memory pair.source bounds empty q.input tape) in
-    let b = ap (λ (r : Run). r.outcome) (run_any_memory pair.target bounds empty q.input q.tape) in
-    let a' = ap (λ (r : Run). r.outcome) (run_any_memory pair.source bounds q.input.blocks q.input tape) in
-    let b' = ap (λ (r : Run). r.outcome) (run_any_memory pair.target bounds q.input.blocks q.input q.tape) in
-    refined_2 _ _ _ _ a b ∙ refined_any_memory (run_of pair.source bounds q.input tape).outcome (run_of pair.target bounds q.input q.tape).outcome empty q.input.blocks ∙ sym (refined_2 _ _ _ _ a' b')
+    let a = ap (λ (r : Run). r.outcome) (run_any_memory pair.source none.source bounds empty q.input tape) in
+    let b = ap (λ (r : Run). r.outcome) (run_any_memory pair.target none.target bounds empty q.input q.tape) in
+    let a' = ap (λ (r : Run). r.outcome) (run_any_memory pair.source none.source bounds q.input.blocks q.input tape) in
+    let b' = ap (λ (r : Run). r.outcome) (run_any_memory pair.target none.target bounds q.input.blocks q.input q.tape) in
+    refined_2 _ _ _ _ a b
+    ∙ refined_any_memory (run_of pair.source bounds q.input tape).outcome (run_of pair.target bounds q.input q.tape).outcome (filter is_given empty) (filter is_given q.input.blocks) ∙ sym (refined_2 _ _ _ _ a' b')
 
-some_covers_emptied : (pair : Functions) (bounds : Bounds) (q : Point) (tapes : List (List ℕ)) → some_covers pair bounds (emptied bounds q) tapes ≡ some_covers pair bounds q tapes
+some_covers_emptied : (pair : Functions) → HaveNoPointers pair → (bounds : Bounds) (q : Point) (tapes : List (List ℕ)) → some_covers pair bounds (emptied bounds q) tapes ≡ some_covers pair bounds q tapes
 unfolding some_covers
-some_covers_emptied pair bounds q [] = refl
-some_covers_emptied pair bounds q (tape ∷ tapes) = rw (covers_emptied pair bounds q tape, some_covers_emptied pair bounds q tapes) refl
+some_covers_emptied pair none bounds q [] = refl
+some_covers_emptied pair none bounds q (tape ∷ tapes) = rw (covers_emptied pair none bounds q tape, some_covers_emptied pair none bounds q tapes) refl
 
-covered_emptied : (pair : Functions) (bounds : Bounds) (tapes : List (List ℕ)) (q : Point) → is_covered pair bounds tapes (emptied bounds q) ≡ is_covered pair bounds tapes q
-covered_emptied pair bounds tapes q = some_covers_emptied pair bounds q (shifted (need_of bounds.turns pair.source) q.tape ++ tapes)
+covered_emptied : (pair : Functions) → HaveNoPointers pair → (bounds : Bounds) (tapes : List (List ℕ)) (q : Point) → is_covered pair bounds tapes (emptied bounds q) ≡ is_covered pair bounds tapes q
+covered_emptied pair none bounds tapes q = some_covers_emptied pair none bounds q (shifted (need_of bounds.turns pair.source) q.tape ++ tapes)
 
 -- ---- and it comes no later
 
@@ -94,17 +83,25 @@ place_emptied pair bounds q small given =
 emptied_cell : (pair : Functions) (bounds : Bounds) (q : Point) → IsPoint pair bounds q → IsCell pair bounds (emptied bounds q)
 emptied_cell pair bounds q point = record { args = point.args; blocks = refl; tape = point.tape }
 
-emptied_plain : (pair : Functions) (bounds : Bounds) (q : Point) → IsPoint pair bounds q → IsPlain q.tape (run_of pair.target bounds (emptied bounds q).input q.tape)
-emptied_plain pair bounds q point = λ k. rw (run_any_memory pair.target bounds (empty_blocks bounds.bytes bounds.blocks) q.input q.tape) (point.plain k)
+emptied_plain : (pair : Functions) → HaveNoPointers pair → (bounds : Bounds) (q : Point) → IsPoint pair bounds q → IsPlain q.tape (run_of pair.target bounds (emptied bounds q).input q.tape)
+emptied_plain pair none bounds q point =
+    let same = run_any_memory pair.target none.target bounds (empty_blocks bounds.bytes bounds.blocks) q.input q.tape in
+    λ k. point.plain k ∙ ap (λ (r : Run). slice_index r.taken k) (sym same)
 
-pub all_covered : (pair : Functions) (bounds : Bounds) (tapes : List (List ℕ)) → AreAllCellsCovered pair bounds tapes → AreAllCovered pair bounds tapes
-all_covered pair bounds tapes all = λ q point. sym (covered_emptied pair bounds tapes q) ∙ all (emptied bounds q) (emptied_cell pair bounds q point) (emptied_plain pair bounds q point)
+all_covered : (pair : Functions) → HaveNoPointers pair → (bounds : Bounds) (tapes : List (List ℕ)) → AreCoveredAmong (IsCell pair bounds) pair bounds tapes → AreAllCovered pair bounds tapes
+all_covered pair none bounds tapes all = λ q point. sym (covered_emptied pair none bounds tapes q) ∙ all (emptied bounds q) (emptied_cell pair bounds q point) (emptied_plain pair none bounds q point)
 
-pub least_of_points : (pair : Functions) (bounds : Bounds) (tapes : List (List ℕ)) (p : Point) → AreSmall bounds → IsLeastUncoveredCell pair bounds tapes p → IsLeastUncovered pair bounds tapes p
-least_of_points pair bounds tapes p small least = record {
-  point = record { args = least.cell.args; given = rw least.cell.blocks (empty_fit bounds.blocks bounds.bytes); tape = least.cell.tape; plain = least.here.plain };
+least_of_points : (pair : Functions) → HaveNoPointers pair → (bounds : Bounds) (tapes : List (List ℕ)) (p : Point) → AreSmall bounds → IsLeastAmong (IsCell pair bounds) pair bounds tapes p → IsLeastUncovered pair bounds tapes p
+least_of_points pair none bounds tapes p small least = record {
+  point = record { args = least.among.args; given = rw least.among.blocks (empty_fit bounds.blocks bounds.bytes); tape = least.among.tape; plain = least.here.plain };
   uncovered = least.here.uncovered;
   least = λ q point less.
       let at_most = place_emptied pair bounds q small point.given in
-      sym (covered_emptied pair bounds tapes q) ∙ least.least (emptied bounds q) (emptied_cell pair bounds q point) (emptied_plain pair bounds q point) (omega (arith, at_most, less));
+      sym (covered_emptied pair none bounds tapes q) ∙ least.least (emptied bounds q) (emptied_cell pair bounds q point) (emptied_plain pair none bounds q point) (omega (arith, at_most, less));
 }
+
+pub cells_decide : (pair : Functions) → HaveNoPointers pair → (bounds : Bounds) (tapes : List (List ℕ)) (found : Option Point) → AreSmall bounds
+    → MatchOption found (AreCoveredAmong (IsCell pair bounds) pair bounds tapes) (IsLeastAmong (IsCell pair bounds) pair bounds tapes)
+    → MatchOption found (AreAllCovered pair bounds tapes) (IsLeastUncovered pair bounds tapes)
+cells_decide pair none bounds tapes None small all = all_covered pair none bounds tapes all
+cells_decide pair none bounds tapes (Some p) small least = least_of_points pair none bounds tapes p small least

@@ -6,24 +6,21 @@ use Rattle.std.proofs.Math.Seq.{drop-length, take-suc-set}
 use Rattle.std.proofs.Math.ListN.{set}
 use Rattle.std.proofs.lemmas.List.FromFn.{map-range_with_len_more}
 use Rattle.byte_block.specs.declared.block.MemoryBlock.{MemoryBlock}
-use Rattle.points.specs.declared.machine.Machine.{Machine}
 use Rattle.points.specs.declared.outcome.Outcome.{Outcome}
 use Rattle.points.specs.declared.point.Bounds.{Bounds}
 use Rattle.points.specs.declared.point.Point.{Point}
 use Rattle.points.specs.Pair.{Functions}
 use Rattle.points.specs.Refines.{is_refined}
-use Rattle.points.specs.Run.{Run, run_of, IsPlain}
+use Rattle.points.specs.Run.{run_of, IsPlain}
 use Rattle.points.specs.Tapes.{need_of}
 use Rattle.points.specs.Covers.{covers, some_covers, shifted, words_of, is_covered}
 use Rattle.choice_interp.specs.declared.ending.Ending.{Ending}
-use Rattle.choice_interp.specs.Ran.{outcome_of, run_with}
-use Rattle.slow_judge.specs.Search.{IsUncovered}
+use Rattle.choice_interp.specs.Ran.{outcome_of}
+use Rattle.slow_judge.specs.Search.{DoesEnd, IsUncovered}
 
-pub covers_at : (pair : Functions) (bounds : Bounds) (p : Point) (tape : List ℕ) (source target : Ending) (m : Machine) (holds : Bool) → run_of pair.source bounds p.input tape ≡ run_with source m → m.memory ≡ p.input.blocks → (run_of pair.target bounds p.input p.tape).outcome ≡ outcome_of target p.input.blocks → ((memory : List MemoryBlock) → holds ≡ is_refined (outcome_of source memory) (outcome_of target memory)) → holds ≡ covers pair bounds p tape
+pub covers_at : (pair : Functions) (bounds : Bounds) (p : Point) (tape : List ℕ) (source target : Ending) (holds : Bool) (left memory : List MemoryBlock) → (run_of pair.source bounds p.input tape).outcome ≡ outcome_of source left → DoesEnd pair bounds p target memory → holds ≡ is_refined (outcome_of source left) (outcome_of target memory) → holds ≡ covers pair bounds p tape
 unfolding covers
-covers_at pair bounds p tape source target m holds ran memory e h =
-    let outcome : (run_of pair.source bounds p.input tape).outcome ≡ outcome_of source p.input.blocks = ap (λ (run : Run). run.outcome) ran ∙ ap (outcome_of source) memory in
-    h p.input.blocks ∙ sym (both _ _ _ _ outcome e)
+covers_at pair bounds p tape source target holds left memory e f h = h ∙ sym (both _ _ _ _ e f)
   where
     both : (x x' y y' : Outcome) → x ≡ x' → y ≡ y' → is_refined x y ≡ is_refined x' y'
     both x x' y y' e f = rw (e, f) refl

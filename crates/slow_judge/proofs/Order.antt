@@ -2,29 +2,30 @@
 use Rattle.std.proofs.Common.{◌≡◌, ℕ, zero, suc, ◌+◌, ◌-◌, ◌*◌, ◌^◌, ◌<◌, ◌≤◌, List, [], ◌∷◌, ◌++◌, length, map, replicate, refl, sym, ap, ◌∙◌, arith, add-one, zero-add, append_assoc, append-nil}
 use Rattle.std.specs.List.{flat_map}
 use Rattle.std.proofs.lemmas.List.{length-replicate}
+use Rattle.std.proofs.lemmas.Nat.{pow_pos}
+use Rattle.ir_tree.specs.declared.tree.IrType.{IrType}
+use Rattle.ir_tree.specs.declared.tree.IrType.TheVariants as type
 use Rattle.ir_tree.specs.declared.tree.Parameter.{Parameter}
-use Rattle.ir_tree.specs.Limits.{AreIntegers}
+use Rattle.ir_tree.specs.Pointers.{AreIntegers}
 use Rattle.byte_block.specs.declared.value.Value.{Value}
-use Rattle.byte_block.specs.declared.value.Value.TheVariants.{Num}
 use Rattle.byte_block.specs.declared.value.Byte.TheVariants as byte
 use Rattle.byte_block.specs.declared.block.MemoryBlock.{MemoryBlock}
 use Rattle.points.specs.declared.point.Bounds.{Bounds}
 use Rattle.points.specs.declared.point.Point.{Point}
 use Rattle.points.specs.Pair.{Functions}
-use Rattle.points.specs.Code.{number_of, ArgsFit, BytesFit, BlocksFit, WordsFit, args_code, byte_code, places_code, blocks_code, code_of}
-use Rattle.points.specs.Next.{IsNextWords, IsLastWords, IsNextArgs, IsLastArgs}
+use Rattle.points.specs.Code.{number_of, ValueFits, ArgsFit, BytesFit, BlocksFit, WordsFit, value_code, args_code, byte_code, places_code, blocks_code, code_of}
+use Rattle.points.specs.Next.{IsNextWords, IsLastWords, IsNextArgs, IsLastArgs, least_value}
 use Rattle.points.specs.Tapes.{need_of, widest_choice}
 use Rattle.points.specs.Trail.{place_in}
 use Rattle.points.specs.Codes.{IsChain}
-use Rattle.points.proofs.Order.{Digits, IsNextIn, IsLastIn, HaveDigits, next_in_back, next_in_front, last_in_both, at_most_by_back, number_of-below, number_of-append}
+use Rattle.points.proofs.Order.{Digits, IsNextIn, IsLastIn, HaveDigits, next_in_back, next_in_front, last_in_both, at_most_by_back, number_of-below}
 use Rattle.points.proofs.Words.{WordsFit-digits, WordsFit-length, number_of-zeros}
 use Rattle.points.proofs.Words as words
-use Rattle.points.proofs.Args.{IsArgsCode, args_digits, digits_of, Digits-append, any_blocks, any_code, zeros_number}
-use Rattle.points.proofs.Args as args
+use Rattle.points.proofs.Args.{IsArgsCode, args_digits, digits_of, Digits-append, any_blocks, any_code}
 use Rattle.points.proofs.Same.{Fits, blocks_digits, code_length, code_digits, same_point}
 use Rattle.points.proofs.Meaning.{widest_small}
 use Rattle.unroll.specs.Small.{AreSmall}
-use Rattle.slow_judge.specs.Search.{empty_block, empty_blocks, IsCell, IsNextCell, IsLastCell}
+use Rattle.slow_judge.specs.Search.{empty_block, empty_blocks, least_args, IsCell, IsNextCell, IsLastCell}
 
 -- ---- empty blocks fit
 
@@ -124,18 +125,22 @@ short bounds small = let most = small.bytes in omega (arith, most)
 middle_digits : (bounds : Bounds) → AreSmall bounds → Digits (middle_count bounds) (middle_of bounds)
 middle_digits bounds small = blocks_digits bounds.blocks bounds.bytes (empty_blocks bounds.bytes bounds.blocks) (few bounds small) (short bounds small) (empty_fit bounds.blocks bounds.bytes)
 
-pub cell_fits : (pair : Functions) (bounds : Bounds) (p : Point) → IsCell pair bounds p → Fits bounds.blocks bounds.bytes (need_of bounds.turns pair.target) (widest_choice pair.target) pair.target.parameters p
+-- arguments, blocks and a tape as a point of the pair has them
+abbrev pub IsFit : Functions → Bounds → Point → Type 0
+IsFit pair bounds p = Fits bounds.blocks bounds.bytes (need_of bounds.turns pair.target) (widest_choice pair.target) pair.target.parameters p
+
+pub cell_fits : (pair : Functions) (bounds : Bounds) (p : Point) → IsCell pair bounds p → IsFit pair bounds p
 cell_fits pair bounds p cell = record { args = cell.args; given = rw cell.blocks (empty_fit bounds.blocks bounds.bytes); tape = cell.tape }
 
-pub same_cell : (pair : Functions) (bounds : Bounds) (p q : Point) → AreSmall bounds → IsCell pair bounds p → IsCell pair bounds q → place_in pair bounds p ≡ place_in pair bounds q → p ≡ q
-same_cell pair bounds p q small cell cell' e = same_point bounds.blocks bounds.bytes (need_of bounds.turns pair.target) (widest_choice pair.target) pair.target.parameters p q (few bounds small) (short bounds small) (widest_small pair.target) (cell_fits pair bounds p cell) (cell_fits pair bounds q cell') e
+pub same_place : (pair : Functions) (bounds : Bounds) (p q : Point) → AreSmall bounds → IsFit pair bounds p → IsFit pair bounds q → place_in pair bounds p ≡ place_in pair bounds q → p ≡ q
+same_place pair bounds p q small fits fits' e = same_point bounds.blocks bounds.bytes (need_of bounds.turns pair.target) (widest_choice pair.target) pair.target.parameters p q (few bounds small) (short bounds small) (widest_small pair.target) fits fits' e
 
--- no place of a cell is as great
+-- no place of a point is as great
 abbrev pub places_in : Functions → Bounds → ℕ
 places_in pair bounds = (2 ^ 64) ^ code_length bounds.blocks bounds.bytes (need_of bounds.turns pair.target) pair.target.parameters
 
-pub within_places : (pair : Functions) (bounds : Bounds) (p : Point) → AreSmall bounds → IsCell pair bounds p → place_in pair bounds p < places_in pair bounds
-within_places pair bounds p small cell = number_of-below (code_length bounds.blocks bounds.bytes (need_of bounds.turns pair.target) pair.target.parameters) (code_of bounds.blocks pair.target.parameters p) (code_digits bounds.blocks bounds.bytes (need_of bounds.turns pair.target) (widest_choice pair.target) pair.target.parameters p (few bounds small) (short bounds small) (widest_small pair.target) (cell_fits pair bounds p cell))
+pub within_places : (pair : Functions) (bounds : Bounds) (p : Point) → AreSmall bounds → IsFit pair bounds p → place_in pair bounds p < places_in pair bounds
+within_places pair bounds p small fits = number_of-below (code_length bounds.blocks bounds.bytes (need_of bounds.turns pair.target) pair.target.parameters) (code_of bounds.blocks pair.target.parameters p) (code_digits bounds.blocks bounds.bytes (need_of bounds.turns pair.target) (widest_choice pair.target) pair.target.parameters p (few bounds small) (short bounds small) (widest_small pair.target) fits)
 
 code_is : (pair : Functions) (bounds : Bounds) (p : Point) → AreIntegers pair.target.parameters → IsCell pair bounds p → code_of bounds.blocks pair.target.parameters p ≡ args_code 0 pair.target.parameters p.input.args ++ (middle_of bounds ++ p.tape)
 code_is pair bounds p int cell =
@@ -226,7 +231,7 @@ cell_next pair bounds old new int cell cell' next =
     let e = ap number_of (code_is pair bounds old int cell) in
     let f = ap number_of (code_is pair bounds new int cell') in
     record {
-      cell = cell';
+      among = cell';
       later = less_at (place_in pair bounds old) _ (place_in pair bounds new) _ e f next.later;
       no_gap = λ q q_cell less.
           let less' = less_at _ (place_in pair bounds q) _ (place_in pair bounds new) refl (sym f) less in
@@ -264,19 +269,33 @@ last_by_both pair bounds p small int cell last last' = λ q q_cell.
 
 -- ---- the first one
 
-pub first_cell : (pair : Functions) (bounds : Bounds) (p : Point) → AreIntegers pair.target.parameters → p.input.args ≡ replicate (length pair.target.parameters) (Num 0) → p.input.blocks ≡ empty_blocks bounds.bytes bounds.blocks → p.tape ≡ replicate (need_of bounds.turns pair.target) 0 → IsCell pair bounds p
-first_cell pair bounds p int e f g = record {
-  args = rw e (any_blocks 0 bounds.blocks pair.target.parameters _ int (args.zeros_fit pair.target.parameters int));
+least_value_fits : (blocks : ℕ) (t : IrType) → ValueFits blocks t (least_value t)
+least_value_fits blocks (type.Int width) = pow_pos width.bits
+least_value_fits blocks type.Ptr = record { block = tt; offset = omega arith }
+
+least_value_zeros : (blocks : ℕ) (t : IrType) → Zeros (value_code blocks t (least_value t))
+least_value_zeros blocks (type.Int width) = (refl, (refl, tt))
+least_value_zeros blocks type.Ptr = (refl, (refl, (refl, tt)))
+
+least_args_fit : (blocks : ℕ) (ps : List Parameter) → ArgsFit blocks ps (least_args ps)
+least_args_fit blocks [] = tt
+least_args_fit blocks (p ∷ ps) = (least_value_fits blocks p.of_type, least_args_fit blocks ps)
+
+least_args_zeros : (blocks : ℕ) (ps : List Parameter) → Zeros (args_code blocks ps (least_args ps))
+least_args_zeros blocks [] = tt
+least_args_zeros blocks (p ∷ ps) = Zeros-append (value_code blocks p.of_type (least_value p.of_type)) (args_code blocks ps (least_args ps)) (least_value_zeros blocks p.of_type) (least_args_zeros blocks ps)
+
+pub first_cell : (pair : Functions) (bounds : Bounds) (p : Point) → p.input.args ≡ least_args pair.target.parameters → p.input.blocks ≡ empty_blocks bounds.bytes bounds.blocks → p.tape ≡ replicate (need_of bounds.turns pair.target) 0 → IsCell pair bounds p
+first_cell pair bounds p e f g = record {
+  args = rw e (least_args_fit bounds.blocks pair.target.parameters);
   blocks = f;
   tape = rw g (words.zeros_fit (widest_choice pair.target) (need_of bounds.turns pair.target));
 }
 
-pub first_place : (pair : Functions) (bounds : Bounds) (p : Point) → AreIntegers pair.target.parameters → p.input.args ≡ replicate (length pair.target.parameters) (Num 0) → p.input.blocks ≡ empty_blocks bounds.bytes bounds.blocks → p.tape ≡ replicate (need_of bounds.turns pair.target) 0 → place_in pair bounds p ≡ 0
-first_place pair bounds p int e f g =
+pub first_place : (pair : Functions) (bounds : Bounds) (p : Point) → p.input.args ≡ least_args pair.target.parameters → p.input.blocks ≡ empty_blocks bounds.bytes bounds.blocks → p.tape ≡ replicate (need_of bounds.turns pair.target) 0 → place_in pair bounds p ≡ 0
+first_place pair bounds p e f g =
     let ps = pair.target.parameters in
-    let n = need_of bounds.turns pair.target in
-    let code : code_of bounds.blocks ps p ≡ args_code 0 ps (replicate (length ps) (Num 0)) ++ (middle_of bounds ++ replicate n 0) =
-    code_is pair bounds p int (first_cell pair bounds p int e f g) ∙ rw (e, g) refl in
-    let rest = number_of-Zeros (middle_of bounds ++ replicate n 0) (Zeros-append (middle_of bounds) (replicate n 0) (middle_zeros bounds.blocks bounds.bytes) (replicate_zero n)) in
-    let zeros = zeros_number ps int in
-    ap number_of code ∙ number_of-append (args_code 0 ps (replicate (length ps) (Num 0))) (middle_of bounds ++ replicate n 0) ∙ rw (rest, zeros) (omega arith)
+    let args : Zeros (args_code bounds.blocks ps p.input.args) = rw e (least_args_zeros bounds.blocks ps) in
+    let blocks : Zeros (blocks_code bounds.blocks p.input.blocks) = rw f (middle_zeros bounds.blocks bounds.bytes) in
+    let tape : Zeros p.tape = rw g (replicate_zero (need_of bounds.turns pair.target)) in
+    number_of-Zeros (code_of bounds.blocks ps p) (Zeros-append (args_code bounds.blocks ps p.input.args) (blocks_code bounds.blocks p.input.blocks ++ p.tape) args (Zeros-append (blocks_code bounds.blocks p.input.blocks) p.tape blocks tape))

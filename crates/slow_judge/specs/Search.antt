@@ -1,23 +1,45 @@
--- What the judge goes through: points whose given blocks have size 0. Functions without pointers neither read nor change given blocks, so these points decide.
-use Rattle.std.specs.Prelude.{◌≡◌, ℕ, zero, suc, ◌+◌, ◌<◌, ◌≤◌, List, [], ◌∷◌, ◌++◌, length, replicate, true, false}
+-- What the judge goes through: the points of the pair's shape. Functions without pointers neither read nor change given blocks, so of their points those decide whose given blocks have size 0.
+use Rattle.std.specs.Prelude.{◌≡◌, ℕ, zero, suc, ◌+◌, ◌<◌, ◌≤◌, List, [], ◌∷◌, ◌++◌, length, map, replicate, true, false}
+use Rattle.ir_tree.specs.declared.tree.Parameter.{Parameter}
+use Rattle.ir_tree.specs.Limits.{IsWithinLimits}
+use Rattle.ir_tree.specs.Pointers.{HasNoPointers}
 use Rattle.byte_block.specs.declared.value.BlockName.TheVariants.{Given}
 use Rattle.byte_block.specs.declared.value.Byte.TheVariants as byte
+use Rattle.byte_block.specs.declared.value.Value.{Value}
 use Rattle.byte_block.specs.declared.block.MemoryBlock.{MemoryBlock}
 use Rattle.points.specs.declared.point.Bounds.{Bounds}
 use Rattle.points.specs.declared.point.Budget.{Budget}
 use Rattle.points.specs.declared.point.Point.{Point}
+use Rattle.points.specs.declared.point.Shape.{Shape}
 use Rattle.points.specs.declared.verdict.Kept.{Kept}
 use Rattle.points.specs.declared.verdict.Verdict.{Verdict}
 use Rattle.points.specs.Pair.{Functions}
 use Rattle.points.specs.Code.{ArgsFit, WordsFit}
+use Rattle.points.specs.Next.{least_value}
 use Rattle.points.specs.Run.{run_of, IsPlain}
 use Rattle.points.specs.Tapes.{need_of, widest_choice}
 use Rattle.points.specs.Covers.{is_covered, word_before, word_behind}
 use Rattle.points.specs.Trail.{place_in, TrailFrom, open_point, Ends}
+use Rattle.choice_interp.specs.declared.ending.Ending.{Ending}
+use Rattle.choice_interp.specs.Ran.{outcome_of}
 use Rattle.choice_interp.specs.Runners.{IsRunner}
 use Rattle.slow_judge.specs.declared.bench.Bench.{Bench}
 use Rattle.slow_judge.specs.declared.cover.Shift.{Shift}
 use Rattle.slow_judge.specs.declared.cover.Shift.TheVariants.{Behind, Before}
+
+pub record AreWithinLimits (pair : Functions) : Type 0 where
+  pub source : IsWithinLimits pair.source
+  pub target : IsWithinLimits pair.target
+
+pub record HaveNoPointers (pair : Functions) : Type 0 where
+  pub source : HasNoPointers pair.source
+  pub target : HasNoPointers pair.target
+
+-- the target's run on the point ends so and leaves this memory
+abbrev pub DoesEnd : Functions → Bounds → Point → Ending → List MemoryBlock → Type 0
+DoesEnd pair bounds p ending memory = (run_of pair.target bounds p.input p.tape).outcome ≡ outcome_of ending memory
+
+-- ---- given blocks
 
 -- a given block of size 0, with room for so many bytes
 abbrev pub empty_block : ℕ → ℕ → MemoryBlock
@@ -28,35 +50,54 @@ unfoldable pub empty_blocks : ℕ → ℕ → List MemoryBlock
 empty_blocks bytes zero = []
 empty_blocks bytes (suc n) = empty_blocks bytes n ++ empty_block bytes (n + 1) ∷ []
 
--- ---- cells: points with empty blocks, but for their tape's being plain
+-- ---- the points in order, but for their tape's being plain
 
+-- the shape of the pair's points
+pub record IsShapeOf (pair : Functions) (bounds : Bounds) (s : Shape) : Type 0 where
+  pub parameters : s.parameters ≡ pair.target.parameters
+  pub blocks : s.blocks ≡ bounds.blocks
+  pub bytes : s.bytes ≡ bounds.bytes
+  pub words : s.words ≡ need_of bounds.turns pair.target
+  pub word_width : s.word_width.bits ≡ widest_choice pair.target
+
+-- a cell is a point with empty blocks
 pub record IsCell (pair : Functions) (bounds : Bounds) (p : Point) : Type 0 where
   pub args : ArgsFit bounds.blocks pair.target.parameters p.input.args
   pub blocks : p.input.blocks ≡ empty_blocks bounds.bytes bounds.blocks
   pub tape : WordsFit (widest_choice pair.target) (need_of bounds.turns pair.target) p.tape
 
--- the next one: it comes later, and none between the two was left out
-pub record IsNextCell (pair : Functions) (bounds : Bounds) (old new : Point) : Type 0 where
-  pub cell : IsCell pair bounds new
+-- the least argument of each parameter
+abbrev pub least_args : List Parameter → List Value
+least_args parameters = map (λ (p : Parameter). least_value p.of_type) parameters
+
+-- the next one among some points: it comes later, and none of them between the two was left out
+pub record IsNextAmong (Among : Point → Type 0) (pair : Functions) (bounds : Bounds) (old new : Point) : Type 0 where
+  pub among : Among new
   pub later : place_in pair bounds old < place_in pair bounds new
-  pub no_gap : (q : Point) → IsCell pair bounds q → place_in pair bounds q < place_in pair bounds new → place_in pair bounds q ≤ place_in pair bounds old
+  pub no_gap : (q : Point) → Among q → place_in pair bounds q < place_in pair bounds new → place_in pair bounds q ≤ place_in pair bounds old
+
+abbrev pub IsNextCell : Functions → Bounds → Point → Point → Type 0
+IsNextCell pair bounds old new = IsNextAmong (IsCell pair bounds) pair bounds old new
+
+abbrev pub IsLastAmong : (Point → Type 0) → Functions → Bounds → Point → Type 0
+IsLastAmong Among pair bounds p = (q : Point) → Among q → place_in pair bounds q ≤ place_in pair bounds p
 
 abbrev pub IsLastCell : Functions → Bounds → Point → Type 0
-IsLastCell pair bounds p = (q : Point) → IsCell pair bounds q → place_in pair bounds q ≤ place_in pair bounds p
+IsLastCell pair bounds p = IsLastAmong (IsCell pair bounds) pair bounds p
 
--- ---- the least cell that nothing covers
+-- ---- the least of them that nothing covers
 
 pub record IsUncovered (pair : Functions) (bounds : Bounds) (tapes : List (List ℕ)) (p : Point) : Type 0 where
   pub plain : IsPlain p.tape (run_of pair.target bounds p.input p.tape)
   pub uncovered : is_covered pair bounds tapes p ≡ false
 
-pub record IsLeastUncoveredCell (pair : Functions) (bounds : Bounds) (tapes : List (List ℕ)) (p : Point) : Type 0 where
-  pub cell : IsCell pair bounds p
+pub record IsLeastAmong (Among : Point → Type 0) (pair : Functions) (bounds : Bounds) (tapes : List (List ℕ)) (p : Point) : Type 0 where
+  pub among : Among p
   pub here : IsUncovered pair bounds tapes p
-  pub least : (q : Point) → IsCell pair bounds q → IsPlain q.tape (run_of pair.target bounds q.input q.tape) → place_in pair bounds q < place_in pair bounds p → is_covered pair bounds tapes q ≡ true
+  pub least : (q : Point) → Among q → IsPlain q.tape (run_of pair.target bounds q.input q.tape) → place_in pair bounds q < place_in pair bounds p → is_covered pair bounds tapes q ≡ true
 
-abbrev pub AreAllCellsCovered : Functions → Bounds → List (List ℕ) → Type 0
-AreAllCellsCovered pair bounds tapes = (q : Point) → IsCell pair bounds q → IsPlain q.tape (run_of pair.target bounds q.input q.tape) → is_covered pair bounds tapes q ≡ true
+abbrev pub AreCoveredAmong : (Point → Type 0) → Functions → Bounds → List (List ℕ) → Type 0
+AreCoveredAmong Among pair bounds tapes = (q : Point) → Among q → IsPlain q.tape (run_of pair.target bounds q.input q.tape) → is_covered pair bounds tapes q ≡ true
 
 -- ---- what the judge works with
 
@@ -65,6 +106,11 @@ pub record IsReady (pair : Functions) (bounds : Bounds) (blocks : List MemoryBlo
   pub source : IsRunner pair.source blocks bench.source
   pub target : IsRunner pair.target blocks bench.target
   pub candidate : length bench.candidate ≡ need_of bounds.turns pair.source
+
+-- with some blocks
+pub record IsBench (pair : Functions) (bounds : Bounds) (bench : Bench) : Type 0 where
+  pub blocks : List MemoryBlock
+  pub ready : IsReady pair bounds blocks bench
 
 -- the verdict of a pair that is not too heavy
 pub record HasTrail (pair : Functions) (bounds : Bounds) (budget : Budget) (v : Verdict) : Type 0 where

@@ -1,11 +1,13 @@
 ghost use Rattle.std.specs.Prelude.{◌≡◌, IfOk, IsTrue, IsFalse, length, replicate, ◌+◌, ◌<◌};
-ghost use Rattle.ir_tree.specs.Limits.{AreIntegers};
+ghost use Rattle.ir_tree.specs.Pointers.{AreIntegers};
+ghost use Rattle.points.specs.Next.{least_value};
 ghost use Rattle.points.specs.Tapes.{need_of, widest_choice};
 ghost use Rattle.points.specs.Trail.{place_in};
 ghost use Rattle.unroll.specs.Small.{AreSmall};
-ghost use Rattle.slow_judge.specs.Search.{empty_block, empty_blocks, IsCell, IsNextCell, IsLastCell};
+ghost use Rattle.slow_judge.specs.Search.{empty_block, empty_blocks, least_args, IsCell, IsNextCell, IsLastCell};
 
-use byte_block::{BlockName, Byte, Memory, MemoryBlock, Value};
+use byte_block::{BlockName, Byte, Memory, MemoryBlock, Ptr, Value};
+use ir_tree::{IrType, Parameter};
 use points::{Bounds, Input, Pair, Point, next_args, next_words, zero_from};
 use std::alloc::{AllocError, Global};
 use support::{NoMemory, Sequence};
@@ -17,10 +19,26 @@ fn zero_bytes(alloc: Global, count: usize) -> Result<Vec<Byte>, AllocError>
     vec![in alloc; Byte::Num(0); count]
 }
 
-fn zero_args(alloc: Global, count: usize) -> Result<Vec<Value>, AllocError>
-    ensures { IfOk result (λ args. args.items ≡ replicate count (Value.Num 0)) }
+fn least_value(of_type: IrType) -> Value
+    ensures { result ≡ least_value of_type }
 {
-    vec![in alloc; Value::Num(0); count]
+    match of_type {
+        IrType::Int(_) => Value::Num(0),
+        IrType::Ptr => Value::Ptr(Ptr {
+            block: BlockName::Null,
+            offset: 0,
+        }),
+    }
+}
+
+fn first_args(alloc: Global, parameters: &[Parameter]) -> Result<Vec<Value>, NoMemory>
+    ensures { IfOk result (λ args. args.items ≡ least_args parameters.now) }
+{
+    let mut args = Vec::new(alloc);
+    for parameter in parameters {
+        args.push(least_value(parameter.of_type))?;
+    }
+    Ok(args)
 }
 
 /// A tape of zeros.
@@ -53,14 +71,13 @@ pub fn blocks_without_bytes(alloc: Global, bounds: &Bounds) -> Result<Memory, No
     Ok(Sequence::from_vec(blocks))
 }
 
-/// The first cell.
+/// The first cell, which is the first of all points too.
 pub fn first(alloc: Global, pair: &Pair, bounds: &Bounds, need: usize) -> Result<Point, NoMemory>
-    requires integers { AreIntegers pair.now.target.parameters }
     requires need { need ≡ need_of bounds.now.turns pair.now.target }
     ensures cell { IfOk result (λ p. IsCell pair.now bounds.now p) }
     ensures place { IfOk result (λ p. place_in pair.now bounds.now p ≡ 0) }
 {
-    let args = zero_args(alloc, pair.target().parameters.len())?;
+    let args = first_args(alloc, pair.target().parameters.as_slice())?;
     let blocks = blocks_without_bytes(alloc, bounds)?;
     let tape = zeros(alloc, need)?;
     Ok(Point {
@@ -73,7 +90,7 @@ pub fn first(alloc: Global, pair: &Pair, bounds: &Bounds, need: usize) -> Result
 }
 
 /// Puts the next cell in the place of one. It answers false exactly at the last, which then stays.
-pub fn next(pair: &Pair, bounds: &Bounds, width: Width, point: &mut Point) -> bool
+pub fn next_cell(pair: &Pair, bounds: &Bounds, width: Width, point: &mut Point) -> bool
     requires integers { AreIntegers pair.now.target.parameters }
     requires small { AreSmall bounds.now }
     requires width { width.bits ≡ widest_choice pair.now.target }

@@ -1,33 +1,59 @@
-ghost use Rattle.std.specs.Prelude.{◌≡◌, ◌↔◌, ◌≤◌, ◌<◌, ◌+◌, ◌^◌, IsTrue, IfOk, length, slice_index};
-ghost use Rattle.choice_interp.specs.Ran.{outcome_of};
+ghost use Rattle.std.specs.Prelude.{◌≡◌, ◌↔◌, ◌≤◌, ◌<◌, ◌+◌, ◌^◌, IsTrue, IfOk, OnOk, length};
 ghost use Rattle.choice_interp.specs.Runners.{IsRunner};
 ghost use Rattle.points.specs.Run.{run_of};
 ghost use Rattle.points.specs.Tapes.{need_of};
 ghost use Rattle.points.specs.Covers.{covers, some_covers, words_of, word_before, word_behind, shifted};
-ghost use Rattle.slow_judge.specs.Search.{IsReady, IsUncovered, shift_of};
+ghost use Rattle.slow_judge.specs.Search.{AreWithinLimits, DoesEnd, IsReady, IsUncovered, shift_of};
 
 use crate::bench::Bench;
-use choice_interp::{Ending, Runner, ending_refines, is_plain, run_again};
+use byte_block::Memory;
+use choice_interp::{Ending, Runner, is_plain, run_again, runs_refine};
 use points::{Bounds, Pair, Point};
 use support::{NoMemory, Sequence};
 
-/// Whether the source's run on the tape allows the target's run on the point, which ended so.
+/// How the target's run on the point ends.
+fn run_target(
+    pair: &Pair,
+    bounds: &Bounds,
+    point: &Point,
+    bench: &mut Bench,
+) -> Result<Ending, NoMemory>
+    requires pair { AreWithinLimits pair.now }
+    requires ready { IsReady pair.now bounds.now point.now.input.blocks bench.old }
+    ensures end { IfOk result (λ ending. DoesEnd pair.now bounds.now point.now ending bench.new.target.machine.memory) }
+    ensures taken { OnOk result ((run_of pair.now.target bounds.now point.now.input point.now.tape).taken ≡ bench.new.target.machine.taken) }
+    ensures ready { IsReady pair.now bounds.now point.now.input.blocks bench.new }
+{
+    let ending = run_again(
+        &mut bench.target,
+        pair.target(),
+        bounds,
+        &point.input,
+        point.tape.as_slice(),
+    )?;
+    Ok(ending)
+}
+
+/// Whether the source's run on the tape allows the target's run on the point, which ended so
+/// and left this memory.
 #[tactic(auto, using(crate::proofs::Covering::covers_at))]
 fn allows(
     pair: &Pair,
     bounds: &Bounds,
     point: &Point,
-    target: Ending,
     tape: &[u64],
+    target: Ending,
+    memory: &Memory,
     runner: &mut Runner,
 ) -> Result<bool, NoMemory>
+    requires pair { AreWithinLimits pair.now }
     requires ready { IsRunner pair.now.source point.now.input.blocks runner.old }
-    requires target { (run_of pair.now.target bounds.now point.now.input point.now.tape).outcome ≡ outcome_of target point.now.input.blocks }
+    requires target { DoesEnd pair.now bounds.now point.now target memory.now }
     ensures value { IfOk result (λ holds. holds ≡ covers pair.now bounds.now point.now tape.now) }
     ensures ready { IsRunner pair.now.source point.now.input.blocks runner.new }
 {
     let source = run_again(runner, pair.source(), bounds, &point.input, tape)?;
-    Ok(ending_refines(source, target))
+    Ok(runs_refine(source, &runner.machine.memory, target, memory))
 }
 
 /// Whether one of the tapes covers the point, on which the target's run ended so.
@@ -35,17 +61,19 @@ fn some_allows(
     pair: &Pair,
     bounds: &Bounds,
     point: &Point,
-    target: Ending,
     tapes: &[Sequence<u64>],
+    target: Ending,
+    memory: &Memory,
     runner: &mut Runner,
 ) -> Result<bool, NoMemory>
+    requires pair { AreWithinLimits pair.now }
     requires ready { IsRunner pair.now.source point.now.input.blocks runner.old }
-    requires target { (run_of pair.now.target bounds.now point.now.input point.now.tape).outcome ≡ outcome_of target point.now.input.blocks }
+    requires target { DoesEnd pair.now bounds.now point.now target memory.now }
     ensures value { IfOk result (λ holds. holds ≡ some_covers pair.now bounds.now point.now tapes.now) }
     ensures ready { IsRunner pair.now.source point.now.input.blocks runner.new }
 {
     for tape in tapes {
-        if allows(pair, bounds, point, target, tape.as_slice(), runner)? {
+        if allows(pair, bounds, point, tape.as_slice(), target, memory, runner)? {
             return Ok(true);
         }
     }
@@ -103,18 +131,21 @@ fn shift_allows(
     shift: Shift,
     bench: &mut Bench,
 ) -> Result<bool, NoMemory>
+    requires pair { AreWithinLimits pair.now }
     requires ready { IsReady pair.now bounds.now point.now.input.blocks bench.old }
-    requires target { (run_of pair.now.target bounds.now point.now.input point.now.tape).outcome ≡ outcome_of target point.now.input.blocks }
+    requires target { DoesEnd pair.now bounds.now point.now target bench.old.target.machine.memory }
     ensures value { IfOk result (λ holds. holds ≡ covers pair.now bounds.now point.now (words_of (need_of bounds.now.turns pair.now.source) (shift_of shift point.now.tape))) }
     ensures ready { IsReady pair.now bounds.now point.now.input.blocks bench.new }
+    ensures target { bench.new.target ≡ bench.old.target }
 {
     shift_into(&mut bench.candidate, point.tape.as_slice(), shift);
     let holds = allows(
         pair,
         bounds,
         point,
-        target,
         bench.candidate.as_slice(),
+        target,
+        &bench.target.machine.memory,
         &mut bench.source,
     )?;
     Ok(holds)
@@ -128,10 +159,12 @@ fn some_shift_allows(
     target: Ending,
     bench: &mut Bench,
 ) -> Result<bool, NoMemory>
+    requires pair { AreWithinLimits pair.now }
     requires ready { IsReady pair.now bounds.now point.now.input.blocks bench.old }
-    requires target { (run_of pair.now.target bounds.now point.now.input point.now.tape).outcome ≡ outcome_of target point.now.input.blocks }
+    requires target { DoesEnd pair.now bounds.now point.now target bench.old.target.machine.memory }
     ensures value { IfOk result (λ holds. holds ≡ some_covers pair.now bounds.now point.now (shifted (need_of bounds.now.turns pair.now.source) point.now.tape)) }
     ensures ready { IsReady pair.now bounds.now point.now.input.blocks bench.new }
+    ensures target { bench.new.target ≡ bench.old.target }
 {
     if shift_allows(pair, bounds, point, target, Shift::Behind(0), bench)? {
         return Ok(true);
@@ -157,18 +190,21 @@ pub fn is_cover(
     tape: &[u64],
     bench: &mut Bench,
 ) -> Result<bool, NoMemory>
+    requires pair { AreWithinLimits pair.now }
     requires ready { IsReady pair.now bounds.now point.now.input.blocks bench.old }
     ensures value { IfOk result (λ holds. holds ≡ covers pair.now bounds.now point.now tape.now) }
     ensures ready { IsReady pair.now bounds.now point.now.input.blocks bench.new }
 {
-    let target = run_again(
-        &mut bench.target,
-        pair.target(),
+    let target = run_target(pair, bounds, point, bench)?;
+    let holds = allows(
+        pair,
         bounds,
-        &point.input,
-        point.tape.as_slice(),
+        point,
+        tape,
+        target,
+        &bench.target.machine.memory,
+        &mut bench.source,
     )?;
-    let holds = allows(pair, bounds, point, target, tape, &mut bench.source)?;
     Ok(holds)
 }
 
@@ -180,22 +216,25 @@ pub fn is_uncovered(
     point: &Point,
     bench: &mut Bench,
 ) -> Result<bool, NoMemory>
+    requires pair { AreWithinLimits pair.now }
     requires ready { IsReady pair.now bounds.now point.now.input.blocks bench.old }
     ensures value { IfOk result (λ holds. IsTrue holds ↔ IsUncovered pair.now bounds.now tapes.now point.now) }
     ensures ready { IsReady pair.now bounds.now point.now.input.blocks bench.new }
 {
-    let target = run_again(
-        &mut bench.target,
-        pair.target(),
-        bounds,
-        &point.input,
-        point.tape.as_slice(),
-    )?;
+    let target = run_target(pair, bounds, point, bench)?;
     if !is_plain(point.tape.as_slice(), bench.target.machine.taken.as_slice()) {
         return Ok(false);
     }
     if some_shift_allows(pair, bounds, point, target, bench)? {
         return Ok(false);
     }
-    Ok(!some_allows(pair, bounds, point, target, tapes, &mut bench.source)?)
+    Ok(!some_allows(
+        pair,
+        bounds,
+        point,
+        tapes,
+        target,
+        &bench.target.machine.memory,
+        &mut bench.source,
+    )?)
 }

@@ -1,10 +1,10 @@
 ghost use Rattle.std.specs.Prelude.{◌≡◌, IfOk};
-ghost use Rattle.ir_tree.specs.Limits.{IsWithinLimits, AreIntegers};
+ghost use Rattle.ir_tree.specs.Limits.{IsWithinLimits};
 ghost use Rattle.points.specs.Range.{AreInRange};
 ghost use Rattle.points.specs.Tapes.{need_of, widest_choice};
 ghost use Rattle.points.specs.Trail.{IsVerdict};
 ghost use Rattle.unroll.specs.Small.{AreSmall};
-ghost use Rattle.slow_judge.specs.Search.{empty_blocks, IsReady, HasTrail};
+ghost use Rattle.slow_judge.specs.Search.{AreWithinLimits, empty_blocks, IsReady, HasTrail};
 
 use crate::bench::Bench;
 use crate::cells::{blocks_without_bytes, zeros};
@@ -36,7 +36,7 @@ fn grow(
     of_source: Tape,
     of_target: Tape,
 ) -> Result<Verdict, NoMemory>
-    requires integers { AreIntegers pair.now.target.parameters }
+    requires pair { AreWithinLimits pair.now }
     requires small { AreSmall bounds.now }
     requires source_words { of_source.words ≡ need_of bounds.now.turns pair.now.source }
     requires source_width { of_source.width.bits ≡ widest_choice pair.now.source }
@@ -69,8 +69,8 @@ fn grow(
     }
 }
 
-/// The verdict on a pair of functions with integer parameters. Its time grows with two to the power
-/// of the pair's bits.
+/// The verdict on a pair. Its time grows with two to the power of the pair's bits, and with all given
+/// blocks of the bounds where pointers stand in one of the functions.
 pub fn slow(
     alloc: Global,
     pair: &Pair,
@@ -79,8 +79,6 @@ pub fn slow(
 ) -> Result<Verdict, NoMemory>
     requires source_limits { IsWithinLimits pair.now.source }
     requires target_limits { IsWithinLimits pair.now.target }
-    requires source_integers { AreIntegers pair.now.source.parameters }
-    requires target_integers { AreIntegers pair.now.target.parameters }
     requires in_range { AreInRange bounds.now budget.now }
     ensures { IfOk result (IsVerdict pair.now bounds.now budget.now) }
 {

@@ -9,6 +9,7 @@ mod bench;
 mod cells;
 mod cover;
 mod judge;
+mod pointers;
 mod search;
 
 pub use judge::slow;

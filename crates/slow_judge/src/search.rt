@@ -1,14 +1,21 @@
-ghost use Rattle.std.specs.Prelude.{◌≡◌, MatchOption, IfOk};
-ghost use Rattle.ir_tree.specs.Limits.{AreIntegers};
+ghost use Rattle.std.specs.Prelude.{◌≡◌, MatchOption, IfOk, OnOk, IfSome, List};
+ghost use Rattle.byte_block.specs.declared.block.MemoryBlock.{MemoryBlock};
+ghost use Rattle.points.specs.Code.{IsOfShape};
+ghost use Rattle.points.specs.Pair.{Functions};
 ghost use Rattle.points.specs.Tapes.{need_of, widest_choice};
+ghost use Rattle.points.specs.Trail.{IsLeastUncovered, AreAllCovered};
 ghost use Rattle.points.specs.Covers.{IsLeastCover, HasNoCover};
+ghost use Rattle.points.specs.declared.point.Bounds.{Bounds as Limits};
 ghost use Rattle.unroll.specs.Small.{AreSmall};
-ghost use Rattle.slow_judge.specs.Search.{empty_blocks, IsCell, IsReady, IsLeastUncoveredCell, AreAllCellsCovered};
+ghost use Rattle.slow_judge.specs.Search.{AreWithinLimits, HaveNoPointers, IsShapeOf, IsCell, IsReady, IsBench, IsLeastAmong, AreCoveredAmong};
 
 use crate::bench::Bench;
-use crate::cells::{first, next, zeros};
+use crate::cells::{first, next_cell, zeros};
 use crate::cover::{is_cover, is_uncovered};
-use points::{Bounds, Pair, Point, next_words};
+use crate::pointers::have_no_pointers;
+use byte_block::Memory;
+use choice_interp::give_blocks;
+use points::{Bounds, Pair, Point, Shape, next, next_words};
 use std::alloc::Global;
 use support::{NoMemory, Sequence};
 use tv_num::Width;
@@ -20,7 +27,96 @@ pub struct Tape {
     pub width: Width,
 }
 
-/// The least point with empty blocks that neither a shift nor one of the tapes covers.
+fn give(bench: &mut Bench, blocks: &Memory) -> Result<(), NoMemory>
+    ensures { OnOk result ((pair : Functions) (bounds : Limits) → IsBench pair bounds bench.old → IsReady pair bounds blocks.now bench.new) }
+{
+    give_blocks(&mut bench.source, blocks)?;
+    give_blocks(&mut bench.target, blocks)?;
+    Ok(())
+}
+
+/// What the points of the pair look like.
+fn shape_of(alloc: Global, pair: &Pair, bounds: &Bounds, of_target: Tape) -> Result<Shape, NoMemory>
+    requires words { of_target.words ≡ need_of bounds.now.turns pair.now.target }
+    requires width { of_target.width.bits ≡ widest_choice pair.now.target }
+    ensures { IfOk result (IsShapeOf pair.now bounds.now) }
+{
+    let parameters = pair.target().parameters.as_slice().to_vec(alloc)?;
+    Ok(Shape {
+        parameters: Sequence::from_vec(parameters),
+        blocks: bounds.blocks,
+        bytes: bounds.bytes,
+        words: of_target.words as u64,
+        word_width: of_target.width,
+    })
+}
+
+/// The least cell that neither a shift nor one of the tapes covers.
+fn least_cell(
+    alloc: Global,
+    pair: &Pair,
+    bounds: &Bounds,
+    of_target: Tape,
+    tapes: &[Sequence<u64>],
+    bench: &mut Bench,
+) -> Result<Option<Point>, NoMemory>
+    requires pair { AreWithinLimits pair.now }
+    requires pointers { HaveNoPointers pair.now }
+    requires small { AreSmall bounds.now }
+    requires words { of_target.words ≡ need_of bounds.now.turns pair.now.target }
+    requires width { of_target.width.bits ≡ widest_choice pair.now.target }
+    requires bench { IsBench pair.now bounds.now bench.old }
+    ensures found { IfOk result (λ found. MatchOption found
+        (AreCoveredAmong (IsCell pair.now bounds.now) pair.now bounds.now tapes.now)
+        (IsLeastAmong (IsCell pair.now bounds.now) pair.now bounds.now tapes.now)) }
+    ensures ready { IfOk result (λ found. IfSome found (λ p. IsReady pair.now bounds.now p.input.blocks bench.new)) }
+{
+    let mut point = first(alloc, pair, bounds, of_target.words)?;
+    give(bench, &point.input.blocks)?;
+    loop {
+        if is_uncovered(pair, bounds, tapes, &point, bench)? {
+            return Ok(Some(point));
+        }
+        if !next_cell(pair, bounds, of_target.width, &mut point) {
+            return Ok(None);
+        }
+    }
+}
+
+/// The least of all points that neither a shift nor one of the tapes covers.
+fn least_point(
+    alloc: Global,
+    pair: &Pair,
+    bounds: &Bounds,
+    of_target: Tape,
+    tapes: &[Sequence<u64>],
+    bench: &mut Bench,
+) -> Result<Option<Point>, NoMemory>
+    requires pair { AreWithinLimits pair.now }
+    requires small { AreSmall bounds.now }
+    requires words { of_target.words ≡ need_of bounds.now.turns pair.now.target }
+    requires width { of_target.width.bits ≡ widest_choice pair.now.target }
+    requires bench { IsBench pair.now bounds.now bench.old }
+    ensures found { IfOk result (λ found. MatchOption found
+        (AreAllCovered pair.now bounds.now tapes.now)
+        (IsLeastUncovered pair.now bounds.now tapes.now)) }
+    ensures ready { IfOk result (λ found. IfSome found (λ p. IsReady pair.now bounds.now p.input.blocks bench.new)) }
+{
+    let shape = shape_of(alloc, pair, bounds, of_target)?;
+    let mut point = first(alloc, pair, bounds, of_target.words)?;
+    loop {
+        give(bench, &point.input.blocks)?;
+        if is_uncovered(pair, bounds, tapes, &point, bench)? {
+            return Ok(Some(point));
+        }
+        if !next(&mut point, &shape) {
+            return Ok(None);
+        }
+    }
+}
+
+/// The least point that neither a shift nor one of the tapes covers. Without pointers the points
+/// with empty blocks decide, and the others are passed over.
 pub fn least_uncovered(
     alloc: Global,
     pair: &Pair,
@@ -29,28 +125,25 @@ pub fn least_uncovered(
     tapes: &[Sequence<u64>],
     bench: &mut Bench,
 ) -> Result<Option<Point>, NoMemory>
-    requires integers { AreIntegers pair.now.target.parameters }
+    requires pair { AreWithinLimits pair.now }
     requires small { AreSmall bounds.now }
     requires words { of_target.words ≡ need_of bounds.now.turns pair.now.target }
     requires width { of_target.width.bits ≡ widest_choice pair.now.target }
-    requires ready { IsReady pair.now bounds.now (empty_blocks bounds.now.bytes bounds.now.blocks) bench.old }
+    requires bench { IsBench pair.now bounds.now bench.old }
     ensures found { IfOk result (λ found. MatchOption found
-        (AreAllCellsCovered pair.now bounds.now tapes.now)
-        (IsLeastUncoveredCell pair.now bounds.now tapes.now)) }
-    ensures ready { IsReady pair.now bounds.now (empty_blocks bounds.now.bytes bounds.now.blocks) bench.new }
+        (AreAllCovered pair.now bounds.now tapes.now)
+        (IsLeastUncovered pair.now bounds.now tapes.now)) }
+    ensures ready { IfOk result (λ found. IfSome found (λ p. IsReady pair.now bounds.now p.input.blocks bench.new)) }
 {
-    let mut point = first(alloc, pair, bounds, of_target.words)?;
-    loop {
-        if is_uncovered(pair, bounds, tapes, &point, bench)? {
-            return Ok(Some(point));
-        }
-        if !next(pair, bounds, of_target.width, &mut point) {
-            return Ok(None);
-        }
+    if have_no_pointers(pair) {
+        let found = least_cell(alloc, pair, bounds, of_target, tapes, bench)?;
+        return Ok(found);
     }
+    let found = least_point(alloc, pair, bounds, of_target, tapes, bench)?;
+    Ok(found)
 }
 
-/// The least tape with which the source covers the point, which has empty blocks.
+/// The least tape with which the source covers the point.
 pub fn least_cover(
     alloc: Global,
     pair: &Pair,
@@ -59,14 +152,14 @@ pub fn least_cover(
     point: &Point,
     bench: &mut Bench,
 ) -> Result<Option<Sequence<u64>>, NoMemory>
+    requires pair { AreWithinLimits pair.now }
     requires words { of_source.words ≡ need_of bounds.now.turns pair.now.source }
     requires width { of_source.width.bits ≡ widest_choice pair.now.source }
-    requires cell { IsCell pair.now bounds.now point.now }
-    requires ready { IsReady pair.now bounds.now (empty_blocks bounds.now.bytes bounds.now.blocks) bench.old }
+    requires ready { IsReady pair.now bounds.now point.now.input.blocks bench.old }
     ensures found { IfOk result (λ found. MatchOption found
         (HasNoCover pair.now bounds.now point.now)
         (IsLeastCover pair.now bounds.now point.now)) }
-    ensures ready { IsReady pair.now bounds.now (empty_blocks bounds.now.bytes bounds.now.blocks) bench.new }
+    ensures ready { IsReady pair.now bounds.now point.now.input.blocks bench.new }
 {
     let mut tape = zeros(alloc, of_source.words)?;
     loop {

@@ -3,7 +3,7 @@
 use crate::instructions::{Given, instruction_in, operand_pairs, upper_half, with_given};
 use byte_block::Value;
 use choice_interp::interpret;
-use ir_tree::Function;
+use ir_tree::{Function, is_within_limits};
 use points::{Bounds, Input, Outcome};
 use std::alloc::Global;
 use std::test::Fail;
@@ -27,6 +27,9 @@ pub fn interpreted(alloc: Global, f: &Function) -> Result<u64, Fail> {
 
 /// What a function of one instruction returns. Arguments beyond its parameters have no effect.
 pub fn returned(alloc: Global, f: &Function, args: &[Value]) -> Result<Given, NoMemory> {
+    if !is_within_limits(f) {
+        return Ok(Given::Other);
+    }
     let input = Input {
         args: Sequence::from_vec(args.to_vec(alloc)?),
         blocks: Sequence::from_vec(Vec::new(alloc)),

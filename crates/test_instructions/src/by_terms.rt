@@ -24,7 +24,7 @@ pub struct InstTerms {
 }
 
 /// The sum over the values of an instruction's terms.
-pub fn evaluated(alloc: Global, inst: Inst) -> Result<u64, Fail> {
+pub fn evaluated(alloc: Global, inst: &Inst) -> Result<u64, Fail> {
     let inst_terms = terms_of(alloc, inst)?;
     let mut sum = 0;
     for operands in operand_pairs(alloc, inst)?.as_slice() {
@@ -45,7 +45,7 @@ fn operand(terms: &mut Terms, first: u64) -> Result<SymValue, NoMemory>
 }
 
 /// The terms of an instruction on operands of its own.
-pub fn terms_of(alloc: Global, inst: Inst) -> Result<InstTerms, NoMemory> {
+pub fn terms_of(alloc: Global, inst: &Inst) -> Result<InstTerms, Fail> {
     let mut terms = Terms::new(alloc);
     let a = operand(&mut terms, 0)?;
     let b = operand(&mut terms, 2)?;
@@ -53,7 +53,7 @@ pub fn terms_of(alloc: Global, inst: Inst) -> Result<InstTerms, NoMemory> {
     let mut undefined = None;
     let value = match inst {
         Inst::Binary { op, width, .. } => {
-            let computed = binary(&mut terms, op, width, a, b)?;
+            let computed = binary(&mut terms, *op, *width, a, b)?;
             undefined = Some(computed.undefined);
             computed.value
         }
@@ -62,15 +62,17 @@ pub fn terms_of(alloc: Global, inst: Inst) -> Result<InstTerms, NoMemory> {
             same_sign,
             width,
             ..
-        } => compare(&mut terms, predicate, same_sign, width, a, b)?,
+        } => compare(&mut terms, *predicate, *same_sign, *width, a, b)?,
         Inst::Cast {
             cast: by,
             from,
             to,
             ..
-        } => cast(&mut terms, by, from, to, a)?,
+        } => cast(&mut terms, *by, *from, *to, a)?,
         Inst::Select { .. } => select(&mut terms, a, b, c)?,
         Inst::Freeze { .. } => a,
+        Inst::Alloca { .. } | Inst::Load { .. } | Inst::Store { .. } | Inst::GetElementPtr { .. } =>
+            return Err(Fail::from("an instruction on memory")),
     };
     Ok(InstTerms {
         terms,

@@ -56,23 +56,16 @@ pub fn function_in(module: &Module) -> Option<&Function> {
 }
 
 /// The one instruction of such a function.
-pub fn instruction_in(function: &Function) -> Option<Inst> {
-    function
-        .blocks
-        .as_slice()
-        .first()?
-        .insts
-        .as_slice()
-        .first()
-        .copied()
+pub fn instruction_in(function: &Function) -> Option<&Inst> {
+    function.blocks.as_slice().first()?.insts.as_slice().first()
 }
 
 /// The operands that a sum goes over, the left one slower. A cast has no right one: it is poison.
-pub fn operand_pairs(alloc: Global, inst: Inst) -> Result<Vec<[Value; 2]>, Fail> {
+pub fn operand_pairs(alloc: Global, inst: &Inst) -> Result<Vec<[Value; 2]>, Fail> {
     let mut pairs = Vec::new(alloc);
     match inst {
         Inst::Binary { width, .. } | Inst::Icmp { width, .. } => {
-            let values = operands(alloc, width)?;
+            let values = operands(alloc, *width)?;
             for left in values.as_slice() {
                 for right in values.as_slice() {
                     pairs.push([*left, *right])?;
@@ -80,13 +73,11 @@ pub fn operand_pairs(alloc: Global, inst: Inst) -> Result<Vec<[Value; 2]>, Fail>
             }
         }
         Inst::Cast { from, .. } => {
-            for value in operands(alloc, from)?.as_slice() {
+            for value in operands(alloc, *from)?.as_slice() {
                 pairs.push([*value, Value::Poison])?;
             }
         }
-        Inst::Select { .. } | Inst::Freeze { .. } => {
-            return Err(Fail::from("a line has an operation, a comparison or a cast"));
-        }
+        _ => return Err(Fail::from("a line has an operation, a comparison or a cast")),
     }
     Ok(pairs)
 }

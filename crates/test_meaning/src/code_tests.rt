@@ -56,6 +56,7 @@ fn one_of_each(alloc: Global) -> Result<Shape, NoMemory>
     let bit = Parameter {
         of_type: IrType::Int(Width::of(1)),
         no_undef: false,
+        non_null: false,
         name: 0,
     };
     let shape = shape_with(alloc, bit, 1, 1, 1)?;
@@ -158,6 +159,7 @@ fn without_bytes(alloc: Global) -> Result<Shape, NoMemory>
     let bit = Parameter {
         of_type: IrType::Int(Width::of(1)),
         no_undef: false,
+        non_null: false,
         name: 0,
     };
     let shape = shape_with(alloc, bit, 2, 0, 2)?;
@@ -196,6 +198,7 @@ fn one_pointer(alloc: Global) -> Result<Shape, NoMemory>
     let pointer = Parameter {
         of_type: IrType::Ptr,
         no_undef: false,
+        non_null: false,
         name: 0,
     };
     let shape = shape_with(alloc, pointer, 1, 0, 0)?;

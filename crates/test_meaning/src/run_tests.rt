@@ -5,6 +5,7 @@ use crate::functions::function_in;
 use byte_block::Value;
 use choice_interp::{Ending, interpret, run_again, runner_for};
 use ir_reader::read;
+use ir_tree::is_within_limits;
 use points::{Bounds, Input, Outcome};
 use std::alloc::Global;
 use std::test::Fail;
@@ -44,6 +45,7 @@ fn a_run_takes_its_choices_from_the_tape(rt: HostRuntime) -> Result<(), Fail> {
     let alloc = rt.alloc();
     let module = read(alloc, SUM).ok().ok_or("the module is read")?;
     let f = function_in(&module).ok_or("the function is read")?;
+    assert!(rt; is_within_limits(f));
     for (arg, tape, returned, is_plain) in &ROWS {
         let ran = interpret(alloc, f, &BOUNDS, &input_of(alloc, *arg)?, tape)?;
         assert!(rt; matches!(&ran.outcome, Outcome::Return(Some(value), _) if value == returned));
@@ -57,6 +59,7 @@ fn a_runner_runs_again_from_the_start(rt: HostRuntime) -> Result<(), Fail> {
     let alloc = rt.alloc();
     let module = read(alloc, SUM).ok().ok_or("the module is read")?;
     let f = function_in(&module).ok_or("the function is read")?;
+    assert!(rt; is_within_limits(f));
     let input = input_of(alloc, Value::Num(1))?;
     let mut runner = runner_for(alloc, f, &input.blocks)?;
     let first = run_again(&mut runner, f, &BOUNDS, &input, &[2])?;

@@ -3,8 +3,9 @@ use Rattle.std.proofs.Common.{◌≡◌, ℕ, ◌%◌, List, [], ◌∷◌, map,
 use Rattle.std.specs.List.{find}
 use Rattle.std.specs.Option.{option_map, option_map_or}
 use Rattle.std.proofs.lemmas.Bool.{cases_Bool, eqb-true, eqb-false}
+use Rattle.ir_tree.specs.declared.tree.IrType.{IrType}
 use Rattle.ir_tree.specs.declared.tree.Inst.{Inst}
-use Rattle.ir_tree.specs.declared.tree.Inst.TheVariants.{Binary, Icmp, Cast, Select, Freeze}
+use Rattle.ir_tree.specs.declared.tree.Inst.TheVariants.{Binary, Icmp, Cast, Select, Freeze, Alloca, Load, Store, GetElementPtr}
 use Rattle.ir_tree.specs.declared.tree.Phi.{Phi}
 use Rattle.ir_tree.specs.declared.tree.Case.{Case}
 use Rattle.ir_tree.specs.declared.tree.Terminator.{Terminator}
@@ -15,9 +16,15 @@ use Rattle.ir_tree.specs.Flow.{targets}
 use Rattle.byte_block.specs.declared.value.Value.{Value}
 use Rattle.byte_block.specs.declared.value.Value.TheVariants.{Num, Poison}
 use Rattle.byte_block.specs.declared.value.Value.TheVariants as value
+use Rattle.byte_block.specs.declared.block.MemoryBlock.{MemoryBlock}
+use Rattle.memory_access.specs.declared.access_types.Loaded.{Loaded}
+use Rattle.memory_access.specs.declared.access_types.Loaded.TheVariants as load
+use Rattle.memory_access.specs.declared.access_types.Stored.{Stored}
+use Rattle.memory_access.specs.declared.access_types.Stored.TheVariants as store
+use Rattle.memory_access.specs.Accesses.{load_result, store_result, after_store}
 use Rattle.points.specs.declared.machine.Machine.{Machine}
 use Rattle.points.specs.Table.{value_result}
-use Rattle.points.specs.Run.{Exit, Over, To, act, assigned, frozen, operand_value, phi_value, with_phis, entered, branch_on, switch_on, exit_by, exit_after, exit_insts, exit_of}
+use Rattle.points.specs.Run.{Exit, Over, To, act, assigned, frozen, operand_value, typed_value, typed_operand_value, access_of, loaded, stored, phi_value, with_phis, entered, branch_on, switch_on, exit_by, exit_after, exit_insts, exit_of}
 use Rattle.unroll.specs.declared.layered.Edge.{Edge}
 use Rattle.unroll.specs.Layers.{edge_of, labels_of}
 
@@ -39,17 +46,31 @@ assigned_turn : (m : Machine) (into : ℕ) (o : Option Value) → KeepsTurn m.tu
 assigned_turn m into None = tt
 assigned_turn m into (Some v) = refl
 
-frozen_turn : (tape : List ℕ) (m : Machine) (into width : ℕ) (v : Value) → (frozen tape m into width v).turn ≡ m.turn
-frozen_turn tape m into width (Num n) = refl
-frozen_turn tape m into width Poison = refl
-frozen_turn tape m into width (value.Ptr p) = refl
+frozen_turn : (tape : List ℕ) (m : Machine) (into : ℕ) (type : IrType) (v : Value) → (frozen tape m into type v).turn ≡ m.turn
+frozen_turn tape m into type (Num n) = refl
+frozen_turn tape m into type Poison = refl
+frozen_turn tape m into type (value.Ptr p) = refl
+
+loaded_turn : (m : Machine) (into : ℕ) (result : Loaded) → KeepsTurn m.turn (loaded m into result)
+loaded_turn m into load.Ub = tt
+loaded_turn m into (load.Done v) = refl
+
+stored_turn : (m : Machine) (memory : List MemoryBlock) (result : Stored) → KeepsTurn m.turn (stored m memory result)
+stored_turn m memory store.Ub = tt
+stored_turn m memory store.Done = refl
 
 act_turn : (inst : Inst) (tape : List ℕ) (m : Machine) → KeepsTurn m.turn (act inst tape m)
 act_turn (Binary into op width left right) tape m = assigned_turn m into (value_result op width.bits (operand_value m.registers left) (operand_value m.registers right))
 act_turn (Icmp into predicate same_sign width left right) tape m = refl
 act_turn (Cast into cast from operand to) tape m = refl
 act_turn (Select into condition if_true if_false) tape m = refl
-act_turn (Freeze into width operand) tape m = frozen_turn tape m into width.bits (operand_value m.registers operand)
+act_turn (Freeze into type operand) tape m = frozen_turn tape m into type (typed_value type (operand_value m.registers operand))
+act_turn (Alloca into number type align) tape m = refl
+act_turn (Load into type pointer align) tape m = loaded_turn m into (load_result m.memory (operand_value m.registers pointer) (access_of type) align)
+act_turn (Store v pointer align) tape m =
+    stored_turn m (after_store m.memory (typed_operand_value m.registers v) (access_of v.of_type) (operand_value m.registers pointer) align)
+    (store_result m.memory (access_of v.of_type) (operand_value m.registers pointer) align)
+act_turn (GetElementPtr into inbounds nuw type base indices) tape m = refl
 
 phis_turn : (before : Machine) (phis : List Phi) (m : Machine) → (with_phis before phis m).turn ≡ m.turn
 phis_turn before [] m = refl

@@ -1,18 +1,18 @@
 -- Sizes of a function within the limits.
-use Rattle.std.proofs.Common.{◌≡◌, ℕ, suc, Option, Some, None, ◌+◌, ◌*◌, ◌^◌, ◌<◌, ◌≤◌, max, List, [], ◌∷◌, length, drop, get_or, sum_by, refl, ap, ◌∙◌, arith, length-append}
+use Rattle.std.proofs.Common.{◌≡◌, ℕ, suc, ◌%◌, ◌/◌, All, Option, Some, None, ◌+◌, ◌*◌, ◌^◌, ◌<◌, ◌≤◌, max, List, [], ◌∷◌, length, drop, get_or, sum_by, refl, ap, ◌∙◌, arith, length-append}
 use Rattle.std.specs.List.{flat_map}
 use Rattle.std.proofs.lemmas.List.{drop_more}
 use Rattle.std.proofs.lemmas.List.Sums.{sum_by-cons}
 use Rattle.std.proofs.lemmas.List.Concat.{length-flat_map}
 use Rattle.std.proofs.Math.Seq.{drop-length}
-use Rattle.std.proofs.Math.Nat.{mul-le-mul_right}
+use Rattle.std.proofs.Math.Nat.{mul-le-mul_right, mod-eq_of_lt}
 use Rattle.tv_num.specs.declared.Width.{Width}
 use Rattle.ir_tree.specs.declared.tree.IrType.{IrType}
 use Rattle.ir_tree.specs.declared.tree.IrType.TheVariants as type
 use Rattle.ir_tree.specs.declared.tree.Op.{Op}
 use Rattle.ir_tree.specs.declared.tree.Op.TheVariants.{Add, Sub, Mul, UnsignedDiv, UnsignedRem, SignedDiv, SignedRem, ShiftLeft, LogicalShiftRight, ArithmeticShiftRight, And, Or, Xor}
 use Rattle.ir_tree.specs.declared.tree.Inst.{Inst}
-use Rattle.ir_tree.specs.declared.tree.Inst.TheVariants.{Binary, Icmp, Cast, Select, Freeze}
+use Rattle.ir_tree.specs.declared.tree.Inst.TheVariants.{Binary, Icmp, Cast, Select, Freeze, Alloca, Load, Store, GetElementPtr}
 use Rattle.ir_tree.specs.declared.tree.Terminator.{Terminator}
 use Rattle.ir_tree.specs.declared.tree.Terminator.TheVariants as terminator
 use Rattle.ir_tree.specs.declared.tree.Block.{Block}
@@ -20,11 +20,15 @@ use Rattle.ir_tree.specs.declared.tree.Function.{Function}
 use Rattle.std.specs.List.{AllByRecursion}
 use Rattle.std.proofs.lemmas.List.Elements.{recursion_from_All}
 use Rattle.ir_tree.specs.declared.tree.Phi.{Phi}
-use Rattle.ir_tree.specs.Limits.{IsWithinLimits, instructions_of, cases_in, HasFewCases, HasFewEntries}
-use Rattle.points.specs.Run.{undef_width}
-use Rattle.points.specs.Tapes.{inst_widths, widths_of, end_widths, block_widths, choice_widths, widest}
-use Rattle.points.specs.Weight.{type_width, op_cost, inst_cost, phi_cost, end_cost, block_cost, cost_of}
+use Rattle.ir_tree.specs.declared.tree.MemoryType.{MemoryType}
+use Rattle.ir_tree.specs.Types.{type_size, object_size}
+use Rattle.ir_tree.specs.Limits.{IsWithinLimits, instructions_of, cases_in, HasFewCases, HasFewEntries, HasSmallTypes, HasSmallObjects}
+use Rattle.points.specs.declared.point.Bounds.{Bounds}
+use Rattle.points.specs.Run.{undef_type}
+use Rattle.points.specs.Tapes.{word_widths, inst_widths, widths_of, end_widths, block_widths, choice_widths, widest}
+use Rattle.points.specs.Weight.{type_width, op_cost, made_bytes, made_in, inst_cost, phi_cost, end_cost, block_cost}
 use Rattle.points.proofs.Plain.{widest-append}
+use Rattle.unroll.specs.Small.{AreSmall}
 
 -- ---- sums of parts that are bounded
 
@@ -36,15 +40,28 @@ sum_within f (x ∷ xs) most h =
     let times : most * suc (length xs) ≡ most + most * length xs = omega arith in
     rw (sum_by-cons f x xs, times) (omega (arith, rest, first))
 
-pub sum_less : {A : Type 0} (f g : A → ℕ) (xs : List A) → ((x : A) → f x ≤ g x) → sum_by f xs ≤ sum_by g xs
-sum_less f g [] h = omega arith
-sum_less f g (x ∷ xs) h = let rest = sum_less f g xs h in let first = h x in rw (sum_by-cons f x xs, sum_by-cons g x xs) (omega (arith, rest, first))
-
 pub sum_times : {A : Type 0} (f g : A → ℕ) (k : ℕ) (xs : List A) → ((x : A) → f x ≤ k * g x) → sum_by f xs ≤ k * sum_by g xs
 sum_times f g k [] h = omega arith
 sum_times f g k (x ∷ xs) h =
     let rest = sum_times f g k xs h in
     let first = h x in
+    let split : k * (g x + sum_by g xs) ≡ k * g x + k * sum_by g xs = omega arith in
+    rw (sum_by-cons f x xs, sum_by-cons g x xs, split) (omega (arith, rest, first))
+
+-- each item with a property
+pub sum_within_of : {A : Type 0} (P : A → Type 0) (f : A → ℕ) (xs : List A) (most : ℕ) → AllByRecursion P xs → ((x : A) → P x → f x ≤ most) → sum_by f xs ≤ most * length xs
+sum_within_of P f [] most all h = omega arith
+sum_within_of P f (x ∷ xs) most all h =
+    let rest = sum_within_of P f xs most all.1 h in
+    let first = h x all.0 in
+    let times : most * suc (length xs) ≡ most + most * length xs = omega arith in
+    rw (sum_by-cons f x xs, times) (omega (arith, rest, first))
+
+pub sum_times_of : {A : Type 0} (P : A → Type 0) (f g : A → ℕ) (k : ℕ) (xs : List A) → AllByRecursion P xs → ((x : A) → P x → f x ≤ k * g x) → sum_by f xs ≤ k * sum_by g xs
+sum_times_of P f g k [] all h = omega arith
+sum_times_of P f g k (x ∷ xs) all h =
+    let rest = sum_times_of P f g k xs all.1 h in
+    let first = h x all.0 in
     let split : k * (g x + sum_by g xs) ≡ k * g x + k * sum_by g xs = omega arith in
     rw (sum_by-cons f x xs, sum_by-cons g x xs, split) (omega (arith, rest, first))
 
@@ -57,12 +74,20 @@ sum_end f xs i e = rw (e, drop-length xs) refl
 
 -- ---- one instruction
 
-pub one_word : (inst : Inst) → length (inst_widths inst) ≤ 1
-one_word (Binary into op width left right) = omega arith
-one_word (Icmp into predicate same_sign width left right) = omega arith
-one_word (Cast into cast from operand to) = omega arith
-one_word (Select into condition if_true if_false) = omega arith
-one_word (Freeze into width operand) = omega arith
+two_choice_words : (type : IrType) → length (word_widths type) ≤ 2
+two_choice_words (type.Int width) = omega arith
+two_choice_words type.Ptr = omega arith
+
+pub two_words : (inst : Inst) → length (inst_widths inst) ≤ 2
+two_words (Binary into op width left right) = omega arith
+two_words (Icmp into predicate same_sign width left right) = omega arith
+two_words (Cast into cast from operand to) = omega arith
+two_words (Select into condition if_true if_false) = omega arith
+two_words (Freeze into type operand) = two_choice_words type
+two_words (Alloca into number type align) = omega arith
+two_words (Load into type pointer align) = omega arith
+two_words (Store v pointer align) = omega arith
+two_words (GetElementPtr into inbounds nuw type base indices) = omega arith
 
 square : (w : Width) → w.bits * w.bits ≤ 4096
 square w = let most = w.at_most_64 in let m : w.bits * w.bits ≤ 64 * w.bits = mul-le-mul_right w.bits most in omega (arith, m, most)
@@ -89,24 +114,51 @@ small_width : (t : IrType) → type_width t ≤ 4096
 small_width (type.Int width) = plain_cost width
 small_width type.Ptr = omega arith
 
-pub small_cost : (inst : Inst) → inst_cost inst ≤ 4096
-small_cost (Binary into op width left right) = small_op op width
-small_cost (Icmp into predicate same_sign width left right) = plain_cost width
-small_cost (Cast into cast from operand to) = plain_cost to
-small_cost (Select into condition if_true if_false) = small_width if_true.of_type
-small_cost (Freeze into width operand) = plain_cost width
+small_type : (t : IrType) → type_size t ≤ 8
+small_type (type.Int width) = let most = width.at_most_64 in let eighth : (width.bits + 7) / 8 ≤ 8 = omega (arith, most) in eighth
+small_type type.Ptr = omega arith
 
-one_choice : (o : Option ℕ) → length (widths_of o) ≤ 1
-one_choice None = omega arith
-one_choice (Some width) = omega arith
+-- an access that looks at each byte for each of its own
+pub small_access : (t : IrType) (memory : ℕ) → memory ≤ 272629888 → type_size t * memory ≤ 2181039104
+small_access t memory few = let m : type_size t * memory ≤ 8 * memory = mul-le-mul_right memory (small_type t) in omega (arith, m, few)
 
-one_end_word : (end : Terminator) → length (end_widths end) ≤ 1
-one_end_word (terminator.Return None) = omega arith
-one_end_word (terminator.Return (Some r)) = one_choice (undef_width r.of_type r.operand)
-one_end_word (terminator.Branch to) = omega arith
-one_end_word (terminator.CondBranch condition if_true if_false) = omega arith
-one_end_word (terminator.Switch width operand default cases) = omega arith
-one_end_word terminator.Unreachable = omega arith
+-- of what is small nothing is cut
+pub small_object : (type : MemoryType) → object_size type ≤ 64 → object_size type % 2 ^ 64 ≡ object_size type
+small_object type small = mod-eq_of_lt (omega (arith, small))
+
+pub small_cost : (memory : ℕ) (inst : Inst) → memory ≤ 272629888 → HasSmallTypes inst → inst_cost memory inst ≤ 2181039168
+small_cost memory (Binary into op width left right) few small = let most = small_op op width in omega (arith, most)
+small_cost memory (Icmp into predicate same_sign width left right) few small = let most = plain_cost width in omega (arith, most)
+small_cost memory (Cast into cast from operand to) few small = let most = plain_cost to in omega (arith, most)
+small_cost memory (Select into condition if_true if_false) few small = let most = small_width if_true.of_type in omega (arith, most)
+small_cost memory (Freeze into type operand) few small = let most = small_width type in omega (arith, most)
+small_cost memory (Alloca into number type align) few small = let most = small.1 in omega (arith, most)
+small_cost memory (Load into type pointer align) few small = let most = small_access type memory few in omega (arith, most)
+small_cost memory (Store v pointer align) few small = let most = small_access v.of_type memory few in omega (arith, most)
+small_cost memory (GetElementPtr into inbounds nuw type base indices) few small = let most = small.1 in omega (arith, most)
+
+pub small_made_by : (inst : Inst) → HasSmallTypes inst → made_bytes inst ≤ 64
+small_made_by (Binary into op width left right) small = omega arith
+small_made_by (Icmp into predicate same_sign width left right) small = omega arith
+small_made_by (Cast into cast from operand to) small = omega arith
+small_made_by (Select into condition if_true if_false) small = omega arith
+small_made_by (Freeze into type operand) small = omega arith
+small_made_by (Alloca into number type align) small = small.1
+small_made_by (Load into type pointer align) small = omega arith
+small_made_by (Store v pointer align) small = omega arith
+small_made_by (GetElementPtr into inbounds nuw type base indices) small = omega arith
+
+two_of_choice : (o : Option IrType) → length (widths_of o) ≤ 2
+two_of_choice None = omega arith
+two_of_choice (Some type) = two_choice_words type
+
+two_end_words : (end : Terminator) → length (end_widths end) ≤ 2
+two_end_words (terminator.Return None) = omega arith
+two_end_words (terminator.Return (Some r)) = two_of_choice (undef_type r.of_type r.operand)
+two_end_words (terminator.Branch to) = omega arith
+two_end_words (terminator.CondBranch condition if_true if_false) = omega arith
+two_end_words (terminator.Switch width operand default cases) = omega arith
+two_end_words terminator.Unreachable = omega arith
 
 pub small_switch : (cases : ℕ) (w : Width) → cases ≤ 256 → cases * w.bits ≤ 16384
 small_switch cases w few = let most = w.at_most_64 in let m : cases * w.bits ≤ 256 * w.bits = mul-le-mul_right w.bits few in omega (arith, m, most)
@@ -150,42 +202,63 @@ block_words b = length (block_widths b)
 pub block_words_is : (b : Block) → block_words b ≡ sum_by words_of b.insts + length (end_widths b.terminator)
 block_words_is b = length-append (flat_map inst_widths b.insts) (end_widths b.terminator) ∙ ap (λ n. n + length (end_widths b.terminator)) (length-flat_map inst_widths b.insts)
 
-pub few_block_words : (b : Block) → block_words b ≤ size_of b
+pub few_block_words : (b : Block) → block_words b ≤ 2 * size_of b
 few_block_words b =
-    let insts = sum_within words_of b.insts 1 one_word in
+    let insts = sum_within words_of b.insts 2 two_words in
     let is = block_words_is b in
-    let end = one_end_word b.terminator in
+    let end = two_end_words b.terminator in
     omega (arith, insts, is, end)
 
-pub small_block_cost : (b : Block) → HasFewCases b → HasFewEntries b → block_cost b ≤ 1073741824 * size_of b
-small_block_cost b cases entries =
+pub small_made_insts : (insts : List Inst) → All HasSmallTypes insts → sum_by made_bytes insts ≤ 64 * length insts
+small_made_insts insts types = sum_within_of HasSmallTypes made_bytes insts 64 (recursion_from_All HasSmallTypes insts types) small_made_by
+
+pub small_made_in : (b : Block) → HasSmallObjects b → made_in b ≤ 64 * size_of b
+small_made_in b objects = let insts = small_made_insts b.insts objects in omega (arith, insts)
+
+pub small_inst_costs : (memory : ℕ) (insts : List Inst) → memory ≤ 272629888 → All HasSmallTypes insts → sum_by (inst_cost memory) insts ≤ 2181039168 * length insts
+small_inst_costs memory insts few types = sum_within_of HasSmallTypes (inst_cost memory) insts 2181039168 (recursion_from_All HasSmallTypes insts types) (λ inst small. small_cost memory inst few small)
+
+pub small_block_cost : (memory : ℕ) (b : Block) → memory ≤ 272629888 → HasFewCases b → HasFewEntries b → HasSmallObjects b → block_cost memory b ≤ 2181039168 * size_of b
+small_block_cost memory b few cases entries objects =
     let phis = small_phis b.phis (recursion_from_All FewEntries b.phis entries) in
-    let insts = sum_within inst_cost b.insts 4096 small_cost in
+    let insts = small_inst_costs memory b.insts few objects in
     let end = small_end b.terminator cases in
     omega (arith, phis, insts, end)
 
-small_costs : (bs : List Block) → AllByRecursion HasFewCases bs → AllByRecursion HasFewEntries bs → sum_by block_cost bs ≤ 1073741824 * sum_by size_of bs
-small_costs [] cases entries = omega arith
-small_costs (b ∷ bs) cases entries =
-    let rest = small_costs bs cases.1 entries.1 in
-    let first = small_block_cost b cases.0 entries.0 in
-    rw (sum_by-cons block_cost b bs, sum_by-cons size_of b bs) (omega (arith, rest, first))
+small_costs : (memory : ℕ) (bs : List Block) → memory ≤ 272629888 → AllByRecursion HasFewCases bs → AllByRecursion HasFewEntries bs → AllByRecursion HasSmallObjects bs → sum_by (block_cost memory) bs ≤ 2181039168 * sum_by size_of bs
+small_costs memory [] few cases entries objects = omega arith
+small_costs memory (b ∷ bs) few cases entries objects =
+    let rest = small_costs memory bs few cases.1 entries.1 objects.1 in
+    let first = small_block_cost memory b few cases.0 entries.0 objects.0 in
+    rw (sum_by-cons (block_cost memory) b bs, sum_by-cons size_of b bs) (omega (arith, rest, first))
 
 -- ---- one function
 
 pub words_in_is : (f : Function) → length (choice_widths f) ≡ sum_by block_words f.blocks
 words_in_is f = length-flat_map block_widths f.blocks
 
-pub few_words : (f : Function) → IsWithinLimits f → length (choice_widths f) ≤ 65536
+pub few_words : (f : Function) → IsWithinLimits f → length (choice_widths f) ≤ 131072
 few_words f limits =
     let is = words_in_is f in
-    let few = sum_less block_words size_of f.blocks few_block_words in
+    let few = sum_times block_words size_of 2 f.blocks few_block_words in
     let most = limits.instructions in
     omega (arith, is, few, most)
 
-pub small_cost_of : (f : Function) → IsWithinLimits f → cost_of f ≤ 70368744177664
-small_cost_of f limits =
-    let cost = small_costs f.blocks (recursion_from_All HasFewCases f.blocks limits.cases) (recursion_from_All HasFewEntries f.blocks limits.entries) in
+pub small_made : (f : Function) → IsWithinLimits f → sum_by made_in f.blocks ≤ 4194304
+small_made f limits =
+    let made = sum_times_of HasSmallObjects made_in size_of 64 f.blocks (recursion_from_All HasSmallObjects f.blocks limits.objects) small_made_in in
+    let most = limits.instructions in
+    omega (arith, made, most)
+
+pub small_given : (bounds : Bounds) → AreSmall bounds → bounds.blocks * bounds.bytes ≤ 128
+small_given bounds small = let m : bounds.blocks * bounds.bytes ≤ 4 * bounds.bytes = mul-le-mul_right bounds.bytes small.blocks in let most = small.bytes in omega (arith, m, most)
+
+pub small_turns : (bounds : Bounds) (n : ℕ) → AreSmall bounds → n ≤ 4194304 → (bounds.turns + 1) * n ≤ 272629760
+small_turns bounds n small few = let turns : bounds.turns + 1 ≤ 65 = (let most = small.turns in omega (arith, most)) in let m : (bounds.turns + 1) * n ≤ 65 * n = mul-le-mul_right n turns in omega (arith, m, few)
+
+pub small_cost_of : (memory : ℕ) (f : Function) → memory ≤ 272629888 → IsWithinLimits f → sum_by (block_cost memory) f.blocks ≤ 142936582914048
+small_cost_of memory f few limits =
+    let cost = small_costs memory f.blocks few (recursion_from_All HasFewCases f.blocks limits.cases) (recursion_from_All HasFewEntries f.blocks limits.entries) (recursion_from_All HasSmallObjects f.blocks limits.objects) in
     let most = limits.instructions in
     omega (arith, cost, most)
 
@@ -214,11 +287,8 @@ sum_room f xs i x total below is e = let here = sum_at f xs i x below is in omeg
 pub sum_done : {A : Type 0} (f : A → ℕ) (xs : List A) (i total : ℕ) → i ≡ length xs → total + sum_by f (drop i xs) ≡ sum_by f xs → total ≡ sum_by f xs
 sum_done f xs i total end e = let none = sum_end f xs i end in omega (arith, none, e)
 
-pub words_small : (insts : List Inst) → length insts ≤ 65536 → sum_by words_of insts < 2 ^ 63
-words_small insts few = let sum = sum_within words_of insts 1 one_word in omega (arith, sum, few)
+pub few_inst_words : (insts : List Inst) → sum_by words_of insts ≤ 2 * length insts
+few_inst_words insts = sum_within words_of insts 2 two_words
 
-pub costs_small : (insts : List Inst) → length insts ≤ 65536 → sum_by inst_cost insts ≤ 268435456
-costs_small insts few = let sum = sum_within inst_cost insts 4096 small_cost in omega (arith, sum, few)
-
-pub words_sum_small : (f : Function) → IsWithinLimits f → sum_by block_words f.blocks ≤ 65536
+pub words_sum_small : (f : Function) → IsWithinLimits f → sum_by block_words f.blocks ≤ 131072
 words_sum_small f limits = let few = few_words f limits in let is = words_in_is f in omega (arith, few, is)

@@ -1,5 +1,7 @@
 use Rattle.std.proofs.Common.{◌≡◌, length, ◌-◌, ◌+◌, ◌*◌}
+use Rattle.std.specs.Prelude.{All}
 use Rattle.points.specs.Run.{run_turns}
+use Rattle.choice_interp.specs.Keeping.{DoesKeepMemory}
 use Rattle.choice_interp.proofs.Ways.{IsOnTheWay}
 use Rattle.choice_interp.proofs.rerun.run_blocks.Given as goal
 
@@ -8,7 +10,7 @@ invariant-loop-at l = record {
   way : IsOnTheWay l.f l.tape l.jumps l.at l.machine (run_turns l.f l.tape l.turns 0 l.fn.machine);
   turn : l.machine.turn + l.jumps ≡ l.turns;
   registers : length l.machine.registers ≡ length l.fn.machine.registers;
-  memory : l.machine.memory ≡ l.fn.machine.memory;
+  memory : All DoesKeepMemory l.f.blocks → l.machine.memory ≡ l.fn.machine.memory;
 }
 
 abbrev pub decreases-loop-at : goal.decreases-loop-at

@@ -1,6 +1,8 @@
 use Rattle.std.proofs.Common.{◌≡◌, ◌<◌, length, get_or, Some, None, sym, ap, ◌∙◌, arith}
 use Rattle.points.specs.Run.{act, Over, ended}
 use Rattle.points.specs.declared.outcome.Outcome.TheVariants.{Ub}
+use Rattle.choice_interp.specs.Keeping.{KeepsMemory}
+use Rattle.choice_interp.proofs.Items.{item_in}
 use Rattle.points.proofs.Runs.{exit_goes, exit_stops, exit_ends}
 use Rattle.choice_interp.proofs.rerun.run_insts.Goals as goal
 
@@ -25,7 +27,7 @@ loop-inst-preserved c =
       insts = c.loop-inst.invariant.insts;
       rest = sym exit ∙ c.loop-inst.invariant.rest;
       registers = c.step.ensures.registers ∙ c.loop-inst.invariant.registers;
-      memory = c.step.ensures.memory ∙ c.loop-inst.invariant.memory;
+      memory = λ keeps. c.step.ensures.memory (item_in KeepsMemory insts c.loop-inst.inst-index c.inst-item.result below is keeps) ∙ c.loop-inst.invariant.memory keeps;
       turn = c.step.ensures.turn ∙ c.loop-inst.invariant.turn;
     }
 

@@ -1,6 +1,6 @@
 use Rattle.std.proofs.Common.{ℕ, sym, ap, ◌∙◌, List}
 use Rattle.std.specs.Prelude.{slice_index}
-use Rattle.points.specs.Run.{Run, run_of, IsPlain}
+use Rattle.points.specs.Run.{run_of, IsPlain}
 use Rattle.slow_judge.proofs.Covering.{covered_by_shift, not_uncovered, uncovered_when}
 use Rattle.slow_judge.proofs.cover.is_uncovered.Goals as goal
 
@@ -11,10 +11,7 @@ returns-then-branch-clause-value c =
 
 pub returns-clause-value : goal.returns-clause-value
 returns-clause-value c =
-    let ran = ap (λ f. run_of f c.args.bounds.now c.args.point.now.input c.as_slice.result.now) (sym c.target.ensures.value) ∙ c.in_ok-target.ensures.run in
-    let ran' = ap (λ (tape : List ℕ). run_of c.args.pair.now.target c.args.bounds.now c.args.point.now.input tape) (sym c.as_slice.ensures) ∙ ran in
-    let taken = ap (λ (r : Run). r.taken) ran' in
     let same = c.is_plain.ensures.0 c.if-not-is_plain.false in
     let plain : IsPlain c.args.point.now.tape (run_of c.args.pair.now.target c.args.bounds.now c.args.point.now.input c.args.point.now.tape) =
-    λ k. ap (λ (tape : List ℕ). slice_index tape k) (sym c.as_slice-2.ensures) ∙ same k ∙ ap (λ (tape : List ℕ). slice_index tape k) (c.as_slice-3.ensures ∙ sym taken) in
+    λ k. ap (λ (tape : List ℕ). slice_index tape k) (sym c.as_slice.ensures) ∙ same k ∙ ap (λ (tape : List ℕ). slice_index tape k) (c.as_slice-2.ensures ∙ sym c.in_ok-target.ensures.taken) in
     uncovered_when c.args.pair.now c.args.bounds.now c.args.tapes.now c.args.point.now c.in_ok-some_allows.field-0 plain (sym c.in_ok-some_shift_allows.ensures.value ∙ c.if-branch.false) c.in_ok-some_allows.ensures.value

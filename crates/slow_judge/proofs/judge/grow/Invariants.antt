@@ -1,12 +1,12 @@
 use Rattle.std.proofs.Common.{◌-◌, length}
-use Rattle.slow_judge.specs.Search.{IsReady, empty_blocks}
+use Rattle.slow_judge.specs.Search.{IsBench}
 use Rattle.slow_judge.proofs.Growing.{IsGrown}
 use Rattle.slow_judge.proofs.judge.grow.Given as goal
 
 abbrev pub invariant-loop-tapes : goal.invariant-loop-tapes
 invariant-loop-tapes l = record {
   grown : IsGrown l.pair l.bounds l.budget l.tapes.items;
-  ready : IsReady l.pair l.bounds (empty_blocks l.bounds.bytes l.bounds.blocks) l.bench;
+  bench : IsBench l.pair l.bounds l.bench;
 }
 
 abbrev pub decreases-loop-tapes : goal.decreases-loop-tapes

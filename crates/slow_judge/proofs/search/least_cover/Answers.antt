@@ -30,7 +30,7 @@ loop-tape-preserved c =
     let next = rw c.requires.width at (c.if-not-next_words.ensures.next refl) in
     record {
       reached = tape_reached_next c.args.pair.now c.args.bounds.now c.args.point.now c.loop-tape.tape c.next_words.new.words c.loop-tape.invariant.reached fails next;
-      ready = rw c.requires.cell.blocks at c.is_cover.ensures.ready;
+      ready = c.is_cover.ensures.ready;
     }
 
 pub loop-tape-smaller : goal.loop-tape-smaller

@@ -1,14 +1,14 @@
 use Rattle.std.proofs.Common.{◌-◌, ◌^◌}
 use Rattle.points.specs.Code.{number_of}
 use Rattle.points.specs.Tapes.{need_of}
-use Rattle.slow_judge.specs.Search.{IsReady, empty_blocks}
+use Rattle.slow_judge.specs.Search.{IsReady}
 use Rattle.slow_judge.proofs.TapeSearch.{IsTapeReached}
 use Rattle.slow_judge.proofs.search.least_cover.Given as goal
 
 abbrev pub invariant-loop-tape : goal.invariant-loop-tape
 invariant-loop-tape l = record {
   reached : IsTapeReached l.pair l.bounds l.point l.tape;
-  ready : IsReady l.pair l.bounds (empty_blocks l.bounds.bytes l.bounds.blocks) l.bench;
+  ready : IsReady l.pair l.bounds l.point.input.blocks l.bench;
 }
 
 abbrev pub decreases-loop-tape : goal.decreases-loop-tape

@@ -1,0 +1,20 @@
+use Rattle.std.proofs.Common.{refl, sym, ◌∙◌, arith}
+use Rattle.points.specs.Refines.{block_allows}
+use Rattle.points.proofs.Allowed.{pairs_pass-lengths, pairs_pass-more, pairs_pass-end}
+use Rattle.choice_interp.proofs.comparing.blocks_are_allowed.Goals as goal
+
+pub returns-then-source-target : goal.returns-then-source-target
+returns-then-source-target c = sym (pairs_pass-lengths block_allows c.args.source.now c.args.target.now c.if-source-target.true)
+
+pub returns-then-not-block_is_allowed : goal.returns-then-not-block_is_allowed
+returns-then-not-block_is_allowed c =
+    let more = pairs_pass-more block_allows c.args.source.now c.args.target.now c.loop-i.i c.index-source-i.result c.index-target-i.result c.loop-i-test.true (omega arith) in
+    sym (c.loop-i.invariant ∙ more ∙ rw (← c.index-source-i.is, ← c.index-target-i.is, ← c.block_is_allowed.ensures, c.if-not-block_is_allowed.true) refl)
+
+pub loop-i-preserved : goal.loop-i-preserved
+loop-i-preserved c =
+    let more = pairs_pass-more block_allows c.args.source.now c.args.target.now c.loop-i.i c.index-source-i.result c.index-target-i.result c.loop-i-test.true (omega arith) in
+    c.loop-i.invariant ∙ more ∙ rw (← c.index-source-i.is, ← c.index-target-i.is, ← c.block_is_allowed.ensures, c.if-not-block_is_allowed.false) refl
+
+pub returns : goal.returns
+returns c = sym (c.loop-i.invariant ∙ pairs_pass-end block_allows c.args.source.now c.args.target.now c.loop-i.i (omega arith) (omega arith))

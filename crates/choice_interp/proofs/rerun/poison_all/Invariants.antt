@@ -1,9 +1,0 @@
-use Rattle.std.proofs.Common.{◌≡◌, take, replicate, length}
-use Rattle.byte_block.specs.declared.value.Value.TheVariants.{Poison}
-use Rattle.choice_interp.proofs.rerun.poison_all.Given as goal
-
-abbrev pub invariant-loop-i : goal.invariant-loop-i
-invariant-loop-i l = record {
-  same_length : length l.registers ≡ length l.fn.registers;
-  done : take l.i l.registers ≡ replicate l.i Poison;
-}

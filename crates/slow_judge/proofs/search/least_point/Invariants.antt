@@ -1,0 +1,16 @@
+use Rattle.std.proofs.Common.{◌-◌}
+use Rattle.points.specs.Code.{IsOfShape}
+use Rattle.points.specs.Trail.{place_in}
+use Rattle.slow_judge.specs.Search.{IsBench}
+use Rattle.slow_judge.proofs.Order.{places_in}
+use Rattle.slow_judge.proofs.Searching.{IsReached}
+use Rattle.slow_judge.proofs.search.least_point.Given as goal
+
+abbrev pub invariant-loop-point : goal.invariant-loop-point
+invariant-loop-point l = record {
+  reached : IsReached (IsOfShape l.shape) l.pair l.bounds l.tapes l.point;
+  bench : IsBench l.pair l.bounds l.bench;
+}
+
+abbrev pub decreases-loop-point : goal.decreases-loop-point
+decreases-loop-point l = places_in l.pair l.bounds - place_in l.pair l.bounds l.point
