@@ -1,7 +1,9 @@
 -- How a run ended, with one way more to end.
 use Rattle.std.proofs.Common.{ℕ, ◌≡◌, Bool, true, false, ◌||◌, cond, List, Option, Some, None, IfSome, refl, ◌∙◌}
+use Rattle.std.specs.List.{filter}
 use Rattle.std.specs.Option.{option_map}
 use Rattle.points.specs.declared.outcome.Outcome.TheVariants.{Return}
+use Rattle.points.specs.Run.{is_given}
 use Rattle.unroll.specs.Layers.{Where, At, Done}
 use Rattle.bv_terms.specs.declared.term.TermId.{TermId}
 use Rattle.bv_terms.specs.declared.term.Term.{Term}
@@ -60,7 +62,7 @@ module _ (old a b : List Term) (e : Ending) (own : IsEnding old e) (c : TermId) 
 
     pub return_goes : (read : Tally) → IsTally old read → ((g : Scene) (made : List ℕ) → bit_at g.v a c ≡ true → Counts g a read made → Counts g b tally made)
         → (g : Scene) (made : List ℕ) → bit_at g.v old c ≡ true → Counts g old read made → NotEnded g old e
-        → EndedSo g b (record { ub = e.ub; beyond = e.beyond; value = picked; tally = tally }) (record { outcome = Return (option_map (value_at g.v old) value) g.memory; taken = made })
+        → EndedSo g b (record { ub = e.ub; beyond = e.beyond; value = picked; tally = tally }) (record { outcome = Return (option_map (value_at g.v old) value) (filter is_given g.memory); taken = made })
     return_goes read hr tg g made held k s =
         let kab = keeps_trans old a b ka kb in
         let is : option_map (value_at g.v b) picked ≡ option_map (value_at g.v old) value = option-later a b kb g.v picked hp ∙ (sp g.v ∙ rw held refl) in

@@ -1,9 +1,11 @@
 -- What was said of a run so far is said of it over more terms.
 use Rattle.std.proofs.Common.{ℕ, zero, suc, ◌≡◌, List, [], ◌∷◌, Option, Some, None, IfSome, refl, ap, subst, ◌∙◌}
 use Rattle.std.specs.Prelude.{slice_get, slice_set}
+use Rattle.std.specs.List.{filter}
 use Rattle.std.specs.Option.{option_map}
 use Rattle.byte_block.specs.declared.block.MemoryBlock.{MemoryBlock}
 use Rattle.points.specs.declared.machine.Machine.{Machine}
+use Rattle.points.specs.Run.{is_given}
 use Rattle.unroll.specs.Layers.{Where, At, Done}
 use Rattle.bv_terms.specs.declared.term.TermId.{TermId}
 use Rattle.bv_terms.specs.declared.term.Term.{Term}
@@ -76,7 +78,7 @@ module _ (old new : List Term) (k : Keeps old new) where
   end_tells-later g e None h s = record { ub = bit-later old new k g.v e.ub h.ub.within ∙ s.ub; beyond = bit-later old new k g.v e.beyond h.beyond.within ∙ s.beyond }
   end_tells-later g e (Some (At n m)) h s = record { ub = bit-later old new k g.v e.ub h.ub.within ∙ s.ub; beyond = bit-later old new k g.v e.beyond h.beyond.within ∙ s.beyond }
   end_tells-later g e (Some (Done run)) h s = record {
-    outcome = ending_at-later g.v g.memory e h ∙ s.outcome;
+    outcome = ending_at-later g.v (filter is_given g.memory) e h ∙ s.outcome;
     tally = counts-later g e.tally run.taken h.tally s.tally;
   }
 

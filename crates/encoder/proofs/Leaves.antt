@@ -2,7 +2,7 @@
 use Rattle.std.proofs.Common.{ℕ, zero, suc, ◌≡◌, ◌<◌, ◌≤◌, ◌+◌, ◌%◌, ◌^◌, Bool, true, false, cond, not, ◌&&◌, nat_eq, if◌then◌else◌, List, [], ◌∷◌, ◌++◌, length, map, take, get_or, Option, Some, None, inl, inr, refl, ap, sym, subst, ◌∙◌, arith, add-one}
 use Rattle.std.specs.Prelude.{slice_get, slice_index_or}
 use Rattle.std.specs.Option.{option_map, option_map_or}
-use Rattle.std.specs.List.{find}
+use Rattle.std.specs.List.{find, filter}
 use Rattle.std.proofs.lemmas.Bool.{cases_Bool}
 use Rattle.std.proofs.lemmas.List.{take_all}
 use Rattle.ir_tree.specs.declared.tree.Case.{Case}
@@ -13,7 +13,7 @@ use Rattle.byte_block.specs.declared.value.Value.TheVariants as value
 use Rattle.byte_block.specs.declared.value.Value.TheVariants.{Num, Poison}
 use Rattle.points.specs.declared.machine.Machine.{Machine}
 use Rattle.points.specs.declared.outcome.Outcome.TheVariants.{Return, Ub}
-use Rattle.points.specs.Run.{Run, branch_on, ended, is_poison, switch_on}
+use Rattle.points.specs.Run.{Run, branch_on, ended, is_given, is_poison, switch_on}
 use Rattle.unroll.specs.declared.layered.Edge.{Edge}
 use Rattle.unroll.specs.declared.layered.Edge.TheVariants.{Nowhere}
 use Rattle.unroll.specs.declared.layered.BlockCopy.{BlockCopy}
@@ -67,16 +67,16 @@ done_if false x y = refl
 
 pub moves_return : (g : Scene) (label : ℕ) (s : RunState) (old a b : List Term) (ka : Keeps old a) (before after : Frontier) (hb : IsFrontier old before) (c : TermId) (hc : IsTerm old 1 c) (value : Option SymValue) (tally : Tally) (x : Machine → Option Value) (taken : Machine → List ℕ)
     → ((at : Option Where) → bit_at g.v a c ≡ false → Tells g a before at → Tells g b after at)
-    → ((made : List ℕ) → bit_at g.v a c ≡ true → Counts g a tally made → Tells g a before None → Tells g b after (Some (Done (record { outcome = Return (option_map (value_at g.v a) value) g.memory; taken = made }))))
+    → ((made : List ℕ) → bit_at g.v a c ≡ true → Counts g a tally made → Tells g a before None → Tells g b after (Some (Done (record { outcome = Return (option_map (value_at g.v a) value) (filter is_given g.memory); taken = made }))))
     → ((m : Machine) → bit_at g.v old c ≡ true → Carries g old label s m → Counts g a tally (taken m) × (option_map (value_at g.v a) value ≡ x m))
-    → Moves g old b before after c label s (λ (m : Machine). Done (record { outcome = Return (x m) m.memory; taken = taken m }))
+    → Moves g old b before after c label s (λ (m : Machine). Done (record { outcome = Return (x m) (filter is_given m.memory); taken = taken m }))
 moves_return g label s old a b ka before after hb c hc value tally x taken st go so =
     let same = bit-later old a ka g.v c hc.within in
     record {
       stays = λ at none sh. st at (same ∙ none) (tells-later old a ka g before at hb sh);
       goes = λ m held h sh.
           let it = so m held h in
-          let e : Done (record { outcome = Return (option_map (value_at g.v a) value) g.memory; taken = taken m }) ≡ Done (record { outcome = Return (x m) m.memory; taken = taken m }) = rw (it.1, h.memory) refl in
+          let e : Done (record { outcome = Return (option_map (value_at g.v a) value) (filter is_given g.memory); taken = taken m }) ≡ Done (record { outcome = Return (x m) (filter is_given m.memory); taken = taken m }) = rw (it.1, h.memory) refl in
           subst (λ (w : Where). Tells g b after (Some w)) e (go (taken m) (same ∙ held) it.0 (tells-later old a ka g before None hb sh));
     }
 

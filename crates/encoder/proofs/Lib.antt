@@ -1,5 +1,6 @@
 pub mod Picking
 pub mod Cutting
+pub mod Reading
 pub mod Lasting
 pub mod Taking
 pub mod Joined

@@ -3,17 +3,18 @@ use Rattle.std.proofs.Common.{ℕ, ◌≡◌, ◌<◌, ◌≤◌, ◌+◌, Bool,
 use Rattle.std.specs.Prelude.{slice_get, slice_index_or}
 use Rattle.std.specs.Option.{option_map}
 use Rattle.std.proofs.lemmas.List.{drop_more, drop_all}
+use Rattle.ir_tree.specs.declared.tree.IrType.{IrType}
+use Rattle.ir_tree.specs.declared.tree.IrType.TheVariants as type
 use Rattle.ir_tree.specs.declared.tree.Inst.{Inst}
 use Rattle.ir_tree.specs.declared.tree.Inst.TheVariants as inst
 use Rattle.ir_tree.specs.declared.tree.Op.{Op}
 use Rattle.ir_tree.specs.declared.tree.Operand.{Operand}
 use Rattle.tv_num.specs.declared.Width.{Width}
 use Rattle.byte_block.specs.declared.value.Value.{Value}
-use Rattle.byte_block.specs.declared.value.Value.TheVariants as value
 use Rattle.byte_block.specs.declared.value.Value.TheVariants.{Num, Poison}
 use Rattle.points.specs.declared.machine.Machine.{Machine}
 use Rattle.points.specs.Table.{value_result}
-use Rattle.points.specs.Run.{act, assigned, choice_of, chosen, cut_value, frozen, operand_value}
+use Rattle.points.specs.Run.{act, assigned, choice_of, cut_value, frozen, operand_value, with_taken}
 use Rattle.bv_terms.specs.declared.term.TermId.{TermId}
 use Rattle.bv_terms.specs.declared.term.Term.{Term}
 use Rattle.bv_terms.specs.declared.term.Term.TheVariants as term
@@ -28,7 +29,7 @@ use Rattle.mem_terms.proofs.Eaches.{each-set, map-set}
 use Rattle.mem_terms.proofs.Later.{keeps_trans, bit-later, term-later, syms-later, value-later, values-later}
 use Rattle.encoder.specs.declared.state.Tally.{Tally}
 use Rattle.encoder.specs.declared.state.RunState.{RunState}
-use Rattle.encoder.specs.Runs.{Scene, Sees, IsTally, IsState, Counts, Carries, Course, Idle, Dead, Live, advanced, stepped, steps, Follows}
+use Rattle.encoder.specs.Runs.{Scene, Sees, IsTally, IsState, Counts, Carries, Course, Idle, Dead, Live, advanced, chosen_number, stepped, steps, Follows}
 use Rattle.encoder.proofs.Lasting.{sees-later, counts-later, carries-later}
 
 -- ---- more terms
@@ -96,15 +97,11 @@ module _ (old new : List Term) (k : Keeps old new) (s : RunState) (hs : IsState 
 
 -- ---- freeze
 
-cut_num : (n y : ℕ) (x : Value) → Num y ≡ cut_value n x → (tape : List ℕ) (m : Machine) (into : ℕ) → frozen tape m into n x ≡ assigned m into (Num y)
-cut_num n y (Num a) e tape m into = ap (assigned m into) (sym e)
-cut_num n y Poison e tape m into = absurd (let c : ⊥ = cc in c)
-cut_num n y (value.Ptr p) e tape m into = absurd (let c : ⊥ = cc in c)
+frozen_num : (type : IrType) (y : ℕ) (x : Value) → Num y ≡ x → (tape : List ℕ) (m : Machine) (into : ℕ) → frozen tape m into type x ≡ assigned m into (Num y)
+frozen_num type y x e tape m into = subst (λ (z : Value). frozen tape m into type z ≡ assigned m into (Num y)) e refl
 
-cut_poison : (n : ℕ) (x : Value) → Poison ≡ cut_value n x → (tape : List ℕ) (m : Machine) (into : ℕ) → frozen tape m into n x ≡ chosen m into (choice_of tape m n)
-cut_poison n (Num a) e tape m into = absurd (let c : ⊥ = cc in c)
-cut_poison n Poison e tape m into = refl
-cut_poison n (value.Ptr p) e tape m into = absurd (let c : ⊥ = cc in c)
+frozen_poison : (type : IrType) (x : Value) → Poison ≡ x → (tape : List ℕ) (m : Machine) (into : ℕ) → frozen tape m into type x ≡ assigned (with_taken m (choice_of type tape m)) into (choice_of type tape m).value
+frozen_poison type x e tape m into = subst (λ (z : Value). frozen tape m into type z ≡ assigned (with_taken m (choice_of type tape m)) into (choice_of type tape m).value) e refl
 
 num_at : (v : ℕ → ℕ → ℕ) (terms : List Term) (x : SymValue) → bit_at v terms x.poison ≡ false → value_at v terms x ≡ Num (term_at v terms x.number)
 unfolding value_at
@@ -117,14 +114,14 @@ poison_at v terms x e = rw e refl
 -- a value that is never poison
 pub plain_follows : (old new : List Term) (k : Keeps old new) (s : RunState) (hs : IsState old s) (into : ℕ) (width : Width) (operand : Operand) (x : SymValue)
     → ((v : ℕ → ℕ → ℕ) → value_at v new x ≡ cut_value width.bits (operand_value (values_at v old s.registers) operand)) → ((v : ℕ → ℕ → ℕ) → bit_at v new x.poison ≡ false)
-    → (g : Scene) (label : ℕ) (c : Course) → Follows g old label s c → Follows g new label (record { alive = s.alive; registers = slice_set s.registers into x; tally = s.tally; most = s.most }) (stepped (inst.Freeze into width operand) g.tape c)
+    → (g : Scene) (label : ℕ) (c : Course) → Follows g old label s c → Follows g new label (record { alive = s.alive; registers = slice_set s.registers into x; tally = s.tally; most = s.most }) (stepped (inst.Freeze into (type.Int width) operand) g.tape c)
 plain_follows old new k s hs into width operand x at never g label Idle h = bit-later old new k g.v s.alive hs.alive.within ∙ h
 plain_follows old new k s hs into width operand x at never g label (Dead m) h = (bit-later old new k g.v s.alive hs.alive.within ∙ h.0, counts-later old new k g s.tally m.taken hs.tally h.1, h.2)
 plain_follows old new k s hs into width operand x at never g label (Live m) h =
     let y = term_at g.v new x.number in
     let num : value_at g.v new x ≡ Num y = num_at g.v new x (never g.v) in
     let e : Num y ≡ cut_value width.bits (operand_value m.registers operand) = sym num ∙ (at g.v ∙ ap (λ (rs : List Value). cut_value width.bits (operand_value rs operand)) h.1.registers) in
-    rw (cut_num width.bits y (operand_value m.registers operand) e g.tape m into)
+    rw (frozen_num (type.Int width) y (cut_value width.bits (operand_value m.registers operand)) e g.tape m into)
     (bit-later old new k g.v s.alive hs.alive.within ∙ h.0, set_carries old new k s hs into x g label m (Num y) s.alive h.1 num)
 
 -- a choice where it is poison
@@ -133,7 +130,7 @@ module _ (old a b d : List Term) (ka : Keeps old a) (kb : Keeps a b) (kd : Keeps
     (t : Tests a taken (λ v. bit_at v old s.alive && bit_at v old x.poison))
     (stays : (g : Scene) (made : List ℕ) → bit_at g.v a taken ≡ false → Counts g a s.tally made → Counts g b tally made)
     (takes : (g : Scene) (m : Machine) → Sees g a tape → bit_at g.v a taken ≡ true → length m.taken ≤ s.most → Counts g a s.tally m.taken
-    → Counts g b tally (m.taken ++ choice_of g.tape m width.bits ∷ []) × (term_at g.v b number ≡ choice_of g.tape m width.bits))
+    → Counts g b tally (m.taken ++ chosen_number g.tape m width.bits ∷ []) × (term_at g.v b number ≡ chosen_number g.tape m width.bits))
     (at : (v : ℕ → ℕ → ℕ) → value_at v d z ≡ Num (cond (bit_at v b x.poison) (term_at v b number) (term_at v b x.number))) where
   after : RunState
   after = record { alive = s.alive; registers = slice_set s.registers into z; tally = tally; most = most }
@@ -152,13 +149,13 @@ module _ (old a b d : List Term) (ka : Keeps old a) (kb : Keeps a b) (kd : Keeps
 
   lived : (g : Scene) (label : ℕ) (m : Machine) (operand : Operand) → Sees g old tape → bit_at g.v old s.alive ≡ true → Carries g old label s m
       → value_at g.v old x ≡ cut_value width.bits (operand_value m.registers operand) → (p : Bool) → bit_at g.v old x.poison ≡ p
-      → Carries g d label (record { alive = s.alive; registers = slice_set s.registers into z; tally = tally; most = most }) (frozen g.tape m into width.bits (operand_value m.registers operand))
+      → Carries g d label (record { alive = s.alive; registers = slice_set s.registers into z; tally = tally; most = most }) (frozen g.tape m into (type.Int width) (cut_value width.bits (operand_value m.registers operand)))
   lived g label m operand sees on h e true p =
-      let c = choice_of g.tape m width.bits in
+      let c = chosen_number g.tape m width.bits in
       let took = takes g m (sees-later old a ka g tape words sees) (t.says g.v ∙ rw (on, p) refl) h.most (counts-later old a ka g s.tally m.taken hs.tally h.tally) in
       let is : value_at g.v d z ≡ Num c = at g.v ∙ rw (bit-later old b kab g.v x.poison hx.poison.within, p, took.1) refl in
       let cut : Poison ≡ cut_value width.bits (operand_value m.registers operand) = sym (poison_at g.v old x p) ∙ e in
-      rw (cut_poison width.bits (operand_value m.registers operand) cut g.tape m into) (record {
+      rw (frozen_poison (type.Int width) (cut_value width.bits (operand_value m.registers operand)) cut g.tape m into) (record {
         registers = set_registers old d kad s hs into z g m (Num c) h.registers is;
         tally = counts-later b d kd g tally (m.taken ++ c ∷ []) ht took.0;
         most = rw more (omega (arith, h.most, length-append m.taken (c ∷ [])));
@@ -169,7 +166,7 @@ module _ (old a b d : List Term) (ka : Keeps old a) (kb : Keeps a b) (kd : Keeps
       let y = term_at g.v old x.number in
       let is : value_at g.v d z ≡ Num y = at g.v ∙ rw (bit-later old b kab g.v x.poison hx.poison.within, p, term-later old b kab g.v x.number hx.number.within) refl in
       let cut : Num y ≡ cut_value width.bits (operand_value m.registers operand) = sym (num_at g.v old x p) ∙ e in
-      rw (cut_num width.bits y (operand_value m.registers operand) cut g.tape m into) (record {
+      rw (frozen_num (type.Int width) y (cut_value width.bits (operand_value m.registers operand)) cut g.tape m into) (record {
         registers = set_registers old d kad s hs into z g m (Num y) h.registers is;
         tally = left_out g m.taken (rw (on, p) refl) h.tally;
         most = rw more (omega (arith, h.most));
@@ -179,7 +176,7 @@ module _ (old a b d : List Term) (ka : Keeps old a) (kb : Keeps a b) (kd : Keeps
 
   pub choice_follows : (g : Scene) (label : ℕ) (c : Course) (operand : Operand) → Sees g old tape
       → ((m : Machine) → c ≡ Live m → value_at g.v old x ≡ cut_value width.bits (operand_value m.registers operand))
-      → Follows g old label s c → Follows g d label (record { alive = s.alive; registers = slice_set s.registers into z; tally = tally; most = most }) (stepped (inst.Freeze into width operand) g.tape c)
+      → Follows g old label s c → Follows g d label (record { alive = s.alive; registers = slice_set s.registers into z; tally = tally; most = most }) (stepped (inst.Freeze into (type.Int width) operand) g.tape c)
   choice_follows g label Idle operand sees e h = alive_is g ∙ h
   choice_follows g label (Dead m) operand sees e h = (alive_is g ∙ h.0, left_out g m.taken (rw h.0 refl) h.1, h.2)
   choice_follows g label (Live m) operand sees e h = (alive_is g ∙ h.0, lived g label m operand sees h.0 h.1 (e m refl) (bit_at g.v old x.poison) refl)

@@ -1,13 +1,13 @@
 -- A choice is taken.
 use Rattle.std.proofs.Common.{ℕ, zero, suc, ◌≡◌, ◌<◌, ◌≤◌, ◌+◌, ◌%◌, ◌^◌, Bool, true, false, cond, not, ◌&&◌, ◌||◌, List, [], ◌∷◌, ◌++◌, length, map, take, nat_eq, slice_index, refl, ap, sym, ◌∙◌, arith, length-append}
 use Rattle.points.specs.declared.machine.Machine.{Machine}
-use Rattle.points.specs.Run.{choice_of}
+use Rattle.points.specs.Run.{next_word}
 use Rattle.bv_terms.specs.declared.term.TermId.{TermId}
 use Rattle.bv_terms.specs.declared.term.Term.{Term}
 use Rattle.bv_terms.specs.Trees.{Makes, Tests, term_at, bit_at}
 use Rattle.mem_terms.specs.Inputs.{words_at}
 use Rattle.mem_terms.proofs.Made.{small_mod}
-use Rattle.encoder.specs.Runs.{Scene, Sees, Counts, fits_from}
+use Rattle.encoder.specs.Runs.{Scene, Sees, Counts, chosen_number, fits_from}
 use Rattle.encoder.proofs.Cutting.{narrow}
 
 and_assoc : (a b c : Bool) → ((a && b) && c) ≡ (a && (b && c))
@@ -49,19 +49,20 @@ module _ (old new : List Term) (tape near : List TermId) (number read fits oread
       → Makes new read 64 (λ v. cond (bit_at v old taken) ((term_at v old oread + 1) % 2 ^ 64) (term_at v old oread))
       → Tests new fits (λ v. bit_at v old ofits && (not (bit_at v old taken) || nat_eq (word v) (word v % 2 ^ n % 2 ^ 64)))
       → (g : Scene) (m : Machine) → Sees g old tape → bit_at g.v old taken ≡ true → length m.taken ≤ most → Counts g old (record { read = oread; fits = ofits }) m.taken
-      → Counts g new (record { read = read; fits = fits }) (m.taken ++ choice_of g.tape m n ∷ []) × (term_at g.v new number ≡ choice_of g.tape m n)
+      → Counts g new (record { read = read; fits = fits }) (m.taken ++ chosen_number g.tape m n ∷ []) × (term_at g.v new number ≡ chosen_number g.tape m n)
   choice_taken small room is mn mr tf g m sees held within k =
       let r = length m.taken in
-      let c = choice_of g.tape m n in
-      let w : word g.v ≡ slice_index g.tape r =
+      let c = chosen_number g.tape m n in
+      let here : r ≡ r + 0 = omega arith in
+      let w : word g.v ≡ next_word g.tape m 0 =
       ap (λ i. slice_index (words_at g.v old near) i) k.read
       ∙ (ap (λ (ns : List TermId). slice_index (words_at g.v old ns) r) is
-      ∙ (near_index (term_at g.v old) tape (most + 1) r (omega (arith, within)) ∙ ap (λ ws. slice_index ws r) sees)) in
-      let whole : word g.v % 2 ^ n % 2 ^ 64 ≡ c = ap (λ x. x % 2 ^ n % 2 ^ 64) w ∙ narrow (slice_index g.tape r) n small in
+      ∙ (near_index (term_at g.v old) tape (most + 1) r (omega (arith, within)) ∙ (ap (λ ws. slice_index ws r) sees ∙ ap (slice_index g.tape) here))) in
+      let whole : word g.v % 2 ^ n % 2 ^ 64 ≡ c = ap (λ x. x % 2 ^ n % 2 ^ 64) w ∙ narrow (next_word g.tape m 0) n small in
       let e_read : cond (bit_at g.v old taken) ((term_at g.v old oread + 1) % 2 ^ 64) (term_at g.v old oread) ≡ (r + 1) % 2 ^ 64 = rw (held, k.read) refl in
       let count : (r + 1) % 2 ^ 64 ≡ length (m.taken ++ c ∷ []) = small_mod (r + 1) (2 ^ 64) (omega (arith, room, within)) ∙ omega (arith, length-append m.taken (c ∷ [])) in
-      let place : 0 + r ≡ r = omega arith in
-      let e_fits : (bit_at g.v old ofits && (not (bit_at g.v old taken) || nat_eq (word g.v) (word g.v % 2 ^ n % 2 ^ 64))) ≡ (fits_from g.tape 0 m.taken && nat_eq (slice_index g.tape r) c) =
+      let place : 0 + r ≡ r + 0 = omega arith in
+      let e_fits : (bit_at g.v old ofits && (not (bit_at g.v old taken) || nat_eq (word g.v) (word g.v % 2 ^ n % 2 ^ 64))) ≡ (fits_from g.tape 0 m.taken && nat_eq (next_word g.tape m 0) c) =
       rw (whole, w, held, k.fits) refl in (
         record {
           read = mr.says g.v ∙ (e_read ∙ count);

@@ -11,6 +11,7 @@ use Rattle.ir_tree.specs.declared.tree.Terminator.{Terminator}
 use Rattle.ir_tree.specs.declared.tree.Block.{Block}
 use Rattle.ir_tree.specs.declared.tree.Function.{Function}
 use Rattle.ir_tree.specs.Flow.{targets, block_of, successors}
+use Rattle.ir_tree.specs.Pointers.{HasNoPointers, IsBlockOnIntegers}
 use Rattle.ir_tree.proofs.Indexing.{places_of}
 use Rattle.points.specs.declared.machine.Machine.{Machine}
 use Rattle.points.specs.declared.outcome.Outcome.TheVariants.{Ub}
@@ -312,6 +313,9 @@ all_at P xs i x h is =
 
 pub fits_at : (f : Function) (at : ℕ) (block : Block) → ReturnsFit f → slice_get f.blocks at ≡ Some block → FitsReturn f.returns block.terminator
 fits_at f at block h is = all_at (λ (b : Block). FitsReturn f.returns b.terminator) f.blocks at block h is
+
+pub integers_at : (f : Function) (at : ℕ) (block : Block) → HasNoPointers f → slice_get f.blocks at ≡ Some block → IsBlockOnIntegers block
+integers_at f at block h is = all_at IsBlockOnIntegers f.blocks at block h.blocks is
 
 pub labels_at : (f : Function) (copy : BlockCopy) (block : Block) → IsCopyIn f copy → slice_get f.blocks copy.block ≡ Some block → AreByLabel (targets block.terminator) copy.edges
 labels_at f copy block h is =

@@ -1,6 +1,7 @@
 -- A run from its beginning to its end.
 use Rattle.std.proofs.Common.{ℕ, zero, suc, ◌≡◌, ◌<◌, ◌≤◌, ◌+◌, ◌-◌, Bool, true, false, not, ◌&&◌, ◌||◌, if◌then◌else◌, List, [], ◌∷◌, ◌++◌, length, map, drop, take, replicate, get_or, nat_eq, nat_lt, Option, Some, None, IfSome, inl, inr, refl, ap, sym, subst, ◌∙◌, arith}
 use Rattle.std.specs.Prelude.{slice_index, slice_set}
+use Rattle.std.specs.List.{filter}
 use Rattle.std.proofs.lemmas.Bool.{cases_Bool, cases_lt, eqb-true, eq-eqb}
 use Rattle.std.proofs.lemmas.Bool.Decides.{nat_tests}
 use Rattle.std.proofs.lemmas.List.{drop_more, drop_all}
@@ -10,12 +11,12 @@ use Rattle.ir_tree.specs.declared.tree.Parameter.{Parameter}
 use Rattle.ir_tree.specs.declared.tree.Function.{Function}
 use Rattle.byte_block.specs.declared.block.MemoryBlock.{MemoryBlock}
 use Rattle.byte_block.specs.declared.value.Value.{Value}
-use Rattle.byte_block.specs.declared.value.Value.TheVariants.{Poison}
+use Rattle.byte_block.specs.declared.value.Value.TheVariants.{Num, Poison}
 use Rattle.points.specs.declared.machine.Machine.{Machine}
 use Rattle.points.specs.declared.outcome.Outcome.TheVariants.{Ub}
 use Rattle.points.specs.declared.point.Bounds.{Bounds}
 use Rattle.points.specs.declared.point.Input.{Input}
-use Rattle.points.specs.Run.{Run, breaks_noundef, ended, first_machine, is_poison, run_of, with_args}
+use Rattle.points.specs.Run.{Run, argument_value, breaks_noundef, ended, first_machine, is_given, is_poison, run_of, with_args}
 use Rattle.unroll.specs.declared.layered.Edge.TheVariants as edge
 use Rattle.unroll.specs.declared.layered.BlockCopy.{BlockCopy}
 use Rattle.unroll.specs.declared.layered.Layered.{Layered}
@@ -145,13 +146,13 @@ zeros_end old a tape i read all past so v =
 
 pub finish_stands : (old a b : List Term) (ka : Keeps old a) (kb : Keeps a b) (e : Ending) (he : IsEnding old e) (tape : List TermId) (rest plain : TermId)
     → Tests a rest (λ v. zeros_past (term_at v old e.tally.read) 0 (words_at v old tape)) → Tests b plain (λ v. bit_at v a e.tally.fits && bit_at v a rest)
-    → (g : Scene) (run : Run) → Sees g old tape → EndedSo g old e run → Shows g.v b g.memory g.tape run (record { ub = e.ub; beyond = e.beyond; value = e.value; read = e.tally.read; plain = plain })
+    → (g : Scene) (run : Run) → Sees g old tape → EndedSo g old e run → Shows g.v b (filter is_given g.memory) g.tape run (record { ub = e.ub; beyond = e.beyond; value = e.value; read = e.tally.read; plain = plain })
 finish_stands old a b ka kb e he tape rest plain tr tp g run sees h =
     let k = keeps_trans old a b ka kb in
     let same : bit_at g.v b plain ≡ (fits_from g.tape 0 run.taken && zeros_past (length run.taken) 0 g.tape) =
     tp.says g.v ∙ rw (bit-later old a ka g.v e.tally.fits he.tally.fits.within, h.tally.fits, tr.says g.v, h.tally.read, sees) refl in
     record {
-      outcome = ending_at-later old b k g.v g.memory e he ∙ h.outcome;
+      outcome = ending_at-later old b k g.v (filter is_given g.memory) e he ∙ h.outcome;
       read = term-later old b k g.v e.tally.read he.tally.read.within ∙ h.tally.read;
       plain = (λ x. plain_to g.tape run.taken (sym same ∙ x), λ p. same ∙ plain_from g.tape run.taken p);
     }
@@ -212,9 +213,9 @@ pub encode_stands : (old a b d : List Term) (f : Function) (layered : Layered) (
     → AreWords old tape → layered.copies ≡ copies_of layered.turns f → (ka : Keeps old a) (kb : Keeps a b)
     → ((g : Scene) → Tells g a entered (Some (placed f layered.copies 0 (first_place f (record { args = args_at g.v old args; blocks = g.memory })))))
     → ((g : Scene) (w : Where) → Sees g a tape → Tells g a entered (Some (placed f layered.copies 0 w)) → Tells g b passed (Some (placed f layered.copies (length layered.copies) (walk f 0 layered.copies g.tape w))))
-    → ((g : Scene) (run : Run) → Sees g b tape → EndedSo g b passed.ending run → Shows g.v d g.memory g.tape run o)
+    → ((g : Scene) (run : Run) → Sees g b tape → EndedSo g b passed.ending run → Shows g.v d (filter is_given g.memory) g.tape run o)
     → (v : ℕ → ℕ → ℕ) (bounds : Bounds) (memory : List MemoryBlock) → bounds.turns ≡ layered.turns
-    → Shows v d memory (words_at v old tape) (run_of f bounds (record { args = args_at v old args; blocks = memory }) (words_at v old tape)) o
+    → Shows v d (filter is_given memory) (words_at v old tape) (run_of f bounds (record { args = args_at v old args; blocks = memory }) (words_at v old tape)) o
 encode_stands old a b d f layered args tape entered passed o words copies ka kb es ps fs v bounds memory same =
     let g : Scene = record { v = v; tape = words_at v old tape; memory = memory } in
     let input : Input = record { args = args_at v old args; blocks = memory } in
@@ -224,7 +225,7 @@ encode_stands old a b d f layered args tape entered passed o words copies ka kb 
     let t = ps g w sees_a (es g) in
     let t' = subst (λ (x : Where). Tells g b passed (Some x)) (placed_end f layered.copies (walk f 0 layered.copies (words_at v old tape) w)) t in
     let shows = fs g (run_at_end (walk f 0 layered.copies (words_at v old tape) w)) sees_b t'.ending in
-    subst (λ (r : Run). Shows v d memory (words_at v old tape) r o) (run_is f layered input (words_at v old tape) ∙ layers_have_runs f layered layered.turns copies bounds input (words_at v old tape) same) shows
+    subst (λ (r : Run). Shows v d (filter is_given memory) (words_at v old tape) r o) (run_is f layered input (words_at v old tape) ∙ layers_have_runs f layered layered.turns copies bounds input (words_at v old tape) same) shows
 
 -- ---- nothing is known at first
 
@@ -283,12 +284,26 @@ args_front terms parameters ps p args rest a is are h = subst (λ (qs : List Par
 pub args_none : (terms : List Term) (parameters ps : List Parameter) (p : Parameter) (args : List ArgTerms) → parameters ≡ p ∷ ps → args ≡ [] → AreArgs terms parameters args → ⊥
 args_none terms parameters ps p args is are h = subst (λ (qs : List Parameter). AreArgs terms qs []) is (subst (λ (bs : List ArgTerms). AreArgs terms parameters bs) are h)
 
+-- a number or poison is not null
+argument_is : (p : Parameter) (flag : Bool) (n : ℕ) → argument_value p (value_from flag n) ≡ value_from flag n
+argument_is p true n = by p.non_null
+  where
+    by : (b : Bool) → (if b && false then Poison else Poison) ≡ Poison
+    by true = refl
+    by false = refl
+argument_is p false n = by p.non_null
+  where
+    by : (b : Bool) → (if b && false then Poison else Num n) ≡ Num n
+    by true = refl
+    by false = refl
+
 pub given_more : (a b : List Term) (k : Keeps a b) (parameters ps : List Parameter) (p : Parameter) (args rest : List ArgTerms) (arg : ArgTerms) (rs : List SymValue) (value : SymValue) (whole : (ℕ → ℕ → ℕ) → List Value)
     → parameters ≡ p ∷ ps → args ≡ arg ∷ rest → AreArgs a parameters args → AreSymValues a rs → ((v : ℕ → ℕ → ℕ) → value_at v b value ≡ arg_at v a arg)
     → ((v : ℕ → ℕ → ℕ) → with_args parameters (args_at v a args) (values_at v a rs) ≡ whole v)
     → (v : ℕ → ℕ → ℕ) → with_args ps (args_at v b rest) (values_at v b (slice_set rs p.name value)) ≡ whole v
 given_more a b k parameters ps p args rest arg rs value whole is are h hr one so v =
-    let set : values_at v b (slice_set rs p.name value) ≡ slice_set (values_at v a rs) p.name (arg_at v a arg) = map-set (value_at v b) rs p.name value ∙ rw (one v, values-later a b k v rs hr) refl in
+    let set : values_at v b (slice_set rs p.name value) ≡ slice_set (values_at v a rs) p.name (argument_value p (arg_at v a arg)) =
+    map-set (value_at v b) rs p.name value ∙ rw (one v, values-later a b k v rs hr, argument_is p (bit_at v a arg.flag) (term_at v a arg.number)) refl in
     let further : args_at v b rest ≡ args_at v a rest = args_at-later a b k v ps rest (args_front a parameters ps p args rest arg is are h).1 in
     let so' : with_args (p ∷ ps) (args_at v a (arg ∷ rest)) (values_at v a rs) ≡ whole v =
     subst (λ (qs : List Parameter). with_args qs (args_at v a (arg ∷ rest)) (values_at v a rs) ≡ whole v) is (subst (λ (bs : List ArgTerms). with_args parameters (args_at v a bs) (values_at v a rs) ≡ whole v) are (so v)) in
@@ -319,15 +334,16 @@ module _ (a b : List Term) (k : Keeps a b) (parameters ps : List Parameter) (p :
   pub broken_more : p.no_undef ≡ true → Tests b broken' (λ v. bit_at v a broken || bit_at v a arg.flag)
       → (v : ℕ → ℕ → ℕ) → (bit_at v b broken' || breaks_noundef ps (args_at v b rest)) ≡ whole v
   broken_more noundef t v =
-      let here : (bit_at v a broken || ((p.no_undef && is_poison (arg_at v a arg)) || breaks_noundef ps (args_at v a rest))) ≡ whole v = broken_so v in
-      let flag : is_poison (arg_at v a arg) ≡ bit_at v a arg.flag = poison_flag (bit_at v a arg.flag) (term_at v a arg.number) in
+      let here : (bit_at v a broken || ((p.no_undef && is_poison (argument_value p (arg_at v a arg))) || breaks_noundef ps (args_at v a rest))) ≡ whole v = broken_so v in
+      let flag : is_poison (argument_value p (arg_at v a arg)) ≡ bit_at v a arg.flag =
+      ap is_poison (argument_is p (bit_at v a arg.flag) (term_at v a arg.number)) ∙ poison_flag (bit_at v a arg.flag) (term_at v a arg.number) in
       rw (t.says v, further_same v) (or_assoc (bit_at v a broken) (bit_at v a arg.flag) (breaks_noundef ps (args_at v a rest)) ∙ (rw (noundef, flag) at here))
 
   -- or not
   pub broken_same : p.no_undef ≡ false → ((v : ℕ → ℕ → ℕ) → bit_at v b broken ≡ bit_at v a broken)
       → (v : ℕ → ℕ → ℕ) → (bit_at v b broken || breaks_noundef ps (args_at v b rest)) ≡ whole v
   broken_same other same v =
-      let here : (bit_at v a broken || ((p.no_undef && is_poison (arg_at v a arg)) || breaks_noundef ps (args_at v a rest))) ≡ whole v = broken_so v in
+      let here : (bit_at v a broken || ((p.no_undef && is_poison (argument_value p (arg_at v a arg))) || breaks_noundef ps (args_at v a rest))) ≡ whole v = broken_so v in
       rw (same v, further_same v) (rw other at here)
 
 take_whole : {A : Type 0} (xs : List A) → take (length xs) xs ≡ xs

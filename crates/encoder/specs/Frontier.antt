@@ -1,6 +1,6 @@
 -- Where a run is between two copies, told by what is known of the copies ahead and of how it ended.
 use Rattle.std.specs.Prelude.{◌≡◌, ℕ, true, false, cond, is_some, nat_eq, nat_le, ◌%◌, if◌then◌else◌, List, length, map, All, Option, Some, None, IfSome, slice_get, slice_set}
-use Rattle.std.specs.List.{find}
+use Rattle.std.specs.List.{find, filter}
 use Rattle.std.specs.Option.{option_map, option_map_or}
 use Rattle.ir_tree.specs.declared.tree.IrType.{IrType}
 use Rattle.ir_tree.specs.declared.tree.Case.{Case}
@@ -17,7 +17,7 @@ use Rattle.points.specs.declared.machine.Machine.{Machine}
 use Rattle.points.specs.declared.outcome.Outcome.{Outcome}
 use Rattle.points.specs.declared.outcome.Outcome.TheVariants.{Return, Ub, Beyond}
 use Rattle.points.specs.declared.point.Input.{Input}
-use Rattle.points.specs.Run.{Run, ended, entered, breaks_noundef, first_machine}
+use Rattle.points.specs.Run.{Run, ended, entered, breaks_noundef, first_machine, is_given}
 use Rattle.unroll.specs.declared.layered.Edge.{Edge}
 use Rattle.unroll.specs.declared.layered.BlockCopy.{BlockCopy}
 use Rattle.unroll.specs.Layers.{Where, At, Done, along}
@@ -54,9 +54,9 @@ pub record IsEnding (terms : List Term) (e : Ending) : Type 0 where
 abbrev pub ending_at : (ℕ → ℕ → ℕ) → List Term → List MemoryBlock → Ending → Outcome
 ending_at v terms memory e = cond (bit_at v terms e.ub) Ub (cond (bit_at v terms e.beyond) Beyond (Return (option_map (value_at v terms) e.value) memory))
 
--- so
+-- so; it leaves the given blocks of the memory
 pub record EndedSo (g : Scene) (terms : List Term) (e : Ending) (run : Run) : Type 0 where
-  pub outcome : ending_at g.v terms g.memory e ≡ run.outcome
+  pub outcome : ending_at g.v terms (filter is_given g.memory) e ≡ run.outcome
   pub tally : Counts g terms e.tally run.taken
 
 -- not yet

@@ -1,9 +1,12 @@
 -- What the terms of a run so far stand for.
-use Rattle.std.specs.Prelude.{◌≡◌, ℕ, ◌+◌, ◌≤◌, Bool, true, false, ◌&&◌, ◌||◌, nat_eq, nat_lt, List, [], ◌∷◌, length, Option, Some, None, slice_index}
+use Rattle.std.specs.Prelude.{◌≡◌, ℕ, ◌+◌, ◌%◌, ◌^◌, ◌≤◌, Bool, true, false, ◌&&◌, ◌||◌, nat_eq, nat_lt, List, [], ◌∷◌, length, Option, Some, None, slice_index}
 use Rattle.ir_tree.specs.declared.tree.Inst.{Inst}
+use Rattle.byte_block.specs.declared.value.Value.{Value}
+use Rattle.byte_block.specs.declared.value.Value.TheVariants as value
+use Rattle.byte_block.specs.declared.value.Value.TheVariants.{Num, Poison}
 use Rattle.byte_block.specs.declared.block.MemoryBlock.{MemoryBlock}
 use Rattle.points.specs.declared.machine.Machine.{Machine}
-use Rattle.points.specs.Run.{act}
+use Rattle.points.specs.Run.{act, next_word}
 use Rattle.bv_terms.specs.declared.term.TermId.{TermId}
 use Rattle.bv_terms.specs.declared.term.Term.{Term}
 use Rattle.bv_terms.specs.Trees.{IsTerm, bit_at, term_at}
@@ -12,7 +15,19 @@ use Rattle.mem_terms.specs.Inputs.{words_at}
 use Rattle.encoder.specs.declared.state.Tally.{Tally}
 use Rattle.encoder.specs.declared.state.RunState.{RunState}
 
+-- ---- values
+
+-- a value where an integer is used: a pointer is none
+abbrev pub as_integer : Value → Value
+as_integer (Num n) = Num n
+as_integer Poison = Poison
+as_integer (value.Ptr p) = Poison
+
 -- ---- choices
+
+-- the choice of an integer of so many bits: the next word of the tape, cut to them
+abbrev pub chosen_number : List ℕ → Machine → ℕ → ℕ
+chosen_number tape m width = next_word tape m 0 % 2 ^ width
 
 -- each choice is the tape's word at its place, the first of these at k
 abbrev pub fits_from : List ℕ → ℕ → List ℕ → Bool

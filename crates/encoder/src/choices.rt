@@ -1,9 +1,8 @@
 //! Choices from a tape.
 
 ghost use Rattle.std.specs.Prelude.{◌≡◌, ◌<◌, ◌≤◌, ◌+◌, ◌%◌, ◌^◌, ◌&&◌, ◌||◌, ◌++◌, ◌∷◌, [], true, false, not, cond, ℕ, List, length, IfOk, OnOk, nat_eq, slice_index};
-ghost use Rattle.points.specs.Run.{choice_of};
 ghost use Rattle.points.specs.declared.machine.Machine.{Machine};
-ghost use Rattle.encoder.specs.Runs.{Scene, Sees, IsTally, Counts};
+ghost use Rattle.encoder.specs.Runs.{Scene, Sees, IsTally, Counts, chosen_number};
 ghost use Rattle.bv_terms.specs.Trees.{IsTerm, Keeps, Makes, Tests, bit_at, term_at};
 ghost use Rattle.mem_terms.specs.Inputs.{AreWords, words_at};
 
@@ -111,7 +110,7 @@ pub fn choose(
     ensures most { IfOk result (λ c. c.most ≡ most + 1) }
     ensures stays { IfOk result (λ c. (g : Scene) (made : List ℕ) → bit_at g.v terms.old taken ≡ false → Counts g terms.old tally made → Counts g terms.new c.tally made) }
     ensures takes { IfOk result (λ c. (g : Scene) (m : Machine) → Sees g terms.old tape.now → bit_at g.v terms.old taken ≡ true → length m.taken ≤ most → Counts g terms.old tally m.taken
-        → Counts g terms.new c.tally (m.taken ++ choice_of g.tape m width.bits ∷ []) × (term_at g.v terms.new c.number ≡ choice_of g.tape m width.bits)) }
+        → Counts g terms.new c.tally (m.taken ++ chosen_number g.tape m width.bits ∷ []) × (term_at g.v terms.new c.number ≡ chosen_number g.tape m width.bits)) }
     ensures kept { Keeps terms.old terms.new }
 {
     let more = one_choice_more(most)?;

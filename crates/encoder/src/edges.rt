@@ -2,6 +2,7 @@
 
 ghost use Rattle.std.specs.Prelude.{◌≡◌, ◌≤◌, ◌<◌, ℕ, IfOk, OnOk, IfSome, None, Some, length, slice_get, slice_index_or};
 ghost use Rattle.ir_tree.specs.declared.tree.Block.{Block};
+ghost use Rattle.ir_tree.specs.Pointers.{HasNoPointers};
 ghost use Rattle.points.specs.declared.machine.Machine.{Machine};
 ghost use Rattle.points.specs.declared.outcome.Outcome.TheVariants as outcome;
 ghost use Rattle.points.specs.Run.{ended, entered};
@@ -70,6 +71,7 @@ fn follow_to(
     requires state { IsState terms.old state.now }
     requires registers { length state.now.registers ≡ length f.now.names }
     requires c { IsTerm terms.old 1 c }
+    requires integers { HasNoPointers f.now }
     ensures frontier { OnOk result (IsFrontier terms.new frontier.new) }
     ensures shape { OnOk result (HasShape f.now copies.now frontier.new) }
     ensures moves { OnOk result ((g : Scene) → Moves g terms.old terms.new frontier.old frontier.new c leaving.label state.now (λ m. placed f.now copies.now leaving.ahead (At n m))) }
@@ -105,6 +107,7 @@ pub fn follow(
     requires state { IsState terms.old state.now }
     requires registers { length state.now.registers ≡ length f.now.names }
     requires c { IsTerm terms.old 1 c }
+    requires integers { HasNoPointers f.now }
     ensures frontier { OnOk result (IsFrontier terms.new frontier.new) }
     ensures shape { OnOk result (HasShape f.now copies.now frontier.new) }
     ensures moves { OnOk result ((g : Scene) → Moves g terms.old terms.new frontier.old frontier.new c leaving.label state.now (λ m. placed f.now copies.now leaving.ahead (along edge m))) }

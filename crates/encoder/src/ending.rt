@@ -1,10 +1,11 @@
 //! How a run ended.
 
 ghost use Rattle.std.specs.Prelude.{◌≡◌, true, false, ℕ, List, IfOk, OnOk, IfSome, None, Some, Option, cond, is_some};
+ghost use Rattle.std.specs.List.{filter};
 ghost use Rattle.std.specs.Option.{option_map};
 ghost use Rattle.points.specs.declared.machine.Machine.{Machine};
 ghost use Rattle.points.specs.declared.outcome.Outcome.TheVariants as outcome;
-ghost use Rattle.points.specs.Run.{Run};
+ghost use Rattle.points.specs.Run.{Run, is_given};
 ghost use Rattle.unroll.specs.Layers.{Where, Done};
 ghost use Rattle.bv_terms.specs.Trees.{IsTerm, Keeps, bit_at};
 ghost use Rattle.mem_terms.specs.Values.{IsSymValue, value_at};
@@ -85,7 +86,7 @@ impl Ending {
         ensures value { OnOk result (is_some self.new.value ≡ is_some self.old.value) }
         ensures stays { OnOk result ((g : Scene) (at : Option Where) → bit_at g.v terms.old c ≡ false → EndTells g terms.old self.old at → EndTells g terms.new self.new at) }
         ensures goes { OnOk result ((g : Scene) (made : List ℕ) → bit_at g.v terms.old c ≡ true → Counts g terms.old tally made → EndTells g terms.old self.old None
-            → EndTells g terms.new self.new (Some (Done (record { outcome = outcome.Return (option_map (value_at g.v terms.old) value) g.memory; taken = made })))) }
+            → EndTells g terms.new self.new (Some (Done (record { outcome = outcome.Return (option_map (value_at g.v terms.old) value) (filter is_given g.memory); taken = made })))) }
         ensures kept { Keeps terms.old terms.new }
     {
         self.value = pick_returned(terms, c, value, self.value)?;

@@ -1,10 +1,12 @@
 //! Where a run is between two copies.
 
 ghost use Rattle.std.specs.Prelude.{◌≡◌, ◌<◌, true, false, ℕ, List, is_some, IfOk, OnOk, IfSome, None, Some, Option, length, slice_get, slice_set};
+ghost use Rattle.std.specs.List.{filter};
 ghost use Rattle.std.specs.Option.{option_map};
+ghost use Rattle.ir_tree.specs.Pointers.{IsBlockOnIntegers};
 ghost use Rattle.points.specs.declared.machine.Machine.{Machine};
 ghost use Rattle.points.specs.declared.outcome.Outcome.TheVariants as outcome;
-ghost use Rattle.points.specs.Run.{entered};
+ghost use Rattle.points.specs.Run.{entered, is_given};
 ghost use Rattle.unroll.specs.Layers.{Where, At, Done};
 ghost use Rattle.bv_terms.specs.Trees.{IsTerm, Keeps, bit_at};
 ghost use Rattle.mem_terms.specs.Values.{IsSymValue, value_at};
@@ -82,6 +84,7 @@ fn state_on_edge(
 ) -> Result<RunState, NoMemory>
     requires c { IsTerm terms.old 1 c }
     requires state { IsState terms.old state.now }
+    requires integers { IsBlockOnIntegers block.now }
     ensures made { IfOk result (IsState terms.new) }
     ensures count { IfOk result (λ edge. length edge.registers ≡ length state.now.registers) }
     ensures alive { IfOk result (λ edge. edge.alive ≡ c) }
@@ -161,7 +164,7 @@ impl Frontier {
         ensures value { OnOk result (is_some self.new.ending.value ≡ is_some self.old.ending.value) }
         ensures stays { OnOk result ((g : Scene) (at : Option Where) → bit_at g.v terms.old c ≡ false → Tells g terms.old self.old at → Tells g terms.new self.new at) }
         ensures goes { OnOk result ((g : Scene) (made : List ℕ) → bit_at g.v terms.old c ≡ true → Counts g terms.old tally made → Tells g terms.old self.old None
-            → Tells g terms.new self.new (Some (Done (record { outcome = outcome.Return (option_map (value_at g.v terms.old) value) g.memory; taken = made })))) }
+            → Tells g terms.new self.new (Some (Done (record { outcome = outcome.Return (option_map (value_at g.v terms.old) value) (filter is_given g.memory); taken = made })))) }
         ensures kept { Keeps terms.old terms.new }
     {
         self.ending.end_return(terms, c, value, tally)?;
@@ -185,6 +188,7 @@ impl Frontier {
         requires n { n < length self.old.ahead }
         requires c { IsTerm terms.old 1 c }
         requires state { IsState terms.old state.now }
+        requires integers { IsBlockOnIntegers block.now }
         ensures own { OnOk result (IsFrontier terms.new self.new) }
         ensures registers { OnOk result (HaveRegisters (length state.now.registers) self.new.ahead) }
         ensures count { OnOk result (length self.new.ahead ≡ length self.old.ahead) }

@@ -1,9 +1,11 @@
 //! The run of a function on every input and tape.
 
 ghost use Rattle.std.specs.Prelude.{◌≡◌, ◌<◌, ◌&&◌, ◌||◌, ℕ, List, IfOk, OnOk, IfSome, None, Some, length, is_some, nat_eq, nat_lt, replicate};
+ghost use Rattle.std.specs.List.{filter};
+ghost use Rattle.ir_tree.specs.Pointers.{HasNoPointers};
 ghost use Rattle.byte_block.specs.declared.block.MemoryBlock.{MemoryBlock};
 ghost use Rattle.points.specs.declared.point.Bounds.{Bounds};
-ghost use Rattle.points.specs.Run.{Run, run_of};
+ghost use Rattle.points.specs.Run.{Run, is_given, run_of};
 ghost use Rattle.unroll.specs.Layers.{copies_of};
 ghost use Rattle.bv_terms.specs.Trees.{IsTerm, Keeps, Tests, bit_at, term_at};
 ghost use Rattle.mem_terms.specs.Values.{IsSymValue};
@@ -97,7 +99,8 @@ fn enter(
     copies: &Sequence<BlockCopy>,
     args: &[ArgTerms],
 ) -> Result<Frontier, NoMemory>
-    requires { AreArgs terms.old f.now.parameters args.now }
+    requires args { AreArgs terms.old f.now.parameters args.now }
+    requires integers { HasNoPointers f.now }
     ensures made { IfOk result (IsFrontier terms.new) }
     ensures shape { IfOk result (HasShape f.now copies.now) }
     ensures stands { IfOk result (λ w. (g : Scene) → Tells g terms.new w (Some (placed f.now copies.now 0 (first_place f.now (record { args = args_at g.v terms.old args.now; blocks = g.memory }))))) }
@@ -165,7 +168,7 @@ fn finish(terms: &mut Terms, ending: Ending, tape: &[TermId]) -> Result<OutcomeT
     requires tape { AreWords terms.old tape.now }
     ensures made { IfOk result (IsOutcome terms.new) }
     ensures valued { IfOk result (λ o. is_some o.value ≡ is_some ending.value) }
-    ensures stands { IfOk result (λ o. (g : Scene) (run : Run) → Sees g terms.old tape.now → EndedSo g terms.old ending run → Shows g.v terms.new g.memory g.tape run o) }
+    ensures stands { IfOk result (λ o. (g : Scene) (run : Run) → Sees g terms.old tape.now → EndedSo g terms.old ending run → Shows g.v terms.new (filter is_given g.memory) g.tape run o) }
     ensures kept { Keeps terms.old terms.new }
 {
     let rest = zeros(terms, tape, ending.tally.read)?;
@@ -181,8 +184,8 @@ fn finish(terms: &mut Terms, ending: Ending, tape: &[TermId]) -> Result<OutcomeT
 
 /// The run of a function on an input and a tape, as terms over the copies of its blocks: under every
 /// assignment of the variables they show the run on what the input and the tape are under it, within
-/// as many backward jumps as the layers have. Arguments are numbers or poison. It fails for want of
-/// memory alone.
+/// as many backward jumps as the layers have. The function has no pointers: arguments are numbers or
+/// poison, and the run leaves the given blocks as they are. It fails for want of memory alone.
 pub fn encode(
     alloc: Global,
     f: &Function,
@@ -193,12 +196,13 @@ pub fn encode(
 ) -> Result<OutcomeTerms, NoMemory>
     requires layers { layered.now.copies ≡ copies_of layered.now.turns f.now }
     requires returns { ReturnsFit f.now }
+    requires integers { HasNoPointers f.now }
     requires args { AreArgs terms.old f.now.parameters input.now.args }
     requires tape { AreWords terms.old tape.now.words }
     ensures made { IfOk result (IsOutcome terms.new) }
     ensures valued { IfOk result (λ o. is_some o.value ≡ is_some f.now.returns) }
     ensures stands { IfOk result (λ o. (v : ℕ → ℕ → ℕ) (bounds : Bounds) (memory : List MemoryBlock) → bounds.turns ≡ layered.now.turns
-        → Shows v terms.new memory (words_at v terms.old tape.now.words)
+        → Shows v terms.new (filter is_given memory) (words_at v terms.old tape.now.words)
         (run_of f.now bounds (record { args = args_at v terms.old input.now.args; blocks = memory }) (words_at v terms.old tape.now.words)) o) }
     ensures kept { Keeps terms.old terms.new }
 {

@@ -1,7 +1,8 @@
 //! The instructions of a block.
 
-ghost use Rattle.std.specs.Prelude.{◌≡◌, ◌<◌, ◌&&◌, false, not, cond, ℕ, IfOk, OnOk, IsTrue, length};
+ghost use Rattle.std.specs.Prelude.{◌≡◌, ◌<◌, ◌&&◌, All, false, not, cond, ℕ, IfOk, OnOk, IsTrue, length};
 ghost use Rattle.ir_tree.specs.declared.tree.Operand.{Operand};
+ghost use Rattle.ir_tree.specs.Pointers.{IsInteger, IsOnIntegers};
 ghost use Rattle.byte_block.specs.declared.value.Value.TheVariants.{Num};
 ghost use Rattle.points.specs.declared.machine.Machine.{Machine};
 ghost use Rattle.points.specs.Run.{cut_value, operand_value, typed_operand_value};
@@ -9,19 +10,19 @@ ghost use Rattle.points.specs.Table.{cast_value, compared, selected, value_resul
 ghost use Rattle.bv_terms.specs.Trees.{IsTerm, Keeps, Tests, bit_at, term_at};
 ghost use Rattle.mem_terms.specs.Values.{AreSymValues, IsSymValue, option_from, value_at, values_at};
 ghost use Rattle.mem_terms.specs.Inputs.{AreWords};
-ghost use Rattle.encoder.specs.Runs.{Course, Live, Follows, IsState, Scene, Sees, stepped, steps};
+ghost use Rattle.encoder.specs.Runs.{Course, Live, Follows, IsState, Scene, Sees, as_integer, stepped, steps};
 
 use crate::choices::choose;
 use crate::operands::{cut, operand_of, typed_operand_of};
 use crate::state::RunState;
 use bv_terms::{Term, TermId, Terms};
 use inst_terms::{Computed, binary, cast, compare, select};
-use ir_tree::{Cast, Inst, Op, Operand, Predicate, TypedOperand};
+use ir_tree::{Cast, Inst, IrType, Op, Operand, Predicate, TypedOperand};
 use mem_terms::{SymValue, both, negation, pick, truth};
 use support::NoMemory;
 use tv_num::Width;
 
-/// What two operands read of the registers.
+/// What two operands read of the registers where integers are used.
 fn operands_of(
     terms: &mut Terms,
     registers: &[SymValue],
@@ -31,8 +32,8 @@ fn operands_of(
     requires { AreSymValues terms.old registers.now }
     ensures first { IfOk result (λ p. IsSymValue terms.new p.0) }
     ensures second { IfOk result (λ p. IsSymValue terms.new p.1) }
-    ensures left { IfOk result (λ p. (v : ℕ → ℕ → ℕ) → value_at v terms.new p.0 ≡ operand_value (values_at v terms.old registers.now) left) }
-    ensures right { IfOk result (λ p. (v : ℕ → ℕ → ℕ) → value_at v terms.new p.1 ≡ operand_value (values_at v terms.old registers.now) right) }
+    ensures left { IfOk result (λ p. (v : ℕ → ℕ → ℕ) → value_at v terms.new p.0 ≡ as_integer (operand_value (values_at v terms.old registers.now) left)) }
+    ensures right { IfOk result (λ p. (v : ℕ → ℕ → ℕ) → value_at v terms.new p.1 ≡ as_integer (operand_value (values_at v terms.old registers.now) right)) }
     ensures kept { Keeps terms.old terms.new }
 {
     let first = operand_of(terms, registers, left)?;
@@ -105,7 +106,9 @@ fn selection(
     if_true: TypedOperand,
     if_false: TypedOperand,
 ) -> Result<SymValue, NoMemory>
-    requires { AreSymValues terms.old registers.now }
+    requires registers { AreSymValues terms.old registers.now }
+    requires first { IsInteger if_true.of_type }
+    requires second { IsInteger if_false.of_type }
     ensures made { IfOk result (IsSymValue terms.new) }
     ensures stands { IfOk result (λ s. (v : ℕ → ℕ → ℕ) → value_at v terms.new s
         ≡ selected (operand_value (values_at v terms.old registers.now) condition) (typed_operand_value (values_at v terms.old registers.now) if_true) (typed_operand_value (values_at v terms.old registers.now) if_false)) }
@@ -213,7 +216,9 @@ fn step_select(
     if_true: TypedOperand,
     if_false: TypedOperand,
 ) -> Result<(), NoMemory>
-    requires { IsState terms.old state.old }
+    requires state { IsState terms.old state.old }
+    requires first { IsInteger if_true.of_type }
+    requires second { IsInteger if_false.of_type }
     ensures state { OnOk result (IsState terms.new state.new) }
     ensures count { OnOk result (length state.new.registers ≡ length state.old.registers) }
     ensures stands { OnOk result ((g : Scene) (label : ℕ) (c : Course) → Follows g terms.old label state.old c → Follows g terms.new label state.new (stepped (Inst.Select into condition if_true if_false) g.tape c)) }
@@ -254,7 +259,7 @@ fn assign_or_choose(
     ensures count { OnOk result (length state.new.registers ≡ length state.old.registers) }
     ensures stands { OnOk result ((g : Scene) (label : ℕ) (c : Course) (operand : Operand) → Sees g terms.old tape.now
         → ((m : Machine) → c ≡ Live m → value_at g.v terms.old value ≡ cut_value width.bits (operand_value m.registers operand))
-        → Follows g terms.old label state.old c → Follows g terms.new label state.new (stepped (Inst.Freeze into width operand) g.tape c)) }
+        → Follows g terms.old label state.old c → Follows g terms.new label state.new (stepped (Inst.Freeze into (IrType.Int width) operand) g.tape c)) }
     ensures kept { Keeps terms.old terms.new }
 {
     let taken = both(terms, state.alive, value.poison)?;
@@ -280,7 +285,7 @@ fn step_freeze(
     requires tape { AreWords terms.old tape.now }
     ensures state { OnOk result (IsState terms.new state.new) }
     ensures count { OnOk result (length state.new.registers ≡ length state.old.registers) }
-    ensures stands { OnOk result ((g : Scene) (label : ℕ) (c : Course) → Sees g terms.old tape.now → Follows g terms.old label state.old c → Follows g terms.new label state.new (stepped (Inst.Freeze into width operand) g.tape c)) }
+    ensures stands { OnOk result ((g : Scene) (label : ℕ) (c : Course) → Sees g terms.old tape.now → Follows g terms.old label state.old c → Follows g terms.new label state.new (stepped (Inst.Freeze into (IrType.Int width) operand) g.tape c)) }
     ensures kept { Keeps terms.old terms.new }
 {
     let value = operand_of(terms, state.registers.as_slice(), operand)?;
@@ -293,18 +298,30 @@ fn step_freeze(
     }
 }
 
-/// One instruction.
+/// The width of an integer type.
+fn integer_width(of_type: IrType) -> Width
+    requires { IsInteger of_type }
+    ensures { of_type ≡ IrType.Int result }
+{
+    match of_type {
+        IrType::Int(width) => width,
+        IrType::Ptr => unreachable!(),
+    }
+}
+
+/// One instruction on integers.
 fn step(
     terms: &mut Terms,
     state: &mut RunState,
-    inst: Inst,
+    inst: &Inst,
     tape: &[TermId],
 ) -> Result<(), NoMemory>
     requires state { IsState terms.old state.old }
     requires tape { AreWords terms.old tape.now }
+    requires integers { IsOnIntegers inst.now }
     ensures state { OnOk result (IsState terms.new state.new) }
     ensures count { OnOk result (length state.new.registers ≡ length state.old.registers) }
-    ensures stands { OnOk result ((g : Scene) (label : ℕ) (c : Course) → Sees g terms.old tape.now → Follows g terms.old label state.old c → Follows g terms.new label state.new (stepped inst g.tape c)) }
+    ensures stands { OnOk result ((g : Scene) (label : ℕ) (c : Course) → Sees g terms.old tape.now → Follows g terms.old label state.old c → Follows g terms.new label state.new (stepped inst.now g.tape c)) }
     ensures kept { Keeps terms.old terms.new }
 {
     match inst {
@@ -315,7 +332,7 @@ fn step(
             left,
             right,
         } => {
-            step_binary(terms, state, into, op, width, left, right)?;
+            step_binary(terms, state, *into, *op, *width, *left, *right)?;
             Ok(())
         }
         Inst::Icmp {
@@ -326,7 +343,9 @@ fn step(
             left,
             right,
         } => {
-            step_icmp(terms, state, into, predicate, same_sign, width, left, right)?;
+            step_icmp(
+                terms, state, *into, *predicate, *same_sign, *width, *left, *right,
+            )?;
             Ok(())
         }
         Inst::Cast {
@@ -336,7 +355,7 @@ fn step(
             operand,
             to,
         } => {
-            step_cast(terms, state, into, cast, from, operand, to)?;
+            step_cast(terms, state, *into, *cast, *from, *operand, *to)?;
             Ok(())
         }
         Inst::Select {
@@ -345,21 +364,24 @@ fn step(
             if_true,
             if_false,
         } => {
-            step_select(terms, state, into, condition, if_true, if_false)?;
+            step_select(terms, state, *into, *condition, *if_true, *if_false)?;
             Ok(())
         }
         Inst::Freeze {
             into,
-            width,
+            of_type,
             operand,
         } => {
-            step_freeze(terms, state, into, width, operand, tape)?;
+            let width = integer_width(*of_type);
+            step_freeze(terms, state, *into, width, *operand, tape)?;
             Ok(())
         }
+        Inst::Alloca { .. } | Inst::Load { .. } | Inst::Store { .. } | Inst::GetElementPtr { .. } =>
+            unreachable!(),
     }
 }
 
-/// All instructions of a block, one after another.
+/// All instructions of a block, one after another; each is on integers.
 pub fn step_all(
     terms: &mut Terms,
     state: &mut RunState,
@@ -368,13 +390,14 @@ pub fn step_all(
 ) -> Result<(), NoMemory>
     requires state { IsState terms.old state.old }
     requires tape { AreWords terms.old tape.now }
+    requires integers { All IsOnIntegers insts.now }
     ensures state { OnOk result (IsState terms.new state.new) }
     ensures count { OnOk result (length state.new.registers ≡ length state.old.registers) }
     ensures stands { OnOk result ((g : Scene) (label : ℕ) (c : Course) → Sees g terms.old tape.now → Follows g terms.old label state.old c → Follows g terms.new label state.new (steps insts.now g.tape c)) }
     ensures kept { Keeps terms.old terms.new }
 {
     for inst in insts {
-        step(terms, state, *inst, tape)?;
+        step(terms, state, inst, tape)?;
     }
     Ok(())
 }

@@ -2,9 +2,9 @@
 //!
 //! It promises that under every assignment of the variables the terms of the outcome show the run of
 //! the function on what the terms of the input and of the tape stand for, within the bound on
-//! backward jumps that the layers were made for. It is told for every function, well formed or not,
-//! as the run is. It stands on `unroll`, `mem_terms` and `inst_terms`; the questions of the circuit
-//! judge stand on it.
+//! backward jumps that the layers were made for. It is told for every function without pointers, well
+//! formed or not, as the run is. It stands on `unroll`, `mem_terms` and `inst_terms`; the questions of
+//! the circuit judge stand on it.
 #![tactic(auto)]
 
 mod beginning;

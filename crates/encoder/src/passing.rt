@@ -3,6 +3,7 @@
 ghost use Rattle.std.specs.Prelude.{◌≡◌, ◌<◌, ◌+◌, ◌^◌, ℕ, IfOk, OnOk, None, Some, length, slice_get};
 ghost use Rattle.ir_tree.specs.declared.tree.Block.{Block};
 ghost use Rattle.ir_tree.specs.Flow.{targets};
+ghost use Rattle.ir_tree.specs.Pointers.{HasNoPointers};
 ghost use Rattle.points.specs.declared.machine.Machine.{Machine};
 ghost use Rattle.points.specs.Run.{exit_insts};
 ghost use Rattle.unroll.specs.Layers.{Where, left_by, pass_copy, walk};
@@ -40,6 +41,7 @@ fn run_copy(
     requires number { number + 1 < 2 ^ 64 }
     requires copy { IsCopyIn f.now copy.now }
     requires returned { ReturnsFit f.now }
+    requires integers { HasNoPointers f.now }
     requires entry { IsState terms.old entry }
     requires registers { length entry.registers ≡ length f.now.names }
     requires tape { AreWords terms.old tape.now }
@@ -92,6 +94,7 @@ fn pass_copy(
     requires next { number + 1 < 2 ^ 64 }
     requires copy { IsCopyIn f.now copy.now }
     requires returned { ReturnsFit f.now }
+    requires integers { HasNoPointers f.now }
     requires tape { AreWords terms.old tape.now }
     ensures frontier { OnOk result (IsFrontier terms.new frontier.new) }
     ensures shape { OnOk result (HasShape f.now copies.now frontier.new) }
@@ -121,6 +124,7 @@ pub fn pass_all(
     requires shape { HasShape f.now copies.now frontier.old }
     requires copies { Each (IsCopyIn f.now) copies.now }
     requires returned { ReturnsFit f.now }
+    requires integers { HasNoPointers f.now }
     requires tape { AreWords terms.old tape.now }
     ensures frontier { OnOk result (IsFrontier terms.new frontier.new) }
     ensures shape { OnOk result (HasShape f.now copies.now frontier.new) }

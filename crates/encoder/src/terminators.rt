@@ -5,8 +5,9 @@ ghost use Rattle.std.specs.List.{find};
 ghost use Rattle.std.specs.Option.{option_map, option_map_or};
 ghost use Rattle.tv_num.specs.declared.Width.{Width};
 ghost use Rattle.ir_tree.specs.Flow.{targets};
+ghost use Rattle.ir_tree.specs.Pointers.{EndsOnIntegers, HasNoPointers, IsInteger, ReturnsInteger};
 ghost use Rattle.points.specs.declared.machine.Machine.{Machine};
-ghost use Rattle.points.specs.Run.{exit_by, operand_value, returned_run, returned_with, undef_width};
+ghost use Rattle.points.specs.Run.{exit_by, operand_value, returned_run, returned_with, undef_type};
 ghost use Rattle.unroll.specs.Layers.{Done, along, left_by};
 ghost use Rattle.bv_terms.specs.Trees.{IsTerm, Keeps, Tests, bit_at, term_at};
 ghost use Rattle.mem_terms.specs.Values.{IsSymValue};
@@ -42,9 +43,10 @@ fn split(terms: &mut Terms, c: TermId, by: TermId) -> Result<(TermId, TermId), N
     Ok((on, off))
 }
 
-/// The width of the choice that stands there: undef of an integer type is one.
+/// The width of the choice that stands there: undef is one, of an integer type.
 fn undef_width(returned: TypedOperand) -> Option<Width>
-    ensures { option_map (λ (width : Width). width.bits) result ≡ undef_width returned.of_type returned.operand }
+    requires { IsInteger returned.of_type }
+    ensures { option_map (λ (width : Width). IrType.Int width) result ≡ undef_type returned.of_type returned.operand }
 {
     match (returned.of_type, returned.operand) {
         (IrType::Int(width), Operand::Undef) => Some(width),
@@ -66,11 +68,12 @@ fn return_operand(
     requires c { IsTerm terms.old 1 c }
     requires state { IsState terms.old state.now }
     requires tape { AreWords terms.old tape.now }
+    requires integer { IsInteger returned.of_type }
     ensures frontier { OnOk result (IsFrontier terms.new frontier.new) }
     ensures ahead { OnOk result (frontier.new.ahead ≡ frontier.old.ahead) }
     ensures value { OnOk result (is_some frontier.new.ending.value ≡ true) }
     ensures moves { OnOk result ((g : Scene) (label : ℕ) → Sees g terms.old tape.now
-        → Moves g terms.old terms.new frontier.old frontier.new c label state.now (λ m. Done (returned_with (undef_width returned.of_type returned.operand) returned g.tape m))) }
+        → Moves g terms.old terms.new frontier.old frontier.new c label state.now (λ m. Done (returned_with (undef_type returned.of_type returned.operand) returned g.tape m))) }
     ensures kept { Keeps terms.old terms.new }
 {
     match undef_width(returned) {
@@ -104,6 +107,7 @@ fn leave_by_return(
     requires value { is_some returned ≡ is_some frontier.old.ending.value }
     requires state { IsState terms.old state.now }
     requires tape { AreWords terms.old tape.now }
+    requires integer { ReturnsInteger returned }
     ensures frontier { OnOk result (IsFrontier terms.new frontier.new) }
     ensures ahead { OnOk result (frontier.new.ahead ≡ frontier.old.ahead) }
     ensures value { OnOk result (is_some frontier.new.ending.value ≡ is_some frontier.old.ending.value) }
@@ -139,6 +143,7 @@ fn return_defined(
     requires value { is_some frontier.old.ending.value ≡ true }
     requires state { IsState terms.old state.now }
     requires tape { AreWords terms.old tape.now }
+    requires integer { IsInteger returned.of_type }
     ensures frontier { OnOk result (IsFrontier terms.new frontier.new) }
     ensures ahead { OnOk result (frontier.new.ahead ≡ frontier.old.ahead) }
     ensures value { OnOk result (is_some frontier.new.ending.value ≡ true) }
@@ -173,6 +178,7 @@ fn leave_by_bit(
     requires c { IsTerm terms.old 1 c }
     requires state { IsState terms.old state.now }
     requires registers { length state.now.registers ≡ length f.now.names }
+    requires integers { HasNoPointers f.now }
     requires bit { IsTerm terms.old 1 bit }
     ensures frontier { OnOk result (IsFrontier terms.new frontier.new) }
     ensures shape { OnOk result (HasShape f.now copies.now frontier.new) }
@@ -207,6 +213,7 @@ fn leave_by_branch(
     requires shape { HasShape f.now copies.now frontier.old }
     requires state { IsState terms.old state.now }
     requires registers { length state.now.registers ≡ length f.now.names }
+    requires integers { HasNoPointers f.now }
     ensures frontier { OnOk result (IsFrontier terms.new frontier.new) }
     ensures shape { OnOk result (HasShape f.now copies.now frontier.new) }
     ensures moves { OnOk result ((g : Scene) → Moves g terms.old terms.new frontier.old frontier.new state.now.alive leaving.label state.now (λ m.
@@ -264,6 +271,7 @@ fn leave_by_cases(
     requires c { IsTerm terms.old 1 c }
     requires state { IsState terms.old state.now }
     requires registers { length state.now.registers ≡ length f.now.names }
+    requires integers { HasNoPointers f.now }
     requires number { IsTerm terms.old width.bits number }
     ensures frontier { OnOk result (IsFrontier terms.new frontier.new) }
     ensures shape { OnOk result (HasShape f.now copies.now frontier.new) }
@@ -306,6 +314,7 @@ fn leave_by_switch(
     requires shape { HasShape f.now copies.now frontier.old }
     requires state { IsState terms.old state.now }
     requires registers { length state.now.registers ≡ length f.now.names }
+    requires integers { HasNoPointers f.now }
     ensures frontier { OnOk result (IsFrontier terms.new frontier.new) }
     ensures shape { OnOk result (HasShape f.now copies.now frontier.new) }
     ensures moves { OnOk result ((g : Scene) (edge : Case → Edge) (default : Edge) → edges.now ≡ default ∷ map edge cases.now
@@ -343,6 +352,8 @@ pub fn leave(
     requires returned { FitsReturn f.now.returns terminator.now }
     requires edges { AreByLabel (targets terminator.now) edges.now }
     requires tape { AreWords terms.old tape.now }
+    requires integers { HasNoPointers f.now }
+    requires end { EndsOnIntegers terminator.now }
     ensures frontier { OnOk result (IsFrontier terms.new frontier.new) }
     ensures shape { OnOk result (HasShape f.now copies.now frontier.new) }
     ensures moves { OnOk result ((g : Scene) → Sees g terms.old tape.now → Moves g terms.old terms.new frontier.old frontier.new state.now.alive leaving.label state.now (λ m.

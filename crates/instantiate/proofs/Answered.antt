@@ -27,20 +27,7 @@ agree : (v w : ℕ → ℕ → ℕ) (t : Tree) → ((x : Variable) → Mentions 
 agree v w (tree.Constant value width) h = refl
 agree v w (tree.Variable number width) h = h (record { number = number; width = width }) refl
 agree v w (tree.Not a width) h = rw (agree v w a h) refl
-agree v w (tree.And a b width) h = rw (agree v w a (λ x m. h x (inl m)), agree v w b (λ x m. h x (inr m))) refl
-agree v w (tree.Or a b width) h = rw (agree v w a (λ x m. h x (inl m)), agree v w b (λ x m. h x (inr m))) refl
-agree v w (tree.Xor a b width) h = rw (agree v w a (λ x m. h x (inl m)), agree v w b (λ x m. h x (inr m))) refl
-agree v w (tree.Add a b width) h = rw (agree v w a (λ x m. h x (inl m)), agree v w b (λ x m. h x (inr m))) refl
-agree v w (tree.Sub a b width) h = rw (agree v w a (λ x m. h x (inl m)), agree v w b (λ x m. h x (inr m))) refl
-agree v w (tree.Mul a b width) h = rw (agree v w a (λ x m. h x (inl m)), agree v w b (λ x m. h x (inr m))) refl
-agree v w (tree.Udiv a b width) h = rw (agree v w a (λ x m. h x (inl m)), agree v w b (λ x m. h x (inr m))) refl
-agree v w (tree.Urem a b width) h = rw (agree v w a (λ x m. h x (inl m)), agree v w b (λ x m. h x (inr m))) refl
-agree v w (tree.Shl a b width) h = rw (agree v w a (λ x m. h x (inl m)), agree v w b (λ x m. h x (inr m))) refl
-agree v w (tree.Lshr a b width) h = rw (agree v w a (λ x m. h x (inl m)), agree v w b (λ x m. h x (inr m))) refl
-agree v w (tree.Ashr a b width) h = rw (agree v w a (λ x m. h x (inl m)), agree v w b (λ x m. h x (inr m))) refl
-agree v w (tree.Eq a b width) h = rw (agree v w a (λ x m. h x (inl m)), agree v w b (λ x m. h x (inr m))) refl
-agree v w (tree.Ult a b width) h = rw (agree v w a (λ x m. h x (inl m)), agree v w b (λ x m. h x (inr m))) refl
-agree v w (tree.Slt a b width) h = rw (agree v w a (λ x m. h x (inl m)), agree v w b (λ x m. h x (inr m))) refl
+agree v w (tree.Binary op a b width) h = rw (agree v w a (λ x m. h x (inl m)), agree v w b (λ x m. h x (inr m))) refl
 agree v w (tree.Ite c a b width) h = rw (agree v w c (λ x m. h x (inl m)), agree v w a (λ x m. h x (inr (inl m))), agree v w b (λ x m. h x (inr (inr m)))) refl
 agree v w (tree.Extract a from width) h = rw (agree v w a h) refl
 agree v w (tree.Concat high low below width) h = rw (agree v w high (λ x m. h x (inl m)), agree v w low (λ x m. h x (inr m))) refl

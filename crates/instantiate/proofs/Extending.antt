@@ -5,7 +5,7 @@ use Rattle.std.proofs.lemmas.List.{take_more}
 use Rattle.ir_tree.specs.declared.tree.IrType.{IrType}
 use Rattle.ir_tree.specs.declared.tree.IrType.TheVariants as type
 use Rattle.ir_tree.specs.declared.tree.Parameter.{Parameter}
-use Rattle.ir_tree.specs.Limits.{IsInteger, AreIntegers}
+use Rattle.ir_tree.specs.Pointers.{IsInteger, AreIntegers}
 use Rattle.points.specs.declared.point.Shape.{Shape}
 use Rattle.bv_terms.specs.declared.term.TermId.{TermId}
 use Rattle.bv_terms.specs.declared.term.Term.{Term}

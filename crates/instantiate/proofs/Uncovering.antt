@@ -1,12 +1,12 @@
 -- The goals of the two questions are true exactly on their answers.
 use Rattle.std.proofs.Common.{ℕ, ◌≡◌, ◌↔◌, Bool, true, false, not, ◌&&◌, ◌||◌, List, [], ◌∷◌, ◌++◌, length, refl, ap, sym, subst, ◌∙◌}
-use Rattle.std.specs.List.{flat_map}
+use Rattle.std.specs.List.{filter, flat_map}
 use Rattle.std.proofs.lemmas.Bool.{eqb-true}
 use Rattle.ir_tree.specs.declared.tree.IrType.{IrType}
 use Rattle.ir_tree.specs.declared.tree.IrType.TheVariants.{Int, Ptr}
 use Rattle.ir_tree.specs.declared.tree.Parameter.{Parameter}
 use Rattle.ir_tree.specs.declared.tree.Function.{Function}
-use Rattle.ir_tree.specs.Limits.{AreIntegers}
+use Rattle.ir_tree.specs.Pointers.{AreIntegers}
 use Rattle.byte_block.specs.declared.block.MemoryBlock.{MemoryBlock}
 use Rattle.byte_block.specs.declared.value.Value.{Value}
 use Rattle.points.specs.declared.point.Bounds.{Bounds}
@@ -19,7 +19,7 @@ use Rattle.points.specs.Code.{WordsFit, IsOfShape, code_of}
 use Rattle.points.specs.Codes.{IsCode}
 use Rattle.points.specs.Covers.{covers, some_covers, shifted, is_covered}
 use Rattle.points.specs.Refines.{is_refined}
-use Rattle.points.specs.Run.{run_of, IsPlain}
+use Rattle.points.specs.Run.{is_given, run_of, IsPlain}
 use Rattle.points.specs.Tapes.{need_of}
 use Rattle.points.specs.Trail.{IsPoint}
 use Rattle.points.proofs.Decoded.{codes_tell_points}
@@ -33,7 +33,7 @@ use Rattle.mem_terms.specs.declared.inputs.TapeTerms.{TapeTerms}
 use Rattle.mem_terms.specs.declared.outcome.OutcomeTerms.{OutcomeTerms}
 use Rattle.mem_terms.specs.Values.{Each}
 use Rattle.mem_terms.specs.Inputs.{IsArg, AreArgs, AreWords, argument_width, args_at, words_at}
-use Rattle.mem_terms.specs.Outcomes.{IsOutcome, Shows, outcome_at}
+use Rattle.mem_terms.specs.Outcomes.{IsOutcome, Shows}
 use Rattle.mem_terms.proofs.Bits.{term-below}
 use Rattle.mem_terms.proofs.Eaches.{map-same}
 use Rattle.mem_terms.proofs.Later.{keeps_trans, term-later, args_at-later, words_at-later, outcome-later}
@@ -41,7 +41,7 @@ use Rattle.refine_terms.specs.Deciding.{Decides}
 use Rattle.refine_terms.specs.Numbers.{IsBlockTerms, IsInputOf, IsTapeOf, arg_numbers, block_numbers, numbers_at}
 use Rattle.refine_terms.proofs.Rows.{block-later}
 use Rattle.refine_terms.proofs.Truths.{and_left, and_right, and_both}
-use Rattle.instantiate.specs.Candidates.{input_at, none_allows}
+use Rattle.instantiate.specs.Candidates.{input_at, none_allows, outcome_on}
 use Rattle.instantiate.specs.Questions.{IsCovering, IsUncovered}
 use Rattle.instantiate.specs.Shapes.{IsShapeOf}
 use Rattle.instantiate.proofs.Decoded.{decoded}
@@ -197,10 +197,10 @@ module _ (pair : Functions) (bounds : Bounds) (tapes : List (List ℕ)) (s : Sha
 
 pub uncovered_decides : (t0 t1 t2 t3 t4 : List Term) (pair : Functions) (bounds : Bounds) (tapes : List (List ℕ)) (s : Shape) (input : InputTerms) (tape : TapeTerms) (o : OutcomeTerms) (g2 g3 g4 : TermId)
     → IsShapeOf pair bounds s → AreIntegers pair.target.parameters → IsInputOf s t0 input → IsTapeOf s t0 tape → AreArgs t0 pair.source.parameters input.args → Keeps t0 t1 → Keeps t1 t2 → Keeps t2 t3 → IsOutcome t1 o
-    → ((v : ℕ → ℕ → ℕ) (memory : List MemoryBlock) → Shows v t1 memory (words_at v t0 tape.words) (run_of pair.target bounds (input_at v t0 memory input) (words_at v t0 tape.words)) o)
+    → ((v : ℕ → ℕ → ℕ) (memory : List MemoryBlock) → Shows v t1 (filter is_given memory) (words_at v t0 tape.words) (run_of pair.target bounds (input_at v t0 memory input) (words_at v t0 tape.words)) o)
     → Decides t2 g2 (λ v. IsCode s (numbers_at v t1 input tape) × (bit_at v t1 o.plain ≡ true))
-    → ((memory : List MemoryBlock) → Tests t3 g3 (λ v. bit_at v t2 g2 && none_allows pair.source bounds (input_at v t2 memory input) (outcome_at v t2 memory o) (shifted (need_of bounds.turns pair.source) (words_at v t2 tape.words))))
-    → ((memory : List MemoryBlock) → Tests t4 g4 (λ v. bit_at v t3 g3 && none_allows pair.source bounds (input_at v t3 memory input) (outcome_at v t3 memory o) tapes))
+    → ((memory : List MemoryBlock) → Tests t3 g3 (λ v. bit_at v t2 g2 && none_allows pair.source bounds (input_at v t2 memory input) (outcome_on v t2 memory o) (shifted (need_of bounds.turns pair.source) (words_at v t2 tape.words))))
+    → ((memory : List MemoryBlock) → Tests t4 g4 (λ v. bit_at v t3 g3 && none_allows pair.source bounds (input_at v t3 memory input) (outcome_on v t3 memory o) tapes))
     → Decides t4 g4 (λ v. IsUncovered pair bounds tapes (numbers_at v t0 input tape))
 uncovered_decides t0 t1 t2 t3 t4 pair bounds tapes s input tape o g2 g3 g4 shape integers are words source k1 k2 k3 is_o shows well shifts others =
     answers pair bounds tapes s t0 t4 input tape (λ v. bit_at v t1 o.plain) g4 (λ v. bit_at v t2 g2) shape (rw shape.parameters integers) are words (λ v memory. (shows v memory).plain)
@@ -217,9 +217,9 @@ uncovered_decides t0 t1 t2 t3 t4 pair bounds tapes s input tape o g2 g3 g4 shape
     k13 = keeps_trans t1 t2 t3 k2 k3
 
     none_there : (v : ℕ → ℕ → ℕ) (memory : List MemoryBlock) (t : List Term) → Keeps t0 t → Keeps t1 t → (rest : List (List ℕ))
-        → none_allows pair.source bounds (input_at v t memory input) (outcome_at v t memory o) rest ≡ none_allows pair.source bounds (input_at v t0 memory input) (run_of pair.target bounds (input_at v t0 memory input) (words_at v t0 tape.words)).outcome rest
+        → none_allows pair.source bounds (input_at v t memory input) (outcome_on v t memory o) rest ≡ none_allows pair.source bounds (input_at v t0 memory input) (run_of pair.target bounds (input_at v t0 memory input) (words_at v t0 tape.words)).outcome rest
     none_there v memory t k k' rest =
-        two (λ (i : Input) (z : Outcome). none_allows pair.source bounds i z rest) (input_at-later t0 t k pair.source input source v memory) (outcome-later t1 t k' v memory o is_o ∙ (shows v memory).outcome)
+        two (λ (i : Input) (z : Outcome). none_allows pair.source bounds i z rest) (input_at-later t0 t k pair.source input source v memory) (outcome-later t1 t k' v (filter is_given memory) o is_o ∙ (shows v memory).outcome)
 
     says : (v : ℕ → ℕ → ℕ) (memory : List MemoryBlock) → bit_at v t4 g4 ≡ (bit_at v t2 g2 && not (is_covered pair bounds tapes (point_at v t0 memory input tape)))
     says v memory =
@@ -227,7 +227,7 @@ uncovered_decides t0 t1 t2 t3 t4 pair bounds tapes s input tape o g2 g3 g4 shape
         let z : Outcome = (run_of pair.target bounds p.input p.tape).outcome in
         let front : List (List ℕ) = shifted (need_of bounds.turns pair.source) p.tape in
         let moved_words : shifted (need_of bounds.turns pair.source) (words_at v t2 tape.words) ≡ front = ap (shifted (need_of bounds.turns pair.source)) (words_at-later t0 t2 k02 v tape.words words.words) in
-        let first = ap (λ xs. none_allows pair.source bounds (input_at v t2 memory input) (outcome_at v t2 memory o) xs) moved_words ∙ none_there v memory t2 k02 k2 front in
+        let first = ap (λ xs. none_allows pair.source bounds (input_at v t2 memory input) (outcome_on v t2 memory o) xs) moved_words ∙ none_there v memory t2 k02 k2 front in
         let second = none_there v memory t3 k03 k13 tapes in
         gathered (bit_at v t2 g2) (bit_at v t3 g3) (bit_at v t4 g4) (none_allows pair.source bounds p.input z front) (none_allows pair.source bounds p.input z tapes)
         ((others memory).says v ∙ ap (λ b. bit_at v t3 g3 && b) second) ((shifts memory).says v ∙ ap (λ b. bit_at v t2 g2 && b) first)
@@ -242,9 +242,9 @@ words_fit terms (w ∷ ws) range h v = (term-below terms 64 w range h.0 v, words
 pub covering_decides : (t0 t1 t2 t3 t4 t5 : List Term) (pair : Functions) (bounds : Bounds) (p : Point) (input : InputTerms) (tape choices : TapeTerms) (source target : OutcomeTerms) (id : TermId)
     → AreInRange t0 → AreWords t0 tape.words → length tape.words ≡ need_of bounds.turns pair.source → AreArgs t1 pair.target.parameters input.args → Keeps t0 t1 → Keeps t1 t2 → Keeps t2 t3 → Keeps t3 t4 → IsOutcome t3 target
     → ((v : ℕ → ℕ → ℕ) → args_at v t1 input.args ≡ p.input.args) → ((v : ℕ → ℕ → ℕ) → words_at v t2 choices.words ≡ p.tape)
-    → ((v : ℕ → ℕ → ℕ) (memory : List MemoryBlock) → Shows v t3 memory (words_at v t2 choices.words) (run_of pair.target bounds (input_at v t2 memory input) (words_at v t2 choices.words)) target)
-    → ((v : ℕ → ℕ → ℕ) (memory : List MemoryBlock) → Shows v t4 memory (words_at v t3 tape.words) (run_of pair.source bounds (input_at v t3 memory input) (words_at v t3 tape.words)) source)
-    → ((memory : List MemoryBlock) → Tests t5 id (λ v. is_refined (outcome_at v t4 memory source) (outcome_at v t4 memory target)))
+    → ((v : ℕ → ℕ → ℕ) (memory : List MemoryBlock) → Shows v t3 (filter is_given memory) (words_at v t2 choices.words) (run_of pair.target bounds (input_at v t2 memory input) (words_at v t2 choices.words)) target)
+    → ((v : ℕ → ℕ → ℕ) (memory : List MemoryBlock) → Shows v t4 (filter is_given memory) (words_at v t3 tape.words) (run_of pair.source bounds (input_at v t3 memory input) (words_at v t3 tape.words)) source)
+    → ((memory : List MemoryBlock) → Tests t5 id (λ v. is_refined (outcome_on v t4 memory source) (outcome_on v t4 memory target)))
     → Decides t5 id (λ v. IsCovering pair bounds p (words_at v t0 tape.words))
 unfolding covers
 covering_decides t0 t1 t2 t3 t4 t5 pair bounds p input tape choices source target id range words count are k1 k2 k3 k4 is_target args chosen target_shows source_shows t =
@@ -259,8 +259,8 @@ covering_decides t0 t1 t2 t3 t4 t5 pair bounds p input tape choices source targe
     says v =
         let k13 = keeps_trans t1 t2 t3 k2 k3 in
         let k03 = keeps_trans t0 t1 t3 k1 k13 in
-        let of_source : outcome_at v t4 p.input.blocks source ≡ (run_of pair.source bounds p.input (words_at v t0 tape.words)).outcome =
+        let of_source : outcome_on v t4 p.input.blocks source ≡ (run_of pair.source bounds p.input (words_at v t0 tape.words)).outcome =
         (source_shows v p.input.blocks).outcome ∙ two (λ (i : Input) (ws : List ℕ). (run_of pair.source bounds i ws).outcome) (inputs v t3 k13) (words_at-later t0 t3 k03 v tape.words words) in
-        let of_target : outcome_at v t4 p.input.blocks target ≡ (run_of pair.target bounds p.input p.tape).outcome =
-        outcome-later t3 t4 k4 v p.input.blocks target is_target ∙ ((target_shows v p.input.blocks).outcome ∙ two (λ (i : Input) (ws : List ℕ). (run_of pair.target bounds i ws).outcome) (inputs v t2 k2) (chosen v)) in
+        let of_target : outcome_on v t4 p.input.blocks target ≡ (run_of pair.target bounds p.input p.tape).outcome =
+        outcome-later t3 t4 k4 v (filter is_given p.input.blocks) target is_target ∙ ((target_shows v p.input.blocks).outcome ∙ two (λ (i : Input) (ws : List ℕ). (run_of pair.target bounds i ws).outcome) (inputs v t2 k2) (chosen v)) in
         (t p.input.blocks).says v ∙ two is_refined of_source of_target

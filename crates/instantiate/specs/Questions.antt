@@ -1,9 +1,10 @@
 -- The two questions on a pair, as questions of lists of numbers, and what clauses show of them.
-use Rattle.std.specs.Prelude.{◌≡◌, ◌↔◌, ℕ, zero, suc, Bool, true, false, is_some, All, List, [], ◌∷◌, ◌++◌, length, replicate, Option, Some}
+use Rattle.std.specs.Prelude.{◌≡◌, ◌↔◌, ℕ, zero, suc, Bool, true, false, List, [], ◌∷◌, ◌++◌, length, replicate, Option, Some}
 use Rattle.ir_tree.specs.declared.tree.IrType.{IrType}
 use Rattle.ir_tree.specs.declared.tree.IrType.TheVariants as type
 use Rattle.ir_tree.specs.declared.tree.Parameter.{Parameter}
-use Rattle.ir_tree.specs.Limits.{AreIntegers, IsWithinLimits}
+use Rattle.ir_tree.specs.Limits.{IsWithinLimits}
+use Rattle.ir_tree.specs.Pointers.{HasNoPointers}
 use Rattle.points.specs.declared.point.Bounds.{Bounds}
 use Rattle.points.specs.declared.point.Point.{Point}
 use Rattle.points.specs.declared.point.Shape.{Shape}
@@ -29,8 +30,8 @@ use Rattle.instantiate.specs.declared.found.Found.TheVariants as found
 pub record CanBeAsked (pair : Functions) (bounds : Bounds) : Type 0 where
   pub source_limits : IsWithinLimits pair.source
   pub target_limits : IsWithinLimits pair.target
-  pub source_integers : AreIntegers pair.source.parameters
-  pub target_integers : AreIntegers pair.target.parameters
+  pub source_pointers : HasNoPointers pair.source
+  pub target_pointers : HasNoPointers pair.target
   pub source_returns : ReturnsFit pair.source
   pub target_returns : ReturnsFit pair.target
   pub small : AreSmall bounds

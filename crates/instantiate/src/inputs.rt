@@ -2,7 +2,7 @@
 
 ghost use Rattle.std.specs.Prelude.{◌≡◌, ◌++◌, ◌∷◌, ◌≤◌, [], IfOk, List, OnOk, length, replicate, ℕ};
 ghost use Rattle.std.specs.List.{flat_map};
-ghost use Rattle.ir_tree.specs.Limits.{AreIntegers, IsInteger};
+ghost use Rattle.ir_tree.specs.Pointers.{AreIntegers, IsInteger};
 ghost use Rattle.points.specs.Code.{ArgsFit, ValueFits};
 ghost use Rattle.bv_terms.specs.Trees.{Extends, IsTerm, IsWidth, Keeps};
 ghost use Rattle.mem_terms.specs.Values.{Each};

@@ -1,16 +1,14 @@
 -- In a well-formed function each return has a value where the header has a type.
-use Rattle.std.proofs.Common.{◌≡◌, ℕ, ◌<◌, arith, refl, ap, Bool, true, false, is_some, All, List, [], ◌∷◌, length, get_or, slice_get, Option, Some, None, inl}
+use Rattle.std.proofs.Common.{◌≡◌, ℕ, arith, refl, false, get_or, slice_get, Option, Some, None, inl}
 use Rattle.std.specs.List.{Contains}
 use Rattle.std.proofs.lemmas.Option.{slice_get-get_or}
 use Rattle.ir_tree.specs.declared.tree.IrType.{IrType}
-use Rattle.ir_tree.specs.declared.tree.TypedOperand.{TypedOperand}
 use Rattle.ir_tree.specs.declared.tree.Terminator.{Terminator}
 use Rattle.ir_tree.specs.declared.tree.Terminator.TheVariants as terminator
 use Rattle.ir_tree.specs.declared.tree.Block.{Block}
 use Rattle.ir_tree.specs.declared.tree.Function.{Function}
-use Rattle.ir_tree.specs.declared.sites.Site.{Site}
 use Rattle.ir_tree.specs.declared.sites.Site.TheVariants.{Written}
-use Rattle.ir_tree.specs.Sites.{sites, terminator_sites}
+use Rattle.ir_tree.specs.Sites.{terminator_sites}
 use Rattle.ir_tree.specs.WellFormed.{IsWellFormed}
 use Rattle.ir_tree.proofs.Standing.{end_site}
 use Rattle.encoder.specs.Frontier.{FitsReturn, ReturnsFit}

@@ -1,5 +1,6 @@
 -- Which pairs the judge takes, and what it may answer of them.
-use Rattle.ir_tree.specs.Limits.{IsWithinLimits, AreIntegers}
+use Rattle.ir_tree.specs.Limits.{IsWithinLimits}
+use Rattle.ir_tree.specs.Pointers.{HasNoPointers}
 use Rattle.ir_tree.specs.WellFormed.{IsWellFormed}
 use Rattle.points.specs.declared.point.Bounds.{Bounds}
 use Rattle.points.specs.declared.point.Budget.{Budget}
@@ -7,14 +8,14 @@ use Rattle.points.specs.Pair.{Functions}
 use Rattle.pair_driver.specs.declared.judged.Judged.{Judged}
 use Rattle.instantiate.specs.Settling.{IsJudged}
 
--- functions that are well formed and within the limits, and take integers
+-- functions that are well formed and within the limits, and have no pointers
 pub record CanBeJudged (pair : Functions) : Type 0 where
   pub source_formed : IsWellFormed pair.source
   pub target_formed : IsWellFormed pair.target
   pub source_limits : IsWithinLimits pair.source
   pub target_limits : IsWithinLimits pair.target
-  pub source_integers : AreIntegers pair.source.parameters
-  pub target_integers : AreIntegers pair.target.parameters
+  pub source_pointers : HasNoPointers pair.source
+  pub target_pointers : HasNoPointers pair.target
 
 -- the verdict by the one trail, with that trail and the certificate of its last question
 abbrev pub IsAnswer : Functions → Bounds → Budget → Judged → Type 0

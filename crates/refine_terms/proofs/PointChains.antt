@@ -5,7 +5,7 @@ use Rattle.std.proofs.lemmas.Nat.{pow_pos}
 use Rattle.ir_tree.specs.declared.tree.IrType.{IrType}
 use Rattle.ir_tree.specs.declared.tree.IrType.TheVariants.{Int, Ptr}
 use Rattle.ir_tree.specs.declared.tree.Parameter.{Parameter}
-use Rattle.ir_tree.specs.Limits.{IsInteger, AreIntegers}
+use Rattle.ir_tree.specs.Pointers.{IsInteger, AreIntegers}
 use Rattle.points.specs.declared.point.Shape.{Shape}
 use Rattle.points.specs.Code.{WordsFit}
 use Rattle.points.specs.Codes.{IsChain, IsCodeOfValue, IsCodeOfArgs, AreSizes, IsCodeOfBlocks, IsCode}

@@ -1,7 +1,7 @@
 //! Whether numbers are those of a point.
 
 ghost use Rattle.std.specs.Prelude.{◌≡◌, IfOk, true};
-ghost use Rattle.ir_tree.specs.Limits.{AreIntegers};
+ghost use Rattle.ir_tree.specs.Pointers.{AreIntegers};
 ghost use Rattle.points.specs.Codes.{IsCode};
 ghost use Rattle.bv_terms.specs.Trees.{Keeps, bit_at};
 ghost use Rattle.mem_terms.specs.Outcomes.{IsOutcome};

@@ -11,6 +11,8 @@ pub mod InMemory
 pub mod OneJob
 pub mod Named
 pub mod Certified
+pub mod Verified
+pub mod Limits
 mod Logging
 mod Sending
 mod Pieces

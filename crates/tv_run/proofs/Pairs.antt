@@ -30,10 +30,10 @@ all_append : {X : Type 0} (P : X → Type 0) (xs ys : List X) → AllByRecursion
 all_append P [] ys h k = k
 all_append P (x ∷ xs) ys h k = (h.0, all_append P xs ys h.1 k)
 
-some_is : {X : Type 0} (x y : X) → Some x ≡ Some y → x ≡ y
+pub some_is : {X : Type 0} (x y : X) → Some x ≡ Some y → x ≡ y
 some_is x y e = ap (λ o. Rattle.std.specs.Prelude.unwrap_or o x) e
 
-none≢some : {X : Type 0} (x : X) → None ≡ Some x → ⊥
+pub none≢some : {X : Type 0} (x : X) → None ≡ Some x → ⊥
 none≢some x e = true≢false (sym (ap (λ o. is_some o) e))
 
 named_judgeable : (targets : List Entry) (name : Name) → AllByRecursion IsJudgeableEntry targets → NamedJudgeable (function_named targets name)
@@ -56,8 +56,8 @@ pair_judged (Ok f) (Some (Ok g)) s t = go (same_signature f g)
           target_formed = b.well_formed;
           source_limits = a.limits;
           target_limits = b.limits;
-          source_integers = a.parameters;
-          target_integers = b.parameters;
+          source_pointers = a.pointers;
+          target_pointers = b.pointers;
         }
 
     go : (same : Bool) → AllByRecursion CanBeJudged (if same then record { source = f; target = g } ∷ [] else [])

@@ -1,16 +1,19 @@
--- What follows from the definitions: a report is sound; without a limit on conflicts it is the defined one, and two files have one; and they have one fault.
+-- What follows from the definitions: a report is sound; without a limit on conflicts it is the defined one, and two files have one; they have one fault; and the proof file of a report is verified whole.
 use Rattle.std.specs.Prelude.{◌≡◌, ◌≢◌, ℕ, List, Some}
 use Rattle.tv_io.specs.Files.{Files}
-use Rattle.tv_io.specs.State.{ShelfState}
+use Rattle.tv_io.specs.State.{ShelfState, SinkState}
 use Rattle.ir_tree.specs.declared.module.Module.{Module}
 use Rattle.tv_run.specs.declared.stop.Stop.{Stop}
 use Rattle.points.specs.declared.point.Bounds.{Bounds}
 use Rattle.points.specs.declared.point.Budget.{Budget}
 use Rattle.pair_driver.specs.declared.judged.Judged.{Judged}
-use Rattle.tv_cli.specs.Words.{Check, job_of}
+use Rattle.report.specs.declared.row.Row.{Row}
+use Rattle.proof_files.specs.Parts.{parts_of}
+use Rattle.tv_cli.specs.Words.{Text, Check, job_of}
 use Rattle.tv_cli.specs.Words.Job.{check}
 use Rattle.tv_run.specs.Files.{HasModule}
-use Rattle.tv_run.specs.Reports.{Reports, IsReport, IsDefinedReport}
+use Rattle.tv_run.specs.Logs.{IsVerifiedWhole, LogWritten}
+use Rattle.tv_run.specs.Reports.{Reports, HoldsProof, IsReport, IsDefinedReport}
 use Rattle.tv_run.specs.Sound.{SaysRefinement}
 use Rattle.tv_run.specs.Stops.{HasCause, stop_status}
 
@@ -33,3 +36,7 @@ FaultsAreOne = (files : Files) (c : Check) (old new other_old other_new : ShelfS
 -- and there is none where both files are modules
 abbrev pub ModulesHaveNoFault : Type 0
 ModulesHaveNoFault = (files : Files) (c : Check) (old new : ShelfState) (why : Stop) (source target : Module) → old.files ≡ Some files → HasModule (files c.source) source → HasModule (files c.target) target → HasCause old new c why → stop_status why ≢ 9
+
+-- what `log` writes of the file that a check put for `--proof`
+abbrev pub PutProofsAreVerified : Type 0
+PutProofsAreVerified = (files : Files) (name : Text) (rows : List Row) (answers : List Judged) (status : ℕ) (old new : SinkState) → HoldsProof (Some name) rows answers (Some files) → LogWritten files name status old new → IsVerifiedWhole (parts_of rows answers) status old new

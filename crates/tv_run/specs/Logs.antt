@@ -1,10 +1,11 @@
 -- What a check of a proof file writes.
-use Rattle.std.specs.Prelude.{ℕ, List}
+use Rattle.std.specs.Prelude.{◌≡◌, ℕ, List}
 use Rattle.tv_io.specs.Files.{Files}
 use Rattle.tv_io.specs.State.{SinkState}
 use Rattle.tv_io.specs.Taken.{IsWritten, IsCutOff}
 use Rattle.proof_text.specs.declared.part.Part.{Part}
 use Rattle.proof_files.specs.Checks.{AreChecked}
+use Rattle.proof_files.specs.Laws.{verified_lines}
 use Rattle.tv_cli.specs.Words.{Text}
 use Rattle.tv_run.specs.Files.{HasParts}
 
@@ -19,6 +20,11 @@ pub record LogWritten (files : Files) (name : Text) (status : ℕ) (old new : Si
   pub text : List ℕ
   pub says : SaysVerified files name text status
   pub written : IsWritten text old new
+
+-- the sink took a line `verified` for each of these parts, and the count of none that is bad, and the status is 0
+pub record IsVerifiedWhole (parts : List Part) (status : ℕ) (old new : SinkState) : Type 0 where
+  pub status_is : status ≡ 0
+  pub written : IsWritten (verified_lines parts) old new
 
 -- the sink had no room for them, and took a prefix
 pub record LogPartlyWritten (files : Files) (name : Text) (old new : SinkState) : Type 0 where

@@ -1,7 +1,8 @@
-ghost use Rattle.tv_run.specs.Laws.{ReportsAreSound, ReportsAreDefined, ReportsAreOne, FaultsAreOne, ModulesHaveNoFault};
+ghost use Rattle.tv_run.specs.Laws.{ReportsAreSound, ReportsAreDefined, ReportsAreOne, FaultsAreOne, ModulesHaveNoFault, PutProofsAreVerified};
 
 use ir_reader::is_one_module;
 use points::{correct_holds, incorrect_fails};
+use proof_files::texts_are_verified;
 use report::rows_are_one;
 
 /// What a report says of two files holds: a correct row means refinement on every input within the
@@ -38,4 +39,12 @@ pub fn modules_have_no_fault()
     ensures { ModulesHaveNoFault }
 {
     is_one_module();
+}
+
+/// The proof file that a check put for `--proof` is verified whole: where `log` writes what it finds of
+/// it, that is a line `verified` for each correct and each incorrect row, none is bad, and the status is 0.
+pub fn put_proofs_are_verified()
+    ensures { PutProofsAreVerified }
+{
+    texts_are_verified();
 }

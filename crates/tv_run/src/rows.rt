@@ -1,6 +1,7 @@
 ghost use Rattle.std.specs.Prelude.{◌≡◌, ◌+◌, ◌*◌, ◌^◌, ◌<◌, ◌++◌, ◌∷◌, [], drop, take, length, slice_index_or, IfOk, IfSome, OnOk, Ok, Some, None};
 ghost use Rattle.std.specs.List.{IsDistinct, AllByRecursion};
 ghost use Rattle.ir_tree.specs.Names.{same_name};
+ghost use Rattle.ir_tree.specs.Limits.{IsWithinLimits};
 ghost use Rattle.ir_reader.specs.Judgeable.{IsJudgeableEntry};
 ghost use Rattle.report.specs.Rows.{IsJudged, IsFinding, IsRow, AreSourceRows, AreRows, extra_rows, function_named};
 ghost use Rattle.tv_run.specs.Judging.{AreAnswers, HasNext, IsTaken, IsUnjudged, ShowsVerdict, judged_pairs, pairs_in, listed, verdicts_answered, verdicts_in, verdicts_of};
@@ -117,6 +118,8 @@ fn source_rows(
     answers: &[Judged],
 ) -> Result<Vec<Row>, NoMemory>
     requires names { names.now ≡ entry_names targets.now }
+    requires source_judgeable { AllByRecursion IsJudgeableEntry sources.now }
+    requires target_judgeable { AllByRecursion IsJudgeableEntry targets.now }
     requires answered { AreAnswers judge.now.bounds judge.now.budget (judged_pairs targets.now sources.now) answers.now }
     ensures rows { IfOk result (λ rows. AreSourceRows (may_answer judge.now.bounds judge.now.budget) judge.now.bounds targets.now sources.now rows.items) }
     ensures reported { IfOk result (λ rows. verdicts_of rows.items ≡ verdicts_answered answers.now) }
@@ -140,6 +143,8 @@ fn next_row(
     left: &mut &[Judged],
 ) -> Result<Row, NoMemory>
     requires names { names.now ≡ entry_names targets.now }
+    requires source_judgeable { IsJudgeableEntry source.now }
+    requires target_judgeable { AllByRecursion IsJudgeableEntry targets.now }
     requires answered { HasNext judge.now.bounds judge.now.budget (pairs_in source.now.function (function_named targets.now source.now.name)) left.old.now }
     ensures row { IfOk result (IsRow (may_answer judge.now.bounds judge.now.budget) judge.now.bounds targets.now source.now) }
     ensures left { IfOk result (λ row. IsTaken (pairs_in source.now.function (function_named targets.now source.now.name)) (verdicts_in row.finding) left.old.now left.new.now) }
@@ -157,6 +162,8 @@ fn found_of(
     target: Option<&Entry>,
     left: &mut &[Judged],
 ) -> Result<Finding, NoMemory>
+    requires source_judgeable { IsJudgeableEntry source.now }
+    requires target_judgeable { IfSome target (λ e. IsJudgeableEntry e.now) }
     requires answered { HasNext judge.now.bounds judge.now.budget (pairs_in source.now.function (function_found target)) left.old.now }
     ensures found { IfOk result (IsFinding (may_answer judge.now.bounds judge.now.budget) judge.now.bounds source.now.function (function_found target.entry)) }
     ensures left { IfOk result (λ finding. IsTaken (pairs_in source.now.function (function_found target.entry)) (verdicts_in finding) left.old.now left.new.now) }
@@ -196,6 +203,8 @@ fn judged(
     pair: &Pair,
     left: &mut &[Judged],
 ) -> Result<Finding, NoMemory>
+    requires source { IsWithinLimits pair.now.source }
+    requires target { IsWithinLimits pair.now.target }
     requires answered { HasNext judge.now.bounds judge.now.budget (pair.now ∷ []) left.old.now }
     ensures found { IfOk result (IsJudged (may_answer judge.now.bounds judge.now.budget) judge.now.bounds pair.now) }
     ensures left { IfOk result (λ finding. IsTaken (pair.now ∷ []) (verdicts_in finding) left.old.now left.new.now) }
@@ -215,6 +224,8 @@ fn finding_of(
     bounds: &Bounds,
     verdict: &Verdict,
 ) -> Result<Finding, NoMemory>
+    requires source { IsWithinLimits pair.now.source }
+    requires target { IsWithinLimits pair.now.target }
     ensures { IfOk result (ShowsVerdict pair.now bounds.now verdict.now) }
 {
     match verdict {

@@ -1,7 +1,11 @@
 use Rattle.std.proofs.Common.{sym}
 use Rattle.points.specs.declared.outcome.Outcome.TheVariants.{Ub}
 use Rattle.encoder.proofs.Moving.{moves_to, moves_end}
+use Rattle.encoder.proofs.Through.{integers_at}
 use Rattle.encoder.proofs.edges.follow_to.Goals as goal
+
+pub arrive-requires-clause-integers : goal.arrive-requires-clause-integers
+arrive-requires-clause-integers c = integers_at c.args.f.now c.in-Some.at c.get-block.result.now c.requires.integers c.get-block.ensures
 
 pub returns-in_ok-arrive-in-Some-clause-moves : goal.returns-in_ok-arrive-in-Some-clause-moves
 returns-in_ok-arrive-in-Some-clause-moves c = λ g.

@@ -4,8 +4,8 @@ use Rattle.encoder.proofs.Through.{copies_in}
 use Rattle.encoder.proofs.Whole.{encode_stands}
 use Rattle.encoder.proofs.function_run.encode.Goals as goal
 
-pub enter-requires : goal.enter-requires
-enter-requires c = rw c.as_slice.ensures c.requires.args
+pub enter-requires-clause-args : goal.enter-requires-clause-args
+enter-requires-clause-args c = rw c.as_slice.ensures c.requires.args
 
 pub pass_all-requires-clause-copies : goal.pass_all-requires-clause-copies
 pass_all-requires-clause-copies c = rw c.requires.layers (copies_in c.args.f.now c.args.layered.now.turns)

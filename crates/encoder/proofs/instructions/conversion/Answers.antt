@@ -1,5 +1,6 @@
-use Rattle.std.proofs.Common.{◌∙◌, refl}
+use Rattle.std.proofs.Common.{◌∙◌}
+use Rattle.encoder.proofs.Reading.{cast_integer}
 use Rattle.encoder.proofs.instructions.conversion.Goals as goal
 
 pub returns-clause-stands : goal.returns-clause-stands
-returns-clause-stands c = λ v. c.in_ok-value.ensures.stands v ∙ rw (c.in_ok-operand.ensures.stands v) refl
+returns-clause-stands c = λ v. c.in_ok-value.ensures.stands v ∙ rw (c.in_ok-operand.ensures.stands v) (cast_integer c.args.conversion c.args.from.bits c.args.to.bits _)

@@ -13,4 +13,4 @@ pub returns-in_ok-step_select-in-Select-clause-stands : goal.returns-in_ok-step_
 returns-in_ok-step_select-in-Select-clause-stands c = rw c.in-Select.is (λ g label at sees h. c.in_ok-step_select-in-Select.ensures.stands g label at h)
 
 pub returns-in_ok-step_freeze-in-Freeze-clause-stands : goal.returns-in_ok-step_freeze-in-Freeze-clause-stands
-returns-in_ok-step_freeze-in-Freeze-clause-stands c = rw c.in-Freeze.is c.in_ok-step_freeze-in-Freeze.ensures.stands
+returns-in_ok-step_freeze-in-Freeze-clause-stands c = rw (c.in-Freeze.is, c.integer_width-width.ensures) c.in_ok-step_freeze-in-Freeze.ensures.stands

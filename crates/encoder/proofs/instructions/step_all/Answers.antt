@@ -1,4 +1,5 @@
 use Rattle.std.proofs.Common.{◌∙◌, sym, subst}
+use Rattle.ir_tree.specs.Pointers.{IsOnIntegers}
 use Rattle.mem_terms.proofs.Later.{keeps_trans, words-later}
 use Rattle.encoder.specs.Runs.{Course, Follows, stepped}
 use Rattle.encoder.proofs.Lasting.{sees-later}
@@ -6,7 +7,7 @@ use Rattle.encoder.proofs.Stepping.{steps_more, steps_end}
 use Rattle.encoder.proofs.instructions.step_all.Goals as goal
 
 pub step-requires : goal.step-requires
-step-requires c = record { state = c.loop-inst.invariant.0; tape = words-later c.args.terms.now c.loop-inst.terms c.loop-inst.invariant.1 c.args.tape.now c.requires.tape }
+step-requires c = record { state = c.loop-inst.invariant.0; tape = words-later c.args.terms.now c.loop-inst.terms c.loop-inst.invariant.1 c.args.tape.now c.requires.tape; integers = subst IsOnIntegers (sym c.inst-item.is) (c.requires.integers c.loop-inst.inst-index c.inst-item.result c.loop-inst-test.true) }
 
 pub loop-inst-preserved : goal.loop-inst-preserved
 loop-inst-preserved c = (

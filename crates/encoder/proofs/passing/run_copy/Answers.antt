@@ -8,7 +8,7 @@ use Rattle.unroll.specs.Layers.{left_by}
 use Rattle.mem_terms.proofs.Later.{keeps_trans, is_term-later, words-later}
 use Rattle.encoder.specs.Frontier.{Moves, placed}
 use Rattle.encoder.proofs.Lasting.{frontier-later, state-later, tally-later, sees-later}
-use Rattle.encoder.proofs.Through.{copy_moves, fits_at, labels_at, shape_after}
+use Rattle.encoder.proofs.Through.{copy_moves, fits_at, integers_at, labels_at, shape_after}
 use Rattle.encoder.proofs.passing.run_copy.Goals as goal
 
 pub get-block-requires : goal.get-block-requires
@@ -34,6 +34,12 @@ leave-requires-clause-state c = state-later c.step_all.new.terms c.end_undefined
 
 pub leave-requires-clause-returned : goal.leave-requires-clause-returned
 leave-requires-clause-returned c = fits_at c.args.f.now c.args.copy.now.block c.get-block.result.now c.requires.returned c.get-block.ensures
+
+pub step_all-requires-clause-integers : goal.step_all-requires-clause-integers
+step_all-requires-clause-integers c = rw c.as_slice.ensures (integers_at c.args.f.now c.args.copy.now.block c.get-block.result.now c.requires.integers c.get-block.ensures).insts
+
+pub leave-requires-clause-end : goal.leave-requires-clause-end
+leave-requires-clause-end c = (integers_at c.args.f.now c.args.copy.now.block c.get-block.result.now c.requires.integers c.get-block.ensures).end
 
 pub leave-requires-clause-edges : goal.leave-requires-clause-edges
 leave-requires-clause-edges c = rw c.as_slice-2.ensures (labels_at c.args.f.now c.args.copy.now c.get-block.result.now c.requires.copy c.get-block.ensures)

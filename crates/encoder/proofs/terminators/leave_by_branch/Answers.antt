@@ -7,7 +7,9 @@ use Rattle.unroll.specs.Layers.{Where, Done, along}
 use Rattle.bv_terms.specs.Tree.{truth}
 use Rattle.bv_terms.specs.Trees.{bit_at, term_at}
 use Rattle.mem_terms.proofs.Later.{keeps_trans, bit-later, is_term-later}
+use Rattle.encoder.specs.Runs.{as_integer}
 use Rattle.encoder.specs.Frontier.{placed}
+use Rattle.encoder.proofs.Reading.{branched_integer}
 use Rattle.encoder.proofs.Lasting.{frontier-later, state-later}
 use Rattle.encoder.proofs.Moving.{moves_to, moves_later, moves_end}
 use Rattle.encoder.proofs.Leaves.{split_moves, lowest_is, branch_is}
@@ -71,8 +73,9 @@ returns-clause-moves c = λ g.
     let t_is : t ≡ nat_eq (term_at g.v o test.number % 2) 1 = bit-later a d (keeps_trans a b d kb kd) g.v lowest c.in_ok-lowest.ensures.made.within ∙ (ap truth (c.in_ok-lowest.ensures.made.says g.v) ∙ lowest_is (term_at g.v o test.number)) in
     moves_to g label s old e before after s.alive (λ (m : Machine). cond p (Done (ended Ub m)) (to m)) _
     (λ m h.
-    let is = (rw c.as_slice.ensures at (c.in_ok-test.ensures.stands g.v)) ∙ ap (λ (rs : List Value). operand_value rs c.args.condition) h.registers in
-    rw p_is (branch_is g.v o test c.args.f.now c.args.copies.now c.args.leaving.ahead (operand_value m.registers c.args.condition) c.args.if_true c.args.if_false m t is t_is))
+    let is = (rw c.as_slice.ensures at (c.in_ok-test.ensures.stands g.v)) ∙ ap (λ (rs : List Value). as_integer (operand_value rs c.args.condition)) h.registers in
+    rw p_is (branch_is g.v o test c.args.f.now c.args.copies.now c.args.leaving.ahead (as_integer (operand_value m.registers c.args.condition)) c.args.if_true c.args.if_false m t is t_is)
+    ∙ ap (placed c.args.f.now c.args.copies.now c.args.leaving.ahead) (branched_integer (operand_value m.registers c.args.condition) c.args.if_true c.args.if_false m))
     (moves_later g label s old a e ka before after s.alive (λ (m : Machine). cond p (Done (ended Ub m)) (to m)) c.requires.frontier c.requires.state c.requires.state.alive
     (split_moves g label s a b d e kb kd before between after s.alive c.in_ok-undefined.undefined c.in_ok-undefined.defined p (λ (m : Machine). Done (ended Ub m)) to
     (frontier-later old a ka before c.requires.frontier) (state-later old a ka s c.requires.state) (is_term-later old a ka 1 s.alive c.requires.state.alive)

@@ -9,7 +9,9 @@ use Rattle.points.specs.Run.{ended, operand_value}
 use Rattle.unroll.specs.Layers.{Where, Done, along}
 use Rattle.bv_terms.specs.Trees.{bit_at, term_at}
 use Rattle.mem_terms.proofs.Later.{keeps_trans, bit-later, term-later, is_term-later}
+use Rattle.encoder.specs.Runs.{as_integer}
 use Rattle.encoder.specs.Frontier.{placed}
+use Rattle.encoder.proofs.Reading.{switched_integer}
 use Rattle.encoder.proofs.Lasting.{frontier-later, state-later}
 use Rattle.encoder.proofs.Moving.{moves_to, moves_later, moves_end}
 use Rattle.encoder.proofs.Leaves.{split_moves, switch_is}
@@ -74,8 +76,9 @@ returns-clause-moves c = λ g edge default es.
     let n_is : n ≡ term_at g.v o value.number % 2 ^ c.args.width.bits = term-later a d (keeps_trans a b d kb kd) g.v number made.within ∙ made.says g.v in
     moves_to g label s old e before after s.alive (λ (m : Machine). cond p (Done (ended Ub m)) (to m)) _
     (λ m h.
-    let is = (rw c.as_slice.ensures at (c.in_ok-value.ensures.stands g.v)) ∙ ap (λ (rs : List Value). operand_value rs c.args.operand) h.registers in
-    rw p_is (switch_is g.v o value c.args.f.now c.args.copies.now c.args.leaving.ahead c.args.width.bits n (operand_value m.registers c.args.operand) edge default c.args.cases.now m is n_is))
+    let is = (rw c.as_slice.ensures at (c.in_ok-value.ensures.stands g.v)) ∙ ap (λ (rs : List Value). as_integer (operand_value rs c.args.operand)) h.registers in
+    rw p_is (switch_is g.v o value c.args.f.now c.args.copies.now c.args.leaving.ahead c.args.width.bits n (as_integer (operand_value m.registers c.args.operand)) edge default c.args.cases.now m is n_is)
+    ∙ ap (placed c.args.f.now c.args.copies.now c.args.leaving.ahead) (switched_integer c.args.width.bits (operand_value m.registers c.args.operand) edge default c.args.cases.now m))
     (moves_later g label s old a e ka before after s.alive (λ (m : Machine). cond p (Done (ended Ub m)) (to m)) c.requires.frontier c.requires.state c.requires.state.alive
     (split_moves g label s a b d e kb kd before between after s.alive c.in_ok-undefined.undefined c.in_ok-undefined.defined p (λ (m : Machine). Done (ended Ub m)) to
     (frontier-later old a ka before c.requires.frontier) (state-later old a ka s c.requires.state) (is_term-later old a ka 1 s.alive c.requires.state.alive)

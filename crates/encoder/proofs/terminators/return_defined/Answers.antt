@@ -2,10 +2,12 @@ use Rattle.std.proofs.Common.{◌≡◌, ◌∙◌, ap, sym, Bool, List, cond, i
 use Rattle.byte_block.specs.declared.value.Value.{Value}
 use Rattle.points.specs.declared.machine.Machine.{Machine}
 use Rattle.points.specs.declared.outcome.Outcome.TheVariants.{Ub}
-use Rattle.points.specs.Run.{ended, is_poison, operand_value, returned_with, undef_width}
+use Rattle.points.specs.Run.{ended, is_poison, operand_value, returned_with, typed_operand_value, undef_type}
 use Rattle.unroll.specs.Layers.{Where, Done}
 use Rattle.bv_terms.specs.Trees.{bit_at}
 use Rattle.mem_terms.proofs.Later.{keeps_trans, is_term-later, words-later}
+use Rattle.encoder.specs.Runs.{as_integer}
+use Rattle.encoder.proofs.Reading.{typed_poison}
 use Rattle.encoder.proofs.Lasting.{frontier-later, state-later, sees-later}
 use Rattle.encoder.proofs.Moving.{moves_to, moves_later, moves_end}
 use Rattle.encoder.proofs.Leaves.{split_moves, poison_bit, done_if}
@@ -61,12 +63,14 @@ returns-clause-moves c = λ g label sees.
     let before = c.args.frontier.now in
     let between = c.end_undefined.new.self in
     let after = c.return_operand.new.frontier in
-    let to : Machine → Where = λ (m : Machine). Done (returned_with (undef_width r.of_type r.operand) r g.tape m) in
+    let to : Machine → Where = λ (m : Machine). Done (returned_with (undef_type r.of_type r.operand) r g.tape m) in
     let sees_d = sees-later old d (keeps_trans old a d ka (keeps_trans a b d kb kd)) g c.args.tape.now c.requires.tape sees in
     moves_to g label s old e before after s.alive (λ (m : Machine). cond p (Done (ended Ub m)) (to m)) _
     (λ m h.
-    let is : p ≡ is_poison (operand_value m.registers r.operand) = sym (poison_bit g.v a c.in_ok-value.value) ∙ ap is_poison ((rw c.as_slice.ensures at (c.in_ok-value.ensures.stands g.v)) ∙ ap (λ (rs : List Value). operand_value rs r.operand) h.registers) in
-    done_if p (ended Ub m) (returned_with (undef_width r.of_type r.operand) r g.tape m) ∙ ap (λ (x : Bool). Done (if x then ended Ub m else returned_with (undef_width r.of_type r.operand) r g.tape m)) is)
+    let is : p ≡ is_poison (typed_operand_value m.registers r) = sym (poison_bit g.v a c.in_ok-value.value)
+    ∙ (ap is_poison ((rw c.as_slice.ensures at (c.in_ok-value.ensures.stands g.v)) ∙ ap (λ (rs : List Value). as_integer (operand_value rs r.operand)) h.registers)
+    ∙ typed_poison r.of_type c.requires.integer (operand_value m.registers r.operand)) in
+    done_if p (ended Ub m) (returned_with (undef_type r.of_type r.operand) r g.tape m) ∙ ap (λ (x : Bool). Done (if x then ended Ub m else returned_with (undef_type r.of_type r.operand) r g.tape m)) is)
     (moves_later g label s old a e ka before after s.alive (λ (m : Machine). cond p (Done (ended Ub m)) (to m)) c.requires.frontier c.requires.state c.requires.state.alive
     (split_moves g label s a b d e kb kd before between after s.alive c.in_ok-undefined.undefined c.in_ok-undefined.defined p (λ (m : Machine). Done (ended Ub m)) to
     (frontier-later old a ka before c.requires.frontier) (state-later old a ka s c.requires.state) (is_term-later old a ka 1 s.alive c.requires.state.alive)

@@ -15,18 +15,18 @@ ask-requires-clause-all c = has_all c.args.terms.now c.args.order.now c.args.wid
 
 pub numbers_of-requires-clause-digits : goal.numbers_of-requires-clause-digits
 numbers_of-requires-clause-digits c =
-    let found = rw c.in-Least.is at c.in_ok-digits.ensures in
+    let found = rw c.in-Least.is at c.in_ok-digits.ensures.asked in
     rw c.as_slice-in-Least.ensures.value (long_digits c.args.terms.now c.args.goal c.args.order.now c.args.widths.now c.as_slice.ensures.fit c.requires.order c.requires.goal.within c.in-Least.digits.items found.0)
 
 pub returns-in_ok-numbers-in-Least : goal.returns-in_ok-numbers-in-Least
 returns-in_ok-numbers-in-Least c =
-    let found = rw c.in-Least.is at c.in_ok-digits.ensures in
+    let found = rw c.in-Least.is at c.in_ok-digits.ensures.asked in
     rw c.from_vec.ensures (least_is c.args.terms.now c.args.goal c.args.order.now c.args.widths.now c.as_slice.ensures.fit c.requires.order c.requires.goal.within
     c.in-Least.digits.items c.in_ok-numbers-in-Least.numbers.items c.requires.widths found.0 (rw c.as_slice-in-Least.ensures.value at c.in_ok-numbers-in-Least.ensures))
 
 pub returns-in-None : goal.returns-in-None
 returns-in-None c =
-    let found = rw c.in-None.is at c.in_ok-digits.ensures in (
+    let found = rw c.in-None.is at c.in_ok-digits.ensures.asked in (
       none_is c.args.terms.now c.args.goal c.args.order.now c.args.widths.now c.as_slice.ensures.fit c.requires.order c.requires.goal.within found.0.0,
       record {
         asks = asks_numbers c.args.terms.now c.args.goal c.args.order.now c.args.widths.now c.as_slice.ensures.fit c.requires.order c.requires.goal.within c.in-None.cert.cnf found.0.1;
@@ -38,7 +38,7 @@ returns-in-None c =
 
 pub returns-in-Spent : goal.returns-in-Spent
 returns-in-Spent c =
-    let found = rw c.in-Spent.is at c.in_ok-digits.ensures in (
+    let found = rw c.in-Spent.is at c.in_ok-digits.ensures.asked in (
       found.0.1.0,
       found.0.1.1,
       record {

@@ -4,12 +4,11 @@ use Rattle.points.specs.declared.point.Bounds.{Bounds}
 use Rattle.points.specs.Covers.{shifted, words_of}
 use Rattle.bv_terms.specs.Trees.{bit_at}
 use Rattle.mem_terms.specs.Inputs.{words_at}
-use Rattle.mem_terms.specs.Outcomes.{outcome_at}
 use Rattle.mem_terms.proofs.Later.{keeps_trans, words_at-later}
 use Rattle.instantiate.specs.declared.tapes.Shift.{Shift}
 use Rattle.instantiate.specs.declared.tapes.Shift.TheVariants.{Behind}
 use Rattle.instantiate.specs.declared.tapes.TheConstants.{SHIFTS}
-use Rattle.instantiate.specs.Candidates.{input_at, none_allows}
+use Rattle.instantiate.specs.Candidates.{input_at, none_allows, outcome_on}
 use Rattle.instantiate.specs.Tapes.{shift_of}
 use Rattle.instantiate.proofs.Trying.{trial_later, tried_more, tried_all, mapped_more}
 use Rattle.instantiate.proofs.goals.and_no_shift.Goals as goal
@@ -37,7 +36,7 @@ loop-shift-preserved c =
       goal = record { within = made.within; wide = made.wide };
       rest = λ bounds memory turns.
           let candidate : (ℕ → ℕ → ℕ) → Shift → List ℕ = λ v shift. words_of c.args.need (shift_of shift (words_at v old words)) in
-          let whole : (ℕ → ℕ → ℕ) → Bool = λ v. bit_at v old c.args.goal && none_allows f bounds (input_at v old memory input) (outcome_at v old memory target) (shifted c.args.need (words_at v old words)) in
+          let whole : (ℕ → ℕ → ℕ) → Bool = λ v. bit_at v old c.args.goal && none_allows f bounds (input_at v old memory input) (outcome_on v old memory target) (shifted c.args.need (words_at v old words)) in
           tried_more old before middle after f bounds memory input target c.loop-shift.goal c.in_ok-goal.goal (λ v. candidate v (get_or SHIFTS i (Behind 0))) c.in_ok-candidate.candidate.words
           (λ v. drop (i + 1) (shifted c.args.need (words_at v old words))) whole c.requires.trial.args c.requires.trial.target kept c.moved.ensures.kept c.loop-shift.invariant.goal
           (λ v. c.in_ok-candidate.ensures.stands v ∙ ap (λ ws. words_of c.args.need (shift_of (get_or SHIFTS i (Behind 0)) ws)) (words_at-later old before c.loop-shift.invariant.kept v words c.requires.words))
@@ -55,7 +54,7 @@ returns-clause-made c bounds memory turns =
       wide = c.loop-shift.invariant.goal.wide;
       says = λ v.
           tried_all (bit_at v c.loop-shift.terms c.loop-shift.goal)
-          (bit_at v old c.args.goal && none_allows f bounds (input_at v old memory c.args.trial.now.input.now) (outcome_at v old memory c.args.trial.now.target.now) (shifted c.args.need (words_at v old words)))
-          f bounds (input_at v old memory c.args.trial.now.input.now) (outcome_at v old memory c.args.trial.now.target.now) (drop c.loop-shift.shift-index (shifted c.args.need (words_at v old words)))
+          (bit_at v old c.args.goal && none_allows f bounds (input_at v old memory c.args.trial.now.input.now) (outcome_on v old memory c.args.trial.now.target.now) (shifted c.args.need (words_at v old words)))
+          f bounds (input_at v old memory c.args.trial.now.input.now) (outcome_on v old memory c.args.trial.now.target.now) (drop c.loop-shift.shift-index (shifted c.args.need (words_at v old words)))
           (drop_all c.loop-shift.shift-index (shifted c.args.need (words_at v old words)) c.loop-shift-test.false) (c.loop-shift.invariant.rest bounds memory turns v);
     }

@@ -1,4 +1,6 @@
 use Rattle.std.proofs.Common.{sym, ◌∙◌}
+use Rattle.std.specs.List.{filter}
+use Rattle.points.specs.Run.{is_given}
 use Rattle.mem_terms.proofs.Later.{keeps_trans, args-later, words-later, is_outcome-later}
 use Rattle.points.proofs.Args.{any_blocks}
 use Rattle.instantiate.proofs.Uncovering.{source_args, covering_decides}
@@ -7,7 +9,7 @@ use Rattle.instantiate.proofs.goals.covering.Goals as goal
 pub known_input-requires-clause-fit : goal.known_input-requires-clause-fit
 known_input-requires-clause-fit c =
     rw (c.as_slice-parameters.ensures, c.target-2.ensures.value, c.as_slice.ensures)
-    (any_blocks c.args.bounds.now.blocks 0 c.args.pair.now.target.parameters c.args.point.now.input.args c.requires.ready.target_integers c.requires.point.args)
+    (any_blocks c.args.bounds.now.blocks 0 c.args.pair.now.target.parameters c.args.point.now.input.args c.requires.ready.target_pointers.parameters c.requires.point.args)
 
 pub encode-requires-clause-args : goal.encode-requires-clause-args
 encode-requires-clause-args c =
@@ -63,7 +65,7 @@ returns-clause-made c =
     (λ v. c.in_ok-input.ensures.stands v ∙ c.as_slice.ensures) (λ v. c.in_ok-choices.ensures.stands v ∙ c.as_slice-2.ensures)
     (λ v memory. rw c.target-3.ensures.value at (c.in_ok-target.ensures.stands v bounds memory (sym c.in_ok-of_target.ensures.turns)))
     (λ v memory. rw c.source-2.ensures at (c.in_ok-source.ensures.stands v bounds memory (sym c.in_ok-of_source.ensures.turns)))
-    c.in_ok-id.ensures.made
+    (λ memory. c.in_ok-id.ensures.made (filter is_given memory))
 
 pub returns-clause-kept : goal.returns-clause-kept
 returns-clause-kept c =

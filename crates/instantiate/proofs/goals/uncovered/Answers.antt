@@ -22,7 +22,7 @@ and_no_shift-requires-clause-trial c =
     let two = c.well_point.new.terms in
     let source = c.args.pair.now.source in
     let args = c.args.input.now.args in
-    a_trial two _ source c.args.bounds.now.turns c.source-3.ensures c.in_ok-of_source.ensures.turns (rw c.source.ensures at c.in_ok-of_source.ensures.copies) c.requires.ready.source_returns
+    a_trial two _ source c.args.bounds.now.turns c.source-3.ensures c.in_ok-of_source.ensures.turns (rw c.source.ensures at c.in_ok-of_source.ensures.copies) c.requires.ready.source_returns c.requires.ready.source_pointers
     (args-later old two (keeps_trans old one two c.encode.ensures.kept c.well_point.ensures.kept) source.parameters args
     (source_args old source c.args.pair.now.target args c.target.ensures.signature (rw c.requires.shape.parameters at c.requires.input.args)))
     (is_outcome-later one two c.well_point.ensures.kept c.in_ok-target.target c.in_ok-target.ensures.made)
@@ -42,7 +42,7 @@ and_no_tape-requires-clause-trial c =
     let further = keeps_trans one two three c.well_point.ensures.kept c.and_no_shift.ensures.kept in
     let source = c.args.pair.now.source in
     let args = c.args.input.now.args in
-    a_trial three _ source c.args.bounds.now.turns c.source-3.ensures c.in_ok-of_source.ensures.turns (rw c.source.ensures at c.in_ok-of_source.ensures.copies) c.requires.ready.source_returns
+    a_trial three _ source c.args.bounds.now.turns c.source-3.ensures c.in_ok-of_source.ensures.turns (rw c.source.ensures at c.in_ok-of_source.ensures.copies) c.requires.ready.source_returns c.requires.ready.source_pointers
     (args-later old three (keeps_trans old one three c.encode.ensures.kept further) source.parameters args
     (source_args old source c.args.pair.now.target args c.target.ensures.signature (rw c.requires.shape.parameters at c.requires.input.args)))
     (is_outcome-later one three further c.in_ok-target.target c.in_ok-target.ensures.made)
@@ -67,7 +67,7 @@ returns-clause-made c =
     let bounds = c.args.bounds.now in
     let args = c.args.input.now.args in
     uncovered_decides old c.encode.new.terms c.well_point.new.terms c.and_no_shift.new.terms c.and_no_tape.new.terms c.args.pair.now bounds c.args.tapes.now c.args.shape.now c.args.input.now c.args.tape.now c.in_ok-target.target
-    c.in_ok-is_point.is_point c.in_ok-goal.goal c.in_ok-id.id c.requires.shape c.requires.ready.target_integers c.requires.input c.requires.tape
+    c.in_ok-is_point.is_point c.in_ok-goal.goal c.in_ok-id.id c.requires.shape c.requires.ready.target_pointers.parameters c.requires.input c.requires.tape
     (source_args old c.args.pair.now.source c.args.pair.now.target args c.target.ensures.signature (rw c.requires.shape.parameters at c.requires.input.args))
     c.encode.ensures.kept c.well_point.ensures.kept c.and_no_shift.ensures.kept c.in_ok-target.ensures.made
     (λ v memory. rw c.target-2.ensures.value at (c.in_ok-target.ensures.stands v bounds memory (sym c.in_ok-of_target.ensures.turns)))

@@ -1,7 +1,7 @@
 use Rattle.std.proofs.Common.{◌<◌, length, take, get_or, sym, subst, ◌∙◌, arith}
 use Rattle.std.proofs.lemmas.List.{take_all}
 use Rattle.ir_tree.specs.declared.tree.Parameter.{Parameter}
-use Rattle.ir_tree.specs.Limits.{IsInteger}
+use Rattle.ir_tree.specs.Pointers.{IsInteger}
 use Rattle.byte_block.specs.declared.value.Value.TheVariants.{Num}
 use Rattle.points.specs.Code.{ValueFits}
 use Rattle.mem_terms.specs.Inputs.{IsArg, argument_width}

@@ -1,5 +1,7 @@
-use Rattle.std.proofs.Common.{sym}
+use Rattle.std.proofs.Common.{sym, subst}
+use Rattle.ir_reader.specs.Judgeable.{IsJudgeableEntry}
 use Rattle.tv_run.proofs.Answered.{no_rows, has_next, one_row, all_rows}
+use Rattle.tv_run.proofs.Searches.{all_at}
 use Rattle.tv_run.proofs.rows.source_rows.Goals as goal
 
 pub loop-source-init : goal.loop-source-init
@@ -7,6 +9,9 @@ loop-source-init c = no_rows _ _ _ _ _ _ c.new-rows.ensures.items c.requires.ans
 
 pub next_row-requires-clause-answered : goal.next_row-requires-clause-answered
 next_row-requires-clause-answered c = has_next _ _ c.args.targets.now c.args.sources.now c.loop-source.source-index c.source-item.result _ _ _ c.loop-source-test.true (sym c.source-item.is) c.loop-source.invariant
+
+pub next_row-requires-clause-source_judgeable : goal.next_row-requires-clause-source_judgeable
+next_row-requires-clause-source_judgeable c = subst IsJudgeableEntry (sym c.source-item.is) (all_at IsJudgeableEntry c.args.sources.now c.loop-source.source-index c.source-item.result c.requires.source_judgeable c.loop-source-test.true)
 
 pub loop-source-preserved : goal.loop-source-preserved
 loop-source-preserved c = one_row _ _ _ c.args.sources.now c.loop-source.source-index c.source-item.result _ _ _ _ _ _ c.loop-source-test.true (sym c.source-item.is) c.in_ok-push.ensures.items c.loop-source.invariant c.in_ok-next_row.ensures.row c.in_ok-next_row.ensures.left

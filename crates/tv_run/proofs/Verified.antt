@@ -1,0 +1,16 @@
+-- The proof file that a check put is verified whole.
+use Rattle.std.proofs.Common.{ℕ, ◌≡◌, List, subst}
+use Rattle.tv_io.specs.Taken.{IsWritten}
+use Rattle.proof_text.specs.Format.{IsProof}
+use Rattle.proof_files.specs.Laws.{TextsAreVerified}
+use Rattle.proof_files.specs.Parts.{parts_of}
+use Rattle.tv_run.specs.Laws.{PutProofsAreVerified}
+use Rattle.tv_run.proofs.Files.{same_text}
+
+pub put_proofs_are_verified : TextsAreVerified → PutProofsAreVerified
+put_proofs_are_verified texts files name rows answers status old new put log =
+    let read = log.says.parts_are in
+    let same : read.text ≡ put.0 = same_text (files name) read.text put.0 read.there put.1 in
+    let proof : IsProof put.0 log.says.parts = subst (λ (t : List ℕ). IsProof t log.says.parts) same read.holds.1 in
+    let whole = texts put.0 (parts_of rows answers) log.says.parts log.text status put.2.parts put.2.refute proof log.says.checked in
+    record { status_is = whole.status_is; written = subst (λ (t : List ℕ). IsWritten t old new) whole.lines_are log.written }
