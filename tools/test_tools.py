@@ -13,6 +13,7 @@ import concurrent.futures
 import csv
 import html.parser
 import os
+import re
 import shutil
 import signal
 import subprocess
@@ -474,6 +475,9 @@ FAKE_ONLY = [help_is_one_screen, opt_reads_standard_input, opt_failure_is_passed
              baseline_of_tree, proof_parts, wrong_logs, no_proof_files, wrong_lrat]
 LLVM = [llvm_tree, llvm_steps, llvm_bitcode]
 
+# The oldest LLVM whose opt these tests are for: the first with opaque pointers alone.
+OLDEST_LLVM = 17
+
 
 def real_tv():
     built = os.path.join(os.path.dirname(TOOLS), "crates", "tv", "out", "tv")
@@ -485,6 +489,13 @@ def writes_proofs(tv):
     module = os.path.join(DATA, "loop_before.ll")
     command = [tv, "check", "--weight", "1", module, module, "--proof", os.devnull]
     return subprocess.run(command, capture_output=True).returncode != 4
+
+
+def llvm_version(opt):
+    """The version of the LLVM that an opt is of, 0 where it doesn't say."""
+    said = subprocess.run([opt, "--version"], capture_output=True, text=True).stdout
+    found = re.search(r"LLVM version (\d+)", said)
+    return int(found.group(1)) if found else 0
 
 
 def cases():
@@ -510,9 +521,11 @@ def cases():
         yield "solvers, solvers_agree", solvers_agree, fake
     else:
         print(f"skipped: none of {', '.join(SOLVERS)} is installed")
-    if opt:
+    if opt and llvm_version(opt) >= OLDEST_LLVM:
         for test in LLVM:
             yield f"opt, {test.__name__}", test, {**fake, "TV_OPT": opt, "TV": real or fake["TV"]}
+    elif opt:
+        print(f"skipped: {opt} is older than LLVM {OLDEST_LLVM}")
     else:
         print("skipped: neither opt-19 nor opt is installed")
     if reduce and real:
