@@ -7,7 +7,7 @@ use Rattle.bv_terms.specs.Tree.{width_of, truth, extended_signed, is_less_signed
 use Rattle.bv_terms.specs.Trees.{Keeps, Makes, Tests, IsTerm, AreInRange, term_at, bit_at, tree_in}
 use Rattle.tv_num.specs.Width.{signed_of, is_outside_signed, is_outside_unsigned}
 use Rattle.points.specs.Table as table
-use Rattle.mem_terms.specs.Values.{value_at, value_from}
+use Rattle.mem_terms.specs.Values.{number_at, value_from}
 use Rattle.mem_terms.proofs.Bits.{term-below}
 use Rattle.mem_terms.proofs.Later.{bit-later, term-later, keeps_trans}
 use Rattle.inst_terms.specs.declared.narrow.NarrowValue.{NarrowValue}
@@ -17,8 +17,8 @@ use Rattle.inst_terms.proofs.Cuts.{outside-unsigned, outside-signed}
 use Rattle.inst_terms.proofs.Multiplication.{product-fits, product-exact, product-low}
 
 pub widened-stands : (old new : List Term) (value : NarrowValue) (number : TermId) (n : ℕ) → IsNarrow old n value → Keeps old new → Makes new number 64 (λ v. term_at v old value.number)
-    → (v : ℕ → ℕ → ℕ) → value_at v new (record { poison = value.poison; number = number }) ≡ narrow_at v old value
-unfolding value_at
+    → (v : ℕ → ℕ → ℕ) → number_at v new (record { poison = value.poison; number = number }) ≡ narrow_at v old value
+unfolding number_at
 widened-stands old new value number n h k m v = rw (bit-later old new k v value.poison h.poison.within, m.says v) refl
 
 pub narrow-later : (old new : List Term) (k : Keeps old new) (s : NarrowValue) (n : ℕ) → IsNarrow old n s → (v : ℕ → ℕ → ℕ) → narrow_at v new s ≡ narrow_at v old s
@@ -138,7 +138,7 @@ truth-number (suc zero) lt = refl
 truth-number (suc (suc x)) lt = absurd (omega (arith, lt))
 
 pub truth-stands : (old new : List Term) (poison test number : TermId) → AreInRange old → IsTerm old 1 poison → IsTerm old 1 test → Keeps old new → Makes new number 64 (λ v. term_at v old test)
-    → (v : ℕ → ℕ → ℕ) → value_at v new (record { poison = poison; number = number }) ≡ value_from (bit_at v old poison) (table.truth (bit_at v old test))
-unfolding value_at
+    → (v : ℕ → ℕ → ℕ) → number_at v new (record { poison = poison; number = number }) ≡ value_from (bit_at v old poison) (table.truth (bit_at v old test))
+unfolding number_at
 truth-stands old new poison test number range hp ht k m v =
     rw (bit-later old new k v poison hp.within, m.says v) (ap (value_from (bit_at v old poison)) (truth-number (term_at v old test) (term-below old 1 test range ht v)))

@@ -4,6 +4,7 @@ use Rattle.std.specs.Prelude.{if◌then◌else◌}
 use Rattle.ir_tree.specs.declared.tree.Op.{Op}
 use Rattle.ir_tree.specs.declared.tree.Cast.{Cast}
 use Rattle.ir_tree.specs.declared.tree.Predicate.{Predicate}
+use Rattle.byte_block.specs.declared.value.BlockName.{BlockName}
 use Rattle.byte_block.specs.declared.value.Value.{Value}
 use Rattle.byte_block.specs.declared.value.Value.TheVariants.{Num}
 use Rattle.bv_terms.specs.declared.term.TermId.{TermId}
@@ -12,9 +13,10 @@ use Rattle.bv_terms.specs.Tree.{truth}
 use Rattle.bv_terms.specs.Trees.{Keeps, Makes, Tests, term_at, bit_at}
 use Rattle.points.specs.Table as table
 use Rattle.points.specs.Table.{is_undefined, value_result, are_unlike, holds_of, compared, cast_number, cast_value, selected}
+use Rattle.mem_terms.specs.declared.integers.SymNumber.{SymNumber}
 use Rattle.mem_terms.specs.declared.values.SymValue.{SymValue}
-use Rattle.mem_terms.specs.Values.{IsSymValue, value_at, value_from, option_from}
-use Rattle.mem_terms.proofs.Later.{bit-later, term-later, keeps_self, keeps_trans}
+use Rattle.mem_terms.specs.Values.{IsSymNumber, IsSymValue, Reading, number_at, value_at, value_from, value_of, option_from}
+use Rattle.mem_terms.proofs.Later.{bit-later, term-later, value-later, keeps_self, keeps_trans}
 use Rattle.inst_terms.specs.declared.narrow.NarrowValue.{NarrowValue}
 use Rattle.inst_terms.specs.Narrow.{IsNarrow, narrow_at}
 use Rattle.inst_terms.specs.Rows.{IsRow, row_of}
@@ -23,14 +25,14 @@ use Rattle.inst_terms.proofs.Rows.{binary_is, from_is-if}
 -- ---- two operands at their width
 
 -- the terms of two operands that were made one after the other, at a later list
-record AreOperands (old new : List Term) (n : ℕ) (left right : SymValue) (a b : NarrowValue) : Type 0 where
+record AreOperands (old new : List Term) (n : ℕ) (left right : SymNumber) (a b : NarrowValue) : Type 0 where
   first_poison : (v : ℕ → ℕ → ℕ) → bit_at v new a.poison ≡ bit_at v old left.poison
   first_number : (v : ℕ → ℕ → ℕ) → term_at v new a.number ≡ term_at v old left.number % 2 ^ n
   second_poison : (v : ℕ → ℕ → ℕ) → bit_at v new b.poison ≡ bit_at v old right.poison
   second_number : (v : ℕ → ℕ → ℕ) → term_at v new b.number ≡ term_at v old right.number % 2 ^ n
 
 -- ... which stand in the lists old, g1, g2 and the later one
-operands-later : (old g1 g2 new : List Term) (n : ℕ) (left right : SymValue) (a b : NarrowValue) → IsSymValue old left → IsSymValue old right
+operands-later : (old g1 g2 new : List Term) (n : ℕ) (left right : SymNumber) (a b : NarrowValue) → IsSymNumber old left → IsSymNumber old right
     → Keeps old g1 → a.poison ≡ left.poison → Makes g1 a.number n (λ v. term_at v old left.number % 2 ^ n)
     → Keeps g1 g2 → b.poison ≡ right.poison → Makes g2 b.number n (λ v. term_at v g1 right.number % 2 ^ n)
     → Keeps g2 new → AreOperands old new n left right a b
@@ -47,15 +49,15 @@ operands-later old g1 g2 new n left right a b hl hr k1 ea ma k2 eb mb k3 =
 three : {p p' q q' r r' : Bool} → p ≡ p' → q ≡ q' → r ≡ r' → ((p || q) || r) ≡ ((p' || q') || r')
 three e f g = cc
 
-pub binary-stands : (old g1 g2 g3 g4 g5 g6 : List Term) (op : Op) (n : ℕ) (left right : SymValue) (a b row : NarrowValue) (undefined poison : TermId) (value : SymValue) → IsSymValue old left → IsSymValue old right
+pub binary-stands : (old g1 g2 g3 g4 g5 g6 : List Term) (op : Op) (n : ℕ) (left right : SymNumber) (a b row : NarrowValue) (undefined poison : TermId) (value : SymNumber) → IsSymNumber old left → IsSymNumber old right
     → Keeps old g1 → a.poison ≡ left.poison → Makes g1 a.number n (λ v. term_at v old left.number % 2 ^ n)
     → Keeps g1 g2 → b.poison ≡ right.poison → Makes g2 b.number n (λ v. term_at v g1 right.number % 2 ^ n)
     → Keeps g2 g3 → Tests g3 undefined (λ v. is_undefined op n (narrow_at v g2 a) (narrow_at v g2 b))
     → Keeps g3 g4 → IsNarrow g4 n row → IsRow g3 g4 op n a.number b.number row
     → Keeps g4 g5 → Tests g5 poison (λ v. (bit_at v g4 a.poison || bit_at v g4 b.poison) || bit_at v g4 row.poison)
-    → Keeps g5 g6 → ((v : ℕ → ℕ → ℕ) → value_at v g6 value ≡ narrow_at v g5 (record { poison = poison; number = row.number }))
-    → (v : ℕ → ℕ → ℕ) → option_from (bit_at v g6 undefined) (value_at v g6 value) ≡ value_result op n (value_at v old left) (value_at v old right)
-unfolding value_at
+    → Keeps g5 g6 → ((v : ℕ → ℕ → ℕ) → number_at v g6 value ≡ narrow_at v g5 (record { poison = poison; number = row.number }))
+    → (v : ℕ → ℕ → ℕ) → option_from (bit_at v g6 undefined) (number_at v g6 value) ≡ value_result op n (number_at v old left) (number_at v old right)
+unfolding number_at
 binary-stands old g1 g2 g3 g4 g5 g6 op n left right a b row undefined poison value hl hr k1 ea ma k2 eb mb k3 tu k4 hw is k5 tp k6 sv v =
     let k22 = keeps_self g2 in
     let o2 = operands-later old g1 g2 g2 n left right a b hl hr k1 ea ma k2 eb mb k22 in
@@ -88,15 +90,15 @@ compare_is predicate same_sign n true q x y = refl
 compare_is predicate same_sign n false true x y = refl
 compare_is predicate same_sign n false false x y = from_is-if (are_unlike same_sign n (x % 2 ^ n) (y % 2 ^ n)) (table.truth (holds_of predicate n (x % 2 ^ n) (y % 2 ^ n)))
 
-pub compare-stands : (old g1 g2 g3 g4 g5 g6 : List Term) (predicate : Predicate) (same_sign : Bool) (n : ℕ) (left right : SymValue) (a b : NarrowValue) (unlike test poison : TermId) (value : SymValue) → IsSymValue old left → IsSymValue old right
+pub compare-stands : (old g1 g2 g3 g4 g5 g6 : List Term) (predicate : Predicate) (same_sign : Bool) (n : ℕ) (left right : SymNumber) (a b : NarrowValue) (unlike test poison : TermId) (value : SymNumber) → IsSymNumber old left → IsSymNumber old right
     → Keeps old g1 → a.poison ≡ left.poison → Makes g1 a.number n (λ v. term_at v old left.number % 2 ^ n)
     → Keeps g1 g2 → b.poison ≡ right.poison → Makes g2 b.number n (λ v. term_at v g1 right.number % 2 ^ n)
     → Keeps g2 g3 → Tests g3 unlike (λ v. are_unlike same_sign n (term_at v g2 a.number) (term_at v g2 b.number))
     → Keeps g3 g4 → Tests g4 test (λ v. holds_of predicate n (term_at v g3 a.number) (term_at v g3 b.number))
     → Keeps g4 g5 → Tests g5 poison (λ v. (bit_at v g4 a.poison || bit_at v g4 b.poison) || bit_at v g4 unlike)
-    → ((v : ℕ → ℕ → ℕ) → value_at v g6 value ≡ value_from (bit_at v g5 poison) (table.truth (bit_at v g5 test)))
-    → (v : ℕ → ℕ → ℕ) → value_at v g6 value ≡ compared predicate same_sign n (value_at v old left) (value_at v old right)
-unfolding value_at
+    → ((v : ℕ → ℕ → ℕ) → number_at v g6 value ≡ value_from (bit_at v g5 poison) (table.truth (bit_at v g5 test)))
+    → (v : ℕ → ℕ → ℕ) → number_at v g6 value ≡ compared predicate same_sign n (number_at v old left) (number_at v old right)
+unfolding number_at
 compare-stands old g1 g2 g3 g4 g5 g6 predicate same_sign n left right a b unlike test poison value hl hr k1 ea ma k2 eb mb k3 tu k4 tt k5 tp sv v =
     let k22 = keeps_self g2 in
     let o2 = operands-later old g1 g2 g2 n left right a b hl hr k1 ea ma k2 eb mb k22 in
@@ -120,13 +122,13 @@ cast_is : (cast : Cast) (from to : ℕ) (p r : Bool) (x z : ℕ) → value_from 
 cast_is cast from to true r x z e = refl
 cast_is cast from to false r x z e = e
 
-pub cast-stands : (old g1 g2 g3 g4 : List Term) (cast : Cast) (from to : ℕ) (operand : SymValue) (a row : NarrowValue) (poison : TermId) (value : SymValue) → IsSymValue old operand
+pub cast-stands : (old g1 g2 g3 g4 : List Term) (cast : Cast) (from to : ℕ) (operand : SymNumber) (a row : NarrowValue) (poison : TermId) (value : SymNumber) → IsSymNumber old operand
     → Keeps old g1 → a.poison ≡ operand.poison → Makes g1 a.number from (λ v. term_at v old operand.number % 2 ^ from)
     → Keeps g1 g2 → IsNarrow g2 to row → ((v : ℕ → ℕ → ℕ) → narrow_at v g2 row ≡ cast_number cast from to (term_at v g1 a.number))
     → Keeps g2 g3 → Tests g3 poison (λ v. bit_at v g2 a.poison || bit_at v g2 row.poison)
-    → ((v : ℕ → ℕ → ℕ) → value_at v g4 value ≡ narrow_at v g3 (record { poison = poison; number = row.number }))
-    → (v : ℕ → ℕ → ℕ) → value_at v g4 value ≡ cast_value cast from to (value_at v old operand)
-unfolding value_at
+    → ((v : ℕ → ℕ → ℕ) → number_at v g4 value ≡ narrow_at v g3 (record { poison = poison; number = row.number }))
+    → (v : ℕ → ℕ → ℕ) → number_at v g4 value ≡ cast_value cast from to (number_at v old operand)
+unfolding number_at
 cast-stands old g1 g2 g3 g4 cast from to operand a row poison value ho k1 ea ma k2 hw is k3 tp sv v =
     let p = bit_at v old operand.poison in
     let x = term_at v old operand.number in
@@ -147,31 +149,31 @@ lowest-of (suc (suc r)) lt = absurd (omega (arith, lt))
 lowest : (x : ℕ) → truth (x / 2 ^ 0 % 2 ^ 1) ≡ nat_eq (x % 2) 1
 lowest x = let e : x / 2 ^ 0 ≡ x = omega arith in let below : x % 2 < 2 = omega arith in ap (λ k. truth (k % 2 ^ 1)) e ∙ lowest-of (x % 2) below
 
-select_is : (p c r : Bool) (x z : ℕ) (t f : Value) → c ≡ nat_eq (x % 2) 1 → value_from r z ≡ cond c t f → value_from (p || r) z ≡ selected (value_from p x) t f
-select_is true c r x z t f e h = refl
-select_is false c r x z t f e h = h ∙ (ap (λ b. cond b t f) e ∙ choice (nat_eq (x % 2) 1) t f)
+select_is : (p q i : Bool) (block : BlockName) (x z : ℕ) (c : Bool) (t f : Value) → c ≡ nat_eq (x % 2) 1 → value_of q i block z ≡ cond c t f → value_of (p || q) i block z ≡ selected (value_from p x) t f
+select_is true q i block x z c t f e h = refl
+select_is false q i block x z c t f e h = h ∙ (ap (λ b. cond b t f) e ∙ choice (nat_eq (x % 2) 1) t f)
   where
     choice : (b : Bool) (t f : Value) → cond b t f ≡ (if b then t else f)
     choice true t f = refl
     choice false t f = refl
 
-pub select-stands : (old g1 g2 g3 : List Term) (condition if_true if_false chosen : SymValue) (low poison : TermId) → IsSymValue old condition → IsSymValue old if_true → IsSymValue old if_false
+-- the chosen value, and poison where the condition is
+guarded-is : (old g2 g3 : List Term) (condition : SymNumber) (chosen : SymValue) (poison : TermId) → IsSymNumber old condition → IsSymValue g2 chosen → Keeps old g2 → Keeps g2 g3
+    → Tests g3 poison (λ v. bit_at v g2 condition.poison || bit_at v g2 chosen.poison)
+    → (r : Reading) (c : Bool) (t f : Value) → c ≡ nat_eq (term_at r.v old condition.number % 2) 1 → value_at r g2 chosen ≡ cond c t f
+    → value_at r g3 (record { poison = poison; is_pointer = chosen.is_pointer; block = chosen.block; number = chosen.number }) ≡ selected (number_at r.v old condition) t f
+unfolding value_at number_at
+guarded-is old g2 g3 condition chosen poison hc hh k02 k3 tp r c t f e h =
+    rw (tp.says r.v, bit-later old g2 k02 r.v condition.poison hc.poison.within, bit-later g2 g3 k3 r.v chosen.is_pointer hh.is_pointer.within, term-later g2 g3 k3 r.v chosen.block hh.block.within, term-later g2 g3 k3 r.v chosen.number hh.number.within)
+    (select_is (bit_at r.v old condition.poison) (bit_at r.v g2 chosen.poison) (bit_at r.v g2 chosen.is_pointer) (r.name (term_at r.v g2 chosen.block)) (term_at r.v old condition.number) (term_at r.v g2 chosen.number) c t f e h)
+
+pub select-stands : (old g1 g2 g3 : List Term) (condition : SymNumber) (if_true if_false chosen : SymValue) (low poison : TermId) → IsSymNumber old condition → IsSymValue old if_true → IsSymValue old if_false
     → Keeps old g1 → Makes g1 low 1 (λ v. term_at v old condition.number / 2 ^ 0 % 2 ^ 1)
-    → Keeps g1 g2 → IsSymValue g2 chosen → ((v : ℕ → ℕ → ℕ) → value_at v g2 chosen ≡ cond (bit_at v g1 low) (value_at v g1 if_true) (value_at v g1 if_false))
+    → Keeps g1 g2 → IsSymValue g2 chosen → ((r : Reading) → value_at r g2 chosen ≡ cond (bit_at r.v g1 low) (value_at r g1 if_true) (value_at r g1 if_false))
     → Keeps g2 g3 → Tests g3 poison (λ v. bit_at v g2 condition.poison || bit_at v g2 chosen.poison)
-    → (v : ℕ → ℕ → ℕ) → value_at v g3 (record { poison = poison; number = chosen.number }) ≡ selected (value_at v old condition) (value_at v old if_true) (value_at v old if_false)
-unfolding value_at
-select-stands old g1 g2 g3 condition if_true if_false chosen low poison hc ht hf k1 ml k2 hh sv k3 tp v =
-    let k02 = keeps_trans old g1 g2 k1 k2 in
-    let p = bit_at v old condition.poison in
-    let x = term_at v old condition.number in
-    let t = value_from (bit_at v old if_true.poison) (term_at v old if_true.number) in
-    let f = value_from (bit_at v old if_false.poison) (term_at v old if_false.number) in
-    let et : value_from (bit_at v g1 if_true.poison) (term_at v g1 if_true.number) ≡ t = rw (bit-later old g1 k1 v if_true.poison ht.poison.within, term-later old g1 k1 v if_true.number ht.number.within) refl in
-    let ef : value_from (bit_at v g1 if_false.poison) (term_at v g1 if_false.number) ≡ f = rw (bit-later old g1 k1 v if_false.poison hf.poison.within, term-later old g1 k1 v if_false.number hf.number.within) refl in
-    let any : bit_at v g3 poison ≡ (p || bit_at v g2 chosen.poison) = tp.says v ∙ ap (λ z. z || bit_at v g2 chosen.poison) (bit-later old g2 k02 v condition.poison hc.poison.within) in
-    let whole : value_from (bit_at v g3 poison) (term_at v g3 chosen.number) ≡ value_from (p || bit_at v g2 chosen.poison) (term_at v g2 chosen.number) =
-    ap (λ z. value_from z (term_at v g3 chosen.number)) any ∙ ap (value_from (p || bit_at v g2 chosen.poison)) (term-later g2 g3 k3 v chosen.number hh.number.within) in
-    let bit : bit_at v g1 low ≡ nat_eq (x % 2) 1 = ap truth (ml.says v) ∙ lowest x in
-    let stands : value_from (bit_at v g2 chosen.poison) (term_at v g2 chosen.number) ≡ cond (bit_at v g1 low) t f = sv v ∙ (ap (λ z. cond (bit_at v g1 low) z (value_from (bit_at v g1 if_false.poison) (term_at v g1 if_false.number))) et ∙ ap (cond (bit_at v g1 low) t) ef) in
-    whole ∙ select_is p (bit_at v g1 low) (bit_at v g2 chosen.poison) x (term_at v g2 chosen.number) t f bit stands
+    → (r : Reading) → value_at r g3 (record { poison = poison; is_pointer = chosen.is_pointer; block = chosen.block; number = chosen.number }) ≡ selected (number_at r.v old condition) (value_at r old if_true) (value_at r old if_false)
+select-stands old g1 g2 g3 condition if_true if_false chosen low poison hc ht hf k1 ml k2 hh sv k3 tp r =
+    let bit : bit_at r.v g1 low ≡ nat_eq (term_at r.v old condition.number % 2) 1 = ap truth (ml.says r.v) ∙ lowest (term_at r.v old condition.number) in
+    let stands : value_at r g2 chosen ≡ cond (bit_at r.v g1 low) (value_at r old if_true) (value_at r old if_false) =
+    sv r ∙ rw (value-later old g1 k1 r if_true ht, value-later old g1 k1 r if_false hf) refl in
+    guarded-is old g2 g3 condition chosen poison hc hh (keeps_trans old g1 g2 k1 k2) k3 tp r (bit_at r.v g1 low) (value_at r old if_true) (value_at r old if_false) bit stands

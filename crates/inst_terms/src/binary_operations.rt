@@ -3,7 +3,7 @@
 ghost use Rattle.std.specs.Prelude.{◌≡◌, ℕ, IfOk};
 ghost use Rattle.bv_terms.specs.Trees.{IsTerm, Keeps, bit_at};
 ghost use Rattle.points.specs.Table.{value_result};
-ghost use Rattle.mem_terms.specs.Values.{IsSymValue, option_from, value_at};
+ghost use Rattle.mem_terms.specs.Values.{IsSymNumber, option_from, number_at};
 ghost use Rattle.inst_terms.specs.Narrow.{IsNarrow};
 ghost use Rattle.inst_terms.specs.Rows.{IsRow};
 
@@ -16,7 +16,7 @@ use crate::sums::{difference, sum};
 use crate::undefined::is_undefined;
 use bv_terms::{TermId, Terms};
 use ir_tree::Op;
-use mem_terms::SymValue;
+use mem_terms::SymNumber;
 use support::NoMemory;
 use tv_num::Width;
 
@@ -24,7 +24,7 @@ use tv_num::Width;
 #[derive(Clone, Copy, Debug, PartialEq, Eq)]
 pub struct Computed {
     pub undefined: TermId,
-    pub value: SymValue,
+    pub value: SymNumber,
 }
 
 /// The operation on numbers of its width, where it is defined.
@@ -105,14 +105,14 @@ pub fn binary(
     terms: &mut Terms,
     op: Op,
     width: Width,
-    left: SymValue,
-    right: SymValue,
+    left: SymNumber,
+    right: SymNumber,
 ) -> Result<Computed, NoMemory>
-    requires left { IsSymValue terms.old left }
-    requires right { IsSymValue terms.old right }
-    ensures made { IfOk result (λ c. IsTerm terms.new 1 c.undefined × IsSymValue terms.new c.value) }
-    ensures stands { IfOk result (λ c. (v : ℕ → ℕ → ℕ) → option_from (bit_at v terms.new c.undefined) (value_at v terms.new c.value)
-        ≡ value_result op width.bits (value_at v terms.old left) (value_at v terms.old right)) }
+    requires left { IsSymNumber terms.old left }
+    requires right { IsSymNumber terms.old right }
+    ensures made { IfOk result (λ c. IsTerm terms.new 1 c.undefined × IsSymNumber terms.new c.value) }
+    ensures stands { IfOk result (λ c. (v : ℕ → ℕ → ℕ) → option_from (bit_at v terms.new c.undefined) (number_at v terms.new c.value)
+        ≡ value_result op width.bits (number_at v terms.old left) (number_at v terms.old right)) }
     ensures kept { Keeps terms.old terms.new }
 {
     let a = narrowed(terms, left, width)?;

@@ -5,7 +5,7 @@ ghost use Rattle.std.specs.Prelude.{◌≡◌, ◌%◌, ◌^◌, ◌&&◌, ◌||
 ghost use Rattle.bv_terms.specs.Trees.{IsTerm, Keeps, Makes, Tests, term_at};
 ghost use Rattle.tv_num.specs.Width.{is_outside_signed, is_outside_unsigned, signed_of, wrapped};
 ghost use Rattle.points.specs.Table.{cast_number, cast_value, is_negative};
-ghost use Rattle.mem_terms.specs.Values.{IsSymValue, value_at};
+ghost use Rattle.mem_terms.specs.Values.{IsSymNumber, number_at};
 ghost use Rattle.inst_terms.specs.Narrow.{IsNarrow, narrow_at};
 
 use crate::narrow::{NarrowValue, narrowed, widened};
@@ -13,7 +13,7 @@ use crate::room::{is_outside_signed, is_outside_unsigned};
 use crate::signs::sign;
 use bv_terms::{TermId, Terms};
 use ir_tree::{Cast, Flags};
-use mem_terms::{SymValue, either, resize, truth};
+use mem_terms::{SymNumber, either, resize, truth};
 use support::NoMemory;
 use term_rules::sext;
 use tv_num::Width;
@@ -212,11 +212,11 @@ pub fn cast(
     cast: Cast,
     from: Width,
     to: Width,
-    operand: SymValue,
-) -> Result<SymValue, NoMemory>
-    requires { IsSymValue terms.old operand }
-    ensures made { IfOk result (IsSymValue terms.new) }
-    ensures stands { IfOk result (λ s. (v : ℕ → ℕ → ℕ) → value_at v terms.new s ≡ cast_value cast from.bits to.bits (value_at v terms.old operand)) }
+    operand: SymNumber,
+) -> Result<SymNumber, NoMemory>
+    requires { IsSymNumber terms.old operand }
+    ensures made { IfOk result (IsSymNumber terms.new) }
+    ensures stands { IfOk result (λ s. (v : ℕ → ℕ → ℕ) → number_at v terms.new s ≡ cast_value cast from.bits to.bits (number_at v terms.old operand)) }
     ensures kept { Keeps terms.old terms.new }
 {
     let a = narrowed(terms, operand, from)?;

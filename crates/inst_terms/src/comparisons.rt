@@ -4,13 +4,13 @@ ghost use Rattle.std.specs.Prelude.{◌≡◌, ℕ, IfOk, int_le, int_lt, nat_le
 ghost use Rattle.bv_terms.specs.Trees.{IsTerm, Keeps, Tests, bit_at, term_at};
 ghost use Rattle.tv_num.specs.Width.{signed_of};
 ghost use Rattle.points.specs.Table.{are_unlike, compared, holds_of, truth};
-ghost use Rattle.mem_terms.specs.Values.{IsSymValue, value_at, value_from};
+ghost use Rattle.mem_terms.specs.Values.{IsSymNumber, number_at, value_from};
 
 use crate::narrow::{is_another, is_any_poison, narrowed};
 use crate::signs::signs_differ;
 use bv_terms::{TermId, Terms};
 use ir_tree::Predicate;
-use mem_terms::{SymValue, equals, less, less_signed, negation, truth};
+use mem_terms::{SymNumber, equals, less, less_signed, negation, truth};
 use support::NoMemory;
 use term_rules::zext;
 use tv_num::Width;
@@ -104,16 +104,16 @@ fn are_unlike(
 }
 
 /// 1 where the test holds, and else 0, unless it is poison.
-fn truth_value(terms: &mut Terms, poison: TermId, test: TermId) -> Result<SymValue, NoMemory>
+fn truth_value(terms: &mut Terms, poison: TermId, test: TermId) -> Result<SymNumber, NoMemory>
     requires poison { IsTerm terms.old 1 poison }
     requires test { IsTerm terms.old 1 test }
-    ensures made { IfOk result (IsSymValue terms.new) }
-    ensures stands { IfOk result (λ s. (v : ℕ → ℕ → ℕ) → value_at v terms.new s ≡ value_from (bit_at v terms.old poison) (truth (bit_at v terms.old test))) }
+    ensures made { IfOk result (IsSymNumber terms.new) }
+    ensures stands { IfOk result (λ s. (v : ℕ → ℕ → ℕ) → number_at v terms.new s ≡ value_from (bit_at v terms.old poison) (truth (bit_at v terms.old test))) }
     ensures kept { Keeps terms.old terms.new }
 {
     terms.values_fit();
     let number = zext(terms, test, 64)?;
-    Ok(SymValue { poison, number })
+    Ok(SymNumber { poison, number })
 }
 
 /// A comparison of two values, read modulo 2^width: 1 or 0, and poison where an operand is, or where
@@ -123,13 +123,13 @@ pub fn compare(
     predicate: Predicate,
     same_sign: bool,
     width: Width,
-    left: SymValue,
-    right: SymValue,
-) -> Result<SymValue, NoMemory>
-    requires left { IsSymValue terms.old left }
-    requires right { IsSymValue terms.old right }
-    ensures made { IfOk result (IsSymValue terms.new) }
-    ensures stands { IfOk result (λ s. (v : ℕ → ℕ → ℕ) → value_at v terms.new s ≡ compared predicate same_sign width.bits (value_at v terms.old left) (value_at v terms.old right)) }
+    left: SymNumber,
+    right: SymNumber,
+) -> Result<SymNumber, NoMemory>
+    requires left { IsSymNumber terms.old left }
+    requires right { IsSymNumber terms.old right }
+    ensures made { IfOk result (IsSymNumber terms.new) }
+    ensures stands { IfOk result (λ s. (v : ℕ → ℕ → ℕ) → number_at v terms.new s ≡ compared predicate same_sign width.bits (number_at v terms.old left) (number_at v terms.old right)) }
     ensures kept { Keeps terms.old terms.new }
 {
     let a = narrowed(terms, left, width)?;

@@ -2,11 +2,11 @@
 
 ghost use Rattle.std.specs.Prelude.{◌≡◌, ◌%◌, ◌^◌, ◌||◌, ℕ, IfOk, not, nat_eq};
 ghost use Rattle.bv_terms.specs.Trees.{IsTerm, Keeps, Makes, Tests, bit_at, term_at};
-ghost use Rattle.mem_terms.specs.Values.{IsSymValue, value_at};
+ghost use Rattle.mem_terms.specs.Values.{IsSymNumber, number_at};
 ghost use Rattle.inst_terms.specs.Narrow.{IsNarrow, narrow_at};
 
 use bv_terms::{TermId, Terms};
-use mem_terms::{SymValue, either, equals, negation, resize};
+use mem_terms::{SymNumber, either, equals, negation, resize};
 use support::NoMemory;
 use term_rules::{constant, zext};
 use tv_num::Width;
@@ -19,8 +19,8 @@ pub struct NarrowValue {
 }
 
 /// The value with its number modulo 2^width.
-pub fn narrowed(terms: &mut Terms, value: SymValue, width: Width) -> Result<NarrowValue, NoMemory>
-    requires { IsSymValue terms.old value }
+pub fn narrowed(terms: &mut Terms, value: SymNumber, width: Width) -> Result<NarrowValue, NoMemory>
+    requires { IsSymNumber terms.old value }
     ensures made { IfOk result (IsNarrow terms.new width.bits) }
     ensures poison { IfOk result (λ s. s.poison ≡ value.poison) }
     ensures number { IfOk result (λ s. Makes terms.new s.number width.bits (λ v. term_at v terms.old value.number % 2 ^ width.bits)) }
@@ -34,14 +34,14 @@ pub fn narrowed(terms: &mut Terms, value: SymValue, width: Width) -> Result<Narr
 }
 
 /// The value with zeros before its number.
-pub fn widened(terms: &mut Terms, value: NarrowValue, width: Width) -> Result<SymValue, NoMemory>
+pub fn widened(terms: &mut Terms, value: NarrowValue, width: Width) -> Result<SymNumber, NoMemory>
     requires { IsNarrow terms.old width.bits value }
-    ensures made { IfOk result (IsSymValue terms.new) }
-    ensures stands { IfOk result (λ s. (v : ℕ → ℕ → ℕ) → value_at v terms.new s ≡ narrow_at v terms.old value) }
+    ensures made { IfOk result (IsSymNumber terms.new) }
+    ensures stands { IfOk result (λ s. (v : ℕ → ℕ → ℕ) → number_at v terms.new s ≡ narrow_at v terms.old value) }
     ensures kept { Keeps terms.old terms.new }
 {
     let number = zext(terms, value.number, 64)?;
-    Ok(SymValue {
+    Ok(SymNumber {
         poison: value.poison,
         number,
     })

@@ -1,28 +1,29 @@
 //! Selections (LLVM Language Reference, "select Instruction").
 
-ghost use Rattle.std.specs.Prelude.{◌≡◌, ℕ, IfOk};
+ghost use Rattle.std.specs.Prelude.{◌≡◌, IfOk};
 ghost use Rattle.bv_terms.specs.Trees.{Keeps};
 ghost use Rattle.points.specs.Table.{selected};
-ghost use Rattle.mem_terms.specs.Values.{IsSymValue, value_at};
+ghost use Rattle.mem_terms.specs.Values.{IsSymNumber, IsSymValue, Reading, number_at, value_at};
 
 use bv_terms::Terms;
-use mem_terms::{SymValue, either, pick_value};
+use mem_terms::{SymNumber, SymValue, either, pick_value};
 use support::NoMemory;
 use term_rules::extract;
 
-/// The value that the condition's lowest digit chooses, and poison where the condition is; the other
-/// value has no effect. It fails for want of memory alone, and the terms that were there stay.
+/// The value of either kind that the condition's lowest digit chooses, and poison where the condition
+/// is; the other value has no effect. It fails for want of memory alone, and the terms that were there
+/// stay.
 pub fn select(
     terms: &mut Terms,
-    condition: SymValue,
+    condition: SymNumber,
     if_true: SymValue,
     if_false: SymValue,
 ) -> Result<SymValue, NoMemory>
-    requires condition { IsSymValue terms.old condition }
+    requires condition { IsSymNumber terms.old condition }
     requires if_true { IsSymValue terms.old if_true }
     requires if_false { IsSymValue terms.old if_false }
     ensures made { IfOk result (IsSymValue terms.new) }
-    ensures stands { IfOk result (λ s. (v : ℕ → ℕ → ℕ) → value_at v terms.new s ≡ selected (value_at v terms.old condition) (value_at v terms.old if_true) (value_at v terms.old if_false)) }
+    ensures stands { IfOk result (λ s. (r : Reading) → value_at r terms.new s ≡ selected (number_at r.v terms.old condition) (value_at r terms.old if_true) (value_at r terms.old if_false)) }
     ensures kept { Keeps terms.old terms.new }
 {
     let lowest = extract(terms, condition.number, 0, 1)?;
@@ -30,6 +31,8 @@ pub fn select(
     let poison = either(terms, condition.poison, chosen.poison)?;
     Ok(SymValue {
         poison,
+        is_pointer: chosen.is_pointer,
+        block: chosen.block,
         number: chosen.number,
     })
 }

@@ -1,5 +1,5 @@
 -- What holds of each item of a list.
-use Rattle.std.proofs.Common.{ℕ, zero, suc, ◌≡◌, ◌<◌, List, [], ◌∷◌, ◌++◌, length, map, get_or, slice_set, refl, ap, sym, subst, arith}
+use Rattle.std.proofs.Common.{ℕ, zero, suc, ◌≡◌, ◌<◌, ◌+◌, List, [], ◌∷◌, ◌++◌, length, map, take, get_or, slice_set, refl, ap, sym, subst, ◌∙◌, arith, add-one}
 use Rattle.mem_terms.specs.Values.{Each}
 
 pub each-at : {A : Type 0} (P : A → Type 0) (xs : List A) (i : ℕ) (x : A) → Each P xs → i < length xs → x ≡ get_or xs i x → P x
@@ -46,3 +46,12 @@ pub map-at : {A B : Type 0} (f : A → B) (xs : List A) (i : ℕ) (x : A) (d : B
 map-at f [] i x d lt e = absurd (omega arith)
 map-at f (y ∷ ys) zero x d lt e = ap f (sym e)
 map-at f (y ∷ ys) (suc i) x d lt e = map-at f ys i x d (omega arith) e
+
+-- one more of the first items
+pub take-push : {A : Type 0} (xs : List A) (i : ℕ) (x : A) → i < length xs → x ≡ get_or xs i x → take (i + 1) xs ≡ take i xs ++ x ∷ []
+take-push [] i x lt e = absurd (omega arith)
+take-push (y ∷ ys) zero x lt e = ap (λ z. z ∷ []) (sym e)
+take-push (y ∷ ys) (suc i) x lt e = rw add-one (ap (λ zs. y ∷ zs) (rw add-one at (take-push ys i x (omega arith) e)))
+
+pub map-take : {A B : Type 0} (f : A → B) (xs : List A) (i : ℕ) (x : A) → i < length xs → x ≡ get_or xs i x → map f (take (i + 1) xs) ≡ map f (take i xs) ++ f x ∷ []
+map-take f xs i x lt e = ap (map f) (take-push xs i x lt e) ∙ map-push f (take i xs) x

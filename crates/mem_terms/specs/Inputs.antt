@@ -1,38 +1,82 @@
--- What the terms of arguments and of tapes stand for under an assignment of the variables.
-use Rattle.std.specs.Prelude.{ℕ, List, [], ◌∷◌, map}
+-- What the terms of an input and of a tape stand for under an assignment of the variables.
+use Rattle.std.specs.Prelude.{◌≡◌, ℕ, ◌+◌, true, List, [], ◌∷◌, length, map}
 use Rattle.ir_tree.specs.declared.tree.IrType.{IrType}
 use Rattle.ir_tree.specs.declared.tree.IrType.TheVariants as type
 use Rattle.ir_tree.specs.declared.tree.Parameter.{Parameter}
 use Rattle.byte_block.specs.declared.value.Value.{Value}
+use Rattle.byte_block.specs.declared.value.Byte.{Byte}
+use Rattle.byte_block.specs.declared.block.MemoryBlock.{MemoryBlock}
+use Rattle.points.specs.declared.point.Input.{Input}
 use Rattle.bv_terms.specs.declared.term.TermId.{TermId}
 use Rattle.bv_terms.specs.declared.term.Term.{Term}
 use Rattle.bv_terms.specs.Trees.{IsTerm, bit_at, term_at}
 use Rattle.mem_terms.specs.declared.inputs.ArgTerms.{ArgTerms}
-use Rattle.mem_terms.specs.Values.{Each, value_from}
+use Rattle.mem_terms.specs.declared.inputs.ArgTerms.TheVariants as arg
+use Rattle.mem_terms.specs.declared.inputs.ByteTerms.{ByteTerms}
+use Rattle.mem_terms.specs.declared.inputs.InputTerms.{InputTerms}
+use Rattle.mem_terms.specs.Values.{Each, Reading, value_from, value_of}
+use Rattle.mem_terms.specs.Memory.{byte_of}
 
 -- ---- arguments
 
-abbrev pub arg_at : (ℕ → ℕ → ℕ) → List Term → ArgTerms → Value
-arg_at v terms a = value_from (bit_at v terms a.flag) (term_at v terms a.number)
+abbrev pub arg_at : Reading → List Term → ArgTerms → Value
+arg_at r terms (arg.Int flag number) = value_from (bit_at r.v terms flag) (term_at r.v terms number)
+arg_at r terms (arg.Ptr flag block offset) = value_of (bit_at r.v terms flag) true (r.name (term_at r.v terms block)) (term_at r.v terms offset)
 
-abbrev pub args_at : (ℕ → ℕ → ℕ) → List Term → List ArgTerms → List Value
-args_at v terms args = map (arg_at v terms) args
+abbrev pub args_at : Reading → List Term → List ArgTerms → List Value
+args_at r terms args = map (arg_at r terms) args
 
-pub record IsArg (terms : List Term) (width : ℕ) (a : ArgTerms) : Type 0 where
-  pub flag : IsTerm terms 1 a.flag
-  pub number : IsTerm terms width a.number
+-- a flag and a number of the width, or a flag, one of eight blocks and an offset
+abbrev pub IsArg : List Term → IrType → ArgTerms → Type 0
+IsArg terms (type.Int width) (arg.Int flag number) = IsTerm terms 1 flag × IsTerm terms width.bits number
+IsArg terms type.Ptr (arg.Ptr flag block offset) = IsTerm terms 1 flag × IsTerm terms 3 block × IsTerm terms 64 offset
+IsArg terms _ _ = ⊥
 
--- how many digits an argument's number has
-abbrev pub argument_width : IrType → ℕ
-argument_width (type.Int width) = width.bits
-argument_width type.Ptr = 64
-
--- one for each parameter, an integer one of its width
+-- one for each parameter
 abbrev pub AreArgs : List Term → List Parameter → List ArgTerms → Type 0
 AreArgs terms [] [] = Unit {0}
-AreArgs terms (p ∷ ps) (a ∷ rest) = IsArg terms (argument_width p.of_type) a × AreArgs terms ps rest
+AreArgs terms (p ∷ ps) (a ∷ rest) = IsArg terms p.of_type a × AreArgs terms ps rest
 AreArgs terms [] (a ∷ rest) = ⊥
 AreArgs terms (p ∷ ps) [] = ⊥
+
+-- ---- given blocks
+
+unfoldable pub given_byte_at : Reading → List Term → ByteTerms → Byte
+given_byte_at r terms b = byte_of (term_at r.v terms b.kind) (term_at r.v terms b.number) (record { block = r.name (term_at r.v terms b.block); offset = term_at r.v terms b.offset }) (term_at r.v terms b.part)
+
+abbrev pub given_block_at : Reading → List Term → (number : ℕ) → TermId → List ByteTerms → MemoryBlock
+given_block_at r terms number size places = record { name = r.name number; size = term_at r.v terms size; align = 16; places = map (given_byte_at r terms) places }
+
+-- the blocks of these sizes and places, the first of them with this number
+abbrev pub given_blocks_at : Reading → List Term → (number : ℕ) → List TermId → List (List ByteTerms) → List MemoryBlock
+given_blocks_at r terms number (size ∷ sizes) (places ∷ rest) = given_block_at r terms number size places ∷ given_blocks_at r terms (number + 1) sizes rest
+given_blocks_at r terms number _ _ = []
+
+abbrev pub input_at : Reading → List Term → InputTerms → Input
+input_at r terms input = record { args = args_at r terms input.args; blocks = given_blocks_at r terms 1 input.sizes input.places }
+
+-- a byte has a kind below 4, a number below 256, a block below 8, an offset, and one of eight parts
+pub record IsByteTerms (terms : List Term) (b : ByteTerms) : Type 0 where
+  pub kind : IsTerm terms 2 b.kind
+  pub number : IsTerm terms 8 b.number
+  pub block : IsTerm terms 3 b.block
+  pub offset : IsTerm terms 64 b.offset
+  pub part : IsTerm terms 3 b.part
+
+-- so many places
+pub record IsBlockTerms (bytes : ℕ) (terms : List Term) (places : List ByteTerms) : Type 0 where
+  pub count : length places ≡ bytes
+  pub are : Each (IsByteTerms terms) places
+
+-- ---- the whole input
+
+-- an argument for each parameter, and for each of so many given blocks a size, below 64, and its places
+pub record IsInput (ps : List Parameter) (blocks bytes : ℕ) (terms : List Term) (input : InputTerms) : Type 0 where
+  pub args : AreArgs terms ps input.args
+  pub size_count : length input.sizes ≡ blocks
+  pub sizes : Each (IsTerm terms 6) input.sizes
+  pub block_count : length input.places ≡ blocks
+  pub places : Each (IsBlockTerms bytes terms) input.places
 
 -- ---- tapes
 

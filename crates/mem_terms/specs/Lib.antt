@@ -1,3 +1,4 @@
 pub mod Values
 pub mod Inputs
+pub mod Memory
 pub mod Outcomes

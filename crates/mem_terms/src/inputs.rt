@@ -1,12 +1,21 @@
 use bv_terms::TermId;
 use support::Sequence;
 
-/// The two numbers of an argument in a point's code: the flag, 1 for poison, and the number at the
-/// parameter's width.
+/// The numbers of an argument in a point's code.
 #[derive(Clone, Copy, Debug, PartialEq, Eq)]
-pub struct ArgTerms {
-    pub flag: TermId,
-    pub number: TermId,
+pub enum ArgTerms {
+    /// The flag, 1 for poison, and the number at the parameter's width.
+    Int {
+        flag: TermId,
+        number: TermId,
+    },
+    /// The flag, 1 for poison, the given block by its number in 3 bits, 0 for null, and the offset
+    /// in 64 bits.
+    Ptr {
+        flag: TermId,
+        block: TermId,
+        offset: TermId,
+    },
 }
 
 /// The five numbers of a place of a given block: kind, number, block, offset and part.
@@ -27,7 +36,7 @@ pub struct InputTerms {
     pub places: Sequence<Sequence<ByteTerms>>,
 }
 
-/// One term of 64 digits for each word of a tape.
+/// One term of 64 bits for each word of a tape.
 #[derive(Drop)]
 pub struct TapeTerms {
     pub words: Sequence<TermId>,

@@ -6,14 +6,25 @@
 //! terms, and runs as terms, stand on it.
 #![tactic(auto)]
 
+mod blocks;
+mod bytes;
+mod given;
 mod inputs;
+mod integers;
 mod numbers;
 mod outcome;
 mod truths;
 mod values;
 
+pub use blocks::SymBlock;
+pub use bytes::{SymByte, pick_byte, poison_byte};
+pub use given::{arg_value, given_blocks, pick_block, pick_given};
 pub use inputs::{ArgTerms, ByteTerms, InputTerms, TapeTerms};
+pub use integers::{SymNumber, known_number, pick_number, poison_number};
 pub use numbers::{equals, less, less_signed, number, pick, resize};
 pub use outcome::OutcomeTerms;
 pub use truths::{both, either, implies, negation, truth};
-pub use values::{SymValue, arg_value, number_value, pick_value, poison_value};
+pub use values::{
+    SymValue, as_address, as_number, integer_value, null_value, pick_value, pointer_value,
+    poison_value,
+};

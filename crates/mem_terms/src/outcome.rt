@@ -1,14 +1,18 @@
+use crate::blocks::SymBlock;
 use crate::values::SymValue;
 use bv_terms::TermId;
+use support::Sequence;
 
 /// How a run ends: in undefined behaviour where `ub` is true, else past the bound on jumps where
-/// `beyond` is, and else in a return, with a value unless the function is `void`; how many words of
-/// the tape it read, as a term of 64 digits; and whether the tape is plain for it.
+/// `beyond` is, and else in a return, with a value unless the function is `void`, which leaves the
+/// given blocks so; how many words of the tape it read, as a term of 64 bits; and whether the tape
+/// is plain for it.
 #[derive(Drop)]
 pub struct OutcomeTerms {
     pub ub: TermId,
     pub beyond: TermId,
     pub value: Option<SymValue>,
+    pub blocks: Sequence<SymBlock>,
     pub read: TermId,
     pub plain: TermId,
 }

@@ -1,7 +1,6 @@
-use Rattle.std.proofs.Common.{true}
-use Rattle.mem_terms.proofs.Made.{value-made}
+use Rattle.mem_terms.proofs.SymValues.{poison-made}
 use Rattle.mem_terms.proofs.values.poison_value.Goals as goal
 
 pub returns-clause-stands : goal.returns-clause-stands
 returns-clause-stands c =
-    value-made c.number.new.terms c.truth.new.terms c.in_ok-poison.poison c.in_ok-number.number (λ _. true) (λ _. 0) 64 c.in_ok-number.ensures.made c.truth.ensures.kept c.in_ok-poison.ensures.made
+    poison-made c.truth-2.new.terms (record { poison = c.in_ok-poison.poison; is_pointer = c.in_ok-is_pointer.is_pointer; block = c.in_ok-zero.zero; number = c.in_ok-zero.zero }) c.in_ok-poison.ensures.made

@@ -1,0 +1,15 @@
+pub mod Bools
+pub mod Naming
+pub mod Putting
+pub mod BlockLengths
+pub mod Digits
+pub mod Parts
+pub mod ByteLists
+pub mod Finding
+pub mod Indices
+pub mod Joins
+pub mod Leading
+pub mod Memories
+pub mod Sized
+pub mod Stored
+pub mod Walked

@@ -1,0 +1,13 @@
+use Rattle.mem_terms.proofs.Later.{keeps_trans}
+use Rattle.access_terms.proofs.Joins.{joined_more}
+use Rattle.access_terms.proofs.joining.pick_memory.Goals as goal
+
+pub loop-alloc-preserved : goal.loop-alloc-preserved
+loop-alloc-preserved c = (
+  keeps_trans c.args.terms.now c.loop-alloc.terms c.join_next.new.terms c.loop-alloc.invariant.0 c.join_next.ensures.kept,
+  c.in_ok-joined.ensures.within,
+  c.in_ok-joined.ensures.made,
+  λ most ha hb. c.in_ok-joined.ensures.numbers most ha hb (c.loop-alloc.invariant.3 most ha hb),
+  λ r. joined_more r c.args.terms.now c.loop-alloc.terms c.join_next.new.terms c.args.c c.args.a.now c.args.b.now c.loop-alloc.picked c.join_next.new.picked c.loop-alloc.joined c.in_ok-joined.joined
+      c.loop-alloc.invariant.0 c.requires.c c.requires.a c.requires.b (c.in_ok-joined.ensures.stands r) (c.loop-alloc.invariant.4 r),
+)

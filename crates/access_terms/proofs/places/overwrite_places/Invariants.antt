@@ -1,0 +1,17 @@
+-- The bytes are put where the offset is one of the places so far.
+use Rattle.std.proofs.Common.{◌≡◌, ◌%◌, ◌&&◌, cond, nat_eq, nat_lt, length}
+use Rattle.bv_terms.specs.Trees.{Keeps, bit_at, term_at}
+use Rattle.mem_terms.specs.Values.{Reading}
+use Rattle.mem_terms.specs.Memory.{AreSymBytes, places_at}
+use Rattle.access_terms.specs.Places.{written}
+use Rattle.access_terms.proofs.places.overwrite_places.Given as goal
+
+abbrev pub invariant-loop-place : goal.invariant-loop-place
+invariant-loop-place l = record {
+  kept : Keeps l.fn.terms l.terms;
+  made : AreSymBytes l.terms l.places;
+  count : length l.places ≡ length l.fn.places;
+  stands : (r : Reading) → places_at r l.terms l.places
+      ≡ cond (bit_at r.v l.fn.terms l.c && (nat_lt (term_at r.v l.fn.terms l.offset) l.place && nat_eq (term_at r.v l.fn.terms l.offset % l.align) 0))
+      (written (places_at r l.fn.terms l.bytes) (term_at r.v l.fn.terms l.offset) (places_at r l.fn.terms l.fn.places)) (places_at r l.fn.terms l.fn.places);
+}

@@ -1,0 +1,32 @@
+use Rattle.std.proofs.Common.{◌≡◌, ◌-◌, ◌<◌, length, suc, arith}
+use Rattle.mem_terms.proofs.Eaches.{each-at}
+use Rattle.mem_terms.proofs.Later.{keeps_trans, sym_block-later}
+use Rattle.mem_terms.specs.Memory.{IsSymBlock}
+use Rattle.access_terms.proofs.Finding.{memory-end}
+use Rattle.access_terms.proofs.Sized.{size_front}
+use Rattle.access_terms.proofs.sizes.size_named.Goals as goal
+
+pub loop-i-init : goal.loop-i-init
+loop-i-init c = (
+  c.number.ensures.kept,
+  omega arith,
+  record { within = c.in_ok-size.ensures.made.within; wide = c.in_ok-size.ensures.made.wide },
+  λ r naming. rw (memory-end r c.args.terms.now c.args.memory.now (length c.args.memory.now) (omega arith)) (c.in_ok-size.ensures.made.says r.v),
+)
+
+pub size_with-requires-clause-b : goal.size_with-requires-clause-b
+size_with-requires-clause-b c =
+    sym_block-later c.args.terms.now c.loop-i.terms c.loop-i.invariant.0 c.index-memory-i.result
+    (each-at (IsSymBlock c.args.terms.now) c.args.memory.now (c.loop-i.i - 1) c.index-memory-i.result c.requires.memory (omega arith) c.index-memory-i.is)
+
+pub loop-i-preserved : goal.loop-i-preserved
+loop-i-preserved c =
+    let below : c.loop-i.i - 1 < length c.args.memory.now = omega arith in
+    let e : c.loop-i.i ≡ suc (c.loop-i.i - 1) = omega arith in (
+      keeps_trans c.args.terms.now c.loop-i.terms c.size_with.new.terms c.loop-i.invariant.0 c.size_with.ensures.kept,
+      omega arith,
+      c.in_ok-size-2.ensures.made,
+      λ r naming. size_front c.args.terms.now c.loop-i.terms c.size_with.new.terms c.args.block c.args.memory.now c.loop-i.i (c.loop-i.i - 1) c.index-memory-i.result c.loop-i.size c.in_ok-size-2.size e below c.index-memory-i.is
+          c.requires.block (each-at (IsSymBlock c.args.terms.now) c.args.memory.now (c.loop-i.i - 1) c.index-memory-i.result c.requires.memory below c.index-memory-i.is) c.loop-i.invariant.0 r
+          (c.loop-i.invariant.3 r naming) (c.in_ok-size-2.ensures.stands r naming),
+    )

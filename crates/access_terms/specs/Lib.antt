@@ -1,0 +1,5 @@
+pub mod Accesses
+pub mod Joining
+pub mod Offsets
+pub mod Places
+pub mod Spans

@@ -1,0 +1,6 @@
+use Rattle.mem_terms.proofs.GivenTerms.{given_byte-stands}
+use Rattle.mem_terms.proofs.given.given_byte.Goals as goal
+
+pub returns-clause-stands : goal.returns-clause-stands
+returns-clause-stands c =
+    given_byte-stands c.args.terms.now c.resize.new.terms c.args.b c.in_ok-block.block c.values_fit.ensures c.requires c.resize.ensures.kept c.in_ok-block.ensures.made

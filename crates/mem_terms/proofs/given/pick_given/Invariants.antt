@@ -1,0 +1,6 @@
+-- The blocks so far are the first ones of either list.
+use Rattle.mem_terms.proofs.GivenTerms.{PickedBlocks}
+use Rattle.mem_terms.proofs.given.pick_given.Given as goal
+
+abbrev pub invariant-loop-i : goal.invariant-loop-i
+invariant-loop-i l = PickedBlocks l.fn.terms l.terms l.c l.a l.b l.i l.picked.items

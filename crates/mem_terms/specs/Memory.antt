@@ -1,0 +1,79 @@
+-- What symbolic memory stands for under an assignment of the variables.
+use Rattle.std.specs.Prelude.{◌≡◌, ℕ, zero, suc, ◌+◌, ◌<◌, true, cond, nat_eq, List, [], ◌∷◌, length, map}
+use Rattle.byte_block.specs.declared.value.Ptr.{Ptr}
+use Rattle.byte_block.specs.declared.value.Byte.{Byte}
+use Rattle.byte_block.specs.declared.value.Byte.TheVariants.{Num, Part, Poison}
+use Rattle.byte_block.specs.declared.block.MemoryBlock.{MemoryBlock}
+use Rattle.bv_terms.specs.declared.term.Term.{Term}
+use Rattle.bv_terms.specs.Trees.{IsTerm, bit_at, term_at}
+use Rattle.mem_terms.specs.declared.bytes.SymByte.{SymByte}
+use Rattle.mem_terms.specs.declared.blocks.SymBlock.{SymBlock}
+use Rattle.mem_terms.specs.Values.{Each, Reading}
+
+-- ---- bytes
+
+-- kind 0 is a number, kind 1 a part of a pointer, and any other poison
+abbrev pub byte_of : (kind number : ℕ) → Ptr → (part : ℕ) → Byte
+byte_of kind number pointer part = cond (nat_eq kind 0) (Num number) (cond (nat_eq kind 1) (Part pointer part) Poison)
+
+unfoldable pub byte_at : Reading → List Term → SymByte → Byte
+byte_at r terms b = byte_of (term_at r.v terms b.kind) (term_at r.v terms b.number) (record { block = r.name (term_at r.v terms b.block); offset = term_at r.v terms b.offset }) (term_at r.v terms b.part)
+
+abbrev pub places_at : Reading → List Term → List SymByte → List Byte
+places_at r terms places = map (byte_at r terms) places
+
+pub record IsSymByte (terms : List Term) (b : SymByte) : Type 0 where
+  pub kind : IsTerm terms 2 b.kind
+  pub number : IsTerm terms 8 b.number
+  pub block : IsTerm terms 64 b.block
+  pub offset : IsTerm terms 64 b.offset
+  pub part : IsTerm terms 3 b.part
+
+abbrev pub AreSymBytes : List Term → List SymByte → Type 0
+AreSymBytes terms bytes = Each (IsSymByte terms) bytes
+
+-- ---- blocks
+
+unfoldable pub block_at : Reading → List Term → SymBlock → MemoryBlock
+block_at r terms b = record { name = r.name b.number; size = term_at r.v terms b.size; align = b.align; places = places_at r terms b.places }
+
+-- the blocks that exist, in order
+unfoldable pub memory_at : Reading → List Term → List SymBlock → List MemoryBlock
+memory_at r terms [] = []
+memory_at r terms (b ∷ bs) = cond (bit_at r.v terms b.exists) (block_at r terms b ∷ memory_at r terms bs) (memory_at r terms bs)
+
+-- 0 is the null block's number
+pub record IsSymBlock (terms : List Term) (b : SymBlock) : Type 0 where
+  pub numbered : 0 < b.number
+  pub exists : IsTerm terms 1 b.exists
+  pub size : IsTerm terms 64 b.size
+  pub places : AreSymBytes terms b.places
+
+abbrev pub AreSymBlocks : List Term → List SymBlock → Type 0
+AreSymBlocks terms blocks = Each (IsSymBlock terms) blocks
+
+-- ---- given blocks
+
+-- what is known of a block at once
+pub record SymFrame : Type 0 where
+  pub number : ℕ
+  pub align : ℕ
+  pub room : ℕ
+
+abbrev pub frame_of : SymBlock → SymFrame
+frame_of b = record { number = b.number; align = b.align; room = length b.places }
+
+-- it is there in every run
+abbrev pub IsAlways : List Term → SymBlock → Type 0
+IsAlways terms b = (v : ℕ → ℕ → ℕ) → bit_at v terms b.exists ≡ true
+
+-- so many blocks with room for so many bytes, and the numbers from the first on
+abbrev pub given_frames : (first blocks bytes : ℕ) → List SymFrame
+given_frames first zero bytes = []
+given_frames first (suc n) bytes = record { number = first; align = 16; room = bytes } ∷ given_frames (first + 1) n bytes
+
+-- the blocks that are given, with the numbers from 1 on
+pub record AreGivenBlocks (blocks bytes : ℕ) (terms : List Term) (bs : List SymBlock) : Type 0 where
+  pub are : AreSymBlocks terms bs
+  pub always : Each (IsAlways terms) bs
+  pub frames : map frame_of bs ≡ given_frames 1 blocks bytes
