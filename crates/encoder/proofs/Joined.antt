@@ -7,13 +7,15 @@ use Rattle.bv_terms.specs.declared.term.Term.{Term}
 use Rattle.bv_terms.specs.Tree.{truth}
 use Rattle.bv_terms.specs.Trees.{Keeps, Makes, IsTerm, term_at, bit_at}
 use Rattle.mem_terms.specs.declared.values.SymValue.{SymValue}
-use Rattle.mem_terms.specs.Values.{AreSymValues, IsSymValue, value_at, values_at}
+use Rattle.mem_terms.specs.Values.{AreSymValues, IsSymValue, Reading, value_at, values_at}
+use Rattle.mem_terms.specs.Memory.{memory_at}
 use Rattle.mem_terms.proofs.Eaches.{each-at, each-push, map-at, map-length, map-push}
-use Rattle.mem_terms.proofs.Later.{keeps_trans, bit-later, term-later, syms-later, value-later, values-later}
+use Rattle.mem_terms.proofs.Later.{keeps_trans, bit-later, term-later, sym_values-later, value-later, values-later}
 use Rattle.encoder.specs.declared.state.Tally.{Tally}
+use Rattle.encoder.specs.declared.state.RunMemory.{RunMemory}
 use Rattle.encoder.specs.declared.state.RunState.{RunState}
-use Rattle.encoder.specs.Runs.{Scene, IsState, IsTally, Counts, Carries}
-use Rattle.encoder.proofs.Lasting.{counts-later}
+use Rattle.encoder.specs.Runs.{Scene, IsState, IsTally, Counts, Carries, StateShape, Visit, shape_of, sight}
+use Rattle.encoder.proofs.Lasting.{counts-later, blocks_at-later}
 
 choice-push : (e : Bool) (xs ys : List Value) (x y : Value) → cond e xs ys ++ cond e x y ∷ [] ≡ cond e (xs ++ x ∷ []) (ys ++ y ∷ [])
 choice-push true xs ys x y = refl
@@ -27,26 +29,26 @@ take_push (y ∷ ys) (suc i) x d lt e = rw add-one (ap (λ zs. y ∷ zs) (rw add
 pub registers_more : (old a b : List Term) (c : TermId) (xs ys picked new : List SymValue) (i : ℕ) (x y r : SymValue) → IsTerm old 1 c
     → AreSymValues old xs → AreSymValues old ys → length ys ≡ length xs → i < length xs → x ≡ get_or xs i x → y ≡ get_or ys i y
     → Keeps old a → AreSymValues a picked → length picked ≡ i
-    → ((v : ℕ → ℕ → ℕ) → values_at v a picked ≡ cond (bit_at v old c) (take i (values_at v old xs)) (take i (values_at v old ys)))
-    → Keeps a b → IsSymValue b r → ((v : ℕ → ℕ → ℕ) → value_at v b r ≡ cond (bit_at v a c) (value_at v a x) (value_at v a y)) → new ≡ picked ++ r ∷ []
-    → Keeps old b × AreSymValues b new × (length new ≡ i + 1) × (i + 1 ≤ length xs) × ((v : ℕ → ℕ → ℕ) → values_at v b new ≡ cond (bit_at v old c) (take (i + 1) (values_at v old xs)) (take (i + 1) (values_at v old ys)))
+    → ((s : Reading) → values_at s a picked ≡ cond (bit_at s.v old c) (take i (values_at s old xs)) (take i (values_at s old ys)))
+    → Keeps a b → IsSymValue b r → ((s : Reading) → value_at s b r ≡ cond (bit_at s.v a c) (value_at s a x) (value_at s a y)) → new ≡ picked ++ r ∷ []
+    → Keeps old b × AreSymValues b new × (length new ≡ i + 1) × (i + 1 ≤ length xs) × ((s : Reading) → values_at s b new ≡ cond (bit_at s.v old c) (take (i + 1) (values_at s old xs)) (take (i + 1) (values_at s old ys)))
 registers_more old a b c xs ys picked new i x y r hc hxs hys len lt ix iy ka hp count so kb hr sr is =
     let hx = each-at (IsSymValue old) xs i x hxs lt ix in
     let hy = each-at (IsSymValue old) ys i y hys (omega arith) iy in (
       keeps_trans old a b ka kb,
-      subst (AreSymValues b) (sym is) (each-push (IsSymValue b) picked r (syms-later a b kb picked hp) hr),
+      subst (AreSymValues b) (sym is) (each-push (IsSymValue b) picked r (sym_values-later a b kb picked hp) hr),
       ap length is ∙ omega (arith, count, length-append picked (r ∷ [])),
       omega (arith, lt),
-      λ v.
-          let e_r : value_at v b r ≡ cond (bit_at v old c) (value_at v old x) (value_at v old y) =
-          sr v ∙ rw (bit-later old a ka v c hc.within, value-later old a ka v x hx, value-later old a ka v y hy) refl in
-          ap (values_at v b) is ∙ (map-push (value_at v b) picked r
-          ∙ (ap (λ zs. zs ++ value_at v b r ∷ []) (values-later a b kb v picked hp ∙ so v)
-          ∙ (ap (λ z. cond (bit_at v old c) (take i (values_at v old xs)) (take i (values_at v old ys)) ++ z ∷ []) e_r
-          ∙ (choice-push (bit_at v old c) (take i (values_at v old xs)) (take i (values_at v old ys)) (value_at v old x) (value_at v old y)
+      λ s.
+          let e_r : value_at s b r ≡ cond (bit_at s.v old c) (value_at s old x) (value_at s old y) =
+          sr s ∙ rw (bit-later old a ka s.v c hc.within, value-later old a ka s x hx, value-later old a ka s y hy) refl in
+          ap (values_at s b) is ∙ (map-push (value_at s b) picked r
+          ∙ (ap (λ zs. zs ++ value_at s b r ∷ []) (values-later a b kb s picked hp ∙ so s)
+          ∙ (ap (λ z. cond (bit_at s.v old c) (take i (values_at s old xs)) (take i (values_at s old ys)) ++ z ∷ []) e_r
+          ∙ (choice-push (bit_at s.v old c) (take i (values_at s old xs)) (take i (values_at s old ys)) (value_at s old x) (value_at s old y)
           ∙ rw (
-            take_push (values_at v old xs) i (value_at v old x) (value_at v old x) (omega (arith, map-length (value_at v old) xs)) (map-at (value_at v old) xs i x (value_at v old x) lt ix),
-            take_push (values_at v old ys) i (value_at v old y) (value_at v old y) (omega (arith, map-length (value_at v old) ys)) (map-at (value_at v old) ys i y (value_at v old y) (omega arith) iy),
+            take_push (values_at s old xs) i (value_at s old x) (value_at s old x) (omega (arith, map-length (value_at s old) xs)) (map-at (value_at s old) xs i x (value_at s old x) lt ix),
+            take_push (values_at s old ys) i (value_at s old y) (value_at s old y) (omega (arith, map-length (value_at s old) ys)) (map-at (value_at s old) ys i y (value_at s old y) (omega arith) iy),
           ) refl)))),
     )
 
@@ -64,32 +66,40 @@ module _ (old a b : List Term) (c read fits : TermId) (s t : Tally) (m n : ℕ) 
     fits = ap truth (mf.says g.v) ∙ rw (bit-later old a ka g.v c hc.within, none) (bit-later old a ka g.v t.fits ht.fits.within ∙ k.fits);
   }
 
-module _ (old a b d : List Term) (edge into : RunState) (alive : TermId) (tally : Tally) (registers : List SymValue) (most : ℕ) (he : IsState old edge) (hi : IsState old into)
-    (ka : Keeps old a) (kb : Keeps a b) (kd : Keeps b d) (greatest : most ≡ max edge.most into.most) (ht : IsTally b tally)
-    (sd : (v : ℕ → ℕ → ℕ) → values_at v d registers ≡ cond (bit_at v b edge.alive) (values_at v b edge.registers) (values_at v b into.registers)) where
+module _ (old a b d e : List Term) (edge into : RunState) (alive : TermId) (tally : Tally) (registers : List SymValue) (memory : RunMemory) (most : ℕ) (he : IsState old edge) (hi : IsState old into) (shape : shape_of into ≡ shape_of edge)
+    (ka : Keeps old a) (kb : Keeps a b) (kd : Keeps b d) (ke : Keeps d e) (greatest : most ≡ max edge.most into.most) (ht : IsTally b tally) (hr : AreSymValues d registers) (given : memory.given ≡ edge.memory.given)
+    (sd : (s : Reading) → values_at s d registers ≡ cond (bit_at s.v b edge.alive) (values_at s b edge.registers) (values_at s b into.registers))
+    (se : (r : Reading) → memory_at r e memory.blocks ≡ cond (bit_at r.v d edge.alive) (memory_at r d edge.memory.blocks) (memory_at r d into.memory.blocks)) where
   abbrev joined : RunState
-  joined = record { alive = alive; registers = registers; tally = tally; most = most }
+  joined = record { alive = alive; registers = registers; memory = memory; tally = tally; most = most }
+
+  kab : Keeps old b
+  kab = keeps_trans old a b ka kb
+
+  kad : Keeps old d
+  kad = keeps_trans old b d kab kd
+
+  kbe : Keeps b e
+  kbe = keeps_trans b d e kd ke
 
   pub join_goes : ((g : Scene) (made : List ℕ) → bit_at g.v a edge.alive ≡ true → Counts g a edge.tally made → Counts g b tally made)
-      → (g : Scene) (label : ℕ) (m : Machine) → bit_at g.v old edge.alive ≡ true → Carries g old label edge m → Carries g d label joined m
-  join_goes st g label m held h =
-      let kab = keeps_trans old a b ka kb in
-      record {
-        registers = sd g.v ∙ rw (bit-later old b kab g.v edge.alive he.alive.within, held) (values-later old b kab g.v edge.registers he.registers ∙ h.registers);
-        tally = counts-later b d kd g tally m.taken ht (st g m.taken (bit-later old a ka g.v edge.alive he.alive.within ∙ held) (counts-later old a ka g edge.tally m.taken he.tally h.tally));
-        most = rw greatest (omega (arith, h.most));
-        memory = h.memory;
-        block = h.block;
-      }
+      → (g : Scene) (at : Visit) (m : Machine) → bit_at g.v old edge.alive ≡ true → Carries g old at edge m → Carries g e at joined m
+  join_goes st g at m held h = record {
+    registers = values-later d e ke (sight g) registers hr ∙ (sd (sight g) ∙ rw (bit-later old b kab g.v edge.alive he.alive.within, held) (values-later old b kab (sight g) edge.registers he.registers ∙ h.registers));
+    given = given ∙ h.given;
+    memory = se (sight g) ∙ rw (bit-later old d kad g.v edge.alive he.alive.within, held) (blocks_at-later old d kad (sight g) edge.memory he.memory ∙ h.memory);
+    tally = counts-later b e kbe g tally m.taken ht (st g m.taken (bit-later old a ka g.v edge.alive he.alive.within ∙ held) (counts-later old a ka g edge.tally m.taken he.tally h.tally));
+    most = rw greatest (omega (arith, h.most));
+    visit = h.visit;
+  }
 
   pub join_stays : ((g : Scene) (made : List ℕ) → bit_at g.v a edge.alive ≡ false → Counts g a into.tally made → Counts g b tally made)
-      → (g : Scene) (label : ℕ) (m : Machine) → bit_at g.v old edge.alive ≡ false → Carries g old label into m → Carries g d label joined m
-  join_stays st g label m none h =
-      let kab = keeps_trans old a b ka kb in
-      record {
-        registers = sd g.v ∙ rw (bit-later old b kab g.v edge.alive he.alive.within, none) (values-later old b kab g.v into.registers hi.registers ∙ h.registers);
-        tally = counts-later b d kd g tally m.taken ht (st g m.taken (bit-later old a ka g.v edge.alive he.alive.within ∙ none) (counts-later old a ka g into.tally m.taken hi.tally h.tally));
-        most = rw greatest (omega (arith, h.most));
-        memory = h.memory;
-        block = h.block;
-      }
+      → (g : Scene) (at : Visit) (m : Machine) → bit_at g.v old edge.alive ≡ false → Carries g old at into m → Carries g e at joined m
+  join_stays st g at m none h = record {
+    registers = values-later d e ke (sight g) registers hr ∙ (sd (sight g) ∙ rw (bit-later old b kab g.v edge.alive he.alive.within, none) (values-later old b kab (sight g) into.registers hi.registers ∙ h.registers));
+    given = given ∙ (ap (λ (x : StateShape). x.given) (sym shape) ∙ h.given);
+    memory = se (sight g) ∙ rw (bit-later old d kad g.v edge.alive he.alive.within, none) (blocks_at-later old d kad (sight g) into.memory hi.memory ∙ h.memory);
+    tally = counts-later b e kbe g tally m.taken ht (st g m.taken (bit-later old a ka g.v edge.alive he.alive.within ∙ none) (counts-later old a ka g into.tally m.taken hi.tally h.tally));
+    most = rw greatest (omega (arith, h.most));
+    visit = h.visit;
+  }

@@ -1,8 +1,8 @@
 -- A block is left.
 use Rattle.std.proofs.Common.{ℕ, zero, suc, ◌≡◌, ◌<◌, ◌≤◌, ◌+◌, ◌%◌, ◌^◌, Bool, true, false, cond, not, ◌&&◌, nat_eq, if◌then◌else◌, List, [], ◌∷◌, ◌++◌, length, map, take, get_or, Option, Some, None, inl, inr, refl, ap, sym, subst, ◌∙◌, arith, add-one}
 use Rattle.std.specs.Prelude.{slice_get, slice_index_or}
-use Rattle.std.specs.Option.{option_map, option_map_or}
-use Rattle.std.specs.List.{find, filter}
+use Rattle.std.specs.Option.{option_map_or}
+use Rattle.std.specs.List.{find}
 use Rattle.std.proofs.lemmas.Bool.{cases_Bool}
 use Rattle.std.proofs.lemmas.List.{take_all}
 use Rattle.ir_tree.specs.declared.tree.Case.{Case}
@@ -12,8 +12,8 @@ use Rattle.byte_block.specs.declared.value.Value.{Value}
 use Rattle.byte_block.specs.declared.value.Value.TheVariants as value
 use Rattle.byte_block.specs.declared.value.Value.TheVariants.{Num, Poison}
 use Rattle.points.specs.declared.machine.Machine.{Machine}
-use Rattle.points.specs.declared.outcome.Outcome.TheVariants.{Return, Ub}
-use Rattle.points.specs.Run.{Run, branch_on, ended, is_given, is_poison, switch_on}
+use Rattle.points.specs.declared.outcome.Outcome.TheVariants.{Ub}
+use Rattle.points.specs.Run.{branch_on, ended, switch_on}
 use Rattle.unroll.specs.declared.layered.Edge.{Edge}
 use Rattle.unroll.specs.declared.layered.Edge.TheVariants.{Nowhere}
 use Rattle.unroll.specs.declared.layered.BlockCopy.{BlockCopy}
@@ -21,64 +21,27 @@ use Rattle.unroll.specs.Layers.{Where, Done, along, edge_of, left_by}
 use Rattle.bv_terms.specs.declared.term.TermId.{TermId}
 use Rattle.bv_terms.specs.declared.term.Term.{Term}
 use Rattle.bv_terms.specs.Tree.{truth}
-use Rattle.bv_terms.specs.Trees.{Keeps, Tests, IsTerm, bit_at, term_at}
-use Rattle.mem_terms.specs.declared.values.SymValue.{SymValue}
-use Rattle.mem_terms.specs.Values.{value_at, value_from}
+use Rattle.bv_terms.specs.Trees.{Keeps, IsTerm, bit_at, term_at}
+use Rattle.mem_terms.specs.declared.integers.SymNumber.{SymNumber}
+use Rattle.mem_terms.specs.Values.{number_at, value_from}
 use Rattle.mem_terms.proofs.Later.{bit-later, term-later}
-use Rattle.encoder.specs.declared.state.Tally.{Tally}
 use Rattle.encoder.specs.declared.state.RunState.{RunState}
 use Rattle.encoder.specs.declared.frontier.Frontier.{Frontier}
-use Rattle.encoder.specs.Runs.{Scene, IsState, Counts, Carries}
-use Rattle.encoder.specs.Frontier.{AreByLabel, IsFrontier, Tells, Moves, branched, placed, switched_on}
-use Rattle.encoder.proofs.Lasting.{state-later, tells-later}
+use Rattle.encoder.specs.Runs.{Scene, IsState, Visit}
+use Rattle.encoder.specs.Frontier.{AreByLabel, IsFrontier, Moves, branched, placed, switched_on}
+use Rattle.encoder.proofs.Lasting.{state-later}
 use Rattle.encoder.proofs.Moving.{moves_to, moves_later, moves_choice, edge_of_label, switched, switched_push, switched_is, take_push}
 
 -- ---- one way or the other
 
-module _ (g : Scene) (label : ℕ) (s : RunState) where
+module _ (g : Scene) (visit : Visit) (s : RunState) where
   pub split_moves : (old a b d : List Term) (ka : Keeps old a) (kb : Keeps a b) (before between after : Frontier) (c on off : TermId) (test : Bool) (to1 to2 : Machine → Where) → IsFrontier old before → IsState old s → IsTerm old 1 c → IsTerm a 1 off
       → bit_at g.v a on ≡ (bit_at g.v old c && test) → bit_at g.v a off ≡ (bit_at g.v old c && not test)
-      → Moves g a b before between on label s to1 → Moves g b d between after off label s to2 → Moves g old d before after c label s (λ (m : Machine). cond test (to1 m) (to2 m))
+      → Moves g a b before between on visit s to1 → Moves g b d between after off visit s to2 → Moves g old d before after c visit s (λ (m : Machine). cond test (to1 m) (to2 m))
   split_moves old a b d ka kb before between after c on off test to1 to2 hb hs hc hoff e1 e2 m1 m2 =
       let same = bit-later old a ka g.v c hc.within in
-      moves_later g label s old a d ka before after c (λ (m : Machine). cond test (to1 m) (to2 m)) hb hs hc
-      (moves_choice g label s a b d kb before between after c on off test to1 to2 (state-later old a ka s hs) hoff (e1 ∙ ap (λ x. x && test) (sym same)) (e2 ∙ ap (λ x. x && not test) (sym same)) m1 m2)
-
--- ---- returns
-
-number_value_at : (v : ℕ → ℕ → ℕ) (terms : List Term) (poison number : TermId) (n : ℕ) → bit_at v terms poison ≡ false → term_at v terms number ≡ n → value_at v terms (record { poison = poison; number = number }) ≡ Num n
-unfolding value_at
-number_value_at v terms poison number n e f = rw (e, f) refl
-
-pub chosen_value : (v : ℕ → ℕ → ℕ) (a b : List Term) (k : Keeps a b) (poison number : TermId) (n : ℕ) → IsTerm a 64 number → Tests b poison (λ _. false) → term_at v a number ≡ n → value_at v b (record { poison = poison; number = number }) ≡ Num n
-chosen_value v a b k poison number n hn t e = number_value_at v b poison number n (t.says v) (term-later a b k v number hn.within ∙ e)
-
-pub poison_bit : (v : ℕ → ℕ → ℕ) (terms : List Term) (s : SymValue) → is_poison (value_at v terms s) ≡ bit_at v terms s.poison
-unfolding value_at
-poison_bit v terms s = by (bit_at v terms s.poison)
-  where
-    by : (p : Bool) → is_poison (value_from p (term_at v terms s.number)) ≡ p
-    by true = refl
-    by false = refl
-
-pub done_if : (p : Bool) (x y : Run) → cond p (Done x) (Done y) ≡ Done (if p then x else y)
-done_if true x y = refl
-done_if false x y = refl
-
-pub moves_return : (g : Scene) (label : ℕ) (s : RunState) (old a b : List Term) (ka : Keeps old a) (before after : Frontier) (hb : IsFrontier old before) (c : TermId) (hc : IsTerm old 1 c) (value : Option SymValue) (tally : Tally) (x : Machine → Option Value) (taken : Machine → List ℕ)
-    → ((at : Option Where) → bit_at g.v a c ≡ false → Tells g a before at → Tells g b after at)
-    → ((made : List ℕ) → bit_at g.v a c ≡ true → Counts g a tally made → Tells g a before None → Tells g b after (Some (Done (record { outcome = Return (option_map (value_at g.v a) value) (filter is_given g.memory); taken = made }))))
-    → ((m : Machine) → bit_at g.v old c ≡ true → Carries g old label s m → Counts g a tally (taken m) × (option_map (value_at g.v a) value ≡ x m))
-    → Moves g old b before after c label s (λ (m : Machine). Done (record { outcome = Return (x m) (filter is_given m.memory); taken = taken m }))
-moves_return g label s old a b ka before after hb c hc value tally x taken st go so =
-    let same = bit-later old a ka g.v c hc.within in
-    record {
-      stays = λ at none sh. st at (same ∙ none) (tells-later old a ka g before at hb sh);
-      goes = λ m held h sh.
-          let it = so m held h in
-          let e : Done (record { outcome = Return (option_map (value_at g.v a) value) (filter is_given g.memory); taken = taken m }) ≡ Done (record { outcome = Return (x m) (filter is_given m.memory); taken = taken m }) = rw (it.1, h.memory) refl in
-          subst (λ (w : Where). Tells g b after (Some w)) e (go (taken m) (same ∙ held) it.0 (tells-later old a ka g before None hb sh));
-    }
+      moves_later g visit s old a d ka before after c (λ (m : Machine). cond test (to1 m) (to2 m)) hb hs hc
+      (moves_choice g visit s a b d kb before between after c on off test to1 to2 (state-later old a ka s hs) hoff (e1 ∙ ap (λ x. x && test) (sym same)) (e2 ∙ ap (λ x. x && not test) (sym same)) m1 m2)
 
 -- ---- branches
 
@@ -99,9 +62,9 @@ branch_at f copies ahead false n x e1 e2 m is = subst (λ (y : Value). cond (nat
     by true = refl
     by false = refl
 
-pub branch_is : (v : ℕ → ℕ → ℕ) (terms : List Term) (s : SymValue) (f : Function) (copies : List BlockCopy) (ahead : ℕ) (x : Value) (e1 e2 : Edge) (m : Machine) (t : Bool) → value_at v terms s ≡ x → t ≡ nat_eq (term_at v terms s.number % 2) 1
+pub branch_is : (v : ℕ → ℕ → ℕ) (terms : List Term) (s : SymNumber) (f : Function) (copies : List BlockCopy) (ahead : ℕ) (x : Value) (e1 e2 : Edge) (m : Machine) (t : Bool) → number_at v terms s ≡ x → t ≡ nat_eq (term_at v terms s.number % 2) 1
     → cond (bit_at v terms s.poison) (Done (ended Ub m)) (cond t (placed f copies ahead (along e1 m)) (placed f copies ahead (along e2 m))) ≡ placed f copies ahead (branched x e1 e2 m)
-unfolding value_at
+unfolding number_at
 branch_is v terms s f copies ahead x e1 e2 m t is e = rw e (branch_at f copies ahead (bit_at v terms s.poison) (term_at v terms s.number) x e1 e2 m is)
 
 -- ---- switches
@@ -112,35 +75,35 @@ switch_at f copies ahead width true n x edge default cases m is = subst (λ (y :
 switch_at f copies ahead width false n x edge default cases m is =
     subst (λ (y : Value). placed f copies ahead (along (option_map_or edge (find (λ (c : Case). nat_eq (c.value % 2 ^ width) (n % 2 ^ width)) cases) default) m) ≡ placed f copies ahead (switched_on width y edge default cases m)) is refl
 
-pub switch_is : (v : ℕ → ℕ → ℕ) (terms : List Term) (s : SymValue) (f : Function) (copies : List BlockCopy) (ahead width number : ℕ) (x : Value) (edge : Case → Edge) (default : Edge) (cases : List Case) (m : Machine) → value_at v terms s ≡ x → number ≡ term_at v terms s.number % 2 ^ width
+pub switch_is : (v : ℕ → ℕ → ℕ) (terms : List Term) (s : SymNumber) (f : Function) (copies : List BlockCopy) (ahead width number : ℕ) (x : Value) (edge : Case → Edge) (default : Edge) (cases : List Case) (m : Machine) → number_at v terms s ≡ x → number ≡ term_at v terms s.number % 2 ^ width
     → cond (bit_at v terms s.poison) (Done (ended Ub m)) (placed f copies ahead (along (option_map_or edge (find (λ (c : Case). nat_eq (c.value % 2 ^ width) number) cases) default) m)) ≡ placed f copies ahead (switched_on width x edge default cases m)
-unfolding value_at
+unfolding number_at
 switch_is v terms s f copies ahead width number x edge default cases m is e = rw e (switch_at f copies ahead width (bit_at v terms s.poison) (term_at v terms s.number) x edge default cases m is)
 
-module _ (g : Scene) (label : ℕ) (s : RunState) (f : Function) (copies : List BlockCopy) (ahead : ℕ) (hit : Case → Bool) (edge : Case → Edge) where
+module _ (g : Scene) (visit : Visit) (s : RunState) (f : Function) (copies : List BlockCopy) (ahead : ℕ) (hit : Case → Bool) (edge : Case → Edge) where
   abbrev place : Edge → Machine → Where
   place e m = placed f copies ahead (along e m)
 
   pub cases_step : (old l a b new : List Term) (ka : Keeps l a) (kb : Keeps a b) (start w between after : Frontier) (c left here rest : TermId) (cases : List Case) (i : ℕ) (case : Case) (e : Edge) (to : Machine → Where)
       → IsFrontier l w → IsState l s → IsTerm l 1 left → IsTerm a 1 rest → i < length cases → case ≡ get_or cases i case → e ≡ edge case
       → bit_at g.v a here ≡ (bit_at g.v l left && hit case) → bit_at g.v a rest ≡ (bit_at g.v l left && not (hit case))
-      → Moves g a b w between here label s (λ (m : Machine). placed f copies ahead (along e m))
-      → ((to' : Machine → Where) → Moves g l new w after left label s to' → Moves g old new start after c label s (switched hit (λ (x : Case). place (edge x)) to' (take i cases)))
-      → Moves g b new between after rest label s to → Moves g old new start after c label s (switched hit (λ (x : Case). place (edge x)) to (take (i + 1) cases))
+      → Moves g a b w between here visit s (λ (m : Machine). placed f copies ahead (along e m))
+      → ((to' : Machine → Where) → Moves g l new w after left visit s to' → Moves g old new start after c visit s (switched hit (λ (x : Case). place (edge x)) to' (take i cases)))
+      → Moves g b new between after rest visit s to → Moves g old new start after c visit s (switched hit (λ (x : Case). place (edge x)) to (take (i + 1) cases))
   cases_step old l a b new ka kb start w between after c left here rest cases i case e to hw hs hl hr lt is same e1 e2 m1 so m2 =
       let go : Case → Machine → Where = λ (x : Case). place (edge x) in
       let to' : Machine → Where = λ (m : Machine). cond (hit case) (place e m) (to m) in
-      let one = split_moves g label s l a b new ka kb w between after left here rest (hit case) (place e) to hw hs hl hr e1 e2 m1 m2 in
+      let one = split_moves g visit s l a b new ka kb w between after left here rest (hit case) (place e) to hw hs hl hr e1 e2 m1 m2 in
       let more : take (i + 1) cases ≡ take i cases ++ case ∷ [] = take_push cases i case lt is in
-      moves_to g label s old new start after c (switched hit go to' (take i cases)) (switched hit go to (take (i + 1) cases))
+      moves_to g visit s old new start after c (switched hit go to' (take i cases)) (switched hit go to (take (i + 1) cases))
       (λ m h. ap (λ (x : Edge). switched hit go (λ (y : Machine). cond (hit case) (place x y) (to y)) (take i cases) m) same ∙ (switched_push hit go to (take i cases) case m ∙ ap (λ (cs : List Case). switched hit go to cs m) (sym more)))
       (so to' one)
 
   pub cases_end : (old l new : List Term) (start w after : Frontier) (c left : TermId) (cases : List Case) (i : ℕ) (e default : Edge) → length cases ≤ i → e ≡ default
-      → ((to' : Machine → Where) → Moves g l new w after left label s to' → Moves g old new start after c label s (switched hit (λ (x : Case). place (edge x)) to' (take i cases)))
-      → Moves g l new w after left label s (λ (m : Machine). placed f copies ahead (along e m)) → Moves g old new start after c label s (λ (m : Machine). placed f copies ahead (along (option_map_or edge (find hit cases) default) m))
+      → ((to' : Machine → Where) → Moves g l new w after left visit s to' → Moves g old new start after c visit s (switched hit (λ (x : Case). place (edge x)) to' (take i cases)))
+      → Moves g l new w after left visit s (λ (m : Machine). placed f copies ahead (along e m)) → Moves g old new start after c visit s (λ (m : Machine). placed f copies ahead (along (option_map_or edge (find hit cases) default) m))
   cases_end old l new start w after c left cases i e default past same so m =
-      moves_to g label s old new start after c (switched hit (λ (x : Case). place (edge x)) (place e) (take i cases)) (λ (x : Machine). place (option_map_or edge (find hit cases) default) x)
+      moves_to g visit s old new start after c (switched hit (λ (x : Case). place (edge x)) (place e) (take i cases)) (λ (x : Machine). place (option_map_or edge (find hit cases) default) x)
       (λ x h. ap (λ (d : Edge). switched hit (λ (y : Case). place (edge y)) (place d) (take i cases) x) same ∙ (ap (λ (cs : List Case). switched hit (λ (y : Case). place (edge y)) (place default) cs x) (take_all i cases past) ∙ switched_is hit place edge default cases x))
       (so (place e) m)
 

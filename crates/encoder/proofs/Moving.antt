@@ -22,29 +22,29 @@ use Rattle.encoder.specs.declared.state.Tally.{Tally}
 use Rattle.encoder.specs.declared.state.RunState.{RunState}
 use Rattle.encoder.specs.declared.ending.Ending.{Ending}
 use Rattle.encoder.specs.declared.frontier.Frontier.{Frontier}
-use Rattle.encoder.specs.Runs.{Scene, IsState, Counts, Carries}
+use Rattle.encoder.specs.Runs.{Scene, IsState, Counts, Carries, Visit, visit_of}
 use Rattle.encoder.specs.Frontier.{EndTells, AheadTells, IsFrontier, Tells, Moves, placed}
-use Rattle.encoder.proofs.Lasting.{carries-later, tells-later, ahead_tells-later, end_tells-later}
+use Rattle.encoder.proofs.Lasting.{carries-later, carries_there, tells-later, ahead_tells-later, end_tells-later}
 
 -- ---- moves, one after another
 
-module _ (g : Scene) (label : ℕ) (s : RunState) where
+module _ (g : Scene) (visit : Visit) (s : RunState) where
   -- where it goes may be told otherwise
-  pub moves_to : (old new : List Term) (before after : Frontier) (c : TermId) (to to' : Machine → Where) → ((m : Machine) → Carries g old label s m → to m ≡ to' m) → Moves g old new before after c label s to → Moves g old new before after c label s to'
+  pub moves_to : (old new : List Term) (before after : Frontier) (c : TermId) (to to' : Machine → Where) → ((m : Machine) → Carries g old visit s m → to m ≡ to' m) → Moves g old new before after c visit s to → Moves g old new before after c visit s to'
   moves_to old new before after c to to' same m = record {
     stays = m.stays;
     goes = λ x held h sh. subst (λ (w : Where). Tells g new after (Some w)) (same x h) (m.goes x held h sh);
   }
 
   -- terms may be made before
-  pub moves_later : (old mid new : List Term) (k : Keeps old mid) (before after : Frontier) (c : TermId) (to : Machine → Where) → IsFrontier old before → IsState old s → IsTerm old 1 c → Moves g mid new before after c label s to → Moves g old new before after c label s to
+  pub moves_later : (old mid new : List Term) (k : Keeps old mid) (before after : Frontier) (c : TermId) (to : Machine → Where) → IsFrontier old before → IsState old s → IsTerm old 1 c → Moves g mid new before after c visit s to → Moves g old new before after c visit s to
   moves_later old mid new k before after c to hb hs hc m = record {
     stays = λ at none sh. m.stays at (bit-later old mid k g.v c hc.within ∙ none) (tells-later old mid k g before at hb sh);
-    goes = λ x held h sh. m.goes x (bit-later old mid k g.v c hc.within ∙ held) (carries-later old mid k g label s x hs h) (tells-later old mid k g before None hb sh);
+    goes = λ x held h sh. m.goes x (bit-later old mid k g.v c hc.within ∙ held) (carries-later old mid k g visit s x hs h) (tells-later old mid k g before None hb sh);
   }
 
   -- and after
-  pub moves_sooner : (old mid new : List Term) (k : Keeps mid new) (before after : Frontier) (c : TermId) (to : Machine → Where) → IsFrontier mid after → Moves g old mid before after c label s to → Moves g old new before after c label s to
+  pub moves_sooner : (old mid new : List Term) (k : Keeps mid new) (before after : Frontier) (c : TermId) (to : Machine → Where) → IsFrontier mid after → Moves g old mid before after c visit s to → Moves g old new before after c visit s to
   moves_sooner old mid new k before after c to ha m = record {
     stays = λ at none sh. tells-later mid new k g after at ha (m.stays at none sh);
     goes = λ x held h sh. tells-later mid new k g after (Some (to x)) ha (m.goes x held h sh);
@@ -53,18 +53,18 @@ module _ (g : Scene) (label : ℕ) (s : RunState) where
   -- one way or the other
   pub moves_choice : (old mid new : List Term) (k : Keeps old mid) (before between after : Frontier) (c c1 c2 : TermId) (test : Bool) (to1 to2 : Machine → Where) → IsState old s → IsTerm old 1 c2
       → bit_at g.v old c1 ≡ (bit_at g.v old c && test) → bit_at g.v old c2 ≡ (bit_at g.v old c && not test)
-      → Moves g old mid before between c1 label s to1 → Moves g mid new between after c2 label s to2 → Moves g old new before after c label s (λ (m : Machine). cond test (to1 m) (to2 m))
+      → Moves g old mid before between c1 visit s to1 → Moves g mid new between after c2 visit s to2 → Moves g old new before after c visit s (λ (m : Machine). cond test (to1 m) (to2 m))
   moves_choice old mid new k before between after c c1 c2 test to1 to2 hs hc e1 e2 m1 m2 = record {
     stays = λ at none sh.
         m2.stays at (bit-later old mid k g.v c2 hc.within ∙ (e2 ∙ ap (λ b. b && not test) none)) (m1.stays at (e1 ∙ ap (λ b. b && test) none) sh);
     goes = λ x held h sh. by x held h sh test refl;
   }
     where
-      by : (x : Machine) → bit_at g.v old c ≡ true → Carries g old label s x → Tells g old before None → (t : Bool) → test ≡ t → Tells g new after (Some (cond t (to1 x) (to2 x)))
+      by : (x : Machine) → bit_at g.v old c ≡ true → Carries g old visit s x → Tells g old before None → (t : Bool) → test ≡ t → Tells g new after (Some (cond t (to1 x) (to2 x)))
       by x held h sh true is =
           m2.stays (Some (to1 x)) (bit-later old mid k g.v c2 hc.within ∙ (e2 ∙ rw (held, is) refl)) (m1.goes x (e1 ∙ rw (held, is) refl) h sh)
       by x held h sh false is =
-          m2.goes x (bit-later old mid k g.v c2 hc.within ∙ (e2 ∙ rw (held, is) refl)) (carries-later old mid k g label s x hs h) (m1.stays None (e1 ∙ rw (held, is) refl) sh)
+          m2.goes x (bit-later old mid k g.v c2 hc.within ∙ (e2 ∙ rw (held, is) refl)) (carries-later old mid k g visit s x hs h) (m1.stays None (e1 ∙ rw (held, is) refl) sh)
 
 -- ---- ends
 
@@ -78,21 +78,21 @@ module _ (old new : List Term) (k : Keeps old new) (before : Frontier) (hb : IsF
       → (g : Scene) (made : List ℕ) → bit_at g.v old c ≡ true → Counts g old tally made → Tells g old before None → Tells g new (record { ahead = before.ahead; ending = e }) (Some (Done (run g made)))
   end_goes tally run go g made held k' sh = record { ahead = ahead_tells-later old new k g before.ahead None hb.ahead sh.ahead; ending = go g made held k' sh.ending }
 
-pub moves_end : (old new : List Term) (before after : Frontier) (c : TermId) (s : RunState) (label : ℕ) (o : Outcome)
+pub moves_end : (old new : List Term) (before after : Frontier) (c : TermId) (s : RunState) (visit : Visit) (o : Outcome)
     → ((g : Scene) (at : Option Where) → bit_at g.v old c ≡ false → Tells g old before at → Tells g new after at)
     → ((g : Scene) (made : List ℕ) → bit_at g.v old c ≡ true → Counts g old s.tally made → Tells g old before None → Tells g new after (Some (Done (record { outcome = o; taken = made }))))
-    → (g : Scene) → Moves g old new before after c label s (λ (m : Machine). Done (ended o m))
-moves_end old new before after c s label o st go g = record { stays = st g; goes = λ m held h sh. go g m.taken held h.tally sh }
+    → (g : Scene) → Moves g old new before after c visit s (λ (m : Machine). Done (ended o m))
+moves_end old new before after c s visit o st go g = record { stays = st g; goes = λ m held h sh. go g m.taken held h.tally sh }
 
 -- ---- arrivals
 
 pub moves_arrive : (old mid new : List Term) (ka : Keeps old mid) (kb : Keeps mid new) (before : Frontier) (hb : IsFrontier old before) (ahead : List (Option RunState)) (c : TermId) (hc : IsTerm old 1 c) (label : ℕ) (s : RunState) (edge : RunState) (n : ℕ) (block : Block)
     → edge.alive ≡ c
-    → ((g : Scene) (m : Machine) (turn : ℕ) → Carries g old label s m → Carries g mid block.label edge (entered block (record m { turn = turn })))
+    → ((g : Scene) (m : Machine) (from to : ℕ) → Carries g old (record { label = label; turn = from }) s m → Carries g mid (record { label = block.label; turn = to }) edge (entered block (record m { turn = to })))
     → ((g : Scene) (at : Option Where) → bit_at g.v mid edge.alive ≡ false → AheadTells g mid before.ahead at → AheadTells g new ahead at)
-    → ((g : Scene) (m : Machine) → bit_at g.v mid edge.alive ≡ true → Carries g mid m.block edge m → AheadTells g mid before.ahead None → AheadTells g new ahead (Some (At n m)))
-    → (g : Scene) (turn : ℕ) → Moves g old new before (record { ahead = ahead; ending = before.ending }) c label s (λ (m : Machine). At n (entered block (record m { turn = turn })))
-moves_arrive old mid new ka kb before hb ahead c hc label s edge n block is carries st go g turn =
+    → ((g : Scene) (m : Machine) → bit_at g.v mid edge.alive ≡ true → Carries g mid (visit_of m) edge m → AheadTells g mid before.ahead None → AheadTells g new ahead (Some (At n m)))
+    → (g : Scene) (from to : ℕ) → Moves g old new before (record { ahead = ahead; ending = before.ending }) c (record { label = label; turn = from }) s (λ (m : Machine). At n (entered block (record m { turn = to })))
+moves_arrive old mid new ka kb before hb ahead c hc label s edge n block is carries st go g from to =
     let k = keeps_trans old mid new ka kb in
     let bit : bit_at g.v mid edge.alive ≡ bit_at g.v old c = ap (bit_at g.v mid) is ∙ bit-later old mid ka g.v c hc.within in
     record {
@@ -101,7 +101,7 @@ moves_arrive old mid new ka kb before hb ahead c hc label s edge n block is carr
         ending = end_tells-later old new k g before.ending at hb.ending sh.ending;
       };
       goes = λ m held h sh. record {
-        ahead = go g (entered block (record m { turn = turn })) (bit ∙ held) (carries g m turn h) (ahead_tells-later old mid ka g before.ahead None hb.ahead sh.ahead);
+        ahead = go g (entered block (record m { turn = to })) (bit ∙ held) (carries_there g mid (record { label = block.label; turn = to }) edge (entered block (record m { turn = to })) (carries g m from to h)) (ahead_tells-later old mid ka g before.ahead None hb.ahead sh.ahead);
         ending = end_tells-later old new k g before.ending None hb.ending sh.ending;
       };
     }

@@ -10,7 +10,7 @@ use Rattle.mem_terms.specs.Values.{Each}
 use Rattle.mem_terms.proofs.Eaches.{each-set}
 use Rattle.mem_terms.proofs.Later.{bit-later}
 use Rattle.encoder.specs.declared.state.RunState.{RunState}
-use Rattle.encoder.specs.Runs.{Scene, IsState, Carries}
+use Rattle.encoder.specs.Runs.{Scene, IsState, Carries, Visit, visit_of}
 use Rattle.encoder.specs.Frontier.{AreStates, IsUnreached, StandsAt, AheadTells}
 use Rattle.encoder.proofs.Lasting.{each-get, carries-later, unreached-later, states-later}
 
@@ -50,8 +50,8 @@ set_length (z ∷ zs) (suc n) x = ap suc (set_length zs n x)
 -- what was known of one entry is known of what it is changed to
 pub record Passes (g : Scene) (old new : List Term) (known changed : Option RunState) : Type 0 where
   pub unreached : IsUnreached g old known → IsUnreached g new changed
-  pub stands : (entry : RunState) (label : ℕ) (m : Machine) → known ≡ Some entry → bit_at g.v old entry.alive ≡ true → Carries g old label entry m
-      → (after : RunState) × (changed ≡ Some after) × (bit_at g.v new after.alive ≡ true) × Carries g new label after m
+  pub stands : (entry : RunState) (visit : Visit) (m : Machine) → known ≡ Some entry → bit_at g.v old entry.alive ≡ true → Carries g old visit entry m
+      → (after : RunState) × (changed ≡ Some after) × (bit_at g.v new after.alive ≡ true) × Carries g new visit after m
 
 module _ (old new : List Term) (k : Keeps old new) (ahead : List (Option RunState)) (entries : AreStates old ahead) (g : Scene) (n : ℕ) where
   none_entries : (c : ℕ) → AreStates old (slice_set ahead c None)
@@ -78,7 +78,7 @@ module _ (old new : List Term) (k : Keeps old new) (ahead : List (Option RunStat
           let at : slice_get ahead c ≡ Some known = ap (λ (i : ℕ). slice_get ahead i) (sym same) ∙ is in
           let it = s.is in
           let one : known ≡ Some s.entry = cc in
-          let after = pass.stands s.entry m.block m one s.alive s.carries in
+          let after = pass.stands s.entry (visit_of m) m one s.alive s.carries in
           record {
             entry = after.0;
             is = ap (λ (i : ℕ). slice_get (slice_set ahead n changed) i) (sym same) ∙ (set_same ahead n changed lt ∙ ap Some after.1);
@@ -97,7 +97,7 @@ module _ (old new : List Term) (k : Keeps old new) (ahead : List (Option RunStat
             entry = s.entry;
             is = set_other ahead n c changed apart ∙ s.is;
             alive = bit-later old new k g.v s.entry.alive entry.alive.within ∙ s.alive;
-            carries = carries-later old new k g m.block s.entry m entry s.carries;
+            carries = carries-later old new k g (visit_of m) s.entry m entry s.carries;
             others = subst (λ (xs : List (Option RunState)). Each (IsUnreached g new) xs) (sym (set_swap ahead n c changed None apart)) (none-at c changed s.others (pass.unreached u));
           }
 
@@ -108,7 +108,7 @@ module _ (old new : List Term) (k : Keeps old new) (ahead : List (Option RunStat
   changed_tells known changed (Some (Done run)) lt is pass s = changed_unreached changed s (pass.unreached (each-get (IsUnreached g old) ahead n known s is))
 
   -- the run comes to the entry
-  pub changed_reached : (entry : RunState) (m : Machine) → n < length ahead → bit_at g.v new entry.alive ≡ true → Carries g new m.block entry m → Each (IsUnreached g old) ahead
+  pub changed_reached : (entry : RunState) (m : Machine) → n < length ahead → bit_at g.v new entry.alive ≡ true → Carries g new (visit_of m) entry m → Each (IsUnreached g old) ahead
       → StandsAt g new (slice_set ahead n (Some entry)) n m
   changed_reached entry m lt alive h s = record {
     entry = entry;
@@ -130,18 +130,18 @@ or_true false = refl
 
 -- an edge that isn't taken comes where none came
 pub passes_first : (old : List Term) (g : Scene) (edge : RunState) → bit_at g.v old edge.alive ≡ false → Passes g old old None (Some edge)
-passes_first old g edge none = record { unreached = λ u. none; stands = λ entry label m e alive h. absurd (let c : ⊥ = cc in c) }
+passes_first old g edge none = record { unreached = λ u. none; stands = λ entry visit m e alive h. absurd (let c : ⊥ = cc in c) }
 
 -- or where one is known
 pub passes_joined : (old new : List Term) (g : Scene) (edge known entry : RunState) → Tests new entry.alive (λ v. bit_at v old known.alive || bit_at v old edge.alive) → bit_at g.v old edge.alive ≡ false
-    → ((label : ℕ) (m : Machine) → Carries g old label known m → Carries g new label entry m) → Passes g old new (Some known) (Some entry)
+    → ((visit : Visit) (m : Machine) → Carries g old visit known m → Carries g new visit entry m) → Passes g old new (Some known) (Some entry)
 passes_joined old new g edge known entry t none st =
     let same : bit_at g.v new entry.alive ≡ bit_at g.v old known.alive = t.says g.v ∙ rw none (or_false (bit_at g.v old known.alive)) in
     record {
       unreached = λ u. same ∙ u;
-      stands = λ x label m e alive h.
+      stands = λ x visit m e alive h.
           let is : known ≡ x = cc in
-          (entry, refl, same ∙ (ap (λ (s : RunState). bit_at g.v old s.alive) is ∙ alive), st label m (subst (λ (s : RunState). Carries g old label s m) (sym is) h));
+          (entry, refl, same ∙ (ap (λ (s : RunState). bit_at g.v old s.alive) is ∙ alive), st visit m (subst (λ (s : RunState). Carries g old visit s m) (sym is) h));
     }
 
 pub joined_alive : (old new : List Term) (g : Scene) (edge known entry : RunState) → Tests new entry.alive (λ v. bit_at v old known.alive || bit_at v old edge.alive) → bit_at g.v old edge.alive ≡ true → bit_at g.v new entry.alive ≡ true
@@ -149,10 +149,10 @@ joined_alive old new g edge known entry t held = t.says g.v ∙ rw held (or_true
 
 -- an entry that isn't reached is taken out
 pub passes_taken : (old : List Term) (g : Scene) (known : Option RunState) → IsUnreached g old known → Passes g old old known None
-passes_taken old g None u = record { unreached = λ w. tt; stands = λ entry label m e alive h. absurd (let c : ⊥ = cc in c) }
+passes_taken old g None u = record { unreached = λ w. tt; stands = λ entry visit m e alive h. absurd (let c : ⊥ = cc in c) }
 passes_taken old g (Some s) u = record {
   unreached = λ w. tt;
-  stands = λ entry label m e alive h.
+  stands = λ entry visit m e alive h.
       let is : s ≡ entry = cc in
       let none : bit_at g.v old entry.alive ≡ false = ap (λ (x : RunState). bit_at g.v old x.alive) (sym is) ∙ u in
       absurd (let c : ⊥ = cc in c);

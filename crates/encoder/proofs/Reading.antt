@@ -1,68 +1,36 @@
 -- Where an integer is used, a pointer reads as poison.
-use Rattle.std.proofs.Common.{ℕ, zero, suc, ◌≡◌, ◌<◌, Bool, true, false, List, [], ◌∷◌, length, refl, arith}
+use Rattle.std.proofs.Common.{ℕ, zero, suc, ◌≡◌, ◌<◌, Bool, List, [], ◌∷◌, length, refl, arith}
 use Rattle.std.specs.Prelude.{slice_index_or}
-use Rattle.ir_tree.specs.declared.tree.IrType.{IrType}
-use Rattle.ir_tree.specs.declared.tree.IrType.TheVariants as type
 use Rattle.ir_tree.specs.declared.tree.Op.{Op}
 use Rattle.ir_tree.specs.declared.tree.Op.TheVariants.{Add, Sub, Mul, UnsignedDiv, UnsignedRem, SignedDiv, SignedRem, ShiftLeft, LogicalShiftRight, ArithmeticShiftRight, And, Or, Xor}
 use Rattle.ir_tree.specs.declared.tree.Predicate.{Predicate}
 use Rattle.ir_tree.specs.declared.tree.Cast.{Cast}
 use Rattle.ir_tree.specs.declared.tree.Case.{Case}
-use Rattle.ir_tree.specs.Pointers.{IsInteger}
 use Rattle.byte_block.specs.declared.value.Value.{Value}
 use Rattle.byte_block.specs.declared.value.Value.TheVariants as value
 use Rattle.byte_block.specs.declared.value.Value.TheVariants.{Num, Poison}
 use Rattle.points.specs.declared.machine.Machine.{Machine}
 use Rattle.points.specs.Table.{cast_value, compared, defined_result, has_no_quotient, is_least_or_poison, is_minus_1, is_undefined, is_zero_or_poison, selected, value_result}
-use Rattle.points.specs.Run.{address_value, cut_value, is_poison, typed_value}
+use Rattle.points.specs.Run.{cut_value}
 use Rattle.unroll.specs.declared.layered.Edge.{Edge}
 use Rattle.bv_terms.specs.declared.term.Term.{Term}
-use Rattle.bv_terms.specs.Trees.{bit_at, term_at}
 use Rattle.mem_terms.specs.declared.values.SymValue.{SymValue}
-use Rattle.mem_terms.specs.Values.{value_at, value_from, values_at}
-use Rattle.encoder.specs.Runs.{as_integer}
+use Rattle.mem_terms.specs.Values.{Reading, as_integer, value_at, values_at}
 use Rattle.encoder.specs.Frontier.{branched, switched_on}
 
--- a symbolic value is no pointer
-pub integer_at : (v : ℕ → ℕ → ℕ) (terms : List Term) (s : SymValue) → value_at v terms s ≡ as_integer (value_at v terms s)
-unfolding value_at
-integer_at v terms s = by (bit_at v terms s.poison)
-  where
-    by : (p : Bool) → value_from p (term_at v terms s.number) ≡ as_integer (value_from p (term_at v terms s.number))
-    by true = refl
-    by false = refl
-
 -- a register, where there is one
-pub register_at : (v : ℕ → ℕ → ℕ) (terms : List Term) (registers : List SymValue) (name : ℕ) (none : SymValue) → name < length registers
-    → value_at v terms (slice_index_or registers name none) ≡ as_integer (slice_index_or (values_at v terms registers) name Poison)
-register_at v terms [] name none lt = absurd (omega arith)
-register_at v terms (r ∷ rs) zero none lt = integer_at v terms r
-register_at v terms (r ∷ rs) (suc name) none lt = register_at v terms rs name none (omega arith)
+pub register_at : (r : Reading) (terms : List Term) (registers : List SymValue) (name : ℕ) (none : SymValue) → name < length registers
+    → value_at r terms (slice_index_or registers name none) ≡ slice_index_or (values_at r terms registers) name Poison
+register_at r terms [] name none lt = absurd (omega arith)
+register_at r terms (x ∷ xs) zero none lt = refl
+register_at r terms (x ∷ xs) (suc name) none lt = register_at r terms xs name none (omega arith)
 
--- ---- at a type
-
-pub no_address : (v : ℕ → ℕ → ℕ) (terms : List Term) (s : SymValue) → address_value (value_at v terms s) ≡ Poison
-unfolding value_at
-no_address v terms s = by (bit_at v terms s.poison)
-  where
-    by : (p : Bool) → address_value (value_from p (term_at v terms s.number)) ≡ Poison
-    by true = refl
-    by false = refl
+-- ---- at a width
 
 pub cut_integer : (n : ℕ) (x : Value) → cut_value n (as_integer x) ≡ cut_value n x
 cut_integer n (Num a) = refl
 cut_integer n Poison = refl
 cut_integer n (value.Ptr p) = refl
-
-pub typed_integer : (t : IrType) → IsInteger t → (x : Value) → typed_value t (as_integer x) ≡ typed_value t x
-typed_integer (type.Int width) h x = cut_integer width.bits x
-typed_integer type.Ptr h x = absurd h
-
-pub typed_poison : (t : IrType) → IsInteger t → (x : Value) → is_poison (as_integer x) ≡ is_poison (typed_value t x)
-typed_poison (type.Int width) h (Num a) = refl
-typed_poison (type.Int width) h Poison = refl
-typed_poison (type.Int width) h (value.Ptr p) = refl
-typed_poison type.Ptr h x = absurd h
 
 -- ---- operations
 

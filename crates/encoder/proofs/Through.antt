@@ -1,21 +1,22 @@
 -- A run through one copy, and through all.
 use Rattle.std.proofs.Common.{ℕ, zero, suc, ◌≡◌, ◌<◌, ◌≤◌, ◌+◌, Bool, true, false, not, ◌&&◌, nat_eq, nat_le, if◌then◌else◌, List, [], ◌∷◌, ◌++◌, length, map, drop, get_or, Option, Some, None, IfSome, ◌⊎◌, inl, inr, refl, ap, sym, subst, ◌∙◌, arith}
-use Rattle.std.specs.Prelude.{slice_get, slice_set, is_some}
+use Rattle.std.specs.Prelude.{slice_get, slice_set}
 use Rattle.std.specs.List.{All}
 use Rattle.std.proofs.lemmas.List.Elements.{All-get_or}
 use Rattle.std.proofs.lemmas.Bool.{cases_Bool, cases_lt, lt-leb, le-leb, eqb-true, eqb-false}
 use Rattle.std.proofs.lemmas.Option.{slice_get_past, slice_get_within, get_or_from_slice_get}
 use Rattle.std.proofs.lemmas.List.{drop_more, drop_all}
 use Rattle.ir_tree.specs.declared.tree.Inst.{Inst}
+use Rattle.ir_tree.specs.declared.tree.Phi.{Phi}
 use Rattle.ir_tree.specs.declared.tree.Terminator.{Terminator}
 use Rattle.ir_tree.specs.declared.tree.Block.{Block}
 use Rattle.ir_tree.specs.declared.tree.Function.{Function}
 use Rattle.ir_tree.specs.Flow.{targets, block_of, successors}
-use Rattle.ir_tree.specs.Pointers.{HasNoPointers, IsBlockOnIntegers}
+use Rattle.ir_tree.specs.Limits.{HasSmallObjects}
 use Rattle.ir_tree.proofs.Indexing.{places_of}
 use Rattle.points.specs.declared.machine.Machine.{Machine}
 use Rattle.points.specs.declared.outcome.Outcome.TheVariants.{Ub}
-use Rattle.points.specs.Run.{Run, Exit, Over, act, ended, entered, exit_after, exit_by, exit_insts}
+use Rattle.points.specs.Run.{Run, Exit, Over, act, assigned, phi_value, with_phis, ended, entered, exit_after, exit_by, exit_insts}
 use Rattle.unroll.specs.declared.layered.Edge.{Edge}
 use Rattle.unroll.specs.declared.layered.BlockCopy.{BlockCopy}
 use Rattle.unroll.specs.Layers.{edge_to, layer_of, layers_of, copies_of, Where, At, Done, left_by, pass_copy, walk, run_at_end}
@@ -28,8 +29,9 @@ use Rattle.mem_terms.proofs.Eaches.{each-set}
 use Rattle.mem_terms.proofs.Later.{keeps_self, keeps_trans, bit-later}
 use Rattle.encoder.specs.declared.state.RunState.{RunState}
 use Rattle.encoder.specs.declared.frontier.Frontier.{Frontier}
-use Rattle.encoder.specs.Runs.{Scene, Sees, IsState, Counts, Carries, Course, Idle, Dead, Live, advanced, steps, Follows}
-use Rattle.encoder.specs.Frontier.{AreStates, IsUnreached, AheadTells, HaveRegisters, IsFrontier, HasShape, Tells, Moves, AreByLabel, IsCopyIn, FitsReturn, ReturnsFit, entering, arrived, placed}
+use Rattle.encoder.specs.declared.setting.Setting.{Setting}
+use Rattle.encoder.specs.Runs.{Scene, Sees, IsState, Counts, Carries, Course, Idle, Dead, Live, Visit, advanced, shape_of, steps, Follows, visit_of}
+use Rattle.encoder.specs.Frontier.{AreStates, CanRun, HasSmallNumbers, IsUnreached, AheadTells, HaveShape, IsFrontier, HasShape, Tells, Moves, AreByLabel, IsCopyIn, FitsReturn, ReturnsFit, ending_shape, entering, arrived, placed, shape_in}
 use Rattle.encoder.proofs.Lasting.{each-get, counts-later, carries-later, tells-later}
 use Rattle.encoder.proofs.Reached.{set_length, set_other, changed_tells, passes_taken}
 
@@ -69,60 +71,60 @@ comes no_undef [] end tape m = inr (m, refl, refl)
 comes no_undef (i ∷ is) end tape m = comes_by no_undef i is end tape m (act i tape m) refl (comes no_undef is end tape)
 
 module _ (old a b d new : List Term) (ka : Keeps old a) (kb : Keeps a b) (kd : Keeps b d) (before between after : Frontier) (hb : IsFrontier old before) (tape : List TermId) (words : AreWords old tape)
-    (entry s : RunState) (he : IsState old entry) (hs : IsState a s) (block : Block) (no_undef : Bool) (undefined : TermId) (place : Exit → Where) where
-  pub copy_moves : ((g : Scene) (label : ℕ) (c : Course) → Sees g old tape → Follows g old label entry c → Follows g a label s (steps block.insts g.tape c))
+    (entry s : RunState) (he : IsState old entry) (hs : IsState a s) (block : Block) (no_undef : Bool) (undefined : TermId) (visit : Visit) (place : Exit → Where) where
+  pub copy_moves : ((g : Scene) (c : Course) → Sees g old tape → Follows g old visit entry c → Follows g a visit s (steps block.insts g.tape c))
       → Tests b undefined (λ v. bit_at v a entry.alive && not (bit_at v a s.alive))
       → ((g : Scene) (at : Option Where) → bit_at g.v b undefined ≡ false → Tells g b before at → Tells g d between at)
       → ((g : Scene) (made : List ℕ) → bit_at g.v b undefined ≡ true → Counts g b s.tally made → Tells g b before None → Tells g d between (Some (Done (record { outcome = Ub; taken = made }))))
       → ((r : Run) → place (Over r) ≡ Done r)
       → (g : Scene) → Sees g old tape
-      → Moves g d new between after s.alive block.label s (λ (m : Machine). place (exit_by no_undef block.terminator g.tape m))
-      → Moves g old new before after entry.alive block.label entry (λ (m : Machine). place (exit_insts no_undef block.insts block.terminator g.tape m))
+      → Moves g d new between after s.alive visit s (λ (m : Machine). place (exit_by no_undef block.terminator g.tape m))
+      → Moves g old new before after entry.alive visit entry (λ (m : Machine). place (exit_insts no_undef block.insts block.terminator g.tape m))
   copy_moves run t st go over g sees last =
       let kab = keeps_trans old a b ka kb in
       let kad = keeps_trans a b d kb kd in
       let und : bit_at g.v b undefined ≡ (bit_at g.v old entry.alive && not (bit_at g.v a s.alive)) = t.says g.v ∙ ap (λ x. x && not (bit_at g.v a s.alive)) (bit-later old a ka g.v entry.alive he.alive.within) in
       record {
         stays = λ at none sh.
-            let idle = run g block.label Idle sees none in
+            let idle = run g Idle sees none in
             let sh' : Tells g b before at = tells-later old b kab g before at hb sh in
             let off : bit_at g.v a s.alive ≡ false = idle_is none idle in
             last.stays at (bit-later a d kad g.v s.alive hs.alive.within ∙ off) (st g at (und ∙ rw none refl) sh');
         goes = λ m held h sh.
             let sh' : Tells g b before None = tells-later old b kab g before None hb sh in
-            let follows = run g block.label (Live m) sees (held, h) in
+            let follows = run g (Live m) sees (held, h) in
             elim (comes no_undef block.insts block.terminator g.tape m) [
               | inl e ↦ dies m held sh' e.0 e.1 e.2 follows und
               | inr e ↦ lives m held sh' e.0 e.1 e.2 follows und
             ];
       }
     where
-      idle_is : bit_at g.v old entry.alive ≡ false → Follows g a block.label s (steps block.insts g.tape Idle) → bit_at g.v a s.alive ≡ false
-      idle_is none h = subst (λ (c : Course). Follows g a block.label s c) (steps_idle block.insts g.tape) h
+      idle_is : bit_at g.v old entry.alive ≡ false → Follows g a visit s (steps block.insts g.tape Idle) → bit_at g.v a s.alive ≡ false
+      idle_is none h = subst (λ (c : Course). Follows g a visit s c) (steps_idle block.insts g.tape) h
 
       und_is : bit_at g.v b undefined ≡ (bit_at g.v old entry.alive && not (bit_at g.v a s.alive)) → (x y : Bool) → bit_at g.v old entry.alive ≡ x → bit_at g.v a s.alive ≡ y → bit_at g.v b undefined ≡ (x && not y)
       und_is und x y ex ey = und ∙ rw (ex, ey) refl
 
       dies : (m : Machine) → bit_at g.v old entry.alive ≡ true → Tells g b before None → (n : Machine) → steps block.insts g.tape (Live m) ≡ Dead n
-          → exit_insts no_undef block.insts block.terminator g.tape m ≡ Over (ended Ub n) → Follows g a block.label s (steps block.insts g.tape (Live m))
+          → exit_insts no_undef block.insts block.terminator g.tape m ≡ Over (ended Ub n) → Follows g a visit s (steps block.insts g.tape (Live m))
           → bit_at g.v b undefined ≡ (bit_at g.v old entry.alive && not (bit_at g.v a s.alive))
           → Tells g new after (Some (place (exit_insts no_undef block.insts block.terminator g.tape m)))
       dies m held sh' n is exit follows und =
-          let dead = subst (λ (c : Course). Follows g a block.label s c) is follows in
+          let dead = subst (λ (c : Course). Follows g a visit s c) is follows in
           let k : Counts g b s.tally n.taken = counts-later a b kb g s.tally n.taken hs.tally dead.1 in
           let over' : place (exit_insts no_undef block.insts block.terminator g.tape m) ≡ Done (ended Ub n) = ap place exit ∙ over (ended Ub n) in
           subst (λ (w : Where). Tells g new after (Some w)) (sym over')
           (last.stays (Some (Done (ended Ub n))) (bit-later a d (keeps_trans a b d kb kd) g.v s.alive hs.alive.within ∙ dead.0) (go g n.taken (und_is und true false held dead.0) k sh'))
 
       lives : (m : Machine) → bit_at g.v old entry.alive ≡ true → Tells g b before None → (n : Machine) → steps block.insts g.tape (Live m) ≡ Live n
-          → exit_insts no_undef block.insts block.terminator g.tape m ≡ exit_by no_undef block.terminator g.tape n → Follows g a block.label s (steps block.insts g.tape (Live m))
+          → exit_insts no_undef block.insts block.terminator g.tape m ≡ exit_by no_undef block.terminator g.tape n → Follows g a visit s (steps block.insts g.tape (Live m))
           → bit_at g.v b undefined ≡ (bit_at g.v old entry.alive && not (bit_at g.v a s.alive))
           → Tells g new after (Some (place (exit_insts no_undef block.insts block.terminator g.tape m)))
       lives m held sh' n is exit follows und =
           let kad = keeps_trans a b d kb kd in
-          let live = subst (λ (c : Course). Follows g a block.label s c) is follows in
+          let live = subst (λ (c : Course). Follows g a visit s c) is follows in
           subst (λ (w : Where). Tells g new after (Some w)) (sym (ap place exit))
-          (last.goes n (bit-later a d kad g.v s.alive hs.alive.within ∙ live.0) (carries-later a d kad g block.label s n hs live.1) (st g None (und_is und true true held live.0) sh'))
+          (last.goes n (bit-later a d kad g.v s.alive hs.alive.within ∙ live.0) (carries-later a d kad g visit s n hs live.1) (st g None (und_is und true true held live.0) sh'))
 
 -- ---- the copy of a number
 
@@ -138,6 +140,14 @@ placed_further f copies k n m apart = rw (le_next k n apart) refl
 placed_here : (f : Function) (copies : List BlockCopy) (k : ℕ) (copy : BlockCopy) (block : Block) (m : Machine) → slice_get copies k ≡ Some copy → slice_get f.blocks copy.block ≡ Some block
     → placed f copies k (At k m) ≡ At k (entered block (record m { turn = copy.turn }))
 placed_here f copies k copy block m is found = rw (le-leb k k (omega arith), is, found) refl
+
+-- the phis of a block take no turn
+phis_turn : (before : Machine) (phis : List Phi) (m : Machine) → (with_phis before phis m).turn ≡ m.turn
+phis_turn before [] m = refl
+phis_turn before (phi ∷ phis) m = phis_turn before phis (assigned m phi.into (phi_value before phi))
+
+entered_visit : (b : Block) (m : Machine) → visit_of (entered b m) ≡ record { label = b.label; turn = m.turn }
+entered_visit b m = rw (phis_turn m b.phis m) refl
 
 -- the run stands nowhere ahead, or at a copy of another number
 abbrev IsElsewhere : ℕ → Where → Type 0
@@ -192,7 +202,7 @@ pass_unknown g old f copies w hw k copy block (At n m) none is found s = elim (c
 -- and one whose block is run from its entry
 pub pass_known : (g : Scene) (old new : List Term) (f : Function) (copies : List BlockCopy) (w after : Frontier) (hw : IsFrontier old w) (k : ℕ) (copy : BlockCopy) (block : Block) (entry : RunState) (x : Where)
     → slice_get w.ahead k ≡ Some (Some entry) → slice_get copies k ≡ Some copy → slice_get f.blocks copy.block ≡ Some block
-    → Moves g old new (record { ahead = slice_set w.ahead k None; ending = w.ending }) after entry.alive block.label entry (λ (m : Machine). placed f copies (k + 1) (left_by (targets block.terminator) copy.edges (exit_insts f.returns_no_undef block.insts block.terminator g.tape m)))
+    → Moves g old new (record { ahead = slice_set w.ahead k None; ending = w.ending }) after entry.alive (record { label = block.label; turn = copy.turn }) entry (λ (m : Machine). placed f copies (k + 1) (left_by (targets block.terminator) copy.edges (exit_insts f.returns_no_undef block.insts block.terminator g.tape m)))
     → Tells g old w (Some (placed f copies k x)) → Tells g new after (Some (placed f copies (k + 1) (pass_copy f k copy g.tape x)))
 pass_known g old new f copies w after hw k copy block entry (Done run) known is found move s =
     move.stays (Some (Done run)) (unreached_here g old w.ahead k (Some entry) (Done run) known tt s.ahead) (taken_out g old w hw k (Some entry) (Done run) known tt s)
@@ -216,7 +226,8 @@ pass_known g old new f copies w after hw k copy block entry (At n m) known is fo
         let there = stands.is in
         let one : stands.entry ≡ entry = cc in
         move.goes (entered block (record m { turn = copy.turn })) (ap (λ (e : RunState). bit_at g.v old e.alive) (sym one) ∙ stands.alive)
-        (subst (λ (e : RunState). Carries g old block.label e (entered block (record m { turn = copy.turn }))) one stands.carries)
+        (subst (λ (e : RunState). Carries g old (record { label = block.label; turn = copy.turn }) e (entered block (record m { turn = copy.turn }))) one
+        (subst (λ (v : Visit). Carries g old v stands.entry (entered block (record m { turn = copy.turn }))) (entered_visit block (record m { turn = copy.turn })) stands.carries))
         (record { ahead = stands.others; ending = s'.ending })
 
     there : (k ≡ n → ⊥) → Tells g new after (Some (placed f copies k (At n m)))
@@ -290,18 +301,18 @@ taken_frontier old w ahead k is h = record {
   ending = h.ending;
 }
 
-pub taken_shape : (f : Function) (copies : List BlockCopy) (w : Frontier) (ahead : List (Option RunState)) (k : ℕ) → ahead ≡ slice_set w.ahead k None → HasShape f copies w → HasShape f copies (record { ahead = ahead; ending = w.ending })
-taken_shape f copies w ahead k is h = record {
-  registers = subst (λ (xs : List (Option RunState)). HaveRegisters (length f.names) xs) (sym is) (each-set (λ (o : Option RunState). IfSome o (λ (s : RunState). length s.registers ≡ length f.names)) w.ahead k None h.registers tt);
+pub taken_shape : (setting : Setting) (w : Frontier) (ahead : List (Option RunState)) (k : ℕ) → ahead ≡ slice_set w.ahead k None → HasShape setting w → HasShape setting (record { ahead = ahead; ending = w.ending })
+taken_shape setting w ahead k is h = record {
+  ahead = subst (λ (xs : List (Option RunState)). HaveShape (shape_in setting) xs) (sym is) (each-set (λ (o : Option RunState). IfSome o (λ (s : RunState). shape_of s ≡ shape_in setting)) w.ahead k None h.ahead tt);
   count = ap length is ∙ (set_length w.ahead k None ∙ h.count);
-  value = h.value;
+  ending = h.ending;
 }
 
 pub entry_state : (old : List Term) (w : Frontier) (k : ℕ) (entry : RunState) → slice_get w.ahead k ≡ Some (Some entry) → IsFrontier old w → IsState old entry
 entry_state old w k entry is h = each-get (λ (o : Option RunState). IfSome o (IsState old)) w.ahead k (Some entry) h.ahead is
 
-pub entry_registers : (f : Function) (copies : List BlockCopy) (w : Frontier) (k : ℕ) (entry : RunState) → slice_get w.ahead k ≡ Some (Some entry) → HasShape f copies w → length entry.registers ≡ length f.names
-entry_registers f copies w k entry is h = each-get (λ (o : Option RunState). IfSome o (λ (s : RunState). length s.registers ≡ length f.names)) w.ahead k (Some entry) h.registers is
+pub entry_shape : (setting : Setting) (w : Frontier) (k : ℕ) (entry : RunState) → slice_get w.ahead k ≡ Some (Some entry) → HasShape setting w → shape_of entry ≡ shape_in setting
+entry_shape setting w k entry is h = each-get (λ (o : Option RunState). IfSome o (λ (s : RunState). shape_of s ≡ shape_in setting)) w.ahead k (Some entry) h.ahead is
 
 -- ---- what a copy has of its function
 
@@ -314,8 +325,12 @@ all_at P xs i x h is =
 pub fits_at : (f : Function) (at : ℕ) (block : Block) → ReturnsFit f → slice_get f.blocks at ≡ Some block → FitsReturn f.returns block.terminator
 fits_at f at block h is = all_at (λ (b : Block). FitsReturn f.returns b.terminator) f.blocks at block h is
 
-pub integers_at : (f : Function) (at : ℕ) (block : Block) → HasNoPointers f → slice_get f.blocks at ≡ Some block → IsBlockOnIntegers block
-integers_at f at block h is = all_at IsBlockOnIntegers f.blocks at block h.blocks is
+-- types and numbers of its instructions
+pub objects_at : (f : Function) (at : ℕ) (block : Block) → CanRun f → slice_get f.blocks at ≡ Some block → HasSmallObjects block
+objects_at f at block h is = all_at HasSmallObjects f.blocks at block h.objects is
+
+pub numbers_at : (f : Function) (at : ℕ) (block : Block) → CanRun f → slice_get f.blocks at ≡ Some block → HasSmallNumbers block
+numbers_at f at block h is = all_at HasSmallNumbers f.blocks at block h.numbers is
 
 pub labels_at : (f : Function) (copy : BlockCopy) (block : Block) → IsCopyIn f copy → slice_get f.blocks copy.block ≡ Some block → AreByLabel (targets block.terminator) copy.edges
 labels_at f copy block h is =
@@ -323,9 +338,9 @@ labels_at f copy block h is =
     let same : h.block ≡ block = cc in
     subst (λ (b : Block). AreByLabel (targets b.terminator) copy.edges) same h.edges
 
-pub shape_after : (f : Function) (copies : List BlockCopy) (w after : Frontier) → after.ahead ≡ w.ahead → is_some after.ending.value ≡ is_some w.ending.value → HasShape f copies w → HasShape f copies after
-shape_after f copies w after ahead value h = record {
-  registers = subst (λ (xs : List (Option RunState)). HaveRegisters (length f.names) xs) (sym ahead) h.registers;
+pub shape_after : (setting : Setting) (w after : Frontier) → after.ahead ≡ w.ahead → ending_shape after.ending ≡ ending_shape w.ending → HasShape setting w → HasShape setting after
+shape_after setting w after ahead ending h = record {
+  ahead = subst (λ (xs : List (Option RunState)). HaveShape (shape_in setting) xs) (sym ahead) h.ahead;
   count = ap length ahead ∙ h.count;
-  value = value ∙ h.value;
+  ending = ending ∙ h.ending;
 }

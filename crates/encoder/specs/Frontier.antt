@@ -1,6 +1,6 @@
 -- Where a run is between two copies, told by what is known of the copies ahead and of how it ended.
-use Rattle.std.specs.Prelude.{◌≡◌, ℕ, true, false, cond, is_some, nat_eq, nat_le, ◌%◌, if◌then◌else◌, List, length, map, All, Option, Some, None, IfSome, slice_get, slice_set}
-use Rattle.std.specs.List.{find, filter}
+use Rattle.std.specs.Prelude.{◌≡◌, ℕ, ◌<◌, Bool, true, false, cond, is_some, nat_eq, nat_le, ◌%◌, if◌then◌else◌, List, length, map, All, Option, Some, None, IfSome, slice_get, slice_set}
+use Rattle.std.specs.List.{find}
 use Rattle.std.specs.Option.{option_map, option_map_or}
 use Rattle.ir_tree.specs.declared.tree.IrType.{IrType}
 use Rattle.ir_tree.specs.declared.tree.Case.{Case}
@@ -12,23 +12,27 @@ use Rattle.ir_tree.specs.Sites.{same_number}
 use Rattle.ir_tree.specs.Flow.{targets}
 use Rattle.byte_block.specs.declared.value.Value.{Value}
 use Rattle.byte_block.specs.declared.value.Value.TheVariants.{Num}
-use Rattle.byte_block.specs.declared.block.MemoryBlock.{MemoryBlock}
+use Rattle.ir_tree.specs.declared.tree.Inst.{Inst}
+use Rattle.ir_tree.specs.declared.tree.Inst.TheVariants as inst
+use Rattle.ir_tree.specs.Limits.{HasSmallObjects}
 use Rattle.points.specs.declared.machine.Machine.{Machine}
 use Rattle.points.specs.declared.outcome.Outcome.{Outcome}
 use Rattle.points.specs.declared.outcome.Outcome.TheVariants.{Return, Ub, Beyond}
 use Rattle.points.specs.declared.point.Input.{Input}
-use Rattle.points.specs.Run.{Run, ended, entered, breaks_noundef, first_machine, is_given}
+use Rattle.points.specs.Run.{Run, ended, entered, breaks_noundef, first_machine}
 use Rattle.unroll.specs.declared.layered.Edge.{Edge}
 use Rattle.unroll.specs.declared.layered.BlockCopy.{BlockCopy}
 use Rattle.unroll.specs.Layers.{Where, At, Done, along}
 use Rattle.bv_terms.specs.declared.term.TermId.{TermId}
 use Rattle.bv_terms.specs.declared.term.Term.{Term}
 use Rattle.bv_terms.specs.Trees.{IsTerm, bit_at}
-use Rattle.mem_terms.specs.Values.{Each, IsSymValue, value_at}
+use Rattle.mem_terms.specs.Values.{Each, IsSymValue, Reading, value_at}
+use Rattle.mem_terms.specs.Memory.{AreGivenBlocks, memory_at}
 use Rattle.encoder.specs.declared.state.RunState.{RunState}
 use Rattle.encoder.specs.declared.ending.Ending.{Ending}
+use Rattle.encoder.specs.declared.setting.Setting.{Setting}
 use Rattle.encoder.specs.declared.frontier.Frontier.{Frontier}
-use Rattle.encoder.specs.Runs.{Scene, IsTally, IsState, Counts, Carries}
+use Rattle.encoder.specs.Runs.{Scene, sight, IsTally, IsState, StateShape, shape_of, Visit, visit_of, Counts, Carries}
 
 -- ---- returns
 
@@ -43,20 +47,43 @@ FitsReturn returns terminator.Unreachable = Unit {0}
 abbrev pub ReturnsFit : Function → Type 0
 ReturnsFit f = All (λ (b : Block). FitsReturn f.returns b.terminator) f.blocks
 
+-- ---- what may be run
+
+-- an alloca's number is below the limit on instructions
+abbrev pub HasSmallNumber : Inst → Type 0
+HasSmallNumber (inst.Alloca into number type align) = number < 65536
+HasSmallNumber _ = Unit {0}
+
+abbrev pub UsesMemory : Inst → Type 0
+UsesMemory (inst.Alloca into number type align) = Unit {0}
+UsesMemory (inst.Load into type pointer align) = Unit {0}
+UsesMemory (inst.Store value pointer align) = Unit {0}
+UsesMemory (inst.GetElementPtr into inbounds nuw type base indices) = Unit {0}
+UsesMemory _ = ⊥
+
+abbrev pub HasSmallNumbers : Block → Type 0
+HasSmallNumbers b = All HasSmallNumber b.insts
+
+pub record CanRun (f : Function) : Type 0 where
+  pub returns : ReturnsFit f
+  pub objects : All HasSmallObjects f.blocks
+  pub numbers : All HasSmallNumbers f.blocks
+
 -- ---- how a run ended
 
 pub record IsEnding (terms : List Term) (e : Ending) : Type 0 where
   pub ub : IsTerm terms 1 e.ub
   pub beyond : IsTerm terms 1 e.beyond
   pub value : IfSome e.value (IsSymValue terms)
+  pub given : AreGivenBlocks e.memory.given e.memory.room terms e.memory.blocks
   pub tally : IsTally terms e.tally
 
-abbrev pub ending_at : (ℕ → ℕ → ℕ) → List Term → List MemoryBlock → Ending → Outcome
-ending_at v terms memory e = cond (bit_at v terms e.ub) Ub (cond (bit_at v terms e.beyond) Beyond (Return (option_map (value_at v terms) e.value) memory))
+abbrev pub ending_at : Reading → List Term → Ending → Outcome
+ending_at r terms e = cond (bit_at r.v terms e.ub) Ub (cond (bit_at r.v terms e.beyond) Beyond (Return (option_map (value_at r terms) e.value) (memory_at r terms e.memory.blocks)))
 
--- so; it leaves the given blocks of the memory
+-- so
 pub record EndedSo (g : Scene) (terms : List Term) (e : Ending) (run : Run) : Type 0 where
-  pub outcome : ending_at g.v terms (filter is_given g.memory) e ≡ run.outcome
+  pub outcome : ending_at (sight g) terms e ≡ run.outcome
   pub tally : Counts g terms e.tally run.taken
 
 -- not yet
@@ -74,9 +101,9 @@ EndTells g terms e (Some (Done run)) = EndedSo g terms e run
 abbrev pub AreStates : List Term → List (Option RunState) → Type 0
 AreStates terms ahead = Each (λ (entry : Option RunState). IfSome entry (IsState terms)) ahead
 
--- each has so many registers
-abbrev pub HaveRegisters : ℕ → List (Option RunState) → Type 0
-HaveRegisters names ahead = Each (λ (entry : Option RunState). IfSome entry (λ (s : RunState). length s.registers ≡ names)) ahead
+-- each has this shape
+abbrev pub HaveShape : StateShape → List (Option RunState) → Type 0
+HaveShape shape ahead = Each (λ (entry : Option RunState). IfSome entry (λ (s : RunState). shape_of s ≡ shape)) ahead
 
 abbrev pub IsUnreached : Scene → List Term → Option RunState → Type 0
 IsUnreached g terms entry = IfSome entry (λ (s : RunState). bit_at g.v terms s.alive ≡ false)
@@ -86,7 +113,7 @@ pub record StandsAt (g : Scene) (terms : List Term) (ahead : List (Option RunSta
   pub entry : RunState
   pub is : slice_get ahead n ≡ Some (Some entry)
   pub alive : bit_at g.v terms entry.alive ≡ true
-  pub carries : Carries g terms m.block entry m
+  pub carries : Carries g terms (visit_of m) entry m
   pub others : Each (IsUnreached g terms) (slice_set ahead n None)
 
 abbrev pub AheadTells : Scene → List Term → List (Option RunState) → Option Where → Type 0
@@ -100,11 +127,24 @@ pub record IsFrontier (terms : List Term) (w : Frontier) : Type 0 where
   pub ahead : AreStates terms w.ahead
   pub ending : IsEnding terms w.ending
 
--- as the function and its copies have it
-pub record HasShape (f : Function) (copies : List BlockCopy) (w : Frontier) : Type 0 where
-  pub registers : HaveRegisters (length f.names) w.ahead
-  pub count : length w.ahead ≡ length copies
-  pub value : is_some w.ending.value ≡ is_some f.returns
+-- the states that the run of a function may be in
+abbrev pub shape_in : Setting → StateShape
+shape_in s = record { names = length s.f.now.names; given = s.given; room = s.room }
+
+-- whether it has a value, how many given blocks, and for how many bytes each has room
+pub record EndingShape : Type 0 where
+  pub valued : Bool
+  pub given : ℕ
+  pub room : ℕ
+
+abbrev pub ending_shape : Ending → EndingShape
+ending_shape e = record { valued = is_some e.value; given = e.memory.given; room = e.memory.room }
+
+-- an entry for each copy, and states and an ending as the function has them
+pub record HasShape (s : Setting) (w : Frontier) : Type 0 where
+  pub ahead : HaveShape (shape_in s) w.ahead
+  pub count : length w.ahead ≡ length s.copies.now
+  pub ending : ending_shape w.ending ≡ record { valued = is_some s.f.now.returns; given = s.given; room = s.room }
 
 -- none is a run that has left one copy and isn't yet at another
 pub record Tells (g : Scene) (terms : List Term) (w : Frontier) (at : Option Where) : Type 0 where
@@ -128,9 +168,9 @@ placed f copies from (Done run) = Done run
 placed f copies from (At n m) = if nat_le from n then arrived n m (entering f (slice_get copies n) m) else Done (ended Ub m)
 
 -- where the condition holds the run goes there from the state that it is in, and else nothing changes
-pub record Moves (g : Scene) (old new : List Term) (before after : Frontier) (c : TermId) (label : ℕ) (s : RunState) (to : Machine → Where) : Type 0 where
+pub record Moves (g : Scene) (old new : List Term) (before after : Frontier) (c : TermId) (at : Visit) (s : RunState) (to : Machine → Where) : Type 0 where
   pub stays : (at : Option Where) → bit_at g.v old c ≡ false → Tells g old before at → Tells g new after at
-  pub goes : (m : Machine) → bit_at g.v old c ≡ true → Carries g old label s m → Tells g old before None → Tells g new after (Some (to m))
+  pub goes : (m : Machine) → bit_at g.v old c ≡ true → Carries g old at s m → Tells g old before None → Tells g new after (Some (to m))
 
 -- a run begins at the first copy, unless an argument breaks `noundef`
 abbrev pub first_place : Function → Input → Where

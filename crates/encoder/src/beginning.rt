@@ -1,19 +1,22 @@
 //! The beginning of a run.
 
-ghost use Rattle.std.specs.Prelude.{◌≡◌, not, ℕ, List, IfOk, OnOk, length, replicate};
-ghost use Rattle.byte_block.specs.declared.block.MemoryBlock.{MemoryBlock};
+ghost use Rattle.std.specs.Prelude.{◌≡◌, not, if◌then◌else◌, ℕ, IfOk, OnOk, length, replicate};
 ghost use Rattle.byte_block.specs.declared.value.Value.TheVariants.{Poison};
-ghost use Rattle.points.specs.Run.{breaks_noundef, first_machine, with_args};
-ghost use Rattle.bv_terms.specs.Trees.{IsTerm, Keeps, Tests, bit_at};
-ghost use Rattle.mem_terms.specs.Values.{AreSymValues, values_at};
-ghost use Rattle.mem_terms.specs.Inputs.{AreArgs, args_at};
-ghost use Rattle.encoder.specs.Runs.{Carries, IsState, Scene};
+ghost use Rattle.points.specs.Run.{argument_value, breaks_noundef, first_machine, is_null, with_args};
+ghost use Rattle.bv_terms.specs.Trees.{IsTerm, Keeps, bit_at};
+ghost use Rattle.mem_terms.specs.Values.{AreSymValues, Each, IsNaming, IsSymValue, Reading, value_at, values_at};
+ghost use Rattle.mem_terms.specs.Inputs.{AreArgs, IsArg, IsBlockTerms, IsInput, arg_at, args_at, given_blocks_at, input_at};
+ghost use Rattle.mem_terms.specs.Memory.{AreGivenBlocks, memory_at};
+ghost use Rattle.encoder.specs.Runs.{Carries, IsState, Scene, shape_of, sight};
 
 use crate::phis::put;
-use crate::state::{RunState, Tally};
+use crate::state::{RunMemory, RunState, Tally};
 use bv_terms::{TermId, Terms};
 use ir_tree::{Function, Parameter};
-use mem_terms::{ArgTerms, SymValue, arg_value, either, negation, number, poison_value, truth};
+use mem_terms::{
+    ArgTerms, InputTerms, SymValue, arg_value, both, either, equals, given_blocks, negation,
+    number, poison_value, truth,
+};
 use std::alloc::Global;
 use support::{NoMemory, Sequence};
 
@@ -25,12 +28,50 @@ fn poison_registers(
 ) -> Result<Sequence<SymValue>, NoMemory>
     ensures made { IfOk result (AreSymValues terms.new) }
     ensures count { IfOk result (λ r. length r ≡ names) }
-    ensures stands { IfOk result (λ r. (v : ℕ → ℕ → ℕ) → values_at v terms.new r ≡ replicate names Poison) }
+    ensures stands { IfOk result (λ r. (s : Reading) → values_at s terms.new r ≡ replicate names Poison) }
     ensures kept { Keeps terms.old terms.new }
 {
     let poison = poison_value(terms)?;
     let registers = vec![in alloc; poison; names]?;
     Ok(Sequence::from_vec(registers))
+}
+
+/// The argument of a parameter: null is poison where the parameter is `nonnull` (LLVM Language
+/// Reference, "Parameter Attributes").
+fn argument(terms: &mut Terms, parameter: &Parameter, arg: ArgTerms) -> Result<SymValue, NoMemory>
+    requires { IsArg terms.old parameter.now.of_type arg }
+    ensures made { IfOk result (IsSymValue terms.new) }
+    ensures stands { IfOk result (λ s. (r : Reading) → IsNaming r.name → value_at r terms.new s ≡ argument_value parameter.now (arg_at r terms.old arg)) }
+    ensures kept { Keeps terms.old terms.new }
+{
+    let value = arg_value(terms, arg, parameter.of_type)?;
+    if parameter.non_null {
+        let value = non_null(terms, value)?;
+        Ok(value)
+    } else {
+        Ok(value)
+    }
+}
+
+/// The value, and poison in place of null.
+fn non_null(terms: &mut Terms, value: SymValue) -> Result<SymValue, NoMemory>
+    requires { IsSymValue terms.old value }
+    ensures made { IfOk result (IsSymValue terms.new) }
+    ensures stands { IfOk result (λ s. (r : Reading) → IsNaming r.name → value_at r terms.new s ≡ (if is_null (value_at r terms.old value) then Poison else value_at r terms.old value)) }
+    ensures kept { Keeps terms.old terms.new }
+{
+    let zero = number(terms, 0)?;
+    let no_block = equals(terms, value.block, zero)?;
+    let no_offset = equals(terms, value.number, zero)?;
+    let is_zero = both(terms, no_block, no_offset)?;
+    let is_null = both(terms, value.is_pointer, is_zero)?;
+    let poison = either(terms, value.poison, is_null)?;
+    Ok(SymValue {
+        poison,
+        is_pointer: value.is_pointer,
+        block: value.block,
+        number: value.number,
+    })
 }
 
 /// Gives the parameters' names the arguments.
@@ -44,7 +85,7 @@ fn give_args(
     requires args { AreArgs terms.old parameters.now args.now }
     ensures made { OnOk result (AreSymValues terms.new registers.new) }
     ensures count { OnOk result (length registers.new ≡ length registers.old) }
-    ensures stands { OnOk result ((v : ℕ → ℕ → ℕ) → values_at v terms.new registers.new ≡ with_args parameters.now (args_at v terms.old args.now) (values_at v terms.old registers.old)) }
+    ensures stands { OnOk result ((r : Reading) → IsNaming r.name → values_at r terms.new registers.new ≡ with_args parameters.now (args_at r terms.old args.now) (values_at r terms.old registers.old)) }
     ensures kept { Keeps terms.old terms.new }
 {
     let mut parameters = parameters;
@@ -53,7 +94,7 @@ fn give_args(
         let [arg, more_args @ ..] = args else {
             return Ok(());
         };
-        let value = arg_value(terms, *arg)?;
+        let value = argument(terms, parameter, *arg)?;
         put(registers, parameter.name, value);
         parameters = more_parameters;
         args = more_args;
@@ -69,7 +110,8 @@ fn breaks_no_undef(
     args: &[ArgTerms],
 ) -> Result<TermId, NoMemory>
     requires { AreArgs terms.old parameters.now args.now }
-    ensures made { IfOk result (λ id. Tests terms.new id (λ v. breaks_noundef parameters.now (args_at v terms.old args.now))) }
+    ensures made { IfOk result (IsTerm terms.new 1) }
+    ensures stands { IfOk result (λ id. (r : Reading) → IsNaming r.name → bit_at r.v terms.new id ≡ breaks_noundef parameters.now (args_at r terms.old args.now)) }
     ensures kept { Keeps terms.old terms.new }
 {
     let mut broken = truth(terms, false)?;
@@ -80,7 +122,8 @@ fn breaks_no_undef(
             return Ok(broken);
         };
         if parameter.no_undef {
-            broken = either(terms, broken, arg.flag)?;
+            let value = argument(terms, parameter, *arg)?;
+            broken = either(terms, broken, value.poison)?;
         }
         parameters = more_parameters;
         args = more_args;
@@ -96,25 +139,31 @@ pub struct Beginning {
     pub state: RunState,
 }
 
-/// The beginning of the run of a function on these arguments.
+/// The beginning of the run of a function on an input, whose given blocks have room for so many
+/// bytes.
 pub fn begin(
     alloc: Global,
     terms: &mut Terms,
     f: &Function,
-    args: &[ArgTerms],
+    input: &InputTerms,
+    room: usize,
 ) -> Result<Beginning, NoMemory>
-    requires { AreArgs terms.old f.now.parameters args.now }
-    ensures undefined { IfOk result (λ b. Tests terms.new b.undefined (λ v. breaks_noundef f.now.parameters (args_at v terms.old args.now))) }
-    ensures alive { IfOk result (λ b. Tests terms.new b.state.alive (λ v. not (breaks_noundef f.now.parameters (args_at v terms.old args.now)))) }
+    requires { IsInput f.now.parameters (length input.now.sizes) room terms.old input.now }
+    ensures undefined { IfOk result (λ b. IsTerm terms.new 1 b.undefined) }
+    ensures breaks { IfOk result (λ b. (r : Reading) → IsNaming r.name → bit_at r.v terms.new b.undefined ≡ breaks_noundef f.now.parameters (args_at r terms.old input.now.args)) }
+    ensures alive { IfOk result (λ b. (r : Reading) → bit_at r.v terms.new b.state.alive ≡ not (bit_at r.v terms.new b.undefined)) }
     ensures state { IfOk result (λ b. IsState terms.new b.state) }
-    ensures count { IfOk result (λ b. length b.state.registers ≡ length f.now.names) }
-    ensures carries { IfOk result (λ b. (g : Scene) → Carries g terms.new 0 b.state (first_machine f.now (record { args = args_at g.v terms.old args.now; blocks = g.memory }))) }
+    ensures shape { IfOk result (λ b. shape_of b.state ≡ record { names = length f.now.names; given = length input.now.sizes; room = room }) }
+    ensures given { IfOk result (λ b. AreGivenBlocks (length input.now.sizes) room terms.new b.state.memory.blocks) }
+    ensures carries { IfOk result (λ b. (g : Scene) → g.given ≡ length input.now.sizes → Carries g terms.new (record { label = 0; turn = 0 }) b.state (first_machine f.now (input_at (sight g) terms.old input.now))) }
     ensures kept { Keeps terms.old terms.new }
 {
+    let args = input.args.as_slice();
     let mut registers = poison_registers(alloc, terms, f.names.len())?;
     give_args(terms, &mut registers, f.parameters.as_slice(), args)?;
     let undefined = breaks_no_undef(terms, f.parameters.as_slice(), args)?;
     let alive = negation(terms, undefined)?;
+    let memory = given_memory(alloc, terms, input, room)?;
     let read = number(terms, 0)?;
     let fits = truth(terms, true)?;
     Ok(Beginning {
@@ -122,8 +171,33 @@ pub fn begin(
         state: RunState {
             alive,
             registers,
+            memory,
             tally: Tally { read, fits },
             most: 0,
         },
+    })
+}
+
+/// The memory of a run at its beginning: the given blocks.
+pub fn given_memory(
+    alloc: Global,
+    terms: &mut Terms,
+    input: &InputTerms,
+    room: usize,
+) -> Result<RunMemory, NoMemory>
+    requires sizes { Each (IsTerm terms.old 6) input.now.sizes }
+    requires places { Each (IsBlockTerms room terms.old) input.now.places }
+    requires count { length input.now.sizes ≡ length input.now.places }
+    ensures given { IfOk result (λ m. AreGivenBlocks (length input.now.sizes) room terms.new m.blocks) }
+    ensures count { IfOk result (λ m. m.given ≡ length input.now.sizes) }
+    ensures room { IfOk result (λ m. m.room ≡ room) }
+    ensures stands { IfOk result (λ m. (r : Reading) → memory_at r terms.new m.blocks ≡ given_blocks_at r terms.old 1 input.now.sizes input.now.places) }
+    ensures kept { Keeps terms.old terms.new }
+{
+    let blocks = given_blocks(alloc, terms, input)?;
+    Ok(RunMemory {
+        blocks,
+        given: input.sizes.len(),
+        room,
     })
 }

@@ -1,34 +1,33 @@
 //! The run of a function on every input and tape.
 
-ghost use Rattle.std.specs.Prelude.{◌≡◌, ◌<◌, ◌&&◌, ◌||◌, ℕ, List, IfOk, OnOk, IfSome, None, Some, length, is_some, nat_eq, nat_lt, replicate};
-ghost use Rattle.std.specs.List.{filter};
-ghost use Rattle.ir_tree.specs.Pointers.{HasNoPointers};
-ghost use Rattle.byte_block.specs.declared.block.MemoryBlock.{MemoryBlock};
-ghost use Rattle.points.specs.declared.point.Bounds.{Bounds};
-ghost use Rattle.points.specs.Run.{Run, is_given, run_of};
+ghost use Rattle.std.specs.Prelude.{◌≡◌, ◌&&◌, ◌||◌, ℕ, IfOk, IfSome, None, Some, is_some, nat_eq, nat_lt, replicate};
+ghost use Rattle.points.specs.Run.{Run, run_of};
 ghost use Rattle.unroll.specs.Layers.{copies_of};
 ghost use Rattle.bv_terms.specs.Trees.{IsTerm, Keeps, Tests, bit_at, term_at};
-ghost use Rattle.mem_terms.specs.Values.{IsSymValue};
-ghost use Rattle.mem_terms.specs.Inputs.{AreArgs, AreWords, args_at, words_at};
-ghost use Rattle.mem_terms.specs.Outcomes.{IsOutcome, Shows};
-ghost use Rattle.encoder.specs.Runs.{Scene, Sees, zeros_past};
-ghost use Rattle.encoder.specs.Frontier.{EndedSo, HasShape, IsEnding, IsFrontier, NotEnded, ReturnsFit, Tells, first_place, placed};
+ghost use Rattle.mem_terms.specs.Values.{IsSymValue, reading};
+ghost use Rattle.mem_terms.specs.Memory.{AreGivenBlocks};
+ghost use Rattle.mem_terms.specs.Inputs.{AreWords, IsInput, input_at, words_at};
+ghost use Rattle.mem_terms.specs.Outcomes.{IsOutcome, LeavesGiven, Shows};
+ghost use Rattle.encoder.specs.Runs.{Scene, Sees, sight, zeros_past};
+ghost use Rattle.encoder.specs.Frontier.{CanRun, EndedSo, HasShape, IsEnding, IsFrontier, NotEnded, Tells, ending_shape, first_place, placed};
 
 use crate::beginning::begin;
-use crate::edges::{Leaving, follow};
+use crate::edges::follow;
 use crate::ending::Ending;
-use crate::frontier::Frontier;
+use crate::frontier::{Frontier, Leaving};
 use crate::passing::pass_all;
-use crate::state::{RunState, Tally};
+use crate::setting::Setting;
+use crate::state::{RunMemory, RunState, Tally};
 use bv_terms::{TermId, Terms};
 use ir_tree::{Function, IrType};
 use mem_terms::{
-    ArgTerms, InputTerms, OutcomeTerms, SymValue, TapeTerms, both, either, equals, less, number,
+    InputTerms, OutcomeTerms, SymValue, TapeTerms, both, either, equals, less, number,
     poison_value, truth,
 };
+use points::Bounds;
 use std::alloc::Global;
 use support::{NoMemory, Sequence};
-use unroll::{BlockCopy, Edge, Layered};
+use unroll::{Edge, Layered};
 
 /// Nothing is known of so many copies.
 fn nothing_known(alloc: Global, copies: usize) -> Result<Sequence<Option<RunState>>, NoMemory>
@@ -56,73 +55,64 @@ fn no_value(terms: &mut Terms, returns: Option<IrType>) -> Result<Option<SymValu
     }
 }
 
-/// A run that has not ended.
-fn no_end(terms: &mut Terms, returns: Option<IrType>) -> Result<Ending, NoMemory>
+/// A run that has not ended. It begins with the memory that it is given.
+fn no_end(setting: Setting, terms: &mut Terms, memory: &RunMemory) -> Result<Ending, NoMemory>
+    requires { AreGivenBlocks setting.given setting.room terms.old memory.now.blocks }
     ensures made { IfOk result (IsEnding terms.new) }
-    ensures alike { IfOk result (λ e. is_some e.value ≡ is_some returns) }
+    ensures shape { IfOk result (λ e. ending_shape e ≡ record { valued = is_some setting.entry.f.now.returns; given = setting.entry.given; room = setting.entry.room }) }
     ensures stands { IfOk result (λ e. (g : Scene) → NotEnded g terms.new e) }
     ensures kept { Keeps terms.old terms.new }
 {
-    let value = no_value(terms, returns)?;
+    let value = no_value(terms, setting.f.returns)?;
     let read = number(terms, 0)?;
     let never = truth(terms, false)?;
+    let blocks = memory.copy(setting.alloc)?.blocks;
     Ok(Ending {
         ub: never,
         beyond: never,
         value,
+        memory: RunMemory {
+            blocks,
+            given: setting.given,
+            room: setting.room,
+        },
         tally: Tally { read, fits: never },
     })
 }
 
 /// Before the first copy nothing is known of any.
-fn unknown(
-    alloc: Global,
-    terms: &mut Terms,
-    f: &Function,
-    copies: &Sequence<BlockCopy>,
-) -> Result<Frontier, NoMemory>
+fn unknown(setting: Setting, terms: &mut Terms, memory: &RunMemory) -> Result<Frontier, NoMemory>
+    requires { AreGivenBlocks setting.given setting.room terms.old memory.now.blocks }
     ensures made { IfOk result (IsFrontier terms.new) }
-    ensures shape { IfOk result (HasShape f.now copies.now) }
+    ensures shape { IfOk result (HasShape setting.entry) }
     ensures stands { IfOk result (λ w. (g : Scene) → Tells g terms.new w None) }
     ensures kept { Keeps terms.old terms.new }
 {
-    let ahead = nothing_known(alloc, copies.len())?;
-    let ending = no_end(terms, f.returns)?;
+    let ahead = nothing_known(setting.alloc, setting.copies.len())?;
+    let ending = no_end(setting, terms, memory)?;
     Ok(Frontier { ahead, ending })
 }
 
 /// The run comes to its first copy, or breaks `noundef` before.
-fn enter(
-    alloc: Global,
-    terms: &mut Terms,
-    f: &Function,
-    copies: &Sequence<BlockCopy>,
-    args: &[ArgTerms],
-) -> Result<Frontier, NoMemory>
-    requires args { AreArgs terms.old f.now.parameters args.now }
-    requires integers { HasNoPointers f.now }
+fn enter(setting: Setting, terms: &mut Terms, input: &InputTerms) -> Result<Frontier, NoMemory>
+    requires input { IsInput setting.f.now.parameters setting.given setting.room terms.old input.now }
     ensures made { IfOk result (IsFrontier terms.new) }
-    ensures shape { IfOk result (HasShape f.now copies.now) }
-    ensures stands { IfOk result (λ w. (g : Scene) → Tells g terms.new w (Some (placed f.now copies.now 0 (first_place f.now (record { args = args_at g.v terms.old args.now; blocks = g.memory }))))) }
+    ensures shape { IfOk result (HasShape setting.entry) }
+    ensures stands { IfOk result (λ w. (g : Scene) → g.given ≡ setting.entry.given
+        → Tells g terms.new w (Some (placed setting.entry.f.now setting.entry.copies.now 0 (first_place setting.entry.f.now (input_at (sight g) terms.old input.now))))) }
     ensures kept { Keeps terms.old terms.new }
 {
-    let start = begin(alloc, terms, f, args)?;
-    let mut frontier = unknown(alloc, terms, f, copies)?;
+    let start = begin(setting.alloc, terms, setting.f, input, setting.room)?;
     let state = start.state;
+    let mut frontier = unknown(setting, terms, &state.memory)?;
     frontier.end_undefined(terms, start.undefined, state.tally)?;
-    let leaving = Leaving { label: 0, ahead: 0 };
-    let alive = state.alive;
-    follow(
-        alloc,
-        terms,
-        f,
-        copies,
-        &mut frontier,
-        leaving,
-        alive,
-        &state,
-        Edge::Copy(0),
-    )?;
+    let leaving = Leaving {
+        label: 0,
+        ahead: 0,
+        c: state.alive,
+        state: &state,
+    };
+    follow(setting, terms, &mut frontier, leaving, Edge::Copy(0))?;
     Ok(frontier)
 }
 
@@ -167,8 +157,9 @@ fn finish(terms: &mut Terms, ending: Ending, tape: &[TermId]) -> Result<OutcomeT
     requires ending { IsEnding terms.old ending }
     requires tape { AreWords terms.old tape.now }
     ensures made { IfOk result (IsOutcome terms.new) }
+    ensures given { IfOk result (LeavesGiven ending.memory.given ending.memory.room) }
     ensures valued { IfOk result (λ o. is_some o.value ≡ is_some ending.value) }
-    ensures stands { IfOk result (λ o. (g : Scene) (run : Run) → Sees g terms.old tape.now → EndedSo g terms.old ending run → Shows g.v terms.new (filter is_given g.memory) g.tape run o) }
+    ensures stands { IfOk result (λ o. (g : Scene) (run : Run) → Sees g terms.old tape.now → EndedSo g terms.old ending run → Shows (sight g) terms.new g.tape run o) }
     ensures kept { Keeps terms.old terms.new }
 {
     let rest = zeros(terms, tape, ending.tally.read)?;
@@ -177,6 +168,7 @@ fn finish(terms: &mut Terms, ending: Ending, tape: &[TermId]) -> Result<OutcomeT
         ub: ending.ub,
         beyond: ending.beyond,
         value: ending.value,
+        blocks: ending.memory.blocks,
         read: ending.tally.read,
         plain,
     })
@@ -184,32 +176,38 @@ fn finish(terms: &mut Terms, ending: Ending, tape: &[TermId]) -> Result<OutcomeT
 
 /// The run of a function on an input and a tape, as terms over the copies of its blocks: under every
 /// assignment of the variables they show the run on what the input and the tape are under it, within
-/// as many backward jumps as the layers have. The function has no pointers: arguments are numbers or
-/// poison, and the run leaves the given blocks as they are. It fails for want of memory alone.
+/// as many backward jumps as the layers have. It fails for want of memory alone.
 pub fn encode(
     alloc: Global,
     f: &Function,
     layered: &Layered,
+    bounds: &Bounds,
     input: &InputTerms,
     tape: &TapeTerms,
     terms: &mut Terms,
 ) -> Result<OutcomeTerms, NoMemory>
-    requires layers { layered.now.copies ≡ copies_of layered.now.turns f.now }
-    requires returns { ReturnsFit f.now }
-    requires integers { HasNoPointers f.now }
-    requires args { AreArgs terms.old f.now.parameters input.now.args }
+    requires layers { layered.now.copies ≡ copies_of bounds.now.turns f.now }
+    requires run { CanRun f.now }
+    requires input { IsInput f.now.parameters bounds.now.blocks bounds.now.bytes terms.old input.now }
     requires tape { AreWords terms.old tape.now.words }
     ensures made { IfOk result (IsOutcome terms.new) }
+    ensures given { IfOk result (LeavesGiven bounds.now.blocks bounds.now.bytes) }
     ensures valued { IfOk result (λ o. is_some o.value ≡ is_some f.now.returns) }
-    ensures stands { IfOk result (λ o. (v : ℕ → ℕ → ℕ) (bounds : Bounds) (memory : List MemoryBlock) → bounds.turns ≡ layered.now.turns
-        → Shows v terms.new (filter is_given memory) (words_at v terms.old tape.now.words)
-        (run_of f.now bounds (record { args = args_at v terms.old input.now.args; blocks = memory }) (words_at v terms.old tape.now.words)) o) }
+    ensures stands { IfOk result (λ o. (v : ℕ → ℕ → ℕ) → Shows (reading bounds.now.blocks v) terms.new (words_at v terms.old tape.now.words)
+        (run_of f.now bounds.now (input_at (reading bounds.now.blocks v) terms.old input.now) (words_at v terms.old tape.now.words)) o) }
     ensures kept { Keeps terms.old terms.new }
 {
     let words = tape.words.as_slice();
-    let copies = &layered.copies;
-    let mut frontier = enter(alloc, terms, f, copies, input.args.as_slice())?;
-    pass_all(alloc, terms, f, copies, &mut frontier, words)?;
+    let setting = Setting {
+        alloc,
+        f,
+        copies: &layered.copies,
+        tape: words,
+        given: input.sizes.len(),
+        room: bounds.bytes as usize,
+    };
+    let mut frontier = enter(setting, terms, input)?;
+    pass_all(setting, terms, &mut frontier)?;
     let Frontier { ending, .. } = frontier;
     let outcome = finish(terms, ending, words)?;
     Ok(outcome)

@@ -1,44 +1,53 @@
 //! The instructions of a block.
 
 ghost use Rattle.std.specs.Prelude.{◌≡◌, ◌<◌, ◌&&◌, All, false, not, cond, ℕ, IfOk, OnOk, IsTrue, length};
+ghost use Rattle.ir_tree.specs.declared.tree.Inst.{Inst};
 ghost use Rattle.ir_tree.specs.declared.tree.Operand.{Operand};
-ghost use Rattle.ir_tree.specs.Pointers.{IsInteger, IsOnIntegers};
-ghost use Rattle.byte_block.specs.declared.value.Value.TheVariants.{Num};
+ghost use Rattle.ir_tree.specs.Limits.{HasSmallTypes};
 ghost use Rattle.points.specs.declared.machine.Machine.{Machine};
-ghost use Rattle.points.specs.Run.{cut_value, operand_value, typed_operand_value};
+ghost use Rattle.points.specs.Run.{is_poison, operand_value, typed_operand_value, typed_value};
 ghost use Rattle.points.specs.Table.{cast_value, compared, selected, value_result};
-ghost use Rattle.bv_terms.specs.Trees.{IsTerm, Keeps, Tests, bit_at, term_at};
-ghost use Rattle.mem_terms.specs.Values.{AreSymValues, IsSymValue, option_from, value_at, values_at};
+ghost use Rattle.bv_terms.specs.Trees.{IsTerm, Keeps, Tests, bit_at};
+ghost use Rattle.mem_terms.specs.Values.{AreSymValues, IsNaming, IsSymNumber, IsSymValue, Reading, as_integer, number_at, option_from, value_at, values_at};
 ghost use Rattle.mem_terms.specs.Inputs.{AreWords};
-ghost use Rattle.encoder.specs.Runs.{Course, Live, Follows, IsState, Scene, Sees, as_integer, stepped, steps};
+ghost use Rattle.encoder.specs.Runs.{Course, Live, Follows, IsState, Scene, Sees, Visit, shape_of, sight, stepped, steps};
+ghost use Rattle.encoder.specs.Frontier.{HasSmallNumber};
 
 use crate::choices::choose;
-use crate::operands::{cut, operand_of, typed_operand_of};
+use crate::memory_steps::step_memory;
+use crate::operands::{number_of, operand_of, typed, typed_operand_of};
+use crate::setting::Setting;
 use crate::state::RunState;
 use bv_terms::{Term, TermId, Terms};
 use inst_terms::{Computed, binary, cast, compare, select};
 use ir_tree::{Cast, Inst, IrType, Op, Operand, Predicate, TypedOperand};
-use mem_terms::{SymValue, both, negation, pick, truth};
+use mem_terms::{SymNumber, SymValue, both, integer_value, negation, pick, truth};
 use support::NoMemory;
 use tv_num::Width;
 
-/// What two operands read of the registers where integers are used.
-fn operands_of(
-    terms: &mut Terms,
-    registers: &[SymValue],
+/// The two operands of an instruction.
+#[derive(Clone, Copy, Debug, PartialEq, Eq)]
+struct Operands {
     left: Operand,
     right: Operand,
-) -> Result<(SymValue, SymValue), NoMemory>
+}
+
+/// What two operands read of the registers where numbers are used.
+fn numbers_of(
+    terms: &mut Terms,
+    registers: &[SymValue],
+    operands: Operands,
+) -> Result<(SymNumber, SymNumber), NoMemory>
     requires { AreSymValues terms.old registers.now }
-    ensures first { IfOk result (λ p. IsSymValue terms.new p.0) }
-    ensures second { IfOk result (λ p. IsSymValue terms.new p.1) }
-    ensures left { IfOk result (λ p. (v : ℕ → ℕ → ℕ) → value_at v terms.new p.0 ≡ as_integer (operand_value (values_at v terms.old registers.now) left)) }
-    ensures right { IfOk result (λ p. (v : ℕ → ℕ → ℕ) → value_at v terms.new p.1 ≡ as_integer (operand_value (values_at v terms.old registers.now) right)) }
+    ensures first { IfOk result (λ p. IsSymNumber terms.new p.0) }
+    ensures second { IfOk result (λ p. IsSymNumber terms.new p.1) }
+    ensures left { IfOk result (λ p. (r : Reading) → IsNaming r.name → number_at r.v terms.new p.0 ≡ as_integer (operand_value (values_at r terms.old registers.now) operands.left)) }
+    ensures right { IfOk result (λ p. (r : Reading) → IsNaming r.name → number_at r.v terms.new p.1 ≡ as_integer (operand_value (values_at r terms.old registers.now) operands.right)) }
     ensures kept { Keeps terms.old terms.new }
 {
-    let first = operand_of(terms, registers, left)?;
-    let second = operand_of(terms, registers, right)?;
-    Ok((first, second))
+    let left = number_of(terms, registers, operands.left)?;
+    let right = number_of(terms, registers, operands.right)?;
+    Ok((left, right))
 }
 
 fn computed(
@@ -46,17 +55,16 @@ fn computed(
     registers: &[SymValue],
     op: Op,
     width: Width,
-    left: Operand,
-    right: Operand,
+    operands: Operands,
 ) -> Result<Computed, NoMemory>
     requires { AreSymValues terms.old registers.now }
     ensures undefined { IfOk result (λ c. IsTerm terms.new 1 c.undefined) }
-    ensures value { IfOk result (λ c. IsSymValue terms.new c.value) }
-    ensures stands { IfOk result (λ c. (v : ℕ → ℕ → ℕ) → option_from (bit_at v terms.new c.undefined) (value_at v terms.new c.value)
-        ≡ value_result op width.bits (operand_value (values_at v terms.old registers.now) left) (operand_value (values_at v terms.old registers.now) right)) }
+    ensures value { IfOk result (λ c. IsSymNumber terms.new c.value) }
+    ensures stands { IfOk result (λ c. (r : Reading) → IsNaming r.name → option_from (bit_at r.v terms.new c.undefined) (number_at r.v terms.new c.value)
+        ≡ value_result op width.bits (operand_value (values_at r terms.old registers.now) operands.left) (operand_value (values_at r terms.old registers.now) operands.right)) }
     ensures kept { Keeps terms.old terms.new }
 {
-    let (left, right) = operands_of(terms, registers, left, right)?;
+    let (left, right) = numbers_of(terms, registers, operands)?;
     let row = binary(terms, op, width, left, right)?;
     Ok(row)
 }
@@ -67,17 +75,17 @@ fn comparison(
     predicate: Predicate,
     same_sign: bool,
     width: Width,
-    left: Operand,
-    right: Operand,
+    operands: Operands,
 ) -> Result<SymValue, NoMemory>
     requires { AreSymValues terms.old registers.now }
     ensures made { IfOk result (IsSymValue terms.new) }
-    ensures stands { IfOk result (λ s. (v : ℕ → ℕ → ℕ) → value_at v terms.new s
-        ≡ compared predicate same_sign width.bits (operand_value (values_at v terms.old registers.now) left) (operand_value (values_at v terms.old registers.now) right)) }
+    ensures stands { IfOk result (λ s. (r : Reading) → IsNaming r.name → value_at r terms.new s
+        ≡ compared predicate same_sign width.bits (operand_value (values_at r terms.old registers.now) operands.left) (operand_value (values_at r terms.old registers.now) operands.right)) }
     ensures kept { Keeps terms.old terms.new }
 {
-    let (left, right) = operands_of(terms, registers, left, right)?;
-    let value = compare(terms, predicate, same_sign, width, left, right)?;
+    let (left, right) = numbers_of(terms, registers, operands)?;
+    let number = compare(terms, predicate, same_sign, width, left, right)?;
+    let value = integer_value(terms, number)?;
     Ok(value)
 }
 
@@ -91,11 +99,12 @@ fn conversion(
 ) -> Result<SymValue, NoMemory>
     requires { AreSymValues terms.old registers.now }
     ensures made { IfOk result (IsSymValue terms.new) }
-    ensures stands { IfOk result (λ s. (v : ℕ → ℕ → ℕ) → value_at v terms.new s ≡ cast_value conversion from.bits to.bits (operand_value (values_at v terms.old registers.now) operand)) }
+    ensures stands { IfOk result (λ s. (r : Reading) → IsNaming r.name → value_at r terms.new s ≡ cast_value conversion from.bits to.bits (operand_value (values_at r terms.old registers.now) operand)) }
     ensures kept { Keeps terms.old terms.new }
 {
-    let operand = operand_of(terms, registers, operand)?;
-    let value = cast(terms, conversion, from, to, operand)?;
+    let operand = number_of(terms, registers, operand)?;
+    let number = cast(terms, conversion, from, to, operand)?;
+    let value = integer_value(terms, number)?;
     Ok(value)
 }
 
@@ -106,15 +115,13 @@ fn selection(
     if_true: TypedOperand,
     if_false: TypedOperand,
 ) -> Result<SymValue, NoMemory>
-    requires registers { AreSymValues terms.old registers.now }
-    requires first { IsInteger if_true.of_type }
-    requires second { IsInteger if_false.of_type }
+    requires { AreSymValues terms.old registers.now }
     ensures made { IfOk result (IsSymValue terms.new) }
-    ensures stands { IfOk result (λ s. (v : ℕ → ℕ → ℕ) → value_at v terms.new s
-        ≡ selected (operand_value (values_at v terms.old registers.now) condition) (typed_operand_value (values_at v terms.old registers.now) if_true) (typed_operand_value (values_at v terms.old registers.now) if_false)) }
+    ensures stands { IfOk result (λ s. (r : Reading) → IsNaming r.name → value_at r terms.new s
+        ≡ selected (operand_value (values_at r terms.old registers.now) condition) (typed_operand_value (values_at r terms.old registers.now) if_true) (typed_operand_value (values_at r terms.old registers.now) if_false)) }
     ensures kept { Keeps terms.old terms.new }
 {
-    let test = operand_of(terms, registers, condition)?;
+    let test = number_of(terms, registers, condition)?;
     let first = typed_operand_of(terms, registers, if_true)?;
     let second = typed_operand_of(terms, registers, if_false)?;
     let value = select(terms, test, first, second)?;
@@ -150,18 +157,19 @@ fn step_binary(
     into: usize,
     op: Op,
     width: Width,
-    left: Operand,
-    right: Operand,
+    operands: Operands,
 ) -> Result<(), NoMemory>
     requires { IsState terms.old state.old }
     ensures state { OnOk result (IsState terms.new state.new) }
-    ensures count { OnOk result (length state.new.registers ≡ length state.old.registers) }
-    ensures stands { OnOk result ((g : Scene) (label : ℕ) (c : Course) → Follows g terms.old label state.old c → Follows g terms.new label state.new (stepped (Inst.Binary into op width left right) g.tape c)) }
+    ensures shape { OnOk result (shape_of state.new ≡ shape_of state.old) }
+    ensures stands { OnOk result ((g : Scene) (at : Visit) (c : Course) → Follows g terms.old at state.old c
+        → Follows g terms.new at state.new (stepped (Inst.Binary into op width operands.left operands.right) g.tape c)) }
     ensures kept { Keeps terms.old terms.new }
 {
-    let row = computed(terms, state.registers.as_slice(), op, width, left, right)?;
+    let row = computed(terms, state.registers.as_slice(), op, width, operands)?;
+    let value = integer_value(terms, row.value)?;
     state.alive = and_not(terms, state.alive, row.undefined)?;
-    state.assign(into, row.value);
+    state.assign(into, value);
     Ok(())
 }
 
@@ -172,17 +180,17 @@ fn step_icmp(
     predicate: Predicate,
     same_sign: bool,
     width: Width,
-    left: Operand,
-    right: Operand,
+    operands: Operands,
 ) -> Result<(), NoMemory>
     requires { IsState terms.old state.old }
     ensures state { OnOk result (IsState terms.new state.new) }
-    ensures count { OnOk result (length state.new.registers ≡ length state.old.registers) }
-    ensures stands { OnOk result ((g : Scene) (label : ℕ) (c : Course) → Follows g terms.old label state.old c → Follows g terms.new label state.new (stepped (Inst.Icmp into predicate same_sign width left right) g.tape c)) }
+    ensures shape { OnOk result (shape_of state.new ≡ shape_of state.old) }
+    ensures stands { OnOk result ((g : Scene) (at : Visit) (c : Course) → Follows g terms.old at state.old c
+        → Follows g terms.new at state.new (stepped (Inst.Icmp into predicate same_sign width operands.left operands.right) g.tape c)) }
     ensures kept { Keeps terms.old terms.new }
 {
     let registers = state.registers.as_slice();
-    let value = comparison(terms, registers, predicate, same_sign, width, left, right)?;
+    let value = comparison(terms, registers, predicate, same_sign, width, operands)?;
     state.assign(into, value);
     Ok(())
 }
@@ -198,8 +206,8 @@ fn step_cast(
 ) -> Result<(), NoMemory>
     requires { IsState terms.old state.old }
     ensures state { OnOk result (IsState terms.new state.new) }
-    ensures count { OnOk result (length state.new.registers ≡ length state.old.registers) }
-    ensures stands { OnOk result ((g : Scene) (label : ℕ) (c : Course) → Follows g terms.old label state.old c → Follows g terms.new label state.new (stepped (Inst.Cast into cast from operand to) g.tape c)) }
+    ensures shape { OnOk result (shape_of state.new ≡ shape_of state.old) }
+    ensures stands { OnOk result ((g : Scene) (at : Visit) (c : Course) → Follows g terms.old at state.old c → Follows g terms.new at state.new (stepped (Inst.Cast into cast from operand to) g.tape c)) }
     ensures kept { Keeps terms.old terms.new }
 {
     let registers = state.registers.as_slice();
@@ -216,12 +224,10 @@ fn step_select(
     if_true: TypedOperand,
     if_false: TypedOperand,
 ) -> Result<(), NoMemory>
-    requires state { IsState terms.old state.old }
-    requires first { IsInteger if_true.of_type }
-    requires second { IsInteger if_false.of_type }
+    requires { IsState terms.old state.old }
     ensures state { OnOk result (IsState terms.new state.new) }
-    ensures count { OnOk result (length state.new.registers ≡ length state.old.registers) }
-    ensures stands { OnOk result ((g : Scene) (label : ℕ) (c : Course) → Follows g terms.old label state.old c → Follows g terms.new label state.new (stepped (Inst.Select into condition if_true if_false) g.tape c)) }
+    ensures shape { OnOk result (shape_of state.new ≡ shape_of state.old) }
+    ensures stands { OnOk result ((g : Scene) (at : Visit) (c : Course) → Follows g terms.old at state.old c → Follows g terms.new at state.new (stepped (Inst.Select into condition if_true if_false) g.tape c)) }
     ensures kept { Keeps terms.old terms.new }
 {
     let registers = state.registers.as_slice();
@@ -230,25 +236,33 @@ fn step_select(
     Ok(())
 }
 
-/// The choice where the value is poison, and else its number.
-fn frozen(terms: &mut Terms, value: SymValue, choice: TermId) -> Result<SymValue, NoMemory>
+/// The choice where the value is poison, and else the value; the choice isn't poison.
+fn frozen(terms: &mut Terms, value: SymValue, choice: SymValue) -> Result<SymValue, NoMemory>
     requires value { IsSymValue terms.old value }
-    requires choice { IsTerm terms.old 64 choice }
+    requires choice { IsSymValue terms.old choice }
+    requires defined { (r : Reading) → is_poison (value_at r terms.old choice) ≡ false }
     ensures made { IfOk result (IsSymValue terms.new) }
-    ensures stands { IfOk result (λ s. (v : ℕ → ℕ → ℕ) → value_at v terms.new s ≡ Num (cond (bit_at v terms.old value.poison) (term_at v terms.old choice) (term_at v terms.old value.number))) }
+    ensures stands { IfOk result (λ s. (r : Reading) → value_at r terms.new s ≡ cond (bit_at r.v terms.old value.poison) (value_at r terms.old choice) (value_at r terms.old value)) }
     ensures kept { Keeps terms.old terms.new }
 {
-    let number = pick(terms, value.poison, choice, value.number)?;
+    let is_pointer = pick(terms, value.poison, choice.is_pointer, value.is_pointer)?;
+    let block = pick(terms, value.poison, choice.block, value.block)?;
+    let number = pick(terms, value.poison, choice.number, value.number)?;
     let poison = truth(terms, false)?;
-    Ok(SymValue { poison, number })
+    Ok(SymValue {
+        poison,
+        is_pointer,
+        block,
+        number,
+    })
 }
 
-/// Gives a name the value of the width, or a choice where that is poison.
+/// Gives a name the value of the type, or a choice where that is poison.
 fn assign_or_choose(
     terms: &mut Terms,
     state: &mut RunState,
     into: usize,
-    width: Width,
+    of_type: IrType,
     value: SymValue,
     tape: &[TermId],
 ) -> Result<(), NoMemory>
@@ -256,15 +270,15 @@ fn assign_or_choose(
     requires value { IsSymValue terms.old value }
     requires tape { AreWords terms.old tape.now }
     ensures state { OnOk result (IsState terms.new state.new) }
-    ensures count { OnOk result (length state.new.registers ≡ length state.old.registers) }
-    ensures stands { OnOk result ((g : Scene) (label : ℕ) (c : Course) (operand : Operand) → Sees g terms.old tape.now
-        → ((m : Machine) → c ≡ Live m → value_at g.v terms.old value ≡ cut_value width.bits (operand_value m.registers operand))
-        → Follows g terms.old label state.old c → Follows g terms.new label state.new (stepped (Inst.Freeze into (IrType.Int width) operand) g.tape c)) }
+    ensures shape { OnOk result (shape_of state.new ≡ shape_of state.old) }
+    ensures stands { OnOk result ((g : Scene) (at : Visit) (c : Course) (operand : Operand) → Sees g terms.old tape.now
+        → ((m : Machine) → c ≡ Live m → value_at (sight g) terms.old value ≡ typed_value of_type (operand_value m.registers operand))
+        → Follows g terms.old at state.old c → Follows g terms.new at state.new (stepped (Inst.Freeze into of_type operand) g.tape c)) }
     ensures kept { Keeps terms.old terms.new }
 {
     let taken = both(terms, state.alive, value.poison)?;
-    let choice = choose(terms, state.tally, state.most, taken, width, tape)?;
-    let value = frozen(terms, value, choice.number)?;
+    let choice = choose(terms, state, taken, of_type, tape)?;
+    let value = frozen(terms, value, choice.value)?;
     state.tally = choice.tally;
     state.most = choice.most;
     state.assign(into, value);
@@ -277,51 +291,42 @@ fn step_freeze(
     terms: &mut Terms,
     state: &mut RunState,
     into: usize,
-    width: Width,
+    of_type: IrType,
     operand: Operand,
     tape: &[TermId],
 ) -> Result<(), NoMemory>
     requires state { IsState terms.old state.old }
     requires tape { AreWords terms.old tape.now }
     ensures state { OnOk result (IsState terms.new state.new) }
-    ensures count { OnOk result (length state.new.registers ≡ length state.old.registers) }
-    ensures stands { OnOk result ((g : Scene) (label : ℕ) (c : Course) → Sees g terms.old tape.now → Follows g terms.old label state.old c → Follows g terms.new label state.new (stepped (Inst.Freeze into (IrType.Int width) operand) g.tape c)) }
+    ensures shape { OnOk result (shape_of state.new ≡ shape_of state.old) }
+    ensures stands { OnOk result ((g : Scene) (at : Visit) (c : Course) → Sees g terms.old tape.now → Follows g terms.old at state.old c → Follows g terms.new at state.new (stepped (Inst.Freeze into of_type operand) g.tape c)) }
     ensures kept { Keeps terms.old terms.new }
 {
     let value = operand_of(terms, state.registers.as_slice(), operand)?;
-    let low = cut(terms, value, width)?;
-    if is_plainly_false(terms, low.poison) {
-        state.assign(into, low);
+    let value = typed(terms, of_type, value)?;
+    if is_plainly_false(terms, value.poison) {
+        state.assign(into, value);
         Ok(())
     } else {
-        assign_or_choose(terms, state, into, width, low, tape)
+        assign_or_choose(terms, state, into, of_type, value, tape)
     }
 }
 
-/// The width of an integer type.
-fn integer_width(of_type: IrType) -> Width
-    requires { IsInteger of_type }
-    ensures { of_type ≡ IrType.Int result }
-{
-    match of_type {
-        IrType::Int(width) => width,
-        IrType::Ptr => unreachable!(),
-    }
-}
-
-/// One instruction on integers.
+/// One instruction, after so many backward jumps.
 fn step(
+    setting: Setting,
     terms: &mut Terms,
     state: &mut RunState,
     inst: &Inst,
-    tape: &[TermId],
+    turn: u64,
 ) -> Result<(), NoMemory>
     requires state { IsState terms.old state.old }
-    requires tape { AreWords terms.old tape.now }
-    requires integers { IsOnIntegers inst.now }
+    requires tape { AreWords terms.old setting.tape.now }
+    requires types { HasSmallTypes inst.now }
+    requires number { HasSmallNumber inst.now }
     ensures state { OnOk result (IsState terms.new state.new) }
-    ensures count { OnOk result (length state.new.registers ≡ length state.old.registers) }
-    ensures stands { OnOk result ((g : Scene) (label : ℕ) (c : Course) → Sees g terms.old tape.now → Follows g terms.old label state.old c → Follows g terms.new label state.new (stepped inst.now g.tape c)) }
+    ensures shape { OnOk result (shape_of state.new ≡ shape_of state.old) }
+    ensures stands { OnOk result ((g : Scene) (at : Visit) (c : Course) → at.turn ≡ turn → Sees g terms.old setting.entry.tape.now → Follows g terms.old at state.old c → Follows g terms.new at state.new (stepped inst.now g.tape c)) }
     ensures kept { Keeps terms.old terms.new }
 {
     match inst {
@@ -332,7 +337,11 @@ fn step(
             left,
             right,
         } => {
-            step_binary(terms, state, *into, *op, *width, *left, *right)?;
+            let operands = Operands {
+                left: *left,
+                right: *right,
+            };
+            step_binary(terms, state, *into, *op, *width, operands)?;
             Ok(())
         }
         Inst::Icmp {
@@ -343,8 +352,12 @@ fn step(
             left,
             right,
         } => {
+            let operands = Operands {
+                left: *left,
+                right: *right,
+            };
             step_icmp(
-                terms, state, *into, *predicate, *same_sign, *width, *left, *right,
+                terms, state, *into, *predicate, *same_sign, *width, operands,
             )?;
             Ok(())
         }
@@ -372,32 +385,36 @@ fn step(
             of_type,
             operand,
         } => {
-            let width = integer_width(*of_type);
-            step_freeze(terms, state, *into, width, *operand, tape)?;
+            step_freeze(terms, state, *into, *of_type, *operand, setting.tape)?;
             Ok(())
         }
         Inst::Alloca { .. } | Inst::Load { .. } | Inst::Store { .. } | Inst::GetElementPtr { .. } =>
-            unreachable!(),
+            {
+                step_memory(setting, terms, state, inst, turn)?;
+                Ok(())
+            }
     }
 }
 
-/// All instructions of a block, one after another; each is on integers.
+/// All instructions of a block, one after another, after so many backward jumps.
 pub fn step_all(
+    setting: Setting,
     terms: &mut Terms,
     state: &mut RunState,
     insts: &[Inst],
-    tape: &[TermId],
+    turn: u64,
 ) -> Result<(), NoMemory>
     requires state { IsState terms.old state.old }
-    requires tape { AreWords terms.old tape.now }
-    requires integers { All IsOnIntegers insts.now }
+    requires tape { AreWords terms.old setting.tape.now }
+    requires types { All HasSmallTypes insts.now }
+    requires numbers { All HasSmallNumber insts.now }
     ensures state { OnOk result (IsState terms.new state.new) }
-    ensures count { OnOk result (length state.new.registers ≡ length state.old.registers) }
-    ensures stands { OnOk result ((g : Scene) (label : ℕ) (c : Course) → Sees g terms.old tape.now → Follows g terms.old label state.old c → Follows g terms.new label state.new (steps insts.now g.tape c)) }
+    ensures shape { OnOk result (shape_of state.new ≡ shape_of state.old) }
+    ensures stands { OnOk result ((g : Scene) (at : Visit) (c : Course) → at.turn ≡ turn → Sees g terms.old setting.entry.tape.now → Follows g terms.old at state.old c → Follows g terms.new at state.new (steps insts.now g.tape c)) }
     ensures kept { Keeps terms.old terms.new }
 {
     for inst in insts {
-        step(terms, state, inst, tape)?;
+        step(setting, terms, state, inst, turn)?;
     }
     Ok(())
 }

@@ -1,14 +1,16 @@
 //! Where several edges come to one copy of a block.
 
-ghost use Rattle.std.specs.Prelude.{◌≡◌, ◌||◌, true, false, ℕ, List, IfOk, length, cond};
+ghost use Rattle.std.specs.Prelude.{◌≡◌, ◌++◌, ◌||◌, true, false, ℕ, List, IfOk, length, cond};
 ghost use Rattle.bv_terms.specs.Trees.{IsTerm, Keeps, Tests, bit_at};
-ghost use Rattle.mem_terms.specs.Values.{AreSymValues, values_at};
+ghost use Rattle.mem_terms.specs.Values.{AreSymValues, Reading, values_at};
+ghost use Rattle.mem_terms.specs.Memory.{memory_at};
 ghost use Rattle.points.specs.declared.machine.Machine.{Machine};
-ghost use Rattle.encoder.specs.Runs.{Scene, IsState, IsTally, Counts, Carries};
+ghost use Rattle.encoder.specs.Runs.{Scene, IsRunMemory, IsState, IsTally, Counts, Carries, Visit, shape_of};
 
-use crate::state::{RunState, Tally};
+use crate::state::{RunMemory, RunState, Tally};
+use access_terms::pick_memory;
 use bv_terms::{TermId, Terms};
-use mem_terms::{SymValue, either, pick, pick_value};
+use mem_terms::{SymBlock, SymValue, either, pick, pick_given, pick_value};
 use std::alloc::Global;
 use support::{NoMemory, Sequence};
 
@@ -26,7 +28,7 @@ fn pick_registers(
     requires count { length b.now ≡ length a.now }
     ensures made { IfOk result (AreSymValues terms.new) }
     ensures count { IfOk result (λ r. length r ≡ length a.now) }
-    ensures stands { IfOk result (λ r. (v : ℕ → ℕ → ℕ) → values_at v terms.new r ≡ cond (bit_at v terms.old c) (values_at v terms.old a.now) (values_at v terms.old b.now)) }
+    ensures stands { IfOk result (λ r. (s : Reading) → values_at s terms.new r ≡ cond (bit_at s.v terms.old c) (values_at s terms.old a.now) (values_at s terms.old b.now)) }
     ensures kept { Keeps terms.old terms.new }
 {
     let mut picked = Vec::new(alloc);
@@ -52,6 +54,51 @@ pub fn pick_tally(terms: &mut Terms, c: TermId, a: Tally, b: Tally) -> Result<Ta
     Ok(Tally { read, fits })
 }
 
+/// The blocks of the first and then of the second list.
+fn joined(
+    first: Sequence<SymBlock>,
+    second: Sequence<SymBlock>,
+) -> Result<Sequence<SymBlock>, NoMemory>
+    ensures { IfOk result (λ blocks. blocks ≡ first ++ second) }
+{
+    let mut blocks = first;
+    for block in second.into_vec() {
+        blocks.push(block)?;
+    }
+    Ok(blocks)
+}
+
+/// The first memory where the condition is true, and else the second.
+fn pick_blocks(
+    alloc: Global,
+    terms: &mut Terms,
+    c: TermId,
+    a: &RunMemory,
+    b: &RunMemory,
+) -> Result<RunMemory, NoMemory>
+    requires c { IsTerm terms.old 1 c }
+    requires a { IsRunMemory terms.old a.now }
+    requires b { IsRunMemory terms.old b.now }
+    requires given { b.now.given ≡ a.now.given }
+    requires room { b.now.room ≡ a.now.room }
+    ensures made { IfOk result (IsRunMemory terms.new) }
+    ensures given { IfOk result (λ m. m.given ≡ a.now.given) }
+    ensures room { IfOk result (λ m. m.room ≡ a.now.room) }
+    ensures stands { IfOk result (λ m. (r : Reading) → memory_at r terms.new m.blocks ≡ cond (bit_at r.v terms.old c) (memory_at r terms.old a.now.blocks) (memory_at r terms.old b.now.blocks)) }
+    ensures kept { Keeps terms.old terms.new }
+{
+    let (given_a, own_a) = a.blocks.as_slice().split_at(a.given);
+    let (given_b, own_b) = b.blocks.as_slice().split_at(a.given);
+    let given = pick_given(alloc, terms, c, given_a, given_b)?;
+    let own = pick_memory(alloc, terms, c, own_a, own_b)?;
+    let blocks = joined(given, own)?;
+    Ok(RunMemory {
+        blocks,
+        given: a.given,
+        room: a.room,
+    })
+}
+
 /// The entry of a copy with an edge more: where the edge is taken it is the state on it, and else the
 /// one that was known before.
 pub fn join(
@@ -62,12 +109,12 @@ pub fn join(
 ) -> Result<RunState, NoMemory>
     requires edge { IsState terms.old edge.now }
     requires into { IsState terms.old into.now }
-    requires count { length into.now.registers ≡ length edge.now.registers }
+    requires shape { shape_of into.now ≡ shape_of edge.now }
     ensures made { IfOk result (IsState terms.new) }
-    ensures count { IfOk result (λ r. length r.registers ≡ length edge.now.registers) }
+    ensures shape { IfOk result (λ r. shape_of r ≡ shape_of edge.now) }
     ensures alive { IfOk result (λ r. Tests terms.new r.alive (λ v. bit_at v terms.old into.now.alive || bit_at v terms.old edge.now.alive)) }
-    ensures stays { IfOk result (λ r. (g : Scene) (label : ℕ) (m : Machine) → bit_at g.v terms.old edge.now.alive ≡ false → Carries g terms.old label into.now m → Carries g terms.new label r m) }
-    ensures goes { IfOk result (λ r. (g : Scene) (label : ℕ) (m : Machine) → bit_at g.v terms.old edge.now.alive ≡ true → Carries g terms.old label edge.now m → Carries g terms.new label r m) }
+    ensures stays { IfOk result (λ r. (g : Scene) (at : Visit) (m : Machine) → bit_at g.v terms.old edge.now.alive ≡ false → Carries g terms.old at into.now m → Carries g terms.new at r m) }
+    ensures goes { IfOk result (λ r. (g : Scene) (at : Visit) (m : Machine) → bit_at g.v terms.old edge.now.alive ≡ true → Carries g terms.old at edge.now m → Carries g terms.new at r m) }
     ensures kept { Keeps terms.old terms.new }
 {
     let c = edge.alive;
@@ -80,10 +127,12 @@ pub fn join(
         edge.registers.as_slice(),
         into.registers.as_slice(),
     )?;
+    let memory = pick_blocks(alloc, terms, c, &edge.memory, &into.memory)?;
     let most = edge.most.max(into.most);
     Ok(RunState {
         alive,
         registers,
+        memory,
         tally,
         most,
     })

@@ -1,13 +1,11 @@
 //! The phis of a block, on an edge to it (LLVM Language Reference, "phi Instruction").
 
-ghost use Rattle.std.specs.Prelude.{◌≡◌, ℕ, All, IfOk, length, nat_eq, slice_set};
+ghost use Rattle.std.specs.Prelude.{◌≡◌, ℕ, IfOk, length, nat_eq, slice_set};
 ghost use Rattle.std.specs.List.{find};
-ghost use Rattle.ir_tree.specs.Pointers.{IsPhiOfIntegers};
 ghost use Rattle.bv_terms.specs.Trees.{Keeps};
-ghost use Rattle.mem_terms.specs.Values.{AreSymValues, IsSymValue, value_at, values_at};
+ghost use Rattle.mem_terms.specs.Values.{AreSymValues, IsNaming, IsSymValue, Reading, value_at, values_at};
 ghost use Rattle.points.specs.declared.machine.Machine.{Machine};
 ghost use Rattle.points.specs.Run.{entry_value, phi_value, with_phis};
-ghost use Rattle.encoder.specs.Runs.{as_integer};
 
 use crate::operands::{operand_of, typed};
 use bv_terms::Terms;
@@ -31,7 +29,7 @@ fn entry_value(
 ) -> Result<SymValue, NoMemory>
     requires { AreSymValues terms.old registers.now }
     ensures made { IfOk result (IsSymValue terms.new) }
-    ensures stands { IfOk result (λ s. (v : ℕ → ℕ → ℕ) (m : Machine) → values_at v terms.old registers.now ≡ m.registers → m.block ≡ label → value_at v terms.new s ≡ as_integer (entry_value m entries.now)) }
+    ensures stands { IfOk result (λ s. (r : Reading) (m : Machine) → IsNaming r.name → values_at r terms.old registers.now ≡ m.registers → m.block ≡ label → value_at r terms.new s ≡ entry_value m entries.now) }
     ensures kept { Keeps terms.old terms.new }
 {
     match entry_from(entries, label) {
@@ -52,10 +50,9 @@ fn phi_value(
     label: usize,
     phi: &Phi,
 ) -> Result<SymValue, NoMemory>
-    requires registers { AreSymValues terms.old registers.now }
-    requires integers { IsPhiOfIntegers phi.now }
+    requires { AreSymValues terms.old registers.now }
     ensures made { IfOk result (IsSymValue terms.new) }
-    ensures stands { IfOk result (λ s. (v : ℕ → ℕ → ℕ) (m : Machine) → values_at v terms.old registers.now ≡ m.registers → m.block ≡ label → value_at v terms.new s ≡ phi_value m phi.now) }
+    ensures stands { IfOk result (λ s. (r : Reading) (m : Machine) → IsNaming r.name → values_at r terms.old registers.now ≡ m.registers → m.block ≡ label → value_at r terms.new s ≡ phi_value m phi.now) }
     ensures kept { Keeps terms.old terms.new }
 {
     let entry = entry_value(terms, registers, label, phi.entries.as_slice())?;
@@ -81,11 +78,10 @@ pub fn registers_behind(
     label: usize,
     phis: &[Phi],
 ) -> Result<Sequence<SymValue>, NoMemory>
-    requires registers { AreSymValues terms.old registers.now }
-    requires integers { All IsPhiOfIntegers phis.now }
+    requires { AreSymValues terms.old registers.now }
     ensures made { IfOk result (AreSymValues terms.new) }
     ensures count { IfOk result (λ behind. length behind ≡ length registers.now) }
-    ensures stands { IfOk result (λ behind. (v : ℕ → ℕ → ℕ) (m : Machine) → values_at v terms.old registers.now ≡ m.registers → m.block ≡ label → record m { registers = values_at v terms.new behind } ≡ with_phis m phis.now m) }
+    ensures stands { IfOk result (λ behind. (r : Reading) (m : Machine) → IsNaming r.name → values_at r terms.old registers.now ≡ m.registers → m.block ≡ label → record m { registers = values_at r terms.new behind } ≡ with_phis m phis.now m) }
     ensures kept { Keeps terms.old terms.new }
 {
     let mut behind = Sequence::from_vec(registers.to_vec(alloc)?);

@@ -1,18 +1,29 @@
 //! A run so far.
 
-ghost use Rattle.std.specs.Prelude.{◌≡◌, slice_set, length};
+ghost use Rattle.std.specs.Prelude.{◌≡◌, ◌≤◌, IfOk, slice_set, take, length};
 
 use bv_terms::TermId;
-use mem_terms::SymValue;
-use support::Sequence;
+use mem_terms::{SymBlock, SymValue};
+use std::alloc::Global;
+use support::{NoMemory, Sequence};
 
 /// Which choices a run has made.
 #[derive(Clone, Copy, Debug, PartialEq, Eq)]
 pub struct Tally {
-    /// How many, in 64 digits.
+    /// How many words of the tape they took, in 64 bits.
     pub read: TermId,
     /// Whether each of them is the word of the tape at its place.
     pub fits: TermId,
+}
+
+/// The memory of a run: the given blocks, and behind them those that its allocas made.
+#[derive(Drop)]
+pub struct RunMemory {
+    pub blocks: Sequence<SymBlock>,
+    /// How many blocks are given.
+    pub given: usize,
+    /// For how many bytes each given block has room.
+    pub room: usize,
 }
 
 /// A run at a place of the function, if it comes there.
@@ -22,9 +33,47 @@ pub struct RunState {
     pub alive: TermId,
     /// The values of the names, by their numbers.
     pub registers: Sequence<SymValue>,
+    pub memory: RunMemory,
     pub tally: Tally,
-    /// No run that comes there has made more choices.
+    /// No run that comes there has read more words.
     pub most: usize,
+}
+
+impl RunMemory {
+    /// The same memory again.
+    pub fn copy(&self, alloc: Global) -> Result<RunMemory, NoMemory>
+        ensures { IfOk result (λ m. m ≡ self.now) }
+    {
+        let mut blocks = Vec::new(alloc);
+        for block in self.blocks.as_slice() {
+            blocks.push(copy_block(alloc, block)?)?;
+        }
+        Ok(RunMemory {
+            blocks: Sequence::from_vec(blocks),
+            given: self.given,
+            room: self.room,
+        })
+    }
+
+    /// The given blocks.
+    pub fn given(&self) -> &[SymBlock]
+        requires { self.now.given ≤ length self.now.blocks }
+        ensures { result.now ≡ take self.now.given self.now.blocks }
+    {
+        &self.blocks.as_slice()[..self.given]
+    }
+}
+
+fn copy_block(alloc: Global, block: &SymBlock) -> Result<SymBlock, NoMemory>
+    ensures { IfOk result (λ b. b ≡ block.now) }
+{
+    Ok(SymBlock {
+        number: block.number,
+        exists: block.exists,
+        size: block.size,
+        align: block.align,
+        places: Sequence::from_vec(block.places.as_slice().to_vec(alloc)?),
+    })
 }
 
 impl RunState {

@@ -1,7 +1,8 @@
 -- Broken so far, or by what is left.
-use Rattle.std.proofs.Common.{ℕ, ◌≡◌, ◌||◌, length}
+use Rattle.std.proofs.Common.{◌≡◌, ◌||◌, length}
 use Rattle.points.specs.Run.{breaks_noundef}
 use Rattle.bv_terms.specs.Trees.{IsTerm, Keeps, bit_at}
+use Rattle.mem_terms.specs.Values.{IsNaming, Reading}
 use Rattle.mem_terms.specs.Inputs.{AreArgs, args_at}
 use Rattle.encoder.proofs.beginning.breaks_no_undef.Given as goal
 
@@ -10,7 +11,7 @@ invariant-loop-parameters l = record {
   kept : Keeps l.fn.terms l.terms;
   made : IsTerm l.terms 1 l.broken;
   fit : AreArgs l.terms l.parameters l.args;
-  tests : (v : ℕ → ℕ → ℕ) → (bit_at v l.terms l.broken || breaks_noundef l.parameters (args_at v l.terms l.args)) ≡ breaks_noundef l.fn.parameters (args_at v l.fn.terms l.fn.args);
+  tests : (r : Reading) → IsNaming r.name → (bit_at r.v l.terms l.broken || breaks_noundef l.parameters (args_at r l.terms l.args)) ≡ breaks_noundef l.fn.parameters (args_at r l.fn.terms l.fn.args);
 }
 
 abbrev pub decreases-loop-parameters : goal.decreases-loop-parameters

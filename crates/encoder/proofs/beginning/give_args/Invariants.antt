@@ -1,8 +1,8 @@
 -- What is left of the arguments takes the registers so far to those with all.
-use Rattle.std.proofs.Common.{ℕ, ◌≡◌, length}
+use Rattle.std.proofs.Common.{◌≡◌, length}
 use Rattle.points.specs.Run.{with_args}
 use Rattle.bv_terms.specs.Trees.{Keeps}
-use Rattle.mem_terms.specs.Values.{AreSymValues, values_at}
+use Rattle.mem_terms.specs.Values.{AreSymValues, IsNaming, Reading, values_at}
 use Rattle.mem_terms.specs.Inputs.{AreArgs, args_at}
 use Rattle.encoder.proofs.beginning.give_args.Given as goal
 
@@ -12,7 +12,7 @@ invariant-loop-parameters l = record {
   made : AreSymValues l.terms l.registers;
   count : length l.registers ≡ length l.fn.registers;
   fit : AreArgs l.terms l.parameters l.args;
-  given : (v : ℕ → ℕ → ℕ) → with_args l.parameters (args_at v l.terms l.args) (values_at v l.terms l.registers) ≡ with_args l.fn.parameters (args_at v l.fn.terms l.fn.args) (values_at v l.fn.terms l.fn.registers);
+  given : (r : Reading) → IsNaming r.name → with_args l.parameters (args_at r l.terms l.args) (values_at r l.terms l.registers) ≡ with_args l.fn.parameters (args_at r l.fn.terms l.fn.args) (values_at r l.fn.terms l.fn.registers);
 }
 
 abbrev pub decreases-loop-parameters : goal.decreases-loop-parameters

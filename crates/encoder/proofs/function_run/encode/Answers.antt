@@ -1,14 +1,12 @@
-use Rattle.std.proofs.Common.{◌∙◌}
+use Rattle.std.proofs.Common.{◌∙◌, ap}
 use Rattle.mem_terms.proofs.Later.{keeps_trans, words-later}
+use Rattle.encoder.specs.Frontier.{EndingShape}
 use Rattle.encoder.proofs.Through.{copies_in}
 use Rattle.encoder.proofs.Whole.{encode_stands}
 use Rattle.encoder.proofs.function_run.encode.Goals as goal
 
-pub enter-requires-clause-args : goal.enter-requires-clause-args
-enter-requires-clause-args c = rw c.as_slice.ensures c.requires.args
-
 pub pass_all-requires-clause-copies : goal.pass_all-requires-clause-copies
-pass_all-requires-clause-copies c = rw c.requires.layers (copies_in c.args.f.now c.args.layered.now.turns)
+pass_all-requires-clause-copies c = rw c.requires.layers (copies_in c.args.f.now c.args.bounds.now.turns)
 
 pub pass_all-requires-clause-tape : goal.pass_all-requires-clause-tape
 pass_all-requires-clause-tape c = rw c.as_slice-words.ensures (words-later c.args.terms.now c.enter.new.terms c.enter.ensures.kept c.args.tape.now.words c.requires.tape)
@@ -21,12 +19,12 @@ pub finish-requires-clause-ending : goal.finish-requires-clause-ending
 finish-requires-clause-ending c = c.in_ok-pass_all.ensures.frontier.ending
 
 pub returns-clause-valued : goal.returns-clause-valued
-returns-clause-valued c = c.in_ok-outcome.ensures.valued ∙ c.in_ok-pass_all.ensures.shape.value
+returns-clause-valued c = c.in_ok-outcome.ensures.valued ∙ ap (λ (s : EndingShape). s.valued) c.in_ok-pass_all.ensures.shape.ending
 
 pub returns-clause-stands : goal.returns-clause-stands
-returns-clause-stands c = encode_stands c.args.terms.now c.enter.new.terms c.pass_all.new.terms c.finish.new.terms c.args.f.now c.args.layered.now c.args.input.now.args c.args.tape.now.words
-    c.in_ok-frontier.frontier c.pass_all.new.frontier c.in_ok-outcome.outcome c.requires.tape c.requires.layers c.enter.ensures.kept c.pass_all.ensures.kept
-    (λ g. rw c.as_slice.ensures at (c.in_ok-frontier.ensures.stands g))
+returns-clause-stands c = encode_stands c.args.terms.now c.enter.new.terms c.pass_all.new.terms c.finish.new.terms c.args.f.now c.args.layered.now c.args.bounds.now c.args.input.now c.args.tape.now.words c.len.result
+    c.in_ok-frontier.frontier c.pass_all.new.frontier c.in_ok-outcome.outcome c.requires.tape c.requires.layers (c.len.ensures ∙ c.requires.input.size_count) c.enter.ensures.kept c.pass_all.ensures.kept
+    c.in_ok-frontier.ensures.stands
     (λ g w. rw c.as_slice-words.ensures at (c.in_ok-pass_all.ensures.passes g w))
     (λ g run. rw c.as_slice-words.ensures at (c.in_ok-outcome.ensures.stands g run))
 

@@ -16,9 +16,14 @@ returns-clause-made c =
       ub = h.ub;
       beyond = h.beyond;
       value = h.value;
+      blocks = h.given.are;
+      always = h.given.always;
       read = h.tally.read;
       plain = record { within = c.in_ok-plain.ensures.made.within; wide = c.in_ok-plain.ensures.made.wide };
     }
+
+pub returns-clause-given : goal.returns-clause-given
+returns-clause-given c = c.requires.ending.given.frames
 
 pub returns-clause-stands : goal.returns-clause-stands
 returns-clause-stands c = finish_stands c.args.terms.now c.zeros.new.terms c.both.new.terms c.zeros.ensures.kept c.both.ensures.kept c.args.ending c.requires.ending c.args.tape.now c.in_ok-rest.rest c.in_ok-plain.plain c.in_ok-rest.ensures.made c.in_ok-plain.ensures.made

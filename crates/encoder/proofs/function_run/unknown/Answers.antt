@@ -1,5 +1,6 @@
 use Rattle.std.proofs.Common.{◌∙◌, ap, length, None}
-use Rattle.encoder.proofs.Whole.{length-replicate, unknown_states, unknown_registers, unknown_unreached}
+use Rattle.encoder.specs.Frontier.{shape_in}
+use Rattle.encoder.proofs.Whole.{length-replicate, unknown_states, unknown_shape, unknown_unreached}
 use Rattle.encoder.proofs.function_run.unknown.Goals as goal
 
 pub returns-clause-made : goal.returns-clause-made
@@ -7,9 +8,9 @@ returns-clause-made c = record { ahead = unknown_states c.no_end.new.terms c.in_
 
 pub returns-clause-shape : goal.returns-clause-shape
 returns-clause-shape c = record {
-  registers = unknown_registers (length c.args.f.now.names) c.in_ok-ahead.ahead c.len.result c.in_ok-ahead.ensures;
+  ahead = unknown_shape (shape_in c.args.setting) c.in_ok-ahead.ahead c.len.result c.in_ok-ahead.ensures;
   count = ap length c.in_ok-ahead.ensures ∙ (length-replicate c.len.result None ∙ c.len.ensures);
-  value = c.in_ok-ending.ensures.alike;
+  ending = c.in_ok-ending.ensures.shape;
 }
 
 pub returns-clause-stands : goal.returns-clause-stands

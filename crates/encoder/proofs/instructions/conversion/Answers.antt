@@ -3,4 +3,4 @@ use Rattle.encoder.proofs.Reading.{cast_integer}
 use Rattle.encoder.proofs.instructions.conversion.Goals as goal
 
 pub returns-clause-stands : goal.returns-clause-stands
-returns-clause-stands c = λ v. c.in_ok-value.ensures.stands v ∙ rw (c.in_ok-operand.ensures.stands v) (cast_integer c.args.conversion c.args.from.bits c.args.to.bits _)
+returns-clause-stands c = λ r names. c.in_ok-value.ensures.stands r ∙ (c.in_ok-number.ensures.stands r.v ∙ rw (c.in_ok-operand.ensures.stands r names) (cast_integer c.args.conversion c.args.from.bits c.args.to.bits _))

@@ -5,7 +5,7 @@ use Rattle.points.specs.Run.{operand_value}
 use Rattle.points.specs.Table.{compared}
 use Rattle.mem_terms.proofs.Later.{is_term-later}
 use Rattle.encoder.proofs.Lasting.{tally-later}
-use Rattle.encoder.proofs.Stepping.{value_follows, set_state}
+use Rattle.encoder.proofs.Stepping.{value_follows, set_shape, set_state}
 use Rattle.encoder.proofs.instructions.step_icmp.Goals as goal
 
 pub returns-clause-state : goal.returns-clause-state
@@ -16,7 +16,10 @@ returns-clause-state c =
     rw c.assign.ensures (set_state old new k c.args.state.now c.requires c.args.into c.in_ok-value.value c.args.state.now.alive c.args.state.now.tally c.args.state.now.most
     (is_term-later old new k 1 c.args.state.now.alive c.requires.alive) (tally-later old new k c.args.state.now.tally c.requires.tally) c.in_ok-value.ensures.made)
 
+pub returns-clause-shape : goal.returns-clause-shape
+returns-clause-shape c = rw c.assign.ensures (set_shape c.args.state.now c.args.into c.in_ok-value.value)
+
 pub returns-clause-stands : goal.returns-clause-stands
 returns-clause-stands c = rw c.assign.ensures
-    (value_follows c.args.terms.now c.comparison.new.terms c.comparison.ensures.kept c.args.state.now c.requires c.args.into c.in_ok-value.value (inst.Icmp c.args.into c.args.predicate c.args.same_sign c.args.width c.args.left c.args.right)
-    (λ (rs : List Value). compared c.args.predicate c.args.same_sign c.args.width.bits (operand_value rs c.args.left) (operand_value rs c.args.right)) (λ tape m. refl) (λ v. rw c.as_slice-registers.ensures at (c.in_ok-value.ensures.stands v)))
+    (value_follows c.args.terms.now c.comparison.new.terms c.comparison.ensures.kept c.args.state.now c.requires c.args.into c.in_ok-value.value (inst.Icmp c.args.into c.args.predicate c.args.same_sign c.args.width c.args.operands.left c.args.operands.right)
+    (λ (rs : List Value). compared c.args.predicate c.args.same_sign c.args.width.bits (operand_value rs c.args.operands.left) (operand_value rs c.args.operands.right)) (λ tape m. refl) (λ r names. rw c.as_slice-registers.ensures at (c.in_ok-value.ensures.stands r names)))

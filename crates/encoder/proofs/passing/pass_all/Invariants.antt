@@ -9,9 +9,9 @@ use Rattle.encoder.proofs.passing.pass_all.Given as goal
 abbrev pub invariant-loop-number : goal.invariant-loop-number
 invariant-loop-number l = record {
   kept : Keeps l.fn.terms l.terms;
-  within : l.number ≤ length l.copies;
+  within : l.number ≤ length l.setting.copies.now;
   frontier : IsFrontier l.terms l.frontier;
-  shape : HasShape l.f l.copies l.frontier;
-  tells : (g : Scene) (w : Where) → Sees g l.fn.terms l.tape → Tells g l.fn.terms l.fn.frontier (Some (placed l.f l.copies 0 w))
-      → (x : Where) × (walk l.f l.number (drop l.number l.copies) g.tape x ≡ walk l.f 0 l.copies g.tape w) × Tells g l.terms l.frontier (Some (placed l.f l.copies l.number x));
+  shape : HasShape l.setting l.frontier;
+  tells : (g : Scene) (w : Where) → Sees g l.fn.terms l.setting.tape.now → Tells g l.fn.terms l.fn.frontier (Some (placed l.setting.f.now l.setting.copies.now 0 w))
+      → (x : Where) × (walk l.setting.f.now l.number (drop l.number l.setting.copies.now) g.tape x ≡ walk l.setting.f.now 0 l.setting.copies.now g.tape w) × Tells g l.terms l.frontier (Some (placed l.setting.f.now l.setting.copies.now l.number x));
 }

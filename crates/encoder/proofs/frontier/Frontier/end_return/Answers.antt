@@ -1,8 +1,8 @@
-use Rattle.std.specs.List.{filter}
 use Rattle.std.specs.Option.{option_map}
 use Rattle.points.specs.declared.outcome.Outcome.TheVariants.{Return}
-use Rattle.points.specs.Run.{is_given}
 use Rattle.mem_terms.specs.Values.{value_at}
+use Rattle.mem_terms.specs.Memory.{memory_at}
+use Rattle.encoder.specs.Runs.{sight}
 use Rattle.encoder.proofs.Lasting.{states-later}
 use Rattle.encoder.proofs.Moving.{end_stays, end_goes}
 use Rattle.encoder.proofs.frontier.Frontier.end_return.Goals as goal
@@ -15,4 +15,4 @@ returns-clause-stays c = end_stays c.args.terms.now c.end_return.new.terms c.end
 
 pub returns-clause-goes : goal.returns-clause-goes
 returns-clause-goes c = end_goes c.args.terms.now c.end_return.new.terms c.end_return.ensures.kept c.args.self.now c.requires.own c.end_return.new.self c.args.c c.args.tally
-    (λ g made. record { outcome = Return (option_map (value_at g.v c.args.terms.now) c.args.value) (filter is_given g.memory); taken = made }) c.in_ok-end_return.ensures.goes
+    (λ g made. record { outcome = Return (option_map (value_at (sight g) c.args.terms.now) c.args.value) (memory_at (sight g) c.args.terms.now c.args.given.now); taken = made }) c.in_ok-end_return.ensures.goes
