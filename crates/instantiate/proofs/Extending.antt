@@ -5,19 +5,19 @@ use Rattle.std.proofs.lemmas.List.{take_more}
 use Rattle.ir_tree.specs.declared.tree.IrType.{IrType}
 use Rattle.ir_tree.specs.declared.tree.IrType.TheVariants as type
 use Rattle.ir_tree.specs.declared.tree.Parameter.{Parameter}
-use Rattle.ir_tree.specs.Pointers.{IsInteger, AreIntegers}
 use Rattle.points.specs.declared.point.Shape.{Shape}
 use Rattle.bv_terms.specs.declared.term.TermId.{TermId}
 use Rattle.bv_terms.specs.declared.term.Term.{Term}
 use Rattle.bv_terms.specs.Tree.{width_of}
 use Rattle.bv_terms.specs.Trees.{Extends, Keeps, IsTerm}
 use Rattle.mem_terms.specs.declared.inputs.ArgTerms.{ArgTerms}
+use Rattle.mem_terms.specs.declared.inputs.ArgTerms.TheVariants as arg
 use Rattle.mem_terms.specs.declared.inputs.ByteTerms.{ByteTerms}
 use Rattle.mem_terms.specs.declared.inputs.InputTerms.{InputTerms}
 use Rattle.mem_terms.specs.Values.{Each}
-use Rattle.mem_terms.specs.Inputs.{IsArg, AreArgs, argument_width}
+use Rattle.mem_terms.specs.Inputs.{IsArg, AreArgs, IsByteTerms, IsBlockTerms}
 use Rattle.mem_terms.proofs.Eaches.{each-weaker, each-push}
-use Rattle.refine_terms.specs.Numbers.{IsByteTerms, IsBlockTerms, IsInputOf}
+use Rattle.refine_terms.specs.Numbers.{IsInputOf}
 use Rattle.instantiate.specs.Orders.{IsOrder}
 use Rattle.instantiate.specs.Questions.{value_widths, args_widths, places_widths, blocks_widths}
 
@@ -30,9 +30,6 @@ extends_trans a b c p q = record {
   kept = λ x lt. q.kept x (omega (arith, p.longer)) ∙ p.kept x lt;
 }
 
-pub extends_kept : (a b : List Term) → Keeps a b → Extends a b
-extends_kept a b k = record { longer = k.longer; terms = k.terms; kept = k.kept }
-
 module _ (old new : List Term) (e : Extends old new) where
   pub term_extended : (n : ℕ) (a : TermId) → IsTerm old n a → IsTerm new n a
   term_extended n a h = record { within = omega (arith, h.within, e.longer); wide = ap width_of (e.kept a h.within) ∙ h.wide }
@@ -40,12 +37,15 @@ module _ (old new : List Term) (e : Extends old new) where
   pub terms_extended : (n : ℕ) (xs : List TermId) → Each (IsTerm old n) xs → Each (IsTerm new n) xs
   terms_extended n xs h = each-weaker (IsTerm old n) (IsTerm new n) xs (term_extended n) h
 
-  pub arg_extended : (n : ℕ) (a : ArgTerms) → IsArg old n a → IsArg new n a
-  arg_extended n a h = record { flag = term_extended 1 a.flag h.flag; number = term_extended n a.number h.number }
+  pub arg_extended : (t : IrType) (a : ArgTerms) → IsArg old t a → IsArg new t a
+  arg_extended (type.Int w) (arg.Int flag number) h = (term_extended 1 flag h.0, term_extended w.bits number h.1)
+  arg_extended type.Ptr (arg.Ptr flag block offset) h = (term_extended 1 flag h.0, term_extended 3 block h.1, term_extended 64 offset h.2)
+  arg_extended (type.Int w) (arg.Ptr flag block offset) h = h
+  arg_extended type.Ptr (arg.Int flag number) h = h
 
   pub args_extended : (ps : List Parameter) (args : List ArgTerms) → AreArgs old ps args → AreArgs new ps args
   args_extended [] [] h = tt
-  args_extended (p ∷ ps) (a ∷ rest) h = (arg_extended (argument_width p.of_type) a h.0, args_extended ps rest h.1)
+  args_extended (p ∷ ps) (a ∷ rest) h = (arg_extended p.of_type a h.0, args_extended ps rest h.1)
   args_extended [] (a ∷ rest) h = h
   args_extended (p ∷ ps) [] h = h
 
@@ -125,28 +125,16 @@ widths_push : (ps : List Parameter) (p : Parameter) → args_widths (ps ++ p ∷
 widths_push [] p = append-nil (value_widths p.of_type)
 widths_push (q ∷ qs) p = ap (λ ws. value_widths q.of_type ++ ws) (widths_push qs p) ∙ sym (append_assoc (value_widths q.of_type) (args_widths qs) (value_widths p.of_type))
 
-integer_widths : (t : IrType) → IsInteger t → (1 ∷ argument_width t ∷ []) ≡ value_widths t
-integer_widths (type.Int width) i = refl
-integer_widths type.Ptr i = absurd i
+pub widths_more : (ps : List Parameter) (i : ℕ) (d : Parameter) → i < length ps → args_widths (take i ps) ++ value_widths (get_or ps i d).of_type ≡ args_widths (take (i + 1) ps)
+widths_more ps i d lt = sym (widths_push (take i ps) (get_or ps i d)) ∙ sym (ap args_widths (take_more ps i d lt))
 
-pub integer_at : (ps : List Parameter) (i : ℕ) (d : Parameter) → AreIntegers ps → i < length ps → IsInteger (get_or ps i d).of_type
-integer_at [] i d h lt = absurd (omega arith)
-integer_at (p ∷ ps) zero d h lt = h.0
-integer_at (p ∷ ps) (suc i) d h lt = integer_at ps i d h.1 (omega arith)
-
-pub widths_more : (ps : List Parameter) (i : ℕ) (d : Parameter) → AreIntegers ps → i < length ps
-    → args_widths (take i ps) ++ (1 ∷ argument_width (get_or ps i d).of_type ∷ []) ≡ args_widths (take (i + 1) ps)
-widths_more ps i d h lt =
-    ap (λ ws. args_widths (take i ps) ++ ws) (integer_widths (get_or ps i d).of_type (integer_at ps i d h lt))
-    ∙ (sym (widths_push (take i ps) (get_or ps i d)) ∙ sym (ap args_widths (take_more ps i d lt)))
-
-args_push : (terms : List Term) (ps : List Parameter) (args : List ArgTerms) (p : Parameter) (a : ArgTerms) → AreArgs terms ps args → IsArg terms (argument_width p.of_type) a → AreArgs terms (ps ++ p ∷ []) (args ++ a ∷ [])
+args_push : (terms : List Term) (ps : List Parameter) (args : List ArgTerms) (p : Parameter) (a : ArgTerms) → AreArgs terms ps args → IsArg terms p.of_type a → AreArgs terms (ps ++ p ∷ []) (args ++ a ∷ [])
 args_push terms [] [] p a h is = (is, tt)
 args_push terms (q ∷ qs) (b ∷ bs) p a h is = (h.0, args_push terms qs bs p a h.1 is)
 args_push terms [] (b ∷ bs) p a h is = absurd h
 args_push terms (q ∷ qs) [] p a h is = absurd h
 
-pub args_more : (terms : List Term) (ps : List Parameter) (i : ℕ) (d : Parameter) (args more : List ArgTerms) (a : ArgTerms) → i < length ps → AreArgs terms (take i ps) args → IsArg terms (argument_width (get_or ps i d).of_type) a
+pub args_more : (terms : List Term) (ps : List Parameter) (i : ℕ) (d : Parameter) (args more : List ArgTerms) (a : ArgTerms) → i < length ps → AreArgs terms (take i ps) args → IsArg terms (get_or ps i d).of_type a
     → more ≡ args ++ a ∷ [] → AreArgs terms (take (i + 1) ps) more
 args_more terms ps i d args more a lt h is e = rw (e, take_more ps i d lt) (args_push terms (take i ps) args (get_or ps i d) a h is)
 

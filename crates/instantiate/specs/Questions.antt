@@ -4,7 +4,6 @@ use Rattle.ir_tree.specs.declared.tree.IrType.{IrType}
 use Rattle.ir_tree.specs.declared.tree.IrType.TheVariants as type
 use Rattle.ir_tree.specs.declared.tree.Parameter.{Parameter}
 use Rattle.ir_tree.specs.Limits.{IsWithinLimits}
-use Rattle.ir_tree.specs.Pointers.{HasNoPointers}
 use Rattle.points.specs.declared.point.Bounds.{Bounds}
 use Rattle.points.specs.declared.point.Point.{Point}
 use Rattle.points.specs.declared.point.Shape.{Shape}
@@ -21,7 +20,7 @@ use Rattle.clause_search.specs.Outcome.{IsCareful, IsSpent}
 use Rattle.answer_order.specs.Fronts.{numbers_of, total}
 use Rattle.sat_ask.specs.Asks.{Asks, HasSmallNumbers}
 use Rattle.unroll.specs.Small.{AreSmall}
-use Rattle.encoder.specs.Frontier.{ReturnsFit}
+use Rattle.encoder.specs.Frontier.{CanRun}
 use Rattle.instantiate.specs.declared.found.Found.{Found}
 use Rattle.instantiate.specs.declared.found.Found.TheVariants as found
 
@@ -30,10 +29,8 @@ use Rattle.instantiate.specs.declared.found.Found.TheVariants as found
 pub record CanBeAsked (pair : Functions) (bounds : Bounds) : Type 0 where
   pub source_limits : IsWithinLimits pair.source
   pub target_limits : IsWithinLimits pair.target
-  pub source_pointers : HasNoPointers pair.source
-  pub target_pointers : HasNoPointers pair.target
-  pub source_returns : ReturnsFit pair.source
-  pub target_returns : ReturnsFit pair.target
+  pub source_run : CanRun pair.source
+  pub target_run : CanRun pair.target
   pub small : AreSmall bounds
 
 -- ---- the widths of the numbers

@@ -7,6 +7,7 @@ use Rattle.points.specs.Pair.{Functions}
 use Rattle.points.specs.Tapes.{need_of, widest_choice}
 use Rattle.bv_terms.specs.declared.term.TermId.{TermId}
 use Rattle.mem_terms.specs.declared.inputs.ArgTerms.{ArgTerms}
+use Rattle.mem_terms.specs.declared.inputs.ArgTerms.TheVariants as arg
 use Rattle.mem_terms.specs.declared.inputs.ByteTerms.{ByteTerms}
 use Rattle.mem_terms.specs.declared.inputs.InputTerms.{InputTerms}
 
@@ -19,7 +20,8 @@ pub record IsShapeOf (pair : Functions) (bounds : Bounds) (s : Shape) : Type 0 w
   pub word_width : s.word_width.bits ≡ widest_choice pair.target
 
 abbrev pub arg_ids : ArgTerms → List TermId
-arg_ids a = a.flag ∷ a.number ∷ []
+arg_ids (arg.Int flag number) = flag ∷ number ∷ []
+arg_ids (arg.Ptr flag block offset) = flag ∷ block ∷ offset ∷ []
 
 abbrev pub byte_ids : ByteTerms → List TermId
 byte_ids b = b.kind ∷ b.number ∷ b.block ∷ b.offset ∷ b.part ∷ []

@@ -12,7 +12,7 @@ ghost use Rattle.instantiate.specs.Candidates.{IsTrial, Narrows};
 ghost use Rattle.instantiate.specs.Questions.{CanBeAsked, IsCovering, IsUncovered};
 ghost use Rattle.instantiate.specs.Shapes.{IsShapeOf};
 
-use crate::inputs::known_input;
+use crate::known::known_input;
 use crate::tapes::{SHIFTS, known, moved};
 use bv_terms::{TermId, Terms};
 use encoder::encode;
@@ -29,6 +29,7 @@ use unroll::{Layered, layers, need};
 struct Trial<'t> {
     source: &'t Function,
     layered: &'t Layered,
+    bounds: &'t Bounds,
     input: &'t InputTerms,
     target: &'t OutcomeTerms,
 }
@@ -51,6 +52,7 @@ fn and_uncovered(
         alloc,
         trial.source,
         trial.layered,
+        trial.bounds,
         trial.input,
         candidate,
         terms,
@@ -127,11 +129,12 @@ pub fn uncovered(
     let of_target = layers(alloc, pair.target(), bounds.turns)?;
     let of_source = layers(alloc, pair.source(), bounds.turns)?;
     let words = need(pair.source(), bounds.turns) as usize;
-    let target = encode(alloc, pair.target(), &of_target, input, tape, terms)?;
+    let target = encode(alloc, pair.target(), &of_target, bounds, input, tape, terms)?;
     let is_point = well_point(shape, input, tape, &target, terms)?;
     let trial = Trial {
         source: pair.source(),
         layered: &of_source,
+        bounds,
         input,
         target: &target,
     };
@@ -145,11 +148,13 @@ pub fn covering(
     alloc: Global,
     pair: &Pair,
     bounds: &Bounds,
+    shape: &Shape,
     point: &Point,
     tape: &TapeTerms,
     terms: &mut Terms,
 ) -> Result<TermId, NoMemory>
     requires ready { CanBeAsked pair.now bounds.now }
+    requires shape { IsShapeOf pair.now bounds.now shape.now }
     requires point { IsPoint pair.now bounds.now point.now }
     requires words { AreWords terms.old tape.now.words }
     requires count { length tape.now.words ≡ need_of bounds.now.turns pair.now.source }
@@ -159,11 +164,26 @@ pub fn covering(
     terms.values_fit();
     let of_target = layers(alloc, pair.target(), bounds.turns)?;
     let of_source = layers(alloc, pair.source(), bounds.turns)?;
-    let parameters = pair.target().parameters.as_slice();
-    let input = known_input(alloc, parameters, point.input.args.as_slice(), terms)?;
+    let input = known_input(alloc, shape, point, terms)?;
     let choices = known(alloc, point.tape.as_slice(), terms)?;
-    let target = encode(alloc, pair.target(), &of_target, &input, &choices, terms)?;
-    let source = encode(alloc, pair.source(), &of_source, &input, tape, terms)?;
+    let target = encode(
+        alloc,
+        pair.target(),
+        &of_target,
+        bounds,
+        &input,
+        &choices,
+        terms,
+    )?;
+    let source = encode(
+        alloc,
+        pair.source(),
+        &of_source,
+        bounds,
+        &input,
+        tape,
+        terms,
+    )?;
     let id = covered(&source, &target, terms)?;
     Ok(id)
 }

@@ -1,51 +1,68 @@
-//! The numbers of a point as variables, and known arguments.
+//! The numbers of a point as variables.
 
-ghost use Rattle.std.specs.Prelude.{◌≡◌, ◌++◌, ◌∷◌, ◌≤◌, [], IfOk, List, OnOk, length, replicate, ℕ};
+ghost use Rattle.std.specs.Prelude.{◌≡◌, ◌++◌, IfOk, List, OnOk, length, replicate, ℕ};
 ghost use Rattle.std.specs.List.{flat_map};
-ghost use Rattle.ir_tree.specs.Pointers.{AreIntegers, IsInteger};
-ghost use Rattle.points.specs.Code.{ArgsFit, ValueFits};
-ghost use Rattle.bv_terms.specs.Trees.{Extends, IsTerm, IsWidth, Keeps};
+ghost use Rattle.bv_terms.specs.Trees.{Extends, IsTerm, IsWidth};
 ghost use Rattle.mem_terms.specs.Values.{Each};
-ghost use Rattle.mem_terms.specs.Inputs.{AreArgs, AreWords, IsArg, arg_at, args_at, argument_width};
-ghost use Rattle.refine_terms.specs.Numbers.{IsBlockTerms, IsByteTerms, IsInputOf};
+ghost use Rattle.mem_terms.specs.Inputs.{AreArgs, AreWords, IsArg, IsBlockTerms, IsByteTerms};
+ghost use Rattle.refine_terms.specs.Numbers.{IsInputOf};
 ghost use Rattle.instantiate.specs.Orders.{IsOrder};
-ghost use Rattle.instantiate.specs.Questions.{args_widths, blocks_widths, places_widths};
+ghost use Rattle.instantiate.specs.Questions.{args_widths, blocks_widths, places_widths, value_widths};
 ghost use Rattle.instantiate.specs.Shapes.{arg_ids, byte_ids, input_ids};
 
 use crate::variables::variable;
 use bv_terms::{TermId, Terms};
-use byte_block::Value;
 use ir_tree::{IrType, Parameter};
-use mem_terms::{ArgTerms, ByteTerms, InputTerms, TapeTerms, truth};
+use mem_terms::{ArgTerms, ByteTerms, InputTerms, TapeTerms};
 use points::Shape;
 use std::alloc::Global;
 use support::{NoMemory, Sequence};
 
 /// How many bits the size of a given block has, which is at most 32.
-const SIZE_WIDTH: u32 = 6;
+pub const SIZE_WIDTH: u32 = 6;
 
 /// How many bits a word of a tape has.
 const WORD_WIDTH: u32 = 64;
 
-/// How many bits an integer has, or a pointer's offset.
-fn bits_of(of_type: IrType) -> u32
-    ensures bits { result ≡ argument_width of_type }
-    ensures range { IsWidth result }
+/// How many bits the number of a given block has in a code.
+const BLOCK_WIDTH: u32 = 3;
+
+/// The numbers of an argument of a type.
+fn arg_variable(
+    of_type: IrType,
+    terms: &mut Terms,
+    order: &mut Vec<TermId>,
+) -> Result<ArgTerms, NoMemory>
+    ensures arg { IfOk result (IsArg terms.new of_type) }
+    ensures order { OnOk result ((widths : List ℕ) → IsOrder terms.old order.old.items widths → IsOrder terms.new order.new.items (widths ++ value_widths of_type)) }
+    ensures ids { IfOk result (λ arg. order.new.items ≡ order.old.items ++ arg_ids arg) }
+    ensures kept { Extends terms.old terms.new }
 {
+    let flag = variable(terms, order, 1)?;
     match of_type {
-        IrType::Int(width) => width.bits(),
-        IrType::Ptr => WORD_WIDTH,
+        IrType::Int(width) => {
+            let number = variable(terms, order, width.bits())?;
+            Ok(ArgTerms::Int { flag, number })
+        }
+        IrType::Ptr => {
+            let block = variable(terms, order, BLOCK_WIDTH)?;
+            let offset = variable(terms, order, WORD_WIDTH)?;
+            Ok(ArgTerms::Ptr {
+                flag,
+                block,
+                offset,
+            })
+        }
     }
 }
 
-/// A flag and a number for each parameter, which are integers.
+/// The numbers of an argument for each parameter.
 fn arg_variables(
     alloc: Global,
     parameters: &[Parameter],
     terms: &mut Terms,
     order: &mut Vec<TermId>,
 ) -> Result<Sequence<ArgTerms>, NoMemory>
-    requires { AreIntegers parameters.now }
     ensures args { IfOk result (AreArgs terms.new parameters.now) }
     ensures order { OnOk result ((widths : List ℕ) → IsOrder terms.old order.old.items widths → IsOrder terms.new order.new.items (widths ++ args_widths parameters.now)) }
     ensures ids { IfOk result (λ args. order.new.items ≡ order.old.items ++ flat_map arg_ids args) }
@@ -53,9 +70,8 @@ fn arg_variables(
 {
     let mut args = Vec::new(alloc);
     for parameter in parameters {
-        let flag = variable(terms, order, 1)?;
-        let number = variable(terms, order, bits_of(parameter.of_type))?;
-        args.push(ArgTerms { flag, number })?;
+        let arg = arg_variable(parameter.of_type, terms, order)?;
+        args.push(arg)?;
     }
     Ok(Sequence::from_vec(args))
 }
@@ -153,7 +169,6 @@ pub fn input_variables(
     terms: &mut Terms,
     order: &mut Vec<TermId>,
 ) -> Result<InputTerms, NoMemory>
-    requires { AreIntegers shape.now.parameters }
     ensures input { IfOk result (IsInputOf shape.now terms.new) }
     ensures order { OnOk result ((widths : List ℕ) → IsOrder terms.old order.old.items widths → IsOrder terms.new order.new.items
         (widths ++ (args_widths shape.now.parameters ++ (replicate shape.now.blocks 6 ++ blocks_widths shape.now.bytes shape.now.blocks)))) }
@@ -185,46 +200,4 @@ pub fn tape_variables(
 {
     let words = row_of_variables(alloc, words, WORD_WIDTH, terms, order)?;
     Ok(TapeTerms { words })
-}
-
-/// An argument that is this value, which fits the type.
-fn known_arg(of_type: IrType, value: Value, terms: &mut Terms) -> Result<ArgTerms, NoMemory>
-    requires integer { IsInteger of_type }
-    requires fits { ValueFits 0 of_type value }
-    ensures is { IfOk result (IsArg terms.new (argument_width of_type)) }
-    ensures stands { IfOk result (λ arg. (v : ℕ → ℕ → ℕ) → arg_at v terms.new arg ≡ value) }
-    ensures kept { Keeps terms.old terms.new }
-{
-    let (is_poison, known) = match value {
-        Value::Num(number) => (false, number),
-        Value::Ptr(_) | Value::Poison => (true, 0),
-    };
-    let flag = truth(terms, is_poison)?;
-    let number = terms.constant(known as u128, bits_of(of_type))?;
-    Ok(ArgTerms { flag, number })
-}
-
-/// Arguments that are these values, which fit their parameters.
-pub fn known_input(
-    alloc: Global,
-    parameters: &[Parameter],
-    args: &[Value],
-    terms: &mut Terms,
-) -> Result<InputTerms, NoMemory>
-    requires integers { AreIntegers parameters.now }
-    requires fit { ArgsFit 0 parameters.now args.now }
-    ensures are { IfOk result (λ input. AreArgs terms.new parameters.now input.args) }
-    ensures stands { IfOk result (λ input. (v : ℕ → ℕ → ℕ) → args_at v terms.new input.args ≡ args.now) }
-    ensures kept { Keeps terms.old terms.new }
-{
-    let mut known = Vec::new(alloc);
-    for (i, parameter) in parameters.iter().enumerate() {
-        let arg = known_arg(parameter.of_type, args[i], terms)?;
-        known.push(arg)?;
-    }
-    Ok(InputTerms {
-        args: Sequence::from_vec(known),
-        sizes: Sequence::from_vec(Vec::new(alloc)),
-        places: Sequence::from_vec(Vec::new(alloc)),
-    })
 }

@@ -11,6 +11,7 @@ mod asking;
 mod found;
 mod goals;
 mod inputs;
+mod known;
 mod questions;
 mod settled;
 mod settling;

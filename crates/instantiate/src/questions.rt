@@ -116,7 +116,8 @@ pub fn least_cover(
     let words = need(pair.source(), bounds.turns);
     let tape = tape_variables(alloc, words, &mut terms, &mut order)?;
     let widths = widths_of(alloc, &terms, order.as_slice())?;
-    let goal = covering(alloc, pair, bounds, point, &tape, &mut terms)?;
+    let shape = shape_of(alloc, pair, bounds)?;
+    let goal = covering(alloc, pair, bounds, &shape, point, &tape, &mut terms)?;
     let found = least_numbers(
         alloc,
         &terms,

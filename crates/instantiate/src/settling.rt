@@ -2,9 +2,8 @@
 
 ghost use Rattle.std.specs.Prelude.{◌≡◌, ◌<◌, IfOk, IfSome};
 ghost use Rattle.ir_tree.specs.Limits.{IsWithinLimits};
-ghost use Rattle.ir_tree.specs.Pointers.{HasNoPointers};
 ghost use Rattle.points.specs.Range.{AreInRange};
-ghost use Rattle.encoder.specs.Frontier.{ReturnsFit};
+ghost use Rattle.encoder.specs.Frontier.{CanRun};
 ghost use Rattle.instantiate.specs.Questions.{CanBeAsked};
 ghost use Rattle.instantiate.specs.Settling.{IsSettled, IsTold, limit_of};
 
@@ -88,7 +87,7 @@ fn grow(alloc: Global, pair: &Pair, bounds: &Bounds, budget: &Budget) -> Result<
     }
 }
 
-/// The verdict on a pair of functions without pointers, with the trail that led to it. Each
+/// The verdict on a pair of functions, with the trail that led to it. Each
 /// round asks for the least point that neither a shift of its tape nor a tape of the trail covers,
 /// and then for the least tape of the source that covers it, as in counterexample-guided
 /// instantiation of quantifiers; the two quantifiers are those of refinement as Alive2 defines it
@@ -104,10 +103,8 @@ pub fn settle(
 ) -> Result<Settled, NoMemory>
     requires source_limits { IsWithinLimits pair.now.source }
     requires target_limits { IsWithinLimits pair.now.target }
-    requires source_pointers { HasNoPointers pair.now.source }
-    requires target_pointers { HasNoPointers pair.now.target }
-    requires source_returns { ReturnsFit pair.now.source }
-    requires target_returns { ReturnsFit pair.now.target }
+    requires source_run { CanRun pair.now.source }
+    requires target_run { CanRun pair.now.target }
     requires in_range { AreInRange bounds.now budget.now }
     ensures { IfOk result (IsSettled pair.now bounds.now budget.now) }
 {

@@ -1,2 +1,3 @@
+pub mod AllocaNumbers
 pub mod Returns
 pub mod Told

@@ -1,5 +1,5 @@
--- In a well-formed function each return has a value where the header has a type.
-use Rattle.std.proofs.Common.{◌≡◌, ℕ, arith, refl, false, get_or, slice_get, Option, Some, None, inl}
+-- A well-formed function within the limits can be run: each return has a value where the header has a type.
+use Rattle.std.proofs.Common.{◌≡◌, ℕ, arith, refl, false, All, get_or, slice_get, Option, Some, None, inl}
 use Rattle.std.specs.List.{Contains}
 use Rattle.std.proofs.lemmas.Option.{slice_get-get_or}
 use Rattle.ir_tree.specs.declared.tree.IrType.{IrType}
@@ -9,9 +9,10 @@ use Rattle.ir_tree.specs.declared.tree.Block.{Block}
 use Rattle.ir_tree.specs.declared.tree.Function.{Function}
 use Rattle.ir_tree.specs.declared.sites.Site.TheVariants.{Written}
 use Rattle.ir_tree.specs.Sites.{terminator_sites}
+use Rattle.ir_tree.specs.Limits.{IsWithinLimits}
 use Rattle.ir_tree.specs.WellFormed.{IsWellFormed}
 use Rattle.ir_tree.proofs.Standing.{end_site}
-use Rattle.encoder.specs.Frontier.{FitsReturn, ReturnsFit}
+use Rattle.encoder.specs.Frontier.{CanRun, FitsReturn, HasSmallNumbers, ReturnsFit}
 
 -- no end of a block has a site that was wrongly written
 abbrev AllIsWell : Option IrType → Terminator → Type 0
@@ -32,5 +33,8 @@ ends_well f formed k b stands wrong =
     let at = end_site f k b (Written false) stands wrong in
     formed.types at.0 (inl at.1)
 
-pub returns_fit : (f : Function) → IsWellFormed f → ReturnsFit f
+returns_fit : (f : Function) → IsWellFormed f → ReturnsFit f
 returns_fit f formed = λ k d below. fits f.returns (get_or f.blocks k d).terminator (ends_well f formed k (get_or f.blocks k d) (slice_get-get_or f.blocks k d below))
+
+pub can_run : (f : Function) → IsWellFormed f → IsWithinLimits f → All HasSmallNumbers f.blocks → CanRun f
+can_run f formed limits numbers = record { returns = returns_fit f formed; objects = limits.objects; numbers = numbers }

@@ -1,21 +1,22 @@
 -- Which pairs the judge takes, and what it may answer of them.
+use Rattle.std.specs.Prelude.{All}
 use Rattle.ir_tree.specs.Limits.{IsWithinLimits}
-use Rattle.ir_tree.specs.Pointers.{HasNoPointers}
 use Rattle.ir_tree.specs.WellFormed.{IsWellFormed}
 use Rattle.points.specs.declared.point.Bounds.{Bounds}
 use Rattle.points.specs.declared.point.Budget.{Budget}
 use Rattle.points.specs.Pair.{Functions}
 use Rattle.pair_driver.specs.declared.judged.Judged.{Judged}
+use Rattle.encoder.specs.Frontier.{HasSmallNumbers}
 use Rattle.instantiate.specs.Settling.{IsJudged}
 
--- functions that are well formed and within the limits, and have no pointers
+-- functions that are well formed and within the limits, whose allocas have numbers below 65,536
 pub record CanBeJudged (pair : Functions) : Type 0 where
   pub source_formed : IsWellFormed pair.source
   pub target_formed : IsWellFormed pair.target
   pub source_limits : IsWithinLimits pair.source
   pub target_limits : IsWithinLimits pair.target
-  pub source_pointers : HasNoPointers pair.source
-  pub target_pointers : HasNoPointers pair.target
+  pub source_numbers : All HasSmallNumbers pair.source.blocks
+  pub target_numbers : All HasSmallNumbers pair.target.blocks
 
 -- the verdict by the one trail, with that trail and the certificate of its last question
 abbrev pub IsAnswer : Functions → Bounds → Budget → Judged → Type 0

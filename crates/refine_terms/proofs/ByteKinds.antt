@@ -9,7 +9,8 @@ use Rattle.mem_terms.specs.declared.inputs.ByteTerms.{ByteTerms}
 use Rattle.mem_terms.proofs.Bits.{term-below}
 use Rattle.mem_terms.proofs.Later.{keeps_trans, bit-later, term-later}
 use Rattle.refine_terms.specs.Deciding.{Decides}
-use Rattle.refine_terms.specs.Numbers.{IsByteTerms, byte_numbers}
+use Rattle.mem_terms.specs.Inputs.{IsByteTerms}
+use Rattle.refine_terms.specs.Numbers.{byte_numbers}
 use Rattle.refine_terms.specs.Groups.{IsCodeOfPlace}
 use Rattle.refine_terms.proofs.Truths.{and_left, and_right, equal_says, at_most_says}
 use Rattle.refine_terms.proofs.Deciders.{tested, at_equal, decides-later, either_decides}

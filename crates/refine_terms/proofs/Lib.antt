@@ -1,6 +1,9 @@
 pub mod Truths
 pub mod Deciders
 pub mod Refining
+pub mod ValueTests
+pub mod MemoryTests
 pub mod ByteKinds
 pub mod Rows
+pub mod ArgNumbers
 pub mod PointChains

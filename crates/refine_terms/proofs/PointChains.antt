@@ -1,39 +1,27 @@
 -- The tests of a point's groups say that its numbers are a code.
-use Rattle.std.proofs.Common.{ℕ, zero, suc, ◌≡◌, ◌<◌, ◌≤◌, ◌-◌, ◌*◌, ◌^◌, ◌↔◌, inl, inr, true, ◌&&◌, List, [], ◌∷◌, ◌++◌, length, map, refl, sym, ap, subst, ◌∙◌, arith, length-append}
+use Rattle.std.proofs.Common.{ℕ, zero, suc, ◌≡◌, ◌<◌, ◌≤◌, ◌-◌, ◌*◌, ◌^◌, ◌↔◌, true, ◌&&◌, List, [], ◌∷◌, ◌++◌, length, map, refl, sym, ap, subst, ◌∙◌, arith, length-append}
 use Rattle.std.specs.List.{flat_map}
 use Rattle.std.proofs.lemmas.Nat.{pow_pos}
-use Rattle.ir_tree.specs.declared.tree.IrType.{IrType}
-use Rattle.ir_tree.specs.declared.tree.IrType.TheVariants.{Int, Ptr}
-use Rattle.ir_tree.specs.declared.tree.Parameter.{Parameter}
-use Rattle.ir_tree.specs.Pointers.{IsInteger, AreIntegers}
 use Rattle.points.specs.declared.point.Shape.{Shape}
 use Rattle.points.specs.Code.{WordsFit}
-use Rattle.points.specs.Codes.{IsChain, IsCodeOfValue, IsCodeOfArgs, AreSizes, IsCodeOfBlocks, IsCode}
+use Rattle.points.specs.Codes.{IsChain, IsCodeOfArgs, AreSizes, IsCodeOfBlocks, IsCode}
 use Rattle.bv_terms.specs.declared.term.TermId.{TermId}
 use Rattle.bv_terms.specs.declared.term.Term.{Term}
-use Rattle.bv_terms.specs.Tree.{width_of}
-use Rattle.bv_terms.specs.Trees.{Keeps, Tests, IsTerm, bit_at, term_at, tree_in}
-use Rattle.mem_terms.specs.declared.inputs.ArgTerms.{ArgTerms}
+use Rattle.bv_terms.specs.Trees.{Keeps, Tests, IsTerm, bit_at, term_at}
 use Rattle.mem_terms.specs.declared.inputs.ByteTerms.{ByteTerms}
 use Rattle.mem_terms.specs.declared.inputs.InputTerms.{InputTerms}
 use Rattle.mem_terms.specs.declared.inputs.TapeTerms.{TapeTerms}
 use Rattle.mem_terms.specs.Values.{Each}
-use Rattle.mem_terms.specs.Inputs.{IsArg, AreArgs, argument_width, words_at}
+use Rattle.mem_terms.specs.Inputs.{IsBlockTerms, words_at}
 use Rattle.mem_terms.proofs.Eaches.{each-weaker, map-same, map-length}
-use Rattle.mem_terms.proofs.Later.{keeps_trans, term-later, bit-later, is_term-later}
+use Rattle.mem_terms.proofs.Later.{block_terms-later, keeps_trans, term-later, bit-later, is_term-later}
 use Rattle.refine_terms.specs.Deciding.{Decides, IsNarrow}
-use Rattle.refine_terms.specs.Groups.{IsArgCode, IsArgOfWidth}
-use Rattle.refine_terms.specs.Numbers.{IsBlockTerms, IsInputOf, IsTapeOf, arg_numbers, block_numbers, numbers_at}
+use Rattle.refine_terms.specs.Numbers.{IsInputOf, IsTapeOf, arg_numbers, block_numbers, numbers_at}
 use Rattle.refine_terms.proofs.Deciders.{as_fact, at_equal, decides-later, both_decide}
-use Rattle.refine_terms.proofs.Rows.{chain_parts, same_parts, places_long, block_long, block-later, block_terms-later}
+use Rattle.refine_terms.proofs.Rows.{chain_parts, same_parts, places_long, block_long, block-later}
+use Rattle.refine_terms.proofs.ArgNumbers.{args_long}
 
 -- ---- the terms of a shape are what the tests take
-
-pub args_of_width : (old : List Term) (ps : List Parameter) (args : List ArgTerms) → AreArgs old ps args → Each (IsArgOfWidth old) args
-args_of_width old [] [] h = tt
-args_of_width old (p ∷ ps) (a ∷ rest) h = (subst (λ n. IsArg old n a) (sym (h.0.number.wide)) h.0, args_of_width old ps rest h.1)
-args_of_width old [] (a ∷ rest) h = absurd h
-args_of_width old (p ∷ ps) [] h = absurd h
 
 pub are_narrow : (old new : List Term) (n : ℕ) (xs : List TermId) → n ≤ 64 → Keeps old new → Each (IsTerm old n) xs → Each (IsNarrow new) xs
 are_narrow old new n xs le k h =
@@ -42,38 +30,6 @@ are_narrow old new n xs le k h =
 
 pub are_blocks : (old new : List Term) (bytes : ℕ) (xs : List (List ByteTerms)) → Keeps old new → Each (IsBlockTerms bytes old) xs → Each (IsBlockTerms bytes new) xs
 are_blocks old new bytes xs k h = each-weaker (IsBlockTerms bytes old) (IsBlockTerms bytes new) xs (block_terms-later old new k bytes) h
-
--- ---- arguments
-
-value_says : (blocks width : ℕ) (t : IrType) (ds : List ℕ) → IsInteger t → width ≡ argument_width t → IsArgCode width ds ↔ IsCodeOfValue blocks t ds
-value_says blocks width (Int w) ds i e = rw e ((λ h. h), (λ h. h))
-value_says blocks width Ptr ds i e = absurd i
-
-value_long : (blocks : ℕ) (t : IrType) (ds : List ℕ) → IsInteger t → IsCodeOfValue blocks t ds → length ds ≡ 2
-value_long blocks (Int w) ds i (inl n) = rw n.is refl
-value_long blocks (Int w) ds i (inr e) = rw e refl
-value_long blocks Ptr ds i h = absurd i
-
-args_long : (v : ℕ → ℕ → ℕ) (old : List Term) (blocks : ℕ) (ps : List Parameter) (args : List ArgTerms) → AreIntegers ps → AreArgs old ps args
-    → (ds : List ℕ) → IsCodeOfArgs blocks ps ds → length ds ≡ length (flat_map (arg_numbers v old) args)
-args_long v old blocks [] [] i h ds c = rw c refl
-args_long v old blocks (p ∷ ps) (a ∷ rest) i h ds c =
-    let two = value_long blocks p.of_type c.front i.0 c.in_front in
-    let more = args_long v old blocks ps rest i.1 h.1 c.back c.in_back in
-    rw (c.whole, length-append) (omega (arith, two, more))
-args_long v old blocks [] (a ∷ rest) i h ds c = absurd h
-args_long v old blocks (p ∷ ps) [] i h ds c = absurd h
-
-args_say : (v : ℕ → ℕ → ℕ) (old : List Term) (blocks : ℕ) (ps : List Parameter) (args : List ArgTerms) → AreIntegers ps → AreArgs old ps args
-    → Each (λ a. IsArgCode (width_of (tree_in old a.number)) (arg_numbers v old a)) args ↔ IsCodeOfArgs blocks ps (flat_map (arg_numbers v old) args)
-args_say v old blocks [] [] i h = ((λ _. refl), (λ _. tt))
-args_say v old blocks (p ∷ ps) (a ∷ rest) i h =
-    let here = value_says blocks (width_of (tree_in old a.number)) p.of_type (arg_numbers v old a) i.0 h.0.number.wide in
-    let behind = args_say v old blocks ps rest i.1 h.1 in
-    let chain = chain_parts (IsCodeOfValue blocks p.of_type) (λ value more. IsCodeOfArgs blocks ps more) (arg_numbers v old a) (flat_map (arg_numbers v old) rest) (λ ds c. value_long blocks p.of_type ds i.0 c) in
-    ((λ e. chain.1 (here.0 e.0, behind.0 e.1)), (λ c. let parts = chain.0 c in (here.1 parts.0, behind.1 parts.1)))
-args_say v old blocks [] (a ∷ rest) i h = absurd h
-args_say v old blocks (p ∷ ps) [] i h = absurd h
 
 -- ---- sizes and words
 
@@ -116,12 +72,12 @@ blocks-later old new k bytes (x ∷ xs) h v =
 
 -- ---- the whole
 
-code_says : (v : ℕ → ℕ → ℕ) (old : List Term) (s : Shape) (input : InputTerms) (tape : TapeTerms) → AreIntegers s.parameters → IsInputOf s old input
+code_says : (v : ℕ → ℕ → ℕ) (old : List Term) (s : Shape) (input : InputTerms) (tape : TapeTerms) → IsInputOf s old input
     → (IsCodeOfArgs s.blocks s.parameters (flat_map (arg_numbers v old) input.args)
     × (AreSizes s.bytes s.blocks (map (term_at v old) input.sizes)
     × (IsCodeOfBlocks s.blocks s.bytes (map (term_at v old) input.sizes) (flat_map (block_numbers v old) input.places) × WordsFit s.word_width.bits s.words (words_at v old tape.words))))
     ↔ IsCode s (numbers_at v old input tape)
-code_says v old s input tape i h =
+code_says v old s input tape h =
     let args = flat_map (arg_numbers v old) input.args in
     let sizes = map (term_at v old) input.sizes in
     let places = flat_map (block_numbers v old) input.places in
@@ -129,7 +85,7 @@ code_says v old s input tape i h =
     let many : length sizes ≡ s.blocks = map-length (term_at v old) input.sizes ∙ h.size_count in
     let count : length sizes ≡ length input.places = many ∙ sym h.block_count in
     let first = chain_parts (IsCodeOfArgs s.blocks s.parameters) (λ _. IsChain (AreSizes s.bytes s.blocks) (λ ss. IsChain (IsCodeOfBlocks s.blocks s.bytes ss) (λ _. WordsFit s.word_width.bits s.words)))
-    args (sizes ++ (places ++ words)) (args_long v old s.blocks s.parameters input.args i h.args) in
+    args (sizes ++ (places ++ words)) (args_long v old s.blocks s.parameters input.args h.args) in
     let second = chain_parts (AreSizes s.bytes s.blocks) (λ ss. IsChain (IsCodeOfBlocks s.blocks s.bytes ss) (λ _. WordsFit s.word_width.bits s.words))
     sizes (places ++ words) (λ ds c. sizes_long s.bytes s.blocks ds c ∙ sym many) in
     let third = chain_parts (IsCodeOfBlocks s.blocks s.bytes sizes) (λ _. WordsFit s.word_width.bits s.words) places words (blocks_long v old s.blocks s.bytes sizes input.places count h.places) in (
@@ -137,15 +93,15 @@ code_says v old s input tape i h =
       (λ c. let a = first.0 c in let b = second.0 a.1 in let d = third.0 b.1 in (a.0, (b.0, (d.0, d.1)))),
     )
 
-pub code_decides : (s : Shape) (input : InputTerms) (tape : TapeTerms) (old a b c d e f g : List Term) (args sizes places words behind rest id : TermId) → AreIntegers s.parameters → IsInputOf s old input → IsTapeOf s old tape
+pub code_decides : (s : Shape) (input : InputTerms) (tape : TapeTerms) (old a b c d e f g : List Term) (args sizes places words behind rest id : TermId) → IsInputOf s old input → IsTapeOf s old tape
     → Keeps old a → Keeps a b → Keeps b c → Keeps c d → Keeps d e → Keeps e f
-    → Decides a args (λ v. Each (λ x. IsArgCode (width_of (tree_in old x.number)) (arg_numbers v old x)) input.args)
+    → Decides a args (λ v. IsCodeOfArgs s.blocks s.parameters (flat_map (arg_numbers v old) input.args))
     → Decides b sizes (λ v. Each (λ x. term_at v a x ≤ s.bytes) input.sizes)
     → Decides c places (λ v. IsCodeOfBlocks s.blocks s.bytes (map (term_at v b) input.sizes) (flat_map (block_numbers v b) input.places))
     → Decides d words (λ v. Each (λ x. term_at v c x ≤ 2 ^ s.word_width.bits - 1) tape.words)
     → Tests e behind (λ v. bit_at v d places && bit_at v d words) → Tests f rest (λ v. bit_at v e sizes && bit_at v e behind) → Tests g id (λ v. bit_at v f args && bit_at v f rest)
     → Decides g id (λ v. IsCode s (numbers_at v old input tape))
-code_decides s input tape old a b c d e f g args sizes places words behind rest id i h h' ka kb kc kd ke kf d1 d2 d3 d4 t5 t6 t7 =
+code_decides s input tape old a b c d e f g args sizes places words behind rest id h h' ka kb kc kd ke kf d1 d2 d3 d4 t5 t6 t7 =
     let k_b = keeps_trans old a b ka kb in
     let k_c = keeps_trans old b c k_b kc in
     let k_be = keeps_trans b d e (keeps_trans b c d kc kd) ke in
@@ -154,7 +110,7 @@ code_decides s input tape old a b c d e f g args sizes places words behind rest 
     let Sizes : (ℕ → ℕ → ℕ) → Type 0 = λ v. AreSizes s.bytes s.blocks (map (term_at v old) input.sizes) in
     let Places : (ℕ → ℕ → ℕ) → Type 0 = λ v. IsCodeOfBlocks s.blocks s.bytes (map (term_at v old) input.sizes) (flat_map (block_numbers v old) input.places) in
     let Words : (ℕ → ℕ → ℕ) → Type 0 = λ v. WordsFit s.word_width.bits s.words (words_at v old tape.words) in
-    let args_are = decides-later a f k_af args Args (as_fact a args (λ v. Each (λ x. IsArgCode (width_of (tree_in old x.number)) (arg_numbers v old x)) input.args) Args d1 (λ v. args_say v old s.blocks s.parameters input.args i h.args)) in
+    let args_are = decides-later a f k_af args Args d1 in
     let sizes_a = as_fact b sizes (λ v. Each (λ x. term_at v a x ≤ s.bytes) input.sizes) (λ v. AreSizes s.bytes s.blocks (map (term_at v a) input.sizes)) d2
     (λ v. subst (λ n. Each (λ x. term_at v a x ≤ s.bytes) input.sizes ↔ AreSizes s.bytes n (map (term_at v a) input.sizes)) h.size_count (sizes_say (term_at v a) s.bytes input.sizes)) in
     let sizes_b = at_equal b sizes (AreSizes s.bytes s.blocks) (λ v. map (term_at v a) input.sizes) (λ v. map (term_at v old) input.sizes) sizes_a
@@ -170,7 +126,7 @@ code_decides s input tape old a b c d e f g args sizes places words behind rest 
     let behind_is = both_decide d e places words behind Places Words places_are words_are t5 in
     let rest_is = both_decide e f sizes behind rest Sizes (λ v. Places v × Words v) sizes_are behind_is t6 in
     let whole = both_decide f g args rest id Args (λ v. Sizes v × (Places v × Words v)) args_are (rest_is) t7 in
-    as_fact g id (λ v. Args v × (Sizes v × (Places v × Words v))) (λ v. IsCode s (numbers_at v old input tape)) whole (λ v. code_says v old s input tape i h)
+    as_fact g id (λ v. Args v × (Sizes v × (Places v × Words v))) (λ v. IsCode s (numbers_at v old input tape)) whole (λ v. code_says v old s input tape h)
   where
     places_same : (v : ℕ → ℕ → ℕ) → map (term_at v b) input.sizes ≡ map (term_at v old) input.sizes → flat_map (block_numbers v b) input.places ≡ flat_map (block_numbers v old) input.places
         → IsCodeOfBlocks s.blocks s.bytes (map (term_at v b) input.sizes) (flat_map (block_numbers v b) input.places) ↔ IsCodeOfBlocks s.blocks s.bytes (map (term_at v old) input.sizes) (flat_map (block_numbers v old) input.places)

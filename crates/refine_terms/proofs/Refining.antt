@@ -1,6 +1,8 @@
 -- The test of coverage is refinement.
-use Rattle.std.proofs.Common.{ℕ, ◌≡◌, Bool, true, false, cond, not, ◌&&◌, ◌||◌, List, [], ◌∷◌, nat_eq, Option, refl, ◌∙◌}
-use Rattle.std.specs.Option.{option_map}
+use Rattle.std.proofs.Common.{ℕ, zero, suc, ◌≡◌, ◌<◌, ◌≤◌, ◌+◌, ◌-◌, ◌/◌, ◌%◌, ◌^◌, Bool, true, false, cond, not, ◌&&◌, ◌||◌, List, [], ◌∷◌, length, map, take, drop, get_or, nat_eq, nat_lt, Option, refl, sym, ap, ◌∙◌, arith}
+use Rattle.std.proofs.lemmas.Bool.{eq-eqb, eqb-true}
+use Rattle.std.proofs.lemmas.Bool.Decides.{nat_tests}
+use Rattle.std.proofs.lemmas.List.{drop_more, drop_all}
 use Rattle.byte_block.specs.declared.value.Value.{Value}
 use Rattle.byte_block.specs.declared.value.BlockName.{BlockName}
 use Rattle.byte_block.specs.declared.value.BlockName.TheVariants.{Null, Given, Local}
@@ -9,23 +11,13 @@ use Rattle.byte_block.specs.declared.value.Byte.TheVariants as byte
 use Rattle.byte_block.specs.declared.block.MemoryBlock.{MemoryBlock}
 use Rattle.points.specs.declared.outcome.Outcome.{Outcome}
 use Rattle.points.specs.declared.outcome.Outcome.TheVariants.{Return, Ub, Beyond}
-use Rattle.points.specs.Refines.{same_name, same_pointer, byte_allows, bytes_of, block_allows, blocks_allow, pairs_pass, value_allows, returned_allows, is_refined}
-use Rattle.std.proofs.lemmas.Bool.{eq-eqb}
-use Rattle.bv_terms.specs.declared.term.TermId.{TermId}
-use Rattle.bv_terms.specs.declared.term.Term.{Term}
-use Rattle.bv_terms.specs.Trees.{Keeps, Tests, bit_at, term_at}
-use Rattle.mem_terms.specs.declared.values.SymValue.{SymValue}
-use Rattle.mem_terms.specs.declared.outcome.OutcomeTerms.{OutcomeTerms}
-use Rattle.mem_terms.specs.Values.{IsSymValue, value_from, value_at}
-use Rattle.mem_terms.specs.Outcomes.{IsOutcome, outcome_at}
-use Rattle.mem_terms.proofs.Later.{keeps_trans, bit-later}
+use Rattle.points.specs.Refines.{same_name, same_pointer, byte_allows, block_allows, blocks_allow, pairs_pass, value_allows, returned_allows, is_refined}
+use Rattle.bv_terms.specs.Tree.{truth}
+use Rattle.mem_terms.specs.Values.{block_name, value_of}
+use Rattle.mem_terms.specs.Memory.{byte_of}
+use Rattle.mem_terms.proofs.Naming.{given_named, local_block}
 
--- ---- a memory allows itself
-
-pairs_pass-same : {A : Type 0} (test : A → A → Bool) (ss : List A) → ((s : A) → test s s ≡ true) → pairs_pass test ss ss ≡ true
-unfolding pairs_pass
-pairs_pass-same test [] h = refl
-pairs_pass-same test (s ∷ ss) h = rw (h s) (pairs_pass-same test ss h)
+-- ---- pointers
 
 same_name-same : (b : BlockName) → same_name b b ≡ true
 same_name-same Null = refl
@@ -37,79 +29,189 @@ same_pointer-same Null n = eq-eqb n n refl
 same_pointer-same (Given i) n = rw (eq-eqb i i refl, eq-eqb n n refl) refl
 same_pointer-same (Local t i) n = refl
 
-byte_allows-same : (b : Byte) → byte_allows b b ≡ true
+-- the name of a block that is given, or null's
+given_or_null : ℕ → BlockName
+given_or_null zero = Null
+given_or_null (suc k) = Given (suc k)
+
+is_given : (given k : ℕ) → k ≤ given → block_name given k ≡ given_or_null k
+unfolding given_or_null
+is_given given zero le = refl
+is_given given (suc k) le = given_named given (suc k) (omega arith) le
+
+alive_same : (s i t j : ℕ) → (nat_eq s t && nat_eq i j) ≡ same_pointer (given_or_null s) i (given_or_null t) j
+unfolding given_or_null
+alive_same zero i zero j = refl
+alive_same zero i (suc t) j = let e : nat_eq 0 (suc t) ≡ false = grind (arith, nat_tests) in rw e refl
+alive_same (suc s) i zero j = let e : nat_eq (suc s) 0 ≡ false = grind (arith, nat_tests) in rw e refl
+alive_same (suc s) i (suc t) j = refl
+
+alive_dead : (s i : ℕ) (turn place j : ℕ) → same_pointer (given_or_null s) i (Local turn place) j ≡ false
+unfolding given_or_null
+alive_dead zero i turn place j = refl
+alive_dead (suc s) i turn place j = refl
+
+dead_alive : (turn place i : ℕ) (t j : ℕ) → same_pointer (Local turn place) i (given_or_null t) j ≡ false
+unfolding given_or_null
+dead_alive turn place i zero j = refl
+dead_alive turn place i (suc t) j = refl
+
+lt_says : (a b : ℕ) → nat_lt a b ≡ true → a < b
+lt_says a b e = grind (arith, nat_tests)
+
+le_instead : (a b : ℕ) → nat_lt a b ≡ false → b ≤ a
+le_instead a b e = grind (arith, nat_tests)
+
+apart : (given s t : ℕ) → s ≤ given → given < t → nat_eq s t ≡ false
+apart given s t le lt = grind (arith, nat_tests)
+
+apart_back : (given s t : ℕ) → given < s → t ≤ given → nat_eq s t ≡ false
+apart_back given s t lt le = grind (arith, nat_tests)
+
+addresses_by : (given s i t j : ℕ) (p q : Bool) → nat_lt given s ≡ p → nat_lt given t ≡ q → ((p && q) || (nat_eq s t && nat_eq i j)) ≡ same_pointer (block_name given s) i (block_name given t) j
+addresses_by given s i t j true true es et = rw (local_block given s (lt_says given s es), local_block given t (lt_says given t et)) refl
+addresses_by given s i t j true false es et =
+    let le = le_instead given t et in
+    let lt = lt_says given s es in
+    rw (apart_back given s t lt le, local_block given s lt, is_given given t le, dead_alive ((s - given - 1) / 65536) ((s - given - 1) % 65536) i t j) refl
+addresses_by given s i t j false true es et =
+    let le = le_instead given s es in
+    let lt = lt_says given t et in
+    rw (apart given s t le lt, local_block given t lt, is_given given s le, alive_dead s i ((t - given - 1) / 65536) ((t - given - 1) % 65536) j) refl
+addresses_by given s i t j false false es et = rw (is_given given s (le_instead given s es), is_given given t (le_instead given t et)) (alive_same s i t j)
+
+-- both dead, or alike in block and offset
+pub addresses_are : (given s i t j : ℕ) → ((nat_lt given s && nat_lt given t) || (nat_eq s t && nat_eq i j)) ≡ same_pointer (block_name given s) i (block_name given t) j
+addresses_are given s i t j = addresses_by given s i t j (nat_lt given s) (nat_lt given t) refl refl
+
+-- ---- values
+
+pub picked_truth : (c : Bool) (x y : ℕ) → truth (cond c x y) ≡ cond c (truth x) (truth y)
+picked_truth true x y = refl
+picked_truth false x y = refl
+
+pub values_are : (ps pt : Bool) (i j : ℕ) (bs bt : BlockName) (m n : ℕ) → i < 2 ^ 1 → j < 2 ^ 1
+    → (ps || (not pt && (nat_eq i j && cond (truth i) (same_pointer bs m bt n) (nat_eq m n)))) ≡ value_allows (value_of ps (truth i) bs m) (value_of pt (truth j) bt n)
+values_are true pt i j bs bt m n p q = refl
+values_are false true zero j bs bt m n p q = refl
+values_are false true (suc zero) j bs bt m n p q = refl
+values_are false false zero zero bs bt m n p q = refl
+values_are false false zero (suc zero) bs bt m n p q = refl
+values_are false false (suc zero) zero bs bt m n p q = refl
+values_are false false (suc zero) (suc zero) bs bt m n p q = refl
+values_are false true (suc (suc i)) j bs bt m n p q = absurd (omega (arith, p))
+values_are false false (suc (suc i)) j bs bt m n p q = absurd (omega (arith, p))
+values_are false false zero (suc (suc j)) bs bt m n p q = absurd (omega (arith, q))
+values_are false false (suc zero) (suc (suc j)) bs bt m n p q = absurd (omega (arith, q))
+
+-- ---- bytes
+
+pub byte_allows-same : (b : Byte) → byte_allows b b ≡ true
 byte_allows-same byte.Poison = refl
 byte_allows-same (byte.Num n) = eq-eqb n n refl
 byte_allows-same (byte.Part p i) = rw (same_pointer-same p.block p.offset, eq-eqb i i refl) refl
 
-block_allows-same : (b : MemoryBlock) → block_allows b b ≡ true
-block_allows-same b = rw (same_name-same b.name, eq-eqb b.size b.size refl, pairs_pass-same byte_allows (bytes_of b) byte_allows-same) refl
+past_one : (k : ℕ) → (nat_eq (suc (suc k)) 0 ≡ false) × (nat_eq (suc (suc k)) 1 ≡ false) × (nat_eq 0 (suc (suc k)) ≡ false) × (nat_eq 1 (suc (suc k)) ≡ false)
+past_one k = (grind (arith, nat_tests), grind (arith, nat_tests), grind (arith, nat_tests), grind (arith, nat_tests))
 
-blocks_allow-same : (bs : List MemoryBlock) → blocks_allow bs bs ≡ true
-blocks_allow-same bs = pairs_pass-same block_allows bs block_allows-same
+pub bytes_are : (k l m n p q : ℕ) (bs bt : BlockName) (i j : ℕ)
+    → (not (nat_eq k 0 || nat_eq k 1) || (nat_eq k l && cond (nat_eq k 0) (nat_eq m n) (same_pointer bs i bt j && nat_eq p q)))
+    ≡ byte_allows (byte_of k m (record { block = bs; offset = i }) p) (byte_of l n (record { block = bt; offset = j }) q)
+bytes_are zero zero m n p q bs bt i j = refl
+bytes_are zero (suc zero) m n p q bs bt i j = refl
+bytes_are zero (suc (suc l)) m n p q bs bt i j = let e = past_one l in rw (e.2, e.0, e.1) refl
+bytes_are (suc zero) zero m n p q bs bt i j = refl
+bytes_are (suc zero) (suc zero) m n p q bs bt i j = refl
+bytes_are (suc zero) (suc (suc l)) m n p q bs bt i j = let e = past_one l in rw (e.3, e.0, e.1) refl
+bytes_are (suc (suc k)) l m n p q bs bt i j = let e = past_one k in rw (e.0, e.1) refl
 
--- ---- values
+-- ---- lists of pairs
 
-values_is : (p q : Bool) (a b : ℕ) → (p || (not q && nat_eq a b)) ≡ value_allows (value_from p a) (value_from q b)
-values_is true q a b = refl
-values_is false true a b = refl
-values_is false false a b = refl
+and_more : (all one rest : Bool) → ((all && one) && rest) ≡ (all && (one && rest))
+and_more true one rest = refl
+and_more false one rest = refl
 
-pub value_tests : (old a b c d : List Term) (s t : SymValue) (equal is_number same id : TermId) → IsSymValue old s → IsSymValue old t → Keeps old a → Keeps a b → Keeps b c
-    → Tests a equal (λ v. nat_eq (term_at v old s.number) (term_at v old t.number)) → Tests b is_number (λ v. not (bit_at v a t.poison))
-    → Tests c same (λ v. bit_at v b is_number && bit_at v b equal) → Tests d id (λ v. bit_at v c s.poison || bit_at v c same)
-    → Tests d id (λ v. value_allows (value_at v old s) (value_at v old t))
-unfolding value_at
-value_tests old a b c d s t equal is_number same id hs ht ka kb kc t1 t2 t3 t4 = record {
-  within = t4.within;
-  wide = t4.wide;
-  says = λ v.
-      let poison = bit-later old c (keeps_trans old b c (keeps_trans old a b ka kb) kc) v s.poison hs.poison.within in
-      let other = bit-later old a ka v t.poison ht.poison.within in
-      let equals = bit-later a b kb v equal t1.within ∙ t1.says v in
-      t4.says v ∙ (rw (poison, t3.says v, t2.says v, other, equals)
-      (values_is (bit_at v old s.poison) (bit_at v old t.poison) (term_at v old s.number) (term_at v old t.number)));
-}
-
--- ---- outcomes
-
-and_true : (b : Bool) → b ≡ (b && true)
+and_true : (b : Bool) → (b && true) ≡ b
 and_true true = refl
 and_true false = refl
+
+-- one more of a row of tests
+pub tests_more : (all one before after whole : Bool) → before ≡ (one && after) → (all && before) ≡ whole → ((all && one) && after) ≡ whole
+tests_more all one before after whole e so = and_more all one after ∙ (ap (λ b. all && b) (sym e) ∙ so)
+
+take_none : {A : Type 0} (n : ℕ) (xs : List A) → xs ≡ [] → take n xs ≡ []
+take_none zero xs e = refl
+take_none (suc n) xs e = rw e refl
+
+step_by : {A : Type 0} (test : A → A → Bool) (d e n i : ℕ) (s t : A) (ss ts : List A) → d ≡ n - i → e ≡ n - (i + 1)
+    → pairs_pass test (take d (s ∷ ss)) (take d (t ∷ ts)) ≡ ((not (nat_lt i n) || test s t) && pairs_pass test (take e ss) (take e ts))
+unfolding pairs_pass
+step_by test zero zero n i s t ss ts p q = let none : nat_lt i n ≡ false = grind (arith, nat_tests) in rw none refl
+step_by test zero (suc e) n i s t ss ts p q = absurd (omega (arith, p, q))
+step_by test (suc d) e n i s t ss ts p q =
+    let there : nat_lt i n ≡ true = grind (arith, nat_tests) in
+    let same : e ≡ d = omega (arith, p, q) in
+    rw (there, same) refl
+
+-- one more place, which is compared where it is before the size
+pub place_step : {A B : Type 0} (test : B → B → Bool) (f : A → B) (n i : ℕ) (xs ys : List A) (x y : A) → i < length xs → i < length ys
+    → pairs_pass test (take (n - i) (map f (drop i xs))) (take (n - i) (map f (drop i ys)))
+    ≡ ((not (nat_lt i n) || test (f (get_or xs i x)) (f (get_or ys i y))) && pairs_pass test (take (n - (i + 1)) (map f (drop (i + 1) xs))) (take (n - (i + 1)) (map f (drop (i + 1) ys))))
+place_step test f n i xs ys x y lt lt_y =
+    let e : drop i xs ≡ get_or xs i x ∷ drop (i + 1) xs = drop_more xs i x lt in
+    let e_y : drop i ys ≡ get_or ys i y ∷ drop (i + 1) ys = drop_more ys i y lt_y in
+    rw (e, e_y) (step_by test (n - i) (n - (i + 1)) n i (f (get_or xs i x)) (f (get_or ys i y)) (map f (drop (i + 1) xs)) (map f (drop (i + 1) ys)) refl refl)
+
+pub places_done : {A B : Type 0} (test : B → B → Bool) (f : A → B) (n i : ℕ) (xs ys : List A) → length xs ≤ i → length ys ≤ i → pairs_pass test (take (n - i) (map f (drop i xs))) (take (n - i) (map f (drop i ys))) ≡ true
+unfolding pairs_pass
+places_done test f n i xs ys le le_y =
+    let e : map f (drop i xs) ≡ [] = ap (map f) (drop_all i xs le) in
+    let e_y : map f (drop i ys) ≡ [] = ap (map f) (drop_all i ys le_y) in
+    rw (take_none (n - i) (map f (drop i xs)) e, take_none (n - i) (map f (drop i ys)) e_y) refl
+
+pub places_begin : {A : Type 0} (test : A → A → Bool) (n : ℕ) (xs ys : List A) → pairs_pass test (take (n - 0) xs) (take (n - 0) ys) ≡ pairs_pass test (take n xs) (take n ys)
+places_begin test n xs ys = let e : n - 0 ≡ n = omega arith in rw e refl
+
+pub block_step : {A B : Type 0} (test : B → B → Bool) (f : A → B) (i : ℕ) (xs ys : List A) (x y : A) → i < length xs → i < length ys → x ≡ get_or xs i x → y ≡ get_or ys i y
+    → pairs_pass test (map f (drop i xs)) (map f (drop i ys)) ≡ (test (f x) (f y) && pairs_pass test (map f (drop (i + 1) xs)) (map f (drop (i + 1) ys)))
+unfolding pairs_pass
+block_step test f i xs ys x y lt lt_y ix iy =
+    let e : drop i xs ≡ x ∷ drop (i + 1) xs = drop_more xs i x lt ∙ ap (λ z. z ∷ drop (i + 1) xs) (sym ix) in
+    let e_y : drop i ys ≡ y ∷ drop (i + 1) ys = drop_more ys i y lt_y ∙ ap (λ z. z ∷ drop (i + 1) ys) (sym iy) in
+    rw (e, e_y) refl
+
+pub blocks_done : {A B : Type 0} (test : B → B → Bool) (f : A → B) (i : ℕ) (xs ys : List A) → length xs ≤ i → length ys ≤ i → pairs_pass test (map f (drop i xs)) (map f (drop i ys)) ≡ true
+unfolding pairs_pass
+blocks_done test f i xs ys le le_y =
+    let e : drop i xs ≡ [] = drop_all i xs le in
+    let e_y : drop i ys ≡ [] = drop_all i ys le_y in
+    rw (e, e_y) refl
+
+-- ---- blocks
+
+abbrev block_from : BlockName → (size align : ℕ) → List Byte → MemoryBlock
+block_from name size align places = record { name = name; size = size; align = align; places = places }
+
+same_size : (m n : ℕ) (b : Bool) (ss ts : List Byte) → nat_eq m n ≡ b → (b && pairs_pass byte_allows (take m ss) (take m ts)) ≡ (b && pairs_pass byte_allows (take m ss) (take n ts))
+same_size m n true ss ts e = let same : m ≡ n = eqb-true m n e in ap (λ k. pairs_pass byte_allows (take m ss) (take k ts)) same
+same_size m n false ss ts e = refl
+
+pub blocks_are : (name name' : BlockName) (m n k l : ℕ) (ss ts : List Byte) → name' ≡ name → (nat_eq m n && pairs_pass byte_allows (take m ss) (take m ts)) ≡ block_allows (block_from name m k ss) (block_from name' n l ts)
+blocks_are name name' m n k l ss ts e = rw (e, same_name-same name) (same_size m n (nat_eq m n) ss ts refl)
+
+-- ---- outcomes
 
 abbrev outcome_from : Bool → Bool → Option Value → List MemoryBlock → Outcome
 outcome_from ub beyond value memory = cond ub Ub (cond beyond Beyond (Return value memory))
 
-covered_is : (su sb tu tb : Bool) (s t : Option Value) (memory : List MemoryBlock)
-    → ((su || sb) || (not tu && (tb || returned_allows s t))) ≡ is_refined (outcome_from su sb s memory) (outcome_from tu tb t memory)
-covered_is true sb false true s t memory = refl
-covered_is true sb true tb s t memory = refl
-covered_is true sb false false s t memory = refl
-covered_is false true false true s t memory = refl
-covered_is false true true tb s t memory = refl
-covered_is false true false false s t memory = refl
-covered_is false false true tb s t memory = refl
-covered_is false false false true s t memory = refl
-covered_is false false false false s t memory = rw (blocks_allow-same memory) (and_true (returned_allows s t))
-
-pub covered_tests : (old a b c d e f : List Term) (s t : OutcomeTerms) (returned ends is_defined allowed is_free id : TermId) → IsOutcome old s → IsOutcome old t
-    → Keeps old a → Keeps a b → Keeps b c → Keeps c d → Keeps d e
-    → Tests a returned (λ v. returned_allows (option_map (value_at v old) s.value) (option_map (value_at v old) t.value))
-    → Tests b ends (λ v. bit_at v a t.beyond || bit_at v a returned) → Tests c is_defined (λ v. not (bit_at v b t.ub)) → Tests d allowed (λ v. bit_at v c is_defined && bit_at v c ends)
-    → Tests e is_free (λ v. bit_at v d s.ub || bit_at v d s.beyond) → Tests f id (λ v. bit_at v e is_free || bit_at v e allowed)
-    → (memory : List MemoryBlock) → Tests f id (λ v. is_refined (outcome_at v old memory s) (outcome_at v old memory t))
-covered_tests old a b c d e f s t returned ends is_defined allowed is_free id hs ht ka kb kc kd ke t1 t2 t3 t4 t5 t6 memory = record {
-  within = t6.within;
-  wide = t6.wide;
-  says = λ v.
-      let k_b = keeps_trans old a b ka kb in
-      let k_d = keeps_trans old c d (keeps_trans old b c k_b kc) kd in
-      let target_beyond = bit-later old a ka v t.beyond ht.beyond.within in
-      let target_ub = bit-later old b k_b v t.ub ht.ub.within in
-      let source_ub = bit-later old d k_d v s.ub hs.ub.within in
-      let source_beyond = bit-later old d k_d v s.beyond hs.beyond.within in
-      let ends_is = bit-later b c kc v ends t2.within ∙ t2.says v in
-      let allowed_is = bit-later d e ke v allowed t4.within ∙ t4.says v in
-      t6.says v ∙ (rw (t5.says v, source_ub, source_beyond, allowed_is, t3.says v, target_ub, ends_is, target_beyond, t1.says v)
-      (covered_is (bit_at v old s.ub) (bit_at v old s.beyond) (bit_at v old t.ub) (bit_at v old t.beyond) (option_map (value_at v old) s.value) (option_map (value_at v old) t.value) memory));
-}
+pub covered_is : (su sb tu tb : Bool) (s t : Option Value) (ms mt : List MemoryBlock)
+    → ((su || sb) || (not tu && (tb || (returned_allows s t && blocks_allow ms mt)))) ≡ is_refined (outcome_from su sb s ms) (outcome_from tu tb t mt)
+covered_is true sb false true s t ms mt = refl
+covered_is true sb true tb s t ms mt = refl
+covered_is true sb false false s t ms mt = refl
+covered_is false true false true s t ms mt = refl
+covered_is false true true tb s t ms mt = refl
+covered_is false true false false s t ms mt = refl
+covered_is false false true tb s t ms mt = refl
+covered_is false false false true s t ms mt = refl
+covered_is false false false false s t ms mt = refl

@@ -7,16 +7,14 @@ use Rattle.points.specs.Codes.{IsChain, IsCodeOfByte, IsUnused, IsCodeOfPlaces, 
 use Rattle.bv_terms.specs.declared.term.TermId.{TermId}
 use Rattle.bv_terms.specs.declared.term.Term.{Term}
 use Rattle.bv_terms.specs.Tree.{Tree, width_of}
-use Rattle.bv_terms.specs.Trees.{Keeps, Tests, IsTerm, bit_at, term_at, tree_in}
-use Rattle.mem_terms.specs.declared.inputs.ArgTerms.{ArgTerms}
+use Rattle.bv_terms.specs.Trees.{Keeps, Tests, IsTerm, bit_at, term_at}
 use Rattle.mem_terms.specs.declared.inputs.ByteTerms.{ByteTerms}
-use Rattle.mem_terms.specs.Inputs.{IsArg}
+use Rattle.mem_terms.specs.Inputs.{IsByteTerms, IsBlockTerms}
 use Rattle.mem_terms.specs.Values.{Each}
-use Rattle.mem_terms.proofs.Eaches.{each-weaker}
-use Rattle.mem_terms.proofs.Later.{within-later, is_term-later, arg-later, term-later}
+use Rattle.mem_terms.proofs.Later.{within-later, term-later}
 use Rattle.refine_terms.specs.Deciding.{Decides, IsNarrow}
-use Rattle.refine_terms.specs.Groups.{IsArgCode, IsArgOfWidth, IsCodeOfPlace}
-use Rattle.refine_terms.specs.Numbers.{IsByteTerms, IsBlockTerms, arg_numbers, byte_numbers, block_numbers}
+use Rattle.refine_terms.specs.Groups.{IsCodeOfPlace}
+use Rattle.refine_terms.specs.Numbers.{byte_numbers, block_numbers}
 use Rattle.refine_terms.proofs.Deciders.{row_more, row_starts, at_most_decides}
 use Rattle.refine_terms.proofs.ByteKinds.{byte-later}
 
@@ -54,22 +52,7 @@ module _ (old new : List Term) (k : Keeps old new) where
   pub narrow-later : (a : TermId) → IsNarrow old a → IsNarrow new a
   narrow-later a h = record { within = within-later old new k a h.within; narrow = subst (λ (t : Tree). width_of t ≤ 64) (sym (k.kept a h.within)) h.narrow }
 
-  pub arg_of_width-later : (a : ArgTerms) → IsArgOfWidth old a → IsArgOfWidth new a
-  arg_of_width-later a h = subst (λ n. IsArg new n a) (sym (ap width_of (k.kept a.number h.number.within))) (arg-later old new k (width_of (tree_in old a.number)) a h)
-
-  pub byte_terms-later : (x : ByteTerms) → IsByteTerms old x → IsByteTerms new x
-  byte_terms-later x h = record {
-    kind = is_term-later old new k 2 x.kind h.kind;
-    number = is_term-later old new k 8 x.number h.number;
-    block = is_term-later old new k 3 x.block h.block;
-    offset = is_term-later old new k 64 x.offset h.offset;
-    part = is_term-later old new k 3 x.part h.part;
-  }
-
-  pub block_terms-later : (bytes : ℕ) (xs : List ByteTerms) → IsBlockTerms bytes old xs → IsBlockTerms bytes new xs
-  block_terms-later bytes xs h = record { count = h.count; are = each-weaker (IsByteTerms old) (IsByteTerms new) xs byte_terms-later h.are }
-
--- ---- numbers that are at most one, and arguments
+-- ---- numbers that are at most one
 
 pub most_row : (old a b c : List Term) (xs : List TermId) (i most : ℕ) (d all one next : TermId) → Each (IsNarrow old) xs → i < length xs → Keeps old a → Keeps a b → IsTerm a 1 all
     → ((v : ℕ → ℕ → ℕ) → ((bit_at v a all ≡ true) × Each (λ x. term_at v old x ≤ most) (drop i xs)) ↔ Each (λ x. term_at v old x ≤ most) xs)
@@ -79,19 +62,6 @@ most_row old a b c xs i most d all one next are lt ka kb h so t t' =
     each_row a b c xs i d all one next (λ v x. term_at v old x ≤ most) (λ v. term_at v a (get_or xs i d) ≤ most) lt kb h so
     (at_most_decides b one (λ v. term_at v a (get_or xs i d)) most t) t'
     (λ v. if_equal (λ n. n ≤ most) (term_at v a (get_or xs i d)) (term_at v old (get_or xs i d)) (term-later old a ka v (get_or xs i d) (each_get (IsNarrow old) xs i d are lt).within))
-
-arg_same : (old a : List Term) (k : Keeps old a) (x : ArgTerms) → IsArgOfWidth old x → (v : ℕ → ℕ → ℕ)
-    → IsArgCode (width_of (tree_in a x.number)) (arg_numbers v a x) ↔ IsArgCode (width_of (tree_in old x.number)) (arg_numbers v old x)
-arg_same old a k x h v =
-    rw (k.kept x.number h.number.within, k.kept x.flag h.flag.within) ((λ e. e), (λ e. e))
-
-pub arg_row : (old a b c : List Term) (xs : List ArgTerms) (i : ℕ) (d : ArgTerms) (all one next : TermId) → Each (IsArgOfWidth old) xs → i < length xs → Keeps old a → Keeps a b → IsTerm a 1 all
-    → ((v : ℕ → ℕ → ℕ) → ((bit_at v a all ≡ true) × Each (λ x. IsArgCode (width_of (tree_in old x.number)) (arg_numbers v old x)) (drop i xs)) ↔ Each (λ x. IsArgCode (width_of (tree_in old x.number)) (arg_numbers v old x)) xs)
-    → Decides b one (λ v. IsArgCode (width_of (tree_in a (get_or xs i d).number)) (arg_numbers v a (get_or xs i d))) → Tests c next (λ v. bit_at v b all && bit_at v b one)
-    → (v : ℕ → ℕ → ℕ) → ((bit_at v c next ≡ true) × Each (λ x. IsArgCode (width_of (tree_in old x.number)) (arg_numbers v old x)) (drop (i + 1) xs)) ↔ Each (λ x. IsArgCode (width_of (tree_in old x.number)) (arg_numbers v old x)) xs
-arg_row old a b c xs i d all one next are lt ka kb h so one_is t =
-    each_row a b c xs i d all one next (λ v x. IsArgCode (width_of (tree_in old x.number)) (arg_numbers v old x)) (λ v. IsArgCode (width_of (tree_in a (get_or xs i d).number)) (arg_numbers v a (get_or xs i d))) lt kb h so one_is t
-    (λ v. arg_same old a ka (get_or xs i d) (each_get (IsArgOfWidth old) xs i d are lt) v)
 
 -- ---- chains whose first part has a known length
 

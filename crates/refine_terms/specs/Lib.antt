@@ -1,3 +1,4 @@
 pub mod Deciding
 pub mod Numbers
 pub mod Groups
+pub mod Alike

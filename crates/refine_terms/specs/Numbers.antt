@@ -5,16 +5,18 @@ use Rattle.points.specs.declared.point.Shape.{Shape}
 use Rattle.bv_terms.specs.declared.term.Term.{Term}
 use Rattle.bv_terms.specs.Trees.{IsTerm, term_at}
 use Rattle.mem_terms.specs.declared.inputs.ArgTerms.{ArgTerms}
+use Rattle.mem_terms.specs.declared.inputs.ArgTerms.TheVariants as arg
 use Rattle.mem_terms.specs.declared.inputs.ByteTerms.{ByteTerms}
 use Rattle.mem_terms.specs.declared.inputs.InputTerms.{InputTerms}
 use Rattle.mem_terms.specs.declared.inputs.TapeTerms.{TapeTerms}
 use Rattle.mem_terms.specs.Values.{Each}
-use Rattle.mem_terms.specs.Inputs.{AreArgs, words_at}
+use Rattle.mem_terms.specs.Inputs.{IsInput, words_at}
 
 -- ---- the numbers
 
 abbrev pub arg_numbers : (ℕ → ℕ → ℕ) → List Term → ArgTerms → List ℕ
-arg_numbers v terms a = term_at v terms a.flag ∷ term_at v terms a.number ∷ []
+arg_numbers v terms (arg.Int flag number) = term_at v terms flag ∷ term_at v terms number ∷ []
+arg_numbers v terms (arg.Ptr flag block offset) = term_at v terms flag ∷ term_at v terms block ∷ term_at v terms offset ∷ []
 
 abbrev pub byte_numbers : (ℕ → ℕ → ℕ) → List Term → ByteTerms → List ℕ
 byte_numbers v terms b = term_at v terms b.kind ∷ term_at v terms b.number ∷ term_at v terms b.block ∷ term_at v terms b.offset ∷ term_at v terms b.part ∷ []
@@ -31,26 +33,8 @@ numbers_at v terms input tape =
 
 -- ---- the terms of a shape
 
--- a byte has a kind below 4, a number below 256, a block below 8, an offset, and one of eight parts
-pub record IsByteTerms (terms : List Term) (b : ByteTerms) : Type 0 where
-  pub kind : IsTerm terms 2 b.kind
-  pub number : IsTerm terms 8 b.number
-  pub block : IsTerm terms 3 b.block
-  pub offset : IsTerm terms 64 b.offset
-  pub part : IsTerm terms 3 b.part
-
--- so many places
-pub record IsBlockTerms (bytes : ℕ) (terms : List Term) (places : List ByteTerms) : Type 0 where
-  pub count : length places ≡ bytes
-  pub are : Each (IsByteTerms terms) places
-
--- an argument for each parameter, and for each given block a size, below 64, and its places
-pub record IsInputOf (s : Shape) (terms : List Term) (input : InputTerms) : Type 0 where
-  pub args : AreArgs terms s.parameters input.args
-  pub size_count : length input.sizes ≡ s.blocks
-  pub sizes : Each (IsTerm terms 6) input.sizes
-  pub block_count : length input.places ≡ s.blocks
-  pub places : Each (IsBlockTerms s.bytes terms) input.places
+abbrev pub IsInputOf : Shape → List Term → InputTerms → Type 0
+IsInputOf s terms input = IsInput s.parameters s.blocks s.bytes terms input
 
 pub record IsTapeOf (s : Shape) (terms : List Term) (tape : TapeTerms) : Type 0 where
   pub count : length tape.words ≡ s.words

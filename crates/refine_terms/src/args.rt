@@ -1,39 +1,68 @@
 //! Arguments of a code.
 
 ghost use Rattle.std.specs.Prelude.{IfOk};
-ghost use Rattle.bv_terms.specs.Tree.{width_of};
-ghost use Rattle.bv_terms.specs.Trees.{Keeps, tree_in};
-ghost use Rattle.mem_terms.specs.Values.{Each};
+ghost use Rattle.std.specs.List.{flat_map};
+ghost use Rattle.points.specs.Codes.{IsCodeOfArgs, IsCodeOfValue};
+ghost use Rattle.bv_terms.specs.Trees.{Keeps};
+ghost use Rattle.mem_terms.specs.Inputs.{AreArgs, IsArg};
 ghost use Rattle.refine_terms.specs.Deciding.{Decides};
-ghost use Rattle.refine_terms.specs.Groups.{IsArgCode, IsArgOfWidth};
 ghost use Rattle.refine_terms.specs.Numbers.{arg_numbers};
 
-use crate::comparing::is_number;
+use crate::comparing::{at_most, is_number};
 use bv_terms::{TermId, Terms};
+use ir_tree::{IrType, Parameter};
 use mem_terms::{ArgTerms, both, implies, truth};
 use support::NoMemory;
 
-/// True where the two numbers are an argument's: where the flag says poison the number is 0.
-fn arg_code(a: ArgTerms, terms: &mut Terms) -> Result<TermId, NoMemory>
-    requires { IsArgOfWidth terms.old a }
-    ensures made { IfOk result (λ id. Decides terms.new id (λ v. IsArgCode (width_of (tree_in terms.old a.number)) (arg_numbers v terms.old a))) }
+/// True where the numbers are those of an argument of the type, a pointer to null or to one of so
+/// many blocks: where the flag says poison the other numbers are 0.
+fn arg_code(
+    a: ArgTerms,
+    of_type: IrType,
+    blocks: u64,
+    terms: &mut Terms,
+) -> Result<TermId, NoMemory>
+    requires { IsArg terms.old of_type a }
+    ensures made { IfOk result (λ id. Decides terms.new id (λ v. IsCodeOfValue blocks of_type (arg_numbers v terms.old a))) }
     ensures kept { Keeps terms.old terms.new }
 {
     terms.values_fit();
-    let is_zero = is_number(a.number, 0, terms)?;
-    let id = implies(terms, a.flag, is_zero)?;
-    Ok(id)
+    match a {
+        ArgTerms::Int { flag, number } => {
+            let is_zero = is_number(number, 0, terms)?;
+            let id = implies(terms, flag, is_zero)?;
+            Ok(id)
+        }
+        ArgTerms::Ptr {
+            flag,
+            block,
+            offset,
+        } => {
+            let is_given = at_most(block, blocks, terms)?;
+            let no_block = is_number(block, 0, terms)?;
+            let no_offset = is_number(offset, 0, terms)?;
+            let is_zero = both(terms, no_block, no_offset)?;
+            let fine = implies(terms, flag, is_zero)?;
+            let id = both(terms, is_given, fine)?;
+            Ok(id)
+        }
+    }
 }
 
-/// True where the numbers of each argument are.
-pub fn args_code(args: &[ArgTerms], terms: &mut Terms) -> Result<TermId, NoMemory>
-    requires { Each (IsArgOfWidth terms.old) args.now }
-    ensures made { IfOk result (λ id. Decides terms.new id (λ v. Each (λ a. IsArgCode (width_of (tree_in terms.old a.number)) (arg_numbers v terms.old a)) args.now)) }
+/// True where the numbers are those of an argument for each parameter.
+pub fn args_code(
+    args: &[ArgTerms],
+    parameters: &[Parameter],
+    blocks: u64,
+    terms: &mut Terms,
+) -> Result<TermId, NoMemory>
+    requires { AreArgs terms.old parameters.now args.now }
+    ensures made { IfOk result (λ id. Decides terms.new id (λ v. IsCodeOfArgs blocks parameters.now (flat_map (arg_numbers v terms.old) args.now))) }
     ensures kept { Keeps terms.old terms.new }
 {
     let mut all = truth(terms, true)?;
-    for a in args {
-        let one = arg_code(*a, terms)?;
+    for (i, parameter) in parameters.iter().enumerate() {
+        let one = arg_code(args[i], parameter.of_type, blocks, terms)?;
         all = both(terms, all, one)?;
     }
     Ok(all)

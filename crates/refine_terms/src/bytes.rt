@@ -4,7 +4,8 @@ ghost use Rattle.std.specs.Prelude.{◌≡◌, ◌∷◌, ◌≤◌, ◌&&◌, [
 ghost use Rattle.points.specs.Codes.{IsCodeOfByte, IsNumberByte, IsPartByte};
 ghost use Rattle.bv_terms.specs.Trees.{Keeps, Tests, term_at};
 ghost use Rattle.refine_terms.specs.Deciding.{Decides};
-ghost use Rattle.refine_terms.specs.Numbers.{IsByteTerms, byte_numbers};
+ghost use Rattle.mem_terms.specs.Inputs.{IsByteTerms};
+ghost use Rattle.refine_terms.specs.Numbers.{byte_numbers};
 
 use crate::comparing::{at_most, is_number};
 use bv_terms::{TermId, Terms};

@@ -1,52 +1,356 @@
 //! Whether one outcome allows another.
 
-ghost use Rattle.std.specs.Prelude.{IfOk, IfSome, List, ℕ};
+ghost use Rattle.std.specs.Prelude.{◌≡◌, ◌&&◌, ◌||◌, IfOk, IfSome, length, map, nat_eq, nat_lt, take};
 ghost use Rattle.std.specs.Option.{option_map};
-ghost use Rattle.byte_block.specs.declared.block.MemoryBlock.{MemoryBlock};
-ghost use Rattle.points.specs.Refines.{is_refined, returned_allows, value_allows};
-ghost use Rattle.bv_terms.specs.Trees.{Keeps, Tests};
+ghost use Rattle.points.specs.Refines.{block_allows, blocks_allow, byte_allows, is_refined, pairs_pass, returned_allows, value_allows};
+ghost use Rattle.bv_terms.specs.Trees.{IsTerm, Keeps, Tests, term_at};
+ghost use Rattle.refine_terms.specs.Alike.{alike_bytes, alike_content, alike_parts, alike_pointers, alike_values};
 ghost use Rattle.mem_terms.specs.Outcomes.{IsOutcome, outcome_at};
-ghost use Rattle.mem_terms.specs.Values.{IsSymValue, value_at};
+ghost use Rattle.mem_terms.specs.Values.{Each, IsSymValue, reading, value_at};
+ghost use Rattle.mem_terms.specs.Memory.{AreSymBlocks, AreSymBytes, IsAlways, IsSymBlock, IsSymByte, block_at, byte_at, frame_of, memory_at, places_at};
 
+use crate::comparing::is_number;
 use bv_terms::{TermId, Terms};
-use mem_terms::{OutcomeTerms, SymValue, both, either, equals, negation, truth};
+use mem_terms::{
+    OutcomeTerms, SymBlock, SymByte, SymValue, both, either, equals, implies, less, negation,
+    number, pick, truth,
+};
 use support::NoMemory;
 
-/// True where the source's value allows the target's: poison allows every value.
-fn value_allowed(source: SymValue, target: SymValue, terms: &mut Terms) -> Result<TermId, NoMemory>
-    requires source { IsSymValue terms.old source }
-    requires target { IsSymValue terms.old target }
-    ensures made { IfOk result (λ id. Tests terms.new id (λ v. value_allows (value_at v terms.old source) (value_at v terms.old target))) }
+/// A pointer after a run.
+#[derive(Clone, Copy, Debug, PartialEq, Eq)]
+struct Address {
+    block: TermId,
+    offset: TermId,
+}
+
+/// True where two blocks, by their numbers, are dead after the runs, where so many blocks are given.
+fn both_dead(
+    given: u64,
+    source: TermId,
+    target: TermId,
+    terms: &mut Terms,
+) -> Result<TermId, NoMemory>
+    requires source { IsTerm terms.old 64 source }
+    requires target { IsTerm terms.old 64 target }
+    ensures made { IfOk result (λ id. Tests terms.new id (λ v. nat_lt given (term_at v terms.old source) && nat_lt given (term_at v terms.old target))) }
     ensures kept { Keeps terms.old terms.new }
 {
-    let equal = equals(terms, source.number, target.number)?;
-    let is_number = negation(terms, target.poison)?;
-    let same = both(terms, is_number, equal)?;
-    let id = either(terms, source.poison, same)?;
+    let last = number(terms, given)?;
+    let source_dead = less(terms, last, source)?;
+    let target_dead = less(terms, last, target)?;
+    let id = both(terms, source_dead, target_dead)?;
+    Ok(id)
+}
+
+/// True where two pointers are one after the runs, where so many blocks are given: all those to
+/// blocks of allocas are, since these are dead.
+fn same_address(
+    given: u64,
+    source: Address,
+    target: Address,
+    terms: &mut Terms,
+) -> Result<TermId, NoMemory>
+    requires source_block { IsTerm terms.old 64 source.block }
+    requires source_offset { IsTerm terms.old 64 source.offset }
+    requires target_block { IsTerm terms.old 64 target.block }
+    requires target_offset { IsTerm terms.old 64 target.offset }
+    ensures made { IfOk result (λ id. Tests terms.new id (λ v. alike_pointers given v terms.old source.block source.offset target.block target.offset)) }
+    ensures kept { Keeps terms.old terms.new }
+{
+    let dead = both_dead(given, source.block, target.block, terms)?;
+    let block = equals(terms, source.block, target.block)?;
+    let offset = equals(terms, source.offset, target.offset)?;
+    let same = both(terms, block, offset)?;
+    let id = either(terms, dead, same)?;
+    Ok(id)
+}
+
+/// True where the source's pointer is the target's, or else its number, by what the source's value
+/// is.
+fn same_content(
+    given: u64,
+    source: SymValue,
+    target: SymValue,
+    terms: &mut Terms,
+) -> Result<TermId, NoMemory>
+    requires source { IsSymValue terms.old source }
+    requires target { IsSymValue terms.old target }
+    ensures made { IfOk result (λ id. Tests terms.new id (λ v. alike_content given v terms.old source target)) }
+    ensures kept { Keeps terms.old terms.new }
+{
+    let from = Address {
+        block: source.block,
+        offset: source.number,
+    };
+    let to = Address {
+        block: target.block,
+        offset: target.number,
+    };
+    let pointer = same_address(given, from, to, terms)?;
+    let number = equals(terms, source.number, target.number)?;
+    let id = pick(terms, source.is_pointer, pointer, number)?;
+    Ok(id)
+}
+
+/// True where two values, neither of them poison, are of one kind and are one after the runs.
+fn same_value(
+    given: u64,
+    source: SymValue,
+    target: SymValue,
+    terms: &mut Terms,
+) -> Result<TermId, NoMemory>
+    requires source { IsSymValue terms.old source }
+    requires target { IsSymValue terms.old target }
+    ensures made { IfOk result (λ id. Tests terms.new id (λ v. alike_values given v terms.old source target)) }
+    ensures kept { Keeps terms.old terms.new }
+{
+    let content = same_content(given, source, target, terms)?;
+    let kind = equals(terms, source.is_pointer, target.is_pointer)?;
+    let id = both(terms, kind, content)?;
+    Ok(id)
+}
+
+/// True where the source's value allows the target's, where so many blocks are given: poison allows
+/// every value.
+fn value_allowed(
+    given: u64,
+    source: SymValue,
+    target: SymValue,
+    terms: &mut Terms,
+) -> Result<TermId, NoMemory>
+    requires source { IsSymValue terms.old source }
+    requires target { IsSymValue terms.old target }
+    ensures made { IfOk result (λ id. Tests terms.new id (λ v. value_allows (value_at (reading given v) terms.old source) (value_at (reading given v) terms.old target))) }
+    ensures kept { Keeps terms.old terms.new }
+{
+    terms.values_fit();
+    let same = same_value(given, source, target, terms)?;
+    let is_value = negation(terms, target.poison)?;
+    let fine = both(terms, is_value, same)?;
+    let id = either(terms, source.poison, fine)?;
     Ok(id)
 }
 
 /// True where what the source returns allows what the target does, a value or nothing.
 fn returned_allowed(
+    given: u64,
     source: Option<SymValue>,
     target: Option<SymValue>,
     terms: &mut Terms,
 ) -> Result<TermId, NoMemory>
     requires source { IfSome source (IsSymValue terms.old) }
     requires target { IfSome target (IsSymValue terms.old) }
-    ensures made { IfOk result (λ id. Tests terms.new id (λ v. returned_allows (option_map (value_at v terms.old) source) (option_map (value_at v terms.old) target))) }
+    ensures made { IfOk result (λ id. Tests terms.new id (λ v. returned_allows (option_map (value_at (reading given v) terms.old) source) (option_map (value_at (reading given v) terms.old) target))) }
     ensures kept { Keeps terms.old terms.new }
 {
     match (source, target) {
         (None, None) => truth(terms, true),
-        (Some(s), Some(t)) => value_allowed(s, t, terms),
+        (Some(s), Some(t)) => value_allowed(given, s, t, terms),
         _ => truth(terms, false),
     }
 }
 
+/// True where two bytes, both of them parts, are one part of pointers that are one after the runs.
+fn same_part(
+    given: u64,
+    source: SymByte,
+    target: SymByte,
+    terms: &mut Terms,
+) -> Result<TermId, NoMemory>
+    requires source { IsSymByte terms.old source }
+    requires target { IsSymByte terms.old target }
+    ensures made { IfOk result (λ id. Tests terms.new id (λ v. alike_parts given v terms.old source target)) }
+    ensures kept { Keeps terms.old terms.new }
+{
+    let from = Address {
+        block: source.block,
+        offset: source.offset,
+    };
+    let to = Address {
+        block: target.block,
+        offset: target.offset,
+    };
+    let pointer = same_address(given, from, to, terms)?;
+    let part = equals(terms, source.part, target.part)?;
+    let id = both(terms, pointer, part)?;
+    Ok(id)
+}
+
+/// True where the source's number is the target's, or else its part, by what the source's byte is.
+fn same_byte_content(
+    given: u64,
+    source: SymByte,
+    target: SymByte,
+    terms: &mut Terms,
+) -> Result<TermId, NoMemory>
+    requires source { IsSymByte terms.old source }
+    requires target { IsSymByte terms.old target }
+    ensures made { IfOk result (λ id. Tests terms.new id (λ v. alike_bytes given v terms.old source target)) }
+    ensures kept { Keeps terms.old terms.new }
+{
+    let part = same_part(given, source, target, terms)?;
+    let number = equals(terms, source.number, target.number)?;
+    let is_number_byte = is_number(source.kind, 0, terms)?;
+    let id = pick(terms, is_number_byte, number, part)?;
+    Ok(id)
+}
+
+/// True where a byte is a number or a part of a pointer, and not poison.
+fn is_value_byte(b: SymByte, terms: &mut Terms) -> Result<TermId, NoMemory>
+    requires { IsSymByte terms.old b }
+    ensures made { IfOk result (λ id. Tests terms.new id (λ v. nat_eq (term_at v terms.old b.kind) 0 || nat_eq (term_at v terms.old b.kind) 1)) }
+    ensures kept { Keeps terms.old terms.new }
+{
+    let is_number_byte = is_number(b.kind, 0, terms)?;
+    let is_part_byte = is_number(b.kind, 1, terms)?;
+    let id = either(terms, is_number_byte, is_part_byte)?;
+    Ok(id)
+}
+
+/// True where the source's byte allows the target's byte, which differs from it in its terms.
+fn other_byte_allowed(
+    given: u64,
+    source: SymByte,
+    target: SymByte,
+    terms: &mut Terms,
+) -> Result<TermId, NoMemory>
+    requires source { IsSymByte terms.old source }
+    requires target { IsSymByte terms.old target }
+    ensures made { IfOk result (λ id. Tests terms.new id (λ v. byte_allows (byte_at (reading given v) terms.old source) (byte_at (reading given v) terms.old target))) }
+    ensures kept { Keeps terms.old terms.new }
+{
+    let content = same_byte_content(given, source, target, terms)?;
+    let kind = equals(terms, source.kind, target.kind)?;
+    let alike = both(terms, kind, content)?;
+    let is_value = is_value_byte(source, terms)?;
+    let id = implies(terms, is_value, alike)?;
+    Ok(id)
+}
+
+/// True where the source's byte allows the target's: poison allows every byte, and a byte itself.
+fn byte_allowed(
+    given: u64,
+    source: SymByte,
+    target: SymByte,
+    terms: &mut Terms,
+) -> Result<TermId, NoMemory>
+    requires source { IsSymByte terms.old source }
+    requires target { IsSymByte terms.old target }
+    ensures made { IfOk result (λ id. Tests terms.new id (λ v. byte_allows (byte_at (reading given v) terms.old source) (byte_at (reading given v) terms.old target))) }
+    ensures kept { Keeps terms.old terms.new }
+{
+    if source == target {
+        let id = truth(terms, true)?;
+        Ok(id)
+    } else {
+        let id = other_byte_allowed(given, source, target, terms)?;
+        Ok(id)
+    }
+}
+
+/// True where each place before the size allows the other's.
+fn places_allowed(
+    given: u64,
+    size: TermId,
+    source: &[SymByte],
+    target: &[SymByte],
+    terms: &mut Terms,
+) -> Result<TermId, NoMemory>
+    requires size { IsTerm terms.old 64 size }
+    requires source { AreSymBytes terms.old source.now }
+    requires target { AreSymBytes terms.old target.now }
+    requires count { length target.now ≡ length source.now }
+    ensures made { IfOk result (λ id. Tests terms.new id (λ v. pairs_pass byte_allows (take (term_at v terms.old size) (places_at (reading given v) terms.old source.now)) (take (term_at v terms.old size) (places_at (reading given v) terms.old target.now)))) }
+    ensures kept { Keeps terms.old terms.new }
+{
+    let mut all = truth(terms, true)?;
+    for (i, byte) in source.iter().enumerate() {
+        let place = number(terms, i as u64)?;
+        let is_there = less(terms, place, size)?;
+        let allowed = byte_allowed(given, *byte, target[i], terms)?;
+        let fine = implies(terms, is_there, allowed)?;
+        all = both(terms, all, fine)?;
+    }
+    Ok(all)
+}
+
+/// True where the source's block allows the target's, of one number and as many places.
+fn block_allowed(
+    given: u64,
+    source: &SymBlock,
+    target: &SymBlock,
+    terms: &mut Terms,
+) -> Result<TermId, NoMemory>
+    requires source { IsSymBlock terms.old source.now }
+    requires target { IsSymBlock terms.old target.now }
+    requires frame { frame_of target.now ≡ frame_of source.now }
+    ensures made { IfOk result (λ id. Tests terms.new id (λ v. block_allows (block_at (reading given v) terms.old source.now) (block_at (reading given v) terms.old target.now))) }
+    ensures kept { Keeps terms.old terms.new }
+{
+    let size = equals(terms, source.size, target.size)?;
+    let places = places_allowed(
+        given,
+        source.size,
+        source.places.as_slice(),
+        target.places.as_slice(),
+        terms,
+    )?;
+    let id = both(terms, size, places)?;
+    Ok(id)
+}
+
+/// True where each block of the source allows the target's; they are there in every run.
+fn blocks_allowed(
+    given: u64,
+    source: &[SymBlock],
+    target: &[SymBlock],
+    terms: &mut Terms,
+) -> Result<TermId, NoMemory>
+    requires source { AreSymBlocks terms.old source.now }
+    requires target { AreSymBlocks terms.old target.now }
+    requires always_source { Each (IsAlways terms.old) source.now }
+    requires always_target { Each (IsAlways terms.old) target.now }
+    requires frames { map frame_of target.now ≡ map frame_of source.now }
+    ensures made { IfOk result (λ id. Tests terms.new id (λ v. blocks_allow (memory_at (reading given v) terms.old source.now) (memory_at (reading given v) terms.old target.now))) }
+    ensures kept { Keeps terms.old terms.new }
+{
+    let mut all = truth(terms, true)?;
+    for (i, block) in source.iter().enumerate() {
+        let allowed = block_allowed(given, block, &target[i], terms)?;
+        all = both(terms, all, allowed)?;
+    }
+    Ok(all)
+}
+
+/// True where what the source returns, and how it leaves the given blocks, allow the target's.
+fn return_allowed(
+    source: &OutcomeTerms,
+    target: &OutcomeTerms,
+    terms: &mut Terms,
+) -> Result<TermId, NoMemory>
+    requires source { IsOutcome terms.old source.now }
+    requires target { IsOutcome terms.old target.now }
+    requires frames { map frame_of target.now.blocks ≡ map frame_of source.now.blocks }
+    ensures made { IfOk result (λ id. Tests terms.new id (λ v. returned_allows (option_map (value_at (reading (length source.now.blocks) v) terms.old) source.now.value) (option_map (value_at (reading (length source.now.blocks) v) terms.old) target.now.value) && blocks_allow (memory_at (reading (length source.now.blocks) v) terms.old source.now.blocks) (memory_at (reading (length source.now.blocks) v) terms.old target.now.blocks))) }
+    ensures kept { Keeps terms.old terms.new }
+{
+    let given = source.blocks.len() as u64;
+    let value = returned_allowed(given, source.value, target.value, terms)?;
+    let blocks = blocks_allowed(
+        given,
+        source.blocks.as_slice(),
+        target.blocks.as_slice(),
+        terms,
+    )?;
+    let id = both(terms, value, blocks)?;
+    Ok(id)
+}
+
 /// True where the source's outcome allows the target's (Alive2, PLDI 2021): a run past the bound on
 /// jumps allows and is allowed everything, undefined behaviour of the source allows everything, and
-/// poison allows every value. Both runs leave the same memory.
+/// poison allows every value and byte. A pointer to a block of an alloca is dead behind the run, and
+/// all dead ones are one. The blocks are the given ones.
 pub fn covered(
     source: &OutcomeTerms,
     target: &OutcomeTerms,
@@ -54,10 +358,11 @@ pub fn covered(
 ) -> Result<TermId, NoMemory>
     requires source { IsOutcome terms.old source.now }
     requires target { IsOutcome terms.old target.now }
-    ensures made { IfOk result (λ id. (memory : List MemoryBlock) → Tests terms.new id (λ v. is_refined (outcome_at v terms.old memory source.now) (outcome_at v terms.old memory target.now))) }
+    requires frames { map frame_of target.now.blocks ≡ map frame_of source.now.blocks }
+    ensures made { IfOk result (λ id. Tests terms.new id (λ v. is_refined (outcome_at (reading (length source.now.blocks) v) terms.old source.now) (outcome_at (reading (length source.now.blocks) v) terms.old target.now))) }
     ensures kept { Keeps terms.old terms.new }
 {
-    let returned = returned_allowed(source.value, target.value, terms)?;
+    let returned = return_allowed(source, target, terms)?;
     let ends = either(terms, target.beyond, returned)?;
     let is_defined = negation(terms, target.ub)?;
     let allowed = both(terms, is_defined, ends)?;

@@ -7,7 +7,8 @@ ghost use Rattle.bv_terms.specs.Trees.{IsTerm, Keeps, term_at};
 ghost use Rattle.mem_terms.specs.Values.{Each};
 ghost use Rattle.refine_terms.specs.Deciding.{Decides, IsNarrow};
 ghost use Rattle.refine_terms.specs.Groups.{IsCodeOfPlace};
-ghost use Rattle.refine_terms.specs.Numbers.{IsBlockTerms, IsByteTerms, block_numbers, byte_numbers};
+ghost use Rattle.mem_terms.specs.Inputs.{IsBlockTerms, IsByteTerms};
+ghost use Rattle.refine_terms.specs.Numbers.{block_numbers, byte_numbers};
 
 use crate::bytes::{byte_code, kind_alone};
 use crate::comparing::at_most;

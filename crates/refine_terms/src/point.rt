@@ -1,7 +1,6 @@
 //! Whether numbers are those of a point.
 
 ghost use Rattle.std.specs.Prelude.{◌≡◌, IfOk, true};
-ghost use Rattle.ir_tree.specs.Pointers.{AreIntegers};
 ghost use Rattle.points.specs.Codes.{IsCode};
 ghost use Rattle.bv_terms.specs.Trees.{Keeps, bit_at};
 ghost use Rattle.mem_terms.specs.Outcomes.{IsOutcome};
@@ -23,13 +22,17 @@ fn code(
     tape: &TapeTerms,
     terms: &mut Terms,
 ) -> Result<TermId, NoMemory>
-    requires integers { AreIntegers shape.now.parameters }
     requires input { IsInputOf shape.now terms.old input.now }
     requires tape { IsTapeOf shape.now terms.old tape.now }
     ensures made { IfOk result (λ id. Decides terms.new id (λ v. IsCode shape.now (numbers_at v terms.old input.now tape.now))) }
     ensures kept { Keeps terms.old terms.new }
 {
-    let args = args_code(input.args.as_slice(), terms)?;
+    let args = args_code(
+        input.args.as_slice(),
+        shape.parameters.as_slice(),
+        shape.blocks,
+        terms,
+    )?;
     let sizes = all_at_most(input.sizes.as_slice(), shape.bytes, terms)?;
     let places = blocks_code(
         input.places.as_slice(),
@@ -46,7 +49,7 @@ fn code(
 }
 
 /// True where the numbers of the terms are those of a point: a code of the shape, with a tape that
-/// is plain for the run that ends in this outcome. The parameters are integers.
+/// is plain for the run that ends in this outcome.
 pub fn well_point(
     shape: &Shape,
     input: &InputTerms,
@@ -54,7 +57,6 @@ pub fn well_point(
     outcome: &OutcomeTerms,
     terms: &mut Terms,
 ) -> Result<TermId, NoMemory>
-    requires integers { AreIntegers shape.now.parameters }
     requires input { IsInputOf shape.now terms.old input.now }
     requires tape { IsTapeOf shape.now terms.old tape.now }
     requires outcome { IsOutcome terms.old outcome.now }

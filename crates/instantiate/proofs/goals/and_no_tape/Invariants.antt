@@ -1,16 +1,14 @@
 -- The goal so far and the tapes that are left are the goal before and all tapes.
-use Rattle.std.proofs.Common.{ℕ, ◌≡◌, ◌&&◌, List, drop}
-use Rattle.byte_block.specs.declared.block.MemoryBlock.{MemoryBlock}
-use Rattle.points.specs.declared.point.Bounds.{Bounds}
+use Rattle.std.proofs.Common.{ℕ, ◌≡◌, ◌&&◌, drop}
 use Rattle.bv_terms.specs.Trees.{IsTerm, Keeps, bit_at}
-use Rattle.instantiate.specs.Candidates.{input_at, none_allows, outcome_on}
+use Rattle.instantiate.specs.Candidates.{input_in, none_allows, outcome_in}
 use Rattle.instantiate.proofs.goals.and_no_tape.Given as goal
 
 abbrev pub invariant-loop-tape : goal.invariant-loop-tape
 invariant-loop-tape l = record {
   kept : Keeps l.fn.terms l.terms;
   goal : IsTerm l.terms 1 l.goal;
-  rest : (bounds : Bounds) (memory : List MemoryBlock) → bounds.turns ≡ l.trial.layered.now.turns → (v : ℕ → ℕ → ℕ)
-      → (bit_at v l.terms l.goal && none_allows l.trial.source.now bounds (input_at v l.fn.terms memory l.trial.input.now) (outcome_on v l.fn.terms memory l.trial.target.now) (drop l.tape-index l.tapes))
-      ≡ (bit_at v l.fn.terms l.fn.goal && none_allows l.trial.source.now bounds (input_at v l.fn.terms memory l.trial.input.now) (outcome_on v l.fn.terms memory l.trial.target.now) l.tapes);
+  rest : (v : ℕ → ℕ → ℕ)
+      → (bit_at v l.terms l.goal && none_allows l.trial.source.now l.trial.bounds.now (input_in l.trial.bounds.now v l.fn.terms l.trial.input.now) (outcome_in l.trial.bounds.now v l.fn.terms l.trial.target.now) (drop l.tape-index l.tapes))
+      ≡ (bit_at v l.fn.terms l.fn.goal && none_allows l.trial.source.now l.trial.bounds.now (input_in l.trial.bounds.now v l.fn.terms l.trial.input.now) (outcome_in l.trial.bounds.now v l.fn.terms l.trial.target.now) l.tapes);
 }

@@ -1,6 +1,6 @@
 use Rattle.std.proofs.Common.{◌++◌, ◌+◌, arith}
 use Rattle.std.specs.List.{flat_map}
-use Rattle.refine_terms.specs.Numbers.{IsByteTerms}
+use Rattle.mem_terms.specs.Inputs.{IsByteTerms}
 use Rattle.instantiate.specs.Questions.{places_widths}
 use Rattle.instantiate.specs.Shapes.{byte_ids}
 use Rattle.instantiate.proofs.Extending.{extends_trans, bytes_extended, each_more, length_more, grows_as, grows_trans, places_more, ids_more, ids_pushed}

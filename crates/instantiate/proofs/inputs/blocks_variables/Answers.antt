@@ -1,6 +1,6 @@
 use Rattle.std.proofs.Common.{◌++◌, ◌+◌, arith}
 use Rattle.std.specs.List.{flat_map}
-use Rattle.refine_terms.specs.Numbers.{IsBlockTerms}
+use Rattle.mem_terms.specs.Inputs.{IsBlockTerms}
 use Rattle.instantiate.specs.Questions.{places_widths, blocks_widths}
 use Rattle.instantiate.specs.Shapes.{byte_ids}
 use Rattle.instantiate.proofs.Extending.{extends_trans, blocks_extended, each_more, length_more, grows_as, grows_trans, blocks_more, ids_more, ids_pushed}

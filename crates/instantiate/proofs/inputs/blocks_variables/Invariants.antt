@@ -3,7 +3,7 @@ use Rattle.std.proofs.Common.{◌≡◌, ◌≤◌, ◌++◌, length}
 use Rattle.std.specs.List.{flat_map}
 use Rattle.bv_terms.specs.Trees.{Extends}
 use Rattle.mem_terms.specs.Values.{Each}
-use Rattle.refine_terms.specs.Numbers.{IsBlockTerms}
+use Rattle.mem_terms.specs.Inputs.{IsBlockTerms}
 use Rattle.instantiate.specs.Questions.{blocks_widths}
 use Rattle.instantiate.specs.Shapes.{byte_ids}
 use Rattle.instantiate.proofs.Extending.{Grows}

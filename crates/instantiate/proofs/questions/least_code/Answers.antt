@@ -1,7 +1,5 @@
 -- The variables are the numbers of a code, and what is found of numbers is found of points.
 use Rattle.std.proofs.Common.{ℕ, List, sym, subst, ◌∙◌}
-use Rattle.ir_tree.specs.declared.tree.Parameter.{Parameter}
-use Rattle.ir_tree.specs.Pointers.{AreIntegers}
 use Rattle.answer_order.specs.Fronts.{AreWidths}
 use Rattle.instantiate.specs.Numbers.{IsFoundNumbers, number_test}
 use Rattle.instantiate.specs.Questions.{IsUncovered, point_widths}
@@ -11,9 +9,6 @@ use Rattle.instantiate.proofs.Extending.{input_extended}
 use Rattle.instantiate.proofs.Fitting.{point_narrow}
 use Rattle.instantiate.proofs.Ordered.{counted, order_asked, order_within, point_order}
 use Rattle.instantiate.proofs.questions.least_code.Goals as goal
-
-pub input_variables-requires : goal.input_variables-requires
-input_variables-requires c = subst (λ (ps : List Parameter). AreIntegers ps) (sym c.requires.shape.parameters) c.requires.ready.target_pointers.parameters
 
 pub widths_of-requires : goal.widths_of-requires
 widths_of-requires c =

@@ -1,39 +1,31 @@
-use Rattle.std.proofs.Common.{drop}
-use Rattle.bv_terms.specs.Tree.{width_of}
-use Rattle.bv_terms.specs.Trees.{tree_in}
-use Rattle.mem_terms.specs.Values.{Each}
-use Rattle.mem_terms.proofs.Later.{keeps_trans, is_term-later}
-use Rattle.refine_terms.specs.Groups.{IsArgCode, IsArgOfWidth}
+use Rattle.std.proofs.Common.{arith, drop}
+use Rattle.std.specs.List.{flat_map}
+use Rattle.points.specs.Codes.{IsCodeOfArgs}
+use Rattle.mem_terms.proofs.Later.{arg-later, keeps_trans}
 use Rattle.refine_terms.specs.Numbers.{arg_numbers}
-use Rattle.refine_terms.proofs.Deciders.{row_starts, row_ends}
-use Rattle.refine_terms.proofs.Rows.{each_get, each_end, arg_of_width-later, arg_row}
+use Rattle.refine_terms.proofs.Deciders.{row_ends}
+use Rattle.refine_terms.proofs.ArgNumbers.{arg_is, arg_row, args_count, args_end, no_arg}
 use Rattle.refine_terms.proofs.args.args_code.Goals as goal
+
+pub bounds-args-i : goal.bounds-args-i
+bounds-args-i c = omega (arith, args_count c.args.terms.now c.args.parameters.now c.args.args.now c.requires, c.loop-i-test.true)
 
 pub arg_code-requires : goal.arg_code-requires
 arg_code-requires c =
-    arg_of_width-later c.args.terms.now c.loop-a.terms c.loop-a.invariant.kept _
-    (each_get (IsArgOfWidth c.args.terms.now) c.args.args.now c.loop-a.a-index (record { flag = record { index = 0 }; number = record { index = 0 } }) c.requires c.loop-a-test.true)
+    let p = c.index-parameters-i.result in
+    arg-later c.args.terms.now c.loop-i.terms c.loop-i.invariant.kept p.of_type _ (arg_is c.args.terms.now c.args.parameters.now c.args.args.now c.loop-i.i p no_arg c.requires c.loop-i-test.true c.index-parameters-i.is)
 
-pub both-requires-clause-a : goal.both-requires-clause-a
-both-requires-clause-a c = is_term-later c.loop-a.terms c.arg_code.new.terms c.arg_code.ensures.kept 1 c.loop-a.all c.loop-a.invariant.all
-
-pub loop-a-init : goal.loop-a-init
-loop-a-init c = record {
-  kept = c.truth.ensures.kept;
-  all = record { within = c.in_ok-all.ensures.made.within; wide = c.in_ok-all.ensures.made.wide };
-  rest = row_starts c.truth.new.terms c.in_ok-all.all (λ v. Each (λ a. IsArgCode (width_of (tree_in c.args.terms.now a.number)) (arg_numbers v c.args.terms.now a)) c.args.args.now) c.in_ok-all.ensures.made;
-}
-
-pub loop-a-preserved : goal.loop-a-preserved
-loop-a-preserved c = record {
-  kept = keeps_trans c.args.terms.now c.arg_code.new.terms c.both.new.terms (keeps_trans c.args.terms.now c.loop-a.terms c.arg_code.new.terms c.loop-a.invariant.kept c.arg_code.ensures.kept) c.both.ensures.kept;
+pub loop-i-preserved : goal.loop-i-preserved
+loop-i-preserved c = record {
+  kept = keeps_trans c.args.terms.now c.arg_code.new.terms c.both.new.terms (keeps_trans c.args.terms.now c.loop-i.terms c.arg_code.new.terms c.loop-i.invariant.kept c.arg_code.ensures.kept) c.both.ensures.kept;
   all = record { within = c.in_ok-all-2.ensures.made.within; wide = c.in_ok-all-2.ensures.made.wide };
-  rest = arg_row c.args.terms.now c.loop-a.terms c.arg_code.new.terms c.both.new.terms c.args.args.now c.loop-a.a-index (record { flag = record { index = 0 }; number = record { index = 0 } }) c.loop-a.all c.in_ok-one.one c.in_ok-all-2.all
-      c.requires c.loop-a-test.true c.loop-a.invariant.kept c.arg_code.ensures.kept c.loop-a.invariant.all c.loop-a.invariant.rest c.in_ok-one.ensures.made c.in_ok-all-2.ensures.made;
+  rest = arg_row c.args.terms.now c.loop-i.terms c.arg_code.new.terms c.both.new.terms c.args.blocks c.loop-i.i c.args.parameters.now c.args.args.now c.index-parameters-i.result no_arg c.loop-i.all c.in_ok-one.one c.in_ok-all-2.all
+      c.requires c.loop-i-test.true c.index-parameters-i.is c.loop-i.invariant.kept c.arg_code.ensures.kept c.loop-i.invariant.all c.loop-i.invariant.rest c.in_ok-one.ensures.made c.in_ok-all-2.ensures.made;
 }
 
 pub returns-clause-made : goal.returns-clause-made
 returns-clause-made c =
-    row_ends c.loop-a.terms c.loop-a.all (λ v. Each (λ a. IsArgCode (width_of (tree_in c.args.terms.now a.number)) (arg_numbers v c.args.terms.now a)) (drop c.loop-a.a-index c.args.args.now))
-    (λ v. Each (λ a. IsArgCode (width_of (tree_in c.args.terms.now a.number)) (arg_numbers v c.args.terms.now a)) c.args.args.now) c.loop-a.invariant.all c.loop-a.invariant.rest
-    (λ v. each_end (λ a. IsArgCode (width_of (tree_in c.args.terms.now a.number)) (arg_numbers v c.args.terms.now a)) c.args.args.now c.loop-a.a-index c.loop-a-test.false)
+    row_ends c.loop-i.terms c.loop-i.all
+    (λ v. IsCodeOfArgs c.args.blocks (drop c.loop-i.i c.args.parameters.now) (flat_map (arg_numbers v c.args.terms.now) (drop c.loop-i.i c.args.args.now)))
+    (λ v. IsCodeOfArgs c.args.blocks c.args.parameters.now (flat_map (arg_numbers v c.args.terms.now) c.args.args.now)) c.loop-i.invariant.all c.loop-i.invariant.rest
+    (λ v. args_end v c.args.terms.now c.args.blocks c.loop-i.i c.args.parameters.now c.args.args.now c.requires c.loop-i-test.false)

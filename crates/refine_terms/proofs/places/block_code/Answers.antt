@@ -1,10 +1,11 @@
 use Rattle.std.proofs.Common.{◌-◌, length, drop}
 use Rattle.points.specs.Codes.{IsCodeOfPlaces}
 use Rattle.bv_terms.specs.Trees.{term_at}
-use Rattle.mem_terms.proofs.Later.{keeps_trans, is_term-later}
-use Rattle.refine_terms.specs.Numbers.{IsByteTerms, block_numbers}
+use Rattle.mem_terms.proofs.Later.{byte_terms-later, keeps_trans, is_term-later}
+use Rattle.mem_terms.specs.Inputs.{IsByteTerms}
+use Rattle.refine_terms.specs.Numbers.{block_numbers}
 use Rattle.refine_terms.proofs.Deciders.{row_ends}
-use Rattle.refine_terms.proofs.Rows.{each_get, narrow-later, byte_terms-later, no_byte, place_row, places_start, places_end}
+use Rattle.refine_terms.proofs.Rows.{each_get, narrow-later, no_byte, place_row, places_start, places_end}
 use Rattle.refine_terms.proofs.places.block_code.Goals as goal
 
 pub place_code-requires-clause-byte : goal.place_code-requires-clause-byte

@@ -1,0 +1,28 @@
+-- What two values, or two bytes, that are not poison are compared by.
+use Rattle.std.specs.Prelude.{ℕ, Bool, cond, ◌&&◌, nat_eq, List}
+use Rattle.points.specs.Refines.{same_pointer}
+use Rattle.bv_terms.specs.declared.term.TermId.{TermId}
+use Rattle.bv_terms.specs.declared.term.Term.{Term}
+use Rattle.bv_terms.specs.Trees.{bit_at, term_at}
+use Rattle.mem_terms.specs.declared.values.SymValue.{SymValue}
+use Rattle.mem_terms.specs.declared.bytes.SymByte.{SymByte}
+use Rattle.mem_terms.specs.Values.{block_name}
+
+-- pointers of these blocks and offsets are one after the runs, where so many blocks are given
+abbrev pub alike_pointers : ℕ → (ℕ → ℕ → ℕ) → List Term → (block offset block' offset' : TermId) → Bool
+alike_pointers given v terms block offset block' offset' =
+    same_pointer (block_name given (term_at v terms block)) (term_at v terms offset) (block_name given (term_at v terms block')) (term_at v terms offset')
+
+-- the pointers where the first is one, and else the numbers
+abbrev pub alike_content : ℕ → (ℕ → ℕ → ℕ) → List Term → SymValue → SymValue → Bool
+alike_content given v terms s t = cond (bit_at v terms s.is_pointer) (alike_pointers given v terms s.block s.number t.block t.number) (nat_eq (term_at v terms s.number) (term_at v terms t.number))
+
+abbrev pub alike_values : ℕ → (ℕ → ℕ → ℕ) → List Term → SymValue → SymValue → Bool
+alike_values given v terms s t = nat_eq (term_at v terms s.is_pointer) (term_at v terms t.is_pointer) && alike_content given v terms s t
+
+abbrev pub alike_parts : ℕ → (ℕ → ℕ → ℕ) → List Term → SymByte → SymByte → Bool
+alike_parts given v terms s t = alike_pointers given v terms s.block s.offset t.block t.offset && nat_eq (term_at v terms s.part) (term_at v terms t.part)
+
+-- the numbers where the first is one, and else the parts
+abbrev pub alike_bytes : ℕ → (ℕ → ℕ → ℕ) → List Term → SymByte → SymByte → Bool
+alike_bytes given v terms s t = cond (nat_eq (term_at v terms s.kind) 0) (nat_eq (term_at v terms s.number) (term_at v terms t.number)) (alike_parts given v terms s t)
