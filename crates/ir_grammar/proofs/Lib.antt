@@ -1,3 +1,5 @@
 pub mod Digits
 pub mod Widths
 pub mod PlainGrammar
+pub mod SmallArrays
+pub mod Closers

@@ -1,13 +1,13 @@
 -- The forms of the grammar tell apart what comes next, so that looking one token ahead loses nothing.
-use Rattle.std.proofs.Common.{◌≡◌, ℕ, Bool, true, false, List, Option, Some, None, cond, refl, sym, subst, codes}
+use Rattle.std.proofs.Common.{◌≡◌, ℕ, zero, suc, Bool, true, false, List, Option, Some, None, cond, refl, sym, subst, codes}
 use Rattle.std.specs.Prelude.{◌||◌, is_some, nat_lt}
 use Rattle.std.specs.Str.{bytes_eq}
 use Rattle.std.proofs.lemmas.Slice.Eq.{bytes_eq-Decides}
-use Rattle.tv_num.specs.declared.Width.{Width}
 use Rattle.text_places.specs.declared.place.Place.{Place}
 use Rattle.ir_lexer.specs.Lexeme.{Lexeme}
 use Rattle.ir_lexer.specs.declared.token.Kind.{Kind}
 use Rattle.ir_lexer.specs.declared.token.Kind.TheVariants as kind
+use Rattle.ir_tree.specs.declared.tree.IrType.{IrType}
 use Rattle.ir_tree.specs.declared.tree.Op.{Op}
 use Rattle.ir_tree.specs.declared.tree.Cast.{Cast}
 use Rattle.token_forms.specs.Form.{never, either}
@@ -28,15 +28,20 @@ use Rattle.ir_grammar.specs.declared.word.ParameterPart.TheVariants as part
 use Rattle.ir_grammar.specs.declared.word.HeaderPart.{HeaderPart}
 use Rattle.ir_grammar.specs.declared.word.HeaderPart.TheVariants as header
 use Rattle.ir_grammar.specs.declared.written.WrittenName.{WrittenName}
+use Rattle.ir_grammar.specs.declared.written.WrittenIntType.{WrittenIntType}
 use Rattle.ir_grammar.specs.declared.written.WrittenType.{WrittenType}
 use Rattle.ir_grammar.specs.declared.written.WrittenParameters.{WrittenParameters}
 use Rattle.ir_grammar.specs.declared.written.WrittenLines.{WrittenLines}
 use Rattle.ir_grammar.specs.declared.written.WrittenLine.{WrittenLine}
 use Rattle.ir_grammar.specs.declared.written.WrittenLine.TheVariants as line
 use Rattle.ir_grammar.specs.declared.written.WrittenPhi.{WrittenPhi}
+use Rattle.ir_grammar.specs.declared.written.WrittenArrays.{WrittenArrays}
+use Rattle.ir_grammar.specs.declared.written.WrittenAccess.{WrittenAccess}
+use Rattle.ir_grammar.specs.declared.written.WrittenGep.{WrittenGep}
 use Rattle.ir_grammar.specs.Words.{is_word_of, is_mark_of, terminator_of, flag_text, prefix_of, prefix_named, is_linkage, is_visibility}
-use Rattle.ir_grammar.specs.Classes.{passed, passed_at, as_word, as_mark, int_type, return_type, terminator_word, brace}
-use Rattle.ir_grammar.specs.Instructions.{is_wrap, wraps, flagged_type, comparison, typed, binary, wrapping, exact, plain, disjunction, icmp, cast_by, truncate, zero_extend, sign_extend, select, freeze, inst_by, entry, phi, next_entry, phi_number, entry_or_attachment, inst_line, line_by, line_named}
+use Rattle.ir_grammar.specs.Spelling.{bits_of, spelled_width, int_typed_at}
+use Rattle.ir_grammar.specs.Classes.{passed, passed_at, as_word, as_mark, int_type, element_type, return_type, terminator_word, attachment_or_type, brace}
+use Rattle.ir_grammar.specs.Instructions.{is_wrap, wraps, flagged_type, comparison, typed, binary, wrapping, exact, plain, disjunction, icmp, cast_by, truncate, zero_extend, sign_extend, select, freeze, inst_by, entry, phi, next_entry, attached, entry_or_attachment, is_square, with_length, arrays, closers, alloca_object, is_gep_flag, gep_flags, gep_arrays, gep_object, pointer, alloca, load, store, gep, aligned, align_or_attachment, next_index, index_or_attachment, inst_line, line_by, line_named}
 use Rattle.ir_grammar.specs.Grammar.{is_comma, is_prefix, prefixes, follows_parameter, with_part, parameter_parts, first_parameter, parameters, follows_header, comdat_rest, debug_rest, with_header, header_parts, attachment, record_rest, starts_line, started, commas, with_comma, whole_line, next_line, lines, returned_by, returned, target, cond_branch, branch_to, branch, is_type, with_case, cases, switch, return_of, terminator_by, attachments, block, begins_block, entry_block, next_block, blocks, define}
 
 bytes-same : (xs ys : List ℕ) → bytes_eq xs ys ≡ true → xs ≡ ys
@@ -106,11 +111,11 @@ tells-typed : (undef_too : Bool) → TellsApart (typed undef_too)
 unfolding typed
 tells-typed undef_too = (tt, λ a. (tt, λ b. tt))
 
-tells-binary : (name : WrittenName) (o : Op) (type : WrittenType) → TellsApart (binary name o type)
+tells-binary : (name : WrittenName) (o : Op) (type : WrittenIntType) → TellsApart (binary name o type)
 unfolding binary
 tells-binary name o type = (tt, λ a. (tt, λ b. (tt, λ c. tt)))
 
-tells-cast : (name : WrittenName) (c : Cast) (from : WrittenType) → TellsApart (cast_by name c from)
+tells-cast : (name : WrittenName) (c : Cast) (from : WrittenIntType) → TellsApart (cast_by name c from)
 unfolding cast_by
 tells-cast name c from = (tt, λ a. (tt, λ b. (tt, λ d. tt)))
 
@@ -136,17 +141,95 @@ unfolding phi
 tells-phi name = (tt, λ a. (tt, λ b. (tells-entry a, λ c. tt)))
 
 tells-behind-entry : (p : WrittenPhi) → TellsApart (entry_or_attachment p)
-unfolding entry_or_attachment next_entry phi_number
+unfolding entry_or_attachment next_entry attached
 tells-behind-entry p = (apart-spelled kind.Mark (codes "[") _ _ (λ t e. only-mark (codes "[") t (of-passed _ e)) (λ t. refl), (λ a. (tells-entry p.of_type, λ b. tt)), λ a. (tt, λ b. tt))
 
-tells-line-by : (name : WrittenName) (w : LineWord) → TellsApart (line_by name w)
-unfolding inst_line
-tells-line-by name word_of.Phi = tells-phi name
-tells-line-by name (word_of.Inst o) = (tells-inst name o, λ a. tt)
+-- ---- memory
 
-tells-named : (phi_too : Bool) (name : WrittenName) → TellsApart (line_named phi_too name)
+tells-length : (s : WrittenArrays) → TellsApart (with_length s)
+unfolding with_length
+tells-length s = (tt, λ a. (tt, λ b. tt))
+
+tells-arrays : (s : WrittenArrays) → TellsApart (arrays s)
+unfolding arrays
+tells-arrays s = (tt, (λ s'. apart-never _), (λ s'. apart-never _), λ s' opening. tells-length s')
+
+tells-closers : (n : ℕ) → TellsApart (closers n)
+tells-closers zero = tt
+tells-closers (suc n) = (tt, λ a. tells-closers n)
+
+-- an opening mark is no type
+no-square : {A : Type 0} (stands : Lexeme → Option A) → ((t : Lexeme) → stands (record t { kind = kind.Mark; text = codes "[" }) ≡ None) → AreApart is_square stands
+no-square stands differs = apart-spelled kind.Mark (codes "[") is_square stands (only-mark (codes "[")) differs
+
+-- a flag of a getelementptr is neither
+no-gep-flag : {A : Type 0} (stands : Lexeme → Option A) → ((t : Lexeme) → stands (record t { kind = kind.Word; text = codes "inbounds" }) ≡ None) → ((t : Lexeme) → stands (record t { kind = kind.Word; text = codes "nuw" }) ≡ None) → AreApart is_gep_flag stands
+no-gep-flag stands first second = apart-either (λ t. is_word_of t.kind t.text (codes "inbounds")) (λ t. is_word_of t.kind t.text (codes "nuw")) stands (apart-word (codes "inbounds") stands first) (apart-word (codes "nuw") stands second)
+
+tells-alloca-object : TellsApart alloca_object
+unfolding alloca_object
+tells-alloca-object = ((tells-arrays _, λ s. apart-tail is_square _ (no-square _ (λ t. refl))), λ found. (tells-closers _, λ closed. tt))
+
+tells-gep-flags : TellsApart gep_flags
+unfolding gep_flags
+tells-gep-flags = (tt, (λ s. apart-never _), (λ s. apart-never _), λ s a. tt)
+
+abbrev flags_go_on : Lexeme → Bool
+flags_go_on = either (either never (either is_gep_flag never)) never
+
+no-flags-go-on : {A : Type 0} (stands : Lexeme → Option A) → AreApart is_gep_flag stands → AreApart flags_go_on stands
+no-flags-go-on stands apart = apart-either (either never (either is_gep_flag never)) never stands (apart-tail is_gep_flag stands apart) (apart-never stands)
+
+tells-gep-arrays : TellsApart gep_arrays
+unfolding gep_arrays
+tells-gep-arrays = (tells-gep-flags, (λ s. no-flags-go-on _ (no-gep-flag _ (λ t. refl) (λ t. refl))), (λ s. apart-never _), λ s opening. tells-length s)
+
+tells-gep-object : TellsApart gep_object
+unfolding gep_object
+tells-gep-object = (
+  (
+    tells-gep-arrays,
+    λ s. let stands = (element_type false s.lengths).stands in
+        apart-either flags_go_on (either is_square never) stands (no-flags-go-on stands (no-gep-flag stands (λ t. refl) (λ t. refl))) (apart-either is_square never stands (no-square stands (λ t. refl)) (apart-never stands)),
+  ),
+  λ found. (tells-closers _, λ closed. tt),
+)
+
+tells-pointer : TellsApart pointer
+unfolding pointer
+tells-pointer = (tt, λ a. (tt, λ b. tt))
+
+tells-behind-access : (a : WrittenAccess) → TellsApart (align_or_attachment a)
+unfolding align_or_attachment aligned attached
+tells-behind-access a = (apart-spelled kind.Word (codes "align") _ _ (λ t e. only-word (codes "align") t (of-passed _ e)) (λ t. refl), (λ b. (tt, λ n. tt)), λ b. (tt, λ n. tt))
+
+-- no type is an attachment
+no-index : AreApart (λ t. is_some (int_type.stands t)) attachment_or_type.stands
+no-index t e = go t.kind refl e
+  where
+    go : (k : Kind) → t.kind ≡ k → is_some (int_typed_at (spelled_width (bits_of k t.text)) t.place) ≡ true → attachment_or_type.stands t ≡ None
+    go kind.Word is e' = subst (λ (k' : Kind). attachment_or_type.stands (record t { kind = k'; text = t.text }) ≡ None) (sym is) refl
+    go _ is e' = absurd (cc e')
+
+tells-behind-index : (g : WrittenGep) → TellsApart (index_or_attachment g)
+unfolding index_or_attachment next_index attached
+tells-behind-index g = (no-index, (λ type. (tt, λ value. tt)), λ a. (tt, λ n. tt))
+
+tells-line-by : (number : ℕ) (name : WrittenName) (w : LineWord) → TellsApart (line_by number name w)
+unfolding inst_line alloca load gep
+tells-line-by number name word_of.Phi = tells-phi name
+tells-line-by number name word_of.Alloca = (tells-alloca-object, λ object. tt)
+tells-line-by number name word_of.Load = (tt, λ type. (tt, λ comma. (tells-pointer, λ from. tt)))
+tells-line-by number name word_of.GetElementPtr = (tells-gep-object, λ object. (tt, λ comma. (tells-pointer, λ base. tt)))
+tells-line-by number name (word_of.Inst o) = (tells-inst name o, λ a. tt)
+
+tells-store : TellsApart store
+unfolding store
+tells-store = (tt, λ type. (tt, λ value. (tt, λ comma. (tells-pointer, λ to. tt))))
+
+tells-named : (phi_too : Bool) (number : ℕ) (name : WrittenName) → TellsApart (line_named phi_too number name)
 unfolding line_named
-tells-named phi_too name = (tt, λ a. (tt, λ w. tells-line-by name w))
+tells-named phi_too number name = (tt, λ a. (tt, λ w. tells-line-by number name w))
 
 -- ---- the header
 
@@ -198,6 +281,7 @@ no-close = apart-from-mark (codes ")") follows_parameter (λ t. refl)
 
 tells-part : (s : WrittenParameters) (a : ParameterPart) → TellsApart (with_part s a)
 tells-part s part.NoUndef = tt
+tells-part s part.NonNull = tt
 tells-part s part.Extension = tt
 tells-part s (part.Name name) = tt
 tells-part s part.Next = (tt, λ a. tt)
@@ -238,21 +322,24 @@ tells-record : TellsApart record_rest
 unfolding record_rest
 tells-record = (tt, λ a. tt)
 
-tells-started : (phi_too : Bool) (a : LineStart) → TellsApart (started phi_too a)
-tells-started phi_too (start.Label name) = tt
-tells-started phi_too (start.Inst name) = tells-named phi_too name
-tells-started phi_too start.Record = (tells-record, λ a. tt)
+tells-started : (phi_too : Bool) (number : ℕ) (a : LineStart) → TellsApart (started phi_too number a)
+tells-started phi_too number (start.Label name) = tt
+tells-started phi_too number (start.Inst name) = tells-named phi_too number name
+tells-started phi_too number start.Store = tells-store
+tells-started phi_too number start.Record = (tells-record, λ a. tt)
 
 tells-comma : (l : WrittenLine) → TellsApart (with_comma l)
 tells-comma (line.Label name) = tt
 tells-comma line.Record = tt
 tells-comma (line.Entries p) = tells-behind-entry p
+tells-comma (line.Access a) = tells-behind-access a
+tells-comma (line.Indices g) = tells-behind-index g
 tells-comma (line.Phi p) = (tells-attachment, λ a. tt)
-tells-comma (line.Inst inst) = (tells-attachment, λ a. tt)
+tells-comma (line.Inst i) = (tells-attachment, λ a. tt)
 
 tells-whole : (s : WrittenLines) (a : LineStart) → TellsApart (whole_line s a)
 unfolding whole_line
-tells-whole s a = (tells-started _ a, (λ l. apart-never _), (λ l. apart-never _), λ l comma. tells-comma l)
+tells-whole s a = (tells-started _ _ a, (λ l. apart-never _), (λ l. apart-never _), λ l comma. tells-comma l)
 
 -- a comma begins nothing that isn't spelled as one
 apart-comma : {A : Type 0} (stands : Lexeme → Option A) → ((t : Lexeme) → stands (record t { kind = kind.Mark; text = codes "," }) ≡ None) → AreApart is_comma stands
@@ -272,17 +359,21 @@ tells-lines : (is_new : Bool) (room : ℕ) → TellsApart (lines is_new room)
 unfolding lines next_line
 tells-lines is_new room = (tt, (λ s. apart-never _), (λ s. apart-behind _ (λ t. refl)), λ s a. tells-whole s a)
 
--- no word begins a line
+-- what begins a line is no terminator: of words store alone does
 no-terminator : (room : Bool) → AreApart starts_line (terminator_word room).stands
 no-terminator room t e = go t.kind refl e
   where
     go : (k : Kind) → t.kind ≡ k → starts_line (record t { kind = k; text = t.text }) ≡ true → terminator_of t.kind t.text ≡ None
-    go kind.Word is e' = absurd (cc e')
+    go kind.Word is e' = by (bytes_eq t.text (codes "store")) refl e'
+      where
+        by : (b : Bool) → bytes_eq t.text (codes "store") ≡ b → (b || false || false) ≡ true → terminator_of t.kind t.text ≡ None
+        by true same e'' = let text : t.text ≡ codes "store" = bytes-same t.text (codes "store") same in rw (is, text) refl
+        by false same e'' = absurd (cc e'')
     go k is e' = subst (λ (k' : Kind). terminator_of k' t.text ≡ None) (sym is) refl
 
-tells-returned : (width : Option Width) (at : Place) → TellsApart (returned_by width at)
+tells-returned : (type : Option IrType) (at : Place) → TellsApart (returned_by type at)
 tells-returned None at = tt
-tells-returned (Some width) at = (tt, λ a. tt)
+tells-returned (Some type) at = (tt, λ a. tt)
 
 tells-target : TellsApart target
 unfolding target

@@ -6,6 +6,8 @@ use Rattle.ir_lexer.specs.declared.token.Kind.{Kind}
 use Rattle.ir_lexer.specs.declared.token.Kind.TheVariants as kind
 use Rattle.ir_lexer.specs.Lexeme.{Lexeme}
 use Rattle.ir_tree.specs.declared.name.Name.TheVariants as name
+use Rattle.ir_tree.specs.declared.tree.IrType.{IrType}
+use Rattle.ir_tree.specs.declared.tree.IrType.TheVariants.{Ptr}
 use Rattle.ir_tree.specs.declared.tree.Op.TheVariants as op
 use Rattle.ir_tree.specs.declared.tree.Predicate.{Predicate}
 use Rattle.ir_tree.specs.declared.tree.Predicate.TheVariants as predicate
@@ -18,6 +20,7 @@ use Rattle.ir_grammar.specs.declared.word.TerminatorWord.TheVariants as finish
 use Rattle.ir_grammar.specs.declared.word.Flag.{Flag}
 use Rattle.ir_grammar.specs.declared.word.Flag.TheVariants as flag
 use Rattle.ir_grammar.specs.declared.written.WrittenName.{WrittenName}
+use Rattle.ir_grammar.specs.declared.written.WrittenIntType.{WrittenIntType}
 use Rattle.ir_grammar.specs.declared.written.WrittenType.{WrittenType}
 use Rattle.ir_grammar.specs.declared.written.WrittenReturnType.{WrittenReturnType}
 use Rattle.ir_grammar.specs.declared.written.WrittenOperand.{WrittenOperand}
@@ -26,7 +29,7 @@ use Rattle.ir_grammar.specs.declared.written.WrittenLiteral.{WrittenLiteral}
 use Rattle.ir_grammar.specs.Numbers.{width_of, is_negative, magnitude, wrapped}
 use Rattle.ir_grammar.specs.Reasons.{reason, type_reason}
 use Rattle.ir_grammar.specs.Words.{is_word_of, is_mark_of, line_word_of, terminator_of, predicate_of, flag_text}
-use Rattle.ir_grammar.specs.Spelling.{local_of, global_of, named_at, width_in, width_or_one, typed_at, is_width, bit_at, bit_reason, is_void, return_type_of, value_in, operand_at, literal_value, literal_at, fits_bits, is_attached, is_numbered, is_metadata_of, is_comdat_kind}
+use Rattle.ir_grammar.specs.Spelling.{local_of, global_of, named_at, width_in, width_or_one, int_typed_at, is_width, type_in, typed_at, is_type, memory_type_in, type_at, pointer_in, fits_object, number_of_kind, is_alignment, is_length, bit_at, width_reason, is_void, return_type_of, value_in, operand_at, literal_value, literal_at, fits_bits, fits_type, is_attached, is_numbered, is_metadata_of, is_comdat_kind}
 
 -- where a text begins
 abbrev pub start : Place
@@ -82,34 +85,57 @@ global = record { stands = λ t. named_at (global_of t.kind t.text) t.place; wit
 
 -- ---- types
 
--- an integer type of 1 to 64 bits, where there is room for one more of what it is counted as
-abbrev pub counted_type : Bool → Class WrittenType
-counted_type room = record { stands = λ t. typed_at (width_in t) t.place; within = λ t. room && is_width (width_in t); reason = type_reason; sample = token kind.Word (codes "i1"); value = record { width = width_or_one (width_of 1); at = start }; fits = refl }
+-- an integer type of 1 to 64 bits
+abbrev pub int_type : Class WrittenIntType
+int_type = record { stands = λ t. int_typed_at (width_in t) t.place; within = λ t. is_width (width_in t); reason = type_reason; sample = token kind.Word (codes "i1"); value = record { width = width_or_one (width_of 1); at = start }; fits = refl }
 
-abbrev pub int_type : Class WrittenType
-int_type = counted_type true
+-- an integer type or ptr, where there is room for one more of what it is counted as
+abbrev pub counted_type : Bool → Class WrittenType
+counted_type room = record { stands = λ t. typed_at (type_in t) t.place; within = λ t. room && is_type (type_in t); reason = type_reason; sample = token kind.Word (codes "ptr"); value = record { of_type = Ptr; at = start }; fits = refl }
+
+-- a type that a value may have
+abbrev pub value_type : Class WrittenType
+value_type = counted_type true
 
 pub bit_fits : bit_at (width_in (token kind.Word (codes "i1"))) start ≡ Some start
 unfolding width_of
 bit_fits = refl
 
+-- a type of what stands in memory
+abbrev pub memory_type : Class WrittenType
+memory_type = record { stands = λ t. type_at (memory_type_in t) t.place; within = any; reason = width_reason; sample = token kind.Word (codes "ptr"); value = record { of_type = Ptr; at = start }; fits = refl }
+
+-- the element of nested arrays of these lengths, the outermost first, of an alloca or of another instruction
+abbrev pub element_type : Bool → List ℕ → Class WrittenType
+element_type in_alloca lengths = record { stands = λ t. type_at (memory_type_in t) t.place; within = λ t. fits_object in_alloca lengths (memory_type_in t); reason = width_reason; sample = token kind.Word (codes "ptr"); value = record { of_type = Ptr; at = start }; fits = refl }
+
+abbrev pub pointer_type : Class WrittenType
+pointer_type = record { stands = λ t. type_at (pointer_in t) t.place; within = any; reason = width_reason; sample = token kind.Word (codes "ptr"); value = record { of_type = Ptr; at = start }; fits = refl }
+
 -- the type of one bit, and where it stands
 abbrev pub bit_type : Class Place
-bit_type = record { stands = λ t. bit_at (width_in t) t.place; within = any; reason = bit_reason; sample = token kind.Word (codes "i1"); value = start; fits = bit_fits }
+bit_type = record { stands = λ t. bit_at (width_in t) t.place; within = any; reason = width_reason; sample = token kind.Word (codes "i1"); value = start; fits = bit_fits }
 
--- void or an integer type
+-- void or a type
 abbrev pub return_type : Class WrittenReturnType
-return_type = record { stands = return_type_of; within = λ t. is_void t || is_width (width_in t); reason = type_reason; sample = token kind.Word (codes "void"); value = record { width = None; at = start }; fits = refl }
+return_type = record { stands = return_type_of; within = λ t. is_void t || is_type (type_in t); reason = type_reason; sample = token kind.Word (codes "void"); value = record { of_type = None; at = start }; fits = refl }
 
 -- ---- operands
 
 -- an operand of a type, maybe undef
-abbrev pub operand_class : Bool → Width → Class WrittenOperand
-operand_class undef_too w = record { stands = λ t. operand_at (value_in undef_too w.bits t.kind t.text) t.place; within = λ t. fits_bits w.bits t.kind t.text; reason = reason; sample = token kind.Local (codes "%a"); value = record { value = value.Local (name.Word (codes "a")); at = start }; fits = refl }
+abbrev pub operand_class : Bool → IrType → Class WrittenOperand
+operand_class undef_too type = record { stands = λ t. operand_at (value_in undef_too type t.kind t.text) t.place; within = λ t. fits_type type t.kind t.text; reason = reason; sample = token kind.Local (codes "%a"); value = record { value = value.Local (name.Word (codes "a")); at = start }; fits = refl }
 
 -- a literal of a type
 abbrev pub literal_class : Width → Class WrittenLiteral
 literal_class w = record { stands = λ t. literal_at (literal_value w.bits t.kind t.text) t.place; within = λ t. fits_bits w.bits t.kind t.text; reason = reason; sample = token kind.Number (codes "0"); value = record { value = wrapped w.bits (is_negative (codes "0")) (magnitude (codes "0")); at = start }; fits = refl }
+
+-- how many elements an array has
+abbrev pub array_length : Class ℕ
+array_length = record { stands = λ t. number_of_kind t.kind t.text; within = λ t. is_length t.text; reason = reason; sample = token kind.Number (codes "1"); value = magnitude (codes "1"); fits = refl }
+
+abbrev pub alignment : Class ℕ
+alignment = record { stands = λ t. number_of_kind t.kind t.text; within = λ t. is_alignment t.text; reason = reason; sample = token kind.Number (codes "1"); value = magnitude (codes "1"); fits = refl }
 
 -- ---- words
 
@@ -144,6 +170,10 @@ flag_word f = word (flag_text f) (flag_fits f)
 -- !dbg, !prof or !llvm.loop
 abbrev pub attachment_word : Class (Unit {0})
 attachment_word = record { stands = λ t. passed (is_metadata_of is_attached t.kind t.text); within = any; reason = reason; sample = token kind.Metadata (codes "!dbg"); value = tt; fits = refl }
+
+-- the same where a type could stand
+abbrev pub attachment_or_type : Class (Unit {0})
+attachment_or_type = record { stands = λ t. passed (is_metadata_of is_attached t.kind t.text); within = any; reason = type_reason; sample = token kind.Metadata (codes "!dbg"); value = tt; fits = refl }
 
 -- ! and a number
 abbrev pub metadata_number : Class (Unit {0})

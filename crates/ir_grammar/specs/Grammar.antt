@@ -1,11 +1,12 @@
 -- Which tokens spell a function with a body (LLVM Language Reference, "Functions").
 use Rattle.std.specs.Prelude.{refl, ℕ, List, [], ◌∷◌, ◌++◌, length, ◌+◌, ◌-◌, ◌==◌, if◌then◌else◌, Option, Some, None, Bool, true, false, ◌&&◌, ◌||◌, not, codes, nat_lt, is_some}
-use Rattle.tv_num.specs.declared.Width.{Width}
 use Rattle.text_places.specs.declared.place.Place.{Place}
 use Rattle.ir_lexer.specs.declared.token.Kind.{Kind}
 use Rattle.ir_lexer.specs.declared.token.Kind.TheVariants as kind
 use Rattle.ir_lexer.specs.Lexeme.{Lexeme}
 use Rattle.ir_tree.specs.Types.{one_bit}
+use Rattle.ir_tree.specs.declared.tree.IrType.{IrType}
+use Rattle.ir_tree.specs.declared.tree.IrType.TheVariants.{Int}
 use Rattle.token_forms.specs.declared.bracket.Bracket.TheVariants.{Round}
 use Rattle.token_forms.specs.Form.{Form, never, either, give, one, upto, peek, tail, balanced, mapped, ◌>>=◌}
 use Rattle.ir_grammar.specs.declared.word.LineStart.{LineStart}
@@ -16,11 +17,14 @@ use Rattle.ir_grammar.specs.declared.word.ParameterPart.{ParameterPart}
 use Rattle.ir_grammar.specs.declared.word.ParameterPart.TheVariants as part
 use Rattle.ir_grammar.specs.declared.word.HeaderPart.{HeaderPart}
 use Rattle.ir_grammar.specs.declared.word.HeaderPart.TheVariants as header
+use Rattle.ir_grammar.specs.declared.written.WrittenIntType.{WrittenIntType}
 use Rattle.ir_grammar.specs.declared.written.WrittenType.{WrittenType}
 use Rattle.ir_grammar.specs.declared.written.WrittenParameter.{WrittenParameter}
 use Rattle.ir_grammar.specs.declared.written.WrittenParameters.{WrittenParameters}
 use Rattle.ir_grammar.specs.declared.written.WrittenLines.{WrittenLines}
 use Rattle.ir_grammar.specs.declared.written.WrittenPhi.{WrittenPhi}
+use Rattle.ir_grammar.specs.declared.written.WrittenInst.{WrittenInst}
+use Rattle.ir_grammar.specs.declared.written.WrittenInst.TheVariants as inst
 use Rattle.ir_grammar.specs.declared.written.WrittenLine.{WrittenLine}
 use Rattle.ir_grammar.specs.declared.written.WrittenLine.TheVariants as line
 use Rattle.ir_grammar.specs.declared.written.WrittenCase.{WrittenCase}
@@ -32,10 +36,10 @@ use Rattle.ir_grammar.specs.declared.written.WrittenName.{WrittenName}
 use Rattle.ir_grammar.specs.declared.written.WrittenReturn.{WrittenReturn}
 use Rattle.ir_grammar.specs.declared.written.WrittenReturn.TheVariants.{Void, Value}
 use Rattle.ir_grammar.specs.declared.written.WrittenFunction.{WrittenFunction}
-use Rattle.ir_grammar.specs.Words.{is_mark_of, prefix_of}
-use Rattle.ir_grammar.specs.Spelling.{parameter_part, header_part, line_start, label_of, named_at, width_in, typed_at, is_width}
-use Rattle.ir_grammar.specs.Classes.{any, word, mark, mark_or_type, brace, as_mark, local, global, counted_type, int_type, bit_type, return_type, operand_class, literal_class, terminator_word, attachment_word, metadata_number, comdat_name}
-use Rattle.ir_grammar.specs.Instructions.{line_named, entry_or_attachment}
+use Rattle.ir_grammar.specs.Words.{is_word_of, is_mark_of, prefix_of}
+use Rattle.ir_grammar.specs.Spelling.{is_pointer_type, parameter_part, header_part, line_start, label_of, named_at, width_in, int_typed_at, is_width}
+use Rattle.ir_grammar.specs.Classes.{any, word, mark, mark_or_type, brace, as_mark, local, global, counted_type, value_type, int_type, bit_type, return_type, operand_class, literal_class, terminator_word, attachment_word, metadata_number, comdat_name}
+use Rattle.ir_grammar.specs.Instructions.{line_named, store, default_align, entry_or_attachment, align_or_attachment, index_or_attachment}
 
 abbrev pub is_comma : Lexeme → Bool
 is_comma t = is_mark_of t.kind t.text (codes ",")
@@ -58,19 +62,20 @@ abbrev pub most_parameters : ℕ
 most_parameters = 16
 
 abbrev pub new_parameter : WrittenType → WrittenParameter
-new_parameter type = record { of_type = type; no_undef = false; name = None }
+new_parameter type = record { of_type = type; no_undef = false; non_null = false; name = None }
 
 abbrev pub follows_parameter : Lexeme → Bool
-follows_parameter t = is_some (parameter_part false t.kind t.text t.place)
+follows_parameter t = is_some (parameter_part false true t.kind t.text t.place)
 
 abbrev pub parameter_begins : WrittenParameters → Lexeme → Option ParameterPart
-parameter_begins s t = parameter_part (is_some s.last.name) t.kind t.text t.place
+parameter_begins s t = parameter_part (is_some s.last.name) (is_pointer_type s.last.of_type.of_type) t.kind t.text t.place
 
 -- attributes, a name or none, and behind a comma the next type; a parameter is counted at its type
 abbrev pub with_part : WrittenParameters → ParameterPart → Form never WrittenParameters
-with_part s part.NoUndef = give (record { before = s.before; last = record { of_type = s.last.of_type; no_undef = true; name = s.last.name } })
+with_part s part.NoUndef = give (record { before = s.before; last = record { of_type = s.last.of_type; no_undef = true; non_null = s.last.non_null; name = s.last.name } })
+with_part s part.NonNull = give (record { before = s.before; last = record { of_type = s.last.of_type; no_undef = s.last.no_undef; non_null = true; name = s.last.name } })
 with_part s part.Extension = give s
-with_part s (part.Name name) = give (record { before = s.before; last = record { of_type = s.last.of_type; no_undef = s.last.no_undef; name = Some name } })
+with_part s (part.Name name) = give (record { before = s.before; last = record { of_type = s.last.of_type; no_undef = s.last.no_undef; non_null = s.last.non_null; name = Some name } })
 with_part s part.Next = one (counted_type (nat_lt (length s.before + 1) most_parameters)) >>= λ type. give (record { before = s.before ++ s.last ∷ []; last = new_parameter type })
 
 -- the parameters behind the type of the first
@@ -84,7 +89,7 @@ first_parameter type = do
 
 -- the parameters, by commas, and the closing parenthesis
 unfoldable pub parameters : Form never (List WrittenParameter)
-parameters = peek (mark (codes ")") refl) (λ closed. give []) int_type first_parameter
+parameters = peek (mark (codes ")") refl) (λ closed. give []) value_type first_parameter
 
 -- ---- behind the parameters
 
@@ -148,43 +153,59 @@ abbrev pub is_hash_kind : Kind → Bool
 is_hash_kind kind.Hash = true
 is_hash_kind _ = false
 
+abbrev pub is_store : Lexeme → Bool
+is_store t = is_word_of t.kind t.text (codes "store")
+
+-- the first token of an instruction: the name of its result, or store, which has none
+abbrev pub starts_inst : Lexeme → Bool
+starts_inst t = is_local_kind t.kind || is_store t
+
 abbrev pub starts_line : Lexeme → Bool
-starts_line t = is_local_kind t.kind || is_label_kind t.kind || is_hash_kind t.kind
+starts_line t = starts_inst t || is_label_kind t.kind || is_hash_kind t.kind
 
 abbrev pub line_begins : WrittenLines → Lexeme → Option LineStart
 line_begins s t = line_start s.is_new t.kind t.text t.place
 
 -- an instruction is counted at its first token
 abbrev pub line_within : WrittenLines → Lexeme → Bool
-line_within s t = not (is_local_kind t.kind) || nat_lt 0 s.room
+line_within s t = not (starts_inst t) || nat_lt 0 s.room
 
 -- a phi may stand only before all other instructions of its block
 abbrev pub may_have_phi : WrittenLines → Bool
 may_have_phi s = length s.insts == 0
 
+-- the number of the next instruction among those of the function, from 0
+abbrev pub next_number : WrittenLines → ℕ
+next_number s = most_insts - s.room
+
 -- what stands before the first comma of a line
-abbrev pub started : Bool → LineStart → Form never WrittenLine
-started phi_too (start.Label name) = give (line.Label name)
-started phi_too (start.Inst name) = line_named phi_too name
-started phi_too start.Record = record_rest >>= λ passed. give line.Record
+abbrev pub started : Bool → ℕ → LineStart → Form never WrittenLine
+started phi_too number (start.Label name) = give (line.Label name)
+started phi_too number (start.Inst name) = line_named phi_too number name
+started phi_too number start.Store = store
+started phi_too number start.Record = record_rest >>= λ passed. give line.Record
 
 abbrev pub takes_comma : WrittenLine → Bool
 takes_comma (line.Label name) = false
 takes_comma line.Record = false
 takes_comma (line.Entries phi) = true
+takes_comma (line.Access a) = true
+takes_comma (line.Indices g) = true
 takes_comma (line.Phi phi) = true
-takes_comma (line.Inst inst) = true
+takes_comma (line.Inst i) = true
 
 abbrev pub line_comma : WrittenLine → Lexeme → Option (Unit {0})
 line_comma l t = (if takes_comma l then as_mark (codes ",") t else None)
 
--- behind a comma an attachment, or another entry of a phi
+-- behind a comma an attachment; or an entry of a phi, an alignment, or an index, while one may follow
 abbrev pub with_comma : WrittenLine → Form never WrittenLine
 with_comma (line.Label name) = give (line.Label name)
 with_comma line.Record = give line.Record
 with_comma (line.Entries phi) = entry_or_attachment phi
+with_comma (line.Access a) = align_or_attachment a
+with_comma (line.Indices g) = index_or_attachment g
 with_comma (line.Phi phi) = attachment >>= λ passed. give (line.Phi phi)
-with_comma (line.Inst inst) = attachment >>= λ passed. give (line.Inst inst)
+with_comma (line.Inst i) = attachment >>= λ passed. give (line.Inst i)
 
 abbrev pub commas : Lexeme → Bool
 commas = either never (either is_comma never)
@@ -194,17 +215,22 @@ unfoldable pub behind_commas : WrittenLine → Form commas WrittenLine
 behind_commas l = tail is_comma line_comma (λ l'. any) (λ l' comma. with_comma l') (give l)
 
 unfoldable pub whole_line : WrittenLines → LineStart → Form commas WrittenLine
-whole_line s a = tail is_comma line_comma (λ l. any) (λ l comma. with_comma l) (started (may_have_phi s) a)
+whole_line s a = tail is_comma line_comma (λ l. any) (λ l comma. with_comma l) (started (may_have_phi s) (next_number s) a)
 
 abbrev pub with_phi : WrittenLines → WrittenPhi → WrittenLines
 with_phi s phi = record { label = s.label; phis = s.phis ++ phi ∷ []; insts = s.insts; is_new = false; room = s.room - 1 }
+
+abbrev pub with_inst : WrittenLines → WrittenInst → WrittenLines
+with_inst s i = record { label = s.label; phis = s.phis; insts = s.insts ++ i ∷ []; is_new = false; room = s.room - 1 }
 
 abbrev pub with_line : WrittenLines → WrittenLine → WrittenLines
 with_line s (line.Label name) = record { label = Some name; phis = s.phis; insts = s.insts; is_new = false; room = s.room }
 with_line s line.Record = record { label = s.label; phis = s.phis; insts = s.insts; is_new = false; room = s.room }
 with_line s (line.Entries phi) = with_phi s phi
 with_line s (line.Phi phi) = with_phi s phi
-with_line s (line.Inst inst) = record { label = s.label; phis = s.phis; insts = s.insts ++ inst ∷ []; is_new = false; room = s.room - 1 }
+with_line s (line.Access a) = with_inst s (inst.Access a (default_align a))
+with_line s (line.Indices g) = with_inst s (inst.GetElementPtr g)
+with_line s (line.Inst i) = with_inst s i
 
 unfoldable pub next_line : WrittenLines → LineStart → Form (either commas never) WrittenLines
 next_line s a = mapped (with_line s) (whole_line s a)
@@ -220,13 +246,13 @@ lines is_new room = tail starts_line line_begins line_within next_line (give (op
 -- ---- the last instruction of a block
 
 -- behind a type: its value, or nothing behind void
-abbrev pub returned_by : Option Width → Place → Form never WrittenReturn
+abbrev pub returned_by : Option IrType → Place → Form never WrittenReturn
 returned_by None at = give (Void at)
-returned_by (Some width) at = one (operand_class true width) >>= λ value. give (Value (record { of_type = record { width = width; at = at }; operand = value }))
+returned_by (Some type) at = one (operand_class true type) >>= λ value. give (Value (record { of_type = record { of_type = type; at = at }; operand = value }))
 
 -- behind ret: void, or type value
 unfoldable pub returned : Form never WrittenReturn
-returned = one return_type >>= λ type. returned_by type.width type.at
+returned = one return_type >>= λ type. returned_by type.of_type type.at
 
 -- label %block
 unfoldable pub target : Form never WrittenName
@@ -237,7 +263,7 @@ target = do
 -- value, label %block, label %block, behind i1
 unfoldable pub cond_branch : Place → Form never WrittenTerminator
 cond_branch bit = do
-  condition ← one (operand_class false one_bit)
+  condition ← one (operand_class false (Int one_bit))
   comma ← one (mark (codes ",") refl)
   if_true ← target
   comma' ← one (mark (codes ",") refl)
@@ -260,15 +286,15 @@ most_cases = 256
 abbrev pub is_type : Lexeme → Bool
 is_type t = is_some (width_in t)
 
-abbrev pub case_begins : List WrittenCase → Lexeme → Option WrittenType
-case_begins s t = typed_at (width_in t) t.place
+abbrev pub case_begins : List WrittenCase → Lexeme → Option WrittenIntType
+case_begins s t = int_typed_at (width_in t) t.place
 
 -- a case is counted at its type
 abbrev pub case_within : List WrittenCase → Lexeme → Bool
 case_within s t = nat_lt (length s) most_cases && is_width (width_in t)
 
 -- literal, label %block, behind the type
-unfoldable pub with_case : List WrittenCase → WrittenType → Form never (List WrittenCase)
+unfoldable pub with_case : List WrittenCase → WrittenIntType → Form never (List WrittenCase)
 with_case s type = do
   literal ← one (literal_class type.width)
   comma ← one (mark (codes ",") refl)
@@ -282,7 +308,7 @@ cases = tail is_type case_begins case_within with_case (give [])
 unfoldable pub switch : Form never WrittenTerminator
 switch = do
   type ← one int_type
-  value ← one (operand_class false type.width)
+  value ← one (operand_class false (Int type.width))
   comma ← one (mark (codes ",") refl)
   default ← target
   opening ← one (mark (codes "[") refl)

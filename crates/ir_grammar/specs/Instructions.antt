@@ -1,14 +1,16 @@
 -- Which tokens spell an instruction (LLVM Language Reference, "Instruction Reference").
-use Rattle.std.specs.Prelude.{refl, ℕ, [], ◌∷◌, ◌++◌, length, Option, Bool, true, false, ◌||◌, nat_lt, codes}
+use Rattle.std.specs.Prelude.{refl, ℕ, zero, suc, [], ◌∷◌, ◌++◌, length, Option, Bool, true, false, ◌||◌, nat_lt, codes}
 use Rattle.ir_lexer.specs.Lexeme.{Lexeme}
 use Rattle.ir_tree.specs.Types.{one_bit}
 use Rattle.ir_tree.specs.declared.tree.Flags.{Flags}
+use Rattle.ir_tree.specs.Types.{type_size}
+use Rattle.ir_tree.specs.declared.tree.IrType.TheVariants.{Int}
 use Rattle.ir_tree.specs.declared.tree.Op.{Op}
 use Rattle.ir_tree.specs.declared.tree.Op.TheVariants as op
 use Rattle.ir_tree.specs.declared.tree.Predicate.{Predicate}
 use Rattle.ir_tree.specs.declared.tree.Cast.{Cast}
 use Rattle.ir_tree.specs.declared.tree.Cast.TheVariants as cast
-use Rattle.token_forms.specs.Form.{Form, never, either, give, one, upto, peek, tail, ◌>>=◌}
+use Rattle.token_forms.specs.Form.{Form, never, either, give, one, upto, peek, tail, mapped, ◌>>=◌}
 use Rattle.ir_grammar.specs.declared.word.WrapWord.{WrapWord}
 use Rattle.ir_grammar.specs.declared.word.ExactWord.{ExactWord}
 use Rattle.ir_grammar.specs.declared.word.Opcode.{Opcode}
@@ -18,17 +20,25 @@ use Rattle.ir_grammar.specs.declared.word.LineWord.TheVariants as word_of
 use Rattle.ir_grammar.specs.declared.word.Flag.{Flag}
 use Rattle.ir_grammar.specs.declared.word.Flag.TheVariants as flag
 use Rattle.ir_grammar.specs.declared.written.WrittenName.{WrittenName}
+use Rattle.ir_grammar.specs.declared.written.WrittenIntType.{WrittenIntType}
 use Rattle.ir_grammar.specs.declared.written.WrittenType.{WrittenType}
 use Rattle.ir_grammar.specs.declared.written.WrittenTyped.{WrittenTyped}
 use Rattle.ir_grammar.specs.declared.written.WrittenInst.{WrittenInst}
 use Rattle.ir_grammar.specs.declared.written.WrittenInst.TheVariants as inst
+use Rattle.ir_grammar.specs.declared.written.GepFlags.{GepFlags}
+use Rattle.ir_grammar.specs.declared.written.WrittenArrays.{WrittenArrays}
+use Rattle.ir_grammar.specs.declared.written.WrittenObject.{WrittenObject}
+use Rattle.ir_grammar.specs.declared.written.WrittenAccess.{WrittenAccess}
+use Rattle.ir_grammar.specs.declared.written.WrittenAccess.TheVariants as access
+use Rattle.ir_grammar.specs.declared.written.WrittenIndex.{WrittenIndex}
+use Rattle.ir_grammar.specs.declared.written.WrittenGep.{WrittenGep}
 use Rattle.ir_grammar.specs.declared.written.WrittenEntry.{WrittenEntry}
 use Rattle.ir_grammar.specs.declared.written.WrittenPhi.{WrittenPhi}
 use Rattle.ir_grammar.specs.declared.written.WrittenLine.{WrittenLine}
 use Rattle.ir_grammar.specs.declared.written.WrittenLine.TheVariants as line
-use Rattle.ir_grammar.specs.Words.{is_word_of, no_flags, wrapping_op, exact_op}
-use Rattle.ir_grammar.specs.Spelling.{wrap_of}
-use Rattle.ir_grammar.specs.Classes.{any, word, mark, counted_mark, local, int_type, bit_type, operand_class, line_word, predicate_class, flag_word, attachment_word, metadata_number}
+use Rattle.ir_grammar.specs.Words.{is_word_of, is_mark_of, no_flags, wrapping_op, exact_op}
+use Rattle.ir_grammar.specs.Spelling.{wrap_of, gep_flag_of}
+use Rattle.ir_grammar.specs.Classes.{any, word, mark, counted_mark, as_mark, local, int_type, value_type, memory_type, element_type, pointer_type, array_length, alignment, bit_type, operand_class, line_word, predicate_class, flag_word, attachment_word, attachment_or_type, metadata_number}
 
 -- ---- flags
 
@@ -43,7 +53,7 @@ unfoldable pub wraps : Bool → Form (either never (either is_wrap never)) Flags
 wraps ordered = tail is_wrap (next_wrap ordered) (λ flags. any) (λ flags more. give more) (give no_flags)
 
 -- a flag or none, and a type
-unfoldable pub flagged_type : Flag → Form never (Bool × WrittenType)
+unfoldable pub flagged_type : Flag → Form never (Bool × WrittenIntType)
 flagged_type f = peek (flag_word f) (λ stands. one int_type >>= λ type. give (true, type)) int_type (λ type. give (false, type))
 
 -- samesign or not, and a comparison
@@ -55,18 +65,18 @@ comparison = peek (flag_word flag.SameSign) (λ stands. one predicate_class >>= 
 -- type value, which may be undef in some places
 unfoldable pub typed : Bool → Form never WrittenTyped
 typed undef_too = do
-  type ← one int_type
-  value ← one (operand_class undef_too type.width)
+  type ← one value_type
+  value ← one (operand_class undef_too type.of_type)
   give (record { of_type = type; operand = value })
 
 -- ---- instructions, behind their word
 
 -- left, right, behind the type
-unfoldable pub binary : WrittenName → Op → WrittenType → Form never WrittenInst
+unfoldable pub binary : WrittenName → Op → WrittenIntType → Form never WrittenInst
 binary name o type = do
-  left ← one (operand_class false type.width)
+  left ← one (operand_class false (Int type.width))
   comma ← one (mark (codes ",") refl)
-  right ← one (operand_class false type.width)
+  right ← one (operand_class false (Int type.width))
   give (inst.Binary name o type left right)
 
 -- [nuw] [nsw] type left, right
@@ -98,15 +108,15 @@ unfoldable pub icmp : WrittenName → Form never WrittenInst
 icmp name = do
   compares ← comparison
   type ← one int_type
-  left ← one (operand_class false type.width)
+  left ← one (operand_class false (Int type.width))
   comma ← one (mark (codes ",") refl)
-  right ← one (operand_class false type.width)
+  right ← one (operand_class false (Int type.width))
   give (inst.Icmp name compares.1 compares.0 type left right)
 
 -- value to type, behind the first type
-unfoldable pub cast_by : WrittenName → Cast → WrittenType → Form never WrittenInst
+unfoldable pub cast_by : WrittenName → Cast → WrittenIntType → Form never WrittenInst
 cast_by name c from = do
-  value ← one (operand_class false from.width)
+  value ← one (operand_class false (Int from.width))
   word_to ← one (word (codes "to") refl)
   to ← one int_type
   give (inst.Cast name c from value to)
@@ -133,7 +143,7 @@ sign_extend name = do
 unfoldable pub select : WrittenName → Form never WrittenInst
 select name = do
   bit ← one bit_type
-  condition ← one (operand_class false one_bit)
+  condition ← one (operand_class false (Int one_bit))
   comma ← one (mark (codes ",") refl)
   if_true ← typed false
   comma' ← one (mark (codes ",") refl)
@@ -167,7 +177,7 @@ most_entries = 16777216
 -- value, %block ], behind the opening mark
 unfoldable pub entry : WrittenType → Form never WrittenEntry
 entry type = do
-  value ← one (operand_class false type.width)
+  value ← one (operand_class false type.of_type)
   comma ← one (mark (codes ",") refl)
   from ← one local
   closing ← one (mark (codes "]") refl)
@@ -176,7 +186,7 @@ entry type = do
 -- type [ value, %block ], the first entry
 unfoldable pub phi : WrittenName → Form never WrittenLine
 phi name = do
-  type ← one int_type
+  type ← one value_type
   opening ← one (mark (codes "[") refl)
   first ← entry type
   give (line.Entries (record { into = name; of_type = type; entries = first ∷ [] }))
@@ -190,15 +200,152 @@ next_entry phi = do
   more ← entry phi.of_type
   give (line.Entries (with_entry phi more))
 
--- !number, which ends the entries of a phi
-unfoldable pub phi_number : WrittenPhi → Form never WrittenLine
-phi_number phi = do
+-- !number behind the word of a line's first attachment
+unfoldable pub attached : WrittenLine → Form never WrittenLine
+attached l = do
   number ← one metadata_number
-  give (line.Phi phi)
+  give l
 
 -- behind a comma: another entry, or an attachment
 unfoldable pub entry_or_attachment : WrittenPhi → Form never WrittenLine
-entry_or_attachment phi = peek (counted_mark (codes "[") (nat_lt (length phi.entries) most_entries) refl) (λ opening. next_entry phi) attachment_word (λ kind_word. phi_number phi)
+entry_or_attachment phi = peek (counted_mark (codes "[") (nat_lt (length phi.entries) most_entries) refl) (λ opening. next_entry phi) attachment_word (λ kind_word. attached (line.Phi phi))
+
+-- ---- types of objects in memory
+
+-- how many arrays may stand within one another
+abbrev pub most_arrays : ℕ
+most_arrays = 8
+
+abbrev pub is_square : Lexeme → Bool
+is_square t = is_mark_of t.kind t.text (codes "[")
+
+abbrev pub array_begins : WrittenArrays → Lexeme → Option (Unit {0})
+array_begins s t = as_mark (codes "[") t
+
+-- an array is counted at its opening mark
+abbrev pub array_within : WrittenArrays → Lexeme → Bool
+array_within s t = nat_lt (length s.lengths) most_arrays
+
+-- length x, behind the opening mark
+unfoldable pub with_length : WrittenArrays → Form never WrittenArrays
+with_length s = do
+  n ← one array_length
+  times ← one (word (codes "x") refl)
+  give (record { flags = s.flags; lengths = s.lengths ++ n ∷ [] })
+
+-- what was read of arrays, and others within them
+unfoldable pub arrays : WrittenArrays → Form (either never (either is_square never)) WrittenArrays
+arrays s = tail is_square array_begins array_within (λ s' opening. with_length s') (give s)
+
+abbrev pub no_gep_flags : GepFlags
+no_gep_flags = record { inbounds = false; nuw = false }
+
+abbrev pub behind_flags : GepFlags → WrittenArrays
+behind_flags flags = record { flags = flags; lengths = [] }
+
+-- the closing marks of so many arrays
+abbrev pub closers : ℕ → Form never (Unit {0})
+closers zero = give tt
+closers (suc n) = one (mark (codes "]") refl) >>= λ closing. closers n
+
+abbrev pub object_of : WrittenArrays → WrittenType → WrittenObject
+object_of s element = record { of_type = record { lengths = s.lengths; element = element.of_type }; at = element.at }
+
+-- element, or [ length x .. ] around it
+unfoldable pub alloca_object : Form never WrittenObject
+alloca_object = do
+  found ← upto (arrays (behind_flags no_gep_flags)) (λ s. element_type true s.lengths) (λ s. refl)
+  closed ← closers (length found.0.lengths)
+  give (object_of found.0 found.1)
+
+abbrev pub is_gep_flag : Lexeme → Bool
+is_gep_flag t = is_word_of t.kind t.text (codes "inbounds") || is_word_of t.kind t.text (codes "nuw")
+
+abbrev pub next_gep_flag : GepFlags → Lexeme → Option GepFlags
+next_gep_flag flags t = gep_flag_of flags t.kind t.text
+
+-- inbounds, and nuw behind it, or neither
+unfoldable pub gep_flags : Form (either never (either is_gep_flag never)) GepFlags
+gep_flags = tail is_gep_flag next_gep_flag (λ flags. any) (λ flags more. give more) (give no_gep_flags)
+
+unfoldable pub gep_arrays : Form (either (either (either never (either is_gep_flag never)) never) (either is_square never)) WrittenArrays
+gep_arrays = tail is_square array_begins array_within (λ s opening. with_length s) (mapped behind_flags gep_flags)
+
+-- flags, and element or [ length x .. ] around it
+unfoldable pub gep_object : Form never (GepFlags × WrittenObject)
+gep_object = do
+  found ← upto gep_arrays (λ s. element_type false s.lengths) (λ s. refl)
+  closed ← closers (length found.0.lengths)
+  give (found.0.flags, object_of found.0 found.1)
+
+-- ---- instructions on memory
+
+-- ptr value
+unfoldable pub pointer : Form never WrittenTyped
+pointer = do
+  type ← one pointer_type
+  value ← one (operand_class false type.of_type)
+  give (record { of_type = type; operand = value })
+
+-- type
+unfoldable pub alloca : WrittenName → ℕ → Form never WrittenLine
+alloca name number = do
+  object ← alloca_object
+  give (line.Access (access.Alloca name number object))
+
+-- type, ptr value
+unfoldable pub load : WrittenName → Form never WrittenLine
+load name = do
+  type ← one memory_type
+  comma ← one (mark (codes ",") refl)
+  from ← pointer
+  give (line.Access (access.Load name type from))
+
+-- type value, ptr value
+unfoldable pub store : Form never WrittenLine
+store = do
+  type ← one memory_type
+  value ← one (operand_class false type.of_type)
+  comma ← one (mark (codes ",") refl)
+  to ← pointer
+  give (line.Access (access.Store (record { of_type = type; operand = value }) to))
+
+-- [inbounds [nuw]] type, ptr value
+unfoldable pub gep : WrittenName → Form never WrittenLine
+gep name = do
+  object ← gep_object
+  comma ← one (mark (codes ",") refl)
+  base ← pointer
+  give (line.Indices (record { into = name; flags = object.0; of_type = object.1; base = base; indices = [] }))
+
+-- the alignment of an instruction where none is written: the size of its type, or of the type's innermost element
+abbrev pub default_align : WrittenAccess → ℕ
+default_align (access.Alloca into number type) = type_size type.of_type.element
+default_align (access.Load into type from) = type_size type.of_type
+default_align (access.Store value to) = type_size value.of_type.of_type
+
+-- number, behind the word align
+unfoldable pub aligned : WrittenAccess → Form never WrittenLine
+aligned a = do
+  n ← one alignment
+  give (line.Inst (inst.Access a n))
+
+-- behind a comma: an alignment, or an attachment
+unfoldable pub align_or_attachment : WrittenAccess → Form never WrittenLine
+align_or_attachment a = peek (word (codes "align") refl) (λ align_word. aligned a) attachment_word (λ kind_word. attached (line.Inst (inst.Access a (default_align a))))
+
+abbrev pub with_index : WrittenGep → WrittenIndex → WrittenGep
+with_index g index = record { into = g.into; flags = g.flags; of_type = g.of_type; base = g.base; indices = g.indices ++ index ∷ [] }
+
+-- value, behind the type of an index
+unfoldable pub next_index : WrittenGep → WrittenIntType → Form never WrittenLine
+next_index g type = do
+  value ← one (operand_class false (Int type.width))
+  give (line.Indices (with_index g (record { of_type = type; operand = value })))
+
+-- behind a comma: another index, or an attachment
+unfoldable pub index_or_attachment : WrittenGep → Form never WrittenLine
+index_or_attachment g = peek int_type (next_index g) attachment_or_type (λ kind_word. attached (line.Inst (inst.GetElementPtr g)))
 
 -- ---- any instruction with a result
 
@@ -207,13 +354,17 @@ inst_line name o = do
   i ← inst_by name o
   give (line.Inst i)
 
-abbrev pub line_by : WrittenName → LineWord → Form never WrittenLine
-line_by name word_of.Phi = phi name
-line_by name (word_of.Inst o) = inst_line name o
+-- an instruction with this number among those of the function
+abbrev pub line_by : ℕ → WrittenName → LineWord → Form never WrittenLine
+line_by number name word_of.Phi = phi name
+line_by number name word_of.Alloca = alloca name number
+line_by number name word_of.Load = load name
+line_by number name word_of.GetElementPtr = gep name
+line_by number name (word_of.Inst o) = inst_line name o
 
 -- behind the name: = and the instruction, which may be a phi where one may stand
-unfoldable pub line_named : Bool → WrittenName → Form never WrittenLine
-line_named phi_too name = do
+unfoldable pub line_named : Bool → ℕ → WrittenName → Form never WrittenLine
+line_named phi_too number name = do
   equals ← one (mark (codes "=") refl)
   w ← one (line_word phi_too)
-  line_by name w
+  line_by number name w

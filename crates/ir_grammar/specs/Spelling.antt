@@ -1,6 +1,7 @@
 -- What one token stands for.
-use Rattle.std.specs.Prelude.{ℕ, List, [], ◌∷◌, Option, Some, None, Bool, true, false, ◌&&◌, ◌||◌, not, ◌==◌, if◌then◌else◌, is_some, codes}
+use Rattle.std.specs.Prelude.{ℕ, List, [], ◌∷◌, Option, Some, None, Bool, true, false, ◌&&◌, ◌||◌, not, ◌==◌, if◌then◌else◌, is_some, codes, nat_eq, nat_le, nat_lt, ◌^◌}
 use Rattle.std.specs.Str.{bytes_eq}
+use Rattle.std.specs.List.{list_any}
 use Rattle.tv_num.specs.declared.Width.{Width}
 use Rattle.text_places.specs.declared.place.Place.{Place}
 use Rattle.ir_lexer.specs.Spelling.{is_digits}
@@ -9,13 +10,18 @@ use Rattle.ir_lexer.specs.declared.token.Kind.{Kind}
 use Rattle.ir_lexer.specs.declared.token.Kind.TheVariants as kind
 use Rattle.ir_tree.specs.declared.name.Name.{Name}
 use Rattle.ir_tree.specs.declared.tree.Flags.{Flags}
+use Rattle.ir_tree.specs.declared.tree.IrType.{IrType}
+use Rattle.ir_tree.specs.declared.tree.IrType.TheVariants.{Int, Ptr}
 use Rattle.ir_tree.specs.declared.module.Reason.{Reason}
 use Rattle.ir_tree.specs.declared.module.Reason.TheVariants.{Limit}
-use Rattle.ir_tree.specs.Types.{one_bit}
+use Rattle.ir_tree.specs.Types.{one_bit, nested_size}
+use Rattle.ir_tree.specs.Limits.{alignments}
 use Rattle.ir_items.specs.Names.{name_in}
 use Rattle.ir_grammar.specs.declared.written.WrittenName.{WrittenName}
+use Rattle.ir_grammar.specs.declared.written.WrittenIntType.{WrittenIntType}
 use Rattle.ir_grammar.specs.declared.written.WrittenType.{WrittenType}
 use Rattle.ir_grammar.specs.declared.written.WrittenReturnType.{WrittenReturnType}
+use Rattle.ir_grammar.specs.declared.written.GepFlags.{GepFlags}
 use Rattle.ir_grammar.specs.declared.written.WrittenValue.{WrittenValue}
 use Rattle.ir_grammar.specs.declared.written.WrittenValue.TheVariants as value
 use Rattle.ir_grammar.specs.declared.written.WrittenOperand.{WrittenOperand}
@@ -63,56 +69,109 @@ spelled_width (Some n) = Some (width_of n)
 abbrev pub width_in : Lexeme → Option (Option Width)
 width_in t = spelled_width (bits_of t.kind t.text)
 
--- the type of so many bits. Where there is none, which is past a limit, any type stands for it
+-- the width of so many bits. Where there is none, which is past a limit, any width stands for it
 abbrev pub width_or_one : Option Width → Width
 width_or_one None = one_bit
 width_or_one (Some w) = w
 
-abbrev pub typed_at : Option (Option Width) → Place → Option WrittenType
-typed_at None at = None
-typed_at (Some w) at = Some (record { width = width_or_one w; at = at })
+abbrev pub int_typed_at : Option (Option Width) → Place → Option WrittenIntType
+int_typed_at None at = None
+int_typed_at (Some w) at = Some (record { width = width_or_one w; at = at })
 
 abbrev pub is_width : Option (Option Width) → Bool
 is_width None = false
 is_width (Some w) = is_some w
+
+-- ptr
+abbrev pub is_pointer : Lexeme → Bool
+is_pointer t = is_word_of t.kind t.text (codes "ptr")
+
+abbrev pub int_type_of : Option Width → Option IrType
+int_type_of None = None
+int_type_of (Some w) = Some (Int w)
+
+abbrev pub int_type_in : Option (Option Width) → Option (Option IrType)
+int_type_in None = None
+int_type_in (Some w) = Some (int_type_of w)
+
+-- the type of a value that a token spells, which is none where there is no such width
+abbrev pub type_in : Lexeme → Option (Option IrType)
+type_in t = (if is_pointer t then Some (Some Ptr) else int_type_in (width_in t))
+
+abbrev pub type_or_bit : Option IrType → IrType
+type_or_bit None = Int one_bit
+type_or_bit (Some type) = type
+
+abbrev pub typed_at : Option (Option IrType) → Place → Option WrittenType
+typed_at None at = None
+typed_at (Some type) at = Some (record { of_type = type_or_bit type; at = at })
+
+abbrev pub is_type : Option (Option IrType) → Bool
+is_type None = false
+is_type (Some type) = is_some type
+
+-- the types of what stands in memory: i8, i16, i32, i64 and ptr
+abbrev pub is_memory_type : IrType → Bool
+is_memory_type (Int w) = w.bits == 8 || w.bits == 16 || w.bits == 32 || w.bits == 64
+is_memory_type Ptr = true
+
+abbrev pub memory_type_of : Option (Option IrType) → Option IrType
+memory_type_of (Some (Some type)) = (if is_memory_type type then Some type else None)
+memory_type_of _ = None
+
+abbrev pub memory_type_in : Lexeme → Option IrType
+memory_type_in t = memory_type_of (type_in t)
+
+abbrev pub type_at : Option IrType → Place → Option WrittenType
+type_at None at = None
+type_at (Some type) at = Some (record { of_type = type; at = at })
+
+abbrev pub pointer_in : Lexeme → Option IrType
+pointer_in t = (if is_pointer t then Some Ptr else None)
+
+-- each of the nested arrays, the outermost first, has at most 1,048,576 bytes
+abbrev pub are_small_arrays : List ℕ → IrType → Bool
+are_small_arrays [] element = true
+are_small_arrays (n ∷ lengths) element = nat_le (nested_size (n ∷ lengths) element) 1048576 && are_small_arrays lengths element
+
+-- what an alloca makes has at most 64 bytes; elsewhere each array has its own limit
+abbrev pub is_small_object : Bool → List ℕ → IrType → Bool
+is_small_object true lengths element = nat_le (nested_size lengths element) 64
+is_small_object false lengths element = are_small_arrays lengths element
+
+abbrev pub fits_object : Bool → List ℕ → Option IrType → Bool
+fits_object in_alloca lengths None = true
+fits_object in_alloca lengths (Some element) = is_small_object in_alloca lengths element
 
 -- the place of the type of one bit
 abbrev pub bit_at : Option (Option Width) → Place → Option Place
 bit_at (Some (Some w)) at = (if w.bits == 1 then Some at else None)
 bit_at _ at = None
 
--- where a type of one bit must stand, a type of no width is past the limit of widths
-abbrev pub bit_reason_of : Option (Option Width) → Lexeme → Reason
-bit_reason_of (Some None) t = Limit
-bit_reason_of _ t = type_reason t
+-- where some types alone may stand, a type of no width is past the limit of widths
+abbrev pub width_reason_of : Option (Option Width) → Lexeme → Reason
+width_reason_of (Some None) t = Limit
+width_reason_of _ t = type_reason t
 
-abbrev pub bit_reason : Lexeme → Reason
-bit_reason t = bit_reason_of (width_in t) t
+abbrev pub width_reason : Lexeme → Reason
+width_reason t = width_reason_of (width_in t) t
 
 abbrev pub is_void : Lexeme → Bool
 is_void t = is_word_of t.kind t.text (codes "void")
 
 -- void, or a type
-abbrev pub returned_at : Option (Option Width) → Place → Option WrittenReturnType
+abbrev pub returned_at : Option (Option IrType) → Place → Option WrittenReturnType
 returned_at None at = None
-returned_at (Some w) at = Some (record { width = Some (width_or_one w); at = at })
+returned_at (Some type) at = Some (record { of_type = Some (type_or_bit type); at = at })
 
 abbrev pub return_type_of : Lexeme → Option WrittenReturnType
-return_type_of t = (if is_void t then Some (record { width = None; at = t.place }) else returned_at (width_in t) t.place)
+return_type_of t = (if is_void t then Some (record { of_type = None; at = t.place }) else returned_at (type_in t) t.place)
 
 -- ---- operands
 
 abbrev pub local_value : Option Name → Option WrittenValue
 local_value None = None
 local_value (Some name) = Some (value.Local name)
-
--- a truth value of one bit, or poison, and undef where it may stand
-abbrev pub word_value : Bool → ℕ → List ℕ → Option WrittenValue
-word_value undef_too bits text =
-    (if bytes_eq text (codes "poison") then Some value.Poison
-    else (if bits == 1 && bytes_eq text (codes "true") then Some (value.Literal 1)
-    else (if bits == 1 && bytes_eq text (codes "false") then Some (value.Literal 0)
-    else (if undef_too && bytes_eq text (codes "undef") then Some value.Undef else None))))
 
 -- a truth value of one bit
 abbrev pub truth_value : ℕ → List ℕ → Option ℕ
@@ -124,16 +183,35 @@ literal_value bits kind.Number text = Some (wrapped bits (is_negative text) (mag
 literal_value bits kind.Word text = truth_value bits text
 literal_value bits _ text = None
 
+abbrev pub literal_of : Option ℕ → Option WrittenValue
+literal_of None = None
+literal_of (Some n) = Some (value.Literal n)
+
+-- a truth value of one bit, or the null pointer
+abbrev pub word_of_type : IrType → List ℕ → Option WrittenValue
+word_of_type (Int width) text = literal_of (truth_value width.bits text)
+word_of_type Ptr text = (if bytes_eq text (codes "null") then Some value.Null else None)
+
+-- a word of the type, or poison, and undef where it may stand
+abbrev pub word_value : Bool → IrType → List ℕ → Option WrittenValue
+word_value undef_too type text =
+    (if bytes_eq text (codes "poison") then Some value.Poison else (if undef_too && bytes_eq text (codes "undef") then Some value.Undef else word_of_type type text))
+
+-- an integer, wrapped to its type's width; no number is a pointer
+abbrev pub number_value : IrType → List ℕ → Option WrittenValue
+number_value (Int width) text = Some (value.Literal (wrapped width.bits (is_negative text) (magnitude text)))
+number_value Ptr text = None
+
 abbrev pub literal_at : Option ℕ → Place → Option WrittenLiteral
 literal_at None at = None
 literal_at (Some n) at = Some (record { value = n; at = at })
 
--- a local name, a literal, wrapped to so many bits, or a word
-abbrev pub value_in : Bool → ℕ → Kind → List ℕ → Option WrittenValue
-value_in undef_too bits kind.Local text = local_value (name_in kind.Local text)
-value_in undef_too bits kind.Number text = Some (value.Literal (wrapped bits (is_negative text) (magnitude text)))
-value_in undef_too bits kind.Word text = word_value undef_too bits text
-value_in undef_too bits _ text = None
+-- a local name, a literal or a word
+abbrev pub value_in : Bool → IrType → Kind → List ℕ → Option WrittenValue
+value_in undef_too type kind.Local text = local_value (name_in kind.Local text)
+value_in undef_too type kind.Number text = number_value type text
+value_in undef_too type kind.Word text = word_value undef_too type text
+value_in undef_too type _ text = None
 
 abbrev pub operand_at : Option WrittenValue → Place → Option WrittenOperand
 operand_at None at = None
@@ -143,6 +221,35 @@ operand_at (Some v) at = Some (record { value = v; at = at })
 abbrev pub fits_bits : ℕ → Kind → List ℕ → Bool
 fits_bits bits kind.Number text = in_range bits (is_negative text) (magnitude text)
 fits_bits bits _ text = true
+
+abbrev pub fits_type : IrType → Kind → List ℕ → Bool
+fits_type (Int width) k text = fits_bits width.bits k text
+fits_type Ptr k text = true
+
+-- ---- alignments and lengths of arrays, of any size
+
+abbrev pub number_of_kind : Kind → List ℕ → Option ℕ
+number_of_kind kind.Number text = Some (magnitude text)
+number_of_kind _ text = None
+
+-- a power of two from 1 to 4,096
+abbrev pub is_alignment : List ℕ → Bool
+is_alignment text = not (is_negative text) && list_any (nat_eq (magnitude text)) alignments
+
+-- from 0 to two to the 64, that one left out
+abbrev pub is_length : List ℕ → Bool
+is_length text = (if is_negative text then magnitude text == 0 else nat_lt (magnitude text) (2 ^ 64))
+
+-- ---- flags inbounds and nuw, in this order, each once, and nuw behind inbounds alone
+
+abbrev pub gep_flag_named : GepFlags → List ℕ → Option GepFlags
+gep_flag_named flags text =
+    (if bytes_eq text (codes "inbounds") && not flags.inbounds then Some (record { inbounds = true; nuw = flags.nuw })
+    else (if bytes_eq text (codes "nuw") && (flags.inbounds && not flags.nuw) then Some (record { inbounds = flags.inbounds; nuw = true }) else None))
+
+abbrev pub gep_flag_of : GepFlags → Kind → List ℕ → Option GepFlags
+gep_flag_of flags kind.Word text = gep_flag_named flags text
+gep_flag_of flags _ text = None
 
 -- ---- flags nuw and nsw, each once; in order, where they have one
 
@@ -157,23 +264,29 @@ wrap_of ordered flags _ text = None
 
 -- ---- what goes on with a parameter
 
-abbrev pub attribute_named : List ℕ → Option ParameterPart
-attribute_named text =
+abbrev pub is_pointer_type : IrType → Bool
+is_pointer_type (Int width) = false
+is_pointer_type Ptr = true
+
+-- nonnull stands on a pointer alone
+abbrev pub attribute_named : Bool → List ℕ → Option ParameterPart
+attribute_named on_pointer text =
     (if bytes_eq text (codes "noundef") then Some part.NoUndef
-    else (if bytes_eq text (codes "zeroext") || bytes_eq text (codes "signext") then Some part.Extension else None))
+    else (if bytes_eq text (codes "zeroext") || bytes_eq text (codes "signext") then Some part.Extension
+    else (if on_pointer && bytes_eq text (codes "nonnull") then Some part.NonNull else None)))
 
 abbrev pub part_name : Option WrittenName → Option ParameterPart
 part_name None = None
 part_name (Some name) = Some (part.Name name)
 
 -- behind the name of a parameter a comma alone
-abbrev pub parameter_part : Bool → Kind → List ℕ → Place → Option ParameterPart
-parameter_part true kind.Mark text at = (if bytes_eq text (codes ",") then Some part.Next else None)
-parameter_part true _ text at = None
-parameter_part false kind.Mark text at = (if bytes_eq text (codes ",") then Some part.Next else None)
-parameter_part false kind.Word text at = attribute_named text
-parameter_part false kind.Local text at = part_name (named_at (name_in kind.Local text) at)
-parameter_part false _ text at = None
+abbrev pub parameter_part : (is_named on_pointer : Bool) → Kind → List ℕ → Place → Option ParameterPart
+parameter_part true on_pointer kind.Mark text at = (if bytes_eq text (codes ",") then Some part.Next else None)
+parameter_part true on_pointer _ text at = None
+parameter_part false on_pointer kind.Mark text at = (if bytes_eq text (codes ",") then Some part.Next else None)
+parameter_part false on_pointer kind.Word text at = attribute_named on_pointer text
+parameter_part false on_pointer kind.Local text at = part_name (named_at (name_in kind.Local text) at)
+parameter_part false on_pointer _ text at = None
 
 -- ---- what stands behind the parameters
 
@@ -232,9 +345,10 @@ is_record _ = false
 abbrev pub record_start : List ℕ → Option LineStart
 record_start text = (if is_record text then Some start.Record else None)
 
--- the name of an instruction's result, a label where nothing stands before, or a record
+-- the name of an instruction's result, a store, a label where nothing stands before, or a record
 abbrev pub line_start : Bool → Kind → List ℕ → Place → Option LineStart
 line_start is_new kind.Local text at = inst_line (named_at (name_in kind.Local text) at)
 line_start is_new kind.Label text at = (if is_new then label_line (named_at (name_in kind.Label text) at) else None)
 line_start is_new kind.Hash text at = record_start text
+line_start is_new kind.Word text at = (if bytes_eq text (codes "store") then Some start.Store else None)
 line_start is_new _ text at = None

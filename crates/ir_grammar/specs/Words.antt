@@ -78,9 +78,23 @@ abbrev pub inst_word : Option Opcode → Option LineWord
 inst_word None = None
 inst_word (Some opcode) = Some (line.Inst opcode)
 
+abbrev pub memory_word : List ℕ → Option LineWord
+memory_word text =
+    (if bytes_eq text (codes "alloca") then Some line.Alloca
+    else (if bytes_eq text (codes "load") then Some line.Load
+    else (if bytes_eq text (codes "getelementptr") then Some line.GetElementPtr else None)))
+
+abbrev pub memory_word_of : Kind → List ℕ → Option LineWord
+memory_word_of kind.Word text = memory_word text
+memory_word_of _ text = None
+
+abbrev pub or_word : Option LineWord → Option LineWord → Option LineWord
+or_word None other = other
+or_word (Some word) other = Some word
+
 -- the word of a phi, where one may stand, or of another instruction
 abbrev pub line_word_of : Bool → Kind → List ℕ → Option LineWord
-line_word_of phi_too k text = (if phi_too && is_word_of k text (codes "phi") then Some line.Phi else inst_word (opcode_of k text))
+line_word_of phi_too k text = (if phi_too && is_word_of k text (codes "phi") then Some line.Phi else or_word (memory_word_of k text) (inst_word (opcode_of k text)))
 
 -- ---- the last instruction of a block
 

@@ -18,7 +18,7 @@ use support::Sequence;
 use token_forms::ReadFault;
 
 /// The greatest number of instructions of a function, phis and terminators counted.
-const MOST_INSTS: usize = 65_536;
+pub const MOST_INSTS: usize = 65_536;
 
 // The lines of a block and its last instruction.
 fn body_of(lines: WrittenLines, terminator: WrittenTerminator) -> WrittenBody

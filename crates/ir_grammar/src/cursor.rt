@@ -3,18 +3,19 @@ ghost use Rattle.std.specs.Prelude.{◌≡◌, [], true, codes};
 ghost use Rattle.token_forms.specs.Form.{one_of, token_of, begin_of, reads, read, balanced};
 ghost use Rattle.token_forms.specs.Answer.{Reads, Passes};
 ghost use Rattle.ir_grammar.specs.Reasons.{reason, type_reason};
-ghost use Rattle.ir_grammar.specs.Spelling.{bits_behind, spelled_width, width_in, word_value, truth_value, is_void};
-ghost use Rattle.ir_grammar.specs.Classes.{as_word, as_mark, any, passed, brace, local, global, int_type, counted_type, bit_type, return_type, operand_class, literal_class, line_word, terminator_word, predicate_class};
+ghost use Rattle.ir_grammar.specs.Spelling.{bits_behind, spelled_width, width_in, type_in, is_pointer, word_of_type, word_value, truth_value, is_void};
+ghost use Rattle.ir_grammar.specs.Classes.{as_word, as_mark, any, passed, brace, local, global, int_type, counted_type, value_type, bit_type, return_type, operand_class, literal_class, line_word, terminator_word, predicate_class};
 
 use crate::numbers::{literal, some_digits, width};
 use crate::reasons::{reason_at, type_reason_at};
 use crate::word::{LineWord, TerminatorWord, line_word_of, predicate_of, terminator_of};
 use crate::written::{
-    WrittenLiteral, WrittenName, WrittenOperand, WrittenReturnType, WrittenType, WrittenValue,
+    WrittenIntType, WrittenLiteral, WrittenName, WrittenOperand, WrittenReturnType, WrittenType,
+    WrittenValue,
 };
 use ir_items::name_behind_sign;
 use ir_lexer::{Kind, Token};
-use ir_tree::{Predicate, Reason};
+use ir_tree::{IrType, Predicate, Reason};
 use std::alloc::Global;
 use std::marker::Model;
 use support::Sequence;
@@ -220,15 +221,8 @@ impl<'a, 'b> Cursor<'a, 'b> {
     }
 
     /// Reads an integer type.
-    pub fn int_type(&mut self) -> Result<WrittenType, ReadFault>
+    pub fn int_type(&mut self) -> Result<WrittenIntType, ReadFault>
         ensures { Reads (λ x. x) result self.new (one_of true int_type self.old) }
-    {
-        self.counted_type(true)
-    }
-
-    /// Reads an integer type, where there is room for one more of what it is counted as.
-    pub fn counted_type(&mut self, room: bool) -> Result<WrittenType, ReadFault>
-        ensures { Reads (λ x. x) result self.new (one_of true (counted_type room) self.old) }
     {
         let [first, rest @ ..] = self.rest else {
             return Err(ReadFault::Unfit(Reason::Syntax));
@@ -237,14 +231,39 @@ impl<'a, 'b> Cursor<'a, 'b> {
             None => Err(ReadFault::Unfit(type_reason_at(first))),
             Some(None) => Err(ReadFault::PastLimit),
             Some(Some(width)) => {
-                if !room {
-                    return Err(ReadFault::PastLimit);
-                }
                 self.rest = rest;
                 let at = first.place();
-                Ok(WrittenType { width, at })
+                Ok(WrittenIntType { width, at })
             }
         }
+    }
+
+    /// Reads a type of a value.
+    pub fn value_type(&mut self) -> Result<WrittenType, ReadFault>
+        ensures { Reads (λ x. x) result self.new (one_of true value_type self.old) }
+    {
+        self.counted_type(true)
+    }
+
+    /// Reads a type of a value, where there is room for one more of what it is counted as.
+    pub fn counted_type(&mut self, room: bool) -> Result<WrittenType, ReadFault>
+        ensures { Reads (λ x. x) result self.new (one_of true (counted_type room) self.old) }
+    {
+        let [first, rest @ ..] = self.rest else {
+            return Err(ReadFault::Unfit(Reason::Syntax));
+        };
+        let Some(found) = type_in(first) else {
+            return Err(ReadFault::Unfit(type_reason_at(first)));
+        };
+        let Some(of_type) = found else {
+            return Err(ReadFault::PastLimit);
+        };
+        if !room {
+            return Err(ReadFault::PastLimit);
+        }
+        self.rest = rest;
+        let at = first.place();
+        Ok(WrittenType { of_type, at })
     }
 
     /// Passes the type of one bit, and tells its place.
@@ -267,7 +286,7 @@ impl<'a, 'b> Cursor<'a, 'b> {
         }
     }
 
-    /// Reads `void` or an integer type.
+    /// Reads `void` or a type of a value.
     pub fn return_type(&mut self) -> Result<WrittenReturnType, ReadFault>
         ensures { Reads (λ x. x) result self.new (one_of true return_type self.old) }
     {
@@ -277,33 +296,35 @@ impl<'a, 'b> Cursor<'a, 'b> {
         let at = first.place();
         if is_void(first) {
             self.rest = rest;
-            return Ok(WrittenReturnType { width: None, at });
+            return Ok(WrittenReturnType { of_type: None, at });
         }
-        match width_in(first) {
-            None => Err(ReadFault::Unfit(type_reason_at(first))),
-            Some(None) => Err(ReadFault::PastLimit),
-            Some(Some(width)) => {
-                self.rest = rest;
-                let width = Some(width);
-                Ok(WrittenReturnType { width, at })
-            }
+        let Some(found) = type_in(first) else {
+            return Err(ReadFault::Unfit(type_reason_at(first)));
+        };
+        if found.is_none() {
+            return Err(ReadFault::PastLimit);
         }
+        self.rest = rest;
+        Ok(WrittenReturnType { of_type: found, at })
     }
 
     /// Reads an operand of a type, `undef` only where it may stand.
-    pub fn operand(&mut self, undef_too: bool, width: Width) -> Result<WrittenOperand, ReadFault>
-        ensures { Reads (λ x. x) result self.new (one_of true (operand_class undef_too width) self.old) }
+    pub fn operand(&mut self, undef_too: bool, of_type: IrType) -> Result<WrittenOperand, ReadFault>
+        ensures { Reads (λ x. x) result self.new (one_of true (operand_class undef_too of_type) self.old) }
     {
         let [first, rest @ ..] = self.rest else {
             return Err(ReadFault::Unfit(Reason::Syntax));
         };
         let value = match (first.kind(), first.text()) {
             (Kind::Local, text) => WrittenValue::Local(name_behind_sign(self.alloc, text)?),
-            (Kind::Number, text) => match literal(width, text) {
-                Some(value) => WrittenValue::Literal(value),
-                None => return Err(ReadFault::PastLimit),
+            (Kind::Number, text) => match of_type {
+                IrType::Int(width) => match literal(width, text) {
+                    Some(value) => WrittenValue::Literal(value),
+                    None => return Err(ReadFault::PastLimit),
+                },
+                IrType::Ptr => return Err(ReadFault::Unfit(reason_at(first))),
             },
-            (Kind::Word, text) => match word_value(undef_too, width, text) {
+            (Kind::Word, text) => match word_value(undef_too, of_type, text) {
                 Some(value) => value,
                 None => return Err(ReadFault::Unfit(reason_at(first))),
             },
@@ -396,20 +417,35 @@ fn truth_value(width: Width, text: &[u8]) -> Option<u64>
     }
 }
 
-// What a word stands for as an operand of a type: a truth value of one bit, poison, or undef.
-fn word_value(undef_too: bool, width: Width, text: &[u8]) -> Option<WrittenValue>
-    ensures { result ≡ word_value undef_too width.bits text.now }
+// What a word stands for in a type alone: a truth value of one bit, or the null pointer.
+fn word_of_type(of_type: IrType, text: &[u8]) -> Option<WrittenValue>
+    ensures { result ≡ word_of_type of_type text.now }
+{
+    match of_type {
+        IrType::Int(width) => match truth_value(width, text) {
+            Some(value) => Some(WrittenValue::Literal(value)),
+            None => None,
+        },
+        IrType::Ptr => {
+            if text == b"null".as_slice() {
+                Some(WrittenValue::Null)
+            } else {
+                None
+            }
+        }
+    }
+}
+
+// What a word stands for as an operand of a type: poison, undef, or a word of the type.
+fn word_value(undef_too: bool, of_type: IrType, text: &[u8]) -> Option<WrittenValue>
+    ensures { result ≡ word_value undef_too of_type text.now }
 {
     if text == b"poison".as_slice() {
         Some(WrittenValue::Poison)
-    } else if width.bits() == 1 && text == b"true".as_slice() {
-        Some(WrittenValue::Literal(1))
-    } else if width.bits() == 1 && text == b"false".as_slice() {
-        Some(WrittenValue::Literal(0))
     } else if undef_too && text == b"undef".as_slice() {
         Some(WrittenValue::Undef)
     } else {
-        None
+        word_of_type(of_type, text)
     }
 }
 
@@ -438,5 +474,27 @@ pub fn width_in(token: &Token) -> Option<Option<Width>>
     match token.kind() {
         Kind::Word => width_behind(token.text()),
         _ => None,
+    }
+}
+
+/// Whether a token is the word `ptr`.
+pub fn is_pointer(token: &Token) -> bool
+    ensures { result ≡ is_pointer token.now }
+{
+    token.kind() == Kind::Word && token.text() == b"ptr".as_slice()
+}
+
+/// The type of a value that a token spells: nothing where it spells none, nothing inside where there
+/// is no such width.
+pub fn type_in(token: &Token) -> Option<Option<IrType>>
+    ensures { result ≡ type_in token.now }
+{
+    if is_pointer(token) {
+        return Some(Some(IrType::Ptr));
+    }
+    match width_in(token) {
+        None => None,
+        Some(None) => Some(None),
+        Some(Some(width)) => Some(Some(IrType::Int(width))),
     }
 }

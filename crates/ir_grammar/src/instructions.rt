@@ -9,9 +9,9 @@ ghost use Rattle.ir_grammar.specs.Instructions as spec;
 
 use crate::cursor::Cursor;
 use crate::word::{ExactWord, Flag, LineWord, Opcode, WrapWord, exact_op, wrapping_op};
-use crate::written::{WrittenInst, WrittenLine, WrittenName, WrittenType, WrittenTyped};
+use crate::written::{WrittenInst, WrittenIntType, WrittenLine, WrittenName, WrittenTyped};
 use ir_lexer::Kind;
-use ir_tree::{Cast, Flags, Op, Predicate};
+use ir_tree::{Cast, Flags, IrType, Op, Predicate};
 use token_forms::ReadFault;
 use tv_num::Width;
 
@@ -73,7 +73,7 @@ impl<'a, 'b> Cursor<'a, 'b> {
     }
 
     #[tactic(auto, unfolding(crate::specs::Instructions::flagged_type))]
-    fn flagged_type(&mut self, flag: Flag) -> Result<(bool, WrittenType), ReadFault>
+    fn flagged_type(&mut self, flag: Flag) -> Result<(bool, WrittenIntType), ReadFault>
         ensures { Reads (λ x. x) result self.new (read true (spec.flagged_type flag) self.old) }
     {
         if self.flag(flag) {
@@ -100,8 +100,8 @@ impl<'a, 'b> Cursor<'a, 'b> {
     fn typed(&mut self, undef_too: bool) -> Result<WrittenTyped, ReadFault>
         ensures { Reads (λ x. x) result self.new (read true (spec.typed undef_too) self.old) }
     {
-        let of_type = self.int_type()?;
-        let operand = self.operand(undef_too, of_type.width)?;
+        let of_type = self.value_type()?;
+        let operand = self.operand(undef_too, of_type.of_type)?;
         Ok(WrittenTyped { of_type, operand })
     }
 
@@ -110,13 +110,13 @@ impl<'a, 'b> Cursor<'a, 'b> {
         &mut self,
         into: WrittenName,
         op: Op,
-        of_type: WrittenType,
+        of_type: WrittenIntType,
     ) -> Result<WrittenInst, ReadFault>
         ensures { Reads (λ x. x) result self.new (read true (spec.binary into op of_type) self.old) }
     {
-        let left = self.operand(false, of_type.width)?;
+        let left = self.operand(false, IrType::Int(of_type.width))?;
         self.mark(b",".as_slice())?;
-        let right = self.operand(false, of_type.width)?;
+        let right = self.operand(false, IrType::Int(of_type.width))?;
         Ok(WrittenInst::Binary {
             into,
             op,
@@ -165,9 +165,9 @@ impl<'a, 'b> Cursor<'a, 'b> {
     {
         let (same_sign, predicate) = self.comparison()?;
         let of_type = self.int_type()?;
-        let left = self.operand(false, of_type.width)?;
+        let left = self.operand(false, IrType::Int(of_type.width))?;
         self.mark(b",".as_slice())?;
-        let right = self.operand(false, of_type.width)?;
+        let right = self.operand(false, IrType::Int(of_type.width))?;
         Ok(WrittenInst::Icmp {
             into,
             predicate,
@@ -183,11 +183,11 @@ impl<'a, 'b> Cursor<'a, 'b> {
         &mut self,
         into: WrittenName,
         cast: Cast,
-        from: WrittenType,
+        from: WrittenIntType,
     ) -> Result<WrittenInst, ReadFault>
         ensures { Reads (λ x. x) result self.new (read true (spec.cast_by into cast from) self.old) }
     {
-        let operand = self.operand(false, from.width)?;
+        let operand = self.operand(false, IrType::Int(from.width))?;
         self.word(b"to".as_slice())?;
         let to = self.int_type()?;
         Ok(WrittenInst::Cast {
@@ -229,7 +229,7 @@ impl<'a, 'b> Cursor<'a, 'b> {
         ensures { Reads (λ x. x) result self.new (read true (spec.select into) self.old) }
     {
         let bit = self.bit_type()?;
-        let condition = self.operand(false, one_bit())?;
+        let condition = self.operand(false, IrType::Int(one_bit()))?;
         self.mark(b",".as_slice())?;
         let if_true = self.typed(false)?;
         self.mark(b",".as_slice())?;
@@ -277,22 +277,36 @@ impl<'a, 'b> Cursor<'a, 'b> {
         Ok(WrittenLine::Inst(inst))
     }
 
-    fn line_by(&mut self, into: WrittenName, word: LineWord) -> Result<WrittenLine, ReadFault>
-        ensures { Reads (λ x. x) result self.new (read true (spec.line_by into word) self.old) }
+    fn line_by(
+        &mut self,
+        number: usize,
+        into: WrittenName,
+        word: LineWord,
+    ) -> Result<WrittenLine, ReadFault>
+        ensures { Reads (λ x. x) result self.new (read true (spec.line_by number into word) self.old) }
     {
         match word {
             LineWord::Phi => self.phi(into),
+            LineWord::Alloca => self.alloca(into, number),
+            LineWord::Load => self.load(into),
+            LineWord::GetElementPtr => self.gep(into),
             LineWord::Inst(opcode) => self.inst_line(into, opcode),
         }
     }
 
-    /// Reads an instruction behind its result's name, which may be a phi where one may stand.
+    /// Reads an instruction behind its result's name, which may be a phi where one may stand. The
+    /// number is the instruction's own among those of the function.
     #[tactic(auto, unfolding(crate::specs::Instructions::line_named))]
-    pub fn line_named(&mut self, phi_too: bool, into: WrittenName) -> Result<WrittenLine, ReadFault>
-        ensures { Reads (λ x. x) result self.new (read true (spec.line_named phi_too into) self.old) }
+    pub fn line_named(
+        &mut self,
+        phi_too: bool,
+        number: usize,
+        into: WrittenName,
+    ) -> Result<WrittenLine, ReadFault>
+        ensures { Reads (λ x. x) result self.new (read true (spec.line_named phi_too number into) self.old) }
     {
         self.mark(b"=".as_slice())?;
         let word = self.line_word(phi_too)?;
-        self.line_by(into, word)
+        self.line_by(number, into, word)
     }
 }

@@ -16,7 +16,9 @@ mod instructions;
 mod laws;
 mod lines;
 mod lists;
+mod memory;
 mod numbers;
+mod objects;
 mod parameters;
 mod phis;
 mod reasons;
@@ -28,8 +30,9 @@ pub use cursor::Cursor;
 pub use laws::{is_plain_grammar, is_read_grammar};
 pub use reasons::reason_at;
 pub use written::{
-    WrittenBlock, WrittenBlocks, WrittenBody, WrittenCase, WrittenEntry, WrittenFunction,
-    WrittenInst, WrittenLine, WrittenLines, WrittenLiteral, WrittenName, WrittenOperand,
+    GepFlags, WrittenAccess, WrittenArrays, WrittenBlock, WrittenBlocks, WrittenBody, WrittenCase,
+    WrittenEntry, WrittenFunction, WrittenGep, WrittenIndex, WrittenInst, WrittenIntType,
+    WrittenLine, WrittenLines, WrittenLiteral, WrittenName, WrittenObject, WrittenOperand,
     WrittenParameter, WrittenParameters, WrittenPhi, WrittenReturn, WrittenReturnType,
     WrittenTerminator, WrittenType, WrittenTyped, WrittenValue,
 };

@@ -7,12 +7,13 @@ ghost use Rattle.ir_grammar.specs.Spelling.{is_attached, is_numbered};
 ghost use Rattle.ir_grammar.specs.Classes.{any, attachment_word, metadata_number};
 ghost use Rattle.token_forms.specs.Form.{one_of};
 ghost use Rattle.ir_grammar.specs.Grammar as spec;
-ghost use Rattle.ir_grammar.specs.Grammar.{is_comma, comma_begins, attachment, record_rest, is_local_kind, starts_line, line_begins, line_within, takes_comma, line_comma, with_comma};
+ghost use Rattle.ir_grammar.specs.Grammar.{is_comma, comma_begins, attachment, record_rest, starts_inst, starts_line, line_begins, line_within, takes_comma, line_comma, with_comma};
 ghost use Rattle.ir_lexer.specs.declared.token.Kind.TheVariants as kind;
-ghost use Rattle.ir_grammar.specs.declared.written.WrittenLine.TheVariants as line;
 
+use crate::blocks::MOST_INSTS;
 use crate::cursor::Cursor;
 use crate::lists::pushed;
+use crate::memory::default_align;
 use crate::numbers::some_digits;
 use crate::reasons::reason_at;
 use crate::word::LineStart;
@@ -24,7 +25,8 @@ use std::alloc::Global;
 use text_places::Place;
 use token_forms::{Bracket, ReadFault};
 
-fn is_attached(text: &[u8]) -> bool
+/// Whether the word of an attachment is spelled so.
+pub fn is_attached(text: &[u8]) -> bool
     ensures { result ≡ is_attached text.now }
 {
     text == b"!dbg".as_slice() || text == b"!prof".as_slice() || text == b"!llvm.loop".as_slice()
@@ -78,15 +80,18 @@ fn start_at(alloc: Global, token: &Token, is_new: bool) -> Result<Option<LineSta
         }
         (Kind::Label, text) => label_start(alloc, text, at, is_new),
         (Kind::Hash, text) if is_record(text) => Ok(Some(LineStart::Record)),
+        (Kind::Word, b"store") => Ok(Some(LineStart::Store)),
         _ => Ok(None),
     }
 }
 
-fn is_local(token: &Token) -> bool
-    ensures { result ≡ is_local_kind token.now.kind }
+// Whether a token begins an instruction.
+fn starts_inst(token: &Token) -> bool
+    ensures { result ≡ starts_inst token.now }
 {
-    match token.kind() {
-        Kind::Local => true,
+    match (token.kind(), token.text()) {
+        (Kind::Local, _) => true,
+        (Kind::Word, b"store") => true,
         _ => false,
     }
 }
@@ -97,7 +102,8 @@ fn takes_comma(line: &WrittenLine) -> bool
 {
     match line {
         WrittenLine::Label(_) | WrittenLine::Record => false,
-        WrittenLine::Entries(_) | WrittenLine::Phi(_) | WrittenLine::Inst(_) => true,
+        WrittenLine::Entries(_) | WrittenLine::Access(_) | WrittenLine::Indices(_) => true,
+        WrittenLine::Phi(_) | WrittenLine::Inst(_) => true,
     }
 }
 
@@ -135,13 +141,18 @@ fn with_line(so_far: WrittenLines, line: WrittenLine) -> Result<WrittenLines, Re
             room: so_far.room,
         }),
         WrittenLine::Entries(phi) | WrittenLine::Phi(phi) => with_phi(so_far, phi),
+        WrittenLine::Access(access) => {
+            let align = default_align(&access);
+            with_inst(so_far, WrittenInst::Access { access, align })
+        }
+        WrittenLine::Indices(gep) => with_inst(so_far, WrittenInst::GetElementPtr(gep)),
         WrittenLine::Inst(inst) => with_inst(so_far, inst),
     }
 }
 
 // The lines and one more instruction that is no phi.
 fn with_inst(so_far: WrittenLines, inst: WrittenInst) -> Result<WrittenLines, ReadFault>
-    ensures { Reads (λ x. x) result [] (reads (spec.with_line so_far (line.Inst inst)) []) }
+    ensures { Reads (λ x. x) result [] (reads (spec.with_inst so_far inst) []) }
 {
     let insts = pushed(so_far.insts, inst)?;
     Ok(WrittenLines {
@@ -228,7 +239,7 @@ impl<'a, 'b> Cursor<'a, 'b> {
 
     // Reads what begins a line here, if anything does; an instruction where there is room for it.
     fn line_start(&mut self, is_new: bool, room: bool) -> Result<Option<LineStart>, ReadFault>
-        ensures { Reads (λ x. x) result self.new (begin_of true starts_line (λ t. spelling.line_start is_new t.kind t.text t.place) (λ t. not (is_local_kind t.kind) || room) self.old) }
+        ensures { Reads (λ x. x) result self.new (begin_of true starts_line (λ t. spelling.line_start is_new t.kind t.text t.place) (λ t. not (starts_inst t) || room) self.old) }
     {
         let [first, rest @ ..] = self.left() else {
             return Ok(None);
@@ -236,7 +247,7 @@ impl<'a, 'b> Cursor<'a, 'b> {
         match start_at(self.alloc(), first, is_new)? {
             None => Ok(None),
             Some(start) => {
-                if is_local(first) && !room {
+                if starts_inst(first) && !room {
                     return Err(ReadFault::PastLimit);
                 }
                 self.go_to(rest);
@@ -246,12 +257,18 @@ impl<'a, 'b> Cursor<'a, 'b> {
     }
 
     // What stands before the first comma of a line.
-    fn started(&mut self, phi_too: bool, start: LineStart) -> Result<WrittenLine, ReadFault>
-        ensures { Reads (λ x. x) result self.new (read true (spec.started phi_too start) self.old) }
+    fn started(
+        &mut self,
+        phi_too: bool,
+        number: usize,
+        start: LineStart,
+    ) -> Result<WrittenLine, ReadFault>
+        ensures { Reads (λ x. x) result self.new (read true (spec.started phi_too number start) self.old) }
     {
         match start {
             LineStart::Label(name) => Ok(WrittenLine::Label(name)),
-            LineStart::Inst(name) => self.line_named(phi_too, name),
+            LineStart::Inst(name) => self.line_named(phi_too, number, name),
+            LineStart::Store => self.store(),
             LineStart::Record => {
                 self.record_rest()?;
                 Ok(WrittenLine::Record)
@@ -267,6 +284,8 @@ impl<'a, 'b> Cursor<'a, 'b> {
             WrittenLine::Label(name) => Ok(WrittenLine::Label(name)),
             WrittenLine::Record => Ok(WrittenLine::Record),
             WrittenLine::Entries(phi) => self.entry_or_attachment(phi),
+            WrittenLine::Access(access) => self.align_or_attachment(access),
+            WrittenLine::Indices(gep) => self.index_or_attachment(gep),
             WrittenLine::Phi(phi) => {
                 self.attachment()?;
                 Ok(WrittenLine::Phi(phi))
@@ -312,7 +331,8 @@ impl<'a, 'b> Cursor<'a, 'b> {
         ensures { Reads (λ x. x) result self.new (read true (spec.next_line so_far start) self.old) }
     {
         let phi_too = so_far.insts.len() == 0;
-        let started = self.started(phi_too, start)?;
+        let number = MOST_INSTS.saturating_sub(so_far.room);
+        let started = self.started(phi_too, number, start)?;
         let line = self.behind_commas(started)?;
         with_line(so_far, line)
     }

@@ -1,9 +1,11 @@
 // Numbers as decimal digits spell them.
-ghost use Rattle.std.specs.Prelude.{◌≡◌, ◌^◌, true, false, if◌then◌else◌};
-ghost use Rattle.std.specs.List.{list_all};
+ghost use Rattle.std.specs.Prelude.{◌≡◌, ◌==◌, ◌^◌, true, false, if◌then◌else◌, Some, None, nat_eq};
+ghost use Rattle.std.specs.List.{list_all, list_any};
+ghost use Rattle.ir_tree.specs.Limits.{alignments};
 ghost use Rattle.ir_lexer.specs.Bytes.{is_digit};
 ghost use Rattle.ir_lexer.specs.Spelling.{is_digits};
-ghost use Rattle.ir_grammar.specs.Numbers.{value_of, some_below, width_of, in_range, wrapped, literal_in};
+ghost use Rattle.ir_grammar.specs.Numbers.{value_of, some_below, width_of, magnitude, in_range, wrapped, literal_in};
+ghost use Rattle.ir_grammar.specs.Spelling.{is_alignment, is_length};
 
 use tv_num::Width;
 
@@ -87,4 +89,50 @@ fn negative(width: Width, digits: &[u8]) -> Option<u64>
         return None;
     }
     Some(((width.end() - u128::from(magnitude)) % width.end()) as u64)
+}
+
+fn is_power(align: u64) -> bool
+    ensures { result ≡ list_any (nat_eq align) alignments }
+{
+    matches!(
+        align,
+        1 | 2 | 4 | 8 | 16 | 32 | 64 | 128 | 256 | 512 | 1024 | 2048 | 4096
+    )
+}
+
+/// The alignment that a number token spells, if it is a power of two from 1 to 4,096.
+pub fn alignment(text: &[u8]) -> Option<u64>
+    ensures { result ≡ (if is_alignment text.now then Some (magnitude text.now) else None) }
+{
+    match text {
+        [b'-', ..] => None,
+        _ => power(text),
+    }
+}
+
+fn power(digits: &[u8]) -> Option<u64>
+    ensures { result ≡ (if list_any (nat_eq (value_of digits.now)) alignments then Some (value_of digits.now) else None) }
+{
+    let value = number(digits)?;
+    if is_power(value) { Some(value) } else { None }
+}
+
+/// The length of an array that a number token spells, if it is in range.
+pub fn array_length(text: &[u8]) -> Option<u64>
+    ensures { result ≡ (if is_length text.now then Some (magnitude text.now) else None) }
+{
+    match text {
+        [b'-', digits @ ..] => no_number(digits),
+        _ => number(text),
+    }
+}
+
+// Zero, if these digits say so.
+fn no_number(digits: &[u8]) -> Option<u64>
+    ensures { result ≡ (if value_of digits.now == 0 then Some (value_of digits.now) else None) }
+{
+    match number(digits) {
+        Some(0) => Some(0),
+        _ => None,
+    }
 }

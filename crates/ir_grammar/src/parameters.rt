@@ -13,6 +13,7 @@ use crate::word::ParameterPart;
 use crate::written::{WrittenName, WrittenParameter, WrittenParameters, WrittenType};
 use ir_items::name_behind_sign;
 use ir_lexer::{Kind, Token};
+use ir_tree::IrType;
 use std::alloc::Global;
 use support::Sequence;
 use token_forms::ReadFault;
@@ -26,30 +27,47 @@ fn new_parameter(of_type: WrittenType) -> WrittenParameter
     WrittenParameter {
         of_type,
         no_undef: false,
+        non_null: false,
         name: None,
     }
 }
 
-// The attribute that a word names.
-fn attribute(text: &[u8]) -> Option<ParameterPart>
-    ensures { result ≡ spelling.attribute_named text.now }
+fn is_pointer_type(of_type: IrType) -> bool
+    ensures { result ≡ spelling.is_pointer_type of_type }
+{
+    match of_type {
+        IrType::Int(_) => false,
+        IrType::Ptr => true,
+    }
+}
+
+// The attribute that a word names; `nonnull` stands on a pointer alone.
+fn attribute(text: &[u8], on_pointer: bool) -> Option<ParameterPart>
+    ensures { result ≡ spelling.attribute_named on_pointer text.now }
 {
     if text == b"noundef".as_slice() {
         Some(ParameterPart::NoUndef)
     } else if text == b"zeroext".as_slice() || text == b"signext".as_slice() {
         Some(ParameterPart::Extension)
+    } else if on_pointer && text == b"nonnull".as_slice() {
+        Some(ParameterPart::NonNull)
     } else {
         None
     }
 }
 
 // What a token goes on with, behind a parameter with a name or without.
-fn part_at(alloc: Global, token: &Token, is_named: bool) -> Result<Option<ParameterPart>, ReadFault>
-    ensures { Reads (λ x. x) result [] (reads (spelling.parameter_part is_named token.now.kind token.now.text token.now.place) []) }
+fn part_at(
+    alloc: Global,
+    token: &Token,
+    is_named: bool,
+    on_pointer: bool,
+) -> Result<Option<ParameterPart>, ReadFault>
+    ensures { Reads (λ x. x) result [] (reads (spelling.parameter_part is_named on_pointer token.now.kind token.now.text token.now.place) []) }
 {
     match (token.kind(), token.text()) {
         (Kind::Mark, b",") => Ok(Some(ParameterPart::Next)),
-        (Kind::Word, text) if !is_named => Ok(attribute(text)),
+        (Kind::Word, text) if !is_named => Ok(attribute(text, on_pointer)),
         (Kind::Local, text) if !is_named => {
             let name = name_behind_sign(alloc, text)?;
             let at = token.place();
@@ -61,13 +79,17 @@ fn part_at(alloc: Global, token: &Token, is_named: bool) -> Result<Option<Parame
 
 impl<'a, 'b> Cursor<'a, 'b> {
     // What goes on with the parameters here, if anything does.
-    fn parameter_part(&mut self, is_named: bool) -> Result<Option<ParameterPart>, ReadFault>
-        ensures { Reads (λ x. x) result self.new (begin_of true follows_parameter (λ t. spelling.parameter_part is_named t.kind t.text t.place) any self.old) }
+    fn parameter_part(
+        &mut self,
+        is_named: bool,
+        on_pointer: bool,
+    ) -> Result<Option<ParameterPart>, ReadFault>
+        ensures { Reads (λ x. x) result self.new (begin_of true follows_parameter (λ t. spelling.parameter_part is_named on_pointer t.kind t.text t.place) any self.old) }
     {
         let [first, rest @ ..] = self.left() else {
             return Ok(None);
         };
-        match part_at(self.alloc(), first, is_named)? {
+        match part_at(self.alloc(), first, is_named, on_pointer)? {
             None => Ok(None),
             Some(part) => {
                 self.go_to(rest);
@@ -90,6 +112,16 @@ impl<'a, 'b> Cursor<'a, 'b> {
                 last: WrittenParameter {
                     of_type: last.of_type,
                     no_undef: true,
+                    non_null: last.non_null,
+                    name: last.name,
+                },
+            }),
+            ParameterPart::NonNull => Ok(WrittenParameters {
+                before,
+                last: WrittenParameter {
+                    of_type: last.of_type,
+                    no_undef: last.no_undef,
+                    non_null: true,
                     name: last.name,
                 },
             }),
@@ -99,6 +131,7 @@ impl<'a, 'b> Cursor<'a, 'b> {
                 last: WrittenParameter {
                     of_type: last.of_type,
                     no_undef: last.no_undef,
+                    non_null: last.non_null,
                     name: Some(name),
                 },
             }),
@@ -122,7 +155,8 @@ impl<'a, 'b> Cursor<'a, 'b> {
         ensures { Reads (λ x. x) result self.new (step_of follows_parameter parameter_begins (λ s. any) (λ s a ts. read true (with_part s a) ts) so_far self.old) }
     {
         let is_named = so_far.last.name.is_some();
-        match self.parameter_part(is_named)? {
+        let on_pointer = is_pointer_type(so_far.last.of_type.of_type);
+        match self.parameter_part(is_named, on_pointer)? {
             None => Ok((so_far, false)),
             Some(part) => Ok((self.with_part(so_far, part)?, true)),
         }
@@ -164,7 +198,7 @@ impl<'a, 'b> Cursor<'a, 'b> {
         if self.eat_mark(b")".as_slice()) {
             return Ok(self.no_items());
         }
-        let of_type = self.int_type()?;
+        let of_type = self.value_type()?;
         self.first_parameter(of_type)
     }
 }

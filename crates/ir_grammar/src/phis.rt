@@ -18,7 +18,7 @@ impl<'a, 'b> Cursor<'a, 'b> {
     fn entry(&mut self, of_type: WrittenType) -> Result<WrittenEntry, ReadFault>
         ensures { Reads (λ x. x) result self.new (read true (spec.entry of_type) self.old) }
     {
-        let operand = self.operand(false, of_type.width)?;
+        let operand = self.operand(false, of_type.of_type)?;
         self.mark(b",".as_slice())?;
         let from = self.local()?;
         self.mark(b"]".as_slice())?;
@@ -30,7 +30,7 @@ impl<'a, 'b> Cursor<'a, 'b> {
     pub fn phi(&mut self, into: WrittenName) -> Result<WrittenLine, ReadFault>
         ensures { Reads (λ x. x) result self.new (read true (spec.phi into) self.old) }
     {
-        let of_type = self.int_type()?;
+        let of_type = self.value_type()?;
         self.mark(b"[".as_slice())?;
         let first = self.entry(of_type)?;
         let entries = pushed(self.no_items(), first)?;
@@ -59,14 +59,6 @@ impl<'a, 'b> Cursor<'a, 'b> {
         }))
     }
 
-    #[tactic(auto, unfolding(crate::specs::Instructions::phi_number))]
-    fn phi_number(&mut self, phi: WrittenPhi) -> Result<WrittenLine, ReadFault>
-        ensures { Reads (λ x. x) result self.new (read true (spec.phi_number phi) self.old) }
-    {
-        self.metadata_number()?;
-        Ok(WrittenLine::Phi(phi))
-    }
-
     /// Reads what stands behind a comma that follows an entry: another one, or an attachment, behind
     /// which no entry may stand.
     #[tactic(auto, unfolding(crate::specs::Instructions::entry_or_attachment))]
@@ -78,6 +70,6 @@ impl<'a, 'b> Cursor<'a, 'b> {
             return self.next_entry(phi);
         }
         self.attachment_word()?;
-        self.phi_number(phi)
+        self.attached(WrittenLine::Phi(phi))
     }
 }

@@ -1,7 +1,9 @@
 // The reason at a token that can't stand where it stands.
 ghost use Rattle.std.specs.Prelude.{◌≡◌};
 ghost use Rattle.ir_grammar.specs.Reasons.{is_type_mark, reason, type_reason};
+ghost use Rattle.ir_grammar.specs.Spelling.{width_reason};
 
+use crate::cursor::width_in;
 use ir_lexer::{Kind, Token};
 use ir_tree::Reason;
 
@@ -41,5 +43,16 @@ pub fn type_reason_at(token: &Token) -> Reason
     match token.kind() {
         Kind::Local => Reason::Unsupported,
         _ => reason_at(token),
+    }
+}
+
+/// The reason at a token that can't stand where some types alone may: a limit where it spells a type
+/// of a width that is none.
+pub fn width_reason_at(token: &Token) -> Reason
+    ensures { result ≡ width_reason token.now }
+{
+    match width_in(token) {
+        Some(None) => Reason::Limit,
+        _ => type_reason_at(token),
     }
 }

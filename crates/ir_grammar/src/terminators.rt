@@ -2,7 +2,7 @@
 ghost use Rattle.std.specs.Prelude.{◌≡◌, ◌&&◌, true};
 ghost use Rattle.token_forms.specs.Form.{reads, read, begin_of, step_of};
 ghost use Rattle.token_forms.specs.Answer.{Reads};
-ghost use Rattle.ir_grammar.specs.Spelling.{width_in, typed_at, is_width};
+ghost use Rattle.ir_grammar.specs.Spelling.{width_in, int_typed_at, is_width};
 ghost use Rattle.ir_grammar.specs.Grammar as spec;
 ghost use Rattle.ir_grammar.specs.Grammar.{is_type, case_begins, case_within, with_case};
 
@@ -11,26 +11,30 @@ use crate::instructions::one_bit;
 use crate::lists::pushed;
 use crate::word::TerminatorWord;
 use crate::written::{
-    WrittenCase, WrittenName, WrittenReturn, WrittenReturnType, WrittenTerminator, WrittenType,
-    WrittenTyped,
+    WrittenCase, WrittenIntType, WrittenName, WrittenReturn, WrittenReturnType, WrittenTerminator,
+    WrittenType, WrittenTyped,
 };
+use ir_tree::IrType;
 use support::Sequence;
 use text_places::Place;
 use token_forms::ReadFault;
-use tv_num::Width;
 
 /// The greatest number of cases of a switch.
 const MOST_CASES: usize = 256;
 
 impl<'a, 'b> Cursor<'a, 'b> {
-    fn returned_by(&mut self, width: Option<Width>, at: Place) -> Result<WrittenReturn, ReadFault>
-        ensures { Reads (λ x. x) result self.new (read true (spec.returned_by width at) self.old) }
+    fn returned_by(
+        &mut self,
+        of_type: Option<IrType>,
+        at: Place,
+    ) -> Result<WrittenReturn, ReadFault>
+        ensures { Reads (λ x. x) result self.new (read true (spec.returned_by of_type at) self.old) }
     {
-        match width {
+        match of_type {
             None => Ok(WrittenReturn::Void(at)),
-            Some(width) => {
-                let operand = self.operand(true, width)?;
-                let of_type = WrittenType { width, at };
+            Some(of_type) => {
+                let operand = self.operand(true, of_type)?;
+                let of_type = WrittenType { of_type, at };
                 Ok(WrittenReturn::Value(WrittenTyped { of_type, operand }))
             }
         }
@@ -40,8 +44,8 @@ impl<'a, 'b> Cursor<'a, 'b> {
     fn returned(&mut self) -> Result<WrittenReturn, ReadFault>
         ensures { Reads (λ x. x) result self.new (read true spec.returned self.old) }
     {
-        let WrittenReturnType { width, at } = self.return_type()?;
-        self.returned_by(width, at)
+        let WrittenReturnType { of_type, at } = self.return_type()?;
+        self.returned_by(of_type, at)
     }
 
     #[tactic(auto, unfolding(crate::specs::Grammar::return_of))]
@@ -65,7 +69,7 @@ impl<'a, 'b> Cursor<'a, 'b> {
     fn cond_branch(&mut self, bit: Place) -> Result<WrittenTerminator, ReadFault>
         ensures { Reads (λ x. x) result self.new (read true (spec.cond_branch bit) self.old) }
     {
-        let condition = self.operand(false, one_bit())?;
+        let condition = self.operand(false, IrType::Int(one_bit()))?;
         self.mark(b",".as_slice())?;
         let if_true = self.target()?;
         self.mark(b",".as_slice())?;
@@ -98,8 +102,8 @@ impl<'a, 'b> Cursor<'a, 'b> {
     }
 
     // Reads the type that begins a case, if one stands next; where there is room for the case.
-    fn case_type(&mut self, room: bool) -> Result<Option<WrittenType>, ReadFault>
-        ensures { Reads (λ x. x) result self.new (begin_of true is_type (λ t. typed_at (width_in t) t.place) (λ t. room && is_width (width_in t)) self.old) }
+    fn case_type(&mut self, room: bool) -> Result<Option<WrittenIntType>, ReadFault>
+        ensures { Reads (λ x. x) result self.new (begin_of true is_type (λ t. int_typed_at (width_in t) t.place) (λ t. room && is_width (width_in t)) self.old) }
     {
         let [first, rest @ ..] = self.left() else {
             return Ok(None);
@@ -113,7 +117,7 @@ impl<'a, 'b> Cursor<'a, 'b> {
                 }
                 self.go_to(rest);
                 let at = first.place();
-                Ok(Some(WrittenType { width, at }))
+                Ok(Some(WrittenIntType { width, at }))
             }
         }
     }
@@ -122,7 +126,7 @@ impl<'a, 'b> Cursor<'a, 'b> {
     fn with_case(
         &mut self,
         so_far: Sequence<WrittenCase>,
-        of_type: WrittenType,
+        of_type: WrittenIntType,
     ) -> Result<Sequence<WrittenCase>, ReadFault>
         ensures { Reads (λ x. x) result self.new (read true (with_case so_far of_type) self.old) }
     {
@@ -172,7 +176,7 @@ impl<'a, 'b> Cursor<'a, 'b> {
         ensures { Reads (λ x. x) result self.new (read true spec.switch self.old) }
     {
         let of_type = self.int_type()?;
-        let operand = self.operand(false, of_type.width)?;
+        let operand = self.operand(false, IrType::Int(of_type.width))?;
         self.mark(b",".as_slice())?;
         let default = self.target()?;
         self.mark(b"[".as_slice())?;

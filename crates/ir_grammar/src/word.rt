@@ -51,10 +51,14 @@ pub enum Flag {
     SameSign,
 }
 
-/// What stands behind the name of a result: the word of a phi, or of another instruction.
+/// What stands behind the name of a result: the word of a phi, of an instruction that an alignment
+/// or indices may follow, or of another instruction.
 #[derive(Clone, Copy, Debug, PartialEq, Eq)]
 pub enum LineWord {
     Phi,
+    Alloca,
+    Load,
+    GetElementPtr,
     Inst(Opcode),
 }
 
@@ -67,19 +71,22 @@ pub enum TerminatorWord {
     Unreachable,
 }
 
-/// What begins a line of a block: a label, the name of an instruction's result, or the word of a
-/// record.
+/// What begins a line of a block: a label, the name of an instruction's result, the word `store`, or
+/// the word of a record.
 #[derive(Drop)]
 pub enum LineStart {
     Label(WrittenName),
     Inst(WrittenName),
+    Store,
     Record,
 }
 
-/// What goes on with a parameter: `noundef`, an extension, its name, or the comma before the next.
+/// What goes on with a parameter: `noundef`, `nonnull`, an extension, its name, or the comma before
+/// the next.
 #[derive(Drop)]
 pub enum ParameterPart {
     NoUndef,
+    NonNull,
     Extension,
     Name(WrittenName),
     Next,
@@ -204,6 +211,29 @@ fn is_phi(token: &Token) -> bool
     token.kind() == Kind::Word && token.text() == b"phi".as_slice()
 }
 
+fn memory_word(text: &[u8]) -> Option<LineWord>
+    ensures { result ≡ spec.memory_word text.now }
+{
+    if text == b"alloca".as_slice() {
+        Some(LineWord::Alloca)
+    } else if text == b"load".as_slice() {
+        Some(LineWord::Load)
+    } else if text == b"getelementptr".as_slice() {
+        Some(LineWord::GetElementPtr)
+    } else {
+        None
+    }
+}
+
+fn memory_word_of(token: &Token) -> Option<LineWord>
+    ensures { result ≡ spec.memory_word_of token.now.kind token.now.text }
+{
+    match token.kind() {
+        Kind::Word => memory_word(token.text()),
+        _ => None,
+    }
+}
+
 /// What the token names behind the name of a result, if it names an instruction; a phi only where
 /// one may stand.
 pub fn line_word_of(token: &Token, phi_too: bool) -> Option<LineWord>
@@ -211,6 +241,9 @@ pub fn line_word_of(token: &Token, phi_too: bool) -> Option<LineWord>
 {
     if phi_too && is_phi(token) {
         return Some(LineWord::Phi);
+    }
+    if let Some(word) = memory_word_of(token) {
+        return Some(word);
     }
     match opcode_of(token) {
         Some(opcode) => Some(LineWord::Inst(opcode)),

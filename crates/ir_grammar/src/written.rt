@@ -1,6 +1,6 @@
 // A function as it is written: names stand where the text has them, and each type, name, literal
 // and label has its place.
-use ir_tree::{Cast, Name, Op, Predicate};
+use ir_tree::{Cast, IrType, MemoryType, Name, Op, Predicate};
 use support::Sequence;
 use text_places::Place;
 use tv_num::Width;
@@ -11,9 +11,17 @@ pub struct WrittenName {
     pub at: Place,
 }
 
+/// An integer type.
+#[derive(Clone, Copy)]
+pub struct WrittenIntType {
+    pub width: Width,
+    pub at: Place,
+}
+
+/// A type of a value.
 #[derive(Clone, Copy)]
 pub struct WrittenType {
-    pub width: Width,
+    pub of_type: IrType,
     pub at: Place,
 }
 
@@ -22,6 +30,8 @@ pub enum WrittenValue {
     Local(Name),
     /// A literal, wrapped to the width that is written before it.
     Literal(u64),
+    /// `null`.
+    Null,
     Poison,
     Undef,
 }
@@ -39,10 +49,10 @@ pub struct WrittenTyped {
     pub operand: WrittenOperand,
 }
 
-/// The type of a function or behind `ret`; the width is nothing for `void`.
+/// The type of a function or behind `ret`, or nothing for `void`.
 #[derive(Clone, Copy)]
 pub struct WrittenReturnType {
-    pub width: Option<Width>,
+    pub of_type: Option<IrType>,
     pub at: Place,
 }
 
@@ -51,6 +61,7 @@ pub struct WrittenReturnType {
 pub struct WrittenParameter {
     pub of_type: WrittenType,
     pub no_undef: bool,
+    pub non_null: bool,
     pub name: Option<WrittenName>,
 }
 
@@ -61,12 +72,70 @@ pub struct WrittenParameters {
     pub last: WrittenParameter,
 }
 
+/// A type of an object in memory, at the place of its element.
+#[derive(Drop)]
+pub struct WrittenObject {
+    pub of_type: MemoryType,
+    pub at: Place,
+}
+
+/// An instruction that an alignment may follow.
+#[derive(Drop)]
+pub enum WrittenAccess {
+    /// `number` is the instruction's own among those of the function, from 0.
+    Alloca {
+        into: WrittenName,
+        number: usize,
+        of_type: WrittenObject,
+    },
+    Load {
+        into: WrittenName,
+        of_type: WrittenType,
+        pointer: WrittenTyped,
+    },
+    Store {
+        value: WrittenTyped,
+        pointer: WrittenTyped,
+    },
+}
+
+/// An index of a `getelementptr`.
+#[derive(Drop)]
+pub struct WrittenIndex {
+    pub of_type: WrittenIntType,
+    pub operand: WrittenOperand,
+}
+
+#[derive(Drop)]
+pub struct WrittenGep {
+    pub into: WrittenName,
+    pub flags: GepFlags,
+    pub of_type: WrittenObject,
+    pub base: WrittenTyped,
+    pub indices: Sequence<WrittenIndex>,
+}
+
+/// The flags of a `getelementptr`.
+#[derive(Clone, Copy, Debug, PartialEq, Eq)]
+pub struct GepFlags {
+    pub inbounds: bool,
+    pub nuw: bool,
+}
+
+/// The flags of a `getelementptr`, and the lengths of the arrays that are open behind them, the
+/// outermost first.
+#[derive(Drop)]
+pub struct WrittenArrays {
+    pub flags: GepFlags,
+    pub lengths: Sequence<u64>,
+}
+
 #[derive(Drop)]
 pub enum WrittenInst {
     Binary {
         into: WrittenName,
         op: Op,
-        of_type: WrittenType,
+        of_type: WrittenIntType,
         left: WrittenOperand,
         right: WrittenOperand,
     },
@@ -74,16 +143,16 @@ pub enum WrittenInst {
         into: WrittenName,
         predicate: Predicate,
         same_sign: bool,
-        of_type: WrittenType,
+        of_type: WrittenIntType,
         left: WrittenOperand,
         right: WrittenOperand,
     },
     Cast {
         into: WrittenName,
         cast: Cast,
-        from: WrittenType,
+        from: WrittenIntType,
         operand: WrittenOperand,
-        to: WrittenType,
+        to: WrittenIntType,
     },
     /// The place is that of the condition's type.
     Select {
@@ -97,6 +166,12 @@ pub enum WrittenInst {
         into: WrittenName,
         value: WrittenTyped,
     },
+    /// The alignment is the type's own where none is written.
+    Access {
+        access: WrittenAccess,
+        align: u64,
+    },
+    GetElementPtr(WrittenGep),
 }
 
 /// What a phi takes where a block was left: an operand, and the block's label.
@@ -121,8 +196,13 @@ pub enum WrittenLine {
     Record,
     /// A phi, to which entries may be added.
     Entries(WrittenPhi),
+    /// An instruction that an alignment may follow.
+    Access(WrittenAccess),
+    /// A `getelementptr`, to which indices may be added.
+    Indices(WrittenGep),
     /// A phi with attachments.
     Phi(WrittenPhi),
+    /// An instruction that attachments alone may follow.
     Inst(WrittenInst),
 }
 
@@ -156,7 +236,7 @@ pub struct WrittenLiteral {
 /// A case of a switch: a literal behind its type, and the label that it leads to.
 #[derive(Drop)]
 pub struct WrittenCase {
-    pub of_type: WrittenType,
+    pub of_type: WrittenIntType,
     pub literal: WrittenLiteral,
     pub to: WrittenName,
 }
@@ -174,7 +254,7 @@ pub enum WrittenTerminator {
         if_false: WrittenName,
     },
     Switch {
-        of_type: WrittenType,
+        of_type: WrittenIntType,
         operand: WrittenOperand,
         default: WrittenName,
         cases: Sequence<WrittenCase>,

@@ -6,6 +6,7 @@ use Rattle.text_places.specs.declared.place.Place.{Place}
 use Rattle.ir_grammar.specs.declared.written.WrittenParameter.{WrittenParameter}
 use Rattle.ir_grammar.specs.declared.written.WrittenInst.{WrittenInst}
 use Rattle.ir_grammar.specs.declared.written.WrittenInst.TheVariants as line
+use Rattle.ir_grammar.specs.declared.written.WrittenAccess.TheVariants as access
 use Rattle.ir_grammar.specs.declared.written.WrittenReturn.{WrittenReturn}
 use Rattle.ir_grammar.specs.declared.written.WrittenReturn.TheVariants.{Void, Value}
 use Rattle.ir_grammar.specs.declared.written.WrittenPhi.{WrittenPhi}
@@ -15,9 +16,9 @@ use Rattle.ir_grammar.specs.declared.written.WrittenBody.{WrittenBody}
 use Rattle.ir_grammar.specs.declared.written.WrittenBlock.{WrittenBlock}
 use Rattle.ir_grammar.specs.declared.written.WrittenFunction.{WrittenFunction}
 use Rattle.ir_numbering.specs.declared.numbering.NamedParameter.{NamedParameter}
-use Rattle.ir_numbering.specs.Places.{place_or, places_of, inst_places, parameter_places, returned_places, entry_places, phi_places, case_places, terminator_places, body_places, block_places}
+use Rattle.ir_numbering.specs.Places.{place_or, places_of, index_places, inst_places, parameter_places, returned_places, entry_places, phi_places, case_places, terminator_places, body_places, block_places}
 use Rattle.ir_numbering.specs.Numbering.{named_behind}
-use Rattle.ir_numbering.specs.Mentions.{Mention, mention_at, inst_mentions, returned_mentions, entry_mentions, phi_mentions, case_mentions, terminator_mentions, body_mentions, block_mentions, parameter_mentions, names_written}
+use Rattle.ir_numbering.specs.Mentions.{Mention, mention_at, index_mentions, inst_mentions, returned_mentions, entry_mentions, phi_mentions, case_mentions, terminator_mentions, body_mentions, block_mentions, parameter_mentions, names_written}
 use Rattle.ir_numbering.specs.Numbering.{entry_name}
 
 abbrev at_in : Mention → Place
@@ -36,6 +37,10 @@ inst-places (line.Icmp into predicate same_sign type left right) = refl
 inst-places (line.Cast into cast from value to) = refl
 inst-places (line.Select into bit condition if_true if_false) = refl
 inst-places (line.Freeze into value) = refl
+inst-places (line.Access (access.Alloca into number type) align) = refl
+inst-places (line.Access (access.Load into type from) align) = refl
+inst-places (line.Access (access.Store value to) align) = refl
+inst-places (line.GetElementPtr g) = ap (λ (ps : List Place). g.into.at ∷ g.of_type.at ∷ g.base.of_type.at ∷ g.base.operand.at ∷ ps) (each-places index_mentions index_places (λ i. refl) g.indices)
 
 phi-places : (phi : WrittenPhi) → map at_in (phi_mentions phi) ≡ phi_places phi
 phi-places phi = ap (λ (ps : List Place). phi.into.at ∷ phi.of_type.at ∷ ps) (each-places entry_mentions entry_places (λ e. refl) phi.entries)

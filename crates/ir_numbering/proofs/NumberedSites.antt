@@ -1,5 +1,6 @@
 -- The sites of a function whose names were numbered: each name has its number in the table, and is the one that is written there.
 use Rattle.std.proofs.Common.{◌≡◌, ℕ, ◌+◌, ◌*◌, ◌≤◌, Bool, true, false, List, [], ◌∷◌, ◌++◌, length, map, Option, Some, None, refl, sym, ap, subst, ◌∙◌, append_assoc, arith}
+use Rattle.std.specs.Prelude.{nat_le}
 use Rattle.std.specs.List.{All, flat_map}
 use Rattle.std.proofs.lemmas.List.{length-append, length-map, append-nil, map-append}
 use Rattle.std.proofs.lemmas.Grind.{flat_map-append}
@@ -7,13 +8,13 @@ use Rattle.std.proofs.lemmas.List.Elements.{All-nil, All-cons, All-append, All-w
 use Rattle.text_places.specs.declared.place.Place.{Place}
 use Rattle.tv_num.specs.declared.Width.{Width}
 use Rattle.ir_tree.specs.Names.{with_name, number_of}
-use Rattle.ir_tree.specs.Sites.{IsNumbered, AreNumbered, Step, sites, sites_in, steps, parameter_steps, phi_steps, inst_steps, block_steps, blocks_steps, header_sites, parameter_sites, entry_sites, phi_sites, inst_sites, case_sites, cases_sites, terminator_sites, typed_sites, operand_site}
+use Rattle.ir_tree.specs.Sites.{IsNumbered, AreNumbered, Step, sites, sites_in, steps, parameter_steps, phi_steps, inst_steps, block_steps, blocks_steps, header_sites, parameter_sites, entry_sites, phi_sites, index_sites, indices_sites, inst_sites, case_sites, cases_sites, terminator_sites, typed_sites, operand_site}
 use Rattle.ir_tree.specs.declared.sites.Part.TheVariants as part_of
 use Rattle.ir_tree.specs.declared.sites.Site.{Site}
 use Rattle.ir_tree.specs.declared.sites.Site.TheVariants.{Defines, Uses, Enters, Written}
 use Rattle.ir_tree.specs.declared.name.Name.{Name}
 use Rattle.ir_tree.specs.declared.tree.IrType.{IrType}
-use Rattle.ir_tree.specs.declared.tree.IrType.TheVariants.{Int}
+use Rattle.ir_tree.specs.declared.tree.IrType.TheVariants.{Int, Ptr}
 use Rattle.ir_tree.specs.declared.tree.Operand.{Operand}
 use Rattle.ir_tree.specs.declared.tree.Operand.TheVariants as operand
 use Rattle.ir_tree.specs.declared.tree.TypedOperand.{TypedOperand}
@@ -21,6 +22,7 @@ use Rattle.ir_tree.specs.declared.tree.Inst.{Inst}
 use Rattle.ir_tree.specs.declared.tree.Inst.TheVariants as inst
 use Rattle.ir_tree.specs.declared.tree.Terminator.{Terminator}
 use Rattle.ir_tree.specs.declared.tree.Terminator.TheVariants.{Return, Branch, CondBranch, Switch, Unreachable}
+use Rattle.ir_tree.specs.declared.tree.GepIndex.{GepIndex}
 use Rattle.ir_tree.specs.declared.tree.PhiEntry.{PhiEntry}
 use Rattle.ir_tree.specs.declared.tree.Phi.{Phi}
 use Rattle.ir_tree.specs.declared.tree.Case.{Case}
@@ -35,6 +37,8 @@ use Rattle.ir_grammar.specs.declared.written.WrittenTyped.{WrittenTyped}
 use Rattle.ir_grammar.specs.declared.written.WrittenParameter.{WrittenParameter}
 use Rattle.ir_grammar.specs.declared.written.WrittenInst.{WrittenInst}
 use Rattle.ir_grammar.specs.declared.written.WrittenInst.TheVariants as line
+use Rattle.ir_grammar.specs.declared.written.WrittenAccess.TheVariants as access
+use Rattle.ir_grammar.specs.declared.written.WrittenIndex.{WrittenIndex}
 use Rattle.ir_grammar.specs.declared.written.WrittenEntry.{WrittenEntry}
 use Rattle.ir_grammar.specs.declared.written.WrittenPhi.{WrittenPhi}
 use Rattle.ir_grammar.specs.declared.written.WrittenCase.{WrittenCase}
@@ -47,9 +51,9 @@ use Rattle.ir_grammar.specs.declared.written.WrittenReturn.TheVariants.{Void, Va
 use Rattle.ir_grammar.specs.declared.written.WrittenFunction.{WrittenFunction}
 use Rattle.ir_numbering.specs.declared.numbering.NamedParameter.{NamedParameter}
 use Rattle.ir_numbering.specs.Places.{place_or}
-use Rattle.ir_numbering.specs.Mentions.{Mention, nameless, mention, mention_at, local_name, operand_mention, typed_mentions, inst_mentions, returned_mentions, entry_mentions, phi_mentions, case_mentions, terminator_mentions, body_mentions, block_mentions, parameter_mentions, names_written}
+use Rattle.ir_numbering.specs.Mentions.{Mention, nameless, mention, mention_at, local_name, operand_mention, typed_mentions, index_mentions, inst_mentions, returned_mentions, entry_mentions, phi_mentions, case_mentions, terminator_mentions, body_mentions, block_mentions, parameter_mentions, names_written}
 use Rattle.ir_numbering.specs.Laws.{name_at}
-use Rattle.ir_numbering.specs.Numbering.{Numbered, so, ◌>>=◌, value_in, typed_in, binary_in, icmp_in, cast_in, select_in, freeze_in, inst_in, returned_in, parameter_in, each_in, entry_in, phi_in, case_in, branch_in, cond_branch_in, switch_in, terminator_in, block_in, labelled_in, blocks_in, parts_in, function_of, named, named_behind, entry_name, numbered}
+use Rattle.ir_numbering.specs.Numbering.{Numbered, so, ◌>>=◌, value_in, typed_in, binary_in, icmp_in, cast_in, select_in, freeze_in, alloca_in, load_in, store_in, index_in, gep_in, inst_in, returned_in, parameter_in, each_in, entry_in, phi_in, case_in, branch_in, cond_branch_in, switch_in, terminator_in, block_in, labelled_in, blocks_in, parts_in, function_of, named, named_behind, entry_name, numbered}
 use Rattle.ir_numbering.proofs.NumberOf.{joins}
 use Rattle.ir_numbering.proofs.MentionPlaces.{places-written}
 
@@ -125,6 +129,10 @@ value-sound names after (written.Literal number) o type e =
     let is : operand.Number number ≡ o = cc e in
     let left : names ≡ after = cc e in
     subst (λ (x : Operand). Sound names after (operand_site type x ∷ []) (None ∷ [])) is (subst (λ (ns : List Name). Sound names ns (Written true ∷ []) (None ∷ [])) left (written-sound names true))
+value-sound names after written.Null o type e =
+    let is : operand.Null ≡ o = cc e in
+    let left : names ≡ after = cc e in
+    subst (λ (x : Operand). Sound names after (operand_site type x ∷ []) (None ∷ [])) is (subst (λ (ns : List Name). Sound names ns (Written true ∷ []) (None ∷ [])) left (written-sound names true))
 value-sound names after written.Poison o type e =
     let is : operand.Poison ≡ o = cc e in
     let left : names ≡ after = cc e in
@@ -148,10 +156,10 @@ typed-part : (names after : List Name) (t : WrittenTyped) (o : TypedOperand) (fi
 unfolding typed_in
 typed-part names after t o fits e =
     let V = then-so (value_in names t.operand.value) _ o after e in
-    let is : (let x : TypedOperand = record { of_type = Int t.of_type.width; operand = V.value } in x) ≡ o = cc V.later in
+    let is : (let x : TypedOperand = record { of_type = t.of_type.of_type; operand = V.value } in x) ≡ o = cc V.later in
     let left : V.mid ≡ after = cc V.later in
     subst (λ (x : TypedOperand). IsPart names after (typed_sites fits x) (typed_mentions t)) is
-    (then-sound names names after (Written fits ∷ []) (operand_site (Int t.of_type.width) V.value ∷ []) (written-sound names fits) (value-sound names after t.operand.value V.value (Int t.of_type.width) (V.first ∙ ap (λ (ns : List Name). so V.value ns) left)))
+    (then-sound names names after (Written fits ∷ []) (operand_site t.of_type.of_type V.value ∷ []) (written-sound names fits) (value-sound names after t.operand.value V.value t.of_type.of_type (V.first ∙ ap (λ (ns : List Name). so V.value ns) left)))
 
 two-part : (names after : List Name) (result : Option IrType) (into : WrittenName) (type : IrType) (l r : Operand) (left right : WrittenOperand) (mid : List Name) (at : Place)
     → value_in (with_name names into.name) left.value ≡ so l mid → value_in mid right.value ≡ so r after → IsPart names after (Defines result (number_of names into.name) ∷ Written true ∷ operand_site type l ∷ operand_site type r ∷ []) (mention into ∷ nameless at ∷ operand_mention left ∷ operand_mention right ∷ [])
@@ -161,8 +169,34 @@ two-part names after result into type l r left right mid at e f =
     (then-sound before before after (Written true ∷ []) (operand_site type l ∷ operand_site type r ∷ []) (written-sound before true)
     (then-sound before mid after (operand_site type l ∷ []) (operand_site type r ∷ []) (value-sound before mid left.value l type e) (value-sound mid after right.value r type f)))
 
+index-part : (enters : Bool) (names : List Name) (w : WrittenIndex) (x : GepIndex) (after : List Name) → index_in names w ≡ so x after → IsPart names after (index_sites enters x) (index_mentions w)
+unfolding index_in
+index-part enters names w x after e =
+    let type : IrType = Int w.of_type.width in
+    let V = then-so (value_in names w.operand.value) _ x after e in
+    let is : (let y : GepIndex = record { width = w.of_type.width; operand = V.value } in y) ≡ x = cc V.later in
+    let end : V.mid ≡ after = cc V.later in
+    subst (λ (y : GepIndex). IsPart names after (index_sites enters y) (index_mentions w)) is
+    (then-sound names names after (Written true ∷ []) _ (written-sound names true)
+    (then-sound names after after (operand_site type V.value ∷ []) _ (value-sound names after w.operand.value V.value type (V.first ∙ ap (λ (ns : List Name). so V.value ns) end)) (written-sound after enters)))
+
+indices-part : (arrays n : ℕ) (items : List WrittenIndex) (names : List Name) (xs : List GepIndex) (after : List Name) → each_in index_in names items ≡ so xs after → IsPart names after (indices_sites arrays n xs) (flat_map index_mentions items)
+indices-part arrays n [] names xs after e =
+    let is : [] ≡ xs = cc e in
+    let end : names ≡ after = cc e in
+    subst (λ (ys : List GepIndex). IsPart names after (indices_sites arrays n ys) []) is (subst (λ (ns : List Name). IsPart names ns [] []) end (none-sound names))
+indices-part arrays n (w ∷ items) names xs after e =
+    let F = then-so (index_in names w) _ xs after e in
+    let M = then-so (each_in index_in F.mid items) _ xs after F.later in
+    let is : F.value ∷ M.value ≡ xs = cc M.later in
+    let end : M.mid ≡ after = cc M.later in
+    let P = index-part (nat_le n arrays) names w F.value F.mid F.first in
+    let Q = indices-part arrays (n + 1) items F.mid M.value after (M.first ∙ ap (λ (ns : List Name). so M.value ns) end) in
+    subst (λ (ys : List GepIndex). IsPart names after (indices_sites arrays n ys) (flat_map index_mentions (w ∷ items))) is
+    (then-part names F.mid after (index_sites (nat_le n arrays) F.value) (indices_sites arrays (n + 1) M.value) (index_mentions w) (flat_map index_mentions items) P Q)
+
 inst-part : (names : List Name) (i : WrittenInst) (x : Inst) (after : List Name) → inst_in names i ≡ so x after → IsPart names after (inst_sites x) (inst_mentions i)
-unfolding binary_in icmp_in cast_in select_in freeze_in
+unfolding binary_in icmp_in cast_in select_in freeze_in alloca_in load_in store_in gep_in
 inst-part names (line.Binary into op type left right) x after e =
     let L = then-so (value_in (with_name names into.name) left.value) _ x after e in
     let R = then-so (value_in L.mid right.value) _ x after L.later in
@@ -202,12 +236,51 @@ inst-part names (line.Select into bit condition if_true if_false) x after e =
     (then-sound C.mid T.mid after (typed_sites true T.value) _ P Q))))
 inst-part names (line.Freeze into value) x after e =
     let V = then-so (value_in (with_name names into.name) value.operand.value) _ x after e in
-    let is : inst.Freeze (number_of names into.name) (Int value.of_type.width) V.value ≡ x = cc V.later in
+    let is : inst.Freeze (number_of names into.name) value.of_type.of_type V.value ≡ x = cc V.later in
     let end : V.mid ≡ after = cc V.later in
     let before = with_name names into.name in
     subst (λ (y : Inst). IsPart names after (inst_sites y) (mention into ∷ typed_mentions value)) is
-    (then-sound names before after (Defines (Some (Int value.of_type.width)) (number_of names into.name) ∷ []) _ (defines-sound names (Some (Int value.of_type.width)) into.name)
-    (then-sound before before after (Written true ∷ []) _ (written-sound before true) (value-sound before after value.operand.value V.value (Int value.of_type.width) (V.first ∙ ap (λ (ns : List Name). so V.value ns) end))))
+    (then-sound names before after (Defines (Some value.of_type.of_type) (number_of names into.name) ∷ []) _ (defines-sound names (Some value.of_type.of_type) into.name)
+    (then-sound before before after (Written true ∷ []) _ (written-sound before true) (value-sound before after value.operand.value V.value value.of_type.of_type (V.first ∙ ap (λ (ns : List Name). so V.value ns) end))))
+inst-part names (line.Access (access.Alloca into number type) align) x after e =
+    let is : inst.Alloca (number_of names into.name) number type.of_type align ≡ x = cc e in
+    let end : with_name names into.name ≡ after = cc e in
+    let before = with_name names into.name in
+    subst (λ (y : Inst). IsPart names after (inst_sites y) (mention into ∷ nameless type.at ∷ [])) is
+    (subst (λ (ns : List Name). IsPart names ns (Defines (Some Ptr) (number_of names into.name) ∷ Written true ∷ []) (mention into ∷ nameless type.at ∷ [])) end
+    (then-sound names before before (Defines (Some Ptr) (number_of names into.name) ∷ []) _ (defines-sound names (Some Ptr) into.name) (written-sound before true)))
+inst-part names (line.Access (access.Load into type from) align) x after e =
+    let before = with_name names into.name in
+    let V = then-so (value_in before from.operand.value) _ x after e in
+    let is : inst.Load (number_of names into.name) type.of_type V.value align ≡ x = cc V.later in
+    let end : V.mid ≡ after = cc V.later in
+    subst (λ (y : Inst). IsPart names after (inst_sites y) (mention into ∷ nameless type.at ∷ typed_mentions from)) is
+    (then-sound names before after (Defines (Some type.of_type) (number_of names into.name) ∷ []) _ (defines-sound names (Some type.of_type) into.name)
+    (then-sound before before after (Written true ∷ []) _ (written-sound before true)
+    (then-sound before before after (Written true ∷ []) _ (written-sound before true) (value-sound before after from.operand.value V.value Ptr (V.first ∙ ap (λ (ns : List Name). so V.value ns) end)))))
+inst-part names (line.Access (access.Store value to) align) x after e =
+    let T = then-so (typed_in names value) _ x after e in
+    let V = then-so (value_in T.mid to.operand.value) _ x after T.later in
+    let is : inst.Store T.value V.value align ≡ x = cc V.later in
+    let end : V.mid ≡ after = cc V.later in
+    subst (λ (y : Inst). IsPart names after (inst_sites y) (typed_mentions value ++ typed_mentions to)) is
+    (then-part names T.mid after (typed_sites true T.value) (Written true ∷ operand_site Ptr V.value ∷ []) (typed_mentions value) (typed_mentions to) (typed-part names T.mid value T.value true T.first)
+    (then-sound T.mid T.mid after (Written true ∷ []) _ (written-sound T.mid true) (value-sound T.mid after to.operand.value V.value Ptr (V.first ∙ ap (λ (ns : List Name). so V.value ns) end))))
+inst-part names (line.GetElementPtr g) x after e =
+    let before = with_name names g.into.name in
+    let V = then-so (value_in before g.base.operand.value) _ x after e in
+    let I = then-so (each_in index_in V.mid g.indices) _ x after V.later in
+    let is : inst.GetElementPtr (number_of names g.into.name) g.flags.inbounds g.flags.nuw g.of_type.of_type V.value I.value ≡ x = cc I.later in
+    let end : I.mid ≡ after = cc I.later in
+    let arrays = length g.of_type.of_type.lengths in
+    let indices = indices-part arrays 0 g.indices V.mid I.value after (I.first ∙ ap (λ (ns : List Name). so I.value ns) end) in
+    let first : List Site = Defines (Some Ptr) (number_of names g.into.name) ∷ Written true ∷ Written true ∷ operand_site Ptr V.value ∷ [] in
+    let written_first : List Mention = mention g.into ∷ nameless g.of_type.at ∷ typed_mentions g.base in
+    let head : IsPart names V.mid first written_first = then-sound names before V.mid (Defines (Some Ptr) (number_of names g.into.name) ∷ []) _ (defines-sound names (Some Ptr) g.into.name)
+    (then-sound before before V.mid (Written true ∷ []) _ (written-sound before true)
+    (then-sound before before V.mid (Written true ∷ []) _ (written-sound before true) (value-sound before V.mid g.base.operand.value V.value Ptr V.first))) in
+    subst (λ (y : Inst). IsPart names after (inst_sites y) (written_first ++ flat_map index_mentions g.indices)) is
+    (then-part names V.mid after first (indices_sites arrays 0 I.value) written_first (flat_map index_mentions g.indices) head indices)
 
 returned-part : (names : List Name) (header : Option IrType) (r : WrittenReturn) (x : Terminator) (after : List Name) → returned_in names r ≡ so x after → IsPart names after (terminator_sites header x) (returned_mentions r)
 unfolding returned_in
@@ -228,11 +301,11 @@ two_mentions at p = nameless at ∷ mention_at at p.name ∷ []
 parameter-part : (at : Place) (names : List Name) (p : NamedParameter) (x : Parameter) (after : List Name) → parameter_in names p ≡ so x after → IsPart names after (parameter_sites x) (two_mentions at p)
 unfolding parameter_in
 parameter-part at names p x after e =
-    let is : (let y : Parameter = record { of_type = Int p.width; no_undef = p.no_undef; non_null = false; name = number_of names p.name } in y) ≡ x = cc e in
+    let is : (let y : Parameter = record { of_type = p.of_type; no_undef = p.no_undef; non_null = p.non_null; name = number_of names p.name } in y) ≡ x = cc e in
     let end : with_name names p.name ≡ after = cc e in
     subst (λ (y : Parameter). IsPart names after (parameter_sites y) (two_mentions at p)) is
-    (subst (λ (ns : List Name). IsPart names ns (Written true ∷ Defines (Some (Int p.width)) (number_of names p.name) ∷ []) (two_mentions at p)) end
-    (then-sound names names (with_name names p.name) (Written true ∷ []) _ (written-sound names true) (defines-sound names (Some (Int p.width)) p.name)))
+    (subst (λ (ns : List Name). IsPart names ns (Written true ∷ Defines (Some p.of_type) (number_of names p.name) ∷ []) (two_mentions at p)) end
+    (then-sound names names (with_name names p.name) (Written true ∷ []) _ (written-sound names true) (defines-sound names (Some p.of_type) p.name)))
 
 -- parts one after another
 each-part : {A B : Type 0} (one : List Name → A → Numbered B) (sites_of : B → List Site) (mentions : A → List Mention) → ((names : List Name) (a : A) (b : B) (after : List Name) → one names a ≡ so b after → IsPart names after (sites_of b) (mentions a))
@@ -266,7 +339,7 @@ entry-part type names w x after e =
 phi-part : (names : List Name) (w : WrittenPhi) (x : Phi) (after : List Name) → phi_in names w ≡ so x after → IsPart names after (phi_sites x) (phi_mentions w)
 unfolding phi_in
 phi-part names w x after e =
-    let type : IrType = Int w.of_type.width in
+    let type : IrType = w.of_type.of_type in
     let before = with_name names w.into.name in
     let E = then-so (each_in entry_in before w.entries) _ x after e in
     let is : (let y : Phi = record { into = number_of names w.into.name; of_type = type; entries = E.value } in y) ≡ x = cc E.later in

@@ -10,6 +10,9 @@ use Rattle.ir_grammar.specs.declared.written.WrittenTyped.{WrittenTyped}
 use Rattle.ir_grammar.specs.declared.written.WrittenParameter.{WrittenParameter}
 use Rattle.ir_grammar.specs.declared.written.WrittenInst.{WrittenInst}
 use Rattle.ir_grammar.specs.declared.written.WrittenInst.TheVariants as line
+use Rattle.ir_grammar.specs.declared.written.WrittenAccess.{WrittenAccess}
+use Rattle.ir_grammar.specs.declared.written.WrittenAccess.TheVariants as access
+use Rattle.ir_grammar.specs.declared.written.WrittenIndex.{WrittenIndex}
 use Rattle.ir_grammar.specs.declared.written.WrittenReturn.{WrittenReturn}
 use Rattle.ir_grammar.specs.declared.written.WrittenReturn.TheVariants.{Void, Value}
 use Rattle.ir_grammar.specs.declared.written.WrittenEntry.{WrittenEntry}
@@ -42,6 +45,7 @@ mention_at place n = record { at = place; name = Some n }
 abbrev pub local_name : WrittenValue → Option Name
 local_name (written.Local name) = Some name
 local_name (written.Literal number) = None
+local_name written.Null = None
 local_name written.Poison = None
 local_name written.Undef = None
 
@@ -51,6 +55,15 @@ operand_mention o = record { at = o.at; name = local_name o.value }
 abbrev pub typed_mentions : WrittenTyped → List Mention
 typed_mentions t = nameless t.of_type.at ∷ operand_mention t.operand ∷ []
 
+abbrev pub access_mentions : WrittenAccess → List Mention
+access_mentions (access.Alloca into number type) = mention into ∷ nameless type.at ∷ []
+access_mentions (access.Load into type from) = mention into ∷ nameless type.at ∷ typed_mentions from
+access_mentions (access.Store value to) = typed_mentions value ++ typed_mentions to
+
+-- the type, the operand, and its place again
+abbrev pub index_mentions : WrittenIndex → List Mention
+index_mentions i = nameless i.of_type.at ∷ operand_mention i.operand ∷ nameless i.operand.at ∷ []
+
 -- the result, and then types and operands as they are written
 abbrev pub inst_mentions : WrittenInst → List Mention
 inst_mentions (line.Binary into op type left right) = mention into ∷ nameless type.at ∷ operand_mention left ∷ operand_mention right ∷ []
@@ -58,6 +71,8 @@ inst_mentions (line.Icmp into predicate same_sign type left right) = mention int
 inst_mentions (line.Cast into cast from value to) = mention into ∷ nameless from.at ∷ operand_mention value ∷ nameless to.at ∷ []
 inst_mentions (line.Select into bit condition if_true if_false) = mention into ∷ nameless bit ∷ operand_mention condition ∷ (typed_mentions if_true ++ typed_mentions if_false)
 inst_mentions (line.Freeze into value) = mention into ∷ typed_mentions value
+inst_mentions (line.Access a align) = access_mentions a
+inst_mentions (line.GetElementPtr g) = mention g.into ∷ nameless g.of_type.at ∷ (typed_mentions g.base ++ flat_map index_mentions g.indices)
 
 abbrev pub returned_mentions : WrittenReturn → List Mention
 returned_mentions (Void at) = nameless at ∷ []

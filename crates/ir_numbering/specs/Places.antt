@@ -6,6 +6,9 @@ use Rattle.ir_grammar.specs.declared.written.WrittenTyped.{WrittenTyped}
 use Rattle.ir_grammar.specs.declared.written.WrittenParameter.{WrittenParameter}
 use Rattle.ir_grammar.specs.declared.written.WrittenInst.{WrittenInst}
 use Rattle.ir_grammar.specs.declared.written.WrittenInst.TheVariants as line
+use Rattle.ir_grammar.specs.declared.written.WrittenAccess.{WrittenAccess}
+use Rattle.ir_grammar.specs.declared.written.WrittenAccess.TheVariants as access
+use Rattle.ir_grammar.specs.declared.written.WrittenIndex.{WrittenIndex}
 use Rattle.ir_grammar.specs.declared.written.WrittenReturn.{WrittenReturn}
 use Rattle.ir_grammar.specs.declared.written.WrittenReturn.TheVariants.{Void, Value}
 use Rattle.ir_grammar.specs.declared.written.WrittenEntry.{WrittenEntry}
@@ -25,6 +28,15 @@ place_or (Some name) other = name.at
 abbrev pub typed_places : WrittenTyped → List Place
 typed_places t = t.of_type.at ∷ t.operand.at ∷ []
 
+abbrev pub access_places : WrittenAccess → List Place
+access_places (access.Alloca into number type) = into.at ∷ type.at ∷ []
+access_places (access.Load into type from) = into.at ∷ type.at ∷ typed_places from
+access_places (access.Store value to) = typed_places value ++ typed_places to
+
+-- the type, the operand, and again the operand, which is where an index that goes into no array is told
+abbrev pub index_places : WrittenIndex → List Place
+index_places i = i.of_type.at ∷ i.operand.at ∷ i.operand.at ∷ []
+
 -- the result, and then types and operands as they are written
 abbrev pub inst_places : WrittenInst → List Place
 inst_places (line.Binary into op type left right) = into.at ∷ type.at ∷ left.at ∷ right.at ∷ []
@@ -32,6 +44,8 @@ inst_places (line.Icmp into predicate same_sign type left right) = into.at ∷ t
 inst_places (line.Cast into cast from value to) = into.at ∷ from.at ∷ value.at ∷ to.at ∷ []
 inst_places (line.Select into bit condition if_true if_false) = into.at ∷ bit ∷ condition.at ∷ (typed_places if_true ++ typed_places if_false)
 inst_places (line.Freeze into value) = into.at ∷ typed_places value
+inst_places (line.Access a align) = access_places a
+inst_places (line.GetElementPtr g) = g.into.at ∷ g.of_type.at ∷ (typed_places g.base ++ flat_map index_places g.indices)
 
 abbrev pub returned_places : WrittenReturn → List Place
 returned_places (Void at) = at ∷ []

@@ -8,7 +8,7 @@ use ir_grammar::{
     WrittenBlock, WrittenBody, WrittenCase, WrittenEntry, WrittenPhi, WrittenReturn,
     WrittenTerminator, WrittenValue,
 };
-use ir_tree::{Block, Case, IrType, Name, Names, Phi, PhiEntry, Terminator};
+use ir_tree::{Block, Case, Name, Names, Phi, PhiEntry, Terminator};
 use std::alloc::Global;
 use support::{NoMemory, Sequence};
 use tv_num::Width;
@@ -50,7 +50,7 @@ fn phi(alloc: Global, names: &mut Names, phi: WrittenPhi) -> Result<Phi, NoMemor
     let entries = entries(alloc, names, written)?;
     Ok(Phi {
         into,
-        of_type: IrType::Int(of_type.width),
+        of_type: of_type.of_type,
         entries,
     })
 }

@@ -10,6 +10,7 @@
 mod block_numbering;
 mod entry_name;
 mod laws;
+mod memory_numbering;
 mod numbering;
 mod places;
 

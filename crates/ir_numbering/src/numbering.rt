@@ -7,10 +7,11 @@ ghost use Rattle.ir_numbering.specs.Numbering.{each_in, parameter_in, inst_in};
 
 use crate::block_numbering::blocks;
 use crate::entry_name::next_name;
+use crate::memory_numbering::{access, gep};
 use crate::places::places_of;
 use ir_grammar::{
-    WrittenBlock, WrittenBody, WrittenFunction, WrittenInst, WrittenName, WrittenOperand,
-    WrittenParameter, WrittenType, WrittenTyped, WrittenValue,
+    WrittenBlock, WrittenBody, WrittenFunction, WrittenInst, WrittenIntType, WrittenName,
+    WrittenOperand, WrittenParameter, WrittenTyped, WrittenValue,
 };
 use ir_tree::{
     Block, Cast, Function, Inst, IrType, Name, Names, Op, Operand, Parameter, Predicate,
@@ -23,8 +24,9 @@ use tv_num::Width;
 /// A parameter whose name is known, written or not.
 #[derive(Drop)]
 pub struct NamedParameter {
-    pub width: Width,
+    pub of_type: IrType,
     pub no_undef: bool,
+    pub non_null: bool,
     pub name: Name,
 }
 
@@ -52,12 +54,14 @@ fn named(
     let WrittenParameter {
         of_type,
         no_undef,
+        non_null,
         name,
     } = parameter;
     let name = name_or_next(alloc, name, before)?;
     Ok(NamedParameter {
-        width: of_type.width,
+        of_type: of_type.of_type,
         no_undef,
+        non_null,
         name,
     })
 }
@@ -91,6 +95,7 @@ pub fn value(names: &mut Names, value: WrittenValue) -> Result<Operand, NoMemory
     match value {
         WrittenValue::Local(name) => Ok(Operand::Local(number(names, name)?)),
         WrittenValue::Literal(number) => Ok(Operand::Number(number)),
+        WrittenValue::Null => Ok(Operand::Null),
         WrittenValue::Poison => Ok(Operand::Poison),
         WrittenValue::Undef => Ok(Operand::Undef),
     }
@@ -104,7 +109,7 @@ pub fn typed(names: &mut Names, typed: WrittenTyped) -> Result<TypedOperand, NoM
     let WrittenTyped { of_type, operand } = typed;
     let operand = value(names, operand.value)?;
     Ok(TypedOperand {
-        of_type: IrType::Int(of_type.width),
+        of_type: of_type.of_type,
         operand,
     })
 }
@@ -138,7 +143,7 @@ fn icmp(
     into: Name,
     predicate: Predicate,
     same_sign: bool,
-    of_type: WrittenType,
+    of_type: WrittenIntType,
     left: WrittenOperand,
     right: WrittenOperand,
 ) -> Result<Inst, NoMemory>
@@ -205,21 +210,21 @@ fn select(
 fn freeze(
     names: &mut Names,
     into: Name,
-    width: Width,
+    of_type: IrType,
     operand: WrittenValue,
 ) -> Result<Inst, NoMemory>
-    ensures { Numbers result names.new (spec.freeze_in names.old into width operand) }
+    ensures { Numbers result names.new (spec.freeze_in names.old into of_type operand) }
 {
     let into = number(names, into)?;
     let operand = value(names, operand)?;
     Ok(Inst::Freeze {
         into,
-        of_type: IrType::Int(width),
+        of_type,
         operand,
     })
 }
 
-fn inst(names: &mut Names, inst: WrittenInst) -> Result<Inst, NoMemory>
+fn inst(alloc: Global, names: &mut Names, inst: WrittenInst) -> Result<Inst, NoMemory>
     ensures { Numbers result names.new (inst_in names.old inst) }
 {
     match inst {
@@ -254,8 +259,13 @@ fn inst(names: &mut Names, inst: WrittenInst) -> Result<Inst, NoMemory>
         } => select(names, into.name, condition.value, if_true, if_false),
         WrittenInst::Freeze { into, value } => {
             let WrittenTyped { of_type, operand } = value;
-            freeze(names, into.name, of_type.width, operand.value)
+            freeze(names, into.name, of_type.of_type, operand.value)
         }
+        WrittenInst::Access {
+            access: written,
+            align,
+        } => access(names, written, align),
+        WrittenInst::GetElementPtr(written) => gep(alloc, names, written),
     }
 }
 
@@ -264,15 +274,16 @@ fn parameter(names: &mut Names, parameter: NamedParameter) -> Result<Parameter, 
     ensures { Numbers result names.new (parameter_in names.old parameter) }
 {
     let NamedParameter {
-        width,
+        of_type,
         no_undef,
+        non_null,
         name,
     } = parameter;
     let name = number(names, name)?;
     Ok(Parameter {
-        of_type: IrType::Int(width),
+        of_type,
         no_undef,
-        non_null: false,
+        non_null,
         name,
     })
 }
@@ -301,7 +312,7 @@ pub fn insts(
 {
     let mut numbered = Vec::new(alloc);
     for one in insts.into_vec() {
-        numbered.push(inst(names, one)?)?;
+        numbered.push(inst(alloc, names, one)?)?;
     }
     Ok(Sequence::from_vec(numbered))
 }
@@ -320,15 +331,6 @@ fn parts(
     let parameters = parameters(alloc, &mut names, named)?;
     let blocks = blocks(alloc, &mut names, label, entry, others)?;
     Ok(((parameters, blocks), names))
-}
-
-fn type_or_void(width: Option<Width>) -> Option<IrType>
-    ensures { result ≡ spec.type_or_void width }
-{
-    match width {
-        Some(width) => Some(IrType::Int(width)),
-        None => None,
-    }
 }
 
 /// The function with its names numbered and the places of its sites.
@@ -352,7 +354,7 @@ pub fn numbered(alloc: Global, written: WrittenFunction) -> Result<Function, NoM
     let ((parameters, blocks), names) = parts(alloc, named, label, entry, others)?;
     Ok(Function {
         name: name.name,
-        returns: type_or_void(returns.width),
+        returns: returns.of_type,
         returns_no_undef,
         parameters,
         blocks,

@@ -1,11 +1,12 @@
 // Where the types, names, literals and labels of a function stand.
 ghost use Rattle.std.specs.Prelude.{◌≡◌, ◌++◌, ◌∷◌, [], flat_map, IfOk, OnOk};
 ghost use Rattle.ir_numbering.specs.Places as spec;
-ghost use Rattle.ir_numbering.specs.Places.{typed_places, inst_places, parameter_places, returned_places, entry_places, phi_places, case_places, terminator_places, body_places, block_places};
+ghost use Rattle.ir_numbering.specs.Places.{typed_places, access_places, index_places, inst_places, parameter_places, returned_places, entry_places, phi_places, case_places, terminator_places, body_places, block_places};
 
 use ir_grammar::{
-    WrittenBlock, WrittenBody, WrittenCase, WrittenEntry, WrittenFunction, WrittenInst,
-    WrittenName, WrittenParameter, WrittenPhi, WrittenReturn, WrittenTerminator, WrittenTyped,
+    WrittenAccess, WrittenBlock, WrittenBody, WrittenCase, WrittenEntry, WrittenFunction,
+    WrittenGep, WrittenIndex, WrittenInst, WrittenName, WrittenParameter, WrittenPhi,
+    WrittenReturn, WrittenTerminator, WrittenTyped,
 };
 use std::alloc::Global;
 use support::{NoMemory, Sequence};
@@ -91,6 +92,58 @@ fn add_freeze(
     add_typed(places, value)
 }
 
+fn add_access(places: &mut Sequence<Place>, access: &WrittenAccess) -> Result<(), NoMemory>
+    ensures { OnOk result (places.new ≡ places.old ++ access_places access.now) }
+{
+    match access {
+        WrittenAccess::Alloca {
+            into,
+            number: _,
+            of_type,
+        } => add_two(places, into.at, of_type.at),
+        WrittenAccess::Load {
+            into,
+            of_type,
+            pointer,
+        } => add_four(
+            places,
+            into.at,
+            of_type.at,
+            pointer.of_type.at,
+            pointer.operand.at,
+        ),
+        WrittenAccess::Store { value, pointer } => add_four(
+            places,
+            value.of_type.at,
+            value.operand.at,
+            pointer.of_type.at,
+            pointer.operand.at,
+        ),
+    }
+}
+
+fn add_indices(places: &mut Sequence<Place>, indices: &[WrittenIndex]) -> Result<(), NoMemory>
+    ensures { OnOk result (places.new ≡ places.old ++ flat_map index_places indices.now) }
+{
+    for index in indices {
+        add_three(places, index.of_type.at, index.operand.at, index.operand.at)?;
+    }
+    Ok(())
+}
+
+fn add_gep(places: &mut Sequence<Place>, gep: &WrittenGep) -> Result<(), NoMemory>
+    ensures { OnOk result (places.new ≡ places.old ++ (gep.now.into.at ∷ gep.now.of_type.at ∷ (typed_places gep.now.base ++ flat_map index_places gep.now.indices))) }
+{
+    add_four(
+        places,
+        gep.into.at,
+        gep.of_type.at,
+        gep.base.of_type.at,
+        gep.base.operand.at,
+    )?;
+    add_indices(places, gep.indices.as_slice())
+}
+
 fn add_inst(places: &mut Sequence<Place>, inst: &WrittenInst) -> Result<(), NoMemory>
     ensures { OnOk result (places.new ≡ places.old ++ inst_places inst.now) }
 {
@@ -125,6 +178,8 @@ fn add_inst(places: &mut Sequence<Place>, inst: &WrittenInst) -> Result<(), NoMe
             if_false,
         } => add_select(places, into.at, *bit, condition.at, if_true, if_false),
         WrittenInst::Freeze { into, value } => add_freeze(places, into.at, value),
+        WrittenInst::Access { access, align: _ } => add_access(places, access),
+        WrittenInst::GetElementPtr(gep) => add_gep(places, gep),
     }
 }
 

@@ -1,4 +1,5 @@
-pub mod Integers
+pub mod Objects
+pub mod Spelled
 pub mod Limits
 pub mod Answers
 pub mod OneFunction

@@ -1,6 +1,7 @@
 -- What is spelled keeps the limits of a function.
 use Rattle.std.proofs.Common.{◌≡◌, ℕ, zero, suc, ◌+◌, ◌-◌, ◌<◌, ◌≤◌, Bool, true, false, ltb, cond, List, [], ◌∷◌, ◌++◌, length, Option, Some, None, sym, subst, ap, ◌∙◌, refl, inl, inr, arith}
-use Rattle.std.specs.Prelude.{◌&&◌, ◌||◌, not, Result, Ok}
+use Rattle.std.specs.Prelude.{◌&&◌, ◌||◌, not, codes, Result, Ok}
+use Rattle.std.specs.Str.{bytes_eq}
 use Rattle.std.specs.List.{All, AllByRecursion, sum_by}
 use Rattle.std.proofs.lemmas.Bool.{ltb-true}
 use Rattle.std.proofs.lemmas.List.{length-append}
@@ -12,12 +13,10 @@ use Rattle.ir_lexer.specs.declared.token.Kind.TheVariants as kind
 use Rattle.ir_items.specs.declared.item.Define.{Define}
 use Rattle.ir_items.specs.Names.{name_in}
 use Rattle.ir_tree.specs.Limits.{instructions_of, cases_in, HasFewCases, HasFewEntries}
-use Rattle.ir_tree.specs.Pointers.{AreIntegers, IsBlockOnIntegers}
 use Rattle.ir_tree.specs.Names.{with_name, number_of}
 use Rattle.ir_tree.specs.declared.module.Entry.{Entry}
 use Rattle.ir_tree.specs.declared.module.Refused.{Refused}
 use Rattle.ir_tree.specs.declared.name.Name.{Name}
-use Rattle.ir_tree.specs.declared.tree.IrType.TheVariants.{Int}
 use Rattle.ir_tree.specs.declared.tree.Phi.{Phi}
 use Rattle.ir_tree.specs.declared.tree.Terminator.{Terminator}
 use Rattle.ir_tree.specs.declared.tree.Terminator.TheVariants.{Return, Branch, CondBranch, Switch, Unreachable}
@@ -37,6 +36,8 @@ use Rattle.ir_grammar.specs.declared.written.WrittenParameter.{WrittenParameter}
 use Rattle.ir_grammar.specs.declared.written.WrittenParameters.{WrittenParameters}
 use Rattle.ir_grammar.specs.declared.written.WrittenName.{WrittenName}
 use Rattle.ir_grammar.specs.declared.written.WrittenPhi.{WrittenPhi}
+use Rattle.ir_grammar.specs.declared.written.WrittenInst.{WrittenInst}
+use Rattle.ir_grammar.specs.declared.written.WrittenInst.TheVariants as inst
 use Rattle.ir_grammar.specs.declared.written.WrittenLine.{WrittenLine}
 use Rattle.ir_grammar.specs.declared.written.WrittenLines.{WrittenLines}
 use Rattle.ir_grammar.specs.declared.written.WrittenCase.{WrittenCase}
@@ -51,15 +52,17 @@ use Rattle.ir_grammar.specs.declared.written.WrittenReturn.TheVariants.{Void, Va
 use Rattle.ir_numbering.specs.declared.numbering.NamedParameter.{NamedParameter}
 use Rattle.ir_grammar.specs.Classes.{any}
 use Rattle.ir_grammar.specs.Spelling.{named_at, label_line, is_record, line_start}
-use Rattle.ir_grammar.specs.Instructions.{inst_line, phi, line_by, line_named, entry_or_attachment, next_entry, phi_number}
-use Rattle.ir_grammar.specs.Grammar.{follows_parameter, parameter_begins, with_part, parameter_parts, first_parameter, parameters, is_comma, is_local_kind, starts_line, line_begins, line_within, started, line_comma, with_comma, whole_line, with_line, next_line, lines, is_type, case_begins, case_within, with_case, cases, branch, branch_to, cond_branch, switch, return_of, terminator_by, block, body_of, entry_block, begins_block, block_begins, next_block, blocks, define}
+use Rattle.ir_grammar.specs.Words.{is_word_of}
+use Rattle.ir_grammar.specs.Instructions.{inst_line, phi, alloca, load, store, gep, default_align, line_by, line_named, entry_or_attachment, next_entry, attached, align_or_attachment, aligned, index_or_attachment, next_index}
+use Rattle.ir_grammar.specs.Grammar.{follows_parameter, parameter_begins, with_part, parameter_parts, first_parameter, parameters, is_comma, is_local_kind, starts_line, line_begins, line_within, next_number, started, line_comma, with_comma, whole_line, with_phi, with_inst, with_line, next_line, lines, is_type, case_begins, case_within, with_case, cases, branch, branch_to, cond_branch, switch, return_of, terminator_by, block, body_of, entry_block, begins_block, block_begins, next_block, blocks, define}
 use Rattle.ir_numbering.specs.Numbering.{Numbered, so, each_in, parameter_in, inst_in, value_in, typed_in, entry_in, phi_in, case_in, branch_in, cond_branch_in, switch_in, terminator_in, block_in, labelled_in, blocks_in, parts_in, returned_in, function_of, named_behind, entry_name, numbered}
 use Rattle.ir_reader.specs.Functions.{IsFunction, well_formed, tested, unfit, past}
 use Rattle.ir_reader.specs.Module.{AreEntries, tokens_of}
 use Rattle.ir_tree.specs.WellFormed.{IsWellFormed}
 use Rattle.ir_reader.specs.Judgeable.{IsJudgeable, IsJudgeableEntry}
 use Rattle.ir_numbering.proofs.NumberedSites.{then-so, named-count, block_with}
-use Rattle.ir_reader.proofs.Integers.{parameters-integer, integer-or-void, block-integers, block-small}
+use Rattle.ir_reader.proofs.Objects.{IsSmallAccess, IsSmallGep, IsSmallInst, IsSmallBlock, block-small, blocks-small}
+use Rattle.ir_reader.proofs.Spelled.{memory-aligned, alignment-kept, default-aligned, alloca-small, gep-small, plain-small}
 
 and-first : (a b : Bool) → (a && b) ≡ true → a ≡ true
 and-first true b e = refl
@@ -69,6 +72,7 @@ and-first false b e = absurd (cc e)
 
 part-few : (s : WrittenParameters) (a : ParameterPart) (next : WrittenParameters) (inside behind : List Lexeme) → Spells true (with_part s a) next inside behind → length s.before < 16 → length next.before < 16
 part-few s part.NoUndef next inside behind (same, left) h = subst (λ (p : WrittenParameters). length p.before < 16) same h
+part-few s part.NonNull next inside behind (same, left) h = subst (λ (p : WrittenParameters). length p.before < 16) same h
 part-few s part.Extension next inside behind (same, left) h = subst (λ (p : WrittenParameters). length p.before < 16) same h
 part-few s (part.Name name) next inside behind (same, left) h = subst (λ (p : WrittenParameters). length p.before < 16) same h
 part-few s part.Next next inside behind (type, mid, T, (same, left)) h =
@@ -94,108 +98,173 @@ all-push P (y ∷ ys) x (first, others) h = (first, all-push P ys x others h)
 abbrev FewEntries : WrittenPhi → Type 0
 FewEntries phi = length phi.entries ≤ 16777216
 
--- what a line is that begins so, and that a phi has few entries
+-- a line that begins as an instruction is one, with few entries and small objects
+abbrev IsInstLine : WrittenLine → Type 0
+IsInstLine (line.Label name) = ⊥
+IsInstLine line.Record = ⊥
+IsInstLine (line.Entries phi) = FewEntries phi
+IsInstLine (line.Access a) = IsSmallAccess a
+IsInstLine (line.Indices g) = IsSmallGep g
+IsInstLine (line.Phi phi) = FewEntries phi
+IsInstLine (line.Inst i) = IsSmallInst i
+
+-- what a line is that begins so
 abbrev IsLineOf : LineStart → WrittenLine → Type 0
 IsLineOf (start.Label name) (line.Label other) = Unit {0}
+IsLineOf (start.Label name) _ = ⊥
 IsLineOf start.Record line.Record = Unit {0}
-IsLineOf (start.Inst name) (line.Entries phi) = FewEntries phi
-IsLineOf (start.Inst name) (line.Phi phi) = FewEntries phi
-IsLineOf (start.Inst name) (line.Inst inst) = Unit {0}
-IsLineOf _ _ = ⊥
+IsLineOf start.Record _ = ⊥
+IsLineOf (start.Inst name) l = IsInstLine l
+IsLineOf start.Store l = IsInstLine l
 
-named-of : (name : WrittenName) (w : LineWord) (l : WrittenLine) (ts rest : List Lexeme) → Spells true (line_by name w) l ts rest → IsLineOf (start.Inst name) l
-unfolding inst_line phi
-named-of name word_of.Phi l ts rest (type, m1, t1, (opening, m2, t2, (first, m3, E, (same, left)))) = subst (λ (x : WrittenLine). IsLineOf (start.Inst name) x) same (omega arith)
-named-of name (word_of.Inst o) l ts rest (i, mid, I, (same, left)) = subst (λ (x : WrittenLine). IsLineOf (start.Inst name) x) same tt
+abbrev IsInstStart : LineStart → Type 0
+IsInstStart (start.Inst name) = Unit {0}
+IsInstStart start.Store = Unit {0}
+IsInstStart (start.Label name) = ⊥
+IsInstStart start.Record = ⊥
 
-started-of : (phi_too : Bool) (a : LineStart) (l : WrittenLine) (ts rest : List Lexeme) → Spells true (started phi_too a) l ts rest → IsLineOf a l
-unfolding line_named
-started-of phi_too (start.Label name) l ts rest (same, left) = subst (λ (x : WrittenLine). IsLineOf (start.Label name) x) same tt
-started-of phi_too (start.Inst name) l ts rest (equals, m1, t1, (w, m2, t2, S)) = named-of name w l m2 rest S
-started-of phi_too start.Record l ts rest (u, mid, R, (same, left)) = subst (λ (x : WrittenLine). IsLineOf start.Record x) same tt
+line-of-inst : (a : LineStart) (l : WrittenLine) → IsInstStart a → IsInstLine l → IsLineOf a l
+line-of-inst (start.Inst name) l h small = small
+line-of-inst start.Store l h small = small
+line-of-inst (start.Label name) l h small = absurd h
+line-of-inst start.Record l h small = absurd h
 
-entry-of : (a : LineStart) (p : WrittenPhi) (next : WrittenLine) (ts rest : List Lexeme) → Spells true (entry_or_attachment p) next ts rest → IsLineOf a (line.Entries p) → IsLineOf a next
-unfolding entry_or_attachment next_entry phi_number
-entry-of (start.Inst name) p next ts rest (inl (opening, mid, T, (more, m2, E, (same, left)))) h =
+named-of : (number : ℕ) (name : WrittenName) (w : LineWord) (l : WrittenLine) (ts rest : List Lexeme) → number < 65536 → Spells true (line_by number name w) l ts rest → IsInstLine l
+unfolding inst_line phi alloca load gep
+named-of number name word_of.Phi l ts rest below (type, m1, t1, (opening, m2, t2, (first, m3, E, (same, left)))) = subst (λ (x : WrittenLine). IsInstLine x) same (omega arith)
+named-of number name word_of.Alloca l ts rest below (object, m1, O, (same, left)) = let small = alloca-small object ts m1 O in subst (λ (x : WrittenLine). IsInstLine x) same (below, small.0, small.1, small.2)
+named-of number name word_of.Load l ts rest below (type, m1, T, (comma, m2, t2, (from, m3, P, (same, left)))) = subst (λ (x : WrittenLine). IsInstLine x) same (memory-aligned T.first type T.stands_for)
+named-of number name word_of.GetElementPtr l ts rest below (object, m1, O, (comma, m2, t2, (base, m3, P, (same, left)))) = subst (λ (x : WrittenLine). IsInstLine x) same (gep-small object ts m1 O)
+named-of number name (word_of.Inst o) l ts rest below (i, mid, I, (same, left)) = subst (λ (x : WrittenLine). IsInstLine x) same (plain-small name o i ts mid I)
+
+started-of : (phi_too : Bool) (number : ℕ) (a : LineStart) (l : WrittenLine) (ts rest : List Lexeme) → (IsInstStart a → number < 65536) → Spells true (started phi_too number a) l ts rest → IsLineOf a l
+unfolding line_named store
+started-of phi_too number (start.Label name) l ts rest below (same, left) = subst (λ (x : WrittenLine). IsLineOf (start.Label name) x) same tt
+started-of phi_too number (start.Inst name) l ts rest below (equals, m1, t1, (w, m2, t2, S)) = named-of number name w l m2 rest (below tt) S
+started-of phi_too number start.Store l ts rest below (type, m1, T, (value, m2, t2, (comma, m3, t3, (to, m4, P, (same, left))))) = subst (λ (x : WrittenLine). IsInstLine x) same (memory-aligned T.first type T.stands_for)
+started-of phi_too number start.Record l ts rest below (u, mid, R, (same, left)) = subst (λ (x : WrittenLine). IsLineOf start.Record x) same tt
+
+comma-inst : (l next : WrittenLine) (ts rest : List Lexeme) → Spells true (with_comma l) next ts rest → IsInstLine l → IsInstLine next
+unfolding entry_or_attachment next_entry attached align_or_attachment aligned index_or_attachment next_index
+comma-inst (line.Label name) next ts rest S h = absurd h
+comma-inst line.Record next ts rest S h = absurd h
+comma-inst (line.Entries p) next ts rest (inl (opening, mid, T, (more, m2, E, (same, left)))) h =
     let room : length p.entries < 16777216 = ltb-true (length p.entries) 16777216 T.keeps in
-    subst (λ (x : WrittenLine). IsLineOf (start.Inst name) x) same (omega (arith, room, length-append p.entries (more ∷ [])))
-entry-of (start.Inst name) p next ts rest (inr (nothing, w, mid, T, (number, m2, N, (same, left)))) h = subst (λ (x : WrittenLine). IsLineOf (start.Inst name) x) same h
-entry-of (start.Label name) p next ts rest S h = absurd h
-entry-of start.Record p next ts rest S h = absurd h
+    subst (λ (x : WrittenLine). IsInstLine x) same (omega (arith, room, length-append p.entries (more ∷ [])))
+comma-inst (line.Entries p) next ts rest (inr (nothing, w, mid, T, (number, m2, N, (same, left)))) h = subst (λ (x : WrittenLine). IsInstLine x) same h
+comma-inst (line.Access a) next ts rest (inl (w, mid, T, (n, m2, N, (same, left)))) h = subst (λ (x : WrittenLine). IsInstLine x) same (h, alignment-kept N.first n N.stands_for N.keeps)
+comma-inst (line.Access a) next ts rest (inr (nothing, w, mid, T, (number, m2, N, (same, left)))) h = subst (λ (x : WrittenLine). IsInstLine x) same (h, default-aligned a h)
+comma-inst (line.Indices g) next ts rest (inl (type, mid, T, (value, m2, V, (same, left)))) h = subst (λ (x : WrittenLine). IsInstLine x) same h
+comma-inst (line.Indices g) next ts rest (inr (nothing, w, mid, T, (number, m2, N, (same, left)))) h = subst (λ (x : WrittenLine). IsInstLine x) same h
+comma-inst (line.Phi p) next ts rest (u, mid, A, (same, left)) h = subst (λ (x : WrittenLine). IsInstLine x) same h
+comma-inst (line.Inst i) next ts rest (u, mid, A, (same, left)) h = subst (λ (x : WrittenLine). IsInstLine x) same h
 
 comma-of : (a : LineStart) (l next : WrittenLine) (ts rest : List Lexeme) → Spells true (with_comma l) next ts rest → IsLineOf a l → IsLineOf a next
-comma-of a (line.Label name) next ts rest (same, left) h = subst (λ (x : WrittenLine). IsLineOf a x) same h
-comma-of a line.Record next ts rest (same, left) h = subst (λ (x : WrittenLine). IsLineOf a x) same h
-comma-of a (line.Entries p) next ts rest S h = entry-of a p next ts rest S h
-comma-of a (line.Phi p) next ts rest (u, mid, A, (same, left)) h = subst (λ (x : WrittenLine). IsLineOf a x) same h
-comma-of a (line.Inst inst) next ts rest (u, mid, A, (same, left)) h = subst (λ (x : WrittenLine). IsLineOf a x) same h
+comma-of (start.Inst name) l next ts rest S h = comma-inst l next ts rest S h
+comma-of start.Store l next ts rest S h = comma-inst l next ts rest S h
+comma-of (start.Label name) (line.Label other) next ts rest (same, left) h = subst (λ (x : WrittenLine). IsLineOf (start.Label name) x) same h
+comma-of start.Record line.Record next ts rest (same, left) h = subst (λ (x : WrittenLine). IsLineOf start.Record x) same h
+comma-of (start.Label name) line.Record next ts rest S h = absurd h
+comma-of (start.Label name) (line.Entries p) next ts rest S h = absurd h
+comma-of (start.Label name) (line.Access a) next ts rest S h = absurd h
+comma-of (start.Label name) (line.Indices g) next ts rest S h = absurd h
+comma-of (start.Label name) (line.Phi p) next ts rest S h = absurd h
+comma-of (start.Label name) (line.Inst i) next ts rest S h = absurd h
+comma-of start.Record (line.Label name) next ts rest S h = absurd h
+comma-of start.Record (line.Entries p) next ts rest S h = absurd h
+comma-of start.Record (line.Access a) next ts rest S h = absurd h
+comma-of start.Record (line.Indices g) next ts rest S h = absurd h
+comma-of start.Record (line.Phi p) next ts rest S h = absurd h
+comma-of start.Record (line.Inst i) next ts rest S h = absurd h
 
 commas-of : (a : LineStart) (n : ℕ) (l x : WrittenLine) (ts rest : List Lexeme) → SpellParts true is_comma line_comma (λ l'. any) (λ l' comma next inside behind. Spells true (with_comma l') next inside behind) n l x ts rest → IsLineOf a l → IsLineOf a x
 commas-of a zero l x ts rest (same, left, nothing) h = subst (λ (y : WrittenLine). IsLineOf a y) same h
 commas-of a (suc n) l x ts rest (u, inside, next, behind, T, P, more) h = commas-of a n next x behind rest more (comma-of a l next inside behind P h)
 
-line-of : (s : WrittenLines) (a : LineStart) (l : WrittenLine) (ts rest : List Lexeme) → Spells true (whole_line s a) l ts rest → IsLineOf a l
+line-of : (s : WrittenLines) (a : LineStart) (l : WrittenLine) (ts rest : List Lexeme) → (IsInstStart a → 0 < s.room) → Spells true (whole_line s a) l ts rest → IsLineOf a l
 unfolding whole_line
-line-of s a l ts rest (first, mid, S, n, P) = commas-of a n first l mid rest P (started-of _ a first ts mid S)
+line-of s a l ts rest some (first, mid, S, n, P) = commas-of a n first l mid rest P (started-of _ (next_number s) a first ts mid (λ h. let below : 65536 - s.room < 65536 = omega (arith, some h) in below) S)
 
-label-no-inst : (b is_new : Bool) (n : Option WrittenName) (name : WrittenName) → part_value b (cond is_new (label_line n) None) ≡ Some (start.Inst name) → ⊥
-label-no-inst true true (Some w) name e = cc e
-label-no-inst true true None name e = cc e
-label-no-inst true false n name e = cc e
-label-no-inst false is_new n name e = cc e
+-- ---- where an instruction begins there is room for it
 
-record-no-inst : (b is : Bool) (name : WrittenName) → part_value b (cond is (Some start.Record) None) ≡ Some (start.Inst name) → ⊥
-record-no-inst true true name e = cc e
-record-no-inst true false name e = cc e
-record-no-inst false is name e = cc e
+label-start : (b is_new : Bool) (n : Option WrittenName) (a : LineStart) → part_value b (cond is_new (label_line n) None) ≡ Some a → IsInstStart a → ⊥
+label-start true true (Some w) a e h = let same : start.Label w ≡ a = cc e in let other : IsInstStart (start.Label w) = subst IsInstStart (sym same) h in other
+label-start true true None a e h = absurd (cc e)
+label-start true false n a e h = absurd (cc e)
+label-start false is_new n a e h = absurd (cc e)
 
-nothing-no-inst : (b : Bool) (name : WrittenName) → part_value b None ≡ Some (start.Inst name) → ⊥
-nothing-no-inst true name e = cc e
-nothing-no-inst false name e = cc e
+record-start : (b is : Bool) (a : LineStart) → part_value b (cond is (Some start.Record) None) ≡ Some a → IsInstStart a → ⊥
+record-start true true a e h = let same : start.Record ≡ a = cc e in let other : IsInstStart start.Record = subst IsInstStart (sym same) h in other
+record-start true false a e h = absurd (cc e)
+record-start false is a e h = absurd (cc e)
 
--- where an instruction begins there is room for it
-room-of : (s : WrittenLines) (name : WrittenName) (t : Lexeme) → part_begins starts_line (line_begins s) t ≡ Some (start.Inst name) → line_within s t ≡ true → 0 < s.room
-room-of s name t e w = go t.kind (starts_line t) e w
+no-start : (b : Bool) (a : LineStart) → part_value b None ≡ Some a → ⊥
+no-start true a e = cc e
+no-start false a e = cc e
+
+-- a word that begins a line is store
+store-room : (b is : Bool) (room : ℕ) (a : LineStart) → part_value b (cond is (Some start.Store) None) ≡ Some a → (not (false || is) || ltb 0 room) ≡ true → 0 < room
+store-room b true room a e w = ltb-true 0 room w
+store-room b false room a e w = absurd (no-start b a e)
+
+room-of : (s : WrittenLines) (a : LineStart) (t : Lexeme) → part_begins starts_line (line_begins s) t ≡ Some a → line_within s t ≡ true → IsInstStart a → 0 < s.room
+room-of s a t e w h = go t.kind (starts_line t) e w
   where
-    go : (k : Kind) (b : Bool) → part_value b (line_start s.is_new k t.text t.place) ≡ Some (start.Inst name) → (not (is_local_kind k) || ltb 0 s.room) ≡ true → 0 < s.room
+    go : (k : Kind) (b : Bool) → part_value b (line_start s.is_new k t.text t.place) ≡ Some a → (not (is_local_kind k || is_word_of k t.text (codes "store")) || ltb 0 s.room) ≡ true → 0 < s.room
     go kind.Local b e' w' = ltb-true 0 s.room w'
-    go kind.Label b e' w' = absurd (label-no-inst b s.is_new (named_at (name_in kind.Label t.text) t.place) name e')
-    go kind.Hash b e' w' = absurd (record-no-inst b (is_record t.text) name e')
-    go _ b e' w' = absurd (nothing-no-inst b name e')
+    go kind.Word b e' w' = store-room b (bytes_eq t.text (codes "store")) s.room a e' w'
+    go kind.Label b e' w' = absurd (label-start b s.is_new (named_at (name_in kind.Label t.text) t.place) a e' h)
+    go kind.Hash b e' w' = absurd (record-start b (is_record t.text) a e' h)
+    go _ b e' w' = absurd (no-start b a e')
 
 record LinesFew (room : ℕ) (s : WrittenLines) : Type 0 where
   counted : length s.phis + (length s.insts + s.room) ≤ room
   entries : AllByRecursion FewEntries s.phis
+  small : AllByRecursion IsSmallInst s.insts
 
-next-few : (room : ℕ) (s : WrittenLines) (a : LineStart) (l : WrittenLine) (x : WrittenLines) → IsLineOf a l → ((name : WrittenName) → a ≡ start.Inst name → 0 < s.room) → with_line s l ≡ x → LinesFew room s → LinesFew room x
-next-few room s (start.Label name) (line.Label other) x h some same F = subst (λ (y : WrittenLines). LinesFew room y) same (record { counted = F.counted; entries = F.entries })
-next-few room s start.Record line.Record x h some same F = subst (λ (y : WrittenLines). LinesFew room y) same (record { counted = F.counted; entries = F.entries })
-next-few room s (start.Inst name) (line.Entries phi) x h some same F =
-    subst (λ (y : WrittenLines). LinesFew room y) same (record { counted = omega (arith, some name refl, F.counted, length-append s.phis (phi ∷ [])); entries = all-push FewEntries s.phis phi F.entries h })
-next-few room s (start.Inst name) (line.Phi phi) x h some same F =
-    subst (λ (y : WrittenLines). LinesFew room y) same (record { counted = omega (arith, some name refl, F.counted, length-append s.phis (phi ∷ [])); entries = all-push FewEntries s.phis phi F.entries h })
-next-few room s (start.Inst name) (line.Inst inst) x h some same F =
-    subst (λ (y : WrittenLines). LinesFew room y) same (record { counted = omega (arith, some name refl, F.counted, length-append s.insts (inst ∷ [])); entries = F.entries })
-next-few room s (start.Label name) line.Record x h some same F = absurd h
-next-few room s (start.Label name) (line.Entries phi) x h some same F = absurd h
-next-few room s (start.Label name) (line.Phi phi) x h some same F = absurd h
-next-few room s (start.Label name) (line.Inst inst) x h some same F = absurd h
-next-few room s start.Record (line.Label other) x h some same F = absurd h
-next-few room s start.Record (line.Entries phi) x h some same F = absurd h
-next-few room s start.Record (line.Phi phi) x h some same F = absurd h
-next-few room s start.Record (line.Inst inst) x h some same F = absurd h
-next-few room s (start.Inst name) (line.Label other) x h some same F = absurd h
-next-few room s (start.Inst name) line.Record x h some same F = absurd h
+phi-few-lines : (room : ℕ) (s : WrittenLines) (phi : WrittenPhi) → FewEntries phi → 0 < s.room → LinesFew room s → LinesFew room (with_phi s phi)
+phi-few-lines room s phi h some F = record { counted = omega (arith, some, F.counted, length-append s.phis (phi ∷ [])); entries = all-push FewEntries s.phis phi F.entries h; small = F.small }
+
+inst-few-lines : (room : ℕ) (s : WrittenLines) (i : WrittenInst) → IsSmallInst i → 0 < s.room → LinesFew room s → LinesFew room (with_inst s i)
+inst-few-lines room s i h some F = record { counted = omega (arith, some, F.counted, length-append s.insts (i ∷ [])); entries = F.entries; small = all-push IsSmallInst s.insts i F.small h }
+
+next-inst : (room : ℕ) (s : WrittenLines) (l : WrittenLine) → IsInstLine l → 0 < s.room → LinesFew room s → LinesFew room (with_line s l)
+next-inst room s (line.Label name) h some F = absurd h
+next-inst room s line.Record h some F = absurd h
+next-inst room s (line.Entries phi) h some F = phi-few-lines room s phi h some F
+next-inst room s (line.Access a) h some F = inst-few-lines room s (inst.Access a (default_align a)) (h, default-aligned a h) some F
+next-inst room s (line.Indices g) h some F = inst-few-lines room s (inst.GetElementPtr g) h some F
+next-inst room s (line.Phi phi) h some F = phi-few-lines room s phi h some F
+next-inst room s (line.Inst i) h some F = inst-few-lines room s i h some F
+
+next-few : (room : ℕ) (s : WrittenLines) (a : LineStart) (l : WrittenLine) → IsLineOf a l → (IsInstStart a → 0 < s.room) → LinesFew room s → LinesFew room (with_line s l)
+next-few room s (start.Inst name) l h some F = next-inst room s l h (some tt) F
+next-few room s start.Store l h some F = next-inst room s l h (some tt) F
+next-few room s (start.Label name) (line.Label other) h some F = record { counted = F.counted; entries = F.entries; small = F.small }
+next-few room s start.Record line.Record h some F = record { counted = F.counted; entries = F.entries; small = F.small }
+next-few room s (start.Label name) line.Record h some F = absurd h
+next-few room s (start.Label name) (line.Entries phi) h some F = absurd h
+next-few room s (start.Label name) (line.Access a) h some F = absurd h
+next-few room s (start.Label name) (line.Indices g) h some F = absurd h
+next-few room s (start.Label name) (line.Phi phi) h some F = absurd h
+next-few room s (start.Label name) (line.Inst i) h some F = absurd h
+next-few room s start.Record (line.Label other) h some F = absurd h
+next-few room s start.Record (line.Entries phi) h some F = absurd h
+next-few room s start.Record (line.Access a) h some F = absurd h
+next-few room s start.Record (line.Indices g) h some F = absurd h
+next-few room s start.Record (line.Phi phi) h some F = absurd h
+next-few room s start.Record (line.Inst i) h some F = absurd h
 
 lines-few : (room n : ℕ) (s x : WrittenLines) (ts rest : List Lexeme) → SpellParts true starts_line line_begins line_within (λ s' a next inside behind. Spells true (next_line s' a) next inside behind) n s x ts rest → LinesFew room s → LinesFew room x
 unfolding next_line
 lines-few room zero s x ts rest (same, left, nothing) F = subst (λ (y : WrittenLines). LinesFew room y) same F
 lines-few room (suc n) s x ts rest (a, inside, next, behind, T, (l, L, same), more) F =
-    lines-few room n next x behind rest more (next-few room s a l next (line-of s a l inside behind L) (λ name e. room-of s name T.first (T.stands_for ∙ ap (λ (y : LineStart). Some y) e) T.keeps) same F)
+    let some : IsInstStart a → 0 < s.room = room-of s a T.first T.stands_for T.keeps in
+    lines-few room n next x behind rest more (subst (λ (y : WrittenLines). LinesFew room y) same (next-few room s a l (line-of s a l inside behind some L) some F))
 
 block-lines-few : (is_new : Bool) (room : ℕ) (x : WrittenLines) (ts rest : List Lexeme) → Spells true (lines is_new room) x ts rest → LinesFew room x
 unfolding lines
-block-lines-few is_new room x ts rest (s, mid, (same, left), n, P) = lines-few room n s x mid rest P (subst (λ (y : WrittenLines). LinesFew room y) same (record { counted = omega arith; entries = tt }))
+block-lines-few is_new room x ts rest (s, mid, (same, left), n, P) = lines-few room n s x mid rest P (subst (λ (y : WrittenLines). LinesFew room y) same (record { counted = omega arith; entries = tt; small = tt }))
 
 abbrev written_cases : WrittenTerminator → ℕ
 written_cases (end.Return returned) = 0
@@ -230,6 +299,7 @@ count_of b = length b.phis + (length b.insts + 1)
 
 record FewBody (b : WrittenBody) : Type 0 where
   entries : AllByRecursion FewEntries b.phis
+  small : AllByRecursion IsSmallInst b.insts
   cases : written_cases b.terminator ≤ 256
 
 record BlockFew (room : ℕ) (b : WrittenLines × WrittenTerminator) : Type 0 where
@@ -242,7 +312,7 @@ block-few is_new room b ts rest (all, mid, (m2, L, T), (last, m3, E, (passed, A,
     let F = block-lines-few is_new room all.0 ts m2 L in
     let some : 0 < all.0.room = ltb-true 0 all.0.room T.keeps in
     let few : written_cases last ≤ 256 = terminator-few all.1 last mid m3 E in
-    subst (λ (y : WrittenLines × WrittenTerminator). BlockFew room y) same (record { counted = omega (arith, some, F.counted); few = record { entries = F.entries; cases = few } })
+    subst (λ (y : WrittenLines × WrittenTerminator). BlockFew room y) same (record { counted = omega (arith, some, F.counted); few = record { entries = F.entries; small = F.small; cases = few } })
 
 abbrev block_count : WrittenBlock → ℕ
 block_count b = count_of b.body
@@ -299,7 +369,7 @@ phi-few : (names : List Name) (w : WrittenPhi) (x : Phi) (after : List Name) →
 unfolding phi_in
 phi-few names w x after e few =
     let E = then-so (each_in entry_in (with_name names w.into.name) w.entries) _ x after e in
-    let is : (let y : Phi = record { into = number_of names w.into.name; of_type = Int w.of_type.width; entries = E.value } in y) ≡ x = cc E.later in
+    let is : (let y : Phi = record { into = number_of names w.into.name; of_type = w.of_type.of_type; entries = E.value } in y) ≡ x = cc E.later in
     subst (λ (y : Phi). length y.entries ≤ 16777216) is (omega (arith, few, each-length entry_in w.entries (with_name names w.into.name) E.value E.mid E.first))
 
 abbrev HasFew : Phi → Type 0
@@ -336,7 +406,7 @@ record IsMade (w : WrittenBody) (x : Block) : Type 0 where
   counted : instructions_of x ≡ count_of w
   cases : HasFewCases x
   entries : HasFewEntries x
-  integers : IsBlockOnIntegers x
+  small : IsSmallBlock x
 
 block-made : (names : List Name) (label : Name) (w : WrittenBody) (x : Block) (after : List Name) → block_in names label w ≡ so x after → FewBody w → IsMade w x
 unfolding block_in
@@ -353,24 +423,24 @@ block-made names label w x after e few =
       counted = omega (arith, phis, insts);
       cases = omega (arith, cases, few.cases);
       entries = phis-few w.phis before P.value P.mid P.first few.entries;
-      integers = subst IsBlockOnIntegers (sym is) (block-integers names label w x after e);
+      small = subst IsSmallBlock (sym is) (block-small names label w x after e few.small);
     })
 
 record AreMade (counted : ℕ) (bs : List Block) : Type 0 where
   count : sum_by instructions_of bs ≡ counted
   cases : All HasFewCases bs
   entries : All HasFewEntries bs
-  integers : All IsBlockOnIntegers bs
+  small : All IsSmallBlock bs
 
 none-made : AreMade 0 []
-none-made = record { count = refl; cases = All-nil HasFewCases; entries = All-nil HasFewEntries; integers = All-nil IsBlockOnIntegers }
+none-made = record { count = refl; cases = All-nil HasFewCases; entries = All-nil HasFewEntries; small = All-nil IsSmallBlock }
 
 more-made : (w : WrittenBody) (x : Block) (counted : ℕ) (bs : List Block) → IsMade w x → AreMade counted bs → AreMade (count_of w + counted) (x ∷ bs)
 more-made w x counted bs M Ms = record {
   count = omega (arith, sum_by-cons instructions_of x bs, M.counted, Ms.count);
   cases = All-cons HasFewCases x bs M.cases Ms.cases;
   entries = All-cons HasFewEntries x bs M.entries Ms.entries;
-  integers = All-cons IsBlockOnIntegers x bs M.integers Ms.integers;
+  small = All-cons IsSmallBlock x bs M.small Ms.small;
 }
 
 others-made : (items : List WrittenBlock) (names : List Name) (bs : List Block) (after : List Name) → each_in labelled_in names items ≡ so bs after → AllByRecursion FewBlock items → AreMade (sum_by block_count items) bs
@@ -410,7 +480,7 @@ judgeable w few formed = go (parts_in named_ones label w.entry w.others) refl fo
         let bs : B.value ≡ parts.1 = ap (λ (p : List Parameter × List Block). p.1) parts-are in
         let F = few.blocks.1 in
         let M = blocks-made P.mid label w.entry w.others B.value B.mid B.first F.first F.later in
-        let integers = subst (λ (ys : List Block). All IsBlockOnIntegers ys) bs M.integers in
+        let small = subst (λ (ys : List Block). All IsSmallBlock ys) bs M.small in
         record {
           well_formed = formed;
           limits = record {
@@ -418,13 +488,9 @@ judgeable w few formed = go (parts_in named_ones label w.entry w.others) refl fo
             instructions = omega (arith, F.counted, M.count, ap (λ (ys : List Block). sum_by instructions_of ys) bs);
             cases = subst (λ (ys : List Block). All HasFewCases ys) bs M.cases;
             entries = subst (λ (ys : List Block). All HasFewEntries ys) bs M.entries;
-            objects = λ k d below. block-small _ (integers k d below);
+            objects = blocks-small _ formed.types small;
           };
-          pointers = record {
-            parameters = subst AreIntegers ps (parameters-integer named_ones [] P.value P.mid P.first);
-            returns = integer-or-void w.returns.width;
-            blocks = integers;
-          };
+          numbers = λ k d below. let all = small k d below in all.numbers;
         }
 
 function-judgeable : (tokens : List Lexeme) (a : Result Function Refused) (f : Function) → IsFunction tokens a → a ≡ Ok f → IsJudgeable f

@@ -5,14 +5,14 @@ use Rattle.token_forms.specs.Form.{Reading, reads, read}
 use Rattle.token_forms.proofs.Exact.{shorter}
 use Rattle.token_forms.proofs.Loops.{at_start, step-more, step-done, step-fails, step-shorter}
 use Rattle.ir_grammar.specs.Grammar.{is_type, case_begins, case_within, with_case, cases}
-use Rattle.ir_grammar.specs.declared.written.WrittenType.{WrittenType}
+use Rattle.ir_grammar.specs.declared.written.WrittenIntType.{WrittenIntType}
 use Rattle.ir_grammar.specs.declared.written.WrittenCase.{WrittenCase}
 use Rattle.ir_grammar.proofs.cursor.Cursor.cases.Goals as goal
 
-abbrev part : List WrittenCase → WrittenType → List Lexeme → Reading (List WrittenCase)
+abbrev part : List WrittenCase → WrittenIntType → List Lexeme → Reading (List WrittenCase)
 part s a ts = read true (with_case s a) ts
 
-short : (s : List WrittenCase) (a : WrittenType) (ts : List Lexeme) (x : List WrittenCase) (rest : List Lexeme) → part s a ts ≡ reads x rest → length rest ≤ length ts
+short : (s : List WrittenCase) (a : WrittenIntType) (ts : List Lexeme) (x : List WrittenCase) (rest : List Lexeme) → part s a ts ≡ reads x rest → length rest ≤ length ts
 short s a ts x rest e = shorter true (with_case s a) ts x rest e
 
 pub loop-next-init : goal.loop-next-init

@@ -1,0 +1,15 @@
+-- The closing marks of nested arrays, one after another.
+use Rattle.std.proofs.Common.{◌≡◌, ℕ, zero, suc, ◌-◌, ◌<◌, true, List, refl, codes, arith}
+use Rattle.ir_lexer.specs.Lexeme.{Lexeme}
+use Rattle.token_forms.specs.Form.{Why, reads, stops, token_of, read}
+use Rattle.ir_grammar.specs.Reasons.{reason}
+use Rattle.ir_grammar.specs.Classes.{any, as_mark}
+use Rattle.ir_grammar.specs.Instructions.{closers}
+
+pub closer_more : (n : ℕ) (ts rest : List Lexeme) → 0 < n → token_of true (as_mark (codes "]")) any reason ts ≡ reads tt rest → read true (closers n) ts ≡ read true (closers (n - 1)) rest
+closer_more zero ts rest h e = absurd (omega (arith, h))
+closer_more (suc n) ts rest h e = let less : suc n - 1 ≡ n = omega arith in rw (e, less) refl
+
+pub closer_stops : (n : ℕ) (why : Why) (ts rest : List Lexeme) → 0 < n → token_of true (as_mark (codes "]")) any reason ts ≡ stops why rest → read true (closers n) ts ≡ stops why rest
+closer_stops zero why ts rest h e = absurd (omega (arith, h))
+closer_stops (suc n) why ts rest h e = rw e refl

@@ -1,0 +1,33 @@
+use Rattle.std.proofs.Common.{◌≡◌, ◌≤◌, List, true, length}
+use Rattle.std.proofs.lemmas.Result.{err_from_is_err_and}
+use Rattle.ir_lexer.specs.Lexeme.{Lexeme}
+use Rattle.token_forms.specs.Form.{Reading, reads, read}
+use Rattle.token_forms.proofs.Exact.{shorter}
+use Rattle.token_forms.proofs.Loops.{at_start, step-more, step-done, step-fails, step-shorter}
+use Rattle.ir_grammar.specs.Instructions.{is_square, array_begins, array_within, with_length, arrays}
+use Rattle.ir_grammar.specs.declared.written.WrittenArrays.{WrittenArrays}
+use Rattle.ir_grammar.proofs.cursor.Cursor.arrays.Goals as goal
+
+abbrev part : WrittenArrays → Unit {0} → List Lexeme → Reading (WrittenArrays)
+part s a ts = read true (with_length s) ts
+
+short : (s : WrittenArrays) (a : Unit {0}) (ts : List Lexeme) (x : WrittenArrays) (rest : List Lexeme) → part s a ts ≡ reads x rest → length rest ≤ length ts
+short s a ts x rest e = shorter true (with_length s) ts x rest e
+
+pub loop-next-init : goal.loop-next-init
+unfolding arrays
+loop-next-init c = at_start is_square array_begins array_within part c.args.outer c.args.self.now
+
+pub returns-in_err-next : goal.returns-in_err-next
+returns-in_err-next c =
+    let p = err_from_is_err_and c.from_residual.result c.from_residual.ensures.1 in
+    rw (p.1, p.2) (step-fails is_square array_begins array_within part short c.loop-next.so_far c.loop-next.self c.one_array.new.self _ _ c.in_err-next.ensures c.loop-next.invariant)
+
+pub returns-then-not-is_more : goal.returns-then-not-is_more
+returns-then-not-is_more c = step-done is_square array_begins array_within part short c.loop-next.so_far c.in_ok-next.next c.loop-next.self c.one_array.new.self _ (rw c.if-not-is_more.true at c.in_ok-next.ensures) c.loop-next.invariant
+
+pub loop-next-smaller : goal.loop-next-smaller
+loop-next-smaller c = step-shorter is_square array_begins array_within part short c.loop-next.so_far c.in_ok-next.next c.loop-next.self c.one_array.new.self (rw c.if-not-is_more.false at c.in_ok-next.ensures)
+
+pub loop-next-preserved : goal.loop-next-preserved
+loop-next-preserved c = step-more is_square array_begins array_within part short c.loop-next.so_far c.in_ok-next.next c.loop-next.self c.one_array.new.self _ (rw c.if-not-is_more.false at c.in_ok-next.ensures) c.loop-next.invariant

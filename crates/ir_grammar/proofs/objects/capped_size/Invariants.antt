@@ -1,0 +1,9 @@
+use Rattle.std.proofs.Common.{◌≡◌, ◌≤◌, length, drop, min}
+use Rattle.ir_tree.specs.Types.{nested_size}
+use Rattle.ir_grammar.proofs.objects.capped_size.Given as goal
+
+abbrev pub invariant-loop-i : goal.invariant-loop-i
+invariant-loop-i l = record {
+  within : l.i ≤ length l.lengths;
+  size : l.size ≡ min (nested_size (drop l.i l.lengths) l.fn.element) 65;
+}

@@ -1,0 +1,8 @@
+use Rattle.std.proofs.Common.{◌≡◌}
+use Rattle.std.specs.Vec.Iter.{into_iter_items}
+use Rattle.ir_numbering.specs.Numbering.{index_in, each_in}
+use Rattle.ir_numbering.proofs.Each.{in_front}
+use Rattle.ir_numbering.proofs.memory_numbering.indices.Given as goal
+
+abbrev pub invariant-loop-one : goal.invariant-loop-one
+invariant-loop-one l = each_in index_in l.fn.names l.fn.indices ≡ in_front l.numbered.items (each_in index_in l.names (into_iter_items l.one-iterator))

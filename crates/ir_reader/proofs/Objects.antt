@@ -1,0 +1,170 @@
+-- What is numbered has small objects, and its allocas small numbers.
+use Rattle.std.proofs.Common.{◌≡◌, ℕ, zero, suc, ◌+◌, ◌<◌, ◌≤◌, ◌⊎◌, inl, inr, Bool, true, false, List, [], ◌∷◌, length, All, get_or, refl, sym, subst, arith}
+use Rattle.std.specs.Prelude.{nat_le, Some}
+use Rattle.std.specs.List.{AllByRecursion, Contains}
+use Rattle.std.proofs.lemmas.Bool.{lt-leb, cases_lt}
+use Rattle.std.proofs.lemmas.Option.{slice_get-get_or}
+use Rattle.std.proofs.lemmas.List.Elements.{All-nil, All-cons, Contains-append_left, Contains-append_right}
+use Rattle.ir_tree.specs.Limits.{IsAlignment, HasSmallArrays, HasSmallTypes, HasSmallObjects}
+use Rattle.ir_tree.specs.Types.{type_size, object_size}
+use Rattle.ir_tree.specs.Names.{with_name, number_of}
+use Rattle.ir_tree.specs.declared.name.Name.{Name}
+use Rattle.ir_tree.specs.declared.tree.Inst.{Inst}
+use Rattle.ir_tree.specs.declared.tree.Inst.TheVariants as inst
+use Rattle.ir_tree.specs.declared.tree.Block.{Block}
+use Rattle.ir_tree.specs.declared.tree.Function.{Function}
+use Rattle.ir_tree.specs.declared.tree.GepIndex.{GepIndex}
+use Rattle.ir_tree.specs.declared.tree.IrType.TheVariants.{Int, Ptr}
+use Rattle.ir_tree.specs.declared.sites.Site.{Site}
+use Rattle.ir_tree.specs.declared.sites.Site.TheVariants.{Defines, Written}
+use Rattle.ir_tree.specs.declared.module.Reason.TheVariants.{TypeClash}
+use Rattle.ir_tree.specs.Sites.{operand_site, index_sites, indices_sites, inst_sites}
+use Rattle.ir_tree.specs.WellFormed.{Passes}
+use Rattle.ir_tree.proofs.Standing.{inst_site}
+use Rattle.ir_grammar.specs.declared.written.WrittenInst.{WrittenInst}
+use Rattle.ir_grammar.specs.declared.written.WrittenInst.TheVariants as line
+use Rattle.ir_grammar.specs.declared.written.WrittenAccess.{WrittenAccess}
+use Rattle.ir_grammar.specs.declared.written.WrittenAccess.TheVariants as access
+use Rattle.ir_grammar.specs.declared.written.WrittenGep.{WrittenGep}
+use Rattle.ir_grammar.specs.declared.written.WrittenBody.{WrittenBody}
+use Rattle.ir_numbering.specs.Numbering.{so, each_in, value_in, typed_in, binary_in, icmp_in, cast_in, select_in, freeze_in, alloca_in, load_in, store_in, index_in, gep_in, inst_in, phi_in, terminator_in, block_in}
+use Rattle.ir_numbering.proofs.NumberedSites.{then-so, block_with}
+use Rattle.ir_reader.specs.Judgeable.{HasSmallNumber}
+
+-- ---- what is written
+
+-- an alloca's number, and what its own alignment is
+abbrev pub IsSmallAccess : WrittenAccess → Type 0
+IsSmallAccess (access.Alloca into number type) = (number < 65536) × (length type.of_type.lengths ≤ 8) × (object_size type.of_type ≤ 64) × IsAlignment (type_size type.of_type.element)
+IsSmallAccess (access.Load into type from) = IsAlignment (type_size type.of_type)
+IsSmallAccess (access.Store value to) = IsAlignment (type_size value.of_type.of_type)
+
+abbrev pub IsSmallGep : WrittenGep → Type 0
+IsSmallGep g = (length g.of_type.of_type.lengths ≤ 8) × HasSmallArrays g.of_type.of_type.lengths g.of_type.of_type.element
+
+abbrev pub IsSmallInst : WrittenInst → Type 0
+IsSmallInst (line.Access a align) = IsSmallAccess a × IsAlignment align
+IsSmallInst (line.GetElementPtr g) = IsSmallGep g
+IsSmallInst _ = Unit {0}
+
+-- ---- what is made of it
+
+-- the same but for the count of indices, which types bound
+abbrev HasSmallParts : Inst → Type 0
+HasSmallParts (inst.GetElementPtr into inbounds nuw type base indices) = (length type.lengths ≤ 8) × HasSmallArrays type.lengths type.element
+HasSmallParts x = HasSmallTypes x
+
+abbrev IsSmall : Inst → Type 0
+IsSmall x = HasSmallParts x × HasSmallNumber x
+
+inst-small : (names : List Name) (i : WrittenInst) (x : Inst) (after : List Name) → inst_in names i ≡ so x after → IsSmallInst i → IsSmall x
+unfolding binary_in icmp_in cast_in select_in freeze_in alloca_in load_in store_in gep_in
+inst-small names (line.Binary into op type left right) x after e small =
+    let L = then-so (value_in (with_name names into.name) left.value) _ x after e in
+    let R = then-so (value_in L.mid right.value) _ x after L.later in
+    let is : inst.Binary (number_of names into.name) op type.width L.value R.value ≡ x = cc R.later in
+    subst IsSmall is (tt, tt)
+inst-small names (line.Icmp into predicate same_sign type left right) x after e small =
+    let L = then-so (value_in (with_name names into.name) left.value) _ x after e in
+    let R = then-so (value_in L.mid right.value) _ x after L.later in
+    let is : inst.Icmp (number_of names into.name) predicate same_sign type.width L.value R.value ≡ x = cc R.later in
+    subst IsSmall is (tt, tt)
+inst-small names (line.Cast into cast from value to) x after e small =
+    let V = then-so (value_in (with_name names into.name) value.value) _ x after e in
+    let is : inst.Cast (number_of names into.name) cast from.width V.value to.width ≡ x = cc V.later in
+    subst IsSmall is (tt, tt)
+inst-small names (line.Select into bit condition if_true if_false) x after e small =
+    let C = then-so (value_in (with_name names into.name) condition.value) _ x after e in
+    let T = then-so (typed_in C.mid if_true) _ x after C.later in
+    let F = then-so (typed_in T.mid if_false) _ x after T.later in
+    let is : inst.Select (number_of names into.name) C.value T.value F.value ≡ x = cc F.later in
+    subst IsSmall is (tt, tt)
+inst-small names (line.Freeze into value) x after e small =
+    let V = then-so (value_in (with_name names into.name) value.operand.value) _ x after e in
+    let is : inst.Freeze (number_of names into.name) value.of_type.of_type V.value ≡ x = cc V.later in
+    subst IsSmall is (tt, tt)
+inst-small names (line.Access (access.Alloca into number type) align) x after e small =
+    let is : inst.Alloca (number_of names into.name) number type.of_type align ≡ x = cc e in
+    subst IsSmall is ((small.0.1, small.0.2, small.1), small.0.0)
+inst-small names (line.Access (access.Load into type from) align) x after e small =
+    let V = then-so (value_in (with_name names into.name) from.operand.value) _ x after e in
+    let is : inst.Load (number_of names into.name) type.of_type V.value align ≡ x = cc V.later in
+    subst IsSmall is (small.1, tt)
+inst-small names (line.Access (access.Store value to) align) x after e small =
+    let T = then-so (typed_in names value) _ x after e in
+    let V = then-so (value_in T.mid to.operand.value) _ x after T.later in
+    let is : inst.Store T.value V.value align ≡ x = cc V.later in
+    subst IsSmall is (small.1, tt)
+inst-small names (line.GetElementPtr g) x after e small =
+    let V = then-so (value_in (with_name names g.into.name) g.base.operand.value) _ x after e in
+    let I = then-so (each_in index_in V.mid g.indices) _ x after V.later in
+    let is : inst.GetElementPtr (number_of names g.into.name) g.flags.inbounds g.flags.nuw g.of_type.of_type V.value I.value ≡ x = cc I.later in
+    subst IsSmall is (small, tt)
+
+insts-small : (items : List WrittenInst) (names : List Name) (bs : List Inst) (after : List Name) → each_in inst_in names items ≡ so bs after → AllByRecursion IsSmallInst items → All IsSmall bs
+insts-small [] names bs after e small = let is : [] ≡ bs = cc e in subst (λ (ys : List Inst). All IsSmall ys) is (All-nil IsSmall)
+insts-small (a ∷ items) names bs after e (first, others) =
+    let F = then-so (inst_in names a) _ bs after e in
+    let M = then-so (each_in inst_in F.mid items) _ bs after F.later in
+    let is : F.value ∷ M.value ≡ bs = cc M.later in
+    subst (λ (ys : List Inst). All IsSmall ys) is (All-cons IsSmall F.value M.value (inst-small names a F.value F.mid F.first first) (insts-small items F.mid M.value M.mid M.first others))
+
+pub record IsSmallBlock (b : Block) : Type 0 where
+  pub parts : All HasSmallParts b.insts
+  pub numbers : All HasSmallNumber b.insts
+
+small-block : (b : Block) → All IsSmall b.insts → IsSmallBlock b
+small-block b all = record { parts = λ k d below. let small = all k d below in small.0; numbers = λ k d below. let small = all k d below in small.1 }
+
+pub block-small : (names : List Name) (label : Name) (w : WrittenBody) (x : Block) (after : List Name) → block_in names label w ≡ so x after → AllByRecursion IsSmallInst w.insts → IsSmallBlock x
+unfolding block_in
+block-small names label w x after e small =
+    let before = with_name names label in
+    let P = then-so (each_in phi_in before w.phis) _ x after e in
+    let I = then-so (each_in inst_in P.mid w.insts) _ x after P.later in
+    let T = then-so (terminator_in I.mid w.terminator) _ x after I.later in
+    let is : block_with (number_of names label) P.value I.value T.value ≡ x = cc T.later in
+    subst IsSmallBlock is (small-block (block_with (number_of names label) P.value I.value T.value) (insts-small w.insts P.mid I.value I.mid I.first small))
+
+-- ---- types bound the indices of a getelementptr
+
+-- the site of each index says whether it goes into an array
+index-site : (arrays n k : ℕ) (indices : List GepIndex) → k < length indices → Contains (indices_sites arrays n indices) (Written (nat_le (n + k) arrays))
+index-site arrays n k [] below = absurd (omega (arith, below))
+index-site arrays n zero (i ∷ indices) below =
+    let e : n + 0 ≡ n = omega arith in
+    let here : Contains (index_sites (nat_le n arrays) i) (Written (nat_le n arrays)) = Contains-append_right (Written true ∷ operand_site (Int i.width) i.operand ∷ []) (Written (nat_le n arrays) ∷ []) (Written (nat_le n arrays)) (0, omega arith, refl) in
+    subst (λ (m : ℕ). Contains (indices_sites arrays n (i ∷ indices)) (Written (nat_le m arrays))) (sym e) (Contains-append_left (index_sites (nat_le n arrays) i) (indices_sites arrays (n + 1) indices) (Written (nat_le n arrays)) here)
+index-site arrays n (suc k) (i ∷ indices) below =
+    let e : n + suc k ≡ n + 1 + k = omega arith in
+    subst (λ (m : ℕ). Contains (indices_sites arrays n (i ∷ indices)) (Written (nat_le m arrays))) (sym e) (Contains-append_right (index_sites (nat_le n arrays) i) (indices_sites arrays (n + 1) indices) (Written (nat_le (n + 1 + k) arrays)) (index-site arrays (n + 1) k indices (omega (arith, below))))
+
+abbrev NoClash : Inst → Type 0
+NoClash x = Contains (inst_sites x) (Written false) → ⊥
+
+few-indices : (x : Inst) → NoClash x → HasSmallParts x → HasSmallTypes x
+few-indices (inst.Binary into op width left right) clashes small = small
+few-indices (inst.Icmp into predicate same_sign width left right) clashes small = small
+few-indices (inst.Cast into cast from operand to) clashes small = small
+few-indices (inst.Select into condition if_true if_false) clashes small = small
+few-indices (inst.Freeze into type operand) clashes small = small
+few-indices (inst.Alloca into number type align) clashes small = small
+few-indices (inst.Load into type pointer align) clashes small = small
+few-indices (inst.Store value pointer align) clashes small = small
+few-indices (inst.GetElementPtr into inbounds nuw type base indices) clashes (nested, arrays) = (nested, by (cases_lt 9 (length indices)), arrays)
+  where
+    by : (9 < length indices) ⊎ (length indices ≤ 9) → length indices ≤ 9
+    by (inr few) = few
+    by (inl many) =
+        let found = index-site (length type.lengths) 0 9 indices many in
+        let outside : nat_le (0 + 9) (length type.lengths) ≡ false = lt-leb 9 (length type.lengths) (omega (arith, nested)) in
+        let front : List Site = Defines (Some Ptr) into ∷ Written true ∷ Written true ∷ operand_site Ptr base ∷ [] in
+        absurd (clashes (Contains-append_right front (indices_sites (length type.lengths) 0 indices) (Written false) (subst (λ (b : Bool). Contains (indices_sites (length type.lengths) 0 indices) (Written b)) outside found)))
+
+-- what is small and has right types is within the limits of its objects
+pub blocks-small : (f : Function) → Passes TypeClash f → All IsSmallBlock f.blocks → All HasSmallObjects f.blocks
+blocks-small f types small = λ k d below.
+    let b : Block = get_or f.blocks k d in
+    λ j i inside.
+    let x : Inst = get_or b.insts j i in
+    few-indices x (λ clash. let S = inst_site f k b j x (Written false) (slice_get-get_or f.blocks k d below) (slice_get-get_or b.insts j i inside) clash in types S.0 (inl S.1)) (let all = small k d below in all.parts j i inside)

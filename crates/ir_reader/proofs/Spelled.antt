@@ -1,0 +1,136 @@
+-- What is spelled of instructions on memory keeps their limits.
+use Rattle.std.proofs.Common.{◌≡◌, ℕ, zero, suc, ◌<◌, ◌≤◌, Bool, true, false, eqb, cond, List, [], ◌∷◌, length, Option, Some, None, refl, subst, arith}
+use Rattle.std.specs.Prelude.{◌&&◌, ◌||◌, not, nat_eq}
+use Rattle.std.specs.List.{list_any}
+use Rattle.std.proofs.lemmas.Bool.{ltb-true, leb-true, eqb-true}
+use Rattle.std.proofs.lemmas.List.{length-append}
+use Rattle.text_places.specs.declared.place.Place.{Place}
+use Rattle.tv_num.specs.declared.Width.{Width}
+use Rattle.ir_lexer.specs.Lexeme.{Lexeme}
+use Rattle.ir_lexer.specs.declared.token.Kind.{Kind}
+use Rattle.ir_lexer.specs.declared.token.Kind.TheVariants as kind
+use Rattle.ir_tree.specs.Limits.{IsAlignment, HasSmallArrays, alignments}
+use Rattle.ir_tree.specs.Types.{type_size, nested_size}
+use Rattle.ir_tree.specs.declared.tree.Op.{Op}
+use Rattle.ir_tree.specs.declared.tree.Cast.{Cast}
+use Rattle.ir_tree.specs.declared.tree.IrType.{IrType}
+use Rattle.ir_tree.specs.declared.tree.IrType.TheVariants.{Int, Ptr}
+use Rattle.token_forms.specs.Spelling.{SpellParts, Spells}
+use Rattle.ir_grammar.specs.declared.word.Opcode.{Opcode}
+use Rattle.ir_grammar.specs.declared.word.Opcode.TheVariants as opcode
+use Rattle.ir_grammar.specs.declared.written.GepFlags.{GepFlags}
+use Rattle.ir_grammar.specs.declared.written.WrittenName.{WrittenName}
+use Rattle.ir_grammar.specs.declared.written.WrittenIntType.{WrittenIntType}
+use Rattle.ir_grammar.specs.declared.written.WrittenType.{WrittenType}
+use Rattle.ir_grammar.specs.declared.written.WrittenArrays.{WrittenArrays}
+use Rattle.ir_grammar.specs.declared.written.WrittenObject.{WrittenObject}
+use Rattle.ir_grammar.specs.declared.written.WrittenAccess.{WrittenAccess}
+use Rattle.ir_grammar.specs.declared.written.WrittenAccess.TheVariants as access
+use Rattle.ir_grammar.specs.declared.written.WrittenInst.{WrittenInst}
+use Rattle.ir_grammar.specs.Numbers.{is_negative, magnitude}
+use Rattle.ir_grammar.specs.Spelling.{is_memory_type, memory_type_of, memory_type_in, type_in, type_at, fits_object, is_small_object, number_of_kind, is_alignment}
+use Rattle.ir_grammar.specs.Instructions.{is_square, array_begins, array_within, with_length, arrays, alloca_object, gep_arrays, gep_object, default_align, binary, cast_by, wrapping, exact, plain, disjunction, icmp, truncate, zero_extend, sign_extend, select, freeze, inst_by}
+use Rattle.ir_grammar.proofs.SmallArrays.{are-small}
+use Rattle.ir_reader.proofs.Objects.{IsSmallAccess, IsSmallInst}
+
+-- ---- alignments
+
+some-width : (w : Width) (a b c d : Bool) → eqb w.bits 8 ≡ a → eqb w.bits 16 ≡ b → eqb w.bits 32 ≡ c → eqb w.bits 64 ≡ d → (a || b || c || d) ≡ true → IsAlignment (type_size (Int w))
+some-width w true b c d e f g h some = let is : w.bits ≡ 8 = eqb-true w.bits 8 e in rw is refl
+some-width w false true c d e f g h some = let is : w.bits ≡ 16 = eqb-true w.bits 16 f in rw is refl
+some-width w false false true d e f g h some = let is : w.bits ≡ 32 = eqb-true w.bits 32 g in rw is refl
+some-width w false false false true e f g h some = let is : w.bits ≡ 64 = eqb-true w.bits 64 h in rw is refl
+some-width w false false false false e f g h some = absurd (cc some)
+
+-- the size of what stands in memory is an alignment
+memory-size : (type : IrType) → is_memory_type type ≡ true → IsAlignment (type_size type)
+memory-size (Int w) e = some-width w (eqb w.bits 8) (eqb w.bits 16) (eqb w.bits 32) (eqb w.bits 64) refl refl refl refl e
+memory-size Ptr e = refl
+
+found-size : (m : Option (Option IrType)) (type : IrType) → memory_type_of m ≡ Some type → IsAlignment (type_size type)
+found-size (Some (Some other)) type e = go (is_memory_type other) refl e
+  where
+    go : (b : Bool) → is_memory_type other ≡ b → cond b (Some other) None ≡ Some type → IsAlignment (type_size type)
+    go true is e' = let same : other ≡ type = cc e' in subst (λ (t : IrType). IsAlignment (type_size t)) same (memory-size other is)
+    go false is e' = absurd (cc e')
+found-size (Some None) type e = absurd (cc e)
+found-size None type e = absurd (cc e)
+
+placed-size : (m : Option IrType) (at : Place) (x : WrittenType) → ((type : IrType) → m ≡ Some type → IsAlignment (type_size type)) → type_at m at ≡ Some x → IsAlignment (type_size x.of_type)
+placed-size None at x sized e = absurd (cc e)
+placed-size (Some type) at x sized e = let same : (let y : WrittenType = record { of_type = type; at = at } in y) ≡ x = cc e in subst (λ (y : WrittenType). IsAlignment (type_size y.of_type)) same (sized type refl)
+
+pub memory-aligned : (t : Lexeme) (x : WrittenType) → type_at (memory_type_in t) t.place ≡ Some x → IsAlignment (type_size x.of_type)
+memory-aligned t x e = placed-size (memory_type_in t) t.place x (λ type is. found-size (type_in t) type is) e
+
+and-second : (a b : Bool) → (a && b) ≡ true → b ≡ true
+and-second true b e = e
+and-second false b e = absurd (cc e)
+
+pub alignment-kept : (t : Lexeme) (n : ℕ) → number_of_kind t.kind t.text ≡ Some n → is_alignment t.text ≡ true → IsAlignment n
+alignment-kept t n e kept = go t.kind e
+  where
+    go : (k : Kind) → number_of_kind k t.text ≡ Some n → IsAlignment n
+    go kind.Number e' = let same : magnitude t.text ≡ n = cc e' in subst IsAlignment same (and-second (not (is_negative t.text)) (list_any (nat_eq (magnitude t.text)) alignments) kept)
+    go _ e' = absurd (cc e')
+
+pub default-aligned : (a : WrittenAccess) → IsSmallAccess a → IsAlignment (default_align a)
+default-aligned (access.Alloca into number type) small = small.3
+default-aligned (access.Load into type from) small = small
+default-aligned (access.Store value to) small = small
+
+-- ---- nested arrays
+
+parts-nested : (n : ℕ) (s x : WrittenArrays) (ts rest : List Lexeme) → SpellParts true is_square array_begins array_within (λ s' a next inside behind. Spells true (with_length s') next inside behind) n s x ts rest → length s.lengths ≤ 8 → length x.lengths ≤ 8
+unfolding with_length
+parts-nested zero s x ts rest (same, left, nothing) h = subst (λ (p : WrittenArrays). length p.lengths ≤ 8) same h
+parts-nested (suc n) s x ts rest (a, inside, next, behind, T, (many, m1, t1, (times, m2, t2, (same, left))), more) h =
+    let room : length s.lengths < 8 = ltb-true (length s.lengths) 8 T.keeps in
+    parts-nested n next x behind rest more (subst (λ (p : WrittenArrays). length p.lengths ≤ 8) same (omega (arith, room, length-append s.lengths (many ∷ []))))
+
+small-element : (in_alloca : Bool) (lengths : List ℕ) (m : Option IrType) (at : Place) (x : WrittenType) → type_at m at ≡ Some x → fits_object in_alloca lengths m ≡ true → is_small_object in_alloca lengths x.of_type ≡ true
+small-element in_alloca lengths None at x e kept = absurd (cc e)
+small-element in_alloca lengths (Some type) at x e kept = let same : (let y : WrittenType = record { of_type = type; at = at } in y) ≡ x = cc e in subst (λ (y : WrittenType). is_small_object in_alloca lengths y.of_type ≡ true) same kept
+
+abbrev IsSmallObject : WrittenObject → Type 0
+IsSmallObject o = (length o.of_type.lengths ≤ 8) × (nested_size o.of_type.lengths o.of_type.element ≤ 64) × IsAlignment (type_size o.of_type.element)
+
+pub alloca-small : (x : WrittenObject) (ts rest : List Lexeme) → Spells true alloca_object x ts rest → IsSmallObject x
+unfolding alloca_object arrays
+alloca-small x ts rest (found, m1, (m2, (s, m3, (first, at), n, P), T), (closed, m4, C, (same, left))) =
+    let nested : length found.0.lengths ≤ 8 = parts-nested n s found.0 m3 m2 P (subst (λ (p : WrittenArrays). length p.lengths ≤ 8) first (omega arith)) in
+    let small : nested_size found.0.lengths found.1.of_type ≤ 64 = leb-true (nested_size found.0.lengths found.1.of_type) 64 (small-element true found.0.lengths (memory_type_in T.first) T.first.place found.1 T.stands_for T.keeps) in
+    subst IsSmallObject same (nested, small, memory-aligned T.first found.1 T.stands_for)
+
+abbrev IsSmallNest : WrittenObject → Type 0
+IsSmallNest o = (length o.of_type.lengths ≤ 8) × HasSmallArrays o.of_type.lengths o.of_type.element
+
+pub gep-small : (x : GepFlags × WrittenObject) (ts rest : List Lexeme) → Spells true gep_object x ts rest → IsSmallNest x.1
+unfolding gep_object gep_arrays
+gep-small x ts rest (found, m1, (m2, (s, m3, (flags, F, first), n, P), T), (closed, m4, C, (same, left))) =
+    let nested : length found.0.lengths ≤ 8 = parts-nested n s found.0 m3 m2 P (subst (λ (p : WrittenArrays). length p.lengths ≤ 8) first (omega arith)) in
+    let small : HasSmallArrays found.0.lengths found.1.of_type = are-small found.0.lengths found.1.of_type (small-element false found.0.lengths (memory_type_in T.first) T.first.place found.1 T.stands_for T.keeps) in
+    subst (λ (y : GepFlags × WrittenObject). IsSmallNest y.1) same (nested, small)
+
+-- ---- instructions on values have no objects
+
+binary-small : (name : WrittenName) (o : Op) (type : WrittenIntType) (i : WrittenInst) (ts rest : List Lexeme) → Spells true (binary name o type) i ts rest → IsSmallInst i
+unfolding binary
+binary-small name o type i ts rest (l, m1, t1, (comma, m2, t2, (r, m3, t3, (same, left)))) = subst IsSmallInst same tt
+
+cast-small : (name : WrittenName) (c : Cast) (from : WrittenIntType) (i : WrittenInst) (ts rest : List Lexeme) → Spells true (cast_by name c from) i ts rest → IsSmallInst i
+unfolding cast_by
+cast-small name c from i ts rest (v, m1, t1, (word_to, m2, t2, (to, m3, t3, (same, left)))) = subst IsSmallInst same tt
+
+pub plain-small : (name : WrittenName) (o : Opcode) (i : WrittenInst) (ts rest : List Lexeme) → Spells true (inst_by name o) i ts rest → IsSmallInst i
+unfolding wrapping exact plain disjunction icmp truncate zero_extend sign_extend select freeze
+plain-small name (opcode.Wrapping w) i ts rest (flagged, mid, F, B) = binary-small name _ flagged.1 i mid rest B
+plain-small name (opcode.Exact w) i ts rest (flagged, mid, F, B) = binary-small name _ flagged.1 i mid rest B
+plain-small name (opcode.Plain o) i ts rest (type, mid, T, B) = binary-small name o type i mid rest B
+plain-small name opcode.Or i ts rest (flagged, mid, F, B) = binary-small name _ flagged.1 i mid rest B
+plain-small name opcode.Icmp i ts rest (compares, m1, C, (type, m2, t2, (l, m3, t3, (comma, m4, t4, (r, m5, t5, (same, left)))))) = subst IsSmallInst same tt
+plain-small name opcode.Truncate i ts rest (flagged, mid, F, B) = cast-small name _ flagged.1 i mid rest B
+plain-small name opcode.ZeroExtend i ts rest (flagged, mid, F, B) = cast-small name _ flagged.1 i mid rest B
+plain-small name opcode.SignExtend i ts rest (type, mid, T, B) = cast-small name _ type i mid rest B
+plain-small name opcode.Select i ts rest (bit, m1, t1, (condition, m2, t2, (comma, m3, t3, (if_true, m4, A, (comma', m5, t5, (if_false, m6, B, (same, left))))))) = subst IsSmallInst same tt
+plain-small name opcode.Freeze i ts rest (value, m1, V, (same, left)) = subst IsSmallInst same tt
