@@ -18,6 +18,10 @@ mod gate_values;
 #[cfg(test)]
 mod mem_term_tests;
 #[cfg(test)]
+mod mem_value_tests;
+#[cfg(test)]
+mod memory_outcome_tests;
+#[cfg(test)]
 mod refine_tests;
 #[cfg(test)]
 mod rule_form_tests;

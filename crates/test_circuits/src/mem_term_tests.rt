@@ -2,22 +2,24 @@ ghost use Rattle.bv_terms.specs.Trees.{IsTerm};
 
 use crate::term_values::value_of;
 use bv_terms::{TermId, Terms};
+use ir_tree::IrType;
 use mem_terms::{
-    ArgTerms, arg_value, both, either, equals, implies, less, less_signed, negation, number,
-    number_value, pick, pick_value, poison_value, resize, truth,
+    ArgTerms, arg_value, both, either, equals, implies, known_number, less, less_signed, negation,
+    number, pick, pick_number, poison_number, resize, truth,
 };
 use std::alloc::Global;
 use std::test::Fail;
 use support::NoMemory;
+use tv_num::Width;
 
 /// A choice by a known condition is one of the values.
 #[test]
 fn a_known_choice_makes_no_term(rt: HostRuntime) -> Result<(), Fail> {
     let mut terms = Terms::new(rt.alloc());
     let always = truth(&mut terms, true)?;
-    let seven = number_value(&mut terms, 7)?;
-    let poison = poison_value(&mut terms)?;
-    assert!(rt; pick_value(&mut terms, always, seven, poison)? == seven);
+    let seven = known_number(&mut terms, 7)?;
+    let poison = poison_number(&mut terms)?;
+    assert!(rt; pick_number(&mut terms, always, seven, poison)? == seven);
     Ok(())
 }
 
@@ -137,8 +139,29 @@ fn an_argument_is_a_value(rt: HostRuntime) -> Result<(), Fail> {
     let mut terms = Terms::new(rt.alloc());
     let flag = truth(&mut terms, false)?;
     let number = terms.constant(200, 8)?;
-    let value = arg_value(&mut terms, ArgTerms { flag, number })?;
+    let of_type = IrType::Int(Width::of(8));
+    let value = arg_value(&mut terms, ArgTerms::Int { flag, number }, of_type)?;
     assert!(rt; value.poison == flag);
+    assert_eq!(rt; value_of(rt.alloc(), &terms, value.is_pointer)?, Some(0));
     assert_eq!(rt; value_of(rt.alloc(), &terms, value.number)?, Some(200));
+    Ok(())
+}
+
+/// A pointer argument to byte 9 of the fifth given block.
+#[test]
+fn a_pointer_argument_is_a_value(rt: HostRuntime) -> Result<(), Fail> {
+    let mut terms = Terms::new(rt.alloc());
+    let flag = truth(&mut terms, false)?;
+    let block = terms.constant(5, 3)?;
+    let offset = number(&mut terms, 9)?;
+    let pointer = ArgTerms::Ptr {
+        flag,
+        block,
+        offset,
+    };
+    let value = arg_value(&mut terms, pointer, IrType::Ptr)?;
+    assert_eq!(rt; value_of(rt.alloc(), &terms, value.is_pointer)?, Some(1));
+    assert_eq!(rt; value_of(rt.alloc(), &terms, value.block)?, Some(5));
+    assert!(rt; value.number == offset);
     Ok(())
 }

@@ -48,7 +48,7 @@ fn ends_allow_what_alive2_says(rt: HostRuntime) -> Result<(), Fail> {
 }
 
 /// The outcome of a run that returns nothing and reads nothing, on a tape that is plain or isn't.
-fn outcome(terms: &mut Terms, is_plain: bool) -> Result<OutcomeTerms, NoMemory>
+fn outcome(alloc: Global, terms: &mut Terms, is_plain: bool) -> Result<OutcomeTerms, NoMemory>
     ensures made { IfOk result (IsOutcome terms.new) }
     ensures kept { Keeps terms.old terms.new }
 {
@@ -59,6 +59,7 @@ fn outcome(terms: &mut Terms, is_plain: bool) -> Result<OutcomeTerms, NoMemory>
         ub: never,
         beyond: never,
         value: None,
+        blocks: nothing(alloc),
         read,
         plain,
     })
@@ -73,7 +74,7 @@ fn is_true(alloc: Global, terms: &Terms, id: TermId) -> Result<bool, NoMemory> {
 #[test]
 fn an_outcome_is_covered_by_itself(rt: HostRuntime) -> Result<(), Fail> {
     let mut terms = Terms::new(rt.alloc());
-    let end = outcome(&mut terms, true)?;
+    let end = outcome(rt.alloc(), &mut terms, true)?;
     let id = covered(&end, &end, &mut terms)?;
     assert!(rt; is_true(rt.alloc(), &terms, id)?);
     Ok(())
@@ -83,7 +84,7 @@ fn an_outcome_is_covered_by_itself(rt: HostRuntime) -> Result<(), Fail> {
 /// isn't.
 fn is_point(alloc: Global, flag: bool, byte: u8, is_plain: bool) -> Result<bool, NoMemory> {
     let mut terms = Terms::new(alloc);
-    let outcome = outcome(&mut terms, is_plain)?;
+    let outcome = outcome(alloc, &mut terms, is_plain)?;
     let flag = truth(&mut terms, flag)?;
     let number = terms.constant(u128::from(byte), 8)?;
     let parameter = Parameter {
@@ -100,7 +101,7 @@ fn is_point(alloc: Global, flag: bool, byte: u8, is_plain: bool) -> Result<bool,
         word_width: Width::of(1),
     };
     let input = InputTerms {
-        args: Sequence::from_vec(Vec::from_array(alloc, [ArgTerms { flag, number }])?),
+        args: Sequence::from_vec(Vec::from_array(alloc, [ArgTerms::Int { flag, number }])?),
         sizes: nothing(alloc),
         places: nothing(alloc),
     };

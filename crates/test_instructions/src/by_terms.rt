@@ -2,14 +2,14 @@
 
 ghost use Rattle.std.specs.Prelude.{◌≡◌, ◌<◌, IfOk};
 ghost use Rattle.bv_terms.specs.Trees.{Extends};
-ghost use Rattle.mem_terms.specs.Values.{IsSymValue};
+ghost use Rattle.mem_terms.specs.Values.{IsSymNumber};
 
 use crate::instructions::{Given, operand_pairs, upper_half, with_given};
 use bv_terms::{TermId, Terms, fold};
 use byte_block::Value;
 use inst_terms::{binary, cast, compare, select};
 use ir_tree::Inst;
-use mem_terms::SymValue;
+use mem_terms::{SymNumber, as_number, integer_value};
 use std::alloc::Global;
 use std::test::Fail;
 use support::{NoMemory, Sequence};
@@ -20,7 +20,7 @@ use term_folds::{Assigned, Evaluate};
 pub struct InstTerms {
     terms: Terms,
     undefined: Option<TermId>,
-    value: SymValue,
+    value: SymNumber,
 }
 
 /// The sum over the values of an instruction's terms.
@@ -34,14 +34,31 @@ pub fn evaluated(alloc: Global, inst: &Inst) -> Result<u64, Fail> {
 }
 
 /// An operand of two variables, whether it is poison and its number.
-fn operand(terms: &mut Terms, first: u64) -> Result<SymValue, NoMemory>
+fn operand(terms: &mut Terms, first: u64) -> Result<SymNumber, NoMemory>
     requires { first < 100 }
-    ensures made { IfOk result (IsSymValue terms.new) }
+    ensures made { IfOk result (IsSymNumber terms.new) }
     ensures kept { Extends terms.old terms.new }
 {
     let poison = terms.variable(first, 1)?;
     let number = terms.variable(first + 1, 64)?;
-    Ok(SymValue { poison, number })
+    Ok(SymNumber { poison, number })
+}
+
+/// A selection between two numbers.
+fn chosen(
+    terms: &mut Terms,
+    condition: SymNumber,
+    if_true: SymNumber,
+    if_false: SymNumber,
+) -> Result<SymNumber, NoMemory>
+    requires condition { IsSymNumber terms.old condition }
+    requires if_true { IsSymNumber terms.old if_true }
+    requires if_false { IsSymNumber terms.old if_false }
+{
+    let first = integer_value(terms, if_true)?;
+    let second = integer_value(terms, if_false)?;
+    let value = select(terms, condition, first, second)?;
+    as_number(terms, value)
 }
 
 /// The terms of an instruction on operands of its own.
@@ -69,7 +86,7 @@ pub fn terms_of(alloc: Global, inst: &Inst) -> Result<InstTerms, Fail> {
             to,
             ..
         } => cast(&mut terms, *by, *from, *to, a)?,
-        Inst::Select { .. } => select(&mut terms, a, b, c)?,
+        Inst::Select { .. } => chosen(&mut terms, a, b, c)?,
         Inst::Freeze { .. } => a,
         Inst::Alloca { .. } | Inst::Load { .. } | Inst::Store { .. } | Inst::GetElementPtr { .. } =>
             return Err(Fail::from("an instruction on memory")),

@@ -31,6 +31,8 @@ mod made_functions;
 #[cfg(test)]
 mod memory_tests;
 #[cfg(test)]
+mod pointer_tests;
+#[cfg(test)]
 mod position_tests;
 #[cfg(test)]
 mod tests;

@@ -1,4 +1,4 @@
-//! Instructions on memory, which no text makes yet: sizes, limits and sites.
+//! Instructions on memory: sizes, limits and sites, and what is read of them.
 use crate::made_functions::function_of;
 use ir_tree::{
     Block, Function, GepIndex, Inst, IrType, MemoryType, Operand, Site, Terminator, TypedOperand,
@@ -202,5 +202,54 @@ fn a_store_has_no_result(rt: HostRuntime) -> Result<(), Fail> {
         written,
     ];
     assert!(rt; list.all.as_slice() == expected.as_slice());
+    Ok(())
+}
+
+/// The number of an alloca counts phis and the ends of blocks. An alignment that isn't written is the
+/// size of the type, or of the innermost element.
+#[test]
+fn numbers_and_alignments_are_filled_in(rt: HostRuntime) -> Result<(), Fail> {
+    let f = function_of(
+        rt.alloc(),
+        "define void @f(ptr nonnull %p) { a: %x = add i8 1, 2 br label %b b: %y = phi i8 [ 0, %a ] \
+        %q = alloca [ 3 x [ 2 x i16 ] ] %z = load i64, ptr %p store i8 %y, ptr %q, align 8 \
+        %r = getelementptr inbounds i8, ptr %p, i16 -1 ret void }",
+    )?;
+    let [parameter] = f.parameters.as_slice() else {
+        return Err(Fail::from("other parameters"));
+    };
+    assert!(rt; parameter.non_null);
+    let [_, block] = f.blocks.as_slice() else {
+        return Err(Fail::from("other blocks"));
+    };
+    let [
+        Inst::Alloca {
+            number,
+            of_type,
+            align,
+            ..
+        },
+        Inst::Load { align: loaded, .. },
+        Inst::Store { align: stored, .. },
+        Inst::GetElementPtr {
+            inbounds,
+            nuw,
+            indices,
+            ..
+        },
+    ] = block.insts.as_slice()
+    else {
+        return Err(Fail::from("other instructions"));
+    };
+    assert_eq!(rt; *number, 3);
+    assert!(rt; of_type.lengths.as_slice() == [3, 2].as_slice());
+    assert_eq!(rt; *align, 2);
+    assert_eq!(rt; *loaded, 8);
+    assert_eq!(rt; *stored, 8);
+    assert!(rt; *inbounds && !*nuw);
+    let [index] = indices.as_slice() else {
+        return Err(Fail::from("other indices"));
+    };
+    assert!(rt; index.operand == Operand::Number(65_535));
     Ok(())
 }

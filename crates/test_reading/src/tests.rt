@@ -8,7 +8,7 @@ use text_places::Place;
 /// number, a string, a mark of another form, or a local name where a type begins, is unsupported.
 const WORDS: [(&str, &str); 15] = [
     (
-        "define i8 @f(i8 %x) {\n  %r = load i8, ptr %x\n  ret i8 %r }",
+        "define i8 @f(i8 %x) {\n  %r = va_arg ptr %x, i8\n  ret i8 %r }",
         "Unsupported@2:8",
     ),
     (
@@ -48,7 +48,10 @@ const WORDS: [(&str, &str); 15] = [
         "define i8 @f(i8 %x) { ret i8 %x ret i8 %x }",
         "Unsupported@1:33",
     ),
-    ("define ptr @f(ptr %x) { ret ptr %x }", "Unsupported@1:8"),
+    (
+        "define float @f(float %x) { ret float %x }",
+        "Unsupported@1:8",
+    ),
 ];
 
 #[test]
