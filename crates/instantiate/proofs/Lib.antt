@@ -1,5 +1,6 @@
 mod Answered
 mod Decoded
+mod Excluding
 mod Extending
 mod Findings
 mod Fitting
@@ -9,5 +10,7 @@ mod Mentioned
 mod Moved
 mod Numbered
 mod Ordered
+mod SameTapes
+mod Shifting
 mod Trying
 mod Uncovering

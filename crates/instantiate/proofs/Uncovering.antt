@@ -1,5 +1,5 @@
 -- The goals of the two questions are true exactly on their answers.
-use Rattle.std.proofs.Common.{ℕ, ◌≡◌, ◌↔◌, Bool, true, false, not, ◌&&◌, ◌||◌, List, [], ◌∷◌, ◌++◌, length, refl, ap, sym, subst, ◌∙◌}
+use Rattle.std.proofs.Common.{ℕ, ◌≡◌, ◌↔◌, Bool, true, false, not, ◌&&◌, ◌||◌, List, [], ◌∷◌, ◌++◌, length, append-nil, refl, ap, sym, subst, ◌∙◌}
 use Rattle.std.specs.List.{flat_map}
 use Rattle.std.proofs.lemmas.Bool.{eqb-true}
 use Rattle.ir_tree.specs.declared.tree.IrType.{IrType}
@@ -31,7 +31,7 @@ use Rattle.mem_terms.specs.declared.inputs.TapeTerms.{TapeTerms}
 use Rattle.mem_terms.specs.declared.outcome.OutcomeTerms.{OutcomeTerms}
 use Rattle.mem_terms.specs.Values.{Each, reading}
 use Rattle.mem_terms.specs.Inputs.{IsArg, AreArgs, AreWords, IsInput, IsByteTerms, IsBlockTerms, input_at, words_at}
-use Rattle.mem_terms.specs.Outcomes.{IsOutcome, Shows}
+use Rattle.mem_terms.specs.Outcomes.{Shows}
 use Rattle.mem_terms.proofs.Bits.{term-below}
 use Rattle.mem_terms.proofs.Eaches.{map-same}
 use Rattle.mem_terms.proofs.Later.{keeps_trans, term-later, input_at-later, words_at-later, outcome-later}
@@ -40,21 +40,25 @@ use Rattle.refine_terms.specs.Numbers.{IsInputOf, IsTapeOf, arg_numbers, byte_nu
 use Rattle.instantiate.specs.Candidates.{input_in, none_allows, outcome_in}
 use Rattle.instantiate.specs.Questions.{IsCovering, IsUncovered}
 use Rattle.instantiate.specs.Shapes.{IsShapeOf}
+use Rattle.instantiate.specs.Subjects.{IsOfTarget}
 use Rattle.instantiate.proofs.Decoded.{decoded}
 
-and_left : (a b : Bool) → (a && b) ≡ true → a ≡ true
+pub and_left : (a b : Bool) → (a && b) ≡ true → a ≡ true
 and_left true b h = refl
 and_left false b h = h
 
-and_right : (a b : Bool) → (a && b) ≡ true → b ≡ true
+pub and_right : (a b : Bool) → (a && b) ≡ true → b ≡ true
 and_right true b h = h
 and_right false b h = absurd (let x : ⊥ = cc in x)
 
-and_both : (a b : Bool) → a ≡ true → b ≡ true → (a && b) ≡ true
+pub and_both : (a b : Bool) → a ≡ true → b ≡ true → (a && b) ≡ true
 and_both a b p q = rw (p, q) refl
 
 two : {A B C : Type 0} (f : A → B → C) {x x' : A} {y y' : B} → x ≡ x' → y ≡ y' → f x y ≡ f x' y'
 two f e g = cc
+
+three : {A B C D : Type 0} (f : A → B → C → D) {x x' : A} {y y' : B} {z z' : C} → x ≡ x' → y ≡ y' → z ≡ z' → f x y z ≡ f x' y' z'
+three f e g h = cc
 
 -- ---- arguments of both functions
 
@@ -142,26 +146,12 @@ not_either : (x r s : Bool) → r ≡ not s → (not x && r) ≡ not (x || s)
 not_either true r s e = refl
 not_either false r s e = e
 
-none_is : (pair : Functions) (bounds : Bounds) (p : Point) (tapes : List (List ℕ)) → none_allows pair.source bounds p.input (run_of pair.target bounds p.input p.tape).outcome tapes ≡ not (some_covers pair bounds p tapes)
+pub none_is : (pair : Functions) (bounds : Bounds) (p : Point) (tapes : List (List ℕ)) → none_allows pair.source bounds p.input (run_of pair.target bounds p.input p.tape).outcome tapes ≡ not (some_covers pair bounds p tapes)
 unfolding none_allows some_covers covers
 none_is pair bounds p [] = refl
 none_is pair bounds p (tape ∷ tapes) =
     not_either (is_refined (run_of pair.source bounds p.input tape).outcome (run_of pair.target bounds p.input p.tape).outcome)
     (none_allows pair.source bounds p.input (run_of pair.target bounds p.input p.tape).outcome tapes) (some_covers pair bounds p tapes) (none_is pair bounds p tapes)
-
-and_assoc : (a b c : Bool) → ((a && b) && c) ≡ (a && (b && c))
-and_assoc true b c = refl
-and_assoc false b c = refl
-
-none_append : (f : Function) (bounds : Bounds) (input : Input) (target : Outcome) (xs ys : List (List ℕ)) → (none_allows f bounds input target xs && none_allows f bounds input target ys) ≡ none_allows f bounds input target (xs ++ ys)
-unfolding none_allows
-none_append f bounds input target [] ys = refl
-none_append f bounds input target (x ∷ xs) ys =
-    and_assoc (not (is_refined (run_of f bounds input x).outcome target)) (none_allows f bounds input target xs) (none_allows f bounds input target ys)
-    ∙ ap (λ b. not (is_refined (run_of f bounds input x).outcome target) && b) (none_append f bounds input target xs ys)
-
-gathered : (a b c x y : Bool) → c ≡ (b && y) → b ≡ (a && x) → c ≡ (a && (x && y))
-gathered a b c x y e f = e ∙ (ap (λ z. z && y) f ∙ and_assoc a x y)
 
 -- ---- the uncovered point
 
@@ -189,24 +179,26 @@ a_point pair bounds s p is h plain = record {
 shape_code : {pair : Functions} {bounds : Bounds} {s : Shape} {numbers : List ℕ} (p : Point) → IsShapeOf pair bounds s → code_of s.blocks s.parameters p ≡ numbers → code_of bounds.blocks pair.target.parameters p ≡ numbers
 shape_code p is e = two (λ n ps. code_of n ps p) (sym is.blocks) (sym is.parameters) ∙ e
 
-not_true : (b : Bool) → not b ≡ true → b ≡ false
+pub not_true : (b : Bool) → not b ≡ true → b ≡ false
 not_true true e = absurd (let z : ⊥ = cc in z)
 not_true false e = refl
 
-not_false : (b : Bool) → b ≡ false → not b ≡ true
+pub not_false : (b : Bool) → b ≡ false → not b ≡ true
 not_false b e = rw e refl
+
+-- a point whose code the terms stand for is the one that they stand for
+pub the_point : (pair : Functions) (bounds : Bounds) (s : Shape) (terms : List Term) (input : InputTerms) (tape : TapeTerms) → IsShapeOf pair bounds s → IsInputOf s terms input → (v : ℕ → ℕ → ℕ) (p : Point) → IsOfShape s p
+    → code_of s.blocks s.parameters p ≡ numbers_at v terms input tape → point_at bounds v terms input tape ≡ p
+the_point pair bounds s terms input tape shape are v p of code =
+    let d = decoded v terms s input tape p are of code in
+    let there = d.0 ∙ ap (λ n. input_at (reading n v) terms input) shape.blocks in
+    sym (point_is p (input_in bounds v terms input) (words_at v terms tape.words) there d.1)
 
 module _ (pair : Functions) (bounds : Bounds) (tapes : List (List ℕ)) (s : Shape) (terms new : List Term) (input : InputTerms) (tape : TapeTerms) (plain : (ℕ → ℕ → ℕ) → Bool) (id : TermId) (well : (ℕ → ℕ → ℕ) → Bool)
     (shape : IsShapeOf pair bounds s) (are : IsInputOf s terms input)
     (is_plain : (v : ℕ → ℕ → ℕ) → (plain v ≡ true) ↔ IsPlain (words_at v terms tape.words) (run_of pair.target bounds (input_in bounds v terms input) (words_at v terms tape.words)))
     (is_well : (v : ℕ → ℕ → ℕ) → (well v ≡ true) ↔ (IsCode s (numbers_at v terms input tape) × (plain v ≡ true)))
     (says : (v : ℕ → ℕ → ℕ) → bit_at v new id ≡ (well v && not (is_covered pair bounds tapes (point_at bounds v terms input tape)))) where
-  the_point : (v : ℕ → ℕ → ℕ) (p : Point) → IsOfShape s p → code_of s.blocks s.parameters p ≡ numbers_at v terms input tape → point_at bounds v terms input tape ≡ p
-  the_point v p of code =
-      let d = decoded v terms s input tape p are of code in
-      let there = d.0 ∙ ap (λ n. input_at (reading n v) terms input) shape.blocks in
-      sym (point_is p (input_in bounds v terms input) (words_at v terms tape.words) there d.1)
-
   to_answer : (v : ℕ → ℕ → ℕ) → bit_at v new id ≡ true → IsUncovered pair bounds tapes (numbers_at v terms input tape)
   to_answer v e =
       let q : Point = point_at bounds v terms input tape in
@@ -214,7 +206,7 @@ module _ (pair : Functions) (bounds : Bounds) (tapes : List (List ℕ)) (s : Sha
       let is_code = (is_well v).0 (and_left (well v) (not (is_covered pair bounds tapes q)) both) in
       let found = (codes_tell_points s).points (numbers_at v terms input tape) is_code.0 in
       let p : Point = found.0 in
-      let same = the_point v p found.1.of_shape found.1.code in
+      let same = the_point pair bounds s terms input tape shape are v p found.1.of_shape found.1.code in
       let plain_there : IsPlain p.tape (run_of pair.target bounds p.input p.tape) = subst (λ (q : Point). IsPlain q.tape (run_of pair.target bounds q.input q.tape)) same ((is_plain v).0 is_code.1) in
       let free = not_true (is_covered pair bounds tapes q) (and_right (well v) (not (is_covered pair bounds tapes q)) both) in
       record {
@@ -229,7 +221,7 @@ module _ (pair : Functions) (bounds : Bounds) (tapes : List (List ℕ)) (s : Sha
       let p : Point = u.of in
       let of = of_shape pair bounds s p shape u.point in
       let code : code_of s.blocks s.parameters p ≡ numbers_at v terms input tape = rw (shape.parameters, shape.blocks) u.code in
-      let same = the_point v p of code in
+      let same = the_point pair bounds s terms input tape shape are v p of code in
       let is_code : IsCode s (numbers_at v terms input tape) = subst (IsCode s) code ((codes_tell_points s).codes p of) in
       let plain_there = (is_plain v).1 (subst (λ (q : Point). IsPlain q.tape (run_of pair.target bounds q.input q.tape)) (sym same) u.point.plain) in
       let free : is_covered pair bounds tapes (point_at bounds v terms input tape) ≡ false = subst (λ (q : Point). is_covered pair bounds tapes q ≡ false) (sym same) u.uncovered in
@@ -238,43 +230,23 @@ module _ (pair : Functions) (bounds : Bounds) (tapes : List (List ℕ)) (s : Sha
   answers : IsTerm new 1 id → Decides new id (λ v. IsUncovered pair bounds tapes (numbers_at v terms input tape))
   answers is = (is, λ v. (to_answer v, from_answer v))
 
-pub uncovered_decides : (t0 t1 t2 t3 t4 : List Term) (pair : Functions) (bounds : Bounds) (tapes : List (List ℕ)) (s : Shape) (input : InputTerms) (tape : TapeTerms) (o : OutcomeTerms) (g2 g3 g4 : TermId)
-    → IsShapeOf pair bounds s → IsInputOf s t0 input → IsTapeOf s t0 tape → Keeps t0 t1 → Keeps t1 t2 → Keeps t2 t3 → IsOutcome t1 o
-    → ((v : ℕ → ℕ → ℕ) → Shows (reading bounds.blocks v) t1 (words_at v t0 tape.words) (run_of pair.target bounds (input_in bounds v t0 input) (words_at v t0 tape.words)) o)
-    → Decides t2 g2 (λ v. IsCode s (numbers_at v t1 input tape) × (bit_at v t1 o.plain ≡ true))
-    → Tests t3 g3 (λ v. bit_at v t2 g2 && none_allows pair.source bounds (input_in bounds v t2 input) (outcome_in bounds v t2 o) (shifted (need_of bounds.turns pair.source) (words_at v t2 tape.words)))
-    → Tests t4 g4 (λ v. bit_at v t3 g3 && none_allows pair.source bounds (input_in bounds v t3 input) (outcome_in bounds v t3 o) tapes)
-    → Decides t4 g4 (λ v. IsUncovered pair bounds tapes (numbers_at v t0 input tape))
-uncovered_decides t0 t1 t2 t3 t4 pair bounds tapes s input tape o g2 g3 g4 shape are words k1 k2 k3 is_o shows well shifts others =
-    answers pair bounds tapes s t0 t4 input tape (λ v. bit_at v t1 o.plain) g4 (λ v. bit_at v t2 g2) shape are (λ v. (shows v).plain)
-    (λ v. subst (λ ns. (bit_at v t2 g2 ≡ true) ↔ (IsCode s ns × (bit_at v t1 o.plain ≡ true))) (numbers-later t0 t1 k1 s input tape are words v) (well.1 v)) says
-    (record { within = others.within; wide = others.wide })
+pub uncovered_decides : (old mid new : List Term) (pair : Functions) (bounds : Bounds) (s : Shape) (input : InputTerms) (tape : TapeTerms) (o : OutcomeTerms) (well id : TermId)
+    → IsShapeOf pair bounds s → IsInputOf s old input → IsTapeOf s old tape → Keeps old mid → IsOfTarget pair bounds old input tape o
+    → Decides mid well (λ v. IsCode s (numbers_at v old input tape) × (bit_at v old o.plain ≡ true))
+    → Tests new id (λ v. bit_at v mid well && none_allows pair.source bounds (input_in bounds v mid input) (outcome_in bounds v mid o) (shifted (need_of bounds.turns pair.source) (words_at v mid tape.words)))
+    → Decides new id (λ v. IsUncovered pair bounds [] (numbers_at v old input tape))
+uncovered_decides old mid new pair bounds s input tape o well id shape are words k run is_well shifts =
+    answers pair bounds [] s old new input tape (λ v. bit_at v old o.plain) id (λ v. bit_at v mid well) shape are (λ v. (run.shows v).plain) is_well.1 says (record { within = shifts.within; wide = shifts.wide })
   where
-    k02 : Keeps t0 t2
-    k02 = keeps_trans t0 t1 t2 k1 k2
-
-    k03 : Keeps t0 t3
-    k03 = keeps_trans t0 t2 t3 k02 k3
-
-    k13 : Keeps t1 t3
-    k13 = keeps_trans t1 t2 t3 k2 k3
-
-    none_there : (v : ℕ → ℕ → ℕ) (t : List Term) → Keeps t0 t → Keeps t1 t → (rest : List (List ℕ))
-        → none_allows pair.source bounds (input_in bounds v t input) (outcome_in bounds v t o) rest ≡ none_allows pair.source bounds (input_in bounds v t0 input) (run_of pair.target bounds (input_in bounds v t0 input) (words_at v t0 tape.words)).outcome rest
-    none_there v t k k' rest =
-        two (λ (i : Input) (z : Outcome). none_allows pair.source bounds i z rest) (input_at-later t0 t k (reading bounds.blocks v) s.parameters s.blocks s.bytes input are) (outcome-later t1 t k' (reading bounds.blocks v) o is_o ∙ (shows v).outcome)
-
-    says : (v : ℕ → ℕ → ℕ) → bit_at v t4 g4 ≡ (bit_at v t2 g2 && not (is_covered pair bounds tapes (point_at bounds v t0 input tape)))
+    says : (v : ℕ → ℕ → ℕ) → bit_at v new id ≡ (bit_at v mid well && not (is_covered pair bounds [] (point_at bounds v old input tape)))
     says v =
-        let p : Point = point_at bounds v t0 input tape in
-        let z : Outcome = (run_of pair.target bounds p.input p.tape).outcome in
+        let p : Point = point_at bounds v old input tape in
         let front : List (List ℕ) = shifted (need_of bounds.turns pair.source) p.tape in
-        let moved_words : shifted (need_of bounds.turns pair.source) (words_at v t2 tape.words) ≡ front = ap (shifted (need_of bounds.turns pair.source)) (words_at-later t0 t2 k02 v tape.words words.words) in
-        let first = ap (λ xs. none_allows pair.source bounds (input_in bounds v t2 input) (outcome_in bounds v t2 o) xs) moved_words ∙ none_there v t2 k02 k2 front in
-        let second = none_there v t3 k03 k13 tapes in
-        gathered (bit_at v t2 g2) (bit_at v t3 g3) (bit_at v t4 g4) (none_allows pair.source bounds p.input z front) (none_allows pair.source bounds p.input z tapes)
-        (others.says v ∙ ap (λ b. bit_at v t3 g3 && b) second) (shifts.says v ∙ ap (λ b. bit_at v t2 g2 && b) first)
-        ∙ ap (λ b. bit_at v t2 g2 && b) (none_append pair.source bounds p.input z front tapes ∙ none_is pair bounds p (front ++ tapes))
+        let same_words : words_at v mid tape.words ≡ p.tape = words_at-later old mid k v tape.words words.words in
+        let same_input : input_in bounds v mid input ≡ p.input = input_at-later old mid k (reading bounds.blocks v) s.parameters s.blocks s.bytes input are in
+        let same_outcome : outcome_in bounds v mid o ≡ (run_of pair.target bounds p.input p.tape).outcome = outcome-later old mid k (reading bounds.blocks v) o run.made ∙ (run.shows v).outcome in
+        let none = three (λ (i : Input) (z : Outcome) (ws : List ℕ). none_allows pair.source bounds i z (shifted (need_of bounds.turns pair.source) ws)) same_input same_outcome same_words in
+        shifts.says v ∙ ap (λ b. bit_at v mid well && b) (none ∙ (none_is pair bounds p front ∙ ap (λ xs. not (some_covers pair bounds p xs)) (sym (append-nil front))))
 
 -- ---- the covering tape
 
@@ -283,25 +255,24 @@ words_fit terms [] range h v = tt
 words_fit terms (w ∷ ws) range h v = (term-below terms 64 w range h.0 v, words_fit terms ws range h.1 v)
 
 pub covering_decides : (t0 t1 t2 t3 t4 t5 : List Term) (pair : Functions) (bounds : Bounds) (s : Shape) (p : Point) (input : InputTerms) (tape choices : TapeTerms) (source target : OutcomeTerms) (id : TermId)
-    → AreInRange t0 → AreWords t0 tape.words → length tape.words ≡ need_of bounds.turns pair.source → IsShapeOf pair bounds s → IsInputOf s t1 input → Keeps t0 t1 → Keeps t1 t2 → Keeps t2 t3 → Keeps t3 t4 → IsOutcome t3 target
-    → ((v : ℕ → ℕ → ℕ) → input_at (reading s.blocks v) t1 input ≡ p.input) → ((v : ℕ → ℕ → ℕ) → words_at v t2 choices.words ≡ p.tape)
-    → ((v : ℕ → ℕ → ℕ) → Shows (reading bounds.blocks v) t3 (words_at v t2 choices.words) (run_of pair.target bounds (input_in bounds v t2 input) (words_at v t2 choices.words)) target)
+    → AreInRange t0 → AreWords t0 tape.words → length tape.words ≡ need_of bounds.turns pair.source → IsShapeOf pair bounds s → IsInputOf s t1 input → AreWords t2 choices.words → Keeps t0 t1 → Keeps t1 t2 → Keeps t2 t3 → Keeps t3 t4
+    → ((v : ℕ → ℕ → ℕ) → input_at (reading s.blocks v) t1 input ≡ p.input) → ((v : ℕ → ℕ → ℕ) → words_at v t2 choices.words ≡ p.tape) → IsOfTarget pair bounds t3 input choices target
     → ((v : ℕ → ℕ → ℕ) → Shows (reading bounds.blocks v) t4 (words_at v t3 tape.words) (run_of pair.source bounds (input_in bounds v t3 input) (words_at v t3 tape.words)) source)
     → Tests t5 id (λ v. is_refined (outcome_in bounds v t4 source) (outcome_in bounds v t4 target))
     → Decides t5 id (λ v. IsCovering pair bounds p (words_at v t0 tape.words))
 unfolding covers
-covering_decides t0 t1 t2 t3 t4 t5 pair bounds s p input tape choices source target id range words count shape are k1 k2 k3 k4 is_target known chosen target_shows source_shows t =
+covering_decides t0 t1 t2 t3 t4 t5 pair bounds s p input tape choices source target id range words count shape are choice_words k1 k2 k3 k4 known chosen of_target source_shows t =
     (record { within = t.within; wide = t.wide }, λ v. ((λ e. record { fits = subst (λ n. WordsFit 64 n (words_at v t0 tape.words)) count (words_fit t0 tape.words range words v); cover = sym (says v) ∙ e }), (λ c. says v ∙ c.cover)))
   where
-    inputs : (v : ℕ → ℕ → ℕ) (t' : List Term) → Keeps t1 t' → input_in bounds v t' input ≡ p.input
-    inputs v t' k = input_at-later t1 t' k (reading bounds.blocks v) s.parameters s.blocks s.bytes input are ∙ (ap (λ n. input_at (reading n v) t1 input) (sym shape.blocks) ∙ known v)
+    inputs : (v : ℕ → ℕ → ℕ) → input_in bounds v t3 input ≡ p.input
+    inputs v = input_at-later t1 t3 (keeps_trans t1 t2 t3 k2 k3) (reading bounds.blocks v) s.parameters s.blocks s.bytes input are ∙ (ap (λ n. input_at (reading n v) t1 input) (sym shape.blocks) ∙ known v)
 
     says : (v : ℕ → ℕ → ℕ) → bit_at v t5 id ≡ is_refined (run_of pair.source bounds p.input (words_at v t0 tape.words)).outcome (run_of pair.target bounds p.input p.tape).outcome
     says v =
-        let k13 = keeps_trans t1 t2 t3 k2 k3 in
-        let k03 = keeps_trans t0 t1 t3 k1 k13 in
-        let of_source : outcome_in bounds v t4 source ≡ (run_of pair.source bounds p.input (words_at v t0 tape.words)).outcome =
-        (source_shows v).outcome ∙ two (λ (i : Input) (ws : List ℕ). (run_of pair.source bounds i ws).outcome) (inputs v t3 k13) (words_at-later t0 t3 k03 v tape.words words) in
-        let of_target : outcome_in bounds v t4 target ≡ (run_of pair.target bounds p.input p.tape).outcome =
-        outcome-later t3 t4 k4 (reading bounds.blocks v) target is_target ∙ ((target_shows v).outcome ∙ two (λ (i : Input) (ws : List ℕ). (run_of pair.target bounds i ws).outcome) (inputs v t2 k2) (chosen v)) in
-        t.says v ∙ two is_refined of_source of_target
+        let k03 = keeps_trans t0 t1 t3 k1 (keeps_trans t1 t2 t3 k2 k3) in
+        let from_source : outcome_in bounds v t4 source ≡ (run_of pair.source bounds p.input (words_at v t0 tape.words)).outcome =
+        (source_shows v).outcome ∙ two (λ (i : Input) (ws : List ℕ). (run_of pair.source bounds i ws).outcome) (inputs v) (words_at-later t0 t3 k03 v tape.words words) in
+        let from_target : outcome_in bounds v t4 target ≡ (run_of pair.target bounds p.input p.tape).outcome =
+        outcome-later t3 t4 k4 (reading bounds.blocks v) target of_target.made
+        ∙ ((of_target.shows v).outcome ∙ two (λ (i : Input) (ws : List ℕ). (run_of pair.target bounds i ws).outcome) (inputs v) (words_at-later t2 t3 k3 v choices.words choice_words ∙ chosen v)) in
+        t.says v ∙ two is_refined from_source from_target

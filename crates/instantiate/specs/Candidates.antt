@@ -1,5 +1,5 @@
 -- Tapes of the source that are tried for an input and an outcome of the target.
-use Rattle.std.specs.Prelude.{◌≡◌, ℕ, Bool, true, not, ◌&&◌, List, [], ◌∷◌}
+use Rattle.std.specs.Prelude.{◌≡◌, ℕ, Bool, true, not, ◌&&◌, List, [], ◌∷◌, map, Contains}
 use Rattle.ir_tree.specs.declared.tree.Function.{Function}
 use Rattle.points.specs.declared.point.Bounds.{Bounds}
 use Rattle.points.specs.declared.point.Input.{Input}
@@ -11,12 +11,25 @@ use Rattle.bv_terms.specs.declared.term.TermId.{TermId}
 use Rattle.bv_terms.specs.declared.term.Term.{Term}
 use Rattle.bv_terms.specs.Trees.{Tests, bit_at}
 use Rattle.mem_terms.specs.declared.inputs.InputTerms.{InputTerms}
+use Rattle.mem_terms.specs.declared.inputs.TapeTerms.{TapeTerms}
 use Rattle.mem_terms.specs.declared.outcome.OutcomeTerms.{OutcomeTerms}
-use Rattle.mem_terms.specs.Values.{reading}
-use Rattle.mem_terms.specs.Inputs.{IsInput, input_at}
+use Rattle.mem_terms.specs.Values.{Each, reading}
+use Rattle.mem_terms.specs.Inputs.{AreWords, IsInput, input_at, words_at}
 use Rattle.mem_terms.specs.Outcomes.{IsOutcome, LeavesGiven, outcome_at}
 use Rattle.instantiate.specs.declared.goals.Trial.{Trial}
 use Rattle.encoder.specs.Frontier.{CanRun}
+
+-- the words of these tapes
+abbrev pub tapes_at : (ℕ → ℕ → ℕ) → List Term → List TapeTerms → List (List ℕ)
+tapes_at v terms tapes = map (λ (tape : TapeTerms). words_at v terms tape.words) tapes
+
+abbrev pub AreTapes : List Term → List TapeTerms → Type 0
+AreTapes terms tapes = Each (λ (tape : TapeTerms). AreWords terms tape.words) tapes
+
+-- each tape of the one list stands in the other, in whatever order and however often
+pub record AreSameTapes (xs ys : List (List ℕ)) : Type 0 where
+  pub here : (tape : List ℕ) → Contains xs tape → Contains ys tape
+  pub there : (tape : List ℕ) → Contains ys tape → Contains xs tape
 
 -- the source's run on none of the tapes allows the outcome
 unfoldable pub none_allows : Function → Bounds → Input → Outcome → List (List ℕ) → Bool

@@ -1,28 +1,30 @@
 //! The goals of the two questions.
 
-ghost use Rattle.std.specs.Prelude.{◌≡◌, ◌∷◌, [], IfOk, length};
+ghost use Rattle.std.specs.Prelude.{◌≡◌, ◌∷◌, ◌&&◌, [], IfOk, length};
 ghost use Rattle.points.specs.Covers.{shifted};
-ghost use Rattle.points.specs.Tapes.{need_of};
 ghost use Rattle.points.specs.Trail.{IsPoint};
-ghost use Rattle.bv_terms.specs.Trees.{IsTerm, Keeps};
+ghost use Rattle.bv_terms.specs.Trees.{IsTerm, Keeps, Tests, bit_at};
 ghost use Rattle.mem_terms.specs.Inputs.{AreWords, words_at};
+ghost use Rattle.mem_terms.specs.Outcomes.{IsOutcome, LeavesGiven};
 ghost use Rattle.refine_terms.specs.Deciding.{Decides};
 ghost use Rattle.refine_terms.specs.Numbers.{IsInputOf, IsTapeOf, numbers_at};
-ghost use Rattle.instantiate.specs.Candidates.{IsTrial, Narrows};
-ghost use Rattle.instantiate.specs.Questions.{CanBeAsked, IsCovering, IsUncovered};
-ghost use Rattle.instantiate.specs.Shapes.{IsShapeOf};
+ghost use Rattle.instantiate.specs.Candidates.{AreTapes, IsTrial, Narrows, input_in, none_allows, outcome_in, tapes_at};
+ghost use Rattle.instantiate.specs.Questions.{IsCovering, IsUncovered};
+ghost use Rattle.instantiate.specs.Subjects.{IsOfTarget, IsSubject};
 
+use crate::candidates::shifted_tapes;
 use crate::known::known_input;
-use crate::tapes::{SHIFTS, known, moved};
+use crate::subject::Subject;
+use crate::tapes::known;
 use bv_terms::{TermId, Terms};
 use encoder::encode;
 use ir_tree::Function;
 use mem_terms::{InputTerms, OutcomeTerms, TapeTerms, both, negation};
-use points::{Bounds, Pair, Point, Shape};
+use points::{Bounds, Point};
 use refine_terms::{covered, well_point};
 use std::alloc::Global;
-use support::{NoMemory, Sequence};
-use unroll::{Layered, layers, need};
+use support::NoMemory;
+use unroll::Layered;
 
 /// What tapes of the source are tried for: an input, and the target's outcome on it.
 #[derive(Clone, Copy)]
@@ -63,6 +65,28 @@ fn and_uncovered(
     Ok(id)
 }
 
+/// True where the goal is and on none of the candidates the source's run allows the target's
+/// outcome.
+fn and_none(
+    alloc: Global,
+    trial: &Trial,
+    candidates: &[TapeTerms],
+    goal: TermId,
+    terms: &mut Terms,
+) -> Result<TermId, NoMemory>
+    requires trial { IsTrial terms.old trial.now }
+    requires candidates { AreTapes terms.old candidates.now }
+    requires goal { IsTerm terms.old 1 goal }
+    ensures made { IfOk result (Narrows trial.now terms.old terms.new goal (λ v. tapes_at v terms.old candidates.now)) }
+    ensures kept { Keeps terms.old terms.new }
+{
+    let mut goal = goal;
+    for candidate in candidates {
+        goal = and_uncovered(alloc, trial, candidate, goal, terms)?;
+    }
+    Ok(goal)
+}
+
 /// True where the goal is and no shift of the tape lets the source's run allow the target's outcome.
 fn and_no_shift(
     alloc: Global,
@@ -78,108 +102,121 @@ fn and_no_shift(
     ensures made { IfOk result (Narrows trial.now terms.old terms.new goal (λ v. shifted need (words_at v terms.old words.now))) }
     ensures kept { Keeps terms.old terms.new }
 {
-    let mut goal = goal;
-    for shift in SHIFTS {
-        let candidate = moved(alloc, words, shift, need, terms)?;
-        goal = and_uncovered(alloc, trial, &candidate, goal, terms)?;
-    }
-    Ok(goal)
+    let candidates = shifted_tapes(alloc, words, need, terms)?;
+    let id = and_none(alloc, trial, candidates.as_slice(), goal, terms)?;
+    Ok(id)
 }
 
-/// True where the goal is and on none of these tapes the source's run allows the target's outcome.
-fn and_no_tape(
+/// True where the goal is and on this tape the source's run doesn't allow the target's outcome.
+pub fn and_no_tape(
     alloc: Global,
-    trial: &Trial,
-    tapes: &[Sequence<u64>],
+    subject: &Subject,
+    input: &InputTerms,
+    target: &OutcomeTerms,
+    tape: &[u64],
     goal: TermId,
     terms: &mut Terms,
 ) -> Result<TermId, NoMemory>
-    requires trial { IsTrial terms.old trial.now }
+    requires subject { IsSubject subject.now }
+    requires input { IsInputOf subject.now.shape terms.old input.now }
+    requires target { IsOutcome terms.old target.now }
+    requires given { LeavesGiven subject.now.bounds.now.blocks subject.now.bounds.now.bytes target.now }
     requires goal { IsTerm terms.old 1 goal }
-    ensures made { IfOk result (Narrows trial.now terms.old terms.new goal (λ _. tapes.now)) }
+    ensures made { IfOk result (λ id. Tests terms.new id (λ v. bit_at v terms.old goal && none_allows subject.now.pair.now.source subject.now.bounds.now
+        (input_in subject.now.bounds.now v terms.old input.now) (outcome_in subject.now.bounds.now v terms.old target.now) (tape.now ∷ []))) }
     ensures kept { Keeps terms.old terms.new }
 {
-    let mut goal = goal;
-    for tape in tapes {
-        let candidate = known(alloc, tape.as_slice(), terms)?;
-        goal = and_uncovered(alloc, trial, &candidate, goal, terms)?;
-    }
-    Ok(goal)
+    let candidate = known(alloc, tape, terms)?;
+    let trial = Trial {
+        source: subject.pair.source(),
+        layered: &subject.of_source,
+        bounds: subject.bounds,
+        input,
+        target,
+    };
+    let id = and_uncovered(alloc, &trial, &candidate, goal, terms)?;
+    Ok(id)
 }
 
-/// True where the numbers of the terms are the code of a point that neither a shift of its tape nor
-/// one of these tapes covers.
-pub fn uncovered(
+/// The outcome of the target's run.
+pub fn target_run(
     alloc: Global,
-    pair: &Pair,
-    bounds: &Bounds,
-    shape: &Shape,
+    subject: &Subject,
     input: &InputTerms,
     tape: &TapeTerms,
-    tapes: &[Sequence<u64>],
     terms: &mut Terms,
-) -> Result<TermId, NoMemory>
-    requires ready { CanBeAsked pair.now bounds.now }
-    requires shape { IsShapeOf pair.now bounds.now shape.now }
-    requires input { IsInputOf shape.now terms.old input.now }
-    requires tape { IsTapeOf shape.now terms.old tape.now }
-    ensures made { IfOk result (λ id. Decides terms.new id (λ v. IsUncovered pair.now bounds.now tapes.now (numbers_at v terms.old input.now tape.now))) }
+) -> Result<OutcomeTerms, NoMemory>
+    requires subject { IsSubject subject.now }
+    requires input { IsInputOf subject.now.shape terms.old input.now }
+    requires words { AreWords terms.old tape.now.words }
+    ensures made { IfOk result (IsOfTarget subject.now.pair.now subject.now.bounds.now terms.new input.now tape.now) }
     ensures kept { Keeps terms.old terms.new }
 {
-    let of_target = layers(alloc, pair.target(), bounds.turns)?;
-    let of_source = layers(alloc, pair.source(), bounds.turns)?;
-    let words = need(pair.source(), bounds.turns) as usize;
-    let target = encode(alloc, pair.target(), &of_target, bounds, input, tape, terms)?;
-    let is_point = well_point(shape, input, tape, &target, terms)?;
-    let trial = Trial {
-        source: pair.source(),
-        layered: &of_source,
-        bounds,
+    let outcome = encode(
+        alloc,
+        subject.pair.target(),
+        &subject.of_target,
+        subject.bounds,
         input,
-        target: &target,
+        tape,
+        terms,
+    )?;
+    Ok(outcome)
+}
+
+/// True where the numbers of the terms are the code of a point that no shift of its tape covers.
+pub fn unshifted(
+    alloc: Global,
+    subject: &Subject,
+    input: &InputTerms,
+    tape: &TapeTerms,
+    target: &OutcomeTerms,
+    terms: &mut Terms,
+) -> Result<TermId, NoMemory>
+    requires subject { IsSubject subject.now }
+    requires input { IsInputOf subject.now.shape terms.old input.now }
+    requires tape { IsTapeOf subject.now.shape terms.old tape.now }
+    requires target { IsOfTarget subject.now.pair.now subject.now.bounds.now terms.old input.now tape.now target.now }
+    ensures made { IfOk result (λ id. Decides terms.new id (λ v. IsUncovered subject.now.pair.now subject.now.bounds.now [] (numbers_at v terms.old input.now tape.now))) }
+    ensures kept { Keeps terms.old terms.new }
+{
+    let is_point = well_point(&subject.shape, input, tape, target, terms)?;
+    let trial = Trial {
+        source: subject.pair.source(),
+        layered: &subject.of_source,
+        bounds: subject.bounds,
+        input,
+        target,
     };
-    let goal = and_no_shift(alloc, &trial, tape.words.as_slice(), words, is_point, terms)?;
-    let id = and_no_tape(alloc, &trial, tapes, goal, terms)?;
+    let words = tape.words.as_slice();
+    let id = and_no_shift(alloc, &trial, words, subject.need as usize, is_point, terms)?;
     Ok(id)
 }
 
 /// True where the words of the terms are a tape of the source that covers the point.
 pub fn covering(
     alloc: Global,
-    pair: &Pair,
-    bounds: &Bounds,
-    shape: &Shape,
+    subject: &Subject,
     point: &Point,
     tape: &TapeTerms,
     terms: &mut Terms,
 ) -> Result<TermId, NoMemory>
-    requires ready { CanBeAsked pair.now bounds.now }
-    requires shape { IsShapeOf pair.now bounds.now shape.now }
-    requires point { IsPoint pair.now bounds.now point.now }
+    requires subject { IsSubject subject.now }
+    requires point { IsPoint subject.now.pair.now subject.now.bounds.now point.now }
     requires words { AreWords terms.old tape.now.words }
-    requires count { length tape.now.words ≡ need_of bounds.now.turns pair.now.source }
-    ensures made { IfOk result (λ id. Decides terms.new id (λ v. IsCovering pair.now bounds.now point.now (words_at v terms.old tape.now.words))) }
+    requires count { length tape.now.words ≡ subject.now.need }
+    ensures made { IfOk result (λ id. Decides terms.new id (λ v. IsCovering subject.now.pair.now subject.now.bounds.now point.now (words_at v terms.old tape.now.words))) }
     ensures kept { Keeps terms.old terms.new }
 {
     terms.values_fit();
-    let of_target = layers(alloc, pair.target(), bounds.turns)?;
-    let of_source = layers(alloc, pair.source(), bounds.turns)?;
-    let input = known_input(alloc, shape, point, terms)?;
+    let input = known_input(alloc, &subject.shape, point, terms)?;
     let choices = known(alloc, point.tape.as_slice(), terms)?;
-    let target = encode(
-        alloc,
-        pair.target(),
-        &of_target,
-        bounds,
-        &input,
-        &choices,
-        terms,
-    )?;
+    let target = target_run(alloc, subject, &input, &choices, terms)?;
     let source = encode(
         alloc,
-        pair.source(),
-        &of_source,
-        bounds,
+        subject.pair.source(),
+        &subject.of_source,
+        subject.bounds,
         &input,
         tape,
         terms,

@@ -4,12 +4,14 @@ ghost use Rattle.std.specs.Prelude.{◌≡◌, ◌<◌, IfOk, IfSome};
 ghost use Rattle.ir_tree.specs.Limits.{IsWithinLimits};
 ghost use Rattle.points.specs.Range.{AreInRange};
 ghost use Rattle.encoder.specs.Frontier.{CanRun};
-ghost use Rattle.instantiate.specs.Questions.{CanBeAsked};
 ghost use Rattle.instantiate.specs.Settling.{IsSettled, IsTold, limit_of};
+ghost use Rattle.instantiate.specs.Subjects.{IsSubject};
 
 use crate::found::Found;
-use crate::questions::{least_cover, least_uncovered};
+use crate::point_question::PointQuestion;
 use crate::settled::Settled;
+use crate::subject::Subject;
+use crate::tape_question::least_cover;
 use clause_log::Cert;
 use points::{Bounds, Budget, Cause, Kept, Pair, Point, Verdict, copy_point};
 use std::alloc::Global;
@@ -18,16 +20,16 @@ use unroll::weight;
 
 fn settled(
     verdict: Verdict,
-    tapes: Vec<Sequence<u64>>,
+    tapes: Sequence<Sequence<u64>>,
     points: Vec<Point>,
     cert: Option<Cert>,
 ) -> Settled
-    ensures { result ≡ record { verdict = verdict; kept = record { tapes = tapes.items; points = points.items }; cert = cert } }
+    ensures { result ≡ record { verdict = verdict; kept = record { tapes = tapes; points = points.items }; cert = cert } }
 {
     Settled {
         verdict,
         kept: Kept {
-            tapes: Sequence::from_vec(tapes),
+            tapes,
             points: Sequence::from_vec(points),
         },
         cert,
@@ -47,41 +49,42 @@ fn limit_in(budget: &Budget) -> Option<u64>
 }
 
 /// The verdict on a pair that is not too heavy.
-fn grow(alloc: Global, pair: &Pair, bounds: &Bounds, budget: &Budget) -> Result<Settled, NoMemory>
-    requires ready { CanBeAsked pair.now bounds.now }
-    ensures { IfOk result (IsTold pair.now bounds.now budget.now) }
+fn grow(alloc: Global, subject: &Subject, budget: &Budget) -> Result<Settled, NoMemory>
+    requires { IsSubject subject.now }
+    ensures { IfOk result (IsTold subject.now.pair.now subject.now.bounds.now budget.now) }
 {
     let limit = limit_in(budget);
-    let mut tapes: Vec<Sequence<u64>> = Vec::new(alloc);
+    let mut question = PointQuestion::new(alloc, subject)?;
     let mut points: Vec<Point> = Vec::new(alloc);
     loop {
-        let point = match least_uncovered(alloc, pair, bounds, tapes.as_slice(), limit)? {
+        let point = match question.least(alloc, subject, limit)? {
             Found::Least(point) => point,
             Found::None(cert) => {
-                return Ok(settled(Verdict::Correct, tapes, points, Some(cert)));
+                return Ok(settled(Verdict::Correct, question.into_tapes(), points, Some(cert)));
             }
             Found::Spent(cert) => {
                 let verdict = Verdict::Unknown(Cause::Conflicts);
-                return Ok(settled(verdict, tapes, points, Some(cert)));
+                return Ok(settled(verdict, question.into_tapes(), points, Some(cert)));
             }
         };
-        let answer = least_cover(alloc, pair, bounds, &point, limit)?;
+        let answer = least_cover(alloc, subject, &point, limit)?;
         let last = copy_point(alloc, &point)?;
         points.push(point)?;
         match answer {
             Found::Least(tape) => {
-                if tapes.len() as u64 == budget.rounds {
+                if question.tapes.len() as u64 == budget.rounds {
                     let verdict = Verdict::Unknown(Cause::Rounds);
-                    return Ok(settled(verdict, tapes, points, None));
+                    return Ok(settled(verdict, question.into_tapes(), points, None));
                 }
-                tapes.push(tape)?;
+                question.exclude(alloc, subject, tape)?;
             }
             Found::None(cert) => {
-                return Ok(settled(Verdict::Incorrect(last), tapes, points, Some(cert)));
+                let verdict = Verdict::Incorrect(last);
+                return Ok(settled(verdict, question.into_tapes(), points, Some(cert)));
             }
             Found::Spent(cert) => {
                 let verdict = Verdict::Unknown(Cause::Conflicts);
-                return Ok(settled(verdict, tapes, points, Some(cert)));
+                return Ok(settled(verdict, question.into_tapes(), points, Some(cert)));
             }
         }
     }
@@ -110,8 +113,10 @@ pub fn settle(
 {
     if budget.weight < weight(pair, bounds) {
         let verdict = Verdict::Unknown(Cause::Weight);
-        return Ok(settled(verdict, Vec::new(alloc), Vec::new(alloc), None));
+        let tapes = Sequence::from_vec(Vec::new(alloc));
+        return Ok(settled(verdict, tapes, Vec::new(alloc), None));
     }
-    let told = grow(alloc, pair, bounds, budget)?;
+    let subject = Subject::new(alloc, pair, bounds)?;
+    let told = grow(alloc, &subject, budget)?;
     Ok(told)
 }
