@@ -42,22 +42,33 @@ fn is_one_block(memory: &Memory) -> bool {
     }
 }
 
+/// A point with these blocks, the argument 3 and the tape 4 4.
+fn point_with(alloc: Global, blocks: Memory) -> Result<Point, NoMemory> {
+    let args = Sequence::from_vec(vec![in alloc; Value::Num(3); 1]?);
+    let tape = Sequence::from_vec(vec![in alloc; 4; 2]?);
+    Ok(Point {
+        input: Input { args, blocks },
+        tape,
+    })
+}
+
+fn is_that_point(point: &Point) -> bool {
+    point.input.args.as_slice() == [Value::Num(3)].as_slice()
+        && is_one_block(&point.input.blocks)
+        && point.tape.as_slice() == [4, 4].as_slice()
+}
+
 #[test]
-fn copies_have_the_same_blocks_and_words(rt: HostRuntime) -> Result<(), Fail> {
-    let alloc = rt.alloc();
-    let memory = one_block(alloc)?;
-    assert!(rt; is_one_block(&copy_memory(alloc, &memory)?));
-    let args = vec![in alloc; Value::Num(3); 1]?;
-    let point = Point {
-        input: Input {
-            args: Sequence::from_vec(args),
-            blocks: memory,
-        },
-        tape: Sequence::from_vec(vec![in alloc; 4; 2]?),
-    };
-    let copy = copy_point(alloc, &point)?;
-    assert!(rt; copy.input.args.as_slice() == [Value::Num(3)].as_slice());
-    assert!(rt; is_one_block(&copy.input.blocks));
-    assert!(rt; copy.tape.as_slice() == [4, 4].as_slice());
+fn copies_have_the_same_blocks(rt: HostRuntime) -> Result<(), Fail> {
+    let memory = one_block(rt.alloc())?;
+    assert!(rt; is_one_block(&copy_memory(rt.alloc(), &memory)?));
+    Ok(())
+}
+
+#[test]
+fn copies_have_the_same_words(rt: HostRuntime) -> Result<(), Fail> {
+    let memory = one_block(rt.alloc())?;
+    let point = point_with(rt.alloc(), memory)?;
+    assert!(rt; is_that_point(&copy_point(rt.alloc(), &point)?));
     Ok(())
 }

@@ -1,14 +1,15 @@
 //! Verdicts of the judge by counting on pairs with pointers and memory.
 
-use crate::judge_rows::{Code, NULL, PAIRS, Row, Wanted};
-use crate::steps::{Kind, pointer_parameter, straight, type_of};
-use byte_block::Value;
-use ir_tree::{Function, Operand, Parameter, is_within_limits};
+ghost use Rattle.ir_tree.specs.Limits.{IsWithinLimits};
+
+use crate::functions::function_of;
+use crate::judge_rows::PAIRS;
+use crate::words::{fields_in, numbers_in, value_in};
+use ir_tree::Function;
 use points::{Bounds, Budget, Pair, Point, Verdict, has_same_signature};
 use slow_judge::slow;
 use std::alloc::Global;
 use std::test::Fail;
-use support::NoMemory;
 
 const BUDGET: Budget = Budget {
     rounds: 15,
@@ -16,82 +17,68 @@ const BUDGET: Budget = Budget {
     weight: 100_000,
 };
 
-/// The verdict on a pair with two given blocks of so many places.
-fn verdict(
-    alloc: Global,
-    source: &Function,
-    target: &Function,
-    bytes: u64,
-) -> Result<Verdict, Fail> {
-    if !is_within_limits(source) || !is_within_limits(target) || bytes > 1 {
-        return Err("within the limits".into());
-    }
-    if !has_same_signature(source, target) {
-        return Err("of one signature".into());
+/// The verdict on a pair with two given blocks of so many bytes.
+fn verdict(alloc: Global, source: &Function, target: &Function, bytes: u64) -> Result<Verdict, Fail>
+    requires source { IsWithinLimits source.now }
+    requires target { IsWithinLimits target.now }
+{
+    if bytes > 1 || !has_same_signature(source, target) {
+        return Err(Fail::from("of one signature"));
     }
     let bounds = Bounds {
         turns: 0,
         blocks: 2,
         bytes,
     };
-    let pair = Pair::new(source, target);
-    let verdict = slow(alloc, &pair, &bounds, &BUDGET)?;
+    let verdict = slow(alloc, &Pair::new(source, target), &bounds, &BUDGET)?;
     Ok(verdict)
 }
 
-fn is_point(point: &Point, arg: Value, tape: &[u64]) -> bool {
-    point.input.args.len() == 1
-        && *point.input.args.get(0) == arg
-        && point.input.blocks.as_slice().iter().all(|b| b.size == 0)
-        && point.tape.as_slice() == tape
+/// Whether a point has this argument, these choices, and given blocks of no bytes.
+fn is_point(alloc: Global, point: &Point, arg: &str, tape: &str) -> Result<bool, Fail> {
+    let arg = value_in(arg).ok_or("an argument")?;
+    let tape = numbers_in(alloc, tape)?;
+    Ok(
+        point.input.args.as_slice() == [arg].as_slice()
+            && point.input.blocks.as_slice().iter().all(|b| b.size == 0)
+            && point.tape.as_slice() == tape.as_slice(),
+    )
 }
 
-fn is_wanted(verdict: &Verdict, wanted: Wanted) -> bool {
-    match (verdict, wanted) {
-        (Verdict::Correct, Wanted::Correct) => true,
-        (Verdict::Incorrect(point), Wanted::Incorrect(arg, tape)) => is_point(point, arg, tape),
-        _ => false,
+/// Whether a verdict is `correct`, or the one with this counterexample.
+fn is_wanted(alloc: Global, verdict: &Verdict, wanted: &str) -> Result<bool, Fail> {
+    match (verdict, wanted.split_once(":")) {
+        (Verdict::Correct, None) => Ok(wanted == "correct"),
+        (Verdict::Incorrect(point), Some((arg, tape))) => {
+            is_point(
+                alloc,
+                point,
+                arg.strip_prefix("incorrect ").unwrap_or(""),
+                tape,
+            )
+        }
+        _ => Ok(false),
     }
 }
 
-/// A parameter that has the name 0.
-fn parameter_of(kind: Kind) -> Parameter {
-    Parameter {
-        of_type: type_of(kind),
-        no_undef: false,
-        non_null: false,
-        name: 0,
-    }
+/// The verdict on a pair of texts.
+fn verdict_on(alloc: Global, pair: &str, bytes: u64) -> Result<Verdict, Fail> {
+    let (source, target) = pair.split_once(" | ").ok_or("a pair")?;
+    let source = function_of(alloc, source)?;
+    let target = function_of(alloc, target)?;
+    verdict(alloc, &source, &target, bytes)
 }
 
-fn function_of(alloc: Global, kinds: [Kind; 2], code: Code) -> Result<Function, NoMemory> {
-    straight(alloc, parameter_of(kinds[0]), code.0, kinds[1], code.1)
-}
-
-fn holds(alloc: Global, row: &Row) -> Result<bool, Fail> {
-    let (_, kinds, source, target, bytes, wanted) = row;
-    let source = function_of(alloc, *kinds, *source)?;
-    let target = function_of(alloc, *kinds, *target)?;
-    let verdict = verdict(alloc, &source, &target, *bytes)?;
-    Ok(is_wanted(&verdict, *wanted))
+fn holds(alloc: Global, line: &str) -> Result<bool, Fail> {
+    let (bytes, wanted, pair) = fields_in(line).ok_or("a row")?;
+    let verdict = verdict_on(alloc, pair, bytes.parse::<u64>()?)?;
+    is_wanted(alloc, &verdict, wanted)
 }
 
 #[test]
 fn verdicts_on_pairs_with_memory(rt: HostRuntime) -> Result<(), Fail> {
-    for row in &PAIRS {
-        assert!(rt; holds(rt.alloc(), row)?, "{}", row.0);
+    for line in PAIRS.lines() {
+        assert!(rt; holds(rt.alloc(), line)?, "{line}");
     }
-    Ok(())
-}
-
-/// Null is poison where the target's parameter is `nonnull`, and the source returns it.
-#[test]
-fn a_parameter_does_not_become_nonnull(rt: HostRuntime) -> Result<(), Fail> {
-    let alloc = rt.alloc();
-    let arg = Operand::Local(0);
-    let source = straight(alloc, pointer_parameter(false, false), &[], Kind::Ptr, arg)?;
-    let target = straight(alloc, pointer_parameter(false, true), &[], Kind::Ptr, arg)?;
-    let verdict = verdict(alloc, &source, &target, 1)?;
-    assert!(rt; is_wanted(&verdict, Wanted::Incorrect(Value::Ptr(NULL), &[])));
     Ok(())
 }

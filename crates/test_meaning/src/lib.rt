@@ -22,6 +22,6 @@ mod memory_tests;
 #[cfg(test)]
 mod run_tests;
 #[cfg(test)]
-mod steps;
-#[cfg(test)]
 mod unroll_tests;
+#[cfg(test)]
+mod words;

@@ -1,340 +1,167 @@
 //! Rows of runs with memory. Their answers were worked out by hand from the LLVM Language Reference.
-
-use crate::steps::{Kind, Step};
-use byte_block::{BlockName, Ptr, Value};
-use ir_tree::Operand;
-
-/// How a run of a row ends.
-#[derive(Clone, Copy, Debug, PartialEq, Eq)]
-pub enum Wanted {
-    Ub,
-    Poison,
-    Number(u64),
-    /// A given block and an offset.
-    Given(u64, u64),
-    Null(u64),
-}
-
-/// The value that is wanted; nothing for undefined behaviour.
-pub fn value_of(wanted: Wanted) -> Option<Value> {
-    match wanted {
-        Wanted::Ub => None,
-        Wanted::Poison => Some(Value::Poison),
-        Wanted::Number(n) => Some(Value::Num(n)),
-        Wanted::Given(n, offset) => Some(Value::Ptr(Ptr {
-            block: BlockName::Given(n),
-            offset,
-        })),
-        Wanted::Null(offset) => Some(Value::Ptr(Ptr {
-            block: BlockName::Null,
-            offset,
-        })),
-    }
-}
-
-/// The steps, the type and the operand that is returned, and what is wanted.
-pub type Row = (&'static str, &'static [Step], Kind, Operand, Wanted);
-
-/// The argument: the first byte of the block 1, whose bytes are 1 to 8. It is aligned to 16 bytes.
-const ARG: Operand = Operand::Local(0);
-
-const A: Operand = Operand::Local(1);
-
-const B: Operand = Operand::Local(2);
-
-const C: Operand = Operand::Local(3);
-
-const LAST: u64 = 18446744073709551615;
+//!
+//! A row of a function is its name, the argument, how the run ends, and the function. The block 1
+//! has the bytes 1 to 8 and is aligned to 16 bytes.
 
 /// Loads and stores.
-pub const ACCESSES: [Row; 17] = [
-    (
-        "the first byte is the least significant one",
-        &[Step::Load(1, Kind::I32, ARG, 4)],
-        Kind::I32,
-        A,
-        Wanted::Number(0x04030201),
-    ),
-    (
-        "the last two bytes",
-        &[
-            Step::Move(1, ARG, Kind::I64, 6),
-            Step::Load(2, Kind::I16, A, 2),
-        ],
-        Kind::I16,
-        B,
-        Wanted::Number(0x0807),
-    ),
-    (
-        "one byte past the end",
-        &[
-            Step::Move(1, ARG, Kind::I64, 7),
-            Step::Load(2, Kind::I16, A, 1),
-        ],
-        Kind::I16,
-        B,
-        Wanted::Ub,
-    ),
-    (
-        "a store one byte past the end",
-        &[
-            Step::Move(1, ARG, Kind::I64, 5),
-            Step::Store(Kind::I32, Operand::Number(0), A, 1),
-        ],
-        Kind::Ptr,
-        ARG,
-        Wanted::Ub,
-    ),
-    (
-        "an offset that is not aligned",
-        &[
-            Step::Move(1, ARG, Kind::I64, 2),
-            Step::Load(2, Kind::I32, A, 4),
-        ],
-        Kind::I32,
-        B,
-        Wanted::Ub,
-    ),
-    (
-        "the same offset at half the alignment",
-        &[
-            Step::Move(1, ARG, Kind::I64, 2),
-            Step::Load(2, Kind::I32, A, 2),
-        ],
-        Kind::I32,
-        B,
-        Wanted::Number(0x06050403),
-    ),
-    (
-        "a block that is not aligned",
-        &[
-            Step::Alloca(1, 8, 4),
-            Step::Store(Kind::I64, Operand::Number(5), A, 8),
-        ],
-        Kind::Ptr,
-        ARG,
-        Wanted::Ub,
-    ),
-    (
-        "the same block at its alignment",
-        &[
-            Step::Alloca(1, 8, 4),
-            Step::Store(Kind::I64, Operand::Number(5), A, 4),
-            Step::Load(2, Kind::I64, A, 4),
-        ],
-        Kind::I64,
-        B,
-        Wanted::Number(5),
-    ),
-    (
-        "a number is stored with its low byte first",
-        &[
-            Step::Store(Kind::I16, Operand::Number(0x1234), ARG, 2),
-            Step::Load(1, Kind::I8, ARG, 1),
-        ],
-        Kind::I8,
-        A,
-        Wanted::Number(0x34),
-    ),
-    (
-        "what a store leaves as it was",
-        &[
-            Step::Store(Kind::I16, Operand::Number(0x1234), ARG, 2),
-            Step::Load(1, Kind::I32, ARG, 4),
-        ],
-        Kind::I32,
-        A,
-        Wanted::Number(0x04031234),
-    ),
-    (
-        "a store of poison",
-        &[
-            Step::Store(Kind::I16, Operand::Poison, ARG, 2),
-            Step::Move(1, ARG, Kind::I64, 1),
-            Step::Load(2, Kind::I8, A, 1),
-        ],
-        Kind::I8,
-        B,
-        Wanted::Poison,
-    ),
-    (
-        "bytes of a number and poison",
-        &[
-            Step::Store(Kind::I8, Operand::Poison, ARG, 1),
-            Step::Load(1, Kind::I16, ARG, 2),
-        ],
-        Kind::I16,
-        A,
-        Wanted::Poison,
-    ),
-    (
-        "memory that was not stored to",
-        &[Step::Alloca(1, 4, 4), Step::Load(2, Kind::I32, A, 4)],
-        Kind::I32,
-        B,
-        Wanted::Poison,
-    ),
-    (
-        "a pointer that was stored",
-        &[
-            Step::Alloca(1, 12, 8),
-            Step::Move(2, ARG, Kind::I64, 3),
-            Step::Store(Kind::Ptr, B, A, 8),
-            Step::Load(3, Kind::Ptr, A, 8),
-        ],
-        Kind::Ptr,
-        C,
-        Wanted::Given(1, 3),
-    ),
-    (
-        "parts of two pointers",
-        &[
-            Step::Alloca(1, 12, 8),
-            Step::Store(Kind::Ptr, ARG, A, 8),
-            Step::Move(2, A, Kind::I64, 4),
-            Step::Store(Kind::Ptr, ARG, B, 4),
-            Step::Load(3, Kind::Ptr, A, 8),
-        ],
-        Kind::Ptr,
-        C,
-        Wanted::Poison,
-    ),
-    (
-        "parts of a pointer as a number",
-        &[
-            Step::Alloca(1, 8, 8),
-            Step::Store(Kind::Ptr, ARG, A, 8),
-            Step::Load(2, Kind::I64, A, 8),
-        ],
-        Kind::I64,
-        B,
-        Wanted::Poison,
-    ),
-    (
-        "null is no address",
-        &[Step::Load(1, Kind::I8, Operand::Null, 1)],
-        Kind::I8,
-        A,
-        Wanted::Ub,
-    ),
-];
+pub const ACCESSES: &str = "\
+the first byte is the least significant one | given1+0 | 0x04030201 | \
+    define i32 @f(ptr %x) { %a = load i32, ptr %x, align 4 ret i32 %a }
+the last two bytes | given1+0 | 0x0807 | \
+    define i16 @f(ptr %x) { \
+    %a = getelementptr i8, ptr %x, i64 6 \
+    %b = load i16, ptr %a, align 2 ret i16 %b }
+one byte past the end | given1+0 | ub | \
+    define i16 @f(ptr %x) { \
+    %a = getelementptr i8, ptr %x, i64 7 \
+    %b = load i16, ptr %a, align 1 ret i16 %b }
+a store one byte past the end | given1+0 | ub | \
+    define ptr @f(ptr %x) { \
+    %a = getelementptr i8, ptr %x, i64 5 \
+    store i32 0, ptr %a, align 1 ret ptr %x }
+an offset that is not aligned | given1+0 | ub | \
+    define i32 @f(ptr %x) { \
+    %a = getelementptr i8, ptr %x, i64 2 \
+    %b = load i32, ptr %a, align 4 ret i32 %b }
+the same offset at half the alignment | given1+0 | 0x06050403 | \
+    define i32 @f(ptr %x) { \
+    %a = getelementptr i8, ptr %x, i64 2 \
+    %b = load i32, ptr %a, align 2 ret i32 %b }
+a block that is not aligned | given1+0 | ub | \
+    define ptr @f(ptr %x) { \
+    %a = alloca [8 x i8], align 4 \
+    store i64 5, ptr %a, align 8 ret ptr %x }
+the same block at its alignment | given1+0 | 5 | \
+    define i64 @f(ptr %x) { \
+    %a = alloca [8 x i8], align 4 \
+    store i64 5, ptr %a, align 4 \
+    %b = load i64, ptr %a, align 4 ret i64 %b }
+a number is stored with its low byte first | given1+0 | 0x34 | \
+    define i8 @f(ptr %x) { \
+    store i16 4660, ptr %x, align 2 \
+    %a = load i8, ptr %x, align 1 ret i8 %a }
+what a store leaves as it was | given1+0 | 0x04031234 | \
+    define i32 @f(ptr %x) { \
+    store i16 4660, ptr %x, align 2 \
+    %a = load i32, ptr %x, align 4 ret i32 %a }
+a store of poison | given1+0 | poison | \
+    define i8 @f(ptr %x) { \
+    store i16 poison, ptr %x, align 2 \
+    %a = getelementptr i8, ptr %x, i64 1 \
+    %b = load i8, ptr %a, align 1 ret i8 %b }
+bytes of a number and poison | given1+0 | poison | \
+    define i16 @f(ptr %x) { \
+    store i8 poison, ptr %x, align 1 \
+    %a = load i16, ptr %x, align 2 ret i16 %a }
+memory that was not stored to | given1+0 | poison | \
+    define i32 @f(ptr %x) { \
+    %a = alloca [4 x i8], align 4 \
+    %b = load i32, ptr %a, align 4 ret i32 %b }
+a pointer that was stored | given1+0 | given1+3 | \
+    define ptr @f(ptr %x) { \
+    %a = alloca [12 x i8], align 8 \
+    %b = getelementptr i8, ptr %x, i64 3 \
+    store ptr %b, ptr %a, align 8 \
+    %c = load ptr, ptr %a, align 8 ret ptr %c }
+parts of two pointers | given1+0 | poison | \
+    define ptr @f(ptr %x) { \
+    %a = alloca [12 x i8], align 8 \
+    store ptr %x, ptr %a, align 8 \
+    %b = getelementptr i8, ptr %a, i64 4 \
+    store ptr %x, ptr %b, align 4 \
+    %c = load ptr, ptr %a, align 8 ret ptr %c }
+parts of a pointer as a number | given1+0 | poison | \
+    define i64 @f(ptr %x) { \
+    %a = alloca [8 x i8], align 8 \
+    store ptr %x, ptr %a, align 8 \
+    %b = load i64, ptr %a, align 8 ret i64 %b }
+null is no address | given1+0 | ub | \
+    define i8 @f(ptr %x) { %a = load i8, ptr null, align 1 ret i8 %a }
+";
 
 /// Indices of `getelementptr`.
-pub const MOVES: [Row; 11] = [
-    (
-        "inbounds to the end",
-        &[Step::MoveInbounds(1, ARG, Kind::I64, 8)],
-        Kind::Ptr,
-        A,
-        Wanted::Given(1, 8),
-    ),
-    (
-        "inbounds past the end",
-        &[Step::MoveInbounds(1, ARG, Kind::I64, 9)],
-        Kind::Ptr,
-        A,
-        Wanted::Poison,
-    ),
-    (
-        "past the end",
-        &[Step::Move(1, ARG, Kind::I64, 9)],
-        Kind::Ptr,
-        A,
-        Wanted::Given(1, 9),
-    ),
-    (
-        "an index has a sign",
-        &[
-            Step::Move(1, ARG, Kind::I64, 4),
-            Step::MoveInbounds(2, A, Kind::I8, 255),
-            Step::Load(3, Kind::I8, B, 1),
-        ],
-        Kind::I8,
-        C,
-        Wanted::Number(4),
-    ),
-    (
-        "255 at a greater width is no negative index",
-        &[Step::Move(1, ARG, Kind::I16, 255)],
-        Kind::Ptr,
-        A,
-        Wanted::Given(1, 255),
-    ),
-    (
-        "before the block",
-        &[Step::Move(1, ARG, Kind::I8, 255)],
-        Kind::Ptr,
-        A,
-        Wanted::Given(1, LAST),
-    ),
-    (
-        "inbounds before the block",
-        &[Step::MoveInbounds(1, ARG, Kind::I8, 255)],
-        Kind::Ptr,
-        A,
-        Wanted::Poison,
-    ),
-    (
-        "offsets wrap",
-        &[
-            Step::Move(1, ARG, Kind::I64, LAST),
-            Step::Move(2, A, Kind::I64, 3),
-            Step::Load(3, Kind::I8, B, 1),
-        ],
-        Kind::I8,
-        C,
-        Wanted::Number(3),
-    ),
-    (
-        "a negative index with nuw",
-        &[
-            Step::Move(1, ARG, Kind::I64, 4),
-            Step::MoveNuw(2, A, Kind::I8, 255),
-        ],
-        Kind::Ptr,
-        B,
-        Wanted::Poison,
-    ),
-    (
-        "from null",
-        &[Step::Move(1, Operand::Null, Kind::I64, 5)],
-        Kind::Ptr,
-        A,
-        Wanted::Null(5),
-    ),
-    (
-        "inbounds from null",
-        &[Step::MoveInbounds(1, Operand::Null, Kind::I64, 5)],
-        Kind::Ptr,
-        A,
-        Wanted::Poison,
-    ),
-];
+pub const MOVES: &str = "\
+inbounds to the end | given1+0 | given1+8 | \
+    define ptr @f(ptr %x) { %a = getelementptr inbounds i8, ptr %x, i64 8 ret ptr %a }
+inbounds past the end | given1+0 | poison | \
+    define ptr @f(ptr %x) { %a = getelementptr inbounds i8, ptr %x, i64 9 ret ptr %a }
+past the end | given1+0 | given1+9 | \
+    define ptr @f(ptr %x) { %a = getelementptr i8, ptr %x, i64 9 ret ptr %a }
+an index has a sign | given1+0 | 4 | \
+    define i8 @f(ptr %x) { \
+    %a = getelementptr i8, ptr %x, i64 4 \
+    %b = getelementptr inbounds i8, ptr %a, i8 255 \
+    %c = load i8, ptr %b, align 1 ret i8 %c }
+255 at a greater width is no negative index | given1+0 | given1+255 | \
+    define ptr @f(ptr %x) { %a = getelementptr i8, ptr %x, i16 255 ret ptr %a }
+before the block | given1+0 | given1+18446744073709551615 | \
+    define ptr @f(ptr %x) { %a = getelementptr i8, ptr %x, i8 255 ret ptr %a }
+inbounds before the block | given1+0 | poison | \
+    define ptr @f(ptr %x) { %a = getelementptr inbounds i8, ptr %x, i8 255 ret ptr %a }
+offsets wrap | given1+0 | 3 | \
+    define i8 @f(ptr %x) { \
+    %a = getelementptr i8, ptr %x, i64 18446744073709551615 \
+    %b = getelementptr i8, ptr %a, i64 3 \
+    %c = load i8, ptr %b, align 1 ret i8 %c }
+a negative index with nuw | given1+0 | poison | \
+    define ptr @f(ptr %x) { \
+    %a = getelementptr i8, ptr %x, i64 4 \
+    %b = getelementptr inbounds nuw i8, ptr %a, i8 255 ret ptr %b }
+from null | given1+0 | null+5 | \
+    define ptr @f(ptr %x) { %a = getelementptr i8, ptr null, i64 5 ret ptr %a }
+inbounds from null | given1+0 | poison | \
+    define ptr @f(ptr %x) { %a = getelementptr inbounds i8, ptr null, i64 5 ret ptr %a }
+";
 
-/// A choice of a pointer: the tape, what it chooses, and whether the tape is plain.
-pub type Choice = (&'static [u64], Wanted, bool);
+/// What the attributes of a parameter do.
+pub const ENTRIES: &str = "\
+null | null+0 | null+0 | define ptr @f(ptr %x) { ret ptr %x }
+null for nonnull | null+0 | poison | define ptr @f(ptr nonnull %x) { ret ptr %x }
+null for both | null+0 | ub | define ptr @f(ptr noundef nonnull %x) { ret ptr %x }
+null for noundef | null+0 | null+0 | define ptr @f(ptr noundef %x) { ret ptr %x }
+an offset from null for both | null+8 | null+8 | define ptr @f(ptr noundef nonnull %x) { ret ptr %x }
+a block for both | given1+0 | given1+0 | define ptr @f(ptr noundef nonnull %x) { ret ptr %x }
+poison for nonnull | poison | poison | define ptr @f(ptr nonnull %x) { ret ptr %x }
+poison for noundef | poison | ub | define ptr @f(ptr noundef %x) { ret ptr %x }
+";
 
-/// There are the given blocks 1 and 2.
-pub const CHOICES: [Choice; 7] = [
-    (&[], Wanted::Null(0), true),
-    (&[0, 9], Wanted::Null(9), true),
-    (&[1, 5], Wanted::Given(1, 5), true),
-    (&[2, LAST], Wanted::Given(2, LAST), true),
-    (&[3, 5], Wanted::Null(5), false),
-    (&[65537, 5], Wanted::Given(1, 5), false),
-    (&[1, 5, 1], Wanted::Given(1, 5), false),
-];
+/// A block that is passed twice, stores 6 and then 7 to its own `alloca`, and keeps the address of
+/// the first pass.
+pub const TURNS: &str = "\
+the byte of the first pass | poison | 6 | \
+    define i8 @f(ptr %x) { \
+    e: br label %l \
+    l: %p = phi ptr [ null, %e ], [ %a, %l ] \
+    %n = phi i8 [ 6, %e ], [ 7, %l ] \
+    %a = alloca [1 x i8], align 1 \
+    store i8 %n, ptr %a, align 1 \
+    %c = icmp eq i8 %n, 7 br i1 %c, label %r, label %l \
+    r: %b = load i8, ptr %p, align 1 ret i8 %b }
+the byte of the second pass | poison | 7 | \
+    define i8 @f(ptr %x) { \
+    e: br label %l \
+    l: %p = phi ptr [ null, %e ], [ %a, %l ] \
+    %n = phi i8 [ 6, %e ], [ 7, %l ] \
+    %a = alloca [1 x i8], align 1 \
+    store i8 %n, ptr %a, align 1 \
+    %c = icmp eq i8 %n, 7 br i1 %c, label %r, label %l \
+    r: %b = load i8, ptr %a, align 1 ret i8 %b }
+";
 
-/// The argument of a parameter and whether the parameter is `noundef` and `nonnull`; what it gets.
-pub type Entry = (Wanted, bool, bool, Wanted);
+/// Two functions whose one choice is a pointer.
+pub const CHOOSERS: &str = "\
+define ptr @f(ptr %x) { %a = freeze ptr poison ret ptr %a }
+define ptr @f(ptr %x) { ret ptr undef }
+";
 
-pub const ENTRIES: [Entry; 8] = [
-    (Wanted::Null(0), false, false, Wanted::Null(0)),
-    (Wanted::Null(0), false, true, Wanted::Poison),
-    (Wanted::Null(0), true, true, Wanted::Ub),
-    (Wanted::Null(0), true, false, Wanted::Null(0)),
-    (Wanted::Null(8), true, true, Wanted::Null(8)),
-    (Wanted::Given(1, 0), true, true, Wanted::Given(1, 0)),
-    (Wanted::Poison, false, true, Wanted::Poison),
-    (Wanted::Poison, true, false, Wanted::Ub),
-];
+/// Whether a tape holds just the choice, what is chosen, and the tape. There are the given blocks 1
+/// and 2.
+pub const CHOICES: &str = "\
+plain null+0:
+plain null+9: 0 9
+plain given1+5: 1 5
+plain given2+18446744073709551615: 2 18446744073709551615
+other null+5: 3 5
+other given1+5: 65537 5
+other given1+5: 1 5 1
+";

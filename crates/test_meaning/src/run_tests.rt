@@ -1,18 +1,20 @@
 //! Runs of one function, whose one choice is added to its argument, by `interpret` and by a runner
 //! that is used again.
 
-use crate::functions::function_in;
+ghost use Rattle.ir_tree.specs.Limits.{IsWithinLimits};
+
+use crate::functions::{function_of, returns, run};
+use crate::words::{numbers_in, value_in};
 use byte_block::Value;
-use choice_interp::{Ending, interpret, run_again, runner_for};
-use ir_reader::read;
-use ir_tree::is_within_limits;
+use choice_interp::{Ran, runner_for};
+use ir_tree::Function;
 use points::{Bounds, Input, Outcome};
 use std::alloc::Global;
 use std::test::Fail;
 use support::{NoMemory, Sequence};
 
-const SUM: &[u8] =
-    b"define i8 @f(i8 %x) {\n  %a = freeze i8 poison\n  %r = add i8 %x, %a\n  ret i8 %r\n}\n";
+const SUM: &str =
+    "define i8 @f(i8 %x) {\n  %a = freeze i8 poison\n  %r = add i8 %x, %a\n  ret i8 %r\n}\n";
 
 const BOUNDS: Bounds = Bounds {
     turns: 0,
@@ -20,18 +22,16 @@ const BOUNDS: Bounds = Bounds {
     bytes: 0,
 };
 
-/// An argument, a tape, what is returned, and whether the tape holds just the choice that was
-/// taken.
-type Row = (Value, &'static [u64], Value, bool);
-
-const ROWS: [Row; 6] = [
-    (Value::Num(200), &[100], Value::Num(44), true),
-    (Value::Num(200), &[], Value::Num(200), true),
-    (Value::Num(1), &[2, 0], Value::Num(3), true),
-    (Value::Num(1), &[2, 7], Value::Num(3), false),
-    (Value::Num(1), &[258], Value::Num(3), false),
-    (Value::Poison, &[2], Value::Poison, true),
-];
+/// An argument, what is returned, whether the tape holds just the choice that was taken, and the
+/// tape.
+const ROWS: &str = "\
+200 44 plain: 100
+200 200 plain:
+1 3 plain: 2 0
+1 3 other: 2 7
+1 3 other: 258
+poison poison plain: 2
+";
 
 fn input_of(alloc: Global, arg: Value) -> Result<Input, NoMemory> {
     Ok(Input {
@@ -40,32 +40,51 @@ fn input_of(alloc: Global, arg: Value) -> Result<Input, NoMemory> {
     })
 }
 
+fn run_on(alloc: Global, arg: &str, tape: &[u64]) -> Result<Ran, Fail> {
+    let arg = value_in(arg).ok_or("an argument")?;
+    let input = input_of(alloc, arg)?;
+    run(alloc, SUM, &BOUNDS, &input, tape)
+}
+
+fn is_ran(ran: &Ran, returned: &str, is_plain: bool) -> bool {
+    match &ran.outcome {
+        Outcome::Return(Some(value), _) => {
+            value_in(returned) == Some(*value) && ran.read == 1 && ran.plain == is_plain
+        }
+        _ => false,
+    }
+}
+
+fn holds(alloc: Global, line: &str) -> Result<bool, Fail> {
+    let (run_so, tape) = line.split_once(":").ok_or("a tape")?;
+    let (arg, ending) = run_so.split_once(" ").ok_or("an argument")?;
+    let (returned, kind) = ending.split_once(" ").ok_or("a value")?;
+    let tape = numbers_in(alloc, tape)?;
+    let ran = run_on(alloc, arg, &tape)?;
+    Ok(is_ran(&ran, returned, kind == "plain"))
+}
+
 #[test]
 fn a_run_takes_its_choices_from_the_tape(rt: HostRuntime) -> Result<(), Fail> {
-    let alloc = rt.alloc();
-    let module = read(alloc, SUM).ok().ok_or("the module is read")?;
-    let f = function_in(&module).ok_or("the function is read")?;
-    assert!(rt; is_within_limits(f));
-    for (arg, tape, returned, is_plain) in &ROWS {
-        let ran = interpret(alloc, f, &BOUNDS, &input_of(alloc, *arg)?, tape)?;
-        assert!(rt; matches!(&ran.outcome, Outcome::Return(Some(value), _) if value == returned));
-        assert!(rt; ran.read == 1 && ran.plain == *is_plain);
+    for line in ROWS.lines() {
+        assert!(rt; holds(rt.alloc(), line)?, "{line}");
     }
     Ok(())
 }
 
+fn runs_twice(alloc: Global, f: &Function, input: &Input) -> Result<bool, NoMemory>
+    requires { IsWithinLimits f.now }
+{
+    let mut runner = runner_for(alloc, f, &input.blocks)?;
+    let first = returns(&mut runner, f, &BOUNDS, input, &[2], 3)?;
+    let second = returns(&mut runner, f, &BOUNDS, input, &[5], 6)?;
+    Ok(first && second)
+}
+
 #[test]
 fn a_runner_runs_again_from_the_start(rt: HostRuntime) -> Result<(), Fail> {
-    let alloc = rt.alloc();
-    let module = read(alloc, SUM).ok().ok_or("the module is read")?;
-    let f = function_in(&module).ok_or("the function is read")?;
-    assert!(rt; is_within_limits(f));
-    let input = input_of(alloc, Value::Num(1))?;
-    let mut runner = runner_for(alloc, f, &input.blocks)?;
-    let first = run_again(&mut runner, f, &BOUNDS, &input, &[2])?;
-    assert!(rt; first == Ending::Return(Some(Value::Num(3))));
-    let second = run_again(&mut runner, f, &BOUNDS, &input, &[5])?;
-    assert!(rt; second == Ending::Return(Some(Value::Num(6))));
-    assert!(rt; runner.machine.taken.as_slice() == [5].as_slice());
+    let f = function_of(rt.alloc(), SUM)?;
+    let input = input_of(rt.alloc(), Value::Num(1))?;
+    assert!(rt; runs_twice(rt.alloc(), &f, &input)?);
     Ok(())
 }

@@ -1,8 +1,9 @@
 //! The copies of blocks for each count of backward jumps, and what a pair needs and weighs.
 
-use crate::functions::function_in;
-use ir_reader::read;
-use ir_tree::{Block, Case, Function, Name, Names, Operand, Terminator, is_within_limits};
+ghost use Rattle.ir_tree.specs.Limits.{IsWithinLimits};
+
+use crate::functions::function_of;
+use ir_tree::{Block, Case, Function, Name, Names, Operand, Terminator};
 use points::{Bounds, Pair, has_same_signature};
 use std::alloc::Global;
 use std::test::Fail;
@@ -10,18 +11,19 @@ use support::{NoMemory, Sequence};
 use tv_num::Width;
 use unroll::{Edge, layers, need, weight, widest_of};
 
-/// A function whose blocks have these terminators; the label of a block is its index.
-fn function(alloc: Global, ends: Vec<Terminator>) -> Result<Function, NoMemory> {
-    let mut blocks = Vec::new(alloc);
-    for (label, terminator) in ends.into_iter().enumerate() {
-        blocks.push(Block {
-            label,
-            phis: Sequence::from_vec(Vec::new(alloc)),
-            insts: Sequence::from_vec(Vec::new(alloc)),
-            terminator,
-        })?;
+/// A block of no instructions.
+fn block(alloc: Global, label: usize, terminator: Terminator) -> Block {
+    Block {
+        label,
+        phis: Sequence::from_vec(Vec::new(alloc)),
+        insts: Sequence::from_vec(Vec::new(alloc)),
+        terminator,
     }
-    Ok(Function {
+}
+
+/// A function of these blocks.
+fn function(alloc: Global, blocks: Vec<Block>) -> Function {
+    Function {
         name: Name::Word(Sequence::from_vec(Vec::new(alloc))),
         returns: None,
         returns_no_undef: false,
@@ -29,19 +31,20 @@ fn function(alloc: Global, ends: Vec<Terminator>) -> Result<Function, NoMemory> 
         blocks: Sequence::from_vec(blocks),
         names: Names::new(alloc),
         places: Sequence::from_vec(Vec::new(alloc)),
-    })
+    }
 }
 
 /// A block that leads to another one, which leads back or to itself.
 fn two_blocks(alloc: Global) -> Result<Function, NoMemory> {
-    let mut ends = Vec::new(alloc);
-    ends.push(Terminator::Branch { to: 1 })?;
-    ends.push(Terminator::CondBranch {
+    let back = Terminator::CondBranch {
         condition: Operand::Poison,
         if_true: 0,
         if_false: 1,
-    })?;
-    function(alloc, ends)
+    };
+    let mut blocks = Vec::new(alloc);
+    blocks.push(block(alloc, 0, Terminator::Branch { to: 1 }))?;
+    blocks.push(block(alloc, 1, back))?;
+    Ok(function(alloc, blocks))
 }
 
 /// The copies within so many backward jumps: a line for each, with its backward jumps, its block
@@ -93,14 +96,15 @@ fn a_label_that_no_block_has_leads_nowhere(rt: HostRuntime) -> Result<(), Fail> 
         value: 0,
         to: 7
     }; 1]?;
-    let mut ends = Vec::new(alloc);
-    ends.push(Terminator::Switch {
+    let switch = Terminator::Switch {
         width: Width::of(1),
         operand: Operand::Poison,
         default: 0,
         cases: Sequence::from_vec(cases),
-    })?;
-    let f = function(alloc, ends)?;
+    };
+    let mut blocks = Vec::new(alloc);
+    blocks.push(block(alloc, 0, switch))?;
+    let f = function(alloc, blocks);
     let copies = copies_text(alloc, &f, 1)?;
     assert!(rt; copies.as_str() == "0.0: 1 nowhere\n1.0: beyond nowhere\n");
     Ok(())
@@ -114,44 +118,48 @@ fn too_many_copies_are_out_of_memory(rt: HostRuntime) -> Result<(), Fail> {
     assert!(rt; many.is_err());
     let most = layers(alloc, &f, u64::MAX);
     assert!(rt; most.is_err());
-    let empty = function(alloc, Vec::new(alloc))?;
+    let empty = function(alloc, Vec::new(alloc));
     let none = layers(alloc, &empty, u64::MAX)?;
     assert!(rt; none.copies.is_empty());
     Ok(())
 }
 
-const CHOSEN_AND_DOUBLED: &[u8] =
-    b"define i8 @f(i8 %x) {\n  %a = freeze i4 poison\n  %r = add i8 %x, %x\n  ret i8 %r\n}\n";
+const CHOSEN_AND_DOUBLED: &str =
+    "define i8 @f(i8 %x) {\n  %a = freeze i4 poison\n  %r = add i8 %x, %x\n  ret i8 %r\n}\n";
 
-const SHIFTED: &[u8] = b"define i8 @f(i8 %x) {\n  %r = shl i8 %x, 1\n  ret i8 %r\n}\n";
+const SHIFTED: &str = "define i8 @f(i8 %x) {\n  %r = shl i8 %x, 1\n  ret i8 %r\n}\n";
+
+const BOUNDS: Bounds = Bounds {
+    turns: 4,
+    blocks: 2,
+    bytes: 8,
+};
+
+/// What a pair weighs, how many choices its functions take, and the widest choice of each.
+type Measures = (u64, [u64; 2], [u32; 2]);
+
+fn measured(source: &Function, target: &Function) -> Option<Measures>
+    requires source { IsWithinLimits source.now }
+    requires target { IsWithinLimits target.now }
+{
+    if !has_same_signature(source, target) {
+        return None;
+    }
+    Some((
+        weight(&Pair::new(source, target), &BOUNDS),
+        [need(source, 4), need(target, 4)],
+        [widest_of(source).bits(), widest_of(target).bits()],
+    ))
+}
 
 /// With four backward jumps each block is passed five times. A pass of the first function costs the
 /// four bits of its choice, the eight of its sum and one for its return; of the second, eight and
 /// one. The first takes one choice in each pass.
 #[test]
 fn a_pair_weighs_the_bits_of_its_results(rt: HostRuntime) -> Result<(), Fail> {
-    let alloc = rt.alloc();
-    let source = read(alloc, CHOSEN_AND_DOUBLED)
-        .ok()
-        .ok_or("the source is read")?;
-    let target = read(alloc, SHIFTED).ok().ok_or("the target is read")?;
-    let source = function_in(&source).ok_or("the source is a function")?;
-    let target = function_in(&target).ok_or("the target is a function")?;
-    assert!(rt; has_same_signature(source, target));
-    assert!(rt; is_within_limits(source) && is_within_limits(target));
-    let bounds = Bounds {
-        turns: 4,
-        blocks: 2,
-        bytes: 8,
-    };
-    assert_eq!(rt;
-        weight(&Pair::new(source, target), &bounds),
-        5 * (4 + 8 + 1 + 8 + 1)
-    );
-    assert_eq!(rt; (need(source, 4), need(target, 4)), (5, 0));
-    assert_eq!(rt;
-        (widest_of(source).bits(), widest_of(target).bits()),
-        (4, 1)
-    );
+    let source = function_of(rt.alloc(), CHOSEN_AND_DOUBLED)?;
+    let target = function_of(rt.alloc(), SHIFTED)?;
+    let expected = (5 * (4 + 8 + 1 + 8 + 1), [5, 0], [4, 1]);
+    assert_eq!(rt; measured(&source, &target), Some(expected));
     Ok(())
 }
