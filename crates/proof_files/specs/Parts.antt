@@ -8,7 +8,7 @@ use Rattle.pair_driver.specs.declared.judged.Judged.{Judged}
 use Rattle.report.specs.declared.row.Finding.{Finding}
 use Rattle.report.specs.declared.row.Finding.TheVariants as finding
 use Rattle.report.specs.declared.row.Row.{Row}
-use Rattle.report.specs.Naming.{name_text}
+use Rattle.ir_naming.specs.Naming.{name_text}
 use Rattle.proof_text.specs.declared.part.Part.{Part}
 use Rattle.proof_text.specs.Format.{IsPrintedNumber, part_of}
 

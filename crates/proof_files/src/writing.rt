@@ -4,14 +4,15 @@ ghost use Rattle.std.specs.Prelude.{◌≡◌, ◌<◌, ◌++◌, ◌∷◌, [],
 ghost use Rattle.clause_lits.specs.Meaning.{AreWithin, IsClause};
 ghost use Rattle.proof_text.specs.declared.part.Part.{Part};
 ghost use Rattle.proof_text.specs.Format.{IsClauseOver, IsPart, IsPrintedName, IsProof, part_of};
-ghost use Rattle.report.specs.Naming.{name_text as text_of_name};
+ghost use Rattle.ir_naming.specs.Naming.{name_text as text_of_name};
 ghost use Rattle.proof_files.specs.Parts.{IsCertified, IsReadName, decided as decided_of, left_after as left_of, parts_of, row_parts};
 
 use clause_log::Cert;
+use ir_naming::name_text;
 use ir_tree::Name;
 use pair_driver::Judged;
 use proof_text::{begin, push_part};
-use report::{Finding, Row, name_text};
+use report::{Finding, Row};
 use std::alloc::Global;
 use support::NoMemory;
 

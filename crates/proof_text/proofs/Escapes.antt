@@ -5,7 +5,7 @@ use Rattle.std.proofs.lemmas.List.Elements.{All-contains, Contains-append_right}
 use Rattle.std.proofs.lemmas.Bool.Decides.{nat_tests}
 use Rattle.std.proofs.lemmas.List.{append_cancel_right}
 use Rattle.ir_tree.specs.declared.name.Name.TheVariants.{Word}
-use Rattle.report.specs.Naming.{escaped, hex_byte, hex_digit, is_bare, is_plain, name_text, quoted}
+use Rattle.ir_naming.specs.Naming.{escaped, hex_byte, hex_digit, is_bare, is_plain, name_text, quoted}
 use Rattle.proof_text.proofs.Splits.{here}
 
 plain_is : (b : ℕ) → is_plain b ≡ true → b ≡ 92 → ⊥

@@ -10,7 +10,7 @@ use Rattle.std.proofs.lemmas.Fmt.{IsAscii-from_digits, decimal-digits_value, dec
 use Rattle.std.proofs.lemmas.Str.{IsUtf8-from_ascii}
 use Rattle.std.proofs.lemmas.List.Elements.{All-contains, All-from_get_or}
 use Rattle.std.proofs.lemmas.Bool.Decides.{nat_tests}
-use Rattle.report.specs.Naming.{is_digit}
+use Rattle.ir_naming.specs.Naming.{is_digit}
 use Rattle.proof_text.specs.Format.{IsPrintedNumber}
 
 digit_range : (b : ℕ) → is_digit b ≡ true → IsInRange 48 57 b

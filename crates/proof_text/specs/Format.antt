@@ -7,7 +7,7 @@ use Rattle.clause_lits.specs.Meaning.{IsClause}
 use Rattle.clause_log.specs.declared.step.Cert.{Cert}
 use Rattle.clause_log.specs.declared.step.Step.{Step}
 use Rattle.ir_tree.specs.declared.name.Name.TheVariants.{Word}
-use Rattle.report.specs.Naming.{is_digit, name_text}
+use Rattle.ir_naming.specs.Naming.{is_digit, name_text}
 use Rattle.proof_text.specs.declared.part.Part.{Part}
 
 -- ---- lines

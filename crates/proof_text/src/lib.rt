@@ -7,7 +7,7 @@
 //! there. A text has one list of parts ([`parts_are_one`]), so [`parse`] reads back what [`write`] wrote.
 //! [`begin`] and [`push_part`] write the same text part by part, from certificates that others own. All
 //! take time and memory in proportion to the text, whatever numbers it names. It uses `clause_log` and
-//! `report`, which prints the names; `proof_files` writes and checks proof files by it.
+//! `ir_naming`, which prints the names; `proof_files` writes and checks proof files by it.
 #![tactic(auto)]
 
 mod cursor;

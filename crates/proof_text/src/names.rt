@@ -3,12 +3,12 @@
 ghost use Rattle.std.specs.Prelude.{◌≡◌, ◌<◌, ◌↔◌, ◌++◌, ◌∷◌, [], ℕ, All, IfNone, IfOk, IfSome, IsTrue, List, length};
 ghost use Rattle.std.specs.List.{flat_map};
 ghost use Rattle.ir_tree.specs.declared.name.Name.TheVariants.{Word};
-ghost use Rattle.report.specs.Naming.{escaped, hex_digit, name_text as text_of_name};
+ghost use Rattle.ir_naming.specs.Naming.{escaped, hex_digit, name_text as text_of_name};
 ghost use Rattle.proof_text.specs.Format.{IsPrintedName, IsPrintedWord};
 
 use crate::words::is_printed_number;
+use ir_naming::name_text;
 use ir_tree::Name;
-use report::name_text;
 use std::alloc::Global;
 use support::{NoMemory, Sequence};
 

@@ -26,7 +26,7 @@ use Rattle.report.specs.declared.row.Side.TheVariants as side
 use Rattle.report.specs.declared.row.Finding.{Finding}
 use Rattle.report.specs.declared.row.Finding.TheVariants as finding
 use Rattle.report.specs.declared.row.Row.{Row}
-use Rattle.report.specs.Naming.{hex_byte, name_text}
+use Rattle.ir_naming.specs.Naming.{hex_byte, name_text}
 use Rattle.report.specs.declared.status.Class.TheVariants as class
 use Rattle.report.specs.Status.{count}
 
@@ -183,3 +183,7 @@ last_line rows = judged_counts rows ++ other_counts rows ++ newline
 
 abbrev pub report_text : Bounds → Budget → List Row → List ℕ
 report_text bounds budget rows = first_line bounds budget ++ flat_map row_text rows ++ last_line rows
+
+-- the first and the last line alone, with these bytes between them
+abbrev pub summary_text : Bounds → Budget → List ℕ → List Row → List ℕ
+summary_text bounds budget between rows = first_line bounds budget ++ between ++ last_line rows

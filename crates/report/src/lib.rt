@@ -2,19 +2,17 @@
 //!
 //! It promises one text and one status for a list of rows. What a row says is written in the order in
 //! which a compiler engineer reads a counterexample: the input, what the source does, what the target
-//! does. It stands on `points` and `ir_tree`; the top call writes what it gives.
+//! does. It stands on `points`, `ir_tree` and `ir_naming`; the top call writes what it gives.
 #![tactic(auto)]
 
 mod counterexample;
 mod laws;
-mod naming;
 mod row;
 mod status;
 mod text;
 mod value_text;
 
 pub use laws::rows_are_one;
-pub use naming::name_text;
 pub use row::{Finding, Row, Side};
 pub use status::status_of;
-pub use text::text_of;
+pub use text::{summary_of, text_of};

@@ -1,12 +1,12 @@
 ghost use Rattle.std.specs.Prelude.{◌≡◌, ◌++◌, OnOk, IfOk};
 ghost use Rattle.std.specs.List.{flat_map};
-ghost use Rattle.report.specs.Text.{cause_text, side_text, reason_text, refused_text, finding_text, row_text, counted, bounds_text, budget_text, first_line, judged_counts, other_counts, last_line, report_text};
+ghost use Rattle.report.specs.Text.{cause_text, side_text, reason_text, refused_text, finding_text, row_text, counted, bounds_text, budget_text, first_line, judged_counts, other_counts, last_line, report_text, summary_text};
 
 use crate::counterexample::push_shown;
-use crate::naming::push_name;
 use crate::row::{Finding, Row, Side};
 use crate::status::{Class, count};
 use crate::value_text::push_number;
+use ir_naming::push_name;
 use ir_tree::{Reason, Refused};
 use points::{Bounds, Budget, Cause};
 use std::alloc::Global;
@@ -26,6 +26,23 @@ pub fn text_of(
     let mut out = Vec::new(alloc);
     push_first_line(alloc, &mut out, bounds, budget)?;
     push_rows(alloc, &mut out, rows)?;
+    push_last_line(alloc, &mut out, rows)?;
+    Ok(out)
+}
+
+/// The first and the last line of a report, with these bytes between them.
+pub fn summary_of(
+    alloc: Global,
+    rows: &[Row],
+    bounds: &Bounds,
+    budget: &Budget,
+    between: &[u8],
+) -> Result<Vec<u8>, NoMemory>
+    ensures { IfOk result (λ text. text.items ≡ summary_text bounds.now budget.now between.now rows.now) }
+{
+    let mut out = Vec::new(alloc);
+    push_first_line(alloc, &mut out, bounds, budget)?;
+    out.extend_from_slice(between)?;
     push_last_line(alloc, &mut out, rows)?;
     Ok(out)
 }

@@ -3,8 +3,8 @@ ghost use Rattle.std.specs.Fmt.{decimal};
 ghost use Rattle.std.specs.List.{flat_map};
 ghost use Rattle.report.specs.Text.{given_text, pointer_text, value_text, byte_text, spaced_byte, bytes_line, block_line, block_lines, newline};
 
-use crate::naming::push_hex_byte;
 use byte_block::{BlockName, Byte, MemoryBlock, Ptr, Value};
+use ir_naming::push_hex_byte;
 use std::alloc::Global;
 use support::NoMemory;
 

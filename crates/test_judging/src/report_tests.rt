@@ -1,8 +1,9 @@
 //! The text and the status of a report, and how names are printed.
 
+use ir_naming::name_text;
 use ir_tree::Name;
 use points::{Bounds, Budget};
-use report::{Finding, Row, name_text, status_of, text_of};
+use report::{Finding, Row, status_of, text_of};
 use std::alloc::Global;
 use std::test::Fail;
 use support::{NoMemory, Sequence};

@@ -1,6 +1,6 @@
 //! Modules and functions with answers that are known, for the reader and the checks that it makes.
 //!
-//! These are the tests of the crates from `text_places` to `ir_reader`. The crates that they test
+//! These are the tests of the crates from `text_places` to `ir_printer`. The crates that they test
 //! have no tests of their own, so that each is proved once. Nothing stands on this crate.
 #![tactic(auto)]
 
@@ -34,5 +34,7 @@ mod memory_tests;
 mod pointer_tests;
 #[cfg(test)]
 mod position_tests;
+#[cfg(test)]
+mod print_tests;
 #[cfg(test)]
 mod tests;

@@ -1,6 +1,6 @@
 use Rattle.std.proofs.Common.{ℕ, ◌<◌, All, List, ap, inr, subst, ◌∙◌}
 use Rattle.std.proofs.lemmas.Result.{IfOk-weaker}
-use Rattle.report.specs.Naming.{name_text}
+use Rattle.ir_naming.specs.Naming.{name_text}
 use Rattle.proof_files.proofs.writing.printed_name.Goals as goal
 
 pub returns-in-Word-clause-printed : goal.returns-in-Word-clause-printed

@@ -1,0 +1,8 @@
+use Rattle.std.proofs.Common.{◌≡◌, drop, ◌++◌, ◌∷◌}
+use Rattle.std.specs.List.{flat_map}
+use Rattle.token_text.specs.Pieces.{text_of}
+use Rattle.ir_printer.specs.Instructions.{phi_pieces}
+use Rattle.ir_printer.proofs.functions.push_phis.Given as goal
+
+abbrev pub invariant-loop-phi : goal.invariant-loop-phi
+invariant-loop-phi l = l.out.items ++ flat_map (λ x. text_of (phi_pieces l.names x)) (drop l.phi-index l.phis) ≡ l.fn.out.items ++ flat_map (λ x. text_of (phi_pieces l.names x)) l.phis

@@ -1,0 +1,4 @@
+pub mod Pieces
+pub mod Instructions
+pub mod ModuleText
+pub mod Made

@@ -1,0 +1,2 @@
+pub mod SameModule
+pub mod ReadBack
