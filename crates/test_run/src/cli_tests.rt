@@ -3,10 +3,11 @@
 //! A row is a line of arguments, separated by single spaces (two spaces in a row hold the empty
 //! argument), and what it asks for: the two files, the bounds (turns, blocks, bytes), the budget
 //! (rounds, conflicts, weight) and the workers, and where there is one `to` and the file for the
-//! proof; or `log` and the file; or `-` where it is rejected.
+//! proof; or `log` and the file; or `make`, the seed, the functions and the instructions, and the
+//! bounds, the budget and the workers; or `-` where it is rejected.
 
 use std::test::*;
-use tv_cli::{Check, Job, read_job};
+use tv_cli::{Check, Job, Make, read_job};
 
 /// Bounds are taken up to their ends.
 const BOUNDS: [(&str, &str); 10] = [
@@ -136,7 +137,117 @@ const LOGS: [(&str, &str); 14] = [
     ("tv -- log FILE", "-"),
 ];
 
-/// There are two commands, and no help.
+/// A pair of modules is made from a seed, with functions and instructions up to their ends.
+const MADE_SIZES: [(&str, &str); 12] = [
+    ("tv make", "make 1 16 8 4 2 8 64 0 100000 4"),
+    ("tv make --seed 0", "make 0 16 8 4 2 8 64 0 100000 4"),
+    (
+        "tv make --seed 2147483647",
+        "make 2147483647 16 8 4 2 8 64 0 100000 4",
+    ),
+    ("tv make --seed 2147483648", "-"),
+    ("tv make --functions 0", "-"),
+    ("tv make --functions 1", "make 1 1 8 4 2 8 64 0 100000 4"),
+    (
+        "tv make --functions 4096",
+        "make 1 4096 8 4 2 8 64 0 100000 4",
+    ),
+    ("tv make --functions 4097", "-"),
+    ("tv make --insts 0", "-"),
+    ("tv make --insts 1", "make 1 16 1 4 2 8 64 0 100000 4"),
+    ("tv make --insts 64", "make 1 16 64 4 2 8 64 0 100000 4"),
+    ("tv make --insts 65", "-"),
+];
+
+/// It is judged within bounds, a budget and workers up to their ends.
+const MADE_LIMITS: [(&str, &str); 23] = [
+    ("tv make --turns 0", "make 1 16 8 0 2 8 64 0 100000 4"),
+    ("tv make --turns 64", "make 1 16 8 64 2 8 64 0 100000 4"),
+    ("tv make --turns 65", "-"),
+    ("tv make --blocks 0", "make 1 16 8 4 0 8 64 0 100000 4"),
+    ("tv make --blocks 4", "make 1 16 8 4 4 8 64 0 100000 4"),
+    ("tv make --blocks 5", "-"),
+    ("tv make --bytes 0", "make 1 16 8 4 2 0 64 0 100000 4"),
+    ("tv make --bytes 32", "make 1 16 8 4 2 32 64 0 100000 4"),
+    ("tv make --bytes 33", "-"),
+    ("tv make --rounds 0", "make 1 16 8 4 2 8 0 0 100000 4"),
+    ("tv make --rounds 4096", "make 1 16 8 4 2 8 4096 0 100000 4"),
+    ("tv make --rounds 4097", "-"),
+    ("tv make --conflicts 0", "make 1 16 8 4 2 8 64 0 100000 4"),
+    (
+        "tv make --conflicts 9223372036854775807",
+        "make 1 16 8 4 2 8 64 9223372036854775807 100000 4",
+    ),
+    ("tv make --conflicts 9223372036854775808", "-"),
+    ("tv make --weight 0", "-"),
+    ("tv make --weight 1", "make 1 16 8 4 2 8 64 0 1 4"),
+    (
+        "tv make --weight 10000000",
+        "make 1 16 8 4 2 8 64 0 10000000 4",
+    ),
+    ("tv make --weight 10000001", "-"),
+    ("tv make --workers 0", "-"),
+    ("tv make --workers 1", "make 1 16 8 4 2 8 64 0 100000 1"),
+    ("tv make --workers 64", "make 1 16 8 4 2 8 64 0 100000 64"),
+    ("tv make --workers 65", "-"),
+];
+
+/// Each option of `make` comes once.
+const MADE_ONCE: [(&str, &str); 11] = [
+    ("tv make --seed 1 --seed 1", "-"),
+    ("tv make --functions 16 --functions 16", "-"),
+    ("tv make --insts 8 --insts 8", "-"),
+    ("tv make --turns 4 --turns 4", "-"),
+    ("tv make --blocks 2 --blocks 2", "-"),
+    ("tv make --bytes 8 --bytes 8", "-"),
+    ("tv make --rounds 64 --rounds 64", "-"),
+    ("tv make --conflicts 0 --conflicts 0", "-"),
+    ("tv make --weight 1 --weight 1", "-"),
+    ("tv make --workers 4 --workers 4", "-"),
+    ("tv make --seed=7 --turns 3 --seed=8", "-"),
+];
+
+/// `make` has options alone, and its own; no other command has those.
+const MAKES: [(&str, &str); 30] = [
+    ("tv make --seed=7", "make 7 16 8 4 2 8 64 0 100000 4"),
+    ("tv make --seed +7", "make 7 16 8 4 2 8 64 0 100000 4"),
+    ("tv make --seed 007", "make 7 16 8 4 2 8 64 0 100000 4"),
+    (
+        "tv make --seed 7 --functions=3 --insts 2 --turns=1 --blocks 0 --bytes=4",
+        "make 7 3 2 1 0 4 64 0 100000 4",
+    ),
+    (
+        "tv make --rounds 5 --conflicts=6 --weight 9 --workers=2",
+        "make 1 16 8 4 2 8 5 6 9 2",
+    ),
+    ("tv make --", "make 1 16 8 4 2 8 64 0 100000 4"),
+    ("tv make --seed 7 --", "make 7 16 8 4 2 8 64 0 100000 4"),
+    ("tv -- make", "-"),
+    ("tv make -- --seed=7", "-"),
+    ("tv make A", "-"),
+    ("tv make -- A", "-"),
+    ("tv make -", "-"),
+    ("tv make ", "-"),
+    ("tv make make", "-"),
+    ("tv make --seed 7 A", "-"),
+    ("tv make --proof P", "-"),
+    ("tv make --proof=P", "-"),
+    ("tv make --seed", "-"),
+    ("tv make --seed --", "-"),
+    ("tv make --seed=", "-"),
+    ("tv make --seed -1", "-"),
+    ("tv make --seed=x", "-"),
+    ("tv make --seeds 7", "-"),
+    ("tv make -s 7", "-"),
+    ("tv make --help", "-"),
+    ("tv --seed 7 make", "-"),
+    ("tv check --seed 7 A B", "-"),
+    ("tv check --functions=3 A B", "-"),
+    ("tv check --insts 2 A B", "-"),
+    ("tv log --seed=7 FILE", "-"),
+];
+
+/// There are three commands, and no help.
 const COMMANDS: [(&str, &str); 12] = [
     ("tv", "-"),
     ("tv help", "-"),
@@ -147,7 +258,7 @@ const COMMANDS: [(&str, &str); 12] = [
     ("tv check -h", "-"),
     ("tv checks A B", "-"),
     ("tv logs A", "-"),
-    ("tv make", "-"),
+    ("tv makes", "-"),
     ("tv -- check A B", "-"),
     ("tv --", "-"),
 ];
@@ -168,6 +279,7 @@ fn shown<R: AllocGlobal>(rt: &R, job: &Job<'_>) -> Result<String, Fail> {
     match job {
         Job::Check(check) => shown_check(rt, check),
         Job::Log { file } => Ok(format!(in rt.alloc(); "log {file}")?),
+        Job::Make(make) => shown_make(rt, make),
     }
 }
 
@@ -184,10 +296,31 @@ fn shown_check<R: AllocGlobal>(rt: &R, check: &Check<'_>) -> Result<String, Fail
     }
 }
 
+fn shown_make<R: AllocGlobal>(rt: &R, make: &Make) -> Result<String, Fail> {
+    let bounds = make.bounds;
+    let budget = make.budget;
+    let sizes = format!(in rt.alloc(); "{} {} {}", make.seed, make.functions, make.insts)?;
+    let within = format!(in rt.alloc(); "{} {} {}", bounds.turns, bounds.blocks, bounds.bytes)?;
+    let spent = format!(in rt.alloc(); "{} {} {}", budget.rounds, budget.conflicts, budget.weight)?;
+    let workers = make.workers;
+    Ok(format!(in rt.alloc(); "make {sizes} {within} {spent} {workers}")?)
+}
+
 #[test]
 fn command_lines_are_read(rt: HostRuntime) -> Result<(), Fail> {
-    let tables: [&[(&str, &str)]; 8] = [
-        &BOUNDS, &BUDGETS, &OPTIONS, &NUMBERS, &FILES, &PROOFS, &LOGS, &COMMANDS,
+    let tables: [&[(&str, &str)]; 12] = [
+        &BOUNDS,
+        &BUDGETS,
+        &OPTIONS,
+        &NUMBERS,
+        &FILES,
+        &PROOFS,
+        &LOGS,
+        &MADE_SIZES,
+        &MADE_LIMITS,
+        &MADE_ONCE,
+        &MAKES,
+        &COMMANDS,
     ];
     for table in tables {
         for (line, wanted) in table {

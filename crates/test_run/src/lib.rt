@@ -20,6 +20,8 @@ mod io_tests;
 #[cfg(test)]
 mod log_tests;
 #[cfg(test)]
+mod make_tests;
+#[cfg(test)]
 mod module_tests;
 #[cfg(test)]
 mod outside_tests;

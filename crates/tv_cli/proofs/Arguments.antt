@@ -1,5 +1,5 @@
 -- The arguments of the commands, as `clap` has them.
-use Rattle.std.proofs.Common.{◌≡◌, ◌||◌, ◌+◌, ℕ, min, Bool, true, false, true≢false, refl, sym, subst, List, [], ◌∷◌, Some, None, codes}
+use Rattle.std.proofs.Common.{◌≡◌, ◌||◌, ◌+◌, ℕ, min, Bool, true, false, true≢false, refl, sym, ap, subst, List, [], ◌∷◌, Option, Some, None, codes}
 use Rattle.std.specs.List.{list_any}
 use Rattle.std.specs.Str.{bytes_eq}
 use Rattle.std.proofs.lemmas.Slice.Eq.{bytes_eq-Decides}
@@ -12,8 +12,8 @@ use Rattle.clap.specs.Simple.{Shape, built, built_leaf, filled, inherited, marke
 use Rattle.clap.specs.declared.parser.matches.ValueSource.TheVariants.{CommandLine}
 use Rattle.clap.specs.declared.builder.value_parser.Reading.TheVariants.{AsWritten}
 use Rattle.clap.specs.declared.error.kind.ErrorKind.TheVariants as kind
-use Rattle.tv_cli.specs.Words.{Text, is_option, option_names}
-use Rattle.tv_cli.specs.Walked.{check_app, log_app, name_rule, option_rule, tv_app}
+use Rattle.tv_cli.specs.Words.{Text, check_options, is_option, make_options}
+use Rattle.tv_cli.specs.Walked.{check_app, log_app, make_app, name_rule, option_rule, tv_app}
 use Rattle.tv_cli.proofs.Uses.{or_false}
 
 -- an argument that takes one value, once
@@ -34,7 +34,7 @@ pub record OptionOf (c : List Rule) (id : Text) : Type 0 where
   pub of : RuleOf c id
   pub by_long : arg_by_long c id ≡ Some of.rule
 
--- a command with these options
+-- a command that has the options that are known
 pub record IsCommand (is_known : Text → Bool) (s : Shape) : Type 0 where
   pub again : s.args_override_self ≡ false
   pub leaf : s.is_leaf ≡ true
@@ -65,8 +65,8 @@ check_shape = shape_in_tv check_app.top
 abbrev pub log_shape : Shape
 log_shape = shape_in_tv log_app.top
 
-abbrev rules : List Rule
-rules = check_shape.rules
+abbrev pub make_shape : Shape
+make_shape = shape_in_tv make_app.top
 
 name_of : (c : List Rule) (id : Text) (i : ℕ) → arg_by_id c id ≡ Some (with_index i (filled (name_rule id))) → RuleOf c id
 name_of c id i e = record {
@@ -83,8 +83,8 @@ name_of c id i e = record {
   used_is = λ v rows. refl;
 }
 
-option_of : (id : Text) → arg_by_id rules id ≡ Some (filled (option_rule id)) → arg_by_long rules id ≡ Some (filled (option_rule id)) → OptionOf rules id
-option_of id e f = record {
+option_of : (c : List Rule) (id : Text) → arg_by_id c id ≡ Some (filled (option_rule id)) → arg_by_long c id ≡ Some (filled (option_rule id)) → OptionOf c id
+option_of c id e f = record {
   of = record {
     rule = filled (option_rule id);
     by_id = e;
@@ -118,58 +118,47 @@ each P (x ∷ xs) all n e = go (bytes_eq x n) refl e (each P xs all.1 n)
     go true f e rest = subst P (same x n f) all.0
     go false f e rest = rest e
 
-options : Each (OptionOf rules) option_names
-options = (
-  option_of (codes "turns") refl refl,
-  (
-    option_of (codes "blocks") refl refl,
-    (
-      option_of (codes "bytes") refl refl,
-      (
-        option_of (codes "rounds") refl refl,
-        (
-          option_of (codes "conflicts") refl refl,
-          (
-            option_of (codes "weight") refl refl,
-            (option_of (codes "workers") refl refl, (option_of (codes "proof") refl refl, tt)),
-          ),
-        ),
-      ),
-    ),
-  ),
-)
+-- a name that is none of these differs from each
+pub no_match : (names : List Text) (n : Text) → list_any (λ known. bytes_eq known n) names ≡ false → Each (λ known. bytes_eq known n ≡ false) names
+no_match [] n e = tt
+no_match (x ∷ xs) n e =
+    let parts = or_false (bytes_eq x n) (list_any (λ known. bytes_eq known n) xs) e in
+    (parts.0, no_match xs n parts.1)
 
-no_option : (n : Text) → is_option n ≡ false → arg_by_long rules n ≡ None
-no_option n e =
-    let a = or_false _ _ e in
-    let b = or_false _ _ a.1 in
-    let c = or_false _ _ b.1 in
-    let d = or_false _ _ c.1 in
-    let f = or_false _ _ d.1 in
-    let g = or_false _ _ f.1 in
-    let h = or_false _ _ g.1 in
-    let j = or_false _ _ h.1 in
-    let turns : bytes_eq (codes "turns") n ≡ false = a.0 in
-    let blocks : bytes_eq (codes "blocks") n ≡ false = b.0 in
-    let bytes : bytes_eq (codes "bytes") n ≡ false = c.0 in
-    let rounds : bytes_eq (codes "rounds") n ≡ false = d.0 in
-    let conflicts : bytes_eq (codes "conflicts") n ≡ false = f.0 in
-    let weight : bytes_eq (codes "weight") n ≡ false = g.0 in
-    let workers : bytes_eq (codes "workers") n ≡ false = h.0 in
-    let proof : bytes_eq (codes "proof") n ≡ false = j.0 in
-    rw (turns, blocks, bytes, rounds, conflicts, weight, workers, proof) refl
+-- ---- options among the rules of a command
+
+-- found by its name, as its id and behind `--`
+abbrev IsFound : List Rule → Text → Type 0
+IsFound c id =
+    let found : Option Rule × Option Rule = (arg_by_id c id, arg_by_long c id) in
+    found ≡ (Some (filled (option_rule id)), Some (filled (option_rule id)))
+
+options_of : (c : List Rule) (names : List Text) → Each (IsFound c) names → Each (OptionOf c) names
+options_of c [] all = tt
+options_of c (x ∷ xs) all = (option_of c x (ap (λ found. found.0) all.0) (ap (λ found. found.1) all.0), options_of c xs all.1)
 
 -- ---- `check`
 
-pub is_check : IsCommand is_option check_shape
-is_check = record { again = refl; leaf = refl; known = each (OptionOf rules) option_names options; unknown = no_option; no_short = λ x. refl }
+no_check_option : (n : Text) → is_option check_options n ≡ false → arg_by_long check_shape.rules n ≡ None
+no_check_option n e =
+    let no = no_match check_options n e in
+    rw (no.0, no.1.0, no.1.1.0, no.1.1.1.0, no.1.1.1.1.0, no.1.1.1.1.1.0, no.1.1.1.1.1.1.0, no.1.1.1.1.1.1.1.0) refl
+
+pub is_check : IsCommand (is_option check_options) check_shape
+is_check = record {
+  again = refl;
+  leaf = refl;
+  known = each (OptionOf check_shape.rules) check_options (options_of check_shape.rules check_options (refl, (refl, (refl, (refl, (refl, (refl, (refl, (refl, tt)))))))));
+  unknown = no_check_option;
+  no_short = λ x. refl;
+}
 
 abbrev pub check_names : List Text
 check_names = codes "A" ∷ codes "B" ∷ []
 
 pub names_of_check : NamesFrom check_shape.rules 1 check_names
 unfolding name_of
-names_of_check = (record { of = name_of rules (codes "A") 1 refl; found = refl }, (record { of = name_of rules (codes "B") 2 refl; found = refl }, refl))
+names_of_check = (record { of = name_of check_shape.rules (codes "A") 1 refl; found = refl }, (record { of = name_of check_shape.rules (codes "B") 2 refl; found = refl }, refl))
 
 -- ---- `log`
 
@@ -186,5 +175,24 @@ pub names_of_log : NamesFrom log_shape.rules 1 log_names
 unfolding name_of
 names_of_log = (record { of = name_of log_shape.rules (codes "FILE") 1 refl; found = refl }, refl)
 
-pub built_subs : (built tv_app).subs ≡ check_shape ∷ log_shape ∷ []
+-- ---- `make`
+
+no_make_option : (n : Text) → is_option make_options n ≡ false → arg_by_long make_shape.rules n ≡ None
+no_make_option n e =
+    let no = no_match make_options n e in
+    rw (no.0, no.1.0, no.1.1.0, no.1.1.1.0, no.1.1.1.1.0, no.1.1.1.1.1.0, no.1.1.1.1.1.1.0, no.1.1.1.1.1.1.1.0, no.1.1.1.1.1.1.1.1.0, no.1.1.1.1.1.1.1.1.1.0) refl
+
+pub is_make : IsCommand (is_option make_options) make_shape
+is_make = record {
+  again = refl;
+  leaf = refl;
+  known = each (OptionOf make_shape.rules) make_options (options_of make_shape.rules make_options (refl, (refl, (refl, (refl, (refl, (refl, (refl, (refl, (refl, (refl, tt)))))))))));
+  unknown = no_make_option;
+  no_short = λ x. refl;
+}
+
+pub names_of_make : NamesFrom make_shape.rules 1 []
+names_of_make = refl
+
+pub built_subs : (built tv_app).subs ≡ check_shape ∷ log_shape ∷ make_shape ∷ []
 built_subs = refl

@@ -10,17 +10,19 @@ use Rattle.clap.specs.Faults.{check_fault, defaults_fault, default_fault, entere
 use Rattle.clap.specs.Simple.{App, Shape, built, entered}
 use Rattle.clap.proofs.WalkLemmas.{walk_stopped}
 use Rattle.clap.proofs.OnLiterals.{clap_on_literals}
-use Rattle.tv_cli.specs.Words.{Text, Kind, Part, Job, check_in_parts, file_in_parts, is_option, job_of, kind_of, parts_of}
-use Rattle.tv_cli.specs.Words.Job.{check, log}
+use Rattle.tv_cli.specs.Words.{Text, Kind, Part, Job, check_in_parts, check_options, file_in_parts, is_option, job_of, kind_of, make_in_parts, make_options, parts_of}
+use Rattle.tv_cli.specs.Words.Job.{check, log, make}
 use Rattle.tv_cli.specs.Words.Kind.{end, attached, separate, dashed, plain}
 use Rattle.tv_cli.specs.Words.Part.{option, name}
-use Rattle.tv_cli.specs.Walked.{check_in_rows, job_in_rows, job_walked, tv_app, unless_fault}
+use Rattle.tv_cli.specs.Walked.{check_in_rows, job_in_rows, job_walked, make_in_rows, tv_app, unless_fault}
 use Rattle.tv_cli.proofs.Uses.{Use, after, rows_of_uses}
 use Rattle.tv_cli.proofs.WordKinds.{Met, ends_options, met}
-use Rattle.tv_cli.proofs.Arguments.{IsCommand, NamesFrom, check_names, check_shape, is_check, is_log, is_no_option, log_names, log_shape, names_of_check, names_of_log}
+use Rattle.tv_cli.proofs.Arguments.{IsCommand, NamesFrom, check_names, check_shape, is_check, is_log, is_make, is_no_option, log_names, log_shape, make_shape, names_of_check, names_of_log, names_of_make}
 use Rattle.tv_cli.proofs.Steps.{AgreesFrom, IsFault, at, fault_left}
 use Rattle.tv_cli.proofs.Walks.{AreTexts, walks}
-use Rattle.tv_cli.proofs.Outcomes.{outcome_of, parts-outcome}
+use Rattle.tv_cli.proofs.Asking.{outcome_of}
+use Rattle.tv_cli.proofs.CheckOutcome.{check-outcome}
+use Rattle.tv_cli.proofs.MakeOutcome.{make-outcome}
 
 -- ---- no argument has a default
 
@@ -63,6 +65,9 @@ check_defaults = (refl, (refl, (refl, (refl, (refl, (refl, (refl, (refl, (refl, 
 
 log_defaults : NoDefaults log_shape.rules
 log_defaults = (refl, tt)
+
+make_defaults : NoDefaults make_shape.rules
+make_defaults = (refl, (refl, (refl, (refl, (refl, (refl, (refl, (refl, (refl, (refl, tt))))))))))
 
 -- ---- the words after a command
 
@@ -110,9 +115,9 @@ module _ {A : Type 0} (is_known : Text → Bool) (s : Shape) (k : IsCommand is_k
       → unless_fault (faults_after s ws) (read (rows_after s.rules [] ws)) ≡ outcome_of s read (after is_known (Some []) ids (parts_of None ws))
   command_walked ids names ws texts = level ws (after is_known (Some []) ids (parts_of None ws)) ((walks is_known s k ws texts).idles [] None ids 1 names tt)
 
-check-parts : (parts : Option (List Part)) → outcome_of check_shape check_in_rows (after is_option (Some []) check_names parts) ≡ check_in_parts parts
+check-parts : (parts : Option (List Part)) → outcome_of check_shape check_in_rows (after (is_option check_options) (Some []) check_names parts) ≡ check_in_parts parts
 check-parts None = refl
-check-parts (Some ps) = parts-outcome ps
+check-parts (Some ps) = check-outcome ps
 
 file_in_rows : List Row → Option Text
 file_in_rows rows = first_of (codes "FILE") rows
@@ -126,11 +131,18 @@ log-parts (Some (name t ∷ [])) = refl
 log-parts (Some (name t ∷ option n v ∷ ps)) = refl
 log-parts (Some (name t ∷ name u ∷ ps)) = refl
 
+make-parts : (parts : Option (List Part)) → outcome_of make_shape make_in_rows (after (is_option make_options) (Some []) [] parts) ≡ make_in_parts parts
+make-parts None = refl
+make-parts (Some ps) = make-outcome ps
+
 check_walked : (ws : List Text) → AreTexts ws → unless_fault (faults_after check_shape ws) (check_in_rows (rows_after check_shape.rules [] ws)) ≡ check_in_parts (parts_of None ws)
-check_walked ws texts = command_walked is_option check_shape is_check check_defaults check_in_rows check_names names_of_check ws texts ∙ check-parts (parts_of None ws)
+check_walked ws texts = command_walked (is_option check_options) check_shape is_check check_defaults check_in_rows check_names names_of_check ws texts ∙ check-parts (parts_of None ws)
 
 log_walked : (ws : List Text) → AreTexts ws → unless_fault (faults_after log_shape ws) (file_in_rows (rows_after log_shape.rules [] ws)) ≡ file_in_parts (parts_of None ws)
 log_walked ws texts = command_walked is_no_option log_shape is_log log_defaults file_in_rows log_names names_of_log ws texts ∙ log-parts (parts_of None ws)
+
+make_walked : (ws : List Text) → AreTexts ws → unless_fault (faults_after make_shape ws) (make_in_rows (rows_after make_shape.rules [] ws)) ≡ make_in_parts (parts_of None ws)
+make_walked ws texts = command_walked (is_option make_options) make_shape is_make make_defaults make_in_rows [] names_of_make ws texts ∙ make-parts (parts_of None ws)
 
 -- ---- the first word
 
@@ -143,7 +155,7 @@ stopped-fault s names w stop [] = refl
 stopped-fault s names w stop (word ∷ ws) = stopped-fault s names w (stop.0, stop.1 ++ word ∷ []) ws
 
 abbrev names : Names
-names = (codes "check", []) ∷ (codes "log", []) ∷ []
+names = (codes "check", []) ∷ (codes "log", []) ∷ (codes "make", []) ∷ []
 
 walk_fault-step : (s : Shape) (ns : Names) (w : Walk) (word : Text) (ws : List Text) → walk_fault s ns w (word ∷ ws) ≡ or_else (turn_fault s ns w word) (walk_fault s ns (walked s.rules ns w word) ws)
 unfolding walk_fault
@@ -161,6 +173,10 @@ check-met command e = record { turn = rw e refl; step = rw e refl }
 log-met : (command : Text) → bytes_eq (codes "check") command ≡ false → bytes_eq (codes "log") command ≡ true → IsMet (codes "log") command
 unfolding walked
 log-met command e f = record { turn = rw (e, f) refl; step = rw (e, f) refl }
+
+make-met : (command : Text) → bytes_eq (codes "check") command ≡ false → bytes_eq (codes "log") command ≡ false → bytes_eq (codes "make") command ≡ true → IsMet (codes "make") command
+unfolding walked
+make-met command e f g = record { turn = rw (e, f, g) refl; step = rw (e, f, g) refl }
 
 met-walk : (n command : Text) (ws : List Text) → IsMet n command → walk [] names nothing_held (command ∷ ws) ≡ record start { stopped = Some (n, ws) }
 met-walk n command ws m = ap (λ w. fold (walked [] names) w ws) m.step ∙ sym (walk_stopped [] names start n [] ws)
@@ -191,6 +207,10 @@ log-fault : (ws : List Text) → faults_at [] (record start { stopped = Some (co
 unfolding defaults_fault
 log-fault ws = refl
 
+make-fault : (ws : List Text) → faults_at [] (record start { stopped = Some (codes "make", ws) }) ≡ faults_after make_shape ws
+unfolding defaults_fault
+make-fault ws = refl
+
 check-job : (program command : Text) (ws : List Text) → AreTexts ws → IsMet (codes "check") command → job_walked (program ∷ command ∷ ws) ≡ option_map check (check_in_parts (parts_of None ws))
 check-job program command ws texts m =
     ap₂ (λ kinds found. unless_fault kinds (option_and_then job_in_rows found)) (met-fault program (codes "check") command ws m ∙ check-fault ws) (met-entered program (codes "check") command ws m)
@@ -204,24 +224,30 @@ log-job program command ws texts m =
     ∙ unless_fault-map log (faults_after log_shape ws) (file_in_rows (rows_after log_shape.rules [] ws))
     ∙ ap (option_map log) (log_walked ws texts)
 
+make-job : (program command : Text) (ws : List Text) → AreTexts ws → IsMet (codes "make") command → job_walked (program ∷ command ∷ ws) ≡ option_map make (make_in_parts (parts_of None ws))
+make-job program command ws texts m =
+    ap₂ (λ kinds found. unless_fault kinds (option_and_then job_in_rows found)) (met-fault program (codes "make") command ws m ∙ make-fault ws) (met-entered program (codes "make") command ws m)
+    ∙ unless_fault-map make (faults_after make_shape ws) (make_in_rows (rows_after make_shape.rules [] ws))
+    ∙ ap (option_map make) (make_walked ws texts)
+
 -- any other word is a fault, but for `--`
 abbrev IsNoCommand : Text → Type 0
-IsNoCommand command = (bytes_eq (codes "check") command ≡ false) × (bytes_eq (codes "log") command ≡ false)
+IsNoCommand command = (bytes_eq (codes "check") command ≡ false) × (bytes_eq (codes "log") command ≡ false) × (bytes_eq (codes "make") command ≡ false)
 
 other-turn : (kind : Kind) (command : Text) → Met kind command → IsNoCommand command → (ends_options command ≡ true) ⊎ IsFault (turn_fault tv.top names start command)
 unfolding flags_fault
 other-turn end command m e = inl m
-other-turn (attached n v) command m e = inr (rw (e.0, e.1, m.end, m.long) tt)
-other-turn (separate n) command m e = inr (rw (e.0, e.1, m.end, m.long) tt)
-other-turn dashed command m e = inr (rw (e.0, e.1, m.end, m.long, m.short, m.char) tt)
-other-turn plain command m e = inr (rw (e.0, e.1, m.end, m.long, m.short) tt)
+other-turn (attached n v) command m e = inr (rw (e.0, e.1, e.2, m.end, m.long) tt)
+other-turn (separate n) command m e = inr (rw (e.0, e.1, e.2, m.end, m.long) tt)
+other-turn dashed command m e = inr (rw (e.0, e.1, e.2, m.end, m.long, m.short, m.char) tt)
+other-turn plain command m e = inr (rw (e.0, e.1, e.2, m.end, m.long, m.short) tt)
 
 end-turn : (command : Text) → IsNoCommand command → ends_options command ≡ true → turn_fault tv.top names start command ≡ []
-end-turn command e f = rw (e.0, e.1, f) refl
+end-turn command e f = rw (e.0, e.1, e.2, f) refl
 
 end-step : (command : Text) → IsNoCommand command → ends_options command ≡ true → walked [] names start command ≡ record start { is_trailing = true }
 unfolding walked
-end-step command e f = rw (e.0, e.1, f) refl
+end-step command e f = rw (e.0, e.1, e.2, f) refl
 
 end-fault : (program command : Text) (ws : List Text) → IsNoCommand command → ends_options command ≡ true → IsFault (fault_of tv_app (program ∷ command ∷ ws))
 unfolding walk_fault defaults_fault
@@ -242,13 +268,15 @@ pub walked-job : (words : List Text) → AreTexts words → job_walked words ≡
 unfolding clap_on_literals
 walked-job [] texts = refl
 walked-job (program ∷ []) texts = refl
-walked-job (program ∷ command ∷ ws) texts = go (bytes_eq (codes "check") command) (bytes_eq (codes "log") command) refl refl
+walked-job (program ∷ command ∷ ws) texts = go (bytes_eq (codes "check") command) (bytes_eq (codes "log") command) (bytes_eq (codes "make") command) refl refl refl
   where
-    go : (a b : Bool) → bytes_eq (codes "check") command ≡ a → bytes_eq (codes "log") command ≡ b
-        → job_walked (program ∷ command ∷ ws) ≡ cond a (option_map check (check_in_parts (parts_of None ws))) (cond b (option_map log (file_in_parts (parts_of None ws))) None)
-    go true b e f = check-job program command ws texts.1.1 (check-met command e)
-    go false true e f = log-job program command ws texts.1.1 (log-met command e f)
-    go false false e f = unless_fault-fault _ _ (other-fault program command ws texts.1.0 (e, f))
+    go : (a b c : Bool) → bytes_eq (codes "check") command ≡ a → bytes_eq (codes "log") command ≡ b → bytes_eq (codes "make") command ≡ c
+        → job_walked (program ∷ command ∷ ws)
+        ≡ cond a (option_map check (check_in_parts (parts_of None ws))) (cond b (option_map log (file_in_parts (parts_of None ws))) (cond c (option_map make (make_in_parts (parts_of None ws))) None))
+    go true b c e f g = check-job program command ws texts.1.1 (check-met command e)
+    go false true c e f g = log-job program command ws texts.1.1 (log-met command e f)
+    go false false true e f g = make-job program command ws texts.1.1 (make-met command e f g)
+    go false false false e f g = unless_fault-fault _ _ (other-fault program command ws texts.1.0 (e, f, g))
 
 module _ {Z : Type 0} where
   pub are_texts : (words : List (String Z)) → AreTexts (map string_bytes words)

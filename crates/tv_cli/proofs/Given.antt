@@ -1,39 +1,86 @@
--- A `check` whose names, bounds, budget, workers or proof are missing is none, and what `log` asks for.
+-- A `check` or a `make` of which a part is missing is none; what `log` asks for.
 use Rattle.std.proofs.lemmas.Slice.Eq.{bytes_eq-Decides}
-use Rattle.std.proofs.Common.{◌≡◌, ℕ, Bool, true, false, cond, List, Option, Some, None, option_map, codes, refl, sym, ap, ◌∙◌}
+use Rattle.std.proofs.Common.{◌≡◌, ℕ, Bool, true, false, List, Option, Some, None, option_map, codes, refl, sym}
 use Rattle.std.specs.Str.{bytes_eq}
 use Rattle.clap.specs.Words.{Row, first_of}
 use Rattle.points.specs.declared.point.Bounds.{Bounds}
 use Rattle.points.specs.declared.point.Budget.{Budget}
-use Rattle.tv_cli.specs.Words.{Text, check_with}
-use Rattle.tv_cli.specs.Words.Job.{check, log}
-use Rattle.tv_cli.specs.Walked.{check_in_rows, check_of_names, job_in_rows}
+use Rattle.tv_cli.specs.Words.{Text, check_with, make_with}
+use Rattle.tv_cli.specs.Words.Job.{log}
+use Rattle.tv_cli.specs.Walked.{check_of_names, job_in_rows}
 
-pub no_target : (source target : Option Text) (rows : List Row) → target ≡ None → check_of_names source target rows ≡ None
+pub no_target : (source target : Option Text) (rows : List Row) → target ≡ None
+    → check_of_names source target rows ≡ None
 no_target None target rows e = refl
 no_target (Some source) target rows e = rw e refl
 
-pub no_bounds : (source target : Text) (bounds : Option Bounds) (budget : Option Budget) (workers : Option ℕ) (proof : Option (Option Text)) → bounds ≡ None → check_with source target bounds budget workers proof ≡ None
+pub no_bounds : (source target : Text) (bounds : Option Bounds) (budget : Option Budget) (workers : Option ℕ) (proof : Option (Option Text))
+    → bounds ≡ None → check_with source target bounds budget workers proof ≡ None
 no_bounds source target bounds budget workers proof e = rw e refl
 
-pub no_budget : (source target : Text) (bounds : Option Bounds) (budget : Option Budget) (workers : Option ℕ) (proof : Option (Option Text)) → budget ≡ None → check_with source target bounds budget workers proof ≡ None
+pub no_budget : (source target : Text) (bounds : Option Bounds) (budget : Option Budget) (workers : Option ℕ) (proof : Option (Option Text))
+    → budget ≡ None → check_with source target bounds budget workers proof ≡ None
 no_budget source target None budget workers proof e = refl
 no_budget source target (Some bounds) budget workers proof e = rw e refl
 
-pub no_workers : (source target : Text) (bounds : Option Bounds) (budget : Option Budget) (workers : Option ℕ) (proof : Option (Option Text)) → workers ≡ None → check_with source target bounds budget workers proof ≡ None
+pub no_workers : (source target : Text) (bounds : Option Bounds) (budget : Option Budget) (workers : Option ℕ) (proof : Option (Option Text))
+    → workers ≡ None → check_with source target bounds budget workers proof ≡ None
 no_workers source target None budget workers proof e = refl
 no_workers source target (Some bounds) None workers proof e = refl
 no_workers source target (Some bounds) (Some budget) workers proof e = rw e refl
 
-pub no_proof : (source target : Text) (bounds : Option Bounds) (budget : Option Budget) (workers : Option ℕ) (proof : Option (Option Text)) → proof ≡ None → check_with source target bounds budget workers proof ≡ None
+pub no_proof : (source target : Text) (bounds : Option Bounds) (budget : Option Budget) (workers : Option ℕ) (proof : Option (Option Text))
+    → proof ≡ None → check_with source target bounds budget workers proof ≡ None
 no_proof source target None budget workers proof e = refl
 no_proof source target (Some bounds) None workers proof e = refl
 no_proof source target (Some bounds) (Some budget) None proof e = refl
 no_proof source target (Some bounds) (Some budget) (Some workers) proof e = rw e refl
 
--- the matches of a command other than `check` are those of `log`
-pub other_command : (command : Text) (rows : List Row) (file : Option Text) → bytes_eq (codes "check") command ≡ false → file ≡ first_of (codes "FILE") rows → option_map log file ≡ job_in_rows (command, rows)
-other_command command rows file e f = ap (option_map log) f ∙ sym (ap (λ b. cond b (option_map check (check_in_rows rows)) (option_map log (first_of (codes "FILE") rows))) e)
+pub no_seed : (seed functions insts : Option ℕ) (bounds : Option Bounds) (budget : Option Budget) (workers : Option ℕ)
+    → seed ≡ None → make_with seed functions insts bounds budget workers ≡ None
+no_seed seed functions insts bounds budget workers e = rw e refl
+
+pub no_functions : (seed functions insts : Option ℕ) (bounds : Option Bounds) (budget : Option Budget) (workers : Option ℕ)
+    → functions ≡ None → make_with seed functions insts bounds budget workers ≡ None
+no_functions None functions insts bounds budget workers e = refl
+no_functions (Some seed) functions insts bounds budget workers e = rw e refl
+
+pub no_insts : (seed functions insts : Option ℕ) (bounds : Option Bounds) (budget : Option Budget) (workers : Option ℕ)
+    → insts ≡ None → make_with seed functions insts bounds budget workers ≡ None
+no_insts None functions insts bounds budget workers e = refl
+no_insts (Some seed) None insts bounds budget workers e = refl
+no_insts (Some seed) (Some functions) insts bounds budget workers e = rw e refl
+
+pub no_made_bounds : (seed functions insts : Option ℕ) (bounds : Option Bounds) (budget : Option Budget) (workers : Option ℕ)
+    → bounds ≡ None → make_with seed functions insts bounds budget workers ≡ None
+no_made_bounds None functions insts bounds budget workers e = refl
+no_made_bounds (Some seed) None insts bounds budget workers e = refl
+no_made_bounds (Some seed) (Some functions) None bounds budget workers e = refl
+no_made_bounds (Some seed) (Some functions) (Some insts) bounds budget workers e = rw e refl
+
+pub no_made_budget : (seed functions insts : Option ℕ) (bounds : Option Bounds) (budget : Option Budget) (workers : Option ℕ)
+    → budget ≡ None → make_with seed functions insts bounds budget workers ≡ None
+no_made_budget None functions insts bounds budget workers e = refl
+no_made_budget (Some seed) None insts bounds budget workers e = refl
+no_made_budget (Some seed) (Some functions) None bounds budget workers e = refl
+no_made_budget (Some seed) (Some functions) (Some insts) None budget workers e = refl
+no_made_budget (Some seed) (Some functions) (Some insts) (Some bounds) budget workers e = rw e refl
+
+pub no_made_workers : (seed functions insts : Option ℕ) (bounds : Option Bounds) (budget : Option Budget) (workers : Option ℕ)
+    → workers ≡ None → make_with seed functions insts bounds budget workers ≡ None
+no_made_workers None functions insts bounds budget workers e = refl
+no_made_workers (Some seed) None insts bounds budget workers e = refl
+no_made_workers (Some seed) (Some functions) None bounds budget workers e = refl
+no_made_workers (Some seed) (Some functions) (Some insts) None budget workers e = refl
+no_made_workers (Some seed) (Some functions) (Some insts) (Some bounds) None workers e = refl
+no_made_workers (Some seed) (Some functions) (Some insts) (Some bounds) (Some budget) workers e = rw e refl
+
+-- the matches of `log`
+pub log_in_rows : (command : Text) (rows : List Row) (file : Option Text)
+    → bytes_eq (codes "check") command ≡ false → bytes_eq (codes "log") command ≡ true
+    → file ≡ first_of (codes "FILE") rows
+    → option_map log file ≡ job_in_rows (command, rows)
+log_in_rows command rows file e f found = rw (e, f, found) refl
 
 pub other_text : (x y : Text) → (x ≡ y → ⊥) → bytes_eq y x ≡ false
 other_text x y other = go (bytes_eq y x) refl

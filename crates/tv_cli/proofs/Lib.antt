@@ -7,5 +7,9 @@ pub mod WordKinds
 pub mod Arguments
 pub mod Steps
 pub mod Walks
-pub mod Outcomes
+pub mod Values
+pub mod Asking
+pub mod Limits
+pub mod CheckOutcome
+pub mod MakeOutcome
 pub mod Equality

@@ -9,8 +9,8 @@ use Rattle.points.specs.declared.point.Bounds.{Bounds}
 use Rattle.points.specs.declared.point.Budget.{Budget}
 use Rattle.points.specs.Range.{AreInRange}
 use Rattle.tv_cli.specs.declared.number.Range.{Range}
-use Rattle.tv_cli.specs.Words.Job.{check, log}
-use Rattle.tv_cli.specs.Words.{Text, Part, Check, Job, number_within, number_once, values_in, bounds_with, budget_with, check_with, check_named, check_in_parts, file_in_parts, job_of, names_in, are_known, parts_of, turns_range, blocks_range, bytes_range, rounds_range, conflicts_range, weight_range}
+use Rattle.tv_cli.specs.Words.Job.{check, log, make}
+use Rattle.tv_cli.specs.Words.{Text, Part, Check, Make, Job, number_within, number_once, values_in, bounds_with, budget_with, check_with, check_named, check_in_parts, check_options, file_in_parts, job_of, make_in_parts, names_in, are_known, parts_of, turns_range, blocks_range, bytes_range, rounds_range, conflicts_range, weight_range}
 
 pub none≢some : {X : Type 0} (x : X) → None ≡ Some x → ⊥
 none≢some x e = true≢false (sym (ap (λ o. is_some o) e))
@@ -95,7 +95,7 @@ named (source ∷ target ∷ []) parts c e =
 
 parted : (parts : Option (List Part)) (c : Check) → check_in_parts parts ≡ Some c → AreWithin c
 parted None c e = absurd (none≢some c e)
-parted (Some parts) c e = go (are_known parts) e
+parted (Some parts) c e = go (are_known check_options parts) e
   where
     go : (b : Bool) → cond b (check_named (names_in parts) parts) None ≡ Some c → AreWithin c
     go true e = named (names_in parts) parts c e
@@ -106,6 +106,7 @@ checked : Option Job → Option Check
 checked None = None
 checked (Some (check c)) = Some c
 checked (Some (log file)) = None
+checked (Some (make m)) = None
 
 checked-check : (found : Option Check) → checked (option_map check found) ≡ found
 unfolding checked
@@ -117,6 +118,11 @@ unfolding checked
 checked-log None = refl
 checked-log (Some file) = refl
 
+checked-make : (found : Option Make) → checked (option_map make found) ≡ None
+unfolding checked
+checked-make None = refl
+checked-make (Some m) = refl
+
 checked-some : (c : Check) → checked (Some (check c)) ≡ Some c
 unfolding checked
 checked-some c = refl
@@ -124,12 +130,14 @@ checked-some c = refl
 all_within : (words : List Text) (c : Check) → job_of words ≡ Some (check c) → AreWithin c
 all_within [] c e = absurd (none≢some (check c) e)
 all_within (program ∷ []) c e = absurd (none≢some (check c) e)
-all_within (program ∷ command ∷ words) c e = go (bytes_eq (codes "check") command) (bytes_eq (codes "log") command) e
+all_within (program ∷ command ∷ words) c e = go (bytes_eq (codes "check") command) (bytes_eq (codes "log") command) (bytes_eq (codes "make") command) e
   where
-    go : (a b : Bool) → cond a (option_map check (check_in_parts (parts_of None words))) (cond b (option_map log (file_in_parts (parts_of None words))) None) ≡ Some (check c) → AreWithin c
-    go true b e = parted (parts_of None words) c (sym (checked-check (check_in_parts (parts_of None words))) ∙ ap checked e ∙ checked-some c)
-    go false true e = absurd (none≢some c (sym (checked-log (file_in_parts (parts_of None words))) ∙ ap checked e ∙ checked-some c))
-    go false false e = absurd (none≢some (check c) e)
+    go : (a b d : Bool)
+        → cond a (option_map check (check_in_parts (parts_of None words))) (cond b (option_map log (file_in_parts (parts_of None words))) (cond d (option_map make (make_in_parts (parts_of None words))) None)) ≡ Some (check c) → AreWithin c
+    go true b d e = parted (parts_of None words) c (sym (checked-check (check_in_parts (parts_of None words))) ∙ ap checked e ∙ checked-some c)
+    go false true d e = absurd (none≢some c (sym (checked-log (file_in_parts (parts_of None words))) ∙ ap checked e ∙ checked-some c))
+    go false false true e = absurd (none≢some c (sym (checked-make (make_in_parts (parts_of None words))) ∙ ap checked e ∙ checked-some c))
+    go false false false e = absurd (none≢some (check c) e)
 
 pub check_in_range : (words : List Text) (c : Check) → job_of words ≡ Some (check c) → AreInRange c.bounds c.budget
 check_in_range words c e =

@@ -7,8 +7,8 @@ use Rattle.clap.specs.declared.builder.ArgAction.TheVariants.{Set}
 use Rattle.points.specs.declared.point.Bounds.{Bounds}
 use Rattle.points.specs.declared.point.Budget.{Budget}
 use Rattle.tv_cli.specs.declared.number.Range.{Range}
-use Rattle.tv_cli.specs.Words.Job.{check, log}
-use Rattle.tv_cli.specs.Words.{Check, Job, Text, number_within, bounds_with, budget_with, check_with, turns_range, blocks_range, bytes_range, rounds_range, conflicts_range, weight_range, workers_range}
+use Rattle.tv_cli.specs.Words.Job.{check, log, make}
+use Rattle.tv_cli.specs.Words.{Check, Make, Job, Text, number_within, bounds_with, budget_with, check_with, make_with, turns_range, blocks_range, bytes_range, rounds_range, conflicts_range, weight_range, workers_range, seed_range, functions_range, insts_range}
 
 -- an option `--name VALUE`
 abbrev pub option_rule : Text → Rule
@@ -26,9 +26,15 @@ check_app = with_rule (with_rule (with_rule (with_rule (with_rule bounded_app (o
 abbrev pub log_app : App
 log_app = with_rule (new_app (codes "log")) (name_rule (codes "FILE"))
 
+abbrev pub limited_app : App
+limited_app = with_rule (with_rule (with_rule (with_rule (with_rule (new_app (codes "make")) (option_rule (codes "turns"))) (option_rule (codes "blocks"))) (option_rule (codes "bytes"))) (option_rule (codes "rounds"))) (option_rule (codes "conflicts"))
+
+abbrev pub make_app : App
+make_app = with_rule (with_rule (with_rule (with_rule (with_rule limited_app (option_rule (codes "weight"))) (option_rule (codes "workers"))) (option_rule (codes "seed"))) (option_rule (codes "functions"))) (option_rule (codes "insts"))
+
 -- the command line of the program
 abbrev pub tv_app : App
-tv_app = with_subcommand (with_subcommand (on_top (λ s. record s { disable_help_flag = true; disable_help_subcommand = true; subcommand_required = true }) (new_app (codes "tv"))) check_app.top) log_app.top
+tv_app = with_subcommand (with_subcommand (with_subcommand (on_top (λ s. record s { disable_help_flag = true; disable_help_subcommand = true; subcommand_required = true }) (new_app (codes "tv"))) check_app.top) log_app.top) make_app.top
 
 -- the number of an option, by its written value
 abbrev pub number_or_usual : Range → Option Text → Option ℕ
@@ -49,9 +55,17 @@ check_of_names _ _ rows = None
 abbrev pub check_in_rows : List Row → Option Check
 check_in_rows rows = check_of_names (first_of (codes "A") rows) (first_of (codes "B") rows) rows
 
+-- what the matches of `make` ask for
+abbrev pub make_in_rows : List Row → Option Make
+make_in_rows rows =
+    make_with (number_or_usual seed_range (first_of (codes "seed") rows)) (number_or_usual functions_range (first_of (codes "functions") rows)) (number_or_usual insts_range (first_of (codes "insts") rows))
+    (bounds_in_rows rows) (budget_in_rows rows) (number_or_usual workers_range (first_of (codes "workers") rows))
+
 -- what the matches of a command ask for
 abbrev pub job_in_rows : Text × List Row → Option Job
-job_in_rows command = (if bytes_eq (codes "check") command.0 then option_map check (check_in_rows command.1) else option_map log (first_of (codes "FILE") command.1))
+job_in_rows command =
+    (if bytes_eq (codes "check") command.0 then option_map check (check_in_rows command.1)
+    else (if bytes_eq (codes "log") command.0 then option_map log (first_of (codes "FILE") command.1) else option_map make (make_in_rows command.1)))
 
 abbrev pub unless_fault : {A : Type 0} → Kinds → Option A → Option A
 unless_fault [] found = found

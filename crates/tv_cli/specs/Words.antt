@@ -21,10 +21,20 @@ pub record Check : Type 0 where
   pub workers : ℕ
   pub proof : Option Text
 
--- judge the pairs of two files, or check a proof file
+-- the pair of modules of a seed, what their pairs are judged within, and by how many workers
+pub record Make : Type 0 where
+  pub seed : ℕ
+  pub functions : ℕ
+  pub insts : ℕ
+  pub bounds : Bounds
+  pub budget : Budget
+  pub workers : ℕ
+
+-- judge the pairs of two files, check a proof file, or make a pair of modules and judge it
 pub data Job : Type 0 where
   check : Check → Job
   log : Text → Job
+  make : Make → Job
 
 -- ---- which kind of word a word is
 
@@ -118,17 +128,21 @@ text_once (value ∷ []) = Some (Some value)
 text_once (value ∷ other ∷ values) = None
 
 -- the options of `check`
-abbrev pub option_names : List Text
-option_names = codes "turns" ∷ codes "blocks" ∷ codes "bytes" ∷ codes "rounds" ∷ codes "conflicts" ∷ codes "weight" ∷ codes "workers" ∷ codes "proof" ∷ []
+abbrev pub check_options : List Text
+check_options = codes "turns" ∷ codes "blocks" ∷ codes "bytes" ∷ codes "rounds" ∷ codes "conflicts" ∷ codes "weight" ∷ codes "workers" ∷ codes "proof" ∷ []
 
-abbrev pub is_option : Text → Bool
-is_option text = list_any (λ known. bytes_eq known text) option_names
+-- and those of `make`
+abbrev pub make_options : List Text
+make_options = codes "turns" ∷ codes "blocks" ∷ codes "bytes" ∷ codes "rounds" ∷ codes "conflicts" ∷ codes "weight" ∷ codes "workers" ∷ codes "seed" ∷ codes "functions" ∷ codes "insts" ∷ []
 
--- each option is one that `check` has
-abbrev pub are_known : List Part → Bool
-are_known [] = true
-are_known (option option_name value ∷ parts) = is_option option_name && are_known parts
-are_known (name text ∷ parts) = are_known parts
+abbrev pub is_option : List Text → Text → Bool
+is_option options text = list_any (λ known. bytes_eq known text) options
+
+-- each option is one of these
+abbrev pub are_known : List Text → List Part → Bool
+are_known options [] = true
+are_known options (option option_name value ∷ parts) = is_option options option_name && are_known options parts
+are_known options (name text ∷ parts) = are_known options parts
 
 abbrev pub range : ℕ → ℕ → ℕ → Range
 range least most usual = record { least = least; most = most; usual = usual }
@@ -168,20 +182,35 @@ weight_range = range 1 10000000 100000
 abbrev pub workers_range : Range
 workers_range = range 1 64 4
 
+-- the seed, how many functions, and how many instructions each
+abbrev pub seed_range : Range
+seed_range = range 0 2147483647 1
+
+abbrev pub functions_range : Range
+functions_range = range 1 4096 16
+
+abbrev pub insts_range : Range
+insts_range = range 1 64 8
+
 abbrev pub number_of : Text → Range → List Part → Option ℕ
 number_of option_name r parts = number_once r (values_in option_name parts)
 
+abbrev pub bounds_of : List Part → Option Bounds
+bounds_of parts = bounds_with (number_of (codes "turns") turns_range parts) (number_of (codes "blocks") blocks_range parts) (number_of (codes "bytes") bytes_range parts)
+
+abbrev pub budget_of : List Part → Option Budget
+budget_of parts = budget_with (number_of (codes "rounds") rounds_range parts) (number_of (codes "conflicts") conflicts_range parts) (number_of (codes "weight") weight_range parts)
+
+abbrev pub workers_of : List Part → Option ℕ
+workers_of parts = number_of (codes "workers") workers_range parts
+
 -- two names, and each option at most once, with a number of its range or a text
 abbrev pub check_named : List Text → List Part → Option Check
-check_named (source ∷ target ∷ []) parts = check_with source target
-    (bounds_with (number_of (codes "turns") turns_range parts) (number_of (codes "blocks") blocks_range parts) (number_of (codes "bytes") bytes_range parts))
-    (budget_with (number_of (codes "rounds") rounds_range parts) (number_of (codes "conflicts") conflicts_range parts) (number_of (codes "weight") weight_range parts))
-    (number_of (codes "workers") workers_range parts)
-    (text_once (values_in (codes "proof") parts))
+check_named (source ∷ target ∷ []) parts = check_with source target (bounds_of parts) (budget_of parts) (workers_of parts) (text_once (values_in (codes "proof") parts))
 check_named _ parts = None
 
 abbrev pub check_in_parts : Option (List Part) → Option Check
-check_in_parts (Some parts) = (if are_known parts then check_named (names_in parts) parts else None)
+check_in_parts (Some parts) = (if are_known check_options parts then check_named (names_in parts) parts else None)
 check_in_parts None = None
 
 -- one name and no option
@@ -189,9 +218,26 @@ abbrev pub file_in_parts : Option (List Part) → Option Text
 file_in_parts (Some (name file ∷ [])) = Some file
 file_in_parts _ = None
 
+abbrev pub make_with : Option ℕ → Option ℕ → Option ℕ → Option Bounds → Option Budget → Option ℕ → Option Make
+make_with (Some seed) (Some functions) (Some insts) (Some bounds) (Some budget) (Some workers) =
+    Some (record { seed = seed; functions = functions; insts = insts; bounds = bounds; budget = budget; workers = workers })
+make_with _ _ _ _ _ _ = None
+
+-- no name, and each option at most once, with a number of its range
+abbrev pub make_named : List Text → List Part → Option Make
+make_named [] parts =
+    make_with (number_of (codes "seed") seed_range parts) (number_of (codes "functions") functions_range parts) (number_of (codes "insts") insts_range parts)
+    (bounds_of parts) (budget_of parts) (workers_of parts)
+make_named _ parts = None
+
+abbrev pub make_in_parts : Option (List Part) → Option Make
+make_in_parts (Some parts) = (if are_known make_options parts then make_named (names_in parts) parts else None)
+make_in_parts None = None
+
 -- the job that the arguments are: the program's name, the command, and its parts
 abbrev pub job_of : List Text → Option Job
 job_of (program ∷ command ∷ words) =
     (if bytes_eq (codes "check") command then option_map check (check_in_parts (parts_of None words))
-    else (if bytes_eq (codes "log") command then option_map log (file_in_parts (parts_of None words)) else None))
+    else (if bytes_eq (codes "log") command then option_map log (file_in_parts (parts_of None words))
+    else (if bytes_eq (codes "make") command then option_map make (make_in_parts (parts_of None words)) else None)))
 job_of _ = None

@@ -1,7 +1,7 @@
 ghost use Rattle.std.specs.Prelude.{◌≡◌, ◌↔◌, IfOk, IsTrue, false};
 ghost use Rattle.clap.specs.Words.{app_of, kind_of, rule_of};
 ghost use Rattle.clap.specs.declared.builder.command.Command.TheViews.{out-Command};
-ghost use Rattle.tv_cli.specs.Walked.{tv_app, check_app, log_app, bounded_app, name_rule, option_rule};
+ghost use Rattle.tv_cli.specs.Walked.{tv_app, check_app, log_app, make_app, bounded_app, limited_app, name_rule, option_rule};
 
 use clap::error::ErrorKind;
 use clap::{Arg, ArgAction, Command, Error};
@@ -13,12 +13,14 @@ pub fn command<'a>(alloc: Global) -> Result<Command<'a>, AllocError>
 {
     let check = check_command(alloc)?;
     let log = log_command(alloc)?;
+    let make = make_command(alloc)?;
     let tv = Command::new(alloc, "tv")
         .disable_help_flag(true)
         .disable_help_subcommand(true)
         .subcommand_required(true)
         .subcommand(check)?
-        .subcommand(log)?;
+        .subcommand(log)?
+        .subcommand(make)?;
     Ok(tv)
 }
 
@@ -66,6 +68,43 @@ fn bounded_command<'a>(alloc: Global) -> Result<Command<'a>, AllocError>
         .arg(blocks)?
         .arg(bytes)?;
     Ok(check)
+}
+
+fn make_command<'a>(alloc: Global) -> Result<Command<'a>, AllocError>
+    ensures app { IfOk result (λ c. app_of c ≡ make_app) }
+    ensures local { IfOk result (λ c. (out-Command c).has_globals ≡ false) }
+{
+    let weight = option(alloc, "weight");
+    let workers = option(alloc, "workers");
+    let seed = option(alloc, "seed");
+    let functions = option(alloc, "functions");
+    let insts = option(alloc, "insts");
+    let limited = limited_command(alloc)?;
+    let make = limited
+        .arg(weight)?
+        .arg(workers)?
+        .arg(seed)?
+        .arg(functions)?
+        .arg(insts)?;
+    Ok(make)
+}
+
+fn limited_command<'a>(alloc: Global) -> Result<Command<'a>, AllocError>
+    ensures app { IfOk result (λ c. app_of c ≡ limited_app) }
+    ensures local { IfOk result (λ c. (out-Command c).has_globals ≡ false) }
+{
+    let turns = option(alloc, "turns");
+    let blocks = option(alloc, "blocks");
+    let bytes = option(alloc, "bytes");
+    let rounds = option(alloc, "rounds");
+    let conflicts = option(alloc, "conflicts");
+    let make = Command::new(alloc, "make")
+        .arg(turns)?
+        .arg(blocks)?
+        .arg(bytes)?
+        .arg(rounds)?
+        .arg(conflicts)?;
+    Ok(make)
 }
 
 fn name<'a>(alloc: Global, id: &'a str) -> Arg<'a>

@@ -1,9 +1,9 @@
-ghost use Rattle.std.specs.Prelude.{◌≡◌, ◌≤◌, ◌<◌, ◌^◌, IfOk, IfSome, map, option_map, string_bytes};
+ghost use Rattle.std.specs.Prelude.{◌≡◌, ◌≤◌, ◌<◌, ◌^◌, IfOk, IfSome, codes, map, option_map, string_bytes};
 ghost use Rattle.clap.specs.Words.{first_of, found_of, rows_of};
 ghost use Rattle.points.specs.Range.{AreInRange};
-ghost use Rattle.tv_cli.specs.Words.{job_of};
-ghost use Rattle.tv_cli.specs.Walked.{bounds_in_rows, budget_in_rows, check_in_rows, job_in_rows, job_walked, number_or_usual};
-ghost use Rattle.tv_cli.specs.Seen.{seen, seen_check, IsInRange};
+ghost use Rattle.tv_cli.specs.Words.{job_of, range, workers_range};
+ghost use Rattle.tv_cli.specs.Walked.{bounds_in_rows, budget_in_rows, check_in_rows, job_in_rows, job_walked, make_in_rows, number_or_usual};
+ghost use Rattle.tv_cli.specs.Seen.{seen, seen_check, seen_make, IsInRange};
 
 use crate::command::{command, is_memory};
 use crate::number::{Range, number_in};
@@ -19,6 +19,8 @@ pub enum Job<'w> {
     Check(Check<'w>),
     /// `log FILE`: check a proof file.
     Log { file: &'w str },
+    /// `make`: make a pair of modules, and count the rows of its report.
+    Make(Make),
 }
 
 /// The files that are checked, what their pairs are judged within, how many workers judge them, and the
@@ -31,6 +33,18 @@ pub struct Check<'w> {
     pub budget: Budget,
     pub workers: u64,
     pub proof: Option<&'w str>,
+}
+
+/// A pair of modules that is made from a seed, below 2^31: how many functions it has, at most 4,096,
+/// each of how many instructions, at most 64; what its pairs are judged within, and by how many workers.
+#[derive(Clone, Copy, Drop)]
+pub struct Make {
+    pub seed: u64,
+    pub functions: u64,
+    pub insts: u64,
+    pub bounds: Bounds,
+    pub budget: Budget,
+    pub workers: u64,
 }
 
 /// The job that the arguments of a command line are, the program's name first, or `None` where the command
@@ -74,10 +88,16 @@ fn job_in<'w>(name: &str, matches: &ArgMatches<'w>) -> Option<Job<'w>>
         };
         return Some(Job::Check(check));
     }
-    let Some(file) = matches.get_str("FILE") else {
+    if name == "log" {
+        let Some(file) = matches.get_str("FILE") else {
+            return None;
+        };
+        return Some(Job::Log { file });
+    }
+    let Some(make) = make_in(matches) else {
         return None;
     };
-    Some(Job::Log { file })
+    Some(Job::Make(make))
 }
 
 // What the matches of `check` ask for.
@@ -98,15 +118,7 @@ fn check_in<'w>(matches: &ArgMatches<'w>) -> Option<Check<'w>>
     let Some(budget) = budget_in(matches) else {
         return None;
     };
-    let Some(workers) = number_of(
-        matches,
-        "workers",
-        Range {
-            least: 1,
-            most: 64,
-            usual: 4,
-        },
-    ) else {
+    let Some(workers) = workers_in(matches) else {
         return None;
     };
     let proof = matches.get_str("proof");
@@ -120,41 +132,69 @@ fn check_in<'w>(matches: &ArgMatches<'w>) -> Option<Check<'w>>
     })
 }
 
+// What the matches of `make` ask for.
+fn make_in(matches: &ArgMatches<'_>) -> Option<Make>
+    ensures make { option_map seen_make result ≡ make_in_rows (rows_of (found_of matches.now)) }
+    ensures seed { IfSome result (λ m. m.seed ≤ 2147483647) }
+    ensures sizes { IfSome result (λ m. (1 ≤ m.functions) × (m.functions ≤ 4096) × (1 ≤ m.insts) × (m.insts ≤ 64)) }
+    ensures in_range { IfSome result (λ m. AreInRange m.bounds m.budget) }
+    ensures workers { IfSome result (λ m. (1 ≤ m.workers) × (m.workers ≤ 64)) }
+{
+    let Some(seed) = ranged(matches, "seed", 0, 2_147_483_647, 1) else {
+        return None;
+    };
+    let Some(functions) = ranged(matches, "functions", 1, 4_096, 16) else {
+        return None;
+    };
+    let Some(insts) = ranged(matches, "insts", 1, 64, 8) else {
+        return None;
+    };
+    let Some(bounds) = bounds_in(matches) else {
+        return None;
+    };
+    let Some(budget) = budget_in(matches) else {
+        return None;
+    };
+    let Some(workers) = workers_in(matches) else {
+        return None;
+    };
+    Some(Make {
+        seed,
+        functions,
+        insts,
+        bounds,
+        budget,
+        workers,
+    })
+}
+
+fn workers_in(matches: &ArgMatches<'_>) -> Option<u64>
+    ensures value { result ≡ number_or_usual workers_range (first_of (codes "workers") (rows_of (found_of matches.now))) }
+    ensures within { IfSome result (λ n. (1 ≤ n) × (n ≤ 64)) }
+{
+    ranged(matches, "workers", 1, 64, 4)
+}
+
+// The number of an option between these two, or the usual one where it is not given.
+fn ranged(matches: &ArgMatches<'_>, name: &str, least: u64, most: u64, usual: u64) -> Option<u64>
+    requires { (least ≤ usual) × (usual ≤ most) }
+    ensures value { result ≡ number_or_usual (range least most usual) (first_of name.now (rows_of (found_of matches.now))) }
+    ensures within { IfSome result (λ n. (least ≤ n) × (n ≤ most)) }
+{
+    number_of(matches, name, Range { least, most, usual })
+}
+
 fn bounds_in(matches: &ArgMatches<'_>) -> Option<Bounds>
     ensures value { result ≡ bounds_in_rows (rows_of (found_of matches.now)) }
     ensures within { IfSome result (λ b. (b.turns ≤ 64) × (b.blocks ≤ 4) × (b.bytes ≤ 32)) }
 {
-    let Some(turns) = number_of(
-        matches,
-        "turns",
-        Range {
-            least: 0,
-            most: 64,
-            usual: 4,
-        },
-    ) else {
+    let Some(turns) = ranged(matches, "turns", 0, 64, 4) else {
         return None;
     };
-    let Some(blocks) = number_of(
-        matches,
-        "blocks",
-        Range {
-            least: 0,
-            most: 4,
-            usual: 2,
-        },
-    ) else {
+    let Some(blocks) = ranged(matches, "blocks", 0, 4, 2) else {
         return None;
     };
-    let Some(bytes) = number_of(
-        matches,
-        "bytes",
-        Range {
-            least: 0,
-            most: 32,
-            usual: 8,
-        },
-    ) else {
+    let Some(bytes) = ranged(matches, "bytes", 0, 32, 8) else {
         return None;
     };
     Some(Bounds {
@@ -168,37 +208,13 @@ fn budget_in(matches: &ArgMatches<'_>) -> Option<Budget>
     ensures value { result ≡ budget_in_rows (rows_of (found_of matches.now)) }
     ensures within { IfSome result (λ b. (b.rounds ≤ 4096) × (b.conflicts < 2 ^ 63) × (1 ≤ b.weight) × (b.weight ≤ 10000000)) }
 {
-    let Some(rounds) = number_of(
-        matches,
-        "rounds",
-        Range {
-            least: 0,
-            most: 4_096,
-            usual: 64,
-        },
-    ) else {
+    let Some(rounds) = ranged(matches, "rounds", 0, 4_096, 64) else {
         return None;
     };
-    let Some(conflicts) = number_of(
-        matches,
-        "conflicts",
-        Range {
-            least: 0,
-            most: 9_223_372_036_854_775_807,
-            usual: 0,
-        },
-    ) else {
+    let Some(conflicts) = ranged(matches, "conflicts", 0, 9_223_372_036_854_775_807, 0) else {
         return None;
     };
-    let Some(weight) = number_of(
-        matches,
-        "weight",
-        Range {
-            least: 1,
-            most: 10_000_000,
-            usual: 100_000,
-        },
-    ) else {
+    let Some(weight) = ranged(matches, "weight", 1, 10_000_000, 100_000) else {
         return None;
     };
     Some(Budget {

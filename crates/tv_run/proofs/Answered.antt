@@ -14,7 +14,6 @@ use Rattle.pair_driver.specs.declared.judged.Judged.{Judged}
 use Rattle.pair_judge.specs.Answers.{IsAnswer}
 use Rattle.std.specs.List.{AllZip}
 use Rattle.report.specs.declared.row.Finding.{Finding}
-use Rattle.report.specs.declared.row.Finding.TheVariants as finding
 use Rattle.report.specs.declared.row.Row.{Row}
 use Rattle.report.specs.Rows.{function_named, IsJudged, IsCompared, IsFinding, IsRow, AreSourceRows, extra_row, extra_rows}
 use Rattle.tv_run.specs.Judging.{pairs_in, judged_pairs, AreAnswers, verdicts_in, verdicts_of, verdicts_answered, HasNext, IsTaken, IsUnjudged, ShowsVerdict}

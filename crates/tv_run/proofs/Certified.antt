@@ -20,9 +20,8 @@ use Rattle.pair_driver.specs.declared.judged.Judged.{Judged}
 use Rattle.report.specs.declared.row.Finding.{Finding}
 use Rattle.report.specs.declared.row.Finding.TheVariants as finding
 use Rattle.report.specs.declared.row.Row.{Row}
-use Rattle.report.specs.Naming.{name_text}
+use Rattle.ir_naming.specs.Naming.{name_text}
 use Rattle.report.specs.Rows.{AreRows, AreSourceRows, extra_row, extra_rows, function_named}
-use Rattle.proof_text.specs.declared.part.Part.{Part}
 use Rattle.proof_text.specs.Format.{part_of}
 use Rattle.proof_files.specs.Parts.{IsCertified, IsReadName, certified, decided, left_after, parts_of, row_parts}
 use Rattle.tv_run.specs.Judging.{AreAnswers, verdicts_answered, verdicts_in, verdicts_of}

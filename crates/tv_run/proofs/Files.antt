@@ -2,7 +2,7 @@
 use Rattle.std.proofs.Common.{◌≡◌, ◌⊎◌, ℕ, List, Option, Some, None, refl, sym, subst, ◌∙◌}
 use Rattle.tv_io.specs.Files.{Files, SameElsewhere, SameFiles}
 use Rattle.tv_cli.specs.Words.{Job, Text}
-use Rattle.tv_cli.specs.Words.Job.{check, log}
+use Rattle.tv_cli.specs.Words.Job.{check, log, make}
 use Rattle.tv_run.specs.Jobs.{FileChanges, ProofChanges}
 use Rattle.ir_tree.specs.declared.module.Module.{Module}
 use Rattle.ir_reader.specs.declared.fault.ModuleFault.{ModuleFault}
@@ -48,4 +48,5 @@ unput (Some name) old new e = subst (λ (o : Option Files). SameElsewhere name o
 pub job_unchanged : (command : Option Job) (o : Option Files) → FileChanges command o o
 job_unchanged None o = refl
 job_unchanged (Some (log name)) o = refl
+job_unchanged (Some (make m)) o = refl
 job_unchanged (Some (check c)) o = unput c.proof o o refl

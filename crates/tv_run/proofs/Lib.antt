@@ -16,3 +16,4 @@ pub mod Limits
 mod Logging
 mod Sending
 mod Pieces
+mod ReadAgain

@@ -1,6 +1,6 @@
 -- What the check of a proof file writes, and that a proof file is checked.
 use Rattle.std.specs.Global.{Vec}
-use Rattle.std.proofs.Common.{◌≡◌, ◌≤◌, ◌<◌, ◌⊎◌, ℕ, arith, List, length, Option, Some, refl, sym, ap, subst, ◌∙◌, inl, inr}
+use Rattle.std.proofs.Common.{◌≡◌, ◌≤◌, ◌⊎◌, ℕ, arith, List, length, Option, Some, refl, sym, ap, subst, ◌∙◌, inl, inr}
 use Rattle.tv_io.specs.Count.{Rose}
 use Rattle.tv_io.specs.Files.{Files}
 use Rattle.tv_io.specs.State.{ShelfState, SinkState}

@@ -1,5 +1,5 @@
 -- A command line asks for one job.
-use Rattle.std.proofs.Common.{◌≡◌, List, Some}
+use Rattle.std.proofs.Common.{◌≡◌, Some}
 use Rattle.tv_cli.specs.Words.{Check, Text}
 use Rattle.tv_cli.specs.Words.Job.{check, log}
 

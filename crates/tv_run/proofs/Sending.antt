@@ -1,10 +1,9 @@
 -- What the delivery of a report says of the check of the command line.
 use Rattle.std.specs.Global.{Vec}
-use Rattle.std.proofs.Common.{◌≡◌, ◌≢◌, ◌≤◌, ◌<◌, ◌⊎◌, ℕ, arith, List, Option, Some, None, sym, subst, inl, inr, ◌∙◌}
+use Rattle.std.proofs.Common.{◌≡◌, ◌≢◌, ◌≤◌, ◌⊎◌, ℕ, arith, List, Option, Some, None, sym, subst, inl, inr, ◌∙◌}
 use Rattle.tv_io.specs.Count.{Rose}
 use Rattle.tv_io.specs.Files.{Files}
 use Rattle.tv_io.specs.State.{ShelfState, SinkState}
-use Rattle.tv_io.specs.Taken.{IsWritten, IsCutOff}
 use Rattle.pair_driver.specs.declared.judged.Judged.{Judged}
 use Rattle.report.specs.declared.row.Row.{Row}
 use Rattle.tv_cli.specs.Words.{Text, Check}

@@ -3,8 +3,8 @@ use Rattle.std.specs.Prelude.{◌≡◌, List, Option, Some, None, map, string_b
 use Rattle.std.specs.Global.{Global}
 use Rattle.std.specs.declared.string.String.{String}
 use Rattle.tv_io.specs.Files.{Files, SameElsewhere}
-use Rattle.tv_cli.specs.Words.{Text, Check, Job, job_of}
-use Rattle.tv_cli.specs.Words.Job.{check, log}
+use Rattle.tv_cli.specs.Words.{Text, Check, Make, Job, job_of}
+use Rattle.tv_cli.specs.Words.Job.{check, log, make}
 
 -- the job that a command line asks for, if it asks for one
 abbrev pub job_in : List (String Global) → Option Job
@@ -26,6 +26,10 @@ OfCheck command P = (c : Check) → command ≡ Some (check c) → P c
 abbrev pub OfLog : Option Job → (Text → Type 0) → Type 0
 OfLog command P = (name : Text) → command ≡ Some (log name) → P name
 
+-- a fact of the pair of modules that it asks to make
+abbrev pub OfMake : Option Job → (Make → Type 0) → Type 0
+OfMake command P = (m : Make) → command ≡ Some (make m) → P m
+
 -- ---- which files change
 
 -- the file that `--proof` names, and no other
@@ -37,4 +41,5 @@ ProofChanges (Some name) old new = SameElsewhere name old new
 abbrev pub FileChanges : Option Job → Option Files → Option Files → Type 0
 FileChanges (Some (check c)) old new = ProofChanges c.proof old new
 FileChanges (Some (log name)) old new = new ≡ old
+FileChanges (Some (make m)) old new = new ≡ old
 FileChanges None old new = new ≡ old

@@ -8,3 +8,4 @@ pub mod Answers
 pub mod Searching
 pub mod Judging
 pub mod Laws
+pub mod Makes

@@ -16,7 +16,7 @@ use Rattle.tv_run.specs.declared.stop.Stop.TheVariants as stop
 use Rattle.tv_run.specs.declared.stop.LogTrouble.{LogTrouble}
 use Rattle.tv_run.specs.declared.stop.LogTrouble.TheVariants as log_trouble
 use Rattle.tv_cli.specs.Words.{Text, Check, Job}
-use Rattle.tv_cli.specs.Words.Job.{check, log}
+use Rattle.tv_cli.specs.Words.Job.{check, log, make}
 use Rattle.tv_run.specs.Files.{text_limit, proof_limit, IsWithin, IsLonger, IsLongerProof, HasModule, HasFault, HasWrongLine, WhereKnown}
 
 -- ---- causes
@@ -138,6 +138,7 @@ pub record RefusesLog (name : Text) (shelf_old shelf_new : ShelfState) (out_old 
 abbrev pub RefusesJob : Option Job → (shelf_old shelf_new : ShelfState) (out_old out_new : SinkState) (status : ℕ) → Type 0
 RefusesJob (Some (check c)) shelf_old shelf_new out_old out_new status = Refuses c shelf_old shelf_new out_old out_new status
 RefusesJob (Some (log name)) shelf_old shelf_new out_old out_new status = RefusesLog name shelf_old shelf_new out_old out_new status
+RefusesJob (Some (make m)) shelf_old shelf_new out_old out_new status = ⊥
 RefusesJob None shelf_old shelf_new out_old out_new status = ⊥
 
 -- the proof file could not be put: the failure was counted, and the sink took its line, or a prefix of it, and nothing of the report

@@ -1,6 +1,6 @@
 //! Checks one module against another: `run` reads the command line, loads both files, judges each
 //! pair of functions, puts the proof file that is asked for, and writes the report. The command `log`
-//! checks a proof file in its place.
+//! checks a proof file in its place, and `make` judges a pair of modules that it makes from a seed.
 //!
 //! It promises that the report is sound (`sound`, the first clause of `run`): a row `correct` means that
 //! the target's function refines the source's on every input within the bounds, a row `incorrect` gives
@@ -18,6 +18,7 @@ mod index;
 mod laws;
 mod lines;
 mod log;
+mod made;
 mod rows;
 mod stop;
 mod texts;

@@ -1,16 +1,17 @@
-ghost use Rattle.std.specs.Prelude.{◌≡◌, ◌≢◌, ◌≤◌, ◌<◌, ◌⊎◌, ◌++◌, ◌∷◌, [], None, Some, codes, IfOk, OnErr, option_map};
+ghost use Rattle.std.specs.Prelude.{◌≡◌, ◌≢◌, ◌≤◌, ◌<◌, ◌^◌, ◌⊎◌, ◌++◌, ◌∷◌, [], None, Some, codes, IfOk, OnErr, option_map};
 ghost use Rattle.points.specs.Range.{AreInRange};
 ghost use Rattle.tv_io.specs.Count.{Rose};
 ghost use Rattle.tv_io.specs.Files.{SameFiles};
 ghost use Rattle.tv_io.specs.State.{ShelfState, SinkState};
 ghost use Rattle.tv_io.specs.Taken.{IsWritten, IsCutOff};
-ghost use Rattle.tv_cli.specs.Seen.{seen_check};
+ghost use Rattle.tv_cli.specs.Seen.{seen_check, seen_make};
 ghost use Rattle.tv_cli.specs.Words.Job.{check as check_job, log as log_job};
-ghost use Rattle.tv_run.specs.Jobs.{FileChanges, OfLog, ProofChanges, WhereChecked, WhereLogged, job_in};
+ghost use Rattle.tv_run.specs.Jobs.{FileChanges, OfLog, OfMake, ProofChanges, WhereChecked, WhereLogged, job_in};
 ghost use Rattle.tv_run.specs.Files.{WhereKnown};
 ghost use Rattle.tv_run.specs.Sound.{MeansRefinement};
 ghost use Rattle.tv_run.specs.Reports.{IsJudgedSo, PartlyWritten, Written};
 ghost use Rattle.tv_run.specs.Logs.{LogPartlyWritten, LogWritten};
+ghost use Rattle.tv_run.specs.Makes.{MadePartlyWritten, MadeWritten};
 ghost use Rattle.tv_run.specs.Stops.{IsNotPut, IsUnwritten, Refuses, RefusesJob, RefusesLog, Says, WritesLine, log_trouble_line, log_trouble_status, stop_status, trouble_line, trouble_status};
 ghost use Rattle.tv_run.specs.Answers.{AreModules, AreParts, IsDelivered, IsSent};
 
@@ -18,16 +19,19 @@ use crate::check::{Report, report_of};
 use crate::laws::{modules_have_no_fault, reports_are_sound};
 use crate::lines::{why_words, write_fault, write_line_fault};
 use crate::log::check_file;
+use crate::made::made_of;
 use crate::stop::{LogStop, LogTrouble, Stop, Trouble};
 use pair_driver::{Gate, Judged};
 use std::alloc::Global;
 use std::thread::Threads;
 use support::NoMemory;
-use tv_cli::{Check, Job, read_job};
+use tv_cli::{Check, Job, Make, read_job};
 use tv_io::{PutFault, Shelf, Sink, write_line, write_whole};
 
 /// Does what the command line asks for: `check` judges the functions of the target's module against the
-/// source's and writes the report, `log` checks a proof file.
+/// source's and writes the report, `log` checks a proof file, `make` makes a pair of modules from a
+/// seed, prints and reads them, judges them as `check` does, and writes the first and the last line of
+/// their report, with a line between them that says what was made.
 ///
 /// The arguments are the command line, the program's name first; `tv_cli` says which job they ask
 /// for. The status is
@@ -88,6 +92,11 @@ pub fn run<R: AllocGlobal + Threads + Sync, S: Shelf, K: Sink, G: Gate>(
         (λ files c. IsJudgedSo files c judged.new.items) }
     ensures logged_part { result ≡ 7 → WhereLogged (S.state shelf.old).files (job_in arguments.now)
         (λ files name. LogPartlyWritten files name (K.state out.old) (K.state out.new)) }
+    // A pair of modules that was made, printed and read back: the counts of its report's rows.
+    ensures made { result ≤ 3 → OfMake (job_in arguments.now)
+        (λ m. MadeWritten m result judged.new.items (K.state out.old) (K.state out.new)) }
+    ensures made_part { result ≡ 7 → OfMake (job_in arguments.now)
+        (λ m. MadePartlyWritten m judged.new.items (K.state out.old) (K.state out.new)) }
     // Without a report the earlier answers stay, and a proof file that is checked has none.
     ensures unjudged { 3 < result → result ≢ 7 → judged.new.items ≡ judged.old.items }
     ensures none_judged { (result ≤ 3) ⊎ (result ≡ 7) → OfLog (job_in arguments.now) (λ name. judged.new.items ≡ []) }
@@ -103,6 +112,7 @@ pub fn run<R: AllocGlobal + Threads + Sync, S: Shelf, K: Sink, G: Gate>(
         → (result ≤ 3) ⊎ (result ≡ 5) ⊎ (result ≡ 7) ⊎ (result ≡ 8) }
     ensures complete_log { AreParts (S.state shelf.old).files (job_in arguments.now)
         → (result ≤ 1) ⊎ (result ≡ 5) ⊎ (result ≡ 7) ⊎ (result ≡ 8) }
+    ensures complete_make { OfMake (job_in arguments.now) (λ m. (result ≤ 3) ⊎ (result ≡ 7) ⊎ (result ≡ 8)) }
     // No other failure is counted.
     ensures quiet_shelf { result ≢ 5 → (S.state shelf.new).fetch_faults ≡ (S.state shelf.old).fetch_faults }
     ensures quiet_puts { result ≢ 7 → (S.state shelf.new).put_faults ≡ (S.state shelf.old).put_faults }
@@ -116,6 +126,7 @@ pub fn run<R: AllocGlobal + Threads + Sync, S: Shelf, K: Sink, G: Gate>(
     match read_job(rt.alloc(), arguments) {
         Ok(Some(Job::Check(check))) => run_check(rt, &check, shelf, out, gate, judged),
         Ok(Some(Job::Log { file })) => run_log(rt, file, shelf, out, judged),
+        Ok(Some(Job::Make(job))) => run_make(rt, &job, out, gate, judged),
         Ok(None) => refuse_words(out),
         Err(NoMemory) => 8,
     }
@@ -237,6 +248,36 @@ fn run_log<R: AllocGlobal + Threads + Sync, S: Shelf, K: Sink>(
         }
         Err(LogStop::Trouble(trouble)) => refuse_log(out, name, trouble),
         Err(LogStop::NoMemory) => 8,
+    }
+}
+
+/// Judges the pair of modules of a seed, and writes the counts of its rows.
+fn run_make<R: AllocGlobal + Threads + Sync, K: Sink, G: Gate>(
+    rt: &R,
+    job: &Make,
+    out: &mut K,
+    gate: &G,
+    judged: &mut Vec<Judged>,
+) -> u8
+    requires seed { job.now.seed < 2 ^ 31 }
+    requires sizes { (job.now.functions ≤ 4096) × (job.now.insts ≤ 64) }
+    requires in_range { AreInRange job.now.bounds job.now.budget }
+    requires workers { (1 ≤ job.now.workers) × (job.now.workers ≤ 64) }
+    ensures made { result ≤ 3 → MadeWritten (seen_make job.now) result judged.new.items (K.state out.old) (K.state out.new) }
+    ensures made_part { result ≡ 7 → MadePartlyWritten (seen_make job.now) judged.new.items (K.state out.old) (K.state out.new) }
+    ensures unwritten { result ≡ 7 → Rose (K.state out.old).faults (K.state out.new).faults }
+    ensures unjudged { 3 < result → result ≢ 7 → judged.new.items ≡ judged.old.items }
+    ensures memory { result ≡ 8 → K.state out.new ≡ K.state out.old }
+    ensures quiet_sink { result ≤ 3 → (K.state out.new).faults ≡ (K.state out.old).faults }
+    ensures known { (result ≤ 3) ⊎ (result ≡ 7) ⊎ (result ≡ 8) }
+{
+    match made_of(rt, rt.alloc(), gate, job) {
+        Ok(made) => {
+            let status = send(out, made.text.as_slice(), made.status);
+            *judged = made.answers;
+            status
+        }
+        Err(NoMemory) => 8,
     }
 }
 

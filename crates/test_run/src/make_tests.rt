@@ -1,0 +1,112 @@
+//! The command `make`: a pair of modules from a seed, judged.
+
+use crate::asking::{DEFAULTS, Row, arguments_of, is_answered, is_output, shelf_of};
+use pair_driver::OpenGate;
+use std::test::*;
+use std::thread::Threads;
+use tv_io::{FailingSink, MemorySink};
+use tv_run::run;
+
+/// Reports of pairs that were made and judged outside.
+const ROWS: [Row; 4] = [
+    Row {
+        name: "two functions of two instructions",
+        line: "tv make --seed 1 --functions 2 --insts 2",
+        source: "",
+        target: "",
+        first: DEFAULTS,
+        rows: "make seed 1 functions 2 insts 2\n",
+        last: "correct 1 incorrect 1 unknown 0 refused 0 signature 0 missing 0 extra 0\n",
+        status: 1,
+    },
+    Row {
+        name: "the usual sizes",
+        line: "tv make",
+        source: "",
+        target: "",
+        first: DEFAULTS,
+        rows: "make seed 1 functions 16 insts 8\n",
+        last: "correct 15 incorrect 1 unknown 0 refused 0 signature 0 missing 0 extra 0\n",
+        status: 1,
+    },
+    Row {
+        name: "a weight that is too large",
+        line: "tv make --functions 1 --insts 1 --turns 0 --weight 17",
+        source: "",
+        target: "",
+        first: "tv 1 turns 0 blocks 2 bytes 8 rounds 64 conflicts 0 weight 17\n",
+        rows: "make seed 1 functions 1 insts 1\n",
+        last: "correct 0 incorrect 0 unknown 1 refused 0 signature 0 missing 0 extra 0\n",
+        status: 2,
+    },
+    Row {
+        name: "no file is looked at",
+        line: "tv make --functions 1 --insts 64 A",
+        source: "",
+        target: "",
+        first: "words refused\n",
+        rows: "",
+        last: "",
+        status: 4,
+    },
+];
+
+#[test]
+fn pairs_are_made_and_judged(rt: HostRuntime) -> Result<(), Fail> {
+    for row in &ROWS {
+        assert!(rt; is_answered(&rt, row)?, "{}", row.name);
+    }
+    Ok(())
+}
+
+/// What a command line writes.
+fn written<R: AllocGlobal + Threads + Sync>(rt: &R, line: &str) -> Result<Vec<u8>, Fail> {
+    let alloc = rt.alloc();
+    let mut shelf = shelf_of(alloc, Vec::new(alloc), Vec::new(alloc))?;
+    let mut out = MemorySink::new(alloc, 1_000)?;
+    let arguments = arguments_of(alloc, line)?;
+    let mut judged = Vec::new(alloc);
+    run(
+        rt,
+        arguments.as_slice(),
+        &mut shelf,
+        &mut out,
+        &OpenGate,
+        &mut judged,
+    );
+    Ok(out.bytes)
+}
+
+#[test]
+fn what_is_made_does_not_depend_on_the_number_of_workers(rt: HostRuntime) -> Result<(), Fail> {
+    let one = written(&rt, "tv make --seed 7 --functions 64 --insts 4 --workers 1")?;
+    let two = written(&rt, "tv make --seed 7 --functions 64 --insts 4 --workers 2")?;
+    let many = written(
+        &rt,
+        "tv make --seed 7 --functions 64 --insts 4 --workers 64",
+    )?;
+    assert!(rt;
+        one.len() > 0 && one.as_slice() == two.as_slice() && one.as_slice() == many.as_slice()
+    );
+    Ok(())
+}
+
+/// A sink that takes ten bytes a call and fails at the second one.
+#[test]
+fn a_sink_that_fails_keeps_a_prefix(rt: HostRuntime) -> Result<(), Fail> {
+    let alloc = rt.alloc();
+    let mut shelf = shelf_of(alloc, Vec::new(alloc), Vec::new(alloc))?;
+    let mut out = FailingSink::new(alloc, 1_000, 10, vec![in alloc; 2]?)?;
+    let arguments = arguments_of(alloc, "tv make --functions 1 --insts 1")?;
+    let mut judged = Vec::new(alloc);
+    let status = run(
+        &rt,
+        arguments.as_slice(),
+        &mut shelf,
+        &mut out,
+        &OpenGate,
+        &mut judged,
+    );
+    assert!(rt; status == 7 && is_output(out.sink.bytes.as_slice(), &["tv 1 turns"]));
+    Ok(())
+}

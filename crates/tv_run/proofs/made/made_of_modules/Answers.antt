@@ -1,0 +1,31 @@
+use Rattle.std.proofs.Common.{◌∙◌, List, ℕ, ap, refl, sym}
+use Rattle.report.specs.declared.row.Row.{Row}
+use Rattle.report.specs.Text.{report_text, summary_text}
+use Rattle.report.specs.Status.{status_of}
+use Rattle.tv_cli.specs.Seen.{seen_make}
+use Rattle.tv_run.specs.Makes.{make_line}
+use Rattle.tv_run.specs.Reports.{may_answer}
+use Rattle.tv_run.proofs.Answered.{verdicts_with_extra}
+use Rattle.tv_run.proofs.OwnAnswers.{rows_have_answers}
+use Rattle.tv_run.proofs.made.made_of_modules.Goals as goal
+
+pub returns : goal.returns
+returns g c =
+    let bounds = c.args.job.now.bounds in
+    let budget = c.args.job.now.budget in
+    let rows = c.in_ok-rows.field-0.rows.items in
+    record {
+      whole = report_text bounds budget rows;
+      report = record {
+        rows = rows;
+        are_rows = c.in_ok-rows.ensures.rows;
+        answered =
+            rows_have_answers (may_answer bounds budget) _ _ _ _ _ _ c.in_ok-rows.ensures.rows.each c.in_ok-rows.ensures.answered
+            (sym (verdicts_with_extra c.args.source.now.entries c.args.target.now.entries c.in_ok-rows.ensures.rows.judged rows c.in_ok-rows.ensures.rows.all) ∙ c.in_ok-rows.ensures.reported);
+        text_is = refl;
+        status_is = c.status_of-status.ensures.value ∙ ap status_of c.as_slice.ensures.value;
+      };
+      text_is =
+          c.in_ok-text.ensures ∙ ap (λ (line : List ℕ). summary_text bounds budget line c.as_slice-2.result.now) (c.as_slice-3.ensures.value ∙ c.in_ok-line.ensures)
+          ∙ ap (λ (rs : List Row). summary_text bounds budget (make_line (seen_make c.args.job.now)) rs) c.as_slice-2.ensures.value;
+    }
