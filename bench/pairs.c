@@ -83,3 +83,35 @@ u8 ungray(u8 x) { x ^= x >> 4; x ^= x >> 2; x ^= x >> 1; return x; }
 u32 mask_of(u32 n) { return n >= 32 ? ~0u : (1u << n) - 1; }
 bool has_zero_byte(u32 x) { return ((x - 0x01010101u) & ~x & 0x80808080u) != 0; }
 u32 spread(u8 x) { u32 y = x; y = (y | y << 8) & 0x00FF00FF; y = (y | y << 4) & 0x0F0F0F0F; return y; }
+void swap(u32 *a, u32 *b) { u32 t = *a; *a = *b; *b = t; }
+void copy(u8 *to, u8 *from) { *to = *from; }
+void copy_twice(u16 *to, u16 *from) { *to = *from; *to = *from; }
+u32 sum_of_two(u32 *a, u32 *b) { return *a + *b; }
+u32 load_twice(u32 *a) { return *a + *a; }
+u32 load_around_store(u32 *a, u32 *b) { u32 x = *a; *b = 5; return x + *a; }
+u32 store_then_load(u32 *a, u32 x) { *a = x; return *a * 2; }
+void store_twice(u16 *a, u16 x) { *a = x; *a = x + 1; }
+void store_what_is_there(u32 *a) { *a = *a; }
+void increment(u8 *a) { *a = *a + 1; }
+void increment_twice(u16 *a) { *a += 1; *a += 1; }
+u8 second(u8 *a) { return a[1]; }
+u32 ends(u16 *a) { return a[0] + a[3]; }
+void reverse_pair(u8 *a) { u8 t = a[0]; a[0] = a[1]; a[1] = t; }
+u8 at(u8 *a, u8 i) { return a[i & 3]; }
+void put_at(u8 *a, u8 i, u8 x) { a[i & 3] = x; }
+u8 put_and_get(u8 *a, u8 i, u8 x) { a[i & 1] = x; return a[i & 1]; }
+u32 local_array(u32 x) { u32 a[2]; a[0] = x; a[1] = x + 1; return a[0] * a[1]; }
+u8 local_table(u8 i) { u8 a[4]; a[0] = 3; a[1] = 1; a[2] = 4; a[3] = 1; return a[i & 3]; }
+u32 halves(u32 *a) { u16 *h = (u16 *)a; return h[0] | (u32)h[1] << 16; }
+u32 through_bytes(u32 x) { u8 a[4]; *(u32 *)a = x; return a[0] + a[3]; }
+u8 *advance(u8 *a, bool c) { return c ? a + 1 : a; }
+u8 *forth_and_back(u8 *a) { return a + 2 - 1; }
+u32 either_load(bool c, u32 *a, u32 *b) { return c ? *a : *b; }
+void either_store(bool c, u32 *a, u32 x) { if (c) *a = x; else *a = x; }
+u32 load_in_branches(bool c, u32 *a) { if (c) return *a + 1; return *a + 2; }
+void smallest_first(u8 *a, u8 *b) { if (*b < *a) { u8 t = *a; *a = *b; *b = t; } }
+u8 sum_bytes(u8 *a) { u8 s = 0; for (u8 i = 0; i < 3; i++) s += a[i]; return s; }
+void fill(u8 *a, u8 x) { for (u8 i = 0; i < 3; i++) a[i] = x; }
+u8 pointer_of_pointer(u8 **a) { return **a; }
+void set_through(u8 **a, u8 x) { **a = x; **a = x; }
+void exchange_pointers(u8 **a, u8 **b) { u8 *t = *a; *a = *b; *b = t; }

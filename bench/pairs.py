@@ -3,9 +3,9 @@
 
     bench/pairs.py [PATH OF tv] [SECONDS A PAIR] [WORKERS]   (defaults: crates/tv/out/tv, 10, 2)
 
-clang 19 makes a module of bench/pairs.c without its passes, sroa takes its variables out of memory, and
-opt 19 runs each of several function passes on that. Each function that a pass changed is a pair, in two
-texts of its own. It prints the pairs decided within the time as a percentage, and of the rest how many
+clang 19 makes a module of bench/pairs.c without its passes; opt 19 runs sroa and mem2reg on it, which take
+its variables out of memory, and each of several function passes on what sroa leaves. Each function that a
+pass changed is a pair, in two texts of its own. It prints the pairs decided within the time as a percentage, and of the rest how many
 there are of each kind, with their names. Without clang-19 and opt-19 it prints nothing. No test rests on
 these figures.
 """
@@ -19,7 +19,9 @@ import sys
 import tempfile
 import time
 
-PASSES = ["instcombine", "simplifycfg", "gvn", "early-cse", "reassociate", "sccp", "aggressive-instcombine,instcombine", "simplifycfg,instcombine,gvn"]
+MEMORY_PASSES = ["sroa", "mem2reg"]
+PASSES = ["instcombine", "simplifycfg", "gvn", "early-cse", "reassociate", "sccp", "dse", "loop-mssa(licm)",
+          "aggressive-instcombine,instcombine", "simplifycfg,instcombine,gvn"]
 FUNCTION = re.compile(r"^define .*?^}\n", re.M | re.S)
 NAME = re.compile(r"@([\w.]+)\(")
 
@@ -42,13 +44,14 @@ def made_pairs(folder):
     clang = ["clang-19", "-S", "-emit-llvm", "-O0", "-Xclang", "-disable-O0-optnone", "-fno-discard-value-names"]
     subprocess.run([*clang, os.path.join(here, "pairs.c"), "-o", raw], check=True)
     subprocess.run(["opt-19", "-S", "-passes=function(sroa)", raw, "-o", start], check=True)
-    with open(start) as file:
-        before = functions(file.read())
-    for passes in PASSES:
-        after = opt(folder, start, passes)
-        for name, body in before.items():
-            if after[name] != body:
-                yield passes, name, body, after[name]
+    for source, every in (raw, MEMORY_PASSES), (start, PASSES):
+        with open(source) as file:
+            before = functions(file.read())
+        for passes in every:
+            after = opt(folder, source, f"function({passes})")
+            for name, body in before.items():
+                if after[name] != body:
+                    yield passes, name, body, after[name]
 
 
 def judged(tv, seconds, folder, number, pair):

@@ -29,6 +29,7 @@ BROKEN = os.path.join(DATA, "tree", "sub", "broken.ll")
 SLOW = os.path.join(DATA, "slow", "slow.ll")
 WHOLE = os.path.join(DATA, "whole", "whole.ll")
 PROOF = os.path.join(DATA, "two.tvproof")
+PRINTED = os.path.join(TOOLS, "..", "crates", "test_reading", "src", "print_tests.rt")
 SCRIPTS = ["opt-tv", "tv-tree", "tv-vacuous", "tv-reduce", "tv-html", "tv-baseline", "tv-proof"]
 SOLVERS = ["cadical", "minisat", "picosat"]
 AT_A_TIME = 2
@@ -390,6 +391,30 @@ def llvm_bitcode(bench):
     has(bench.only("tv-out", ".txt"), "not judged: the output is not textual IR")
 
 
+def printed_modules():
+    """What the tests of ir_printer compare printed modules with, by name."""
+    with open(PRINTED, encoding="ascii") as file:
+        text = file.read()
+    literal = r'"((?:[^"\\]|\\.)*)"'
+    named = re.findall(r"^const (\w+): &str = " + literal, text, re.M | re.S)
+    rows = re.findall(r'name: "([^"]*)",\s*text: [^\n]*\s*printed: ' + literal, text)
+    for name, body in named + rows:
+        body = re.sub(r"\\\n\s*", "", body)
+        yield name, body.replace(r"\n", "\n").replace(r'\"', '"').replace("\\\\", "\\")
+
+
+def llvm_reads_printed(bench):
+    opt = bench.variables["TV_OPT"]
+    modules = list(printed_modules())
+    equal(len(modules), 9, "number of printed modules")
+    for name, module in modules:
+        if llvm_version(opt) < 20:
+            module = module.replace("icmp samesign", "icmp")
+        done = subprocess.run([opt, "-S", "-passes=verify"], input=module, capture_output=True,
+                              text=True)
+        equal(done.returncode, 0, f"status of {name}: {done.stderr}")
+
+
 # tv-proof and lrat.py.
 
 PARTS = """@f correct variables 1 clauses 2 steps 1 refuted yes
@@ -473,7 +498,7 @@ FAKE_ONLY = [help_is_one_screen, opt_reads_standard_input, opt_failure_is_passed
              opt_without_tv, opt_slow_pair, opt_whole_refusal, tree_by_lines, tree_resumes,
              tree_time_out, tree_stopped, tree_bad_folder, reduced, nothing_to_reduce, baseline,
              baseline_of_tree, proof_parts, wrong_logs, no_proof_files, wrong_lrat]
-LLVM = [llvm_tree, llvm_steps, llvm_bitcode]
+LLVM = [llvm_tree, llvm_steps, llvm_bitcode, llvm_reads_printed]
 
 # The oldest LLVM whose opt these tests are for: the first with opaque pointers alone.
 OLDEST_LLVM = 17
