@@ -62,7 +62,7 @@ fn push_align(out: &mut Vec<u8>, align: u64) -> Result<(), NoMemory>
     push_number(out, align)
 }
 
-/// `number` is the alloca's own, which is not printed.
+/// An alloca of one object with its alignment, on a line of its own. Its number is not printed.
 pub fn push_alloca(
     out: &mut Vec<u8>,
     names: &Names,
@@ -78,6 +78,7 @@ pub fn push_alloca(
     push_align(out, align)
 }
 
+/// A load with its alignment, on a line of its own.
 pub fn push_load(
     out: &mut Vec<u8>,
     names: &Names,
@@ -96,6 +97,7 @@ pub fn push_load(
     push_align(out, align)
 }
 
+/// A store with its alignment, on a line of its own.
 pub fn push_store(
     out: &mut Vec<u8>,
     names: &Names,

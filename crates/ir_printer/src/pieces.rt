@@ -46,6 +46,7 @@ pub fn push_number(out: &mut Vec<u8>, n: u64) -> Result<(), NoMemory>
     push_digits(out, n)
 }
 
+/// A comma, with no space before it.
 pub fn push_comma(out: &mut Vec<u8>) -> Result<(), NoMemory>
     ensures { OnOk result (out.new.items ≡ out.old.items ++ piece_text spec.comma) }
 {

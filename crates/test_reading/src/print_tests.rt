@@ -1,5 +1,5 @@
 //! Modules as they are printed. The texts were written by hand from the forms of the LLVM Language
-//! Reference; LLVM's own parser takes them (`tools/test`).
+//! Reference; LLVM's own parser takes them (`tools/test`), before LLVM 20 without `samesign`.
 
 use ir_printer::{make, print};
 use ir_reader::read;
