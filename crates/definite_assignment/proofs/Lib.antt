@@ -1,5 +1,6 @@
+pub mod Cuts
 pub mod Leaving
 pub mod Names
+pub mod Order
 pub mod Search
 pub mod Spread
-pub mod Cuts

@@ -149,6 +149,10 @@ one-true = refl
 one-false : one false ≡ 0
 one-false = refl
 
+one_most : (b : Bool) → one b ≤ 1
+one_most true = omega arith
+one_most false = omega arith
+
 pub count-both : (xs ys : List Bool) → count (both xs ys) ≤ count xs
 count-both [] ys = omega arith
 count-both (x ∷ xs) [] = omega arith
@@ -163,6 +167,18 @@ count-both_less (x ∷ xs) [] e differ = absurd (omega (arith, e))
 count-both_less (true ∷ xs) (true ∷ ys) e differ = omega (arith, count-both_less xs ys (omega (arith, e)) (λ same. differ (ap (λ s. true ∷ s) same)), count-cons true xs, count-cons true (both xs ys))
 count-both_less (true ∷ xs) (false ∷ ys) e differ = omega (arith, count-both xs ys, count-cons true xs, count-cons false (both xs ys), one-true, one-false)
 count-both_less (false ∷ xs) (y ∷ ys) e differ = omega (arith, count-both_less xs ys (omega (arith, e)) (λ same. differ (ap (λ s. false ∷ s) same)), count-cons false xs, count-cons false (both xs ys))
+
+-- a mark that is set counts for one more at most
+pub count-set : (bs : List Bool) (i : ℕ) (b : Bool) → count (set bs i b) ≤ count bs + 1
+count-set [] i b = omega arith
+count-set (x ∷ xs) zero b = omega (arith, count-cons b xs, count-cons x xs, one_most b)
+count-set (x ∷ xs) (suc i) b = omega (arith, count-set xs i b, count-cons x (set xs i b), count-cons x xs)
+
+-- and one that is taken away for one less
+pub count-unset : (bs : List Bool) (i : ℕ) → get_or bs i false ≡ true → count (set bs i false) < count bs
+count-unset [] i t = cc
+count-unset (x ∷ xs) zero t = omega (arith, count-cons false xs, count-cons x xs, one-false, ap one t, one-true)
+count-unset (x ∷ xs) (suc i) t = omega (arith, count-unset xs i t, count-cons x (set xs i false), count-cons x xs)
 
 -- what the words keep, where the set is what other words kept
 pub set_is-add : (words given new : List ℕ) (s : List Bool) (name : ℕ) → words ≡ given → names_in given ≡ s → name < length s → new ≡ set words (name / 64) (bit_or (get_or words (name / 64) 0) (1 * 2 ^ (name % 64) % 2 ^ 64)) → names_in new ≡ set s name true

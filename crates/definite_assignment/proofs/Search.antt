@@ -1,27 +1,15 @@
 -- The search from its start to its end.
-use Rattle.std.proofs.Common.{ℕ, suc, zero, ◌+◌, ◌-◌, ◌≡◌, ◌<◌, ◌≤◌, ◌⊎◌, inl, inr, Bool, true, false, List, [], ◌∷◌, ◌++◌, length, get_or, set, replicate, refl, ap, sym, subst, ◌∙◌, arith, length-set, length-append}
-use Rattle.std.proofs.Math.ListN.{get_or-append}
+use Rattle.std.proofs.Common.{ℕ, suc, zero, ◌+◌, ◌-◌, ◌≡◌, ◌<◌, ◌≤◌, ◌⊎◌, inl, inr, Bool, true, false, List, [], ◌∷◌, ◌++◌, length, get_or, set, replicate, refl, ap, sym, subst, ◌∙◌, arith, length-set}
 use Rattle.std.specs.Prelude.{IsTrue, Some, slice_get, ◌↔◌}
 use Rattle.std.proofs.lemmas.Option.{get_or_from_slice_get}
-use Rattle.std.specs.List.{All, Contains}
+use Rattle.std.specs.List.{All, Contains, sum_by}
 use Rattle.std.proofs.lemmas.List.{get_or-set_same, get_or-set_other, get_or-replicate, length-replicate, get_or_default, get_or_past, replicate_more}
-use Rattle.std.proofs.lemmas.List.Elements.{All-contains, Contains-append_cases, Contains-append_right, Contains-push, Contains-push_cases, All-nil, All-cons}
+use Rattle.std.proofs.lemmas.List.Elements.{All-contains, Contains-append_cases, Contains-append_right, All-nil, All-cons}
 use Rattle.std.proofs.lemmas.Bool.{cases_eq, cases_lt, cases_Bool, both_ways, false_from_ne_true}
 use Rattle.block_paths.specs.Paths.{Assigns, IsAssignedBefore, IsAssignedIn, IsSuccessor, IsUnassignedBefore}
-use Rattle.definite_assignment.specs.Sets.{has, has_name, places_for}
-use Rattle.definite_assignment.specs.Work.{AreListed, IsLeaving, IsSpread, State, first_sets, is_waiting, set_of}
-
--- what holds all through the search: where a set lacks a name, some path doesn't assign it, and the sets behind a
--- block that does not wait have no name that the block does not hand on
-pub record IsSearch (successors assigns : List (List ℕ)) (places : ℕ) (state : State) : Type 0 where
-  pub many : length state.sets ≡ length successors
-  pub marks : length state.marks ≡ length successors
-  pub wide : (block : ℕ) → block < length successors → length (set_of state block) ≡ places
-  pub within : All (λ block. block < length successors) state.waiting
-  pub listed : AreListed state
-  pub entry : (name : ℕ) → has state.sets 0 name ≡ false
-  pub missed : (block name : ℕ) → block < length successors → name < places → has state.sets block name ≡ false → IsUnassignedBefore successors assigns block name
-  pub passed : (block next name : ℕ) → is_waiting state block ≡ false → IsSuccessor successors block next → IsTrue (has state.sets next name) → IsTrue (has state.sets block name) ⊎ Assigns assigns block name
+use Rattle.definite_assignment.specs.Sets.{AreRoomy, has, has_name, places_for}
+use Rattle.definite_assignment.proofs.Names.{count-unset}
+use Rattle.definite_assignment.specs.Work.{IsLeaving, IsSearch, IsSpread, State, count, first_sets, is_waiting, rest_of, set_of}
 
 -- a name of a set has a place there
 place_of : (s : List Bool) (name : ℕ) → IsTrue (has_name s name) → name < length s
@@ -76,14 +64,12 @@ on_each_path successors assigns sets name entry passed block t (last ∷ before)
 -- the start
 pub search_starts : (successors assigns : List (List ℕ)) (names others : ℕ) → length successors ≡ others + 1
     → All (All (λ next. next < length successors)) successors
-    → IsSearch successors assigns (places_for names) (record { sets = first_sets others names; waiting = 0 ∷ []; marks = set (replicate (others + 1) false) 0 true })
+    → IsSearch successors assigns (places_for names) (record { sets = first_sets others names; marks = set (replicate (others + 1) false) 0 true })
 search_starts successors assigns names others many within =
     record {
       many = ap (λ n. suc n) (length-replicate others full) ∙ omega (arith, many);
       marks = length-set (replicate (others + 1) false) 0 true ∙ (length-replicate (others + 1) false ∙ sym many);
       wide = wide;
-      within = All-cons (λ block. block < length successors) 0 [] (omega (arith, many)) (All-nil (λ block. block < length successors));
-      listed = λ block t. listed block (cases_eq block 0) t;
       entry = λ name. nothing name (cases_lt name (places_for names));
       missed = missed;
       passed = passed;
@@ -101,17 +87,6 @@ search_starts successors assigns names others many within =
     wide : (block : ℕ) → block < length successors → length (get_or (first_sets others names) block []) ≡ places_for names
     wide zero below = length-replicate (places_for names) false
     wide (suc block) below = ap length (row block below) ∙ length-replicate (places_for names) true
-
-    unmarked : (block : ℕ) → (block ≡ 0 → ⊥) → get_or (set (replicate (others + 1) false) 0 true) block false ≡ false
-    unmarked block away = get_or-set_other (replicate (others + 1) false) 0 block true false away ∙ plain (cases_lt block (others + 1))
-      where
-        plain : (block < others + 1) ⊎ (others + 1 ≤ block) → get_or (replicate (others + 1) false) block false ≡ false
-        plain (inl below) = get_or-replicate (others + 1) block false false below
-        plain (inr past) = get_or_past (replicate (others + 1) false) block false (omega (arith, past, length-replicate (others + 1) false))
-
-    listed : (block : ℕ) → (block ≡ 0) ⊎ (block ≡ 0 → ⊥) → IsTrue (get_or (set (replicate (others + 1) false) 0 true) block false) → Contains (0 ∷ []) block
-    listed block (inl e) t = (0, omega arith, sym e)
-    listed block (inr away) t = absurd (both_ways _ (unmarked block away) t)
 
     nothing : (name : ℕ) → (name < places_for names) ⊎ (places_for names ≤ name) → has_name (replicate (places_for names) false) name ≡ false
     nothing name (inl below) = get_or-replicate (places_for names) name false false below
@@ -138,34 +113,20 @@ search_starts successors assigns names others many within =
 -- a block is taken off the list, and what leaves it is passed on
 pub search_goes_on : (successors assigns : List (List ℕ)) (places : ℕ) (old taken new : State) (block : ℕ) (leaving : List Bool)
     → IsSearch successors assigns places old
-    → taken.sets ≡ old.sets → old.waiting ≡ block ∷ taken.waiting → taken.marks ≡ set old.marks block false
+    → block < length successors → taken.sets ≡ old.sets → taken.marks ≡ set old.marks block false
     → IsLeaving (set_of old block) (get_or assigns block []) leaving
     → IsSpread taken new (get_or successors block []) leaving
     → IsSearch successors assigns places new
-search_goes_on successors assigns places old taken new block leaving held sets waiting marks leaves spread =
+search_goes_on successors assigns places old taken new block leaving held block_within sets marks leaves spread =
     record {
       many = spread.many ∙ (ap length sets ∙ held.many);
       marks = spread.marks ∙ (ap length marks ∙ (length-set old.marks block false ∙ held.marks));
       wide = λ b below. spread.places b ∙ (ap (λ s. length (get_or s b [])) sets ∙ held.wide b below);
-      within = subst (λ n. All (λ b. b < n) new.waiting) many (spread.within (subst (λ n. All (λ b. b < n) taken.waiting) (sym many) waiting_within));
-      listed = spread.listed listed;
       entry = λ name. false_from_ne_true _ (λ t. both_ways _ (held.entry name) (was 0 name t));
       missed = λ b name below place lacks. misses b name below place lacks (cases_Bool (has old.sets b name));
       passed = λ b next name m edge t. passes b next name m edge t (cases_eq b block);
     }
   where
-    many : length taken.sets ≡ length successors
-    many = ap length sets ∙ held.many
-
-    all_within : All (λ b. b < length successors) (block ∷ taken.waiting)
-    all_within = subst (λ ws. All (λ b. b < length successors) ws) waiting held.within
-
-    block_within : block < length successors
-    block_within = All-contains (λ b. b < length successors) (block ∷ taken.waiting) block all_within (first_of block taken.waiting)
-
-    waiting_within : All (λ b. b < length successors) taken.waiting
-    waiting_within k d below = all_within (suc k) d (omega (arith, below))
-
     was : (b name : ℕ) → IsTrue (has new.sets b name) → IsTrue (has old.sets b name)
     was b name t = ap (λ s. has s b name) (sym sets) ∙ spread.smaller b name t
 
@@ -174,17 +135,6 @@ search_goes_on successors assigns places old taken new block leaving held sets w
 
     other_mark : (b : ℕ) → (b ≡ block → ⊥) → get_or taken.marks b false ≡ get_or old.marks b false
     other_mark b away = ap (λ m. get_or m b false) marks ∙ get_or-set_other old.marks block b false false away
-
-    listed : AreListed taken
-    listed b t = cases (cases_eq b block)
-      where
-        cases : (b ≡ block) ⊎ (b ≡ block → ⊥) → Contains taken.waiting b
-        cases (inl e) = absurd (both_ways _ (ap (λ x. get_or taken.marks x false) e ∙ cleared) t)
-        cases (inr away) = found (Contains-append_cases (block ∷ []) taken.waiting b (subst (λ ws. Contains ws b) waiting (held.listed b (sym (other_mark b away) ∙ t))))
-          where
-            found : Contains (block ∷ []) b ⊎ Contains taken.waiting b → Contains taken.waiting b
-            found (inl here) = absurd (away (sym (only block b here)))
-            found (inr there) = there
 
     -- the name leaves the block neither as one of its set nor as one that it assigns
     stays : (b name : ℕ) → IsSuccessor successors block b → name < places → has_name leaving name ≡ false → IsUnassignedBefore successors assigns b name
@@ -216,7 +166,7 @@ search_goes_on successors assigns places old taken new block leaving held sets w
         again (inr here) = inr here
 
 -- the end: no block waits
-pub search_ends : (successors assigns : List (List ℕ)) (places : ℕ) (state : State) → IsSearch successors assigns places state → length state.waiting ≡ 0
+pub search_ends : (successors assigns : List (List ℕ)) (places : ℕ) (state : State) → IsSearch successors assigns places state → ((b : ℕ) → b < length successors → is_waiting state b ≡ false)
     → (block name : ℕ) → block < length successors → name < places → IsTrue (has state.sets block name) ↔ IsAssignedBefore successors assigns block name
 search_ends successors assigns places state held none block name below place =
     (on_each_path successors assigns state.sets name (held.entry name) (λ b next edge t. held.passed b next name (quiet b) edge t) block, λ before. kept before (cases_Bool (has state.sets block name)))
@@ -226,17 +176,16 @@ search_ends successors assigns places state held none block name below place =
     kept before (inr f) = let w = held.missed block name below place f in absurd (w.2 (before w.0 w.1))
 
     quiet : (b : ℕ) → is_waiting state b ≡ false
-    quiet b = false_from_ne_true _ (λ t. let c : Contains state.waiting b = held.listed b t in omega (arith, c.1, none))
+    quiet b = cases (cases_lt b (length successors))
+      where
+        cases : (b < length successors) ⊎ (length successors ≤ b) → is_waiting state b ≡ false
+        cases (inl less) = none b less
+        cases (inr past) = get_or_past state.marks b false (omega (arith, past, held.marks))
 
 -- one more block at the start
 pub first_sets-more : (blocks names : ℕ) → 1 ≤ blocks → first_sets (blocks - 1) names ++ replicate (places_for names) true ∷ [] ≡ first_sets ((blocks + 1) - 1) names
 first_sets-more blocks names some =
     ap (λ s. replicate (places_for names) false ∷ s) (replicate_more (blocks - 1) (replicate (places_for names) true) ∙ ap (λ n. replicate n (replicate (places_for names) true)) (let e : (blocks - 1) + 1 ≡ (blocks + 1) - 1 = omega (arith, some) in e))
-
--- the block that is taken off the list
-pub block_below : {successors assigns : List (List ℕ)} {places : ℕ} {state : State} (ws : List ℕ) (block : ℕ) → IsSearch successors assigns places state → state.waiting ≡ block ∷ ws → block < length successors
-block_below {successors} ws block held e =
-    All-contains (λ b. b < length successors) (block ∷ ws) block (subst (λ xs. All (λ b. b < length successors) xs) e held.within) (first_of block ws)
 
 -- its set has a place for each name
 pub set_places : {successors assigns : List (List ℕ)} {places : ℕ} {state : State} {block : ℕ} {row : List Bool} → IsSearch successors assigns places state → block < length successors → slice_get state.sets block ≡ Some row → length row ≡ places
@@ -246,12 +195,6 @@ set_places {state = state} {block = block} {row = row} held below read = ap leng
 pub list_at : (lists : List (List ℕ)) (block : ℕ) (row : List ℕ) {xs : List ℕ} → block < length lists → xs ≡ row → row ≡ get_or lists block row → xs ≡ get_or lists block []
 list_at lists block row below e read = e ∙ (read ∙ get_or_default lists block row [] below)
 
--- the names that the block assigns have places
-pub names_fit : (assigns : List (List ℕ)) (block : ℕ) {xs : List ℕ} (names places : ℕ) → block < length assigns → All (All (λ name. name < names)) assigns → xs ≡ get_or assigns block [] → places ≡ places_for names → All (λ name. name < places) xs
-names_fit assigns block {xs} names places below all e long k d less =
-    let name_below : get_or xs k d < names = subst (λ ys. All (λ name. name < names) ys) (sym e) (all block [] below) k d less in
-    omega (arith, name_below, long)
-
 -- the block's successors are blocks
 pub nexts_fit : (successors : List (List ℕ)) (block : ℕ) {xs : List ℕ} → block < length successors → All (All (λ next. next < length successors)) successors → xs ≡ get_or successors block [] → All (λ next. next < length successors) xs
 nexts_fit successors block below all e = subst (λ ys. All (λ next. next < length successors) ys) (sym e) (all block [] below)
@@ -259,19 +202,19 @@ nexts_fit successors block below all e = subst (λ ys. All (λ next. next < leng
 -- one turn of the search
 pub search_turns : {successors assigns : List (List ℕ)} {places : ℕ} {old : State} (taken : State) {new : State} (block : ℕ) {row leaving : List Bool} {assigned nexts : List ℕ}
     → IsSearch successors assigns places old
-    → taken.sets ≡ old.sets → old.waiting ≡ block ∷ taken.waiting → taken.marks ≡ set old.marks block false
+    → block < length successors → taken.sets ≡ old.sets → taken.marks ≡ set old.marks block false
     → slice_get old.sets block ≡ Some row → assigned ≡ get_or assigns block [] → nexts ≡ get_or successors block []
     → IsLeaving row assigned leaving → IsSpread taken new nexts leaving
     → IsSearch successors assigns places new
-search_turns {successors} {assigns} {places} {old} taken {new} block {row} {leaving} held sets waiting marks read is is' leaves spread =
-    search_goes_on successors assigns places old taken new block leaving held sets waiting marks
+search_turns {successors} {assigns} {places} {old} taken {new} block {row} {leaving} held below sets marks read is is' leaves spread =
+    search_goes_on successors assigns places old taken new block leaving held below sets marks
     (subst (λ r. IsLeaving r (get_or assigns block []) leaving) (sym (get_or_from_slice_get old.sets block row [] read)) (subst (λ xs. IsLeaving row xs leaving) is leaves))
     (subst (λ xs. IsSpread taken new xs leaving) is' spread)
 
 pub search_starts_at : (successors assigns : List (List ℕ)) (names blocks : ℕ) (state : State) → length successors ≡ blocks → 0 < blocks → All (All (λ next. next < length successors)) successors
-    → state.sets ≡ first_sets (blocks - 1) names → state.waiting ≡ 0 ∷ [] → state.marks ≡ set (replicate blocks false) 0 true
+    → state.sets ≡ first_sets (blocks - 1) names → state.marks ≡ set (replicate blocks false) 0 true
     → IsSearch successors assigns (places_for names) state
-search_starts_at successors assigns names blocks state long some within sets waiting marks =
+search_starts_at successors assigns names blocks state long some within sets marks =
     subst (λ s. IsSearch successors assigns (places_for names) s) whole (search_starts successors assigns names (blocks - 1) (omega (arith, long, some)) within)
   where
     less : (blocks - 1) + 1 ≡ blocks
@@ -280,5 +223,25 @@ search_starts_at successors assigns names blocks state long some within sets wai
     marked : set (replicate ((blocks - 1) + 1) false) 0 true ≡ state.marks
     marked = ap (λ n. set (replicate n false) 0 true) less ∙ sym marks
 
-    whole : record { sets = first_sets (blocks - 1) names; waiting = 0 ∷ []; marks = set (replicate ((blocks - 1) + 1) false) 0 true } ≡ state
-    whole = λ i. record { sets = sym sets i; waiting = sym waiting i; marks = marked i }
+    whole : record { sets = first_sets (blocks - 1) names; marks = set (replicate ((blocks - 1) + 1) false) 0 true } ≡ state
+    whole = λ i. record { sets = sym sets i; marks = marked i }
+
+-- a block that waited is marked no longer, and no set grew
+pub visit_shrinks : (old taken new : State) (block : ℕ) {nexts : List ℕ} {leaving : List Bool} → taken.sets ≡ old.sets → taken.marks ≡ set old.marks block false → IsSpread taken new nexts leaving
+    → is_waiting old block ≡ true → rest_of new < rest_of old
+visit_shrinks old taken new block sets marks spread waits =
+    omega (arith, spread.rest, ap (λ s. sum_by count s) sets, ap count marks, count-unset old.marks block waits)
+
+-- no block of a list waits, and every block is on the list
+pub none_waits : (state : State) (order : List ℕ) (blocks : ℕ) → All (λ block. is_waiting state block ≡ false) order → ((block : ℕ) → block < blocks → Contains order block) → (block : ℕ) → block < blocks → is_waiting state block ≡ false
+none_waits state order blocks quiet every block below = All-contains (λ b. is_waiting state b ≡ false) order block quiet (every block below)
+
+-- the sets have a place for each name
+pub search_room : {successors assigns : List (List ℕ)} {places names : ℕ} {state : State} → IsSearch successors assigns places state → places ≡ places_for names → AreRoomy state.sets (length successors) names
+search_room {successors} {places = places} {names = names} {state = state} held long =
+    record { long = held.many; wide = λ k d below. ample k d below }
+  where
+    ample : (k : ℕ) (d : List Bool) → k < length state.sets → names ≤ length (get_or state.sets k d)
+    ample k d below =
+        let within : k < length successors = omega (arith, below, held.many) in
+        omega (arith, held.wide k within, ap length (get_or_default state.sets k d [] below), long)

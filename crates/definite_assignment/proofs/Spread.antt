@@ -1,15 +1,15 @@
 -- One block's names passed on to its successors.
-use Rattle.std.proofs.Common.{ℕ, ◌+◌, ◌≡◌, ◌<◌, ◌≤◌, ◌⊎◌, inl, inr, Bool, true, false, List, [], ◌∷◌, ◌++◌, length, get_or, set, refl, ap, sym, subst, ◌∙◌, arith, length-set, length-append}
+use Rattle.std.proofs.Common.{ℕ, ◌+◌, ◌≡◌, ◌<◌, ◌≤◌, ◌⊎◌, inl, inr, Bool, true, false, List, [], ◌∷◌, ◌++◌, length, get_or, set, refl, ap, sym, subst, ◌∙◌, arith, length-set}
 use Rattle.std.specs.Prelude.{IsTrue, Some, slice_get}
 use Rattle.std.proofs.lemmas.Option.{get_or_from_slice_get}
-use Rattle.std.specs.List.{All, Contains}
-use Rattle.std.proofs.lemmas.List.{get_or-set_same, get_or-set_other, get_or_default}
-use Rattle.std.proofs.lemmas.List.Elements.{All-push, Contains-append_left, Contains-append_right, Contains-append_cases, Contains-push, All-contains}
+use Rattle.std.specs.List.{Contains}
+use Rattle.std.proofs.lemmas.List.{get_or-set_same, get_or-set_other}
+use Rattle.std.proofs.lemmas.List.Elements.{Contains-append_left, Contains-append_right, Contains-append_cases, Contains-push, All-contains}
 use Rattle.std.proofs.lemmas.List.Sums.{sum_by-set}
 use Rattle.std.proofs.lemmas.Bool.{cases_eq, and_parts, and_from, both_ways}
 use Rattle.definite_assignment.specs.Sets.{both, has, has_name}
-use Rattle.definite_assignment.specs.Work.{State, AreListed, IsSpread, count}
-use Rattle.definite_assignment.proofs.Names.{has_name-both, length-both, count-both, count-both_less}
+use Rattle.definite_assignment.specs.Work.{State, IsSpread, count}
+use Rattle.definite_assignment.proofs.Names.{has_name-both, length-both, count-both, count-both_less, count-set}
 
 -- a set is put in the place of one: what stands at a block
 at_set : (sets : List (List Bool)) (next : ℕ) (row : List Bool) → next < length sets → (P : ℕ → List Bool → Type 0) → P next row → ((block : ℕ) → (block ≡ next → ⊥) → P block (get_or sets block [])) → (block : ℕ) → P block (get_or (set sets next row) block [])
@@ -24,17 +24,15 @@ only : (next block : ℕ) → Contains (next ∷ []) block → block ≡ next
 only next block c = All-contains (λ x. x ≡ next) (next ∷ []) block (λ k d below. let e : k ≡ 0 = omega (arith, below) in rw e refl) c
 
 -- one set cut, where the block whose set changed is marked and no mark is lost
-pub cut_spreads : (sets : List (List Bool)) (waiting waiting' : List ℕ) (marks marks' : List Bool) (next : ℕ) (leaving : List Bool)
+pub cut_spreads : (sets : List (List Bool)) (marks marks' : List Bool) (next : ℕ) (leaving : List Bool)
     → next < length sets
     → length (get_or sets next []) ≡ length leaving
     → length marks' ≡ length marks
     → (get_or marks' next false ≡ false → both (get_or sets next []) leaving ≡ get_or sets next [])
     → ((block : ℕ) → get_or marks' block false ≡ false → get_or marks block false ≡ false)
-    → (AreListed (record { sets = sets; waiting = waiting; marks = marks }) → AreListed (record { sets = set sets next (both (get_or sets next []) leaving); waiting = waiting'; marks = marks' }))
-    → (All (λ block. block < length sets) waiting → All (λ block. block < length sets) waiting')
-    → count (both (get_or sets next []) leaving) + length waiting' ≤ count (get_or sets next []) + length waiting
-    → IsSpread (record { sets = sets; waiting = waiting; marks = marks }) (record { sets = set sets next (both (get_or sets next []) leaving); waiting = waiting'; marks = marks' }) (next ∷ []) leaving
-cut_spreads sets waiting waiting' marks marks' next leaving within alike long quiet kept listed bound rest =
+    → count (both (get_or sets next []) leaving) + count marks' ≤ count (get_or sets next []) + count marks
+    → IsSpread (record { sets = sets; marks = marks }) (record { sets = set sets next (both (get_or sets next []) leaving); marks = marks' }) (next ∷ []) leaving
+cut_spreads sets marks marks' next leaving within alike long quiet kept rest =
     let row : List Bool = get_or sets next [] in
     let new : List Bool = both row leaving in
     record {
@@ -49,34 +47,24 @@ cut_spreads sets waiting waiting' marks marks' next leaving within alike long qu
           (λ name t f. has_name-both row leaving name ∙ and_from _ _ t (f (Contains-push [] next))) (λ block away name t f. t);
       same = at_set sets next new within (λ block s. get_or marks' block false ≡ false → s ≡ get_or sets block []) quiet (λ block away m. refl);
       waits = kept;
-      listed = listed;
-      within = bound;
       rest = omega (arith, sum_by-set count sets next new [] within, rest);
     }
 
 -- the set stays: nothing changes
-pub cut_keeps : (sets : List (List Bool)) (waiting : List ℕ) (marks : List Bool) (next : ℕ) (leaving : List Bool) → next < length sets → length (get_or sets next []) ≡ length leaving
+cut_keeps : (sets : List (List Bool)) (marks : List Bool) (next : ℕ) (leaving : List Bool) → next < length sets → length (get_or sets next []) ≡ length leaving
     → both (get_or sets next []) leaving ≡ get_or sets next []
-    → IsSpread (record { sets = sets; waiting = waiting; marks = marks }) (record { sets = set sets next (both (get_or sets next []) leaving); waiting = waiting; marks = marks }) (next ∷ []) leaving
-cut_keeps sets waiting marks next leaving within alike same =
-    cut_spreads sets waiting waiting marks marks next leaving within alike refl (λ m. same) (λ block m. m) (λ l. l) (λ a. a) (omega (arith, count-both (get_or sets next []) leaving))
+    → IsSpread (record { sets = sets; marks = marks }) (record { sets = set sets next (both (get_or sets next []) leaving); marks = marks }) (next ∷ []) leaving
+cut_keeps sets marks next leaving within alike same =
+    cut_spreads sets marks marks next leaving within alike refl (λ m. same) (λ block m. m) (omega (arith, count-both (get_or sets next []) leaving))
 
--- the set shrinks, and the block waits already
-pub cut_again : (sets : List (List Bool)) (waiting : List ℕ) (marks : List Bool) (next : ℕ) (leaving : List Bool) → next < length sets → length (get_or sets next []) ≡ length leaving
-    → get_or marks next false ≡ true
-    → IsSpread (record { sets = sets; waiting = waiting; marks = marks }) (record { sets = set sets next (both (get_or sets next []) leaving); waiting = waiting; marks = marks }) (next ∷ []) leaving
-cut_again sets waiting marks next leaving within alike marked =
-    cut_spreads sets waiting waiting marks marks next leaving within alike refl (λ m. absurd (both_ways _ m marked)) (λ block m. m) (λ l. l) (λ a. a) (omega (arith, count-both (get_or sets next []) leaving))
-
--- the set shrinks, and the block is put on the list
-pub cut_lists : (sets : List (List Bool)) (waiting : List ℕ) (marks : List Bool) (next : ℕ) (leaving : List Bool) → next < length sets → length marks ≡ length sets → length (get_or sets next []) ≡ length leaving
+-- the set shrinks, and the block waits
+cut_marks : (sets : List (List Bool)) (marks : List Bool) (next : ℕ) (leaving : List Bool) → next < length sets → length marks ≡ length sets → length (get_or sets next []) ≡ length leaving
     → (both (get_or sets next []) leaving ≡ get_or sets next [] → ⊥)
-    → IsSpread (record { sets = sets; waiting = waiting; marks = marks }) (record { sets = set sets next (both (get_or sets next []) leaving); waiting = waiting ++ next ∷ []; marks = set marks next true }) (next ∷ []) leaving
-cut_lists sets waiting marks next leaving within long alike differ =
-    cut_spreads sets waiting (waiting ++ next ∷ []) marks (set marks next true) next leaving within alike (length-set marks next true)
-    (λ m. absurd (both_ways _ m here)) (λ block m. unmarked block (cases_eq block next) m) (λ l block m. stands l block (cases_eq block next) m)
-    (λ a. All-push (λ block. block < length sets) waiting next a within)
-    (omega (arith, count-both_less (get_or sets next []) leaving alike differ, length-append waiting (next ∷ [])))
+    → IsSpread (record { sets = sets; marks = marks }) (record { sets = set sets next (both (get_or sets next []) leaving); marks = set marks next true }) (next ∷ []) leaving
+cut_marks sets marks next leaving within long alike differ =
+    cut_spreads sets marks (set marks next true) next leaving within alike (length-set marks next true)
+    (λ m. absurd (both_ways _ m here)) (λ block m. unmarked block (cases_eq block next) m)
+    (omega (arith, count-both_less (get_or sets next []) leaving alike differ, count-set marks next true))
   where
     here : get_or (set marks next true) next false ≡ true
     here = get_or-set_same marks next true false (omega (arith, within, long))
@@ -84,10 +72,6 @@ cut_lists sets waiting marks next leaving within long alike differ =
     unmarked : (block : ℕ) → (block ≡ next) ⊎ (block ≡ next → ⊥) → get_or (set marks next true) block false ≡ false → get_or marks block false ≡ false
     unmarked block (inl e) m = absurd (both_ways _ (rw e at m) here)
     unmarked block (inr away) m = sym (get_or-set_other marks next block true false away) ∙ m
-
-    stands : ((block : ℕ) → IsTrue (get_or marks block false) → Contains waiting block) → (block : ℕ) → (block ≡ next) ⊎ (block ≡ next → ⊥) → IsTrue (get_or (set marks next true) block false) → Contains (waiting ++ next ∷ []) block
-    stands l block (inl e) m = rw e (Contains-push waiting next)
-    stands l block (inr away) m = Contains-append_left waiting (next ∷ []) block (l block (sym (get_or-set_other marks next block true false away) ∙ m))
 
 -- no block
 pub spread_none : (state : State) (leaving : List Bool) → IsSpread state state [] leaving
@@ -101,8 +85,6 @@ spread_none state leaving =
       kept = λ block name t f. t;
       same = λ block m. refl;
       waits = λ block m. m;
-      listed = λ l. l;
-      within = λ a. a;
       rest = omega arith;
     }
 
@@ -118,8 +100,6 @@ spread_more a b c nexts next leaving p q =
       kept = λ block name t f. q.kept block name (p.kept block name t (λ found. f (Contains-append_left nexts (next ∷ []) block found))) (λ found. f (Contains-append_right nexts (next ∷ []) block found));
       same = λ block m. q.same block m ∙ p.same block (q.waits block m);
       waits = λ block m. p.waits block (q.waits block m);
-      listed = λ l. q.listed (p.listed l);
-      within = λ w. subst (λ n. All (λ block. block < n) c.waiting) p.many (q.within (subst (λ n. All (λ block. block < n) b.waiting) (sym p.many) (p.within w)));
       rest = omega (arith, p.rest, q.rest);
     }
   where
@@ -128,29 +108,20 @@ spread_more a b c nexts next leaving p q =
     cut block name t (inr found) = q.cut block name found t
 
 -- the same, of a set that is read and put back
-pub cut_keeps_at : (sets : List (List Bool)) (waiting : List ℕ) (marks : List Bool) (next : ℕ) (leaving row new : List Bool) → next < length sets → length (get_or sets next []) ≡ length leaving
+pub cut_keeps_at : (sets : List (List Bool)) (marks : List Bool) (next : ℕ) (leaving row new : List Bool) → next < length sets → length (get_or sets next []) ≡ length leaving
     → slice_get sets next ≡ Some row → new ≡ both row leaving → new ≡ row
-    → IsSpread (record { sets = sets; waiting = waiting; marks = marks }) (record { sets = set sets next new; waiting = waiting; marks = marks }) (next ∷ []) leaving
-cut_keeps_at sets waiting marks next leaving row new within alike read is same =
+    → IsSpread (record { sets = sets; marks = marks }) (record { sets = set sets next new; marks = marks }) (next ∷ []) leaving
+cut_keeps_at sets marks next leaving row new within alike read is same =
     let at : get_or sets next [] ≡ row = get_or_from_slice_get sets next row [] read in
     let is' : new ≡ both (get_or sets next []) leaving = is ∙ ap (λ r. both r leaving) (sym at) in
-    subst (λ n. IsSpread (record { sets = sets; waiting = waiting; marks = marks }) (record { sets = set sets next n; waiting = waiting; marks = marks }) (next ∷ []) leaving) (sym is')
-    (cut_keeps sets waiting marks next leaving within alike (sym is' ∙ (same ∙ sym at)))
+    subst (λ n. IsSpread (record { sets = sets; marks = marks }) (record { sets = set sets next n; marks = marks }) (next ∷ []) leaving) (sym is')
+    (cut_keeps sets marks next leaving within alike (sym is' ∙ (same ∙ sym at)))
 
-pub cut_again_at : (sets : List (List Bool)) (waiting : List ℕ) (marks : List Bool) (next : ℕ) (leaving row new : List Bool) → next < length sets → length marks ≡ length sets → length (get_or sets next []) ≡ length leaving
-    → slice_get sets next ≡ Some row → new ≡ both row leaving → (mark : Bool) → mark ≡ get_or marks next mark → mark ≡ true
-    → IsSpread (record { sets = sets; waiting = waiting; marks = marks }) (record { sets = set sets next new; waiting = waiting; marks = marks }) (next ∷ []) leaving
-cut_again_at sets waiting marks next leaving row new within long alike read is mark marked up =
-    let at : get_or sets next [] ≡ row = get_or_from_slice_get sets next row [] read in
-    let is' : new ≡ both (get_or sets next []) leaving = is ∙ ap (λ r. both r leaving) (sym at) in
-    subst (λ n. IsSpread (record { sets = sets; waiting = waiting; marks = marks }) (record { sets = set sets next n; waiting = waiting; marks = marks }) (next ∷ []) leaving) (sym is')
-    (cut_again sets waiting marks next leaving within alike (get_or_default marks next false mark (omega (arith, within, long)) ∙ (sym marked ∙ up)))
-
-pub cut_lists_at : (sets : List (List Bool)) (waiting : List ℕ) (marks : List Bool) (next : ℕ) (leaving row new : List Bool) → next < length sets → length marks ≡ length sets → length (get_or sets next []) ≡ length leaving
+pub cut_marks_at : (sets : List (List Bool)) (marks : List Bool) (next : ℕ) (leaving row new : List Bool) → next < length sets → length marks ≡ length sets → length (get_or sets next []) ≡ length leaving
     → slice_get sets next ≡ Some row → new ≡ both row leaving → (new ≡ row → ⊥)
-    → IsSpread (record { sets = sets; waiting = waiting; marks = marks }) (record { sets = set sets next new; waiting = waiting ++ next ∷ []; marks = set marks next true }) (next ∷ []) leaving
-cut_lists_at sets waiting marks next leaving row new within long alike read is differ =
+    → IsSpread (record { sets = sets; marks = marks }) (record { sets = set sets next new; marks = set marks next true }) (next ∷ []) leaving
+cut_marks_at sets marks next leaving row new within long alike read is differ =
     let at : get_or sets next [] ≡ row = get_or_from_slice_get sets next row [] read in
     let is' : new ≡ both (get_or sets next []) leaving = is ∙ ap (λ r. both r leaving) (sym at) in
-    subst (λ n. IsSpread (record { sets = sets; waiting = waiting; marks = marks }) (record { sets = set sets next n; waiting = waiting ++ next ∷ []; marks = set marks next true }) (next ∷ []) leaving) (sym is')
-    (cut_lists sets waiting marks next leaving within long alike (λ same. differ (is' ∙ (same ∙ at))))
+    subst (λ n. IsSpread (record { sets = sets; marks = marks }) (record { sets = set sets next n; marks = set marks next true }) (next ∷ []) leaving) (sym is')
+    (cut_marks sets marks next leaving within long alike (λ same. differ (is' ∙ (same ∙ at))))

@@ -1,17 +1,17 @@
--- The search for the sets: those that stand so far, and the blocks whose sets are still to be passed on.
+-- The search for the sets: those so far, and the blocks whose sets are still to be passed on.
 use Rattle.std.specs.Prelude.{ℕ, ◌+◌, ◌≡◌, ◌<◌, ◌≤◌, ◌⊎◌, ◌↔◌, Bool, true, false, IsTrue, List, [], ◌∷◌, length, slice_index_or, count_by, replicate}
-use Rattle.std.specs.List.{All, Contains, sum_by}
+use Rattle.std.specs.List.{Contains, sum_by}
+use Rattle.block_paths.specs.Paths.{Assigns, IsSuccessor, IsUnassignedBefore}
 use Rattle.definite_assignment.specs.Sets.{has, has_name, places_for}
 use Rattle.definite_assignment.specs.declared.work.Work.{Work}
 
--- the sets so far, the blocks that wait, and for each block whether it waits
+-- the sets so far, and for each block whether it waits
 pub record State : Type 0 where
   pub sets : List (List Bool)
-  pub waiting : List ℕ
   pub marks : List Bool
 
 abbrev pub state_of : Work → State
-state_of work = record { sets = work.sets; waiting = work.waiting.items; marks = work.is_waiting.items }
+state_of work = record { sets = work.sets; marks = work.is_waiting.items }
 
 abbrev pub set_of : State → ℕ → List Bool
 set_of state block = slice_index_or state.sets block []
@@ -19,17 +19,13 @@ set_of state block = slice_index_or state.sets block []
 abbrev pub is_waiting : State → ℕ → Bool
 is_waiting state block = slice_index_or state.marks block false
 
--- each block that is marked stands on the list
-abbrev pub AreListed : State → Type 0
-AreListed state = (block : ℕ) → IsTrue (is_waiting state block) → Contains state.waiting block
-
--- how many names the set has
+-- how many are true
 abbrev pub count : List Bool → ℕ
 count set = count_by (λ b. b) set
 
 -- what is still to be done: the names that may go, and the blocks that wait
 abbrev pub rest_of : State → ℕ
-rest_of state = sum_by count state.sets + length state.waiting
+rest_of state = sum_by count state.sets + count state.marks
 
 -- the sets at the start: none at the entry, every name elsewhere
 abbrev pub first_sets : ℕ → ℕ → List (List Bool)
@@ -50,6 +46,14 @@ pub record IsSpread (old new : State) (nexts : List ℕ) (leaving : List Bool) :
   pub kept : (block name : ℕ) → IsTrue (has old.sets block name) → (Contains nexts block → IsTrue (has_name leaving name)) → IsTrue (has new.sets block name)
   pub same : (block : ℕ) → is_waiting new block ≡ false → set_of new block ≡ set_of old block
   pub waits : (block : ℕ) → is_waiting new block ≡ false → is_waiting old block ≡ false
-  pub listed : AreListed old → AreListed new
-  pub within : All (λ block. block < length old.sets) old.waiting → All (λ block. block < length old.sets) new.waiting
   pub rest : rest_of new ≤ rest_of old
+
+-- What holds all through the search: where a set lacks a name, some path doesn't assign it, and a successor of
+-- a block that doesn't wait has no name that the block neither has nor assigns.
+pub record IsSearch (successors assigns : List (List ℕ)) (places : ℕ) (state : State) : Type 0 where
+  pub many : length state.sets ≡ length successors
+  pub marks : length state.marks ≡ length successors
+  pub wide : (block : ℕ) → block < length successors → length (set_of state block) ≡ places
+  pub entry : (name : ℕ) → has state.sets 0 name ≡ false
+  pub missed : (block name : ℕ) → block < length successors → name < places → has state.sets block name ≡ false → IsUnassignedBefore successors assigns block name
+  pub passed : (block next name : ℕ) → is_waiting state block ≡ false → IsSuccessor successors block next → IsTrue (has state.sets next name) → IsTrue (has state.sets block name) ⊎ Assigns assigns block name

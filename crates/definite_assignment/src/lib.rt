@@ -14,6 +14,7 @@ ghost use Rattle.definite_assignment.specs.Sets.{AreRoomy, has};
 
 mod name_set;
 mod name_sets;
+mod visiting_order;
 mod words;
 mod work;
 
@@ -21,6 +22,7 @@ use name_set::NameSet;
 pub use name_sets::NameSets;
 use std::alloc::Global;
 use support::{NoMemory, Sequence};
+use visiting_order::visiting_order;
 use work::Work;
 
 /// For each block of a graph, the names that every path from block 0 to it assigns in a block that it
@@ -28,12 +30,15 @@ use work::Work;
 /// below `names`. A block that no path comes to has every name. A name that a block's set lacks is
 /// missed by some path to it.
 ///
-/// A step passes one block's names on to a successor, and costs one word for each 64 names; a block is
-/// taken up again only when its set became smaller. The block that has waited longest comes first, so
-/// that one where many paths meet is taken up once they have all come to it.
+/// A visit passes one block's names on to its successors, and costs one word for each 64 names and
+/// successor; a block is visited again only when its set became smaller. A pass visits blocks in reverse
+/// postorder (Cooper, Harvey, Kennedy, "A Simple, Fast Dominance Algorithm", 2001), so that a graph without
+/// cycles takes one pass, and one with loops about one more for each depth of nesting (Kam and Ullman,
+/// "Global Data Flow Analysis and Iterative Algorithms", 1976). The order has no part in what is returned:
+/// passes end when no block waits.
 ///
 /// # Errors
-/// For want of memory alone.
+/// Out of memory alone.
 pub fn assigned_before(
     alloc: Global,
     successors: &[Sequence<usize>],
@@ -50,12 +55,9 @@ pub fn assigned_before(
     if successors.is_empty() {
         return Ok(NameSets::new(Sequence::from_vec(Vec::new(alloc))));
     }
+    let order = visiting_order(alloc, successors)?;
     let mut work = Work::start(alloc, successors.len(), names)?;
     let mut leaving = NameSet::none(alloc, names)?;
-    while let Some(block) = work.waiting.pop_front() {
-        work.is_waiting[block] = false;
-        leaving.fill(work.sets.get(block), assigns[block].as_slice());
-        work.spread(successors[block].as_slice(), &leaving)?;
-    }
+    while work.pass(&order, successors, assigns, &mut leaving) {}
     Ok(NameSets::new(work.sets))
 }

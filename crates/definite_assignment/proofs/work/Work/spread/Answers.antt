@@ -19,7 +19,7 @@ cut-requires-clause-alike c = c.loop-next.invariant.places (get_or c.args.nexts.
 pub loop-next-preserved : goal.loop-next-preserved
 loop-next-preserved c =
     rw (take_more c.args.nexts.now c.loop-next.next-index 0 c.loop-next-test.true)
-    (spread_more (state_of c.args.self.now) (state_of c.loop-next.self) (state_of c.cut.new.self) (take c.loop-next.next-index c.args.nexts.now) (get_or c.args.nexts.now c.loop-next.next-index 0) c.args.leaving.now c.loop-next.invariant c.in_ok-cut.ensures)
+    (spread_more (state_of c.args.self.now) (state_of c.loop-next.self) (state_of c.cut.new.self) (take c.loop-next.next-index c.args.nexts.now) (get_or c.args.nexts.now c.loop-next.next-index 0) c.args.leaving.now c.loop-next.invariant c.cut.ensures)
 
 pub returns : goal.returns
 returns c = rw (take_all c.loop-next.next-index c.args.nexts.now c.loop-next-test.false) at c.loop-next.invariant

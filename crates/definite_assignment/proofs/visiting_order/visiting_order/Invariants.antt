@@ -1,0 +1,10 @@
+use Rattle.std.proofs.Common.{ℕ, ◌<◌, length}
+use Rattle.std.specs.List.{All, Contains}
+use Rattle.definite_assignment.proofs.visiting_order.visiting_order.Given as goal
+
+abbrev pub invariant-loop-block : goal.invariant-loop-block
+invariant-loop-block l =
+    record {
+      within : All (λ block. block < length l.successors) l.order.items;
+      every : (block : ℕ) → block < l.block → Contains l.order.items block;
+    }
