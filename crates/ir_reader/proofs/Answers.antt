@@ -1,5 +1,5 @@
 -- What reading the tokens of a define answers.
-use Rattle.std.proofs.Common.{◌≡◌, ◌≤◌, ◌<◌, true, List, [], ◌∷◌, length, get_or, inl, inr, refl, sym, ap, subst, arith}
+use Rattle.std.proofs.Common.{◌≡◌, ◌≤◌, ◌<◌, ◌∙◌, true, List, [], ◌∷◌, length, get_or, inl, inr, refl, sym, ap, subst, arith}
 use Rattle.std.specs.Prelude.{Err}
 use Rattle.ir_lexer.specs.Lexeme.{Lexeme}
 use Rattle.ir_tree.specs.WellFormed.{Passes, PassesNames, IsRefusedAt, IfRefused}
@@ -14,12 +14,13 @@ use Rattle.token_forms.specs.declared.fault.ReadFault.TheVariants as stop
 use Rattle.token_forms.specs.Spelling.{Spells}
 use Rattle.token_forms.specs.Refusals.{StopsPast}
 use Rattle.token_forms.specs.Spelled.{SpellsOrStops}
-use Rattle.token_forms.proofs.AsSpelled.{whole-ends}
+use Rattle.token_forms.proofs.RefusedAgain.{refused-again}
 use Rattle.ir_grammar.specs.declared.written.WrittenFunction.{WrittenFunction}
 use Rattle.ir_grammar.specs.Reasons.{reason}
 use Rattle.ir_grammar.specs.Grammar.{define}
 use Rattle.ir_numbering.specs.Numbering.{numbered}
-use Rattle.ir_reader.specs.Functions.{tested, unfit, past, Answers}
+use Rattle.ir_reader.specs.Functions.{IsUnfit, tested, unfit, past, Answers}
+use Rattle.ir_reader.proofs.StopReasons.{unfit-behind, unfit-why}
 use Rattle.ir_reader.specs.Answer.{Writes, Tests, fault_at}
 
 nil-of : (rest : List Lexeme) → length rest < 1 → rest ≡ []
@@ -34,12 +35,12 @@ pub writes-more : (ts rest left : List Lexeme) (w : WrittenFunction) (why : Reas
 writes-more ts rest [] w why first s l h is why-is = absurd (omega arith)
 writes-more ts rest (t ∷ q) w why first s l h is why-is =
     let here : Spells true define w ts (t ∷ q) = subst (λ (us : List Lexeme). Spells true define w ts us) (sym l) s in
-    unfit why (t ∷ q) (record { stops = whole-ends define w ts t q here; because = inr (record { function = w; whole = here; first = first; others = q; split = ap (λ (u : Lexeme). u ∷ q) (sym is); why_is = why-is }) })
+    unfit why (t ∷ q) (subst (λ (r : Reason). IsUnfit r ts (t ∷ q)) (sym (why-is ∙ ap (λ (u : Lexeme). reason u) is)) (unfit-behind ts w t q here))
 
 pub writes-fault : (ts rest left : List Lexeme) (fault : ReadFault) → SpellsOrStops define (Err fault) ts rest → left ≡ rest → Writes ts (Err (fault_at fault ts left))
 writes-fault ts rest left (stop.Unfit why) s l =
     let here = subst (λ (us : List Lexeme). SpellsOrStops define (Err (stop.Unfit why)) ts us) (sym l) s in
-    unfit why left (record { stops = here.0; because = inl here.1 })
+    unfit why left (unfit-why ts left why (refused-again define why ts left here.1))
 writes-fault ts rest left stop.PastLimit s l = past left (subst (λ (us : List Lexeme). StopsPast define ts us) (sym l) s)
 writes-fault ts rest left stop.NoMemory s l = tt
 

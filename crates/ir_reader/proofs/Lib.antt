@@ -1,3 +1,6 @@
+pub mod StopReasons
+pub mod TypesTold
+pub mod Looking
 pub mod Objects
 pub mod Spelled
 pub mod Limits

@@ -19,15 +19,14 @@ use Rattle.ir_tree.specs.declared.module.Module.{Module}
 use Rattle.ir_tree.specs.declared.tree.Function.{Function}
 use Rattle.ir_tree.proofs.Refusals.{one_refusal, never_well_formed}
 use Rattle.token_forms.specs.Form.{Reading, reads, stops, unfit as unfit_why, limit, read}
-use Rattle.token_forms.specs.Refusals.{RefusedAs}
-use Rattle.token_forms.proofs.Exact.{read-again}
+use Rattle.token_forms.proofs.Exact.{read-again, read-found}
 use Rattle.token_forms.proofs.Stops.{limit-again}
-use Rattle.token_forms.proofs.RefusedAgain.{refused-again}
 use Rattle.ir_grammar.specs.declared.written.WrittenFunction.{WrittenFunction}
 use Rattle.ir_grammar.specs.Reasons.{reason}
 use Rattle.ir_grammar.specs.Grammar.{define}
 use Rattle.ir_numbering.specs.Numbering.{numbered}
-use Rattle.ir_reader.specs.Functions.{IsFunction, well_formed, tested, unfit, past, IsBehind, refused_at, stop_place}
+use Rattle.ir_reader.specs.Functions.{IsFunction, well_formed, tested, unfit, past, IsUnfit, refused_at, stop_place}
+use Rattle.ir_reader.proofs.StopReasons.{one-unfit, unfit-behind, unfit-limit, unfit-whole, unfit-why}
 use Rattle.ir_reader.specs.declared.fault.ModuleFault.{ModuleFault}
 use Rattle.ir_reader.specs.declared.fault.ModuleFault.TheVariants as fault
 use Rattle.ir_reader.specs.Module.{IsModule, IsFault, AreEntries, tokens_of, place_or_end}
@@ -47,16 +46,19 @@ IsTold (reads w (t ∷ others)) tokens a = a ≡ told_of (reason t) tokens (t �
 IsTold (stops (unfit_why why) rest) tokens a = a ≡ told_of why tokens rest
 IsTold (stops limit rest) tokens a = a ≡ told_of Limit tokens rest
 
+same-told : (tokens r s : List Lexeme) (a b : Reason) → (r ≡ s) × (a ≡ b) → told_of a tokens r ≡ told_of b tokens s
+same-told tokens r s a b (rest, why) = ap (λ (us : List Lexeme). told_of a tokens us) rest ∙ ap (λ (w : Reason). told_of w tokens s) why
+
+unfit-told : (tokens rest : List Lexeme) (why : Reason) → IsUnfit why tokens rest → (z : Reading WrittenFunction) → read true define tokens ≡ z → IsTold z tokens (told_of why tokens rest)
+unfit-told tokens rest why U (reads w []) e = absurd (unfit-whole tokens rest why w U e)
+unfit-told tokens rest why U (reads w (t ∷ others)) e = same-told tokens rest (t ∷ others) why (reason t) (one-unfit tokens rest (t ∷ others) why (reason t) U (unfit-behind tokens w t others (read-found true define tokens w (t ∷ others) e)))
+unfit-told tokens rest why U (stops (unfit_why other) left) e = same-told tokens rest left why other (one-unfit tokens rest left why other U (unfit-why tokens left other e))
+unfit-told tokens rest why U (stops limit left) e = absurd (unfit-limit tokens rest left why U e)
+
 is-told : (tokens : List Lexeme) (a : Result Function Refused) → IsFunction tokens a → IsTold (read true define tokens) tokens a
 is-told tokens _ (well_formed w s W) = subst (λ (r : Reading WrittenFunction). IsTold r tokens (Ok (numbered w))) (sym (read-again true define tokens w [] s)) (inl (refl, W))
 is-told tokens _ (tested w why refused s R) = subst (λ (r : Reading WrittenFunction). IsTold r tokens (Err refused)) (sym (read-again true define tokens w [] s)) (inr (why, refused, refl, R))
-is-told tokens _ (unfit why rest U) = by U.because
-  where
-    by : RefusedAs define why tokens rest ⊎ IsBehind why tokens rest → IsTold (read true define tokens) tokens (told_of why tokens rest)
-    by (inl R) = subst (λ (r : Reading WrittenFunction). IsTold r tokens (told_of why tokens rest)) (sym (refused-again define why tokens rest R)) refl
-    by (inr B) =
-        let e : read true define tokens ≡ reads B.function (B.first ∷ B.others) = read-again true define tokens B.function rest B.whole ∙ ap (λ (us : List Lexeme). reads B.function us) B.split in
-        subst (λ (r : Reading WrittenFunction). IsTold r tokens (told_of why tokens rest)) (sym e) (ap (λ (us : List Lexeme). told_of why tokens us) B.split ∙ ap (λ (w : Reason). told_of w tokens (B.first ∷ B.others)) B.why_is)
+is-told tokens _ (unfit why rest U) = unfit-told tokens rest why U (read true define tokens) refl
 is-told tokens _ (past rest P) = subst (λ (r : Reading WrittenFunction). IsTold r tokens (told_of Limit tokens rest)) (sym (limit-again define tokens rest P.passes)) refl
 
 one-told : (r : Reading WrittenFunction) (tokens : List Lexeme) (a b : Result Function Refused) → IsTold r tokens a → IsTold r tokens b → a ≡ b

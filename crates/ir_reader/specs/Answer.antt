@@ -1,5 +1,5 @@
 -- What the parts of the reader may answer.
-use Rattle.std.specs.Prelude.{◌≡◌, ◌≤◌, ◌+◌, List, [], length, true, Result, Ok, Err}
+use Rattle.std.specs.Prelude.{◌≤◌, ◌+◌, List, [], length, true, Result, Ok, Err}
 use Rattle.std.specs.List.{AllByRecursion}
 use Rattle.ir_lexer.specs.Lexeme.{Lexeme}
 use Rattle.ir_items.specs.declared.item.Define.{Define}

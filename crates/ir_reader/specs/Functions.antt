@@ -1,5 +1,5 @@
 -- What the tokens of a define are: a function, or why none and where.
-use Rattle.std.specs.Prelude.{◌≡◌, ◌⊎◌, List, [], ◌∷◌, true, Result, Ok, Err}
+use Rattle.std.specs.Prelude.{List, [], ◌∷◌, true, Result, Ok, Err}
 use Rattle.text_places.specs.declared.place.Place.{Place}
 use Rattle.ir_lexer.specs.Lexeme.{Lexeme}
 use Rattle.ir_tree.specs.Sites.{no_place}
@@ -11,11 +11,11 @@ use Rattle.ir_tree.specs.declared.module.CheckFault.{CheckFault}
 use Rattle.ir_tree.specs.declared.module.CheckFault.TheVariants as fault
 use Rattle.ir_tree.specs.declared.tree.Function.{Function}
 use Rattle.token_forms.specs.Spelling.{Spells}
-use Rattle.token_forms.specs.Refusals.{RefusedAs, StopsUnfit, StopsPast}
+use Rattle.token_forms.specs.Refusals.{StopsUnfit, StopsPast}
 use Rattle.ir_grammar.specs.declared.written.WrittenFunction.{WrittenFunction}
-use Rattle.ir_grammar.specs.Reasons.{reason}
 use Rattle.ir_grammar.specs.Grammar.{define}
 use Rattle.ir_numbering.specs.Numbering.{numbered}
+use Rattle.ir_reader.specs.StopReason.{IsStopReason}
 
 -- a refusal at a place
 abbrev pub refused_at : Reason → Place → Refused
@@ -30,19 +30,10 @@ abbrev pub stop_place : List Lexeme → List Lexeme → Place
 stop_place tokens [] = last_place no_place tokens
 stop_place tokens (t ∷ others) = t.place
 
--- a token stands behind a whole function
-pub record IsBehind (why : Reason) (tokens rest : List Lexeme) : Type 0 where
-  pub function : WrittenFunction
-  pub whole : Spells true define function tokens rest
-  pub first : Lexeme
-  pub others : List Lexeme
-  pub split : rest ≡ first ∷ others
-  pub why_is : why ≡ reason first
-
 -- The tokens are the beginning of a function up to the first of rest, which can't stand there for this reason.
 pub record IsUnfit (why : Reason) (tokens rest : List Lexeme) : Type 0 where
   pub stops : StopsUnfit define tokens rest
-  pub because : RefusedAs define why tokens rest ⊎ IsBehind why tokens rest
+  pub because : IsStopReason stops.front rest why
 
 -- All the tokens of a define, its word first, are this function, or are refused so.
 pub data IsFunction (tokens : List Lexeme) : Result Function Refused → Type 0 where

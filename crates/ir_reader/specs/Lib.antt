@@ -1,3 +1,4 @@
+pub mod StopReason
 pub mod Functions
 pub mod Module
 pub mod Judgeable
