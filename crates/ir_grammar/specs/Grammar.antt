@@ -1,4 +1,22 @@
--- Which tokens spell a function with a body (LLVM Language Reference, "Functions").
+-- Which tokens spell a function with a body (LLVM Language Reference, "Functions"). In brief, where
+-- * is any number of times, ? at most once and | a choice; a TYPE, a VALUE and a LITERAL are one
+-- token each, a VALUE and a LITERAL of the type before it:
+--
+--   function   = "define" prefix* ( TYPE | "void" ) @name "(" parameters? ")" header*
+--                "{" label? lines ( label lines )* "}"
+--   prefix     = linkage | visibility | calling convention | "zeroext" | "signext" | "noundef"
+--   parameters = parameter ( "," parameter )*
+--   parameter  = TYPE ( "noundef" | "nonnull" | "zeroext" | "signext" )* %name?
+--   header     = "unnamed_addr" | "local_unnamed_addr" | "nounwind" | #number
+--              | "comdat" ( "(" $name ")" )? | "!dbg" !number
+--   lines      = ( instruction attachment* | record )* terminator attachment*
+--   attachment = "," ( "!dbg" | "!prof" | "!llvm.loop" ) !number
+--   record     = #dbg_.. "(" tokens whose brackets match ")"
+--   terminator = "ret" ( "void" | TYPE VALUE ) | "br" target | "br" "i1" VALUE "," target "," target
+--              | "switch" TYPE VALUE "," target "[" ( TYPE LITERAL "," target )* "]" | "unreachable"
+--   target     = "label" %name
+--
+-- Each name in it is a form of that name or the like below; Instructions.antt has the instructions.
 use Rattle.std.specs.Prelude.{refl, ℕ, List, [], ◌∷◌, ◌++◌, length, ◌+◌, ◌-◌, ◌==◌, if◌then◌else◌, Option, Some, None, Bool, true, false, ◌&&◌, ◌||◌, not, codes, nat_lt, is_some}
 use Rattle.text_places.specs.declared.place.Place.{Place}
 use Rattle.ir_lexer.specs.declared.token.Kind.{Kind}
@@ -39,7 +57,7 @@ use Rattle.ir_grammar.specs.declared.written.WrittenFunction.{WrittenFunction}
 use Rattle.ir_grammar.specs.Words.{is_word_of, is_mark_of, prefix_of}
 use Rattle.ir_grammar.specs.Spelling.{is_pointer_type, parameter_part, header_part, line_start, label_of, named_at, width_in, int_typed_at, is_width}
 use Rattle.ir_grammar.specs.Classes.{any, word, mark, mark_or_type, brace, as_mark, local, global, counted_type, value_type, int_type, bit_type, return_type, operand_class, literal_class, terminator_word, attachment_word, metadata_number, comdat_name}
-use Rattle.ir_grammar.specs.Instructions.{line_named, store, default_align, entry_or_attachment, align_or_attachment, index_or_attachment}
+use Rattle.ir_grammar.specs.Instructions.{many, words, line_named, store, default_align, entry_or_attachment, align_or_attachment, index_or_attachment}
 
 abbrev pub is_comma : Lexeme → Bool
 is_comma t = is_mark_of t.kind t.text (codes ",")
@@ -54,7 +72,7 @@ next_prefix no_undef t = prefix_of t.kind t.text no_undef
 
 -- words, and whether noundef is one of them
 unfoldable pub prefixes : Form (either never (either is_prefix never)) Bool
-prefixes = tail is_prefix next_prefix (λ s. any) (λ s more. give more) (give false)
+prefixes = words is_prefix next_prefix false
 
 -- ---- parameters
 
@@ -70,17 +88,26 @@ follows_parameter t = is_some (parameter_part false true t.kind t.text t.place)
 abbrev pub parameter_begins : WrittenParameters → Lexeme → Option ParameterPart
 parameter_begins s t = parameter_part (is_some s.last.name) (is_pointer_type s.last.of_type.of_type) t.kind t.text t.place
 
+abbrev pub no_undef_too : WrittenParameter → WrittenParameter
+no_undef_too p = record p { no_undef = true }
+
+abbrev pub non_null_too : WrittenParameter → WrittenParameter
+non_null_too p = record p { non_null = true }
+
+abbrev pub with_name : WrittenName → WrittenParameter → WrittenParameter
+with_name name p = record p { name = Some name }
+
 -- attributes, a name or none, and behind a comma the next type; a parameter is counted at its type
 abbrev pub with_part : WrittenParameters → ParameterPart → Form never WrittenParameters
-with_part s part.NoUndef = give (record { before = s.before; last = record { of_type = s.last.of_type; no_undef = true; non_null = s.last.non_null; name = s.last.name } })
-with_part s part.NonNull = give (record { before = s.before; last = record { of_type = s.last.of_type; no_undef = s.last.no_undef; non_null = true; name = s.last.name } })
+with_part s part.NoUndef = give (record s { last = no_undef_too s.last })
+with_part s part.NonNull = give (record s { last = non_null_too s.last })
 with_part s part.Extension = give s
-with_part s (part.Name name) = give (record { before = s.before; last = record { of_type = s.last.of_type; no_undef = s.last.no_undef; non_null = s.last.non_null; name = Some name } })
+with_part s (part.Name name) = give (record s { last = with_name name s.last })
 with_part s part.Next = one (counted_type (nat_lt (length s.before + 1) most_parameters)) >>= λ type. give (record { before = s.before ++ s.last ∷ []; last = new_parameter type })
 
 -- the parameters behind the type of the first
 unfoldable pub parameter_parts : WrittenType → Form (either never (either follows_parameter never)) WrittenParameters
-parameter_parts type = tail follows_parameter parameter_begins (λ s. any) with_part (give (record { before = []; last = new_parameter type }))
+parameter_parts type = many follows_parameter parameter_begins with_part (give (record { before = []; last = new_parameter type }))
 
 unfoldable pub first_parameter : WrittenType → Form never (List WrittenParameter)
 first_parameter type = do
@@ -120,7 +147,7 @@ with_header s header.Debug = debug_rest
 
 -- attributes, comdat with a name or none, and !dbg; whether comdat came last
 unfoldable pub header_parts : Form (either never (either follows_header never)) Bool
-header_parts = tail follows_header header_begins (λ s. any) with_header (give false)
+header_parts = many follows_header header_begins with_header (give false)
 
 -- ---- the lines of a block
 
@@ -212,20 +239,20 @@ commas = either never (either is_comma never)
 
 -- what was read of a line, with what stands behind its commas
 unfoldable pub behind_commas : WrittenLine → Form commas WrittenLine
-behind_commas l = tail is_comma line_comma (λ l'. any) (λ l' comma. with_comma l') (give l)
+behind_commas l = many is_comma line_comma (λ l' comma. with_comma l') (give l)
 
 unfoldable pub whole_line : WrittenLines → LineStart → Form commas WrittenLine
-whole_line s a = tail is_comma line_comma (λ l. any) (λ l comma. with_comma l) (started (may_have_phi s) (next_number s) a)
+whole_line s a = many is_comma line_comma (λ l comma. with_comma l) (started (may_have_phi s) (next_number s) a)
 
 abbrev pub with_phi : WrittenLines → WrittenPhi → WrittenLines
-with_phi s phi = record { label = s.label; phis = s.phis ++ phi ∷ []; insts = s.insts; is_new = false; room = s.room - 1 }
+with_phi s phi = record s { phis = s.phis ++ phi ∷ []; is_new = false; room = s.room - 1 }
 
 abbrev pub with_inst : WrittenLines → WrittenInst → WrittenLines
-with_inst s i = record { label = s.label; phis = s.phis; insts = s.insts ++ i ∷ []; is_new = false; room = s.room - 1 }
+with_inst s i = record s { insts = s.insts ++ i ∷ []; is_new = false; room = s.room - 1 }
 
 abbrev pub with_line : WrittenLines → WrittenLine → WrittenLines
-with_line s (line.Label name) = record { label = Some name; phis = s.phis; insts = s.insts; is_new = false; room = s.room }
-with_line s line.Record = record { label = s.label; phis = s.phis; insts = s.insts; is_new = false; room = s.room }
+with_line s (line.Label name) = record s { label = Some name; is_new = false }
+with_line s line.Record = record s { is_new = false }
 with_line s (line.Entries phi) = with_phi s phi
 with_line s (line.Phi phi) = with_phi s phi
 with_line s (line.Access a) = with_inst s (inst.Access a (default_align a))
@@ -331,7 +358,7 @@ comma_begins s t = as_mark (codes ",") t
 
 -- attachments of the last instruction of a block
 unfoldable pub attachments : Form (either never (either is_comma never)) (Unit {0})
-attachments = tail is_comma comma_begins (λ s. any) (λ s comma. attachment) (give tt)
+attachments = many is_comma comma_begins (λ s comma. attachment) (give tt)
 
 -- ---- blocks
 
@@ -359,7 +386,7 @@ abbrev pub block_begins : WrittenBlocks → Lexeme → Option WrittenName
 block_begins s t = named_at (label_of t.kind t.text) t.place
 
 abbrev pub with_block : WrittenBlocks → WrittenName → WrittenLines × WrittenTerminator → WrittenBlocks
-with_block s name b = record { label = s.label; entry = s.entry; others = s.others ++ (record { label = name; body = body_of b }) ∷ []; room = b.0.room - 1 }
+with_block s name b = record s { others = s.others ++ (record { label = name; body = body_of b }) ∷ []; room = b.0.room - 1 }
 
 -- a block behind its label
 unfoldable pub next_block : WrittenBlocks → WrittenName → Form (either (either commas never) never) WrittenBlocks
@@ -367,11 +394,11 @@ next_block s name = mapped (with_block s name) (block false s.room)
 
 -- what was read of the blocks, and others, each behind its label
 unfoldable pub other_blocks : WrittenBlocks → Form (either never (either begins_block (either (either commas never) never))) WrittenBlocks
-other_blocks s = tail begins_block block_begins (λ s'. any) next_block (give s)
+other_blocks s = many begins_block block_begins next_block (give s)
 
 -- the entry, and others, each behind its label
 unfoldable pub blocks : Form (either (either (either commas never) never) (either begins_block (either (either commas never) never))) WrittenBlocks
-blocks = tail begins_block block_begins (λ s. any) next_block entry_block
+blocks = many begins_block block_begins next_block entry_block
 
 -- ---- functions
 

@@ -1,4 +1,21 @@
--- Which tokens spell an instruction (LLVM Language Reference, "Instruction Reference").
+-- Which tokens spell an instruction (LLVM Language Reference, "Instruction Reference"). In brief, as
+-- in Grammar.antt, with each flag at most once:
+--
+--   instruction = %name "=" operation | "store" TYPE VALUE "," pointer align?
+--   operation   = ( "add" | "sub" | "mul" | "shl" ) ( "nuw" | "nsw" )* operands
+--               | ( "udiv" | "sdiv" | "lshr" | "ashr" ) "exact"? operands
+--               | ( "urem" | "srem" | "and" | "xor" | "or" "disjoint"? ) operands
+--               | "icmp" "samesign"? predicate operands
+--               | ( "trunc" "nuw"? "nsw"? | "zext" "nneg"? | "sext" ) TYPE VALUE "to" TYPE
+--               | "select" "i1" VALUE "," TYPE VALUE "," TYPE VALUE | "freeze" TYPE VALUE
+--               | "phi" TYPE entry ( "," entry )*
+--               | "alloca" object align? | "load" TYPE "," pointer align?
+--               | "getelementptr" ( "inbounds" "nuw"? )? object "," pointer ( "," TYPE VALUE )*
+--   operands    = TYPE VALUE "," VALUE
+--   entry       = "[" VALUE "," %block "]"
+--   object      = TYPE | "[" NUMBER "x" object "]"
+--   pointer     = "ptr" VALUE
+--   align       = "," "align" NUMBER
 use Rattle.std.specs.Prelude.{refl, ℕ, zero, suc, [], ◌∷◌, ◌++◌, length, Option, Bool, true, false, ◌||◌, nat_lt, codes}
 use Rattle.ir_lexer.specs.Lexeme.{Lexeme}
 use Rattle.ir_tree.specs.Types.{one_bit}
@@ -10,7 +27,7 @@ use Rattle.ir_tree.specs.declared.tree.Op.TheVariants as op
 use Rattle.ir_tree.specs.declared.tree.Predicate.{Predicate}
 use Rattle.ir_tree.specs.declared.tree.Cast.{Cast}
 use Rattle.ir_tree.specs.declared.tree.Cast.TheVariants as cast
-use Rattle.token_forms.specs.Form.{Form, never, either, give, one, upto, peek, tail, mapped, ◌>>=◌}
+use Rattle.token_forms.specs.Form.{Class, Form, never, either, give, one, upto, peek, tail, mapped, ◌>>=◌}
 use Rattle.ir_grammar.specs.declared.word.WrapWord.{WrapWord}
 use Rattle.ir_grammar.specs.declared.word.ExactWord.{ExactWord}
 use Rattle.ir_grammar.specs.declared.word.Opcode.{Opcode}
@@ -40,6 +57,20 @@ use Rattle.ir_grammar.specs.Words.{is_word_of, is_mark_of, no_flags, wrapping_op
 use Rattle.ir_grammar.specs.Spelling.{wrap_of, gep_flag_of}
 use Rattle.ir_grammar.specs.Classes.{any, word, mark, counted_mark, as_mark, local, int_type, value_type, memory_type, element_type, pointer_type, array_length, alignment, bit_type, operand_class, line_word, predicate_class, flag_word, attachment_word, attachment_or_type, metadata_number}
 
+-- ---- what may stand again, and what may be left out
+
+-- parts, as long as the next token begins one, each of which changes what was read; none passes a limit where it begins
+abbrev pub many : {A S : Type 0} {o p : Lexeme → Bool} → (goes_on : Lexeme → Bool) → (begins : S → Lexeme → Option A) → (part : S → A → Form o S) → Form p S → Form (either p (either goes_on o)) S
+many goes_on begins part first = tail goes_on begins (λ s. any) part first
+
+-- the same, where each part is one token, which gives what was read with it
+abbrev pub words : {S : Type 0} → (goes_on : Lexeme → Bool) → (next : S → Lexeme → Option S) → S → Form (either never (either goes_on never)) S
+words goes_on next start = many goes_on next (λ s more. give more) (give start)
+
+-- a word or none, and a token of the class; whether the word stands, and what the token stands for
+abbrev pub optional : {A : Type 0} → Class (Unit {0}) → Class A → Form never (Bool × A)
+optional w c = peek w (λ stands. one c >>= λ x. give (true, x)) c (λ x. give (false, x))
+
 -- ---- flags
 
 abbrev pub is_wrap : Lexeme → Bool
@@ -50,15 +81,15 @@ next_wrap ordered flags t = wrap_of ordered flags t.kind t.text
 
 -- nuw and nsw, each at most once; in this order, where they have one
 unfoldable pub wraps : Bool → Form (either never (either is_wrap never)) Flags
-wraps ordered = tail is_wrap (next_wrap ordered) (λ flags. any) (λ flags more. give more) (give no_flags)
+wraps ordered = words is_wrap (next_wrap ordered) no_flags
 
 -- a flag or none, and a type
 unfoldable pub flagged_type : Flag → Form never (Bool × WrittenIntType)
-flagged_type f = peek (flag_word f) (λ stands. one int_type >>= λ type. give (true, type)) int_type (λ type. give (false, type))
+flagged_type f = optional (flag_word f) int_type
 
 -- samesign or not, and a comparison
 unfoldable pub comparison : Form never (Bool × Predicate)
-comparison = peek (flag_word flag.SameSign) (λ stands. one predicate_class >>= λ p. give (true, p)) predicate_class (λ p. give (false, p))
+comparison = optional (flag_word flag.SameSign) predicate_class
 
 -- ---- operands
 
@@ -192,7 +223,7 @@ phi name = do
   give (line.Entries (record { into = name; of_type = type; entries = first ∷ [] }))
 
 abbrev pub with_entry : WrittenPhi → WrittenEntry → WrittenPhi
-with_entry phi entry = record { into = phi.into; of_type = phi.of_type; entries = phi.entries ++ entry ∷ [] }
+with_entry phi entry = record phi { entries = phi.entries ++ entry ∷ [] }
 
 -- behind a comma: the entry whose opening mark was read, counted at that mark
 unfoldable pub next_entry : WrittenPhi → Form never WrittenLine
@@ -231,7 +262,7 @@ unfoldable pub with_length : WrittenArrays → Form never WrittenArrays
 with_length s = do
   n ← one array_length
   times ← one (word (codes "x") refl)
-  give (record { flags = s.flags; lengths = s.lengths ++ n ∷ [] })
+  give (record s { lengths = s.lengths ++ n ∷ [] })
 
 -- what was read of arrays, and others within them
 unfoldable pub arrays : WrittenArrays → Form (either never (either is_square never)) WrittenArrays
@@ -266,7 +297,7 @@ next_gep_flag flags t = gep_flag_of flags t.kind t.text
 
 -- inbounds, and nuw behind it, or neither
 unfoldable pub gep_flags : Form (either never (either is_gep_flag never)) GepFlags
-gep_flags = tail is_gep_flag next_gep_flag (λ flags. any) (λ flags more. give more) (give no_gep_flags)
+gep_flags = words is_gep_flag next_gep_flag no_gep_flags
 
 unfoldable pub gep_arrays : Form (either (either (either never (either is_gep_flag never)) never) (either is_square never)) WrittenArrays
 gep_arrays = tail is_square array_begins array_within (λ s opening. with_length s) (mapped behind_flags gep_flags)
@@ -335,7 +366,7 @@ unfoldable pub align_or_attachment : WrittenAccess → Form never WrittenLine
 align_or_attachment a = peek (word (codes "align") refl) (λ align_word. aligned a) attachment_word (λ kind_word. attached (line.Inst (inst.Access a (default_align a))))
 
 abbrev pub with_index : WrittenGep → WrittenIndex → WrittenGep
-with_index g index = record { into = g.into; flags = g.flags; of_type = g.of_type; base = g.base; indices = g.indices ++ index ∷ [] }
+with_index g index = record g { indices = g.indices ++ index ∷ [] }
 
 -- value, behind the type of an index
 unfoldable pub next_index : WrittenGep → WrittenIntType → Form never WrittenLine
