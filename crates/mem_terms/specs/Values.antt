@@ -42,14 +42,18 @@ pub record IsNaming (name : ℕ → BlockName) : Type 0 where
   pub null : name 0 ≡ Null
   pub apart : (i j : ℕ) → name i ≡ name j → i ≡ j
 
--- where so many blocks are given, their numbers follow null's 0, and behind them come those of allocas, 65,536 for each turn
+-- the number of the first local block where n blocks are given: it is above each number of 3 bits, which a pointer of an input has
+unfoldable pub first_local : ℕ → ℕ
+first_local given = if nat_lt given 8 then 8 else given + 1
+
+-- the numbers of given blocks follow null's 0, and after them come those of allocas, 65,536 for each turn; no memory has a block of a number between
 abbrev pub block_name : ℕ → ℕ → BlockName
 block_name given zero = Null
-block_name given (suc k) = if nat_lt k given then Given (suc k) else Local ((k - given) / 65536) ((k - given) % 65536)
+block_name given (suc k) = if nat_lt (suc k) (first_local given) then Given (suc k) else Local ((suc k - first_local given) / 65536) ((suc k - first_local given) % 65536)
 
 -- the number of the block that the alloca of this number makes in a turn
 abbrev pub local_number : (given turn alloca : ℕ) → ℕ
-local_number given turn alloca = given + 1 + (turn * 65536 + alloca)
+local_number given turn alloca = first_local given + (turn * 65536 + alloca)
 
 abbrev pub reading : ℕ → (ℕ → ℕ → ℕ) → Reading
 reading given v = record { v = v; name = block_name given }

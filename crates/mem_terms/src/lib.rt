@@ -16,7 +16,7 @@ mod outcome;
 mod truths;
 mod values;
 
-pub use blocks::SymBlock;
+pub use blocks::{SymBlock, last_given_number};
 pub use bytes::{SymByte, pick_byte, poison_byte};
 pub use given::{arg_value, given_blocks, pick_block, pick_given};
 pub use inputs::{ArgTerms, ByteTerms, InputTerms, TapeTerms};

@@ -4,13 +4,15 @@ ghost use Rattle.std.specs.Prelude.{◌<◌, ◌≤◌, ◌-◌, ◌^◌, ℕ, I
 ghost use Rattle.bv_terms.specs.Tree.{width_of};
 ghost use Rattle.bv_terms.specs.Trees.{term_at, tree_in};
 
-use crate::reading::term;
+use crate::reading::{number, term};
 use bv_terms::{BinaryOp, Term, TermId, Terms};
+use term_folds::numbers::ones;
 
 /// How many bits the number surely fits: those that it had before it was widened.
 fn bits_before(terms: &Terms, a: TermId) -> u32
     requires { a.index < length terms.now }
     ensures range { (v : ℕ → ℕ → ℕ) → term_at v terms.now a < 2 ^ result }
+    ensures least { 1 ≤ result }
     ensures most { result ≤ 128 }
 {
     terms.values_fit();
@@ -53,5 +55,18 @@ pub fn is_sum_with(terms: &Terms, a: TermId, b: TermId) -> bool
             false
         }
         _ => false,
+    }
+}
+
+/// Whether the first surely is less than the second: a constant above each number of the width that
+/// the first had before it was widened.
+pub fn is_below_number(terms: &Terms, a: TermId, b: TermId) -> bool
+    requires a { a.index < length terms.now }
+    requires b { b.index < length terms.now }
+    ensures { IsTrue result → (v : ℕ → ℕ → ℕ) → term_at v terms.now a < term_at v terms.now b }
+{
+    match number(terms, b) {
+        Some(value) => value > ones(bits_before(terms, a)),
+        None => false,
     }
 }
