@@ -2,12 +2,12 @@
 use Rattle.std.proofs.Common.{ℕ, suc, zero, ◌+◌, ◌*◌, ◌/◌, ◌%◌, ◌^◌, ◌≡◌, ◌≢◌, ◌<◌, ◌≤◌, ◌⊎◌, inl, inr, Bool, true, false, cond, ◌&&◌, List, [], ◌∷◌, length, get_or, set, replicate, min, refl, ap, sym, ◌∙◌, arith, bit_and, bit_or, length-set}
 use Rattle.std.specs.Prelude.{nat_eq}
 use Rattle.std.specs.Int.{bit_at}
-use Rattle.std.proofs.lemmas.List.{same_lists, get_or-set_same, get_or-set_other, get_or-replicate, length-replicate}
+use Rattle.std.proofs.lemmas.List.{same_lists, get_or_past, get_or-set_same, get_or-set_other, get_or-replicate, length-replicate}
 use Rattle.std.proofs.lemmas.List.FromFn.{length-map-range_with_len, get_or-map-range_with_len}
 use Rattle.std.proofs.lemmas.List.Sums.{sum_by-cons}
 use Rattle.std.proofs.lemmas.Nat.{and_le_l, div-mul-add, mod-mul-add, div_below, mod_below}
 use Rattle.std.proofs.lemmas.Nat.Bits.{bit_at-lt, bit_at_and, bit_at_set_same, bit_at_set_other, same_from_bits_below, bit_at_ones, bit_at-zero}
-use Rattle.std.proofs.lemmas.Bool.{cases_eq, and_right}
+use Rattle.std.proofs.lemmas.Bool.{cases_eq, cases_lt, and_right}
 use Rattle.std.proofs.lemmas.Bool.Decides.{nat_tests}
 use Rattle.std.specs.Int.{w64}
 use Rattle.definite_assignment.specs.Sets.{both, has_bit, has_name, names_in}
@@ -191,15 +191,21 @@ set_is-add words given new s name e view below is =
     long : length s ≡ 64 * length words
     long = ap length (sym whole) ∙ length-names_in words
 
-pub set_is-has : (words given : List ℕ) (s : List Bool) (name : ℕ) → words ≡ given → names_in given ≡ s → name < length s → has_bit words name ≡ has_name s name
-set_is-has words given s name e view below =
-    sym (has_name-names_in words name (omega (arith, below, long))) ∙ ap (λ t. has_name t name) whole
-  where
-    whole : names_in words ≡ s
-    whole = ap names_in e ∙ view
+-- past the words there is no name
+has_bit-past : (words : List ℕ) (name : ℕ) → 64 * length words ≤ name → has_bit words name ≡ false
+has_bit-past words name past =
+    let gone : length words ≤ name / 64 = omega (arith, past) in
+    ap (λ w. nat_eq (bit_at w (name % 64)) 1) (get_or_past words (name / 64) 0 gone) ∙ ap (λ d. nat_eq d 1) (bit_at-zero (name % 64))
 
-    long : length s ≡ 64 * length words
-    long = ap length (sym whole) ∙ length-names_in words
+has_name-words : (words : List ℕ) (name : ℕ) → has_name (names_in words) name ≡ has_bit words name
+has_name-words words name = cases (cases_lt name (64 * length words))
+  where
+    cases : (name < 64 * length words) ⊎ (64 * length words ≤ name) → has_name (names_in words) name ≡ has_bit words name
+    cases (inl below) = has_name-names_in words name below
+    cases (inr past) = get_or_past (names_in words) name false (omega (arith, past, length-names_in words)) ∙ sym (has_bit-past words name past)
+
+pub set_is-has : (words given : List ℕ) (s : List Bool) (name : ℕ) → words ≡ given → names_in given ≡ s → has_bit words name ≡ has_name s name
+set_is-has words given s name e view = sym (has_name-words words name) ∙ ap (λ t. has_name t name) (ap names_in e ∙ view)
 
 -- sets with as many places are kept by as many words
 pub same_words : (words others : List ℕ) (s t : List Bool) → names_in words ≡ s → names_in others ≡ t → length s ≡ length t → length words ≡ length others

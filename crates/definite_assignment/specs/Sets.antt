@@ -33,3 +33,11 @@ abbrev pub both : List Bool → List Bool → List Bool
 both [] other = []
 both (x ∷ xs) [] = []
 both (x ∷ xs) (y ∷ ys) = (x && y) ∷ both xs ys
+
+-- the column of a name: the place of it in a set
+abbrev pub column_of : List ℕ → ℕ → ℕ
+column_of columns name = slice_index_or columns name 0
+
+-- the sets of names, where each name has its column in the sets
+abbrev pub by_columns : List ℕ → List (List Bool) → List (List Bool)
+by_columns columns sets = map (λ set. map (has_name set) columns) sets

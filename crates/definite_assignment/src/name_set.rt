@@ -45,9 +45,8 @@ impl NameSet {
         })
     }
 
-    /// Whether a name is in the set.
+    /// Whether a name is in the set; none is that the set has no place for.
     pub fn has(&self, name: usize) -> bool
-        requires { name < length self.now }
         ensures { result ≡ has_name self.now name }
     {
         words::has(&self.words, name)

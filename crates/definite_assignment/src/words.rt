@@ -15,12 +15,11 @@ pub fn alike(alloc: Global, word: u64, names: usize) -> Result<Vec<u64>, NoMemor
     Ok(words)
 }
 
-/// Whether the words have a name.
+/// Whether the words have a name; none is past them.
 pub fn has(words: &[u64], name: usize) -> bool
-    requires { name < 64 * length words.now }
     ensures { result ≡ has_bit words.now name }
 {
-    let word = words[name / BITS];
+    let word = words.get(name / BITS).copied().unwrap_or(0);
     (word >> (name % BITS)) & 1 == 1
 }
 

@@ -1,7 +1,7 @@
 use Rattle.std.proofs.Common.{◌≡◌, length}
 use Rattle.definite_assignment.specs.Sets.{places_for}
 use Rattle.definite_assignment.specs.Work.{IsSearch, rest_of, state_of}
-use Rattle.definite_assignment.proofs.assigned_before.Given as goal
+use Rattle.definite_assignment.proofs.fixpoint.Given as goal
 
 abbrev pub invariant-loop : goal.invariant-loop
 invariant-loop l = record { search : IsSearch l.successors l.assigns (length l.leaving) (state_of l.work); room : length l.leaving ≡ places_for l.names }
