@@ -1,5 +1,6 @@
 mod Answered
 mod Decoded
+mod Encoding
 mod Excluding
 mod Extending
 mod Findings

@@ -17,26 +17,26 @@ use Rattle.mem_terms.specs.Inputs.{IsInput, words_at}
 use Rattle.mem_terms.specs.Outcomes.{IsOutcome, LeavesGiven, Shows, outcome_at}
 use Rattle.mem_terms.proofs.Eaches.{map-length}
 use Rattle.mem_terms.proofs.Later.{keeps_trans, bit-later, input_at-later, is_input-later, is_outcome-later, outcome-later}
-use Rattle.unroll.specs.Layers.{copies_of}
 use Rattle.instantiate.specs.declared.goals.Trial.{Trial}
 use Rattle.instantiate.specs.Candidates.{IsTrial, input_in, none_allows, outcome_in}
+use Rattle.instantiate.specs.Encodables.{IsEncodable}
 use Rattle.encoder.specs.Frontier.{CanRun}
 
 -- ---- what tapes are tried for
 
 pub trial_later : (old new : List Term) (k : Keeps old new) (t : Trial) → IsTrial old t → IsTrial new t
 trial_later old new k t h = record {
-  layers = h.layers;
+  source = h.source;
   run = h.run;
-  input = is_input-later old new k t.source.now.parameters t.bounds.now.blocks t.bounds.now.bytes t.input.now h.input;
+  input = is_input-later old new k t.source.now.of.now.parameters t.bounds.now.blocks t.bounds.now.bytes t.input.now h.input;
   target = is_outcome-later old new k t.target.now h.target;
   given = h.given;
 }
 
-pub a_trial : (terms : List Term) (t : Trial) (f : Function) → t.source.now ≡ f → t.layered.now.copies ≡ copies_of t.bounds.now.turns f → CanRun f → IsInput f.parameters t.bounds.now.blocks t.bounds.now.bytes terms t.input.now
+pub a_trial : (terms : List Term) (t : Trial) (f : Function) → t.source.now.of.now ≡ f → IsEncodable t.bounds.now.turns t.source.now → CanRun f → IsInput f.parameters t.bounds.now.blocks t.bounds.now.bytes terms t.input.now
     → IsOutcome terms t.target.now → LeavesGiven t.bounds.now.blocks t.bounds.now.bytes t.target.now → IsTrial terms t
-a_trial terms t f is copies run input target given = record {
-  layers = copies ∙ ap (copies_of t.bounds.now.turns) (sym is);
+a_trial terms t f is source run input target given = record {
+  source = source;
   run = subst CanRun (sym is) run;
   input = subst (λ (g : Function). IsInput g.parameters t.bounds.now.blocks t.bounds.now.bytes terms t.input.now) (sym is) input;
   target = target;

@@ -6,7 +6,6 @@ use Rattle.points.specs.declared.point.Input.{Input}
 use Rattle.points.specs.declared.outcome.Outcome.{Outcome}
 use Rattle.points.specs.Refines.{is_refined}
 use Rattle.points.specs.Run.{run_of}
-use Rattle.unroll.specs.Layers.{copies_of}
 use Rattle.bv_terms.specs.declared.term.TermId.{TermId}
 use Rattle.bv_terms.specs.declared.term.Term.{Term}
 use Rattle.bv_terms.specs.Trees.{Tests, bit_at}
@@ -17,6 +16,7 @@ use Rattle.mem_terms.specs.Values.{Each, reading}
 use Rattle.mem_terms.specs.Inputs.{AreWords, IsInput, input_at, words_at}
 use Rattle.mem_terms.specs.Outcomes.{IsOutcome, LeavesGiven, outcome_at}
 use Rattle.instantiate.specs.declared.goals.Trial.{Trial}
+use Rattle.instantiate.specs.Encodables.{IsEncodable}
 use Rattle.encoder.specs.Frontier.{CanRun}
 
 -- the words of these tapes
@@ -36,11 +36,11 @@ unfoldable pub none_allows : Function → Bounds → Input → Outcome → List 
 none_allows f bounds input target [] = true
 none_allows f bounds input target (tape ∷ tapes) = not (is_refined (run_of f bounds input tape).outcome target) && none_allows f bounds input target tapes
 
--- the layers are the source's, and the input and the outcome, which leaves so many given blocks of so many bytes, are made of these terms
+-- the source may be encoded, and the input and the outcome, which leaves so many given blocks of so many bytes, are made of these terms
 pub record IsTrial (terms : List Term) (t : Trial) : Type 0 where
-  pub layers : t.layered.now.copies ≡ copies_of t.bounds.now.turns t.source.now
-  pub run : CanRun t.source.now
-  pub input : IsInput t.source.now.parameters t.bounds.now.blocks t.bounds.now.bytes terms t.input.now
+  pub source : IsEncodable t.bounds.now.turns t.source.now
+  pub run : CanRun t.source.now.of.now
+  pub input : IsInput t.source.now.of.now.parameters t.bounds.now.blocks t.bounds.now.bytes terms t.input.now
   pub target : IsOutcome terms t.target.now
   pub given : LeavesGiven t.bounds.now.blocks t.bounds.now.bytes t.target.now
 
@@ -53,4 +53,4 @@ outcome_in bounds v terms o = outcome_at (reading bounds.blocks v) terms o
 
 -- true where the goal is and the source's run on none of the tapes allows the target's outcome
 abbrev pub Narrows : Trial → (old new : List Term) → (goal : TermId) → (tapes : (ℕ → ℕ → ℕ) → List (List ℕ)) → TermId → Type 0
-Narrows t old new goal tapes id = Tests new id (λ v. bit_at v old goal && none_allows t.source.now t.bounds.now (input_in t.bounds.now v old t.input.now) (outcome_in t.bounds.now v old t.target.now) (tapes v))
+Narrows t old new goal tapes id = Tests new id (λ v. bit_at v old goal && none_allows t.source.now.of.now t.bounds.now (input_in t.bounds.now v old t.input.now) (outcome_in t.bounds.now v old t.target.now) (tapes v))

@@ -1,3 +1,4 @@
+pub mod Encodables
 pub mod Candidates
 pub mod Numbers
 pub mod Orders

@@ -11,19 +11,21 @@ use Rattle.mem_terms.specs.declared.outcome.OutcomeTerms.{OutcomeTerms}
 use Rattle.mem_terms.specs.Values.{reading}
 use Rattle.mem_terms.specs.Inputs.{words_at}
 use Rattle.mem_terms.specs.Outcomes.{IsOutcome, LeavesGiven, Shows}
-use Rattle.unroll.specs.Layers.{copies_of}
 use Rattle.instantiate.specs.declared.subject.Subject.{Subject}
 use Rattle.instantiate.specs.Candidates.{input_in}
+use Rattle.instantiate.specs.Encodables.{IsEncodable}
 use Rattle.instantiate.specs.Questions.{CanBeAsked}
 use Rattle.instantiate.specs.Shapes.{IsShapeOf}
 
--- a pair that may be asked about, with the shape of its points, its layers and the words of a tape of its source
+-- a pair that may be asked about, with the shape of its points, its functions as they are encoded and the words of a tape of its source
 pub record IsSubject (s : Subject) : Type 0 where
   pub ready : CanBeAsked s.pair.now s.bounds.now
   pub signature : same_signature s.pair.now.source s.pair.now.target ≡ true
   pub shape : IsShapeOf s.pair.now s.bounds.now s.shape
-  pub of_source : s.of_source.copies ≡ copies_of s.bounds.now.turns s.pair.now.source
-  pub of_target : s.of_target.copies ≡ copies_of s.bounds.now.turns s.pair.now.target
+  pub of_source : s.source.of.now ≡ s.pair.now.source
+  pub of_target : s.target.of.now ≡ s.pair.now.target
+  pub source : IsEncodable s.bounds.now.turns s.source
+  pub target : IsEncodable s.bounds.now.turns s.target
   pub need : s.need ≡ need_of s.bounds.now.turns s.pair.now.source
 
 -- the outcome of the target's run on the input and the tape

@@ -13,24 +13,21 @@ ghost use Rattle.instantiate.specs.Questions.{IsCovering, IsUncovered};
 ghost use Rattle.instantiate.specs.Subjects.{IsOfTarget, IsSubject};
 
 use crate::candidates::shifted_tapes;
+use crate::encodable::Encodable;
 use crate::known::known_input;
 use crate::subject::Subject;
 use crate::tapes::known;
 use bv_terms::{TermId, Terms};
-use encoder::encode;
-use ir_tree::Function;
 use mem_terms::{InputTerms, OutcomeTerms, TapeTerms, both, negation};
 use points::{Bounds, Point};
 use refine_terms::{covered, well_point};
 use std::alloc::Global;
 use support::NoMemory;
-use unroll::Layered;
 
 /// What tapes of the source are tried for: an input, and the target's outcome on it.
 #[derive(Clone, Copy)]
 struct Trial<'t> {
-    source: &'t Function,
-    layered: &'t Layered,
+    source: &'t Encodable<'t>,
     bounds: &'t Bounds,
     input: &'t InputTerms,
     target: &'t OutcomeTerms,
@@ -50,15 +47,9 @@ fn and_uncovered(
     ensures made { IfOk result (Narrows trial.now terms.old terms.new goal (λ v. words_at v terms.old candidate.now.words ∷ [])) }
     ensures kept { Keeps terms.old terms.new }
 {
-    let source = encode(
-        alloc,
-        trial.source,
-        trial.layered,
-        trial.bounds,
-        trial.input,
-        candidate,
-        terms,
-    )?;
+    let source = trial
+        .source
+        .encode(alloc, trial.bounds, trial.input, candidate, terms)?;
     let is_covered = covered(&source, trial.target, terms)?;
     let is_uncovered = negation(terms, is_covered)?;
     let id = both(terms, goal, is_uncovered)?;
@@ -128,8 +119,7 @@ pub fn and_no_tape(
 {
     let candidate = known(alloc, tape, terms)?;
     let trial = Trial {
-        source: subject.pair.source(),
-        layered: &subject.of_source,
+        source: &subject.source,
         bounds: subject.bounds,
         input,
         target,
@@ -152,15 +142,9 @@ pub fn target_run(
     ensures made { IfOk result (IsOfTarget subject.now.pair.now subject.now.bounds.now terms.new input.now tape.now) }
     ensures kept { Keeps terms.old terms.new }
 {
-    let outcome = encode(
-        alloc,
-        subject.pair.target(),
-        &subject.of_target,
-        subject.bounds,
-        input,
-        tape,
-        terms,
-    )?;
+    let outcome = subject
+        .target
+        .encode(alloc, subject.bounds, input, tape, terms)?;
     Ok(outcome)
 }
 
@@ -182,8 +166,7 @@ pub fn unshifted(
 {
     let is_point = well_point(&subject.shape, input, tape, target, terms)?;
     let trial = Trial {
-        source: subject.pair.source(),
-        layered: &subject.of_source,
+        source: &subject.source,
         bounds: subject.bounds,
         input,
         target,
@@ -212,15 +195,9 @@ pub fn covering(
     let input = known_input(alloc, &subject.shape, point, terms)?;
     let choices = known(alloc, point.tape.as_slice(), terms)?;
     let target = target_run(alloc, subject, &input, &choices, terms)?;
-    let source = encode(
-        alloc,
-        subject.pair.source(),
-        &subject.of_source,
-        subject.bounds,
-        &input,
-        tape,
-        terms,
-    )?;
+    let source = subject
+        .source
+        .encode(alloc, subject.bounds, &input, tape, terms)?;
     let id = covered(&source, &target, terms)?;
     Ok(id)
 }

@@ -10,6 +10,7 @@
 
 mod asking;
 mod candidates;
+mod encodable;
 mod found;
 mod goals;
 mod inputs;

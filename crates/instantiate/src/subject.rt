@@ -5,20 +5,21 @@ ghost use Rattle.instantiate.specs.Questions.{CanBeAsked};
 ghost use Rattle.instantiate.specs.Shapes.{IsShapeOf};
 ghost use Rattle.instantiate.specs.Subjects.{IsSubject};
 
+use crate::encodable::Encodable;
 use points::{Bounds, Pair, Shape};
 use std::alloc::Global;
 use support::{NoMemory, Sequence};
-use unroll::{Layered, layers, need, widest_of};
+use unroll::{need, widest_of};
 
-/// A pair within bounds, what its points look like, the layers of both functions, and how many words
-/// a tape of the source has.
+/// A pair within bounds, what its points look like, both functions as they are encoded, and how many
+/// words a tape of the source has.
 #[derive(Drop)]
 pub struct Subject<'p, 'm> {
     pub pair: &'p Pair<'m>,
     pub bounds: &'p Bounds,
     pub shape: Shape,
-    pub of_source: Layered,
-    pub of_target: Layered,
+    pub source: Encodable<'m>,
+    pub target: Encodable<'m>,
     pub need: u64,
 }
 
@@ -50,16 +51,15 @@ impl<'p, 'm> Subject<'p, 'm> {
         ensures bounds { IfOk result (λ subject. subject.bounds.now ≡ bounds.now) }
     {
         let shape = shape_of(alloc, pair, bounds)?;
-        let source = pair.source();
-        let of_source = layers(alloc, source, bounds.turns)?;
-        let of_target = layers(alloc, pair.target(), bounds.turns)?;
-        let need = need(source, bounds.turns);
+        let source = Encodable::new(alloc, pair.source(), bounds.turns)?;
+        let target = Encodable::new(alloc, pair.target(), bounds.turns)?;
+        let need = need(source.of, bounds.turns);
         Ok(Subject {
             pair,
             bounds,
             shape,
-            of_source,
-            of_target,
+            source,
+            target,
             need,
         })
     }

@@ -16,6 +16,8 @@ mod report_tests;
 #[cfg(test)]
 mod settle_tests;
 #[cfg(test)]
+mod slot_tests;
+#[cfg(test)]
 mod verdict_tests;
 
 pub use both::{Both, both_verdicts};

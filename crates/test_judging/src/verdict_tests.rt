@@ -5,8 +5,8 @@ ghost use Rattle.std.specs.Prelude.{◌≤◌};
 
 use crate::pairs::pair_in;
 use crate::{Both, both_verdicts};
-use byte_block::Value;
 use byte_block::Value::{Num, Poison};
+use byte_block::{BlockName, Ptr, Value};
 use ir_reader::read;
 use points::{Bounds, Budget, Cause, Point, Verdict};
 use std::alloc::Global;
@@ -29,6 +29,11 @@ struct Row {
     weight: u64,
     wanted: Wanted,
 }
+
+const NULL: Value = Value::Ptr(Ptr {
+    block: BlockName::Null,
+    offset: 0,
+});
 
 const ANY_SUM: &str = "define i4 @s(i4 %x) {
   %a = freeze i4 poison
@@ -272,6 +277,94 @@ const ROWS: [Row; 25] = [
     },
 ];
 
+/// Pairs over memory. Counting goes through the offsets of a pointer argument from null on, so the only
+/// pair with one differs at null.
+const MEMORY: [Row; 9] = [
+    Row {
+        name: "what was stored is loaded",
+        pair: "define i8 @s(i8 %x) {\n  %a = alloca i8\n  store i8 %x, ptr %a\n  \
+               %v = load i8, ptr %a\n  ret i8 %v\n}\ndefine i8 @t(i8 %x) {\n  ret i8 %x\n}\n",
+        blocks: 0,
+        rounds: 15,
+        weight: 100_000,
+        wanted: Wanted::Correct,
+    },
+    Row {
+        name: "the least significant byte comes first",
+        pair: "define i8 @s() {\n  %a = alloca i16\n  store i16 258, ptr %a\n  \
+               %v = load i8, ptr %a\n  ret i8 %v\n}\ndefine i8 @t() {\n  ret i8 2\n}\n",
+        blocks: 0,
+        rounds: 15,
+        weight: 100_000,
+        wanted: Wanted::Correct,
+    },
+    Row {
+        name: "a byte that was not stored is poison",
+        pair: "define i8 @s() {\n  ret i8 7\n}\ndefine i8 @t() {\n  %a = alloca i16\n  \
+               store i8 7, ptr %a\n  %p = getelementptr i8, ptr %a, i64 1\n  \
+               %v = load i8, ptr %p\n  ret i8 %v\n}\n",
+        blocks: 0,
+        rounds: 15,
+        weight: 100_000,
+        wanted: Wanted::Incorrect(&[], &[]),
+    },
+    Row {
+        name: "an access past the end is undefined in the source",
+        pair: "define i8 @s() {\n  %a = alloca i8\n  %p = getelementptr i8, ptr %a, i64 1\n  \
+               store i8 1, ptr %p\n  ret i8 0\n}\ndefine i8 @t() {\n  ret i8 1\n}\n",
+        blocks: 0,
+        rounds: 15,
+        weight: 100_000,
+        wanted: Wanted::Correct,
+    },
+    Row {
+        name: "an access past the end is undefined in the target",
+        pair: "define i8 @s() {\n  ret i8 0\n}\ndefine i8 @t() {\n  %a = alloca i8\n  \
+               %p = getelementptr i8, ptr %a, i64 1\n  store i8 1, ptr %p\n  ret i8 0\n}\n",
+        blocks: 0,
+        rounds: 15,
+        weight: 100_000,
+        wanted: Wanted::Incorrect(&[], &[]),
+    },
+    Row {
+        name: "a pointer that was stored is loaded whole",
+        pair: "define i8 @s(i8 %x) {\n  %a = alloca ptr\n  %b = alloca i8\n  store ptr %b, ptr %a\n  \
+               %p = load ptr, ptr %a\n  store i8 %x, ptr %p\n  %v = load i8, ptr %b\n  ret i8 %v\n}\n\
+               define i8 @t(i8 %x) {\n  ret i8 %x\n}\n",
+        blocks: 0,
+        rounds: 15,
+        weight: 100_000,
+        wanted: Wanted::Correct,
+    },
+    Row {
+        name: "local blocks are alike once they are freed",
+        pair: "define ptr @s() {\n  %a = alloca i8\n  ret ptr %a\n}\n\
+               define ptr @t() {\n  %a = alloca i16\n  ret ptr %a\n}\n",
+        blocks: 2,
+        rounds: 15,
+        weight: 100_000,
+        wanted: Wanted::Correct,
+    },
+    Row {
+        name: "null breaks nonnull",
+        pair: "define ptr @s(ptr %p) {\n  ret ptr %p\n}\n\
+               define ptr @t(ptr nonnull %p) {\n  ret ptr %p\n}\n",
+        blocks: 2,
+        rounds: 15,
+        weight: 100_000,
+        wanted: Wanted::Incorrect(&[NULL], &[]),
+    },
+    Row {
+        name: "a frozen pointer has an offset too",
+        pair: "define ptr @s() {\n  ret ptr null\n}\n\
+               define ptr @t() {\n  %q = freeze ptr poison\n  ret ptr %q\n}\n",
+        blocks: 2,
+        rounds: 15,
+        weight: 100_000,
+        wanted: Wanted::Incorrect(&[], &[0, 1]),
+    },
+];
+
 fn is_point(point: &Point, args: &[Value], tape: &[u64]) -> bool {
     point.input.args.as_slice() == args && point.tape.as_slice() == tape
 }
@@ -318,6 +411,14 @@ fn is_right(alloc: Global, row: &Row) -> Result<bool, Fail> {
         }
         None => Ok(false),
     }
+}
+
+#[test]
+fn both_judges_give_the_wanted_verdict_over_memory(rt: HostRuntime) -> Result<(), Fail> {
+    for row in &MEMORY {
+        assert!(rt; is_right(rt.alloc(), row)?, "{}", row.name);
+    }
+    Ok(())
 }
 
 #[test]

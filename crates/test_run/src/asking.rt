@@ -6,7 +6,7 @@ use std::collections::BTreeMap;
 use std::test::*;
 use std::thread::Threads;
 use support::NoMemory;
-use tv_io::{MemoryShelf, MemorySink};
+use tv_io::{FailingSink, MemoryShelf, MemorySink, Shelf};
 use tv_run::run;
 
 /// The first line of a report at the default limits.
@@ -60,24 +60,58 @@ pub fn shelf_of(alloc: Global, source: Vec<u8>, target: Vec<u8>) -> Result<Memor
     Ok(MemoryShelf::new(files))
 }
 
+/// What a run of a command line over a shelf writes, and its status.
+pub fn written<R: AllocGlobal + Threads + Sync, S: Shelf>(
+    rt: &R,
+    shelf: &mut S,
+    line: &str,
+) -> Result<(Vec<u8>, u8), NoMemory> {
+    let alloc = rt.alloc();
+    let mut out = MemorySink::new(alloc, 1_000)?;
+    let arguments = arguments_of(alloc, line)?;
+    let mut judged = Vec::new(alloc);
+    let status = run(
+        rt,
+        arguments.as_slice(),
+        shelf,
+        &mut out,
+        &OpenGate,
+        &mut judged,
+    );
+    Ok((out.bytes, status))
+}
+
+/// What a run writes to a sink that takes ten bytes a call and fails at one of its calls, and its status.
+pub fn written_until<R: AllocGlobal + Threads + Sync>(
+    rt: &R,
+    shelf: &mut MemoryShelf,
+    line: &str,
+    failing: u64,
+) -> Result<(Vec<u8>, u8), NoMemory> {
+    let alloc = rt.alloc();
+    let mut out = FailingSink::new(alloc, 1_000, 10, vec![in alloc; failing]?)?;
+    let arguments = arguments_of(alloc, line)?;
+    let mut judged = Vec::new(alloc);
+    let status = run(
+        rt,
+        arguments.as_slice(),
+        shelf,
+        &mut out,
+        &OpenGate,
+        &mut judged,
+    );
+    let taken = Vec::from_slice(alloc, out.sink.bytes.as_slice())?;
+    Ok((taken, status))
+}
+
 /// Whether a row's output and status are what `run` answers.
 pub fn is_answered<R: AllocGlobal + Threads + Sync>(rt: &R, row: &Row) -> Result<bool, Fail> {
     let alloc = rt.alloc();
     let source = Vec::from_slice(alloc, row.source.as_bytes())?;
     let target = Vec::from_slice(alloc, row.target.as_bytes())?;
     let mut shelf = shelf_of(alloc, source, target)?;
-    let mut out = MemorySink::new(alloc, 1_000)?;
-    let arguments = arguments_of(alloc, row.line)?;
-    let mut judged = Vec::new(alloc);
-    let status = run(
-        rt,
-        arguments.as_slice(),
-        &mut shelf,
-        &mut out,
-        &OpenGate,
-        &mut judged,
-    );
-    Ok(status == row.status && is_output(out.bytes.as_slice(), &[row.first, row.rows, row.last]))
+    let (bytes, status) = written(rt, &mut shelf, row.line)?;
+    Ok(status == row.status && is_output(bytes.as_slice(), &[row.first, row.rows, row.last]))
 }
 
 /// Whether the bytes are the pieces, one after the other.

@@ -12,6 +12,8 @@ mod choice_tests;
 #[cfg(test)]
 mod cli_tests;
 #[cfg(test)]
+mod cut_tests;
+#[cfg(test)]
 mod flow_tests;
 #[cfg(test)]
 mod in_memory_tests;

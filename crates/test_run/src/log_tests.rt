@@ -3,15 +3,12 @@
 //! The clauses and steps are worked out by hand. A file that `check` wrote is checked by `log`, which
 //! must find each part verified.
 
-use crate::asking::{arguments_of, is_output, shelf_of};
-use pair_driver::OpenGate;
+use crate::asking::{is_output, shelf_of, written};
 use std::alloc::Global;
 use std::collections::BTreeMap;
 use std::test::*;
-use std::thread::Threads;
 use support::NoMemory;
-use tv_io::{FailingShelf, MemorySink, Shelf};
-use tv_run::run;
+use tv_io::{FailingShelf, Shelf};
 
 /// Proof files, or texts that are none: what is written of them, and the status.
 const TEXTS: [(&str, &str, u8); 13] = [
@@ -74,36 +71,15 @@ const TEXTS: [(&str, &str, u8); 13] = [
     ),
 ];
 
-/// What a run over a shelf writes, and its status.
-fn asked<R: AllocGlobal + Threads + Sync, S: Shelf>(
-    rt: &R,
-    shelf: &mut S,
-    line: &str,
-) -> Result<(Vec<u8>, u8), NoMemory> {
-    let alloc = rt.alloc();
-    let mut out = MemorySink::new(alloc, 1_000)?;
-    let arguments = arguments_of(alloc, line)?;
-    let mut judged = Vec::new(alloc);
-    let status = run(
-        rt,
-        arguments.as_slice(),
-        shelf,
-        &mut out,
-        &OpenGate,
-        &mut judged,
-    );
-    Ok((out.bytes, status))
-}
-
 #[test]
 fn each_part_is_verified_or_has_a_bad_step(rt: HostRuntime) -> Result<(), Fail> {
     let alloc = rt.alloc();
     for (text, output, status) in TEXTS.iter() {
         let text = Vec::from_slice(alloc, text.as_bytes())?;
         let mut shelf = shelf_of(alloc, text, Vec::new(alloc))?;
-        let (written, answer) = asked(&rt, &mut shelf, "tv log A")?;
+        let (bytes, answer) = written(&rt, &mut shelf, "tv log A")?;
         assert!(rt;
-            answer == *status && is_output(written.as_slice(), &[*output]),
+            answer == *status && is_output(bytes.as_slice(), &[*output]),
             "{output}"
         );
     }
@@ -128,11 +104,11 @@ fn proof_files_of_reports_are_verified(rt: HostRuntime) -> Result<(), Fail> {
         let source = Vec::from_slice(alloc, source.as_bytes())?;
         let target = Vec::from_slice(alloc, target.as_bytes())?;
         let mut shelf = shelf_of(alloc, source, target)?;
-        let (_, answer) = asked(&rt, &mut shelf, "tv check A B --proof P")?;
+        let (_, answer) = written(&rt, &mut shelf, "tv check A B --proof P")?;
         assert!(rt; answer == *status, "{output}");
-        let (written, answer) = asked(&rt, &mut shelf, "tv log P")?;
+        let (bytes, answer) = written(&rt, &mut shelf, "tv log P")?;
         assert!(rt;
-            answer == 0 && is_output(written.as_slice(), &[*output]),
+            answer == 0 && is_output(bytes.as_slice(), &[*output]),
             "{output}"
         );
     }
@@ -144,7 +120,7 @@ fn proof_files_of_reports_are_verified(rt: HostRuntime) -> Result<(), Fail> {
 fn without_functions_a_proof_file_is_its_first_line(rt: HostRuntime) -> Result<(), Fail> {
     let alloc = rt.alloc();
     let mut shelf = shelf_of(alloc, Vec::new(alloc), Vec::new(alloc))?;
-    let (_, answer) = asked(&rt, &mut shelf, "tv check A B --proof=B")?;
+    let (_, answer) = written(&rt, &mut shelf, "tv check A B --proof=B")?;
     let mut text = Vec::new(alloc);
     let fetched = shelf.fetch("B", 1_000, &mut text).is_ok();
     assert!(rt; answer == 0 && fetched && text.as_slice() == b"tvproof 1\n".as_slice());
@@ -174,9 +150,9 @@ fn the_first_failing_call_gives_the_status(rt: HostRuntime) -> Result<(), Fail> 
         (3, "cannot write P\n", 7),
     ] {
         let mut shelf = failing_shelf(rt.alloc(), call)?;
-        let (written, answer) = asked(&rt, &mut shelf, "tv check A B --proof P")?;
+        let (bytes, answer) = written(&rt, &mut shelf, "tv check A B --proof P")?;
         assert!(rt;
-            answer == status && is_output(written.as_slice(), &[output]),
+            answer == status && is_output(bytes.as_slice(), &[output]),
             "{output}"
         );
     }

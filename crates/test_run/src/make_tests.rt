@@ -1,11 +1,8 @@
 //! The command `make`: a pair of modules from a seed, judged.
 
-use crate::asking::{DEFAULTS, Row, arguments_of, is_answered, is_output, shelf_of};
-use pair_driver::OpenGate;
+use crate::asking::{DEFAULTS, Row, is_answered, is_output, shelf_of, written, written_until};
 use std::test::*;
 use std::thread::Threads;
-use tv_io::{FailingSink, MemorySink};
-use tv_run::run;
 
 /// Reports of pairs that were made and judged outside.
 const ROWS: [Row; 4] = [
@@ -60,28 +57,18 @@ fn pairs_are_made_and_judged(rt: HostRuntime) -> Result<(), Fail> {
 }
 
 /// What a command line writes.
-fn written<R: AllocGlobal + Threads + Sync>(rt: &R, line: &str) -> Result<Vec<u8>, Fail> {
+fn made<R: AllocGlobal + Threads + Sync>(rt: &R, line: &str) -> Result<Vec<u8>, Fail> {
     let alloc = rt.alloc();
     let mut shelf = shelf_of(alloc, Vec::new(alloc), Vec::new(alloc))?;
-    let mut out = MemorySink::new(alloc, 1_000)?;
-    let arguments = arguments_of(alloc, line)?;
-    let mut judged = Vec::new(alloc);
-    run(
-        rt,
-        arguments.as_slice(),
-        &mut shelf,
-        &mut out,
-        &OpenGate,
-        &mut judged,
-    );
-    Ok(out.bytes)
+    let (bytes, _) = written(rt, &mut shelf, line)?;
+    Ok(bytes)
 }
 
 #[test]
 fn what_is_made_does_not_depend_on_the_number_of_workers(rt: HostRuntime) -> Result<(), Fail> {
-    let one = written(&rt, "tv make --seed 7 --functions 64 --insts 4 --workers 1")?;
-    let two = written(&rt, "tv make --seed 7 --functions 64 --insts 4 --workers 2")?;
-    let many = written(
+    let one = made(&rt, "tv make --seed 7 --functions 64 --insts 4 --workers 1")?;
+    let two = made(&rt, "tv make --seed 7 --functions 64 --insts 4 --workers 2")?;
+    let many = made(
         &rt,
         "tv make --seed 7 --functions 64 --insts 4 --workers 64",
     )?;
@@ -96,17 +83,8 @@ fn what_is_made_does_not_depend_on_the_number_of_workers(rt: HostRuntime) -> Res
 fn a_sink_that_fails_keeps_a_prefix(rt: HostRuntime) -> Result<(), Fail> {
     let alloc = rt.alloc();
     let mut shelf = shelf_of(alloc, Vec::new(alloc), Vec::new(alloc))?;
-    let mut out = FailingSink::new(alloc, 1_000, 10, vec![in alloc; 2]?)?;
-    let arguments = arguments_of(alloc, "tv make --functions 1 --insts 1")?;
-    let mut judged = Vec::new(alloc);
-    let status = run(
-        &rt,
-        arguments.as_slice(),
-        &mut shelf,
-        &mut out,
-        &OpenGate,
-        &mut judged,
-    );
-    assert!(rt; status == 7 && is_output(out.sink.bytes.as_slice(), &["tv 1 turns"]));
+    let line = "tv make --functions 1 --insts 1";
+    let (bytes, status) = written_until(&rt, &mut shelf, line, 2)?;
+    assert!(rt; status == 7 && is_output(bytes.as_slice(), &["tv 1 turns"]));
     Ok(())
 }

@@ -1,10 +1,11 @@
 //! What no table of reports shows: files at the limit of their size, sinks that fail, and the gate.
 
-use crate::asking::{DEFAULTS, NO_ROWS, arguments_of, is_output, shelf_of};
+use crate::asking::{DEFAULTS, NO_ROWS, arguments_of, is_output, shelf_of, written, written_until};
 use pair_driver::{Gate, OpenGate};
+use std::collections::BTreeMap;
 use std::sync::atomic::{AtomicU64, Ordering};
 use std::test::*;
-use tv_io::{FailingSink, MemorySink};
+use tv_io::{MemoryShelf, MemorySink};
 use tv_run::run;
 
 /// The most bytes that a file may have.
@@ -19,52 +20,48 @@ fn files_end_at_their_limit(rt: HostRuntime) -> Result<(), Fail> {
     ] {
         let spaces = vec![in alloc; b' '; size]?;
         let mut shelf = shelf_of(alloc, spaces, Vec::new(alloc))?;
-        let mut out = MemorySink::new(alloc, 1_000)?;
-        let arguments = arguments_of(alloc, "tv check A B")?;
-        let mut judged = Vec::new(alloc);
-        let answer = run(
-            &rt,
-            arguments.as_slice(),
-            &mut shelf,
-            &mut out,
-            &OpenGate,
-            &mut judged,
-        );
+        let (bytes, answer) = written(&rt, &mut shelf, "tv check A B")?;
         assert!(rt;
-            answer == status && is_output(out.bytes.as_slice(), &output),
+            answer == status && is_output(bytes.as_slice(), &output),
             "at {size}"
         );
     }
     Ok(())
 }
 
-/// A sink that takes ten bytes a call keeps the prefix that it took. The status says that the
-/// report is cut short; that of a file without a module stays.
+/// The report of two empty modules has 138 bytes, so it takes fourteen calls. A call that fails cuts it
+/// short there, and the status says so.
 #[test]
-fn sinks_that_fail_keep_a_prefix(rt: HostRuntime) -> Result<(), Fail> {
+fn a_report_is_cut_where_the_sink_fails(rt: HostRuntime) -> Result<(), Fail> {
     let alloc = rt.alloc();
-    for (source, failing, prefix, status) in [
-        ("", 2, "tv 1 turns", 7),
-        ("define i8 @f(i8 %x) {\n  ret i8", 4, "A:2", 9),
-    ] {
-        let source = Vec::from_slice(alloc, source.as_bytes())?;
-        let mut shelf = shelf_of(alloc, source, Vec::new(alloc))?;
-        let mut out = FailingSink::new(alloc, 1_000, 10, vec![in alloc; failing]?)?;
-        let arguments = arguments_of(alloc, "tv check A B")?;
-        let mut judged = Vec::new(alloc);
-        let answer = run(
-            &rt,
-            arguments.as_slice(),
-            &mut shelf,
-            &mut out,
-            &OpenGate,
-            &mut judged,
-        );
+    let report = format!(in alloc; "{DEFAULTS}{NO_ROWS}")?;
+    for failing in 1..16 {
+        let mut shelf = shelf_of(alloc, Vec::new(alloc), Vec::new(alloc))?;
+        let (bytes, status) = written_until(&rt, &mut shelf, "tv check A B", failing)?;
+        let calls = usize::try_from(failing - 1).unwrap_or(0);
+        let whole = report.as_bytes();
+        let prefix = whole.get(..calls * 10).unwrap_or(whole);
         assert!(rt;
-            answer == status && out.sink.bytes.as_slice() == prefix.as_bytes(),
-            "{prefix}"
+            bytes.as_slice() == prefix && status == if failing < 15 { 7 } else { 0 },
+            "at call {failing}"
         );
     }
+    Ok(())
+}
+
+/// The status of a file without a module, or of one that is not there, stays where its line is cut short.
+#[test]
+fn the_first_fault_keeps_its_status(rt: HostRuntime) -> Result<(), Fail> {
+    let alloc = rt.alloc();
+    let source = Vec::from_slice(alloc, b"define i8 @f(i8 %x) {\n  ret i8")?;
+    let mut shelf = shelf_of(alloc, source, Vec::new(alloc))?;
+    let (bytes, status) = written_until(&rt, &mut shelf, "tv check A B", 1)?;
+    assert!(rt; bytes.is_empty() && status == 9);
+    let mut files = BTreeMap::new(alloc);
+    files.insert(String::from_str(alloc, "A")?, Vec::new(alloc))?;
+    let mut shelf = MemoryShelf::new(files);
+    let (bytes, status) = written_until(&rt, &mut shelf, "tv check A B", 1)?;
+    assert!(rt; bytes.is_empty() && status == 5);
     Ok(())
 }
 

@@ -23,7 +23,7 @@ loop-candidate-preserved c =
     let old = c.args.terms.now in
     let before = c.loop-candidate.terms in
     let after = c.and_uncovered.new.terms in
-    let f = c.args.trial.now.source.now in
+    let f = c.args.trial.now.source.now.of.now in
     let input = c.args.trial.now.input.now in
     let target = c.args.trial.now.target.now in
     let bounds = c.args.trial.now.bounds.now in
@@ -49,7 +49,7 @@ pub returns-clause-made : goal.returns-clause-made
 returns-clause-made c =
     let bounds = c.args.trial.now.bounds.now in
     let old = c.args.terms.now in
-    let f = c.args.trial.now.source.now in
+    let f = c.args.trial.now.source.now.of.now in
     let tapes = c.args.candidates.now in
     record {
       within = c.loop-candidate.invariant.goal.within;

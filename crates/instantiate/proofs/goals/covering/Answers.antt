@@ -30,7 +30,7 @@ encode-requires-clause-input c =
     let three = c.target_run.new.terms in
     let input = c.in_ok-input.input in
     let there = source_input one pair.source pair.target bounds.blocks bounds.bytes input c.requires.subject.signature (shape_input pair bounds s.shape one input c.requires.subject.shape c.in_ok-input.ensures.is) in
-    rw c.source.ensures (is_input-later one three (keeps_trans one c.known.new.terms three c.known.ensures.kept c.target_run.ensures.kept) pair.source.parameters bounds.blocks bounds.bytes input there)
+    rw c.requires.subject.of_source (is_input-later one three (keeps_trans one c.known.new.terms three c.known.ensures.kept c.target_run.ensures.kept) pair.source.parameters bounds.blocks bounds.bytes input there)
 
 pub encode-requires-clause-tape : goal.encode-requires-clause-tape
 encode-requires-clause-tape c =
@@ -73,7 +73,7 @@ returns-clause-made c =
     c.values_fit.ensures c.requires.words (c.requires.count ∙ c.requires.subject.need) c.requires.subject.shape c.in_ok-input.ensures.is c.in_ok-choices.ensures.are
     c.known_input.ensures.kept c.known.ensures.kept c.target_run.ensures.kept c.encode.ensures.kept
     c.in_ok-input.ensures.stands (λ v. c.in_ok-choices.ensures.stands v ∙ c.as_slice.ensures) c.in_ok-target.ensures.made
-    (λ v. rw c.source.ensures at (c.in_ok-source.ensures.stands v))
+    (λ v. rw c.requires.subject.of_source at (c.in_ok-source.ensures.stands v))
     (covered_in c.encode.new.terms c.covered.new.terms s.bounds.now c.in_ok-source.source c.in_ok-target.target c.in_ok-id.id c.in_ok-source.ensures.given c.in_ok-id.ensures.made)
 
 pub returns-clause-kept : goal.returns-clause-kept

@@ -5,10 +5,10 @@ use Rattle.instantiate.proofs.goals.target_run.Goals as goal
 pub encode-requires-clause-input : goal.encode-requires-clause-input
 encode-requires-clause-input c =
     let s = c.args.subject.now in
-    rw c.target.ensures.value (shape_input s.pair.now s.bounds.now s.shape c.args.terms.now c.args.input.now c.requires.subject.shape c.requires.input)
+    rw c.requires.subject.of_target (shape_input s.pair.now s.bounds.now s.shape c.args.terms.now c.args.input.now c.requires.subject.shape c.requires.input)
 
 pub returns-clause-made : goal.returns-clause-made
 returns-clause-made c =
     let s = c.args.subject.now in
     of_target-made c.args.terms.now c.encode.new.terms c.encode.ensures.kept s.pair.now s.bounds.now s.shape c.args.input.now c.args.tape.now c.requires.input c.requires.words c.in_ok-outcome.outcome
-    c.in_ok-outcome.ensures.made c.in_ok-outcome.ensures.given (λ v. rw c.target.ensures.value at (c.in_ok-outcome.ensures.stands v))
+    c.in_ok-outcome.ensures.made c.in_ok-outcome.ensures.given (λ v. rw c.requires.subject.of_target at (c.in_ok-outcome.ensures.stands v))

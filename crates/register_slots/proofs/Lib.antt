@@ -1,0 +1,11 @@
+pub mod Held
+pub mod Registers
+pub mod Reading
+pub mod Acting
+pub mod Leaving
+pub mod Entering
+pub mod Running
+pub mod Beginning
+pub mod RightParts
+pub mod PhiLemmas
+pub mod StandIn

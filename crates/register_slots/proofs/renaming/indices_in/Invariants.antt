@@ -1,0 +1,6 @@
+use Rattle.std.proofs.Common.{◌≡◌, ◌++◌, map, drop}
+use Rattle.register_slots.specs.Renaming.{index_in}
+use Rattle.register_slots.proofs.renaming.indices_in.Given as goal
+
+abbrev pub invariant-loop-index : goal.invariant-loop-index
+invariant-loop-index l = l.renamed ++ map (index_in l.slots) (drop l.index-index l.indices) ≡ map (index_in l.slots) l.indices

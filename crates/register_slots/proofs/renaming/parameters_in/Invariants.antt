@@ -1,0 +1,6 @@
+use Rattle.std.proofs.Common.{◌≡◌, ◌++◌, map, drop}
+use Rattle.register_slots.specs.Renaming.{parameter_in}
+use Rattle.register_slots.proofs.renaming.parameters_in.Given as goal
+
+abbrev pub invariant-loop-parameter : goal.invariant-loop-parameter
+invariant-loop-parameter l = l.renamed ++ map (parameter_in l.slots) (drop l.parameter-index l.parameters) ≡ map (parameter_in l.slots) l.parameters

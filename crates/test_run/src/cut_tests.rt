@@ -1,0 +1,56 @@
+//! Modules that are cut short: the fault of each prefix of a module's text.
+
+use crate::asking::{is_output, shelf_of, written};
+use std::alloc::Global;
+use std::test::*;
+use std::thread::Threads;
+use support::NoMemory;
+use text_places::Place;
+
+/// A module of one function.
+const INCREMENT: &str = "define i8 @f(i8 %x) {\n  %r = add i8 %x, 1\n  ret i8 %r\n}\n";
+
+/// The bytes before the mark that closes the function.
+const BEFORE_CLOSING: usize = 54;
+
+/// The bytes of the word `define`.
+const HEAD: usize = 6;
+
+/// The line of a fault at the end of a text.
+fn fault_after(alloc: Global, text: &[u8], why: &str) -> Result<String, NoMemory> {
+    let Place { line, column } = Place::start().behind(text);
+    Ok(format!(in alloc; "A:{line}:{column}: {why}\n")?)
+}
+
+/// The line of the fault of a module that is cut off before its function is closed.
+fn fault_of_cut(alloc: Global, text: &[u8]) -> Result<String, NoMemory> {
+    match text {
+        [before @ .., b'%'] => fault_after(alloc, before, "no token"),
+        [before @ .., b'@'] => fault_after(alloc, before, "no token"),
+        _ if text.len() < HEAD => fault_after(alloc, b"", "no item"),
+        _ => fault_after(alloc, text, "text ends"),
+    }
+}
+
+/// Whether `check A B` refuses the file A with this line.
+fn is_refused<R: AllocGlobal + Threads + Sync>(
+    rt: &R,
+    text: &[u8],
+    line: &str,
+) -> Result<bool, NoMemory> {
+    let alloc = rt.alloc();
+    let whole = Vec::from_slice(alloc, INCREMENT.as_bytes())?;
+    let mut shelf = shelf_of(alloc, Vec::from_slice(alloc, text)?, whole)?;
+    let (bytes, status) = written(rt, &mut shelf, "tv check A B")?;
+    Ok(status == 9 && is_output(bytes.as_slice(), &[line]))
+}
+
+#[test]
+fn each_prefix_of_a_module_has_its_fault(rt: HostRuntime) -> Result<(), Fail> {
+    for end in 1..BEFORE_CLOSING + 1 {
+        let text = INCREMENT.as_bytes().get(..end).unwrap_or(b"");
+        let line = fault_of_cut(rt.alloc(), text)?;
+        assert!(rt; is_refused(&rt, text, line.as_str())?, "{line}");
+    }
+    Ok(())
+}
