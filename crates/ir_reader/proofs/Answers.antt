@@ -30,7 +30,7 @@ nil-of (t ∷ q) h = absurd (omega arith)
 pub writes-whole : (ts rest : List Lexeme) (w : WrittenFunction) → Spells true define w ts rest → length rest < 1 → Spells true define w ts []
 writes-whole ts rest w s h = subst (λ (us : List Lexeme). Spells true define w ts us) (nil-of rest h) s
 
--- a token is left behind the function
+-- a token is left after the function
 pub writes-more : (ts rest left : List Lexeme) (w : WrittenFunction) (why : Reason) (first : Lexeme) → Spells true define w ts rest → left ≡ rest → 1 ≤ length left → first ≡ get_or left 0 first → why ≡ reason first → Writes ts (Err (fault_at (stop.Unfit why) ts left))
 writes-more ts rest [] w why first s l h is why-is = absurd (omega arith)
 writes-more ts rest (t ∷ q) w why first s l h is why-is =

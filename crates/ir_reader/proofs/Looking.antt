@@ -1,4 +1,4 @@
--- At a stop every class of a form says whether types can stand there.
+-- Whether a type can stand where reading stops: from what each class of a form says of types, by induction on the form.
 use Rattle.std.proofs.Common.{◌≡◌, ℕ, zero, suc, ◌≤◌, ◌⊎◌, inl, inr, Bool, true, false, List, [], ◌∷◌, ◌++◌, length, Option, Some, None, refl, sym, ap, subst, ◌∙◌, append_assoc, arith, codes}
 use Rattle.std.specs.Prelude.{◌==◌, if◌then◌else◌, not}
 use Rattle.std.proofs.lemmas.Bool.Decides.{nat_tests}
@@ -49,11 +49,11 @@ all-types f (p, q, r) = (f _ p, f _ q, f _ r)
 abbrev pub Stands : {A : Type 0} → (Lexeme → Option A) → Lexeme → Type 0
 Stands {A} stands t = (a : A) × (stands t ≡ Some a)
 
--- A class that comes next: behind what goes on with some tokens, and where another class isn't met. Either a type can stand there, or none
--- can, and the reason is of that kind.
+-- of a class that comes next: one of the types is taken there, and the reason of a token that is refused looks for types
 abbrev pub IsOfType : (Lexeme → Type 0) → (Lexeme → Type 0) → (Lexeme → Reason) → Type 0
 IsOfType Refused Taken why = ((t : Lexeme) → Refused t → why t ≡ width_reason t) × SomeType Taken
 
+-- none of the types is taken there, and the reason does not look for types
 abbrev pub IsOfNone : (Lexeme → Type 0) → (Lexeme → Reason) → Type 0
 IsOfNone Refused why = ((t : Lexeme) → why t ≡ reason t) × AllTypes Refused
 
@@ -65,9 +65,12 @@ Uses {X} z = ((x : X) × (z ≡ reads x [])) ⊎ ((why : Why) × (z ≡ stops wh
 abbrev pub Refuses : {X : Type 0} → Reading X → Lexeme → Type 0
 Refuses z u = (why : Reason) × (z ≡ stops (unfit why) (u ∷ []))
 
+-- after what spells a value of the form one of the types goes on with it
 abbrev pub GoesOnWithTypes : {A : Type 0} {o : Lexeme → Bool} → Form o A → Type 0
 GoesOnWithTypes {A} {o} f = (ts rest : Tokens) (a : A) → (W : Whole o (λ us. read false f us) ts a rest) → SomeType (λ u. Uses (read false f (W.front ++ u ∷ [])))
 
+-- Each class of the form is of one of the two kinds where it comes next. A class that ends a form may leave the types to
+-- what goes on with the form.
 abbrev pub TellsTypes : {o : Lexeme → Bool} {X : Type 0} → Form o X → Type 0
 TellsTypes (give y) = Unit {0}
 TellsTypes (one c) = IsOfType (λ t. c.stands t ≡ None) (Stands c.stands) c.reason ⊎ IsOfNone (λ t. c.stands t ≡ None) c.reason
@@ -85,7 +88,7 @@ TellsTypes (mapped k f) = TellsTypes f
 
 -- ---- what is known of a stop
 
--- where no token is left, or where types are taken or refused
+-- the reason at a stop: where no token is left, where a type is taken, or where each is refused
 abbrev pub Says : (Lexeme → Type 0) → (Lexeme → Type 0) → Reason → Tokens → Type 0
 Says Taken Refused why [] = why ≡ Syntax
 Says Taken Refused why (t ∷ q) = ((why ≡ width_reason t) × SomeType Taken) ⊎ ((why ≡ reason t) × AllTypes Refused)
@@ -95,12 +98,13 @@ says-along why [] e f g = e
 says-along why (t ∷ q) (inl (e, s)) f g = inl (e, some-type f s)
 says-along why (t ∷ q) (inr (e, a)) f g = inr (e, all-types g a)
 
+-- reading stops after front, and what it does with a type in the place of the stop
 pub record Look {X : Type 0} (g : Reader X) (ts : Tokens) (why : Reason) (rest : Tokens) : Type 0 where
   pub front : Tokens
   pub split : ts ≡ front ++ rest
   pub says : Says (λ u. Uses (g (front ++ u ∷ []))) (λ u. Refuses (g (front ++ u ∷ [])) u) why rest
 
--- nothing is left of nothing
+-- a part of no tokens has none
 nil-of : (xs ys : Tokens) → [] ≡ xs ++ ys → ys ≡ []
 nil-of [] ys e = sym e
 nil-of (x ∷ xs) ys e = absurd (cc e)
@@ -132,7 +136,7 @@ module _ {A X : Type 0} {o1 : Lexeme → Bool} (g1 : Reader A) (g2 : A → Reade
     says = says-along why rest L.says (λ u. uses-then (g1 (L.front ++ u ∷ [])) g2 nil) (λ u. refuses-then (g1 (L.front ++ u ∷ [])) g2 u);
   }
 
-  -- in the second one, which has taken a token or behind which nothing goes on
+  -- in the second one, which has taken a token, or nothing goes on with the first
   pub look-second : (ts mid : Tokens) (a : A) (why : Reason) (rest : Tokens) → g1 ts ≡ reads a mid → (L : Look (g2 a) mid why rest) → ((u : Lexeme) → Follows o1 mid (L.front ++ u ∷ [])) → Look both ts why rest
   look-second ts mid a why rest e L follows = record {
     front = W.front ++ L.front;
@@ -155,7 +159,7 @@ module _ {A : Type 0} (c : Class A) where
   class-refuses : (u : Lexeme) (q : Tokens) → c.stands u ≡ None → one_of false c (u ∷ q) ≡ stops (unfit (c.reason u)) (u ∷ q)
   class-refuses u q e = rw e refl
 
-  -- where one token stops at a class it isn't of the class, which gives the reason
+  -- a token at which a class stops is not of the class, which gives the reason
   class-stops : (ts : Tokens) (why : Reason) (rest : Tokens) → one_of false c ts ≡ stops (unfit why) rest → ((ts ≡ []) × (rest ≡ []) × (why ≡ Syntax)) ⊎ ((t : Lexeme) × (q : Tokens) × (ts ≡ t ∷ q) × (rest ≡ t ∷ q) × (c.stands t ≡ None) × (why ≡ c.reason t))
   class-stops [] why rest e = inl (refl, cc e, cc e)
   class-stops (t ∷ q) why rest e = go (c.stands t) refl e
@@ -484,7 +488,7 @@ look (mapped {A} k f) T ts why rest e = by (λ e'. look f T ts why rest e') (the
     by F (inl first) = look-first (λ us. read false f us) (λ a r. reads (k a) r) (read_lawful false f) (λ a. inl (k a, refl)) ts why rest (F first)
     by F (inr (a, mid, first, later)) = absurd (cc later)
 
--- ---- behind parts that are whole another may begin
+-- ---- after whole parts another may begin
 
 module _ {A S : Type 0} (goes_on : Lexeme → Bool) (begins : S → Lexeme → Option A) (within : S → Lexeme → Bool) (part : S → A → Reader S) (P : (s : S) (a : A) → Lawful never (part s a) (part s a)) (u : Lexeme)
     (begun-at : (s : S) → (a : A) × (begun false (within s u) (goes_on u) (begins s u) ≡ found a)) where

@@ -21,7 +21,7 @@ use Rattle.ir_reader.proofs.TypesTold.{tells-define}
 abbrev Tokens : Type 0
 Tokens = List Lexeme
 
--- ---- two ways to take the same tokens apart
+-- ---- two prefixes of the same tokens
 
 abbrev Prefixes : Tokens → Tokens → Tokens → Tokens → Type 0
 Prefixes p q r s =
@@ -89,7 +89,7 @@ unfit-why ts rest why e = record { stops = S; because = because }
         let front : L.front ≡ S.front = append_cancel_right L.front S.front rest (sym L.split ∙ S.split) in
         subst (λ (us : Tokens). IsStopReason us rest why) front (says-why L.front rest why (ap (λ (us : Tokens). read true define us) (sym L.split) ∙ e) L.says)
 
--- nothing can stand behind a whole function
+-- nothing can stand after a whole function
 pub unfit-behind : (ts : Tokens) (w : WrittenFunction) (t : Lexeme) (q : Tokens) → Spells true define w ts (t ∷ q) → IsUnfit (reason t) ts (t ∷ q)
 unfit-behind ts w t q spelled = record { stops = S; because = inr (no-type, refl) }
   where
@@ -134,7 +134,7 @@ one-unfit ts r s a b A B = by (prefixes-of A.stops.front B.stops.front r s (sym 
     by (inr (inr (t, more, others, e, f))) = absurd (B.stops.first t others f (begins-with B.stops.front A.stops.front more t e A.stops.begins))
     by (inr (inl (e, f))) = (f, one-reason B.stops.front s a b (subst (λ (us : Tokens). IsStopReason us s a) e (subst (λ (us : Tokens). IsStopReason A.stops.front us a) f A.because)) B.because)
 
--- what begins a function up to a token that can't stand is none
+-- tokens that are not a function up to one that can't stand are none
 pub unfit-whole : (ts rest : Tokens) (why : Reason) (w : WrittenFunction) → IsUnfit why ts rest → read true define ts ≡ reads w [] → ⊥
 unfit-whole ts rest why w U e = by rest U.stops.split U.stops.first U.because
   where
