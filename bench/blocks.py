@@ -6,7 +6,7 @@
 Two shapes at 1,250 to 10,000 blocks, each function against itself: a ladder of diamonds, whose joins
 have a phi of two entries, and fans, whose joins have a phi of 200. The pair is too heavy for the budget
 and isn't judged: what is measured is reading, with the tests of names, types, edges and assignment on
-every path. The last lines judge ladders of fewer blocks over one i8. No test rests on these figures.
+every path. The last lines judge ladders over one i8. No test rests on these figures.
 """
 import os
 import subprocess
@@ -16,7 +16,6 @@ import time
 
 RUNS = 3
 BLOCKS = (1250, 2500, 5000, 10000)
-JUDGED = (40, 80, 160)
 CASES = 199
 
 
@@ -94,7 +93,7 @@ def main():
     tv = sys.argv[1] if len(sys.argv) > 1 else "crates/tv/out/tv"
     for title, shape in (("ladder", ladder), ("fans", fans)):
         print_sizes(tv, title, shape, BLOCKS, 64, "1", "@f unknown weight", "")
-    print_sizes(tv, "ladder", ladder, JUDGED, 8, "10000000", "@f correct", ", judged")
+    print_sizes(tv, "ladder", ladder, BLOCKS, 8, "10000000", "@f correct", ", judged")
 
 
 if __name__ == "__main__":
