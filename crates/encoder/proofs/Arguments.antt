@@ -17,7 +17,7 @@ use Rattle.mem_terms.specs.declared.blocks.SymBlock.{SymBlock}
 use Rattle.mem_terms.specs.declared.inputs.ArgTerms.{ArgTerms}
 use Rattle.mem_terms.specs.declared.inputs.InputTerms.{InputTerms}
 use Rattle.mem_terms.specs.declared.values.SymValue.{SymValue}
-use Rattle.mem_terms.specs.Values.{AreSymValues, Each, IsNaming, IsSymValue, Reading, value_at, value_of, values_at}
+use Rattle.mem_terms.specs.Values.{AreSymValues, Each, IsNaming, IsSymValue, Reading, first_local, value_at, value_of, values_at}
 use Rattle.mem_terms.specs.Memory.{AreGivenBlocks, AreSymBlocks, memory_at}
 use Rattle.mem_terms.specs.Inputs.{AreArgs, IsArg, arg_at, args_at, given_blocks_at, input_at}
 use Rattle.mem_terms.proofs.Eaches.{map-set}
@@ -171,7 +171,7 @@ only_given terms m n room h eg er =
     record {
       given = subst (AreGivenBlocks m.given m.room terms) (sym front) (subst (λ (i : ℕ). AreGivenBlocks i m.room terms m.blocks) (sym eg) (subst (λ (i : ℕ). AreGivenBlocks n i terms m.blocks) (sym er) h));
       are = subst (AreSymBlocks terms) (sym none) tt;
-      own = subst (Each (λ (b : SymBlock). m.given < b.number)) (sym none) tt;
+      own = subst (Each (λ (b : SymBlock). first_local m.given ≤ b.number)) (sym none) tt;
     }
 
 -- ---- the first state

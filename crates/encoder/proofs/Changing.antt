@@ -1,10 +1,10 @@
 -- A memory that a store or an alloca changed is one of a run still.
-use Rattle.std.proofs.Common.{ℕ, zero, suc, ◌≡◌, ◌<◌, true, List, [], ◌∷◌, ◌++◌, map, take, drop, refl, ap, sym, subst, ◌∙◌}
+use Rattle.std.proofs.Common.{ℕ, zero, suc, ◌≡◌, ◌≤◌, true, List, [], ◌∷◌, ◌++◌, map, take, drop, refl, ap, sym, subst, ◌∙◌}
 use Rattle.std.proofs.lemmas.List.{append_assoc, drop-map, take-append-drop, take-map}
 use Rattle.bv_terms.specs.declared.term.Term.{Term}
 use Rattle.bv_terms.specs.Trees.{Keeps, bit_at}
 use Rattle.mem_terms.specs.declared.blocks.SymBlock.{SymBlock}
-use Rattle.mem_terms.specs.Values.{Each}
+use Rattle.mem_terms.specs.Values.{Each, first_local}
 use Rattle.mem_terms.specs.Memory.{AreSymBlocks, IsSymBlock, SymFrame, frame_of}
 use Rattle.mem_terms.proofs.Later.{always_each-later, sym_blocks-later}
 use Rattle.access_terms.specs.Accesses as access
@@ -71,15 +71,15 @@ store_memory old new k m h blocks are same =
         frames = frames_less (take m.given blocks) ∙ (ap (map less_framed) front ∙ (sym (frames_less (take m.given m.blocks)) ∙ h.given.frames));
       };
       are = each-rest (IsSymBlock new) m.given blocks are;
-      own = each-framed (λ (f : access.SymFrame). m.given < f.number) (drop m.given m.blocks) (drop m.given blocks) rest h.own;
+      own = each-framed (λ (f : access.SymFrame). first_local m.given ≤ f.number) (drop m.given m.blocks) (drop m.given blocks) rest h.own;
     }
 
 -- ---- a block more
 
-pub alloca_memory : (old new : List Term) (k : Keeps old new) (m : RunMemory) → IsRunMemory old m → (blocks : List SymBlock) (b : SymBlock) → AreSymBlocks new blocks → blocks ≡ m.blocks ++ b ∷ [] → m.given < b.number → IsRunMemory new (record m { blocks = blocks })
+pub alloca_memory : (old new : List Term) (k : Keeps old new) (m : RunMemory) → IsRunMemory old m → (blocks : List SymBlock) (b : SymBlock) → AreSymBlocks new blocks → blocks ≡ m.blocks ++ b ∷ [] → first_local m.given ≤ b.number → IsRunMemory new (record m { blocks = blocks })
 alloca_memory old new k m h blocks b are is own =
     let parts : blocks ≡ take m.given m.blocks ++ (drop m.given m.blocks ++ b ∷ []) =
     is ∙ (ap (λ (bs : List SymBlock). bs ++ b ∷ []) (sym (take-append-drop m.given m.blocks)) ∙ append_assoc (take m.given m.blocks) (drop m.given m.blocks) (b ∷ [])) in
     memory_made old new (take m.given m.blocks) (drop m.given m.blocks ++ b ∷ []) blocks m.given m.room k h.given
     (each-behind (IsSymBlock new) (take m.given m.blocks) (drop m.given m.blocks ++ b ∷ []) (subst (AreSymBlocks new) parts are))
-    (each-more (λ (x : SymBlock). m.given < x.number) (drop m.given m.blocks) b h.own own) parts
+    (each-more (λ (x : SymBlock). first_local m.given ≤ x.number) (drop m.given m.blocks) b h.own own) parts

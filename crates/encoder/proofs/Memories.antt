@@ -1,5 +1,5 @@
 -- The blocks of a run's memory: the given ones, and behind them those of allocas.
-use Rattle.std.proofs.Common.{ℕ, zero, suc, ◌≡◌, ◌<◌, ◌≤◌, ◌+◌, Bool, true, false, cond, List, [], ◌∷◌, ◌++◌, length, take, drop, refl, ap, sym, subst, ◌∙◌, arith}
+use Rattle.std.proofs.Common.{ℕ, zero, suc, ◌≡◌, ◌<◌, ◌≤◌, ◌+◌, ◌-◌, Bool, true, false, cond, List, [], ◌∷◌, ◌++◌, length, take, drop, refl, ap, sym, subst, ◌∙◌, arith}
 use Rattle.std.proofs.lemmas.List.{length-take, take-append-drop}
 use Rattle.std.proofs.Math.Seq.{drop-append_seam, take-append_seam}
 use Rattle.byte_block.specs.declared.block.MemoryBlock.{MemoryBlock}
@@ -7,7 +7,7 @@ use Rattle.bv_terms.specs.declared.term.TermId.{TermId}
 use Rattle.bv_terms.specs.declared.term.Term.{Term}
 use Rattle.bv_terms.specs.Trees.{Keeps, IsTerm, bit_at}
 use Rattle.mem_terms.specs.declared.blocks.SymBlock.{SymBlock}
-use Rattle.mem_terms.specs.Values.{Each, Reading}
+use Rattle.mem_terms.specs.Values.{Each, Reading, first_local}
 use Rattle.mem_terms.specs.Memory.{AreGivenBlocks, AreSymBlocks, block_at, frame_of, given_frames, memory_at}
 use Rattle.mem_terms.proofs.Eaches.{map-length}
 use Rattle.mem_terms.proofs.Later.{bit-later, memory-later, given_blocks-later}
@@ -51,15 +51,28 @@ cond-append false xs ys zs ws = refl
 
 -- the given blocks of a memory with as many, and as much room
 pub given_like : (terms : List Term) (m : RunMemory) (given room : ℕ) → IsRunMemory terms m → m.given ≡ given → m.room ≡ room
-    → AreGivenBlocks given room terms (take given m.blocks) × AreSymBlocks terms (drop given m.blocks) × Each (λ (b : SymBlock). given < b.number) (drop given m.blocks)
+    → AreGivenBlocks given room terms (take given m.blocks) × AreSymBlocks terms (drop given m.blocks) × Each (λ (b : SymBlock). first_local given ≤ b.number) (drop given m.blocks)
 given_like terms m given room h eg er = (
   subst (λ (n : ℕ). AreGivenBlocks n room terms (take n m.blocks)) eg (subst (λ (n : ℕ). AreGivenBlocks m.given n terms (take m.given m.blocks)) er h.given),
   subst (λ (n : ℕ). AreSymBlocks terms (drop n m.blocks)) eg h.are,
-  subst (λ (n : ℕ). Each (λ (b : SymBlock). n < b.number) (drop n m.blocks)) eg h.own,
+  subst (λ (n : ℕ). Each (λ (b : SymBlock). first_local n ≤ b.number) (drop n m.blocks)) eg h.own,
 )
 
+-- numbers from n on are those above the one before n
+pub above_before : (n : ℕ) (bs : List SymBlock) → 0 < n → Each (λ (b : SymBlock). n ≤ b.number) bs → Each (λ (b : SymBlock). n - 1 < b.number) bs
+above_before n [] pos h = tt
+above_before n (b ∷ bs) pos h =
+    let here : n ≤ b.number = h.0 in
+    (omega (arith, pos, here), above_before n bs pos h.1)
+
+pub from_after : (n : ℕ) (bs : List SymBlock) → 0 < n → Each (λ (b : SymBlock). n - 1 < b.number) bs → Each (λ (b : SymBlock). n ≤ b.number) bs
+from_after n [] pos h = tt
+from_after n (b ∷ bs) pos h =
+    let here : n - 1 < b.number = h.0 in
+    (omega (arith, pos, here), from_after n bs pos h.1)
+
 -- what is made of given blocks and others
-pub memory_made : (a new : List Term) (given own blocks : List SymBlock) (n room : ℕ) → Keeps a new → AreGivenBlocks n room a given → AreSymBlocks new own → Each (λ (b : SymBlock). n < b.number) own → blocks ≡ given ++ own
+pub memory_made : (a new : List Term) (given own blocks : List SymBlock) (n room : ℕ) → Keeps a new → AreGivenBlocks n room a given → AreSymBlocks new own → Each (λ (b : SymBlock). first_local n ≤ b.number) own → blocks ≡ given ++ own
     → IsRunMemory new (record { blocks = blocks; given = n; room = room })
 memory_made a new given own blocks n room k hg ho numbers is =
     let count = given_count n room a given hg in
@@ -68,7 +81,7 @@ memory_made a new given own blocks n room k hg ho numbers is =
     record {
       given = subst (AreGivenBlocks n room new) (sym front) (given_blocks-later a new k n room given hg);
       are = subst (AreSymBlocks new) (sym behind) ho;
-      own = subst (Each (λ (b : SymBlock). n < b.number)) (sym behind) numbers;
+      own = subst (Each (λ (b : SymBlock). first_local n ≤ b.number)) (sym behind) numbers;
     }
 
 pub memory_picked : (old a new : List Term) (c : TermId) (xs ys given own blocks : List SymBlock) (n room : ℕ) → IsTerm old 1 c → Keeps old a → Keeps a new

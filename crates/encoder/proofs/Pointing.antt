@@ -11,8 +11,9 @@ use Rattle.points.specs.Run.{block_number, given_or_null}
 use Rattle.bv_terms.specs.declared.term.Term.{Term}
 use Rattle.bv_terms.specs.Trees.{bit_at}
 use Rattle.mem_terms.specs.declared.blocks.SymBlock.{SymBlock}
-use Rattle.mem_terms.specs.Values.{Each, block_name}
+use Rattle.mem_terms.specs.Values.{Each, block_name, first_local}
 use Rattle.mem_terms.specs.Memory.{IsAlways, SymFrame, block_at, frame_of, given_frames, memory_at}
+use Rattle.mem_terms.proofs.Naming.{given_before, given_named as block_named, local_block}
 use Rattle.encoder.specs.declared.state.RunMemory.{RunMemory}
 use Rattle.encoder.specs.Runs.{Scene, IsRunMemory, sight}
 use Rattle.encoder.proofs.Memories.{memory-parts}
@@ -20,18 +21,10 @@ use Rattle.encoder.proofs.Memories.{memory-parts}
 -- ---- the name of a number
 
 given_number : (given k n : ℕ) → 0 < n → n ≤ given → equal_names (Given k) (block_name given n) ≡ nat_eq k n
-given_number given k zero some within = absurd (omega arith)
-given_number given k (suc i) some within = rw (below i given (omega arith)) refl
-  where
-    below : (i given : ℕ) → i < given → nat_lt i given ≡ true
-    below i given lt = grind (arith, nat_tests)
+given_number given k n some within = ap (equal_names (Given k)) (block_named given n some within)
 
-own_number : (given k n : ℕ) → given < n → equal_names (Given k) (block_name given n) ≡ false
-own_number given k zero past = absurd (omega arith)
-own_number given k (suc i) past = rw (above i given (omega arith)) refl
-  where
-    above : (i given : ℕ) → given ≤ i → nat_lt i given ≡ false
-    above i given le = grind (arith, nat_tests)
+own_number : (given k n : ℕ) → first_local given ≤ n → equal_names (Given k) (block_name given n) ≡ false
+own_number given k n past = ap (equal_names (Given k)) (local_block given n past)
 
 -- ---- the blocks that a given name names
 
@@ -39,7 +32,7 @@ not_there : (p : MemoryBlock → Bool) (e : Bool) (b : MemoryBlock) (bs : List M
 not_there p true b bs h = rw h refl
 not_there p false b bs h = refl
 
-own_unnamed : (g : Scene) (terms : List Term) (k : ℕ) (bs : List SymBlock) → Each (λ (b : SymBlock). g.given < b.number) bs → list_any (names (Given k)) (memory_at (sight g) terms bs) ≡ false
+own_unnamed : (g : Scene) (terms : List Term) (k : ℕ) (bs : List SymBlock) → Each (λ (b : SymBlock). first_local g.given ≤ b.number) bs → list_any (names (Given k)) (memory_at (sight g) terms bs) ≡ false
 unfolding memory_at block_at
 own_unnamed g terms k [] h = refl
 own_unnamed g terms k (b ∷ bs) h =
@@ -87,7 +80,7 @@ pub names_given : (g : Scene) (terms : List Term) (m : RunMemory) (k : ℕ) → 
 names_given g terms m k h same =
     let bs = m.blocks in
     let given = given_named g terms k 1 m.given m.room (take m.given bs) h.given.always h.given.frames (omega arith) (omega (arith, same)) in
-    let own = own_unnamed g terms k (drop m.given bs) (subst (λ (n : ℕ). Each (λ (b : SymBlock). n < b.number) (drop m.given m.blocks)) same h.own) in
+    let own = own_unnamed g terms k (drop m.given bs) (subst (λ (n : ℕ). Each (λ (b : SymBlock). first_local n ≤ b.number) (drop m.given m.blocks)) same h.own) in
     ap (list_any (names (Given k))) (sym (memory-parts (sight g) terms m.given bs))
     ∙ (list_any-append (names (Given k)) (memory_at (sight g) terms (take m.given bs)) (memory_at (sight g) terms (drop m.given bs))
     ∙ (rw (given, own) (or_false (nat_le 1 k && nat_lt k (1 + m.given))) ∙ ap (λ (n : ℕ). nat_le 1 k && nat_lt k (1 + n)) same))
@@ -104,7 +97,7 @@ chosen_block memory given zero e = (ap (block_name given) (same_both (nat_le 0 g
 chosen_block memory given (suc i) e = elim (cases_Bool (nat_le (suc i) given)) [
   | inl t ↦ (
       let is : (nat_le 1 (suc i) && nat_lt (suc i) (1 + given)) ≡ true = within i given t in
-      let below : nat_lt i given ≡ true = before i given t in
+      let below : nat_lt (suc i) (first_local given) ≡ true = before i given t (given_before given) in
       rw (t, e, is, above_0 i, below) (refl, refl)
       )
   | inr f ↦ (
@@ -119,8 +112,8 @@ chosen_block memory given (suc i) e = elim (cases_Bool (nat_le (suc i) given)) [
     above_0 : (i : ℕ) → nat_lt 0 (suc i) ≡ true
     above_0 i = grind (arith, nat_tests)
 
-    before : (i given : ℕ) → nat_le (suc i) given ≡ true → nat_lt i given ≡ true
-    before i given t = grind (arith, nat_tests)
+    before : (i given : ℕ) → nat_le (suc i) given ≡ true → given < first_local given → nat_lt (suc i) (first_local given) ≡ true
+    before i given t lt = grind (arith, nat_tests)
 
     beyond : (i given : ℕ) → nat_le (suc i) given ≡ false → (nat_le 1 (suc i) && nat_lt (suc i) (1 + given)) ≡ false
     beyond i given f = grind (arith, nat_tests)

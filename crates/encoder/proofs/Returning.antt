@@ -15,7 +15,7 @@ use Rattle.bv_terms.specs.declared.term.Term.{Term}
 use Rattle.bv_terms.specs.Trees.{Keeps, IsTerm, bit_at}
 use Rattle.mem_terms.specs.declared.values.SymValue.{SymValue}
 use Rattle.mem_terms.specs.declared.blocks.SymBlock.{SymBlock}
-use Rattle.mem_terms.specs.Values.{Each, reading, value_at}
+use Rattle.mem_terms.specs.Values.{Each, first_local, reading, value_at}
 use Rattle.mem_terms.specs.Memory.{AreGivenBlocks, SymFrame, block_at, frame_of, given_frames, memory_at}
 use Rattle.mem_terms.proofs.Later.{bit-later, memory-later}
 use Rattle.mem_terms.proofs.Naming.{given_named, local_block}
@@ -55,7 +55,7 @@ given_block : (given : ℕ) (v : ℕ → ℕ → ℕ) (terms : List Term) (b : S
 unfolding block_at
 given_block given v terms b h = rw (given_named given b.number h.0 h.1) refl
 
-own_block : (given : ℕ) (v : ℕ → ℕ → ℕ) (terms : List Term) (b : SymBlock) → given < b.number → is_given (block_at (reading given v) terms b) ≡ false
+own_block : (given : ℕ) (v : ℕ → ℕ → ℕ) (terms : List Term) (b : SymBlock) → first_local given ≤ b.number → is_given (block_at (reading given v) terms b) ≡ false
 unfolding block_at
 own_block given v terms b h = rw (local_block given b.number h) refl
 
@@ -73,7 +73,7 @@ front_stays given v terms [] h = refl
 front_stays given v terms (b ∷ bs) h =
     front_one (bit_at v terms b.exists) (block_at (reading given v) terms b) (memory_at (reading given v) terms bs) (given_block given v terms b h.0) (front_stays given v terms bs h.1)
 
-own_goes : (given : ℕ) (v : ℕ → ℕ → ℕ) (terms : List Term) (bs : List SymBlock) → Each (λ (b : SymBlock). given < b.number) bs → filter is_given (memory_at (reading given v) terms bs) ≡ []
+own_goes : (given : ℕ) (v : ℕ → ℕ → ℕ) (terms : List Term) (bs : List SymBlock) → Each (λ (b : SymBlock). first_local given ≤ b.number) bs → filter is_given (memory_at (reading given v) terms bs) ≡ []
 unfolding memory_at
 own_goes given v terms [] h = refl
 own_goes given v terms (b ∷ bs) h =

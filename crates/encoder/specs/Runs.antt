@@ -7,7 +7,7 @@ use Rattle.bv_terms.specs.declared.term.TermId.{TermId}
 use Rattle.bv_terms.specs.declared.term.Term.{Term}
 use Rattle.bv_terms.specs.Trees.{IsTerm, bit_at, term_at}
 use Rattle.mem_terms.specs.declared.blocks.SymBlock.{SymBlock}
-use Rattle.mem_terms.specs.Values.{Each, AreSymValues, Reading, reading, values_at}
+use Rattle.mem_terms.specs.Values.{Each, AreSymValues, Reading, first_local, reading, values_at}
 use Rattle.mem_terms.specs.Memory.{AreGivenBlocks, AreSymBlocks, memory_at}
 use Rattle.mem_terms.specs.Inputs.{words_at}
 use Rattle.encoder.specs.declared.state.Tally.{Tally}
@@ -49,11 +49,11 @@ pub record Counts (g : Scene) (terms : List Term) (t : Tally) (taken : List ℕ)
   pub read : term_at g.v terms t.read ≡ length taken
   pub fits : bit_at g.v terms t.fits ≡ fits_from g.tape 0 taken
 
--- the given blocks, and behind them those of allocas
+-- the given blocks, and behind them those of allocas, whose numbers are above each number of 3 bits
 pub record IsRunMemory (terms : List Term) (m : RunMemory) : Type 0 where
   pub given : AreGivenBlocks m.given m.room terms (take m.given m.blocks)
   pub are : AreSymBlocks terms (drop m.given m.blocks)
-  pub own : Each (λ (b : SymBlock). m.given < b.number) (drop m.given m.blocks)
+  pub own : Each (λ (b : SymBlock). first_local m.given ≤ b.number) (drop m.given m.blocks)
 
 pub record IsState (terms : List Term) (s : RunState) : Type 0 where
   pub alive : IsTerm terms 1 s.alive

@@ -9,7 +9,7 @@ ghost use Rattle.ir_tree.specs.Types.{object_size};
 ghost use Rattle.byte_block.specs.declared.value.BlockName.TheVariants.{Local};
 ghost use Rattle.points.specs.Run.{access_of, index_value, index_values};
 ghost use Rattle.bv_terms.specs.Trees.{Keeps};
-ghost use Rattle.mem_terms.specs.Values.{AreSymValues, IsNaming, Reading, local_number, values_at};
+ghost use Rattle.mem_terms.specs.Values.{AreSymValues, IsNaming, Reading, first_local, local_number, values_at};
 ghost use Rattle.access_terms.specs.Offsets.{AreSymIndices, IsSymIndex, index_at, indices_at};
 ghost use Rattle.encoder.specs.Runs.{Course, Follows, IsState, Scene, Visit, shape_of, sight, stepped};
 ghost use Rattle.encoder.specs.Frontier.{HasSmallNumber, UsesMemory};
@@ -20,7 +20,7 @@ use crate::state::RunState;
 use access_terms::{SymIndex, alloca, gep, load, store};
 use bv_terms::Terms;
 use ir_tree::{GepIndex, Inst, IrType, MemoryType, Operand, TypedOperand, indexed_size};
-use mem_terms::{SymValue, both, number, pointer_value, resize};
+use mem_terms::{SymValue, both, last_given_number, number, pointer_value, resize};
 use memory_access::Access;
 use std::alloc::Global;
 use support::{NoMemory, Sequence};
@@ -35,7 +35,9 @@ fn number_of_local(given: usize, turn: u64, alloca: usize) -> Result<u64, NoMemo
 {
     let of_turn = turn.checked_mul(NUMBERS_OF_A_TURN).ok_or(NoMemory)?;
     let of_run = of_turn.checked_add(alloca as u64).ok_or(NoMemory)?;
-    let first = (given as u64).checked_add(1).ok_or(NoMemory)?;
+    let first = last_given_number(given as u64)
+        .checked_add(1)
+        .ok_or(NoMemory)?;
     let number = first.checked_add(of_run).ok_or(NoMemory)?;
     Ok(number)
 }
@@ -61,7 +63,7 @@ fn step_alloca(
     align: u64,
 ) -> Result<(), NoMemory>
     requires state { IsState terms.old state.old }
-    requires own { state.old.memory.given < block }
+    requires own { first_local state.old.memory.given ≤ block }
     requires size { object_size of_type.now ≤ 64 }
     ensures state { OnOk result (IsState terms.new state.new) }
     ensures shape { OnOk result (shape_of state.new ≡ shape_of state.old) }

@@ -13,9 +13,9 @@ use Rattle.points.specs.declared.outcome.Outcome.{Outcome}
 use Rattle.points.specs.declared.outcome.Outcome.TheVariants.{Return, Ub, Beyond}
 use Rattle.points.specs.Refines.{same_name, same_pointer, byte_allows, block_allows, blocks_allow, pairs_pass, value_allows, returned_allows, is_refined}
 use Rattle.bv_terms.specs.Tree.{truth}
-use Rattle.mem_terms.specs.Values.{block_name, value_of}
+use Rattle.mem_terms.specs.Values.{block_name, first_local, value_of}
 use Rattle.mem_terms.specs.Memory.{byte_of}
-use Rattle.mem_terms.proofs.Naming.{given_named, local_block}
+use Rattle.mem_terms.proofs.Naming.{block_before, local_block}
 
 -- ---- pointers
 
@@ -34,10 +34,14 @@ given_or_null : ℕ → BlockName
 given_or_null zero = Null
 given_or_null (suc k) = Given (suc k)
 
-is_given : (given k : ℕ) → k ≤ given → block_name given k ≡ given_or_null k
+is_given : (given last k : ℕ) → first_local given ≡ last + 1 → k ≤ last → block_name given k ≡ given_or_null k
 unfolding given_or_null
-is_given given zero le = refl
-is_given given (suc k) le = given_named given (suc k) (omega arith) le
+is_given given last zero is le = refl
+is_given given last (suc k) is le = block_before given (suc k) (omega arith) (omega (arith, is, le))
+
+-- a larger number is a local block's
+is_local : (given last k : ℕ) → first_local given ≡ last + 1 → last < k → block_name given k ≡ Local ((k - first_local given) / 65536) ((k - first_local given) % 65536)
+is_local given last k is lt = local_block given k (omega (arith, is, lt))
 
 alive_same : (s i t j : ℕ) → (nat_eq s t && nat_eq i j) ≡ same_pointer (given_or_null s) i (given_or_null t) j
 unfolding given_or_null
@@ -62,27 +66,28 @@ lt_says a b e = grind (arith, nat_tests)
 le_instead : (a b : ℕ) → nat_lt a b ≡ false → b ≤ a
 le_instead a b e = grind (arith, nat_tests)
 
-apart : (given s t : ℕ) → s ≤ given → given < t → nat_eq s t ≡ false
-apart given s t le lt = grind (arith, nat_tests)
+apart : (last s t : ℕ) → s ≤ last → last < t → nat_eq s t ≡ false
+apart last s t le lt = grind (arith, nat_tests)
 
-apart_back : (given s t : ℕ) → given < s → t ≤ given → nat_eq s t ≡ false
-apart_back given s t lt le = grind (arith, nat_tests)
+apart_back : (last s t : ℕ) → last < s → t ≤ last → nat_eq s t ≡ false
+apart_back last s t lt le = grind (arith, nat_tests)
 
-addresses_by : (given s i t j : ℕ) (p q : Bool) → nat_lt given s ≡ p → nat_lt given t ≡ q → ((p && q) || (nat_eq s t && nat_eq i j)) ≡ same_pointer (block_name given s) i (block_name given t) j
-addresses_by given s i t j true true es et = rw (local_block given s (lt_says given s es), local_block given t (lt_says given t et)) refl
-addresses_by given s i t j true false es et =
-    let le = le_instead given t et in
-    let lt = lt_says given s es in
-    rw (apart_back given s t lt le, local_block given s lt, is_given given t le, dead_alive ((s - given - 1) / 65536) ((s - given - 1) % 65536) i t j) refl
-addresses_by given s i t j false true es et =
-    let le = le_instead given s es in
-    let lt = lt_says given t et in
-    rw (apart given s t le lt, local_block given t lt, is_given given s le, alive_dead s i ((t - given - 1) / 65536) ((t - given - 1) % 65536) j) refl
-addresses_by given s i t j false false es et = rw (is_given given s (le_instead given s es), is_given given t (le_instead given t et)) (alive_same s i t j)
+module _ (given last : ℕ) (is : first_local given ≡ last + 1) where
+  addresses_by : (s i t j : ℕ) (p q : Bool) → nat_lt last s ≡ p → nat_lt last t ≡ q → ((p && q) || (nat_eq s t && nat_eq i j)) ≡ same_pointer (block_name given s) i (block_name given t) j
+  addresses_by s i t j true true es et = rw (is_local given last s is (lt_says last s es), is_local given last t is (lt_says last t et)) refl
+  addresses_by s i t j true false es et =
+      let le = le_instead last t et in
+      let lt = lt_says last s es in
+      rw (apart_back last s t lt le, is_local given last s is lt, is_given given last t is le, dead_alive ((s - first_local given) / 65536) ((s - first_local given) % 65536) i t j) refl
+  addresses_by s i t j false true es et =
+      let le = le_instead last s es in
+      let lt = lt_says last t et in
+      rw (apart last s t le lt, is_local given last t is lt, is_given given last s is le, alive_dead s i ((t - first_local given) / 65536) ((t - first_local given) % 65536) j) refl
+  addresses_by s i t j false false es et = rw (is_given given last s is (le_instead last s es), is_given given last t is (le_instead last t et)) (alive_same s i t j)
 
--- both dead, or alike in block and offset
-pub addresses_are : (given s i t j : ℕ) → ((nat_lt given s && nat_lt given t) || (nat_eq s t && nat_eq i j)) ≡ same_pointer (block_name given s) i (block_name given t) j
-addresses_are given s i t j = addresses_by given s i t j (nat_lt given s) (nat_lt given t) refl refl
+  -- both dead, or alike in block and offset
+  pub addresses_are : (s i t j : ℕ) → ((nat_lt last s && nat_lt last t) || (nat_eq s t && nat_eq i j)) ≡ same_pointer (block_name given s) i (block_name given t) j
+  addresses_are s i t j = addresses_by s i t j (nat_lt last s) (nat_lt last t) refl refl
 
 -- ---- values
 

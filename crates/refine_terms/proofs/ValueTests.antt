@@ -1,5 +1,5 @@
 -- The tests of two pointers, values and bytes.
-use Rattle.std.proofs.Common.{ℕ, ◌≡◌, cond, not, ◌&&◌, ◌||◌, List, nat_eq, nat_lt, refl, ap, ◌∙◌}
+use Rattle.std.proofs.Common.{ℕ, ◌≡◌, ◌+◌, cond, not, ◌&&◌, ◌||◌, List, nat_eq, nat_lt, refl, ap, ◌∙◌}
 use Rattle.points.specs.Refines.{same_pointer, byte_allows, value_allows}
 use Rattle.bv_terms.specs.declared.term.TermId.{TermId}
 use Rattle.bv_terms.specs.declared.term.Term.{Term}
@@ -7,7 +7,7 @@ use Rattle.bv_terms.specs.Tree.{truth}
 use Rattle.bv_terms.specs.Trees.{AreInRange, IsTerm, Keeps, Makes, Tests, bit_at, term_at}
 use Rattle.mem_terms.specs.declared.values.SymValue.{SymValue}
 use Rattle.mem_terms.specs.declared.bytes.SymByte.{SymByte}
-use Rattle.mem_terms.specs.Values.{IsSymValue, block_name, reading, value_at}
+use Rattle.mem_terms.specs.Values.{IsSymValue, block_name, first_local, reading, value_at}
 use Rattle.mem_terms.specs.Memory.{IsSymByte, byte_at}
 use Rattle.mem_terms.proofs.Bits.{term-below}
 use Rattle.mem_terms.proofs.Later.{bit-later, keeps_trans, term-later}
@@ -15,10 +15,10 @@ use Rattle.refine_terms.proofs.Refining.{addresses_are, bytes_are, picked_truth,
 
 -- ---- pointers
 
-module _ (given : ℕ) (old a b c d e : List Term) (dead block offset same id : TermId) (sb so tb to : TermId)
+module _ (given last : ℕ) (is_last : first_local given ≡ last + 1) (old a b c d e : List Term) (dead block offset same id : TermId) (sb so tb to : TermId)
     (hsb : IsTerm old 64 sb) (hso : IsTerm old 64 so) (htb : IsTerm old 64 tb) (hto : IsTerm old 64 to)
     (ka : Keeps old a) (kb : Keeps a b) (kc : Keeps b c) (kd : Keeps c d)
-    (t1 : Tests a dead (λ v. nat_lt given (term_at v old sb) && nat_lt given (term_at v old tb)))
+    (t1 : Tests a dead (λ v. nat_lt last (term_at v old sb) && nat_lt last (term_at v old tb)))
     (t2 : Tests b block (λ v. nat_eq (term_at v a sb) (term_at v a tb))) (t3 : Tests c offset (λ v. nat_eq (term_at v b so) (term_at v b to)))
     (t4 : Tests d same (λ v. bit_at v c block && bit_at v c offset)) (t5 : Tests e id (λ v. bit_at v d dead || bit_at v d same)) where
   pub address_tests : Tests e id (λ v. same_pointer (block_name given (term_at v old sb)) (term_at v old so) (block_name given (term_at v old tb)) (term_at v old to))
@@ -38,7 +38,7 @@ module _ (given : ℕ) (old a b c d e : List Term) (dead block offset same id : 
           t3.says v,
           term-later old b k_b v so hso.within,
           term-later old b k_b v to hto.within,
-        ) (addresses_are given (term_at v old sb) (term_at v old so) (term_at v old tb) (term_at v old to)));
+        ) (addresses_are given last is_last (term_at v old sb) (term_at v old so) (term_at v old tb) (term_at v old to)));
   }
 
 -- ---- values

@@ -12,8 +12,8 @@ ghost use Rattle.mem_terms.specs.Memory.{AreSymBlocks, AreSymBytes, IsAlways, Is
 use crate::comparing::is_number;
 use bv_terms::{TermId, Terms};
 use mem_terms::{
-    OutcomeTerms, SymBlock, SymByte, SymValue, both, either, equals, implies, less, negation,
-    number, pick, truth,
+    OutcomeTerms, SymBlock, SymByte, SymValue, both, either, equals, implies, last_given_number,
+    less, negation, number, pick, truth,
 };
 use support::NoMemory;
 
@@ -24,21 +24,22 @@ struct Address {
     offset: TermId,
 }
 
-/// True where two blocks, by their numbers, are dead after the runs, where so many blocks are given.
+/// True where two blocks are dead after the runs: their numbers are above the last one of a given
+/// block.
 fn both_dead(
-    given: u64,
+    last: u64,
     source: TermId,
     target: TermId,
     terms: &mut Terms,
 ) -> Result<TermId, NoMemory>
     requires source { IsTerm terms.old 64 source }
     requires target { IsTerm terms.old 64 target }
-    ensures made { IfOk result (λ id. Tests terms.new id (λ v. nat_lt given (term_at v terms.old source) && nat_lt given (term_at v terms.old target))) }
+    ensures made { IfOk result (λ id. Tests terms.new id (λ v. nat_lt last (term_at v terms.old source) && nat_lt last (term_at v terms.old target))) }
     ensures kept { Keeps terms.old terms.new }
 {
-    let last = number(terms, given)?;
-    let source_dead = less(terms, last, source)?;
-    let target_dead = less(terms, last, target)?;
+    let known = number(terms, last)?;
+    let source_dead = less(terms, known, source)?;
+    let target_dead = less(terms, known, target)?;
     let id = both(terms, source_dead, target_dead)?;
     Ok(id)
 }
@@ -58,7 +59,8 @@ fn same_address(
     ensures made { IfOk result (λ id. Tests terms.new id (λ v. alike_pointers given v terms.old source.block source.offset target.block target.offset)) }
     ensures kept { Keeps terms.old terms.new }
 {
-    let dead = both_dead(given, source.block, target.block, terms)?;
+    let last = last_given_number(given);
+    let dead = both_dead(last, source.block, target.block, terms)?;
     let block = equals(terms, source.block, target.block)?;
     let offset = equals(terms, source.offset, target.offset)?;
     let same = both(terms, block, offset)?;

@@ -14,8 +14,8 @@ use std::alloc::Global;
 use std::test::Fail;
 use support::{NoMemory, Sequence};
 
-/// The kind, number, block, offset and part of a byte. One block is given, with the number 1; a
-/// larger number is that of a block of an alloca.
+/// The kind, number, block, offset and part of a byte. One block is given, with the number 1; the
+/// blocks of allocas have the numbers from 8 on.
 #[derive(Clone, Copy)]
 struct Place(u8, u8, u64, u64, u8);
 
@@ -157,18 +157,23 @@ fn returned_pointers(rt: HostRuntime) -> Result<(), Fail> {
         (given, Returned(false, false, 1, 8), false),
         (FIVE, Returned(false, false, 7, 5), true),
         (
-            Returned(false, true, 2, 0),
+            Returned(false, true, 8, 0),
             Returned(false, true, 70000, 3),
             true,
         ),
         (
-            Returned(false, true, 2, 8),
+            Returned(false, true, 7, 0),
+            Returned(false, true, 8, 3),
+            false,
+        ),
+        (
+            Returned(false, true, 8, 8),
             Returned(false, true, 1, 8),
             false,
         ),
         (
             Returned(false, true, 1, 8),
-            Returned(false, true, 2, 8),
+            Returned(false, true, 8, 8),
             false,
         ),
     ];
@@ -210,11 +215,11 @@ fn left_blocks(rt: HostRuntime) -> Result<(), Fail> {
         ),
         (
             leaves(1, part, two),
-            leaves(1, Place(1, 0, 2, 4, 3), two),
+            leaves(1, Place(1, 0, 8, 4, 3), two),
             false,
         ),
         (
-            leaves(1, Place(1, 0, 2, 0, 3), two),
+            leaves(1, Place(1, 0, 8, 0, 3), two),
             leaves(1, Place(1, 0, 9, 4, 3), two),
             true,
         ),

@@ -1,6 +1,8 @@
-use Rattle.std.proofs.Common.{◌∙◌, ap, take, drop}
+use Rattle.std.proofs.Common.{◌<◌, ◌-◌, ◌∙◌, ap, take, drop, arith}
+use Rattle.mem_terms.specs.Values.{first_local}
 use Rattle.mem_terms.proofs.Later.{sym_blocks-later}
-use Rattle.encoder.proofs.Memories.{given_like, given_within, memory_made, memory_picked}
+use Rattle.mem_terms.proofs.Naming.{given_before}
+use Rattle.encoder.proofs.Memories.{above_before, from_after, given_like, given_within, memory_made, memory_picked}
 use Rattle.encoder.proofs.joining.pick_blocks.Goals as goal
 
 pub split_at-requires : goal.split_at-requires
@@ -26,9 +28,12 @@ returns-clause-made c =
     let front_b = c.split_at-2.ensures.front ∙ ap (take a.given) c.as_slice-2.ensures in
     let behind_a = c.split_at.ensures.back ∙ ap (drop a.given) c.as_slice.ensures in
     let behind_b = c.split_at-2.ensures.back ∙ ap (drop a.given) c.as_slice-2.ensures in
+    let pos : 0 < first_local a.given = omega (arith, given_before a.given) in
+    let above_a = above_before (first_local a.given) c.split_at.result.1.now pos (rw behind_a c.requires.a.own) in
+    let above_b = above_before (first_local a.given) c.split_at-2.result.1.now pos (rw behind_b like.2) in
     memory_made c.pick_given.new.terms c.pick_memory.new.terms c.in_ok-given.given c.in_ok-own.own c.in_ok-blocks.blocks a.given a.room c.pick_memory.ensures.kept
     (c.in_ok-given.ensures.given a.given a.room (rw front_a c.requires.a.given) (rw front_b like.0)) c.in_ok-own.ensures.made
-    (c.in_ok-own.ensures.numbers a.given (rw behind_a c.requires.a.own) (rw behind_b like.2)) c.in_ok-blocks.ensures
+    (from_after (first_local a.given) c.in_ok-own.own pos (c.in_ok-own.ensures.numbers (first_local a.given - 1) above_a above_b)) c.in_ok-blocks.ensures
 
 pub returns-clause-stands : goal.returns-clause-stands
 returns-clause-stands c =

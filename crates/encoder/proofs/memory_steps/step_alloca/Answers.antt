@@ -1,5 +1,7 @@
-use Rattle.std.proofs.Common.{◌<◌, ◌∙◌, refl, subst, sym, ℕ}
+use Rattle.std.proofs.Common.{◌≤◌, ◌∙◌, refl, subst, sym, ℕ, arith}
+use Rattle.mem_terms.specs.Values.{first_local}
 use Rattle.mem_terms.proofs.Later.{keeps_trans, is_term-later, sym_blocks-later, term-later}
+use Rattle.mem_terms.proofs.Naming.{given_before}
 use Rattle.encoder.proofs.Lasting.{memory_blocks}
 use Rattle.encoder.proofs.Stepping.{set_shape}
 use Rattle.encoder.proofs.Changing.{alloca_memory}
@@ -9,6 +11,11 @@ use Rattle.encoder.proofs.memory_steps.step_alloca.Goals as goal
 
 pub alloca-requires-clause-memory : goal.alloca-requires-clause-memory
 alloca-requires-clause-memory c = memory_blocks c.args.terms.now c.args.state.now.memory c.requires.state.memory
+
+pub alloca-requires-clause-number : goal.alloca-requires-clause-number
+alloca-requires-clause-number c =
+    let own = c.requires.own in
+    omega (arith, own, given_before c.args.state.now.memory.given)
 
 pub returns-clause-state : goal.returns-clause-state
 returns-clause-state c =
@@ -21,7 +28,7 @@ returns-clause-state c =
     let grown = c.in_ok-alloca.ensures.grown in
     rw c.assign.ensures (memory_state old new k s c.requires.state c.args.into c.in_ok-address.address s.alive (record s.memory { blocks = c.alloca.new.memory })
     (is_term-later old new k 1 s.alive c.requires.state.alive)
-    (alloca_memory old new k s.memory c.requires.state.memory c.alloca.new.memory grown.0 (sym_blocks-later a new kn c.alloca.new.memory c.in_ok-alloca.ensures.memory) grown.1 (subst (λ (n : ℕ). s.memory.given < n) (sym grown.2) c.requires.own))
+    (alloca_memory old new k s.memory c.requires.state.memory c.alloca.new.memory grown.0 (sym_blocks-later a new kn c.alloca.new.memory c.in_ok-alloca.ensures.memory) grown.1 (subst (λ (n : ℕ). first_local s.memory.given ≤ n) (sym grown.2) c.requires.own))
     c.in_ok-address.ensures.made)
 
 pub returns-clause-shape : goal.returns-clause-shape
