@@ -1,5 +1,5 @@
 -- Known inputs stand for what they were made of.
-use Rattle.std.proofs.Common.{ℕ, zero, suc, ◌≡◌, ◌<◌, ◌≤◌, ◌+◌, List, [], ◌∷◌, ◌++◌, length, map, take, get_or, All, refl, ap, sym, ◌∙◌, arith, length-append}
+use Rattle.std.proofs.Common.{ℕ, zero, suc, ◌≡◌, ◌<◌, ◌≤◌, ◌+◌, Bool, true, false, List, [], ◌∷◌, ◌++◌, length, map, take, get_or, All, refl, ap, sym, subst, ◌∙◌, arith, length-append}
 use Rattle.std.proofs.lemmas.List.{take_more}
 use Rattle.ir_tree.specs.declared.tree.IrType.{IrType}
 use Rattle.ir_tree.specs.declared.tree.IrType.TheVariants as type
@@ -23,7 +23,7 @@ use Rattle.bv_terms.specs.declared.term.Term.{Term}
 use Rattle.bv_terms.specs.Trees.{IsTerm, Keeps, Makes, term_at}
 use Rattle.mem_terms.specs.declared.inputs.ArgTerms.{ArgTerms}
 use Rattle.mem_terms.specs.declared.inputs.ByteTerms.{ByteTerms}
-use Rattle.mem_terms.specs.Values.{Each, Reading, block_name, reading}
+use Rattle.mem_terms.specs.Values.{Each, Reading, block_name, reading, value_of}
 use Rattle.mem_terms.specs.Memory.{byte_of}
 use Rattle.mem_terms.specs.Inputs.{AreArgs, IsBlockTerms, arg_at, args_at, given_block_at, given_blocks_at, given_byte_at, input_at}
 use Rattle.mem_terms.proofs.Eaches.{map-push, map-same}
@@ -52,6 +52,13 @@ pointer_known : (blocks : ℕ) (p : Ptr) → PointerFits blocks p → record { b
 pointer_known blocks p fits = let same = name_known blocks p.block fits.block in λ i. record { block = same i; offset = p.offset }
 
 -- ---- arguments
+
+-- a pointer that fits is the one of its block's number and its offset
+pub pointer_value : (blocks : ℕ) (t : IrType) (x : Value) (p : Ptr) → t ≡ type.Ptr → x ≡ value.Ptr p → ValueFits blocks t x
+    → (poison : Bool) (block offset : ℕ) → poison ≡ false → block ≡ block_number p.block → offset ≡ p.offset → value_of poison true (block_name blocks block) offset ≡ x
+pointer_value blocks t x p et ex fits poison block offset ep eb eo =
+    let here : PointerFits blocks p = subst (λ (s : IrType). ValueFits blocks s (value.Ptr p)) et (subst (λ (y : Value). ValueFits blocks t y) ex fits) in
+    rw (ep, eb, eo) (ap (λ (q : Ptr). value.Ptr q) (pointer_known blocks p here) ∙ sym ex)
 
 pub fit_count : (blocks : ℕ) (ps : List Parameter) (xs : List Value) → ArgsFit blocks ps xs → length xs ≡ length ps
 fit_count blocks [] [] h = omega arith
