@@ -1,5 +1,5 @@
 -- What the terms of a run so far stand for.
-use Rattle.std.specs.Prelude.{◌≡◌, ℕ, ◌+◌, ◌<◌, ◌≤◌, Bool, true, false, ◌&&◌, ◌||◌, nat_eq, nat_lt, List, [], ◌∷◌, length, take, drop, Option, Some, None, slice_index}
+use Rattle.std.specs.Prelude.{◌≡◌, ℕ, ◌+◌, ◌≤◌, Bool, true, false, ◌&&◌, ◌||◌, nat_eq, nat_lt, List, [], ◌∷◌, length, take, drop, Option, Some, None, slice_index}
 use Rattle.ir_tree.specs.declared.tree.Inst.{Inst}
 use Rattle.points.specs.declared.machine.Machine.{Machine}
 use Rattle.points.specs.Run.{act}
