@@ -16,9 +16,27 @@ const BEFORE_CLOSING: usize = 54;
 /// The bytes of the word `define`.
 const HEAD: usize = 6;
 
+/// The position directly after a text.
+fn position_after(text: &[u8]) -> Place {
+    let mut place = Place::start();
+    for byte in text {
+        place = match *byte {
+            b'\n' => Place {
+                line: place.line.saturating_add(1),
+                column: 1,
+            },
+            _ => Place {
+                line: place.line,
+                column: place.column.saturating_add(1),
+            },
+        };
+    }
+    place
+}
+
 /// The line of a fault at the end of a text.
 fn fault_after(alloc: Global, text: &[u8], why: &str) -> Result<String, NoMemory> {
-    let Place { line, column } = Place::start().behind(text);
+    let Place { line, column } = position_after(text);
     Ok(format!(in alloc; "A:{line}:{column}: {why}\n")?)
 }
 
