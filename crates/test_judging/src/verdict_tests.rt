@@ -340,7 +340,7 @@ const MEMORY: [Row; 9] = [
         name: "local blocks are alike once they are freed",
         pair: "define ptr @s() {\n  %a = alloca i8\n  ret ptr %a\n}\n\
                define ptr @t() {\n  %a = alloca i16\n  ret ptr %a\n}\n",
-        blocks: 2,
+        blocks: 0,
         rounds: 15,
         weight: 100_000,
         wanted: Wanted::Correct,
