@@ -1,5 +1,5 @@
 -- What stands behind the bytes that pass.
-use Rattle.std.proofs.Common.{◌≡◌, ℕ, zero, suc, ◌-◌, ◌<◌, ◌≤◌, Bool, true, false, cond, not, eqb, List, [], ◌∷◌, length, drop, take_while, refl, ap, ◌∙◌, inl, inr, arith}
+use Rattle.std.proofs.Common.{◌≡◌, ℕ, suc, ◌-◌, ◌≤◌, Bool, true, false, cond, not, eqb, List, [], ◌∷◌, length, drop, take_while, refl, ap, ◌∙◌, inl, inr, arith}
 use Rattle.std.proofs.lemmas.Bool.{cases_Bool}
 use Rattle.std.proofs.lemmas.List.Sums.{take_while-cons}
 use Rattle.std.proofs.lemmas.List.{length-drop}
@@ -51,6 +51,9 @@ blanks-suffix false (b ∷ bs) =
         | inr other ↦ (0, omega arith, rw (f, other) refl)
       ]
     ]
+
+pub blanks-within : (xs : List ℕ) → length (behind_blanks false xs) ≤ length xs
+blanks-within xs = let r = blanks-suffix false xs in omega (arith, ap length r.2, length-drop r.0 xs)
 
 pub drop-blanks : (xs : List ℕ) → drop (length xs - length (behind_blanks false xs)) xs ≡ behind_blanks false xs
 drop-blanks xs =

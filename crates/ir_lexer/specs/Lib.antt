@@ -5,3 +5,5 @@ pub mod Lexeme
 pub mod Tokens
 pub mod Answer
 pub mod Scan
+pub mod Position
+pub mod Marks

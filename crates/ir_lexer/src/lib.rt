@@ -1,17 +1,25 @@
 //! The tokens of a text of LLVM IR.
 //!
-//! It promises that [`lex`] gives the longest token each time, from the left, with its line and
-//! column, or the first place where no token begins, and nothing else; the class of a token is a
-//! property of its whole spelling. It stands on `text_places` and `support`; the cut into items and
-//! the reader take the tokens.
+//! It promises that [`lex`] and [`Lexer`] give the longest token each time, from the left, with its
+//! line and column, or the first position where no token begins, and nothing else; the class of a
+//! token is a property of its whole spelling. [`lex`] answers a table of all tokens, in 16 bytes
+//! each; a [`Lexer`] gives the same tokens one after another and keeps none of them. It stands on
+//! `text_places` and `support`; the cut into items takes the table, and the reader the tokens of one
+//! item at a time.
 #![tactic(auto)]
 
 mod blanks;
 mod bytes;
+mod cursor;
+mod lexer;
 mod lexing;
+mod mark;
 mod parts;
 mod scan;
 mod token;
+mod tokens;
 
+pub use lexer::Lexer;
 pub use lexing::{LexFault, lex};
 pub use token::{Kind, Token};
+pub use tokens::Tokens;
