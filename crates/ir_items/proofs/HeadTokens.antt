@@ -1,19 +1,18 @@
 -- Heads and names are no brackets.
-use Rattle.std.proofs.Common.{◌≡◌, ◌⊎◌, ℕ, suc, ◌+◌, ◌<◌, Bool, true, false, cond, ◌&&◌, ◌||◌, List, [], ◌∷◌, length, get_or, Option, Some, None, refl, sym, ap, ◌∙◌, inl, inr, arith}
-use Rattle.std.specs.Prelude.{slice_get, codes, position, is_some, nat_lt}
+use Rattle.std.proofs.Common.{◌≡◌, ◌⊎◌, ℕ, suc, ◌+◌, ◌<◌, Bool, true, false, cond, ◌&&◌, ◌||◌, List, [], ◌∷◌, length, drop, Option, Some, None, refl, sym, ap, ◌∙◌, inl, inr, arith}
+use Rattle.std.specs.Prelude.{slice_get, IsSomeAnd, codes, position, is_some, nat_lt}
 use Rattle.std.specs.List.{list_any, position_or_len}
 use Rattle.std.specs.Str.{bytes_eq}
 use Rattle.std.specs.Cmp.Lexicographic.{bytes_decides}
 use Rattle.std.proofs.lemmas.Bool.{and_parts, eqb-true, cases_eq, cases_Bool, cases_lt, lt-ltb, le-ltb}
-use Rattle.std.proofs.lemmas.Option.{slice_get-get_or, slice_get_within, slice_get_read, same_Some}
+use Rattle.std.proofs.lemmas.Option.{slice_get_within}
 use Rattle.ir_lexer.specs.declared.token.Kind.{Kind}
 use Rattle.ir_lexer.specs.declared.token.Kind.TheVariants as kind
 use Rattle.ir_lexer.specs.Lexeme.{Lexeme}
 use Rattle.ir_items.specs.Marks.{mark_in, mark_of, marks_after, IsBalanced}
 use Rattle.ir_items.specs.Items.{passes, token_passes, is_word_of, is_word, is_head_word, is_name, is_global_kind, is_global, is_mark, is_head, is_define, is_called, is_brace, is_first_on_line, begins_item, is_plain_string, has_bad_layout, is_wrong_layout, OtherGoesOn, NoHeadBetween, name_from, name_at}
 use Rattle.ir_tree.specs.declared.name.Name.{Name}
-use Rattle.ir_items.specs.Names.{name_in}
-use Rattle.ir_items.proofs.Passing.{passes_at}
+use Rattle.ir_items.specs.Names.{name_of, name_in}
 use Rattle.ir_items.proofs.Opening.{at_start, marks_next, balanced_on}
 
 kinds : (k : Kind) (text : List ℕ) → (k ≡ kind.Mark) ⊎ (mark_in k text ≡ 0)
@@ -22,10 +21,7 @@ kinds _ text = inr refl
 
 -- a token that is no mark leaves the brackets as they are
 pub plain_balanced : (tokens : List Lexeme) (place : ℕ) (t : Lexeme) → slice_get tokens place ≡ Some t → mark_of t ≡ 0 → IsBalanced tokens place (place + 1)
-plain_balanced tokens place t here plain =
-    let within : place < length tokens = slice_get_within tokens place t here in
-    let is : t ≡ get_or tokens place t = same_Some t (get_or tokens place t) (sym here ∙ slice_get-get_or tokens place t within) in
-    marks_next tokens place place t 0 [] (Some []) (omega arith) within is (at_start tokens place) (sym plain) refl
+plain_balanced tokens place t here plain = marks_next tokens place place 0 [] (Some []) (omega arith) (rw here (sym plain)) (at_start tokens place) refl
 
 head_plain : (t : Lexeme) (equals : Bool) → (is_head_word t || is_name t && equals) ≡ true → mark_of t ≡ 0
 head_plain t equals h =
@@ -150,10 +146,7 @@ quiet_balanced tokens test place quiet h = go (slice_get tokens place) refl h
   where
     go : (o : Option Lexeme) → slice_get tokens place ≡ o → passes test o ≡ true → IsBalanced tokens place (place + 1)
     go None here p = absurd (cc)
-    go (Some t) here p =
-        let within : place < length tokens = slice_get_within tokens place t here in
-        let is : t ≡ get_or tokens place t = same_Some t (get_or tokens place t) (sym here ∙ slice_get-get_or tokens place t within) in
-        marks_next tokens place place t (mark_of t) [] (Some []) (omega arith) within is (at_start tokens place) refl (quiet t p)
+    go (Some t) here p = marks_next tokens place place (mark_of t) [] (Some []) (omega arith) (rw here refl) (at_start tokens place) (quiet t p)
 
 word_quiet : (word : List ℕ) (t : Lexeme) → is_word word t ≡ true → marks_after (Some []) (mark_of t) ≡ Some []
 word_quiet word t h = rw (word_kind t.kind t.text word h).0 refl
@@ -229,13 +222,18 @@ brace_begins_nothing tokens place h = mark_begins_nothing tokens place 122 h
 
 -- ---- names
 
-pub called_global : (tokens : List Lexeme) (place : ℕ) (t : Lexeme) → is_called tokens place ≡ true → place < length tokens → t ≡ get_or tokens place t → is_global t ≡ true
-unfolding is_called
-called_global tokens place t h within is = sym (passes_at tokens is_global place t within is) ∙ (and_parts _ _ h).0
+-- what the bytes of a global name's token spell is the name at its place
+pub called_name : (tokens : List Lexeme) (place : ℕ) (text : List ℕ) (name : Name) → is_called tokens place ≡ true → IsSomeAnd (slice_get tokens place) (λ t. text ≡ t.text) → name ≡ name_of (drop 1 text) → name_at tokens place ≡ Some name
+unfolding is_called name_at
+called_name tokens place text name h texts spelled = go (slice_get tokens place) (and_parts _ _ h).0 texts
+  where
+    named : (k : Kind) → is_global_kind k ≡ true → name_in k text ≡ Some name
+    named kind.Global p = ap (λ (n : Name). Some n) (sym spelled)
+    named _ p = absurd (cc)
 
-pub name_at_token : (tokens : List Lexeme) (place : ℕ) (t : Lexeme) → place < length tokens → t ≡ get_or tokens place t → name_at tokens place ≡ name_in t.kind t.text
-unfolding name_at
-name_at_token tokens place t within is = ap name_from (slice_get_read tokens (length tokens) place t refl within is)
+    go : (o : Option Lexeme) → passes is_global o ≡ true → IsSomeAnd o (λ t. text ≡ t.text) → name_from o ≡ Some name
+    go None p is = absurd is
+    go (Some t) p is = rw (sym is) (named t.kind p)
 
 any_position : (p : Name → Bool) (xs : List Name) → nat_lt (position_or_len p xs) (length xs) ≡ list_any p xs
 any_position p [] = refl

@@ -1,10 +1,11 @@
 -- What is open behind one token more.
-use Rattle.std.proofs.Common.{◌≡◌, ℕ, ◌+◌, ◌-◌, ◌<◌, ◌≤◌, true, false, List, [], ◌∷◌, ◌++◌, length, get_or, slice_range, take, drop, Option, Some, None, refl, sym, ap, ◌∙◌, inl, inr, arith}
-use Rattle.std.specs.Prelude.{fold, is_some}
+use Rattle.std.proofs.Common.{◌≡◌, ℕ, ◌+◌, ◌-◌, ◌<◌, ◌≤◌, true, false, List, [], ◌∷◌, ◌++◌, length, slice_range, take, drop, Option, Some, None, refl, sym, ap, ◌∙◌, inl, inr, arith}
+use Rattle.std.specs.Prelude.{fold, is_some, slice_get, IsSomeAnd}
 use Rattle.std.proofs.lemmas.Bool.{cases_lt}
 use Rattle.std.proofs.lemmas.List.{take-append-drop, take-take, drop-take, drop-drop}
 use Rattle.std.proofs.lemmas.List.Edits.{between_more, between_none}
 use Rattle.std.proofs.lemmas.List.Sums.{fold_push, fold-append}
+use Rattle.std.proofs.lemmas.Option.{slice_get_within, get_or_from_slice_get}
 use Rattle.ir_lexer.specs.Lexeme.{Lexeme}
 use Rattle.ir_items.specs.Marks.{mark_of, marks_after, marks_behind, marks, IsBalanced, has_open, IsInside, IsPiece}
 
@@ -15,11 +16,11 @@ pub at_start : (tokens : List Lexeme) (from : ℕ) → marks tokens from from �
 unfolding marks
 at_start tokens from = ap marks_behind (between_none tokens from)
 
-pub marks_more : (tokens : List Lexeme) (from place : ℕ) (t : Lexeme) → from ≤ place → place < length tokens → t ≡ get_or tokens place t → marks tokens from (place + 1) ≡ marks_after (marks tokens from place) (mark_of t)
+marks_more : (tokens : List Lexeme) (from place : ℕ) (t : Lexeme) → from ≤ place → slice_get tokens place ≡ Some t → marks tokens from (place + 1) ≡ marks_after (marks tokens from place) (mark_of t)
 unfolding marks
-marks_more tokens from place t le lt is =
-    ap marks_behind (between_more tokens from place t le lt)
-    ∙ ap (λ (x : Lexeme). marks_behind (slice_range tokens from place ++ x ∷ [])) (sym is)
+marks_more tokens from place t le at =
+    ap marks_behind (between_more tokens from place t le (slice_get_within tokens place t at))
+    ∙ ap (λ (x : Lexeme). marks_behind (slice_range tokens from place ++ x ∷ [])) (get_or_from_slice_get tokens place t t at)
     ∙ fold_push (λ (open_marks : Option (List ℕ)) (u : Lexeme). marks_after open_marks (mark_of u)) (Some []) (slice_range tokens from place) t
 
 take_split : (n m : ℕ) (xs : List Lexeme) → take (n + m) xs ≡ take n xs ++ take m (drop n xs)
@@ -64,10 +65,13 @@ pub nonempty_open : (open_marks : List ℕ) → 0 < length open_marks → has_op
 nonempty_open [] h = absurd (omega arith)
 nonempty_open (mark ∷ more) h = refl
 
-pub marks_next : (tokens : List Lexeme) (from place : ℕ) (t : Lexeme) (mark : ℕ) (open_marks : List ℕ) (now : Option (List ℕ)) → from ≤ place → place < length tokens → t ≡ get_or tokens place t
-    → marks tokens from place ≡ Some open_marks → mark ≡ mark_of t → marks_after (Some open_marks) mark ≡ now → marks tokens from (place + 1) ≡ now
-marks_next tokens from place t mark open_marks now le lt is here mark-is step =
-    marks_more tokens from place t le lt is ∙ ap (λ (o : Option (List ℕ)). marks_after o (mark_of t)) here ∙ ap (marks_after (Some open_marks)) (sym mark-is) ∙ step
+pub marks_next : (tokens : List Lexeme) (from place mark : ℕ) (open_marks : List ℕ) (now : Option (List ℕ)) → from ≤ place → IsSomeAnd (slice_get tokens place) (λ t. mark ≡ mark_of t)
+    → marks tokens from place ≡ Some open_marks → marks_after (Some open_marks) mark ≡ now → marks tokens from (place + 1) ≡ now
+marks_next tokens from place mark open_marks now le marked here step = go (slice_get tokens place) refl marked
+  where
+    go : (o : Option Lexeme) → slice_get tokens place ≡ o → IsSomeAnd o (λ t. mark ≡ mark_of t) → marks tokens from (place + 1) ≡ now
+    go None at is = absurd is
+    go (Some t) at is = marks_more tokens from place t le at ∙ ap (λ (o : Option (List ℕ)). marks_after o (mark_of t)) here ∙ ap (marks_after (Some open_marks)) (sym is) ∙ step
 
 -- ---- what is open fits
 

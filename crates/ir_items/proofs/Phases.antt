@@ -47,8 +47,8 @@ or_right true h = refl
 or_right false h = h
 
 -- the text ends in a define
-pub define_ends : (tokens : List Lexeme) (defines : List Define) (first : ℕ) → is_define tokens first ≡ true → GoesOn tokens defines first (length tokens) → StopsAt tokens defines first (length tokens) why.TextEnds
-define_ends tokens defines first word on = StopsAt.text_ends on (or_left (is_define tokens first) _ word)
+pub define_ends : (tokens : List Lexeme) (defines : List Define) (first end : ℕ) → end ≡ length tokens → is_define tokens first ≡ true → GoesOn tokens defines first end → StopsAt tokens defines first end why.TextEnds
+define_ends tokens defines first end is word on = rw is (StopsAt.text_ends (subst (λ (p : ℕ). GoesOn tokens defines first p) is on) (or_left (is_define tokens first) _ word))
 
 -- ---- other items
 
@@ -91,7 +91,7 @@ name_stops tokens defines first k place reason few balanced here uncalled h kl (
 name_stops tokens defines first k place reason few balanced here uncalled h kl (PieceStopsAt.text_ends is inside) =
     let at_end : IsInside tokens k (length tokens) = subst (λ (p : ℕ). IsInside tokens k p) is inside in
     subst (λ (p : ℕ). StopsAt tokens defines first p why.TextEnds) (sym is)
-    (define_ends tokens defines first h.word
+    (define_ends tokens defines first (length tokens) refl h.word
     (GoesOn.before_name few (name_to tokens first k (length tokens) balanced here uncalled (omega arith) (omega arith) (to_place tokens k (length tokens) at_end) h)
     (inside_fits tokens first k (length tokens) (omega (arith, h.some)) (omega arith) balanced at_end)))
 
@@ -103,7 +103,7 @@ parameters_stop tokens defines first name place reason new balanced nl (PieceSto
     StopsAt.bracket (GoesOn.in_parameters new kp inside) pl (marks_join tokens first (name + 1) (place + 1) (omega (arith, new.named.before.some)) (omega arith) balanced ∙ none)
 parameters_stop tokens defines first name place reason new balanced nl (PieceStopsAt.text_ends is inside) =
     subst (λ (p : ℕ). StopsAt tokens defines first p why.TextEnds) (sym is)
-    (define_ends tokens defines first new.named.before.word (GoesOn.in_parameters new (omega arith) (subst (λ (p : ℕ). IsInside tokens (name + 1) p) is inside)))
+    (define_ends tokens defines first (length tokens) refl new.named.before.word (GoesOn.in_parameters new (omega arith) (subst (λ (p : ℕ). IsInside tokens (name + 1) p) is inside)))
 
 -- ---- before the body
 
@@ -135,7 +135,7 @@ body_stops tokens defines first name k place reason new balanced here no_brace h
     let fk : first ≤ k = omega (arith, h.named.before.some, h.parameters.some, h.behind) in
     let at_end : IsInside tokens k (length tokens) = subst (λ (p : ℕ). IsInside tokens k p) is inside in
     subst (λ (p : ℕ). StopsAt tokens defines first p why.TextEnds) (sym is)
-    (define_ends tokens defines first h.named.before.word
+    (define_ends tokens defines first (length tokens) refl h.named.before.word
     (GoesOn.before_body new (body_to tokens first name k (length tokens) balanced here no_brace (omega arith) (omega arith) (to_place tokens k (length tokens) at_end) h)
     (inside_fits tokens first k (length tokens) fk (omega arith) balanced at_end)))
 
@@ -148,7 +148,7 @@ in_body_stops tokens defines first name body place reason new h bl (PieceStopsAt
     (marks_join tokens first body (place + 1) (omega (arith, h.before.named.before.some, h.before.parameters.some, h.before.behind)) (omega arith) h.balanced ∙ none)
 in_body_stops tokens defines first name body place reason new h bl (PieceStopsAt.text_ends is inside) =
     subst (λ (p : ℕ). StopsAt tokens defines first p why.TextEnds) (sym is)
-    (define_ends tokens defines first h.before.named.before.word (GoesOn.in_body new h (omega arith) (subst (λ (p : ℕ). IsInside tokens body p) is inside)))
+    (define_ends tokens defines first (length tokens) refl h.before.named.before.word (GoesOn.in_body new h (omega arith) (subst (λ (p : ℕ). IsInside tokens body p) is inside)))
 
 -- ---- the faults of pieces are those of their items
 

@@ -35,10 +35,13 @@ abbrev pub is_mark : ℕ → Lexeme → Bool
 is_mark mark t = mark_of t == mark
 
 -- the words that begin an item
+abbrev pub is_head_word_of : Kind → List ℕ → Bool
+is_head_word_of kind text =
+    is_word_of kind text (codes "define") || is_word_of kind text (codes "declare") || is_word_of kind text (codes "source_filename") || is_word_of kind text (codes "target")
+    || is_word_of kind text (codes "attributes") || is_word_of kind text (codes "module") || is_word_of kind text (codes "uselistorder") || is_word_of kind text (codes "uselistorder_bb")
+
 abbrev pub is_head_word : Lexeme → Bool
-is_head_word t =
-    is_word (codes "define") t || is_word (codes "declare") t || is_word (codes "source_filename") t || is_word (codes "target") t
-    || is_word (codes "attributes") t || is_word (codes "module") t || is_word (codes "uselistorder") t || is_word (codes "uselistorder_bb") t
+is_head_word t = is_head_word_of t.kind t.text
 
 abbrev pub is_global_kind : Kind → Bool
 is_global_kind kind.Global = true

@@ -1,11 +1,10 @@
-ghost use Rattle.std.specs.Prelude.{◌≡◌, ◌+◌, ◌<◌, ◌≤◌, ℕ, List, length, map, IfOk, IfErr, OnOk, Some, true, false};
+ghost use Rattle.std.specs.Prelude.{◌≡◌, ◌+◌, ◌<◌, ◌≤◌, ℕ, List, length, map, IfOk, IfErr, OnOk, true, false};
 ghost use Rattle.ir_lexer.specs.Lexeme.{Lexeme};
 ghost use Rattle.ir_items.specs.declared.fault.Why.{Why as TheWhy};
 ghost use Rattle.ir_items.specs.declared.item.Define.{Define as TheDefine};
 ghost use Rattle.ir_items.specs.Marks.{IsBalanced};
 ghost use Rattle.ir_items.specs.Items as spec;
 ghost use Rattle.ir_items.specs.Items.{IsCut};
-ghost use Rattle.ir_items.specs.Names.{name_in};
 ghost use Rattle.ir_items.specs.Pieces.{ItemStops, IsAdded};
 ghost use Rattle.ir_items.specs.Stops.{Stops, IsNew, IsStop};
 
@@ -14,43 +13,45 @@ use crate::heads::{begins_item, is_brace, is_called, is_define, is_head, is_wron
 use crate::item::Define;
 use crate::marks::piece_end;
 use crate::names::name_behind_sign;
-use ir_lexer::Token;
-use ir_tree::{Name, Names};
+use ir_lexer::Tokens;
+use ir_tree::Names;
 use std::alloc::Global;
-use support::{NoMemory, Sequence};
+use support::Sequence;
 
 /// The most functions with a body that a text may have.
 pub const MOST_FUNCTIONS: usize = 4096;
 
 // The place behind an item that is no define.
-fn other_end(alloc: Global, tokens: &[Token<'_>], first: usize) -> Result<usize, ItemFault>
+fn other_end(alloc: Global, tokens: &Tokens<'_>, first: usize) -> Result<usize, ItemFault>
     requires within { first < length tokens.now }
     requires head { spec.is_head tokens.now first ≡ true }
     requires other { spec.is_define tokens.now first ≡ false }
     ensures ok { IfOk result (λ end. spec.IsOther tokens.now first end) }
     ensures stops { IfErr result (λ fault. (defines : List TheDefine) → ItemStops tokens.now defines first fault) }
 {
+    let end = tokens.len();
     if is_wrong_layout(tokens, first) {
         let why = Why::DataLayout;
         return Err(ItemFault::Stop { at: first + 3, why });
     }
     let mut place = first + 1;
-    while place < tokens.len() && !begins_item(tokens, place) {
+    while place < end && !begins_item(tokens, place) {
         place = piece_end(alloc, tokens, place)?;
     }
     Ok(place)
 }
 
 // The place of the name of the define that begins at a place.
-fn name_place(alloc: Global, tokens: &[Token<'_>], first: usize) -> Result<usize, ItemFault>
+fn name_place(alloc: Global, tokens: &Tokens<'_>, first: usize) -> Result<usize, ItemFault>
     requires within { first < length tokens.now }
     requires head { spec.is_head tokens.now first ≡ true }
     requires define { spec.is_define tokens.now first ≡ true }
     ensures ok { IfOk result (λ name. spec.IsNamed tokens.now first name) }
     ensures stops { IfErr result (λ fault. (defines : List TheDefine) → length defines < MOST_FUNCTIONS → ItemStops tokens.now defines first fault) }
 {
+    let end = tokens.len();
     let mut place = first + 1;
-    while place < tokens.len() {
+    while place < end {
         if begins_item(tokens, place) {
             let why = Why::NoBody;
             return Err(ItemFault::Stop { at: place, why });
@@ -61,20 +62,18 @@ fn name_place(alloc: Global, tokens: &[Token<'_>], first: usize) -> Result<usize
         place = piece_end(alloc, tokens, place)?;
     }
     let why = Why::TextEnds;
-    Err(ItemFault::Stop {
-        at: tokens.len(),
-        why,
-    })
+    Err(ItemFault::Stop { at: end, why })
 }
 
 // The place of the body of a define, from behind its parameters on.
-fn body_place(alloc: Global, tokens: &[Token<'_>], behind: usize) -> Result<usize, ItemFault>
+fn body_place(alloc: Global, tokens: &Tokens<'_>, behind: usize) -> Result<usize, ItemFault>
     ensures ok { IfOk result (λ body. (first name : ℕ) → spec.BeforeBody tokens.now first name behind → IsBalanced tokens.now first behind → spec.HasBody tokens.now first name body) }
     ensures within { IfOk result (λ body. body < length tokens.now) }
     ensures stops { IfErr result (λ fault. (defines : List TheDefine) (first name : ℕ) → IsNew tokens.now defines first name → spec.BeforeBody tokens.now first name behind → IsBalanced tokens.now first behind → ItemStops tokens.now defines first fault) }
 {
+    let end = tokens.len();
     let mut place = behind;
-    while place < tokens.len() {
+    while place < end {
         if begins_item(tokens, place) {
             let why = Why::NoBody;
             return Err(ItemFault::Stop { at: place, why });
@@ -85,35 +84,26 @@ fn body_place(alloc: Global, tokens: &[Token<'_>], behind: usize) -> Result<usiz
         place = piece_end(alloc, tokens, place)?;
     }
     let why = Why::TextEnds;
-    Err(ItemFault::Stop {
-        at: tokens.len(),
-        why,
-    })
+    Err(ItemFault::Stop { at: end, why })
 }
 
 // The place behind the define whose name stands at a place.
-fn define_end(alloc: Global, tokens: &[Token<'_>], name: usize) -> Result<usize, ItemFault>
+fn define_end(alloc: Global, tokens: &Tokens<'_>, name: usize) -> Result<usize, ItemFault>
     requires { name + 1 < length tokens.now }
     ensures ok { IfOk result (λ end. (first : ℕ) → spec.IsNamed tokens.now first name → spec.IsDefine tokens.now first name end) }
     ensures stops { IfErr result (λ fault. (defines : List TheDefine) (first : ℕ) → IsNew tokens.now defines first name → ItemStops tokens.now defines first fault) }
 {
+    // So the place behind the name is a `usize`.
+    prove!(name < tokens.len());
     let behind = piece_end(alloc, tokens, name + 1)?;
     let body = body_place(alloc, tokens, behind)?;
     piece_end(alloc, tokens, body)
 }
 
-// The name that a global name's token spells.
-fn global_name(alloc: Global, token: &Token<'_>) -> Result<Name, NoMemory>
-    requires { spec.is_global token.now ≡ true }
-    ensures { IfOk result (λ name. name_in token.now.kind token.now.text ≡ Some name) }
-{
-    name_behind_sign(alloc, token.text())
-}
-
 // The place behind a define, which joins those before it.
 fn define(
     alloc: Global,
-    tokens: &[Token<'_>],
+    tokens: &Tokens<'_>,
     first: usize,
     defines: &mut Vec<Define>,
     names: &mut Names,
@@ -132,14 +122,15 @@ fn define(
         return Err(ItemFault::Stop { at: first, why });
     }
     let place = name_place(alloc, tokens, first)?;
-    let name = global_name(alloc, &tokens[place])?;
+    let text = tokens.text(place);
+    let name = name_behind_sign(alloc, text)?;
     if names.find(&name).is_some() {
         let why = Why::NameTwice;
         return Err(ItemFault::Stop { at: place, why });
     }
     let end = define_end(alloc, tokens, place)?;
     let last = end - 1;
-    names.number(global_name(alloc, &tokens[place])?)?;
+    names.number(name_behind_sign(alloc, text)?)?;
     defines.push(Define { name, first, last })?;
     Ok(end)
 }
@@ -147,7 +138,7 @@ fn define(
 // The place behind the item that begins at a place, which joins those before it if it is a define.
 fn next_item(
     alloc: Global,
-    tokens: &[Token<'_>],
+    tokens: &Tokens<'_>,
     first: usize,
     defines: &mut Vec<Define>,
     names: &mut Names,
@@ -175,7 +166,7 @@ fn next_item(
 ///
 /// A `Stop` comes exactly where the text stops being items one after another: at the first such
 /// token, with the reason. The time is linear in the number of tokens.
-pub fn cut(alloc: Global, tokens: &[Token<'_>]) -> Result<Sequence<Define>, ItemFault>
+pub fn cut(alloc: Global, tokens: &Tokens<'_>) -> Result<Sequence<Define>, ItemFault>
     ensures items { IfOk result (λ defines. IsCut tokens.now (length tokens.now) defines) }
     ensures stops { IfErr result (Stops tokens.now) }
 {

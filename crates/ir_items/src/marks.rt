@@ -1,20 +1,28 @@
 // Brackets.
-ghost use Rattle.std.specs.Prelude.{◌≡◌, ◌<◌, List, ℕ, length, IfOk, IfErr, if◌then◌else◌, Some, None};
-ghost use Rattle.ir_items.specs.Marks.{mark_of, opens, closes, closing, marks_after, IsPiece};
+ghost use Rattle.std.specs.Prelude.{◌≡◌, ◌<◌, List, ℕ, length, IfOk, IfErr, if◌then◌else◌, Some, None, slice_get, IsSomeAnd};
+ghost use Rattle.ir_items.specs.Marks.{mark_in, mark_of, opens, closes, closing, marks_after, IsPiece};
 ghost use Rattle.ir_items.specs.Pieces.{PieceStops};
 
 use crate::fault::{ItemFault, Why};
-use ir_lexer::{Kind, Token};
+use ir_lexer::{Kind, Tokens};
 use std::alloc::{AllocError, Global};
 
 // The byte of a mark of one byte, 0 for any other token.
-pub fn mark_of(token: &Token<'_>) -> u8
-    ensures { result ≡ mark_of token.now }
+fn mark_in(kind: Kind, text: &[u8]) -> u8
+    ensures { result ≡ mark_in kind text.now }
 {
-    match (token.kind(), token.text()) {
+    match (kind, text) {
         (Kind::Mark, [mark]) => *mark,
         _ => 0,
     }
+}
+
+// The mark at a place, 0 where another token stands.
+pub fn mark_at(tokens: &Tokens<'_>, place: usize) -> u8
+    requires { place < length tokens.now }
+    ensures { IsSomeAnd (slice_get tokens.now place) (λ t. result ≡ mark_of t) }
+{
+    mark_in(tokens.kind(place), tokens.text(place))
 }
 
 fn opens(mark: u8) -> bool
@@ -57,14 +65,15 @@ fn fits(open: &mut Vec<u8>, mark: u8) -> Result<bool, AllocError>
 
 /// The place behind the piece that begins at a place: a token that is no bracket, or an opening
 /// mark and all to the mark that closes it.
-pub fn piece_end(alloc: Global, tokens: &[Token<'_>], from: usize) -> Result<usize, ItemFault>
+pub fn piece_end(alloc: Global, tokens: &Tokens<'_>, from: usize) -> Result<usize, ItemFault>
     requires { from < length tokens.now }
     ensures ok { IfOk result (λ end. IsPiece tokens.now from end) }
     ensures stops { IfErr result (PieceStops tokens.now from) }
 {
+    let end = tokens.len();
     let mut open = Vec::new(alloc);
-    for place in from..tokens.len() {
-        if !fits(&mut open, mark_of(&tokens[place]))? {
+    for place in from..end {
+        if !fits(&mut open, mark_at(tokens, place))? {
             let why = Why::Bracket;
             return Err(ItemFault::Stop { at: place, why });
         }
@@ -73,8 +82,5 @@ pub fn piece_end(alloc: Global, tokens: &[Token<'_>], from: usize) -> Result<usi
         }
     }
     let why = Why::TextEnds;
-    Err(ItemFault::Stop {
-        at: tokens.len(),
-        why,
-    })
+    Err(ItemFault::Stop { at: end, why })
 }

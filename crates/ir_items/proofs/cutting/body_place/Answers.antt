@@ -1,7 +1,7 @@
-use Rattle.std.proofs.Common.{◌≡◌, ℕ, false, true, length, sym, subst, ◌∙◌, arith}
+use Rattle.std.proofs.Common.{◌≡◌, ℕ, sym, subst, ◌∙◌, arith}
 use Rattle.std.proofs.lemmas.Result.{err_from_is_err_and}
 use Rattle.ir_items.specs.Marks.{IsBalanced}
-use Rattle.ir_items.specs.Items.{begins_item, is_brace, BeforeBody}
+use Rattle.ir_items.specs.Items.{BeforeBody}
 use Rattle.ir_items.specs.Stops.{GoesOn, StopsAt}
 use Rattle.ir_items.proofs.Opening.{piece_balanced, balanced_fits}
 use Rattle.ir_items.proofs.Phases.{body_piece, body_fault, define_ends}
@@ -16,7 +16,7 @@ pub returns-in_err-place-clause-stops : goal.returns-in_err-place-clause-stops
 returns-in_err-place-clause-stops c =
     let p = err_from_is_err_and c.from_residual.result c.from_residual.ensures.1 in
     rw (p.1, p.2) (λ defines first name new h b. let i : BeforeBody c.args.tokens.now first name c.loop-place.place × IsBalanced c.args.tokens.now first c.loop-place.place = c.loop-place.invariant first name h b in
-    body_fault c.args.tokens.now defines first name c.loop-place.place _ new i.1 (sym c.begins_item.ensures ∙ c.if-begins_item.false) (sym c.is_brace.ensures ∙ c.if-is_brace.false) i.0 c.loop-place-test.true c.in_err-place.ensures.stops)
+    body_fault c.args.tokens.now defines first name c.loop-place.place _ new i.1 (sym c.begins_item.ensures ∙ c.if-begins_item.false) (sym c.is_brace.ensures ∙ c.if-is_brace.false) i.0 (omega arith) c.in_err-place.ensures.stops)
 
 pub loop-place-preserved : goal.loop-place-preserved
 loop-place-preserved c = λ first name h b.
@@ -28,8 +28,8 @@ loop-place-preserved c = λ first name h b.
 pub returns-clause-stops : goal.returns-clause-stops
 returns-clause-stops c = λ defines first name new h b.
     let i : BeforeBody c.args.tokens.now first name c.loop-place.place × IsBalanced c.args.tokens.now first c.loop-place.place = c.loop-place.invariant first name h b in
-    let at_end : c.loop-place.place ≡ length c.args.tokens.now = omega (arith, c.loop-place-test.false, i.0.within) in
-    define_ends c.args.tokens.now defines first i.0.named.before.word
+    let at_end : c.loop-place.place ≡ c.len-end.result = omega (arith, c.loop-place-test.false, i.0.within) in
+    define_ends c.args.tokens.now defines first c.len-end.result c.len-end.ensures i.0.named.before.word
     (subst (λ (p : ℕ). GoesOn c.args.tokens.now defines first p) at_end (GoesOn.before_body new i.0 (balanced_fits c.args.tokens.now first c.loop-place.place i.1)))
 
 pub returns-then-is_brace-clause-ok : goal.returns-then-is_brace-clause-ok

@@ -5,7 +5,7 @@ use Rattle.std.proofs.lemmas.Grind.{common_steps}
 use Rattle.std.proofs.lemmas.Result.{err_from_is_err_and}
 use Rattle.ir_tree.specs.Names.{same_name}
 use Rattle.ir_items.specs.Stops.{StopsAt}
-use Rattle.ir_items.proofs.HeadTokens.{called_opens, called_global, name_at_token, found_some}
+use Rattle.ir_items.proofs.HeadTokens.{called_opens, called_name, found_some}
 use Rattle.ir_items.proofs.cutting.define.Goals as goal
 
 pub returns-then-len-eq-MOST_FUNCTIONS-clause-stops : goal.returns-then-len-eq-MOST_FUNCTIONS-clause-stops
@@ -16,18 +16,14 @@ returns-in_err-place-clause-stops c =
     let p = err_from_is_err_and c.from_residual.result c.from_residual.ensures.1 in
     rw (p.1, p.2) (c.in_err-place.ensures.stops c.args.defines.now.items (grind (arith, common_steps)))
 
-pub bounds-tokens-place : goal.bounds-tokens-place
-bounds-tokens-place c = omega (arith, (called_opens c.args.tokens.now c.in_ok-place.place c.in_ok-place.ensures.ok.called).0)
-
-pub global_name-requires : goal.global_name-requires
-global_name-requires c =
-    called_global c.args.tokens.now c.in_ok-place.place c.index-tokens-place.result c.in_ok-place.ensures.ok.called (omega (arith, (called_opens c.args.tokens.now c.in_ok-place.place c.in_ok-place.ensures.ok.called).0)) c.index-tokens-place.is
+pub text-text-requires : goal.text-text-requires
+text-text-requires c = omega (arith, (called_opens c.args.tokens.now c.in_ok-place.place c.in_ok-place.ensures.ok.called).0)
 
 pub returns-then-is_some-clause-stops : goal.returns-then-is_some-clause-stops
 returns-then-is_some-clause-stops c =
     let here : is_some (position (same_name c.in_ok-name.name) c.args.names.now) ≡ true = ap is_some (sym c.find.ensures.value) ∙ sym c.is_some.ensures ∙ c.if-is_some.true in
     StopsAt.name_twice (grind (arith, common_steps)) c.in_ok-place.ensures.ok
-    (name_at_token c.args.tokens.now c.in_ok-place.place c.index-tokens-place.result (omega (arith, (called_opens c.args.tokens.now c.in_ok-place.place c.in_ok-place.ensures.ok.called).0)) c.index-tokens-place.is ∙ c.in_ok-name.ensures)
+    (called_name c.args.tokens.now c.in_ok-place.place c.text-text.result.now c.in_ok-name.name c.in_ok-place.ensures.ok.called c.text-text.ensures c.in_ok-name.ensures)
     (ap (list_any (same_name c.in_ok-name.name)) (sym c.requires.names) ∙ sym (found_some (same_name c.in_ok-name.name) c.args.names.now) ∙ here)
 
 pub define_end-requires : goal.define_end-requires
@@ -41,13 +37,9 @@ returns-in_err-end-clause-stops c =
       few = grind (arith, common_steps);
       named = c.in_ok-place.ensures.ok;
       name = c.in_ok-name.name;
-      spelled = name_at_token c.args.tokens.now c.in_ok-place.place c.index-tokens-place.result (omega (arith, (called_opens c.args.tokens.now c.in_ok-place.place c.in_ok-place.ensures.ok.called).0)) c.index-tokens-place.is ∙ c.in_ok-name.ensures;
+      spelled = called_name c.args.tokens.now c.in_ok-place.place c.text-text.result.now c.in_ok-name.name c.in_ok-place.ensures.ok.called c.text-text.ensures c.in_ok-name.ensures;
       fresh = ap (list_any (same_name c.in_ok-name.name)) (sym c.requires.names) ∙ sym (found_some (same_name c.in_ok-name.name) c.args.names.now) ∙ absent;
     }))
-
-pub global_name-requires-2 : goal.global_name-requires-2
-global_name-requires-2 c =
-    called_global c.args.tokens.now c.in_ok-place.place c.index-tokens-place-2.result c.in_ok-place.ensures.ok.called (omega (arith, (called_opens c.args.tokens.now c.in_ok-place.place c.in_ok-place.ensures.ok.called).0)) c.index-tokens-place-2.is
 
 pub returns-clause-ok : goal.returns-clause-ok
 returns-clause-ok c =
@@ -56,7 +48,7 @@ returns-clause-ok c =
       name = c.in_ok-name.name;
       place = c.in_ok-place.place;
       define = c.in_ok-end.ensures.ok c.args.first c.in_ok-place.ensures.ok;
-      named = name_at_token c.args.tokens.now c.in_ok-place.place c.index-tokens-place.result (omega (arith, (called_opens c.args.tokens.now c.in_ok-place.place c.in_ok-place.ensures.ok.called).0)) c.index-tokens-place.is ∙ c.in_ok-name.ensures;
+      named = called_name c.args.tokens.now c.in_ok-place.place c.text-text.result.now c.in_ok-name.name c.in_ok-place.ensures.ok.called c.text-text.ensures c.in_ok-name.ensures;
       fresh = ap (list_any (same_name c.in_ok-name.name)) (sym c.requires.names) ∙ sym (found_some (same_name c.in_ok-name.name) c.args.names.now) ∙ absent;
       few = grind (arith, common_steps);
       added = c.in_ok-push.ensures.items;

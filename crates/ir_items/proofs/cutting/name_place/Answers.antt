@@ -1,6 +1,5 @@
-use Rattle.std.proofs.Common.{◌≡◌, ℕ, false, true, length, sym, subst, ◌∙◌, arith}
+use Rattle.std.proofs.Common.{◌≡◌, ℕ, sym, subst, ◌∙◌, arith}
 use Rattle.std.proofs.lemmas.Result.{err_from_is_err_and}
-use Rattle.ir_items.specs.Items.{begins_item, is_called}
 use Rattle.ir_items.specs.Stops.{GoesOn, StopsAt}
 use Rattle.ir_items.proofs.Opening.{piece_balanced, balanced_fits}
 use Rattle.ir_items.proofs.HeadTokens.{head_balanced}
@@ -29,7 +28,7 @@ pub returns-in_err-place-clause-stops : goal.returns-in_err-place-clause-stops
 returns-in_err-place-clause-stops c =
     let p = err_from_is_err_and c.from_residual.result c.from_residual.ensures.1 in
     rw (p.1, p.2) (λ defines few. name_fault c.args.tokens.now defines c.args.first c.loop-place.place _ few c.loop-place.invariant.balanced (sym c.begins_item.ensures ∙ c.if-begins_item.false) (sym c.is_called.ensures ∙ c.if-is_called.false)
-    c.loop-place.invariant.goes_on c.loop-place-test.true c.in_err-place.ensures.stops)
+    c.loop-place.invariant.goes_on (omega arith) c.in_err-place.ensures.stops)
 
 pub loop-place-preserved : goal.loop-place-preserved
 loop-place-preserved c = record {
@@ -40,7 +39,7 @@ loop-place-preserved c = record {
 
 pub returns-clause-stops : goal.returns-clause-stops
 returns-clause-stops c =
-    let at_end : c.loop-place.place ≡ length c.args.tokens.now = omega (arith, c.loop-place-test.false, c.loop-place.invariant.goes_on.within) in
-    λ defines few. define_ends c.args.tokens.now defines c.args.first c.requires.define
+    let at_end : c.loop-place.place ≡ c.len-end.result = omega (arith, c.loop-place-test.false, c.loop-place.invariant.goes_on.within) in
+    λ defines few. define_ends c.args.tokens.now defines c.args.first c.len-end.result c.len-end.ensures c.requires.define
     (subst (λ (p : ℕ). GoesOn c.args.tokens.now defines c.args.first p) at_end
     (GoesOn.before_name few c.loop-place.invariant.goes_on (balanced_fits c.args.tokens.now c.args.first c.loop-place.place c.loop-place.invariant.balanced)))

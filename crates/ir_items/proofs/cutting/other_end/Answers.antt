@@ -1,12 +1,14 @@
 use Rattle.std.proofs.Common.{◌≡◌, false, true, sym, ◌∙◌, arith}
 use Rattle.std.proofs.lemmas.Result.{err_from_is_err_and}
-use Rattle.ir_items.specs.Items.{begins_item, is_wrong_layout}
-use Rattle.ir_items.specs.Stops.{StopsAt}
+use Rattle.ir_items.specs.Items.{is_wrong_layout}
 use Rattle.ir_items.specs.Stops.{StopsAt}
 use Rattle.ir_items.proofs.Opening.{piece_balanced}
-use Rattle.ir_items.proofs.HeadTokens.{head_balanced, wrong_layout_goes_on}
+use Rattle.ir_items.proofs.HeadTokens.{head_balanced, wrong_layout_goes_on, wrong_layout_within}
 use Rattle.ir_items.proofs.Phases.{other_piece, other_fault}
 use Rattle.ir_items.proofs.cutting.other_end.Goals as goal
+
+pub overflow_add-result : goal.overflow_add-result
+overflow_add-result c = omega (arith, c.len-end.ensures, wrong_layout_within c.args.tokens.now c.args.first (sym c.is_wrong_layout.ensures ∙ c.if-is_wrong_layout.true))
 
 pub returns-then-is_wrong_layout-clause-stops : goal.returns-then-is_wrong_layout-clause-stops
 returns-then-is_wrong_layout-clause-stops c =
@@ -33,7 +35,7 @@ returns-in_err-place-clause-stops c =
     let p = err_from_is_err_and c.from_residual.result c.from_residual.ensures.1 in
     let right : is_wrong_layout c.args.tokens.now c.args.first ≡ false = sym c.is_wrong_layout.ensures ∙ c.if-is_wrong_layout.false in
     rw (p.1, p.2) (λ defines. other_fault c.args.tokens.now defines c.args.first c.loop-place.place _ c.loop-place.invariant.balanced (sym c.begins_item.ensures ∙ c.if-not-begins_item.true) right
-    c.loop-place.invariant.goes_on c.loop-place-test.true c.in_err-place.ensures.stops)
+    c.loop-place.invariant.goes_on (omega arith) c.in_err-place.ensures.stops)
 
 pub loop-place-preserved : goal.loop-place-preserved
 loop-place-preserved c =

@@ -1,4 +1,6 @@
-use Rattle.std.proofs.Common.{◌≡◌, ℕ, ◌+◌, ◌<◌, Bool, true, false, cond, List, [], length, Some, None, refl, sym, ap, subst, ◌∙◌, arith}
+use Rattle.std.proofs.Common.{◌≡◌, ℕ, ◌+◌, ◌<◌, Bool, cond, List, [], length, Some, None, sym, ap, subst, ◌∙◌, arith}
+use Rattle.std.specs.Vec.{vec_len}
+use Rattle.std.proofs.lemmas.Bool.{eqb-true}
 use Rattle.std.proofs.lemmas.Grind.{common_steps}
 use Rattle.std.proofs.lemmas.List.{nil_from_length}
 use Rattle.ir_items.specs.Marks.{marks, marks_after, has_open, IsInside}
@@ -14,28 +16,28 @@ loop-place-init c = record {
 
 pub returns-then-not-branch-clause-stops : goal.returns-then-not-branch-clause-stops
 returns-then-not-branch-clause-stops c =
-    let step : marks_after (Some c.loop-place.open.items) c.mark_of.result ≡ None = c.in_ok-fits.ensures ∙ ap (λ (b : Bool). cond b (Some c.fits.new.open.items) None) c.if-not-branch.true in
+    let step : marks_after (Some c.loop-place.open.items) c.mark_at.result ≡ None = c.in_ok-fits.ensures ∙ ap (λ (b : Bool). cond b (Some c.fits.new.open.items) None) c.if-not-branch.true in
     bracket (omega arith) c.loop-place.invariant.inside (omega arith)
-    (marks_next c.args.tokens.now c.args.from c.loop-place.place c.index-tokens-place.result c.mark_of.result c.loop-place.open.items None (omega arith) (omega arith) c.index-tokens-place.is c.loop-place.invariant.here c.mark_of.ensures step)
+    (marks_next c.args.tokens.now c.args.from c.loop-place.place c.mark_at.result c.loop-place.open.items None (omega arith) c.mark_at.ensures c.loop-place.invariant.here step)
 
 pub returns-then-is_empty-clause-ok : goal.returns-then-is_empty-clause-ok
 returns-then-is_empty-clause-ok c =
-    let none_left : length c.fits.new.open.items ≡ 0 = grind (arith, common_steps) in
-    let step : marks_after (Some c.loop-place.open.items) c.mark_of.result ≡ Some [] =
+    let none_left : length c.fits.new.open.items ≡ 0 = omega (arith, eqb-true (vec_len c.fits.new.open) 0 (sym c.is_empty.ensures ∙ c.if-is_empty.true)) in
+    let step : marks_after (Some c.loop-place.open.items) c.mark_at.result ≡ Some [] =
     c.in_ok-fits.ensures ∙ ap (λ (b : Bool). cond b (Some c.fits.new.open.items) None) c.if-not-branch.false ∙ ap (λ (xs : List ℕ). Some xs) (nil_from_length c.fits.new.open.items none_left) in
     record {
       some = omega arith;
       within = omega arith;
-      balanced = marks_next c.args.tokens.now c.args.from c.loop-place.place c.index-tokens-place.result c.mark_of.result c.loop-place.open.items (Some []) (omega arith) (omega arith) c.index-tokens-place.is c.loop-place.invariant.here c.mark_of.ensures step;
+      balanced = marks_next c.args.tokens.now c.args.from c.loop-place.place c.mark_at.result c.loop-place.open.items (Some []) (omega arith) c.mark_at.ensures c.loop-place.invariant.here step;
       first = λ m lo hi. c.loop-place.invariant.inside m lo (omega arith);
     }
 
 pub loop-place-preserved : goal.loop-place-preserved
 loop-place-preserved c =
     let some_left : 0 < length c.fits.new.open.items = grind (arith, common_steps) in
-    let step : marks_after (Some c.loop-place.open.items) c.mark_of.result ≡ Some c.fits.new.open.items = c.in_ok-fits.ensures ∙ ap (λ (b : Bool). cond b (Some c.fits.new.open.items) None) c.if-not-branch.false in
+    let step : marks_after (Some c.loop-place.open.items) c.mark_at.result ≡ Some c.fits.new.open.items = c.in_ok-fits.ensures ∙ ap (λ (b : Bool). cond b (Some c.fits.new.open.items) None) c.if-not-branch.false in
     let next : marks c.args.tokens.now c.args.from (c.loop-place.place + 1) ≡ Some c.fits.new.open.items =
-    marks_next c.args.tokens.now c.args.from c.loop-place.place c.index-tokens-place.result c.mark_of.result c.loop-place.open.items (Some c.fits.new.open.items) (omega arith) (omega arith) c.index-tokens-place.is c.loop-place.invariant.here c.mark_of.ensures step in
+    marks_next c.args.tokens.now c.args.from c.loop-place.place c.mark_at.result c.loop-place.open.items (Some c.fits.new.open.items) (omega arith) c.mark_at.ensures c.loop-place.invariant.here step in
     record {
       here = next;
       inside = inside_more c.args.tokens.now c.args.from c.loop-place.place c.loop-place.invariant.inside (ap has_open next ∙ nonempty_open c.fits.new.open.items some_left);
@@ -43,5 +45,5 @@ loop-place-preserved c =
 
 pub returns-clause-stops : goal.returns-clause-stops
 returns-clause-stops c =
-    let at_end : c.loop-place.place ≡ length c.args.tokens.now = omega arith in
-    text_ends refl (subst (λ (p : ℕ). IsInside c.args.tokens.now c.args.from p) at_end c.loop-place.invariant.inside)
+    let at_end : c.loop-place.place ≡ c.len-end.result = omega arith in
+    text_ends c.len-end.ensures (subst (λ (p : ℕ). IsInside c.args.tokens.now c.args.from p) at_end c.loop-place.invariant.inside)
