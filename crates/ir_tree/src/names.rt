@@ -67,4 +67,11 @@ impl Names {
         let (number, _added) = self.table.insert_full(name)?;
         Ok(number)
     }
+
+    /// Gives back what memory the table doesn't need for its names. They stay.
+    pub fn shrink_to_fit(&mut self)
+        ensures { self.new ≡ self.old }
+    {
+        self.table.shrink_to_fit();
+    }
 }
