@@ -30,7 +30,7 @@ fn entries(
 ) -> Result<Sequence<PhiEntry>, NoMemory>
     ensures { Numbers result names.new (each_in entry_in names.old entries) }
 {
-    let mut numbered = Vec::new(alloc);
+    let mut numbered = Vec::with_capacity(alloc, entries.len())?;
     for one in entries.into_vec() {
         numbered.push(entry(names, one)?)?;
     }
@@ -62,7 +62,7 @@ fn phis(
 ) -> Result<Sequence<Phi>, NoMemory>
     ensures { Numbers result names.new (each_in phi_in names.old phis) }
 {
-    let mut numbered = Vec::new(alloc);
+    let mut numbered = Vec::with_capacity(alloc, phis.len())?;
     for one in phis.into_vec() {
         numbered.push(phi(alloc, names, one)?)?;
     }
@@ -93,7 +93,7 @@ fn cases(
 ) -> Result<Sequence<Case>, NoMemory>
     ensures { Numbers result names.new (each_in case_in names.old cases) }
 {
-    let mut numbered = Vec::new(alloc);
+    let mut numbered = Vec::with_capacity(alloc, cases.len())?;
     for one in cases.into_vec() {
         numbered.push(case(names, one)?)?;
     }
@@ -227,7 +227,7 @@ fn blocks_behind(
 ) -> Result<Sequence<Block>, NoMemory>
     ensures { Numbers result names.new (spec.others_in first names.old others) }
 {
-    let mut numbered = Vec::new(alloc);
+    let mut numbered = Vec::with_capacity(alloc, others.len().saturating_add(1))?;
     numbered.push(first)?;
     for one in others.into_vec() {
         numbered.push(block(alloc, names, one.label.name, one.body)?)?;

@@ -113,7 +113,7 @@ fn indices(
 ) -> Result<Sequence<GepIndex>, NoMemory>
     ensures { Numbers result names.new (each_in index_in names.old indices) }
 {
-    let mut numbered = Vec::new(alloc);
+    let mut numbered = Vec::with_capacity(alloc, indices.len())?;
     for one in indices.into_vec() {
         numbered.push(index(names, one)?)?;
     }

@@ -73,7 +73,7 @@ fn named_parameters(
 ) -> Result<Sequence<NamedParameter>, NoMemory>
     ensures { IfOk result (λ ps. ps ≡ spec.named_behind [] parameters) }
 {
-    let mut all = Vec::new(alloc);
+    let mut all = Vec::with_capacity(alloc, parameters.len())?;
     for parameter in parameters.into_vec() {
         let next = named(alloc, all.as_slice(), parameter)?;
         all.push(next)?;
@@ -295,7 +295,7 @@ fn parameters(
 ) -> Result<Sequence<Parameter>, NoMemory>
     ensures { Numbers result names.new (each_in parameter_in names.old parameters) }
 {
-    let mut numbered = Vec::new(alloc);
+    let mut numbered = Vec::with_capacity(alloc, parameters.len())?;
     for one in parameters.into_vec() {
         numbered.push(parameter(names, one)?)?;
     }
@@ -310,7 +310,7 @@ pub fn insts(
 ) -> Result<Sequence<Inst>, NoMemory>
     ensures { Numbers result names.new (each_in inst_in names.old insts) }
 {
-    let mut numbered = Vec::new(alloc);
+    let mut numbered = Vec::with_capacity(alloc, insts.len())?;
     for one in insts.into_vec() {
         numbered.push(inst(alloc, names, one)?)?;
     }
@@ -330,6 +330,7 @@ fn parts(
     let mut names = Names::new(alloc);
     let parameters = parameters(alloc, &mut names, named)?;
     let blocks = blocks(alloc, &mut names, label, entry, others)?;
+    names.shrink_to_fit();
     Ok(((parameters, blocks), names))
 }
 

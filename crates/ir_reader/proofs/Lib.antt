@@ -3,6 +3,7 @@ pub mod TypesTold
 pub mod Looking
 pub mod Objects
 pub mod Spelled
+pub mod Placed
 pub mod Limits
 pub mod Answers
 pub mod OneFunction

@@ -56,11 +56,12 @@ use Rattle.ir_grammar.specs.Words.{is_word_of}
 use Rattle.ir_grammar.specs.Instructions.{inst_line, phi, alloca, load, store, gep, default_align, line_by, line_named, entry_or_attachment, next_entry, attached, align_or_attachment, aligned, index_or_attachment, next_index}
 use Rattle.ir_grammar.specs.Grammar.{follows_parameter, parameter_begins, with_part, parameter_parts, first_parameter, parameters, is_comma, is_local_kind, starts_line, line_begins, line_within, next_number, started, line_comma, with_comma, whole_line, with_phi, with_inst, with_line, next_line, lines, is_type, case_begins, case_within, with_case, cases, branch, branch_to, cond_branch, switch, return_of, terminator_by, block, body_of, entry_block, begins_block, block_begins, next_block, blocks, define}
 use Rattle.ir_numbering.specs.Numbering.{Numbered, so, each_in, parameter_in, inst_in, value_in, typed_in, entry_in, phi_in, case_in, branch_in, cond_branch_in, switch_in, terminator_in, block_in, labelled_in, blocks_in, parts_in, returned_in, function_of, named_behind, entry_name, numbered}
-use Rattle.ir_reader.specs.Functions.{IsFunction, well_formed, tested, unfit, past}
+use Rattle.ir_reader.specs.Functions.{IsFunction, well_formed, tested, unfit, past, without_places}
 use Rattle.ir_reader.specs.Module.{AreEntries, tokens_of}
 use Rattle.ir_tree.specs.WellFormed.{IsWellFormed}
 use Rattle.ir_reader.specs.Judgeable.{IsJudgeable, IsJudgeableEntry}
 use Rattle.ir_numbering.proofs.NumberedSites.{then-so, named-count, block_with}
+use Rattle.ir_reader.proofs.Placed.{well_formed-placed}
 use Rattle.ir_reader.proofs.Objects.{IsSmallAccess, IsSmallGep, IsSmallInst, IsSmallBlock, block-small, blocks-small}
 use Rattle.ir_reader.proofs.Spelled.{memory-aligned, alignment-kept, default-aligned, alloca-small, gep-small, plain-small}
 
@@ -493,8 +494,21 @@ judgeable w few formed = go (parts_in named_ones label w.entry w.others) refl fo
           numbers = λ k d below. let all = small k d below in all.numbers;
         }
 
+placeless-judgeable : (f : Function) → IsJudgeable f → IsJudgeable (without_places f)
+placeless-judgeable f h = record {
+  well_formed = well_formed-placed f [] h.well_formed;
+  limits = record {
+    parameters = h.limits.parameters;
+    instructions = h.limits.instructions;
+    cases = h.limits.cases;
+    entries = h.limits.entries;
+    objects = h.limits.objects;
+  };
+  numbers = h.numbers;
+}
+
 function-judgeable : (tokens : List Lexeme) (a : Result Function Refused) (f : Function) → IsFunction tokens a → a ≡ Ok f → IsJudgeable f
-function-judgeable tokens _ f (well_formed w s W) e = let same : numbered w ≡ f = cc e in subst IsJudgeable same (judgeable w (function-few w tokens [] s) W)
+function-judgeable tokens _ f (well_formed w s W) e = let same : without_places (numbered w) ≡ f = cc e in subst IsJudgeable same (placeless-judgeable (numbered w) (judgeable w (function-few w tokens [] s) W))
 function-judgeable tokens _ f (tested w why refused s R) e = absurd (cc e)
 function-judgeable tokens _ f (unfit why rest U) e = absurd (cc e)
 function-judgeable tokens _ f (past rest P) e = absurd (cc e)

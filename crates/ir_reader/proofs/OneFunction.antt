@@ -25,7 +25,7 @@ use Rattle.ir_grammar.specs.declared.written.WrittenFunction.{WrittenFunction}
 use Rattle.ir_grammar.specs.Reasons.{reason}
 use Rattle.ir_grammar.specs.Grammar.{define}
 use Rattle.ir_numbering.specs.Numbering.{numbered}
-use Rattle.ir_reader.specs.Functions.{IsFunction, well_formed, tested, unfit, past, IsUnfit, refused_at, stop_place}
+use Rattle.ir_reader.specs.Functions.{IsFunction, well_formed, tested, unfit, past, IsUnfit, refused_at, stop_place, without_places}
 use Rattle.ir_reader.proofs.StopReasons.{one-unfit, unfit-behind, unfit-limit, unfit-whole, unfit-why}
 use Rattle.ir_reader.specs.declared.fault.ModuleFault.{ModuleFault}
 use Rattle.ir_reader.specs.declared.fault.ModuleFault.TheVariants as fault
@@ -37,7 +37,7 @@ told_of why tokens rest = Err (refused_at why (stop_place tokens rest))
 
 -- what a function that is spelled is
 abbrev IsTested : WrittenFunction → Result Function Refused → Type 0
-IsTested w a = ((a ≡ Ok (numbered w)) × IsWellFormed (numbered w)) ⊎ ((why : Reason) × (refused : Refused) × (a ≡ Err refused) × IsRefusedAt why (numbered w) refused)
+IsTested w a = ((a ≡ Ok (without_places (numbered w))) × IsWellFormed (numbered w)) ⊎ ((why : Reason) × (refused : Refused) × (a ≡ Err refused) × IsRefusedAt why (numbered w) refused)
 
 -- what the tokens are, by how they are read
 abbrev IsTold : Reading WrittenFunction → List Lexeme → Result Function Refused → Type 0
@@ -56,7 +56,7 @@ unfit-told tokens rest why U (stops (unfit_why other) left) e = same-told tokens
 unfit-told tokens rest why U (stops limit left) e = absurd (unfit-limit tokens rest left why U e)
 
 is-told : (tokens : List Lexeme) (a : Result Function Refused) → IsFunction tokens a → IsTold (read true define tokens) tokens a
-is-told tokens _ (well_formed w s W) = subst (λ (r : Reading WrittenFunction). IsTold r tokens (Ok (numbered w))) (sym (read-again true define tokens w [] s)) (inl (refl, W))
+is-told tokens _ (well_formed w s W) = subst (λ (r : Reading WrittenFunction). IsTold r tokens (Ok (without_places (numbered w)))) (sym (read-again true define tokens w [] s)) (inl (refl, W))
 is-told tokens _ (tested w why refused s R) = subst (λ (r : Reading WrittenFunction). IsTold r tokens (Err refused)) (sym (read-again true define tokens w [] s)) (inr (why, refused, refl, R))
 is-told tokens _ (unfit why rest U) = unfit-told tokens rest why U (read true define tokens) refl
 is-told tokens _ (past rest P) = subst (λ (r : Reading WrittenFunction). IsTold r tokens (told_of Limit tokens rest)) (sym (limit-again define tokens rest P.passes)) refl

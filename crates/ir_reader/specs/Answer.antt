@@ -1,8 +1,9 @@
 -- What the parts of the reader may answer.
-use Rattle.std.specs.Prelude.{◌≤◌, ◌+◌, List, [], length, true, Result, Ok, Err}
-use Rattle.std.specs.List.{AllByRecursion}
+use Rattle.std.specs.Prelude.{◌≡◌, ℕ, ◌≤◌, ◌<◌, ◌+◌, ◌^◌, List, [], ◌∷◌, length, true, Result, Ok, Err}
 use Rattle.ir_lexer.specs.Lexeme.{Lexeme}
+use Rattle.ir_lexer.specs.Tokens.{lexed}
 use Rattle.ir_items.specs.declared.item.Define.{Define}
+use Rattle.ir_items.specs.Items.{IsCut}
 use Rattle.ir_tree.specs.WellFormed.{IsWellFormed, IsRefusedAt}
 use Rattle.ir_tree.specs.declared.module.Reason.{Reason}
 use Rattle.ir_tree.specs.declared.module.Reason.TheVariants.{Limit}
@@ -34,10 +35,13 @@ Tests f (Ok passed) = IsWellFormed f
 Tests f (Err (fault.Refused refused)) = (why : Reason) × IsRefusedAt why f refused
 Tests f (Err fault.NoMemory) = Unit {0}
 
--- the tokens of a define stand among these
-pub record IsWithin (tokens : List Lexeme) (d : Define) : Type 0 where
-  pub first : d.first ≤ d.last + 1
-  pub last : d.last + 1 ≤ length tokens
+-- the defines stand one behind the other between these places
+abbrev pub Ascend : ℕ → ℕ → List Define → Type 0
+Ascend from end [] = from ≤ end
+Ascend from end (d ∷ defines) = (from ≤ d.first) × (d.first ≤ d.last + 1) × Ascend (d.last + 1) end defines
 
-abbrev pub AreWithin : List Lexeme → List Define → Type 0
-AreWithin tokens defines = AllByRecursion (IsWithin tokens) defines
+-- the text is these tokens, and the defines among them are these
+pub record AreDefines (text : List ℕ) (tokens : List Lexeme) (defines : List Define) : Type 0 where
+  pub lexed_so : lexed text ≡ Ok tokens
+  pub small : length tokens < 2 ^ 64
+  pub cut : IsCut tokens (length tokens) defines

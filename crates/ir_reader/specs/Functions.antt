@@ -35,10 +35,14 @@ pub record IsUnfit (why : Reason) (tokens rest : List Lexeme) : Type 0 where
   pub stops : StopsUnfit define tokens rest
   pub because : IsStopReason stops.front rest why
 
+-- The function without the places of its parts. They say where it is refused, and are not kept.
+abbrev pub without_places : Function → Function
+without_places f = record f { places = [] }
+
 -- All the tokens of a define, its word first, are this function, or are refused so.
 pub data IsFunction (tokens : List Lexeme) : Result Function Refused → Type 0 where
   -- they spell a function within the limits, and its names and types are right
-  well_formed : (w : WrittenFunction) → Spells true define w tokens [] → IsWellFormed (numbered w) → IsFunction tokens (Ok (numbered w))
+  well_formed : (w : WrittenFunction) → Spells true define w tokens [] → IsWellFormed (numbered w) → IsFunction tokens (Ok (without_places (numbered w)))
   -- they spell a function, and a name or a type is wrong
   tested : (w : WrittenFunction) (why : Reason) (refused : Refused) → Spells true define w tokens [] → IsRefusedAt why (numbered w) refused → IsFunction tokens (Err refused)
   -- a token can't stand where it stands

@@ -12,6 +12,7 @@ use ir_lexer::Token;
 use ir_numbering::numbered;
 use ir_tree::{CheckFault, Function, Reason, Refused};
 use std::alloc::Global;
+use support::Sequence;
 use text_places::Place;
 use token_forms::ReadFault;
 
@@ -84,13 +85,24 @@ fn test(alloc: Global, f: &Function) -> Result<(), CheckFault>
     Ok(())
 }
 
+// The positions of a function's parts take as much memory as the parts, and only a refusal needs them.
+fn without_places(alloc: Global, function: Function) -> Function
+    ensures { result ≡ spec.without_places function }
+{
+    Function {
+        places: Sequence::from_vec(Vec::new(alloc)),
+        ..function
+    }
+}
+
 /// The function that the tokens of a define are, its word first, or why it is refused and where
-/// (LLVM Language Reference, "Functions", "Well-Formedness").
+/// (LLVM Language Reference, "Functions", "Well-Formedness"). The function is without the positions
+/// of its parts: its `places` are empty.
 pub fn function(alloc: Global, tokens: &[Token]) -> Result<Function, CheckFault>
     ensures { Answers tokens.now result }
 {
     let written = written(alloc, tokens)?;
     let function = numbered(alloc, written)?;
     test(alloc, &function)?;
-    Ok(function)
+    Ok(without_places(alloc, function))
 }

@@ -1,10 +1,10 @@
 // Reading a text.
-ghost use Rattle.std.specs.Prelude.{◌≡◌, length, map, slice_get, Ok, IfOk, IfErr};
+ghost use Rattle.std.specs.Prelude.{◌≡◌, ◌+◌, ◌<◌, ◌≤◌, ◌^◌, List, drop, length, map, slice_get, Ok, IfOk, IfErr, IsOkAnd, OnOk};
 ghost use Rattle.std.specs.List.{AllByRecursion, IsDistinct};
 ghost use Rattle.text_places.specs.Place.{place_at};
+ghost use Rattle.ir_lexer.specs.Lexeme.{Lexeme};
 ghost use Rattle.ir_lexer.specs.Tokens.{lexed};
-ghost use Rattle.ir_items.specs.Items.{IsCut};
-ghost use Rattle.ir_reader.specs.Answer.{IsWithin, AreWithin};
+ghost use Rattle.ir_reader.specs.Answer.{AreDefines};
 ghost use Rattle.ir_reader.specs.Functions.{IsFunction};
 ghost use Rattle.ir_reader.specs.Module as spec;
 ghost use Rattle.ir_reader.specs.Module.{IsModule, IsFault, IsEntry, AreEntries};
@@ -14,15 +14,15 @@ ghost use Rattle.ir_tree.specs.Names.{same_name};
 use crate::fault::ModuleFault;
 use crate::functions::function;
 use ir_items::{Define, ItemFault, cut};
-use ir_lexer::{LexFault, Token, lex};
+use ir_lexer::{LexFault, Lexer, Token, Tokens, lex};
 use ir_tree::{CheckFault, Entry, Function, Module, Refused};
 use std::alloc::Global;
 use support::{NoMemory, Sequence};
 use text_places::Place;
 
 /// The module that a text is (LLVM Language Reference, "Module Structure", "Functions",
-/// "Identifiers"): an entry for each function with a body, in text order, with the function, or the
-/// reason and the place at which it is refused.
+/// "Identifiers"): an entry for each function with a body, in text order, with the function, whose
+/// `places` are empty, or the reason and the place at which it is refused.
 ///
 /// # Errors
 /// `NoToken` at the first place where no token begins. Where the text is tokens, `Item` at the first
@@ -33,13 +33,12 @@ pub fn read(alloc: Global, text: &[u8]) -> Result<Module, ModuleFault>
     ensures judgeable { IfOk result (λ m. AllByRecursion IsJudgeableEntry m.entries) }
     ensures different { IfOk result (λ m. IsDistinct same_name (map (λ e. e.name) m.entries)) }
 {
-    let tokens = tokens(alloc, text)?;
-    let defines = defines(alloc, text, tokens.as_slice())?;
-    let entries = entries(alloc, tokens.as_slice(), defines)?;
+    let defines = defines(alloc, text)?;
+    let entries = entries(alloc, text, defines)?;
     Ok(Module { entries })
 }
 
-fn tokens<'a>(alloc: Global, text: &'a [u8]) -> Result<Sequence<Token<'a>>, ModuleFault>
+fn tokens<'a>(alloc: Global, text: &'a [u8]) -> Result<Tokens<'a>, ModuleFault>
     ensures tokens { IfOk result (λ tokens. lexed text.now ≡ Ok tokens) }
     ensures fault { IfErr result (IsFault text.now) }
 {
@@ -57,26 +56,33 @@ fn end_of(text: &[u8]) -> Place
     Place::start().behind(text)
 }
 
-// Where a token stands; behind the last one the end of the text.
-fn place_or_end(text: &[u8], tokens: &[Token], at: usize) -> Place
-    ensures { result ≡ spec.place_or_end text.now (slice_get tokens.now at) }
+// Where the token at an index stands; behind the last one the end of the text.
+fn place_or_end(text: &[u8], at: usize) -> Place
+    requires { IsOkAnd (lexed text.now) (λ tokens. at ≤ length tokens) }
+    ensures { (tokens : List Lexeme) → lexed text.now ≡ Ok tokens
+        → result ≡ spec.place_or_end text.now (slice_get tokens at) }
 {
-    match tokens.get(at) {
+    let mut lexer = Lexer::new(text);
+    lexer.skip(at);
+    let Ok(next) = lexer.next() else {
+        unreachable!();
+    };
+    match next {
         Some(token) => token.place(),
         None => end_of(text),
     }
 }
 
-fn defines(alloc: Global, text: &[u8], tokens: &[Token]) -> Result<Sequence<Define>, ModuleFault>
-    requires { lexed text.now ≡ Ok tokens.now }
-    ensures cut { IfOk result (λ defines. IsCut tokens.now (length tokens.now) defines) }
-    ensures within { IfOk result (λ defines. AreWithin tokens.now defines) }
+// The defines of a text. The table of its tokens is not kept.
+fn defines(alloc: Global, text: &[u8]) -> Result<Sequence<Define>, ModuleFault>
+    ensures defines { IfOk result (λ defines. (tokens : List Lexeme) × AreDefines text.now tokens defines) }
     ensures fault { IfErr result (IsFault text.now) }
 {
-    match cut(alloc, tokens) {
+    let tokens = tokens(alloc, text)?;
+    match cut(alloc, &tokens) {
         Ok(defines) => Ok(defines),
         Err(ItemFault::Stop { at, why }) => {
-            let place = place_or_end(text, tokens, at);
+            let place = place_or_end(text, at.min(tokens.len()));
             Err(ModuleFault::Item { why, place })
         }
         Err(ItemFault::NoMemory) => Err(ModuleFault::NoMemory),
@@ -94,26 +100,45 @@ fn answer(alloc: Global, tokens: &[Token]) -> Result<Result<Function, Refused>, 
     }
 }
 
-fn entry(alloc: Global, tokens: &[Token], define: Define) -> Result<Entry, NoMemory>
-    requires { IsWithin tokens.now define }
-    ensures { IfOk result (IsEntry tokens.now define) }
+// The entry of a define. The lexer has passed `done` tokens, and afterwards those of the define too.
+fn entry(
+    alloc: Global,
+    lexer: &mut Lexer<'_>,
+    done: usize,
+    define: Define,
+) -> Result<Entry, NoMemory>
+    requires behind { done ≤ define.first }
+    requires spans { define.first ≤ define.last + 1 }
+    requires small { define.last + 1 < 2 ^ 64 }
+    requires left { IsOkAnd lexer.old (λ tokens. define.last + 1 ≤ done + length tokens) }
+    ensures entry { IfOk result (λ e. (tokens : List Lexeme) → lexer.old ≡ Ok (drop done tokens) → IsEntry tokens define e) }
+    ensures left { OnOk result ((tokens : List Lexeme) → lexer.old ≡ Ok (drop done tokens)
+        → lexer.new ≡ Ok (drop (define.last + 1) tokens)) }
 {
     let Define { name, first, last } = define;
-    let function = answer(alloc, &tokens[first..last + 1])?;
+    lexer.skip(first - done);
+    let tokens = lexer.take(alloc, last + 1 - first)?;
+    let function = answer(alloc, tokens.as_slice())?;
     Ok(Entry { name, function })
 }
 
+// The entries of the defines. The text is lexed once more, and the tokens of one define are kept at
+// a time.
 fn entries(
     alloc: Global,
-    tokens: &[Token],
+    text: &[u8],
     defines: Sequence<Define>,
 ) -> Result<Sequence<Entry>, NoMemory>
-    requires { AreWithin tokens.now defines }
-    ensures { IfOk result (AreEntries tokens.now defines) }
+    requires { (tokens : List Lexeme) × AreDefines text.now tokens defines }
+    ensures { IfOk result (λ entries. (tokens : List Lexeme) × AreDefines text.now tokens defines × AreEntries tokens defines entries) }
 {
-    let mut entries = Vec::new(alloc);
+    let mut entries = Vec::with_capacity(alloc, defines.len())?;
+    let mut lexer = Lexer::new(text);
+    let mut done = 0;
     for define in defines.into_vec() {
-        entries.push(entry(alloc, tokens, define)?)?;
+        let end = define.last + 1;
+        entries.push(entry(alloc, &mut lexer, done, define)?)?;
+        done = end;
     }
     Ok(Sequence::from_vec(entries))
 }

@@ -29,7 +29,8 @@ use Rattle.ir_printer.specs.Made.{eight, value_name, value, byte_parameter}
 use Rattle.read_back.specs.SameModule.{IsSameFunction}
 use Rattle.read_back.proofs.MadeNames.{result_name, value_word, names_behind, value-number, value-known, result-number, result-new}
 use Rattle.read_back.proofs.MadeInsts.{IsMade, AreMade}
-use Rattle.read_back.proofs.ReadBackPlaces.{placed, same-back}
+use Rattle.ir_reader.proofs.Placed.{placed}
+use Rattle.read_back.proofs.ReadBackPlaces.{same-back}
 
 -- ---- what is written
 

@@ -12,7 +12,7 @@ use Rattle.ir_items.specs.declared.item.Define.{Define}
 use Rattle.ir_grammar.specs.declared.written.WrittenFunction.{WrittenFunction}
 use Rattle.ir_grammar.proofs.PlainGrammar.{plain-define}
 use Rattle.ir_numbering.specs.Numbering.{numbered}
-use Rattle.ir_reader.specs.Functions.{IsFunction, well_formed}
+use Rattle.ir_reader.specs.Functions.{IsFunction, well_formed, without_places}
 use Rattle.ir_reader.specs.Module.{tokens_of, AreEntries}
 use Rattle.token_text.specs.Pieces.{Piece, text_of}
 use Rattle.token_text.specs.Laws.{spelled, LexesTo}
@@ -46,11 +46,12 @@ read-as spelled_so w f spellable same well tokens e =
     let other = spelled_so none w spellable tokens e in
     let found : IsSameFunction (numbered w) (numbered other.0) =
     placeless_is_same w other.0 other.2 in
+    let same_as = same-then f (numbered w) (numbered other.0) (same-back (numbered w) f same) found in
     record {
-      function = numbered other.0;
+      function = without_places (numbered other.0);
       is = well_formed other.0 ((plain-define true other.0 tokens).0 other.1)
           (well_formed-same (numbered w) (numbered other.0) found well);
-      same = same-then f (numbered w) (numbered other.0) (same-back (numbered w) f same) found;
+      same = ap without_places same_as;
     }
 
 -- ---- the entries

@@ -1,3 +1,4 @@
+use crate::token_lists::tokens_of;
 use ir_items::{ItemFault, Why, cut, name_before_colon, name_behind_sign, name_of};
 use ir_lexer::lex;
 use ir_tree::Name;
@@ -8,7 +9,7 @@ use support::NoMemory;
 // The first stop of a text, if there is one.
 fn fault(alloc: Global, text: &str) -> Option<ItemFault> {
     match lex(alloc, text.as_bytes()) {
-        Ok(tokens) => cut(alloc, tokens.as_slice()).err(),
+        Ok(tokens) => cut(alloc, &tokens).err(),
         Err(_) => None,
     }
 }
@@ -46,14 +47,11 @@ fn defines_among_items(rt: HostRuntime) -> Result<(), Fail> {
         "target datalayout = \"e-p:064-i64:64\"",
         "source_filename = \"a\nb\" define",
     ] {
-        assert_eq!(rt;
-            cut(alloc, lex(alloc, text.as_bytes())?.as_slice())?.len(),
-            0
-        );
+        assert_eq!(rt; cut(alloc, &lex(alloc, text.as_bytes())?)?.len(), 0);
     }
     let text =
         "define i8 @f() {}\n@g = global [1 x i8]\n$c = comdat any\ndefine i8 @h(i8 (i8)* %a) #0 { x }";
-    let defines = cut(alloc, lex(alloc, text.as_bytes())?.as_slice())?;
+    let defines = cut(alloc, &lex(alloc, text.as_bytes())?)?;
     assert_eq!(rt; defines.len(), 2);
     let (f, h) = (defines.get(0), defines.get(1));
     assert!(rt; f.first == 0 && f.last == 6);
@@ -63,7 +61,7 @@ fn defines_among_items(rt: HostRuntime) -> Result<(), Fail> {
 
 /// The name of a text's one token: `#` and a number, or `%` and other bytes; none without a name.
 fn named(alloc: Global, text: &str) -> Result<Vec<u8>, Fail> {
-    let tokens = lex(alloc, text.as_bytes())?;
+    let tokens = tokens_of(alloc, text.as_bytes())?;
     let mut found = Vec::new(alloc);
     for token in tokens.as_slice() {
         if let Some(name) = name_of(alloc, token)? {

@@ -1,11 +1,12 @@
-use ir_lexer::{LexFault, lex};
+use crate::token_lists::tokens_of;
+use ir_lexer::{LexFault, Lexer, lex};
 use std::alloc::Global;
 use std::test::Fail;
 use text_places::Place;
 
 /// The class and the spelling of each token of a text, each after `; `.
 fn lexed(alloc: Global, text: &str) -> Result<Vec<u8>, Fail> {
-    let tokens = lex(alloc, text.as_bytes())?;
+    let tokens = tokens_of(alloc, text.as_bytes())?;
     let mut all = Vec::new(alloc);
     for token in tokens.as_slice() {
         let kind = format!(in alloc; "; {:?} ", token.kind())?;
@@ -108,5 +109,49 @@ fn places_without_a_token(rt: HostRuntime) -> Result<(), Fail> {
     }
     assert!(rt; lex(alloc, b"a\x00").is_err());
     assert!(rt; lex(alloc, b"\xc3").is_err());
+    Ok(())
+}
+
+/// The table has the class, the bytes and the line of each token that the lexer gives.
+#[test]
+fn the_table_has_what_the_lexer_gives(rt: HostRuntime) -> Result<(), Fail> {
+    let text = b"; a comment\n@s = c\"two\nlines\" x\n  ; \"no string\n\ty";
+    let table = lex(rt.alloc(), text)?;
+    let tokens = tokens_of(rt.alloc(), text)?;
+    let lines = [2, 2, 2, 3, 5];
+    assert_eq!(rt; table.len(), lines.len());
+    assert_eq!(rt; tokens.len(), lines.len());
+    for (index, line) in lines.iter().enumerate() {
+        let token = &tokens[index];
+        assert_eq!(rt; table.kind(index), token.kind(), "at {index}");
+        assert!(rt; table.text(index) == token.text(), "at {index}");
+        assert_eq!(rt; table.line(index), token.place().line, "at {index}");
+        assert_eq!(rt; table.line(index), *line, "at {index}");
+    }
+    Ok(())
+}
+
+/// `skip` and `take` in turn pass the tokens that `next` gives.
+#[test]
+fn parts_of_the_tokens(rt: HostRuntime) -> Result<(), Fail> {
+    let alloc = rt.alloc();
+    let text = b"a %b\n@c ; d\n 5 \"e\" ( f:";
+    let tokens = tokens_of(alloc, text)?;
+    let table = lex(alloc, text)?;
+    assert_eq!(rt; table.len(), 7);
+    let mut lexer = Lexer::new(text);
+    let front = lexer.take(alloc, 2)?;
+    lexer.skip(3);
+    let back = lexer.take(alloc, 2)?;
+    assert!(rt; lexer.next()?.is_none());
+    for (part, first) in [(front, 0), (back, 5)] {
+        for (index, token) in part.as_slice().iter().enumerate() {
+            let same = tokens.get(first + index);
+            assert!(rt;
+                same.is_some_and(|other| other.text() == token.text() && other.at() == token.at()),
+                "{index} after {first}"
+            );
+        }
+    }
     Ok(())
 }

@@ -38,3 +38,5 @@ mod position_tests;
 mod print_tests;
 #[cfg(test)]
 mod tests;
+#[cfg(test)]
+mod token_lists;

@@ -1,4 +1,5 @@
 use crate::answers::first_wrong;
+use crate::made_functions::function_of;
 use ir_reader::read;
 use ir_tree::{Function, Inst, Operand};
 use std::test::Fail;
@@ -395,9 +396,8 @@ fn faults(rt: HostRuntime) -> Result<(), Fail> {
     Ok(())
 }
 
-/// Where the first instruction of a function puts its result, its operands, and its first place.
-fn first_inst(function: &Function) -> Option<(usize, Operand, Operand, Place)> {
-    let place = *function.places.as_slice().get(5)?;
+/// Where the first instruction of a function puts its result, and its operands.
+fn first_inst(function: &Function) -> Option<(usize, Operand, Operand)> {
     match function
         .blocks
         .as_slice()
@@ -411,7 +411,7 @@ fn first_inst(function: &Function) -> Option<(usize, Operand, Operand, Place)> {
             left,
             right,
             ..
-        } => Some((*into, *left, *right, place)),
+        } => Some((*into, *left, *right)),
         Inst::Icmp { .. } | Inst::Cast { .. } | Inst::Select { .. } | Inst::Freeze { .. } => None,
         Inst::Alloca { .. } | Inst::Load { .. } => None,
         Inst::Store { .. } | Inst::GetElementPtr { .. } => None,
@@ -429,8 +429,18 @@ fn numbers_of_names(rt: HostRuntime) -> Result<(), Fail> {
         },
         _ => None,
     };
-    let place = Place { line: 2, column: 3 };
-    let expected = Some((2, Operand::Local(0), Operand::Number(1), place));
+    let expected = Some((2, Operand::Local(0), Operand::Number(1)));
     assert_eq!(rt; first, expected);
+    Ok(())
+}
+
+/// A function whose names are numbered has the position of `%r`, after those of its type, its name,
+/// its parameter's type and name, and its brace.
+#[test]
+fn positions_of_parts(rt: HostRuntime) -> Result<(), Fail> {
+    let text = "define i8 @f(i8 %x) {\n  %r = sub i8 %x, 1\n  ret i8 %r\n}";
+    let function = function_of(rt.alloc(), text)?;
+    let place = function.places.as_slice().get(5).copied();
+    assert_eq!(rt; place, Some(Place { line: 2, column: 3 }));
     Ok(())
 }

@@ -11,7 +11,7 @@ ghost use Rattle.tv_run.specs.Answers.{CountsStop, HasReport, IsProofAsked, IsRe
 
 use crate::rows::{Judgements, all_rows};
 use crate::stop::{LoadFault, Stop};
-use crate::texts::{load, module_of};
+use crate::texts::{load, module_from};
 use ir_tree::Module;
 use pair_driver::{Gate, Judged};
 use pair_judge::Real;
@@ -53,26 +53,27 @@ pub fn report_of<S: Shelf, G: Gate, R: Threads + Sync>(
 {
     let source = load(alloc, shelf, check.source).map_err(LoadFault::at_source)?;
     let target = load(alloc, shelf, check.target).map_err(LoadFault::at_target)?;
-    report_of_texts(rt, alloc, check, gate, source.as_slice(), target.as_slice())
+    report_of_texts(rt, alloc, check, gate, source, target)
 }
 
-/// The report of two texts, or the fault of the first of them that is no module.
+/// The report of two texts, or the fault of the first of them that is no module. Each text is freed
+/// as soon as its module is read, since judging takes long and needs the memory.
 fn report_of_texts<G: Gate, R: Threads + Sync>(
     rt: &R,
     alloc: Global,
     check: &Check<'_>,
     gate: &G,
-    source: &[u8],
-    target: &[u8],
+    source: Vec<u8>,
+    target: Vec<u8>,
 ) -> Result<Report, Stop>
     requires in_range { AreInRange check.now.bounds check.now.budget }
     requires workers { (1 ≤ check.now.workers) × (check.now.workers ≤ 64) }
-    ensures reports { IfOk result (λ r. (m : Module) × (n : Module) × IsModule source.now m × IsModule target.now n
+    ensures reports { IfOk result (λ r. (m : Module) × (n : Module) × IsModule source.items m × IsModule target.items n
         × IsReportOf (seen_check check.now) m n r.answers.items r.text.items r.status r.proof) }
-    ensures unread { IfErr result (IsUnread source.now target.now) }
+    ensures unread { IfErr result (IsUnread source.items target.items) }
 {
-    let source = module_of(alloc, source).map_err(LoadFault::at_source)?;
-    let target = module_of(alloc, target).map_err(LoadFault::at_target)?;
+    let source = module_from(alloc, source).map_err(LoadFault::at_source)?;
+    let target = module_from(alloc, target).map_err(LoadFault::at_target)?;
     Ok(report_of_modules(rt, alloc, check, gate, &source, &target)?)
 }
 

@@ -43,3 +43,10 @@ pub fn module_of(alloc: Global, text: &[u8]) -> Result<Module, LoadFault>
         Err(ModuleFault::NoMemory) => Err(LoadFault::NoMemory),
     }
 }
+
+/// The module of a text, or its fault. The text is freed: a module holds none of it.
+pub fn module_from(alloc: Global, text: Vec<u8>) -> Result<Module, LoadFault>
+    ensures { Parses text.items result }
+{
+    module_of(alloc, text.as_slice())
+}

@@ -1,9 +1,9 @@
-use Rattle.std.proofs.Common.{sym, subst, Ok}
+use Rattle.std.proofs.Common.{sym, ap, ◌∙◌, subst, Ok}
 use Rattle.std.proofs.lemmas.Result.{err_from_is_err_and}
 use Rattle.ir_tree.specs.Sites.{AreNumbered}
 use Rattle.ir_tree.specs.WellFormed.{IsWellFormed}
 use Rattle.ir_tree.specs.declared.tree.Function.{Function}
-use Rattle.ir_reader.specs.Functions.{IsFunction, well_formed}
+use Rattle.ir_reader.specs.Functions.{IsFunction, well_formed, without_places}
 use Rattle.ir_numbering.proofs.NumberedSites.{whole}
 use Rattle.ir_reader.proofs.Answers.{answers-tested}
 use Rattle.ir_reader.proofs.functions.function.Goals as goal
@@ -18,5 +18,5 @@ returns-in_err-test c =
 
 pub returns : goal.returns
 returns c =
-    subst (λ (f : Function). IsFunction c.args.tokens.now (Ok f)) (sym c.in_ok-function.ensures)
+    subst (λ (f : Function). IsFunction c.args.tokens.now (Ok f)) (sym (c.without_places.ensures ∙ ap without_places c.in_ok-function.ensures))
     (well_formed c.in_ok-written.written c.in_ok-written.ensures (subst IsWellFormed c.in_ok-function.ensures c.in_ok-test.ensures))

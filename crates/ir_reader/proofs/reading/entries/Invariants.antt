@@ -1,6 +1,10 @@
+use Rattle.std.proofs.Common.{List}
 use Rattle.std.specs.Vec.Iter.{into_iter_items}
+use Rattle.ir_lexer.specs.Lexeme.{Lexeme}
+use Rattle.ir_reader.specs.Answer.{AreDefines}
 use Rattle.ir_reader.proofs.Entries.{SoFar}
 use Rattle.ir_reader.proofs.reading.entries.Given as goal
 
 abbrev pub invariant-loop-define : goal.invariant-loop-define
-invariant-loop-define l = SoFar l.tokens l.fn.defines (into_iter_items l.define-iterator) l.entries.items
+invariant-loop-define l =
+    (tokens : List Lexeme) × AreDefines l.text tokens l.fn.defines × SoFar tokens l.fn.defines (into_iter_items l.define-iterator) l.done l.lexer l.entries.items

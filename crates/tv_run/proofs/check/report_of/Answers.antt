@@ -1,7 +1,6 @@
-use Rattle.std.proofs.Common.{◌≡◌, ◌∙◌, rules, arith, subst, ℕ, List, Ok}
+use Rattle.std.proofs.Common.{◌≡◌, ◌∙◌, rules, arith, subst, Ok}
 use Rattle.std.proofs.lemmas.Grind.{common_steps}
 use Rattle.std.proofs.lemmas.Result.{IfOk-weaker}
-use Rattle.ir_reader.specs.Module.{IsModule}
 use Rattle.tv_run.specs.Answers.{Loads}
 use Rattle.tv_run.proofs.check.report_of.Goals as goal
 
@@ -19,8 +18,8 @@ returns-clause-reports g c =
       reports = record {
         source = h.0;
         target = h.1;
-        source_is = record { text = c.in_ok-source.source.items; there = s.0; holds = (s.1, subst (λ (t : List ℕ). IsModule t h.0) c.as_slice.ensures.value h.2) };
-        target_is = record { text = c.in_ok-target.target.items; there = t.0; holds = (t.1, subst (λ (t : List ℕ). IsModule t h.1) c.as_slice-2.ensures.value h.3) };
+        source_is = record { text = c.in_ok-source.source.items; there = s.0; holds = (s.1, h.2) };
+        target_is = record { text = c.in_ok-target.target.items; there = t.0; holds = (t.1, h.3) };
         report = h.4.report;
       };
       asked = h.4.asked;
