@@ -1,12 +1,15 @@
 #!/usr/bin/env python3
 """Runs of the program in which one request fails: for memory, or of a read, a write, an open or a rename.
 
-    tools/failing.py [PATH OF tv] [--at-most N]     (default: crates/tv/out/tv, a run for every request)
+    tools/failing.py [PATH OF tv] [--at-most N]     (default: crates/tv/out/tv, 1,000)
 
 A small library that stands before the C library's functions (`LD_PRELOAD`; it is built with `cc`) counts the
-requests of a run and lets the Nth one fail; there is a run for each N, or for at most that many, evenly
-spread. Every run is one of these jobs: an incorrect pair, a pair over memory, six pairs on 1, 2 and 64
-workers, a proof file that is written, and one that is checked.
+requests of a run and lets the Nth one fail. The jobs are an incorrect pair, a pair over memory, six pairs on
+1, 2 and 64 workers, a proof file that is written, and one that is checked.
+
+A job on one worker is run once, and each of its requests for memory fails in a copy of the process (`fork`)
+that is made at the request and goes on from there. Requests on several workers, and calls of the system, fail
+in a run for each N, or in at most N runs, evenly spread.
 
   - memory: each run has to end with status 8 and write nothing, or with the answer that the job has
     where nothing fails. A proof file may have been written by then.
@@ -16,8 +19,8 @@ workers, a proof file that is written, and one that is checked.
   - short reads and writes, of one byte and of seven: the job's own answer.
   - interrupted ones (EINTR): as where they fail, since `tv` does not try them again.
 
-A line for each job says how many requests it has and how many runs ended with each status. The status is
-1 where a run ended otherwise. Without `cc` it does nothing.
+A line for each job says how many requests it has, how many copies or runs there were, and how many ended with
+each status. The status is 1 where one ended otherwise. Without `cc` it does nothing.
 """
 import argparse
 import collections
@@ -38,12 +41,15 @@ LIBRARY = r"""
 #include <stdio.h>
 #include <stdlib.h>
 #include <string.h>
+#include <sys/mman.h>
 #include <sys/syscall.h>
+#include <sys/wait.h>
 #include <unistd.h>
 
 static atomic_long memory, calls, reads;
 static long memory_fails, call_fails, most, interrupted;
 static const char *counts;
+static int told = -1, taken;
 
 __attribute__((constructor)) static void begin(void) {
     const char *text;
@@ -52,6 +58,10 @@ __attribute__((constructor)) static void begin(void) {
     if ((text = getenv("MOST"))) most = atol(text);
     if ((text = getenv("INTERRUPTED"))) interrupted = atol(text);
     counts = getenv("COUNTS");
+    if ((text = getenv("EACH"))) {
+        told = open(text, O_WRONLY | O_CREAT | O_TRUNC, 0600);
+        taken = memfd_create("output", 0);
+    }
     memory = calls = 0;
 }
 
@@ -63,7 +73,34 @@ void _exit(int status) {
     for (;;) syscall(SYS_exit_group, status);
 }
 
-static int no_memory(void) { return ++memory == memory_fails; }
+/* A copy of the process in which this request fails; what it ended with is written down. */
+static int fails_in_a_copy(long n) {
+    syscall(SYS_ftruncate, taken, 0);
+    syscall(SYS_lseek, taken, 0, SEEK_SET);
+    long copy = syscall(SYS_fork);
+    if (copy == 0) {
+        told = -1;
+        counts = 0;
+        dup2(taken, 1);
+        return 1;
+    }
+    int status = 0;
+    waitpid(copy, &status, 0);
+    int ended = WIFEXITED(status) ? WEXITSTATUS(status) : -WTERMSIG(status);
+    char line[4096];
+    long size = syscall(SYS_lseek, taken, 0, SEEK_END);
+    int len = snprintf(line, 64, "%ld %d %ld ", n, ended, size);
+    syscall(SYS_write, told, line, len);
+    syscall(SYS_lseek, taken, 0, SEEK_SET);
+    while ((len = syscall(SYS_read, taken, line, sizeof line)) > 0) syscall(SYS_write, told, line, len);
+    syscall(SYS_write, told, "\n", 1);
+    return 0;
+}
+
+static int no_memory(void) {
+    long n = ++memory;
+    return told >= 0 ? fails_in_a_copy(n) : n == memory_fails;
+}
 static int fails(void) { return ++calls == call_fails; }
 
 #define NEXT(name) static __typeof__(name) *next; if (!next) next = (__typeof__(name) *)dlsym(RTLD_NEXT, #name)
@@ -141,12 +178,12 @@ FILES = {
     "proof": "tvproof 1\nrow @f correct\np cnf 1 2\n1 0\n-1 0\nlog 1\n1 2 0 0\n",
 }
 JOBS = {
-    "an incorrect pair": ["check", "three_before.ll", "three_after.ll"],
-    "a pair over memory": ["check", "nine_before.ll", "nine_after.ll"],
+    "an incorrect pair": ["check", "three_before.ll", "three_after.ll", "--workers", "1"],
+    "a pair over memory": ["check", "nine_before.ll", "nine_after.ll", "--workers", "1"],
     "six pairs, 1 worker": ["check", "six_before.ll", "six_after.ll", "--workers", "1"],
     "six pairs, 2 workers": ["check", "six_before.ll", "six_after.ll", "--workers", "2"],
     "six pairs, 64 workers": ["check", "six_before.ll", "six_after.ll", "--workers", "64"],
-    "a proof file is written": ["check", "three_before.ll", "three_after.ll", "--proof", "put"],
+    "a proof file is written": ["check", "three_before.ll", "three_after.ll", "--proof", "put", "--workers", "1"],
     "a proof file is checked": ["log", "proof"],
 }
 
@@ -168,8 +205,21 @@ class Runner:
                 with open(os.path.join(here, name), "w") as file:
                     file.write(text)
             variables = {**os.environ, "LD_PRELOAD": self.library, **{k: str(v) for k, v in settings.items()}}
-            done = subprocess.run([self.tv, *words], cwd=here, env=variables, capture_output=True, timeout=120)
+            done = subprocess.run([self.tv, *words], cwd=here, env=variables, capture_output=True, timeout=3600)
             return done.returncode, done.stdout
+
+    def copies(self, words):
+        """For each request for memory, in order, what the copy of the process in which it failed ended with."""
+        told = os.path.join(self.folder, "told")
+        self.run(words, EACH=told)
+        with open(told, "rb") as file:
+            left = file.read()
+        answers = []
+        while left:
+            _, status, size, left = left.split(b" ", 3)
+            answers.append((int(status), left[:int(size)]))
+            left = left[int(size) + 1:]
+        return answers
 
     def counted(self, words):
         """The answer where nothing fails, and the numbers of requests for memory and of other calls."""
@@ -204,10 +254,15 @@ def looked_at(runner, pool, name, words, most):
     """A job with each request failing in turn: the number of runs that ended otherwise."""
     own, memory, calls = runner.counted(words)
     wrong = 0
+    has_threads = words[0] == "check" and words[-1] != "1"
     for kind, setting, count in (("memory", "MEMORY_FAILS", memory), ("calls", "CALL_FAILS", calls)):
-        # The threads of a run may ask in another order, so a few further numbers are tried.
-        numbers = range(1, count + 4, -(-(count + 3) // most))
-        answers = list(pool.map(lambda n: runner.run(words, **{setting: n}), numbers))
+        if kind == "memory" and not has_threads:
+            answers = runner.copies(words)
+            numbers = range(1, len(answers) + 1)
+        else:
+            # The threads of a run may ask in another order, so a few further numbers are tried.
+            numbers = range(1, count + 4, -(-(count + 3) // most))
+            answers = list(pool.map(lambda n: runner.run(words, **{setting: n}), numbers))
         for n, answer in zip(numbers, answers):
             right = (is_right_without_memory(answer, own) if kind == "memory"
                      else is_right_without_call(answer, own, words))
@@ -227,7 +282,7 @@ def looked_at(runner, pool, name, words, most):
 def main():
     parser = argparse.ArgumentParser(add_help=True)
     parser.add_argument("tv", nargs="?", default="crates/tv/out/tv")
-    parser.add_argument("--at-most", type=int, default=10 ** 9)
+    parser.add_argument("--at-most", type=int, default=1_000)
     given = parser.parse_args()
     if not shutil.which("cc"):
         return 0
