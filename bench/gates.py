@@ -1,7 +1,7 @@
 #!/usr/bin/env python3
 """How many gates and clauses each operation on terms takes, beside those of z3.
 
-    bench/gates.py [PATH OF bench_gates]        (default: crates/bench_gates/out/bench_gates)
+    bench/gates.py [PATH OF bench_steps]        (default: crates/bench_steps/out/bench_steps)
 
 Ours are gates without the inputs, and the clauses that ask whether the result is 0 (of a comparison:
 whether it holds). Those of z3 are the clauses of its own bit blasting of the operation, where all bits
@@ -47,8 +47,8 @@ def clauses_of_z3(name, width):
 
 
 def main():
-    program = sys.argv[1] if len(sys.argv) > 1 else "crates/bench_gates/out/bench_gates"
-    lines = subprocess.run([program, "8", "32", "64"], capture_output=True, text=True, check=True).stdout.splitlines()
+    program = sys.argv[1] if len(sys.argv) > 1 else "crates/bench_steps/out/bench_steps"
+    lines = subprocess.run([program, "gates", "8", "32", "64"], capture_output=True, text=True, check=True).stdout.splitlines()
     for line in lines:
         name, width, _, gates, _, clauses = line.split()
         other = ""

@@ -1,13 +1,13 @@
 #!/usr/bin/env python3
 """Whether LLVM reads what `ir_printer` prints: made modules, and modules that were read before.
 
-    bench/printed.py [PATH OF bench_printer] [SEEDS]     (default: crates/bench_printer/out/bench_printer, 150)
+    bench/printed.py [PATH OF bench_steps] [SEEDS]     (default: crates/bench_steps/out/bench_steps, 150)
 
 For each seed it prints the source and the target of the pair of modules that `tv make` judges, of 1 to 40
 functions with 1 to 64 instructions. Then clang 19 makes a module of bench/pairs.c without its passes, and
-opt 19 runs each of several passes on it; `bench_printer read` prints what it reads of each of these modules
+opt 19 runs each of several passes on it; `bench_steps read` prints what it reads of each of these modules
 (the functions that are refused are left out), of each of their functions by itself, and of the modules of
-this repository. `opt-19 -passes=verify` has to read each printed module, and what `bench_printer read` prints of
+this repository. `opt-19 -passes=verify` has to read each printed module, and what `bench_steps read` prints of
 it has to be the same again. It prints the number of modules and of functions in them. The status is 1
 where a module was refused by LLVM or printed otherwise the second time; without clang-19 and opt-19 it does
 nothing.
@@ -98,7 +98,7 @@ def look_at_repository(tally):
 
 
 def main():
-    printer = sys.argv[1] if len(sys.argv) > 1 else "crates/bench_printer/out/bench_printer"
+    printer = sys.argv[1] if len(sys.argv) > 1 else "crates/bench_steps/out/bench_steps"
     seeds = int(sys.argv[2]) if len(sys.argv) > 2 else 150
     if not (shutil.which("clang-19") and shutil.which("opt-19")):
         return 0

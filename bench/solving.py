@@ -1,13 +1,14 @@
 #!/usr/bin/env python3
 """How long the search for models takes, beside other solvers on the same clauses.
 
-    bench/solving.py [PATH OF bench_solver] [PAIRS A PASS]    (defaults: crates/bench_solver/out/bench_solver, 12)
+    bench/solving.py [PATH OF bench_steps] [PAIRS A PASS]    (defaults: crates/bench_steps/out/bench_steps, 12)
 
 Four kinds of questions, all in the DIMACS format and none made for one solver:
 
-- terms: pigeons in holes, and pairs of terms that are equal, at several widths (`bench_solver question NAME BITS`);
+- pigeons in holes;
+- terms: pairs of terms that are equal, at several widths, as gates that are made here;
 - exchanges: two stores to bytes that aren't the same, in one order and in the other;
-- identities: pairs of functions that are judged without given blocks (`bench_solver check`), and then the
+- identities: pairs of functions that are judged without given blocks (`bench_steps check`), and then the
   clauses of the pair's last question;
 - passes: the same of functions that a pass of opt 19 changed, out of bench/pairs.c, where clang 19 is there.
 
@@ -18,6 +19,7 @@ that minisat decides within 8 s, ours decides how many within 8 s, and the media
 test rests on these figures.
 """
 import functools
+import itertools
 import os
 import shutil
 import statistics
@@ -29,10 +31,8 @@ import time
 import pairs
 
 LIMIT = 8
+PIGEONS = (4, 5, 6, 8, 9)
 EXCHANGES = (16, 32)
-TERMS = [("pigeons", n) for n in (4, 5, 6, 8, 9)] + [(name, n) for name, widths in [
-    ("three", (16, 64)), ("difference", (32, 64)), ("parts", (16, 32, 64)), ("commuted", (6, 8)), ("whole", (6, 8)),
-    ("remains", (6, 8, 10)), ("shifts", (16, 32))] for n in widths]
 IDENTITIES = [
     ("(x + y) * 11, x * 11 + y * 11", 16, "%s = add T %x, %y\n%r = mul T %s, 11", "%a = mul T %x, 11\n%b = mul T %y, 11\n%r = add T %a, %b"),
     ("(x + y) * 11, x * 11 + y * 11", 32, "%s = add T %x, %y\n%r = mul T %s, 11", "%a = mul T %x, 11\n%b = mul T %y, 11\n%r = add T %a, %b"),
@@ -107,6 +107,90 @@ class Gates:
         return [[self.choice(self.is_number(address, place), new, old) for new, old in zip(byte, before)] for place, before in enumerate(memory)]
 
 
+    def sum(self, a, b, carry):
+        """a + b and a carry, in as many bits, and the carry out."""
+        result = []
+        for x, y in zip(reversed(a), reversed(b)):
+            either = self.differ(x, y)
+            result.append(self.differ(either, carry))
+            carry = self.choice(either, carry, x)
+        return result[::-1], carry
+
+    def constant(self, value, width):
+        zero = self.gate("zero", lambda out: [[-out]])
+        return [-zero if value >> place & 1 else zero for place in reversed(range(width))]
+
+    def add(self, a, b):
+        return self.sum(a, b, self.constant(0, 1)[0])[0]
+
+    def sub(self, a, b):
+        return self.sum(a, [-bit for bit in b], self.constant(1, 1)[0])[0]
+
+    def mul(self, a, b):
+        total = self.constant(0, len(a))
+        for place, bit in enumerate(reversed(b)):
+            shifted = a[place:] + self.constant(0, place)
+            total = self.add(total, [self.both(bit, digit) for digit in shifted])
+        return total
+
+    def division(self, a, b):
+        """The quotient and the remainder of a by b, bit by bit; by 0 all ones and a."""
+        rest, quotient = self.constant(0, len(b)), []
+        for bit in a:
+            high, rest = rest[0], [*rest[1:], bit]
+            less, carry = self.sum(rest, [-digit for digit in b], self.constant(1, 1)[0])
+            fits = -self.both(-high, -carry)
+            rest = [self.choice(fits, new, old) for new, old in zip(less, rest)]
+            quotient.append(fits)
+        return quotient, rest
+
+    def shl(self, a, b):
+        """a shifted to the left by b, 0 from its width on."""
+        for place, bit in enumerate(reversed(b)):
+            shifted = (a[1 << place:] + self.constant(0, 1 << place))[-len(a):] if 1 << place < len(a) else self.constant(0, len(a))
+            a = [self.choice(bit, new, old) for new, old in zip(shifted, a)]
+        return a
+
+    def question(self, widths):
+        """The text of the clauses."""
+        lines = [" ".join(map(str, clause)) + " 0" for clause in self.clauses]
+        return "\n".join([f"c widths {' '.join(map(str, widths))}", f"p cnf {self.variables} {len(lines)}", *lines]) + "\n"
+
+
+def whole(gates, x, y):
+    quotient, rest = gates.division(x, y)
+    return gates.add(gates.mul(quotient, y), rest), x
+
+
+TERMS = [
+    ("(x + y) + z, x + (y + z)", (16, 64), 3, lambda g, x, y, z: (g.add(g.add(x, y), z), g.add(x, g.add(y, z)))),
+    ("(x + y) - y, x", (32, 64), 2, lambda g, x, y: (g.sub(g.add(x, y), y), x)),
+    ("(x & y) + (x | y), x + y", (16, 32, 64), 2, lambda g, x, y: (
+        g.add([g.both(a, b) for a, b in zip(x, y)], [-g.both(-a, -b) for a, b in zip(x, y)]), g.add(x, y))),
+    ("x * y, y * x", (6, 8), 2, lambda g, x, y: (g.mul(x, y), g.mul(y, x))),
+    ("x / y * y + x % y, x", (6, 8), 2, whole),
+    ("(x % y) % y, x % y", (6, 8, 10), 2, lambda g, x, y: (g.division(g.division(x, y)[1], y)[1], g.division(x, y)[1])),
+    ("(x << y) << z, (x << z) << y", (16, 32), 3, lambda g, x, y, z: (g.shl(g.shl(x, y), z), g.shl(g.shl(x, z), y))),
+]
+
+
+def differ(width, words, terms):
+    """Whether two terms over so many words of a width ever have other values."""
+    gates = Gates()
+    left, right = terms(gates, *[gates.word(width) for _ in range(words)])
+    gates.clauses.append([gates.differ(a, b) for a, b in zip(left, right)])
+    return gates.question([width] * words)
+
+
+def pigeons(holes):
+    """One pigeon more than there are holes, and no two in one."""
+    gates = Gates()
+    sits = [gates.word(holes) for _ in range(holes + 1)]
+    gates.clauses += sits
+    gates.clauses += [[-a[hole], -b[hole]] for a, b in itertools.combinations(sits, 2) for hole in range(holes)]
+    return gates.question([])
+
+
 def exchange(size):
     """Whether two stores to different bytes of a memory of this size ever give another memory in the other order."""
     gates, width = Gates(), (size - 1).bit_length()
@@ -116,20 +200,20 @@ def exchange(size):
     after = gates.stored(gates.stored(memory, q, y), p, x)
     gates.clauses.append([gates.differ(a, b) for left, right in zip(before, after) for a, b in zip(left, right)])
     gates.clauses.append([gates.differ(a, b) for a, b in zip(p, q)])
-    lines = [" ".join(map(str, clause)) + " 0" for clause in gates.clauses]
-    widths = " ".join(map(str, [8] * size + [width, width, 8, 8]))
-    return "\n".join([f"c widths {widths}", f"p cnf {gates.variables} {len(lines)}", *lines]) + "\n"
+    return gates.question([8] * size + [width, width, 8, 8])
 
 
 def with_widths(text, width):
     """The clauses with the widths of their front: for each argument a flag and its number."""
-    lines = text.split("\n", 1)
-    return f"c widths 1 {width} 1 {width}\n{lines[1]}"
+    return f"c widths 1 {width} 1 {width}\n{text}"
 
 
 def questions(program, folder, most):
-    for name, bits in TERMS:
-        yield f"{name} {bits}", subprocess.run([program, "question", name, str(bits)], capture_output=True, text=True).stdout
+    for holes in PIGEONS:
+        yield f"{holes + 1} pigeons in {holes} holes", pigeons(holes)
+    for title, widths, words, terms in TERMS:
+        for width in widths:
+            yield f"{title}, {width} bits", differ(width, words, terms)
     for size in EXCHANGES:
         yield f"two stores exchanged, {size} bytes", exchange(size)
     for title, width, source, target in IDENTITIES:
@@ -150,7 +234,7 @@ def shown(seconds):
 
 
 def main():
-    program = sys.argv[1] if len(sys.argv) > 1 else "crates/bench_solver/out/bench_solver"
+    program = sys.argv[1] if len(sys.argv) > 1 else "crates/bench_steps/out/bench_steps"
     most = int(sys.argv[2]) if len(sys.argv) > 2 else 12
     peers = [name for name in ("minisat", "cadical") if shutil.which(name)]
     decided, ratios = [], []
@@ -163,7 +247,8 @@ def main():
             quiet = {"minisat": ["-verb=0"], "cadical": ["-q"]}
             others = [timed([peer, *quiet[peer], name])[0] for peer in peers]
             columns = "".join(f"  {peer} {shown(seconds)}" for peer, seconds in zip(peers, others))
-            print(f"{title:>44} {text.split(chr(10), 2)[1]:<18} ask {shown(ask)} {answer.strip():<12} order {shown(order)}{columns}", flush=True)
+            size = next(line for line in text.splitlines() if line.startswith("p"))
+            print(f"{title:>44} {size:<18} ask {shown(ask)} {answer.strip():<12} order {shown(order)}{columns}", flush=True)
             if others and others[0] is not None:
                 decided.append(ask is not None)
                 ratios += [ask / others[0]] if ask is not None else []

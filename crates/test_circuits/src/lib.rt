@@ -24,8 +24,6 @@ mod memory_outcome_tests;
 #[cfg(test)]
 mod refine_tests;
 #[cfg(test)]
-mod rule_form_tests;
-#[cfg(test)]
 mod term_tests;
 #[cfg(test)]
 mod term_values;

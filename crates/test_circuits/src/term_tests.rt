@@ -31,16 +31,19 @@ fn value_of(alloc: Global, text: &str, x: u128, y: u128) -> Result<Option<u128>,
     }
 }
 
-/// The number that bits write where the inputs of the circuit, in order, are the bits of a word of 6
-/// bits.
+/// The number that the bits of a term write where the inputs of the circuit, in order, are the bits of
+/// a word of 6 bits.
 fn number_at(
     alloc: Global,
     blast: &Blast,
-    bits: &Sequence<GateId>,
+    bits: Option<&Sequence<GateId>>,
     word: u32,
-) -> Result<u128, NoMemory> {
+) -> Result<Option<u128>, NoMemory> {
+    let Some(bits) = bits else {
+        return Ok(None);
+    };
     let values = values_of(alloc, blast.circuit(), word)?;
-    Ok(u128::from(number(&values, bits.as_slice())))
+    Ok(Some(u128::from(number(&values, bits.as_slice()))))
 }
 
 /// The number that the bits of the term write where the inputs are those of a word.
@@ -48,13 +51,10 @@ fn bits_of(alloc: Global, text: &str, word: u32) -> Result<Option<u128>, NoMemor
     let mut terms = Terms::new(alloc);
     let id = written(alloc, &mut terms, text)?;
     let mut blast = Blast::new(alloc);
-    match fold(alloc, &terms, &mut blast) {
-        Ok(all) => match all.get(id.index) {
-            Some(bits) => Ok(Some(number_at(alloc, &blast, bits, word)?)),
-            None => Ok(None),
-        },
-        Err(_) => Err(NoMemory),
-    }
+    let Ok(all) = fold(alloc, &terms, &mut blast) else {
+        return Err(NoMemory);
+    };
+    number_at(alloc, &blast, all.get(id.index), word)
 }
 
 /// The values of x and y in the columns of the table, and both as one word.
@@ -106,8 +106,10 @@ fn terms_have_values(rt: HostRuntime) -> Result<(), Fail> {
 }
 
 /// A text and another one that writes the same term: what is plainly one of the operands, or a
-/// number, is it, operands that change places are one term, and operations on numbers are computed.
-const SAME: [(&str, &str); 40] = [
+/// number, is it, operands that change places are one term, operations on numbers are computed, a
+/// common factor is multiplied once, low bits come from low bits, and operations on widened numbers
+/// are done before widening.
+const SAME: [(&str, &str); 46] = [
     ("xx&", "x"),
     ("xx|", "x"),
     ("x0+", "x"),
@@ -148,6 +150,12 @@ const SAME: [(&str, &str); 40] = [
     ("3~", "4"),
     ("12l", "4"),
     ("72/", "3"),
+    ("xy*3x*+", "xy3+*"),
+    ("xz3z+yz*t", "x3+y*"),
+    ("xzyz%", "xy%z"),
+    ("xz5z/", "x5/z"),
+    ("7zxz-", "x~z"),
+    ("xzyzi", "xy<"),
 ];
 
 /// Whether two texts write one term of the same store.

@@ -30,8 +30,18 @@ fn leaf(terms: &mut Terms, letter: u8) -> Result<TermId, NoMemory> {
     }
 }
 
+/// The low 3 bits of a term of more.
+fn low_bits(terms: &mut Terms, a: TermId) -> Result<TermId, NoMemory>
+    requires { a.index < length terms.old }
+{
+    if terms.width(a) < 4 {
+        return Err(NoMemory);
+    }
+    rules::extract(terms, a, 0, 3)
+}
+
 /// An operation over one term: `~` its bits inverted, `p` its bits from bit 1 on, `z` and `s` the
-/// term at 6 bits.
+/// term at 6 bits, `t` its low 3 bits.
 fn over_one(terms: &mut Terms, letter: u8, a: TermId) -> Result<TermId, NoMemory>
     requires { a.index < length terms.old }
 {
@@ -41,6 +51,7 @@ fn over_one(terms: &mut Terms, letter: u8, a: TermId) -> Result<TermId, NoMemory
         b'p' if width > 1 => rules::extract(terms, a, 1, width - 1),
         b'z' if width < 6 => rules::zext(terms, a, 6),
         b's' if width < 6 => rules::sext(terms, a, 6),
+        b't' => low_bits(terms, a),
         _ => Err(NoMemory),
     }
 }
@@ -108,7 +119,7 @@ fn next(terms: &mut Terms, stack: &mut Vec<TermId>, letter: u8) -> Result<TermId
         return Err(NoMemory);
     }
     let last = taken(terms, stack);
-    if matches!(letter, b'~' | b'p' | b'z' | b's') {
+    if matches!(letter, b'~' | b'p' | b't' | b'z' | b's') {
         over_one(terms, letter, last)
     } else {
         over_more(terms, stack, letter, last)

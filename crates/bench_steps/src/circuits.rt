@@ -1,0 +1,98 @@
+//! How many gates and clauses each operation on terms takes.
+//!
+//! A line for each operation: its name, the width, the gates without the inputs, and the clauses that ask
+//! whether the result is 0, so that each bit of it is needed, or of a comparison whether it holds.
+
+ghost use Rattle.std.specs.Prelude.{◌≤◌};
+
+use bit_blast::Blast;
+use bv_terms::{BinaryOp, TermId, Terms, fold};
+use gates::to_cnf;
+use std::alloc::Global;
+use std::io;
+use support::NoMemory;
+
+const OPERATIONS: [(&str, BinaryOp); 13] = [
+    ("and", BinaryOp::And),
+    ("xor", BinaryOp::Xor),
+    ("add", BinaryOp::Add),
+    ("sub", BinaryOp::Sub),
+    ("mul", BinaryOp::Mul),
+    ("udiv", BinaryOp::Udiv),
+    ("urem", BinaryOp::Urem),
+    ("shl", BinaryOp::Shl),
+    ("lshr", BinaryOp::Lshr),
+    ("ashr", BinaryOp::Ashr),
+    ("eq", BinaryOp::Eq),
+    ("ult", BinaryOp::Ult),
+    ("slt", BinaryOp::Slt),
+];
+
+/// The term of the operation; the first operand where their widths differ.
+fn term_of(
+    terms: &mut Terms,
+    operation: BinaryOp,
+    a: TermId,
+    b: TermId,
+) -> Result<TermId, NoMemory> {
+    let count = terms.as_slice().len();
+    if a.index >= count || b.index >= count || terms.width(a) != terms.width(b) {
+        return Ok(a);
+    }
+    terms.binary(operation, a, b)
+}
+
+/// The gates and clauses of the operation over two variables of the width.
+fn counts(alloc: Global, operation: BinaryOp, width: u32) -> Result<(usize, usize), NoMemory>
+    requires least { 1 ≤ width }
+    requires most { width ≤ 128 }
+{
+    let mut terms = Terms::new(alloc);
+    let a = terms.variable(0, width)?;
+    let b = terms.variable(1, width)?;
+    let result = term_of(&mut terms, operation, a, b)?;
+    let zero = terms.constant(0, width)?;
+    let goal = term_of(&mut terms, BinaryOp::Eq, result, zero)?;
+    let mut blast = Blast::new(alloc);
+    let Ok(bits) = fold(alloc, &terms, &mut blast) else {
+        return Err(NoMemory);
+    };
+    let inputs = blast.inputs()?;
+    let circuit = blast.circuit();
+    let asked = bits
+        .get(goal.index)
+        .and_then(|digits| digits.as_slice().first().copied());
+    let gates = circuit.len().saturating_sub(inputs.len());
+    match asked {
+        Some(out) if out.index < circuit.len() => {
+            let cnf = to_cnf(alloc, circuit, out, &inputs)?;
+            Ok((gates, cnf.clauses.len()))
+        }
+        _ => Ok((gates, 0)),
+    }
+}
+
+/// Prints a line for each operation at the width.
+fn print_counts(rt: &HostRuntime, width: u32) -> io::Result<()>
+    requires least { 1 ≤ width }
+    requires most { width ≤ 128 }
+{
+    for (name, operation) in OPERATIONS {
+        if let Ok((gates, clauses)) = counts(rt.alloc(), operation, width) {
+            println!(rt; "{name} {width} gates {gates} clauses {clauses}")?;
+        }
+    }
+    Ok(())
+}
+
+/// Prints the lines of each width among the words; whether each is a width from 1 to 128.
+pub fn print_widths(rt: &HostRuntime, widths: &[String]) -> io::Result<bool> {
+    for word in widths {
+        let width = word.parse::<u32>().unwrap_or(0);
+        if width < 1 || 128 < width {
+            return Ok(false);
+        }
+        print_counts(rt, width)?;
+    }
+    Ok(true)
+}
