@@ -75,10 +75,13 @@ def clauses_of(program, folder, source, target, options):
 
 
 class Gates:
-    """Clauses of gates, each gate once."""
+    """Clauses of gates, each gate once; what a constant or an equal operand decides is no gate."""
 
     def __init__(self):
         self.variables, self.clauses, self.made = 0, [], {}
+
+    def zero(self):
+        return self.gate("zero", lambda out: [[-out]])
 
     def word(self, width):
         self.variables += width
@@ -91,12 +94,38 @@ class Gates:
         return self.made[key]
 
     def both(self, a, b):
+        a, b, zero = *sorted((a, b), key=abs), self.made.get("zero")
+        if zero in (a, b) or a == -b:
+            return self.zero()
+        if a == b or abs(b) == zero:
+            return a
+        if abs(a) == zero:
+            return b
         return self.gate(("and", a, b), lambda out: [[-out, a], [-out, b], [out, -a, -b]])
 
     def differ(self, a, b):
+        a, b, zero = *sorted((a, b), key=abs), self.made.get("zero")
+        if abs(a) == abs(b):
+            return self.zero() if a == b else -self.zero()
+        for one, other in ((a, b), (b, a)):
+            if one < 0 or one == zero:
+                return other if one == zero else -self.differ(-one, other)
         return self.gate(("xor", a, b), lambda out: [[-a, -b, -out], [a, b, -out], [-a, b, out], [a, -b, out]])
 
     def choice(self, c, a, b):
+        zero = self.made.get("zero")
+        if a == b or abs(c) == zero:
+            return b if a == b or c == zero else a
+        if a == -b:
+            return -self.differ(c, a)
+        if a in (c, -zero if zero else None):
+            return -self.both(-c, -b)
+        if a in (-c, zero):
+            return self.both(-c, b)
+        if b in (c, zero):
+            return self.both(c, a)
+        if b in (-c, -zero if zero else None):
+            return -self.both(c, -a)
         return self.gate(("ite", c, a, b), lambda out: [[-c, -a, out], [-c, a, -out], [c, -b, out], [c, b, -out]])
 
     def is_number(self, word, number):
@@ -117,7 +146,7 @@ class Gates:
         return result[::-1], carry
 
     def constant(self, value, width):
-        zero = self.gate("zero", lambda out: [[-out]])
+        zero = self.zero()
         return [-zero if value >> place & 1 else zero for place in reversed(range(width))]
 
     def add(self, a, b):
@@ -178,7 +207,7 @@ def differ(width, words, terms):
     """Whether two terms over so many words of a width ever have other values."""
     gates = Gates()
     left, right = terms(gates, *[gates.word(width) for _ in range(words)])
-    gates.clauses.append([gates.differ(a, b) for a, b in zip(left, right)])
+    gates.clauses.append(sorted({gates.differ(a, b) for a, b in zip(left, right)}, key=abs))
     return gates.question([width] * words)
 
 
@@ -205,7 +234,8 @@ def exchange(size):
 
 def with_widths(text, width):
     """The clauses with the widths of their front: for each argument a flag and its number."""
-    return f"c widths 1 {width} 1 {width}\n{text}"
+    variables = int(text.split()[2])
+    return f"c widths 1 {width} 1 {width}\n{text}" if variables >= 2 * (width + 1) else text
 
 
 def questions(program, folder, most):
