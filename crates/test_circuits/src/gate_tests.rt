@@ -43,7 +43,7 @@ const ONE_GATE: [(&str, &str, usize); 14] = [
 
 #[test]
 fn one_gate_is_written_in_two_ways(rt: HostRuntime) -> Result<(), Fail> {
-    for (first, second, count) in ONE_GATE {
+    for &(first, second, count) in &ONE_GATE {
         assert_eq!(rt;
             gates_of_one(rt.alloc(), first, second)?,
             Some(count),

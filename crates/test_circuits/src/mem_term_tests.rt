@@ -127,7 +127,7 @@ fn numbers_of_two(rt: HostRuntime) -> Result<(), Fail> {
         (Number::Byte, 300, 0, 44),
         (Number::Wide, u64::MAX, 0, 18_446_744_073_709_551_615),
     ];
-    for (op, a, b, want) in rows {
+    for &(op, a, b, want) in &rows {
         assert_eq!(rt; number_of(rt.alloc(), op, a, b)?, Some(want), "{a} and {b}");
     }
     Ok(())

@@ -126,7 +126,7 @@ fn a_value_of_the_other_kind_is_poison(rt: HostRuntime) -> Result<(), Fail> {
         (to(1, 0), (Value::Poison, to(1, 0))),
         (to(2, u64::MAX), (Value::Poison, to(2, u64::MAX))),
     ];
-    for (value, wants) in rows {
+    for &(value, wants) in &rows {
         assert_eq!(rt; used(rt.alloc(), value)?, wants);
     }
     Ok(())

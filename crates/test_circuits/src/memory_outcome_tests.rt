@@ -177,7 +177,7 @@ fn returned_pointers(rt: HostRuntime) -> Result<(), Fail> {
             false,
         ),
     ];
-    for (row, (source, target, want)) in rows.into_iter().enumerate() {
+    for (row, &(source, target, want)) in rows.iter().enumerate() {
         let found = is_covered(rt.alloc(), returns(source), returns(target))?;
         assert_eq!(rt; found, want, "row {row}");
     }
@@ -225,7 +225,7 @@ fn left_blocks(rt: HostRuntime) -> Result<(), Fail> {
         ),
         (leaves(1, part, two), leaves(1, one, two), false),
     ];
-    for (row, (source, target, want)) in rows.into_iter().enumerate() {
+    for (row, &(source, target, want)) in rows.iter().enumerate() {
         let found = is_covered(rt.alloc(), source, target)?;
         assert_eq!(rt; found, want, "row {row}");
     }

@@ -38,7 +38,7 @@ const ALLOWS: [&str; 5] = ["11111", "11111", "01111", "01010", "01001"];
 
 #[test]
 fn ends_allow_what_alive2_says(rt: HostRuntime) -> Result<(), Fail> {
-    for (source, row) in ALLOWS.into_iter().enumerate() {
+    for (source, row) in ALLOWS.iter().enumerate() {
         for (target, want) in row.as_bytes().iter().enumerate() {
             let found = refines(&end(rt.alloc(), source), &end(rt.alloc(), target));
             assert_eq!(rt; found, *want == b'1', "{source} and {target}");
@@ -123,7 +123,7 @@ fn poison_has_no_number(rt: HostRuntime) -> Result<(), Fail> {
         (false, 255, false, false),
         (true, 0, false, false),
     ];
-    for (flag, byte, is_plain, want) in rows {
+    for &(flag, byte, is_plain, want) in &rows {
         let found = is_point(rt.alloc(), flag, byte, is_plain)?;
         assert_eq!(rt; found, want, "{flag}, {byte} and {is_plain}");
     }

@@ -62,7 +62,7 @@ const COLUMNS: [(u128, u128, u32); 4] = [(6, 3, 51), (5, 1, 41), (2, 0, 16), (1,
 
 /// Whether the term of a text has these values, one a column, as a number and as bits.
 fn has_values(alloc: Global, text: &str, values: &[u128]) -> Result<bool, NoMemory> {
-    for ((x, y, word), want) in COLUMNS.into_iter().zip(values.iter()) {
+    for (&(x, y, word), want) in COLUMNS.iter().zip(values.iter()) {
         let value = value_of(alloc, text, x, y)?;
         let bits = bits_of(alloc, text, word)?;
         if value != Some(*want) || bits != Some(*want) {
@@ -98,7 +98,7 @@ const VALUES: [(&str, u128, u128, u128, u128); 20] = [
 
 #[test]
 fn terms_have_values(rt: HostRuntime) -> Result<(), Fail> {
-    for (text, first, second, third, fourth) in VALUES {
+    for &(text, first, second, third, fourth) in &VALUES {
         let values = [first, second, third, fourth];
         assert!(rt; has_values(rt.alloc(), text, &values)?, "{text}");
     }
@@ -167,7 +167,7 @@ fn are_one(alloc: Global, first: &str, second: &str) -> Result<bool, NoMemory> {
 
 #[test]
 fn terms_are_simplified(rt: HostRuntime) -> Result<(), Fail> {
-    for (first, second) in SAME {
+    for &(first, second) in &SAME {
         assert!(rt; are_one(rt.alloc(), first, second)?, "{first} and {second}");
     }
     Ok(())

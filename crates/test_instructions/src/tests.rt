@@ -15,7 +15,7 @@ fn interpreter_and_terms_give_the_sums(rt: HostRuntime) -> Result<(), Fail> {
     for line in SUMS.lines() {
         let (instruction, sums) = line.split_once(": ").ok_or("a line has sums")?;
         assert!(rt; sums.split_whitespace().count() == COLUMNS.len(), "{line}");
-        for (column, digits) in COLUMNS.into_iter().zip(sums.split_whitespace()) {
+        for (&column, digits) in COLUMNS.iter().zip(sums.split_whitespace()) {
             let sum = u64::from_str_radix(digits, 16)?;
             let module = module_of(alloc, instruction, column)?;
             let function = function_in(&module).ok_or("the function is read")?;
@@ -59,7 +59,7 @@ fn a_select_looks_at_the_chosen_arm_alone(rt: HostRuntime) -> Result<(), Fail> {
     let alloc = rt.alloc();
     let module = read(alloc, SELECT).ok().ok_or("the module is read")?;
     let function = function_in(&module).ok_or("the function is read")?;
-    for (condition, if_true, if_false, given) in SELECTED {
+    for &(condition, if_true, if_false, given) in &SELECTED {
         let operands = [condition, if_true, if_false];
         assert!(rt; is_given(alloc, function, &operands, given)?);
     }

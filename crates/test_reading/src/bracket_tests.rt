@@ -23,7 +23,7 @@ fn brackets_are_passed(rt: HostRuntime) -> Result<(), Fail> {
         ("[ ]", None),
         ("", None),
     ];
-    for (text, left) in rows {
+    for &(text, left) in &rows {
         assert_eq!(rt; left_after(rt.alloc(), text)?, left, "in {text:?}");
     }
     Ok(())

@@ -418,7 +418,7 @@ fn no_token_stands_twice(rt: HostRuntime) -> Result<(), Fail> {
 
 #[test]
 fn no_token_stands_for_another(rt: HostRuntime) -> Result<(), Fail> {
-    for (other, answers) in REPLACED {
+    for &(other, answers) in &REPLACED {
         assert!(rt; are_answers(rt.alloc(), answers, other)?, "at {other:?}");
     }
     Ok(())
@@ -427,7 +427,7 @@ fn no_token_stands_for_another(rt: HostRuntime) -> Result<(), Fail> {
 // The bytes of the undamaged text.
 fn whole(alloc: Global) -> Result<Vec<u8>, AllocError> {
     let mut text = Vec::new(alloc);
-    for piece in PIECES {
+    for piece in &PIECES {
         push_all(&mut text, piece.as_bytes())?;
     }
     text.push(b'\n')?;
@@ -453,7 +453,7 @@ fn it_may_break_off_anywhere(rt: HostRuntime) -> Result<(), Fail> {
 #[test]
 fn a_byte_may_be_another(rt: HostRuntime) -> Result<(), Fail> {
     let alloc = rt.alloc();
-    for (byte, answers) in CHANGED {
+    for &(byte, answers) in &CHANGED {
         for (place, answer) in answers.split_whitespace().enumerate() {
             let mut text = whole(alloc)?;
             if let Some(changed) = text.as_mut_slice().get_mut(place) {

@@ -141,7 +141,7 @@ fn every_path_assigns_a_name(rt: HostRuntime) -> Result<(), Fail> {
         ),
         ("no block", 0, &[], &[], 3, ""),
     ];
-    for (row, blocks, edges, assigned, names, want) in rows {
+    for &(row, blocks, edges, assigned, names, want) in &rows {
         let sets = text(rt.alloc(), blocks, edges, assigned, names)?;
         assert!(rt; sets.as_slice() == want.as_bytes(), "{row}");
     }

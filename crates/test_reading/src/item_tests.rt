@@ -17,7 +17,7 @@ fn fault(alloc: Global, text: &str) -> Option<ItemFault> {
 // The places and reasons are from a cut in another language.
 #[test]
 fn first_stops(rt: HostRuntime) {
-    for (text, at, why) in [
+    for &(text, at, why) in &[
         ("ret", 0, Why::NoItem),
         ("}", 0, Why::NoItem),
         ("declare void @f())\n", 5, Why::Bracket),
@@ -96,7 +96,7 @@ fn tokens_spell_names(rt: HostRuntime) -> Result<(), Fail> {
         ("ret", ""),
         ("7", ""),
     ];
-    for (text, want) in rows {
+    for &(text, want) in &rows {
         let found = named(rt.alloc(), text)?;
         assert!(rt; found.as_slice() == want.as_bytes(), "in {text:?}");
     }

@@ -74,7 +74,7 @@ fn tokens_of_each_class(rt: HostRuntime) -> Result<(), Fail> {
         ),
         ("", ""),
     ];
-    for (text, want) in rows {
+    for &(text, want) in &rows {
         let found = lexed(rt.alloc(), text)?;
         assert!(rt; found.as_slice() == want.as_bytes(), "in {text:?}");
     }
@@ -86,7 +86,7 @@ fn tokens_of_each_class(rt: HostRuntime) -> Result<(), Fail> {
 #[test]
 fn places_without_a_token(rt: HostRuntime) -> Result<(), Fail> {
     let alloc = rt.alloc();
-    for (text, at, line, column) in [
+    for &(text, at, line, column) in &[
         ("a ?", 2, 1, 3),
         ("% a", 0, 1, 1),
         ("\n \"abc", 2, 2, 2),

@@ -20,7 +20,7 @@ fn positions_are_counted(rt: HostRuntime) {
         ("a\r\nbc", 2, 3),
         ("\n\n\tx", 3, 3),
     ];
-    for (text, line, column) in rows {
+    for &(text, line, column) in &rows {
         assert_eq!(rt; end_of(text), Some((line, column)), "in {text:?}");
     }
 }

@@ -153,7 +153,7 @@ const CALLS: [(u64, u64); 5] = [(0, 1223), (1, 1), (2, 1224), (3, 12234), (4, 12
 
 #[test]
 fn the_old_file_is_touched_by_a_rename_alone(rt: HostRuntime) -> Result<(), Fail> {
-    for (fails, wanted) in CALLS {
+    for &(fails, wanted) in &CALLS {
         let calls = Cell::new(0u64);
         let files = Watched {
             calls: &calls,
