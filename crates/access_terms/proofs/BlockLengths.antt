@@ -19,7 +19,7 @@ use Rattle.mem_terms.proofs.Later.{bit-later, block-later, keeps_trans, term-lat
 use Rattle.mem_terms.proofs.Made.{small_mod}
 use Rattle.access_terms.specs.Accesses.{bytes_from}
 use Rattle.access_terms.specs.Places.{written}
-use Rattle.access_terms.proofs.Bools.{and-false, and-left, and-right, and-true, both-true, or-false}
+use Rattle.byte_terms.proofs.Bools.{and-false, and-left, and-right, and-true, both-true, or-false}
 
 lesser : (m n : ℕ) → cond (nat_lt m n) m n ≡ min m n
 lesser m n = grind (arith, nat_tests)

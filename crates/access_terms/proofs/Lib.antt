@@ -1,10 +1,5 @@
-pub mod Bools
-pub mod Naming
 pub mod Putting
 pub mod BlockLengths
-pub mod Digits
-pub mod Parts
-pub mod ByteLists
 pub mod Finding
 pub mod Indices
 pub mod Joins

@@ -26,7 +26,7 @@ use Rattle.mem_terms.proofs.Later.{keeps_trans, bit-later, term-later, block-lat
 use Rattle.access_terms.specs.declared.spans.Span.{Span}
 use Rattle.access_terms.specs.Accesses.{stored_at}
 use Rattle.access_terms.specs.Spans.{IsSpan, admits_span, block_of_span, is_named_by, span_name}
-use Rattle.access_terms.proofs.ByteLists.{take_all}
+use Rattle.byte_terms.proofs.ByteLists.{take_all}
 use Rattle.access_terms.proofs.Finding.{block_named-front, memory-end, memory-front, name-later}
 use Rattle.access_terms.proofs.Memories.{memory-push}
 

@@ -7,11 +7,10 @@ ghost use Rattle.mem_terms.specs.Values.{IsNaming, IsSymValue, Reading, value_at
 ghost use Rattle.mem_terms.specs.Memory.{AreSymBlocks, memory_at};
 ghost use Rattle.access_terms.specs.Accesses.{IsSymLoaded, loaded_at, stored_at, sym_frame};
 
-use crate::byte_lists::poison_bytes;
-use crate::byte_values::{access_size, bytes_of_value, value_of_bytes};
 use crate::spans::{Span, admits, bytes_of};
 use crate::writing::write;
 use bv_terms::{TermId, Terms};
+use byte_terms::{access_size, bytes_of_value, poison_bytes, value_of_bytes};
 use mem_terms::{SymBlock, SymValue, both, negation, number as number_term, truth};
 use memory_access::Access;
 use std::alloc::Global;

@@ -6,8 +6,8 @@ ghost use Rattle.mem_terms.specs.Values.{Each, Reading};
 ghost use Rattle.mem_terms.specs.Memory.{AreSymBlocks, IsSymBlock, block_at, memory_at};
 ghost use Rattle.access_terms.specs.Joining.{AreAbove, AreAlike, IsGrown, IsJoined, IsNext, IsUpTo, part_at};
 
-use crate::byte_lists::pick_bytes;
 use bv_terms::{TermId, Terms};
+use byte_terms::pick_bytes;
 use mem_terms::{SymBlock, both, negation, pick};
 use std::alloc::Global;
 use support::{NoMemory, Sequence};

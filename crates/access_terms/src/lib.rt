@@ -2,8 +2,8 @@
 //!
 //! It promises that under every assignment of the variables the terms of an answer stand for what
 //! `memory_access` defines on the memory and the values that the operands stand for, for every
-//! pointer and offset. It stands on `mem_terms` for symbolic values and memory, and on
-//! `memory_access` for what is meant; runs as terms stand on it.
+//! pointer and offset. It stands on `mem_terms` for symbolic values and memory, on `byte_terms` for the
+//! bytes of a value, and on `memory_access` for what is meant; runs as terms stand on it.
 //!
 //! A pointer to a known offset in a known block makes no choice between blocks or places: each
 //! condition is a constant then, and what is built is the bytes themselves.
@@ -13,23 +13,15 @@
 //! - `spans`: over all blocks, whether an access is admitted, and the bytes that it reaches.
 //! - `writing`: over all blocks, the memory that a store leaves.
 //! - `places`: the same in one block, whose size is in `sizes`; `named`: whether a pointer names it.
-//! - `byte_values`: the bytes that a value is stored as, and the value that bytes are read as;
-//!   `integer_bytes` and `pointer_bytes` for each kind of value, `byte_fields` and `byte_lists` for
-//!   bytes by themselves.
 //! - `offsets`: where a getelementptr leads.
 //! - `joining`: one memory for the two that control flow brings together.
 #![tactic(auto)]
 
 mod accesses;
-mod byte_fields;
-mod byte_lists;
-mod byte_values;
-mod integer_bytes;
 mod joining;
 mod named;
 mod offsets;
 mod places;
-mod pointer_bytes;
 mod sizes;
 mod spans;
 mod writing;

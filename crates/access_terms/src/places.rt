@@ -9,9 +9,9 @@ ghost use Rattle.mem_terms.specs.Memory.{AreSymBytes, IsSymBlock, block_at, plac
 ghost use Rattle.access_terms.specs.Accesses.{bytes_from, sym_frame};
 ghost use Rattle.access_terms.specs.Places.{written};
 
-use crate::byte_lists::poison_bytes;
 use crate::named::is_never;
 use bv_terms::{TermId, Terms};
+use byte_terms::poison_bytes;
 use mem_terms::{
     SymBlock, SymByte, both, either, equals, less, negation, number, pick, pick_byte, truth,
 };

@@ -8,10 +8,10 @@ ghost use Rattle.mem_terms.specs.Values.{IsNaming, Reading};
 ghost use Rattle.mem_terms.specs.Memory.{AreSymBlocks, AreSymBytes, IsSymBlock, block_at, memory_at, places_at};
 ghost use Rattle.access_terms.specs.Spans.{AreSpanBytes, IsSpan, Reads, admits_span, block_of_span, bytes_of_span, span_name};
 
-use crate::byte_lists::{pick_bytes, poison_bytes};
 use crate::named::{is_named, is_never};
 use crate::places::{bytes_at, is_admitted};
 use bv_terms::{TermId, Terms};
+use byte_terms::{pick_bytes, poison_bytes};
 use mem_terms::{SymBlock, SymByte, pick, truth};
 use std::alloc::Global;
 use support::{NoMemory, Sequence};

@@ -26,13 +26,13 @@ use Rattle.mem_terms.specs.Outcomes.{Shows}
 use Rattle.mem_terms.proofs.Eaches.{each-at, map-at, map-length}
 use Rattle.mem_terms.proofs.Later.{keeps_trans, bit-later, term-later}
 use Rattle.mem_terms.proofs.Naming.{naming}
-use Rattle.encoder.specs.declared.state.RunState.{RunState}
-use Rattle.encoder.specs.declared.ending.Ending.{Ending}
-use Rattle.encoder.specs.declared.frontier.Frontier.{Frontier}
-use Rattle.encoder.specs.Runs.{Scene, Sees, IsState, Counts, Carries, StateShape, fits_from, shape_of, sight, zeros_past}
-use Rattle.encoder.specs.Frontier.{IsEnding, EndedSo, AreStates, HaveShape, IsUnreached, Tells, Moves, first_place, placed}
-use Rattle.encoder.proofs.Lasting.{sees-later, counts-later, carries-later, ending_at-later}
-use Rattle.encoder.proofs.Through.{placed_end, walk_over}
+use Rattle.run_terms.specs.declared.state.RunState.{RunState}
+use Rattle.run_terms.specs.declared.ending.Ending.{Ending}
+use Rattle.run_terms.specs.declared.frontier.Frontier.{Frontier}
+use Rattle.run_terms.specs.Runs.{Scene, Sees, IsState, Counts, Carries, StateShape, fits_from, shape_of, sight, zeros_past}
+use Rattle.run_terms.specs.Frontier.{IsEnding, EndedSo, AreStates, HaveShape, IsUnreached, Tells, Moves, first_place, placed}
+use Rattle.run_terms.proofs.Lasting.{sees-later, counts-later, carries-later, ending_at-later}
+use Rattle.run_terms.proofs.Through.{placed_end, walk_over}
 
 -- ---- plain
 

@@ -7,16 +7,15 @@ ghost use Rattle.bv_terms.specs.Trees.{IsTerm, Keeps, bit_at};
 ghost use Rattle.mem_terms.specs.Values.{AreSymValues, Each, IsNaming, IsSymValue, Reading, value_at, values_at};
 ghost use Rattle.mem_terms.specs.Inputs.{AreArgs, IsArg, IsBlockTerms, IsInput, arg_at, args_at, given_blocks_at, input_at};
 ghost use Rattle.mem_terms.specs.Memory.{AreGivenBlocks, memory_at};
-ghost use Rattle.encoder.specs.Runs.{Carries, IsState, Scene, shape_of, sight};
+ghost use Rattle.run_terms.specs.Runs.{Carries, IsState, Scene, shape_of, sight};
 
-use crate::phis::put;
-use crate::state::{RunMemory, RunState, Tally};
 use bv_terms::{TermId, Terms};
 use ir_tree::{Function, Parameter};
 use mem_terms::{
     ArgTerms, InputTerms, SymValue, arg_value, both, either, equals, given_blocks, negation,
     number, poison_value, truth,
 };
+use run_terms::{RunMemory, RunState, Tally, put};
 use std::alloc::Global;
 use support::{NoMemory, Sequence};
 

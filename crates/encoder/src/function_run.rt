@@ -8,16 +8,11 @@ ghost use Rattle.mem_terms.specs.Values.{IsSymValue, reading};
 ghost use Rattle.mem_terms.specs.Memory.{AreGivenBlocks};
 ghost use Rattle.mem_terms.specs.Inputs.{AreWords, IsInput, input_at, words_at};
 ghost use Rattle.mem_terms.specs.Outcomes.{IsOutcome, LeavesGiven, Shows};
-ghost use Rattle.encoder.specs.Runs.{Scene, Sees, sight, zeros_past};
-ghost use Rattle.encoder.specs.Frontier.{CanRun, EndedSo, HasShape, IsEnding, IsFrontier, NotEnded, Tells, ending_shape, first_place, placed};
+ghost use Rattle.run_terms.specs.Runs.{Scene, Sees, sight, zeros_past};
+ghost use Rattle.run_terms.specs.Frontier.{CanRun, EndedSo, HasShape, IsEnding, IsFrontier, NotEnded, Tells, ending_shape, first_place, placed};
 
 use crate::beginning::begin;
-use crate::edges::follow;
-use crate::ending::Ending;
-use crate::frontier::{Frontier, Leaving};
 use crate::passing::pass_all;
-use crate::setting::Setting;
-use crate::state::{RunMemory, RunState, Tally};
 use bv_terms::{TermId, Terms};
 use ir_tree::{Function, IrType};
 use mem_terms::{
@@ -25,6 +20,7 @@ use mem_terms::{
     poison_value, truth,
 };
 use points::Bounds;
+use run_terms::{Ending, Frontier, Leaving, RunMemory, RunState, Setting, Tally, follow};
 use std::alloc::Global;
 use support::{NoMemory, Sequence};
 use unroll::{Edge, Layered};

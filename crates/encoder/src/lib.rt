@@ -3,25 +3,12 @@
 //! It promises that under every assignment of the variables the terms of the outcome show the run of
 //! the function on what the terms of the input and of the tape stand for, within the bound on
 //! backward jumps that the layers were made for. It is told for functions that are well formed and
-//! others, as the run is. It stands on `unroll`, `mem_terms`, `inst_terms` and `access_terms`; the
-//! questions of the circuit judge stand on it.
+//! others, as the run is. It stands on `run_terms`, whose steps it takes copy by copy, `unroll` and
+//! `mem_terms`; the questions of the circuit judge stand on it.
 #![tactic(auto)]
 
 mod beginning;
-mod choices;
-mod edges;
-mod ending;
-mod frontier;
 mod function_run;
-mod instructions;
-mod joining;
-mod memory_steps;
-mod operands;
 mod passing;
-mod phis;
-mod setting;
-mod state;
-mod terminators;
-mod words;
 
 pub use function_run::encode;

@@ -8,15 +8,11 @@ ghost use Rattle.unroll.specs.Layers.{Where, left_by, pass_copy, walk};
 ghost use Rattle.bv_terms.specs.Trees.{Keeps};
 ghost use Rattle.mem_terms.specs.Values.{Each};
 ghost use Rattle.mem_terms.specs.Inputs.{AreWords};
-ghost use Rattle.encoder.specs.Runs.{IsState, Scene, Sees, shape_of};
-ghost use Rattle.encoder.specs.Frontier.{CanRun, HasShape, IsCopyIn, IsFrontier, Moves, Tells, placed, shape_in};
+ghost use Rattle.run_terms.specs.Runs.{IsState, Scene, Sees, shape_of};
+ghost use Rattle.run_terms.specs.Frontier.{CanRun, HasShape, IsCopyIn, IsFrontier, Moves, Tells, placed, shape_in};
 
-use crate::frontier::{Frontier, Leaving, take_entry};
-use crate::instructions::{and_not, step_all};
-use crate::setting::Setting;
-use crate::state::RunState;
-use crate::terminators::leave;
 use bv_terms::Terms;
+use run_terms::{Frontier, Leaving, RunState, Setting, and_not, leave, step_all, take_entry};
 use support::NoMemory;
 use unroll::BlockCopy;
 

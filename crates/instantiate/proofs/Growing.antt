@@ -12,7 +12,7 @@ use Rattle.points.specs.Trail.{TrailFrom, IsLeastUncovered, AreAllCovered, Ends}
 use Rattle.points.proofs.Meaning.{cons_after}
 use Rattle.clause_log.specs.declared.step.Cert.{Cert}
 use Rattle.points.specs.declared.verdict.Kept.{Kept}
-use Rattle.instantiate.specs.Questions.{IsUncovered, IsCovering, IsRefuted, IsSpentOn, point_widths, tape_widths}
+use Rattle.pair_questions.specs.Questions.{IsUncovered, IsCovering, IsRefuted, IsSpentOn, point_widths, tape_widths}
 use Rattle.points.specs.Weight.{IsHeavy}
 use Rattle.instantiate.specs.Settling.{ComesWith, IsJudged, IsSpentNext, IsTrailSoFar, limit_of}
 

@@ -1,17 +1,1 @@
-mod Answered
-mod Decoded
-mod Encoding
-mod Excluding
-mod Extending
-mod Findings
-mod Fitting
 mod Growing
-mod Knowing
-mod Mentioned
-mod Moved
-mod Numbered
-mod Ordered
-mod SameTapes
-mod Shifting
-mod Trying
-mod Uncovering

@@ -1,10 +1,1 @@
-pub mod Encodables
-pub mod Candidates
-pub mod Numbers
-pub mod Orders
-pub mod PointQuestions
-pub mod Questions
 pub mod Settling
-pub mod Shapes
-pub mod Subjects
-pub mod Tapes

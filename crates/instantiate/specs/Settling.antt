@@ -12,7 +12,7 @@ use Rattle.points.specs.Weight.{IsHeavy}
 use Rattle.clause_log.specs.declared.step.Cert.{Cert}
 use Rattle.points.specs.declared.verdict.Kept.{Kept}
 use Rattle.instantiate.specs.declared.settled.Settled.{Settled}
-use Rattle.instantiate.specs.Questions.{IsUncovered, IsCovering, IsRefuted, IsSpentOn, point_widths, tape_widths}
+use Rattle.pair_questions.specs.Questions.{IsUncovered, IsCovering, IsRefuted, IsSpentOn, point_widths, tape_widths}
 
 -- the clauses that a question may learn; 0 sets no limit
 abbrev pub limit_of : ℕ → Option ℕ

@@ -3,16 +3,13 @@
 ghost use Rattle.std.specs.Prelude.{◌≡◌, ◌<◌, IfOk, IfSome};
 ghost use Rattle.ir_tree.specs.Limits.{IsWithinLimits};
 ghost use Rattle.points.specs.Range.{AreInRange};
-ghost use Rattle.encoder.specs.Frontier.{CanRun};
+ghost use Rattle.run_terms.specs.Frontier.{CanRun};
 ghost use Rattle.instantiate.specs.Settling.{IsSettled, IsTold, limit_of};
-ghost use Rattle.instantiate.specs.Subjects.{IsSubject};
+ghost use Rattle.pair_questions.specs.Subjects.{IsSubject};
 
-use crate::found::Found;
-use crate::point_question::PointQuestion;
 use crate::settled::Settled;
-use crate::subject::Subject;
-use crate::tape_question::least_cover;
 use clause_log::Cert;
+use pair_questions::{Found, PointQuestion, Subject, least_cover};
 use points::{Bounds, Budget, Cause, Kept, Pair, Point, Verdict, copy_point};
 use std::alloc::Global;
 use support::{NoMemory, Sequence};

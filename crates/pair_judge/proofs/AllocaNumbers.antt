@@ -5,7 +5,7 @@ use Rattle.ir_tree.specs.declared.tree.Inst.TheVariants.{Binary, Icmp, Cast, Sel
 use Rattle.ir_tree.specs.declared.tree.MemoryType.{MemoryType}
 use Rattle.ir_tree.specs.declared.tree.Block.{Block}
 use Rattle.ir_tree.specs.declared.tree.Function.{Function}
-use Rattle.encoder.specs.Frontier.{HasSmallNumber, HasSmallNumbers}
+use Rattle.run_terms.specs.Frontier.{HasSmallNumber, HasSmallNumbers}
 
 -- what is known keeps the number of an alloca small
 abbrev pub KeepsNumbers : (Inst → Type 0) → Type 0

@@ -6,7 +6,7 @@ use Rattle.points.specs.declared.point.Bounds.{Bounds}
 use Rattle.points.specs.declared.point.Budget.{Budget}
 use Rattle.points.specs.Pair.{Functions}
 use Rattle.pair_driver.specs.declared.judged.Judged.{Judged}
-use Rattle.encoder.specs.Frontier.{HasSmallNumbers}
+use Rattle.run_terms.specs.Frontier.{HasSmallNumbers}
 use Rattle.instantiate.specs.Settling.{IsJudged}
 
 -- functions that are well formed and within the limits, whose allocas have numbers below 65,536

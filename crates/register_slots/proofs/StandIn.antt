@@ -16,7 +16,7 @@ use Rattle.bv_terms.specs.declared.term.Term.{Term}
 use Rattle.mem_terms.specs.declared.inputs.ArgTerms.{ArgTerms}
 use Rattle.mem_terms.specs.declared.inputs.InputTerms.{InputTerms}
 use Rattle.mem_terms.specs.Inputs.{AreArgs, IsInput}
-use Rattle.encoder.specs.Frontier.{CanRun, FitsReturn, HasSmallNumber, HasSmallNumbers}
+use Rattle.run_terms.specs.Frontier.{CanRun, FitsReturn, HasSmallNumber, HasSmallNumbers}
 use Rattle.register_slots.specs.Renaming.{block_in, function_in, index_in, inst_in, parameter_in, terminator_in}
 use Rattle.register_slots.specs.Slotted.{IsSlotted}
 use Rattle.register_slots.specs.StandIn.{IsStandIn}

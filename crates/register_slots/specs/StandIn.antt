@@ -7,7 +7,7 @@ use Rattle.points.specs.Run.{run_of}
 use Rattle.bv_terms.specs.declared.term.Term.{Term}
 use Rattle.mem_terms.specs.declared.inputs.InputTerms.{InputTerms}
 use Rattle.mem_terms.specs.Inputs.{IsInput}
-use Rattle.encoder.specs.Frontier.{CanRun}
+use Rattle.run_terms.specs.Frontier.{CanRun}
 
 -- g may be run in place of f
 pub record IsStandIn (f g : Function) : Type 0 where

@@ -14,7 +14,7 @@ use Rattle.points.specs.declared.verdict.Kept.{Kept}
 use Rattle.points.specs.declared.verdict.Verdict.{Verdict}
 use Rattle.points.specs.declared.verdict.Verdict.TheVariants as verdict
 use Rattle.points.specs.Pair.{Functions}
-use Rattle.instantiate.specs.Questions.{IsRefuted}
+use Rattle.pair_questions.specs.Questions.{IsRefuted}
 use Rattle.instantiate.specs.Settling.{IsJudged, Shown}
 use Rattle.pair_driver.specs.declared.judged.Judged.{Judged}
 use Rattle.report.specs.declared.row.Finding.{Finding}
@@ -24,8 +24,8 @@ use Rattle.ir_naming.specs.Naming.{name_text}
 use Rattle.report.specs.Rows.{AreRows, AreSourceRows, extra_row, extra_rows, function_named}
 use Rattle.proof_text.specs.Format.{part_of}
 use Rattle.proof_files.specs.Parts.{IsCertified, IsReadName, certified, decided, left_after, parts_of, row_parts}
-use Rattle.tv_run.specs.Judging.{AreAnswers, verdicts_answered, verdicts_in, verdicts_of}
-use Rattle.tv_run.specs.Searching.{entry_names}
+use Rattle.module_rows.specs.Judging.{AreAnswers, verdicts_answered, verdicts_in, verdicts_of}
+use Rattle.module_rows.specs.Searching.{entry_names}
 
 -- ---- names
 

@@ -20,7 +20,7 @@ use Rattle.ir_reader.specs.Module.{IsModule, AreEntries}
 use Rattle.ir_naming.specs.Naming.{is_digit as is_printed_digit}
 use Rattle.proof_text.specs.Format.{IsPrintedNumber}
 use Rattle.proof_files.specs.Parts.{IsReadName}
-use Rattle.tv_run.specs.Searching.{entry_names}
+use Rattle.module_rows.specs.Searching.{entry_names}
 
 -- ---- digits
 

@@ -18,7 +18,7 @@ use Rattle.report.specs.Text.{report_text}
 use Rattle.report.specs.Status.{status_of}
 use Rattle.tv_cli.proofs.Ranges.{check_in_range}
 use Rattle.tv_run.specs.Laws.{ReportsAreDefined, ReportsAreOne}
-use Rattle.tv_run.specs.Reports.{may_answer}
+use Rattle.module_rows.specs.Judging.{may_answer}
 use Rattle.tv_run.proofs.Files.{module_one}
 
 -- ---- a judge that answers only what another may answer

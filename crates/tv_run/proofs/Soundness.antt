@@ -27,10 +27,10 @@ use Rattle.report.specs.declared.row.Finding.TheVariants as finding
 use Rattle.report.specs.declared.row.Row.{Row}
 use Rattle.report.specs.Rows.{function_named, IsJudged, IsCompared, IsFinding, IsRow, AreSourceRows, AreRows, extra_row, extra_rows}
 use Rattle.tv_run.specs.Laws.{ReportsAreSound}
-use Rattle.tv_run.specs.Reports.{may_answer}
-use Rattle.tv_run.specs.Searching.{entry_names}
+use Rattle.module_rows.specs.Judging.{may_answer}
+use Rattle.module_rows.specs.Searching.{entry_names}
 use Rattle.tv_run.specs.Sound.{HasFunction, IsPairNamed, HasVerdict, IsSound}
-use Rattle.tv_run.proofs.Searches.{same_name-flips}
+use Rattle.module_rows.proofs.Searches.{same_name-flips}
 
 -- ---- elements of a list
 

@@ -27,7 +27,7 @@ use Rattle.tv_cli.specs.Words.{Text, Check, Job}
 use Rattle.tv_cli.specs.Words.Job.{check, log}
 use Rattle.tv_run.specs.Files.{text_limit, proof_limit, HasModule, HasParts, WhereKnown}
 use Rattle.tv_run.specs.Reports.{Reports, IsReport, IsProofFile}
-use Rattle.tv_run.specs.Searching.{entry_names}
+use Rattle.module_rows.specs.Searching.{entry_names}
 use Rattle.tv_run.specs.declared.stop.LogTrouble.TheVariants as log_trouble
 use Rattle.tv_run.specs.declared.stop.LogStop.{LogStop}
 use Rattle.tv_run.specs.declared.stop.LogStop.TheVariants as log_stop

@@ -5,7 +5,5 @@ pub mod Reports
 pub mod Logs
 pub mod Stops
 pub mod Answers
-pub mod Searching
-pub mod Judging
 pub mod Laws
 pub mod Makes

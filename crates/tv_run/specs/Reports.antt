@@ -6,11 +6,8 @@ use Rattle.tv_io.specs.Taken.{IsWritten, IsCutOff}
 use Rattle.ir_tree.specs.declared.module.Module.{Module}
 use Rattle.points.specs.declared.point.Bounds.{Bounds}
 use Rattle.points.specs.declared.point.Budget.{Budget}
-use Rattle.points.specs.declared.verdict.Verdict.{Verdict}
-use Rattle.points.specs.Pair.{Functions}
 use Rattle.points.specs.Trail.{IsVerdict}
 use Rattle.pair_driver.specs.declared.judged.Judged.{Judged}
-use Rattle.pair_judge.specs.Laws.{MayBeTold}
 use Rattle.report.specs.declared.row.Row.{Row}
 use Rattle.report.specs.Rows.{AreRows}
 use Rattle.report.specs.Text.{report_text}
@@ -20,11 +17,7 @@ use Rattle.proof_text.specs.Format.{IsProof}
 use Rattle.proof_files.specs.Parts.{parts_of}
 use Rattle.tv_cli.specs.Words.{Text, Check}
 use Rattle.tv_run.specs.Files.{HasModule}
-use Rattle.tv_run.specs.Judging.{ReportOwnAnswers}
-
--- what the judge may answer of a pair within bounds and a budget
-abbrev pub may_answer : Bounds → Budget → Functions → Verdict → Type 0
-may_answer bounds budget pair v = MayBeTold pair bounds budget v
+use Rattle.module_rows.specs.Judging.{may_answer, ReportOwnAnswers}
 
 -- the rows of two modules within bounds and a budget, as a text and as a status, with the judge's own answer for each row that has a verdict
 pub record IsReport (bounds : Bounds) (budget : Budget) (source target : Module) (answers : List Judged) (text : List ℕ) (status : ℕ) : Type 0 where

@@ -9,10 +9,10 @@ ghost use Rattle.tv_run.specs.Files.{WhereKnown};
 ghost use Rattle.tv_run.specs.Stops.{HasCause};
 ghost use Rattle.tv_run.specs.Answers.{CountsStop, HasReport, IsProofAsked, IsReportOf, IsJudgeableModule, IsUnread};
 
-use crate::rows::{Judgements, all_rows};
 use crate::stop::{LoadFault, Stop};
 use crate::texts::{load, module_from};
 use ir_tree::Module;
+use module_rows::{Judgements, all_rows};
 use pair_driver::{Gate, Judged};
 use pair_judge::Real;
 use proof_files::proof_of;

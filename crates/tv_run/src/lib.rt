@@ -8,18 +8,16 @@
 //! and each incorrect row, whose log refutes its clauses, and `log` says `verified` exactly of such parts,
 //! so of all parts of such a file (`put_proofs_are_verified`).
 //! Each other status has its cause. A function that can't be judged is a row of the report like any
-//! other. It uses the command line, the reader, the judge, the report, `proof_files` and `tv_io`; the
+//! other. It uses the command line, the reader, `module_rows`, the report, `proof_files` and `tv_io`; the
 //! program `tv` is `run` over the system's files and output.
 #![tactic(auto)]
 
 mod check;
 mod in_memory;
-mod index;
 mod laws;
 mod lines;
 mod log;
 mod made;
-mod rows;
 mod stop;
 mod texts;
 mod top;

@@ -7,13 +7,13 @@ ghost use Rattle.tv_cli.specs.Seen.{seen_make};
 ghost use Rattle.tv_run.specs.Answers.{IsJudgeableModule};
 ghost use Rattle.tv_run.specs.Makes.{IsReadBack, IsSummary, SaysMade, make_line as line_of_make};
 
-use crate::rows::{Judgements, all_rows};
 use crate::stop::LoadFault;
 use crate::texts::module_of;
 use ir_printer::{make, print};
 use ir_reader::is_one_module;
 use ir_tree::Module;
 use itoa::Buffer;
+use module_rows::{Judgements, all_rows};
 use pair_driver::{Gate, Judged};
 use pair_judge::Real;
 use read_back::{made_modules_are_printable, printed_modules_read_back};

@@ -3,8 +3,8 @@ use Rattle.mem_terms.specs.Values.{Each}
 use Rattle.mem_terms.specs.Inputs.{IsBlockTerms, IsByteTerms}
 use Rattle.mem_terms.proofs.Eaches.{each-weaker}
 use Rattle.mem_terms.proofs.Later.{keeps_trans, args-later, args_at-later, term-later, bit-later, sym_values-later, is_term-later, sizes-later, block_terms_each-later, given_blocks_at-later, given_blocks-later}
-use Rattle.encoder.proofs.Lasting.{run_memory-later}
-use Rattle.encoder.proofs.Arguments.{begin_carries, only_given}
+use Rattle.run_terms.proofs.Lasting.{run_memory-later}
+use Rattle.run_terms.proofs.Arguments.{begin_carries, only_given}
 use Rattle.encoder.proofs.beginning.begin.Goals as goal
 
 pub give_args-requires-clause-args : goal.give_args-requires-clause-args

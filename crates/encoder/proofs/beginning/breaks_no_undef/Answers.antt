@@ -4,7 +4,7 @@ use Rattle.mem_terms.specs.declared.inputs.ArgTerms.TheVariants as arg
 use Rattle.mem_terms.specs.Inputs.{args_at}
 use Rattle.mem_terms.proofs.Eaches.{at-any}
 use Rattle.mem_terms.proofs.Later.{keeps_trans, args-later, args_at-later}
-use Rattle.encoder.proofs.Arguments.{front_is, args_front, broken_more}
+use Rattle.run_terms.proofs.Arguments.{front_is, args_front, broken_more}
 use Rattle.encoder.proofs.beginning.breaks_no_undef.Goals as goal
 
 pub loop-parameters-init : goal.loop-parameters-init

@@ -4,8 +4,8 @@ use Rattle.mem_terms.specs.declared.inputs.ArgTerms.TheVariants as arg
 use Rattle.mem_terms.specs.Values.{IsSymValue}
 use Rattle.mem_terms.proofs.Eaches.{at-any, each-set}
 use Rattle.mem_terms.proofs.Later.{keeps_trans, sym_values-later, args-later}
-use Rattle.encoder.proofs.Reached.{set_length}
-use Rattle.encoder.proofs.Arguments.{front_is, args_front, given_more}
+use Rattle.run_terms.proofs.Reached.{set_length}
+use Rattle.run_terms.proofs.Arguments.{front_is, args_front, given_more}
 use Rattle.points.specs.Run.{with_args}
 use Rattle.mem_terms.specs.Values.{values_at}
 use Rattle.mem_terms.specs.Inputs.{args_at}

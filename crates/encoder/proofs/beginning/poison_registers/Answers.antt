@@ -1,5 +1,5 @@
 use Rattle.std.proofs.Common.{◌∙◌, rules}
-use Rattle.encoder.proofs.Arguments.{poison_made, poison_stands}
+use Rattle.run_terms.proofs.Arguments.{poison_made, poison_stands}
 use Rattle.encoder.proofs.beginning.poison_registers.Goals as goal
 
 pub returns-clause-stands : goal.returns-clause-stands

@@ -1,7 +1,7 @@
 use Rattle.std.proofs.Common.{ℕ, ◌∙◌, subst, sym}
 use Rattle.mem_terms.specs.Memory.{AreGivenBlocks}
 use Rattle.mem_terms.proofs.Later.{keeps_trans}
-use Rattle.encoder.proofs.Lasting.{state-later}
+use Rattle.run_terms.proofs.Lasting.{state-later}
 use Rattle.encoder.proofs.Whole.{enter_stands}
 use Rattle.encoder.proofs.function_run.enter.Goals as goal
 

@@ -1,5 +1,5 @@
 use Rattle.mem_terms.proofs.Later.{is_term-later, keeps_trans}
-use Rattle.encoder.proofs.Lasting.{ending-later}
+use Rattle.run_terms.proofs.Lasting.{ending-later}
 use Rattle.encoder.proofs.Whole.{finish_stands}
 use Rattle.encoder.proofs.function_run.finish.Goals as goal
 

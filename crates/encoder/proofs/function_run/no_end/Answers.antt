@@ -1,5 +1,5 @@
 use Rattle.mem_terms.proofs.Later.{given_blocks-later, is_term-later, keeps_trans}
-use Rattle.encoder.proofs.Lasting.{some-later}
+use Rattle.run_terms.proofs.Lasting.{some-later}
 use Rattle.encoder.proofs.function_run.no_end.Goals as goal
 
 pub returns-clause-made : goal.returns-clause-made

@@ -1,5 +1,5 @@
 use Rattle.std.proofs.Common.{◌∙◌, ap, length, None}
-use Rattle.encoder.specs.Frontier.{shape_in}
+use Rattle.run_terms.specs.Frontier.{shape_in}
 use Rattle.encoder.proofs.Whole.{length-replicate, unknown_states, unknown_shape, unknown_unreached}
 use Rattle.encoder.proofs.function_run.unknown.Goals as goal
 

@@ -3,9 +3,9 @@ use Rattle.std.proofs.lemmas.Option.{slice_get_read}
 use Rattle.unroll.specs.Layers.{Where, pass_copy, walk}
 use Rattle.mem_terms.proofs.Eaches.{each-at}
 use Rattle.mem_terms.proofs.Later.{keeps_trans, words-later}
-use Rattle.encoder.specs.Frontier.{IsCopyIn, Tells, placed}
-use Rattle.encoder.proofs.Lasting.{sees-later}
-use Rattle.encoder.proofs.Through.{walk_more, walk_end}
+use Rattle.run_terms.specs.Frontier.{IsCopyIn, Tells, placed}
+use Rattle.run_terms.proofs.Lasting.{sees-later}
+use Rattle.run_terms.proofs.Through.{walk_more, walk_end}
 use Rattle.encoder.proofs.passing.pass_all.Goals as goal
 
 pub pass_copy-requires-clause-number : goal.pass_copy-requires-clause-number

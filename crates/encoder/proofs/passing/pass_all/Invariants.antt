@@ -2,8 +2,8 @@
 use Rattle.std.proofs.Common.{◌≡◌, ◌≤◌, drop, length, Some}
 use Rattle.unroll.specs.Layers.{Where, walk}
 use Rattle.bv_terms.specs.Trees.{Keeps}
-use Rattle.encoder.specs.Runs.{Scene, Sees}
-use Rattle.encoder.specs.Frontier.{IsFrontier, HasShape, Tells, placed}
+use Rattle.run_terms.specs.Runs.{Scene, Sees}
+use Rattle.run_terms.specs.Frontier.{IsFrontier, HasShape, Tells, placed}
 use Rattle.encoder.proofs.passing.pass_all.Given as goal
 
 abbrev pub invariant-loop-number : goal.invariant-loop-number

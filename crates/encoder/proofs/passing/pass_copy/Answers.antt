@@ -1,12 +1,12 @@
 use Rattle.std.proofs.Common.{◌+◌, ◌∙◌, ap, sym, subst, List, Option, Some, arith}
 use Rattle.std.proofs.lemmas.Option.{slice_get_within}
-use Rattle.encoder.specs.declared.state.RunState.{RunState}
+use Rattle.run_terms.specs.declared.state.RunState.{RunState}
 use Rattle.ir_tree.specs.Flow.{targets}
 use Rattle.points.specs.declared.machine.Machine.{Machine}
 use Rattle.points.specs.Run.{exit_insts}
 use Rattle.unroll.specs.Layers.{left_by, pass_copy}
-use Rattle.encoder.specs.Frontier.{Moves, Tells, placed}
-use Rattle.encoder.proofs.Through.{taken_frontier, taken_shape, entry_state, entry_shape, pass_unknown, pass_known}
+use Rattle.run_terms.specs.Frontier.{Moves, Tells, placed}
+use Rattle.run_terms.proofs.Through.{taken_frontier, taken_shape, entry_state, entry_shape, pass_unknown, pass_known}
 use Rattle.encoder.proofs.passing.pass_copy.Goals as goal
 
 pub run_copy-requires-clause-frontier : goal.run_copy-requires-clause-frontier

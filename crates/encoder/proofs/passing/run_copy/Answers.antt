@@ -7,9 +7,9 @@ use Rattle.points.specs.declared.machine.Machine.{Machine}
 use Rattle.points.specs.Run.{Exit, exit_insts}
 use Rattle.unroll.specs.Layers.{left_by}
 use Rattle.mem_terms.proofs.Later.{keeps_trans, is_term-later, words-later}
-use Rattle.encoder.specs.Frontier.{Moves, placed}
-use Rattle.encoder.proofs.Lasting.{frontier-later, state-later, tally-later, sees-later}
-use Rattle.encoder.proofs.Through.{copy_moves, fits_at, labels_at, numbers_at, objects_at, shape_after}
+use Rattle.run_terms.specs.Frontier.{Moves, placed}
+use Rattle.run_terms.proofs.Lasting.{frontier-later, state-later, tally-later, sees-later}
+use Rattle.run_terms.proofs.Through.{copy_moves, fits_at, labels_at, numbers_at, objects_at, shape_after}
 use Rattle.encoder.proofs.passing.run_copy.Goals as goal
 
 pub get-block-requires : goal.get-block-requires

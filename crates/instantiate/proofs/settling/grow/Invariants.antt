@@ -1,6 +1,6 @@
 -- The question excludes the tapes of the trail.
 use Rattle.std.proofs.Common.{◌-◌, length}
-use Rattle.instantiate.specs.PointQuestions.{IsPointQuestion}
+use Rattle.pair_questions.specs.PointQuestions.{IsPointQuestion}
 use Rattle.instantiate.proofs.Growing.{IsGrown}
 use Rattle.instantiate.proofs.settling.grow.Given as goal
 

@@ -6,10 +6,10 @@ use Rattle.report.specs.Status.{status_of}
 use Rattle.proof_files.specs.Parts.{IsCertified, IsReadName, parts_of}
 use Rattle.tv_cli.specs.Seen.{seen_check}
 use Rattle.tv_run.specs.Answers.{IsProofAsked}
-use Rattle.tv_run.specs.Reports.{may_answer}
-use Rattle.tv_run.proofs.Answered.{verdicts_with_extra}
+use Rattle.module_rows.specs.Judging.{may_answer}
+use Rattle.module_rows.proofs.Answered.{verdicts_with_extra}
 use Rattle.tv_run.proofs.Certified.{rows_certified, rows_named}
-use Rattle.tv_run.proofs.OwnAnswers.{rows_have_answers}
+use Rattle.module_rows.proofs.OwnAnswers.{rows_have_answers}
 use Rattle.tv_run.proofs.check.report_of_modules.Goals as goal
 
 pub proof_asked-requires-clause-names : goal.proof_asked-requires-clause-names

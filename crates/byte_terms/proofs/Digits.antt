@@ -1,0 +1,259 @@
+-- Numbers as bytes, and bytes as numbers.
+use Rattle.std.proofs.Common.{ℕ, zero, suc, ◌≡◌, ◌<◌, ◌≤◌, ◌+◌, ◌-◌, ◌*◌, ◌/◌, ◌%◌, ◌^◌, Bool, true, false, cond, not, ◌&&◌, ◌||◌, nat_eq, nat_lt, List, [], ◌∷◌, ◌++◌, length, take, drop, replicate, get_or, Option, Some, None, refl, ap, sym, subst, ◌∙◌, inl, inr, arith, eqb-true}
+use Rattle.std.specs.Prelude.{slice_get}
+use Rattle.std.specs.Option.{is_some, option_map}
+use Rattle.std.proofs.lemmas.Bool.{cases_Bool, eq-eqb, lt-ltb, ltb-true, ne_eqb}
+use Rattle.std.proofs.lemmas.List.{at_drop_all, at_drop_more, replicate_more, take_all, take_more}
+use Rattle.std.proofs.lemmas.Nat.{pow-add, pow_pos}
+use Rattle.std.proofs.lemmas.Option.{get_or_from_slice_get, slice_get_within}
+use Rattle.std.proofs.Math.Nat.{div-lt_iff_lt-mul, mul_assoc, mul-add, mul_comm}
+use Rattle.tv_num.specs.declared.Width.{Width}
+use Rattle.byte_block.specs.declared.value.BlockName.{BlockName}
+use Rattle.byte_block.specs.declared.value.Ptr.{Ptr}
+use Rattle.byte_block.specs.declared.value.Byte.{Byte}
+use Rattle.byte_block.specs.declared.value.Byte.TheVariants.{Num, Poison}
+use Rattle.memory_access.specs.declared.access_types.Access.TheVariants.{Int}
+use Rattle.memory_access.specs.Bytes.{number_bytes, number_of_bytes, number_or_poison, value_bytes, value_of_bytes}
+use Rattle.memory_access.proofs.ByteLists.{number_bytes-get}
+use Rattle.bv_terms.specs.declared.term.TermId.{TermId}
+use Rattle.bv_terms.specs.declared.term.Term.{Term}
+use Rattle.bv_terms.specs.Tree.{width_of}
+use Rattle.bv_terms.specs.Trees.{AreInRange, IsTerm, Keeps, Makes, Tests, bit_at, term_at, tree_in}
+use Rattle.mem_terms.specs.declared.bytes.SymByte.{SymByte}
+use Rattle.mem_terms.specs.declared.values.SymValue.{SymValue}
+use Rattle.mem_terms.specs.Values.{IsSymValue, Reading, number_at, value_at, value_from, value_of}
+use Rattle.mem_terms.specs.Memory.{AreSymBytes, IsSymByte, byte_at, byte_of, places_at}
+use Rattle.mem_terms.proofs.Bits.{term-below}
+use Rattle.mem_terms.proofs.Eaches.{each-at, map-push}
+use Rattle.mem_terms.proofs.Later.{bit-later, keeps_trans, places-later, term-later}
+use Rattle.mem_terms.proofs.Made.{small_mod}
+use Rattle.byte_terms.proofs.Bools.{and-thrice, and-yes, both_ways}
+
+-- ---- one list where a condition is true, and as many poison bytes where it is not
+
+pub front_more : (c : Bool) (bytes : List Byte) (i : ℕ) (x : Byte) → slice_get bytes i ≡ Some x
+    → cond c (take i bytes) (replicate i Poison) ++ cond c x Poison ∷ [] ≡ cond c (take (i + 1) bytes) (replicate (i + 1) Poison)
+front_more true bytes i x is = ap (λ y. take i bytes ++ y ∷ []) (sym (get_or_from_slice_get bytes i x Poison is)) ∙ sym (take_more bytes i Poison (slice_get_within bytes i x is))
+front_more false bytes i x is = replicate_more i Poison
+
+pub front_all : (c : Bool) (bytes now : List Byte) (i n : ℕ) → length bytes ≡ n → n ≤ i → i ≤ n → now ≡ cond c (take i bytes) (replicate i Poison) → now ≡ cond c bytes (replicate n Poison)
+front_all c bytes now i n long past within so =
+    let e : i ≡ n = omega (arith, past, within) in
+    so ∙ ap (λ k. cond c (take k bytes) (replicate k Poison)) e ∙ ap (λ ys. cond c ys (replicate n Poison)) (take_all n bytes (omega (arith, long)))
+
+-- ---- a number's bytes
+
+number-or-poison : (k n : ℕ) (p : Ptr) (part : ℕ) → (k ≡ 1 → ⊥) → byte_of k n p part ≡ cond (nat_eq k 0) (Num n) Poison
+number-or-poison k n p part other = rw (ne_eqb k 1 other) refl
+
+pub number_byte_stands : (old a b c : List Term) (kind value part zero' digits : TermId) (place : ℕ) → IsTerm old 2 kind → IsTerm old 64 value → Keeps old a → Keeps a b → Keeps b c
+    → Makes c digits 8 (λ v. term_at v b value / 2 ^ (8 * place) % 2 ^ 8) → (r : Reading) → (term_at r.v old kind ≡ 1 → ⊥)
+    → byte_at r c (record { kind = kind; number = digits; block = zero'; offset = zero'; part = part }) ≡ cond (nat_eq (term_at r.v old kind) 0) (Num (term_at r.v old value / 2 ^ (8 * place) % 256)) Poison
+unfolding byte_at
+number_byte_stands old a b c kind value part zero' digits place hk hv k1 k2 k3 m r other =
+    let kab = keeps_trans old a b k1 k2 in
+    rw (term-later old c (keeps_trans old b c kab k3) r.v kind hk.within, m.says r.v, term-later old b kab r.v value hv.within)
+    (number-or-poison (term_at r.v old kind) (term_at r.v old value / 2 ^ (8 * place) % 256) (record { block = r.name (term_at r.v c zero'); offset = term_at r.v c zero' }) (term_at r.v c part) other)
+
+length-number_bytes : (n a : ℕ) → length (number_bytes n a) ≡ n
+unfolding number_bytes
+length-number_bytes zero a = refl
+length-number_bytes (suc n) a = ap suc (length-number_bytes n (a / 256))
+
+pub digits_more : (old a b : List Term) (ka : Keeps old a) (kb : Keeps a b) (kind value : TermId) (now : List SymByte) (byte : SymByte) (i n : ℕ) → IsTerm old 2 kind → IsTerm old 64 value → AreSymBytes a now → i < n → (r : Reading) → (term_at r.v old kind ≡ 1 → ⊥)
+    → places_at r a now ≡ cond (nat_eq (term_at r.v old kind) 0) (take i (number_bytes n (term_at r.v old value))) (replicate i Poison)
+    → ((term_at r.v a kind ≡ 1 → ⊥) → byte_at r b byte ≡ cond (nat_eq (term_at r.v a kind) 0) (Num (term_at r.v a value / 2 ^ (8 * i) % 256)) Poison)
+    → places_at r b (now ++ byte ∷ []) ≡ cond (nat_eq (term_at r.v old kind) 0) (take (i + 1) (number_bytes n (term_at r.v old value))) (replicate (i + 1) Poison)
+digits_more old a b ka kb kind value now byte i n hk hv hnow lt r other before one =
+    let k = term-later old a ka r.v kind hk.within in
+    let x = term-later old a ka r.v value hv.within in
+    let is : byte_at r b byte ≡ cond (nat_eq (term_at r.v old kind) 0) (Num (term_at r.v old value / 2 ^ (8 * i) % 256)) Poison = rw (← k, ← x) (one (λ e. other (sym k ∙ e))) in
+    map-push (byte_at r b) now byte
+    ∙ rw (places-later a b kb r now hnow, before, is)
+    (front_more (nat_eq (term_at r.v old kind) 0) (number_bytes n (term_at r.v old value)) i (Num (term_at r.v old value / 2 ^ (8 * i) % 256)) (number_bytes-get n (term_at r.v old value) i lt))
+
+pub digits_all : (r : Reading) (old new : List Term) (kind value : TermId) (now : List SymByte) (i n : ℕ) → n ≤ i → i ≤ n
+    → places_at r new now ≡ cond (nat_eq (term_at r.v old kind) 0) (take i (number_bytes n (term_at r.v old value))) (replicate i Poison)
+    → places_at r new now ≡ cond (nat_eq (term_at r.v old kind) 0) (number_bytes n (term_at r.v old value)) (replicate n Poison)
+digits_all r old new kind value now i n past within so =
+    front_all (nat_eq (term_at r.v old kind) 0) (number_bytes n (term_at r.v old value)) (places_at r new now) i n (length-number_bytes n (term_at r.v old value)) past within so
+
+pub kind_isn't : (c : Bool) (k m n : ℕ) → k ≡ cond c 2 m → m < 2 → n < 2 → (m ≡ n → ⊥) → k ≡ n → ⊥
+kind_isn't true k m n is small few other e = let h : 2 ≡ n = sym is ∙ e in omega (arith, h, few)
+kind_isn't false k m n is small few other e = other (sym is ∙ e)
+
+stored-digits : (w : Width) (p q : Bool) (b : BlockName) (x n k : ℕ) → n ≡ (w.bits + 7) / 8 → k ≡ cond (p || q) 2 0
+    → cond (nat_eq k 0) (number_bytes n x) (replicate n Poison) ≡ value_bytes (Int w) (value_of p q b x)
+stored-digits w true q b x n k count kind = rw (kind, count) refl
+stored-digits w false true b x n k count kind = rw (kind, count) refl
+stored-digits w false false b x n k count kind = rw (kind, count) refl
+
+pub integer_bytes_stand : (old a b c : List Term) (w : Width) (s : SymValue) (is_poison kind : TermId) (bytes : List SymByte) (n : ℕ) → IsSymValue old s → n ≡ (w.bits + 7) / 8
+    → Keeps old a → Tests a is_poison (λ v. bit_at v old s.poison || bit_at v old s.is_pointer) → Keeps a b → Makes b kind 2 (λ v. cond (bit_at v a is_poison) 2 0)
+    → (r : Reading) → ((term_at r.v b kind ≡ 1 → ⊥) → places_at r c bytes ≡ cond (nat_eq (term_at r.v b kind) 0) (number_bytes n (term_at r.v b s.number)) (replicate n Poison))
+    → places_at r c bytes ≡ value_bytes (Int w) (value_at r old s)
+unfolding value_at
+integer_bytes_stand old a b c w s is_poison kind bytes n h count k1 t1 k2 m2 r so =
+    let kind_is : term_at r.v b kind ≡ cond (bit_at r.v old s.poison || bit_at r.v old s.is_pointer) 2 0 = m2.says r.v ∙ ap (λ x. cond x 2 0) (t1.says r.v) in
+    let other = kind_isn't (bit_at r.v old s.poison || bit_at r.v old s.is_pointer) (term_at r.v b kind) 0 1 kind_is (omega arith) (omega arith) (λ e. omega (arith, e)) in
+    so other ∙ rw (term-later old b (keeps_trans old a b k1 k2) r.v s.number h.number.within)
+    (stored-digits w (bit_at r.v old s.poison) (bit_at r.v old s.is_pointer) (r.name (term_at r.v old s.block)) (term_at r.v old s.number) n (term_at r.v b kind) count kind_is)
+
+-- ---- whether all bytes are numbers
+
+some-mapped : (f : ℕ → ℕ) (o : Option ℕ) → is_some (option_map f o) ≡ is_some o
+some-mapped f None = refl
+some-mapped f (Some x) = refl
+
+numbers-first : (k n : ℕ) (p : Ptr) (part : ℕ) (bytes : List Byte) → is_some (number_of_bytes (byte_of k n p part ∷ bytes)) ≡ (nat_eq k 0 && is_some (number_of_bytes bytes))
+unfolding number_of_bytes
+numbers-first k n p part bytes =
+    elim (cases_Bool (nat_eq k 0)) [
+      | inl e ↦ rw e (some-mapped (λ a. n + 256 * a) (number_of_bytes bytes))
+      | inr e ↦ elim (cases_Bool (nat_eq k 1)) [
+        | inl f ↦ rw (e, f) refl
+        | inr f ↦ rw (e, f) refl
+      ]
+    ]
+
+pub numbers_more : (old a b c : List Term) (k : Keeps old a) (bytes : List SymByte) (i : ℕ) (byte : SymByte) (all here both : TermId) → AreSymBytes old bytes → i < length bytes → byte ≡ get_or bytes i byte → IsTerm a 1 all → Keeps a b
+    → Tests b here (λ v. nat_eq (term_at v a byte.kind) 0) → Tests c both (λ v. bit_at v b all && bit_at v b here) → (r : Reading)
+    → (bit_at r.v a all && is_some (number_of_bytes (places_at r old (drop i bytes)))) ≡ is_some (number_of_bytes (places_at r old bytes))
+    → (bit_at r.v c both && is_some (number_of_bytes (places_at r old (drop (i + 1) bytes)))) ≡ is_some (number_of_bytes (places_at r old bytes))
+unfolding byte_at
+numbers_more old a b c k bytes i byte all here both h lt is ha kb t1 t2 r before =
+    let item = each-at (IsSymByte old) bytes i byte h lt is in
+    let first : is_some (number_of_bytes (places_at r old (drop i bytes))) ≡ is_some (number_of_bytes (byte_at r old byte ∷ places_at r old (drop (i + 1) bytes))) =
+    at_drop_more (λ bs. is_some (number_of_bytes (places_at r old bs))) bytes i byte lt ∙ ap (λ x. is_some (number_of_bytes (byte_at r old x ∷ places_at r old (drop (i + 1) bytes)))) (sym is) in
+    let split = numbers-first (term_at r.v old byte.kind) (term_at r.v old byte.number) (record { block = r.name (term_at r.v old byte.block); offset = term_at r.v old byte.offset }) (term_at r.v old byte.part) (places_at r old (drop (i + 1) bytes)) in
+    rw (t2.says r.v, bit-later a b kb r.v all ha.within, t1.says r.v, term-later old a k r.v byte.kind item.kind.within)
+    (and-thrice (bit_at r.v a all) (nat_eq (term_at r.v old byte.kind) 0) (is_some (number_of_bytes (places_at r old (drop (i + 1) bytes)))) (is_some (number_of_bytes (places_at r old bytes)))
+    (ap (λ x. bit_at r.v a all && x) (sym (first ∙ split)) ∙ before))
+
+pub numbers_all : (r : Reading) (old : List Term) (x : Bool) (bytes : List SymByte) (i : ℕ) → length bytes ≤ i → (x && is_some (number_of_bytes (places_at r old (drop i bytes)))) ≡ is_some (number_of_bytes (places_at r old bytes)) → x ≡ is_some (number_of_bytes (places_at r old bytes))
+unfolding number_of_bytes
+numbers_all r old x bytes i past so =
+    and-yes x (is_some (number_of_bytes (places_at r old (drop i bytes)))) (is_some (number_of_bytes (places_at r old bytes))) (at_drop_all (λ bs. is_some (number_of_bytes (places_at r old bs))) bytes i past) so
+
+-- ---- the number of bytes
+
+-- what is left of a number behind its first bytes
+pub record Left (bytes : List Byte) (a low i : ℕ) : Type 0 where
+  pub high : ℕ
+  pub is : number_of_bytes bytes ≡ Some high
+  pub sum : a ≡ low + 2 ^ (8 * i) * high
+
+some_is : {A : Type 0} (x y : A) → Some x ≡ Some y → x ≡ y
+some_is x y e = cc
+
+mapped-some : (f : ℕ → ℕ) (o : Option ℕ) (a : ℕ) → option_map f o ≡ Some a → (x : ℕ) × (o ≡ Some x) × (f x ≡ a)
+mapped-some f None a e = absurd (cc)
+mapped-some f (Some x) a e = (x, refl, some_is (f x) a e)
+
+none_isn't : (a : ℕ) {P : Type 0} → None ≡ Some a → P
+none_isn't a e = absurd (cc)
+
+first-number : (k n : ℕ) (p : Ptr) (part : ℕ) (bytes : List Byte) (a : ℕ) → number_of_bytes (byte_of k n p part ∷ bytes) ≡ Some a → (x : ℕ) × (number_of_bytes bytes ≡ Some x) × (n + 256 * x ≡ a)
+unfolding number_of_bytes
+first-number k n p part bytes a e =
+    elim (cases_Bool (nat_eq k 0)) [
+      | inl f ↦ mapped-some (λ x. n + 256 * x) (number_of_bytes bytes) a (rw f at e)
+      | inr f ↦ elim (cases_Bool (nat_eq k 1)) [
+        | inl g ↦ none_isn't a (rw (f, g) at e)
+        | inr g ↦ none_isn't a (rw (f, g) at e)
+      ]
+    ]
+
+next-sum : (a low high n x i : ℕ) → a ≡ low + 2 ^ (8 * i) * high → n + 256 * x ≡ high → a ≡ n * 2 ^ (8 * i) + low + 2 ^ (8 * (i + 1)) * x
+next-sum a low high n x i sum split =
+    let m = 2 ^ (8 * i) in
+    let one : 2 ^ (8 * i + 8) ≡ m * 2 ^ 8 = pow-add 2 (8 * i) 8 in
+    let at : 8 * (i + 1) ≡ 8 * i + 8 = omega arith in
+    let top : 2 ^ (8 * (i + 1)) * x ≡ m * (256 * x) = ap (λ j. 2 ^ j * x) at ∙ (ap (λ y. y * x) one ∙ mul_assoc m 256 x) in
+    let whole : m * high ≡ m * n + m * (256 * x) = ap (λ y. m * y) (sym split) ∙ mul-add m n (256 * x) in
+    let turn : m * n ≡ n * m = mul_comm m n in
+    omega (arith, sum, top, whole, turn)
+
+front-byte : (r : Reading) (old : List Term) (bytes : List SymByte) (i : ℕ) (byte : SymByte) (high : ℕ) → i < length bytes → byte ≡ get_or bytes i byte → number_of_bytes (places_at r old (drop i bytes)) ≡ Some high
+    → (x : ℕ) × (number_of_bytes (places_at r old (drop (i + 1) bytes)) ≡ Some x) × (term_at r.v old byte.number + 256 * x ≡ high)
+unfolding byte_at
+front-byte r old bytes i byte high lt is so =
+    let first : number_of_bytes (places_at r old (drop i bytes)) ≡ number_of_bytes (byte_at r old byte ∷ places_at r old (drop (i + 1) bytes)) =
+    at_drop_more (λ bs. number_of_bytes (places_at r old bs)) bytes i byte lt ∙ ap (λ x. number_of_bytes (byte_at r old x ∷ places_at r old (drop (i + 1) bytes))) (sym is) in
+    first-number (term_at r.v old byte.kind) (term_at r.v old byte.number) (record { block = r.name (term_at r.v old byte.block); offset = term_at r.v old byte.offset }) (term_at r.v old byte.part) (places_at r old (drop (i + 1) bytes)) high (sym first ∙ so)
+
+pub joined_first : (r : Reading) (old : List Term) (bytes : List SymByte) (byte : SymByte) (a : ℕ) → 0 < length bytes → byte ≡ get_or bytes 0 byte → number_of_bytes (places_at r old bytes) ≡ Some a → Left (places_at r old (drop 1 bytes)) a (term_at r.v old byte.number) 1
+joined_first r old bytes byte a lt is so =
+    let f = front-byte r old bytes 0 byte a lt is so in
+    record { high = f.0; is = f.1; sum = sym f.2 }
+
+pub joined_more : (r : Reading) (old a b : List Term) (k : Keeps old a) (bytes : List SymByte) (i : ℕ) (byte : SymByte) (low next : TermId) (n : ℕ) → AreSymBytes old bytes → i < length bytes → byte ≡ get_or bytes i byte → IsTerm a (8 * i) low
+    → Makes b next (width_of (tree_in a byte.number) + width_of (tree_in a low)) (λ v. term_at v a byte.number * 2 ^ width_of (tree_in a low) + term_at v a low)
+    → Left (places_at r old (drop i bytes)) n (term_at r.v a low) i → Left (places_at r old (drop (i + 1) bytes)) n (term_at r.v b next) (i + 1)
+joined_more r old a b k bytes i byte low next n h lt is ha m left =
+    let item = each-at (IsSymByte old) bytes i byte h lt is in
+    let f = front-byte r old bytes i byte left.high lt is left.is in
+    let now : term_at r.v b next ≡ term_at r.v old byte.number * 2 ^ (8 * i) + term_at r.v a low =
+    m.says r.v ∙ rw (ha.wide, term-later old a k r.v byte.number item.number.within) refl in
+    record { high = f.0; is = f.1; sum = rw now (next-sum n (term_at r.v a low) left.high (term_at r.v old byte.number) f.0 i left.sum f.2) }
+
+pub joined_wide : (a b : List Term) (i : ℕ) (high low next : TermId) → width_of (tree_in a high) ≡ 8 → IsTerm a (8 * i) low → (v : (ℕ → ℕ → ℕ) → ℕ) → Makes b next (width_of (tree_in a high) + width_of (tree_in a low)) v → IsTerm b (8 * (i + 1)) next
+joined_wide a b i high low next eight h v m = record { within = m.within; wide = let e = h.wide in let w = m.wide in omega (arith, e, eight, w) }
+
+pub joined_all : (r : Reading) (old : List Term) (bytes : List SymByte) (i n low : ℕ) → length bytes ≤ i → Left (places_at r old (drop i bytes)) n low i → low ≡ n
+unfolding number_of_bytes
+joined_all r old bytes i n low past left =
+    let none : Some 0 ≡ Some left.high = sym (at_drop_all (λ bs. number_of_bytes (places_at r old bs)) bytes i past) ∙ left.is in
+    let e : 0 ≡ left.high = some_is 0 left.high none in
+    let none_left : 2 ^ (8 * i) * 0 ≡ 0 = omega arith in
+    let zero' : 2 ^ (8 * i) * left.high ≡ 0 = ap (λ x. 2 ^ (8 * i) * x) (sym e) ∙ none_left in
+    let sum = left.sum in
+    omega (arith, sum, zero')
+
+-- ---- numbers of a width
+
+high-digits : (x b : ℕ) → b < 64 → x < 2 ^ 64 → nat_eq (x / 2 ^ b % 2 ^ (64 - b)) 0 ≡ nat_lt x (2 ^ b)
+high-digits x b lt small =
+    let at : 64 - b + b ≡ 64 = omega (arith, lt) in
+    let whole : 2 ^ 64 ≡ 2 ^ (64 - b) * 2 ^ b = ap (λ j. 2 ^ j) (sym at) ∙ pow-add 2 (64 - b) b in
+    let part : x / 2 ^ b < 2 ^ (64 - b) = (div-lt_iff_lt-mul {k = 2 ^ b} {x = x} {y = 2 ^ (64 - b)} (pow_pos b)).1 (subst (λ m. x < m) whole small) in
+    let one : 1 * 2 ^ b ≡ 2 ^ b = omega arith in
+    let less = div-lt_iff_lt-mul {k = 2 ^ b} {x = x} {y = 1} (pow_pos b) in
+    rw (small_mod (x / 2 ^ b) (2 ^ (64 - b)) part)
+    (both_ways (nat_eq (x / 2 ^ b) 0) (nat_lt x (2 ^ b))
+    (λ e. lt-ltb x (2 ^ b) (subst (λ m. x < m) one (less.0 (let z = eqb-true (x / 2 ^ b) 0 e in omega (arith, z)))))
+    (λ e. eq-eqb (x / 2 ^ b) 0 (let z = less.1 (subst (λ m. x < m) (sym one) (ltb-true x (2 ^ b) e)) in omega (arith, z))))
+
+pub has_width_stands : (old a b c : List Term) (value above zero' id : TermId) (low bits : ℕ) → AreInRange old → IsTerm old 64 value → low ≡ bits → low < 64
+    → Makes a above (64 - low) (λ v. term_at v old value / 2 ^ low % 2 ^ (64 - low)) → Keeps a b → Makes b zero' (64 - low) (λ _. 0) → Tests c id (λ v. nat_eq (term_at v b above) (term_at v b zero'))
+    → Tests c id (λ v. nat_lt (term_at v old value) (2 ^ bits))
+has_width_stands old a b c value above zero' id low bits range h same few m1 k m2 t = record {
+  within = t.within;
+  wide = t.wide;
+  says = λ v. t.says v ∙ rw (term-later a b k v above m1.within, m1.says v, m2.says v, ← same) (high-digits (term_at v old value) low few (term-below old 64 value range h v));
+}
+
+-- ---- the value that bytes are read as
+
+read-number : (n : ℕ) (o : Option ℕ) (x : ℕ) → ((a : ℕ) → o ≡ Some a → x ≡ a) → value_from (not (is_some o && nat_lt x (2 ^ n))) x ≡ number_or_poison n o
+read-number n None x e = refl
+read-number n (Some a) x e =
+    rw (e a refl)
+    (elim (cases_Bool (nat_lt a (2 ^ n))) as (λ _. value_from (not (nat_lt a (2 ^ n))) a ≡ number_or_poison n (Some a)) [
+      | inl f ↦ rw f refl
+      | inr f ↦ rw f refl
+    ])
+
+pub integer_of_bytes_stands : (old a b c d e f g : List Term) (w : Width) (bytes : List SymByte) (all digits value is_small is_number poison : TermId) (s : SymValue) → AreSymBytes old bytes
+    → Keeps old a → IsTerm a 1 all → Keeps a b → Makes c value 64 (λ v. term_at v b digits) → Keeps b c → Tests d is_small (λ v. nat_lt (term_at v c value) (2 ^ w.bits)) → Keeps c d
+    → Tests e is_number (λ v. bit_at v d all && bit_at v d is_small) → Keeps d e → Tests f poison (λ v. not (bit_at v e is_number)) → Keeps e f → (r : Reading)
+    → bit_at r.v a all ≡ is_some (number_of_bytes (places_at r old bytes))
+    → ((n : ℕ) → number_of_bytes (places_at r a bytes) ≡ Some n → term_at r.v b digits ≡ n)
+    → value_at r g s ≡ number_at r.v f (record { poison = poison; number = value })
+    → value_at r g s ≡ value_of_bytes (Int w) (places_at r old bytes)
+unfolding number_at
+integer_of_bytes_stands old a b c d e f g w bytes all digits value is_small is_number poison s h k1 ha k2 m3 k3 t4 k4 t5 k5 t6 k6 r all_is digits_are so =
+    let kad = keeps_trans a c d (keeps_trans a b c k2 k3) k4 in
+    let kcf = keeps_trans c e f (keeps_trans c d e k4 k5) k6 in
+    so ∙ rw (t6.says r.v, t5.says r.v, bit-later a d kad r.v all ha.within, all_is, t4.says r.v, term-later c f kcf r.v value m3.within, m3.says r.v)
+    (read-number w.bits (number_of_bytes (places_at r old bytes)) (term_at r.v b digits) (λ n is. digits_are n (ap number_of_bytes (places-later old a k1 r bytes h) ∙ is)))

@@ -1,0 +1,5 @@
+pub mod Bools
+pub mod Naming
+pub mod Digits
+pub mod Parts
+pub mod ByteLists

@@ -1,0 +1,176 @@
+-- Pointers as bytes, and bytes as pointers.
+use Rattle.std.proofs.Common.{ℕ, zero, suc, ◌≡◌, ◌<◌, ◌≤◌, ◌+◌, Bool, true, false, cond, not, ◌&&◌, ◌||◌, nat_eq, List, [], ◌∷◌, ◌++◌, length, take, drop, replicate, get_or, Some, refl, ap, sym, ◌∙◌, inl, inr, arith, eqb-true}
+use Rattle.std.specs.Prelude.{slice_get}
+use Rattle.std.proofs.lemmas.Bool.{cases_Bool, ne_eqb}
+use Rattle.std.proofs.lemmas.List.{at_drop_all, at_drop_more}
+use Rattle.byte_block.specs.declared.value.BlockName.{BlockName}
+use Rattle.byte_block.specs.declared.value.Ptr.{Ptr}
+use Rattle.byte_block.specs.declared.value.Byte.{Byte}
+use Rattle.byte_block.specs.declared.value.Byte.TheVariants.{Part, Poison}
+use Rattle.memory_access.specs.declared.access_types.Access.TheVariants.{Pointer}
+use Rattle.memory_access.specs.Blocks.{equal_pointers}
+use Rattle.memory_access.specs.Bytes.{are_parts, is_part_of, parts_from, pointer_or_poison, value_bytes}
+use Rattle.memory_access.proofs.ByteLists.{parts_from-get}
+use Rattle.bv_terms.specs.declared.term.TermId.{TermId}
+use Rattle.bv_terms.specs.declared.term.Term.{Term}
+use Rattle.bv_terms.specs.Trees.{IsTerm, Keeps, Makes, Tests, bit_at, term_at}
+use Rattle.mem_terms.specs.declared.bytes.SymByte.{SymByte}
+use Rattle.mem_terms.specs.declared.values.SymValue.{SymValue}
+use Rattle.mem_terms.specs.Values.{IsNaming, IsSymValue, Reading, value_at, value_of}
+use Rattle.mem_terms.specs.Memory.{AreSymBytes, IsSymByte, byte_at, byte_of, places_at}
+use Rattle.mem_terms.proofs.Eaches.{each-at, map-push}
+use Rattle.mem_terms.proofs.Later.{bit-later, keeps_trans, places-later, term-later}
+use Rattle.byte_terms.proofs.Naming.{equal_numbers}
+use Rattle.byte_terms.proofs.Digits.{front_all, front_more, kind_isn't}
+use Rattle.byte_terms.proofs.Bools.{and-thrice, and-yes}
+
+-- the pointer that two terms stand for
+abbrev pub pointer_at : Reading → List Term → (block offset : TermId) → Ptr
+pointer_at r terms block offset = record { block = r.name (term_at r.v terms block); offset = term_at r.v terms offset }
+
+pointer-later : (old new : List Term) (k : Keeps old new) (r : Reading) (block offset : TermId) → block.index < length old → offset.index < length old → pointer_at r new block offset ≡ pointer_at r old block offset
+pointer-later old new k r block offset hb ho = rw (term-later old new k r.v block hb, term-later old new k r.v offset ho) refl
+
+-- ---- a pointer's parts
+
+part-or-poison : (k n : ℕ) (p : Ptr) (part : ℕ) → (k ≡ 0 → ⊥) → byte_of k n p part ≡ cond (nat_eq k 1) (Part p part) Poison
+part-or-poison k n p part other = rw (ne_eqb k 0 other) refl
+
+pub pointer_part_stands : (old a b : List Term) (kind number block offset part : TermId) (place : ℕ) → IsTerm old 2 kind → IsTerm old 64 block → IsTerm old 64 offset → Keeps old a → Keeps a b → Makes b part 3 (λ _. place) → (r : Reading)
+    → (term_at r.v old kind ≡ 0 → ⊥) → byte_at r b (record { kind = kind; number = number; block = block; offset = offset; part = part }) ≡ cond (nat_eq (term_at r.v old kind) 1) (Part (pointer_at r old block offset) place) Poison
+unfolding byte_at
+pointer_part_stands old a b kind number block offset part place hk hb ho k1 k2 m r other =
+    let k = keeps_trans old a b k1 k2 in
+    rw (term-later old b k r.v kind hk.within, term-later old b k r.v block hb.within, term-later old b k r.v offset ho.within, m.says r.v)
+    (part-or-poison (term_at r.v old kind) (term_at r.v b number) (pointer_at r old block offset) place other)
+
+length-parts_from : (p : Ptr) (i n : ℕ) → length (parts_from p i n) ≡ n
+unfolding parts_from
+length-parts_from p i zero = refl
+length-parts_from p i (suc n) = ap suc (length-parts_from p (i + 1) n)
+
+part-get : (p : Ptr) (k : ℕ) → k < 8 → slice_get (parts_from p 0 8) k ≡ Some (Part p k)
+part-get p k lt = let e : 0 + k ≡ k = omega arith in parts_from-get p 0 8 k lt ∙ ap (λ j. Some (Part p j)) e
+
+pub parts_more : (old a b : List Term) (ka : Keeps old a) (kb : Keeps a b) (kind block offset : TermId) (now : List SymByte) (byte : SymByte) (i : ℕ) → IsTerm old 2 kind → IsTerm old 64 block → IsTerm old 64 offset → AreSymBytes a now → i < 8 → (r : Reading) → (term_at r.v old kind ≡ 0 → ⊥)
+    → places_at r a now ≡ cond (nat_eq (term_at r.v old kind) 1) (take i (parts_from (pointer_at r old block offset) 0 8)) (replicate i Poison)
+    → ((term_at r.v a kind ≡ 0 → ⊥) → byte_at r b byte ≡ cond (nat_eq (term_at r.v a kind) 1) (Part (pointer_at r a block offset) i) Poison)
+    → places_at r b (now ++ byte ∷ []) ≡ cond (nat_eq (term_at r.v old kind) 1) (take (i + 1) (parts_from (pointer_at r old block offset) 0 8)) (replicate (i + 1) Poison)
+parts_more old a b ka kb kind block offset now byte i hk hb ho hnow lt r other before one =
+    let k = term-later old a ka r.v kind hk.within in
+    let p = pointer-later old a ka r block offset hb.within ho.within in
+    let is : byte_at r b byte ≡ cond (nat_eq (term_at r.v old kind) 1) (Part (pointer_at r old block offset) i) Poison =
+    one (λ e. other (sym k ∙ e)) ∙ (ap (λ n. cond (nat_eq n 1) (Part (pointer_at r a block offset) i) Poison) k ∙ ap (λ q. cond (nat_eq (term_at r.v old kind) 1) (Part q i) Poison) p) in
+    map-push (byte_at r b) now byte
+    ∙ rw (places-later a b kb r now hnow, before, is)
+    (front_more (nat_eq (term_at r.v old kind) 1) (parts_from (pointer_at r old block offset) 0 8) i (Part (pointer_at r old block offset) i) (part-get (pointer_at r old block offset) i lt))
+
+pub parts_all : (r : Reading) (old new : List Term) (kind block offset : TermId) (now : List SymByte) (i : ℕ) → 8 ≤ i → i ≤ 8
+    → places_at r new now ≡ cond (nat_eq (term_at r.v old kind) 1) (take i (parts_from (pointer_at r old block offset) 0 8)) (replicate i Poison)
+    → places_at r new now ≡ cond (nat_eq (term_at r.v old kind) 1) (parts_from (pointer_at r old block offset) 0 8) (replicate 8 Poison)
+parts_all r old new kind block offset now i past within so =
+    front_all (nat_eq (term_at r.v old kind) 1) (parts_from (pointer_at r old block offset) 0 8) (places_at r new now) i 8 (length-parts_from (pointer_at r old block offset) 0 8) past within so
+
+stored-parts : (p q : Bool) (b : BlockName) (x k : ℕ) → k ≡ cond (p || not q) 2 1 → cond (nat_eq k 1) (parts_from (record { block = b; offset = x }) 0 8) (replicate 8 Poison) ≡ value_bytes Pointer (value_of p q b x)
+stored-parts true q b x k kind = rw kind refl
+stored-parts false true b x k kind = rw kind refl
+stored-parts false false b x k kind = rw kind refl
+
+pub pointer_bytes_stand : (old a b c d : List Term) (s : SymValue) (is_number is_poison kind : TermId) (bytes : List SymByte) → IsSymValue old s
+    → Keeps old a → Tests a is_number (λ v. not (bit_at v old s.is_pointer)) → Keeps a b → Tests b is_poison (λ v. bit_at v a s.poison || bit_at v a is_number) → Keeps b c → Makes c kind 2 (λ v. cond (bit_at v b is_poison) 2 1)
+    → (r : Reading) → ((term_at r.v c kind ≡ 0 → ⊥) → places_at r d bytes ≡ cond (nat_eq (term_at r.v c kind) 1) (parts_from (pointer_at r c s.block s.number) 0 8) (replicate 8 Poison))
+    → places_at r d bytes ≡ value_bytes Pointer (value_at r old s)
+unfolding value_at
+pointer_bytes_stand old a b c d s is_number is_poison kind bytes h k1 t1 k2 t2 k3 m3 r so =
+    let k = keeps_trans old b c (keeps_trans old a b k1 k2) k3 in
+    let poison_is : bit_at r.v b is_poison ≡ (bit_at r.v old s.poison || not (bit_at r.v old s.is_pointer)) = t2.says r.v ∙ rw (bit-later old a k1 r.v s.poison h.poison.within, t1.says r.v) refl in
+    let kind_is : term_at r.v c kind ≡ cond (bit_at r.v old s.poison || not (bit_at r.v old s.is_pointer)) 2 1 = m3.says r.v ∙ ap (λ x. cond x 2 1) poison_is in
+    let other = kind_isn't (bit_at r.v old s.poison || not (bit_at r.v old s.is_pointer)) (term_at r.v c kind) 1 0 kind_is (omega arith) (omega arith) (λ e. omega (arith, e)) in
+    so other ∙ rw (term-later old c k r.v s.block h.block.within, term-later old c k r.v s.number h.number.within)
+    (stored-parts (bit_at r.v old s.poison) (bit_at r.v old s.is_pointer) (r.name (term_at r.v old s.block)) (term_at r.v old s.number) (term_at r.v c kind) kind_is)
+
+-- ---- one part
+
+part-of-byte : (p q : Ptr) (k n j i : ℕ) → (nat_eq k 1 && (equal_pointers p q && nat_eq j i)) ≡ is_part_of p i (byte_of k n q j)
+part-of-byte p q k n j i =
+    elim (cases_Bool (nat_eq k 0)) as (λ _. (nat_eq k 1 && (equal_pointers p q && nat_eq j i)) ≡ is_part_of p i (byte_of k n q j)) [
+      | inl e ↦ rw (eqb-true k 0 e) refl
+      | inr e ↦ elim (cases_Bool (nat_eq k 1)) as (λ _. (nat_eq k 1 && (equal_pointers p q && nat_eq j i)) ≡ is_part_of p i (byte_of k n q j)) [
+        | inl f ↦ rw (e, f) refl
+        | inr f ↦ rw (e, f) refl
+      ]
+    ]
+
+pub is_part_stands : (old a b c d e : List Term) (block offset : TermId) (byte : SymByte) (place : ℕ) (same_pointer same_place is_same is_pointer id : TermId) → IsSymByte old byte
+    → Keeps old a → Tests a same_pointer (λ v. nat_eq (term_at v old block) (term_at v old byte.block) && nat_eq (term_at v old offset) (term_at v old byte.offset)) → Keeps a b → Tests b same_place (λ v. nat_eq (term_at v a byte.part) place)
+    → Keeps b c → Tests c is_same (λ v. bit_at v b same_pointer && bit_at v b same_place) → Keeps c d → Tests d is_pointer (λ v. nat_eq (term_at v c byte.kind) 1) → Tests e id (λ v. bit_at v d is_pointer && bit_at v d is_same)
+    → (r : Reading) → IsNaming r.name → bit_at r.v e id ≡ is_part_of (pointer_at r old block offset) place (byte_at r old byte)
+unfolding byte_at
+is_part_stands old a b c d e block offset byte place same_pointer same_place is_same is_pointer id h k1 t1 k2 t2 k3 t3 k4 t4 t5 r hn =
+    let kac = keeps_trans old b c (keeps_trans old a b k1 k2) k3 in
+    let names = equal_numbers r.name hn (term_at r.v old block) (term_at r.v old byte.block) in
+    let pointer_is : bit_at r.v b same_pointer ≡ equal_pointers (pointer_at r old block offset) (pointer_at r old byte.block byte.offset) =
+    bit-later a b k2 r.v same_pointer t1.within ∙ (t1.says r.v ∙ rw (← names) refl) in
+    let place_is : bit_at r.v b same_place ≡ nat_eq (term_at r.v old byte.part) place = t2.says r.v ∙ ap (λ n. nat_eq n place) (term-later old a k1 r.v byte.part h.part.within) in
+    t5.says r.v ∙ rw (t4.says r.v, term-later old c kac r.v byte.kind h.kind.within, bit-later c d k4 r.v is_same t3.within, t3.says r.v, pointer_is, place_is)
+    (part-of-byte (pointer_at r old block offset) (pointer_at r old byte.block byte.offset) (term_at r.v old byte.kind) (term_at r.v old byte.number) (term_at r.v old byte.part) place)
+
+-- ---- all parts
+
+pub are_parts_more : (old a b c : List Term) (k : Keeps old a) (block offset : TermId) (bytes : List SymByte) (i : ℕ) (byte : SymByte) (all here both : TermId) → AreSymBytes old bytes → i < length bytes → byte ≡ get_or bytes i byte
+    → IsTerm old 64 block → IsTerm old 64 offset → IsTerm a 1 all → Keeps a b → Tests c both (λ v. bit_at v b all && bit_at v b here) → (r : Reading)
+    → bit_at r.v b here ≡ is_part_of (pointer_at r a block offset) i (byte_at r a byte) → byte_at r a byte ≡ byte_at r old byte
+    → (bit_at r.v a all && are_parts (pointer_at r old block offset) i (places_at r old (drop i bytes))) ≡ are_parts (pointer_at r old block offset) 0 (places_at r old bytes)
+    → (bit_at r.v c both && are_parts (pointer_at r old block offset) (i + 1) (places_at r old (drop (i + 1) bytes))) ≡ are_parts (pointer_at r old block offset) 0 (places_at r old bytes)
+unfolding are_parts
+are_parts_more old a b c k block offset bytes i byte all here both h lt is hb ho ha kb t r one same before =
+    let p = pointer_at r old block offset in
+    let first : are_parts p i (places_at r old (drop i bytes)) ≡ (is_part_of p i (byte_at r old byte) && are_parts p (i + 1) (places_at r old (drop (i + 1) bytes))) =
+    at_drop_more (λ bs. are_parts p i (places_at r old bs)) bytes i byte lt ∙ ap (λ x. is_part_of p i (byte_at r old x) && are_parts p (i + 1) (places_at r old (drop (i + 1) bytes))) (sym is) in
+    let now : bit_at r.v b here ≡ is_part_of p i (byte_at r old byte) = one ∙ (ap (λ q. is_part_of q i (byte_at r a byte)) (pointer-later old a k r block offset hb.within ho.within) ∙ ap (is_part_of p i) same) in
+    rw (t.says r.v, bit-later a b kb r.v all ha.within, now)
+    (and-thrice (bit_at r.v a all) (is_part_of p i (byte_at r old byte)) (are_parts p (i + 1) (places_at r old (drop (i + 1) bytes))) (are_parts p 0 (places_at r old bytes))
+    (ap (λ x. bit_at r.v a all && x) (sym first) ∙ before))
+
+pub are_parts_all : (r : Reading) (old : List Term) (p : Ptr) (x : Bool) (bytes : List SymByte) (i : ℕ) → length bytes ≡ 8 → 8 ≤ i → i ≤ 8
+    → (x && are_parts p i (places_at r old (drop i bytes))) ≡ are_parts p 0 (places_at r old bytes) → x ≡ are_parts p 0 (places_at r old bytes)
+unfolding are_parts
+are_parts_all r old p x bytes i long past within so =
+    let e : i ≡ 8 = omega (arith, past, within) in
+    and-yes x (are_parts p i (places_at r old (drop i bytes))) (are_parts p 0 (places_at r old bytes)) (at_drop_all (λ bs. are_parts p i (places_at r old bs)) bytes i (omega (arith, long, past)) ∙ ap (λ j. nat_eq j 8) e) so
+
+-- ---- the pointer that bytes are read as
+
+read-pointer : (k n j : ℕ) (p : Ptr) (bytes : List Byte) → value_of (not (are_parts p 0 (byte_of k n p j ∷ bytes))) true p.block p.offset ≡ pointer_or_poison (byte_of k n p j ∷ bytes)
+unfolding are_parts
+read-pointer k n j p bytes =
+    elim (cases_Bool (nat_eq k 0)) as (λ _. value_of (not (are_parts p 0 (byte_of k n p j ∷ bytes))) true p.block p.offset ≡ pointer_or_poison (byte_of k n p j ∷ bytes)) [
+      | inl e ↦ rw e refl
+      | inr e ↦ elim (cases_Bool (nat_eq k 1)) as (λ _. value_of (not (are_parts p 0 (byte_of k n p j ∷ bytes))) true p.block p.offset ≡ pointer_or_poison (byte_of k n p j ∷ bytes)) [
+        | inl f ↦ rw (e, f)
+            (elim (cases_Bool (are_parts p 0 (Part p j ∷ bytes))) as (λ _. value_of (not (are_parts p 0 (Part p j ∷ bytes))) true p.block p.offset ≡ pointer_or_poison (Part p j ∷ bytes)) [
+              | inl g ↦ rw g refl
+              | inr g ↦ rw g refl
+            ])
+        | inr f ↦ rw (e, f) refl
+      ]
+    ]
+
+first-byte : (bytes : List SymByte) (byte : SymByte) → 0 < length bytes → byte ≡ get_or bytes 0 byte → bytes ≡ byte ∷ drop 1 bytes
+first-byte [] byte lt is = absurd (omega arith)
+first-byte (b ∷ bytes) byte lt is = ap (λ x. x ∷ bytes) (sym is)
+
+pub pointer_of_bytes_stands : (old a b c : List Term) (bytes : List SymByte) (first : SymByte) (all poison is_pointer : TermId) → AreSymBytes old bytes → 0 < length bytes → first ≡ get_or bytes 0 first
+    → Keeps old a → Keeps a b → Tests b poison (λ v. not (bit_at v a all)) → Keeps b c → Tests c is_pointer (λ v. true) → (r : Reading)
+    → bit_at r.v a all ≡ are_parts (pointer_at r old first.block first.offset) 0 (places_at r old bytes)
+    → value_at r c (record { poison = poison; is_pointer = is_pointer; block = first.block; number = first.offset }) ≡ pointer_or_poison (places_at r old bytes)
+unfolding value_at byte_at
+pointer_of_bytes_stands old a b c bytes first all poison is_pointer h lt is k1 k2 t2 k3 t3 r all_is =
+    let item = each-at (IsSymByte old) bytes 0 first h lt is in
+    let k = keeps_trans old b c (keeps_trans old a b k1 k2) k3 in
+    let p = pointer_at r old first.block first.offset in
+    let front = first-byte bytes first lt is in
+    rw (bit-later b c k3 r.v poison t2.within, t2.says r.v, all_is, t3.says r.v, term-later old c k r.v first.block item.block.within, term-later old c k r.v first.offset item.offset.within)
+    (ap (λ bs. value_of (not (are_parts p 0 (places_at r old bs))) true p.block p.offset) front
+    ∙ read-pointer (term_at r.v old first.kind) (term_at r.v old first.number) (term_at r.v old first.part) p (places_at r old (drop 1 bytes))
+    ∙ ap (λ bs. pointer_or_poison (places_at r old bs)) (sym front))

@@ -1,0 +1,14 @@
+-- The bytes so far are those of the front of each list.
+use Rattle.std.proofs.Common.{◌≡◌, ◌≤◌, length, take, cond}
+use Rattle.bv_terms.specs.Trees.{Keeps, bit_at}
+use Rattle.mem_terms.specs.Values.{Reading}
+use Rattle.mem_terms.specs.Memory.{AreSymBytes, places_at}
+use Rattle.byte_terms.proofs.byte_lists.pick_bytes.Given as goal
+
+abbrev pub invariant-loop-i : goal.invariant-loop-i
+invariant-loop-i l =
+    Keeps l.fn.terms l.terms
+    × AreSymBytes l.terms l.picked.items
+    × (length l.picked.items ≡ l.i)
+    × (l.i ≤ length l.a)
+    × ((r : Reading) → places_at r l.terms l.picked.items ≡ cond (bit_at r.v l.fn.terms l.c) (take l.i (places_at r l.fn.terms l.a)) (take l.i (places_at r l.fn.terms l.b)))

@@ -1,0 +1,16 @@
+-- The bytes so far are the first of the number's, or poison.
+use Rattle.std.proofs.Common.{◌≡◌, cond, nat_eq, replicate, take}
+use Rattle.byte_block.specs.declared.value.Byte.TheVariants.{Poison}
+use Rattle.memory_access.specs.Bytes as meant
+use Rattle.bv_terms.specs.Trees.{Keeps, term_at}
+use Rattle.mem_terms.specs.Values.{Reading}
+use Rattle.mem_terms.specs.Memory.{AreSymBytes, places_at}
+use Rattle.byte_terms.proofs.integer_bytes.number_bytes.Given as goal
+
+abbrev pub invariant-loop-place : goal.invariant-loop-place
+invariant-loop-place l = record {
+  kept : Keeps l.fn.terms l.terms;
+  made : AreSymBytes l.terms l.bytes.items;
+  stands : (r : Reading) → (term_at r.v l.fn.terms l.kind ≡ 1 → ⊥)
+      → places_at r l.terms l.bytes.items ≡ cond (nat_eq (term_at r.v l.fn.terms l.kind) 0) (take l.place (meant.number_bytes l.count (term_at r.v l.fn.terms l.value))) (replicate l.place Poison);
+}

@@ -1,0 +1,17 @@
+-- The bytes so far are the first of the pointer's parts, or poison.
+use Rattle.std.proofs.Common.{◌≡◌, cond, nat_eq, replicate, take}
+use Rattle.byte_block.specs.declared.value.Byte.TheVariants.{Poison}
+use Rattle.memory_access.specs.Bytes as meant
+use Rattle.bv_terms.specs.Trees.{Keeps, term_at}
+use Rattle.mem_terms.specs.Values.{Reading}
+use Rattle.mem_terms.specs.Memory.{AreSymBytes, places_at}
+use Rattle.byte_terms.proofs.Parts.{pointer_at}
+use Rattle.byte_terms.proofs.pointer_bytes.pointer_parts.Given as goal
+
+abbrev pub invariant-loop-place : goal.invariant-loop-place
+invariant-loop-place l = record {
+  kept : Keeps l.fn.terms l.terms;
+  made : AreSymBytes l.terms l.bytes.items;
+  stands : (r : Reading) → (term_at r.v l.fn.terms l.kind ≡ 0 → ⊥)
+      → places_at r l.terms l.bytes.items ≡ cond (nat_eq (term_at r.v l.fn.terms l.kind) 1) (take l.place (meant.parts_from (pointer_at r l.fn.terms l.block l.offset) 0 8)) (replicate l.place Poison);
+}

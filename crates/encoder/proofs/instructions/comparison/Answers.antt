@@ -1,7 +1,0 @@
-use Rattle.std.proofs.Common.{◌∙◌}
-use Rattle.encoder.proofs.Reading.{compared_integer}
-use Rattle.encoder.proofs.instructions.comparison.Goals as goal
-
-pub returns-clause-stands : goal.returns-clause-stands
-returns-clause-stands c = λ r names.
-    c.in_ok-value.ensures.stands r ∙ (c.in_ok-number.ensures.stands r.v ∙ rw (c.in_ok-left.ensures.left r names, c.in_ok-left.ensures.right r names) (compared_integer c.args.predicate c.args.same_sign c.args.width.bits _ _))

@@ -1,6 +1,0 @@
--- The blocks so far are the first ones and those that came.
-use Rattle.std.proofs.Common.{◌≡◌, ◌++◌}
-use Rattle.encoder.proofs.joining.joined.Given as goal
-
-abbrev pub invariant-loop-block : goal.invariant-loop-block
-invariant-loop-block l = l.blocks ≡ l.fn.first ++ l.yielded

@@ -1,8 +1,0 @@
-use Rattle.std.proofs.Common.{◌∙◌, ap}
-use Rattle.points.specs.Run.{cut_value}
-use Rattle.encoder.proofs.Reading.{cut_integer}
-use Rattle.encoder.proofs.operands.integer.Goals as goal
-
-pub returns-clause-stands : goal.returns-clause-stands
-returns-clause-stands c = λ r. c.in_ok-value.ensures.stands r
-    ∙ (c.in_ok-low.ensures.stands r.v ∙ (ap (cut_value c.args.width.bits) (c.in_ok-number.ensures.stands r) ∙ cut_integer c.args.width.bits _))

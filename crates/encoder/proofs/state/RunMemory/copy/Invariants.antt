@@ -1,6 +1,0 @@
--- The blocks so far are the front of the list.
-use Rattle.std.proofs.Common.{◌≡◌, take}
-use Rattle.encoder.proofs.state.RunMemory.copy.Given as goal
-
-abbrev pub invariant-loop-block : goal.invariant-loop-block
-invariant-loop-block l = l.blocks.items ≡ take l.block-index l.self.blocks

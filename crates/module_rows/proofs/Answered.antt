@@ -1,0 +1,162 @@
+-- Answers of the judge, and rows of the source, one at a time.
+use Rattle.std.proofs.Common.{◌≡◌, ℕ, zero, suc, ◌+◌, ◌<◌, ◌≤◌, List, [], ◌∷◌, ◌++◌, length, drop, take, get_or, refl, sym, ap, subst, ◌∙◌, Bool, true, false, true≢false, Option, Some, None, Result, Ok, Err, is_some, if◌then◌else◌}
+use Rattle.std.proofs.lemmas.Grind.{flat_map-append}
+use Rattle.std.proofs.lemmas.List.{append-nil, append_assoc, drop_all, drop_more}
+use Rattle.ir_tree.specs.declared.tree.Function.{Function}
+use Rattle.ir_tree.specs.declared.module.Refused.{Refused}
+use Rattle.ir_tree.specs.declared.module.Entry.{Entry}
+use Rattle.points.specs.declared.point.Bounds.{Bounds}
+use Rattle.points.specs.declared.point.Budget.{Budget}
+use Rattle.points.specs.declared.verdict.Verdict.{Verdict}
+use Rattle.points.specs.declared.verdict.Verdict.TheVariants as verdict
+use Rattle.points.specs.Pair.{Functions, same_signature}
+use Rattle.pair_driver.specs.declared.judged.Judged.{Judged}
+use Rattle.pair_judge.specs.Answers.{IsAnswer}
+use Rattle.std.specs.List.{AllZip}
+use Rattle.report.specs.declared.row.Finding.{Finding}
+use Rattle.report.specs.declared.row.Row.{Row}
+use Rattle.report.specs.Rows.{function_named, IsJudged, IsCompared, IsFinding, IsRow, AreSourceRows, extra_row, extra_rows}
+use Rattle.module_rows.specs.Judging.{pairs_in, judged_pairs, AreAnswers, verdicts_in, verdicts_of, verdicts_answered, HasNext, IsTaken, IsUnjudged, ShowsVerdict}
+use Rattle.module_rows.specs.Judging.{may_answer}
+
+cons≢nil : {x : Functions} {xs : List Functions} → x ∷ xs ≡ [] → ⊥
+cons≢nil e = true≢false (ap has_some e)
+  where
+    has_some : List Functions → Bool
+    has_some [] = false
+    has_some (x ∷ xs) = true
+
+-- ---- answers
+
+answers_first : (bounds : Bounds) (budget : Budget) (pairs more : List Functions) (answers : List Judged) → AreAnswers bounds budget (pairs ++ more) answers → HasNext bounds budget pairs answers
+answers_first bounds budget [] more answers each = tt
+answers_first bounds budget (p ∷ ps) more [] each = absurd each
+answers_first bounds budget (p ∷ ps) more (x ∷ xs) each = (each.0, answers_first bounds budget ps more xs each.1)
+
+answers_rest : (bounds : Bounds) (budget : Budget) (pairs more : List Functions) (answers : List Judged) → AreAnswers bounds budget (pairs ++ more) answers → AreAnswers bounds budget more (drop (length pairs) answers)
+answers_rest bounds budget [] more answers each = each
+answers_rest bounds budget (p ∷ ps) more [] each = absurd each
+answers_rest bounds budget (p ∷ ps) more (x ∷ xs) each = answers_rest bounds budget ps more xs each.1
+
+verdicts_cut : (n : ℕ) (answers : List Judged) → verdicts_answered answers ≡ verdicts_answered (take n answers) ++ verdicts_answered (drop n answers)
+verdicts_cut zero answers = refl
+verdicts_cut (suc n) [] = refl
+verdicts_cut (suc n) (x ∷ xs) = ap (λ (vs : List Verdict). x.verdict ∷ vs) (verdicts_cut n xs)
+
+pub none_left : (bounds : Bounds) (budget : Budget) (answers : List Judged) → AreAnswers bounds budget [] answers → answers ≡ []
+none_left bounds budget [] each = refl
+none_left bounds budget (a ∷ others) each = absurd each
+
+-- the answers of the driver, index by index
+pub zipped_answers : (bounds : Bounds) (budget : Budget) (pairs : List Functions) (answers : List Judged) → AllZip (λ pair answer. IsAnswer pair bounds budget answer) pairs answers → AreAnswers bounds budget pairs answers
+zipped_answers bounds budget [] [] each = tt
+zipped_answers bounds budget [] (x ∷ xs) each = absurd each
+zipped_answers bounds budget (p ∷ ps) [] each = absurd each
+zipped_answers bounds budget (p ∷ ps) (x ∷ xs) each = (each.0, zipped_answers bounds budget ps xs each.1)
+
+-- ---- findings of verdicts
+
+pub shows_judged : (may : Functions → Verdict → Type 0) (pair : Functions) (bounds : Bounds) (v : Verdict) (found : Finding) → ShowsVerdict pair bounds v found → may pair v → IsJudged may bounds pair found
+shows_judged may pair bounds verdict.Correct found e t = rw e t
+shows_judged may pair bounds (verdict.Incorrect p) found h t = rw h.1 (t, h.2)
+shows_judged may pair bounds (verdict.Unknown c) found e t = rw e t
+
+pub shows_one : (pair : Functions) (bounds : Bounds) (v : Verdict) (found : Finding) → ShowsVerdict pair bounds v found → verdicts_in found ≡ v ∷ []
+shows_one pair bounds verdict.Correct found e = rw e refl
+shows_one pair bounds (verdict.Incorrect p) found h = rw h.1 refl
+shows_one pair bounds (verdict.Unknown c) found e = rw e refl
+
+-- ---- findings of other functions
+
+pub unjudged_finding : (may : Functions → Verdict → Type 0) (bounds : Bounds) (source : Result Function Refused) (target : Option (Result Function Refused)) (found : Finding)
+    → pairs_in source target ≡ [] → IsUnjudged source target found → IsFinding may bounds source target found
+unjudged_finding may bounds source None found none is = is
+unjudged_finding may bounds (Err refused) (Some target) found none is = is
+unjudged_finding may bounds (Ok f) (Some (Err refused)) found none is = is
+unjudged_finding may bounds (Ok f) (Some (Ok g)) found none is = go (same_signature f g) none
+  where
+    go : (same : Bool) → (let ps : List Functions = if same then record { source = f; target = g } ∷ [] else [] in ps) ≡ [] → IsCompared may bounds (record { source = f; target = g }) same found
+    go true e = absurd (cons≢nil e)
+    go false e = is
+
+pub unjudged_verdicts : (source : Result Function Refused) (target : Option (Result Function Refused)) (found : Finding) → IsUnjudged source target found → verdicts_in found ≡ []
+unjudged_verdicts source None found is = ap verdicts_in is
+unjudged_verdicts (Err refused) (Some target) found is = ap verdicts_in is
+unjudged_verdicts (Ok f) (Some (Err refused)) found is = ap verdicts_in is
+unjudged_verdicts (Ok f) (Some (Ok g)) found is = ap verdicts_in is
+
+-- and of a pair that is judged
+pub judged_finding : (may : Functions → Verdict → Type 0) (bounds : Bounds) (source : Result Function Refused) (target : Option (Result Function Refused)) (pair : Functions) (found : Finding)
+    → pairs_in source target ≡ pair ∷ [] → source ≡ Ok pair.source → target ≡ Some (Ok pair.target) → IsJudged may bounds pair found → IsFinding may bounds source target found
+judged_finding may bounds source target pair found one s t is = rw (s, t) (go (same_signature pair.source pair.target) (subst (λ o. pairs_in (Ok pair.source) o ≡ pair ∷ []) t (subst (λ r. pairs_in r target ≡ pair ∷ []) s one)))
+  where
+    go : (same : Bool) → (let ps : List Functions = if same then pair ∷ [] else [] in ps) ≡ pair ∷ [] → IsCompared may bounds pair same found
+    go true e = is
+    go false e = absurd (cons≢nil (sym e))
+
+-- ---- the rows of the first functions of the source
+
+pub record IsSoFar (bounds : Bounds) (budget : Budget) (targets sources : List Entry) (i : ℕ) (rows : List Row) (left answers : List Judged) : Type 0 where
+  pub rows_so_far : (more : List Row) → AreSourceRows (may_answer bounds budget) bounds targets (drop i sources) more → AreSourceRows (may_answer bounds budget) bounds targets sources (rows ++ more)
+  pub answered : AreAnswers bounds budget (judged_pairs targets (drop i sources)) left
+  pub reported : verdicts_of rows ++ verdicts_answered left ≡ verdicts_answered answers
+
+pub no_rows : (bounds : Bounds) (budget : Budget) (targets sources : List Entry) (rows : List Row) (answers : List Judged) → rows ≡ [] → AreAnswers bounds budget (judged_pairs targets sources) answers → IsSoFar bounds budget targets sources 0 rows answers answers
+no_rows bounds budget targets sources rows answers e each = rw e (record { rows_so_far = λ more are. are; answered = each; reported = refl })
+
+here : (sources : List Entry) (i : ℕ) (source : Entry) → i < length sources → get_or sources i source ≡ source → drop i sources ≡ source ∷ drop (i + 1) sources
+here sources i source below is = drop_more sources i source below ∙ ap (λ (x : Entry). x ∷ drop (i + 1) sources) is
+
+pub has_next : (bounds : Bounds) (budget : Budget) (targets sources : List Entry) (i : ℕ) (source : Entry) (rows : List Row) (left answers : List Judged) → i < length sources → get_or sources i source ≡ source
+    → IsSoFar bounds budget targets sources i rows left answers → HasNext bounds budget (pairs_in source.function (function_named targets source.name)) left
+has_next bounds budget targets sources i source rows left answers below is far =
+    answers_first bounds budget _ (judged_pairs targets (drop (i + 1) sources)) left (subst (λ (es : List Entry). AreAnswers bounds budget (judged_pairs targets es) left) (here sources i source below is) far.answered)
+
+pub one_row : (bounds : Bounds) (budget : Budget) (targets sources : List Entry) (i : ℕ) (source : Entry) (row : Row) (rows rows' : List Row) (left left' answers : List Judged)
+    → i < length sources → get_or sources i source ≡ source → rows' ≡ rows ++ row ∷ [] → IsSoFar bounds budget targets sources i rows left answers
+    → IsRow (may_answer bounds budget) bounds targets source row → IsTaken (pairs_in source.function (function_named targets source.name)) (verdicts_in row.finding) left left'
+    → IsSoFar bounds budget targets sources (i + 1) rows' left' answers
+one_row bounds budget targets sources i source row rows rows' left left' answers below is e far one taken = rw (e, taken.left) (record {
+  rows_so_far = λ more are.
+      let next : AreSourceRows (may_answer bounds budget) bounds targets (drop i sources) (row ∷ more) = subst (λ (es : List Entry). AreSourceRows (may_answer bounds budget) bounds targets es (row ∷ more)) (sym (here sources i source below is)) (one, are) in
+      subst (λ (rs : List Row). AreSourceRows (may_answer bounds budget) bounds targets sources rs) (sym (append_assoc rows (row ∷ []) more)) (far.rows_so_far (row ∷ more) next);
+  answered = answers_rest bounds budget (pairs_in source.function (function_named targets source.name)) (judged_pairs targets (drop (i + 1) sources)) left
+      (subst (λ (es : List Entry). AreAnswers bounds budget (judged_pairs targets es) left) (here sources i source below is) far.answered);
+  reported =
+      let n : ℕ = length (pairs_in source.function (function_named targets source.name)) in
+      let more : verdicts_of (rows ++ row ∷ []) ≡ verdicts_of rows ++ verdicts_answered (take n left) =
+      flat_map-append (λ (r : Row). verdicts_in r.finding) rows (row ∷ []) ∙ ap (λ (vs : List Verdict). verdicts_of rows ++ vs) (append-nil (verdicts_in row.finding) ∙ taken.reported) in
+      ap (λ (vs : List Verdict). vs ++ verdicts_answered (drop n left)) more
+      ∙ append_assoc (verdicts_of rows) (verdicts_answered (take n left)) (verdicts_answered (drop n left))
+      ∙ ap (λ (vs : List Verdict). verdicts_of rows ++ vs) (sym (verdicts_cut n left))
+      ∙ far.reported;
+})
+
+pub record IsWhole (bounds : Bounds) (budget : Budget) (targets sources : List Entry) (rows : List Row) (answers : List Judged) : Type 0 where
+  pub rows_are : AreSourceRows (may_answer bounds budget) bounds targets sources rows
+  pub reported : verdicts_of rows ≡ verdicts_answered answers
+
+pub all_rows : (bounds : Bounds) (budget : Budget) (targets sources : List Entry) (i : ℕ) (rows : List Row) (left answers : List Judged) → length sources ≤ i → IsSoFar bounds budget targets sources i rows left answers → IsWhole bounds budget targets sources rows answers
+all_rows bounds budget targets sources i rows left answers past far =
+    let end : drop i sources ≡ [] = drop_all i sources past in
+    let gone : left ≡ [] = none_left bounds budget left (subst (λ (es : List Entry). AreAnswers bounds budget (judged_pairs targets es) left) end far.answered) in
+    record {
+      rows_are =
+          let none : AreSourceRows (may_answer bounds budget) bounds targets (drop i sources) [] = subst (λ (es : List Entry). AreSourceRows (may_answer bounds budget) bounds targets es []) (sym end) tt in
+          subst (λ (rs : List Row). AreSourceRows (may_answer bounds budget) bounds targets sources rs) (append-nil rows) (far.rows_so_far [] none);
+      reported = sym (append-nil (verdicts_of rows)) ∙ ap (λ (xs : List Judged). verdicts_of rows ++ verdicts_answered xs) (sym gone) ∙ far.reported;
+    }
+
+-- ---- the rows of the target alone have no verdict
+
+extra_verdicts : (sources targets : List Entry) → verdicts_of (extra_rows sources targets) ≡ []
+extra_verdicts sources [] = refl
+extra_verdicts sources (t ∷ ts) = cases (function_named sources t.name) (extra_verdicts sources ts)
+  where
+    cases : (o : Option (Result Function Refused)) → verdicts_of (extra_rows sources ts) ≡ [] → verdicts_of (if is_some o then extra_rows sources ts else extra_row t ∷ extra_rows sources ts) ≡ []
+    cases (Some f) none = none
+    cases None none = none
+
+pub verdicts_with_extra : (sources targets : List Entry) (rows all : List Row) → all ≡ rows ++ extra_rows sources targets → verdicts_of all ≡ verdicts_of rows
+verdicts_with_extra sources targets rows all e =
+    ap verdicts_of e ∙ flat_map-append (λ (r : Row). verdicts_in r.finding) rows (extra_rows sources targets) ∙ ap (λ (vs : List Verdict). verdicts_of rows ++ vs) (extra_verdicts sources targets) ∙ append-nil (verdicts_of rows)

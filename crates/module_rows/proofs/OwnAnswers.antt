@@ -1,0 +1,76 @@
+-- Rows of pairs that are judged, and their own answers.
+use Rattle.std.proofs.Common.{◌≡◌, List, [], ◌∷◌, ◌++◌, refl, sym, ap, ◌∙◌, Option, Some, None, Result, Ok, Err, Bool, true, false, if◌then◌else◌}
+use Rattle.ir_tree.specs.declared.tree.Function.{Function}
+use Rattle.ir_tree.specs.declared.module.Refused.{Refused}
+use Rattle.ir_tree.specs.declared.module.Entry.{Entry}
+use Rattle.points.specs.declared.point.Bounds.{Bounds}
+use Rattle.points.specs.declared.point.Budget.{Budget}
+use Rattle.points.specs.declared.verdict.Verdict.{Verdict}
+use Rattle.points.specs.declared.verdict.Verdict.TheVariants as verdict
+use Rattle.points.specs.Pair.{Functions, same_signature}
+use Rattle.pair_driver.specs.declared.judged.Judged.{Judged}
+use Rattle.report.specs.declared.row.Finding.{Finding}
+use Rattle.report.specs.declared.row.Finding.TheVariants as finding
+use Rattle.report.specs.declared.row.Row.{Row}
+use Rattle.report.specs.Rows.{function_named, IsJudged, IsCompared, IsFinding, AreSourceRows}
+use Rattle.module_rows.specs.Judging.{pairs_in, judged_pairs, AreAnswers, verdicts_in, verdicts_of, verdicts_answered, ReportsNext, ReportOwnAnswers}
+
+abbrev first_or : Verdict → List Verdict → Verdict
+first_or v [] = v
+first_or v (x ∷ xs) = x
+
+abbrev after_first : List Verdict → List Verdict
+after_first [] = []
+after_first (x ∷ xs) = xs
+
+-- what is left to be shown of the rows after
+abbrev Goes : (bounds : Bounds) (budget : Budget) (rest : List Functions) (vs : List Verdict) → (List Judged → Type 0) → Type 0
+Goes bounds budget rest vs Left = (answers : List Judged) → AreAnswers bounds budget rest answers → vs ≡ verdicts_answered answers → Left answers
+
+-- the row of a pair that is judged
+next_of_pair : (bounds : Bounds) (budget : Budget) (pair : Functions) (rest : List Functions) (found : Finding) (v : Verdict) (vs : List Verdict) (answers : List Judged) (Left : List Judged → Type 0)
+    → verdicts_in found ≡ v ∷ [] → AreAnswers bounds budget (pair ∷ rest) answers → v ∷ vs ≡ verdicts_answered answers → Goes bounds budget rest vs Left → ReportsNext bounds budget (pair ∷ []) found answers Left
+next_of_pair bounds budget pair rest found v vs [] Left is each reported goes = absurd each
+next_of_pair bounds budget pair rest found v vs (a ∷ others) Left is each reported goes =
+    (each.0, is ∙ ap (λ (x : Verdict). x ∷ []) (ap (first_or v) reported), goes others each.1 (ap after_first reported))
+
+judged_next : (may : Functions → Verdict → Type 0) (bounds : Bounds) (budget : Budget) (pair : Functions) (rest : List Functions) (found : Finding) (vs : List Verdict) (answers : List Judged) (Left : List Judged → Type 0)
+    → IsJudged may bounds pair found → AreAnswers bounds budget (pair ∷ rest) answers → verdicts_in found ++ vs ≡ verdicts_answered answers → Goes bounds budget rest vs Left → ReportsNext bounds budget (pair ∷ []) found answers Left
+judged_next may bounds budget pair rest finding.Correct vs answers Left is each reported goes = next_of_pair bounds budget pair rest finding.Correct verdict.Correct vs answers Left refl each reported goes
+judged_next may bounds budget pair rest (finding.Incorrect p s) vs answers Left is each reported goes = next_of_pair bounds budget pair rest (finding.Incorrect p s) (verdict.Incorrect p) vs answers Left refl each reported goes
+judged_next may bounds budget pair rest (finding.Unknown c) vs answers Left is each reported goes = next_of_pair bounds budget pair rest (finding.Unknown c) (verdict.Unknown c) vs answers Left refl each reported goes
+judged_next may bounds budget pair rest (finding.Refused s r) vs answers Left is each reported goes = absurd is
+judged_next may bounds budget pair rest finding.Signature vs answers Left is each reported goes = absurd is
+judged_next may bounds budget pair rest finding.Missing vs answers Left is each reported goes = absurd is
+judged_next may bounds budget pair rest finding.Extra vs answers Left is each reported goes = absurd is
+
+-- the row of another function has no verdict
+next_without : (bounds : Bounds) (budget : Budget) (rest : List Functions) (found : Finding) (vs : List Verdict) (answers : List Judged) (Left : List Judged → Type 0)
+    → verdicts_in found ≡ [] → AreAnswers bounds budget rest answers → verdicts_in found ++ vs ≡ verdicts_answered answers → Goes bounds budget rest vs Left → ReportsNext bounds budget [] found answers Left
+next_without bounds budget rest found vs answers Left none each reported goes = (none, goes answers each (sym (ap (λ (ws : List Verdict). ws ++ vs) none) ∙ reported))
+
+compared_next : (may : Functions → Verdict → Type 0) (bounds : Bounds) (budget : Budget) (pair : Functions) (same : Bool) (rest : List Functions) (found : Finding) (vs : List Verdict) (answers : List Judged) (Left : List Judged → Type 0)
+    → IsCompared may bounds pair same found → AreAnswers bounds budget ((if same then pair ∷ [] else []) ++ rest) answers → verdicts_in found ++ vs ≡ verdicts_answered answers → Goes bounds budget rest vs Left → ReportsNext bounds budget (if same then pair ∷ [] else []) found answers Left
+compared_next may bounds budget pair true rest found vs answers Left is each reported goes = judged_next may bounds budget pair rest found vs answers Left is each reported goes
+compared_next may bounds budget pair false rest found vs answers Left is each reported goes = next_without bounds budget rest found vs answers Left (ap verdicts_in is) each reported goes
+
+row_next : (may : Functions → Verdict → Type 0) (bounds : Bounds) (budget : Budget) (source : Result Function Refused) (target : Option (Result Function Refused)) (rest : List Functions) (found : Finding) (vs : List Verdict) (answers : List Judged) (Left : List Judged → Type 0)
+    → IsFinding may bounds source target found → AreAnswers bounds budget (pairs_in source target ++ rest) answers → verdicts_in found ++ vs ≡ verdicts_answered answers → Goes bounds budget rest vs Left → ReportsNext bounds budget (pairs_in source target) found answers Left
+row_next may bounds budget (Ok f) None rest found vs answers Left is each reported goes = next_without bounds budget rest found vs answers Left (ap verdicts_in is) each reported goes
+row_next may bounds budget (Err r) None rest found vs answers Left is each reported goes = next_without bounds budget rest found vs answers Left (ap verdicts_in is) each reported goes
+row_next may bounds budget (Err r) (Some t) rest found vs answers Left is each reported goes = next_without bounds budget rest found vs answers Left (ap verdicts_in is) each reported goes
+row_next may bounds budget (Ok f) (Some (Err r)) rest found vs answers Left is each reported goes = next_without bounds budget rest found vs answers Left (ap verdicts_in is) each reported goes
+row_next may bounds budget (Ok f) (Some (Ok g)) rest found vs answers Left is each reported goes =
+    compared_next may bounds budget (record { source = f; target = g }) (same_signature f g) rest found vs answers Left is each reported goes
+
+none_left : (bounds : Bounds) (budget : Budget) (answers : List Judged) → AreAnswers bounds budget [] answers → answers ≡ []
+none_left bounds budget [] each = refl
+none_left bounds budget (a ∷ others) each = absurd each
+
+pub rows_have_answers : (may : Functions → Verdict → Type 0) (bounds : Bounds) (budget : Budget) (targets sources : List Entry) (rows : List Row) (answers : List Judged)
+    → AreSourceRows may bounds targets sources rows → AreAnswers bounds budget (judged_pairs targets sources) answers → verdicts_of rows ≡ verdicts_answered answers → ReportOwnAnswers bounds budget targets sources rows answers
+rows_have_answers may bounds budget targets [] rows answers are each reported = none_left bounds budget answers each
+rows_have_answers may bounds budget targets (s ∷ ss) [] answers are each reported = absurd are
+rows_have_answers may bounds budget targets (s ∷ ss) (r ∷ rs) answers are each reported =
+    row_next may bounds budget s.function (function_named targets s.name) (judged_pairs targets ss) r.finding (verdicts_of rs) answers (λ (left : List Judged). ReportOwnAnswers bounds budget targets ss rs left) are.0.found each reported
+    (λ left each_left reported_left. rows_have_answers may bounds budget targets ss rs left are.1 each_left reported_left)

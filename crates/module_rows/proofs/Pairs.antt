@@ -1,0 +1,125 @@
+-- The pairs that are judged: the judge takes each of them, and there are no more of them than functions.
+use Rattle.std.proofs.Common.{◌≡◌, ℕ, suc, ◌+◌, ◌-◌, ◌*◌, ◌^◌, ◌<◌, ◌≤◌, arith, refl, List, [], ◌∷◌, ◌++◌, length, length-append, Option, Some, None, Result, Ok, Err, Bool, true, false, true≢false, sym, ap, is_some, if◌then◌else◌}
+use Rattle.std.proofs.Math.Nat.{mul-le-mul_left}
+use Rattle.std.specs.List.{AllByRecursion}
+use Rattle.ir_tree.specs.declared.name.Name.{Name}
+use Rattle.ir_tree.specs.declared.tree.Function.{Function}
+use Rattle.ir_tree.specs.declared.module.Refused.{Refused}
+use Rattle.ir_tree.specs.declared.module.Entry.{Entry}
+use Rattle.ir_tree.specs.declared.module.Module.{Module}
+use Rattle.ir_tree.specs.Names.{same_name}
+use Rattle.ir_lexer.specs.Lexeme.{Lexeme}
+use Rattle.ir_items.specs.declared.item.Define.{Define}
+use Rattle.ir_items.specs.Items.{IsCut, nothing, other, define}
+use Rattle.ir_reader.specs.Judgeable.{HasSmallNumber, IsJudgeable, IsJudgeableEntry}
+use Rattle.ir_reader.specs.Module.{IsModule, AreEntries}
+use Rattle.points.specs.Pair.{Functions, same_signature}
+use Rattle.pair_judge.specs.Answers.{CanBeJudged}
+use Rattle.pair_judge.proofs.AllocaNumbers.{small_numbers}
+use Rattle.report.specs.Rows.{function_named}
+use Rattle.module_rows.specs.Judging.{pairs_in, judged_pairs}
+
+-- ---- the judge takes them
+
+abbrev Judgeable : Result Function Refused → Type 0
+Judgeable r = (f : Function) → r ≡ Ok f → IsJudgeable f
+
+abbrev NamedJudgeable : Option (Result Function Refused) → Type 0
+NamedJudgeable o = (f : Function) → o ≡ Some (Ok f) → IsJudgeable f
+
+all_append : {X : Type 0} (P : X → Type 0) (xs ys : List X) → AllByRecursion P xs → AllByRecursion P ys → AllByRecursion P (xs ++ ys)
+all_append P [] ys h k = k
+all_append P (x ∷ xs) ys h k = (h.0, all_append P xs ys h.1 k)
+
+pub some_is : {X : Type 0} (x y : X) → Some x ≡ Some y → x ≡ y
+some_is x y e = ap (λ o. Rattle.std.specs.Prelude.unwrap_or o x) e
+
+pub none≢some : {X : Type 0} (x : X) → None ≡ Some x → ⊥
+none≢some x e = true≢false (sym (ap (λ o. is_some o) e))
+
+named_judgeable : (targets : List Entry) (name : Name) → AllByRecursion IsJudgeableEntry targets → NamedJudgeable (function_named targets name)
+named_judgeable [] name all = λ f e. absurd (none≢some (Ok f) e)
+named_judgeable (t ∷ ts) name all = go (same_name name t.name) (named_judgeable ts name all.1)
+  where
+    go : (same : Bool) → NamedJudgeable (function_named ts name) → NamedJudgeable (if same then Some t.function else function_named ts name)
+    go true rest = λ f e. all.0 f (some_is t.function (Ok f) e)
+    go false rest = rest
+
+pair_judged : (source : Result Function Refused) (target : Option (Result Function Refused)) → Judgeable source → NamedJudgeable target → AllByRecursion CanBeJudged (pairs_in source target)
+pair_judged (Ok f) (Some (Ok g)) s t = go (same_signature f g)
+  where
+    can : CanBeJudged (record { source = f; target = g })
+    can =
+        let a = s f refl in
+        let b = t g refl in
+        record {
+          source_formed = a.well_formed;
+          target_formed = b.well_formed;
+          source_limits = a.limits;
+          target_limits = b.limits;
+          source_numbers = small_numbers HasSmallNumber (λ into number type align small. small) f a.numbers;
+          target_numbers = small_numbers HasSmallNumber (λ into number type align small. small) g b.numbers;
+        }
+
+    go : (same : Bool) → AllByRecursion CanBeJudged (if same then record { source = f; target = g } ∷ [] else [])
+    go true = (can, tt)
+    go false = tt
+pair_judged (Ok f) (Some (Err r)) s t = tt
+pair_judged (Ok f) None s t = tt
+pair_judged (Err r) (Some o) s t = tt
+pair_judged (Err r) None s t = tt
+
+pub pairs_judged : (targets sources : List Entry) → AllByRecursion IsJudgeableEntry targets → AllByRecursion IsJudgeableEntry sources → AllByRecursion CanBeJudged (judged_pairs targets sources)
+pairs_judged targets [] all each = tt
+pairs_judged targets (s ∷ ss) all each =
+    all_append CanBeJudged (pairs_in s.function (function_named targets s.name)) (judged_pairs targets ss)
+    (pair_judged s.function (function_named targets s.name) each.0 (named_judgeable targets s.name all)) (pairs_judged targets ss all each.1)
+
+-- ---- how many there are
+
+one_pair : (source : Result Function Refused) (target : Option (Result Function Refused)) → length (pairs_in source target) ≤ 1
+one_pair (Ok f) (Some (Ok g)) = go (same_signature f g)
+  where
+    go : (same : Bool) → length (let ps : List Functions = if same then record { source = f; target = g } ∷ [] else [] in ps) ≤ 1
+    go true = omega arith
+    go false = omega arith
+one_pair (Ok f) (Some (Err r)) = omega arith
+one_pair (Ok f) None = omega arith
+one_pair (Err r) (Some o) = omega arith
+one_pair (Err r) None = omega arith
+
+pub few_pairs : (targets sources : List Entry) → length (judged_pairs targets sources) ≤ length sources
+few_pairs targets [] = omega arith
+few_pairs targets (s ∷ ss) =
+    let one = one_pair s.function (function_named targets s.name) in
+    let others = few_pairs targets ss in
+    omega (arith, length-append (pairs_in s.function (function_named targets s.name)) (judged_pairs targets ss))
+
+-- ---- a module has at most 4,096 functions
+
+few_defines : (tokens : List Lexeme) (end : ℕ) (defines : List Define) → IsCut tokens end defines → length defines ≤ 4096
+few_defines tokens end defines nothing = omega arith
+few_defines tokens end defines (other cut is) = few_defines tokens _ _ cut
+few_defines tokens end defines (define {first = first} {name = name} {defines = before} cut is named new few) =
+    let last : Define = record { name = name; first = first; last = end - 1 } in
+    omega (arith, length-append before (last ∷ []))
+
+entries_as_defines : (tokens : List Lexeme) (defines : List Define) (m : List Entry) → AreEntries tokens defines m → length m ≡ length defines
+entries_as_defines tokens [] [] are = refl
+entries_as_defines tokens [] (e ∷ es) are = absurd are
+entries_as_defines tokens (d ∷ ds) [] are = absurd are
+entries_as_defines tokens (d ∷ ds) (e ∷ es) are = ap suc (entries_as_defines tokens ds es are.1)
+
+pub few_functions : (text : List ℕ) (m : Module) → IsModule text m → length m.entries ≤ 4096
+few_functions text m is =
+    let few = few_defines is.tokens (length is.tokens) is.defines is.cut in
+    let same = entries_as_defines is.tokens is.defines m.entries is.entries in
+    omega arith
+
+-- the driver's numbers fit where those of all functions do
+pub pairs_fit : (targets sources : List Entry) (workers : ℕ) → workers * (length sources + 1) < 2 ^ 64 → workers * (length (judged_pairs targets sources) + 1) < 2 ^ 64
+pairs_fit targets sources workers fits =
+    let few = few_pairs targets sources in
+    let within : length (judged_pairs targets sources) + 1 ≤ length sources + 1 = omega arith in
+    let less = mul-le-mul_left workers within in
+    omega arith

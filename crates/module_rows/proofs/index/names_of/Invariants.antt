@@ -1,0 +1,6 @@
+use Rattle.std.proofs.Common.{◌≡◌, take}
+use Rattle.module_rows.specs.Searching.{entry_names}
+use Rattle.module_rows.proofs.index.names_of.Given as goal
+
+abbrev pub invariant-loop-entry : goal.invariant-loop-entry
+invariant-loop-entry l = l.names ≡ take l.entry-index (entry_names l.entries)

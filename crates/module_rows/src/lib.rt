@@ -1,0 +1,13 @@
+//! The rows of two modules: what is found of each function of the source, and of each function of the
+//! target that the source does not define.
+//!
+//! It promises that the rows are those of the report, in its order: a pair of functions with one name and
+//! one signature has the verdict of its own answer, and a function that can't be judged has the row that
+//! says why. It stands on `pair_driver` and `pair_judge`, which judge the pairs, and on `replay`, which
+//! shows a counterexample; `tv_run` stands on it.
+#![tactic(auto)]
+
+mod index;
+mod rows;
+
+pub use rows::{Judgements, all_rows};

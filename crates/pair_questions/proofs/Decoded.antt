@@ -1,0 +1,248 @@
+-- Numbers that are the code of a point give its input and its tape back.
+use Rattle.std.proofs.Common.{ℕ, ◌≡◌, ◌+◌, ◌≤◌, true, List, [], ◌∷◌, ◌++◌, length, map, refl, ap, sym, ◌∙◌, arith, append_assoc}
+use Rattle.std.specs.List.{flat_map}
+use Rattle.std.proofs.lemmas.List.{map-append}
+use Rattle.ir_tree.specs.declared.tree.IrType.{IrType}
+use Rattle.ir_tree.specs.declared.tree.IrType.TheVariants as type
+use Rattle.ir_tree.specs.declared.tree.Parameter.{Parameter}
+use Rattle.ir_tree.specs.Pointers.{IsInteger}
+use Rattle.byte_block.specs.declared.value.BlockName.{BlockName}
+use Rattle.byte_block.specs.declared.value.BlockName.TheVariants.{Null, Given, Local}
+use Rattle.byte_block.specs.declared.value.Ptr.{Ptr}
+use Rattle.byte_block.specs.declared.value.Value.{Value}
+use Rattle.byte_block.specs.declared.value.Value.TheVariants as value
+use Rattle.byte_block.specs.declared.value.Byte.{Byte}
+use Rattle.byte_block.specs.declared.value.Byte.TheVariants as byte
+use Rattle.byte_block.specs.declared.block.MemoryBlock.{MemoryBlock}
+use Rattle.points.specs.declared.point.Input.{Input}
+use Rattle.points.specs.declared.point.Point.{Point}
+use Rattle.points.specs.declared.point.Shape.{Shape}
+use Rattle.points.specs.Code.{BlockFits, PointerFits, ValueFits, ArgsFit, ByteFits, BytesFit, BlocksFit, IsOfShape, name_digit, value_code, args_code, byte_code, places_code, blocks_code, code_of}
+use Rattle.points.proofs.Same.{blocks_count, sizes_of}
+use Rattle.bv_terms.specs.declared.term.TermId.{TermId}
+use Rattle.bv_terms.specs.declared.term.Term.{Term}
+use Rattle.bv_terms.specs.Tree.{truth}
+use Rattle.bv_terms.specs.Trees.{term_at}
+use Rattle.mem_terms.specs.declared.inputs.ArgTerms.{ArgTerms}
+use Rattle.mem_terms.specs.declared.inputs.ArgTerms.TheVariants as arg
+use Rattle.mem_terms.specs.declared.inputs.ByteTerms.{ByteTerms}
+use Rattle.mem_terms.specs.declared.inputs.InputTerms.{InputTerms}
+use Rattle.mem_terms.specs.declared.inputs.TapeTerms.{TapeTerms}
+use Rattle.mem_terms.specs.Values.{Each, block_name, reading, value_from, value_of}
+use Rattle.mem_terms.specs.Memory.{byte_of}
+use Rattle.mem_terms.specs.Inputs.{IsArg, AreArgs, IsBlockTerms, arg_at, args_at, given_block_at, given_blocks_at, given_byte_at, input_at, words_at}
+use Rattle.mem_terms.proofs.Eaches.{map-length}
+use Rattle.mem_terms.proofs.Naming.{given_named}
+use Rattle.refine_terms.specs.Numbers.{IsInputOf, arg_numbers, byte_numbers, block_numbers, numbers_at}
+use Rattle.pair_questions.specs.Shapes.{arg_ids, byte_ids, input_ids}
+
+-- ---- lists in two parts
+
+same_front : (a b c d : List ℕ) → length a ≡ length c → (a ++ b) ≡ (c ++ d) → (a ≡ c) × (b ≡ d)
+same_front [] b [] d l e = (refl, e)
+same_front [] b (y ∷ c) d l e = absurd (omega (arith, l))
+same_front (x ∷ a) b [] d l e = absurd (omega (arith, l))
+same_front (x ∷ a) b (y ∷ c) d l e =
+    let h : x ≡ y = cc in
+    let t : (a ++ b) ≡ (c ++ d) = cc in
+    let r = same_front a b c d (omega (arith, l)) t in
+    ((rw (h, r.0) refl), r.1)
+
+regrouped : (a b c d e f : List ℕ) → ((a ++ b) ++ c) ≡ ((d ++ e) ++ f) → (a ++ (b ++ c)) ≡ (d ++ (e ++ f))
+regrouped a b c d e f h = sym (append_assoc a b c) ∙ (h ∙ append_assoc d e f)
+
+-- a thing is read, and what is behind it is the same
+abbrev Reads : {A : Type 0} → (x y : A) → (ms ns : List ℕ) → Type 0
+Reads x y ms ns = (x ≡ y) × (ms ≡ ns)
+
+-- ---- pointers
+
+pub name_decoded : (blocks : ℕ) (b : BlockName) (n : ℕ) → BlockFits blocks b → name_digit blocks b ≡ n → b ≡ block_name blocks n
+name_decoded blocks Null n fits e = rw (sym e) refl
+name_decoded blocks (Given k) n fits e = rw (sym e) (sym (given_named blocks k (omega (arith, fits.0)) fits.1))
+name_decoded blocks (Local t p) n fits e = absurd fits
+
+ptr_is : (p : Ptr) (b : BlockName) (n : ℕ) → p.block ≡ b → p.offset ≡ n → p ≡ record { block = b; offset = n }
+ptr_is p b n e f = λ i. record { block = e i; offset = f i }
+
+pointer_decoded : (blocks : ℕ) (p : Ptr) (block offset : ℕ) → PointerFits blocks p → name_digit blocks p.block ≡ block → p.offset ≡ offset → p ≡ record { block = block_name blocks block; offset = offset }
+pointer_decoded blocks p block offset fits e f = ptr_is p (block_name blocks block) offset (name_decoded blocks p.block block fits.block e) f
+
+-- ---- arguments
+
+int_decoded : (blocks : ℕ) (t : IrType) (x : Value) (flag number : ℕ) (rest others : List ℕ) → IsInteger t → ValueFits blocks t x → (value_code blocks t x ++ rest) ≡ (flag ∷ number ∷ others)
+    → Reads x (value_from (truth flag) number) rest others
+int_decoded blocks (type.Int w) (value.Num n) flag number rest others i h e =
+    let f : flag ≡ 0 = cc in
+    let m : number ≡ n = cc in
+    let r : rest ≡ others = cc in
+    ((rw (f, m) refl), r)
+int_decoded blocks (type.Int w) value.Poison flag number rest others i h e =
+    let f : flag ≡ 1 = cc in
+    let r : rest ≡ others = cc in
+    ((rw f refl), r)
+int_decoded blocks (type.Int w) (value.Ptr p) flag number rest others i h e = absurd h
+int_decoded blocks type.Ptr x flag number rest others i h e = absurd i
+
+ptr_decoded : (blocks : ℕ) (x : Value) (flag block offset : ℕ) (rest others : List ℕ) → ValueFits blocks type.Ptr x → (value_code blocks type.Ptr x ++ rest) ≡ (flag ∷ block ∷ offset ∷ others)
+    → Reads x (value_of (truth flag) true (block_name blocks block) offset) rest others
+ptr_decoded blocks (value.Ptr p) flag block offset rest others h e =
+    let f : flag ≡ 0 = cc in
+    let b : name_digit blocks p.block ≡ block = cc in
+    let o : p.offset ≡ offset = cc in
+    let r : rest ≡ others = cc in
+    ((rw f (ap value.Ptr (pointer_decoded blocks p block offset h b o))), r)
+ptr_decoded blocks value.Poison flag block offset rest others h e =
+    let f : flag ≡ 1 = cc in
+    let r : rest ≡ others = cc in
+    ((rw f refl), r)
+ptr_decoded blocks (value.Num n) flag block offset rest others h e = absurd h
+
+pair_of : {A : Type 0} (x y : A) (xs ys : List A) → x ≡ y → xs ≡ ys → (x ∷ xs) ≡ (y ∷ ys)
+pair_of x y xs ys e f = cc
+
+module _ (v : ℕ → ℕ → ℕ) (terms : List Term) (blocks : ℕ) where
+  arg_decoded : (t : IrType) (x : Value) (a : ArgTerms) (rest others : List ℕ) → ValueFits blocks t x → IsArg terms t a → (value_code blocks t x ++ rest) ≡ (arg_numbers v terms a ++ others) → Reads x (arg_at (reading blocks v) terms a) rest others
+  arg_decoded (type.Int w) x (arg.Int flag number) rest others h is e = int_decoded blocks (type.Int w) x (term_at v terms flag) (term_at v terms number) rest others tt h e
+  arg_decoded type.Ptr x (arg.Ptr flag block offset) rest others h is e = ptr_decoded blocks x (term_at v terms flag) (term_at v terms block) (term_at v terms offset) rest others h e
+  arg_decoded (type.Int w) x (arg.Ptr flag block offset) rest others h is e = absurd is
+  arg_decoded type.Ptr x (arg.Int flag number) rest others h is e = absurd is
+
+  args_decoded : (ps : List Parameter) (xs : List Value) (args : List ArgTerms) (rest others : List ℕ) → ArgsFit blocks ps xs → AreArgs terms ps args → (args_code blocks ps xs ++ rest) ≡ (flat_map (arg_numbers v terms) args ++ others)
+      → Reads xs (args_at (reading blocks v) terms args) rest others
+  args_decoded [] [] [] rest others h are e = (refl, e)
+  args_decoded (p ∷ ps) (x ∷ xs) (a ∷ more) rest others h are e =
+      let e' = regrouped (value_code blocks p.of_type x) (args_code blocks ps xs) rest (arg_numbers v terms a) (flat_map (arg_numbers v terms) more) others e in
+      let here = arg_decoded p.of_type x a (args_code blocks ps xs ++ rest) (flat_map (arg_numbers v terms) more ++ others) h.0 are.0 e' in
+      let behind = args_decoded ps xs more rest others h.1 are.1 here.1 in
+      (pair_of x (arg_at (reading blocks v) terms a) xs (args_at (reading blocks v) terms more) here.0 behind.0, behind.1)
+  args_decoded [] (x ∷ xs) args rest others h are e = absurd h
+  args_decoded (p ∷ ps) [] args rest others h are e = absurd h
+  args_decoded [] [] (a ∷ more) rest others h are e = absurd are
+  args_decoded (p ∷ ps) (x ∷ xs) [] rest others h are e = absurd are
+
+-- ---- bytes
+
+two : {A B C : Type 0} (f : A → B → C) {x x' : A} {y y' : B} → x ≡ x' → y ≡ y' → f x y ≡ f x' y'
+two f e g = cc
+
+byte_decoded : (blocks : ℕ) (b : Byte) (kind number block offset part : ℕ) (rest others : List ℕ) → ByteFits blocks b → (byte_code blocks b ++ rest) ≡ (kind ∷ number ∷ block ∷ offset ∷ part ∷ others)
+    → Reads b (byte_of kind number (record { block = block_name blocks block; offset = offset }) part) rest others
+byte_decoded blocks (byte.Num n) kind number block offset part rest others h e =
+    let k : kind ≡ 0 = cc in
+    let m : number ≡ n = cc in
+    let r : rest ≡ others = cc in
+    ((rw (k, m) refl), r)
+byte_decoded blocks (byte.Part p i) kind number block offset part rest others h e =
+    let k : kind ≡ 1 = cc in
+    let b : name_digit blocks p.block ≡ block = cc in
+    let o : p.offset ≡ offset = cc in
+    let q : i ≡ part = cc in
+    let r : rest ≡ others = cc in
+    let whole : p ≡ record { block = block_name blocks block; offset = offset } = pointer_decoded blocks p block offset h.0 b o in
+    ((rw k (two byte.Part whole q)), r)
+byte_decoded blocks byte.Poison kind number block offset part rest others h e =
+    let k : kind ≡ 2 = cc in
+    let r : rest ≡ others = cc in
+    ((rw k refl), r)
+
+module _ (v : ℕ → ℕ → ℕ) (terms : List Term) (blocks : ℕ) where
+  place_decoded : (b : Byte) (place : ByteTerms) (rest others : List ℕ) → ByteFits blocks b → (byte_code blocks b ++ rest) ≡ (byte_numbers v terms place ++ others) → Reads b (given_byte_at (reading blocks v) terms place) rest others
+  unfolding given_byte_at
+  place_decoded b place rest others h e =
+      byte_decoded blocks b (term_at v terms place.kind) (term_at v terms place.number) (term_at v terms place.block) (term_at v terms place.offset) (term_at v terms place.part) rest others h e
+
+  bytes_decoded : (bs : List Byte) (places : List ByteTerms) (rest others : List ℕ) → length bs ≡ length places → BytesFit blocks bs → (flat_map (byte_code blocks) bs ++ rest) ≡ (block_numbers v terms places ++ others)
+      → Reads bs (map (given_byte_at (reading blocks v) terms) places) rest others
+  bytes_decoded [] [] rest others long h e = (refl, e)
+  bytes_decoded (b ∷ bs) (p ∷ ps) rest others long h e =
+      let e' = regrouped (byte_code blocks b) (flat_map (byte_code blocks) bs) rest (byte_numbers v terms p) (block_numbers v terms ps) others e in
+      let here = place_decoded b p (flat_map (byte_code blocks) bs ++ rest) (block_numbers v terms ps ++ others) h.0 e' in
+      let behind = bytes_decoded bs ps rest others (omega (arith, long)) h.1 here.1 in
+      (pair_of b (given_byte_at (reading blocks v) terms p) bs (map (given_byte_at (reading blocks v) terms) ps) here.0 behind.0, behind.1)
+  bytes_decoded [] (p ∷ ps) rest others long h e = absurd (omega (arith, long))
+  bytes_decoded (b ∷ bs) [] rest others long h e = absurd (omega (arith, long))
+
+-- ---- blocks
+
+-- the last of them has the last number
+pub named_within : (blocks bytes number : ℕ) (bs : List MemoryBlock) → BlocksFit blocks bytes number bs → number + length bs ≡ blocks + 1
+named_within blocks bytes number [] h = omega (arith, h)
+named_within blocks bytes number (b ∷ bs) h = let more = named_within blocks bytes (number + 1) bs h.1 in omega (arith, more)
+
+pub block_is : (b : MemoryBlock) (name : BlockName) (size : ℕ) (places : List Byte) → b.name ≡ name → b.size ≡ size → b.align ≡ 16 → b.places ≡ places → b ≡ record { name = name; size = size; align = 16; places = places }
+block_is b name size places e f g h = λ i. record { name = e i; size = f i; align = g i; places = h i }
+
+module _ (v : ℕ → ℕ → ℕ) (terms : List Term) (blocks : ℕ) where
+  blocks_decoded : (bytes number : ℕ) (bs : List MemoryBlock) (sizes : List TermId) (places : List (List ByteTerms)) (rest others : List ℕ) → BlocksFit blocks bytes number bs → 1 ≤ number → sizes_of bs ≡ map (term_at v terms) sizes → length bs ≡ length places
+      → Each (IsBlockTerms bytes terms) places → (flat_map (places_code blocks) bs ++ rest) ≡ (flat_map (block_numbers v terms) places ++ others)
+      → Reads bs (given_blocks_at (reading blocks v) terms number sizes places) rest others
+  blocks_decoded bytes number [] [] [] rest others h low s long are e = (refl, e)
+  blocks_decoded bytes number (b ∷ bs) (z ∷ zs) (p ∷ ps) rest others h low s long are e =
+      let e' = regrouped (places_code blocks b) (flat_map (places_code blocks) bs) rest (block_numbers v terms p) (flat_map (block_numbers v terms) ps) others e in
+      let here = bytes_decoded v terms blocks b.places p (flat_map (places_code blocks) bs ++ rest) (flat_map (block_numbers v terms) ps ++ others) (h.0.room ∙ sym are.0.count) h.0.fit e' in
+      let size : b.size ≡ term_at v terms z = cc in
+      let sizes : sizes_of bs ≡ map (term_at v terms) zs = cc in
+      let last = named_within blocks bytes number (b ∷ bs) h in
+      let name : b.name ≡ block_name blocks number = h.0.named ∙ sym (given_named blocks number (omega (arith, low)) (omega (arith, last))) in
+      let behind = blocks_decoded bytes (number + 1) bs zs ps rest others h.1 (omega arith) sizes (omega (arith, long)) are.1 here.1 in (
+        pair_of b (given_block_at (reading blocks v) terms number z p) bs (given_blocks_at (reading blocks v) terms (number + 1) zs ps)
+            (block_is b (block_name blocks number) (term_at v terms z) (map (given_byte_at (reading blocks v) terms) p) name size h.0.aligned here.0) behind.0,
+        behind.1,
+      )
+  blocks_decoded bytes number [] (z ∷ zs) places rest others h low s long are e = absurd (let x : ⊥ = cc in x)
+  blocks_decoded bytes number (b ∷ bs) [] places rest others h low s long are e = absurd (let x : ⊥ = cc in x)
+  blocks_decoded bytes number [] [] (p ∷ ps) rest others h low s long are e = absurd (omega (arith, long))
+  blocks_decoded bytes number (b ∷ bs) (z ∷ zs) [] rest others h low s long are e = absurd (omega (arith, long))
+
+-- ---- points
+
+input_is : (p : Input) (args : List Value) (blocks : List MemoryBlock) → p.args ≡ args → p.blocks ≡ blocks → p ≡ record { args = args; blocks = blocks }
+input_is p args blocks e f = λ i. record { args = e i; blocks = f i }
+
+pub decoded : (v : ℕ → ℕ → ℕ) (terms : List Term) (s : Shape) (input : InputTerms) (tape : TapeTerms) (p : Point) → IsInputOf s terms input → IsOfShape s p
+    → code_of s.blocks s.parameters p ≡ numbers_at v terms input tape → (p.input ≡ input_at (reading s.blocks v) terms input) × (p.tape ≡ words_at v terms tape.words)
+decoded v terms s input tape p h of_shape e =
+    let bs = p.input.blocks in
+    let sizes = map (term_at v terms) input.sizes in
+    let places = flat_map (block_numbers v terms) input.places in
+    let words = words_at v terms tape.words in
+    let count = blocks_count s.blocks s.bytes bs of_shape.given in
+    let args = args_decoded v terms s.blocks s.parameters p.input.args input.args (blocks_code s.blocks bs ++ p.tape) (sizes ++ (places ++ words)) of_shape.args h.args e in
+    let long : length (sizes_of bs) ≡ length sizes = map-length (λ (b : MemoryBlock). b.size) bs ∙ (count ∙ (sym h.size_count ∙ sym (map-length (term_at v terms) input.sizes))) in
+    let parts = same_front (sizes_of bs) (flat_map (places_code s.blocks) bs ++ p.tape) sizes (places ++ words) long (sym (append_assoc (sizes_of bs) (flat_map (places_code s.blocks) bs) p.tape) ∙ args.1) in
+    let blocks = blocks_decoded v terms s.blocks s.bytes 1 bs input.sizes input.places p.tape words of_shape.given (omega arith) parts.0 (count ∙ sym h.block_count) h.places parts.1 in
+    (input_is p.input (args_at (reading s.blocks v) terms input.args) (given_blocks_at (reading s.blocks v) terms 1 input.sizes input.places) args.0 blocks.0, blocks.1)
+
+-- ---- the numbers are those of the terms in order
+
+args_numbered : (v : ℕ → ℕ → ℕ) (terms : List Term) (args : List ArgTerms) → map (term_at v terms) (flat_map arg_ids args) ≡ flat_map (arg_numbers v terms) args
+args_numbered v terms [] = refl
+args_numbered v terms (arg.Int flag number ∷ rest) = ap (λ ns. term_at v terms flag ∷ term_at v terms number ∷ ns) (args_numbered v terms rest)
+args_numbered v terms (arg.Ptr flag block offset ∷ rest) = ap (λ ns. term_at v terms flag ∷ term_at v terms block ∷ term_at v terms offset ∷ ns) (args_numbered v terms rest)
+
+block_numbered : (v : ℕ → ℕ → ℕ) (terms : List Term) (places : List ByteTerms) → map (term_at v terms) (flat_map byte_ids places) ≡ block_numbers v terms places
+block_numbered v terms [] = refl
+block_numbered v terms (b ∷ rest) =
+    ap (λ ns. term_at v terms b.kind ∷ term_at v terms b.number ∷ term_at v terms b.block ∷ term_at v terms b.offset ∷ term_at v terms b.part ∷ ns) (block_numbered v terms rest)
+
+joined : (a b c d : List ℕ) → a ≡ b → c ≡ d → (a ++ c) ≡ (b ++ d)
+joined a b c d e f = cc
+
+blocks_numbered : (v : ℕ → ℕ → ℕ) (terms : List Term) (places : List (List ByteTerms)) → map (term_at v terms) (flat_map (flat_map byte_ids) places) ≡ flat_map (block_numbers v terms) places
+blocks_numbered v terms [] = refl
+blocks_numbered v terms (x ∷ rest) =
+    map-append (term_at v terms) (flat_map byte_ids x) (flat_map (flat_map byte_ids) rest)
+    ∙ joined (map (term_at v terms) (flat_map byte_ids x)) (block_numbers v terms x) (map (term_at v terms) (flat_map (flat_map byte_ids) rest)) (flat_map (block_numbers v terms) rest)
+    (block_numbered v terms x) (blocks_numbered v terms rest)
+
+pub numbers_in_order : (v : ℕ → ℕ → ℕ) (terms : List Term) (input : InputTerms) (tape : TapeTerms) → map (term_at v terms) (input_ids input ++ tape.words) ≡ numbers_at v terms input tape
+numbers_in_order v terms input tape =
+    let args = flat_map arg_ids input.args in
+    let places = flat_map (flat_map byte_ids) input.places in
+    let f : TermId → ℕ = term_at v terms in
+    map-append f (args ++ (input.sizes ++ places)) tape.words
+    ∙ (ap (λ ns. ns ++ map f tape.words) (map-append f args (input.sizes ++ places) ∙ joined (map f args) (flat_map (arg_numbers v terms) input.args) (map f (input.sizes ++ places)) (map f input.sizes ++ flat_map (block_numbers v terms) input.places)
+    (args_numbered v terms input.args) (map-append f input.sizes places ∙ ap (λ ns. map f input.sizes ++ ns) (blocks_numbered v terms input.places)))
+    ∙ (append_assoc (flat_map (arg_numbers v terms) input.args) (map f input.sizes ++ flat_map (block_numbers v terms) input.places) (map f tape.words)
+    ∙ ap (λ ns. flat_map (arg_numbers v terms) input.args ++ ns) (append_assoc (map f input.sizes) (flat_map (block_numbers v terms) input.places) (map f tape.words))))

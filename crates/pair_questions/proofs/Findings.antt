@@ -1,0 +1,161 @@
+-- What is found of numbers is found of points and of tapes.
+use Rattle.std.proofs.Common.{◌≡◌, ◌↔◌, ℕ, ◌+◌, ◌<◌, inl, inr, Bool, true, false, List, [], ◌++◌, map, slice_index, Option, Some, refl, sym, ap, subst, ◌∙◌, arith}
+use Rattle.std.proofs.lemmas.Bool.{cases_Bool}
+use Rattle.bv_terms.specs.declared.term.TermId.{TermId}
+use Rattle.bv_terms.specs.declared.term.Term.{Term}
+use Rattle.bv_terms.specs.Trees.{AreFit, term_at}
+use Rattle.clause_lits.specs.declared.cnf.Cnf.{Cnf}
+use Rattle.clause_log.specs.declared.step.Cert.{Cert}
+use Rattle.points.specs.declared.point.Bounds.{Bounds}
+use Rattle.points.specs.declared.point.Point.{Point}
+use Rattle.points.specs.declared.point.Shape.{Shape}
+use Rattle.points.specs.Pair.{Functions}
+use Rattle.points.specs.Code.{IsOfShape, code_of, number_of}
+use Rattle.points.specs.Codes.{IsCode}
+use Rattle.points.specs.Covers.{covers, is_covered}
+use Rattle.points.specs.Tapes.{need_of}
+use Rattle.points.specs.Trail.{AreAllCovered, IsLeastUncovered, IsPoint}
+use Rattle.points.proofs.Decoded.{codes_tell_points}
+use Rattle.answer_order.specs.Fronts.{Fits, IsLeast, NonePass, numbers_of}
+use Rattle.answer_order.proofs.Binary.{fits-numbers}
+use Rattle.mem_terms.specs.declared.inputs.InputTerms.{InputTerms}
+use Rattle.mem_terms.specs.declared.inputs.TapeTerms.{TapeTerms}
+use Rattle.mem_terms.specs.Inputs.{words_at}
+use Rattle.refine_terms.specs.Deciding.{Decides}
+use Rattle.refine_terms.specs.Numbers.{numbers_at}
+use Rattle.unroll.specs.Small.{AreSmall}
+use Rattle.pair_questions.specs.declared.found.Found.{Found}
+use Rattle.pair_questions.specs.declared.found.Found.TheVariants as found
+use Rattle.pair_questions.specs.Numbers.{AsksNumbers, IsFoundNumbers, IsRefutedTest, IsSpentTest, looked_up, number_test}
+use Rattle.pair_questions.specs.Orders.{AreNumbered}
+use Rattle.pair_questions.specs.Questions.{AsksFor, IsCovering, IsFoundCode, IsFoundTape, IsLeastCode, IsRefuted, IsSpentOn, IsUncovered, point_widths, tape_widths}
+use Rattle.pair_questions.specs.Shapes.{IsShapeOf, input_ids}
+use Rattle.pair_questions.proofs.Decoded.{numbers_in_order}
+use Rattle.pair_questions.proofs.Fitting.{fit_words, of_shape, point_fits, words_fit}
+use Rattle.pair_questions.proofs.Numbered.{numbers-looked}
+
+-- ---- answers, whatever they are
+
+-- of numbers of these widths exactly the answers pass the test
+abbrev pub Passes : (List ℕ → Bool) → List ℕ → (List ℕ → Type 0) → Type 0
+Passes test widths Answer = (numbers : List ℕ) → Fits widths numbers → (test numbers ≡ true) ↔ Answer numbers
+
+module _ (test : List ℕ → Bool) (widths : List ℕ) (Answer : List ℕ → Type 0) (passes : Passes test widths Answer) where
+  asks_for : (cnf : Cnf) → AsksNumbers test widths cnf → AsksFor Answer widths cnf
+  asks_for cnf h = record {
+    test = h.of_digits;
+    asks = h.asks;
+    means = λ digits long.
+        let same = h.means digits long in
+        let both = passes (numbers_of widths digits) (fits-numbers widths digits long) in
+        ((λ p. both.0 (sym same ∙ p)), (λ a. same ∙ both.1 a));
+  }
+
+  pub refuted_for : (cert : Cert) → IsRefutedTest test widths cert → IsRefuted Answer widths cert
+  refuted_for cert h = record { asks = asks_for cert.cnf h.asks; refutes = h.refutes; careful = h.careful; small = h.small }
+
+  pub spent_for : (limit : Option ℕ) (cert : Cert) → (n : ℕ) × (limit ≡ Some n) × IsSpentTest test widths n cert → (n : ℕ) × (limit ≡ Some n) × IsSpentOn Answer widths n cert
+  spent_for limit cert h = (h.0, h.1, record { asks = asks_for cert.cnf h.2.asks; spent = h.2.spent; small = h.2.small })
+
+-- ---- points
+
+module _ (pair : Functions) (bounds : Bounds) (s : Shape) (is : IsShapeOf pair bounds s) (small : AreSmall bounds) (tapes : List (List ℕ)) (test : List ℕ → Bool)
+    (passes : Passes test (point_widths pair bounds) (IsUncovered pair bounds tapes)) where
+  abbrev code : Point → List ℕ
+  code p = code_of bounds.blocks pair.target.parameters p
+
+  fits : (q : Point) → IsPoint pair bounds q → Fits (point_widths pair bounds) (code q)
+  fits q h = point_fits pair bounds s is small q h
+
+  -- a point whose code the test refuses is covered
+  refused : (q : Point) → IsPoint pair bounds q → test (code q) ≡ false → is_covered pair bounds tapes q ≡ true
+  refused q h fails = elim (cases_Bool (is_covered pair bounds tapes q)) [
+    | inl covered ↦ covered
+    | inr uncovered ↦
+        let passed : test (code q) ≡ true = (passes (code q) (fits q h)).1 (record { of = q; point = h; code = refl; uncovered = uncovered }) in
+        absurd (let z : ⊥ = cc in z)
+  ]
+
+  all_covered : NonePass test (point_widths pair bounds) → AreAllCovered pair bounds tapes
+  all_covered none q h = refused q h (none (code q) (fits q h))
+
+  -- a code of the shape is the code of one point
+  one_point : (digits : List ℕ) (p q : Point) → IsOfShape s p → IsOfShape s q → code_of s.blocks s.parameters p ≡ digits → code_of s.blocks s.parameters q ≡ digits → p ≡ q
+  one_point digits p q of_p of_q e f =
+      let tells = codes_tell_points s in
+      let one = tells.points digits (subst (λ (ds : List ℕ). IsCode s ds) e (tells.codes p of_p)) in
+      one.1.only p of_p e ∙ sym (one.1.only q of_q f)
+
+  shape_code : (p : Point) → code_of s.blocks s.parameters p ≡ code p
+  shape_code p = ap (λ b. code_of b s.parameters p) is.blocks ∙ ap (λ ps. code_of bounds.blocks ps p) is.parameters
+
+  least_point : (digits : List ℕ) → IsLeast test (point_widths pair bounds) digits → IsLeastCode pair bounds s tapes digits
+  least_point digits least =
+      let u = (passes digits least.fits).0 least.passes in
+      let shaped = of_shape pair bounds s is u.of u.point in
+      let coded : code_of s.blocks s.parameters u.of ≡ digits = shape_code u.of ∙ u.code in
+      record {
+        of_shape = subst (λ (ds : List ℕ). IsCode s ds) coded ((codes_tell_points s).codes u.of shaped);
+        least = λ p of_p e. subst (λ (q : Point). IsLeastUncovered pair bounds tapes q) (one_point digits u.of p shaped of_p coded e) (record {
+          point = u.point;
+          uncovered = u.uncovered;
+          least = λ q h lt. refused q h (least.least (code q) (fits q h) (subst (λ ds. number_of (code q) < number_of ds) u.code lt));
+        });
+      }
+
+  pub found_code : (limit : Option ℕ) (found : Found (List ℕ)) → IsFoundNumbers test (point_widths pair bounds) limit found → IsFoundCode pair bounds s tapes limit found
+  found_code limit (found.Least digits) h = least_point digits h
+  found_code limit (found.None cert) h = (all_covered h.0, refuted_for test (point_widths pair bounds) (IsUncovered pair bounds tapes) passes cert h.1)
+  found_code limit (found.Spent cert) h = spent_for test (point_widths pair bounds) (IsUncovered pair bounds tapes) passes limit cert h
+
+-- ---- tapes
+
+module _ (pair : Functions) (bounds : Bounds) (p : Point) (test : List ℕ → Bool) (passes : Passes test (tape_widths pair bounds) (IsCovering pair bounds p)) where
+  abbrev need : ℕ
+  need = need_of bounds.turns pair.source
+
+  -- a tape that the test refuses doesn't cover the point
+  no_cover : (tape : List ℕ) → Fits (tape_widths pair bounds) tape → test tape ≡ false → covers pair bounds p tape ≡ false
+  no_cover tape within fails = elim (cases_Bool (covers pair bounds p tape)) [
+    | inl cover ↦
+        let passed : test tape ≡ true = (passes tape within).1 (record { fits = fit_words need tape within; cover = cover }) in
+        absurd (let z : ⊥ = cc in z)
+    | inr none ↦ none
+  ]
+
+  pub found_tape : (limit : Option ℕ) (found : Found (List ℕ)) → IsFoundNumbers test (tape_widths pair bounds) limit found → IsFoundTape pair bounds p limit found
+  found_tape limit (found.Least tape) h =
+      let c = (passes tape h.fits).0 h.passes in
+      record { fits = c.fits; cover = c.cover; least = λ other w lt. let within = words_fit 64 need other (omega arith) w in no_cover other within (h.least other within lt) }
+  found_tape limit (found.None cert) h =
+      ((λ tape w. let within = words_fit 64 need tape (omega arith) w in no_cover tape within (h.0 tape within)), refuted_for test (tape_widths pair bounds) (IsCovering pair bounds p) passes cert h.1)
+  found_tape limit (found.Spent cert) h = spent_for test (tape_widths pair bounds) (IsCovering pair bounds p) passes limit cert h
+
+-- ---- tests
+
+-- the numbers of an order under the numbers that are looked up are these
+looked_at : (terms : List Term) (order : List TermId) (widths numbers : List ℕ) → AreFit [] terms → AreNumbered terms 0 order widths → Fits widths numbers → map (term_at (looked_up numbers) terms) order ≡ numbers
+looked_at terms order widths numbers fit numbered fits =
+    numbers-looked terms 0 order widths (looked_up numbers) numbers fit numbered (λ i width. let e : 0 + i ≡ i = omega arith in ap (slice_index numbers) e) fits
+
+module _ (old new : List Term) (goal : TermId) (order : List TermId) (widths : List ℕ) (fit : AreFit [] old) (numbered : AreNumbered old 0 order widths) where
+  pub point_passes : (input : InputTerms) (tape : TapeTerms) (Answer : List ℕ → Type 0) → order ≡ input_ids input ++ tape.words → Decides new goal (λ v. Answer (numbers_at v old input tape))
+      → Passes (number_test new goal) widths Answer
+  point_passes input tape Answer ids decides numbers fits =
+      let v = looked_up numbers in
+      let same : numbers_at v old input tape ≡ numbers = sym (numbers_in_order v old input tape) ∙ (sym (ap (map (term_at v old)) ids) ∙ looked_at old order widths numbers fit numbered fits) in
+      subst (λ (ns : List ℕ). (number_test new goal numbers ≡ true) ↔ Answer ns) same (decides.1 v)
+
+  pub tape_passes : (tape : TapeTerms) (Answer : List ℕ → Type 0) → order ≡ tape.words → Decides new goal (λ v. Answer (words_at v old tape.words)) → Passes (number_test new goal) widths Answer
+  tape_passes tape Answer ids decides numbers fits =
+      let v = looked_up numbers in
+      let same : words_at v old tape.words ≡ numbers = sym (ap (map (term_at v old)) ids) ∙ looked_at old order widths numbers fit numbered fits in
+      subst (λ (ns : List ℕ). (number_test new goal numbers ≡ true) ↔ Answer ns) same (decides.1 v)
+
+-- ---- what is answered
+
+pub ids_are : (first second third inputs words : List TermId) → first ≡ [] → second ≡ first ++ inputs → third ≡ second ++ words → third ≡ inputs ++ words
+ids_are first second third inputs words e f g = g ∙ ap (λ xs. xs ++ words) (f ∙ ap (λ xs. xs ++ inputs) e)
+
+pub words_are : (first second words : List TermId) → first ≡ [] → second ≡ first ++ words → second ≡ words
+words_are first second words e f = f ∙ ap (λ xs. xs ++ words) e

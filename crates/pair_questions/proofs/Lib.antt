@@ -1,0 +1,16 @@
+mod Answered
+mod Decoded
+mod Encoding
+mod Excluding
+mod Extending
+mod Findings
+mod Fitting
+mod Knowing
+mod Mentioned
+mod Moved
+mod Numbered
+mod Ordered
+mod SameTapes
+mod Shifting
+mod Trying
+mod Uncovering

@@ -1,0 +1,278 @@
+-- The goals of the two questions are true exactly on their answers.
+use Rattle.std.proofs.Common.{ℕ, ◌≡◌, ◌↔◌, Bool, true, false, not, ◌&&◌, ◌||◌, List, [], ◌∷◌, ◌++◌, length, append-nil, refl, ap, sym, subst, ◌∙◌}
+use Rattle.std.specs.List.{flat_map}
+use Rattle.std.proofs.lemmas.Bool.{eqb-true}
+use Rattle.ir_tree.specs.declared.tree.IrType.{IrType}
+use Rattle.ir_tree.specs.declared.tree.IrType.TheVariants.{Int, Ptr}
+use Rattle.ir_tree.specs.declared.tree.Parameter.{Parameter}
+use Rattle.ir_tree.specs.declared.tree.Function.{Function}
+use Rattle.points.specs.declared.point.Bounds.{Bounds}
+use Rattle.points.specs.declared.point.Input.{Input}
+use Rattle.points.specs.declared.point.Point.{Point}
+use Rattle.points.specs.declared.point.Shape.{Shape}
+use Rattle.points.specs.declared.outcome.Outcome.{Outcome}
+use Rattle.points.specs.Pair.{Functions, same_type, same_types, same_return, same_signature}
+use Rattle.points.specs.Code.{WordsFit, IsOfShape, code_of}
+use Rattle.points.specs.Codes.{IsCode}
+use Rattle.points.specs.Covers.{covers, some_covers, shifted, is_covered}
+use Rattle.points.specs.Refines.{is_refined}
+use Rattle.points.specs.Run.{run_of, IsPlain}
+use Rattle.points.specs.Tapes.{need_of}
+use Rattle.points.specs.Trail.{IsPoint}
+use Rattle.points.proofs.Decoded.{codes_tell_points}
+use Rattle.bv_terms.specs.declared.term.TermId.{TermId}
+use Rattle.bv_terms.specs.declared.term.Term.{Term}
+use Rattle.bv_terms.specs.Trees.{AreInRange, IsTerm, Keeps, Tests, bit_at, term_at}
+use Rattle.mem_terms.specs.declared.inputs.ArgTerms.{ArgTerms}
+use Rattle.mem_terms.specs.declared.inputs.ArgTerms.TheVariants as arg
+use Rattle.mem_terms.specs.declared.inputs.ByteTerms.{ByteTerms}
+use Rattle.mem_terms.specs.declared.inputs.InputTerms.{InputTerms}
+use Rattle.mem_terms.specs.declared.inputs.TapeTerms.{TapeTerms}
+use Rattle.mem_terms.specs.declared.outcome.OutcomeTerms.{OutcomeTerms}
+use Rattle.mem_terms.specs.Values.{Each, reading}
+use Rattle.mem_terms.specs.Inputs.{IsArg, AreArgs, AreWords, IsInput, IsByteTerms, IsBlockTerms, input_at, words_at}
+use Rattle.mem_terms.specs.Outcomes.{Shows}
+use Rattle.mem_terms.proofs.Bits.{term-below}
+use Rattle.mem_terms.proofs.Eaches.{map-same}
+use Rattle.mem_terms.proofs.Later.{keeps_trans, term-later, input_at-later, words_at-later, outcome-later}
+use Rattle.refine_terms.specs.Deciding.{Decides}
+use Rattle.refine_terms.specs.Numbers.{IsInputOf, IsTapeOf, arg_numbers, byte_numbers, block_numbers, numbers_at}
+use Rattle.pair_questions.specs.Candidates.{input_in, none_allows, outcome_in}
+use Rattle.pair_questions.specs.Questions.{IsCovering, IsUncovered}
+use Rattle.pair_questions.specs.Shapes.{IsShapeOf}
+use Rattle.pair_questions.specs.Subjects.{IsOfTarget}
+use Rattle.pair_questions.proofs.Decoded.{decoded}
+
+pub and_left : (a b : Bool) → (a && b) ≡ true → a ≡ true
+and_left true b h = refl
+and_left false b h = h
+
+pub and_right : (a b : Bool) → (a && b) ≡ true → b ≡ true
+and_right true b h = h
+and_right false b h = absurd (let x : ⊥ = cc in x)
+
+pub and_both : (a b : Bool) → a ≡ true → b ≡ true → (a && b) ≡ true
+and_both a b p q = rw (p, q) refl
+
+two : {A B C : Type 0} (f : A → B → C) {x x' : A} {y y' : B} → x ≡ x' → y ≡ y' → f x y ≡ f x' y'
+two f e g = cc
+
+three : {A B C D : Type 0} (f : A → B → C → D) {x x' : A} {y y' : B} {z z' : C} → x ≡ x' → y ≡ y' → z ≡ z' → f x y z ≡ f x' y' z'
+three f e g h = cc
+
+-- ---- arguments of both functions
+
+arg_alike : (terms : List Term) (t u : IrType) (a : ArgTerms) → same_type t u ≡ true → IsArg terms u a → IsArg terms t a
+arg_alike terms (Int v) (Int w) (arg.Int flag number) e h = (h.0, subst (λ n. IsTerm terms n number) (sym (eqb-true v.bits w.bits e)) h.1)
+arg_alike terms (Int v) (Int w) (arg.Ptr flag block offset) e h = absurd h
+arg_alike terms (Int v) Ptr a e h = absurd (let z : ⊥ = cc in z)
+arg_alike terms Ptr (Int w) a e h = absurd (let z : ⊥ = cc in z)
+arg_alike terms Ptr Ptr a e h = h
+
+args_alike : (terms : List Term) (ps qs : List Parameter) (args : List ArgTerms) → same_types ps qs ≡ true → AreArgs terms qs args → AreArgs terms ps args
+args_alike terms [] [] args e h = h
+args_alike terms (p ∷ ps) (q ∷ qs) (a ∷ rest) e h = (
+  arg_alike terms p.of_type q.of_type a (and_left (same_type p.of_type q.of_type) (same_types ps qs) e) h.0,
+  args_alike terms ps qs rest (and_right (same_type p.of_type q.of_type) (same_types ps qs) e) h.1,
+)
+args_alike terms (p ∷ ps) (q ∷ qs) [] e h = absurd h
+args_alike terms [] (q ∷ qs) args e h = absurd (let z : ⊥ = cc in z)
+args_alike terms (p ∷ ps) [] args e h = absurd (let z : ⊥ = cc in z)
+
+-- an input of the target is one of the source
+pub source_input : (terms : List Term) (f g : Function) (blocks bytes : ℕ) (input : InputTerms) → same_signature f g ≡ true → IsInput g.parameters blocks bytes terms input → IsInput f.parameters blocks bytes terms input
+source_input terms f g blocks bytes input e h = record {
+  args = args_alike terms f.parameters g.parameters input.args (and_right (same_return f.returns g.returns) (same_types f.parameters g.parameters) e) h.args;
+  size_count = h.size_count;
+  sizes = h.sizes;
+  block_count = h.block_count;
+  places = h.places;
+}
+
+-- an input of the shape is one of the target
+pub shape_input : (pair : Functions) (bounds : Bounds) (s : Shape) (terms : List Term) (input : InputTerms) → IsShapeOf pair bounds s → IsInputOf s terms input → IsInput pair.target.parameters bounds.blocks bounds.bytes terms input
+shape_input pair bounds s terms input is h = record {
+  args = subst (λ (ps : List Parameter). AreArgs terms ps input.args) is.parameters h.args;
+  size_count = h.size_count ∙ is.blocks;
+  sizes = h.sizes;
+  block_count = h.block_count ∙ is.blocks;
+  places = subst (λ n. Each (IsBlockTerms n terms) input.places) is.bytes h.places;
+}
+
+-- ---- numbers stay
+
+arg-later : (old new : List Term) (k : Keeps old new) (t : IrType) (a : ArgTerms) → IsArg old t a → (v : ℕ → ℕ → ℕ) → arg_numbers v new a ≡ arg_numbers v old a
+arg-later old new k (Int w) (arg.Int flag number) h v = rw (term-later old new k v flag h.0.within, term-later old new k v number h.1.within) refl
+arg-later old new k Ptr (arg.Ptr flag block offset) h v = rw (term-later old new k v flag h.0.within, term-later old new k v block h.1.within, term-later old new k v offset h.2.within) refl
+arg-later old new k (Int w) (arg.Ptr flag block offset) h v = absurd h
+arg-later old new k Ptr (arg.Int flag number) h v = absurd h
+
+args-later : (old new : List Term) (k : Keeps old new) (ps : List Parameter) (args : List ArgTerms) → AreArgs old ps args → (v : ℕ → ℕ → ℕ) → flat_map (arg_numbers v new) args ≡ flat_map (arg_numbers v old) args
+args-later old new k [] [] h v = refl
+args-later old new k (p ∷ ps) (a ∷ rest) h v = two (λ (a b : List ℕ). a ++ b) (arg-later old new k p.of_type a h.0 v) (args-later old new k ps rest h.1 v)
+args-later old new k [] (a ∷ rest) h v = absurd h
+args-later old new k (p ∷ ps) [] h v = absurd h
+
+byte-later : (old new : List Term) (k : Keeps old new) (b : ByteTerms) → IsByteTerms old b → (v : ℕ → ℕ → ℕ) → byte_numbers v new b ≡ byte_numbers v old b
+byte-later old new k b h v =
+    rw (
+      term-later old new k v b.kind h.kind.within,
+      term-later old new k v b.number h.number.within,
+      term-later old new k v b.block h.block.within,
+      term-later old new k v b.offset h.offset.within,
+      term-later old new k v b.part h.part.within,
+    ) refl
+
+block-later : (old new : List Term) (k : Keeps old new) (bs : List ByteTerms) → Each (IsByteTerms old) bs → (v : ℕ → ℕ → ℕ) → block_numbers v new bs ≡ block_numbers v old bs
+block-later old new k [] h v = refl
+block-later old new k (b ∷ bs) h v = two (λ (a b : List ℕ). a ++ b) (byte-later old new k b h.0 v) (block-later old new k bs h.1 v)
+
+blocks-later : (old new : List Term) (k : Keeps old new) (bytes : ℕ) (xs : List (List ByteTerms)) → Each (IsBlockTerms bytes old) xs → (v : ℕ → ℕ → ℕ) → flat_map (block_numbers v new) xs ≡ flat_map (block_numbers v old) xs
+blocks-later old new k bytes [] h v = refl
+blocks-later old new k bytes (x ∷ xs) h v = two (λ (a b : List ℕ). a ++ b) (block-later old new k x h.0.are v) (blocks-later old new k bytes xs h.1 v)
+
+pub numbers-later : (old new : List Term) (k : Keeps old new) (s : Shape) (input : InputTerms) (tape : TapeTerms) → IsInputOf s old input → IsTapeOf s old tape → (v : ℕ → ℕ → ℕ) → numbers_at v new input tape ≡ numbers_at v old input tape
+numbers-later old new k s input tape h h' v =
+    rw (
+      args-later old new k s.parameters input.args h.args v,
+      map-same (IsTerm old 6) (term_at v new) (term_at v old) input.sizes (λ a t. term-later old new k v a t.within) h.sizes,
+      blocks-later old new k s.bytes input.places h.places v,
+      words_at-later old new k v tape.words h'.words,
+    ) refl
+
+-- ---- what none of the tapes allows isn't covered
+
+not_either : (x r s : Bool) → r ≡ not s → (not x && r) ≡ not (x || s)
+not_either true r s e = refl
+not_either false r s e = e
+
+pub none_is : (pair : Functions) (bounds : Bounds) (p : Point) (tapes : List (List ℕ)) → none_allows pair.source bounds p.input (run_of pair.target bounds p.input p.tape).outcome tapes ≡ not (some_covers pair bounds p tapes)
+unfolding none_allows some_covers covers
+none_is pair bounds p [] = refl
+none_is pair bounds p (tape ∷ tapes) =
+    not_either (is_refined (run_of pair.source bounds p.input tape).outcome (run_of pair.target bounds p.input p.tape).outcome)
+    (none_allows pair.source bounds p.input (run_of pair.target bounds p.input p.tape).outcome tapes) (some_covers pair bounds p tapes) (none_is pair bounds p tapes)
+
+-- ---- the uncovered point
+
+abbrev pub point_at : Bounds → (ℕ → ℕ → ℕ) → List Term → InputTerms → TapeTerms → Point
+point_at bounds v terms input tape = record { input = input_in bounds v terms input; tape = words_at v terms tape.words }
+
+point_is : (p : Point) (input : Input) (tape : List ℕ) → p.input ≡ input → p.tape ≡ tape → p ≡ record { input = input; tape = tape }
+point_is p input tape e f = λ i. record { input = e i; tape = f i }
+
+of_shape : (pair : Functions) (bounds : Bounds) (s : Shape) (p : Point) → IsShapeOf pair bounds s → IsPoint pair bounds p → IsOfShape s p
+of_shape pair bounds s p is h = record {
+  args = rw (is.parameters, is.blocks) h.args;
+  given = rw (is.blocks, is.bytes) h.given;
+  tape = rw (is.word_width, is.words) h.tape;
+}
+
+a_point : (pair : Functions) (bounds : Bounds) (s : Shape) (p : Point) → IsShapeOf pair bounds s → IsOfShape s p → IsPlain p.tape (run_of pair.target bounds p.input p.tape) → IsPoint pair bounds p
+a_point pair bounds s p is h plain = record {
+  args = rw (is.parameters, is.blocks) at h.args;
+  given = rw (is.blocks, is.bytes) at h.given;
+  tape = rw (is.word_width, is.words) at h.tape;
+  plain = plain;
+}
+
+shape_code : {pair : Functions} {bounds : Bounds} {s : Shape} {numbers : List ℕ} (p : Point) → IsShapeOf pair bounds s → code_of s.blocks s.parameters p ≡ numbers → code_of bounds.blocks pair.target.parameters p ≡ numbers
+shape_code p is e = two (λ n ps. code_of n ps p) (sym is.blocks) (sym is.parameters) ∙ e
+
+pub not_true : (b : Bool) → not b ≡ true → b ≡ false
+not_true true e = absurd (let z : ⊥ = cc in z)
+not_true false e = refl
+
+pub not_false : (b : Bool) → b ≡ false → not b ≡ true
+not_false b e = rw e refl
+
+-- a point whose code the terms stand for is the one that they stand for
+pub the_point : (pair : Functions) (bounds : Bounds) (s : Shape) (terms : List Term) (input : InputTerms) (tape : TapeTerms) → IsShapeOf pair bounds s → IsInputOf s terms input → (v : ℕ → ℕ → ℕ) (p : Point) → IsOfShape s p
+    → code_of s.blocks s.parameters p ≡ numbers_at v terms input tape → point_at bounds v terms input tape ≡ p
+the_point pair bounds s terms input tape shape are v p of code =
+    let d = decoded v terms s input tape p are of code in
+    let there = d.0 ∙ ap (λ n. input_at (reading n v) terms input) shape.blocks in
+    sym (point_is p (input_in bounds v terms input) (words_at v terms tape.words) there d.1)
+
+module _ (pair : Functions) (bounds : Bounds) (tapes : List (List ℕ)) (s : Shape) (terms new : List Term) (input : InputTerms) (tape : TapeTerms) (plain : (ℕ → ℕ → ℕ) → Bool) (id : TermId) (well : (ℕ → ℕ → ℕ) → Bool)
+    (shape : IsShapeOf pair bounds s) (are : IsInputOf s terms input)
+    (is_plain : (v : ℕ → ℕ → ℕ) → (plain v ≡ true) ↔ IsPlain (words_at v terms tape.words) (run_of pair.target bounds (input_in bounds v terms input) (words_at v terms tape.words)))
+    (is_well : (v : ℕ → ℕ → ℕ) → (well v ≡ true) ↔ (IsCode s (numbers_at v terms input tape) × (plain v ≡ true)))
+    (says : (v : ℕ → ℕ → ℕ) → bit_at v new id ≡ (well v && not (is_covered pair bounds tapes (point_at bounds v terms input tape)))) where
+  to_answer : (v : ℕ → ℕ → ℕ) → bit_at v new id ≡ true → IsUncovered pair bounds tapes (numbers_at v terms input tape)
+  to_answer v e =
+      let q : Point = point_at bounds v terms input tape in
+      let both = sym (says v) ∙ e in
+      let is_code = (is_well v).0 (and_left (well v) (not (is_covered pair bounds tapes q)) both) in
+      let found = (codes_tell_points s).points (numbers_at v terms input tape) is_code.0 in
+      let p : Point = found.0 in
+      let same = the_point pair bounds s terms input tape shape are v p found.1.of_shape found.1.code in
+      let plain_there : IsPlain p.tape (run_of pair.target bounds p.input p.tape) = subst (λ (q : Point). IsPlain q.tape (run_of pair.target bounds q.input q.tape)) same ((is_plain v).0 is_code.1) in
+      let free = not_true (is_covered pair bounds tapes q) (and_right (well v) (not (is_covered pair bounds tapes q)) both) in
+      record {
+        of = p;
+        point = a_point pair bounds s p shape found.1.of_shape plain_there;
+        code = shape_code p shape found.1.code;
+        uncovered = subst (λ (q : Point). is_covered pair bounds tapes q ≡ false) same free;
+      }
+
+  from_answer : (v : ℕ → ℕ → ℕ) → IsUncovered pair bounds tapes (numbers_at v terms input tape) → bit_at v new id ≡ true
+  from_answer v u =
+      let p : Point = u.of in
+      let of = of_shape pair bounds s p shape u.point in
+      let code : code_of s.blocks s.parameters p ≡ numbers_at v terms input tape = rw (shape.parameters, shape.blocks) u.code in
+      let same = the_point pair bounds s terms input tape shape are v p of code in
+      let is_code : IsCode s (numbers_at v terms input tape) = subst (IsCode s) code ((codes_tell_points s).codes p of) in
+      let plain_there = (is_plain v).1 (subst (λ (q : Point). IsPlain q.tape (run_of pair.target bounds q.input q.tape)) (sym same) u.point.plain) in
+      let free : is_covered pair bounds tapes (point_at bounds v terms input tape) ≡ false = subst (λ (q : Point). is_covered pair bounds tapes q ≡ false) (sym same) u.uncovered in
+      says v ∙ and_both (well v) (not (is_covered pair bounds tapes (point_at bounds v terms input tape))) ((is_well v).1 (is_code, plain_there)) (not_false (is_covered pair bounds tapes (point_at bounds v terms input tape)) free)
+
+  answers : IsTerm new 1 id → Decides new id (λ v. IsUncovered pair bounds tapes (numbers_at v terms input tape))
+  answers is = (is, λ v. (to_answer v, from_answer v))
+
+pub uncovered_decides : (old mid new : List Term) (pair : Functions) (bounds : Bounds) (s : Shape) (input : InputTerms) (tape : TapeTerms) (o : OutcomeTerms) (well id : TermId)
+    → IsShapeOf pair bounds s → IsInputOf s old input → IsTapeOf s old tape → Keeps old mid → IsOfTarget pair bounds old input tape o
+    → Decides mid well (λ v. IsCode s (numbers_at v old input tape) × (bit_at v old o.plain ≡ true))
+    → Tests new id (λ v. bit_at v mid well && none_allows pair.source bounds (input_in bounds v mid input) (outcome_in bounds v mid o) (shifted (need_of bounds.turns pair.source) (words_at v mid tape.words)))
+    → Decides new id (λ v. IsUncovered pair bounds [] (numbers_at v old input tape))
+uncovered_decides old mid new pair bounds s input tape o well id shape are words k run is_well shifts =
+    answers pair bounds [] s old new input tape (λ v. bit_at v old o.plain) id (λ v. bit_at v mid well) shape are (λ v. (run.shows v).plain) is_well.1 says (record { within = shifts.within; wide = shifts.wide })
+  where
+    says : (v : ℕ → ℕ → ℕ) → bit_at v new id ≡ (bit_at v mid well && not (is_covered pair bounds [] (point_at bounds v old input tape)))
+    says v =
+        let p : Point = point_at bounds v old input tape in
+        let front : List (List ℕ) = shifted (need_of bounds.turns pair.source) p.tape in
+        let same_words : words_at v mid tape.words ≡ p.tape = words_at-later old mid k v tape.words words.words in
+        let same_input : input_in bounds v mid input ≡ p.input = input_at-later old mid k (reading bounds.blocks v) s.parameters s.blocks s.bytes input are in
+        let same_outcome : outcome_in bounds v mid o ≡ (run_of pair.target bounds p.input p.tape).outcome = outcome-later old mid k (reading bounds.blocks v) o run.made ∙ (run.shows v).outcome in
+        let none = three (λ (i : Input) (z : Outcome) (ws : List ℕ). none_allows pair.source bounds i z (shifted (need_of bounds.turns pair.source) ws)) same_input same_outcome same_words in
+        shifts.says v ∙ ap (λ b. bit_at v mid well && b) (none ∙ (none_is pair bounds p front ∙ ap (λ xs. not (some_covers pair bounds p xs)) (sym (append-nil front))))
+
+-- ---- the covering tape
+
+words_fit : (terms : List Term) (words : List TermId) → AreInRange terms → AreWords terms words → (v : ℕ → ℕ → ℕ) → WordsFit 64 (length words) (words_at v terms words)
+words_fit terms [] range h v = tt
+words_fit terms (w ∷ ws) range h v = (term-below terms 64 w range h.0 v, words_fit terms ws range h.1 v)
+
+pub covering_decides : (t0 t1 t2 t3 t4 t5 : List Term) (pair : Functions) (bounds : Bounds) (s : Shape) (p : Point) (input : InputTerms) (tape choices : TapeTerms) (source target : OutcomeTerms) (id : TermId)
+    → AreInRange t0 → AreWords t0 tape.words → length tape.words ≡ need_of bounds.turns pair.source → IsShapeOf pair bounds s → IsInputOf s t1 input → AreWords t2 choices.words → Keeps t0 t1 → Keeps t1 t2 → Keeps t2 t3 → Keeps t3 t4
+    → ((v : ℕ → ℕ → ℕ) → input_at (reading s.blocks v) t1 input ≡ p.input) → ((v : ℕ → ℕ → ℕ) → words_at v t2 choices.words ≡ p.tape) → IsOfTarget pair bounds t3 input choices target
+    → ((v : ℕ → ℕ → ℕ) → Shows (reading bounds.blocks v) t4 (words_at v t3 tape.words) (run_of pair.source bounds (input_in bounds v t3 input) (words_at v t3 tape.words)) source)
+    → Tests t5 id (λ v. is_refined (outcome_in bounds v t4 source) (outcome_in bounds v t4 target))
+    → Decides t5 id (λ v. IsCovering pair bounds p (words_at v t0 tape.words))
+unfolding covers
+covering_decides t0 t1 t2 t3 t4 t5 pair bounds s p input tape choices source target id range words count shape are choice_words k1 k2 k3 k4 known chosen of_target source_shows t =
+    (record { within = t.within; wide = t.wide }, λ v. ((λ e. record { fits = subst (λ n. WordsFit 64 n (words_at v t0 tape.words)) count (words_fit t0 tape.words range words v); cover = sym (says v) ∙ e }), (λ c. says v ∙ c.cover)))
+  where
+    inputs : (v : ℕ → ℕ → ℕ) → input_in bounds v t3 input ≡ p.input
+    inputs v = input_at-later t1 t3 (keeps_trans t1 t2 t3 k2 k3) (reading bounds.blocks v) s.parameters s.blocks s.bytes input are ∙ (ap (λ n. input_at (reading n v) t1 input) (sym shape.blocks) ∙ known v)
+
+    says : (v : ℕ → ℕ → ℕ) → bit_at v t5 id ≡ is_refined (run_of pair.source bounds p.input (words_at v t0 tape.words)).outcome (run_of pair.target bounds p.input p.tape).outcome
+    says v =
+        let k03 = keeps_trans t0 t1 t3 k1 (keeps_trans t1 t2 t3 k2 k3) in
+        let from_source : outcome_in bounds v t4 source ≡ (run_of pair.source bounds p.input (words_at v t0 tape.words)).outcome =
+        (source_shows v).outcome ∙ two (λ (i : Input) (ws : List ℕ). (run_of pair.source bounds i ws).outcome) (inputs v) (words_at-later t0 t3 k03 v tape.words words) in
+        let from_target : outcome_in bounds v t4 target ≡ (run_of pair.target bounds p.input p.tape).outcome =
+        outcome-later t3 t4 k4 (reading bounds.blocks v) target of_target.made
+        ∙ ((of_target.shows v).outcome ∙ two (λ (i : Input) (ws : List ℕ). (run_of pair.target bounds i ws).outcome) (inputs v) (words_at-later t2 t3 k3 v choices.words choice_words ∙ chosen v)) in
+        t.says v ∙ two is_refined from_source from_target

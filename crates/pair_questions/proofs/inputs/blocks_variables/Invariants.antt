@@ -1,0 +1,20 @@
+-- So many blocks so far.
+use Rattle.std.proofs.Common.{◌≡◌, ◌≤◌, ◌++◌, length}
+use Rattle.std.specs.List.{flat_map}
+use Rattle.bv_terms.specs.Trees.{Extends}
+use Rattle.mem_terms.specs.Values.{Each}
+use Rattle.mem_terms.specs.Inputs.{IsBlockTerms}
+use Rattle.pair_questions.specs.Questions.{blocks_widths}
+use Rattle.pair_questions.specs.Shapes.{byte_ids}
+use Rattle.pair_questions.proofs.Extending.{Grows}
+use Rattle.pair_questions.proofs.inputs.blocks_variables.Given as goal
+
+abbrev pub invariant-loop-block : goal.invariant-loop-block
+invariant-loop-block l = record {
+  within : l._block ≤ l.blocks;
+  kept : Extends l.fn.terms l.terms;
+  count : length l.places.items ≡ l._block;
+  places : Each (IsBlockTerms l.bytes l.terms) l.places.items;
+  order : Grows l.fn.terms l.terms l.fn.order.items l.order.items (blocks_widths l.bytes l._block);
+  ids : l.order.items ≡ l.fn.order.items ++ flat_map (flat_map byte_ids) l.places.items;
+}

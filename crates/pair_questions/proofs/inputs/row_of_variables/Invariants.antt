@@ -1,0 +1,16 @@
+-- So many variables so far.
+use Rattle.std.proofs.Common.{◌≡◌, ◌≤◌, ◌++◌, length, replicate}
+use Rattle.bv_terms.specs.Trees.{Extends, IsTerm}
+use Rattle.mem_terms.specs.Values.{Each}
+use Rattle.pair_questions.proofs.Extending.{Grows}
+use Rattle.pair_questions.proofs.inputs.row_of_variables.Given as goal
+
+abbrev pub invariant-loop-variable : goal.invariant-loop-variable
+invariant-loop-variable l = record {
+  within : l._variable ≤ l.count;
+  kept : Extends l.fn.terms l.terms;
+  count : length l.row.items ≡ l._variable;
+  row : Each (IsTerm l.terms l.width) l.row.items;
+  order : Grows l.fn.terms l.terms l.fn.order.items l.order.items (replicate l._variable l.width);
+  ids : l.order.items ≡ l.fn.order.items ++ l.row.items;
+}

@@ -1,0 +1,9 @@
+pub mod Encodables
+pub mod Candidates
+pub mod Numbers
+pub mod Orders
+pub mod PointQuestions
+pub mod Questions
+pub mod Shapes
+pub mod Subjects
+pub mod Tapes

@@ -1,0 +1,118 @@
+-- The two questions on a pair, as questions of lists of numbers, and what clauses show of them.
+use Rattle.std.specs.Prelude.{◌≡◌, ◌↔◌, ℕ, zero, suc, Bool, true, false, List, [], ◌∷◌, ◌++◌, length, replicate, Option, Some}
+use Rattle.ir_tree.specs.declared.tree.IrType.{IrType}
+use Rattle.ir_tree.specs.declared.tree.IrType.TheVariants as type
+use Rattle.ir_tree.specs.declared.tree.Parameter.{Parameter}
+use Rattle.ir_tree.specs.Limits.{IsWithinLimits}
+use Rattle.points.specs.declared.point.Bounds.{Bounds}
+use Rattle.points.specs.declared.point.Point.{Point}
+use Rattle.points.specs.declared.point.Shape.{Shape}
+use Rattle.points.specs.Pair.{Functions}
+use Rattle.points.specs.Code.{IsOfShape, WordsFit, code_of}
+use Rattle.points.specs.Codes.{IsCode}
+use Rattle.points.specs.Tapes.{need_of}
+use Rattle.points.specs.Covers.{covers, is_covered, IsLeastCover, HasNoCover}
+use Rattle.points.specs.Trail.{IsPoint, IsLeastUncovered, AreAllCovered}
+use Rattle.clause_lits.specs.declared.cnf.Cnf.{Cnf}
+use Rattle.clause_log.specs.declared.step.Cert.{Cert}
+use Rattle.clause_log.specs.Refutation.{Refutes}
+use Rattle.clause_search.specs.Outcome.{IsCareful, IsSpent}
+use Rattle.answer_order.specs.Fronts.{numbers_of, total}
+use Rattle.sat_ask.specs.Asks.{Asks, HasSmallNumbers}
+use Rattle.unroll.specs.Small.{AreSmall}
+use Rattle.run_terms.specs.Frontier.{CanRun}
+use Rattle.pair_questions.specs.declared.found.Found.{Found}
+use Rattle.pair_questions.specs.declared.found.Found.TheVariants as found
+
+-- ---- what may be asked about
+
+pub record CanBeAsked (pair : Functions) (bounds : Bounds) : Type 0 where
+  pub source_limits : IsWithinLimits pair.source
+  pub target_limits : IsWithinLimits pair.target
+  pub source_run : CanRun pair.source
+  pub target_run : CanRun pair.target
+  pub small : AreSmall bounds
+
+-- ---- the widths of the numbers
+
+-- a flag and the number, or the block and the offset
+abbrev pub value_widths : IrType → List ℕ
+value_widths (type.Int width) = 1 ∷ width.bits ∷ []
+value_widths type.Ptr = 1 ∷ 3 ∷ 64 ∷ []
+
+abbrev pub args_widths : List Parameter → List ℕ
+args_widths [] = []
+args_widths (p ∷ ps) = value_widths p.of_type ++ args_widths ps
+
+-- the kind, the number, the block, the offset and the part of each place
+abbrev pub places_widths : ℕ → List ℕ
+places_widths zero = []
+places_widths (suc n) = 2 ∷ 8 ∷ 3 ∷ 64 ∷ 3 ∷ places_widths n
+
+abbrev pub blocks_widths : (bytes blocks : ℕ) → List ℕ
+blocks_widths bytes zero = []
+blocks_widths bytes (suc n) = places_widths bytes ++ blocks_widths bytes n
+
+-- how many digits each number of a point's code has: those of the arguments, a size for each given block, the places of all, and the words of the tape
+abbrev pub point_widths : Functions → Bounds → List ℕ
+point_widths pair bounds =
+    args_widths pair.target.parameters ++ (replicate bounds.blocks 6 ++ (blocks_widths bounds.bytes bounds.blocks ++ replicate (need_of bounds.turns pair.target) 64))
+
+-- how many digits each word of a tape of the source has
+abbrev pub tape_widths : Functions → Bounds → List ℕ
+tape_widths pair bounds = replicate (need_of bounds.turns pair.source) 64
+
+-- ---- the questions
+
+-- the code of a point that neither a shift nor one of the tapes covers
+pub record IsUncovered (pair : Functions) (bounds : Bounds) (tapes : List (List ℕ)) (numbers : List ℕ) : Type 0 where
+  pub of : Point
+  pub point : IsPoint pair bounds of
+  pub code : code_of bounds.blocks pair.target.parameters of ≡ numbers
+  pub uncovered : is_covered pair bounds tapes of ≡ false
+
+-- a tape of the source that covers the point
+pub record IsCovering (pair : Functions) (bounds : Bounds) (p : Point) (tape : List ℕ) : Type 0 where
+  pub fits : WordsFit 64 (need_of bounds.turns pair.source) tape
+  pub cover : covers pair bounds p tape ≡ true
+
+-- clauses that ask, of all numbers of these widths, which are an answer
+pub record AsksFor (Answer : List ℕ → Type 0) (widths : List ℕ) (cnf : Cnf) : Type 0 where
+  pub test : List Bool → Bool
+  pub asks : Asks test (total widths) cnf
+  pub means : (digits : List Bool) → length digits ≡ total widths → (test digits ≡ true) ↔ Answer (numbers_of widths digits)
+
+-- none is, and the log shows it
+pub record IsRefuted (Answer : List ℕ → Type 0) (widths : List ℕ) (cert : Cert) : Type 0 where
+  pub asks : AsksFor Answer widths cert.cnf
+  pub refutes : Refutes cert.cnf.clauses cert.log
+  pub careful : IsCareful cert.cnf.clauses cert.log
+  pub small : HasSmallNumbers cert
+
+-- as many clauses as the limit were learned of the question
+pub record IsSpentOn (Answer : List ℕ → Type 0) (widths : List ℕ) (limit : ℕ) (cert : Cert) : Type 0 where
+  pub asks : AsksFor Answer widths cert.cnf
+  pub spent : IsSpent cert.cnf.clauses cert.log limit
+  pub small : HasSmallNumbers cert
+
+-- ---- the answers
+
+abbrev pub IsFoundPoint : Functions → Bounds → List (List ℕ) → Option ℕ → Found Point → Type 0
+IsFoundPoint pair bounds tapes limit (found.Least p) = IsLeastUncovered pair bounds tapes p
+IsFoundPoint pair bounds tapes limit (found.None cert) = AreAllCovered pair bounds tapes × IsRefuted (IsUncovered pair bounds tapes) (point_widths pair bounds) cert
+IsFoundPoint pair bounds tapes limit (found.Spent cert) = (n : ℕ) × (limit ≡ Some n) × IsSpentOn (IsUncovered pair bounds tapes) (point_widths pair bounds) n cert
+
+-- the code of the least such point: each point of the shape with this code is the least
+pub record IsLeastCode (pair : Functions) (bounds : Bounds) (s : Shape) (tapes : List (List ℕ)) (code : List ℕ) : Type 0 where
+  pub of_shape : IsCode s code
+  pub least : (p : Point) → IsOfShape s p → code_of s.blocks s.parameters p ≡ code → IsLeastUncovered pair bounds tapes p
+
+abbrev pub IsFoundCode : Functions → Bounds → Shape → List (List ℕ) → Option ℕ → Found (List ℕ) → Type 0
+IsFoundCode pair bounds s tapes limit (found.Least code) = IsLeastCode pair bounds s tapes code
+IsFoundCode pair bounds s tapes limit (found.None cert) = IsFoundPoint pair bounds tapes limit (found.None cert)
+IsFoundCode pair bounds s tapes limit (found.Spent cert) = IsFoundPoint pair bounds tapes limit (found.Spent cert)
+
+abbrev pub IsFoundTape : Functions → Bounds → Point → Option ℕ → Found (List ℕ) → Type 0
+IsFoundTape pair bounds p limit (found.Least tape) = IsLeastCover pair bounds p tape
+IsFoundTape pair bounds p limit (found.None cert) = HasNoCover pair bounds p × IsRefuted (IsCovering pair bounds p) (tape_widths pair bounds) cert
+IsFoundTape pair bounds p limit (found.Spent cert) = (n : ℕ) × (limit ≡ Some n) × IsSpentOn (IsCovering pair bounds p) (tape_widths pair bounds) n cert

@@ -1,0 +1,203 @@
+//! The goals of the two questions.
+
+ghost use Rattle.std.specs.Prelude.{◌≡◌, ◌∷◌, ◌&&◌, [], IfOk, length};
+ghost use Rattle.points.specs.Covers.{shifted};
+ghost use Rattle.points.specs.Trail.{IsPoint};
+ghost use Rattle.bv_terms.specs.Trees.{IsTerm, Keeps, Tests, bit_at};
+ghost use Rattle.mem_terms.specs.Inputs.{AreWords, words_at};
+ghost use Rattle.mem_terms.specs.Outcomes.{IsOutcome, LeavesGiven};
+ghost use Rattle.refine_terms.specs.Deciding.{Decides};
+ghost use Rattle.refine_terms.specs.Numbers.{IsInputOf, IsTapeOf, numbers_at};
+ghost use Rattle.pair_questions.specs.Candidates.{AreTapes, IsTrial, Narrows, input_in, none_allows, outcome_in, tapes_at};
+ghost use Rattle.pair_questions.specs.Questions.{IsCovering, IsUncovered};
+ghost use Rattle.pair_questions.specs.Subjects.{IsOfTarget, IsSubject};
+
+use crate::candidates::shifted_tapes;
+use crate::encodable::Encodable;
+use crate::known::known_input;
+use crate::subject::Subject;
+use crate::tapes::known;
+use bv_terms::{TermId, Terms};
+use mem_terms::{InputTerms, OutcomeTerms, TapeTerms, both, negation};
+use points::{Bounds, Point};
+use refine_terms::{covered, well_point};
+use std::alloc::Global;
+use support::NoMemory;
+
+/// What tapes of the source are tried for: an input, and the target's outcome on it.
+#[derive(Clone, Copy)]
+struct Trial<'t> {
+    source: &'t Encodable<'t>,
+    bounds: &'t Bounds,
+    input: &'t InputTerms,
+    target: &'t OutcomeTerms,
+}
+
+/// True where the goal is and the source's run on this tape doesn't allow the target's outcome.
+fn and_uncovered(
+    alloc: Global,
+    trial: &Trial,
+    candidate: &TapeTerms,
+    goal: TermId,
+    terms: &mut Terms,
+) -> Result<TermId, NoMemory>
+    requires trial { IsTrial terms.old trial.now }
+    requires words { AreWords terms.old candidate.now.words }
+    requires goal { IsTerm terms.old 1 goal }
+    ensures made { IfOk result (Narrows trial.now terms.old terms.new goal (λ v. words_at v terms.old candidate.now.words ∷ [])) }
+    ensures kept { Keeps terms.old terms.new }
+{
+    let source = trial
+        .source
+        .encode(alloc, trial.bounds, trial.input, candidate, terms)?;
+    let is_covered = covered(&source, trial.target, terms)?;
+    let is_uncovered = negation(terms, is_covered)?;
+    let id = both(terms, goal, is_uncovered)?;
+    Ok(id)
+}
+
+/// True where the goal is and on none of the candidates the source's run allows the target's
+/// outcome.
+fn and_none(
+    alloc: Global,
+    trial: &Trial,
+    candidates: &[TapeTerms],
+    goal: TermId,
+    terms: &mut Terms,
+) -> Result<TermId, NoMemory>
+    requires trial { IsTrial terms.old trial.now }
+    requires candidates { AreTapes terms.old candidates.now }
+    requires goal { IsTerm terms.old 1 goal }
+    ensures made { IfOk result (Narrows trial.now terms.old terms.new goal (λ v. tapes_at v terms.old candidates.now)) }
+    ensures kept { Keeps terms.old terms.new }
+{
+    let mut goal = goal;
+    for candidate in candidates {
+        goal = and_uncovered(alloc, trial, candidate, goal, terms)?;
+    }
+    Ok(goal)
+}
+
+/// True where the goal is and no shift of the tape lets the source's run allow the target's outcome.
+fn and_no_shift(
+    alloc: Global,
+    trial: &Trial,
+    words: &[TermId],
+    need: usize,
+    goal: TermId,
+    terms: &mut Terms,
+) -> Result<TermId, NoMemory>
+    requires trial { IsTrial terms.old trial.now }
+    requires words { AreWords terms.old words.now }
+    requires goal { IsTerm terms.old 1 goal }
+    ensures made { IfOk result (Narrows trial.now terms.old terms.new goal (λ v. shifted need (words_at v terms.old words.now))) }
+    ensures kept { Keeps terms.old terms.new }
+{
+    let candidates = shifted_tapes(alloc, words, need, terms)?;
+    let id = and_none(alloc, trial, candidates.as_slice(), goal, terms)?;
+    Ok(id)
+}
+
+/// True where the goal is and on this tape the source's run doesn't allow the target's outcome.
+pub fn and_no_tape(
+    alloc: Global,
+    subject: &Subject,
+    input: &InputTerms,
+    target: &OutcomeTerms,
+    tape: &[u64],
+    goal: TermId,
+    terms: &mut Terms,
+) -> Result<TermId, NoMemory>
+    requires subject { IsSubject subject.now }
+    requires input { IsInputOf subject.now.shape terms.old input.now }
+    requires target { IsOutcome terms.old target.now }
+    requires given { LeavesGiven subject.now.bounds.now.blocks subject.now.bounds.now.bytes target.now }
+    requires goal { IsTerm terms.old 1 goal }
+    ensures made { IfOk result (λ id. Tests terms.new id (λ v. bit_at v terms.old goal && none_allows subject.now.pair.now.source subject.now.bounds.now
+        (input_in subject.now.bounds.now v terms.old input.now) (outcome_in subject.now.bounds.now v terms.old target.now) (tape.now ∷ []))) }
+    ensures kept { Keeps terms.old terms.new }
+{
+    let candidate = known(alloc, tape, terms)?;
+    let trial = Trial {
+        source: &subject.source,
+        bounds: subject.bounds,
+        input,
+        target,
+    };
+    let id = and_uncovered(alloc, &trial, &candidate, goal, terms)?;
+    Ok(id)
+}
+
+/// The outcome of the target's run.
+pub fn target_run(
+    alloc: Global,
+    subject: &Subject,
+    input: &InputTerms,
+    tape: &TapeTerms,
+    terms: &mut Terms,
+) -> Result<OutcomeTerms, NoMemory>
+    requires subject { IsSubject subject.now }
+    requires input { IsInputOf subject.now.shape terms.old input.now }
+    requires words { AreWords terms.old tape.now.words }
+    ensures made { IfOk result (IsOfTarget subject.now.pair.now subject.now.bounds.now terms.new input.now tape.now) }
+    ensures kept { Keeps terms.old terms.new }
+{
+    let outcome = subject
+        .target
+        .encode(alloc, subject.bounds, input, tape, terms)?;
+    Ok(outcome)
+}
+
+/// True where the numbers of the terms are the code of a point that no shift of its tape covers.
+pub fn unshifted(
+    alloc: Global,
+    subject: &Subject,
+    input: &InputTerms,
+    tape: &TapeTerms,
+    target: &OutcomeTerms,
+    terms: &mut Terms,
+) -> Result<TermId, NoMemory>
+    requires subject { IsSubject subject.now }
+    requires input { IsInputOf subject.now.shape terms.old input.now }
+    requires tape { IsTapeOf subject.now.shape terms.old tape.now }
+    requires target { IsOfTarget subject.now.pair.now subject.now.bounds.now terms.old input.now tape.now target.now }
+    ensures made { IfOk result (λ id. Decides terms.new id (λ v. IsUncovered subject.now.pair.now subject.now.bounds.now [] (numbers_at v terms.old input.now tape.now))) }
+    ensures kept { Keeps terms.old terms.new }
+{
+    let is_point = well_point(&subject.shape, input, tape, target, terms)?;
+    let trial = Trial {
+        source: &subject.source,
+        bounds: subject.bounds,
+        input,
+        target,
+    };
+    let words = tape.words.as_slice();
+    let id = and_no_shift(alloc, &trial, words, subject.need as usize, is_point, terms)?;
+    Ok(id)
+}
+
+/// True where the words of the terms are a tape of the source that covers the point.
+pub fn covering(
+    alloc: Global,
+    subject: &Subject,
+    point: &Point,
+    tape: &TapeTerms,
+    terms: &mut Terms,
+) -> Result<TermId, NoMemory>
+    requires subject { IsSubject subject.now }
+    requires point { IsPoint subject.now.pair.now subject.now.bounds.now point.now }
+    requires words { AreWords terms.old tape.now.words }
+    requires count { length tape.now.words ≡ subject.now.need }
+    ensures made { IfOk result (λ id. Decides terms.new id (λ v. IsCovering subject.now.pair.now subject.now.bounds.now point.now (words_at v terms.old tape.now.words))) }
+    ensures kept { Keeps terms.old terms.new }
+{
+    terms.values_fit();
+    let input = known_input(alloc, &subject.shape, point, terms)?;
+    let choices = known(alloc, point.tape.as_slice(), terms)?;
+    let target = target_run(alloc, subject, &input, &choices, terms)?;
+    let source = subject
+        .source
+        .encode(alloc, subject.bounds, &input, tape, terms)?;
+    let id = covered(&source, &target, terms)?;
+    Ok(id)
+}

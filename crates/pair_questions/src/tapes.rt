@@ -1,0 +1,91 @@
+//! Tapes of the source, as terms.
+
+ghost use Rattle.std.specs.Prelude.{◌≡◌, IfOk, List, ℕ};
+ghost use Rattle.bv_terms.specs.declared.term.Term.{Term};
+ghost use Rattle.bv_terms.specs.Trees.{IsTerm, Keeps, term_at};
+ghost use Rattle.mem_terms.specs.Inputs.{AreWords, words_at};
+ghost use Rattle.points.specs.Covers.{words_of};
+ghost use Rattle.pair_questions.specs.Tapes.{shift_of, source_of};
+
+use bv_terms::{TermId, Terms};
+use mem_terms::{TapeTerms, number};
+use std::alloc::Global;
+use support::{NoMemory, Sequence};
+
+/// A tape moved by some places: each word is the one so many places behind it, or before it.
+#[derive(Clone, Copy, Debug, PartialEq, Eq)]
+pub enum Shift {
+    Behind(usize),
+    Before(usize),
+}
+
+/// The target's tape as it is, and moved by one or two places either way.
+pub const SHIFTS: [Shift; 5] = [
+    Shift::Behind(0),
+    Shift::Behind(1),
+    Shift::Behind(2),
+    Shift::Before(1),
+    Shift::Before(2),
+];
+
+impl Shift {
+    /// The place that a word of the moved tape comes from, or `None` where it is before the first.
+    fn source_of(self, place: usize) -> Option<usize>
+        ensures { result ≡ source_of self place }
+    {
+        match self {
+            Shift::Behind(by) => place.checked_add(by),
+            Shift::Before(by) => place.checked_sub(by),
+        }
+    }
+}
+
+/// The word at a place of a moved tape, which is the zero outside the tape.
+fn moved_word(words: &[TermId], shift: Shift, place: usize, zero: TermId) -> TermId
+    ensures is { (terms : List Term) → AreWords terms words.now → IsTerm terms 64 zero → IsTerm terms 64 result }
+    ensures stands { (v : ℕ → ℕ → ℕ) (terms : List Term) → term_at v terms zero ≡ 0 → term_at v terms result ≡ shift_of shift (words_at v terms words.now) place }
+{
+    match shift.source_of(place) {
+        Some(source) if source < words.len() => words[source],
+        _ => zero,
+    }
+}
+
+/// So many words of a moved tape; outside the tape they are 0.
+pub fn moved(
+    alloc: Global,
+    words: &[TermId],
+    shift: Shift,
+    need: usize,
+    terms: &mut Terms,
+) -> Result<TapeTerms, NoMemory>
+    requires { AreWords terms.old words.now }
+    ensures are { IfOk result (λ tape. AreWords terms.new tape.words) }
+    ensures stands { IfOk result (λ tape. (v : ℕ → ℕ → ℕ) → words_at v terms.new tape.words ≡ words_of need (shift_of shift (words_at v terms.old words.now))) }
+    ensures kept { Keeps terms.old terms.new }
+{
+    let zero = number(terms, 0)?;
+    let mut tape = Vec::new(alloc);
+    for place in 0..need {
+        tape.push(moved_word(words, shift, place, zero))?;
+    }
+    Ok(TapeTerms {
+        words: Sequence::from_vec(tape),
+    })
+}
+
+/// A tape of these words.
+pub fn known(alloc: Global, words: &[u64], terms: &mut Terms) -> Result<TapeTerms, NoMemory>
+    ensures are { IfOk result (λ tape. AreWords terms.new tape.words) }
+    ensures stands { IfOk result (λ tape. (v : ℕ → ℕ → ℕ) → words_at v terms.new tape.words ≡ words.now) }
+    ensures kept { Keeps terms.old terms.new }
+{
+    let mut tape = Vec::new(alloc);
+    for word in words {
+        let id = number(terms, *word)?;
+        tape.push(id)?;
+    }
+    Ok(TapeTerms {
+        words: Sequence::from_vec(tape),
+    })
+}

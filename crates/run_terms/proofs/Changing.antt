@@ -1,0 +1,85 @@
+-- A memory that a store or an alloca changed is one of a run still.
+use Rattle.std.proofs.Common.{ℕ, zero, suc, ◌≡◌, ◌≤◌, true, List, [], ◌∷◌, ◌++◌, map, take, drop, refl, ap, sym, subst, ◌∙◌}
+use Rattle.std.proofs.lemmas.List.{append_assoc, drop-map, take-append-drop, take-map}
+use Rattle.bv_terms.specs.declared.term.Term.{Term}
+use Rattle.bv_terms.specs.Trees.{Keeps, bit_at}
+use Rattle.mem_terms.specs.declared.blocks.SymBlock.{SymBlock}
+use Rattle.mem_terms.specs.Values.{Each, first_local}
+use Rattle.mem_terms.specs.Memory.{AreSymBlocks, IsSymBlock, SymFrame, frame_of}
+use Rattle.mem_terms.proofs.Later.{always_each-later, sym_blocks-later}
+use Rattle.access_terms.specs.Accesses as access
+use Rattle.access_terms.specs.Accesses.{sym_frame}
+use Rattle.run_terms.specs.declared.state.RunMemory.{RunMemory}
+use Rattle.run_terms.specs.Runs.{IsRunMemory}
+use Rattle.run_terms.proofs.Lasting.{memory_blocks}
+use Rattle.run_terms.proofs.Memories.{memory_made}
+
+-- ---- parts of lists
+
+each-front : {A : Type 0} (P : A → Type 0) (n : ℕ) (xs : List A) → Each P xs → Each P (take n xs)
+each-front P zero xs h = tt
+each-front P (suc n) [] h = tt
+each-front P (suc n) (x ∷ xs) h = (h.0, each-front P n xs h.1)
+
+each-rest : {A : Type 0} (P : A → Type 0) (n : ℕ) (xs : List A) → Each P xs → Each P (drop n xs)
+each-rest P zero xs h = h
+each-rest P (suc n) [] h = tt
+each-rest P (suc n) (x ∷ xs) h = each-rest P n xs h.1
+
+each-behind : {A : Type 0} (P : A → Type 0) (xs ys : List A) → Each P (xs ++ ys) → Each P ys
+each-behind P [] ys h = h
+each-behind P (x ∷ xs) ys h = each-behind P xs ys h.1
+
+each-more : {A : Type 0} (P : A → Type 0) (xs : List A) (x : A) → Each P xs → P x → Each P (xs ++ x ∷ [])
+each-more P [] x h p = (p, tt)
+each-more P (y ∷ ys) x h p = (h.0, each-more P ys x h.1 p)
+
+-- ---- more terms
+
+pub blocks_later : (old new : List Term) (k : Keeps old new) (m : RunMemory) → IsRunMemory old m → AreSymBlocks new m.blocks
+blocks_later old new k m h = sym_blocks-later old new k m.blocks (memory_blocks old m h)
+
+-- ---- what a store keeps
+
+to_frames : (P : access.SymFrame → Type 0) (bs : List SymBlock) → Each (λ (b : SymBlock). P (sym_frame b)) bs → Each P (map sym_frame bs)
+to_frames P [] h = tt
+to_frames P (b ∷ bs) h = (h.0, to_frames P bs h.1)
+
+from_frames : (P : access.SymFrame → Type 0) (bs : List SymBlock) → Each P (map sym_frame bs) → Each (λ (b : SymBlock). P (sym_frame b)) bs
+from_frames P [] h = tt
+from_frames P (b ∷ bs) h = (h.0, from_frames P bs h.1)
+
+-- what holds of the frames of blocks holds of those of others with the same
+each-framed : (P : access.SymFrame → Type 0) (xs ys : List SymBlock) → map sym_frame ys ≡ map sym_frame xs → Each (λ (b : SymBlock). P (sym_frame b)) xs → Each (λ (b : SymBlock). P (sym_frame b)) ys
+each-framed P xs ys e h = from_frames P ys (subst (λ (fs : List access.SymFrame). Each P fs) (sym e) (to_frames P xs h))
+
+abbrev less_framed : access.SymFrame → SymFrame
+less_framed f = record { number = f.number; align = f.align; room = f.room }
+
+frames_less : (bs : List SymBlock) → map frame_of bs ≡ map less_framed (map sym_frame bs)
+frames_less [] = refl
+frames_less (b ∷ bs) = ap (λ (fs : List SymFrame). frame_of b ∷ fs) (frames_less bs)
+
+pub store_memory : (old new : List Term) (k : Keeps old new) (m : RunMemory) → IsRunMemory old m → (blocks : List SymBlock) → AreSymBlocks new blocks → map sym_frame blocks ≡ map sym_frame m.blocks → IsRunMemory new (record m { blocks = blocks })
+store_memory old new k m h blocks are same =
+    let front : map sym_frame (take m.given blocks) ≡ map sym_frame (take m.given m.blocks) = sym (take-map sym_frame m.given blocks) ∙ (ap (take m.given) same ∙ take-map sym_frame m.given m.blocks) in
+    let rest : map sym_frame (drop m.given blocks) ≡ map sym_frame (drop m.given m.blocks) = sym (drop-map sym_frame m.given blocks) ∙ (ap (drop m.given) same ∙ drop-map sym_frame m.given m.blocks) in
+    record {
+      given = record {
+        are = each-front (IsSymBlock new) m.given blocks are;
+        always = each-framed (λ (f : access.SymFrame). (v : ℕ → ℕ → ℕ) → bit_at v new f.exists ≡ true) (take m.given m.blocks) (take m.given blocks) front (always_each-later old new k (take m.given m.blocks) h.given.are h.given.always);
+        frames = frames_less (take m.given blocks) ∙ (ap (map less_framed) front ∙ (sym (frames_less (take m.given m.blocks)) ∙ h.given.frames));
+      };
+      are = each-rest (IsSymBlock new) m.given blocks are;
+      own = each-framed (λ (f : access.SymFrame). first_local m.given ≤ f.number) (drop m.given m.blocks) (drop m.given blocks) rest h.own;
+    }
+
+-- ---- a block more
+
+pub alloca_memory : (old new : List Term) (k : Keeps old new) (m : RunMemory) → IsRunMemory old m → (blocks : List SymBlock) (b : SymBlock) → AreSymBlocks new blocks → blocks ≡ m.blocks ++ b ∷ [] → first_local m.given ≤ b.number → IsRunMemory new (record m { blocks = blocks })
+alloca_memory old new k m h blocks b are is own =
+    let parts : blocks ≡ take m.given m.blocks ++ (drop m.given m.blocks ++ b ∷ []) =
+    is ∙ (ap (λ (bs : List SymBlock). bs ++ b ∷ []) (sym (take-append-drop m.given m.blocks)) ∙ append_assoc (take m.given m.blocks) (drop m.given m.blocks) (b ∷ [])) in
+    memory_made old new (take m.given m.blocks) (drop m.given m.blocks ++ b ∷ []) blocks m.given m.room k h.given
+    (each-behind (IsSymBlock new) (take m.given m.blocks) (drop m.given m.blocks ++ b ∷ []) (subst (AreSymBlocks new) parts are))
+    (each-more (λ (x : SymBlock). first_local m.given ≤ x.number) (drop m.given m.blocks) b h.own own) parts

@@ -1,0 +1,105 @@
+-- One of two states of a run.
+use Rattle.std.proofs.Common.{ℕ, zero, suc, ◌≡◌, ◌<◌, ◌≤◌, ◌+◌, max, Bool, true, false, cond, List, [], ◌∷◌, ◌++◌, length, take, get_or, refl, ap, sym, subst, ◌∙◌, arith, add-one, length-append}
+use Rattle.byte_block.specs.declared.value.Value.{Value}
+use Rattle.points.specs.declared.machine.Machine.{Machine}
+use Rattle.bv_terms.specs.declared.term.TermId.{TermId}
+use Rattle.bv_terms.specs.declared.term.Term.{Term}
+use Rattle.bv_terms.specs.Tree.{truth}
+use Rattle.bv_terms.specs.Trees.{Keeps, Makes, IsTerm, term_at, bit_at}
+use Rattle.mem_terms.specs.declared.values.SymValue.{SymValue}
+use Rattle.mem_terms.specs.Values.{AreSymValues, IsSymValue, Reading, value_at, values_at}
+use Rattle.mem_terms.specs.Memory.{memory_at}
+use Rattle.mem_terms.proofs.Eaches.{each-at, each-push, map-at, map-length, map-push}
+use Rattle.mem_terms.proofs.Later.{keeps_trans, bit-later, term-later, sym_values-later, value-later, values-later}
+use Rattle.run_terms.specs.declared.state.Tally.{Tally}
+use Rattle.run_terms.specs.declared.state.RunMemory.{RunMemory}
+use Rattle.run_terms.specs.declared.state.RunState.{RunState}
+use Rattle.run_terms.specs.Runs.{Scene, IsState, IsTally, Counts, Carries, StateShape, Visit, shape_of, sight}
+use Rattle.run_terms.proofs.Lasting.{counts-later, blocks_at-later}
+
+choice-push : (e : Bool) (xs ys : List Value) (x y : Value) → cond e xs ys ++ cond e x y ∷ [] ≡ cond e (xs ++ x ∷ []) (ys ++ y ∷ [])
+choice-push true xs ys x y = refl
+choice-push false xs ys x y = refl
+
+take_push : (xs : List Value) (i : ℕ) (x d : Value) → i < length xs → get_or xs i d ≡ x → take i xs ++ x ∷ [] ≡ take (i + 1) xs
+take_push [] i x d lt e = absurd (omega arith)
+take_push (y ∷ ys) zero x d lt e = ap (λ z. z ∷ []) (sym e)
+take_push (y ∷ ys) (suc i) x d lt e = rw add-one (ap (λ zs. y ∷ zs) (rw add-one at (take_push ys i x d (omega arith) e)))
+
+pub registers_more : (old a b : List Term) (c : TermId) (xs ys picked new : List SymValue) (i : ℕ) (x y r : SymValue) → IsTerm old 1 c
+    → AreSymValues old xs → AreSymValues old ys → length ys ≡ length xs → i < length xs → x ≡ get_or xs i x → y ≡ get_or ys i y
+    → Keeps old a → AreSymValues a picked → length picked ≡ i
+    → ((s : Reading) → values_at s a picked ≡ cond (bit_at s.v old c) (take i (values_at s old xs)) (take i (values_at s old ys)))
+    → Keeps a b → IsSymValue b r → ((s : Reading) → value_at s b r ≡ cond (bit_at s.v a c) (value_at s a x) (value_at s a y)) → new ≡ picked ++ r ∷ []
+    → Keeps old b × AreSymValues b new × (length new ≡ i + 1) × (i + 1 ≤ length xs) × ((s : Reading) → values_at s b new ≡ cond (bit_at s.v old c) (take (i + 1) (values_at s old xs)) (take (i + 1) (values_at s old ys)))
+registers_more old a b c xs ys picked new i x y r hc hxs hys len lt ix iy ka hp count so kb hr sr is =
+    let hx = each-at (IsSymValue old) xs i x hxs lt ix in
+    let hy = each-at (IsSymValue old) ys i y hys (omega arith) iy in (
+      keeps_trans old a b ka kb,
+      subst (AreSymValues b) (sym is) (each-push (IsSymValue b) picked r (sym_values-later a b kb picked hp) hr),
+      ap length is ∙ omega (arith, count, length-append picked (r ∷ [])),
+      omega (arith, lt),
+      λ s.
+          let e_r : value_at s b r ≡ cond (bit_at s.v old c) (value_at s old x) (value_at s old y) =
+          sr s ∙ rw (bit-later old a ka s.v c hc.within, value-later old a ka s x hx, value-later old a ka s y hy) refl in
+          ap (values_at s b) is ∙ (map-push (value_at s b) picked r
+          ∙ (ap (λ zs. zs ++ value_at s b r ∷ []) (values-later a b kb s picked hp ∙ so s)
+          ∙ (ap (λ z. cond (bit_at s.v old c) (take i (values_at s old xs)) (take i (values_at s old ys)) ++ z ∷ []) e_r
+          ∙ (choice-push (bit_at s.v old c) (take i (values_at s old xs)) (take i (values_at s old ys)) (value_at s old x) (value_at s old y)
+          ∙ rw (
+            take_push (values_at s old xs) i (value_at s old x) (value_at s old x) (omega (arith, map-length (value_at s old) xs)) (map-at (value_at s old) xs i x (value_at s old x) lt ix),
+            take_push (values_at s old ys) i (value_at s old y) (value_at s old y) (omega (arith, map-length (value_at s old) ys)) (map-at (value_at s old) ys i y (value_at s old y) (omega arith) iy),
+          ) refl)))),
+    )
+
+module _ (old a b : List Term) (c read fits : TermId) (s t : Tally) (m n : ℕ) (hc : IsTerm old 1 c) (hs : IsTally old s) (ht : IsTally old t) (ka : Keeps old a) (kb : Keeps a b)
+    (mr : Makes a read m (λ v. cond (bit_at v old c) (term_at v old s.read) (term_at v old t.read))) (mf : Makes b fits n (λ v. cond (bit_at v a c) (term_at v a s.fits) (term_at v a t.fits))) where
+  pub tally_goes : (g : Scene) (made : List ℕ) → bit_at g.v old c ≡ true → Counts g old s made → Counts g b (record { read = read; fits = fits }) made
+  tally_goes g made held k = record {
+    read = term-later a b kb g.v read mr.within ∙ (mr.says g.v ∙ rw held k.read);
+    fits = ap truth (mf.says g.v) ∙ rw (bit-later old a ka g.v c hc.within, held) (bit-later old a ka g.v s.fits hs.fits.within ∙ k.fits);
+  }
+
+  pub tally_stays : (g : Scene) (made : List ℕ) → bit_at g.v old c ≡ false → Counts g old t made → Counts g b (record { read = read; fits = fits }) made
+  tally_stays g made none k = record {
+    read = term-later a b kb g.v read mr.within ∙ (mr.says g.v ∙ rw none k.read);
+    fits = ap truth (mf.says g.v) ∙ rw (bit-later old a ka g.v c hc.within, none) (bit-later old a ka g.v t.fits ht.fits.within ∙ k.fits);
+  }
+
+module _ (old a b d e : List Term) (edge into : RunState) (alive : TermId) (tally : Tally) (registers : List SymValue) (memory : RunMemory) (most : ℕ) (he : IsState old edge) (hi : IsState old into) (shape : shape_of into ≡ shape_of edge)
+    (ka : Keeps old a) (kb : Keeps a b) (kd : Keeps b d) (ke : Keeps d e) (greatest : most ≡ max edge.most into.most) (ht : IsTally b tally) (hr : AreSymValues d registers) (given : memory.given ≡ edge.memory.given)
+    (sd : (s : Reading) → values_at s d registers ≡ cond (bit_at s.v b edge.alive) (values_at s b edge.registers) (values_at s b into.registers))
+    (se : (r : Reading) → memory_at r e memory.blocks ≡ cond (bit_at r.v d edge.alive) (memory_at r d edge.memory.blocks) (memory_at r d into.memory.blocks)) where
+  abbrev joined : RunState
+  joined = record { alive = alive; registers = registers; memory = memory; tally = tally; most = most }
+
+  kab : Keeps old b
+  kab = keeps_trans old a b ka kb
+
+  kad : Keeps old d
+  kad = keeps_trans old b d kab kd
+
+  kbe : Keeps b e
+  kbe = keeps_trans b d e kd ke
+
+  pub join_goes : ((g : Scene) (made : List ℕ) → bit_at g.v a edge.alive ≡ true → Counts g a edge.tally made → Counts g b tally made)
+      → (g : Scene) (at : Visit) (m : Machine) → bit_at g.v old edge.alive ≡ true → Carries g old at edge m → Carries g e at joined m
+  join_goes st g at m held h = record {
+    registers = values-later d e ke (sight g) registers hr ∙ (sd (sight g) ∙ rw (bit-later old b kab g.v edge.alive he.alive.within, held) (values-later old b kab (sight g) edge.registers he.registers ∙ h.registers));
+    given = given ∙ h.given;
+    memory = se (sight g) ∙ rw (bit-later old d kad g.v edge.alive he.alive.within, held) (blocks_at-later old d kad (sight g) edge.memory he.memory ∙ h.memory);
+    tally = counts-later b e kbe g tally m.taken ht (st g m.taken (bit-later old a ka g.v edge.alive he.alive.within ∙ held) (counts-later old a ka g edge.tally m.taken he.tally h.tally));
+    most = rw greatest (omega (arith, h.most));
+    visit = h.visit;
+  }
+
+  pub join_stays : ((g : Scene) (made : List ℕ) → bit_at g.v a edge.alive ≡ false → Counts g a into.tally made → Counts g b tally made)
+      → (g : Scene) (at : Visit) (m : Machine) → bit_at g.v old edge.alive ≡ false → Carries g old at into m → Carries g e at joined m
+  join_stays st g at m none h = record {
+    registers = values-later d e ke (sight g) registers hr ∙ (sd (sight g) ∙ rw (bit-later old b kab g.v edge.alive he.alive.within, none) (values-later old b kab (sight g) into.registers hi.registers ∙ h.registers));
+    given = given ∙ (ap (λ (x : StateShape). x.given) (sym shape) ∙ h.given);
+    memory = se (sight g) ∙ rw (bit-later old d kad g.v edge.alive he.alive.within, none) (blocks_at-later old d kad (sight g) into.memory hi.memory ∙ h.memory);
+    tally = counts-later b e kbe g tally m.taken ht (st g m.taken (bit-later old a ka g.v edge.alive he.alive.within ∙ none) (counts-later old a ka g into.tally m.taken hi.tally h.tally));
+    most = rw greatest (omega (arith, h.most));
+    visit = h.visit;
+  }

@@ -1,0 +1,151 @@
+-- What was said of a run so far is said of it over more terms.
+use Rattle.std.proofs.Common.{ℕ, zero, suc, ◌≡◌, List, [], ◌∷◌, take, drop, Option, Some, None, IfSome, refl, ap, sym, subst, ◌∙◌}
+use Rattle.std.specs.Prelude.{slice_get, slice_set}
+use Rattle.std.specs.Option.{option_map}
+use Rattle.points.specs.declared.machine.Machine.{Machine}
+use Rattle.unroll.specs.Layers.{Where, At, Done}
+use Rattle.bv_terms.specs.declared.term.TermId.{TermId}
+use Rattle.bv_terms.specs.declared.term.Term.{Term}
+use Rattle.bv_terms.specs.Trees.{Keeps}
+use Rattle.mem_terms.specs.declared.values.SymValue.{SymValue}
+use Rattle.mem_terms.specs.Values.{Each, IsSymValue, Reading, value_at}
+use Rattle.mem_terms.specs.Memory.{AreSymBlocks, IsSymBlock, memory_at}
+use Rattle.mem_terms.specs.Inputs.{AreWords}
+use Rattle.mem_terms.proofs.Eaches.{each-weaker, each-set}
+use Rattle.mem_terms.proofs.Later.{bit-later, term-later, is_term-later, sym_values-later, sym_value-later, sym_blocks-later, values-later, value-later, memory-later, given_blocks-later, words_at-later}
+use Rattle.run_terms.specs.declared.state.Tally.{Tally}
+use Rattle.run_terms.specs.declared.state.RunMemory.{RunMemory}
+use Rattle.run_terms.specs.declared.state.RunState.{RunState}
+use Rattle.run_terms.specs.declared.ending.Ending.{Ending}
+use Rattle.run_terms.specs.declared.frontier.Frontier.{Frontier}
+use Rattle.run_terms.specs.Runs.{Scene, Sees, IsTally, IsRunMemory, IsState, Counts, Carries, Visit, sight, visit_of}
+use Rattle.run_terms.specs.Frontier.{IsEnding, EndTells, AreStates, IsUnreached, AheadTells, IsFrontier, Tells, ending_at}
+
+pub each-get : {A : Type 0} (P : A → Type 0) (xs : List A) (n : ℕ) (x : A) → Each P xs → slice_get xs n ≡ Some x → P x
+each-get P [] n x h e = absurd (let c : ⊥ = cc in c)
+each-get P (y ∷ ys) zero x h e = (let is : y ≡ x = cc in subst P is h.0)
+each-get P (y ∷ ys) (suc n) x h e = each-get P ys n x h.1 e
+
+-- of both parts of a list
+pub each-parts : {A : Type 0} (P : A → Type 0) (n : ℕ) (xs : List A) → Each P (take n xs) → Each P (drop n xs) → Each P xs
+each-parts P zero xs h t = t
+each-parts P (suc n) [] h t = tt
+each-parts P (suc n) (x ∷ xs) h t = (h.0, each-parts P n xs h.1 t)
+
+-- the blocks of a memory, given and not
+pub memory_blocks : (terms : List Term) (m : RunMemory) → IsRunMemory terms m → AreSymBlocks terms m.blocks
+memory_blocks terms m h = each-parts (IsSymBlock terms) m.given m.blocks h.given.are h.are
+
+-- where the machine is, is where the state says
+pub carries_there : (g : Scene) (terms : List Term) (at : Visit) (s : RunState) (m : Machine) → Carries g terms at s m → Carries g terms (visit_of m) s m
+carries_there g terms at s m h = subst (λ (v : Visit). Carries g terms v s m) (sym h.visit) h
+
+module _ (old new : List Term) (k : Keeps old new) where
+  pub sees-later : (g : Scene) (tape : List TermId) → AreWords old tape → Sees g old tape → Sees g new tape
+  sees-later g tape h s = words_at-later old new k g.v tape h ∙ s
+
+  pub tally-later : (t : Tally) → IsTally old t → IsTally new t
+  tally-later t h = record { read = is_term-later old new k 64 t.read h.read; fits = is_term-later old new k 1 t.fits h.fits }
+
+  pub counts-later : (g : Scene) (t : Tally) (taken : List ℕ) → IsTally old t → Counts g old t taken → Counts g new t taken
+  counts-later g t taken h c = record { read = term-later old new k g.v t.read h.read.within ∙ c.read; fits = bit-later old new k g.v t.fits h.fits.within ∙ c.fits }
+
+  -- ---- memory
+
+  pub run_memory-later : (m : RunMemory) → IsRunMemory old m → IsRunMemory new m
+  run_memory-later m h = record {
+    given = given_blocks-later old new k m.given m.room (take m.given m.blocks) h.given;
+    are = sym_blocks-later old new k (drop m.given m.blocks) h.are;
+    own = h.own;
+  }
+
+  -- what the blocks of a memory stand for
+  pub blocks_at-later : (r : Reading) (m : RunMemory) → IsRunMemory old m → memory_at r new m.blocks ≡ memory_at r old m.blocks
+  blocks_at-later r m h = memory-later old new k r m.blocks (memory_blocks old m h)
+
+  -- ---- states
+
+  pub state-later : (s : RunState) → IsState old s → IsState new s
+  state-later s h = record {
+    alive = is_term-later old new k 1 s.alive h.alive;
+    registers = sym_values-later old new k s.registers h.registers;
+    memory = run_memory-later s.memory h.memory;
+    tally = tally-later s.tally h.tally;
+  }
+
+  pub carries-later : (g : Scene) (at : Visit) (s : RunState) (m : Machine) → IsState old s → Carries g old at s m → Carries g new at s m
+  carries-later g at s m h c = record {
+    registers = values-later old new k (sight g) s.registers h.registers ∙ c.registers;
+    given = c.given;
+    memory = blocks_at-later (sight g) s.memory h.memory ∙ c.memory;
+    tally = counts-later g s.tally m.taken h.tally c.tally;
+    most = c.most;
+    visit = c.visit;
+  }
+
+  -- ---- how it ended
+
+  pub some-later : (o : Option SymValue) → IfSome o (IsSymValue old) → IfSome o (IsSymValue new)
+  some-later None h = tt
+  some-later (Some s) h = sym_value-later old new k s h
+
+  pub option-later : (r : Reading) (o : Option SymValue) → IfSome o (IsSymValue old) → option_map (value_at r new) o ≡ option_map (value_at r old) o
+  option-later r None h = refl
+  option-later r (Some s) h = ap Some (value-later old new k r s h)
+
+  pub ending-later : (e : Ending) → IsEnding old e → IsEnding new e
+  ending-later e h = record {
+    ub = is_term-later old new k 1 e.ub h.ub;
+    beyond = is_term-later old new k 1 e.beyond h.beyond;
+    value = some-later e.value h.value;
+    given = given_blocks-later old new k e.memory.given e.memory.room e.memory.blocks h.given;
+    tally = tally-later e.tally h.tally;
+  }
+
+  pub ending_at-later : (r : Reading) (e : Ending) → IsEnding old e → ending_at r new e ≡ ending_at r old e
+  ending_at-later r e h =
+      rw (bit-later old new k r.v e.ub h.ub.within, bit-later old new k r.v e.beyond h.beyond.within, option-later r e.value h.value, memory-later old new k r e.memory.blocks h.given.are) refl
+
+  pub end_tells-later : (g : Scene) (e : Ending) (at : Option Where) → IsEnding old e → EndTells g old e at → EndTells g new e at
+  end_tells-later g e None h s = record { ub = bit-later old new k g.v e.ub h.ub.within ∙ s.ub; beyond = bit-later old new k g.v e.beyond h.beyond.within ∙ s.beyond }
+  end_tells-later g e (Some (At n m)) h s = record { ub = bit-later old new k g.v e.ub h.ub.within ∙ s.ub; beyond = bit-later old new k g.v e.beyond h.beyond.within ∙ s.beyond }
+  end_tells-later g e (Some (Done run)) h s = record {
+    outcome = ending_at-later (sight g) e h ∙ s.outcome;
+    tally = counts-later g e.tally run.taken h.tally s.tally;
+  }
+
+  -- ---- the copies ahead
+
+  state_of-later : (o : Option RunState) → IfSome o (IsState old) → IfSome o (IsState new)
+  state_of-later None h = tt
+  state_of-later (Some s) h = state-later s h
+
+  pub states-later : (ahead : List (Option RunState)) → AreStates old ahead → AreStates new ahead
+  states-later ahead h = each-weaker (λ (o : Option RunState). IfSome o (IsState old)) (λ (o : Option RunState). IfSome o (IsState new)) ahead state_of-later h
+
+  unreached_of-later : (g : Scene) (o : Option RunState) → IfSome o (IsState old) → IsUnreached g old o → IsUnreached g new o
+  unreached_of-later g None h u = tt
+  unreached_of-later g (Some s) h u = bit-later old new k g.v s.alive h.alive.within ∙ u
+
+  pub unreached-later : (g : Scene) (ahead : List (Option RunState)) → AreStates old ahead → Each (IsUnreached g old) ahead → Each (IsUnreached g new) ahead
+  unreached-later g [] h u = tt
+  unreached-later g (o ∷ os) h u = (unreached_of-later g o h.0 u.0, unreached-later g os h.1 u.1)
+
+  pub ahead_tells-later : (g : Scene) (ahead : List (Option RunState)) (at : Option Where) → AreStates old ahead → AheadTells g old ahead at → AheadTells g new ahead at
+  ahead_tells-later g ahead None h s = unreached-later g ahead h s
+  ahead_tells-later g ahead (Some (At n m)) h s =
+      let entry = each-get (λ (o : Option RunState). IfSome o (IsState old)) ahead n (Some s.entry) h s.is in
+      record {
+        entry = s.entry;
+        is = s.is;
+        alive = bit-later old new k g.v s.entry.alive entry.alive.within ∙ s.alive;
+        carries = carries-later g (visit_of m) s.entry m entry s.carries;
+        others = unreached-later g (slice_set ahead n None) (each-set (λ (o : Option RunState). IfSome o (IsState old)) ahead n None h tt) s.others;
+      }
+  ahead_tells-later g ahead (Some (Done run)) h s = unreached-later g ahead h s
+
+  pub tells-later : (g : Scene) (w : Frontier) (at : Option Where) → IsFrontier old w → Tells g old w at → Tells g new w at
+  tells-later g w at h s = record { ahead = ahead_tells-later g w.ahead at h.ahead s.ahead; ending = end_tells-later g w.ending at h.ending s.ending }
+
+  pub frontier-later : (w : Frontier) → IsFrontier old w → IsFrontier new w
+  frontier-later w h = record { ahead = states-later w.ahead h.ahead; ending = ending-later w.ending h.ending }

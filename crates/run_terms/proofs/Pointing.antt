@@ -1,0 +1,119 @@
+-- Which given block a word names.
+use Rattle.std.proofs.Common.{ℕ, zero, suc, ◌≡◌, ◌<◌, ◌≤◌, ◌+◌, Bool, true, false, ◌&&◌, ◌||◌, cond, List, [], ◌∷◌, map, take, drop, nat_eq, nat_lt, nat_le, inl, inr, refl, ap, sym, subst, ◌∙◌, arith}
+use Rattle.std.specs.List.{list_any}
+use Rattle.std.proofs.lemmas.Bool.{cases_Bool}
+use Rattle.std.proofs.lemmas.Bool.Decides.{nat_tests}
+use Rattle.std.proofs.lemmas.List.Folds.{list_any-append}
+use Rattle.byte_block.specs.declared.value.BlockName.TheVariants.{Given}
+use Rattle.byte_block.specs.declared.block.MemoryBlock.{MemoryBlock}
+use Rattle.memory_access.specs.Blocks.{equal_names, names}
+use Rattle.points.specs.Run.{block_number, given_or_null}
+use Rattle.bv_terms.specs.declared.term.Term.{Term}
+use Rattle.bv_terms.specs.Trees.{bit_at}
+use Rattle.mem_terms.specs.declared.blocks.SymBlock.{SymBlock}
+use Rattle.mem_terms.specs.Values.{Each, block_name, first_local}
+use Rattle.mem_terms.specs.Memory.{IsAlways, SymFrame, block_at, frame_of, given_frames, memory_at}
+use Rattle.mem_terms.proofs.Naming.{given_before, given_named as block_named, local_block}
+use Rattle.run_terms.specs.declared.state.RunMemory.{RunMemory}
+use Rattle.run_terms.specs.Runs.{Scene, IsRunMemory, sight}
+use Rattle.run_terms.proofs.Memories.{memory-parts}
+
+-- ---- the name of a number
+
+given_number : (given k n : ℕ) → 0 < n → n ≤ given → equal_names (Given k) (block_name given n) ≡ nat_eq k n
+given_number given k n some within = ap (equal_names (Given k)) (block_named given n some within)
+
+own_number : (given k n : ℕ) → first_local given ≤ n → equal_names (Given k) (block_name given n) ≡ false
+own_number given k n past = ap (equal_names (Given k)) (local_block given n past)
+
+-- ---- the blocks that a given name names
+
+not_there : (p : MemoryBlock → Bool) (e : Bool) (b : MemoryBlock) (bs : List MemoryBlock) → p b ≡ false → list_any p (cond e (b ∷ bs) bs) ≡ list_any p bs
+not_there p true b bs h = rw h refl
+not_there p false b bs h = refl
+
+own_unnamed : (g : Scene) (terms : List Term) (k : ℕ) (bs : List SymBlock) → Each (λ (b : SymBlock). first_local g.given ≤ b.number) bs → list_any (names (Given k)) (memory_at (sight g) terms bs) ≡ false
+unfolding memory_at block_at
+own_unnamed g terms k [] h = refl
+own_unnamed g terms k (b ∷ bs) h =
+    not_there (names (Given k)) (bit_at g.v terms b.exists) (block_at (sight g) terms b) (memory_at (sight g) terms bs) (own_number g.given k b.number h.0) ∙ own_unnamed g terms k bs h.1
+
+first_or_more : (k first n : ℕ) → (nat_eq k first || (nat_le (first + 1) k && nat_lt k ((first + 1) + n))) ≡ (nat_le first k && nat_lt k (first + suc n))
+first_or_more k first n = grind (arith, nat_tests)
+
+none_between : (k first : ℕ) → false ≡ (nat_le first k && nat_lt k (first + 0))
+none_between k first = grind (arith, nat_tests)
+
+frames_first : (b : SymBlock) (bs : List SymBlock) (first n bytes : ℕ) → map frame_of (b ∷ bs) ≡ given_frames first (suc n) bytes → (b.number ≡ first) × (map frame_of bs ≡ given_frames (first + 1) n bytes)
+frames_first b bs first n bytes e = (
+  ap (λ (fs : List SymFrame). number_of fs) e,
+  ap (λ (fs : List SymFrame). rest_of fs) e,
+)
+  where
+    number_of : List SymFrame → ℕ
+    number_of [] = 0
+    number_of (f ∷ fs) = f.number
+
+    rest_of : List SymFrame → List SymFrame
+    rest_of [] = []
+    rest_of (f ∷ fs) = fs
+
+given_named : (g : Scene) (terms : List Term) (k first n bytes : ℕ) (bs : List SymBlock) → Each (IsAlways terms) bs → map frame_of bs ≡ given_frames first n bytes → 0 < first → first + n ≤ g.given + 1
+    → list_any (names (Given k)) (memory_at (sight g) terms bs) ≡ (nat_le first k && nat_lt k (first + n))
+unfolding memory_at block_at
+given_named g terms k first zero bytes [] always frames some within = none_between k first
+given_named g terms k first zero bytes (b ∷ bs) always frames some within = absurd (let c : ⊥ = cc in c)
+given_named g terms k first (suc n) bytes [] always frames some within = absurd (let c : ⊥ = cc in c)
+given_named g terms k first (suc n) bytes (b ∷ bs) always frames some within =
+    let parts = frames_first b bs first n bytes frames in
+    let more = given_named g terms k (first + 1) n bytes bs always.1 parts.1 (omega arith) (omega (arith, within)) in
+    let here : equal_names (Given k) (block_name g.given b.number) ≡ nat_eq k first = rw parts.0 (given_number g.given k first some (omega (arith, within))) in
+    rw (always.0 g.v, more) (ap (λ (x : Bool). x || (nat_le (first + 1) k && nat_lt k ((first + 1) + n))) here ∙ first_or_more k first n)
+
+or_false : (b : Bool) → (b || false) ≡ b
+or_false true = refl
+or_false false = refl
+
+-- a given name names a block of a run's memory where its number is that of a given block
+pub names_given : (g : Scene) (terms : List Term) (m : RunMemory) (k : ℕ) → IsRunMemory terms m → m.given ≡ g.given
+    → list_any (names (Given k)) (memory_at (sight g) terms m.blocks) ≡ (nat_le 1 k && nat_lt k (1 + g.given))
+names_given g terms m k h same =
+    let bs = m.blocks in
+    let given = given_named g terms k 1 m.given m.room (take m.given bs) h.given.always h.given.frames (omega arith) (omega (arith, same)) in
+    let own = own_unnamed g terms k (drop m.given bs) (subst (λ (n : ℕ). Each (λ (b : SymBlock). first_local n ≤ b.number) (drop m.given m.blocks)) same h.own) in
+    ap (list_any (names (Given k))) (sym (memory-parts (sight g) terms m.given bs))
+    ∙ (list_any-append (names (Given k)) (memory_at (sight g) terms (take m.given bs)) (memory_at (sight g) terms (drop m.given bs))
+    ∙ (rw (given, own) (or_false (nat_le 1 k && nat_lt k (1 + m.given))) ∙ ap (λ (n : ℕ). nat_le 1 k && nat_lt k (1 + n)) same))
+
+-- ---- the block that is chosen
+
+same_both : (b : Bool) (n : ℕ) → cond b n n ≡ n
+same_both true n = refl
+same_both false n = refl
+
+pub chosen_block : (memory : List MemoryBlock) (given low : ℕ) → list_any (names (Given low)) memory ≡ (nat_le 1 low && nat_lt low (1 + given))
+    → (block_name given (cond (nat_le low given) low 0) ≡ given_or_null memory low) × (cond (nat_le low given) low 0 ≡ block_number (given_or_null memory low))
+chosen_block memory given zero e = (ap (block_name given) (same_both (nat_le 0 given) 0), same_both (nat_le 0 given) 0)
+chosen_block memory given (suc i) e = elim (cases_Bool (nat_le (suc i) given)) [
+  | inl t ↦ (
+      let is : (nat_le 1 (suc i) && nat_lt (suc i) (1 + given)) ≡ true = within i given t in
+      let below : nat_lt (suc i) (first_local given) ≡ true = before i given t (given_before given) in
+      rw (t, e, is, above_0 i, below) (refl, refl)
+      )
+  | inr f ↦ (
+      let is : (nat_le 1 (suc i) && nat_lt (suc i) (1 + given)) ≡ false = beyond i given f in
+      rw (f, e, is, above_0 i) (refl, refl)
+      )
+]
+  where
+    within : (i given : ℕ) → nat_le (suc i) given ≡ true → (nat_le 1 (suc i) && nat_lt (suc i) (1 + given)) ≡ true
+    within i given t = grind (arith, nat_tests)
+
+    above_0 : (i : ℕ) → nat_lt 0 (suc i) ≡ true
+    above_0 i = grind (arith, nat_tests)
+
+    before : (i given : ℕ) → nat_le (suc i) given ≡ true → given < first_local given → nat_lt (suc i) (first_local given) ≡ true
+    before i given t lt = grind (arith, nat_tests)
+
+    beyond : (i given : ℕ) → nat_le (suc i) given ≡ false → (nat_le 1 (suc i) && nat_lt (suc i) (1 + given)) ≡ false
+    beyond i given f = grind (arith, nat_tests)

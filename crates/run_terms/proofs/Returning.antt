@@ -1,0 +1,135 @@
+-- A return leaves the given blocks of its memory.
+use Rattle.std.proofs.Common.{ℕ, zero, suc, ◌≡◌, ◌<◌, ◌≤◌, ◌+◌, Bool, true, false, cond, if◌then◌else◌, List, [], ◌∷◌, ◌++◌, map, take, drop, Option, Some, None, refl, ap, sym, subst, ◌∙◌, arith}
+use Rattle.std.specs.Prelude.{is_some}
+use Rattle.std.specs.Option.{option_map}
+use Rattle.std.specs.List.{filter}
+use Rattle.std.proofs.lemmas.List.Elements.{filter-append}
+use Rattle.byte_block.specs.declared.value.Value.{Value}
+use Rattle.byte_block.specs.declared.block.MemoryBlock.{MemoryBlock}
+use Rattle.points.specs.declared.machine.Machine.{Machine}
+use Rattle.points.specs.declared.outcome.Outcome.TheVariants.{Return}
+use Rattle.points.specs.Run.{Run, is_given}
+use Rattle.unroll.specs.Layers.{Where, Done}
+use Rattle.bv_terms.specs.declared.term.TermId.{TermId}
+use Rattle.bv_terms.specs.declared.term.Term.{Term}
+use Rattle.bv_terms.specs.Trees.{Keeps, IsTerm, bit_at}
+use Rattle.mem_terms.specs.declared.values.SymValue.{SymValue}
+use Rattle.mem_terms.specs.declared.blocks.SymBlock.{SymBlock}
+use Rattle.mem_terms.specs.Values.{Each, first_local, reading, value_at}
+use Rattle.mem_terms.specs.Memory.{AreGivenBlocks, SymFrame, block_at, frame_of, given_frames, memory_at}
+use Rattle.mem_terms.proofs.Later.{bit-later, memory-later}
+use Rattle.mem_terms.proofs.Naming.{given_named, local_block}
+use Rattle.run_terms.specs.declared.state.Tally.{Tally}
+use Rattle.run_terms.specs.declared.state.RunMemory.{RunMemory}
+use Rattle.run_terms.specs.declared.state.RunState.{RunState}
+use Rattle.run_terms.specs.declared.frontier.Frontier.{Frontier}
+use Rattle.run_terms.specs.declared.setting.Setting.{Setting}
+use Rattle.run_terms.specs.Runs.{Scene, IsRunMemory, IsState, Counts, Carries, StateShape, Visit, shape_of, sight}
+use Rattle.run_terms.specs.Frontier.{EndingShape, HasShape, IsFrontier, Tells, Moves, shape_in}
+use Rattle.run_terms.proofs.Lasting.{tells-later}
+use Rattle.run_terms.proofs.Memories.{memory-parts}
+
+-- ---- their numbers
+
+abbrev first_number : List SymFrame → ℕ
+first_number [] = 0
+first_number (f ∷ fs) = f.number
+
+abbrev behind_first : List SymFrame → List SymFrame
+behind_first [] = []
+behind_first (f ∷ fs) = fs
+
+abbrev IsGivenNumber : ℕ → SymBlock → Type 0
+IsGivenNumber given b = (0 < b.number) × (b.number ≤ given)
+
+given_numbers : (given first n bytes : ℕ) (bs : List SymBlock) → map frame_of bs ≡ given_frames first n bytes → 0 < first → first + n ≤ given + 1 → Each (IsGivenNumber given) bs
+given_numbers given first n bytes [] e p q = tt
+given_numbers given first zero bytes (b ∷ bs) e p q = absurd (let c : ⊥ = cc in c)
+given_numbers given first (suc n) bytes (b ∷ bs) e p q =
+    let is : b.number ≡ first = ap first_number e in
+    ((omega (arith, is, p), omega (arith, is, q)), given_numbers given (first + 1) n bytes bs (ap behind_first e) (omega arith) (omega (arith, q)))
+
+-- ---- which blocks are given
+
+given_block : (given : ℕ) (v : ℕ → ℕ → ℕ) (terms : List Term) (b : SymBlock) → IsGivenNumber given b → is_given (block_at (reading given v) terms b) ≡ true
+unfolding block_at
+given_block given v terms b h = rw (given_named given b.number h.0 h.1) refl
+
+own_block : (given : ℕ) (v : ℕ → ℕ → ℕ) (terms : List Term) (b : SymBlock) → first_local given ≤ b.number → is_given (block_at (reading given v) terms b) ≡ false
+unfolding block_at
+own_block given v terms b h = rw (local_block given b.number h) refl
+
+front_one : (e : Bool) (x : MemoryBlock) (xs : List MemoryBlock) → is_given x ≡ true → filter is_given xs ≡ xs → filter is_given (cond e (x ∷ xs) xs) ≡ cond e (x ∷ xs) xs
+front_one true x xs p q = rw (p, q) refl
+front_one false x xs p q = q
+
+own_one : (e : Bool) (x : MemoryBlock) (xs : List MemoryBlock) → is_given x ≡ false → filter is_given xs ≡ [] → filter is_given (cond e (x ∷ xs) xs) ≡ []
+own_one true x xs p q = rw p q
+own_one false x xs p q = q
+
+front_stays : (given : ℕ) (v : ℕ → ℕ → ℕ) (terms : List Term) (bs : List SymBlock) → Each (IsGivenNumber given) bs → filter is_given (memory_at (reading given v) terms bs) ≡ memory_at (reading given v) terms bs
+unfolding memory_at
+front_stays given v terms [] h = refl
+front_stays given v terms (b ∷ bs) h =
+    front_one (bit_at v terms b.exists) (block_at (reading given v) terms b) (memory_at (reading given v) terms bs) (given_block given v terms b h.0) (front_stays given v terms bs h.1)
+
+own_goes : (given : ℕ) (v : ℕ → ℕ → ℕ) (terms : List Term) (bs : List SymBlock) → Each (λ (b : SymBlock). first_local given ≤ b.number) bs → filter is_given (memory_at (reading given v) terms bs) ≡ []
+unfolding memory_at
+own_goes given v terms [] h = refl
+own_goes given v terms (b ∷ bs) h =
+    own_one (bit_at v terms b.exists) (block_at (reading given v) terms b) (memory_at (reading given v) terms bs) (own_block given v terms b h.0) (own_goes given v terms bs h.1)
+
+none_behind : {A : Type 0} (xs ys : List A) → ys ≡ [] → xs ++ ys ≡ xs
+none_behind [] ys e = e
+none_behind (x ∷ xs) ys e = ap (λ zs. x ∷ zs) (none_behind xs ys e)
+
+pub given_left : (terms : List Term) (m : RunMemory) → IsRunMemory terms m → (v : ℕ → ℕ → ℕ) → filter is_given (memory_at (reading m.given v) terms m.blocks) ≡ memory_at (reading m.given v) terms (take m.given m.blocks)
+given_left terms m h v =
+    let r = reading m.given v in
+    let front = front_stays m.given v terms (take m.given m.blocks) (given_numbers m.given 1 m.given m.room (take m.given m.blocks) h.given.frames (omega arith) (omega arith)) in
+    let own = own_goes m.given v terms (drop m.given m.blocks) h.own in
+    ap (filter is_given) (sym (memory-parts r terms m.given m.blocks))
+    ∙ (filter-append is_given (memory_at r terms (take m.given m.blocks)) (memory_at r terms (drop m.given m.blocks))
+    ∙ (none_behind (filter is_given (memory_at r terms (take m.given m.blocks))) (filter is_given (memory_at r terms (drop m.given m.blocks))) own ∙ front))
+
+-- ---- the return
+
+pub done_if : (p : Bool) (x y : Run) → cond p (Done x) (Done y) ≡ Done (if p then x else y)
+done_if true x y = refl
+done_if false x y = refl
+
+-- the given blocks, with as many and as much room as the ending's
+pub given_shaped : (setting : Setting) (terms : List Term) (w : Frontier) (s : RunState) → HasShape setting w → shape_of s ≡ shape_in setting → IsState terms s
+    → AreGivenBlocks w.ending.memory.given w.ending.memory.room terms (take s.memory.given s.memory.blocks)
+given_shaped setting terms w s shape fits h =
+    let given : s.memory.given ≡ w.ending.memory.given = ap (λ (x : StateShape). x.given) fits ∙ sym (ap (λ (x : EndingShape). x.given) shape.ending) in
+    let room : s.memory.room ≡ w.ending.memory.room = ap (λ (x : StateShape). x.room) fits ∙ sym (ap (λ (x : EndingShape). x.room) shape.ending) in
+    subst (λ (n : ℕ). AreGivenBlocks n w.ending.memory.room terms (take s.memory.given s.memory.blocks)) given
+    (subst (λ (n : ℕ). AreGivenBlocks s.memory.given n terms (take s.memory.given s.memory.blocks)) room h.memory.given)
+
+pub ending_valued : (setting : Setting) (w : Frontier) → HasShape setting w → is_some w.ending.value ≡ is_some setting.f.now.returns
+ending_valued setting w shape = ap (λ (x : EndingShape). x.valued) shape.ending
+
+pub moves_return : (g : Scene) (visit : Visit) (s : RunState) (old a b : List Term) (ka : Keeps old a) (before after : Frontier) (hb : IsFrontier old before) (hs : IsState old s) (c : TermId) (hc : IsTerm old 1 c) (value : Option SymValue) (tally : Tally)
+    (x : Machine → Option Value) (taken : Machine → List ℕ)
+    → ((at : Option Where) → bit_at g.v a c ≡ false → Tells g a before at → Tells g b after at)
+    → ((made : List ℕ) → bit_at g.v a c ≡ true → Counts g a tally made → Tells g a before None
+    → Tells g b after (Some (Done (record { outcome = Return (option_map (value_at (sight g) a) value) (memory_at (sight g) a (take s.memory.given s.memory.blocks)); taken = made }))))
+    → ((m : Machine) → bit_at g.v old c ≡ true → Carries g old visit s m → Counts g a tally (taken m) × (option_map (value_at (sight g) a) value ≡ x m))
+    → Moves g old b before after c visit s (λ (m : Machine). Done (record { outcome = Return (x m) (filter is_given m.memory); taken = taken m }))
+moves_return g visit s old a b ka before after hb hs c hc value tally x taken st go so =
+    let same = bit-later old a ka g.v c hc.within in
+    record {
+      stays = λ at none sh. st at (same ∙ none) (tells-later old a ka g before at hb sh);
+      goes = λ m held h sh.
+          let it = so m held h in
+          let left = memory_left m h in
+          let e : Done (record { outcome = Return (option_map (value_at (sight g) a) value) (memory_at (sight g) a (take s.memory.given s.memory.blocks)); taken = taken m }) ≡ Done (record { outcome = Return (x m) (filter is_given m.memory); taken = taken m }) = rw (it.1, left) refl in
+          subst (λ (w : Where). Tells g b after (Some w)) e (go (taken m) (same ∙ held) it.0 (tells-later old a ka g before None hb sh));
+    }
+  where
+    memory_left : (m : Machine) → Carries g old visit s m → memory_at (sight g) a (take s.memory.given s.memory.blocks) ≡ filter is_given m.memory
+    memory_left m h =
+        memory-later old a ka (sight g) (take s.memory.given s.memory.blocks) hs.memory.given.are
+        ∙ (subst (λ (n : ℕ). memory_at (reading n g.v) old (take s.memory.given s.memory.blocks) ≡ filter is_given (memory_at (reading n g.v) old s.memory.blocks)) h.given (sym (given_left old s.memory hs.memory g.v))
+        ∙ ap (filter is_given) h.memory)

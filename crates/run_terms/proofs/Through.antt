@@ -1,0 +1,346 @@
+-- A run through one copy, and through all.
+use Rattle.std.proofs.Common.{ℕ, zero, suc, ◌≡◌, ◌<◌, ◌≤◌, ◌+◌, Bool, true, false, not, ◌&&◌, nat_eq, nat_le, if◌then◌else◌, List, [], ◌∷◌, ◌++◌, length, map, drop, get_or, Option, Some, None, IfSome, ◌⊎◌, inl, inr, refl, ap, sym, subst, ◌∙◌, arith}
+use Rattle.std.specs.Prelude.{slice_get, slice_set}
+use Rattle.std.specs.List.{All}
+use Rattle.std.proofs.lemmas.List.Elements.{All-get_or}
+use Rattle.std.proofs.lemmas.Bool.{cases_Bool, cases_lt, lt-leb, le-leb, eqb-true, eqb-false}
+use Rattle.std.proofs.lemmas.Option.{slice_get_past, slice_get_within, get_or_from_slice_get}
+use Rattle.std.proofs.lemmas.List.{drop_more, drop_all}
+use Rattle.ir_tree.specs.declared.tree.Inst.{Inst}
+use Rattle.ir_tree.specs.declared.tree.Phi.{Phi}
+use Rattle.ir_tree.specs.declared.tree.Terminator.{Terminator}
+use Rattle.ir_tree.specs.declared.tree.Block.{Block}
+use Rattle.ir_tree.specs.declared.tree.Function.{Function}
+use Rattle.ir_tree.specs.Flow.{targets, block_of, successors}
+use Rattle.ir_tree.specs.Limits.{HasSmallObjects}
+use Rattle.ir_tree.proofs.Indexing.{places_of}
+use Rattle.points.specs.declared.machine.Machine.{Machine}
+use Rattle.points.specs.declared.outcome.Outcome.TheVariants.{Ub}
+use Rattle.points.specs.Run.{Run, Exit, Over, act, assigned, phi_value, with_phis, ended, entered, exit_after, exit_by, exit_insts}
+use Rattle.unroll.specs.declared.layered.Edge.{Edge}
+use Rattle.unroll.specs.declared.layered.BlockCopy.{BlockCopy}
+use Rattle.unroll.specs.Layers.{edge_to, layer_of, layers_of, copies_of, Where, At, Done, left_by, pass_copy, walk, run_at_end}
+use Rattle.bv_terms.specs.declared.term.TermId.{TermId}
+use Rattle.bv_terms.specs.declared.term.Term.{Term}
+use Rattle.bv_terms.specs.Trees.{Keeps, Tests, bit_at}
+use Rattle.mem_terms.specs.Values.{Each}
+use Rattle.mem_terms.specs.Inputs.{AreWords}
+use Rattle.mem_terms.proofs.Eaches.{each-set}
+use Rattle.mem_terms.proofs.Later.{keeps_self, keeps_trans, bit-later}
+use Rattle.run_terms.specs.declared.state.RunState.{RunState}
+use Rattle.run_terms.specs.declared.frontier.Frontier.{Frontier}
+use Rattle.run_terms.specs.declared.setting.Setting.{Setting}
+use Rattle.run_terms.specs.Runs.{Scene, Sees, IsState, Counts, Carries, Course, Idle, Dead, Live, Visit, advanced, shape_of, steps, Follows, visit_of}
+use Rattle.run_terms.specs.Frontier.{AreStates, CanRun, HasSmallNumbers, IsUnreached, AheadTells, HaveShape, IsFrontier, HasShape, Tells, Moves, AreByLabel, IsCopyIn, FitsReturn, ReturnsFit, ending_shape, entering, arrived, placed, shape_in}
+use Rattle.run_terms.proofs.Lasting.{each-get, counts-later, carries-later, tells-later}
+use Rattle.run_terms.proofs.Reached.{set_length, set_other, changed_tells, passes_taken}
+
+-- ---- the instructions of a block and its end
+
+steps_dead : (insts : List Inst) (tape : List ℕ) (m : Machine) → steps insts tape (Dead m) ≡ Dead m
+unfolding steps
+steps_dead [] tape m = refl
+steps_dead (i ∷ is) tape m = steps_dead is tape m
+
+steps_idle : (insts : List Inst) (tape : List ℕ) → steps insts tape Idle ≡ Idle
+unfolding steps
+steps_idle [] tape = refl
+steps_idle (i ∷ is) tape = steps_idle is tape
+
+-- they end in undefined behaviour, or the block's end is come to
+abbrev Comes : Bool → List Inst → Terminator → List ℕ → Machine → Type 0
+Comes no_undef insts end tape m =
+    ((n : Machine) × (steps insts tape (Live m) ≡ Dead n) × (exit_insts no_undef insts end tape m ≡ Over (ended Ub n)))
+    ⊎ ((n : Machine) × (steps insts tape (Live m) ≡ Live n) × (exit_insts no_undef insts end tape m ≡ exit_by no_undef end tape n))
+
+comes_by : (no_undef : Bool) (i : Inst) (is : List Inst) (end : Terminator) (tape : List ℕ) (m : Machine) (o : Option Machine) → act i tape m ≡ o → ((n : Machine) → Comes no_undef is end tape n) → Comes no_undef (i ∷ is) end tape m
+unfolding steps exit_insts
+comes_by no_undef i is end tape m None e further =
+    inl (m, ap (λ (x : Option Machine). steps is tape (advanced m x)) e ∙ steps_dead is tape m, ap (λ (x : Option Machine). exit_after x m (exit_insts no_undef is end tape)) e)
+comes_by no_undef i is end tape m (Some n) e further =
+    let here : steps is tape (advanced m (act i tape m)) ≡ steps is tape (Live n) = ap (λ (x : Option Machine). steps is tape (advanced m x)) e in
+    let there : exit_after (act i tape m) m (exit_insts no_undef is end tape) ≡ exit_insts no_undef is end tape n = ap (λ (x : Option Machine). exit_after x m (exit_insts no_undef is end tape)) e in
+    elim (further n) [
+      | inl d ↦ inl (d.0, here ∙ d.1, there ∙ d.2)
+      | inr l ↦ inr (l.0, here ∙ l.1, there ∙ l.2)
+    ]
+
+comes : (no_undef : Bool) (insts : List Inst) (end : Terminator) (tape : List ℕ) (m : Machine) → Comes no_undef insts end tape m
+unfolding steps exit_insts
+comes no_undef [] end tape m = inr (m, refl, refl)
+comes no_undef (i ∷ is) end tape m = comes_by no_undef i is end tape m (act i tape m) refl (comes no_undef is end tape)
+
+module _ (old a b d new : List Term) (ka : Keeps old a) (kb : Keeps a b) (kd : Keeps b d) (before between after : Frontier) (hb : IsFrontier old before) (tape : List TermId) (words : AreWords old tape)
+    (entry s : RunState) (he : IsState old entry) (hs : IsState a s) (block : Block) (no_undef : Bool) (undefined : TermId) (visit : Visit) (place : Exit → Where) where
+  pub copy_moves : ((g : Scene) (c : Course) → Sees g old tape → Follows g old visit entry c → Follows g a visit s (steps block.insts g.tape c))
+      → Tests b undefined (λ v. bit_at v a entry.alive && not (bit_at v a s.alive))
+      → ((g : Scene) (at : Option Where) → bit_at g.v b undefined ≡ false → Tells g b before at → Tells g d between at)
+      → ((g : Scene) (made : List ℕ) → bit_at g.v b undefined ≡ true → Counts g b s.tally made → Tells g b before None → Tells g d between (Some (Done (record { outcome = Ub; taken = made }))))
+      → ((r : Run) → place (Over r) ≡ Done r)
+      → (g : Scene) → Sees g old tape
+      → Moves g d new between after s.alive visit s (λ (m : Machine). place (exit_by no_undef block.terminator g.tape m))
+      → Moves g old new before after entry.alive visit entry (λ (m : Machine). place (exit_insts no_undef block.insts block.terminator g.tape m))
+  copy_moves run t st go over g sees last =
+      let kab = keeps_trans old a b ka kb in
+      let kad = keeps_trans a b d kb kd in
+      let und : bit_at g.v b undefined ≡ (bit_at g.v old entry.alive && not (bit_at g.v a s.alive)) = t.says g.v ∙ ap (λ x. x && not (bit_at g.v a s.alive)) (bit-later old a ka g.v entry.alive he.alive.within) in
+      record {
+        stays = λ at none sh.
+            let idle = run g Idle sees none in
+            let sh' : Tells g b before at = tells-later old b kab g before at hb sh in
+            let off : bit_at g.v a s.alive ≡ false = idle_is none idle in
+            last.stays at (bit-later a d kad g.v s.alive hs.alive.within ∙ off) (st g at (und ∙ rw none refl) sh');
+        goes = λ m held h sh.
+            let sh' : Tells g b before None = tells-later old b kab g before None hb sh in
+            let follows = run g (Live m) sees (held, h) in
+            elim (comes no_undef block.insts block.terminator g.tape m) [
+              | inl e ↦ dies m held sh' e.0 e.1 e.2 follows und
+              | inr e ↦ lives m held sh' e.0 e.1 e.2 follows und
+            ];
+      }
+    where
+      idle_is : bit_at g.v old entry.alive ≡ false → Follows g a visit s (steps block.insts g.tape Idle) → bit_at g.v a s.alive ≡ false
+      idle_is none h = subst (λ (c : Course). Follows g a visit s c) (steps_idle block.insts g.tape) h
+
+      und_is : bit_at g.v b undefined ≡ (bit_at g.v old entry.alive && not (bit_at g.v a s.alive)) → (x y : Bool) → bit_at g.v old entry.alive ≡ x → bit_at g.v a s.alive ≡ y → bit_at g.v b undefined ≡ (x && not y)
+      und_is und x y ex ey = und ∙ rw (ex, ey) refl
+
+      dies : (m : Machine) → bit_at g.v old entry.alive ≡ true → Tells g b before None → (n : Machine) → steps block.insts g.tape (Live m) ≡ Dead n
+          → exit_insts no_undef block.insts block.terminator g.tape m ≡ Over (ended Ub n) → Follows g a visit s (steps block.insts g.tape (Live m))
+          → bit_at g.v b undefined ≡ (bit_at g.v old entry.alive && not (bit_at g.v a s.alive))
+          → Tells g new after (Some (place (exit_insts no_undef block.insts block.terminator g.tape m)))
+      dies m held sh' n is exit follows und =
+          let dead = subst (λ (c : Course). Follows g a visit s c) is follows in
+          let k : Counts g b s.tally n.taken = counts-later a b kb g s.tally n.taken hs.tally dead.1 in
+          let over' : place (exit_insts no_undef block.insts block.terminator g.tape m) ≡ Done (ended Ub n) = ap place exit ∙ over (ended Ub n) in
+          subst (λ (w : Where). Tells g new after (Some w)) (sym over')
+          (last.stays (Some (Done (ended Ub n))) (bit-later a d (keeps_trans a b d kb kd) g.v s.alive hs.alive.within ∙ dead.0) (go g n.taken (und_is und true false held dead.0) k sh'))
+
+      lives : (m : Machine) → bit_at g.v old entry.alive ≡ true → Tells g b before None → (n : Machine) → steps block.insts g.tape (Live m) ≡ Live n
+          → exit_insts no_undef block.insts block.terminator g.tape m ≡ exit_by no_undef block.terminator g.tape n → Follows g a visit s (steps block.insts g.tape (Live m))
+          → bit_at g.v b undefined ≡ (bit_at g.v old entry.alive && not (bit_at g.v a s.alive))
+          → Tells g new after (Some (place (exit_insts no_undef block.insts block.terminator g.tape m)))
+      lives m held sh' n is exit follows und =
+          let kad = keeps_trans a b d kb kd in
+          let live = subst (λ (c : Course). Follows g a visit s c) is follows in
+          subst (λ (w : Where). Tells g new after (Some w)) (sym (ap place exit))
+          (last.goes n (bit-later a d kad g.v s.alive hs.alive.within ∙ live.0) (carries-later a d kad g visit s n hs live.1) (st g None (und_is und true true held live.0) sh'))
+
+-- ---- the copy of a number
+
+le_next : (k n : ℕ) → (k ≡ n → ⊥) → nat_le k n ≡ nat_le (k + 1) n
+le_next k n apart = elim (cases_lt n k) [
+  | inl lt ↦ rw (lt-leb k n lt, lt-leb (k + 1) n (omega (arith, lt))) refl
+  | inr ge ↦ rw (le-leb k n ge, le-leb (k + 1) n (omega (arith, ge, apart))) refl
+]
+
+placed_further : (f : Function) (copies : List BlockCopy) (k n : ℕ) (m : Machine) → (k ≡ n → ⊥) → placed f copies k (At n m) ≡ placed f copies (k + 1) (At n m)
+placed_further f copies k n m apart = rw (le_next k n apart) refl
+
+placed_here : (f : Function) (copies : List BlockCopy) (k : ℕ) (copy : BlockCopy) (block : Block) (m : Machine) → slice_get copies k ≡ Some copy → slice_get f.blocks copy.block ≡ Some block
+    → placed f copies k (At k m) ≡ At k (entered block (record m { turn = copy.turn }))
+placed_here f copies k copy block m is found = rw (le-leb k k (omega arith), is, found) refl
+
+-- the phis of a block take no turn
+phis_turn : (before : Machine) (phis : List Phi) (m : Machine) → (with_phis before phis m).turn ≡ m.turn
+phis_turn before [] m = refl
+phis_turn before (phi ∷ phis) m = phis_turn before phis (assigned m phi.into (phi_value before phi))
+
+entered_visit : (b : Block) (m : Machine) → visit_of (entered b m) ≡ record { label = b.label; turn = m.turn }
+entered_visit b m = rw (phis_turn m b.phis m) refl
+
+-- the run stands nowhere ahead, or at a copy of another number
+abbrev IsElsewhere : ℕ → Where → Type 0
+IsElsewhere k (At n m) = k ≡ n → ⊥
+IsElsewhere k (Done run) = Unit {0}
+
+placed_elsewhere : (f : Function) (copies : List BlockCopy) (k n : ℕ) (m : Machine) → (k ≡ n → ⊥) → IsElsewhere k (placed f copies k (At n m))
+placed_elsewhere f copies k n m apart = by (nat_le k n) (entering f (slice_get copies n) m)
+  where
+    by : (b : Bool) (o : Option Machine) → IsElsewhere k (if b then arrived n m o else Done (ended Ub m))
+    by true None = tt
+    by true (Some e) = apart
+    by false o = tt
+
+unreached_here : (g : Scene) (terms : List Term) (ahead : List (Option RunState)) (k : ℕ) (known : Option RunState) (w : Where) → slice_get ahead k ≡ Some known → IsElsewhere k w → AheadTells g terms ahead (Some w) → IsUnreached g terms known
+unreached_here g terms ahead k known (At n m) is apart s =
+    each-get (IsUnreached g terms) (slice_set ahead n None) k known s.others (set_other ahead n k None (λ e. apart (sym e)) ∙ is)
+unreached_here g terms ahead k known (Done run) is apart s = each-get (IsUnreached g terms) ahead k known s is
+
+-- what is known of the others, where the entry is taken out
+taken_out : (g : Scene) (old : List Term) (w : Frontier) (hw : IsFrontier old w) (k : ℕ) (known : Option RunState) (at : Where) → slice_get w.ahead k ≡ Some known → IsElsewhere k at → Tells g old w (Some at)
+    → Tells g old (record { ahead = slice_set w.ahead k None; ending = w.ending }) (Some at)
+taken_out g old w hw k known at is apart s = record {
+  ahead = changed_tells old old (keeps_self old) w.ahead hw.ahead g k known None (Some at) (slice_get_within w.ahead k known is) is (passes_taken old g known (unreached_here g old w.ahead k known at is apart s.ahead)) s.ahead;
+  ending = s.ending;
+}
+
+-- a copy of which nothing is known is passed
+pub pass_unknown : (g : Scene) (old : List Term) (f : Function) (copies : List BlockCopy) (w : Frontier) (hw : IsFrontier old w) (k : ℕ) (copy : BlockCopy) (block : Block) (x : Where)
+    → slice_get w.ahead k ≡ Some None → slice_get copies k ≡ Some copy → slice_get f.blocks copy.block ≡ Some block
+    → Tells g old w (Some (placed f copies k x)) → Tells g old (record { ahead = slice_set w.ahead k None; ending = w.ending }) (Some (placed f copies (k + 1) (pass_copy f k copy g.tape x)))
+pass_unknown g old f copies w hw k copy block (Done run) none is found s = taken_out g old w hw k None (Done run) none tt s
+pass_unknown g old f copies w hw k copy block (At n m) none is found s = elim (cases_Bool (nat_eq k n)) [
+  | inl t ↦ absurd (never (eqb-true k n t))
+  | inr f' ↦ there f' (eqb-false k n f')
+]
+  where
+    there : nat_eq k n ≡ false → (k ≡ n → ⊥) → Tells g old (record { ahead = slice_set w.ahead k None; ending = w.ending }) (Some (placed f copies (k + 1) (pass_copy f k copy g.tape (At n m))))
+    there off apart =
+        let stays : At n m ≡ pass_copy f k copy g.tape (At n m) = rw off refl in
+        subst (λ (y : Where). Tells g old (record { ahead = slice_set w.ahead k None; ending = w.ending }) (Some (placed f copies (k + 1) y))) stays
+        (subst (λ (y : Where). Tells g old (record { ahead = slice_set w.ahead k None; ending = w.ending }) (Some y)) (placed_further f copies k n m apart)
+        (taken_out g old w hw k None (placed f copies k (At n m)) none (placed_elsewhere f copies k n m apart) s))
+
+    never : k ≡ n → ⊥
+    never same =
+        let at : placed f copies k (At n m) ≡ At k (entered block (record m { turn = copy.turn })) = ap (λ (i : ℕ). placed f copies k (At i m)) (sym same) ∙ placed_here f copies k copy block m is found in
+        let s' = subst (λ (y : Where). Tells g old w (Some y)) at s in
+        let there = s'.ahead.is in
+        let c : ⊥ = cc in c
+
+-- and one whose block is run from its entry
+pub pass_known : (g : Scene) (old new : List Term) (f : Function) (copies : List BlockCopy) (w after : Frontier) (hw : IsFrontier old w) (k : ℕ) (copy : BlockCopy) (block : Block) (entry : RunState) (x : Where)
+    → slice_get w.ahead k ≡ Some (Some entry) → slice_get copies k ≡ Some copy → slice_get f.blocks copy.block ≡ Some block
+    → Moves g old new (record { ahead = slice_set w.ahead k None; ending = w.ending }) after entry.alive (record { label = block.label; turn = copy.turn }) entry (λ (m : Machine). placed f copies (k + 1) (left_by (targets block.terminator) copy.edges (exit_insts f.returns_no_undef block.insts block.terminator g.tape m)))
+    → Tells g old w (Some (placed f copies k x)) → Tells g new after (Some (placed f copies (k + 1) (pass_copy f k copy g.tape x)))
+pass_known g old new f copies w after hw k copy block entry (Done run) known is found move s =
+    move.stays (Some (Done run)) (unreached_here g old w.ahead k (Some entry) (Done run) known tt s.ahead) (taken_out g old w hw k (Some entry) (Done run) known tt s)
+pass_known g old new f copies w after hw k copy block entry (At n m) known is found move s = elim (cases_Bool (nat_eq k n)) [
+  | inl t ↦ subst (λ (y : Where). Tells g new after (Some (placed f copies (k + 1) y))) (runs t) (here (eqb-true k n t))
+  | inr f' ↦ subst (λ (y : Where). Tells g new after (Some (placed f copies (k + 1) y))) (rests f')
+      (subst (λ (y : Where). Tells g new after (Some y)) (placed_further f copies k n m (eqb-false k n f')) (there (eqb-false k n f')))
+]
+  where
+    runs : nat_eq k n ≡ true → left_by (targets block.terminator) copy.edges (exit_insts f.returns_no_undef block.insts block.terminator g.tape (entered block (record m { turn = copy.turn }))) ≡ pass_copy f k copy g.tape (At n m)
+    runs t = rw (t, found) refl
+
+    rests : nat_eq k n ≡ false → At n m ≡ pass_copy f k copy g.tape (At n m)
+    rests off = rw off refl
+
+    here : k ≡ n → Tells g new after (Some (placed f copies (k + 1) (left_by (targets block.terminator) copy.edges (exit_insts f.returns_no_undef block.insts block.terminator g.tape (entered block (record m { turn = copy.turn }))))))
+    here same =
+        let at : placed f copies k (At n m) ≡ At k (entered block (record m { turn = copy.turn })) = ap (λ (i : ℕ). placed f copies k (At i m)) (sym same) ∙ placed_here f copies k copy block m is found in
+        let s' = subst (λ (y : Where). Tells g old w (Some y)) at s in
+        let stands = s'.ahead in
+        let there = stands.is in
+        let one : stands.entry ≡ entry = cc in
+        move.goes (entered block (record m { turn = copy.turn })) (ap (λ (e : RunState). bit_at g.v old e.alive) (sym one) ∙ stands.alive)
+        (subst (λ (e : RunState). Carries g old (record { label = block.label; turn = copy.turn }) e (entered block (record m { turn = copy.turn }))) one
+        (subst (λ (v : Visit). Carries g old v stands.entry (entered block (record m { turn = copy.turn }))) (entered_visit block (record m { turn = copy.turn })) stands.carries))
+        (record { ahead = stands.others; ending = s'.ending })
+
+    there : (k ≡ n → ⊥) → Tells g new after (Some (placed f copies k (At n m)))
+    there apart =
+        let other = placed_elsewhere f copies k n m apart in
+        move.stays (Some (placed f copies k (At n m))) (unreached_here g old w.ahead k (Some entry) (placed f copies k (At n m)) known other s.ahead) (taken_out g old w hw k (Some entry) (placed f copies k (At n m)) known other s)
+
+-- ---- all copies
+
+pub walk_more : (f : Function) (copies : List BlockCopy) (k : ℕ) (copy : BlockCopy) (tape : List ℕ) (w : Where) → k < length copies → copy ≡ get_or copies k copy
+    → walk f k (drop k copies) tape w ≡ walk f (k + 1) (drop (k + 1) copies) tape (pass_copy f k copy tape w)
+unfolding walk
+walk_more f copies k copy tape w lt is =
+    let next : suc k ≡ k + 1 = omega arith in
+    rw (drop_more copies k copy lt, ← is) (ap (λ (i : ℕ). walk f i (drop (k + 1) copies) tape (pass_copy f k copy tape w)) next)
+
+pub walk_end : (f : Function) (copies : List BlockCopy) (k : ℕ) (tape : List ℕ) (w : Where) → length copies ≤ k → walk f k (drop k copies) tape w ≡ w
+unfolding walk
+walk_end f copies k tape w past = rw (drop_all k copies past) refl
+
+pub walk_over : (f : Function) (copies : List BlockCopy) (k : ℕ) (tape : List ℕ) (run : Run) → walk f k copies tape (Done run) ≡ Done run
+unfolding walk
+walk_over f [] k tape run = refl
+walk_over f (c ∷ cs) k tape run = walk_over f cs (suc k) tape run
+
+pub placed_end : (f : Function) (copies : List BlockCopy) (w : Where) → placed f copies (length copies) w ≡ Done (run_at_end w)
+placed_end f copies (Done run) = refl
+placed_end f copies (At n m) = elim (cases_lt n (length copies)) [
+  | inl lt ↦ rw (lt-leb (length copies) n lt) refl
+  | inr ge ↦ (let none : slice_get copies n ≡ None = slice_get_past copies n ge in rw (le-leb (length copies) n ge, none) refl)
+]
+
+-- ---- the copies of a function
+
+each-append : {A : Type 0} (P : A → Type 0) (xs ys : List A) → Each P xs → Each P ys → Each P (xs ++ ys)
+each-append P [] ys h k = k
+each-append P (x ∷ xs) ys h k = (h.0, each-append P xs ys h.1 k)
+
+map_map : (e : ℕ → Edge) (p : ℕ → ℕ) (ls : List ℕ) → map e (map p ls) ≡ map (λ l. e (p l)) ls
+map_map e p [] = refl
+map_map e p (l ∷ ls) = ap (λ es. e (p l) ∷ es) (map_map e p ls)
+
+layer_in : (f : Function) (turns n turn at : ℕ) (bs : List Block) → ((i : ℕ) → slice_get f.blocks (at + i) ≡ slice_get bs i) → Each (IsCopyIn f) (layer_of turns n turn at (map (places_of f) bs))
+unfolding layer_of
+layer_in f turns n turn at [] from = tt
+layer_in f turns n turn at (b ∷ bs) from =
+    let here : at ≡ at + 0 = omega arith in (
+      record {
+        block = b;
+        is = ap (λ (i : ℕ). slice_get f.blocks i) here ∙ from 0;
+        edges = (λ (l : ℕ). edge_to turns n turn at (block_of f l), map_map (edge_to turns n turn at) (block_of f) (targets b.terminator));
+      },
+      layer_in f turns n turn (suc at) bs (λ i. ap (λ (j : ℕ). slice_get f.blocks j) (let e : suc at + i ≡ at + suc i = omega arith in e) ∙ from (suc i)),
+    )
+
+layers_in : (f : Function) (turns n turn count : ℕ) → Each (IsCopyIn f) (layers_of turns n (successors f) turn count)
+unfolding layers_of
+layers_in f turns n turn zero = tt
+layers_in f turns n turn (suc count) =
+    each-append (IsCopyIn f) (layer_of turns n turn 0 (successors f)) (layers_of turns n (successors f) (suc turn) count)
+    (layer_in f turns n turn 0 f.blocks (λ i. ap (λ (j : ℕ). slice_get f.blocks j) (let e : 0 + i ≡ i = omega arith in e))) (layers_in f turns n (suc turn) count)
+
+pub copies_in : (f : Function) (turns : ℕ) → Each (IsCopyIn f) (copies_of turns f)
+copies_in f turns = layers_in f turns (length f.blocks) 0 (turns + 1)
+
+-- ---- the entry is taken out of the list
+
+pub taken_frontier : (old : List Term) (w : Frontier) (ahead : List (Option RunState)) (k : ℕ) → ahead ≡ slice_set w.ahead k None → IsFrontier old w → IsFrontier old (record { ahead = ahead; ending = w.ending })
+taken_frontier old w ahead k is h = record {
+  ahead = subst (λ (xs : List (Option RunState)). AreStates old xs) (sym is) (each-set (λ (o : Option RunState). IfSome o (IsState old)) w.ahead k None h.ahead tt);
+  ending = h.ending;
+}
+
+pub taken_shape : (setting : Setting) (w : Frontier) (ahead : List (Option RunState)) (k : ℕ) → ahead ≡ slice_set w.ahead k None → HasShape setting w → HasShape setting (record { ahead = ahead; ending = w.ending })
+taken_shape setting w ahead k is h = record {
+  ahead = subst (λ (xs : List (Option RunState)). HaveShape (shape_in setting) xs) (sym is) (each-set (λ (o : Option RunState). IfSome o (λ (s : RunState). shape_of s ≡ shape_in setting)) w.ahead k None h.ahead tt);
+  count = ap length is ∙ (set_length w.ahead k None ∙ h.count);
+  ending = h.ending;
+}
+
+pub entry_state : (old : List Term) (w : Frontier) (k : ℕ) (entry : RunState) → slice_get w.ahead k ≡ Some (Some entry) → IsFrontier old w → IsState old entry
+entry_state old w k entry is h = each-get (λ (o : Option RunState). IfSome o (IsState old)) w.ahead k (Some entry) h.ahead is
+
+pub entry_shape : (setting : Setting) (w : Frontier) (k : ℕ) (entry : RunState) → slice_get w.ahead k ≡ Some (Some entry) → HasShape setting w → shape_of entry ≡ shape_in setting
+entry_shape setting w k entry is h = each-get (λ (o : Option RunState). IfSome o (λ (s : RunState). shape_of s ≡ shape_in setting)) w.ahead k (Some entry) h.ahead is
+
+-- ---- what a copy has of its function
+
+all_at : {A : Type 0} (P : A → Type 0) (xs : List A) (i : ℕ) (x : A) → All P xs → slice_get xs i ≡ Some x → P x
+all_at P xs i x h is =
+    let lt = slice_get_within xs i x is in
+    let e : get_or xs i x ≡ x = get_or_from_slice_get xs i x x is in
+    subst P e (All-get_or P xs i x lt h)
+
+pub fits_at : (f : Function) (at : ℕ) (block : Block) → ReturnsFit f → slice_get f.blocks at ≡ Some block → FitsReturn f.returns block.terminator
+fits_at f at block h is = all_at (λ (b : Block). FitsReturn f.returns b.terminator) f.blocks at block h is
+
+-- types and numbers of its instructions
+pub objects_at : (f : Function) (at : ℕ) (block : Block) → CanRun f → slice_get f.blocks at ≡ Some block → HasSmallObjects block
+objects_at f at block h is = all_at HasSmallObjects f.blocks at block h.objects is
+
+pub numbers_at : (f : Function) (at : ℕ) (block : Block) → CanRun f → slice_get f.blocks at ≡ Some block → HasSmallNumbers block
+numbers_at f at block h is = all_at HasSmallNumbers f.blocks at block h.numbers is
+
+pub labels_at : (f : Function) (copy : BlockCopy) (block : Block) → IsCopyIn f copy → slice_get f.blocks copy.block ≡ Some block → AreByLabel (targets block.terminator) copy.edges
+labels_at f copy block h is =
+    let there = h.is in
+    let same : h.block ≡ block = cc in
+    subst (λ (b : Block). AreByLabel (targets b.terminator) copy.edges) same h.edges
+
+pub shape_after : (setting : Setting) (w after : Frontier) → after.ahead ≡ w.ahead → ending_shape after.ending ≡ ending_shape w.ending → HasShape setting w → HasShape setting after
+shape_after setting w after ahead ending h = record {
+  ahead = subst (λ (xs : List (Option RunState)). HaveShape (shape_in setting) xs) (sym ahead) h.ahead;
+  count = ap length ahead ∙ h.count;
+  ending = ending ∙ h.ending;
+}

@@ -1,0 +1,15 @@
+use Rattle.std.proofs.Common.{◌∙◌, ap, List}
+use Rattle.byte_block.specs.declared.value.Value.{Value}
+use Rattle.points.specs.Run.{operand_value}
+use Rattle.mem_terms.specs.Values.{as_integer}
+use Rattle.mem_terms.proofs.Later.{number-later, values-later}
+use Rattle.run_terms.proofs.instructions.numbers_of.Goals as goal
+
+pub returns-clause-left : goal.returns-clause-left
+returns-clause-left c = λ r names.
+    number-later c.number_of.new.terms c.number_of-2.new.terms c.number_of-2.ensures.kept r.v c.in_ok-left.left c.in_ok-left.ensures.made ∙ c.in_ok-left.ensures.stands r names
+
+pub returns-clause-right : goal.returns-clause-right
+returns-clause-right c = λ r names.
+    c.in_ok-right.ensures.stands r names
+    ∙ ap (λ (rs : List Value). as_integer (operand_value rs c.args.operands.right)) (values-later c.args.terms.now c.number_of.new.terms c.number_of.ensures.kept r c.args.registers.now c.requires)

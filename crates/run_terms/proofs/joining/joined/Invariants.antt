@@ -1,0 +1,6 @@
+-- The blocks so far are the first ones and those that came.
+use Rattle.std.proofs.Common.{◌≡◌, ◌++◌}
+use Rattle.run_terms.proofs.joining.joined.Given as goal
+
+abbrev pub invariant-loop-block : goal.invariant-loop-block
+invariant-loop-block l = l.blocks ≡ l.fn.first ++ l.yielded

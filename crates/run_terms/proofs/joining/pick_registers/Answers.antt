@@ -1,0 +1,13 @@
+use Rattle.std.proofs.Common.{get_or, arith, ◌<◌, length}
+use Rattle.mem_terms.proofs.Eaches.{at-any}
+use Rattle.run_terms.proofs.Joined.{registers_more}
+use Rattle.run_terms.proofs.joining.pick_registers.Goals as goal
+
+pub loop-i-preserved : goal.loop-i-preserved
+loop-i-preserved c =
+    let below : c.loop-i.i < length c.args.b.now = omega arith in
+    registers_more c.args.terms.now c.loop-i.terms c.pick_value.new.terms c.args.c c.args.a.now c.args.b.now c.loop-i.picked.items c.push.new.self.items c.loop-i.i
+    (get_or c.args.a.now c.loop-i.i (record { poison = record { index = 0 }; is_pointer = record { index = 0 }; block = record { index = 0 }; number = record { index = 0 } }))
+    (get_or c.args.b.now c.loop-i.i (record { poison = record { index = 0 }; is_pointer = record { index = 0 }; block = record { index = 0 }; number = record { index = 0 } })) c.in_ok-one.one
+    c.requires.c c.requires.a c.requires.b c.requires.count c.loop-i-test.true (at-any c.args.a.now c.loop-i.i _ _ c.loop-i-test.true) (at-any c.args.b.now c.loop-i.i _ _ below)
+    c.loop-i.invariant.0 c.loop-i.invariant.1 c.loop-i.invariant.2 c.loop-i.invariant.4 c.pick_value.ensures.kept c.in_ok-one.ensures.made c.in_ok-one.ensures.stands c.in_ok-push.ensures.items

@@ -1,0 +1,13 @@
+-- The registers so far are those of the front of each list.
+use Rattle.std.proofs.Common.{◌≡◌, ◌≤◌, length, take, cond}
+use Rattle.bv_terms.specs.Trees.{Keeps, bit_at}
+use Rattle.mem_terms.specs.Values.{AreSymValues, Reading, values_at}
+use Rattle.run_terms.proofs.joining.pick_registers.Given as goal
+
+abbrev pub invariant-loop-i : goal.invariant-loop-i
+invariant-loop-i l =
+    Keeps l.fn.terms l.terms
+    × AreSymValues l.terms l.picked.items
+    × (length l.picked.items ≡ l.i)
+    × (l.i ≤ length l.a)
+    × ((s : Reading) → values_at s l.terms l.picked.items ≡ cond (bit_at s.v l.fn.terms l.c) (take l.i (values_at s l.fn.terms l.a)) (take l.i (values_at s l.fn.terms l.b)))

@@ -1,0 +1,14 @@
+-- What is left of the phis takes the registers so far to those behind all.
+use Rattle.std.proofs.Common.{◌≡◌, drop, length}
+use Rattle.points.specs.declared.machine.Machine.{Machine}
+use Rattle.points.specs.Run.{with_phis}
+use Rattle.bv_terms.specs.Trees.{Keeps}
+use Rattle.mem_terms.specs.Values.{AreSymValues, IsNaming, Reading, values_at}
+use Rattle.run_terms.proofs.phis.registers_behind.Given as goal
+
+abbrev pub invariant-loop-phi : goal.invariant-loop-phi
+invariant-loop-phi l =
+    Keeps l.fn.terms l.terms
+    × AreSymValues l.terms l.behind
+    × (length l.behind ≡ length l.registers)
+    × ((r : Reading) (m : Machine) → IsNaming r.name → values_at r l.fn.terms l.registers ≡ m.registers → m.block ≡ l.label → with_phis m (drop l.phi-index l.phis) (record m { registers = values_at r l.terms l.behind }) ≡ with_phis m l.phis m)

@@ -1,0 +1,200 @@
+-- Where a run is between two copies, told by what is known of the copies ahead and of how it ended.
+use Rattle.std.specs.Prelude.{◌≡◌, ℕ, ◌<◌, Bool, true, false, cond, is_some, nat_eq, nat_le, ◌%◌, if◌then◌else◌, List, length, map, All, Option, Some, None, IfSome, slice_get, slice_set}
+use Rattle.std.specs.List.{find}
+use Rattle.std.specs.Option.{option_map, option_map_or}
+use Rattle.ir_tree.specs.declared.tree.IrType.{IrType}
+use Rattle.ir_tree.specs.declared.tree.Case.{Case}
+use Rattle.ir_tree.specs.declared.tree.Terminator.{Terminator}
+use Rattle.ir_tree.specs.declared.tree.Terminator.TheVariants as terminator
+use Rattle.ir_tree.specs.declared.tree.Block.{Block}
+use Rattle.ir_tree.specs.declared.tree.Function.{Function}
+use Rattle.ir_tree.specs.Sites.{same_number}
+use Rattle.ir_tree.specs.Flow.{targets}
+use Rattle.byte_block.specs.declared.value.Value.{Value}
+use Rattle.byte_block.specs.declared.value.Value.TheVariants.{Num}
+use Rattle.ir_tree.specs.declared.tree.Inst.{Inst}
+use Rattle.ir_tree.specs.declared.tree.Inst.TheVariants as inst
+use Rattle.ir_tree.specs.Limits.{HasSmallObjects}
+use Rattle.points.specs.declared.machine.Machine.{Machine}
+use Rattle.points.specs.declared.outcome.Outcome.{Outcome}
+use Rattle.points.specs.declared.outcome.Outcome.TheVariants.{Return, Ub, Beyond}
+use Rattle.points.specs.declared.point.Input.{Input}
+use Rattle.points.specs.Run.{Run, ended, entered, breaks_noundef, first_machine}
+use Rattle.unroll.specs.declared.layered.Edge.{Edge}
+use Rattle.unroll.specs.declared.layered.BlockCopy.{BlockCopy}
+use Rattle.unroll.specs.Layers.{Where, At, Done, along}
+use Rattle.bv_terms.specs.declared.term.TermId.{TermId}
+use Rattle.bv_terms.specs.declared.term.Term.{Term}
+use Rattle.bv_terms.specs.Trees.{IsTerm, bit_at}
+use Rattle.mem_terms.specs.Values.{Each, IsSymValue, Reading, value_at}
+use Rattle.mem_terms.specs.Memory.{AreGivenBlocks, memory_at}
+use Rattle.run_terms.specs.declared.state.RunState.{RunState}
+use Rattle.run_terms.specs.declared.ending.Ending.{Ending}
+use Rattle.run_terms.specs.declared.setting.Setting.{Setting}
+use Rattle.run_terms.specs.declared.frontier.Frontier.{Frontier}
+use Rattle.run_terms.specs.Runs.{Scene, sight, IsTally, IsState, StateShape, shape_of, Visit, visit_of, Counts, Carries}
+
+-- ---- returns
+
+-- a `ret` has a value exactly where the function's header has a type
+abbrev pub FitsReturn : Option IrType → Terminator → Type 0
+FitsReturn returns (terminator.Return returned) = is_some returned ≡ is_some returns
+FitsReturn returns (terminator.Branch to) = Unit {0}
+FitsReturn returns (terminator.CondBranch condition if_true if_false) = Unit {0}
+FitsReturn returns (terminator.Switch width operand default cases) = Unit {0}
+FitsReturn returns terminator.Unreachable = Unit {0}
+
+abbrev pub ReturnsFit : Function → Type 0
+ReturnsFit f = All (λ (b : Block). FitsReturn f.returns b.terminator) f.blocks
+
+-- ---- what may be run
+
+-- an alloca's number is below the limit on instructions
+abbrev pub HasSmallNumber : Inst → Type 0
+HasSmallNumber (inst.Alloca into number type align) = number < 65536
+HasSmallNumber _ = Unit {0}
+
+abbrev pub UsesMemory : Inst → Type 0
+UsesMemory (inst.Alloca into number type align) = Unit {0}
+UsesMemory (inst.Load into type pointer align) = Unit {0}
+UsesMemory (inst.Store value pointer align) = Unit {0}
+UsesMemory (inst.GetElementPtr into inbounds nuw type base indices) = Unit {0}
+UsesMemory _ = ⊥
+
+abbrev pub HasSmallNumbers : Block → Type 0
+HasSmallNumbers b = All HasSmallNumber b.insts
+
+pub record CanRun (f : Function) : Type 0 where
+  pub returns : ReturnsFit f
+  pub objects : All HasSmallObjects f.blocks
+  pub numbers : All HasSmallNumbers f.blocks
+
+-- ---- how a run ended
+
+pub record IsEnding (terms : List Term) (e : Ending) : Type 0 where
+  pub ub : IsTerm terms 1 e.ub
+  pub beyond : IsTerm terms 1 e.beyond
+  pub value : IfSome e.value (IsSymValue terms)
+  pub given : AreGivenBlocks e.memory.given e.memory.room terms e.memory.blocks
+  pub tally : IsTally terms e.tally
+
+abbrev pub ending_at : Reading → List Term → Ending → Outcome
+ending_at r terms e = cond (bit_at r.v terms e.ub) Ub (cond (bit_at r.v terms e.beyond) Beyond (Return (option_map (value_at r terms) e.value) (memory_at r terms e.memory.blocks)))
+
+-- so
+pub record EndedSo (g : Scene) (terms : List Term) (e : Ending) (run : Run) : Type 0 where
+  pub outcome : ending_at (sight g) terms e ≡ run.outcome
+  pub tally : Counts g terms e.tally run.taken
+
+-- not yet
+pub record NotEnded (g : Scene) (terms : List Term) (e : Ending) : Type 0 where
+  pub ub : bit_at g.v terms e.ub ≡ false
+  pub beyond : bit_at g.v terms e.beyond ≡ false
+
+abbrev pub EndTells : Scene → List Term → Ending → Option Where → Type 0
+EndTells g terms e None = NotEnded g terms e
+EndTells g terms e (Some (At n m)) = NotEnded g terms e
+EndTells g terms e (Some (Done run)) = EndedSo g terms e run
+
+-- ---- the copies ahead
+
+abbrev pub AreStates : List Term → List (Option RunState) → Type 0
+AreStates terms ahead = Each (λ (entry : Option RunState). IfSome entry (IsState terms)) ahead
+
+-- each has this shape
+abbrev pub HaveShape : StateShape → List (Option RunState) → Type 0
+HaveShape shape ahead = Each (λ (entry : Option RunState). IfSome entry (λ (s : RunState). shape_of s ≡ shape)) ahead
+
+abbrev pub IsUnreached : Scene → List Term → Option RunState → Type 0
+IsUnreached g terms entry = IfSome entry (λ (s : RunState). bit_at g.v terms s.alive ≡ false)
+
+-- the run stands at the entry of the copy of a number, its phis done, and at no other
+pub record StandsAt (g : Scene) (terms : List Term) (ahead : List (Option RunState)) (n : ℕ) (m : Machine) : Type 0 where
+  pub entry : RunState
+  pub is : slice_get ahead n ≡ Some (Some entry)
+  pub alive : bit_at g.v terms entry.alive ≡ true
+  pub carries : Carries g terms (visit_of m) entry m
+  pub others : Each (IsUnreached g terms) (slice_set ahead n None)
+
+abbrev pub AheadTells : Scene → List Term → List (Option RunState) → Option Where → Type 0
+AheadTells g terms ahead None = Each (IsUnreached g terms) ahead
+AheadTells g terms ahead (Some (At n m)) = StandsAt g terms ahead n m
+AheadTells g terms ahead (Some (Done run)) = Each (IsUnreached g terms) ahead
+
+-- ---- both
+
+pub record IsFrontier (terms : List Term) (w : Frontier) : Type 0 where
+  pub ahead : AreStates terms w.ahead
+  pub ending : IsEnding terms w.ending
+
+-- the states that the run of a function may be in
+abbrev pub shape_in : Setting → StateShape
+shape_in s = record { names = length s.f.now.names; given = s.given; room = s.room }
+
+-- whether it has a value, how many given blocks, and for how many bytes each has room
+pub record EndingShape : Type 0 where
+  pub valued : Bool
+  pub given : ℕ
+  pub room : ℕ
+
+abbrev pub ending_shape : Ending → EndingShape
+ending_shape e = record { valued = is_some e.value; given = e.memory.given; room = e.memory.room }
+
+-- an entry for each copy, and states and an ending as the function has them
+pub record HasShape (s : Setting) (w : Frontier) : Type 0 where
+  pub ahead : HaveShape (shape_in s) w.ahead
+  pub count : length w.ahead ≡ length s.copies.now
+  pub ending : ending_shape w.ending ≡ record { valued = is_some s.f.now.returns; given = s.given; room = s.room }
+
+-- none is a run that has left one copy and isn't yet at another
+pub record Tells (g : Scene) (terms : List Term) (w : Frontier) (at : Option Where) : Type 0 where
+  pub ahead : AheadTells g terms w.ahead at
+  pub ending : EndTells g terms w.ending at
+
+-- ---- where a jump leads
+
+-- the machine at the entry of a copy, its phis done
+abbrev pub entering : Function → Option BlockCopy → Machine → Option Machine
+entering f None m = None
+entering f (Some copy) m = option_map (λ (b : Block). entered b (record m { turn = copy.turn })) (slice_get f.blocks copy.block)
+
+abbrev pub arrived : ℕ → Machine → Option Machine → Where
+arrived n m None = Done (ended Ub m)
+arrived n m (Some entry) = At n entry
+
+-- a run that goes to a copy before this number, or to one that isn't there, is at its end
+abbrev pub placed : Function → List BlockCopy → (from : ℕ) → Where → Where
+placed f copies from (Done run) = Done run
+placed f copies from (At n m) = if nat_le from n then arrived n m (entering f (slice_get copies n) m) else Done (ended Ub m)
+
+-- where the condition holds the run goes there from the state that it is in, and else nothing changes
+pub record Moves (g : Scene) (old new : List Term) (before after : Frontier) (c : TermId) (at : Visit) (s : RunState) (to : Machine → Where) : Type 0 where
+  pub stays : (at : Option Where) → bit_at g.v old c ≡ false → Tells g old before at → Tells g new after at
+  pub goes : (m : Machine) → bit_at g.v old c ≡ true → Carries g old at s m → Tells g old before None → Tells g new after (Some (to m))
+
+-- a run begins at the first copy, unless an argument breaks `noundef`
+abbrev pub first_place : Function → Input → Where
+first_place f input = if breaks_noundef f.parameters input.args then Done (ended Ub (first_machine f input)) else At 0 (first_machine f input)
+
+-- ---- by the edges of a branch and of a switch
+
+-- a condition of one bit; poison is undefined behaviour
+abbrev pub branched : Value → (if_true if_false : Edge) → Machine → Where
+branched (Num n) if_true if_false m = along (if nat_eq (n % 2) 1 then if_true else if_false) m
+branched _ if_true if_false m = Done (ended Ub m)
+
+-- the edge of the first case with this number of so many bits, or the default's; poison is undefined behaviour
+abbrev pub switched_on : ℕ → Value → (Case → Edge) → Edge → List Case → Machine → Where
+switched_on width (Num n) edge default cases m = along (option_map_or edge (find (λ (c : Case). same_number width c.value n) cases) default) m
+switched_on width _ edge default cases m = Done (ended Ub m)
+
+-- ---- the copies of a function
+
+-- each edge is that of its label
+abbrev pub AreByLabel : List ℕ → List Edge → Type 0
+AreByLabel labels edges = (edge : ℕ → Edge) × (edges ≡ map edge labels)
+
+pub record IsCopyIn (f : Function) (copy : BlockCopy) : Type 0 where
+  pub block : Block
+  pub is : slice_get f.blocks copy.block ≡ Some block
+  pub edges : AreByLabel (targets block.terminator) copy.edges

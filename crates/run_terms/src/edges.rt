@@ -1,0 +1,110 @@
+//! Where the edges of a copy lead.
+
+ghost use Rattle.std.specs.Prelude.{◌≡◌, ◌≤◌, ◌<◌, ℕ, IfOk, OnOk, IfSome, None, Some, length, slice_get, slice_index_or};
+ghost use Rattle.ir_tree.specs.declared.tree.Block.{Block};
+ghost use Rattle.points.specs.declared.machine.Machine.{Machine};
+ghost use Rattle.points.specs.declared.outcome.Outcome.TheVariants as outcome;
+ghost use Rattle.points.specs.Run.{ended, entered};
+ghost use Rattle.unroll.specs.Layers.{At, Done, along};
+ghost use Rattle.bv_terms.specs.Trees.{IsTerm, Keeps};
+ghost use Rattle.run_terms.specs.Runs.{Scene, IsState, shape_of};
+ghost use Rattle.run_terms.specs.Frontier.{HasShape, IsFrontier, Moves, placed, shape_in};
+
+use crate::frontier::{Frontier, Leaving};
+use crate::setting::Setting;
+use bv_terms::Terms;
+use support::NoMemory;
+use unroll::Edge;
+
+/// The edge at a place, and nowhere where there is none.
+pub fn edge_at(edges: &[Edge], place: usize) -> Edge
+    ensures { result ≡ slice_index_or edges.now place Edge.Nowhere }
+{
+    edges.get(place).copied().unwrap_or(Edge::Nowhere)
+}
+
+/// The place of the block of a copy that is ahead, from this number on.
+fn block_ahead(setting: Setting, ahead: usize, n: usize) -> Option<usize>
+    ensures some { IfSome result (λ at. at < length setting.entry.f.now.blocks) }
+    ensures copy { IfSome result (λ at. n < length setting.entry.copies.now) }
+    ensures goes { IfSome result (λ at. (block : Block) → slice_get setting.entry.f.now.blocks at ≡ Some block
+        → (turn : ℕ) × ((m : Machine) → placed setting.entry.f.now setting.entry.copies.now ahead (At n m) ≡ At n (entered block (record m { turn = turn })))) }
+    ensures none { result ≡ None → (m : Machine) → placed setting.entry.f.now setting.entry.copies.now ahead (At n m) ≡ Done (ended outcome.Ub m) }
+{
+    if n < ahead {
+        return None;
+    }
+    if setting.copies.len() <= n {
+        return None;
+    }
+    let copy = setting.copies.get(n);
+    if copy.block < setting.f.blocks.len() {
+        Some(copy.block)
+    } else {
+        None
+    }
+}
+
+/// The run leaves its block for the copy of this number.
+fn follow_to(
+    setting: Setting,
+    terms: &mut Terms,
+    frontier: &mut Frontier,
+    leaving: Leaving,
+    n: usize,
+) -> Result<(), NoMemory>
+    requires frontier { IsFrontier terms.old frontier.old }
+    requires shape { HasShape setting frontier.old }
+    requires state { IsState terms.old leaving.state.now }
+    requires fits { shape_of leaving.state.now ≡ shape_in setting }
+    requires c { IsTerm terms.old 1 leaving.c }
+    ensures frontier { OnOk result (IsFrontier terms.new frontier.new) }
+    ensures shape { OnOk result (HasShape setting.entry frontier.new) }
+    ensures moves { OnOk result ((g : Scene) (turn : ℕ) → Moves g terms.old terms.new frontier.old frontier.new leaving.entry.c (record { label = leaving.entry.label; turn = turn }) leaving.entry.state.now
+        (λ m. placed setting.entry.f.now setting.entry.copies.now leaving.entry.ahead (At n m))) }
+    ensures kept { Keeps terms.old terms.new }
+{
+    match block_ahead(setting, leaving.ahead, n) {
+        Some(at) => {
+            let block = setting.f.blocks.get(at);
+            frontier.arrive(setting.alloc, terms, leaving, n, block)?;
+            Ok(())
+        }
+        None => {
+            frontier.end_undefined(terms, leaving.c, leaving.state.tally)?;
+            Ok(())
+        }
+    }
+}
+
+/// The run leaves its block by this edge.
+pub fn follow(
+    setting: Setting,
+    terms: &mut Terms,
+    frontier: &mut Frontier,
+    leaving: Leaving,
+    edge: Edge,
+) -> Result<(), NoMemory>
+    requires frontier { IsFrontier terms.old frontier.old }
+    requires shape { HasShape setting frontier.old }
+    requires state { IsState terms.old leaving.state.now }
+    requires fits { shape_of leaving.state.now ≡ shape_in setting }
+    requires c { IsTerm terms.old 1 leaving.c }
+    ensures frontier { OnOk result (IsFrontier terms.new frontier.new) }
+    ensures shape { OnOk result (HasShape setting.entry frontier.new) }
+    ensures moves { OnOk result ((g : Scene) (turn : ℕ) → Moves g terms.old terms.new frontier.old frontier.new leaving.entry.c (record { label = leaving.entry.label; turn = turn }) leaving.entry.state.now
+        (λ m. placed setting.entry.f.now setting.entry.copies.now leaving.entry.ahead (along edge m))) }
+    ensures kept { Keeps terms.old terms.new }
+{
+    match edge {
+        Edge::Copy(n) => follow_to(setting, terms, frontier, leaving, n),
+        Edge::Beyond => {
+            frontier.end_beyond(terms, leaving.c, leaving.state.tally)?;
+            Ok(())
+        }
+        Edge::Nowhere => {
+            frontier.end_undefined(terms, leaving.c, leaving.state.tally)?;
+            Ok(())
+        }
+    }
+}

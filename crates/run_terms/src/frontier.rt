@@ -1,0 +1,216 @@
+//! Where a run is between two copies.
+
+ghost use Rattle.std.specs.Prelude.{◌≡◌, ◌<◌, true, false, ℕ, List, is_some, IfOk, OnOk, IfSome, None, Some, Option, length, slice_get, slice_set};
+ghost use Rattle.std.specs.Option.{option_map};
+ghost use Rattle.points.specs.declared.machine.Machine.{Machine};
+ghost use Rattle.points.specs.declared.outcome.Outcome.TheVariants as outcome;
+ghost use Rattle.points.specs.Run.{entered};
+ghost use Rattle.unroll.specs.Layers.{Where, At, Done};
+ghost use Rattle.bv_terms.specs.Trees.{IsTerm, Keeps, bit_at};
+ghost use Rattle.mem_terms.specs.Values.{IsSymValue, value_at};
+ghost use Rattle.mem_terms.specs.Memory.{AreGivenBlocks, memory_at};
+ghost use Rattle.run_terms.specs.Runs.{Scene, IsState, IsTally, Counts, Carries, Visit, shape_of, sight, visit_of};
+ghost use Rattle.run_terms.specs.Frontier.{AheadTells, AreStates, HaveShape, IsFrontier, Moves, Tells, ending_shape};
+
+use crate::ending::Ending;
+use crate::joining::join;
+use crate::phis::registers_behind;
+use crate::state::{RunState, Tally};
+use bv_terms::{TermId, Terms};
+use ir_tree::Block;
+use mem_terms::{SymBlock, SymValue};
+use std::alloc::Global;
+use support::{NoMemory, Sequence};
+
+/// What is known of the copies ahead, by their numbers, and of how the run ended. Of a copy to which
+/// no edge came nothing is known; the state at another one's entry is that behind its phis.
+#[derive(Drop)]
+pub struct Frontier {
+    pub ahead: Sequence<Option<RunState>>,
+    pub ending: Ending,
+}
+
+/// A run that leaves a block where a condition holds: the label of the block, the number of the first
+/// copy ahead of it, and the state that the run is in.
+#[derive(Clone, Copy)]
+pub struct Leaving<'a> {
+    pub label: usize,
+    pub ahead: usize,
+    pub c: TermId,
+    pub state: &'a RunState,
+}
+
+/// Takes what is known of the entry of a copy out of the list.
+pub fn take_entry(ahead: &mut Sequence<Option<RunState>>, n: usize) -> Option<RunState>
+    requires { n < length ahead.old }
+    ensures value { slice_get ahead.old n ≡ Some result }
+    ensures rest { ahead.new ≡ slice_set ahead.old n None }
+{
+    ahead.get_mut(n).take()
+}
+
+/// An edge to the entry of a copy, with the state on it.
+fn reach(
+    alloc: Global,
+    terms: &mut Terms,
+    ahead: &mut Sequence<Option<RunState>>,
+    n: usize,
+    edge: RunState,
+) -> Result<(), NoMemory>
+    requires n { n < length ahead.old }
+    requires ahead { AreStates terms.old ahead.old }
+    requires shapes { HaveShape (shape_of edge) ahead.old }
+    requires edge { IsState terms.old edge }
+    ensures ahead { OnOk result (AreStates terms.new ahead.new) }
+    ensures shapes { OnOk result (HaveShape (shape_of edge) ahead.new) }
+    ensures count { OnOk result (length ahead.new ≡ length ahead.old) }
+    ensures stays { OnOk result ((g : Scene) (at : Option Where) → bit_at g.v terms.old edge.alive ≡ false → AheadTells g terms.old ahead.old at → AheadTells g terms.new ahead.new at) }
+    ensures goes { OnOk result ((g : Scene) (m : Machine) → bit_at g.v terms.old edge.alive ≡ true → Carries g terms.old (visit_of m) edge m → AheadTells g terms.old ahead.old None → AheadTells g terms.new ahead.new (Some (At n m))) }
+    ensures kept { Keeps terms.old terms.new }
+{
+    match take_entry(ahead, n) {
+        Some(known) => {
+            let entry = join(alloc, terms, &edge, &known)?;
+            ahead.set(n, Some(entry));
+            Ok(())
+        }
+        None => {
+            ahead.set(n, Some(edge));
+            Ok(())
+        }
+    }
+}
+
+/// The state on an edge from the block with this label, which is taken where the condition holds,
+/// behind the phis of the block that it leads to.
+fn state_on_edge(
+    alloc: Global,
+    terms: &mut Terms,
+    c: TermId,
+    label: usize,
+    state: &RunState,
+    block: &Block,
+) -> Result<RunState, NoMemory>
+    requires c { IsTerm terms.old 1 c }
+    requires state { IsState terms.old state.now }
+    ensures made { IfOk result (IsState terms.new) }
+    ensures shape { IfOk result (λ edge. shape_of edge ≡ shape_of state.now) }
+    ensures alive { IfOk result (λ edge. edge.alive ≡ c) }
+    ensures stands { IfOk result (λ edge. (g : Scene) (m : Machine) (from to : ℕ) → Carries g terms.old (record { label = label; turn = from }) state.now m
+        → Carries g terms.new (record { label = block.now.label; turn = to }) edge (entered block.now (record m { turn = to }))) }
+    ensures kept { Keeps terms.old terms.new }
+{
+    let registers = registers_behind(
+        alloc,
+        terms,
+        state.registers.as_slice(),
+        label,
+        block.phis.as_slice(),
+    )?;
+    let memory = state.memory.copy(alloc)?;
+    Ok(RunState {
+        alive: c,
+        registers,
+        memory,
+        tally: state.tally,
+        most: state.most,
+    })
+}
+
+impl Frontier {
+    /// Where the condition holds, the run ends in undefined behaviour, with these choices.
+    pub fn end_undefined(
+        &mut self,
+        terms: &mut Terms,
+        c: TermId,
+        tally: Tally,
+    ) -> Result<(), NoMemory>
+        requires own { IsFrontier terms.old self.old }
+        requires c { IsTerm terms.old 1 c }
+        requires tally { IsTally terms.old tally }
+        ensures own { OnOk result (IsFrontier terms.new self.new) }
+        ensures ahead { OnOk result (self.new.ahead ≡ self.old.ahead) }
+        ensures shape { OnOk result (ending_shape self.new.ending ≡ ending_shape self.old.ending) }
+        ensures stays { OnOk result ((g : Scene) (at : Option Where) → bit_at g.v terms.old c ≡ false → Tells g terms.old self.old at → Tells g terms.new self.new at) }
+        ensures goes { OnOk result ((g : Scene) (made : List ℕ) → bit_at g.v terms.old c ≡ true → Counts g terms.old tally made → Tells g terms.old self.old None
+            → Tells g terms.new self.new (Some (Done (record { outcome = outcome.Ub; taken = made })))) }
+        ensures kept { Keeps terms.old terms.new }
+    {
+        self.ending.end_undefined(terms, c, tally)?;
+        Ok(())
+    }
+
+    /// Where the condition holds, the run would take a jump too many, with these choices.
+    pub fn end_beyond(&mut self, terms: &mut Terms, c: TermId, tally: Tally) -> Result<(), NoMemory>
+        requires own { IsFrontier terms.old self.old }
+        requires c { IsTerm terms.old 1 c }
+        requires tally { IsTally terms.old tally }
+        ensures own { OnOk result (IsFrontier terms.new self.new) }
+        ensures ahead { OnOk result (self.new.ahead ≡ self.old.ahead) }
+        ensures shape { OnOk result (ending_shape self.new.ending ≡ ending_shape self.old.ending) }
+        ensures stays { OnOk result ((g : Scene) (at : Option Where) → bit_at g.v terms.old c ≡ false → Tells g terms.old self.old at → Tells g terms.new self.new at) }
+        ensures goes { OnOk result ((g : Scene) (made : List ℕ) → bit_at g.v terms.old c ≡ true → Counts g terms.old tally made → Tells g terms.old self.old None
+            → Tells g terms.new self.new (Some (Done (record { outcome = outcome.Beyond; taken = made })))) }
+        ensures kept { Keeps terms.old terms.new }
+    {
+        self.ending.end_beyond(terms, c, tally)?;
+        Ok(())
+    }
+
+    /// Where the condition holds, the run returns this value, or nothing, and leaves these given
+    /// blocks, with these choices.
+    pub fn end_return(
+        &mut self,
+        alloc: Global,
+        terms: &mut Terms,
+        c: TermId,
+        value: Option<SymValue>,
+        given: &[SymBlock],
+        tally: Tally,
+    ) -> Result<(), NoMemory>
+        requires own { IsFrontier terms.old self.old }
+        requires c { IsTerm terms.old 1 c }
+        requires value { IfSome value (IsSymValue terms.old) }
+        requires alike { is_some value ≡ is_some self.old.ending.value }
+        requires given { AreGivenBlocks self.old.ending.memory.given self.old.ending.memory.room terms.old given.now }
+        requires tally { IsTally terms.old tally }
+        ensures own { OnOk result (IsFrontier terms.new self.new) }
+        ensures ahead { OnOk result (self.new.ahead ≡ self.old.ahead) }
+        ensures shape { OnOk result (ending_shape self.new.ending ≡ ending_shape self.old.ending) }
+        ensures stays { OnOk result ((g : Scene) (at : Option Where) → bit_at g.v terms.old c ≡ false → Tells g terms.old self.old at → Tells g terms.new self.new at) }
+        ensures goes { OnOk result ((g : Scene) (made : List ℕ) → bit_at g.v terms.old c ≡ true → Counts g terms.old tally made → Tells g terms.old self.old None
+            → Tells g terms.new self.new (Some (Done (record { outcome = outcome.Return (option_map (value_at (sight g) terms.old) value) (memory_at (sight g) terms.old given.now); taken = made })))) }
+        ensures kept { Keeps terms.old terms.new }
+    {
+        self.ending
+            .end_return(alloc, terms, c, value, given, tally)?;
+        Ok(())
+    }
+
+    /// Where the leaving run's condition holds, it comes to the entry of a copy of a block.
+    pub fn arrive(
+        &mut self,
+        alloc: Global,
+        terms: &mut Terms,
+        leaving: Leaving,
+        n: usize,
+        block: &Block,
+    ) -> Result<(), NoMemory>
+        requires own { IsFrontier terms.old self.old }
+        requires shapes { HaveShape (shape_of leaving.state.now) self.old.ahead }
+        requires n { n < length self.old.ahead }
+        requires c { IsTerm terms.old 1 leaving.c }
+        requires state { IsState terms.old leaving.state.now }
+        ensures own { OnOk result (IsFrontier terms.new self.new) }
+        ensures shapes { OnOk result (HaveShape (shape_of leaving.entry.state.now) self.new.ahead) }
+        ensures count { OnOk result (length self.new.ahead ≡ length self.old.ahead) }
+        ensures ending { OnOk result (self.new.ending ≡ self.old.ending) }
+        ensures moves { OnOk result ((g : Scene) (from to : ℕ)
+            → Moves g terms.old terms.new self.old self.new leaving.entry.c (record { label = leaving.entry.label; turn = from }) leaving.entry.state.now (λ m. At n (entered block.now (record m { turn = to })))) }
+        ensures kept { Keeps terms.old terms.new }
+    {
+        let edge = state_on_edge(alloc, terms, leaving.c, leaving.label, leaving.state, block)?;
+        reach(alloc, terms, &mut self.ahead, n, edge)?;
+        Ok(())
+    }
+}
