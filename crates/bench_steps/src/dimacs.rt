@@ -73,38 +73,63 @@ fn numbers_in(alloc: Global, line: &str) -> Result<Vec<u32>, NoMemory> {
     Ok(numbers)
 }
 
-/// The question of these clauses, unless a variable isn't among the stated ones.
-fn question_of(variables: u64, clauses: Sequence<Clause>, widths: Vec<u32>) -> Option<Question> {
-    let mut front: u64 = 0;
-    for width in widths.as_slice() {
-        front = front.saturating_add(u64::from(*width));
+/// What the lines of a text say so far.
+#[derive(Drop)]
+struct Stated {
+    variables: u64,
+    clauses: Sequence<Clause>,
+    widths: Vec<u32>,
+}
+
+impl Stated {
+    /// Takes a line; whether it is in the format.
+    fn take(&mut self, alloc: Global, line: &str) -> Result<bool, NoMemory> {
+        if let Some(words) = line.strip_prefix("c widths") {
+            self.widths = numbers_in(alloc, words)?;
+        } else if let Some(words) = line.strip_prefix("p cnf") {
+            let numbers = numbers_in(alloc, words)?;
+            self.variables = u64::from(numbers.first().copied().unwrap_or(0));
+        } else if !line.starts_with('c') {
+            match clause_in(alloc, line)? {
+                Some(clause) => self.clauses.push(clause)?,
+                None => return Ok(false),
+            }
+        }
+        Ok(true)
     }
-    if front > variables || !are_within(variables, clauses.as_slice()) {
-        return None;
+
+    /// The question, unless a variable isn't among the stated ones.
+    fn into_question(self) -> Option<Question> {
+        let Stated {
+            variables,
+            clauses,
+            widths,
+        } = self;
+        let mut front: u64 = 0;
+        for width in widths.as_slice() {
+            front = front.saturating_add(u64::from(*width));
+        }
+        if front > variables || !are_within(variables, clauses.as_slice()) {
+            return None;
+        }
+        Some(Question {
+            cnf: Cnf::new(variables, clauses, front),
+            widths,
+        })
     }
-    Some(Question {
-        cnf: Cnf::new(variables, clauses, front),
-        widths,
-    })
 }
 
 /// The clauses of a text, or `None` where it isn't in the format.
 pub fn read(alloc: Global, text: &str) -> Result<Option<Question>, NoMemory> {
-    let mut clauses = Sequence::from_vec(Vec::new(alloc));
-    let mut widths = Vec::new(alloc);
-    let mut variables = 0;
+    let mut stated = Stated {
+        variables: 0,
+        clauses: Sequence::from_vec(Vec::new(alloc)),
+        widths: Vec::new(alloc),
+    };
     for line in text.lines() {
-        if let Some(words) = line.strip_prefix("c widths") {
-            widths = numbers_in(alloc, words)?;
-        } else if let Some(words) = line.strip_prefix("p cnf") {
-            let numbers = numbers_in(alloc, words)?;
-            variables = u64::from(numbers.first().copied().unwrap_or(0));
-        } else if !line.starts_with('c') {
-            match clause_in(alloc, line)? {
-                Some(clause) => clauses.push(clause)?,
-                None => return Ok(None),
-            }
+        if !stated.take(alloc, line)? {
+            return Ok(None);
         }
     }
-    Ok(question_of(variables, clauses, widths))
+    Ok(stated.into_question())
 }

@@ -79,35 +79,33 @@ fn answer(rt: &HostRuntime, words: &[String]) -> io::Result<bool> {
     }
 }
 
+/// Prints the questions of the pairs that `tv` judges for these words; whether they were judged.
+fn print_checked(rt: &HostRuntime, words: &[String]) -> bool {
+    let Ok(mut report) = MemorySink::new(rt.alloc(), ROOM) else {
+        return false;
+    };
+    let mut judged = Vec::new(rt.alloc());
+    let mut shelf = FileShelf::new(rt);
+    let status = run(rt, words, &mut shelf, &mut report, &OpenGate, &mut judged);
+    status <= 3 && print_questions(rt, judged.as_slice()).is_ok()
+}
+
+/// Whether the words after the program's name, if there are some, were answered.
+fn is_answered(rt: &HostRuntime, words: &[String]) -> bool {
+    match words {
+        [] | [_] => true,
+        [_, first, ..] if first.as_str() == "check" => print_checked(rt, words),
+        _ => matches!(answer(rt, words), Ok(true)),
+    }
+}
+
+fn words_of(rt: &HostRuntime) -> Option<Vec<String>> {
+    env::args(rt).ok()?.collect(rt.alloc()).ok()
+}
+
 fn main(rt: HostRuntime) -> ExitCode {
-    let words: Vec<String> = match env::args(&rt) {
-        Ok(words) => match words.collect(rt.alloc()) {
-            Ok(words) => words,
-            Err(_) => return ExitCode::FAILURE,
-        },
-        Err(_) => return ExitCode::FAILURE,
-    };
-    let is_check = matches!(words.as_slice(), [_, first, ..] if first.as_str() == "check");
-    let is_answered = if is_check {
-        let Ok(mut report) = MemorySink::new(rt.alloc(), ROOM) else {
-            return ExitCode::FAILURE;
-        };
-        let mut judged = Vec::new(rt.alloc());
-        let status = run(
-            &rt,
-            words.as_slice(),
-            &mut FileShelf::new(&rt),
-            &mut report,
-            &OpenGate,
-            &mut judged,
-        );
-        status <= 3 && print_questions(&rt, judged.as_slice()).is_ok()
-    } else {
-        words.len() < 2 || matches!(answer(&rt, words.as_slice()), Ok(true))
-    };
-    if is_answered {
-        ExitCode::SUCCESS
-    } else {
-        ExitCode::FAILURE
+    match words_of(&rt) {
+        Some(words) if is_answered(&rt, words.as_slice()) => ExitCode::SUCCESS,
+        _ => ExitCode::FAILURE,
     }
 }

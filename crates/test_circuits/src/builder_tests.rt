@@ -5,7 +5,6 @@ ghost use Rattle.bv_terms.specs.Tree.{width_of};
 ghost use Rattle.bv_terms.specs.Trees.{tree_in};
 
 use bv_terms::{BinaryOp, TermId, Terms};
-use std::alloc::Global;
 use std::test::Fail;
 use support::NoMemory;
 
@@ -49,8 +48,7 @@ fn operation(
 }
 
 /// How many terms there are with the operation of a number over three variables.
-fn count_with(alloc: Global, number: usize) -> Result<usize, NoMemory> {
-    let mut terms = Terms::new(alloc);
+fn count_with(terms: &mut Terms, number: usize) -> Result<usize, NoMemory> {
     let c = terms.variable(2, 1)?;
     let a = terms.variable(0, 3)?;
     let b = terms.variable(1, 3)?;
@@ -61,7 +59,7 @@ fn count_with(alloc: Global, number: usize) -> Result<usize, NoMemory> {
     if terms.width(c) != 1 || terms.width(a) != 3 || terms.width(b) != 3 {
         return Err(NoMemory);
     }
-    operation(&mut terms, number, c, a, b)?;
+    operation(terms, number, c, a, b)?;
     Ok(terms.as_slice().len())
 }
 
@@ -69,7 +67,8 @@ fn count_with(alloc: Global, number: usize) -> Result<usize, NoMemory> {
 #[test]
 fn operations_are_stored(rt: HostRuntime) -> Result<(), Fail> {
     for number in 0..20usize {
-        assert_eq!(rt; count_with(rt.alloc(), number)?, 4, "{number}");
+        let mut terms = Terms::new(rt.alloc());
+        assert_eq!(rt; count_with(&mut terms, number)?, 4, "{number}");
     }
     Ok(())
 }

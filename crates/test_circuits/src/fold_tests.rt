@@ -9,11 +9,10 @@ use support::NoMemory;
 use term_folds::{Print, Substitute, Weigh};
 
 /// How many gates the terms of a text take.
-fn gates_of(alloc: Global, text: &str) -> Result<usize, NoMemory> {
-    let mut terms = Terms::new(alloc);
-    written(alloc, &mut terms, text)?;
+fn gates_of(alloc: Global, terms: &mut Terms, text: &str) -> Result<usize, NoMemory> {
+    written(alloc, terms, text)?;
     let mut blast = Blast::new(alloc);
-    match fold(alloc, &terms, &mut blast) {
+    match fold(alloc, terms, &mut blast) {
         Ok(_) => Ok(blast.circuit().len()),
         Err(_) => Err(NoMemory),
     }
@@ -22,8 +21,9 @@ fn gates_of(alloc: Global, text: &str) -> Result<usize, NoMemory> {
 /// The quotient and the remainder of the same numbers are one circuit.
 #[test]
 fn a_remainder_beside_its_quotient_is_free(rt: HostRuntime) -> Result<(), Fail> {
-    let alone = gates_of(rt.alloc(), "xy/")?;
-    assert_eq!(rt; gates_of(rt.alloc(), "xy/xy%:")?, alone);
+    let alone = gates_of(rt.alloc(), &mut Terms::new(rt.alloc()), "xy/")?;
+    let both = gates_of(rt.alloc(), &mut Terms::new(rt.alloc()), "xy/xy%:")?;
+    assert_eq!(rt; both, alone);
     Ok(())
 }
 
@@ -45,15 +45,20 @@ fn terms_are_written(rt: HostRuntime) -> Result<(), Fail> {
     Ok(())
 }
 
+/// How many nodes the term of a text has.
+fn weight_of(alloc: Global, terms: &mut Terms, text: &str) -> Result<Option<u64>, NoMemory> {
+    let id = written(alloc, terms, text)?;
+    match fold(alloc, terms, &mut Weigh) {
+        Ok(found) => Ok(found.get(id.index).copied()),
+        Err(_) => Err(NoMemory),
+    }
+}
+
 /// A product of two sums has 7 nodes.
 #[test]
 fn terms_have_weights(rt: HostRuntime) -> Result<(), Fail> {
     let mut terms = Terms::new(rt.alloc());
-    let id = written(rt.alloc(), &mut terms, "x5+x5+*")?;
-    match fold(rt.alloc(), &terms, &mut Weigh) {
-        Ok(found) => assert_eq!(rt; found.get(id.index).copied(), Some(7)),
-        Err(_) => assert!(rt; false),
-    }
+    assert_eq!(rt; weight_of(rt.alloc(), &mut terms, "x5+x5+*")?, Some(7));
     Ok(())
 }
 
@@ -66,14 +71,19 @@ fn replace(substitute: &mut Substitute, number: u64, by: TermId) -> Result<(), N
     Ok(())
 }
 
+/// Has y and x replace each other.
+fn exchange(substitute: &mut Substitute, x: TermId, y: TermId) -> Result<(), NoMemory> {
+    replace(substitute, 0, y)?;
+    replace(substitute, 1, x)
+}
+
 /// A store of y and x, each of which replaces the other.
-fn exchange(alloc: Global) -> Result<Substitute, NoMemory> {
+fn exchanging(alloc: Global) -> Result<Substitute, NoMemory> {
     let mut store = Terms::new(alloc);
     let y = written(alloc, &mut store, "y")?;
     let x = written(alloc, &mut store, "x")?;
     let mut substitute = Substitute::new(alloc, store);
-    replace(&mut substitute, 0, y)?;
-    replace(&mut substitute, 1, x)?;
+    exchange(&mut substitute, x, y)?;
     Ok(substitute)
 }
 
@@ -81,7 +91,7 @@ fn exchange(alloc: Global) -> Result<Substitute, NoMemory> {
 fn is_exchanged(alloc: Global, text: &str, want: &str) -> Result<bool, NoMemory> {
     let mut terms = Terms::new(alloc);
     let id = written(alloc, &mut terms, text)?;
-    let mut substitute = exchange(alloc)?;
+    let mut substitute = exchanging(alloc)?;
     let Ok(ids) = fold(alloc, &terms, &mut substitute) else {
         return Err(NoMemory);
     };

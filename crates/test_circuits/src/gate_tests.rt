@@ -7,13 +7,17 @@ use support::{NoMemory, Sequence};
 
 /// How many gates there are beside the three inputs after both texts, or `None` where they write
 /// two gates.
-fn gates_of_one(alloc: Global, first: &str, second: &str) -> Result<Option<usize>, NoMemory> {
-    let mut circuit = Circuit::new(alloc);
+fn gates_of_one(
+    alloc: Global,
+    circuit: &mut Circuit,
+    first: &str,
+    second: &str,
+) -> Result<Option<usize>, NoMemory> {
     for _ in 0..3 {
         circuit.input()?;
     }
-    let one = written(alloc, &mut circuit, first)?;
-    let other = written(alloc, &mut circuit, second)?;
+    let one = written(alloc, circuit, first)?;
+    let other = written(alloc, circuit, second)?;
     Ok(if one == other {
         circuit.len().checked_sub(3)
     } else {
@@ -44,23 +48,20 @@ const ONE_GATE: [(&str, &str, usize); 14] = [
 #[test]
 fn one_gate_is_written_in_two_ways(rt: HostRuntime) -> Result<(), Fail> {
     for &(first, second, count) in &ONE_GATE {
-        assert_eq!(rt;
-            gates_of_one(rt.alloc(), first, second)?,
-            Some(count),
-            "{first} and {second}"
-        );
+        let mut circuit = Circuit::new(rt.alloc());
+        let found = gates_of_one(rt.alloc(), &mut circuit, first, second)?;
+        assert_eq!(rt; found, Some(count), "{first} and {second}");
     }
     Ok(())
 }
 
 /// The clauses of `a and b`, with the order a, b, in a circuit that has their exclusive or too.
-fn conjunction(alloc: Global) -> Result<Cnf, NoMemory> {
-    let mut circuit = Circuit::new(alloc);
+fn conjunction(alloc: Global, circuit: &mut Circuit) -> Result<Cnf, NoMemory> {
     let a = circuit.input()?;
     let b = circuit.input()?;
     circuit.xor(a, b)?;
     let both = circuit.and(a, b)?;
-    to_cnf(alloc, &circuit, both, &[a, b])
+    to_cnf(alloc, circuit, both, &[a, b])
 }
 
 /// Whether three variables are a model where they are the bits of a code.
@@ -74,7 +75,7 @@ fn is_model(alloc: Global, cnf: &Cnf, code: u32) -> Result<bool, NoMemory> {
 /// front is 2, and the one front of a model is 1, 1.
 #[test]
 fn the_front_of_an_and_is_1_1(rt: HostRuntime) -> Result<(), Fail> {
-    let cnf = conjunction(rt.alloc())?;
+    let cnf = conjunction(rt.alloc(), &mut Circuit::new(rt.alloc()))?;
     assert_eq!(rt; cnf.front, 2);
     assert_eq!(rt; cnf.variables, 3);
     assert_eq!(rt; cnf.clauses.len(), 4);

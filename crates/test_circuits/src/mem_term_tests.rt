@@ -12,14 +12,18 @@ use std::test::Fail;
 use support::NoMemory;
 use tv_num::Width;
 
-/// A choice by a known condition is one of the values.
+/// Whether a choice by a known condition is one of the values.
+fn is_chosen(terms: &mut Terms) -> Result<bool, NoMemory> {
+    let always = truth(terms, true)?;
+    let seven = known_number(terms, 7)?;
+    let poison = poison_number(terms)?;
+    Ok(pick_number(terms, always, seven, poison)? == seven)
+}
+
 #[test]
 fn a_known_choice_makes_no_term(rt: HostRuntime) -> Result<(), Fail> {
     let mut terms = Terms::new(rt.alloc());
-    let always = truth(&mut terms, true)?;
-    let seven = known_number(&mut terms, 7)?;
-    let poison = poison_number(&mut terms)?;
-    assert!(rt; pick_number(&mut terms, always, seven, poison)? == seven);
+    assert!(rt; is_chosen(&mut terms)?);
     Ok(())
 }
 
@@ -45,12 +49,17 @@ fn truth_term(terms: &mut Terms, op: Truth, a: TermId, b: TermId) -> Result<Term
 }
 
 /// The value of a function of two truths; the negation is that of the first.
-fn truth_of(alloc: Global, op: Truth, a: bool, b: bool) -> Result<Option<u128>, NoMemory> {
-    let mut terms = Terms::new(alloc);
-    let a = truth(&mut terms, a)?;
-    let b = truth(&mut terms, b)?;
-    let id = truth_term(&mut terms, op, a, b)?;
-    value_of(alloc, &terms, id)
+fn truth_of(
+    alloc: Global,
+    terms: &mut Terms,
+    op: Truth,
+    a: bool,
+    b: bool,
+) -> Result<Option<u128>, NoMemory> {
+    let a = truth(terms, a)?;
+    let b = truth(terms, b)?;
+    let id = truth_term(terms, op, a, b)?;
+    value_of(alloc, terms, id)
 }
 
 /// For each function the bits of its values at true and true, true and false, false and true, false
@@ -63,9 +72,10 @@ fn truths_of_two(rt: HostRuntime) -> Result<(), Fail> {
         (Truth::Either, 0b1110),
         (Truth::Implies, 0b1011),
     ];
-    for (op, wants) in rows {
+    let mut terms = Terms::new(rt.alloc());
+    for &(op, wants) in &rows {
         for case in 0..4u32 {
-            let found = truth_of(rt.alloc(), op, case & 2 == 2, case & 1 == 1)?;
+            let found = truth_of(rt.alloc(), &mut terms, op, case & 2 == 2, case & 1 == 1)?;
             assert_eq!(rt; found, Some(wants >> case & 1), "case {case}");
         }
     }
@@ -103,12 +113,17 @@ fn number_term(terms: &mut Terms, op: Number, a: TermId, b: TermId) -> Result<Te
     }
 }
 
-fn number_of(alloc: Global, op: Number, a: u64, b: u64) -> Result<Option<u128>, NoMemory> {
-    let mut terms = Terms::new(alloc);
-    let a = number(&mut terms, a)?;
-    let b = number(&mut terms, b)?;
-    let id = number_term(&mut terms, op, a, b)?;
-    value_of(alloc, &terms, id)
+fn number_of(
+    alloc: Global,
+    terms: &mut Terms,
+    op: Number,
+    a: u64,
+    b: u64,
+) -> Result<Option<u128>, NoMemory> {
+    let a = number(terms, a)?;
+    let b = number(terms, b)?;
+    let id = number_term(terms, op, a, b)?;
+    value_of(alloc, terms, id)
 }
 
 #[test]
@@ -127,41 +142,55 @@ fn numbers_of_two(rt: HostRuntime) -> Result<(), Fail> {
         (Number::Byte, 300, 0, 44),
         (Number::Wide, u64::MAX, 0, 18_446_744_073_709_551_615),
     ];
+    let mut terms = Terms::new(rt.alloc());
     for &(op, a, b, want) in &rows {
-        assert_eq!(rt; number_of(rt.alloc(), op, a, b)?, Some(want), "{a} and {b}");
+        let found = number_of(rt.alloc(), &mut terms, op, a, b)?;
+        assert_eq!(rt; found, Some(want), "{a} and {b}");
     }
     Ok(())
 }
 
-/// An argument of 8 bits that is 200 is the number 200, without a sign.
+/// Whether an argument of 8 bits that is 200 is the number 200, without a sign.
+fn is_number(alloc: Global, terms: &mut Terms) -> Result<bool, NoMemory> {
+    let flag = truth(terms, false)?;
+    let number = terms.constant(200, 8)?;
+    let of_type = IrType::Int(Width::of(8));
+    let value = arg_value(terms, ArgTerms::Int { flag, number }, of_type)?;
+    Ok(
+        value.poison == flag
+            && value_of(alloc, terms, value.is_pointer)? == Some(0)
+            && value_of(alloc, terms, value.number)? == Some(200),
+    )
+}
+
 #[test]
 fn an_argument_is_a_value(rt: HostRuntime) -> Result<(), Fail> {
     let mut terms = Terms::new(rt.alloc());
-    let flag = truth(&mut terms, false)?;
-    let number = terms.constant(200, 8)?;
-    let of_type = IrType::Int(Width::of(8));
-    let value = arg_value(&mut terms, ArgTerms::Int { flag, number }, of_type)?;
-    assert!(rt; value.poison == flag);
-    assert_eq!(rt; value_of(rt.alloc(), &terms, value.is_pointer)?, Some(0));
-    assert_eq!(rt; value_of(rt.alloc(), &terms, value.number)?, Some(200));
+    assert!(rt; is_number(rt.alloc(), &mut terms)?);
     Ok(())
 }
 
-/// A pointer argument to byte 9 of the fifth given block.
-#[test]
-fn a_pointer_argument_is_a_value(rt: HostRuntime) -> Result<(), Fail> {
-    let mut terms = Terms::new(rt.alloc());
-    let flag = truth(&mut terms, false)?;
+/// Whether a pointer argument is one to byte 9 of the fifth given block.
+fn is_pointer(alloc: Global, terms: &mut Terms) -> Result<bool, NoMemory> {
+    let flag = truth(terms, false)?;
     let block = terms.constant(5, 3)?;
-    let offset = number(&mut terms, 9)?;
+    let offset = number(terms, 9)?;
     let pointer = ArgTerms::Ptr {
         flag,
         block,
         offset,
     };
-    let value = arg_value(&mut terms, pointer, IrType::Ptr)?;
-    assert_eq!(rt; value_of(rt.alloc(), &terms, value.is_pointer)?, Some(1));
-    assert_eq!(rt; value_of(rt.alloc(), &terms, value.block)?, Some(5));
-    assert!(rt; value.number == offset);
+    let value = arg_value(terms, pointer, IrType::Ptr)?;
+    Ok(
+        value_of(alloc, terms, value.is_pointer)? == Some(1)
+            && value_of(alloc, terms, value.block)? == Some(5)
+            && value.number == offset,
+    )
+}
+
+#[test]
+fn a_pointer_argument_is_a_value(rt: HostRuntime) -> Result<(), Fail> {
+    let mut terms = Terms::new(rt.alloc());
+    assert!(rt; is_pointer(rt.alloc(), &mut terms)?);
     Ok(())
 }

@@ -104,16 +104,12 @@ const NULL: Value = Value::Ptr(Ptr {
 });
 
 /// A value where a number is used, and where a pointer is.
-fn used(alloc: Global, value: Value) -> Result<(Value, Value), NoMemory> {
-    let mut terms = Terms::new(alloc);
-    let given = value_terms(&mut terms, value)?;
-    let address = as_address(&mut terms, given)?;
-    let n = as_number(&mut terms, given)?;
-    let n = integer_value(&mut terms, n)?;
-    Ok((
-        value_in(alloc, &terms, n)?,
-        value_in(alloc, &terms, address)?,
-    ))
+fn used(alloc: Global, terms: &mut Terms, value: Value) -> Result<(Value, Value), NoMemory> {
+    let given = value_terms(terms, value)?;
+    let address = as_address(terms, given)?;
+    let n = as_number(terms, given)?;
+    let n = integer_value(terms, n)?;
+    Ok((value_in(alloc, terms, n)?, value_in(alloc, terms, address)?))
 }
 
 #[test]
@@ -126,8 +122,9 @@ fn a_value_of_the_other_kind_is_poison(rt: HostRuntime) -> Result<(), Fail> {
         (to(1, 0), (Value::Poison, to(1, 0))),
         (to(2, u64::MAX), (Value::Poison, to(2, u64::MAX))),
     ];
+    let mut terms = Terms::new(rt.alloc());
     for &(value, wants) in &rows {
-        assert_eq!(rt; used(rt.alloc(), value)?, wants);
+        assert_eq!(rt; used(rt.alloc(), &mut terms, value)?, wants);
     }
     Ok(())
 }
@@ -154,13 +151,19 @@ fn condition(terms: &mut Terms, is_true: bool) -> Result<TermId, NoMemory>
     }
 }
 
-fn picked_value(alloc: Global, is_first: bool, a: Value, b: Value) -> Result<Value, NoMemory> {
-    let mut terms = Terms::new(alloc);
-    let c = condition(&mut terms, is_first)?;
-    let a = value_terms(&mut terms, a)?;
-    let b = value_terms(&mut terms, b)?;
-    let picked = pick_value(&mut terms, c, a, b)?;
-    value_in(alloc, &terms, picked)
+/// The value of the choice of the first or the second of two values.
+fn picked_value(
+    alloc: Global,
+    terms: &mut Terms,
+    is_first: bool,
+    a: Value,
+    b: Value,
+) -> Result<Value, NoMemory> {
+    let c = condition(terms, is_first)?;
+    let a = value_terms(terms, a)?;
+    let b = value_terms(terms, b)?;
+    let picked = pick_value(terms, c, a, b)?;
+    value_in(alloc, terms, picked)
 }
 
 #[test]
@@ -173,10 +176,11 @@ fn a_choice_has_the_kind_of_the_chosen_value(rt: HostRuntime) -> Result<(), Fail
         to(2, 8),
         to(2, 9),
     ];
-    for a in values {
-        for b in values {
-            assert_eq!(rt; picked_value(rt.alloc(), true, a, b)?, a);
-            assert_eq!(rt; picked_value(rt.alloc(), false, a, b)?, b);
+    let mut terms = Terms::new(rt.alloc());
+    for &a in &values {
+        for &b in &values {
+            assert_eq!(rt; picked_value(rt.alloc(), &mut terms, true, a, b)?, a);
+            assert_eq!(rt; picked_value(rt.alloc(), &mut terms, false, a, b)?, b);
         }
     }
     Ok(())
@@ -237,13 +241,19 @@ fn byte_in(alloc: Global, terms: &Terms, b: SymByte) -> Result<Byte, NoMemory> {
     }
 }
 
-fn picked_byte(alloc: Global, is_first: bool, a: Byte, b: Byte) -> Result<Byte, NoMemory> {
-    let mut terms = Terms::new(alloc);
-    let c = condition(&mut terms, is_first)?;
-    let a = byte_terms(&mut terms, a)?;
-    let b = byte_terms(&mut terms, b)?;
-    let picked = pick_byte(&mut terms, c, a, b)?;
-    byte_in(alloc, &terms, picked)
+/// The byte of the choice of the first or the second of two bytes.
+fn picked_byte(
+    alloc: Global,
+    terms: &mut Terms,
+    is_first: bool,
+    a: Byte,
+    b: Byte,
+) -> Result<Byte, NoMemory> {
+    let c = condition(terms, is_first)?;
+    let a = byte_terms(terms, a)?;
+    let b = byte_terms(terms, b)?;
+    let picked = pick_byte(terms, c, a, b)?;
+    byte_in(alloc, terms, picked)
 }
 
 #[test]
@@ -264,10 +274,11 @@ fn a_choice_is_the_chosen_byte(rt: HostRuntime) -> Result<(), Fail> {
         Byte::Part(start, 7),
         Byte::Part(later, 7),
     ];
-    for a in bytes {
-        for b in bytes {
-            assert_eq!(rt; picked_byte(rt.alloc(), true, a, b)?, a);
-            assert_eq!(rt; picked_byte(rt.alloc(), false, a, b)?, b);
+    let mut terms = Terms::new(rt.alloc());
+    for &a in &bytes {
+        for &b in &bytes {
+            assert_eq!(rt; picked_byte(rt.alloc(), &mut terms, true, a, b)?, a);
+            assert_eq!(rt; picked_byte(rt.alloc(), &mut terms, false, a, b)?, b);
         }
     }
     Ok(())

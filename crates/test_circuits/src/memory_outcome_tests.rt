@@ -122,12 +122,16 @@ fn outcome(alloc: Global, terms: &mut Terms, end: End) -> Result<OutcomeTerms, N
 }
 
 /// Whether the source's end covers the target's.
-fn is_covered(alloc: Global, source: End, target: End) -> Result<bool, NoMemory> {
-    let mut terms = Terms::new(alloc);
-    let from = outcome(alloc, &mut terms, source)?;
-    let to = outcome(alloc, &mut terms, target)?;
-    let id = covered(&from, &to, &mut terms)?;
-    Ok(value_of(alloc, &terms, id)? == Some(1))
+fn is_covered(
+    alloc: Global,
+    terms: &mut Terms,
+    source: End,
+    target: End,
+) -> Result<bool, NoMemory> {
+    let from = outcome(alloc, terms, source)?;
+    let to = outcome(alloc, terms, target)?;
+    let id = covered(&from, &to, terms)?;
+    Ok(value_of(alloc, terms, id)? == Some(1))
 }
 
 const POISON: Place = Place(2, 0, 0, 0, 0);
@@ -177,8 +181,9 @@ fn returned_pointers(rt: HostRuntime) -> Result<(), Fail> {
             false,
         ),
     ];
+    let mut terms = Terms::new(rt.alloc());
     for (row, &(source, target, want)) in rows.iter().enumerate() {
-        let found = is_covered(rt.alloc(), returns(source), returns(target))?;
+        let found = is_covered(rt.alloc(), &mut terms, returns(source), returns(target))?;
         assert_eq!(rt; found, want, "row {row}");
     }
     Ok(())
@@ -225,8 +230,9 @@ fn left_blocks(rt: HostRuntime) -> Result<(), Fail> {
         ),
         (leaves(1, part, two), leaves(1, one, two), false),
     ];
+    let mut terms = Terms::new(rt.alloc());
     for (row, &(source, target, want)) in rows.iter().enumerate() {
-        let found = is_covered(rt.alloc(), source, target)?;
+        let found = is_covered(rt.alloc(), &mut terms, source, target)?;
         assert_eq!(rt; found, want, "row {row}");
     }
     Ok(())

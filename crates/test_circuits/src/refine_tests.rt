@@ -70,22 +70,31 @@ fn is_true(alloc: Global, terms: &Terms, id: TermId) -> Result<bool, NoMemory> {
     Ok(value_of(alloc, terms, id)? == Some(1))
 }
 
-/// An outcome allows itself.
+/// Whether an outcome allows itself.
+fn is_covered_by_itself(alloc: Global, terms: &mut Terms) -> Result<bool, NoMemory> {
+    let end = outcome(alloc, terms, true)?;
+    let id = covered(&end, &end, terms)?;
+    is_true(alloc, terms, id)
+}
+
 #[test]
 fn an_outcome_is_covered_by_itself(rt: HostRuntime) -> Result<(), Fail> {
     let mut terms = Terms::new(rt.alloc());
-    let end = outcome(rt.alloc(), &mut terms, true)?;
-    let id = covered(&end, &end, &mut terms)?;
-    assert!(rt; is_true(rt.alloc(), &terms, id)?);
+    assert!(rt; is_covered_by_itself(rt.alloc(), &mut terms)?);
     Ok(())
 }
 
 /// Whether a flag and a number of 8 bits are all numbers of a point, on a tape that is plain or
 /// isn't.
-fn is_point(alloc: Global, flag: bool, byte: u8, is_plain: bool) -> Result<bool, NoMemory> {
-    let mut terms = Terms::new(alloc);
-    let outcome = outcome(alloc, &mut terms, is_plain)?;
-    let flag = truth(&mut terms, flag)?;
+fn is_point(
+    alloc: Global,
+    terms: &mut Terms,
+    flag: bool,
+    byte: u8,
+    is_plain: bool,
+) -> Result<bool, NoMemory> {
+    let outcome = outcome(alloc, terms, is_plain)?;
+    let flag = truth(terms, flag)?;
     let number = terms.constant(u128::from(byte), 8)?;
     let parameter = Parameter {
         of_type: IrType::Int(Width::of(8)),
@@ -108,8 +117,8 @@ fn is_point(alloc: Global, flag: bool, byte: u8, is_plain: bool) -> Result<bool,
     let tape = TapeTerms {
         words: nothing(alloc),
     };
-    let id = well_point(&shape, &input, &tape, &outcome, &mut terms)?;
-    is_true(alloc, &terms, id)
+    let id = well_point(&shape, &input, &tape, &outcome, terms)?;
+    is_true(alloc, terms, id)
 }
 
 /// Poison has the flag 1 and the number 0, and a number the flag 0.
@@ -123,8 +132,9 @@ fn poison_has_no_number(rt: HostRuntime) -> Result<(), Fail> {
         (false, 255, false, false),
         (true, 0, false, false),
     ];
+    let mut terms = Terms::new(rt.alloc());
     for &(flag, byte, is_plain, want) in &rows {
-        let found = is_point(rt.alloc(), flag, byte, is_plain)?;
+        let found = is_point(rt.alloc(), &mut terms, flag, byte, is_plain)?;
         assert_eq!(rt; found, want, "{flag}, {byte} and {is_plain}");
     }
     Ok(())

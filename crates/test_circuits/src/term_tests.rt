@@ -18,14 +18,19 @@ fn assigned(number: u64, value: u128) -> Assigned {
 }
 
 /// The value of the term that a text writes where the variables have these values.
-fn value_of(alloc: Global, text: &str, x: u128, y: u128) -> Result<Option<u128>, NoMemory> {
-    let mut terms = Terms::new(alloc);
-    let id = written(alloc, &mut terms, text)?;
+fn value_of(
+    alloc: Global,
+    terms: &mut Terms,
+    text: &str,
+    x: u128,
+    y: u128,
+) -> Result<Option<u128>, NoMemory> {
+    let id = written(alloc, terms, text)?;
     let values = Vec::from_array(alloc, [assigned(0, x), assigned(1, y)])?;
     let mut evaluate = Evaluate {
         values: Sequence::from_vec(values),
     };
-    match fold(alloc, &terms, &mut evaluate) {
+    match fold(alloc, terms, &mut evaluate) {
         Ok(found) => Ok(found.get(id.index).copied()),
         Err(_) => Err(NoMemory),
     }
@@ -47,11 +52,15 @@ fn number_at(
 }
 
 /// The number that the bits of the term write where the inputs are those of a word.
-fn bits_of(alloc: Global, text: &str, word: u32) -> Result<Option<u128>, NoMemory> {
-    let mut terms = Terms::new(alloc);
-    let id = written(alloc, &mut terms, text)?;
+fn bits_of(
+    alloc: Global,
+    terms: &mut Terms,
+    text: &str,
+    word: u32,
+) -> Result<Option<u128>, NoMemory> {
+    let id = written(alloc, terms, text)?;
     let mut blast = Blast::new(alloc);
-    let Ok(all) = fold(alloc, &terms, &mut blast) else {
+    let Ok(all) = fold(alloc, terms, &mut blast) else {
         return Err(NoMemory);
     };
     number_at(alloc, &blast, all.get(id.index), word)
@@ -61,10 +70,15 @@ fn bits_of(alloc: Global, text: &str, word: u32) -> Result<Option<u128>, NoMemor
 const COLUMNS: [(u128, u128, u32); 4] = [(6, 3, 51), (5, 1, 41), (2, 0, 16), (1, 2, 10)];
 
 /// Whether the term of a text has these values, one a column, as a number and as bits.
-fn has_values(alloc: Global, text: &str, values: &[u128]) -> Result<bool, NoMemory> {
+fn has_values(
+    alloc: Global,
+    terms: &mut Terms,
+    text: &str,
+    values: &[u128],
+) -> Result<bool, NoMemory> {
     for (&(x, y, word), want) in COLUMNS.iter().zip(values.iter()) {
-        let value = value_of(alloc, text, x, y)?;
-        let bits = bits_of(alloc, text, word)?;
+        let value = value_of(alloc, terms, text, x, y)?;
+        let bits = bits_of(alloc, terms, text, word)?;
         if value != Some(*want) || bits != Some(*want) {
             return Ok(false);
         }
@@ -98,9 +112,13 @@ const VALUES: [(&str, u128, u128, u128, u128); 20] = [
 
 #[test]
 fn terms_have_values(rt: HostRuntime) -> Result<(), Fail> {
+    let mut terms = Terms::new(rt.alloc());
     for &(text, first, second, third, fourth) in &VALUES {
         let values = [first, second, third, fourth];
-        assert!(rt; has_values(rt.alloc(), text, &values)?, "{text}");
+        assert!(rt;
+            has_values(rt.alloc(), &mut terms, text, &values)?,
+            "{text}"
+        );
     }
     Ok(())
 }
@@ -159,16 +177,17 @@ const SAME: [(&str, &str); 46] = [
 ];
 
 /// Whether two texts write one term of the same store.
-fn are_one(alloc: Global, first: &str, second: &str) -> Result<bool, NoMemory> {
-    let mut terms = Terms::new(alloc);
-    let one = written(alloc, &mut terms, first)?;
-    Ok(written(alloc, &mut terms, second)? == one)
+fn are_one(alloc: Global, terms: &mut Terms, first: &str, second: &str) -> Result<bool, NoMemory> {
+    let one = written(alloc, terms, first)?;
+    Ok(written(alloc, terms, second)? == one)
 }
 
 #[test]
 fn terms_are_simplified(rt: HostRuntime) -> Result<(), Fail> {
     for &(first, second) in &SAME {
-        assert!(rt; are_one(rt.alloc(), first, second)?, "{first} and {second}");
+        let mut terms = Terms::new(rt.alloc());
+        let is_one = are_one(rt.alloc(), &mut terms, first, second)?;
+        assert!(rt; is_one, "{first} and {second}");
     }
     Ok(())
 }

@@ -61,36 +61,40 @@ fn chosen(
     as_number(terms, value)
 }
 
-/// The terms of an instruction on operands of its own.
-pub fn terms_of(alloc: Global, inst: &Inst) -> Result<InstTerms, Fail> {
-    let mut terms = Terms::new(alloc);
-    let a = operand(&mut terms, 0)?;
-    let b = operand(&mut terms, 2)?;
-    let c = operand(&mut terms, 4)?;
-    let mut undefined = None;
+/// The value of an instruction on operands of its own, and where it is undefined, if it may be.
+fn result_of(terms: &mut Terms, inst: &Inst) -> Result<(SymNumber, Option<TermId>), Fail> {
+    let a = operand(terms, 0)?;
+    let b = operand(terms, 2)?;
+    let c = operand(terms, 4)?;
     let value = match inst {
         Inst::Binary { op, width, .. } => {
-            let computed = binary(&mut terms, *op, *width, a, b)?;
-            undefined = Some(computed.undefined);
-            computed.value
+            let computed = binary(terms, *op, *width, a, b)?;
+            return Ok((computed.value, Some(computed.undefined)));
         }
         Inst::Icmp {
             predicate,
             same_sign,
             width,
             ..
-        } => compare(&mut terms, *predicate, *same_sign, *width, a, b)?,
+        } => compare(terms, *predicate, *same_sign, *width, a, b)?,
         Inst::Cast {
             cast: by,
             from,
             to,
             ..
-        } => cast(&mut terms, *by, *from, *to, a)?,
-        Inst::Select { .. } => chosen(&mut terms, a, b, c)?,
+        } => cast(terms, *by, *from, *to, a)?,
+        Inst::Select { .. } => chosen(terms, a, b, c)?,
         Inst::Freeze { .. } => a,
         Inst::Alloca { .. } | Inst::Load { .. } | Inst::Store { .. } | Inst::GetElementPtr { .. } =>
             return Err(Fail::from("an instruction on memory")),
     };
+    Ok((value, None))
+}
+
+/// The terms of an instruction on operands of its own.
+pub fn terms_of(alloc: Global, inst: &Inst) -> Result<InstTerms, Fail> {
+    let mut terms = Terms::new(alloc);
+    let (value, undefined) = result_of(&mut terms, inst)?;
     Ok(InstTerms {
         terms,
         undefined,

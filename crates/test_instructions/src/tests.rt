@@ -9,19 +9,22 @@ use ir_tree::Function;
 use std::alloc::Global;
 use std::test::Fail;
 
+/// The sums of an instruction in a column, by the interpreter and by the terms.
+fn both_sums(alloc: Global, function: &Function) -> Result<(u64, u64), Fail> {
+    let inst = instruction_in(function).ok_or("it has an instruction")?;
+    Ok((interpreted(alloc, function)?, evaluated(alloc, inst)?))
+}
+
 #[test]
 fn interpreter_and_terms_give_the_sums(rt: HostRuntime) -> Result<(), Fail> {
-    let alloc = rt.alloc();
     for line in SUMS.lines() {
         let (instruction, sums) = line.split_once(": ").ok_or("a line has sums")?;
         assert!(rt; sums.split_whitespace().count() == COLUMNS.len(), "{line}");
         for (&column, digits) in COLUMNS.iter().zip(sums.split_whitespace()) {
             let sum = u64::from_str_radix(digits, 16)?;
-            let module = module_of(alloc, instruction, column)?;
+            let module = module_of(rt.alloc(), instruction, column)?;
             let function = function_in(&module).ok_or("the function is read")?;
-            let inst = instruction_in(function).ok_or("it has an instruction")?;
-            assert_eq!(rt; interpreted(alloc, function)?, sum, "interpreter: {line}");
-            assert_eq!(rt; evaluated(alloc, inst)?, sum, "terms: {line}");
+            assert_eq!(rt; both_sums(rt.alloc(), function)?, (sum, sum), "{line}");
         }
     }
     Ok(())

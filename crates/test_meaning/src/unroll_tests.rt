@@ -9,7 +9,7 @@ use std::alloc::Global;
 use std::test::Fail;
 use support::{NoMemory, Sequence};
 use tv_num::Width;
-use unroll::{Edge, layers, need, weight, widest_of};
+use unroll::{BlockCopy, Edge, layers, need, weight, widest_of};
 
 /// A block of no instructions.
 fn block(alloc: Global, label: usize, terminator: Terminator) -> Block {
@@ -47,23 +47,32 @@ fn two_blocks(alloc: Global) -> Result<Function, NoMemory> {
     Ok(function(alloc, blocks))
 }
 
-/// The copies within so many backward jumps: a line for each, with its backward jumps, its block
-/// and where each of its edges leads.
+/// Where an edge leads.
+fn push_edge(text: &mut String, alloc: Global, edge: &Edge) -> Result<(), Fail> {
+    match edge {
+        Edge::Copy(index) => text.push_str(format!(in alloc; " {index}")?.as_str())?,
+        Edge::Beyond => text.push_str(" beyond")?,
+        Edge::Nowhere => text.push_str(" nowhere")?,
+    }
+    Ok(())
+}
+
+/// A line for a copy, with its backward jumps, its block and where each of its edges leads.
+fn push_copy(text: &mut String, alloc: Global, copy: &BlockCopy) -> Result<(), Fail> {
+    text.push_str(format!(in alloc; "{}.{}:", copy.turn, copy.block)?.as_str())?;
+    for edge in copy.edges.as_slice() {
+        push_edge(text, alloc, edge)?;
+    }
+    text.push_str("\n")?;
+    Ok(())
+}
+
+/// The copies within so many backward jumps, a line for each.
 fn copies_text(alloc: Global, f: &Function, turns: u64) -> Result<String, Fail> {
     let layered = layers(alloc, f, turns)?;
     let mut text = String::new(alloc);
     for copy in layered.copies.as_slice() {
-        let head = format!(in alloc; "{}.{}:", copy.turn, copy.block)?;
-        text.push_str(head.as_str())?;
-        for edge in copy.edges.as_slice() {
-            let leads = match edge {
-                Edge::Copy(index) => format!(in alloc; " {index}")?,
-                Edge::Beyond => String::from_str(alloc, " beyond")?,
-                Edge::Nowhere => String::from_str(alloc, " nowhere")?,
-            };
-            text.push_str(leads.as_str())?;
-        }
-        text.push_str("\n")?;
+        push_copy(&mut text, alloc, copy)?;
     }
     Ok(text)
 }

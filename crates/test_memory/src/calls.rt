@@ -4,7 +4,7 @@ ghost use Rattle.std.specs.Prelude.{◌<◌, All, IfOk, IfSome};
 ghost use Rattle.memory_access.specs.Offsets.{IndexFits};
 
 use crate::words::{access_in, byte_in, name_in, value_in, width_in};
-use byte_block::{Byte, Memory, MemoryBlock, Value};
+use byte_block::{BlockName, Byte, Memory, MemoryBlock, Value};
 use memory_access::{Index, Loaded, Stored, gep, load, store};
 use std::alloc::Global;
 use std::test::Fail;
@@ -20,28 +20,37 @@ fn words_of(alloc: Global, text: &str) -> Result<Vec<&str>, Fail> {
     Ok(words)
 }
 
-fn bytes_of(alloc: Global, text: &str) -> Result<Vec<Byte>, Fail> {
-    let mut bytes = Vec::new(alloc);
+fn push_bytes(bytes: &mut Vec<Byte>, text: &str) -> Result<(), Fail> {
     for word in text.split_whitespace() {
         bytes.push(byte_in(word).ok_or("a byte")?)?;
     }
+    Ok(())
+}
+
+fn bytes_of(alloc: Global, text: &str) -> Result<Vec<Byte>, Fail> {
+    let mut bytes = Vec::new(alloc);
+    push_bytes(&mut bytes, text)?;
     Ok(bytes)
+}
+
+/// A block's name and its alignment, and what stands after them.
+fn head_of(text: &str) -> Option<(BlockName, u64, &str)> {
+    let (name, rest) = text.split_once(" ")?;
+    let (align, rest) = rest.split_once(" ")?;
+    Some((name_in(name)?, align.parse::<u64>().ok()?, rest))
 }
 
 /// The block of a line: a name, an alignment, bytes, a bar, and further places.
 fn block_of(alloc: Global, line: &str) -> Result<MemoryBlock, Fail> {
-    let (bytes, further) = line.split_once("|").ok_or("a bar")?;
-    let (name, bytes) = bytes.split_once(" ").ok_or("a name")?;
-    let (align, bytes) = bytes.split_once(" ").ok_or("an alignment")?;
+    let (front, further) = line.split_once("|").ok_or("a bar")?;
+    let (name, align, bytes) = head_of(front).ok_or("a name and an alignment")?;
     let mut places = bytes_of(alloc, bytes)?;
     let size = places.len() as u64;
-    for word in further.split_whitespace() {
-        places.push(byte_in(word).ok_or("a byte")?)?;
-    }
+    push_bytes(&mut places, further)?;
     Ok(MemoryBlock {
-        name: name_in(name).ok_or("a name")?,
+        name,
         size,
-        align: align.parse::<u64>()?,
+        align,
         places: Sequence::from_vec(places),
     })
 }
@@ -62,21 +71,27 @@ fn align_in(word: &str) -> Option<u64>
     if align == 0 { None } else { Some(align) }
 }
 
-/// Whether the load of a row gives this answer.
-pub fn is_loaded(alloc: Global, memory: &Memory, call: &str, answer: &str) -> Result<bool, Fail> {
-    let words = words_of(alloc, call)?;
-    if words.len() != 3 {
-        return Ok(false);
-    }
-    let access = access_in(words[0]).ok_or("an access")?;
-    let align = align_in(words[1]).ok_or("an alignment")?;
-    let at = value_in(words[2]).ok_or("an address")?;
+/// Whether a load of these words gives this answer, or `None` where they are none.
+fn gives(memory: &Memory, words: &[&str], answer: &str) -> Option<bool> {
+    let [access, align, at] = words else {
+        return None;
+    };
+    let access = access_in(access)?;
+    let align = align_in(align)?;
+    let at = value_in(at)?;
     let wanted = if answer == "ub" {
         Loaded::Ub
     } else {
-        Loaded::Done(value_in(answer).ok_or("a value")?)
+        Loaded::Done(value_in(answer)?)
     };
-    Ok(load(memory, at, access, align) == wanted)
+    Some(load(memory, at, access, align) == wanted)
+}
+
+/// Whether the load of a row gives this answer.
+pub fn is_loaded(alloc: Global, memory: &Memory, call: &str, answer: &str) -> Result<bool, Fail> {
+    let words = words_of(alloc, call)?;
+    let is_given = gives(memory, words.as_slice(), answer).ok_or("a load")?;
+    Ok(is_given)
 }
 
 /// Whether the places of the first block are these bytes.
@@ -88,6 +103,23 @@ fn has_bytes(alloc: Global, memory: &Memory, bytes: &str) -> Result<bool, Fail> 
     })
 }
 
+/// Whether a store of these words ends so, or `None` where they are none.
+fn ends(memory: &mut Memory, words: &[&str], outcome: &str) -> Option<bool> {
+    let [access, align, at, value] = words else {
+        return None;
+    };
+    let access = access_in(access)?;
+    let align = align_in(align)?;
+    let at = value_in(at)?;
+    let value = value_in(value)?;
+    let wanted = if outcome == "ub" {
+        Stored::Ub
+    } else {
+        Stored::Done
+    };
+    Some(store(memory, value, access, at, align) == wanted)
+}
+
 /// Whether the store of a row ends as this answer says, and leaves these bytes.
 pub fn is_stored(
     alloc: Global,
@@ -95,22 +127,10 @@ pub fn is_stored(
     call: &str,
     answer: &str,
 ) -> Result<bool, Fail> {
-    let words = words_of(alloc, call)?;
-    if words.len() != 4 {
-        return Ok(false);
-    }
-    let access = access_in(words[0]).ok_or("an access")?;
-    let align = align_in(words[1]).ok_or("an alignment")?;
-    let at = value_in(words[2]).ok_or("an address")?;
-    let value = value_in(words[3]).ok_or("a value")?;
     let (outcome, bytes) = answer.split_once(" ").ok_or("an outcome")?;
-    let wanted = if outcome == "ub" {
-        Stored::Ub
-    } else {
-        Stored::Done
-    };
-    let stored = store(memory, value, access, at, align);
-    Ok(stored == wanted && has_bytes(alloc, memory, bytes)?)
+    let words = words_of(alloc, call)?;
+    let is_ended = ends(memory, words.as_slice(), outcome).ok_or("a store")?;
+    Ok(is_ended && has_bytes(alloc, memory, bytes)?)
 }
 
 /// An index: its type, its value and its scale.
@@ -141,16 +161,24 @@ fn indices_of(alloc: Global, words: &[&str]) -> Result<Vec<Index>, Fail>
     Ok(indices)
 }
 
+/// Whether a getelementptr of these words and indices leads to this answer, or `None` where they are none.
+fn leads(memory: &Memory, flags: &str, base: &str, indices: &[Index], answer: &str) -> Option<bool>
+    requires { All IndexFits indices.now }
+{
+    let inbounds = flags.starts_with("inbounds");
+    let nuw = flags.ends_with("nuw");
+    let base = value_in(base)?;
+    let wanted = value_in(answer)?;
+    Some(gep(memory, base, indices, inbounds, nuw) == wanted)
+}
+
 /// Whether the getelementptr of a row leads to this answer.
 pub fn is_moved(alloc: Global, memory: &Memory, call: &str, answer: &str) -> Result<bool, Fail> {
     let words = words_of(alloc, call)?;
-    if words.len() < 2 {
+    let [flags, base, rest @ ..] = words.as_slice() else {
         return Ok(false);
-    }
-    let inbounds = words[0].starts_with("inbounds");
-    let nuw = words[0].ends_with("nuw");
-    let base = value_in(words[1]).ok_or("a base")?;
-    let wanted = value_in(answer).ok_or("a value")?;
-    let indices = indices_of(alloc, &words[2..])?;
-    Ok(gep(memory, base, indices.as_slice(), inbounds, nuw) == wanted)
+    };
+    let indices = indices_of(alloc, rest)?;
+    let is_led = leads(memory, flags, base, indices.as_slice(), answer).ok_or("an address")?;
+    Ok(is_led)
 }

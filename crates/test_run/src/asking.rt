@@ -1,6 +1,6 @@
 //! A row of a table, and how it is asked of `run`.
 
-use pair_driver::OpenGate;
+use pair_driver::{Gate, OpenGate};
 use std::alloc::Global;
 use std::collections::BTreeMap;
 use std::test::*;
@@ -52,12 +52,53 @@ pub fn arguments_of(alloc: Global, line: &str) -> Result<Vec<String>, NoMemory> 
     Ok(arguments)
 }
 
-/// A shelf with the files A and B.
-pub fn shelf_of(alloc: Global, source: Vec<u8>, target: Vec<u8>) -> Result<MemoryShelf, NoMemory> {
+/// The files A and B.
+pub fn files_of(
+    alloc: Global,
+    source: &[u8],
+    target: &[u8],
+) -> Result<BTreeMap<String, Vec<u8>>, NoMemory> {
     let mut files = BTreeMap::new(alloc);
-    files.insert(String::from_str(alloc, "A")?, source)?;
-    files.insert(String::from_str(alloc, "B")?, target)?;
-    Ok(MemoryShelf::new(files))
+    files.insert(
+        String::from_str(alloc, "A")?,
+        Vec::from_slice(alloc, source)?,
+    )?;
+    files.insert(
+        String::from_str(alloc, "B")?,
+        Vec::from_slice(alloc, target)?,
+    )?;
+    Ok(files)
+}
+
+/// A shelf with the files A and B.
+pub fn shelf_of(alloc: Global, source: &[u8], target: &[u8]) -> Result<MemoryShelf, NoMemory> {
+    Ok(MemoryShelf::new(files_of(alloc, source, target)?))
+}
+
+/// What a run writes, its status, and how many pairs it judged.
+#[derive(Drop)]
+pub struct Ran {
+    pub bytes: Vec<u8>,
+    pub status: u8,
+    pub judged: usize,
+}
+
+/// A run of a command line over a shelf, with a gate for its pairs.
+pub fn ran<R: AllocGlobal + Threads + Sync, S: Shelf, G: Gate>(
+    rt: &R,
+    shelf: &mut S,
+    gate: &G,
+    line: &str,
+) -> Result<Ran, NoMemory> {
+    let arguments = arguments_of(rt.alloc(), line)?;
+    let mut out = MemorySink::new(rt.alloc(), 1_000)?;
+    let mut judged = Vec::new(rt.alloc());
+    let status = run(rt, arguments.as_slice(), shelf, &mut out, gate, &mut judged);
+    Ok(Ran {
+        bytes: out.bytes,
+        status,
+        judged: judged.len(),
+    })
 }
 
 /// What a run of a command line over a shelf writes, and its status.
@@ -66,19 +107,8 @@ pub fn written<R: AllocGlobal + Threads + Sync, S: Shelf>(
     shelf: &mut S,
     line: &str,
 ) -> Result<(Vec<u8>, u8), NoMemory> {
-    let alloc = rt.alloc();
-    let mut out = MemorySink::new(alloc, 1_000)?;
-    let arguments = arguments_of(alloc, line)?;
-    let mut judged = Vec::new(alloc);
-    let status = run(
-        rt,
-        arguments.as_slice(),
-        shelf,
-        &mut out,
-        &OpenGate,
-        &mut judged,
-    );
-    Ok((out.bytes, status))
+    let Ran { bytes, status, .. } = ran(rt, shelf, &OpenGate, line)?;
+    Ok((bytes, status))
 }
 
 /// What a run writes to a sink that takes ten bytes a call and fails at one of its calls, and its status.
@@ -106,10 +136,7 @@ pub fn written_until<R: AllocGlobal + Threads + Sync>(
 
 /// Whether a row's output and status are what `run` answers.
 pub fn is_answered<R: AllocGlobal + Threads + Sync>(rt: &R, row: &Row) -> Result<bool, Fail> {
-    let alloc = rt.alloc();
-    let source = Vec::from_slice(alloc, row.source.as_bytes())?;
-    let target = Vec::from_slice(alloc, row.target.as_bytes())?;
-    let mut shelf = shelf_of(alloc, source, target)?;
+    let mut shelf = shelf_of(rt.alloc(), row.source.as_bytes(), row.target.as_bytes())?;
     let (bytes, status) = written(rt, &mut shelf, row.line)?;
     Ok(status == row.status && is_output(bytes.as_slice(), &[row.first, row.rows, row.last]))
 }

@@ -56,9 +56,7 @@ fn is_refused<R: AllocGlobal + Threads + Sync>(
     text: &[u8],
     line: &str,
 ) -> Result<bool, NoMemory> {
-    let alloc = rt.alloc();
-    let whole = Vec::from_slice(alloc, INCREMENT.as_bytes())?;
-    let mut shelf = shelf_of(alloc, Vec::from_slice(alloc, text)?, whole)?;
+    let mut shelf = shelf_of(rt.alloc(), text, INCREMENT.as_bytes())?;
     let (bytes, status) = written(rt, &mut shelf, "tv check A B")?;
     Ok(status == 9 && is_output(bytes.as_slice(), &[line]))
 }

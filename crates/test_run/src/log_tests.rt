@@ -3,9 +3,8 @@
 //! The clauses and steps are worked out by hand. A file that `check` wrote is checked by `log`, which
 //! must find each part verified.
 
-use crate::asking::{is_output, shelf_of, written};
+use crate::asking::{files_of, is_output, shelf_of, written};
 use std::alloc::Global;
-use std::collections::BTreeMap;
 use std::test::*;
 use support::NoMemory;
 use tv_io::{FailingShelf, Shelf};
@@ -75,8 +74,7 @@ const TEXTS: [(&str, &str, u8); 13] = [
 fn each_part_is_verified_or_has_a_bad_step(rt: HostRuntime) -> Result<(), Fail> {
     let alloc = rt.alloc();
     for (text, output, status) in TEXTS.iter() {
-        let text = Vec::from_slice(alloc, text.as_bytes())?;
-        let mut shelf = shelf_of(alloc, text, Vec::new(alloc))?;
+        let mut shelf = shelf_of(alloc, text.as_bytes(), b"")?;
         let (bytes, answer) = written(&rt, &mut shelf, "tv log A")?;
         assert!(rt;
             answer == *status && is_output(bytes.as_slice(), &[*output]),
@@ -101,9 +99,7 @@ const CHECKED: [(&str, &str, &str, u8); 2] = [
 fn proof_files_of_reports_are_verified(rt: HostRuntime) -> Result<(), Fail> {
     let alloc = rt.alloc();
     for (source, target, output, status) in CHECKED.iter() {
-        let source = Vec::from_slice(alloc, source.as_bytes())?;
-        let target = Vec::from_slice(alloc, target.as_bytes())?;
-        let mut shelf = shelf_of(alloc, source, target)?;
+        let mut shelf = shelf_of(alloc, source.as_bytes(), target.as_bytes())?;
         let (_, answer) = written(&rt, &mut shelf, "tv check A B --proof P")?;
         assert!(rt; answer == *status, "{output}");
         let (bytes, answer) = written(&rt, &mut shelf, "tv log P")?;
@@ -119,7 +115,7 @@ fn proof_files_of_reports_are_verified(rt: HostRuntime) -> Result<(), Fail> {
 #[test]
 fn without_functions_a_proof_file_is_its_first_line(rt: HostRuntime) -> Result<(), Fail> {
     let alloc = rt.alloc();
-    let mut shelf = shelf_of(alloc, Vec::new(alloc), Vec::new(alloc))?;
+    let mut shelf = shelf_of(alloc, b"", b"")?;
     let (_, answer) = written(&rt, &mut shelf, "tv check A B --proof=B")?;
     let mut text = Vec::new(alloc);
     let fetched = shelf.fetch("B", 1_000, &mut text).is_ok();
@@ -130,15 +126,7 @@ fn without_functions_a_proof_file_is_its_first_line(rt: HostRuntime) -> Result<(
 /// A shelf with the files A and B of one function, of which one call fails.
 fn failing_shelf(alloc: Global, call: u64) -> Result<FailingShelf, NoMemory> {
     let module = b"define i8 @f(i8 %x) {\n  ret i8 %x\n}\n";
-    let mut files = BTreeMap::new(alloc);
-    files.insert(
-        String::from_str(alloc, "A")?,
-        Vec::from_slice(alloc, module)?,
-    )?;
-    files.insert(
-        String::from_str(alloc, "B")?,
-        Vec::from_slice(alloc, module)?,
-    )?;
+    let files = files_of(alloc, module, module)?;
     Ok(FailingShelf::new(files, vec![in alloc; call]?))
 }
 

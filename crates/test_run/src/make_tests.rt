@@ -58,8 +58,7 @@ fn pairs_are_made_and_judged(rt: HostRuntime) -> Result<(), Fail> {
 
 /// What a command line writes.
 fn made<R: AllocGlobal + Threads + Sync>(rt: &R, line: &str) -> Result<Vec<u8>, Fail> {
-    let alloc = rt.alloc();
-    let mut shelf = shelf_of(alloc, Vec::new(alloc), Vec::new(alloc))?;
+    let mut shelf = shelf_of(rt.alloc(), b"", b"")?;
     let (bytes, _) = written(rt, &mut shelf, line)?;
     Ok(bytes)
 }
@@ -81,8 +80,7 @@ fn what_is_made_does_not_depend_on_the_number_of_workers(rt: HostRuntime) -> Res
 /// A sink that takes ten bytes a call and fails at the second one.
 #[test]
 fn a_sink_that_fails_keeps_a_prefix(rt: HostRuntime) -> Result<(), Fail> {
-    let alloc = rt.alloc();
-    let mut shelf = shelf_of(alloc, Vec::new(alloc), Vec::new(alloc))?;
+    let mut shelf = shelf_of(rt.alloc(), b"", b"")?;
     let line = "tv make --functions 1 --insts 1";
     let (bytes, status) = written_until(&rt, &mut shelf, line, 2)?;
     assert!(rt; status == 7 && is_output(bytes.as_slice(), &["tv 1 turns"]));

@@ -1,12 +1,9 @@
 //! What no table of reports shows: files at the limit of their size, sinks that fail, and the gate.
 
-use crate::asking::{DEFAULTS, NO_ROWS, arguments_of, is_output, shelf_of, written, written_until};
-use pair_driver::{Gate, OpenGate};
-use std::collections::BTreeMap;
+use crate::asking::{DEFAULTS, NO_ROWS, is_output, ran, shelf_of, written, written_until};
+use pair_driver::Gate;
 use std::sync::atomic::{AtomicU64, Ordering};
 use std::test::*;
-use tv_io::{MemoryShelf, MemorySink};
-use tv_run::run;
 
 /// The most bytes that a file may have.
 const LIMIT: usize = 16_777_216;
@@ -19,7 +16,7 @@ fn files_end_at_their_limit(rt: HostRuntime) -> Result<(), Fail> {
         (LIMIT + 1, ["too long A\n", ""], 6),
     ] {
         let spaces = vec![in alloc; b' '; size]?;
-        let mut shelf = shelf_of(alloc, spaces, Vec::new(alloc))?;
+        let mut shelf = shelf_of(alloc, spaces.as_slice(), b"")?;
         let (bytes, answer) = written(&rt, &mut shelf, "tv check A B")?;
         assert!(rt;
             answer == status && is_output(bytes.as_slice(), &output),
@@ -36,7 +33,7 @@ fn a_report_is_cut_where_the_sink_fails(rt: HostRuntime) -> Result<(), Fail> {
     let alloc = rt.alloc();
     let report = format!(in alloc; "{DEFAULTS}{NO_ROWS}")?;
     for failing in 1..16 {
-        let mut shelf = shelf_of(alloc, Vec::new(alloc), Vec::new(alloc))?;
+        let mut shelf = shelf_of(alloc, b"", b"")?;
         let (bytes, status) = written_until(&rt, &mut shelf, "tv check A B", failing)?;
         let calls = usize::try_from(failing - 1).unwrap_or(0);
         let whole = report.as_bytes();
@@ -49,18 +46,20 @@ fn a_report_is_cut_where_the_sink_fails(rt: HostRuntime) -> Result<(), Fail> {
     Ok(())
 }
 
-/// The status of a file without a module, or of one that is not there, stays where its line is cut short.
+/// The status of a file without a module stays where its line is cut short.
 #[test]
-fn the_first_fault_keeps_its_status(rt: HostRuntime) -> Result<(), Fail> {
-    let alloc = rt.alloc();
-    let source = Vec::from_slice(alloc, b"define i8 @f(i8 %x) {\n  ret i8")?;
-    let mut shelf = shelf_of(alloc, source, Vec::new(alloc))?;
+fn a_fault_keeps_its_status(rt: HostRuntime) -> Result<(), Fail> {
+    let mut shelf = shelf_of(rt.alloc(), b"define i8 @f(i8 %x) {\n  ret i8", b"")?;
     let (bytes, status) = written_until(&rt, &mut shelf, "tv check A B", 1)?;
     assert!(rt; bytes.is_empty() && status == 9);
-    let mut files = BTreeMap::new(alloc);
-    files.insert(String::from_str(alloc, "A")?, Vec::new(alloc))?;
-    let mut shelf = MemoryShelf::new(files);
-    let (bytes, status) = written_until(&rt, &mut shelf, "tv check A B", 1)?;
+    Ok(())
+}
+
+/// The status of a file that is not there stays where its line is cut short.
+#[test]
+fn a_file_that_is_not_there_keeps_its_status(rt: HostRuntime) -> Result<(), Fail> {
+    let mut shelf = shelf_of(rt.alloc(), b"", b"")?;
+    let (bytes, status) = written_until(&rt, &mut shelf, "tv check A C", 1)?;
     assert!(rt; bytes.is_empty() && status == 5);
     Ok(())
 }
@@ -79,25 +78,12 @@ impl Gate for CountingGate {
 
 #[test]
 fn each_judged_pair_passes_the_gate(rt: HostRuntime) -> Result<(), Fail> {
-    let alloc = rt.alloc();
     let module = b"define i1 @a() {\n  ret i1 0\n}\ndefine i1 @b() {\n  ret i1 0\n}\n";
-    let source = Vec::from_slice(alloc, module)?;
-    let target = Vec::from_slice(alloc, module)?;
-    let mut shelf = shelf_of(alloc, source, target)?;
-    let mut out = MemorySink::new(alloc, 1_000)?;
-    let arguments = arguments_of(alloc, "tv check A B")?;
     let gate = CountingGate {
         sum: AtomicU64::new(0),
     };
-    let mut judged = Vec::new(alloc);
-    let status = run(
-        &rt,
-        arguments.as_slice(),
-        &mut shelf,
-        &mut out,
-        &gate,
-        &mut judged,
-    );
-    assert!(rt; status == 0 && judged.len() == 2 && gate.sum.load(Ordering::SeqCst) == 3);
+    let mut shelf = shelf_of(rt.alloc(), module, module)?;
+    let ran = ran(&rt, &mut shelf, &gate, "tv check A B")?;
+    assert!(rt; ran.status == 0 && ran.judged == 2 && gate.sum.load(Ordering::SeqCst) == 3);
     Ok(())
 }

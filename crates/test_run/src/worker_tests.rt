@@ -1,11 +1,9 @@
 //! Workers: that they judge beside each other, and that the report is the same for each number.
 
-use crate::asking::{DEFAULTS, NO_ROWS, ONE_CORRECT, Row, arguments_of, is_answered, shelf_of};
+use crate::asking::{DEFAULTS, NO_ROWS, ONE_CORRECT, Row, is_answered, ran, shelf_of};
 use pair_driver::Gate;
 use std::sync::atomic::{AtomicU64, Ordering};
 use std::test::*;
-use tv_io::MemorySink;
-use tv_run::run;
 
 const NO_FUNCTION: &str = "; no function\n";
 
@@ -93,26 +91,14 @@ impl Gate for HoldsFirst {
 /// in advance would give up at three.
 #[test]
 fn a_free_worker_takes_the_rest(rt: HostRuntime) -> Result<(), Fail> {
-    let alloc = rt.alloc();
     let gate = HoldsFirst {
         others: 3,
         passed: AtomicU64::new(0),
         gave_up: AtomicU64::new(0),
     };
-    let source = Vec::from_slice(alloc, FOUR_FUNCTIONS.as_bytes())?;
-    let target = Vec::from_slice(alloc, FOUR_FUNCTIONS.as_bytes())?;
-    let mut shelf = shelf_of(alloc, source, target)?;
-    let mut out = MemorySink::new(alloc, 1_000)?;
-    let arguments = arguments_of(alloc, "tv check --workers 2 A B")?;
-    let mut judged = Vec::new(alloc);
-    let status = run(
-        &rt,
-        arguments.as_slice(),
-        &mut shelf,
-        &mut out,
-        &gate,
-        &mut judged,
-    );
-    assert!(rt; status == 0 && judged.len() == 4 && gate.gave_up.load(Ordering::SeqCst) == 0);
+    let module = FOUR_FUNCTIONS.as_bytes();
+    let mut shelf = shelf_of(rt.alloc(), module, module)?;
+    let ran = ran(&rt, &mut shelf, &gate, "tv check --workers 2 A B")?;
+    assert!(rt; ran.status == 0 && ran.judged == 4 && gate.gave_up.load(Ordering::SeqCst) == 0);
     Ok(())
 }
