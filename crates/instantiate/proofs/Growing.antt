@@ -14,7 +14,10 @@ use Rattle.clause_log.specs.declared.step.Cert.{Cert}
 use Rattle.points.specs.declared.verdict.Kept.{Kept}
 use Rattle.pair_questions.specs.Questions.{IsUncovered, IsCovering, IsRefuted, IsSpentOn, point_widths, tape_widths}
 use Rattle.points.specs.Weight.{IsHeavy}
+use Rattle.instantiate.specs.declared.rounds.Trail.{Trail}
+use Rattle.instantiate.specs.Rounds.{IsTrail}
 use Rattle.instantiate.specs.Settling.{ComesWith, IsJudged, IsSpentNext, IsTrailSoFar, limit_of}
+use Rattle.pair_questions.specs.declared.subject.Subject.{Subject}
 
 module _ (pair : Functions) (bounds : Bounds) (budget : Budget) where
   -- each point has its tape
@@ -22,9 +25,6 @@ module _ (pair : Functions) (bounds : Bounds) (budget : Budget) where
     pub count : length points ≡ length tapes
     pub trail : TrailFrom pair bounds [] tapes points
     pub within : length tapes ≤ budget.rounds
-
-  pub grown_start : (tapes : List (List ℕ)) (points : List Point) → tapes ≡ [] → points ≡ [] → IsGrown tapes points
-  grown_start tapes points e f = rw (e, f) (record { count = refl; trail = tt; within = omega arith })
 
   -- a trail goes on by one point and its tape
   trail_more : (before tapes : List (List ℕ)) (points : List Point) (p : Point) (tape : List ℕ) → length points ≡ length tapes → TrailFrom pair bounds before tapes points
@@ -146,3 +146,6 @@ module _ (pair : Functions) (bounds : Bounds) (budget : Budget) where
   judged kept cert (Unknown Rounds) light h = (light, h)
   judged kept cert (Unknown Conflicts) light h = (light, h)
   judged kept cert (Unknown Weight) light h = absurd h
+
+pub grown_of : (s : Subject) (budget : Budget) (t : Trail) → IsTrail s budget t → IsGrown s.pair.now s.bounds.now budget t.question.tapes t.points.items
+grown_of s budget t h = record { count = h.count; trail = h.trail; within = h.within }

@@ -6,6 +6,7 @@
 //! tape nor a tape so far covers, and for the least tape that covers it. The driver stands above it.
 #![tactic(auto)]
 
+mod rounds;
 mod settled;
 mod settling;
 

@@ -1,47 +1,28 @@
-//! The trail of points and tapes.
+//! The verdict on a pair.
 
-ghost use Rattle.std.specs.Prelude.{◌≡◌, ◌<◌, IfOk, IfSome};
+ghost use Rattle.std.specs.Prelude.{◌≡◌, IfOk};
 ghost use Rattle.ir_tree.specs.Limits.{IsWithinLimits};
 ghost use Rattle.points.specs.Range.{AreInRange};
 ghost use Rattle.run_terms.specs.Frontier.{CanRun};
-ghost use Rattle.instantiate.specs.Settling.{IsSettled, IsTold, limit_of};
+ghost use Rattle.instantiate.specs.Settling.{IsSettled, IsTold};
 ghost use Rattle.pair_questions.specs.Subjects.{IsSubject};
 
+use crate::rounds::{End, Trail};
 use crate::settled::Settled;
-use clause_log::Cert;
-use pair_questions::{Found, PointQuestion, Subject, least_cover};
-use points::{Bounds, Budget, Cause, Kept, Pair, Point, Verdict, copy_point};
+use pair_questions::Subject;
+use points::{Bounds, Budget, Cause, Kept, Pair, Verdict};
 use std::alloc::Global;
 use support::{NoMemory, Sequence};
 use unroll::weight;
 
-fn settled(
-    verdict: Verdict,
-    tapes: Sequence<Sequence<u64>>,
-    points: Vec<Point>,
-    cert: Option<Cert>,
-) -> Settled
-    ensures { result ≡ record { verdict = verdict; kept = record { tapes = tapes; points = points.items }; cert = cert } }
+/// The verdict that ends a trail, with what is kept of the trail.
+fn settled(kept: Kept, end: End) -> Settled
+    ensures { result ≡ record { verdict = end.verdict; kept = kept; cert = end.cert } }
 {
     Settled {
-        verdict,
-        kept: Kept {
-            tapes,
-            points: Sequence::from_vec(points),
-        },
-        cert,
-    }
-}
-
-/// The most clauses that a question may learn, where there is a limit.
-fn limit_in(budget: &Budget) -> Option<u64>
-    ensures value { result ≡ limit_of budget.now.conflicts }
-    ensures positive { IfSome result (λ n. 0 < n) }
-{
-    if budget.conflicts == 0 {
-        None
-    } else {
-        Some(budget.conflicts)
+        verdict: end.verdict,
+        kept,
+        cert: end.cert,
     }
 }
 
@@ -50,39 +31,10 @@ fn grow(alloc: Global, subject: &Subject, budget: &Budget) -> Result<Settled, No
     requires { IsSubject subject.now }
     ensures { IfOk result (IsTold subject.now.pair.now subject.now.bounds.now budget.now) }
 {
-    let limit = limit_in(budget);
-    let mut question = PointQuestion::new(alloc, subject)?;
-    let mut points: Vec<Point> = Vec::new(alloc);
+    let mut trail = Trail::new(alloc, subject)?;
     loop {
-        let point = match question.least(alloc, subject, limit)? {
-            Found::Least(point) => point,
-            Found::None(cert) => {
-                return Ok(settled(Verdict::Correct, question.into_tapes(), points, Some(cert)));
-            }
-            Found::Spent(cert) => {
-                let verdict = Verdict::Unknown(Cause::Conflicts);
-                return Ok(settled(verdict, question.into_tapes(), points, Some(cert)));
-            }
-        };
-        let answer = least_cover(alloc, subject, &point, limit)?;
-        let last = copy_point(alloc, &point)?;
-        points.push(point)?;
-        match answer {
-            Found::Least(tape) => {
-                if question.tapes.len() as u64 == budget.rounds {
-                    let verdict = Verdict::Unknown(Cause::Rounds);
-                    return Ok(settled(verdict, question.into_tapes(), points, None));
-                }
-                question.exclude(alloc, subject, tape)?;
-            }
-            Found::None(cert) => {
-                let verdict = Verdict::Incorrect(last);
-                return Ok(settled(verdict, question.into_tapes(), points, Some(cert)));
-            }
-            Found::Spent(cert) => {
-                let verdict = Verdict::Unknown(Cause::Conflicts);
-                return Ok(settled(verdict, question.into_tapes(), points, Some(cert)));
-            }
+        if let Some(end) = trail.round(alloc, subject, budget)? {
+            return Ok(settled(trail.into_kept(), end));
         }
     }
 }
@@ -109,9 +61,14 @@ pub fn settle(
     ensures { IfOk result (IsSettled pair.now bounds.now budget.now) }
 {
     if budget.weight < weight(pair, bounds) {
-        let verdict = Verdict::Unknown(Cause::Weight);
-        let tapes = Sequence::from_vec(Vec::new(alloc));
-        return Ok(settled(verdict, tapes, Vec::new(alloc), None));
+        return Ok(Settled {
+            verdict: Verdict::Unknown(Cause::Weight),
+            kept: Kept {
+                tapes: Sequence::from_vec(Vec::new(alloc)),
+                points: Sequence::from_vec(Vec::new(alloc)),
+            },
+            cert: None,
+        });
     }
     let subject = Subject::new(alloc, pair, bounds)?;
     let told = grow(alloc, &subject, budget)?;
