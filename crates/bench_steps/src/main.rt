@@ -16,13 +16,14 @@ mod pairs;
 use circuits::print_widths;
 use dimacs::Question;
 use modules::{print_made, print_read};
-use pair_driver::OpenGate;
+use pair_driver::{Judged, OpenGate};
 use pairs::print_questions;
 use sat_ask::search;
 use std::process::ExitCode;
+use std::thread::Threads;
 use std::{env, fs, io};
 use support::NoMemory;
-use tv_io::{FileShelf, MemorySink};
+use tv_io::{FileShelf, MemorySink, Shelf};
 use tv_run::run;
 use watch_solver::{Answer, solve};
 
@@ -79,23 +80,23 @@ fn answer(rt: &HostRuntime, words: &[String]) -> io::Result<bool> {
     }
 }
 
-/// Prints the questions of the pairs that `tv` judges for these words; whether they were judged.
-fn print_checked(rt: &HostRuntime, words: &[String]) -> bool {
-    let Ok(mut report) = MemorySink::new(rt.alloc(), ROOM) else {
-        return false;
-    };
+/// The judge's answers on the pairs that `tv` judges for these words, or `None` where it writes no report.
+fn judged_for<R: AllocGlobal + Threads + Sync, S: Shelf>(
+    rt: &R,
+    shelf: &mut S,
+    words: &[String],
+) -> Option<Vec<Judged>> {
+    let mut report = MemorySink::new(rt.alloc(), ROOM).ok()?;
     let mut judged = Vec::new(rt.alloc());
-    let mut shelf = FileShelf::new(rt);
-    let status = run(rt, words, &mut shelf, &mut report, &OpenGate, &mut judged);
-    status <= 3 && print_questions(rt, judged.as_slice()).is_ok()
+    let status = run(rt, words, shelf, &mut report, &OpenGate, &mut judged);
+    if status <= 3 { Some(judged) } else { None }
 }
 
-/// Whether the words after the program's name, if there are some, were answered.
-fn is_answered(rt: &HostRuntime, words: &[String]) -> bool {
-    match words {
-        [] | [_] => true,
-        [_, first, ..] if first.as_str() == "check" => print_checked(rt, words),
-        _ => matches!(answer(rt, words), Ok(true)),
+/// Prints the questions of these answers, if there are some; whether they were printed.
+fn is_printed(rt: &HostRuntime, judged: Option<Vec<Judged>>) -> bool {
+    match judged {
+        Some(judged) => print_questions(rt, judged.as_slice()).is_ok(),
+        None => false,
     }
 }
 
@@ -104,8 +105,20 @@ fn words_of(rt: &HostRuntime) -> Option<Vec<String>> {
 }
 
 fn main(rt: HostRuntime) -> ExitCode {
-    match words_of(&rt) {
-        Some(words) if is_answered(&rt, words.as_slice()) => ExitCode::SUCCESS,
-        _ => ExitCode::FAILURE,
+    let Some(words) = words_of(&rt) else {
+        return ExitCode::FAILURE;
+    };
+    let words = words.as_slice();
+    let is_answered = match words {
+        [] | [_] => true,
+        [_, first, ..] if first.as_str() == "check" => {
+            is_printed(&rt, judged_for(&rt, &mut FileShelf::new(&rt), words))
+        }
+        _ => matches!(answer(&rt, words), Ok(true)),
+    };
+    if is_answered {
+        ExitCode::SUCCESS
+    } else {
+        ExitCode::FAILURE
     }
 }

@@ -84,7 +84,7 @@ pub struct Ran {
 }
 
 /// A run of a command line over a shelf, with a gate for its pairs.
-pub fn ran<R: AllocGlobal + Threads + Sync, S: Shelf, G: Gate>(
+pub fn run_with<R: AllocGlobal + Threads + Sync, S: Shelf, G: Gate>(
     rt: &R,
     shelf: &mut S,
     gate: &G,
@@ -107,7 +107,7 @@ pub fn written<R: AllocGlobal + Threads + Sync, S: Shelf>(
     shelf: &mut S,
     line: &str,
 ) -> Result<(Vec<u8>, u8), NoMemory> {
-    let Ran { bytes, status, .. } = ran(rt, shelf, &OpenGate, line)?;
+    let Ran { bytes, status, .. } = run_with(rt, shelf, &OpenGate, line)?;
     Ok((bytes, status))
 }
 

@@ -1,6 +1,6 @@
 //! What no table of reports shows: files at the limit of their size, sinks that fail, and the gate.
 
-use crate::asking::{DEFAULTS, NO_ROWS, is_output, ran, shelf_of, written, written_until};
+use crate::asking::{DEFAULTS, NO_ROWS, is_output, run_with, shelf_of, written, written_until};
 use pair_driver::Gate;
 use std::sync::atomic::{AtomicU64, Ordering};
 use std::test::*;
@@ -83,7 +83,7 @@ fn each_judged_pair_passes_the_gate(rt: HostRuntime) -> Result<(), Fail> {
         sum: AtomicU64::new(0),
     };
     let mut shelf = shelf_of(rt.alloc(), module, module)?;
-    let ran = ran(&rt, &mut shelf, &gate, "tv check A B")?;
+    let ran = run_with(&rt, &mut shelf, &gate, "tv check A B")?;
     assert!(rt; ran.status == 0 && ran.judged == 2 && gate.sum.load(Ordering::SeqCst) == 3);
     Ok(())
 }

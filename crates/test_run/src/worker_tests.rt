@@ -1,6 +1,6 @@
 //! Workers: that they judge beside each other, and that the report is the same for each number.
 
-use crate::asking::{DEFAULTS, NO_ROWS, ONE_CORRECT, Row, is_answered, ran, shelf_of};
+use crate::asking::{DEFAULTS, NO_ROWS, ONE_CORRECT, Row, is_answered, run_with, shelf_of};
 use pair_driver::Gate;
 use std::sync::atomic::{AtomicU64, Ordering};
 use std::test::*;
@@ -98,7 +98,7 @@ fn a_free_worker_takes_the_rest(rt: HostRuntime) -> Result<(), Fail> {
     };
     let module = FOUR_FUNCTIONS.as_bytes();
     let mut shelf = shelf_of(rt.alloc(), module, module)?;
-    let ran = ran(&rt, &mut shelf, &gate, "tv check --workers 2 A B")?;
+    let ran = run_with(&rt, &mut shelf, &gate, "tv check --workers 2 A B")?;
     assert!(rt; ran.status == 0 && ran.judged == 4 && gate.gave_up.load(Ordering::SeqCst) == 0);
     Ok(())
 }
