@@ -16,14 +16,28 @@ import time
 
 PAIRS = 256
 RUNS = 1
-EQUAL = (8, "  %a = add i8 %x, %y\n  %b = add i8 %a, %x\n  ret i8 %b", "  %a = add i8 %x, %x\n  %b = add i8 %a, %y\n  ret i8 %b")
-HEAVY = (6, "  %a = udiv i6 %x, %y\n  %b = mul i6 %a, %y\n  %r = sub i6 %x, %b\n  ret i6 %r", "  %r = urem i6 %x, %y\n  ret i6 %r")
+SQUARE = (
+    "  %a = mul i{0} %x, %y\n  %b = mul i{0} %a, %x\n  ret i{0} %b",
+    "  %a = mul i{0} %x, %x\n  %b = mul i{0} %a, %y\n  ret i{0} %b",
+)
+SUM = (
+    "  %a = add i{0} %x, %y\n  %b = add i{0} %a, %x\n  ret i{0} %b",
+    "  %a = add i{0} %x, %x\n  %b = add i{0} %a, %y\n  ret i{0} %b",
+)
+
+
+def pair(width, sides):
+    """The width, and both sides of a pair at it."""
+    return width, *(side.format(width) for side in sides)
+
+
+EQUAL, HEAVY, LIGHT = pair(7, SQUARE), pair(8, SQUARE), pair(8, SUM)
 
 
 def module(pairs, side):
     return "".join(
-        f"define i{pair[0]} @f{k}(i{pair[0]} %x, i{pair[0]} %y) {{\n{pair[side]}\n}}\n"
-        for k, pair in enumerate(pairs)
+        f"define i{one[0]} @f{k}(i{one[0]} %x, i{one[0]} %y) {{\n{one[side]}\n}}\n"
+        for k, one in enumerate(pairs)
     )
 
 
@@ -49,9 +63,9 @@ def main():
     tv = sys.argv[1] if len(sys.argv) > 1 else "crates/tv/out/tv"
     light = ("--blocks", "0")
     for title, pairs, options in (
-        (f"{PAIRS} equal pairs", [EQUAL] * PAIRS, ()),
+        (f"{PAIRS} equal pairs", [EQUAL] * PAIRS, light),
         ("one heavy pair", [HEAVY], light),
-        (f"one heavy pair, {PAIRS - 1} light ones", [HEAVY] + [EQUAL] * (PAIRS - 1), light),
+        (f"one heavy pair, {PAIRS - 1} light ones", [HEAVY] + [LIGHT] * (PAIRS - 1), light),
     ):
         best, same = measured(tv, pairs, options)
         times = "  ".join(f"{workers}: {seconds:6.2f} s" for workers, seconds in best.items())
