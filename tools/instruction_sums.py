@@ -7,7 +7,7 @@
 A line has an instruction and eight sums, one for each width, or for each pair of widths of a cast. A sum
 goes over all pairs of operands of a width, the left one slower (of a cast, over all operands), and mixes
 in what the instruction gives: a number, poison, or undefined behavior. The same is done in
-crates/test_instructions, once with the interpreter and once with the terms; this program shares no code
+crates/test_meaning, once with the interpreter and once with the terms; this program shares no code
 with either. Sections of the Language Reference: Binary Operations, Bitwise Binary Operations, Conversion
 Operations, 'icmp' Instruction, Poison Values.
 """

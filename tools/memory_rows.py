@@ -4,7 +4,7 @@
     tools/memory_rows.py           prints the rows
     tools/memory_rows.py FILE      says which of these lines FILE lacks; status 1 where there are any
 
-The rows are those of crates/test_memory. A line is a call and its answer:
+The rows are those of crates/test_meaning (access_rows.rt). A line is a call and its answer:
 
     loads     ACCESS ALIGN ADDRESS = VALUE or ub
     stores    ACCESS ALIGN ADDRESS VALUE = done or ub, and the bytes of given1 after it

@@ -4,6 +4,7 @@ ghost use Rattle.std.specs.Prelude.{◌≡◌, ◌∷◌, [], replicate, IfOk};
 ghost use Rattle.points.specs.Code.{IsOfShape};
 ghost use Rattle.points.specs.Codes.{IsCode};
 
+use crate::expecting::expect;
 use ir_tree::{IrType, Parameter};
 use points::{Point, Shape, code_of, next, point_of};
 use std::alloc::{AllocError, Global};
@@ -91,8 +92,10 @@ fn codes_come_back_from_their_points(rt: HostRuntime) -> Result<(), Fail> {
     let code = [0, 0, 1, 1, 0, 0, 5, 6, 1];
     let point = point_of(alloc, &code, &shape)?;
     let again = code_of(alloc, &point, &shape)?;
-    assert!(rt; again.as_slice() == code.as_slice());
-    Ok(())
+    expect(
+        again.as_slice() == code.as_slice(),
+        "codes come back from their points",
+    )
 }
 
 #[test]
@@ -100,56 +103,64 @@ fn bytes_come_before_sizes_and_sizes_before_arguments(rt: HostRuntime) -> Result
     let alloc = rt.alloc();
     let shape = one_of_each(alloc)?;
     let most = u64::MAX;
-    assert!(rt;
+    expect(
         is_followed_by(
             alloc,
             &shape,
             &[0, 0, 0, 0, 0, 0, 0, 0, 1],
-            Some(&[0, 0, 1, 0, 0, 0, 0, 0, 0])
-        )?
-    );
-    assert!(rt;
+            Some(&[0, 0, 1, 0, 0, 0, 0, 0, 0]),
+        )?,
+        "bytes come before sizes and sizes before arguments",
+    )?;
+    expect(
         is_followed_by(
             alloc,
             &shape,
             &[0, 0, 1, 0, 255, 0, 0, 0, 1],
-            Some(&[0, 0, 1, 1, 0, 0, 0, 0, 0])
-        )?
-    );
-    assert!(rt;
+            Some(&[0, 0, 1, 1, 0, 0, 0, 0, 0]),
+        )?,
+        "bytes come before sizes and sizes before arguments",
+    )?;
+    expect(
         is_followed_by(
             alloc,
             &shape,
             &[0, 0, 1, 1, 0, 0, 5, 6, 1],
-            Some(&[0, 0, 1, 1, 0, 0, 5, 7, 0])
-        )?
-    );
-    assert!(rt;
+            Some(&[0, 0, 1, 1, 0, 0, 5, 7, 0]),
+        )?,
+        "bytes come before sizes and sizes before arguments",
+    )?;
+    expect(
         is_followed_by(
             alloc,
             &shape,
             &[0, 0, 1, 1, 0, 0, most, 7, 1],
-            Some(&[0, 0, 1, 1, 0, 1, 0, 0, 0])
-        )?
-    );
-    assert!(rt;
+            Some(&[0, 0, 1, 1, 0, 1, 0, 0, 0]),
+        )?,
+        "bytes come before sizes and sizes before arguments",
+    )?;
+    expect(
         is_followed_by(
             alloc,
             &shape,
             &[0, 0, 1, 1, 0, 1, most, 7, 1],
-            Some(&[0, 0, 1, 2, 0, 0, 0, 0, 0])
-        )?
-    );
-    assert!(rt;
+            Some(&[0, 0, 1, 2, 0, 0, 0, 0, 0]),
+        )?,
+        "bytes come before sizes and sizes before arguments",
+    )?;
+    expect(
         is_followed_by(
             alloc,
             &shape,
             &[0, 1, 1, 2, 0, 0, 0, 0, 1],
-            Some(&[1, 0, 0, 0, 0, 0, 0, 0, 0])
-        )?
-    );
-    assert!(rt; is_followed_by(alloc, &shape, &[1, 0, 1, 2, 0, 0, 0, 0, 1], None)?);
-    Ok(())
+            Some(&[1, 0, 0, 0, 0, 0, 0, 0, 0]),
+        )?,
+        "bytes come before sizes and sizes before arguments",
+    )?;
+    expect(
+        is_followed_by(alloc, &shape, &[1, 0, 1, 2, 0, 0, 0, 0, 1], None)?,
+        "bytes come before sizes and sizes before arguments",
+    )
 }
 
 /// Two parameters of one bit, one given block that has no byte, and two words of one bit.
@@ -184,9 +195,14 @@ fn a_walk_meets_each_point_of_a_shape(rt: HostRuntime) -> Result<(), Fail> {
     let alloc = rt.alloc();
     let shape = without_bytes(alloc)?;
     let mut point = point_of(alloc, &[0, 0, 0, 0, 0, 0, 0], &shape)?;
-    assert!(rt; points_from(&mut point, &shape) == Some(3 * 3 * 2 * 2));
-    assert!(rt; !next(&mut point, &shape));
-    Ok(())
+    expect(
+        points_from(&mut point, &shape) == Some(3 * 3 * 2 * 2),
+        "a walk meets each point of a shape",
+    )?;
+    expect(
+        !next(&mut point, &shape),
+        "a walk meets each point of a shape",
+    )
 }
 
 /// A pointer, one given block that has no byte, and no word.
@@ -209,8 +225,16 @@ fn one_pointer(alloc: Global) -> Result<Shape, NoMemory>
 fn offsets_move_before_blocks(rt: HostRuntime) -> Result<(), Fail> {
     let alloc = rt.alloc();
     let shape = one_pointer(alloc)?;
-    assert!(rt; is_followed_by(alloc, &shape, &[0, 0, u64::MAX, 0], Some(&[0, 1, 0, 0]))?);
-    assert!(rt; is_followed_by(alloc, &shape, &[0, 1, u64::MAX, 0], Some(&[1, 0, 0, 0]))?);
-    assert!(rt; is_followed_by(alloc, &shape, &[1, 0, 0, 0], None)?);
-    Ok(())
+    expect(
+        is_followed_by(alloc, &shape, &[0, 0, u64::MAX, 0], Some(&[0, 1, 0, 0]))?,
+        "offsets move before blocks",
+    )?;
+    expect(
+        is_followed_by(alloc, &shape, &[0, 1, u64::MAX, 0], Some(&[1, 0, 0, 0]))?,
+        "offsets move before blocks",
+    )?;
+    expect(
+        is_followed_by(alloc, &shape, &[1, 0, 0, 0], None)?,
+        "offsets move before blocks",
+    )
 }

@@ -1,5 +1,6 @@
 //! Copies of memories and points are equal to what was copied.
 
+use crate::expecting::expect;
 use byte_block::{BlockName, Byte, Memory, MemoryBlock, Ptr, Value, copy_memory};
 use points::{Input, Point, copy_point};
 use std::alloc::Global;
@@ -61,14 +62,18 @@ fn is_that_point(point: &Point) -> bool {
 #[test]
 fn copies_have_the_same_blocks(rt: HostRuntime) -> Result<(), Fail> {
     let memory = one_block(rt.alloc())?;
-    assert!(rt; is_one_block(&copy_memory(rt.alloc(), &memory)?));
-    Ok(())
+    expect(
+        is_one_block(&copy_memory(rt.alloc(), &memory)?),
+        "copies have the same blocks",
+    )
 }
 
 #[test]
 fn copies_have_the_same_words(rt: HostRuntime) -> Result<(), Fail> {
     let memory = one_block(rt.alloc())?;
     let point = point_with(rt.alloc(), memory)?;
-    assert!(rt; is_that_point(&copy_point(rt.alloc(), &point)?));
-    Ok(())
+    expect(
+        is_that_point(&copy_point(rt.alloc(), &point)?),
+        "copies have the same words",
+    )
 }

@@ -2,6 +2,7 @@
 
 ghost use Rattle.ir_tree.specs.Limits.{IsWithinLimits};
 
+use crate::expecting::expect;
 use crate::functions::function_of;
 use crate::judge_rows::PAIRS;
 use crate::words::{fields_in, numbers_in, value_in};
@@ -78,7 +79,7 @@ fn holds(alloc: Global, line: &str) -> Result<bool, Fail> {
 #[test]
 fn verdicts_on_pairs_with_memory(rt: HostRuntime) -> Result<(), Fail> {
     for line in PAIRS.lines() {
-        assert!(rt; holds(rt.alloc(), line)?, "{line}");
+        expect(holds(rt.alloc(), line)?, line)?;
     }
     Ok(())
 }

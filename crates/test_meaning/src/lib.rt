@@ -1,16 +1,35 @@
-//! Tests of what a run is: points and their codes, copies, runs by the interpreter, with memory too,
-//! and unrolling; and of verdicts by counting on pairs with memory.
+//! What an instruction and a run mean, by answers that are known.
 //!
-//! There are tests alone, each small and with an answer that is known. They stand on `points`,
-//! `choice_interp`, `unroll` and `slow_judge`. Nothing stands on this.
+//! These are the tests of the crates from `byte_block` to `unroll`, of `inst_terms` and of
+//! `slow_judge`: loads, stores and offsets by rows that `tools/memory_rows.py` computed; the
+//! instruction table, whose answers `tools/instruction_sums.py` computed, asked of the interpreter
+//! and of the terms; points and their codes, copies, runs with memory and without, and unrolling;
+//! and verdicts by counting. Both scripts go by the words of the LLVM Language Reference. Nothing
+//! stands on this crate.
 #![tactic(auto)]
 
+#[cfg(test)]
+mod access_calls;
+#[cfg(test)]
+mod access_rows;
+#[cfg(test)]
+mod access_tests;
+#[cfg(test)]
+mod by_interpreter;
+#[cfg(test)]
+mod by_terms;
 #[cfg(test)]
 mod code_tests;
 #[cfg(test)]
 mod copy_tests;
 #[cfg(test)]
+mod expecting;
+#[cfg(test)]
 mod functions;
+#[cfg(test)]
+mod instruction_tests;
+#[cfg(test)]
+mod instructions;
 #[cfg(test)]
 mod judge_rows;
 #[cfg(test)]
@@ -21,6 +40,8 @@ mod memory_rows;
 mod memory_tests;
 #[cfg(test)]
 mod run_tests;
+#[cfg(test)]
+mod sums;
 #[cfg(test)]
 mod unroll_tests;
 #[cfg(test)]

@@ -2,6 +2,7 @@
 
 ghost use Rattle.ir_tree.specs.Limits.{IsWithinLimits};
 
+use crate::expecting::expect;
 use crate::functions::{function_of, returns, run};
 use crate::memory_rows::{ACCESSES, CHOICES, CHOOSERS, ENTRIES, MOVES, TURNS};
 use crate::words::{fields_in, numbers_in, value_in};
@@ -78,38 +79,32 @@ fn holds(alloc: Global, line: &str) -> Result<bool, Fail> {
     Ok(ran.read == 0 && is_outcome(&ran.outcome, wanted))
 }
 
-/// The first line that does not hold.
-fn first_wrong<'a>(alloc: Global, lines: &'a str) -> Result<Option<&'a str>, Fail> {
+/// Fails at the first line that does not hold.
+fn hold(alloc: Global, lines: &str) -> Result<(), Fail> {
     for line in lines.lines() {
-        if !holds(alloc, line)? {
-            return Ok(Some(line));
-        }
+        expect(holds(alloc, line)?, line)?;
     }
-    Ok(None)
+    Ok(())
 }
 
 #[test]
 fn loads_and_stores_of_a_run(rt: HostRuntime) -> Result<(), Fail> {
-    assert_eq!(rt; first_wrong(rt.alloc(), ACCESSES)?, None);
-    Ok(())
+    hold(rt.alloc(), ACCESSES)
 }
 
 #[test]
 fn moves_of_a_run(rt: HostRuntime) -> Result<(), Fail> {
-    assert_eq!(rt; first_wrong(rt.alloc(), MOVES)?, None);
-    Ok(())
+    hold(rt.alloc(), MOVES)
 }
 
 #[test]
 fn attributes_of_a_pointer_parameter(rt: HostRuntime) -> Result<(), Fail> {
-    assert_eq!(rt; first_wrong(rt.alloc(), ENTRIES)?, None);
-    Ok(())
+    hold(rt.alloc(), ENTRIES)
 }
 
 #[test]
 fn each_turn_has_a_block_of_its_own(rt: HostRuntime) -> Result<(), Fail> {
-    assert_eq!(rt; first_wrong(rt.alloc(), TURNS)?, None);
-    Ok(())
+    hold(rt.alloc(), TURNS)
 }
 
 fn is_chosen(alloc: Global, text: &str, line: &str) -> Result<bool, Fail> {
@@ -126,7 +121,7 @@ fn is_chosen(alloc: Global, text: &str, line: &str) -> Result<bool, Fail> {
 fn a_pointer_choice_is_two_words(rt: HostRuntime) -> Result<(), Fail> {
     for text in CHOOSERS.lines() {
         for line in CHOICES.lines() {
-            assert!(rt; is_chosen(rt.alloc(), text, line)?, "{text}: {line}");
+            expect(is_chosen(rt.alloc(), text, line)?, line)?;
         }
     }
     Ok(())
@@ -168,7 +163,7 @@ fn pointers_to_freed_blocks_are_equal(rt: HostRuntime) -> Result<(), Fail> {
         (KEPT, ONE, false),
     ] {
         let refines = run_refines(rt.alloc(), source, target)?;
-        assert!(rt; refines == wanted, "{source} {target}");
+        expect(refines == wanted, source)?;
     }
     Ok(())
 }
@@ -209,6 +204,8 @@ fn begins_twice(alloc: Global, f: &Function, input: &Input) -> Result<bool, NoMe
 fn a_run_begins_with_the_given_blocks(rt: HostRuntime) -> Result<(), Fail> {
     let f = function_of(rt.alloc(), OVERWRITING)?;
     let input = input_of(rt.alloc(), FIRST)?;
-    assert!(rt; begins_twice(rt.alloc(), &f, &input)?);
-    Ok(())
+    expect(
+        begins_twice(rt.alloc(), &f, &input)?,
+        "a run begins with the given blocks",
+    )
 }

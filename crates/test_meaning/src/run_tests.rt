@@ -3,6 +3,7 @@
 
 ghost use Rattle.ir_tree.specs.Limits.{IsWithinLimits};
 
+use crate::expecting::expect;
 use crate::functions::{function_of, returns, run};
 use crate::words::{numbers_in, value_in};
 use byte_block::Value;
@@ -67,7 +68,7 @@ fn holds(alloc: Global, line: &str) -> Result<bool, Fail> {
 #[test]
 fn a_run_takes_its_choices_from_the_tape(rt: HostRuntime) -> Result<(), Fail> {
     for line in ROWS.lines() {
-        assert!(rt; holds(rt.alloc(), line)?, "{line}");
+        expect(holds(rt.alloc(), line)?, line)?;
     }
     Ok(())
 }
@@ -85,6 +86,8 @@ fn runs_twice(alloc: Global, f: &Function, input: &Input) -> Result<bool, NoMemo
 fn a_runner_runs_again_from_the_start(rt: HostRuntime) -> Result<(), Fail> {
     let f = function_of(rt.alloc(), SUM)?;
     let input = input_of(rt.alloc(), Value::Num(1))?;
-    assert!(rt; runs_twice(rt.alloc(), &f, &input)?);
-    Ok(())
+    expect(
+        runs_twice(rt.alloc(), &f, &input)?,
+        "a runner runs again from the start",
+    )
 }

@@ -2,6 +2,7 @@
 
 ghost use Rattle.ir_tree.specs.Limits.{IsWithinLimits};
 
+use crate::expecting::expect;
 use crate::functions::function_of;
 use ir_tree::{Block, Case, Function, Name, Names, Operand, Terminator};
 use points::{Bounds, Pair, has_same_signature};
@@ -88,10 +89,10 @@ fn each_backward_jump_is_another_layer(rt: HostRuntime) -> Result<(), Fail> {
             "0.0: 1\n0.1: 2 3\n1.0: 3\n1.1: 4 5\n2.0: 5\n2.1: beyond beyond\n",
         ),
     ] {
-        assert!(rt;
+        expect(
             copies_text(rt.alloc(), &f, turns)?.as_str() == copies,
-            "{turns}"
-        );
+            "each backward jump is another layer",
+        )?;
     }
     Ok(())
 }
@@ -115,8 +116,10 @@ fn a_label_that_no_block_has_leads_nowhere(rt: HostRuntime) -> Result<(), Fail> 
     blocks.push(block(alloc, 0, switch))?;
     let f = function(alloc, blocks);
     let copies = copies_text(alloc, &f, 1)?;
-    assert!(rt; copies.as_str() == "0.0: 1 nowhere\n1.0: beyond nowhere\n");
-    Ok(())
+    expect(
+        copies.as_str() == "0.0: 1 nowhere\n1.0: beyond nowhere\n",
+        "a label that no block has leads nowhere",
+    )
 }
 
 #[test]
@@ -124,13 +127,12 @@ fn too_many_copies_are_out_of_memory(rt: HostRuntime) -> Result<(), Fail> {
     let alloc = rt.alloc();
     let f = two_blocks(alloc)?;
     let many = layers(alloc, &f, 9223372036854775807);
-    assert!(rt; many.is_err());
+    expect(many.is_err(), "too many copies are out of memory")?;
     let most = layers(alloc, &f, u64::MAX);
-    assert!(rt; most.is_err());
+    expect(most.is_err(), "too many copies are out of memory")?;
     let empty = function(alloc, Vec::new(alloc));
     let none = layers(alloc, &empty, u64::MAX)?;
-    assert!(rt; none.copies.is_empty());
-    Ok(())
+    expect(none.copies.is_empty(), "too many copies are out of memory")
 }
 
 const CHOSEN_AND_DOUBLED: &str =
@@ -169,6 +171,8 @@ fn a_pair_weighs_the_bits_of_its_results(rt: HostRuntime) -> Result<(), Fail> {
     let source = function_of(rt.alloc(), CHOSEN_AND_DOUBLED)?;
     let target = function_of(rt.alloc(), SHIFTED)?;
     let expected = (5 * (4 + 8 + 1 + 8 + 1), [5, 0], [4, 1]);
-    assert_eq!(rt; measured(&source, &target), Some(expected));
-    Ok(())
+    expect(
+        measured(&source, &target) == Some(expected),
+        "a pair weighs the bits of its results",
+    )
 }

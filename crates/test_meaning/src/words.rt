@@ -1,8 +1,10 @@
 //! What the words of a row say.
 
-use byte_block::{BlockName, Ptr, Value};
+use byte_block::{BlockName, Byte, Ptr, Value};
+use memory_access::Access;
 use std::alloc::Global;
 use std::test::Fail;
+use tv_num::Width;
 
 /// A number: decimal digits, or hexadecimal ones after `0x`.
 fn number_in(word: &str) -> Option<u64> {
@@ -12,16 +14,23 @@ fn number_in(word: &str) -> Option<u64> {
     }
 }
 
+/// The name of a block, as `null`, `given1` or `local0.2`.
+pub fn name_in(word: &str) -> Option<BlockName> {
+    if word == "null" {
+        return Some(BlockName::Null);
+    }
+    if let Some(number) = word.strip_prefix("given") {
+        return Some(BlockName::Given(number_in(number)?));
+    }
+    let (turn, place) = word.strip_prefix("local")?.split_once(".")?;
+    Some(BlockName::Local(number_in(turn)?, number_in(place)?))
+}
+
 /// A pointer, as `null+5` or `given1+8`.
 fn pointer_in(word: &str) -> Option<Ptr> {
     let (name, offset) = word.split_once("+")?;
-    let block = match name.strip_prefix("given") {
-        Some(number) => BlockName::Given(number_in(number)?),
-        None if name == "null" => BlockName::Null,
-        None => return None,
-    };
     Some(Ptr {
-        block,
+        block: name_in(name)?,
         offset: number_in(offset)?,
     })
 }
@@ -37,6 +46,36 @@ pub fn value_in(word: &str) -> Option<Value> {
     }
 }
 
+/// A byte: `--` for poison, two hexadecimal digits, or a pointer and its part, as `given1+4/0`.
+pub fn byte_in(word: &str) -> Option<Byte> {
+    if word == "--" {
+        return Some(Byte::Poison);
+    }
+    match word.split_once("/") {
+        Some((pointer, part)) => Some(Byte::Part(pointer_in(pointer)?, part.parse::<u8>().ok()?)),
+        None => Some(Byte::Num(u8::from_str_radix(word, 16).ok()?)),
+    }
+}
+
+/// The width of an integer type, as `i32`.
+pub fn width_in(word: &str) -> Option<Width> {
+    let bits = word.strip_prefix("i")?.parse::<u32>().ok()?;
+    if 1 <= bits && bits <= 64 {
+        Some(Width::of(bits))
+    } else {
+        None
+    }
+}
+
+/// An access: `ptr` or an integer type.
+pub fn access_in(word: &str) -> Option<Access> {
+    if word == "ptr" {
+        Some(Access::Pointer)
+    } else {
+        Some(Access::Int(width_in(word)?))
+    }
+}
+
 /// The numbers of a text.
 pub fn numbers_in(alloc: Global, text: &str) -> Result<Vec<u64>, Fail> {
     let mut numbers = Vec::new(alloc);
@@ -46,7 +85,7 @@ pub fn numbers_in(alloc: Global, text: &str) -> Result<Vec<u64>, Fail> {
     Ok(numbers)
 }
 
-/// What stands behind the name of a row: two fields and the rest.
+/// What stands after the name of a row: two fields and the rest.
 pub fn fields_in(line: &str) -> Option<(&str, &str, &str)> {
     let (_, fields) = line.split_once(" | ")?;
     let (first, fields) = fields.split_once(" | ")?;

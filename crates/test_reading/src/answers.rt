@@ -3,6 +3,7 @@ use ir_items::Why;
 use ir_reader::{ModuleFault, read};
 use ir_tree::Reason;
 use std::alloc::{AllocError, Global};
+use std::test::Fail;
 
 fn why_word(why: Why) -> &'static str {
     match why {
@@ -61,15 +62,26 @@ pub fn answer(alloc: Global, text: &[u8]) -> Result<String, AllocError> {
     }
 }
 
-/// The first of these texts to which the reader gives another answer than is expected.
-pub fn first_wrong<'a>(
-    alloc: Global,
-    rows: &[(&'a str, &str)],
-) -> Result<Option<&'a str>, AllocError> {
-    for (text, want) in rows {
-        if answer(alloc, text.as_bytes())?.as_str() != *want {
-            return Ok(Some(*text));
-        }
+/// Fails where the reader gives another answer to the text of a row. The row's first line is the
+/// answer, and after `: ` what the row is about; the text follows.
+fn is_answered(alloc: Global, row: &str) -> Result<(), Fail> {
+    let (head, text) = row.split_once("\n").ok_or("an answer and a text")?;
+    let want = match head.split_once(": ") {
+        Some((want, _)) => want,
+        None => head,
+    };
+    let found = answer(alloc, text.as_bytes())?;
+    if found.as_str() == want {
+        Ok(())
+    } else {
+        Err(Fail::new(format_args!("{found} for {row}")))
     }
-    Ok(None)
+}
+
+/// Fails at the first row whose text gets another answer. An empty line ends a row.
+pub fn are_answered(alloc: Global, rows: &str) -> Result<(), Fail> {
+    for row in rows.split("\n\n") {
+        is_answered(alloc, row)?;
+    }
+    Ok(())
 }

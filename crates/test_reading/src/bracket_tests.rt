@@ -1,3 +1,4 @@
+use crate::expecting::expect;
 use crate::token_lists::tokens_of;
 use std::alloc::Global;
 use std::test::Fail;
@@ -24,7 +25,7 @@ fn brackets_are_passed(rt: HostRuntime) -> Result<(), Fail> {
         ("", None),
     ];
     for &(text, left) in &rows {
-        assert_eq!(rt; left_after(rt.alloc(), text)?, left, "in {text:?}");
+        expect(left_after(rt.alloc(), text)? == left, text)?;
     }
     Ok(())
 }
@@ -36,7 +37,7 @@ fn the_innermost_is_closed(rt: HostRuntime) -> Result<(), Fail> {
     for (place, fits) in [(0, true), (1, false)] {
         let mut brackets = OpenBrackets::new(rt.alloc(), Bracket::Curly)?;
         if let Some(token) = tokens.as_slice().get(place) {
-            assert_eq!(rt; brackets.pass(token)?, fits, "at {place}");
+            expect(brackets.pass(token)? == fits, "the innermost is closed")?;
         }
     }
     Ok(())

@@ -3,6 +3,7 @@
 ghost use Rattle.std.specs.Prelude.{◌<◌, ◌≤◌, [], length, IsTrue, slice_index_or};
 ghost use Rattle.std.specs.List.{All};
 
+use crate::expecting::expect;
 use definite_assignment::{NameSets, assigned_before};
 use std::alloc::Global;
 use std::test::Fail;
@@ -143,7 +144,7 @@ fn every_path_assigns_a_name(rt: HostRuntime) -> Result<(), Fail> {
     ];
     for &(row, blocks, edges, assigned, names, want) in &rows {
         let sets = text(rt.alloc(), blocks, edges, assigned, names)?;
-        assert!(rt; sets.as_slice() == want.as_bytes(), "{row}");
+        expect(sets.as_slice() == want.as_bytes(), row)?;
     }
     Ok(())
 }
@@ -152,9 +153,8 @@ fn every_path_assigns_a_name(rt: HostRuntime) -> Result<(), Fail> {
 fn names_of_a_second_word(rt: HostRuntime) -> Result<(), Fail> {
     let sets = text(rt.alloc(), 2, &[(0, 1)], &[(0, 0), (0, 66)], 67)?;
     let names = sets.iter().filter(|byte| **byte == b'1').count();
-    assert_eq!(rt;
-        (names, sets.get(68), sets.get(134)),
-        (2, Some(&b'1'), Some(&b'1'))
-    );
-    Ok(())
+    expect(
+        (names, sets.get(68), sets.get(134)) == (2, Some(&b'1'), Some(&b'1')),
+        "names of a second word",
+    )
 }

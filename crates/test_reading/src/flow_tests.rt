@@ -1,3 +1,4 @@
+use crate::expecting::expect;
 use crate::made_functions::function_of;
 use ir_tree::{BlockIndex, IrType, Site, are_numbered, first_definitions, successors, targets_of};
 use std::test::Fail;
@@ -21,10 +22,16 @@ fn a_terminator_has_its_targets(rt: HostRuntime) -> Result<(), Fail> {
     let f = function_of(rt.alloc(), FOUR_BLOCKS)?;
     if let [l, m, n, c] = f.blocks.as_slice() {
         let found = targets_of(rt.alloc(), &l.terminator)?;
-        assert!(rt; found.as_slice() == [n.label, m.label, n.label].as_slice());
-        assert!(rt; targets_of(rt.alloc(), &c.terminator)?.is_empty());
+        expect(
+            found.as_slice() == [n.label, m.label, n.label].as_slice(),
+            "a terminator has its targets",
+        )?;
+        expect(
+            targets_of(rt.alloc(), &c.terminator)?.is_empty(),
+            "a terminator has its targets",
+        )?;
     } else {
-        assert!(rt; false);
+        expect(false, "a terminator has its targets")?;
     }
     Ok(())
 }
@@ -35,12 +42,15 @@ fn blocks_have_successors(rt: HostRuntime) -> Result<(), Fail> {
     let f = function_of(rt.alloc(), FOUR_BLOCKS)?;
     let graph = successors(rt.alloc(), &f)?;
     if let [l, m, n, c] = graph.as_slice() {
-        assert!(rt; l.as_slice() == [2, 1, 2].as_slice());
-        assert!(rt; m.as_slice() == [0].as_slice());
-        assert!(rt; n.as_slice() == [4].as_slice());
-        assert!(rt; c.is_empty());
+        expect(
+            l.as_slice() == [2, 1, 2].as_slice(),
+            "blocks have successors",
+        )?;
+        expect(m.as_slice() == [0].as_slice(), "blocks have successors")?;
+        expect(n.as_slice() == [4].as_slice(), "blocks have successors")?;
+        expect(c.is_empty(), "blocks have successors")?;
     } else {
-        assert!(rt; false);
+        expect(false, "blocks have successors")?;
     }
     Ok(())
 }
@@ -50,10 +60,9 @@ fn a_label_has_a_block(rt: HostRuntime) -> Result<(), Fail> {
     let f = function_of(rt.alloc(), FOUR_BLOCKS)?;
     let index = BlockIndex::of(rt.alloc(), &f)?;
     for (place, block) in f.blocks.as_slice().iter().enumerate() {
-        assert_eq!(rt; index.place(&f, block.label), place);
+        expect(index.place(&f, block.label) == place, "a label has a block")?;
     }
-    assert_eq!(rt; index.place(&f, f.names.len()), 4);
-    Ok(())
+    expect(index.place(&f, f.names.len()) == 4, "a label has a block")
 }
 
 /// Name 1 is used before its definition, name 0 is defined twice, and name 2 not at all.
@@ -76,8 +85,10 @@ fn the_first_definition_is_found(rt: HostRuntime) -> Result<(), Fail> {
             name: 0,
         },
     ];
-    assert!(rt; are_numbered(&sites, 3));
+    expect(are_numbered(&sites, 3), "the first definition is found")?;
     let found = first_definitions(rt.alloc(), &sites, 3)?;
-    assert!(rt; found.as_slice() == [Some(1), Some(2), None].as_slice());
-    Ok(())
+    expect(
+        found.as_slice() == [Some(1), Some(2), None].as_slice(),
+        "the first definition is found",
+    )
 }

@@ -1,3 +1,4 @@
+use crate::expecting::expect;
 use crate::made_functions::function_of;
 use assigned_names::check_assigned;
 use ir_check::{check_edges, check_names, check_types};
@@ -24,10 +25,12 @@ fn checked(alloc: Global, f: &Function) -> Result<bool, CheckFault> {
 fn a_function_is_read_step_by_step(rt: HostRuntime) -> Result<(), Fail> {
     let text = "define i8 @f(i8 %x) {\n  %r = add i8 %x, 1\n  ret i8 %r\n}";
     let f = function_of(rt.alloc(), text)?;
-    assert_eq!(rt; f.names.len(), 3);
-    assert_eq!(rt; f.blocks.len(), 1);
-    assert_eq!(rt; checked(rt.alloc(), &f), Ok(true));
-    Ok(())
+    expect(f.names.len() == 3, "a function is read step by step")?;
+    expect(f.blocks.len() == 1, "a function is read step by step")?;
+    expect(
+        checked(rt.alloc(), &f) == Ok(true),
+        "a function is read step by step",
+    )
 }
 
 fn edges_checked(alloc: Global, f: &Function) -> Result<bool, CheckFault> {
@@ -54,10 +57,12 @@ fn refused(reason: Reason, column: u64) -> Result<bool, CheckFault> {
 fn edges_are_checked_whatever_the_types_are(rt: HostRuntime) -> Result<(), Fail> {
     let text = "define i8 @f(i1 %c) { a: %x = phi i8 [ 1, %a ]  ret i8 %c }";
     let f = function_of(rt.alloc(), text)?;
-    assert_eq!(rt;
-        edges_checked(rt.alloc(), &f),
-        refused(Reason::PhiEdges, 26)
-    );
-    assert_eq!(rt; checked(rt.alloc(), &f), refused(Reason::TypeClash, 56));
-    Ok(())
+    expect(
+        edges_checked(rt.alloc(), &f) == refused(Reason::PhiEdges, 26),
+        "edges are checked whatever the types are",
+    )?;
+    expect(
+        checked(rt.alloc(), &f) == refused(Reason::TypeClash, 56),
+        "edges are checked whatever the types are",
+    )
 }

@@ -1,3 +1,4 @@
+use crate::expecting::expect;
 use crate::token_lists::tokens_of;
 use ir_items::{ItemFault, Why, cut, name_before_colon, name_behind_sign, name_of};
 use ir_lexer::lex;
@@ -16,7 +17,7 @@ fn fault(alloc: Global, text: &str) -> Option<ItemFault> {
 
 // The places and reasons are from a cut in another language.
 #[test]
-fn first_stops(rt: HostRuntime) {
+fn first_stops(rt: HostRuntime) -> Result<(), Fail> {
     for &(text, at, why) in &[
         ("ret", 0, Why::NoItem),
         ("}", 0, Why::NoItem),
@@ -35,8 +36,9 @@ fn first_stops(rt: HostRuntime) {
         ("target datalayout = \"e-p:32\"", 3, Why::DataLayout),
     ] {
         let stop = Some(ItemFault::Stop { at, why });
-        assert_eq!(rt; fault(rt.alloc(), text), stop, "in {text:?}");
+        expect(fault(rt.alloc(), text) == stop, text)?;
     }
+    Ok(())
 }
 
 #[test]
@@ -47,16 +49,18 @@ fn defines_among_items(rt: HostRuntime) -> Result<(), Fail> {
         "target datalayout = \"e-p:064-i64:64\"",
         "source_filename = \"a\nb\" define",
     ] {
-        assert_eq!(rt; cut(alloc, &lex(alloc, text.as_bytes())?)?.len(), 0);
+        expect(
+            cut(alloc, &lex(alloc, text.as_bytes())?)?.len() == 0,
+            "defines among items",
+        )?;
     }
     let text =
         "define i8 @f() {}\n@g = global [1 x i8]\n$c = comdat any\ndefine i8 @h(i8 (i8)* %a) #0 { x }";
     let defines = cut(alloc, &lex(alloc, text.as_bytes())?)?;
-    assert_eq!(rt; defines.len(), 2);
+    expect(defines.len() == 2, "defines among items")?;
     let (f, h) = (defines.get(0), defines.get(1));
-    assert!(rt; f.first == 0 && f.last == 6);
-    assert!(rt; h.first == 19 && h.last == 33);
-    Ok(())
+    expect(f.first == 0 && f.last == 6, "defines among items")?;
+    expect(h.first == 19 && h.last == 33, "defines among items")
 }
 
 /// The name of a text's one token: `#` and a number, or `%` and other bytes; none without a name.
@@ -98,7 +102,7 @@ fn tokens_spell_names(rt: HostRuntime) -> Result<(), Fail> {
     ];
     for &(text, want) in &rows {
         let found = named(rt.alloc(), text)?;
-        assert!(rt; found.as_slice() == want.as_bytes(), "in {text:?}");
+        expect(found.as_slice() == want.as_bytes(), text)?;
     }
     Ok(())
 }
@@ -108,6 +112,8 @@ fn a_name_is_without_its_mark(rt: HostRuntime) -> Result<(), Fail> {
     let mut found = Vec::new(rt.alloc());
     push_name(&mut found, &name_behind_sign(rt.alloc(), b"%ab")?)?;
     push_name(&mut found, &name_before_colon(rt.alloc(), b"12:")?)?;
-    assert!(rt; found.as_slice() == b"%ab#12".as_slice());
-    Ok(())
+    expect(
+        found.as_slice() == b"%ab#12".as_slice(),
+        "a name is without its mark",
+    )
 }

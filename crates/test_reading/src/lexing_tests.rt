@@ -1,3 +1,4 @@
+use crate::expecting::expect;
 use crate::token_lists::tokens_of;
 use ir_lexer::{LexFault, Lexer, lex};
 use std::alloc::Global;
@@ -16,71 +17,67 @@ fn lexed(alloc: Global, text: &str) -> Result<Vec<u8>, Fail> {
     Ok(all)
 }
 
-// The tokens are from a lexer of regular expressions in another language.
+/// Texts, each after a line with its tokens, as a lexer of regular expressions in another language
+/// gives them. `---` stands between two rows.
+const TOKENS: &str = "\
+; Local %r1; Mark =; Word add; Word i8; Number -5; Mark ,; Global @a.b; Mark ...
+%r1 = add i8 -5, @a.b ; rest
+...
+---
+; Local %5; Word a; Local %-x; Comdat $a; Comdat $1; Word b; Global @\"x y\"; Local %\"\\22\"
+%5a %-x $a $1b @\"x y\" %\"\\22\"
+---
+; Label $a:; Label -5:; Label ...:; Label \"a\":; Label 1.5:; Label a:; Label b:
+$a: -5: ...: \"a\": 1.5: a:b:
+---
+; Float 1.5e+7; Float 1.5; Word e7; Float -0.25; Float +3.0; Number 1; Word .; Number 5
+1.5e+7 1.5e7 -0.25 +3.0 1. 5
+---
+; Hexadecimal 0xK12; Hexadecimal 0x1F; Number 0; Word xg; Number 0; Word xKR; Number 0; Word x
+0xK12 0x1F 0xg 0xKR 0x
+---
+; Metadata !llvm.loop; Metadata !5; Metadata !-1; Mark !; Mark {; Mark !; String \"s\"; Hash #12; \
+    Hash #-1; Hash #nounwind; Caret ^3; Caret ^-3
+!llvm.loop !5 !-1 !{ !\"s\" #12 #-1 #nounwind ^3 ^-3
+---
+; String c\"a\\00\"; Word c; String \"b\"; String c\"q\"; Mark :
+c\"a\\00\" c \"b\" c\"q\":
+---
+; Word ....; Word ...a; Mark (; Mark ); Mark [; Mark ]; Mark {; Mark }; Mark <; Mark >; Mark ,; \
+    Mark =; Mark *; Mark :; Mark !; Mark |
+.... ...a ( ) [ ] { } < > , = * : ! |
+---
+; Number 1; Number -1; Number -1; Label 1-1-1:
+1-1-1 1-1-1:
+---
+; Word a; Word b
+a\r
+;c\r
+\tb
+---
+
+;
+---
+; Word declare; Word void; Global @f; Mark (; Word ptr; Mark ); String \"k\"; Mark =; String \"v\"
+declare void @f(ptr) \"k\"=\"v\"
+---
+; Float 1.5e+7; Mark :; Comdat $\"q\"; Mark :; Local %\"l\"; Mark :
+1.5e+7: $\"q\": %\"l\":";
+
+fn is_lexed(alloc: Global, row: &str) -> Result<(), Fail> {
+    let (want, text) = row.split_once("\n").ok_or("tokens and a text")?;
+    let found = lexed(alloc, text)?;
+    expect(found.as_slice() == want.as_bytes(), row)
+}
+
 #[test]
 fn tokens_of_each_class(rt: HostRuntime) -> Result<(), Fail> {
-    let rows = [
-        (
-            "%r1 = add i8 -5, @a.b ; rest\n...",
-            "; Local %r1; Mark =; Word add; Word i8; Number -5; Mark ,; Global @a.b; Mark ...",
-        ),
-        (
-            "%5a %-x $a $1b @\"x y\" %\"\\22\"",
-            "; Local %5; Word a; Local %-x; Comdat $a; Comdat $1; Word b; Global @\"x y\"; Local \
-            %\"\\22\"",
-        ),
-        (
-            "$a: -5: ...: \"a\": 1.5: a:b:",
-            "; Label $a:; Label -5:; Label ...:; Label \"a\":; Label 1.5:; Label a:; Label b:",
-        ),
-        (
-            "1.5e+7 1.5e7 -0.25 +3.0 1. 5",
-            "; Float 1.5e+7; Float 1.5; Word e7; Float -0.25; Float +3.0; Number 1; Word .; \
-            Number 5",
-        ),
-        (
-            "0xK12 0x1F 0xg 0xKR 0x",
-            "; Hexadecimal 0xK12; Hexadecimal 0x1F; Number 0; Word xg; Number 0; Word xKR; Number \
-            0; Word x",
-        ),
-        (
-            "!llvm.loop !5 !-1 !{ !\"s\" #12 #-1 #nounwind ^3 ^-3",
-            "; Metadata !llvm.loop; Metadata !5; Metadata !-1; Mark !; Mark {; Mark !; String \
-            \"s\"; Hash #12; Hash #-1; Hash #nounwind; Caret ^3; Caret ^-3",
-        ),
-        (
-            "c\"a\\00\" c \"b\" c\"q\":",
-            "; String c\"a\\00\"; Word c; String \"b\"; String c\"q\"; Mark :",
-        ),
-        (
-            ".... ...a ( ) [ ] { } < > , = * : ! |",
-            "; Word ....; Word ...a; Mark (; Mark ); Mark [; Mark ]; Mark {; Mark }; Mark <; Mark \
-            >; Mark ,; Mark =; Mark *; Mark :; Mark !; Mark |",
-        ),
-        (
-            "1-1-1 1-1-1:",
-            "; Number 1; Number -1; Number -1; Label 1-1-1:",
-        ),
-        ("a\r\n;c\r\n\tb", "; Word a; Word b"),
-        (";", ""),
-        (
-            "declare void @f(ptr) \"k\"=\"v\"",
-            "; Word declare; Word void; Global @f; Mark (; Word ptr; Mark ); String \"k\"; Mark \
-            =; String \"v\"",
-        ),
-        (
-            "1.5e+7: $\"q\": %\"l\":",
-            "; Float 1.5e+7; Mark :; Comdat $\"q\"; Mark :; Local %\"l\"; Mark :",
-        ),
-        ("", ""),
-    ];
-    for &(text, want) in &rows {
-        let found = lexed(rt.alloc(), text)?;
-        assert!(rt; found.as_slice() == want.as_bytes(), "in {text:?}");
+    for row in TOKENS.split("\n---\n") {
+        is_lexed(rt.alloc(), row)?;
     }
+    is_lexed(rt.alloc(), "\n")?;
     let bytes = lex(rt.alloc(), b" \"\xff\x00\"")?;
-    assert_eq!(rt; bytes.len(), 1);
-    Ok(())
+    expect(bytes.len() == 1, "bytes that are no text")
 }
 
 #[test]
@@ -105,11 +102,10 @@ fn places_without_a_token(rt: HostRuntime) -> Result<(), Fail> {
     ] {
         let place = Place { line, column };
         let fault = lex(alloc, text.as_bytes()).err();
-        assert_eq!(rt; fault, Some(LexFault::NoToken { at, place }), "in {text:?}");
+        expect(fault == Some(LexFault::NoToken { at, place }), text)?;
     }
-    assert!(rt; lex(alloc, b"a\x00").is_err());
-    assert!(rt; lex(alloc, b"\xc3").is_err());
-    Ok(())
+    expect(lex(alloc, b"a\x00").is_err(), "places without a token")?;
+    expect(lex(alloc, b"\xc3").is_err(), "places without a token")
 }
 
 /// The table has the class, the bytes and the line of each token that the lexer gives.
@@ -119,14 +115,32 @@ fn the_table_has_what_the_lexer_gives(rt: HostRuntime) -> Result<(), Fail> {
     let table = lex(rt.alloc(), text)?;
     let tokens = tokens_of(rt.alloc(), text)?;
     let lines = [2, 2, 2, 3, 5];
-    assert_eq!(rt; table.len(), lines.len());
-    assert_eq!(rt; tokens.len(), lines.len());
+    expect(
+        table.len() == lines.len(),
+        "the table has what the lexer gives",
+    )?;
+    expect(
+        tokens.len() == lines.len(),
+        "the table has what the lexer gives",
+    )?;
     for (index, line) in lines.iter().enumerate() {
         let token = &tokens[index];
-        assert_eq!(rt; table.kind(index), token.kind(), "at {index}");
-        assert!(rt; table.text(index) == token.text(), "at {index}");
-        assert_eq!(rt; table.line(index), token.place().line, "at {index}");
-        assert_eq!(rt; table.line(index), *line, "at {index}");
+        expect(
+            table.kind(index) == token.kind(),
+            "the table has what the lexer gives",
+        )?;
+        expect(
+            table.text(index) == token.text(),
+            "the table has what the lexer gives",
+        )?;
+        expect(
+            table.line(index) == token.place().line,
+            "the table has what the lexer gives",
+        )?;
+        expect(
+            table.line(index) == *line,
+            "the table has what the lexer gives",
+        )?;
     }
     Ok(())
 }
@@ -138,19 +152,19 @@ fn parts_of_the_tokens(rt: HostRuntime) -> Result<(), Fail> {
     let text = b"a %b\n@c ; d\n 5 \"e\" ( f:";
     let tokens = tokens_of(alloc, text)?;
     let table = lex(alloc, text)?;
-    assert_eq!(rt; table.len(), 7);
+    expect(table.len() == 7, "parts of the tokens")?;
     let mut lexer = Lexer::new(text);
     let front = lexer.take(alloc, 2)?;
     lexer.skip(3);
     let back = lexer.take(alloc, 2)?;
-    assert!(rt; lexer.next()?.is_none());
+    expect(lexer.next()?.is_none(), "parts of the tokens")?;
     for (part, first) in [(front, 0), (back, 5)] {
         for (index, token) in part.as_slice().iter().enumerate() {
             let same = tokens.get(first + index);
-            assert!(rt;
+            expect(
                 same.is_some_and(|other| other.text() == token.text() && other.at() == token.at()),
-                "{index} after {first}"
-            );
+                "parts of the tokens",
+            )?;
         }
     }
     Ok(())

@@ -19,6 +19,8 @@ mod damaged_tests;
 #[cfg(test)]
 mod definite_assignment_tests;
 #[cfg(test)]
+mod expecting;
+#[cfg(test)]
 mod flow_tests;
 #[cfg(test)]
 mod grammar_tests;

@@ -1,4 +1,5 @@
 //! Instructions on memory: sizes, limits and sites, and what is read of them.
+use crate::expecting::expect;
 use crate::made_functions::function_of;
 use ir_tree::{
     Block, Function, GepIndex, Inst, IrType, MemoryType, Operand, Site, Terminator, TypedOperand,
@@ -44,18 +45,26 @@ fn with_inst(alloc: Global, inst: Inst) -> Result<Function, Fail> {
 /// An integer takes whole bytes, a pointer eight; an index counts what its array holds.
 #[test]
 fn types_have_sizes(rt: HostRuntime) -> Result<(), Fail> {
-    assert_eq!(rt; type_size(IrType::Int(Width::of(1))), 1);
-    assert_eq!(rt; type_size(IrType::Int(Width::of(9))), 2);
-    assert_eq!(rt; type_size(IrType::Int(Width::of(64))), 8);
-    assert_eq!(rt; type_size(IrType::Ptr), 8);
+    expect(
+        type_size(IrType::Int(Width::of(1))) == 1,
+        "types have sizes",
+    )?;
+    expect(
+        type_size(IrType::Int(Width::of(9))) == 2,
+        "types have sizes",
+    )?;
+    expect(
+        type_size(IrType::Int(Width::of(64))) == 8,
+        "types have sizes",
+    )?;
+    expect(type_size(IrType::Ptr) == 8, "types have sizes")?;
     let of_type = arrays(rt.alloc(), &[3, 4], IrType::Int(Width::of(16)))?;
-    assert_eq!(rt; indexed_size(&of_type, 0), 24);
-    assert_eq!(rt; indexed_size(&of_type, 1), 8);
-    assert_eq!(rt; indexed_size(&of_type, 2), 2);
-    assert_eq!(rt; indexed_size(&of_type, 3), 2);
+    expect(indexed_size(&of_type, 0) == 24, "types have sizes")?;
+    expect(indexed_size(&of_type, 1) == 8, "types have sizes")?;
+    expect(indexed_size(&of_type, 2) == 2, "types have sizes")?;
+    expect(indexed_size(&of_type, 3) == 2, "types have sizes")?;
     let large = arrays(rt.alloc(), &[1 << 40, 1 << 40], byte())?;
-    assert_eq!(rt; indexed_size(&large, 0), 0);
-    Ok(())
+    expect(indexed_size(&large, 0) == 0, "types have sizes")
 }
 
 /// Lengths of arrays of bytes, the alignment, and whether an alloca of them is within the limits.
@@ -83,7 +92,7 @@ fn allocas_have_limits(rt: HostRuntime) -> Result<(), Fail> {
             align: *align,
         };
         let f = with_inst(rt.alloc(), inst)?;
-        assert_eq!(rt; is_within_limits(&f), *fits);
+        expect(is_within_limits(&f) == *fits, "allocas have limits")?;
     }
     Ok(())
 }
@@ -123,7 +132,7 @@ fn address_fits(alloc: Global, lengths: &[u64]) -> Result<bool, Fail> {
 fn addresses_have_limits(rt: HostRuntime) -> Result<(), Fail> {
     for (lengths, fits) in ADDRESSES {
         let found = address_fits(rt.alloc(), lengths)?;
-        assert_eq!(rt; found, *fits);
+        expect(found == *fits, "addresses have limits")?;
     }
     Ok(())
 }
@@ -171,8 +180,10 @@ fn an_index_enters_an_array(rt: HostRuntime) -> Result<(), Fail> {
         used,
         Site::Written { fits: false },
     ];
-    assert!(rt; list.all.as_slice() == expected.as_slice());
-    Ok(())
+    expect(
+        list.all.as_slice() == expected.as_slice(),
+        "an index enters an array",
+    )
 }
 
 /// A store defines no name.
@@ -201,8 +212,10 @@ fn a_store_has_no_result(rt: HostRuntime) -> Result<(), Fail> {
         written,
         written,
     ];
-    assert!(rt; list.all.as_slice() == expected.as_slice());
-    Ok(())
+    expect(
+        list.all.as_slice() == expected.as_slice(),
+        "a store has no result",
+    )
 }
 
 /// The number of an alloca counts phis and the ends of blocks. An alignment that isn't written is the
@@ -218,7 +231,7 @@ fn numbers_and_alignments_are_filled_in(rt: HostRuntime) -> Result<(), Fail> {
     let [parameter] = f.parameters.as_slice() else {
         return Err(Fail::from("other parameters"));
     };
-    assert!(rt; parameter.non_null);
+    expect(parameter.non_null, "numbers and alignments are filled in")?;
     let [_, block] = f.blocks.as_slice() else {
         return Err(Fail::from("other blocks"));
     };
@@ -241,15 +254,20 @@ fn numbers_and_alignments_are_filled_in(rt: HostRuntime) -> Result<(), Fail> {
     else {
         return Err(Fail::from("other instructions"));
     };
-    assert_eq!(rt; *number, 3);
-    assert!(rt; of_type.lengths.as_slice() == [3, 2].as_slice());
-    assert_eq!(rt; *align, 2);
-    assert_eq!(rt; *loaded, 8);
-    assert_eq!(rt; *stored, 8);
-    assert!(rt; *inbounds && !*nuw);
+    expect(*number == 3, "numbers and alignments are filled in")?;
+    expect(
+        of_type.lengths.as_slice() == [3, 2].as_slice(),
+        "numbers and alignments are filled in",
+    )?;
+    expect(*align == 2, "numbers and alignments are filled in")?;
+    expect(*loaded == 8, "numbers and alignments are filled in")?;
+    expect(*stored == 8, "numbers and alignments are filled in")?;
+    expect(*inbounds && !*nuw, "numbers and alignments are filled in")?;
     let [index] = indices.as_slice() else {
         return Err(Fail::from("other indices"));
     };
-    assert!(rt; index.operand == Operand::Number(65_535));
-    Ok(())
+    expect(
+        index.operand == Operand::Number(65_535),
+        "numbers and alignments are filled in",
+    )
 }

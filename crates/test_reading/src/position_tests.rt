@@ -1,3 +1,5 @@
+use crate::expecting::expect;
+use std::test::Fail;
 use text_places::Place;
 
 /// Where a text ends that begins at line 1 and column 1.
@@ -11,8 +13,8 @@ fn end_of(text: &str) -> Option<(u64, u64)> {
 }
 
 #[test]
-fn positions_are_counted(rt: HostRuntime) {
-    assert_eq!(rt; Place::start(), Place { line: 1, column: 1 });
+fn positions_are_counted() -> Result<(), Fail> {
+    expect(Place::start() == Place { line: 1, column: 1 }, "the start")?;
     let rows = [
         ("", 1, 1),
         ("ab", 1, 3),
@@ -21,6 +23,7 @@ fn positions_are_counted(rt: HostRuntime) {
         ("\n\n\tx", 3, 3),
     ];
     for &(text, line, column) in &rows {
-        assert_eq!(rt; end_of(text), Some((line, column)), "in {text:?}");
+        expect(end_of(text) == Some((line, column)), text)?;
     }
+    Ok(())
 }

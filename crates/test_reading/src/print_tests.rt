@@ -1,6 +1,7 @@
 //! Modules as they are printed. The texts were written by hand from the forms of the LLVM Language
 //! Reference; LLVM's own parser takes them (`tools/test`), before LLVM 20 without `samesign`.
 
+use crate::expecting::expect;
 use ir_printer::{make, print};
 use ir_reader::read;
 use std::alloc::Global;
@@ -80,7 +81,7 @@ fn is_printed(alloc: Global, row: &Row) -> Result<bool, Fail> {
 #[test]
 fn modules_are_printed(rt: HostRuntime) -> Result<(), Fail> {
     for row in &ROWS {
-        assert!(rt; is_printed(rt.alloc(), row)?, "{}", row.name);
+        expect(is_printed(rt.alloc(), row)?, row.name)?;
     }
     Ok(())
 }
@@ -101,7 +102,6 @@ fn a_pair_is_made(rt: HostRuntime) -> Result<(), Fail> {
     let (source, target) = make(rt.alloc(), 1, 2, 2)?;
     let source = print(rt.alloc(), &source)?;
     let target = print(rt.alloc(), &target)?;
-    assert!(rt; source.as_slice() == SOURCE.as_bytes());
-    assert!(rt; target.as_slice() == TARGET.as_bytes());
-    Ok(())
+    expect(source.as_slice() == SOURCE.as_bytes(), "a pair is made")?;
+    expect(target.as_slice() == TARGET.as_bytes(), "a pair is made")
 }

@@ -1,4 +1,4 @@
-//! A row of a table, and how it is asked of `run`.
+//! Rows of tables, and how they are asked of `run`.
 
 use pair_driver::{Gate, OpenGate};
 use std::alloc::Global;
@@ -8,40 +8,6 @@ use std::thread::Threads;
 use support::NoMemory;
 use tv_io::{FailingSink, MemoryShelf, MemorySink, Shelf};
 use tv_run::run;
-
-/// The first line of a report at the default limits.
-pub const DEFAULTS: &str = "tv 1 turns 4 blocks 2 bytes 8 rounds 64 conflicts 0 weight 100000\n";
-
-/// The last lines of reports without a row, and with one.
-pub const NO_ROWS: &str =
-    "correct 0 incorrect 0 unknown 0 refused 0 signature 0 missing 0 extra 0\n";
-
-pub const ONE_CORRECT: &str =
-    "correct 1 incorrect 0 unknown 0 refused 0 signature 0 missing 0 extra 0\n";
-
-pub const ONE_INCORRECT: &str =
-    "correct 0 incorrect 1 unknown 0 refused 0 signature 0 missing 0 extra 0\n";
-
-pub const ONE_UNKNOWN: &str =
-    "correct 0 incorrect 0 unknown 1 refused 0 signature 0 missing 0 extra 0\n";
-
-pub const ONE_REFUSED: &str =
-    "correct 0 incorrect 0 unknown 0 refused 1 signature 0 missing 0 extra 0\n";
-
-/// A command line over a source file A and a target file B, and what it must answer.
-#[derive(Drop)]
-pub struct Row {
-    pub name: &'static str,
-    pub line: &'static str,
-    pub source: &'static str,
-    pub target: &'static str,
-    /// What is written: the first line, the rows and the last line of a report, or the one line of
-    /// a fault.
-    pub first: &'static str,
-    pub rows: &'static str,
-    pub last: &'static str,
-    pub status: u8,
-}
 
 /// The arguments of a command line, separated by spaces.
 pub fn arguments_of(alloc: Global, line: &str) -> Result<Vec<String>, NoMemory> {
@@ -134,21 +100,48 @@ pub fn written_until<R: AllocGlobal + Threads + Sync>(
     Ok((taken, status))
 }
 
-/// Whether a row's output and status are what `run` answers.
-pub fn is_answered<R: AllocGlobal + Threads + Sync>(rt: &R, row: &Row) -> Result<bool, Fail> {
-    let mut shelf = shelf_of(rt.alloc(), row.source.as_bytes(), row.target.as_bytes())?;
-    let (bytes, status) = written(rt, &mut shelf, row.line)?;
-    Ok(status == row.status && is_output(bytes.as_slice(), &[row.first, row.rows, row.last]))
+/// A command line over the files A and B, and what it must answer.
+#[derive(Clone, Copy, Drop)]
+pub struct Asked<'a> {
+    pub line: &'a str,
+    pub source: &'a str,
+    pub target: &'a str,
+    pub status: u8,
+    pub output: &'a str,
 }
 
-/// Whether the bytes are the pieces, one after the other.
-pub fn is_output(bytes: &[u8], pieces: &[&str]) -> bool {
-    let mut rest = bytes;
-    for piece in pieces {
-        match rest.strip_prefix(piece.as_bytes()) {
-            Some(after) => rest = after,
-            None => return false,
-        }
+/// What a row asks: its name, the command line, after `--- A` and `--- B` the two files, and after
+/// `--- ` the status and on the lines that follow what is written.
+fn asked_in(row: &str) -> Option<Asked<'_>> {
+    let (_, row) = row.split_once("\n")?;
+    let (line, row) = row.split_once("\n--- A\n")?;
+    let (source, row) = row.split_once("--- B\n")?;
+    let (target, row) = row.split_once("--- ")?;
+    let (status, output) = row.split_once("\n")?;
+    Some(Asked {
+        line,
+        source,
+        target,
+        status: status.parse::<u8>().ok()?,
+        output,
+    })
+}
+
+/// Fails where `run` gives another status or output.
+pub fn is_answered<R: AllocGlobal + Threads + Sync>(rt: &R, asked: &Asked) -> Result<(), Fail> {
+    let mut shelf = shelf_of(rt.alloc(), asked.source.as_bytes(), asked.target.as_bytes())?;
+    let (bytes, status) = written(rt, &mut shelf, asked.line)?;
+    if status == asked.status && bytes.as_slice() == asked.output.as_bytes() {
+        Ok(())
+    } else {
+        Err(Fail::new(format_args!("{}: status {status} for\n{}", asked.line, asked.source)))
     }
-    rest.is_empty()
+}
+
+/// Fails at the first row to which `run` gives another answer. `=== ` stands between two rows.
+pub fn are_answered<R: AllocGlobal + Threads + Sync>(rt: &R, rows: &str) -> Result<(), Fail> {
+    for row in rows.split("=== ") {
+        is_answered(rt, &asked_in(row).ok_or("a row")?)?;
+    }
+    Ok(())
 }

@@ -1,6 +1,6 @@
 //! Modules that are cut short: the fault of each prefix of a module's text.
 
-use crate::asking::{is_output, shelf_of, written};
+use crate::asking::{shelf_of, written};
 use std::alloc::Global;
 use std::test::*;
 use std::thread::Threads;
@@ -50,23 +50,23 @@ fn fault_of_cut(alloc: Global, text: &[u8]) -> Result<String, NoMemory> {
     }
 }
 
-/// Whether `check A B` refuses the file A with this line.
-fn is_refused<R: AllocGlobal + Threads + Sync>(
-    rt: &R,
-    text: &[u8],
-    line: &str,
-) -> Result<bool, NoMemory> {
+/// Fails where `check A B` does not refuse the first bytes of the module with the line of its fault.
+fn is_refused<R: AllocGlobal + Threads + Sync>(rt: &R, end: usize) -> Result<(), Fail> {
+    let text = INCREMENT.as_bytes().get(..end).unwrap_or(b"");
+    let line = fault_of_cut(rt.alloc(), text)?;
     let mut shelf = shelf_of(rt.alloc(), text, INCREMENT.as_bytes())?;
     let (bytes, status) = written(rt, &mut shelf, "tv check A B")?;
-    Ok(status == 9 && is_output(bytes.as_slice(), &[line]))
+    if status == 9 && bytes.as_slice() == line.as_bytes() {
+        Ok(())
+    } else {
+        Err(Fail::new(format_args!("status {status} for {line}")))
+    }
 }
 
 #[test]
 fn each_prefix_of_a_module_has_its_fault(rt: HostRuntime) -> Result<(), Fail> {
     for end in 1..BEFORE_CLOSING + 1 {
-        let text = INCREMENT.as_bytes().get(..end).unwrap_or(b"");
-        let line = fault_of_cut(rt.alloc(), text)?;
-        assert!(rt; is_refused(&rt, text, line.as_str())?, "{line}");
+        is_refused(&rt, end)?;
     }
     Ok(())
 }

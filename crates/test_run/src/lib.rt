@@ -1,14 +1,20 @@
-//! Tests of the whole program below `main`: command lines and files in memory, and what is written.
+//! Pairs and what is answered of them, from one call of a judge to the whole program below `main`.
 //!
-//! There are tests alone: tables of command lines, modules and reports that were worked out outside
-//! go through `tv_run::run`; the readers of command lines (`tv_cli`), the files and sinks of `tv_io`
-//! and the reader and writer of proof files (`proof_text`) have their own. Nothing stands on this.
+//! [`both_verdicts`] asks the judge by questions and the judge by counting. It promises that each
+//! answers its own definition's verdict, and the tests compare them. Others call `settle`, `replay`
+//! and the printing of reports, and claim numbers from two threads. Tables of command lines,
+//! modules and reports that were worked out outside go through `tv_run::run`; the readers of
+//! command lines (`tv_cli`), the files and sinks of `tv_io` and the reader and writer of proof files
+//! (`proof_text`) have their own. Nothing stands on this crate.
 #![tactic(auto)]
 
 #[cfg(test)]
 mod asking;
+mod both;
 #[cfg(test)]
 mod choice_tests;
+#[cfg(test)]
+mod claim_tests;
 #[cfg(test)]
 mod cli_tests;
 #[cfg(test)]
@@ -30,12 +36,24 @@ mod outside_tests;
 #[cfg(test)]
 mod pair_tests;
 #[cfg(test)]
+mod pairs;
+#[cfg(test)]
 mod proof_tests;
 #[cfg(test)]
 mod put_tests;
 #[cfg(test)]
 mod refusal_tests;
 #[cfg(test)]
+mod report_tests;
+#[cfg(test)]
+mod settle_tests;
+#[cfg(test)]
+mod slot_tests;
+#[cfg(test)]
+mod verdict_tests;
+#[cfg(test)]
 mod wide_tests;
 #[cfg(test)]
 mod worker_tests;
+
+pub use both::{Both, both_verdicts};

@@ -3,112 +3,226 @@
 //! The clauses and steps are worked out by hand. A file that `check` wrote is checked by `log`, which
 //! must find each part verified.
 
-use crate::asking::{files_of, is_output, shelf_of, written};
+use crate::asking::{are_answered, files_of, shelf_of, written};
 use std::alloc::Global;
 use std::test::*;
+use std::thread::Threads;
 use support::NoMemory;
 use tv_io::{FailingShelf, Shelf};
 
-/// Proof files, or texts that are none: what is written of them, and the status.
-const TEXTS: [(&str, &str, u8); 13] = [
-    (
-        "tvproof 1\nrow @f correct\np cnf 1 2\n1 0\n-1 0\nlog 1\n1 2 0 0\n",
-        "@f correct verified\nverified 1 bad 0\n",
-        0,
-    ),
-    (
-        "tvproof 1\nrow @f incorrect\np cnf 1 2\n1 0\n-1 0\nlog 1\n1 2 0 0\nrow @f correct\np cnf 1 2\n1 0\n-1 0\nlog 1\n1 0 0\n",
-        "@f incorrect verified\n@f correct bad step 0\nverified 1 bad 1\n",
-        1,
-    ),
-    (
-        "tvproof 1\nrow @f correct\np cnf 1 2\n1 0\n-1 0\nlog 1\n1 0 0\n",
-        "@f correct bad step 0\nverified 0 bad 1\n",
-        1,
-    ),
-    (
-        "tvproof 1\nrow @f correct\np cnf 1 2\n1 0\n-1 0\nlog 1\n1 0 1 0\n",
-        "@f correct bad step 1\nverified 0 bad 1\n",
-        1,
-    ),
-    (
-        "tvproof 1\nrow @f correct\np cnf 1 2\n1 0\n-1 0\nlog 1\n1 2 0 1 0\n",
-        "@f correct bad step 0\nverified 0 bad 1\n",
-        1,
-    ),
-    (
-        "tvproof 1\nrow @f correct\np cnf 1 2\n1 0\n-1 0\nlog 1\n1 2 0\n",
-        "A:7: proof text\n",
-        9,
-    ),
-    ("", "A:1: proof text\n", 9),
-    ("tvproof 1\n", "verified 0 bad 0\n", 0),
-    (
-        "tvproof 1\nrow @f correct\np cnf 4611686018427387904 0\nlog 0\n",
-        "A:3: proof text\n",
-        9,
-    ),
-    (
-        "tvproof 1\nrow @f correct\np cnf 4611686018427387903 0\nlog 0\n",
-        "@f correct bad step 0\nverified 0 bad 1\n",
-        1,
-    ),
-    (
-        "tvproof 1\nrow @f correct\np cnf 1 4611686018427387903\n1 0\n",
-        "A:5: proof text\n",
-        9,
-    ),
-    (
-        "tvproof 1\nrow @f correct\np cnf 2 1\n2 1 0\n",
-        "A:4: proof text\n",
-        9,
-    ),
-    (
-        "tvproof 1\nrow @f correct\np cnf 1 1\n1 0\nlog 1\n2 0 0\n",
-        "@f correct bad step 0\nverified 0 bad 1\n",
-        1,
-    ),
-];
+/// Proof files, or texts that are none.
+const TEXTS: &str = "\
+a clause and its opposite are resolved
+tv log A
+--- A
+tvproof 1
+row @f correct
+p cnf 1 2
+1 0
+-1 0
+log 1
+1 2 0 0
+--- B
+--- 0
+@f correct verified
+verified 1 bad 0
+=== the second part has a bad step
+tv log A
+--- A
+tvproof 1
+row @f incorrect
+p cnf 1 2
+1 0
+-1 0
+log 1
+1 2 0 0
+row @f correct
+p cnf 1 2
+1 0
+-1 0
+log 1
+1 0 0
+--- B
+--- 1
+@f incorrect verified
+@f correct bad step 0
+verified 1 bad 1
+=== one clause alone gives no empty clause
+tv log A
+--- A
+tvproof 1
+row @f correct
+p cnf 1 2
+1 0
+-1 0
+log 1
+1 0 0
+--- B
+--- 1
+@f correct bad step 0
+verified 0 bad 1
+=== the empty clause is a later step
+tv log A
+--- A
+tvproof 1
+row @f correct
+p cnf 1 2
+1 0
+-1 0
+log 1
+1 0 1 0
+--- B
+--- 1
+@f correct bad step 1
+verified 0 bad 1
+=== a step after the empty clause
+tv log A
+--- A
+tvproof 1
+row @f correct
+p cnf 1 2
+1 0
+-1 0
+log 1
+1 2 0 1 0
+--- B
+--- 1
+@f correct bad step 0
+verified 0 bad 1
+=== a step without its end
+tv log A
+--- A
+tvproof 1
+row @f correct
+p cnf 1 2
+1 0
+-1 0
+log 1
+1 2 0
+--- B
+--- 9
+A:7: proof text
+=== an empty file
+tv log A
+--- A
+--- B
+--- 9
+A:1: proof text
+=== no part
+tv log A
+--- A
+tvproof 1
+--- B
+--- 0
+verified 0 bad 0
+=== a variable past the limit
+tv log A
+--- A
+tvproof 1
+row @f correct
+p cnf 4611686018427387904 0
+log 0
+--- B
+--- 9
+A:3: proof text
+=== the last variable, and no step
+tv log A
+--- A
+tvproof 1
+row @f correct
+p cnf 4611686018427387903 0
+log 0
+--- B
+--- 1
+@f correct bad step 0
+verified 0 bad 1
+=== clauses that are announced and do not come
+tv log A
+--- A
+tvproof 1
+row @f correct
+p cnf 1 4611686018427387903
+1 0
+--- B
+--- 9
+A:5: proof text
+=== literals out of order
+tv log A
+--- A
+tvproof 1
+row @f correct
+p cnf 2 1
+2 1 0
+--- B
+--- 9
+A:4: proof text
+=== a step that names no clause
+tv log A
+--- A
+tvproof 1
+row @f correct
+p cnf 1 1
+1 0
+log 1
+2 0 0
+--- B
+--- 1
+@f correct bad step 0
+verified 0 bad 1
+";
 
 #[test]
 fn each_part_is_verified_or_has_a_bad_step(rt: HostRuntime) -> Result<(), Fail> {
-    let alloc = rt.alloc();
-    for (text, output, status) in TEXTS.iter() {
-        let mut shelf = shelf_of(alloc, text.as_bytes(), b"")?;
-        let (bytes, answer) = written(&rt, &mut shelf, "tv log A")?;
-        assert!(rt;
-            answer == *status && is_output(bytes.as_slice(), &[*output]),
-            "{output}"
-        );
-    }
-    Ok(())
+    are_answered(&rt, TEXTS)
 }
 
-/// Pairs of files, what `log` says of the proof file that `check` wrote, and the status of `check`.
-const CHECKED: [(&str, &str, &str, u8); 2] = [
-    (
-        "define i8 @f(i8 %x) {\n  %r = add i8 %x, %x\n  ret i8 %r\n}\ndefine i8 @g(i8 %x) {\n  %r = add i8 %x, 1\n  ret i8 %r\n}\ndefine void @h() {\n  ret void\n}\n",
-        "define i8 @g(i8 %x) {\n  %r = add nsw i8 %x, 1\n  ret i8 %r\n}\ndefine i8 @f(i8 %x) {\n  %r = shl i8 %x, 1\n  ret i8 %r\n}\n",
-        "@f correct verified\n@g incorrect verified\nverified 2 bad 0\n",
-        1,
-    ),
-    ("", "", "verified 0 bad 0\n", 0),
-];
+const SOURCE: &str = "define i8 @f(i8 %x) {
+  %r = add i8 %x, %x
+  ret i8 %r
+}
+define i8 @g(i8 %x) {
+  %r = add i8 %x, 1
+  ret i8 %r
+}
+define void @h() {
+  ret void
+}
+";
+
+const TARGET: &str = "define i8 @g(i8 %x) {
+  %r = add nsw i8 %x, 1
+  ret i8 %r
+}
+define i8 @f(i8 %x) {
+  %r = shl i8 %x, 1
+  ret i8 %r
+}
+";
+
+/// Fails where `check` gives another status for two files, or `log` says something else of the proof
+/// file that it wrote.
+fn is_verified<R: AllocGlobal + Threads + Sync>(
+    rt: &R,
+    source: &str,
+    target: &str,
+    status: u8,
+    output: &str,
+) -> Result<(), Fail> {
+    let mut shelf = shelf_of(rt.alloc(), source.as_bytes(), target.as_bytes())?;
+    let (_, answer) = written(rt, &mut shelf, "tv check A B --proof P")?;
+    let (bytes, checked) = written(rt, &mut shelf, "tv log P")?;
+    if answer == status && checked == 0 && bytes.as_slice() == output.as_bytes() {
+        Ok(())
+    } else {
+        Err(Fail::new(format_args!("{answer} and {checked} for\n{output}")))
+    }
+}
 
 #[test]
 fn proof_files_of_reports_are_verified(rt: HostRuntime) -> Result<(), Fail> {
-    let alloc = rt.alloc();
-    for (source, target, output, status) in CHECKED.iter() {
-        let mut shelf = shelf_of(alloc, source.as_bytes(), target.as_bytes())?;
-        let (_, answer) = written(&rt, &mut shelf, "tv check A B --proof P")?;
-        assert!(rt; answer == *status, "{output}");
-        let (bytes, answer) = written(&rt, &mut shelf, "tv log P")?;
-        assert!(rt;
-            answer == 0 && is_output(bytes.as_slice(), &[*output]),
-            "{output}"
-        );
-    }
-    Ok(())
+    let output = "@f correct verified\n@g incorrect verified\nverified 2 bad 0\n";
+    is_verified(&rt, SOURCE, TARGET, 1, output)?;
+    is_verified(&rt, "", "", 0, "verified 0 bad 0\n")
 }
 
 /// Both files are read before the proof file is written, so it may be one of them.
@@ -119,8 +233,11 @@ fn without_functions_a_proof_file_is_its_first_line(rt: HostRuntime) -> Result<(
     let (_, answer) = written(&rt, &mut shelf, "tv check A B --proof=B")?;
     let mut text = Vec::new(alloc);
     let fetched = shelf.fetch("B", 1_000, &mut text).is_ok();
-    assert!(rt; answer == 0 && fetched && text.as_slice() == b"tvproof 1\n".as_slice());
-    Ok(())
+    if answer == 0 && fetched && text.as_slice() == b"tvproof 1\n".as_slice() {
+        Ok(())
+    } else {
+        Err(Fail::new(format_args!("status {answer}")))
+    }
 }
 
 /// A shelf with the files A and B of one function, of which one call fails.
@@ -130,19 +247,25 @@ fn failing_shelf(alloc: Global, call: u64) -> Result<FailingShelf, NoMemory> {
     Ok(FailingShelf::new(files, vec![in alloc; call]?))
 }
 
+/// Fails where a run whose shelf fails at a call has another status or output.
+fn is_failed<R: AllocGlobal + Threads + Sync>(
+    rt: &R,
+    call: u64,
+    output: &str,
+    status: u8,
+) -> Result<(), Fail> {
+    let mut shelf = failing_shelf(rt.alloc(), call)?;
+    let (bytes, answer) = written(rt, &mut shelf, "tv check A B --proof P")?;
+    if answer == status && bytes.as_slice() == output.as_bytes() {
+        Ok(())
+    } else {
+        Err(Fail::new(format_args!("status {answer} where call {call} fails")))
+    }
+}
+
 #[test]
 fn the_first_failing_call_gives_the_status(rt: HostRuntime) -> Result<(), Fail> {
-    for (call, output, status) in [
-        (1, "cannot read A\n", 5),
-        (2, "cannot read B\n", 5),
-        (3, "cannot write P\n", 7),
-    ] {
-        let mut shelf = failing_shelf(rt.alloc(), call)?;
-        let (bytes, answer) = written(&rt, &mut shelf, "tv check A B --proof P")?;
-        assert!(rt;
-            answer == status && is_output(bytes.as_slice(), &[output]),
-            "{output}"
-        );
-    }
-    Ok(())
+    is_failed(&rt, 1, "cannot read A\n", 5)?;
+    is_failed(&rt, 2, "cannot read B\n", 5)?;
+    is_failed(&rt, 3, "cannot write P\n", 7)
 }

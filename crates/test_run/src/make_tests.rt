@@ -1,59 +1,46 @@
 //! The command `make`: a pair of modules from a seed, judged.
 
-use crate::asking::{DEFAULTS, Row, is_answered, is_output, shelf_of, written, written_until};
+use crate::asking::{are_answered, shelf_of, written, written_until};
 use std::test::*;
 use std::thread::Threads;
 
 /// Reports of pairs that were made and judged outside.
-const ROWS: [Row; 4] = [
-    Row {
-        name: "two functions of two instructions",
-        line: "tv make --seed 1 --functions 2 --insts 2",
-        source: "",
-        target: "",
-        first: DEFAULTS,
-        rows: "make seed 1 functions 2 insts 2\n",
-        last: "correct 1 incorrect 1 unknown 0 refused 0 signature 0 missing 0 extra 0\n",
-        status: 1,
-    },
-    Row {
-        name: "the usual sizes",
-        line: "tv make",
-        source: "",
-        target: "",
-        first: DEFAULTS,
-        rows: "make seed 1 functions 16 insts 8\n",
-        last: "correct 15 incorrect 1 unknown 0 refused 0 signature 0 missing 0 extra 0\n",
-        status: 1,
-    },
-    Row {
-        name: "a weight that is too large",
-        line: "tv make --functions 1 --insts 1 --turns 0 --weight 17",
-        source: "",
-        target: "",
-        first: "tv 1 turns 0 blocks 2 bytes 8 rounds 64 conflicts 0 weight 17\n",
-        rows: "make seed 1 functions 1 insts 1\n",
-        last: "correct 0 incorrect 0 unknown 1 refused 0 signature 0 missing 0 extra 0\n",
-        status: 2,
-    },
-    Row {
-        name: "no file is looked at",
-        line: "tv make --functions 1 --insts 64 A",
-        source: "",
-        target: "",
-        first: "words refused\n",
-        rows: "",
-        last: "",
-        status: 4,
-    },
-];
+const ROWS: &str = "\
+two functions of two instructions
+tv make --seed 1 --functions 2 --insts 2
+--- A
+--- B
+--- 1
+tv 1 turns 4 blocks 2 bytes 8 rounds 64 conflicts 0 weight 100000
+make seed 1 functions 2 insts 2
+correct 1 incorrect 1 unknown 0 refused 0 signature 0 missing 0 extra 0
+=== the usual sizes
+tv make
+--- A
+--- B
+--- 1
+tv 1 turns 4 blocks 2 bytes 8 rounds 64 conflicts 0 weight 100000
+make seed 1 functions 16 insts 8
+correct 15 incorrect 1 unknown 0 refused 0 signature 0 missing 0 extra 0
+=== a weight that is too large
+tv make --functions 1 --insts 1 --turns 0 --weight 17
+--- A
+--- B
+--- 2
+tv 1 turns 0 blocks 2 bytes 8 rounds 64 conflicts 0 weight 17
+make seed 1 functions 1 insts 1
+correct 0 incorrect 0 unknown 1 refused 0 signature 0 missing 0 extra 0
+=== no file is looked at
+tv make --functions 1 --insts 64 A
+--- A
+--- B
+--- 4
+words refused
+";
 
 #[test]
 fn pairs_are_made_and_judged(rt: HostRuntime) -> Result<(), Fail> {
-    for row in &ROWS {
-        assert!(rt; is_answered(&rt, row)?, "{}", row.name);
-    }
-    Ok(())
+    are_answered(&rt, ROWS)
 }
 
 /// What a command line writes.
@@ -71,10 +58,11 @@ fn what_is_made_does_not_depend_on_the_number_of_workers(rt: HostRuntime) -> Res
         &rt,
         "tv make --seed 7 --functions 64 --insts 4 --workers 64",
     )?;
-    assert!(rt;
-        one.len() > 0 && one.as_slice() == two.as_slice() && one.as_slice() == many.as_slice()
-    );
-    Ok(())
+    if one.len() > 0 && one.as_slice() == two.as_slice() && one.as_slice() == many.as_slice() {
+        Ok(())
+    } else {
+        Err(Fail::new("other reports"))
+    }
 }
 
 /// A sink that takes ten bytes a call and fails at the second one.
@@ -83,6 +71,9 @@ fn a_sink_that_fails_keeps_a_prefix(rt: HostRuntime) -> Result<(), Fail> {
     let mut shelf = shelf_of(rt.alloc(), b"", b"")?;
     let line = "tv make --functions 1 --insts 1";
     let (bytes, status) = written_until(&rt, &mut shelf, line, 2)?;
-    assert!(rt; status == 7 && is_output(bytes.as_slice(), &["tv 1 turns"]));
-    Ok(())
+    if status == 7 && bytes.as_slice() == b"tv 1 turns".as_slice() {
+        Ok(())
+    } else {
+        Err(Fail::new(format_args!("status {status}")))
+    }
 }

@@ -1,67 +1,86 @@
 //! What no table of reports shows: files at the limit of their size, sinks that fail, and the gate.
 
-use crate::asking::{DEFAULTS, NO_ROWS, is_output, run_with, shelf_of, written, written_until};
+use crate::asking::{run_with, shelf_of, written, written_until};
 use pair_driver::Gate;
 use std::sync::atomic::{AtomicU64, Ordering};
 use std::test::*;
+use std::thread::Threads;
 
 /// The most bytes that a file may have.
 const LIMIT: usize = 16_777_216;
 
+/// The report of two empty modules.
+const EMPTY: &str = "tv 1 turns 4 blocks 2 bytes 8 rounds 64 conflicts 0 weight 100000
+correct 0 incorrect 0 unknown 0 refused 0 signature 0 missing 0 extra 0
+";
+
+/// Fails where a file of so many spaces has another status or output.
+fn is_answered<R: AllocGlobal + Threads + Sync>(
+    rt: &R,
+    size: usize,
+    output: &str,
+    status: u8,
+) -> Result<(), Fail> {
+    let spaces = vec![in rt.alloc(); b' '; size]?;
+    let mut shelf = shelf_of(rt.alloc(), spaces.as_slice(), b"")?;
+    let (bytes, answer) = written(rt, &mut shelf, "tv check A B")?;
+    if answer == status && bytes.as_slice() == output.as_bytes() {
+        Ok(())
+    } else {
+        Err(Fail::new(format_args!("status {answer} at {size}")))
+    }
+}
+
 #[test]
 fn files_end_at_their_limit(rt: HostRuntime) -> Result<(), Fail> {
-    let alloc = rt.alloc();
-    for (size, output, status) in [
-        (LIMIT, [DEFAULTS, NO_ROWS], 0),
-        (LIMIT + 1, ["too long A\n", ""], 6),
-    ] {
-        let spaces = vec![in alloc; b' '; size]?;
-        let mut shelf = shelf_of(alloc, spaces.as_slice(), b"")?;
-        let (bytes, answer) = written(&rt, &mut shelf, "tv check A B")?;
-        assert!(rt;
-            answer == status && is_output(bytes.as_slice(), &output),
-            "at {size}"
-        );
+    is_answered(&rt, LIMIT, EMPTY, 0)?;
+    is_answered(&rt, LIMIT + 1, "too long A\n", 6)
+}
+
+/// Fails where a run over the source A and an empty target, whose sink takes ten bytes a call and
+/// fails at one of its calls, has another status or output.
+fn is_cut<R: AllocGlobal + Threads + Sync>(
+    rt: &R,
+    source: &[u8],
+    line: &str,
+    failing: u64,
+    written: &[u8],
+    status: u8,
+) -> Result<(), Fail> {
+    let mut shelf = shelf_of(rt.alloc(), source, b"")?;
+    let (bytes, answer) = written_until(rt, &mut shelf, line, failing)?;
+    if answer == status && bytes.as_slice() == written {
+        Ok(())
+    } else {
+        Err(Fail::new(format_args!("{line}: status {answer} where call {failing} fails")))
     }
-    Ok(())
 }
 
 /// The report of two empty modules has 138 bytes, so it takes fourteen calls. A call that fails cuts it
 /// short there, and the status says so.
 #[test]
 fn a_report_is_cut_where_the_sink_fails(rt: HostRuntime) -> Result<(), Fail> {
-    let alloc = rt.alloc();
-    let report = format!(in alloc; "{DEFAULTS}{NO_ROWS}")?;
-    for failing in 1..16 {
-        let mut shelf = shelf_of(alloc, b"", b"")?;
-        let (bytes, status) = written_until(&rt, &mut shelf, "tv check A B", failing)?;
-        let calls = usize::try_from(failing - 1).unwrap_or(0);
-        let whole = report.as_bytes();
-        let prefix = whole.get(..calls * 10).unwrap_or(whole);
-        assert!(rt;
-            bytes.as_slice() == prefix && status == if failing < 15 { 7 } else { 0 },
-            "at call {failing}"
-        );
+    for calls in 0..14u8 {
+        let whole = EMPTY.as_bytes();
+        let prefix = whole.get(..usize::from(calls) * 10).unwrap_or(whole);
+        is_cut(&rt, b"", "tv check A B", u64::from(calls) + 1, prefix, 7)?;
     }
-    Ok(())
+    is_cut(&rt, b"", "tv check A B", 15, EMPTY.as_bytes(), 0)
 }
 
-/// The status of a file without a module stays where its line is cut short.
+/// The status of a file without a module stays where its line is cut short, and so does that of a
+/// file that is not there.
 #[test]
 fn a_fault_keeps_its_status(rt: HostRuntime) -> Result<(), Fail> {
-    let mut shelf = shelf_of(rt.alloc(), b"define i8 @f(i8 %x) {\n  ret i8", b"")?;
-    let (bytes, status) = written_until(&rt, &mut shelf, "tv check A B", 1)?;
-    assert!(rt; bytes.is_empty() && status == 9);
-    Ok(())
-}
-
-/// The status of a file that is not there stays where its line is cut short.
-#[test]
-fn a_file_that_is_not_there_keeps_its_status(rt: HostRuntime) -> Result<(), Fail> {
-    let mut shelf = shelf_of(rt.alloc(), b"", b"")?;
-    let (bytes, status) = written_until(&rt, &mut shelf, "tv check A C", 1)?;
-    assert!(rt; bytes.is_empty() && status == 5);
-    Ok(())
+    is_cut(
+        &rt,
+        b"define i8 @f(i8 %x) {\n  ret i8",
+        "tv check A B",
+        1,
+        b"",
+        9,
+    )?;
+    is_cut(&rt, b"", "tv check A C", 1, b"", 5)
 }
 
 /// A gate that adds up the numbers of the pairs that passed, counted from 1.
@@ -84,6 +103,9 @@ fn each_judged_pair_passes_the_gate(rt: HostRuntime) -> Result<(), Fail> {
     };
     let mut shelf = shelf_of(rt.alloc(), module, module)?;
     let ran = run_with(&rt, &mut shelf, &gate, "tv check A B")?;
-    assert!(rt; ran.status == 0 && ran.judged == 2 && gate.sum.load(Ordering::SeqCst) == 3);
-    Ok(())
+    if ran.status == 0 && ran.judged == 2 && gate.sum.load(Ordering::SeqCst) == 3 {
+        Ok(())
+    } else {
+        Err(Fail::new("other pairs passed the gate"))
+    }
 }

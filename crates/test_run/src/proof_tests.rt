@@ -4,6 +4,7 @@
 //! that of the DIMACS CNF format and of LRAT, as `proof_text` narrows them.
 
 use proof_text::{ProofFault, parse, write};
+use std::alloc::Global;
 use std::test::*;
 
 /// The clauses `1` and `-1`, and the one step that refutes them.
@@ -48,24 +49,37 @@ const REFUSED: [(&str, u64); 20] = [
     ("tvproof 1\nrow @f correct\np cnf 0 0\nlog 0\n\n", 5),
 ];
 
+fn is_taken(alloc: Global, text: &str) -> Result<(), Fail> {
+    let parts = parse(alloc, text.as_bytes())?;
+    let written = write(alloc, parts.as_slice())?;
+    if written.as_slice() == text.as_bytes() {
+        Ok(())
+    } else {
+        Err(Fail::new(text))
+    }
+}
+
 #[test]
 fn files_are_written_as_they_were_read(rt: HostRuntime) -> Result<(), Fail> {
-    for text in TAKEN.iter() {
-        let parts = parse(rt.alloc(), text.as_bytes())?;
-        let written = write(rt.alloc(), parts.as_slice())?;
-        assert!(rt; written.as_slice() == text.as_bytes(), "at {text}");
+    for text in &TAKEN {
+        is_taken(rt.alloc(), text)?;
     }
     Ok(())
 }
 
+fn is_refused(alloc: Global, text: &str, line: u64) -> Result<(), Fail> {
+    match parse(alloc, text.as_bytes()) {
+        Err(ProofFault::NoMemory) => Err(ProofFault::NoMemory.into()),
+        Err(ProofFault::Line(found)) if found == line => Ok(()),
+        Err(ProofFault::Line(found)) => Err(Fail::new(format_args!("line {found} of {text}"))),
+        Ok(_) => Err(Fail::new(format_args!("taken: {text}"))),
+    }
+}
+
 #[test]
 fn the_first_wrong_line_is_reported(rt: HostRuntime) -> Result<(), Fail> {
-    for (text, line) in REFUSED.iter() {
-        match parse(rt.alloc(), text.as_bytes()) {
-            Err(ProofFault::NoMemory) => return Err(ProofFault::NoMemory.into()),
-            Err(fault) => assert!(rt; fault == ProofFault::Line(*line), "at {text}"),
-            Ok(_) => assert!(rt; false, "taken: {text}"),
-        }
+    for &(text, line) in &REFUSED {
+        is_refused(rt.alloc(), text, line)?;
     }
     Ok(())
 }

@@ -3,7 +3,7 @@
 //! The system here has no files. It writes down each call as a digit: 1 the file beside is opened, 2 it is
 //! written, 3 it is renamed, 4 it is removed, and 9 any other; reads of what a name is are left out.
 
-use std::alloc::Allocator;
+use std::alloc::{Allocator, Global};
 use std::cell::Cell;
 use std::fs::{Metadata, OpenFile, OpenOptions};
 use std::io;
@@ -151,22 +151,31 @@ impl Read for Nothing {
 /// The call that fails, and the calls that are made; 0 fails none. Eight bytes take two writes.
 const CALLS: [(u64, u64); 5] = [(0, 1223), (1, 1), (2, 1224), (3, 12234), (4, 1223)];
 
+/// Fails where a put makes other calls, or answers another thing than that it was done, which it was
+/// where the calls end in the rename.
+fn is_made(alloc: Global, fails: u64, wanted: u64) -> Result<(), Fail> {
+    let calls = Cell::new(0u64);
+    let files = Watched {
+        calls: &calls,
+        fails,
+    };
+    let put = FileShelf::new(&files).put(alloc, "old", b"new text");
+    let answer = if wanted == 1223 {
+        Ok(())
+    } else {
+        Err(PutFault::Failed)
+    };
+    if calls.get() == wanted && put == answer {
+        Ok(())
+    } else {
+        Err(Fail::new(format_args!("{} where {fails} fails", calls.get())))
+    }
+}
+
 #[test]
 fn the_old_file_is_touched_by_a_rename_alone(rt: HostRuntime) -> Result<(), Fail> {
     for &(fails, wanted) in &CALLS {
-        let calls = Cell::new(0u64);
-        let files = Watched {
-            calls: &calls,
-            fails,
-        };
-        let put = FileShelf::new(&files).put(rt.alloc(), "old", b"new text");
-        let is_put = wanted == 1223;
-        assert!(rt; calls.get() == wanted, "where {fails} fails");
-        assert!(rt; put.is_ok() == is_put, "where {fails} fails");
-        assert!(rt;
-            is_put || put == Err(PutFault::Failed),
-            "where {fails} fails"
-        );
+        is_made(rt.alloc(), fails, wanted)?;
     }
     Ok(())
 }

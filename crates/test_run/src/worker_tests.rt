@@ -1,9 +1,10 @@
 //! Workers: that they judge beside each other, and that the report is the same for each number.
 
-use crate::asking::{DEFAULTS, NO_ROWS, ONE_CORRECT, Row, is_answered, run_with, shelf_of};
+use crate::asking::{Asked, is_answered, run_with, shelf_of};
 use pair_driver::Gate;
 use std::sync::atomic::{AtomicU64, Ordering};
 use std::test::*;
+use std::thread::Threads;
 
 const NO_FUNCTION: &str = "; no function\n";
 
@@ -22,46 +23,49 @@ const FOUR_FUNCTIONS: &str = "define i8 @a() {\n  ret i8 7\n}\n\
      define i8 @c() {\n  ret i8 7\n}\n\
      define i8 @d() {\n  ret i8 7\n}\n";
 
-#[test]
-fn reports_do_not_depend_on_the_number_of_workers(rt: HostRuntime) -> Result<(), Fail> {
-    for line in [
-        "tv check --workers 1 A B",
-        "tv check --workers 2 A B",
-        "tv check --workers 64 A B",
+const NO_ROWS: &str = "tv 1 turns 4 blocks 2 bytes 8 rounds 64 conflicts 0 weight 100000
+correct 0 incorrect 0 unknown 0 refused 0 signature 0 missing 0 extra 0
+";
+
+const ONE_ROW: &str = "tv 1 turns 4 blocks 2 bytes 8 rounds 64 conflicts 0 weight 100000
+@f correct
+correct 1 incorrect 0 unknown 0 refused 0 signature 0 missing 0 extra 0
+";
+
+const SECOND_WRONG: &str = "tv 1 turns 4 blocks 2 bytes 8 rounds 64 conflicts 0 weight 100000
+@f correct
+@g incorrect
+  source returns 7
+  target returns 6
+@h correct
+correct 2 incorrect 1 unknown 0 refused 0 signature 0 missing 0 extra 0
+";
+
+/// Fails where a command line gives another report: of no pairs, of one that holds, and of three of
+/// which the second is wrong.
+fn are_reported<R: AllocGlobal + Threads + Sync>(rt: &R, line: &str) -> Result<(), Fail> {
+    for (source, target, status, output) in [
+        (NO_FUNCTION, NO_FUNCTION, 0, NO_ROWS),
+        (ONE_FUNCTION, ONE_FUNCTION, 0, ONE_ROW),
+        (THREE_FUNCTIONS, OTHER_SECOND, 1, SECOND_WRONG),
     ] {
-        for (name, source, target, rows, last, status) in [
-            ("no pairs", NO_FUNCTION, NO_FUNCTION, "", NO_ROWS, 0),
-            (
-                "a pair that holds",
-                ONE_FUNCTION,
-                ONE_FUNCTION,
-                "@f correct\n",
-                ONE_CORRECT,
-                0,
-            ),
-            (
-                "the second of three is wrong",
-                THREE_FUNCTIONS,
-                OTHER_SECOND,
-                "@f correct\n@g incorrect\n  source returns 7\n  target returns 6\n@h correct\n",
-                "correct 2 incorrect 1 unknown 0 refused 0 signature 0 missing 0 extra 0\n",
-                1,
-            ),
-        ] {
-            let row = Row {
-                name,
-                line,
-                source,
-                target,
-                first: DEFAULTS,
-                rows,
-                last,
-                status,
-            };
-            assert!(rt; is_answered(&rt, &row)?, "{line}: {name}");
-        }
+        let asked = Asked {
+            line,
+            source,
+            target,
+            status,
+            output,
+        };
+        is_answered(rt, &asked)?;
     }
     Ok(())
+}
+
+#[test]
+fn reports_do_not_depend_on_the_number_of_workers(rt: HostRuntime) -> Result<(), Fail> {
+    are_reported(&rt, "tv check --workers 1 A B")?;
+    are_reported(&rt, "tv check --workers 2 A B")?;
+    are_reported(&rt, "tv check --workers 64 A B")
 }
 
 /// A gate that holds the first pair until so many others have passed, or gives up.
@@ -99,6 +103,9 @@ fn a_free_worker_takes_the_rest(rt: HostRuntime) -> Result<(), Fail> {
     let module = FOUR_FUNCTIONS.as_bytes();
     let mut shelf = shelf_of(rt.alloc(), module, module)?;
     let ran = run_with(&rt, &mut shelf, &gate, "tv check --workers 2 A B")?;
-    assert!(rt; ran.status == 0 && ran.judged == 4 && gate.gave_up.load(Ordering::SeqCst) == 0);
-    Ok(())
+    if ran.status == 0 && ran.judged == 4 && gate.gave_up.load(Ordering::SeqCst) == 0 {
+        Ok(())
+    } else {
+        Err(Fail::new("the free worker did not take the rest"))
+    }
 }

@@ -5,12 +5,14 @@ ghost use Rattle.bv_terms.specs.declared.variable.Variable.{Variable};
 ghost use Rattle.sat_ask.specs.Questions.{Mentions};
 
 use crate::clauses::cnf;
+use crate::expecting::expect;
+use crate::solver_tests::is_model;
 use bv_terms::{BinaryOp, TermId, Terms};
 use clause_log::check_log;
-use clause_solver::Answer;
 use sat_ask::{Asked, ask, search};
 use std::alloc::Global;
 use std::test::Fail;
+use std::thread::Threads;
 use support::NoMemory;
 
 /// Terms with two variables x and y of width 8 and a constant.
@@ -78,6 +80,32 @@ fn roots(alloc: Global, value: u128, limit: Option<u64>) -> Result<Asked, NoMemo
     asked(alloc, &terms, goal, x, y, limit)
 }
 
+/// Whether the least numbers have these bits.
+fn is_least(asked: &Asked, want: &[bool]) -> bool {
+    match asked {
+        Asked::Least(bits) => bits.as_slice() == want,
+        Asked::None(_) | Asked::Spent(_) => false,
+    }
+}
+
+/// Whether there are no numbers, and the checker accepts the certificate, whose front has x and y.
+fn is_refuted(rt: &(impl Threads + Sync), alloc: Global, asked: &Asked) -> bool {
+    match asked {
+        Asked::None(cert) => {
+            cert.cnf.front == 16 && check_log(rt, alloc, &cert.cnf, &cert.log) == Ok(())
+        }
+        Asked::Least(_) | Asked::Spent(_) => false,
+    }
+}
+
+/// Whether a limit of so many learned clauses is spent.
+fn is_spent(asked: &Asked, limit: usize) -> bool {
+    match asked {
+        Asked::Spent(cert) => cert.log.len() == limit,
+        Asked::None(_) | Asked::Least(_) => false,
+    }
+}
+
 /// The least x above 5 is 6, after the zeros of y, which the goal does not mention; each is written
 /// most significant bit first.
 #[test]
@@ -86,37 +114,27 @@ fn the_least_above_5_is_6(rt: HostRuntime) -> Result<(), Fail> {
         false, false, false, false, false, false, false, false, false, false, false, false, false,
         true, true, false,
     ];
-    match above(rt.alloc(), 5)? {
-        Asked::Least(digits) => assert!(rt; digits.as_slice() == want.as_slice()),
-        Asked::None(_) | Asked::Spent(_) => assert!(rt; false),
-    }
-    Ok(())
+    expect(is_least(&above(rt.alloc(), 5)?, &want), "6")
 }
 
-/// No x is below 0, and the checker accepts the certificate, whose front has x and y.
+/// No x is below 0.
 #[test]
 fn none_is_below_0(rt: HostRuntime) -> Result<(), Fail> {
-    let alloc = rt.alloc();
-    match below(alloc, 0)? {
-        Asked::None(cert) => {
-            assert!(rt; cert.cnf.front == 16);
-            assert!(rt; check_log(&rt, alloc, &cert.cnf, &cert.log) == Ok(()));
-        }
-        Asked::Least(_) | Asked::Spent(_) => assert!(rt; false),
-    }
-    Ok(())
+    expect(is_refuted(&rt, rt.alloc(), &below(rt.alloc(), 0)?), "none")
 }
 
 /// No square is 2 modulo 256, also where a limit of 1 would do.
 #[test]
 fn no_square_is_2(rt: HostRuntime) -> Result<(), Fail> {
     let alloc = rt.alloc();
-    match roots(alloc, 2, None)? {
-        Asked::None(cert) => assert!(rt; check_log(&rt, alloc, &cert.cnf, &cert.log) == Ok(())),
-        Asked::Least(_) | Asked::Spent(_) => assert!(rt; false),
-    }
-    assert!(rt; matches!(&roots(alloc, 2, Some(1))?, Asked::None(_)));
-    Ok(())
+    expect(
+        is_refuted(&rt, alloc, &roots(alloc, 2, None)?),
+        "none without a limit",
+    )?;
+    expect(
+        is_refuted(&rt, alloc, &roots(alloc, 2, Some(1))?),
+        "none with the limit 1",
+    )
 }
 
 /// The least root of 17 modulo 256 is 23. With a limit of 1 one clause is learned, and no more is
@@ -124,19 +142,15 @@ fn no_square_is_2(rt: HostRuntime) -> Result<(), Fail> {
 #[test]
 fn a_limit_of_1_is_spent(rt: HostRuntime) -> Result<(), Fail> {
     let alloc = rt.alloc();
-    match roots(alloc, 17, None)? {
-        Asked::Least(digits) => {
-            let want = [false, false, false, true, false, true, true, true];
-            assert!(rt; digits.len() == 16);
-            assert!(rt; digits.iter().skip(8).eq(want.iter()));
-        }
-        Asked::None(_) | Asked::Spent(_) => assert!(rt; false),
-    }
-    match roots(alloc, 17, Some(1))? {
-        Asked::Spent(cert) => assert!(rt; cert.log.len() == 1),
-        Asked::None(_) | Asked::Least(_) => assert!(rt; false),
-    }
-    Ok(())
+    let want = [
+        false, false, false, false, false, false, false, false, false, false, false, true, false,
+        true, true, true,
+    ];
+    expect(is_least(&roots(alloc, 17, None)?, &want), "23")?;
+    expect(
+        is_spent(&roots(alloc, 17, Some(1))?, 1),
+        "the limit 1 is spent",
+    )
 }
 
 /// Of the models of `1 2`, as two numbers of one bit, the least is 0 1.
@@ -144,8 +158,5 @@ fn a_limit_of_1_is_spent(rt: HostRuntime) -> Result<(), Fail> {
 fn a_search_finds_the_least(rt: HostRuntime) -> Result<(), Fail> {
     let clauses = cnf(rt.alloc(), 2, 2, &[&[1, 2]])?;
     let answer = search(rt.alloc(), &clauses, &[1, 1], None)?;
-    assert!(rt;
-        matches!(&answer, Answer::Sat(model) if model.as_slice() == [false, true].as_slice())
-    );
-    Ok(())
+    expect(is_model(&answer, &[false, true]), "0 1")
 }

@@ -1,4 +1,5 @@
 use crate::clauses::clause;
+use crate::expecting::expect;
 use std::alloc::Global;
 use std::test::Fail;
 use support::NoMemory;
@@ -12,7 +13,12 @@ fn is_copied_to(alloc: Global, numbers: &[i64], want: &[i64]) -> Result<bool, No
 /// The copy of `1 -3 0` is `1 -3 0`, and not `1 0`.
 #[test]
 fn a_clause_is_copied(rt: HostRuntime) -> Result<(), Fail> {
-    assert!(rt; is_copied_to(rt.alloc(), &[1, -3], &[1, -3])?);
-    assert!(rt; !is_copied_to(rt.alloc(), &[1, -3], &[1])?);
-    Ok(())
+    expect(
+        is_copied_to(rt.alloc(), &[1, -3], &[1, -3])?,
+        "a clause is copied",
+    )?;
+    expect(
+        !is_copied_to(rt.alloc(), &[1, -3], &[1])?,
+        "a clause is copied",
+    )
 }

@@ -1,6 +1,7 @@
 //! Small sets of clauses that look random, against all assignments.
 
 use crate::clauses::{clause, over};
+use crate::expecting::expect;
 use crate::restart_tests::answer;
 use clause_lits::{Clause, Cnf, holds};
 use clause_log::check_log;
@@ -95,7 +96,10 @@ fn drawn_clauses_have_least_models(rt: HostRuntime) -> Result<(), Fail> {
     let mut state = 2;
     for _ in 0..300 {
         let question = drawn_cnf(rt.alloc(), &mut state)?;
-        assert!(rt; are_right(&rt, rt.alloc(), &question)?);
+        expect(
+            are_right(&rt, rt.alloc(), &question)?,
+            "drawn clauses have least models",
+        )?;
     }
     Ok(())
 }

@@ -1,4 +1,5 @@
 use crate::clauses::{clause, cnf, is_found};
+use crate::expecting::expect;
 use clause_lits::Clause;
 use clause_log::{Log, LogFault, Step, chain_resolvent, check_log, resolve};
 use smallvec::SmallVec;
@@ -16,9 +17,11 @@ fn resolved(alloc: Global, left: &[i64], right: &[i64]) -> Result<Option<Clause>
 #[test]
 fn two_clauses_resolve(rt: HostRuntime) -> Result<(), Fail> {
     let found = resolved(rt.alloc(), &[1, 2], &[-1, 3])?;
-    assert!(rt; is_found(rt.alloc(), found, &[2, 3])?);
-    assert!(rt; resolved(rt.alloc(), &[1, 2], &[1, 2])?.is_none());
-    Ok(())
+    expect(is_found(rt.alloc(), found, &[2, 3])?, "two clauses resolve")?;
+    expect(
+        resolved(rt.alloc(), &[1, 2], &[1, 2])?.is_none(),
+        "two clauses resolve",
+    )
 }
 
 /// What a chain over `1 2`, `-1 3` and `-2 4` ends in.
@@ -32,9 +35,8 @@ fn end_of(alloc: Global, chain: &[u64]) -> Result<Option<Clause>, NoMemory> {
 #[test]
 fn a_chain_resolves(rt: HostRuntime) -> Result<(), Fail> {
     let found = end_of(rt.alloc(), &[1, 2, 3])?;
-    assert!(rt; is_found(rt.alloc(), found, &[3, 4])?);
-    assert!(rt; end_of(rt.alloc(), &[2, 3])?.is_none());
-    Ok(())
+    expect(is_found(rt.alloc(), found, &[3, 4])?, "a chain resolves")?;
+    expect(end_of(rt.alloc(), &[2, 3])?.is_none(), "a chain resolves")
 }
 
 /// A log of one step, the empty clause, or of none where the chain is empty.
@@ -68,8 +70,16 @@ fn is_refuted(
 /// empty log.
 #[test]
 fn a_log_is_checked(rt: HostRuntime) -> Result<(), Fail> {
-    assert!(rt; is_refuted(&rt, rt.alloc(), &[1, 2])? == Some(true));
-    assert!(rt; is_refuted(&rt, rt.alloc(), &[1])? == Some(false));
-    assert!(rt; is_refuted(&rt, rt.alloc(), &[])? == Some(false));
-    Ok(())
+    expect(
+        is_refuted(&rt, rt.alloc(), &[1, 2])? == Some(true),
+        "a log is checked",
+    )?;
+    expect(
+        is_refuted(&rt, rt.alloc(), &[1])? == Some(false),
+        "a log is checked",
+    )?;
+    expect(
+        is_refuted(&rt, rt.alloc(), &[])? == Some(false),
+        "a log is checked",
+    )
 }

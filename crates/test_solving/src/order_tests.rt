@@ -1,3 +1,4 @@
+use crate::expecting::expect;
 use answer_order::numbers_of;
 use std::test::Fail;
 
@@ -5,6 +6,8 @@ use std::test::Fail;
 #[test]
 fn bits_are_read_as_numbers(rt: HostRuntime) -> Result<(), Fail> {
     let numbers = numbers_of(rt.alloc(), &[3, 0, 2], &[true, false, false, true, true])?;
-    assert_eq!(rt; numbers.as_slice(), [4, 0, 3].as_slice());
-    Ok(())
+    expect(
+        numbers.as_slice() == [4, 0, 3].as_slice(),
+        "bits are read as numbers",
+    )
 }

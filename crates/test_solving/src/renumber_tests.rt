@@ -1,4 +1,5 @@
 use crate::clauses::{clause, cnf, is_found, literal};
+use crate::expecting::expect;
 use clause_lits::{Clause, Lit};
 use clause_log::{Log, Step};
 use cnf_renumber::{Renumbering, are_inverse, by_bit, in_order};
@@ -25,9 +26,11 @@ fn is_order(alloc: Global, variables: u64, want: &[i64]) -> Result<bool, NoMemor
 /// 4 come first, then 1 and 3.
 #[test]
 fn low_bits_come_first(rt: HostRuntime) -> Result<(), Fail> {
-    assert!(rt; is_order(rt.alloc(), 5, &[2, 4, 1, 3, 5])?);
-    assert!(rt; is_order(rt.alloc(), 3, &[2, 1, 3])?);
-    Ok(())
+    expect(
+        is_order(rt.alloc(), 5, &[2, 4, 1, 3, 5])?,
+        "low bits come first",
+    )?;
+    expect(is_order(rt.alloc(), 3, &[2, 1, 3])?, "low bits come first")
 }
 
 /// The numbers of 3, the negation of 1, and 2, in this order.
@@ -69,10 +72,15 @@ fn mapped_back(alloc: Global, row: &[i64]) -> Result<Option<Clause>, NoMemory> {
 #[test]
 fn clauses_are_renumbered(rt: HostRuntime) -> Result<(), Fail> {
     let forth = renumbered(rt.alloc(), &[1, -2])?;
-    assert!(rt; is_found(rt.alloc(), forth, &[-2, -3])?);
+    expect(
+        is_found(rt.alloc(), forth, &[-2, -3])?,
+        "clauses are renumbered",
+    )?;
     let back = mapped_back(rt.alloc(), &[-2, -3])?;
-    assert!(rt; is_found(rt.alloc(), back, &[1, -2])?);
-    Ok(())
+    expect(
+        is_found(rt.alloc(), back, &[1, -2])?,
+        "clauses are renumbered",
+    )
 }
 
 /// The values 1 0 0 of the renumbered variables are those of 3, of the negation of 1, and of 2.
@@ -81,8 +89,10 @@ fn values_are_mapped_back(rt: HostRuntime) -> Result<(), Fail> {
     let alloc = rt.alloc();
     let values = Sequence::from_vec(Vec::from_slice(alloc, &[true, false, false])?);
     let back = numbers(alloc)?.values_back(alloc, &values)?;
-    assert!(rt; back.as_slice() == [true, false, true].as_slice());
-    Ok(())
+    expect(
+        back.as_slice() == [true, false, true].as_slice(),
+        "values are mapped back",
+    )
 }
 
 /// Whether a table is the inverse of itself.
@@ -94,9 +104,17 @@ fn is_own_inverse(alloc: Global, numbers: &[i64]) -> Result<bool, NoMemory> {
 /// A table that repeats a number is no renumbering, and an order that does changes nothing.
 #[test]
 fn numbers_that_are_none(rt: HostRuntime) -> Result<(), Fail> {
-    assert!(rt; !is_own_inverse(rt.alloc(), &[0, 2, -1])?);
-    assert!(rt; !is_own_inverse(rt.alloc(), &[0, 1, 1])?);
+    expect(
+        !is_own_inverse(rt.alloc(), &[0, 2, -1])?,
+        "numbers that are none",
+    )?;
+    expect(
+        !is_own_inverse(rt.alloc(), &[0, 1, 1])?,
+        "numbers that are none",
+    )?;
     let order = literals(rt.alloc(), &[1, 1])?;
-    assert!(rt; in_order(rt.alloc(), &order)?.forth.is_empty());
-    Ok(())
+    expect(
+        in_order(rt.alloc(), &order)?.forth.is_empty(),
+        "numbers that are none",
+    )
 }

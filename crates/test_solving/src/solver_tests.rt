@@ -1,4 +1,5 @@
 use crate::clauses::{clause, cnf, pigeons};
+use crate::expecting::expect;
 use clause_lits::Cnf;
 use clause_log::{Step, check_log};
 use clause_search::Answer;
@@ -60,7 +61,10 @@ fn the_least_model_is_found(rt: HostRuntime) -> Result<(), Fail> {
     let clauses = cnf(rt.alloc(), 2, 2, &[&[1, 2]])?;
     for solver in SOLVERS {
         let answer = solved(rt.alloc(), solver, &clauses, 1)?;
-        assert!(rt; is_model(&answer, &[false, true]), "{solver:?}");
+        expect(
+            is_model(&answer, &[false, true]),
+            "the least model is found",
+        )?;
     }
     Ok(())
 }
@@ -71,7 +75,10 @@ fn the_empty_clause_is_refuted(rt: HostRuntime) -> Result<(), Fail> {
     let clauses = cnf(rt.alloc(), 0, 0, &[&[]])?;
     for solver in SOLVERS {
         let answer = solved(rt.alloc(), solver, &clauses, 0)?;
-        assert!(rt; is_refuted_by(rt.alloc(), &answer, &[&[]])?, "{solver:?}");
+        expect(
+            is_refuted_by(rt.alloc(), &answer, &[&[]])?,
+            "the empty clause is refuted",
+        )?;
     }
     Ok(())
 }
@@ -83,10 +90,10 @@ fn three_pigeons_in_two_holes(rt: HostRuntime) -> Result<(), Fail> {
     let clauses = pigeons(rt.alloc(), 3, 2)?;
     for solver in SOLVERS {
         let answer = solved(rt.alloc(), solver, &clauses, 1)?;
-        assert!(rt;
+        expect(
             is_refuted_by(rt.alloc(), &answer, &[&[-2], &[]])?,
-            "{solver:?}"
-        );
+            "three pigeons in two holes",
+        )?;
     }
     Ok(())
 }
@@ -103,7 +110,7 @@ fn four_pigeons_in_four_holes(rt: HostRuntime) -> Result<(), Fail> {
     let clauses = pigeons(rt.alloc(), 4, 4)?;
     for solver in SOLVERS {
         let answer = solved(rt.alloc(), solver, &clauses, 0)?;
-        assert!(rt; is_model(&answer, &FOUR), "{solver:?}");
+        expect(is_model(&answer, &FOUR), "four pigeons in four holes")?;
     }
     Ok(())
 }
@@ -128,7 +135,10 @@ fn are_refuted(
 #[test]
 fn five_pigeons_in_four_holes(rt: HostRuntime) -> Result<(), Fail> {
     for solver in SOLVERS {
-        assert!(rt; are_refuted(&rt, rt.alloc(), solver)?, "{solver:?}");
+        expect(
+            are_refuted(&rt, rt.alloc(), solver)?,
+            "five pigeons in four holes",
+        )?;
     }
     Ok(())
 }

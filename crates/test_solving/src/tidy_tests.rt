@@ -1,4 +1,5 @@
 use crate::clauses::{clause, cnf};
+use crate::expecting::expect;
 use crate::solver_tests::are_steps;
 use clause_lits::Cnf;
 use clause_log::{Log, Step, check_log};
@@ -92,8 +93,10 @@ fn unused_steps_are_left_out(rt: HostRuntime) -> Result<(), Fail> {
         ],
     )?;
     let short = trimmed(&rt, alloc, &question, log)?;
-    assert!(rt; is_log(&rt, alloc, &question, &short, &[&[1], &[2], &[-2], &[]])?);
-    Ok(())
+    expect(
+        is_log(&rt, alloc, &question, &short, &[&[1], &[2], &[-2], &[]])?,
+        "unused steps are left out",
+    )
 }
 
 /// The second step, `1 3`, is learned though `1` stands: `1` takes its place, the step `2 3` after
@@ -113,6 +116,8 @@ fn weaker_steps_are_left_out(rt: HostRuntime) -> Result<(), Fail> {
         ],
     )?;
     let short = tidied(&rt, alloc, &question, log)?;
-    assert!(rt; is_log(&rt, alloc, &question, &short, &[&[1], &[2], &[-2], &[]])?);
-    Ok(())
+    expect(
+        is_log(&rt, alloc, &question, &short, &[&[1], &[2], &[-2], &[]])?,
+        "weaker steps are left out",
+    )
 }

@@ -1,4 +1,5 @@
 use crate::clauses::literal;
+use crate::expecting::expect;
 use clause_search::{Entry, Trail, values};
 use std::alloc::Global;
 use std::test::Fail;
@@ -21,7 +22,9 @@ fn trail_of(alloc: Global, numbers: &[i64]) -> Result<Trail, NoMemory> {
 fn a_trail_gives_values(rt: HostRuntime) -> Result<(), Fail> {
     let trail = trail_of(rt.alloc(), &[3, -1])?;
     let found = values(rt.alloc(), &trail, 4)?;
-    assert!(rt; found.as_slice() == [false, false, true, false].as_slice());
-    assert_eq!(rt; trail.len(), 2);
-    Ok(())
+    expect(
+        found.as_slice() == [false, false, true, false].as_slice(),
+        "a trail gives values",
+    )?;
+    expect(trail.len() == 2, "a trail gives values")
 }

@@ -1,0 +1,74 @@
+use crate::by_interpreter::{interpreted, returned};
+use crate::by_terms::{evaluated, terms_of, valued};
+use crate::expecting::expect;
+use crate::instructions::{COLUMNS, Given, function_in, instruction_in, module_of};
+use crate::sums::SUMS;
+use byte_block::Value;
+use byte_block::Value::{Num, Poison};
+use ir_reader::read;
+use ir_tree::Function;
+use std::alloc::Global;
+use std::test::Fail;
+
+/// The sums of an instruction in a column, by the interpreter and by the terms.
+fn both_sums(alloc: Global, function: &Function) -> Result<(u64, u64), Fail> {
+    let inst = instruction_in(function).ok_or("it has an instruction")?;
+    Ok((interpreted(alloc, function)?, evaluated(alloc, inst)?))
+}
+
+#[test]
+fn interpreter_and_terms_give_the_sums(rt: HostRuntime) -> Result<(), Fail> {
+    for line in SUMS.lines() {
+        let (instruction, sums) = line.split_once(": ").ok_or("a line has sums")?;
+        expect(sums.split_whitespace().count() == COLUMNS.len(), line)?;
+        for (&column, digits) in COLUMNS.iter().zip(sums.split_whitespace()) {
+            let sum = u64::from_str_radix(digits, 16)?;
+            let module = module_of(rt.alloc(), instruction, column)?;
+            let function = function_in(&module).ok_or("the function is read")?;
+            expect(both_sums(rt.alloc(), function)? == (sum, sum), line)?;
+        }
+    }
+    Ok(())
+}
+
+const SELECT: &[u8] =
+    b"define i8 @f(i1 %c, i8 %a, i8 %b) {\n  %r = select i1 %c, i8 %a, i8 %b\n  ret i8 %r\n}\n";
+
+/// A condition, two arms and what is given: the arm that is not chosen may be poison, and of the
+/// condition the lowest bit counts.
+const SELECTED: [(Value, Value, Value, Given); 7] = [
+    (Num(1), Num(1), Num(2), Given::Number(1)),
+    (Num(0), Num(1), Num(2), Given::Number(2)),
+    (Num(3), Num(1), Num(2), Given::Number(1)),
+    (Num(1), Num(1), Poison, Given::Number(1)),
+    (Num(0), Poison, Num(2), Given::Number(2)),
+    (Num(1), Poison, Num(2), Given::Poison),
+    (Poison, Num(1), Num(1), Given::Poison),
+];
+
+/// Whether the interpreter and the terms of a function's instruction give the same on operands.
+fn is_given(
+    alloc: Global,
+    function: &Function,
+    operands: &[Value],
+    given: Given,
+) -> Result<bool, Fail> {
+    let inst = instruction_in(function).ok_or("it has an instruction")?;
+    let by_terms = valued(alloc, &terms_of(alloc, inst)?, operands)?;
+    Ok(returned(alloc, function, operands)? == given && by_terms == given)
+}
+
+#[test]
+fn a_select_looks_at_the_chosen_arm_alone(rt: HostRuntime) -> Result<(), Fail> {
+    let alloc = rt.alloc();
+    let module = read(alloc, SELECT).ok().ok_or("the module is read")?;
+    let function = function_in(&module).ok_or("the function is read")?;
+    for &(condition, if_true, if_false, given) in &SELECTED {
+        let operands = [condition, if_true, if_false];
+        expect(
+            is_given(alloc, function, &operands, given)?,
+            "a select looks at the chosen arm alone",
+        )?;
+    }
+    Ok(())
+}

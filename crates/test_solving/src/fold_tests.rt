@@ -1,0 +1,113 @@
+//! What is shared between terms, how they are written, and terms in the place of variables.
+
+use crate::expecting::expect;
+use crate::written_terms::written;
+use bit_blast::Blast;
+use bv_terms::{TermId, Terms, Variable, fold};
+use std::alloc::Global;
+use std::test::Fail;
+use support::NoMemory;
+use term_folds::{Print, Substitute, Weigh};
+
+/// How many gates the terms of a text take.
+fn gates_of(alloc: Global, terms: &mut Terms, text: &str) -> Result<usize, NoMemory> {
+    written(alloc, terms, text)?;
+    let mut blast = Blast::new(alloc);
+    match fold(alloc, terms, &mut blast) {
+        Ok(_) => Ok(blast.circuit().len()),
+        Err(_) => Err(NoMemory),
+    }
+}
+
+/// The quotient and the remainder of the same numbers are one circuit.
+#[test]
+fn a_remainder_beside_its_quotient_is_free(rt: HostRuntime) -> Result<(), Fail> {
+    let alone = gates_of(rt.alloc(), &mut Terms::new(rt.alloc()), "xy/")?;
+    let both = gates_of(rt.alloc(), &mut Terms::new(rt.alloc()), "xy/xy%:")?;
+    expect(both == alone, "a remainder beside its quotient is free")
+}
+
+/// A term is written with the name of its operation before its parts.
+#[test]
+fn terms_are_written(rt: HostRuntime) -> Result<(), Fail> {
+    let alloc = rt.alloc();
+    let mut terms = Terms::new(alloc);
+    written(alloc, &mut terms, "x5+pyp<")?;
+    match fold(alloc, &terms, &mut Print { alloc }) {
+        Ok(texts) => match texts.as_slice() {
+            [.., last] => expect(
+                last.as_str() == "(ult (extract 1 2 (add v0:3 5:3)) (extract 1 2 v1:3))",
+                "terms are written",
+            )?,
+            [] => expect(false, "terms are written")?,
+        },
+        Err(_) => expect(false, "terms are written")?,
+    }
+    Ok(())
+}
+
+/// How many nodes the term of a text has.
+fn weight_of(alloc: Global, terms: &mut Terms, text: &str) -> Result<Option<u64>, NoMemory> {
+    let id = written(alloc, terms, text)?;
+    match fold(alloc, terms, &mut Weigh) {
+        Ok(found) => Ok(found.get(id.index).copied()),
+        Err(_) => Err(NoMemory),
+    }
+}
+
+/// A product of two sums has 7 nodes.
+#[test]
+fn terms_have_weights(rt: HostRuntime) -> Result<(), Fail> {
+    let mut terms = Terms::new(rt.alloc());
+    expect(
+        weight_of(rt.alloc(), &mut terms, "x5+x5+*")? == Some(7),
+        "terms have weights",
+    )
+}
+
+/// A term of 3 bits in the place of a variable of 3 bits; nothing where it has other bits.
+fn replace(substitute: &mut Substitute, number: u64, by: TermId) -> Result<(), NoMemory> {
+    let count = substitute.terms().as_slice().len();
+    if by.index < count && substitute.terms().width(by) == 3 {
+        substitute.replace(Variable { number, width: 3 }, by)?;
+    }
+    Ok(())
+}
+
+/// Has y and x replace each other.
+fn exchange(substitute: &mut Substitute, x: TermId, y: TermId) -> Result<(), NoMemory> {
+    replace(substitute, 0, y)?;
+    replace(substitute, 1, x)
+}
+
+/// A store of y and x, each of which replaces the other.
+fn exchanging(alloc: Global) -> Result<Substitute, NoMemory> {
+    let mut store = Terms::new(alloc);
+    let y = written(alloc, &mut store, "y")?;
+    let x = written(alloc, &mut store, "x")?;
+    let mut substitute = Substitute::new(alloc, store);
+    exchange(&mut substitute, x, y)?;
+    Ok(substitute)
+}
+
+/// Whether a text with x for y and y for x is another text.
+fn is_exchanged(alloc: Global, text: &str, want: &str) -> Result<bool, NoMemory> {
+    let mut terms = Terms::new(alloc);
+    let id = written(alloc, &mut terms, text)?;
+    let mut substitute = exchanging(alloc)?;
+    let Ok(ids) = fold(alloc, &terms, &mut substitute) else {
+        return Err(NoMemory);
+    };
+    let mut store = substitute.into_terms();
+    let want = written(alloc, &mut store, want)?;
+    Ok(ids.get(id.index).copied() == Some(want))
+}
+
+/// Two variables change places, so what replaces one is not replaced again.
+#[test]
+fn variables_change_places(rt: HostRuntime) -> Result<(), Fail> {
+    expect(
+        is_exchanged(rt.alloc(), "xy-", "yx-")?,
+        "variables change places",
+    )
+}

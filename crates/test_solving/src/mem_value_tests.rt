@@ -1,0 +1,303 @@
+// What a value is where the other kind is wanted is read off the types of the LLVM Language
+// Reference: a pointer is no number, and a number no pointer, not even 0.
+ghost use Rattle.std.specs.Prelude.{IfOk};
+ghost use Rattle.bv_terms.specs.Trees.{IsTerm, Keeps};
+ghost use Rattle.mem_terms.specs.Values.{IsSymValue};
+ghost use Rattle.mem_terms.specs.Memory.{IsSymByte};
+
+use crate::expecting::expect;
+use crate::term_values::value_of;
+use bv_terms::{TermId, Terms};
+use byte_block::{BlockName, Byte, Ptr, Value};
+use mem_terms::{
+    SymByte, SymValue, as_address, as_number, integer_value, known_number, negation, null_value,
+    number, pick_byte, pick_value, pointer_value, poison_byte, poison_value,
+};
+use std::alloc::Global;
+use std::test::Fail;
+use support::NoMemory;
+
+// ---- values as terms, and read off terms without variables
+
+/// The number of a block: 0 for null, and a given one's own.
+fn block_number(name: BlockName) -> u64 {
+    match name {
+        BlockName::Null | BlockName::Local(..) => 0,
+        BlockName::Given(n) => n,
+    }
+}
+
+fn block_name(n: u64) -> BlockName {
+    if n == 0 {
+        BlockName::Null
+    } else {
+        BlockName::Given(n)
+    }
+}
+
+/// The number of a term of at most 64 bits, where variables are 0.
+fn number_in(alloc: Global, terms: &Terms, id: TermId) -> Result<u64, NoMemory> {
+    let value = value_of(alloc, terms, id)?.unwrap_or(0);
+    Ok(u64::try_from(value).unwrap_or(u64::MAX))
+}
+
+/// The block's number and the offset.
+fn pointer_terms(terms: &mut Terms, pointer: Ptr) -> Result<(TermId, TermId), NoMemory>
+    ensures made { IfOk result (λ p. IsTerm terms.new 64 p.0 × IsTerm terms.new 64 p.1) }
+    ensures kept { Keeps terms.old terms.new }
+{
+    let block = number(terms, block_number(pointer.block))?;
+    let offset = number(terms, pointer.offset)?;
+    Ok((block, offset))
+}
+
+fn pointer_in(
+    alloc: Global,
+    terms: &Terms,
+    block: TermId,
+    offset: TermId,
+) -> Result<Ptr, NoMemory> {
+    Ok(Ptr {
+        block: block_name(number_in(alloc, terms, block)?),
+        offset: number_in(alloc, terms, offset)?,
+    })
+}
+
+fn value_terms(terms: &mut Terms, value: Value) -> Result<SymValue, NoMemory>
+    ensures made { IfOk result (IsSymValue terms.new) }
+    ensures kept { Keeps terms.old terms.new }
+{
+    match value {
+        Value::Poison => poison_value(terms),
+        Value::Num(n) => {
+            let n = known_number(terms, n)?;
+            integer_value(terms, n)
+        }
+        Value::Ptr(pointer) => {
+            let (block, offset) = pointer_terms(terms, pointer)?;
+            pointer_value(terms, block, offset)
+        }
+    }
+}
+
+fn value_in(alloc: Global, terms: &Terms, s: SymValue) -> Result<Value, NoMemory> {
+    if number_in(alloc, terms, s.poison)? == 1 {
+        Ok(Value::Poison)
+    } else if number_in(alloc, terms, s.is_pointer)? == 1 {
+        Ok(Value::Ptr(pointer_in(alloc, terms, s.block, s.number)?))
+    } else {
+        Ok(Value::Num(number_in(alloc, terms, s.number)?))
+    }
+}
+
+// ---- values of both kinds
+
+const fn to(block: u64, offset: u64) -> Value {
+    Value::Ptr(Ptr {
+        block: BlockName::Given(block),
+        offset,
+    })
+}
+
+const NULL: Value = Value::Ptr(Ptr {
+    block: BlockName::Null,
+    offset: 0,
+});
+
+/// A value where a number is used, and where a pointer is.
+fn used(alloc: Global, terms: &mut Terms, value: Value) -> Result<(Value, Value), NoMemory> {
+    let given = value_terms(terms, value)?;
+    let address = as_address(terms, given)?;
+    let n = as_number(terms, given)?;
+    let n = integer_value(terms, n)?;
+    Ok((value_in(alloc, terms, n)?, value_in(alloc, terms, address)?))
+}
+
+#[test]
+fn a_value_of_the_other_kind_is_poison(rt: HostRuntime) -> Result<(), Fail> {
+    let rows = [
+        (Value::Poison, (Value::Poison, Value::Poison)),
+        (Value::Num(0), (Value::Num(0), Value::Poison)),
+        (Value::Num(7), (Value::Num(7), Value::Poison)),
+        (NULL, (Value::Poison, NULL)),
+        (to(1, 0), (Value::Poison, to(1, 0))),
+        (to(2, u64::MAX), (Value::Poison, to(2, u64::MAX))),
+    ];
+    let mut terms = Terms::new(rt.alloc());
+    for &(value, wants) in &rows {
+        expect(
+            used(rt.alloc(), &mut terms, value)? == wants,
+            "a value of the other kind is poison",
+        )?;
+    }
+    Ok(())
+}
+
+#[test]
+fn null_is_the_start_of_the_null_block(rt: HostRuntime) -> Result<(), Fail> {
+    let mut terms = Terms::new(rt.alloc());
+    let null = null_value(&mut terms)?;
+    expect(
+        value_in(rt.alloc(), &terms, null)? == NULL,
+        "null is the start of the null block",
+    )
+}
+
+// ---- choices
+
+/// A condition that is no constant: a variable, which is 0 where values are taken, or its negation.
+fn condition(terms: &mut Terms, is_true: bool) -> Result<TermId, NoMemory>
+    ensures made { IfOk result (IsTerm terms.new 1) }
+{
+    let never = terms.variable(0, 1)?;
+    if is_true {
+        negation(terms, never)
+    } else {
+        Ok(never)
+    }
+}
+
+/// The value of the choice of the first or the second of two values.
+fn picked_value(
+    alloc: Global,
+    terms: &mut Terms,
+    is_first: bool,
+    a: Value,
+    b: Value,
+) -> Result<Value, NoMemory> {
+    let c = condition(terms, is_first)?;
+    let a = value_terms(terms, a)?;
+    let b = value_terms(terms, b)?;
+    let picked = pick_value(terms, c, a, b)?;
+    value_in(alloc, terms, picked)
+}
+
+#[test]
+fn a_choice_has_the_kind_of_the_chosen_value(rt: HostRuntime) -> Result<(), Fail> {
+    let values = [
+        Value::Poison,
+        Value::Num(9),
+        NULL,
+        to(1, 8),
+        to(2, 8),
+        to(2, 9),
+    ];
+    let mut terms = Terms::new(rt.alloc());
+    for &a in &values {
+        for &b in &values {
+            expect(
+                picked_value(rt.alloc(), &mut terms, true, a, b)? == a,
+                "a choice has the kind of the chosen value",
+            )?;
+            expect(
+                picked_value(rt.alloc(), &mut terms, false, a, b)? == b,
+                "a choice has the kind of the chosen value",
+            )?;
+        }
+    }
+    Ok(())
+}
+
+// ---- bytes
+
+fn number_byte(terms: &mut Terms, n: u8) -> Result<SymByte, NoMemory>
+    ensures made { IfOk result (IsSymByte terms.new) }
+    ensures kept { Keeps terms.old terms.new }
+{
+    let unused = poison_byte(terms)?;
+    let kind = terms.constant(0, 2)?;
+    let number = terms.constant(u128::from(n), 8)?;
+    Ok(SymByte {
+        kind,
+        number,
+        ..unused
+    })
+}
+
+fn part_byte(terms: &mut Terms, pointer: Ptr, part: u8) -> Result<SymByte, NoMemory>
+    ensures made { IfOk result (IsSymByte terms.new) }
+    ensures kept { Keeps terms.old terms.new }
+{
+    let unused = poison_byte(terms)?;
+    let (block, offset) = pointer_terms(terms, pointer)?;
+    let kind = terms.constant(1, 2)?;
+    let part = terms.constant(u128::from(part % 8), 3)?;
+    Ok(SymByte {
+        kind,
+        number: unused.number,
+        block,
+        offset,
+        part,
+    })
+}
+
+fn byte_terms(terms: &mut Terms, byte: Byte) -> Result<SymByte, NoMemory>
+    ensures made { IfOk result (IsSymByte terms.new) }
+    ensures kept { Keeps terms.old terms.new }
+{
+    match byte {
+        Byte::Poison => poison_byte(terms),
+        Byte::Num(n) => number_byte(terms, n),
+        Byte::Part(pointer, part) => part_byte(terms, pointer, part),
+    }
+}
+
+fn byte_in(alloc: Global, terms: &Terms, b: SymByte) -> Result<Byte, NoMemory> {
+    match number_in(alloc, terms, b.kind)? {
+        0 => Ok(Byte::Num(number_in(alloc, terms, b.number)?.to_le_bytes()[0])),
+        1 => Ok(Byte::Part(
+            pointer_in(alloc, terms, b.block, b.offset)?,
+            number_in(alloc, terms, b.part)?.to_le_bytes()[0],
+        )),
+        _ => Ok(Byte::Poison),
+    }
+}
+
+/// The byte of the choice of the first or the second of two bytes.
+fn picked_byte(
+    alloc: Global,
+    terms: &mut Terms,
+    is_first: bool,
+    a: Byte,
+    b: Byte,
+) -> Result<Byte, NoMemory> {
+    let c = condition(terms, is_first)?;
+    let a = byte_terms(terms, a)?;
+    let b = byte_terms(terms, b)?;
+    let picked = pick_byte(terms, c, a, b)?;
+    byte_in(alloc, terms, picked)
+}
+
+#[test]
+fn a_choice_is_the_chosen_byte(rt: HostRuntime) -> Result<(), Fail> {
+    let start = Ptr {
+        block: BlockName::Given(1),
+        offset: 0,
+    };
+    let later = Ptr {
+        block: BlockName::Given(2),
+        offset: 16,
+    };
+    let bytes = [
+        Byte::Poison,
+        Byte::Num(0),
+        Byte::Num(255),
+        Byte::Part(start, 0),
+        Byte::Part(start, 7),
+        Byte::Part(later, 7),
+    ];
+    let mut terms = Terms::new(rt.alloc());
+    for &a in &bytes {
+        for &b in &bytes {
+            expect(
+                picked_byte(rt.alloc(), &mut terms, true, a, b)? == a,
+                "a choice is the chosen byte",
+            )?;
+            expect(
+                picked_byte(rt.alloc(), &mut terms, false, a, b)? == b,
+                "a choice is the chosen byte",
+            )?;
+        }
+    }
+    Ok(())
+}
