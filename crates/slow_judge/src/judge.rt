@@ -21,9 +21,9 @@ fn bench_for(alloc: Global, pair: &Pair, bounds: &Bounds, need: usize) -> Result
 {
     let blocks = blocks_without_bytes(alloc, bounds)?;
     Ok(Bench {
+        candidate: zeros(alloc, need)?,
         source: runner_for(alloc, pair.source(), &blocks)?,
         target: runner_for(alloc, pair.target(), &blocks)?,
-        candidate: zeros(alloc, need)?,
     })
 }
 

@@ -11,16 +11,13 @@ use std::alloc::{AllocError, Global};
 pub fn command<'a>(alloc: Global) -> Result<Command<'a>, AllocError>
     ensures { IfOk result (λ c. app_of c ≡ tv_app) }
 {
-    let check = check_command(alloc)?;
-    let log = log_command(alloc)?;
-    let make = make_command(alloc)?;
     let tv = Command::new(alloc, "tv")
         .disable_help_flag(true)
         .disable_help_subcommand(true)
         .subcommand_required(true)
-        .subcommand(check)?
-        .subcommand(log)?
-        .subcommand(make)?;
+        .subcommand(check_command(alloc)?)?
+        .subcommand(log_command(alloc)?)?
+        .subcommand(make_command(alloc)?)?;
     Ok(tv)
 }
 
@@ -28,8 +25,7 @@ fn log_command<'a>(alloc: Global) -> Result<Command<'a>, AllocError>
     ensures app { IfOk result (λ c. app_of c ≡ log_app) }
     ensures local { IfOk result (λ c. (out-Command c).has_globals ≡ false) }
 {
-    let file = name(alloc, "FILE");
-    let log = Command::new(alloc, "log").arg(file)?;
+    let log = Command::new(alloc, "log").arg(name(alloc, "FILE"))?;
     Ok(log)
 }
 
@@ -37,18 +33,12 @@ fn check_command<'a>(alloc: Global) -> Result<Command<'a>, AllocError>
     ensures app { IfOk result (λ c. app_of c ≡ check_app) }
     ensures local { IfOk result (λ c. (out-Command c).has_globals ≡ false) }
 {
-    let rounds = option(alloc, "rounds");
-    let conflicts = option(alloc, "conflicts");
-    let weight = option(alloc, "weight");
-    let workers = option(alloc, "workers");
-    let proof = option(alloc, "proof");
-    let bounded = bounded_command(alloc)?;
-    let check = bounded
-        .arg(rounds)?
-        .arg(conflicts)?
-        .arg(weight)?
-        .arg(workers)?
-        .arg(proof)?;
+    let check = bounded_command(alloc)?
+        .arg(option(alloc, "rounds"))?
+        .arg(option(alloc, "conflicts"))?
+        .arg(option(alloc, "weight"))?
+        .arg(option(alloc, "workers"))?
+        .arg(option(alloc, "proof"))?;
     Ok(check)
 }
 
@@ -56,17 +46,12 @@ fn bounded_command<'a>(alloc: Global) -> Result<Command<'a>, AllocError>
     ensures app { IfOk result (λ c. app_of c ≡ bounded_app) }
     ensures local { IfOk result (λ c. (out-Command c).has_globals ≡ false) }
 {
-    let source = name(alloc, "A");
-    let target = name(alloc, "B");
-    let turns = option(alloc, "turns");
-    let blocks = option(alloc, "blocks");
-    let bytes = option(alloc, "bytes");
     let check = Command::new(alloc, "check")
-        .arg(source)?
-        .arg(target)?
-        .arg(turns)?
-        .arg(blocks)?
-        .arg(bytes)?;
+        .arg(name(alloc, "A"))?
+        .arg(name(alloc, "B"))?
+        .arg(option(alloc, "turns"))?
+        .arg(option(alloc, "blocks"))?
+        .arg(option(alloc, "bytes"))?;
     Ok(check)
 }
 
@@ -74,18 +59,12 @@ fn make_command<'a>(alloc: Global) -> Result<Command<'a>, AllocError>
     ensures app { IfOk result (λ c. app_of c ≡ make_app) }
     ensures local { IfOk result (λ c. (out-Command c).has_globals ≡ false) }
 {
-    let weight = option(alloc, "weight");
-    let workers = option(alloc, "workers");
-    let seed = option(alloc, "seed");
-    let functions = option(alloc, "functions");
-    let insts = option(alloc, "insts");
-    let limited = limited_command(alloc)?;
-    let make = limited
-        .arg(weight)?
-        .arg(workers)?
-        .arg(seed)?
-        .arg(functions)?
-        .arg(insts)?;
+    let make = limited_command(alloc)?
+        .arg(option(alloc, "weight"))?
+        .arg(option(alloc, "workers"))?
+        .arg(option(alloc, "seed"))?
+        .arg(option(alloc, "functions"))?
+        .arg(option(alloc, "insts"))?;
     Ok(make)
 }
 
@@ -93,17 +72,12 @@ fn limited_command<'a>(alloc: Global) -> Result<Command<'a>, AllocError>
     ensures app { IfOk result (λ c. app_of c ≡ limited_app) }
     ensures local { IfOk result (λ c. (out-Command c).has_globals ≡ false) }
 {
-    let turns = option(alloc, "turns");
-    let blocks = option(alloc, "blocks");
-    let bytes = option(alloc, "bytes");
-    let rounds = option(alloc, "rounds");
-    let conflicts = option(alloc, "conflicts");
     let make = Command::new(alloc, "make")
-        .arg(turns)?
-        .arg(blocks)?
-        .arg(bytes)?
-        .arg(rounds)?
-        .arg(conflicts)?;
+        .arg(option(alloc, "turns"))?
+        .arg(option(alloc, "blocks"))?
+        .arg(option(alloc, "bytes"))?
+        .arg(option(alloc, "rounds"))?
+        .arg(option(alloc, "conflicts"))?;
     Ok(make)
 }
 

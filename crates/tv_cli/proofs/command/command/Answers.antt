@@ -12,7 +12,7 @@ returns c =
     let first : app_of c.disable_help_flag.result ≡ on_top flag (new_app (codes "tv")) = ap app_of_fields c.disable_help_flag.ensures ∙ ap (on_top flag) c.new.ensures.app in
     let second : app_of c.disable_help_subcommand.result ≡ on_top help (on_top flag (new_app (codes "tv"))) = ap app_of_fields c.disable_help_subcommand.ensures ∙ ap (on_top help) first in
     let tv : app_of c.subcommand_required.result ≡ on_top required (on_top help (on_top flag (new_app (codes "tv")))) = ap app_of_fields c.subcommand_required.ensures ∙ ap (on_top required) second in
-    c.in_ok-tv.ensures.shape c.in_ok-make.ensures.local
-    ∙ ap₂ with_subcommand (c.in_ok-subcommand-2.ensures.shape c.in_ok-log.ensures.local
-    ∙ ap₂ with_subcommand (c.in_ok-subcommand.ensures.shape c.in_ok-check.ensures.local ∙ ap₂ with_subcommand tv (ap (λ (a : App). a.top) c.in_ok-check.ensures.app)) (ap (λ (a : App). a.top) c.in_ok-log.ensures.app))
-    (ap (λ (a : App). a.top) c.in_ok-make.ensures.app)
+    c.in_ok-tv.ensures.shape c.in_ok-make_command.ensures.local
+    ∙ ap₂ with_subcommand (c.in_ok-subcommand-2.ensures.shape c.in_ok-log_command.ensures.local
+    ∙ ap₂ with_subcommand (c.in_ok-subcommand.ensures.shape c.in_ok-check_command.ensures.local ∙ ap₂ with_subcommand tv (ap (λ (a : App). a.top) c.in_ok-check_command.ensures.app)) (ap (λ (a : App). a.top) c.in_ok-log_command.ensures.app))
+    (ap (λ (a : App). a.top) c.in_ok-make_command.ensures.app)

@@ -4,9 +4,9 @@ use Rattle.tv_cli.proofs.command.limited_command.Goals as goal
 
 pub returns-clause-app : goal.returns-clause-app
 returns-clause-app c =
-    c.in_ok-make.ensures.shape c.option-conflicts.ensures.local
-    ∙ ap₂ with_rule (c.in_ok-arg-4.ensures.shape c.option-rounds.ensures.local
-    ∙ ap₂ with_rule (c.in_ok-arg-3.ensures.shape c.option-bytes.ensures.local
-    ∙ ap₂ with_rule (c.in_ok-arg-2.ensures.shape c.option-blocks.ensures.local
-    ∙ ap₂ with_rule (c.in_ok-arg.ensures.shape c.option-turns.ensures.local
-    ∙ ap₂ with_rule c.new.ensures.app c.option-turns.ensures.rule) c.option-blocks.ensures.rule) c.option-bytes.ensures.rule) c.option-rounds.ensures.rule) c.option-conflicts.ensures.rule
+    c.in_ok-make.ensures.shape c.option-5.ensures.local
+    ∙ ap₂ with_rule (c.in_ok-arg-4.ensures.shape c.option-4.ensures.local
+    ∙ ap₂ with_rule (c.in_ok-arg-3.ensures.shape c.option-3.ensures.local
+    ∙ ap₂ with_rule (c.in_ok-arg-2.ensures.shape c.option-2.ensures.local
+    ∙ ap₂ with_rule (c.in_ok-arg.ensures.shape c.option.ensures.local
+    ∙ ap₂ with_rule c.new.ensures.app c.option.ensures.rule) c.option-2.ensures.rule) c.option-3.ensures.rule) c.option-4.ensures.rule) c.option-5.ensures.rule

@@ -4,9 +4,9 @@ use Rattle.tv_cli.proofs.command.make_command.Goals as goal
 
 pub returns-clause-app : goal.returns-clause-app
 returns-clause-app c =
-    c.in_ok-make.ensures.shape c.option-insts.ensures.local
-    ∙ ap₂ with_rule (c.in_ok-arg-4.ensures.shape c.option-functions.ensures.local
-    ∙ ap₂ with_rule (c.in_ok-arg-3.ensures.shape c.option-seed.ensures.local
-    ∙ ap₂ with_rule (c.in_ok-arg-2.ensures.shape c.option-workers.ensures.local
-    ∙ ap₂ with_rule (c.in_ok-arg.ensures.shape c.option-weight.ensures.local
-    ∙ ap₂ with_rule c.in_ok-limited.ensures.app c.option-weight.ensures.rule) c.option-workers.ensures.rule) c.option-seed.ensures.rule) c.option-functions.ensures.rule) c.option-insts.ensures.rule
+    c.in_ok-make.ensures.shape c.option-5.ensures.local
+    ∙ ap₂ with_rule (c.in_ok-arg-4.ensures.shape c.option-4.ensures.local
+    ∙ ap₂ with_rule (c.in_ok-arg-3.ensures.shape c.option-3.ensures.local
+    ∙ ap₂ with_rule (c.in_ok-arg-2.ensures.shape c.option-2.ensures.local
+    ∙ ap₂ with_rule (c.in_ok-arg.ensures.shape c.option.ensures.local
+    ∙ ap₂ with_rule c.in_ok-limited_command.ensures.app c.option.ensures.rule) c.option-2.ensures.rule) c.option-3.ensures.rule) c.option-4.ensures.rule) c.option-5.ensures.rule
