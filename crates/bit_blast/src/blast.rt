@@ -85,7 +85,7 @@ impl Blast {
         self.circuit();
     }
 
-    /// Gives a variable inputs, one a digit, unless it has them. After want of memory all is as
+    /// Gives a variable inputs, one a bit, unless it has them. Where memory runs out, all is as
     /// before.
     pub fn add(&mut self, variable: Variable) -> Result<(), NoMemory>
         ensures added { OnOk result (Adds self.old.table self.new.table variable) }

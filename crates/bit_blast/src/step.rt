@@ -20,7 +20,7 @@ use indexmap::IndexMap;
 use std::alloc::Global;
 use support::{NoMemory, Sequence};
 
-/// New inputs for a variable, and where they stand in the table. After want of memory the circuit
+/// New inputs for a variable, and where they stand in the table. Where memory runs out, the circuit
 /// and the table are as before.
 pub fn add_variable(
     alloc: Global,

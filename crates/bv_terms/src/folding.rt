@@ -45,7 +45,7 @@ pub trait TermFold {
     ghost keeps: { (a b : Self) (tree : Tree) (out : Self.Out) → follows a b → stands a tree out → stands b tree out };
 }
 
-/// Why a fold gave no answers: want of memory, or a fault that the step gave at one of the terms.
+/// Why a fold gave no answers: out of memory, or a fault that the step gave at one of the terms.
 #[derive(Drop)]
 pub enum FoldFault<E> {
     NoMemory,

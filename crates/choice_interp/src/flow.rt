@@ -72,7 +72,7 @@ fn assign_phis(machine: &mut Machine, phis: &[Phi], values: &[Value])
 }
 
 /// Enters a block: all its phis get their values at once. `values` is room for these; memory is taken
-/// where it is too small. After want of memory the machine is as before.
+/// where it is too small. Where memory runs out, the machine is as before.
 pub fn enter(
     machine: &mut Machine,
     values: &mut Sequence<Value>,

@@ -45,7 +45,7 @@ fn machine_for(alloc: Global, f: &Function, blocks: &Memory) -> Result<Machine, 
 /// A runner of a function on inputs with these blocks.
 ///
 /// # Errors
-/// For want of memory alone.
+/// Out of memory alone.
 pub fn runner_for(alloc: Global, f: &Function, blocks: &Memory) -> Result<Runner, NoMemory>
     ensures { IfOk result (IsRunner f.now blocks.now) }
 {
@@ -66,7 +66,7 @@ pub fn runner_for(alloc: Global, f: &Function, blocks: &Memory) -> Result<Runner
 /// blocks and bytes is used again.
 ///
 /// # Errors
-/// For want of memory alone; the runner then has no blocks to run with.
+/// Out of memory alone; the runner then has no blocks to run with.
 pub fn give_blocks(runner: &mut Runner, blocks: &Memory) -> Result<(), NoMemory>
     ensures { OnOk result ((f : Code) (before : List MemoryBlock) → IsRunner f before runner.old → IsRunner f blocks.now runner.new) }
 {

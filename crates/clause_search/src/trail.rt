@@ -72,7 +72,7 @@ impl Trail {
         self.marks[place].entry
     }
 
-    /// Puts an entry behind the others. After want of memory they are as before.
+    /// Puts an entry after the others. Where memory runs out, they are as before.
     pub fn push(&mut self, entry: Entry) -> Result<(), NoMemory>
         requires { IsUnassigned self.old entry.literal.variable }
         ensures ok { OnOk result (self.new ≡ self.old ++ entry ∷ []) }

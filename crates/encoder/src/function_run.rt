@@ -172,7 +172,7 @@ fn finish(terms: &mut Terms, ending: Ending, tape: &[TermId]) -> Result<OutcomeT
 
 /// The run of a function on an input and a tape, as terms over the copies of its blocks: under every
 /// assignment of the variables they show the run on what the input and the tape are under it, within
-/// as many backward jumps as the layers have. It fails for want of memory alone.
+/// as many backward jumps as the layers have. The one error is out of memory.
 pub fn encode(
     alloc: Global,
     f: &Function,

@@ -46,7 +46,7 @@ pub fn constant(
     Ok(digits)
 }
 
-/// So many new inputs, behind the gates that were there. After want of memory some of them stand.
+/// So many new inputs, after the gates that were there. Where memory runs out, some of them stand.
 fn some_inputs(alloc: Global, circuit: &mut Circuit, width: u32) -> Result<Vec<GateId>, NoMemory>
     ensures made { IfOk result (λ r. AreFresh circuit.old circuit.new width r.items) }
     ensures front { take (length circuit.old) circuit.new ≡ circuit.old }
@@ -60,7 +60,7 @@ fn some_inputs(alloc: Global, circuit: &mut Circuit, width: u32) -> Result<Vec<G
     Ok(digits)
 }
 
-/// So many new inputs of the circuit, behind the gates that were there. After want of memory the
+/// So many new inputs of the circuit, after the gates that were there. Where memory runs out, the
 /// circuit is as before.
 pub fn inputs(alloc: Global, circuit: &mut Circuit, width: u32) -> Result<Vec<GateId>, NoMemory>
     ensures made { IfOk result (λ r. AreFresh circuit.old circuit.new width r.items) }

@@ -99,7 +99,7 @@ fn on_numbers(
 }
 
 /// An operation on two values, read modulo 2^width (LLVM Language Reference, "Binary Operations",
-/// "Bitwise Binary Operations"). It fails for want of memory alone, and the terms that were there
+/// "Bitwise Binary Operations"). The one error is out of memory, and the terms that were there
 /// stay.
 pub fn binary(
     terms: &mut Terms,

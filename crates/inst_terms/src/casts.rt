@@ -205,8 +205,8 @@ fn on_number(
     }
 }
 
-/// The value, read modulo 2^from, at the width `to`; the widths need not go together. It fails for
-/// want of memory alone, and the terms that were there stay.
+/// The value, read modulo 2^from, at the width `to`; the widths need not go together. The one
+/// error is out of memory, and the terms that were there stay.
 pub fn cast(
     terms: &mut Terms,
     cast: Cast,

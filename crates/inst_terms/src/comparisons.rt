@@ -117,7 +117,7 @@ fn truth_value(terms: &mut Terms, poison: TermId, test: TermId) -> Result<SymNum
 }
 
 /// A comparison of two values, read modulo 2^width: 1 or 0, and poison where an operand is, or where
-/// `samesign` forbids it. It fails for want of memory alone, and the terms that were there stay.
+/// `samesign` forbids it. The one error is out of memory, and the terms that were there stay.
 pub fn compare(
     terms: &mut Terms,
     predicate: Predicate,

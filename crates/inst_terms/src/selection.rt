@@ -10,8 +10,8 @@ use mem_terms::{SymNumber, SymValue, either, pick_value};
 use support::NoMemory;
 use term_rules::extract;
 
-/// The value of either kind that the condition's lowest digit chooses, and poison where the condition
-/// is; the other value has no effect. It fails for want of memory alone, and the terms that were there
+/// The value of either kind that the condition's lowest bit chooses, and poison where the condition
+/// is; the other value has no effect. The one error is out of memory, and the terms that were there
 /// stay.
 pub fn select(
     terms: &mut Terms,

@@ -56,7 +56,7 @@ impl Names {
         self.table.get_index_of(name)
     }
 
-    /// The number of a name, which joins the table where it isn't there yet. After want of memory
+    /// The number of a name, which joins the table where it isn't there yet. Where memory runs out,
     /// the table is as before.
     pub fn number(&mut self, name: Name) -> Result<usize, NoMemory>
         ensures names { IfOk result (λ number. self.new ≡ with_name self.old name) }

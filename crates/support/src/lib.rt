@@ -2,7 +2,7 @@
 //!
 //! [`Sequence`] is a `Vec` that contracts see as a list, so that two values with the same items are
 //! equal; each `Vec` field of a type that a definition compares is one. [`NoMemory`] is the one
-//! answer of a call that could not grow. It promises that `?` carries want of memory through all
+//! answer of a call that could not grow. It promises that `?` carries out of memory through all
 //! crates. It stands on `std` alone, and every other crate may stand on it.
 #![tactic(auto)]
 

@@ -95,7 +95,7 @@ impl<T> Sequence<T> {
         self.items.clear();
     }
 
-    /// Puts an item behind the others. After want of memory they are as before.
+    /// Puts an item after the others. Where memory runs out, they are as before.
     pub fn push(&mut self, item: T) -> Result<(), NoMemory>
     where
         T: Drop,

@@ -107,7 +107,7 @@ fn copies_for(
 /// in text order each time. A jump to a block that stands later keeps the count; one to the same or
 /// an earlier block leads to the next count, and from the last one it is a jump too many. So each
 /// edge leads to a later copy, and a run through the copies, each once and in order, is the run of
-/// the function. It fails for want of memory alone, so where there are more copies than a `usize`
+/// the function. The one error is out of memory, so where there are more copies than a `usize`
 /// can number.
 pub fn layers(alloc: Global, f: &Function, turns: u64) -> Result<Layered, NoMemory>
     ensures turns { IfOk result (λ layered. layered.turns ≡ turns) }
