@@ -49,18 +49,16 @@ fn defines_among_items(rt: HostRuntime) -> Result<(), Fail> {
         "target datalayout = \"e-p:064-i64:64\"",
         "source_filename = \"a\nb\" define",
     ] {
-        expect(
-            cut(alloc, &lex(alloc, text.as_bytes())?)?.len() == 0,
-            "defines among items",
-        )?;
+        assert_eq!(rt; cut(alloc, &lex(alloc, text.as_bytes())?)?.len(), 0);
     }
     let text =
         "define i8 @f() {}\n@g = global [1 x i8]\n$c = comdat any\ndefine i8 @h(i8 (i8)* %a) #0 { x }";
     let defines = cut(alloc, &lex(alloc, text.as_bytes())?)?;
-    expect(defines.len() == 2, "defines among items")?;
+    assert_eq!(rt; defines.len(), 2);
     let (f, h) = (defines.get(0), defines.get(1));
-    expect(f.first == 0 && f.last == 6, "defines among items")?;
-    expect(h.first == 19 && h.last == 33, "defines among items")
+    assert!(rt; f.first == 0 && f.last == 6);
+    assert!(rt; h.first == 19 && h.last == 33);
+    Ok(())
 }
 
 /// The name of a text's one token: `#` and a number, or `%` and other bytes; none without a name.

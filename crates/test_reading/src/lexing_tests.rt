@@ -115,32 +115,14 @@ fn the_table_has_what_the_lexer_gives(rt: HostRuntime) -> Result<(), Fail> {
     let table = lex(rt.alloc(), text)?;
     let tokens = tokens_of(rt.alloc(), text)?;
     let lines = [2, 2, 2, 3, 5];
-    expect(
-        table.len() == lines.len(),
-        "the table has what the lexer gives",
-    )?;
-    expect(
-        tokens.len() == lines.len(),
-        "the table has what the lexer gives",
-    )?;
+    assert_eq!(rt; table.len(), lines.len());
+    assert_eq!(rt; tokens.len(), lines.len());
     for (index, line) in lines.iter().enumerate() {
         let token = &tokens[index];
-        expect(
-            table.kind(index) == token.kind(),
-            "the table has what the lexer gives",
-        )?;
-        expect(
-            table.text(index) == token.text(),
-            "the table has what the lexer gives",
-        )?;
-        expect(
-            table.line(index) == token.place().line,
-            "the table has what the lexer gives",
-        )?;
-        expect(
-            table.line(index) == *line,
-            "the table has what the lexer gives",
-        )?;
+        assert_eq!(rt; table.kind(index), token.kind(), "at {index}");
+        assert!(rt; table.text(index) == token.text(), "at {index}");
+        assert_eq!(rt; table.line(index), token.place().line, "at {index}");
+        assert_eq!(rt; table.line(index), *line, "at {index}");
     }
     Ok(())
 }
@@ -152,19 +134,19 @@ fn parts_of_the_tokens(rt: HostRuntime) -> Result<(), Fail> {
     let text = b"a %b\n@c ; d\n 5 \"e\" ( f:";
     let tokens = tokens_of(alloc, text)?;
     let table = lex(alloc, text)?;
-    expect(table.len() == 7, "parts of the tokens")?;
+    assert_eq!(rt; table.len(), 7);
     let mut lexer = Lexer::new(text);
     let front = lexer.take(alloc, 2)?;
     lexer.skip(3);
     let back = lexer.take(alloc, 2)?;
-    expect(lexer.next()?.is_none(), "parts of the tokens")?;
+    assert!(rt; lexer.next()?.is_none());
     for (part, first) in [(front, 0), (back, 5)] {
         for (index, token) in part.as_slice().iter().enumerate() {
             let same = tokens.get(first + index);
-            expect(
+            assert!(rt;
                 same.is_some_and(|other| other.text() == token.text() && other.at() == token.at()),
-                "parts of the tokens",
-            )?;
+                "{index} after {first}"
+            );
         }
     }
     Ok(())
