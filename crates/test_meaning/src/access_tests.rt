@@ -55,27 +55,12 @@ fn an_alloca_is_a_block_of_poison(rt: HostRuntime) -> Result<(), Fail> {
         offset: 5,
     });
     let mut memory = memory_of(rt.alloc(), BLOCKS)?;
-    expect(
-        load(&memory, last, byte, 1) == Loaded::Ub,
-        "an alloca is a block of poison",
-    )?;
+    assert!(rt; load(&memory, last, byte, 1) == Loaded::Ub);
     alloca(rt.alloc(), &mut memory, name, 5, 4)?;
-    expect(
-        load(&memory, last, byte, 4) == Loaded::Done(Value::Poison),
-        "an alloca is a block of poison",
-    )?;
-    expect(
-        load(&memory, end, byte, 1) == Loaded::Ub,
-        "an alloca is a block of poison",
-    )?;
-    expect(
-        load(&memory, last, byte, 8) == Loaded::Ub,
-        "an alloca is a block of poison",
-    )?;
-    expect(
-        store(&mut memory, Value::Num(9), byte, last, 4) == Stored::Done,
-        "an alloca is a block of poison",
-    )?;
+    assert!(rt; load(&memory, last, byte, 4) == Loaded::Done(Value::Poison));
+    assert!(rt; load(&memory, end, byte, 1) == Loaded::Ub);
+    assert!(rt; load(&memory, last, byte, 8) == Loaded::Ub);
+    assert!(rt; store(&mut memory, Value::Num(9), byte, last, 4) == Stored::Done);
     expect(
         load(&memory, last, byte, 1) == Loaded::Done(Value::Num(9)),
         "an alloca is a block of poison",

@@ -103,60 +103,54 @@ fn bytes_come_before_sizes_and_sizes_before_arguments(rt: HostRuntime) -> Result
     let alloc = rt.alloc();
     let shape = one_of_each(alloc)?;
     let most = u64::MAX;
-    expect(
+    assert!(rt;
         is_followed_by(
             alloc,
             &shape,
             &[0, 0, 0, 0, 0, 0, 0, 0, 1],
             Some(&[0, 0, 1, 0, 0, 0, 0, 0, 0]),
-        )?,
-        "bytes come before sizes and sizes before arguments",
-    )?;
-    expect(
+        )?
+    );
+    assert!(rt;
         is_followed_by(
             alloc,
             &shape,
             &[0, 0, 1, 0, 255, 0, 0, 0, 1],
             Some(&[0, 0, 1, 1, 0, 0, 0, 0, 0]),
-        )?,
-        "bytes come before sizes and sizes before arguments",
-    )?;
-    expect(
+        )?
+    );
+    assert!(rt;
         is_followed_by(
             alloc,
             &shape,
             &[0, 0, 1, 1, 0, 0, 5, 6, 1],
             Some(&[0, 0, 1, 1, 0, 0, 5, 7, 0]),
-        )?,
-        "bytes come before sizes and sizes before arguments",
-    )?;
-    expect(
+        )?
+    );
+    assert!(rt;
         is_followed_by(
             alloc,
             &shape,
             &[0, 0, 1, 1, 0, 0, most, 7, 1],
             Some(&[0, 0, 1, 1, 0, 1, 0, 0, 0]),
-        )?,
-        "bytes come before sizes and sizes before arguments",
-    )?;
-    expect(
+        )?
+    );
+    assert!(rt;
         is_followed_by(
             alloc,
             &shape,
             &[0, 0, 1, 1, 0, 1, most, 7, 1],
             Some(&[0, 0, 1, 2, 0, 0, 0, 0, 0]),
-        )?,
-        "bytes come before sizes and sizes before arguments",
-    )?;
-    expect(
+        )?
+    );
+    assert!(rt;
         is_followed_by(
             alloc,
             &shape,
             &[0, 1, 1, 2, 0, 0, 0, 0, 1],
             Some(&[1, 0, 0, 0, 0, 0, 0, 0, 0]),
-        )?,
-        "bytes come before sizes and sizes before arguments",
-    )?;
+        )?
+    );
     expect(
         is_followed_by(alloc, &shape, &[1, 0, 1, 2, 0, 0, 0, 0, 1], None)?,
         "bytes come before sizes and sizes before arguments",
@@ -195,10 +189,7 @@ fn a_walk_meets_each_point_of_a_shape(rt: HostRuntime) -> Result<(), Fail> {
     let alloc = rt.alloc();
     let shape = without_bytes(alloc)?;
     let mut point = point_of(alloc, &[0, 0, 0, 0, 0, 0, 0], &shape)?;
-    expect(
-        points_from(&mut point, &shape) == Some(3 * 3 * 2 * 2),
-        "a walk meets each point of a shape",
-    )?;
+    assert!(rt; points_from(&mut point, &shape) == Some(3 * 3 * 2 * 2));
     expect(
         !next(&mut point, &shape),
         "a walk meets each point of a shape",
@@ -225,14 +216,8 @@ fn one_pointer(alloc: Global) -> Result<Shape, NoMemory>
 fn offsets_move_before_blocks(rt: HostRuntime) -> Result<(), Fail> {
     let alloc = rt.alloc();
     let shape = one_pointer(alloc)?;
-    expect(
-        is_followed_by(alloc, &shape, &[0, 0, u64::MAX, 0], Some(&[0, 1, 0, 0]))?,
-        "offsets move before blocks",
-    )?;
-    expect(
-        is_followed_by(alloc, &shape, &[0, 1, u64::MAX, 0], Some(&[1, 0, 0, 0]))?,
-        "offsets move before blocks",
-    )?;
+    assert!(rt; is_followed_by(alloc, &shape, &[0, 0, u64::MAX, 0], Some(&[0, 1, 0, 0]))?);
+    assert!(rt; is_followed_by(alloc, &shape, &[0, 1, u64::MAX, 0], Some(&[1, 0, 0, 0]))?);
     expect(
         is_followed_by(alloc, &shape, &[1, 0, 0, 0], None)?,
         "offsets move before blocks",

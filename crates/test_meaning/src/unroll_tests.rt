@@ -89,10 +89,7 @@ fn each_backward_jump_is_another_layer(rt: HostRuntime) -> Result<(), Fail> {
             "0.0: 1\n0.1: 2 3\n1.0: 3\n1.1: 4 5\n2.0: 5\n2.1: beyond beyond\n",
         ),
     ] {
-        expect(
-            copies_text(rt.alloc(), &f, turns)?.as_str() == copies,
-            "each backward jump is another layer",
-        )?;
+        assert!(rt; copies_text(rt.alloc(), &f, turns)?.as_str() == copies);
     }
     Ok(())
 }
@@ -127,9 +124,9 @@ fn too_many_copies_are_out_of_memory(rt: HostRuntime) -> Result<(), Fail> {
     let alloc = rt.alloc();
     let f = two_blocks(alloc)?;
     let many = layers(alloc, &f, 9223372036854775807);
-    expect(many.is_err(), "too many copies are out of memory")?;
+    assert!(rt; many.is_err());
     let most = layers(alloc, &f, u64::MAX);
-    expect(most.is_err(), "too many copies are out of memory")?;
+    assert!(rt; most.is_err());
     let empty = function(alloc, Vec::new(alloc));
     let none = layers(alloc, &empty, u64::MAX)?;
     expect(none.copies.is_empty(), "too many copies are out of memory")

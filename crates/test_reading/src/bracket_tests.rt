@@ -37,7 +37,7 @@ fn the_innermost_is_closed(rt: HostRuntime) -> Result<(), Fail> {
     for (place, fits) in [(0, true), (1, false)] {
         let mut brackets = OpenBrackets::new(rt.alloc(), Bracket::Curly)?;
         if let Some(token) = tokens.as_slice().get(place) {
-            expect(brackets.pass(token)? == fits, "the innermost is closed")?;
+            assert!(rt; brackets.pass(token)? == fits);
         }
     }
     Ok(())

@@ -22,16 +22,10 @@ fn a_terminator_has_its_targets(rt: HostRuntime) -> Result<(), Fail> {
     let f = function_of(rt.alloc(), FOUR_BLOCKS)?;
     if let [l, m, n, c] = f.blocks.as_slice() {
         let found = targets_of(rt.alloc(), &l.terminator)?;
-        expect(
-            found.as_slice() == [n.label, m.label, n.label].as_slice(),
-            "a terminator has its targets",
-        )?;
-        expect(
-            targets_of(rt.alloc(), &c.terminator)?.is_empty(),
-            "a terminator has its targets",
-        )?;
+        assert!(rt; found.as_slice() == [n.label, m.label, n.label].as_slice());
+        assert!(rt; targets_of(rt.alloc(), &c.terminator)?.is_empty());
     } else {
-        expect(false, "a terminator has its targets")?;
+        assert!(rt; false);
     }
     Ok(())
 }
@@ -42,15 +36,12 @@ fn blocks_have_successors(rt: HostRuntime) -> Result<(), Fail> {
     let f = function_of(rt.alloc(), FOUR_BLOCKS)?;
     let graph = successors(rt.alloc(), &f)?;
     if let [l, m, n, c] = graph.as_slice() {
-        expect(
-            l.as_slice() == [2, 1, 2].as_slice(),
-            "blocks have successors",
-        )?;
-        expect(m.as_slice() == [0].as_slice(), "blocks have successors")?;
-        expect(n.as_slice() == [4].as_slice(), "blocks have successors")?;
-        expect(c.is_empty(), "blocks have successors")?;
+        assert!(rt; l.as_slice() == [2, 1, 2].as_slice());
+        assert!(rt; m.as_slice() == [0].as_slice());
+        assert!(rt; n.as_slice() == [4].as_slice());
+        assert!(rt; c.is_empty());
     } else {
-        expect(false, "blocks have successors")?;
+        assert!(rt; false);
     }
     Ok(())
 }
@@ -60,7 +51,7 @@ fn a_label_has_a_block(rt: HostRuntime) -> Result<(), Fail> {
     let f = function_of(rt.alloc(), FOUR_BLOCKS)?;
     let index = BlockIndex::of(rt.alloc(), &f)?;
     for (place, block) in f.blocks.as_slice().iter().enumerate() {
-        expect(index.place(&f, block.label) == place, "a label has a block")?;
+        assert!(rt; index.place(&f, block.label) == place);
     }
     expect(index.place(&f, f.names.len()) == 4, "a label has a block")
 }
@@ -85,7 +76,7 @@ fn the_first_definition_is_found(rt: HostRuntime) -> Result<(), Fail> {
             name: 0,
         },
     ];
-    expect(are_numbered(&sites, 3), "the first definition is found")?;
+    assert!(rt; are_numbered(&sites, 3));
     let found = first_definitions(rt.alloc(), &sites, 3)?;
     expect(
         found.as_slice() == [Some(1), Some(2), None].as_slice(),

@@ -25,8 +25,8 @@ fn checked(alloc: Global, f: &Function) -> Result<bool, CheckFault> {
 fn a_function_is_read_step_by_step(rt: HostRuntime) -> Result<(), Fail> {
     let text = "define i8 @f(i8 %x) {\n  %r = add i8 %x, 1\n  ret i8 %r\n}";
     let f = function_of(rt.alloc(), text)?;
-    expect(f.names.len() == 3, "a function is read step by step")?;
-    expect(f.blocks.len() == 1, "a function is read step by step")?;
+    assert!(rt; f.names.len() == 3);
+    assert!(rt; f.blocks.len() == 1);
     expect(
         checked(rt.alloc(), &f) == Ok(true),
         "a function is read step by step",
@@ -57,10 +57,7 @@ fn refused(reason: Reason, column: u64) -> Result<bool, CheckFault> {
 fn edges_are_checked_whatever_the_types_are(rt: HostRuntime) -> Result<(), Fail> {
     let text = "define i8 @f(i1 %c) { a: %x = phi i8 [ 1, %a ]  ret i8 %c }";
     let f = function_of(rt.alloc(), text)?;
-    expect(
-        edges_checked(rt.alloc(), &f) == refused(Reason::PhiEdges, 26),
-        "edges are checked whatever the types are",
-    )?;
+    assert!(rt; edges_checked(rt.alloc(), &f) == refused(Reason::PhiEdges, 26));
     expect(
         checked(rt.alloc(), &f) == refused(Reason::TypeClash, 56),
         "edges are checked whatever the types are",

@@ -104,7 +104,7 @@ fn places_without_a_token(rt: HostRuntime) -> Result<(), Fail> {
         let fault = lex(alloc, text.as_bytes()).err();
         expect(fault == Some(LexFault::NoToken { at, place }), text)?;
     }
-    expect(lex(alloc, b"a\x00").is_err(), "places without a token")?;
+    assert!(rt; lex(alloc, b"a\x00").is_err());
     expect(lex(alloc, b"\xc3").is_err(), "places without a token")
 }
 

@@ -45,24 +45,15 @@ fn with_inst(alloc: Global, inst: Inst) -> Result<Function, Fail> {
 /// An integer takes whole bytes, a pointer eight; an index counts what its array holds.
 #[test]
 fn types_have_sizes(rt: HostRuntime) -> Result<(), Fail> {
-    expect(
-        type_size(IrType::Int(Width::of(1))) == 1,
-        "types have sizes",
-    )?;
-    expect(
-        type_size(IrType::Int(Width::of(9))) == 2,
-        "types have sizes",
-    )?;
-    expect(
-        type_size(IrType::Int(Width::of(64))) == 8,
-        "types have sizes",
-    )?;
-    expect(type_size(IrType::Ptr) == 8, "types have sizes")?;
+    assert!(rt; type_size(IrType::Int(Width::of(1))) == 1);
+    assert!(rt; type_size(IrType::Int(Width::of(9))) == 2);
+    assert!(rt; type_size(IrType::Int(Width::of(64))) == 8);
+    assert!(rt; type_size(IrType::Ptr) == 8);
     let of_type = arrays(rt.alloc(), &[3, 4], IrType::Int(Width::of(16)))?;
-    expect(indexed_size(&of_type, 0) == 24, "types have sizes")?;
-    expect(indexed_size(&of_type, 1) == 8, "types have sizes")?;
-    expect(indexed_size(&of_type, 2) == 2, "types have sizes")?;
-    expect(indexed_size(&of_type, 3) == 2, "types have sizes")?;
+    assert!(rt; indexed_size(&of_type, 0) == 24);
+    assert!(rt; indexed_size(&of_type, 1) == 8);
+    assert!(rt; indexed_size(&of_type, 2) == 2);
+    assert!(rt; indexed_size(&of_type, 3) == 2);
     let large = arrays(rt.alloc(), &[1 << 40, 1 << 40], byte())?;
     expect(indexed_size(&large, 0) == 0, "types have sizes")
 }
@@ -92,7 +83,7 @@ fn allocas_have_limits(rt: HostRuntime) -> Result<(), Fail> {
             align: *align,
         };
         let f = with_inst(rt.alloc(), inst)?;
-        expect(is_within_limits(&f) == *fits, "allocas have limits")?;
+        assert!(rt; is_within_limits(&f) == *fits);
     }
     Ok(())
 }
@@ -132,7 +123,7 @@ fn address_fits(alloc: Global, lengths: &[u64]) -> Result<bool, Fail> {
 fn addresses_have_limits(rt: HostRuntime) -> Result<(), Fail> {
     for (lengths, fits) in ADDRESSES {
         let found = address_fits(rt.alloc(), lengths)?;
-        expect(found == *fits, "addresses have limits")?;
+        assert!(rt; found == *fits);
     }
     Ok(())
 }
@@ -231,7 +222,7 @@ fn numbers_and_alignments_are_filled_in(rt: HostRuntime) -> Result<(), Fail> {
     let [parameter] = f.parameters.as_slice() else {
         return Err(Fail::from("other parameters"));
     };
-    expect(parameter.non_null, "numbers and alignments are filled in")?;
+    assert!(rt; parameter.non_null);
     let [_, block] = f.blocks.as_slice() else {
         return Err(Fail::from("other blocks"));
     };
@@ -254,15 +245,12 @@ fn numbers_and_alignments_are_filled_in(rt: HostRuntime) -> Result<(), Fail> {
     else {
         return Err(Fail::from("other instructions"));
     };
-    expect(*number == 3, "numbers and alignments are filled in")?;
-    expect(
-        of_type.lengths.as_slice() == [3, 2].as_slice(),
-        "numbers and alignments are filled in",
-    )?;
-    expect(*align == 2, "numbers and alignments are filled in")?;
-    expect(*loaded == 8, "numbers and alignments are filled in")?;
-    expect(*stored == 8, "numbers and alignments are filled in")?;
-    expect(*inbounds && !*nuw, "numbers and alignments are filled in")?;
+    assert!(rt; *number == 3);
+    assert!(rt; of_type.lengths.as_slice() == [3, 2].as_slice());
+    assert!(rt; *align == 2);
+    assert!(rt; *loaded == 8);
+    assert!(rt; *stored == 8);
+    assert!(rt; *inbounds && !*nuw);
     let [index] = indices.as_slice() else {
         return Err(Fail::from("other indices"));
     };

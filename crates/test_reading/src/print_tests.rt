@@ -102,6 +102,6 @@ fn a_pair_is_made(rt: HostRuntime) -> Result<(), Fail> {
     let (source, target) = make(rt.alloc(), 1, 2, 2)?;
     let source = print(rt.alloc(), &source)?;
     let target = print(rt.alloc(), &target)?;
-    expect(source.as_slice() == SOURCE.as_bytes(), "a pair is made")?;
+    assert!(rt; source.as_slice() == SOURCE.as_bytes());
     expect(target.as_slice() == TARGET.as_bytes(), "a pair is made")
 }

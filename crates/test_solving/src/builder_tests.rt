@@ -4,7 +4,6 @@ ghost use Rattle.std.specs.Prelude.{◌≡◌, ◌<◌, length};
 ghost use Rattle.bv_terms.specs.Tree.{width_of};
 ghost use Rattle.bv_terms.specs.Trees.{tree_in};
 
-use crate::expecting::expect;
 use bv_terms::{BinaryOp, TermId, Terms};
 use std::test::Fail;
 use support::NoMemory;
@@ -69,10 +68,7 @@ fn count_with(terms: &mut Terms, number: usize) -> Result<usize, NoMemory> {
 fn operations_are_stored(rt: HostRuntime) -> Result<(), Fail> {
     for number in 0..20usize {
         let mut terms = Terms::new(rt.alloc());
-        expect(
-            count_with(&mut terms, number)? == 4,
-            "operations are stored",
-        )?;
+        assert!(rt; count_with(&mut terms, number)? == 4);
     }
     Ok(())
 }

@@ -1,7 +1,6 @@
 //! Small sets of clauses that look random, against all assignments.
 
 use crate::clauses::{clause, over};
-use crate::expecting::expect;
 use crate::restart_tests::answer;
 use clause_lits::{Clause, Cnf, holds};
 use clause_log::check_log;
@@ -96,10 +95,7 @@ fn drawn_clauses_have_least_models(rt: HostRuntime) -> Result<(), Fail> {
     let mut state = 2;
     for _ in 0..300 {
         let question = drawn_cnf(rt.alloc(), &mut state)?;
-        expect(
-            are_right(&rt, rt.alloc(), &question)?,
-            "drawn clauses have least models",
-        )?;
+        assert!(rt; are_right(&rt, rt.alloc(), &question)?);
     }
     Ok(())
 }

@@ -35,13 +35,12 @@ fn terms_are_written(rt: HostRuntime) -> Result<(), Fail> {
     written(alloc, &mut terms, "x5+pyp<")?;
     match fold(alloc, &terms, &mut Print { alloc }) {
         Ok(texts) => match texts.as_slice() {
-            [.., last] => expect(
-                last.as_str() == "(ult (extract 1 2 (add v0:3 5:3)) (extract 1 2 v1:3))",
-                "terms are written",
-            )?,
-            [] => expect(false, "terms are written")?,
+            [.., last] => assert!(rt;
+                last.as_str() == "(ult (extract 1 2 (add v0:3 5:3)) (extract 1 2 v1:3))"
+            ),
+            [] => assert!(rt; false),
         },
-        Err(_) => expect(false, "terms are written")?,
+        Err(_) => assert!(rt; false),
     }
     Ok(())
 }

@@ -82,9 +82,9 @@ fn is_model(alloc: Global, cnf: &Cnf, code: u32) -> Result<bool, NoMemory> {
 #[test]
 fn the_front_of_an_and_is_1_1(rt: HostRuntime) -> Result<(), Fail> {
     let cnf = conjunction(rt.alloc(), &mut Circuit::new(rt.alloc()))?;
-    expect(cnf.front == 2, "the front of an and is 1 1")?;
-    expect(cnf.variables == 3, "the front of an and is 1 1")?;
-    expect(cnf.clauses.len() == 4, "the front of an and is 1 1")?;
+    assert!(rt; cnf.front == 2);
+    assert!(rt; cnf.variables == 3);
+    assert!(rt; cnf.clauses.len() == 4);
     let mut models: u32 = 0;
     for code in 0..8u32 {
         if is_model(rt.alloc(), &cnf, code)? {

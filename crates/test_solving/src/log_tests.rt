@@ -17,7 +17,7 @@ fn resolved(alloc: Global, left: &[i64], right: &[i64]) -> Result<Option<Clause>
 #[test]
 fn two_clauses_resolve(rt: HostRuntime) -> Result<(), Fail> {
     let found = resolved(rt.alloc(), &[1, 2], &[-1, 3])?;
-    expect(is_found(rt.alloc(), found, &[2, 3])?, "two clauses resolve")?;
+    assert!(rt; is_found(rt.alloc(), found, &[2, 3])?);
     expect(
         resolved(rt.alloc(), &[1, 2], &[1, 2])?.is_none(),
         "two clauses resolve",
@@ -35,7 +35,7 @@ fn end_of(alloc: Global, chain: &[u64]) -> Result<Option<Clause>, NoMemory> {
 #[test]
 fn a_chain_resolves(rt: HostRuntime) -> Result<(), Fail> {
     let found = end_of(rt.alloc(), &[1, 2, 3])?;
-    expect(is_found(rt.alloc(), found, &[3, 4])?, "a chain resolves")?;
+    assert!(rt; is_found(rt.alloc(), found, &[3, 4])?);
     expect(end_of(rt.alloc(), &[2, 3])?.is_none(), "a chain resolves")
 }
 
@@ -70,14 +70,8 @@ fn is_refuted(
 /// empty log.
 #[test]
 fn a_log_is_checked(rt: HostRuntime) -> Result<(), Fail> {
-    expect(
-        is_refuted(&rt, rt.alloc(), &[1, 2])? == Some(true),
-        "a log is checked",
-    )?;
-    expect(
-        is_refuted(&rt, rt.alloc(), &[1])? == Some(false),
-        "a log is checked",
-    )?;
+    assert!(rt; is_refuted(&rt, rt.alloc(), &[1, 2])? == Some(true));
+    assert!(rt; is_refuted(&rt, rt.alloc(), &[1])? == Some(false));
     expect(
         is_refuted(&rt, rt.alloc(), &[])? == Some(false),
         "a log is checked",

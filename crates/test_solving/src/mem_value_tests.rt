@@ -125,10 +125,7 @@ fn a_value_of_the_other_kind_is_poison(rt: HostRuntime) -> Result<(), Fail> {
     ];
     let mut terms = Terms::new(rt.alloc());
     for &(value, wants) in &rows {
-        expect(
-            used(rt.alloc(), &mut terms, value)? == wants,
-            "a value of the other kind is poison",
-        )?;
+        assert!(rt; used(rt.alloc(), &mut terms, value)? == wants);
     }
     Ok(())
 }
@@ -185,14 +182,8 @@ fn a_choice_has_the_kind_of_the_chosen_value(rt: HostRuntime) -> Result<(), Fail
     let mut terms = Terms::new(rt.alloc());
     for &a in &values {
         for &b in &values {
-            expect(
-                picked_value(rt.alloc(), &mut terms, true, a, b)? == a,
-                "a choice has the kind of the chosen value",
-            )?;
-            expect(
-                picked_value(rt.alloc(), &mut terms, false, a, b)? == b,
-                "a choice has the kind of the chosen value",
-            )?;
+            assert!(rt; picked_value(rt.alloc(), &mut terms, true, a, b)? == a);
+            assert!(rt; picked_value(rt.alloc(), &mut terms, false, a, b)? == b);
         }
     }
     Ok(())
@@ -289,14 +280,8 @@ fn a_choice_is_the_chosen_byte(rt: HostRuntime) -> Result<(), Fail> {
     let mut terms = Terms::new(rt.alloc());
     for &a in &bytes {
         for &b in &bytes {
-            expect(
-                picked_byte(rt.alloc(), &mut terms, true, a, b)? == a,
-                "a choice is the chosen byte",
-            )?;
-            expect(
-                picked_byte(rt.alloc(), &mut terms, false, a, b)? == b,
-                "a choice is the chosen byte",
-            )?;
+            assert!(rt; picked_byte(rt.alloc(), &mut terms, true, a, b)? == a);
+            assert!(rt; picked_byte(rt.alloc(), &mut terms, false, a, b)? == b);
         }
     }
     Ok(())

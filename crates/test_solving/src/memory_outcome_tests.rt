@@ -6,7 +6,6 @@ ghost use Rattle.mem_terms.specs.Values.{IsSymValue};
 ghost use Rattle.mem_terms.specs.Memory.{AreSymBytes, IsAlways, IsSymBlock, IsSymByte, frame_of};
 ghost use Rattle.mem_terms.specs.Outcomes.{IsOutcome};
 
-use crate::expecting::expect;
 use crate::term_values::value_of;
 use bv_terms::Terms;
 use mem_terms::{OutcomeTerms, SymBlock, SymByte, SymValue, number, truth};
@@ -185,7 +184,7 @@ fn returned_pointers(rt: HostRuntime) -> Result<(), Fail> {
     let mut terms = Terms::new(rt.alloc());
     for (row, &(source, target, want)) in rows.iter().enumerate() {
         let found = is_covered(rt.alloc(), &mut terms, returns(source), returns(target))?;
-        expect(found == want, "returned pointers")?;
+        assert!(rt; found == want);
     }
     Ok(())
 }
@@ -234,7 +233,7 @@ fn left_blocks(rt: HostRuntime) -> Result<(), Fail> {
     let mut terms = Terms::new(rt.alloc());
     for (row, &(source, target, want)) in rows.iter().enumerate() {
         let found = is_covered(rt.alloc(), &mut terms, source, target)?;
-        expect(found == want, "left blocks")?;
+        assert!(rt; found == want);
     }
     Ok(())
 }

@@ -1,5 +1,4 @@
 use crate::clauses::pigeons;
-use crate::expecting::expect;
 use crate::solver_tests::{FOUR, is_model};
 use clause_lits::Cnf;
 use clause_log::check_log;
@@ -34,17 +33,11 @@ fn by_bits(alloc: Global, cnf: &Cnf) -> Result<Option<Answer>, NoMemory> {
 #[test]
 fn both_ways_lead_to_the_least(rt: HostRuntime) -> Result<(), Fail> {
     let clauses = pigeons(rt.alloc(), 4, 4)?;
-    expect(
-        is_model(&answer(rt.alloc(), &clauses, 0)?, &FOUR),
-        "both ways lead to the least",
-    )?;
-    expect(
-        is_model(&answer(rt.alloc(), &clauses, 100)?, &FOUR),
-        "both ways lead to the least",
-    )?;
+    assert!(rt; is_model(&answer(rt.alloc(), &clauses, 0)?, &FOUR));
+    assert!(rt; is_model(&answer(rt.alloc(), &clauses, 100)?, &FOUR));
     match by_bits(rt.alloc(), &clauses)? {
-        Some(found) => expect(is_model(&found, &FOUR), "both ways lead to the least")?,
-        None => expect(false, "both ways lead to the least")?,
+        Some(found) => assert!(rt; is_model(&found, &FOUR)),
+        None => assert!(rt; false),
     }
     Ok(())
 }
@@ -54,8 +47,8 @@ fn both_ways_lead_to_the_least(rt: HostRuntime) -> Result<(), Fail> {
 fn a_limit_is_spent(rt: HostRuntime) -> Result<(), Fail> {
     let clauses = pigeons(rt.alloc(), 6, 5)?;
     match answer(rt.alloc(), &clauses, 7)? {
-        Answer::Spent(log) => expect(log.len() == 7, "a limit is spent")?,
-        Answer::Sat(_) | Answer::Unsat(_) => expect(false, "a limit is spent")?,
+        Answer::Spent(log) => assert!(rt; log.len() == 7),
+        Answer::Sat(_) | Answer::Unsat(_) => assert!(rt; false),
     }
     Ok(())
 }
@@ -67,13 +60,10 @@ fn searches_go_on_from_earlier_ones(rt: HostRuntime) -> Result<(), Fail> {
     let clauses = pigeons(rt.alloc(), 10, 9)?;
     match answer(rt.alloc(), &clauses, 0)? {
         Answer::Unsat(log) => {
-            expect(1000 < log.len(), "searches go on from earlier ones")?;
-            expect(
-                check_log(&rt, rt.alloc(), &clauses, &log) == Ok(()),
-                "searches go on from earlier ones",
-            )?;
+            assert!(rt; 1000 < log.len());
+            assert!(rt; check_log(&rt, rt.alloc(), &clauses, &log) == Ok(()));
         }
-        Answer::Sat(_) | Answer::Spent(_) => expect(false, "searches go on from earlier ones")?,
+        Answer::Sat(_) | Answer::Spent(_) => assert!(rt; false),
     }
     Ok(())
 }

@@ -1,5 +1,4 @@
 use crate::clauses::{clause, cnf, pigeons};
-use crate::expecting::expect;
 use clause_lits::Cnf;
 use clause_log::{Step, check_log};
 use clause_search::Answer;
@@ -61,10 +60,7 @@ fn the_least_model_is_found(rt: HostRuntime) -> Result<(), Fail> {
     let clauses = cnf(rt.alloc(), 2, 2, &[&[1, 2]])?;
     for solver in SOLVERS {
         let answer = solved(rt.alloc(), solver, &clauses, 1)?;
-        expect(
-            is_model(&answer, &[false, true]),
-            "the least model is found",
-        )?;
+        assert!(rt; is_model(&answer, &[false, true]));
     }
     Ok(())
 }
@@ -75,10 +71,7 @@ fn the_empty_clause_is_refuted(rt: HostRuntime) -> Result<(), Fail> {
     let clauses = cnf(rt.alloc(), 0, 0, &[&[]])?;
     for solver in SOLVERS {
         let answer = solved(rt.alloc(), solver, &clauses, 0)?;
-        expect(
-            is_refuted_by(rt.alloc(), &answer, &[&[]])?,
-            "the empty clause is refuted",
-        )?;
+        assert!(rt; is_refuted_by(rt.alloc(), &answer, &[&[]])?);
     }
     Ok(())
 }
@@ -90,10 +83,7 @@ fn three_pigeons_in_two_holes(rt: HostRuntime) -> Result<(), Fail> {
     let clauses = pigeons(rt.alloc(), 3, 2)?;
     for solver in SOLVERS {
         let answer = solved(rt.alloc(), solver, &clauses, 1)?;
-        expect(
-            is_refuted_by(rt.alloc(), &answer, &[&[-2], &[]])?,
-            "three pigeons in two holes",
-        )?;
+        assert!(rt; is_refuted_by(rt.alloc(), &answer, &[&[-2], &[]])?);
     }
     Ok(())
 }
@@ -110,7 +100,7 @@ fn four_pigeons_in_four_holes(rt: HostRuntime) -> Result<(), Fail> {
     let clauses = pigeons(rt.alloc(), 4, 4)?;
     for solver in SOLVERS {
         let answer = solved(rt.alloc(), solver, &clauses, 0)?;
-        expect(is_model(&answer, &FOUR), "four pigeons in four holes")?;
+        assert!(rt; is_model(&answer, &FOUR));
     }
     Ok(())
 }
@@ -135,10 +125,7 @@ fn are_refuted(
 #[test]
 fn five_pigeons_in_four_holes(rt: HostRuntime) -> Result<(), Fail> {
     for solver in SOLVERS {
-        expect(
-            are_refuted(&rt, rt.alloc(), solver)?,
-            "five pigeons in four holes",
-        )?;
+        assert!(rt; are_refuted(&rt, rt.alloc(), solver)?);
     }
     Ok(())
 }

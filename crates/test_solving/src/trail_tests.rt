@@ -22,9 +22,6 @@ fn trail_of(alloc: Global, numbers: &[i64]) -> Result<Trail, NoMemory> {
 fn a_trail_gives_values(rt: HostRuntime) -> Result<(), Fail> {
     let trail = trail_of(rt.alloc(), &[3, -1])?;
     let found = values(rt.alloc(), &trail, 4)?;
-    expect(
-        found.as_slice() == [false, false, true, false].as_slice(),
-        "a trail gives values",
-    )?;
+    assert!(rt; found.as_slice() == [false, false, true, false].as_slice());
     expect(trail.len() == 2, "a trail gives values")
 }
