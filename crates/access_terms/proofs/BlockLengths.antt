@@ -39,7 +39,7 @@ size_stands old a b c most is_short size block h k1 m1 k2 t2 m3 r =
 
 -- ---- what a block admits
 
--- the offset's number of places is enough, and it and the block are aligned
+-- there are enough bytes from the offset on, and it and the block are aligned
 abbrev pub has_room : (size places end : ℕ) → (align block_align offset : ℕ) → Bool
 has_room size places end align block_align offset = nat_le end (min size places) && nat_le align block_align && nat_eq (offset % align) 0
 
@@ -59,7 +59,7 @@ admitted_room r terms b offset n align e = room_of (term_at r.v terms b.size) (l
 pub admitted_aligned : (r : Reading) (terms : List Term) (b : SymBlock) (offset n align : ℕ) → admits (Some (block_at r terms b)) offset n align ≡ true → nat_eq (offset % align) 0 ≡ true
 admitted_aligned r terms b offset n align e = aligned_of (term_at r.v terms b.size) (length b.places) (offset + n) align b.align offset (sym (admits_is r terms b offset n align) ∙ e)
 
--- ---- at one place
+-- ---- at one offset
 
 never-aligned : (e : Bool) (size places end align block_align offset : ℕ) → (nat_le align block_align && nat_eq (offset % align) 0) ≡ false → false ≡ (e && has_room size places end align block_align offset)
 never-aligned e size places end align block_align offset never = grind (arith, nat_tests)
@@ -86,7 +86,7 @@ fits_stands old a b c d f offset here end is_short fits id block place n align h
     ∙ rw (bit-later a d kad r.v here t1.within, t1.says r.v, t4.says r.v, t3.says r.v, term-later old b (keeps_trans old a b k1 k2) r.v block.size hb.size.within, m2.says r.v, admits_is r old block place n align)
     (fits-aligned (nat_eq (term_at r.v old offset) place) (term_at r.v old block.size) (length block.places) (place + n) align block.align place room aligned)
 
--- ---- at each of several places
+-- ---- at each of several offsets
 
 more-places : (o p : ℕ) (test : ℕ → Bool) → (nat_lt o p && test o || nat_eq o p && test p) ≡ (nat_lt o (p + 1) && test o)
 more-places o p test =
@@ -95,7 +95,7 @@ more-places o p test =
       | inr other ↦ let same : nat_lt o (p + 1) ≡ nat_lt o p = grind (arith, nat_tests) in rw (ne_eqb o p other, same) (or-false (nat_lt o p && test o))
     ]
 
--- offsets up to a place, and that place
+-- offsets up to one, and that one
 pub admitted_more : (old a b c : List Term) (k : Keeps old a) (admitted here either : TermId) (block : SymBlock) (offset : TermId) (place n align : ℕ) → IsSymBlock old block → offset.index < length old → IsTerm a 1 admitted → Keeps a b
     → Tests c either (λ v. bit_at v b admitted || bit_at v b here) → (r : Reading)
     → bit_at r.v a admitted ≡ (nat_lt (term_at r.v old offset) place && admits (Some (block_at r old block)) (term_at r.v old offset) n align)

@@ -1,4 +1,4 @@
--- Bytes that are put in the place of others, one by one and where the offset is one of several.
+-- Bytes that replace others, one by one and where the offset is one of several.
 use Rattle.std.proofs.Common.{ℕ, zero, suc, ◌≡◌, ◌<◌, ◌≤◌, ◌+◌, ◌-◌, ◌%◌, Bool, true, false, cond, ◌&&◌, nat_eq, nat_lt, nat_le, List, [], ◌∷◌, ◌++◌, length, map, take, drop, get_or, refl, ap, sym, ◌∙◌, inl, inr, arith}
 use Rattle.std.specs.Prelude.{slice_set}
 use Rattle.std.proofs.Math.ListN.{set}
@@ -59,7 +59,7 @@ pub put_all : (c : Bool) (places bytes now : List Byte) (from i : ℕ) → i ≡
 put_all c places bytes now from i all so =
     so ∙ ap (λ (ys : List Byte). cond c ys places) (paste_all places from bytes i all ∙ ap (λ n. take from places ++ (bytes ++ drop (from + n) places)) all)
 
--- ---- at one place
+-- ---- at one offset
 
 pub each-part : {A : Type 0} (P : A → Type 0) (n m : ℕ) (xs : List A) → Each P xs → Each P (take n (drop m xs))
 each-part P zero m xs h = tt
@@ -88,7 +88,7 @@ pub chosen_put : (old a b : List Term) (k : Keeps old a) (bytes places now : Lis
     → places_at r b now ≡ cond d (written (places_at r old bytes) place (places_at r old places)) (places_at r old places)
 chosen_put old a b k bytes places now hb hp r place c d same so = rw (← same, ← places-later old a k r bytes hb, ← places-later old a k r places hp) so
 
--- bytes that are put over as many others
+-- bytes that are put over the same number of others
 pub taken : (old a b : List Term) (k : Keeps old a) (places bytes now : List SymByte) → AreSymBytes old places → AreSymBytes old bytes → (r : Reading) (place n : ℕ) (c d : Bool) → c ≡ d
     → n ≡ length bytes → place + length bytes ≤ length places
     → places_at r b now ≡ cond c (written (places_at r a (take n (drop place places))) 0 (places_at r a bytes)) (places_at r a bytes)
@@ -104,7 +104,7 @@ taken old a b k places bytes now hp hb r place n c d same count room so =
     let whole = written_whole (places_at r a part) (places_at r a bytes) (omega (arith, short, rest, long, other, count, room)) in
     rw (← same, ← some, ← places-later old a k r bytes hb) (so ∙ ap (λ (ys : List Byte). cond c ys (places_at r a bytes)) whole)
 
--- ---- at each of several places
+-- ---- at each of several offsets
 
 taken-next : (o p : ℕ) (ys zs now : List Byte) → o < p + 1 → (o ≡ p → ys ≡ zs) → (o < p → now ≡ zs) → cond (nat_eq o p) ys now ≡ zs
 taken-next o p ys zs now below here before =
@@ -138,7 +138,7 @@ put-next true o p align bytes places now aligned so =
           rw (ne_eqb o p other, same) so
     ]
 
--- the places after one more that the offset may be
+-- the bytes after one more that the offset may be
 pub put_next : (old a b : List Term) (k : Keeps old a) (c offset : TermId) (bytes places now next : List SymByte) (place align : ℕ) → IsTerm old 1 c → offset.index < length old → AreSymBytes old bytes → nat_eq (place % align) 0 ≡ true → (r : Reading)
     → places_at r a now ≡ cond (bit_at r.v old c && (nat_lt (term_at r.v old offset) place && nat_eq (term_at r.v old offset % align) 0)) (written (places_at r old bytes) (term_at r.v old offset) (places_at r old places)) (places_at r old places)
     → places_at r b next ≡ cond (bit_at r.v a c && nat_eq (term_at r.v a offset) place) (written (places_at r a bytes) place (places_at r a now)) (places_at r a now)
@@ -155,7 +155,7 @@ aligned-next o p align unaligned =
       | inr other ↦ let same : nat_lt o p ≡ nat_lt o (p + 1) = grind (arith, nat_tests) in rw same refl
     ]
 
--- a place that isn't aligned is passed over
+-- an offset that isn't aligned is passed over
 pub put_skip : (c : Bool) (o p align : ℕ) (now others places : List Byte) → nat_eq (p % align) 0 ≡ false
     → now ≡ cond (c && (nat_lt o p && nat_eq (o % align) 0)) others places → now ≡ cond (c && (nat_lt o (p + 1) && nat_eq (o % align) 0)) others places
 put_skip c o p align now others places unaligned so = rw (← aligned-next o p align unaligned) so

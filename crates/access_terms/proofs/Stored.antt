@@ -77,7 +77,7 @@ each-take P xs zero h = tt
 each-take P [] (suc i) h = tt
 each-take P (x ∷ xs) (suc i) h = (h.0, each-take P xs i h.1)
 
--- an item in another's place with what the other keeps
+-- an item that replaces another and keeps what it keeps
 pub map-set-same : {A B : Type 0} (f : A → B) (xs : List A) (i : ℕ) (x y : A) → y ≡ get_or xs i y → f x ≡ f y → map f (slice_set xs i x) ≡ map f xs
 map-set-same f [] i x y at same = refl
 map-set-same f (z ∷ zs) zero x y at same = ap (λ w. w ∷ map f zs) (same ∙ ap f at)

@@ -41,7 +41,7 @@ times-of x d s t e = rw e (omega arith)
 times : (t d s : ℕ) → d ≤ t → (t - d) * s + d * s ≡ s * t
 times t d s le = times-of (t - d) d s t (omega (arith, le))
 
--- an extended number times the scale is the exact product and so many wholes
+-- an extended number times the scale is the exact product and a number of wholes
 record Extended (n width number scale : ℕ) : Type 0 where
   pub wholes : ℕ
   pub is : (signed_of n number *ℤ pos scale) +ℤ pos (wholes * 2 ^ width) ≡ pos (extended_signed n width number * scale)

@@ -1,4 +1,4 @@
--- What the terms of a load, a store and an alloca stand for under an assignment of the variables.
+-- What the terms of a load, a store and an alloca denote under an assignment of the variables.
 use Rattle.std.specs.Prelude.{◌≡◌, ℕ, ◌&&◌, true, cond, List, length, take, drop}
 use Rattle.byte_block.specs.declared.value.Byte.{Byte}
 use Rattle.memory_access.specs.declared.access_types.Loaded.{Loaded}
@@ -16,7 +16,7 @@ use Rattle.access_terms.specs.declared.accesses.SymLoaded.{SymLoaded}
 
 -- ---- one block
 
--- the block is there, and the number names it
+-- the block exists, and the number names it
 abbrev pub names_block : Reading → List Term → TermId → SymBlock → Type 0
 names_block r terms block b = (bit_at r.v terms b.exists && names (r.name (term_at r.v terms block)) (block_at r terms b)) ≡ true
 

@@ -15,13 +15,13 @@ use Rattle.access_terms.specs.declared.joining.Next.TheVariants as next
 abbrev pub part_at : Reading → List Term → SymBlock → List MemoryBlock
 part_at r terms b = cond (bit_at r.v terms b.exists) (block_at r terms b ∷ []) []
 
--- two blocks that differ at most in whether they are there, their size and their bytes
+-- two blocks that differ at most in whether they exist, their size and their bytes
 pub record AreAlike (a b : SymBlock) : Type 0 where
   pub number : a.number ≡ b.number
   pub align : a.align ≡ b.align
   pub places : length b.places ≡ length a.places
 
--- one block more, with this number
+-- one more block, with this number
 abbrev pub IsGrown : (old new : List SymBlock) → (number : ℕ) → Type 0
 IsGrown old new number = (b : SymBlock) × (new ≡ old ++ b ∷ []) × (b.number ≡ number)
 

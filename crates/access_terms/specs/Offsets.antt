@@ -1,4 +1,4 @@
--- What the terms of a getelementptr stand for under an assignment of the variables.
+-- What the terms of a getelementptr denote under an assignment of the variables.
 use Rattle.std.specs.Prelude.{◌≡◌, ℕ, ◌<◌, ◌+◌, ◌*◌, ◌%◌, ◌^◌, Bool, true, List, map}
 use Rattle.std.specs.List.{list_all}
 use Rattle.memory_access.specs.declared.offsets.Index.{Index}
@@ -33,7 +33,7 @@ abbrev pub passes : IndexTest → Index → Bool
 passes test.IsNonzero = is_nonzero
 passes test.IsNegative = is_negative
 
--- an offset and a number of n bits times the scale, together in a width
+-- the sum of an offset and a number of n bits times the scale, in a width
 unfoldable pub walked_sum : (width n offset number scale : ℕ) → ℕ
 walked_sum width n offset number scale =
     (offset + (extended_signed n width number * scale) % 2 ^ width) % 2 ^ width

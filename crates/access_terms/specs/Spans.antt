@@ -22,7 +22,7 @@ pub record IsSpan (terms : List Term) (s : Span) : Type 0 where
 abbrev pub span_name : Reading → List Term → Span → BlockName
 span_name r terms s = r.name (term_at r.v terms s.block)
 
--- the block is there, and the access names it
+-- the block exists, and the access names it
 abbrev pub is_named_by : Reading → List Term → Span → SymBlock → Bool
 is_named_by r terms s b = bit_at r.v terms b.exists && names (span_name r terms s) (block_at r terms b)
 
@@ -38,7 +38,7 @@ abbrev pub bytes_of_span : Reading → List Term → Span → List MemoryBlock �
 bytes_of_span r terms s memory =
     take s.count (drop (term_at r.v terms s.offset) (bytes_named memory (span_name r terms s)))
 
--- as many bytes as the access has, if there are some
+-- if there are bytes, the same number as the access has
 abbrev pub AreSpanBytes : List Term → Span → Option (List SymByte) → Type 0
 AreSpanBytes terms s None = Unit {0}
 AreSpanBytes terms s (Some bytes) = AreSymBytes terms bytes × (length bytes ≡ s.count)

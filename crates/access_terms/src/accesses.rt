@@ -16,7 +16,7 @@ use memory_access::Access;
 use std::alloc::Global;
 use support::{NoMemory, Sequence};
 
-/// What a load gives: a value where it is defined, and else undefined behaviour.
+/// What a load gives: a value where it is defined, else undefined behaviour.
 #[derive(Clone, Copy, Debug, PartialEq, Eq)]
 pub struct SymLoaded {
     pub is_defined: TermId,
@@ -66,7 +66,7 @@ pub fn load(
 }
 
 /// Stores a value at a pointer (LLVM Language Reference, "store Instruction"), and answers where
-/// that is defined; elsewhere the memory behind it has no meaning. The alignment is in bytes.
+/// that is defined; elsewhere the memory after it has no meaning. The alignment is in bytes.
 pub fn store(
     alloc: Global,
     terms: &mut Terms,
@@ -101,7 +101,7 @@ pub fn store(
     Ok(is_defined)
 }
 
-/// Makes a block of poison bytes with this number behind the others (LLVM Language Reference,
+/// Makes a block of poison bytes with this number after the others (LLVM Language Reference,
 /// "alloca Instruction"). Size and alignment are in bytes.
 pub fn alloca(
     alloc: Global,

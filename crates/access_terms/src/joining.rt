@@ -28,7 +28,7 @@ pub enum Next {
     Both,
 }
 
-/// Whether two blocks are one by their number.
+/// Whether two blocks have the same number.
 fn are_alike(a: &SymBlock, b: &SymBlock) -> bool
     ensures { result ≡ true → AreAlike a.now b.now }
 {
@@ -36,7 +36,7 @@ fn are_alike(a: &SymBlock, b: &SymBlock) -> bool
     is_one && a.places.len() == b.places.len()
 }
 
-/// Adds the block, which is there where the condition is true and the block is.
+/// Adds the block, which exists where the condition is true and the block exists.
 fn push_where(
     alloc: Global,
     terms: &mut Terms,
@@ -63,7 +63,7 @@ fn push_where(
     })
 }
 
-/// Adds one block for two that are alike: the first where the condition is true, and else the second.
+/// Adds one block for two that are alike: the first where the condition is true, else the second.
 fn push_either(
     alloc: Global,
     terms: &mut Terms,
@@ -129,7 +129,7 @@ fn next_of(a: &[SymBlock], b: &[SymBlock], joined: Joined) -> Next
     }
 }
 
-/// Joins one block more of either memory or of both.
+/// Joins one more block of either memory or of both.
 fn join_next(
     alloc: Global,
     terms: &mut Terms,
@@ -179,8 +179,8 @@ fn join_next(
     }
 }
 
-/// The first memory where the condition is true, and else the second. A block that both have by its
-/// number is one in the result.
+/// The first memory where the condition is true, else the second. Two blocks with the same number
+/// are one in the result.
 pub fn pick_memory(
     alloc: Global,
     terms: &mut Terms,

@@ -1,11 +1,11 @@
 //! Loads, stores, allocas and getelementptrs as terms.
 //!
-//! It promises that under every assignment of the variables the terms of an answer stand for what
-//! `memory_access` defines on the memory and the values that the operands stand for, for every
-//! pointer and offset. It stands on `mem_terms` for symbolic values and memory, on `byte_terms` for the
-//! bytes of a value, and on `memory_access` for what is meant; runs as terms stand on it.
+//! It promises that under every assignment of the variables the terms of an answer denote what
+//! `memory_access` defines on the memory and the values that the operands denote, for every pointer
+//! and offset. It builds on `mem_terms` for symbolic values and memory, on `byte_terms` for the
+//! bytes of a value, and on `memory_access` for what is meant; runs as terms use it.
 //!
-//! A pointer to a known offset in a known block makes no choice between blocks or places: each
+//! A pointer to a known offset in a known block makes no choice between blocks or offsets: each
 //! condition is a constant then, and what is built is the bytes themselves.
 //!
 //! - `accesses`: what a load gives, where a store is defined and what it leaves, and the block of an

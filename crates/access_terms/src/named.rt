@@ -10,7 +10,7 @@ use bv_terms::{Term, TermId, Terms};
 use mem_terms::{SymBlock, both, equals, number};
 use support::NoMemory;
 
-/// True where the block is there and the number names it.
+/// True where the block exists and the number names it.
 pub fn is_named(terms: &mut Terms, block: TermId, of: &SymBlock) -> Result<TermId, NoMemory>
     requires block { IsTerm terms.old 64 block }
     requires of { IsSymBlock terms.old of.now }

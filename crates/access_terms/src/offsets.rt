@@ -20,7 +20,7 @@ use tv_num::Width;
 /// offset has 64 bits, an index 64 and a scale 32.
 const EXACT: u32 = 98;
 
-/// An index: poison where the first is true, and else a number of the width in two's complement; and
+/// An index: poison where the first is true, else a number of the width in two's complement; and
 /// how many bytes it counts for, below 2^32.
 #[derive(Clone, Copy, Debug, PartialEq, Eq)]
 pub struct SymIndex {
@@ -37,7 +37,7 @@ pub enum IndexTest {
     IsNegative,
 }
 
-/// Where indices lead, modulo 2^64, and whether the base offset or a sum on the way is outside the
+/// Where indices lead, modulo 2^64, and whether the base offset or a partial sum is outside the
 /// block.
 #[derive(Clone, Copy, Debug, PartialEq, Eq)]
 pub struct Walk {
@@ -47,7 +47,7 @@ pub struct Walk {
 
 // ---- one index
 
-/// The offset and the scaled index together, in this width.
+/// The sum of the offset and the scaled index, in this width.
 fn sum_with(
     terms: &mut Terms,
     offset: TermId,
@@ -89,7 +89,7 @@ fn test_index(terms: &mut Terms, index: &SymIndex, test: IndexTest) -> Result<Te
     }
 }
 
-/// The walk with one index more; where it has left the block that stays so.
+/// The walk with one more index; where it has left the block, it stays outside.
 fn walk_on(terms: &mut Terms, size: TermId, walk: Walk, index: &SymIndex) -> Result<Walk, NoMemory>
     requires size { IsTerm terms.old 64 size }
     requires offset { IsTerm terms.old 64 walk.offset }
@@ -218,7 +218,7 @@ fn walk_from(
     })
 }
 
-/// Whether an index is negative though `nuw` is there, where none is poison.
+/// Whether an index is negative though `nuw` is set, where none is poison.
 fn breaks_nuw(terms: &mut Terms, indices: &[SymIndex], nuw: bool) -> Result<TermId, NoMemory>
     requires { AreSymIndices terms.old indices.now }
     ensures made { IfOk result (IsTerm terms.new 1) }
@@ -252,7 +252,7 @@ fn has_no_offset(
     either(terms, no_index, breaks)
 }
 
-/// Whether the base is no pointer.
+/// Whether the base is not a pointer.
 fn has_no_base(terms: &mut Terms, base: SymValue) -> Result<TermId, NoMemory>
     requires { IsSymValue terms.old base }
     ensures made { IfOk result (λ id. Tests terms.new id (λ v. bit_at v terms.old base.poison || not (bit_at v terms.old base.is_pointer))) }

@@ -1,4 +1,4 @@
-//! The places of one block.
+//! Accesses within one block.
 
 ghost use Rattle.std.specs.Prelude.{◌≡◌, ◌<◌, ◌≤◌, ◌+◌, ◌-◌, ◌%◌, ◌&&◌, ℕ, IfOk, OnOk, Some, cond, drop, length, nat_eq, nat_le, nat_lt, take, true, false};
 ghost use Rattle.memory_access.specs.Accesses.{admits, overwritten};
@@ -18,7 +18,7 @@ use mem_terms::{
 use std::alloc::Global;
 use support::{NoMemory, Sequence};
 
-/// How many bytes the block has: its size, but no more than its places.
+/// How many bytes the block has: its size, but no more than it has room for.
 pub fn size_of(terms: &mut Terms, b: &SymBlock) -> Result<TermId, NoMemory>
     requires { IsSymBlock terms.old b.now }
     ensures made { IfOk result (IsTerm terms.new 64) }
@@ -31,7 +31,7 @@ pub fn size_of(terms: &mut Terms, b: &SymBlock) -> Result<TermId, NoMemory>
     Ok(size)
 }
 
-/// How many offsets have so many places from them on.
+/// How many offsets have `count` bytes of room from them on.
 fn starts_of(places: &[SymByte], count: usize) -> usize
     ensures { result ≡ length places.now + 1 - count }
 {
@@ -49,7 +49,7 @@ fn is_at(terms: &mut Terms, offset: TermId, place: usize) -> Result<TermId, NoMe
     Ok(is_same)
 }
 
-/// Whether an access with this alignment may be at the place of a block with the other.
+/// Whether an access with this alignment may be at the offset in a block with the other.
 fn is_aligned(place: usize, align: u64, block_align: u64) -> bool
     requires { 0 < align }
     ensures { result ≡ (nat_le align block_align && nat_eq (place % align) 0) }
@@ -57,7 +57,7 @@ fn is_aligned(place: usize, align: u64, block_align: u64) -> bool
     align <= block_align && place as u64 % align == 0
 }
 
-/// True where the offset is this one, and the block has so many bytes from it on, and it and the
+/// True where the offset is this one, and the block has enough bytes from it on, and it and the
 /// offset are aligned.
 fn is_admitted_at(
     terms: &mut Terms,
@@ -92,7 +92,7 @@ fn is_admitted_at(
     Ok(is_admitted)
 }
 
-/// True where the block has so many bytes from the offset on, and it and the offset are aligned.
+/// True where the block has enough bytes from the offset on, and it and the offset are aligned.
 pub fn is_admitted(
     terms: &mut Terms,
     b: &SymBlock,
@@ -115,7 +115,7 @@ pub fn is_admitted(
     Ok(admitted)
 }
 
-/// Puts the bytes in the place of those from a place on where the condition is true.
+/// Overwrites the bytes from an index on where the condition is true.
 fn put_bytes(
     terms: &mut Terms,
     c: TermId,
@@ -143,7 +143,7 @@ fn put_bytes(
     Ok(())
 }
 
-/// Puts the bytes from the place on over those that are given where the offset is that place.
+/// Replaces the given bytes by those from the index on where the offset is that index.
 fn take_bytes(
     terms: &mut Terms,
     places: &[SymByte],
@@ -170,7 +170,7 @@ fn take_bytes(
     Ok(())
 }
 
-/// The bytes at the first places, or as many that are poison where there are fewer.
+/// The first `count` bytes, or that many poison bytes where there are fewer.
 fn first_bytes(
     alloc: Global,
     terms: &mut Terms,
@@ -190,8 +190,8 @@ fn first_bytes(
     poison_bytes(alloc, terms, count)
 }
 
-/// So many bytes of the block from the offset on, where the block admits them. It makes no choice
-/// where one offset alone is admitted.
+/// The bytes of the block from the offset on, this many, where the block admits them. It makes no
+/// choice where only one offset is admitted.
 pub fn bytes_at(
     alloc: Global,
     terms: &mut Terms,
@@ -219,8 +219,8 @@ pub fn bytes_at(
     Ok(bytes)
 }
 
-/// Puts the bytes in the place of those from this place on where the condition is true and the
-/// offset is this one.
+/// Overwrites the bytes from this index on where the condition is true and the offset is this
+/// index.
 fn put_bytes_at(
     terms: &mut Terms,
     places: &mut Sequence<SymByte>,
@@ -249,8 +249,8 @@ fn put_bytes_at(
     Ok(())
 }
 
-/// Puts the bytes in the place of those from the offset on where the condition is true, the offset
-/// is aligned, and there are so many places.
+/// Overwrites the bytes from the offset on where the condition is true, the offset is aligned, and
+/// there is room for the bytes.
 fn overwrite_places(
     terms: &mut Terms,
     places: &mut Sequence<SymByte>,
@@ -280,15 +280,15 @@ fn overwrite_places(
     Ok(())
 }
 
-/// Whether 0 is the only aligned offset that has so many places from it on.
+/// Whether 0 is the only aligned offset that has `count` bytes of room from it on.
 fn is_first_alone(places: &[SymByte], count: usize, align: u64) -> bool
     ensures { result ≡ (nat_le count (length places.now) && nat_lt (length places.now - count) align) }
 {
     count <= places.len() && ((places.len() - count) as u64) < align
 }
 
-/// Puts the bytes in the place of those from the offset on where the condition is true; the block
-/// admits them there. It does not look at the offset where one alone is admitted.
+/// Overwrites the bytes from the offset on where the condition is true; the block admits them
+/// there. It does not look at the offset where only one is admitted.
 pub fn overwrite(
     terms: &mut Terms,
     b: &mut SymBlock,

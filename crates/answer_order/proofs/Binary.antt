@@ -1,4 +1,4 @@
--- Numbers as digits, and back.
+-- Numbers as bits, and back.
 use Rattle.std.proofs.Common.{ℕ, zero, suc, ◌≡◌, ◌<◌, ◌≤◌, ◌+◌, ◌-◌, ◌*◌, ◌^◌, inl, inr, Bool, true, false, cond, List, [], ◌∷◌, ◌++◌, length, take, drop, nat_le, refl, ap, sym, subst, ◌∙◌, arith, length-append}
 use Rattle.std.proofs.lemmas.Bool.{cases_Bool}
 use Rattle.std.proofs.lemmas.Bool.Decides.{nat_tests}
@@ -6,12 +6,12 @@ use Rattle.gate_arith.specs.Numbers.{number_of}
 use Rattle.gate_arith.proofs.Digits.{number-below}
 use Rattle.answer_order.specs.Fronts.{Fits, numbers_of, total}
 
--- the digits of a number, the highest first
+-- the bits of a number, most significant first
 abbrev pub digits : ℕ → ℕ → List Bool
 digits zero n = []
 digits (suc w) n = nat_le (2 ^ w) n ∷ digits w (cond (nat_le (2 ^ w) n) (n - 2 ^ w) n)
 
--- the digits of numbers of these widths, one after the other
+-- the bits of numbers of these widths, one after the other
 abbrev pub digits_of : List ℕ → List ℕ → List Bool
 digits_of [] ns = []
 digits_of (w ∷ ws) [] = digits w 0 ++ digits_of ws []
@@ -36,7 +36,7 @@ pub length-digits : (w n : ℕ) → length (digits w n) ≡ w
 length-digits zero n = refl
 length-digits (suc w) n = ap suc (length-digits w (cond (nat_le (2 ^ w) n) (n - 2 ^ w) n))
 
--- ---- a number's digits write it
+-- ---- a number's bits write it
 
 number-digits : (w n : ℕ) → n < 2 ^ w → number_of (digits w n) ≡ n
 number-digits zero n lt = let p : 2 ^ 0 ≡ 1 = refl in omega arith
@@ -74,7 +74,7 @@ length-digits_of [] (n ∷ ns) h = absurd h
 length-digits_of (w ∷ ws) [] h = absurd h
 length-digits_of (w ∷ ws) (n ∷ ns) h = length-append (digits w n) (digits_of ws ns) ∙ (rw (length-digits w n, length-digits_of ws ns h.1) refl)
 
--- ---- digits are those of their number
+-- ---- bits are those of their number
 
 digits-number : (bs : List Bool) → digits (length bs) (number_of bs) ≡ bs
 digits-number [] = refl

@@ -1,4 +1,4 @@
--- The order of digits is that of numbers.
+-- The order of bits is that of numbers.
 use Rattle.std.proofs.Common.{ℕ, zero, suc, ◌≡◌, ◌<◌, ◌≤◌, ◌+◌, ◌-◌, ◌*◌, ◌^◌, ◌⊎◌, inl, inr, Bool, true, false, List, [], ◌∷◌, ◌++◌, length, get_or, nat_le, refl, ap, subst, ◌∙◌, arith, pow_mono}
 use Rattle.std.proofs.lemmas.Bool.{cases_Bool, cases_eq}
 use Rattle.std.proofs.Math.Nat.{mul-le-mul_right, pow-succ'}
@@ -8,7 +8,7 @@ use Rattle.answer_order.specs.Fronts.{AreWidths, Fits, numbers_of, total}
 use Rattle.answer_order.specs.Laws.{LeastDigitsAreLeastNumbers, NoDigitsAreNoNumbers}
 use Rattle.answer_order.proofs.Binary.{digits, digits_of, power, le-true, le-false, numbers-digits, length-digits_of, fits-numbers, digits-numbers}
 
--- ---- the order of digits, from the front
+-- ---- the order of bits, from the start
 
 abbrev Less : List Bool → List Bool → Type 0
 Less [] bs = ⊥

@@ -1,14 +1,14 @@
--- Numbers of known widths, as digits one after the other, and which of them are least.
+-- Numbers of known widths, as bits one after the other, and which of them are least.
 use Rattle.std.specs.Prelude.{ℕ, ◌≡◌, ◌+◌, ◌<◌, ◌≤◌, ◌^◌, Bool, true, false, List, [], ◌∷◌, take, drop}
 use Rattle.gate_arith.specs.Numbers as digits
 use Rattle.points.specs.Code.{number_of}
 
--- the highest digit of each comes first
+-- the most significant bit of each comes first
 abbrev pub numbers_of : List ℕ → List Bool → List ℕ
 numbers_of [] bs = []
 numbers_of (w ∷ ws) bs = digits.number_of (take w bs) ∷ numbers_of ws (drop w bs)
 
--- how many digits numbers of these widths have
+-- how many bits numbers of these widths have
 abbrev pub total : List ℕ → ℕ
 total [] = 0
 total (w ∷ ws) = w + total ws

@@ -1,4 +1,4 @@
--- What the answer to a question in digits says of numbers.
+-- What the answer to a question in bits says of numbers.
 use Rattle.std.specs.Prelude.{ℕ, Bool, List}
 use Rattle.sat_ask.specs.Asks as asks
 use Rattle.answer_order.specs.Fronts.{AreWidths, IsLeast, NonePass, numbers_of, total}

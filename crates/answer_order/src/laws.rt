@@ -1,12 +1,12 @@
 ghost use Rattle.answer_order.specs.Laws.{LeastDigitsAreLeastNumbers, NoDigitsAreNoNumbers};
 
-/// Where digits are the least that pass a test of the numbers that they write, these numbers are the
+/// Where bits are the least that pass a test of the numbers that they write, these numbers are the
 /// least that pass it, in the order of codes.
 pub fn least_digits_are_least_numbers()
     ensures { LeastDigitsAreLeastNumbers }
 {}
 
-/// Where no digits pass a test of the numbers that they write, no numbers of these widths pass it.
+/// Where no bits pass a test of the numbers that they write, no numbers of these widths pass it.
 pub fn no_digits_are_no_numbers()
     ensures { NoDigitsAreNoNumbers }
 {}

@@ -1,4 +1,4 @@
-//! Numbers from digits.
+//! Numbers from bits.
 
 ghost use Rattle.std.specs.Prelude.{◌≡◌, ◌≤◌, IfOk, length};
 ghost use Rattle.gate_arith.specs.Numbers.{number_of};
@@ -7,7 +7,7 @@ ghost use Rattle.answer_order.specs.Fronts.{AreWidths, numbers_of, total};
 use std::alloc::Global;
 use support::NoMemory;
 
-/// The number that at most 64 digits write, the highest first.
+/// The number that at most 64 bits write, most significant bit first.
 fn number_of(digits: &[bool]) -> u64
     requires { length digits.now ≤ 64 }
     ensures { result ≡ number_of digits.now }
@@ -19,8 +19,8 @@ fn number_of(digits: &[bool]) -> u64
     number
 }
 
-/// The numbers of these widths, each at most 64 digits, that the digits write one after the other,
-/// the highest digit of each first.
+/// The numbers of these widths, each at most 64, that the bits write one after the other, most
+/// significant bit of each first.
 pub fn numbers_of(alloc: Global, widths: &[u32], digits: &[bool]) -> Result<Vec<u64>, NoMemory>
     requires widths { AreWidths widths.now }
     requires digits { length digits.now ≡ total widths.now }

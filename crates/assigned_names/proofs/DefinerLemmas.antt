@@ -62,7 +62,7 @@ position-here n v vs e = position_or_len_is (λ (o : ℕ). n == o) (v ∷ vs) 0 
 position-later : (n : ℕ) (v : ℕ) (vs : List ℕ) → (n == v) ≡ false → position_or_len (λ (o : ℕ). n == o) (v ∷ vs) ≡ suc (position_or_len (λ (o : ℕ). n == o) vs)
 position-later n v vs e = rw e (one-add (position_or_len (λ (o : ℕ). n == o) vs))
 
--- what stands at the first place that passes is what was looked for
+-- what is at the first index that passes is what was looked for
 at_position : {X : Type 0} (v : X → ℕ) (xs : List X) (n : ℕ) (x : X) → slice_get xs (position_or_len (λ (o : ℕ). n == o) (map v xs)) ≡ Some x → v x ≡ n
 at_position v [] n x e = absurd (none-some x e)
 at_position {X} v (y ∷ xs) n x e = cases (cases_Bool (n == v y)) (λ later. at_position v xs n x later)
@@ -131,7 +131,7 @@ block_of_is f label k b once stands labelled = block_is f label k (b, stands, la
 pub has_label : (f : Function) (label : ℕ) (b : Block) → slice_get f.blocks (block_of f label) ≡ Some b → b.label ≡ label
 has_label f label b stands = at_position (λ (c : Block). c.label) f.blocks label b stands
 
--- ---- what is behind
+-- ---- what has its value there
 
 slice_take : {X : Type 0} (xs : List X) (n k : ℕ) (x : X) → slice_get (take n xs) k ≡ Some x → (k < n) × (slice_get xs k ≡ Some x)
 slice_take xs zero k x e = absurd (none-some x e)

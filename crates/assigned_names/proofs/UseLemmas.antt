@@ -18,7 +18,7 @@ use Rattle.ir_tree.specs.WellFormed.{Passes, IsMissed, IsMissedAt, IsMissedBehin
 use Rattle.assigned_names.specs.Known.{AreBefore}
 use Rattle.assigned_names.proofs.DefinerLemmas.{IsAssignedThere, block_of_is, has_label}
 
--- the name is missed behind so many of the block's instructions
+-- the name is missed after this number of the block's instructions
 abbrev pub IsMissedThere : Function → ℕ → ℕ → ℕ → Type 0
 IsMissedThere f block ran name = (b : Block) × IsMissed f block b (take ran b.insts) name
 
@@ -56,7 +56,7 @@ missed_there f sets block ran name r before within numbered lacks told = (λ t. 
         either (inr found) = w.1.within found
     back (inr e) w = ap not e
 
--- behind all instructions
+-- after all instructions
 pub at_end : (f : Function) (block name : ℕ) (b : Block) → slice_get f.blocks block ≡ Some b → IsMissedThere f block (length b.insts) name ↔ ((c : Block) × IsMissed f block c c.insts name)
 at_end f block name b stands = (λ w. (w.0, whole w.0 w.1.stands w.1), λ w. (w.0, part_of w.0 w.1.stands w.1))
   where

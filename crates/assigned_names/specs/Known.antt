@@ -28,7 +28,7 @@ abbrev pub IsDefiner : Function → ℕ → Option Part → Type 0
 IsDefiner f name None = (p : Part) → DefinesIn f p name → ⊥
 IsDefiner f name (Some part) = DefinesIn f part name × ((p : Part) → DefinesIn f p name → p ≡ part)
 
--- what the part defines has its value in the block, behind so many of the block's instructions
+-- what the part defines has its value in the block, after the first `ran` of its instructions
 abbrev pub IsBehind : ℕ → ℕ → Part → Type 0
 IsBehind block ran Header = ⊥
 IsBehind block ran Parameter = Unit {0}

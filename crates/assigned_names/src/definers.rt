@@ -24,7 +24,7 @@ pub fn definer(list: &SiteList, firsts: &[Option<usize>], name: usize) -> Option
     }
 }
 
-/// The number of the block with a label; where no block has it, the number of the blocks.
+/// The number of the block with a label; where no block has it, the number of blocks.
 pub fn block_of(f: &Function, list: &SiteList, firsts: &[Option<usize>], label: usize) -> usize
     requires known { AreKnown f.now list.now firsts.now }
     requires within { label < length firsts.now }
@@ -57,7 +57,7 @@ fn label_of(part: Part) -> Option<usize>
     }
 }
 
-/// Whether a name is a parameter, or is assigned by a block's phis or by the first so many of its
+/// Whether a name is a parameter, or is assigned by a block's phis or by the first `ran` of its
 /// instructions.
 pub fn is_assigned_in(
     list: &SiteList,
@@ -77,7 +77,7 @@ pub fn is_assigned_in(
     }
 }
 
-// Whether what a part defines has its value in a block, behind so many of the block's instructions.
+// Whether what a part defines has its value in a block, after the first `ran` of its instructions.
 fn is_behind(block: usize, ran: usize, part: Part) -> bool
     ensures { IsTrue result ↔ IsBehind block ran part }
 {

@@ -1,12 +1,12 @@
 //! Whether each name of a function has its value where it is used.
 //!
-//! It promises that a function passes exactly where no path from the entry comes to a use without its
-//! name's definition, by the rule of `ir_tree`'s `specs/WellFormed.antt`, and that else the refusal
-//! tells the first use that some path does. So each use in a block that no path comes to passes, and
-//! an operand of a phi is used at the end of the block that it comes from. The rule is that of the
-//! LLVM Language Reference, "Well-Formedness": a definition must dominate its uses. It stands on
-//! `ir_tree`, on `definite_assignment`, which finds the names that every path assigns, and on `ir_check`,
-//! whose checks come first; the reader of functions stands on it.
+//! It promises that a function is accepted exactly where no path from the entry reaches a use
+//! without its name's definition, by the rule of `ir_tree`'s `specs/WellFormed.antt`, and that
+//! otherwise the refusal reports the first use that some path reaches so. So each use in an
+//! unreachable block is accepted, and an operand of a phi is used at the end of the block that it
+//! comes from. The rule is that of the LLVM Language Reference, "Well-Formedness": a definition
+//! must dominate its uses. It uses `ir_tree`, `definite_assignment`, which finds the names that
+//! every path assigns, and `ir_check`, whose checks come first; the reader of functions uses it.
 #![tactic(auto)]
 
 ghost use Rattle.std.specs.Prelude.{◌≡◌, ◌<◌, ◌↔◌, IsTrue, length, OnOk, IfErr, IfOk};
@@ -27,11 +27,11 @@ use std::alloc::Global;
 use support::NoMemory;
 use uses::first_unassigned;
 
-/// Passes a function in which each path from the entry to a use of a name assigns that name (LLVM
+/// Accepts a function in which each path from the entry to a use of a name assigns that name (LLVM
 /// Language Reference, "Well-Formedness").
 ///
 /// # Errors
-/// Refused with `Unassigned` at the first use for which it is not so.
+/// Refused with `Unassigned` at the first use for which this fails.
 pub fn check_assigned(alloc: Global, f: &Function) -> Result<(), CheckFault>
     requires numbered { AreNumbered f.now }
     requires names { PassesNames f.now }

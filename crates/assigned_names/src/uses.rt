@@ -1,4 +1,4 @@
-//! The uses of names, each with whether some path comes to it without the name's definition.
+//! The uses of names, each with whether some path reaches it without the name's definition.
 
 ghost use Rattle.std.specs.Prelude.{◌≡◌, ◌<◌, ◌↔◌, IsTrue, length, take, slice_get, Some};
 ghost use Rattle.ir_tree.specs.declared.tree.Block.{Block};
@@ -10,7 +10,7 @@ use crate::definers::{block_of, is_assigned_in};
 use definite_assignment::NameSets;
 use ir_tree::{Function, Part, Site, SiteList};
 
-/// The first use of a name that some path comes to without the name's definition.
+/// The first use of a name that some path reaches without the name's definition.
 pub fn first_unassigned(
     f: &Function,
     list: &SiteList,
@@ -49,7 +49,7 @@ fn uses_unassigned(
     }
 }
 
-// Whether some path comes without the name's definition to the site, which stands in this part.
+// Whether some path reaches the site, which is in this part, without the name's definition.
 fn is_missed_at(
     f: &Function,
     list: &SiteList,
@@ -86,7 +86,7 @@ fn entered(sites: &[Site], n: usize) -> Option<usize>
     }
 }
 
-// Whether some path comes to the end of the block with this label without the name's definition.
+// Whether some path reaches the end of the block with this label without the name's definition.
 fn is_missed_behind(
     f: &Function,
     list: &SiteList,
@@ -105,7 +105,7 @@ fn is_missed_behind(
     is_missed_at_end(f, list, firsts, before, block, name)
 }
 
-// Whether some path comes to the end of a block without the name's definition.
+// Whether some path reaches the end of a block without the name's definition.
 fn is_missed_at_end(
     f: &Function,
     list: &SiteList,
@@ -125,7 +125,7 @@ fn is_missed_at_end(
     }
 }
 
-// Whether some path comes behind so many of a block's instructions without the name's definition.
+// Whether some path passes the first `ran` of a block's instructions without the name's definition.
 fn is_missed(
     f: &Function,
     list: &SiteList,

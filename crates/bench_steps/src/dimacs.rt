@@ -1,5 +1,5 @@
 //! Clauses in the DIMACS CNF format. A comment `c widths N ..` says of which widths the words are that
-//! the first variables are, most significant bit first; those variables are the ordered front.
+//! the first variables are, most significant bit first; those variables are the ordered ones.
 
 use clause_lits::{Clause, Cnf, Lit, are_within, is_clause};
 use smallvec::SmallVec;
@@ -7,7 +7,7 @@ use std::alloc::Global;
 use std::io;
 use support::{NoMemory, Sequence};
 
-/// Clauses, and the widths of the words that their front is.
+/// Clauses, and the widths of the words that their ordered variables are.
 #[derive(Drop)]
 pub struct Question {
     pub cnf: Cnf,

@@ -5,7 +5,7 @@
 //! (`bench/printed.py`). `check A B ..`, with the options of `tv`, prints the clauses of the last question of
 //! each pair of functions in the DIMACS format; `solve FILE` and `ask FILE` read clauses and print whether
 //! they have a model and how many clauses were learned: by the search in order, and by that of a question
-//! (`bench/solving.py`). It promises nothing; it stands on what it asks, and nothing stands on it.
+//! (`bench/solving.py`). It promises nothing; it uses what it asks, and nothing uses it.
 #![tactic(auto)]
 
 mod circuits;

@@ -6,7 +6,7 @@ use ir_tree::Module;
 use std::fs;
 use tv_io::{StandardSink, write_whole};
 
-/// What stands between the two modules of a pair.
+/// What is printed between the two modules of a pair.
 const BETWEEN: &[u8] = b"\n; target\n\n";
 
 /// Prints a module; whether it was printed.

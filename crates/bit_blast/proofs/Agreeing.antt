@@ -108,7 +108,7 @@ one_bit zero lt = refl
 one_bit (suc zero) lt = refl
 one_bit (suc (suc n)) lt = absurd (omega arith)
 
--- the digits of a number, cut to a width
+-- the bits of a number, cut to a width
 bits_of : ℕ → ℕ → List Bool
 bits_of zero n = []
 bits_of (suc w) n = nat_eq (n / 2 ^ w % 2 ^ 1) 1 ∷ bits_of w n
@@ -133,7 +133,7 @@ found-each P (e ∷ es) x digits h k = elim (cases_Bool (is_variable x e.0)) [
   | inr f ↦ found-each P es x digits (rw f at h) (each-back P e.1 (all_digits es) k)
 ]
 
--- the inputs agree at each variable that has as many digits as its width
+-- the inputs agree at each variable whose number of bits is its width
 agreeing : (es : List (Variable × List GateId)) → IsOnce (all_digits es) → (v : ℕ → ℕ → ℕ)
     → (inputs : ℕ → Bool) × ((x : Variable) (digits : List GateId) → digits_of es x ≡ Some digits → length digits ≡ x.width → number_by inputs digits ≡ v x.number x.width % 2 ^ x.width)
 agreeing [] once v = ((λ i. false), (λ x digits h long. absurd (let z : ⊥ = cc in z)))

@@ -1,4 +1,4 @@
--- Digits that stand for what a term names make digits that stand for the term.
+-- Bits that denote what a term names make bits that denote the term.
 use Rattle.std.proofs.Common.{ℕ, zero, suc, ◌≡◌, ◌<◌, ◌+◌, ◌-◌, ◌*◌, ◌/◌, ◌%◌, ◌^◌, Bool, true, false, cond, List, [], ◌∷◌, All, get_or, length, arith, sym, subst, ap, refl, ◌∙◌}
 use Rattle.std.specs.Option.{unwrap_or}
 use Rattle.std.specs.List.{AllZip}
@@ -33,7 +33,7 @@ one_of P a h = with_one P a [] h (none P)
 two_of : (P : TermId → Type 0) (a b : TermId) → P a → P b → All P (a ∷ b ∷ [])
 two_of P a b h k = with_one P a (b ∷ []) h (one_of P b k)
 
--- what a term names stands among the earlier ones
+-- what a term names is among the earlier ones
 pub operands-within : (P : TermId → Type 0) (n : ℕ) → ((a : TermId) → a.index < n → P a) → (t : Term) → IsWithin n t → All P (operands t)
 operands-within P n h (term.Constant value width) w = none P
 operands-within P n h (term.Variable number width) w = none P
@@ -57,7 +57,7 @@ module _ (gates : List Gate) (table : List (Variable × List GateId)) (trees : L
   any : TermId
   any = record { index = 0 }
 
-  -- the digits of a variable that has some
+  -- the bits of a variable that has some
   known : (number width : ℕ) → HasVariable table (term.Variable number width) → IsTable gates table → AreDigits gates width (digits_or_none table number width)
   known number width h is =
       subst (λ (o : List GateId). AreDigits gates width o) (sym (ap (λ o. unwrap_or o []) h.1)) (found_digits gates table (record { number = number; width = width }) h.0 is.digits h.1)
@@ -154,11 +154,11 @@ module _ (gates : List Gate) (table : List (Variable × List GateId)) (trees : L
     says = λ inputs v agrees. w.says inputs ∙ written-is inputs v agrees t is h s fit;
   }
 
--- what stands stands from then on
+-- bits that denote a term do so from then on
 pub standing_later : (a b : Blasted) (trees : List Tree) (done : List (List GateId)) (t : Term) → Follows a b → AreStanding a.gates a.table trees done t → AreStanding b.gates b.table trees done t
 standing_later a b trees done t f h i d lt = bits_kept a b (tree_at trees (get_or (operands t) i d)) (digits_at done (get_or (operands t) i d)) f (h i d lt)
 
--- what a term needs is there once its variable has digits
+-- what a term needs is there once its variable has bits
 pub later-ready : (a b : Blasted) (trees : List Tree) (done : List (List GateId)) (t : Term) → Follows a b → IsTable b.gates b.table → HasVariable b.table t → AreStanding a.gates a.table trees done t → IsFit trees t
     → AreReady b.gates b.table done t
 later-ready a b trees done t f is h s fit = are_ready b.gates b.table trees done t is h (standing_later a b trees done t f s) fit

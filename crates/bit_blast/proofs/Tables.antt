@@ -1,4 +1,4 @@
--- The table of digits as gates and variables are added.
+-- The table of bits as gates and variables are added.
 use Rattle.std.proofs.Common.{ℕ, zero, suc, ◌≡◌, ◌<◌, ◌≤◌, ◌+◌, ◌-◌, ◌++◌, ◌&&◌, inl, inr, Bool, true, false, cond, List, [], ◌∷◌, All, Some, None, get_or, slice_get, take, map, length, arith, sym, ap, subst, refl, ◌∙◌, length-append}
 use Rattle.std.proofs.lemmas.Bool.{cases_Bool, cases_lt, eq-eqb}
 use Rattle.std.proofs.lemmas.Bool.Decides.{Decides-eqb}
@@ -24,7 +24,7 @@ pub get-digits : (es : List (Variable × List GateId)) (x : Variable) → lookup
 get-digits [] x = refl
 get-digits (e ∷ es) x = ap (λ o. cond (is_variable x e.0) (Some e.1) o) (get-digits es x)
 
--- digits that are found are found among more
+-- bits that are found are found among more
 pub digits-found : (es more : List (Variable × List GateId)) (x : Variable) (digits : List GateId) → digits_of es x ≡ Some digits → digits_of (es ++ more) x ≡ Some digits
 digits-found [] more x digits h = absurd (let z : ⊥ = cc in z)
 digits-found (e ∷ es) more x digits h = elim (cases_Bool (is_variable x e.0)) [
@@ -62,7 +62,7 @@ apart-append n (x ∷ xs) ys p q low high (suc i) zero a b lt ga gb = absurd (om
 apart-append n (x ∷ xs) ys p q low high (suc i) (suc j) a b lt ga gb =
     apart-append n xs ys (λ k l c d less gc gd. p (suc k) (suc l) c d (omega arith) gc gd) q (λ k d less. low (suc k) d (omega arith)) high i j a b (omega arith) ga gb
 
--- the digits that are found are those of the variable
+-- the bits that are found are those of the variable
 pub found_digits : (gates : List Gate) (table : List (Variable × List GateId)) (x : Variable) (digits : List GateId) → All (λ (e : Variable × List GateId). AreDigits gates e.0.width e.1) table → digits_of table x ≡ Some digits → AreDigits gates x.width digits
 found_digits gates [] x digits all h = absurd (let z : ⊥ = cc in z)
 found_digits gates (e ∷ es) x digits all h = elim (cases_Bool (is_variable x e.0)) [
@@ -73,7 +73,7 @@ found_digits gates (e ∷ es) x digits all h = elim (cases_Bool (is_variable x e
   | inr f ↦ found_digits gates es x digits (λ i d lt. all (suc i) d (omega arith)) (rw f at h)
 ]
 
--- gates that stay are the digits that they were
+-- gates that stay are the bits that they were
 digits-grown : (old new : List Gate) → Grows old new → (width : ℕ) (digits : List GateId) → AreDigits old width digits → AreDigits new width digits
 digits-grown old new g width digits d = record {
   long = d.long;
@@ -117,7 +117,7 @@ no_table = record {
   apart = λ i j a b lt ga gb. absurd (let z : ⊥ = cc in z);
 }
 
--- each input of the circuit is a digit
+-- each input of the circuit is a bit
 pub inputs_named : (gates : List Gate) (table : List (Variable × List GateId)) → IsTable gates table → AreAllNamed gates (all_digits table)
 inputs_named gates table is i c =
     let ds = all_digits table in
@@ -126,7 +126,7 @@ inputs_named gates table is i c =
     let at : get_or (map (λ (a : GateId). a.index) ds) c.0 i ≡ i = ap (λ zs. get_or zs c.0 i) (sym is.inputs) ∙ c.2 in
     (c.0, get_or ds c.0 d, slice_get-get_or ds c.0 d lt, sym (get_or-map (λ (a : GateId). a.index) ds c.0 d i lt) ∙ at)
 
--- and each digit an input
+-- and each bit an input
 pub are_inputs : (gates : List Gate) (table : List (Variable × List GateId)) → IsTable gates table → AreInputs gates (all_digits table)
 are_inputs gates table is k d lt =
     let ds = all_digits table in
@@ -141,7 +141,7 @@ pub table_pushed : (old new : List Gate) (before after : List (Variable × List 
     → IsTable new after
 table_pushed old new before after x own e g fresh is = rw e (table_grown old new before x own g fresh is)
 
--- a new variable has the digits that stand last
+-- a new variable has the bits that come last
 digits-last : (es : List (Variable × List GateId)) (x : Variable) (own : List GateId) → digits_of es x ≡ None → digits_of (es ++ (x, own) ∷ []) x ≡ Some own
 digits-last [] x own h = ap (λ b. cond b (Some own) None) same
   where
@@ -152,7 +152,7 @@ digits-last (e ∷ es) x own h = elim (cases_Bool (is_variable x e.0)) [
   | inr f ↦ rw f (digits-last es x own (rw f at h))
 ]
 
--- a variable that was added has digits
+-- a variable that was added has bits
 pub added-known : (old new : List (Variable × List GateId)) (x : Variable) → Adds old new x → (digits : List GateId) × (digits_of new x ≡ Some digits)
 added-known old new x (inl h) = (h.0, ap (λ es. digits_of es x) h.2 ∙ h.1)
 added-known old new x (inr h) = (h.0, ap (λ es. digits_of es x) h.2 ∙ digits-last old x h.0 h.1)
@@ -171,7 +171,7 @@ pub OnOk-then : {T E : Type 0} (r : Result T E) (P Q : Type 0) → OnOk r P → 
 OnOk-then (Ok v) P Q h f = f h
 OnOk-then (Err e) P Q h f = tt
 
--- the digits of the variables before a place, and of the one there
+-- the bits of the variables before an index, and of the one there
 pub all-more : (es : List (Variable × List GateId)) (i : ℕ) (e : Variable × List GateId) → slice_get es i ≡ Some e → all_digits (take (suc i) es) ≡ all_digits (take i es) ++ e.1
 all-more [] i e h = absurd (let z : ⊥ = cc in z)
 all-more (x ∷ xs) zero e h = let is : x ≡ e = cc in ap (λ (z : Variable × List GateId). z.1 ++ []) is ∙ append-nil e.1

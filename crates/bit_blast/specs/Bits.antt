@@ -10,12 +10,12 @@ use Rattle.bv_terms.specs.declared.variable.Variable.{Variable}
 use Rattle.bit_blast.specs.Table.{Agrees}
 use Rattle.bit_blast.specs.Written.{digits_at, operands}
 
--- gates of the circuit, as many as the width of the tree, which write its value wherever the inputs agree with the assignment; the highest digit is first
+-- gates of the circuit, as many as the width of the tree, which write its value, most significant bit first, wherever the inputs agree with the assignment
 pub record AreBits (gates : List Gate) (table : List (Variable × List GateId)) (tree : Tree) (digits : List GateId) : Type 0 where
   pub within : AreGates gates digits
   pub long : length digits ≡ width_of tree
   pub says : (inputs : ℕ → Bool) (v : ℕ → ℕ → ℕ) → Agrees table inputs v → number_at inputs gates digits ≡ value_of v tree
 
--- what stands for the terms that a term names are their bits
+-- the answers for the terms that a term names are their bits
 abbrev pub AreStanding : List Gate → List (Variable × List GateId) → List Tree → List (List GateId) → Term → Type 0
 AreStanding gates table trees done term = All (λ a. AreBits gates table (tree_at trees a) (digits_at done a)) (operands term)

@@ -25,7 +25,7 @@ operands (term.Concat high low below width) = high ∷ low ∷ []
 operands (term.Zext a width) = a ∷ []
 operands (term.Sext a from width) = a ∷ []
 
--- the digits that stand for an earlier term, and how many they are
+-- the bits of an earlier term, and how many they are
 abbrev pub digits_at : List (List GateId) → TermId → List GateId
 digits_at done a = slice_index_or done a.index []
 
@@ -40,7 +40,7 @@ number_in inputs gates done a = number_at inputs gates (digits_at done a)
 abbrev pub first_in : (ℕ → Bool) → List Gate → List (List GateId) → TermId → Bool
 first_in inputs gates done a = gate_at inputs gates (slice_index_or (digits_at done a) 0 (record { index = 0; negated = false }))
 
--- the digits of a variable, or none where it has none
+-- the bits of a variable, or none where it has none
 abbrev pub digits_or_none : List (Variable × List GateId) → ℕ → ℕ → List GateId
 digits_or_none table number width = unwrap_or (digits_of table (record { number = number; width = width })) []
 
@@ -56,7 +56,7 @@ written inputs gates table done (term.Concat high low below width) = number_in i
 written inputs gates table done (term.Zext a width) = number_in inputs gates done a
 written inputs gates table done (term.Sext a from width) = extended_signed (size_in done a) width (number_in inputs gates done a)
 
--- in so many digits
+-- the number of bits that write it
 abbrev pub written_size : List (Variable × List GateId) → List (List GateId) → Term → ℕ
 written_size table done (term.Constant value width) = width
 written_size table done (term.Variable number width) = length (digits_or_none table number width)
@@ -68,7 +68,7 @@ written_size table done (term.Concat high low below width) = size_in done high +
 written_size table done (term.Zext a width) = width
 written_size table done (term.Sext a from width) = width
 
--- a term that is a variable has digits already
+-- a term that is a variable has bits already
 abbrev pub HasVariable : List (Variable × List GateId) → Term → Type 0
 HasVariable table (term.Variable number width) = (digits : List GateId) × (digits_of table (record { number = number; width = width }) ≡ Some digits)
 HasVariable table (term.Constant value width) = Unit {0}
@@ -80,13 +80,13 @@ HasVariable table (term.Concat high low below width) = Unit {0}
 HasVariable table (term.Zext a width) = Unit {0}
 HasVariable table (term.Sext a from width) = Unit {0}
 
--- two earlier terms have gates of the circuit, as many the one as the other
+-- two earlier terms have gates of the circuit, the same number each
 pub record ArePaired (gates : List Gate) (done : List (List GateId)) (a b : TermId) : Type 0 where
   pub left : AreGates gates (digits_at done a)
   pub right : AreGates gates (digits_at done b)
   pub alike : length (digits_at done a) ≡ length (digits_at done b)
 
--- the digits of what a term names are gates of the circuit, and as many as the operation needs
+-- the bits of what a term names are gates of the circuit, and as many as the operation needs
 abbrev pub AreReady : List Gate → List (Variable × List GateId) → List (List GateId) → Term → Type 0
 AreReady gates table done (term.Constant value width) = IsWidth width × (value < 2 ^ width)
 AreReady gates table done (term.Variable number width) = AreGates gates (digits_or_none table number width)

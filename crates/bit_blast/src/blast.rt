@@ -18,8 +18,8 @@ use std::alloc::Global;
 use std::marker::Model;
 use support::{NoMemory, Sequence};
 
-/// A circuit in which terms are built, and the inputs that are the digits of each variable. Contracts
-/// see the gates and the table of digits, in the order in which the variables came.
+/// A circuit in which terms are built, and the inputs that are the bits of each variable. Contracts
+/// see the gates and the table of bits, in the order in which the variables were added.
 #[derive(Drop)]
 pub struct Blast {
     alloc: Global,
@@ -50,7 +50,7 @@ impl Blast {
         }
     }
 
-    /// The circuit. Each of its inputs is one digit of one variable.
+    /// The circuit. Each of its inputs is one bit of one variable.
     pub fn circuit(&self) -> &Circuit
         ensures value { result.now ≡ self.now.gates }
         ensures table { IsTable self.now.gates self.now.table }
@@ -58,15 +58,15 @@ impl Blast {
         &self.circuit
     }
 
-    /// The inputs that are the digits of a variable, highest first, or `None` where it has none yet.
+    /// The inputs that are a variable's bits, most significant first, or `None` if it has none yet.
     pub fn digits(&self, variable: Variable) -> Option<&Sequence<GateId>>
         ensures { option_copied result ≡ digits_of self.now.table variable }
     {
         find(&self.table, variable)
     }
 
-    /// All inputs of the circuit, the digits of each variable together, in the order in which the
-    /// variables came.
+    /// All inputs of the circuit, the bits of each variable together, in the order in which the
+    /// variables were added.
     pub fn inputs(&self) -> Result<Vec<GateId>, NoMemory>
         ensures digits { IfOk result (λ r. r.items ≡ all_digits self.now.table) }
         ensures inputs { IfOk result (λ r. AreInputs self.now.gates r.items) }
@@ -85,8 +85,7 @@ impl Blast {
         self.circuit();
     }
 
-    /// Gives a variable inputs, one a bit, unless it has them. Where memory runs out, all is as
-    /// before.
+    /// Gives a variable inputs, one per bit, unless it has them. Out of memory, all is as before.
     pub fn add(&mut self, variable: Variable) -> Result<(), NoMemory>
         ensures added { OnOk result (Adds self.old.table self.new.table variable) }
         ensures follows { Follows self.old self.new }
@@ -110,7 +109,7 @@ impl Blast {
         }
     }
 
-    /// The bits of a term over those of the terms that it names; of the others nothing is asked. A
+    /// The bits of a term over those of the terms that it names; nothing is asked of the others. A
     /// variable that has no inputs gets them.
     pub fn term(
         &mut self,

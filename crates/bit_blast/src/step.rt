@@ -20,8 +20,8 @@ use indexmap::IndexMap;
 use std::alloc::Global;
 use support::{NoMemory, Sequence};
 
-/// New inputs for a variable, and where they stand in the table. Where memory runs out, the circuit
-/// and the table are as before.
+/// New inputs for a variable, and their entry in the table. Out of memory, the circuit and the
+/// table are as before.
 pub fn add_variable(
     alloc: Global,
     circuit: &mut Circuit,
@@ -47,7 +47,7 @@ pub fn add_variable(
     }
 }
 
-/// The digits of a variable, where it has some.
+/// The bits of a variable, where it has some.
 pub fn find(
     table: &IndexMap<Variable, Sequence<GateId>>,
     variable: Variable,
@@ -57,7 +57,7 @@ pub fn find(
     table.get(&variable)
 }
 
-/// Puts the digits of the variable at a place of the table behind the others.
+/// Puts the bits of the variable at an index of the table after the others.
 fn push_digits(
     all: &mut Vec<GateId>,
     table: &IndexMap<Variable, Sequence<GateId>>,
@@ -74,7 +74,7 @@ fn push_digits(
     }
 }
 
-/// The digits of all variables, one variable after the other.
+/// The bits of all variables, one variable after the other.
 pub fn all_inputs(
     alloc: Global,
     table: &IndexMap<Variable, Sequence<GateId>>,
@@ -88,7 +88,7 @@ pub fn all_inputs(
     Ok(all)
 }
 
-/// The digits that stand for an earlier term.
+/// The bits of an earlier term.
 fn at(done: &[Sequence<GateId>], a: TermId) -> &[GateId]
     requires { a.index < length done.now }
     ensures { result.now ≡ digits_at done.now a }
@@ -96,7 +96,7 @@ fn at(done: &[Sequence<GateId>], a: TermId) -> &[GateId]
     done[a.index].as_slice()
 }
 
-/// The digits of a variable, or none where it has none.
+/// The bits of a variable, or none where it has none.
 fn digits_in(
     alloc: Global,
     table: &IndexMap<Variable, Sequence<GateId>>,
@@ -114,7 +114,7 @@ fn digits_in(
     }
 }
 
-/// The one digit of a test.
+/// The one bit of a test.
 fn bit(alloc: Global, test: GateId) -> Result<Vec<GateId>, NoMemory>
     ensures { IfOk result (λ r. r.items ≡ test ∷ []) }
 {
@@ -122,7 +122,7 @@ fn bit(alloc: Global, test: GateId) -> Result<Vec<GateId>, NoMemory>
     Ok(digits)
 }
 
-/// The digits of an operation on two numbers of one width.
+/// The bits of an operation on two numbers of the same width.
 fn operation(
     alloc: Global,
     circuit: &mut Circuit,
@@ -157,7 +157,7 @@ fn operation(
     }
 }
 
-/// The digits of a term over those of the earlier ones and of the variables.
+/// The bits of a term over those of the earlier ones and of the variables.
 pub fn written(
     alloc: Global,
     circuit: &mut Circuit,

@@ -21,8 +21,8 @@ abbrev pub IsAssignedIn : List (List ℕ) → List ℕ → ℕ → Type 0
 IsAssignedIn assigns [] name = ⊥
 IsAssignedIn assigns (block ∷ blocks) name = Assigns assigns block name ⊎ IsAssignedIn assigns blocks name
 
--- on every path to the block, one of the blocks that it leaves assigns the name: so it is for each name at a
--- block that no path comes to, and for none at the entry
+-- on every path to the block, one of the blocks that it leaves assigns the name: so for each name
+-- at a block that no path reaches, and for no name at the entry
 abbrev pub IsAssignedBefore : List (List ℕ) → List (List ℕ) → ℕ → ℕ → Type 0
 IsAssignedBefore successors assigns block name = (left : List ℕ) → IsPathTo successors block left → IsAssignedIn assigns left name
 

@@ -1,4 +1,4 @@
--- Terms of which no two are found equal stand once each.
+-- Terms of which no two are found equal occur once each.
 use Rattle.std.proofs.Common.{◌≡◌, ◌<◌, inl, inr, ℕ, zero, suc, List, [], ◌∷◌, Some, slice_get, get_or, length, sym, subst, ◌∙◌, arith, true}
 use Rattle.std.specs.List.{IsDistinct}
 use Rattle.std.proofs.lemmas.Bool.{cases_eq, cases_lt, true≢false}

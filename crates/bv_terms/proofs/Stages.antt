@@ -59,7 +59,7 @@ tree-same early late (term.Concat high low below width) w h = rw (h high w.1, h 
 tree-same early late (term.Zext a width) w h = ap (λ x. tree.Zext x width) (h a w.1)
 tree-same early late (term.Sext a from width) w h = ap (λ x. tree.Sext x from width) (h a w.1)
 
--- the tree of the term at a place is the one over all trees
+-- the tree of the term at an index is the one over all trees
 pub tree-stored : (earlier : List Tree) (ts : List Term) (i : ℕ) (t : Term) → AreFit earlier ts → slice_get ts i ≡ Some t
     → get_or (trees_from earlier ts) (length earlier + i) (tree.Constant 0 1) ≡ tree_of (trees_from earlier ts) t
 tree-stored earlier [] i t fit e = absurd (let x : ⊥ = cc in x)

@@ -14,7 +14,7 @@ module _ {Out : Type 0} (R : Tree → Out → Type 0) where
   AllZip-push (t ∷ ts) [] tree out h r = absurd h
   AllZip-push (t ∷ ts) (o ∷ os) tree out h r = (h.0, AllZip-push ts os tree out h.1 r)
 
--- these trees stand before the term at i, and with the rest they are those of all
+-- these trees come before the term at i, and with the rest they are those of all
 pub record IsStage (terms : List Term) (all trees : List Tree) (i : ℕ) : Type 0 where
   pub whole : trees_from trees (drop i terms) ≡ all
   pub fit : AreFit trees (drop i terms)
@@ -46,7 +46,7 @@ module _ {Out : Type 0} (R : Tree → Out → Type 0) where
   AllZip-at (t ∷ ts) (o ∷ os) zero d e h lt = h.0
   AllZip-at (t ∷ ts) (o ∷ os) (suc i) d e h lt = AllZip-at ts os i d e h.1 (omega arith)
 
--- answers that stand by one relation stand by a weaker one
+-- answers related by one relation are related by a weaker one
 pub AllZip-weaker : {Out : Type 0} (R S : Tree → Out → Type 0) → ((t : Tree) (o : Out) → R t o → S t o)
     → (trees : List Tree) (outs : List Out) → AllZip R trees outs → AllZip S trees outs
 AllZip-weaker R S weaker [] [] h = tt

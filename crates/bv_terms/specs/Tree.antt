@@ -39,7 +39,7 @@ truth n = not (nat_eq n 0)
 abbrev pub digit : Bool → ℕ
 digit b = cond b 1 0
 
--- the sign bit of a number of that width
+-- the sign bit of a number of this width
 abbrev pub is_negative : ℕ → ℕ → Bool
 is_negative width n = nat_le (2 ^ (width - 1)) n
 
@@ -58,11 +58,11 @@ shifted_left width a b = cond (nat_lt b width) (a * 2 ^ b % 2 ^ width) 0
 abbrev pub shifted_right : ℕ → ℕ → ℕ → ℕ
 shifted_right width a b = cond (nat_lt b width) (a / 2 ^ b) 0
 
--- the opposite of the number is shifted where the number is negative, so that ones come in
+-- a negative number is inverted before and after the shift, so that ones come in
 abbrev pub shifted_signed : ℕ → ℕ → ℕ → ℕ
 shifted_signed width a b = cond (is_negative width a) (2 ^ width - 1 - shifted_right width (2 ^ width - 1 - a) b) (shifted_right width a b)
 
--- a negative number is less than one that isn't, and two of one sign are in the order of their digits
+-- a negative number is less than one that isn't, and two of the same sign are in unsigned order
 abbrev pub is_less_signed : ℕ → ℕ → ℕ → Bool
 is_less_signed width a b = cond (is_negative width a) (cond (is_negative width b) (nat_lt a b) true) (cond (is_negative width b) false (nat_lt a b))
 

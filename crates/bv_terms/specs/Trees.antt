@@ -1,4 +1,4 @@
--- The trees that a list of terms stands for, each term naming earlier ones, and what a term says under an assignment.
+-- The trees that a list of terms denotes, each term naming earlier ones, and the value of a term under an assignment.
 use Rattle.std.specs.Prelude.{ℕ, ◌≡◌, ◌⊎◌, ◌<◌, ◌≤◌, ◌+◌, ◌^◌, Bool, List, [], ◌∷◌, ◌++◌, length, slice_index_or, slice_get, Some}
 use Rattle.bv_terms.specs.declared.term.TermId.{TermId}
 use Rattle.bv_terms.specs.declared.term.Term.{Term}
@@ -38,7 +38,7 @@ term_width (term.Sext a from width) = width
 abbrev pub IsWidth : ℕ → Type 0
 IsWidth width = (1 ≤ width) × (width ≤ 128)
 
--- what a term names stands among the first n, and the width that it gives is one
+-- what a term names is among the first n, and the width that it gives is valid
 abbrev pub IsWithin : ℕ → Term → Type 0
 IsWithin n (term.Constant value width) = IsWidth width × (value < 2 ^ width)
 IsWithin n (term.Variable number width) = IsWidth width
@@ -54,7 +54,7 @@ IsWithin n (term.Sext a from width) = IsWidth width × (a.index < n)
 abbrev pub HasWidth : List Tree → TermId → ℕ → Type 0
 HasWidth earlier a width = width_of (tree_at earlier a) ≡ width
 
--- the widths of what a term names go together
+-- the widths of what a term names match
 abbrev pub AreMatched : List Tree → Term → Type 0
 AreMatched earlier (term.Constant value width) = Unit {0}
 AreMatched earlier (term.Variable number width) = Unit {0}
@@ -66,7 +66,7 @@ AreMatched earlier (term.Concat high low below width) = HasWidth earlier low bel
 AreMatched earlier (term.Zext a width) = width_of (tree_at earlier a) ≤ width
 AreMatched earlier (term.Sext a from width) = HasWidth earlier a from × (from ≤ width) × (1 ≤ from)
 
--- a term goes well after the earlier ones
+-- a term is valid after the earlier ones
 pub record IsFit (earlier : List Tree) (term : Term) : Type 0 where
   pub within : IsWithin (length earlier) term
   pub matched : AreMatched earlier term
@@ -83,11 +83,11 @@ abbrev pub AreFit : List Tree → List Term → Type 0
 AreFit earlier [] = Unit {0}
 AreFit earlier (t ∷ ts) = IsFit earlier t × AreFit (earlier ++ tree_of earlier t ∷ []) ts
 
--- no term stands twice
+-- no term occurs twice
 abbrev pub AreDistinct : List Term → Type 0
 AreDistinct terms = (i j : ℕ) (t : Term) → slice_get terms i ≡ Some t → slice_get terms j ≡ Some t → i ≡ j
 
--- ---- what terms say
+-- ---- the values of terms
 
 abbrev pub tree_in : List Term → TermId → Tree
 tree_in terms a = tree_at (trees_of terms) a
@@ -121,14 +121,14 @@ unfoldable pub variables_among : List Term → List Variable
 variables_among [] = []
 variables_among (t ∷ ts) = variable_in t ++ variables_among ts
 
--- the terms stay, as above, and no variable comes
+-- the terms stay, as above, and no variable is added
 pub record Keeps (old new : List Term) : Type 0 where
   pub longer : length old ≤ length new
   pub terms : (i : ℕ) → i < length old → slice_get new i ≡ slice_get old i
   pub kept : (a : TermId) → a.index < length old → tree_in new a ≡ tree_in old a
   pub calm : variables_among new ≡ variables_among old
 
--- these variables come, or none do
+-- these variables are added, or none are
 abbrev pub Gains : (old new : List Term) → List Variable → Type 0
 Gains old new xs = (variables_among new ≡ variables_among old) ⊎ (variables_among new ≡ variables_among old ++ xs)
 

@@ -1,4 +1,4 @@
--- Which variables are one.
+-- Which variables are the same.
 use Rattle.std.specs.Prelude.{◌&&◌, Bool, nat_eq}
 use Rattle.bv_terms.specs.declared.variable.Variable.{Variable}
 

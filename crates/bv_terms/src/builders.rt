@@ -9,8 +9,8 @@ use crate::term::{BinaryOp, Term, TermId};
 use crate::terms::Terms;
 use support::NoMemory;
 
-/// Each builder answers the term, which is stored unless it is there, and leaves those before it as
-/// they were, also where memory fails. Only [`Terms::variable`] brings a variable.
+/// Each builder answers the term, which is stored unless it is there, and leaves the earlier ones
+/// as they were, even out of memory. Only [`Terms::variable`] adds a variable.
 impl Terms {
     /// A number, which is below 2 to the power of the width.
     pub fn constant(&mut self, value: u128, width: u32) -> Result<TermId, NoMemory>
@@ -34,7 +34,7 @@ impl Terms {
         self.store(Term::Variable { number, width })
     }
 
-    /// Each bit turned.
+    /// Each bit inverted.
     pub fn not(&mut self, a: TermId) -> Result<TermId, NoMemory>
         requires { a.index < length self.old }
         ensures stored { IfOk result (λ id. slice_get self.new id.index ≡ Some (variant.Not a (width_of (tree_in self.old a)))) }
@@ -74,7 +74,7 @@ impl Terms {
         self.apply(Term::Ite { c, a, b, width })
     }
 
-    /// The bits of `a` from the place `from` on, counted from the lowest, as many as `width`.
+    /// `width` bits of `a` from bit `from` on, counted from the least significant one.
     pub fn extract(&mut self, a: TermId, from: u32, width: u32) -> Result<TermId, NoMemory>
         requires a { a.index < length self.old }
         requires least { 1 ≤ width }

@@ -17,7 +17,7 @@ pub trait TermFold {
 
     type Fault: Drop;
 
-    /// This answer stands for this tree.
+    /// This answer denotes this tree.
     ghost stands: { Self → Tree → Self.Out → Type 0 };
 
     /// The second may come after the first in one fold.
@@ -35,13 +35,13 @@ pub trait TermFold {
         ensures follows { follows self.old self.new }
         ensures fault { IfErr result (gives term.now) };
 
-    /// Nothing need change.
+    /// `follows` is reflexive.
     ghost stays: { (a : Self) → follows a a };
 
-    /// What comes after what comes after comes after.
+    /// `follows` is transitive.
     ghost goes_on: { (a b c : Self) → follows a b → follows b c → follows a c };
 
-    /// An answer that stands stands from then on.
+    /// An answer that denotes a tree denotes it from then on.
     ghost keeps: { (a b : Self) (tree : Tree) (out : Self.Out) → follows a b → stands a tree out → stands b tree out };
 }
 
@@ -52,7 +52,7 @@ pub enum FoldFault<E> {
     Node(E),
 }
 
-/// The answers for the terms, in order: each stands for the term of its place. It takes one step a
+/// The answers for the terms, in order: each denotes the term at its index. It takes one step per
 /// term.
 pub fn fold<F: TermFold>(
     alloc: Global,

@@ -1,9 +1,9 @@
 //! Terms over bit vectors, each stored once, and folds over them.
 //!
 //! A term is an operation over earlier terms; the operations are those of the theory of fixed-size
-//! bit vectors of SMT-LIB. Contracts see each term as the tree that it stands for. It promises that
+//! bit vectors of SMT-LIB. Contracts see each term as the tree that it denotes. It promises that
 //! equal terms get equal ids, that the terms of a list stay as more are made, and that the answers
-//! of [`fold`] stand for the terms in order, for each [`TermFold`]. It stands on `support`;
+//! of [`fold`] denote the terms in order, for each [`TermFold`]. It uses `support`;
 //! evaluation, substitution and circuits are folds over it.
 #![tactic(auto)]
 

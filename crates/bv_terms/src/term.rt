@@ -2,14 +2,14 @@
 
 ghost use Rattle.std.specs.Prelude.{◌≡◌};
 
-/// The place of a term in its list, counted from 0.
+/// The index of a term in its list, counted from 0.
 #[derive(Clone, Copy, PartialEq, Eq, Hash, Debug)]
 pub struct TermId {
     pub index: usize,
 }
 
-/// An operation on two numbers of one width. The comparisons answer 1 bit, the others as many as
-/// their operands have.
+/// An operation on two numbers of one width. The comparisons answer 1 bit, the others the width
+/// of their operands.
 #[derive(Clone, Copy, PartialEq, Eq, Hash, Debug)]
 pub enum BinaryOp {
     And,

@@ -39,7 +39,7 @@ impl Terms {
         }
     }
 
-    /// The term's place, as a term: the bare step.
+    /// The term's index, as a term id: the bare step.
     fn insert(&mut self, term: Term) -> Result<TermId, NoMemory>
         requires within { IsWithin (length self.old) term }
         requires matched { AreMatched (trees_of self.old) term }
@@ -52,7 +52,7 @@ impl Terms {
         Ok(TermId { index })
     }
 
-    /// The place of the term, which is stored unless it is there.
+    /// The index of the term, which is stored unless it is there.
     pub fn store(&mut self, term: Term) -> Result<TermId, NoMemory>
         requires within { IsWithin (length self.old) term }
         requires matched { AreMatched (trees_of self.old) term }
@@ -65,7 +65,7 @@ impl Terms {
         Ok(id)
     }
 
-    /// The place of an operation or a constant, which is stored unless it is there. No variable comes.
+    /// The index of an operation or constant, which is stored unless it is there. Adds no variable.
     pub(crate) fn apply(&mut self, term: Term) -> Result<TermId, NoMemory>
         requires within { IsWithin (length self.old) term }
         requires matched { AreMatched (trees_of self.old) term }

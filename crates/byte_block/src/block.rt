@@ -4,8 +4,8 @@ use crate::value::{BlockName, Byte};
 use std::alloc::Global;
 use support::{NoMemory, Sequence};
 
-/// A block: its size and its alignment in bytes, and its places. A place past the size belongs to
-/// no byte of the block; a given block has room there, so that its size may change in place.
+/// A block: its size and its alignment in bytes, and its contents. What is past the size is no byte
+/// of the block; a given block has room there, so that its size may change in place.
 #[derive(Drop)]
 pub struct MemoryBlock {
     pub name: BlockName,
@@ -17,7 +17,7 @@ pub struct MemoryBlock {
 /// The blocks of a run, in order.
 pub type Memory = Sequence<MemoryBlock>;
 
-/// The same blocks again.
+/// A copy of the blocks.
 pub fn copy_memory(alloc: Global, memory: &Memory) -> Result<Memory, NoMemory>
     ensures { IfOk result (λ copy. copy ≡ memory.now) }
 {

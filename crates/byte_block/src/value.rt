@@ -5,7 +5,7 @@ pub enum BlockName {
     Null,
     /// A block that the caller gives, by its number from 1.
     Given(u64),
-    /// A block of the run's own: how many backward jumps were taken when it was made, and the place
+    /// A block of the run's own: how many backward jumps were taken when it was made, and the index
     /// of its `alloca` among the function's instructions, from 0. It is dead after the run.
     Local(u64, u64),
 }
@@ -25,7 +25,7 @@ pub enum Value {
     Ptr(Ptr),
 }
 
-/// A byte of memory: a number, poison, or the part of a pointer with this place from 0 to 7.
+/// A byte of memory: a number, poison, or the part of a pointer with this index from 0 to 7.
 #[derive(Clone, Copy, Debug, PartialEq, Eq)]
 pub enum Byte {
     Num(u8),

@@ -29,7 +29,7 @@ use Rattle.mem_terms.proofs.Later.{bit-later, keeps_trans, places-later, term-la
 use Rattle.mem_terms.proofs.Made.{small_mod}
 use Rattle.byte_terms.proofs.Bools.{and-thrice, and-yes, both_ways}
 
--- ---- one list where a condition is true, and as many poison bytes where it is not
+-- ---- one list where a condition is true, and the same number of poison bytes where it is not
 
 pub front_more : (c : Bool) (bytes : List Byte) (i : ℕ) (x : Byte) → slice_get bytes i ≡ Some x
     → cond c (take i bytes) (replicate i Poison) ++ cond c x Poison ∷ [] ≡ cond c (take (i + 1) bytes) (replicate (i + 1) Poison)
@@ -137,7 +137,7 @@ numbers_all r old x bytes i past so =
 
 -- ---- the number of bytes
 
--- what is left of a number behind its first bytes
+-- what is left of a number after its first bytes
 pub record Left (bytes : List Byte) (a low i : ℕ) : Type 0 where
   pub high : ℕ
   pub is : number_of_bytes bytes ≡ Some high

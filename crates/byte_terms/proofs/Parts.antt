@@ -24,7 +24,7 @@ use Rattle.byte_terms.proofs.Naming.{equal_numbers}
 use Rattle.byte_terms.proofs.Digits.{front_all, front_more, kind_isn't}
 use Rattle.byte_terms.proofs.Bools.{and-thrice, and-yes}
 
--- the pointer that two terms stand for
+-- the pointer that two terms denote
 abbrev pub pointer_at : Reading → List Term → (block offset : TermId) → Ptr
 pointer_at r terms block offset = record { block = r.name (term_at r.v terms block); offset = term_at r.v terms offset }
 

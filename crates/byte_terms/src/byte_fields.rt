@@ -8,7 +8,7 @@ use mem_terms::{equals, pick};
 use support::NoMemory;
 use term_rules::constant;
 
-/// The kind of poison where the condition is true, and else this one, 0 or 1.
+/// The kind of poison where the condition is true, else this one, 0 or 1.
 pub fn kind_unless(terms: &mut Terms, is_poison: TermId, kind: u128) -> Result<TermId, NoMemory>
     requires is_poison { IsTerm terms.old 1 is_poison }
     requires kind { kind < 2 }

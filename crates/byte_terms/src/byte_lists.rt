@@ -11,7 +11,7 @@ use mem_terms::{SymByte, pick_byte, poison_byte};
 use std::alloc::Global;
 use support::{NoMemory, Sequence};
 
-/// So many bytes of poison.
+/// This number of poison bytes.
 pub fn poison_bytes(
     alloc: Global,
     terms: &mut Terms,
@@ -27,7 +27,7 @@ pub fn poison_bytes(
     Ok(Sequence::from_vec(bytes))
 }
 
-/// The first bytes where the condition is true, and else the second.
+/// The first bytes where the condition is true, else the second.
 pub fn pick_bytes(
     alloc: Global,
     terms: &mut Terms,

@@ -28,7 +28,7 @@ pub fn byte_count(width: Width) -> usize
     (width.bits() as usize).div_ceil(8)
 }
 
-/// The byte of a number at a place, which is no part of a pointer.
+/// The byte of a number at an index, which is not a part of a pointer.
 fn number_byte(
     terms: &mut Terms,
     kind: TermId,
@@ -55,7 +55,7 @@ fn number_byte(
     })
 }
 
-/// The low bytes of a number where the kind is 0, and else as many that are poison.
+/// The low bytes of a number where the kind is 0, else the same number of poison bytes.
 fn number_bytes(
     alloc: Global,
     terms: &mut Terms,

@@ -1,9 +1,9 @@
 //! Values as bytes and bytes as values, as terms.
 //!
-//! It promises that under every assignment of the variables the terms of the bytes stand for those that
-//! `memory_access` defines of the value, and the term of a value for the one that it defines of the bytes.
-//! It stands on `mem_terms` for symbolic values and bytes, and on `memory_access` for what is meant; loads
-//! and stores as terms stand on it.
+//! It promises that under every assignment of the variables the terms of the bytes denote those
+//! that `memory_access` defines of the value, and the term of a value the one that it defines of
+//! the bytes. It builds on `mem_terms` for symbolic values and bytes, and on `memory_access` for
+//! what is meant; loads and stores as terms use it.
 //!
 //! - `byte_values`: the bytes that a value is stored as, and the value that bytes are read as;
 //!   `integer_bytes` and `pointer_bytes` for each kind of value.

@@ -15,7 +15,7 @@ use std::alloc::Global;
 use support::{NoMemory, Sequence};
 use term_rules::constant;
 
-/// A part of a pointer, which is no number.
+/// A part of a pointer, which is not a number.
 fn pointer_part(
     terms: &mut Terms,
     kind: TermId,
@@ -43,7 +43,7 @@ fn pointer_part(
     })
 }
 
-/// The parts of a pointer where the kind is 1, and else as many bytes that are poison.
+/// The parts of a pointer where the kind is 1, else the same number of poison bytes.
 fn pointer_parts(
     alloc: Global,
     terms: &mut Terms,

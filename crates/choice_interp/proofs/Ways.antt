@@ -66,7 +66,7 @@ left_so f tape jumps at m n b l whole way below is exit = by_spare way.spare way
           goes = ap (λ (x : Exit). go_on f x at (forward f tape again spare) again) (sym exit) ∙ ap (λ (o : Option Block). go_on f (exit_of f.returns_no_undef o tape m) at (forward f tape again spare) again) (sym is) ∙ step;
         }
 
--- as the loop has it: the block is the one at its place of the list
+-- as the loop has it: the block is the one at its index of the list
 pub left_at : (f : Function) (tape : List ℕ) (jumps at : ℕ) (m n : Machine) (xs : List Block) (b : Block) (l k : Left) (whole : Run) → IsOnTheWay f tape jumps at m whole → xs ≡ f.blocks → at < length xs → b ≡ get_or xs at b
     → exit_of f.returns_no_undef (Some b) tape m ≡ exit_with l n → l ≡ k → IsLeftSo f tape jumps at (exit_with k n) whole
 left_at f tape jumps at m n xs b l k whole way same below is exit left =

@@ -1,4 +1,4 @@
--- What is told of a run.
+-- What is reported of a run.
 use Rattle.std.specs.Prelude.{◌≡◌, ◌↔◌, IsTrue, ℕ, List, length}
 use Rattle.byte_block.specs.declared.block.MemoryBlock.{MemoryBlock}
 use Rattle.points.specs.declared.machine.Machine.{Machine}
@@ -15,7 +15,7 @@ outcome_of (Return v) memory = outcome.Return v memory
 outcome_of Ub memory = outcome.Ub
 outcome_of Beyond memory = outcome.Beyond
 
--- the run that ended so, and left the machine so
+-- the run that ended this way and left this machine
 abbrev pub run_with : Ending → Machine → Run
 run_with ending m = record { outcome = outcome_of ending m.memory; taken = m.taken }
 

@@ -1,4 +1,4 @@
--- What the runs of one function use again.
+-- What the runs of one function reuse.
 use Rattle.std.specs.Prelude.{◌≡◌, false, List, All, length}
 use Rattle.ir_tree.specs.declared.tree.Function.{Function}
 use Rattle.ir_tree.specs.BlockIndexes.{IsIndex}
@@ -12,7 +12,7 @@ pub record StaysAt (f : Function) (blocks memory : List MemoryBlock) : Type 0 wh
   pub kept : All DoesKeepMemory f.blocks
   pub given : All IsGiven blocks
 
--- a machine for the function on inputs with these blocks, and the places of its labels; runs that don't restore the blocks leave them as they are
+-- a machine for the function on inputs with these blocks, and the indices of its labels; runs that don't restore the blocks leave them as they are
 pub record IsRunner (f : Function) (blocks : List MemoryBlock) (runner : Runner) : Type 0 where
   pub registers : length runner.machine.registers ≡ length f.names
   pub memory : runner.restores ≡ false → StaysAt f blocks runner.machine.memory

@@ -25,7 +25,7 @@ pub fn are_given(blocks: &[MemoryBlock]) -> bool
     blocks.iter().all(|block| is_given_name(block.name))
 }
 
-/// Frees the local blocks. It takes no memory.
+/// Frees the local blocks. It allocates nothing.
 pub fn free_locals(alloc: Global, memory: &mut Memory)
     ensures { memory.new ≡ filter is_given memory.old }
 {
@@ -66,7 +66,7 @@ fn without_bytes(alloc: Global) -> MemoryBlock {
     }
 }
 
-/// Leaves this many blocks.
+/// Keeps the first blocks, this many.
 fn fit(alloc: Global, memory: &mut Memory, count: usize) -> Result<(), NoMemory>
     ensures { OnOk result (length memory.new ≡ count) }
 {
@@ -80,7 +80,7 @@ fn fit(alloc: Global, memory: &mut Memory, count: usize) -> Result<(), NoMemory>
     Ok(())
 }
 
-/// Makes the memory equal to these blocks. Room for blocks and bytes is used again.
+/// Makes the memory equal to these blocks. Room for blocks and bytes is reused.
 pub fn restore(alloc: Global, memory: &mut Memory, blocks: &[MemoryBlock]) -> Result<(), NoMemory>
     ensures { OnOk result (memory.new ≡ blocks.now) }
 {

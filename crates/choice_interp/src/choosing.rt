@@ -19,7 +19,7 @@ fn word_at(tape: &[u64], i: usize) -> u64
     tape.get(i).copied().unwrap_or(0)
 }
 
-/// The word after the next one.
+/// The tape's word after the next one.
 fn second_word(tape: &[u64], read: usize) -> u64
     ensures { result ≡ slice_index tape.now (read + 1) }
 {

@@ -51,7 +51,7 @@ fn bytes_are_allowed(source: &[Byte], target: &[Byte]) -> bool
     true
 }
 
-/// The places of a block that are bytes of it.
+/// The bytes of a block: its contents below its size.
 fn bytes_in(block: &MemoryBlock) -> &[Byte]
     ensures { result.now ≡ bytes_of block.now }
 {

@@ -28,7 +28,7 @@ impl Ending {
     }
 }
 
-/// Whether the source's ending allows the target's, where both runs leave one and the same memory.
+/// Whether the source's ending allows the target's, where both runs leave the same memory.
 #[tactic(auto, using(crate::proofs::Endings::refines_with_memory))]
 pub fn ending_refines(source: Ending, target: Ending) -> bool
     ensures { (memory : List MemoryBlock) → result ≡ is_refined (outcome_of source memory) (outcome_of target memory) }

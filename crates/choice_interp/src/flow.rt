@@ -17,7 +17,7 @@ use points::Machine;
 use support::{NoMemory, Sequence};
 use tv_num::Width;
 
-/// How a block is left: for the block of a label, or for good.
+/// How a block is left: for the block of a label, or with the end of the run.
 #[derive(Clone, Copy, Debug, PartialEq, Eq)]
 pub enum Left {
     To(usize),
@@ -71,8 +71,8 @@ fn assign_phis(machine: &mut Machine, phis: &[Phi], values: &[Value])
     }
 }
 
-/// Enters a block: all its phis get their values at once. `values` is room for these; memory is taken
-/// where it is too small. Where memory runs out, the machine is as before.
+/// Enters a block: all its phis get their values at once. `values` is room for these; it grows
+/// where it is too small. When out of memory, the machine is as before.
 pub fn enter(
     machine: &mut Machine,
     values: &mut Sequence<Value>,
@@ -171,8 +171,8 @@ pub fn leave(
     }
 }
 
-/// Jumps from a place to another one, with so many backward jumps left: how many are left then, and
-/// none where it is one too many.
+/// Jumps from the block at an index to another one, with `jumps` backward jumps left: how many are
+/// left then, and `None` where the jump is one too many.
 pub fn jump(machine: &mut Machine, at: usize, to: usize, jumps: u64) -> Option<u64>
     requires { machine.old.turn + jumps < 2 ^ 64 }
     ensures value { IsJump at to jumps machine.old machine.new result }

@@ -1,8 +1,8 @@
 //! Runs of a function on an input, with choices from a tape.
 //!
-//! It promises that what it reports is the run that `points` defines, memory included. It stands on
-//! `points` and `memory_access`; the judge by counting and whatever shows a counterexample stand on
-//! it. [`interpret`] is one run; [`run_again`] runs by a [`Runner`], whose room is used again.
+//! It promises that what it reports is the run that `points` defines, memory included. It builds on
+//! `points` and `memory_access`; the judge by counting and whatever shows a counterexample use it.
+//! [`interpret`] is one run; [`run_again`] runs by a [`Runner`], whose room is reused.
 #![tactic(auto)]
 
 mod assigning;

@@ -24,7 +24,7 @@ fn access_of(of_type: IrType) -> Access
     }
 }
 
-/// "alloca Instruction". The block is one of this turn.
+/// "alloca Instruction". The block is named by the count of backward jumps so far and its number.
 pub fn allocate(
     machine: &mut Machine,
     alloc: Global,
@@ -109,8 +109,8 @@ fn index_value(registers: &[Value], of_type: &MemoryType, n: usize, index: GepIn
     }
 }
 
-/// What the indices of a `getelementptr` read. `values` is room for them; memory is taken where it is
-/// too small.
+/// What the indices of a `getelementptr` read. `values` is room for them; it grows where it is too
+/// small.
 pub fn take_index_values(
     values: &mut Sequence<Index>,
     registers: &[Value],

@@ -1,4 +1,4 @@
-// What operands read, and the value of a place of a type.
+// What operands read, and a value where one of a type is used.
 ghost use Rattle.std.specs.Prelude.{◌≡◌};
 ghost use Rattle.points.specs.Run.{operand_value, cut_value, address_value, typed_value, typed_operand_value, null_pointer, is_poison};
 
@@ -25,7 +25,7 @@ pub fn value_of(registers: &[Value], operand: Operand) -> Value
     }
 }
 
-/// A number cut to the width; a pointer is none.
+/// A number cut to the width; a pointer gives poison.
 pub fn cut(value: Value, width: Width) -> Value
     ensures { result ≡ cut_value width.bits value }
 {
@@ -35,7 +35,7 @@ pub fn cut(value: Value, width: Width) -> Value
     }
 }
 
-/// A pointer; a number is none.
+/// A pointer; a number gives poison.
 fn address(value: Value) -> Value
     ensures { result ≡ address_value value }
 {
@@ -55,7 +55,7 @@ pub fn typed_value(of_type: IrType, value: Value) -> Value
     }
 }
 
-/// What an operand behind its type reads.
+/// What an operand with its type reads.
 pub fn typed_value_of(registers: &[Value], operand: TypedOperand) -> Value
     ensures { result ≡ typed_operand_value registers.now operand }
 {

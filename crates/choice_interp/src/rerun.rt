@@ -60,7 +60,7 @@ fn run_block(
     Ok(left)
 }
 
-/// The blocks of a function, from the entry on, with so many backward jumps.
+/// The blocks of a function, from the entry on, with at most `turns` backward jumps.
 fn run_blocks(
     machine: &mut Machine,
     room: &mut Room,
@@ -97,10 +97,10 @@ fn run_blocks(
     Ok(Ending::Ub)
 }
 
-/// Runs a function on an input and a tape, by a runner of it that has the input's blocks. Memory is
-/// taken for blocks of `alloca` alone, and for choices, for the phis of a block and for the indices
-/// of a `getelementptr` where there are more of them than any run by this runner had before. When
-/// out of memory the runner is one in the middle of the run, good for another run.
+/// Runs a function on an input and a tape, by a runner of it that has the input's blocks. It
+/// allocates only for blocks of `alloca`, and for choices, for the phis of a block and for the
+/// indices of a `getelementptr` where there are more of them than any run by this runner had
+/// before. When out of memory the runner is left in the middle of the run, and fit for another run.
 pub fn run_again(
     runner: &mut Runner,
     f: &Function,

@@ -3,7 +3,7 @@ use memory_access::Index;
 use std::alloc::Global;
 use support::Sequence;
 
-/// Room that runs use again: for the values of a block's phis, and for the indices of a
+/// Room that runs reuse: for the values of a block's phis, and for the indices of a
 /// `getelementptr`. Blocks and bytes are taken from the allocator.
 #[derive(Drop)]
 pub struct Room {

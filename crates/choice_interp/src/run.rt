@@ -11,9 +11,8 @@ use points::{Bounds, Input, Machine, Outcome};
 use std::alloc::Global;
 use support::NoMemory;
 
-/// How a run ended, how many words of the tape it read, and whether the tape is no other than the
-/// choices that it took: each word that was read is below its choice's bound, and each other one is
-/// 0.
+/// How a run ended, how many words of the tape it read, and whether the tape is exactly the choices
+/// that it took: each word that was read is below its choice's bound, and each other one is 0.
 #[derive(Drop)]
 pub struct Ran {
     pub outcome: Outcome,
@@ -21,7 +20,7 @@ pub struct Ran {
     pub plain: bool,
 }
 
-/// Whether each word of the tape is the choice at its place, and 0 where there is none.
+/// Whether each word of the tape is the choice at its index, and 0 where there is none.
 pub fn is_plain(tape: &[u64], taken: &[u64]) -> bool
     ensures { IsTrue result ↔ ((k : ℕ) → slice_index tape.now k ≡ slice_index taken.now k) }
 {
@@ -33,7 +32,7 @@ pub fn is_plain(tape: &[u64], taken: &[u64]) -> bool
     true
 }
 
-// What is told of the run that ended so in this machine.
+// What is reported of the run that ended so in this machine.
 fn ran_of(machine: Machine, ending: Ending, tape: &[u64]) -> Ran
     ensures { Shows tape.now (run_with ending machine) result }
 {

@@ -12,9 +12,9 @@ use points::Machine;
 use std::alloc::{AllocError, Global};
 use support::{NoMemory, Sequence};
 
-/// What the runs of one function use again: a machine, the places of the function's labels, and
-/// room; and whether each run begins with restoring the blocks that it was given. Where it doesn't,
-/// the function makes and changes none.
+/// What the runs of one function reuse: a machine, the indices of the function's labels, and room;
+/// and whether each run begins with restoring the blocks that it was given. Where it doesn't, the
+/// function makes and changes none.
 #[derive(Drop)]
 pub struct Runner {
     pub machine: Machine,
@@ -45,7 +45,7 @@ fn machine_for(alloc: Global, f: &Function, blocks: &Memory) -> Result<Machine, 
 /// A runner of a function on inputs with these blocks.
 ///
 /// # Errors
-/// Out of memory alone.
+/// Only out of memory.
 pub fn runner_for(alloc: Global, f: &Function, blocks: &Memory) -> Result<Runner, NoMemory>
     ensures { IfOk result (IsRunner f.now blocks.now) }
 {
@@ -63,10 +63,10 @@ pub fn runner_for(alloc: Global, f: &Function, blocks: &Memory) -> Result<Runner
 }
 
 /// Gives other blocks to a runner, which then runs its function on inputs with these. Room for
-/// blocks and bytes is used again.
+/// blocks and bytes is reused.
 ///
 /// # Errors
-/// Out of memory alone; the runner then has no blocks to run with.
+/// Only out of memory; the runner then has no blocks to run with.
 pub fn give_blocks(runner: &mut Runner, blocks: &Memory) -> Result<(), NoMemory>
     ensures { OnOk result ((f : Code) (before : List MemoryBlock) → IsRunner f before runner.old → IsRunner f blocks.now runner.new) }
 {

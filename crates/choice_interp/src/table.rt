@@ -205,7 +205,7 @@ fn on_defined(op: Op, width: Width, left: Value, right: Value) -> Value
     }
 }
 
-/// The result of an operation; none is undefined behaviour.
+/// The result of an operation; `None` is undefined behaviour.
 pub fn on_values(op: Op, width: Width, left: Value, right: Value) -> Option<Value>
     ensures { result ≡ value_result op width.bits left right }
 {
@@ -216,7 +216,7 @@ pub fn on_values(op: Op, width: Width, left: Value, right: Value) -> Option<Valu
     }
 }
 
-/// Whether numbers of the width compare so (LLVM Language Reference, "icmp Instruction").
+/// Whether the predicate holds at this width (LLVM Language Reference, "icmp Instruction").
 fn compare(predicate: Predicate, width: Width, a: u64, b: u64) -> bool
     requires left { a < 2 ^ width.bits }
     requires right { b < 2 ^ width.bits }

@@ -14,7 +14,7 @@ module _ {A : Type 0} where
   at_place (y ∷ ys) zero x e = (omega arith, some-injective y x e)
   at_place (y ∷ ys) (suc i) x e = let r = at_place ys i x e in let l = r.0 in (omega arith, r.1)
 
-  -- a sum after a change of one place
+  -- a sum after a change at one index
   pub sum_after : (f : A → ℕ) (xs : List A) (i : ℕ) (x y : A) → get_elem? xs i ≡ some x → sum_by f (set xs i y) + f x ≡ sum_by f xs + f y
   sum_after f xs i x y e = let p = at_place xs i x e in ap (λ z. sum_by f (set xs i y) + f z) (sym p.1) ∙ sum_by-set f xs i y x p.0
 
@@ -88,7 +88,7 @@ count_within total c seats seat v run at =
     let mine = le_sum (λ u. u.allowance) seats seat v at in
     omega arith
 
--- as many numbers are drawn as the count says
+-- the number of numbers drawn is the count
 pub lengths-run : (total c : ℕ) (seats : List Hand) → BoardRun total c seats → sum_by (λ v. length v.drawn) seats ≡ c
 lengths-run total c seats begins = grind arith
 lengths-run total c seats (claims n before seat v run at room) =

@@ -11,7 +11,7 @@ hand drawn allowance = record { drawn = drawn; allowance = allowance }
 abbrev pub times : ℕ → List ℕ → ℕ
 times x xs = count_by (λ y. y == x) xs
 
--- 1 where x is below c, and else 0
+-- 1 where x is below c, else 0
 abbrev pub once_below : ℕ → ℕ → ℕ
 once_below x c = if nat_lt x c then 1 else 0
 

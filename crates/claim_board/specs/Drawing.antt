@@ -1,4 +1,4 @@
--- The rule that the table keeps, and what a seat of it is told.
+-- The rule that the table keeps, and what a claim reports to its seat.
 use Rattle.std.specs.Prelude.{◌≡◌, ℕ, ◌-◌, ◌^◌, ◌<◌, [], ◌∷◌, ◌++◌, length, slice_index, All}
 use Rattle.atomic_table.specs.Table.{State, Me, Step}
 use Rattle.claim_board.specs.declared.board.Hand.{Hand}

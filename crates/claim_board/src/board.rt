@@ -80,7 +80,7 @@ impl Board {
         }
     }
 
-    /// Draws the next number. It takes no memory and never waits.
+    /// Draws the next number. It allocates nothing and never waits.
     pub fn claim(&self, seat: &mut Seat) -> u64
         requires seat { IsSeatOf self.now seat.old }
         requires allowance { 0 < (hand_of seat.old).allowance }

@@ -27,14 +27,14 @@ RisesFrom n (l ∷ ls) = (n < l.variable) × RisesFrom l.variable ls
 abbrev pub IsClause : List Lit → Type 0
 IsClause ls = RisesFrom 0 ls
 
--- the clauses use variables 1 to `variables` alone
+-- the clauses use only variables 1 to `variables`
 abbrev pub AreWithin : ℕ → List (List Lit) → Type 0
 AreWithin variables cs = All (λ c. All (λ l. (0 < l.variable) × (l.variable ≤ variables)) c) cs
 
--- place i of an assignment has the value of variable i + 1
+-- index i of an assignment has the value of variable i + 1
 abbrev pub values_of : List Bool → ℕ → Bool
 values_of places x = slice_index_or places (x - 1) false
 
--- an assignment of that many variables that makes a literal of each clause true
+-- an assignment of `variables` variables that makes a literal of each clause true
 abbrev pub IsModel : ℕ → List (List Lit) → List Bool → Type 0
 IsModel variables clauses places = (length places ≡ variables) × (clauses_true (values_of places) clauses ≡ true)

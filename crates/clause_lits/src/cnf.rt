@@ -7,7 +7,7 @@ use crate::clause::Clause;
 use crate::lit::Lit;
 use support::Sequence;
 
-/// Values of the variables: place `i` is that of variable `i + 1`.
+/// Values of the variables: index `i` is that of variable `i + 1`.
 pub type Assignment = Sequence<bool>;
 
 /// Clauses over the variables 1 to `variables`, of which those up to `front` are the ordered ones.
@@ -21,7 +21,7 @@ pub struct Cnf {
 }
 
 impl Cnf {
-    /// The clauses over that many variables. [`are_within`] is the test that they use no others.
+    /// Clauses over this number of variables. [`are_within`] is the test that they use no others.
     pub fn new(variables: u64, clauses: Sequence<Clause>, front: u64) -> Cnf
         requires front { front ≤ variables }
         requires within { AreWithin variables clauses }
@@ -37,7 +37,7 @@ impl Cnf {
     }
 }
 
-/// Whether the clauses use variables 1 to `variables` alone.
+/// Whether the clauses use only variables 1 to `variables`.
 pub fn are_within(variables: u64, clauses: &[Clause]) -> bool
     ensures { IsTrue result ↔ AreWithin variables clauses.now }
 {
@@ -49,7 +49,7 @@ pub fn are_within(variables: u64, clauses: &[Clause]) -> bool
     true
 }
 
-/// Whether the literals use variables 1 to `variables` alone.
+/// Whether the literals use only variables 1 to `variables`.
 fn is_within(variables: u64, literals: &[Lit]) -> bool
     ensures { IsTrue result ↔ All (λ l. (0 < l.variable) × (l.variable ≤ variables)) literals.now }
 {

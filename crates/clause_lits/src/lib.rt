@@ -2,7 +2,7 @@
 //!
 //! A [`Clause`] is its list of literals, ordered by variable; a [`Cnf`] is a list of clauses over
 //! the variables 1 to `variables`, as in DIMACS. It promises that [`holds`] is the model relation.
-//! It stands on `support`; circuits, logs and solvers stand on it.
+//! It uses `support`; circuits, logs and solvers use it.
 #![tactic(auto)]
 
 mod clause;

@@ -2,7 +2,7 @@
 
 ghost use Rattle.std.specs.Prelude.{◌≡◌};
 
-/// A variable, from 1 where it stands in a clause, and a sign.
+/// A variable, from 1 on in a clause, and a sign.
 #[derive(Clone, Copy, PartialEq, Eq, Hash, Default, Debug)]
 pub struct Lit {
     pub variable: u64,

@@ -48,7 +48,7 @@ module _ {Y : Type 0} (R : ℕ → Y → Type 0) where
       let e : (a + 1) + i ≡ a + suc i = omega arith in
       subst (λ (k : ℕ). R k (get_or ys i d)) e (ranged-at (a + 1) n ys i d h.1 (omega arith))
 
--- verdicts made for each place are the verdicts
+-- verdicts made for each index are the verdicts
 pub AreVerdicts-ranged : (clauses : List (List Lit)) (log : List Step) (verdicts : List (Result Bool NoMemory))
     → AllZip (λ i r. IfOk r (λ b. IsTrue b ↔ IsSoundAt clauses log i)) (range_with_len 0 (length log)) verdicts
     → AreVerdicts clauses log verdicts

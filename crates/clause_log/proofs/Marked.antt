@@ -179,7 +179,7 @@ module _ (signs : List (Option Bool)) (c ys : List Lit) (p : IsClause c) (q : Is
   clashes-marked false e = joined-none (sym e)
 
   module _ (room : HaveRoom (length signs) ys) where
-    -- what is marked of a variable that stands in the clause
+    -- what is marked of a variable that occurs in the clause
     from-met : (l y : Lit) → Has ys y → y.variable ≡ l.variable → (m : Option Bool) → get_or signs l.variable None ≡ m → met m y.positive ≡ Some l.positive
         → Has (joined c ys) l
     from-met l y h e None is to =
@@ -203,7 +203,7 @@ module _ (signs : List (Option Bool)) (c ys : List Lit) (p : IsClause c) (q : Is
           subst (λ (v : ℕ). met (get_or signs v None) it.0.positive ≡ get_or (walked signs ys) v None) it.2 (sym (walked-at 0 signs ys it.0 q room it.1)) ∙ e)
     ]
 
-    -- what stands in the join is marked
+    -- what occurs in the join is marked
     back-left : (l : Lit) → Has (joined c ys) l → Has c l → get_or (walked signs ys) l.variable None ≡ Some l.positive
     back-left l j h = elim (variable-cases ys l.variable) [
       | inr lacks ↦ walked-other signs ys l.variable lacks ∙ (marks l).1 h

@@ -1,4 +1,4 @@
--- Which literals the join of two clauses has, and where just one variable clashes.
+-- Which literals the join of two clauses has, and where exactly one variable clashes.
 use Rattle.std.proofs.Common.{ℕ, ◌≡◌, ◌<◌, ◌+◌, ◌⊎◌, inl, inr, Bool, true, false, not, cond, List, [], ◌∷◌, ltb, arith, sym, ap, refl, ◌∙◌}
 use Rattle.std.proofs.lemmas.Bool.{ltb-true, ltb-false, cases_Bool, false≢true, true≢false}
 use Rattle.clause_lits.specs.declared.lit.Lit.{Lit}
@@ -120,7 +120,7 @@ right_joined (x ∷ xs) ys l absent h = right_at x xs l (λ zs k g. right_joined
 
 module _ (n : ℕ) (x y k : Lit) (xs ys : List Lit) (p : RisesFrom n (x ∷ xs)) (q : RisesFrom n (y ∷ ys))
     (h : Has (x ∷ xs) k) (g : Has (y ∷ ys) (opposite_of k)) where
-  -- the clashing literal stands further on in the first clause
+  -- the clashing literal occurs further on in the first clause
   later_left : x.variable < y.variable → Has xs k
   later_left lt = elim h [ inr a ↦ a | inl e ↦ absurd (go e g) ]
     where
@@ -181,7 +181,7 @@ pub none_clash : (xs ys : List Lit) → ((l : Lit) → Has xs l → Has ys (oppo
 none_clash [] ys apart = refl
 none_clash (x ∷ xs) ys apart = none_at x xs (λ zs h. none_clash xs zs h) ys apart
 
--- where one literal alone clashes the count is 1
+-- where exactly one literal clashes the count is 1
 one_at : (n : ℕ) (x k : Lit) (xs : List Lit) → RisesFrom n (x ∷ xs)
     → ((m : ℕ) (zs : List Lit) → RisesFrom m xs → RisesFrom m zs → Has xs k → Has zs (opposite_of k)
     → ((l : Lit) → Has xs l → Has zs (opposite_of l) → l ≡ k) → clashes xs zs ≡ 1)
@@ -219,7 +219,7 @@ pub one_clash : (n : ℕ) (k : Lit) (xs ys : List Lit) → RisesFrom n xs → Ri
 one_clash n k [] ys p q h g only = absurd h
 one_clash n k (x ∷ xs) ys p q h g only = one_at n x k xs p (λ m zs a b c d e. one_clash m k xs zs a b c d e) ys q h g only
 
--- a clashing variable doesn't stand in the join
+-- a clashing variable does not occur in the join
 gone_at : (n : ℕ) (x k l : Lit) (xs : List Lit) → RisesFrom n (x ∷ xs)
     → ((m : ℕ) (zs : List Lit) → RisesFrom m xs → RisesFrom m zs → Has xs k → Has zs (opposite_of k) → Has (joined xs zs) l → l.variable ≡ k.variable → ⊥)
     → (ys : List Lit) → RisesFrom n ys → Has (x ∷ xs) k → Has ys (opposite_of k) → Has (joined_at x (joined xs) ys) l → l.variable ≡ k.variable → ⊥
@@ -311,7 +311,7 @@ pub zero_clash : (n : ℕ) (k : Lit) (xs ys : List Lit) → RisesFrom n xs → R
 zero_clash n k [] ys p q h g none = h
 zero_clash n k (x ∷ xs) ys p q h g none = zero_at n x k xs p (λ m zs a b c d e. zero_clash m k xs zs a b c d e) ys q h g none
 
--- where it is 1 just one literal clashes
+-- where it is 1 exactly one literal clashes
 only_at : (n : ℕ) (x k l : Lit) (xs : List Lit) → RisesFrom n (x ∷ xs)
     → ((m : ℕ) (zs : List Lit) → RisesFrom m xs → RisesFrom m zs → Has xs k → Has zs (opposite_of k) → Has xs l → Has zs (opposite_of l) → clashes xs zs ≡ 1 → l ≡ k)
     → (ys : List Lit) → RisesFrom n ys → Has (x ∷ xs) k → Has ys (opposite_of k) → Has (x ∷ xs) l → Has ys (opposite_of l) → clashes_at x (clashes xs) ys ≡ 1 → l ≡ k

@@ -220,7 +220,7 @@ module _ (v : ℕ → Bool) where
           let it = step-true clauses log refutes.sound t (suc (length log - 1)) (length log - 1) s (omega arith) at in
           let no : clause_true v [] ≡ true = rw none at it in absurd (false≢true no)
 
-  -- what stands before a place is true wherever the clauses are
+  -- where the clauses are true and each step is sound, the clauses of all steps are true
   pub standing-true : (clauses : List (List Lit)) (log : List Step) → ((index : ℕ) → index < length log → IsSoundAt clauses log index) → clauses_true v clauses ≡ true
       → clauses_true v (clauses ++ map (λ s. s.clause) log) ≡ true
   standing-true clauses log sound_at t =

@@ -1,4 +1,4 @@
--- What it is to stand in a list.
+-- Membership in a list.
 use Rattle.std.specs.Prelude.{◌≡◌, ◌⊎◌, List, [], ◌∷◌}
 
 abbrev pub Has : {X : Type 0} → List X → X → Type 0

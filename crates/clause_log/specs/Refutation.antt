@@ -6,7 +6,7 @@ use Rattle.clause_lits.specs.declared.lit.Lit.{Lit}
 use Rattle.clause_log.specs.declared.step.Step.{Step}
 use Rattle.clause_log.specs.Chain.{chain_resolvent}
 
--- the clauses that stand before the step at an index: the first ones, and then those of the earlier steps
+-- the clauses before the step at an index: the given ones, and then those of the earlier steps
 abbrev pub standing_before : List (List Lit) → List Step → ℕ → List (List Lit)
 standing_before clauses log index = clauses ++ map (λ s. s.clause) (take index log)
 

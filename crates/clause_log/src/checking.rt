@@ -1,4 +1,4 @@
-//! The check of a log, its steps side by side.
+//! The check of a log, its steps in parallel.
 
 ghost use Rattle.std.specs.Prelude.{◌≡◌, ◌<◌, ◌↔◌, ℕ, IfOk, IfErr, OnOk, IsTrue, IfSome, length, slice_get};
 ghost use Rattle.clause_log.specs.Refutation.{EndsEmpty, IsSoundAt, Refutes};
@@ -15,7 +15,7 @@ use std::thread::Threads;
 use support::NoMemory;
 use thiserror::Error;
 
-/// Why a log is not taken.
+/// Why a log is not accepted.
 #[derive(Debug, Drop, PartialEq, Eq, Error)]
 pub enum LogFault {
     #[error("out of memory")]
@@ -38,7 +38,7 @@ impl From<AllocError> for LogFault {
 }
 
 /// Checks that each step is the resolvent of its chain of earlier clauses, and the last one empty.
-/// The steps are checked side by side, and the answer is that of one loop over them. A sound step
+/// The steps are checked in parallel, and the answer is that of one loop over them. A sound step
 /// takes time in the length of its chain's clauses, where there is room to mark its variables.
 pub fn check_log(
     rt: &(impl Threads + Sync),
@@ -88,8 +88,8 @@ fn verdicts(
         .collect(rt, alloc)
 }
 
-/// Whether marks show that the step is the resolvent of its chain of earlier clauses. Marks that
-/// didn't show one step, as an unsound one or one without room, show none after it.
+/// Whether marks show that the step is the resolvent of its chain of earlier clauses. Marks in which
+/// an earlier step left literals, as an unsound one may, show none.
 fn is_shown_at(marks: &mut Marks, clauses: &[Clause], log: &[Step], index: usize) -> bool
     ensures { IsTrue result → IsSoundAt clauses.now log.now index }
 {

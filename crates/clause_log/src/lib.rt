@@ -2,8 +2,8 @@
 //!
 //! A [`Step`] is a clause and the chain of earlier clauses that it is resolved from; a [`Log`] is a
 //! list of steps, as in RUP and LRAT proofs with their hints. It promises that [`check_log`] accepts
-//! exactly the logs that refute, and that clauses which are refuted have no model. It stands on
-//! `clause_lits`; solvers, questions and proof texts stand on it.
+//! exactly the logs that refute, unless it runs out of memory, and that clauses which are refuted
+//! have no model. It uses `clause_lits`; solvers, questions and proof texts use it.
 #![tactic(auto)]
 
 mod chains;

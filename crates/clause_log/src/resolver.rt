@@ -10,8 +10,8 @@ use std::alloc::Global;
 use std::cmp::Ordering;
 use support::NoMemory;
 
-/// The resolvent of two clauses: where exactly one variable stands in both with opposite signs, all
-/// their other literals. `None` exactly where no clause is that.
+/// The resolvent of two clauses: where exactly one variable occurs in both with opposite signs, all
+/// their other literals. `None` exactly where there is none.
 pub fn resolve(alloc: Global, a: &Clause, b: &Clause) -> Result<Option<Clause>, NoMemory>
     ensures resolvent { IfOk result (IsResolventOf a.now b.now) }
     ensures value { IfOk result (λ r. r ≡ resolvent a.now b.now) }
@@ -21,8 +21,8 @@ pub fn resolve(alloc: Global, a: &Clause, b: &Clause) -> Result<Option<Clause>, 
     merge(alloc, a, b)
 }
 
-/// The literals of both in order, if just one variable stands in both with opposite signs, but those
-/// of that variable.
+/// The literals of both in order, but those of the variable that occurs in both with opposite
+/// signs, if there is exactly one.
 fn merge(alloc: Global, a: &Clause, b: &Clause) -> Result<Option<Clause>, NoMemory>
     ensures value { IfOk result (λ r. r ≡ resolvent a.now b.now) }
     ensures left { IsClause a.now }

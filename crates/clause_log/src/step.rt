@@ -1,10 +1,10 @@
-//! Steps of a log, and what a log goes with.
+//! Steps of a log, and a log with its clauses.
 
 use clause_lits::{Clause, Cnf};
 use support::Sequence;
 
 /// A clause, and the numbers of the earlier clauses that it is resolved from. Clauses are numbered
-/// from 1: those of the list that the log speaks of, and then those of the steps.
+/// from 1: the given ones that the log is about, and then those of the steps.
 #[derive(Drop)]
 pub struct Step {
     pub chain: Sequence<u64>,
@@ -14,7 +14,7 @@ pub struct Step {
 /// Steps, in order.
 pub type Log = Sequence<Step>;
 
-/// Clauses, and a log that speaks of them.
+/// Clauses, and a log about them.
 #[derive(Drop)]
 pub struct Cert {
     pub cnf: Cnf,

@@ -1,4 +1,4 @@
--- What a conflict gives: a clause that no standing one is part of, and that is unit further down.
+-- What a conflict gives: a clause that no earlier one is part of, and that is unit further down.
 use Rattle.std.proofs.Common.{append_assoc, ℕ, zero, suc, ◌≡◌, ◌-◌, ◌⊎◌, ◌++◌, inl, inr, Bool, true, false, not, List, [], ◌∷◌, Some, slice_get, eqb, sym, ap, subst, refl, ◌∙◌}
 use Rattle.std.proofs.lemmas.Bool.{cases_Bool, false≢true}
 use Rattle.clause_log.specs.Members.{Has}
@@ -17,7 +17,7 @@ turned l m e = sym (opposite-opposite l) ∙ ap opposite_of e
 same_variable : (l m : Lit) → l ≡ m → l.variable ≡ m.variable
 same_variable l m e = ap (λ (x : Lit). x.variable) e
 
--- what stands on a trail with one more entry
+-- what is true on a trail with one more entry
 pub stands-push : (before : List Entry) (e : Entry) (l : Lit) → Stands (before ++ e ∷ []) l → Stands before l ⊎ (e.literal ≡ l)
 stands-push before e l h = elim (stands-split before (e ∷ []) l h) [ inl g ↦ inl g | inr g ↦ elim g [ inl k ↦ inr k | inr k ↦ absurd k ] ]
 

@@ -89,7 +89,7 @@ module _ (variables : ℕ) (clauses : List (List Lit)) (trail : List Entry) (low
     false_here : AllFalse (take (place - 1) trail ++ d ∷ []) current
     false_here = subst (λ (x : List Entry). AllFalse x current) more back.all
 
-    -- an entry whose opposite the clause hasn't
+    -- an entry whose opposite the clause does not have
     pub back-skip : (Has current (opposite_of d.literal) → ⊥) → IsBack clauses trail low chain current (place - 1)
     back-skip absent =
         let less = skipped (take (place - 1) trail) d current false_here absent in

@@ -1,4 +1,4 @@
--- A trail by its places.
+-- A trail by its positions.
 use Rattle.std.proofs.Common.{append_assoc, ℕ, zero, suc, ◌≡◌, ◌<◌, ◌≤◌, ◌+◌, ◌++◌, inl, inr, List, [], ◌∷◌, Option, Some, None, IfSome, ◌⊎◌, take, drop, get_or, slice_get, length, arith, sym, ap, subst, refl, ◌∙◌}
 use Rattle.std.proofs.lemmas.List.{take_more, take-append-drop}
 use Rattle.std.proofs.lemmas.Option.{slice_get_within, get_or_from_slice_get}
@@ -13,7 +13,7 @@ use Rattle.clause_search.proofs.Analysis.{trail-at, trail-front}
 pub split-at : (trail : List Entry) (i : ℕ) (d : Entry) → i < length trail → take i trail ++ get_or trail i d ∷ drop (suc i) trail ≡ trail
 split-at trail i d lt = sym (ap (λ zs. take i trail ++ zs) (drop-cons trail i d lt)) ∙ take-append-drop i trail
 
--- an entry is grounded in those before its place
+-- an entry is grounded in those before its position
 pub grounded-at : (n : ℕ) (clauses : List (List Lit)) (trail : List Entry) (i : ℕ) (d : Entry) → i < length trail → IsTrail n clauses [] trail
     → IsGrounded n clauses (take i trail) (get_or trail i d)
 grounded-at n clauses trail i d lt h =
@@ -24,7 +24,7 @@ pub trail-take : (n : ℕ) (clauses : List (List Lit)) (trail : List Entry) (i :
 trail-take n clauses trail i h =
     trail-front n clauses [] (take i trail) (drop i trail) (subst (λ (x : List Entry). IsTrail n clauses [] x) (sym (take-append-drop i trail)) h)
 
--- what stands early stands later
+-- what is true early is true later
 pub stands-take : (trail : List Entry) (i j : ℕ) (l : Lit) → i ≤ j → Stands (take i trail) l → Stands (take j trail) l
 stands-take [] zero j l h s = absurd s
 stands-take [] (suc i) j l h s = absurd s
@@ -74,7 +74,7 @@ unready-below c k trail (suc n) h g =
 pub but-later : (c : List Lit) (k : Lit) (trail : List Entry) (i j : ℕ) → i ≤ j → FalseBut (take i trail) c k → FalseBut (take j trail) c k
 but-later c k trail i j h but l has = elim (but l has) [ inl e ↦ inl e | inr s ↦ inr (stands-take trail i j (opposite_of l) h s) ]
 
--- at no decision up to the last one before a place, if not at that
+-- at no decision up to the last one before a position, if not at that
 pub unready-at : (c : List Lit) (k : Lit) (trail : List Entry) (place : ℕ) (last : Option ℕ) → place ≤ length trail → IsLastBelow trail last place
     → IfSome last (λ p. FalseBut (take p trail) c k → ⊥) → IsUnready c k [] (take place trail)
 unready-at c k trail place None within last other = unready-below c k trail place within (λ i e lt at none but. last i e (omega arith) lt at none)

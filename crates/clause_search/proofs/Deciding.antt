@@ -1,4 +1,4 @@
--- Where a decision stands, each variable up to its own is assigned.
+-- Where there is a decision, each variable up to its own is assigned.
 use Rattle.std.proofs.Common.{ℕ, ◌≡◌, ◌<◌, inl, inr, List, [], Some, None, take, slice_get, arith, sym, ap, subst, ◌∙◌}
 use Rattle.std.proofs.lemmas.Bool.{cases_eq}
 use Rattle.std.proofs.lemmas.Option.{slice_get_within, get_or_from_slice_get}

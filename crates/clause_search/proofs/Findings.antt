@@ -24,7 +24,7 @@ open_more clauses trail from place before here n c above lt e = elim (cases_eq n
   | inr other ↦ before n c above (omega (arith, other)) e
 ]
 
--- those from a place on, and those before it
+-- those from an index on, and those before it
 pub open_both : (clauses : List (List Lit)) (trail : List Entry) (place : ℕ) → AreOpen clauses trail place (length clauses) → AreOpen clauses trail 0 place
     → AreOpen clauses trail 0 (length clauses)
 open_both clauses trail place late early n c above lt e = elim (cases_Bool (ltb place n)) [

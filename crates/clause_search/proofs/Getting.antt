@@ -1,4 +1,4 @@
--- Which item stands at a place.
+-- Which item is at an index.
 use Rattle.std.proofs.Common.{ℕ, zero, suc, ◌≡◌, ◌<◌, ◌+◌, ◌++◌, List, [], ◌∷◌, Some, take, slice_get, length, arith, refl}
 
 module _ {X : Type 0} where

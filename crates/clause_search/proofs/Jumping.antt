@@ -1,4 +1,4 @@
--- The place up to which the other literals of a clause are false.
+-- The position up to which the other literals of a clause are false.
 use Rattle.std.proofs.Common.{ℕ, ◌≡◌, ◌<◌, ◌≤◌, ◌+◌, ◌⊎◌, inl, inr, List, ◌∷◌, Some, refl, get_or, drop, take, slice_get, length, add-one, arith, sym, ap, subst, ◌∙◌}
 use Rattle.std.proofs.Math.Seq.{drop-cons}
 use Rattle.clause_log.specs.Members.{Has}
@@ -14,7 +14,7 @@ pub but-whole : (trail : List Entry) (n : ℕ) (c : List Lit) (k : Lit) → Fals
 but-whole trail n c k but l h = elim (but l h) [ inl e ↦ inl e | inr s ↦ inr (stands-whole trail n (opposite_of l) s) ]
 
 module _ (trail : List Entry) (c : List Lit) (k : Lit) where
-  -- the literals of c that aren't among the rest are false up to the place, and one of them up to no earlier one
+  -- the literals of c that aren't among the rest are false up to the position, and one of them up to no earlier one
   abbrev pub IsPast : List Lit → ℕ → Type 0
   IsPast rest past =
       ((m : Lit) → Has rest m → Has c m)
@@ -62,7 +62,7 @@ module _ (trail : List Entry) (c : List Lit) (k : Lit) where
           go : ((i : ℕ) × (e : Entry) × (i < n) × (slice_get trail i ≡ Some e) × (e.literal ≡ opposite_of x)) → p < n
           go (i, e, low, at, eq) = let same : i ≡ p = there.1 i e at (ap (λ (z : Lit). z.variable) eq) in omega (arith, same, low)
 
-  -- the same by places
+  -- the same by indices
   past-at : (ls : List Lit) (i : ℕ) (d : Lit) (past : ℕ) → i < length ls → IsPast (drop i ls) past → IsPast (get_or ls i d ∷ drop (i + 1) ls) past
   past-at ls i d past lt is =
       let e : drop i ls ≡ get_or ls i d ∷ drop (i + 1) ls = drop-cons ls i d lt ∙ ap (λ n. get_or ls i d ∷ drop n ls) (sym (add-one i)) in

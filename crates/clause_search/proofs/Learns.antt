@@ -138,11 +138,11 @@ module _ (n : ℕ) (clauses : List (List Lit)) (log : List Step) (trail : List E
         steps = steps_are;
       }
 
-  -- the learned clause stands
+  -- the learned clause is added
   pub search-learned : (log' : List Step) (trail' : List Entry) → log' ≡ log ++ y ∷ [] → trail' ≡ take place trail → IsSearch n clauses log' trail'
   search-learned log' trail' l t = rw (l, t) (going_on (take place trail) trail_kept)
 
-  -- and so does its literal
+  -- and so is its literal
   pub search-learn : (log' : List Step) (trail' : List Entry) → log' ≡ log ++ y ∷ [] → trail' ≡ take place trail ++ e ∷ [] → IsSearch n clauses log' trail'
   search-learn log' trail' l t = rw (l, t) (going_on (take place trail ++ e ∷ []) trail_is)
 

@@ -8,7 +8,7 @@ use Rattle.clause_log.proofs.Soundness.{Holds, holds_from}
 use Rattle.clause_search.specs.declared.trail.Entry.{Entry}
 use Rattle.clause_search.specs.Trail.{Stands, IsAssigned, FalseBut, IsDecision, IsGrounded, IsTrail}
 
--- every literal that stands is true
+-- every literal on the trail is true
 abbrev pub AllTrue : (ℕ → Bool) → List Entry → Type 0
 AllTrue v trail = (l : Lit) → Stands trail l → lit_true v l ≡ true
 

@@ -75,7 +75,7 @@ count-zero zero (true ∷ xs) none = absurd (none 0 (omega arith) refl)
 count-zero zero (false ∷ xs) none = let rest = count-zero zero xs (λ j le some. none (suc j) (omega arith) some) in omega (arith, rest)
 count-zero (suc low) (x ∷ xs) none = count-zero low xs (λ j le some. none (suc j) (omega (arith, le)) some)
 
--- and where there is one alone, it is one
+-- and where there is exactly one, it is one
 pub count-alone : (low i : ℕ) (bs : List Bool) → low ≤ i → get_or bs i false ≡ true → ((j : ℕ) → low ≤ j → get_or bs j false ≡ true → j ≡ i) → marked_from low bs ≡ 1
 count-alone low i [] le some alone = absurd (false≢true some)
 count-alone zero zero (true ∷ xs) le some alone =
@@ -132,7 +132,7 @@ counted-none low n marks is late early = record {
         go (suc m) zero h = false≢true h
         go (suc m) (suc j) h = go m j h
 
--- what a look at a place shows
+-- what a look at a position shows
 pub read-mark : (bs : List Bool) (i : ℕ) (b : Bool) → i < length bs → b ≡ get_or bs i b → get_or bs i false ≡ b
 read-mark [] i b lt e = absurd (omega arith)
 read-mark (x ∷ xs) zero b lt e = sym e
@@ -150,7 +150,7 @@ module _ (low place : ℕ) (old new : Marks) (within : place < length old.marked
   there : (b : Bool) → new.marked.items ≡ set old.marked.items place b → get_or new.marked.items place false ≡ b
   there b is = rw is (get_or-set_same old.marked.items place b false within)
 
-  -- one more before the place
+  -- one more before the position
   pub counted-early : get_or old.marked.items place false ≡ false → place < low → new.marked.items ≡ set old.marked.items place true
       → new.late ≡ old.late → new.early.items ≡ old.early.items ++ place ∷ [] → IsCounted low new
   counted-early none lt is late early = record {

@@ -120,7 +120,7 @@ module _ (trail : List Entry) (k : Lit) where
   abbrev at_place : ℕ → Lit
   at_place p = opposite_of (get_or trail p none).literal
 
-  -- the variable at a place is another one than those at the others
+  -- the variable at a position is another one than those at the others
   apart-places : IsSingle trail → (p : ℕ) → p < length trail → (ps : List ℕ) → (Has ps p → ⊥) → ((q : ℕ) → Has ps q → q < length trail)
       → AllByRecursion (λ (y : ℕ). eqb (at_place p).variable y ≡ false) (variables (map at_place ps))
   apart-places single p lt [] absent within = tt

@@ -20,7 +20,7 @@ true-among : (v : ℕ → Bool) (clauses : List (List Lit)) → ((c : List Lit) 
 true-among v [] h = refl
 true-among v (c ∷ cs) h = and_from (clause_true v c) (clauses_true v cs) (h c (inl refl)) (true-among v cs (λ d g. h d (inr g)))
 
--- a literal of an assigned variable stands if it is true, and its opposite if not
+-- a literal of an assigned variable is on the trail if it is true, and its opposite if not
 sides : (v : ℕ → Bool) (trail : List Entry) → AllTrue v trail → (l : Lit) → IsAssigned trail l.variable → Stands trail l ⊎ Stands trail (opposite_of l)
 sides v trail all l (m, s, e) = go m.positive l.positive refl refl
   where

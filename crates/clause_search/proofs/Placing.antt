@@ -1,4 +1,4 @@
--- What the places and marks of a trail tell.
+-- What the positions and marks of a trail say.
 use Rattle.std.proofs.Common.{ℕ, zero, suc, ◌≡◌, ◌<◌, ◌≤◌, ◌+◌, ◌-◌, ◌++◌, ◌↔◌, ◌⊎◌, inl, inr, Bool, IsTrue, List, [], ◌∷◌, Option, Some, None, IsSome, take, slice_get, get_or, length, arith, sym, ap, subst, refl, ◌∙◌}
 use Rattle.std.proofs.lemmas.Bool.{cases_eq, false≢true}
 use Rattle.std.proofs.lemmas.List.{take-map, length-map}
@@ -14,7 +14,7 @@ use Rattle.clause_search.proofs.Getting.{get-early, get-late, get-last, get-kept
 use Rattle.clause_search.proofs.Assigned.{last-decision, last-implied}
 use Rattle.clause_search.proofs.Seeing.{literal_eq-true, literal_eq-refl}
 
--- what stands before a place does so at one
+-- what is true before a position is so at one
 pub stands-at : (trail : List Entry) (n : ℕ) (l : Lit) → Stands (take n trail) l → (i : ℕ) × (e : Entry) × (i < n) × (slice_get trail i ≡ Some e) × (e.literal ≡ l)
 stands-at [] zero l s = absurd s
 stands-at [] (suc n) l s = absurd s
@@ -34,7 +34,7 @@ stands-somewhere (x ∷ xs) l (inr s) = next (stands-somewhere xs l s)
     next : ((i : ℕ) × (e : Entry) × (slice_get xs i ≡ Some e) × (e.literal ≡ l)) → (i : ℕ) × (e : Entry) × (slice_get (x ∷ xs) i ≡ Some e) × (e.literal ≡ l)
     next (i, e, at, is) = (suc i, e, at, is)
 
--- and what is at a place stands
+-- and what is at a position is true
 pub at-stands : (trail : List Entry) (n i : ℕ) (e : Entry) → i < n → slice_get trail i ≡ Some e → Stands (take n trail) e.literal
 at-stands [] n i e lt at = cc
 at-stands (x ∷ xs) zero i e lt at = absurd (omega arith)
@@ -51,7 +51,7 @@ pub mark-entry : (marks : List Mark) (i : ℕ) (m : Mark) → slice_get marks i 
 mark-entry marks i m at = slice_get-map (λ (z : Mark). z.entry) marks i ∙ rw at refl
 
 module _ (marks : List Mark) (places : List ℕ) (placed : ArePlaced (entries_of marks) places) (variable : ℕ) where
-  -- where the variable's place tells of none, none stands
+  -- where the variable's position shows no literal, there is none
   place-none : ((i : ℕ) (e : Entry) → slice_get places variable ≡ Some i → slice_get (entries_of marks) i ≡ Some e → e.literal.variable ≡ variable → ⊥)
       → IsPlaceOf (entries_of marks) variable None
   place-none other l s v = go (stands-somewhere (entries_of marks) l s)
@@ -91,7 +91,7 @@ module _ (marks : List Mark) (places : List ℕ) (placed : ArePlaced (entries_of
             cc,
       )
 
--- the last decision before a place is that up to the one before it
+-- the last decision before a position is that up to the one before it
 pub last-at : (marks : List Mark) (place : ℕ) (m : Mark) → AreLast marks → (place ≡ 0 → ⊥) → place ≤ length (entries_of marks)
     → m ≡ get_or marks (place - 1) m → IsLastBelow (entries_of marks) m.last place
 last-at marks place m last some within is =
@@ -100,7 +100,7 @@ last-at marks place m last some within is =
     let back : (place - 1) + 1 ≡ place = omega (arith, some) in
     subst (λ (k : ℕ). IsLastBelow (entries_of marks) m.last k) back (last (place - 1) m (slice_get_read marks (length marks) (place - 1) m refl lt is))
 
--- a literal whose variable stands nowhere
+-- a literal whose variable is unassigned
 pub stands-none : (trail : List Entry) (n : ℕ) (l : Lit) → IsUnassigned trail l.variable → Stands (take n trail) l → ⊥
 stands-none trail n l free s = go (stands-at trail n l s)
   where
@@ -118,7 +118,7 @@ module _ (trail : List Entry) (l : Lit) (place : ℕ) (there : IsPlaceOf trail l
           let alike : e ≡ d = cc in
           (subst (λ (k : ℕ). k < n) same lt, ap (λ (z : Entry). z.literal) alike ∙ is)
 
-  -- it stands before n where its place is before n and has it
+  -- it is true before n where its position is before n and has it
   pub stands-here : (b : Bool) → place < n → b ≡ literal_eq e.literal l → IsTrue b ↔ Stands (take n trail) l
   stands-here b lt is = (
     λ t. subst (λ (x : Lit). Stands (take n trail) x) (literal_eq-true e.literal l (sym is ∙ t)) (at-stands trail n place e lt at),
@@ -132,7 +132,7 @@ stands-later trail l place n there le s = go there.0
     go : ((e : Entry) × (slice_get trail place ≡ Some e) × (e.literal.variable ≡ l.variable)) → ⊥
     go (e, at, is) = let lt = (at-place trail l place there e at n s).0 in omega (arith, lt, le)
 
--- what trails that agree up to a place have as the last decision before it
+-- what trails that agree up to a position have as the last decision before it
 last-like : (es ds : List Entry) (last : Option ℕ) (to : ℕ)
     → ((j : ℕ) (e : Entry) → j < to → slice_get ds j ≡ Some e → slice_get es j ≡ Some e)
     → ((j : ℕ) (e : Entry) → j < to → slice_get es j ≡ Some e → slice_get ds j ≡ Some e)
@@ -156,7 +156,7 @@ last-take marks n last i m at =
     (λ j e lt here. get-take (entries_of marks) n j e (omega (arith, lt, there.0)) here)
     (last i m there.1))
 
--- a place put where the variable doesn't stand
+-- a position set for a variable that isn't assigned
 pub placed-put : (trail : List Entry) (old new : List ℕ) (variable : ℕ) → IsUnassigned trail variable
     → ((i n : ℕ) → (i ≡ variable → ⊥) → slice_get old i ≡ Some n → slice_get new i ≡ Some n) → ArePlaced trail old → ArePlaced trail new
 placed-put trail old new variable free kept placed i e at =
@@ -219,7 +219,7 @@ module _ (marks : List Mark) (m : Mark) where
         earlier d.last (i + 1) (omega (arith, lt)) (last i d (get-early marks m d i lt at))
   ])
 
--- a variable is assigned where it has a place
+-- a variable is assigned where it has a position
 pub assigned-some : (trail : List Entry) (variable : ℕ) (place : Option ℕ) → IsPlaceOf trail variable place → IsSome place ↔ IsAssigned trail variable
 assigned-some trail variable None free = (λ t. absurd (false≢true t), λ a. absurd (free a.0 a.1 a.2))
 assigned-some trail variable (Some place) there = (λ t. go there.0, λ a. refl)

@@ -1,4 +1,4 @@
--- What holds of each by its place holds of each member.
+-- What holds of each by its index holds of each member.
 use Rattle.std.proofs.Common.{ℕ, suc, ◌<◌, ◌≤◌, inl, inr, List, [], ◌∷◌, arith, subst}
 use Rattle.std.specs.List.{All}
 use Rattle.clause_log.specs.Members.{Has}

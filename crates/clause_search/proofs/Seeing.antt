@@ -25,7 +25,7 @@ pub literal_eq-refl : (a b : Lit) → a ≡ b → literal_eq a b ≡ true
 literal_eq-refl a b e = subst (λ (x : Lit). literal_eq a x ≡ true) e
     (and_from (nat_eq a.variable a.variable) (same_sign a a) (eq-eqb a.variable a.variable refl) (sign-self a.positive))
 
--- where neither a literal nor its opposite stands the variable isn't assigned
+-- where neither a literal nor its opposite is true the variable isn't assigned
 pub unassigned-from : (trail : List Entry) (k : Lit) → (Stands trail k → ⊥) → (IsFalse trail k → ⊥) → IsUnassigned trail k.variable
 unassigned-from trail k a b l s v = elim (cases_Bool (same_sign l k)) [
   | inl h ↦ a (subst (λ (x : Lit). Stands trail x) (like l k v h) s)
@@ -43,7 +43,7 @@ module _ (trail : List Entry) (c : List Lit) where
   has-here x rest None s = s.0 x (inl refl)
   has-here x rest (Some k) s = s.0 x (inl refl)
 
-  -- a literal that stands settles the clause
+  -- a true literal settles the clause
   pub open-true : (x : Lit) → IsConsistent trail → Has c x → Stands trail x → IsOpen trail c
   open-true x con h s k but = elim (but x h) [ inl e ↦ subst (λ (l : Lit). Stands trail l) e s | inr f ↦ absurd (con x s f) ]
 
@@ -113,7 +113,7 @@ module _ (trail : List Entry) (c : List Lit) where
   pub seen-all : IsSeen trail c [] None → AllFalse trail c
   seen-all s = λ l h. elim (s.2 l h) [ inl g ↦ g | inr g ↦ absurd g ]
 
-  -- the same by places
+  -- the same by indices
   pub seen-at : (ls : List Lit) (i : ℕ) (d : Lit) (o : Option Lit) → i < length ls → IsSeen trail c (drop i ls) o → IsSeen trail c (get_or ls i d ∷ drop (i + 1) ls) o
   seen-at ls i d o lt s =
       let e : drop i ls ≡ get_or ls i d ∷ drop (i + 1) ls = drop-cons ls i d lt ∙ ap (λ k. get_or ls i d ∷ drop k ls) (sym (add-one i)) in

@@ -2,11 +2,11 @@
 use Rattle.std.specs.Prelude.{ℕ, ◌+◌, ◌-◌, ◌*◌, ◌^◌, cond, nat_eq, List, [], ◌∷◌, zero, suc}
 use Rattle.clause_search.specs.declared.trail.Entry.{Entry}
 
--- a decision weighs 1, and what is implied 2
+-- the digit of a decision is 1, and that of an implied literal 2
 abbrev pub digit_of : Entry → ℕ
 digit_of e = cond (nat_eq e.reason 0) 1 2
 
--- the first n entries as digits, the first one highest
+-- the first n entries as digits of base 3, most significant first
 abbrev pub code_of : ℕ → List Entry → ℕ
 code_of zero trail = 0
 code_of (suc n) [] = 0

@@ -29,7 +29,7 @@ IsFound clauses trail (Conflict number) = IsFalseAt clauses trail number
 abbrev pub AreOpen : List (List Lit) → List Entry → ℕ → ℕ → Type 0
 AreOpen clauses trail from to = (n : ℕ) (c : List Lit) → from < n → n < to + 1 → clause_numbered clauses n ≡ Some c → IsOpen trail c
 
--- what a look at these alone finds
+-- what a look at only these finds
 abbrev pub IsFoundBetween : List (List Lit) → List Entry → ℕ → ℕ → Found → Type 0
 IsFoundBetween clauses trail from to Nothing = AreOpen clauses trail from to
 IsFoundBetween clauses trail from to (Unit number k) = IsUnitAt clauses trail number k

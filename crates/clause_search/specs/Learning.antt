@@ -8,7 +8,7 @@ use Rattle.clause_search.specs.declared.trail.Entry.{Entry}
 use Rattle.clause_search.specs.declared.learning.Learned.{Learned}
 use Rattle.clause_search.specs.Trail.{IsUnassigned, AllFalse, FalseBut}
 
--- there is a decision at the place
+-- there is a decision at the position
 abbrev pub IsDecisionAt : List Entry → ℕ → Type 0
 IsDecisionAt trail place = (e : Entry) × (slice_get trail place ≡ Some e) × (e.reason ≡ 0)
 
@@ -17,7 +17,7 @@ pub record IsLastDecision (trail : List Entry) (place : ℕ) : Type 0 where
   pub at : IsDecisionAt trail place
   pub later : (i : ℕ) (e : Entry) → place < i → slice_get trail i ≡ Some e → e.reason ≡ 0 → ⊥
 
--- the asserting clause: the chain's resolvent, which after going back to the place `low` is unit, its one
+-- the asserting clause: the chain's resolvent, which after going back to position `low` is unit, its one
 -- unassigned literal the asserting one
 pub record IsLearned (variables : ℕ) (clauses : List (List Lit)) (trail : List Entry) (low : ℕ) (learned : Learned) : Type 0 where
   pub chain : chain_resolvent clauses learned.chain ≡ Some learned.clause
@@ -27,7 +27,7 @@ pub record IsLearned (variables : ℕ) (clauses : List (List Lit)) (trail : List
   pub counted : 0 < learned.literal.variable
   pub within : learned.literal.variable ≤ variables
 
--- a clause of the chain's on the way back from the conflict: false by the first `place` entries, and not by those before the decision
+-- the chain's resolvent on the way back from the conflict: false by the first `place` entries, not by the first `low`
 pub record IsBack (clauses : List (List Lit)) (trail : List Entry) (low : ℕ) (chain : List ℕ) (current : List Lit) (place : ℕ) : Type 0 where
   pub above : low < place
   pub within : place ≤ length trail

@@ -8,7 +8,7 @@ use Rattle.clause_search.specs.declared.answer.Answer.{Answer}
 use Rattle.clause_search.specs.declared.answer.Answer.TheVariants.{Sat, Unsat, Spent}
 use Rattle.clause_log.specs.Refutation.{standing_before, IsSoundAt, Refutes}
 
--- the first place among the first `front` ones at which the two differ has 0 in the first and 1 in the second
+-- a is lexicographically less than b on the first `front` values: where they first differ a has 0 and b has 1
 pub record IsLess (front : ℕ) (a b : List Bool) : Type 0 where
   pub place : ℕ
   pub within : place < front
@@ -16,7 +16,7 @@ pub record IsLess (front : ℕ) (a b : List Bool) : Type 0 where
   pub one : slice_index_or b place false ≡ true
   pub before : (i : ℕ) → i < place → slice_index_or a i false ≡ slice_index_or b i false
 
--- a model, and no model has a lesser front
+-- a model, and no model is less on the first `front` variables
 pub record IsLeast (variables front : ℕ) (clauses : List (List Lit)) (places : List Bool) : Type 0 where
   pub model : IsModel variables clauses places
   pub least : (others : List Bool) → IsModel variables clauses others → IsLess front others places → ⊥
@@ -25,7 +25,7 @@ pub record IsLeast (variables front : ℕ) (clauses : List (List Lit)) (places :
 abbrev pub ContainsClause : List Lit → List Lit → Type 0
 ContainsClause c d = (l : Lit) → Has d l → Has c l
 
--- each step is sound, and none but an empty one contains a clause that stands before it
+-- each step is sound, and none but an empty one contains an earlier clause
 pub record IsCareful (clauses : List (List Lit)) (log : List Step) : Type 0 where
   pub sound : (index : ℕ) → index < length log → IsSoundAt clauses log index
   pub new : (index : ℕ) (s : Step) (d : List Lit) → slice_get log index ≡ Some s → Has (standing_before clauses log index) d

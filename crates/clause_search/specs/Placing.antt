@@ -8,7 +8,7 @@ use Rattle.clause_search.specs.Assigning.{IsLastBelow}
 abbrev pub entries_of : List Mark → List Entry
 entries_of marks = map (λ m. m.entry) marks
 
--- at each variable that stands, its place; what the others have is of no account
+-- at each assigned variable, its position; what the others have doesn't matter
 abbrev pub ArePlaced : List Entry → List ℕ → Type 0
 ArePlaced trail places = (i : ℕ) (e : Entry) → slice_get trail i ≡ Some e → slice_get places e.literal.variable ≡ Some i
 
@@ -16,7 +16,7 @@ ArePlaced trail places = (i : ℕ) (e : Entry) → slice_get trail i ≡ Some e 
 abbrev pub AreLast : List Mark → Type 0
 AreLast marks = (i : ℕ) (m : Mark) → slice_get marks i ≡ Some m → IsLastBelow (entries_of marks) m.last (i + 1)
 
--- the one place at which a literal of the variable stands
+-- the one position at which the variable is assigned
 abbrev pub IsPlaceOf : List Entry → ℕ → Option ℕ → Type 0
 IsPlaceOf trail variable None = IsUnassigned trail variable
 IsPlaceOf trail variable (Some place) =

@@ -1,4 +1,4 @@
--- What holds all through a search.
+-- The invariant of a search.
 use Rattle.std.specs.Prelude.{ℕ, ◌≡◌, ◌<◌, ◌≤◌, ◌++◌, List, [], Some, map, slice_get}
 use Rattle.clause_log.specs.Members.{Has}
 use Rattle.clause_lits.specs.declared.lit.Lit.{Lit}
@@ -17,7 +17,7 @@ standing clauses log = clauses ++ map (λ s. s.clause) log
 abbrev pub AreInRange : ℕ → List (List Lit) → Type 0
 AreInRange variables clauses = (c : List Lit) → Has clauses c → (l : Lit) → Has c l → (0 < l.variable) × (l.variable ≤ variables)
 
--- a step that isn't empty, is its chain's resolvent and contains no clause that stands before it
+-- a step that isn't empty, is its chain's resolvent and contains no earlier clause
 pub record IsNew (clauses : List (List Lit)) (log : List Step) (index : ℕ) (s : Step) : Type 0 where
   pub chain : chain_resolvent (standing_before clauses log index) s.chain ≡ Some s.clause
   pub some : (l : Lit) × Has s.clause l

@@ -60,7 +60,7 @@ abbrev pub IsTrail : ℕ → List (List Lit) → List Entry → List Entry → T
 IsTrail variables clauses before [] = Unit {0}
 IsTrail variables clauses before (e ∷ es) = IsGrounded variables clauses before e × IsTrail variables clauses (before ++ e ∷ []) es
 
--- no literal stands with its opposite
+-- no literal and its opposite are both true
 abbrev pub IsConsistent : List Entry → Type 0
 IsConsistent trail = (l : Lit) → Stands trail l → Stands trail (opposite_of l) → ⊥
 

@@ -8,7 +8,7 @@ use clause_log::Log;
 /// What a search ends in.
 #[derive(Drop)]
 pub enum Answer {
-    /// A model, and no model has a lesser front.
+    /// A model, and no model is less on the ordered variables.
     Sat(Assignment),
     /// A log that refutes the clauses.
     Unsat(Log),
@@ -16,7 +16,7 @@ pub enum Answer {
     Spent(Log),
 }
 
-/// Whether these are as many steps as the limit allows.
+/// Whether this number of steps is the limit.
 pub fn is_spent(limit: Option<u64>, steps: u64) -> bool
     ensures { IsTrue result ↔ (limit ≡ Some steps) }
 {

@@ -11,7 +11,7 @@ use std::alloc::Global;
 use support::{NoMemory, Sequence};
 
 /// The least variable that isn't assigned. Those up to the last decision are, since each decision
-/// was the least, so the way begins there.
+/// was the least, so the scan begins there.
 pub fn next_variable(trail: &Trail, variables: u64) -> Option<u64>
     requires { (clauses : List (List Lit)) × IsTrail variables clauses [] trail.now }
     ensures { IsNextVariable variables trail.now result }

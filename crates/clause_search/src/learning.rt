@@ -19,7 +19,7 @@ use smallvec::SmallVec;
 use std::alloc::Global;
 use support::{NoMemory, Sequence};
 
-/// A clause with the chain that gives it, and its one literal that the last decision made false.
+/// A clause with the chain that gives it, and its one literal of the last decision level.
 #[derive(Drop)]
 pub struct Learned {
     pub chain: Sequence<u64>,
@@ -27,8 +27,8 @@ pub struct Learned {
     pub literal: Lit,
 }
 
-/// The clause of the first unique implication point: the first place on the way back from the
-/// conflict where just one literal is false by the last decision and what it implied.
+/// The clause of the first unique implication point: the first point on the way back from the
+/// conflict where exactly one literal of the clause is of the last decision level.
 pub fn analyze(
     alloc: Global,
     variables: u64,
@@ -99,7 +99,7 @@ fn mark_clause(
     Ok(())
 }
 
-/// The literal, and the opposites of those at the places.
+/// The literal, and the opposites of those at the positions.
 fn literals_at(
     alloc: Global,
     trail: &Trail,
@@ -117,7 +117,7 @@ fn literals_at(
     Ok(literals)
 }
 
-/// The clause of the literal and the opposites of those at the places.
+/// The clause of the literal and the opposites of those at the positions.
 fn clause_at(
     alloc: Global,
     trail: &Trail,
@@ -134,7 +134,7 @@ fn clause_at(
     Ok(Clause::new(literals))
 }
 
-/// The first place up to which all literals of the clause but this one are false.
+/// The first index up to which all literals of the clause but this one are false.
 fn place_past(trail: &Trail, clause: &Clause, literal: Lit) -> usize
     requires { FalseBut trail.now clause.now literal }
     ensures { (n : ℕ) → FalseBut (take n trail.now) clause.now literal ↔ (result ≤ n) }
@@ -175,9 +175,9 @@ pub fn jump(trail: &Trail, clause: &Clause, literal: Lit, low: usize) -> usize
     place
 }
 
-/// Learns from a conflict above a decision: adds the step of the learned clause, goes back to the
-/// first decision at which all its literals but one are false, and puts that one there. After want
-/// of memory the step or the literal may be missing, and the log and the trail are a search's still.
+/// Learns from a conflict after a decision: adds the step of the learned clause, jumps back to the
+/// first decision at which all its literals but one are false, and assigns that one there. Out of
+/// memory the step or the literal may be missing, and the log and the trail still are a search's.
 pub fn learn(
     alloc: Global,
     variables: u64,

@@ -1,10 +1,10 @@
-//! The parts that searches for a model share: the trail, what a conflict teaches, and the answer.
+//! The parts that searches for a model share: the trail, clause learning, and the answer.
 //!
 //! A search keeps a [`Trail`] of literals with their reasons, decides the least unassigned variable
 //! as 0, and learns the clause of the first unique implication point of each conflict, as GRASP and
-//! Chaff do. It promises that each part keeps what holds all through a search, so that a solver
-//! holds its own way to find units and conflicts, and the loop. It stands on `clause_log`; the
-//! solvers stand on it.
+//! Chaff do. It promises that each part keeps the invariant of a search, so that a solver only adds
+//! its own way to find units and conflicts, and the loop. It uses `clause_log`; the solvers use
+//! it.
 #![tactic(auto)]
 
 mod answer;

@@ -1,4 +1,4 @@
-//! What a clause is on a trail.
+//! The state of a clause under a trail.
 
 ghost use Rattle.std.specs.Prelude.{◌≡◌, ◌↔◌, ◌≤◌, IsTrue, length, take};
 ghost use Rattle.std.specs.List.{list_any};
@@ -9,7 +9,7 @@ ghost use Rattle.clause_search.specs.Trail.{FalseBut, IsConsistent, literal_eq};
 use crate::trail::{Trail, is_same};
 use clause_lits::{Clause, Lit};
 
-/// What a clause is on a trail.
+/// The state of a clause under a trail.
 #[derive(Clone, Copy, PartialEq, Eq, Debug)]
 pub enum Look {
     /// A literal is true, or two aren't assigned.
@@ -20,7 +20,7 @@ pub enum Look {
     False,
 }
 
-/// What clauses are on a trail.
+/// The state of clauses under a trail.
 #[derive(Clone, Copy, PartialEq, Eq, Debug)]
 pub enum Found {
     /// Each is settled.
@@ -31,7 +31,7 @@ pub enum Found {
     Conflict(u64),
 }
 
-/// What the clause is on the trail.
+/// The state of the clause under the trail.
 pub fn look_at(clause: &Clause, trail: &Trail) -> Look
     requires { IsConsistent trail.now }
     ensures { IsLook trail.now clause.now result }
@@ -69,7 +69,7 @@ pub fn has(clause: &Clause, literal: Lit) -> bool
     is_among(clause.literals(), literal)
 }
 
-/// Whether all literals of the clause but this one are false before the place.
+/// Whether all literals of the clause but this one are false before the position.
 pub fn is_false_but(trail: &Trail, place: usize, clause: &Clause, literal: Lit) -> bool
     requires { place ≤ length trail.now }
     ensures { IsTrue result ↔ FalseBut (take place trail.now) clause.now literal }

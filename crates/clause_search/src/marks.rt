@@ -6,19 +6,19 @@ ghost use Rattle.clause_search.specs.Marking.{IsCounted};
 use std::alloc::Global;
 use support::NoMemory;
 
-/// Marks on the entries of a trail, some of them before a place and some from there on.
+/// Marks on the entries of a trail, some of them before a position and some from there on.
 #[derive(Drop)]
 pub struct Marks {
-    /// Whether the entry at each place is marked.
+    /// Whether the entry at each position is marked.
     pub marked: Vec<bool>,
-    /// How many are marked from that place on.
+    /// How many are marked from that position on.
     pub late: usize,
-    /// Where those before it stand.
+    /// The positions of those before it.
     pub early: Vec<usize>,
 }
 
 impl Marks {
-    /// No marks on so many entries.
+    /// No marks on this number of entries.
     pub fn new(alloc: Global, count: usize) -> Result<Marks, NoMemory>
         ensures counted { IfOk result (λ marks. (low : ℕ) → IsCounted low marks) }
         ensures long { IfOk result (λ marks. length marks.marked.items ≡ count) }
@@ -31,7 +31,7 @@ impl Marks {
         })
     }
 
-    /// Marks the entry at a place.
+    /// Marks the entry at a position.
     pub fn mark(&mut self, low: usize, place: usize) -> Result<(), NoMemory>
         requires within { place < length self.old.marked.items }
         requires counted { IsCounted low self.old }
@@ -50,7 +50,7 @@ impl Marks {
         Ok(())
     }
 
-    /// Takes the mark from the entry at a place that isn't before the other one.
+    /// Takes the mark from the entry at a position that isn't before `low`.
     pub fn unmark(&mut self, low: usize, place: usize)
         requires marked { IsTrue (slice_index_or self.old.marked.items place false) }
         requires late { low ≤ place }

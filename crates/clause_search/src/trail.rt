@@ -1,4 +1,4 @@
-//! The literals that stand, in the order in which they came.
+//! The assigned literals, in order of assignment.
 
 ghost use Rattle.std.specs.Prelude.{◌≡◌, ◌<◌, ◌≤◌, ◌↔◌, ◌++◌, ◌∷◌, [], IfSome, IsTrue, OnOk, OnErr, length, take, slice_get, Some, ℕ};
 ghost use Rattle.clause_search.specs.Trail.{IsAssigned, IsUnassigned, Stands, literal_eq};
@@ -10,24 +10,24 @@ use std::alloc::Global;
 use std::marker::Model;
 use support::NoMemory;
 
-/// A literal that stands, and the number of the clause that makes it stand, or 0 for a decision.
+/// An assigned literal, and the number of the clause that is its reason, or 0 for a decision.
 #[derive(Clone, Copy, PartialEq, Eq, Debug)]
 pub struct Entry {
     pub literal: Lit,
     pub reason: u64,
 }
 
-/// An entry, and the place of the last decision up to it.
+/// An entry, and the position of the last decision up to it.
 #[derive(Clone, Copy)]
 struct Mark {
     entry: Entry,
     last: Option<usize>,
 }
 
-/// The literals that stand, in order. Contracts see the list of entries.
+/// The assigned literals, in order of assignment. Contracts see the list of entries.
 ///
-/// Each variable has a place, which says where its literal stands if one does. A place that is out
-/// of date shows by what stands there, so going back leaves the places as they are.
+/// `places` has for each assigned variable the position of its literal. A position that is out of
+/// date shows by the entry there, so going back leaves the positions as they are.
 #[derive(Drop)]
 pub struct Trail {
     marks: Vec<Mark>,
@@ -47,7 +47,7 @@ impl Model for Trail {
 }
 
 impl Trail {
-    /// The trail on which nothing stands.
+    /// The empty trail.
     pub fn new(alloc: Global) -> Self
         ensures { result ≡ [] }
     {
@@ -57,14 +57,14 @@ impl Trail {
         }
     }
 
-    /// How many literals stand.
+    /// How many literals are assigned.
     pub fn len(&self) -> usize
         ensures { result ≡ length self.now }
     {
         self.marks.len()
     }
 
-    /// The entry at a place, counted from 0.
+    /// The entry at a position, counted from 0.
     pub fn get(&self, place: usize) -> Entry
         requires { place < length self.now }
         ensures { slice_get self.now place ≡ Some result }
@@ -89,14 +89,14 @@ impl Trail {
         Ok(())
     }
 
-    /// Takes away all from a place on.
+    /// Removes all entries from a position on.
     pub fn truncate(&mut self, place: usize)
         ensures { self.new ≡ take place self.old }
     {
         self.marks.truncate(place);
     }
 
-    /// Where a literal of the variable stands.
+    /// The position of the variable's literal, if it is assigned.
     pub(crate) fn place_of(&self, variable: u64) -> Option<usize>
         ensures place { IsPlaceOf self.now variable result }
         ensures within { IfSome result (λ place. place < usize.MAX) }
@@ -110,7 +110,7 @@ impl Trail {
         }
     }
 
-    /// Whether the literal stands before the place.
+    /// Whether the literal is true before the position.
     pub fn stands_before(&self, place: usize, literal: Lit) -> bool
         requires { place ≤ length self.now }
         ensures { IsTrue result ↔ Stands (take place self.now) literal }
@@ -121,21 +121,21 @@ impl Trail {
         at < place && is_same(self.get(at).literal, literal)
     }
 
-    /// Whether the literal stands.
+    /// Whether the literal is true.
     pub fn stands(&self, literal: Lit) -> bool
         ensures { IsTrue result ↔ Stands self.now literal }
     {
         self.stands_before(self.len(), literal)
     }
 
-    /// Whether a literal of the variable stands.
+    /// Whether the variable is assigned.
     pub fn is_assigned(&self, variable: u64) -> bool
         ensures { IsTrue result ↔ IsAssigned self.now variable }
     {
         self.place_of(variable).is_some()
     }
 
-    /// The last decision before a place.
+    /// The last decision before a position.
     pub fn decision_before(&self, place: usize) -> Option<usize>
         requires { place ≤ length self.now }
         ensures { IsLastBelow self.now result place }
@@ -146,7 +146,7 @@ impl Trail {
         self.marks[place - 1].last
     }
 
-    /// The place of the last decision.
+    /// The position of the last decision.
     pub fn last_decision(&self) -> Option<usize>
         ensures { IsLastPlace self.now result }
     {
@@ -154,7 +154,7 @@ impl Trail {
     }
 }
 
-/// Puts a place for an index, making room where there is none.
+/// Sets the position at an index, making room where there is none.
 fn put_place(places: &mut Vec<usize>, index: usize, place: usize) -> Result<(), NoMemory>
     ensures ok { OnOk result (slice_get places.new.items index ≡ Some place) }
     ensures err { OnErr result (places.new.items ≡ places.old.items) }

@@ -9,8 +9,8 @@ use clause_lits::Clause;
 use clause_log::{Step, clause_numbered};
 use clause_search::{Found, Look, Trail, look_at};
 
-/// The first clause that isn't settled, beginning at a place and going round. A search that goes on
-/// from the last unit propagates along a circuit in one round.
+/// The first clause that isn't settled, from an index on and then from the start. A search that
+/// goes on from the last unit propagates along a circuit in one pass.
 pub fn find(clauses: &[Clause], log: &[Step], trail: &Trail, first: usize) -> Found
     requires { IsConsistent trail.now }
     ensures { IsFound (standing clauses.now log.now) trail.now result }
@@ -24,7 +24,7 @@ pub fn find(clauses: &[Clause], log: &[Step], trail: &Trail, first: usize) -> Fo
     }
 }
 
-/// The first clause that isn't settled, from one place up to another.
+/// The first clause that isn't settled, from one index up to another.
 fn find_between(clauses: &[Clause], log: &[Step], trail: &Trail, from: usize, to: usize) -> Found
     requires consistent { IsConsistent trail.now }
     requires order { from ≤ to }

@@ -63,7 +63,7 @@ RenumberedLogsRefute = (p q : Lit → Lit) (clauses : List (List Lit)) (log : Li
     → IsRenumbering p q → AreClauses clauses → AreClauses (map (λ s. s.clause) log)
     → Refutes clauses log → Refutes (map (renumbered p) clauses) (renumbered_log p log)
 
--- and no step of it contains a clause that stands before it, where none of the log did
+-- and no step of it but an empty one contains an earlier clause, where none of the log did
 abbrev pub RenumberedLogsAreCareful : Type 0
 RenumberedLogsAreCareful = (p q : Lit → Lit) (clauses : List (List Lit)) (log : List Step)
     → IsRenumbering p q → AreClauses clauses → AreClauses (map (λ s. s.clause) log)

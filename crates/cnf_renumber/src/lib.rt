@@ -4,7 +4,7 @@
 //! signs are another search. A [`Renumbering`] is a bijection of literals that keeps opposites
 //! opposite. It promises that a log that is found for the renumbered clauses shows the same of the
 //! clauses themselves once it is mapped back, and that a model of them is then one of the clauses.
-//! It stands on `clause_search`; searches in turn stand on it.
+//! It uses `clause_search`; searches in turn use it.
 #![tactic(auto)]
 
 mod laws;

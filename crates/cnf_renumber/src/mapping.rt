@@ -104,7 +104,7 @@ fn is_true(values: &[bool], literal: Lit) -> bool
 }
 
 impl Renumbering {
-    /// The clauses and those of the steps, renumbered, with no ordered front.
+    /// The clauses and those of the steps, renumbered, with no ordered variables.
     pub fn renumber(&self, alloc: Global, cnf: &Cnf, steps: &[Step]) -> Result<Cnf, NoMemory>
         requires few { length self.now.forth ≤ cnf.now.variables + 1 }
         requires steps { AreWithin cnf.now.variables (map (λ s. s.clause) steps.now) }

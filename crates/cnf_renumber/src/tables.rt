@@ -8,8 +8,8 @@ use clause_lits::Lit;
 use support::Sequence;
 
 /// Other literals for literals, and the way back: index `x` of a table is the literal for the
-/// positive literal of variable `x`, and its opposite stands for the negative one. Variables beyond
-/// the tables keep their numbers and signs.
+/// positive literal of variable `x`, and its opposite is that for the negative one. Variables
+/// beyond the tables keep their numbers and signs.
 #[derive(Drop)]
 pub struct Renumbering {
     pub forth: Sequence<Lit>,

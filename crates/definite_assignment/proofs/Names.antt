@@ -24,7 +24,7 @@ at-names_in words name d below = get_or-map-range_with_len (has_bit words) 0 (64
 pub has_name-names_in : (words : List ℕ) (name : ℕ) → name < 64 * length words → has_name (names_in words) name ≡ has_bit words name
 has_name-names_in words name below = at-names_in words name false below
 
--- a list of places is what the words keep, if it is so at each place
+-- a list of entries is what the words keep, if each entry is
 names_in_is : (words : List ℕ) (set : List Bool) → length set ≡ 64 * length words → ((name : ℕ) (d : Bool) → name < 64 * length words → get_or set name d ≡ has_bit words name) → names_in words ≡ set
 names_in_is words set long f =
     same_lists (names_in words) set (length-names_in words ∙ sym long)
@@ -87,7 +87,7 @@ length-both [] ys e = refl
 length-both (x ∷ xs) [] e = absurd (omega (arith, e))
 length-both (x ∷ xs) (y ∷ ys) e = ap (λ n. suc n) (length-both xs ys (omega (arith, e)))
 
--- of two digits, both are 1 where the lower one is
+-- of two bits, both are 1 where the lower one is
 both_one : (a b : ℕ) → a < 2 → b < 2 → nat_eq (min a b) 1 ≡ (nat_eq a 1 && nat_eq b 1)
 both_one zero b _ _ = let e : min 0 b ≡ 0 = omega arith in ap (λ n. nat_eq n 1) e
 both_one (suc zero) zero _ _ = refl
@@ -207,7 +207,7 @@ has_name-words words name = cases (cases_lt name (64 * length words))
 pub set_is-has : (words given : List ℕ) (s : List Bool) (name : ℕ) → words ≡ given → names_in given ≡ s → has_bit words name ≡ has_name s name
 set_is-has words given s name e view = sym (has_name-words words name) ∙ ap (λ t. has_name t name) (ap names_in e ∙ view)
 
--- sets with as many places are kept by as many words
+-- sets of the same length are kept by the same number of words
 pub same_words : (words others : List ℕ) (s t : List Bool) → names_in words ≡ s → names_in others ≡ t → length s ≡ length t → length words ≡ length others
 same_words words others s t view view' e = omega (arith, e, ap length view, ap length view', length-names_in words, length-names_in others)
 

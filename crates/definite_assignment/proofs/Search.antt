@@ -11,7 +11,7 @@ use Rattle.definite_assignment.specs.Sets.{AreRoomy, has, has_name, places_for}
 use Rattle.definite_assignment.proofs.Names.{count-unset}
 use Rattle.definite_assignment.specs.Work.{IsLeaving, IsSearch, IsSpread, State, count, first_sets, is_waiting, rest_of, set_of}
 
--- a name of a set has a place there
+-- a name of a set has an entry there
 place_of : (s : List Bool) (name : ℕ) → IsTrue (has_name s name) → name < length s
 place_of s name t = cases (cases_lt name (length s))
   where
@@ -187,7 +187,7 @@ pub first_sets-more : (blocks names : ℕ) → 1 ≤ blocks → first_sets (bloc
 first_sets-more blocks names some =
     ap (λ s. replicate (places_for names) false ∷ s) (replicate_more (blocks - 1) (replicate (places_for names) true) ∙ ap (λ n. replicate n (replicate (places_for names) true)) (let e : (blocks - 1) + 1 ≡ (blocks + 1) - 1 = omega (arith, some) in e))
 
--- its set has a place for each name
+-- its set has an entry for each name
 pub set_places : {successors assigns : List (List ℕ)} {places : ℕ} {state : State} {block : ℕ} {row : List Bool} → IsSearch successors assigns places state → block < length successors → slice_get state.sets block ≡ Some row → length row ≡ places
 set_places {state = state} {block = block} {row = row} held below read = ap length (sym (get_or_from_slice_get state.sets block row [] read)) ∙ held.wide block below
 
@@ -236,7 +236,7 @@ visit_shrinks old taken new block sets marks spread waits =
 pub none_waits : (state : State) (order : List ℕ) (blocks : ℕ) → All (λ block. is_waiting state block ≡ false) order → ((block : ℕ) → block < blocks → Contains order block) → (block : ℕ) → block < blocks → is_waiting state block ≡ false
 none_waits state order blocks quiet every block below = All-contains (λ b. is_waiting state b ≡ false) order block quiet (every block below)
 
--- the sets have a place for each name
+-- the sets have an entry for each name
 pub search_room : {successors assigns : List (List ℕ)} {places names : ℕ} {state : State} → IsSearch successors assigns places state → places ≡ places_for names → AreRoomy state.sets (length successors) names
 search_room {successors} {places = places} {names = names} {state = state} held long =
     record { long = held.many; wide = λ k d below. ample k d below }

@@ -11,7 +11,7 @@ use Rattle.definite_assignment.specs.Sets.{both, has, has_name}
 use Rattle.definite_assignment.specs.Work.{State, IsSpread, count}
 use Rattle.definite_assignment.proofs.Names.{has_name-both, length-both, count-both, count-both_less, count-set}
 
--- a set is put in the place of one: what stands at a block
+-- a set replaces one: what is at a block
 at_set : (sets : List (List Bool)) (next : ℕ) (row : List Bool) → next < length sets → (P : ℕ → List Bool → Type 0) → P next row → ((block : ℕ) → (block ≡ next → ⊥) → P block (get_or sets block [])) → (block : ℕ) → P block (get_or (set sets next row) block [])
 at_set sets next row within P here others block = cases (cases_eq block next)
   where

@@ -8,7 +8,7 @@ abbrev pub block_of : Step → ℕ
 block_of (Enter block) = block
 block_of (Leave block) = block
 
--- how many steps the blocks that are not entered have still to come: for each, to leave it and to enter its successors
+-- how many steps are left for the blocks not entered: to leave each and to enter its successors
 abbrev pub steps_left : List Bool → List (List ℕ) → ℕ
 steps_left [] successors = 0
 steps_left (true ∷ marks) [] = 0

@@ -11,7 +11,7 @@ has_name set name = slice_index_or set name false
 abbrev pub has : List (List Bool) → ℕ → ℕ → Bool
 has sets block name = has_name (slice_index_or sets block []) name
 
--- a set for each of so many blocks, each with a place for each of so many names
+-- a set for each of the blocks, each with an entry for each of the names
 pub record AreRoomy (sets : List (List Bool)) (blocks names : ℕ) : Type 0 where
   pub long : length sets ≡ blocks
   pub wide : All (λ set. names ≤ length set) sets
@@ -24,7 +24,7 @@ has_bit words name = nat_eq (bit_at (slice_index_or words (name / 64) 0) (name %
 unfoldable pub names_in : List ℕ → List Bool
 names_in words = map (has_bit words) (range_with_len 0 (64 * length words))
 
--- how many places a set for so many names has: a multiple of 64, and more than the names
+-- how many entries a set for this number of names has: a multiple of 64, and more than the names
 abbrev pub places_for : ℕ → ℕ
 places_for names = 64 * (names / 64 + 1)
 
@@ -34,7 +34,7 @@ both [] other = []
 both (x ∷ xs) [] = []
 both (x ∷ xs) (y ∷ ys) = (x && y) ∷ both xs ys
 
--- the column of a name: the place of it in a set
+-- the column of a name: its index in a set
 abbrev pub column_of : List ℕ → ℕ → ℕ
 column_of columns name = slice_index_or columns name 0
 

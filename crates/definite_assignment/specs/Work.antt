@@ -1,4 +1,4 @@
--- The search for the sets: those so far, and the blocks whose sets are still to be passed on.
+-- The search for the sets: those so far, and the blocks whose sets must still be passed on.
 use Rattle.std.specs.Prelude.{ℕ, ◌+◌, ◌≡◌, ◌<◌, ◌≤◌, ◌⊎◌, ◌↔◌, Bool, true, false, IsTrue, List, [], ◌∷◌, length, slice_index_or, count_by, replicate}
 use Rattle.std.specs.List.{Contains, sum_by}
 use Rattle.block_paths.specs.Paths.{Assigns, IsSuccessor, IsUnassignedBefore}
@@ -27,7 +27,7 @@ count set = count_by (λ b. b) set
 abbrev pub rest_of : State → ℕ
 rest_of state = sum_by count state.sets + count state.marks
 
--- the sets at the start: none at the entry, every name elsewhere
+-- the sets at the start: empty at the entry, every name elsewhere
 abbrev pub first_sets : ℕ → ℕ → List (List Bool)
 first_sets others names = replicate (places_for names) false ∷ replicate others (replicate (places_for names) true)
 

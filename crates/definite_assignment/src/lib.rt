@@ -1,10 +1,10 @@
-//! Which names every path from the entry of a graph of blocks assigns before it comes to a block.
+//! Which names every path from the entry of a graph of blocks assigns before it reaches a block.
 //!
-//! It promises that [`assigned_before`] keeps a name for a block exactly where each path to the block
-//! assigns the name in a block that it leaves, and that else some path doesn't: the ground for "a
-//! definition must dominate its uses" (LLVM Language Reference, "Well-Formedness"), where several blocks
-//! may assign. It knows blocks and names as numbers alone. It stands on `block_paths` and `support`;
-//! `assigned_names`, which checks the uses of a function, stands on it.
+//! It promises that [`assigned_before`] keeps a name for a block exactly where each path to the
+//! block assigns the name in a block that it leaves, and that otherwise some path doesn't: the
+//! ground for "a definition must dominate its uses" (LLVM Language Reference, "Well-Formedness"),
+//! where several blocks may assign. It knows blocks and names only as numbers. It uses
+//! `block_paths` and `support`; `assigned_names`, which checks the uses of a function, uses it.
 #![tactic(auto)]
 
 ghost use Rattle.std.specs.Prelude.{◌≡◌, ◌<◌, ◌↔◌, ℕ, List, false, length, IfOk, IsTrue};
@@ -29,7 +29,7 @@ use work::Work;
 
 /// For each block of a graph, the names that every path from block 0 to it assigns in a block that it
 /// leaves. `successors` has the successors of each block, `assigns` the names that each assigns, all
-/// below `names`. A block that no path comes to has every name. A name that a block's set lacks is
+/// below `names`. A block that no path reaches has every name. A name that a block's set lacks is
 /// missed by some path to it.
 ///
 /// A visit passes one block's names on to its successors, and costs a word for each 64 names that some
@@ -40,7 +40,7 @@ use work::Work;
 /// no part in what is returned: passes end when no block waits.
 ///
 /// # Errors
-/// Out of memory alone.
+/// Only out of memory.
 pub fn assigned_before(
     alloc: Global,
     successors: &[Sequence<usize>],
@@ -61,8 +61,8 @@ pub fn assigned_before(
     Ok(NameSets::new(sets, columns.of_name))
 }
 
-/// The same, with a place in each set for each name: the greatest sets of which none is cut by the names
-/// that leave a block before it.
+/// The same, with a bit in each set for each name: the greatest sets of which none is cut by the
+/// names that leave a block before it.
 fn fixpoint(
     alloc: Global,
     successors: &[Sequence<usize>],

@@ -10,8 +10,8 @@ use std::alloc::Global;
 use std::marker::Model;
 use support::NoMemory;
 
-/// A set of names from 0 on. Contracts see it as a list: for each name that it has a place for, whether
-/// it is in the set.
+/// A set of names from 0 on. Contracts see it as a list: for each name that it has an entry for,
+/// whether it is in the set.
 #[derive(Drop)]
 pub struct NameSet {
     words: Vec<u64>,
@@ -27,7 +27,7 @@ impl Model for NameSet {
 }
 
 impl NameSet {
-    /// The set without a name, with places for at least so many.
+    /// The empty set, with entries for at least this number of names.
     pub fn none(alloc: Global, names: usize) -> Result<NameSet, NoMemory>
         ensures { IfOk result (λ set. set ≡ replicate (places_for names) false) }
     {
@@ -36,7 +36,7 @@ impl NameSet {
         })
     }
 
-    /// The set of all names, with places for at least so many.
+    /// The set of all names, with entries for at least this number.
     pub fn every(alloc: Global, names: usize) -> Result<NameSet, NoMemory>
         ensures { IfOk result (λ set. set ≡ replicate (places_for names) true) }
     {
@@ -45,7 +45,7 @@ impl NameSet {
         })
     }
 
-    /// Whether a name is in the set; none is that the set has no place for.
+    /// Whether a name is in the set; a name that the set has no entry for isn't.
     pub fn has(&self, name: usize) -> bool
         ensures { result ≡ has_name self.now name }
     {
@@ -60,7 +60,7 @@ impl NameSet {
         words::add(&mut self.words, name);
     }
 
-    /// Makes the set like another one with as many places.
+    /// Makes the set like another one with the same number of entries.
     fn copy(&mut self, other: &NameSet)
         requires { length self.old ≡ length other.now }
         ensures { self.new ≡ other.now }
@@ -68,7 +68,7 @@ impl NameSet {
         self.words.copy_from_slice(&other.words);
     }
 
-    /// Makes the set the names of another one and some more: what is assigned behind a block.
+    /// Makes the set the names of another one and some more: what is assigned after a block.
     pub fn fill(&mut self, set: &NameSet, assigned: &[usize])
         requires alike { length self.old ≡ length set.now }
         requires within { All (λ name. name < length set.now) assigned.now }
@@ -80,7 +80,7 @@ impl NameSet {
         }
     }
 
-    /// Takes each name out that another set lacks, and answers whether there was one.
+    /// Takes each name out that another set lacks, and returns whether there was one.
     pub fn cut(&mut self, other: &NameSet) -> bool
         requires { length self.old ≡ length other.now }
         ensures both { self.new ≡ both self.old other.now }

@@ -1,4 +1,4 @@
-//! The answer: a set of names for each block.
+//! The result: a set of names for each block.
 
 ghost use Rattle.std.specs.Prelude.{◌≡◌, ◌<◌, length, slice_index_or, []};
 ghost use Rattle.definite_assignment.specs.Sets.{by_columns, has};

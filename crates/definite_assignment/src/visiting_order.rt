@@ -1,4 +1,4 @@
-//! The order in which a pass of the search comes to the blocks.
+//! The order in which a pass of the search visits the blocks.
 
 ghost use Rattle.std.specs.Prelude.{◌+◌, ◌≡◌, ◌<◌, ℕ, length, IfOk, OnOk};
 ghost use Rattle.std.specs.List.{All, Contains};
@@ -7,8 +7,8 @@ ghost use Rattle.definite_assignment.specs.Order.{block_of};
 use std::alloc::Global;
 use support::{NoMemory, Sequence};
 
-/// What a depth-first search has still to do: to enter a block, or to leave one whose successors it has
-/// been to.
+/// What a depth-first search still has to do: enter a block, or leave one whose successors it has
+/// visited.
 #[derive(Clone, Copy)]
 pub enum Step {
     Enter(usize),
@@ -26,8 +26,9 @@ fn enter_all(steps: &mut Vec<Step>, blocks: &[usize]) -> Result<(), NoMemory>
     Ok(())
 }
 
-/// The blocks that paths from block 0 come to, in postorder: each after those that a depth-first search
-/// enters from it. The stack of the search is a list, so a long path takes no deep recursion.
+/// The blocks that are reachable from block 0, in postorder: each after those that a depth-first
+/// search enters from it. The stack of the search is a list, so a long path takes no deep
+/// recursion.
 fn postorder(alloc: Global, successors: &[Sequence<usize>]) -> Result<Vec<usize>, NoMemory>
     requires some { 0 < length successors.now }
     requires within { All (All (λ next. next < length successors.now)) successors.now }
@@ -52,8 +53,8 @@ fn postorder(alloc: Global, successors: &[Sequence<usize>]) -> Result<Vec<usize>
     Ok(order)
 }
 
-/// The blocks in reverse postorder, so that a block comes before its successors but where an edge goes
-/// back, and then all blocks, so that none is left out.
+/// The blocks in reverse postorder, so that a block comes before its successors except where an
+/// edge goes back, and then all blocks, so that none is left out.
 pub fn visiting_order(alloc: Global, successors: &[Sequence<usize>]) -> Result<Vec<usize>, NoMemory>
     requires some { 0 < length successors.now }
     requires within { All (All (λ next. next < length successors.now)) successors.now }

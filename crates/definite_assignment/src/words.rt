@@ -7,7 +7,7 @@ use support::NoMemory;
 
 const BITS: usize = 64;
 
-/// Enough words for so many names, all alike.
+/// Enough words for this number of names, all alike.
 pub fn alike(alloc: Global, word: u64, names: usize) -> Result<Vec<u64>, NoMemory>
     ensures { IfOk result (λ words. words.items ≡ replicate (names / 64 + 1) word) }
 {
@@ -15,7 +15,7 @@ pub fn alike(alloc: Global, word: u64, names: usize) -> Result<Vec<u64>, NoMemor
     Ok(words)
 }
 
-/// Whether the words have a name; none is past them.
+/// Whether the words have a name; no name past them is in them.
 pub fn has(words: &[u64], name: usize) -> bool
     ensures { result ≡ has_bit words.now name }
 {
@@ -31,7 +31,7 @@ pub fn add(words: &mut [u64], name: usize)
     words[name / BITS] |= 1 << (name % BITS);
 }
 
-/// Takes each name out that the others lack, and answers whether there was one.
+/// Takes each name out that the others lack, and returns whether there was one.
 pub fn cut(words: &mut [u64], others: &[u64]) -> bool
     requires { length words.old ≡ length others.now }
     ensures fits { (k : ℕ) → slice_index_or words.old k 0 < 2 ^ 64 }

@@ -1,4 +1,5 @@
-//! The search: the sets so far, and the blocks whose sets are still to be passed on to their successors.
+//! The search: the sets so far, and the blocks whose sets must still be passed on to their
+//! successors.
 
 ghost use Rattle.std.specs.Prelude.{◌≡◌, ◌<◌, ◌-◌, [], ◌∷◌, length, slice_set, slice_index_or, replicate, IfOk, true, false};
 ghost use Rattle.std.specs.List.{All};
@@ -65,7 +66,8 @@ impl Work {
         }
     }
 
-    /// Lets a block wait no longer, and passes the names that leave it on. `leaving` is room for them.
+    /// Lets a block wait no longer, and passes on the names that leave it. `leaving` is room for
+    /// them.
     fn visit(
         &mut self,
         block: usize,
@@ -87,7 +89,7 @@ impl Work {
         self.spread(successors[block].as_slice(), leaving);
     }
 
-    /// Visits each block of a list that waits when it comes to it, and returns whether one did.
+    /// Visits each block of a list that waits when it is reached, and returns whether one did.
     pub fn pass(
         &mut self,
         order: &[usize],

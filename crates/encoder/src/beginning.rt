@@ -19,7 +19,7 @@ use run_terms::{RunMemory, RunState, Tally, put};
 use std::alloc::Global;
 use support::{NoMemory, Sequence};
 
-/// Registers of so many names, all poison.
+/// Registers of this number of names, all poison.
 fn poison_registers(
     alloc: Global,
     terms: &mut Terms,
@@ -52,7 +52,7 @@ fn argument(terms: &mut Terms, parameter: &Parameter, arg: ArgTerms) -> Result<S
     }
 }
 
-/// The value, and poison in place of null.
+/// The value, or poison instead of null.
 fn non_null(terms: &mut Terms, value: SymValue) -> Result<SymValue, NoMemory>
     requires { IsSymValue terms.old value }
     ensures made { IfOk result (IsSymValue terms.new) }
@@ -130,16 +130,16 @@ fn breaks_no_undef(
     Ok(broken)
 }
 
-/// A run before its first block: where an argument breaks `noundef` its behaviour is undefined, and
-/// else it is in this state.
+/// A run before its first block: where an argument breaks `noundef` its behaviour is undefined,
+/// otherwise it is in this state.
 #[derive(Drop)]
 pub struct Beginning {
     pub undefined: TermId,
     pub state: RunState,
 }
 
-/// The beginning of the run of a function on an input, whose given blocks have room for so many
-/// bytes.
+/// The beginning of the run of a function on an input, whose given blocks have room for this number
+/// of bytes.
 pub fn begin(
     alloc: Global,
     terms: &mut Terms,

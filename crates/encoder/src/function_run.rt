@@ -25,7 +25,7 @@ use std::alloc::Global;
 use support::{NoMemory, Sequence};
 use unroll::{Edge, Layered};
 
-/// Nothing is known of so many copies.
+/// Nothing is known of this number of copies.
 fn nothing_known(alloc: Global, copies: usize) -> Result<Sequence<Option<RunState>>, NoMemory>
     ensures { IfOk result (λ ahead. ahead ≡ replicate copies None) }
 {
@@ -36,7 +36,7 @@ fn nothing_known(alloc: Global, copies: usize) -> Result<Sequence<Option<RunStat
     Ok(Sequence::from_vec(ahead))
 }
 
-/// What stands for the value of a return before there was one.
+/// The placeholder for the value of a return before there was one.
 fn no_value(terms: &mut Terms, returns: Option<IrType>) -> Result<Option<SymValue>, NoMemory>
     ensures made { IfOk result (λ value. IfSome value (IsSymValue terms.new)) }
     ensures alike { IfOk result (λ value. is_some value ≡ is_some returns) }
@@ -51,7 +51,7 @@ fn no_value(terms: &mut Terms, returns: Option<IrType>) -> Result<Option<SymValu
     }
 }
 
-/// A run that has not ended. It begins with the memory that it is given.
+/// A run that has not ended, with this memory at its beginning.
 fn no_end(setting: Setting, terms: &mut Terms, memory: &RunMemory) -> Result<Ending, NoMemory>
     requires { AreGivenBlocks setting.given setting.room terms.old memory.now.blocks }
     ensures made { IfOk result (IsEnding terms.new) }
@@ -112,7 +112,7 @@ fn enter(setting: Setting, terms: &mut Terms, input: &InputTerms) -> Result<Fron
     Ok(frontier)
 }
 
-/// The same with one word more: it was read, or is 0.
+/// The same with one more word: it was read, or is 0.
 fn zero_past(
     terms: &mut Terms,
     all: TermId,
@@ -172,7 +172,7 @@ fn finish(terms: &mut Terms, ending: Ending, tape: &[TermId]) -> Result<OutcomeT
 
 /// The run of a function on an input and a tape, as terms over the copies of its blocks: under every
 /// assignment of the variables they show the run on what the input and the tape are under it, within
-/// as many backward jumps as the layers have. The one error is out of memory.
+/// as many backward jumps as the layers have. The only error is out of memory.
 pub fn encode(
     alloc: Global,
     f: &Function,

@@ -1,4 +1,4 @@
--- Sums digit by digit.
+-- Sums bit by bit.
 use Rattle.std.proofs.Common.{ℕ, suc, ◌≡◌, ◌<◌, ◌≤◌, ◌+◌, ◌-◌, ◌*◌, ◌%◌, ◌^◌, ◌++◌, Bool, true, false, not, cond, List, [], ◌∷◌, get_or, drop, map, reverse, length, arith, sym, ap, subst, refl, ◌∙◌, length-append}
 use Rattle.std.specs.Prelude.{nat_lt}
 use Rattle.std.proofs.Math.Nat.{pow-suc, add-mul-mod_self_right, mod-eq_of_lt}
@@ -48,7 +48,7 @@ full-adds g0 g1 g2 g3 a b c half sum carry ia ib ic k1 m1 k2 m2 k3 m3 =
           rw (s, ca) (full x y z);
     }
 
--- the lowest places of a sum, from `i` on, whose digits stand lowest first
+-- the least significant bits of a sum, from `i` on, least significant first
 pub record IsPartSum (old new : List Gate) (a b : List GateId) (carry : GateId) (digits : List GateId) (passed : GateId) (i : ℕ) : Type 0 where
   pub keeps : Keeps old new
   pub within : AreGates new digits
@@ -153,7 +153,7 @@ sum-cut old mid new a b off digits carried kept ina inb made sum = record {
       (subst (λ k. number_at v new digits < 2 ^ k) sum.long (number-at-below v new digits));
 }
 
--- a sum of the first, the second turned, and 1
+-- a sum of the first, the second inverted, and 1
 pub sum-minus : (old turned_in one_in new : List Gate) (a b turned : List GateId) (one : GateId) (digits : List GateId) (carried : GateId) → length a ≡ length b
     → Keeps old turned_in → Keeps turned_in one_in → AreGates old a → Writes turned_in turned (length b) (λ v. 2 ^ length b - 1 - number_at v old b)
     → Makes one_in one (λ _. true) → IsSum one_in new a turned one digits carried → IsDifference old new a b digits carried

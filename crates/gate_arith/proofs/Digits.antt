@@ -1,4 +1,4 @@
--- Numbers of digits, and gates that stay.
+-- Numbers as bits, and gates that stay.
 use Rattle.std.proofs.Common.{ℕ, zero, suc, ◌≡◌, ◌<◌, ◌≤◌, ◌+◌, ◌*◌, ◌^◌, ◌++◌, Bool, true, false, List, [], ◌∷◌, map, length, arith, sym, ap, refl, ◌∙◌, length-append}
 use Rattle.std.proofs.Math.Nat.{pow-suc}
 use Rattle.std.proofs.lemmas.Nat.{pow-add}

@@ -1,4 +1,4 @@
--- Digits that are known, and inputs.
+-- Bits that are known, and inputs.
 use Rattle.std.proofs.Common.{ℕ, zero, suc, ◌≡◌, ◌<◌, ◌≤◌, ◌+◌, ◌*◌, ◌/◌, ◌%◌, ◌^◌, ◌++◌, inl, inr, Bool, false, List, [], ◌∷◌, Some, All, get_or, take, map, length, arith, sym, ap, subst, refl, ◌∙◌, length-append}
 use Rattle.std.specs.Prelude.{nat_eq, bit_and}
 use Rattle.std.proofs.Math.Nat.{div-eq_of_lt}
@@ -24,7 +24,7 @@ one_test (suc (suc n)) lt = absurd (omega arith)
 pub digit-one : (value place : ℕ) → digit (nat_eq (bit_and (value / 2 ^ place) 1) 1) ≡ value / 2 ^ place % 2
 digit-one value place = rw (shr_and_one value place) (one_test (value / 2 ^ place % 2) (bit_at-lt value place))
 
--- the digits of a number from the highest down to the place `place`
+-- the bits of a number from the most significant down to the index `place`
 pub record IsPartConstant (old new : List Gate) (value width : ℕ) (digits : List GateId) (place : ℕ) : Type 0 where
   pub keeps : Keeps old new
   pub within : AreGates new digits
@@ -93,7 +93,7 @@ grows_trans a b c p q = record {
   kept = λ v x lt. q.kept v x (omega (arith, p.longer)) ∙ p.kept v x lt;
 }
 
--- so many of the inputs
+-- this number of the inputs
 pub record ArePartFresh (old new : List Gate) (i : ℕ) (digits : List GateId) : Type 0 where
   pub grows : Grows old new
   pub front : take (length old) new ≡ old

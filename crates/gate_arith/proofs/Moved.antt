@@ -124,7 +124,7 @@ down-writes old new a zeros both off left count kept ina made is none joins =
       | inr ge ↦ down_past x n (n - left) lt (omega (arith, e, ge)) ∙ sym (down_past x n count lt (omega (arith, ge)))
     ]
 
--- the number moved by the lowest digits of the amount, from `place` on
+-- the number shifted by the least significant bits of the amount, from `place` on
 pub record IsPartMoved (old new : List Gate) (direction : Direction) (a amount value : List GateId) (count place : ℕ) : Type 0 where
   pub keeps : Keeps old new
   pub within : AreGates new value
@@ -191,7 +191,7 @@ moved-whole old new direction a amount value count i e part = record {
 pub count-below : (count long place : ℕ) → long ≤ 7 → count ≡ 2 ^ (long - place) → count ≤ 128
 count-below count long place few is = rw is (pow_mono {i = long - place} {j = 7} (omega (arith, few)))
 
--- the digits of the amount beyond those of the stages tell whether it is past the width
+-- the bits of the amount beyond those of the stages say whether it is past the width
 past-or-moved : (direction : Direction) (n a high low s : ℕ) → n ≤ 2 ^ s → a < 2 ^ n → cond (truth high) 0 (moved_by direction n a low) ≡ shifted_by direction n a (high * 2 ^ s + low)
 past-or-moved direction n a zero low s enough lt =
     let plain : low ≡ 0 * 2 ^ s + low = omega arith in
@@ -244,7 +244,7 @@ shifted-writes old g1 g2 g3 new direction a amount value zeros digits s past off
     three : {p p' : Bool} {q q' r r' : ℕ} → p ≡ p' → q ≡ q' → r ≡ r' → cond p q r ≡ cond p' q' r'
     three e f g = cc
 
--- turned, shifted and turned again where the sign is 1, and else shifted
+-- inverted, shifted and inverted again where the sign is 1, and else shifted
 pub signed-writes : (g0 g1 g2 g3 g4 new : List Gate) (a b turned turned_down negative positive digits : List GateId) (d : GateId) → AreGates g0 a → AreGates g0 b → 1 ≤ length a
     → Keeps g0 g1 → Writes g1 turned (length a) (λ v. 2 ^ length a - 1 - number_at v g0 a)
     → Keeps g1 g2 → Writes g2 turned_down (length turned) (λ v. shifted_right (length turned) (number_at v g1 turned) (number_at v g1 b))

@@ -33,7 +33,7 @@ gates_replicate gates zero x h i d lt = absurd (omega arith)
 gates_replicate gates (suc n) x h zero d lt = h
 gates_replicate gates (suc n) x h (suc k) d lt = gates_replicate gates n x h k d (omega arith)
 
--- the two parts of a list of digits
+-- the two parts of a list of bits
 pub number-at-append : (v : ℕ → Bool) (gates : List Gate) (xs ys : List GateId) → number_at v gates (xs ++ ys) ≡ number_at v gates xs * 2 ^ length ys + number_at v gates ys
 number-at-append v gates xs ys =
     ap number_of (map-append (gate_at v gates) xs ys)
@@ -43,7 +43,7 @@ number-at-append v gates xs ys =
 number-split : (v : ℕ → Bool) (gates : List Gate) (n : ℕ) (xs : List GateId) → number_at v gates xs ≡ number_at v gates (take n xs) * 2 ^ length (drop n xs) + number_at v gates (drop n xs)
 number-split v gates n xs = ap (number_at v gates) (sym (take-append-drop n xs)) ∙ number-at-append v gates (take n xs) (drop n xs)
 
--- the digits before a place are those of the quotient, and the others those of the remainder
+-- the bits before an index are those of the quotient, and the others those of the remainder
 pub number-take : (v : ℕ → Bool) (gates : List Gate) (n k : ℕ) (xs : List GateId) → n + k ≡ length xs → number_at v gates (take n xs) ≡ number_at v gates xs / 2 ^ k
 number-take v gates n k xs e =
     let long : length (drop n xs) ≡ k = length-drop n xs ∙ (let m : length xs - n ≡ k = omega (arith, e) in m) in
@@ -109,7 +109,7 @@ extended-writes old new a zeros both off width count kept ina made is e joins =
           whole.says v ∙ (ap (λ k. k * 2 ^ length a + number_at v new a) none ∙ ((let plain : 0 * 2 ^ length a + number_at v new a ≡ number_at v new a = omega arith in plain) ∙ number-kept old new kept a ina v));
     }
 
--- the highest digit is the sign
+-- the most significant bit is the sign
 pub sign-number : (bs : List Bool) (d : Bool) → 1 ≤ length bs → is_negative (length bs) (number_of bs) ≡ get_or bs 0 d
 sign-number [] d h = absurd (omega arith)
 sign-number (b ∷ bs) d h =

@@ -11,7 +11,7 @@ use Rattle.gate_arith.specs.Numbers.{AreGates, Writes, number_at}
 use Rattle.gate_arith.proofs.Digits.{gates_later, keeps_trans, number-at-below, number-kept}
 use Rattle.gate_arith.proofs.Pieces.{gates_replicate, number-replicate}
 
--- the product by the lowest digits of the second, from `place` on, and the first moved up to that place
+-- the product by the least significant bits of the second, from `place` on, and the first shifted up to that index
 pub record IsPartProduct (old new : List Gate) (a b total row zeros : List GateId) (place : ℕ) : Type 0 where
   pub keeps : Keeps old new
   pub within : AreGates new total

@@ -83,7 +83,7 @@ step-is old g1 g2 g3 left divisor whole wide digits chosen further next off carr
     pick true s w x m f e = f refl
     pick false s w x m f e = e
 
--- the quotient and what is left of the first places
+-- the quotient and what is left of the first bits
 pub record IsPartDivision (old new : List Gate) (a b left digits : List GateId) (i : ℕ) : Type 0 where
   pub keeps : Keeps old new
   pub within : AreGates new left
@@ -122,7 +122,7 @@ once x q m r d e le =
     let one : (q * 2 + 1) * m ≡ q * 2 * m + m = omega arith in
     omega (arith, double, one, le)
 
--- one more digit of the dividend
+-- one more bit of the dividend
 left-more : (x d m : ℕ) → d < 2 → cond (nat_le (suc m) (x % suc m * 2 + d)) (x % suc m * 2 + d - suc m) (x % suc m * 2 + d) ≡ (x * 2 + d) % suc m
 left-more x d m lt =
     let below : x % suc m < suc m = mod_below x (suc m) (omega arith) in

@@ -13,7 +13,7 @@ use Rattle.gate_arith.specs.Numbers.{AreGates, Writes, number_at, number_of}
 use Rattle.gate_arith.proofs.Digits.{keeps_trans, number-push}
 use Rattle.gate_arith.proofs.Pieces.{sign-at}
 
--- whether any of the first digits is 1
+-- whether any of the first bits is 1
 pub record IsPartAny (old new : List Gate) (a : List GateId) (found : GateId) (i : ℕ) : Type 0 where
   pub keeps : Keeps old new
   pub inside : found.index < length new

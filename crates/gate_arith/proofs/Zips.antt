@@ -1,4 +1,4 @@
--- Operations place by place.
+-- Operations bit by bit.
 use Rattle.std.proofs.Common.{ℕ, ◌≡◌, ◌<◌, ◌+◌, ◌-◌, ◌*◌, ◌^◌, ◌++◌, Bool, true, false, cond, not, ◌&&◌, ◌||◌, List, [], ◌∷◌, get_or, take, map, length, arith, sym, ap, refl, ◌∙◌, length-append}
 use Rattle.std.specs.Int.RustNames.{bit_or, bit_xor}
 use lib.Bits.{bit_and}
@@ -98,7 +98,7 @@ op_later old mid Or h k = tt
 op_later old mid Xor h k = tt
 op_later old mid (Choose c) h k = omega (arith, k.longer)
 
--- the digits of the first places
+-- the first bits
 pub record IsPartZip (old new : List Gate) (op : BitOp) (a b digits : List GateId) (i : ℕ) : Type 0 where
   pub keeps : Keeps old new
   pub within : AreGates new digits
@@ -161,7 +161,7 @@ no_places old op a b digits e = rw e (record {
   says = λ v. refl;
 })
 
--- the first digits turned
+-- the first bits inverted
 pub record IsPartInverse (gates : List Gate) (a digits : List GateId) (i : ℕ) : Type 0 where
   pub within : AreGates gates digits
   pub long : length digits ≡ i

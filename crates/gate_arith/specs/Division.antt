@@ -6,11 +6,11 @@ use Rattle.gates.specs.declared.circuit.Gate.{Gate}
 use Rattle.gates.specs.Values.{gate_at}
 use Rattle.gate_arith.specs.Numbers.{AreGates, number_at}
 
--- what was left, with the next digit behind it
+-- the partial remainder, with the next bit after it
 abbrev pub brought_down : (ℕ → Bool) → List Gate → List GateId → GateId → ℕ
 brought_down inputs gates left next = number_at inputs gates left * 2 + digit (gate_at inputs gates next)
 
--- the digit says whether the divisor goes into it, and is then taken away
+-- the bit says whether the divisor is at most this number, from which it is then subtracted
 pub record IsStep (old new : List Gate) (left : List GateId) (next : GateId) (divisor : List GateId) (one : GateId) (further : List GateId) : Type 0 where
   pub inside : one.index < length new
   pub within : AreGates new further

@@ -1,4 +1,4 @@
--- The number that a list of gates writes, highest digit first.
+-- The number that a list of gates writes, most significant bit first.
 use Rattle.std.specs.Prelude.{ℕ, ◌≡◌, ◌<◌, ◌≤◌, ◌+◌, ◌*◌, ◌^◌, ◌++◌, Bool, false, All, List, [], ◌∷◌, length, map}
 use Rattle.bv_terms.specs.Tree.{digit}
 use Rattle.gates.specs.declared.circuit.GateId.{GateId}
@@ -6,7 +6,7 @@ use Rattle.gates.specs.declared.circuit.Gate.{Gate}
 use Rattle.gates.specs.Numbering.{AreApart}
 use Rattle.gates.specs.Values.{gate_at, inputs_of}
 
--- the number of binary digits, the highest first
+-- the number that bits write, most significant bit first
 abbrev pub number_of : List Bool → ℕ
 number_of [] = 0
 number_of (b ∷ bs) = digit b * 2 ^ length bs + number_of bs
@@ -19,13 +19,13 @@ number_at inputs gates digits = number_of (map (gate_at inputs gates) digits)
 abbrev pub AreGates : List Gate → List GateId → Type 0
 AreGates gates digits = All (λ a. a.index < length gates) digits
 
--- so many gates of the circuit, which write this number
+-- `width` gates of the circuit, which write this number
 pub record Writes (new : List Gate) (digits : List GateId) (width : ℕ) (value : (ℕ → Bool) → ℕ) : Type 0 where
   pub within : AreGates new digits
   pub long : length digits ≡ width
   pub says : (inputs : ℕ → Bool) → number_at inputs new digits ≡ value inputs
 
--- digits and a carry, which make the sum of two numbers and a carry
+-- bits and a carry, which make the sum of two numbers and a carry
 pub record IsSum (old new : List Gate) (a b : List GateId) (carry : GateId) (digits : List GateId) (carried : GateId) : Type 0 where
   pub within : AreGates new digits
   pub long : length digits ≡ length a
@@ -33,7 +33,7 @@ pub record IsSum (old new : List Gate) (a b : List GateId) (carry : GateId) (dig
   pub says : (inputs : ℕ → Bool) → number_at inputs new digits + digit (gate_at inputs new carried) * 2 ^ length a
       ≡ number_at inputs old a + number_at inputs old b + digit (gate_at inputs old carry)
 
--- so many inputs that the circuit didn't have
+-- `width` inputs that the circuit did not have
 pub record AreFresh (old new : List Gate) (width : ℕ) (digits : List GateId) : Type 0 where
   pub long : length digits ≡ width
   pub plain : All (λ a. a.negated ≡ false) digits

@@ -1,4 +1,4 @@
-//! Operations on each place by itself.
+//! Bitwise operations.
 
 ghost use Rattle.std.specs.Prelude.{◌≡◌, ◌<◌, ◌-◌, ◌^◌, IfOk, length, cond, bit_and, bit_or, bit_xor};
 ghost use Rattle.gates.specs.Values.{Keeps, Makes, gate_at};
@@ -9,7 +9,7 @@ use gates::{Circuit, GateId};
 use std::alloc::Global;
 use support::NoMemory;
 
-/// What is done with the two digits of a place.
+/// A bitwise operation.
 #[derive(Clone, Copy)]
 enum BitOp {
     And,
@@ -18,7 +18,7 @@ enum BitOp {
     Choose(GateId),
 }
 
-/// The gate of one place.
+/// The gate of one bit.
 fn bit(circuit: &mut Circuit, op: BitOp, a: GateId, b: GateId) -> Result<GateId, NoMemory>
     requires op { IsOp circuit.old op }
     requires a { a.index < length circuit.old }
@@ -34,7 +34,7 @@ fn bit(circuit: &mut Circuit, op: BitOp, a: GateId, b: GateId) -> Result<GateId,
     }
 }
 
-/// The gates of all places.
+/// The gates of all bits.
 fn zipped(
     alloc: Global,
     circuit: &mut Circuit,
@@ -57,7 +57,7 @@ fn zipped(
     Ok(digits)
 }
 
-/// Each digit turned. No gate is added.
+/// Each bit inverted. No gate is added.
 pub fn inverse(alloc: Global, circuit: &mut Circuit, a: &[GateId]) -> Result<Vec<GateId>, NoMemory>
     requires a { AreGates circuit.old a.now }
     ensures made { IfOk result (λ r. Writes circuit.new r.items (length a.now) (λ v. 2 ^ length a.now - 1 - number_at v circuit.old a.now)) }
@@ -72,7 +72,7 @@ pub fn inverse(alloc: Global, circuit: &mut Circuit, a: &[GateId]) -> Result<Vec
     Ok(digits)
 }
 
-/// The digits that are 1 in both.
+/// The bits that are 1 in both.
 pub fn and(
     alloc: Global,
     circuit: &mut Circuit,
@@ -89,7 +89,7 @@ pub fn and(
     Ok(digits)
 }
 
-/// The digits that are 1 in either.
+/// The bits that are 1 in either.
 pub fn or(
     alloc: Global,
     circuit: &mut Circuit,
@@ -106,7 +106,7 @@ pub fn or(
     Ok(digits)
 }
 
-/// The digits that are 1 in just one.
+/// The bits that are 1 in exactly one.
 pub fn xor(
     alloc: Global,
     circuit: &mut Circuit,

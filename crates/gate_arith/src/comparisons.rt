@@ -11,7 +11,7 @@ use gates::{Circuit, GateId};
 use std::alloc::Global;
 use support::NoMemory;
 
-/// Whether any digit is 1.
+/// Whether any bit is 1.
 pub fn any(circuit: &mut Circuit, a: &[GateId]) -> Result<GateId, NoMemory>
     requires { AreGates circuit.old a.now }
     ensures made { IfOk result (λ id. Makes circuit.new id (λ v. truth (number_at v circuit.old a.now))) }

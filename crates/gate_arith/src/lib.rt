@@ -1,9 +1,9 @@
-//! Numbers as lists of gates, highest digit first.
+//! Numbers as lists of gates, most significant bit first.
 //!
 //! Each function makes the gates of one operation on binary numbers of a fixed width, as the circuits
-//! of hardware do (ripple carry, barrel shifts, shift and add, restoring division). It promises that
-//! the digits write the operation's number under all values of the inputs, and that the gates that
-//! stood before keep their values. It stands on `gates`, and takes from `bv_terms` the words for the
+//! of hardware do (ripple carry, barrel shifter, shift and add, restoring division). It promises
+//! that the bits write the operation's number under all values of the inputs, and that the earlier
+//! gates keep their values. It uses `gates`, and takes from `bv_terms` the definitions of the
 //! operations; the bits of terms are made of it.
 #![tactic(auto)]
 

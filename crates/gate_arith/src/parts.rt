@@ -11,7 +11,7 @@ use gates::{Circuit, GateId};
 use std::alloc::Global;
 use support::NoMemory;
 
-/// So many digits of a number, of which the last is at the place `from`, counted from the lowest.
+/// `width` bits of a number from bit `from` on, counted from the least significant one.
 pub fn part(alloc: Global, a: &[GateId], from: usize, width: usize) -> Result<Vec<GateId>, NoMemory>
     requires { from + width ≤ length a.now }
     ensures { IfOk result (λ r. (gates : List Gate) → AreGates gates a.now → Writes gates r.items width (λ v. number_at v gates a.now / 2 ^ from % 2 ^ width)) }
@@ -21,7 +21,7 @@ pub fn part(alloc: Global, a: &[GateId], from: usize, width: usize) -> Result<Ve
     Ok(digits)
 }
 
-/// The digits of the first number and then those of the second.
+/// The bits of the first number and then those of the second.
 pub fn joined(alloc: Global, high: &[GateId], low: &[GateId]) -> Result<Vec<GateId>, NoMemory>
     ensures { IfOk result (λ r. (gates : List Gate) → AreGates gates high.now → AreGates gates low.now →
         Writes gates r.items (length high.now + length low.now) (λ v. number_at v gates high.now * 2 ^ length low.now + number_at v gates low.now)) }

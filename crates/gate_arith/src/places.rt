@@ -1,4 +1,4 @@
-//! Digits that are known, repeated or free.
+//! Bits that are known, repeated or free.
 
 ghost use Rattle.std.specs.Prelude.{◌≡◌, ◌<◌, ◌≤◌, ◌^◌, ◌/◌, ◌%◌, IfOk, OnErr, length, replicate, take};
 ghost use Rattle.bv_terms.specs.Tree.{digit};
@@ -9,7 +9,7 @@ use gates::{Circuit, GateId};
 use std::alloc::Global;
 use support::NoMemory;
 
-/// The same gate, so many times.
+/// The same gate, `count` times.
 pub fn copies(alloc: Global, gate: GateId, count: usize) -> Result<Vec<GateId>, NoMemory>
     ensures { IfOk result (λ r. r.items ≡ replicate count gate) }
 {
@@ -18,7 +18,7 @@ pub fn copies(alloc: Global, gate: GateId, count: usize) -> Result<Vec<GateId>, 
     Ok(digits)
 }
 
-/// Whether a number has a 1 at a place, counted from the lowest.
+/// Whether a bit of a number is 1, counted from the least significant one.
 fn has_bit(value: u128, place: u32) -> bool
     requires { place < 128 }
     ensures { digit result ≡ value / 2 ^ place % 2 }
@@ -26,7 +26,7 @@ fn has_bit(value: u128, place: u32) -> bool
     value >> place & 1 == 1
 }
 
-/// A number, in so many digits.
+/// A number, in `width` bits.
 pub fn constant(
     alloc: Global,
     circuit: &mut Circuit,
@@ -46,7 +46,7 @@ pub fn constant(
     Ok(digits)
 }
 
-/// So many new inputs, after the gates that were there. Where memory runs out, some of them stand.
+/// `width` new inputs, after the gates that were there. Out of memory, some of them are added.
 fn some_inputs(alloc: Global, circuit: &mut Circuit, width: u32) -> Result<Vec<GateId>, NoMemory>
     ensures made { IfOk result (λ r. AreFresh circuit.old circuit.new width r.items) }
     ensures front { take (length circuit.old) circuit.new ≡ circuit.old }
@@ -60,8 +60,8 @@ fn some_inputs(alloc: Global, circuit: &mut Circuit, width: u32) -> Result<Vec<G
     Ok(digits)
 }
 
-/// So many new inputs of the circuit, after the gates that were there. Where memory runs out, the
-/// circuit is as before.
+/// `width` new inputs of the circuit, after the gates that were there. Out of memory, the circuit
+/// is as before.
 pub fn inputs(alloc: Global, circuit: &mut Circuit, width: u32) -> Result<Vec<GateId>, NoMemory>
     ensures made { IfOk result (λ r. AreFresh circuit.old circuit.new width r.items) }
     ensures front { take (length circuit.old) circuit.new ≡ circuit.old }

@@ -12,8 +12,8 @@ use gates::{Circuit, GateId};
 use std::alloc::Global;
 use support::NoMemory;
 
-/// The product, cut to the width. About half of the places of each sum are known to be 0, and cost
-/// no gate.
+/// The product, cut to the width. Row `i` of the sum has `i` low
+/// bits that are known to be 0 and cost no gate.
 pub fn product(
     alloc: Global,
     circuit: &mut Circuit,

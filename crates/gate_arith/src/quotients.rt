@@ -1,7 +1,7 @@
-//! Quotients and remainders by restoring division, from the highest place.
+//! Quotients and remainders by restoring division, from the most significant bit.
 //!
-//! A divisor of 0 is never more than what is left, so that each digit of the quotient is 1 and the
-//! dividend remains: just what is wanted there, with no gate for it.
+//! A divisor of 0 is never more than what is left, so that each bit of the quotient is 1 and the
+//! dividend remains: exactly what is wanted there, with no gate for it.
 
 ghost use Rattle.std.specs.Prelude.{◌≡◌, ◌<◌, IfOk, length};
 ghost use Rattle.gates.specs.Values.{Keeps};
@@ -17,22 +17,22 @@ use gates::{Circuit, GateId};
 use std::alloc::Global;
 use support::NoMemory;
 
-/// The digits of a quotient and of what the division leaves.
+/// The bits of a quotient and of the remainder.
 #[derive(Drop)]
 pub struct Division {
     pub quotient: Vec<GateId>,
     pub remainder: Vec<GateId>,
 }
 
-/// One digit of the quotient, and what is left after it.
+/// One bit of the quotient, and the partial remainder after it.
 #[derive(Drop)]
 struct Step {
     digit: GateId,
     left: Vec<GateId>,
 }
 
-/// Brings the next digit of the dividend down to what was left, and takes the divisor away once if
-/// it is not more.
+/// Brings the next bit of the dividend down to the partial remainder, and subtracts the divisor
+/// once if it is not more.
 fn bring_down(
     alloc: Global,
     circuit: &mut Circuit,

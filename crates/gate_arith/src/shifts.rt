@@ -1,4 +1,4 @@
-//! Shifts by a barrel of stages, one for each digit of the amount.
+//! Barrel shifters, with a stage for each bit of the amount.
 
 ghost use Rattle.std.specs.Prelude.{◌≡◌, ◌<◌, ◌≤◌, ◌*◌, ◌%◌, ◌^◌, IfOk, length};
 ghost use Rattle.gates.specs.Values.{Keeps};
@@ -15,14 +15,14 @@ use gates::{Circuit, GateId};
 use std::alloc::Global;
 use support::NoMemory;
 
-/// Which way a number is moved: up is to the higher places.
+/// Which way a number is shifted: up is to the left, to the more significant bits.
 #[derive(Clone, Copy)]
 enum Direction {
     Up,
     Down,
 }
 
-/// The number moved up, where zeros come in below.
+/// The number shifted left, where zeros come in at the least significant bits.
 fn moved_up(
     alloc: Global,
     circuit: &mut Circuit,
@@ -40,7 +40,7 @@ fn moved_up(
     Ok(digits)
 }
 
-/// The number moved down, where zeros come in above.
+/// The number shifted right, where zeros come in at the most significant bits.
 fn moved_down(
     alloc: Global,
     circuit: &mut Circuit,
@@ -58,7 +58,7 @@ fn moved_down(
     Ok(digits)
 }
 
-/// The number moved by so many places.
+/// The number shifted by `count` bits.
 fn moved(
     alloc: Global,
     circuit: &mut Circuit,
@@ -86,7 +86,7 @@ pub fn doubled(alloc: Global, circuit: &mut Circuit, a: &[GateId]) -> Result<Vec
     Ok(digits)
 }
 
-/// The number moved by the amount that the digits write, stage by stage from the lowest.
+/// The number shifted by the amount that the bits write, stage by stage from the least significant.
 fn staged(
     alloc: Global,
     circuit: &mut Circuit,
@@ -111,7 +111,7 @@ fn staged(
     Ok(value)
 }
 
-/// So many digits tell the amounts below a width of at most 128.
+/// How many bits write the amounts below a width of at most 128.
 fn stages(width: usize) -> usize
     requires least { 1 ≤ width }
     requires most { width ≤ 128 }
@@ -131,7 +131,7 @@ fn stages(width: usize) -> usize
     }
 }
 
-/// The number moved by an amount of the same width.
+/// The number shifted by an amount of the same width.
 fn shifted(
     alloc: Global,
     circuit: &mut Circuit,
@@ -157,7 +157,7 @@ fn shifted(
     Ok(digits)
 }
 
-/// The first moved up by the second; 0 where that is the width or more.
+/// The first shifted left by the second; 0 where that is the width or more.
 pub fn shift_left(
     alloc: Global,
     circuit: &mut Circuit,
@@ -176,7 +176,7 @@ pub fn shift_left(
     Ok(digits)
 }
 
-/// The first moved down by the second; 0 where that is the width or more.
+/// The first shifted right by the second; 0 where that is the width or more.
 pub fn shift_right(
     alloc: Global,
     circuit: &mut Circuit,
@@ -195,9 +195,9 @@ pub fn shift_right(
     Ok(digits)
 }
 
-/// The first moved down by the second, with copies of its sign; nothing but these where that is the
-/// width or more. The number is moved as it is and with each digit turned before and after, and the
-/// sign chooses; so a known amount leaves its digits as they are, but for the copies.
+/// The first shifted right by the second, with copies of its sign; nothing but these where that is
+/// the width or more. The number is shifted as it is and with each bit inverted before and after,
+/// and the sign chooses; so a known amount leaves its bits as they are, but for the copies.
 pub fn shift_right_signed(
     alloc: Global,
     circuit: &mut Circuit,

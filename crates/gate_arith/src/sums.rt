@@ -1,4 +1,4 @@
-//! Sums by a ripple of carries, and what follows from them.
+//! Ripple-carry sums, and what follows from them.
 
 ghost use Rattle.std.specs.Prelude.{◌≡◌, ◌<◌, ◌+◌, ◌-◌, ◌*◌, ◌%◌, ◌^◌, IfOk, length, nat_lt};
 ghost use Rattle.gates.specs.Values.{Keeps, Makes, gate_at};
@@ -10,15 +10,15 @@ use gates::{Circuit, GateId};
 use std::alloc::Global;
 use support::NoMemory;
 
-/// The digits of a sum, and what is carried out of the highest place.
+/// The bits of a sum, and the carry out of the most significant bit.
 #[derive(Drop)]
 pub struct Carried {
     pub digits: Vec<GateId>,
     pub carry: GateId,
 }
 
-/// The sum of three digits and what it carries: where the first two differ the third is passed on, and
-/// else either of the two is the carry.
+/// The sum of three bits and its carry: where the first two differ the carry is the third, and else
+/// either of the two.
 fn full_adder(
     circuit: &mut Circuit,
     a: GateId,
@@ -84,7 +84,7 @@ pub fn sum(
     Ok(whole.digits)
 }
 
-/// The sum of the first and the opposite of the second. It carries where the first isn't less.
+/// The sum of the first and the negation of the second. It carries where the first isn't less.
 pub fn minus(
     alloc: Global,
     circuit: &mut Circuit,

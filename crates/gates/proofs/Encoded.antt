@@ -58,7 +58,7 @@ module _ (gates : List Gate) (out : GateId) (order : List GateId) (cnf : Cnf) (e
   below-at : (i : ℕ) (g : Gate) → slice_get gates i ≡ Some g → All (λ j. j < i) (operands g)
   below-at i g at = operands-below i g (subst (λ n. IsFit n g) (let z : 0 + i ≡ i = omega arith in z) (fit_stored 0 gates i g e.fit at))
 
-  -- an input is at its own place
+  -- an input is at its own index
   input_own : (i place : ℕ) → slice_get gates i ≡ Some (Input place) → place ≡ i
   input_own i place at = omega (arith, input-place 0 gates i place e.fit at)
 
@@ -149,9 +149,9 @@ module _ (gates : List Gate) (out : GateId) (order : List GateId) (cnf : Cnf) (e
     output = output-value;
   }
 
--- ---- fronts
+-- ---- prefixes
 
--- the first places are the values of the gates that have these variables
+-- the first values of a model are those of the gates that have these variables
 front-from : (number : List ℕ) (places : List Bool) (k : ℕ) (order : List GateId) → ((j : ℕ) (a : GateId) → slice_get order j ≡ Some a → get_or number a.index 0 ≡ (k + j) + 1)
     → k + length order ≤ length places → take (length order) (drop k places) ≡ map (λ a. meaning.values_of places (get_or number a.index 0)) order
 front-from number places k [] h fits = refl

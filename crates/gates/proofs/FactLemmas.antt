@@ -81,7 +81,7 @@ input_named (Xor a b ∷ gs) (suc i) place e = input_named gs i place e
 input_named (Choose t a b ∷ gs) (suc i) place e = input_named gs i place e
 input_named (Input p ∷ gs) (suc i) place e = let r = input_named gs i place e in (suc r.0, omega (arith, r.1), r.2)
 
--- what holds of all holds of the one at a place
+-- what holds of all holds of the one at an index
 pub inputs_stored : (gates : List Gate) (order : List GateId) → AreInputs gates order → (j : ℕ) (a : GateId) → slice_get order j ≡ Some a → Contains (inputs_of gates) a.index
 inputs_stored gates [] h j a e = absurd (let z : ⊥ = cc in z)
 inputs_stored gates (x ∷ xs) h zero a e =

@@ -70,7 +70,7 @@ same_gate x y h =
     same false true e = absurd (let w : ⊥ = cc in w)
     same false false e = refl
 
--- gates at one place are equal or opposite
+-- gates at one index are equal or opposite
 pub same-place : (v : ℕ → Bool) (gs : List Gate) (c a : GateId) → c.index ≡ a.index → gate_at v gs c ≡ true → gate_at v gs a ≡ beq c.negated a.negated
 unfolding gate_at
 same-place v gs c a same on =
@@ -98,7 +98,7 @@ opposite-place v gs a b same apart =
     go false true false h = refl
     go false false z h = absurd (let w : ⊥ = cc in w)
 
--- the exclusive or of gates at one place is known
+-- the exclusive or of gates at one index is known
 pub exclusive-place : (v : ℕ → Bool) (gs : List Gate) (a b : GateId) → a.index ≡ b.index → not (beq a.negated b.negated) ≡ exclusive (gate_at v gs a) (gate_at v gs b)
 unfolding gate_at
 exclusive-place v gs a b same =

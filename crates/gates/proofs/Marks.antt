@@ -31,7 +31,7 @@ operands-below n (Choose test first second) fit (suc (suc (suc i))) d lt = absur
 pub all-contains : (P : ℕ → Type 0) (xs : List ℕ) (x : ℕ) → All P xs → Contains xs x → P x
 all-contains P xs x h c = subst P c.2 (h c.0 x c.1)
 
--- one at a place is among them
+-- one at an index is among them
 pub contains-at : (xs : List ℕ) (i d : ℕ) → i < length xs → Contains xs (get_or xs i d)
 contains-at xs i d lt = (i, lt, same xs i d (get_or xs i d) lt)
   where
@@ -82,7 +82,7 @@ marked-from P needed (k ∷ js) was own j h =
     ])
     (λ i d lt. own (suc i) d (omega arith)) j h
 
--- a place past those of the list is marked only if it was
+-- an index past those of the list is marked only if it was
 marked-past : (needed : List Bool) (js : List ℕ) (n : ℕ) → All (λ j. j < n) js → (j : ℕ) → n ≤ j → IsMarked (marked needed js) j → IsMarked needed j
 marked-past needed js n below j le h =
     marked-from (λ k. n ≤ k → IsMarked needed k) needed js (λ k m le'. m) (λ i d lt le'. absurd (omega (arith, below i d lt))) j h le

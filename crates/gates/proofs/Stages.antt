@@ -58,7 +58,7 @@ value-same v n early late (Xor a b) fit h =
 value-same v n early late (Choose test first second) fit h =
     rw (h test fit.0, h first fit.1, h second.index fit.2) refl
 
--- the value of the gate at a place is the one over all values
+-- the value of the gate at an index is the one over all values
 pub value-stored : (v : ℕ → Bool) (vs : List Bool) (gs : List Gate) (i : ℕ) (g : Gate) → AreFit (length vs) gs → slice_get gs i ≡ Some g
     → get_or (values_from v vs gs) (length vs + i) false ≡ gate_value v (values_from v vs gs) g
 value-stored v vs [] i g fit e = absurd (let x : ⊥ = cc in x)
@@ -81,7 +81,7 @@ within_stored [] i g e = absurd (let x : ⊥ = cc in x)
 within_stored (s ∷ ss) zero g e = omega arith
 within_stored (s ∷ ss) (suc i) g e = omega (arith, within_stored ss i g e)
 
--- an input carries its place
+-- an input carries its index
 pub input-place : (n : ℕ) (gs : List Gate) (i place : ℕ) → AreFit n gs → slice_get gs i ≡ Some (Input place) → place ≡ n + i
 input-place n [] i place fit e = absurd (let x : ⊥ = cc in x)
 input-place n (s ∷ ss) zero place fit e =
@@ -167,7 +167,7 @@ plain-value v gs i n = refl
 Contains-one : (x : ℕ) → Contains (x ∷ []) x
 Contains-one x = grind arith
 
--- what an input is told by
+-- what an input is known by
 pub record IsStoredInput (old new : List Gate) (id : GateId) (place : ℕ) : Type 0 where
   pub at_end : place ≡ length old
   pub stored : slice_get new id.index ≡ Some (Input place)

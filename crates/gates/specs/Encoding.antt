@@ -59,8 +59,8 @@ pub record Encodes (gates : List Gate) (out : GateId) (order : List GateId)
 abbrev pub AreAllNamed : List Gate → List GateId → Type 0
 AreAllNamed gates order = (i : ℕ) → Contains (inputs_of gates) i → IsNamed order i
 
--- where each input is named, each list of values of the front is the front of exactly one model of
--- the clauses before the last
+-- where each input is named, each list of values of the ordered variables extends to exactly one
+-- model of the clauses before the last
 abbrev pub HasOneModelAFront : List Gate → List GateId → Cnf → Type 0
 HasOneModelAFront gates order cnf = AreAllNamed gates order
     → (body : List (List Lit)) (last : List Lit) → cnf.clauses ≡ body ++ last ∷ []

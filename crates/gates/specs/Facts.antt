@@ -19,7 +19,7 @@ gate_fact w (Choose test first second) =
 abbrev pub value_by : (ℕ → Bool) → List ℕ → ℕ → Bool
 value_by v number i = v (slice_index number i)
 
--- the variable of the gate at a place has the value of the gate
+-- the variable of the gate at an index has the value of the gate
 abbrev pub IsFact : (ℕ → Bool) → List ℕ → ℕ → Gate → Type 0
 IsFact v number place gate = value_by v number place ≡ gate_fact (value_by v number) gate
 

@@ -4,11 +4,11 @@ use Rattle.gates.specs.declared.circuit.GateId.{GateId}
 use Rattle.gates.specs.declared.circuit.Gate.{Gate}
 use Rattle.gates.specs.Cone.{IsMarked, IsNeeded, operands}
 
--- the gate at a place has a variable: its number isn't 0
+-- the gate at an index has a variable: its number isn't 0
 abbrev pub HasNumber : List ℕ → ℕ → Type 0
 HasNumber number i = 0 < slice_index number i
 
--- the gate at a place is named in the order
+-- the gate at an index is named in the order
 abbrev pub IsNamed : List GateId → ℕ → Type 0
 IsNamed order i = (j : ℕ) × (a : GateId) × (slice_get order j ≡ Some a) × (a.index ≡ i)
 
@@ -22,7 +22,7 @@ abbrev pub AreNamed : List ℕ → List GateId → Type 0
 AreNamed number order = (j : ℕ) (a : GateId) → slice_get order j ≡ Some a
     → slice_index number a.index ≡ j + 1
 
--- each variable, from 1 on, is that of one of so many gates
+-- each variable, from 1 on, is that of one of `count` gates
 pub record IsNumbering (count : ℕ) (number gate_of : List ℕ) : Type 0 where
   pub numbered : length number ≡ count
   pub back : (i : ℕ) → HasNumber number i

@@ -1,10 +1,10 @@
--- What the gates of a circuit say under values of its inputs.
+-- The values of the gates of a circuit under values of its inputs.
 use Rattle.std.specs.Prelude.{ℕ, ◌≡◌, ◌≢◌, ◌<◌, ◌≤◌, ◌+◌, Bool, false, not, ◌&&◌, cond, Contains, List, [], ◌∷◌, ◌++◌, length, slice_index_or}
 use Rattle.gates.specs.declared.circuit.GateId.{GateId}
 use Rattle.gates.specs.declared.circuit.Gate.{Gate}
 use Rattle.gates.specs.declared.circuit.Gate.TheVariants.{Zero, Input, And, Xor, Choose}
 
--- just one of the two
+-- exactly one of the two
 abbrev pub exclusive : Bool → Bool → Bool
 exclusive a b = cond a (not b) b
 
@@ -12,7 +12,7 @@ exclusive a b = cond a (not b) b
 abbrev pub value_at : List Bool → GateId → Bool
 value_at earlier a = exclusive a.negated (slice_index_or earlier a.index false)
 
--- the value of a gate over those of the earlier ones; an input's is the one at its place
+-- the value of a gate over those of the earlier ones; an input's is the one at its index
 abbrev pub gate_value : (ℕ → Bool) → List Bool → Gate → Bool
 gate_value inputs earlier Zero = false
 gate_value inputs earlier (Input place) = inputs place
@@ -30,7 +30,7 @@ values_from inputs earlier (g ∷ gs) = values_from inputs (earlier ++ gate_valu
 unfoldable pub values_of : (ℕ → Bool) → List Gate → List Bool
 values_of inputs gates = values_from inputs [] gates
 
--- the gate goes well at place n: an input carries its place, and another names different earlier
+-- the gate is valid at index n: an input carries its index, and another names different earlier
 -- ones, two of them in order
 abbrev pub IsFit : ℕ → Gate → Type 0
 IsFit n Zero = Unit {0}
@@ -40,12 +40,12 @@ IsFit n (Xor a b) = (a < b) × (b < n)
 IsFit n (Choose test first second) = (test < n) × (first < n) × (second.index < n)
     × (test ≢ first) × (test ≢ second.index) × (first ≢ second.index)
 
--- each gate goes well at its place, the first of them being at n
+-- each gate is valid at its index, the first of them at index n
 abbrev pub AreFit : ℕ → List Gate → Type 0
 AreFit n [] = Unit {0}
 AreFit n (g ∷ gs) = IsFit n g × AreFit (n + 1) gs
 
--- the places of the inputs, in order
+-- the indices of the inputs, in order
 abbrev pub inputs_of : List Gate → List ℕ
 inputs_of [] = []
 inputs_of (Zero ∷ gs) = inputs_of gs

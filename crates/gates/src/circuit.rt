@@ -7,7 +7,7 @@ use std::alloc::Global;
 use std::marker::Model;
 use support::NoMemory;
 
-/// A gate of a circuit by its place, counted from 0, or the negation of that gate.
+/// A gate of a circuit by its index, counted from 0, or the negation of that gate.
 #[derive(Clone, Copy, PartialEq, Eq, Hash, Debug)]
 pub struct GateId {
     pub index: usize,
@@ -30,10 +30,10 @@ impl GateId {
     }
 }
 
-/// A gate over earlier ones. An input carries its own place.
+/// A gate over earlier ones. An input carries its own index.
 ///
-/// A sign that can stand on the result doesn't stand on an operand, so that gates that differ in
-/// signs alone are one: both operands of `Xor` are plain, and so are the test and the first arm of
+/// A sign that can be on the result isn't on an operand, so that gates that differ only in signs
+/// are one: both operands of `Xor` are plain, and so are the test and the first arm of
 /// `Choose`.
 #[derive(Clone, Copy, PartialEq, Eq, Hash, Debug)]
 pub enum Gate {
@@ -46,7 +46,7 @@ pub enum Gate {
         a: GateId,
         b: GateId,
     },
-    /// 1 where just one of the gates at these places is; `a` comes before `b`.
+    /// 1 where exactly one of the gates at these indices is; `a` comes before `b`.
     Xor {
         a: usize,
         b: usize,
@@ -112,7 +112,7 @@ impl Circuit {
         self.gates.is_empty()
     }
 
-    /// The place of the gate, which is stored unless it is there.
+    /// The index of the gate, which is stored unless it is there.
     fn store(&mut self, gate: Gate) -> Result<GateId, NoMemory>
         requires { IsFit (length self.old) gate }
         ensures stored { IfOk result (λ id. slice_get self.new id.index ≡ Some gate) }
@@ -139,7 +139,7 @@ impl Circuit {
         Ok(id)
     }
 
-    /// One more input. An assignment of the inputs gives each input a value by its place.
+    /// One more input. An assignment of the inputs gives each input a value by its index.
     pub fn input(&mut self) -> Result<GateId, NoMemory>
         ensures input { IfOk result (IsInput self.new) }
         ensures last { IfOk result (λ id. id.index ≡ length self.old) }
@@ -154,14 +154,14 @@ impl Circuit {
         Ok(id)
     }
 
-    /// Takes away all gates but the first ones, so many.
+    /// Takes away all gates but the first `count`.
     pub fn truncate(&mut self, count: usize)
         ensures { self.new ≡ take count self.old }
     {
         self.gates.truncate(count);
     }
 
-    /// A gate that is always this.
+    /// A gate that always has this value.
     pub fn constant(&mut self, value: bool) -> Result<GateId, NoMemory>
         ensures made { IfOk result (λ id. Makes self.new id (λ _. value)) }
         ensures kept { Keeps self.old self.new }
@@ -184,7 +184,7 @@ impl Circuit {
         })
     }
 
-    /// Whether the gate at a place is the constant.
+    /// Whether the gate at the index of `a` is the constant.
     fn is_constant(&self, a: GateId) -> bool
         requires { a.index < length self.now }
         ensures { IsTrue result → (v : ℕ → Bool) → gate_at v self.now a ≡ a.negated }
@@ -192,8 +192,8 @@ impl Circuit {
         matches!(self.as_slice()[a.index], Gate::Zero)
     }
 
-    /// Whether the gate at the place of `b` is an and gate, one operand of which is `a`. It is then 0
-    /// wherever `a` is.
+    /// Whether the gate at the index of `b` is an and gate, one operand of which is `a`. It is then
+    /// 0 wherever `a` is.
     fn is_over(&self, b: GateId, a: GateId) -> bool
         requires { b.index < length self.now }
         ensures { IsTrue result → (v : ℕ → Bool) → gate_at v self.now a ≡ false → gate_at v self.now b ≡ b.negated }
@@ -254,7 +254,7 @@ impl Circuit {
         }
     }
 
-    /// The and of two gates at different places, looking one level down.
+    /// The and of two gates at different indices, looking one level down.
     fn and_apart(&mut self, a: GateId, b: GateId) -> Result<GateId, NoMemory>
         requires a { a.index < length self.old }
         requires b { b.index < length self.old }
@@ -311,7 +311,7 @@ impl Circuit {
         self.not(neither)
     }
 
-    /// A gate that is 1 where just one is.
+    /// A gate that is 1 where exactly one is.
     pub fn xor(&mut self, a: GateId, b: GateId) -> Result<GateId, NoMemory>
         requires a { a.index < length self.old }
         requires b { b.index < length self.old }
@@ -331,7 +331,7 @@ impl Circuit {
         }
     }
 
-    /// The exclusive or of two gates, the first at the lesser place. Both signs go to the result.
+    /// The exclusive or of two gates, the first at the smaller index. Both signs go to the result.
     fn xor_in_order(&mut self, a: GateId, b: GateId) -> Result<GateId, NoMemory>
         requires order { a.index < b.index }
         requires b { b.index < length self.old }
@@ -396,8 +396,8 @@ impl Circuit {
         }
     }
 
-    /// A choice by a plain test between gates at other places. The sign of the first arm goes to the
-    /// second and to the result.
+    /// A choice by a plain test, all three gates at different indices. The sign of the first arm
+    /// goes to the second and to the result.
     fn choose_plain(&mut self, c: GateId, a: GateId, b: GateId) -> Result<GateId, NoMemory>
         requires c { c.index < length self.old }
         requires a { a.index < length self.old }

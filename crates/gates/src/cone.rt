@@ -1,4 +1,4 @@
-//! The gates that an output needs.
+//! The cone of influence of an output: the gates that it needs.
 
 ghost use Rattle.std.specs.Prelude.{◌≡◌, ◌<◌, All, IfOk, length};
 ghost use Rattle.gates.specs.Cone.{IsCone, marked, operands};

@@ -1,4 +1,4 @@
-//! The clauses that say what a circuit does.
+//! The Tseitin encoding of a circuit.
 
 ghost use Rattle.std.specs.Prelude.{◌≡◌, ◌≢◌, ◌<◌, ◌≤◌, ◌↔◌, ◌∷◌, [], ◌&&◌, ◌||◌, ◌⊎◌, ℕ, Bool, All, IfOk, OnOk, Some, cond, length, slice_get, slice_index, true};
 ghost use Rattle.clause_lits.specs.Meaning.{AreWithin, clause_true, clauses_true, lit_true};
@@ -17,8 +17,8 @@ use support::{NoMemory, Sequence};
 
 /// Clauses that have exactly one model over each assignment of the inputs, but for the last clause,
 /// which is one literal and has the value of `out` there. The inputs of `order` have the variables
-/// from 1 on, in this order, and are the ordered front; beside them each gate that `out` needs has a
-/// variable, and no other gate has a variable or a clause.
+/// from 1 on, in this order, and are the ordered variables; besides them each gate that `out` needs
+/// has a variable, and no other gate has a variable or a clause.
 ///
 /// This is the encoding of G. Tseitin, "On the complexity of derivation in propositional calculus"
 /// (1968): three clauses for an and gate, and four for an exclusive or or a choice.
@@ -58,7 +58,7 @@ fn literal_of(number: &[u64], a: GateId) -> Lit
     }
 }
 
-/// The literal of the gate at a place.
+/// The literal of the gate at an index.
 fn plain_literal(number: &[u64], index: usize) -> Lit
     requires { HasNumber number.now index }
     ensures variable { result.variable ≡ slice_index number.now index }
@@ -90,7 +90,7 @@ fn body_of(
     Ok(clauses)
 }
 
-/// Adds the clauses of the gate at a place.
+/// Adds the clauses of the gate at an index.
 fn push_gate(
     alloc: Global,
     clauses: &mut Vec<Clause>,
@@ -243,7 +243,7 @@ fn three(alloc: Global, a: Lit, b: Lit, c: Lit) -> Result<Clause, NoMemory>
     Ok(Clause::new(SmallVec::from_slice(alloc, &literals)?))
 }
 
-/// The two literals, the one of the lesser variable first.
+/// The two literals, the one of the smaller variable first.
 fn in_order(a: Lit, b: Lit) -> (Lit, Lit)
     requires { a.variable ≢ b.variable }
     ensures rises { result.0.variable < result.1.variable }

@@ -18,7 +18,7 @@ pub struct Numbering {
 }
 
 impl Numbering {
-    /// The next variable is that of a gate.
+    /// Gives a gate the next variable.
     fn add(&mut self, gate: usize) -> Result<(), NoMemory>
         requires { gate < length self.old.number.items }
         ensures number { OnOk result (self.new.number.items ≡ slice_set self.old.number.items gate (length self.old.gate_of.items + 1)) }

@@ -97,7 +97,7 @@ difference-unsigned n a b la lb = elim (cases_lt a b) as (λ _. nat_lt a b ≡ i
       le-ltb a b more ∙ sym (ap (is_outside_unsigned n) e ∙ (outside-natural n (a - b) ∙ lt-leb (2 ^ n) (a - b) (omega (arith, la))))
 ]
 
--- ---- signed: a sign that is told as a truth
+-- ---- signed: a sign that is given as a truth
 
 pub sign-low : (n a : ℕ) → a < 2 ^ (n - 1) → is_negative n a ≡ false
 sign-low n a h = lt-leb (2 ^ (n - 1)) a h

@@ -52,7 +52,7 @@ extended-wrapped from to x low le lt =
           rw (extended-high from to x more, signed_high from x more lt, small) (omega (arith, lt, wide))
     ]
 
--- the low digits of a number, from the top
+-- the low bits of a number, from the top
 top-digits : (from to x : ℕ) → to ≤ from → x < 2 ^ from → x % 2 ^ to ≡ 2 ^ to - 1 - (2 ^ from - x - 1) % 2 ^ to
 top-digits from to x le lt =
     let e = powers to from le in

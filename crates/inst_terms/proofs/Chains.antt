@@ -1,4 +1,4 @@
--- What terms made one after another stand for.
+-- What terms made one after another denote.
 use Rattle.std.proofs.Common.{ℕ, zero, suc, ◌≡◌, ◌<◌, ◌≤◌, ◌-◌, ◌*◌, ◌/◌, ◌%◌, ◌^◌, not, nat_eq, nat_le, nat_lt, List, pos, refl, ap, ◌∙◌, arith}
 use Rattle.std.specs.Prelude.{int_lt, int_le, ◌*ℤ◌}
 use Rattle.bv_terms.specs.declared.term.TermId.{TermId}
@@ -53,7 +53,7 @@ outside_signed-stands old g1 g2 g3 g4 a low back same id from to range ha least 
       ti.says v ∙ (ap not e_same ∙ outside-signed to from x least le (term-below old from a range ha v));
 }
 
--- ---- products of twice the digits
+-- ---- products of twice the bits
 
 times-wide : (new g : List Term) (wide_a wide_b id : TermId) (n : ℕ) (x y : (ℕ → ℕ → ℕ) → ℕ) → ((v : ℕ → ℕ → ℕ) → term_at v g wide_a ≡ x v) → ((v : ℕ → ℕ → ℕ) → term_at v g wide_b ≡ y v) → width_of (tree_in g wide_a) ≡ n
     → Makes new id (width_of (tree_in g wide_a)) (λ v. (term_at v g wide_a * term_at v g wide_b) % 2 ^ width_of (tree_in g wide_a)) → Makes new id n (λ v. (x v * y v) % 2 ^ n)

@@ -1,4 +1,4 @@
--- Numbers with fewer digits, and whether they are the same.
+-- Numbers with fewer bits, and whether they are the same.
 use Rattle.std.proofs.Common.{ℕ, zero, suc, ◌≡◌, ◌≢◌, ◌<◌, ◌≤◌, ◌+◌, ◌-◌, ◌*◌, ◌/◌, ◌%◌, ◌^◌, not, nat_eq, nat_le, pos, inl, inr, refl, ap, sym, ◌∙◌, arith, pow-add, pow_pos, pow_mono, subst}
 use Rattle.std.proofs.lemmas.Bool.{cases_lt, le-leb, lt-leb, eq-eqb, ne_eqb}
 use Rattle.std.proofs.lemmas.Nat.{mod_below, mod-mul-add, shr_split, shr_below}
@@ -37,7 +37,7 @@ outside-unsigned m w x le lt = high-digits m w x le lt ∙ sym (outside-natural 
 
 -- ---- in two's complement
 
--- the low digits, where those are all that there is before them
+-- the low bits, where those are all that there is before them
 low-part : (q m r : ℕ) → r < 2 ^ m → (q * 2 ^ m + r) % 2 ^ m ≡ r
 low-part q m r lt = mod-mul-add q (2 ^ m) r lt
 
@@ -50,14 +50,14 @@ extended-high m w r h = rw (le-leb (2 ^ (m - 1)) r h) refl
 pub wider : (m w : ℕ) → m ≤ w → 2 ^ m ≤ 2 ^ w
 wider m w le = pow_mono {i = m} {j = w} le
 
--- a number that has room is its low digits with copies of their sign before them
+-- a number that has room is its low bits with copies of their sign before them
 natural-same : (m w x : ℕ) → 1 ≤ m → x < 2 ^ (m - 1) → extended_signed m w (x % 2 ^ m) ≡ x
 natural-same m w x low h =
     let half = halves m low in
     let whole : x % 2 ^ m ≡ x = mod-eq_of_lt (omega (arith, half, h)) in
     ap (extended_signed m w) whole ∙ extended-low m w x h
 
--- one that is too large for that isn't: with a digit 0 first it is below the half, and else not below the other half of the wider width
+-- one that is too large for that isn't: with a leading bit 0 it is below the half, and else not below the wider width's other half
 natural-apart : (m w x : ℕ) → 1 ≤ m → m ≤ w → 2 ^ (m - 1) ≤ x → x < 2 ^ (w - 1) → extended_signed m w (x % 2 ^ m) ≢ x
 natural-apart m w x low le h small e =
     let half = halves m low in
@@ -104,7 +104,7 @@ negative-apart m w k low le h small e =
       | inr more ↦ let is = extended-high m w r more in omega (arith, is, e, h, small, more, half, half', wide)
     ]
 
--- whether the number of w digits is that of its low digits says whether it has room there
+-- whether the number of w bits is that of its low bits says whether it has room there
 pub outside-signed : (m w x : ℕ) → 1 ≤ m → m ≤ w → x < 2 ^ w → not (nat_eq (extended_signed m w (x % 2 ^ m)) x) ≡ is_outside_signed m (signed_of w x)
 outside-signed m w x low le lt =
     let half = halves w (omega (arith, low, le)) in

@@ -1,4 +1,4 @@
--- Each operation on numbers stands for its row.
+-- Each operation on numbers denotes its row.
 use Rattle.std.proofs.Common.{ℕ, ◌≤◌, ◌+◌, ◌-◌, ◌*◌, ◌%◌, ◌^◌, Bool, false, not, ◌&&◌, ◌||◌, nat_eq, nat_le, nat_lt, List, pos, bit_and, bit_or, bit_xor}
 use Rattle.std.specs.Prelude.{◌*ℤ◌}
 use Rattle.ir_tree.specs.declared.tree.Flags.{Flags}

@@ -1,4 +1,4 @@
--- Shifts, and whether they lose digits.
+-- Shifts, and whether they lose bits.
 use Rattle.std.proofs.Common.{ℕ, zero, suc, ◌≡◌, ◌<◌, ◌≤◌, ◌+◌, ◌-◌, ◌*◌, ◌/◌, ◌%◌, ◌^◌, Bool, not, cond, ◌&&◌, ◌||◌, nat_eq, nat_le, pos, negsuc, neg_ℤ, inl, inr, refl, ap, sym, ◌∙◌, arith, pow-add, pow_pos, subst}
 use Rattle.std.specs.Prelude.{◌*ℤ◌}
 use Rattle.std.specs.Int.{int_shr}
@@ -57,7 +57,7 @@ left-unsigned m y x =
 half-of : (m y : ℕ) → 1 ≤ m → 2 ^ (m + y - 1) ≡ 2 ^ (m - 1) * 2 ^ y
 half-of m y low = let e : m + y - 1 ≡ (m - 1) + y = omega (arith, low) in ap (λ k. 2 ^ k) e ∙ pow-add 2 (m - 1) y
 
--- the number without its low digits, from the top
+-- the number without its low bits, from the top
 turned-digits : (m y r : ℕ) → r < 2 ^ m → (2 ^ (m + y) - 1 - r * 2 ^ y) / 2 ^ y ≡ 2 ^ m - 1 - r
 turned-digits m y r lt =
     let e : 2 ^ (m + y) ≡ 2 ^ m * 2 ^ y = pow-add 2 m y in
@@ -82,7 +82,7 @@ back-signed m y r low lt =
     let turned : 2 ^ (m + y) - 1 - (2 ^ m - 1 - r) ≡ 2 ^ (m + y) - 2 ^ m + r = omega (arith, wide, lt) in
     rw (sign, turned-digits m y r lt, shl-shr r y, turned) refl
 
--- an exact number times a power of 2 has as much room as the number has at fewer digits
+-- an exact number times a power of 2 has as much room as the number has at fewer bits
 outside-times : (n m y x : ℕ) → 1 ≤ n → 1 ≤ m → x < 2 ^ n → is_outside_signed m (signed_of n x) ≡ is_outside_signed (m + y) (signed_of n x *ℤ pos (2 ^ y))
 outside-times n m y x low low' lt = elim (cases_lt x (2 ^ (n - 1))) as (λ _. is_outside_signed m (signed_of n x) ≡ is_outside_signed (m + y) (signed_of n x *ℤ pos (2 ^ y))) [
   | inl less ↦
@@ -132,7 +132,7 @@ rest-test t r x e = elim (cases_eq r 0) as (λ _. nat_eq t x ≡ nat_eq r 0) [
   | inr some ↦ rw (ne_eqb r 0 some, ne_eqb t x (λ same. some (omega (arith, e, same)))) refl
 ]
 
--- the number without its low digits, at their places again
+-- the number without its low bits, shifted back up
 back-up : (n y x : ℕ) → x < 2 ^ n → not (nat_eq ((x / 2 ^ y * 2 ^ y) % 2 ^ n) x) ≡ not (nat_eq (x % 2 ^ y) 0)
 back-up n y x lt =
     let split = shr_split x y in

@@ -1,4 +1,4 @@
--- The results of the public calls stand for what the table gives.
+-- The results of the public calls denote what the table gives.
 use Rattle.std.proofs.Common.{ℕ, zero, suc, ◌≡◌, ◌<◌, ◌/◌, ◌%◌, ◌^◌, Bool, true, false, cond, ◌||◌, nat_eq, List, refl, ap, subst, ◌∙◌, arith}
 use Rattle.std.specs.Prelude.{if◌then◌else◌}
 use Rattle.ir_tree.specs.declared.tree.Op.{Op}
@@ -31,7 +31,7 @@ record AreOperands (old new : List Term) (n : ℕ) (left right : SymNumber) (a b
   second_poison : (v : ℕ → ℕ → ℕ) → bit_at v new b.poison ≡ bit_at v old right.poison
   second_number : (v : ℕ → ℕ → ℕ) → term_at v new b.number ≡ term_at v old right.number % 2 ^ n
 
--- ... which stand in the lists old, g1, g2 and the later one
+-- ... which are in the lists old, g1, g2 and the later one
 operands-later : (old g1 g2 new : List Term) (n : ℕ) (left right : SymNumber) (a b : NarrowValue) → IsSymNumber old left → IsSymNumber old right
     → Keeps old g1 → a.poison ≡ left.poison → Makes g1 a.number n (λ v. term_at v old left.number % 2 ^ n)
     → Keeps g1 g2 → b.poison ≡ right.poison → Makes g2 b.number n (λ v. term_at v g1 right.number % 2 ^ n)

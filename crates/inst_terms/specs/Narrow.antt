@@ -1,4 +1,4 @@
--- What values at a width stand for under an assignment of the variables.
+-- What values at a width denote under an assignment of the variables.
 use Rattle.std.specs.Prelude.{ℕ, List}
 use Rattle.byte_block.specs.declared.value.Value.{Value}
 use Rattle.bv_terms.specs.declared.term.Term.{Term}

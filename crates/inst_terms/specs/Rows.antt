@@ -14,12 +14,12 @@ use Rattle.inst_terms.specs.Narrow.{narrow_at}
 abbrev pub row_of : Op → ℕ → ℕ → ℕ → Value
 row_of op n a b = poison_if (is_poisoned op n a b) (Num (number_result op n a b))
 
--- the terms stand for the row on two numbers, wherever the operation is defined on them
+-- the terms denote the row on two numbers, wherever the operation is defined on them
 abbrev pub IsRow : List Term → List Term → Op → ℕ → TermId → TermId → NarrowValue → Type 0
 IsRow old new op n a b s =
     (v : ℕ → ℕ → ℕ) → is_undefined op n (Num (term_at v old a)) (Num (term_at v old b)) ≡ false → narrow_at v new s ≡ row_of op n (term_at v old a) (term_at v old b)
 
--- the sign of the first is that of neither other
+-- the sign of the first differs from those of both others
 abbrev pub is_sign_alone : ℕ → ℕ → ℕ → ℕ → Bool
 is_sign_alone n c a b = have_two_signs n c a && have_two_signs n c b
 

@@ -1,4 +1,4 @@
-//! Operations on two integers of one width.
+//! Operations on two integers of the same width.
 
 ghost use Rattle.std.specs.Prelude.{◌≡◌, ℕ, IfOk};
 ghost use Rattle.bv_terms.specs.Trees.{IsTerm, Keeps, bit_at};
@@ -20,7 +20,7 @@ use mem_terms::SymNumber;
 use support::NoMemory;
 use tv_num::Width;
 
-/// What an operation gives: undefined behaviour where the first is true, and else the value.
+/// What an operation gives: undefined behaviour where the first is true, else the value.
 #[derive(Clone, Copy, Debug, PartialEq, Eq)]
 pub struct Computed {
     pub undefined: TermId,
@@ -99,7 +99,7 @@ fn on_numbers(
 }
 
 /// An operation on two values, read modulo 2^width (LLVM Language Reference, "Binary Operations",
-/// "Bitwise Binary Operations"). The one error is out of memory, and the terms that were there
+/// "Bitwise Binary Operations"). The only error is out of memory, and the terms that were there
 /// stay.
 pub fn binary(
     terms: &mut Terms,

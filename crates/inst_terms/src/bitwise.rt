@@ -1,4 +1,4 @@
-//! Operations bit by bit (LLVM Language Reference, "and Instruction", "or Instruction", "xor
+//! Bitwise operations (LLVM Language Reference, "and Instruction", "or Instruction", "xor
 //! Instruction").
 
 ghost use Rattle.std.specs.Prelude.{◌&&◌, not, false, IfOk, nat_eq, bit_and, bit_or, bit_xor};
@@ -69,7 +69,7 @@ pub fn disjunction(
     Ok(NarrowValue { poison, number })
 }
 
-/// The bits that are 1 in just one.
+/// The bits that are 1 in exactly one.
 pub fn exclusive_disjunction(
     terms: &mut Terms,
     a: TermId,

@@ -18,7 +18,7 @@ use support::NoMemory;
 use term_rules::sext;
 use tv_num::Width;
 
-/// Whether the number without a sign has no room at another width.
+/// Whether the unsigned number is out of range at another width.
 fn has_no_room(terms: &mut Terms, a: TermId, from: Width, to: Width) -> Result<TermId, NoMemory>
     requires { IsTerm terms.old from.bits a }
     ensures made { IfOk result (λ id. Tests terms.new id (λ v. is_outside_unsigned to.bits (pos (term_at v terms.old a)))) }
@@ -33,7 +33,7 @@ fn has_no_room(terms: &mut Terms, a: TermId, from: Width, to: Width) -> Result<T
     }
 }
 
-/// Whether the number in two's complement has no room at another width.
+/// Whether the number in two's complement is out of range at another width.
 fn has_no_signed_room(
     terms: &mut Terms,
     a: TermId,
@@ -89,7 +89,7 @@ fn has_no_signed_room_where(
     }
 }
 
-/// The low digits.
+/// The low bits.
 fn truncated(
     terms: &mut Terms,
     flags: Flags,
@@ -126,7 +126,7 @@ fn is_negative_where(
     }
 }
 
-/// Zeros before the number.
+/// The number zero-extended.
 fn zero_extended(
     terms: &mut Terms,
     non_negative: bool,
@@ -144,7 +144,7 @@ fn zero_extended(
     Ok(NarrowValue { poison, number })
 }
 
-/// Copies of the sign before the number, or its low digits.
+/// The number sign-extended, or its low bits.
 fn resized_signed(terms: &mut Terms, a: TermId, from: Width, to: Width) -> Result<TermId, NoMemory>
     requires { IsTerm terms.old from.bits a }
     ensures made { IfOk result (λ id. Makes terms.new id to.bits (λ v. wrapped to.bits (signed_of from.bits (term_at v terms.old a)))) }
@@ -205,7 +205,7 @@ fn on_number(
     }
 }
 
-/// The value, read modulo 2^from, at the width `to`; the widths need not go together. The one
+/// The value, read modulo 2^from, at the width `to`; the widths need not suit the cast. The only
 /// error is out of memory, and the terms that were there stay.
 pub fn cast(
     terms: &mut Terms,

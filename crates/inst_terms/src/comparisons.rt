@@ -15,7 +15,7 @@ use support::NoMemory;
 use term_rules::zext;
 use tv_num::Width;
 
-/// Whether the first is less or equal, without a sign.
+/// Whether the first is less or equal, unsigned.
 fn at_most(terms: &mut Terms, a: TermId, b: TermId, width: Width) -> Result<TermId, NoMemory>
     requires a { IsTerm terms.old width.bits a }
     requires b { IsTerm terms.old width.bits b }
@@ -56,7 +56,7 @@ fn at_most_signed(terms: &mut Terms, a: TermId, b: TermId, width: Width) -> Resu
     Ok(id)
 }
 
-/// Whether two numbers of the width compare so.
+/// Whether the predicate holds of two numbers of the width.
 fn holds(
     terms: &mut Terms,
     predicate: Predicate,
@@ -103,7 +103,7 @@ fn are_unlike(
     }
 }
 
-/// 1 where the test holds, and else 0, unless it is poison.
+/// 1 where the test holds, else 0, unless it is poison.
 fn truth_value(terms: &mut Terms, poison: TermId, test: TermId) -> Result<SymNumber, NoMemory>
     requires poison { IsTerm terms.old 1 poison }
     requires test { IsTerm terms.old 1 test }
@@ -117,7 +117,7 @@ fn truth_value(terms: &mut Terms, poison: TermId, test: TermId) -> Result<SymNum
 }
 
 /// A comparison of two values, read modulo 2^width: 1 or 0, and poison where an operand is, or where
-/// `samesign` forbids it. The one error is out of memory, and the terms that were there stay.
+/// `samesign` forbids it. The only error is out of memory, and the terms that were there stay.
 pub fn compare(
     terms: &mut Terms,
     predicate: Predicate,

@@ -1,13 +1,13 @@
 //! The instruction table as terms: what each operation, comparison, cast and selection gives on
 //! values that are terms.
 //!
-//! It promises that under every assignment of the variables the terms of a result stand for what the
-//! table of `points` gives on what the operands stand for, at every width and for every flag, with no
-//! premise that the instruction is well formed: numbers are read modulo the width. It stands on
-//! `mem_terms`; runs as terms stand on it.
+//! It promises that under every assignment of the variables the terms of a result denote what the
+//! table of `points` gives on what the operands denote, at every width and for every flag, with no
+//! premise that the instruction is well formed: numbers are read modulo the width. It builds on
+//! `mem_terms`; runs as terms use it.
 //!
 //! Terms become gates, so each operation works at its own width, and only its result is widened to
-//! the 64 digits of a value.
+//! the 64 bits of a value.
 #![tactic(auto)]
 
 mod binary_operations;

@@ -11,7 +11,7 @@ use support::NoMemory;
 use term_rules::{constant, zext};
 use tv_num::Width;
 
-/// A value at a width: poison where the first is true, and else the number, of so many digits.
+/// A value at a width: poison where the first is true, else the number, of this number of bits.
 #[derive(Clone, Copy, Debug, PartialEq, Eq)]
 pub struct NarrowValue {
     pub poison: TermId,
@@ -33,7 +33,7 @@ pub fn narrowed(terms: &mut Terms, value: SymNumber, width: Width) -> Result<Nar
     })
 }
 
-/// The value with zeros before its number.
+/// The value with its number zero-extended.
 pub fn widened(terms: &mut Terms, value: NarrowValue, width: Width) -> Result<SymNumber, NoMemory>
     requires { IsNarrow terms.old width.bits value }
     ensures made { IfOk result (IsSymNumber terms.new) }

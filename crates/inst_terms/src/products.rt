@@ -1,7 +1,7 @@
 //! Products (LLVM Language Reference, "mul Instruction").
 //!
-//! A flag asks whether the exact product has room, and that takes twice the digits; without flags the
-//! low digits are enough.
+//! A flag asks whether the exact product is in range, and that takes twice the bits; without flags
+//! the low bits are enough.
 
 ghost use Rattle.std.specs.Prelude.{◌≡◌, ◌*◌, ◌%◌, ◌^◌, ◌&&◌, ◌||◌, ℕ, IfOk, pos, ◌*ℤ◌};
 ghost use Rattle.bv_terms.specs.Trees.{IsTerm, Keeps, Makes, Tests, term_at};
@@ -16,7 +16,7 @@ use support::NoMemory;
 use term_rules::{mul, sext, zext};
 use tv_num::Width;
 
-/// The exact product of numbers without a sign, of twice the digits.
+/// The exact product of unsigned numbers, of twice the bits.
 fn whole_product(terms: &mut Terms, a: TermId, b: TermId, width: Width) -> Result<TermId, NoMemory>
     requires a { IsTerm terms.old width.bits a }
     requires b { IsTerm terms.old width.bits b }
@@ -31,7 +31,7 @@ fn whole_product(terms: &mut Terms, a: TermId, b: TermId, width: Width) -> Resul
     Ok(id)
 }
 
-/// The exact product of numbers in two's complement, of twice the digits.
+/// The exact product of numbers in two's complement, of twice the bits.
 fn whole_signed_product(
     terms: &mut Terms,
     a: TermId,
@@ -54,7 +54,7 @@ fn whole_signed_product(
     Ok(id)
 }
 
-/// The low digits of the product, out of the product that a flag asks for.
+/// The low bits of the product, taken from the product that a flag asks for.
 fn low_product(
     terms: &mut Terms,
     flags: Flags,
@@ -78,7 +78,7 @@ fn low_product(
     }
 }
 
-/// Where the flag is set, whether the product without a sign has no room.
+/// Where the flag is set, whether the unsigned product is out of range.
 fn is_outside_unsigned_where(
     terms: &mut Terms,
     flag: bool,
@@ -99,7 +99,7 @@ fn is_outside_unsigned_where(
     }
 }
 
-/// Where the flag is set, whether the product in two's complement has no room.
+/// Where the flag is set, whether the product in two's complement is out of range.
 fn is_outside_signed_where(
     terms: &mut Terms,
     flag: bool,

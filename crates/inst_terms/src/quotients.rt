@@ -1,6 +1,6 @@
 //! Quotients and remainders (LLVM Language Reference, "udiv Instruction", "sdiv Instruction", "urem
-//! Instruction", "srem Instruction"). What they give where the divisor is 0 is no matter. Those of
-//! numbers in two's complement are those of their magnitudes, with a sign put to them.
+//! Instruction", "srem Instruction"). What they give where the divisor is 0 does not matter. Those
+//! of numbers in two's complement are those of their magnitudes, with a sign.
 
 ghost use Rattle.std.specs.Prelude.{◌&&◌, not, false, IfOk, nat_eq};
 ghost use Rattle.bv_terms.specs.Tree.{quotient, remainder};

@@ -1,4 +1,4 @@
-//! Whether a number has room at a lesser width.
+//! Whether a number is in range at a smaller width.
 
 ghost use Rattle.std.specs.Prelude.{◌<◌, ◌≤◌, IfOk, pos};
 ghost use Rattle.bv_terms.specs.Trees.{IsTerm, Keeps, Tests, term_at};
@@ -9,7 +9,7 @@ use mem_terms::{equals, negation};
 use support::NoMemory;
 use term_rules::{constant, extract, sext};
 
-/// Whether the number, without a sign, has no room in the lesser width: a higher digit is 1.
+/// Whether the unsigned number is out of range at the smaller width: a higher bit is 1.
 pub fn is_outside_unsigned(
     terms: &mut Terms,
     a: TermId,
@@ -31,8 +31,8 @@ pub fn is_outside_unsigned(
     Ok(id)
 }
 
-/// Whether the number in two's complement has no room in the lesser width: the low digits, with
-/// copies of their sign before them, are another number.
+/// Whether the number in two's complement is out of range at the smaller width: its low bits,
+/// sign-extended, are another number.
 pub fn is_outside_signed(
     terms: &mut Terms,
     a: TermId,

@@ -11,8 +11,8 @@ use support::NoMemory;
 use term_rules::extract;
 
 /// The value of either kind that the condition's lowest bit chooses, and poison where the condition
-/// is; the other value has no effect. The one error is out of memory, and the terms that were there
-/// stay.
+/// is; the other value has no effect. The only error is out of memory, and the terms that were
+/// there stay.
 pub fn select(
     terms: &mut Terms,
     condition: SymNumber,

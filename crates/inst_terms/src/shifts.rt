@@ -1,6 +1,6 @@
 //! Shifts (LLVM Language Reference, "shl Instruction", "lshr Instruction", "ashr Instruction").
 //!
-//! A flag asks whether digits are lost, and they are where the result, moved back, is another number.
+//! A flag asks whether bits are lost: they are where the result, shifted back, is another number.
 
 ghost use Rattle.std.specs.Prelude.{◌&&◌, ◌||◌, IfOk, nat_eq, nat_le, not};
 ghost use Rattle.bv_terms.specs.Tree.{shifted_left, shifted_right, shifted_signed};
@@ -26,7 +26,7 @@ fn is_past(terms: &mut Terms, amount: TermId, width: Width) -> Result<TermId, No
     Ok(id)
 }
 
-/// Where the flag is set, whether the number moved down by the amount is not the one before.
+/// Where the flag is set, whether the number shifted right by the amount is not the one before.
 fn is_other_below_where(
     terms: &mut Terms,
     flag: bool,
@@ -72,7 +72,7 @@ fn is_other_below_signed_where(
     }
 }
 
-/// Where the flag is set, whether the number moved up by the amount is not the one before.
+/// Where the flag is set, whether the number shifted left by the amount is not the one before.
 fn is_other_above_where(
     terms: &mut Terms,
     flag: bool,
@@ -95,7 +95,7 @@ fn is_other_above_where(
     }
 }
 
-/// The number moved up by the amount.
+/// The number shifted left by the amount.
 pub fn shift_left(
     terms: &mut Terms,
     flags: Flags,
@@ -120,7 +120,7 @@ pub fn shift_left(
     Ok(NarrowValue { poison, number })
 }
 
-/// The number moved down by the amount, with zeros before it.
+/// The number shifted right by the amount, filled with zeros.
 pub fn logical_shift_right(
     terms: &mut Terms,
     exact: bool,
@@ -142,7 +142,7 @@ pub fn logical_shift_right(
     Ok(NarrowValue { poison, number })
 }
 
-/// The number moved down by the amount, with copies of its sign before it.
+/// The number shifted right by the amount, filled with copies of its sign.
 pub fn arithmetic_shift_right(
     terms: &mut Terms,
     exact: bool,

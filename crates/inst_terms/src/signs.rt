@@ -11,7 +11,7 @@ use support::NoMemory;
 use term_rules::{extract, xor};
 use tv_num::Width;
 
-/// Whether the number is negative: its highest digit.
+/// Whether the number is negative: its highest bit.
 pub fn sign(terms: &mut Terms, a: TermId, width: Width) -> Result<TermId, NoMemory>
     requires { IsTerm terms.old width.bits a }
     ensures made { IfOk result (λ id. Tests terms.new id (λ v. is_negative width.bits (term_at v terms.old a))) }
@@ -22,7 +22,7 @@ pub fn sign(terms: &mut Terms, a: TermId, width: Width) -> Result<TermId, NoMemo
     Ok(id)
 }
 
-/// True where just one is.
+/// True where exactly one is.
 fn differ(terms: &mut Terms, a: TermId, b: TermId) -> Result<TermId, NoMemory>
     requires a { IsTerm terms.old 1 a }
     requires b { IsTerm terms.old 1 b }
@@ -69,7 +69,7 @@ fn is_sign_alone(
     both(terms, first, second)
 }
 
-/// Where the flag is set, whether the sign of the first is that of neither other.
+/// Where the flag is set, whether the sign of the first differs from those of both others.
 pub fn is_sign_alone_where(
     terms: &mut Terms,
     flag: bool,

@@ -1,7 +1,7 @@
 //! Sums and differences (LLVM Language Reference, "add Instruction", "sub Instruction").
 //!
-//! The unsigned sum has no room where it is less than a part, and the signed one where both parts
-//! have the other sign.
+//! The unsigned sum overflows where it is less than an operand, and the signed one where both
+//! operands have the other sign.
 
 ghost use Rattle.std.specs.Prelude.{◌+◌, ◌-◌, ◌%◌, ◌^◌, ◌&&◌, ◌||◌, IfOk, nat_lt};
 ghost use Rattle.bv_terms.specs.Trees.{IsTerm, Keeps, Makes, Tests, term_at};

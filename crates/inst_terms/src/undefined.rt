@@ -29,7 +29,7 @@ fn is_zero_or_poison(
     Ok(id)
 }
 
-/// Whether all digits of the number are 1.
+/// Whether all bits of the number are 1.
 fn is_all_ones(terms: &mut Terms, a: TermId, width: Width) -> Result<TermId, NoMemory>
     requires { IsTerm terms.old width.bits a }
     ensures made { IfOk result (λ id. Tests terms.new id (λ v. nat_eq (term_at v terms.old a) (2 ^ width.bits - 1))) }

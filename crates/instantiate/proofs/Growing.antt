@@ -36,7 +36,7 @@ module _ (pair : Functions) (bounds : Bounds) (budget : Budget) where
   trail_more before [] (q ∷ qs) p tape count trail least cover = absurd (omega (arith, count))
   trail_more before (t ∷ ts) [] p tape count trail least cover = absurd (omega (arith, count))
 
-  -- or by one point alone
+  -- or by only one point
   trail_open : (before tapes : List (List ℕ)) (points : List Point) (p : Point) → length points ≡ length tapes → TrailFrom pair bounds before tapes points
       → IsLeastUncovered pair bounds (before ++ tapes) p → TrailFrom pair bounds before tapes (points ++ p ∷ [])
   trail_open before [] [] p count trail least = rw append-nil at least

@@ -38,7 +38,7 @@ abbrev pub Shown : Option Cert → (Cert → Type 0) → Type 0
 Shown None shows = ⊥
 Shown (Some cert) shows = shows cert
 
--- the question after a trail: which tape covers the open point, or, where none is open, which point stands uncovered
+-- the question after a trail: which tape covers the open point, or, where none is open, which point is uncovered
 abbrev pub IsSpentNext : Functions → Bounds → Kept → Option Point → ℕ → Cert → Type 0
 IsSpentNext pair bounds kept None n cert = IsSpentOn (IsUncovered pair bounds kept.tapes) (point_widths pair bounds) n cert
 IsSpentNext pair bounds kept (Some p) n cert = IsSpentOn (IsCovering pair bounds p) (tape_widths pair bounds) n cert
@@ -67,7 +67,7 @@ pub record IsNotAsked (kept : Kept) (cert : Option Cert) : Type 0 where
   pub points : kept.points ≡ []
   pub uncertified : cert ≡ None
 
--- a pair that is too heavy is not asked about, and no other is told as too heavy
+-- a pair that is too heavy is not asked about, and no other is reported as too heavy
 abbrev pub IsJudged : Functions → Bounds → Budget → Kept → Option Cert → Verdict → Type 0
 IsJudged pair bounds budget kept cert (Unknown Weight) = IsHeavy pair bounds budget × IsNotAsked kept cert
 IsJudged pair bounds budget kept cert v = ¬ IsHeavy pair bounds budget × ComesWith pair bounds budget kept cert v

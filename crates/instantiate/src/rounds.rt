@@ -41,7 +41,7 @@ fn limit_in(budget: &Budget) -> Option<u64>
 }
 
 impl Trail {
-    /// The trail without a point. The one error is out of memory.
+    /// The trail without a point. The only error is out of memory.
     pub fn new(alloc: Global, subject: &Subject) -> Result<Trail, NoMemory>
         requires { IsSubject subject.now }
         ensures { IfOk result (λ trail. (budget : Budget) → IsTrail subject.now budget trail) }
@@ -115,7 +115,7 @@ impl Trail {
 
     /// Asks both questions once. The trail ends where every point is covered, where no tape covers the
     /// least point that is not, where the limit is spent, and where a tape would be one too many; else
-    /// it has one point and one tape more. The one error is out of memory.
+    /// it has one more point and one more tape. The only error is out of memory.
     pub fn round(
         &mut self,
         alloc: Global,

@@ -39,14 +39,14 @@ fn grow(alloc: Global, subject: &Subject, budget: &Budget) -> Result<Settled, No
     }
 }
 
-/// The verdict on a pair of functions, with the trail that led to it. Each
-/// round asks for the least point that neither a shift of its tape nor a tape of the trail covers,
-/// and then for the least tape of the source that covers it, as in counterexample-guided
-/// instantiation of quantifiers; the two quantifiers are those of refinement as Alive2 defines it
-/// (PLDI 2021). `correct` and `incorrect` come with a refutation of the last question. `unknown
-/// weight` is told, before anything is asked, exactly where the weight is above the budget's.
-/// `unknown rounds` is told where a tape more would be one too many. `unknown conflicts` is told only
-/// under a limit, which is not 0, with what was learned of the next question.
+/// The verdict on a pair of functions, with the trail that led to it. Each round asks for the least
+/// point that neither a shift of its tape nor a tape of the trail covers, and then for the least
+/// tape of the source that covers it, as in counterexample-guided instantiation of quantifiers; the
+/// two quantifiers are those of refinement as Alive2 defines it (PLDI 2021). `correct` and
+/// `incorrect` come with a refutation of the last question. `unknown weight` is the answer, before
+/// anything is asked, exactly where the weight is above the budget's. `unknown rounds` is the
+/// answer where one more tape would be one too many. `unknown conflicts` is the answer only under a
+/// limit, which is not 0, with what was learned of the next question.
 pub fn settle(
     alloc: Global,
     pair: &Pair,

@@ -62,7 +62,7 @@ first_label all name n site once first here = rw is (given first.1.0 refl)
           let there : slice_get all n ≡ Some (Defines None name) = rw same at has.1 in let there' : slice_get all n ≡ Some (Defines first.1.0 name) = first.1.1 in cc),
     )
 
--- a site that fails stands in the list
+-- a site that fails is in the list
 pub unknown_within : (all : List Site) (n : ℕ) → UsesUnknown all n → n < length all
 unknown_within all n (inl uses) = slice_get_within all n (Uses uses.type uses.name) uses.here
 unknown_within all n (inr enters) = slice_get_within all n (Enters enters.name) enters.here

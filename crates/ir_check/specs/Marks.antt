@@ -1,4 +1,4 @@
--- What is asked of a phi's entries, and what is marked of labels while the entries are walked.
+-- What is required of a phi's entries, and what is marked of labels while the entries are walked.
 use Rattle.std.specs.Prelude.{◌≡◌, ◌⊎◌, ◌↔◌, ◌<◌, ℕ, Bool, true, false, ◌==◌, if◌then◌else◌, List, [], map, length, slice_get, slice_index_or, Some}
 use Rattle.std.specs.List.{Contains}
 use Rattle.ir_tree.specs.declared.tree.IrType.{IrType}
@@ -28,7 +28,7 @@ IsUnfitEntry predecessors of_type seen entry =
 abbrev pub HasUnfitEntry : List ℕ → IrType → List PhiEntry → Type 0
 HasUnfitEntry predecessors of_type entries = (entry : PhiEntry) × Contains entries entry × IsUnfitEntry predecessors of_type entries entry
 
--- the block has a phi at this place that doesn't fit its predecessors
+-- the block has a phi at this index that doesn't fit its predecessors
 abbrev pub IsUnfitAt : Function → ℕ → ℕ → Type 0
 IsUnfitAt f block place =
     (holder : Block) × (slice_get f.blocks block ≡ Some holder) × (phi : Phi) × (slice_get holder.phis place ≡ Some phi) × ((ComesFromPredecessors f holder phi → ⊥) ⊎ HasTwoOperands phi)

@@ -20,12 +20,12 @@ use std::alloc::Global;
 use support::Sequence;
 use tv_num::wrap;
 
-/// Passes a function in which the blocks of each phi are, as a set, those that may be left for its
+/// Accepts a function in which the blocks of each phi are, as a set, those that may be left for its
 /// own, entries of one block have one operand, and no jump leads to the entry (LLVM Language
 /// Reference, "phi Instruction", "Functions").
 ///
 /// # Errors
-/// Refused with `PhiEdges` at the first site where it is not so: a phi's result, or the label in a
+/// Refused with `PhiEdges` at the first site where this fails: a phi's result, or the label in a
 /// jump.
 pub fn check_edges(alloc: Global, f: &Function) -> Result<(), CheckFault>
     requires numbered { AreNumbered f.now }
@@ -191,7 +191,7 @@ fn has_awaited(marks: &Marks, predecessors: &[usize]) -> bool
         .any(|label| is_awaited(marks.get(*label)))
 }
 
-// Whether both operands are one: literals are compared as numbers of their type.
+// Whether both operands are the same: literals are compared as numbers of their type.
 fn is_same_operand(of_type: IrType, a: Operand, b: Operand) -> bool
     ensures { result ≡ is_same_operand of_type a b }
 {

@@ -1,11 +1,11 @@
 //! Whether the names, the types and the edges of a function are right.
 //!
-//! It promises that a function passes exactly where no site of its text fails by the rules of
-//! `ir_tree`'s `specs/WellFormed.antt`, and that else the refusal tells the first site that does:
-//! [`check_names`] for names, [`check_types`] for types, and [`check_edges`] for the blocks of phis
-//! and for jumps to the entry. It stands on `ir_tree`; `assigned_names`, which asks whether a name has
-//! its value where it is used, and the reader of functions stand on it. The rules are those of the
-//! LLVM Language Reference, "Well-Formedness", "Identifiers", "phi Instruction", and of each
+//! It promises that a function is accepted exactly where no site of its text fails by the rules of
+//! `ir_tree`'s `specs/WellFormed.antt`, and that otherwise the refusal reports the first site that
+//! does: [`check_names`] for names, [`check_types`] for types, and [`check_edges`] for the blocks
+//! of phis and for jumps to the entry. It uses `ir_tree`; `assigned_names`, which checks whether a
+//! name has its value where it is used, and the reader of functions use it. The rules are those of
+//! the LLVM Language Reference, "Well-Formedness", "Identifiers", "phi Instruction", and of each
 //! instruction's section for its types.
 #![tactic(auto)]
 

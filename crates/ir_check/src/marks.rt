@@ -1,4 +1,4 @@
-//! Marks of names, which a new round takes away all at once.
+//! Marks of names, which a new round clears all at once.
 
 ghost use Rattle.std.specs.Prelude.{◌≡◌, ◌<◌, length, replicate, slice_index_or, slice_set, IfOk};
 ghost use Rattle.ir_check.specs.declared.marks.Mark.TheVariants.{Stranger};
@@ -51,7 +51,7 @@ impl Model for Marks {
 }
 
 impl Marks {
-    /// No mark for so many names.
+    /// The marks of this number of names, all `Stranger`.
     pub fn new(alloc: Global, names: usize) -> Result<Marks, NoMemory>
         ensures { IfOk result (λ marks. marks ≡ replicate names Stranger) }
     {
@@ -61,7 +61,7 @@ impl Marks {
         })
     }
 
-    /// Takes all marks away.
+    /// Clears all marks.
     pub fn clear(&mut self)
         ensures { self.new ≡ replicate (length self.old) Stranger }
     {
@@ -74,7 +74,7 @@ impl Marks {
         }
     }
 
-    /// The mark of a name; a name that has no place here is a stranger.
+    /// The mark of a name; a name that has no entry here is a stranger.
     pub fn get(&self, name: usize) -> Mark
         ensures { result ≡ slice_index_or self.now name Stranger }
     {

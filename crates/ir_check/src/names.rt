@@ -10,9 +10,9 @@ use ir_tree::{
 };
 use std::alloc::Global;
 
-/// Passes a function in which no name is defined twice, each name that is used as a value gets one,
-/// and each that is used as a block is a block's label (LLVM Language Reference, "Identifiers",
-/// "Functions").
+/// Accepts a function in which no name is defined twice, each name that is used as a value gets
+/// one, and each that is used as a block is a block's label (LLVM Language Reference,
+/// "Identifiers", "Functions").
 ///
 /// # Errors
 /// Refused with `NameTwice` at the second definition of a name, the first in the text; where there

@@ -50,7 +50,7 @@ fn add_predecessor(
     Ok(())
 }
 
-// Puts a label behind others where it isn't the last of them: a block's targets come one after
+// Puts a label after others where it isn't the last of them: a block's targets come one after
 // another.
 fn push_new(labels: &mut Sequence<usize>, label: usize) -> Result<(), NoMemory>
     ensures { OnOk result ((other : ℕ) → Contains labels.new other ↔ (Contains labels.old other ⊎ (other ≡ label))) }

@@ -12,14 +12,14 @@ use ir_tree::{
 };
 use std::alloc::Global;
 
-/// Passes a function in which each type and each literal may stand where it is written, and each
+/// Accepts a function in which each type and each literal is allowed where it is written, and each
 /// name is used at the type of its value: the widths of a cast are in its order, the arms of a
-/// `select` have one type, the cases of a `switch` have its type and differ, and what a `ret` gives
-/// has the type of the header (LLVM Language Reference, "Conversion Operations", "select
+/// `select` have the same type, the cases of a `switch` have its type and differ, and what a `ret`
+/// gives has the type of the header (LLVM Language Reference, "Conversion Operations", "select
 /// Instruction", "switch Instruction", "ret Instruction").
 ///
 /// # Errors
-/// Refused with `TypeClash` at the first site where it is not so.
+/// Refused with `TypeClash` at the first site where this fails.
 pub fn check_types(alloc: Global, f: &Function) -> Result<(), CheckFault>
     requires numbered { AreNumbered f.now }
     requires names { PassesNames f.now }
@@ -34,7 +34,7 @@ pub fn check_types(alloc: Global, f: &Function) -> Result<(), CheckFault>
     }
 }
 
-// The first site where a type is not the one that must stand there.
+// The first site where a type is not the required one.
 fn first_clash(sites: &[Site], firsts: &[Option<usize>]) -> Option<usize>
     requires firsts { HasFirsts sites.now firsts.now }
     requires once { (n : ℕ) → DefinesAgain sites.now n → ⊥ }

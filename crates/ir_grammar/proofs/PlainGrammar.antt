@@ -1,4 +1,4 @@
--- The forms of the grammar tell apart what comes next, so that looking one token ahead loses nothing.
+-- The forms of the grammar distinguish what comes next, so that looking one token ahead loses nothing.
 use Rattle.std.proofs.Common.{◌≡◌, ℕ, zero, suc, Bool, true, false, List, Option, Some, None, cond, refl, sym, subst, codes}
 use Rattle.std.specs.Prelude.{◌||◌, is_some, nat_lt}
 use Rattle.std.specs.Str.{bytes_eq}
@@ -359,7 +359,7 @@ tells-lines : (is_new : Bool) (room : ℕ) → TellsApart (lines is_new room)
 unfolding lines next_line
 tells-lines is_new room = (tt, (λ s. apart-never _), (λ s. apart-behind _ (λ t. refl)), λ s a. tells-whole s a)
 
--- what begins a line is no terminator: of words store alone does
+-- what begins a line is no terminator: of words only store does
 no-terminator : (room : Bool) → AreApart starts_line (terminator_word room).stands
 no-terminator room t e = go t.kind refl e
   where

@@ -46,7 +46,7 @@ abbrev pub passed : Bool → Option (Unit {0})
 passed true = Some tt
 passed false = None
 
--- the place of a token that passes
+-- the position of a token that passes
 abbrev pub passed_at : Bool → Place → Option Place
 passed_at true at = Some at
 passed_at false at = None
@@ -67,11 +67,11 @@ mark text fits = record { stands = as_mark text; within = any; reason = reason; 
 abbrev pub counted_mark : (text : List ℕ) → Bool → passed (is_mark_of kind.Mark text text) ≡ Some tt → Class (Unit {0})
 counted_mark text room fits = record { stands = as_mark text; within = λ t. room; reason = reason; sample = token kind.Mark text; value = tt; fits = fits }
 
--- the mark that closes what stands where a type could
+-- the mark that closes what is where a type could be
 abbrev pub mark_or_type : (text : List ℕ) → passed (is_mark_of kind.Mark text text) ≡ Some tt → Class (Unit {0})
 mark_or_type text fits = record { stands = as_mark text; within = any; reason = type_reason; sample = token kind.Mark text; value = tt; fits = fits }
 
--- the place of the mark that opens a body
+-- the position of the mark that opens a body
 abbrev pub brace : Class Place
 brace = record { stands = λ t. passed_at (is_mark_of t.kind t.text (codes "{")) t.place; within = any; reason = reason; sample = token kind.Mark (codes "{"); value = start; fits = refl }
 
@@ -101,7 +101,7 @@ pub bit_fits : bit_at (width_in (token kind.Word (codes "i1"))) start ≡ Some s
 unfolding width_of
 bit_fits = refl
 
--- a type of what stands in memory
+-- a type of what is in memory
 abbrev pub memory_type : Class WrittenType
 memory_type = record { stands = λ t. type_at (memory_type_in t) t.place; within = any; reason = width_reason; sample = token kind.Word (codes "ptr"); value = record { of_type = Ptr; at = start }; fits = refl }
 
@@ -112,7 +112,7 @@ element_type in_alloca lengths = record { stands = λ t. type_at (memory_type_in
 abbrev pub pointer_type : Class WrittenType
 pointer_type = record { stands = λ t. type_at (pointer_in t) t.place; within = any; reason = width_reason; sample = token kind.Word (codes "ptr"); value = record { of_type = Ptr; at = start }; fits = refl }
 
--- the type of one bit, and where it stands
+-- the type of one bit, and its position
 abbrev pub bit_type : Class Place
 bit_type = record { stands = λ t. bit_at (width_in t) t.place; within = any; reason = width_reason; sample = token kind.Word (codes "i1"); value = start; fits = bit_fits }
 
@@ -143,7 +143,7 @@ abbrev pub line_word_fits : (phi_too : Bool) → line_word_of phi_too kind.Word 
 line_word_fits true = refl
 line_word_fits false = refl
 
--- the word that names an instruction behind its result, a phi only where one may stand
+-- the word that names an instruction after its result, a phi only where one is allowed
 abbrev pub line_word : Bool → Class LineWord
 line_word phi_too = record { stands = λ t. line_word_of phi_too t.kind t.text; within = any; reason = reason; sample = token kind.Word (codes "and"); value = line.Inst (opcode.Plain op.And); fits = line_word_fits phi_too }
 
@@ -165,13 +165,13 @@ flag_fits flag.SameSign = refl
 abbrev pub flag_word : Flag → Class (Unit {0})
 flag_word f = word (flag_text f) (flag_fits f)
 
--- ---- what is read and forgotten
+-- ---- what is read and ignored
 
 -- !dbg, !prof or !llvm.loop
 abbrev pub attachment_word : Class (Unit {0})
 attachment_word = record { stands = λ t. passed (is_metadata_of is_attached t.kind t.text); within = any; reason = reason; sample = token kind.Metadata (codes "!dbg"); value = tt; fits = refl }
 
--- the same where a type could stand
+-- the same where a type could be
 abbrev pub attachment_or_type : Class (Unit {0})
 attachment_or_type = record { stands = λ t. passed (is_metadata_of is_attached t.kind t.text); within = any; reason = type_reason; sample = token kind.Metadata (codes "!dbg"); value = tt; fits = refl }
 

@@ -97,7 +97,7 @@ non_null_too p = record p { non_null = true }
 abbrev pub with_name : WrittenName → WrittenParameter → WrittenParameter
 with_name name p = record p { name = Some name }
 
--- attributes, a name or none, and behind a comma the next type; a parameter is counted at its type
+-- attributes, an optional name, and after a comma the next type; a parameter is counted at its type
 abbrev pub with_part : WrittenParameters → ParameterPart → Form never WrittenParameters
 with_part s part.NoUndef = give (record s { last = no_undef_too s.last })
 with_part s part.NonNull = give (record s { last = non_null_too s.last })
@@ -105,7 +105,7 @@ with_part s part.Extension = give s
 with_part s (part.Name name) = give (record s { last = with_name name s.last })
 with_part s part.Next = one (counted_type (nat_lt (length s.before + 1) most_parameters)) >>= λ type. give (record { before = s.before ++ s.last ∷ []; last = new_parameter type })
 
--- the parameters behind the type of the first
+-- the parameters after the type of the first
 unfoldable pub parameter_parts : WrittenType → Form (either never (either follows_parameter never)) WrittenParameters
 parameter_parts type = many follows_parameter parameter_begins with_part (give (record { before = []; last = new_parameter type }))
 
@@ -118,7 +118,7 @@ first_parameter type = do
 unfoldable pub parameters : Form never (List WrittenParameter)
 parameters = peek (mark (codes ")") refl) (λ closed. give []) value_type first_parameter
 
--- ---- behind the parameters
+-- ---- after the parameters
 
 abbrev pub follows_header : Lexeme → Bool
 follows_header t = is_some (header_part true t.kind t.text)
@@ -145,7 +145,7 @@ with_header s header.Comdat = give true
 with_header s header.Opening = comdat_rest
 with_header s header.Debug = debug_rest
 
--- attributes, comdat with a name or none, and !dbg; whether comdat came last
+-- attributes, comdat with an optional name, and !dbg; whether comdat came last
 unfoldable pub header_parts : Form (either never (either follows_header never)) Bool
 header_parts = many follows_header header_begins with_header (give false)
 
@@ -155,14 +155,14 @@ header_parts = many follows_header header_begins with_header (give false)
 abbrev pub most_insts : ℕ
 most_insts = 65536
 
--- behind the comma: !word !number
+-- after the comma: !word !number
 unfoldable pub attachment : Form never (Unit {0})
 attachment = do
   kind_word ← one attachment_word
   number ← one metadata_number
   give tt
 
--- behind the word of a record: what stands in parentheses
+-- after the word of a record: what is in parentheses
 unfoldable pub record_rest : Form never (Unit {0})
 record_rest = do
   opening ← one (mark (codes "(") refl)
@@ -197,7 +197,7 @@ line_begins s t = line_start s.is_new t.kind t.text t.place
 abbrev pub line_within : WrittenLines → Lexeme → Bool
 line_within s t = not (starts_inst t) || nat_lt 0 s.room
 
--- a phi may stand only before all other instructions of its block
+-- a phi is allowed only before all other instructions of its block
 abbrev pub may_have_phi : WrittenLines → Bool
 may_have_phi s = length s.insts == 0
 
@@ -205,7 +205,7 @@ may_have_phi s = length s.insts == 0
 abbrev pub next_number : WrittenLines → ℕ
 next_number s = most_insts - s.room
 
--- what stands before the first comma of a line
+-- what comes before the first comma of a line
 abbrev pub started : Bool → ℕ → LineStart → Form never WrittenLine
 started phi_too number (start.Label name) = give (line.Label name)
 started phi_too number (start.Inst name) = line_named phi_too number name
@@ -224,7 +224,7 @@ takes_comma (line.Inst i) = true
 abbrev pub line_comma : WrittenLine → Lexeme → Option (Unit {0})
 line_comma l t = (if takes_comma l then as_mark (codes ",") t else None)
 
--- behind a comma an attachment; or an entry of a phi, an alignment, or an index, while one may follow
+-- after a comma an attachment; or an entry of a phi, an alignment or an index, while one may follow
 abbrev pub with_comma : WrittenLine → Form never WrittenLine
 with_comma (line.Label name) = give (line.Label name)
 with_comma line.Record = give line.Record
@@ -237,7 +237,7 @@ with_comma (line.Inst i) = attachment >>= λ passed. give (line.Inst i)
 abbrev pub commas : Lexeme → Bool
 commas = either never (either is_comma never)
 
--- what was read of a line, with what stands behind its commas
+-- what was read of a line, with what follows its commas
 unfoldable pub behind_commas : WrittenLine → Form commas WrittenLine
 behind_commas l = many is_comma line_comma (λ l' comma. with_comma l') (give l)
 
@@ -266,18 +266,18 @@ next_line s a = mapped (with_line s) (whole_line s a)
 abbrev pub opened : Bool → ℕ → WrittenLines
 opened is_new room = record { label = None; phis = []; insts = []; is_new = is_new; room = room }
 
--- a label or none, and instructions with what is attached to them and records between them
+-- an optional label, and instructions with what is attached to them and records between them
 unfoldable pub lines : Bool → ℕ → Form (either never (either starts_line (either commas never))) WrittenLines
 lines is_new room = tail starts_line line_begins line_within next_line (give (opened is_new room))
 
 -- ---- the last instruction of a block
 
--- behind a type: its value, or nothing behind void
+-- after a type: its value, or nothing after void
 abbrev pub returned_by : Option IrType → Place → Form never WrittenReturn
 returned_by None at = give (Void at)
 returned_by (Some type) at = one (operand_class true type) >>= λ value. give (Value (record { of_type = record { of_type = type; at = at }; operand = value }))
 
--- behind ret: void, or type value
+-- after ret: void, or type value
 unfoldable pub returned : Form never WrittenReturn
 returned = one return_type >>= λ type. returned_by type.of_type type.at
 
@@ -287,7 +287,7 @@ target = do
   label_word ← one (word (codes "label") refl)
   one local
 
--- value, label %block, label %block, behind i1
+-- value, label %block, label %block, after i1
 unfoldable pub cond_branch : Place → Form never WrittenTerminator
 cond_branch bit = do
   condition ← one (operand_class false (Int one_bit))
@@ -302,7 +302,7 @@ branch_to = do
   to ← one local
   give (end.Branch to)
 
--- behind br: a label, or i1 and what it chooses
+-- after br: a label, or i1 and what it chooses
 unfoldable pub branch : Form never WrittenTerminator
 branch = peek (word (codes "label") refl) (λ label_word. branch_to) bit_type cond_branch
 
@@ -320,7 +320,7 @@ case_begins s t = int_typed_at (width_in t) t.place
 abbrev pub case_within : List WrittenCase → Lexeme → Bool
 case_within s t = nat_lt (length s) most_cases && is_width (width_in t)
 
--- literal, label %block, behind the type
+-- literal, label %block, after the type
 unfoldable pub with_case : List WrittenCase → WrittenIntType → Form never (List WrittenCase)
 with_case s type = do
   literal ← one (literal_class type.width)
@@ -331,7 +331,7 @@ with_case s type = do
 unfoldable pub cases : Form (either never (either is_type never)) (List WrittenCase)
 cases = tail is_type case_begins case_within with_case (give [])
 
--- behind switch: type value, label %block [ cases ]
+-- after switch: type value, label %block [ cases ]
 unfoldable pub switch : Form never WrittenTerminator
 switch = do
   type ← one int_type
@@ -372,7 +372,7 @@ block is_new room = do
 abbrev pub body_of : WrittenLines × WrittenTerminator → WrittenBody
 body_of b = record { phis = b.0.phis; insts = b.0.insts; terminator = b.1 }
 
--- the entry, whose label may stand or not
+-- the entry, with an optional label
 abbrev pub entry_alone : WrittenLines × WrittenTerminator → WrittenBlocks
 entry_alone b = record { label = b.0.label; entry = body_of b; others = []; room = b.0.room - 1 }
 
@@ -388,15 +388,15 @@ block_begins s t = named_at (label_of t.kind t.text) t.place
 abbrev pub with_block : WrittenBlocks → WrittenName → WrittenLines × WrittenTerminator → WrittenBlocks
 with_block s name b = record s { others = s.others ++ (record { label = name; body = body_of b }) ∷ []; room = b.0.room - 1 }
 
--- a block behind its label
+-- a block after its label
 unfoldable pub next_block : WrittenBlocks → WrittenName → Form (either (either commas never) never) WrittenBlocks
 next_block s name = mapped (with_block s name) (block false s.room)
 
--- what was read of the blocks, and others, each behind its label
+-- what was read of the blocks, and others, each after its label
 unfoldable pub other_blocks : WrittenBlocks → Form (either never (either begins_block (either (either commas never) never))) WrittenBlocks
 other_blocks s = many begins_block block_begins next_block (give s)
 
--- the entry, and others, each behind its label
+-- the entry, and others, each after its label
 unfoldable pub blocks : Form (either (either (either commas never) never) (either begins_block (either (either commas never) never))) WrittenBlocks
 blocks = many begins_block block_begins next_block entry_block
 

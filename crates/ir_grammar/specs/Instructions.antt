@@ -57,7 +57,7 @@ use Rattle.ir_grammar.specs.Words.{is_word_of, is_mark_of, no_flags, wrapping_op
 use Rattle.ir_grammar.specs.Spelling.{wrap_of, gep_flag_of}
 use Rattle.ir_grammar.specs.Classes.{any, word, mark, counted_mark, as_mark, local, int_type, value_type, memory_type, element_type, pointer_type, array_length, alignment, bit_type, operand_class, line_word, predicate_class, flag_word, attachment_word, attachment_or_type, metadata_number}
 
--- ---- what may stand again, and what may be left out
+-- ---- what may be repeated, and what may be left out
 
 -- parts, as long as the next token begins one, each of which changes what was read; none passes a limit where it begins
 abbrev pub many : {A S : Type 0} {o p : Lexeme → Bool} → (goes_on : Lexeme → Bool) → (begins : S → Lexeme → Option A) → (part : S → A → Form o S) → Form p S → Form (either p (either goes_on o)) S
@@ -67,7 +67,7 @@ many goes_on begins part first = tail goes_on begins (λ s. any) part first
 abbrev pub words : {S : Type 0} → (goes_on : Lexeme → Bool) → (next : S → Lexeme → Option S) → S → Form (either never (either goes_on never)) S
 words goes_on next start = many goes_on next (λ s more. give more) (give start)
 
--- a word or none, and a token of the class; whether the word stands, and what the token stands for
+-- an optional word, and a token of the class; whether the word is there, and what the token denotes
 abbrev pub optional : {A : Type 0} → Class (Unit {0}) → Class A → Form never (Bool × A)
 optional w c = peek w (λ stands. one c >>= λ x. give (true, x)) c (λ x. give (false, x))
 
@@ -83,11 +83,11 @@ next_wrap ordered flags t = wrap_of ordered flags t.kind t.text
 unfoldable pub wraps : Bool → Form (either never (either is_wrap never)) Flags
 wraps ordered = words is_wrap (next_wrap ordered) no_flags
 
--- a flag or none, and a type
+-- an optional flag, and a type
 unfoldable pub flagged_type : Flag → Form never (Bool × WrittenIntType)
 flagged_type f = optional (flag_word f) int_type
 
--- samesign or not, and a comparison
+-- optionally samesign, and a comparison
 unfoldable pub comparison : Form never (Bool × Predicate)
 comparison = optional (flag_word flag.SameSign) predicate_class
 
@@ -100,9 +100,9 @@ typed undef_too = do
   value ← one (operand_class undef_too type.of_type)
   give (record { of_type = type; operand = value })
 
--- ---- instructions, behind their word
+-- ---- instructions, after their word
 
--- left, right, behind the type
+-- left, right, after the type
 unfoldable pub binary : WrittenName → Op → WrittenIntType → Form never WrittenInst
 binary name o type = do
   left ← one (operand_class false (Int type.width))
@@ -144,7 +144,7 @@ icmp name = do
   right ← one (operand_class false (Int type.width))
   give (inst.Icmp name compares.1 compares.0 type left right)
 
--- value to type, behind the first type
+-- value to type, after the first type
 unfoldable pub cast_by : WrittenName → Cast → WrittenIntType → Form never WrittenInst
 cast_by name c from = do
   value ← one (operand_class false (Int from.width))
@@ -205,7 +205,7 @@ inst_by name opcode.Freeze = freeze name
 abbrev pub most_entries : ℕ
 most_entries = 16777216
 
--- value, %block ], behind the opening mark
+-- value, %block ], after the opening mark
 unfoldable pub entry : WrittenType → Form never WrittenEntry
 entry type = do
   value ← one (operand_class false type.of_type)
@@ -225,25 +225,25 @@ phi name = do
 abbrev pub with_entry : WrittenPhi → WrittenEntry → WrittenPhi
 with_entry phi entry = record phi { entries = phi.entries ++ entry ∷ [] }
 
--- behind a comma: the entry whose opening mark was read, counted at that mark
+-- after a comma: the entry whose opening mark was read, counted at that mark
 unfoldable pub next_entry : WrittenPhi → Form never WrittenLine
 next_entry phi = do
   more ← entry phi.of_type
   give (line.Entries (with_entry phi more))
 
--- !number behind the word of a line's first attachment
+-- !number after the word of a line's first attachment
 unfoldable pub attached : WrittenLine → Form never WrittenLine
 attached l = do
   number ← one metadata_number
   give l
 
--- behind a comma: another entry, or an attachment
+-- after a comma: another entry, or an attachment
 unfoldable pub entry_or_attachment : WrittenPhi → Form never WrittenLine
 entry_or_attachment phi = peek (counted_mark (codes "[") (nat_lt (length phi.entries) most_entries) refl) (λ opening. next_entry phi) attachment_word (λ kind_word. attached (line.Phi phi))
 
 -- ---- types of objects in memory
 
--- how many arrays may stand within one another
+-- how many arrays may be within one another
 abbrev pub most_arrays : ℕ
 most_arrays = 8
 
@@ -257,7 +257,7 @@ array_begins s t = as_mark (codes "[") t
 abbrev pub array_within : WrittenArrays → Lexeme → Bool
 array_within s t = nat_lt (length s.lengths) most_arrays
 
--- length x, behind the opening mark
+-- length x, after the opening mark
 unfoldable pub with_length : WrittenArrays → Form never WrittenArrays
 with_length s = do
   n ← one array_length
@@ -274,7 +274,7 @@ no_gep_flags = record { inbounds = false; nuw = false }
 abbrev pub behind_flags : GepFlags → WrittenArrays
 behind_flags flags = record { flags = flags; lengths = [] }
 
--- the closing marks of so many arrays
+-- the closing marks of this number of arrays
 abbrev pub closers : ℕ → Form never (Unit {0})
 closers zero = give tt
 closers (suc n) = one (mark (codes "]") refl) >>= λ closing. closers n
@@ -295,7 +295,7 @@ is_gep_flag t = is_word_of t.kind t.text (codes "inbounds") || is_word_of t.kind
 abbrev pub next_gep_flag : GepFlags → Lexeme → Option GepFlags
 next_gep_flag flags t = gep_flag_of flags t.kind t.text
 
--- inbounds, and nuw behind it, or neither
+-- inbounds, and optionally nuw after it, or neither
 unfoldable pub gep_flags : Form (either never (either is_gep_flag never)) GepFlags
 gep_flags = words is_gep_flag next_gep_flag no_gep_flags
 
@@ -355,26 +355,26 @@ default_align (access.Alloca into number type) = type_size type.of_type.element
 default_align (access.Load into type from) = type_size type.of_type
 default_align (access.Store value to) = type_size value.of_type.of_type
 
--- number, behind the word align
+-- number, after the word align
 unfoldable pub aligned : WrittenAccess → Form never WrittenLine
 aligned a = do
   n ← one alignment
   give (line.Inst (inst.Access a n))
 
--- behind a comma: an alignment, or an attachment
+-- after a comma: an alignment, or an attachment
 unfoldable pub align_or_attachment : WrittenAccess → Form never WrittenLine
 align_or_attachment a = peek (word (codes "align") refl) (λ align_word. aligned a) attachment_word (λ kind_word. attached (line.Inst (inst.Access a (default_align a))))
 
 abbrev pub with_index : WrittenGep → WrittenIndex → WrittenGep
 with_index g index = record g { indices = g.indices ++ index ∷ [] }
 
--- value, behind the type of an index
+-- value, after the type of an index
 unfoldable pub next_index : WrittenGep → WrittenIntType → Form never WrittenLine
 next_index g type = do
   value ← one (operand_class false (Int type.width))
   give (line.Indices (with_index g (record { of_type = type; operand = value })))
 
--- behind a comma: another index, or an attachment
+-- after a comma: another index, or an attachment
 unfoldable pub index_or_attachment : WrittenGep → Form never WrittenLine
 index_or_attachment g = peek int_type (next_index g) attachment_or_type (λ kind_word. attached (line.Inst (inst.GetElementPtr g)))
 
@@ -393,7 +393,7 @@ line_by number name word_of.Load = load name
 line_by number name word_of.GetElementPtr = gep name
 line_by number name (word_of.Inst o) = inst_line name o
 
--- behind the name: = and the instruction, which may be a phi where one may stand
+-- after the name: = and the instruction, which may be a phi where one is allowed
 unfoldable pub line_named : Bool → ℕ → WrittenName → Form never WrittenLine
 line_named phi_too number name = do
   equals ← one (mark (codes "=") refl)

@@ -3,7 +3,7 @@ use Rattle.std.specs.Prelude.{◌≡◌, ℕ, ◌+◌, ◌-◌, ◌*◌, ◌^◌
 use Rattle.std.proofs.lemmas.Bool.{leb-true}
 use Rattle.tv_num.specs.declared.Width.{Width}
 
--- the number of these digits, behind digits of value v
+-- the number of these digits, after digits of value v
 abbrev pub value_after : ℕ → List ℕ → ℕ
 value_after v [] = v
 value_after v (d ∷ ds) = value_after (v * 10 + (d - 48)) ds
@@ -15,7 +15,7 @@ value_of digits = value_after 0 digits
 abbrev pub some_below : ℕ → ℕ → Option ℕ
 some_below limit n = (if nat_lt n limit then Some n else None)
 
--- the width of so many bits, if there is one
+-- the width of n bits, if there is one
 abbrev pub width_when : (n : ℕ) (low high : Bool) → nat_le 1 n ≡ low → nat_le n 64 ≡ high → Option Width
 width_when n true true l h = Some (record { bits = n; at_least_1 = leb-true 1 n l; at_most_64 = leb-true n 64 h })
 width_when n _ _ l h = None
@@ -32,7 +32,7 @@ abbrev pub magnitude : List ℕ → ℕ
 magnitude [] = 0
 magnitude (c ∷ ds) = (if c == 45 then value_of ds else value_of (c ∷ ds))
 
--- from minus half of two to the width to two to the width, that one left out
+-- from -2^(width - 1) up to 2^width, exclusive
 abbrev pub in_range : ℕ → Bool → ℕ → Bool
 in_range width negative n = (if negative then nat_le n (2 ^ (width - 1)) else nat_lt n (2 ^ width))
 

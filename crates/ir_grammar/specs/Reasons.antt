@@ -1,4 +1,4 @@
--- The reason at a token that can't stand where it stands.
+-- The reason at a token that isn't allowed where it is.
 use Rattle.std.specs.Prelude.{ℕ, List, Bool, ◌||◌, if◌then◌else◌, codes}
 use Rattle.std.specs.Str.{bytes_eq}
 use Rattle.ir_lexer.specs.declared.token.Kind.{Kind}
@@ -11,7 +11,7 @@ use Rattle.ir_tree.specs.declared.module.Reason.TheVariants.{Syntax, Unsupported
 abbrev pub is_type_mark : List ℕ → Bool
 is_type_mark text = bytes_eq text (codes "<") || bytes_eq text (codes "{") || bytes_eq text (codes "...")
 
--- what another form of the language would have there is unsupported; all else is a mistake
+-- what another form of the language would have there is unsupported; all else is a syntax error
 abbrev pub reason_of : Kind → List ℕ → Reason
 reason_of kind.Word text = Unsupported
 reason_of kind.Metadata text = Unsupported

@@ -1,4 +1,4 @@
--- What one token stands for.
+-- What one token denotes.
 use Rattle.std.specs.Prelude.{ℕ, List, [], ◌∷◌, Option, Some, None, Bool, true, false, ◌&&◌, ◌||◌, not, ◌==◌, if◌then◌else◌, is_some, codes, nat_eq, nat_le, nat_lt, ◌^◌}
 use Rattle.std.specs.Str.{bytes_eq}
 use Rattle.std.specs.List.{list_any}
@@ -46,7 +46,7 @@ abbrev pub global_of : Kind → List ℕ → Option Name
 global_of kind.Global text = name_in kind.Global text
 global_of _ text = None
 
--- a name where it stands
+-- a name at its position
 abbrev pub named_at : Option Name → Place → Option WrittenName
 named_at None at = None
 named_at (Some name) at = Some (record { name = name; at = at })
@@ -69,7 +69,7 @@ spelled_width (Some n) = Some (width_of n)
 abbrev pub width_in : Lexeme → Option (Option Width)
 width_in t = spelled_width (bits_of t.kind t.text)
 
--- the width of so many bits. Where there is none, which is past a limit, any width stands for it
+-- the width. Where there is none, which is past a limit, any width stands for it
 abbrev pub width_or_one : Option Width → Width
 width_or_one None = one_bit
 width_or_one (Some w) = w
@@ -110,7 +110,7 @@ abbrev pub is_type : Option (Option IrType) → Bool
 is_type None = false
 is_type (Some type) = is_some type
 
--- the types of what stands in memory: i8, i16, i32, i64 and ptr
+-- the types of what is in memory: i8, i16, i32, i64 and ptr
 abbrev pub is_memory_type : IrType → Bool
 is_memory_type (Int w) = w.bits == 8 || w.bits == 16 || w.bits == 32 || w.bits == 64
 is_memory_type Ptr = true
@@ -143,12 +143,12 @@ abbrev pub fits_object : Bool → List ℕ → Option IrType → Bool
 fits_object in_alloca lengths None = true
 fits_object in_alloca lengths (Some element) = is_small_object in_alloca lengths element
 
--- the place of the type of one bit
+-- the position of the type of one bit
 abbrev pub bit_at : Option (Option Width) → Place → Option Place
 bit_at (Some (Some w)) at = (if w.bits == 1 then Some at else None)
 bit_at _ at = None
 
--- where some types alone may stand, a type of no width is past the limit of widths
+-- where only some types are allowed, a type of no width is past the limit of widths
 abbrev pub width_reason_of : Option (Option Width) → Lexeme → Reason
 width_reason_of (Some None) t = Limit
 width_reason_of _ t = type_reason t
@@ -177,7 +177,7 @@ local_value (Some name) = Some (value.Local name)
 abbrev pub truth_value : ℕ → List ℕ → Option ℕ
 truth_value bits text = (if bits == 1 && bytes_eq text (codes "true") then Some 1 else (if bits == 1 && bytes_eq text (codes "false") then Some 0 else None))
 
--- a literal, wrapped to so many bits, or a truth value
+-- a literal, wrapped to this number of bits, or a truth value
 abbrev pub literal_value : ℕ → Kind → List ℕ → Option ℕ
 literal_value bits kind.Number text = Some (wrapped bits (is_negative text) (magnitude text))
 literal_value bits kind.Word text = truth_value bits text
@@ -192,7 +192,7 @@ abbrev pub word_of_type : IrType → List ℕ → Option WrittenValue
 word_of_type (Int width) text = literal_of (truth_value width.bits text)
 word_of_type Ptr text = (if bytes_eq text (codes "null") then Some value.Null else None)
 
--- a word of the type, or poison, and undef where it may stand
+-- a word of the type, or poison, and undef where it is allowed
 abbrev pub word_value : Bool → IrType → List ℕ → Option WrittenValue
 word_value undef_too type text =
     (if bytes_eq text (codes "poison") then Some value.Poison else (if undef_too && bytes_eq text (codes "undef") then Some value.Undef else word_of_type type text))
@@ -217,7 +217,7 @@ abbrev pub operand_at : Option WrittenValue → Place → Option WrittenOperand
 operand_at None at = None
 operand_at (Some v) at = Some (record { value = v; at = at })
 
--- whether a literal is in the range of so many bits
+-- whether a literal is in the range of this number of bits
 abbrev pub fits_bits : ℕ → Kind → List ℕ → Bool
 fits_bits bits kind.Number text = in_range bits (is_negative text) (magnitude text)
 fits_bits bits _ text = true
@@ -236,11 +236,11 @@ number_of_kind _ text = None
 abbrev pub is_alignment : List ℕ → Bool
 is_alignment text = not (is_negative text) && list_any (nat_eq (magnitude text)) alignments
 
--- from 0 to two to the 64, that one left out
+-- from 0 up to 2^64, exclusive; `-0` is 0
 abbrev pub is_length : List ℕ → Bool
 is_length text = (if is_negative text then magnitude text == 0 else nat_lt (magnitude text) (2 ^ 64))
 
--- ---- flags inbounds and nuw, in this order, each once, and nuw behind inbounds alone
+-- ---- flags inbounds and nuw, in this order, each once, and nuw only after inbounds
 
 abbrev pub gep_flag_named : GepFlags → List ℕ → Option GepFlags
 gep_flag_named flags text =
@@ -268,7 +268,7 @@ abbrev pub is_pointer_type : IrType → Bool
 is_pointer_type (Int width) = false
 is_pointer_type Ptr = true
 
--- nonnull stands on a pointer alone
+-- nonnull only on a pointer
 abbrev pub attribute_named : Bool → List ℕ → Option ParameterPart
 attribute_named on_pointer text =
     (if bytes_eq text (codes "noundef") then Some part.NoUndef
@@ -279,7 +279,7 @@ abbrev pub part_name : Option WrittenName → Option ParameterPart
 part_name None = None
 part_name (Some name) = Some (part.Name name)
 
--- behind the name of a parameter a comma alone
+-- after the name of a parameter only a comma
 abbrev pub parameter_part : (is_named on_pointer : Bool) → Kind → List ℕ → Place → Option ParameterPart
 parameter_part true on_pointer kind.Mark text at = (if bytes_eq text (codes ",") then Some part.Next else None)
 parameter_part true on_pointer _ text at = None
@@ -288,12 +288,12 @@ parameter_part false on_pointer kind.Word text at = attribute_named on_pointer t
 parameter_part false on_pointer kind.Local text at = part_name (named_at (name_in kind.Local text) at)
 parameter_part false on_pointer _ text at = None
 
--- ---- what stands behind the parameters
+-- ---- what follows the parameters
 
 abbrev pub is_attribute : List ℕ → Bool
 is_attribute text = bytes_eq text (codes "unnamed_addr") || bytes_eq text (codes "local_unnamed_addr") || bytes_eq text (codes "nounwind")
 
--- behind a sign, digits alone
+-- after a sign, only digits
 abbrev pub is_numbered : List ℕ → Bool
 is_numbered [] = false
 is_numbered (sign ∷ digits) = is_digits digits
@@ -301,7 +301,7 @@ is_numbered (sign ∷ digits) = is_digits digits
 abbrev pub header_word : List ℕ → Option HeaderPart
 header_word text = (if is_attribute text then Some header.Attribute else (if bytes_eq text (codes "comdat") then Some header.Comdat else None))
 
--- a parenthesis may stand directly behind comdat
+-- a parenthesis may directly follow comdat
 abbrev pub header_part : Bool → Kind → List ℕ → Option HeaderPart
 header_part behind_comdat kind.Word text = header_word text
 header_part behind_comdat kind.Hash text = (if is_numbered text then Some header.Attribute else None)
@@ -345,7 +345,7 @@ is_record _ = false
 abbrev pub record_start : List ℕ → Option LineStart
 record_start text = (if is_record text then Some start.Record else None)
 
--- the name of an instruction's result, a store, a label where nothing stands before, or a record
+-- the name of an instruction's result, a store, a label where nothing comes before, or a record
 abbrev pub line_start : Bool → Kind → List ℕ → Place → Option LineStart
 line_start is_new kind.Local text at = inst_line (named_at (name_in kind.Local text) at)
 line_start is_new kind.Label text at = (if is_new then label_line (named_at (name_in kind.Label text) at) else None)

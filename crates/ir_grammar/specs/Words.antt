@@ -1,4 +1,4 @@
--- Which words name an instruction, a comparison, a flag, or stand in a header.
+-- Which words name an instruction, a comparison, a flag, or occur in a header.
 use Rattle.std.specs.Prelude.{ℕ, List, Option, Some, None, Bool, true, false, ◌&&◌, ◌||◌, if◌then◌else◌, codes}
 use Rattle.std.specs.Str.{bytes_eq}
 use Rattle.ir_lexer.specs.declared.token.Kind.{Kind}
@@ -92,7 +92,7 @@ abbrev pub or_word : Option LineWord → Option LineWord → Option LineWord
 or_word None other = other
 or_word (Some word) other = Some word
 
--- the word of a phi, where one may stand, or of another instruction
+-- the word of a phi, where one is allowed, or of another instruction
 abbrev pub line_word_of : Bool → Kind → List ℕ → Option LineWord
 line_word_of phi_too k text = (if phi_too && is_word_of k text (codes "phi") then Some line.Phi else or_word (memory_word_of k text) (inst_word (opcode_of k text)))
 
@@ -165,7 +165,7 @@ is_visibility text =
     bytes_eq text (codes "default") || bytes_eq text (codes "hidden") || bytes_eq text (codes "protected") || bytes_eq text (codes "dso_local")
     || bytes_eq text (codes "ccc") || bytes_eq text (codes "fastcc") || bytes_eq text (codes "zeroext") || bytes_eq text (codes "signext")
 
--- whether noundef stands among the words so far and this one, if it may stand there
+-- whether noundef is among the words so far and this one, if it is allowed there
 abbrev pub prefix_named : List ℕ → Bool → Option Bool
 prefix_named text so_far =
     (if bytes_eq text (codes "noundef") then Some true else (if is_linkage text || is_visibility text then Some so_far else None))

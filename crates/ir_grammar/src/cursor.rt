@@ -50,12 +50,12 @@ impl<'a, 'b> Cursor<'a, 'b> {
         }
     }
 
-    /// Where what is read takes its memory from.
+    /// The allocator of what is read.
     pub fn alloc(&self) -> Global {
         self.alloc
     }
 
-    /// A list without items. It takes no memory.
+    /// An empty list. It takes no memory.
     pub fn no_items<T>(&self) -> Sequence<T>
         ensures { result ≡ [] }
     {
@@ -69,7 +69,7 @@ impl<'a, 'b> Cursor<'a, 'b> {
         self.rest
     }
 
-    /// Goes on there.
+    /// Continues at these tokens.
     pub fn go_to(&mut self, rest: &'b [Token<'a>])
         ensures { self.new ≡ rest.now }
     {
@@ -106,7 +106,7 @@ impl<'a, 'b> Cursor<'a, 'b> {
         }
     }
 
-    /// Passes a mark where a type could stand.
+    /// Passes a mark where a type could be.
     pub fn mark_or_type(&mut self, text: &[u8]) -> Result<(), ReadFault>
         ensures { Passes result self.new (token_of true (as_mark text.now) any type_reason self.old) }
     {
@@ -121,7 +121,7 @@ impl<'a, 'b> Cursor<'a, 'b> {
         }
     }
 
-    /// Passes the mark that opens a body, and tells its place.
+    /// Passes the mark that opens a body, and returns its position.
     pub fn brace(&mut self) -> Result<Place, ReadFault>
         ensures { Reads (λ x. x) result self.new (one_of true brace self.old) }
     {
@@ -136,14 +136,14 @@ impl<'a, 'b> Cursor<'a, 'b> {
         }
     }
 
-    /// Passes what stands inside a bracket that was opened, and the mark that closes it.
+    /// Passes what is inside a bracket that was opened, and the mark that closes it.
     pub fn bracket(&mut self, bracket: Bracket) -> Result<(), ReadFault>
         ensures { Passes result self.new (read true (balanced bracket) self.old) }
     {
         pass_bracket(self.alloc, bracket, &mut self.rest)
     }
 
-    /// Passes a mark, if it stands next.
+    /// Passes a mark, if it is next.
     pub fn eat_mark(&mut self, text: &[u8]) -> bool
         ensures { begin_of true any (as_mark text.now) any self.old ≡ reads (passed result) self.new }
     {
@@ -157,7 +157,7 @@ impl<'a, 'b> Cursor<'a, 'b> {
         false
     }
 
-    /// Passes a mark, if it stands next, where there is room for what it begins.
+    /// Passes a mark, if it is next, where there is room for what it begins.
     pub fn eat_counted_mark(&mut self, text: &[u8], room: bool) -> Result<bool, ReadFault>
         ensures { Reads passed result self.new (begin_of true any (as_mark text.now) (λ t. room) self.old) }
     {
@@ -174,7 +174,7 @@ impl<'a, 'b> Cursor<'a, 'b> {
         Ok(true)
     }
 
-    /// Passes a word, if it stands next.
+    /// Passes a word, if it is next.
     pub fn eat_word(&mut self, text: &[u8]) -> bool
         ensures { begin_of true any (as_word text.now) any self.old ≡ reads (passed result) self.new }
     {
@@ -266,7 +266,7 @@ impl<'a, 'b> Cursor<'a, 'b> {
         Ok(WrittenType { of_type, at })
     }
 
-    /// Passes the type of one bit, and tells its place.
+    /// Passes the type of one bit, and returns its position.
     pub fn bit_type(&mut self) -> Result<Place, ReadFault>
         ensures { Reads (λ x. x) result self.new (one_of true bit_type self.old) }
     {
@@ -308,7 +308,7 @@ impl<'a, 'b> Cursor<'a, 'b> {
         Ok(WrittenReturnType { of_type: found, at })
     }
 
-    /// Reads an operand of a type, `undef` only where it may stand.
+    /// Reads an operand of a type, `undef` only where it is allowed.
     pub fn operand(&mut self, undef_too: bool, of_type: IrType) -> Result<WrittenOperand, ReadFault>
         ensures { Reads (λ x. x) result self.new (one_of true (operand_class undef_too of_type) self.old) }
     {
@@ -358,7 +358,7 @@ impl<'a, 'b> Cursor<'a, 'b> {
         Ok(WrittenLiteral { value, at })
     }
 
-    /// Reads the word that names an instruction behind its result, a phi only where one may stand.
+    /// Reads the word that names an instruction after its result, a phi only where one is allowed.
     pub fn line_word(&mut self, phi_too: bool) -> Result<LineWord, ReadFault>
         ensures { Reads (λ x. x) result self.new (one_of true (line_word phi_too) self.old) }
     {
@@ -417,7 +417,7 @@ fn truth_value(width: Width, text: &[u8]) -> Option<u64>
     }
 }
 
-// What a word stands for in a type alone: a truth value of one bit, or the null pointer.
+// What a word denotes by its type only: a truth value of one bit, or the null pointer.
 fn word_of_type(of_type: IrType, text: &[u8]) -> Option<WrittenValue>
     ensures { result ≡ word_of_type of_type text.now }
 {
@@ -436,7 +436,7 @@ fn word_of_type(of_type: IrType, text: &[u8]) -> Option<WrittenValue>
     }
 }
 
-// What a word stands for as an operand of a type: poison, undef, or a word of the type.
+// What a word denotes as an operand of a type: poison, undef, or a word of the type.
 fn word_value(undef_too: bool, of_type: IrType, text: &[u8]) -> Option<WrittenValue>
     ensures { result ≡ word_value undef_too of_type text.now }
 {
@@ -455,7 +455,7 @@ fn is_void(token: &Token) -> bool
     token.kind() == Kind::Word && token.text() == b"void".as_slice()
 }
 
-// The width of the type that a word spells: nothing where it spells none, nothing inside where there
+// The width of the type that a word spells: `None` where it spells none, `Some(None)` where there
 // is no such width.
 fn width_behind(text: &[u8]) -> Option<Option<Width>>
     ensures { result ≡ spelled_width (bits_behind text.now) }
@@ -466,8 +466,8 @@ fn width_behind(text: &[u8]) -> Option<Option<Width>>
     }
 }
 
-/// The width of the type that a token spells: nothing where it spells none, nothing inside where
-/// there is no such width.
+/// The width of the type that a token spells: `None` where it spells none, `Some(None)` where there
+/// is no such width.
 pub fn width_in(token: &Token) -> Option<Option<Width>>
     ensures { result ≡ width_in token.now }
 {
@@ -484,7 +484,7 @@ pub fn is_pointer(token: &Token) -> bool
     token.kind() == Kind::Word && token.text() == b"ptr".as_slice()
 }
 
-/// The type of a value that a token spells: nothing where it spells none, nothing inside where there
+/// The type of a value that a token spells: `None` where it spells none, `Some(None)` where there
 /// is no such width.
 pub fn type_in(token: &Token) -> Option<Option<IrType>>
     ensures { result ≡ type_in token.now }

@@ -1,4 +1,4 @@
-// Reading an instruction behind the name of its result.
+// Reading an instruction after the name of its result.
 ghost use Rattle.std.specs.Prelude.{◌≡◌, true};
 ghost use Rattle.token_forms.specs.Form.{reads, read, begin_of};
 ghost use Rattle.token_forms.specs.Answer.{Reads};
@@ -60,7 +60,7 @@ impl<'a, 'b> Cursor<'a, 'b> {
         flags
     }
 
-    // Passes a flag, if it stands next.
+    // Passes a flag, if it is next.
     fn flag(&mut self, flag: Flag) -> bool
         ensures { begin_of true any (as_word (flag_text flag)) any self.old ≡ reads (passed result) self.new }
     {
@@ -251,7 +251,7 @@ impl<'a, 'b> Cursor<'a, 'b> {
         Ok(WrittenInst::Freeze { into, value })
     }
 
-    // What stands behind the word of an instruction.
+    // What follows the word of an instruction.
     fn inst_by(&mut self, into: WrittenName, opcode: Opcode) -> Result<WrittenInst, ReadFault>
         ensures { Reads (λ x. x) result self.new (read true (spec.inst_by into opcode) self.old) }
     {
@@ -294,7 +294,7 @@ impl<'a, 'b> Cursor<'a, 'b> {
         }
     }
 
-    /// Reads an instruction behind its result's name, which may be a phi where one may stand. The
+    /// Reads an instruction after its result's name, which may be a phi where one is allowed. The
     /// number is the instruction's own among those of the function.
     #[tactic(auto, unfolding(crate::specs::Instructions::line_named))]
     pub fn line_named(

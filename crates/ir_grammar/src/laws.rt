@@ -5,7 +5,7 @@ ghost use Rattle.ir_grammar.specs.Grammar.{define};
 use crate::written::WrittenFunction;
 use token_forms::{Spelled, is_read_as_spelled};
 
-/// The tokens that spell a function when one token is looked at ahead are those that the plain
+/// The tokens that spell a function with one token of lookahead are those that the plain
 /// grammar spells, and no tokens are two functions. It does nothing.
 pub fn is_plain_grammar()
     ensures plain { SpellsAsPlain define }

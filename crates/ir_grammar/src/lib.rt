@@ -1,12 +1,12 @@
 //! The grammar of a function, and a function as it is written.
 //!
 //! [`Cursor::define`] reads the tokens of one define from the left. It promises that what it reads is
-//! what the grammar spells, with names, types and literals as they stand there and the place of each,
-//! and that a stop is the first token that can't stand, with its reason, or the first that passes a
-//! limit. `specs/Grammar.antt` and `specs/Instructions.antt` have the grammar, `specs/Classes.antt`
-//! and `specs/Words.antt` its words (LLVM Language Reference). It stands on `token_forms` for the laws of
-//! a grammar, on `ir_lexer` for the tokens and on `ir_tree` for reasons; `ir_numbering` makes a
-//! function of what is written, and the reader stands on both.
+//! what the grammar spells, with names, types and literals as they are written and the position of
+//! each, and that a stop is the first token that isn't allowed, with its reason, or the first that
+//! passes a limit. `specs/Grammar.antt` and `specs/Instructions.antt` have the grammar,
+//! `specs/Classes.antt` and `specs/Words.antt` its words (LLVM Language Reference). It uses
+//! `token_forms` for the laws of a grammar, `ir_lexer` for the tokens and `ir_tree` for reasons;
+//! `ir_numbering` makes a function of what is written, and the reader uses both.
 #![tactic(auto)]
 
 mod blocks;

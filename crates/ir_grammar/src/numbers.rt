@@ -34,7 +34,7 @@ fn all_digits(bytes: &[u8]) -> bool
     bytes.iter().all(|b| is_digit_byte(*b))
 }
 
-/// Whether these are digits, one at least.
+/// Whether these are digits, at least one.
 pub fn some_digits(bytes: &[u8]) -> bool
     ensures { result ≡ is_digits bytes.now }
 {
@@ -44,7 +44,7 @@ pub fn some_digits(bytes: &[u8]) -> bool
     }
 }
 
-/// The width of as many bits as these digits say, if there is one.
+/// The width of the number of bits that these digits spell, if there is one.
 pub fn width(digits: &[u8]) -> Option<Width>
     ensures { result ≡ width_of (value_of digits.now) }
 {
@@ -127,7 +127,7 @@ pub fn array_length(text: &[u8]) -> Option<u64>
     }
 }
 
-// Zero, if these digits say so.
+// Zero, if these digits spell it.
 fn no_number(digits: &[u8]) -> Option<u64>
     ensures { result ≡ (if value_of digits.now == 0 then Some (value_of digits.now) else None) }
 {

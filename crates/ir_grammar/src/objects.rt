@@ -43,7 +43,7 @@ fn is_memory_type(of_type: IrType) -> bool
     }
 }
 
-// The type of what stands in memory that a token spells, if it spells one.
+// The type of what is in memory that a token spells, if it spells one.
 fn memory_type_in(token: &Token) -> Option<IrType>
     ensures { result ≡ spelling.memory_type_in token.now }
 {
@@ -101,7 +101,7 @@ fn is_gep_flag(token: &Token) -> bool
         && (token.text() == b"inbounds".as_slice() || token.text() == b"nuw".as_slice())
 }
 
-// The flags and this one; `nuw` stands behind `inbounds` alone.
+// The flags and this one; `nuw` only after `inbounds`.
 fn gep_flag_named(flags: GepFlags, text: &[u8]) -> Option<GepFlags>
     ensures { result ≡ spelling.gep_flag_named flags text.now }
 {
@@ -143,7 +143,7 @@ fn object_of(arrays: WrittenArrays, element: WrittenType) -> WrittenObject
 }
 
 impl<'a, 'b> Cursor<'a, 'b> {
-    /// Reads a type of what stands in memory.
+    /// Reads a type of what is in memory.
     pub fn memory_type(&mut self) -> Result<WrittenType, ReadFault>
         ensures { Reads (λ x. x) result self.new (one_of true class.memory_type self.old) }
     {
@@ -193,7 +193,7 @@ impl<'a, 'b> Cursor<'a, 'b> {
         Ok(length)
     }
 
-    // Reads the length of an array behind its opening mark.
+    // Reads the length of an array after its opening mark.
     #[tactic(auto, unfolding(crate::specs::Instructions::with_length))]
     fn with_length(&mut self, so_far: WrittenArrays) -> Result<WrittenArrays, ReadFault>
         ensures { Reads (λ x. x) result self.new (read true (with_length so_far) self.old) }
@@ -230,7 +230,7 @@ impl<'a, 'b> Cursor<'a, 'b> {
         }
     }
 
-    // Passes the closing marks of so many arrays.
+    // Passes the closing marks of this number of arrays.
     #[tactic(auto, using(crate::proofs::Closers::closer_more, crate::proofs::Closers::closer_stops))]
     fn closers(&mut self, count: usize) -> Result<(), ReadFault>
         ensures { Passes result self.new (read true (spec.closers count) self.old) }

@@ -41,7 +41,7 @@ fn is_pointer_type(of_type: IrType) -> bool
     }
 }
 
-// The attribute that a word names; `nonnull` stands on a pointer alone.
+// The attribute that a word names; `nonnull` only on a pointer.
 fn attribute(text: &[u8], on_pointer: bool) -> Option<ParameterPart>
     ensures { result ≡ spelling.attribute_named on_pointer text.now }
 {
@@ -56,7 +56,7 @@ fn attribute(text: &[u8], on_pointer: bool) -> Option<ParameterPart>
     }
 }
 
-// What a token goes on with, behind a parameter with a name or without.
+// What a token goes on with, after a parameter with a name or without.
 fn part_at(
     alloc: Global,
     token: &Token,

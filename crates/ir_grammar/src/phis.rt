@@ -1,4 +1,4 @@
-// Reading a phi, and what stands behind its commas.
+// Reading a phi, and what follows its commas.
 ghost use Rattle.std.specs.Prelude.{◌≡◌, true};
 ghost use Rattle.token_forms.specs.Form.{read};
 ghost use Rattle.token_forms.specs.Answer.{Reads};
@@ -13,7 +13,7 @@ use token_forms::ReadFault;
 const MOST_ENTRIES: usize = 16_777_216;
 
 impl<'a, 'b> Cursor<'a, 'b> {
-    // Reads an entry behind its opening mark.
+    // Reads an entry after its opening mark.
     #[tactic(auto, unfolding(crate::specs::Instructions::entry))]
     fn entry(&mut self, of_type: WrittenType) -> Result<WrittenEntry, ReadFault>
         ensures { Reads (λ x. x) result self.new (read true (spec.entry of_type) self.old) }
@@ -25,7 +25,7 @@ impl<'a, 'b> Cursor<'a, 'b> {
         Ok(WrittenEntry { operand, from })
     }
 
-    /// Reads a phi with its first entry, behind its word.
+    /// Reads a phi with its first entry, after its word.
     #[tactic(auto, unfolding(crate::specs::Instructions::phi))]
     pub fn phi(&mut self, into: WrittenName) -> Result<WrittenLine, ReadFault>
         ensures { Reads (λ x. x) result self.new (read true (spec.phi into) self.old) }
@@ -59,8 +59,8 @@ impl<'a, 'b> Cursor<'a, 'b> {
         }))
     }
 
-    /// Reads what stands behind a comma that follows an entry: another one, or an attachment, behind
-    /// which no entry may stand.
+    /// Reads what follows a comma after an entry: another one, or an attachment, after which no
+    /// entry is allowed.
     #[tactic(auto, unfolding(crate::specs::Instructions::entry_or_attachment))]
     pub fn entry_or_attachment(&mut self, phi: WrittenPhi) -> Result<WrittenLine, ReadFault>
         ensures { Reads (λ x. x) result self.new (read true (spec.entry_or_attachment phi) self.old) }

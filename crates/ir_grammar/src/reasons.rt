@@ -1,4 +1,4 @@
-// The reason at a token that can't stand where it stands.
+// The reason at a token that isn't allowed where it is.
 ghost use Rattle.std.specs.Prelude.{◌≡◌};
 ghost use Rattle.ir_grammar.specs.Reasons.{is_type_mark, reason, type_reason};
 ghost use Rattle.ir_grammar.specs.Spelling.{width_reason};
@@ -13,7 +13,7 @@ fn is_type_mark(text: &[u8]) -> bool
     text == b"<".as_slice() || text == b"{".as_slice() || text == b"...".as_slice()
 }
 
-/// The reason at a token that can't stand.
+/// The reason at a token that isn't allowed.
 pub fn reason_at(token: &Token) -> Reason
     ensures { result ≡ reason token.now }
 {
@@ -36,7 +36,7 @@ pub fn reason_at(token: &Token) -> Reason
     }
 }
 
-/// The reason at a token that can't stand where a type begins.
+/// The reason at a token that isn't allowed where a type begins.
 pub fn type_reason_at(token: &Token) -> Reason
     ensures { result ≡ type_reason token.now }
 {
@@ -46,8 +46,8 @@ pub fn type_reason_at(token: &Token) -> Reason
     }
 }
 
-/// The reason at a token that can't stand where some types alone may: a limit where it spells a type
-/// of a width that is none.
+/// The reason at a token that isn't allowed where only some types are: a limit where it spells a
+/// type of a width that doesn't exist.
 pub fn width_reason_at(token: &Token) -> Reason
     ensures { result ≡ width_reason token.now }
 {

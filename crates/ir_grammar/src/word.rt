@@ -1,4 +1,4 @@
-// What one token says: the word of an instruction, a flag, what begins a line or goes on with a
+// What one token means: the word of an instruction, a flag, what begins a line or goes on with a
 // header.
 ghost use Rattle.std.specs.Prelude.{◌≡◌, ◌==◌, ◌||◌, codes};
 ghost use Rattle.std.specs.Str.{bytes_eq};
@@ -42,7 +42,7 @@ pub enum Opcode {
     Freeze,
 }
 
-/// A flag that stands or doesn't, before a type or a comparison.
+/// An optional flag before a type or a comparison.
 #[derive(Clone, Copy, Debug, PartialEq, Eq)]
 pub enum Flag {
     Exact,
@@ -51,7 +51,7 @@ pub enum Flag {
     SameSign,
 }
 
-/// What stands behind the name of a result: the word of a phi, of an instruction that an alignment
+/// What follows the name of a result: the word of a phi, of an instruction that an alignment
 /// or indices may follow, or of another instruction.
 #[derive(Clone, Copy, Debug, PartialEq, Eq)]
 pub enum LineWord {
@@ -92,7 +92,7 @@ pub enum ParameterPart {
     Next,
 }
 
-/// What stands behind the parameters: a word or a number of attributes, `comdat`, the mark before
+/// What follows the parameters: a word or a number of attributes, `comdat`, the mark before
 /// its name, or `!dbg`.
 #[derive(Clone, Copy, Debug, PartialEq, Eq)]
 pub enum HeaderPart {
@@ -234,8 +234,8 @@ fn memory_word_of(token: &Token) -> Option<LineWord>
     }
 }
 
-/// What the token names behind the name of a result, if it names an instruction; a phi only where
-/// one may stand.
+/// What the token names after the name of a result, if it names an instruction; a phi only where
+/// one is allowed.
 pub fn line_word_of(token: &Token, phi_too: bool) -> Option<LineWord>
     ensures { result ≡ spec.line_word_of phi_too token.now.kind token.now.text }
 {
@@ -340,7 +340,7 @@ fn prefix_named(text: &[u8], so_far: bool) -> Option<bool>
     None
 }
 
-/// Whether `noundef` stands before a return type behind a word there, if the token may stand there.
+/// Whether `noundef` is among a return type's words so far and this one, if it is allowed there.
 pub fn prefix_of(token: &Token, so_far: bool) -> Option<bool>
     ensures { result ≡ spec.prefix_of token.now.kind token.now.text so_far }
 {

@@ -1,5 +1,5 @@
-// A function as it is written: names stand where the text has them, and each type, name, literal
-// and label has its place.
+// A function as it is written: names are where the text has them, and each type, name, literal
+// and label has its position.
 use ir_tree::{Cast, IrType, MemoryType, Name, Op, Predicate};
 use support::Sequence;
 use text_places::Place;
@@ -42,21 +42,21 @@ pub struct WrittenOperand {
     pub at: Place,
 }
 
-/// An operand behind its type.
+/// An operand after its type.
 #[derive(Drop)]
 pub struct WrittenTyped {
     pub of_type: WrittenType,
     pub operand: WrittenOperand,
 }
 
-/// The type of a function or behind `ret`, or nothing for `void`.
+/// The type of a function or after `ret`, or nothing for `void`.
 #[derive(Clone, Copy)]
 pub struct WrittenReturnType {
     pub of_type: Option<IrType>,
     pub at: Place,
 }
 
-/// A parameter, with a name or none.
+/// A parameter, with an optional name.
 #[derive(Drop)]
 pub struct WrittenParameter {
     pub of_type: WrittenType,
@@ -72,7 +72,7 @@ pub struct WrittenParameters {
     pub last: WrittenParameter,
 }
 
-/// A type of an object in memory, at the place of its element.
+/// A type of an object in memory, at the position of its element.
 #[derive(Drop)]
 pub struct WrittenObject {
     pub of_type: MemoryType,
@@ -122,7 +122,7 @@ pub struct GepFlags {
     pub nuw: bool,
 }
 
-/// The flags of a `getelementptr`, and the lengths of the arrays that are open behind them, the
+/// The flags of a `getelementptr`, and the lengths of the arrays that are open after them, the
 /// outermost first.
 #[derive(Drop)]
 pub struct WrittenArrays {
@@ -154,7 +154,7 @@ pub enum WrittenInst {
         operand: WrittenOperand,
         to: WrittenIntType,
     },
-    /// The place is that of the condition's type.
+    /// The position is that of the condition's type.
     Select {
         into: WrittenName,
         bit: Place,
@@ -192,7 +192,7 @@ pub struct WrittenPhi {
 #[derive(Drop)]
 pub enum WrittenLine {
     Label(WrittenName),
-    /// A record; what stands in it is forgotten.
+    /// A record; what is in it is ignored.
     Record,
     /// A phi, to which entries may be added.
     Entries(WrittenPhi),
@@ -202,12 +202,12 @@ pub enum WrittenLine {
     Indices(WrittenGep),
     /// A phi with attachments.
     Phi(WrittenPhi),
-    /// An instruction that attachments alone may follow.
+    /// An instruction that only attachments may follow.
     Inst(WrittenInst),
 }
 
 /// A block so far: its label, if it has one, its phis and its other instructions. `is_new` says that
-/// nothing stands before, so that a label may follow, and `room` how many more instructions the
+/// nothing comes before, so that a label may follow, and `room` how many more instructions the
 /// function may have.
 #[derive(Drop)]
 pub struct WrittenLines {
@@ -221,7 +221,7 @@ pub struct WrittenLines {
 /// What `ret` gives.
 #[derive(Drop)]
 pub enum WrittenReturn {
-    /// `void` at its place.
+    /// `void` at its position.
     Void(Place),
     Value(WrittenTyped),
 }
@@ -233,7 +233,7 @@ pub struct WrittenLiteral {
     pub at: Place,
 }
 
-/// A case of a switch: a literal behind its type, and the label that it leads to.
+/// A case of a switch: a literal after its type, and the label that it leads to.
 #[derive(Drop)]
 pub struct WrittenCase {
     pub of_type: WrittenIntType,
@@ -246,7 +246,7 @@ pub struct WrittenCase {
 pub enum WrittenTerminator {
     Return(WrittenReturn),
     Branch(WrittenName),
-    /// The place is that of the condition's type.
+    /// The position is that of the condition's type.
     CondBranch {
         bit: Place,
         condition: WrittenOperand,
@@ -262,7 +262,7 @@ pub enum WrittenTerminator {
     Unreachable,
 }
 
-/// What stands in a block behind its label.
+/// What follows the label of a block.
 #[derive(Drop)]
 pub struct WrittenBody {
     pub phis: Sequence<WrittenPhi>,
@@ -270,7 +270,7 @@ pub struct WrittenBody {
     pub terminator: WrittenTerminator,
 }
 
-/// A block behind the entry.
+/// A block after the entry.
 #[derive(Drop)]
 pub struct WrittenBlock {
     pub label: WrittenName,
@@ -287,7 +287,7 @@ pub struct WrittenBlocks {
     pub room: usize,
 }
 
-/// `brace` is the place of the body's opening mark, `label` that of the entry, if it has one.
+/// `brace` is the position of the body's opening mark, `label` the entry's label, if it has one.
 #[derive(Drop)]
 pub struct WrittenFunction {
     pub returns_no_undef: bool,

@@ -81,7 +81,7 @@ define_one tokens first m n e f x y =
       piece_one tokens y.body e f (subst (λ (k : ℕ). IsPiece tokens k e) bodies x.closed) y.closed,
     )
 
--- the places of a define's parts rise
+-- the indices of a define's parts increase
 pub define_rises : (tokens : List Lexeme) (first name end : ℕ) (item : IsDefine tokens first name end)
     → (first < name) × (name + 1 < item.has_body.before.end) × (item.has_body.before.end ≤ item.body) × (item.body < end) × (end ≤ length tokens)
 define_rises tokens first name end item =

@@ -38,7 +38,7 @@ head_balanced tokens first h = go (slice_get tokens first) refl h
     go None here p = absurd (cc)
     go (Some t) here p = plain_balanced tokens first t here (head_plain t _ p)
 
--- the name of a define is no head, nor is the parenthesis behind it
+-- the name of a define is no head, nor is the parenthesis after it
 global_plain : (k : Kind) (text : List ℕ) → is_global_kind k ≡ true → mark_in k text ≡ 0
 global_plain kind.Global text h = refl
 global_plain _ text h = absurd (cc)
@@ -164,7 +164,7 @@ string_plain _ text h = absurd (cc)
 layout_quiet : (t : Lexeme) → has_bad_layout t ≡ true → marks_after (Some []) (mark_of t) ≡ Some []
 layout_quiet t h = rw (string_plain t.kind t.text (and_parts _ _ h).0) refl
 
--- no bracket stands in a wrong layout
+-- no bracket is in a wrong layout
 pub wrong_layout_balanced : (tokens : List Lexeme) (first : ℕ) → is_wrong_layout tokens first ≡ true → IsBalanced tokens first (first + 3) × IsBalanced tokens first (first + 3 + 1)
 unfolding is_wrong_layout
 wrong_layout_balanced tokens first h =
@@ -186,7 +186,7 @@ pub wrong_layout_within : (tokens : List Lexeme) (first : ℕ) → is_wrong_layo
 unfolding is_wrong_layout
 wrong_layout_within tokens first h = passes_within tokens has_bad_layout (first + 3) (and_parts _ _ h).1
 
--- ---- where heads stand
+-- ---- where heads are
 
 pub define_within : (tokens : List Lexeme) (first : ℕ) → is_define tokens first ≡ true → first < length tokens
 unfolding is_define
@@ -222,7 +222,7 @@ brace_begins_nothing tokens place h = mark_begins_nothing tokens place 122 h
 
 -- ---- names
 
--- what the bytes of a global name's token spell is the name at its place
+-- what the bytes of a global name's token spell is the name at its index
 pub called_name : (tokens : List Lexeme) (place : ℕ) (text : List ℕ) (name : Name) → is_called tokens place ≡ true → IsSomeAnd (slice_get tokens place) (λ t. text ≡ t.text) → name ≡ name_of (drop 1 text) → name_at tokens place ≡ Some name
 unfolding is_called name_at
 called_name tokens place text name h texts spelled = go (slice_get tokens place) (and_parts _ _ h).0 texts

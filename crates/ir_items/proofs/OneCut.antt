@@ -15,7 +15,7 @@ use Rattle.ir_items.proofs.OneStop.{one_stop, stop_first, other_apart, define_ap
 abbrev added : List Define → Name → ℕ → ℕ → List Define
 added old name first end = old ++ record { name = name; first = first; last = end - 1 } ∷ []
 
--- behind some defines an item begins at a place and ends before another, with these defines then
+-- after some defines an item begins at an index and ends before another, with these defines then
 data Step (tokens : List Lexeme) (first : ℕ) (old : List Define) : ℕ → List Define → Type 0 where
   other : {end : ℕ} → IsOther tokens first end → Step tokens first old end old
   define : {place end : ℕ} {name : Name} → IsDefine tokens first place end → name_at tokens place ≡ Some name → has_name old name ≡ false → length old < 4096 → Step tokens first old end (added old name first end)
@@ -38,9 +38,9 @@ step_apart : (tokens : List Lexeme) (first : ℕ) (old : List Define) (end : ℕ
 step_apart tokens first old end new place reason (Step.other item) stop = other_apart tokens old first end place reason item stop
 step_apart tokens first old end new place reason (Step.define {place = at} {name = name} item named fresh few) stop = define_apart tokens old first at end place reason name item named fresh few stop
 
--- ---- items one after another, to a place
+-- ---- items one after another, to an index
 
--- from another place, behind other defines
+-- from another index, after other defines
 data Chain (tokens : List Lexeme) (place : ℕ) (defines : List Define) : ℕ → List Define → Type 0 where
   here : Chain tokens place defines place defines
   next : {first end : ℕ} {old new : List Define} → Step tokens first old end new → Chain tokens place defines end new → Chain tokens place defines first old
@@ -64,7 +64,7 @@ chain_stays : (tokens : List Lexeme) (place : ℕ) (defines : List Define) (firs
 chain_stays tokens place defines first old Chain.here le = refl
 chain_stays tokens place defines first old (Chain.next {end = end} {new = new} s rest) le = absurd (omega (arith, step_some tokens first old end new s, chain_le tokens place defines end new rest))
 
--- of two from one place, one is a front of the other
+-- of two from one index, one is a prefix of the other
 fronts : (tokens : List Lexeme) (a : ℕ) (d : List Define) (c : ℕ) (f : List Define) (first : ℕ) (old : List Define) → Chain tokens a d first old → Chain tokens c f first old → Chain tokens a d c f ⊎ Chain tokens c f a d
 fronts tokens a d c f first old Chain.here y = inr y
 fronts tokens a d c f first old (Chain.next s rest) Chain.here = inl (Chain.next s rest)

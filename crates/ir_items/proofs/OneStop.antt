@@ -137,7 +137,7 @@ stop_le tokens defines first p q v w a b =
       | inr on ↦ to_stop tokens defines first p q v a on (stop_within tokens defines first q w b)
     ]
 
--- ---- at one place for one reason
+-- ---- at one index for one reason
 
 reason_of : (head here end fits word called : Bool) → Why
 reason_of head here end fits word called =
@@ -216,7 +216,7 @@ one_stop tokens defines first p q v w a b =
       stop_reason tokens defines first p v a ∙ ap (reason_at tokens first) places ∙ sym (stop_reason tokens defines first q w b),
     )
 
--- a stop lies behind the token at which its item begins
+-- the item of a stop begins at a token
 pub stop_first : (tokens : List Lexeme) (defines : List Define) (first place : ℕ) (reason : Why) → StopsAt tokens defines first place reason → first < length tokens
 stop_first tokens defines first place reason (StopsAt.no_item within plain) = within
 stop_first tokens defines first place reason (StopsAt.bracket goes within none) = omega (arith, goes_some tokens defines first place goes)

@@ -1,4 +1,4 @@
--- What is open behind one token more.
+-- What is open after one more token.
 use Rattle.std.proofs.Common.{◌≡◌, ℕ, ◌+◌, ◌-◌, ◌<◌, ◌≤◌, true, false, List, [], ◌∷◌, ◌++◌, length, slice_range, take, drop, Option, Some, None, refl, sym, ap, ◌∙◌, inl, inr, arith}
 use Rattle.std.specs.Prelude.{fold, is_some, slice_get, IsSomeAnd}
 use Rattle.std.proofs.lemmas.Bool.{cases_lt}
@@ -36,7 +36,7 @@ split_range tokens i k m ik km =
     ap (λ (j : ℕ). take j (drop i tokens)) n ∙ take_split (k - i) (m - k) (drop i tokens)
     ∙ ap (λ (xs : List Lexeme). slice_range tokens i k ++ take (m - k) xs) (drop-drop (k - i) i tokens ∙ ap (λ (j : ℕ). drop j tokens) d)
 
--- what is open, counted from a place at depth 0
+-- what is open, counted from an index at depth 0
 pub marks_join : (tokens : List Lexeme) (i k m : ℕ) → i ≤ k → k ≤ m → IsBalanced tokens i k → marks tokens i m ≡ marks tokens k m
 unfolding marks
 marks_join tokens i k m ik km balanced =
@@ -47,7 +47,7 @@ marks_join tokens i k m ik km balanced =
 pub not_balanced : (o : Option (List ℕ)) → has_open o ≡ true → o ≡ Some [] → ⊥
 not_balanced o h e = let bad : false ≡ true = (rw e at h) in cc
 
--- inside a bracket nothing stands at depth 0
+-- inside a bracket nothing is at depth 0
 pub deeper : (tokens : List Lexeme) (i k m : ℕ) → i ≤ k → k ≤ m → IsBalanced tokens i k → has_open (marks tokens k m) ≡ true → IsBalanced tokens i m → ⊥
 deeper tokens i k m ik km balanced open_here here = not_balanced (marks tokens k m) open_here (sym (marks_join tokens i k m ik km balanced) ∙ here)
 
@@ -89,7 +89,7 @@ inside_fits tokens first from place ff fp balanced inside =
       | inr same ↦ let e : place ≡ from = omega arith in rw e (balanced_fits tokens first from balanced)
     ]
 
--- ---- behind a mark that closes what isn't open
+-- ---- after a mark that closes what isn't open
 
 from_none : (tokens : List Lexeme) → marks_from None tokens ≡ None
 from_none [] = refl
@@ -103,7 +103,7 @@ none_stays tokens i k m ik km none =
     ∙ ap (λ (start : Option (List ℕ)). marks_from start (slice_range tokens k m)) none
     ∙ from_none (slice_range tokens k m)
 
--- what fits stands before it
+-- what fits is before it
 pub fits_before : (tokens : List Lexeme) (first place q : ℕ) → first ≤ place → marks tokens first place ≡ None → is_some (marks tokens first q) ≡ true → q < place
 fits_before tokens first place q fp none fits =
     elim (cases_lt q place) [

@@ -14,11 +14,11 @@ use Rattle.ir_items.specs.Pieces.{PieceStopsAt, PieceStops, ItemStops}
 use Rattle.ir_items.proofs.Opening.{marks_join, deeper, piece_balanced, inside_fits}
 use Rattle.ir_items.proofs.HeadTokens.{called_begins_nothing, called_balanced, called_opens}
 
--- a test fails at each place of depth 0 from a place to another
+-- a test fails at each index of depth 0 from an index to another
 abbrev pub FailsAtDepth0 : List Lexeme → ℕ → (ℕ → Bool) → ℕ → ℕ → Type 0
 FailsAtDepth0 tokens first test low high = (m : ℕ) → low ≤ m → m < high → IsBalanced tokens first m → test m ≡ false
 
--- behind a place at depth 0, inside what begins there
+-- after an index at depth 0, inside what begins there
 further : (tokens : List Lexeme) (first : ℕ) (test : ℕ → Bool) (low k e : ℕ) → first ≤ k → IsBalanced tokens first k → FailsAtDepth0 tokens first test low k → test k ≡ false
     → ((m : ℕ) → k < m → m < e → has_open (marks tokens k m) ≡ true) → FailsAtDepth0 tokens first test low e
 further tokens first test low k e fk balanced before here inside m lo hi bal =

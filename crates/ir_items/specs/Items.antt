@@ -1,4 +1,4 @@
--- The items of a module's text, by the places of its tokens: a place is how many tokens stand before.
+-- The items of a module, by the indices of its tokens: an index is the number of tokens before.
 use Rattle.std.specs.Prelude.{◌≡◌, ◌⊎◌, ℕ, ◌+◌, ◌-◌, ◌<◌, ◌≤◌, List, [], ◌∷◌, ◌++◌, length, take, take_while, drop, slice_get, map, codes, Option, Some, None, Bool, true, false, not, ◌&&◌, ◌||◌, ◌==◌, nat_lt, count_by, if◌then◌else◌}
 use Rattle.std.specs.List.{list_any}
 use Rattle.std.specs.Str.{bytes_eq}
@@ -14,9 +14,9 @@ use Rattle.ir_items.specs.declared.item.Define.{Define}
 use Rattle.ir_items.specs.Names.{name_in, without_zeros}
 use Rattle.ir_items.specs.Marks.{mark_of, IsBalanced, IsPiece}
 
--- ---- tests of a token at a place
+-- ---- tests of a token at an index
 
--- what a test says of the token at a place, and of none past the end
+-- what a test says of the token at an index, and false past the end
 abbrev pub passes : (Lexeme → Bool) → Option Lexeme → Bool
 passes test None = false
 passes test (Some t) = test t
@@ -62,7 +62,7 @@ is_name_kind _ = false
 abbrev pub is_name : Lexeme → Bool
 is_name t = is_name_kind t.kind
 
--- a head: one of the words, or such a name with `=` behind it
+-- a head: one of the words, or such a name with `=` after it
 unfoldable pub is_head : List Lexeme → ℕ → Bool
 is_head tokens place = token_passes tokens is_head_word place || token_passes tokens is_name place && token_passes tokens (is_mark 61) (place + 1)
 
@@ -78,7 +78,7 @@ abbrev pub is_behind_line : Option Lexeme → Lexeme → Bool
 is_behind_line None t = true
 is_behind_line (Some before) t = nat_lt (last_line before) t.place.line
 
--- no token, and no part of one, stands before it on its line
+-- no token, and no part of one, is before it on its line
 unfoldable pub is_first_on_line : List Lexeme → ℕ → Bool
 is_first_on_line tokens place = token_passes tokens (λ t. place == 0 || is_behind_line (slice_get tokens (place - 1)) t) place
 
@@ -86,7 +86,7 @@ is_first_on_line tokens place = token_passes tokens (λ t. place == 0 || is_behi
 unfoldable pub begins_item : List Lexeme → ℕ → Bool
 begins_item tokens place = is_head tokens place && is_first_on_line tokens place
 
--- a global name with `(` behind it
+-- a global name with `(` after it
 unfoldable pub is_called : List Lexeme → ℕ → Bool
 is_called tokens place = token_passes tokens is_global place && token_passes tokens (is_mark 40) (place + 1)
 
@@ -138,15 +138,15 @@ is_wrong_layout tokens place =
     token_passes tokens (is_word (codes "target")) place && token_passes tokens (is_word (codes "datalayout")) (place + 1)
     && token_passes tokens (is_mark 61) (place + 2) && token_passes tokens has_bad_layout (place + 3)
 
--- ---- what stands at depth 0
+-- ---- what is at depth 0
 
--- behind the first token no head stands at depth 0 first on its line, before this place
+-- after the first token and before this index, no head at depth 0 is first on its line
 abbrev pub NoHeadBetween : List Lexeme → ℕ → ℕ → Type 0
 NoHeadBetween tokens first place = (m : ℕ) → first < m → m < place → IsBalanced tokens first m → begins_item tokens m ≡ false
 
 -- ---- an item that is no define
 
--- it goes on to this place
+-- it goes on to this index
 pub record OtherGoesOn (tokens : List Lexeme) (first place : ℕ) : Type 0 where
   pub head : is_head tokens first ≡ true
   pub other : is_define tokens first ≡ false
@@ -164,7 +164,7 @@ pub record IsOther (tokens : List Lexeme) (first end : ℕ) : Type 0 where
 
 -- ---- a define
 
--- it goes on to this place without a name
+-- it goes on to this index without a name
 pub record BeforeName (tokens : List Lexeme) (first place : ℕ) : Type 0 where
   pub word : is_define tokens first ≡ true
   pub some : first < place
@@ -172,13 +172,13 @@ pub record BeforeName (tokens : List Lexeme) (first place : ℕ) : Type 0 where
   pub no_head : NoHeadBetween tokens first place
   pub no_name : (m : ℕ) → first < m → m < place → IsBalanced tokens first m → is_called tokens m ≡ false
 
--- its name stands here: the first global name at depth 0 with `(` behind it
+-- its name is here: the first global name at depth 0 with `(` after it
 pub record IsNamed (tokens : List Lexeme) (first name : ℕ) : Type 0 where
   pub before : BeforeName tokens first name
   pub balanced : IsBalanced tokens first name
   pub called : is_called tokens name ≡ true
 
--- it goes on behind its parameters to this place without a body
+-- it goes on after its parameters to this index without a body
 pub record BeforeBody (tokens : List Lexeme) (first name place : ℕ) : Type 0 where
   pub named : IsNamed tokens first name
   pub end : ℕ
@@ -188,7 +188,7 @@ pub record BeforeBody (tokens : List Lexeme) (first name place : ℕ) : Type 0 w
   pub no_head : NoHeadBetween tokens first place
   pub no_brace : (m : ℕ) → end ≤ m → m < place → IsBalanced tokens first m → is_brace tokens m ≡ false
 
--- its body begins here: the first `{` at depth 0 behind the parenthesis that closes its parameters
+-- its body begins here: the first `{` at depth 0 after the parenthesis that closes its parameters
 pub record HasBody (tokens : List Lexeme) (first name body : ℕ) : Type 0 where
   pub before : BeforeBody tokens first name body
   pub balanced : IsBalanced tokens first body
@@ -206,16 +206,16 @@ abbrev pub name_from : Option Lexeme → Option Name
 name_from None = None
 name_from (Some t) = name_in t.kind t.text
 
--- the name that the token at a place spells
+-- the name that the token at an index spells
 unfoldable pub name_at : List Lexeme → ℕ → Option Name
 name_at tokens place = name_from (slice_get tokens place)
 
--- the defines have this name among theirs
+-- one of the defines has this name
 abbrev pub has_name : List Define → Name → Bool
 has_name defines name = list_any (same_name name) (map (λ d. d.name) defines)
 
--- The tokens before a place are items one after another, and these are the defines among them. No two defines have one
--- name, and there are at most 4,096.
+-- The tokens before an index are items one after another, and these are the defines among them. No
+-- two defines have the same name, and there are at most 4,096.
 pub data IsCut (tokens : List Lexeme) : ℕ → List Define → Type 0 where
   nothing : IsCut tokens 0 []
   other : {first end : ℕ} {defines : List Define} → IsCut tokens first defines → IsOther tokens first end → IsCut tokens end defines

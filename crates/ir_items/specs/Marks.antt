@@ -1,4 +1,4 @@
--- Which brackets are open behind some tokens.
+-- Which brackets are open after some tokens.
 use Rattle.std.specs.Prelude.{◌≡◌, ℕ, ◌-◌, ◌<◌, ◌≤◌, List, [], ◌∷◌, ◌++◌, length, take, slice_index, slice_range, Option, Some, None, Bool, true, false, ◌&&◌, ◌||◌, ◌==◌, nat_lt, if◌then◌else◌, fold}
 use Rattle.ir_lexer.specs.declared.token.Kind.{Kind}
 use Rattle.ir_lexer.specs.declared.token.Kind.TheVariants as kind
@@ -28,17 +28,17 @@ closing mark = (if mark == 40 then 41 else (if mark == 91 then 93 else 125))
 abbrev pub shut : List ℕ → ℕ → Option (List ℕ)
 shut open_marks mark = (if nat_lt 0 (length open_marks) && slice_index open_marks (length open_marks - 1) == mark then Some (take (length open_marks - 1) open_marks) else None)
 
--- The closing marks that are still to come, the innermost last; None behind a mark that closes what isn't open. What
--- stands to come behind one more token:
+-- The closing marks that are still to come, the innermost last; None after a mark that closes what
+-- isn't open. What is to come after one more token:
 abbrev pub marks_after : Option (List ℕ) → ℕ → Option (List ℕ)
 marks_after None mark = None
 marks_after (Some open_marks) mark = (if opens mark then Some (open_marks ++ closing mark ∷ []) else (if closes mark then shut open_marks mark else Some open_marks))
 
--- behind all of these tokens
+-- after all of these tokens
 abbrev pub marks_behind : List Lexeme → Option (List ℕ)
 marks_behind tokens = fold (λ marks t. marks_after marks (mark_of t)) (Some []) tokens
 
--- the marks to come at a place, counted from another one
+-- the marks to come at an index, counted from another one
 unfoldable pub marks : List Lexeme → ℕ → ℕ → Option (List ℕ)
 marks tokens from place = marks_behind (slice_range tokens from place)
 
@@ -56,7 +56,7 @@ has_open (Some (mark ∷ more)) = true
 abbrev pub IsInside : List Lexeme → ℕ → ℕ → Type 0
 IsInside tokens from place = (m : ℕ) → from < m → m ≤ place → has_open (marks tokens from m) ≡ true
 
--- a token that is no bracket, or an opening mark and all to the mark that closes it
+-- a token that is no bracket, or an opening mark and everything up to the mark that closes it
 pub record IsPiece (tokens : List Lexeme) (from end : ℕ) : Type 0 where
   pub some : from < end
   pub within : end ≤ length tokens

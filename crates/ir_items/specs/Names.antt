@@ -7,7 +7,7 @@ use Rattle.ir_lexer.specs.declared.token.Kind.TheVariants as kind
 use Rattle.ir_tree.specs.declared.name.Name.{Name}
 use Rattle.ir_tree.specs.declared.name.Name.TheVariants as name
 
--- digits without the zeros before them; the last one stays
+-- digits without leading zeros; the last one stays
 abbrev pub without_zeros : List ℕ → List ℕ
 without_zeros [] = []
 without_zeros (d ∷ ds) = (if d == 48 && nat_lt 0 (length ds) then without_zeros ds else d ∷ ds)
@@ -30,14 +30,14 @@ unescaped (b ∷ c ∷ d ∷ rest) =
     else (if is_backslash b && is_hexadecimal_digit c && is_hexadecimal_digit d then (16 * hexadecimal_value c + hexadecimal_value d) ∷ unescaped rest
     else b ∷ unescaped (c ∷ d ∷ rest)))
 
--- The name that these bytes spell: a quoted string gives what stands between its quotes and is never a number, digits go
--- by their value.
+-- The name that these bytes spell: a quoted string gives what is between its quotes and is never a
+-- number, digits go by their value.
 abbrev pub name_of : List ℕ → Name
 name_of [] = name.Word []
 name_of (b ∷ bs) =
     (if b == 34 then name.Word (unescaped (take (length bs - 1) bs)) else (if is_digits (b ∷ bs) then name.Number (without_zeros (b ∷ bs)) else name.Word (b ∷ bs)))
 
--- the name behind a token's sign, or before a label's colon
+-- the name after a token's sign, or before a label's colon
 abbrev pub name_in : Kind → List ℕ → Option Name
 name_in kind.Local text = Some (name_of (drop 1 text))
 name_in kind.Global text = Some (name_of (drop 1 text))

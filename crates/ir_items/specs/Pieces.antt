@@ -1,4 +1,4 @@
--- What the parts of the cut answer.
+-- What the parts of the cut return.
 use Rattle.std.specs.Prelude.{◌≡◌, ℕ, ◌+◌, ◌-◌, ◌<◌, ◌≤◌, List, [], ◌∷◌, ◌++◌, length, Some, None, false}
 use Rattle.ir_lexer.specs.Lexeme.{Lexeme}
 use Rattle.ir_items.specs.declared.item.Define.{Define}
@@ -11,7 +11,7 @@ use Rattle.ir_tree.specs.declared.name.Name.{Name}
 use Rattle.ir_items.specs.Items.{IsDefine, name_at, has_name}
 use Rattle.ir_items.specs.Stops.{StopsAt}
 
--- a piece that begins at a place stops at another
+-- a piece that begins at an index stops at another
 pub data PieceStopsAt (tokens : List Lexeme) (from : ℕ) : ℕ → Why → Type 0 where
   bracket : {place : ℕ} → from ≤ place → IsInside tokens from place → place < length tokens → marks tokens from (place + 1) ≡ None → PieceStopsAt tokens from place why.Bracket
   text_ends : {place : ℕ} → place ≡ length tokens → IsInside tokens from place → PieceStopsAt tokens from place why.TextEnds
@@ -20,12 +20,12 @@ abbrev pub PieceStops : List Lexeme → ℕ → ItemFault → Type 0
 PieceStops tokens from NoMemory = Unit {0}
 PieceStops tokens from (Stop place reason) = PieceStopsAt tokens from place reason
 
--- the item that begins at a place stops
+-- the item that begins at an index stops
 abbrev pub ItemStops : List Lexeme → List Define → ℕ → ItemFault → Type 0
 ItemStops tokens defines first NoMemory = Unit {0}
 ItemStops tokens defines first (Stop place reason) = StopsAt tokens defines first place reason
 
--- behind some defines another one begins at a place and ends before another, and is added
+-- after some defines another one begins at an index and ends before another, and is added
 pub record IsAdded (tokens : List Lexeme) (first end : ℕ) (old new : List Define) : Type 0 where
   pub name : Name
   pub place : ℕ

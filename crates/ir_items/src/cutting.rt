@@ -18,10 +18,10 @@ use ir_tree::Names;
 use std::alloc::Global;
 use support::Sequence;
 
-/// The most functions with a body that a text may have.
+/// The most functions with a body that a module may have.
 pub const MOST_FUNCTIONS: usize = 4096;
 
-// The place behind an item that is no define.
+// The index after an item that is no define.
 fn other_end(alloc: Global, tokens: &Tokens<'_>, first: usize) -> Result<usize, ItemFault>
     requires within { first < length tokens.now }
     requires head { spec.is_head tokens.now first ≡ true }
@@ -41,7 +41,7 @@ fn other_end(alloc: Global, tokens: &Tokens<'_>, first: usize) -> Result<usize, 
     Ok(place)
 }
 
-// The place of the name of the define that begins at a place.
+// The index of the name of the define that begins at an index.
 fn name_place(alloc: Global, tokens: &Tokens<'_>, first: usize) -> Result<usize, ItemFault>
     requires within { first < length tokens.now }
     requires head { spec.is_head tokens.now first ≡ true }
@@ -65,7 +65,7 @@ fn name_place(alloc: Global, tokens: &Tokens<'_>, first: usize) -> Result<usize,
     Err(ItemFault::Stop { at: end, why })
 }
 
-// The place of the body of a define, from behind its parameters on.
+// The index of the body of a define, from after its parameters on.
 fn body_place(alloc: Global, tokens: &Tokens<'_>, behind: usize) -> Result<usize, ItemFault>
     ensures ok { IfOk result (λ body. (first name : ℕ) → spec.BeforeBody tokens.now first name behind → IsBalanced tokens.now first behind → spec.HasBody tokens.now first name body) }
     ensures within { IfOk result (λ body. body < length tokens.now) }
@@ -87,20 +87,20 @@ fn body_place(alloc: Global, tokens: &Tokens<'_>, behind: usize) -> Result<usize
     Err(ItemFault::Stop { at: end, why })
 }
 
-// The place behind the define whose name stands at a place.
+// The index after the define whose name is at an index.
 fn define_end(alloc: Global, tokens: &Tokens<'_>, name: usize) -> Result<usize, ItemFault>
     requires { name + 1 < length tokens.now }
     ensures ok { IfOk result (λ end. (first : ℕ) → spec.IsNamed tokens.now first name → spec.IsDefine tokens.now first name end) }
     ensures stops { IfErr result (λ fault. (defines : List TheDefine) (first : ℕ) → IsNew tokens.now defines first name → ItemStops tokens.now defines first fault) }
 {
-    // So the place behind the name is a `usize`.
+    // So the index after the name is a `usize`.
     prove!(name < tokens.len());
     let behind = piece_end(alloc, tokens, name + 1)?;
     let body = body_place(alloc, tokens, behind)?;
     piece_end(alloc, tokens, body)
 }
 
-// The place behind a define, which joins those before it.
+// The index after a define, which is added to those before it.
 fn define(
     alloc: Global,
     tokens: &Tokens<'_>,
@@ -135,7 +135,7 @@ fn define(
     Ok(end)
 }
 
-// The place behind the item that begins at a place, which joins those before it if it is a define.
+// The index after the item that begins at an index, which is added if it is a define.
 fn next_item(
     alloc: Global,
     tokens: &Tokens<'_>,
@@ -162,10 +162,10 @@ fn next_item(
     other_end(alloc, tokens, first)
 }
 
-/// The functions with a body in a text, in order, from its tokens. All other items are skipped.
+/// The functions with a body in a module, in order, from its tokens. All other items are skipped.
 ///
-/// A `Stop` comes exactly where the text stops being items one after another: at the first such
-/// token, with the reason. The time is linear in the number of tokens.
+/// A `Stop` is returned exactly where the text stops being items one after another: at the first
+/// such token, with the reason. The time is linear in the number of tokens.
 pub fn cut(alloc: Global, tokens: &Tokens<'_>) -> Result<Sequence<Define>, ItemFault>
     ensures items { IfOk result (λ defines. IsCut tokens.now (length tokens.now) defines) }
     ensures stops { IfErr result (Stops tokens.now) }
@@ -179,7 +179,7 @@ pub fn cut(alloc: Global, tokens: &Tokens<'_>) -> Result<Sequence<Define>, ItemF
     Ok(Sequence::from_vec(defines))
 }
 
-/// The items of a list of tokens, or its stop, are one.
+/// The items of a list of tokens, or its stop, are unique.
 pub fn is_one_cut()
     ensures items { (tokens : List Lexeme) (d e : List TheDefine) → IsCut tokens (length tokens) d → IsCut tokens (length tokens) e → d ≡ e }
     ensures apart { (tokens : List Lexeme) (d : List TheDefine) (place : ℕ) (why : TheWhy) → IsCut tokens (length tokens) d → IsStop tokens place why → ⊥ }

@@ -7,7 +7,7 @@ use thiserror::Error;
 /// Why a text isn't items. At one token the earlier reason counts.
 #[derive(Clone, Copy, Debug, PartialEq, Eq, Error)]
 pub enum Why {
-    /// A token that begins no item stands where no item is open.
+    /// A token that begins no item, where no item is open.
     #[error("no item")]
     NoItem,
     /// A closing mark doesn't match.
@@ -33,7 +33,7 @@ pub enum Why {
 /// Where a text stops being items.
 #[derive(Clone, Copy, Debug, PartialEq, Eq, Error)]
 pub enum ItemFault {
-    /// It stops at the token before which `at` tokens stand; at the end where that is all of them.
+    /// It stops at the token that has `at` tokens before it; at the end where that is all of them.
     #[error("{why}, at token {at}")]
     Stop { at: usize, why: Why },
     /// There was no memory for the items.

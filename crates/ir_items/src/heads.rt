@@ -1,4 +1,4 @@
-// What stands at a place of the list of tokens.
+// What is at an index of the list of tokens.
 ghost use Rattle.std.specs.Prelude.{◌≡◌, ◌+◌, ◌-◌, ◌<◌, ◌==◌, ◌&&◌, length, slice_get, codes, count_by};
 ghost use Rattle.text_places.specs.Place.{is_line_feed};
 ghost use Rattle.ir_items.specs.Items as spec;
@@ -89,7 +89,7 @@ fn is_mark_at(tokens: &Tokens<'_>, place: usize, mark: u8) -> bool
     place < tokens.len() && mark_at(tokens, place) == mark
 }
 
-// Whether the token after a place is this mark.
+// Whether the token after an index is this mark.
 #[tactic(auto, using(crate::proofs::Passing::passing))]
 fn is_next_mark(tokens: &Tokens<'_>, place: usize, mark: u8) -> bool
     requires { place < length tokens.now }
@@ -98,7 +98,7 @@ fn is_next_mark(tokens: &Tokens<'_>, place: usize, mark: u8) -> bool
     place < tokens.len() - 1 && mark_at(tokens, place + 1) == mark
 }
 
-/// Whether a head stands here: a word that begins an item, or a name with `=` behind it.
+/// Whether a head is here: a word that begins an item, or a name with `=` after it.
 #[tactic(auto, unfolding(crate::specs::Items::is_head))]
 pub fn is_head(tokens: &Tokens<'_>, place: usize) -> bool
     requires { place < length tokens.now }
@@ -107,7 +107,7 @@ pub fn is_head(tokens: &Tokens<'_>, place: usize) -> bool
     is_head_word_at(tokens, place) || is_name_at(tokens, place) && is_next_mark(tokens, place, b'=')
 }
 
-/// Whether the word `define` stands here.
+/// Whether the word `define` is here.
 #[tactic(auto, unfolding(crate::specs::Items::is_define))]
 pub fn is_define(tokens: &Tokens<'_>, place: usize) -> bool
     ensures { result ≡ spec.is_define tokens.now place }
@@ -115,7 +115,7 @@ pub fn is_define(tokens: &Tokens<'_>, place: usize) -> bool
     is_word_at(tokens, place, b"define")
 }
 
-/// Whether a global name with `(` behind it stands here.
+/// Whether a global name with `(` after it is here.
 #[tactic(auto, unfolding(crate::specs::Items::is_called))]
 pub fn is_called(tokens: &Tokens<'_>, place: usize) -> bool
     requires { place < length tokens.now }
@@ -124,7 +124,7 @@ pub fn is_called(tokens: &Tokens<'_>, place: usize) -> bool
     is_global_at(tokens, place) && is_next_mark(tokens, place, b'(')
 }
 
-/// Whether `{` stands here.
+/// Whether `{` is here.
 #[tactic(auto, unfolding(crate::specs::Items::is_brace))]
 pub fn is_brace(tokens: &Tokens<'_>, place: usize) -> bool
     ensures { result ≡ spec.is_brace tokens.now place }
@@ -138,7 +138,7 @@ fn line_feeds(text: &[u8]) -> usize
     text.iter().filter(|b| **b == b'\n').count()
 }
 
-// Whether the token before a place ends on an earlier line than the one at the place begins.
+// Whether the token before an index ends on an earlier line than the one at the index begins.
 fn begins_behind_line(tokens: &Tokens<'_>, place: usize) -> bool
     requires some { 0 < place }
     requires within { place < length tokens.now }
@@ -156,7 +156,7 @@ fn is_first_on_line(tokens: &Tokens<'_>, place: usize) -> bool
     place == 0 || begins_behind_line(tokens, place)
 }
 
-/// Whether a head stands here as the first token of its line.
+/// Whether a head is here as the first token of its line.
 #[tactic(auto, unfolding(crate::specs::Items::begins_item))]
 pub fn begins_item(tokens: &Tokens<'_>, place: usize) -> bool
     requires { place < length tokens.now }

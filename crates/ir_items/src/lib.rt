@@ -1,8 +1,8 @@
-//! The items of a text of LLVM IR, from its tokens.
+//! The items of a module of LLVM IR, from its tokens.
 //!
-//! It promises that [`cut`] answers the functions with a body, where the text is items one after
-//! another, or the first token at which it stops being that, and why; a list of tokens has one of
-//! these answers alone. It stands on `ir_lexer` and `ir_tree`; the reader takes the items.
+//! It promises that [`cut`] returns the functions with a body, where the text is items one after
+//! another, or the first token at which it stops being that, and why; a list of tokens has exactly
+//! one of these results. It uses `ir_lexer` and `ir_tree`; the reader takes the items.
 #![tactic(auto)]
 
 mod cutting;

@@ -17,7 +17,7 @@ fn mark_in(kind: Kind, text: &[u8]) -> u8
     }
 }
 
-// The mark at a place, 0 where another token stands.
+// The mark at an index, 0 where another token is.
 pub fn mark_at(tokens: &Tokens<'_>, place: usize) -> u8
     requires { place < length tokens.now }
     ensures { IsSomeAnd (slice_get tokens.now place) (λ t. result ≡ mark_of t) }
@@ -63,8 +63,8 @@ fn fits(open: &mut Vec<u8>, mark: u8) -> Result<bool, AllocError>
     Ok(true)
 }
 
-/// The place behind the piece that begins at a place: a token that is no bracket, or an opening
-/// mark and all to the mark that closes it.
+/// The index after the piece that begins at an index: a token that is no bracket, or an opening
+/// mark and everything up to the mark that closes it.
 pub fn piece_end(alloc: Global, tokens: &Tokens<'_>, from: usize) -> Result<usize, ItemFault>
     requires { from < length tokens.now }
     ensures ok { IfOk result (λ end. IsPiece tokens.now from end) }

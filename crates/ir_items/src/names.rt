@@ -10,7 +10,7 @@ use ir_tree::Name;
 use std::alloc::Global;
 use support::{NoMemory, Sequence};
 
-/// Digits without the zeros before them; the last one stays.
+/// Digits without leading zeros; the last one stays.
 pub fn without_zeros(digits: &[u8]) -> &[u8]
     ensures { result.now ≡ spec.without_zeros digits.now }
 {
@@ -51,7 +51,7 @@ fn hexadecimal_value(b: u8) -> u8
     }
 }
 
-// The first byte that is meant, and what stands behind its spelling.
+// The first byte that is meant, and what follows its spelling.
 fn first_meant(text: &[u8]) -> (u8, &[u8])
     requires { 0 < length text.now }
     ensures value { spec.unescaped text.now ≡ result.0 ∷ spec.unescaped result.1.now }
@@ -122,7 +122,7 @@ fn spelled_name(alloc: Global, text: &[u8]) -> Result<Name, NoMemory>
     }
 }
 
-/// The name behind a token's sign.
+/// The name after a token's sign.
 pub fn name_behind_sign(alloc: Global, text: &[u8]) -> Result<Name, NoMemory>
     ensures { IfOk result (λ name. name ≡ spec.name_of (drop 1 text.now)) }
 {

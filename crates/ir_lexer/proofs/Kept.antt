@@ -1,4 +1,4 @@
--- What is kept of a token stands for it again.
+-- What is kept of a token denotes it again.
 use Rattle.std.proofs.Common.{◌≡◌, ℕ, ◌+◌, ◌-◌, ◌≤◌, List, length, take, drop, refl, sym, ap, ◌∙◌, arith}
 use Rattle.std.proofs.lemmas.List.{length-take, length-drop}
 use Rattle.text_places.specs.declared.place.Place.{Place}

@@ -1,4 +1,4 @@
--- The longest of the classes' longest fronts is the longest token.
+-- The longest of the classes' longest prefixes is the longest token.
 use Rattle.std.proofs.Common.{◌≡◌, ℕ, zero, suc, ◌-◌, ◌<◌, ◌≤◌, Bool, true, false, cond, ◌||◌, nat_lt, List, [], ◌∷◌, length, take, drop, Option, Some, None, refl, sym, ap, subst, ◌∙◌, inl, inr, arith}
 use Rattle.std.specs.Prelude.{IfSome, option_and_then}
 use Rattle.std.specs.List.{list_all}
@@ -152,7 +152,7 @@ abbrev pub or_class : Option Kind → Bool → Kind → Option Kind
 or_class (Some earlier) test k = Some earlier
 or_class None test k = cond test (Some k) None
 
--- the longest front that is a token of some classes
+-- the longest prefix that is a token of some classes
 pub record Nothing (class : List ℕ → Option Kind) (text : List ℕ) : Type 0 where
   pub none : (m : ℕ) → 0 < m → m ≤ length text → class (take m text) ≡ None
 
@@ -285,7 +285,7 @@ front_token-longest text = go (front_token text) (front_token-found text)
     go None h = sym (longest_none (length text) text (omega arith) h)
     go (Some found) h = sym (longest_found (length text) text found h.within (omega arith) h)
 
--- what is found is a front of the text
+-- what is found is a prefix of the text
 pub longest-bounds : (text : List ℕ) → IfSome (longest_token text) (λ found. (0 < found.1) × (found.1 ≤ length text))
 longest-bounds text = subst (λ (o : Option (Kind × ℕ)). IfSome o (λ found. (0 < found.1) × (found.1 ≤ length text))) (front_token-longest text) (go (front_token text) (front_token-found text))
   where

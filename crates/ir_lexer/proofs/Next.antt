@@ -15,7 +15,7 @@ use Rattle.ir_lexer.proofs.Fuel.{steps-enough, found-bounds, after-shorter}
 lexeme_is : (t : Lexeme) (kind : Kind) (text : List ℕ) (at : ℕ) (place : Place) → t.kind ≡ kind → t.text ≡ text → t.at ≡ at → t.place ≡ place → record { kind = kind; text = text; at = at; place = place } ≡ t
 lexeme_is t kind text at place k x a p = rw (← k, ← x, ← a, ← p) refl
 
--- the tokens of what is left, where one was found at its front
+-- the tokens of what is left, where one was found at its start
 left-found : (text rest : List ℕ) (found : Kind × ℕ) → longest_token rest ≡ Some found
     → tokens_of text (length rest) rest ≡ with_front (record { kind = found.0; text = take found.1 rest; at = length text - length rest; place = place_at text (length text - length rest) } ∷ [])
     (tokens_of text (length (behind_blanks false (drop found.1 rest))) (behind_blanks false (drop found.1 rest)))

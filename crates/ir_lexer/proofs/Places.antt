@@ -1,4 +1,4 @@
--- What is left of a text begins at a place.
+-- What is left of a text begins at a position.
 use Rattle.std.proofs.Common.{◌≡◌, ℕ, ◌+◌, ◌-◌, ◌^◌, ◌<◌, ◌≤◌, List, [], ◌++◌, length, take, drop, refl, sym, ap, ◌∙◌, append_assoc, arith}
 use Rattle.std.proofs.lemmas.List.{length-append, take-append-drop, take_at, drop_at}
 use Rattle.text_places.specs.declared.place.Place.{Place}
@@ -9,7 +9,7 @@ use Rattle.ir_lexer.specs.Position.{Here}
 pub at_start : (text : List ℕ) (place : Place) → place ≡ place_behind [] → Here text text place
 at_start text place is = record { before = []; split = refl; is = is }
 
--- behind the bytes of a front
+-- after the bytes of a prefix
 pub moved : (text rest front next : List ℕ) (len : ℕ) (place after : Place) → front ≡ take len rest → next ≡ drop len rest → ((before : List ℕ) → place ≡ place_behind before → after ≡ place_behind (before ++ front))
     → Here text rest place → Here text next after
 moved text rest front next len place after front-is next-is step here =

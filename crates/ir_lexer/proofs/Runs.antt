@@ -27,7 +27,7 @@ run-drop (suc len) (c ∷ cs) h =
       | inr other ↦ let e : name_run (c ∷ cs) ≡ 0 = run-cons is_name_byte c cs ∙ rw other refl in absurd (omega (arith, e))
     ]
 
--- what is left of the run behind a token is the run of what stands there
+-- what is left of the run after a token is the run of what follows it
 pub run_left : (len : ℕ) (rest next : List ℕ) → next ≡ behind_blanks false (drop len rest) → 0 < name_run rest - len → name_run rest - len ≡ name_run next
 run_left len rest next is left =
     let e : name_run (drop len rest) ≡ name_run rest - len = run-drop len rest (omega arith) in

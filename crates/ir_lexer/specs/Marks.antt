@@ -8,7 +8,7 @@ use Rattle.ir_lexer.specs.Lexeme.{Lexeme}
 abbrev pub mark_of : Lexeme → Mark
 mark_of t = record { at = t.at; len = length t.text; line = t.place.line; kind = t.kind }
 
--- the token of a text that a mark stands for
+-- the token of a text that a mark denotes
 abbrev pub lexeme_of : List ℕ → Mark → Lexeme
 lexeme_of text m = record { kind = m.kind; text = take m.len (drop m.at text); at = m.at; place = place_at text m.at }
 

@@ -35,7 +35,7 @@ pub record Here (text rest : List ℕ) (place : Place) : Type 0 where
   pub split : text ≡ before ++ rest
   pub is : place ≡ place_behind before
 
--- what a cursor keeps: its place, and the run of name bytes at the front where that is known
+-- what a cursor keeps: its position, and the leading run of name bytes where that is known
 pub record IsCursor (text rest : List ℕ) (place : Place) (run : ℕ) : Type 0 where
   pub stands : Here text rest place
   pub known : 0 < run → run ≡ name_run rest
@@ -56,7 +56,7 @@ IsStop p (NoToken at place) =
     × (place ≡ place_at p.text (bytes_before p))
 IsStop p NoMemory = ⊥
 
--- reading at old answers this and leads to new
+-- reading at old returns this and leads to new
 abbrev pub Reads : Position → Result (Option Lexeme) LexFault → Position → Type 0
 Reads old (Ok None) new = (old.rest ≡ []) × (new ≡ old)
 Reads old (Ok (Some t)) new = IsToken old t new

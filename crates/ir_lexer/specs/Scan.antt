@@ -1,4 +1,4 @@
--- What stands behind the longest front of each class, as the code finds it.
+-- What follows the longest prefix of each class, as the code finds it.
 use Rattle.std.specs.Prelude.{ℕ, ◌-◌, List, [], ◌∷◌, length, take_while, Option, Some, None, option_and_then, unwrap_or, Bool, ◌==◌, nat_lt, if◌then◌else◌}
 use Rattle.ir_lexer.specs.declared.token.Kind.{Kind}
 use Rattle.ir_lexer.specs.declared.token.Kind.TheVariants as kind
@@ -9,7 +9,7 @@ infixl 10 ◌>>=◌
 abbrev pub ◌>>=◌ : {A B : Type 0} → Option A → (A → Option B) → Option B
 o >>= f = option_and_then f o
 
--- how many bytes at the front can stand in a name
+-- the number of leading bytes that can be in a name
 abbrev pub name_run : List ℕ → ℕ
 name_run text = length (take_while is_name_byte text)
 
@@ -113,11 +113,12 @@ after_dots text = do
 unfoldable pub after_mark : List ℕ → Option (List ℕ)
 after_mark text = shorter (after_one is_mark_byte text) (after_dots text)
 
--- the longer of what was found and of a front of this class before a rest, the first where they are equal
+-- the length of what was found
 abbrev pub length_of : Option (Kind × ℕ) → ℕ
 length_of None = 0
 length_of (Some found) = found.1
 
+-- the longer of what was found and of a prefix of this class before a rest, the first if equal
 unfoldable pub longer : ℕ → Option (Kind × ℕ) → Kind → Option (List ℕ) → Option (Kind × ℕ)
 longer total found kind None = found
 longer total found kind (Some rest) = (if nat_lt (length_of found) (total - length rest) then Some (kind, total - length rest) else found)

@@ -4,7 +4,7 @@ ghost use Rattle.ir_lexer.specs.Tokens.{behind_blanks};
 
 use crate::bytes;
 
-/// What stands behind the blanks and comments at the front.
+/// What follows the leading blanks and comments.
 fn behind_blanks(text: &[u8]) -> &[u8]
     ensures value { result.now ≡ behind_blanks false text.now }
     ensures within { length result.now ≤ length text.now }
@@ -25,8 +25,8 @@ fn behind_blanks(text: &[u8]) -> &[u8]
     rest
 }
 
-/// How many bytes of blanks and comments stand at the front. A comment runs from `;` to the line
-/// feed or to the end.
+/// The number of leading bytes of blanks and comments. A comment runs from `;` to the line feed
+/// or to the end.
 #[tactic(auto, using(crate::proofs::Behind::blanks))]
 pub fn blanks_len(text: &[u8]) -> usize
     ensures value { drop result text.now ≡ behind_blanks false text.now }

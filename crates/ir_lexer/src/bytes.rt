@@ -2,7 +2,7 @@
 ghost use Rattle.std.specs.Prelude.{◌≡◌};
 ghost use Rattle.ir_lexer.specs.Bytes.{is_digit, begins_word, is_name_byte, begins_name, is_hexadecimal_digit, is_float_kind, is_sign, is_blank, is_mark_byte};
 
-/// A space, a tab, a line feed or a carriage return, which part tokens.
+/// A space, a tab, a line feed or a carriage return, which separate tokens.
 pub fn is_blank(b: u8) -> bool
     ensures { result ≡ is_blank b }
 {
@@ -23,14 +23,14 @@ pub fn begins_word(b: u8) -> bool
     65 <= b && b <= 90 || 97 <= b && b <= 122 || b == b'_' || b == b'.'
 }
 
-/// A byte of a name or a word behind its first: what begins one, a digit, `-` or `$`.
+/// A byte of a name or a word after its first: what begins one, a digit, `-` or `$`.
 pub fn is_name_byte(b: u8) -> bool
     ensures { result ≡ is_name_byte b }
 {
     begins_word(b) || is_digit(b) || b == b'-' || b == b'$'
 }
 
-/// What may stand behind the sign of a name: what begins a word, `-` or `$`.
+/// What may follow the sign of a name: what begins a word, `-` or `$`.
 pub fn begins_name(b: u8) -> bool
     ensures { result ≡ begins_name b }
 {
@@ -44,7 +44,7 @@ pub fn is_hexadecimal_digit(b: u8) -> bool
     is_digit(b) || 65 <= b && b <= 70 || 97 <= b && b <= 102
 }
 
-/// A letter that tells the format of a hexadecimal float behind `0x`.
+/// A letter that gives the format of a hexadecimal float after `0x`.
 pub fn is_float_kind(b: u8) -> bool
     ensures { result ≡ is_float_kind b }
 {

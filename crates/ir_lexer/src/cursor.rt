@@ -10,7 +10,7 @@ use crate::token::Token;
 use std::marker::Model;
 use text_places::Place;
 
-// The run of name bytes at the front. Where part of it is known to be left, it is not scanned again.
+// The leading run of name bytes, which is scanned only where it isn't known, as 0.
 fn run_at_front(text: &[u8], known: usize) -> usize
     requires { 0 < known → known ≡ name_run text.now }
     ensures { result ≡ name_run text.now }
@@ -25,7 +25,7 @@ pub struct Cursor<'a> {
     text: &'a [u8],
     rest: &'a [u8],
     place: Place,
-    // The run of name bytes at the front of the rest, or 0 where it isn't known.
+    // The leading run of name bytes of the rest, or 0 where it isn't known.
     run: usize,
 }
 

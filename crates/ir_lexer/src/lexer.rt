@@ -38,8 +38,8 @@ impl<'a> Lexer<'a> {
         }
     }
 
-    /// The next token, or `None` at the end. `NoToken` comes where no token begins; the lexer stays
-    /// there. `NoMemory` never comes.
+    /// The next token, or `None` at the end. `NoToken` is returned where no token begins; the lexer
+    /// stays there. `NoMemory` is never returned.
     pub fn next(&mut self) -> Result<Option<Token<'a>>, LexFault>
         ensures { IsNext self.old result self.new }
     {
@@ -68,7 +68,7 @@ impl<'a> Lexer<'a> {
         Ok(Sequence::from_vec(part))
     }
 
-    /// Passes the next `count` tokens. That many must be left.
+    /// Skips the next `count` tokens. That many must be left.
     pub fn skip(&mut self, count: usize)
         requires { IsOkAnd self.old (λ tokens. count ≤ length tokens) }
         ensures { (tokens : List Lexeme) → self.old ≡ Ok tokens → self.new ≡ Ok (drop count tokens) }

@@ -13,7 +13,7 @@ use thiserror::Error;
 /// Why a text has no tokens.
 #[derive(Clone, Copy, Debug, PartialEq, Eq, Error)]
 pub enum LexFault {
-    /// No token begins at this place: so many bytes stand before it.
+    /// No token begins at this position, which has this number of bytes before it.
     #[error("no token begins at byte {at}")]
     NoToken { at: usize, place: Place },
     /// There was no memory for the tokens.
@@ -40,10 +40,10 @@ impl<T: Drop> From<AllocFailed<T>> for LexFault {
 /// The tokens of a text: from the left the longest one each time, with blanks and comments between
 /// them left out. A comment runs from `;` to the line feed or to the end.
 ///
-/// `NoToken` comes exactly where no token begins at a place that is reached so. A string that isn't
-/// closed has no token at its quote, nor has a name that begins with one. `NoMemory` also comes
-/// for a text of 2^32 bytes or more: the table of its tokens keeps offsets in 32 bits. The time is
-/// linear in the text's length.
+/// `NoToken` is returned exactly where no token begins at a position that is reached so. A string
+/// that isn't closed has no token at its quote, nor has a name that begins with one. `NoMemory` is
+/// also returned for a text of 2^32 bytes or more: the table of its tokens keeps offsets in 32
+/// bits. The time is linear in the text's length.
 pub fn lex<'a>(alloc: Global, text: &'a [u8]) -> Result<Tokens<'a>, LexFault>
     ensures { Gives result (lexed text.now) }
 {

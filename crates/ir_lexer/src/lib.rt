@@ -1,9 +1,9 @@
-//! The tokens of a text of LLVM IR.
+//! The tokens of LLVM IR.
 //!
 //! It promises that [`lex`] and [`Lexer`] give the longest token each time, from the left, with its
 //! line and column, or the first position where no token begins, and nothing else; the class of a
-//! token is a property of its whole spelling. [`lex`] answers a table of all tokens, in 16 bytes
-//! each; a [`Lexer`] gives the same tokens one after another and keeps none of them. It stands on
+//! token is a property of its whole spelling. [`lex`] returns a table of all tokens, in 16 bytes
+//! each; a [`Lexer`] gives the same tokens one after another and keeps none of them. It uses
 //! `text_places` and `support`; the cut into items takes the table, and the reader the tokens of one
 //! item at a time.
 #![tactic(auto)]

@@ -1,4 +1,4 @@
-// Parts of spellings: what stands behind some bytes at the front.
+// Parts of spellings: what follows some leading bytes.
 ghost use Rattle.std.specs.Prelude.{◌≡◌, ◌==◌, ◌≤◌, length, take_while, IfSome};
 ghost use Rattle.std.specs.Option.{option_copied};
 ghost use Rattle.ir_lexer.specs.Bytes.{is_digit, begins_word, is_name_byte, begins_name, is_hexadecimal_digit, is_float_kind, is_sign, is_inside_quotes, is_mark_byte};
@@ -14,7 +14,7 @@ fn digit_run(text: &[u8]) -> usize
     text.iter().take_while(|b| bytes::is_digit(**b)).count()
 }
 
-/// Behind the digits at the front.
+/// After the leading digits.
 #[tactic(auto, using(crate::proofs::Behind::runs))]
 pub fn behind_digits(text: &[u8]) -> &[u8]
     ensures value { result.now ≡ behind is_digit text.now }
@@ -23,7 +23,7 @@ pub fn behind_digits(text: &[u8]) -> &[u8]
     text.split_at(digit_run(text)).1
 }
 
-/// How many bytes at the front can stand in a name.
+/// The number of leading bytes that can be in a name.
 pub fn name_run(text: &[u8]) -> usize
     ensures value { result ≡ name_run text.now }
     ensures within { result ≤ length text.now }
@@ -31,7 +31,7 @@ pub fn name_run(text: &[u8]) -> usize
     text.iter().take_while(|b| bytes::is_name_byte(**b)).count()
 }
 
-/// Behind the name bytes at the front.
+/// After the leading name bytes.
 #[tactic(auto, using(crate::proofs::Behind::runs))]
 pub fn behind_name_bytes(text: &[u8]) -> &[u8]
     ensures value { result.now ≡ behind is_name_byte text.now }
@@ -49,7 +49,7 @@ fn hexadecimal_run(text: &[u8]) -> usize
         .count()
 }
 
-/// Behind the hexadecimal digits at the front.
+/// After the leading hexadecimal digits.
 #[tactic(auto, using(crate::proofs::Behind::runs))]
 pub fn behind_hexadecimal_digits(text: &[u8]) -> &[u8]
     ensures value { result.now ≡ behind is_hexadecimal_digit text.now }
@@ -65,7 +65,7 @@ fn quoted_run(text: &[u8]) -> usize
     text.iter().take_while(|b| **b != b'"').count()
 }
 
-/// Behind the bytes at the front that are no `"`.
+/// After the leading bytes that are no `"`.
 #[tactic(auto, using(crate::proofs::Behind::runs))]
 pub fn behind_quoted_bytes(text: &[u8]) -> &[u8]
     ensures value { result.now ≡ behind is_inside_quotes text.now }
@@ -74,7 +74,7 @@ pub fn behind_quoted_bytes(text: &[u8]) -> &[u8]
     text.split_at(quoted_run(text)).1
 }
 
-/// Behind the first byte, if it is this one.
+/// After the first byte, if it is this one.
 pub fn after_byte(wanted: u8, text: &[u8]) -> Option<&[u8]>
     ensures value { option_copied result ≡ after_byte wanted text.now }
     ensures within { IfSome result (λ rest. length rest.now ≤ length text.now) }
@@ -85,7 +85,7 @@ pub fn after_byte(wanted: u8, text: &[u8]) -> Option<&[u8]>
     }
 }
 
-/// Behind the first byte, if it is a sign.
+/// After the first byte, if it is a sign.
 pub fn after_sign(text: &[u8]) -> Option<&[u8]>
     ensures value { option_copied result ≡ after_one is_sign text.now }
     ensures within { IfSome result (λ rest. length rest.now ≤ length text.now) }
@@ -96,7 +96,7 @@ pub fn after_sign(text: &[u8]) -> Option<&[u8]>
     }
 }
 
-/// Behind one or more digits.
+/// After one or more digits.
 #[tactic(auto, unfolding(crate::specs::Scan::after_digits))]
 pub fn after_digits(text: &[u8]) -> Option<&[u8]>
     ensures value { option_copied result ≡ after_digits text.now }
@@ -108,7 +108,7 @@ pub fn after_digits(text: &[u8]) -> Option<&[u8]>
     }
 }
 
-/// The shorter of two rests, which stands behind the longer front; the first where they are equal.
+/// The shorter of two rests, which follows the longer prefix; the first where they are equal.
 pub fn shorter<'a>(rest: Option<&'a [u8]>, other: Option<&'a [u8]>) -> Option<&'a [u8]>
     ensures { option_copied result ≡ shorter (option_copied rest.entry) (option_copied other.entry) }
 {

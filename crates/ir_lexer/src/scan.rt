@@ -1,7 +1,7 @@
-// The token at the front of a text. Each class has a function that says what stands behind its
-// longest front; the longest of them all is the token. Each looks at the bytes that it takes and at
-// no more than two behind them, but for a label, which needs the end of its run of name bytes: that
-// is handed in, so that the tokens of one run don't each look for it again.
+// The token at the start of a text. Each class has a function that returns what follows its
+// longest prefix; the longest of them all is the token. Each looks at the bytes that it takes and
+// at no more than two after them, except a label, which needs the end of its run of name bytes:
+// that is passed in, so that the tokens of one run don't each look for it again.
 ghost use Rattle.std.specs.Prelude.{◌≡◌, ◌≤◌, ◌==◌, ◌<◌, ℕ, length, Option, IfSome};
 ghost use Rattle.std.specs.Option.{option_copied, ForSome};
 ghost use Rattle.ir_lexer.specs.Bytes.{is_digit, is_sign, is_float_kind, is_hexadecimal_digit, is_mark_byte};
@@ -120,7 +120,7 @@ fn after_caret(text: &[u8]) -> Option<&[u8]>
     after_number(after_byte(b'^', text)?)
 }
 
-// The run is that of the name bytes at the front.
+// The run is that of the leading name bytes.
 #[tactic(auto, unfolding(crate::specs::Scan::after_plain_label), using(crate::proofs::Behind::runs))]
 fn after_plain_label(text: &[u8], run: usize) -> Option<&[u8]>
     requires { run ≡ scan.name_run text.now }
@@ -220,7 +220,7 @@ fn after_string(text: &[u8]) -> Option<&[u8]>
     }
 }
 
-// The longer of what was found and the front of this class before a rest.
+// The longer of what was found and the prefix of this class before a rest.
 #[tactic(auto, unfolding(crate::specs::Scan::longer))]
 fn longer(
     found: Option<(Kind, usize)>,
@@ -266,7 +266,7 @@ fn scanned(text: &[u8], run: usize) -> Option<(Kind, usize)>
     longer(found, Kind::String, text, after_string(text))
 }
 
-/// The longest token at the front, and its length. The run is that of the name bytes at the front.
+/// The longest token at the start, and its length. The run is that of the leading name bytes.
 pub fn first_token(text: &[u8], run: usize) -> Option<(Kind, usize)>
     requires { run ≡ scan.name_run text.now }
     ensures value { result ≡ longest_token text.now }

@@ -11,7 +11,7 @@ use text_places::Place;
 pub enum Kind {
     /// A letter, `_` or `.`, and then name bytes.
     Word,
-    /// Decimal digits, behind a minus or not.
+    /// Decimal digits, after an optional minus.
     Number,
     /// `%` and a name.
     Local,
@@ -27,11 +27,11 @@ pub enum Kind {
     Caret,
     /// Name bytes, or a quoted string, and `:`.
     Label,
-    /// A sign or none, digits, `.`, digits, and maybe `e`, a sign and digits.
+    /// An optional sign, digits, `.`, digits, and optionally `e`, a sign and digits.
     Float,
-    /// `0x`, a letter of `K L M H R` or none, and hexadecimal digits.
+    /// `0x`, an optional letter of `K L M H R`, and hexadecimal digits.
     Hexadecimal,
-    /// A quoted string, behind `c` or not.
+    /// A quoted string, after an optional `c`.
     String,
     /// A mark of one byte, or `...`.
     Mark,
@@ -56,7 +56,7 @@ impl<'a> Model for Token<'a> {
 }
 
 impl<'a> Token<'a> {
-    /// The token of a class and these bytes, which begin at a place of the text.
+    /// The token of a class and these bytes, which begin at this offset and position in the text.
     pub fn new(kind: Kind, text: &'a [u8], at: usize, place: Place) -> Self
         ensures kind { result.kind ≡ kind }
         ensures text { result.text ≡ text.now }
@@ -85,7 +85,7 @@ impl<'a> Token<'a> {
         self.text
     }
 
-    /// Where it begins: how many bytes of the text stand before it.
+    /// Where it begins: the number of bytes of the text before it.
     pub fn at(&self) -> usize
         ensures { result ≡ self.now.at }
     {

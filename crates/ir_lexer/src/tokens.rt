@@ -28,7 +28,7 @@ impl<'a> Model for Tokens<'a> {
 impl<'a> Tokens<'a> {
     ghost use Rattle.ir_lexer.specs.Marks.{IsMark, lexeme_of};
 
-    /// The tokens of a text for which these marks stand. It takes no memory.
+    /// The tokens of a text that these marks denote. It takes no memory.
     pub(crate) fn new(text: &'a [u8], marks: Vec<Mark>) -> Tokens<'a>
         requires { All (IsMark text.now) marks.items }
         ensures { result ≡ map (lexeme_of text.now) marks.items }

@@ -1,7 +1,7 @@
 //! How names are printed: as the LLVM assembly reader takes them, quoted where they have to be.
 //!
 //! It promises one text for each name (`specs/Naming.antt`; LLVM Language Reference, "Identifiers").
-//! Reports, proof files and printed modules write names by it. It stands on `ir_tree`.
+//! Reports, proof files and printed modules write names with it. It uses `ir_tree`.
 #![tactic(auto)]
 
 mod naming;

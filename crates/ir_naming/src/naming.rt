@@ -8,7 +8,7 @@ use support::NoMemory;
 
 /// What is printed of a name after its sign: a number's digits or a word as they are, and any other
 /// name in quotes (LLVM Language Reference, "Identifiers"). Between quotes a byte outside 0x20 to 0x7e,
-/// a quote and a backslash stand as a backslash and two hexadecimal digits in upper case.
+/// a quote and a backslash are written as a backslash and two hexadecimal digits in upper case.
 pub fn name_text(alloc: Global, name: &Name) -> Result<Vec<u8>, NoMemory>
     ensures { IfOk result (λ text. text.items ≡ text_of_name name.now) }
 {

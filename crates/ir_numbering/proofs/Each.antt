@@ -18,7 +18,7 @@ front-cons {B} front y (so ys names) = ap (λ (zs : List B). so zs names) (sym (
 pub each-more : {A B : Type 0} (one : List Name → A → Numbered B) (t next : List Name) (x : A) (xs ys : List A) (out : List B) (y : B) (whole : Numbered (List B)) → ys ≡ x ∷ xs → one t x ≡ so y next → whole ≡ in_front out (each_in one t ys) → whole ≡ in_front (out ++ y ∷ []) (each_in one next xs)
 each-more one t next x xs ys out y whole e is kept = kept ∙ ap (λ zs. in_front out (each_in one t zs)) e ∙ rw is (front-cons out y (each_in one next xs))
 
--- ---- items whose parts go behind others
+-- ---- items whose parts go after others
 
 pub flat-more : {A B : Type 0} (f : A → List B) (xs : List A) (i : ℕ) (x : A) (before after whole : List B)
     → i < length xs → x ≡ get_or xs i x → after ≡ before ++ f x → before ++ flat_map f (drop i xs) ≡ whole → after ++ flat_map f (drop (i + 1) xs) ≡ whole

@@ -418,7 +418,7 @@ block_with label phis insts terminator = record { label = label; phis = phis; in
 abbrev block_sites : Option IrType → Block → List Site
 block_sites header b = Defines None b.label ∷ (flat_map phi_sites b.phis ++ (flat_map inst_sites b.insts ++ terminator_sites header b.terminator))
 
--- the label stands somewhere
+-- the label is at this position
 block-part : (header : Option IrType) (at : Place) (names : List Name) (label : Name) (w : WrittenBody) (x : Block) (after : List Name) → block_in names label w ≡ so x after → IsPart names after (block_sites header x) (mention_at at label ∷ body_mentions w)
 unfolding block_in body_mentions
 block-part header at names label w x after e =

@@ -1,4 +1,4 @@
--- What numbering a part may answer.
+-- What numbering a part may return.
 use Rattle.std.specs.Prelude.{◌≡◌, List, Result, Ok, Err}
 use Rattle.support.specs.declared.no_memory.NoMemory.{NoMemory}
 use Rattle.ir_tree.specs.declared.name.Name.{Name}

@@ -10,11 +10,11 @@ use Rattle.ir_numbering.specs.NextNumber.{AreDecimal, IsNextName}
 use Rattle.ir_numbering.specs.Numbering.{numbered}
 use Rattle.ir_numbering.specs.Mentions.{Mention, names_written}
 
--- a function that was read has a place for each site
+-- a function that was read has a position for each site
 abbrev pub APlaceForEachSite : Type 0
 APlaceForEachSite = (w : WrittenFunction) → length (numbered w).places ≡ length (sites (numbered w))
 
--- and each of its names stands in its table
+-- and each of its names is in its table
 abbrev pub EachNameIsNumbered : Type 0
 EachNameIsNumbered = (w : WrittenFunction) → AreNumbered (numbered w)
 
@@ -27,7 +27,7 @@ name_at names (Uses type name) = slice_get names name
 name_at names (Enters name) = slice_get names name
 name_at names (Written fits) = None
 
--- the places of the sites are those of what is written
+-- the positions of the sites are those of what is written
 abbrev pub PlacesAreWritten : Type 0
 PlacesAreWritten = (w : WrittenFunction) → map (λ (m : Mention). m.at) (names_written w) ≡ (numbered w).places
 
@@ -37,6 +37,6 @@ NamesAreWritten = (w : WrittenFunction) → map (name_at (numbered w).names) (si
 
 -- ---- the name of what is written without one
 
--- it is a decimal number, the next one behind those before it, where these are decimal
+-- it is a decimal number, the next one after those before it, where these are decimal
 abbrev pub NextNameIsNext : Type 0
 NextNameIsNext = (names : List Name) → AreDecimal names → IsNextName names (next_name names)

@@ -1,4 +1,4 @@
--- The names that are written in a function, each with its place, in text order.
+-- The names that are written in a function, each with its position, in text order.
 use Rattle.std.specs.Prelude.{List, [], ◌∷◌, ◌++◌, flat_map, Option, Some, None}
 use Rattle.text_places.specs.declared.place.Place.{Place}
 use Rattle.ir_tree.specs.declared.name.Name.{Name}
@@ -27,7 +27,7 @@ use Rattle.ir_numbering.specs.declared.numbering.NamedParameter.{NamedParameter}
 use Rattle.ir_numbering.specs.Places.{place_or}
 use Rattle.ir_numbering.specs.Numbering.{named_behind, entry_name}
 
--- a place, and the local name that stands there; None for a type, a literal or the function's name
+-- a position, and the local name that is there; None for a type, a literal or the function's name
 pub record Mention : Type 0 where
   pub at : Place
   pub name : Option Name
@@ -38,7 +38,7 @@ nameless place = record { at = place; name = None }
 abbrev pub mention : WrittenName → Mention
 mention n = record { at = n.at; name = Some n.name }
 
--- a name that stands here, or would if it were written
+-- a name that is here, or would be if it were written
 abbrev pub mention_at : Place → Name → Mention
 mention_at place n = record { at = place; name = Some n }
 
@@ -60,7 +60,7 @@ access_mentions (access.Alloca into number type) = mention into ∷ nameless typ
 access_mentions (access.Load into type from) = mention into ∷ nameless type.at ∷ typed_mentions from
 access_mentions (access.Store value to) = typed_mentions value ++ typed_mentions to
 
--- the type, the operand, and its place again
+-- the type, the operand, and its position again
 abbrev pub index_mentions : WrittenIndex → List Mention
 index_mentions i = nameless i.of_type.at ∷ operand_mention i.operand ∷ nameless i.operand.at ∷ []
 
@@ -101,17 +101,17 @@ terminator_mentions end.Unreachable = []
 unfoldable pub body_mentions : WrittenBody → List Mention
 body_mentions b = flat_map phi_mentions b.phis ++ (flat_map inst_mentions b.insts ++ terminator_mentions b.terminator)
 
--- the label, and what stands behind it
+-- the label, and what follows it
 abbrev pub block_mentions : WrittenBlock → List Mention
 block_mentions b = mention b.label ∷ body_mentions b.body
 
--- for each parameter its type, and its name, which stands at the type where it isn't written
+-- for each parameter its type, and its name, which is at the type where it isn't written
 abbrev pub parameter_mentions : List WrittenParameter → List NamedParameter → List Mention
 parameter_mentions (p ∷ ps) (named ∷ others) = nameless p.of_type.at ∷ mention_at (place_or p.name p.of_type.at) named.name ∷ parameter_mentions ps others
 parameter_mentions _ _ = []
 
--- The return type, the function's name, its parameters, the entry's label, which stands at the opening mark where none is
--- written, and what stands in its blocks.
+-- The return type, the function's name, its parameters, the entry's label, which is at the opening
+-- mark where none is written, and what is in its blocks.
 unfoldable pub names_written : WrittenFunction → List Mention
 names_written w =
     nameless w.returns.at ∷ nameless w.name.at ∷ (parameter_mentions w.parameters (named_behind [] w.parameters)

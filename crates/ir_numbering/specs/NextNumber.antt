@@ -9,7 +9,7 @@ abbrev pub AreDigits : List ℕ → Type 0
 AreDigits [] = Unit {0}
 AreDigits (d ∷ ds) = (48 ≤ d) × (d ≤ 57) × AreDigits ds
 
--- digits, with no zero before others
+-- digits without leading zeros
 abbrev pub IsDecimal : List ℕ → Type 0
 IsDecimal [] = ⊥
 IsDecimal (d ∷ ds) = AreDigits (d ∷ ds) × ((48 < d) ⊎ (ds ≡ []))

@@ -1,4 +1,5 @@
--- A function whose names go by number: each name's number is its place in the order in which names are first mentioned, whether it is defined there or not.
+-- A function whose names go by number: each name's number is its index in the order in which names
+-- are first mentioned, whether it is defined there or not.
 use Rattle.std.specs.Prelude.{ℕ, List, [], ◌∷◌, ◌++◌, map, Bool, Option, Some, None}
 use Rattle.tv_num.specs.declared.Width.{Width}
 use Rattle.ir_tree.specs.Names.{with_name, number_of}
@@ -56,7 +57,7 @@ name_or (Some written_name) other = written_name.name
 abbrev pub names_of : List NamedParameter → List Name
 names_of ps = map (λ (p : NamedParameter). p.name) ps
 
--- a parameter behind others
+-- a parameter after others
 abbrev pub named : List NamedParameter → WrittenParameter → NamedParameter
 named before p = record { of_type = p.of_type.of_type; no_undef = p.no_undef; non_null = p.non_null; name = name_or p.name (next_name (names_of before)) }
 
@@ -74,7 +75,7 @@ infixl 10 ◌>>=◌
 abbrev pub ◌>>=◌ : {A B : Type 0} → Numbered A → (A → List Name → Numbered B) → Numbered B
 so a names >>= k = k a names
 
--- the number of a name behind those
+-- the number of a name, a new one after those
 abbrev pub number_in : List Name → Name → Numbered ℕ
 number_in names name = so (number_of names name) (with_name names name)
 
@@ -184,7 +185,7 @@ terminator_in names (end.CondBranch bit condition if_true if_false) = cond_branc
 terminator_in names (end.Switch type value default cases) = switch_in names type.width value.value default.name cases
 terminator_in names end.Unreachable = so Unreachable names
 
--- what stands behind a label
+-- what follows a label
 unfoldable pub block_in : List Name → Name → WrittenBody → Numbered Block
 block_in names label b =
     number_in names label >>= λ number before. each_in phi_in before b.phis >>= λ phis between. each_in inst_in between b.insts >>= λ insts behind. terminator_in behind b.terminator >>= λ last after.
@@ -193,11 +194,11 @@ block_in names label b =
 abbrev pub labelled_in : List Name → WrittenBlock → Numbered Block
 labelled_in names b = block_in names b.label.name b.body
 
--- this block, and the others behind it
+-- this block, and the others after it
 abbrev pub others_in : Block → List Name → List WrittenBlock → Numbered (List Block)
 others_in first names others = each_in labelled_in names others >>= λ more_blocks after. so (first ∷ more_blocks) after
 
--- the entry, behind its label, and the other blocks
+-- the entry, after its label, and the other blocks
 unfoldable pub blocks_in : List Name → Name → WrittenBody → List WrittenBlock → Numbered (List Block)
 blocks_in names label entry others = block_in names label entry >>= λ first before. others_in first before others
 

@@ -1,4 +1,4 @@
--- Where the types, names, literals and labels of a function stand, in text order.
+-- Where the types, names, literals and labels of a function are, in text order.
 use Rattle.std.specs.Prelude.{List, [], ◌∷◌, ◌++◌, flat_map, Option, Some, None}
 use Rattle.text_places.specs.declared.place.Place.{Place}
 use Rattle.ir_grammar.specs.declared.written.WrittenName.{WrittenName}
@@ -20,7 +20,7 @@ use Rattle.ir_grammar.specs.declared.written.WrittenBody.{WrittenBody}
 use Rattle.ir_grammar.specs.declared.written.WrittenBlock.{WrittenBlock}
 use Rattle.ir_grammar.specs.declared.written.WrittenFunction.{WrittenFunction}
 
--- where a name stands, and where it would if it isn't written
+-- where a name is, and where it would be if it isn't written
 abbrev pub place_or : Option WrittenName → Place → Place
 place_or None other = other
 place_or (Some name) other = name.at
@@ -33,7 +33,8 @@ access_places (access.Alloca into number type) = into.at ∷ type.at ∷ []
 access_places (access.Load into type from) = into.at ∷ type.at ∷ typed_places from
 access_places (access.Store value to) = typed_places value ++ typed_places to
 
--- the type, the operand, and again the operand, which is where an index that goes into no array is told
+-- the type, the operand, and again the operand, which is where an index that goes into no array is
+-- reported
 abbrev pub index_places : WrittenIndex → List Place
 index_places i = i.of_type.at ∷ i.operand.at ∷ i.operand.at ∷ []
 
@@ -74,14 +75,15 @@ terminator_places end.Unreachable = []
 unfoldable pub body_places : WrittenBody → List Place
 body_places b = flat_map phi_places b.phis ++ (flat_map inst_places b.insts ++ terminator_places b.terminator)
 
--- the label, and what stands behind it
+-- the label, and what follows it
 abbrev pub block_places : WrittenBlock → List Place
 block_places b = b.label.at ∷ body_places b.body
 
--- a name that isn't written stands at the type
+-- a name that isn't written is at the type
 abbrev pub parameter_places : WrittenParameter → List Place
 parameter_places p = p.of_type.at ∷ place_or p.name p.of_type.at ∷ []
 
--- the return type, the function's name, its parameters, the entry's label, which stands at the opening mark where none is written, and what stands in its blocks
+-- the return type, the function's name, its parameters, the entry's label, which is at the opening
+-- mark where none is written, and what is in its blocks
 unfoldable pub places_of : WrittenFunction → List Place
 places_of w = w.returns.at ∷ w.name.at ∷ (flat_map parameter_places w.parameters ++ (place_or w.label w.brace ∷ (body_places w.entry ++ flat_map block_places w.others)))

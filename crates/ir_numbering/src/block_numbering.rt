@@ -218,7 +218,7 @@ fn block(
     })
 }
 
-// The blocks behind the entry.
+// The blocks after the entry.
 fn blocks_behind(
     alloc: Global,
     names: &mut Names,
@@ -235,7 +235,7 @@ fn blocks_behind(
     Ok(Sequence::from_vec(numbered))
 }
 
-/// The blocks of a function, the entry behind this label.
+/// The blocks of a function, the entry after this label.
 #[tactic(auto, unfolding(crate::specs::Numbering::blocks_in))]
 pub fn blocks(
     alloc: Global,

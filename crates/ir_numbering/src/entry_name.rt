@@ -90,7 +90,7 @@ fn one_more(alloc: Global, digits: &[u8]) -> Result<Vec<u8>, NoMemory>
     Ok(more)
 }
 
-/// The name of what stands unnamed behind these parameters, another one or the entry: one more than
+/// The name of what is unnamed after these parameters, another one or the entry: one more than
 /// the greatest number among their names, or 0.
 pub fn next_name(alloc: Global, parameters: &[NamedParameter]) -> Result<Name, NoMemory>
     ensures { IfOk result (λ name. name ≡ next_name (names_of parameters.now)) }

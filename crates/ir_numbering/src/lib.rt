@@ -2,9 +2,9 @@
 //!
 //! It promises that [`numbered`] makes the one function that is written: each name has the number of
 //! its first appearance, one that is left out is the next number (LLVM Language Reference,
-//! "Identifiers"), and each site has its place. `specs/Numbering.antt` says which function that is,
-//! `specs/Places.antt` where its sites stand. It stands on `ir_grammar` for what is written and on
-//! `ir_tree` for functions; the reader stands on it.
+//! "Identifiers"), and each site has its position. `specs/Numbering.antt` says which function that
+//! is, `specs/Places.antt` where its sites are. It uses `ir_grammar` for what is written and
+//! `ir_tree` for functions; the reader uses it.
 #![tactic(auto)]
 
 mod block_numbering;

@@ -1,4 +1,4 @@
-// Where the types, names, literals and labels of a function stand.
+// Where the types, names, literals and labels of a function are.
 ghost use Rattle.std.specs.Prelude.{◌≡◌, ◌++◌, ◌∷◌, [], flat_map, IfOk, OnOk};
 ghost use Rattle.ir_numbering.specs.Places as spec;
 ghost use Rattle.ir_numbering.specs.Places.{typed_places, access_places, index_places, inst_places, parameter_places, returned_places, entry_places, phi_places, case_places, terminator_places, body_places, block_places};
@@ -12,7 +12,7 @@ use std::alloc::Global;
 use support::{NoMemory, Sequence};
 use text_places::Place;
 
-// The place of a name, or the other where it isn't written.
+// The position of a name, or the other where it isn't written.
 fn place_or(name: &Option<WrittenName>, other: Place) -> Place
     ensures { result ≡ spec.place_or name.now other }
 {
@@ -318,7 +318,7 @@ fn add_blocks(places: &mut Sequence<Place>, blocks: &[WrittenBlock]) -> Result<(
     Ok(())
 }
 
-/// The places of a function's types, names, literals and labels, in text order.
+/// The positions of a function's types, names, literals and labels, in text order.
 #[tactic(auto, unfolding(crate::specs::Places::places_of))]
 pub fn places_of(alloc: Global, written: &WrittenFunction) -> Result<Sequence<Place>, NoMemory>
     ensures { IfOk result (λ places. places ≡ spec.places_of written.now) }

@@ -15,7 +15,7 @@ pub text_of-flat_map : {X : Type 0} (f : X → List Piece) (xs : List X) → tex
 text_of-flat_map f [] = refl
 text_of-flat_map f (x ∷ xs) = text_of-append (f x) (flat_map f xs) ∙ ap (λ t. text_of (f x) ++ t) (text_of-flat_map f xs)
 
--- what stands before an element, of one array
+-- what comes before an element, of one array
 abbrev pub array_text : ℕ → List ℕ
 array_text n = text_of (array_pieces (n ∷ []))
 
@@ -54,7 +54,7 @@ pub two_parts : (before behind : List Piece) (old mid new : List ℕ) → mid �
 two_parts before behind old mid new h k =
     k ∙ ap (λ t. t ++ text_of behind) h ∙ append_assoc old (text_of before) (text_of behind) ∙ ap (λ t. old ++ t) (sym (text_of-append before behind))
 
--- a word and two flags, before what stands behind them
+-- a word and two flags, before what follows them
 pub regrouped : (result flag other object more : List Piece) (w : Piece) → result ++ w ∷ (flag ++ other ++ object ++ more) ≡ (result ++ w ∷ (flag ++ other)) ++ (object ++ more)
 regrouped result flag other object more w = simp append_assoc
 

@@ -25,7 +25,7 @@ use Rattle.ir_printer.specs.Pieces.{none, space, indented, word, mark, number, c
 
 -- ---- words and flags
 
--- a word, where it is said
+-- an optional word
 abbrev pub word_if : Bool → List ℕ → List Piece
 word_if true text = word space text ∷ []
 word_if false text = []
@@ -74,7 +74,7 @@ result_pieces names into = local indented (name_in names into) ∷ mark space (c
 abbrev pub align_pieces : ℕ → List Piece
 align_pieces align = comma ∷ word space (codes "align") ∷ number space align ∷ []
 
--- two operands behind their type
+-- two operands after their type
 abbrev pub operand_pieces : List Name → Width → Operand → Operand → List Piece
 operand_pieces names width left right = word space (width_text width) ∷ operand_piece names left ∷ comma ∷ operand_piece names right ∷ []
 

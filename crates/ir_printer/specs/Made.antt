@@ -26,12 +26,12 @@ use Rattle.ir_tree.specs.declared.module.Module.{Module}
 abbrev pub next_state : ℕ → ℕ
 next_state x = (x * 1103515245 + 12345) % 2 ^ 31
 
--- behind so many draws
+-- after this number of draws
 abbrev pub state_behind : ℕ → ℕ → ℕ
 state_behind zero x = x
 state_behind (suc n) x = state_behind n (next_state x)
 
--- a number below n, of the state behind its draw
+-- a number below n, of the state after its draw
 abbrev pub drawn : ℕ → ℕ → ℕ
 drawn n x = x / 65536 % n
 
@@ -50,7 +50,7 @@ made_op n =
 abbrev pub eight : Width
 eight = record { bits = 8; at_least_1 = lit≤ tt; at_most_64 = lit≤ tt }
 
--- the number of the name of a value: two parameters, and, behind the entry's label, results
+-- the number of the name of a value: two parameters, and, after the entry's label, results
 abbrev pub value_name : ℕ → ℕ
 value_name n = (if nat_lt n 2 then n else n + 1)
 
@@ -66,14 +66,14 @@ abbrev pub made_inst : Bool → ℕ → ℕ → Inst
 made_inst in_target i x =
     made_binary (in_target && drawn 4 (state_behind 4 x) == 3) i (drawn 5 (state_behind 1 x)) (drawn (i + 2) (state_behind 2 x)) (drawn (i + 2) (state_behind 3 x))
 
--- so many instructions, the first of them with this number
+-- n instructions, the first with number i
 abbrev pub made_insts : Bool → ℕ → ℕ → ℕ → List Inst
 made_insts in_target zero i x = []
 made_insts in_target (suc n) i x = made_inst in_target i x ∷ made_insts in_target n (i + 1) (state_behind 4 x)
 
 -- ---- functions
 
--- the names of so many results, from this number on
+-- the names of n results, from number i on
 abbrev pub result_names : ℕ → ℕ → List Name
 result_names zero i = []
 result_names (suc n) i = name.Word (codes "r" ++ decimal i) ∷ result_names n (i + 1)
@@ -108,7 +108,7 @@ made_function in_target insts k x = record {
 abbrev pub made_entry : Bool → ℕ → ℕ → ℕ → Entry
 made_entry in_target insts k x = record { name = function_name k; function = Ok (made_function in_target insts k x) }
 
--- so many functions, the first of them with this number, from a state
+-- n functions, the first with number k, from a state
 abbrev pub made_entries : Bool → ℕ → ℕ → ℕ → ℕ → List Entry
 made_entries in_target insts zero k x = []
 made_entries in_target insts (suc n) k x = made_entry in_target insts k x ∷ made_entries in_target insts n (k + 1) (state_behind (4 * insts) x)

@@ -26,7 +26,7 @@ abbrev pub return_text : Option IrType → List ℕ
 return_text None = codes "void"
 return_text (Some type) = type_text type
 
--- a parameter, its type behind these blanks
+-- a parameter, its type after these blanks
 abbrev pub parameter_pieces : List Name → List ℕ → Parameter → List Piece
 parameter_pieces names gap p =
     word gap (type_text p.of_type) ∷ (word_if p.no_undef (codes "noundef") ++ (word_if p.non_null (codes "nonnull") ++ local space (name_in names p.name) ∷ []))
@@ -36,7 +36,7 @@ abbrev pub parameters_pieces : List Name → List Parameter → List Piece
 parameters_pieces names [] = []
 parameters_pieces names (p ∷ ps) = parameter_pieces names none p ++ flat_map (λ (other : Parameter). comma ∷ parameter_pieces names space other) ps
 
--- what stands before the parameters, `define` behind these blanks
+-- what comes before the parameters, `define` after these blanks
 abbrev pub header_pieces : List ℕ → Function → List Piece
 header_pieces gap f =
     word gap (codes "define") ∷ (word_if f.returns_no_undef (codes "noundef") ++ word space (return_text f.returns) ∷ global space f.name ∷ mark none (codes "(") ∷ [])
@@ -61,7 +61,7 @@ abbrev pub gap_behind : Bool → List ℕ
 gap_behind false = none
 gap_behind true = 10 ∷ 10 ∷ []
 
--- functions one after another; whether one stands before the first of them
+-- functions one after another; whether one comes before the first of them
 abbrev pub functions_pieces : Bool → List Function → List Piece
 functions_pieces behind [] = []
 functions_pieces behind (f ∷ fs) = function_pieces (gap_behind behind) f ++ functions_pieces true fs

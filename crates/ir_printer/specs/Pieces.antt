@@ -26,7 +26,7 @@ space = 32 ∷ []
 abbrev pub line : List ℕ
 line = 10 ∷ []
 
--- a new line, of which two spaces begin what stands there
+-- a new line, indented by two spaces
 abbrev pub indented : List ℕ
 indented = 10 ∷ 32 ∷ 32 ∷ []
 
@@ -78,7 +78,7 @@ abbrev pub array_pieces : List ℕ → List Piece
 array_pieces [] = []
 array_pieces (n ∷ lengths) = mark space (codes "[") ∷ number none n ∷ word space (codes "x") ∷ array_pieces lengths
 
--- the closing marks of so many arrays
+-- the closing marks of these arrays
 abbrev pub closing_pieces : List ℕ → List Piece
 closing_pieces [] = []
 closing_pieces (n ∷ lengths) = mark none (codes "]") ∷ closing_pieces lengths

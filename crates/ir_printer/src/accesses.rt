@@ -114,7 +114,7 @@ pub fn push_store(
     push_align(out, align)
 }
 
-/// What stands after the flags of a `getelementptr`.
+/// What follows the flags of a `getelementptr`.
 pub fn push_gep(
     out: &mut Vec<u8>,
     names: &Names,

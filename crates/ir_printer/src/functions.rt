@@ -120,7 +120,7 @@ fn push_return_type(out: &mut Vec<u8>, returns: Option<IrType>) -> Result<(), No
     }
 }
 
-/// What stands before the parameters, `define` after these blanks.
+/// What comes before the parameters, `define` after these blanks.
 fn push_header(out: &mut Vec<u8>, gap: &[u8], f: &Function) -> Result<(), NoMemory>
     ensures { OnOk result (out.new.items ≡ out.old.items ++ text_of (header_pieces gap.now f.now)) }
 {

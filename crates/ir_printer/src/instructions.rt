@@ -15,7 +15,7 @@ use ir_tree::{Cast, Flags, Inst, Names, Op, Operand, Predicate, TypedOperand};
 use support::NoMemory;
 use tv_num::Width;
 
-/// A word where it is said.
+/// An optional word.
 pub fn push_word_if(out: &mut Vec<u8>, is_said: bool, text: &[u8]) -> Result<(), NoMemory>
     ensures { OnOk result (out.new.items ≡ out.old.items ++ text_of (word_if is_said text.now)) }
 {
@@ -40,7 +40,7 @@ fn push_flagged(out: &mut Vec<u8>, text: &[u8], flags: Flags) -> Result<(), NoMe
     push_flags(out, flags)
 }
 
-/// A word, and another where it is said.
+/// A word, and an optional other one.
 fn push_word_and(
     out: &mut Vec<u8>,
     text: &[u8],

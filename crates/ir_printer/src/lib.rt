@@ -2,8 +2,8 @@
 //!
 //! It promises that [`print`] writes the one text of a module (`specs/ModuleText.antt`): each function
 //! with its blocks, each instruction on a line, and that [`make`] is the pair of its seed
-//! (`specs/Made.antt`). That a printed module reads back is the law of `read_back`. It stands on
-//! `ir_tree` for modules, on `ir_naming` for names and on `token_text` for what a text is made of.
+//! (`specs/Made.antt`). That a printed module reads back is the law of `read_back`. It uses
+//! `ir_tree` for modules, `ir_naming` for names and `token_text` for what a text is made of.
 #![tactic(auto)]
 
 mod accesses;

@@ -44,7 +44,7 @@ writes-fault ts rest left (stop.Unfit why) s l =
 writes-fault ts rest left stop.PastLimit s l = past left (subst (λ (us : List Lexeme). StopsPast define ts us) (sym l) s)
 writes-fault ts rest left stop.NoMemory s l = tt
 
--- ---- the checks of a function, each behind those before it
+-- ---- the checks of a function, each after those before it
 
 pub names-tested : (f : Function) (fault : CheckFault) → IfRefused (AreNamesToldAt f) fault → Tests f (Err fault)
 names-tested f (fault.Refused refused) (inl T) = (NameTwice, record { site = T.site; tested = T.first; told = T.told })

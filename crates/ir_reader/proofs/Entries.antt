@@ -1,4 +1,4 @@
--- The entries of a module, as a loop makes them, and where its defines stand.
+-- The entries of a module, as a loop makes them, and where its defines are.
 use Rattle.std.proofs.Common.{◌≡◌, ℕ, zero, suc, ◌+◌, ◌-◌, ◌<◌, ◌≤◌, List, [], ◌∷◌, ◌++◌, length, get_or, drop, Option, Some, None, Result, Ok, Err, ◌∙◌, refl, sym, ap, subst, append_assoc, append-nil, arith}
 use Rattle.std.specs.Prelude.{slice_get, IsOkAnd, min}
 use Rattle.std.proofs.lemmas.List.{drop-drop}
@@ -13,7 +13,7 @@ use Rattle.ir_tree.specs.declared.module.Entry.{Entry}
 use Rattle.ir_reader.specs.Answer.{Ascend}
 use Rattle.ir_reader.specs.Module.{IsEntry, AreEntries}
 
--- ---- the defines stand one behind the other
+-- ---- the defines follow one another
 
 ascend-later : (from end later : ℕ) (defines : List Define) → Ascend from end defines → end ≤ later → Ascend from later defines
 ascend-later from end later [] A h = omega (arith, A, h)
@@ -45,7 +45,7 @@ ascend-end from end (d ∷ defines) (a, b, A) = let rest = ascend-end (d.last + 
 
 -- ---- the entries so far
 
--- The lexer has passed these many tokens. The other defines stand behind them, and what these lack makes the entries of all.
+-- The lexer has passed this number of tokens. The other defines follow, whose entries after these make those of all.
 pub record SoFar (tokens : List Lexeme) (all left : List Define) (done : ℕ) (lexer : Result (List Lexeme) Spot) (entries : List Entry) : Type 0 where
   pub passed : lexer ≡ Ok (drop done tokens)
   pub ascend : Ascend done (length tokens) left
@@ -62,7 +62,7 @@ so-far-more tokens all left more done d old new entries pushed entry e p E n S =
     let more_so : SoFar tokens all more (d.last + 1) new (entries ++ entry ∷ []) = record { passed = n; ascend = T.ascend.2; goes_on = λ others F. subst (λ (es : List Entry). AreEntries tokens all es) (sym (append_assoc entries (entry ∷ []) others)) (T.goes_on (entry ∷ others) (E, F)) } in
     subst (λ (es : List Entry). SoFar tokens all more (d.last + 1) new es) (sym p) more_so
 
--- where the next define stands
+-- where the next define is
 pub record IsAhead (tokens : List Lexeme) (done : ℕ) (d : Define) : Type 0 where
   pub behind : done ≤ d.first
   pub spans : d.first ≤ d.last + 1
@@ -92,13 +92,13 @@ pub ok-and : (P : List Lexeme → Type 0) (r : Result (List Lexeme) Spot) → Is
 ok-and P (Ok ts) p = (ts, refl, p)
 ok-and P (Err spot) p = absurd p
 
--- it has passed all up to a place
+-- it has passed all up to an index
 pub passed : (tokens : List Lexeme) (done first : ℕ) (old new : Result (List Lexeme) Spot) → done ≤ first → old ≡ Ok (drop done tokens) → ((ts : List Lexeme) → old ≡ Ok ts → new ≡ Ok (drop (first - done) ts)) → new ≡ Ok (drop first tokens)
 passed tokens done first old new h e s =
     let n : done + (first - done) ≡ first = omega (arith, h) in
     s (drop done tokens) e ∙ ap (λ (ts : List Lexeme). Ok ts) (drop-drop (first - done) done tokens ∙ ap (λ (k : ℕ). drop k tokens) n)
 
--- enough is left behind it
+-- enough is left after it
 pub enough : (done first end : ℕ) (old new : Result (List Lexeme) Spot) → done ≤ first → first ≤ end → IsOkAnd old (λ ts. end ≤ done + length ts) → ((ts : List Lexeme) → old ≡ Ok ts → new ≡ Ok (drop (first - done) ts)) → IsOkAnd new (λ ts. end - first ≤ length ts)
 enough done first end old new h k p s =
     let o = ok-and (λ ts. end ≤ done + length ts) old p in
@@ -115,7 +115,7 @@ drop-some (u ∷ ts) (suc i) t rest e = drop-some ts i t rest e
 ok-same : (xs ys : List Lexeme) (r : Result (List Lexeme) Spot) → r ≡ Ok xs → r ≡ Ok ys → xs ≡ ys
 ok-same xs ys r e f = cc (e, f)
 
--- its next token is the one at that place
+-- its next token is the one at that index
 next-some : (tokens : List Lexeme) (i : ℕ) (t : Lexeme) (old new : Result (List Lexeme) Spot) → old ≡ Ok (drop i tokens) → old ≡ with_front (t ∷ []) new → slice_get tokens i ≡ Some t
 next-some tokens i t old (Ok rest) e n = drop-some tokens i t rest (ok-same (drop i tokens) (t ∷ rest) old e n)
 next-some tokens i t old (Err spot) e n = absurd (cc (e, n))
@@ -125,7 +125,7 @@ slice-none [] i h = refl
 slice-none (u ∷ ts) zero h = absurd (omega arith)
 slice-none (u ∷ ts) (suc i) h = slice-none ts i (omega (arith, h))
 
--- it has none: that place is the end
+-- it has none: that index is the end
 next-none : (tokens : List Lexeme) (i : ℕ) (old : Result (List Lexeme) Spot) → old ≡ Ok (drop i tokens) → old ≡ Ok [] → slice_get tokens i ≡ None
 next-none tokens i old e n =
     let long = drop-long i tokens in
@@ -137,13 +137,13 @@ no-stop : (tokens : List Lexeme) (old : Result (List Lexeme) Spot) (fault : LexF
 no-stop tokens old (NoToken at place) e s = cc (e, s)
 no-stop tokens old NoMemory e s = s
 
--- it answers the token at that place, or none
+-- it answers the token at that index, or none
 pub is-at : (tokens : List Lexeme) (i : ℕ) (old new : Result (List Lexeme) Spot) (r : Result (Option Lexeme) LexFault) → old ≡ Ok (drop i tokens) → IsNext old r new → r ≡ Ok (slice_get tokens i)
 is-at tokens i old new (Ok (Some t)) e n = ap (λ (o : Option Lexeme). Ok o) (sym (next-some tokens i t old new e n))
 is-at tokens i old new (Ok None) e n = ap (λ (o : Option Lexeme). Ok o) (sym (next-none tokens i old e n.0))
 is-at tokens i old new (Err fault) e n = absurd (no-stop (drop i tokens) old fault e n.0)
 
--- the end of the list stands for each place past it
+-- at each index past the end is what is at the end
 pub get-min : (ts : List Lexeme) (i m : ℕ) → m ≡ min i (length ts) → slice_get ts m ≡ slice_get ts i
 get-min [] i m e = refl
 get-min (t ∷ ts) zero m e = let z : m ≡ 0 = omega (arith, e) in ap (λ (k : ℕ). slice_get (t ∷ ts) k) z

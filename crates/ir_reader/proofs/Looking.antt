@@ -1,4 +1,4 @@
--- Whether a type can stand where reading stops: from what each class of a form says of types, by induction on the form.
+-- Whether a type is allowed at a stop: from what each class of a form says of types, by induction on the form.
 use Rattle.std.proofs.Common.{◌≡◌, ℕ, zero, suc, ◌≤◌, ◌⊎◌, inl, inr, Bool, true, false, List, [], ◌∷◌, ◌++◌, length, Option, Some, None, refl, sym, ap, subst, ◌∙◌, append_assoc, arith, codes}
 use Rattle.std.specs.Prelude.{◌==◌, if◌then◌else◌, not}
 use Rattle.std.proofs.lemmas.Bool.Decides.{nat_tests}
@@ -98,7 +98,7 @@ says-along why [] e f g = e
 says-along why (t ∷ q) (inl (e, s)) f g = inl (e, some-type f s)
 says-along why (t ∷ q) (inr (e, a)) f g = inr (e, all-types g a)
 
--- reading stops after front, and what it does with a type in the place of the stop
+-- reading stops after front, and what it does with a type instead of the token there
 pub record Look {X : Type 0} (g : Reader X) (ts : Tokens) (why : Reason) (rest : Tokens) : Type 0 where
   pub front : Tokens
   pub split : ts ≡ front ++ rest
@@ -358,7 +358,7 @@ module _ {A S : Type 0} {o : Lexeme → Bool} (goes_on : Lexeme → Bool) (begin
       by (inl first) = look-first f (λ s r. going (length r) s r) L (λ s. inl (s, going-nil 0 s)) ts why rest (look ts why rest first)
       by (inr (s, mid, first, e')) = second s mid first (look-parts (length mid) s mid why rest e')
 
--- ---- inside brackets any token may stand, and where one may not it closes another bracket
+-- ---- inside brackets any token is allowed, unless it closes another bracket
 
 plain-goes-on : (front : Tokens) (open_brackets : List Bracket) (t : Lexeme) (q : Tokens) (why : Reason) → until_closed open_brackets (front ++ t ∷ q) ≡ stops (unfit why) (t ∷ q) → (u : Lexeme) → nesting_of u ≡ Plain → until_closed open_brackets (front ++ u ∷ []) ≡ stops (unfit Syntax) []
 unfolding until_closed

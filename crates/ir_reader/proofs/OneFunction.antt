@@ -31,7 +31,7 @@ use Rattle.ir_reader.specs.declared.fault.ModuleFault.{ModuleFault}
 use Rattle.ir_reader.specs.declared.fault.ModuleFault.TheVariants as fault
 use Rattle.ir_reader.specs.Module.{IsModule, IsFault, AreEntries, tokens_of, place_or_end}
 
--- what is told of a stop
+-- what is reported of a stop
 abbrev told_of : Reason → List Lexeme → List Lexeme → Result Function Refused
 told_of why tokens rest = Err (refused_at why (stop_place tokens rest))
 

@@ -1,4 +1,4 @@
--- Whether a function is well formed doesn't depend on where its parts stand.
+-- Whether a function is well formed doesn't depend on where its parts are.
 use Rattle.std.proofs.Common.{ℕ, List, inl, inr}
 use Rattle.text_places.specs.declared.place.Place.{Place}
 use Rattle.ir_tree.specs.declared.tree.Inst.{Inst}
@@ -11,7 +11,7 @@ use Rattle.ir_tree.specs.Sites.{steps}
 use Rattle.ir_tree.specs.Flow.{IsPredecessor}
 use Rattle.ir_tree.specs.WellFormed.{ComesFromPredecessors, IsUnfitPhi, JumpsToEntry, HasWrongEdge, IsMissed, IsMissedBehind, IsMissedAt, UsesUnassigned, IsWellFormed}
 
--- the function with other places
+-- the function with other positions
 abbrev pub placed : Function → List Place → Function
 placed f places = record f { places = places }
 

@@ -42,7 +42,7 @@ some-width w false false true d e f g h some = let is : w.bits ≡ 32 = eqb-true
 some-width w false false false true e f g h some = let is : w.bits ≡ 64 = eqb-true w.bits 64 h in rw is refl
 some-width w false false false false e f g h some = absurd (cc some)
 
--- the size of what stands in memory is an alignment
+-- the size of what is in memory is an alignment
 memory-size : (type : IrType) → is_memory_type type ≡ true → IsAlignment (type_size type)
 memory-size (Int w) e = some-width w (eqb w.bits 8) (eqb w.bits 16) (eqb w.bits 32) (eqb w.bits 64) refl refl refl refl e
 memory-size Ptr e = refl

@@ -89,7 +89,7 @@ unfit-why ts rest why e = record { stops = S; because = because }
         let front : L.front ≡ S.front = append_cancel_right L.front S.front rest (sym L.split ∙ S.split) in
         subst (λ (us : Tokens). IsStopReason us rest why) front (says-why L.front rest why (ap (λ (us : Tokens). read true define us) (sym L.split) ∙ e) L.says)
 
--- nothing can stand after a whole function
+-- nothing is allowed after a whole function
 pub unfit-behind : (ts : Tokens) (w : WrittenFunction) (t : Lexeme) (q : Tokens) → Spells true define w ts (t ∷ q) → IsUnfit (reason t) ts (t ∷ q)
 unfit-behind ts w t q spelled = record { stops = S; because = inr (no-type, refl) }
   where
@@ -122,7 +122,7 @@ one-reason front (t ∷ q) a b (inl A) (inr B) = absurd (B.0 A.0)
 one-reason front (t ∷ q) a b (inr A) (inl B) = absurd (A.0 B.0)
 one-reason front (t ∷ q) a b (inr A) (inr B) = A.1 ∙ sym B.1
 
--- the first token that can't stand is one
+-- the first token that isn't allowed is unique
 pub one-unfit : (ts r s : Tokens) (a b : Reason) → IsUnfit a ts r → IsUnfit b ts s → (r ≡ s) × (a ≡ b)
 one-unfit ts r s a b A B = by (prefixes-of A.stops.front B.stops.front r s (sym A.stops.split ∙ B.stops.split))
   where
@@ -134,7 +134,7 @@ one-unfit ts r s a b A B = by (prefixes-of A.stops.front B.stops.front r s (sym 
     by (inr (inr (t, more, others, e, f))) = absurd (B.stops.first t others f (begins-with B.stops.front A.stops.front more t e A.stops.begins))
     by (inr (inl (e, f))) = (f, one-reason B.stops.front s a b (subst (λ (us : Tokens). IsStopReason us s a) e (subst (λ (us : Tokens). IsStopReason A.stops.front us a) f A.because)) B.because)
 
--- tokens that are not a function up to one that can't stand are none
+-- tokens of which one isn't allowed are no function
 pub unfit-whole : (ts rest : Tokens) (why : Reason) (w : WrittenFunction) → IsUnfit why ts rest → read true define ts ≡ reads w [] → ⊥
 unfit-whole ts rest why w U e = by rest U.stops.split U.stops.first U.because
   where

@@ -1,5 +1,5 @@
--- Each class of the grammar is of one of two kinds: where it comes next a type can stand, and its reason looks for types, or
--- neither.
+-- Each class of the grammar is of one of two kinds: where it comes next a type is allowed, and its reason looks
+-- for types, or neither.
 use Rattle.std.proofs.Common.{◌≡◌, ℕ, zero, suc, ◌+◌, inl, inr, Bool, true, false, List, [], ◌∷◌, ◌++◌, length, Option, Some, None, refl, sym, ap, subst, codes, arith}
 use Rattle.std.specs.Prelude.{◌&&◌, ◌==◌, if◌then◌else◌, nat_lt, is_some}
 use Rattle.std.specs.Str.{bytes_eq}
@@ -325,7 +325,7 @@ tells-cases : TellsTypes cases
 unfolding cases with_case
 tells-cases = (tt, λ s a. (inr (literal-kind a.width), λ b. (inr (λ t. refl, (refl, refl, refl)), λ c. (tells-target, λ d. tt))))
 
--- after a case the type of another can stand, and a token that begins none has no width
+-- after a case the type of another is allowed, and a token that begins none has no width
 cases-go-on : GoesOnWithTypes cases
 unfolding cases
 cases-go-on ts rest a W =

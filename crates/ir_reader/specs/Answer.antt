@@ -1,4 +1,4 @@
--- What the parts of the reader may answer.
+-- What the parts of the reader may return.
 use Rattle.std.specs.Prelude.{◌≡◌, ℕ, ◌≤◌, ◌<◌, ◌+◌, ◌^◌, List, [], ◌∷◌, length, true, Result, Ok, Err}
 use Rattle.ir_lexer.specs.Lexeme.{Lexeme}
 use Rattle.ir_lexer.specs.Tokens.{lexed}
@@ -17,7 +17,7 @@ use Rattle.ir_grammar.specs.declared.written.WrittenFunction.{WrittenFunction}
 use Rattle.ir_grammar.specs.Grammar.{define}
 use Rattle.ir_reader.specs.Functions.{refused_at, stop_place, IsFunction}
 
--- a stop before the tokens that are left, as it is told
+-- a stop before the tokens that are left, as it is reported
 abbrev pub fault_at : ReadFault → List Lexeme → List Lexeme → CheckFault
 fault_at (stop.Unfit why) tokens rest = fault.Refused (refused_at why (stop_place tokens rest))
 fault_at stop.PastLimit tokens rest = fault.Refused (refused_at Limit (stop_place tokens rest))
@@ -35,7 +35,7 @@ Tests f (Ok passed) = IsWellFormed f
 Tests f (Err (fault.Refused refused)) = (why : Reason) × IsRefusedAt why f refused
 Tests f (Err fault.NoMemory) = Unit {0}
 
--- the defines stand one behind the other between these places
+-- the defines follow one another between these indices
 abbrev pub Ascend : ℕ → ℕ → List Define → Type 0
 Ascend from end [] = from ≤ end
 Ascend from end (d ∷ defines) = (from ≤ d.first) × (d.first ≤ d.last + 1) × Ascend (d.last + 1) end defines

@@ -1,4 +1,4 @@
--- What is one of a text.
+-- What is unique for a text.
 use Rattle.std.specs.Prelude.{◌≡◌, ◌⊎◌, ℕ, List, Result}
 use Rattle.ir_lexer.specs.Lexeme.{Lexeme}
 use Rattle.ir_tree.specs.declared.module.Module.{Module}
@@ -17,7 +17,7 @@ OneFunction = (tokens : List Lexeme) (a b : Result Function Refused) → IsFunct
 abbrev pub OneModule : Type 0
 OneModule = (text : List ℕ) (m n : Module) → IsModule text m → IsModule text n → m ≡ n
 
--- a text that is a module has no fault but want of memory
+-- a text that is a module has no fault except out of memory
 abbrev pub ModuleOrFault : Type 0
 ModuleOrFault = (text : List ℕ) (m : Module) (fault : ModuleFault) → IsModule text m → IsFault text fault → fault ≡ NoMemory
 

@@ -40,12 +40,12 @@ pub record IsModule (text : List ℕ) (m : Module) : Type 0 where
 
 -- ---- a text that is none
 
--- where a token stands; behind the last one the end of the text
+-- the position of a token; after the last one the end of the text
 abbrev pub place_or_end : List ℕ → Option Lexeme → Place
 place_or_end text (Some t) = t.place
 place_or_end text None = place_at text (length text)
 
--- no token begins at this place
+-- no token begins at this position
 pub record IsNoToken (text : List ℕ) (place : Place) : Type 0 where
   pub spot : Spot
   pub lexed_so : lexed text ≡ Err spot
@@ -59,7 +59,7 @@ pub record IsNoItem (text : List ℕ) (why : Why) (place : Place) : Type 0 where
   pub stop : IsStop tokens at why
   pub is : place ≡ place_or_end text (slice_get tokens at)
 
--- of want of memory nothing is said
+-- of running out of memory nothing is said
 abbrev pub IsFault : List ℕ → ModuleFault → Type 0
 IsFault text (fault.NoToken place) = IsNoToken text place
 IsFault text (fault.Item why place) = IsNoItem text why place

@@ -1,4 +1,4 @@
--- Why a token can't stand where it stands.
+-- Why a token isn't allowed where it is.
 use Rattle.std.specs.Prelude.{◌≡◌, ◌⊎◌, List, [], ◌∷◌, ◌++◌, true, codes}
 use Rattle.ir_lexer.specs.Lexeme.{Lexeme}
 use Rattle.ir_lexer.specs.declared.token.Kind.TheVariants as kind
@@ -16,13 +16,13 @@ use Rattle.ir_grammar.specs.Grammar.{define}
 abbrev pub SomeType : (Lexeme → Type 0) → Type 0
 SomeType P = P (token kind.Word (codes "i1")) ⊎ P (token kind.Word (codes "i8")) ⊎ P (token kind.Word (codes "ptr"))
 
--- after these tokens of a function a type can stand
+-- after these tokens of a function a type is allowed
 abbrev pub TypeMayStand : List Lexeme → Type 0
 TypeMayStand front = SomeType (λ type. Begins define (front ++ type ∷ []))
 
--- The reason at the first of rest, which can't stand after front. Where a type can stand it is that of what could be
--- one: of a number of bits that no type has, and of a local name. Elsewhere it is that of any token. Where the tokens
--- end before the function does it is a mistake.
+-- The reason at the first of rest, which isn't allowed after front. Where a type is allowed it is
+-- that of what could be one: of a number of bits that no type has, and of a local name. Elsewhere
+-- it is that of any token. Where the tokens end before the function does it is a syntax error.
 abbrev pub IsStopReason : List Lexeme → List Lexeme → Reason → Type 0
 IsStopReason front [] why = ((function : WrittenFunction) → Spells true define function front [] → ⊥) × (why ≡ Syntax)
 IsStopReason front (t ∷ others) why = (TypeMayStand front × (why ≡ width_reason t)) ⊎ ((TypeMayStand front → ⊥) × (why ≡ reason t))

@@ -9,11 +9,11 @@ use thiserror::Error;
 /// Why a text gives no module.
 #[derive(Clone, Copy, Debug, PartialEq, Eq, Error)]
 pub enum ModuleFault {
-    /// No token begins at this place.
+    /// No token begins at this position.
     #[error("no token begins here")]
     NoToken(Place),
-    /// The tokens stop being items one after another at this place: at a token, or behind the last
-    /// byte of the text.
+    /// The tokens stop being items one after another at this position: at a token, or after the
+    /// last byte of the text.
     #[error("{why}")]
     Item { why: Why, place: Place },
     /// There was no memory for the module.

@@ -26,7 +26,7 @@ fn refused_at(reason: Reason, place: Place) -> Refused
     }
 }
 
-// The place of the last of these tokens.
+// The position of the last of these tokens.
 fn last_place(tokens: &[Token]) -> Place
     ensures { result ≡ spec.last_place no_place tokens.now }
 {
@@ -37,7 +37,7 @@ fn last_place(tokens: &[Token]) -> Place
     place
 }
 
-// Where the first token that is left stands; where none is left, the last of all tokens.
+// The position of the first token that is left; where none is left, of the last of all tokens.
 fn stop_place(tokens: &[Token], rest: &[Token]) -> Place
     ensures { result ≡ spec.stop_place tokens.now rest.now }
 {

@@ -1,4 +1,4 @@
-// Reading a text.
+// Reading a module.
 ghost use Rattle.std.specs.Prelude.{◌≡◌, ◌+◌, ◌<◌, ◌≤◌, ◌^◌, List, drop, length, map, slice_get, Ok, IfOk, IfErr, IsOkAnd, OnOk};
 ghost use Rattle.std.specs.List.{AllByRecursion, IsDistinct};
 ghost use Rattle.text_places.specs.Place.{place_at};
@@ -22,11 +22,12 @@ use text_places::Place;
 
 /// The module that a text is (LLVM Language Reference, "Module Structure", "Functions",
 /// "Identifiers"): an entry for each function with a body, in text order, with the function, whose
-/// `places` are empty, or the reason and the place at which it is refused.
+/// `places` are empty, or the reason and the position at which it is refused.
 ///
 /// # Errors
-/// `NoToken` at the first place where no token begins. Where the text is tokens, `Item` at the first
-/// token at which they stop being items, or at the end of the text, directly behind its last byte.
+/// `NoToken` at the first position where no token begins. Where the text is tokens, `Item` at the
+/// first token at which they stop being items, or at the end of the text, directly after its last
+/// byte.
 pub fn read(alloc: Global, text: &[u8]) -> Result<Module, ModuleFault>
     ensures module { IfOk result (λ m. IsModule text.now m) }
     ensures fault { IfErr result (IsFault text.now) }
@@ -49,14 +50,14 @@ fn tokens<'a>(alloc: Global, text: &'a [u8]) -> Result<Tokens<'a>, ModuleFault>
     }
 }
 
-// The end of a text, directly behind its last byte.
+// The end of a text, directly after its last byte.
 fn end_of(text: &[u8]) -> Place
     ensures { result ≡ place_at text.now (length text.now) }
 {
     Place::start().behind(text)
 }
 
-// Where the token at an index stands; behind the last one the end of the text.
+// The position of the token at an index; after the last one the end of the text.
 fn place_or_end(text: &[u8], at: usize) -> Place
     requires { IsOkAnd (lexed text.now) (λ tokens. at ≤ length tokens) }
     ensures { (tokens : List Lexeme) → lexed text.now ≡ Ok tokens

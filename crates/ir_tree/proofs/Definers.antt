@@ -75,7 +75,7 @@ none_defines [] k type name all below e = omega (arith, below)
 none_defines (s ∷ ss) zero type name all below e = subst IsNoDefinition e all.0
 none_defines (s ∷ ss) (suc k) type name all below e = none_defines ss k type name all.1 (omega (arith, below)) e
 
--- the first site alone is a definition
+-- only the first site is a definition
 first_at : (t : Option IrType) (into : ℕ) (rest : List Site) (k : ℕ) (type : Option IrType) (name : ℕ) → AllByRecursion IsNoDefinition rest → k < length (Defines t into ∷ rest) → get_or (Defines t into ∷ rest) k (Defines type name) ≡ Defines type name → into ≡ name
 first_at t into rest zero type name all below e = let same : Defines t into ≡ Defines type name = e in cc
 first_at t into rest (suc k) type name all below e = absurd (none_defines rest k type name all (omega (arith, below)) e)
@@ -123,7 +123,7 @@ results_in (inst.Load into type pointer align) = with_result _ type into _ refl 
 results_in (inst.Store value pointer align) = inr (record { none = refl; plain = (tt, (operand_plain value.of_type value.operand, (tt, (operand_plain Ptr pointer, tt)))) })
 results_in (inst.GetElementPtr into inbounds nuw type base indices) = with_result _ Ptr into _ refl refl (tt, (tt, (operand_plain Ptr base, indices_plain (length type.lengths) 0 indices)))
 
--- a list of one name has that name alone
+-- a list of one name has only that name
 only : (into name : ℕ) → Contains (into ∷ []) name → into ≡ name
 only into name found = at found.0 found.1 found.2
   where
@@ -175,7 +175,7 @@ defines_by f (part.Phi k j) type name found = (found.0, found.1, found.2.1, foun
 defines_by f (part.Inst k j) type name found = (found.0, found.1, found.2.1, found.2.2, inst_defines found.2.1 type name found.2.3)
 defines_by f (part.End k) type name found = absurd (none_defines (terminator_sites f.returns found.0.terminator) found.2.1.0 type name (end_plain f.returns found.0.terminator) found.2.1.1 found.2.1.2)
 
--- a site that defines a name stands in a part that does
+-- a site that defines a name is in a part that does
 pub defines_in : (f : Function) (n : ℕ) (p : Part) (type : Option IrType) (name : ℕ) → slice_get (sites f) n ≡ Some (Defines type name) → slice_get (parts f) n ≡ Some p → DefinesIn f p name
 defines_in f n p type name site its = defines_by f p type name (at_site f n p (Defines type name) site its)
 

@@ -1,4 +1,4 @@
--- The places of blocks by their labels, and where blocks lead, in loops.
+-- The indices of blocks by their labels, and where blocks lead, in loops.
 use Rattle.std.proofs.Common.{◌≡◌, ℕ, ◌+◌, ◌<◌, List, [], ◌∷◌, ◌++◌, length, map, drop, get_or, nat_eq, ◌==◌, cond, true, false, Some, inl, inr, refl, sym, ap, ◌∙◌, arith}
 use Rattle.std.specs.Map.{lookup}
 use Rattle.std.specs.List.{position_or_len}
@@ -17,7 +17,7 @@ places_of f b = map (block_of f) (targets b.terminator)
 abbrev pub label_of : Block → ℕ
 label_of b = b.label
 
--- the entries tell the first place of each label from a place on
+-- the entries give the first index of each label from an index on
 abbrev pub IsIndexFrom : List Block → ℕ → List (ℕ × ℕ) → Type 0
 IsIndexFrom blocks at entries =
     (label : ℕ) → option_map_or (λ (place : ℕ). place) (lookup (nat_eq label) entries) (length blocks) ≡ at + position_or_len (λ (other : ℕ). label == other) (map label_of (drop at blocks))

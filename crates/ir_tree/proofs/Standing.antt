@@ -1,4 +1,4 @@
--- Which sites stand in which parts of a function.
+-- Which sites are in which parts of a function.
 use Rattle.std.proofs.Common.{◌≡◌, ◌⊎◌, ℕ, zero, suc, ◌+◌, ◌<◌, List, [], ◌∷◌, ◌++◌, map, length, get_or, slice_get, Option, Some, inl, inr, refl, ap, sym, subst, ◌∙◌, arith, Contains, length-append, get_or-append-add, zero-add}
 use Rattle.std.proofs.lemmas.List.{get_or_append_left, length-map}
 use Rattle.std.proofs.lemmas.List.Elements.{Contains-append_right}
@@ -38,7 +38,7 @@ stand_in : (steps : List Step) (n : ℕ) (p : Part) (s : Site) → slice_get (si
 stand_in [] n p s a b = absurd (none-some s a)
 stand_in (step ∷ steps) n p s a b = in_front steps p step.0 s step.1 n (λ m x y. stand_in steps m p s x y) a b
 
--- the site and its part stand at one number
+-- the site and its part have the same number
 abbrev pub Stands : List Step → Part → Site → Type 0
 Stands steps p s = (n : ℕ) × (slice_get (sites_in steps) n ≡ Some s) × (slice_get (parts_in steps) n ≡ Some p)
 
@@ -180,7 +180,7 @@ function_has f p s (inr found) = choose (append_cases (parameter_steps f.paramet
     choose (inl there) = (let w = parameters_have f.parameters p s there in subst (λ (q : Part). InFunction f q s) w.0 (w.1, w.2, w.3))
     choose (inr there) = (let w = blocks_have f.returns 0 f.blocks p s there in in_function f w.0 w.1 p s w.2 (subst (λ (m : ℕ). InBlock f.returns m w.1 p s) (zero-add w.0) w.3))
 
--- what stands at a site
+-- what is at a site
 pub at_site : (f : Function) (n : ℕ) (p : Part) (s : Site) → slice_get (sites f) n ≡ Some s → slice_get (parts f) n ≡ Some p → InFunction f p s
 at_site f n p s site its = function_has f p s (stand_in (steps f) n p s site its)
 
@@ -235,7 +235,7 @@ parameter_stands : (f : Function) (k : ℕ) (q : Parameter) (s : Site) → slice
 unfolding steps
 parameter_stands f k q s stands found = inr (append_left (parameter_steps f.parameters) (blocks_steps f.returns 0 f.blocks) part.Parameter s (parameter_in f.parameters k q s stands found))
 
--- where the sites of each kind of part stand
+-- where the sites of each kind of part are
 pub parameter_site : (f : Function) (k : ℕ) (q : Parameter) (s : Site) → slice_get f.parameters k ≡ Some q → Contains (parameter_sites q) s → Stands (steps f) part.Parameter s
 parameter_site f k q s stands found = somewhere (steps f) part.Parameter s (parameter_stands f k q s stands found)
 

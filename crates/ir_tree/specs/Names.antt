@@ -1,11 +1,11 @@
--- Names and their numbers: a name's number is its place in the order of first appearance.
+-- Names and their numbers: a name's number is its index in the order of first appearance.
 use Rattle.std.specs.Prelude.{ℕ, Bool, false, List, [], ◌∷◌, ◌++◌, if◌then◌else◌}
 use Rattle.std.specs.List.{list_any, position_or_len}
 use Rattle.std.specs.Str.{bytes_eq}
 use Rattle.ir_tree.specs.declared.name.Name.{Name}
 use Rattle.ir_tree.specs.declared.name.Name.TheVariants.{Number, Word}
 
--- whether both are one name: a number is never a word
+-- whether both are the same name: a number is never a word
 abbrev pub same_name : Name → Name → Bool
 same_name (Number a) (Number b) = bytes_eq a b
 same_name (Word a) (Word b) = bytes_eq a b

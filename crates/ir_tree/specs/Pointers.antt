@@ -1,4 +1,4 @@
--- Functions in which no pointer stands and which use no memory.
+-- Functions in which no pointer occurs and which use no memory.
 use Rattle.std.specs.Prelude.{List, [], ◌∷◌, All, Option, Some, None}
 use Rattle.ir_tree.specs.declared.tree.IrType.{IrType}
 use Rattle.ir_tree.specs.declared.tree.IrType.TheVariants as type

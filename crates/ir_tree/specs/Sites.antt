@@ -43,15 +43,16 @@ abbrev pub operand_site : IrType → Operand → Site
 operand_site type (Local name) = Uses type name
 operand_site type _ = Written true
 
--- a type, which may stand there or not, and an operand of it
+-- a type, which is allowed there or not, and an operand of it
 abbrev pub typed_sites : Bool → TypedOperand → List Site
 typed_sites fits t = Written fits ∷ operand_site t.of_type t.operand ∷ []
 
--- the type of an index, its operand, and whether the operand may stand there: the first index counts objects, and each further one goes into an array
+-- the type of an index, its operand, and whether the operand is allowed there: the first index
+-- counts objects, and each further one goes into an array
 abbrev pub index_sites : Bool → GepIndex → List Site
 index_sites enters index = Written true ∷ operand_site (Int index.width) index.operand ∷ Written enters ∷ []
 
--- indices into so many nested arrays, the first of them with this number
+-- indices into arrays, nested to this depth, the first index with this number
 abbrev pub indices_sites : ℕ → ℕ → List GepIndex → List Site
 indices_sites arrays n [] = []
 indices_sites arrays n (index ∷ indices) = index_sites (nat_le n arrays) index ++ indices_sites arrays (n + 1) indices
@@ -85,7 +86,7 @@ entry_sites type entry = operand_site type entry.operand ∷ Enters entry.from �
 abbrev pub phi_sites : Phi → List Site
 phi_sites phi = Defines (Some phi.of_type) phi.into ∷ Written true ∷ flat_map (entry_sites phi.of_type) phi.entries
 
--- whether both are one number of so many bits
+-- whether both are the same number of this width
 abbrev pub same_number : ℕ → ℕ → ℕ → Bool
 same_number width a b = a % 2 ^ width == b % 2 ^ width
 
@@ -97,12 +98,12 @@ has_case width cases n = list_any (λ (c : Case). same_number width c.value n) c
 abbrev pub case_sites : Width → List Case → Case → List Site
 case_sites width before c = Written (c.width.bits == width.bits) ∷ Written (not (has_case width.bits before c.value)) ∷ Enters c.to ∷ []
 
--- each case, the first of them behind these
+-- each case, the first of them after these
 abbrev pub cases_sites : Width → List Case → List Case → List Site
 cases_sites width before [] = []
 cases_sites width before (c ∷ cases) = case_sites width before c ++ cases_sites width (before ++ c ∷ []) cases
 
--- whether the type behind ret is the header's
+-- whether the type after ret is the header's
 abbrev pub returns_type : Option IrType → IrType → Bool
 returns_type None type = false
 returns_type (Some header) type = is_same_type header type
@@ -175,25 +176,25 @@ sites f = sites_in (steps f)
 abbrev pub parts_in : List Step → List Part
 parts_in steps = flat_map (λ (step : Step). map (λ (site : Site). step.0) step.1) steps
 
--- for each site of a function the part of the text that it stands in
+-- for each site of a function the part of the text that it is in
 abbrev pub parts : Function → List Part
 parts f = parts_in (steps f)
 
--- a name's number has its name in a table of so many
+-- a name's number has its name in a table of this length
 abbrev pub IsNumbered : ℕ → Site → Type 0
 IsNumbered count (Defines type name) = name < count
 IsNumbered count (Uses type name) = name < count
 IsNumbered count (Enters name) = name < count
 IsNumbered count (Written fits) = Unit {0}
 
--- each name of the function stands in its table
+-- each name of the function is in its table
 abbrev pub AreNumbered : Function → Type 0
 AreNumbered f = All (IsNumbered (length f.names)) (sites f)
 
--- line 0 stands for no place; a function that was read has one for each site
+-- line 0 means no position; a function that was read has a position for each site
 abbrev pub no_place : Place
 no_place = record { line = 0; column = 0 }
 
--- where a site stands; an unnamed parameter's name stands at its type, an unwritten label at the opening brace
+-- where a site is: an unnamed parameter's name at its type, an unwritten label at the opening brace
 abbrev pub place_of : Function → ℕ → Place
 place_of f n = slice_index_or f.places n no_place

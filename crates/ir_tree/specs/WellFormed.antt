@@ -1,4 +1,5 @@
--- What is asked of a function beside its spelling, each with the sites at which it fails. A reason is told at the first of its sites, and only where no reason before it has one.
+-- What is required of a function besides its spelling, each with the sites at which it fails. A
+-- reason is reported at the first of its sites, and only where no reason before it has one.
 use Rattle.std.specs.Prelude.{◌≡◌, ◌+◌, ◌<◌, ◌≤◌, ◌⊎◌, ◌↔◌, ◌==◌, ℕ, Bool, true, false, List, map, take, slice_get, Option, Some, None}
 use Rattle.std.specs.List.{Contains}
 use Rattle.block_paths.specs.Paths.{IsPathTo, IsAssignedIn}
@@ -81,7 +82,7 @@ ClashesType all n = (slice_get all n ≡ Some (Written false)) ⊎ UsesOtherType
 abbrev pub ComesFromPredecessors : Function → Block → Phi → Type 0
 ComesFromPredecessors f b phi = (label : ℕ) → Contains (map (λ (entry : PhiEntry). entry.from) phi.entries) label ↔ IsPredecessor f label b.label
 
--- whether both operands are one: literals are compared as numbers of their type
+-- whether both operands are the same: literals are compared as numbers of their type
 abbrev pub is_same_operand : IrType → Operand → Operand → Bool
 is_same_operand of_type (operand.Local a) (operand.Local b) = a == b
 is_same_operand (type.Int width) (operand.Number a) (operand.Number b) = same_number width.bits a b
@@ -133,9 +134,9 @@ HasWrongEdge f n = IsUnfitPhi f n ⊎ JumpsToEntry f n
 abbrev pub IsUndefinedBefore : List Site → ℕ → ℕ → Type 0
 IsUndefinedBefore all n name = (m : ℕ) (type : Option IrType) → m < n → slice_get all m ≡ Some (Defines type name) → ⊥
 
--- Some path from the entry comes to the block and doesn't assign the name: the name is no parameter, no block that the path
--- leaves on its way assigns it, and nor do the block's phis and these of its instructions. The path may leave the block itself,
--- and come back.
+-- Some path from the entry reaches the block and doesn't assign the name: the name is no parameter,
+-- no block that the path leaves on its way assigns it, and neither do the block's phis and these of
+-- its instructions. The path may leave the block itself, and come back.
 pub record IsMissed (f : Function) (block : ℕ) (b : Block) (ran : List Inst) (name : ℕ) : Type 0 where
   pub stands : slice_get f.blocks block ≡ Some b
   pub left : List ℕ
@@ -151,8 +152,9 @@ pub record IsMissedBehind (f : Function) (label name : ℕ) : Type 0 where
   pub labelled : b.label ≡ label
   pub missed : IsMissed f block b b.insts name
 
--- The name is missed where a site of this part uses it: in a phi, at the end of the block that the operand comes from, whose
--- label is the next site; in an instruction, behind those before it; in a block's end, behind all.
+-- The name is missed where a site of this part uses it: in a phi, at the end of the block that the
+-- operand comes from, whose label is the next site; in an instruction, after those before it; in a
+-- block's end, after all.
 abbrev pub IsMissedAt : Function → Part → ℕ → ℕ → Type 0
 IsMissedAt f part.Header n name = ⊥
 IsMissedAt f part.Parameter n name = ⊥
@@ -172,7 +174,7 @@ pub record UsesUnassigned (f : Function) (n : ℕ) : Type 0 where
 
 -- ---- all of it
 
--- what a reason says of a site; the reasons that are told of tokens have none
+-- what a reason says of a site; the reasons that are reported of tokens have none
 abbrev pub FailsBy : Reason → Function → ℕ → Type 0
 FailsBy Syntax f n = ⊥
 FailsBy Unsupported f n = ⊥
@@ -212,13 +214,13 @@ IsTestedAs TypeClash f n = PassesNames f × IsFirstSite TypeClash f n
 IsTestedAs PhiEdges f n = PassesNames f × Passes TypeClash f × IsFirstSite PhiEdges f n
 IsTestedAs Unassigned f n = PassesNames f × Passes TypeClash f × Passes PhiEdges f × IsFirstSite Unassigned f n
 
--- ---- what is told
+-- ---- what is reported
 
 -- a reason at a site
 abbrev pub refusal_at : Reason → Function → ℕ → Refused
 refusal_at reason f n = record { reason = reason; line = (place_of f n).line; column = (place_of f n).column }
 
--- the refusal has this reason, for which the function is refused, and its place
+-- the refusal has this reason, for which the function is refused, and its position
 pub record IsRefusedAt (reason : Reason) (f : Function) (refused : Refused) : Type 0 where
   pub site : ℕ
   pub tested : IsTestedAs reason f site
@@ -229,7 +231,7 @@ abbrev pub IsFirstFailure : (ℕ → Type 0) → Option ℕ → Type 0
 IsFirstFailure Fails None = (n : ℕ) → Fails n → ⊥
 IsFirstFailure Fails (Some n) = Fails n × ((k : ℕ) → Fails k → n ≤ k)
 
--- of a refusal this holds, and of want of memory nothing is said
+-- this holds of a refusal, and of running out of memory nothing is said
 abbrev pub IfRefused : (Refused → Type 0) → CheckFault → Type 0
 IfRefused Holds (fault.Refused refused) = Holds refused
 IfRefused Holds fault.NoMemory = Unit {0}

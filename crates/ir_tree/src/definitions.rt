@@ -7,7 +7,7 @@ use crate::sites::Site;
 use std::alloc::Global;
 use support::{NoMemory, Sequence};
 
-/// For each of so many names, by their numbers, the first of the sites that defines it.
+/// For each name number below `names`, the first of the sites that defines the name.
 pub fn first_definitions(
     alloc: Global,
     sites: &[Site],
@@ -24,7 +24,7 @@ pub fn first_definitions(
     Ok(Sequence::from_vec(table))
 }
 
-/// Whether each name of the sites is one of so many: its number is below that.
+/// Whether each name of the sites has a number below `names`.
 pub fn are_numbered(sites: &[Site], names: usize) -> bool
     ensures { IsTrue result ↔ All (IsNumbered names) sites.now }
 {

@@ -10,8 +10,8 @@ use std::alloc::Global;
 use std::marker::Model;
 use support::{NoMemory, Sequence};
 
-/// The labels, by their numbers, of the blocks that may run behind a terminator, in text order. A
-/// label stands there as often as the terminator names it.
+/// The labels, by their numbers, of the blocks that may run after a terminator, in text order. A
+/// label occurs as often as the terminator names it.
 pub fn targets_of(alloc: Global, terminator: &Terminator) -> Result<Sequence<usize>, NoMemory>
     ensures { IfOk result (λ list. list ≡ targets terminator.now) }
 {
@@ -43,8 +43,8 @@ fn switch_targets(alloc: Global, default: usize, cases: &[Case]) -> Result<Vec<u
     Ok(labels)
 }
 
-/// The places of a function's blocks by their labels. Of blocks with one label it has the first's
-/// place. Contracts see its entries.
+/// The indices of a function's blocks by their labels. Of blocks with the same label it has the
+/// first's index. Contracts see its entries.
 #[derive(Drop)]
 pub struct BlockIndex {
     places: IndexMap<usize, usize>,
@@ -59,7 +59,7 @@ impl Model for BlockIndex {
 }
 
 impl BlockIndex {
-    /// The places of this function's blocks.
+    /// The indices of this function's blocks.
     pub fn of(alloc: Global, f: &Function) -> Result<BlockIndex, NoMemory>
         ensures { IfOk result (IsIndex f.now) }
     {
@@ -71,8 +71,8 @@ impl BlockIndex {
         Ok(BlockIndex { places })
     }
 
-    /// The place of the block with this label, and the number of blocks where there is none, in the
-    /// function that the index is of.
+    /// The index of the block with this label, and the number of blocks where there is none, in the
+    /// function that this `BlockIndex` is of.
     pub fn place(&self, f: &Function, label: usize) -> usize
         requires { IsIndex f.now self.now }
         ensures { result ≡ block_of f.now label }
@@ -100,8 +100,8 @@ impl BlockIndex {
     }
 }
 
-/// For each block the places of those that may run next, in the order of its terminator's labels;
-/// the number of blocks stands for a label that no block has.
+/// For each block the indices of those that may run next, in the order of its terminator's labels;
+/// the number of blocks denotes a label that no block has.
 pub fn successors(alloc: Global, f: &Function) -> Result<Sequence<Sequence<usize>>, NoMemory>
     ensures { IfOk result (λ graph. graph ≡ successors f.now) }
 {

@@ -1,6 +1,6 @@
 ghost use Rattle.ir_tree.specs.WellFormed.{OneRefusal, RefusedIsNotWellFormed};
 
-/// A function is refused for one reason at one place, and not where it is well formed. It does
+/// A function is refused for one reason at one position, and not where it is well formed. It does
 /// nothing.
 pub fn is_one_refusal()
     ensures one { OneRefusal }

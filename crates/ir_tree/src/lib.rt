@@ -1,9 +1,9 @@
-//! The tree of a module's text: functions, their blocks and instructions, and the names in them.
+//! The tree of a module: functions, their blocks and instructions, and the names in them.
 //!
 //! It promises plain data: two functions with the same parts are equal. Limits of a function are
-//! stated here, with their test, and what is asked of a function beside its spelling
-//! (`specs/WellFormed.antt`), with the list of what it is asked of: the function's sites
-//! (`sites_of`), and where its blocks lead (`targets_of`, `successors`). It stands on `block_paths`,
+//! stated here, with their test, and what is required of a function besides its spelling
+//! (`specs/WellFormed.antt`), with the list of what it is required of: the function's sites
+//! (`sites_of`), and where its blocks lead (`targets_of`, `successors`). It uses `block_paths`,
 //! `tv_num` and `text_places`; the reader makes trees, `ir_check` and `assigned_names` test them, and
 //! whatever runs or prints a function takes them.
 #![tactic(auto)]

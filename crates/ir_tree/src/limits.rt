@@ -57,7 +57,7 @@ fn has_few_instructions(blocks: &[Block]) -> bool
     true
 }
 
-// How many instructions may still come behind a block, where the block is not too large itself.
+// How many instructions may still follow a block, where the block is not too large itself.
 fn rest_behind(left: usize, block: &Block) -> Option<usize>
     ensures some { IfSome result (λ rest. rest + instructions_of block.now ≡ left) }
     ensures none { result ≡ None → left < instructions_of block.now }

@@ -10,7 +10,7 @@ use thiserror::Error;
 /// Why a function is not judged, in the order in which the reasons are tested.
 #[derive(Clone, Copy, Debug, PartialEq, Eq, Error)]
 pub enum Reason {
-    /// A token that can't stand where it stands.
+    /// A token that isn't allowed where it is.
     #[error("a token that cannot stand here")]
     Syntax,
     /// A form of the language that the program doesn't read.
@@ -25,7 +25,7 @@ pub enum Reason {
     /// A name that is not defined, or not as it is used.
     #[error("a name is not defined, or not as it is used")]
     NameUnknown,
-    /// A type that isn't the one that must stand there.
+    /// A type that isn't the required one.
     #[error("a type that is not the one that must stand here")]
     TypeClash,
     /// A phi whose blocks aren't its predecessors, or a jump to the entry.

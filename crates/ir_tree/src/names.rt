@@ -8,7 +8,7 @@ use std::alloc::Global;
 use std::marker::Model;
 use support::NoMemory;
 
-/// A table of different names. A name's number is its place in the order of first appearance.
+/// A table of different names. A name's number is its index in the order of first appearance.
 /// Contracts see the names in that order.
 #[derive(Drop)]
 pub struct Names {
@@ -25,7 +25,7 @@ impl Model for Names {
 }
 
 impl Names {
-    /// The table without names. It takes no memory.
+    /// The empty table. It takes no memory.
     pub fn new(alloc: Global) -> Names
         ensures { result ≡ [] }
     {
@@ -56,8 +56,8 @@ impl Names {
         self.table.get_index_of(name)
     }
 
-    /// The number of a name, which joins the table where it isn't there yet. Where memory runs out,
-    /// the table is as before.
+    /// The number of a name, which is added to the table if it isn't there yet. Where memory runs
+    /// out, the table is as before.
     pub fn number(&mut self, name: Name) -> Result<usize, NoMemory>
         ensures names { IfOk result (λ number. self.new ≡ with_name self.old name) }
         ensures value { IfOk result (λ number. number ≡ number_of self.old name) }

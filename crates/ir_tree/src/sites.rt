@@ -29,7 +29,7 @@ pub enum Part {
     End { block: usize },
 }
 
-/// What stands at a place of a function's text that a refusal may be about.
+/// What is at a position in a function's text that a refusal may be about.
 #[derive(Clone, Copy, Debug, PartialEq, Eq)]
 pub enum Site {
     /// A name that gets a value of this type; a block's label is a name without one.
@@ -46,7 +46,7 @@ pub enum Site {
     Enters {
         name: usize,
     },
-    /// A type, a literal or the function's name, and whether it may stand there.
+    /// A type, a literal or the function's name, and whether it is allowed there.
     Written {
         fits: bool,
     },
@@ -55,9 +55,9 @@ pub enum Site {
 /// The sites of a function, in text order.
 #[derive(Drop)]
 pub struct SiteList {
-    /// What stands at each site.
+    /// What is at each site.
     pub all: Sequence<Site>,
-    /// For each site the part of the text that it stands in.
+    /// For each site the part of the text that it is in.
     pub parts: Sequence<Part>,
 }
 
@@ -77,7 +77,7 @@ pub fn sites_of(alloc: Global, f: &Function) -> Result<SiteList, NoMemory>
     Ok(list)
 }
 
-/// The refusal of a function for a reason, at the place of a site.
+/// The refusal of a function for a reason, at the position of a site.
 pub fn refusal_at(f: &Function, reason: Reason, site: usize) -> Refused
     ensures { result ≡ refusal_at reason f.now site }
 {
@@ -469,7 +469,7 @@ impl SiteList {
     }
 }
 
-/// Whether both are one type.
+/// Whether both are the same type.
 pub fn is_same_type(a: IrType, b: IrType) -> bool
     ensures { result ≡ is_same_type a b }
 {

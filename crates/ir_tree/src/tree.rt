@@ -11,8 +11,8 @@ pub enum IrType {
     Ptr,
 }
 
-/// What stands where a value is used. A local name goes by its number in the function's names; a
-/// literal is wrapped to its type's width.
+/// What is written where a value is used. A local name goes by its number in the function's names;
+/// a literal is wrapped to its type's width.
 #[derive(Clone, Copy, Debug, PartialEq, Eq)]
 pub enum Operand {
     Local(usize),
@@ -21,7 +21,7 @@ pub enum Operand {
     Null,
     Poison,
     /// Any value of the type, another at each use (LLVM Language Reference, "Undefined Values").
-    /// It may stand in `freeze` and `ret` alone.
+    /// It may occur only in `freeze` and `ret`.
     Undef,
 }
 
@@ -78,7 +78,7 @@ pub enum Cast {
     SignExtend,
 }
 
-/// An operand behind its type.
+/// An operand after its type.
 #[derive(Clone, Copy, Debug, PartialEq, Eq)]
 pub struct TypedOperand {
     pub of_type: IrType,
@@ -86,7 +86,7 @@ pub struct TypedOperand {
 }
 
 /// A type of an object in memory: an element, or nested arrays of elements. The outermost array's
-/// length comes first; an element alone has none (LLVM Language Reference, "Array Type").
+/// length comes first; a single element has none (LLVM Language Reference, "Array Type").
 #[derive(Drop)]
 pub struct MemoryType {
     pub lengths: Sequence<u64>,
@@ -160,8 +160,8 @@ pub enum Inst {
         pointer: Operand,
         align: u64,
     },
-    /// An address: the base, and so many objects of the type, and then elements of the array that
-    /// was entered, further ("getelementptr Instruction"). `nuw` stands beside `inbounds` alone.
+    /// An address: the base, plus a number of objects of the type, and then of elements of the
+    /// array that was entered ("getelementptr Instruction"). `nuw` occurs only with `inbounds`.
     GetElementPtr {
         into: usize,
         inbounds: bool,
@@ -188,7 +188,7 @@ pub struct Phi {
     pub entries: Sequence<PhiEntry>,
 }
 
-/// A case of a switch: a literal behind its own type, wrapped to that type's width, and the number
+/// A case of a switch: a literal after its own type, wrapped to that type's width, and the number
 /// of the label that it leads to.
 #[derive(Clone, Copy, Debug, PartialEq, Eq)]
 pub struct Case {

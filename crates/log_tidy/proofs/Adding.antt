@@ -1,4 +1,4 @@
--- Steps within those of a log, each with no standing clause within it.
+-- Steps within those of a log, each with no earlier clause within it.
 use Rattle.std.proofs.Common.{ℕ, ◌≡◌, ◌≤◌, ◌+◌, ◌-◌, ◌++◌, ◌⊎◌, inl, inr, List, [], ◌∷◌, Some, None, length, slice_get, take, arith, sym, ap, subst, refl, ◌∙◌, append_assoc}
 use Rattle.std.proofs.lemmas.Bool.{cases_lt}
 use Rattle.std.proofs.lemmas.List.{length_push}
@@ -54,7 +54,7 @@ indexed-more cs c old new number indexed its entered = record {
 }
 
 module _ (clauses : List (List Lit)) (kept : List Step) (step : Step) where
-  -- a clause within it stands already
+  -- a clause within it is there already
   pub added-none : (index : Index) (number : ℕ) → IsCareful clauses kept → IsIndexed (standing clauses kept) index → IsWithin (standing clauses kept) step.clause number
       → IsAdded clauses kept kept index step.clause number
   added-none index number careful indexed within = record {
@@ -63,7 +63,7 @@ module _ (clauses : List (List Lit)) (kept : List Step) (step : Step) where
     within = within;
   }
 
-  -- or it stands itself
+  -- or it is added itself
   pub added-one : (old new : Index) (number : ℕ) → IsCareful clauses kept → IsIndexed (standing clauses kept) old → IsFound (standing clauses kept) step.clause None
       → chain_resolvent (standing clauses kept) step.chain ≡ Some step.clause → number ≡ length clauses + length kept + 1 → IsEntered old new number step.clause
       → IsAdded clauses kept (kept ++ step ∷ []) new step.clause number
@@ -137,7 +137,7 @@ module _ (clauses : List (List Lit)) (log : List Step) where
     ];
   }
 
-  -- the last step is empty, and no standing clause is
+  -- the last step is empty, and no earlier clause is
   pub tidied-all : (place : ℕ) (numbers : List ℕ) (kept : List Step) (index : Index) → Refutes clauses log → length log ≤ place → AreTidied clauses log place numbers kept index → ⊥
   tidied-all place numbers kept index refutes le h = go refutes.empty
     where

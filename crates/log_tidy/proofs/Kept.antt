@@ -96,7 +96,7 @@ module _ (clauses : List (List Lit)) (log : List Step) (used : List Bool) (refut
           from = λ j lt. let f = h.from j lt in (f.0, from-more (length clauses) numbers x kept kept stays used j f.0 f.1);
         }
 
-    -- a clause of the chain stands among the kept ones, by its new number
+    -- a clause of the chain is among the kept ones, by its new number
     clause-moved : (own : IsMarked used index) (n : ℕ) (d : List Lit) → Has step.chain n → clause_numbered (standing_before clauses log index) n ≡ Some d
         → clause_numbered (standing clauses kept) (new_number (length clauses) numbers n) ≡ Some d
     clause-moved own n d has at = elim (cases_lt (length clauses) n) [

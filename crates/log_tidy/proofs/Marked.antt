@@ -53,7 +53,7 @@ clear n k e = elim (cases_lt k n) [
   | inr more ↦ (let z : true ≡ false = sym e ∙ get_or_past (replicate n false) k false (omega (arith, more, length-replicate n false)) in let w : ⊥ = cc in w)
 ]
 
--- at first the last step alone is marked
+-- at first only the last step is marked
 pub marks-start : (count : ℕ) (log : List Step) (used : List Bool) → 0 < length log → used ≡ slice_set (replicate (length log) false) (length log - 1) true
     → AreMarked count log (length log) used
 marks-start count log used some is =

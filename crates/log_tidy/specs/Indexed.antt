@@ -1,4 +1,4 @@
--- Where a clause is found that lies within another one.
+-- The index that finds a clause within another one, which it subsumes.
 use Rattle.std.specs.Prelude.{ℕ, ◌≡◌, ◌<◌, ◌+◌, ◌++◌, ◌%◌, Bool, cond, List, [], ◌∷◌, Option, Some, None, length, slice_get, slice_index_or, slice_set}
 use Rattle.clause_lits.specs.declared.lit.Lit.{Lit}
 use Rattle.clause_log.specs.Members.{Has}
@@ -13,14 +13,14 @@ use Rattle.log_tidy.specs.Marks.{IsMarked}
 abbrev pub slot : ℕ → Lit → ℕ
 slot half l = cond l.positive (l.variable % half) (half + l.variable % half)
 
--- two slots for each remainder, and as many marks
+-- two slots for each remainder, and the same number of marks
 pub record IsSized (index : Index) : Type 0 where
   pub some : 0 < index.half
   pub small : index.half + index.half < 18446744073709551616
   pub lists : length index.lists.items ≡ index.half + index.half
   pub marks : length index.marks ≡ index.half + index.half
 
--- an entry of the clause stands in the slot of one of its literals, with the slot of one as a hint
+-- an entry of the clause is in the slot of one of its literals, with the slot of one as a hint
 pub record IsListed (half : ℕ) (lists : List (List Entry)) (number : ℕ) (d : List Lit) : Type 0 where
   pub literal : Lit
   pub has : Has d literal
@@ -47,7 +47,7 @@ AreCovered half marks c = (l : Lit) → Has c l → IsMarked marks (slot half l)
 abbrev pub IsHit : List (List Lit) → List Bool → List Lit → Entry → Type 0
 IsHit clauses marks c e = IsMarked marks e.hint × IsWithin clauses c e.number
 
--- none of the entries is that
+-- none of the entries is a hit
 abbrev pub AreNone : List (List Lit) → List Entry → List Bool → List Lit → Type 0
 AreNone clauses entries marks c =
     (e : Entry) → Has entries e → IsHit clauses marks c e → ⊥

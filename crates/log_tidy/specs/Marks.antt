@@ -17,7 +17,7 @@ pub record IsMarking (count : ℕ) (chain : List ℕ) (old new : List Bool) : Ty
 abbrev pub IsBelow : ℕ → List Step → ℕ → Type 0
 IsBelow count log index = (s : Step) (number : ℕ) → slice_get log index ≡ Some s → Has s.chain number → number ≤ count + index
 
--- a marked step from `start` on that the step at the index is in the chain of
+-- a marked step from `start` on whose chain has the step at the index
 pub record IsNeeded (count : ℕ) (log : List Step) (start : ℕ) (used : List Bool) (index : ℕ) : Type 0 where
   pub later : ℕ
   pub step : Step

@@ -9,20 +9,20 @@ use Rattle.log_tidy.specs.Marks.{IsMarked}
 use Rattle.log_tidy.specs.Numbers.{renumbered_step}
 use Rattle.log_tidy.specs.Used.{AreUsed}
 
--- a refutation of used steps alone, no longer than the log, and careful where that is
+-- a refutation of only used steps, no longer than the log, and careful where that is
 pub record IsTrimmed (clauses : List (List Lit)) (log kept : List Step) : Type 0 where
   pub refutes : Refutes clauses kept
   pub careful : IsCareful clauses log → IsCareful clauses kept
   pub used : AreUsed clauses kept
   pub shorter : length kept ≤ length log
 
--- the step at the index stands among the kept ones, by its new number
+-- the step at the index is among the kept ones, by its new number
 pub record IsMoved (count : ℕ) (numbers : List ℕ) (kept : List Step) (index : ℕ) (s : Step) : Type 0 where
   pub place : ℕ
   pub number : slice_get numbers index ≡ Some (count + place + 1)
   pub at : slice_get kept place ≡ Some (renumbered_step count numbers s)
 
--- a step that stands at the index
+-- the kept step at `place` is the marked one at the index
 abbrev pub IsFrom : ℕ → List Bool → List ℕ → ℕ → ℕ → Type 0
 IsFrom count used numbers place index =
     (index < length numbers) × IsMarked used index × (slice_get numbers index ≡ Some (count + place + 1))

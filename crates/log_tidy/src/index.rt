@@ -1,8 +1,8 @@
-//! Where a clause is found that lies within another one.
+//! The index that finds a clause within another one, which it subsumes.
 //!
-//! Each standing clause is listed under one of its literals, the one whose list is shortest so far,
-//! with a second literal of it as a hint. A clause that it lies within has both: so that one marks
-//! its literals, goes through their lists, and passes over each entry whose hint isn't marked.
+//! Each earlier clause is listed under one of its literals, the one whose list is shortest so far,
+//! with a second literal of it as a hint. A clause that it lies within has both: so the literals of
+//! that one are marked and their lists searched, without the entries whose hint isn't marked.
 
 ghost use Rattle.std.specs.Prelude.{◌≡◌, ◌<◌, ◌+◌, ◌↔◌, [], true, IfOk, IsTrue, OnOk, length};
 ghost use Rattle.clause_log.specs.Members.{Has};
@@ -33,7 +33,7 @@ pub struct Index {
     pub marks: Sequence<bool>,
 }
 
-/// The slot of a literal among twice as many as `half`.
+/// The slot of a literal among twice `half` slots.
 fn slot(half: usize, literal: Lit) -> usize
     requires some { 0 < half }
     requires small { half + half < 18446744073709551616 }
@@ -51,7 +51,7 @@ fn is_marked(marks: &Sequence<bool>, slot: usize) -> bool
     slot < marks.len() && *marks.get(slot)
 }
 
-/// Whether the number is of a standing clause within this one.
+/// Whether the number is of an earlier clause within this one.
 fn is_within(clauses: &[Clause], steps: &[Step], number: u64, clause: &Clause) -> bool
     ensures { IsTrue result ↔ inclusion.IsWithin (standing clauses.now steps.now) clause.now number }
 {
@@ -61,7 +61,7 @@ fn is_within(clauses: &[Clause], steps: &[Step], number: u64, clause: &Clause) -
     }
 }
 
-/// Whether the entry's hint is marked, and the entry of a standing clause within this one.
+/// Whether the entry's hint is marked, and the entry is of an earlier clause within this one.
 fn is_hit(
     clauses: &[Clause],
     steps: &[Step],
@@ -78,7 +78,7 @@ fn is_hit(
     }
 }
 
-/// The first of the entries that is of a standing clause within this one.
+/// The first of the entries that is of an earlier clause within this one.
 fn first_within(
     clauses: &[Clause],
     steps: &[Step],
@@ -152,7 +152,7 @@ impl Index {
         self.lists[slot(self.half, literal)].len()
     }
 
-    /// Enters one more clause, which has a literal.
+    /// Enters one more clause, which isn't empty.
     pub fn add(&mut self, number: u64, clause: &Clause) -> Result<(), NoMemory>
         requires sized { IsSized self.old }
         requires some { clause.now ≡ [] → ⊥ }
@@ -176,7 +176,7 @@ impl Index {
         self.lists[place].push(Entry { number, hint })
     }
 
-    /// The number of a standing clause that lies within this one, if there is one.
+    /// The number of an earlier clause that lies within this one, if there is one.
     pub fn find(&mut self, clauses: &[Clause], steps: &[Step], clause: &Clause) -> Option<u64>
         requires { IsIndexed (standing clauses.now steps.now) self.old }
         ensures found { IsFound (standing clauses.now steps.now) clause.now result }
@@ -188,7 +188,7 @@ impl Index {
         found
     }
 
-    /// The number of a standing clause within this one, whose slots are marked.
+    /// The number of an earlier clause within this one, whose slots are marked.
     fn found(&self, clauses: &[Clause], steps: &[Step], clause: &Clause) -> Option<u64>
         requires indexed { IsIndexed (standing clauses.now steps.now) self.now }
         requires covered { AreCovered self.now.half self.now.marks clause.now }

@@ -5,7 +5,7 @@
 //! clausal proofs", 2013). A search that forgets clauses may learn one again, or a weaker one;
 //! [`tidy`] makes of its log a careful one, in which no clause but the empty one includes an earlier
 //! one. Both promise that the log still refutes, and that each step but the last is used by a later
-//! one. It stands on `clause_search`; searches and questions stand on it.
+//! one. It uses `clause_search`; questions use it.
 #![tactic(auto)]
 
 mod inclusion;

@@ -26,7 +26,7 @@ fn clause_at<'a>(clauses: &'a [Clause], steps: &'a [Step], number: u64) -> &'a C
     clause
 }
 
-/// The step of one clause alone.
+/// The step whose chain is only this clause.
 pub fn alone(alloc: Global, clause: &Clause, number: u64) -> Result<Step, NoMemory>
     ensures { IfOk result (λ r. r ≡ record { chain = number ∷ []; clause = clause.now }) }
 {

@@ -19,8 +19,8 @@ use std::alloc::Global;
 use support::{NoMemory, Sequence};
 
 /// A careful log of sound steps that end in the empty clause. A search that forgets clauses may
-/// learn one again, or a weaker one: such a step is left out, and the steps whose chains it stands
-/// in are resolved again from the clause that lies within it.
+/// learn one again, or a weaker one: such a step is left out, and the steps whose chains name
+/// it are resolved again from the clause that lies within it.
 pub fn tidy(alloc: Global, clauses: &[Clause], log: Log) -> Result<Log, NoMemory>
     requires { Refutes clauses.now log }
     ensures refutes { IfOk result (Refutes clauses.now) }
@@ -59,7 +59,7 @@ fn empty_clause(clauses: &[Clause]) -> Option<usize>
     None
 }
 
-/// The index of the clauses, with room for so many steps.
+/// The index of the clauses, with room for this number of steps.
 fn indexed(alloc: Global, clauses: &[Clause], steps: usize) -> Result<Index, NoMemory>
     requires { Has clauses.now [] → ⊥ }
     ensures { IfOk result (IsIndexed clauses.now) }
@@ -75,10 +75,10 @@ fn indexed(alloc: Global, clauses: &[Clause], steps: usize) -> Result<Index, NoM
     Ok(index)
 }
 
-/// As many clauses can't be stored.
+/// This number of clauses can't be stored.
 const MOST_SLOTS: usize = 1 << 62;
 
-/// Adds a step, if no standing clause lies within its clause; the number of what does.
+/// Adds a step, if no earlier clause lies within its clause; the number of the one that does.
 fn add(clauses: &[Clause], kept: &mut Log, index: &mut Index, step: Step) -> Result<u64, NoMemory>
     requires stands { AreStanding clauses.now kept.old index.old }
     requires sound { spec.chain_resolvent (standing clauses.now kept.old) step.chain ≡ Some step.clause }

@@ -1,4 +1,4 @@
--- Digits as truths.
+-- Bits as truths.
 use Rattle.std.proofs.Common.{ℕ, zero, suc, ◌≡◌, ◌<◌, ◌-◌, ◌^◌, Bool, true, false, not, ◌&&◌, ◌||◌, List, refl, ap, subst, ◌∙◌, arith, bit_and, bit_or}
 use Rattle.std.proofs.Math.Dec.{eqb-suc-zero}
 use Rattle.bv_terms.specs.declared.term.TermId.{TermId}

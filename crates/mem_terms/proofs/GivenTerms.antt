@@ -1,4 +1,4 @@
--- What is made of the terms of an argument or of a given block stands for what they say.
+-- What is made of the terms of an argument or of a given block denotes what they say.
 use Rattle.std.proofs.Common.{ℕ, zero, suc, ◌≡◌, ◌+◌, ◌<◌, ◌≤◌, ◌%◌, ◌^◌, Bool, true, false, cond, List, [], ◌∷◌, ◌++◌, length, map, take, get_or, slice_get, Some, refl, ap, sym, ◌∙◌, subst, arith, length-append}
 use Rattle.std.proofs.lemmas.List.{length-take-le, take_all}
 use Rattle.std.proofs.lemmas.Option.{get_or_from_slice_get}
@@ -46,14 +46,14 @@ ptr_arg-stands old a new type.Ptr flag block offset id is_pointer range h k m k'
     let whole = keeps_trans old a new k k' in
     rw (t.says r.v, bit-later old new whole r.v flag h.0.within, term-later a new k' r.v id m.within, m.says r.v, in_64 old 3 block range h.1 (omega arith) r.v, term-later old new whole r.v offset h.2.within) refl
 
--- a place of a given block
+-- a byte of a given block
 pub given_byte-stands : (old new : List Term) (b : ByteTerms) (block : TermId) → AreInRange old → IsByteTerms old b → Keeps old new → Makes new block 64 (λ v. term_at v old b.block % 2 ^ 64)
     → (r : Reading) → byte_at r new (record { kind = b.kind; number = b.number; block = block; offset = b.offset; part = b.part }) ≡ given_byte_at r old b
 unfolding byte_at given_byte_at
 given_byte-stands old new b block range h k m r =
     rw (m.says r.v, in_64 old 3 b.block range h.block (omega arith) r.v, term-later old new k r.v b.kind h.kind.within, term-later old new k r.v b.number h.number.within, term-later old new k r.v b.offset h.offset.within, term-later old new k r.v b.part h.part.within) refl
 
--- so many bytes are those of the first places
+-- the bytes so far are the first of the contents
 pub record BytesSoFar (old new : List Term) (places : List ByteTerms) (i : ℕ) (bytes : List SymByte) : Type 0 where
   pub kept : Keeps old new
   pub made : AreSymBytes new bytes
@@ -119,7 +119,7 @@ given_blocks-push r terms n (s ∷ sizes) (l ∷ lists) size places e =
 given_blocks-push r terms n [] (l ∷ lists) size places e = absurd (omega (arith, e))
 given_blocks-push r terms n (s ∷ sizes) [] size places e = absurd (omega (arith, e))
 
--- so many blocks are those of the first sizes and places
+-- the blocks so far are those of the first sizes and contents
 pub record BlocksSoFar (old new : List Term) (sizes : List TermId) (lists : List (List ByteTerms)) (i : ℕ) (bs : List SymBlock) : Type 0 where
   pub kept : Keeps old new
   pub made : AreSymBlocks new bs
@@ -177,7 +177,7 @@ cond-push : {A : Type 0} (c : Bool) (xs ys : List A) (x y : A) → cond c xs ys 
 cond-push true xs ys x y = refl
 cond-push false xs ys x y = refl
 
--- so many bytes are the first ones of either list
+-- the bytes so far are the first ones of either list
 pub record PickedBytes (old new : List Term) (c : TermId) (xs ys : List SymByte) (i : ℕ) (picked : List SymByte) : Type 0 where
   pub kept : Keeps old new
   pub made : AreSymBytes new picked
@@ -232,7 +232,7 @@ pick_block-stands old g1 g2 new c exists size places a b hc ha hb frame k1 k2 ms
     (picked_block (bit_at r.v old c) r.name a.number b.number a.align b.align (term_at r.v old a.size) (term_at r.v old b.size) (places_at r old a.places) (places_at r old b.places)
     (ap (λ (f : SymFrame). f.number) frame) (ap (λ (f : SymFrame). f.align) frame))
 
--- so many blocks are the first ones of either list
+-- the blocks so far are the first ones of either list
 pub record PickedBlocks (old new : List Term) (c : TermId) (xs ys : List SymBlock) (i : ℕ) (picked : List SymBlock) : Type 0 where
   pub kept : Keeps old new
   pub made : AreSymBlocks new picked
@@ -244,7 +244,7 @@ always-picked : (c : Bool) (p q : Bool) → p ≡ true → q ≡ true → cond c
 always-picked true p q e f = e
 always-picked false p q e f = f
 
--- two with one frame each at every place
+-- two with one frame each at every index
 pub frame-at : (xs ys : List SymBlock) (i : ℕ) (x y : SymBlock) → map frame_of ys ≡ map frame_of xs → i < length xs → i < length ys → x ≡ get_or xs i x → y ≡ get_or ys i y → frame_of y ≡ frame_of x
 frame-at xs ys i x y e lt lt_y ix iy =
     sym (map-at frame_of ys i y (frame_of x) lt_y iy)

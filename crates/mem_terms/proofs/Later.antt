@@ -35,7 +35,7 @@ keeps_trans a b c p q = record {
 pub keeps_self : (a : List Term) → Keeps a a
 keeps_self a = record { longer = omega arith; terms = λ i lt. refl; kept = λ x lt. refl; calm = refl }
 
--- the places of blocks are bytes
+-- the contents of blocks are bytes
 pub block_terms-bytes : (bytes : ℕ) (terms : List Term) (bs : List (List ByteTerms)) → Each (IsBlockTerms bytes terms) bs → Each (Each (IsByteTerms terms)) bs
 block_terms-bytes bytes terms bs h = each-weaker (IsBlockTerms bytes terms) (Each (IsByteTerms terms)) bs (λ b i. i.are) h
 

@@ -1,4 +1,4 @@
--- What is made of several terms stands for what they say.
+-- What is made of several terms denotes what they say.
 use Rattle.std.proofs.Common.{ℕ, ◌≡◌, ◌<◌, ◌≤◌, ◌/◌, ◌%◌, ◌^◌, Bool, true, false, cond, List, length, refl, ap, sym, ◌∙◌, arith, pow_mono}
 use Rattle.std.proofs.Math.Nat.{mod-eq_of_lt}
 use Rattle.bv_terms.specs.declared.term.TermId.{TermId}

@@ -1,4 +1,4 @@
--- What is made of the terms of a byte stands for what they say.
+-- What is made of the terms of a byte denotes what they say.
 use Rattle.std.proofs.Common.{ℕ, ◌≡◌, Bool, true, false, cond, List, refl}
 use Rattle.byte_block.specs.declared.value.BlockName.{BlockName}
 use Rattle.byte_block.specs.declared.value.Byte.TheVariants.{Poison}

@@ -1,4 +1,4 @@
--- What the terms of an input and of a tape stand for under an assignment of the variables.
+-- What the terms of an input and of a tape denote under an assignment of the variables.
 use Rattle.std.specs.Prelude.{◌≡◌, ℕ, ◌+◌, true, List, [], ◌∷◌, length, map}
 use Rattle.ir_tree.specs.declared.tree.IrType.{IrType}
 use Rattle.ir_tree.specs.declared.tree.IrType.TheVariants as type
@@ -47,7 +47,7 @@ given_byte_at r terms b = byte_of (term_at r.v terms b.kind) (term_at r.v terms 
 abbrev pub given_block_at : Reading → List Term → (number : ℕ) → TermId → List ByteTerms → MemoryBlock
 given_block_at r terms number size places = record { name = r.name number; size = term_at r.v terms size; align = 16; places = map (given_byte_at r terms) places }
 
--- the blocks of these sizes and places, the first of them with this number
+-- the blocks of these sizes and contents, the first of them with this number
 abbrev pub given_blocks_at : Reading → List Term → (number : ℕ) → List TermId → List (List ByteTerms) → List MemoryBlock
 given_blocks_at r terms number (size ∷ sizes) (places ∷ rest) = given_block_at r terms number size places ∷ given_blocks_at r terms (number + 1) sizes rest
 given_blocks_at r terms number _ _ = []
@@ -63,14 +63,14 @@ pub record IsByteTerms (terms : List Term) (b : ByteTerms) : Type 0 where
   pub offset : IsTerm terms 64 b.offset
   pub part : IsTerm terms 3 b.part
 
--- so many places
+-- `bytes` bytes
 pub record IsBlockTerms (bytes : ℕ) (terms : List Term) (places : List ByteTerms) : Type 0 where
   pub count : length places ≡ bytes
   pub are : Each (IsByteTerms terms) places
 
 -- ---- the whole input
 
--- an argument for each parameter, and for each of so many given blocks a size, below 64, and its places
+-- an argument for each parameter, and for each of the given blocks a size, below 64, and its contents
 pub record IsInput (ps : List Parameter) (blocks bytes : ℕ) (terms : List Term) (input : InputTerms) : Type 0 where
   pub args : AreArgs terms ps input.args
   pub size_count : length input.sizes ≡ blocks

@@ -1,4 +1,4 @@
--- What symbolic memory stands for under an assignment of the variables.
+-- What symbolic memory denotes under an assignment of the variables.
 use Rattle.std.specs.Prelude.{◌≡◌, ℕ, zero, suc, ◌+◌, ◌<◌, true, cond, nat_eq, List, [], ◌∷◌, length, map}
 use Rattle.byte_block.specs.declared.value.Ptr.{Ptr}
 use Rattle.byte_block.specs.declared.value.Byte.{Byte}
@@ -54,7 +54,7 @@ AreSymBlocks terms blocks = Each (IsSymBlock terms) blocks
 
 -- ---- given blocks
 
--- what is known of a block at once
+-- what is known of a block without an assignment
 pub record SymFrame : Type 0 where
   pub number : ℕ
   pub align : ℕ
@@ -63,11 +63,11 @@ pub record SymFrame : Type 0 where
 abbrev pub frame_of : SymBlock → SymFrame
 frame_of b = record { number = b.number; align = b.align; room = length b.places }
 
--- it is there in every run
+-- it exists in every run
 abbrev pub IsAlways : List Term → SymBlock → Type 0
 IsAlways terms b = (v : ℕ → ℕ → ℕ) → bit_at v terms b.exists ≡ true
 
--- so many blocks with room for so many bytes, and the numbers from the first on
+-- `blocks` blocks with room for `bytes` bytes each, and the numbers from `first` on
 abbrev pub given_frames : (first blocks bytes : ℕ) → List SymFrame
 given_frames first zero bytes = []
 given_frames first (suc n) bytes = record { number = first; align = 16; room = bytes } ∷ given_frames (first + 1) n bytes

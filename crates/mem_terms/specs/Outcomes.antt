@@ -13,7 +13,7 @@ use Rattle.mem_terms.specs.Memory.{AreSymBlocks, IsAlways, frame_of, given_frame
 abbrev pub outcome_at : Reading → List Term → OutcomeTerms → Outcome
 outcome_at r terms o = cond (bit_at r.v terms o.ub) Ub (cond (bit_at r.v terms o.beyond) Beyond (Return (option_map (value_at r terms) o.value) (memory_at r terms o.blocks)))
 
--- the blocks are there in every run
+-- the blocks exist in every run
 pub record IsOutcome (terms : List Term) (o : OutcomeTerms) : Type 0 where
   pub ub : IsTerm terms 1 o.ub
   pub beyond : IsTerm terms 1 o.beyond
@@ -23,11 +23,11 @@ pub record IsOutcome (terms : List Term) (o : OutcomeTerms) : Type 0 where
   pub read : IsTerm terms 64 o.read
   pub plain : IsTerm terms 1 o.plain
 
--- they are so many given ones, with room for so many bytes each
+-- they are `blocks` given ones, with room for `bytes` bytes each
 abbrev pub LeavesGiven : (blocks bytes : ℕ) → OutcomeTerms → Type 0
 LeavesGiven blocks bytes o = map frame_of o.blocks ≡ given_frames 1 blocks bytes
 
--- they tell how the run on this tape ended, how many words of it were read, and whether the tape is plain for it
+-- they show how the run on this tape ended, how many words of it were read, and whether the tape is plain for it
 pub record Shows (r : Reading) (terms : List Term) (tape : List ℕ) (run : Run) (o : OutcomeTerms) : Type 0 where
   pub outcome : outcome_at r terms o ≡ run.outcome
   pub read : term_at r.v terms o.read ≡ length run.taken

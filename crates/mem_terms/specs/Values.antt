@@ -1,4 +1,4 @@
--- What symbolic values stand for under an assignment of the variables.
+-- What symbolic values denote under an assignment of the variables.
 use Rattle.std.specs.Prelude.{◌≡◌, ℕ, zero, suc, ◌+◌, ◌*◌, ◌-◌, ◌/◌, ◌%◌, nat_lt, Bool, cond, if◌then◌else◌, List, [], ◌∷◌, map, Option, Some, None}
 use Rattle.byte_block.specs.declared.value.BlockName.{BlockName}
 use Rattle.byte_block.specs.declared.value.BlockName.TheVariants.{Null, Given, Local}
@@ -19,7 +19,7 @@ Each P (x ∷ xs) = P x × Each P xs
 abbrev pub value_from : Bool → ℕ → Value
 value_from poison number = cond poison Poison (Num number)
 
--- none is undefined behaviour
+-- None is undefined behaviour
 abbrev pub option_from : Bool → Value → Option Value
 option_from undefined value = cond undefined None (Some value)
 
@@ -46,12 +46,12 @@ pub record IsNaming (name : ℕ → BlockName) : Type 0 where
 unfoldable pub first_local : ℕ → ℕ
 first_local given = if nat_lt given 8 then 8 else given + 1
 
--- the numbers of given blocks follow null's 0, and after them come those of allocas, 65,536 for each turn; no memory has a block of a number between
+-- the numbers of given blocks follow null's 0, and after them come those of allocas, 65,536 for each count of backward jumps; no memory has a block of a number between
 abbrev pub block_name : ℕ → ℕ → BlockName
 block_name given zero = Null
 block_name given (suc k) = if nat_lt (suc k) (first_local given) then Given (suc k) else Local ((suc k - first_local given) / 65536) ((suc k - first_local given) % 65536)
 
--- the number of the block that the alloca of this number makes in a turn
+-- the number of the block that the alloca of this number makes after `turn` backward jumps
 abbrev pub local_number : (given turn alloca : ℕ) → ℕ
 local_number given turn alloca = first_local given + (turn * 65536 + alloca)
 
@@ -77,7 +77,7 @@ pub record IsSymValue (terms : List Term) (s : SymValue) : Type 0 where
 abbrev pub AreSymValues : List Term → List SymValue → Type 0
 AreSymValues terms ss = Each (IsSymValue terms) ss
 
--- a value where an integer is used: a pointer is none
+-- a value where an integer is used: a pointer gives poison
 abbrev pub as_integer : Value → Value
 as_integer (Num n) = Num n
 as_integer Poison = Poison

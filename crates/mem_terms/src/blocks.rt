@@ -7,8 +7,8 @@ use crate::bytes::SymByte;
 use bv_terms::TermId;
 use support::Sequence;
 
-/// A block that is there in some runs. Its alignment and how many places it has are known, its size
-/// may not be.
+/// A block that exists in some runs. Its alignment and how many bytes it has room for are known,
+/// its size may not be.
 #[derive(Drop)]
 pub struct SymBlock {
     /// Its number, from 1.

@@ -11,7 +11,7 @@ use bv_terms::{TermId, Terms};
 use support::NoMemory;
 use term_rules::constant;
 
-/// A byte: a number where the kind is 0, a part of a pointer where it is 1, and else poison. A field
+/// A byte: a number where the kind is 0, a part of a pointer where it is 1, else poison. A field
 /// that the kind doesn't use has no meaning.
 #[derive(Clone, Copy, Debug, PartialEq, Eq)]
 pub struct SymByte {
@@ -27,7 +27,7 @@ pub struct SymByte {
     pub part: TermId,
 }
 
-/// Poison always.
+/// Always poison.
 pub fn poison_byte(terms: &mut Terms) -> Result<SymByte, NoMemory>
     ensures made { IfOk result (IsSymByte terms.new) }
     ensures stands { IfOk result (λ b. (r : Reading) → byte_at r terms.new b ≡ Poison) }
@@ -46,7 +46,7 @@ pub fn poison_byte(terms: &mut Terms) -> Result<SymByte, NoMemory>
     })
 }
 
-/// The first byte where the condition is true, and else the second.
+/// The first byte where the condition is true, else the second.
 pub fn pick_byte(terms: &mut Terms, c: TermId, a: SymByte, b: SymByte) -> Result<SymByte, NoMemory>
     requires c { IsTerm terms.old 1 c }
     requires a { IsSymByte terms.old a }

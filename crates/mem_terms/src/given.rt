@@ -20,7 +20,7 @@ use support::{NoMemory, Sequence};
 /// The alignment of a given block in bytes.
 const GIVEN_ALIGN: u64 = 16;
 
-/// The argument of a parameter of this type as a value, its number widened with zeros.
+/// The argument of a parameter of this type as a value, its number zero-extended.
 pub fn arg_value(terms: &mut Terms, a: ArgTerms, of_type: IrType) -> Result<SymValue, NoMemory>
     requires { IsArg terms.old of_type a }
     ensures made { IfOk result (IsSymValue terms.new) }
@@ -57,7 +57,7 @@ pub fn arg_value(terms: &mut Terms, a: ArgTerms, of_type: IrType) -> Result<SymV
     }
 }
 
-/// A place of a given block as a byte.
+/// A symbolic byte of a given block.
 fn given_byte(terms: &mut Terms, b: ByteTerms) -> Result<SymByte, NoMemory>
     requires { IsByteTerms terms.old b }
     ensures made { IfOk result (IsSymByte terms.new) }
@@ -75,7 +75,7 @@ fn given_byte(terms: &mut Terms, b: ByteTerms) -> Result<SymByte, NoMemory>
     })
 }
 
-/// The places of a given block as bytes.
+/// The contents of a given block as symbolic bytes.
 fn given_places(
     alloc: Global,
     terms: &mut Terms,
@@ -148,7 +148,7 @@ pub fn given_blocks(
     Ok(Sequence::from_vec(blocks))
 }
 
-/// The first bytes where the condition is true, and else the second, of which there are as many.
+/// The first bytes where the condition is true, else the second; both have the same length.
 fn pick_places(
     alloc: Global,
     terms: &mut Terms,
@@ -173,8 +173,8 @@ fn pick_places(
     Ok(Sequence::from_vec(picked))
 }
 
-/// The first block where the condition is true, and else the second; both have one number, one
-/// alignment and as many places.
+/// The first block where the condition is true, else the second; both have the same number, the
+/// same alignment and room for the same number of bytes.
 pub fn pick_block(
     alloc: Global,
     terms: &mut Terms,
@@ -204,8 +204,8 @@ pub fn pick_block(
     })
 }
 
-/// The first given blocks where the condition is true, and else the second; block by block they have
-/// one number, one alignment and as many places.
+/// The first given blocks where the condition is true, else the second; block by block they have
+/// the same number, the same alignment and room for the same number of bytes.
 pub fn pick_given(
     alloc: Global,
     terms: &mut Terms,

@@ -18,7 +18,7 @@ pub enum ArgTerms {
     },
 }
 
-/// The five numbers of a place of a given block: kind, number, block, offset and part.
+/// The five numbers of a byte of a given block: kind, number, block, offset and part.
 #[derive(Clone, Copy, Debug, PartialEq, Eq)]
 pub struct ByteTerms {
     pub kind: TermId,

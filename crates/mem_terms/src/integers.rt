@@ -10,15 +10,15 @@ use crate::truths::truth;
 use bv_terms::{TermId, Terms};
 use support::NoMemory;
 
-/// A value: poison where the first is true, and else the number, of 64 digits (LLVM Language
-/// Reference, "Poison Values").
+/// A value: poison where the first is true, else the number, of 64 bits (LLVM Language Reference,
+/// "Poison Values").
 #[derive(Clone, Copy, Debug, PartialEq, Eq)]
 pub struct SymNumber {
     pub poison: TermId,
     pub number: TermId,
 }
 
-/// Poison always.
+/// Always poison.
 pub fn poison_number(terms: &mut Terms) -> Result<SymNumber, NoMemory>
     ensures made { IfOk result (IsSymNumber terms.new) }
     ensures stands { IfOk result (λ s. (v : ℕ → ℕ → ℕ) → number_at v terms.new s ≡ Poison) }
@@ -29,7 +29,7 @@ pub fn poison_number(terms: &mut Terms) -> Result<SymNumber, NoMemory>
     Ok(SymNumber { poison, number })
 }
 
-/// This number always.
+/// Always this number.
 pub fn known_number(terms: &mut Terms, n: u64) -> Result<SymNumber, NoMemory>
     ensures made { IfOk result (IsSymNumber terms.new) }
     ensures stands { IfOk result (λ s. (v : ℕ → ℕ → ℕ) → number_at v terms.new s ≡ Num n) }
@@ -40,7 +40,7 @@ pub fn known_number(terms: &mut Terms, n: u64) -> Result<SymNumber, NoMemory>
     Ok(SymNumber { poison, number })
 }
 
-/// The first value where the condition is true, and else the second.
+/// The first value where the condition is true, else the second.
 pub fn pick_number(
     terms: &mut Terms,
     c: TermId,

@@ -1,9 +1,9 @@
 //! What a run knows, as terms over bit vectors: values, arguments, given blocks, tapes and outcomes.
 //!
-//! What each stands for under an assignment of the variables is a function of the assignment, and
-//! each call here promises what its term or value stands for under every one. It stands on
-//! `bv_terms` and `term_rules`, and on `points` for the values and outcomes that are meant; the instruction table as
-//! terms, and runs as terms, stand on it.
+//! What each denotes under an assignment of the variables is a function of the assignment, and each
+//! call here promises what its term or value denotes under every one. It builds on `bv_terms` and
+//! `term_rules`, and on `points` for the values and outcomes that are meant; the instruction table
+//! as terms, and runs as terms, use it.
 #![tactic(auto)]
 
 mod blocks;

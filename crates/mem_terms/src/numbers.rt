@@ -8,7 +8,7 @@ use bv_terms::{TermId, Terms};
 use support::NoMemory;
 use term_rules::{constant, eq, extract, ite, slt, ult, zext};
 
-/// A known number of 64 digits.
+/// A known number of 64 bits.
 pub fn number(terms: &mut Terms, n: u64) -> Result<TermId, NoMemory>
     ensures made { IfOk result (λ id. Makes terms.new id 64 (λ _. n)) }
     ensures kept { Keeps terms.old terms.new }
@@ -16,7 +16,7 @@ pub fn number(terms: &mut Terms, n: u64) -> Result<TermId, NoMemory>
     constant(terms, n as u128, 64)
 }
 
-/// The low digits of a number, as many as the width, or the number with zeros before it.
+/// A number truncated or zero-extended to the width.
 pub fn resize(terms: &mut Terms, a: TermId, width: u32) -> Result<TermId, NoMemory>
     requires within { a.index < length terms.old }
     requires wide { IsWidth width }
@@ -33,7 +33,7 @@ pub fn resize(terms: &mut Terms, a: TermId, width: u32) -> Result<TermId, NoMemo
     }
 }
 
-/// The first of two of one width where the condition is true, and else the second.
+/// The first of two numbers of the same width where the condition is true, else the second.
 pub fn pick(terms: &mut Terms, c: TermId, a: TermId, b: TermId) -> Result<TermId, NoMemory>
     requires c { IsTerm terms.old 1 c }
     requires a { a.index < length terms.old }
@@ -46,7 +46,7 @@ pub fn pick(terms: &mut Terms, c: TermId, a: TermId, b: TermId) -> Result<TermId
     Ok(id)
 }
 
-/// Whether two of one width are equal.
+/// Whether two numbers of the same width are equal.
 pub fn equals(terms: &mut Terms, a: TermId, b: TermId) -> Result<TermId, NoMemory>
     requires a { a.index < length terms.old }
     requires b { b.index < length terms.old }
@@ -58,7 +58,7 @@ pub fn equals(terms: &mut Terms, a: TermId, b: TermId) -> Result<TermId, NoMemor
     Ok(id)
 }
 
-/// Whether the first of two of one width is less, as unsigned numbers.
+/// Whether the first of two numbers of the same width is less, unsigned.
 pub fn less(terms: &mut Terms, a: TermId, b: TermId) -> Result<TermId, NoMemory>
     requires a { a.index < length terms.old }
     requires b { b.index < length terms.old }
@@ -70,7 +70,7 @@ pub fn less(terms: &mut Terms, a: TermId, b: TermId) -> Result<TermId, NoMemory>
     Ok(id)
 }
 
-/// Whether the first of two of one width is less, in two's complement.
+/// Whether the first of two numbers of the same width is less, in two's complement.
 pub fn less_signed(terms: &mut Terms, a: TermId, b: TermId) -> Result<TermId, NoMemory>
     requires a { a.index < length terms.old }
     requires b { b.index < length terms.old }

@@ -4,9 +4,9 @@ use bv_terms::TermId;
 use support::Sequence;
 
 /// How a run ends: in undefined behaviour where `ub` is true, else past the bound on jumps where
-/// `beyond` is, and else in a return, with a value unless the function is `void`, which leaves the
-/// given blocks so; how many words of the tape it read, as a term of 64 bits; and whether the tape
-/// is plain for it.
+/// `beyond` is, else in a return, with a value unless the function is `void`, which leaves these
+/// given blocks; how many words of the tape it read, as a term of 64 bits; and whether the tape is
+/// plain for it.
 #[derive(Drop)]
 pub struct OutcomeTerms {
     pub ub: TermId,

@@ -1,4 +1,4 @@
-//! Truths: terms of one digit.
+//! Truth values: terms of one bit.
 
 ghost use Rattle.std.specs.Prelude.{◌≡◌, ◌&&◌, ◌||◌, not, IfOk};
 ghost use Rattle.bv_terms.specs.Trees.{IsTerm, Keeps, Tests, bit_at};
@@ -7,7 +7,7 @@ use bv_terms::{TermId, Terms};
 use support::NoMemory;
 use term_rules::{and, constant, not, or};
 
-/// True always, or never.
+/// Always true, or always false.
 pub fn truth(terms: &mut Terms, value: bool) -> Result<TermId, NoMemory>
     ensures made { IfOk result (λ id. Tests terms.new id (λ _. value)) }
     ensures kept { Keeps terms.old terms.new }
@@ -19,7 +19,7 @@ pub fn truth(terms: &mut Terms, value: bool) -> Result<TermId, NoMemory>
     }
 }
 
-/// True where the other is not.
+/// True where the term is false.
 pub fn negation(terms: &mut Terms, a: TermId) -> Result<TermId, NoMemory>
     requires { IsTerm terms.old 1 a }
     ensures made { IfOk result (λ id. Tests terms.new id (λ v. not (bit_at v terms.old a))) }

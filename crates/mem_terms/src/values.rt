@@ -12,7 +12,7 @@ use crate::truths::{either, negation, truth};
 use bv_terms::{TermId, Terms};
 use support::NoMemory;
 
-/// A value: poison where the first is true, else a pointer where the second is, and else a number
+/// A value: poison where the first is true, else a pointer where the second is, else a number
 /// (LLVM Language Reference, "Poison Values", "Pointer Type"). Where the kind is known its term is a
 /// constant, and the fields that the kind doesn't use are constants.
 #[derive(Clone, Copy, Debug, PartialEq, Eq)]
@@ -25,7 +25,7 @@ pub struct SymValue {
     pub number: TermId,
 }
 
-/// Poison always.
+/// Always poison.
 pub fn poison_value(terms: &mut Terms) -> Result<SymValue, NoMemory>
     ensures made { IfOk result (IsSymValue terms.new) }
     ensures stands { IfOk result (λ s. (r : Reading) → value_at r terms.new s ≡ Poison) }
@@ -59,7 +59,7 @@ pub fn integer_value(terms: &mut Terms, n: SymNumber) -> Result<SymValue, NoMemo
     })
 }
 
-/// A pointer always, to this offset in the block with this number.
+/// Always a pointer, to this offset in the block with this number.
 pub fn pointer_value(terms: &mut Terms, block: TermId, offset: TermId) -> Result<SymValue, NoMemory>
     requires block { IsTerm terms.old 64 block }
     requires offset { IsTerm terms.old 64 offset }
@@ -118,7 +118,7 @@ pub fn as_address(terms: &mut Terms, s: SymValue) -> Result<SymValue, NoMemory>
     })
 }
 
-/// The first value where the condition is true, and else the second.
+/// The first value where the condition is true, else the second.
 pub fn pick_value(
     terms: &mut Terms,
     c: TermId,

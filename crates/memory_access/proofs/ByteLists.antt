@@ -66,7 +66,7 @@ pub number_of-poison : (bytes : List Byte) (i : ℕ) → i < length bytes → ge
 unfolding number_of_bytes
 number_of-poison bytes i within is = at_drop_more number_of_bytes bytes i (Num 0) within ∙ rw is refl
 
--- a byte that is no number, at an index or later, is met from the front too
+-- a byte that is no number, at an index or later, is met from the start too
 pub number_of-none : (bytes : List Byte) (i : ℕ) → number_of_bytes (drop i bytes) ≡ None → number_of_bytes bytes ≡ None
 unfolding number_of_bytes
 number_of-none bytes zero none = none

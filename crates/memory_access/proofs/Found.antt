@@ -4,7 +4,7 @@ use Rattle.std.specs.Prelude.{slice_get, slice_set}
 use Rattle.std.specs.List.{find, position_from}
 use Rattle.memory_access.specs.Accesses.{first_changed}
 
--- ---- what is at its place
+-- ---- what is at its index
 
 pub record FirstAt {X : Type 0} (t : X → Bool) (xs : List X) (j : ℕ) : Type 0 where
   pub within : j < length xs

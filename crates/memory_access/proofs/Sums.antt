@@ -84,7 +84,7 @@ unfolding wrapped
 wrapped-euclid n (pos a) = refl
 wrapped-euclid n (negsuc a) = refl
 
--- so many wholes more, and the sum is this number
+-- a number of wholes more, and the sum is this number
 record Raised (m : ℕ) (z : ℤ) : Type 0 where
   wholes : ℕ
   number : ℕ

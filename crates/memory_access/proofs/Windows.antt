@@ -34,7 +34,7 @@ get-take_past (suc n) [] k past = refl
 get-take_past (suc n) (x ∷ xs) zero past = absurd (omega arith)
 get-take_past (suc n) (x ∷ xs) (suc k) past = get-take_past n xs k (omega arith)
 
--- ---- bytes in the place of those from an offset on
+-- ---- bytes that replace those from an offset on
 
 abbrev pub over : {X : Type 0} → List X → ℕ → List X → List X
 over xs offset bytes = take offset xs ++ (bytes ++ drop (offset + length bytes) xs)
@@ -47,7 +47,7 @@ length-over xs offset bytes room =
     let part = length-append bytes (drop (offset + length bytes) xs) in
     omega (arith, front, rest, whole, part)
 
--- the first bytes of the list are so many as before
+-- the first bytes of the list are the same number as before
 pub length-take-over : {X : Type 0} (xs : List X) (offset : ℕ) (bytes : List X) (size : ℕ) → offset + length bytes ≤ length xs → length (take size (over xs offset bytes)) ≡ length (take size xs)
 length-take-over xs offset bytes size room =
     length-take size (over xs offset bytes) ∙ ap (min size) (length-over xs offset bytes room) ∙ sym (length-take size xs)

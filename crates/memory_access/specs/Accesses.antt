@@ -43,7 +43,7 @@ load_result memory at access align =
 
 -- ---- store
 
--- these bytes in the place of those from the offset on
+-- these bytes instead of those from the offset on
 abbrev pub overwritten : List Byte → ℕ → MemoryBlock → MemoryBlock
 overwritten bytes offset b =
     record b { places = take offset b.places ++ (bytes ++ drop (offset + length bytes) b.places) }
@@ -54,7 +54,7 @@ first_changed test change [] = []
 first_changed test change (x ∷ xs) =
     if test x then change x ∷ xs else x ∷ first_changed test change xs
 
--- the bytes at a pointer are these, and all else is as it was
+-- the bytes at a pointer are these, and all else is unchanged
 abbrev pub with_bytes : List MemoryBlock → Value → List Byte → List MemoryBlock
 with_bytes memory (value.Ptr p) bytes =
     first_changed (names p.block) (overwritten bytes p.offset) memory
@@ -64,7 +64,7 @@ abbrev pub store_result : List MemoryBlock → Access → Value → ℕ → Stor
 store_result memory access at align =
     if is_defined memory at (access_size access) align then stored.Done else stored.Ub
 
--- the memory after a store; undefined behaviour leaves it as it was
+-- the memory after a store; undefined behaviour leaves it unchanged
 abbrev pub after_store : List MemoryBlock → Value → Access → Value → ℕ → List MemoryBlock
 after_store memory value access at align =
     if is_defined memory at (access_size access) align

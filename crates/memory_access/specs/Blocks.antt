@@ -26,11 +26,11 @@ names (Local turn place) b = equal_names (Local turn place) b.name
 abbrev pub block_named : List MemoryBlock → BlockName → Option MemoryBlock
 block_named memory name = find (names name) memory
 
--- the bytes of a block are its places below its size
+-- the bytes of a block are its contents below its size
 abbrev pub block_bytes : MemoryBlock → List Byte
 block_bytes b = take b.size b.places
 
--- how many bytes it has; a block that is made right has as many as its size
+-- how many bytes it has; in a well-formed block this is its size
 abbrev pub block_size : MemoryBlock → ℕ
 block_size b = length (block_bytes b)
 

@@ -47,7 +47,7 @@ BytesHoldValues = (access : Access) (v : Value) → Fits access v
 
 -- ---- loads and stores
 
--- a load of what was stored, by the same access at the same place
+-- a load of what was stored, by the same access at the same address
 abbrev pub LoadsGiveStores : Type 0
 LoadsGiveStores = (memory : List MemoryBlock) (v : Value) (access : Access) (at : Value) (align : ℕ)
     → Fits access v
@@ -76,7 +76,7 @@ pub record Frame : Type 0 where
 abbrev pub frame_of : MemoryBlock → Frame
 frame_of b = record { name = b.name; size = b.size; align = b.align; places = length b.places }
 
--- a store keeps each block's name, size, alignment and number of places
+-- a store keeps each block's name, size, alignment and the length of its contents
 abbrev pub StoresKeepFrames : Type 0
 StoresKeepFrames = (memory : List MemoryBlock) (v : Value) (access : Access) (at : Value)
     (align : ℕ)

@@ -49,7 +49,7 @@ partial_sums sum (i ∷ indices) = sum ∷ partial_sums (sum +ℤ scaled i) indi
 abbrev pub last_sum : ℤ → List Index → ℤ
 last_sum sum indices = fold (λ z i. z +ℤ scaled i) sum indices
 
--- a sum is no offset in a block of this size, nor that of its end
+-- a sum is neither an offset in a block of this size nor that of its end
 abbrev pub is_outside : ℕ → ℤ → Bool
 is_outside size z = int_lt z (pos 0) || int_lt (pos size) z
 
@@ -59,7 +59,7 @@ leaves_block size offset indices = list_any (is_outside size) (partial_sums (pos
 
 -- ---- the result
 
--- some index isn't 0, and the way leaves the block; where there is none its size is 0
+-- some index isn't 0, and a partial sum leaves the block; where there is no block its size is 0
 abbrev pub breaks_inbounds : List MemoryBlock → Ptr → List Index → Bool
 breaks_inbounds memory p indices =
     list_any is_nonzero indices

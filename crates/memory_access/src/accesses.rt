@@ -36,7 +36,7 @@ fn load_in(block: &MemoryBlock, offset: u64, access: Access, align: u64) -> Load
 }
 
 /// What a load gives (LLVM Language Reference, "load Instruction"): undefined behaviour where the
-/// address is no pointer to as many bytes of a block, aligned to `align` bytes; otherwise the value
+/// address does not point to that many bytes of a block, aligned to `align`; otherwise the value
 /// of the bytes. It is poison where not all bytes of an integer are numbers, or the bytes of a
 /// pointer are not the parts of one in order.
 pub fn load(memory: &Memory, at: Value, access: Access, align: u64) -> Loaded
@@ -52,7 +52,7 @@ pub fn load(memory: &Memory, at: Value, access: Access, align: u64) -> Loaded
     }
 }
 
-/// Writes the bytes of a value over the places from an index on.
+/// Overwrites the bytes from an index on with the bytes of a value.
 fn write_value(places: &mut Sequence<Byte>, from: usize, value: Value, access: Access)
     requires { from + access_size access ≤ length places.old }
     ensures { let bytes = value_bytes access value in
@@ -69,7 +69,7 @@ fn write_value(places: &mut Sequence<Byte>, from: usize, value: Value, access: A
 /// Stores a value (LLVM Language Reference, "store Instruction"): undefined behaviour where a load
 /// would be, and the memory is then as it was; otherwise the bytes at the address are those of the
 /// value, and all else is as it was. A value of another kind than the access is stored as poison.
-/// It takes no memory.
+/// It allocates nothing.
 pub fn store(memory: &mut Memory, value: Value, access: Access, at: Value, align: u64) -> Stored
     requires { 0 < align }
     ensures outcome { result ≡ store_result memory.old access at align }

@@ -17,7 +17,7 @@ fn is_equal_name(a: BlockName, b: BlockName) -> bool
     }
 }
 
-/// Whether two pointers are to one block, with one offset.
+/// Whether two pointers have the same block and the same offset.
 pub fn is_equal_pointer(p: Ptr, q: Ptr) -> bool
     ensures { result ≡ equal_pointers p q }
 {
@@ -46,7 +46,7 @@ pub fn index_named(blocks: &[MemoryBlock], name: BlockName) -> Option<usize>
     None
 }
 
-/// The bytes of a block: its places below its size.
+/// The bytes of a block: its contents below its size.
 pub fn bytes_in(block: &MemoryBlock) -> &[Byte]
     ensures { result.now ≡ block_bytes block.now }
 {

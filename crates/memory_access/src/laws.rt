@@ -15,7 +15,7 @@ pub fn bytes_hold_values()
     ensures { BytesHoldValues }
 {}
 
-/// What was stored is loaded, by the same access at the same place.
+/// What was stored is loaded, by the same access at the same address.
 pub fn loads_give_stores()
     ensures { LoadsGiveStores }
 {}
@@ -25,7 +25,7 @@ pub fn stores_keep_others()
     ensures { StoresKeepOthers }
 {}
 
-/// A store keeps each block's name, size, alignment and number of places.
+/// A store keeps each block's name, size, alignment and the length of its contents.
 pub fn stores_keep_frames()
     ensures { StoresKeepFrames }
 {}

@@ -1,11 +1,11 @@
 //! What a load, a store, an alloca and a getelementptr do to a memory of blocks.
 //!
 //! Each is exact and total, as `specs/` defines it on lists. Undefined behaviour is an answer of
-//! [`load`] and [`store`], poison one of [`load`] and [`gep`]; [`alloca`] alone takes memory.
+//! [`load`] and [`store`], poison one of [`load`] and [`gep`]; only [`alloca`] allocates.
 //! The rules are those of the LLVM Language Reference and of the block model of Alive2 (Lee, Kim,
 //! Hur, Lopes, "An SMT encoding of LLVM's memory model for bounded translation validation", CAV
-//! 2021). It stands on `byte_block` and `tv_num`; `points` defines runs by it, which `choice_interp`
-//! computes.
+//! 2021). It builds on `byte_block` and `tv_num`; `points` defines runs by it, which
+//! `choice_interp` computes.
 #![tactic(auto)]
 
 mod access_types;

@@ -31,7 +31,7 @@ fn signed_of_index(index: &Index) -> i64
     }
 }
 
-/// What an index adds to the offset. An offset of 64 bits and this have room together.
+/// What an index adds to the offset. Its sum with an offset of 64 bits does not overflow.
 fn scaled_index(index: &Index) -> i128
     requires { IndexFits index.now }
     ensures value { result ≡ scaled index.now }
@@ -77,7 +77,7 @@ fn has_negative(indices: &[Index]) -> bool
     false
 }
 
-/// Whether a sum is no offset in a block of this size, or of its end.
+/// Whether a sum is neither an offset in a block of this size nor that of its end.
 fn is_past(size: u64, sum: i128) -> bool
     ensures { result ≡ is_outside size sum }
 {

@@ -147,7 +147,7 @@ all_rows bounds budget targets sources i rows left answers past far =
       reported = sym (append-nil (verdicts_of rows)) ∙ ap (λ (xs : List Judged). verdicts_of rows ++ verdicts_answered xs) (sym gone) ∙ far.reported;
     }
 
--- ---- the rows of the target alone have no verdict
+-- ---- the rows of only the target have no verdict
 
 extra_verdicts : (sources targets : List Entry) → verdicts_of (extra_rows sources targets) ≡ []
 extra_verdicts sources [] = refl

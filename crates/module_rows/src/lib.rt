@@ -3,8 +3,8 @@
 //!
 //! It promises that the rows are those of the report, in its order: a pair of functions with one name and
 //! one signature has the verdict of its own answer, and a function that can't be judged has the row that
-//! says why. It stands on `pair_driver` and `pair_judge`, which judge the pairs, and on `replay`, which
-//! shows a counterexample; `tv_run` stands on it.
+//! says why. It builds on `pair_driver` and `pair_judge`, which judge the pairs, and on `replay`,
+//! which shows a counterexample; `tv_run` uses it.
 #![tactic(auto)]
 
 mod index;

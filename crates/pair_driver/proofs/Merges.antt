@@ -1,4 +1,4 @@
--- What all workers bring back answers each pair, in its place.
+-- What all workers bring back answers each pair, at its index.
 use Rattle.std.proofs.Common.{◌≡◌, ℕ, zero, suc, ◌+◌, ◌*◌, ◌<◌, ◌≤◌, List, [], ◌∷◌, ◌++◌, length, get_or, Bool, true, false, cond, refl, sym, ap, ◌∙◌, subst, arith, nat_lt, eqb, eq-eqb}
 use Rattle.std.specs.Prelude.{map, filter, All, Any, Contains, sum_by}
 use Rattle.std.proofs.lemmas.List.Sums.{sum_by-cons}
@@ -14,7 +14,7 @@ use Rattle.pair_driver.specs.Draws.{AreRun, IsAllowedAt, IsDone, ArePlaced}
 Contains-cons : {X : Type 0} (x y : X) (xs : List X) → Contains xs x → Contains (y ∷ xs) x
 Contains-cons x y xs (k, l, e) = (suc k, omega arith, e)
 
--- what stands in a list at least once is in it
+-- what occurs in a list at least once is in it
 Contains-times : (x : ℕ) (xs : List ℕ) → 0 < times x xs → Contains xs x
 Contains-times x [] h = absurd (omega arith)
 Contains-times x (y ∷ ys) h = dite (ℕ_discrete y x)

@@ -8,7 +8,7 @@ use Rattle.pair_driver.specs.declared.judged.Judged.{Judged}
 use Rattle.pair_driver.specs.declared.place.Answer.{Answer}
 use Rattle.pair_driver.specs.Draws.{AreFilled}
 
--- where it isn't the last, it is in front
+-- where it isn't the last, it is before it
 Any-front : {X : Type 0} (P : X → Type 0) (xs : List X) (y : X) → Any P (xs ++ y ∷ []) → ¬ (P y) → Any P xs
 Any-front P [] y (zero, x, l, e, p) n = absurd (n (subst P (sym e) p))
 Any-front P [] y (suc k, x, l, e, p) n = absurd (omega arith)

@@ -1,8 +1,9 @@
 //! The judge interface with its result type, and the driver that judges pairs by many workers.
 //!
 //! It promises that [`drive`] answers as many judgements as there are pairs, each one that the judge's
-//! meaning allows for the pair of its index, for every number of workers and every schedule. It stands on
-//! `points`, `clause_log` and `claim_board`; each judge stands above it, and so does the program.
+//! meaning allows for the pair of its index, for every number of workers and every schedule. It
+//! builds on `points`, `clause_log` and `claim_board`; each judge that it drives uses it, and so
+//! does the program.
 #![tactic(auto)]
 
 mod gate;

@@ -13,7 +13,7 @@ pub struct Answer {
     pub judged: Judged,
 }
 
-/// Puts each answer in the place of its number.
+/// Puts each answer at the index of its number.
 pub fn place(alloc: Global, count: usize, answers: Vec<Answer>) -> Result<Vec<Judged>, NoMemory>
     requires inside { All (λ a. a.number < count) answers.items }
     requires each { (x : ℕ) → x < count → Any (λ a. a.number ≡ x) answers.items }

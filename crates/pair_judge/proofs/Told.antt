@@ -1,4 +1,4 @@
--- What an answer tells.
+-- What an answer says.
 use Rattle.std.proofs.Common.{◌≡◌, refl, inl, inr, Option, Some, None}
 use Rattle.points.specs.declared.verdict.Verdict.{Verdict}
 use Rattle.points.specs.declared.verdict.Verdict.TheVariants.{Correct, Incorrect, Unknown}

@@ -1,6 +1,6 @@
 ghost use Rattle.pair_judge.specs.Laws.{AnswersAreVerdicts};
 
-/// An answer's verdict is the defined one, but where the limit on conflicts was spent.
+/// An answer's verdict is the defined one, except where the limit on conflicts was spent.
 pub fn answers_are_verdicts()
     ensures { AnswersAreVerdicts }
 {}

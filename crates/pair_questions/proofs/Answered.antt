@@ -1,4 +1,4 @@
--- What is answered in digits is answered in numbers.
+-- What is answered in bits is answered in numbers.
 use Rattle.std.proofs.Common.{ℕ, zero, suc, ◌≡◌, ◌<◌, ◌+◌, ◌%◌, ◌^◌, inl, inr, Bool, List, [], ◌∷◌, Some, slice_get, map, length, arith, sym, ap, subst, refl, ◌∙◌}
 use Rattle.std.specs.Prelude.{slice_index}
 use Rattle.bv_terms.specs.declared.term.TermId.{TermId}

@@ -51,7 +51,7 @@ same_front (x ∷ a) b (y ∷ c) d l e =
 regrouped : (a b c d e f : List ℕ) → ((a ++ b) ++ c) ≡ ((d ++ e) ++ f) → (a ++ (b ++ c)) ≡ (d ++ (e ++ f))
 regrouped a b c d e f h = sym (append_assoc a b c) ∙ (h ∙ append_assoc d e f)
 
--- a thing is read, and what is behind it is the same
+-- a thing is read, and what is after it is the same
 abbrev Reads : {A : Type 0} → (x y : A) → (ms ns : List ℕ) → Type 0
 Reads x y ms ns = (x ≡ y) × (ms ≡ ns)
 

@@ -1,4 +1,4 @@
--- Known inputs stand for what they were made of.
+-- Known inputs denote what they were made of.
 use Rattle.std.proofs.Common.{ℕ, zero, suc, ◌≡◌, ◌<◌, ◌≤◌, ◌+◌, Bool, true, false, List, [], ◌∷◌, ◌++◌, length, map, take, get_or, All, refl, ap, sym, subst, ◌∙◌, arith, length-append}
 use Rattle.std.proofs.lemmas.List.{take_more}
 use Rattle.ir_tree.specs.declared.tree.IrType.{IrType}
@@ -44,7 +44,7 @@ number_digit blocks Null = refl
 number_digit blocks (Given n) = refl
 number_digit blocks (Local t p) = refl
 
--- the number of a block among so many names it
+-- the number of a block among `blocks` names it
 pub name_known : (blocks : ℕ) (b : BlockName) → BlockFits blocks b → block_name blocks (block_number b) ≡ b
 name_known blocks b fits = sym (name_decoded blocks b (block_number b) fits (number_digit blocks b))
 
@@ -76,7 +76,7 @@ fit_at blocks (p ∷ ps) [] i d e h lt = absurd h
 pub map_more : {A B : Type 0} (f : A → B) (known more : List A) (a : A) (xs : List B) (i : ℕ) (d : B) → more ≡ known ++ a ∷ [] → i < length xs → map f known ≡ take i xs → f a ≡ get_or xs i d → map f more ≡ take (i + 1) xs
 map_more f known more a xs i d e lt so here = ap (map f) e ∙ (map-push f known a ∙ (rw (so, here, take_more xs i d lt) refl))
 
--- as many as there are items
+-- one for each item so far
 pub count_more : {A B : Type 0} (known more : List A) (a : A) (xs : List B) (i : ℕ) → length known ≡ length (take i xs) → more ≡ known ++ a ∷ [] → i < length xs → length more ≡ length (take (i + 1) xs)
 count_more known more a [] i n e lt = absurd (omega arith)
 count_more known more a (x ∷ xs) i n e lt = ap length e ∙ (length-append known (a ∷ []) ∙ (ap (λ m. m + 1) n ∙ (sym (length-append (take i (x ∷ xs)) (get_or (x ∷ xs) i x ∷ [])) ∙ ap length (sym (take_more (x ∷ xs) i x lt)))))
@@ -161,7 +161,7 @@ each_given P blocks bytes number [] f h k d lt = absurd (omega arith)
 each_given P blocks bytes number (b ∷ bs) f h zero d lt = f b (h.0.small, (h.0.room, h.0.fit))
 each_given P blocks bytes number (b ∷ bs) f h (suc k) d lt = each_given P blocks bytes (number + 1) bs f h.1 k d (omega arith)
 
--- blocks with these sizes and places, from a number on
+-- blocks with these sizes and contents, from a number on
 pub blocks_known : (r : Reading) (terms : List Term) (blocks bytes number : ℕ) (bs : List MemoryBlock) (sizes : List TermId) (places : List (List ByteTerms)) → ((k : ℕ) → 0 < k → k ≤ blocks → r.name k ≡ Given k) → 0 < number → BlocksFit blocks bytes number bs
     → map (term_at r.v terms) sizes ≡ map (λ (b : MemoryBlock). b.size) bs → map (λ (bytes : List ByteTerms). map (given_byte_at r terms) bytes) places ≡ map (λ (b : MemoryBlock). b.places) bs
     → given_blocks_at r terms number sizes places ≡ bs

@@ -1,4 +1,4 @@
--- Numbered variables: how they grow, which questions they fit, and what digits and numbers make of them.
+-- Numbered variables: how they grow, which questions they fit, and what bits and numbers make of them.
 use Rattle.std.proofs.Common.{ℕ, zero, suc, ◌≡◌, ◌<◌, ◌≤◌, ◌+◌, ◌%◌, ◌^◌, ◌++◌, inl, inr, Bool, false, cond, All, List, [], ◌∷◌, Option, Some, None, slice_get, take, drop, map, length, arith, sym, ap, subst, refl, ◌∙◌}
 use Rattle.std.specs.Prelude.{nat_eq, ◌&&◌, slice_index}
 use Rattle.std.proofs.lemmas.Bool.{eq-eqb, ne_eqb}
@@ -150,7 +150,7 @@ variable-at : (terms : List Term) (a : TermId) (number width n : ℕ) (v : ℕ �
 variable-at terms a number width n v fit at e lt =
     ap (value_of v) (tree_placed terms a.index (term.Variable number width) fit at) ∙ (ap (λ k. k % 2 ^ width) e ∙ mod-eq_of_lt lt)
 
--- the numbers that digits write
+-- the numbers that bits write
 pub numbers-written : (terms : List Term) (from : ℕ) (order : List TermId) (widths : List ℕ) (v : ℕ → ℕ → ℕ) (digits : List Bool) → AreFit [] terms → AreNumbered terms from order widths
     → ((number width : ℕ) → from ≤ number → v number width ≡ assigned_by (variables_from from widths) digits number width) → length digits ≡ total widths
     → map (term_at v terms) order ≡ numbers_of widths digits

@@ -1,4 +1,4 @@
--- A tape that stands more than once need be tried only once.
+-- A tape that occurs more than once need be tried only once.
 use Rattle.std.proofs.Common.{ℕ, zero, suc, ◌≡◌, ◌<◌, ◌≤◌, inl, inr, Bool, true, false, not, ◌&&◌, List, [], ◌∷◌, ◌++◌, length, map, drop, get_or, All, Contains, refl, ap, sym, subst, ◌∙◌, arith}
 use Rattle.std.proofs.lemmas.List.{drop_all}
 use Rattle.std.proofs.lemmas.List.Elements.{All-contains, Contains-append_left, Contains-get_or, Contains-push, Contains-push_cases}
@@ -32,7 +32,7 @@ module _ (old new : List Term) (k : Keeps old new) where
   tapes_at-later v tapes h =
       map-same (λ (t : TapeTerms). AreWords old t.words) (λ (t : TapeTerms). words_at v new t.words) (λ (t : TapeTerms). words_at v old t.words) tapes (λ t. words_at-later old new k v t.words) h
 
--- behind the last there is none
+-- after the last there is none
 pub tapes_behind : (v : ℕ → ℕ → ℕ) (terms : List Term) (tapes : List TapeTerms) (i : ℕ) → length tapes ≤ i → drop i (tapes_at v terms tapes) ≡ []
 tapes_behind v terms tapes i le =
     let n = map-length (λ (t : TapeTerms). words_at v terms t.words) tapes in

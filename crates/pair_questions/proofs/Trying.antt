@@ -52,7 +52,7 @@ frames_count first (suc n) bytes = ap suc (frames_count (first + 1) n bytes)
 pub given_count : (blocks bytes : ℕ) (o : OutcomeTerms) → LeavesGiven blocks bytes o → length o.blocks ≡ blocks
 given_count blocks bytes o h = sym (map-length frame_of o.blocks) ∙ (ap length h ∙ frames_count 1 blocks bytes)
 
--- the test of two outcomes that leave so many blocks
+-- the test of two outcomes that leave this number of blocks
 pub covered_in : (t new : List Term) (bounds : Bounds) (source target : OutcomeTerms) (id : TermId) → LeavesGiven bounds.blocks bounds.bytes source
     → Tests new id (λ v. is_refined (outcome_at (reading (length source.blocks) v) t source) (outcome_at (reading (length source.blocks) v) t target))
     → Tests new id (λ v. is_refined (outcome_in bounds v t source) (outcome_in bounds v t target))

@@ -186,7 +186,7 @@ not_true false e = refl
 pub not_false : (b : Bool) → b ≡ false → not b ≡ true
 not_false b e = rw e refl
 
--- a point whose code the terms stand for is the one that they stand for
+-- a point whose code the terms denote is the one that they denote
 pub the_point : (pair : Functions) (bounds : Bounds) (s : Shape) (terms : List Term) (input : InputTerms) (tape : TapeTerms) → IsShapeOf pair bounds s → IsInputOf s terms input → (v : ℕ → ℕ → ℕ) (p : Point) → IsOfShape s p
     → code_of s.blocks s.parameters p ≡ numbers_at v terms input tape → point_at bounds v terms input tape ≡ p
 the_point pair bounds s terms input tape shape are v p of code =

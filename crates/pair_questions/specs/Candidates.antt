@@ -26,7 +26,7 @@ tapes_at v terms tapes = map (λ (tape : TapeTerms). words_at v terms tape.words
 abbrev pub AreTapes : List Term → List TapeTerms → Type 0
 AreTapes terms tapes = Each (λ (tape : TapeTerms). AreWords terms tape.words) tapes
 
--- each tape of the one list stands in the other, in whatever order and however often
+-- each tape of one list occurs in the other, in whatever order and however often
 pub record AreSameTapes (xs ys : List (List ℕ)) : Type 0 where
   pub here : (tape : List ℕ) → Contains xs tape → Contains ys tape
   pub there : (tape : List ℕ) → Contains ys tape → Contains xs tape
@@ -36,7 +36,7 @@ unfoldable pub none_allows : Function → Bounds → Input → Outcome → List 
 none_allows f bounds input target [] = true
 none_allows f bounds input target (tape ∷ tapes) = not (is_refined (run_of f bounds input tape).outcome target) && none_allows f bounds input target tapes
 
--- the source may be encoded, and the input and the outcome, which leaves so many given blocks of so many bytes, are made of these terms
+-- the source may be encoded, and the input and the outcome, which leaves given blocks as the bounds say, are made of these terms
 pub record IsTrial (terms : List Term) (t : Trial) : Type 0 where
   pub source : IsEncodable t.bounds.now.turns t.source.now
   pub run : CanRun t.source.now.of.now
@@ -44,7 +44,7 @@ pub record IsTrial (terms : List Term) (t : Trial) : Type 0 where
   pub target : IsOutcome terms t.target.now
   pub given : LeavesGiven t.bounds.now.blocks t.bounds.now.bytes t.target.now
 
--- what the input stands for, where so many blocks are given
+-- what the input denotes, with as many given blocks as the bounds say
 abbrev pub input_in : Bounds → (ℕ → ℕ → ℕ) → List Term → InputTerms → Input
 input_in bounds v terms input = input_at (reading bounds.blocks v) terms input
 

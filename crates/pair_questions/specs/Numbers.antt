@@ -12,7 +12,7 @@ use Rattle.sat_ask.specs.Asks.{Asks, HasSmallNumbers}
 use Rattle.pair_questions.specs.declared.found.Found.{Found}
 use Rattle.pair_questions.specs.declared.found.Found.TheVariants as found
 
--- each variable has the number at its place
+-- each variable has the number at its index
 abbrev pub looked_up : List ℕ → ℕ → ℕ → ℕ
 looked_up numbers number width = slice_index numbers number
 

@@ -44,7 +44,7 @@ abbrev pub args_widths : List Parameter → List ℕ
 args_widths [] = []
 args_widths (p ∷ ps) = value_widths p.of_type ++ args_widths ps
 
--- the kind, the number, the block, the offset and the part of each place
+-- the kind, the number, the block, the offset and the part of each byte
 abbrev pub places_widths : ℕ → List ℕ
 places_widths zero = []
 places_widths (suc n) = 2 ∷ 8 ∷ 3 ∷ 64 ∷ 3 ∷ places_widths n
@@ -53,12 +53,12 @@ abbrev pub blocks_widths : (bytes blocks : ℕ) → List ℕ
 blocks_widths bytes zero = []
 blocks_widths bytes (suc n) = places_widths bytes ++ blocks_widths bytes n
 
--- how many digits each number of a point's code has: those of the arguments, a size for each given block, the places of all, and the words of the tape
+-- how many bits each number of a point's code has: those of the arguments, a size for each given block, the contents of all, and the words of the tape
 abbrev pub point_widths : Functions → Bounds → List ℕ
 point_widths pair bounds =
     args_widths pair.target.parameters ++ (replicate bounds.blocks 6 ++ (blocks_widths bounds.bytes bounds.blocks ++ replicate (need_of bounds.turns pair.target) 64))
 
--- how many digits each word of a tape of the source has
+-- how many bits each word of a tape of the source has
 abbrev pub tape_widths : Functions → Bounds → List ℕ
 tape_widths pair bounds = replicate (need_of bounds.turns pair.source) 64
 

@@ -25,8 +25,8 @@ fn has_tape(tapes: &[TapeTerms], words: &[TermId]) -> bool
     false
 }
 
-/// The tape moved by each of the shifts. One with the same words as one before it is left out: where
-/// the target reads no choice, or the source none, all have the same words.
+/// The tape shifted by each of the shifts. One with the same words as one before it is left out:
+/// where the target reads no choice, or the source none, all have the same words.
 pub fn shifted_tapes(
     alloc: Global,
     words: &[TermId],

@@ -20,7 +20,7 @@ use std::alloc::Global;
 use support::NoMemory;
 use unroll::{Layered, layers};
 
-/// A function, the one with its names in slots that is encoded in its place, if there is one, and the
+/// A function, the one with its names in slots that is encoded instead, if there is one, and the
 /// copies of the blocks of what is encoded.
 #[derive(Drop)]
 pub struct Encodable<'m> {

@@ -1,7 +1,7 @@
 use clause_log::Cert;
 
-/// The answer to a question: the least of what is asked for; that there is none, with a refutation
-/// of clauses that ask for it; or that the limit was spent, with such clauses and what was learned.
+/// The answer to a question: the least solution; that there is none, with a refutation of clauses
+/// that ask for one; or that the limit was spent, with such clauses and what was learned.
 #[derive(Drop)]
 pub enum Found<T> {
     Least(T),

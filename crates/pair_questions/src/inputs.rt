@@ -76,7 +76,7 @@ fn arg_variables(
     Ok(Sequence::from_vec(args))
 }
 
-/// The five numbers of a place.
+/// The five numbers of a byte.
 fn place_variables(terms: &mut Terms, order: &mut Vec<TermId>) -> Result<ByteTerms, NoMemory>
     ensures place { IfOk result (IsByteTerms terms.new) }
     ensures order { OnOk result ((widths : List ℕ) → IsOrder terms.old order.old.items widths → IsOrder terms.new order.new.items (widths ++ places_widths 1)) }
@@ -97,7 +97,7 @@ fn place_variables(terms: &mut Terms, order: &mut Vec<TermId>) -> Result<ByteTer
     })
 }
 
-/// The numbers of a given block's places.
+/// The numbers of a given block's contents.
 fn block_variables(
     alloc: Global,
     bytes: u64,
@@ -117,7 +117,7 @@ fn block_variables(
     Ok(Sequence::from_vec(places))
 }
 
-/// The places of so many given blocks.
+/// The contents of this number of given blocks.
 fn blocks_variables(
     alloc: Global,
     blocks: u64,
@@ -139,7 +139,7 @@ fn blocks_variables(
     Ok(Sequence::from_vec(places))
 }
 
-/// So many variables of one width.
+/// This number of variables of the same width.
 fn row_of_variables(
     alloc: Global,
     count: u64,

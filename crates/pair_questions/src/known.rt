@@ -99,7 +99,7 @@ fn known_args(
     Ok(Sequence::from_vec(known))
 }
 
-/// A place that has this byte.
+/// This byte as terms.
 fn known_byte(byte: Byte, terms: &mut Terms) -> Result<ByteTerms, NoMemory>
     requires { ByteFits 7 byte }
     ensures is { IfOk result (IsByteTerms terms.new) }
@@ -128,7 +128,7 @@ fn known_byte(byte: Byte, terms: &mut Terms) -> Result<ByteTerms, NoMemory>
     })
 }
 
-/// Places that have these bytes.
+/// These bytes as terms.
 fn known_places(
     alloc: Global,
     bytes: &[Byte],
@@ -167,7 +167,7 @@ fn known_sizes(
     Ok(Sequence::from_vec(sizes))
 }
 
-/// The places of these blocks.
+/// The contents of these blocks.
 fn known_blocks(
     alloc: Global,
     blocks: &[MemoryBlock],

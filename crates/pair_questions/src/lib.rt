@@ -3,9 +3,9 @@
 //!
 //! It promises that each answer is the least point or tape that is asked for, that there is none, with a
 //! refutation of clauses that ask for it, or that the limit was spent, with such clauses. The terms of
-//! the first question are kept while tapes are excluded, so that a tape is encoded once. It stands on
-//! `encoder` and `refine_terms`, which write a pair as terms, and `sat_ask`, which asks the solver;
-//! `instantiate` asks the questions in turn.
+//! the first question are kept while tapes are excluded, so that a tape is encoded once. It builds
+//! on `encoder` and `refine_terms`, which write a pair as terms, and `sat_ask`, which asks the
+//! solver; `instantiate` asks the questions in turn.
 #![tactic(auto)]
 
 mod asking;

@@ -12,14 +12,14 @@ use mem_terms::{TapeTerms, number};
 use std::alloc::Global;
 use support::{NoMemory, Sequence};
 
-/// A tape moved by some places: each word is the one so many places behind it, or before it.
+/// A shifted tape: each word is the one this many positions after it, or before it.
 #[derive(Clone, Copy, Debug, PartialEq, Eq)]
 pub enum Shift {
     Behind(usize),
     Before(usize),
 }
 
-/// The target's tape as it is, and moved by one or two places either way.
+/// The target's tape as it is, and shifted by one or two positions either way.
 pub const SHIFTS: [Shift; 5] = [
     Shift::Behind(0),
     Shift::Behind(1),
@@ -29,7 +29,7 @@ pub const SHIFTS: [Shift; 5] = [
 ];
 
 impl Shift {
-    /// The place that a word of the moved tape comes from, or `None` where it is before the first.
+    /// The index that a word of the shifted tape comes from; `None` where it is before the first.
     fn source_of(self, place: usize) -> Option<usize>
         ensures { result ≡ source_of self place }
     {
@@ -40,7 +40,7 @@ impl Shift {
     }
 }
 
-/// The word at a place of a moved tape, which is the zero outside the tape.
+/// The word at an index of a shifted tape, which is the zero outside the tape.
 fn moved_word(words: &[TermId], shift: Shift, place: usize, zero: TermId) -> TermId
     ensures is { (terms : List Term) → AreWords terms words.now → IsTerm terms 64 zero → IsTerm terms 64 result }
     ensures stands { (v : ℕ → ℕ → ℕ) (terms : List Term) → term_at v terms zero ≡ 0 → term_at v terms result ≡ shift_of shift (words_at v terms words.now) place }
@@ -51,7 +51,7 @@ fn moved_word(words: &[TermId], shift: Shift, place: usize, zero: TermId) -> Ter
     }
 }
 
-/// So many words of a moved tape; outside the tape they are 0.
+/// The first `need` words of a shifted tape; outside the tape they are 0.
 pub fn moved(
     alloc: Global,
     words: &[TermId],

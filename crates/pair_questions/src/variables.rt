@@ -7,7 +7,7 @@ ghost use Rattle.pair_questions.specs.Orders.{IsOrder};
 use bv_terms::{TermId, Terms};
 use support::NoMemory;
 
-/// A new variable, which comes behind the others.
+/// A new variable, which comes after the others.
 pub fn variable(terms: &mut Terms, order: &mut Vec<TermId>, width: u32) -> Result<TermId, NoMemory>
     requires { IsWidth width }
     ensures added { IfOk result (λ id. order.new.items ≡ order.old.items ++ id ∷ []) }

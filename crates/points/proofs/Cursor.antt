@@ -1,4 +1,4 @@
--- A loop that reads a code from the front, and the parts of a code.
+-- A loop that reads a code from the start, and the parts of a code.
 use Rattle.std.proofs.Common.{◌≡◌, inl, inr, ℕ, zero, suc, ◌+◌, ◌*◌, ◌<◌, ◌≤◌, List, [], ◌∷◌, ◌++◌, length, get_or, take, drop, refl, sym, ap, ◌∙◌, arith, append_assoc, append-nil, length-append}
 use Rattle.std.proofs.lemmas.List.{drop_more, at_drop_all}
 use Rattle.std.proofs.lemmas.List.Sums.{sum_by-cons}
@@ -14,7 +14,7 @@ use Rattle.points.proofs.Decoded.{read_value, read_byte, read_places, drop_front
 
 -- ---- bytes
 
--- how many bytes are left to read, and that with them the places are whole
+-- how many bytes are left to read, and that with them the contents are whole
 pub record AreToRead (room i : ℕ) (places : List Byte) (rest digits : List ℕ) : Type 0 where
   pub left : ℕ
   pub count : left + i ≡ room

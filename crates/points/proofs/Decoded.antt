@@ -28,7 +28,7 @@ read_name blocks (suc n) given = record { fits = (omega arith, given); code = re
 
 -- ---- arguments
 
--- the value that is read where its numbers stand before others
+-- the value that is read where its numbers come before others
 pub record ReadsValue (blocks : ℕ) (t : IrType) (front back : List ℕ) : Type 0 where
   pub fits : ValueFits blocks t (value_from t (front ++ back))
   pub code : value_code blocks t (value_from t (front ++ back)) ≡ front
@@ -80,7 +80,7 @@ read_byte blocks front back h = elim h as (λ _. ReadsByte blocks front back) [
   ]
 ]
 
--- the places that are read
+-- the contents that are read
 pub record ReadsPlaces (blocks room size : ℕ) (front back : List ℕ) : Type 0 where
   pub count : length (places_from room (front ++ back)) ≡ room
   pub fit : BytesFit blocks (places_from room (front ++ back))

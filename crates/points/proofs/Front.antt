@@ -1,4 +1,4 @@
--- Lists of digits go by their numbers as they go from the front.
+-- Lists of digits are ordered by their numbers as they are lexicographically.
 use Rattle.std.proofs.Common.{◌≡◌, inl, inr, ℕ, zero, suc, ◌^◌, ◌<◌, List, [], ◌∷◌, length, get_or, arith}
 use Rattle.points.specs.Code.{number_of}
 use Rattle.points.specs.Laws.{IsLessFromFront, AreDigits, NumbersCompareFromFront}

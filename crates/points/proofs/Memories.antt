@@ -1,4 +1,4 @@
--- The next places of the given blocks, and their next sizes.
+-- The next contents of the given blocks, and their next sizes.
 use Rattle.std.proofs.Common.{◌≡◌, inl, inr, ℕ, zero, suc, ◌+◌, ◌-◌, ◌*◌, ◌^◌, ◌<◌, ◌≤◌, List, [], ◌∷◌, length, refl, sym, ap, ◌∙◌, arith, slice_get, Some, add-one}
 use Rattle.std.proofs.Math.ListN.{set}
 use Rattle.std.specs.List.{flat_map}
@@ -16,9 +16,9 @@ use Rattle.points.proofs.Rows.{zero_number, RowFits, AreThings, IsNextThing, IsL
 use Rattle.points.proofs.Places.{zeros_fit, zeros_number}
 use Rattle.points.proofs.Args.{none_past}
 
--- ---- places
+-- ---- contents
 
--- the block with other places
+-- the block with other contents
 pub record IsLike (blocks bytes : ℕ) (k b : MemoryBlock) : Type 0 where
   pub name : b.name ≡ k.name
   pub size : b.size ≡ k.size
@@ -70,11 +70,11 @@ PlacesAreLast blocks bytes ks bs i = AreLastFrom (IsLike blocks bytes) (places_c
 
 -- ---- sizes
 
--- the sizes from the place on are the greatest
+-- the sizes from the index on are the greatest
 abbrev pub AreFullFrom : ℕ → List MemoryBlock → ℕ → Type 0
 AreFullFrom bytes bs i = (j : ℕ) (b : MemoryBlock) → i ≤ j → slice_get bs j ≡ Some b → bytes ≤ b.size
 
--- ---- the loop over places
+-- ---- the loop over contents
 
 pub record IsGivenAt (blocks bytes : ℕ) (b : MemoryBlock) : Type 0 where
   pub number : ℕ

@@ -1,4 +1,4 @@
--- Lists of digits in their order: what comes next where two lists are put one behind the other.
+-- Lists of digits in their order: what comes next where two lists are put one after the other.
 use Rattle.std.proofs.Common.{◌≡◌, ◌⊎◌, inl, inr, ℕ, zero, suc, ◌+◌, ◌*◌, ◌^◌, ◌<◌, ◌≤◌, List, [], ◌∷◌, ◌++◌, length, refl, ap, arith, length-append}
 use Rattle.std.proofs.Math.Nat.{mul-le-mul_right, pow-succ'}
 use Rattle.std.proofs.Common.{pow-add}
@@ -7,7 +7,7 @@ use Rattle.std.proofs.lemmas.Nat.{same_from_place}
 use Rattle.points.specs.Code.{number_of}
 use Rattle.points.specs.Codes.{IsChain}
 
--- so many digits
+-- this number of digits
 abbrev pub Digits : ℕ → List ℕ → Type 0
 Digits zero [] = Unit {0}
 Digits (suc n) (d ∷ ds) = (d < 2 ^ 64) × Digits n ds

@@ -1,4 +1,4 @@
--- The next places of a block: those before its size are a row of bytes, and the others a row of zeros.
+-- The next contents of a block: what is before its size is a row of bytes, and the rest a row of zeros.
 use Rattle.std.proofs.Common.{◌≡◌, ℕ, zero, suc, ◌+◌, ◌-◌, ◌^◌, ◌<◌, ◌≤◌, Bool, true, false, List, [], ◌∷◌, length, drop, replicate, refl, ap, ◌∙◌, arith, slice_get, Some, add-one}
 use Rattle.std.proofs.Math.ListN.{set}
 use Rattle.std.specs.List.{flat_map}
@@ -10,12 +10,12 @@ use Rattle.points.proofs.Order.{Digits}
 use Rattle.points.proofs.Same.{byte_digits}
 use Rattle.points.proofs.Rows.{RowFits, AreThings, IsNextThing, AreLastFrom, raised, raised_is, raised_fits, last_row, next_row, last_more, row_at}
 
--- a byte where the place is live, and else the number 0
+-- a byte where the offset is live, and else the number 0
 abbrev pub ByteIf : ℕ → Bool → Byte → Type 0
 ByteIf blocks true b = ByteFits blocks b
 ByteIf blocks false b = b ≡ Num 0
 
--- which places of a block are live
+-- which offsets of a block are live
 abbrev pub lives : ℕ → ℕ → List Bool
 lives size zero = []
 lives zero (suc n) = false ∷ lives zero n

@@ -58,7 +58,7 @@ below_wider n a b h less = let most : 2 ^ a ≤ 2 ^ b = pow_mono h in omega (ari
 
 -- ---- what was taken
 
--- from a machine on so much was taken: at most so many choices, each of at most so many bits and no greater than the tape's word
+-- what was taken from a machine on: at most `count` choices of at most `wide` bits, none above the tape's word
 pub record TookUpTo (count wide : ℕ) (tape from to : List ℕ) : Type 0 where
   pub more : List ℕ
   pub is : to ≡ from ++ more
@@ -135,7 +135,7 @@ took_then ws vs tape from mid to t r =
 
 -- ---- by an instruction
 
--- two words, the one behind the other
+-- two words, one after the other
 both_below : (a b bound : ℕ) → a < bound → b < bound → (k : ℕ) → k < 2 → get_or (a ∷ b ∷ []) k 0 < bound
 both_below a b bound first second zero h = first
 both_below a b bound first second (suc zero) h = second
@@ -263,9 +263,9 @@ unfolding exit_insts
 insts_took no_undef [] end tape m = end_took no_undef end tape m
 insts_took no_undef (inst ∷ insts) end tape m = insts_took_option no_undef inst insts end tape m (act inst tape m) refl (λ m'. insts_took no_undef insts end tape m')
 
--- ---- by the blocks from a place in the text on
+-- ---- by the blocks from an index in the function on
 
--- no more words are read from there to the text's end
+-- no more words are read from there to the function's end
 abbrev pub words_from : Function → ℕ → ℕ
 words_from f at = length (flat_map block_widths (drop at f.blocks))
 
@@ -307,7 +307,7 @@ block_took f at b tape m e =
     subst (λ (from : List ℕ). TookUpTo (length (block_widths b)) (widest_choice f) tape from (exit_taken x)) (entered_taken b m)
     (up_to_more (length (block_widths b)) (length (block_widths b)) (widest (block_widths b)) (widest_choice f) tape (entered b m).taken (exit_taken x) (omega arith) (narrower f.blocks at b e) took)
 
--- all that comes again takes at most so many
+-- all that comes again takes at most `count`
 abbrev pub TakesUpTo : ℕ → ℕ → List ℕ → Go → Type 0
 TakesUpTo count wide tape go = (at : ℕ) (m : Machine) → TookUpTo count wide tape m.taken (go at m).taken
 
@@ -362,11 +362,11 @@ run_took f bounds input tape = rw (run_of_is f bounds input tape) (entered_took 
 
 -- ---- another tape with the same choices
 
--- the other tape has these choices from a place on
+-- the other tape has these choices from an index on
 abbrev pub Agrees : List ℕ → List ℕ → List ℕ → Type 0
 Agrees other from taken = (k : ℕ) → length from ≤ k → k < length taken → slice_index other k ≡ slice_index taken k
 
--- a word behind those that were read
+-- a word after those that were read
 word_same : (other from words : List ℕ) (k : ℕ) → k < length words → Agrees other from (from ++ words) → slice_index other (length from + k) ≡ get_or words k 0
 word_same other from words k below agree =
     let len = length-append from words in
@@ -437,7 +437,7 @@ agrees_before count wide other tape from mid taken took agree k low below =
     let here : slice_index taken k ≡ slice_index mid k = ap (λ xs. slice_index xs k) took.is ∙ get_front mid took.more k below in
     agree k low (omega (arith, len)) ∙ here
 
--- and from a later place on
+-- and from a later index on
 agrees_behind : (count wide : ℕ) (other tape from mid taken : List ℕ) → TookUpTo count wide tape from mid → Agrees other from taken → Agrees other mid taken
 agrees_behind count wide other tape from mid taken took agree k low below =
     let len = ap length took.is ∙ length-append from took.more in
@@ -557,7 +557,7 @@ plain_form_fits width (suc n) (t ∷ ts) h below =
     let e : suc n - suc (length ts) ≡ n - length ts = omega arith in
     (below 0 (omega arith), (rw e (plain_form_fits width n ts (omega arith) (λ k f. below (suc k) (omega arith)))))
 
--- place by place no greater, and so as numbers
+-- index by index no greater, and so as numbers
 pub number_of-le : (xs ys : List ℕ) → length xs ≡ length ys → ((k : ℕ) → k < length xs → get_or xs k 0 ≤ get_or ys k 0) → number_of xs ≤ number_of ys
 unfolding number_of
 number_of-le [] [] e h = omega arith

@@ -1,4 +1,4 @@
--- Rows of things, each with a code of as many digits: what comes next in a row.
+-- Rows of things, each with a code of the same number of digits: what comes next in a row.
 use Rattle.std.proofs.Common.{◌≡◌, inl, inr, ℕ, zero, suc, ◌+◌, ◌-◌, ◌*◌, ◌<◌, ◌≤◌, List, [], ◌∷◌, ◌++◌, length, refl, sym, ap, arith, slice_get, Some, add-one}
 use Rattle.std.proofs.Math.ListN.{set}
 use Rattle.std.specs.List.{flat_map}
@@ -9,7 +9,7 @@ use Rattle.points.specs.Next.{from_place}
 use Rattle.points.proofs.Order.{Digits, digits_as, IsNextIn, IsLastIn, HaveDigits, next_in_back, next_in_front, last_in_both, number_of-append}
 use Rattle.points.proofs.Args.{Digits-append}
 
--- ---- changing the items from a place on
+-- ---- changing the items from an index on
 
 pub from_place-set : {A : Type 0} (f : A → A) (xs : List A) (i : ℕ) (x : A) → slice_get xs i ≡ Some x → from_place f (i + 1) (set xs i (f x)) ≡ from_place f i xs
 from_place-set f [] i x e = absurd (cc)
@@ -62,11 +62,11 @@ pub record IsRow {K A : Type 0} (Fit : K → A → Type 0) (code : A → List �
 abbrev pub Behind : {K A : Type 0} → (K → A → Type 0) → (A → List ℕ) → List K → List ℕ → List ℕ → Type 0
 Behind Fit code ks first ds = IsRow Fit code ks ds
 
--- the things from the place on are the last of their keys
+-- the things from the index on are the last of their keys
 abbrev pub AreLastFrom : {K A : Type 0} → (K → A → Type 0) → (A → List ℕ) → List K → List A → ℕ → Type 0
 AreLastFrom Fit code ks xs i = (j : ℕ) (k : _) (x : _) → i ≤ j → slice_get ks j ≡ Some k → slice_get xs j ≡ Some x → IsLastThing Fit code k x
 
--- the thing at the place as it is to be, and those behind it set back
+-- the thing at the index as it is to be, and those after it reset
 abbrev pub raised : {A : Type 0} → (A → A) → List A → ℕ → A → List A
 raised reset [] i y = []
 raised reset (x ∷ xs) zero y = y ∷ from_place reset zero xs

@@ -28,7 +28,7 @@ phis_taken before (phi ∷ phis) m = phis_taken before phis (assigned m phi.into
 pub entered_taken : (b : Block) (m : Machine) → (entered b m).taken ≡ m.taken
 entered_taken b m = phis_taken m b.phis m
 
--- ---- the whole run, behind the test of its arguments
+-- ---- the whole run, after the test of its arguments
 
 abbrev pub run_entered_by : Bool → Function → Bounds → List ℕ → Machine → Run
 run_entered_by true f bounds tape m = ended Ub m

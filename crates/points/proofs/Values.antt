@@ -145,11 +145,11 @@ leasts_number blocks (p ∷ ps) [] fits = absurd fits
 
 -- ---- the next list of arguments
 
--- the arguments from the place on are the last of their types
+-- the arguments from the index on are the last of their types
 abbrev pub AreLastValuesFrom : ℕ → List Parameter → List Value → ℕ → Type 0
 AreLastValuesFrom blocks ps vs i = (k : ℕ) (p : Parameter) (v : Value) → i ≤ k → slice_get ps k ≡ Some p → slice_get vs k ≡ Some v → IsLastValue blocks p.of_type v
 
--- the argument at the place as it is to be, and least values behind it
+-- the argument at the index as it is to be, and least values after it
 abbrev pub raised_values : List Parameter → List Value → ℕ → Value → List Value
 raised_values [] vs i new = vs
 raised_values (p ∷ ps) [] i new = []

@@ -1,4 +1,4 @@
--- The next point: its tape, then the places, then the sizes, then the arguments.
+-- The next point: its tape, then the contents, then the sizes, then the arguments.
 use Rattle.std.proofs.Common.{◌≡◌, ℕ, zero, suc, ◌+◌, ◌-◌, ◌*◌, ◌^◌, ◌<◌, List, [], ◌∷◌, ◌++◌, length, take, replicate, refl, ap, ◌∙◌, arith, append_assoc}
 use Rattle.std.specs.List.{flat_map}
 use Rattle.byte_block.specs.declared.value.Value.{Value}

@@ -1,4 +1,4 @@
--- The code of a point: a list of numbers below 2 ^ 64 of a length that the shape fixes. Points are ordered by their codes, the first numbers counting most.
+-- The code of a point: a list of numbers below 2 ^ 64 of a length that the shape fixes. Points are ordered by their codes, the first number most significant.
 use Rattle.std.specs.Prelude.{◌≡◌, ℕ, zero, suc, ◌+◌, ◌-◌, ◌*◌, ◌^◌, ◌<◌, ◌≤◌, List, [], ◌∷◌, ◌++◌, length, map, drop, replicate}
 use Rattle.std.specs.List.{flat_map}
 use Rattle.ir_tree.specs.declared.tree.IrType.{IrType}
@@ -15,14 +15,14 @@ use Rattle.byte_block.specs.declared.block.MemoryBlock.{MemoryBlock}
 use Rattle.points.specs.declared.point.Point.{Point}
 use Rattle.points.specs.declared.point.Shape.{Shape}
 
--- a list of numbers below 2 ^ 64 as the digits of one number, the first one counting most
+-- a list of numbers below 2 ^ 64 as the digits of one number in base 2 ^ 64, the first most significant
 unfoldable pub number_of : List ℕ → ℕ
 number_of [] = 0
 number_of (d ∷ ds) = d * (2 ^ 64) ^ length ds + number_of ds
 
 -- ---- the values of a shape
 
--- null, or one of so many given blocks
+-- null, or one of `blocks` given blocks
 abbrev pub BlockFits : ℕ → BlockName → Type 0
 BlockFits blocks Null = Unit {0}
 BlockFits blocks (Given number) = (1 ≤ number) × (number ≤ blocks)
@@ -56,7 +56,7 @@ abbrev pub BytesFit : ℕ → List Byte → Type 0
 BytesFit blocks [] = Unit {0}
 BytesFit blocks (b ∷ bs) = ByteFits blocks b × BytesFit blocks bs
 
--- the given block of this number, among so many: its size is at most `bytes`, for so many places it has room, and those past its size are the number 0
+-- the given block of this number, among `blocks`: its size is at most `bytes`, it has room for `bytes` bytes, and those past its size are the number 0
 pub record IsGivenBlock (blocks bytes number : ℕ) (block : MemoryBlock) : Type 0 where
   pub named : block.name ≡ Given number
   pub aligned : block.align ≡ 16
@@ -70,7 +70,7 @@ abbrev pub BlocksFit : ℕ → ℕ → ℕ → List MemoryBlock → Type 0
 BlocksFit blocks bytes number [] = number ≡ blocks + 1
 BlocksFit blocks bytes number (b ∷ bs) = IsGivenBlock blocks bytes number b × BlocksFit blocks bytes (number + 1) bs
 
--- so many words, each below 2 ^ width
+-- n words, each below 2 ^ width
 abbrev pub WordsFit : ℕ → ℕ → List ℕ → Type 0
 WordsFit width zero [] = Unit {0}
 WordsFit width (suc n) (w ∷ ws) = (w < 2 ^ width) × WordsFit width n ws
@@ -84,7 +84,7 @@ pub record IsOfShape (s : Shape) (p : Point) : Type 0 where
 
 -- ---- their code
 
--- with so many given blocks
+-- among `blocks` given blocks
 abbrev pub name_digit : ℕ → BlockName → ℕ
 name_digit blocks Null = 0
 name_digit blocks (Given number) = number
@@ -101,17 +101,17 @@ abbrev pub args_code : ℕ → List Parameter → List Value → List ℕ
 args_code blocks (p ∷ ps) (v ∷ vs) = value_code blocks p.of_type v ++ args_code blocks ps vs
 args_code blocks _ _ = []
 
--- the kind, the number, the pointer's block and offset, and the part's place; what isn't used is 0
+-- the kind, the number, the pointer's block and offset, and the part's index; what isn't used is 0
 abbrev pub byte_code : ℕ → Byte → List ℕ
 byte_code blocks (byte.Num n) = 0 ∷ n ∷ 0 ∷ 0 ∷ 0 ∷ []
 byte_code blocks (byte.Part p i) = 1 ∷ 0 ∷ name_digit blocks p.block ∷ p.offset ∷ i ∷ []
 byte_code blocks byte.Poison = 2 ∷ 0 ∷ 0 ∷ 0 ∷ 0 ∷ []
 
--- a block's places, those past its size too
+-- a block's contents, past its size too
 abbrev pub places_code : ℕ → MemoryBlock → List ℕ
 places_code blocks b = flat_map (byte_code blocks) b.places
 
--- the sizes of all blocks come before their places
+-- the sizes of all blocks come before their contents
 abbrev pub blocks_code : ℕ → List MemoryBlock → List ℕ
 blocks_code blocks bs = map (λ (b : MemoryBlock). b.size) bs ++ flat_map (places_code blocks) bs
 
@@ -119,6 +119,6 @@ blocks_code blocks bs = map (λ (b : MemoryBlock). b.size) bs ++ flat_map (place
 abbrev pub code_of : ℕ → List Parameter → Point → List ℕ
 code_of blocks parameters p = args_code blocks parameters p.input.args ++ (blocks_code blocks p.input.blocks ++ p.tape)
 
--- where the point stands in the order
+-- the position of the point in the order
 abbrev pub place_of : ℕ → List Parameter → Point → ℕ
 place_of blocks parameters p = number_of (code_of blocks parameters p)

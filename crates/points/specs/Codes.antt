@@ -1,4 +1,4 @@
--- Which lists of numbers are codes of a shape. It speaks of numbers alone, and not of points.
+-- Which lists of numbers are codes of a shape. It speaks of numbers only, not of points.
 use Rattle.std.specs.Prelude.{◌≡◌, ◌⊎◌, ℕ, zero, suc, ◌^◌, ◌<◌, ◌≤◌, List, [], ◌∷◌, ◌++◌}
 use Rattle.ir_tree.specs.declared.tree.IrType.{IrType}
 use Rattle.ir_tree.specs.declared.tree.IrType.TheVariants.{Int, Ptr}
@@ -6,7 +6,7 @@ use Rattle.ir_tree.specs.declared.tree.Parameter.{Parameter}
 use Rattle.points.specs.declared.point.Shape.{Shape}
 use Rattle.points.specs.Code.{WordsFit}
 
--- one of P, and behind it one of what Q allows there
+-- a prefix in P, and after it a rest that Q allows for this prefix
 pub record IsChain (P : List ℕ → Type 0) (Q : List ℕ → List ℕ → Type 0) (ds : List ℕ) : Type 0 where
   pub front : List ℕ
   pub back : List ℕ
@@ -42,7 +42,7 @@ IsCodeOfArgs blocks (p ∷ ps) ds = IsChain (IsCodeOfValue blocks p.of_type) (λ
 
 -- ---- given blocks
 
--- so many sizes, each at most `bytes`
+-- n sizes, each at most `bytes`
 abbrev pub AreSizes : ℕ → ℕ → List ℕ → Type 0
 AreSizes bytes zero [] = Unit {0}
 AreSizes bytes (suc n) (size ∷ sizes) = (size ≤ bytes) × AreSizes bytes n sizes
@@ -69,23 +69,23 @@ pub record IsPartByte (blocks : ℕ) (ds : List ℕ) : Type 0 where
 abbrev pub IsCodeOfByte : ℕ → List ℕ → Type 0
 IsCodeOfByte blocks ds = IsNumberByte ds ⊎ (IsPartByte blocks ds ⊎ (ds ≡ 2 ∷ 0 ∷ 0 ∷ 0 ∷ 0 ∷ []))
 
--- the five numbers of a place past a block's size
+-- the five numbers of an index past a block's size
 abbrev pub IsUnused : List ℕ → Type 0
 IsUnused ds = ds ≡ 0 ∷ 0 ∷ 0 ∷ 0 ∷ 0 ∷ []
 
--- so many places: bytes before the size, and unused ones from there on
+-- the contents of a block with room for this number of bytes: bytes before the size, and unused indices from there on
 abbrev pub IsCodeOfPlaces : ℕ → ℕ → ℕ → List ℕ → Type 0
 IsCodeOfPlaces blocks zero size ds = ds ≡ []
 IsCodeOfPlaces blocks (suc room) zero ds = IsChain IsUnused (λ place rest. IsCodeOfPlaces blocks room zero rest) ds
 IsCodeOfPlaces blocks (suc room) (suc size) ds = IsChain (IsCodeOfByte blocks) (λ place rest. IsCodeOfPlaces blocks room size rest) ds
 
--- the places of blocks of these sizes, `bytes` for each
+-- the contents of blocks of these sizes, with room for `bytes` bytes each
 abbrev pub IsCodeOfBlocks : ℕ → ℕ → List ℕ → List ℕ → Type 0
 IsCodeOfBlocks blocks bytes [] ds = ds ≡ []
 IsCodeOfBlocks blocks bytes (size ∷ sizes) ds = IsChain (IsCodeOfPlaces blocks bytes size) (λ block rest. IsCodeOfBlocks blocks bytes sizes rest) ds
 
 -- ---- the whole
 
--- the arguments, the sizes of the given blocks, the places of blocks of these sizes, and the tape
+-- the arguments, the sizes of the given blocks, the contents of blocks of these sizes, and the tape
 abbrev pub IsCode : Shape → List ℕ → Type 0
 IsCode s = IsChain (IsCodeOfArgs s.blocks s.parameters) (λ args. IsChain (AreSizes s.bytes s.blocks) (λ sizes. IsChain (IsCodeOfBlocks s.blocks s.bytes sizes) (λ places. WordsFit s.word_width.bits s.words)))

@@ -19,22 +19,22 @@ some_covers pair bounds p (tape ∷ tapes) = covers pair bounds p tape || some_c
 
 -- ---- the candidates
 
--- so many words of a function from places to words
+-- n words of a function from indices to words
 abbrev pub words_of : ℕ → (ℕ → ℕ) → List ℕ
 words_of n s = map s (range_with_len 0 n)
 
--- the tape's word so many places before, and so many behind; 0 outside the tape
+-- the tape's word `by` positions before i, and `by` positions after; 0 outside the tape
 abbrev pub word_before : List ℕ → ℕ → ℕ → ℕ
 word_before tape by i = if nat_lt i by then 0 else slice_index tape (i - by)
 
 abbrev pub word_behind : List ℕ → ℕ → ℕ → ℕ
 word_behind tape by i = slice_index tape (i + by)
 
--- the target's tape as it is, and moved by one or two places either way
+-- the target's tape as it is, and shifted by one or two positions either way
 abbrev pub shifts : List ℕ → List (ℕ → ℕ)
 shifts tape = word_behind tape 0 ∷ word_behind tape 1 ∷ word_behind tape 2 ∷ word_before tape 1 ∷ word_before tape 2 ∷ []
 
--- as words of a source that needs so many
+-- as `need` words, the number that the source needs
 abbrev pub shifted : ℕ → List ℕ → List (List ℕ)
 shifted need tape = map (words_of need) (shifts tape)
 

@@ -18,7 +18,7 @@ use Rattle.points.specs.Trail.{IsPoint, place_in, IsVerdict}
 
 -- ---- the order
 
--- at the first place where they differ, xs has the lesser number
+-- at the first index where they differ, xs has the smaller number
 pub record IsLessFromFront (xs ys : List ℕ) : Type 0 where
   pub place : ℕ
   pub within : place < length xs
@@ -28,15 +28,15 @@ pub record IsLessFromFront (xs ys : List ℕ) : Type 0 where
 abbrev pub AreDigits : List ℕ → Type 0
 AreDigits xs = EachIndex xs (λ k. slice_index xs k < 2 ^ 64)
 
--- lists of one length go by their numbers as they go from the front
+-- two lists of the same length are ordered by their numbers as they are lexicographically
 abbrev pub NumbersCompareFromFront : Type 0
 NumbersCompareFromFront = (xs ys : List ℕ) → length xs ≡ length ys → AreDigits xs → AreDigits ys → number_of xs < number_of ys ↔ IsLessFromFront xs ys
 
--- two points of a shape that stand at one place are one
+-- two points of a shape at the same position in the order are equal
 abbrev pub PlacesTellPoints : Type 0
 PlacesTellPoints = (s : Shape) (p q : Point) → s.blocks < 2 ^ 64 → s.bytes < 2 ^ 64 → IsOfShape s p → IsOfShape s q → place_of s.blocks s.parameters p ≡ place_of s.blocks s.parameters q → p ≡ q
 
--- the one point of the shape with this code
+-- the only point of the shape with this code
 pub record IsPointWith (s : Shape) (digits : List ℕ) (p : Point) : Type 0 where
   pub of_shape : IsOfShape s p
   pub code : code_of s.blocks s.parameters p ≡ digits
@@ -68,7 +68,7 @@ Holds pair bounds = (input : Input) (tape : List ℕ) → IsWithin pair bounds i
 abbrev pub CorrectHolds : Type 0
 CorrectHolds = (pair : Functions) (bounds : Bounds) (budget : Budget) → IsVerdict pair bounds budget Correct → Holds pair bounds
 
--- no tape of any length covers the point, and some tape covers each lesser one
+-- no tape of any length covers the point, and some tape covers each smaller one
 pub record IsCounterexample (pair : Functions) (bounds : Bounds) (p : Point) : Type 0 where
   pub point : IsPoint pair bounds p
   pub none : (tape : List ℕ) → covers pair bounds p tape ≡ false

@@ -16,7 +16,7 @@ use Rattle.points.specs.declared.point.Shape.{Shape}
 use Rattle.points.specs.Code.{number_of, WordsFit, ValueFits, ArgsFit, ByteFits, BytesFit, BlocksFit, IsOfShape, name_digit, value_code, args_code, byte_code, places_code, place_of}
 use Rattle.points.specs.Codes.{AreSizes}
 
--- a later list of as many words, and none between the two was left out
+-- a later list of the same number of words, and none between the two was left out
 pub record IsNextWords (width : ℕ) (old new : List ℕ) : Type 0 where
   pub fits : WordsFit width (length old) new
   pub later : number_of old < number_of new
@@ -25,7 +25,7 @@ pub record IsNextWords (width : ℕ) (old new : List ℕ) : Type 0 where
 abbrev pub IsLastWords : ℕ → List ℕ → Type 0
 IsLastWords width old = (words : List ℕ) → WordsFit width (length old) words → number_of words ≤ number_of old
 
--- the values of a type go by their codes
+-- the values of a type are ordered by their codes
 abbrev pub value_number : ℕ → IrType → Value → ℕ
 value_number blocks t v = number_of (value_code blocks t v)
 
@@ -53,7 +53,7 @@ abbrev pub least_value : IrType → Value
 least_value (type.Int width) = value.Num 0
 least_value type.Ptr = value.Ptr (record { block = Null; offset = 0 })
 
--- the arguments with the least values from a place on
+-- the arguments with the least values from an index on
 abbrev pub least_from : List Parameter → ℕ → List Value → List Value
 least_from [] n vs = vs
 least_from (p ∷ ps) n [] = []
@@ -64,7 +64,7 @@ least_from (p ∷ ps) (suc n) (v ∷ vs) = v ∷ least_from ps n vs
 abbrev pub pointer_number : ℕ → Ptr → ℕ
 pointer_number blocks p = name_digit blocks p.block * 2 ^ 64 + p.offset
 
--- bytes go by their codes too
+-- bytes are ordered by their codes too
 abbrev pub byte_number : ℕ → Byte → ℕ
 byte_number blocks b = number_of (byte_code blocks b)
 
@@ -76,7 +76,7 @@ pub record IsNextByte (blocks : ℕ) (old new : Byte) : Type 0 where
 abbrev pub IsLastByte : ℕ → Byte → Type 0
 IsLastByte blocks old = (b : Byte) → ByteFits blocks b → byte_number blocks b ≤ byte_number blocks old
 
--- the places of a block of this size: those past it are the number 0
+-- the contents of a block of this size: those past it are the number 0
 pub record PlacesFit (blocks bytes size : ℕ) (places : List Byte) : Type 0 where
   pub room : length places ≡ bytes
   pub past : drop size places ≡ replicate (bytes - size) (byte.Num 0)
@@ -101,7 +101,7 @@ sizes_in bs = map (λ (b : MemoryBlock). b.size) bs
 abbrev pub memory_number : ℕ → List MemoryBlock → ℕ
 memory_number blocks bs = number_of (flat_map (places_code blocks) bs)
 
--- the given blocks with later places and the same sizes, and none between the two was left out
+-- the given blocks with later contents and the same sizes, and none between the two was left out
 pub record IsNextMemory (blocks bytes : ℕ) (old new : List MemoryBlock) : Type 0 where
   pub fits : BlocksFit blocks bytes 1 new
   pub sizes : sizes_in new ≡ sizes_in old
@@ -111,7 +111,7 @@ pub record IsNextMemory (blocks bytes : ℕ) (old new : List MemoryBlock) : Type
 abbrev pub IsLastMemory : ℕ → ℕ → List MemoryBlock → Type 0
 IsLastMemory blocks bytes old = (bs : List MemoryBlock) → BlocksFit blocks bytes 1 bs → sizes_in bs ≡ sizes_in old → memory_number blocks bs ≤ memory_number blocks old
 
--- later sizes, none left out, and the least places of these sizes
+-- later sizes, none left out, and the least contents for these sizes
 pub record IsNextSizes (blocks bytes : ℕ) (old new : List MemoryBlock) : Type 0 where
   pub fits : BlocksFit blocks bytes 1 new
   pub later : number_of (sizes_in old) < number_of (sizes_in new)
@@ -127,7 +127,7 @@ pub record AreLeastBlocks (blocks bytes : ℕ) (new : List MemoryBlock) : Type 0
   pub sizes : number_of (sizes_in new) ≡ 0
   pub places : memory_number blocks new ≡ 0
 
--- a list with the items from a place on changed
+-- a list with the items from an index on changed
 abbrev pub from_place : {A : Type 0} → (A → A) → ℕ → List A → List A
 from_place f n [] = []
 from_place f zero (x ∷ xs) = f x ∷ from_place f zero xs
@@ -136,11 +136,11 @@ from_place f (suc n) (x ∷ xs) = x ∷ from_place f n xs
 abbrev pub zero_byte : Byte → Byte
 zero_byte b = byte.Num 0
 
--- the block with zeros in all its places
+-- the block with zeros as its contents
 abbrev pub zero_places : MemoryBlock → MemoryBlock
 zero_places b = record b { places = from_place zero_byte 0 b.places }
 
--- the block of size 0, its places as they were
+-- the block with size 0, its contents unchanged
 abbrev pub zero_size : MemoryBlock → MemoryBlock
 zero_size b = record b { size = 0 }
 

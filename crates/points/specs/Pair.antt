@@ -20,7 +20,7 @@ same_return None None = true
 same_return (Some s) (Some t) = same_type s t
 same_return _ _ = false
 
--- as many parameters, of equal types place by place
+-- the same number of parameters, with equal types at each index
 abbrev pub same_types : List Parameter → List Parameter → Bool
 same_types [] [] = true
 same_types (p ∷ ps) (q ∷ qs) = same_type p.of_type q.of_type && same_types ps qs

@@ -1,4 +1,4 @@
--- What the numbers of a code stand for.
+-- What the numbers of a code denote.
 use Rattle.std.specs.Prelude.{◌≡◌, ℕ, zero, suc, ◌+◌, ◌*◌, ◌^◌, ◌<◌, ◌≤◌, List, [], ◌∷◌, length, drop, slice_index, sum_by}
 use Rattle.ir_tree.specs.declared.tree.IrType.{IrType}
 use Rattle.ir_tree.specs.declared.tree.IrType.TheVariants as type
@@ -28,7 +28,7 @@ name_from (suc n) = Given (suc n)
 abbrev pub pointer_from : ℕ → ℕ → Ptr
 pointer_from block offset = record { block = name_from block; offset = offset }
 
--- the value whose numbers stand first
+-- the value whose numbers come first
 abbrev pub value_from : IrType → List ℕ → Value
 value_from (type.Int width) (zero ∷ n ∷ rest) = value.Num n
 value_from (type.Int width) _ = value.Poison
@@ -39,7 +39,7 @@ abbrev pub args_from : List Parameter → List ℕ → List Value
 args_from [] ds = []
 args_from (p ∷ ps) ds = value_from p.of_type ds ∷ args_from ps (drop (value_length p.of_type) ds)
 
--- the byte whose five numbers stand first
+-- the byte whose five numbers come first
 abbrev pub byte_from : List ℕ → Byte
 byte_from (zero ∷ n ∷ rest) = byte.Num n
 byte_from (suc zero ∷ n ∷ block ∷ offset ∷ part ∷ rest) = byte.Part (pointer_from block offset) part
@@ -60,13 +60,13 @@ blocks_from bytes number (size ∷ sizes) ds = block_from bytes number size ds �
 
 -- ---- where there are numbers to read
 
--- five numbers stand first, and a byte's number and place are small
+-- there are five numbers, and a byte's number and a part's index are below 2 ^ 8
 pub record HasByte (ds : List ℕ) : Type 0 where
   pub five : 5 ≤ length ds
   pub number : slice_index ds 0 ≡ 0 → slice_index ds 1 < 2 ^ 8
   pub part : slice_index ds 0 ≡ 1 → slice_index ds 4 < 2 ^ 8
 
--- so many bytes
+-- `room` bytes
 abbrev pub HaveBytes : ℕ → List ℕ → Type 0
 HaveBytes zero ds = Unit {0}
 HaveBytes (suc room) ds = HasByte ds × HaveBytes room (drop 5 ds)
@@ -75,7 +75,7 @@ pub record HasPlaces (bytes : ℕ) (ds : List ℕ) : Type 0 where
   pub enough : bytes * 5 ≤ length ds
   pub are_bytes : HaveBytes bytes ds
 
--- the places of so many blocks
+-- the contents of a block for each size
 abbrev pub HaveBlocks : ℕ → List ℕ → List ℕ → Type 0
 HaveBlocks bytes [] ds = Unit {0}
 HaveBlocks bytes (size ∷ sizes) ds = HasPlaces bytes ds × HaveBlocks bytes sizes (drop (bytes * 5) ds)

@@ -16,7 +16,7 @@ same_name (Given i) (Given j) = nat_eq i j
 same_name (Local turn place) (Local turn' place') = nat_eq turn turn' && nat_eq place place'
 same_name _ _ = false
 
--- two pointers after the run: one to a local block is dead, and all dead ones are one
+-- two pointers after the run: one to a local block is dead, and all dead ones are equal
 abbrev pub same_pointer : BlockName → ℕ → BlockName → ℕ → Bool
 same_pointer (Local turn place) offset (Local turn' place') offset' = true
 same_pointer name offset name' offset' = same_name name name' && nat_eq offset offset'
@@ -34,13 +34,13 @@ byte_allows (byte.Num a) (byte.Num b) = nat_eq a b
 byte_allows (byte.Part p i) (byte.Part q j) = same_pointer p.block p.offset q.block q.offset && nat_eq i j
 byte_allows _ _ = false
 
--- two lists of one length, whose items pass the test place by place
+-- two lists of the same length, whose items pass the test at each index
 unfoldable pub pairs_pass : {A : Type 0} → (A → A → Bool) → List A → List A → Bool
 pairs_pass test [] [] = true
 pairs_pass test (s ∷ ss) (t ∷ ts) = test s t && pairs_pass test ss ts
 pairs_pass test _ _ = false
 
--- the bytes of a block are its places below its size
+-- the bytes of a block are its contents below its size
 abbrev pub bytes_of : MemoryBlock → List Byte
 bytes_of b = take b.size b.places
 

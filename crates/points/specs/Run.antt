@@ -65,13 +65,13 @@ operand_value registers operand.Null = value.Ptr null_pointer
 operand_value registers operand.Poison = Poison
 operand_value registers operand.Undef = Poison
 
--- a number is cut to the width, and a pointer is none
+-- a number is cut to the width; a pointer gives poison
 abbrev pub cut_value : ℕ → Value → Value
 cut_value width (Num n) = Num (n % 2 ^ width)
 cut_value width Poison = Poison
 cut_value width (value.Ptr p) = Poison
 
--- a pointer, and a number is none
+-- a pointer; a number gives poison
 abbrev pub address_value : Value → Value
 address_value (Num n) = Poison
 address_value Poison = Poison
@@ -90,12 +90,12 @@ assigned m name v = record m { registers = slice_set m.registers name v }
 
 -- ---- choices
 
--- a value that a run chose, and the words of a tape that stand for it
+-- a value that a run chose, and the words of a tape that encode it
 pub record Choice : Type 0 where
   pub value : Value
   pub words : List ℕ
 
--- the tape's word so many places behind those that were read; 0 past the tape's end
+-- the tape's word k, counted from 0 after those that were read; 0 past the tape's end
 abbrev pub next_word : List ℕ → Machine → ℕ → ℕ
 next_word tape m k = slice_index tape (length m.taken + k)
 
@@ -135,7 +135,7 @@ abbrev pub access_of : IrType → Access
 access_of (type.Int width) = access.Int width
 access_of type.Ptr = access.Pointer
 
--- the block of an alloca is one of this turn
+-- the block of an alloca is named by the count of backward jumps so far and the alloca's number
 abbrev pub allocated : Machine → ℕ → ℕ → MemoryType → ℕ → Machine
 allocated m into number type align =
     assigned (record m { memory = after_alloca m.memory (Local m.turn number) (object_size type) align }) into (value.Ptr (record { block = Local m.turn number; offset = 0 }))
@@ -158,7 +158,7 @@ index_values registers type n (index ∷ indices) = index_value registers type n
 
 -- ---- one instruction
 
--- none is undefined behaviour
+-- None is undefined behaviour
 abbrev pub act : Inst → List ℕ → Machine → Option Machine
 act (Binary into op width left right) tape m =
     option_map (assigned m into) (value_result op width.bits (operand_value m.registers left) (operand_value m.registers right))
@@ -178,7 +178,7 @@ act (GetElementPtr into inbounds nuw type base indices) tape m =
 
 -- ---- the phis of a block ("phi Instruction")
 
--- what stands in the entry for the block that was left
+-- the value of the entry for the block that was left
 abbrev pub entry_value : Machine → List PhiEntry → Value
 entry_value m entries = option_map_or (λ (e : PhiEntry). operand_value m.registers e.operand) (find (λ (e : PhiEntry). nat_eq e.from m.block) entries) Poison
 
@@ -201,7 +201,7 @@ pub record Run : Type 0 where
   pub outcome : Outcome
   pub taken : List ℕ
 
--- how a block is left: to the block of a label, or for good
+-- how a block is left: to the block of a label, or with the end of the run
 pub data Exit : Type 0 where
   To : ℕ → Machine → Exit
   Over : Run → Exit
@@ -221,7 +221,7 @@ is_given b = is_given_name b.name
 abbrev pub returns : Option Value → Machine → Run
 returns v m = ended (Return v (filter is_given m.memory)) m
 
--- the type of the choice that stands there: undef is one ("Undefined Values")
+-- the type of the choice that an operand makes: only undef makes one ("Undefined Values")
 abbrev pub undef_type : IrType → Operand → Option IrType
 undef_type type operand.Undef = Some type
 undef_type type _ = None
@@ -248,7 +248,7 @@ abbrev pub branch_on : Value → ℕ → ℕ → Machine → Exit
 branch_on (Num n) if_true if_false m = To (if nat_eq (n % 2) 1 then if_true else if_false) m
 branch_on _ if_true if_false m = Over (ended Ub m)
 
--- the first case with this number of so many bits, or the default
+-- the first case with this number of `width` bits, or the default
 abbrev pub case_for : ℕ → ℕ → ℕ → List Case → ℕ
 case_for width n default cases = option_map_or (λ (c : Case). c.to) (find (λ (c : Case). same_number width c.value n) cases) default
 
@@ -279,25 +279,25 @@ exit_of no_undef (Some block) tape m = exit_insts no_undef block.insts block.ter
 
 -- ---- the run
 
--- the run from the entry of the block at a place
+-- the run from the entry of the block at an index
 abbrev pub Go : Type 0
 Go = ℕ → Machine → Run
 
--- to the block at a place: a jump to the same or an earlier one is backward, and is counted
+-- to the block at an index: a jump to the same or an earlier one is backward, and is counted
 abbrev pub jump : ℕ → ℕ → Machine → Go → Go → Run
 jump at to m onward again = if nat_lt at to then onward to m else again to (record m { turn = m.turn + 1 })
 
--- the first number is the place of the block that is left; a label that no block has is at a place behind the text
+-- the first number is the index of the block that is left; a label that no block has gives an index past the last block
 abbrev pub go_on : Function → Exit → ℕ → Go → Go → Run
 go_on f (Over run) at onward again = run
 go_on f (To label m) at onward again = jump at (block_of f label) m onward again
 
--- up to the next backward jump, which goes on by `again`; `left` bounds the jumps forward, and the number of blocks suffices
+-- up to the next backward jump, which goes on by `again`; `left` bounds the forward jumps, and the number of blocks suffices
 unfoldable pub forward : Function → List ℕ → Go → ℕ → Go
 forward f tape again zero at m = ended Ub m
 forward f tape again (suc left) at m = go_on f (exit_of f.returns_no_undef (slice_get f.blocks at) tape m) at (forward f tape again left) again
 
--- with so many backward jumps left; the one after them ends the run
+-- with this number of backward jumps left; one more ends the run
 unfoldable pub run_turns : Function → List ℕ → ℕ → Go
 run_turns f tape zero = forward f tape (λ at m. ended Beyond m) (length f.blocks)
 run_turns f tape (suc turns) = forward f tape (run_turns f tape turns) (length f.blocks)

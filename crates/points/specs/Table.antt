@@ -38,7 +38,7 @@ abbrev pub is_least_or_poison : ℕ → Value → Bool
 is_least_or_poison n (Num a) = nat_eq (a % 2 ^ n) (2 ^ (n - 1))
 is_least_or_poison n _ = true
 
--- the least number divided by -1 has no room for its quotient
+-- the quotient of the least number by -1 is out of range
 abbrev pub has_no_quotient : ℕ → Value → Value → Bool
 has_no_quotient n left right = is_zero_or_poison n right || (is_minus_1 n right && is_least_or_poison n left)
 
@@ -76,7 +76,7 @@ is_poisoned And n a b = false
 is_poisoned (Or disjoint) n a b = disjoint && not (nat_eq (bit_and a b) 0)
 is_poisoned Xor n a b = false
 
--- ---- and else its result
+-- ---- and otherwise its result
 
 abbrev pub number_result : Op → ℕ → ℕ → ℕ → ℕ
 number_result (Add flags) n a b = (a + b) % 2 ^ n
@@ -99,13 +99,13 @@ abbrev pub defined_result : Op → ℕ → Value → Value → Value
 defined_result op n (Num a) (Num b) = poison_if (is_poisoned op n (a % 2 ^ n) (b % 2 ^ n)) (Num (number_result op n (a % 2 ^ n) (b % 2 ^ n)))
 defined_result op n _ _ = Poison
 
--- none is undefined behaviour
+-- None is undefined behaviour
 abbrev pub value_result : Op → ℕ → Value → Value → Option Value
 value_result op n left right = if is_undefined op n left right then None else Some (defined_result op n left right)
 
 -- ---- comparisons
 
--- whether numbers of n bits compare so, read without a sign or in two's complement
+-- whether the predicate holds of numbers of n bits, read as unsigned or in two's complement
 abbrev pub holds_of : Predicate → ℕ → ℕ → ℕ → Bool
 holds_of predicate.Equal n a b = nat_eq a b
 holds_of predicate.NotEqual n a b = not (nat_eq a b)
@@ -141,7 +141,7 @@ compared predicate same_sign n _ _ = Poison
 
 -- ---- casts
 
--- a number of so many bits at another width; a truncation with flags wants the cut bits to be 0, or copies of the result's sign
+-- a number of `from` bits at another width; a truncation with flags requires the cut bits to be 0, or copies of the result's sign
 abbrev pub cast_number : Cast → ℕ → ℕ → ℕ → Value
 cast_number (Truncate flags) from to a = poison_if (is_flagged flags (is_outside_unsigned to (pos a)) (is_outside_signed to (signed_of from a))) (Num (a % 2 ^ to))
 cast_number (ZeroExtend non_negative) from to a = poison_if (non_negative && is_negative from a) (Num (a % 2 ^ to))

@@ -54,7 +54,7 @@ block_widths b = flat_map inst_widths b.insts ++ end_widths b.terminator
 abbrev pub choice_widths : Function → List ℕ
 choice_widths f = flat_map block_widths f.blocks
 
--- no run with so many backward jumps reads more words
+-- no run with this number of backward jumps reads more words
 abbrev pub need_of : ℕ → Function → ℕ
 need_of turns f = (turns + 1) * length (choice_widths f)
 
@@ -66,7 +66,7 @@ widest (w ∷ ws) = max w (widest ws)
 abbrev pub widest_choice : Function → ℕ
 widest_choice f = widest (choice_widths f)
 
--- the choices that were taken, and zeros up to so many words
+-- the choices that were taken, and zeros up to n words
 abbrev pub plain_form : ℕ → List ℕ → List ℕ
 plain_form n taken = taken ++ replicate (n - length taken) 0
 

@@ -59,7 +59,7 @@ memory_bytes bounds f = bounds.blocks * bounds.bytes + (bounds.turns + 1) * sum_
 
 -- ---- the cost of a function
 
--- Where the memory has so many bytes. A comparison costs its operands' width, a load or a store looks at each byte for each of its own, and all else costs the result's width.
+-- with `memory` bytes of memory; a load or a store looks at each of them for each byte that it accesses
 abbrev pub inst_cost : ℕ → Inst → ℕ
 inst_cost memory (Binary into op width left right) = op_cost op width.bits
 inst_cost memory (Icmp into predicate same_sign width left right) = width.bits

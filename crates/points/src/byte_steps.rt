@@ -29,7 +29,7 @@ fn next_name(name: BlockName, blocks: u64) -> Option<BlockName>
     }
 }
 
-/// The next pointer, offsets counting least.
+/// The next pointer, the offset least significant.
 pub fn next_pointer(pointer: Ptr, blocks: u64) -> Option<Ptr>
     requires { PointerFits blocks pointer }
     ensures { MatchOption result (pointer_number blocks pointer + 1 ≡ (blocks + 1) * 2 ^ 64) (λ next. PointerFits blocks next × (pointer_number blocks next ≡ pointer_number blocks pointer + 1)) }
@@ -46,7 +46,7 @@ pub fn next_pointer(pointer: Ptr, blocks: u64) -> Option<Ptr>
     }
 }
 
-/// What comes behind a part of a pointer: its next part, the first part of the next pointer, or
+/// What comes after a part of a pointer: its next part, the first part of the next pointer, or
 /// poison.
 fn byte_behind(pointer: Ptr, part: u8, blocks: u64) -> Byte
     requires { ByteFits blocks (Byte.Part pointer part) }
@@ -85,7 +85,7 @@ fn next_byte(byte: Byte, blocks: u64) -> Option<Byte>
     }
 }
 
-/// Writes the number 0 from a place on.
+/// Writes the number 0 from an index on.
 pub fn zero_bytes(places: &mut Sequence<Byte>, from: usize)
     requires { from ≤ length places.old }
     ensures { places.new ≡ from_place zero_byte from places.old }
@@ -95,8 +95,8 @@ pub fn zero_bytes(places: &mut Sequence<Byte>, from: usize)
     }
 }
 
-/// Puts the next places of a block of this size in the place of its places. It answers false exactly
-/// at the last ones, which then stay.
+/// Replaces the contents of a block of this size by the next ones. It answers false exactly at the
+/// last ones, which then stay.
 pub fn next_bytes(places: &mut Sequence<Byte>, size: u64, blocks: u64) -> bool
     requires room { size ≤ length places.old }
     requires fit { PlacesFit blocks (length places.old) size places.old }

@@ -95,8 +95,8 @@ fn push_places(code: &mut Vec<u64>, memory: &[MemoryBlock]) -> Result<(), NoMemo
 }
 
 /// The code of a point of the shape: for each argument a flag, 1 for poison, and its number, or its
-/// block and offset; the sizes of the given blocks; five numbers for each of their places; the words
-/// of the tape.
+/// block and offset; the sizes of the given blocks; five numbers for each byte that they have room
+/// for; the words of the tape.
 pub fn code_of(alloc: Global, point: &Point, shape: &Shape) -> Result<Vec<u64>, NoMemory>
     requires { IsOfShape shape.now point.now }
     ensures { IfOk result (λ code. code.items ≡ code_of shape.now.blocks shape.now.parameters point.now) }

@@ -1,13 +1,13 @@
 ghost use Rattle.points.specs.Laws.{NumbersCompareFromFront, PlacesTellPoints, CodesTellPoints, CorrectHolds, IncorrectFails, LeastCoversArePlain, VerdictsAreOne};
 ghost use Rattle.points.specs.Tapes.{TapesHavePlainForms};
 
-/// Codes are compared from the front: of two lists of one length the one whose number is less at the
-/// first place where they differ stands first.
+/// Codes are compared lexicographically: of two lists of the same length the one with the smaller
+/// number at the first index where they differ comes first.
 pub fn numbers_compare_from_front()
     ensures { NumbersCompareFromFront }
 {}
 
-/// No two points of a shape stand at one place.
+/// No two points of a shape have the same position in the order.
 pub fn places_tell_points()
     ensures { PlacesTellPoints }
 {}
@@ -36,7 +36,7 @@ pub fn correct_holds()
 {}
 
 /// Where the verdict is incorrect, no tape of any length covers its point, and some tape covers each
-/// lesser point.
+/// smaller point.
 pub fn incorrect_fails()
     ensures { IncorrectFails }
 {}

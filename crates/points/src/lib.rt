@@ -1,9 +1,9 @@
 //! What a pair of functions is judged on: inputs, tapes of choices, points and their order, outcomes
 //! and which of them refines which, and what a verdict is.
 //!
-//! It promises that the definitions of a run, of a point and of a verdict stand in one place, below
-//! the judges and below whatever prints their answers, and that the verdict on a pair is one. It
-//! stands on `ir_tree` and `byte_block`; the interpreter and every judge stand on it.
+//! It promises that a run, a point and a verdict are defined in one crate, below the judges and
+//! below whatever prints their answers, and that a pair has at most one verdict. It builds on
+//! `ir_tree` and `memory_access`; the interpreter and every judge build on it.
 #![tactic(auto)]
 
 mod byte_steps;

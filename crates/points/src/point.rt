@@ -36,7 +36,7 @@ pub struct Point {
 }
 
 /// What the points of a pair look like: the parameters, how many given blocks there are, how many
-/// places each has, how many words the tape has, and how many bits a word.
+/// bytes each has room for, how many words the tape has, and how many bits a word.
 #[derive(Drop)]
 pub struct Shape {
     pub parameters: Sequence<Parameter>,

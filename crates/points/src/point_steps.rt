@@ -8,7 +8,7 @@ use crate::steps::{next_words, zero_from};
 use crate::value_steps::next_values;
 use byte_block::Memory;
 
-/// Writes zeros into all places of the blocks from one on.
+/// Writes zeros over the contents of the blocks from an index on.
 fn clear_places(blocks: &mut Memory, from: usize)
     requires { from ≤ length blocks.old }
     ensures { blocks.new ≡ from_place zero_places from blocks.old }
@@ -18,7 +18,7 @@ fn clear_places(blocks: &mut Memory, from: usize)
     }
 }
 
-/// Makes the size of the blocks from one on 0.
+/// Makes the size of the blocks from an index on 0.
 fn clear_sizes(blocks: &mut Memory, from: usize)
     requires { from ≤ length blocks.old }
     ensures { blocks.new ≡ from_place zero_size from blocks.old }
@@ -28,8 +28,8 @@ fn clear_sizes(blocks: &mut Memory, from: usize)
     }
 }
 
-/// Puts the next places of blocks of these sizes in the place of theirs. It answers false exactly at
-/// the last ones, which then stay.
+/// Replaces the contents of blocks of these sizes by the next ones. It answers false exactly at the
+/// last ones, which then stay.
 fn next_places(blocks: &mut Memory, given: u64, bytes: u64) -> bool
     requires { BlocksFit given bytes 1 blocks.old }
     ensures next { IsTrue result → IsNextMemory given bytes blocks.old blocks.new }
@@ -46,8 +46,8 @@ fn next_places(blocks: &mut Memory, given: u64, bytes: u64) -> bool
     false
 }
 
-/// Puts the next sizes in the place of the sizes, with zeros in all places. It answers false exactly
-/// at the last sizes, and the blocks then stay.
+/// Replaces the sizes by the next ones, with zeros as the contents. It answers false exactly at the
+/// last sizes, and the blocks then stay.
 fn next_sizes(blocks: &mut Memory, given: u64, bytes: u64) -> bool
     requires { BlocksFit given bytes 1 blocks.old }
     ensures next { IsTrue result → IsNextSizes given bytes blocks.old blocks.new }
@@ -65,8 +65,8 @@ fn next_sizes(blocks: &mut Memory, given: u64, bytes: u64) -> bool
     false
 }
 
-/// Puts the next point of the shape in the place of one. It answers false exactly at the last, which
-/// then stays. It takes no memory.
+/// Replaces a point of the shape by the next one. It answers false exactly at the last, which then
+/// stays. It allocates nothing.
 pub fn next(point: &mut Point, shape: &Shape) -> bool
     requires { IsOfShape shape.now point.old }
     ensures next { IsTrue result → IsNextPoint shape.now point.old point.new }

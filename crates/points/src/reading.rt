@@ -38,7 +38,7 @@ fn args_length(parameters: &[Parameter]) -> usize
     parameters.iter().map(|p| value_length(p.of_type)).sum()
 }
 
-/// The value whose numbers stand first.
+/// The value whose numbers come first.
 fn value_at(digits: &[u64], of_type: IrType) -> Value
     requires { value_length of_type ≤ length digits.now }
     ensures { result ≡ value_from of_type digits.now }
@@ -81,7 +81,7 @@ fn args_with(
     Ok(Sequence::from_vec(args))
 }
 
-/// The byte whose five numbers stand first.
+/// The byte whose five numbers come first.
 fn byte_at(digits: &[u64]) -> Byte
     requires { HasByte digits.now }
     ensures { result ≡ byte_from digits.now }
@@ -130,7 +130,7 @@ fn block_with(
     })
 }
 
-/// The given blocks of these sizes, whose places stand first.
+/// The given blocks of these sizes, whose contents come first.
 fn blocks_with(alloc: Global, digits: &[u64], sizes: &[u64], bytes: u64) -> Result<Memory, NoMemory>
     requires { HaveBlocks bytes sizes.now digits.now }
     ensures { IfOk result (λ blocks. blocks ≡ blocks_from bytes 1 sizes.now digits.now) }

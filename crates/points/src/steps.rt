@@ -9,7 +9,7 @@ use ir_tree::Parameter;
 use support::Sequence;
 use tv_num::Width;
 
-/// Writes zeros from a place on.
+/// Writes zeros from an index on.
 pub fn zero_from(words: &mut Sequence<u64>, from: usize)
     requires { from ≤ length words.old }
     ensures { words.new ≡ take from words.old ++ replicate (length words.old - from) 0 }
@@ -19,8 +19,8 @@ pub fn zero_from(words: &mut Sequence<u64>, from: usize)
     }
 }
 
-/// Puts the next list of words of this width in the place of the words. It answers false exactly at
-/// the last one, which then stays.
+/// Replaces the words by the next list of words of this width. It answers false exactly at the last
+/// one, which then stays.
 pub fn next_words(words: &mut Sequence<u64>, width: Width) -> bool
     requires { WordsFit width.bits (length words.old) words.old }
     ensures next { IsTrue result → IsNextWords width.bits words.old words.new }
@@ -37,9 +37,8 @@ pub fn next_words(words: &mut Sequence<u64>, width: Width) -> bool
     false
 }
 
-/// Puts the next list of arguments of integer parameters in the place of the arguments. It answers
-/// false exactly at the last one, which then stays. Which blocks are given doesn't matter for
-/// integers.
+/// Replaces the arguments of integer parameters by the next list. It answers false exactly at the
+/// last one, which then stays. Which blocks are given doesn't matter for integers.
 pub fn next_args(args: &mut Sequence<Value>, parameters: &[Parameter]) -> bool
     requires integers { AreIntegers parameters.now }
     requires fit { ArgsFit 0 parameters.now args.old }

@@ -48,7 +48,7 @@ fn next_value(value: Value, of_type: IrType, blocks: u64) -> Option<Value>
     }
 }
 
-/// Writes the least values from a place on.
+/// Writes the least values from an index on.
 fn least_from(args: &mut Sequence<Value>, parameters: &[Parameter], from: usize)
     requires count { length args.old ≡ length parameters.now }
     requires from { from ≤ length args.old }
@@ -59,8 +59,8 @@ fn least_from(args: &mut Sequence<Value>, parameters: &[Parameter], from: usize)
     }
 }
 
-/// Puts the next list of arguments, among so many given blocks, in the place of the arguments. It
-/// answers false exactly at the last one, which then stays.
+/// Replaces the arguments by the next list, with this number of given blocks. It answers false
+/// exactly at the last one, which then stays.
 pub fn next_values(args: &mut Sequence<Value>, parameters: &[Parameter], blocks: u64) -> bool
     requires { ArgsFit blocks parameters.now args.old }
     ensures next { IsTrue result → IsNextArgs blocks parameters.now args.old args.new }

@@ -20,8 +20,8 @@ pub struct Checked {
 }
 
 /// Checks the log of each part. There is a line for each, `@NAME correct verified` or `@NAME correct bad
-/// step I`, with `incorrect` in the place of `correct` for an incorrect row, and a last line with the two
-/// counts. Steps are counted from 0.
+/// step I`, with `incorrect` instead of `correct` for an incorrect row, and a last line with the
+/// two counts. Steps are counted from 0.
 pub fn check_parts<R: Threads + Sync>(
     rt: &R,
     alloc: Global,

@@ -2,9 +2,9 @@
 //!
 //! It promises that [`proof_of`] writes a part for each correct and each incorrect row, in order, with the
 //! certificate of the row's own answer, and that [`check_parts`] says `verified` of a part exactly where
-//! its log refutes its clauses, and else names the first bad step. So what is written is verified whole
-//! ([`texts_are_verified`]). It uses `proof_text` for the format and `clause_log` for the check; `tv_run`
-//! uses it for `--proof` and `log`.
+//! its log refutes its clauses, and otherwise names the first bad step. So what is written is
+//! verified whole ([`texts_are_verified`]). It uses `proof_text` for the format and `clause_log`
+//! for the check; `tv_run` uses it for `--proof` and `log`.
 #![tactic(auto)]
 
 mod checking;

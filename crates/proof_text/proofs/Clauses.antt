@@ -127,6 +127,6 @@ signed_off word true v h f e = absurd (no_minus word v h f e)
     no_minus (b ∷ bs) v h f e = free_decimal v 45 (omega arith) (omega arith) (subst (λ t. Contains t 45) e (subst (λ z. Contains (b ∷ bs) z) f (here b bs)))
 signed_off word false v h f e = ap (drop 1) e
 
--- what stands after the minus of a literal
+-- what follows the minus of a literal
 pub minus_off : (word : List ℕ) (l : Lit) → IsSmall l.variable → get_or word 0 0 ≡ 45 → word ≡ literal_text l → drop 1 word ≡ decimal l.variable
 minus_off word l h f e = signed_off word l.positive l.variable h f e

@@ -11,7 +11,7 @@ use Rattle.proof_text.proofs.Splits.{here}
 plain_is : (b : ℕ) → is_plain b ≡ true → b ≡ 92 → ⊥
 plain_is b h e = absurd (grind (arith, nat_tests))
 
--- a byte between quotes stands there itself, or as a backslash and its two digits
+-- a byte between quotes is there itself, or as a backslash and its two digits
 pub record Plain (text : List ℕ) (b : ℕ) (more : List ℕ) : Type 0 where
   pub first : get_or text 0 0 ≡ b
   pub other : b ≡ 92 → ⊥

@@ -1,4 +1,4 @@
--- The lines that may follow, from place to place.
+-- The lines that may follow, from position to position.
 use Rattle.std.proofs.Common.{ℕ, ◌≡◌, ◌<◌, ◌≤◌, ◌-◌, Bool, true, false, List, [], ◌∷◌, ◌++◌, length, map, codes, replicate, All, Contains, append_assoc, subst, sym, ap, ap₂, ◌∙◌, refl, arith}
 use Rattle.std.specs.Fmt.{decimal}
 use Rattle.std.specs.List.{flat_map}
@@ -248,7 +248,7 @@ file_missing line none more f = let whole = f.2 in let is : line ≡ codes "tvpr
 pub file_nil : File [] → ⊥
 file_nil f = let whole = f.2 in absurd cc
 
--- ---- what stands in a line
+-- ---- what is in a line
 
 pub counts_parts : (line words variables clauses : List ℕ) (v n : ℕ) → IsSmall v → line ≡ codes "p cnf " ++ words → Parts 32 words variables clauses → line ≡ counts_line v n → (variables ≡ decimal v) × (clauses ≡ decimal n)
 counts_parts line words variables clauses v n h w p e =

@@ -24,7 +24,7 @@ moves_then A B C old mid new s t m n = record {
   leads = leads_then A B C s t m.leads n.leads;
 }
 
--- nothing is read where one place is another
+-- nothing is read where one position is another
 pub moves_none : (A B : Lines → Type 0) (old : List ℕ) → Leads A [] B → Moves A old [] B old
 moves_none A B old l = record { is = refl; leads = l }
 
@@ -64,7 +64,7 @@ stuck_at_end A old some free none = (old, refl, record { taken = []; is = refl; 
 pub stuck_within : (A : Lines → Type 0) (old : List ℕ) → Some_lines A → (Contains old 10 → ⊥) → 0 < length old → IsStopped A old (At (length old))
 stuck_within A old some free h = (old, refl, record { taken = []; is = refl; begin = some; wrong = inr (free, inl (λ e. let z = ap length e in absurd (omega arith))) })
 
--- where one place is another
+-- where one position is another
 pub moves_on : (A B C : Lines → Type 0) (old new : List ℕ) (s : Lines) → Moves A old s B new → Leads B [] C → Moves A old s C new
 moves_on A B C old new s m l = record {
   is = m.is;

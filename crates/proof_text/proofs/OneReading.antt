@@ -1,4 +1,4 @@
--- A text has one list of parts, but for their fronts.
+-- A text has one list of parts, but for their `front`.
 use Rattle.std.proofs.Common.{ℕ, ◌≡◌, List, [], ◌∷◌, ◌++◌, length, map, codes, All, sym, ap₂, ◌∙◌, refl, arith}
 use Rattle.std.specs.List.{flat_map}
 use Rattle.std.proofs.lemmas.List.{append_cancel_left}
@@ -22,7 +22,7 @@ same_step v w s t hv hw fs ft e =
     let both = same_chain s.chain t.chain (clause_line s.clause) (clause_line t.clause) fs.chain ft.chain e in
     ap₂ step both.0 (same_clause v w s.clause t.clause hv hw fs.clause.1 ft.clause.1 both.1)
 
--- so many lines of a kind are determined, and what follows them
+-- this number of lines of a kind is determined, and what follows them
 same_many : {X : Type 0} (text : X → List ℕ) (P Q : X → Type 0) → ((x y : X) → P x → Q y → text x ≡ text y → x ≡ y) → (xs ys : List X) (r s : Lines) → length xs ≡ length ys → All P xs → All Q ys → map text xs ++ r ≡ map text ys ++ s → (xs ≡ ys) × (r ≡ s)
 same_many text P Q same [] [] r s len p q e = (refl, e)
 same_many text P Q same [] (y ∷ ys) r s len p q e = absurd (omega (arith, len))

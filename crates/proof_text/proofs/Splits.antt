@@ -17,7 +17,7 @@ by_place x y xs (suc k) l e = inr (k, omega arith, e)
 pub first_or_later : {X : Type 0} (x y : X) (xs : List X) → Contains (x ∷ xs) y → (x ≡ y) ⊎ Contains xs y
 first_or_later x y xs h = by_place x y xs h.0 h.1 h.2
 
--- what stands before the first such byte is determined, and what stands after it
+-- what is before the first such byte is determined, and what is after it
 pub parted : (c : ℕ) (a b x y : List ℕ) → (Contains a c → ⊥) → (Contains b c → ⊥) → a ++ c ∷ x ≡ b ++ c ∷ y → (a ≡ b) × (x ≡ y)
 parted c [] [] x y fa fb e = (refl, cc)
 parted c [] (q ∷ b) x y fa fb e = absurd (fb (let same : q ≡ c = cc in subst (λ z. Contains (q ∷ b) z) same (here q b)))

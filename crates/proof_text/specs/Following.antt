@@ -1,4 +1,4 @@
--- The lines that may follow where a reader of a proof file stands.
+-- The lines that may follow at the position of a reader of a proof file.
 use Rattle.std.specs.Prelude.{ℕ, ◌≡◌, ◌≢◌, ◌⊎◌, ◌↔◌, Bool, All, Contains, List, [], ◌∷◌, ◌++◌, length, map, Option, Some, None}
 use Rattle.std.specs.List.{flat_map}
 use Rattle.clause_lits.specs.declared.lit.Lit.{Lit}
@@ -54,14 +54,14 @@ IsWrong before taken rest =
     ((line : List ℕ) × (after : List ℕ) × Parts 10 rest line after × ((more : Lines) → before (taken ++ line ∷ more) → ⊥))
     ⊎ ((Contains rest 10 → ⊥) × ((rest ≢ []) ⊎ (before taken → ⊥)))
 
--- the text goes on as it may up to a line that is wrong, or isn't there
+-- the text is valid up to a line that is wrong, or isn't there
 pub record IsStuck (before : Lines → Type 0) (text rest : List ℕ) : Type 0 where
   pub taken : Lines
   pub is : text ≡ ended taken ++ rest
   pub begin : (more : Lines) × before (taken ++ more)
   pub wrong : IsWrong before taken rest
 
--- reading stops at the line that begins the last so many bytes of the text
+-- reading stops at the line that begins the last `left` bytes of the text
 abbrev pub IsStopped : (Lines → Type 0) → List ℕ → Stop → Type 0
 IsStopped before text NoMemory = Unit {0}
 IsStopped before text (At left) = (rest : List ℕ) × (length rest ≡ left) × IsStuck before text rest

@@ -6,7 +6,7 @@ ghost use Rattle.proof_text.specs.Words.{Parts};
 use memchr::memchr;
 use std::marker::Model;
 
-/// What stands before the first of these bytes, and what stands after it.
+/// What comes before the first of these bytes, and what comes after it.
 fn split_at_first(byte: u8, text: &[u8]) -> Option<(&[u8], &[u8])>
     ensures some { IfSome result (λ parts. Parts byte text.now parts.0.now parts.1.now) }
     ensures none { IfNone result (Contains text.now byte → ⊥) }

@@ -2,8 +2,8 @@
 
 ghost use Rattle.proof_text.specs.OneReading.{PartsAreOne};
 
-/// A text is that of one list of parts: as many, and in each the same name, verdict, clauses, number of
-/// variables and log. Only the front of the clauses is not in the text.
+/// Two lists of parts with the same text agree: they have the same number of parts, and in each the
+/// same name, verdict, clauses, number of variables and log. Only `front` is not in the text.
 pub fn parts_are_one()
     ensures { PartsAreOne }
 {}

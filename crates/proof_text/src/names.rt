@@ -38,7 +38,7 @@ fn next_byte(text: &[u8]) -> Option<(u8, &[u8])>
     }
 }
 
-/// The bytes that are printed so between quotes.
+/// The bytes that are printed this way between quotes.
 fn unescaped(alloc: Global, text: &[u8]) -> Result<Vec<u8>, NoMemory>
     ensures small { IfOk result (λ bytes. All (λ b. b < 256) bytes.items) }
     ensures only { IfOk result (λ bytes. (own : List ℕ) → All (λ b. b < 256) own → text.now ≡ flat_map escaped own → bytes.items ≡ own) }
@@ -52,7 +52,7 @@ fn unescaped(alloc: Global, text: &[u8]) -> Result<Vec<u8>, NoMemory>
     Ok(bytes)
 }
 
-/// What stands between two quotes.
+/// The text between two quotes.
 fn between_quotes(text: &[u8]) -> Option<&[u8]>
     ensures some { IfSome result (λ inner. text.now ≡ 34 ∷ (inner.now ++ 34 ∷ [])) }
     ensures none { IfNone result ((inner : List ℕ) → text.now ≡ 34 ∷ (inner ++ 34 ∷ []) → ⊥) }
@@ -60,7 +60,7 @@ fn between_quotes(text: &[u8]) -> Option<&[u8]>
     text.strip_prefix(b"\"")?.strip_suffix(b"\"")
 }
 
-/// The only word that could be printed so.
+/// The only word that could be printed this way.
 fn only_word(alloc: Global, text: &[u8]) -> Result<Vec<u8>, NoMemory>
     ensures small { IfOk result (λ bytes. All (λ b. b < 256) bytes.items) }
     ensures only { IfOk result (λ bytes. (own : List ℕ) → All (λ b. b < 256) own → text.now ≡ text_of_name (Word own) → bytes.items ≡ own) }
@@ -72,7 +72,7 @@ fn only_word(alloc: Global, text: &[u8]) -> Result<Vec<u8>, NoMemory>
     Ok(bytes)
 }
 
-/// Whether a report prints some word so.
+/// Whether a report prints some word this way.
 fn is_printed_word(alloc: Global, text: &[u8]) -> Result<bool, NoMemory>
     ensures { IfOk result (λ r. IsTrue r ↔ IsPrintedWord text.now) }
 {
@@ -80,7 +80,7 @@ fn is_printed_word(alloc: Global, text: &[u8]) -> Result<bool, NoMemory>
     Ok(name_text(alloc, &word)?.as_slice() == text)
 }
 
-/// Whether a report prints some name so.
+/// Whether a report prints some name this way.
 pub fn is_printed_name(alloc: Global, text: &[u8]) -> Result<bool, NoMemory>
     ensures { IfOk result (λ r. IsTrue r ↔ IsPrintedName text.now) }
 {

@@ -16,7 +16,7 @@ pub struct Part {
     pub cert: Cert,
 }
 
-/// Why a text is not taken.
+/// Why a text is rejected.
 #[derive(Clone, Copy, Debug, PartialEq, Eq, Error)]
 pub enum ProofFault {
     #[error("out of memory")]
@@ -30,7 +30,7 @@ pub enum ProofFault {
 #[derive(Clone, Copy, Debug, PartialEq, Eq)]
 pub(crate) enum Stop {
     NoMemory,
-    /// The line that begins the last so many bytes is wrong, or isn't there.
+    /// The line that begins the last `left` bytes is wrong, or isn't there.
     At { left: usize },
 }
 

@@ -24,7 +24,7 @@ struct Row {
     is_correct: bool,
 }
 
-/// What stands before a row's status, and whether that is `correct`.
+/// What comes before a row's status, and whether that is `correct`.
 fn split_status(text: &[u8]) -> Option<(&[u8], bool)>
     ensures some { IfSome result (λ parts. text.now ≡ parts.0.now ++ status_text parts.1) }
     ensures none { IfNone result ((name : List ℕ) (is_correct : Bool) → text.now ≡ name ++ status_text is_correct → ⊥) }
@@ -85,7 +85,7 @@ fn read_counts(lines: &mut Lines) -> Result<Counts, Stop>
     }
 }
 
-/// Reads the line of a clause, of which so many are to come.
+/// Reads the line of a clause, with `left` clauses still to come.
 fn read_clause(alloc: Global, variables: u64, left: u64, lines: &mut Lines) -> Result<Clause, Stop>
     requires variables { IsSmall variables }
     requires left { 0 < left }
@@ -103,7 +103,7 @@ fn read_clause(alloc: Global, variables: u64, left: u64, lines: &mut Lines) -> R
     }
 }
 
-/// Reads so many clauses.
+/// Reads this number of clauses.
 fn read_clauses(alloc: Global, counts: Counts, lines: &mut Lines) -> Result<Sequence<Clause>, Stop>
     requires variables { IsSmall counts.variables }
     ensures ok { IfOk result (λ cs. (length cs ≡ counts.clauses) × All (IsClauseOver counts.variables) cs
@@ -132,7 +132,7 @@ fn read_step_count(variables: u64, lines: &mut Lines) -> Result<u64, Stop>
     }
 }
 
-/// Reads the line of a step, of which so many are to come.
+/// Reads the line of a step, with `left` steps still to come.
 fn read_step(alloc: Global, variables: u64, left: u64, lines: &mut Lines) -> Result<Step, Stop>
     requires variables { IsSmall variables }
     requires left { 0 < left }
@@ -150,7 +150,7 @@ fn read_step(alloc: Global, variables: u64, left: u64, lines: &mut Lines) -> Res
     }
 }
 
-/// Reads so many steps.
+/// Reads this number of steps.
 fn read_steps(alloc: Global, variables: u64, count: u64, lines: &mut Lines) -> Result<Log, Stop>
     requires variables { IsSmall variables }
     ensures ok { IfOk result (λ log. (length log ≡ count) × All (IsStepOver variables) log
@@ -213,15 +213,15 @@ fn read_parts(alloc: Global, text: &[u8]) -> Result<Sequence<Part>, Stop>
     Ok(parts)
 }
 
-/// The parts of a proof file, with no ordered front in their clauses, or the first line, counted from
-/// 1, that no proof file has there; where text is missing, the line at which it ends.
+/// The parts of a proof file, with `front` 0 in their clauses, or the first line, counted from 1,
+/// that no proof file has there; where text is missing, the line at which it ends.
 pub fn parse(alloc: Global, text: &[u8]) -> Result<Sequence<Part>, ProofFault>
     // The text is that of these parts.
     ensures parts { IfOk result (IsProof text.now) }
     ensures fronts { IfOk result (All (λ p. p.cert.cnf.front ≡ 0)) }
-    // They are the parts that it was written of, but for their fronts.
+    // They are the parts that it was written of, except `front`.
     ensures written { (parts : List Part) → IsProof text.now parts → IfOk result (AreSameButFronts parts) }
-    // It is that of no parts, and this is the first line that shows it.
+    // It is not the text of any parts, and this is the first line that shows it.
     ensures fault { IfErr result (IsFaultOf text.now) }
 {
     match read_parts(alloc, text) {
@@ -231,7 +231,7 @@ pub fn parse(alloc: Global, text: &[u8]) -> Result<Sequence<Part>, ProofFault>
     }
 }
 
-/// The line, counted from 1, of which a byte is.
+/// The line, counted from 1, that a byte is in.
 fn line_of(text: &[u8], at: usize) -> u64
     requires { at ≤ length text.now }
     ensures { result ≡ 1 + count_by (λ b. b == 10) (take at text.now) }

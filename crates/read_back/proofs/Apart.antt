@@ -129,7 +129,7 @@ others_links (p ∷ ps) h =
     (comma-links (parameter_pieces space p) (said-links (type_text p.of_type) (word_if p.no_undef (codes "noundef") ++ (word_if p.non_null (codes "nonnull") ++ local space p.name ∷ [])) (type-class p.of_type) (attributes_links p h.0)))
     (others_links ps h.1)
 
--- parameters, and what links behind them
+-- parameters, and what links after them
 parameters_stand : (ps : List NamedParameter) (rest : List Piece) → AreNamed ps → Links rest → Stands (parameters_pieces ps ++ rest)
 parameters_stand [] rest h links = links.stands
 parameters_stand (p ∷ ps) rest h links =
@@ -153,7 +153,7 @@ front_links : (test : Bool) (type : Option IrType) (n : Name) (rest : List Piece
 front_links true type n rest h stands = said-links (codes "noundef") (word space (return_text type) ∷ global space n ∷ mark none (codes "(") ∷ rest) refl (named_links type n rest h stands)
 front_links false type n rest h stands = named_links type n rest h stands
 
--- what stands behind the parameters, the name, and `define`
+-- what follows the parameters, the name, and `define`
 abbrev behind_parameters : WrittenFunction → List Piece
 behind_parameters w = mark none (codes ")") ∷ mark space (codes "{") ∷ (body_pieces (entry_name w) w.entry ++ flat_map block_pieces w.others ++ mark line (codes "}") ∷ [])
 
@@ -185,7 +185,7 @@ pieces_apart gap w blanks h = (written-stands gap w blanks h).apart
 
 -- ---- functions with an empty line between two of them
 
--- behind an empty line
+-- after an empty line
 abbrev later : WrittenFunction → List Piece
 later w = written_pieces (10 ∷ 10 ∷ []) w
 

@@ -119,7 +119,7 @@ one_inside b rest =
       | inr f ↦ rw (f, high_digit (b / 16), high_digit (b % 16)) refl
     ]
 
--- what stands behind a word's bytes, up to a quote
+-- what follows a word's bytes, up to a quote
 inside : (bs rest : List ℕ) → behind is_inside_quotes (flat_map escaped bs ++ 34 ∷ rest) ≡ 34 ∷ rest
 inside [] rest = refl
 inside (b ∷ bs) rest =
@@ -129,7 +129,7 @@ inside (b ∷ bs) rest =
 pub quoted-then : (k : List ℕ → Bool) (bs rest : List ℕ) → spelling.quoted k (34 ∷ (flat_map escaped bs ++ 34 ∷ rest)) ≡ k rest
 quoted-then k bs rest = ap (byte 34 k) (inside bs rest)
 
--- ---- names behind a sign
+-- ---- names after a sign
 
 plain_is : (bs : List ℕ) → is_bare bs ≡ true → is_plain_name bs ≡ true
 plain_is [] h = absurd cc

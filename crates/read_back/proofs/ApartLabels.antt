@@ -1,4 +1,4 @@
--- The class of a name with a colon behind it.
+-- The class of a name with a colon after it.
 use Rattle.std.proofs.Common.{◌≡◌, ℕ, Bool, true, false, eqb, ◌||◌, List, [], ◌∷◌, ◌++◌, Some, refl, ap, ◌∙◌, append_assoc, inl, inr, arith}
 use Rattle.std.specs.List.{list_all, flat_map}
 use Rattle.std.proofs.lemmas.Bool.{cases_Bool, and_parts, and_right}
@@ -12,7 +12,7 @@ use Rattle.ir_tree.specs.declared.name.Name.TheVariants as name
 use Rattle.ir_naming.specs.Naming.{escaped, is_bare, name_text}
 use Rattle.read_back.proofs.ApartClasses.{HasDigits, bare, digits-names, quoted-then}
 
--- ---- tests that no bytes with a colon behind them pass
+-- ---- tests that no bytes with a colon after them pass
 
 abbrev colon : List ℕ
 colon = 58 ∷ []

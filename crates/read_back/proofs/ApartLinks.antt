@@ -8,7 +8,7 @@ use Rattle.ir_lexer.specs.Bytes.{is_blank}
 use Rattle.ir_lexer.specs.Spelling.{class_of}
 use Rattle.token_text.specs.Pieces.{Piece, piece_text, text_of, is_separator, ends_token, is_separator_alone, is_ended, AreApart}
 
--- a token of its class behind blanks, which ends where other tokens end before it
+-- a token of its class after blanks, which ends where other tokens end before it
 pub record IsToken (p : Piece) : Type 0 where
   pub blanks : list_all is_blank p.gap ≡ true
   pub class : class_of p.text ≡ Some p.kind
@@ -35,7 +35,7 @@ pub record IsFree (p : Piece) : Type 0 where
   pub token : IsToken p
   pub alone : BeginsAlone p
 
--- a mark that begins no longer token, behind which all may stand
+-- a mark that begins no longer token, which anything may follow
 pub record IsAlone (p : Piece) : Type 0 where
   pub free : IsFree p
   pub mark : p.kind ≡ kind.Mark
@@ -105,7 +105,7 @@ all-links f (x ∷ xs) h = links-append (f x) (flat_map f xs) h.0 (all-links f x
 blank_begins : (b : ℕ) (gap text rest : List ℕ) → is_blank b ≡ true → ends_token ((((b ∷ gap) ++ text)) ++ rest) ≡ true
 blank_begins b gap text rest h = or_left (is_blank b) (is_separator b) h
 
--- behind a blank
+-- after a blank
 pub gap-alone : (p : Piece) (b : ℕ) (gap : List ℕ) → p.gap ≡ b ∷ gap → is_blank b ≡ true → BeginsAlone p
 gap-alone p b gap e h rest =
     let g : ends_token (((b ∷ gap) ++ p.text) ++ rest) ≡ true = blank_begins b gap p.text rest h in

@@ -71,7 +71,7 @@ pub number-name : (ds : List ℕ) → IsDecimal ds → IsName (name.Number ds)
 number-name [] h = absurd h
 number-name (d ∷ ds) h = (all_digits (d ∷ ds) h.0, no_zeros d ds h.1)
 
--- ---- names behind others
+-- ---- names after others
 
 abbrev pub AreNamed : List NamedParameter → Type 0
 AreNamed ps = AllByRecursion (λ (p : NamedParameter). IsName p.name) ps
@@ -99,7 +99,7 @@ named-behind before [] h k = h
 named-behind before (p ∷ ps) h k =
     named-behind (before ++ named before p ∷ []) ps (named_push before (named before p) h (name_or-is p.name (next_name (names_of before)) k.0.name (next-is before h))) k.1
 
--- each parameter, and the entry, stand under a name
+-- each parameter, and the entry, has a name
 pub parameters-named : (w : WrittenFunction) → IsSpellable w → AreNamed (named_behind [] w.parameters)
 parameters-named w h = named-behind [] w.parameters tt h.parameters
 

@@ -34,7 +34,7 @@ use Rattle.read_back.proofs.ApartLinks.{IsToken, Links, BeginsAlone, IsFree, IsA
 pub word-token : (gap text : List ℕ) → list_all is_blank gap ≡ true → class_of text ≡ Some kind.Word → IsToken (word gap text)
 word-token gap text blanks class = record { blanks = blanks; class = class; ended = λ rest h. h }
 
--- behind a space
+-- after a space
 pub said : (text : List ℕ) → class_of text ≡ Some kind.Word → IsFree (word space text)
 said text class = record { token = word-token space text refl class; alone = gap-alone (word space text) 32 [] refl refl }
 

@@ -39,7 +39,7 @@ token_of p = (p.kind, p.text)
 abbrev pub tokens_of : List Piece → List (Kind × List ℕ)
 tokens_of ps = map (λ (p : Piece). (p.kind, p.text)) ps
 
--- the tokens of a printed function, whatever blanks stand before it
+-- the tokens of a printed function, whatever blanks come before it
 abbrev pub function_tokens : WrittenFunction → List (Kind × List ℕ)
 function_tokens w = tokens_of (written_pieces none w)
 
@@ -151,7 +151,7 @@ pub record Matches (tokens : List Lexeme) (w : WrittenFunction) (d : Define) : T
 abbrev pub names_written : List WrittenFunction → List Name
 names_written ws = map (λ (w : WrittenFunction). w.name.name) ws
 
--- the tokens behind some defines are these functions
+-- the tokens after some defines are these functions
 pub record CutsOn (tokens : List Lexeme) (defines : List Define) (ws : List WrittenFunction) : Type 0 where
   pub more : List Define
   pub cut : IsCut tokens (length tokens) (defines ++ more)

@@ -86,7 +86,7 @@ define_word = (kind.Word, codes "define")
 behind : (before inner rest : List (Kind × List ℕ)) (x : Kind × List ℕ) (all : List (Kind × List ℕ)) → all ≡ before ++ (x ∷ (inner ++ rest)) → all ≡ (before ++ x ∷ inner) ++ rest
 behind before inner rest x all e = e ∙ sym (append_assoc before (x ∷ inner) rest)
 
--- a word of these stands at a place
+-- a word of these is at an index
 record WordAt (tokens : List Lexeme) (place : ℕ) : Type 0 where
   text : List ℕ
   there : At tokens place kind.Word text
@@ -133,12 +133,12 @@ named_at tokens before words name rest first place e len sum others here next wi
         ap (λ (l : List ℕ). take (length words + 1) (0 ∷ l)) (map-append mark_by words ((kind.Global, name) ∷ (kind.Mark, codes "(") ∷ rest))
         ∙ take_at (0 ∷ map mark_by words) (map mark_by ((kind.Global, name) ∷ (kind.Mark, codes "(") ∷ rest)) (length words + 1) (omega (arith, length-map words mark_by))
 
--- its tokens: the word and others, its name, its parameters and its body, and what stands behind it
+-- its tokens: the word and others, its name, its parameters and its body, and what follows it
 abbrev pub define_of : List (Kind × List ℕ) → List ℕ → List (Kind × List ℕ) → List (Kind × List ℕ) → List (Kind × List ℕ) → List (Kind × List ℕ)
 define_of words name parameters body rest =
     (kind.Word, codes "define") ∷ (words ++ (kind.Global, name) ∷ (kind.Mark, codes "(") ∷ (parameters ++ (kind.Mark, codes ")") ∷ (kind.Mark, codes "{") ∷ (body ++ (kind.Mark, codes "}") ∷ rest)))
 
--- a define, and where its name stands
+-- a define, and where its name is
 pub record DefineAt (tokens : List Lexeme) (first end : ℕ) (name : List ℕ) : Type 0 where
   pub place : ℕ
   pub define : IsDefine tokens first place end

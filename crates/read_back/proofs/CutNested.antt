@@ -7,7 +7,7 @@ use Rattle.ir_lexer.specs.declared.token.Kind.{Kind}
 use Rattle.ir_lexer.specs.Lexeme.{Lexeme}
 use Rattle.ir_items.specs.Marks.{mark_in, mark_of, opens, closes, closing, shut, marks_after, marks_behind}
 
--- what is to come behind these marks
+-- what is to come after these marks
 abbrev pub left : Option (List ℕ) → List ℕ → Option (List ℕ)
 left open_marks [] = open_marks
 left open_marks (m ∷ ms) = left (marks_after open_marks m) ms
@@ -85,7 +85,7 @@ pub record IsPair (front end : ℕ) : Type 0 where
   pub no_other : opens end ≡ false
   pub closed : closes end ≡ true
 
--- behind the opening mark, with the closing one to come
+-- after the opening mark, with the closing one to come
 pub opened : (front end : ℕ) (s ms : List ℕ) → IsPair front end → left (Some s) (front ∷ ms) ≡ left (Some (s ++ end ∷ [])) ms
 opened front end s ms pair = rw (pair.opened, pair.close_is) refl
 

@@ -1,4 +1,4 @@
--- Tokens at their places, from the classes and bytes of all.
+-- Tokens at their indices, from the classes and bytes of all.
 use Rattle.std.proofs.Common.{◌≡◌, ℕ, suc, ◌+◌, ◌-◌, ◌<◌, ◌≤◌, true, List, [], ◌∷◌, ◌++◌, length, take, drop, map, slice_get, slice_range, Option, Some, None, refl, sym, ap, ◌∙◌, append_assoc, arith}
 use Rattle.std.specs.Prelude.{option_map}
 use Rattle.std.proofs.lemmas.List.{length-append, length-map, take_at, drop_at, take-append-le, take-map, drop-map, map-append}

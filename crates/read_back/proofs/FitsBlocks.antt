@@ -102,7 +102,7 @@ block-gives is_new n room b counted (all, (L, T), (last, E, (passed, A, same))) 
 
 -- ---- the blocks so far
 
--- the first instruction has the one number, and the next one behind them the other
+-- the first instruction has the one number, and the next one after them the other
 abbrev BlocksTo : ℕ → List WrittenBlock → ℕ → Type 0
 BlocksTo n [] m = n ≡ m
 BlocksTo n (b ∷ bs) m = IsName b.label.name × IsBody n b.body × BlocksTo (n + body_size b.body) bs m

@@ -6,7 +6,7 @@ use Rattle.token_forms.specs.Form.{Form, give, one, seq, upto, peek, tail, balan
 use Rattle.token_forms.specs.Spelling.{Token, part_begins, SpellParts, Spells}
 use Rattle.read_back.specs.ReadBack.{IsOfBytes}
 
--- some token of bytes stands for x, within the limits
+-- some token of bytes denotes x, within the limits
 pub record Stands {A : Type 0} (stands : Lexeme → Option A) (within : Lexeme → Bool) (x : A) : Type 0 where
   pub token : Lexeme
   pub bytes : IsOfBytes token
@@ -29,7 +29,7 @@ Gives {o} {X} (tail goes_on begins within part f) x = (s : X) × Gives f s × (n
 Gives (balanced b) x = Unit {0}
 Gives (mapped {A} k f) x = (a : A) × Gives f a × (k a ≡ x)
 
--- ---- what is spelled is given, and the tokens behind it are of bytes too
+-- ---- what is spelled is given, and the tokens after it are of bytes too
 
 abbrev AreOfBytes : List Lexeme → Type 0
 AreOfBytes ts = All IsOfBytes ts

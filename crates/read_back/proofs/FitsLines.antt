@@ -1,4 +1,4 @@
--- One line of a block, with what stands behind its commas.
+-- One line of a block, with what follows its commas.
 use Rattle.std.proofs.Common.{◌≡◌, ℕ, zero, suc, ◌<◌, inl, inr, Bool, true, false, cond, List, length, Option, Some, None, codes, refl, subst}
 use Rattle.std.specs.Prelude.{◌||◌, not, nat_lt}
 use Rattle.std.specs.Str.{bytes_eq}
@@ -78,7 +78,7 @@ start-fits s a S = start-from s.room s.is_new S.token.kind S.token.text S.token.
 
 -- ---- lines
 
--- a line, which is the instruction of this number if it is one; then there is room for it, and a phi stands only where one may
+-- a line, the instruction of this number if it is one; then there is room for it, and a phi occurs only where one may
 abbrev pub IsLine : Bool → ℕ → ℕ → WrittenLine → Type 0
 IsLine phi_too n room (line.Label name) = IsName name.name
 IsLine phi_too n room line.Record = Unit {0}
@@ -88,7 +88,7 @@ IsLine phi_too n room (line.Indices g) = (0 < room) × IsInst n (inst.GetElement
 IsLine phi_too n room (line.Phi p) = (0 < room) × (phi_too ≡ true) × IsPhi p
 IsLine phi_too n room (line.Inst i) = (0 < room) × IsInst n i
 
--- ---- phis only where they may stand
+-- ---- phis only where they may occur
 
 abbrev NoPhi : Option LineWord → Type 0
 NoPhi None = Unit {0}
@@ -115,7 +115,7 @@ phi-where : (phi_too : Bool) (k : Kind) (text : List ℕ) → line_word_of phi_t
 phi-where true k text e = refl
 phi-where false k text e = absurd (subst (λ (m : Option LineWord). NoPhi m) e (no-phi-or (memory_word_of k text) (inst_word (opcode_of k text)) (no-phi-memory k text) (no-phi-inst (opcode_of k text))))
 
--- ---- what stands before the first comma
+-- ---- what comes before the first comma
 
 line-gives : (phi_too : Bool) (n room : ℕ) (name : WrittenName) (w : LineWord) (l : WrittenLine) → 0 < room → (w ≡ word_of.Phi → phi_too ≡ true) → IsName name.name → Gives (line_by n name w) l → IsLine phi_too n room l
 unfolding phi alloca load gep forms.inst_line
@@ -138,7 +138,7 @@ started-gives phi_too n room start.Store l some (type, T, (value, V, (comma, C, 
     subst (λ (x : WrittenLine). IsLine phi_too n room x) same (some, (memory-fits T.token type T.stands_for, operand-fits false type.of_type value V, pointer-gives to P))
 started-gives phi_too n room start.Record l is (u, R, same) = subst (λ (x : WrittenLine). IsLine phi_too n room x) same tt
 
--- ---- what stands behind a comma
+-- ---- what follows a comma
 
 one-index-more : (n : ℕ) (g : WrittenGep) (i : WrittenIndex) → IsInst n (inst.GetElementPtr g) → IsIndex i → IsInst n (inst.GetElementPtr (with_index g i))
 one-index-more n g i (into, flags, object, base, indices) I = (into, flags, object, base, all-push IsIndex g.indices i indices I)

@@ -45,7 +45,7 @@ some-width w false false true d e f g h some = let is : w.bits ≡ 32 = eqb-true
 some-width w false false false true e f g h some = let is : w.bits ≡ 64 = eqb-true w.bits 64 h in rw is refl
 some-width w false false false false e f g h some = absurd (cc some)
 
--- the size of what stands in memory is an alignment
+-- the size of what is in memory is an alignment
 size-aligned : (type : IrType) → is_memory_type type ≡ true → Contains alignments (type_size type)
 size-aligned (Int w) e = is-aligned (type_size (Int w)) (some-width w (eqb w.bits 8) (eqb w.bits 16) (eqb w.bits 32) (eqb w.bits 64) refl refl refl refl e)
 size-aligned Ptr e = is-aligned (type_size Ptr) refl
@@ -142,7 +142,7 @@ flags-fit zero s x same A = subst (λ (y : GepFlags). AreFlags y) same A
 flags-fit (suc n) s x (a, next, T, same, more) A =
     flags-fit n next x more (subst (λ (y : GepFlags). AreFlags y) same (flag-of s T.token.kind T.token.text a (part-begins (is_gep_flag T.token) (next_gep_flag s T.token) a T.stands_for) A))
 
--- ---- objects behind flags
+-- ---- objects after flags
 
 abbrev GepFits : GepFlags → WrittenObject → Type 0
 GepFits flags x = AreFlags flags × IsObject false x.of_type

@@ -1,4 +1,4 @@
--- The name that bytes spell: digits without zeros before them, or bytes.
+-- The name that bytes spell: digits without leading zeros, or bytes.
 use Rattle.std.proofs.Common.{◌≡◌, ℕ, ◌+◌, ◌-◌, ◌*◌, ◌<◌, Bool, true, false, cond, List, [], ◌∷◌, length, take, drop, Option, Some, None, All, refl, sym, subst, arith}
 use Rattle.std.specs.Prelude.{◌&&◌, ◌==◌, nat_lt}
 use Rattle.std.specs.List.{list_all}
@@ -102,7 +102,7 @@ name-is (b ∷ bs) all = go (b == 34) (is_digits (b ∷ bs)) refl
     go false true e = let P = plain-digits (b ∷ bs) e in (P.digits, P.plain)
     go false false e = all
 
--- behind a token's sign, or before a label's colon
+-- after a token's sign, or before a label's colon
 drop-is : (text : List ℕ) → AreBytes text → IsName (name_of (drop 1 text))
 drop-is text all = name-is (drop 1 text) (All-drop (λ (c : ℕ). c < 256) 1 text all)
 

@@ -104,7 +104,7 @@ pub operand-fits : (undef_too : Bool) (type : IrType) (x : WrittenOperand) → S
 operand-fits undef_too type x S =
     value-fits undef_too type S.token.kind S.token.text x.value S.bytes (value-at (value_in undef_too type S.token.kind S.token.text) S.token.place x S.stands_for) S.keeps
 
--- ---- types of what stands in memory
+-- ---- types of what is in memory
 
 memory-of : (m : Option (Option IrType)) (type : IrType) → memory_type_of m ≡ Some type → is_memory_type type ≡ true
 memory-of (Some (Some other)) type e = go (is_memory_type other) refl e

@@ -197,7 +197,7 @@ made_texts n insts h named few =
 
 -- ---- the tokens
 
--- each at one place
+-- each at one position
 abbrev token_as : Piece → Lexeme
 token_as p = record { kind = p.kind; text = p.text; at = 0; place = no_place }
 

@@ -1,4 +1,4 @@
--- The instructions of a made function: each is an operation on two bytes that stand before it.
+-- The instructions of a made function: each is an operation on two bytes that come before it.
 use Rattle.std.proofs.Common.{◌≡◌, ℕ, zero, suc, ◌+◌, ◌/◌, ◌<◌, Bool, true, false, List, [], ◌∷◌, length, take, refl, ap, arith}
 use Rattle.std.specs.Prelude.{◌&&◌, ◌==◌}
 use Rattle.std.proofs.lemmas.Nat.{mod_below}

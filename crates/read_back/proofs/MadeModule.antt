@@ -47,7 +47,7 @@ plain_spelled s k insts h small few =
       same = same-back f r.function r.same;
     }
 
--- a function of so many instructions with these names
+-- a function of this number of instructions with these names
 abbrev with_count : ℕ → List Inst → ℕ → List Name → Function
 with_count k insts count names = record {
   name = function_name k;

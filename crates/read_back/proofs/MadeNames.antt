@@ -1,4 +1,4 @@
--- The names of a made function: they differ, and each has its place in the table as its number.
+-- The names of a made function: they differ, and each has its index in the table as its number.
 use Rattle.std.proofs.Common.{◌≡◌, ℕ, zero, suc, ◌+◌, ◌<◌, ◌≤◌, ◌^◌, inl, inr, true, false, List, [], ◌∷◌, ◌++◌, codes, refl, ap, ◌∙◌, arith}
 use Rattle.std.specs.Prelude.{fold}
 use Rattle.std.specs.Fmt.{decimal}
@@ -21,7 +21,7 @@ value_word zero = name.Word (codes "a")
 value_word (suc zero) = name.Word (codes "b")
 value_word (suc (suc n)) = result_name n
 
--- behind so many results
+-- after this number of results
 abbrev pub names_behind : ℕ → List Name
 names_behind n = name.Word (codes "a") ∷ name.Word (codes "b") ∷ name.Word
     (codes "entry") ∷ result_names n 0

@@ -1,4 +1,4 @@
--- What is shown of numbers by the names that they stand for: phis, terminators and blocks.
+-- What is shown of numbers by the names that they denote: phis, terminators and blocks.
 use Rattle.std.proofs.Common.{◌≡◌, List, [], ◌∷◌, ◌++◌, codes, refl, ap, ◌∙◌}
 use Rattle.std.specs.List.{flat_map}
 use Rattle.ir_tree.specs.Names.{with_name}

@@ -1,4 +1,4 @@
--- Numbering looks at no place.
+-- Numbering looks at no position.
 use Rattle.std.proofs.Common.{◌≡◌, ℕ, List, [], ◌∷◌, map, refl, sym, ap, ◌∙◌}
 use Rattle.text_places.specs.declared.place.Place.{Place}
 use Rattle.ir_tree.specs.declared.name.Name.{Name}
@@ -137,7 +137,7 @@ same-parameters : (ps : List NamedParameter) → map named_one (map parameter_of
 same-parameters [] = refl
 same-parameters (p ∷ ps) = ap (λ (qs : List NamedParameter). p ∷ qs) (same-parameters ps)
 
--- a function all of whose names are written, with these places
+-- a function all of whose names are written, with these positions
 abbrev with_places : WrittenFunction → List Place → Numbered (List Parameter × List Block) → Function
 with_places w places (so parts names) = record {
   name = w.name.name;

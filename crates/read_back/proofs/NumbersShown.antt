@@ -1,4 +1,4 @@
--- What is shown of numbers by the names that they stand for: operands and instructions.
+-- What is shown of numbers by the names that they denote: operands and instructions.
 use Rattle.std.proofs.Common.{◌≡◌, ℕ, List, [], ◌∷◌, ◌++◌, codes, refl, sym, ap, ◌∙◌, append_assoc}
 use Rattle.std.specs.List.{flat_map}
 use Rattle.std.proofs.lemmas.List.{append-nil}
@@ -47,7 +47,7 @@ Shows names shown is = (later : List Name) → shown (names ++ later) ≡ is
 pub shows-later : {X : Type 0} (names after : List Name) (shown : List Name → X) (is : X) → Grows names after → Shows names shown is → Shows after shown is
 shows-later names after shown is G S later = ap (λ (ns : List Name). shown (ns ++ later)) G.joined ∙ ap shown (append_assoc names G.more later) ∙ S (G.more ++ later)
 
--- behind these names a part was numbered, and the table shows it
+-- after these names a part was numbered, and the table shows it
 pub record Kept {X : Type 0} (names after : List Name) (shown : List Name → X) (is : X) : Type 0 where
   pub grows : Grows names after
   pub shows : Shows after shown is
@@ -62,7 +62,7 @@ Keeps {A} {X} names shown is (so a after) = Kept names after (λ (all : List Nam
 pub keeps-then : {A B X : Type 0} (names : List Name) (shown : List Name → A → X) (is : X) (m : Numbered A) (goal : Numbered B → Type 0) (k : A → List Name → Numbered B) → Keeps names shown is m → ((a : A) (mid : List Name) → Kept names mid (λ (all : List Name). shown all a) is → goal (k a mid)) → goal (m >>= k)
 keeps-then names shown is (so a mid) goal k K f = f a mid K
 
--- each in turn, one behind another
+-- each in turn, one after another
 pub each-kept : {A B X : Type 0} (one : List Name → A → Numbered B) (shown : List Name → B → List X) (is : A → List X) → ((names : List Name) (a : A) → Keeps names shown (is a) (one names a))
     → (names : List Name) (items : List A) → Keeps names (λ (all : List Name) (bs : List B). flat_map (shown all) bs) (flat_map is items) (each_in one names items)
 each-kept one shown is keeps names [] = record { grows = grows-not names; shows = λ later. refl }
@@ -87,7 +87,7 @@ value-kept names value.Null = record { grows = grows-not names; shows = λ later
 value-kept names value.Poison = record { grows = grows-not names; shows = λ later. refl }
 value-kept names value.Undef = record { grows = grows-not names; shows = λ later. refl }
 
--- behind a value
+-- after a value
 pub value-then : {B : Type 0} (names : List Name) (v : WrittenValue) (goal : Numbered B → Type 0) (k : Operand → List Name → Numbered B)
     → ((o : Operand) (mid : List Name) → Kept names mid (λ (all : List Name). pieces.operand_piece all o) (written.value_piece v) → goal (k o mid)) → goal (value_in names v >>= k)
 value-then names v goal k f = keeps-then names pieces.operand_piece (written.value_piece v) (value_in names v) goal k (value-kept names v) f

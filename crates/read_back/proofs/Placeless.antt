@@ -1,4 +1,4 @@
--- A function as it is written, with all its parts at one place, and with the names that the language gives to what has none.
+-- A function as it is written, all its parts at one position, with the names that the language gives to what has none.
 use Rattle.std.proofs.Common.{ℕ, List, [], ◌∷◌, Option, Some, None, map}
 use Rattle.text_places.specs.declared.place.Place.{Place}
 use Rattle.ir_tree.specs.Sites.{no_place}

@@ -1,4 +1,4 @@
--- Functions that are the same but for the places of their parts.
+-- Functions that are the same except for the positions of their parts.
 use Rattle.std.proofs.Common.{sym, ap, ◌∙◌, subst}
 use Rattle.ir_tree.specs.declared.tree.Function.{Function}
 use Rattle.ir_tree.specs.WellFormed.{IsWellFormed}

@@ -34,7 +34,7 @@ use Rattle.ir_grammar.specs.declared.written.WrittenBlock.{WrittenBlock}
 use Rattle.ir_grammar.specs.declared.written.WrittenFunction.{WrittenFunction}
 use Rattle.ir_grammar.specs.Spelling.{is_memory_type, is_pointer_type, is_small_object}
 
--- digits without zeros before them, or bytes
+-- digits without leading zeros, or bytes
 abbrev pub IsName : Name → Type 0
 IsName (name.Number digits) = (is_digits digits ≡ true) × (without_zeros digits ≡ digits)
 IsName (name.Word bytes) = All (λ (b : ℕ). b < 256) bytes
@@ -78,7 +78,7 @@ IsAccess n (access.Store value to) = (is_memory_type value.of_type.of_type ≡ t
 abbrev pub IsIndex : WrittenIndex → Type 0
 IsIndex i = FitsValue false (Int i.of_type.width) i.operand.value
 
--- nuw stands behind inbounds alone
+-- nuw occurs only with inbounds
 abbrev pub AreFlags : GepFlags → Type 0
 AreFlags flags = flags.nuw ≡ true → flags.inbounds ≡ true
 
@@ -122,7 +122,7 @@ IsTerminator (end.CondBranch bit condition if_true if_false) = FitsValue false (
 IsTerminator (end.Switch type o default cases) = FitsValue false (Int type.width) o.value × IsName default.name × (length cases ≤ 256) × AllByRecursion IsCase cases
 IsTerminator end.Unreachable = Unit {0}
 
--- what stands behind a label, its first instruction with this number
+-- what follows a label, its first instruction with this number
 pub record IsBody (n : ℕ) (b : WrittenBody) : Type 0 where
   pub phis : AllByRecursion IsPhi b.phis
   pub insts : AreInsts (n + length b.phis) b.insts
@@ -136,7 +136,7 @@ abbrev pub AreBlocks : ℕ → List WrittenBlock → Type 0
 AreBlocks n [] = n ≤ 65536
 AreBlocks n (b ∷ bs) = IsName b.label.name × IsBody n b.body × AreBlocks (n + body_size b.body) bs
 
--- nonnull stands on a pointer alone
+-- nonnull occurs only on a pointer
 pub record IsParameter (p : WrittenParameter) : Type 0 where
   pub name : IsNameOrNone p.name
   pub non_null : p.non_null ≡ true → is_pointer_type p.of_type.of_type ≡ true

@@ -1,4 +1,4 @@
--- What single tokens stand for that have the bytes of printed names, types, operands and words.
+-- What single tokens denote that have the bytes of printed names, types, operands and words.
 use Rattle.std.proofs.Common.{◌≡◌, ℕ, ◌^◌, ◌<◌, ◌≤◌, Bool, true, false, List, Option, Some, None, refl, sym, ap, ◌∙◌, arith, codes}
 use Rattle.std.specs.List.{Contains}
 use Rattle.std.specs.Str.{bytes_eq}
@@ -38,7 +38,7 @@ use Rattle.read_back.proofs.SpelledTokens.{Reads, as_piece}
 use Rattle.read_back.proofs.SpelledNames.{name-again}
 use Rattle.read_back.proofs.SpelledNumbers.{numeral, digits-numeral, value-numeral, positive-numeral, magnitude-numeral, literal-small, is-alignment, alignment-small}
 
--- ---- parts at a place
+-- ---- parts at a position
 
 abbrev pub a_name : Name → Place → WrittenName
 a_name n at = record { name = n; at = at }
@@ -248,7 +248,7 @@ predicate-reads gap predicate.SignedLess = record { stands_for = λ t. refl; kee
 predicate-reads gap predicate.SignedLessOrEqual =
     record { stands_for = λ t. refl; keeps = λ t. refl }
 
--- a word that names an instruction, whether a phi may stand there or not
+-- a word that names an instruction, whether a phi may occur there or not
 pub line-reads : (phi_too : Bool) (gap text : List ℕ) (w : LineWord)
     → bytes_eq text (codes "phi") ≡ false → or_word (memory_word text)
     (inst_word (opcode_named text)) ≡ Some w

@@ -199,7 +199,7 @@ end_text (end.CondBranch bit condition if_true if_false) = codes "br"
 end_text (end.Switch type o default cs) = codes "switch"
 end_text end.Unreachable = codes "unreachable"
 
--- behind the word
+-- after the word
 abbrev pub end_pieces : WrittenTerminator → List Piece
 end_pieces (end.Return r) = returned_pieces r
 end_pieces (end.Branch to) = target to

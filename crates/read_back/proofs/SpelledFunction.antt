@@ -43,13 +43,13 @@ no-header : IsSpelled header_parts [] (λ x. Unit {0})
 unfolding header_parts
 no-header = tail-from follows_header never (no-more tt)
 
--- ---- the function without its places
+-- ---- the function without its positions
 
 label-again : (o : Option WrittenName) (other n : Name) → labelled o ≡ Some n → name_or o other ≡ n
 label-again None other n e = absurd (cc e)
 label-again (Some x) other n e = cc e
 
--- a function with these places and parts, and the other parts of w
+-- a function with these positions and parts, and the other parts of w
 abbrev a_function : WrittenFunction → Place → Place → Place → List WrittenParameter → WrittenBlocks
     → WrittenFunction
 a_function w at at' brace ps b = record {

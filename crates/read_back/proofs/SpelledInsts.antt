@@ -45,7 +45,7 @@ use Rattle.read_back.proofs.SpelledOperands.{word-reads, word-then, mark-then, t
 pub same-both : {A B C : Type 0} (f : A → B → C) {a x : A} {b y : B} → a ≡ x → b ≡ y → f a b ≡ f x y
 same-both f {a = a} {y = y} e e' = ap (f a) e' ∙ ap (λ z. f z y) e
 
--- ---- behind the word
+-- ---- after the word
 
 wrapping-spelled : (name : WrittenName) (w : WrapWord) (flags : Flags) (type : WrittenIntType)
     (left right : WrittenOperand) → FitsValue false (Int type.width) left.value

@@ -1,4 +1,4 @@
--- Printed lines of instructions are spelled, with what stands behind their commas.
+-- Printed lines of instructions are spelled, with what follows their commas.
 use Rattle.std.proofs.Common.{◌≡◌, ℕ, true, false, List, [], ◌∷◌, ◌++◌, map, Some, refl, sym, ap, subst, ◌∙◌, codes, append_assoc, append-nil}
 use Rattle.std.specs.Prelude.{nat_lt}
 use Rattle.std.specs.List.{flat_map, AllByRecursion, Contains}
@@ -38,7 +38,7 @@ use Rattle.read_back.proofs.SpelledOperands.{word-reads}
 use Rattle.read_back.proofs.SpelledInsts.{IsInstLine, cast_end, binary-line, icmp-line, cast-line, select-line, freeze-line}
 use Rattle.read_back.proofs.SpelledMemory.{IsAccessLine, IsGepLine, without_indices, alloca-line, load-line, store-line, gep-line}
 
--- what stands behind commas, from this line on
+-- what follows commas, from this line on
 abbrev pub Behind : WrittenLine → List Piece → (WrittenLine → Type 0) → Type 0
 Behind l pieces Is =
     AreSpelled is_comma line_comma (λ l'. λ t. true) (λ l' comma. with_comma l') l pieces Is
@@ -164,7 +164,7 @@ gep-adds g l is =
       same = ap (λ (x : WrittenGep). inst.GetElementPtr x) is.same;
     }
 
--- a getelementptr of other places, without its indices yet
+-- a getelementptr at other positions, without its indices yet
 add-indices : (g h : WrittenGep) → gep_of h ≡ gep_of (without_indices g)
     → with_more h g.indices ≡ gep_of g
 add-indices g h e =
@@ -244,7 +244,7 @@ store-reads : (s : WrittenLines) → nat_lt 0 s.room ≡ true
     (piece.word indented (codes "store")) (λ at. start.Store)
 store-reads s room = record { stands_for = λ t. refl; keeps = λ t. room }
 
--- what behind each next state is spelled by these pieces
+-- what is spelled by these pieces after each next state
 abbrev Goes : WrittenLines → WrittenInst → List Piece → (WrittenLines → Type 0) → Type 0
 Goes s i qs Is = (next : WrittenLines) → AddsTo s i next → Lines next qs Is
 

@@ -29,7 +29,7 @@ use Rattle.read_back.proofs.SpelledNames.{name-again}
 use Rattle.read_back.proofs.SpelledClasses.{a_name, a_type, type-reads}
 use Rattle.read_back.proofs.SpelledGivenNames.{IsNamedParameter}
 
--- ---- without places
+-- ---- without positions
 
 abbrev pub nameless : Option WrittenName → Option WrittenName
 nameless None = None
@@ -120,7 +120,7 @@ non-null-more before type no_undef true n qs is pointer more =
     (λ at ts. (refl, refl)) (λ at.
     name-more before type no_undef true n qs is more)
 
--- behind the type
+-- after the type
 abbrev behind_type : NamedParameter → List Piece
 behind_type p =
     word_if p.no_undef

@@ -161,7 +161,7 @@ phi-adds s p l is = record { phi = is.phi; is = ap (with_line s) is.is; same = i
 same-type : (p : WrittenPhi) (v : WrittenPhi) → phi_of p ≡ v → p.of_type.of_type ≡ v.of_type.of_type
 same-type p v e = ap (λ (q : WrittenPhi). q.of_type.of_type) e
 
--- the entries behind the first, and the line as a whole
+-- the entries after the first, and the line as a whole
 behind-phi-line : (into : WrittenName) (type : WrittenType) (e : WrittenEntry)
     (entries : List WrittenEntry) (l : WrittenLine) → AllByRecursion (IsEntry type.of_type) entries
     → length (e ∷ entries) ≤ 16777216 → IsPhiLine (phi_of (a_phi into type (e ∷ []))) l

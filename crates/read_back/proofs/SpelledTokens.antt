@@ -39,7 +39,7 @@ all-match (p ∷ ps) (t ∷ ts) e =
       all-match ps ts others,
     )
 
--- the place where pieces come after others
+-- the point where pieces come after others
 pub record MatchesBoth (ps qs : List Piece) (ts rest : List Lexeme) : Type 0 where
   pub mid : List Lexeme
   pub before : Matches ps ts mid
@@ -52,14 +52,14 @@ both-match (p ∷ ps) qs ts rest (others, is, m) =
     let both = both-match ps qs others rest m in
     record { mid = both.mid; before = (others, is, both.before); behind = both.behind }
 
--- a token as a piece is, wherever it stands
+-- a token as a piece is, wherever it is
 abbrev pub as_piece : Piece → Lexeme → Lexeme
 as_piece p t = record t { kind = p.kind; text = p.text }
 
 as-itself : (p : Piece) (t : Lexeme) → t.kind ≡ p.kind → t.text ≡ p.text → as_piece p t ≡ t
 as-itself p t k x = rw (← k, ← x) refl
 
--- what a piece stands for at each place, within the limits
+-- what a piece denotes at each position, within the limits
 pub record Reads {A : Type 0} (stands : Lexeme → Option A) (within : Lexeme → Bool) (p : Piece)
     (a : Place → A) : Type 0 where
   pub stands_for : (t : Lexeme) → stands (as_piece p t) ≡ Some (a t.place)
@@ -135,7 +135,7 @@ seq-last first next = record {
       (x.0, (a.0, rest, a.1, x.1), x.2);
 }
 
--- a form, the token behind it, and what depends on both
+-- a form, the token after it, and what depends on both
 pub upto-then : {A B X : Type 0} {p : Lexeme → Bool} {o : Lexeme → Bool} {S : A → Type 0}
     {Is : X → Type 0} {f : Form p A} {c : A → Class B} {fits : (a : A) → p (c a).sample ≡ false}
     {k : A × B → Form o X} (ps qs : List Piece) (q : Piece) (b : Place → B) → IsSpelled f ps S
@@ -261,7 +261,7 @@ one-more {goes_on = goes_on} {begins = begins} {within = within} {s = s} p ps qs
           );
     }
 
--- a part of one token, behind which the state is this
+-- a part of one token, after which the state is this
 pub given-more : {A S : Type 0} {o : Lexeme → Bool} {goes_on : Lexeme → Bool}
     {begins : S → Lexeme → Option A} {within : S → Lexeme → Bool} {part : S → A → Form o S} {s : S}
     {Is : S → Type 0} {p : Piece} {qs : List Piece} (a : Place → A) (b : Place → S)
@@ -290,7 +290,7 @@ given-more {goes_on = goes_on} {begins = begins} {within = within} {s = s} {p = 
           );
     }
 
--- a part behind which the state is this
+-- a part after which the state is this
 pub more-is : {A S : Type 0} {o : Lexeme → Bool} {goes_on : Lexeme → Bool}
     {begins : S → Lexeme → Option A} {within : S → Lexeme → Bool} {part : S → A → Form o S} {s : S}
     {Is : S → Type 0} (next : S) (p : Piece) (ps qs : List Piece) (a : Place → A)
@@ -310,7 +310,7 @@ pub more-as : {A S : Type 0} {o : Lexeme → Bool} {goes_on : Lexeme → Bool}
 more-as found weaker =
     record { parts = λ ts rest m. let x = found.parts ts rest m in (x.0, x.1, x.2, weaker x.0 x.3) }
 
--- a word of which the state behind it is made
+-- a word of which the state after it is made
 pub flag-more : {S : Type 0} {goes_on : Lexeme → Bool} {begins : S → Lexeme → Option S}
     {within : S → Lexeme → Bool} {s : S} {Is : S → Type 0} {p : Piece} {qs : List Piece} (next : S)
     → Reads (part_begins goes_on (begins s)) (within s) p (λ at. next)
@@ -319,7 +319,7 @@ pub flag-more : {S : Type 0} {goes_on : Lexeme → Bool} {begins : S → Lexeme 
 flag-more next reads more =
     given-more (λ at. next) (λ at. next) reads (λ at ts. (refl, refl)) (λ at. more)
 
--- a form, and parts behind it
+-- a form, and parts after it
 pub spelled-tail : {A S : Type 0} (goes_on f-on o : Lexeme → Bool) {begins : S → Lexeme → Option A}
     {within : S → Lexeme → Bool} {part : S → A → Form o S} {f : Form f-on S} {First Is : S → Type 0}
     (ps qs : List Piece)
@@ -343,7 +343,7 @@ tail-alone goes_on f-on o first =
           (s.0, (s.0, rest, s.1, zero, (refl, refl)), s.2);
     }
 
--- a state at the start, and parts behind it
+-- a state at the start, and parts after it
 pub tail-from : {A S : Type 0} (goes_on o : Lexeme → Bool) {begins : S → Lexeme → Option A}
     {within : S → Lexeme → Bool} {part : S → A → Form o S} {s : S} {Is : S → Type 0}
     {ps : List Piece}

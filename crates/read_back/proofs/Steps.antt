@@ -26,10 +26,10 @@ abbrev pub SpellableIsSpelled : Type 0
 SpellableIsSpelled = (gap : List ℕ) (w : WrittenFunction) → IsSpellable w → (tokens : List Lexeme) → map spelled tokens ≡ map (λ (p : Piece). (p.kind, p.text)) (written_pieces gap w)
     → (other : WrittenFunction) × SpellsPlainly true define other tokens [] × (placeless other ≡ placeless w)
 
--- 3: names stand where their numbers do
+-- 3: names occur where their numbers do
 abbrev pub PiecesAreWritten : Type 0
 PiecesAreWritten = (gap : List ℕ) (w : WrittenFunction) → function_pieces gap (numbered w) ≡ written_pieces gap w
 
--- 4: numbers don't depend on places
+-- 4: numbers don't depend on positions
 abbrev pub PlacelessIsSame : Type 0
 PlacelessIsSame = (w other : WrittenFunction) → placeless other ≡ placeless w → IsSameFunction (numbered w) (numbered other)

@@ -1,4 +1,4 @@
--- The tokens of a function as it is written, where its parts are printed in place of their numbers.
+-- The tokens of a function as it is written, where its parts are printed instead of their numbers.
 use Rattle.std.proofs.Common.{ℕ, List, [], ◌∷◌, ◌++◌, Bool, Option, Some, None}
 use Rattle.std.specs.Prelude.{codes}
 use Rattle.std.specs.List.{flat_map}
@@ -103,7 +103,7 @@ terminator_pieces (end.Switch type o default cases) =
     word indented (codes "switch") ∷ word space (width_text type.width) ∷ value_piece o.value ∷ comma ∷ (target default ++ mark space (codes "[") ∷ (flat_map case_pieces cases ++ mark space (codes "]") ∷ []))
 terminator_pieces end.Unreachable = word indented (codes "unreachable") ∷ []
 
--- behind a label of this name
+-- after a label of this name
 abbrev pub body_pieces : Name → WrittenBody → List Piece
 body_pieces name b = label name ∷ (flat_map phi_pieces b.phis ++ (flat_map inst_pieces b.insts ++ terminator_pieces b.terminator))
 
@@ -122,7 +122,7 @@ abbrev pub header_pieces : List ℕ → WrittenFunction → List Piece
 header_pieces gap w =
     word gap (codes "define") ∷ (word_if w.returns_no_undef (codes "noundef") ++ word space (return_text w.returns.of_type) ∷ global space w.name.name ∷ mark none (codes "(") ∷ [])
 
--- names that are not written stand as the language gives them
+-- names that are not written are as the language gives them
 abbrev pub written_pieces : List ℕ → WrittenFunction → List Piece
 written_pieces gap w =
     header_pieces gap w ++ (parameters_pieces (named_behind [] w.parameters) ++ (mark none (codes ")") ∷ mark space (codes "{") ∷ (body_pieces (entry_name w) w.entry ++ flat_map block_pieces w.others ++ mark line (codes "}") ∷ [])))

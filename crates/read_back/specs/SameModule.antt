@@ -1,11 +1,11 @@
--- Functions and modules that are the same wherever their parts stand in a text.
+-- Functions and modules that are the same wherever their parts are in a text.
 use Rattle.std.specs.Prelude.{◌≡◌, List, [], ◌∷◌, Result, Ok, Err}
 use Rattle.ir_tree.specs.declared.tree.Function.{Function}
 use Rattle.ir_tree.specs.declared.module.Refused.{Refused}
 use Rattle.ir_tree.specs.declared.module.Entry.{Entry}
 use Rattle.ir_tree.specs.declared.module.Module.{Module}
 
--- the one is the other but for the places of its parts
+-- the one is the other except for the positions of its parts
 abbrev pub IsSameFunction : Function → Function → Type 0
 IsSameFunction f g = g ≡ record f { places = g.places }
 

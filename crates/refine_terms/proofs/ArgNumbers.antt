@@ -73,7 +73,7 @@ ptr_decides old a b c d e g blocks type.Ptr flag block offset is_given no_block 
 
 -- ---- all arguments
 
--- what stands where a list has no argument
+-- the default where a list has no argument
 abbrev pub no_arg : ArgTerms
 no_arg = arg.Int (record { index = 0 }) (record { index = 0 })
 

@@ -184,7 +184,7 @@ byte_decides old a b c d e x blocks number part poison rest id h ka kb kc kd d1 
     let rest_d = either_decides c d part poison rest (λ v. IsPartByte blocks (byte_numbers v old x)) (λ v. byte_numbers v old x ≡ (2 ∷ 0 ∷ 0 ∷ 0 ∷ 0 ∷ [])) part_c poison_c t4 in
     either_decides d e number rest id (λ v. IsNumberByte (byte_numbers v old x)) (λ v. IsPartByte blocks (byte_numbers v old x) ⊎ (byte_numbers v old x ≡ (2 ∷ 0 ∷ 0 ∷ 0 ∷ 0 ∷ []))) number_d rest_d t5
 
--- ---- a place
+-- ---- a byte
 
 placed : (p : Bool) (x y blocks : ℕ) (ds : List ℕ) → ((truth x ≡ true) ↔ IsUnused ds) → ((truth y ≡ true) ↔ IsCodeOfByte blocks ds) → (truth (cond p x y) ≡ true) ↔ IsCodeOfPlace blocks p ds
 placed true x y blocks ds h g = h

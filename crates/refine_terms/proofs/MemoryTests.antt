@@ -1,4 +1,4 @@
--- The tests of places, blocks and outcomes.
+-- The tests of contents, blocks and outcomes.
 use Rattle.std.proofs.Common.{ℕ, ◌≡◌, ◌<◌, ◌≤◌, ◌+◌, ◌-◌, Bool, true, false, not, ◌&&◌, ◌||◌, List, length, map, take, drop, get_or, nat_eq, nat_lt, refl, sym, ap, ◌∙◌, arith}
 use Rattle.std.specs.Option.{option_map}
 use Rattle.points.specs.Refines.{byte_allows, block_allows, blocks_allow, pairs_pass, returned_allows, is_refined}
@@ -45,13 +45,13 @@ byte_is_same given old new s t id e k = record {
   says = λ v. k.says v ∙ sym (ap (λ b. byte_allows (byte_at (reading given v) old s) (byte_at (reading given v) old b)) (sym e) ∙ byte_allows-same (byte_at (reading given v) old s));
 }
 
--- ---- places
+-- ---- contents
 
--- what stands where a list has no byte
+-- the default where a list has no byte
 abbrev pub no_sym_byte : SymByte
 no_sym_byte = record { kind = record { index = 0 }; number = record { index = 0 }; block = record { index = 0 }; offset = record { index = 0 }; part = record { index = 0 } }
 
--- the places from one on, before the size
+-- the contents from an index on, before the size
 abbrev pub places_pass : (given : ℕ) → (ℕ → ℕ → ℕ) → List Term → TermId → ℕ → List SymByte → List SymByte → Bool
 places_pass given v old size i xs ys = pairs_pass byte_allows (take (term_at v old size - i) (places_at (reading given v) old (drop i xs))) (take (term_at v old size - i) (places_at (reading given v) old (drop i ys)))
 

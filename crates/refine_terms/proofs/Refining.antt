@@ -158,7 +158,7 @@ step_by test (suc d) e n i s t ss ts p q =
     let same : e ≡ d = omega (arith, p, q) in
     rw (there, same) refl
 
--- one more place, which is compared where it is before the size
+-- one more byte, which is compared where it is before the size
 pub place_step : {A B : Type 0} (test : B → B → Bool) (f : A → B) (n i : ℕ) (xs ys : List A) (x y : A) → i < length xs → i < length ys
     → pairs_pass test (take (n - i) (map f (drop i xs))) (take (n - i) (map f (drop i ys)))
     ≡ ((not (nat_lt i n) || test (f (get_or xs i x)) (f (get_or ys i y))) && pairs_pass test (take (n - (i + 1)) (map f (drop (i + 1) xs))) (take (n - (i + 1)) (map f (drop (i + 1) ys))))

@@ -18,7 +18,7 @@ use Rattle.refine_terms.specs.Numbers.{byte_numbers, block_numbers}
 use Rattle.refine_terms.proofs.Deciders.{row_more, row_starts, at_most_decides}
 use Rattle.refine_terms.proofs.ByteKinds.{byte-later}
 
--- what stands where a list has no byte
+-- the default where a list has no byte
 abbrev pub no_byte : ByteTerms
 no_byte = record { kind = record { index = 0 }; number = record { index = 0 }; block = record { index = 0 }; offset = record { index = 0 }; part = record { index = 0 } }
 
@@ -83,7 +83,7 @@ chain_parts P Q front back long = (
   (λ p. record { front = front; back = back; whole = refl; in_front = p.0; in_back = p.1 }),
 )
 
--- ---- places
+-- ---- contents
 
 byte_long : (blocks : ℕ) (ds : List ℕ) → IsCodeOfByte blocks ds → length ds ≡ 5
 byte_long blocks ds (inl n) = rw n.is refl

@@ -8,12 +8,12 @@ use Rattle.mem_terms.specs.declared.values.SymValue.{SymValue}
 use Rattle.mem_terms.specs.declared.bytes.SymByte.{SymByte}
 use Rattle.mem_terms.specs.Values.{block_name}
 
--- pointers of these blocks and offsets are one after the runs, where so many blocks are given
+-- pointers of these blocks and offsets are equal after the runs, with `given` given blocks
 abbrev pub alike_pointers : ℕ → (ℕ → ℕ → ℕ) → List Term → (block offset block' offset' : TermId) → Bool
 alike_pointers given v terms block offset block' offset' =
     same_pointer (block_name given (term_at v terms block)) (term_at v terms offset) (block_name given (term_at v terms block')) (term_at v terms offset')
 
--- the pointers where the first is one, and else the numbers
+-- the pointers where the first is one, else the numbers
 abbrev pub alike_content : ℕ → (ℕ → ℕ → ℕ) → List Term → SymValue → SymValue → Bool
 alike_content given v terms s t = cond (bit_at v terms s.is_pointer) (alike_pointers given v terms s.block s.number t.block t.number) (nat_eq (term_at v terms s.number) (term_at v terms t.number))
 
@@ -23,6 +23,6 @@ alike_values given v terms s t = nat_eq (term_at v terms s.is_pointer) (term_at 
 abbrev pub alike_parts : ℕ → (ℕ → ℕ → ℕ) → List Term → SymByte → SymByte → Bool
 alike_parts given v terms s t = alike_pointers given v terms s.block s.offset t.block t.offset && nat_eq (term_at v terms s.part) (term_at v terms t.part)
 
--- the numbers where the first is one, and else the parts
+-- the numbers where the first is one, else the parts
 abbrev pub alike_bytes : ℕ → (ℕ → ℕ → ℕ) → List Term → SymByte → SymByte → Bool
 alike_bytes given v terms s t = cond (nat_eq (term_at v terms s.kind) 0) (nat_eq (term_at v terms s.number) (term_at v terms t.number)) (alike_parts given v terms s t)

@@ -1,4 +1,4 @@
--- The numbers that the terms of a point stand for, in the order of its code.
+-- The numbers that the terms of a point denote, in the order of its code.
 use Rattle.std.specs.Prelude.{ℕ, ◌≡◌, List, [], ◌∷◌, ◌++◌, length, map}
 use Rattle.std.specs.List.{flat_map}
 use Rattle.points.specs.declared.point.Shape.{Shape}
@@ -21,11 +21,11 @@ arg_numbers v terms (arg.Ptr flag block offset) = term_at v terms flag ∷ term_
 abbrev pub byte_numbers : (ℕ → ℕ → ℕ) → List Term → ByteTerms → List ℕ
 byte_numbers v terms b = term_at v terms b.kind ∷ term_at v terms b.number ∷ term_at v terms b.block ∷ term_at v terms b.offset ∷ term_at v terms b.part ∷ []
 
--- a block's places, one after the other
+-- a block's contents, one byte after the other
 abbrev pub block_numbers : (ℕ → ℕ → ℕ) → List Term → List ByteTerms → List ℕ
 block_numbers v terms places = flat_map (byte_numbers v terms) places
 
--- the arguments, the sizes of the given blocks, their places, and the tape
+-- the arguments, the sizes of the given blocks, their contents, and the tape
 abbrev pub numbers_at : (ℕ → ℕ → ℕ) → List Term → InputTerms → TapeTerms → List ℕ
 numbers_at v terms input tape =
     flat_map (arg_numbers v terms) input.args

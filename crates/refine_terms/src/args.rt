@@ -14,8 +14,8 @@ use ir_tree::{IrType, Parameter};
 use mem_terms::{ArgTerms, both, implies, truth};
 use support::NoMemory;
 
-/// True where the numbers are those of an argument of the type, a pointer to null or to one of so
-/// many blocks: where the flag says poison the other numbers are 0.
+/// True where the numbers are those of an argument of the type, a pointer to null or to one of
+/// `blocks` blocks: where the flag says poison the other numbers are 0.
 fn arg_code(
     a: ArgTerms,
     of_type: IrType,

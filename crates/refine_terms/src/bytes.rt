@@ -54,7 +54,7 @@ fn number_byte(b: ByteTerms, terms: &mut Terms) -> Result<TermId, NoMemory>
     Ok(id)
 }
 
-/// True where the numbers are those of a part of a pointer to null or to one of so many blocks.
+/// True where the numbers are those of a part of a pointer to null or to one of `blocks` blocks.
 fn part_byte(b: ByteTerms, blocks: u64, terms: &mut Terms) -> Result<TermId, NoMemory>
     requires { IsByteTerms terms.old b }
     ensures made { IfOk result (λ id. Decides terms.new id (λ v. IsPartByte blocks (byte_numbers v terms.old b))) }

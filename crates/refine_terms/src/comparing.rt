@@ -24,7 +24,7 @@ pub fn is_number(a: TermId, n: u8, terms: &mut Terms) -> Result<TermId, NoMemory
     Ok(id)
 }
 
-/// True where the term, of at most 64 digits, is at most this number.
+/// True where the term, of at most 64 bits, is at most this number.
 pub fn at_most(a: TermId, most: u64, terms: &mut Terms) -> Result<TermId, NoMemory>
     requires { IsNarrow terms.old a }
     ensures made { IfOk result (λ id. Tests terms.new id (λ v. nat_le (term_at v terms.old a) most)) }
@@ -38,7 +38,7 @@ pub fn at_most(a: TermId, most: u64, terms: &mut Terms) -> Result<TermId, NoMemo
     Ok(id)
 }
 
-/// True where each of the terms, of at most 64 digits, is at most this number.
+/// True where each of the terms, of at most 64 bits, is at most this number.
 pub fn all_at_most(numbers: &[TermId], most: u64, terms: &mut Terms) -> Result<TermId, NoMemory>
     requires { Each (IsNarrow terms.old) numbers.now }
     ensures made { IfOk result (λ id. Decides terms.new id (λ v. Each (λ a. term_at v terms.old a ≤ most) numbers.now)) }

@@ -44,7 +44,7 @@ fn both_dead(
     Ok(id)
 }
 
-/// True where two pointers are one after the runs, where so many blocks are given: all those to
+/// True where two pointers are equal after the runs, with this number of given blocks: all those to
 /// blocks of allocas are, since these are dead.
 fn same_address(
     given: u64,
@@ -95,7 +95,7 @@ fn same_content(
     Ok(id)
 }
 
-/// True where two values, neither of them poison, are of one kind and are one after the runs.
+/// True where two values, neither of them poison, are of the same kind and equal after the runs.
 fn same_value(
     given: u64,
     source: SymValue,
@@ -113,8 +113,8 @@ fn same_value(
     Ok(id)
 }
 
-/// True where the source's value allows the target's, where so many blocks are given: poison allows
-/// every value.
+/// True where the source's value allows the target's, with this number of given blocks: poison
+/// allows every value.
 fn value_allowed(
     given: u64,
     source: SymValue,
@@ -153,7 +153,7 @@ fn returned_allowed(
     }
 }
 
-/// True where two bytes, both of them parts, are one part of pointers that are one after the runs.
+/// True where two bytes, both of them parts, are the same part of pointers equal after the runs.
 fn same_part(
     given: u64,
     source: SymByte,
@@ -251,7 +251,7 @@ fn byte_allowed(
     }
 }
 
-/// True where each place before the size allows the other's.
+/// True where each byte before the size allows the other's.
 fn places_allowed(
     given: u64,
     size: TermId,
@@ -277,7 +277,7 @@ fn places_allowed(
     Ok(all)
 }
 
-/// True where the source's block allows the target's, of one number and as many places.
+/// True where the source's block allows the target's, with the same number, alignment and room.
 fn block_allowed(
     given: u64,
     source: &SymBlock,
@@ -302,7 +302,7 @@ fn block_allowed(
     Ok(id)
 }
 
-/// True where each block of the source allows the target's; they are there in every run.
+/// True where each block of the source allows the target's; they exist in every run.
 fn blocks_allowed(
     given: u64,
     source: &[SymBlock],
@@ -325,7 +325,7 @@ fn blocks_allowed(
     Ok(all)
 }
 
-/// True where what the source returns, and how it leaves the given blocks, allow the target's.
+/// True where what the source returns, and the given blocks that it leaves, allow the target's.
 fn return_allowed(
     source: &OutcomeTerms,
     target: &OutcomeTerms,
@@ -351,8 +351,8 @@ fn return_allowed(
 
 /// True where the source's outcome allows the target's (Alive2, PLDI 2021): a run past the bound on
 /// jumps allows and is allowed everything, undefined behaviour of the source allows everything, and
-/// poison allows every value and byte. A pointer to a block of an alloca is dead behind the run, and
-/// all dead ones are one. The blocks are the given ones.
+/// poison allows every value and byte. A pointer to a block of an alloca is dead after the run, and
+/// all dead ones are equal. The blocks are the given ones.
 pub fn covered(
     source: &OutcomeTerms,
     target: &OutcomeTerms,

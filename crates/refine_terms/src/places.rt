@@ -1,4 +1,4 @@
-//! Places of given blocks in a code.
+//! The contents of given blocks in a code.
 
 ghost use Rattle.std.specs.Prelude.{◌≡◌, ◌<◌, IfOk, length, map, nat_le};
 ghost use Rattle.std.specs.List.{flat_map};
@@ -16,8 +16,8 @@ use bv_terms::{TermId, Terms};
 use mem_terms::{ByteTerms, both, pick, truth};
 use support::{NoMemory, Sequence};
 
-/// True where the numbers of the place, counted from 0, are a byte's, or unused ones where the
-/// block's size is at most its count.
+/// True where the numbers at the index, from 0, are a byte's, or unused ones where the block's size
+/// is at most the index.
 fn place_code(
     b: ByteTerms,
     place: u64,
@@ -37,7 +37,7 @@ fn place_code(
     Ok(id)
 }
 
-/// True where the numbers of a block's places are those of a block of this size.
+/// True where the numbers of a block's contents are those of a block of this size.
 fn block_code(
     places: &[ByteTerms],
     size: TermId,
@@ -57,7 +57,7 @@ fn block_code(
     Ok(all)
 }
 
-/// True where the numbers of all places are those of blocks of these sizes, with room for so many
+/// True where the numbers of all contents are those of blocks of these sizes, with room for `bytes`
 /// bytes each.
 pub fn blocks_code(
     places: &[Sequence<ByteTerms>],

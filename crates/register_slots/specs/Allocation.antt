@@ -27,7 +27,7 @@ abbrev pub holding : List ℕ → List ℕ → List (Option ℕ) → List (Optio
 holding slots [] held = held
 holding slots (name ∷ names) held = holding slots names (slice_set held (slot_of slots name) (Some name))
 
--- so many slots that hold these names and nothing else
+-- `count` slots that hold these names and nothing else
 abbrev pub only_holding : List ℕ → ℕ → List ℕ → List (Option ℕ)
 only_holding slots count names = holding slots names (replicate count None)
 
@@ -69,7 +69,7 @@ operands_at_end terminator.Unreachable = []
 
 -- ---- a block
 
--- one of so many names, with one of so many slots
+-- one of `names` names, with one of `count` slots
 abbrev pub HasSlot : List ℕ → (names count : ℕ) → ℕ → Type 0
 HasSlot slots names count name = (name < names) × (slot_of slots name < count)
 
@@ -101,7 +101,7 @@ pub record IsRightEdge (slots : List ℕ) (names : ℕ) (held : List (Option ℕ
   pub phis : AllByRecursion (IsRightPhi slots names held from) b.phis
   pub live : AllByRecursion (IsHeld slots (holding slots (map (λ (phi : Phi). phi.into) b.phis) held)) needed
 
--- to the block at a place, if one is there; for each block there is a list of names that are held at its entry, after its phis
+-- to the block at an index, if there is one; for each block there is a list of names that are held at its entry, after its phis
 abbrev pub IsRightJump : Function → List ℕ → List (List ℕ) → List (Option ℕ) → (from at : ℕ) → Type 0
 IsRightJump f slots lives held from at = (b : Block) → slice_get f.blocks at ≡ Some b → IsRightEdge slots (length f.names) held from b (slice_index_or lives at [])
 
@@ -119,7 +119,7 @@ pub record IsRightBlock (f : Function) (slots : List ℕ) (count : ℕ) (lives :
 abbrev pub parameter_names : Function → List ℕ
 parameter_names f = map (λ (p : Parameter). p.name) f.parameters
 
--- so many slots for the names of a function, with the names that are held at the entry of each block
+-- `count` slots for the names of a function, with the names that are held at the entry of each block
 pub record IsAllocation (f : Function) (slots : List ℕ) (count : ℕ) (lives : List (List ℕ)) : Type 0 where
   pub parameters : AllByRecursion (HasSlot slots (length f.names) count) (parameter_names f)
   pub apart : AllByRecursion (IsHeld slots (only_holding slots count (parameter_names f))) (parameter_names f)

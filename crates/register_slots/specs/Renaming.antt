@@ -63,7 +63,7 @@ block_in slots b = record { label = b.label; phis = map (phi_in slots) b.phis; i
 abbrev pub parameter_in : List ℕ → Parameter → Parameter
 parameter_in slots p = record { of_type = p.of_type; no_undef = p.no_undef; non_null = p.non_null; name = slot_of slots p.name }
 
--- labels keep their numbers; as many names as there are slots stand in the table, and no places
+-- labels keep their numbers; the table is this list of names, and no lines and columns are kept
 abbrev pub function_in : List ℕ → List Name → Function → Function
 function_in slots names f = record {
   name = f.name;

@@ -9,7 +9,7 @@ use Rattle.mem_terms.specs.declared.inputs.InputTerms.{InputTerms}
 use Rattle.mem_terms.specs.Inputs.{IsInput}
 use Rattle.run_terms.specs.Frontier.{CanRun}
 
--- g may be run in place of f
+-- g may be run instead of f
 pub record IsStandIn (f g : Function) : Type 0 where
   pub runs : (bounds : Bounds) (input : Input) (tape : List ℕ) → run_of g bounds input tape ≡ run_of f bounds input tape
   pub can_run : CanRun f → CanRun g

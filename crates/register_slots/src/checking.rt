@@ -72,7 +72,7 @@ fn hold_phis(slots: &[usize], held: &mut [Option<usize>], phis: &[Phi])
     }
 }
 
-/// As many slots as `count`, which hold these names and nothing else.
+/// `count` slots, which hold these names and nothing else.
 fn only_holding(
     alloc: Global,
     slots: &[usize],

@@ -74,7 +74,7 @@ fn end_of_last(spans: &[Span], blocks: &[usize]) -> Option<usize> {
     Some(span.end)
 }
 
-/// What the ranges are found from.
+/// What the ranges are computed from.
 #[derive(Clone, Copy)]
 pub struct LiveRanges<'a> {
     pub spans: &'a [Span],
@@ -174,7 +174,7 @@ impl Scan {
         Ok(())
     }
 
-    /// Gives a name a slot that is free, or else a new one.
+    /// Gives a name a free slot, or else a new one.
     fn take(&mut self, name: usize) {
         let slot = match self.free.pop() {
             Some(slot) => slot,

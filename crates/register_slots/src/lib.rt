@@ -3,8 +3,8 @@
 //! A run has a register for each name of its function, and its terms carry all of them from block to
 //! block. [`with_slots`] answers the function with its values in slots: names that are never needed at the
 //! same time may share one (live ranges, as in a compiler's register allocation). It promises that the
-//! function with slots has the runs of the one that it is given. It stands on `points` for the run, and
-//! on `encoder` for what may be encoded.
+//! function with slots has the runs of the one that it is given. It builds on `points` for the run,
+//! and on `encoder` for what may be encoded.
 #![tactic(auto)]
 
 mod allocating;

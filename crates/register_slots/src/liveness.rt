@@ -40,7 +40,7 @@ fn push_to_each(
     Ok(())
 }
 
-/// For each of as many names as `names` the block that gives it its value, if there is one.
+/// For each of `names` names the block that gives it its value, if there is one.
 pub fn definitions_of(
     alloc: Global,
     names: usize,
@@ -74,7 +74,7 @@ fn note(definitions: &mut [Option<Definition>], occurrence: Occurrence) {
     }
 }
 
-/// For each of as many names as `names` the blocks where it is read.
+/// For each of `names` names the blocks where it is read.
 fn reads_of(
     alloc: Global,
     names: usize,
@@ -188,7 +188,7 @@ const VISITS_EACH: usize = 32;
 /// How many visits even a small function allows.
 const VISITS_AT_LEAST: usize = 65_536;
 
-/// The most blocks that the walks of a function visit together. So the lists are never quadratic.
+/// The most blocks that the walks of a function visit in total. So the lists are never quadratic.
 fn most_visits(occurrences: usize, blocks: usize) -> usize {
     let size = occurrences.saturating_add(blocks);
     size.saturating_mul(VISITS_EACH)

@@ -6,7 +6,7 @@ use ir_tree::{Name, Names};
 use std::alloc::Global;
 use support::{NoMemory, Sequence};
 
-/// The same name again.
+/// A copy of the name.
 pub fn copy_name(alloc: Global, name: &Name) -> Result<Name, NoMemory>
     ensures { IfOk result (λ copy. copy ≡ name.now) }
 {

@@ -51,7 +51,7 @@ fn note_phis(rows: &mut Sequence<Sequence<usize>>, phis: &[Phi]) -> Result<bool,
 }
 
 /// For each label the names that phis read where its block is left; none where an entry comes from no
-/// label of the function. A block that is left asks for its own row alone, so no entry is looked for.
+/// label of the function. A block that is left reads only its own row, so no entry is searched for.
 pub fn phi_reads(alloc: Global, f: &Function) -> Result<Option<Sequence<Sequence<usize>>>, NoMemory>
     ensures { IfOk result (λ reads. IfSome reads (λ rows. AllByRecursion (IsBlockNoted rows) f.now.blocks)) }
 {

@@ -7,7 +7,7 @@ ghost use Rattle.register_slots.specs.PhiReads.{Grows};
 use std::alloc::Global;
 use support::{NoMemory, Sequence};
 
-/// As many empty rows as `count`.
+/// `count` empty rows.
 pub fn empty_rows(alloc: Global, count: usize) -> Result<Sequence<Sequence<usize>>, NoMemory> {
     let mut rows = Sequence::from_vec(Vec::new(alloc));
     for _row in 0..count {

@@ -1,6 +1,6 @@
-//! What a counterexample shows: two runs, told side by side.
+//! What a counterexample shows: two runs, side by side.
 //!
-//! It promises the outcomes of the defined runs. It stands on `choice_interp`; reports print what
+//! It promises the outcomes of the defined runs. It builds on `choice_interp`; reports print what
 //! it answers.
 #![tactic(auto)]
 

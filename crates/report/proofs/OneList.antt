@@ -1,4 +1,4 @@
--- Two modules have one list of rows, where a judge may tell one verdict of each pair.
+-- Two modules have one list of rows, where a judge may report one verdict of each pair.
 use Rattle.std.proofs.Common.{◌≡◌, refl, sym, ap, subst, ◌∙◌, List, [], ◌∷◌, ◌++◌, Option, Some, None, Result, Ok, Err, Bool, true, false, ℕ}
 use Rattle.ir_tree.specs.declared.name.Name.{Name}
 use Rattle.ir_tree.specs.declared.tree.Function.{Function}
@@ -21,7 +21,7 @@ use Rattle.report.specs.declared.row.Finding.TheVariants as finding
 use Rattle.report.specs.declared.row.Row.{Row}
 use Rattle.report.specs.Rows.{function_named, IsJudged, IsCompared, IsFinding, IsRow, AreSourceRows, AreRows, extra_rows, RowsAreOne}
 
--- a judge that may tell one verdict of each pair
+-- a judge that may report one verdict of each pair
 abbrev pub TellsOne : (Functions → Verdict → Type 0) → Type 0
 TellsOne tells = (pair : Functions) (v w : Verdict) → tells pair v → tells pair w → v ≡ w
 

@@ -1,4 +1,4 @@
--- Which rows two modules have, by what a judge may tell of a pair.
+-- Which rows two modules have, by what a judge may report of a pair.
 use Rattle.std.specs.Prelude.{◌≡◌, List, [], ◌∷◌, ◌++◌, Option, Some, None, Result, Ok, Err, Bool, true, false, is_some, if◌then◌else◌}
 use Rattle.ir_tree.specs.declared.name.Name.{Name}
 use Rattle.ir_tree.specs.declared.tree.Function.{Function}
@@ -19,12 +19,12 @@ use Rattle.report.specs.declared.row.Finding.{Finding}
 use Rattle.report.specs.declared.row.Finding.TheVariants as finding
 use Rattle.report.specs.declared.row.Row.{Row}
 
--- what stands under a name: the first function of that name, or why it is refused
+-- what a name denotes: the first function of that name, or why it is refused
 abbrev pub function_named : List Entry → Name → Option (Result Function Refused)
 function_named [] name = None
 function_named (e ∷ es) name = if same_name name e.name then Some e.function else function_named es name
 
--- a verdict that the judge may tell of the pair, with what a counterexample shows
+-- a verdict that the judge may report of the pair, with what a counterexample shows
 abbrev pub IsJudged : (Functions → Verdict → Type 0) → Bounds → Functions → Finding → Type 0
 IsJudged tells bounds pair finding.Correct = tells pair verdict.Correct
 IsJudged tells bounds pair (finding.Incorrect point shown) = tells pair (verdict.Incorrect point) × IsShown pair bounds point shown
@@ -56,7 +56,7 @@ AreSourceRows tells bounds targets _ _ = ⊥
 abbrev pub extra_row : Entry → Row
 extra_row target = record { name = target.name; finding = finding.Extra }
 
--- a row for each function of the target whose name the source hasn't, in text order
+-- a row for each function of the target whose name the source does not have, in text order
 abbrev pub extra_rows : List Entry → List Entry → List Row
 extra_rows sources [] = []
 extra_rows sources (target ∷ targets) = if is_some (function_named sources target.name) then extra_rows sources targets else extra_row target ∷ extra_rows sources targets
@@ -67,7 +67,7 @@ pub record AreRows (tells : Functions → Verdict → Type 0) (bounds : Bounds) 
   pub each : AreSourceRows tells bounds target.entries source.entries judged
   pub all : rows ≡ judged ++ extra_rows source.entries target.entries
 
--- with the verdicts by their definition two modules have one list of rows
+-- with the verdicts by their definition two modules have at most one list of rows
 abbrev pub RowsAreOne : Type 0
 RowsAreOne = (bounds : Bounds) (budget : Budget) (source target : Module) (rows others : List Row) → AreInRange bounds budget
     → AreRows (λ pair v. IsVerdict pair bounds budget v) bounds source target rows → AreRows (λ pair v. IsVerdict pair bounds budget v) bounds source target others → rows ≡ others

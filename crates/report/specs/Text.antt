@@ -58,22 +58,22 @@ byte_text (byte.Num n) = hex_byte 97 n
 byte_text (byte.Part p place) = pointer_text p ++ codes "/" ++ decimal place
 byte_text byte.Poison = codes "--"
 
--- a byte behind a space
+-- a byte after a space
 abbrev pub spaced_byte : Byte → List ℕ
 spaced_byte b = codes " " ++ byte_text b
 
 -- ---- lines
 
--- a label, a number, ` = `, and the line's end behind what is shown
+-- a label, a number, ` = `, what is shown, and the line's end
 abbrev pub numbered_line : List ℕ → ℕ → List ℕ → List ℕ
 numbered_line label number shown = label ++ decimal number ++ codes " = " ++ shown ++ newline
 
--- a line for each argument from this place on
+-- a line for each argument, numbered from this index on
 abbrev pub arg_lines : ℕ → List Value → List ℕ
 arg_lines place [] = []
 arg_lines place (arg ∷ args) = numbered_line (codes "  arg ") place (value_text arg) ++ arg_lines (place + 1) args
 
--- a line for each choice from this place on
+-- a line for each choice, numbered from this index on
 abbrev pub choice_lines : ℕ → List ℕ → List ℕ
 choice_lines place [] = []
 choice_lines place (word ∷ words) = numbered_line (codes "  choice ") place (decimal word) ++ choice_lines (place + 1) words
@@ -140,11 +140,11 @@ reason_text reason.TypeClash = codes "TypeClash"
 reason_text reason.PhiEdges = codes "PhiEdges"
 reason_text reason.Unassigned = codes "Unassigned"
 
--- the reason, and line and column of its place
+-- the reason, and line and column of its position
 abbrev pub refused_text : Refused → List ℕ
 refused_text refused = reason_text refused.reason ++ codes " " ++ decimal refused.line ++ codes ":" ++ decimal refused.column
 
--- what stands behind the name, up to the end of the row
+-- what follows the name, up to the end of the row
 abbrev pub finding_text : Finding → List ℕ
 finding_text finding.Correct = codes " correct" ++ newline
 finding_text (finding.Incorrect point shown) = codes " incorrect" ++ newline ++ shown_lines point shown
@@ -184,6 +184,6 @@ last_line rows = judged_counts rows ++ other_counts rows ++ newline
 abbrev pub report_text : Bounds → Budget → List Row → List ℕ
 report_text bounds budget rows = first_line bounds budget ++ flat_map row_text rows ++ last_line rows
 
--- the first and the last line alone, with these bytes between them
+-- only the first and the last line, with these bytes between them
 abbrev pub summary_text : Bounds → Budget → List ℕ → List Row → List ℕ
 summary_text bounds budget between rows = first_line bounds budget ++ between ++ last_line rows

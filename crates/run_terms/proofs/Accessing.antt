@@ -100,7 +100,7 @@ module _ (old new : List Term) (k : Keeps old new) (s : RunState) (hs : IsState 
       and_true true = refl
       and_true false = refl
 
-  -- ---- the state behind it
+  -- ---- the state after it
 
   pub memory_state : (into : ℕ) (x : SymValue) (alive : TermId) (memory : RunMemory) → IsTerm new 1 alive → IsRunMemory new memory → IsSymValue new x → IsState new (record s { alive = alive; registers = slice_set s.registers into x; memory = memory })
   memory_state into x alive memory ha hm hx = record {

@@ -11,7 +11,7 @@ use Rattle.mem_terms.specs.Values.{IsSymNumber, number_at, value_from}
 use Rattle.mem_terms.proofs.Later.{keeps_trans, bit-later}
 use Rattle.mem_terms.proofs.Made.{small_mod, below-wider}
 
--- a number of at most 64 digits has them in 64
+-- a number of at most 64 bits has them in 64
 pub narrow : (x n : ℕ) → n ≤ 64 → x % 2 ^ n % 2 ^ 64 ≡ x % 2 ^ n
 narrow x n small = small_mod (x % 2 ^ n) (2 ^ 64) (below-wider (x % 2 ^ n) n 64 (mod_below x (2 ^ n) (pow_pos n)) small)
 

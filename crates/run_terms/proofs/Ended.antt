@@ -21,7 +21,7 @@ or_false : (b : Bool) → (b || false) ≡ b
 or_false true = refl
 or_false false = refl
 
--- all that is told stays
+-- all that is reported stays
 same_end : (old new : List Term) (e d : Ending) (g : Scene) (at : Option Where) → bit_at g.v new d.ub ≡ bit_at g.v old e.ub → bit_at g.v new d.beyond ≡ bit_at g.v old e.beyond
     → option_map (value_at (sight g) new) d.value ≡ option_map (value_at (sight g) old) e.value → memory_at (sight g) new d.memory.blocks ≡ memory_at (sight g) old e.memory.blocks
     → ((made : List ℕ) → Counts g old e.tally made → Counts g new d.tally made) → EndTells g old e at → EndTells g new d at

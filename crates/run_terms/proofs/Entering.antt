@@ -39,7 +39,7 @@ pub phis_end : (new : List Term) (behind : List SymValue) (phis : List Phi) (i :
 phis_end new behind phis i r m past so =
     ap (λ (ps : List Phi). with_phis m ps (record m { registers = values_at r new behind })) (sym (drop_all i phis past)) ∙ so
 
--- the state on an edge, behind the phis of the block that it leads to
+-- the state on an edge, after the phis of the block that it leads to
 pub edge_carries : (old new : List Term) (s t : RunState) (label : ℕ) (block : Block) → IsState old s → Keeps old new → t.memory ≡ s.memory → t.tally ≡ s.tally → t.most ≡ s.most
     → ((r : Reading) (m : Machine) → IsNaming r.name → values_at r old s.registers ≡ m.registers → m.block ≡ label → record m { registers = values_at r new t.registers } ≡ with_phis m block.phis m)
     → (g : Scene) (m : Machine) (from to : ℕ) → Carries g old (record { label = label; turn = from }) s m → Carries g new (record { label = block.label; turn = to }) t (entered block (record m { turn = to }))

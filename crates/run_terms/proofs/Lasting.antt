@@ -59,7 +59,7 @@ module _ (old new : List Term) (k : Keeps old new) where
     own = h.own;
   }
 
-  -- what the blocks of a memory stand for
+  -- what the blocks of a memory denote
   pub blocks_at-later : (r : Reading) (m : RunMemory) → IsRunMemory old m → memory_at r new m.blocks ≡ memory_at r old m.blocks
   blocks_at-later r m h = memory-later old new k r m.blocks (memory_blocks old m h)
 

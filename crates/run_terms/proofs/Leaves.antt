@@ -128,7 +128,7 @@ label_place edge [] i label is = absurd (let c : ⊥ = cc in c)
 label_place edge (l ∷ ls) zero label is = (let e : l ≡ label = cc in ap edge e)
 label_place edge (l ∷ ls) (suc i) label is = label_place edge ls i label is
 
--- the edge of a label is the one at its place
+-- the edge of a label is the one at its index
 pub label_edge : (labels : List ℕ) (edges : List Edge) → AreByLabel labels edges → (i label : ℕ) → slice_get labels i ≡ Some label → slice_index_or edges i Nowhere ≡ edge_of label labels edges
 label_edge labels edges h i label is = rw h.1 (label_place h.0 labels i label is ∙ sym (edge_of_label h.0 labels i label is))
 

@@ -1,4 +1,4 @@
--- The blocks of a run's memory: the given ones, and behind them those of allocas.
+-- The blocks of a run's memory: the given ones, and after them those of allocas.
 use Rattle.std.proofs.Common.{ℕ, zero, suc, ◌≡◌, ◌<◌, ◌≤◌, ◌+◌, ◌-◌, Bool, true, false, cond, List, [], ◌∷◌, ◌++◌, length, take, drop, refl, ap, sym, subst, ◌∙◌, arith}
 use Rattle.std.proofs.lemmas.List.{length-take, take-append-drop}
 use Rattle.std.proofs.Math.Seq.{drop-append_seam, take-append_seam}
@@ -49,7 +49,7 @@ cond-append false xs ys zs ws = refl
 
 -- ---- one of two memories
 
--- the given blocks of a memory with as many, and as much room
+-- the given blocks of a memory with the same number and room
 pub given_like : (terms : List Term) (m : RunMemory) (given room : ℕ) → IsRunMemory terms m → m.given ≡ given → m.room ≡ room
     → AreGivenBlocks given room terms (take given m.blocks) × AreSymBlocks terms (drop given m.blocks) × Each (λ (b : SymBlock). first_local given ≤ b.number) (drop given m.blocks)
 given_like terms m given room h eg er = (

@@ -29,7 +29,7 @@ use Rattle.run_terms.proofs.Lasting.{carries-later, carries_there, tells-later, 
 -- ---- moves, one after another
 
 module _ (g : Scene) (visit : Visit) (s : RunState) where
-  -- where it goes may be told otherwise
+  -- where it goes may be said otherwise
   pub moves_to : (old new : List Term) (before after : Frontier) (c : TermId) (to to' : Machine → Where) → ((m : Machine) → Carries g old visit s m → to m ≡ to' m) → Moves g old new before after c visit s to → Moves g old new before after c visit s to'
   moves_to old new before after c to to' same m = record {
     stays = m.stays;

@@ -98,7 +98,7 @@ pub done_if : (p : Bool) (x y : Run) → cond p (Done x) (Done y) ≡ Done (if p
 done_if true x y = refl
 done_if false x y = refl
 
--- the given blocks, with as many and as much room as the ending's
+-- the given blocks, with the number and the room of the ending's
 pub given_shaped : (setting : Setting) (terms : List Term) (w : Frontier) (s : RunState) → HasShape setting w → shape_of s ≡ shape_in setting → IsState terms s
     → AreGivenBlocks w.ending.memory.given w.ending.memory.room terms (take s.memory.given s.memory.blocks)
 given_shaped setting terms w s shape fits h =

@@ -138,7 +138,7 @@ module _ (old a b d e : List Term) (tally : Tally) (taken first block read fits 
         fits = bit-later d e ke g.v fits tf.within ∙ (tf.says g.v ∙ (rw (bit-later old b kab g.v taken hk.within, held, bit-later old b kab g.v tally.fits ht.fits.within, k.fits, ef, eb) refl ∙ whole));
       }
 
-  -- the words behind those that were read, and the block that the first names
+  -- the words after those that were read, and the block that the first names
   module _ (t1 t2 t3 t4 : List Term) (tape near : List TermId) (one next offset : TermId) (s : RunState) (n : ℕ) (hs : IsState old s) (range : AreInRange old) (words : AreWords old tape) (near_is : near ≡ take n tape)
       (k1 : Keeps old t1) (k2 : Keeps t1 t2) (k3 : Keeps t2 t3) (k4 : Keeps t3 t4) (k5 : Keeps t4 a) (room : s.most + 2 < 2 ^ 64) (enough : s.most + 1 < n) (same : s.tally ≡ tally)
       (m1 : Makes t1 first 64 (λ v. slice_index (words_at v old near) (term_at v old tally.read)))

@@ -149,7 +149,7 @@ phis_turn before (phi ∷ phis) m = phis_turn before phis (assigned m phi.into (
 entered_visit : (b : Block) (m : Machine) → visit_of (entered b m) ≡ record { label = b.label; turn = m.turn }
 entered_visit b m = rw (phis_turn m b.phis m) refl
 
--- the run stands nowhere ahead, or at a copy of another number
+-- the run is nowhere ahead, or at a copy of another number
 abbrev IsElsewhere : ℕ → Where → Type 0
 IsElsewhere k (At n m) = k ≡ n → ⊥
 IsElsewhere k (Done run) = Unit {0}

@@ -1,4 +1,4 @@
--- Where a run is between two copies, told by what is known of the copies ahead and of how it ended.
+-- Where a run is between two copies, by what is known of the copies ahead and of how it ended.
 use Rattle.std.specs.Prelude.{◌≡◌, ℕ, ◌<◌, Bool, true, false, cond, is_some, nat_eq, nat_le, ◌%◌, if◌then◌else◌, List, length, map, All, Option, Some, None, IfSome, slice_get, slice_set}
 use Rattle.std.specs.List.{find}
 use Rattle.std.specs.Option.{option_map, option_map_or}
@@ -81,12 +81,12 @@ pub record IsEnding (terms : List Term) (e : Ending) : Type 0 where
 abbrev pub ending_at : Reading → List Term → Ending → Outcome
 ending_at r terms e = cond (bit_at r.v terms e.ub) Ub (cond (bit_at r.v terms e.beyond) Beyond (Return (option_map (value_at r terms) e.value) (memory_at r terms e.memory.blocks)))
 
--- so
+-- it ended with this run
 pub record EndedSo (g : Scene) (terms : List Term) (e : Ending) (run : Run) : Type 0 where
   pub outcome : ending_at (sight g) terms e ≡ run.outcome
   pub tally : Counts g terms e.tally run.taken
 
--- not yet
+-- it has not ended yet
 pub record NotEnded (g : Scene) (terms : List Term) (e : Ending) : Type 0 where
   pub ub : bit_at g.v terms e.ub ≡ false
   pub beyond : bit_at g.v terms e.beyond ≡ false
@@ -108,7 +108,7 @@ HaveShape shape ahead = Each (λ (entry : Option RunState). IfSome entry (λ (s 
 abbrev pub IsUnreached : Scene → List Term → Option RunState → Type 0
 IsUnreached g terms entry = IfSome entry (λ (s : RunState). bit_at g.v terms s.alive ≡ false)
 
--- the run stands at the entry of the copy of a number, its phis done, and at no other
+-- the run is at the entry of the copy of a number, its phis done, and at no other
 pub record StandsAt (g : Scene) (terms : List Term) (ahead : List (Option RunState)) (n : ℕ) (m : Machine) : Type 0 where
   pub entry : RunState
   pub is : slice_get ahead n ≡ Some (Some entry)
@@ -146,7 +146,7 @@ pub record HasShape (s : Setting) (w : Frontier) : Type 0 where
   pub count : length w.ahead ≡ length s.copies.now
   pub ending : ending_shape w.ending ≡ record { valued = is_some s.f.now.returns; given = s.given; room = s.room }
 
--- none is a run that has left one copy and isn't yet at another
+-- None is a run that has left one copy and isn't yet at another
 pub record Tells (g : Scene) (terms : List Term) (w : Frontier) (at : Option Where) : Type 0 where
   pub ahead : AheadTells g terms w.ahead at
   pub ending : EndTells g terms w.ending at
@@ -162,12 +162,12 @@ abbrev pub arrived : ℕ → Machine → Option Machine → Where
 arrived n m None = Done (ended Ub m)
 arrived n m (Some entry) = At n entry
 
--- a run that goes to a copy before this number, or to one that isn't there, is at its end
+-- a run that goes to a copy before this number, or to one that does not exist, is at its end
 abbrev pub placed : Function → List BlockCopy → (from : ℕ) → Where → Where
 placed f copies from (Done run) = Done run
 placed f copies from (At n m) = if nat_le from n then arrived n m (entering f (slice_get copies n) m) else Done (ended Ub m)
 
--- where the condition holds the run goes there from the state that it is in, and else nothing changes
+-- where the condition holds the run goes there from the state that it is in; otherwise nothing changes
 pub record Moves (g : Scene) (old new : List Term) (before after : Frontier) (c : TermId) (at : Visit) (s : RunState) (to : Machine → Where) : Type 0 where
   pub stays : (at : Option Where) → bit_at g.v old c ≡ false → Tells g old before at → Tells g new after at
   pub goes : (m : Machine) → bit_at g.v old c ≡ true → Carries g old at s m → Tells g old before None → Tells g new after (Some (to m))
@@ -183,7 +183,7 @@ abbrev pub branched : Value → (if_true if_false : Edge) → Machine → Where
 branched (Num n) if_true if_false m = along (if nat_eq (n % 2) 1 then if_true else if_false) m
 branched _ if_true if_false m = Done (ended Ub m)
 
--- the edge of the first case with this number of so many bits, or the default's; poison is undefined behaviour
+-- the edge of the first case with this number of n bits, or the default's; poison is undefined behaviour
 abbrev pub switched_on : ℕ → Value → (Case → Edge) → Edge → List Case → Machine → Where
 switched_on width (Num n) edge default cases m = along (option_map_or edge (find (λ (c : Case). same_number width c.value n) cases) default) m
 switched_on width _ edge default cases m = Done (ended Ub m)

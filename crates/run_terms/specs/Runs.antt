@@ -1,4 +1,4 @@
--- What the terms of a run so far stand for.
+-- What the terms of a run so far denote.
 use Rattle.std.specs.Prelude.{◌≡◌, ℕ, ◌+◌, ◌≤◌, Bool, true, false, ◌&&◌, ◌||◌, nat_eq, nat_lt, List, [], ◌∷◌, length, take, drop, Option, Some, None, slice_index}
 use Rattle.ir_tree.specs.declared.tree.Inst.{Inst}
 use Rattle.points.specs.declared.machine.Machine.{Machine}
@@ -16,7 +16,7 @@ use Rattle.run_terms.specs.declared.state.RunState.{RunState}
 
 -- ---- choices
 
--- each choice is the tape's word at its place, the first of these at k
+-- each choice is the tape's word at its index, the first of these at k
 abbrev pub fits_from : List ℕ → ℕ → List ℕ → Bool
 fits_from tape k [] = true
 fits_from tape k (c ∷ cs) = nat_eq (slice_index tape k) c && fits_from tape (k + 1) cs
@@ -49,7 +49,7 @@ pub record Counts (g : Scene) (terms : List Term) (t : Tally) (taken : List ℕ)
   pub read : term_at g.v terms t.read ≡ length taken
   pub fits : bit_at g.v terms t.fits ≡ fits_from g.tape 0 taken
 
--- the given blocks, and behind them those of allocas, whose numbers are above each number of 3 bits
+-- the given blocks, and after them those of allocas, whose numbers are above each number of 3 bits
 pub record IsRunMemory (terms : List Term) (m : RunMemory) : Type 0 where
   pub given : AreGivenBlocks m.given m.room terms (take m.given m.blocks)
   pub are : AreSymBlocks terms (drop m.given m.blocks)
@@ -78,7 +78,7 @@ pub record Visit : Type 0 where
 abbrev pub visit_of : Machine → Visit
 visit_of m = record { label = m.block; turn = m.turn }
 
--- the run in the middle of it
+-- the state of the run there
 pub record Carries (g : Scene) (terms : List Term) (at : Visit) (s : RunState) (m : Machine) : Type 0 where
   pub registers : values_at (sight g) terms s.registers ≡ m.registers
   pub given : s.memory.given ≡ g.given

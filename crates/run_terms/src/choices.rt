@@ -25,11 +25,11 @@ use tv_num::Width;
 pub struct Choice {
     pub value: SymValue,
     pub tally: Tally,
-    /// No run has then read more words.
+    /// No run has read more words by then.
     pub most: usize,
 }
 
-/// So many words more where it is taken.
+/// `count` more words where the choice is taken.
 fn more_words(
     terms: &mut Terms,
     read: TermId,
@@ -66,7 +66,7 @@ fn still_fits(
     both(terms, fits, fine)
 }
 
-/// How many words there may be with so many more. It fails where that is more than a `usize` counts,
+/// How many words there may be with `count` more. It fails where that is more than a `usize` holds,
 /// which no memory holds.
 fn read_more(most: usize, count: usize) -> Result<usize, NoMemory>
     ensures count { IfOk result (λ more. more ≡ most + count) }
@@ -131,7 +131,7 @@ fn choose_number(
     Ok(Choice { value, tally, most })
 }
 
-/// The given block that the low 16 bits of a word name, and null where there is none.
+/// The given block that the low 16 bits of a word name, or null where there is none.
 fn given_or_null(terms: &mut Terms, word: TermId, given: usize) -> Result<TermId, NoMemory>
     requires { IsTerm terms.old 64 word }
     ensures made { IfOk result (λ id. Makes terms.new id 64 (λ v. cond (nat_le (term_at v terms.old word % 2 ^ 16) given) (term_at v terms.old word % 2 ^ 16) 0)) }
@@ -146,7 +146,7 @@ fn given_or_null(terms: &mut Terms, word: TermId, given: usize) -> Result<TermId
 }
 
 /// The next choice of a pointer: the low 16 bits of the next word of the tape name a given block, or
-/// else null, and the word behind it is the offset.
+/// else null, and the word after it is the offset.
 fn choose_pointer(
     terms: &mut Terms,
     state: &RunState,

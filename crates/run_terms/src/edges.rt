@@ -16,14 +16,14 @@ use bv_terms::Terms;
 use support::NoMemory;
 use unroll::Edge;
 
-/// The edge at a place, and nowhere where there is none.
+/// The edge at an index, and nowhere where there is none.
 pub fn edge_at(edges: &[Edge], place: usize) -> Edge
     ensures { result ≡ slice_index_or edges.now place Edge.Nowhere }
 {
     edges.get(place).copied().unwrap_or(Edge::Nowhere)
 }
 
-/// The place of the block of a copy that is ahead, from this number on.
+/// The index of the block of a copy that is ahead, from this number on.
 fn block_ahead(setting: Setting, ahead: usize, n: usize) -> Option<usize>
     ensures some { IfSome result (λ at. at < length setting.entry.f.now.blocks) }
     ensures copy { IfSome result (λ at. n < length setting.entry.copies.now) }

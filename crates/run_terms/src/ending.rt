@@ -20,14 +20,14 @@ use std::alloc::Global;
 use support::NoMemory;
 
 /// How a run has ended so far, if it has: in undefined behaviour where `ub` is true, past the bound
-/// on jumps where `beyond` is, and else in a return.
+/// on jumps where `beyond` is, else in a return.
 #[derive(Drop)]
 pub struct Ending {
     pub ub: TermId,
     pub beyond: TermId,
     /// What it returns, where the function has a type.
     pub value: Option<SymValue>,
-    /// The given blocks as it leaves them.
+    /// The given blocks that it leaves.
     pub memory: RunMemory,
     pub tally: Tally,
 }
@@ -55,7 +55,7 @@ impl Ending {
         Ok(())
     }
 
-    /// Where the condition holds the run would take a jump too many, with these choices.
+    /// Where the condition holds the run would take one jump too many, with these choices.
     pub fn end_beyond(&mut self, terms: &mut Terms, c: TermId, tally: Tally) -> Result<(), NoMemory>
         requires own { IsEnding terms.old self.old }
         requires c { IsTerm terms.old 1 c }
@@ -104,7 +104,7 @@ impl Ending {
     }
 }
 
-/// The first returned value where the condition holds, and else the second, where there are any.
+/// The first returned value where the condition holds, else the second, where there are any.
 fn pick_returned(
     terms: &mut Terms,
     c: TermId,

@@ -23,7 +23,7 @@ use std::alloc::Global;
 use support::{NoMemory, Sequence};
 
 /// What is known of the copies ahead, by their numbers, and of how the run ended. Of a copy to which
-/// no edge came nothing is known; the state at another one's entry is that behind its phis.
+/// no edge came nothing is known; the state at another one's entry is that after its phis.
 #[derive(Drop)]
 pub struct Frontier {
     pub ahead: Sequence<Option<RunState>>,
@@ -82,7 +82,7 @@ fn reach(
 }
 
 /// The state on an edge from the block with this label, which is taken where the condition holds,
-/// behind the phis of the block that it leads to.
+/// after the phis of the block that it leads to.
 fn state_on_edge(
     alloc: Global,
     terms: &mut Terms,
@@ -140,7 +140,7 @@ impl Frontier {
         Ok(())
     }
 
-    /// Where the condition holds, the run would take a jump too many, with these choices.
+    /// Where the condition holds, the run would take one jump too many, with these choices.
     pub fn end_beyond(&mut self, terms: &mut Terms, c: TermId, tally: Tally) -> Result<(), NoMemory>
         requires own { IsFrontier terms.old self.old }
         requires c { IsTerm terms.old 1 c }

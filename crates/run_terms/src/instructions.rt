@@ -236,7 +236,7 @@ fn step_select(
     Ok(())
 }
 
-/// The choice where the value is poison, and else the value; the choice isn't poison.
+/// The choice where the value is poison, else the value; the choice isn't poison.
 fn frozen(terms: &mut Terms, value: SymValue, choice: SymValue) -> Result<SymValue, NoMemory>
     requires value { IsSymValue terms.old value }
     requires choice { IsSymValue terms.old choice }
@@ -312,7 +312,7 @@ fn step_freeze(
     }
 }
 
-/// One instruction, after so many backward jumps.
+/// One instruction, after this number of backward jumps.
 fn step(
     setting: Setting,
     terms: &mut Terms,
@@ -396,7 +396,7 @@ fn step(
     }
 }
 
-/// All instructions of a block, one after another, after so many backward jumps.
+/// All instructions of a block, one after another, after this number of backward jumps.
 pub fn step_all(
     setting: Setting,
     terms: &mut Terms,

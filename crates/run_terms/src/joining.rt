@@ -14,7 +14,7 @@ use mem_terms::{SymBlock, SymValue, either, pick, pick_given, pick_value};
 use std::alloc::Global;
 use support::{NoMemory, Sequence};
 
-/// The first registers where the condition is true, and else the others.
+/// The first registers where the condition is true, else the others.
 fn pick_registers(
     alloc: Global,
     terms: &mut Terms,
@@ -39,7 +39,7 @@ fn pick_registers(
     Ok(Sequence::from_vec(picked))
 }
 
-/// The first choices where the condition is true, and else the others.
+/// The first choices where the condition is true, else the others.
 pub fn pick_tally(terms: &mut Terms, c: TermId, a: Tally, b: Tally) -> Result<Tally, NoMemory>
     requires c { IsTerm terms.old 1 c }
     requires a { IsTally terms.old a }
@@ -68,7 +68,7 @@ fn joined(
     Ok(blocks)
 }
 
-/// The first memory where the condition is true, and else the second.
+/// The first memory where the condition is true, else the second.
 fn pick_blocks(
     alloc: Global,
     terms: &mut Terms,
@@ -99,7 +99,7 @@ fn pick_blocks(
     })
 }
 
-/// The entry of a copy with an edge more: where the edge is taken it is the state on it, and else the
+/// The entry of a copy with one more edge: where the edge is taken it is the state on it, else the
 /// one that was known before.
 pub fn join(
     alloc: Global,

@@ -1,10 +1,11 @@
 //! The steps of a run as terms: what a block's instructions do to the state of a run, and where its
 //! terminator leads.
 //!
-//! It promises that where the terms of a state stand for a run's machine, those after a step stand for
-//! the machine after it, under every assignment of the variables; and that where a frontier tells at which
-//! copy of a block a run stands or how it ended, the frontier after a block does so after the block. It
-//! stands on `unroll`, `mem_terms`, `inst_terms` and `access_terms`; `encoder` takes its steps.
+//! It promises that where the terms of a state denote a run's machine, those after a step denote
+//! the machine after it, under every assignment of the variables; and that where a frontier says
+//! which copy of a block a run is at or how it ended, the frontier after a block does so after the
+//! block. It uses `unroll`, `mem_terms`, `inst_terms` and `access_terms`; `encoder` takes its
+//! steps.
 //!
 //! - `state`: registers, memory and choices so far; `setting`: what stays the same in a run.
 //! - `instructions`, with `operands`, `choices`, `words` and `memory_steps`: a block's instructions.

@@ -25,11 +25,12 @@ use memory_access::Access;
 use std::alloc::Global;
 use support::{NoMemory, Sequence};
 
-/// How many instructions a function may have, and so how many numbers of blocks a turn has.
+/// How many instructions a function may have, and so how many block numbers each count of backward
+/// jumps has.
 const NUMBERS_OF_A_TURN: u64 = 65_536;
 
-/// The number of the block that an alloca makes in a turn. It fails where that is more than a `u64`
-/// counts, which no run of so many jumps lets happen.
+/// The number of the block that an alloca makes after `turn` backward jumps. It fails where that is
+/// more than a `u64` holds, which no run takes enough jumps for.
 fn number_of_local(given: usize, turn: u64, alloca: usize) -> Result<u64, NoMemory>
     ensures { IfOk result (λ n. n ≡ local_number given turn alloca) }
 {
@@ -80,7 +81,7 @@ fn step_alloca(
     Ok(())
 }
 
-/// "load Instruction". Where it isn't defined the run isn't alive behind it.
+/// "load Instruction". Where it isn't defined the run isn't alive after it.
 fn step_load(
     alloc: Global,
     terms: &mut Terms,
@@ -105,7 +106,7 @@ fn step_load(
     Ok(())
 }
 
-/// "store Instruction". Where it isn't defined the run isn't alive behind it.
+/// "store Instruction". Where it isn't defined the run isn't alive after it.
 fn step_store(
     alloc: Global,
     terms: &mut Terms,
@@ -177,7 +178,7 @@ fn indices_of(
     Ok(Sequence::from_vec(values))
 }
 
-/// What a getelementptr says beside the name of its result.
+/// The parts of a getelementptr except the name of its result.
 #[derive(Clone, Copy)]
 struct Path<'a> {
     inbounds: bool,
@@ -219,7 +220,7 @@ fn step_gep(
     Ok(())
 }
 
-/// One instruction that uses memory, after so many backward jumps; any other is left out.
+/// One instruction that uses memory, after this number of backward jumps; any other is left out.
 pub fn step_memory(
     setting: Setting,
     terms: &mut Terms,

@@ -113,7 +113,7 @@ pub fn typed(terms: &mut Terms, of_type: IrType, value: SymValue) -> Result<SymV
     }
 }
 
-/// What an operand behind a type reads of the registers.
+/// What an operand with its type reads of the registers.
 pub fn typed_operand_of(
     terms: &mut Terms,
     registers: &[SymValue],

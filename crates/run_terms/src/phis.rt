@@ -20,7 +20,7 @@ fn entry_from(entries: &[PhiEntry], from: usize) -> Option<PhiEntry>
     entries.iter().copied().find(|entry| entry.from == from)
 }
 
-/// What stands in the entry for the block that is left, which has this label.
+/// The value of the entry for the block that is left, which has this label.
 fn entry_value(
     terms: &mut Terms,
     registers: &[SymValue],
@@ -69,7 +69,7 @@ pub fn put(registers: &mut Sequence<SymValue>, name: usize, value: SymValue)
     }
 }
 
-/// The registers behind the phis of a block that is entered from the one with this label. All phis
+/// The registers after the phis of a block that is entered from the one with this label. All phis
 /// read the registers before them.
 pub fn registers_behind(
     alloc: Global,

@@ -12,11 +12,11 @@ use support::{NoMemory, Sequence};
 pub struct Tally {
     /// How many words of the tape they took, in 64 bits.
     pub read: TermId,
-    /// Whether each of them is the word of the tape at its place.
+    /// Whether each of them is the word of the tape at its index.
     pub fits: TermId,
 }
 
-/// The memory of a run: the given blocks, and behind them those that its allocas made.
+/// The memory of a run: the given blocks, and after them those that its allocas made.
 #[derive(Drop)]
 pub struct RunMemory {
     pub blocks: Sequence<SymBlock>,
@@ -26,7 +26,7 @@ pub struct RunMemory {
     pub room: usize,
 }
 
-/// A run at a place of the function, if it comes there.
+/// The state of a run at a point of the function, if the run comes there.
 #[derive(Drop)]
 pub struct RunState {
     /// Whether the run is there, and its behaviour still defined.
@@ -40,7 +40,7 @@ pub struct RunState {
 }
 
 impl RunMemory {
-    /// The same memory again.
+    /// A copy of the memory.
     pub fn copy(&self, alloc: Global) -> Result<RunMemory, NoMemory>
         ensures { IfOk result (λ m. m ≡ self.now) }
     {

@@ -39,7 +39,7 @@ fn split(terms: &mut Terms, c: TermId, by: TermId) -> Result<(TermId, TermId), N
     Ok((on, off))
 }
 
-/// The type of the choice that stands there: undef is one.
+/// The type of the choice that the operand makes: only undef makes one.
 fn undef_type(returned: TypedOperand) -> Option<IrType>
     ensures { result ≡ undef_type returned.of_type returned.operand }
 {
@@ -49,7 +49,7 @@ fn undef_type(returned: TypedOperand) -> Option<IrType>
     }
 }
 
-/// Where the condition holds, the operand is returned, and undef as a choice.
+/// Where the condition holds, the operand is returned, undef as a choice.
 fn return_operand(
     setting: Setting,
     terms: &mut Terms,
@@ -151,7 +151,7 @@ fn leave_by_return(
     }
 }
 
-/// The run leaves by the first edge if the bit is true, and else by the second.
+/// The run leaves by the first edge if the bit is true, else by the second.
 fn leave_by_bit(
     setting: Setting,
     terms: &mut Terms,
@@ -254,7 +254,7 @@ struct Switch<'a> {
     edges: &'a [Edge],
 }
 
-/// The cases of a switch one after another, and its default behind them.
+/// The cases of a switch one after another, and its default after them.
 fn leave_by_cases(
     setting: Setting,
     terms: &mut Terms,

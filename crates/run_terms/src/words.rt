@@ -8,7 +8,7 @@ use bv_terms::{TermId, Terms};
 use mem_terms::{equals, number, pick};
 use support::NoMemory;
 
-/// The words at the places up to one.
+/// The words at the indices up to one.
 pub fn words_up_to(tape: &[TermId], most: usize) -> &[TermId]
     ensures { result.now ≡ take (most + 1) tape.now }
 {
@@ -19,7 +19,7 @@ pub fn words_up_to(tape: &[TermId], most: usize) -> &[TermId]
     }
 }
 
-/// The word at a place that is itself a term, and 0 past the end of the words.
+/// The word at an index that is itself a term, and 0 past the end of the words.
 pub fn word_at(terms: &mut Terms, words: &[TermId], place: TermId) -> Result<TermId, NoMemory>
     requires words { AreWords terms.old words.now }
     requires place { IsTerm terms.old 64 place }

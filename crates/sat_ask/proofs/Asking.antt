@@ -43,7 +43,7 @@ clauses-append v (x ∷ xs) ys = ap (λ b. clause_true v x && b) (clauses-append
 clauses-last : (v : ℕ → Bool) (body : List (List Lit)) (l : Lit) → clauses_true v (body ++ (l ∷ []) ∷ []) ≡ (clauses_true v body && lit_true v l)
 clauses-last v body l = clauses-append v body ((l ∷ []) ∷ []) ∙ ap (λ b. clauses_true v body && b) (one_literal (lit_true v l))
 
--- the first places are the values of the gates that have these variables
+-- the first values of a model are those of the gates that have these variables
 front-from : (number : List ℕ) (places : List Bool) (k : ℕ) (order : List GateId) → ((j : ℕ) (a : GateId) → slice_get order j ≡ Some a → get_or number a.index 0 ≡ (k + j) + 1)
     → k + length order ≤ length places → take (length order) (drop k places) ≡ map (λ a. meaning.values_of places (get_or number a.index 0)) order
 front-from number places k [] h fits = refl
@@ -102,7 +102,7 @@ module _ (test : List Bool → Bool) (count : ℕ) (cnf : Cnf) (q : Asks test co
             sym (at others i lower) ∙ (ap (λ c. get_or c i false) is ∙ (less.before i lt ∙ at places i lower));
       }
 
-  -- the front of a least model is the least that passes
+  -- the prefix of a least model is the least that passes
   pub least-front : (places digits : List Bool) → cnf.front ≤ cnf.variables → IsLeast cnf.variables cnf.front cnf.clauses places → digits ≡ take count places → IsLeastOf test count digits
   least-front places digits within h is = rw is (
       let m = model-split places h.model in

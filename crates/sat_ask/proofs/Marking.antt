@@ -18,14 +18,14 @@ use Rattle.bit_blast.proofs.Standing.{operands-within}
 use Rattle.sat_ask.specs.Cones.{IsCone, IsMarked, marked}
 use Rattle.sat_ask.specs.Questions.{Mentions}
 
--- the tree of a term by its place
+-- the tree of a term by its index
 pub tree_placed : (terms : List Term) (i : ℕ) (t : Term) → AreFit [] terms → slice_get terms i ≡ Some t → tree_in terms (record { index = i }) ≡ tree_of (trees_of terms) t
 unfolding trees_of
 tree_placed terms i t fit at =
     let zero_more : i ≡ 0 + i = omega arith in
     ap (λ k. get_or (trees_of terms) k (tree.Constant 0 1)) zero_more ∙ tree-stored [] terms i t fit at
 
--- a term names what stands among the earlier ones
+-- a term names what is among the earlier ones
 pub within-at : (earlier : List Tree) (terms : List Term) (i : ℕ) (d : Term) → AreFit earlier terms → i < length terms → IsWithin (length earlier + i) (get_or terms i d)
 within-at earlier [] i d fit lt = absurd (omega arith)
 within-at earlier (t ∷ ts) zero d fit lt = subst (λ n. IsWithin n t) (let e : length earlier ≡ length earlier + 0 = omega arith in e) fit.0.within
@@ -33,7 +33,7 @@ within-at earlier (t ∷ ts) (suc i) d fit lt =
     let e : length (earlier ++ tree_of earlier t ∷ []) + i ≡ length earlier + suc i = omega (arith, length-append earlier (tree_of earlier t ∷ [])) in
     subst (λ n. IsWithin n (get_or ts i d)) e (within-at (earlier ++ tree_of earlier t ∷ []) ts i d fit.1 (omega arith))
 
--- what a term names has no variable that the term hasn't
+-- what a term names has no variable that the term does not have
 AreWithin : Variable → List Tree → Tree → List TermId → Type 0
 AreWithin x trees whole gs = All (λ a. Mentions x (tree_at trees a) → Mentions x whole) gs
 
@@ -113,7 +113,7 @@ marked-from P used (a ∷ gs) was own j h =
     ])
     (λ i d lt. own (suc i) d (omega arith)) j h
 
--- a place past those of the list is marked only if it was
+-- an index past those of the list is marked only if it was
 marked-past : (used : List Bool) (gs : List TermId) (n : ℕ) → All (λ a. a.index < n) gs → (j : ℕ) → n ≤ j → IsMarked (marked used gs) j → IsMarked used j
 marked-past used gs n below j le h =
     marked-from (λ k. n ≤ k → IsMarked used k) used gs (λ k m le'. m) (λ i d lt le'. absurd (omega (arith, below i d lt))) j h le

@@ -1,4 +1,4 @@
--- The variables of an order, their digits, and what values of these assign.
+-- The variables of an order, their bits, and what values of these assign.
 use Rattle.std.proofs.Common.{ℕ, zero, suc, ◌≡◌, ◌<◌, ◌+◌, ◌%◌, ◌^◌, ◌++◌, inl, inr, Bool, true, cond, All, List, [], ◌∷◌, Some, get_or, slice_get, take, drop, map, length, arith, sym, ap, subst, refl, ◌∙◌, length-append}
 use Rattle.std.proofs.lemmas.Bool.{cases_Bool, eq-eqb}
 use Rattle.std.proofs.lemmas.List.{length-map, map-append, map_push, take_more}
@@ -31,7 +31,7 @@ keys_in table = map (λ e. e.0) table
 same_found : (x : Variable) → is_variable x x ≡ true
 same_found x = rw (eq-eqb x.number x.number refl, eq-eqb x.width x.width refl) refl
 
--- a variable with digits stands among the keys
+-- a variable with bits is among the keys
 found-key : (table : List (Variable × List GateId)) (x : Variable) (digits : List GateId) → digits_of table x ≡ Some digits → (k : ℕ) × (slice_get (keys_in table) k ≡ Some x)
 found-key [] x digits h = absurd (let z : ⊥ = cc in z)
 found-key (e ∷ es) x digits h = elim (cases_Bool (is_variable x e.0)) [
@@ -39,7 +39,7 @@ found-key (e ∷ es) x digits h = elim (cases_Bool (is_variable x e.0)) [
   | inr f ↦ let rest = found-key es x digits (rw f at h) in (suc rest.0, rest.1)
 ]
 
--- and a key has digits
+-- and a key has bits
 key-found : (table : List (Variable × List GateId)) (x : Variable) (k : ℕ) → slice_get (keys_in table) k ≡ Some x → (digits : List GateId) × (digits_of table x ≡ Some digits)
 key-found [] x k h = absurd (let z : ⊥ = cc in z)
 key-found (e ∷ es) x zero h =
@@ -64,7 +64,7 @@ get-take (y ∷ ys) (suc n) (suc k) x h = let rest = get-take ys n k x h in (ome
 all-at : (P : TermId → Type 0) (xs : List TermId) (k : ℕ) (x : TermId) → All P xs → slice_get xs k ≡ Some x → P x
 all-at P xs k x all h = subst P (get_or_from_slice_get xs k x x h) (all k x (slice_get_within xs k x h))
 
--- a variable of the order stands among the terms
+-- a variable of the order is among the terms
 pub variable-place : (terms : List Term) (order : List TermId) (stored : List Term) (i : ℕ) (d : TermId) → stored ≡ terms → All (IsVariable terms) order → i < length order → (get_or order i d).index < length stored
 variable-place terms order stored i d e vars lt = rw e (let var = vars i d lt in slice_get_within terms (get_or order i d).index (term.Variable var.0 var.1) var.2)
 
@@ -101,13 +101,13 @@ pub add-more : (terms : List Term) (order : List TermId) → AreDistinct terms �
     → keys_in old ≡ variables_of terms (take i order) → Adds old new (record { number = number; width = width }) → keys_in new ≡ variables_of terms (take (i + 1) order)
 add-more = one_more
 
--- the digits are as many as the widths say
+-- the number of bits is what the widths say
 pub count-digits : (gates : List Gate) (table : List (Variable × List GateId)) → All (λ e. AreDigits gates e.0.width e.1) table → length (all_digits table) ≡ digit_count (keys_in table)
 count-digits gates [] h = refl
 count-digits gates (e ∷ es) h =
     omega (arith, length-append e.1 (all_digits es), (h 0 e (omega arith)).long, count-digits gates es (λ i d lt. h (suc i) d (omega arith)))
 
--- values of the inputs agree with what their digits assign
+-- values of the inputs agree with what their bits assign
 pub assigned-agrees : (gates : List Gate) (table : List (Variable × List GateId)) (inputs : ℕ → Bool) → All (λ e. AreDigits gates e.0.width e.1) table
     → Agrees table inputs (assigned_by (keys_in table) (map (λ (a : GateId). inputs a.index) (all_digits table)))
 assigned-agrees gates [] inputs h x digits found = absurd (let z : ⊥ = cc in z)
@@ -134,14 +134,14 @@ assigned-agrees gates (e ∷ es) inputs h x digits found =
           rest ∙ ap (λ n. n % 2 ^ x.width) (sym value)
     ]
 
--- the variables of the goal have digits where those of the order do
+-- the variables of the goal have bits where those of the order do
 pub all-known : (terms : List Term) (goal : TermId) (order : List TermId) (table : List (Variable × List GateId)) → HasAll terms goal order → keys_in table ≡ variables_of terms order → AreKnown table terms goal
 all-known terms goal order table all keys x m =
     let c = all x m in
     let at : slice_get (variables_of terms order) c.0 ≡ Some x = slice_get-get_or (variables_of terms order) c.0 x c.1 ∙ ap Some c.2 in
     key-found table x c.0 (ap (λ ks. slice_get ks c.0) keys ∙ at)
 
--- the gate of the goal is the test of the digits
+-- the gate of the goal is the test of the bits
 pub goal-tested : (gates : List Gate) (table : List (Variable × List GateId)) (terms : List Term) (goal : TermId) (order : List TermId) (out : GateId) → IsTable gates table → AreAllNamed gates (all_digits table)
     → keys_in table ≡ variables_of terms order → IsGoal gates table terms goal out → IsTestOf gates out (all_digits table) (goal_test terms goal order)
 goal-tested gates table terms goal order out is all keys g = record {
@@ -151,7 +151,7 @@ goal-tested gates table terms goal order out is all keys g = record {
       ∙ ap (λ ks. bit_at (assigned_by ks (map (λ (a : GateId). inputs a.index) (all_digits table))) terms goal) keys;
 }
 
--- the clauses of the circuit ask which digits make the goal true
+-- the clauses of the circuit ask which bits make the goal true
 pub goal-asked : (gates : List Gate) (table : List (Variable × List GateId)) (terms : List Term) (goal : TermId) (order : List TermId) (out : GateId) (front : List GateId) (cnf : Cnf) → IsTable gates table → front ≡ all_digits table
     → AreAllNamed gates front → keys_in table ≡ variables_of terms order → IsGoal gates table terms goal out → Encodes gates out front cnf → HasOneModelAFront gates front cnf
     → Asks (goal_test terms goal order) (digit_count (variables_of terms order)) cnf

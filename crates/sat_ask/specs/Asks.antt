@@ -1,4 +1,4 @@
--- Clauses that ask which digits pass a test, and what answers them.
+-- Clauses that ask which bits pass a test, and what answers them.
 use Rattle.std.specs.Prelude.{ℕ, ◌+◌, ◌^◌, ◌<◌, ◌≡◌, Bool, true, List, [], ◌∷◌, ◌++◌, length, take, Option, Some}
 use Rattle.clause_lits.specs.declared.lit.Lit.{Lit}
 use Rattle.clause_lits.specs.declared.cnf.Cnf.{Cnf}
@@ -12,7 +12,8 @@ use Rattle.log_tidy.specs.Used.{AreUsed}
 use Rattle.sat_ask.specs.declared.asked.Asked.{Asked}
 use Rattle.sat_ask.specs.declared.asked.Asked.TheVariants as asked
 
--- the last clause is one literal; of the others each list of so many digits is the front of exactly one model, and in each model the literal is true exactly where the front passes the test
+-- the last clause is one literal; each list of `count` bits is the values of the ordered variables in exactly one model
+-- of the others, and in each of their models the literal is true exactly where these values pass the test
 pub record Asks (test : List Bool → Bool) (count : ℕ) (cnf : Cnf) : Type 0 where
   pub body : List (List Lit)
   pub literal : Lit
@@ -23,17 +24,17 @@ pub record Asks (test : List Bool → Bool) (count : ℕ) (cnf : Cnf) : Type 0 w
       × ((others : List Bool) → IsModel cnf.variables body others → take count others ≡ digits → others ≡ places)
   pub right : (places : List Bool) → IsModel cnf.variables body places → lit_true (values_of places) literal ≡ test (take count places)
 
--- digits that pass, and no lesser ones do; the first digits count most
+-- bits that pass, the lexicographically least
 pub record IsLeastOf (test : List Bool → Bool) (count : ℕ) (digits : List Bool) : Type 0 where
   pub long : length digits ≡ count
   pub passes : test digits ≡ true
   pub least : (others : List Bool) → length others ≡ count → test others ≡ true → IsLess count others digits → ⊥
 
--- no digits pass
+-- no bits pass
 abbrev pub NonePass : (List Bool → Bool) → ℕ → Type 0
 NonePass test count = (digits : List Bool) → length digits ≡ count → test digits ≡ true → ⊥
 
--- what is found: the least digits that pass; that none do, with a refutation of clauses that ask which do; or as many learned clauses as the limit, of such clauses
+-- what is found: the least bits that pass; that none do, with a refutation of clauses that ask which do; or as many learned clauses as the limit, of such clauses
 abbrev pub IsFound : (List Bool → Bool) → ℕ → Option ℕ → Asked → Type 0
 IsFound test count limit (asked.Least digits) = IsLeastOf test count digits.items
 IsFound test count limit (asked.None cert) = NonePass test count × Asks test count cert.cnf × Refutes cert.cnf.clauses cert.log × IsCareful cert.cnf.clauses cert.log

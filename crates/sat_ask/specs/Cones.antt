@@ -19,14 +19,14 @@ marked used (a ∷ gs) = marked (slice_set used a.index true) gs
 abbrev pub IsMarked : List Bool → ℕ → Type 0
 IsMarked used i = slice_index_or used i false ≡ true
 
--- the goal is marked, what a marked term names is marked, from a place on, and a marked term has no variable that the goal hasn't
+-- the goal is marked, and from index `from` on what a marked term names; a marked term has only variables of the goal
 pub record IsCone (terms : List Term) (goal : TermId) (from : ℕ) (used : List Bool) : Type 0 where
   pub long : length used ≡ length terms
   pub root : IsMarked used goal.index
   pub closed : (i : ℕ) (t : Term) → from ≤ i → slice_get terms i ≡ Some t → IsMarked used i → All (λ a. IsMarked used a.index) (operands t)
   pub sound : (i : ℕ) → IsMarked used i → (x : Variable) → Mentions x (tree_in terms (record { index = i })) → Mentions x (tree_in terms goal)
 
--- each variable of the goal has digits
+-- each variable of the goal has bits
 abbrev pub AreKnown : List (Variable × List GateId) → List Term → TermId → Type 0
 AreKnown table terms goal = (x : Variable) → Mentions x (tree_in terms goal) → (digits : List GateId) × (digits_of table x ≡ Some digits)
 

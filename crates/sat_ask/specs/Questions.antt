@@ -1,4 +1,4 @@
--- What is asked of a term: which digits of its variables make it true.
+-- What is asked of a term: which bits of its variables make it true.
 use Rattle.std.specs.Prelude.{ℕ, ◌≡◌, ◌≢◌, ◌<◌, ◌+◌, ◌⊎◌, Bool, cond, Contains, List, [], ◌∷◌, map, take, drop, slice_get, slice_index_or, Some}
 use Rattle.bv_terms.specs.declared.term.TermId.{TermId}
 use Rattle.bv_terms.specs.declared.term.Term.{Term}
@@ -19,7 +19,7 @@ variable_of t = record { number = 0; width = 0 }
 abbrev pub IsVariable : List Term → TermId → Type 0
 IsVariable terms a = (number : ℕ) × (width : ℕ) × (slice_get terms a.index ≡ Some (term.Variable number width))
 
--- terms of which no two are one
+-- terms of which no two are the same
 abbrev pub AreDifferent : List TermId → Type 0
 AreDifferent order = (i j : ℕ) (a b : TermId) → i < j → slice_get order i ≡ Some a → slice_get order j ≡ Some b → a ≢ b
 
@@ -43,17 +43,17 @@ Mentions x (tree.Sext a from width) = Mentions x a
 abbrev pub HasAll : List Term → TermId → List TermId → Type 0
 HasAll terms goal order = (x : Variable) → Mentions x (tree_in terms goal) → Contains (variables_of terms order) x
 
--- how many digits the variables have
+-- how many bits the variables have
 abbrev pub digit_count : List Variable → ℕ
 digit_count [] = 0
 digit_count (x ∷ xs) = x.width + digit_count xs
 
--- the variables have the numbers that the digits write, one after the other, the highest digit of each first
+-- the variables have the numbers that the bits write, one after the other, most significant bit of each first
 abbrev pub assigned_by : List Variable → List Bool → ℕ → ℕ → ℕ
 assigned_by [] digits number width = 0
 assigned_by (x ∷ xs) digits number width =
     cond (is_variable (record { number = number; width = width }) x) (number_of (take x.width digits)) (assigned_by xs (drop x.width digits) number width)
 
--- whether digits make the goal true
+-- whether bits make the goal true
 abbrev pub goal_test : List Term → TermId → List TermId → List Bool → Bool
 goal_test terms goal order digits = bit_at (assigned_by (variables_of terms order) digits) terms goal

@@ -2,10 +2,10 @@
 
 use clause_log::Cert;
 
-/// The answer to which digits of its variables make a term true.
+/// The answer to which bits of its variables make a term true.
 #[derive(Drop)]
 pub enum Asked {
-    /// The least digits that do, those of each variable with the highest first, in the order of the
+    /// The least bits that do, those of each variable most significant first, in the order of the
     /// question.
     Least(Vec<bool>),
     /// None do: clauses that ask which do, and a log that refutes them.

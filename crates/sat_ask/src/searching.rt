@@ -11,9 +11,9 @@ use sat_restarts::{Searched, least};
 use std::alloc::Global;
 use support::NoMemory;
 
-/// The answer to which models the clauses have, whose front is words of these widths, each with its
-/// most significant bit first. Searches in turn, under other numbers and signs for the variables,
-/// find whether there is a model; only where there is one are the clauses searched for the least.
+/// The answer to which models the clauses have, whose ordered variables are words of these widths,
+/// each most significant bit first. Searches in turn, under other numbers and signs for the
+/// variables, find whether there is a model; only if so are the clauses searched for the least.
 /// A refutation has the steps that its end needs, and no others.
 /// The limit is for all of them together: each search has what the log so far leaves of it, and an
 /// answer that is spent has the steps of them all.

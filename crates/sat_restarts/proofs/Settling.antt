@@ -185,6 +185,6 @@ settled-none question cnf values log learned same is model = record {
       (standing-true (values_of others) question.clauses log learned.careful.sound m.1);
 }
 
--- and all of the front in the end
+-- and all of the prefix in the end
 pub settled-all : (question cnf : Cnf) (values : List Bool) → IsSettled question question.front cnf values → IsLeast question.variables question.front question.clauses values
 settled-all question cnf values settled = record { model = settled.model; least = settled.least }

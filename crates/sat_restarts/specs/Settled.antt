@@ -8,7 +8,7 @@ use Rattle.clause_search.specs.Outcome.{IsLess}
 abbrev pub Agree : ℕ → List Bool → List Bool → Type 0
 Agree n a b = (i : ℕ) → i < n → slice_index_or a i false ≡ slice_index_or b i false
 
--- a model that no other undercuts in the first n bits, and clauses whose models are those that
+-- a model than which no other is less in the first n bits, and clauses whose models are those that
 -- agree with it in these
 pub record IsSettled (question : Cnf) (n : ℕ) (cnf : Cnf) (values : List Bool) : Type 0 where
   pub variables : cnf.variables ≡ question.variables

@@ -22,8 +22,8 @@ struct Settled {
     values: Assignment,
 }
 
-/// The least model on the front, from a model and learned clauses. With the bits before settled, a
-/// bit is 0 where a model has it so: the last model found, or one that a search finds.
+/// The least model on the ordered variables, from a model and learned clauses. With the bits before
+/// settled, a bit is 0 where a model has it so: the last model found, or one that a search finds.
 pub fn least_by_bits(
     alloc: Global,
     cnf: &Cnf,
@@ -45,7 +45,7 @@ pub fn least_by_bits(
     Ok(settled.values)
 }
 
-/// Settles one more bit of the front: it is 0 where a model that agrees in the bits before has it
+/// Settles one more ordered variable: it is 0 where a model that agrees in the bits before has it
 /// so.
 fn settle(
     alloc: Global,

@@ -18,7 +18,7 @@ const MOST_IN_ORDER: u64 = 2000;
 
 /// The least model of clauses that have this model; or, under a limit, a log of as many steps as it
 /// allows, those that were learned before among them. The clauses are searched in order; where
-/// there is no limit and that is long, the bits of the front are settled one by one.
+/// there is no limit and that is long, the ordered variables are settled one by one.
 pub fn least(
     alloc: Global,
     cnf: &Cnf,

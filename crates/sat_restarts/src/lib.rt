@@ -3,10 +3,10 @@
 //! A solver decides the variables in a fixed order, and clauses that are hard in one order are
 //! often easy in another. So [`search`] has a solver search under a limit, takes over the clauses
 //! that it learned, and searches anew with other numbers and signs for the variables: restarts, an
-//! order by activity and saved phases, as in Chaff and MiniSat, are had between whole searches. It
+//! order by activity and saved phases, as in Chaff and MiniSat, come between whole searches. It
 //! promises a model, a refutation or as many learned clauses as the limit, all in terms of the
-//! question's own clauses; [`least`] makes of a model the least one on the front. No contract says
-//! which order a search has. It stands on `watch_solver` and `cnf_renumber`; questions stand on
+//! question's own clauses; [`least`] makes of a model the least one on the ordered variables. No
+//! contract says which order a search has. It uses `watch_solver` and `cnf_renumber`; questions use
 //! it.
 #![tactic(auto)]
 

@@ -22,7 +22,7 @@ pub enum Ended {
 }
 
 /// Searches the clauses and those of the log under other numbers, and adds what it learns to the
-/// log. A run that finds a model adds nothing, since the solver answers the model alone.
+/// log. A run that finds a model adds nothing, since the solver answers only the model.
 pub fn run(
     alloc: Global,
     cnf: &Cnf,

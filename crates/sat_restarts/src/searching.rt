@@ -24,7 +24,7 @@ pub enum Searched {
 }
 
 /// A model of the clauses, a log that refutes them, or a log of as many steps as the limit, at
-/// least 1, allows. The front of the clauses are words of these widths, each with its most
+/// least 1, allows. The ordered variables are words of these widths, each with its most
 /// significant bit first, for the searches that take the least significant bits first.
 pub fn search(
     alloc: Global,

@@ -32,7 +32,7 @@ trail_more pair bounds before (t ∷ ts) (q ∷ qs) p tape count trail least cov
 trail_more pair bounds before [] (q ∷ qs) p tape count trail least cover = absurd (omega (arith, count))
 trail_more pair bounds before (t ∷ ts) [] p tape count trail least cover = absurd (omega (arith, count))
 
--- or by one point alone
+-- or by only one point
 trail_open : (pair : Functions) (bounds : Bounds) (before tapes : List (List ℕ)) (points : List Point) (p : Point) → length points ≡ length tapes → TrailFrom pair bounds before tapes points → IsLeastUncovered pair bounds (before ++ tapes) p → TrailFrom pair bounds before tapes (points ++ p ∷ [])
 trail_open pair bounds before [] [] p count trail least = rw append-nil at least
 trail_open pair bounds before (t ∷ ts) (q ∷ qs) p count trail least =

@@ -78,7 +78,7 @@ bytes_zero : (blocks n : ℕ) → Zeros (flat_map (byte_code blocks) (replicate 
 bytes_zero blocks zero = tt
 bytes_zero blocks (suc n) = (refl, (refl, (refl, (refl, (refl, bytes_zero blocks n)))))
 
--- the sizes are zeros, and so are the places
+-- the sizes are zeros, and so are the contents
 record AreZeros (blocks : ℕ) (bs : List MemoryBlock) : Type 0 where
   sizes : Zeros (map (λ (b : MemoryBlock). b.size) bs)
   places : Zeros (flat_map (places_code blocks) bs)
@@ -135,7 +135,7 @@ cell_fits pair bounds p cell = record { args = cell.args; given = rw cell.blocks
 pub same_place : (pair : Functions) (bounds : Bounds) (p q : Point) → AreSmall bounds → IsFit pair bounds p → IsFit pair bounds q → place_in pair bounds p ≡ place_in pair bounds q → p ≡ q
 same_place pair bounds p q small fits fits' e = same_point bounds.blocks bounds.bytes (need_of bounds.turns pair.target) (widest_choice pair.target) pair.target.parameters p q (few bounds small) (short bounds small) (widest_small pair.target) fits fits' e
 
--- no place of a point is as great
+-- no position of a point is as great
 abbrev pub places_in : Functions → Bounds → ℕ
 places_in pair bounds = (2 ^ 64) ^ code_length bounds.blocks bounds.bytes (need_of bounds.turns pair.target) pair.target.parameters
 

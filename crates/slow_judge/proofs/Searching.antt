@@ -33,7 +33,7 @@ covered_unless pair bounds tapes q plain h =
       | inr fails ↦ absurd (let f = h (record { plain = plain; uncovered = fails }) in cc)
     ]
 
--- a point at the same place is the same
+-- a point at the same position is the same
 same_covered : (pair : Functions) (bounds : Bounds) (tapes : List (List ℕ)) (p q : Point) → AreSmall bounds → IsFit pair bounds p → IsFit pair bounds q → IsPlain q.tape (run_of pair.target bounds q.input q.tape) → (IsUncovered pair bounds tapes p → IsTrue false) → place_in pair bounds q ≡ place_in pair bounds p → is_covered pair bounds tapes q ≡ true
 same_covered pair bounds tapes p q small fits fits' plain h e =
     let same : p ≡ q = same_place pair bounds p q small fits fits' (sym e) in

@@ -41,16 +41,16 @@ DoesEnd pair bounds p ending memory = (run_of pair.target bounds p.input p.tape)
 
 -- ---- given blocks
 
--- a given block of size 0, with room for so many bytes
+-- a given block of size 0, with room for this number of bytes
 abbrev pub empty_block : ℕ → ℕ → MemoryBlock
 empty_block bytes number = record { name = Given number; size = 0; align = 16; places = replicate bytes (byte.Num 0) }
 
--- so many of them, numbered from 1
+-- this number of them, numbered from 1
 unfoldable pub empty_blocks : ℕ → ℕ → List MemoryBlock
 empty_blocks bytes zero = []
 empty_blocks bytes (suc n) = empty_blocks bytes n ++ empty_block bytes (n + 1) ∷ []
 
--- ---- the points in order, but for their tape's being plain
+-- ---- the points in order, whether or not their tape is plain
 
 -- the shape of the pair's points
 pub record IsShapeOf (pair : Functions) (bounds : Bounds) (s : Shape) : Type 0 where
@@ -119,7 +119,7 @@ pub record HasTrail (pair : Functions) (bounds : Bounds) (budget : Budget) (v : 
   pub within : length kept.tapes ≤ budget.rounds
   pub ends : Ends pair bounds budget kept.tapes (open_point kept) v
 
--- ---- a tape moved
+-- ---- a shifted tape
 
 abbrev pub shift_of : Shift → List ℕ → ℕ → ℕ
 shift_of (Behind by) tape i = word_behind tape by i

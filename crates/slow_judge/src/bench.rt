@@ -1,7 +1,7 @@
 use choice_interp::Runner;
 use support::Sequence;
 
-/// What is used again from point to point: a runner of each function, and room for one tape of the
+/// What is reused from point to point: a runner of each function, and room for one tape of the
 /// source.
 #[derive(Drop)]
 pub struct Bench {

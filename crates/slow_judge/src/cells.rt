@@ -89,7 +89,7 @@ pub fn first(alloc: Global, pair: &Pair, bounds: &Bounds, need: usize) -> Result
     })
 }
 
-/// Puts the next cell in the place of one. It answers false exactly at the last, which then stays.
+/// Replaces a cell by the next one. It answers false exactly at the last, which then stays.
 pub fn next_cell(pair: &Pair, bounds: &Bounds, width: Width, point: &mut Point) -> bool
     requires integers { AreIntegers pair.now.target.parameters }
     requires small { AreSmall bounds.now }

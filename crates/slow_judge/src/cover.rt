@@ -80,7 +80,7 @@ fn some_allows(
     Ok(false)
 }
 
-/// By how many places a tape is moved, and which way.
+/// By how many positions a tape is shifted, and which way.
 #[derive(Clone, Copy, Debug, PartialEq, Eq)]
 pub enum Shift {
     Behind(usize),
@@ -112,7 +112,7 @@ fn word_at(tape: &[u64], shift: Shift, i: usize) -> u64
     }
 }
 
-/// Writes the tape, moved, into a list of words.
+/// Writes the shifted tape into a list of words.
 fn shift_into(words: &mut Sequence<u64>, tape: &[u64], shift: Shift)
     ensures value { words.new ≡ words_of (length words.old) (shift_of shift tape.now) }
     ensures count { length words.new ≡ length words.old }
@@ -122,7 +122,7 @@ fn shift_into(words: &mut Sequence<u64>, tape: &[u64], shift: Shift)
     }
 }
 
-/// Whether the target's tape, moved so, covers the point, on which the target's run ended so.
+/// Whether the target's tape, shifted so, covers the point, on which the target's run ended so.
 fn shift_allows(
     pair: &Pair,
     bounds: &Bounds,
@@ -151,7 +151,7 @@ fn shift_allows(
     Ok(holds)
 }
 
-/// Whether the target's tape, as it is or moved by one or two places, covers the point.
+/// Whether the target's tape, as it is or shifted by one or two positions, covers the point.
 fn some_shift_allows(
     pair: &Pair,
     bounds: &Bounds,

@@ -70,7 +70,7 @@ fn grow(
 }
 
 /// The verdict on a pair. Its time grows with two to the power of the pair's bits, and with all given
-/// blocks of the bounds where pointers stand in one of the functions.
+/// blocks of the bounds where one of the functions has pointers.
 pub fn slow(
     alloc: Global,
     pair: &Pair,

@@ -1,8 +1,8 @@
 //! The verdict on a pair of functions by plain counting.
 //!
-//! It promises that its answer is the defined verdict. It stands on `choice_interp`, and goes through
-//! points and tapes one after another, so its time grows with two to the power of their bits. Tests
-//! hold the judge by questions against it.
+//! It promises that its answer is the defined verdict. It builds on `choice_interp`, and goes
+//! through points and tapes one after another, so its time grows with two to the power of their
+//! bits. Tests hold the judge by questions against it.
 #![tactic(auto)]
 
 mod bench;

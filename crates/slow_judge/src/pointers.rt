@@ -1,4 +1,4 @@
-// Whether no pointer stands in a function and it uses no memory.
+// Whether a function has no pointers and uses no memory.
 ghost use Rattle.std.specs.Prelude.{◌↔◌, IsTrue, All};
 ghost use Rattle.ir_tree.specs.declared.tree.Parameter.{Parameter as Declared};
 ghost use Rattle.ir_tree.specs.Pointers.{IsInteger, AreIntegers, IsIntegerOrVoid, IsOnIntegers, IsPhiOfIntegers, ReturnsInteger, EndsOnIntegers, IsBlockOnIntegers, HasNoPointers};
@@ -113,7 +113,7 @@ fn has_no_pointers(f: &Function) -> bool
             .all(|block| is_block_on_integers(block))
 }
 
-/// Whether no pointer stands in either function of the pair, and neither uses memory.
+/// Whether neither function of the pair has pointers or uses memory.
 pub fn have_no_pointers(pair: &Pair) -> bool
     ensures { IsTrue result ↔ HaveNoPointers pair.now }
 {

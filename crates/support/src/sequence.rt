@@ -59,7 +59,7 @@ impl<T> Sequence<T> {
         self.items.is_empty()
     }
 
-    /// The item at a place, counted from 0.
+    /// The item at an index, counted from 0.
     pub fn get(&self, i: usize) -> &T
         requires { i < length self.now }
         ensures { slice_get self.now i ≡ Some result.now }
@@ -67,7 +67,7 @@ impl<T> Sequence<T> {
         &self.items[i]
     }
 
-    /// Puts an item in the place of another.
+    /// Replaces an item by another.
     pub fn set(&mut self, i: usize, item: T)
     where
         T: Drop,
@@ -77,7 +77,7 @@ impl<T> Sequence<T> {
         self.items[i] = item;
     }
 
-    /// The item at a place, counted from 0, for writing.
+    /// The item at an index, counted from 0, for writing.
     pub fn get_mut(&mut self, i: usize) -> &mut T
         requires { i < length self.old }
         ensures* writes_back { sem 𝓛 (Lends (the_row T.row) T.row self.entry result (slice_set self.old i)) }
@@ -86,7 +86,7 @@ impl<T> Sequence<T> {
         &mut self.items[i]
     }
 
-    /// Takes all items out, and keeps the room.
+    /// Takes all items out, and keeps the capacity.
     pub fn clear(&mut self)
     where
         T: Drop,

@@ -4,7 +4,7 @@ use Rattle.std.proofs.lemmas.Nat.{pow_pos, mul-le}
 use Rattle.std.proofs.Math.Nat.{mod-add-mod}
 use Rattle.std.proofs.Math.Pow.{mod-mod-pow}
 
--- a number cut to 128 digits and then to fewer is cut to the fewer
+-- a number cut to 128 bits and then to fewer is cut to the fewer
 pub cut-cut : (n w : ℕ) → w ≤ 128 → n % 2 ^ 128 % 2 ^ w ≡ n % 2 ^ w
 cut-cut n w h =
     let e : (128 - w) + w ≡ 128 = omega arith in

@@ -1,4 +1,4 @@
--- The term over the answers for what a term names stands for the tree.
+-- The term over the answers for what a term names denotes the tree.
 use Rattle.std.proofs.Common.{ℕ, ◌≡◌, ◌<◌, ◌+◌, ◌-◌, ◌*◌, ◌/◌, ◌%◌, ◌^◌, Bool, true, false, cond, List, length, Option, Some, None, arith, sym, subst, ap, refl, ◌∙◌}
 use Rattle.std.proofs.Math.Nat.{mod-eq_of_lt}
 use Rattle.std.specs.Option.{option_map_or}
@@ -100,7 +100,7 @@ module _ (s : Substituting) (trees : List Tree) (done : List TermId) (stood : Al
   over-value v (term.Zext a width) none fit = (at a fit.within.1).says v
   over-value v (term.Sext a from width) none fit = ap (λ x. extended_signed from width x) ((at a fit.within.1).says v)
 
-  -- what is stored stands for the tree
+  -- what is stored denotes the tree
   pub stored_stands : (new : Substituting) (t : Term) (id : TermId) → replacement_in s.replacements t ≡ None → IsFit trees t → Follows s new
       → Makes new.terms id (term_width (term_over done t)) (λ v. value_of v (tree_of (trees_of s.terms) (term_over done t))) → IsSubstituted new (tree_of trees t) id
   stored_stands new t id none fit f m = record {
@@ -109,7 +109,7 @@ module _ (s : Substituting) (trees : List Tree) (done : List TermId) (stood : Al
     says = λ v. m.says v ∙ (over-value v t none fit ∙ ap (λ w. value_of w (tree_of trees t)) (same_assignment s new v (λ number width. sym (f.assigns v number width))));
   }
 
-  -- what replaces a variable stands for it
+  -- what replaces a variable denotes it
   pub replacement_stands : (t : Term) (by : TermId) → replacement_in s.replacements t ≡ Some by → AreReplacements s.terms s.replacements → AreInRange s.terms → IsSubstituted s (tree_of trees t) by
   replacement_stands (term.Variable number width) by found h range =
       let is = h (record { number = number; width = width }) by found in

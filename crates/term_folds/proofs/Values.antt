@@ -1,4 +1,4 @@
--- What is computed from values that stand stands.
+-- What is computed from right values is right.
 use Rattle.std.proofs.Common.{ℕ, ◌≡◌, ◌^◌, ◌<◌, List, get_or, length, arith, sym, subst, ◌∙◌, refl}
 use Rattle.std.specs.List.{AllZip}
 use Rattle.bv_terms.specs.declared.term.TermId.{TermId}

@@ -1,4 +1,4 @@
--- What is made of weights that stand stands.
+-- What is made of right weights is right.
 use Rattle.std.proofs.Common.{ℕ, ◌≡◌, ◌+◌, ◌-◌, ◌^◌, ◌<◌, List, length, arith, ap, ◌∙◌}
 use Rattle.std.specs.Prelude.{min}
 use Rattle.std.specs.List.{AllZip}

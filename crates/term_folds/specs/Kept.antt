@@ -1,4 +1,4 @@
--- An answer of an evaluation stands while the assignment stays.
+-- An answer of an evaluation stays valid while the assignment stays.
 use Rattle.std.specs.Prelude.{ℕ, ◌≡◌, List}
 use Rattle.std.proofs.Common.{subst, sym}
 use Rattle.bv_terms.specs.Tree.{Tree}

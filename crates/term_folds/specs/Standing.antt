@@ -1,4 +1,4 @@
--- What stands for a tree stands for it in more terms.
+-- A term that denotes a tree denotes it among more terms.
 use Rattle.std.proofs.Common.{ℕ, ◌≡◌, List, arith, ap, sym, refl, ◌∙◌}
 use Rattle.std.proofs.Math.Path.{fun_ext}
 use Rattle.bv_terms.specs.declared.term.TermId.{TermId}
@@ -25,7 +25,7 @@ follows_trans a b c p q = record {
   assigns = λ v number width. q.assigns v number width ∙ p.assigns v number width;
 }
 
--- the assignments are one
+-- the assignments are the same
 pub same_assignment : (a b : Substituting) (v : ℕ → ℕ → ℕ) → ((number width : ℕ) → substituted a v number width ≡ substituted b v number width) → substituted a v ≡ substituted b v
 same_assignment a b v h = fun_ext (λ number. fun_ext (λ width. h number width))
 

@@ -1,4 +1,4 @@
--- What it means that a term of another store stands for a tree whose variables are replaced.
+-- What it means that a term of another store denotes a tree whose variables are replaced.
 use Rattle.std.specs.Prelude.{ℕ, ◌≡◌, ◌<◌, cond, List, length, Option, Some}
 use Rattle.std.specs.Map.{lookup}
 use Rattle.std.specs.Option.{option_map_or}

@@ -18,7 +18,7 @@ weight_of (tree.Concat high low below width) = 1 + weight_of high + weight_of lo
 weight_of (tree.Zext a width) = 1 + weight_of a
 weight_of (tree.Sext a from width) = 1 + weight_of a
 
--- the number of nodes, held at the greatest number of 64 bits
+-- the number of nodes, capped at the greatest number of 64 bits
 abbrev pub held : ℕ → ℕ
 held n = min n (2 ^ 64 - 1)
 

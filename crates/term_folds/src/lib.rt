@@ -1,10 +1,10 @@
-//! Folds over terms: their values, their weights, their texts, and terms with others in the place of variables.
+//! Folds over terms: their values, their weights, their texts, and terms substituted for variables.
 //!
 //! Each is only its step at one term; `bv_terms` has the fold and its proof. They promise that
 //! [`Evaluate`] gives the value of each term, [`Substitute`] a term of another store with the value
-//! under the substituted assignment, and [`Weigh`] the number of nodes of the written-out tree, held
-//! at the greatest number of 64 bits. [`Print`] writes a term for a reader. The operations on known
-//! numbers are [`numbers`]' functions. It stands on `bv_terms`.
+//! under the substituted assignment, and [`Weigh`] the number of nodes of the written-out tree,
+//! capped at the greatest number of 64 bits. [`Print`] writes a term for a reader. The operations
+//! on known numbers are [`numbers`]' functions. It uses `bv_terms`.
 #![tactic(auto)]
 
 mod evaluate;

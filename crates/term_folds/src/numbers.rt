@@ -26,7 +26,7 @@ pub fn ones(width: u32) -> u128
     }
 }
 
-/// Each bit turned.
+/// Each bit inverted.
 pub fn inverse(a: u128, width: u32) -> u128
     requires width { IsWidth width }
     requires a { a < 2 ^ width }
@@ -75,7 +75,7 @@ pub fn left_over(a: u128, b: u128) -> u128
     if b == 0 { a } else { a % b }
 }
 
-/// The number moved up.
+/// The number shifted left.
 pub fn moved_up(a: u128, b: u128, width: u32) -> u128
     requires { IsWidth width }
     ensures { result ≡ shifted_left width a b }
@@ -87,7 +87,7 @@ pub fn moved_up(a: u128, b: u128, width: u32) -> u128
     }
 }
 
-/// The number moved down.
+/// The number shifted right.
 pub fn moved_down(a: u128, b: u128, width: u32) -> u128
     requires { IsWidth width }
     ensures { result ≡ shifted_right width a b }
@@ -103,7 +103,7 @@ pub fn has_sign(a: u128, width: u32) -> bool
     1 << (width - 1) <= a
 }
 
-/// The number moved down with copies of its sign.
+/// The number shifted right with copies of its sign.
 pub fn moved_down_signed(a: u128, b: u128, width: u32) -> u128
     requires width { IsWidth width }
     requires a { a < 2 ^ width }
@@ -168,7 +168,7 @@ pub fn choice(c: u128, a: u128, b: u128) -> u128
     if c == 0 { b } else { a }
 }
 
-/// The bits from a place on.
+/// `width` bits from bit `from` on.
 pub fn part(a: u128, from: u32, width: u32) -> u128
     requires width { IsWidth width }
     requires from { from < 128 }

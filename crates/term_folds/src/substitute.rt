@@ -1,4 +1,4 @@
-//! Terms with others in the place of variables.
+//! Terms with others substituted for variables.
 
 ghost use Rattle.std.specs.Prelude.{◌≡◌, ◌<◌, [], IfOk, List, OnErr, OnOk, length};
 ghost use Rattle.bv_terms.specs.Tree.{width_of};
@@ -32,7 +32,7 @@ impl Model for Substitute {
 }
 
 impl Substitute {
-    /// Writes into these terms, behind those that are there. No variable has a replacement. It takes
+    /// Writes into these terms, after those that are there. No variable has a replacement. It takes
     /// no memory.
     pub fn new(alloc: Global, terms: Terms) -> Self
         ensures terms { result.terms ≡ terms }
@@ -44,8 +44,8 @@ impl Substitute {
         }
     }
 
-    /// Gives a variable the term of the store that replaces it, which is as wide. After want of
-    /// memory all is as before.
+    /// Gives a variable the term of the store that replaces it, which is as wide. Out of memory,
+    /// all is as before.
     pub fn replace(&mut self, variable: Variable, by: TermId) -> Result<(), NoMemory>
         requires within { by.index < length self.old.terms }
         requires wide { width_of (tree_in self.old.terms by) ≡ variable.width }

@@ -7,7 +7,7 @@ ghost use Rattle.term_folds.specs.Weight.{IsWeight, weighed};
 use bv_terms::{Term, TermFold};
 use std::convert::Infallible;
 
-/// The number of nodes of each term written out as a tree, held at the greatest number of 64 bits.
+/// The number of nodes of each term as a written-out tree, capped at the greatest 64-bit number.
 #[derive(Drop)]
 pub struct Weigh;
 

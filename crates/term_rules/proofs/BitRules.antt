@@ -184,7 +184,7 @@ module _ (terms : List Term) (a b : TermId) (range : AreInRange terms) (la : a.i
     least = omega arith;
   }
 
--- ---- the lesser and the greater of two
+-- ---- the smaller and the greater of two
 
 module _ (terms : List Term) (a b : TermId) (la : a.index < length terms) (lb : b.index < length terms) (alike : width_of (tree_in terms a) ≡ width_of (tree_in terms b)) where
   pub and_is_first : ((v : ℕ → ℕ → ℕ) → bit_and (term_at v terms a) (term_at v terms b) ≡ term_at v terms a)

@@ -155,7 +155,7 @@ module _ (terms : List Term) (range : AreInRange terms) (a b first second : Term
     least = let heavy : weight_of (tree_in terms b) ≡ 1 + weight_of (tree_in terms first) + weight_of (tree_in terms second) = ap weight_of (sym is) in omega (arith, heavy);
   }
 
--- ---- a form of the lesser operation is one of the whole
+-- ---- a form of the smaller operation is one of the whole
 
 pub and_by_part : (terms : List Term) (a b part : TermId) (width : ℕ) (form : Form) → width ≡ width_of (tree_in terms a) → IsAndPart terms a b part
     → Simplifies terms (tree.Binary op.And (tree_in terms a) (tree_in terms part) width) form → Simplifies terms (tree.Binary op.And (tree_in terms a) (tree_in terms b) (width_of (tree_in terms a))) form

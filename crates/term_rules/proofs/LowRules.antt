@@ -24,7 +24,7 @@ mod-shorter n k m le =
     let e : (k - m) + m ≡ k = omega arith in
     sym (ap (λ j. n % 2 ^ j % 2 ^ m) e) ∙ mod-mod-pow n (k - m) m
 
--- the greater power of 2 is a multiple of the lesser
+-- the greater power of 2 is a multiple of the smaller
 multiple : (w k : ℕ) → k ≤ w → 2 ^ w ≡ 2 ^ (w - k) * 2 ^ k
 multiple w k le =
     let e : (w - k) + k ≡ w = omega arith in

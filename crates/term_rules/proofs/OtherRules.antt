@@ -27,7 +27,7 @@ pub rest_of_same : (terms : List Term) (a b : TermId) (width : ℕ) → IsWidth 
 rest_of_same terms a b width is e same = constant_form terms _ 0 width is (pow_pos width) e
     (λ v. ap (λ t. remainder (term_at v terms a) (value_of v t)) (sym (same_tree terms a b same)) ∙ own_remainder (term_at v terms a))
 
--- a number of some digits that is moved by none
+-- a number of some bits that is shifted by none
 unmoved : (w x : ℕ) → 1 ≤ w → x < 2 ^ w → shifted_left w x 0 ≡ x
 unmoved w x pos lt =
     ap (λ t. cond t (x * 2 ^ 0 % 2 ^ w) 0) (lt-ltb 0 w (omega arith))

@@ -12,7 +12,7 @@ use Rattle.term_rules.specs.declared.form.Form.TheVariants.{Built}
 use Rattle.term_rules.specs.Forms.{Simplifies}
 use Rattle.term_rules.proofs.Stored.{weight_positive}
 
--- terms of one place have one tree
+-- terms of one index have one tree
 pub same_tree : (terms : List Term) (a b : TermId) → a.index ≡ b.index → tree_in terms a ≡ tree_in terms b
 same_tree terms a b e = ap (λ i. get_or (trees_of terms) i (tree.Constant 0 1)) e
 
@@ -26,7 +26,7 @@ constant_form terms plain n width is fits wide says = record {
   least = weight_positive plain;
 }
 
--- what simplifies a tree simplifies one that is as wide, has its values, and as many nodes
+-- what simplifies a tree simplifies one that is as wide, has its values, and no fewer nodes
 pub simplifies_like : (terms : List Term) (p q : Tree) (form : Form) → Simplifies terms p form → width_of p ≡ width_of q
     → ((v : ℕ → ℕ → ℕ) → value_of v p ≡ value_of v q) → weight_of p ≤ weight_of q → Simplifies terms q form
 simplifies_like terms p q form s wide says least = record {

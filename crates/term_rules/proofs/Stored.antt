@@ -27,7 +27,7 @@ module _ (early late : List Tree) (same : (a : TermId) → a.index < length earl
   matched_more (term.Zext a width) w m = omega (arith, m, ap width_of (same a w.1))
   matched_more (term.Sext a from width) w m = (one a from w.1 m.0, m.1, m.2)
 
--- the term at a place goes well after all terms
+-- the term at an index goes well after all terms
 fit-from : (earlier : List Tree) (ts : List Term) (i : ℕ) (t : Term) → AreFit earlier ts → slice_get ts i ≡ Some t
     → IsFit (trees_from earlier ts) t
 fit-from earlier [] i t fit e = absurd (let x : ⊥ = cc in x)

@@ -19,13 +19,13 @@ use Rattle.term_rules.proofs.Simplifying.{constant_form, same_tree, simplifies_l
 
 -- ---- numbers
 
--- fewer of the low digits
+-- fewer of the low bits
 mod-shorter : (n k m : ℕ) → m ≤ k → n % 2 ^ k % 2 ^ m ≡ n % 2 ^ m
 mod-shorter n k m le =
     let e : (k - m) + m ≡ k = omega arith in
     sym (ap (λ j. n % 2 ^ j % 2 ^ m) e) ∙ mod-mod-pow n (k - m) m
 
--- a part that lies in the low digits is a part of these
+-- a part that lies in the low bits is a part of these
 part-low : (n low from width : ℕ) → from + width ≤ low → n % 2 ^ low / 2 ^ from % 2 ^ width ≡ n / 2 ^ from % 2 ^ width
 part-low n low from width le =
     let e : (low - from) + from ≡ low = omega arith in

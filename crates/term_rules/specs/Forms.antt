@@ -16,14 +16,14 @@ use Rattle.term_rules.specs.declared.low_bits.Narrowing.{Narrowing}
 use Rattle.term_rules.specs.declared.low_bits.Operation.{Operation}
 use Rattle.term_rules.specs.declared.shrinking.Shrunk.{Shrunk}
 
--- a term that is there, one over terms that are there, the sum of one with a number, or one moved up
+-- a term that is there, one over terms that are there, the sum of one with a number, or one shifted left
 abbrev pub form_tree : List Term → Form → Tree
 form_tree terms (Known id) = tree_in terms id
 form_tree terms (Built t) = tree_of (trees_of terms) t
 form_tree terms (Raised a by width) = tree.Binary op.Add (tree_in terms a) (tree.Constant by width) width
 form_tree terms (Shifted a by width) = tree.Binary op.Shl (tree_in terms a) (tree.Constant by width) width
 
--- a term that goes well after these, and is no variable
+-- a term that is valid after these, and is no variable
 pub record IsApplied (terms : List Term) (t : Term) : Type 0 where
   pub within : IsWithin (length terms) t
   pub matched : AreMatched (trees_of terms) t

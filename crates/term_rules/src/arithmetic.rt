@@ -140,7 +140,7 @@ fn exponent_of(value: u128, width: u32) -> Option<u32>
     }
 }
 
-/// The product with a number. A product with a power of 2 is moved up.
+/// The product with a number. A product with a power of 2 is a shift.
 fn multiplied(terms: &Terms, a: TermId, b: TermId, by: u128) -> Form
     requires a { a.index < length terms.now }
     requires b { b.index < length terms.now }

@@ -14,7 +14,7 @@ use crate::reading::{are_in_order, number, term};
 use bv_terms::{BinaryOp, Term, TermId, Terms};
 use term_folds::numbers::ones;
 
-/// Each bit turned: twice is not at all.
+/// Each bit inverted: a second inversion undoes the first.
 pub fn inverse(terms: &Terms, a: TermId) -> Form
     requires { a.index < length terms.now }
     ensures { Simplifies terms.now (tree.Not (tree_in terms.now a) (width_of (tree_in terms.now a))) result }
@@ -227,7 +227,7 @@ fn rest_of_xor(terms: &Terms, a: TermId, b: TermId) -> Option<TermId>
     }
 }
 
-/// The bits that are 1 in just one, of two in order.
+/// The bits that are 1 in exactly one, of two in order.
 fn ordered_xor(terms: &Terms, a: TermId, b: TermId) -> Form
     requires a { a.index < length terms.now }
     requires b { b.index < length terms.now }
@@ -252,7 +252,7 @@ fn ordered_xor(terms: &Terms, a: TermId, b: TermId) -> Form
     }
 }
 
-/// The bits that are 1 in just one.
+/// The bits that are 1 in exactly one.
 pub fn exclusive(terms: &Terms, a: TermId, b: TermId) -> Form
     requires a { a.index < length terms.now }
     requires b { b.index < length terms.now }

@@ -1,7 +1,7 @@
 //! A builder for each operation, as `bv_terms` has, of terms with at most as many nodes.
 //!
-//! Each answers a term with the value of the operation under every assignment, and leaves those
-//! before it as they were, also on out of memory. Only [`variable`] brings a variable.
+//! Each answers a term with the value of the operation under every assignment, and leaves the
+//! earlier ones as they were, even out of memory. Only [`variable`] adds a variable.
 
 ghost use Rattle.std.specs.Prelude.{◌≡◌, [], ◌∷◌, ◌<◌, ◌≤◌, ◌+◌, ◌-◌, ◌*◌, ◌/◌, ◌%◌, ◌^◌, IfOk, Some, length, slice_get, cond, nat_eq, nat_lt, bit_and, bit_or, bit_xor};
 ghost use Rattle.bv_terms.specs.declared.term.Term.TheVariants as variant;
@@ -49,7 +49,7 @@ pub fn variable(terms: &mut Terms, number: u64, width: u32) -> Result<TermId, No
     Ok(id)
 }
 
-/// Each bit turned.
+/// Each bit inverted.
 pub fn not(terms: &mut Terms, a: TermId) -> Result<TermId, NoMemory>
     requires { a.index < length terms.old }
     ensures made { IfOk result (λ id. Makes terms.new id (width_of (tree_in terms.old a)) (λ v. 2 ^ width_of (tree_in terms.old a) - 1 - term_at v terms.old a)) }
@@ -86,7 +86,7 @@ pub fn or(terms: &mut Terms, a: TermId, b: TermId) -> Result<TermId, NoMemory>
     build(terms, form)
 }
 
-/// The bits that are 1 in just one.
+/// The bits that are 1 in exactly one.
 pub fn xor(terms: &mut Terms, a: TermId, b: TermId) -> Result<TermId, NoMemory>
     requires a { a.index < length terms.old }
     requires b { b.index < length terms.old }
@@ -188,7 +188,7 @@ pub fn urem(terms: &mut Terms, a: TermId, b: TermId) -> Result<TermId, NoMemory>
     build(terms, form)
 }
 
-/// The first moved up by the second; 0 where that is the width or more.
+/// The first shifted left by the second; 0 where that is the width or more.
 pub fn shl(terms: &mut Terms, a: TermId, b: TermId) -> Result<TermId, NoMemory>
     requires a { a.index < length terms.old }
     requires b { b.index < length terms.old }
@@ -201,7 +201,7 @@ pub fn shl(terms: &mut Terms, a: TermId, b: TermId) -> Result<TermId, NoMemory>
     build(terms, form)
 }
 
-/// The first moved down by the second; 0 where that is the width or more.
+/// The first shifted right by the second; 0 where that is the width or more.
 pub fn lshr(terms: &mut Terms, a: TermId, b: TermId) -> Result<TermId, NoMemory>
     requires a { a.index < length terms.old }
     requires b { b.index < length terms.old }
@@ -214,8 +214,8 @@ pub fn lshr(terms: &mut Terms, a: TermId, b: TermId) -> Result<TermId, NoMemory>
     build(terms, form)
 }
 
-/// The first moved down by the second, with copies of its sign; nothing but these where that is the
-/// width or more.
+/// The first shifted right by the second, with copies of its sign; nothing but these where that is
+/// the width or more.
 pub fn ashr(terms: &mut Terms, a: TermId, b: TermId) -> Result<TermId, NoMemory>
     requires a { a.index < length terms.old }
     requires b { b.index < length terms.old }
@@ -303,7 +303,7 @@ pub fn ite(terms: &mut Terms, c: TermId, a: TermId, b: TermId) -> Result<TermId,
     build(terms, form)
 }
 
-/// The bits of `a` from the place `from` on, counted from the lowest, as many as `width`.
+/// `width` bits of `a` from bit `from` on, counted from the least significant one.
 pub fn extract(terms: &mut Terms, a: TermId, from: u32, width: u32) -> Result<TermId, NoMemory>
     requires a { a.index < length terms.old }
     requires least { 1 ≤ width }

@@ -50,7 +50,7 @@ fn folded(terms: &Terms, term: &Term) -> Option<u128>
     }
 }
 
-/// The place of the term, which is stored unless it is there.
+/// The index of the term, which is stored unless it is there.
 fn store(terms: &mut Terms, term: Term) -> Result<TermId, NoMemory>
     requires { IsApplied terms.old term }
     ensures within { IfOk result (λ id. id.index < length terms.new) }
@@ -96,7 +96,7 @@ fn raise(terms: &mut Terms, a: TermId, by: u128, width: u32) -> Result<TermId, N
     Ok(id)
 }
 
-/// A term moved up by a number.
+/// A term shifted left by a number.
 fn shift(terms: &mut Terms, a: TermId, by: u128, width: u32) -> Result<TermId, NoMemory>
     requires { AreOperands terms.old a by width }
     ensures made { IfOk result (λ id. Makes terms.new id width (λ v. shifted_left width (term_at v terms.old a) by)) }

@@ -1,4 +1,4 @@
-//! Terms beside their inverses.
+//! Terms and their inverses.
 
 ghost use Rattle.std.specs.Prelude.{◌≡◌, ◌<◌, ◌-◌, ◌^◌, ℕ, IfSome, IsTrue, bit_and, bit_or, length};
 ghost use Rattle.bv_terms.specs.Tree.{width_of};
@@ -8,7 +8,7 @@ ghost use Rattle.term_rules.specs.Forms.{IsAndPart, IsOrPart};
 use crate::reading::term;
 use bv_terms::{BinaryOp, Term, TermId, Terms};
 
-/// Whether the first is plainly each bit of the second turned.
+/// Whether the first is plainly the second with each bit inverted.
 fn is_inverse(terms: &Terms, a: TermId, b: TermId) -> bool
     requires a { a.index < length terms.now }
     requires b { b.index < length terms.now }
@@ -20,7 +20,7 @@ fn is_inverse(terms: &Terms, a: TermId, b: TermId) -> bool
     }
 }
 
-/// Whether one is plainly each bit of the other turned.
+/// Whether one is plainly the other with each bit inverted.
 pub fn are_inverse(terms: &Terms, a: TermId, b: TermId) -> bool
     requires a { a.index < length terms.now }
     requires b { b.index < length terms.now }
@@ -103,8 +103,8 @@ pub fn are_whole(terms: &Terms, a: TermId, b: TermId) -> bool
     completes(terms, b, a)
 }
 
-/// What is left of the second, a disjunction, in a conjunction with the first: the operand beside
-/// the first's inverse.
+/// What is left of the second, a disjunction, in a conjunction with the first: the operand other
+/// than the first's inverse.
 pub fn left_of_or(terms: &Terms, a: TermId, b: TermId) -> Option<TermId>
     requires a { a.index < length terms.now }
     requires b { b.index < length terms.now }
@@ -126,8 +126,8 @@ pub fn left_of_or(terms: &Terms, a: TermId, b: TermId) -> Option<TermId>
     }
 }
 
-/// What is left of the second, a conjunction, in a disjunction with the first: the operand beside
-/// the first's inverse.
+/// What is left of the second, a conjunction, in a disjunction with the first: the operand other
+/// than the first's inverse.
 pub fn left_of_and(terms: &Terms, a: TermId, b: TermId) -> Option<TermId>
     requires a { a.index < length terms.now }
     requires b { b.index < length terms.now }

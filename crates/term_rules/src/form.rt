@@ -3,7 +3,7 @@
 use bv_terms::{Term, TermId};
 
 /// A term that is there, one over terms that are there, or the sum of one with a number, or one
-/// moved up by a number.
+/// shifted left by a number.
 #[derive(Clone, Copy)]
 pub enum Form {
     Known(TermId),

@@ -5,9 +5,9 @@
 //! a form: a term that is there, or one over terms that are there. Where a rule makes two
 //! operations, one over the other (`factors`, `low_bits`, `shrinking`), it finds their operands
 //! first and makes both by rules. The rules are those that solvers of bit vectors rewrite by
-//! (Bitwuzla, CAV 2023; Z3's rewriter; LLVM's InstCombine). It stands on
-//! `bv_terms`, and on `term_folds` for operations on known numbers and for weights; the encoding of
-//! runs stands on it.
+//! (Bitwuzla, CAV 2023; Z3's rewriter; LLVM's InstCombine). It uses
+//! `bv_terms`, and `term_folds` for operations on known numbers and for weights; the encoding of
+//! runs uses it.
 #![tactic(auto)]
 
 mod arithmetic;

@@ -1,9 +1,9 @@
 //! The low bits of operations on numbers that were widened.
 //!
-//! The low bits of a sum, a difference, a product or an operation bit by bit come from the low bits
-//! of its operands alone. Where one of these was widened from at most so many bits, or is a
+//! The low bits of a sum, a difference, a product or a bitwise operation come from only the low
+//! bits of its operands. Where one of these was widened from no more bits than these, or is a
 //! constant, its low bits have no more nodes than it has, and so the operation is moved to the
-//! lesser width. This goes two operations deep.
+//! smaller width. This goes two operations deep.
 
 ghost use Rattle.std.specs.Prelude.{◌≡◌, ◌<◌, ◌≤◌, ◌+◌, ◌%◌, ◌^◌, ℕ, IfOk, IfSome, length};
 ghost use Rattle.bv_terms.specs.Tree.{width_of};
@@ -20,7 +20,7 @@ use bv_terms::{BinaryOp, Term, TermId, Terms};
 use support::NoMemory;
 use term_folds::numbers::cut;
 
-/// An operation whose low bits come from its operands' low bits alone.
+/// An operation whose low bits come from only its operands' low bits.
 #[derive(Clone, Copy)]
 pub enum Kind {
     Sum,
@@ -104,7 +104,7 @@ fn turned(kind: Kind) -> Kind
     }
 }
 
-/// The low bits of a term that was widened from at most so many, or is a constant.
+/// The low `width` bits of a term that was widened from at most `width`, or is a constant.
 fn narrow(terms: &Terms, a: TermId, width: u32) -> Option<Form>
     requires a { a.index < length terms.now }
     requires least { 1 ≤ width }
@@ -171,7 +171,7 @@ fn form_of(terms: &Terms, kind: Kind, a: TermId, b: TermId) -> Form
     }
 }
 
-/// The low bits, where no operation is moved to the lesser width.
+/// The low bits, where no operation is moved to the smaller width.
 fn plain_low(terms: &mut Terms, a: TermId, width: u32) -> Result<TermId, NoMemory>
     requires a { a.index < length terms.old }
     requires least { 1 ≤ width }
@@ -203,7 +203,7 @@ fn joined(terms: &mut Terms, kind: Kind, a: TermId, b: TermId) -> Result<TermId,
     Ok(id)
 }
 
-/// The low bits, where an operation on plain terms is moved to the lesser width.
+/// The low bits, where an operation on plain terms is moved to the smaller width.
 fn shallow_low(terms: &mut Terms, a: TermId, width: u32) -> Result<TermId, NoMemory>
     requires a { a.index < length terms.old }
     requires least { 1 ≤ width }
@@ -223,7 +223,7 @@ fn shallow_low(terms: &mut Terms, a: TermId, width: u32) -> Result<TermId, NoMem
 }
 
 /// The low bits, where an operation on plain terms, or on one and such an operation, is moved to
-/// the lesser width.
+/// the smaller width.
 pub fn low(terms: &mut Terms, a: TermId, width: u32) -> Result<TermId, NoMemory>
     requires a { a.index < length terms.old }
     requires least { 1 ≤ width }

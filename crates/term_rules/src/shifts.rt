@@ -11,7 +11,7 @@ use crate::form::Form;
 use crate::reading::number;
 use bv_terms::{BinaryOp, Term, TermId, Terms};
 
-/// The first moved up by the second.
+/// The first shifted left by the second.
 pub fn left(terms: &Terms, a: TermId, b: TermId) -> Form
     requires a { a.index < length terms.now }
     requires b { b.index < length terms.now }
@@ -27,7 +27,7 @@ pub fn left(terms: &Terms, a: TermId, b: TermId) -> Form
     }
 }
 
-/// The first moved down by the second.
+/// The first shifted right by the second.
 pub fn logical_right(terms: &Terms, a: TermId, b: TermId) -> Form
     requires a { a.index < length terms.now }
     requires b { b.index < length terms.now }
@@ -42,7 +42,7 @@ pub fn logical_right(terms: &Terms, a: TermId, b: TermId) -> Form
     }
 }
 
-/// The first moved down by the second, with copies of its sign.
+/// The first shifted right by the second, with copies of its sign.
 pub fn arithmetic_right(terms: &Terms, a: TermId, b: TermId) -> Form
     requires a { a.index < length terms.now }
     requires b { b.index < length terms.now }

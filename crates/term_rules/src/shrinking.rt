@@ -79,7 +79,7 @@ pub fn shrunk_by_number(terms: &Terms, a: TermId, b: TermId) -> Option<Shrunk>
     }
 }
 
-/// The same where the width before is less: then neither number has a sign.
+/// The same where the width before is smaller: then neither number has a sign.
 pub fn shrunk_further(terms: &Terms, a: TermId, b: TermId) -> Option<Shrunk>
     requires a { a.index < length terms.now }
     requires b { b.index < length terms.now }

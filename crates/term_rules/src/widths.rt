@@ -25,7 +25,7 @@ fn bits(terms: &Terms, a: TermId, from: u32, width: u32) -> Form
     }
 }
 
-/// The bits of `a` from the place `from` on.
+/// `width` bits of `a` from bit `from` on.
 pub fn part(terms: &Terms, a: TermId, from: u32, width: u32) -> Form
     requires a { a.index < length terms.now }
     requires least { 1 ≤ width }

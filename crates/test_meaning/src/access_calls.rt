@@ -33,14 +33,14 @@ fn bytes_of(alloc: Global, text: &str) -> Result<Vec<Byte>, Fail> {
     Ok(bytes)
 }
 
-/// A block's name and its alignment, and what stands after them.
+/// A block's name and its alignment, and what follows them.
 fn head_of(text: &str) -> Option<(BlockName, u64, &str)> {
     let (name, rest) = text.split_once(" ")?;
     let (align, rest) = rest.split_once(" ")?;
     Some((name_in(name)?, align.parse::<u64>().ok()?, rest))
 }
 
-/// The block of a line: a name, an alignment, bytes, a bar, and further places.
+/// The block of a line: a name, an alignment, bytes, a bar, and what is past the size.
 fn block_of(alloc: Global, line: &str) -> Result<MemoryBlock, Fail> {
     let (front, further) = line.split_once("|").ok_or("a bar")?;
     let (name, align, bytes) = head_of(front).ok_or("a name and an alignment")?;
@@ -94,7 +94,7 @@ pub fn is_loaded(alloc: Global, memory: &Memory, call: &str, answer: &str) -> Re
     Ok(is_given)
 }
 
-/// Whether the places of the first block are these bytes.
+/// Whether the contents of the first block are these bytes.
 fn has_bytes(alloc: Global, memory: &Memory, bytes: &str) -> Result<bool, Fail> {
     let wanted = bytes_of(alloc, bytes)?;
     Ok(match memory.as_slice().first() {

@@ -1,7 +1,7 @@
 //! Rows of calls with their answers, as `tools/memory_rows.py` prints them: it computed the answers
-//! from the words of the LLVM Language Reference.
+//! from the text of the LLVM Language Reference.
 
-/// The blocks: a name, an alignment, the bytes, and after the bar places that are no bytes.
+/// The blocks: a name, an alignment, the bytes, and after the bar what is past the size.
 pub const BLOCKS: &str = "\
 given1 16 01 02 03 84 ff 00 -- 07 null+9/0 null+9/1 null+9/2 null+9/3 null+9/4 null+9/5 null+9/6 null+9/7 |
 given2 4 10 20 30 40 | 50 60 70 80

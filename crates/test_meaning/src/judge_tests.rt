@@ -18,7 +18,7 @@ const BUDGET: Budget = Budget {
     weight: 100_000,
 };
 
-/// The verdict on a pair with two given blocks of so many bytes.
+/// The verdict on a pair with two given blocks of at most this number of bytes.
 fn verdict(alloc: Global, source: &Function, target: &Function, bytes: u64) -> Result<Verdict, Fail>
     requires source { IsWithinLimits source.now }
     requires target { IsWithinLimits target.now }

@@ -4,8 +4,8 @@
 //! `slow_judge`: loads, stores and offsets by rows that `tools/memory_rows.py` computed; the
 //! instruction table, whose answers `tools/instruction_sums.py` computed, asked of the interpreter
 //! and of the terms; points and their codes, copies, runs with memory and without, and unrolling;
-//! and verdicts by counting. Both scripts go by the words of the LLVM Language Reference. Nothing
-//! stands on this crate.
+//! and verdicts by counting. Both scripts follow the text of the LLVM Language Reference. No crate
+//! uses this one.
 #![tactic(auto)]
 
 #[cfg(test)]

@@ -154,8 +154,8 @@ define ptr @f(ptr %x) { %a = freeze ptr poison ret ptr %a }
 define ptr @f(ptr %x) { ret ptr undef }
 ";
 
-/// Whether a tape holds just the choice, what is chosen, and the tape. There are the given blocks 1
-/// and 2.
+/// Whether a tape holds exactly the choice, what is chosen, and the tape. There are the given
+/// blocks 1 and 2.
 pub const CHOICES: &str = "\
 plain null+0:
 plain null+9: 0 9

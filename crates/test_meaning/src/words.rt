@@ -85,7 +85,7 @@ pub fn numbers_in(alloc: Global, text: &str) -> Result<Vec<u64>, Fail> {
     Ok(numbers)
 }
 
-/// What stands after the name of a row: two fields and the rest.
+/// What follows the name of a row: two fields and the rest.
 pub fn fields_in(line: &str) -> Option<(&str, &str, &str)> {
     let (_, fields) = line.split_once(" | ")?;
     let (first, fields) = fields.split_once(" | ")?;

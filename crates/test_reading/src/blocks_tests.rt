@@ -99,7 +99,7 @@ fn several_blocks(rt: HostRuntime) -> Result<(), Fail> {
     are_answered(rt.alloc(), SEVERAL_BLOCKS)
 }
 
-/// Jumps, and what may stand after them.
+/// Jumps, and what may follow them.
 const JUMPS: &str = "\
 Unsupported@1:29: an operand without a type
 define void @f() { br label a a: ret void }

@@ -58,7 +58,7 @@ const PIECES: [&str; 48] = [
     "\n}",
 ];
 
-// A prefix alone, of each length from 0.
+// Only a prefix, of each length from 0.
 const CUT: &str =
     "nothing no-item@1:1 no-item@1:1 no-item@1:1 no-item@1:1 no-item@1:1 text-ends@1:7 text-ends@1:8
 text-ends@1:9 text-ends@1:10 text-ends@1:11 text-ends@1:12 text-ends@1:13 text-ends@1:14
@@ -359,7 +359,7 @@ fn push_all(text: &mut Vec<u8>, bytes: &[u8]) -> Result<(), AllocError> {
     Ok(())
 }
 
-// The text with the piece at an index left out or kept, and another token in its place or after it.
+// The text with the piece at an index left out or kept, and another token instead or after it.
 fn damaged(alloc: Global, damage: usize, kept: bool, other: &str) -> Result<Vec<u8>, AllocError> {
     let mut text = Vec::new(alloc);
     for (place, piece) in PIECES.iter().enumerate() {
@@ -418,7 +418,7 @@ fn no_token_stands_for_another(rt: HostRuntime) -> Result<(), Fail> {
     Ok(())
 }
 
-// Fails where a text in which one piece stands twice gets another answer.
+// Fails where a text in which one piece occurs twice gets another answer.
 fn is_doubled(alloc: Global, index: usize, want: &str) -> Result<(), Fail> {
     let piece = PIECES.get(index).copied().unwrap_or("").trim_start();
     let text = damaged(alloc, index, true, piece)?;

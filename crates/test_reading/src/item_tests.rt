@@ -15,7 +15,7 @@ fn fault(alloc: Global, text: &str) -> Option<ItemFault> {
     }
 }
 
-// The places and reasons are from a cut in another language.
+// The positions and reasons are from a cut in another language.
 #[test]
 fn first_stops(rt: HostRuntime) -> Result<(), Fail> {
     for &(text, at, why) in &[

@@ -1,7 +1,7 @@
 //! Modules and functions with answers that are known, for the reader and the checks that it makes.
 //!
 //! These are the tests of the crates from `text_places` to `ir_printer`. The crates that they test
-//! have no tests of their own, so that each is proved once. Nothing stands on this crate.
+//! have no tests of their own, so that each is proved once. No crate uses this one.
 #![tactic(auto)]
 
 #[cfg(test)]

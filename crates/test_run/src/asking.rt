@@ -138,7 +138,7 @@ pub fn is_answered<R: AllocGlobal + Threads + Sync>(rt: &R, asked: &Asked) -> Re
     }
 }
 
-/// Fails at the first row to which `run` gives another answer. `=== ` stands between two rows.
+/// Fails at the first row to which `run` gives another answer. `=== ` separates two rows.
 pub fn are_answered<R: AllocGlobal + Threads + Sync>(rt: &R, rows: &str) -> Result<(), Fail> {
     for row in rows.split("=== ") {
         is_answered(rt, &asked_in(row).ok_or("a row")?)?;

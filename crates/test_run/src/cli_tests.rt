@@ -170,7 +170,7 @@ tv make --weight 1 --weight 1 => -
 tv make --workers 4 --workers 4 => -
 tv make --seed=7 --turns 3 --seed=8 => -";
 
-/// `make` has options alone, and its own; no other command has those.
+/// `make` has only options, and its own; no other command has those.
 const MAKES: &str = "\
 tv make --seed=7 => make 7 16 8 4 2 8 64 0 100000 4
 tv make --seed +7 => make 7 16 8 4 2 8 64 0 100000 4

@@ -1,4 +1,4 @@
-//! A sink that fails in mid-stream, and a shelf that gives back what was put on it.
+//! A sink that fails in mid-stream, and a shelf that returns what was put on it.
 
 use std::collections::BTreeMap;
 use std::test::Fail;

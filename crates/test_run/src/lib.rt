@@ -5,7 +5,7 @@
 //! and the printing of reports, and claim numbers from two threads. Tables of command lines,
 //! modules and reports that were worked out outside go through `tv_run::run`; the readers of
 //! command lines (`tv_cli`), the files and sinks of `tv_io` and the reader and writer of proof files
-//! (`proof_text`) have their own. Nothing stands on this crate.
+//! (`proof_text`) have their own. No crate uses this one.
 #![tactic(auto)]
 
 #[cfg(test)]

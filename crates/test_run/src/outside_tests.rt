@@ -14,7 +14,7 @@ const EMPTY: &str = "tv 1 turns 4 blocks 2 bytes 8 rounds 64 conflicts 0 weight 
 correct 0 incorrect 0 unknown 0 refused 0 signature 0 missing 0 extra 0
 ";
 
-/// Fails where a file of so many spaces has another status or output.
+/// Fails where a file of this number of spaces has another status or output.
 fn is_answered<R: AllocGlobal + Threads + Sync>(
     rt: &R,
     size: usize,

@@ -3,7 +3,7 @@
 //!
 //! A row is a name; how many blocks are given, the rounds and the weight that may be spent, and the
 //! verdict, with the arguments and the choices of its point; and a module of the source and the
-//! target. `=== ` stands between two rows.
+//! target. `=== ` separates two rows.
 
 ghost use Rattle.std.specs.Prelude.{◌≤◌};
 

@@ -68,7 +68,7 @@ fn reports_do_not_depend_on_the_number_of_workers(rt: HostRuntime) -> Result<(),
     are_reported(&rt, "tv check --workers 64 A B")
 }
 
-/// A gate that holds the first pair until so many others have passed, or gives up.
+/// A gate that holds the first pair until this number of others has passed, or gives up.
 #[derive(Drop)]
 struct HoldsFirst {
     others: u64,

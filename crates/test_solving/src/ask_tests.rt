@@ -31,7 +31,7 @@ fn leaves(alloc: Global, value: u128) -> Result<(Terms, TermId, TermId, TermId),
     Ok((terms, x, y, c))
 }
 
-/// Asks for y and x, where the goal has x alone.
+/// Asks for y and x, where the goal has only x.
 fn asked(
     alloc: Global,
     terms: &Terms,
@@ -88,7 +88,7 @@ fn is_least(asked: &Asked, want: &[bool]) -> bool {
     }
 }
 
-/// Whether there are no numbers, and the checker accepts the certificate, whose front has x and y.
+/// Whether there are no numbers, and the checker accepts the certificate, which orders x and y.
 fn is_refuted(rt: &(impl Threads + Sync), alloc: Global, asked: &Asked) -> bool {
     match asked {
         Asked::None(cert) => {
@@ -98,7 +98,7 @@ fn is_refuted(rt: &(impl Threads + Sync), alloc: Global, asked: &Asked) -> bool 
     }
 }
 
-/// Whether a limit of so many learned clauses is spent.
+/// Whether this limit of learned clauses is spent.
 fn is_spent(asked: &Asked, limit: usize) -> bool {
     match asked {
         Asked::Spent(cert) => cert.log.len() == limit,

@@ -33,7 +33,7 @@ pub fn is_found(alloc: Global, found: Option<Clause>, want: &[i64]) -> Result<bo
     }
 }
 
-/// Clauses over n variables, the first of which are the front. An error where they are none.
+/// Clauses over n variables, the first of which are ordered. An error where they are none.
 pub fn over(variables: u64, front: u64, clauses: Sequence<Clause>) -> Result<Cnf, NoMemory> {
     if !are_within(variables, clauses.as_slice()) || front > variables {
         return Err(NoMemory);
@@ -41,7 +41,7 @@ pub fn over(variables: u64, front: u64, clauses: Sequence<Clause>) -> Result<Cnf
     Ok(Cnf::new(variables, clauses, front))
 }
 
-/// Clauses over n variables, the first of which are the front. An error where the rows are none.
+/// Clauses over n variables, the first of which are ordered. An error where the rows are none.
 pub fn cnf(alloc: Global, variables: u64, front: u64, rows: &[&[i64]]) -> Result<Cnf, NoMemory> {
     let mut clauses = Sequence::from_vec(Vec::new(alloc));
     for row in rows {
@@ -78,7 +78,7 @@ fn apart(
     Ok(())
 }
 
-/// So many pigeons in so many holes, no two of them in one.
+/// These numbers of pigeons and of holes, no two pigeons in one hole.
 pub fn pigeons(alloc: Global, pigeons: i64, holes: i64) -> Result<Cnf, NoMemory> {
     let mut clauses = Sequence::from_vec(Vec::new(alloc));
     for pigeon in 0..pigeons {

@@ -10,7 +10,7 @@ use std::test::Fail;
 use std::thread::Threads;
 use support::{NoMemory, Sequence};
 
-/// How many variables each set has; all of them are the front.
+/// How many variables each set has; all of them are ordered.
 const VARIABLES: u64 = 8;
 
 /// The next number of a fixed sequence that looks random.

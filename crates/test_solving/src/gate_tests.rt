@@ -6,7 +6,7 @@ use std::alloc::Global;
 use std::test::Fail;
 use support::{NoMemory, Sequence};
 
-/// How many gates there are beside the three inputs after both texts, or `None` where they write
+/// How many gates there are besides the three inputs after both texts, or `None` where they write
 /// two gates.
 fn gates_of_one(
     alloc: Global,
@@ -26,7 +26,7 @@ fn gates_of_one(
     })
 }
 
-/// Two texts that write one gate, and how many gates are made beside the inputs: equal gates are
+/// Two texts that write one gate, and how many gates are made besides the inputs: equal gates are
 /// one, what a constant, a negation or an operand decides is no new gate, and signs go to the
 /// result.
 const ONE_GATE: &str = "\
@@ -77,8 +77,8 @@ fn is_model(alloc: Global, cnf: &Cnf, code: u32) -> Result<bool, NoMemory> {
     Ok(assignment.len() as u64 == cnf.variables && holds(cnf, &assignment))
 }
 
-/// `a and b` has three variables and four clauses, and none of the gate that it does not need. Its
-/// front is 2, and the one front of a model is 1, 1.
+/// `a and b` has three variables and four clauses, and none of the gate that it does not need. Two
+/// variables are ordered, and in a model their values are 1, 1.
 #[test]
 fn the_front_of_an_and_is_1_1(rt: HostRuntime) -> Result<(), Fail> {
     let cnf = conjunction(rt.alloc(), &mut Circuit::new(rt.alloc()))?;

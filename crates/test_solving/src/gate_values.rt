@@ -9,7 +9,7 @@ pub fn value_at(values: &[bool], a: GateId) -> bool {
     values.get(a.index).copied().unwrap_or(false) != a.negated
 }
 
-/// The value of the gate at a place among those of all gates.
+/// The value of the gate at an index among those of all gates.
 fn plain_value_at(values: &[bool], index: usize) -> bool {
     values.get(index).copied().unwrap_or(false)
 }

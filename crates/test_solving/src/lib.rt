@@ -5,7 +5,7 @@
 //! outcome covers which; the clauses of a circuit, clauses whose least model or refutation is known,
 //! small drawn clauses against all assignments, logs that are checked, and questions about terms.
 //! Terms and gates are written in postfix notation. What the contracts say for all values isn't
-//! tried here. Nothing stands on this crate.
+//! tried here. Nothing uses this crate.
 #![tactic(auto)]
 
 #[cfg(test)]

@@ -1,5 +1,5 @@
 // Which outcomes with pointers and memory cover which, worked out by hand from Alive2 (PLDI 2021): a
-// pointer to a block of an alloca is dead behind the run.
+// pointer to a block of an alloca is dead after the run.
 ghost use Rattle.std.specs.Prelude.{◌≡◌, [], ◌∷◌, IfOk, length, map};
 ghost use Rattle.bv_terms.specs.Trees.{Keeps};
 ghost use Rattle.mem_terms.specs.Values.{IsSymValue};
@@ -23,7 +23,7 @@ struct Place(u8, u8, u64, u64, u8);
 #[derive(Clone, Copy)]
 struct Returned(bool, bool, u64, u64);
 
-/// A return with this value, which leaves the given block with this size and these two places.
+/// A return with this value, which leaves the given block with this size and these two bytes.
 #[derive(Clone, Copy)]
 struct End {
     value: Returned,
@@ -66,7 +66,7 @@ fn value(terms: &mut Terms, returned: Returned) -> Result<SymValue, NoMemory>
     })
 }
 
-/// The places of the given block.
+/// The bytes of the given block.
 fn places(
     alloc: Global,
     terms: &mut Terms,

@@ -23,7 +23,7 @@ fn nothing<T>(alloc: Global) -> Sequence<T>
     Sequence::from_vec(Vec::new(alloc))
 }
 
-/// Undefined behaviour, a run past the bounds, poison, 3 and 4, by their places.
+/// Undefined behaviour, a run past the bounds, poison, 3 and 4, by their indices.
 fn end(alloc: Global, place: usize) -> Outcome {
     match place {
         0 => Outcome::Ub,

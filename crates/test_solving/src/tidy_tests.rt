@@ -99,8 +99,8 @@ fn unused_steps_are_left_out(rt: HostRuntime) -> Result<(), Fail> {
     )
 }
 
-/// The second step, `1 3`, is learned though `1` stands: `1` takes its place, the step `2 3` after
-/// it becomes `2`, and the last one needs no `-3`.
+/// The second step, `1 3`, is learned though `1` is there: `1` takes its place, the step `2 3`
+/// after it becomes `2`, and the last one needs no `-3`.
 #[test]
 fn weaker_steps_are_left_out(rt: HostRuntime) -> Result<(), Fail> {
     let alloc = rt.alloc();

@@ -8,7 +8,7 @@ use gates::{Circuit, GateId};
 use std::alloc::Global;
 use support::NoMemory;
 
-/// The input at a place.
+/// The input at an index.
 fn input(index: usize) -> GateId
     ensures { result.index ≡ index }
 {

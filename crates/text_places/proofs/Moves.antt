@@ -1,4 +1,4 @@
--- A place, one byte after another.
+-- A position, one byte after another.
 use Rattle.std.proofs.Common.{◌≡◌, ℕ, ◌+◌, ◌<◌, ◌≤◌, Bool, true, false, cond, not, eqb, List, [], ◌∷◌, ◌++◌, length, reverse, take, get_or, refl, sym, ap, subst, ◌∙◌, arith, count_by, append_assoc, add_comm, add-zero, inl, inr}
 use Rattle.std.specs.List.{suffix_len, prefix_len}
 use Rattle.std.proofs.lemmas.Bool.{cases_Bool}
@@ -10,7 +10,7 @@ use Rattle.text_places.specs.Place.{is_line_feed, place_behind}
 suffix-push : (p : ℕ → Bool) (xs : List ℕ) (b : ℕ) → suffix_len p (xs ++ b ∷ []) ≡ cond (p b) (1 + suffix_len p xs) 0
 suffix-push p xs b = ap (prefix_len p) (reverse-append xs (b ∷ []))
 
--- the place behind one more byte
+-- the position after one more byte
 abbrev pub moved : Place → ℕ → Place
 moved place b = cond (eqb b 10) (record { line = place.line + 1; column = 1 }) (record { line = place.line; column = place.column + 1 })
 
@@ -29,7 +29,7 @@ one_more start bytes i here next within step so_far before is =
     step ∙ ap (λ (p : Place). moved p (get_or bytes i 0)) (so_far before is) ∙ place_behind-push (before ++ take i bytes) (get_or bytes i 0)
     ∙ ap place_behind (append_assoc before (take i bytes) (get_or bytes i 0 ∷ []) ∙ ap (λ (xs : List ℕ). before ++ xs) (sym (take_more bytes i 0 within)))
 
--- a place is no further than the bytes before it reach
+-- a position is no further than the bytes before it reach
 pub line-within : (before : List ℕ) → (place_behind before).line ≤ length before + 1
 unfolding place_behind
 line-within before = omega (arith, count_by-le-length is_line_feed before)

@@ -1,7 +1,7 @@
-//! Places in a text: lines and columns.
+//! Positions in a text: lines and columns.
 //!
-//! It promises that a [`Place`] that is moved over bytes is the place behind them. It stands on
-//! `std` alone; the lexer and whatever reports a place stand on it.
+//! It promises that a [`Place`] that is moved over bytes is the position after them. It uses only
+//! `std`; the lexer and whatever reports a position use it.
 #![tactic(auto)]
 
 mod place;

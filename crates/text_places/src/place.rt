@@ -1,7 +1,7 @@
 ghost use Rattle.std.specs.Prelude.{◌≡◌, ℕ, ◌+◌, ◌^◌, ◌<◌, List, [], ◌++◌, length};
 ghost use Rattle.text_places.specs.Place.{place_behind};
 
-/// A place in a text. A line ends at a line feed alone, so a carriage return is a byte of its line.
+/// A position in a text. A line ends only at a line feed: a carriage return is a byte of its line.
 #[derive(Clone, Copy, Debug, PartialEq, Eq)]
 pub struct Place {
     /// The line, from 1.
@@ -19,7 +19,7 @@ impl Place {
         Place { line: 1, column: 1 }
     }
 
-    /// The place behind some bytes, which stand at this place.
+    /// The position after some bytes, which begin at this position.
     pub fn behind(self, bytes: &[u8]) -> Place
         requires line { self.line + length bytes.now < 2 ^ 64 }
         requires column { self.column + length bytes.now < 2 ^ 64 }

@@ -93,7 +93,7 @@ closed-ends (b ∷ outer) r = step-closes b outer (closing b) (closing-closes b)
 
 -- ---- what was read, and where reading stops
 
--- it is the same behind the tokens that were read, whatever comes then
+-- it is the same after the tokens that were read, whatever comes then
 abbrev pub Read : List Bracket → Tokens → Nothing → Tokens → Type 0
 Read open_brackets ts x rest = (front : Tokens) × (ts ≡ front ++ rest) × ((r : Tokens) → until_closed open_brackets (front ++ r) ≡ reads x r)
 
@@ -112,7 +112,7 @@ closed-whole (b ∷ outer) (t ∷ q) x rest e = go (λ next e'. closed-whole nex
     go rec (inr (inr (inl n))) = grown outer (step-closes b outer t n) (rec outer (sym (step-closes b outer t n q) ∙ e))
     go rec (inr (inr (inr (c, n, is)))) = let never : stops (unfit Syntax) (t ∷ q) ≡ reads x rest = sym (step-other b outer t c n is q) ∙ e in absurd (cc never)
 
--- it stops there behind these tokens, whatever comes then, and they can go on
+-- it stops there after these tokens, whatever comes then, and they can go on
 pub record Halted (open_brackets : List Bracket) (ts : Tokens) (why : Why) (rest : Tokens) : Type 0 where
   pub front : Tokens
   pub split : ts ≡ front ++ rest

@@ -13,7 +13,7 @@ Tokens = List Lexeme
 abbrev Reader : Type 0 → Type 0
 Reader X = Tokens → Reading X
 
--- what the second form needs behind a first one that may go on
+-- what the second form needs after a first one that may go on
 pub record Joins {A X : Type 0} {o : Lexeme → Bool} {g2 h2 : A → Reader X} (o1 : Lexeme → Bool) (Lb : (a : A) → Lawful o (g2 a) (h2 a)) : Type 0 where
   pub apart : (a : A) (ts : Tokens) (x : X) (rest : Tokens) → g2 a ts ≡ reads x rest → (W : Whole o (g2 a) ts x rest) → (r : Tokens) → Follows o rest r → Follows o1 ts (W.front ++ r)
   pub ends_free : (a : A) (r : Tokens) → is_free o r ≡ true → is_free o1 ((Lb a).ends.more ++ r) ≡ true

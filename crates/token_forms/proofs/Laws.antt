@@ -11,7 +11,7 @@ Tokens = List Lexeme
 abbrev Reader : Type 0 → Type 0
 Reader X = Tokens → Reading X
 
--- no token at the front goes on
+-- no token at the start goes on
 abbrev pub is_free : (Lexeme → Bool) → Tokens → Bool
 is_free o [] = true
 is_free o (t ∷ r) = not (o t)
@@ -25,7 +25,7 @@ SameHead (t ∷ q) (u ∷ r) = t ≡ u
 abbrev pub Follows : (Lexeme → Bool) → Tokens → Tokens → Type 0
 Follows o rest r = SameHead rest r ⊎ (is_free o r ≡ true)
 
--- the tokens that were read, and that the value depends on these and the next one alone
+-- the tokens that were read, and that the value depends only on these and the next one
 pub record Whole {X : Type 0} (o : Lexeme → Bool) (g : Reader X) (ts : Tokens) (x : X) (rest : Tokens) : Type 0 where
   pub front : Tokens
   pub split : ts ≡ front ++ rest
@@ -43,7 +43,7 @@ pub record Past {X : Type 0} (o : Lexeme → Bool) (h : Reader X) (front rest : 
   pub is : rest ≡ token ∷ others
   pub ends : Ends o h (front ++ token ∷ [])
 
--- the tokens before the stop can go on; it depends on these and the next one alone
+-- the tokens before the stop can go on; it depends only on these and the next one
 pub record Halts {X : Type 0} (o : Lexeme → Bool) (g h : Reader X) (ts : Tokens) (why : Why) (rest : Tokens) : Type 0 where
   pub front : Tokens
   pub split : ts ≡ front ++ rest

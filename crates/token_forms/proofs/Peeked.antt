@@ -23,7 +23,7 @@ module _ {A B X : Type 0} {o : Lexeme → Bool} (b : Bool) (c : Class A) (f f' :
   peek_ends : Ends o lifted []
   peek_ends = let E = (F c.value).ends in record { more = c.sample ∷ E.more; value = E.value; whole = λ r free. rw (c.fits) (E.whole r free) }
 
-  -- behind a token of the first class, and behind one of the second
+  -- after a token of the first class, and after one of the second
   first_ends : (t : Lexeme) (a : A) (p : Tokens) → judged false (c.within t) (c.stands t) ≡ found a → Ends o (f' a) p → Ends o lifted (t ∷ p)
   first_ends t a p is E = record { more = E.more; value = E.value; whole = λ r free. rw is (E.whole r free) }
 

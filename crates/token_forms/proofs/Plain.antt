@@ -1,4 +1,4 @@
--- Forms that tell apart what comes next spell as the plain grammar does.
+-- Forms that distinguish what comes next spell as the plain grammar does.
 use Rattle.std.proofs.Common.{◌≡◌, ℕ, zero, suc, inl, inr, Bool, true, false, List, [], ◌∷◌, Option, Some, None, refl, sym, ap, subst, ◌∙◌}
 use Rattle.std.specs.Prelude.{not, ◌||◌, is_some}
 use Rattle.ir_lexer.specs.Lexeme.{Lexeme}
@@ -40,7 +40,7 @@ no-part goes_on begins (t ∷ rest) free = go (goes_on t) free
 module _ {A S : Type 0} (limits : Bool) (o goes_on : Lexeme → Bool) (begins : S → Lexeme → Option A) (within : S → Lexeme → Bool) (plain spell : S → A → S → Tokens → Tokens → Type 0)
     (one-part : (s : S) (a : A) (x : S) (ts rest : Tokens) → is_free o rest ≡ true → plain s a x ts rest → spell s a x ts rest)
     (apart : (s : S) → AreApart o (part_begins goes_on (begins s))) where
-  -- the first token of parts, or what comes behind them
+  -- the first token of parts, or what comes after them
   parts-free : (test : Lexeme → Bool) → ((s : S) → AreApart test (part_begins goes_on (begins s))) → (n : ℕ) (s x : S) (ts rest : Tokens) → is_free test rest ≡ true → PlainParts limits goes_on begins within plain n s x ts rest → is_free test ts ≡ true
   parts-free test tells zero s x ts rest free (same, left) = subst (λ (us : Tokens). is_free test us ≡ true) (sym left) free
   parts-free test tells (suc n) s x ts rest free (a, inside, next, behind, T, P, more) = apart-free limits test (part_begins goes_on (begins s)) (within s) a ts inside (tells s) T
@@ -100,7 +100,7 @@ spells-one f apart limits x y tokens P Q =
     let both : reads x [] ≡ reads y [] = sym (read-again limits f tokens x [] (plain-spelled limits f apart x tokens [] refl P)) ∙ read-again limits f tokens y [] (plain-spelled limits f apart y tokens [] refl Q) in
     cc both
 
--- ---- how a form shows that it tells apart
+-- ---- how a form distinguishes what comes next
 
 pub apart-never : {A : Type 0} (stands : Lexeme → Option A) → AreApart never stands
 apart-never stands t e = absurd (cc e)
@@ -114,11 +114,11 @@ apart-either p q stands P Q t e = go (p t) (q t) refl refl e
     go false true is is' e' = Q t is'
     go false false is is' e' = absurd (cc e')
 
--- a test that one spelling of one kind passes alone
+-- a test that only one spelling of one kind passes
 pub apart-spelled : {A : Type 0} (kind : Kind) (text : List ℕ) (test : Lexeme → Bool) (stands : Lexeme → Option A) → ((t : Lexeme) → test t ≡ true → (t.kind ≡ kind) × (t.text ≡ text)) → ((t : Lexeme) → stands (record t { kind = kind; text = text }) ≡ None) → AreApart test stands
 apart-spelled kind text test stands only differs t e = let (k, s) = only t e in rw (← k, ← s) at (differs t)
 
--- the same where the class has one token of one kind alone
+-- the same where the class has only one token of one kind
 pub apart-class : {A : Type 0} (kind : Kind) (text : List ℕ) (test : Lexeme → Bool) (stands : Lexeme → Option A) → ((t : Lexeme) (a : A) → stands t ≡ Some a → (t.kind ≡ kind) × (t.text ≡ text)) → ((t : Lexeme) → test (record t { kind = kind; text = text }) ≡ false) → AreApart test stands
 apart-class {A} kind text test stands only differs t e = go (stands t) refl
   where

@@ -1,4 +1,4 @@
--- Reading stops at the first token that can't stand, or that passes a limit.
+-- Reading stops at the first token that isn't allowed, or that passes a limit.
 use Rattle.std.proofs.Common.{◌≡◌, ℕ, zero, suc, ◌≤◌, ◌⊎◌, inl, inr, Bool, true, false, List, [], ◌∷◌, ◌++◌, length, Option, Some, None, refl, sym, ap, ◌∙◌, append_assoc, arith}
 use Rattle.ir_lexer.specs.Lexeme.{Lexeme}
 use Rattle.ir_tree.specs.declared.module.Reason.{Reason}
@@ -204,7 +204,7 @@ stops-past f ts rest e =
     let P = H.past_limit refl in
     record { front = H.front; token = P.token; others = P.others; split = H.split; is = P.is; stands = begins-by f (H.front ++ P.token ∷ []) P.ends; passes = passes-limit f ts rest e }
 
--- behind what spells a value no token can stand
+-- after what spells a value no token is allowed
 pub stops-behind : {X : Type 0} (f : Form never X) (ts : List Lexeme) (x : X) (t : Lexeme) (q : List Lexeme) → read true f ts ≡ reads x (t ∷ q) → StopsUnfit f ts (t ∷ q)
 stops-behind f ts x t q e =
     let lifted = (read_lawful true f).lifts ts x (t ∷ q) e in

@@ -1,4 +1,4 @@
--- What a cursor over tokens may answer.
+-- What a cursor over tokens may return.
 use Rattle.std.specs.Prelude.{◌≡◌, List, Result, Ok, Err}
 use Rattle.ir_lexer.specs.Lexeme.{Lexeme}
 use Rattle.token_forms.specs.declared.fault.ReadFault.{ReadFault}
@@ -11,7 +11,7 @@ Fails (Unfit reason) rest reading = reading ≡ stops (unfit reason) rest
 Fails PastLimit rest reading = reading ≡ stops limit rest
 Fails NoMemory rest reading = Unit {0}
 
--- what a function answers, seen by view, with the tokens that are left, is what reading gives
+-- what a function returns, seen by view, with the tokens that are left, is what reading gives
 abbrev pub Reads : {X Y : Type 0} → (X → Y) → Result X ReadFault → List Lexeme → Reading Y → Type 0
 Reads view (Ok x) rest reading = reading ≡ reads (view x) rest
 Reads view (Err fault) rest reading = Fails fault rest reading

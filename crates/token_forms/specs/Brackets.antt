@@ -33,7 +33,7 @@ is_same Square Square = true
 is_same Curly Curly = true
 is_same _ _ = false
 
--- in these tokens each bracket that opens is closed by one of its kind, and none else is closed
+-- in these tokens each bracket that opens is closed by one of its kind, and no other is closed
 pub data IsBalanced : List Lexeme → Type 0 where
   nothing : IsBalanced []
   plain : {t : Lexeme} {others : List Lexeme} → nesting_of t ≡ Plain → IsBalanced others → IsBalanced (t ∷ others)
@@ -47,7 +47,8 @@ pub record IsClosed (b : Bracket) (tokens rest : List Lexeme) : Type 0 where
   pub is_balanced : IsBalanced inside
   pub closes : nesting_of last ≡ Closes b
 
--- these tokens stand inside the first bracket and leave it open; the second is the innermost one that is open behind them
+-- these tokens are inside the first bracket and leave it open; the second is the innermost one that
+-- is open after them
 pub data IsInnermost : Bracket → Bracket → List Lexeme → Type 0 where
   same : {b : Bracket} {inside : List Lexeme} → IsBalanced inside → IsInnermost b b inside
   deeper : {b innermost : Bracket} (c : Bracket) (before : List Lexeme) (first : Lexeme) (inside : List Lexeme) → IsBalanced before → nesting_of first ≡ Opens c → IsInnermost c innermost inside → IsInnermost b innermost (before ++ first ∷ inside)

@@ -1,4 +1,4 @@
--- Forms: which tokens stand in a row, and the value that they spell.
+-- Forms: which tokens follow one another, and the value that they spell.
 use Rattle.std.specs.Prelude.{◌≡◌, ℕ, zero, suc, List, [], ◌∷◌, length, Option, Some, None, Bool, true, false, ◌||◌, not, if◌then◌else◌}
 use Rattle.ir_lexer.specs.Lexeme.{Lexeme}
 use Rattle.ir_tree.specs.declared.module.Reason.{Reason}
@@ -8,8 +8,9 @@ use Rattle.token_forms.specs.declared.bracket.Nesting.{Nesting}
 use Rattle.token_forms.specs.declared.bracket.Nesting.TheVariants.{Opens, Closes, Plain}
 use Rattle.token_forms.specs.Brackets.{nesting_of, is_same}
 
--- A class of tokens: the value that a token stands for, whether that keeps the limits, and the reason that a token
--- gives which doesn't stand. Some token of the class is named, so that what was begun can be ended.
+-- A class of tokens: the value that a token denotes, whether that keeps the limits, and the reason
+-- that a token outside the class gives. Some token of the class is named, so that what was begun
+-- can be ended.
 pub record Class (A : Type 0) : Type 0 where
   pub stands : Lexeme → Option A
   pub within : Lexeme → Bool
@@ -39,7 +40,8 @@ pub data Form : (Lexeme → Bool) → Type 0 → Type 1 where
   peek : {A B X : Type 0} {o : Lexeme → Bool} → Class A → (A → Form o X) → Class B → (B → Form o X) → Form o X
   -- a form, and parts, as long as the next token begins one; each changes a state that the form gives
   tail : {A S : Type 0} {o p : Lexeme → Bool} → (goes_on : Lexeme → Bool) → (begins : S → Lexeme → Option A) → (within : S → Lexeme → Bool) → (part : S → A → Form o S) → Form p S → Form (either p (either goes_on o)) S
-  -- behind the mark that opens a bracket, any tokens up to the one that closes it, in which brackets nest and match
+  -- after the mark that opens a bracket, any tokens up to the one that closes it, in which brackets
+  -- nest and match
   balanced : Bracket → Form never (Unit {0})
   -- a form whose value is seen another way
   mapped : {A X : Type 0} {o : Lexeme → Bool} → (A → X) → Form o A → Form (either o never) X
@@ -48,12 +50,12 @@ infixl 10 ◌>>=◌
 abbrev pub ◌>>=◌ : {A X : Type 0} {o : Lexeme → Bool} → Form never A → (A → Form o X) → Form o X
 f >>= k = seq f k
 
--- why reading stops: the next token can't stand there, and which reason that has, or it can and passes a limit
+-- why reading stops: the next token isn't allowed, for this reason, or it is and passes a limit
 pub data Why : Type 0 where
   unfit : Reason → Why
   limit : Why
 
--- what reading gives: a value and the tokens behind it, or why it stops and the tokens from the stop on
+-- what reading gives: a value and the tokens after it, or why it stops and the tokens from there on
 pub data Reading (X : Type 0) : Type 0 where
   reads : X → List Lexeme → Reading X
   stops : Why → List Lexeme → Reading X
@@ -121,7 +123,7 @@ abbrev pub closed_by : Bracket → List Bracket → Option (List Bracket)
 closed_by c [] = None
 closed_by c (b ∷ outer) = (if is_same c b then Some outer else None)
 
--- the brackets that are open behind one more token, the innermost first; None where it closes another than that
+-- the brackets open after one more token, the innermost first; None where it closes another one
 abbrev pub open_behind : Nesting → List Bracket → Option (List Bracket)
 open_behind Plain open_brackets = Some open_brackets
 open_behind (Opens c) open_brackets = Some (c ∷ open_brackets)

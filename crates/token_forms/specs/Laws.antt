@@ -10,7 +10,7 @@ use Rattle.token_forms.specs.Refusals.{RefusedAs, StopsUnfit, StopsPast}
 abbrev pub ReadsWhatIsSpelled : {X : Type 0} → Form never X → Type 0
 ReadsWhatIsSpelled {X} f = (limits : Bool) (x : X) (tokens rest : List Lexeme) → (read limits f tokens ≡ reads x rest) ↔ Spells limits f x tokens rest
 
--- reading stops for a reason at the first token that can't stand, where that is the form's reason
+-- reading stops for a reason at the first token that isn't allowed, where that is the form's reason
 abbrev pub StopsWhereUnfit : {X : Type 0} → Form never X → Type 0
 StopsWhereUnfit f = (reason : Reason) (tokens rest : List Lexeme) → (read true f tokens ≡ stops (unfit reason) rest) ↔ (StopsUnfit f tokens rest × RefusedAs f reason tokens rest)
 
@@ -18,6 +18,6 @@ StopsWhereUnfit f = (reason : Reason) (tokens rest : List Lexeme) → (read true
 abbrev pub StopsWherePast : {X : Type 0} → Form never X → Type 0
 StopsWherePast f = (tokens rest : List Lexeme) → (read true f tokens ≡ stops limit rest) ↔ StopsPast f tokens rest
 
--- no token can stand behind what is whole
+-- no token is allowed after what is whole
 abbrev pub EndsWhereWhole : {X : Type 0} → Form never X → Type 0
 EndsWhereWhole {X} f = (x : X) (tokens : List Lexeme) (t : Lexeme) (others : List Lexeme) → Spells true f x tokens (t ∷ others) → StopsUnfit f tokens (t ∷ others)

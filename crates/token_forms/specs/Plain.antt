@@ -1,4 +1,4 @@
--- The plain grammar of a form, in which no token is looked at ahead, and the forms that spell as it does.
+-- The plain grammar of a form, which has no lookahead, and the forms that spell as it does.
 use Rattle.std.specs.Prelude.{◌≡◌, ◌⊎◌, ◌↔◌, ℕ, zero, suc, List, [], Option, None, Bool, true, is_some}
 use Rattle.ir_lexer.specs.Lexeme.{Lexeme}
 use Rattle.token_forms.specs.Form.{Form, give, one, seq, upto, peek, tail, balanced, mapped}
@@ -29,8 +29,8 @@ SpellsPlainly limits (mapped {A} k f) x tokens rest = (a : A) × SpellsPlainly l
 abbrev pub AreApart : {A : Type 0} → (Lexeme → Bool) → (Lexeme → Option A) → Type 0
 AreApart test stands = (t : Lexeme) → test t ≡ true → stands t ≡ None
 
--- No token that may go on with a form is of the class that comes behind it: of the one that ends it, or of the first
--- tokens of parts. And no token begins both of two alternatives.
+-- No token that may go on with a form is of the class that comes after it: of the one that ends it,
+-- or of the first tokens of parts. And no token begins both of two alternatives.
 abbrev pub TellsApart : {o : Lexeme → Bool} {X : Type 0} → Form o X → Type 0
 TellsApart (give y) = Unit {0}
 TellsApart (one c) = Unit {0}

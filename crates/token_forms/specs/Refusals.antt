@@ -30,7 +30,7 @@ ExceedParts {A} {S} goes_on begins within part exceed zero s tokens rest =
 ExceedParts {A} {S} goes_on begins within part exceed (suc n) s tokens rest =
     (a : A) × (inside : List Lexeme) × (next : S) × (behind : List Lexeme) × Token true (part_begins goes_on (begins s)) (within s) a tokens inside × part s a next inside behind × ExceedParts goes_on begins within part exceed n next behind rest
 
--- the tokens before rest keep the limits, and the first of rest can stand and passes one
+-- the tokens before rest keep the limits, and the first of rest is allowed and passes one
 abbrev pub PassesLimit : {o : Lexeme → Bool} {X : Type 0} → Form o X → List Lexeme → List Lexeme → Type 0
 PassesLimit (give y) tokens rest = ⊥
 PassesLimit (one c) tokens rest = Exceeds c.stands c.within tokens rest
@@ -47,7 +47,7 @@ PassesLimit {o} {X} (tail goes_on begins within part f) tokens rest =
 PassesLimit (balanced b) tokens rest = ⊥
 PassesLimit (mapped k f) tokens rest = PassesLimit f tokens rest
 
--- the first token isn't of the class, which gives the reason; where none is left it is a mistake in the text
+-- the first token isn't of the class, which gives the reason; with none left it is a syntax error
 abbrev pub Misses : {A : Type 0} → (Lexeme → Option A) → (Lexeme → Reason) → List Lexeme → List Lexeme → Reason → Type 0
 Misses stands reason [] rest r = ([] ≡ rest) × (Syntax ≡ r)
 Misses stands reason (t ∷ others) rest r = (t ∷ others ≡ rest) × (stands t ≡ None) × (reason t ≡ r)
@@ -63,7 +63,7 @@ abbrev pub LeavesOpen : Bracket → List Lexeme → Type 0
 LeavesOpen b [] = Unit {0}
 LeavesOpen b (t ∷ rest) = (c : Bracket) × (nesting_of t ≡ Closes c) × (c ≢ b)
 
--- the tokens before rest stand inside this bracket, and the first of rest doesn't close the innermost one
+-- the tokens before rest are in this bracket, and the first of rest doesn't close the innermost one
 pub record StaysOpen (b : Bracket) (tokens rest : List Lexeme) : Type 0 where
   pub inside : List Lexeme
   pub innermost : Bracket
@@ -71,7 +71,7 @@ pub record StaysOpen (b : Bracket) (tokens rest : List Lexeme) : Type 0 where
   pub is_innermost : IsInnermost b innermost inside
   pub leaves_open : LeavesOpen innermost rest
 
--- the tokens before rest stand, and a class that the first of rest isn't of gives this reason
+-- the tokens before rest are allowed, and a class that the first of rest isn't of gives this reason
 abbrev pub RefusedAs : {o : Lexeme → Bool} {X : Type 0} → Form o X → Reason → List Lexeme → List Lexeme → Type 0
 RefusedAs (give y) r tokens rest = ⊥
 RefusedAs (one c) r tokens rest = Misses c.stands c.reason tokens rest r
@@ -87,8 +87,8 @@ RefusedAs {o} {X} (tail goes_on begins within part f) r tokens rest =
 RefusedAs (balanced b) r tokens rest = StaysOpen b tokens rest × (Syntax ≡ r)
 RefusedAs (mapped k f) r tokens rest = RefusedAs f r tokens rest
 
--- The first of rest is the first token that can't stand: those before it begin what spells a value, and with it they
--- don't. None passes a limit.
+-- The first of rest is the first token that isn't allowed: those before it begin what spells a
+-- value, and with it they don't. None passes a limit.
 pub record StopsUnfit {X : Type 0} (f : Form never X) (tokens rest : List Lexeme) : Type 0 where
   pub front : List Lexeme
   pub split : tokens ≡ front ++ rest
@@ -96,7 +96,7 @@ pub record StopsUnfit {X : Type 0} (f : Form never X) (tokens rest : List Lexeme
   pub keeps : (later : List Lexeme) → PassesLimit f tokens later → ⊥
   pub first : (t : Lexeme) (others : List Lexeme) → rest ≡ t ∷ others → Begins f (front ++ t ∷ []) → ⊥
 
--- The first of rest can stand, and is the first that passes a limit.
+-- The first of rest is allowed, and is the first that passes a limit.
 pub record StopsPast {X : Type 0} (f : Form never X) (tokens rest : List Lexeme) : Type 0 where
   pub front : List Lexeme
   pub token : Lexeme

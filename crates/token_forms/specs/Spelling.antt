@@ -9,7 +9,7 @@ abbrev pub Keeps : Bool → Bool → Type 0
 Keeps true within = within ≡ true
 Keeps false within = Unit {0}
 
--- the first token is of the class and stands for x
+-- the first token is of the class and denotes x
 pub record Token {A : Type 0} (limits : Bool) (stands : Lexeme → Option A) (within : Lexeme → Bool) (x : A) (tokens rest : List Lexeme) : Type 0 where
   pub first : Lexeme
   pub split : tokens ≡ first ∷ rest

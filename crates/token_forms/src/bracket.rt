@@ -95,7 +95,7 @@ impl OpenBrackets {
     }
 }
 
-/// Passes what stands inside a bracket and the mark that closes it. After a fault the tokens that
+/// Passes what is inside a bracket and the mark that closes it. After a fault the tokens that
 /// are left begin where reading stopped.
 pub fn pass_bracket<'a, 'b>(
     alloc: Global,

@@ -8,10 +8,10 @@ use thiserror::Error;
 /// Why reading stopped, at the first token that is left.
 #[derive(Clone, Copy, Debug, PartialEq, Eq, Error)]
 pub enum ReadFault {
-    /// The token can't stand there, for this reason, or there is none, which is Syntax.
+    /// The token isn't allowed there, for this reason, or there is none, which is Syntax.
     #[error("{0}")]
     Unfit(Reason),
-    /// The token can stand there, and a limit is passed.
+    /// The token is allowed there, and a limit is passed.
     #[error("a limit is passed")]
     PastLimit,
     /// There was no memory for what was read.

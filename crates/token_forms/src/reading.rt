@@ -9,8 +9,8 @@ pub trait Spelled {
 }
 
 /// Every form is read as it is spelled: what is read is spelled, what is spelled is read, a stop is at
-/// the first token that can't stand, for the form's reason, or at the first that passes a limit, and
-/// no token can stand behind what is whole. It does nothing.
+/// the first token that isn't allowed, for the form's reason, or at the first that passes a limit,
+/// and no token is allowed after what is whole. It does nothing.
 pub fn is_read_as_spelled<X: Spelled>()
     ensures spelled { ReadsWhatIsSpelled X.form }
     ensures unfit { StopsWhereUnfit X.form }

@@ -14,7 +14,7 @@ use Rattle.token_text.specs.Pieces.{is_separator}
 abbrev pub is_stop : ℕ → Bool
 is_stop b = is_blank b || is_separator b || eqb b 59
 
--- outside quotes no such byte stands, and each quote is closed
+-- outside quotes no such byte occurs, and each quote is closed
 abbrev pub is_clean : Bool → List ℕ → Bool
 is_clean inside [] = not inside
 is_clean true (b ∷ bs) = is_clean (not (eqb b 34)) bs

@@ -66,7 +66,7 @@ token_first b bs rest _ class ended = absurd cc
 
 -- ---- one token
 
--- the first token, before those behind it
+-- the first token, before those after it
 pub record First (k : Kind) (t : List ℕ) (rest whole : Result (List Lexeme) Spot) : Type 0 where
   pub token : Lexeme
   pub before : whole ≡ with_front (token ∷ []) rest

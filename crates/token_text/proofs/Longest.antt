@@ -32,7 +32,7 @@ no_longer (b ∷ bs) c more some clean stop = none_from _ (λ k h. dirty bs k h 
 mark_alone : (b c : ℕ) (more : List ℕ) → is_separator b ≡ true → class_of (b ∷ c ∷ more) ≡ None
 mark_alone b c more h = none_from _ (λ k e. let t = long-clean b c more k e in let f = stop-clean b (c ∷ more) (separator-stop b h) in absurd cc)
 
--- the token is the class of no longer front
+-- no longer prefix is a token
 abbrev EndsHere : List ℕ → List ℕ → Type 0
 EndsHere t rest = (c : ℕ) (more : List ℕ) (later : List ℕ) → rest ≡ c ∷ later → class_of (t ++ c ∷ more) ≡ None
 
@@ -57,7 +57,7 @@ ends-here t rest kind.Global class ended = ends_by t rest kind.Global (λ e. abs
 ends-here t rest kind.Label class ended = ends_by t rest kind.Label (λ e. absurd cc) class ended
 ends-here t rest _ class ended = absurd cc
 
--- a longer front goes on with the rest's first byte
+-- a longer prefix goes on with the rest's first byte
 longer_none : (t rest : List ℕ) → EndsHere t rest → (n : ℕ) → n < length rest → class_of (t ++ take (suc n) rest) ≡ None
 longer_none t [] ends n h = absurd (omega arith)
 longer_none t (c ∷ later) ends n h = ends c (take n later) later refl

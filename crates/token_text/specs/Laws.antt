@@ -7,7 +7,7 @@ use Rattle.ir_lexer.specs.Tokens.{lexed}
 use Rattle.ir_lexer.specs.declared.token.Kind.{Kind}
 use Rattle.token_text.specs.Pieces.{Piece, text_of, AreApart}
 
--- a token's class and bytes, wherever it stands
+-- a token's class and bytes, without its position
 abbrev pub spelled : Lexeme → Kind × List ℕ
 spelled t = (t.kind, t.text)
 
@@ -17,6 +17,6 @@ pub record LexesTo (text : List ℕ) (pieces : List Piece) : Type 0 where
   pub lexed_so : lexed text ≡ Ok tokens
   pub same : map spelled tokens ≡ map (λ (p : Piece). (p.kind, p.text)) pieces
 
--- tokens that stay apart, with blanks behind the last one, are the tokens of their text
+-- tokens that stay apart, with blanks after the last one, are the tokens of their text
 abbrev pub TextsAreLexed : Type 0
 TextsAreLexed = (pieces : List Piece) (last : List ℕ) → list_all is_blank last ≡ true → AreApart pieces last → LexesTo (text_of pieces ++ last) pieces

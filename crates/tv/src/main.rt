@@ -1,7 +1,7 @@
 //! The program: `tv check A B` with options judges the functions of module B against those of module A.
 //!
 //! It passes the command line, the file system and standard output to `tv_run::run`, whose contract says
-//! what is written and which status comes, and exits with that status.
+//! what is written and which status it answers, and exits with that status.
 #![tactic(auto)]
 
 use pair_driver::OpenGate;

@@ -127,7 +127,7 @@ no_match (x ∷ xs) n e =
 
 -- ---- options among the rules of a command
 
--- found by its name, as its id and behind `--`
+-- found by its name, as its id and after `--`
 abbrev IsFound : List Rule → Text → Type 0
 IsFound c id =
     let found : Option Rule × Option Rule = (arg_by_id c id, arg_by_long c id) in

@@ -62,7 +62,7 @@ needs values = each (Needs values) check_options (
     two (a ∷ b ∷ []) h = h a b
     two (a ∷ b ∷ c ∷ names) h = refl
 
--- ---- the values of options alone, and two names
+-- ---- the values of options only, and two names
 
 check-same : (names : List Text) (f g : Text → List Text)
     → ((n : Text) → is_option check_options n ≡ true → f n ≡ g n)

@@ -66,7 +66,7 @@ make-twice : (names : List Text) (values : Text → List Text) (n : Text)
 make-twice [] values n known twice = needs values n known twice
 make-twice (name ∷ names) values n known twice = refl
 
--- ---- the values of options alone, and no name
+-- ---- the values of options only, and no name
 
 make-same : (names : List Text) (f g : Text → List Text)
     → ((n : Text) → is_option make_options n ≡ true → f n ≡ g n)

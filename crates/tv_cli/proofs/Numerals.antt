@@ -28,7 +28,7 @@ pub numeral_is : (text : List ℕ) (r : Range) → IsNumeral 10 (without_leading
     → number_within r text ≡ Some (digits_value 10 (without_leading_plus text))
 numeral_is text r numeral least most = rw (lt-ltb 0 (length (without_leading_plus text)) numeral.0, digits_pass (without_leading_plus text) numeral.1, least, most) refl
 
--- and none where the range hasn't
+-- and none where it is below the range
 pub numeral_below : (text : List ℕ) (r : Range) → nat_le r.least (digits_value 10 (without_leading_plus text)) ≡ false → number_within r text ≡ None
 numeral_below text r out = rw (out, and-false (nat_lt 0 (length (without_leading_plus text)) && list_all (λ d. nat_lt (digit_value d) 10) (without_leading_plus text))) refl
 

@@ -189,7 +189,7 @@ module _ (is_known : Text → Bool) (s : Shape) (k : IsCommand is_known s) where
   awaiting-long-turn us id position word name (Some value) r o l = rw (l.end, l.long, o.by_long, o.of.takes, k.again, awaiting-settles us id r) tt
   awaiting-long-turn us id position word name None r o l = rw (l.end, l.long, o.by_long, o.of.takes, k.again, awaiting-settles us id r) tt
 
-  -- behind `--` the value never comes
+  -- after `--` the value never comes
   pub awaiting-trailing-turn : (us : List Use) (id : Text) (position : ℕ) (word other : Text) (r : RuleOf s.rules id) (q : RuleOf s.rules other) → arg_by_index s.rules position ≡ Some q.rule
       → IsFault (turn_fault s [] (awaiting true us id position) word)
   awaiting-trailing-turn us id position word other r q found = rw (found, q.several, and-false (bytes_eq id q.rule.id), k.again, awaiting-settles us id r) tt

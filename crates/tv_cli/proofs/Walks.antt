@@ -91,7 +91,7 @@ module _ (is_known : Text → Bool) (s : Shape) (k : IsCommand is_known s) where
           subst (λ o. AgreesFrom is_known s k o (at t us p position) (word ∷ ws)) (sym none) (bad is_known s k (at t us p position) word ws (subst IsFault (sym turn) fault))
       go (Some vs) agrees = next is_known s k (B (Some vs)) (at t us p position) (moved t (rows_of_uses vs) pending waiting after_it) word ws (turn ∙ agrees.0) (is ∙ ap (λ rows. moved t rows pending waiting after_it) agrees.1) (rest vs)
 
-  -- ---- behind `--`
+  -- ---- after `--`
 
   pub trails : (ws : List Text) (us : List Use) (p : Option Use) (ids : List Text) (position : ℕ) → NamesFrom s.rules position ids → Known is_known s k p → AgreesFrom is_known s k (after is_known (settle us p) ids (Some (map name ws))) (at true us p position) ws
   unfolding walk_fault

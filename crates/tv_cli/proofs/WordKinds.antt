@@ -41,7 +41,7 @@ Met (separate name) word = IsLong word name None
 Met dashed word = IsDashed word
 Met plain word = IsPlain word
 
--- the characters behind a hyphen
+-- the characters after a hyphen
 first_char : (b : ℕ) (bs : Text) → IsUtf8 (45 ∷ b ∷ bs) → (x : ℕ) × (slice_get (chars (b ∷ bs)) 0 ≡ Some x)
 unfolding chars encode_utf8
 first_char b bs utf8 = go (chars_after (continuation_len b) (lead_bits b) bs) refl

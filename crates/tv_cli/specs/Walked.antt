@@ -1,4 +1,4 @@
--- What `clap` walks the words by, and what its matches say. `specs/Words` says what the words mean.
+-- What `clap` walks the arguments by, and what its matches say. `specs/Words` says what the arguments mean.
 use Rattle.std.specs.Prelude.{ℕ, true, if◌then◌else◌, List, [], ◌∷◌, Option, None, Some, codes, option_map, option_and_then}
 use Rattle.std.specs.Str.{bytes_eq}
 use Rattle.clap.specs.Words.{App, Row, Rule, Kinds, fault_of, first_of, new_app, new_rule, subcommand_of, with_rule, with_subcommand}
@@ -71,6 +71,6 @@ abbrev pub unless_fault : {A : Type 0} → Kinds → Option A → Option A
 unless_fault [] found = found
 unless_fault (kind ∷ kinds) found = None
 
--- what a walk of the words comes to
+-- the job that a walk of the arguments gives
 abbrev pub job_walked : List Text → Option Job
 job_walked words = unless_fault (fault_of tv_app words) (option_and_then job_in_rows (subcommand_of tv_app words))

@@ -1,4 +1,4 @@
--- What the words of a command line ask for.
+-- What the arguments of a command line ask for.
 use Rattle.std.specs.Prelude.{ℕ, ◌==◌, ◌&&◌, List, [], ◌∷◌, length, map, Option, Some, None, option_map, Bool, true, codes, if◌then◌else◌, nat_lt, nat_le}
 use Rattle.std.specs.List.{list_all, list_any, before_first, after_first}
 use Rattle.std.specs.Char.{digit_value}
@@ -8,7 +8,7 @@ use Rattle.points.specs.declared.point.Bounds.{Bounds}
 use Rattle.points.specs.declared.point.Budget.{Budget}
 use Rattle.tv_cli.specs.declared.number.Range.{Range}
 
--- a word, by its bytes
+-- an argument, by its bytes
 abbrev pub Text : Type 0
 Text = List ℕ
 
@@ -36,18 +36,18 @@ pub data Job : Type 0 where
   log : Text → Job
   make : Make → Job
 
--- ---- which kind of word a word is
+-- ---- which kind an argument has
 
 pub data Kind : Type 0 where
-  -- `--` alone: no word behind it is an option
+  -- exactly `--`: no argument after it is an option
   end : Kind
   -- `--name=value`, cut at its first `=`
   attached : Text → Text → Kind
-  -- `--name`, whose value is the next word
+  -- `--name`, whose value is the next argument
   separate : Text → Kind
-  -- any other word of two or more characters that begins with `-`
+  -- any other argument of two or more characters that begins with `-`
   dashed : Kind
-  -- all else, so also `-` and the empty word
+  -- all else, so also `-` and the empty argument
   plain : Kind
 
 abbrev pub is_equals : ℕ → Bool
@@ -63,18 +63,18 @@ kind_of [] = plain
 kind_of (b ∷ []) = plain
 kind_of (b ∷ c ∷ word) = (if b == 45 then (if c == 45 then kind_behind word else dashed) else plain)
 
--- ---- what the words behind the command are
+-- ---- what the arguments after the command are
 
 -- an option with its value, or a name
 pub data Part : Type 0 where
   option : Text → Text → Part
   name : Text → Part
 
--- one more part at the front
+-- one more part at the start
 abbrev pub with_part : Part → Option (List Part) → Option (List Part)
 with_part part parts = option_map (λ ps. part ∷ ps) parts
 
--- the parts that begin with a word of this kind, before the words `rest`: `parts` are those of the rest, and `awaited` gives them where the rest begins with the value of an option
+-- the parts that begin with an argument of this kind, before the arguments `rest`: `parts` are those of the rest, and `awaited` gives them where the rest begins with the value of an option
 abbrev pub parts_from : Text → List Text → Option (List Part) → (Text → Option (List Part)) → Kind → Option (List Part)
 parts_from word rest parts awaited end = Some (map name rest)
 parts_from word rest parts awaited (attached option_name value) = with_part (option option_name value) parts
@@ -82,12 +82,12 @@ parts_from word rest parts awaited (separate option_name) = awaited option_name
 parts_from word rest parts awaited dashed = None
 parts_from word rest parts awaited plain = with_part (name word) parts
 
--- the parts where the first word is the value of this option
+-- the parts where the first argument is the value of this option
 abbrev pub value_from : Text → Text → Option (List Part) → Kind → Option (List Part)
 value_from option_name word parts plain = with_part (option option_name word) parts
 value_from option_name word parts _ = None
 
--- the parts of the words, from the front; `awaited` is the option whose value is the first word
+-- the parts of the arguments, from the first one on, after an option whose value is the first argument
 abbrev pub parts_of : Option Text → List Text → Option (List Part)
 parts_of None [] = Some []
 parts_of (Some option_name) [] = None
@@ -108,20 +108,20 @@ values_in wanted [] = []
 values_in wanted (option option_name value ∷ parts) = (if bytes_eq option_name wanted then value ∷ values_in wanted parts else values_in wanted parts)
 values_in wanted (name text ∷ parts) = values_in wanted parts
 
--- the number that a text is in base 10, digits behind one plus or none, where it lies in the range
+-- the number that a text is in base 10, digits after at most one plus, if it is in the range
 abbrev pub number_within : Range → Text → Option ℕ
 number_within range text =
     let digits = without_leading_plus text in
     (if nat_lt 0 (length digits) && list_all (λ d. nat_lt (digit_value d) 10) digits && nat_le range.least (digits_value 10 digits) && nat_le (digits_value 10 digits) range.most
     then Some (digits_value 10 digits) else None)
 
--- an option stands at most once; where it doesn't stand it has the usual number
+-- an option occurs at most once; where it is absent it has its default
 abbrev pub number_once : Range → List Text → Option ℕ
 number_once range [] = Some range.usual
 number_once range (value ∷ []) = number_within range value
 number_once range (value ∷ other ∷ values) = None
 
--- so does an option with a text, which has none where it doesn't stand
+-- so does an option with a text, which has none where it is absent
 abbrev pub text_once : List Text → Option (Option Text)
 text_once [] = Some None
 text_once (value ∷ []) = Some (Some value)

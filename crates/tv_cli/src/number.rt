@@ -1,7 +1,7 @@
 ghost use Rattle.std.specs.Prelude.{◌≡◌, ◌≤◌, IfSome};
 ghost use Rattle.tv_cli.specs.Words.{number_within};
 
-/// The numbers that an option takes, and the one that stands for it where it isn't written.
+/// The numbers that an option takes, and its default.
 #[derive(Clone, Copy, Debug, PartialEq, Eq)]
 pub struct Range {
     pub least: u64,
@@ -9,7 +9,7 @@ pub struct Range {
     pub usual: u64,
 }
 
-/// The number that a text is, as `parse` reads it, where it lies in the range.
+/// The number in a text, as `parse` reads it, if it is in the range.
 pub fn number_in(text: &str, range: Range) -> Option<u64>
     ensures value { result ≡ number_within range text.now }
     ensures within { IfSome result (λ n. (range.least ≤ n) × (n ≤ range.most)) }

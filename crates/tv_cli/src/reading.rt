@@ -47,8 +47,8 @@ pub struct Make {
     pub workers: u64,
 }
 
-/// The job that the arguments of a command line are, the program's name first, or `None` where the command
-/// line is rejected. The one error is out of memory.
+/// The job that the arguments of a command line ask for, the program's name first, or `None` where
+/// the command line is rejected. The only error is out of memory.
 pub fn read_job<'w>(alloc: Global, words: &'w [String]) -> Result<Option<Job<'w>>, NoMemory>
     ensures job { IfOk result (λ found. option_map seen found ≡ job_of (map string_bytes words.entry.now)) }
     ensures in_range { IfOk result (λ found. IfSome found IsInRange) }
@@ -56,7 +56,7 @@ pub fn read_job<'w>(alloc: Global, words: &'w [String]) -> Result<Option<Job<'w>
     walked(alloc, words)
 }
 
-// What a walk of the arguments comes to.
+// The job that a walk of the arguments gives.
 fn walked<'w>(alloc: Global, words: &'w [String]) -> Result<Option<Job<'w>>, NoMemory>
     ensures job { IfOk result (λ found. option_map seen found ≡ job_walked (map string_bytes words.entry.now)) }
     ensures in_range { IfOk result (λ found. IfSome found IsInRange) }
@@ -175,7 +175,7 @@ fn workers_in(matches: &ArgMatches<'_>) -> Option<u64>
     ranged(matches, "workers", 1, 64, 4)
 }
 
-// The number of an option between these two, or the usual one where it is not given.
+// The number of an option between these two, or the default where it is not given.
 fn ranged(matches: &ArgMatches<'_>, name: &str, least: u64, most: u64, usual: u64) -> Option<u64>
     requires { (least ≤ usual) × (usual ≤ most) }
     ensures value { result ≡ number_or_usual (range least most usual) (first_of name.now (rows_of (found_of matches.now))) }
@@ -224,7 +224,7 @@ fn budget_in(matches: &ArgMatches<'_>) -> Option<Budget>
     })
 }
 
-// The number of an option, or the usual one where it is not given.
+// The number of an option, or the default where it is not given.
 fn number_of(matches: &ArgMatches<'_>, name: &str, range: Range) -> Option<u64>
     requires { (range.least ≤ range.usual) × (range.usual ≤ range.most) }
     ensures value { result ≡ number_or_usual range (first_of name.now (rows_of (found_of matches.now))) }

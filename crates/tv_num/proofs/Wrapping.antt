@@ -20,7 +20,7 @@ few_wholes a k m q r e below =
 parts : (x y m : ℕ) → (x + y + 1) * m ≡ x * m + y * m + m
 parts x y m = omega arith
 
--- so many wholes without a number and 1
+-- k times m, less a number and 1
 rest_of : (a k m q r : ℕ) → r < m → a ≡ q * m + r → a < k * m → (k * m - suc a) % m ≡ m - 1 - r
 rest_of a k m q r small e below =
     let few = few_wholes a k m q r e below in

@@ -86,7 +86,7 @@ abbrev pub stop_at_target : LoadFault → Stop
 stop_at_target (loading.Trouble t) = stop.Target t
 stop_at_target loading.NoMemory = stop.NoMemory
 
--- the first fault of two texts, the source's before the target's; out of memory needs none
+-- the first fault of two files' texts, the source's before the target's; out of memory needs none
 abbrev pub IsUnread : List ℕ → List ℕ → Stop → Type 0
 IsUnread source target (stop.Source t) = IsFaultOf source t
 IsUnread source target (stop.Target t) = IsFaultOf target t × (m : Module) × IsModule source m
@@ -144,7 +144,7 @@ pub record HasReport (files : Files) (c : Check) (answers : List Judged) (text :
 
 -- ---- delivering it
 
--- the sink took a text whole, or was cut off at it, which is status 7
+-- the sink took the whole text, or was cut off at it, which is status 7
 abbrev pub IsSent : (status result : ℕ) → List ℕ → SinkState → SinkState → Type 0
 IsSent status result text old new = ((result ≡ status) × IsWritten text old new) ⊎ ((result ≡ 7) × IsCutOff text old new)
 

@@ -1,4 +1,4 @@
--- What a report says of the two files, in the words of refinement: a row `correct` means that the target's function refines the source's, a row `incorrect` gives a counterexample, and each pair of functions has its row.
+-- What a report says of the two files, in terms of refinement: a row `correct` means that the target's function refines the source's, a row `incorrect` gives a counterexample, and each pair of functions has its row.
 use Rattle.std.specs.Prelude.{◌≡◌, ℕ, true, List, Contains, Ok}
 use Rattle.tv_io.specs.Files.{Files}
 use Rattle.tv_io.specs.State.{SinkState}

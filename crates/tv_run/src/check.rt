@@ -56,8 +56,8 @@ pub fn report_of<S: Shelf, G: Gate, R: Threads + Sync>(
     report_of_texts(rt, alloc, check, gate, source, target)
 }
 
-/// The report of two texts, or the fault of the first of them that is no module. Each text is freed
-/// as soon as its module is read, since judging takes long and needs the memory.
+/// The report of two files' texts, or the fault of the first that is not a module. Each text is
+/// freed as soon as its module is read, since judging takes long and needs the memory.
 fn report_of_texts<G: Gate, R: Threads + Sync>(
     rt: &R,
     alloc: Global,

@@ -19,7 +19,7 @@ pub fn reports_are_defined()
     ensures { ReportsAreDefined }
 {}
 
-/// And two files have one report then, as a text has one module and a pair one verdict.
+/// And two files have one report then, as a file has one module and a pair one verdict.
 pub fn reports_are_one()
     ensures { ReportsAreOne }
 {
@@ -27,7 +27,7 @@ pub fn reports_are_one()
     rows_are_one();
 }
 
-/// Two files have one fault, as a text has one fault or a module.
+/// Two files have one fault, as a file has one fault or a module.
 pub fn faults_are_one()
     ensures { FaultsAreOne }
 {

@@ -19,7 +19,7 @@ pub enum Trouble {
     Item { why: Why, place: Place },
 }
 
-/// Why a file gave no text, or a text no module.
+/// Why a file gave no text, or its text is not a module.
 #[derive(Clone, Copy, Debug, PartialEq, Eq)]
 pub enum LoadFault {
     Trouble(Trouble),

@@ -117,8 +117,8 @@ pub fn run<R: AllocGlobal + Threads + Sync, S: Shelf, K: Sink, G: Gate>(
     ensures quiet_shelf { result ≢ 5 → (S.state shelf.new).fetch_faults ≡ (S.state shelf.old).fetch_faults }
     ensures quiet_puts { result ≢ 7 → (S.state shelf.new).put_faults ≡ (S.state shelf.old).put_faults }
     ensures quiet_sink { result ≤ 3 → (K.state out.new).faults ≡ (K.state out.old).faults }
-    // No other status comes. No file changes but the one that `--proof` names, and none where there is no
-    // report.
+    // There is no other status. No file changes but the one that `--proof` names, and none where
+    // there is no report.
     ensures known { result ≤ 9 }
     ensures files { FileChanges (job_in arguments.now) (S.state shelf.old).files (S.state shelf.new).files }
     ensures same { 3 < result → result ≢ 7 → SameFiles (S.state shelf.old).files (S.state shelf.new).files }
@@ -182,7 +182,7 @@ fn run_check<R: AllocGlobal + Threads + Sync, S: Shelf, K: Sink, G: Gate>(
 }
 
 /// Puts the proof file, if one is asked for, and writes the report. Answers the report's status, or 7
-/// where a write failed. The one error is out of memory, before anything is written.
+/// where a write failed. The only error is out of memory, before anything is written.
 fn deliver<S: Shelf, K: Sink>(
     alloc: Global,
     shelf: &mut S,

@@ -1,4 +1,4 @@
--- Each edge leads to a copy that stands later.
+-- Each edge leads to a copy that comes later.
 use Rattle.std.proofs.Common.{◌≡◌, ℕ, zero, suc, ◌+◌, ◌*◌, ◌<◌, ◌≤◌, List, [], ◌∷◌, ◌++◌, length, map, inl, inr, refl, sym, ap, subst, ◌∙◌, arith, length-append}
 use Rattle.std.proofs.lemmas.Bool.{cases_lt, lt-ltb, le-ltb, lt-leb, le-leb}
 use Rattle.std.proofs.Math.Nat.{mul-le-mul_right}
@@ -33,7 +33,7 @@ edges_lead : (turns n turn at : ℕ) (places : List ℕ) → turn ≤ turns → 
 edges_lead turns n turn at [] most within = tt
 edges_lead turns n turn at (to ∷ places) most within = (edge_leads turns n turn at to most within, edges_lead turns n turn at places most within)
 
--- a layer, and what stands behind it
+-- a layer, and what follows it
 layer_leads : (turns n turn at : ℕ) (graph : List (List ℕ)) (further : List BlockCopy) → turn ≤ turns → at + length graph ≡ n → AreForward (turn * n + n) ((turns + 1) * n) further
     → AreForward (turn * n + at) ((turns + 1) * n) (layer_of turns n turn at graph ++ further)
 unfolding layer_of

@@ -65,7 +65,7 @@ sum_times_of P f g k (x ∷ xs) all h =
     let split : k * (g x + sum_by g xs) ≡ k * g x + k * sum_by g xs = omega arith in
     rw (sum_by-cons f x xs, sum_by-cons g x xs, split) (omega (arith, rest, first))
 
--- what comes at a place of the list, in a loop over it
+-- what comes at an index of the list, in a loop over it
 pub sum_at : {A : Type 0} (f : A → ℕ) (xs : List A) (i : ℕ) (x : A) → i < length xs → x ≡ get_or xs i x → sum_by f (drop i xs) ≡ f x + sum_by f (drop (i + 1) xs)
 sum_at f xs i x below is = rw (drop_more xs i x below, ← is) (sum_by-cons f x (drop (i + 1) xs))
 

@@ -27,7 +27,7 @@ abbrev again_of : Function → List ℕ → ℕ → Go
 again_of f tape zero = λ at m. ended Beyond m
 again_of f tape (suc left) = run_turns f tape left
 
--- the run from the entry of the block at a place, with so many backward jumps left
+-- the run from the entry of the block at an index, with this number of backward jumps left
 abbrev rest_of : Function → List ℕ → ℕ → Go
 rest_of f tape left = forward f tape (again_of f tape left) (length f.blocks)
 
@@ -61,7 +61,7 @@ rest_step : (f : Function) (tape : List ℕ) (left at : ℕ) (m : Machine) → r
 unfolding forward
 rest_step f tape left at m = enough f tape (again_of f tape left) (length f.blocks) (suc (length f.blocks)) at m (omega arith) (omega arith)
 
--- ---- where a run stands
+-- ---- where a run is
 
 -- at the copy of a block that is still ahead, from where it goes on as the whole run does
 pub record StandsAt (f : Function) (tape : List ℕ) (turns passed number : ℕ) (m : Machine) (whole : Run) : Type 0 where
@@ -81,7 +81,7 @@ Stands f tape turns passed (Done run) whole = run ≡ whole
 next_row : (turn n : ℕ) → (turn + 1) * n ≡ turn * n + n
 next_row turn n = omega arith
 
--- two places of one number
+-- two positions of one number
 same_turn : (n turn turn' at at' : ℕ) → at < n → at' < n → turn * n + at ≡ turn' * n + at' → turn ≡ turn'
 same_turn n turn turn' at at' within within' e = elim (cases_lt turn turn') [
   | inl less ↦ (let m : (turn + 1) * n ≤ turn' * n = mul-le-mul_right n (omega (arith, less)) in let row = next_row turn n in absurd (omega (arith, m, row, within, e)))
@@ -130,7 +130,7 @@ module _ (f : Function) (tape : List ℕ) (turns turn left at : ℕ) (whole : Ru
   stands_back zero to m less same inside goes = rw (le-ltb turn turns (omega (arith, counts, less))) goes
   stands_back (suc k) to m less same inside goes = rw (lt-ltb turn turns (omega (arith, counts, less))) (stands_again k to m less same inside goes)
 
-  -- a jump to the block at a place
+  -- a jump to the block at an index
   stands_along : (to : ℕ) (m : Machine) → m.turn ≡ turn → jump at to m (rest_of f tape left) (again_of f tape left) ≡ whole → Stands f tape turns (suc here) (along (edge_to turns blocks turn at to) m) whole
   stands_along to m same goes = elim (cases_lt to blocks) [
     | inl inside ↦ elim (cases_lt at to) [
@@ -148,7 +148,7 @@ module _ (f : Function) (tape : List ℕ) (turns turn left at : ℕ) (whole : Ru
   stands_left labels (To label m) leaves goes =
       rw (edge_at (edge_to turns blocks turn at) (block_of f) labels label leaves.1) (stands_along (block_of f label) m leaves.0 goes)
 
-  -- the copy at which the run stands
+  -- the copy at which the run is
   stands_run : (b : Block) (m : Machine) → slice_get f.blocks at ≡ Some b → rest_of f tape left at (record m { turn = turn }) ≡ whole → Stands f tape turns (suc here) (run_copy f (copy_of turns (length f.blocks) turn at (places_of f b)) tape m) whole
   stands_run b m is rest =
       let n : Machine = record m { turn = turn } in
@@ -194,7 +194,7 @@ unfolding layer_of
 layer_length turns n turn at f [] = refl
 layer_length turns n turn at f (b ∷ bs) = ap suc (layer_length turns n turn (suc at) f bs)
 
--- these blocks stand in the function from a place on
+-- these blocks are in the function from an index on
 abbrev AreFrom : Function → ℕ → List Block → Type 0
 AreFrom f at bs = (i : ℕ) → slice_get f.blocks (at + i) ≡ slice_get bs i
 
@@ -229,7 +229,7 @@ layers_stand f tape turns turn (suc count) w whole counts stands =
     let joined = walk_joined f tape n layer (layers_of turns (length f.blocks) (successors f) (suc turn) count) w ∙ ap (λ (k : ℕ). walk f k (layers_of turns (length f.blocks) (successors f) (suc turn) count) tape after) (ap (λ (k : ℕ). n + k) (layer_length turns (length f.blocks) turn 0 f f.blocks) ∙ row) in
     subst (λ (v : Where). Stands f tape turns ((turns + 1) * length f.blocks) v whole) (sym joined) rest
 
--- no run stands at a copy that was passed
+-- no run is at a copy that was passed
 end_is : (f : Function) (tape : List ℕ) (turns : ℕ) (w : Where) (whole : Run) → Stands f tape turns ((turns + 1) * length f.blocks) w whole → run_at_end w ≡ whole
 end_is f tape turns (Done run) whole stands = stands
 end_is f tape turns (At number m) whole stands =

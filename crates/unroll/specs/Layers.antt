@@ -15,11 +15,11 @@ use Rattle.unroll.specs.declared.layered.Layered.{Layered}
 
 -- ---- the copies
 
--- the number of the copy of the block at a place, for so many backward jumps, where there are so many blocks
+-- the number of the copy of the block at an index, for `turn` backward jumps, where there are `blocks` blocks
 abbrev pub number_in : (blocks turn at : ℕ) → ℕ
 number_in blocks turn at = turn * blocks + at
 
--- where a jump leads from the block at a place to the one at another; a jump to the same or an earlier one is backward, and a run may take `turns` of these
+-- where a jump leads from the block at an index to the one at another; a jump to the same or an earlier one is backward, and a run may take `turns` of these
 abbrev pub edge_to : (turns blocks turn at to : ℕ) → Edge
 edge_to turns blocks turn at to =
     if nat_le blocks to then edge.Nowhere
@@ -27,27 +27,27 @@ edge_to turns blocks turn at to =
     else if nat_lt turn turns then edge.Copy (number_in blocks (turn + 1) to)
     else edge.Beyond
 
--- of the block at a place that leads to blocks at these places
+-- of the block at an index that leads to blocks at these indices
 abbrev pub copy_of : (turns blocks turn at : ℕ) → List ℕ → BlockCopy
 copy_of turns blocks turn at places = record { turn = turn; block = at; edges = map (edge_to turns blocks turn at) places }
 
--- of blocks that stand from a place on, each given by where it leads
+-- of the blocks from an index on, each given by where it leads
 unfoldable pub layer_of : (turns blocks turn at : ℕ) → List (List ℕ) → List BlockCopy
 layer_of turns blocks turn at [] = []
 layer_of turns blocks turn at (places ∷ further) = copy_of turns blocks turn at places ∷ layer_of turns blocks turn (suc at) further
 
--- of all blocks, for so many counts of backward jumps from this one on
+-- of all blocks, for `count` counts of backward jumps from this one on
 unfoldable pub layers_of : (turns blocks : ℕ) → List (List ℕ) → (turn count : ℕ) → List BlockCopy
 layers_of turns blocks graph turn zero = []
 layers_of turns blocks graph turn (suc count) = layer_of turns blocks turn 0 graph ++ layers_of turns blocks graph (suc turn) count
 
--- a label that no block has is at a place behind the text
+-- a label that no block has gives an index past the last block
 abbrev pub copies_of : (turns : ℕ) → Function → List BlockCopy
 copies_of turns f = layers_of turns (length f.blocks) (successors f) 0 (turns + 1)
 
 -- ---- where they lead
 
--- from the copy of a number, where there are so many copies
+-- from the copy of a number, where there are `count` copies
 abbrev pub LeadsOn : (number count : ℕ) → Edge → Type 0
 LeadsOn number count (edge.Copy n) = (number < n) × (n < count)
 LeadsOn number count edge.Beyond = Unit {0}
@@ -57,14 +57,14 @@ abbrev pub AllLeadOn : (number count : ℕ) → List Edge → Type 0
 AllLeadOn number count [] = Unit {0}
 AllLeadOn number count (e ∷ es) = LeadsOn number count e × AllLeadOn number count es
 
--- each edge of these copies, of which the first has this number, leads to a copy that stands later
+-- each edge of these copies, of which the first has this number, leads to a later copy
 abbrev pub AreForward : (number count : ℕ) → List BlockCopy → Type 0
 AreForward number count [] = Unit {0}
 AreForward number count (copy ∷ copies) = AllLeadOn number count copy.edges × AreForward (suc number) count copies
 
 -- ---- a run through the copies
 
--- it stands at the copy of a number, or is over
+-- it is at the copy of a number, or is over
 pub data Where : Type 0 where
   At : ℕ → Machine → Where
   Done : Run → Where
@@ -92,7 +92,7 @@ abbrev pub run_copy : Function → BlockCopy → List ℕ → Machine → Where
 run_copy f copy tape m =
     left_by (labels_of (slice_get f.blocks copy.block)) copy.edges (exit_of f.returns_no_undef (slice_get f.blocks copy.block) tape (record m { turn = copy.turn }))
 
--- a run that stands at another copy stays there
+-- a run that is at another copy stays there
 abbrev pub pass_copy : Function → (number : ℕ) → BlockCopy → List ℕ → Where → Where
 pass_copy f number copy tape (At n m) = if nat_eq number n then run_copy f copy tape m else At n m
 pass_copy f number copy tape (Done run) = Done run
@@ -102,7 +102,7 @@ unfoldable pub walk : Function → (number : ℕ) → List BlockCopy → List �
 walk f number [] tape w = w
 walk f number (copy ∷ copies) tape w = walk f (suc number) copies tape (pass_copy f number copy tape w)
 
--- no copy has the number where it stands
+-- no copy has the number that the run is at
 abbrev pub run_at_end : Where → Run
 run_at_end (At n m) = ended Ub m
 run_at_end (Done run) = run

@@ -6,8 +6,8 @@ use ir_tree::{Function, successors};
 use std::alloc::Global;
 use support::{NoMemory, Sequence};
 
-/// The copies that are made together: of so many blocks, for one count of backward jumps, of which
-/// there are 0 up to the bound.
+/// The copies that are made together: of this number of blocks, for one count of backward jumps,
+/// which is 0 up to the bound.
 #[derive(Clone, Copy)]
 struct Layer {
     /// The bound.
@@ -17,7 +17,7 @@ struct Layer {
     turn: u64,
 }
 
-/// Where a jump leads from the block at a place to the one at another.
+/// Where a jump leads from the block at an index to the one at another.
 fn edge(layer: Layer, at: usize, to: usize) -> Edge
     requires turn { layer.turn ≤ layer.turns }
     requires room { (layer.turns + 1) * layer.blocks < 2 ^ 64 }
@@ -46,7 +46,7 @@ fn edges(alloc: Global, layer: Layer, at: usize, places: &[usize]) -> Result<Vec
     Ok(edges)
 }
 
-/// Puts the copies of all blocks for one count of backward jumps behind the others.
+/// Appends the copies of all blocks for one count of backward jumps.
 fn push_layer(
     alloc: Global,
     copies: &mut Vec<BlockCopy>,
@@ -67,8 +67,8 @@ fn push_layer(
     Ok(())
 }
 
-/// How many counts of backward jumps there are. It fails where there are more copies of so many
-/// blocks than can be numbered.
+/// How many counts of backward jumps there are. It fails where there are more copies of this number
+/// of blocks than can be numbered.
 fn count_of(turns: u64, blocks: usize) -> Result<u64, NoMemory>
     ensures count { IfOk result (λ count. count ≡ turns + 1) }
     ensures room { OnOk result ((turns + 1) * blocks < 2 ^ 64) }
@@ -78,7 +78,7 @@ fn count_of(turns: u64, blocks: usize) -> Result<u64, NoMemory>
     Ok(count)
 }
 
-/// The copies of blocks that lead to these places.
+/// The copies of blocks that lead to these indices.
 fn copies_for(
     alloc: Global,
     turns: u64,
@@ -104,10 +104,10 @@ fn copies_for(
 }
 
 /// The blocks of a function copied for each count of backward jumps of 0 up to `turns`, all blocks
-/// in text order each time. A jump to a block that stands later keeps the count; one to the same or
+/// in text order each time. A jump to a block that comes later keeps the count; one to the same or
 /// an earlier block leads to the next count, and from the last one it is a jump too many. So each
 /// edge leads to a later copy, and a run through the copies, each once and in order, is the run of
-/// the function. The one error is out of memory, so where there are more copies than a `usize`
+/// the function. The only error is out of memory, also where there are more copies than a `usize`
 /// can number.
 pub fn layers(alloc: Global, f: &Function, turns: u64) -> Result<Layered, NoMemory>
     ensures turns { IfOk result (λ layered. layered.turns ≡ turns) }

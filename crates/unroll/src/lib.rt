@@ -1,8 +1,8 @@
 //! The blocks of a function copied once for each count of backward jumps, so that every jump leads
 //! forward; how many words of its tape a run reads, and what a pair weighs.
 //!
-//! It promises that a run through the copies, each once and in order, is the defined run. It stands
-//! on `points`; the judges stand on it.
+//! It promises that a run through the copies, each once and in order, is the defined run. It builds
+//! on `points`; the judges use it.
 #![tactic(auto)]
 
 mod copying;

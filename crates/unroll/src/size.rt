@@ -349,8 +349,8 @@ fn cost_within(f: &Function, bounds: &Bounds) -> u64
 
 // ---- what a judge asks
 
-/// How many words of its tape a run with so many backward jumps reads at most: for each count of
-/// backward jumps, those of each choice of the function.
+/// How many words of its tape a run with this number of backward jumps reads at most: for each
+/// count of backward jumps, those of each choice of the function.
 pub fn need(f: &Function, turns: u64) -> u64
     requires limits { IsWithinLimits f.now }
     requires turns { turns ≤ 64 }
@@ -361,8 +361,8 @@ pub fn need(f: &Function, turns: u64) -> u64
 }
 
 /// The weight of a pair: what one pass over each block of both functions costs, for each count of
-/// backward jumps. An instruction costs its result's width in bits, or its square where it
-/// multiplies or divides; a load or a store looks at each byte of the memory for each of its own.
+/// backward jumps. An operation costs its width in bits, or its square where it multiplies or
+/// divides; a load or a store looks at each byte of the memory for each byte that it accesses.
 pub fn weight(pair: &Pair, bounds: &Bounds) -> u64
     requires source { IsWithinLimits pair.now.source }
     requires target { IsWithinLimits pair.now.target }

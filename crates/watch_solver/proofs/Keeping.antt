@@ -17,7 +17,7 @@ use Rattle.watch_solver.specs.Kept.{AreFree, AreKept, AreKeptBack, IsKept}
 use Rattle.watch_solver.specs.Verdicts.{IsMove, IsOneOf}
 use Rattle.watch_solver.proofs.Lists.{get-set}
 
--- what stands early stands on the whole trail
+-- what is true early is true on the whole trail
 pub stands-whole : (trail : List Entry) (i : ℕ) (l : Lit) → Stands (take i trail) l → Stands trail l
 stands-whole [] zero l s = absurd s
 stands-whole [] (suc i) l s = absurd s

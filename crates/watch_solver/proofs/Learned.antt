@@ -66,7 +66,7 @@ take-take (x ∷ xs) (suc i) (suc n) h = ap (λ zs. x ∷ zs) (take-take xs i n 
 
 module _ (trail : List Entry) (c : List Lit) (k : Lit) (place : ℕ) (has : Has c k) (fresh : IsUnassigned (take place trail) k.variable) where
   module _ (last : Option ℕ) (below : IsLastBelow trail last place) where
-    -- each decision before the place is no later than the last of them
+    -- each decision before the position is no later than the last of them
     before-last : (d : ℕ) → d < place → IsDecisionAt trail d → d ≤ unwrap_or last 0
     before-last d lt (x, at, none) = go last below
       where

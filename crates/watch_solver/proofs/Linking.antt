@@ -174,7 +174,7 @@ module _ (n : ℕ) (clauses : List (List Lit)) (pairs : List Pair) (lists : List
       blocker = g.blocker;
     }
 
-    -- the pair at a place is the new one, or stood there before
+    -- the pair at an index is the new one, or was there before
     pair-split : (m : ℕ) (p : Pair) → slice_get (pairs ++ new ∷ []) m ≡ Some p → ((m ≡ length pairs) × (new ≡ p)) ⊎ (slice_get pairs m ≡ Some p)
     pair-split m p at = elim (cases_eq m (length pairs)) [
       | inl e ↦ inl (e, get-late pairs new p m e at)

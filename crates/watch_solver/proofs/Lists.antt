@@ -31,7 +31,7 @@ module _ {X : Type 0} where
     | inr ne ↦ inr (ne, sym (get-set_other xs i j x ne) ∙ at)
   ]
 
-  -- an item of the list without the one at a place stood there before
+  -- an item of the list without the one at an index was there before
   pub get-removed : (xs : List X) (i : ℕ) (d : X) → i < length xs → (j : ℕ) (x : X) → slice_get (swap_remove xs i d) j ≡ Some x → (k : ℕ) × (slice_get xs k ≡ Some x)
   get-removed xs i d lt j x at =
       let more = get-taken (set xs i (get_or xs (length xs - 1) d)) (length xs - 1) j x at in
@@ -40,7 +40,7 @@ module _ {X : Type 0} where
         | inr h ↦ (j, h.1)
       ]
 
-  -- and each other item stands there still, those from the place on not before it
+  -- and each other item is still there, those from the index on not before it
   pub removed-get : (xs : List X) (i : ℕ) (d : X) → i < length xs → (j : ℕ) (x : X) → (j ≡ i → ⊥) → slice_get xs j ≡ Some x
       → (k : ℕ) × (slice_get (swap_remove xs i d) k ≡ Some x) × ((k ≡ j) ⊎ (k ≡ i))
   removed-get xs i d lt j x ne at =
@@ -134,7 +134,7 @@ has-removed watches i w d at place n le ne h = go (removed-get watches i d (slic
       same = h.same;
     }
 
--- one of the watches from a place on is that at the place, or comes later
+-- one of the watches from an index on is that at the index, or comes later
 pub has-rest : (watches : List Watch) (place n : ℕ) (w : Watch) → slice_get watches place ≡ Some w → HasFrom watches place n → (w.clause ≡ n) ⊎ HasFrom watches (place + 1) n
 has-rest watches place n w at h = elim (cases_eq h.index place) [
   | inl e ↦ inl (

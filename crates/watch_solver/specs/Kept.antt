@@ -24,12 +24,13 @@ pub record IsPair (c : List Lit) (p : Pair) : Type 0 where
   pub second : Has c (lit_of p.second)
   pub apart : AreApart p
 
--- the clause is true, or neither of its watched literals was false
+-- neither of the two watched literals of the clause was false
 pub record AreFree (early : List Entry) (c : List Lit) (p : Pair) : Type 0 where
   pub pair : IsPair c p
   pub first : IsFalse early (lit_of p.first) → ⊥
   pub second : IsFalse early (lit_of p.second) → ⊥
 
+-- the clause is true, or neither of its watched literals was false
 abbrev pub IsKept : List Entry → List Entry → List Lit → Pair → Type 0
 IsKept early trail c p = IsTrueOn trail c ⊎ AreFree early c p
 

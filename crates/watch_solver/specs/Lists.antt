@@ -15,7 +15,7 @@ with_list lists l watches = slice_set lists (index_of l) watches
 abbrev pub with_watch : List (List Watch) → Lit → Watch → List (List Watch)
 with_watch lists l watch = with_list lists l (list_of lists l ++ watch ∷ [])
 
--- from a place on there is a watch of the clause at index n
+-- from index `place` on there is a watch of the clause at index n
 pub record HasFrom (watches : List Watch) (place n : ℕ) : Type 0 where
   pub index : ℕ
   pub watch : Watch

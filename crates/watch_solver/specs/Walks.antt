@@ -14,12 +14,12 @@ use Rattle.watch_solver.specs.Codes.{index_of}
 use Rattle.watch_solver.specs.Kept.{AreKept, AreKeptBack, AreLinked, IsKept}
 use Rattle.watch_solver.specs.Lists.{HasFrom, list_of}
 
--- the watches go with the clauses, and with the trail as each decision was made
+-- the watches match the clauses, and the trail as each decision was made
 pub record IsWatched (variables : ℕ) (clauses : List (List Lit)) (pairs : List Pair) (lists : List (List Watch)) (trail : List Entry) : Type 0 where
   pub linked : AreLinked variables clauses pairs lists
   pub back : AreKeptBack clauses pairs trail
 
--- each clause is kept by one more entry than `done`, or by those alone and still to be looked at
+-- each clause is kept by the first `done + 1` entries, or by the first `done` and is still to be looked at
 abbrev pub AreVisited : List (List Lit) → List Pair → List Entry → ℕ → List Watch → ℕ → Type 0
 AreVisited clauses pairs trail done watches place = (n : ℕ) (c : List Lit) (p : Pair) → slice_get clauses n ≡ Some c → slice_get pairs n ≡ Some p
     → IsKept (take (done + 1) trail) trail c p ⊎ (IsKept (take done trail) trail c p × HasFrom watches place n)
@@ -30,7 +30,7 @@ pub record IsFalsified (trail : List Entry) (done : ℕ) (falsified : Lit) : Typ
   pub at : slice_get trail done ≡ Some entry
   pub is : falsified ≡ opposite_of entry.literal
 
--- what holds before the watch at the place is looked at
+-- what holds before the watch at index `place` is looked at
 pub record IsWalk (variables : ℕ) (clauses : List (List Lit)) (log : List Step) (pairs : List Pair) (lists : List (List Watch)) (trail : List Entry)
     (done : ℕ) (falsified : Lit) (place : ℕ) : Type 0 where
   pub search : IsSearch variables clauses log trail
@@ -48,7 +48,7 @@ pub record IsRoomy (lists : List (List Watch)) (c : List Lit) : Type 0 where
   pub coded : (l : Lit) → Has c l → l.variable < 2147483648
   pub listed : (l : Lit) → Has c l → index_of l < length lists
 
--- one more pair, by which the clause is kept at each decision before the place
+-- one more pair, by which the clause is kept at each decision before the position
 pub record IsAdded (trail : List Entry) (place : ℕ) (c : List Lit) (old new : List Pair) : Type 0 where
   pub pair : Pair
   pub pairs : new ≡ old ++ pair ∷ []

@@ -33,14 +33,14 @@ impl Code {
         }
     }
 
-    /// The place of what is kept for each literal.
+    /// The index of what is kept for the literal.
     pub fn index(self) -> usize
         ensures { result ≡ index_of (lit_of self) }
     {
         self.number as usize
     }
 
-    /// Whether the two are of one literal.
+    /// Whether the two are of the same literal.
     pub fn is_same(self, other: Code) -> bool
         ensures { IsTrue result ↔ (lit_of self ≡ lit_of other) }
     {

@@ -16,7 +16,7 @@ fn is_same(a: Lit, b: Lit) -> bool
     a.variable == b.variable && a.positive == b.positive
 }
 
-/// A literal of these, other than this one, that isn't false before the place, if there is one.
+/// A literal of these, other than this one, that isn't false before the position, if there is one.
 fn free_among(trail: &Trail, place: usize, literals: &[Lit], other: Lit) -> Option<Lit>
     requires { place ≤ length trail.now }
     ensures { IsFree (take place trail.now) literals.now other result }
@@ -40,9 +40,9 @@ fn beginning(literals: &[Lit], variable: u64) -> usize
     }
 }
 
-/// A literal of the clause, other than this one, that isn't false before the place, if there is one.
-/// In a long clause the look begins at a variable: where the one of that variable just became false,
-/// those in front of it mostly are.
+/// A literal of the clause, other than this one, that isn't false before the position, if there is
+/// one. In a long clause the look begins at a variable: where the one of that variable just became
+/// false, those before it mostly are.
 pub fn free_literal(
     trail: &Trail,
     place: usize,

@@ -19,7 +19,7 @@ use clause_search::{Entry, Learned, Trail, jump};
 use support::NoMemory;
 
 /// Has a learned clause watch its asserting literal and, if there is one, another one that isn't
-/// false at any decision before the place.
+/// false at any decision before the position.
 fn watch_learned(
     watches: &mut Watches,
     trail: &Trail,
@@ -47,8 +47,9 @@ fn watch_learned(
     }
 }
 
-/// Adds the step of a learned clause, goes back to the first decision at which all its literals but
-/// one are false, and puts that one there. The answer is that place, from which propagation goes on.
+/// Adds the step of a learned clause, jumps back to the first decision at which all its literals
+/// but one are false, and assigns that one there. The answer is that position, from which
+/// propagation goes on.
 pub fn learn(
     variables: u64,
     clauses: &[Clause],

@@ -22,16 +22,16 @@ use clause_search::{Answer, Entry, Trail, analyze, is_spent, next_variable, refu
 use std::alloc::Global;
 use support::{NoMemory, Sequence};
 
-/// A literal's code is below twice this many.
+/// A literal's code is below twice this number.
 const MOST_VARIABLES: u64 = 1 << 31;
 
-/// A watch names one of this many clauses.
+/// A watch names a clause by an index below this.
 const MOST_CLAUSES: usize = 1 << 32;
 
-/// The least model of the clauses on their front, or a log that refutes them, or one of as many
-/// steps as the limit, at least 1, allows. It decides the least unassigned variable as 0, propagates
-/// fully before each decision, and learns the clause of the first unique implication point. A
-/// conflict without decisions ends in `Unsat`, also where as many steps stand.
+/// The least model of the clauses on the ordered variables, or a log that refutes them, or one of
+/// as many steps as the limit, at least 1, allows. It decides the least unassigned variable as 0,
+/// propagates fully before each decision, and learns the clause of the first unique implication
+/// point. A conflict without decisions ends in `Unsat`, even where the limit is reached.
 pub fn solve(alloc: Global, cnf: &Cnf, limit: Option<u64>) -> Result<Answer, NoMemory>
     requires { IfSome limit (λ n. 0 < n) }
     ensures { IfOk result (IsAnswer cnf.now.variables cnf.now.front cnf.now.clauses limit) }

@@ -11,7 +11,7 @@ use clause_search::{Entry, Trail};
 use std::alloc::Global;
 use support::NoMemory;
 
-/// What the clauses are before any decision.
+/// The state of the clauses before any decision.
 #[derive(Drop)]
 pub struct Start {
     /// The literals of the unit clauses, each once.
@@ -22,7 +22,7 @@ pub struct Start {
     pub conflict: Option<u64>,
 }
 
-/// Looks at a clause: its first two literals are watched, or its one literal comes onto the trail.
+/// Looks at a clause: its first two literals are watched, or its one literal is put on the trail.
 /// The answer is whether it is false.
 fn add_clause(
     variables: u64,

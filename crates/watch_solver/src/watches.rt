@@ -43,7 +43,7 @@ impl WatchList {
         }
     }
 
-    /// The watch at a place, if there is one.
+    /// The watch at an index, if there is one.
     fn get(&self, place: usize) -> Option<Watch>
         ensures value { result ≡ slice_get self.now place }
         ensures within { IfSome result (λ _. place < usize.MAX) }
@@ -59,7 +59,7 @@ impl WatchList {
         Ok(())
     }
 
-    /// Puts a watch in the place of another.
+    /// Replaces the watch at an index.
     fn set(&mut self, place: usize, watch: Watch)
         requires { place < length self.old }
         ensures { self.new ≡ slice_set self.old place watch }
@@ -67,7 +67,7 @@ impl WatchList {
         self.watches[place] = watch;
     }
 
-    /// Takes the watch at a place away and puts the last one there.
+    /// Removes the watch at an index and puts the last one there.
     fn remove(&mut self, place: usize) -> Watch
         requires { place < length self.old }
         ensures { self.new ≡ swap_remove self.old place result }
@@ -109,7 +109,7 @@ impl Watches {
         })
     }
 
-    /// The watch of a literal at a place, if there is one.
+    /// The watch of a literal at an index, if there is one.
     pub fn get(&self, code: Code, place: usize) -> Option<Watch>
         ensures value { result ≡ slice_get (list_of self.now.lists.items (lit_of code)) place }
         ensures within { IfSome result (λ _. place < usize.MAX) }
@@ -117,7 +117,7 @@ impl Watches {
         self.lists.get(code.index())?.get(place)
     }
 
-    /// Puts a watch in the place of another.
+    /// Replaces the watch at an index.
     pub fn set(&mut self, code: Code, place: usize, watch: Watch)
         requires { place < length (list_of self.old.lists.items (lit_of code)) }
         ensures lists { self.new.lists.items ≡ with_list self.old.lists.items (lit_of code) (slice_set (list_of self.old.lists.items (lit_of code)) place watch) }
@@ -126,7 +126,7 @@ impl Watches {
         self.lists[code.index()].set(place, watch);
     }
 
-    /// Takes the watch at a place away and puts the last one there.
+    /// Removes the watch at an index and puts the last one there.
     pub fn remove(&mut self, code: Code, place: usize) -> Watch
         requires { place < length (list_of self.old.lists.items (lit_of code)) }
         ensures lists { self.new.lists.items ≡ with_list self.old.lists.items (lit_of code) (swap_remove (list_of self.old.lists.items (lit_of code)) place result) }
@@ -145,7 +145,7 @@ impl Watches {
         Ok(())
     }
 
-    /// Has a clause watch another pair, whose first literal it hasn't watched.
+    /// Has a clause watch another pair, whose first literal it did not watch.
     pub fn watch_pair(&mut self, clause: u32, pair: Pair) -> Result<(), NoMemory>
         requires clause { clause < length self.old.pairs.items }
         requires room { index_of (lit_of pair.first) < length self.old.lists.items }

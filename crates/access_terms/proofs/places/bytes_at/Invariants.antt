@@ -1,4 +1,4 @@
--- The bytes are those at the offset where it is one of the places so far.
+-- The bytes are those at the offset where it is one of those so far.
 use Rattle.std.proofs.Common.{◌≡◌, ◌<◌, true, length, take, drop, Some}
 use Rattle.memory_access.specs.Accesses.{admits}
 use Rattle.bv_terms.specs.Trees.{Keeps, term_at}

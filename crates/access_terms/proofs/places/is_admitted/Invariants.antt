@@ -1,4 +1,4 @@
--- True where the offset is one of the places so far, and the block admits it.
+-- True where the offset is one of those so far, and the block admits it.
 use Rattle.std.proofs.Common.{◌≡◌, ◌&&◌, nat_lt, Some}
 use Rattle.memory_access.specs.Accesses.{admits}
 use Rattle.bv_terms.specs.Trees.{IsTerm, Keeps, bit_at, term_at}

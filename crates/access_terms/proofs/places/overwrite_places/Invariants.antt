@@ -1,4 +1,4 @@
--- The bytes are put where the offset is one of the places so far.
+-- The bytes are put where the offset is one of those so far.
 use Rattle.std.proofs.Common.{◌≡◌, ◌%◌, ◌&&◌, cond, nat_eq, nat_lt, length}
 use Rattle.bv_terms.specs.Trees.{Keeps, bit_at, term_at}
 use Rattle.mem_terms.specs.Values.{Reading}

@@ -1,4 +1,4 @@
--- The inputs of the circuit are its digits.
+-- The inputs of the circuit are its bits.
 use Rattle.bench_steps.proofs.circuits.sizes.Goals as goal
 
 pub clauses_of-requires-clause-order : goal.clauses_of-requires-clause-order

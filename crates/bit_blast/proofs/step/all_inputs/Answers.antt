@@ -1,4 +1,4 @@
--- The digits of one more variable come behind the others.
+-- The bits of one more variable come after the others.
 use Rattle.std.proofs.Common.{suc, ◌≡◌, ◌<◌, ◌+◌, ◌++◌, [], List, get_or, take, length, arith, ap, sym, ◌∙◌}
 use Rattle.std.proofs.lemmas.Option.{slice_get-get_or}
 use Rattle.gates.specs.declared.circuit.GateId.{GateId}

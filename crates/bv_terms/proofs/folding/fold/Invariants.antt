@@ -1,4 +1,4 @@
--- The answers so far stand for the trees so far, and what is left takes these to the trees of all.
+-- The answers so far denote the trees so far, and what is left takes these to the trees of all.
 use Rattle.std.proofs.Common.{List}
 use Rattle.std.specs.List.{AllZip}
 use Rattle.bv_terms.specs.Tree.{Tree}

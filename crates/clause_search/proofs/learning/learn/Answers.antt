@@ -1,4 +1,4 @@
--- The learned clause stands, and its literal at the place gone back to.
+-- The learned clause is added, and its literal at the position gone back to.
 use Rattle.std.proofs.Common.{◌∙◌, ◌+◌, List, length, refl, ap, subst}
 use Rattle.clause_log.specs.declared.step.Step.{Step}
 use Rattle.clause_search.specs.declared.trail.Entry.{Entry}

@@ -1,4 +1,4 @@
--- One more place.
+-- One more position.
 use Rattle.std.proofs.Common.{slice_index_or}
 use Rattle.clause_search.proofs.Walking.{has-index}
 use Rattle.clause_search.proofs.Ordering.{opposites-push}

@@ -1,4 +1,4 @@
--- The literals so far are the one or false before the place, and before no earlier one.
+-- The literals so far are the one or false before the position, and before no earlier one.
 use Rattle.std.proofs.Common.{ℕ, ◌≤◌, ◌≡◌, ◌⊎◌, drop, take}
 use Rattle.clause_log.specs.Members.{Has}
 use Rattle.clause_lits.specs.declared.lit.Lit.{Lit}

@@ -1,4 +1,4 @@
--- One more digit turned, in a circuit that stays.
+-- One more bit inverted, in a circuit that stays.
 use Rattle.std.proofs.Common.{◌≡◌, ◌<◌, false, length, get_or, arith, refl, ◌∙◌}
 use Rattle.gates.specs.declared.circuit.GateId.{GateId}
 use Rattle.gate_arith.proofs.Digits.{keeps_self}

@@ -1,4 +1,4 @@
--- One more place.
+-- One more bit.
 use Rattle.std.proofs.Common.{◌<◌, false, length, arith}
 use Rattle.gates.specs.declared.circuit.GateId.{GateId}
 use Rattle.gate_arith.proofs.Zips.{no_places, zip-more, zip-whole}

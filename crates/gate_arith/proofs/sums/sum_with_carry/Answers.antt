@@ -1,4 +1,4 @@
--- One more place, by the full adder.
+-- One more bit, by the full adder.
 use Rattle.std.proofs.Common.{◌≡◌, ◌<◌, ◌+◌, ◌-◌, false, length, arith}
 use Rattle.gates.specs.declared.circuit.GateId.{GateId}
 use Rattle.gate_arith.proofs.Adders.{no_sum, sum-more, sum-whole}

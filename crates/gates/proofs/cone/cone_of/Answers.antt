@@ -1,4 +1,4 @@
--- What the gate at a place names comes before it, and is marked with it.
+-- What the gate at an index names comes before it, and is marked with it.
 use Rattle.std.proofs.Common.{◌≡◌, ◌∙◌, ◌+◌, ◌-◌, ◌<◌, ◌≤◌, All, Bool, true, false, List, slice_set, ap, arith, get_or, length, subst, sym, ℕ}
 use Rattle.gates.specs.declared.circuit.Gate.TheVariants.{Zero}
 use Rattle.gates.specs.Cone.{IsCone, operands}

@@ -1,4 +1,4 @@
--- The operands of marked gates are marked, from a place on.
+-- The operands of marked gates are marked, from an index on.
 use Rattle.gates.specs.Cone.{IsCone}
 use Rattle.gates.proofs.cone.cone_of.Given as goal
 

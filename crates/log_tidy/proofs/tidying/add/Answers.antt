@@ -1,4 +1,4 @@
--- The step stands, with its entry.
+-- The step is added, with its entry.
 use Rattle.std.proofs.Common.{◌≡◌, ◌+◌, List, None, arith, length, subst, sym}
 use Rattle.clause_log.specs.declared.step.Step.{Step}
 use Rattle.clause_search.specs.Searching.{standing}

@@ -1,4 +1,4 @@
--- A step of an empty clause alone is a refutation.
+-- A step of an empty clause is by itself a refutation.
 use Rattle.std.proofs.Common.{◌≡◌, ◌++◌, ◌∷◌, ◌∙◌, [], List, Some, ap, subst, sym}
 use Rattle.std.proofs.lemmas.Option.{get_or_from_slice_get}
 use Rattle.clause_lits.specs.declared.lit.Lit.{Lit}

@@ -1,4 +1,4 @@
--- The blocks so far are those of the first sizes and places.
+-- The blocks so far are those of the first sizes and contents.
 use Rattle.mem_terms.proofs.GivenTerms.{BlocksSoFar}
 use Rattle.mem_terms.proofs.given.given_blocks.Given as goal
 

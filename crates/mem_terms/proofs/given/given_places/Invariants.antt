@@ -1,4 +1,4 @@
--- The bytes so far are those of the first places.
+-- The bytes so far are the first of the contents.
 use Rattle.mem_terms.proofs.GivenTerms.{BytesSoFar}
 use Rattle.mem_terms.proofs.given.given_places.Given as goal
 

@@ -1,4 +1,4 @@
--- The order is one that may be asked for, and what is answered in digits is answered in numbers.
+-- The order is one that may be asked for, and what is answered in bits is answered in numbers.
 use Rattle.pair_questions.proofs.Answered.{asks_numbers, least_is, long_digits, none_is}
 use Rattle.pair_questions.proofs.Mentioned.{has_all}
 use Rattle.pair_questions.proofs.Numbered.{are_different, are_variables}

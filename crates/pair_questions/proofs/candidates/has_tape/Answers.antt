@@ -1,4 +1,4 @@
--- Terms are compared place by place.
+-- Terms are compared index by index.
 use Rattle.std.proofs.Common.{ℕ, ◌≡◌, ◌<◌, ◌+◌, inl, inr, List, length, map, take, get_or, Contains, ap, sym, subst, ◌∙◌, arith, refl}
 use Rattle.std.specs.Bool.{Decides}
 use Rattle.std.proofs.lemmas.Bool.{false≢true}

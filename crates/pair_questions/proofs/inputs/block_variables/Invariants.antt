@@ -1,4 +1,4 @@
--- So many places so far.
+-- This number of bytes so far.
 use Rattle.std.proofs.Common.{◌≡◌, ◌≤◌, ◌++◌, length}
 use Rattle.std.specs.List.{flat_map}
 use Rattle.bv_terms.specs.Trees.{Extends}

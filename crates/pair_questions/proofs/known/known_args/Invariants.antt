@@ -1,4 +1,4 @@
--- The arguments so far are as many of the values.
+-- The arguments so far are those of the first values.
 use Rattle.std.proofs.Common.{ℕ, ◌≡◌, take}
 use Rattle.points.specs.Code.{ArgsFit}
 use Rattle.bv_terms.specs.Trees.{Keeps}

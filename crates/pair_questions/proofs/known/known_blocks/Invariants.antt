@@ -1,4 +1,4 @@
--- The blocks so far have the places of as many blocks.
+-- The contents so far are those of the first blocks.
 use Rattle.std.proofs.Common.{ℕ, ◌≡◌, All, List, length, map, take}
 use Rattle.byte_block.specs.declared.block.MemoryBlock.{MemoryBlock}
 use Rattle.points.specs.Code.{BytesFit}

@@ -1,4 +1,4 @@
--- The places so far have as many of the bytes.
+-- The contents so far are those of the first bytes.
 use Rattle.std.proofs.Common.{ℕ, ◌≡◌, length, map, take}
 use Rattle.points.specs.Code.{BytesFit}
 use Rattle.bv_terms.specs.Trees.{Keeps}

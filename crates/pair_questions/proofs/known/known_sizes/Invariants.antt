@@ -1,4 +1,4 @@
--- The sizes so far are those of as many blocks.
+-- The sizes so far are those of the first blocks.
 use Rattle.std.proofs.Common.{ℕ, ◌≡◌, length, map, take}
 use Rattle.byte_block.specs.declared.block.MemoryBlock.{MemoryBlock}
 use Rattle.bv_terms.specs.Trees.{IsTerm, Keeps, term_at}

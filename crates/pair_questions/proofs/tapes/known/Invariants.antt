@@ -1,4 +1,4 @@
--- The words so far are as many of the tape's.
+-- The words so far are the tape's first ones.
 use Rattle.std.proofs.Common.{ℕ, ◌≡◌, take}
 use Rattle.bv_terms.specs.Trees.{Keeps}
 use Rattle.mem_terms.specs.Inputs.{AreWords, words_at}

@@ -1,4 +1,4 @@
--- The registers so far are those of the front of each list.
+-- The registers so far are those of a prefix of each list.
 use Rattle.std.proofs.Common.{◌≡◌, ◌≤◌, length, take, cond}
 use Rattle.bv_terms.specs.Trees.{Keeps, bit_at}
 use Rattle.mem_terms.specs.Values.{AreSymValues, Reading, values_at}

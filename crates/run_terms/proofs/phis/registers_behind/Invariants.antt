@@ -1,4 +1,4 @@
--- What is left of the phis takes the registers so far to those behind all.
+-- What is left of the phis takes the registers so far to those after all.
 use Rattle.std.proofs.Common.{◌≡◌, drop, length}
 use Rattle.points.specs.declared.machine.Machine.{Machine}
 use Rattle.points.specs.Run.{with_phis}

@@ -1,4 +1,4 @@
--- The word so far is the one among the first places of the tape.
+-- The word so far is the one among the first words of the tape.
 use Rattle.std.proofs.Common.{take, slice_index}
 use Rattle.bv_terms.specs.Trees.{Keeps, Makes, term_at}
 use Rattle.mem_terms.specs.Inputs.{words_at}

@@ -1,4 +1,4 @@
--- What the term at a place names comes before it, and is marked with it.
+-- What the term at an index names comes before it, and is marked with it.
 use Rattle.std.proofs.Common.{◌≡◌, ◌∙◌, ◌+◌, ◌-◌, ◌<◌, ◌≤◌, Bool, true, false, List, [], ap, arith, get_or, length, subst, sym}
 use Rattle.bv_terms.specs.declared.term.Term.{Term}
 use Rattle.bv_terms.specs.declared.term.Term.TheVariants as term

@@ -1,4 +1,4 @@
--- What is named from a place on is marked.
+-- What is named from an index on is marked.
 use Rattle.sat_ask.specs.Cones.{IsCone}
 use Rattle.sat_ask.proofs.cone.cone_of.Given as goal
 

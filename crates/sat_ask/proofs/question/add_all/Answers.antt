@@ -1,4 +1,4 @@
--- Each term of the order is a variable, which has its digits after the others.
+-- Each term of the order is a variable, which has its bits after the others.
 use Rattle.std.proofs.Common.{◌≡◌, ◌∙◌, List, Some, ap, arith, get_or, map, slice_get, subst, sym, take, ◌+◌}
 use Rattle.std.proofs.lemmas.Option.{get_or_from_slice_get, slice_get-get_or}
 use Rattle.bv_terms.specs.declared.term.TermId.{TermId}

@@ -1,4 +1,4 @@
--- The term at a place goes well after all terms, and its tree is the one of the place.
+-- The term at an index goes well after all terms, and its tree is the one of the index.
 use Rattle.std.proofs.Common.{sym}
 use Rattle.bv_terms.specs.declared.term.Term.TheVariants as term
 use Rattle.bv_terms.proofs.Keeping.{term_place}

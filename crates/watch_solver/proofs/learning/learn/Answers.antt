@@ -1,4 +1,4 @@
--- The learned clause stands and is watched, and its literal stands at the place gone back to.
+-- The learned clause is added and watched, and its literal is true at the position gone back to.
 use Rattle.std.proofs.Common.{ℕ, ◌≤◌, ◌+◌, List, length, take, arith, ap, refl, subst}
 use Rattle.std.proofs.lemmas.Option.{slice_get_within}
 use Rattle.clause_log.specs.declared.step.Step.{Step}

@@ -1,4 +1,4 @@
--- The clauses of the watches before the place are kept by one more entry.
+-- The clauses of the watches before the index are kept by one more entry.
 use Rattle.std.proofs.Common.{◌≤◌, ◌-◌, length}
 use Rattle.clause_search.specs.Ending.{left_of}
 use Rattle.watch_solver.specs.Codes.{lit_of}

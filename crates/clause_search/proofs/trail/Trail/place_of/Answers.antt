@@ -1,4 +1,4 @@
--- The variable's place is out of date where another one stands there, or none.
+-- The variable's position is out of date where another one is there, or none.
 use Rattle.std.proofs.Common.{Some, None, List, length, subst, refl}
 use Rattle.std.proofs.lemmas.Option.{slice_get_read}
 use Rattle.clause_search.specs.declared.trail.Entry.{Entry}

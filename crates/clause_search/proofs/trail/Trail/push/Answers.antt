@@ -1,4 +1,4 @@
--- The new entry has its place, and its last decision.
+-- The new entry has its position, and its last decision.
 use Rattle.std.proofs.Common.{◌≡◌, ◌∙◌, List, ℕ, Some, length, inl, inr, sym, ap, subst}
 use Rattle.std.proofs.lemmas.List.{length-map}
 use Rattle.clause_search.specs.declared.trail.Entry.{Entry}

@@ -1,4 +1,4 @@
--- The literal stands where its variable does.
+-- The literal is assigned where its variable is.
 use Rattle.std.proofs.Common.{arith}
 use Rattle.std.proofs.lemmas.Bool.{false≢true, ltb-true}
 use Rattle.clause_search.proofs.Placing.{stands-none, stands-here, stands-later}

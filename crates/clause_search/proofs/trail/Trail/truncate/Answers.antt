@@ -1,4 +1,4 @@
--- What is left keeps its places and decisions.
+-- What is left keeps its positions and decisions.
 use Rattle.std.proofs.Common.{◌∙◌, List, take, sym, subst, ap}
 use Rattle.std.proofs.lemmas.List.{take-map}
 use Rattle.clause_search.specs.declared.trail.Mark.{Mark}

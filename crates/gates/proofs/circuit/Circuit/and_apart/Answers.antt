@@ -1,4 +1,4 @@
--- An and gate has its two in order, so the values may stand the other way.
+-- An and gate has its two in order, so the values may be the other way round.
 use Rattle.std.proofs.Common.{◌∙◌, ◌&&◌, ap}
 use Rattle.gates.proofs.Stages.{IfOk-then}
 use Rattle.gates.specs.Values.{gate_at}

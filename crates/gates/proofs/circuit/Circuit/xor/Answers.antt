@@ -1,4 +1,4 @@
--- Of gates at one place the signs decide.
+-- Of gates at one index the signs decide.
 use Rattle.std.proofs.Common.{◌∙◌}
 use Rattle.gates.proofs.Stages.{IfOk-then}
 use Rattle.gates.proofs.Folding.{exclusive-place}

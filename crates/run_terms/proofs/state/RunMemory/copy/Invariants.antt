@@ -1,4 +1,4 @@
--- The blocks so far are the front of the list.
+-- The blocks so far are a prefix of the list.
 use Rattle.std.proofs.Common.{◌≡◌, take}
 use Rattle.run_terms.proofs.state.RunMemory.copy.Given as goal
 

@@ -1,4 +1,4 @@
--- The answers so far stand, so what is computed from them stands.
+-- The answers so far are right, so what is computed from them is.
 use Rattle.term_folds.proofs.Values.{small_stands, value_stands}
 use Rattle.term_folds.proofs.evaluate.EvaluateTermFold.node.Goals as goal
 

@@ -1,4 +1,4 @@
--- The answers so far stand, so the same operation over them stands; what replaces a variable stands for it.
+-- The answers so far are right, so the same operation over them is; what replaces a variable denotes it.
 use Rattle.std.proofs.Common.{◌∙◌, sym}
 use Rattle.term_folds.proofs.Substitutes.{follows_keeps, over-matched, over-within, replacement_stands, replacements_later, stored_stands}
 use Rattle.term_folds.proofs.substitute.SubstituteTermFold.node.Goals as goal

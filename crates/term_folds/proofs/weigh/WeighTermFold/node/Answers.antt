@@ -1,4 +1,4 @@
--- The weights so far stand, so the sum stands.
+-- The weights so far are right, so the sum is.
 use Rattle.std.proofs.Common.{◌∙◌}
 use Rattle.term_folds.proofs.Weights.{weight_stands}
 use Rattle.term_folds.proofs.weigh.WeighTermFold.node.Goals as goal
