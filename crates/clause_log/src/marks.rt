@@ -22,7 +22,9 @@ pub struct Marks {
 
 impl Marks {
     /// No literal, and room for those of the variables below `room`, or for none where memory is short.
-    pub fn new(alloc: Global, room: usize) -> Marks {
+    pub fn new(alloc: Global, room: usize) -> Marks
+        ensures { AreMarks result.signs.items [] }
+    {
         match vec![in alloc; None; room] {
             Ok(signs) => Marks { signs, count: 0 },
             Err(_) => Marks {

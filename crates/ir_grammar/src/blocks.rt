@@ -51,7 +51,7 @@ fn with_block(
     })
 }
 
-// The entry alone.
+// Only the entry.
 fn entry_alone(
     lines: WrittenLines,
     terminator: WrittenTerminator,
@@ -92,8 +92,7 @@ impl<'a, 'b> Cursor<'a, 'b> {
         let lines = self.lines(is_new, room)?;
         let word = self.terminator_word(0 < lines.room)?;
         let terminator = self.terminator_by(word)?;
-        self.attachments()?;
-        Ok((lines, terminator))
+        self.attachments().and(Ok((lines, terminator)))
     }
 
     #[tactic(auto, unfolding(crate::specs::Grammar::entry_block))]
@@ -104,7 +103,7 @@ impl<'a, 'b> Cursor<'a, 'b> {
         Ok(entry_alone(lines, terminator, self.no_items()))
     }
 
-    // Reads the label that begins a block, if one stands next.
+    // Reads the label that begins a block, if one is next.
     fn block_label(&mut self) -> Result<Option<WrittenName>, ReadFault>
         ensures { Reads (λ x. x) result self.new (begin_of true begins_block (λ t. named_at (label_of t.kind t.text) t.place) any self.old) }
     {
@@ -122,7 +121,7 @@ impl<'a, 'b> Cursor<'a, 'b> {
         }
     }
 
-    // Reads a block behind its label.
+    // Reads a block after its label.
     #[tactic(auto, unfolding(crate::specs::Grammar::next_block))]
     fn next_block(
         &mut self,
@@ -145,7 +144,7 @@ impl<'a, 'b> Cursor<'a, 'b> {
         }
     }
 
-    // Reads the blocks behind the entry.
+    // Reads the blocks after the entry.
     fn other_blocks(&mut self, entry: WrittenBlocks) -> Result<WrittenBlocks, ReadFault>
         ensures { Reads (λ x. x) result self.new (read true (spec.other_blocks entry) self.old) }
     {

@@ -38,7 +38,7 @@ fn header_word(text: &[u8]) -> Option<HeaderPart>
     }
 }
 
-// What a token stands for behind the parameters, if it may stand there.
+// What a token denotes after the parameters, if it is allowed there.
 fn header_part(token: &Token, behind_comdat: bool) -> Option<HeaderPart>
     ensures { result ≡ spelling.header_part behind_comdat token.now.kind token.now.text }
 {
@@ -143,7 +143,7 @@ impl<'a, 'b> Cursor<'a, 'b> {
         }
     }
 
-    // Passes what stands behind the parameters; the answer is whether `comdat` came last.
+    // Passes what follows the parameters; the result is whether `comdat` came last.
     fn header_parts(&mut self) -> Result<bool, ReadFault>
         ensures { Reads (λ x. x) result self.new (read true spec.header_parts self.old) }
     {
@@ -160,8 +160,8 @@ impl<'a, 'b> Cursor<'a, 'b> {
     /// Reads a function with a body, its word first.
     ///
     /// # Errors
-    /// `Unfit` where the first token that is left can't stand there, `PastLimit` where it can and is
-    /// the first that passes a limit.
+    /// `Unfit` where the first token that is left isn't allowed there, `PastLimit` where it is and
+    /// is the first that passes a limit.
     pub fn define(&mut self) -> Result<WrittenFunction, ReadFault>
         ensures { SpellsOrStops spec.define result self.old self.new }
     {
@@ -181,8 +181,7 @@ impl<'a, 'b> Cursor<'a, 'b> {
         let _behind_comdat = self.header_parts()?;
         let brace = self.brace()?;
         let blocks = self.blocks()?;
-        self.mark(b"}".as_slice())?;
-        Ok(WrittenFunction {
+        self.mark(b"}".as_slice()).and(Ok(WrittenFunction {
             returns_no_undef,
             returns,
             name,
@@ -191,6 +190,6 @@ impl<'a, 'b> Cursor<'a, 'b> {
             label: blocks.label,
             entry: blocks.entry,
             others: blocks.others,
-        })
+        }))
     }
 }

@@ -32,7 +32,7 @@ pub fn is_attached(text: &[u8]) -> bool
     text == b"!dbg".as_slice() || text == b"!prof".as_slice() || text == b"!llvm.loop".as_slice()
 }
 
-/// Whether digits alone stand behind a sign.
+/// Whether only digits follow a sign.
 pub fn is_numbered(text: &[u8]) -> bool
     ensures { result ≡ is_numbered text.now }
 {
@@ -52,7 +52,7 @@ fn is_record(text: &[u8]) -> bool
     }
 }
 
-// The label that a token is, where one may stand.
+// The label that a token is, where one is allowed.
 fn label_start(
     alloc: Global,
     text: &[u8],
@@ -68,7 +68,7 @@ fn label_start(
     Ok(Some(LineStart::Label(WrittenName { name, at })))
 }
 
-// What a token begins a line with; a label only where nothing stands before.
+// What a token begins a line with; a label only where nothing comes before.
 fn start_at(alloc: Global, token: &Token, is_new: bool) -> Result<Option<LineStart>, ReadFault>
     ensures { Reads (λ x. x) result [] (reads (spelling.line_start is_new token.now.kind token.now.text token.now.place) []) }
 {
@@ -96,7 +96,7 @@ fn starts_inst(token: &Token) -> bool
     }
 }
 
-// Whether something may stand behind a comma after this line.
+// Whether something may follow a comma after this line.
 fn takes_comma(line: &WrittenLine) -> bool
     ensures { result ≡ takes_comma line.now }
 {
@@ -195,7 +195,7 @@ impl<'a, 'b> Cursor<'a, 'b> {
         }
     }
 
-    // Passes an attachment behind its comma.
+    // Passes an attachment after its comma.
     #[tactic(auto, unfolding(crate::specs::Grammar::attachment))]
     fn attachment(&mut self) -> Result<(), ReadFault>
         ensures { Passes result self.new (read true attachment self.old) }
@@ -228,7 +228,7 @@ impl<'a, 'b> Cursor<'a, 'b> {
         }
     }
 
-    // Passes a record behind its word.
+    // Passes a record after its word.
     #[tactic(auto, unfolding(crate::specs::Grammar::record_rest))]
     fn record_rest(&mut self) -> Result<(), ReadFault>
         ensures { Passes result self.new (read true record_rest self.old) }
@@ -256,7 +256,7 @@ impl<'a, 'b> Cursor<'a, 'b> {
         }
     }
 
-    // What stands before the first comma of a line.
+    // What comes before the first comma of a line.
     fn started(
         &mut self,
         phi_too: bool,
@@ -276,7 +276,7 @@ impl<'a, 'b> Cursor<'a, 'b> {
         }
     }
 
-    // What stands behind a comma.
+    // What follows a comma.
     fn with_comma(&mut self, line: WrittenLine) -> Result<WrittenLine, ReadFault>
         ensures { Reads (λ x. x) result self.new (read true (with_comma line) self.old) }
     {
@@ -286,18 +286,12 @@ impl<'a, 'b> Cursor<'a, 'b> {
             WrittenLine::Entries(phi) => self.entry_or_attachment(phi),
             WrittenLine::Access(access) => self.align_or_attachment(access),
             WrittenLine::Indices(gep) => self.index_or_attachment(gep),
-            WrittenLine::Phi(phi) => {
-                self.attachment()?;
-                Ok(WrittenLine::Phi(phi))
-            }
-            WrittenLine::Inst(inst) => {
-                self.attachment()?;
-                Ok(WrittenLine::Inst(inst))
-            }
+            WrittenLine::Phi(phi) => self.attachment().and(Ok(WrittenLine::Phi(phi))),
+            WrittenLine::Inst(inst) => self.attachment().and(Ok(WrittenLine::Inst(inst))),
         }
     }
 
-    // One more comma and what stands behind it, if one follows, and whether one did.
+    // One more comma and what follows it, if one is next, and whether one was.
     fn one_comma(&mut self, line: WrittenLine) -> Result<(WrittenLine, bool), ReadFault>
         ensures { Reads (λ x. x) result self.new (step_of is_comma line_comma (λ l. any) (λ l comma ts. read true (with_comma l) ts) line self.old) }
     {
@@ -307,7 +301,7 @@ impl<'a, 'b> Cursor<'a, 'b> {
         Ok((self.with_comma(line)?, true))
     }
 
-    // The line with what stands behind its commas.
+    // The line with what follows its commas.
     fn behind_commas(&mut self, line: WrittenLine) -> Result<WrittenLine, ReadFault>
         ensures { Reads (λ x. x) result self.new (read true (spec.behind_commas line) self.old) }
     {
@@ -321,7 +315,7 @@ impl<'a, 'b> Cursor<'a, 'b> {
         }
     }
 
-    // Reads a line behind what begins it.
+    // Reads a line after what begins it.
     #[tactic(auto, unfolding(crate::specs::Grammar::next_line, crate::specs::Grammar::whole_line, crate::specs::Grammar::behind_commas))]
     fn next_line(
         &mut self,
@@ -349,8 +343,8 @@ impl<'a, 'b> Cursor<'a, 'b> {
         }
     }
 
-    /// Reads a label, where it may stand, or none, and instructions, as long as one begins. The room
-    /// is how many instructions the function may have behind these tokens.
+    /// Reads an optional label, where one is allowed, and instructions, as long as one begins. The
+    /// room is how many more instructions the function may have.
     pub fn lines(&mut self, is_new: bool, room: usize) -> Result<WrittenLines, ReadFault>
         ensures { Reads (λ x. x) result self.new (read true (spec.lines is_new room) self.old) }
     {

@@ -48,7 +48,7 @@ impl<'a, 'b> Cursor<'a, 'b> {
         Ok(WrittenType { of_type, at })
     }
 
-    // Reads a pointer behind its type.
+    // Reads a pointer after its type.
     #[tactic(auto, unfolding(crate::specs::Instructions::pointer))]
     fn pointer(&mut self) -> Result<WrittenTyped, ReadFault>
         ensures { Reads (λ x. x) result self.new (read true spec.pointer self.old) }
@@ -58,7 +58,7 @@ impl<'a, 'b> Cursor<'a, 'b> {
         Ok(WrittenTyped { of_type, operand })
     }
 
-    /// Reads an alloca behind its word; the number is its own among the function's instructions.
+    /// Reads an alloca after its word; the number is its own among the function's instructions.
     #[tactic(auto, unfolding(crate::specs::Instructions::alloca))]
     pub fn alloca(&mut self, into: WrittenName, number: usize) -> Result<WrittenLine, ReadFault>
         ensures { Reads (λ x. x) result self.new (read true (spec.alloca into number) self.old) }
@@ -71,7 +71,7 @@ impl<'a, 'b> Cursor<'a, 'b> {
         }))
     }
 
-    /// Reads a load behind its word.
+    /// Reads a load after its word.
     #[tactic(auto, unfolding(crate::specs::Instructions::load))]
     pub fn load(&mut self, into: WrittenName) -> Result<WrittenLine, ReadFault>
         ensures { Reads (λ x. x) result self.new (read true (spec.load into) self.old) }
@@ -86,7 +86,7 @@ impl<'a, 'b> Cursor<'a, 'b> {
         }))
     }
 
-    /// Reads a store behind its word.
+    /// Reads a store after its word.
     #[tactic(auto, unfolding(crate::specs::Instructions::store))]
     pub fn store(&mut self) -> Result<WrittenLine, ReadFault>
         ensures { Reads (λ x. x) result self.new (read true spec.store self.old) }
@@ -99,7 +99,7 @@ impl<'a, 'b> Cursor<'a, 'b> {
         Ok(WrittenLine::Access(WrittenAccess::Store { value, pointer }))
     }
 
-    /// Reads a getelementptr behind its word, up to its first index.
+    /// Reads a getelementptr after its word, up to its first index.
     #[tactic(auto, unfolding(crate::specs::Instructions::gep))]
     pub fn gep(&mut self, into: WrittenName) -> Result<WrittenLine, ReadFault>
         ensures { Reads (λ x. x) result self.new (read true (spec.gep into) self.old) }
@@ -140,16 +140,15 @@ impl<'a, 'b> Cursor<'a, 'b> {
         Ok(WrittenLine::Inst(WrittenInst::Access { access, align }))
     }
 
-    /// Passes the number of a line's first attachment, behind its word.
+    /// Passes the number of a line's first attachment, after its word.
     #[tactic(auto, unfolding(crate::specs::Instructions::attached))]
     pub fn attached(&mut self, line: WrittenLine) -> Result<WrittenLine, ReadFault>
         ensures { Reads (λ x. x) result self.new (read true (spec.attached line) self.old) }
     {
-        self.metadata_number()?;
-        Ok(line)
+        self.metadata_number().and(Ok(line))
     }
 
-    /// Reads what stands behind a comma that an alignment may follow: that, or an attachment.
+    /// Reads what follows a comma where an alignment is allowed: that, or an attachment.
     #[tactic(auto, unfolding(crate::specs::Instructions::align_or_attachment))]
     pub fn align_or_attachment(&mut self, access: WrittenAccess) -> Result<WrittenLine, ReadFault>
         ensures { Reads (λ x. x) result self.new (read true (spec.align_or_attachment access) self.old) }
@@ -162,7 +161,7 @@ impl<'a, 'b> Cursor<'a, 'b> {
         self.attached(WrittenLine::Inst(WrittenInst::Access { access, align }))
     }
 
-    // Reads the type of an index, if one stands next.
+    // Reads the type of an index, if one is next.
     fn index_type(&mut self) -> Result<Option<WrittenIntType>, ReadFault>
         ensures { Reads (λ x. x) result self.new (begin_of true any (λ t. int_typed_at (width_in t) t.place) (λ t. is_width (width_in t)) self.old) }
     {
@@ -206,7 +205,7 @@ impl<'a, 'b> Cursor<'a, 'b> {
         }))
     }
 
-    // Passes the word of an attachment where a type could stand.
+    // Passes the word of an attachment where a type could be.
     fn attachment_or_type(&mut self) -> Result<(), ReadFault>
         ensures { Passes result self.new (one_of true class.attachment_or_type self.old) }
     {
@@ -221,7 +220,7 @@ impl<'a, 'b> Cursor<'a, 'b> {
         }
     }
 
-    /// Reads what stands behind a comma that an index may follow: that, or an attachment.
+    /// Reads what follows a comma where an index is allowed: that, or an attachment.
     #[tactic(auto, unfolding(crate::specs::Instructions::index_or_attachment))]
     pub fn index_or_attachment(&mut self, gep: WrittenGep) -> Result<WrittenLine, ReadFault>
         ensures { Reads (λ x. x) result self.new (read true (spec.index_or_attachment gep) self.old) }

@@ -1,4 +1,4 @@
-// Reading the last instruction of a block, behind its word.
+// Reading the last instruction of a block, after its word.
 ghost use Rattle.std.specs.Prelude.{◌≡◌, ◌&&◌, true};
 ghost use Rattle.token_forms.specs.Form.{reads, read, begin_of, step_of};
 ghost use Rattle.token_forms.specs.Answer.{Reads};
@@ -101,7 +101,7 @@ impl<'a, 'b> Cursor<'a, 'b> {
         self.cond_branch(bit)
     }
 
-    // Reads the type that begins a case, if one stands next; where there is room for the case.
+    // Reads the type that begins a case, if one is next; where there is room for the case.
     fn case_type(&mut self, room: bool) -> Result<Option<WrittenIntType>, ReadFault>
         ensures { Reads (λ x. x) result self.new (begin_of true is_type (λ t. int_typed_at (width_in t) t.place) (λ t. room && is_width (width_in t)) self.old) }
     {
@@ -181,16 +181,15 @@ impl<'a, 'b> Cursor<'a, 'b> {
         let default = self.target()?;
         self.mark(b"[".as_slice())?;
         let cases = self.cases()?;
-        self.mark_or_type(b"]".as_slice())?;
-        Ok(WrittenTerminator::Switch {
+        self.mark_or_type(b"]".as_slice()).and(Ok(WrittenTerminator::Switch {
             of_type,
             operand,
             default,
             cases,
-        })
+        }))
     }
 
-    /// Reads what stands behind the word of a block's last instruction, up to its attachments.
+    /// Reads what follows the word of a block's last instruction, up to its attachments.
     pub fn terminator_by(&mut self, word: TerminatorWord) -> Result<WrittenTerminator, ReadFault>
         ensures { Reads (λ x. x) result self.new (read true (spec.terminator_by word) self.old) }
     {

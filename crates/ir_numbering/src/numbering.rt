@@ -3,7 +3,7 @@ ghost use Rattle.std.specs.Prelude.{◌≡◌, [], IfOk};
 ghost use Rattle.ir_numbering.specs.Answer.{Numbers};
 ghost use Rattle.ir_numbering.specs.EntryName.{next_name};
 ghost use Rattle.ir_numbering.specs.Numbering as spec;
-ghost use Rattle.ir_numbering.specs.Numbering.{each_in, parameter_in, inst_in};
+ghost use Rattle.ir_numbering.specs.Numbering.{each_in, parameter_in, inst_in, named_behind};
 
 use crate::block_numbering::blocks;
 use crate::entry_name::next_name;
@@ -30,7 +30,7 @@ pub struct NamedParameter {
     pub name: Name,
 }
 
-// The name that is written, or the next one behind those of these parameters.
+// The name that is written, or the next one after those of these parameters.
 fn name_or_next(
     alloc: Global,
     name: Option<WrittenName>,
@@ -81,7 +81,7 @@ fn named_parameters(
     Ok(Sequence::from_vec(all))
 }
 
-/// The number of a name behind those of the table.
+/// The number of a name, a new one after those of the table.
 pub fn number(names: &mut Names, name: Name) -> Result<usize, NoMemory>
     ensures { Numbers result names.new (spec.number_in names.old name) }
 {
@@ -101,7 +101,7 @@ pub fn value(names: &mut Names, value: WrittenValue) -> Result<Operand, NoMemory
     }
 }
 
-/// An operand behind its type.
+/// An operand after its type.
 #[tactic(auto, unfolding(crate::specs::Numbering::typed_in))]
 pub fn typed(names: &mut Names, typed: WrittenTyped) -> Result<TypedOperand, NoMemory>
     ensures { Numbers result names.new (spec.typed_in names.old typed) }
@@ -334,7 +334,22 @@ fn parts(
     Ok(((parameters, blocks), names))
 }
 
-/// The function with its names numbered and the places of its sites.
+// The parameters and the blocks with their names numbered, and the names.
+fn named_parts(
+    alloc: Global,
+    parameters: Sequence<WrittenParameter>,
+    label: Option<WrittenName>,
+    entry: WrittenBody,
+    others: Sequence<WrittenBlock>,
+) -> Result<((Sequence<Parameter>, Sequence<Block>), Names), NoMemory>
+    ensures { IfOk result (λ parts. spec.parts_in (named_behind [] parameters) (spec.name_or label (next_name (spec.names_of (named_behind [] parameters)))) entry others ≡ spec.so parts.0 parts.1) }
+{
+    let named = named_parameters(alloc, parameters)?;
+    let label = name_or_next(alloc, label, named.as_slice())?;
+    parts(alloc, named, label, entry, others)
+}
+
+/// The function with its names numbered and the positions of its sites.
 #[tactic(auto, unfolding(crate::specs::Numbering::numbered))]
 pub fn numbered(alloc: Global, written: WrittenFunction) -> Result<Function, NoMemory>
     ensures { IfOk result (λ f. f ≡ spec.numbered written) }
@@ -350,9 +365,7 @@ pub fn numbered(alloc: Global, written: WrittenFunction) -> Result<Function, NoM
         entry,
         others,
     } = written;
-    let named = named_parameters(alloc, parameters)?;
-    let label = name_or_next(alloc, label, named.as_slice())?;
-    let ((parameters, blocks), names) = parts(alloc, named, label, entry, others)?;
+    let ((parameters, blocks), names) = named_parts(alloc, parameters, label, entry, others)?;
     Ok(Function {
         name: name.name,
         returns: returns.of_type,

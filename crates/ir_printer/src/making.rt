@@ -161,13 +161,20 @@ fn names_of(alloc: Global, insts: u64) -> Result<Names, NoMemory>
     ensures { IfOk result (λ names. names ≡ made_names insts) }
 {
     let mut names = Names::new(alloc);
+    push_names(alloc, insts, &mut names).and(Ok(names))
+}
+
+fn push_names(alloc: Global, insts: u64, names: &mut Names) -> Result<(), NoMemory>
+    requires { names.old ≡ [] }
+    ensures { OnOk result (names.new ≡ made_names insts) }
+{
     names.number(word_name(alloc, b"a")?)?;
     names.number(word_name(alloc, b"b")?)?;
     names.number(word_name(alloc, b"entry")?)?;
     for i in 0..insts {
         names.number(numbered_name(alloc, b"r", i)?)?;
     }
-    Ok(names)
+    Ok(())
 }
 
 fn block_of(

@@ -6,9 +6,9 @@ ghost use Rattle.register_slots.specs.StandIn.{IsStandIn};
 
 use crate::checking::is_allocation;
 use crate::colouring::{LiveRanges, Slots, slots_for};
-use crate::liveness::{definitions_of, live_names, predecessors_of};
+use crate::liveness::{Definition, definitions_of, live_names, predecessors_of};
 use crate::naming::first_names;
-use crate::occurrences::{occurrences_of, spans_of};
+use crate::occurrences::{Occurrence, Span, occurrences_of, spans_of};
 use crate::renaming::function_in;
 use ir_tree::{BlockIndex, Function};
 use std::alloc::Global;
@@ -21,27 +21,52 @@ struct Allocation {
     lives: Sequence<Sequence<usize>>,
 }
 
-/// Slots for the names of a function; none where too many names are live. Whether they are right is for
-/// the check to say.
-fn allocation_of(alloc: Global, f: &Function) -> Result<Option<Allocation>, NoMemory> {
+/// The occurrences of names in a function whose blocks have these spans.
+fn occurrences_in(
+    alloc: Global,
+    f: &Function,
+    spans: &[Span],
+) -> Result<Vec<Occurrence>, NoMemory> {
     let index = BlockIndex::of(alloc, f)?;
-    let spans = spans_of(alloc, f)?;
-    let occurrences = occurrences_of(alloc, f, &index, &spans)?;
-    let predecessors = predecessors_of(alloc, f)?;
-    let definitions = definitions_of(alloc, f.names.len(), &occurrences)?;
-    let predecessors = predecessors.as_slice();
-    let Some(lives) = live_names(alloc, predecessors, &definitions, &occurrences)? else {
+    occurrences_of(alloc, f, &index, spans)
+}
+
+/// Slots for the names with these occurrences; none where too many names are live.
+fn allocation_for(
+    alloc: Global,
+    spans: &[Span],
+    predecessors: &[Sequence<usize>],
+    definitions: &[Option<Definition>],
+    occurrences: &[Occurrence],
+) -> Result<Option<Allocation>, NoMemory> {
+    let Some(lives) = live_names(alloc, predecessors, definitions, occurrences)? else {
         return Ok(None);
     };
     let live = LiveRanges {
-        spans: &spans,
+        spans,
         predecessors,
-        definitions: &definitions,
-        occurrences: &occurrences,
+        definitions,
+        occurrences,
         lives: lives.as_slice(),
     };
     let slots = slots_for(alloc, &live)?;
     Ok(Some(Allocation { slots, lives }))
+}
+
+/// Slots for the names of a function; none where too many names are live. The check decides whether
+/// they are right.
+fn allocation_of(alloc: Global, f: &Function) -> Result<Option<Allocation>, NoMemory> {
+    let spans = spans_of(alloc, f)?;
+    let occurrences = occurrences_in(alloc, f, &spans)?;
+    let predecessors = predecessors_of(alloc, f)?;
+    let definitions = definitions_of(alloc, f.names.len(), &occurrences)?;
+    allocation_for(
+        alloc,
+        &spans,
+        predecessors.as_slice(),
+        &definitions,
+        &occurrences,
+    )
 }
 
 /// The function with its values in the slots that are found, if these are right.
@@ -67,9 +92,9 @@ fn slotted(alloc: Global, f: &Function) -> Result<Option<Function>, NoMemory>
 /// The function with its values in slots, where that leaves fewer names: names that are never needed
 /// at the same time share a slot, and the slots have the first names of the function.
 ///
-/// It answers none where there would be as many slots as names, where the names that are live are much
-/// more than the function, and where the slots that it finds are not right, as where a name is assigned
-/// twice or is read before it is assigned.
+/// It answers none where there would be as many slots as names, where there are far more live names
+/// than the function is long, and where the slots that it finds are not right, as where a name is
+/// assigned twice or is read before it is assigned.
 ///
 /// # Errors
 /// Out of memory.

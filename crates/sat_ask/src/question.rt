@@ -22,12 +22,12 @@ use gates::{GateId, to_cnf};
 use std::alloc::Global;
 use support::{NoMemory, Sequence};
 
-/// The least digits of the variables in `order` that make the goal true, of width 1, those of each
-/// variable with the highest first; or that none do, or how far a limit of learned clauses, at least
-/// 1, went, each with clauses that ask just this. `order` names each variable of the goal, and no
-/// variable twice. Each of its variables has its digits in the front of the clauses, also where the
-/// goal hasn't the variable; of other terms than the goal's there is no gate. The numbers of variables
-/// and of clauses and steps are below 2^62; that many can't be stored, so beyond it memory is short.
+/// The least bits of the variables in `order` that make the goal, of width 1, true, those of each
+/// variable most significant first; or that none do, or how far a limit of learned clauses, at
+/// least 1, went, each with clauses that ask exactly this. `order` names each variable of the goal,
+/// and no variable twice. The bits of its variables are the ordered variables of the clauses, even
+/// where the goal does not have the variable; besides them only the goal's terms have gates. The
+/// numbers of variables and of clauses and steps are below 2^62; more is out of memory.
 pub fn ask(
     alloc: Global,
     terms: &Terms,
@@ -81,7 +81,7 @@ fn searched(
     }
 }
 
-/// The number that variables, and clauses and steps together, are below.
+/// The numbers of variables, and of clauses and steps together, are below this.
 const MOST_NUMBERS: usize = 1 << 62;
 
 /// Whether the numbers of an answer are below 2^62.
@@ -115,7 +115,7 @@ fn widths_of(alloc: Global, terms: &Terms, order: &[TermId]) -> Result<Vec<u32>,
     Ok(widths)
 }
 
-/// Clauses that ask which digits of the variables in `order` make the goal true.
+/// Clauses that ask which bits of the variables in `order` make the goal true.
 fn clauses_of(alloc: Global, terms: &Terms, goal: TermId, order: &[TermId]) -> Result<Cnf, NoMemory>
     requires goal { IsTerm terms.now 1 goal }
     requires order { All (IsVariable terms.now) order.now }
@@ -124,8 +124,26 @@ fn clauses_of(alloc: Global, terms: &Terms, goal: TermId, order: &[TermId]) -> R
     ensures { IfOk result (Asks (goal_test terms.now goal order.now) (digit_count (variables_of terms.now order.now))) }
 {
     let mut blast = Blast::new(alloc);
-    add_all(terms, order, &mut blast)?;
-    let out = goal_gate(alloc, terms, goal, &mut blast)?;
+    clauses_by(alloc, terms, goal, order, &mut blast)
+}
+
+/// The same clauses, by gates that are made in an empty `blast`.
+fn clauses_by(
+    alloc: Global,
+    terms: &Terms,
+    goal: TermId,
+    order: &[TermId],
+    blast: &mut Blast,
+) -> Result<Cnf, NoMemory>
+    requires goal { IsTerm terms.now 1 goal }
+    requires order { All (IsVariable terms.now) order.now }
+    requires different { AreDifferent order.now }
+    requires all { HasAll terms.now goal order.now }
+    requires empty { blast.old.table ≡ [] }
+    ensures { IfOk result (Asks (goal_test terms.now goal order.now) (digit_count (variables_of terms.now order.now))) }
+{
+    add_all(terms, order, blast)?;
+    let out = goal_gate(alloc, terms, goal, blast)?;
     let front = blast.inputs()?;
     let cnf = to_cnf(alloc, blast.circuit(), out, &front)?;
     Ok(cnf)

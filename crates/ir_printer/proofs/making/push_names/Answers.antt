@@ -1,7 +1,7 @@
 use Rattle.std.proofs.Common.{arith}
 use Rattle.std.proofs.lemmas.Grind.{common_steps}
 use Rattle.ir_printer.proofs.Drawing.{names_more}
-use Rattle.ir_printer.proofs.making.names_of.Goals as goal
+use Rattle.ir_printer.proofs.making.push_names.Goals as goal
 
 pub loop-i-preserved : goal.loop-i-preserved
 loop-i-preserved c =

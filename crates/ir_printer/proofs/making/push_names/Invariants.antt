@@ -2,7 +2,7 @@ use Rattle.std.proofs.Common.{◌≡◌, ◌-◌}
 use Rattle.std.specs.Prelude.{fold}
 use Rattle.ir_tree.specs.Names.{with_name}
 use Rattle.ir_printer.specs.Made.{made_names, result_names}
-use Rattle.ir_printer.proofs.making.names_of.Given as goal
+use Rattle.ir_printer.proofs.making.push_names.Given as goal
 
 abbrev pub invariant-loop-i : goal.invariant-loop-i
 invariant-loop-i l = fold with_name l.names (result_names (l.insts - l.i) l.i) ≡ made_names l.insts

@@ -1,11 +1,11 @@
--- The inputs are the digits of the order, and the gate of the goal is its test.
+-- The inputs are the bits of the order, and the gate of the goal is its test.
 use Rattle.std.proofs.Common.{◌∙◌, List, ap, map, subst}
 use Rattle.bv_terms.specs.declared.variable.Variable.{Variable}
 use Rattle.gates.specs.declared.circuit.GateId.{GateId}
 use Rattle.gates.specs.declared.circuit.Gate.{Gate}
 use Rattle.gates.specs.Encoding.{Encodes, HasOneModelAFront}
 use Rattle.sat_ask.proofs.Orders.{all-known, goal-asked}
-use Rattle.sat_ask.proofs.question.clauses_of.Goals as goal
+use Rattle.sat_ask.proofs.question.clauses_by.Goals as goal
 
 pub goal_gate-requires-clause-known : goal.goal_gate-requires-clause-known
 goal_gate-requires-clause-known c = all-known c.args.terms.now c.args.goal c.args.order.now c.add_all.new.blast.table c.requires.all c.in_ok-add_all.ensures
