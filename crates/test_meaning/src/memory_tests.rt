@@ -1,13 +1,14 @@
 //! Runs of functions with pointers and memory.
 
 ghost use Rattle.ir_tree.specs.Limits.{IsWithinLimits};
+ghost use Rattle.choice_interp.specs.Runners.{IsRunner};
 
 use crate::expecting::expect;
 use crate::functions::{function_of, returns, run};
 use crate::memory_rows::{ACCESSES, CHOICES, CHOOSERS, ENTRIES, MOVES, TURNS};
 use crate::words::{fields_in, numbers_in, value_in};
 use byte_block::{BlockName, Byte, Memory, MemoryBlock, Ptr, Value};
-use choice_interp::{Ending, Ran, runner_for, runs_refine};
+use choice_interp::{Ending, Ran, Runner, runner_for, runs_refine};
 use ir_tree::Function;
 use points::{Bounds, Input, Outcome, refines};
 use std::alloc::Global;
@@ -25,7 +26,7 @@ const FIRST: Value = Value::Ptr(Ptr {
     offset: 0,
 });
 
-/// A given block with these bytes, and two places that are no bytes of it.
+/// A given block with these bytes, and room for two more.
 fn given_block(alloc: Global, number: u64, bytes: &[u8]) -> Result<MemoryBlock, NoMemory> {
     let mut places = Vec::new(alloc);
     for byte in bytes {
@@ -181,7 +182,7 @@ fn first_byte(memory: &Memory) -> Option<Byte> {
     block.places.as_slice().first().copied()
 }
 
-/// Whether a run of that function leaves 9 in the place of the byte that was given.
+/// Whether a run of that function leaves 9 instead of the byte that was given.
 fn is_overwritten(left: &Memory, given: &Memory) -> bool {
     let ending = Ending::Return(Some(Value::Num(1)));
     first_byte(left) == Some(Byte::Num(9))
@@ -189,15 +190,30 @@ fn is_overwritten(left: &Memory, given: &Memory) -> bool {
         && !runs_refine(ending, left, ending, given)
 }
 
+/// Whether a run by this runner begins with the given blocks, and leaves another byte.
+fn begins(runner: &mut Runner, f: &Function, input: &Input) -> Result<bool, NoMemory>
+    requires ready { IsRunner f.now input.now.blocks runner.old }
+    requires limits { IsWithinLimits f.now }
+    ensures ready { IsRunner f.now input.now.blocks runner.new }
+{
+    let is_returned = returns(runner, f, &BOUNDS, input, &[], 1)?;
+    Ok(is_returned && is_overwritten(&runner.machine.memory, &input.blocks))
+}
+
+fn begins_again(runner: &mut Runner, f: &Function, input: &Input) -> Result<bool, NoMemory>
+    requires ready { IsRunner f.now input.now.blocks runner.old }
+    requires limits { IsWithinLimits f.now }
+{
+    let first = begins(runner, f, input)?;
+    let second = begins(runner, f, input)?;
+    Ok(first && second)
+}
+
 fn begins_twice(alloc: Global, f: &Function, input: &Input) -> Result<bool, NoMemory>
     requires { IsWithinLimits f.now }
 {
     let mut runner = runner_for(alloc, f, &input.blocks)?;
-    let first = returns(&mut runner, f, &BOUNDS, input, &[], 1)?
-        && is_overwritten(&runner.machine.memory, &input.blocks);
-    let second = returns(&mut runner, f, &BOUNDS, input, &[], 1)?
-        && is_overwritten(&runner.machine.memory, &input.blocks);
-    Ok(first && second)
+    begins_again(&mut runner, f, input)
 }
 
 #[test]

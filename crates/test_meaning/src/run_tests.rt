@@ -1,13 +1,14 @@
 //! Runs of one function, whose one choice is added to its argument, by `interpret` and by a runner
-//! that is used again.
+//! that is reused.
 
 ghost use Rattle.ir_tree.specs.Limits.{IsWithinLimits};
+ghost use Rattle.choice_interp.specs.Runners.{IsRunner};
 
 use crate::expecting::expect;
 use crate::functions::{function_of, returns, run};
 use crate::words::{numbers_in, value_in};
 use byte_block::Value;
-use choice_interp::{Ran, runner_for};
+use choice_interp::{Ran, Runner, runner_for};
 use ir_tree::Function;
 use points::{Bounds, Input, Outcome};
 use std::alloc::Global;
@@ -23,7 +24,7 @@ const BOUNDS: Bounds = Bounds {
     bytes: 0,
 };
 
-/// An argument, what is returned, whether the tape holds just the choice that was taken, and the
+/// An argument, what is returned, whether the tape holds exactly the choice that was taken, and the
 /// tape.
 const ROWS: &str = "\
 200 44 plain: 100
@@ -77,8 +78,15 @@ fn runs_twice(alloc: Global, f: &Function, input: &Input) -> Result<bool, NoMemo
     requires { IsWithinLimits f.now }
 {
     let mut runner = runner_for(alloc, f, &input.blocks)?;
-    let first = returns(&mut runner, f, &BOUNDS, input, &[2], 3)?;
-    let second = returns(&mut runner, f, &BOUNDS, input, &[5], 6)?;
+    runs_again(&mut runner, f, input)
+}
+
+fn runs_again(runner: &mut Runner, f: &Function, input: &Input) -> Result<bool, NoMemory>
+    requires ready { IsRunner f.now input.now.blocks runner.old }
+    requires limits { IsWithinLimits f.now }
+{
+    let first = returns(runner, f, &BOUNDS, input, &[2], 3)?;
+    let second = returns(runner, f, &BOUNDS, input, &[5], 6)?;
     Ok(first && second)
 }
 

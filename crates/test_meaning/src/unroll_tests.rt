@@ -68,7 +68,7 @@ fn push_copy(text: &mut String, alloc: Global, copy: &BlockCopy) -> Result<(), F
     Ok(())
 }
 
-/// The copies within so many backward jumps, a line for each.
+/// The copies within this number of backward jumps, a line for each.
 fn copies_text(alloc: Global, f: &Function, turns: u64) -> Result<String, Fail> {
     let layered = layers(alloc, f, turns)?;
     let mut text = String::new(alloc);
@@ -78,23 +78,29 @@ fn copies_text(alloc: Global, f: &Function, turns: u64) -> Result<String, Fail> 
     Ok(text)
 }
 
+/// Whether the two blocks have these copies.
+fn has_copies(alloc: Global, turns: u64, copies: &str) -> Result<bool, Fail> {
+    let f = two_blocks(alloc)?;
+    let text = copies_text(alloc, &f, turns)?;
+    Ok(text.as_str() == copies)
+}
+
+/// The copies of the two blocks within 0, 1 and 2 backward jumps.
+const COPIES: [&str; 3] = [
+    "0.0: 1\n0.1: beyond beyond\n",
+    "0.0: 1\n0.1: 2 3\n1.0: 3\n1.1: beyond beyond\n",
+    "0.0: 1\n0.1: 2 3\n1.0: 3\n1.1: 4 5\n2.0: 5\n2.1: beyond beyond\n",
+];
+
 #[test]
 fn each_backward_jump_is_another_layer(rt: HostRuntime) -> Result<(), Fail> {
-    let f = two_blocks(rt.alloc())?;
-    for (turns, copies) in [
-        (0, "0.0: 1\n0.1: beyond beyond\n"),
-        (1, "0.0: 1\n0.1: 2 3\n1.0: 3\n1.1: beyond beyond\n"),
-        (
-            2,
-            "0.0: 1\n0.1: 2 3\n1.0: 3\n1.1: 4 5\n2.0: 5\n2.1: beyond beyond\n",
-        ),
-    ] {
-        assert!(rt; copies_text(rt.alloc(), &f, turns)?.as_str() == copies);
+    for (turns, copies) in COPIES.iter().enumerate() {
+        expect(has_copies(rt.alloc(), turns as u64, copies)?, copies)?;
     }
     Ok(())
 }
 
-/// The switch leads to its default, which is the block itself, and to a block that is not there.
+/// The switch leads to its default, which is the block itself, and to a block that does not exist.
 #[test]
 fn a_label_that_no_block_has_leads_nowhere(rt: HostRuntime) -> Result<(), Fail> {
     let alloc = rt.alloc();
@@ -119,17 +125,25 @@ fn a_label_that_no_block_has_leads_nowhere(rt: HostRuntime) -> Result<(), Fail> 
     )
 }
 
+/// Whether two blocks have too many copies within this number of backward jumps.
+fn are_too_many(alloc: Global, turns: u64) -> Result<bool, NoMemory> {
+    let f = two_blocks(alloc)?;
+    Ok(layers(alloc, &f, turns).is_err())
+}
+
+/// Whether a function without blocks has no copies.
+fn none_have_none(alloc: Global, turns: u64) -> Result<bool, NoMemory> {
+    let empty = function(alloc, Vec::new(alloc));
+    let layered = layers(alloc, &empty, turns)?;
+    Ok(layered.copies.is_empty())
+}
+
 #[test]
 fn too_many_copies_are_out_of_memory(rt: HostRuntime) -> Result<(), Fail> {
-    let alloc = rt.alloc();
-    let f = two_blocks(alloc)?;
-    let many = layers(alloc, &f, 9223372036854775807);
-    assert!(rt; many.is_err());
-    let most = layers(alloc, &f, u64::MAX);
-    assert!(rt; most.is_err());
-    let empty = function(alloc, Vec::new(alloc));
-    let none = layers(alloc, &empty, u64::MAX)?;
-    expect(none.copies.is_empty(), "too many copies are out of memory")
+    for turns in [9223372036854775807, u64::MAX] {
+        expect(are_too_many(rt.alloc(), turns)?, "too many copies")?;
+    }
+    expect(none_have_none(rt.alloc(), u64::MAX)?, "no copies")
 }
 
 const CHOSEN_AND_DOUBLED: &str =

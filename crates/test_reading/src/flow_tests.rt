@@ -1,6 +1,9 @@
 use crate::expecting::expect;
 use crate::made_functions::function_of;
-use ir_tree::{BlockIndex, IrType, Site, are_numbered, first_definitions, successors, targets_of};
+use ir_tree::{
+    Block, BlockIndex, IrType, Site, are_numbered, first_definitions, successors, targets_of,
+};
+use std::alloc::Global;
 use std::test::Fail;
 use tv_num::Width;
 
@@ -20,14 +23,20 @@ c:
 #[test]
 fn a_terminator_has_its_targets(rt: HostRuntime) -> Result<(), Fail> {
     let f = function_of(rt.alloc(), FOUR_BLOCKS)?;
-    if let [l, m, n, c] = f.blocks.as_slice() {
-        let found = targets_of(rt.alloc(), &l.terminator)?;
-        assert!(rt; found.as_slice() == [n.label, m.label, n.label].as_slice());
-        assert!(rt; targets_of(rt.alloc(), &c.terminator)?.is_empty());
-    } else {
-        assert!(rt; false);
-    }
-    Ok(())
+    lead_to_their_targets(rt.alloc(), f.blocks.as_slice())
+}
+
+fn lead_to_their_targets(alloc: Global, blocks: &[Block]) -> Result<(), Fail> {
+    let [l, m, n, c] = blocks else {
+        return Err(Fail::from("four blocks"));
+    };
+    let of_return = targets_of(alloc, &c.terminator)?;
+    expect(of_return.is_empty(), "a return has no targets")?;
+    let of_switch = targets_of(alloc, &l.terminator)?;
+    expect(
+        of_switch.as_slice() == [n.label, m.label, n.label].as_slice(),
+        "a terminator has its targets",
+    )
 }
 
 /// A block's successors are numbers of blocks; 4 is that of none.
@@ -35,25 +44,27 @@ fn a_terminator_has_its_targets(rt: HostRuntime) -> Result<(), Fail> {
 fn blocks_have_successors(rt: HostRuntime) -> Result<(), Fail> {
     let f = function_of(rt.alloc(), FOUR_BLOCKS)?;
     let graph = successors(rt.alloc(), &f)?;
-    if let [l, m, n, c] = graph.as_slice() {
-        assert!(rt; l.as_slice() == [2, 1, 2].as_slice());
-        assert!(rt; m.as_slice() == [0].as_slice());
-        assert!(rt; n.as_slice() == [4].as_slice());
-        assert!(rt; c.is_empty());
-    } else {
-        assert!(rt; false);
-    }
-    Ok(())
+    let are_right = match graph.as_slice() {
+        [l, m, n, c] => {
+            l.as_slice() == [2, 1, 2].as_slice()
+                && m.as_slice() == [0].as_slice()
+                && n.as_slice() == [4].as_slice()
+                && c.is_empty()
+        }
+        _ => false,
+    };
+    expect(are_right, "blocks have successors")
 }
 
 #[test]
 fn a_label_has_a_block(rt: HostRuntime) -> Result<(), Fail> {
     let f = function_of(rt.alloc(), FOUR_BLOCKS)?;
     let index = BlockIndex::of(rt.alloc(), &f)?;
+    let mut are_right = index.place(&f, f.names.len()) == 4;
     for (place, block) in f.blocks.as_slice().iter().enumerate() {
-        assert!(rt; index.place(&f, block.label) == place);
+        are_right = are_right && index.place(&f, block.label) == place;
     }
-    expect(index.place(&f, f.names.len()) == 4, "a label has a block")
+    expect(are_right, "a label has a block")
 }
 
 /// Name 1 is used before its definition, name 0 is defined twice, and name 2 not at all.

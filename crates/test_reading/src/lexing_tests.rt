@@ -1,6 +1,6 @@
 use crate::expecting::expect;
 use crate::token_lists::tokens_of;
-use ir_lexer::{LexFault, Lexer, lex};
+use ir_lexer::{LexFault, Lexer, Token, Tokens, lex};
 use std::alloc::Global;
 use std::test::Fail;
 use text_places::Place;
@@ -18,7 +18,7 @@ fn lexed(alloc: Global, text: &str) -> Result<Vec<u8>, Fail> {
 }
 
 /// Texts, each after a line with its tokens, as a lexer of regular expressions in another language
-/// gives them. `---` stands between two rows.
+/// gives them. `---` separates two rows.
 const TOKENS: &str = "\
 ; Local %r1; Mark =; Word add; Word i8; Number -5; Mark ,; Global @a.b; Mark ...
 %r1 = add i8 -5, @a.b ; rest
@@ -114,17 +114,27 @@ fn the_table_has_what_the_lexer_gives(rt: HostRuntime) -> Result<(), Fail> {
     let text = b"; a comment\n@s = c\"two\nlines\" x\n  ; \"no string\n\ty";
     let table = lex(rt.alloc(), text)?;
     let tokens = tokens_of(rt.alloc(), text)?;
-    let lines = [2, 2, 2, 3, 5];
-    assert_eq!(rt; table.len(), lines.len());
-    assert_eq!(rt; tokens.len(), lines.len());
-    for (index, line) in lines.iter().enumerate() {
-        let token = &tokens[index];
-        assert_eq!(rt; table.kind(index), token.kind(), "at {index}");
-        assert!(rt; table.text(index) == token.text(), "at {index}");
-        assert_eq!(rt; table.line(index), token.place().line, "at {index}");
-        assert_eq!(rt; table.line(index), *line, "at {index}");
+    expect(
+        has_tokens(&table, tokens.as_slice(), &[2, 2, 2, 3, 5]),
+        "the table has what the lexer gives",
+    )
+}
+
+/// Whether the table has these tokens, on these lines.
+fn has_tokens(table: &Tokens, tokens: &[Token], lines: &[u64]) -> bool {
+    if table.len() != tokens.len() || tokens.len() != lines.len() {
+        return false;
     }
-    Ok(())
+    for (index, token) in tokens.iter().enumerate() {
+        let is_alike = table.kind(index) == token.kind()
+            && table.text(index) == token.text()
+            && table.line(index) == token.place().line
+            && table.line(index) == lines[index];
+        if !is_alike {
+            return false;
+        }
+    }
+    true
 }
 
 /// `skip` and `take` in turn pass the tokens that `next` gives.
@@ -140,14 +150,19 @@ fn parts_of_the_tokens(rt: HostRuntime) -> Result<(), Fail> {
     lexer.skip(3);
     let back = lexer.take(alloc, 2)?;
     assert!(rt; lexer.next()?.is_none());
-    for (part, first) in [(front, 0), (back, 5)] {
-        for (index, token) in part.as_slice().iter().enumerate() {
-            let same = tokens.get(first + index);
-            assert!(rt;
-                same.is_some_and(|other| other.text() == token.text() && other.at() == token.at()),
-                "{index} after {first}"
-            );
-        }
-    }
-    Ok(())
+    expect(
+        is_part(front.as_slice(), tokens.as_slice(), 0)
+            && is_part(back.as_slice(), tokens.as_slice(), 5),
+        "parts of the tokens",
+    )
+}
+
+/// Whether the tokens are those of a list from an index on.
+fn is_part(part: &[Token], tokens: &[Token], first: usize) -> bool {
+    let Some(rest) = tokens.get(first..) else {
+        return false;
+    };
+    part.len() <= rest.len()
+        && part.iter().zip(rest).all(|(token, other)| other.text() == token.text()
+            && other.at() == token.at())
 }

@@ -2,8 +2,8 @@
 use crate::expecting::expect;
 use crate::made_functions::function_of;
 use ir_tree::{
-    Block, Function, GepIndex, Inst, IrType, MemoryType, Operand, Site, Terminator, TypedOperand,
-    indexed_size, is_within_limits, sites_of, type_size,
+    Block, Function, GepIndex, Inst, IrType, MemoryType, Operand, Site, SiteList, Terminator,
+    TypedOperand, indexed_size, is_within_limits, sites_of, type_size,
 };
 use std::alloc::Global;
 use std::test::Fail;
@@ -28,7 +28,6 @@ fn arrays(alloc: Global, lengths: &[u64], element: IrType) -> Result<MemoryType,
 
 /// A function of one instruction.
 fn with_inst(alloc: Global, inst: Inst) -> Result<Function, Fail> {
-    let mut f = function_of(alloc, "define void @f() { ret void }")?;
     let mut insts = Sequence::from_vec(Vec::new(alloc));
     insts.push(inst)?;
     let mut blocks = Sequence::from_vec(Vec::new(alloc));
@@ -38,8 +37,21 @@ fn with_inst(alloc: Global, inst: Inst) -> Result<Function, Fail> {
         insts,
         terminator: Terminator::Unreachable,
     })?;
-    f.blocks = blocks;
-    Ok(f)
+    Ok(Function {
+        blocks,
+        ..function_of(alloc, "define void @f() { ret void }")?
+    })
+}
+
+fn sites_with(alloc: Global, inst: Inst) -> Result<SiteList, Fail> {
+    let f = with_inst(alloc, inst)?;
+    Ok(sites_of(alloc, &f)?)
+}
+
+/// Whether these are the sites of a function of one instruction.
+fn has_sites(alloc: Global, inst: Inst, expected: &[Site]) -> Result<bool, Fail> {
+    let list = sites_with(alloc, inst)?;
+    Ok(list.all.as_slice() == expected)
 }
 
 /// An integer takes whole bytes, a pointer eight; an index counts what its array holds.
@@ -136,8 +148,6 @@ fn an_index_enters_an_array(rt: HostRuntime) -> Result<(), Fail> {
         width,
         operand: Operand::Local(3),
     };
-    let inst = address(rt.alloc(), &[3, 4], &[index, index, index, index])?;
-    let list = sites_of(rt.alloc(), &with_inst(rt.alloc(), inst)?)?;
     let written = Site::Written { fits: true };
     let of_type = IrType::Int(width);
     let used = Site::Uses { of_type, name: 3 };
@@ -171,25 +181,15 @@ fn an_index_enters_an_array(rt: HostRuntime) -> Result<(), Fail> {
         used,
         Site::Written { fits: false },
     ];
-    expect(
-        list.all.as_slice() == expected.as_slice(),
-        "an index enters an array",
-    )
+    let inst = address(rt.alloc(), &[3, 4], &[index, index, index, index])?;
+    let is_listed = has_sites(rt.alloc(), inst, expected.as_slice())?;
+    expect(is_listed, "an index enters an array")
 }
 
 /// A store defines no name.
 #[test]
 fn a_store_has_no_result(rt: HostRuntime) -> Result<(), Fail> {
     let of_type = byte();
-    let inst = Inst::Store {
-        value: TypedOperand {
-            of_type,
-            operand: Operand::Local(1),
-        },
-        pointer: Operand::Null,
-        align: 1,
-    };
-    let list = sites_of(rt.alloc(), &with_inst(rt.alloc(), inst)?)?;
     let written = Site::Written { fits: true };
     let expected = [
         written,
@@ -203,59 +203,85 @@ fn a_store_has_no_result(rt: HostRuntime) -> Result<(), Fail> {
         written,
         written,
     ];
-    expect(
-        list.all.as_slice() == expected.as_slice(),
-        "a store has no result",
-    )
+    let inst = Inst::Store {
+        value: TypedOperand {
+            of_type,
+            operand: Operand::Local(1),
+        },
+        pointer: Operand::Null,
+        align: 1,
+    };
+    let is_listed = has_sites(rt.alloc(), inst, expected.as_slice())?;
+    expect(is_listed, "a store has no result")
+}
+
+const ONE_OF_EACH: &str = "define void @f(ptr nonnull %p) {
+a:
+  %x = add i8 1, 2
+  br label %b
+b:
+  %y = phi i8 [ 0, %a ]
+  %q = alloca [ 3 x [ 2 x i16 ] ]
+  %z = load i64, ptr %p
+  store i8 %y, ptr %q, align 8
+  %r = getelementptr inbounds i8, ptr %p, i16 -1
+  ret void
+}";
+
+/// The instructions of the second block.
+fn instructions_of(f: &Function) -> &[Inst] {
+    match f.blocks.as_slice() {
+        [_, block] => block.insts.as_slice(),
+        _ => &[],
+    }
+}
+
+fn is_filled_alloca(inst: &Inst) -> bool {
+    match inst {
+        Inst::Alloca {
+            number,
+            of_type,
+            align,
+            ..
+        } => *number == 3 && *align == 2 && of_type.lengths.as_slice() == [3, 2].as_slice(),
+        _ => false,
+    }
+}
+
+fn is_filled_address(inst: &Inst) -> bool {
+    match inst {
+        Inst::GetElementPtr {
+            inbounds: true,
+            nuw: false,
+            indices,
+            ..
+        } => { matches!(indices.as_slice(), [index] if index.operand == Operand::Number(65_535)) }
+        _ => false,
+    }
+}
+
+fn are_filled_in(f: &Function) -> bool {
+    match instructions_of(f) {
+        [
+            alloca,
+            Inst::Load { align: loaded, .. },
+            Inst::Store { align: stored, .. },
+            address,
+        ] => {
+            is_filled_alloca(alloca) && *loaded == 8 && *stored == 8 && is_filled_address(address)
+        }
+        _ => false,
+    }
 }
 
 /// The number of an alloca counts phis and the ends of blocks. An alignment that isn't written is the
 /// size of the type, or of the innermost element.
 #[test]
 fn numbers_and_alignments_are_filled_in(rt: HostRuntime) -> Result<(), Fail> {
-    let f = function_of(
-        rt.alloc(),
-        "define void @f(ptr nonnull %p) { a: %x = add i8 1, 2 br label %b b: %y = phi i8 [ 0, %a ] \
-        %q = alloca [ 3 x [ 2 x i16 ] ] %z = load i64, ptr %p store i8 %y, ptr %q, align 8 \
-        %r = getelementptr inbounds i8, ptr %p, i16 -1 ret void }",
-    )?;
-    let [parameter] = f.parameters.as_slice() else {
-        return Err(Fail::from("other parameters"));
-    };
-    assert!(rt; parameter.non_null);
-    let [_, block] = f.blocks.as_slice() else {
-        return Err(Fail::from("other blocks"));
-    };
-    let [
-        Inst::Alloca {
-            number,
-            of_type,
-            align,
-            ..
-        },
-        Inst::Load { align: loaded, .. },
-        Inst::Store { align: stored, .. },
-        Inst::GetElementPtr {
-            inbounds,
-            nuw,
-            indices,
-            ..
-        },
-    ] = block.insts.as_slice()
-    else {
-        return Err(Fail::from("other instructions"));
-    };
-    assert!(rt; *number == 3);
-    assert!(rt; of_type.lengths.as_slice() == [3, 2].as_slice());
-    assert!(rt; *align == 2);
-    assert!(rt; *loaded == 8);
-    assert!(rt; *stored == 8);
-    assert!(rt; *inbounds && !*nuw);
-    let [index] = indices.as_slice() else {
-        return Err(Fail::from("other indices"));
-    };
+    let f = function_of(rt.alloc(), ONE_OF_EACH)?;
+    let is_non_null = matches!(f.parameters.as_slice(), [parameter] if parameter.non_null);
     expect(
-        index.operand == Operand::Number(65_535),
+        is_non_null && are_filled_in(&f),
         "numbers and alignments are filled in",
     )
 }

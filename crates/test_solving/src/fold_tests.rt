@@ -1,4 +1,4 @@
-//! What is shared between terms, how they are written, and terms in the place of variables.
+//! What is shared between terms, how they are written, and terms substituted for variables.
 
 use crate::expecting::expect;
 use crate::written_terms::written;
@@ -64,7 +64,7 @@ fn terms_have_weights(rt: HostRuntime) -> Result<(), Fail> {
     )
 }
 
-/// A term of 3 bits in the place of a variable of 3 bits; nothing where it has other bits.
+/// A term of 3 bits replaces a variable of 3 bits; nothing where the term has another width.
 fn replace(substitute: &mut Substitute, number: u64, by: TermId) -> Result<(), NoMemory> {
     let count = substitute.terms().as_slice().len();
     if by.index < count && substitute.terms().width(by) == 3 {
@@ -89,17 +89,27 @@ fn exchanging(alloc: Global) -> Result<Substitute, NoMemory> {
     Ok(substitute)
 }
 
-/// Whether a text with x for y and y for x is another text.
-fn is_exchanged(alloc: Global, text: &str, want: &str) -> Result<bool, NoMemory> {
+/// What a substitution makes of a text's term.
+fn substituted(
+    alloc: Global,
+    text: &str,
+    substitute: &mut Substitute,
+) -> Result<Option<TermId>, NoMemory> {
     let mut terms = Terms::new(alloc);
     let id = written(alloc, &mut terms, text)?;
+    match fold(alloc, &terms, substitute) {
+        Ok(ids) => Ok(ids.get(id.index).copied()),
+        Err(_) => Err(NoMemory),
+    }
+}
+
+/// Whether a text with x for y and y for x is another text.
+fn is_exchanged(alloc: Global, text: &str, want: &str) -> Result<bool, NoMemory> {
     let mut substitute = exchanging(alloc)?;
-    let Ok(ids) = fold(alloc, &terms, &mut substitute) else {
-        return Err(NoMemory);
-    };
+    let found = substituted(alloc, text, &mut substitute)?;
     let mut store = substitute.into_terms();
     let want = written(alloc, &mut store, want)?;
-    Ok(ids.get(id.index).copied() == Some(want))
+    Ok(found == Some(want))
 }
 
 /// Two variables change places, so what replaces one is not replaced again.
