@@ -20,7 +20,7 @@ CASES = 199
 
 
 def ladder(blocks, width):
-    """Diamonds of four blocks, one behind the other."""
+    """Diamonds of four blocks, one after the other."""
     lines = [f"define i{width} @f(i{width} %v0) {{", "entry:", "  br label %h1"]
     count = blocks // 4
     for k in range(1, count + 1):
@@ -45,7 +45,7 @@ def ladder(blocks, width):
 
 
 def fans(blocks, width):
-    """Switches of many blocks that come together again, one behind the other."""
+    """Switches of many blocks that come together again, one after the other."""
     lines = [f"define i{width} @f(i{width} %v0) {{", "entry:", "  br label %s1"]
     count = max(1, blocks // (CASES + 3))
     for k in range(1, count + 1):

@@ -18,7 +18,7 @@ KINDS = ("proof", "test", "edit", "other")
 
 
 def fields(pid):
-    """The fields of a process behind its name: state, parent, .."""
+    """The fields of a process after its name: state, parent, .."""
     with open(f"/proc/{pid}/stat") as file:
         return file.read().rsplit(")", 1)[1].split()
 

@@ -5,7 +5,7 @@
 
 Two series, each doubling: modules of many functions up to the limit of a text, and modules of one
 function up to the limit of its instructions. A ratio near 2 from one line to the next says that
-reading is linear. Beside each stands the time of `opt -passes=verify -disable-output` on the same
+reading is linear. Beside each is the time of `opt -passes=verify -disable-output` on the same
 text (`apt-get install llvm-19`; left out where it isn't there). A third series is of texts of the
 greatest size that are no modules, or hardly. The target is an empty text, so nothing is judged. No
 test rests on these figures.

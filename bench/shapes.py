@@ -1,5 +1,5 @@
 #!/usr/bin/env python3
-"""Large inputs of many shapes: whether `tv` stands them, how long it takes, and with how much memory.
+"""Large inputs of many shapes: whether `tv` survives them, how long it takes, and with how much memory.
 
     bench/shapes.py [PATH OF tv] [WORD ..]      (default: crates/tv/out/tv, all shapes)
 
@@ -15,7 +15,7 @@ twice that size, which is its limit where it has one, under a stack of 256 KiB (
     shape's, where the run ended by a signal, or where twice the size took more than 2.2 times as
     long (times under 0.1 s are not compared).
 
-Behind the table stands the greatest memory of `opt-19 -passes=verify -disable-output` on a module of
+After the table comes the greatest memory of `opt-19 -passes=verify -disable-output` on a module of
 4,000 functions of 170 instructions, where it is installed, beside that of `tv check` of this module
 against itself. The last line counts. The status is 1 where a run ended by a signal, or with another
 status or line than the shape's. No test rests on the times.
@@ -94,7 +94,7 @@ def entries(n):
 
 
 def blocks(n):
-    """n blocks without instructions, one behind the other."""
+    """n blocks without instructions, one after the other."""
     lines = ["define i8 @f(i8 %x) {", "  br label %b1"]
     for k in range(1, n - 1):
         lines += [f"b{k}:", f"  br label %b{k + 1}"]

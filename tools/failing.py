@@ -3,7 +3,7 @@
 
     tools/failing.py [PATH OF tv] [--at-most N]     (default: crates/tv/out/tv, 1,000)
 
-A small library that stands before the C library's functions (`LD_PRELOAD`; it is built with `cc`) counts the
+A small library that is loaded before the C library (`LD_PRELOAD`; it is built with `cc`) counts the
 requests of a run and lets the Nth one fail. The jobs are an incorrect pair, a pair over memory, six pairs on
 1, 2 and 64 workers, a proof file that is written, and one that is checked.
 
