@@ -125,7 +125,7 @@ uses-then z k nil (inr (why, e)) = inr (why, ap (λ (y : Reading _). and_then y 
 refuses-then : {A X : Type 0} (z : Reading A) (k : A → Reader X) (u : Lexeme) → Refuses z u → Refuses (and_then z k) u
 refuses-then z k u (why, e) = (why, ap (λ (y : Reading _). and_then y k) e)
 
-module _ {A X : Type 0} {o1 : Lexeme → Bool} (g1 : Reader A) (g2 : A → Reader X) (L1 : Lawful o1 g1 g1) (nil : (a : A) → Uses (g2 a [])) where
+module _ {A X : Type 0} {o1 : Lexeme → Bool} (g1 : Reader A) (g2 : A → Reader X) (lawful : Lawful o1 g1 g1) (nil : (a : A) → Uses (g2 a [])) where
   abbrev both : Reader X
   both ts = and_then (g1 ts) g2
 
@@ -145,7 +145,7 @@ module _ {A X : Type 0} {o1 : Lexeme → Bool} (g1 : Reader A) (g2 : A → Reade
   }
     where
       W : Whole o1 g1 ts a mid
-      W = L1.whole ts a mid e
+      W = lawful.whole ts a mid e
 
       at : (u : Lexeme) → both ((W.front ++ L.front) ++ u ∷ []) ≡ g2 a (L.front ++ u ∷ [])
       at u = let again = W.again (L.front ++ u ∷ []) (follows u) in rw (append_assoc W.front L.front (u ∷ []), again) refl
