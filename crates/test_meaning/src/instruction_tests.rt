@@ -1,12 +1,12 @@
 use crate::by_interpreter::{interpreted, returned};
 use crate::by_terms::{evaluated, terms_of, valued};
 use crate::expecting::expect;
-use crate::instructions::{COLUMNS, Given, function_in, instruction_in, module_of};
+use crate::instructions::{COLUMNS, Column, Given, function_in, instruction_in, module_of};
 use crate::sums::SUMS;
 use byte_block::Value;
 use byte_block::Value::{Num, Poison};
 use ir_reader::read;
-use ir_tree::Function;
+use ir_tree::{Function, Module};
 use std::alloc::Global;
 use std::test::Fail;
 
@@ -16,6 +16,17 @@ fn both_sums(alloc: Global, function: &Function) -> Result<(u64, u64), Fail> {
     Ok((interpreted(alloc, function)?, evaluated(alloc, inst)?))
 }
 
+/// Fails where the interpreter or the terms give another sum for an instruction in a column.
+fn are_sums(alloc: Global, instruction: &str, column: Column, sum: u64) -> Result<(), Fail> {
+    let module = module_of(alloc, instruction, column)?;
+    is_sum(alloc, &module, sum, instruction)
+}
+
+fn is_sum(alloc: Global, module: &Module, sum: u64, instruction: &str) -> Result<(), Fail> {
+    let function = function_in(module).ok_or("the function is read")?;
+    expect(both_sums(alloc, function)? == (sum, sum), instruction)
+}
+
 #[test]
 fn interpreter_and_terms_give_the_sums(rt: HostRuntime) -> Result<(), Fail> {
     for line in SUMS.lines() {
@@ -23,9 +34,7 @@ fn interpreter_and_terms_give_the_sums(rt: HostRuntime) -> Result<(), Fail> {
         expect(sums.split_whitespace().count() == COLUMNS.len(), line)?;
         for (&column, digits) in COLUMNS.iter().zip(sums.split_whitespace()) {
             let sum = u64::from_str_radix(digits, 16)?;
-            let module = module_of(rt.alloc(), instruction, column)?;
-            let function = function_in(&module).ok_or("the function is read")?;
-            expect(both_sums(rt.alloc(), function)? == (sum, sum), line)?;
+            are_sums(rt.alloc(), instruction, column, sum)?;
         }
     }
     Ok(())

@@ -1,12 +1,11 @@
 //! Verdicts of the judge by counting on pairs with pointers and memory.
 
-ghost use Rattle.ir_tree.specs.Limits.{IsWithinLimits};
-
 use crate::expecting::expect;
-use crate::functions::function_of;
+use crate::functions::two_in;
 use crate::judge_rows::PAIRS;
 use crate::words::{fields_in, numbers_in, value_in};
-use ir_tree::Function;
+use ir_reader::read;
+use ir_tree::{Module, is_within_limits};
 use points::{Bounds, Budget, Pair, Point, Verdict, has_same_signature};
 use slow_judge::slow;
 use std::alloc::Global;
@@ -18,11 +17,12 @@ const BUDGET: Budget = Budget {
     weight: 100_000,
 };
 
-/// The verdict on a pair with two given blocks of at most this number of bytes.
-fn verdict(alloc: Global, source: &Function, target: &Function, bytes: u64) -> Result<Verdict, Fail>
-    requires source { IsWithinLimits source.now }
-    requires target { IsWithinLimits target.now }
-{
+/// The verdict on a module's pair with two given blocks of at most this number of bytes.
+fn verdict(alloc: Global, module: &Module, bytes: u64) -> Result<Verdict, Fail> {
+    let (source, target) = two_in(module).ok_or("a pair")?;
+    if !is_within_limits(source) || !is_within_limits(target) {
+        return Err(Fail::from("within the limits"));
+    }
     if bytes > 1 || !has_same_signature(source, target) {
         return Err(Fail::from("of one signature"));
     }
@@ -62,12 +62,10 @@ fn is_wanted(alloc: Global, verdict: &Verdict, wanted: &str) -> Result<bool, Fai
     }
 }
 
-/// The verdict on a pair of texts.
+/// The verdict on the pair of a text.
 fn verdict_on(alloc: Global, pair: &str, bytes: u64) -> Result<Verdict, Fail> {
-    let (source, target) = pair.split_once(" | ").ok_or("a pair")?;
-    let source = function_of(alloc, source)?;
-    let target = function_of(alloc, target)?;
-    verdict(alloc, &source, &target, bytes)
+    let module = read(alloc, pair.as_bytes()).ok().ok_or("a module")?;
+    verdict(alloc, &module, bytes)
 }
 
 fn holds(alloc: Global, line: &str) -> Result<bool, Fail> {

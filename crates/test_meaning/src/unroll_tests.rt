@@ -1,10 +1,9 @@
 //! The copies of blocks for each count of backward jumps, and what a pair needs and weighs.
 
-ghost use Rattle.ir_tree.specs.Limits.{IsWithinLimits};
-
 use crate::expecting::expect;
-use crate::functions::function_of;
-use ir_tree::{Block, Case, Function, Name, Names, Operand, Terminator};
+use crate::functions::two_in;
+use ir_reader::read;
+use ir_tree::{Block, Case, Function, Module, Name, Names, Operand, Terminator, is_within_limits};
 use points::{Bounds, Pair, has_same_signature};
 use std::alloc::Global;
 use std::test::Fail;
@@ -146,10 +145,17 @@ fn too_many_copies_are_out_of_memory(rt: HostRuntime) -> Result<(), Fail> {
     expect(none_have_none(rt.alloc(), u64::MAX)?, "no copies")
 }
 
-const CHOSEN_AND_DOUBLED: &str =
-    "define i8 @f(i8 %x) {\n  %a = freeze i4 poison\n  %r = add i8 %x, %x\n  ret i8 %r\n}\n";
-
-const SHIFTED: &str = "define i8 @f(i8 %x) {\n  %r = shl i8 %x, 1\n  ret i8 %r\n}\n";
+const DOUBLED_AND_SHIFTED: &str = "\
+define i8 @f(i8 %x) {
+  %a = freeze i4 poison
+  %r = add i8 %x, %x
+  ret i8 %r
+}
+define i8 @g(i8 %x) {
+  %r = shl i8 %x, 1
+  ret i8 %r
+}
+";
 
 const BOUNDS: Bounds = Bounds {
     turns: 4,
@@ -160,10 +166,12 @@ const BOUNDS: Bounds = Bounds {
 /// What a pair weighs, how many choices its functions take, and the widest choice of each.
 type Measures = (u64, [u64; 2], [u32; 2]);
 
-fn measured(source: &Function, target: &Function) -> Option<Measures>
-    requires source { IsWithinLimits source.now }
-    requires target { IsWithinLimits target.now }
-{
+/// What the pair of a module measures.
+fn measured(module: &Module) -> Option<Measures> {
+    let (source, target) = two_in(module)?;
+    if !is_within_limits(source) || !is_within_limits(target) {
+        return None;
+    }
     if !has_same_signature(source, target) {
         return None;
     }
@@ -179,11 +187,12 @@ fn measured(source: &Function, target: &Function) -> Option<Measures>
 /// one. The first takes one choice in each pass.
 #[test]
 fn a_pair_weighs_the_bits_of_its_results(rt: HostRuntime) -> Result<(), Fail> {
-    let source = function_of(rt.alloc(), CHOSEN_AND_DOUBLED)?;
-    let target = function_of(rt.alloc(), SHIFTED)?;
+    let module = read(rt.alloc(), DOUBLED_AND_SHIFTED.as_bytes())
+        .ok()
+        .ok_or("a module")?;
     let expected = (5 * (4 + 8 + 1 + 8 + 1), [5, 0], [4, 1]);
     expect(
-        measured(&source, &target) == Some(expected),
+        measured(&module) == Some(expected),
         "a pair weighs the bits of its results",
     )
 }

@@ -82,41 +82,29 @@ fn truths_of_two(rt: HostRuntime) -> Result<(), Fail> {
     Ok(())
 }
 
-/// The functions of two numbers of 64 bits.
-#[derive(Clone, Copy)]
-enum Number {
-    Equals,
-    Less,
-    LessSigned,
-    /// The first number.
-    Pick,
-    /// The low 8 bits of the first number.
-    Byte,
-    /// The first number at 128 bits.
-    Wide,
-}
-
-fn number_term(terms: &mut Terms, op: Number, a: TermId, b: TermId) -> Result<TermId, NoMemory>
+/// A function of two numbers of 64 bits: `first` is the first number by a choice, `byte` its low 8
+/// bits, and `wide` the first number at 128 bits.
+fn number_term(terms: &mut Terms, op: &str, a: TermId, b: TermId) -> Result<TermId, NoMemory>
     requires a { IsTerm terms.old 64 a }
     requires b { IsTerm terms.old 64 b }
 {
     match op {
-        Number::Equals => equals(terms, a, b),
-        Number::Less => less(terms, a, b),
-        Number::LessSigned => less_signed(terms, a, b),
-        Number::Pick => {
+        "equals" => equals(terms, a, b),
+        "less" => less(terms, a, b),
+        "less_signed" => less_signed(terms, a, b),
+        "first" => {
             let always = truth(terms, true)?;
             pick(terms, always, a, b)
         }
-        Number::Byte => resize(terms, a, 8),
-        Number::Wide => resize(terms, a, 128),
+        "byte" => resize(terms, a, 8),
+        _ => resize(terms, a, 128),
     }
 }
 
 fn number_of(
     alloc: Global,
     terms: &mut Terms,
-    op: Number,
+    op: &str,
     a: u64,
     b: u64,
 ) -> Result<Option<u128>, NoMemory> {
@@ -126,26 +114,34 @@ fn number_of(
     value_of(alloc, terms, id)
 }
 
+/// A function of two numbers, the numbers, and its value.
+const NUMBERS: &str = "\
+equals 5 5 1
+equals 5 6 0
+less 1 2 1
+less 2 2 0
+less 18446744073709551615 0 0
+less_signed 1 2 1
+less_signed 2 2 0
+less_signed 18446744073709551615 0 1
+less_signed 9223372036854775807 9223372036854775808 0
+first 3 4 3
+byte 300 0 44
+wide 18446744073709551615 0 18446744073709551615";
+
+fn is_valued(alloc: Global, terms: &mut Terms, row: &str) -> Result<(), Fail> {
+    let (op, rest) = row.split_once(" ").ok_or("a function")?;
+    let (a, rest) = rest.split_once(" ").ok_or("a number")?;
+    let (b, want) = rest.split_once(" ").ok_or("another number")?;
+    let found = number_of(alloc, terms, op, a.parse::<u64>()?, b.parse::<u64>()?)?;
+    expect(found == Some(want.parse::<u128>()?), row)
+}
+
 #[test]
 fn numbers_of_two(rt: HostRuntime) -> Result<(), Fail> {
-    let rows = [
-        (Number::Equals, 5, 5, 1),
-        (Number::Equals, 5, 6, 0),
-        (Number::Less, 1, 2, 1),
-        (Number::Less, 2, 2, 0),
-        (Number::Less, u64::MAX, 0, 0),
-        (Number::LessSigned, 1, 2, 1),
-        (Number::LessSigned, 2, 2, 0),
-        (Number::LessSigned, u64::MAX, 0, 1),
-        (Number::LessSigned, (1 << 63) - 1, 1 << 63, 0),
-        (Number::Pick, 3, 4, 3),
-        (Number::Byte, 300, 0, 44),
-        (Number::Wide, u64::MAX, 0, 18_446_744_073_709_551_615),
-    ];
     let mut terms = Terms::new(rt.alloc());
-    for &(op, a, b, want) in &rows {
-        let found = number_of(rt.alloc(), &mut terms, op, a, b)?;
-        assert!(rt; found == Some(want));
+    for row in NUMBERS.lines() {
+        is_valued(rt.alloc(), &mut terms, row)?;
     }
     Ok(())
 }

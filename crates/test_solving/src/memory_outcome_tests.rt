@@ -6,6 +6,7 @@ ghost use Rattle.mem_terms.specs.Values.{IsSymValue};
 ghost use Rattle.mem_terms.specs.Memory.{AreSymBytes, IsAlways, IsSymBlock, IsSymByte, frame_of};
 ghost use Rattle.mem_terms.specs.Outcomes.{IsOutcome};
 
+use crate::expecting::expect;
 use crate::term_values::value_of;
 use bv_terms::Terms;
 use mem_terms::{OutcomeTerms, SymBlock, SymByte, SymValue, number, truth};
@@ -134,106 +135,129 @@ fn is_covered(
     Ok(value_of(alloc, terms, id)? == Some(1))
 }
 
-const POISON: Place = Place(2, 0, 0, 0, 0);
-
-const FIVE: Returned = Returned(false, false, 0, 5);
+/// A value that is poison, a number or a pointer, by its word, with its block and its number or offset,
+/// at the head of a text, and the rest.
+fn returned_in(text: &str) -> Option<(Returned, &str)> {
+    let (kind, text) = text.split_once(" ")?;
+    let (block, text) = text.split_once(" ")?;
+    let (number, rest) = text.split_once(" ")?;
+    let returned = Returned(
+        kind == "poison",
+        kind != "number",
+        block.parse::<u64>().ok()?,
+        number.parse::<u64>().ok()?,
+    );
+    Some((returned, rest))
+}
 
 /// An end that returns this, and leaves the block empty.
 fn returns(value: Returned) -> End {
     End {
         value,
         size: 0,
-        first: POISON,
-        second: POISON,
+        first: lettered(b'p'),
+        second: lettered(b'p'),
     }
 }
 
-/// Two returned values and whether the first covers the second.
+/// What the source returns, what the target returns, and whether the first covers the second. Of a
+/// number and of poison the block does not count.
+const RETURNED_PAIRS: &str = "\
+pointer 1 8 pointer 1 8 yes
+pointer 1 8 pointer 1 9 no
+pointer 1 8 pointer 0 8 no
+pointer 1 8 poison 1 8 no
+poison 0 0 pointer 1 8 yes
+pointer 1 8 number 1 8 no
+number 0 5 number 7 5 yes
+pointer 8 0 pointer 70000 3 yes
+pointer 7 0 pointer 8 3 no
+pointer 8 8 pointer 1 8 no
+pointer 1 8 pointer 8 8 no";
+
+/// The bytes of a block by their letters: `p` poison, `1` and `2` these numbers, `a` part 3 of the
+/// pointer to byte 4 of the given block and `b` its part 2, `c` and `d` part 3 of pointers to bytes 4
+/// and 0 of an alloca's block, `e` part 3 of one to byte 4 of another alloca's block.
+fn lettered(letter: u8) -> Place {
+    match letter {
+        b'1' => Place(0, 1, 0, 0, 0),
+        b'2' => Place(0, 2, 0, 0, 0),
+        b'a' => Place(1, 0, 1, 4, 3),
+        b'b' => Place(1, 0, 1, 4, 2),
+        b'c' => Place(1, 0, 8, 4, 3),
+        b'd' => Place(1, 0, 8, 0, 3),
+        b'e' => Place(1, 0, 9, 4, 3),
+        _ => Place(2, 0, 0, 0, 0),
+    }
+}
+
+/// An end that returns 5 and leaves a block of a size and two bytes, at the head of a text, and the
+/// rest.
+fn left_in(text: &str) -> Option<(End, &str)> {
+    let (size, text) = text.split_once(" ")?;
+    let (bytes, rest) = text.split_once(" ")?;
+    let [first, second] = bytes.as_bytes() else {
+        return None;
+    };
+    let end = End {
+        value: Returned(false, false, 0, 5),
+        size: size.parse::<u64>().ok()?,
+        first: lettered(*first),
+        second: lettered(*second),
+    };
+    Some((end, rest))
+}
+
+/// The size and the two bytes of the block that the source leaves, those of the one that the target
+/// leaves, and whether the first covers the second. A byte past the size does not count.
+const LEFT_PAIRS: &str = "\
+2 12 2 12 yes
+2 12 2 11 no
+1 12 1 11 yes
+1 12 2 12 no
+2 p2 2 12 yes
+2 12 2 p2 no
+1 a2 1 a1 yes
+1 a2 1 b2 no
+1 a2 1 c2 no
+1 d2 1 e2 yes
+1 a2 1 12 no";
+
+/// The ends of a row, and whether the first covers the second.
+fn returns_in(row: &str) -> Option<(End, End, bool)> {
+    let (source, rest) = returned_in(row)?;
+    let (target, want) = returned_in(rest)?;
+    Some((returns(source), returns(target), want == "yes"))
+}
+
+fn leaves_in(row: &str) -> Option<(End, End, bool)> {
+    let (source, rest) = left_in(row)?;
+    let (target, want) = left_in(rest)?;
+    Some((source, target, want == "yes"))
+}
+
 #[test]
 fn returned_pointers(rt: HostRuntime) -> Result<(), Fail> {
-    let given = Returned(false, true, 1, 8);
-    let rows = [
-        (given, given, true),
-        (given, Returned(false, true, 1, 9), false),
-        (given, Returned(false, true, 0, 8), false),
-        (given, Returned(true, true, 1, 8), false),
-        (Returned(true, false, 0, 0), given, true),
-        (given, Returned(false, false, 1, 8), false),
-        (FIVE, Returned(false, false, 7, 5), true),
-        (
-            Returned(false, true, 8, 0),
-            Returned(false, true, 70000, 3),
-            true,
-        ),
-        (
-            Returned(false, true, 7, 0),
-            Returned(false, true, 8, 3),
-            false,
-        ),
-        (
-            Returned(false, true, 8, 8),
-            Returned(false, true, 1, 8),
-            false,
-        ),
-        (
-            Returned(false, true, 1, 8),
-            Returned(false, true, 8, 8),
-            false,
-        ),
-    ];
     let mut terms = Terms::new(rt.alloc());
-    for (row, &(source, target, want)) in rows.iter().enumerate() {
-        let found = is_covered(rt.alloc(), &mut terms, returns(source), returns(target))?;
-        assert!(rt; found == want);
+    for row in RETURNED_PAIRS.lines() {
+        let (source, target, want) = returns_in(row).ok_or("a row")?;
+        expect(
+            is_covered(rt.alloc(), &mut terms, source, target)? == want,
+            row,
+        )?;
     }
     Ok(())
 }
 
-/// An end that returns 5 and leaves a block of this size.
-fn leaves(size: u64, first: Place, second: Place) -> End {
-    End {
-        value: FIVE,
-        size,
-        first,
-        second,
-    }
-}
-
-/// Two ends that leave other blocks, and whether the first covers the second.
 #[test]
 fn left_blocks(rt: HostRuntime) -> Result<(), Fail> {
-    let one = Place(0, 1, 0, 0, 0);
-    let two = Place(0, 2, 0, 0, 0);
-    let part = Place(1, 0, 1, 4, 3);
-    let rows = [
-        (leaves(2, one, two), leaves(2, one, two), true),
-        (leaves(2, one, two), leaves(2, one, one), false),
-        (leaves(1, one, two), leaves(1, one, one), true),
-        (leaves(1, one, two), leaves(2, one, two), false),
-        (leaves(2, POISON, two), leaves(2, one, two), true),
-        (leaves(2, one, two), leaves(2, POISON, two), false),
-        (leaves(1, part, two), leaves(1, part, one), true),
-        (
-            leaves(1, part, two),
-            leaves(1, Place(1, 0, 1, 4, 2), two),
-            false,
-        ),
-        (
-            leaves(1, part, two),
-            leaves(1, Place(1, 0, 8, 4, 3), two),
-            false,
-        ),
-        (
-            leaves(1, Place(1, 0, 8, 0, 3), two),
-            leaves(1, Place(1, 0, 9, 4, 3), two),
-            true,
-        ),
-        (leaves(1, part, two), leaves(1, one, two), false),
-    ];
     let mut terms = Terms::new(rt.alloc());
-    for (row, &(source, target, want)) in rows.iter().enumerate() {
-        let found = is_covered(rt.alloc(), &mut terms, source, target)?;
-        assert!(rt; found == want);
+    for row in LEFT_PAIRS.lines() {
+        let (source, target, want) = leaves_in(row).ok_or("a row")?;
+        expect(
+            is_covered(rt.alloc(), &mut terms, source, target)? == want,
+            row,
+        )?;
     }
     Ok(())
 }
