@@ -135,15 +135,15 @@ fn is_covered(
     Ok(value_of(alloc, terms, id)? == Some(1))
 }
 
-/// A value that is poison, a number or a pointer, by its word, with its block and its number or offset,
-/// at the head of a text, and the rest.
+/// A value at the head of a text, and the rest: `number`, `pointer`, `poison` or `poison_pointer`, then
+/// its block and its number or offset.
 fn returned_in(text: &str) -> Option<(Returned, &str)> {
     let (kind, text) = text.split_once(" ")?;
     let (block, text) = text.split_once(" ")?;
     let (number, rest) = text.split_once(" ")?;
     let returned = Returned(
-        kind == "poison",
-        kind != "number",
+        kind.starts_with("poison"),
+        kind.ends_with("pointer"),
         block.parse::<u64>().ok()?,
         number.parse::<u64>().ok()?,
     );
@@ -166,7 +166,7 @@ const RETURNED_PAIRS: &str = "\
 pointer 1 8 pointer 1 8 yes
 pointer 1 8 pointer 1 9 no
 pointer 1 8 pointer 0 8 no
-pointer 1 8 poison 1 8 no
+pointer 1 8 poison_pointer 1 8 no
 poison 0 0 pointer 1 8 yes
 pointer 1 8 number 1 8 no
 number 0 5 number 7 5 yes
