@@ -71,6 +71,5 @@ pub fn settle(
         });
     }
     let subject = Subject::new(alloc, pair, bounds)?;
-    let told = grow(alloc, &subject, budget)?;
-    Ok(told)
+    grow(alloc, &subject, budget)
 }

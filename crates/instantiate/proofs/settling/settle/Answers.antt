@@ -1,5 +1,6 @@
 -- A pair that is too heavy is not asked about.
 use Rattle.std.proofs.Common.{arith}
+use Rattle.std.proofs.lemmas.Result.{IfOk-weaker}
 use Rattle.points.specs.Weight.{IsHeavy}
 use Rattle.instantiate.proofs.Growing.{judged}
 use Rattle.instantiate.proofs.settling.settle.Goals as goal
@@ -7,5 +8,6 @@ use Rattle.instantiate.proofs.settling.settle.Goals as goal
 pub returns : goal.returns
 returns c =
     let light : ¬ IsHeavy c.args.pair.now c.args.bounds.now c.args.budget.now = λ h. omega (arith, h) in
-    let told = rw (c.in_ok-subject.ensures.pair, c.in_ok-subject.ensures.bounds) at c.in_ok-told.ensures in
-    judged c.args.pair.now c.args.bounds.now c.args.budget.now c.in_ok-told.told.kept c.in_ok-told.told.cert c.in_ok-told.told.verdict light told
+    IfOk-weaker c.grow.result _ _
+    (λ settled told. judged c.args.pair.now c.args.bounds.now c.args.budget.now settled.kept settled.cert settled.verdict light (rw (c.in_ok-subject.ensures.pair, c.in_ok-subject.ensures.bounds) at told))
+    c.grow.ensures

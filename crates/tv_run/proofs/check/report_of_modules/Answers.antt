@@ -15,13 +15,13 @@ use Rattle.tv_run.proofs.check.report_of_modules.Goals as goal
 pub proof_asked-requires-clause-names : goal.proof_asked-requires-clause-names
 proof_asked-requires-clause-names g c =
     subst (λ (rows : List Row). All (λ (row : Row). IsReadName row.name) rows) (sym c.as_slice.ensures.value)
-    (rows_named (may_answer c.args.check.now.bounds c.args.check.now.budget) _ c.args.source.now c.args.target.now _ c.in_ok-rows.ensures.rows c.requires.source_is.named c.requires.target_is.named)
+    (rows_named _ _ c.args.source.now c.args.target.now _ c.in_ok-rows.ensures.rows c.requires.source_is.named c.requires.target_is.named)
 
 pub proof_asked-requires-clause-certified : goal.proof_asked-requires-clause-certified
 proof_asked-requires-clause-certified g c =
     subst (λ (rows : List Row). All IsCertified (parts_of rows c.as_slice-2.result.now)) (sym c.as_slice.ensures.value)
     (subst (λ (answers : List Judged). All IsCertified (parts_of c.in_ok-rows.field-0.rows.items answers)) (sym c.as_slice-2.ensures.value)
-    (rows_certified c.args.check.now.bounds c.args.check.now.budget _ c.in_ok-rows.field-0.rows.items c.in_ok-rows.field-0.answers.items c.in_ok-rows.ensures.answered c.in_ok-rows.ensures.reported))
+    (rows_certified _ _ _ c.in_ok-rows.field-0.rows.items c.in_ok-rows.field-0.answers.items c.in_ok-rows.ensures.answered c.in_ok-rows.ensures.reported))
 
 pub returns : goal.returns
 returns g c = record {
