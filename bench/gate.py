@@ -4,8 +4,8 @@
     bench/gate.py [COMMAND ..]        (default: rt ci)
 
 Runs the command, looks twice a second at it and the processes below it, and prints the processor minutes of the checks of
-crates by kind and by crate, and of what else was run (clang, the tests and programs themselves). What lives for less
-than half a second is missed. The status is that of the command. Linux alone.
+crates by kind and by crate, and of what else was run (clang, the tests and programs themselves). A program that lives for
+less than half a second is missed. The status is that of the command. Linux alone.
 """
 import collections
 import os
@@ -52,23 +52,55 @@ def named(pid):
     return "test" if "--test" in words else "proof", crate
 
 
+class Seen:
+    """A process: its kind and name, its parent, and the processor minutes so far of itself and of children that it has
+    waited for."""
+
+    def __init__(self, parent):
+        self.name, self.parent = ("other", ""), parent
+        self.own = self.waited = 0.0
+
+    def is_check(self):
+        return self.name[0] != "other"
+
+    def is_copy(self):
+        """Whether it is a copy that a check made of itself."""
+        return self.is_check() and self.parent is not None and self.parent.name == self.name
+
+
 def look(root, seen):
-    """Notes the processor time so far of the root and of each process below it. A check's is with the copies of itself
-    that it has waited for."""
+    """Notes the processor time so far of the root and of each process below it, parents first."""
+    now = {}
     for pid, stat in below(root).items():
-        key = pid, stat[19]
         try:
             name = named(pid)
         except OSError:
             name = None
-        name = name or (seen[key][0] if key in seen else ("other", ""))
-        ticks = stat[11:13] if name[0] == "other" else stat[11:15]
-        seen[key] = name, sum(map(int, ticks)) / TICK / 60
+        one = seen.setdefault((pid, stat[19]), Seen(now.get(stat[1])))
+        one.name = name or one.name
+        one.own, one.waited = (sum(map(int, ticks)) / TICK / 60 for ticks in (stat[11:13], stat[13:15]))
+        now[pid] = one
+
+
+def minutes_of(seen):
+    """The name and the minutes of each process that is no copy. A check's are with those of its copies, also of the ones
+    that no look has met, and without those of the programs that it ran."""
+    copies, programs = collections.Counter(), collections.Counter()
+    for one in reversed(list(seen.values())):
+        minutes = one.own
+        if one.is_check():
+            minutes += max(one.waited - programs[one], copies[one])
+        if one.is_copy():
+            copies[one.parent] += minutes
+            programs[one.parent] += programs[one]
+        else:
+            programs[one.parent] += minutes + programs[one]
+            yield one.name, minutes
 
 
 def show(seen):
     kinds, crates = collections.Counter(), collections.defaultdict(collections.Counter)
-    for (kind, name), minutes in seen.values():
+    for (kind, name), minutes in minutes_of(seen):
         kinds[kind] += minutes
         crates[name][kind] += minutes
     print("processor minutes: " + ", ".join(f"{kind} {kinds[kind]:.1f}" for kind in KINDS) + f", together {sum(kinds.values()):.1f}")
