@@ -1,22 +1,20 @@
 -- A worker that draws: what it has at each turn, and at its end.
 use Rattle.std.proofs.Common.{◌≡◌, ℕ, zero, suc, ◌+◌, ◌-◌, ◌*◌, ◌<◌, ◌≤◌, List, [], ◌∷◌, ◌++◌, length, get_or, Bool, true, false, cond, refl, sym, ap, ◌∙◌, subst, arith, nat_lt, length-append, add-mul}
 use Rattle.std.specs.Prelude.{map, filter, All, Any}
-use Rattle.std.proofs.lemmas.List.{map-append, append-nil}
+use Rattle.std.proofs.lemmas.List.{map-append, append-nil, length-map}
 use Rattle.std.proofs.lemmas.List.Elements.{filter-append, All-append, All-nil}
 use Rattle.std.proofs.lemmas.Grind.{common_steps}
 use Rattle.claim_board.specs.declared.board.Hand.{Hand}
 use Rattle.claim_board.specs.Board.{hand}
 use Rattle.pair_driver.specs.declared.judged.Judged.{Judged}
 use Rattle.pair_driver.specs.declared.place.Answer.{Answer}
-use Rattle.pair_driver.specs.Draws.{IsAllowedAt, IsDone}
+use Rattle.pair_driver.specs.Draws.{IsAllowedAt, IsClaiming, IsDone, HasEnded}
 
--- all numbers drawn are of pairs, each has its answer, and there are no more of them than a bound on them says
+-- a worker that claims has an answer for each task that it claimed
 pub record IsDrawing (allows : ℕ → Judged → Type 0) (n : ℕ) (v : Hand) (answers : List Answer) : Type 0 where
-  pub budget : length v.drawn + v.allowance ≡ n + 1
+  pub claims : IsClaiming n v
   pub numbers : map (λ a. a.number) answers ≡ v.drawn
   pub allowed : All (IsAllowedAt allows n) answers
-  pub inside : All (λ x. x < n) v.drawn
-  pub packed : (m : ℕ) → All (λ x. x < m) v.drawn → length v.drawn ≤ m
 
 All-one : {X : Type 0} (P : X → Type 0) (x : X) → P x → All P (x ∷ [])
 All-one P x p zero d h = p
@@ -48,47 +46,64 @@ filter-all n (x ∷ xs) a =
     let yes : nat_lt x n ≡ true = grind arith in
     ap (λ b. cond b (x ∷ filter (λ y. nat_lt y n) xs) (filter (λ y. nat_lt y n) xs)) yes ∙ ap (λ ys. x ∷ ys) rest
 
+-- ---- claims
+
+pub claiming-begins : (n : ℕ) (v : Hand) → v ≡ hand [] (n + 1) → IsClaiming n v
+claiming-begins n v e = subst (λ u. IsClaiming n u) (sym e) (record {
+  budget = omega arith;
+  inside = All-nil _;
+  packed = λ m a. omega arith;
+})
+
+-- there is allowance for one more
+pub claiming-has_room : (n : ℕ) (v : Hand) → IsClaiming n v → 0 < v.allowance
+claiming-has_room n v d = let few = d.packed n d.inside in let budget = d.budget in omega arith
+
+pub claiming-more : (n x : ℕ) (v : Hand) → IsClaiming n v → All (λ y. y < x) v.drawn → x < n → IsClaiming n (hand (v.drawn ++ x ∷ []) (v.allowance - 1))
+claiming-more n x v d above below =
+    let room = claiming-has_room n v d in
+    let budget = d.budget in record {
+      budget = omega (arith, length-append v.drawn (x ∷ []));
+      inside = All-append (λ y. y < n) v.drawn (x ∷ []) d.inside (All-one (λ y. y < n) x below);
+      packed = λ m b.
+          let last : x < m = All-last (λ y. y < m) v.drawn x b in
+          let few : length v.drawn ≤ x = d.packed x above in
+          omega (arith, length-append v.drawn (x ∷ []));
+    }
+
+pub claiming-ends : (n x : ℕ) (v : Hand) → n ≤ x → HasEnded n (hand (v.drawn ++ x ∷ []) (v.allowance - 1))
+claiming-ends n x v past = Any-last (λ y. n ≤ y) v.drawn x past
+
+-- ---- claims with answers
+
 module _ (allows : ℕ → Judged → Type 0) (n : ℕ) where
   pub drawing-begins : (v : Hand) → v ≡ hand [] (n + 1) → IsDrawing allows n v []
-  drawing-begins v e = subst (λ u. IsDrawing allows n u []) (sym e) (record {
-    budget = omega arith;
-    numbers = refl;
-    allowed = All-nil _;
-    inside = All-nil _;
-    packed = λ m a. omega arith;
-  })
-
-  -- there is allowance for one more
-  pub drawing-has_room : (v : Hand) (answers : List Answer) → IsDrawing allows n v answers → 0 < v.allowance
-  drawing-has_room v answers d = let few = d.packed (n) d.inside in let budget = d.budget in omega arith
+  drawing-begins v e = record { claims = claiming-begins n v e; numbers = ap (λ u. u.drawn) (sym e); allowed = All-nil _ }
 
   pub drawing-more : (v : Hand) (answers : List Answer) (a : Answer) → IsDrawing allows n v answers → All (λ x. x < a.number) v.drawn → IsAllowedAt allows n a
       → IsDrawing allows n (hand (v.drawn ++ a.number ∷ []) (v.allowance - 1)) (answers ++ a ∷ [])
-  drawing-more v answers a d above allowed =
-      let room = drawing-has_room v answers d in
-      let budget = d.budget in record {
-        budget = omega (arith, length-append v.drawn (a.number ∷ []));
-        numbers = map-append (λ b. b.number) answers (a ∷ []) ∙ ap (λ xs. xs ++ a.number ∷ []) d.numbers;
-        allowed = All-append (IsAllowedAt allows n) answers (a ∷ []) d.allowed (All-one (IsAllowedAt allows n) a allowed);
-        inside = All-append (λ x. x < n) v.drawn (a.number ∷ []) d.inside (All-one (λ x. x < n) a.number allowed.0);
-        packed = λ m b.
-            let last : a.number < m = All-last (λ x. x < m) v.drawn a.number b in
-            let few : length v.drawn ≤ a.number = d.packed a.number above in
-            omega (arith, length-append v.drawn (a.number ∷ []));
-      }
+  drawing-more v answers a d above allowed = record {
+    claims = claiming-more n a.number v d.claims above allowed.0;
+    numbers = map-append (λ b. b.number) answers (a ∷ []) ∙ ap (λ xs. xs ++ a.number ∷ []) d.numbers;
+    allowed = All-append (IsAllowedAt allows n) answers (a ∷ []) d.allowed (All-one (IsAllowedAt allows n) a allowed);
+  }
+
+  -- there are fewer answers than the number that is claimed next
+  pub few_answers : (x : ℕ) (v : Hand) (answers : List Answer) → IsDrawing allows n v answers → All (λ y. y < x) v.drawn → length answers ≤ x
+  few_answers x v answers d above = let few = d.claims.packed x above in omega (arith, simp length-map at (ap length d.numbers))
 
   -- the number drawn last is of no pair
   pub drawing-ends : (v : Hand) (answers : List Answer) (c : ℕ) → IsDrawing allows n v answers → n ≤ c
       → IsDone allows n 1 (hand (v.drawn ++ c ∷ []) (v.allowance - 1)) answers
   drawing-ends v answers c d past =
-      let room = drawing-has_room v answers d in
-      let budget = d.budget in
+      let room = claiming-has_room n v d.claims in
+      let budget = d.claims.budget in
       let out : nat_lt c (n) ≡ false = grind arith in
       let none : filter (λ x. nat_lt x (n)) (c ∷ []) ≡ [] = ap (λ b. cond b (c ∷ []) []) out in record {
         budget = omega (arith, length-append v.drawn (c ∷ []));
         numbers = d.numbers ∙ sym (filter-append (λ x. nat_lt x (n)) v.drawn (c ∷ [])
             ∙ (ap (λ ys. filter (λ x. nat_lt x (n)) v.drawn ++ ys) none
-            ∙ (append-nil _ ∙ filter-all (n) v.drawn d.inside)));
+            ∙ (append-nil _ ∙ filter-all (n) v.drawn d.claims.inside)));
         allowed = d.allowed;
         ended = Any-last (λ x. n ≤ x) v.drawn c past;
       }

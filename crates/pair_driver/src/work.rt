@@ -1,65 +1,76 @@
-ghost use Rattle.std.specs.Prelude.{◌≡◌, ◌+◌, ◌<◌, ◌^◌, [], IfOk};
-ghost use Rattle.claim_board.specs.Board.{hand};
+ghost use Rattle.std.specs.Prelude.{◌≡◌, ◌+◌, ◌<◌, ◌≤◌, ◌++◌, ◌∷◌, [], IfOk, OnOk, vec_len, vec_capacity};
 ghost use Rattle.claim_board.specs.Seats.{IsSeatOf, hand_of};
-ghost use Rattle.pair_driver.specs.Draws.{IsGroup};
+ghost use Rattle.pair_driver.specs.Draws.{HasEnded, IsClaiming, IsFresh, IsGroup};
 
-use crate::judged::Judged;
+use crate::desks::Desk;
 use crate::place::Answer;
 use crate::tasks::Tasks;
 use claim_board::{Board, Seat};
 use std::alloc::Global;
-use std::sync::atomic::{AtomicBool, Ordering};
 use support::NoMemory;
 
-/// What workers bring back: their seat, and an answer for each task that they claimed.
-#[derive(Drop)]
-pub struct Drawn {
-    pub seat: Seat,
-    pub answers: Vec<Answer>,
-}
-
-/// Claims tasks and runs them until none is left, or until some worker is out of memory.
-pub fn work<T: Tasks>(
+/// A worker from its first claim to its last, and what it brings back.
+pub fn work_at<T: Tasks>(
     alloc: Global,
     board: &Board,
     tasks: &T,
-    is_out: &AtomicBool,
-    mut seat: Seat,
-) -> Result<Drawn, NoMemory>
+    mut desk: Desk,
+) -> Result<Desk, NoMemory>
     requires ready { T.ready tasks.now }
-    requires seat { IsSeatOf board.now seat }
-    requires fresh { hand_of seat ≡ hand [] (T.count tasks.now + 1) }
+    requires fresh { IsFresh board.now (T.count tasks.now) desk }
     ensures { IfOk result (IsGroup board.now (T.allows tasks.now) (T.count tasks.now) 1) }
 {
+    work(alloc, board, tasks, &mut desk)?;
+    Ok(desk)
+}
+
+/// Claims tasks and runs them until none is left.
+///
+/// Where a task is out of memory the worker claims what is left and runs none of it, so that the others
+/// end with the task that they are at. Its own list has room for all answers.
+fn work<T: Tasks>(alloc: Global, board: &Board, tasks: &T, desk: &mut Desk) -> Result<(), NoMemory>
+    requires ready { T.ready tasks.now }
+    requires fresh { IsFresh board.now (T.count tasks.now) desk.old }
+    ensures done { OnOk result (IsGroup board.now (T.allows tasks.now) (T.count tasks.now) 1 desk.new) }
+    // Whatever it answers, no task is left.
+    ensures ended { HasEnded (T.count tasks.now) (hand_of desk.new.seat) }
+{
     let count = tasks.len();
-    let mut answers = Vec::new(alloc);
     'draws: loop {
-        let number = board.claim(&mut seat);
+        let number = board.claim(&mut desk.seat);
         if number >= count {
-            return Ok(Drawn { seat, answers });
+            return Ok(());
         }
-        if is_out.load(Ordering::SeqCst) {
+        let Ok(judged) = tasks.run(alloc, number) else {
+            claim_the_rest(board, &mut desk.seat, count);
             return Err(NoMemory);
-        }
-        let judged = run_or_stop(alloc, tasks, number, is_out)?;
-        answers.push(Answer { number, judged })?;
+        };
+        keep(&mut desk.answers, Answer { number, judged });
     }
 }
 
-/// Runs a task; where it is out of memory all workers learn so.
-fn run_or_stop<T: Tasks>(
-    alloc: Global,
-    tasks: &T,
-    number: u64,
-    is_out: &AtomicBool,
-) -> Result<Judged, NoMemory>
-    requires ready { T.ready tasks.now }
-    requires number { number < T.count tasks.now }
-    ensures { IfOk result (T.allows tasks.now number) }
+/// Claims until no task is left.
+fn claim_the_rest(board: &Board, seat: &mut Seat, count: u64)
+    requires seat { IsSeatOf board.now seat.old }
+    requires claiming { IsClaiming count (hand_of seat.old) }
+    ensures { HasEnded count (hand_of seat.new) }
 {
-    let judged = tasks.run(alloc, number);
-    if judged.is_err() {
-        is_out.store(true, Ordering::SeqCst);
+    'rest: loop {
+        let number = board.claim(seat);
+        if number >= count {
+            return;
+        }
     }
-    judged
+}
+
+/// Adds an answer to a list that has room for it.
+fn keep(answers: &mut Vec<Answer>, answer: Answer)
+    requires { vec_len answers.old < vec_capacity answers.old }
+    ensures kept { answers.new.items ≡ answers.old.items ++ answer ∷ [] }
+    ensures room { vec_capacity answers.old ≤ vec_capacity answers.new }
+{
+    match answers.push(answer) {
+        Ok(()) => {}
+        Err(_) => unreachable!(),
+    }
 }

@@ -10,5 +10,5 @@ returns g c =
     record {
       seat = c.join.ensures.seat;
       done = rw (c.join.ensures.both, c.in_ok-append.ensures.items)
-          (done-both (g.T.Tasks.allows c.args.tasks.now) (g.T.Tasks.count c.args.tasks.now) c.args.rest c.args.others _ (hand_of mine.seat) (hand_of theirs.seat) mine.answers.items theirs.answers.items refl c.requires.mine.done c.requires.theirs.done);
+          (done-both (g.T.Tasks.allows c.args.tasks.now) (g.T.Tasks.count c.args.tasks.now) 1 c.args.others _ (hand_of mine.seat) (hand_of theirs.seat) mine.answers.items theirs.answers.items refl c.requires.mine.done c.requires.theirs.done);
     }
