@@ -2,7 +2,7 @@
 //!
 //! It promises that [`drive`] answers as many judgements as there are pairs, each one that the judge's
 //! meaning allows for the pair of its index, for every number of workers and every schedule. It
-//! builds on `points`, `clause_log` and `claim_board`; each judge that it drives uses it, and so
+//! builds on `verdicts`, `clause_log` and `claim_board`; each judge that it drives uses it, and so
 //! does the program.
 #![tactic(auto)]
 
