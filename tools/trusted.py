@@ -23,12 +23,12 @@ BEGIN, END = "<!-- tools/trusted.py -->\n", "<!-- end -->\n"
 # The questions in the order of reading: a title, and the definitions that it begins with. A definition
 # is listed under the first question that reaches it.
 QUESTIONS = [
-    ("What `correct` and `incorrect` mean", ["points/Laws/Holds", "points/Laws/IsCounterexample"]),
+    ("What `correct` and `incorrect` mean", ["verdicts/Laws/Holds", "verdicts/Laws/IsCounterexample"]),
     ("Which rows two modules have", ["report/Rows/AreRows"]),
     ("How rows are printed, and the exit status", ["report/Text/report_text", "report/Status/status_of"]),
     ("What the command line asks for", ["tv_cli/Words/job_of"]),
     ("Which module a text is, or which fault it has", ["ir_reader/Module/IsModule", "ir_reader/Module/IsFault"]),
-    ("Which verdict the search must reach", ["points/Trail/IsVerdict"]),
+    ("Which verdict the search must reach", ["verdicts/Trail/IsVerdict"]),
     ("What a certificate shows", ["pair_judge/Answers/IsAnswer"]),
 ]
 REST = "What `run` writes and returns"

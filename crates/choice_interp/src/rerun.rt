@@ -1,6 +1,7 @@
 ghost use Rattle.std.specs.Prelude.{◌≡◌, length, IfOk, Some, All};
 ghost use Rattle.ir_tree.specs.BlockIndexes.{IsIndex};
-ghost use Rattle.ir_tree.specs.Limits.{HasSmallObjects, IsWithinLimits};
+ghost use Rattle.ir_tree.specs.Limits.{HasSmallObjects};
+ghost use Rattle.points.specs.Runnable.{IsRunnable};
 ghost use Rattle.points.specs.Run.{exit_insts, exit_of, run_turns, run_of};
 ghost use Rattle.choice_interp.specs.Keeping.{DoesKeepMemory};
 ghost use Rattle.choice_interp.specs.Left.{exit_with, left_by};
@@ -109,7 +110,7 @@ pub fn run_again(
     tape: &[u64],
 ) -> Result<Ending, NoMemory>
     requires ready { IsRunner f.now input.now.blocks runner.old }
-    requires limits { IsWithinLimits f.now }
+    requires runnable { IsRunnable f.now }
     ensures run { IfOk result (λ ending. run_of f.now bounds.now input.now tape.now ≡ run_with ending runner.new.machine) }
     ensures ready { IsRunner f.now input.now.blocks runner.new }
 {

@@ -1,5 +1,5 @@
 ghost use Rattle.std.specs.Prelude.{◌≡◌, ◌↔◌, IsTrue, IfOk, ℕ, slice_index};
-ghost use Rattle.ir_tree.specs.Limits.{IsWithinLimits};
+ghost use Rattle.points.specs.Runnable.{IsRunnable};
 ghost use Rattle.points.specs.Run.{run_of};
 ghost use Rattle.choice_interp.specs.Ran.{Shows, run_with};
 
@@ -54,7 +54,7 @@ pub fn interpret(
     input: &Input,
     tape: &[u64],
 ) -> Result<Ran, NoMemory>
-    requires limits { IsWithinLimits f.now }
+    requires runnable { IsRunnable f.now }
     ensures { IfOk result (Shows tape.now (run_of f.now bounds.now input.now tape.now)) }
 {
     let mut runner = runner_for(alloc, f, &input.blocks)?;

@@ -3,17 +3,17 @@ use Rattle.std.proofs.Common.{◌≡◌, ℕ, zero, suc, ◌+◌, ◌≤◌, ◌
 use Rattle.points.specs.declared.point.Bounds.{Bounds}
 use Rattle.points.specs.declared.point.Budget.{Budget}
 use Rattle.points.specs.declared.point.Point.{Point}
-use Rattle.points.specs.declared.verdict.Verdict.{Verdict}
-use Rattle.points.specs.declared.verdict.Verdict.TheVariants.{Correct, Incorrect, Unknown}
-use Rattle.points.specs.declared.verdict.Cause.TheVariants.{Weight, Rounds, Conflicts}
-use Rattle.points.specs.Pair.{Functions}
-use Rattle.points.specs.Covers.{IsLeastCover, HasNoCover}
-use Rattle.points.specs.Trail.{TrailFrom, IsLeastUncovered, AreAllCovered, Ends}
-use Rattle.points.proofs.Meaning.{cons_after}
+use Rattle.verdicts.specs.declared.verdict.Verdict.{Verdict}
+use Rattle.verdicts.specs.declared.verdict.Verdict.TheVariants.{Correct, Incorrect, Unknown}
+use Rattle.verdicts.specs.declared.verdict.Cause.TheVariants.{Weight, Rounds, Conflicts}
+use Rattle.verdicts.specs.Pair.{Functions}
+use Rattle.verdicts.specs.Covers.{IsLeastCover, HasNoCover}
+use Rattle.verdicts.specs.Trail.{TrailFrom, IsLeastUncovered, AreAllCovered, Ends}
+use Rattle.verdicts.proofs.Meaning.{cons_after}
 use Rattle.clause_log.specs.declared.step.Cert.{Cert}
-use Rattle.points.specs.declared.verdict.Kept.{Kept}
+use Rattle.verdicts.specs.declared.verdict.Kept.{Kept}
 use Rattle.pair_questions.specs.Questions.{IsUncovered, IsCovering, IsRefuted, IsSpentOn, point_widths, tape_widths}
-use Rattle.points.specs.Weight.{IsHeavy}
+use Rattle.verdicts.specs.Weight.{IsHeavy}
 use Rattle.instantiate.specs.declared.rounds.Trail.{Trail}
 use Rattle.instantiate.specs.Rounds.{IsTrail}
 use Rattle.instantiate.specs.Settling.{ComesWith, IsJudged, IsSpentNext, IsTrailSoFar, limit_of}

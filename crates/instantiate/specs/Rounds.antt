@@ -1,8 +1,8 @@
 -- A trail that may go on: its points each have their tape, and the question for the next point excludes these tapes.
 use Rattle.std.specs.Prelude.{◌≡◌, ◌+◌, ◌≤◌, [], length, Option, None, Some}
 use Rattle.points.specs.declared.point.Budget.{Budget}
-use Rattle.points.specs.declared.verdict.Kept.{Kept}
-use Rattle.points.specs.Trail.{TrailFrom}
+use Rattle.verdicts.specs.declared.verdict.Kept.{Kept}
+use Rattle.verdicts.specs.Trail.{TrailFrom}
 use Rattle.pair_questions.specs.declared.subject.Subject.{Subject}
 use Rattle.pair_questions.specs.PointQuestions.{IsPointQuestion}
 use Rattle.instantiate.specs.declared.rounds.Trail.{Trail}

@@ -3,14 +3,14 @@ use Rattle.std.specs.Prelude.{◌≡◌, ℕ, zero, suc, ◌<◌, ◌≤◌, [],
 use Rattle.points.specs.declared.point.Bounds.{Bounds}
 use Rattle.points.specs.declared.point.Budget.{Budget}
 use Rattle.points.specs.declared.point.Point.{Point}
-use Rattle.points.specs.declared.verdict.Verdict.{Verdict}
-use Rattle.points.specs.declared.verdict.Verdict.TheVariants.{Correct, Incorrect, Unknown}
-use Rattle.points.specs.declared.verdict.Cause.TheVariants.{Weight, Rounds, Conflicts}
-use Rattle.points.specs.Pair.{Functions}
-use Rattle.points.specs.Trail.{TrailFrom, open_point, Ends}
-use Rattle.points.specs.Weight.{IsHeavy}
+use Rattle.verdicts.specs.declared.verdict.Verdict.{Verdict}
+use Rattle.verdicts.specs.declared.verdict.Verdict.TheVariants.{Correct, Incorrect, Unknown}
+use Rattle.verdicts.specs.declared.verdict.Cause.TheVariants.{Weight, Rounds, Conflicts}
+use Rattle.verdicts.specs.Pair.{Functions}
+use Rattle.verdicts.specs.Trail.{TrailFrom, open_point, Ends}
+use Rattle.verdicts.specs.Weight.{IsHeavy}
 use Rattle.clause_log.specs.declared.step.Cert.{Cert}
-use Rattle.points.specs.declared.verdict.Kept.{Kept}
+use Rattle.verdicts.specs.declared.verdict.Kept.{Kept}
 use Rattle.instantiate.specs.declared.settled.Settled.{Settled}
 use Rattle.pair_questions.specs.Questions.{IsUncovered, IsCovering, IsRefuted, IsSpentOn, point_widths, tape_widths}
 

@@ -2,17 +2,18 @@
 
 ghost use Rattle.std.specs.Prelude.{◌≡◌, ◌<◌, IfOk, IfSome};
 ghost use Rattle.points.specs.declared.point.Budget.{Budget};
-ghost use Rattle.points.specs.Covers.{IsLeastCover};
-ghost use Rattle.points.specs.Trail.{IsLeastUncovered};
+ghost use Rattle.verdicts.specs.Covers.{IsLeastCover};
+ghost use Rattle.verdicts.specs.Trail.{IsLeastUncovered};
 ghost use Rattle.pair_questions.specs.Subjects.{IsSubject};
 ghost use Rattle.instantiate.specs.Rounds.{IsRound, IsTrail, kept_in};
 ghost use Rattle.instantiate.specs.Settling.{limit_of};
 
 use clause_log::Cert;
 use pair_questions::{Found, PointQuestion, Subject, least_cover};
-use points::{Budget, Cause, Kept, Point, Verdict, copy_point};
+use points::{Budget, Point, copy_point};
 use std::alloc::Global;
 use support::{NoMemory, Sequence};
+use verdicts::{Cause, Kept, Verdict};
 
 /// How a trail ends: the verdict, and what shows its last question answered.
 #[derive(Drop)]

@@ -1,5 +1,5 @@
 use clause_log::Cert;
-use points::{Kept, Verdict};
+use verdicts::{Kept, Verdict};
 
 /// A verdict, the trail that led to it, and what shows its last question answered.
 #[derive(Drop)]

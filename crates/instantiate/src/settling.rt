@@ -9,11 +9,12 @@ ghost use Rattle.pair_questions.specs.Subjects.{IsSubject};
 
 use crate::rounds::{End, Trail};
 use crate::settled::Settled;
+use pair_costs::weight;
 use pair_questions::Subject;
-use points::{Bounds, Budget, Cause, Kept, Pair, Verdict};
+use points::{Bounds, Budget};
 use std::alloc::Global;
 use support::{NoMemory, Sequence};
-use unroll::weight;
+use verdicts::{Cause, Kept, Pair, Verdict};
 
 /// The verdict that ends a trail, with what is kept of the trail.
 fn settled(kept: Kept, end: End) -> Settled
@@ -47,6 +48,7 @@ fn grow(alloc: Global, subject: &Subject, budget: &Budget) -> Result<Settled, No
 /// anything is asked, exactly where the weight is above the budget's. `unknown rounds` is the
 /// answer where one more tape would be one too many. `unknown conflicts` is the answer only under a
 /// limit, which is not 0, with what was learned of the next question.
+#[tactic(auto, using(points::proofs::Runnable::runnable))]
 pub fn settle(
     alloc: Global,
     pair: &Pair,
@@ -60,7 +62,7 @@ pub fn settle(
     requires in_range { AreInRange bounds.now budget.now }
     ensures { IfOk result (IsSettled pair.now bounds.now budget.now) }
 {
-    if budget.weight < weight(pair, bounds) {
+    if budget.weight < weight(pair, bounds)? {
         return Ok(Settled {
             verdict: Verdict::Unknown(Cause::Weight),
             kept: Kept {

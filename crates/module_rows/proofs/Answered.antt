@@ -7,9 +7,9 @@ use Rattle.ir_tree.specs.declared.module.Refused.{Refused}
 use Rattle.ir_tree.specs.declared.module.Entry.{Entry}
 use Rattle.points.specs.declared.point.Bounds.{Bounds}
 use Rattle.points.specs.declared.point.Budget.{Budget}
-use Rattle.points.specs.declared.verdict.Verdict.{Verdict}
-use Rattle.points.specs.declared.verdict.Verdict.TheVariants as verdict
-use Rattle.points.specs.Pair.{Functions, same_signature}
+use Rattle.verdicts.specs.declared.verdict.Verdict.{Verdict}
+use Rattle.verdicts.specs.declared.verdict.Verdict.TheVariants as verdict
+use Rattle.verdicts.specs.Pair.{Functions, same_signature}
 use Rattle.pair_driver.specs.declared.judged.Judged.{Judged}
 use Rattle.pair_judge.specs.Answers.{IsAnswer}
 use Rattle.std.specs.List.{AllZip}

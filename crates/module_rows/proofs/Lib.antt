@@ -1,5 +1,5 @@
+pub mod Runnable
 pub mod Searches
 pub mod Answered
 pub mod Pairs
 pub mod OwnAnswers
-pub mod Limits

@@ -13,7 +13,7 @@ use Rattle.ir_items.specs.declared.item.Define.{Define}
 use Rattle.ir_items.specs.Items.{IsCut, nothing, other, define}
 use Rattle.ir_reader.specs.Judgeable.{HasSmallNumber, IsJudgeable, IsJudgeableEntry}
 use Rattle.ir_reader.specs.Module.{IsModule, AreEntries}
-use Rattle.points.specs.Pair.{Functions, same_signature}
+use Rattle.verdicts.specs.Pair.{Functions, same_signature}
 use Rattle.pair_judge.specs.Answers.{CanBeJudged}
 use Rattle.pair_judge.proofs.AllocaNumbers.{small_numbers}
 use Rattle.report.specs.Rows.{function_named}

@@ -1,8 +1,8 @@
 ghost use Rattle.std.specs.Prelude.{◌≡◌, ◌+◌, ◌*◌, ◌^◌, ◌<◌, ◌++◌, ◌∷◌, [], drop, take, length, slice_index_or, IfOk, IfSome, OnOk, Ok, Some, None};
 ghost use Rattle.std.specs.List.{IsDistinct, AllByRecursion};
 ghost use Rattle.ir_tree.specs.Names.{same_name};
-ghost use Rattle.ir_tree.specs.Limits.{IsWithinLimits};
 ghost use Rattle.ir_reader.specs.Judgeable.{IsJudgeableEntry};
+ghost use Rattle.points.specs.Runnable.{IsRunnable};
 ghost use Rattle.report.specs.Rows.{IsJudged, IsFinding, IsRow, AreSourceRows, AreRows, extra_rows, function_named};
 ghost use Rattle.module_rows.specs.Judging.{AreAnswers, HasNext, IsTaken, IsUnjudged, ShowsVerdict, judged_pairs, pairs_in, listed, verdicts_answered, verdicts_in, verdicts_of};
 ghost use Rattle.module_rows.specs.Judging.{may_answer};
@@ -12,12 +12,13 @@ use crate::index::{copy_name, find, names_of};
 use ir_tree::{Entry, Module, Names};
 use pair_driver::{Gate, Judged, drive};
 use pair_judge::{Real, answers_are_verdicts};
-use points::{Bounds, Pair, Verdict, copy_point, has_same_signature};
+use points::{Bounds, copy_point};
 use replay::replay;
 use report::{Finding, Row, Side};
 use std::alloc::Global;
 use std::thread::Threads;
 use support::NoMemory;
+use verdicts::{Pair, Verdict, has_same_signature};
 
 /// The rows of two modules, and the judge's answers, one for each row with a verdict, in order.
 #[derive(Drop)]
@@ -203,8 +204,8 @@ fn judged(
     pair: &Pair,
     left: &mut &[Judged],
 ) -> Result<Finding, NoMemory>
-    requires source { IsWithinLimits pair.now.source }
-    requires target { IsWithinLimits pair.now.target }
+    requires source { IsRunnable pair.now.source }
+    requires target { IsRunnable pair.now.target }
     requires answered { HasNext judge.now.bounds judge.now.budget (pair.now ∷ []) left.old.now }
     ensures found { IfOk result (IsJudged (may_answer judge.now.bounds judge.now.budget) judge.now.bounds pair.now) }
     ensures left { IfOk result (λ finding. IsTaken (pair.now ∷ []) (verdicts_in finding) left.old.now left.new.now) }
@@ -224,8 +225,8 @@ fn finding_of(
     bounds: &Bounds,
     verdict: &Verdict,
 ) -> Result<Finding, NoMemory>
-    requires source { IsWithinLimits pair.now.source }
-    requires target { IsWithinLimits pair.now.target }
+    requires source { IsRunnable pair.now.source }
+    requires target { IsRunnable pair.now.target }
     ensures { IfOk result (ShowsVerdict pair.now bounds.now verdict.now) }
 {
     match verdict {

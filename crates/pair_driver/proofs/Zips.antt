@@ -1,7 +1,7 @@
 -- Answers that fit their pairs index by index.
 use Rattle.std.proofs.Common.{◌≡◌, ℕ, suc, ◌<◌, List, [], ◌∷◌, length, get_or, arith}
 use Rattle.std.specs.List.{AllZip}
-use Rattle.points.specs.Pair.{Functions}
+use Rattle.verdicts.specs.Pair.{Functions}
 use Rattle.pair_driver.specs.declared.judged.Judged.{Judged}
 use Rattle.pair_driver.specs.Draws.{AreRun}
 

@@ -1,11 +1,11 @@
 ghost use Rattle.std.specs.Prelude.{IfOk};
-ghost use Rattle.points.specs.Pair.{Functions};
+ghost use Rattle.verdicts.specs.Pair.{Functions};
 ghost use Rattle.pair_driver.specs.declared.judged.Judged.{Judged};
 
 use crate::judged::Judged;
-use points::Pair;
 use std::alloc::Global;
 use support::NoMemory;
+use verdicts::Pair;
 
 /// A judge of pairs, which many workers may ask.
 pub trait Judge: Sync {

@@ -1,5 +1,5 @@
 use clause_log::Cert;
-use points::{Kept, Verdict};
+use verdicts::{Kept, Verdict};
 
 /// What a judge answers of a pair: the verdict, the tapes and points on the way to it, and what shows
 /// its last question answered, or spent.

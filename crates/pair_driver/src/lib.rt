@@ -3,7 +3,7 @@
 //! It promises that [`drive`] answers as many judgements as there are pairs, each one that the judge's
 //! meaning allows for the pair of its index, for every number of workers and every schedule. A worker
 //! stops only where no pair is left, also one that is out of memory, so that the others stop too. It
-//! builds on `points`, `clause_log` and `claim_board`.
+//! builds on `verdicts`, `clause_log` and `claim_board`.
 #![tactic(auto)]
 
 mod desks;

@@ -1,16 +1,16 @@
 ghost use Rattle.std.specs.Prelude.{◌≡◌, ◌+◌, ◌*◌, ◌^◌, ◌<◌, length, slice_index_or, IfOk};
 ghost use Rattle.std.specs.List.{AllByRecursion, AllZip};
-ghost use Rattle.points.specs.Pair.{Functions};
+ghost use Rattle.verdicts.specs.Pair.{Functions};
 
 use crate::gate::Gate;
 use crate::judge::Judge;
 use crate::judged::Judged;
 use crate::share::run_all;
 use crate::tasks::Tasks;
-use points::Pair;
 use std::alloc::Global;
 use std::thread::Threads;
 use support::NoMemory;
+use verdicts::Pair;
 
 /// The pairs that a judge has to judge, each after it has passed the gate.
 #[derive(Drop)]
@@ -23,7 +23,7 @@ struct Batch<'b, J: Judge, G: Gate> {
 impl<'b, J: Judge, G: Gate> Tasks for Batch<'b, J, G> {
     ghost use Rattle.std.specs.Prelude.{length, slice_index_or};
     ghost use Rattle.std.specs.List.{AllByRecursion};
-    ghost use Rattle.points.specs.Pair.{Functions};
+    ghost use Rattle.verdicts.specs.Pair.{Functions};
 
     ghost ready = { λ batch. AllByRecursion (J.takes batch.judge.now) batch.pairs.now };
 

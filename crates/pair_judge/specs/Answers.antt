@@ -4,7 +4,7 @@ use Rattle.ir_tree.specs.Limits.{IsWithinLimits}
 use Rattle.ir_tree.specs.WellFormed.{IsWellFormed}
 use Rattle.points.specs.declared.point.Bounds.{Bounds}
 use Rattle.points.specs.declared.point.Budget.{Budget}
-use Rattle.points.specs.Pair.{Functions}
+use Rattle.verdicts.specs.Pair.{Functions}
 use Rattle.pair_driver.specs.declared.judged.Judged.{Judged}
 use Rattle.run_terms.specs.Frontier.{HasSmallNumbers}
 use Rattle.instantiate.specs.Settling.{IsJudged}

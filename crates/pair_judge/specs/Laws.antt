@@ -2,11 +2,11 @@
 use Rattle.std.specs.Prelude.{◌≡◌, ◌<◌, ◌⊎◌}
 use Rattle.points.specs.declared.point.Bounds.{Bounds}
 use Rattle.points.specs.declared.point.Budget.{Budget}
-use Rattle.points.specs.declared.verdict.Verdict.{Verdict}
-use Rattle.points.specs.declared.verdict.Verdict.TheVariants.{Unknown}
-use Rattle.points.specs.declared.verdict.Cause.TheVariants.{Conflicts}
-use Rattle.points.specs.Pair.{Functions}
-use Rattle.points.specs.Trail.{IsVerdict}
+use Rattle.verdicts.specs.declared.verdict.Verdict.{Verdict}
+use Rattle.verdicts.specs.declared.verdict.Verdict.TheVariants.{Unknown}
+use Rattle.verdicts.specs.declared.verdict.Cause.TheVariants.{Conflicts}
+use Rattle.verdicts.specs.Pair.{Functions}
+use Rattle.verdicts.specs.Trail.{IsVerdict}
 use Rattle.pair_driver.specs.declared.judged.Judged.{Judged}
 use Rattle.pair_judge.specs.Answers.{IsAnswer}
 

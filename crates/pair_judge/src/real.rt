@@ -2,9 +2,10 @@ ghost use Rattle.points.specs.Range.{AreInRange};
 
 use instantiate::settle;
 use pair_driver::{Judge, Judged};
-use points::{Bounds, Budget, Pair};
+use points::{Bounds, Budget};
 use std::alloc::Global;
 use support::NoMemory;
+use verdicts::Pair;
 
 /// The judge of pairs within bounds and a budget.
 #[derive(Clone, Copy, Debug, PartialEq, Eq)]

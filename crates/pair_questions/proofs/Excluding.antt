@@ -5,8 +5,8 @@ use Rattle.points.specs.declared.point.Input.{Input}
 use Rattle.points.specs.declared.point.Point.{Point}
 use Rattle.points.specs.declared.point.Shape.{Shape}
 use Rattle.points.specs.declared.outcome.Outcome.{Outcome}
-use Rattle.points.specs.Covers.{covers, some_covers, shifted, is_covered}
-use Rattle.points.specs.Pair.{Functions}
+use Rattle.verdicts.specs.Covers.{covers, some_covers, shifted, is_covered}
+use Rattle.verdicts.specs.Pair.{Functions}
 use Rattle.points.specs.Run.{run_of}
 use Rattle.points.specs.Tapes.{need_of}
 use Rattle.bv_terms.specs.declared.term.TermId.{TermId}

@@ -9,12 +9,12 @@ use Rattle.clause_log.specs.declared.step.Cert.{Cert}
 use Rattle.points.specs.declared.point.Bounds.{Bounds}
 use Rattle.points.specs.declared.point.Point.{Point}
 use Rattle.points.specs.declared.point.Shape.{Shape}
-use Rattle.points.specs.Pair.{Functions}
+use Rattle.verdicts.specs.Pair.{Functions}
 use Rattle.points.specs.Code.{IsOfShape, code_of, number_of}
 use Rattle.points.specs.Codes.{IsCode}
-use Rattle.points.specs.Covers.{covers, is_covered}
+use Rattle.verdicts.specs.Covers.{covers, is_covered}
 use Rattle.points.specs.Tapes.{need_of}
-use Rattle.points.specs.Trail.{AreAllCovered, IsLeastUncovered, IsPoint}
+use Rattle.verdicts.specs.Trail.{AreAllCovered, IsLeastUncovered, IsPoint}
 use Rattle.points.proofs.Decoded.{codes_tell_points}
 use Rattle.answer_order.specs.Fronts.{Fits, IsLeast, NonePass, numbers_of}
 use Rattle.answer_order.proofs.Binary.{fits-numbers}
@@ -23,7 +23,7 @@ use Rattle.mem_terms.specs.declared.inputs.TapeTerms.{TapeTerms}
 use Rattle.mem_terms.specs.Inputs.{words_at}
 use Rattle.refine_terms.specs.Deciding.{Decides}
 use Rattle.refine_terms.specs.Numbers.{numbers_at}
-use Rattle.unroll.specs.Small.{AreSmall}
+use Rattle.pair_costs.specs.Small.{AreSmall}
 use Rattle.pair_questions.specs.declared.found.Found.{Found}
 use Rattle.pair_questions.specs.declared.found.Found.TheVariants as found
 use Rattle.pair_questions.specs.Numbers.{AsksNumbers, IsFoundNumbers, IsRefutedTest, IsSpentTest, looked_up, number_test}

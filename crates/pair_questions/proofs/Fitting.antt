@@ -14,14 +14,14 @@ use Rattle.byte_block.specs.declared.block.MemoryBlock.{MemoryBlock}
 use Rattle.points.specs.declared.point.Bounds.{Bounds}
 use Rattle.points.specs.declared.point.Point.{Point}
 use Rattle.points.specs.declared.point.Shape.{Shape}
-use Rattle.points.specs.Pair.{Functions}
+use Rattle.verdicts.specs.Pair.{Functions}
 use Rattle.points.specs.Code.{ArgsFit, BlocksFit, ByteFits, BytesFit, IsOfShape, ValueFits, WordsFit, args_code, byte_code, code_of, places_code, value_code}
 use Rattle.points.specs.Tapes.{need_of, widest_choice}
-use Rattle.points.specs.Trail.{IsPoint}
+use Rattle.verdicts.specs.Trail.{IsPoint}
 use Rattle.points.proofs.ByteOrder.{name_at_most}
 use Rattle.points.proofs.Same.{blocks_count, sizes_of}
 use Rattle.answer_order.specs.Fronts.{AreWidths, Fits}
-use Rattle.unroll.specs.Small.{AreSmall}
+use Rattle.pair_costs.specs.Small.{AreSmall}
 use Rattle.pair_questions.specs.Questions.{args_widths, blocks_widths, places_widths, point_widths, tape_widths, value_widths}
 use Rattle.pair_questions.specs.Shapes.{IsShapeOf}
 

@@ -6,7 +6,7 @@ use Rattle.bv_terms.specs.Tree.{width_of}
 use Rattle.bv_terms.specs.Trees.{AreFit, Keeps, tree_in, variables_among}
 use Rattle.points.specs.declared.point.Bounds.{Bounds}
 use Rattle.points.specs.declared.point.Shape.{Shape}
-use Rattle.points.specs.Pair.{Functions}
+use Rattle.verdicts.specs.Pair.{Functions}
 use Rattle.points.specs.Tapes.{need_of}
 use Rattle.pair_questions.specs.Orders.{IsOrder}
 use Rattle.pair_questions.specs.Questions.{args_widths, blocks_widths, point_widths, tape_widths}

@@ -1,6 +1,6 @@
 -- The tapes so far are those of the shifts so far.
 use Rattle.std.proofs.Common.{ℕ, ◌≡◌, ◌<◌, ◌+◌, List, [], ◌∷◌, ◌++◌, length, map, take, get_or, Contains, ap, sym, subst, ◌∙◌}
-use Rattle.points.specs.Covers.{words_of}
+use Rattle.verdicts.specs.Covers.{words_of}
 use Rattle.bv_terms.specs.declared.term.TermId.{TermId}
 use Rattle.bv_terms.specs.declared.term.Term.{Term}
 use Rattle.bv_terms.specs.Trees.{Keeps}

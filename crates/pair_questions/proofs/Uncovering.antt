@@ -11,14 +11,14 @@ use Rattle.points.specs.declared.point.Input.{Input}
 use Rattle.points.specs.declared.point.Point.{Point}
 use Rattle.points.specs.declared.point.Shape.{Shape}
 use Rattle.points.specs.declared.outcome.Outcome.{Outcome}
-use Rattle.points.specs.Pair.{Functions, same_type, same_types, same_return, same_signature}
+use Rattle.verdicts.specs.Pair.{Functions, same_type, same_types, same_return, same_signature}
 use Rattle.points.specs.Code.{WordsFit, IsOfShape, code_of}
 use Rattle.points.specs.Codes.{IsCode}
-use Rattle.points.specs.Covers.{covers, some_covers, shifted, is_covered}
+use Rattle.verdicts.specs.Covers.{covers, some_covers, shifted, is_covered}
 use Rattle.points.specs.Refines.{is_refined}
 use Rattle.points.specs.Run.{run_of, IsPlain}
 use Rattle.points.specs.Tapes.{need_of}
-use Rattle.points.specs.Trail.{IsPoint}
+use Rattle.verdicts.specs.Trail.{IsPoint}
 use Rattle.points.proofs.Decoded.{codes_tell_points}
 use Rattle.bv_terms.specs.declared.term.TermId.{TermId}
 use Rattle.bv_terms.specs.declared.term.Term.{Term}

@@ -3,23 +3,23 @@ use Rattle.std.specs.Prelude.{◌≡◌, ◌↔◌, ℕ, zero, suc, Bool, true, 
 use Rattle.ir_tree.specs.declared.tree.IrType.{IrType}
 use Rattle.ir_tree.specs.declared.tree.IrType.TheVariants as type
 use Rattle.ir_tree.specs.declared.tree.Parameter.{Parameter}
-use Rattle.ir_tree.specs.Limits.{IsWithinLimits}
 use Rattle.points.specs.declared.point.Bounds.{Bounds}
 use Rattle.points.specs.declared.point.Point.{Point}
 use Rattle.points.specs.declared.point.Shape.{Shape}
-use Rattle.points.specs.Pair.{Functions}
+use Rattle.verdicts.specs.Pair.{Functions}
 use Rattle.points.specs.Code.{IsOfShape, WordsFit, code_of}
 use Rattle.points.specs.Codes.{IsCode}
+use Rattle.points.specs.Runnable.{IsRunnable}
 use Rattle.points.specs.Tapes.{need_of}
-use Rattle.points.specs.Covers.{covers, is_covered, IsLeastCover, HasNoCover}
-use Rattle.points.specs.Trail.{IsPoint, IsLeastUncovered, AreAllCovered}
+use Rattle.verdicts.specs.Covers.{covers, is_covered, IsLeastCover, HasNoCover}
+use Rattle.verdicts.specs.Trail.{IsPoint, IsLeastUncovered, AreAllCovered}
 use Rattle.clause_lits.specs.declared.cnf.Cnf.{Cnf}
 use Rattle.clause_log.specs.declared.step.Cert.{Cert}
 use Rattle.clause_log.specs.Refutation.{Refutes}
 use Rattle.clause_search.specs.Outcome.{IsCareful, IsSpent}
 use Rattle.answer_order.specs.Fronts.{numbers_of, total}
 use Rattle.sat_ask.specs.Asks.{Asks, HasSmallNumbers}
-use Rattle.unroll.specs.Small.{AreSmall}
+use Rattle.pair_costs.specs.Small.{AreSmall}
 use Rattle.run_terms.specs.Frontier.{CanRun}
 use Rattle.pair_questions.specs.declared.found.Found.{Found}
 use Rattle.pair_questions.specs.declared.found.Found.TheVariants as found
@@ -27,8 +27,8 @@ use Rattle.pair_questions.specs.declared.found.Found.TheVariants as found
 -- ---- what may be asked about
 
 pub record CanBeAsked (pair : Functions) (bounds : Bounds) : Type 0 where
-  pub source_limits : IsWithinLimits pair.source
-  pub target_limits : IsWithinLimits pair.target
+  pub source_runnable : IsRunnable pair.source
+  pub target_runnable : IsRunnable pair.target
   pub source_run : CanRun pair.source
   pub target_run : CanRun pair.target
   pub small : AreSmall bounds

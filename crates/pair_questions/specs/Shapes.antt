@@ -3,7 +3,7 @@ use Rattle.std.specs.Prelude.{◌≡◌, List, [], ◌∷◌, ◌++◌}
 use Rattle.std.specs.List.{flat_map}
 use Rattle.points.specs.declared.point.Bounds.{Bounds}
 use Rattle.points.specs.declared.point.Shape.{Shape}
-use Rattle.points.specs.Pair.{Functions}
+use Rattle.verdicts.specs.Pair.{Functions}
 use Rattle.points.specs.Tapes.{need_of, widest_choice}
 use Rattle.bv_terms.specs.declared.term.TermId.{TermId}
 use Rattle.mem_terms.specs.declared.inputs.ArgTerms.{ArgTerms}

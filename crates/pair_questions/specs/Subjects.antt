@@ -1,7 +1,7 @@
 -- What all questions on a pair share.
 use Rattle.std.specs.Prelude.{◌≡◌, ℕ, true, List}
 use Rattle.points.specs.declared.point.Bounds.{Bounds}
-use Rattle.points.specs.Pair.{Functions, same_signature}
+use Rattle.verdicts.specs.Pair.{Functions, same_signature}
 use Rattle.points.specs.Run.{run_of}
 use Rattle.points.specs.Tapes.{need_of}
 use Rattle.bv_terms.specs.declared.term.Term.{Term}

@@ -1,6 +1,6 @@
 -- Tapes that are shifted by some positions.
 use Rattle.std.specs.Prelude.{ℕ, ◌+◌, ◌-◌, ◌^◌, nat_lt, if◌then◌else◌, List, Option, Some, None}
-use Rattle.points.specs.Covers.{word_before, word_behind}
+use Rattle.verdicts.specs.Covers.{word_before, word_behind}
 use Rattle.pair_questions.specs.declared.tapes.Shift.{Shift}
 use Rattle.pair_questions.specs.declared.tapes.Shift.TheVariants.{Behind, Before}
 

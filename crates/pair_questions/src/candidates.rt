@@ -1,7 +1,7 @@
 //! The tapes that are tried for every point, each once.
 
 ghost use Rattle.std.specs.Prelude.{◌↔◌, ℕ, Contains, IfOk, IsTrue, map};
-ghost use Rattle.points.specs.Covers.{shifted};
+ghost use Rattle.verdicts.specs.Covers.{shifted};
 ghost use Rattle.bv_terms.specs.Trees.{Keeps};
 ghost use Rattle.mem_terms.specs.Inputs.{AreWords, words_at};
 ghost use Rattle.mem_terms.specs.declared.inputs.TapeTerms.{TapeTerms};

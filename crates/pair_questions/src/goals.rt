@@ -1,8 +1,8 @@
 //! The goals of the two questions.
 
 ghost use Rattle.std.specs.Prelude.{◌≡◌, ◌∷◌, ◌&&◌, [], IfOk, length};
-ghost use Rattle.points.specs.Covers.{shifted};
-ghost use Rattle.points.specs.Trail.{IsPoint};
+ghost use Rattle.verdicts.specs.Covers.{shifted};
+ghost use Rattle.verdicts.specs.Trail.{IsPoint};
 ghost use Rattle.bv_terms.specs.Trees.{IsTerm, Keeps, Tests, bit_at};
 ghost use Rattle.mem_terms.specs.Inputs.{AreWords, words_at};
 ghost use Rattle.mem_terms.specs.Outcomes.{IsOutcome, LeavesGiven};

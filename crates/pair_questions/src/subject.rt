@@ -6,10 +6,11 @@ ghost use Rattle.pair_questions.specs.Shapes.{IsShapeOf};
 ghost use Rattle.pair_questions.specs.Subjects.{IsSubject};
 
 use crate::encodable::Encodable;
-use points::{Bounds, Pair, Shape};
+use pair_costs::{need, widest_of};
+use points::{Bounds, Shape};
 use std::alloc::Global;
 use support::{NoMemory, Sequence};
-use unroll::{need, widest_of};
+use verdicts::Pair;
 
 /// A pair within bounds, what its points look like, both functions as they are encoded, and how many
 /// words a tape of the source has.
@@ -33,7 +34,7 @@ fn shape_of(alloc: Global, pair: &Pair, bounds: &Bounds) -> Result<Shape, NoMemo
         parameters: Sequence::from_vec(target.parameters.as_slice().to_vec(alloc)?),
         blocks: bounds.blocks,
         bytes: bounds.bytes,
-        words: need(target, bounds.turns),
+        words: need(target, bounds.turns)?,
         word_width: widest_of(target),
     })
 }
@@ -53,7 +54,7 @@ impl<'p, 'm> Subject<'p, 'm> {
         let shape = shape_of(alloc, pair, bounds)?;
         let source = Encodable::new(alloc, pair.source(), bounds.turns)?;
         let target = Encodable::new(alloc, pair.target(), bounds.turns)?;
-        let need = need(source.of, bounds.turns);
+        let need = need(source.of, bounds.turns)?;
         Ok(Subject {
             pair,
             bounds,

@@ -1,7 +1,7 @@
 //! The question for a tape that covers a point.
 
 ghost use Rattle.std.specs.Prelude.{◌<◌, IfOk, IfSome};
-ghost use Rattle.points.specs.Trail.{IsPoint};
+ghost use Rattle.verdicts.specs.Trail.{IsPoint};
 ghost use Rattle.pair_questions.specs.Questions.{IsFoundTape};
 ghost use Rattle.pair_questions.specs.Subjects.{IsSubject};
 

@@ -4,7 +4,7 @@ ghost use Rattle.std.specs.Prelude.{◌≡◌, IfOk, List, ℕ};
 ghost use Rattle.bv_terms.specs.declared.term.Term.{Term};
 ghost use Rattle.bv_terms.specs.Trees.{IsTerm, Keeps, term_at};
 ghost use Rattle.mem_terms.specs.Inputs.{AreWords, words_at};
-ghost use Rattle.points.specs.Covers.{words_of};
+ghost use Rattle.verdicts.specs.Covers.{words_of};
 ghost use Rattle.pair_questions.specs.Tapes.{shift_of, source_of};
 
 use bv_terms::{TermId, Terms};

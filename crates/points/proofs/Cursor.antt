@@ -1,14 +1,12 @@
 -- A loop that reads a code from the start, and the parts of a code.
-use Rattle.std.proofs.Common.{◌≡◌, inl, inr, ℕ, zero, suc, ◌+◌, ◌*◌, ◌<◌, ◌≤◌, List, [], ◌∷◌, ◌++◌, length, get_or, take, drop, refl, sym, ap, ◌∙◌, arith, append_assoc, append-nil, length-append}
-use Rattle.std.proofs.lemmas.List.{drop_more, at_drop_all}
+use Rattle.std.proofs.Common.{◌≡◌, inl, inr, ℕ, zero, suc, ◌+◌, ◌*◌, ◌<◌, ◌≤◌, List, [], ◌∷◌, ◌++◌, length, take, drop, refl, sym, ap, ◌∙◌, arith, append_assoc, append-nil, length-append}
 use Rattle.std.proofs.lemmas.List.Sums.{sum_by-cons}
 use Rattle.ir_tree.specs.declared.tree.Parameter.{Parameter}
 use Rattle.byte_block.specs.declared.value.Byte.{Byte}
-use Rattle.byte_block.specs.declared.block.MemoryBlock.{MemoryBlock}
 use Rattle.points.specs.declared.point.Shape.{Shape}
 use Rattle.points.specs.Code.{WordsFit}
 use Rattle.points.specs.Codes.{IsCodeOfArgs, AreSizes, IsCodeOfByte, IsCodeOfPlaces, IsCodeOfBlocks, IsCode}
-use Rattle.points.specs.Reads.{value_length, args_length, byte_from, places_from, block_from, blocks_from, HasByte, HaveBytes, HasPlaces, HaveBlocks}
+use Rattle.points.specs.Reads.{value_length, args_length, byte_from, places_from, HasByte, HaveBytes, HaveBlocks}
 use Rattle.points.proofs.Words.{WordsFit-length}
 use Rattle.points.proofs.Decoded.{read_value, read_byte, read_places, drop_front}
 
@@ -46,19 +44,6 @@ all_read room i places rest digits h past = end h.left (let count = h.count in o
     end : (left : ℕ) → left ≡ 0 → places ++ places_from left rest ≡ places_from room digits → places ≡ places_from room digits
     end zero none read = sym (append-nil places) ∙ read
     end (suc left) none read = absurd (omega (arith, none))
-
--- ---- blocks
-
-pub blocks_here : (bytes i size : ℕ) (sizes rest : List ℕ) → i < length sizes → HaveBlocks bytes (drop i sizes) rest → HasPlaces bytes rest × HaveBlocks bytes (drop (i + 1) sizes) (drop (bytes * 5) rest)
-blocks_here bytes i size sizes rest within enough = rw (drop_more sizes i 0 within) at enough
-
-pub read_block : (bytes i d : ℕ) (sizes rest behind : List ℕ) (whole blocks more : List MemoryBlock) (b : MemoryBlock) → i < length sizes → more ≡ blocks ++ b ∷ [] → b ≡ block_from bytes (i + 1) (get_or sizes i d) rest → behind ≡ drop (bytes * 5) rest → blocks ++ blocks_from bytes (i + 1) (drop i sizes) rest ≡ whole → more ++ blocks_from bytes (i + 1 + 1) (drop (i + 1) sizes) behind ≡ whole
-read_block bytes i d sizes rest behind whole blocks more b within push is skip read =
-    let read' = rw (drop_more sizes i d within) at read in
-    rw (push, is, skip, append_assoc) read'
-
-pub all_blocks_read : (bytes i : ℕ) (sizes rest : List ℕ) (whole blocks : List MemoryBlock) → length sizes ≤ i → blocks ++ blocks_from bytes (i + 1) (drop i sizes) rest ≡ whole → blocks ≡ whole
-all_blocks_read bytes i sizes rest whole blocks past read = sym (append-nil blocks) ∙ sym (ap (λ bs. blocks ++ bs) (at_drop_all (λ ns. blocks_from bytes (i + 1) ns rest) sizes i past)) ∙ read
 
 -- ---- what a code has to read
 

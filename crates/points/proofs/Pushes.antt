@@ -1,5 +1,5 @@
 -- A loop that pushes the code of each item after the code so far.
-use Rattle.std.proofs.Common.{◌≡◌, ℕ, ◌+◌, ◌<◌, ◌≤◌, List, [], ◌∷◌, ◌++◌, length, get_or, map, drop, Some, slice_get, sym, ap, ◌∙◌, append_assoc, append-nil}
+use Rattle.std.proofs.Common.{◌≡◌, ℕ, ◌+◌, ◌<◌, ◌≤◌, List, ◌∷◌, ◌++◌, length, get_or, drop, Some, slice_get, sym, ap, ◌∙◌, append_assoc, append-nil}
 use Rattle.std.specs.List.{flat_map}
 use Rattle.std.proofs.lemmas.List.{drop_more, at_drop_all}
 use Rattle.std.proofs.lemmas.Option.{get_or_from_slice_get}
@@ -16,13 +16,6 @@ pushed f xs i x code more whole within is push all =
 
 pub all_pushed : {A : Type 0} (f : A → List ℕ) (xs : List A) (i : ℕ) (code whole : List ℕ) → length xs ≤ i → code ++ flat_map f (drop i xs) ≡ whole → code ≡ whole
 all_pushed f xs i code whole past all = sym (append-nil code) ∙ sym (ap (λ ys. code ++ ys) (at_drop_all (flat_map f) xs i past)) ∙ all
-
-pub map_pushed : {A : Type 0} (f : A → ℕ) (xs : List A) (i : ℕ) (x : A) (code more whole : List ℕ) → i < length xs → x ≡ get_or xs i x → more ≡ code ++ f x ∷ [] → code ++ map f (drop i xs) ≡ whole → more ++ map f (drop (i + 1) xs) ≡ whole
-map_pushed f xs i x code more whole within is push all =
-    rw (push, append_assoc) (ap (λ ys. code ++ map f ys) (sym (drop_item xs i x within is)) ∙ all)
-
-pub map_all_pushed : {A : Type 0} (f : A → ℕ) (xs : List A) (i : ℕ) (code whole : List ℕ) → length xs ≤ i → code ++ map f (drop i xs) ≡ whole → code ≡ whole
-map_all_pushed f xs i code whole past all = sym (append-nil code) ∙ sym (ap (λ ys. code ++ ys) (at_drop_all (map f) xs i past)) ∙ all
 
 pub args_pushed : (blocks : ℕ) (ps : List Parameter) (vs : List Value) (i : ℕ) (p : Parameter) (v : Value) (code more whole : List ℕ) → i < length ps → i < length vs → p ≡ get_or ps i p → slice_get vs i ≡ Some v → more ≡ code ++ value_code blocks p.of_type v → code ++ args_code blocks (drop i ps) (drop i vs) ≡ whole → more ++ args_code blocks (drop (i + 1) ps) (drop (i + 1) vs) ≡ whole
 args_pushed blocks ps vs i p v code more whole within within' is is' push all =

@@ -1,15 +1,11 @@
 pub mod Code
 pub mod Codes
-pub mod Covers
 pub mod Laws
 pub mod Next
-pub mod Pair
 pub mod Range
 pub mod Reads
 pub mod Refines
 pub mod Run
-pub mod Shown
+pub mod Runnable
 pub mod Table
 pub mod Tapes
-pub mod Trail
-pub mod Weight

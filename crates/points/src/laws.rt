@@ -1,4 +1,4 @@
-ghost use Rattle.points.specs.Laws.{NumbersCompareFromFront, PlacesTellPoints, CodesTellPoints, CorrectHolds, IncorrectFails, LeastCoversArePlain, VerdictsAreOne};
+ghost use Rattle.points.specs.Laws.{NumbersCompareFromFront, PlacesTellPoints, CodesTellPoints};
 ghost use Rattle.points.specs.Tapes.{TapesHavePlainForms};
 
 /// Codes are compared lexicographically: of two lists of the same length the one with the smaller
@@ -22,26 +22,4 @@ pub fn codes_tell_points()
 /// same run.
 pub fn tapes_have_plain_forms()
     ensures { TapesHavePlainForms }
-{}
-
-/// The least tape that covers a point is plain for the source's run.
-pub fn least_covers_are_plain()
-    ensures { LeastCoversArePlain }
-{}
-
-/// Where the verdict is correct, each run of the target is one that a run of the source allows, on
-/// every input within the bounds and for choices of any length.
-pub fn correct_holds()
-    ensures { CorrectHolds }
-{}
-
-/// Where the verdict is incorrect, no tape of any length covers its point, and some tape covers each
-/// smaller point.
-pub fn incorrect_fails()
-    ensures { IncorrectFails }
-{}
-
-/// A pair has at most one verdict.
-pub fn verdicts_are_one()
-    ensures { VerdictsAreOne }
 {}

@@ -5,19 +5,20 @@
 #![tactic(auto)]
 
 ghost use Rattle.std.specs.Prelude.{IfOk};
-ghost use Rattle.ir_tree.specs.Limits.{IsWithinLimits};
-ghost use Rattle.points.specs.Shown.{IsShown};
+ghost use Rattle.points.specs.Runnable.{IsRunnable};
+ghost use Rattle.verdicts.specs.Shown.{IsShown};
 
 use choice_interp::interpret;
-use points::{Bounds, Pair, Point, Shown};
+use points::{Bounds, Point};
 use std::alloc::Global;
 use support::NoMemory;
+use verdicts::{Pair, Shown};
 
 /// The target's outcome on the point, the source's outcome on the tape of zeros, and how many words
 /// the target read.
 pub fn replay(alloc: Global, pair: &Pair, bounds: &Bounds, point: &Point) -> Result<Shown, NoMemory>
-    requires source { IsWithinLimits pair.now.source }
-    requires target { IsWithinLimits pair.now.target }
+    requires source { IsRunnable pair.now.source }
+    requires target { IsRunnable pair.now.target }
     ensures { IfOk result (IsShown pair.now bounds.now point.now) }
 {
     let tape = point.tape.as_slice();

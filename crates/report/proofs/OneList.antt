@@ -8,14 +8,14 @@ use Rattle.ir_tree.specs.declared.module.Module.{Module}
 use Rattle.points.specs.declared.outcome.Outcome.{Outcome}
 use Rattle.points.specs.declared.point.Bounds.{Bounds}
 use Rattle.points.specs.declared.point.Point.{Point}
-use Rattle.points.specs.declared.verdict.Cause.{Cause}
-use Rattle.points.specs.declared.verdict.Shown.{Shown}
-use Rattle.points.specs.declared.verdict.Verdict.{Verdict}
-use Rattle.points.specs.declared.verdict.Verdict.TheVariants as verdict
-use Rattle.points.specs.Pair.{Functions, same_signature}
-use Rattle.points.specs.Laws.{VerdictsAreOne}
-use Rattle.points.specs.Shown.{IsShown}
-use Rattle.points.specs.Trail.{IsVerdict}
+use Rattle.verdicts.specs.declared.verdict.Cause.{Cause}
+use Rattle.verdicts.specs.declared.verdict.Shown.{Shown}
+use Rattle.verdicts.specs.declared.verdict.Verdict.{Verdict}
+use Rattle.verdicts.specs.declared.verdict.Verdict.TheVariants as verdict
+use Rattle.verdicts.specs.Pair.{Functions, same_signature}
+use Rattle.verdicts.specs.Laws.{VerdictsAreOne}
+use Rattle.verdicts.specs.Shown.{IsShown}
+use Rattle.verdicts.specs.Trail.{IsVerdict}
 use Rattle.report.specs.declared.row.Finding.{Finding}
 use Rattle.report.specs.declared.row.Finding.TheVariants as finding
 use Rattle.report.specs.declared.row.Row.{Row}

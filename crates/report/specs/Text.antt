@@ -18,9 +18,9 @@ use Rattle.points.specs.declared.outcome.Outcome.TheVariants.{Return, Ub, Beyond
 use Rattle.points.specs.declared.point.Bounds.{Bounds}
 use Rattle.points.specs.declared.point.Budget.{Budget}
 use Rattle.points.specs.declared.point.Point.{Point}
-use Rattle.points.specs.declared.verdict.Cause.{Cause}
-use Rattle.points.specs.declared.verdict.Cause.TheVariants.{Weight, Rounds, Conflicts}
-use Rattle.points.specs.declared.verdict.Shown.{Shown}
+use Rattle.verdicts.specs.declared.verdict.Cause.{Cause}
+use Rattle.verdicts.specs.declared.verdict.Cause.TheVariants.{Weight, Rounds, Conflicts}
+use Rattle.verdicts.specs.declared.verdict.Shown.{Shown}
 use Rattle.report.specs.declared.row.Side.{Side}
 use Rattle.report.specs.declared.row.Side.TheVariants as side
 use Rattle.report.specs.declared.row.Finding.{Finding}

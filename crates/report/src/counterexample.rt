@@ -3,9 +3,10 @@ ghost use Rattle.report.specs.Text.{value_text, arg_lines, choice_lines, returne
 
 use crate::value_text::{push_blocks, push_number, push_value};
 use byte_block::{MemoryBlock, Value};
-use points::{Outcome, Point, Shown};
+use points::{Outcome, Point};
 use std::alloc::Global;
 use support::NoMemory;
+use verdicts::Shown;
 
 /// The point, what the source does there, and what the target does.
 pub(crate) fn push_shown(

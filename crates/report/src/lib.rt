@@ -2,7 +2,7 @@
 //!
 //! It promises one text and one status for a list of rows. What a row says is written in the order in
 //! which a compiler engineer reads a counterexample: the input, what the source does, what the target
-//! does. It builds on `points`, `ir_tree` and `ir_naming`; the top call writes what it gives.
+//! does. It builds on `verdicts`, `ir_tree` and `ir_naming`; the top call writes what it gives.
 #![tactic(auto)]
 
 mod counterexample;

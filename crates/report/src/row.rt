@@ -1,5 +1,6 @@
 use ir_tree::{Name, Refused};
-use points::{Cause, Point, Shown};
+use points::Point;
+use verdicts::{Cause, Shown};
 
 /// Which of two modules.
 #[derive(Clone, Copy, Debug, PartialEq, Eq)]

@@ -8,9 +8,10 @@ use crate::status::{Class, count};
 use crate::value_text::push_number;
 use ir_naming::push_name;
 use ir_tree::{Reason, Refused};
-use points::{Bounds, Budget, Cause};
+use points::{Bounds, Budget};
 use std::alloc::Global;
 use support::NoMemory;
+use verdicts::Cause;
 
 /// The text of a report: a first line with the bounds and the budget, a row for each function with its
 /// counterexample below it, and a last line with the number of rows of each class. Each line ends with

@@ -7,18 +7,18 @@ use Rattle.points.specs.declared.outcome.Outcome.{Outcome}
 use Rattle.points.specs.declared.outcome.Outcome.TheVariants.{Return, Ub, Beyond}
 use Rattle.points.specs.declared.point.Bounds.{Bounds}
 use Rattle.points.specs.declared.point.Point.{Point}
-use Rattle.points.specs.Pair.{Functions}
+use Rattle.verdicts.specs.Pair.{Functions}
 use Rattle.points.specs.Refines.{is_refined}
 use Rattle.points.specs.Code.{number_of, args_code, blocks_code, BlocksFit}
 use Rattle.points.specs.Run.{Run, is_given, run_of, IsPlain}
 use Rattle.points.specs.Tapes.{need_of}
-use Rattle.points.specs.Covers.{covers, some_covers, shifted, is_covered}
-use Rattle.points.specs.Trail.{IsPoint, place_in, IsLeastUncovered, AreAllCovered}
+use Rattle.verdicts.specs.Covers.{covers, some_covers, shifted, is_covered}
+use Rattle.verdicts.specs.Trail.{IsPoint, place_in, IsLeastUncovered, AreAllCovered}
 use Rattle.points.proofs.Order.{number_of-append, length_of_Digits}
-use Rattle.points.proofs.Placed.{with_memory, with_blocks, run_any_memory}
+use Rattle.verdicts.proofs.Placed.{with_memory, with_blocks, run_any_memory}
 use Rattle.points.proofs.Same.{blocks_digits}
 use Rattle.choice_interp.proofs.Endings.{blocks_allow-same}
-use Rattle.unroll.specs.Small.{AreSmall}
+use Rattle.pair_costs.specs.Small.{AreSmall}
 use Rattle.slow_judge.specs.Search.{HaveNoPointers, empty_blocks, IsCell, IsLeastAmong, AreCoveredAmong}
 use Rattle.slow_judge.proofs.Order.{empty_fit, middle_zeros, number_of-Zeros, few, short}
 

@@ -9,11 +9,11 @@ use Rattle.byte_block.specs.declared.block.MemoryBlock.{MemoryBlock}
 use Rattle.points.specs.declared.outcome.Outcome.{Outcome}
 use Rattle.points.specs.declared.point.Bounds.{Bounds}
 use Rattle.points.specs.declared.point.Point.{Point}
-use Rattle.points.specs.Pair.{Functions}
+use Rattle.verdicts.specs.Pair.{Functions}
 use Rattle.points.specs.Refines.{is_refined}
 use Rattle.points.specs.Run.{run_of, IsPlain}
 use Rattle.points.specs.Tapes.{need_of}
-use Rattle.points.specs.Covers.{covers, some_covers, shifted, words_of, is_covered}
+use Rattle.verdicts.specs.Covers.{covers, some_covers, shifted, words_of, is_covered}
 use Rattle.choice_interp.specs.declared.ending.Ending.{Ending}
 use Rattle.choice_interp.specs.Ran.{outcome_of}
 use Rattle.slow_judge.specs.Search.{DoesEnd, IsUncovered}

@@ -3,14 +3,14 @@ use Rattle.std.proofs.Common.{◌≡◌, ℕ, ◌+◌, ◌≤◌, ◌<◌, List,
 use Rattle.points.specs.declared.point.Bounds.{Bounds}
 use Rattle.points.specs.declared.point.Budget.{Budget}
 use Rattle.points.specs.declared.point.Point.{Point}
-use Rattle.points.specs.declared.verdict.Verdict.{Verdict}
-use Rattle.points.specs.declared.verdict.Verdict.TheVariants.{Correct, Incorrect, Unknown}
-use Rattle.points.specs.declared.verdict.Cause.TheVariants.{Weight, Rounds, Conflicts}
-use Rattle.points.specs.Pair.{Functions}
-use Rattle.points.specs.Covers.{IsLeastCover, HasNoCover}
-use Rattle.points.specs.Weight.{IsHeavy}
-use Rattle.points.specs.Trail.{TrailFrom, IsLeastUncovered, AreAllCovered, Ends, Judges, IsTrail, IsVerdict}
-use Rattle.points.proofs.Meaning.{cons_after}
+use Rattle.verdicts.specs.declared.verdict.Verdict.{Verdict}
+use Rattle.verdicts.specs.declared.verdict.Verdict.TheVariants.{Correct, Incorrect, Unknown}
+use Rattle.verdicts.specs.declared.verdict.Cause.TheVariants.{Weight, Rounds, Conflicts}
+use Rattle.verdicts.specs.Pair.{Functions}
+use Rattle.verdicts.specs.Covers.{IsLeastCover, HasNoCover}
+use Rattle.verdicts.specs.Weight.{IsHeavy}
+use Rattle.verdicts.specs.Trail.{TrailFrom, IsLeastUncovered, AreAllCovered, Ends, Judges, IsTrail, IsVerdict}
+use Rattle.verdicts.proofs.Meaning.{cons_after}
 use Rattle.std.proofs.Common.{subst}
 use Rattle.slow_judge.specs.Search.{HasTrail}
 

@@ -12,19 +12,19 @@ use Rattle.byte_block.specs.declared.value.Byte.TheVariants as byte
 use Rattle.byte_block.specs.declared.block.MemoryBlock.{MemoryBlock}
 use Rattle.points.specs.declared.point.Bounds.{Bounds}
 use Rattle.points.specs.declared.point.Point.{Point}
-use Rattle.points.specs.Pair.{Functions}
+use Rattle.verdicts.specs.Pair.{Functions}
 use Rattle.points.specs.Code.{number_of, ValueFits, ArgsFit, BytesFit, BlocksFit, WordsFit, value_code, args_code, byte_code, places_code, blocks_code, code_of}
 use Rattle.points.specs.Next.{IsNextWords, IsLastWords, IsNextArgs, IsLastArgs, least_value}
 use Rattle.points.specs.Tapes.{need_of, widest_choice}
-use Rattle.points.specs.Trail.{place_in}
+use Rattle.verdicts.specs.Trail.{place_in}
 use Rattle.points.specs.Codes.{IsChain}
 use Rattle.points.proofs.Order.{Digits, IsNextIn, IsLastIn, HaveDigits, next_in_back, next_in_front, last_in_both, at_most_by_back, number_of-below}
 use Rattle.points.proofs.Words.{WordsFit-digits, WordsFit-length, number_of-zeros}
 use Rattle.points.proofs.Words as words
 use Rattle.points.proofs.Args.{IsArgsCode, args_digits, digits_of, Digits-append, any_blocks, any_code}
 use Rattle.points.proofs.Same.{Fits, blocks_digits, code_length, code_digits, same_point}
-use Rattle.points.proofs.Meaning.{widest_small}
-use Rattle.unroll.specs.Small.{AreSmall}
+use Rattle.points.proofs.Widest.{widest_small}
+use Rattle.pair_costs.specs.Small.{AreSmall}
 use Rattle.slow_judge.specs.Search.{empty_block, empty_blocks, least_args, IsCell, IsNextCell, IsLastCell}
 
 -- ---- empty blocks fit

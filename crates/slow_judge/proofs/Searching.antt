@@ -4,11 +4,11 @@ use Rattle.std.specs.Prelude.{IsTrue}
 use Rattle.std.proofs.lemmas.Bool.{cases_eq, cases_Bool}
 use Rattle.points.specs.declared.point.Bounds.{Bounds}
 use Rattle.points.specs.declared.point.Point.{Point}
-use Rattle.points.specs.Pair.{Functions}
+use Rattle.verdicts.specs.Pair.{Functions}
 use Rattle.points.specs.Run.{run_of, IsPlain}
-use Rattle.points.specs.Covers.{is_covered}
-use Rattle.points.specs.Trail.{place_in}
-use Rattle.unroll.specs.Small.{AreSmall}
+use Rattle.verdicts.specs.Covers.{is_covered}
+use Rattle.verdicts.specs.Trail.{place_in}
+use Rattle.pair_costs.specs.Small.{AreSmall}
 use Rattle.slow_judge.specs.Search.{IsNextAmong, IsLastAmong, IsUncovered, IsLeastAmong, AreCoveredAmong}
 use Rattle.slow_judge.proofs.Order.{IsFit, same_place}
 

@@ -3,10 +3,10 @@ use Rattle.std.proofs.Common.{◌≡◌, ℕ, ◌<◌, ◌≤◌, List, refl, sy
 use Rattle.points.specs.declared.point.Bounds.{Bounds}
 use Rattle.points.specs.declared.point.Point.{Point}
 use Rattle.points.specs.declared.point.Shape.{Shape}
-use Rattle.points.specs.Pair.{Functions}
+use Rattle.verdicts.specs.Pair.{Functions}
 use Rattle.points.specs.Code.{IsOfShape}
 use Rattle.points.specs.Next.{IsNextPoint, IsLastPoint, place_in_shape}
-use Rattle.points.specs.Trail.{IsPoint, place_in, IsLeastUncovered, AreAllCovered}
+use Rattle.verdicts.specs.Trail.{IsPoint, place_in, IsLeastUncovered, AreAllCovered}
 use Rattle.slow_judge.specs.Search.{IsShapeOf, IsNextAmong, IsLastAmong, IsLeastAmong, AreCoveredAmong}
 use Rattle.slow_judge.proofs.Order.{IsFit}
 use Rattle.slow_judge.proofs.Searching.{AreFit}

@@ -3,17 +3,18 @@ use Rattle.std.proofs.Common.{◌≡◌, ℕ, ◌^◌, ◌<◌, inl, inr, List, 
 use Rattle.std.proofs.lemmas.Bool.{cases_eq}
 use Rattle.points.specs.declared.point.Bounds.{Bounds}
 use Rattle.points.specs.declared.point.Point.{Point}
-use Rattle.points.specs.Pair.{Functions}
+use Rattle.verdicts.specs.Pair.{Functions}
 use Rattle.points.specs.Code.{WordsFit, number_of}
 use Rattle.points.specs.Next.{IsNextWords, IsLastWords}
 use Rattle.points.specs.Run.{run_of}
 use Rattle.points.specs.Tapes.{need_of, widest_choice, plain_form}
-use Rattle.points.specs.Covers.{covers, IsLeastCover, HasNoCover}
+use Rattle.verdicts.specs.Covers.{covers, IsLeastCover, HasNoCover}
 use Rattle.points.proofs.Order.{number_of-same, number_of-below}
 use Rattle.points.proofs.Words.{WordsFit-length, WordsFit-digits}
 use Rattle.points.proofs.Words as words
 use Rattle.points.proofs.Plain.{tapes_have_plain_forms}
-use Rattle.points.proofs.Meaning.{widest_small, widen, plain_covers}
+use Rattle.verdicts.proofs.Meaning.{plain_covers}
+use Rattle.points.proofs.Widest.{widest_small, widen}
 
 -- the search has come to this tape: none before it covers the point
 pub record IsTapeReached (pair : Functions) (bounds : Bounds) (p : Point) (tape : List ℕ) : Type 0 where

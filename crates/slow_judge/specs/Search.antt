@@ -1,7 +1,6 @@
 -- What the judge goes through: the points of the pair's shape. Functions without pointers neither read nor change given blocks, so of their points those decide whose given blocks have size 0.
 use Rattle.std.specs.Prelude.{◌≡◌, ℕ, zero, suc, ◌+◌, ◌<◌, ◌≤◌, List, [], ◌∷◌, ◌++◌, length, map, replicate, true, false}
 use Rattle.ir_tree.specs.declared.tree.Parameter.{Parameter}
-use Rattle.ir_tree.specs.Limits.{IsWithinLimits}
 use Rattle.ir_tree.specs.Pointers.{HasNoPointers}
 use Rattle.byte_block.specs.declared.value.BlockName.TheVariants.{Given}
 use Rattle.byte_block.specs.declared.value.Byte.TheVariants as byte
@@ -11,15 +10,16 @@ use Rattle.points.specs.declared.point.Bounds.{Bounds}
 use Rattle.points.specs.declared.point.Budget.{Budget}
 use Rattle.points.specs.declared.point.Point.{Point}
 use Rattle.points.specs.declared.point.Shape.{Shape}
-use Rattle.points.specs.declared.verdict.Kept.{Kept}
-use Rattle.points.specs.declared.verdict.Verdict.{Verdict}
-use Rattle.points.specs.Pair.{Functions}
+use Rattle.verdicts.specs.declared.verdict.Kept.{Kept}
+use Rattle.verdicts.specs.declared.verdict.Verdict.{Verdict}
+use Rattle.verdicts.specs.Pair.{Functions}
 use Rattle.points.specs.Code.{ArgsFit, WordsFit}
 use Rattle.points.specs.Next.{least_value}
 use Rattle.points.specs.Run.{run_of, IsPlain}
+use Rattle.points.specs.Runnable.{IsRunnable}
 use Rattle.points.specs.Tapes.{need_of, widest_choice}
-use Rattle.points.specs.Covers.{is_covered, word_before, word_behind}
-use Rattle.points.specs.Trail.{place_in, TrailFrom, open_point, Ends}
+use Rattle.verdicts.specs.Covers.{is_covered, word_before, word_behind}
+use Rattle.verdicts.specs.Trail.{place_in, TrailFrom, open_point, Ends}
 use Rattle.choice_interp.specs.declared.ending.Ending.{Ending}
 use Rattle.choice_interp.specs.Ran.{outcome_of}
 use Rattle.choice_interp.specs.Runners.{IsRunner}
@@ -27,9 +27,9 @@ use Rattle.slow_judge.specs.declared.bench.Bench.{Bench}
 use Rattle.slow_judge.specs.declared.cover.Shift.{Shift}
 use Rattle.slow_judge.specs.declared.cover.Shift.TheVariants.{Behind, Before}
 
-pub record AreWithinLimits (pair : Functions) : Type 0 where
-  pub source : IsWithinLimits pair.source
-  pub target : IsWithinLimits pair.target
+pub record AreRunnable (pair : Functions) : Type 0 where
+  pub source : IsRunnable pair.source
+  pub target : IsRunnable pair.target
 
 pub record HaveNoPointers (pair : Functions) : Type 0 where
   pub source : HasNoPointers pair.source

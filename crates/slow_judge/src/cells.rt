@@ -2,16 +2,17 @@ ghost use Rattle.std.specs.Prelude.{◌≡◌, IfOk, IsTrue, IsFalse, length, re
 ghost use Rattle.ir_tree.specs.Pointers.{AreIntegers};
 ghost use Rattle.points.specs.Next.{least_value};
 ghost use Rattle.points.specs.Tapes.{need_of, widest_choice};
-ghost use Rattle.points.specs.Trail.{place_in};
-ghost use Rattle.unroll.specs.Small.{AreSmall};
+ghost use Rattle.verdicts.specs.Trail.{place_in};
+ghost use Rattle.pair_costs.specs.Small.{AreSmall};
 ghost use Rattle.slow_judge.specs.Search.{empty_block, empty_blocks, least_args, IsCell, IsNextCell, IsLastCell};
 
 use byte_block::{BlockName, Byte, Memory, MemoryBlock, Ptr, Value};
 use ir_tree::{IrType, Parameter};
-use points::{Bounds, Input, Pair, Point, next_args, next_words, zero_from};
+use points::{Bounds, Input, Point, next_args, next_words, zero_from};
 use std::alloc::{AllocError, Global};
 use support::{NoMemory, Sequence};
 use tv_num::Width;
+use verdicts::Pair;
 
 fn zero_bytes(alloc: Global, count: usize) -> Result<Vec<Byte>, AllocError>
     ensures { IfOk result (λ bytes. bytes.items ≡ replicate count (Byte.Num 0)) }

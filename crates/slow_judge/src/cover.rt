@@ -2,14 +2,15 @@ ghost use Rattle.std.specs.Prelude.{◌≡◌, ◌↔◌, ◌≤◌, ◌<◌, �
 ghost use Rattle.choice_interp.specs.Runners.{IsRunner};
 ghost use Rattle.points.specs.Run.{run_of};
 ghost use Rattle.points.specs.Tapes.{need_of};
-ghost use Rattle.points.specs.Covers.{covers, some_covers, words_of, word_before, word_behind, shifted};
-ghost use Rattle.slow_judge.specs.Search.{AreWithinLimits, DoesEnd, IsReady, IsUncovered, shift_of};
+ghost use Rattle.verdicts.specs.Covers.{covers, some_covers, words_of, word_before, word_behind, shifted};
+ghost use Rattle.slow_judge.specs.Search.{AreRunnable, DoesEnd, IsReady, IsUncovered, shift_of};
 
 use crate::bench::Bench;
 use byte_block::Memory;
 use choice_interp::{Ending, Runner, is_plain, run_again, runs_refine};
-use points::{Bounds, Pair, Point};
+use points::{Bounds, Point};
 use support::{NoMemory, Sequence};
+use verdicts::Pair;
 
 /// How the target's run on the point ends.
 fn run_target(
@@ -18,7 +19,7 @@ fn run_target(
     point: &Point,
     bench: &mut Bench,
 ) -> Result<Ending, NoMemory>
-    requires pair { AreWithinLimits pair.now }
+    requires pair { AreRunnable pair.now }
     requires ready { IsReady pair.now bounds.now point.now.input.blocks bench.old }
     ensures end { IfOk result (λ ending. DoesEnd pair.now bounds.now point.now ending bench.new.target.machine.memory) }
     ensures taken { OnOk result ((run_of pair.now.target bounds.now point.now.input point.now.tape).taken ≡ bench.new.target.machine.taken) }
@@ -46,7 +47,7 @@ fn allows(
     memory: &Memory,
     runner: &mut Runner,
 ) -> Result<bool, NoMemory>
-    requires pair { AreWithinLimits pair.now }
+    requires pair { AreRunnable pair.now }
     requires ready { IsRunner pair.now.source point.now.input.blocks runner.old }
     requires target { DoesEnd pair.now bounds.now point.now target memory.now }
     ensures value { IfOk result (λ holds. holds ≡ covers pair.now bounds.now point.now tape.now) }
@@ -66,7 +67,7 @@ fn some_allows(
     memory: &Memory,
     runner: &mut Runner,
 ) -> Result<bool, NoMemory>
-    requires pair { AreWithinLimits pair.now }
+    requires pair { AreRunnable pair.now }
     requires ready { IsRunner pair.now.source point.now.input.blocks runner.old }
     requires target { DoesEnd pair.now bounds.now point.now target memory.now }
     ensures value { IfOk result (λ holds. holds ≡ some_covers pair.now bounds.now point.now tapes.now) }
@@ -131,7 +132,7 @@ fn shift_allows(
     shift: Shift,
     bench: &mut Bench,
 ) -> Result<bool, NoMemory>
-    requires pair { AreWithinLimits pair.now }
+    requires pair { AreRunnable pair.now }
     requires ready { IsReady pair.now bounds.now point.now.input.blocks bench.old }
     requires target { DoesEnd pair.now bounds.now point.now target bench.old.target.machine.memory }
     ensures value { IfOk result (λ holds. holds ≡ covers pair.now bounds.now point.now (words_of (need_of bounds.now.turns pair.now.source) (shift_of shift point.now.tape))) }
@@ -159,7 +160,7 @@ fn some_shift_allows(
     target: Ending,
     bench: &mut Bench,
 ) -> Result<bool, NoMemory>
-    requires pair { AreWithinLimits pair.now }
+    requires pair { AreRunnable pair.now }
     requires ready { IsReady pair.now bounds.now point.now.input.blocks bench.old }
     requires target { DoesEnd pair.now bounds.now point.now target bench.old.target.machine.memory }
     ensures value { IfOk result (λ holds. holds ≡ some_covers pair.now bounds.now point.now (shifted (need_of bounds.now.turns pair.now.source) point.now.tape)) }
@@ -190,7 +191,7 @@ pub fn is_cover(
     tape: &[u64],
     bench: &mut Bench,
 ) -> Result<bool, NoMemory>
-    requires pair { AreWithinLimits pair.now }
+    requires pair { AreRunnable pair.now }
     requires ready { IsReady pair.now bounds.now point.now.input.blocks bench.old }
     ensures value { IfOk result (λ holds. holds ≡ covers pair.now bounds.now point.now tape.now) }
     ensures ready { IsReady pair.now bounds.now point.now.input.blocks bench.new }
@@ -216,7 +217,7 @@ pub fn is_uncovered(
     point: &Point,
     bench: &mut Bench,
 ) -> Result<bool, NoMemory>
-    requires pair { AreWithinLimits pair.now }
+    requires pair { AreRunnable pair.now }
     requires ready { IsReady pair.now bounds.now point.now.input.blocks bench.old }
     ensures value { IfOk result (λ holds. IsTrue holds ↔ IsUncovered pair.now bounds.now tapes.now point.now) }
     ensures ready { IsReady pair.now bounds.now point.now.input.blocks bench.new }

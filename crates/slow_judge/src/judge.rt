@@ -2,18 +2,19 @@ ghost use Rattle.std.specs.Prelude.{◌≡◌, IfOk};
 ghost use Rattle.ir_tree.specs.Limits.{IsWithinLimits};
 ghost use Rattle.points.specs.Range.{AreInRange};
 ghost use Rattle.points.specs.Tapes.{need_of, widest_choice};
-ghost use Rattle.points.specs.Trail.{IsVerdict};
-ghost use Rattle.unroll.specs.Small.{AreSmall};
-ghost use Rattle.slow_judge.specs.Search.{AreWithinLimits, empty_blocks, IsReady, HasTrail};
+ghost use Rattle.verdicts.specs.Trail.{IsVerdict};
+ghost use Rattle.pair_costs.specs.Small.{AreSmall};
+ghost use Rattle.slow_judge.specs.Search.{AreRunnable, empty_blocks, IsReady, HasTrail};
 
 use crate::bench::Bench;
 use crate::cells::{blocks_without_bytes, zeros};
 use crate::search::{Tape, least_cover, least_uncovered};
 use choice_interp::runner_for;
-use points::{Bounds, Budget, Cause, Pair, Verdict};
+use pair_costs::{need, weight, widest_of};
+use points::{Bounds, Budget};
 use std::alloc::Global;
 use support::{NoMemory, Sequence};
-use unroll::{need, weight, widest_of};
+use verdicts::{Cause, Pair, Verdict};
 
 fn bench_for(alloc: Global, pair: &Pair, bounds: &Bounds, need: usize) -> Result<Bench, NoMemory>
     requires { need ≡ need_of bounds.now.turns pair.now.source }
@@ -36,7 +37,7 @@ fn grow(
     of_source: Tape,
     of_target: Tape,
 ) -> Result<Verdict, NoMemory>
-    requires pair { AreWithinLimits pair.now }
+    requires pair { AreRunnable pair.now }
     requires small { AreSmall bounds.now }
     requires source_words { of_source.words ≡ need_of bounds.now.turns pair.now.source }
     requires source_width { of_source.width.bits ≡ widest_choice pair.now.source }
@@ -71,6 +72,7 @@ fn grow(
 
 /// The verdict on a pair. Its time grows with two to the power of the pair's bits, and with all given
 /// blocks of the bounds where one of the functions has pointers.
+#[tactic(auto, using(points::proofs::Runnable::runnable))]
 pub fn slow(
     alloc: Global,
     pair: &Pair,
@@ -82,15 +84,15 @@ pub fn slow(
     requires in_range { AreInRange bounds.now budget.now }
     ensures { IfOk result (IsVerdict pair.now bounds.now budget.now) }
 {
-    if budget.weight < weight(pair, bounds) {
+    if budget.weight < weight(pair, bounds)? {
         return Ok(Verdict::Unknown(Cause::Weight));
     }
     let of_source = Tape {
-        words: need(pair.source(), bounds.turns) as usize,
+        words: need(pair.source(), bounds.turns)? as usize,
         width: widest_of(pair.source()),
     };
     let of_target = Tape {
-        words: need(pair.target(), bounds.turns) as usize,
+        words: need(pair.target(), bounds.turns)? as usize,
         width: widest_of(pair.target()),
     };
     let verdict = grow(alloc, pair, bounds, budget, of_source, of_target)?;

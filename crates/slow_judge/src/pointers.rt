@@ -5,7 +5,7 @@ ghost use Rattle.ir_tree.specs.Pointers.{IsInteger, AreIntegers, IsIntegerOrVoid
 ghost use Rattle.slow_judge.specs.Search.{HaveNoPointers};
 
 use ir_tree::{Block, Function, Inst, IrType, Parameter, Phi, Terminator, TypedOperand};
-use points::Pair;
+use verdicts::Pair;
 
 fn is_integer(of_type: IrType) -> bool
     ensures { IsTrue result ↔ IsInteger of_type }

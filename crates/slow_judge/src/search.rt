@@ -1,13 +1,13 @@
 ghost use Rattle.std.specs.Prelude.{◌≡◌, MatchOption, IfOk, OnOk, IfSome, List};
 ghost use Rattle.byte_block.specs.declared.block.MemoryBlock.{MemoryBlock};
 ghost use Rattle.points.specs.Code.{IsOfShape};
-ghost use Rattle.points.specs.Pair.{Functions};
+ghost use Rattle.verdicts.specs.Pair.{Functions};
 ghost use Rattle.points.specs.Tapes.{need_of, widest_choice};
-ghost use Rattle.points.specs.Trail.{IsLeastUncovered, AreAllCovered};
-ghost use Rattle.points.specs.Covers.{IsLeastCover, HasNoCover};
+ghost use Rattle.verdicts.specs.Trail.{IsLeastUncovered, AreAllCovered};
+ghost use Rattle.verdicts.specs.Covers.{IsLeastCover, HasNoCover};
 ghost use Rattle.points.specs.declared.point.Bounds.{Bounds as Limits};
-ghost use Rattle.unroll.specs.Small.{AreSmall};
-ghost use Rattle.slow_judge.specs.Search.{AreWithinLimits, HaveNoPointers, IsShapeOf, IsCell, IsReady, IsBench, IsLeastAmong, AreCoveredAmong};
+ghost use Rattle.pair_costs.specs.Small.{AreSmall};
+ghost use Rattle.slow_judge.specs.Search.{AreRunnable, HaveNoPointers, IsShapeOf, IsCell, IsReady, IsBench, IsLeastAmong, AreCoveredAmong};
 
 use crate::bench::Bench;
 use crate::cells::{first, next_cell, zeros};
@@ -15,10 +15,11 @@ use crate::cover::{is_cover, is_uncovered};
 use crate::pointers::have_no_pointers;
 use byte_block::Memory;
 use choice_interp::give_blocks;
-use points::{Bounds, Pair, Point, Shape, next, next_words};
+use points::{Bounds, Point, Shape, next, next_words};
 use std::alloc::Global;
 use support::{NoMemory, Sequence};
 use tv_num::Width;
+use verdicts::Pair;
 
 /// How many words a function needs, and how wide its widest choice is.
 #[derive(Clone, Copy, Debug, PartialEq, Eq)]
@@ -60,7 +61,7 @@ fn least_cell(
     tapes: &[Sequence<u64>],
     bench: &mut Bench,
 ) -> Result<Option<Point>, NoMemory>
-    requires pair { AreWithinLimits pair.now }
+    requires pair { AreRunnable pair.now }
     requires pointers { HaveNoPointers pair.now }
     requires small { AreSmall bounds.now }
     requires words { of_target.words ≡ need_of bounds.now.turns pair.now.target }
@@ -92,7 +93,7 @@ fn least_point(
     tapes: &[Sequence<u64>],
     bench: &mut Bench,
 ) -> Result<Option<Point>, NoMemory>
-    requires pair { AreWithinLimits pair.now }
+    requires pair { AreRunnable pair.now }
     requires small { AreSmall bounds.now }
     requires words { of_target.words ≡ need_of bounds.now.turns pair.now.target }
     requires width { of_target.width.bits ≡ widest_choice pair.now.target }
@@ -125,7 +126,7 @@ pub fn least_uncovered(
     tapes: &[Sequence<u64>],
     bench: &mut Bench,
 ) -> Result<Option<Point>, NoMemory>
-    requires pair { AreWithinLimits pair.now }
+    requires pair { AreRunnable pair.now }
     requires small { AreSmall bounds.now }
     requires words { of_target.words ≡ need_of bounds.now.turns pair.now.target }
     requires width { of_target.width.bits ≡ widest_choice pair.now.target }
@@ -152,7 +153,7 @@ pub fn least_cover(
     point: &Point,
     bench: &mut Bench,
 ) -> Result<Option<Sequence<u64>>, NoMemory>
-    requires pair { AreWithinLimits pair.now }
+    requires pair { AreRunnable pair.now }
     requires words { of_source.words ≡ need_of bounds.now.turns pair.now.source }
     requires width { of_source.width.bits ≡ widest_choice pair.now.source }
     requires ready { IsReady pair.now bounds.now point.now.input.blocks bench.old }

@@ -26,6 +26,7 @@ pub fn interpreted(alloc: Global, f: &Function) -> Result<u64, Fail> {
 }
 
 /// What a function of one instruction returns. Arguments beyond its parameters have no effect.
+#[tactic(auto, using(points::proofs::Runnable::runnable))]
 pub fn returned(alloc: Global, f: &Function, args: &[Value]) -> Result<Given, NoMemory> {
     if !is_within_limits(f) {
         return Ok(Given::Other);

@@ -1,7 +1,7 @@
 //! Functions that the tests hold as text, and their runs.
 
 ghost use Rattle.std.specs.Prelude.{IfOk};
-ghost use Rattle.ir_tree.specs.Limits.{IsWithinLimits};
+ghost use Rattle.points.specs.Runnable.{IsRunnable};
 ghost use Rattle.choice_interp.specs.Runners.{IsRunner};
 
 use byte_block::Value;
@@ -14,8 +14,9 @@ use std::test::Fail;
 use support::NoMemory;
 
 /// The function of a text that has one.
+#[tactic(auto, using(points::proofs::Runnable::runnable))]
 pub fn function_of(alloc: Global, text: &str) -> Result<Function, Fail>
-    ensures { IfOk result IsWithinLimits }
+    ensures { IfOk result IsRunnable }
 {
     let Ok(module) = read(alloc, text.as_bytes()) else {
         return Err(Fail::from("no module"));
@@ -62,7 +63,7 @@ pub fn returns(
     number: u64,
 ) -> Result<bool, NoMemory>
     requires ready { IsRunner f.now input.now.blocks runner.old }
-    requires limits { IsWithinLimits f.now }
+    requires runnable { IsRunnable f.now }
     ensures ready { IsRunner f.now input.now.blocks runner.new }
 {
     let ending = run_again(runner, f, bounds, input, tape)?;

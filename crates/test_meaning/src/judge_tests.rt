@@ -6,10 +6,11 @@ use crate::judge_rows::PAIRS;
 use crate::words::{fields_in, numbers_in, value_in};
 use ir_reader::read;
 use ir_tree::{Module, is_within_limits};
-use points::{Bounds, Budget, Pair, Point, Verdict, has_same_signature};
+use points::{Bounds, Budget, Point};
 use slow_judge::slow;
 use std::alloc::Global;
 use std::test::Fail;
+use verdicts::{Pair, Verdict, has_same_signature};
 
 const BUDGET: Budget = Budget {
     rounds: 15,

@@ -1,6 +1,6 @@
 //! What an instruction and a run mean, by answers that are known.
 //!
-//! These are the tests of the crates from `byte_block` to `unroll`, of `inst_terms` and of
+//! These are the tests of the crates from `byte_block` to `pair_costs`, of `inst_terms` and of
 //! `slow_judge`: loads, stores and offsets by rows that `tools/memory_rows.py` computed; the
 //! instruction table, whose answers `tools/instruction_sums.py` computed, asked of the interpreter
 //! and of the terms; points and their codes, copies, runs with memory and without, and unrolling;

@@ -1,6 +1,6 @@
 //! Runs of functions with pointers and memory.
 
-ghost use Rattle.ir_tree.specs.Limits.{IsWithinLimits};
+ghost use Rattle.points.specs.Runnable.{IsRunnable};
 ghost use Rattle.choice_interp.specs.Runners.{IsRunner};
 
 use crate::expecting::expect;
@@ -193,7 +193,7 @@ fn is_overwritten(left: &Memory, given: &Memory) -> bool {
 /// Whether a run by this runner begins with the given blocks, and leaves another byte.
 fn begins(runner: &mut Runner, f: &Function, input: &Input) -> Result<bool, NoMemory>
     requires ready { IsRunner f.now input.now.blocks runner.old }
-    requires limits { IsWithinLimits f.now }
+    requires runnable { IsRunnable f.now }
     ensures ready { IsRunner f.now input.now.blocks runner.new }
 {
     let is_returned = returns(runner, f, &BOUNDS, input, &[], 1)?;
@@ -202,7 +202,7 @@ fn begins(runner: &mut Runner, f: &Function, input: &Input) -> Result<bool, NoMe
 
 fn begins_again(runner: &mut Runner, f: &Function, input: &Input) -> Result<bool, NoMemory>
     requires ready { IsRunner f.now input.now.blocks runner.old }
-    requires limits { IsWithinLimits f.now }
+    requires runnable { IsRunnable f.now }
 {
     let first = begins(runner, f, input)?;
     let second = begins(runner, f, input)?;
@@ -210,7 +210,7 @@ fn begins_again(runner: &mut Runner, f: &Function, input: &Input) -> Result<bool
 }
 
 fn begins_twice(alloc: Global, f: &Function, input: &Input) -> Result<bool, NoMemory>
-    requires { IsWithinLimits f.now }
+    requires { IsRunnable f.now }
 {
     let mut runner = runner_for(alloc, f, &input.blocks)?;
     begins_again(&mut runner, f, input)

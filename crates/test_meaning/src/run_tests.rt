@@ -1,7 +1,7 @@
 //! Runs of one function, whose one choice is added to its argument, by `interpret` and by a runner
 //! that is reused.
 
-ghost use Rattle.ir_tree.specs.Limits.{IsWithinLimits};
+ghost use Rattle.points.specs.Runnable.{IsRunnable};
 ghost use Rattle.choice_interp.specs.Runners.{IsRunner};
 
 use crate::expecting::expect;
@@ -75,7 +75,7 @@ fn a_run_takes_its_choices_from_the_tape(rt: HostRuntime) -> Result<(), Fail> {
 }
 
 fn runs_twice(alloc: Global, f: &Function, input: &Input) -> Result<bool, NoMemory>
-    requires { IsWithinLimits f.now }
+    requires { IsRunnable f.now }
 {
     let mut runner = runner_for(alloc, f, &input.blocks)?;
     runs_again(&mut runner, f, input)
@@ -83,7 +83,7 @@ fn runs_twice(alloc: Global, f: &Function, input: &Input) -> Result<bool, NoMemo
 
 fn runs_again(runner: &mut Runner, f: &Function, input: &Input) -> Result<bool, NoMemory>
     requires ready { IsRunner f.now input.now.blocks runner.old }
-    requires limits { IsWithinLimits f.now }
+    requires runnable { IsRunnable f.now }
 {
     let first = returns(runner, f, &BOUNDS, input, &[2], 3)?;
     let second = returns(runner, f, &BOUNDS, input, &[5], 6)?;

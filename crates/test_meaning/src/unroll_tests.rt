@@ -4,12 +4,14 @@ use crate::expecting::expect;
 use crate::functions::two_in;
 use ir_reader::read;
 use ir_tree::{Block, Case, Function, Module, Name, Names, Operand, Terminator, is_within_limits};
-use points::{Bounds, Pair, has_same_signature};
+use pair_costs::{need, weight, widest_of};
+use points::Bounds;
 use std::alloc::Global;
 use std::test::Fail;
 use support::{NoMemory, Sequence};
 use tv_num::Width;
-use unroll::{BlockCopy, Edge, layers, need, weight, widest_of};
+use unroll::{BlockCopy, Edge, layers};
+use verdicts::{Pair, has_same_signature};
 
 /// A block of no instructions.
 fn block(alloc: Global, label: usize, terminator: Terminator) -> Block {
@@ -167,6 +169,7 @@ const BOUNDS: Bounds = Bounds {
 type Measures = (u64, [u64; 2], [u32; 2]);
 
 /// What the pair of a module measures.
+#[tactic(auto, using(points::proofs::Runnable::runnable))]
 fn measured(module: &Module) -> Option<Measures> {
     let (source, target) = two_in(module)?;
     if !is_within_limits(source) || !is_within_limits(target) {
@@ -176,8 +179,8 @@ fn measured(module: &Module) -> Option<Measures> {
         return None;
     }
     Some((
-        weight(&Pair::new(source, target), &BOUNDS),
-        [need(source, 4), need(target, 4)],
+        weight(&Pair::new(source, target), &BOUNDS).ok()?,
+        [need(source, 4).ok()?, need(target, 4).ok()?],
         [widest_of(source).bits(), widest_of(target).bits()],
     ))
 }

@@ -1,15 +1,16 @@
 ghost use Rattle.std.specs.Prelude.{IfOk};
 ghost use Rattle.ir_reader.specs.Judgeable.{IsJudgeable};
 ghost use Rattle.points.specs.Range.{AreInRange};
-ghost use Rattle.points.specs.Trail.{IsVerdict};
+ghost use Rattle.verdicts.specs.Trail.{IsVerdict};
 ghost use Rattle.pair_judge.specs.Answers.{IsAnswer};
 
 use pair_driver::{Judge, Judged};
 use pair_judge::Real;
-use points::{Bounds, Budget, Pair, Verdict};
+use points::{Bounds, Budget};
 use slow_judge::slow;
 use std::alloc::Global;
 use support::NoMemory;
+use verdicts::{Pair, Verdict};
 
 /// The answers of two judges on one pair.
 #[derive(Drop)]

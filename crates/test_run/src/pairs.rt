@@ -5,7 +5,7 @@ ghost use Rattle.std.specs.List.{AllByRecursion};
 ghost use Rattle.ir_reader.specs.Judgeable.{IsJudgeable, IsJudgeableEntry};
 
 use ir_tree::Module;
-use points::{Pair, has_same_signature};
+use verdicts::{Pair, has_same_signature};
 
 /// The pair of a module's two functions, if both are read and have equal types.
 pub fn pair_in(module: &Module) -> Option<Pair<'_>>

@@ -8,11 +8,12 @@ use byte_block::Value;
 use byte_block::Value::{Num, Poison};
 use instantiate::{Settled, settle};
 use ir_reader::read;
-use points::{Bounds, Budget, Input, Outcome, Pair, Point, Verdict};
+use points::{Bounds, Budget, Input, Outcome, Point};
 use replay::replay;
 use std::alloc::Global;
 use std::test::Fail;
 use support::{NoMemory, Sequence};
+use verdicts::{Pair, Verdict};
 
 const BOUNDS: Bounds = Bounds {
     turns: 4,

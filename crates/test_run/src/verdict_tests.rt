@@ -11,10 +11,11 @@ use crate::pairs::pair_in;
 use crate::{Both, both_verdicts};
 use byte_block::{BlockName, Ptr, Value};
 use ir_reader::read;
-use points::{Bounds, Budget, Cause, Point, Verdict};
+use points::{Bounds, Budget, Point};
 use std::alloc::Global;
 use std::test::Fail;
 use support::NoMemory;
+use verdicts::{Cause, Verdict};
 
 const ROWS: &str = "\
 a sum with itself is a shift

@@ -10,10 +10,10 @@ use Rattle.ir_tree.specs.declared.module.Entry.{Entry}
 use Rattle.ir_tree.specs.declared.module.Module.{Module}
 use Rattle.points.specs.declared.point.Bounds.{Bounds}
 use Rattle.points.specs.declared.point.Budget.{Budget}
-use Rattle.points.specs.declared.verdict.Kept.{Kept}
-use Rattle.points.specs.declared.verdict.Verdict.{Verdict}
-use Rattle.points.specs.declared.verdict.Verdict.TheVariants as verdict
-use Rattle.points.specs.Pair.{Functions}
+use Rattle.verdicts.specs.declared.verdict.Kept.{Kept}
+use Rattle.verdicts.specs.declared.verdict.Verdict.{Verdict}
+use Rattle.verdicts.specs.declared.verdict.Verdict.TheVariants as verdict
+use Rattle.verdicts.specs.Pair.{Functions}
 use Rattle.pair_questions.specs.Questions.{IsRefuted}
 use Rattle.instantiate.specs.Settling.{IsJudged, Shown}
 use Rattle.pair_driver.specs.declared.judged.Judged.{Judged}
@@ -121,7 +121,7 @@ undecided_next n found rows answers is left none all reported goes =
     All-append IsCertified (row_parts (record { name = n; finding = found }) answers) (parts_of rows (left_after found answers)) (no_part n found answers is)
     (rw left (goes answers all (let e : [] ++ verdicts_of rows ≡ verdicts_answered answers = subst (λ (vs : List Verdict). vs ++ verdicts_of rows ≡ verdicts_answered answers) none reported in e)))
 
-unknown_next : (n : Name) (cause : Rattle.points.specs.declared.verdict.Cause.Cause) (rows : List Row) (answers : List Judged)
+unknown_next : (n : Name) (cause : Rattle.verdicts.specs.declared.verdict.Cause.Cause) (rows : List Row) (answers : List Judged)
     → AllByRecursion Certified answers → verdict.Unknown cause ∷ verdicts_of rows ≡ verdicts_answered answers → Goes rows
     → All IsCertified (row_parts (record { name = n; finding = finding.Unknown cause }) answers ++ parts_of rows (left_after (finding.Unknown cause) answers))
 unknown_next n cause rows [] all reported goes = absurd (cc reported)

@@ -7,9 +7,9 @@ use Rattle.ir_tree.specs.declared.module.Module.{Module}
 use Rattle.ir_reader.specs.Laws.{OneModule}
 use Rattle.points.specs.declared.point.Bounds.{Bounds}
 use Rattle.points.specs.declared.point.Budget.{Budget}
-use Rattle.points.specs.declared.verdict.Verdict.{Verdict}
-use Rattle.points.specs.Pair.{Functions, same_signature}
-use Rattle.points.specs.Trail.{IsVerdict}
+use Rattle.verdicts.specs.declared.verdict.Verdict.{Verdict}
+use Rattle.verdicts.specs.Pair.{Functions, same_signature}
+use Rattle.verdicts.specs.Trail.{IsVerdict}
 use Rattle.report.specs.declared.row.Finding.{Finding}
 use Rattle.report.specs.declared.row.Finding.TheVariants as finding
 use Rattle.report.specs.declared.row.Row.{Row}

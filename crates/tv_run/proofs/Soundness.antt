@@ -17,11 +17,11 @@ use Rattle.ir_reader.proofs.Different.{different}
 use Rattle.points.specs.declared.point.Bounds.{Bounds}
 use Rattle.points.specs.declared.point.Budget.{Budget}
 use Rattle.points.specs.declared.point.Point.{Point}
-use Rattle.points.specs.declared.verdict.Shown.{Shown}
-use Rattle.points.specs.declared.verdict.Verdict.{Verdict}
-use Rattle.points.specs.declared.verdict.Verdict.TheVariants as verdict
-use Rattle.points.specs.Pair.{Functions, same_signature}
-use Rattle.points.specs.Laws.{Holds, IsCounterexample, CorrectHolds, IncorrectFails}
+use Rattle.verdicts.specs.declared.verdict.Shown.{Shown}
+use Rattle.verdicts.specs.declared.verdict.Verdict.{Verdict}
+use Rattle.verdicts.specs.declared.verdict.Verdict.TheVariants as verdict
+use Rattle.verdicts.specs.Pair.{Functions, same_signature}
+use Rattle.verdicts.specs.Laws.{Holds, IsCounterexample, CorrectHolds, IncorrectFails}
 use Rattle.report.specs.declared.row.Finding.{Finding}
 use Rattle.report.specs.declared.row.Finding.TheVariants as finding
 use Rattle.report.specs.declared.row.Row.{Row}

@@ -9,9 +9,9 @@ use Rattle.ir_tree.specs.declared.module.Entry.{Entry}
 use Rattle.ir_tree.specs.declared.module.Module.{Module}
 use Rattle.points.specs.declared.point.Bounds.{Bounds}
 use Rattle.points.specs.declared.point.Point.{Point}
-use Rattle.points.specs.declared.verdict.Shown.{Shown}
-use Rattle.points.specs.Pair.{Functions, same_signature}
-use Rattle.points.specs.Laws.{Holds, IsCounterexample}
+use Rattle.verdicts.specs.declared.verdict.Shown.{Shown}
+use Rattle.verdicts.specs.Pair.{Functions, same_signature}
+use Rattle.verdicts.specs.Laws.{Holds, IsCounterexample}
 use Rattle.report.specs.declared.row.Finding.{Finding}
 use Rattle.report.specs.declared.row.Finding.TheVariants as finding
 use Rattle.report.specs.declared.row.Row.{Row}

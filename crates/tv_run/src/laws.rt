@@ -1,9 +1,9 @@
 ghost use Rattle.tv_run.specs.Laws.{ReportsAreSound, ReportsAreDefined, ReportsAreOne, FaultsAreOne, ModulesHaveNoFault, PutProofsAreVerified};
 
 use ir_reader::is_one_module;
-use points::{correct_holds, incorrect_fails};
 use proof_files::texts_are_verified;
 use report::rows_are_one;
+use verdicts::{correct_holds, incorrect_fails};
 
 /// What a report says of two files holds: a correct row means refinement on every input within the
 /// bounds, an incorrect row has a counterexample, and each pair of functions has its row.

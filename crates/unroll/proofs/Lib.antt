@@ -1,5 +1,4 @@
 pub mod Copies
 pub mod Forward
 pub mod Leaving
-pub mod Sizes
 pub mod Walking

@@ -1,2 +1,1 @@
 pub mod Layers
-pub mod Small

@@ -1,7 +1,7 @@
 -- A pair that is too heavy is not asked about.
 use Rattle.std.proofs.Common.{arith}
 use Rattle.std.proofs.lemmas.Result.{IfOk-weaker}
-use Rattle.points.specs.Weight.{IsHeavy}
+use Rattle.verdicts.specs.Weight.{IsHeavy}
 use Rattle.instantiate.proofs.Growing.{judged}
 use Rattle.instantiate.proofs.settling.settle.Goals as goal
 

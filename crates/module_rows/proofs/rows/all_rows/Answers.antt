@@ -1,7 +1,7 @@
 use Rattle.std.proofs.Common.{◌≡◌, ◌+◌, ◌*◌, ◌^◌, ◌<◌, List, length, sym, ap, subst, ◌∙◌}
 use Rattle.std.specs.List.{AllByRecursion, AllZip}
 use Rattle.ir_tree.specs.declared.module.Entry.{Entry}
-use Rattle.points.specs.Pair.{Functions}
+use Rattle.verdicts.specs.Pair.{Functions}
 use Rattle.pair_driver.specs.declared.judged.Judged.{Judged}
 use Rattle.pair_judge.specs.Answers.{CanBeJudged, IsAnswer}
 use Rattle.module_rows.specs.Judging.{AreAnswers, judged_pairs, verdicts_answered}

@@ -1,6 +1,6 @@
 -- The tapes so far are those of the shifts so far.
 use Rattle.std.proofs.Common.{ℕ, map, take}
-use Rattle.points.specs.Covers.{words_of}
+use Rattle.verdicts.specs.Covers.{words_of}
 use Rattle.bv_terms.specs.Trees.{Keeps}
 use Rattle.mem_terms.specs.Inputs.{words_at}
 use Rattle.pair_questions.specs.declared.tapes.Shift.{Shift}

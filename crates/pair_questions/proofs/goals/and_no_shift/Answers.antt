@@ -1,4 +1,4 @@
-use Rattle.points.specs.Covers.{shifted}
+use Rattle.verdicts.specs.Covers.{shifted}
 use Rattle.mem_terms.specs.Inputs.{words_at}
 use Rattle.pair_questions.proofs.SameTapes.{narrowed_same}
 use Rattle.pair_questions.proofs.Trying.{trial_later}

@@ -1,6 +1,6 @@
 -- The words so far are those of the moved tape.
 use Rattle.std.proofs.Common.{ℕ, ◌≡◌, ◌≤◌}
-use Rattle.points.specs.Covers.{words_of}
+use Rattle.verdicts.specs.Covers.{words_of}
 use Rattle.mem_terms.specs.Inputs.{AreWords, words_at}
 use Rattle.pair_questions.specs.Tapes.{shift_of}
 use Rattle.pair_questions.proofs.tapes.moved.Given as goal

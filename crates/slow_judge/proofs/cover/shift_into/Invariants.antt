@@ -1,5 +1,5 @@
 use Rattle.std.proofs.Common.{◌≡◌, take, length}
-use Rattle.points.specs.Covers.{words_of}
+use Rattle.verdicts.specs.Covers.{words_of}
 use Rattle.slow_judge.specs.Search.{shift_of}
 use Rattle.slow_judge.proofs.cover.shift_into.Given as goal
 

@@ -1,5 +1,5 @@
 use Rattle.std.proofs.Common.{◌-◌}
-use Rattle.points.specs.Trail.{place_in}
+use Rattle.verdicts.specs.Trail.{place_in}
 use Rattle.slow_judge.specs.Search.{IsCell, IsReady}
 use Rattle.slow_judge.proofs.Order.{places_in}
 use Rattle.slow_judge.proofs.Searching.{IsReached}

@@ -1,6 +1,6 @@
 use Rattle.std.proofs.Common.{◌-◌}
 use Rattle.points.specs.Code.{IsOfShape}
-use Rattle.points.specs.Trail.{place_in}
+use Rattle.verdicts.specs.Trail.{place_in}
 use Rattle.slow_judge.specs.Search.{IsBench}
 use Rattle.slow_judge.proofs.Order.{places_in}
 use Rattle.slow_judge.proofs.Searching.{IsReached}

@@ -1,0 +1,24 @@
+use Rattle.std.proofs.Common.{◌≡◌, ◌<◌, length, get_or, arith}
+use Rattle.verdicts.specs.Weight.{made_in}
+use Rattle.pair_costs.proofs.Sizes.{sum_room, sum_done, small_made}
+use Rattle.pair_costs.proofs.memory.made_by.Goals as goal
+
+pub overflow_add-total : goal.overflow_add-total
+overflow_add-total c =
+    let blocks = c.args.f.now.blocks in
+    let below : c.loop-block.block-index < length blocks = rw (← c.loop-block.invariant.blocks) c.loop-block-test.true in
+    let is : c.block-item.result ≡ get_or blocks c.loop-block.block-index c.block-item.result = rw (← c.loop-block.invariant.blocks) c.block-item.is in
+    let room = sum_room made_in blocks c.loop-block.block-index c.block-item.result c.loop-block.total below is c.loop-block.invariant.total in
+    let most = small_made c.args.f.now c.requires in
+    omega (arith, room, most, c.made_by_block-total.ensures)
+
+pub returns-clause-value : goal.returns-clause-value
+returns-clause-value c =
+    let blocks = c.args.f.now.blocks in
+    let end : c.loop-block.block-index ≡ length blocks = rw (← c.loop-block.invariant.blocks) (omega arith) in
+    sum_done made_in blocks c.loop-block.block-index c.loop-block.total end c.loop-block.invariant.total
+
+pub returns-clause-most : goal.returns-clause-most
+returns-clause-most c =
+    let most = small_made c.args.f.now c.requires in
+    omega (arith, most, c.loop-block.invariant.total)

@@ -1,6 +1,0 @@
-use Rattle.std.proofs.Common.{◌≡◌, ◌+◌, sum_by, drop}
-use Rattle.points.specs.Weight.{phi_cost}
-use Rattle.unroll.proofs.size.cost_of_phis.Given as goal
-
-abbrev pub invariant-loop-phi : goal.invariant-loop-phi
-invariant-loop-phi l = l.total + sum_by phi_cost (drop l.phi-index l.phis) ≡ sum_by phi_cost l.phis

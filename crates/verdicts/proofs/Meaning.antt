@@ -1,0 +1,123 @@
+-- Correct gives that the refinement holds; incorrect gives a point that no tape covers.
+use Rattle.std.proofs.Common.{◌≡◌, ℕ, inl, inr, List, [], ◌∷◌, ◌++◌, length, true, false, Option, Some, None, slice_get, sym, ap, ◌∙◌, arith, append_assoc, append-nil}
+use Rattle.std.specs.Prelude.{slice_index}
+use Rattle.std.proofs.lemmas.Bool.{or_cases, cases_order}
+use Rattle.points.specs.declared.point.Bounds.{Bounds}
+use Rattle.points.specs.declared.point.Budget.{Budget}
+use Rattle.points.specs.declared.point.Input.{Input}
+use Rattle.points.specs.declared.point.Point.{Point}
+use Rattle.verdicts.specs.declared.verdict.Verdict.TheVariants.{Correct, Incorrect}
+use Rattle.verdicts.specs.Pair.{Functions}
+use Rattle.points.specs.Refines.{is_refined}
+use Rattle.points.specs.Code.{WordsFit, number_of}
+use Rattle.points.specs.Run.{Run, run_of}
+use Rattle.points.specs.Tapes.{need_of, widest_choice, plain_form, HasPlainForm}
+use Rattle.verdicts.specs.Covers.{covers, some_covers, is_covered, shifted, HasNoCover}
+use Rattle.verdicts.specs.Trail.{IsPoint, IsLeastUncovered, AreAllCovered, TrailFrom, Ends}
+use Rattle.verdicts.specs.Laws.{IsAllowed, IsWithin, CorrectHolds, IncorrectFails, LeastCoversArePlain}
+use Rattle.points.proofs.Order.{number_of-same}
+use Rattle.points.proofs.Words.{WordsFit-digits, WordsFit-length}
+use Rattle.points.proofs.Plain.{tapes_have_plain_forms}
+use Rattle.points.proofs.Widest.{widest_small, widen}
+
+-- ---- covers and plain forms
+
+covers_by_run : (pair : Functions) (bounds : Bounds) (p : Point) (tape other : List ℕ) → run_of pair.source bounds p.input other ≡ run_of pair.source bounds p.input tape → covers pair bounds p other ≡ covers pair bounds p tape
+unfolding covers
+covers_by_run pair bounds p tape other e = ap (λ (run : Run). is_refined run.outcome (run_of pair.target bounds p.input p.tape).outcome) e
+
+-- the plain form covers where the tape does
+pub plain_covers : (pair : Functions) (bounds : Bounds) (p : Point) (tape : List ℕ) → covers pair bounds p (plain_form (need_of bounds.turns pair.source) (run_of pair.source bounds p.input tape).taken) ≡ covers pair bounds p tape
+plain_covers pair bounds p tape = covers_by_run pair bounds p tape (plain_form (need_of bounds.turns pair.source) (run_of pair.source bounds p.input tape).taken) (tapes_have_plain_forms pair.source bounds p.input tape).same
+
+-- where some tape of a list covers, there is one
+covering_tape : (pair : Functions) (bounds : Bounds) (p : Point) (tapes : List (List ℕ)) → some_covers pair bounds p tapes ≡ true → IsAllowed pair bounds p.input p.tape
+unfolding some_covers covers
+covering_tape pair bounds p [] h = absurd (cc)
+covering_tape pair bounds p (tape ∷ tapes) h =
+    elim (or_cases (is_refined (run_of pair.source bounds p.input tape).outcome (run_of pair.target bounds p.input p.tape).outcome) (some_covers pair bounds p tapes) h) as (λ _. IsAllowed pair bounds p.input p.tape) [
+      | inl here ↦ record { source_tape = tape; refined = here }
+      | inr later ↦ covering_tape pair bounds p tapes later
+    ]
+
+pub covered_is_allowed : (pair : Functions) (bounds : Bounds) (tapes : List (List ℕ)) (p : Point) → is_covered pair bounds tapes p ≡ true → IsAllowed pair bounds p.input p.tape
+covered_is_allowed pair bounds tapes p h = covering_tape pair bounds p (shifted (need_of bounds.turns pair.source) p.tape ++ tapes) h
+
+-- the plain form of the target's tape is a point
+plain_point : (pair : Functions) (bounds : Bounds) (input : Input) (tape : List ℕ) → IsWithin pair bounds input → HasPlainForm pair.target bounds input tape → IsPoint pair bounds (record { input = input; tape = plain_form (need_of bounds.turns pair.target) (run_of pair.target bounds input tape).taken })
+plain_point pair bounds input tape fits form = record {
+  args = fits.args;
+  given = fits.given;
+  tape = form.fits;
+  plain = rw form.same form.plain;
+}
+
+allowed_same : (pair : Functions) (bounds : Bounds) (input : Input) (tape other : List ℕ) → run_of pair.target bounds input other ≡ run_of pair.target bounds input tape → IsAllowed pair bounds input other → IsAllowed pair bounds input tape
+allowed_same pair bounds input tape other e a = record { source_tape = a.source_tape; refined = (let r = a.refined in rw e at r) }
+
+-- ---- the least cover
+
+pub least_covers_are_plain : LeastCoversArePlain
+least_covers_are_plain = λ pair bounds p tape least.
+    let need = need_of bounds.turns pair.source in
+    let run = run_of pair.source bounds p.input tape in
+    let form = tapes_have_plain_forms pair.source bounds p.input tape in
+    let plain = plain_form need run.taken in
+    let fits : WordsFit 64 need plain = widen (widest_choice pair.source) need plain (widest_small pair.source) form.fits in
+    let at_most = form.no_greater (WordsFit-length 64 need tape least.fits) in
+    let is : plain ≡ tape =
+    elim (cases_order (number_of plain) (number_of tape)) as (λ _. plain ≡ tape) [
+      | inl same ↦ number_of-same need plain tape (WordsFit-digits 64 need plain (omega arith) fits) (WordsFit-digits 64 need tape (omega arith) least.fits) same
+      | inr apart ↦ elim apart as (λ _. plain ≡ tape) [
+        | inl below ↦ absurd (let fails = least.least plain fits below in let holds = plain_covers pair bounds p tape ∙ least.cover in let f : true ≡ false = sym holds ∙ fails in cc)
+        | inr above ↦ absurd (omega (arith, above, at_most))
+      ]
+    ] in
+    λ k. ap (λ (t : List ℕ). slice_index t k) (sym is) ∙ form.plain k
+
+-- ---- what a trail ends in
+
+pub ends_correct : (pair : Functions) (bounds : Bounds) (budget : Budget) (tapes : List (List ℕ)) (o : Option Point) → Ends pair bounds budget tapes o Correct → AreAllCovered pair bounds tapes
+ends_correct pair bounds budget tapes None h = h
+ends_correct pair bounds budget tapes (Some p) h = absurd h
+
+pub record IsOpen (pair : Functions) (bounds : Bounds) (o : Option Point) (q : Point) : Type 0 where
+  pub is : o ≡ Some q
+  pub none : HasNoCover pair bounds q
+
+pub ends_incorrect : (pair : Functions) (bounds : Bounds) (budget : Budget) (tapes : List (List ℕ)) (o : Option Point) (q : Point) → Ends pair bounds budget tapes o (Incorrect q) → IsOpen pair bounds o q
+ends_incorrect pair bounds budget tapes None q h = absurd h
+ends_incorrect pair bounds budget tapes (Some p) q h = record { is = ap Some (sym h.0); none = rw h.0 h.1 }
+
+pub cons_after : (before : List (List ℕ)) (t : List ℕ) (ts : List (List ℕ)) → before ++ t ∷ ts ≡ (before ++ t ∷ []) ++ ts
+cons_after before t ts = sym (append_assoc before (t ∷ []) ts)
+
+-- the open point is the least that the tapes leave
+pub open_is_least : (pair : Functions) (bounds : Bounds) (before tapes : List (List ℕ)) (points : List Point) (p : Point) → TrailFrom pair bounds before tapes points → slice_get points (length tapes) ≡ Some p → IsLeastUncovered pair bounds (before ++ tapes) p
+open_is_least pair bounds before [] [] p trail e = absurd (cc)
+open_is_least pair bounds before [] (q ∷ []) p trail e = let same : q ≡ p = cc in rw append-nil (rw (← same) trail)
+open_is_least pair bounds before [] (q ∷ (r ∷ rs)) p trail e = absurd trail
+open_is_least pair bounds before (t ∷ ts) (q ∷ qs) p trail e = rw (cons_after before t ts) (open_is_least pair bounds (before ++ t ∷ []) ts qs p trail.2 e)
+open_is_least pair bounds before (t ∷ ts) [] p trail e = absurd trail
+
+-- ---- the two laws
+
+pub correct_holds : CorrectHolds
+correct_holds = λ pair bounds budget verdict. λ input tape within.
+    let all = ends_correct pair bounds budget verdict.kept.tapes (slice_get verdict.kept.points (length verdict.kept.tapes)) verdict.judges.ends in
+    let form = tapes_have_plain_forms pair.target bounds input tape in
+    let plain = plain_form (need_of bounds.turns pair.target) (run_of pair.target bounds input tape).taken in
+    let p : Point = record { input = input; tape = plain } in
+    allowed_same pair bounds input tape plain form.same (covered_is_allowed pair bounds verdict.kept.tapes p (all p (plain_point pair bounds input tape within form)))
+
+pub incorrect_fails : IncorrectFails
+incorrect_fails = λ pair bounds budget p verdict.
+    let opened = ends_incorrect pair bounds budget verdict.kept.tapes (slice_get verdict.kept.points (length verdict.kept.tapes)) p verdict.judges.ends in
+    let last : IsLeastUncovered pair bounds verdict.kept.tapes p = open_is_least pair bounds [] verdict.kept.tapes verdict.kept.points p verdict.judges.trail opened.is in
+    record {
+      point = last.point;
+      none = λ tape.
+          let form = tapes_have_plain_forms pair.source bounds p.input tape in
+          sym (plain_covers pair bounds p tape) ∙ opened.none _ (widen (widest_choice pair.source) (need_of bounds.turns pair.source) _ (widest_small pair.source) form.fits);
+      least = λ q point less. covered_is_allowed pair bounds verdict.kept.tapes q (last.least q point less);
+    }

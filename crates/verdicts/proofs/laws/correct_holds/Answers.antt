@@ -1,0 +1,5 @@
+use Rattle.verdicts.proofs.Meaning.{correct_holds}
+use Rattle.verdicts.proofs.laws.correct_holds.Goals as goal
+
+pub returns : goal.returns
+returns c = correct_holds

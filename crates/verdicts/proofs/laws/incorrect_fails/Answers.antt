@@ -1,0 +1,5 @@
+use Rattle.verdicts.proofs.Meaning.{incorrect_fails}
+use Rattle.verdicts.proofs.laws.incorrect_fails.Goals as goal
+
+pub returns : goal.returns
+returns c = incorrect_fails
