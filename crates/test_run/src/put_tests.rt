@@ -16,12 +16,12 @@ use std::rt::Files;
 use std::test::*;
 use tv_io::{FileShelf, PutFault, Shelf};
 
-/// The name that is put, with what is tried beside it, in this order.
+/// The name that is put.
 const OLD: &str = "old";
 
-const BESIDE: &str =
-    "old.tv-new old.tv-new1 old.tv-new2 old.tv-new3 old.tv-new4 old.tv-new5 old.tv-new6 \
-old.tv-new7 old.tv-new8 old.tv-new9";
+/// What is tried beside it, in this order.
+const BESIDE: &str = "old.tv-new old.tv-new1 old.tv-new2 old.tv-new3 old.tv-new4 \
+old.tv-new5 old.tv-new6 old.tv-new7 old.tv-new8 old.tv-new9";
 
 /// The permissions of a `Metadata::of_file`, with its type.
 const OLD_MODE: u32 = 0o100_644;
@@ -223,8 +223,8 @@ impl Read for Nothing {
     }
 }
 
-/// What has the name, how many names beside are taken, the call that fails, the calls that are made,
-/// and what the put answers. Eight bytes take two writes.
+/// What has the name, how many names beside are taken, the call that fails, the calls that are
+/// made, and what the put answers. Eight bytes take two writes.
 const PUTS: &str = "\
 nothing 0 0 12253 done
 nothing 0 1 17225 done

@@ -16,7 +16,7 @@ const BUFFER: usize = 4096;
 /// How many names are tried for the file that is written beside another.
 const BESIDE_NAMES: usize = 10;
 
-/// What is added to a name for the file that is written beside it, in the order in which they are tried.
+/// What is added to a name for the file that is written beside it, in the order of the tries.
 const BESIDE: [&str; BESIDE_NAMES] = [
     ".tv-new", ".tv-new1", ".tv-new2", ".tv-new3", ".tv-new4", ".tv-new5", ".tv-new6", ".tv-new7",
     ".tv-new8", ".tv-new9",
@@ -110,8 +110,8 @@ fn replace<R: Files>(rt: &R, alloc: Global, name: &str, bytes: &[u8]) -> Result<
     Ok(())
 }
 
-/// A new file beside the one of that name, and its name; nothing where all names for it are taken or
-/// the system makes none. It is open to no more than the permissions of the old file, if there is one.
+/// A new file beside the one of that name, and its name; nothing where all names for it are taken
+/// or the system makes none. It is open to no more than the permissions of the old file, if any.
 fn create_beside<R: Files>(
     rt: &R,
     alloc: Global,
@@ -160,7 +160,7 @@ fn is_permitted<F: OpenFile>(file: &F, old: Option<Permissions>) -> bool
     }
 }
 
-/// Writes the bytes over the file of that name, or where it leads to, which is made if it isn't there.
+/// Writes the bytes over the file of that name, or that it leads to; it is made if it isn't there.
 fn write_in_place<R: Files>(rt: &R, name: &str, bytes: &[u8]) -> Result<(), PutFault>
     ensures { IfErr result (λ fault. fault ≡ PutFault.Failed) }
 {
@@ -173,8 +173,8 @@ fn write_in_place<R: Files>(rt: &R, name: &str, bytes: &[u8]) -> Result<(), PutF
     Ok(())
 }
 
-/// Writes the bytes to the file: whether the system took them, and keeps no error of them for later.
-/// It keeps none of what it can't sync, as a pipe.
+/// Writes the bytes to the file: whether the system took them and keeps no error for later. It keeps
+/// none for what it can't sync, as a pipe.
 fn is_written<F: Write + OpenFile>(file: &mut F, bytes: &[u8]) -> bool {
     if file.write_all(bytes).is_err() {
         return false;
