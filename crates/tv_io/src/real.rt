@@ -39,8 +39,9 @@ const BESIDE: [&str; BESIDE_NAMES] = [
 /// prefix of the bytes.
 ///
 /// A put waits until the system has stored the bytes, so that an error that it would report later is
-/// one of the put. Of two programs that put a name at the same time, the name holds what the later
-/// one wrote, unless both write in place. Nothing is said of a system that stops.
+/// one of the put. Where two programs put a name at the same time, it holds all that one of them
+/// wrote, unless both write in place. Nothing is said of a system that stops, nor of another program
+/// that moves or links these names meanwhile.
 #[derive(Drop)]
 pub struct FileShelf<'a, R: Files> {
     rt: &'a R,
