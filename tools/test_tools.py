@@ -13,9 +13,11 @@ import concurrent.futures
 import csv
 import html.parser
 import os
+import pwd
 import re
 import shutil
 import signal
+import stat
 import subprocess
 import sys
 import tempfile
@@ -492,12 +494,189 @@ def proof_of_tv(bench):
     has(done.stdout, "@count correct", "refuted yes", "parts 1 passed 1 failed 0\n")
 
 
+# Where tv writes its proof file, on real files.
+
+SOURCE = "define i8 @f(i8 %x) {\n  %r = add i8 %x, %x\n  ret i8 %r\n}\n"
+TARGET = "define i8 @f(i8 %x) {\n  %r = shl i8 %x, 1\n  ret i8 %r\n}\n"
+BESIDE = ["out.tv-new"] + [f"out.tv-new{number}" for number in range(1, 10)]
+LONGEST_NAME = 255
+
+# Runs what follows with no byte written to any file: each write to one fails.
+NO_WRITE = ["sh", "-c", "trap '' XFSZ; ulimit -f 0; exec \"$@\"", "sh"]
+
+
+def proved(bench, name, source="A", before=(), **how):
+    """Status and output of a run of tv that writes its proof file to this name."""
+    command = [*before, bench.variables["TV"], "check", source, "B", "--proof", name]
+    done = subprocess.run(command, cwd=bench.folder, stdin=subprocess.DEVNULL,
+                          capture_output=True, text=True, timeout=60, **how)
+    return done.returncode, done.stdout
+
+
+def proof_text(bench):
+    """The proof file's text, after the pair that it is of was written."""
+    bench.write("A", SOURCE)
+    bench.write("B", TARGET)
+    status, report = proved(bench, "fresh")
+    equal(status, 0, f"status of {report}")
+    text = bench.file("fresh")
+    has(text, "tvproof 1\n")
+    os.remove(os.path.join(bench.folder, "fresh"))
+    return text
+
+
+def is_put(bench, name, text, **how):
+    """Holds that the proof file is written to the name, and that no other name comes or goes."""
+    before = set(os.listdir(bench.folder))
+    status, report = proved(bench, name, **how)
+    equal((status, bench.file(name)), (0, text), f"status and file after {report}")
+    equal(set(os.listdir(bench.folder)), before | {name}, "names in the folder")
+
+
+def is_not_put(bench, name, **how):
+    """Holds that the proof file can't be written to the name, and that no name comes or goes."""
+    before = set(os.listdir(bench.folder))
+    found = proved(bench, name, **how)
+    equal(found, (7, f"cannot write {name}\n"), "status and output")
+    equal(set(os.listdir(bench.folder)), before, "names in the folder")
+
+
+def put_beside_a_file(bench):
+    text = proof_text(bench)
+    path = os.path.join(bench.folder, "out")
+    bench.write("out.tv-new", SOURCE)
+    is_put(bench, "out", text)
+    is_put(bench, "out", text, source="out.tv-new")
+    bench.write("out", "old")
+    is_not_put(bench, "out", before=NO_WRITE)
+    equal(bench.file("out"), "old", "the old file")
+    os.remove(path)
+    is_not_put(bench, "out", before=NO_WRITE)
+    os.mkdir(path)
+    is_not_put(bench, "out")
+    equal(os.listdir(path), [], "names in the folder at the name")
+    equal(bench.file("out.tv-new"), SOURCE, "the file beside, which is the user's")
+
+
+def put_beside_no_file(bench):
+    text = proof_text(bench)
+    link, dangling, pipe, folder = (os.path.join(bench.folder, name) for name in BESIDE[:4])
+    bench.write("other", "other")
+    os.symlink("other", link)
+    os.symlink("nothing", dangling)
+    os.mkfifo(pipe)
+    os.mkdir(folder)
+    is_put(bench, "out", text)
+    equal((os.readlink(link), bench.file("other")), ("other", "other"), "the link and its file")
+    equal(os.readlink(dangling), "nothing", "the dangling link")
+    equal(os.listdir(folder), [], "names in the folder beside")
+
+
+def put_with_all_names_taken(bench):
+    text = proof_text(bench)
+    for name in BESIDE:
+        bench.write(name, name)
+    is_put(bench, "out", text)
+    bench.write("out", "old" + text)
+    is_put(bench, "out", text)
+    equal([bench.file(name) for name in BESIDE], BESIDE, "the files beside")
+
+
+def put_to_a_pipe(bench):
+    text = proof_text(bench)
+    path = os.path.join(bench.folder, "out")
+    os.mkfifo(path)
+    with subprocess.Popen(["cat", path], stdout=subprocess.PIPE, text=True) as reader:
+        status, _ = proved(bench, "out")
+        equal((status, reader.communicate(timeout=60)[0]), (0, text), "status and what is read")
+    equal(stat.S_ISFIFO(os.lstat(path).st_mode), True, "a pipe is left")
+    equal(sorted(os.listdir(bench.folder)), ["A", "B", "out"], "names in the folder")
+
+
+def put_to_a_device(bench):
+    proof_text(bench)
+    for name, status in ((os.devnull, 0), ("/dev/full", 7)):
+        before = set(os.listdir("/dev"))
+        equal(proved(bench, name)[0], status, f"status at {name}")
+        equal(stat.S_ISCHR(os.lstat(name).st_mode), True, f"{name} is a device")
+        equal([n for n in set(os.listdir("/dev")) - before if ".tv-new" in n], [], "new names")
+
+
+def put_through_a_link(bench):
+    text = proof_text(bench)
+    os.mkdir(os.path.join(bench.folder, "sub"))
+    bench.write("sub/file", "old" + text)
+    for name, leads in (("out", "sub/file"), ("dangling", "sub/new")):
+        os.symlink(leads, os.path.join(bench.folder, name))
+        is_put(bench, name, text)
+        equal(os.readlink(os.path.join(bench.folder, name)), leads, "where the link leads")
+    equal(sorted(os.listdir(os.path.join(bench.folder, "sub"))), ["file", "new"], "names there")
+
+
+def put_keeps_permissions(bench):
+    text = proof_text(bench)
+    path = os.path.join(bench.folder, "out")
+    for mode in (0o640, 0o600, 0o400, 0o444, 0o666):
+        bench.write("out", "old")
+        os.chmod(path, mode)
+        number = os.stat(path).st_ino
+        is_put(bench, "out", text)
+        equal(oct(os.stat(path).st_mode & 0o7777), oct(mode), "permissions")
+        equal(os.stat(path).st_ino != number, True, "a new file has the name")
+        os.remove(path)
+
+
+def put_leaves_hard_links(bench):
+    text = proof_text(bench)
+    bench.write("other", "old")
+    os.link(os.path.join(bench.folder, "other"), os.path.join(bench.folder, "out"))
+    is_put(bench, "out", text)
+    equal(bench.file("other"), "old", "the file's other name")
+
+
+def put_to_the_longest_name(bench):
+    text = proof_text(bench)
+    for length in (LONGEST_NAME, LONGEST_NAME - len(".tv-new")):
+        name = "n" * length
+        is_put(bench, name, text)
+        bench.write(name, "old" + text)
+        is_put(bench, name, text)
+    is_not_put(bench, "n" * (LONGEST_NAME + 1))
+
+
+def put_in_a_closed_folder(bench):
+    """Permissions don't hold for root: a copy of tv then runs as nobody."""
+    text = proof_text(bench)
+    how = {}
+    if os.geteuid() == 0:
+        nobody = pwd.getpwnam("nobody")
+        how = {"user": nobody.pw_uid, "group": nobody.pw_gid, "extra_groups": []}
+    shutil.copy(bench.variables["TV"], os.path.join(bench.folder, "tv"))
+    there = Bench(bench.folder, TV=os.path.join(bench.folder, "tv"))
+    bench.write("out", "old" + text)
+    bench.write("closed", "old")
+    modes = {"A": 0o644, "B": 0o644, "tv": 0o755, "out": 0o666, "closed": 0o444}
+    for name, mode in modes.items():
+        os.chmod(os.path.join(bench.folder, name), mode)
+    os.chmod(bench.folder, 0o555)
+    try:
+        is_put(there, "out", text, **how)
+        is_not_put(there, "closed", **how)
+        is_not_put(there, "new", **how)
+        equal(bench.file("closed"), "old", "a file that can't be written")
+    finally:
+        os.chmod(bench.folder, 0o755)
+
+
 EVERY = [opt_output_is_passed_on, opt_gate, opt_changed_names, opt_steps, tree_totals,
          vacuous_rows, pages]
 FAKE_ONLY = [help_is_one_screen, opt_reads_standard_input, opt_failure_is_passed_on, opt_not_text,
              opt_without_tv, opt_slow_pair, opt_whole_refusal, tree_by_lines, tree_resumes,
              tree_time_out, tree_stopped, tree_bad_folder, reduced, nothing_to_reduce, baseline,
              baseline_of_tree, proof_parts, wrong_logs, no_proof_files, wrong_lrat]
+PUTS = [put_beside_a_file, put_beside_no_file, put_with_all_names_taken, put_to_a_pipe,
+        put_to_a_device, put_through_a_link, put_keeps_permissions, put_leaves_hard_links,
+        put_to_the_longest_name, put_in_a_closed_folder]
 LLVM = [llvm_tree, llvm_steps, llvm_bitcode, llvm_reads_printed]
 
 # The oldest LLVM whose opt these tests are for: the first with opaque pointers alone.
@@ -539,7 +718,8 @@ def cases():
     else:
         print("skipped: tv is not built (crates/tv/out/tv), nor named by TV")
     if real and writes_proofs(real):
-        yield "tv, proof_of_tv", proof_of_tv, {**fake, "TV": os.path.abspath(real)}
+        for test in [proof_of_tv, *PUTS]:
+            yield f"tv, {test.__name__}", test, {**fake, "TV": os.path.abspath(real)}
     else:
         print("skipped: there is no tv that writes proof files")
     if any(map(shutil.which, SOLVERS)):

@@ -1,4 +1,4 @@
-ghost use Rattle.std.specs.Prelude.{◌≡◌, ◌≤◌, ◌+◌, [], length, true, None};
+ghost use Rattle.std.specs.Prelude.{◌≡◌, ◌≤◌, ◌+◌, [], ◌++◌, length, true, None, IfOk, IfErr, string_bytes};
 ghost use Rattle.tv_io.specs.Count.{RoseBy};
 ghost use Rattle.tv_io.specs.State.{ShelfState, SinkState};
 
@@ -6,23 +6,42 @@ use crate::shelf::{FetchFault, PutFault, Shelf, Size};
 use crate::sink::{Failed, Sink};
 use std::alloc::Global;
 use std::fs;
-use std::io::{Read, Write};
+use std::fs::{OpenFile, OpenOptions, Permissions};
+use std::io::{ErrorKind, Read, Write};
+use std::os::unix::fs::{OpenOptionsExt, PermissionsExt};
 use std::rt::Files;
 
 const BUFFER: usize = 4096;
 
-/// What is added to a name for the file that is written beside it.
-const BESIDE: &str = ".tv-new";
+/// How many names are tried for the file that is written beside another.
+const BESIDE_NAMES: usize = 10;
+
+/// What is added to a name for the file that is written beside it, in the order of the tries.
+const BESIDE: [&str; BESIDE_NAMES] = [
+    ".tv-new", ".tv-new1", ".tv-new2", ".tv-new3", ".tv-new4", ".tv-new5", ".tv-new6", ".tv-new7",
+    ".tv-new8", ".tv-new9",
+];
 
 /// The files of the system. It reports nothing of what they hold, and any fetch or put may fail.
 ///
-/// A put never leaves half of its bytes in a file: they are written to a file beside it, the name with
-/// `.tv-new` added, and that file is renamed. So the name holds what it held before or all of the bytes, also
-/// where the program is killed; that a rename is one step is the system's promise. If a put fails, the file
-/// beside it is removed; one that a killed program left is overwritten by the next put. The file is a new one,
-/// with the permissions that new files have. What is no regular file (a device, a pipe, a symbolic link) is
-/// written in place. Two programs that put the same name at the same time are not kept apart, and nothing is
-/// said of a system that stops.
+/// A put changes the file of its name, and no other. The bytes are written to a new file beside it,
+/// which is then renamed: the name with `.tv-new` added, or with `.tv-new1` to `.tv-new9` where
+/// something has the names before. So the name holds what it held before or all of the bytes, also
+/// where the put fails, which removes the new file, or the program is killed, which leaves it; that
+/// a rename is one step is the system's promise. The new file has the permissions of the old one,
+/// and is never open to more than these. The old owner and extended attributes are lost, and other
+/// hard links keep the old bytes.
+///
+/// The bytes are written in place where that can't be done: to what is no regular file (a device, a
+/// pipe, the file that a symbolic link leads to), and where no file can be made beside the old one
+/// (all ten names are taken, the folder can't be written, the name is too long) or have its
+/// permissions. There a put that fails after the file was opened, or a killed program, leaves a
+/// prefix of the bytes.
+///
+/// A put waits until the system has stored the bytes, so that an error that it would report later is
+/// one of the put. Where two programs put a name at the same time, it holds all that one of them
+/// wrote, unless both write in place. Nothing is said of a system that stops, nor of another program
+/// that moves or links these names meanwhile.
 #[derive(Drop)]
 pub struct FileShelf<'a, R: Files> {
     rt: &'a R,
@@ -71,33 +90,102 @@ impl<'a, R: Files> Shelf for FileShelf<'a, R> {
     }
 }
 
-/// Writes the bytes to a new file beside the one of that name, and renames it. What is no regular file is
-/// written in place.
+/// Makes the name hold the bytes, by a new file beside it or in place.
 fn replace<R: Files>(rt: &R, alloc: Global, name: &str, bytes: &[u8]) -> Result<(), PutFault> {
-    if is_special(rt, name) {
-        return fs::write(rt, name, bytes).map_err(|_| PutFault::Failed);
-    }
-    let Ok(mut beside) = String::from_str(alloc, name) else {
-        return Err(PutFault::NoMemory);
+    let old = match fs::symlink_metadata(rt, name) {
+        Ok(metadata) if metadata.is_file() => Some(metadata.permissions()),
+        Err(error) if matches!(error.kind(), ErrorKind::NotFound) => None,
+        _ => return write_in_place(rt, name, bytes),
     };
-    if beside.push_str(BESIDE).is_err() {
-        return Err(PutFault::NoMemory);
-    }
-    let Ok(mut file) = fs::create(rt, beside.as_str()) else {
-        return Err(PutFault::Failed);
+    let Some((beside, mut file)) = create_beside(rt, alloc, name, &old)? else {
+        return write_in_place(rt, name, bytes);
     };
-    if file.write_all(bytes).is_err() || fs::rename(rt, beside.as_str(), name).is_err() {
+    if !is_permitted(&file, old) {
+        let _ = fs::remove_file(rt, beside.as_str());
+        return write_in_place(rt, name, bytes);
+    }
+    if !is_written(&mut file, bytes) || fs::rename(rt, beside.as_str(), name).is_err() {
         let _ = fs::remove_file(rt, beside.as_str());
         return Err(PutFault::Failed);
     }
     Ok(())
 }
 
-/// Whether there is something of that name that is no regular file; a link is none.
-fn is_special<R: Files>(rt: &R, name: &str) -> bool {
-    match fs::symlink_metadata(rt, name) {
-        Ok(metadata) => !metadata.is_file(),
-        Err(_) => false,
+/// A new file beside the one of that name, and its name; nothing where all names for it are taken
+/// or the system makes none. It is open to no more than the permissions of the old file, if any.
+fn create_beside<R: Files>(
+    rt: &R,
+    alloc: Global,
+    name: &str,
+    old: &Option<Permissions>,
+) -> Result<Option<(String, R::File)>, PutFault>
+    ensures { IfErr result (λ fault. fault ≡ PutFault.NoMemory) }
+{
+    let mut options = OpenOptions::new();
+    options.write(true).create_new(true);
+    if let Some(permissions) = old {
+        options.mode(permissions.mode());
+    }
+    'names: for &ending in &BESIDE {
+        let beside = name_beside(alloc, name, ending)?;
+        match options.open(rt, beside.as_str()) {
+            Ok(file) => return Ok(Some((beside, file))),
+            Err(error) if matches!(error.kind(), ErrorKind::AlreadyExists) => {}
+            Err(_) => return Ok(None),
+        }
+    }
+    Ok(None)
+}
+
+/// The name with the ending added.
+fn name_beside(alloc: Global, name: &str, ending: &str) -> Result<String, PutFault>
+    ensures name { IfOk result (λ beside. string_bytes beside ≡ name.now ++ ending.now) }
+    ensures fault { IfErr result (λ fault. fault ≡ PutFault.NoMemory) }
+{
+    let Ok(mut beside) = String::from_str(alloc, name) else {
+        return Err(PutFault::NoMemory);
+    };
+    if beside.push_str(ending).is_err() {
+        return Err(PutFault::NoMemory);
+    }
+    Ok(beside)
+}
+
+/// Gives the file the permissions of the old one, if there is one: whether the system did.
+fn is_permitted<F: OpenFile>(file: &F, old: Option<Permissions>) -> bool
+    ensures { old ≡ None → result ≡ true }
+{
+    match old {
+        Some(permissions) => file.set_permissions(permissions).is_ok(),
+        None => true,
+    }
+}
+
+/// Writes the bytes over the file of that name, or that it leads to; it is made if it isn't there.
+fn write_in_place<R: Files>(rt: &R, name: &str, bytes: &[u8]) -> Result<(), PutFault>
+    ensures { IfErr result (λ fault. fault ≡ PutFault.Failed) }
+{
+    let Ok(mut file) = fs::create(rt, name) else {
+        return Err(PutFault::Failed);
+    };
+    if !is_written(&mut file, bytes) {
+        return Err(PutFault::Failed);
+    }
+    Ok(())
+}
+
+/// Writes the bytes to the file: whether the system took them and keeps no error for later. It keeps
+/// none for what it can't sync, as a pipe.
+fn is_written<F: Write + OpenFile>(file: &mut F, bytes: &[u8]) -> bool {
+    if file.write_all(bytes).is_err() {
+        return false;
+    }
+    match file.sync_all() {
+        Ok(()) => true,
+        Err(error) => matches!(
+            error.kind(),
+            ErrorKind::InvalidInput | ErrorKind::Unsupported
+        ),
     }
 }
 

@@ -22,10 +22,11 @@ pub made-preserved : goal.made-preserved
 made-preserved c =
     let below : c.made.counter < c.args.workers = c.made-test.true in
     let parts = left_parts c.args.workers c.made.counter (c.args.count + 1) below in
-    let less : (c.args.workers - c.made.counter) * (c.args.count + 1) - (c.args.count + 1) ≡ (c.args.workers - (c.made.counter + 1)) * (c.args.count + 1) = omega arith in
-    (c.in_ok-desk.ensures.seat,
-    c.in_ok-desk.ensures.kept ∙ ap (λ v. hand v.drawn (v.allowance - (c.args.count + 1))) c.made.invariant.1 ∙ ap (hand []) less,
-    (let more = c.in_ok-push.ensures.len in let many = c.made.invariant.2 in omega arith),
-    rw c.in_ok-push.ensures.items
-    (All-append (IsFresh c.args.board.now c.args.count) c.made.desks.items _ c.made.invariant.3
-    (All-cons (IsFresh c.args.board.now c.args.count) c.in_ok-desk.desk [] c.in_ok-desk.ensures.fresh (All-nil _))))
+    let less : (c.args.workers - c.made.counter) * (c.args.count + 1) - (c.args.count + 1) ≡ (c.args.workers - (c.made.counter + 1)) * (c.args.count + 1) = omega arith in (
+      c.in_ok-desk.ensures.seat,
+      c.in_ok-desk.ensures.kept ∙ ap (λ v. hand v.drawn (v.allowance - (c.args.count + 1))) c.made.invariant.1 ∙ ap (hand []) less,
+      (let more = c.in_ok-push.ensures.len in let many = c.made.invariant.2 in omega arith),
+      rw c.in_ok-push.ensures.items
+          (All-append (IsFresh c.args.board.now c.args.count) c.made.desks.items _ c.made.invariant.3
+          (All-cons (IsFresh c.args.board.now c.args.count) c.in_ok-desk.desk [] c.in_ok-desk.ensures.fresh (All-nil _))),
+    )

@@ -21,7 +21,8 @@ draws-preserved g c =
     let below = c.if-number-count.false in
     let inside : c.claim-number.result < g.T.Tasks.count c.args.tasks.now = omega arith in
     let answer : Answer = record { number = c.claim-number.result; judged = c.in-Ok.judged } in
-    let allowed : IsAllowedAt (g.T.Tasks.allows c.args.tasks.now) (g.T.Tasks.count c.args.tasks.now) answer = (inside, c.in-Ok.ensures) in
-    (c.claim-number.ensures.seat,
-    rw (c.claim-number.ensures.drawn, c.keep.ensures.kept) (drawing-more _ _ _ _ answer c.draws.invariant.1 c.claim-number.ensures.above allowed),
-    (let room = c.draws.invariant.2 in let kept = c.keep.ensures.room in omega arith))
+    let allowed : IsAllowedAt (g.T.Tasks.allows c.args.tasks.now) (g.T.Tasks.count c.args.tasks.now) answer = (inside, c.in-Ok.ensures) in (
+      c.claim-number.ensures.seat,
+      rw (c.claim-number.ensures.drawn, c.keep.ensures.kept) (drawing-more _ _ _ _ answer c.draws.invariant.1 c.claim-number.ensures.above allowed),
+      (let room = c.draws.invariant.2 in let kept = c.keep.ensures.room in omega arith),
+    )
