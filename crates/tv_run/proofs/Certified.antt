@@ -1,6 +1,6 @@
--- The parts of a report's proof file: their names are printed, and their logs refute their clauses.
-use Rattle.std.proofs.Common.{◌≡◌, All, List, [], ◌∷◌, ◌++◌, Bool, true, false, Option, Some, None, Result, refl, sym, ap, subst, if◌then◌else◌, is_some}
-use Rattle.std.specs.List.{AllByRecursion}
+-- The parts of a report's proof file: their names are printed, their logs refute their clauses, and each decided row has one.
+use Rattle.std.proofs.Common.{◌≡◌, ℕ, All, List, [], ◌∷◌, ◌++◌, map, Bool, true, false, Option, Some, None, Result, refl, sym, ap, subst, if◌then◌else◌, is_some}
+use Rattle.std.specs.List.{AllByRecursion, cons_option, filter_map}
 use Rattle.std.proofs.lemmas.List.Elements.{All-append, All-cons, All-nil}
 use Rattle.clause_log.specs.declared.step.Cert.{Cert}
 use Rattle.ir_tree.specs.declared.name.Name.{Name}
@@ -22,10 +22,12 @@ use Rattle.report.specs.declared.row.Finding.TheVariants as finding
 use Rattle.report.specs.declared.row.Row.{Row}
 use Rattle.ir_naming.specs.Naming.{name_text}
 use Rattle.report.specs.Rows.{AreRows, AreSourceRows, extra_row, extra_rows, function_named}
+use Rattle.proof_text.specs.declared.part.Part.{Part}
 use Rattle.proof_text.specs.Format.{part_of}
 use Rattle.proof_files.specs.Parts.{IsCertified, IsReadName, certified, decided, left_after, parts_of, row_parts}
 use Rattle.module_rows.specs.Judging.{AreAnswers, verdicts_answered, verdicts_in, verdicts_of}
 use Rattle.module_rows.specs.Searching.{entry_names}
+use Rattle.tv_run.specs.Reports.{part_heading, row_heading}
 
 -- ---- names
 
@@ -64,7 +66,7 @@ Certifies verdict.Correct cert = Shown cert (λ c. (n : Name) (b : Bool) → IsC
 Certifies (verdict.Incorrect p) cert = Shown cert (λ c. (n : Name) (b : Bool) → IsCertified (part_of (name_text n) b c))
 Certifies (verdict.Unknown cause) cert = Unit {0}
 
-refuted : (Answer : List Rattle.std.proofs.Common.ℕ → Type 0) (widths : List Rattle.std.proofs.Common.ℕ) (c : Cert) → IsRefuted Answer widths c → (n : Name) (b : Bool) → IsCertified (part_of (name_text n) b c)
+refuted : (Answer : List ℕ → Type 0) (widths : List ℕ) (c : Cert) → IsRefuted Answer widths c → (n : Name) (b : Bool) → IsCertified (part_of (name_text n) b c)
 refuted Answer widths c is n b = record { refutes = is.refutes; variables = is.small.variables; clauses = is.small.clauses }
 
 judged_certifies : (pair : Functions) (bounds : Bounds) (budget : Budget) (kept : Kept) (cert : Option Cert) (v : Verdict) → IsJudged pair bounds budget kept cert v → Certifies v cert
@@ -145,3 +147,49 @@ parts_certified (row ∷ rows) answers all reported = row_next row.name row.find
 
 pub rows_certified : (bounds : Bounds) (budget : Budget) (pairs : List Functions) (rows : List Row) (answers : List Judged) → AreAnswers bounds budget pairs answers → verdicts_of rows ≡ verdicts_answered answers → All IsCertified (parts_of rows answers)
 rows_certified bounds budget pairs rows answers each reported = parts_certified rows answers (answers_certified bounds budget pairs answers each) reported
+
+-- ---- one part for each decided row
+
+decided_heading : (n : Name) (b : Bool) (cert : Option Cert) → Shown cert (λ c. (m : Name) (d : Bool) → IsCertified (part_of (name_text m) d c)) → (parts : List Part) (rest : List (List ℕ × Bool)) → map part_heading parts ≡ rest
+    → map part_heading (certified n (Some b) cert ++ parts) ≡ (name_text n, b) ∷ rest
+decided_heading n b None shown parts rest e = absurd shown
+decided_heading n b (Some c) shown parts rest e = ap (λ (headings : List (List ℕ × Bool)). (name_text n, b) ∷ headings) e
+
+-- what is shown of the rows after
+abbrev HeadsOn : List Row → Type 0
+HeadsOn rows = (left : List Judged) → AllByRecursion Certified left → verdicts_of rows ≡ verdicts_answered left → map part_heading (parts_of rows left) ≡ filter_map row_heading rows
+
+abbrev Heads : Name → Finding → List Row → List Judged → Type 0
+Heads n found rows answers =
+    map part_heading (row_parts (record { name = n; finding = found }) answers ++ parts_of rows (left_after found answers))
+    ≡ cons_option (row_heading (record { name = n; finding = found })) (filter_map row_heading rows)
+
+heads : (n : Name) (found : Finding) (rows : List Row) (answers : List Judged) → AllByRecursion Certified answers → verdicts_in found ++ verdicts_of rows ≡ verdicts_answered answers → HeadsOn rows → Heads n found rows answers
+heads n finding.Correct rows [] all reported on = absurd (cc reported)
+heads n finding.Correct rows (a ∷ others) all reported on =
+    let told : a.verdict ≡ verdict.Correct = first_verdict verdict.Correct a.verdict (verdicts_of rows) (verdicts_answered others) reported in
+    decided_heading n true a.cert (subst (λ (w : Verdict). Certifies w a.cert) told all.0) (parts_of rows others) (filter_map row_heading rows)
+    (on others all.1 (other_verdicts verdict.Correct a.verdict (verdicts_of rows) (verdicts_answered others) reported))
+heads n (finding.Incorrect p shown) rows [] all reported on = absurd (cc reported)
+heads n (finding.Incorrect p shown) rows (a ∷ others) all reported on =
+    let told : a.verdict ≡ verdict.Incorrect p = first_verdict (verdict.Incorrect p) a.verdict (verdicts_of rows) (verdicts_answered others) reported in
+    decided_heading n false a.cert (subst (λ (w : Verdict). Certifies w a.cert) told all.0) (parts_of rows others) (filter_map row_heading rows)
+    (on others all.1 (other_verdicts (verdict.Incorrect p) a.verdict (verdicts_of rows) (verdicts_answered others) reported))
+heads n (finding.Unknown cause) rows [] all reported on = absurd (cc reported)
+heads n (finding.Unknown cause) rows (a ∷ others) all reported on = on others all.1 (other_verdicts (verdict.Unknown cause) a.verdict (verdicts_of rows) (verdicts_answered others) reported)
+heads n (finding.Refused side refused) rows [] all reported on = on [] all reported
+heads n (finding.Refused side refused) rows (a ∷ others) all reported on = on (a ∷ others) all reported
+heads n finding.Signature rows [] all reported on = on [] all reported
+heads n finding.Signature rows (a ∷ others) all reported on = on (a ∷ others) all reported
+heads n finding.Missing rows [] all reported on = on [] all reported
+heads n finding.Missing rows (a ∷ others) all reported on = on (a ∷ others) all reported
+heads n finding.Extra rows [] all reported on = on [] all reported
+heads n finding.Extra rows (a ∷ others) all reported on = on (a ∷ others) all reported
+
+all_headed : (rows : List Row) → HeadsOn rows
+all_headed [] answers all reported = refl
+all_headed (row ∷ rows) answers all reported = heads row.name row.finding rows answers all reported (all_headed rows)
+
+pub rows_headed : (bounds : Bounds) (budget : Budget) (pairs : List Functions) (rows : List Row) (answers : List Judged) → AreAnswers bounds budget pairs answers → verdicts_of rows ≡ verdicts_answered answers
+    → map part_heading (parts_of rows answers) ≡ filter_map row_heading rows
+rows_headed bounds budget pairs rows answers each reported = all_headed rows answers (answers_certified bounds budget pairs answers each) reported

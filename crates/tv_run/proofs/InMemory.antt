@@ -3,7 +3,7 @@ use Rattle.std.proofs.Common.{◌≡◌, ◌≢◌, ◌⊎◌, ◌≤◌, ◌<�
 use Rattle.tv_io.specs.Files.{Files}
 use Rattle.tv_io.specs.MemoryShelf.{fails_absent}
 use Rattle.tv_io.specs.State.{ShelfState, SinkState}
-use Rattle.tv_io.specs.Taken.{then_taken}
+use Rattle.tv_io.specs.Taken.{IsWritten, then_taken}
 use Rattle.ir_tree.specs.declared.module.Module.{Module}
 use Rattle.pair_driver.specs.declared.judged.Judged.{Judged}
 use Rattle.tv_run.specs.declared.stop.Trouble.TheVariants as trouble
@@ -13,7 +13,7 @@ use Rattle.tv_cli.specs.Words.{Check, Job}
 use Rattle.tv_run.specs.Answers.{AreModules, FitsIn}
 use Rattle.tv_run.specs.Files.{HasModule}
 use Rattle.tv_run.specs.Jobs.{WhereChecked}
-use Rattle.tv_run.specs.Reports.{PartlyWritten}
+use Rattle.tv_run.specs.Reports.{IsTheDefinedReport, IsUnfinished, PartlyWritten, WritesDefinedReport}
 use Rattle.tv_run.specs.Sound.{MeansRefinement, SaysRefinement}
 use Rattle.tv_run.specs.Stops.{HasCause, IsNotPut, Refuses, RefusesJob, stop_status}
 
@@ -60,7 +60,7 @@ pub complete : (room : ℕ) (files : Files) (command : Option Job) (shelf shelf_
     → IsMemory files shelf → out.room ≡ room → status ≢ 8
     → (AreModules shelf.files command → (status ≤ 3) ⊎ (status ≡ 5) ⊎ (status ≡ 7) ⊎ (status ≡ 8))
     → (4 < status → status ≢ 7 → status ≢ 8 → RefusesJob command shelf shelf_new out out_new status)
-    → (status ≡ 7 → WhereChecked shelf.files command (λ fs c. PartlyWritten fs c answers shelf_new.files out out_new ⊎ IsNotPut c.proof shelf shelf_new out out_new))
+    → (status ≡ 7 → WhereChecked shelf.files command (λ fs c. IsUnfinished fs c answers shelf shelf_new out out_new))
     → FitsIn room files command → status ≤ 3
 complete room files command shelf shelf_new out out_new answers status memory is other judged refuses part fits = go (judged (subst (λ (known : Option Files). AreModules known command) (sym memory.known) fits.both))
   where
@@ -71,14 +71,22 @@ complete room files command shelf shelf_new out out_new answers status memory is
     go : (status ≤ 3) ⊎ (status ≡ 5) ⊎ (status ≡ 7) ⊎ (status ≡ 8) → status ≤ 3
     go (inl below) = below
     go (inr (inl five)) = absurd (refuses_none files command shelf shelf_new out out_new status memory fits.both (refuses (omega (arith, five)) (λ e. omega (arith, five, e)) other) five)
-    go (inr (inr (inl seven))) = absurd (unwritten (part seven files fits.both.c memory.known fits.both.job_is))
+    go (inr (inr (inl seven))) = absurd (unwritten (part seven files fits.both.c memory.known fits.both.job_is).stopped)
     go (inr (inr (inr eight))) = absurd (other eight)
 
--- what was written is the report
+-- ---- what was written is the report
+
 some_bytes : (a b : List ℕ) → Some a ≡ Some b → a ≡ b
 some_bytes a b e = cc e
 
+module _ (text bytes : List ℕ) (old new : SinkState) (empty : old.taken ≡ Some []) (holds : new.taken ≡ Some bytes) where
+  written_is : IsWritten text old new → text ≡ bytes
+  written_is written = some_bytes text bytes (sym (written.taken ∙ ap (λ taken. then_taken taken text) empty) ∙ holds)
+
 pub sound : (files : Files) (c : Check) (status : ℕ) (old new : SinkState) (bytes : List ℕ) → old.taken ≡ Some [] → new.taken ≡ Some bytes → MeansRefinement files c status old new → SaysRefinement files c bytes status
 sound files c status old new bytes empty holds means =
-    let is : means.text ≡ bytes = some_bytes means.text bytes (sym (means.written.taken ∙ ap (λ taken. then_taken taken means.text) empty) ∙ holds) in
-    subst (λ (text : List ℕ). SaysRefinement files c text status) is means.says
+    subst (λ (text : List ℕ). SaysRefinement files c text status) (written_is means.text bytes old new empty holds means.written) means.says
+
+pub defined : (files : Files) (c : Check) (status : ℕ) (old new : SinkState) (bytes : List ℕ) → old.taken ≡ Some [] → new.taken ≡ Some bytes → WritesDefinedReport files c status old new → IsTheDefinedReport files c bytes status
+defined files c status old new bytes empty holds writes =
+    subst (λ (text : List ℕ). IsTheDefinedReport files c text status) (written_is writes.text bytes old new empty holds writes.written) writes.report

@@ -1,7 +1,10 @@
 -- A command line asks for one job.
-use Rattle.std.proofs.Common.{◌≡◌, Some}
-use Rattle.tv_cli.specs.Words.{Check, Text}
+use Rattle.std.proofs.Common.{◌≡◌, ◌∙◌, Option, Some, subst}
+use Rattle.tv_io.specs.Files.{Files}
+use Rattle.tv_cli.specs.Words.{Check, Job, Text}
 use Rattle.tv_cli.specs.Words.Job.{check, log}
+use Rattle.tv_run.specs.Files.{WhereKnown}
+use Rattle.tv_run.specs.Jobs.{WhereChecked}
 
 pub check_is : (a b : Check) → Some (check a) ≡ Some (check b) → a ≡ b
 check_is a b e = cc e
@@ -11,3 +14,7 @@ log_is a b e = cc e
 
 pub check≢log : (a : Check) (b : Text) → Some (check a) ≡ Some (log b) → ⊥
 check≢log a b e = cc e
+
+-- so a fact of the check that was read is one of the check that it asks for
+pub where_checked : (known : Option Files) (command : Option Job) (c : Check) (P : Files → Check → Type 0) → Some (check c) ≡ command → WhereKnown known (λ files. P files c) → WhereChecked known command P
+where_checked known command c P read holds files d is_known is = subst (P files) (check_is c d (read ∙ is)) (holds files is_known)

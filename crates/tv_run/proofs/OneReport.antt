@@ -1,5 +1,5 @@
 -- Without a limit on conflicts two files have one report, the defined one.
-use Rattle.std.proofs.Common.{◌≡◌, arith, List, [], ◌∷◌, Option, Some, None, Result, Ok, Err, Bool, true, false, sym, ap, subst, ◌∙◌, inl, inr}
+use Rattle.std.proofs.Common.{◌≡◌, ℕ, arith, List, [], ◌∷◌, Option, Some, None, Result, Ok, Err, Bool, true, false, sym, ap, subst, ◌∙◌, inl, inr}
 use Rattle.ir_tree.specs.declared.tree.Function.{Function}
 use Rattle.ir_tree.specs.declared.module.Refused.{Refused}
 use Rattle.ir_tree.specs.declared.module.Entry.{Entry}
@@ -9,6 +9,7 @@ use Rattle.points.specs.declared.point.Bounds.{Bounds}
 use Rattle.points.specs.declared.point.Budget.{Budget}
 use Rattle.verdicts.specs.declared.verdict.Verdict.{Verdict}
 use Rattle.verdicts.specs.Pair.{Functions, same_signature}
+use Rattle.points.specs.Range.{AreInRange}
 use Rattle.verdicts.specs.Trail.{IsVerdict}
 use Rattle.report.specs.declared.row.Finding.{Finding}
 use Rattle.report.specs.declared.row.Finding.TheVariants as finding
@@ -16,8 +17,9 @@ use Rattle.report.specs.declared.row.Row.{Row}
 use Rattle.report.specs.Rows.{function_named, IsJudged, IsCompared, IsFinding, AreSourceRows, AreRows, RowsAreOne}
 use Rattle.report.specs.Text.{report_text}
 use Rattle.report.specs.Status.{status_of}
-use Rattle.tv_cli.proofs.Ranges.{check_in_range}
-use Rattle.tv_run.specs.Laws.{ReportsAreDefined, ReportsAreOne}
+use Rattle.tv_run.specs.Files.{HasModule}
+use Rattle.tv_run.specs.Laws.{FileReportsAreDefined, ReportsAreDefined, ReportsAreOne}
+use Rattle.tv_run.specs.Reports.{IsDefinedReport}
 use Rattle.module_rows.specs.Judging.{may_answer}
 use Rattle.tv_run.proofs.Files.{module_one}
 
@@ -69,16 +71,36 @@ reports_are_defined bounds budget source target answers text status none report 
   status_is = report.status_is;
 }
 
+-- ---- one report
+
+module _ (rows : RowsAreOne) (bounds : Bounds) (budget : Budget) (source target : Module) (text other : List ℕ) (status other_status : ℕ) where
+  defined_one : AreInRange bounds budget → IsDefinedReport bounds budget source target text status → IsDefinedReport bounds budget source target other other_status → (text ≡ other) × (status ≡ other_status)
+  defined_one ranges a b =
+      let e : a.rows ≡ b.rows = rows bounds budget source target a.rows b.rows ranges a.are_rows b.are_rows in
+      (a.text_is ∙ ap (report_text bounds budget) e ∙ sym b.text_is, a.status_is ∙ ap status_of e ∙ sym b.status_is)
+
+pub file_reports_are_defined : OneModule → RowsAreOne → FileReportsAreDefined
+file_reports_are_defined one rows files c answers text status ranges none report =
+    let is = reports_are_defined c.bounds c.budget report.source report.target answers text status none report.report in
+    record {
+      defined = record { source = report.source; target = report.target; source_is = report.source_is; target_is = report.target_is; is = is };
+      only = λ other other_status has.
+          let s : has.source ≡ report.source = module_one one (files c.source) has.source report.source has.source_is report.source_is in
+          let t : has.target ≡ report.target = module_one one (files c.target) has.target report.target has.target_is report.target_is in
+          defined_one rows c.bounds c.budget report.source report.target other text other_status status ranges
+          (subst (λ (m : Module). IsDefinedReport c.bounds c.budget m report.target other other_status) s
+          (subst (λ (n : Module). IsDefinedReport c.bounds c.budget has.source n other other_status) t has.is))
+          is;
+    }
+
 pub reports_are_one : OneModule → RowsAreOne → ReportsAreOne
-reports_are_one one rows files words c answers others text other status other_status is none x y =
-    let s : y.source ≡ x.source = module_one one (files c.source) y.source x.source y.source_is x.source_is in
-    let t : y.target ≡ x.target = module_one one (files c.target) y.target x.target y.target_is x.target_is in
-    let a = reports_are_defined c.bounds c.budget x.source x.target answers text status none x.report in
-    let b = reports_are_defined c.bounds c.budget y.source y.target others other other_status none y.report in
-    let are : AreRows (λ pair v. IsVerdict pair c.bounds c.budget v) c.bounds x.source x.target b.rows =
-    subst (λ (m : Module). AreRows (λ pair v. IsVerdict pair c.bounds c.budget v) c.bounds m x.target b.rows) s
-    (subst (λ (n : Module). AreRows (λ pair v. IsVerdict pair c.bounds c.budget v) c.bounds y.source n b.rows) t b.are_rows) in
-    let e : a.rows ≡ b.rows = rows c.bounds c.budget x.source x.target a.rows b.rows (check_in_range words c is) a.are_rows are in (
-      a.text_is ∙ ap (report_text c.bounds c.budget) e ∙ sym b.text_is,
-      a.status_is ∙ ap status_of e ∙ sym b.status_is,
-    )
+reports_are_one one rows files others a b answers other_answers text other status other_status ranges none same x y =
+    let s : y.source ≡ x.source = module_one one (files a.source) y.source x.source (subst (λ (file : Option (List ℕ)). HasModule file y.source) (sym same.source) y.source_is) x.source_is in
+    let t : y.target ≡ x.target = module_one one (files a.target) y.target x.target (subst (λ (file : Option (List ℕ)). HasModule file y.target) (sym same.target) y.target_is) x.target_is in
+    let there = reports_are_defined b.bounds b.budget y.source y.target other_answers other other_status (subst (λ (k : Budget). k.conflicts ≡ 0) same.budget none) y.report in
+    defined_one rows a.bounds a.budget x.source x.target text other status other_status ranges
+    (reports_are_defined a.bounds a.budget x.source x.target answers text status none x.report)
+    (subst (λ (m : Module). IsDefinedReport a.bounds a.budget m x.target other other_status) s
+    (subst (λ (n : Module). IsDefinedReport a.bounds a.budget y.source n other other_status) t
+    (subst (λ (g : Bounds). IsDefinedReport g a.budget y.source y.target other other_status) (sym same.bounds)
+    (subst (λ (k : Budget). IsDefinedReport b.bounds k y.source y.target other other_status) (sym same.budget) there))))

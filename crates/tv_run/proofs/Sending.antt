@@ -1,17 +1,18 @@
 -- What the delivery of a report says of the check of the command line.
 use Rattle.std.specs.Global.{Vec}
-use Rattle.std.proofs.Common.{◌≡◌, ◌≢◌, ◌≤◌, ◌⊎◌, ℕ, arith, List, Option, Some, None, sym, subst, inl, inr, ◌∙◌}
+use Rattle.std.proofs.Common.{◌≡◌, ◌≤◌, ◌⊎◌, ℕ, arith, List, Option, Some, None, sym, subst, inl, inr, ◌∙◌}
 use Rattle.tv_io.specs.Count.{Rose}
 use Rattle.tv_io.specs.Files.{Files}
 use Rattle.tv_io.specs.State.{ShelfState, SinkState}
+use Rattle.points.specs.Range.{AreInRange}
 use Rattle.pair_driver.specs.declared.judged.Judged.{Judged}
 use Rattle.report.specs.declared.row.Row.{Row}
 use Rattle.tv_cli.specs.Words.{Text, Check}
 use Rattle.tv_run.specs.Answers.{HasReport, HoldsText, IsDelivered, IsProofAsked, IsSent}
 use Rattle.tv_run.specs.Files.{WhereKnown}
-use Rattle.tv_run.specs.Laws.{ReportsAreSound}
-use Rattle.tv_run.specs.Reports.{HoldsProof, IsJudgedSo, PartlyWritten, Written}
-use Rattle.tv_run.specs.Sound.{MeansRefinement}
+use Rattle.tv_run.specs.Laws.{FileReportsAreDefined, FileReportsAreSound}
+use Rattle.tv_run.specs.Reports.{HoldsProof, IsUnfinished, PartlyWritten, WritesDefinedReport, Written}
+use Rattle.tv_run.specs.Sound.{FilesRefine, PartlyMeansRefinement, WritesSound}
 use Rattle.tv_run.specs.Stops.{IsNotPut}
 
 -- the text that was put is that of the rows' proof file
@@ -53,40 +54,33 @@ module _ (known : Option Files) (c : Check) (result status : ℕ) (answers : Lis
       go (inr e) = λ files f. let r = reports files f in inl (record { text = text; status = status; reports = r.reports; put = proof_held c.proof r.reports.report.rows answers proof shelf_new.files r.asked d.put; cut_off = e.1 })
   delivered_part reports (inr e) within seven = λ files f. inr e.1
 
-  pub delivered_unwritten : Delivered → status ≤ 3 → result ≡ 7 → Rose out.faults out_new.faults ⊎ IsNotPut c.proof shelf shelf_new out out_new
-  delivered_unwritten (inl d) within seven = go d.sent
-    where
-      go : IsSent status result text out out_new → Rose out.faults out_new.faults ⊎ IsNotPut c.proof shelf shelf_new out out_new
-      go (inl e) = absurd (omega (arith, e.0, within, seven))
-      go (inr e) = inl e.1.faults
-  delivered_unwritten (inr e) within seven = inr e.1
+  pub delivered_unfinished : Reported → Delivered → status ≤ 3 → result ≡ 7 → WhereKnown known (λ files. IsUnfinished files c answers shelf shelf_new out out_new)
+  delivered_unfinished reports d within seven = λ files f.
+      record { judged = (text, status, (reports files f).reports); stopped = delivered_part reports d within seven files f }
 
-  pub delivered_known : Delivered → status ≤ 3 → (result ≤ 3) ⊎ (result ≡ 7)
-  delivered_known (inl d) within = go d.sent
-    where
-      go : IsSent status result text out out_new → (result ≤ 3) ⊎ (result ≡ 7)
-      go (inl e) = inl (omega (arith, e.0, within))
-      go (inr e) = inr e.0
-  delivered_known (inr e) within = inr e.0
+  -- what it says is sound
 
-  pub delivered_puts : Delivered → result ≢ 7 → shelf_new.put_faults ≡ shelf.put_faults
-  delivered_puts (inl d) other = d.counted
-  delivered_puts (inr e) other = absurd (other e.0)
+  part_sound : FileReportsAreSound → (files : Files) → PartlyWritten files c answers shelf_new.files out out_new ⊎ IsNotPut c.proof shelf shelf_new out out_new
+      → PartlyMeansRefinement files c out out_new ⊎ IsNotPut c.proof shelf shelf_new out out_new
+  part_sound sound files (inl p) = inl (record { text = p.text; status = p.status; says = sound files c answers p.text p.status p.reports; cut_off = p.cut_off })
+  part_sound sound files (inr unput) = inr unput
 
-  pub delivered_sink : Delivered → result ≤ 3 → out_new.faults ≡ out.faults
-  delivered_sink (inl d) le = go d.sent
-    where
-      go : IsSent status result text out out_new → out_new.faults ≡ out.faults
-      go (inl e) = e.1.faults
-      go (inr e) = absurd (omega (arith, e.0, le))
-  delivered_sink (inr e) le = absurd (omega (arith, e.0, le))
+  pub delivered_sound : FileReportsAreSound → Reported → Delivered → status ≤ 3 → WhereKnown known (λ files. WritesSound files c result shelf shelf_new out out_new)
+  delivered_sound sound reports d within = λ files f.
+      record {
+        whole = λ le. let w = delivered_whole reports d le files f in record { text = w.text; says = sound files c answers w.text result w.reports; written = w.written };
+        part = λ seven. part_sound sound files (delivered_part reports d within seven files f);
+      }
 
--- and what it says is sound
-pub sent_sound : ReportsAreSound → (known : Option Files) (c : Check) (result : ℕ) (answers : List Judged) (after : Option Files) (old new : SinkState) → WhereKnown known (λ files. Written files c result answers after old new) → WhereKnown known (λ files. MeansRefinement files c result old new)
-sent_sound sound known c result answers after old new report files f =
-    let w = report files f in
-    record { text = w.text; says = sound files c answers w.text result w.reports; written = w.written }
+  pub delivered_zero : FileReportsAreSound → Reported → Delivered → result ≡ 0 → WhereKnown known (λ files. FilesRefine files c)
+  delivered_zero sound reports d none = λ files f.
+      let w = delivered_whole reports d (omega (arith, none)) files f in
+      let says = sound files c answers w.text result w.reports in
+      record { source = says.source; target = says.target; source_is = says.source_is; target_is = says.target_is; holds = says.sound.throughout (sym says.status_is ∙ none) }
 
--- the answers are those on the two files
-pub judged_so : (known : Option Files) (c : Check) (status : ℕ) (answers : List Judged) (text : List ℕ) (proof : Option (Vec ℕ)) → WhereKnown known (λ files. HasReport files c answers text status proof) → WhereKnown known (λ files. IsJudgedSo files c answers)
-judged_so known c status answers text proof reports files f = (text, status, (reports files f).reports)
+  -- and without a limit on conflicts it is the defined report
+
+  pub delivered_defined : FileReportsAreDefined → AreInRange c.bounds c.budget → Reported → Delivered → result ≤ 3 → WhereKnown known (λ files. c.budget.conflicts ≡ 0 → WritesDefinedReport files c result out out_new)
+  delivered_defined defined ranges reports d le = λ files f none.
+      let w = delivered_whole reports d le files f in
+      record { text = w.text; report = defined files c answers w.text result ranges none w.reports; written = w.written }

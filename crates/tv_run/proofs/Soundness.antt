@@ -1,8 +1,10 @@
 -- The rows of two modules are sound.
-use Rattle.std.proofs.Common.{◌≡◌, ◌⊎◌, ℕ, zero, suc, arith, Bool, true, false, List, [], ◌∷◌, Option, Some, None, Result, Ok, Err, refl, sym, ap, subst, ◌∙◌, inl, inr, is_some, if◌then◌else◌}
-use Rattle.std.specs.Prelude.{Contains}
+use Rattle.std.proofs.Common.{◌≡◌, ◌≤◌, ◌⊎◌, ◌+◌, ◌||◌, ℕ, zero, suc, arith, Bool, true, false, true≢false, cond, List, [], ◌∷◌, Option, Some, None, Result, Ok, Err, refl, sym, ap, subst, ◌∙◌, inl, inr, is_some, if◌then◌else◌}
+use Rattle.std.specs.Prelude.{Contains, count_by}
 use Rattle.std.specs.List.{IsDistinct, AllByRecursion}
-use Rattle.std.proofs.lemmas.List.Elements.{Contains-append_cases, Contains-append_left}
+use Rattle.std.proofs.lemmas.Bool.{ltb-false}
+use Rattle.std.proofs.lemmas.List.Elements.{All-contains_itself, All-weaker, Contains-append_cases, Contains-append_left, Contains-append_right}
+use Rattle.std.proofs.lemmas.List.Sums.{sum_by-cons}
 use Rattle.std.proofs.lemmas.Map.Keys.{IsDistinct-head, IsDistinct-tail}
 use Rattle.std.proofs.lemmas.Slice.Eq.{bytes_eq-Decides}
 use Rattle.ir_tree.specs.declared.name.Name.{Name}
@@ -26,10 +28,13 @@ use Rattle.report.specs.declared.row.Finding.{Finding}
 use Rattle.report.specs.declared.row.Finding.TheVariants as finding
 use Rattle.report.specs.declared.row.Row.{Row}
 use Rattle.report.specs.Rows.{function_named, IsJudged, IsCompared, IsFinding, IsRow, AreSourceRows, AreRows, extra_row, extra_rows}
-use Rattle.tv_run.specs.Laws.{ReportsAreSound}
+use Rattle.report.specs.declared.status.Class.{Class}
+use Rattle.report.specs.declared.status.Class.TheVariants as class
+use Rattle.report.specs.Status.{has_some, is_of_class, status_of}
+use Rattle.tv_run.specs.Laws.{FileReportsAreSound, ReportsAreSound}
 use Rattle.module_rows.specs.Judging.{may_answer}
 use Rattle.module_rows.specs.Searching.{entry_names}
-use Rattle.tv_run.specs.Sound.{HasFunction, IsPairNamed, HasVerdict, IsSound}
+use Rattle.tv_run.specs.Sound.{HasDistinctNames, HasFunction, HoldsThroughout, IsPairNamed, IsRefined, HasVerdict, IsSound}
 use Rattle.module_rows.proofs.Searches.{same_name-flips}
 
 -- ---- elements of a list
@@ -240,12 +245,111 @@ pair_row may bounds source target rows name pair apart are named =
     ap (function_named target.entries) named.source_has.named ∙ function_at target name pair.target apart named.target_has in
     (of.0, here, of.2.name ∙ named.source_has.named, pair_verdict may bounds s.function (function_named target.entries s.name) pair of.0.finding named.source_has.accepted target_is named.signature of.2.found)
 
--- ---- the theorem
-
 has_verdict : (found other : Finding) → found ≡ other → HasVerdict other → HasVerdict found
 has_verdict found other is has = subst HasVerdict (sym is) has
 
-rows_are_sound : CorrectHolds → IncorrectFails → (bounds : Bounds) (budget : Budget) (source target : Module) (rows : List Row) → IsDistinct same_name (entry_names source.entries) → IsDistinct same_name (entry_names target.entries) → AreRows (may_answer bounds budget) bounds source target rows → IsSound bounds source target rows
+-- ---- status 0
+
+-- a test that no row passes fails at each
+not_counted : (p : Row → Bool) (rows : List Row) (row : Row) → count_by p rows ≤ 0 → Contains rows row → p row ≡ false
+not_counted p [] row none here = absurd (no_element row here)
+not_counted p (r ∷ rows) row none here =
+    let counted : count_by p (r ∷ rows) ≡ cond (p r) 1 0 + count_by p rows = sum_by-cons (λ (x : Row). cond (p x) 1 0) r rows in
+    go (p r) refl (subst (λ (n : ℕ). n ≤ 0) counted none) (contains_cases r rows row here) (not_counted p rows row)
+  where
+    go : (b : Bool) → p r ≡ b → cond b 1 0 + count_by p rows ≤ 0 → (r ≡ row) ⊎ Contains rows row → (count_by p rows ≤ 0 → Contains rows row → p row ≡ false) → p row ≡ false
+    go true is less at rest = absurd (omega (arith, less))
+    go false is less (inl same) rest = subst (λ (x : Row). p x ≡ false) same is
+    go false is less (inr later) rest = rest (omega (arith, less)) later
+
+none_counted : (a b c d e f : Bool) → ◌≡◌ {A = ℕ} (if a then 1 else (if b then 2 else (if c || d || e || f then 3 else 0))) 0
+    → (a ≡ false) × (b ≡ false) × (c ≡ false) × (d ≡ false) × (e ≡ false) × (f ≡ false)
+none_counted true b c d e f is = absurd (cc is)
+none_counted false true c d e f is = absurd (cc is)
+none_counted false false true d e f is = absurd (cc is)
+none_counted false false false true e f is = absurd (cc is)
+none_counted false false false false true f is = absurd (cc is)
+none_counted false false false false false true is = absurd (cc is)
+none_counted false false false false false false is = (refl, refl, refl, refl, refl, refl)
+
+not_of_class : (c : Class) (rows : List Row) (row : Row) → has_some c rows ≡ false → Contains rows row → is_of_class c row.finding ≡ true → ⊥
+not_of_class c rows row none here is = true≢false (sym is ∙ not_counted (λ r. is_of_class c r.finding) rows row (ltb-false _ _ none) here)
+
+each_correct : (rows : List Row) (row : Row) → status_of rows ≡ 0 → Contains rows row → row.finding ≡ finding.Correct
+each_correct rows row none here =
+    go row.finding refl
+    (none_counted (has_some class.Incorrect rows) (has_some class.Unknown rows) (has_some class.Refused rows) (has_some class.Signature rows) (has_some class.Missing rows) (has_some class.Extra rows) none)
+  where
+    go : (found : Finding) → row.finding ≡ found
+        → (has_some class.Incorrect rows ≡ false) × (has_some class.Unknown rows ≡ false) × (has_some class.Refused rows ≡ false) × (has_some class.Signature rows ≡ false) × (has_some class.Missing rows ≡ false) × (has_some class.Extra rows ≡ false)
+        → row.finding ≡ finding.Correct
+    go finding.Correct is all = is
+    go (finding.Incorrect p shown) is all = absurd (not_of_class class.Incorrect rows row all.0 here (ap (is_of_class class.Incorrect) is))
+    go (finding.Unknown cause) is all = absurd (not_of_class class.Unknown rows row all.1 here (ap (is_of_class class.Unknown) is))
+    go (finding.Refused side refused) is all = absurd (not_of_class class.Refused rows row all.2 here (ap (is_of_class class.Refused) is))
+    go finding.Signature is all = absurd (not_of_class class.Signature rows row all.3 here (ap (is_of_class class.Signature) is))
+    go finding.Missing is all = absurd (not_of_class class.Missing rows row all.4 here (ap (is_of_class class.Missing) is))
+    go finding.Extra is all = absurd (not_of_class class.Extra rows row all.5 here (ap (is_of_class class.Extra) is))
+
+extra_there : (sources targets : List Entry) (t : Entry) → function_named sources t.name ≡ None → Contains targets t → Contains (extra_rows sources targets) (extra_row t)
+extra_there sources [] t none here = absurd (no_element t here)
+extra_there sources (x ∷ ts) t none here = go (function_named sources x.name) refl (contains_cases x ts t here) (extra_there sources ts t none)
+  where
+    go : (o : Option (Result Function Refused)) → function_named sources x.name ≡ o → (x ≡ t) ⊎ Contains ts t → (Contains ts t → Contains (extra_rows sources ts) (extra_row t))
+        → Contains (if is_some o then extra_rows sources ts else extra_row x ∷ extra_rows sources ts) (extra_row t)
+    go (Some f) is (inl same) rest =
+        absurd (let e : function_named sources x.name ≡ None = subst (λ (y : Entry). function_named sources y.name ≡ None) (sym same) none in let both : Some f ≡ None = sym is ∙ e in cc both)
+    go (Some f) is (inr later) rest = rest later
+    go None is (inl same) rest = subst (λ (y : Entry). Contains (extra_row x ∷ extra_rows sources ts) (extra_row y)) same (contains_first (extra_row x) (extra_rows sources ts))
+    go None is (inr later) rest = contains_later (extra_row x) (extra_rows sources ts) (extra_row t) (rest later)
+
+module _ (holds : CorrectHolds) (bounds : Bounds) (budget : Budget) (source target : Module) (rows : List Row) (target_apart : HasDistinctNames target) (are : AreRows (may_answer bounds budget) bounds source target rows) (none : status_of rows ≡ 0) where
+  source_refined : (entry : Entry) → Contains source.entries entry → IsRefined bounds source target (λ pair. pair.source) entry
+  source_refined entry here =
+      let of = row_for (may_answer bounds budget) bounds target.entries source.entries are.judged entry are.each here in
+      let among : Contains rows of.0 = subst (λ (rs : List Row). Contains rs of.0) (sym are.all) (Contains-append_left are.judged (extra_rows source.entries target.entries) of.0 of.1) in
+      let correct : of.0.finding ≡ finding.Correct = each_correct rows of.0 none among in
+      let found = found_of (may_answer bounds budget) bounds entry.function (function_named target.entries entry.name) of.0.finding (has_verdict of.0.finding finding.Correct correct tt) of.2.found in
+      let at = entry_named target.entries entry.name (Ok found.pair.target) found.target_is in
+      record {
+        pair = found.pair;
+        named = record {
+          source_has = record { entry = entry; there = here; named = refl; accepted = found.source_is };
+          target_has = record { entry = at.entry; there = at.there; named = at.named; accepted = at.function_is };
+          signature = found.signature;
+        };
+        entry_is = found.source_is;
+        holds = correct_row holds bounds budget found.pair of.0.finding correct found.judged;
+      }
+
+  target_refined : (entry : Entry) → Contains target.entries entry → IsRefined bounds source target (λ pair. pair.target) entry
+  target_refined entry here = go (function_named source.entries entry.name) refl
+    where
+      go : (o : Option (Result Function Refused)) → function_named source.entries entry.name ≡ o → IsRefined bounds source target (λ pair. pair.target) entry
+      go None absent =
+          let extra = extra_there source.entries target.entries entry absent here in
+          let among : Contains rows (extra_row entry) = subst (λ (rs : List Row). Contains rs (extra_row entry)) (sym are.all) (Contains-append_right are.judged (extra_rows source.entries target.entries) (extra_row entry) extra) in
+          absurd (let e : finding.Extra ≡ finding.Correct = each_correct rows (extra_row entry) none among in cc e)
+      go (Some f) is =
+          let at = entry_named source.entries entry.name f is in
+          let of = source_refined at.entry at.there in
+          let named : IsPairNamed source target entry.name of.pair = subst (λ (name : Name). IsPairNamed source target name of.pair) at.named of.named in
+          record {
+            pair = of.pair;
+            named = named;
+            entry_is = some_is entry.function (Ok of.pair.target) (sym (function_named-once target.entries entry target_apart here) ∙ function_at target entry.name of.pair.target target_apart named.target_has);
+            holds = of.holds;
+          }
+
+  holds_throughout : HoldsThroughout bounds source target
+  holds_throughout = record {
+    of_source = All-weaker (Contains source.entries) (IsRefined bounds source target (λ pair. pair.source)) source_refined source.entries (All-contains_itself source.entries);
+    of_target = All-weaker (Contains target.entries) (IsRefined bounds source target (λ pair. pair.target)) target_refined target.entries (All-contains_itself target.entries);
+  }
+
+-- ---- the theorem
+
+rows_are_sound : CorrectHolds → IncorrectFails → (bounds : Bounds) (budget : Budget) (source target : Module) (rows : List Row) → HasDistinctNames source → HasDistinctNames target → AreRows (may_answer bounds budget) bounds source target rows → IsSound bounds source target rows
 rows_are_sound holds fails bounds budget source target rows apart target_apart are = record {
   correct = λ row here is.
       let of = judged_row (may_answer bounds budget) bounds source target rows row are here (has_verdict row.finding finding.Correct is tt) in
@@ -255,24 +359,29 @@ rows_are_sound holds fails bounds budget source target rows apart target_apart a
       (of.pair, of.named, incorrect_row fails bounds budget of.pair row.finding point shown is of.judged);
   one = λ name pair other x y. pair_one source target name pair other apart target_apart x y;
   whole = λ name pair named. pair_row (may_answer bounds budget) bounds source target rows name pair target_apart are named;
+  throughout = λ none. holds_throughout holds bounds budget source target rows target_apart are none;
 }
 
+pub reports_are_sound : CorrectHolds → IncorrectFails → ReportsAreSound
+reports_are_sound holds fails bounds budget source target answers text status apart target_apart report =
+    rows_are_sound holds fails bounds budget source target report.rows apart target_apart report.are_rows
+
 -- a text that is a module has distinct names
-distinct : (text : List ℕ) (m : Module) → IsModule text m → IsDistinct same_name (entry_names m.entries)
+distinct : (text : List ℕ) (m : Module) → IsModule text m → HasDistinctNames m
 distinct text m formed = different formed.tokens _ formed.defines m.entries formed.cut formed.entries
 
-pub reports_are_sound : CorrectHolds → IncorrectFails → ReportsAreSound
-reports_are_sound holds fails files c answers text status report = record {
+pub file_reports_are_sound : ReportsAreSound → FileReportsAreSound
+file_reports_are_sound sound files c answers text status report = record {
   source = report.source;
   target = report.target;
   source_is = report.source_is;
   target_is = report.target_is;
   rows = report.report.rows;
   sound =
-      rows_are_sound holds fails c.bounds c.budget report.source report.target report.report.rows
+      sound c.bounds c.budget report.source report.target answers text status
       (distinct report.source_is.text report.source report.source_is.holds.1)
       (distinct report.target_is.text report.target report.target_is.holds.1)
-      report.report.are_rows;
+      report.report;
   text_is = report.report.text_is;
   status_is = report.report.status_is;
 }

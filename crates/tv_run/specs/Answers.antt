@@ -26,6 +26,7 @@ use Rattle.proof_files.specs.Parts.{IsReadName}
 use Rattle.tv_cli.specs.Words.{Text, Check, Job}
 use Rattle.tv_cli.specs.Words.Job.{check, log}
 use Rattle.tv_run.specs.Files.{text_limit, proof_limit, HasModule, HasParts, WhereKnown}
+use Rattle.tv_run.specs.Jobs.{OfMake}
 use Rattle.tv_run.specs.Reports.{Reports, IsReport, IsProofFile}
 use Rattle.module_rows.specs.Searching.{entry_names}
 use Rattle.tv_run.specs.declared.stop.LogTrouble.TheVariants as log_trouble
@@ -123,6 +124,12 @@ pub record AreParts (known : Option Files) (command : Option Job) : Type 0 where
   pub files_are : known ≡ Some files
   pub job_is : command ≡ Some (log name)
   pub parts_are : HasParts (files name) parts
+
+-- what is done whatever the files and the sink, by job: only a failed read or write, or memory, stops it
+pub record Completes (known : Option Files) (command : Option Job) (result : ℕ) : Type 0 where
+  pub checked : AreModules known command → (result ≤ 3) ⊎ (result ≡ 5) ⊎ (result ≡ 7) ⊎ (result ≡ 8)
+  pub logged : AreParts known command → (result ≤ 1) ⊎ (result ≡ 5) ⊎ (result ≡ 7) ⊎ (result ≡ 8)
+  pub made : OfMake command (λ m. (result ≤ 3) ⊎ (result ≡ 7) ⊎ (result ≡ 8))
 
 -- ---- the proof file of a report
 

@@ -1,8 +1,8 @@
 -- Facts of the job that the command line asks for.
-use Rattle.std.specs.Prelude.{◌≡◌, List, Option, Some, None, map, string_bytes}
+use Rattle.std.specs.Prelude.{◌≡◌, ◌≢◌, ◌<◌, ℕ, List, Option, Some, None, map, string_bytes}
 use Rattle.std.specs.Global.{Global}
 use Rattle.std.specs.declared.string.String.{String}
-use Rattle.tv_io.specs.Files.{Files, SameElsewhere}
+use Rattle.tv_io.specs.Files.{Files, SameElsewhere, SameFiles}
 use Rattle.tv_cli.specs.Words.{Text, Check, Make, Job, job_of}
 use Rattle.tv_cli.specs.Words.Job.{check, log, make}
 
@@ -43,3 +43,8 @@ FileChanges (Some (check c)) old new = ProofChanges c.proof old new
 FileChanges (Some (log name)) old new = new ≡ old
 FileChanges (Some (make m)) old new = new ≡ old
 FileChanges None old new = new ≡ old
+
+-- and none where there is no report
+pub record ChangesOnlyProof (command : Option Job) (result : ℕ) (old new : Option Files) : Type 0 where
+  pub only : FileChanges command old new
+  pub unreported : 3 < result → result ≢ 7 → SameFiles old new

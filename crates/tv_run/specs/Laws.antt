@@ -1,4 +1,5 @@
--- What follows from the definitions: a report is sound; without a limit on conflicts it is the defined one, and two files have one; they have one fault; and the proof file of a report is verified whole.
+-- What follows from the definitions: a report is sound; without a limit on conflicts it is the defined
+-- one, and two files have one; they have one fault; and the proof file of a report is verified whole.
 use Rattle.std.specs.Prelude.{◌≡◌, ◌≢◌, ℕ, List, Some}
 use Rattle.tv_io.specs.Files.{Files}
 use Rattle.tv_io.specs.State.{ShelfState, SinkState}
@@ -6,28 +7,58 @@ use Rattle.ir_tree.specs.declared.module.Module.{Module}
 use Rattle.tv_run.specs.declared.stop.Stop.{Stop}
 use Rattle.points.specs.declared.point.Bounds.{Bounds}
 use Rattle.points.specs.declared.point.Budget.{Budget}
+use Rattle.points.specs.Range.{AreInRange}
 use Rattle.pair_driver.specs.declared.judged.Judged.{Judged}
 use Rattle.report.specs.declared.row.Row.{Row}
 use Rattle.proof_files.specs.Parts.{parts_of}
-use Rattle.tv_cli.specs.Words.{Text, Check, job_of}
-use Rattle.tv_cli.specs.Words.Job.{check}
+use Rattle.tv_cli.specs.Words.{Text, Check}
 use Rattle.tv_run.specs.Files.{HasModule}
 use Rattle.tv_run.specs.Logs.{IsVerifiedWhole, LogWritten}
-use Rattle.tv_run.specs.Reports.{Reports, HoldsProof, IsReport, IsDefinedReport}
-use Rattle.tv_run.specs.Sound.{SaysRefinement}
+use Rattle.tv_run.specs.Reports.{Reports, HoldsProof, IsReport, IsDefinedReport, IsTheDefinedReport}
+use Rattle.tv_run.specs.Sound.{HasDistinctNames, IsSound, SaysRefinement}
 use Rattle.tv_run.specs.Stops.{HasCause, stop_status}
 
--- the report of two files says how their functions refine
+-- the rows of a report are sound, where no two functions of a module have one name
 abbrev pub ReportsAreSound : Type 0
-ReportsAreSound = (files : Files) (c : Check) (answers : List Judged) (text : List ℕ) (status : ℕ) → Reports files c answers text status → SaysRefinement files c text status
+ReportsAreSound = (bounds : Bounds) (budget : Budget) (source target : Module)
+    (answers : List Judged) (text : List ℕ) (status : ℕ)
+    → HasDistinctNames source → HasDistinctNames target
+    → (report : IsReport bounds budget source target answers text status)
+    → IsSound bounds source target report.rows
+
+-- so the report of two files says how their functions refine
+abbrev pub FileReportsAreSound : Type 0
+FileReportsAreSound = (files : Files) (c : Check) (answers : List Judged) (text : List ℕ) (status : ℕ)
+    → Reports files c answers text status → SaysRefinement files c text status
 
 -- without a limit on conflicts the rows are those of the verdicts' definition
 abbrev pub ReportsAreDefined : Type 0
-ReportsAreDefined = (bounds : Bounds) (budget : Budget) (source target : Module) (answers : List Judged) (text : List ℕ) (status : ℕ) → budget.conflicts ≡ 0 → IsReport bounds budget source target answers text status → IsDefinedReport bounds budget source target text status
+ReportsAreDefined = (bounds : Bounds) (budget : Budget) (source target : Module)
+    (answers : List Judged) (text : List ℕ) (status : ℕ) → budget.conflicts ≡ 0
+    → IsReport bounds budget source target answers text status
+    → IsDefinedReport bounds budget source target text status
 
--- and two files have one report
+-- so the report of two files is the defined one
+abbrev pub FileReportsAreDefined : Type 0
+FileReportsAreDefined = (files : Files) (c : Check) (answers : List Judged) (text : List ℕ) (status : ℕ)
+    → AreInRange c.bounds c.budget → c.budget.conflicts ≡ 0
+    → Reports files c answers text status → IsTheDefinedReport files c text status
+
+-- both checks name files of the same bytes, and judge them within the same bounds and budget; their
+-- workers, their proof files and the names of all files may differ
+pub record CheckTheSame (files others : Files) (a b : Check) : Type 0 where
+  pub source : files a.source ≡ others b.source
+  pub target : files a.target ≡ others b.target
+  pub bounds : a.bounds ≡ b.bounds
+  pub budget : a.budget ≡ b.budget
+
+-- and they have one report
 abbrev pub ReportsAreOne : Type 0
-ReportsAreOne = (files : Files) (arguments : List (List ℕ)) (c : Check) (answers others : List Judged) (text other : List ℕ) (status other_status : ℕ) → job_of arguments ≡ Some (check c) → c.budget.conflicts ≡ 0 → Reports files c answers text status → Reports files c others other other_status → (text ≡ other) × (status ≡ other_status)
+ReportsAreOne = (files others : Files) (a b : Check) (answers other_answers : List Judged)
+    (text other : List ℕ) (status other_status : ℕ)
+    → AreInRange a.bounds a.budget → a.budget.conflicts ≡ 0 → CheckTheSame files others a b
+    → Reports files a answers text status → Reports others b other_answers other other_status
+    → (text ≡ other) × (status ≡ other_status)
 
 -- two runs over the same files that stop at a fault of a module stop at one fault: the same file, the same position, the same reason
 abbrev pub FaultsAreOne : Type 0

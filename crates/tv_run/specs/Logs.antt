@@ -1,5 +1,5 @@
 -- What a check of a proof file writes.
-use Rattle.std.specs.Prelude.{◌≡◌, ℕ, List}
+use Rattle.std.specs.Prelude.{◌≡◌, ◌≤◌, ◌⊎◌, ℕ, List, [], Option}
 use Rattle.tv_io.specs.Files.{Files}
 use Rattle.tv_io.specs.State.{SinkState}
 use Rattle.tv_io.specs.Taken.{IsWritten, IsCutOff}
@@ -7,7 +7,8 @@ use Rattle.proof_text.specs.declared.part.Part.{Part}
 use Rattle.proof_files.specs.Checks.{AreChecked}
 use Rattle.proof_files.specs.Laws.{verified_lines}
 use Rattle.tv_cli.specs.Words.{Text}
-use Rattle.tv_run.specs.Files.{HasParts}
+use Rattle.pair_driver.specs.declared.judged.Judged.{Judged}
+use Rattle.tv_run.specs.Files.{HasParts, WhereKnown}
 
 -- these lines say which parts of the proof file of this name are verified, and which step of each other is bad
 pub record SaysVerified (files : Files) (name : Text) (text : List ℕ) (status : ℕ) : Type 0 where
@@ -32,3 +33,11 @@ pub record LogPartlyWritten (files : Files) (name : Text) (old new : SinkState) 
   pub status : ℕ
   pub says : SaysVerified files name text status
   pub cut_off : IsCutOff text old new
+
+-- what `log` writes of the file of this name, by status; no pair is judged
+pub record IsLogged (known : Option Files) (name : Text) (result : ℕ) (answers : List Judged)
+    (old new : SinkState) : Type 0 where
+  pub whole : result ≤ 3 → WhereKnown known (λ files. LogWritten files name result old new)
+  pub part : result ≡ 7 → WhereKnown known (λ files. LogPartlyWritten files name old new)
+  pub status : result ≤ 3 → result ≤ 1
+  pub unjudged : (result ≤ 3) ⊎ (result ≡ 7) → answers ≡ []

@@ -1,5 +1,5 @@
 -- What `make` writes: the first and the last line of the report of the pair of modules that a seed makes, and between them what was made.
-use Rattle.std.specs.Prelude.{◌≡◌, ℕ, Bool, false, true, List, [], ◌∷◌, ◌++◌, codes}
+use Rattle.std.specs.Prelude.{◌≡◌, ◌≤◌, ℕ, Bool, false, true, List, [], ◌∷◌, ◌++◌, codes}
 use Rattle.std.specs.Fmt.{decimal}
 use Rattle.tv_io.specs.State.{SinkState}
 use Rattle.tv_io.specs.Taken.{IsWritten, IsCutOff}
@@ -12,6 +12,7 @@ use Rattle.pair_driver.specs.declared.judged.Judged.{Judged}
 use Rattle.report.specs.Text.{summary_text}
 use Rattle.tv_cli.specs.Words.{Make}
 use Rattle.tv_run.specs.Reports.{IsReport}
+use Rattle.tv_run.specs.Sound.{IsSound}
 
 -- the source of the pair, or its target
 abbrev pub made : (in_target : Bool) → Make → Module
@@ -26,10 +27,12 @@ pub record IsReadBack (written read : Module) : Type 0 where
 abbrev pub make_line : Make → List ℕ
 make_line m = codes "make seed " ++ decimal m.seed ++ codes " functions " ++ decimal m.functions ++ codes " insts " ++ decimal m.insts ++ 10 ∷ []
 
--- the three lines of two modules and their status, with the judge's answers
+-- the three lines of two modules and their status, with the judge's answers; the rows that are counted
+-- are sound
 pub record IsSummary (m : Make) (source target : Module) (answers : List Judged) (text : List ℕ) (status : ℕ) : Type 0 where
   pub whole : List ℕ
   pub report : IsReport m.bounds m.budget source target answers whole status
+  pub sound : IsSound m.bounds source target report.rows
   pub text_is : text ≡ summary_text m.bounds m.budget (make_line m) report.rows
 
 -- those of a made pair
@@ -52,3 +55,8 @@ pub record MadePartlyWritten (m : Make) (answers : List Judged) (old new : SinkS
   pub status : ℕ
   pub says : SaysMade m answers text status
   pub cut_off : IsCutOff text old new
+
+-- what `make` writes, by status
+pub record IsMade (m : Make) (result : ℕ) (answers : List Judged) (old new : SinkState) : Type 0 where
+  pub whole : result ≤ 3 → MadeWritten m result answers old new
+  pub part : result ≡ 7 → MadePartlyWritten m answers old new

@@ -1,7 +1,8 @@
 -- The report of two files, and its proof file.
-use Rattle.std.specs.Prelude.{◌≡◌, ℕ, All, List, Option, Some, None}
+use Rattle.std.specs.Prelude.{◌≡◌, ◌⊎◌, ℕ, Bool, All, List, map, Option, Some, None, option_map}
+use Rattle.std.specs.List.{filter_map}
 use Rattle.tv_io.specs.Files.{Files, HoldsFile}
-use Rattle.tv_io.specs.State.{SinkState}
+use Rattle.tv_io.specs.State.{ShelfState, SinkState}
 use Rattle.tv_io.specs.Taken.{IsWritten, IsCutOff}
 use Rattle.ir_tree.specs.declared.module.Module.{Module}
 use Rattle.points.specs.declared.point.Bounds.{Bounds}
@@ -13,10 +14,13 @@ use Rattle.report.specs.Rows.{AreRows}
 use Rattle.report.specs.Text.{report_text}
 use Rattle.report.specs.Status.{status_of}
 use Rattle.clause_log.specs.Refutation.{Refutes}
+use Rattle.ir_naming.specs.Naming.{name_text}
+use Rattle.proof_text.specs.declared.part.Part.{Part}
 use Rattle.proof_text.specs.Format.{IsProof}
-use Rattle.proof_files.specs.Parts.{parts_of}
+use Rattle.proof_files.specs.Parts.{decided, parts_of}
 use Rattle.tv_cli.specs.Words.{Text, Check}
 use Rattle.tv_run.specs.Files.{HasModule}
+use Rattle.tv_run.specs.Stops.{IsNotPut}
 use Rattle.module_rows.specs.Judging.{may_answer, ReportOwnAnswers}
 
 -- the rows of two modules within bounds and a budget, as a text and as a status, with the judge's own answer for each row that has a verdict
@@ -37,8 +41,17 @@ pub record Reports (files : Files) (c : Check) (answers : List Judged) (text : L
 
 -- ---- its proof file
 
+-- the name of a part's row as it is printed, and whether it is of a correct row
+abbrev pub part_heading : Part → List ℕ × Bool
+part_heading p = (p.name, p.is_correct)
+
+-- likewise of a row that is correct or incorrect
+abbrev pub row_heading : Row → Option (List ℕ × Bool)
+row_heading row = option_map (λ is_correct. (name_text row.name, is_correct)) (decided row.finding)
+
 -- a part for each correct and each incorrect row, in order, and each part's log refutes its clauses
 pub record IsProofFile (rows : List Row) (answers : List Judged) (text : List ℕ) : Type 0 where
+  pub each : map part_heading (parts_of rows answers) ≡ filter_map row_heading rows
   pub parts : IsProof text (parts_of rows answers)
   pub refute : All (λ p. Refutes p.cert.cnf.clauses p.cert.log) (parts_of rows answers)
 
@@ -68,6 +81,14 @@ pub record PartlyWritten (files : Files) (c : Check) (answers : List Judged) (af
 abbrev pub IsJudgedSo : Files → Check → List Judged → Type 0
 IsJudgedSo files c answers = (text : List ℕ) × (status : ℕ) × Reports files c answers text status
 
+-- the report was made, and not written whole: the sink had no room for it, or the proof file could not
+-- be put
+pub record IsUnfinished (files : Files) (c : Check) (answers : List Judged)
+    (shelf_old shelf_new : ShelfState) (out_old out_new : SinkState) : Type 0 where
+  pub judged : IsJudgedSo files c answers
+  pub stopped : PartlyWritten files c answers shelf_new.files out_old out_new
+      ⊎ IsNotPut c.proof shelf_old shelf_new out_old out_new
+
 -- ---- without a limit on conflicts
 
 -- the rows that the definition of a verdict gives two modules, as a text and as a status
@@ -76,3 +97,24 @@ pub record IsDefinedReport (bounds : Bounds) (budget : Budget) (source target : 
   pub are_rows : AreRows (λ pair v. IsVerdict pair bounds budget v) bounds source target rows
   pub text_is : text ≡ report_text bounds budget rows
   pub status_is : status ≡ status_of rows
+
+-- those of the modules of the two files that a check names
+pub record HasDefinedReport (files : Files) (c : Check) (text : List ℕ) (status : ℕ) : Type 0 where
+  pub source : Module
+  pub target : Module
+  pub source_is : HasModule (files c.source) source
+  pub target_is : HasModule (files c.target) target
+  pub is : IsDefinedReport c.bounds c.budget source target text status
+
+-- and the files have no others
+pub record IsTheDefinedReport (files : Files) (c : Check) (text : List ℕ) (status : ℕ) : Type 0 where
+  pub defined : HasDefinedReport files c text status
+  pub only : (other : List ℕ) (other_status : ℕ) → HasDefinedReport files c other other_status
+      → (other ≡ text) × (other_status ≡ status)
+
+-- the sink took exactly that text
+pub record WritesDefinedReport (files : Files) (c : Check) (status : ℕ) (old new : SinkState)
+    : Type 0 where
+  pub text : List ℕ
+  pub report : IsTheDefinedReport files c text status
+  pub written : IsWritten text old new

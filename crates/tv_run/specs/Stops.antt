@@ -1,5 +1,5 @@
 -- Why there is no report, or no check of a proof file, which status says so, and which line.
-use Rattle.std.specs.Prelude.{◌≡◌, ◌⊎◌, ℕ, true, ◌+◌, List, [], ◌∷◌, ◌++◌, codes, Option, Some, None}
+use Rattle.std.specs.Prelude.{◌≡◌, ◌≢◌, ◌≤◌, ◌⊎◌, ℕ, true, ◌+◌, List, [], ◌∷◌, ◌++◌, codes, Option, Some, None}
 use Rattle.std.specs.Fmt.{decimal}
 use Rattle.text_places.specs.declared.place.Place.{Place}
 use Rattle.tv_io.specs.Count.{Rose, RoseBy}
@@ -152,3 +152,20 @@ pub record IsNotPut (asked : Option Text) (shelf_old shelf_new : ShelfState) (ou
 abbrev pub IsUnwritten : Option Job → (shelf_old shelf_new : ShelfState) (out_old out_new : SinkState) → Type 0
 IsUnwritten (Some (check c)) shelf_old shelf_new out_old out_new = Rose out_old.faults out_new.faults ⊎ IsNotPut c.proof shelf_old shelf_new out_old out_new
 IsUnwritten _ shelf_old shelf_new out_old out_new = Rose out_old.faults out_new.faults
+
+-- ---- command lines
+
+-- the arguments are rejected: where they ask for no job, and only there, unless memory runs out
+pub record RejectsWords (command : Option Job) (result : ℕ) (old new : SinkState) : Type 0 where
+  pub no_job : result ≡ 4 → command ≡ None
+  pub all : command ≡ None → (result ≡ 4) ⊎ (result ≡ 8)
+  pub line : result ≡ 4 → WritesLine (codes "words refused" ++ 10 ∷ []) old new
+
+-- ---- counts
+
+-- no failure is counted but the one that the status reports
+pub record CountsNoOther (result : ℕ) (shelf_old shelf_new : ShelfState) (out_old out_new : SinkState)
+    : Type 0 where
+  pub fetches : result ≢ 5 → shelf_new.fetch_faults ≡ shelf_old.fetch_faults
+  pub puts : result ≢ 7 → shelf_new.put_faults ≡ shelf_old.put_faults
+  pub writes : result ≤ 3 → out_new.faults ≡ out_old.faults

@@ -1,4 +1,5 @@
-ghost use Rattle.std.specs.Prelude.{◌≡◌, ◌+◌, ◌*◌, ◌^◌, ◌<◌, ◌≤◌, All, length, IfOk, IfErr, OnOk, option_map};
+ghost use Rattle.std.specs.Prelude.{◌≡◌, ◌+◌, ◌*◌, ◌^◌, ◌<◌, ◌≤◌, All, length, map, IfOk, IfErr, OnOk, option_map};
+ghost use Rattle.std.specs.List.{filter_map};
 ghost use Rattle.tv_io.specs.State.{ShelfState};
 ghost use Rattle.ir_tree.specs.declared.module.Module.{Module};
 ghost use Rattle.ir_reader.specs.Module.{IsModule};
@@ -6,6 +7,7 @@ ghost use Rattle.points.specs.Range.{AreInRange};
 ghost use Rattle.proof_files.specs.Parts.{IsCertified, IsReadName, parts_of};
 ghost use Rattle.tv_cli.specs.Seen.{seen_check};
 ghost use Rattle.tv_run.specs.Files.{WhereKnown};
+ghost use Rattle.tv_run.specs.Reports.{part_heading, row_heading};
 ghost use Rattle.tv_run.specs.Stops.{HasCause};
 ghost use Rattle.tv_run.specs.Answers.{CountsStop, HasReport, IsProofAsked, IsReportOf, IsJudgeableModule, IsUnread};
 
@@ -125,6 +127,7 @@ fn proof_asked(
 ) -> Result<Option<Vec<u8>>, NoMemory>
     requires names { All (λ row. IsReadName row.name) rows.now }
     requires certified { All IsCertified (parts_of rows.now answers.now) }
+    requires each { map part_heading (parts_of rows.now answers.now) ≡ filter_map row_heading rows.now }
     ensures { IfOk result (IsProofAsked (option_map (λ name. name.now) asked.entry) rows.now answers.now) }
 {
     if asked.is_none() {

@@ -1,7 +1,8 @@
-ghost use Rattle.std.specs.Prelude.{◌≤◌, IfOk};
+ghost use Rattle.std.specs.Prelude.{◌≡◌, ◌≤◌, IfOk};
 ghost use Rattle.tv_io.specs.MemoryShelf.{files_of};
 ghost use Rattle.tv_run.specs.Answers.{FitsIn};
 ghost use Rattle.tv_run.specs.Jobs.{OfCheck, job_in};
+ghost use Rattle.tv_run.specs.Reports.{IsTheDefinedReport};
 ghost use Rattle.tv_run.specs.Sound.{SaysRefinement};
 
 use crate::top::run;
@@ -28,6 +29,10 @@ pub fn run_in_memory<R: AllocGlobal + Threads + Sync>(
 ) -> Result<Checked, NoMemory>
     ensures sound { IfOk result (λ checked. checked.status ≤ 3
         → OfCheck (job_in arguments.now) (λ c. SaysRefinement (files_of files) c checked.written.items checked.status)) }
+    // Without a limit on conflicts it is the defined report, the only one.
+    ensures defined { IfOk result (λ checked. checked.status ≤ 3
+        → OfCheck (job_in arguments.now) (λ c. c.budget.conflicts ≡ 0
+        → IsTheDefinedReport (files_of files) c checked.written.items checked.status)) }
     // Two files that are modules are judged, where the report fits.
     ensures complete { IfOk result (λ checked. FitsIn room (files_of files) (job_in arguments.now)
         → checked.status ≤ 3) }

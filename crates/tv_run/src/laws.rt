@@ -1,12 +1,13 @@
-ghost use Rattle.tv_run.specs.Laws.{ReportsAreSound, ReportsAreDefined, ReportsAreOne, FaultsAreOne, ModulesHaveNoFault, PutProofsAreVerified};
+ghost use Rattle.tv_run.specs.Laws.{FaultsAreOne, FileReportsAreDefined, FileReportsAreSound, ModulesHaveNoFault, PutProofsAreVerified, ReportsAreDefined, ReportsAreOne, ReportsAreSound};
 
 use ir_reader::is_one_module;
 use proof_files::texts_are_verified;
 use report::rows_are_one;
 use verdicts::{correct_holds, incorrect_fails};
 
-/// What a report says of two files holds: a correct row means refinement on every input within the
-/// bounds, an incorrect row has a counterexample, and each pair of functions has its row.
+/// What a report says of two modules holds: a correct row means refinement on every input within the
+/// bounds, an incorrect row has a counterexample, each pair of functions has its row, and with status 0
+/// each function of either module is refined.
 pub fn reports_are_sound()
     ensures { ReportsAreSound }
 {
@@ -14,12 +15,28 @@ pub fn reports_are_sound()
     incorrect_fails();
 }
 
+/// So does what a report says of two files.
+pub fn file_reports_are_sound()
+    ensures { FileReportsAreSound }
+{
+    reports_are_sound();
+}
+
 /// Without a limit on conflicts the report is the one that the definition of a verdict gives.
 pub fn reports_are_defined()
     ensures { ReportsAreDefined }
 {}
 
-/// And two files have one report then, as a file has one module and a pair one verdict.
+/// So is the report of two files, which have no other, as a file has one module and a pair one verdict.
+pub fn file_reports_are_defined()
+    ensures { FileReportsAreDefined }
+{
+    is_one_module();
+    rows_are_one();
+}
+
+/// Two checks of equal files within the same bounds and budget have one report then, for every number
+/// of workers.
 pub fn reports_are_one()
     ensures { ReportsAreOne }
 {

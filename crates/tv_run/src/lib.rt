@@ -4,9 +4,11 @@
 //!
 //! It promises that the report is sound (`sound`, the first clause of `run`): a row `correct` means that
 //! the target's function refines the source's on every input within the bounds, a row `incorrect` gives
-//! a counterexample, and each pair of functions has its row. The proof file has a part for each correct
-//! and each incorrect row, whose log refutes its clauses, and `log` says `verified` exactly of such parts,
-//! so of all parts of such a file (`put_proofs_are_verified`).
+//! a counterexample, and each pair of functions has its row; that status 0 means this refinement of each
+//! function of both files (`zero`); and that without a limit on conflicts the output is the one defined
+//! report (`defined`). The proof file has a part for each correct and each incorrect row, whose log
+//! refutes its clauses, and `log` says `verified` exactly of such parts, so of all parts of such a file
+//! (`put_proofs_are_verified`).
 //! Each other status has its cause. A function that can't be judged is a row of the report like any
 //! other. It uses the command line, the reader, `module_rows`, the report, `proof_files` and `tv_io`; the
 //! program `tv` is `run` over the system's files and output.
@@ -24,7 +26,7 @@ mod top;
 
 pub use in_memory::{Checked, run_in_memory};
 pub use laws::{
-    faults_are_one, modules_have_no_fault, put_proofs_are_verified, reports_are_defined,
-    reports_are_one, reports_are_sound,
+    faults_are_one, file_reports_are_defined, file_reports_are_sound, modules_have_no_fault,
+    put_proofs_are_verified, reports_are_defined, reports_are_one, reports_are_sound,
 };
 pub use top::run;

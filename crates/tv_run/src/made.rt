@@ -7,6 +7,7 @@ ghost use Rattle.tv_cli.specs.Seen.{seen_make};
 ghost use Rattle.tv_run.specs.Answers.{IsJudgeableModule};
 ghost use Rattle.tv_run.specs.Makes.{IsReadBack, IsSummary, SaysMade, make_line as line_of_make};
 
+use crate::laws::reports_are_sound;
 use crate::stop::LoadFault;
 use crate::texts::module_of;
 use ir_printer::{make, print};
@@ -104,6 +105,8 @@ fn made_of_modules<G: Gate, R: Threads + Sync>(
     requires target_is { IsJudgeableModule target.now }
     ensures { IfOk result (λ made. IsSummary (seen_make job.now) source.now target.now made.answers.items made.text.items made.status) }
 {
+    // The law that the rows are sound; it does nothing.
+    reports_are_sound();
     let judge = Real {
         bounds: job.bounds,
         budget: job.budget,

@@ -1,22 +1,21 @@
-ghost use Rattle.std.specs.Prelude.{◌≡◌, ◌≢◌, ◌≤◌, ◌<◌, ◌^◌, ◌⊎◌, ◌++◌, ◌∷◌, [], None, Some, codes, IfOk, OnErr, option_map};
+ghost use Rattle.std.specs.Prelude.{◌≡◌, ◌≢◌, ◌≤◌, ◌<◌, ◌^◌, ◌⊎◌, ◌++◌, ◌∷◌, [], Some, codes, IfOk, OnErr, option_map};
 ghost use Rattle.points.specs.Range.{AreInRange};
 ghost use Rattle.tv_io.specs.Count.{Rose};
 ghost use Rattle.tv_io.specs.Files.{SameFiles};
 ghost use Rattle.tv_io.specs.State.{ShelfState, SinkState};
-ghost use Rattle.tv_io.specs.Taken.{IsWritten, IsCutOff};
 ghost use Rattle.tv_cli.specs.Seen.{seen_check, seen_make};
 ghost use Rattle.tv_cli.specs.Words.Job.{check as check_job, log as log_job};
-ghost use Rattle.tv_run.specs.Jobs.{FileChanges, OfLog, OfMake, ProofChanges, WhereChecked, WhereLogged, job_in};
+ghost use Rattle.tv_run.specs.Jobs.{ChangesOnlyProof, OfLog, OfMake, ProofChanges, WhereChecked, job_in};
 ghost use Rattle.tv_run.specs.Files.{WhereKnown};
-ghost use Rattle.tv_run.specs.Sound.{MeansRefinement};
-ghost use Rattle.tv_run.specs.Reports.{IsJudgedSo, PartlyWritten, Written};
-ghost use Rattle.tv_run.specs.Logs.{LogPartlyWritten, LogWritten};
-ghost use Rattle.tv_run.specs.Makes.{MadePartlyWritten, MadeWritten};
-ghost use Rattle.tv_run.specs.Stops.{IsNotPut, IsUnwritten, Refuses, RefusesJob, RefusesLog, Says, WritesLine, log_trouble_line, log_trouble_status, stop_status, trouble_line, trouble_status};
-ghost use Rattle.tv_run.specs.Answers.{AreModules, AreParts, IsDelivered, IsSent};
+ghost use Rattle.tv_run.specs.Sound.{FilesRefine, WritesSound};
+ghost use Rattle.tv_run.specs.Reports.{IsUnfinished, WritesDefinedReport, Written};
+ghost use Rattle.tv_run.specs.Logs.{IsLogged};
+ghost use Rattle.tv_run.specs.Makes.{IsMade};
+ghost use Rattle.tv_run.specs.Stops.{CountsNoOther, IsNotPut, IsUnwritten, Refuses, RefusesJob, RefusesLog, RejectsWords, Says, WritesLine, log_trouble_line, log_trouble_status, stop_status, trouble_line, trouble_status};
+ghost use Rattle.tv_run.specs.Answers.{AreModules, AreParts, Completes, IsDelivered, IsSent};
 
 use crate::check::{Report, report_of};
-use crate::laws::{modules_have_no_fault, reports_are_sound};
+use crate::laws::{file_reports_are_defined, file_reports_are_sound, modules_have_no_fault};
 use crate::lines::{why_words, write_fault, write_line_fault};
 use crate::log::check_file;
 use crate::made::made_of;
@@ -65,63 +64,65 @@ pub fn run<R: AllocGlobal + Threads + Sync, S: Shelf, K: Sink, G: Gate>(
     gate: &G,
     judged: &mut Vec<Judged>,
 ) -> u8
-    // The report is sound: `correct` means that the target refines the source on every input within
-    // the bounds, `incorrect` gives a counterexample, and no pair of functions is left out.
-    ensures sound { result ≤ 3 → WhereChecked (S.state shelf.old).files (job_in arguments.now)
-        (λ files c. MeansRefinement files c result (K.state out.old) (K.state out.new)) }
+    // What is written of a check says how functions refine: `correct` means that on every input within
+    // the bounds each run of the target is allowed by a run of the source, `incorrect` gives a
+    // counterexample, and each pair of functions has its row. So does a report that is cut off.
+    ensures sound { WhereChecked (S.state shelf.old).files (job_in arguments.now)
+        (λ files c. WritesSound files c result
+        (S.state shelf.old) (S.state shelf.new) (K.state out.old) (K.state out.new)) }
+    // Status 0 of a check means that each function of either file has its partner in the other, and the
+    // target's refines the source's.
+    ensures zero { result ≡ 0 → WhereChecked (S.state shelf.old).files (job_in arguments.now)
+        FilesRefine }
     // It is the report of the two files, each row the defined one, but `unknown conflicts` where the
     // limit was spent on the row's own answer in `judged`. The proof file that is asked for was put.
     ensures report { result ≤ 3 → WhereChecked (S.state shelf.old).files (job_in arguments.now)
-        (λ files c. Written files c result judged.new.items (S.state shelf.new).files (K.state out.old) (K.state out.new)) }
-    // A proof file is checked: a part is verified exactly where its log refutes its clauses.
-    ensures logged { result ≤ 3 → WhereLogged (S.state shelf.old).files (job_in arguments.now)
-        (λ files name. LogWritten files name result (K.state out.old) (K.state out.new)) }
-    ensures logged_status { result ≤ 3 → OfLog (job_in arguments.now) (λ name. result ≤ 1) }
-    // The arguments ask for no job, and exactly then, unless memory runs out.
-    ensures words { result ≡ 4 → job_in arguments.now ≡ None }
-    ensures no_job { job_in arguments.now ≡ None → (result ≡ 4) ⊎ (result ≡ 8) }
-    ensures words_line { result ≡ 4 → WritesLine (codes "words refused" ++ 10 ∷ []) (K.state out.old) (K.state out.new) }
-    // The sink failed at the report or at the lines of a proof file, or the proof file that is asked for
-    // could not be put: that failure was counted, and its line was written, and nothing of the report.
-    ensures unwritten { result ≡ 7 → IsUnwritten (job_in arguments.now)
-        (S.state shelf.old) (S.state shelf.new) (K.state out.old) (K.state out.new) }
+        (λ files c. Written files c result judged.new.items
+        (S.state shelf.new).files (K.state out.old) (K.state out.new)) }
+    // Without a limit on conflicts the output is the text that `specs/` define for the two files, and
+    // the status is its own; the files have no other.
+    ensures defined { result ≤ 3 → WhereChecked (S.state shelf.old).files (job_in arguments.now)
+        (λ files c. c.budget.conflicts ≡ 0
+        → WritesDefinedReport files c result (K.state out.old) (K.state out.new)) }
+    // After status 7 of a check the sink took a prefix of the report, or the proof file could not be put
+    // and nothing of the report was written; `judged` has the answers of the report.
     ensures part { result ≡ 7 → WhereChecked (S.state shelf.old).files (job_in arguments.now)
-        (λ files c. PartlyWritten files c judged.new.items (S.state shelf.new).files (K.state out.old) (K.state out.new)
-        ⊎ IsNotPut c.proof (S.state shelf.old) (S.state shelf.new) (K.state out.old) (K.state out.new)) }
-    ensures answers { result ≡ 7 → WhereChecked (S.state shelf.old).files (job_in arguments.now)
-        (λ files c. IsJudgedSo files c judged.new.items) }
-    ensures logged_part { result ≡ 7 → WhereLogged (S.state shelf.old).files (job_in arguments.now)
-        (λ files name. LogPartlyWritten files name (K.state out.old) (K.state out.new)) }
-    // A pair of modules that was made, printed and read back: the counts of its report's rows.
-    ensures made { result ≤ 3 → OfMake (job_in arguments.now)
-        (λ m. MadeWritten m result judged.new.items (K.state out.old) (K.state out.new)) }
-    ensures made_part { result ≡ 7 → OfMake (job_in arguments.now)
-        (λ m. MadePartlyWritten m judged.new.items (K.state out.old) (K.state out.new)) }
-    // Without a report the earlier answers stay, and a proof file that is checked has none.
-    ensures unjudged { 3 < result → result ≢ 7 → judged.new.items ≡ judged.old.items }
-    ensures none_judged { (result ≤ 3) ⊎ (result ≡ 7) → OfLog (job_in arguments.now) (λ name. judged.new.items ≡ []) }
+        (λ files c. IsUnfinished files c judged.new.items
+        (S.state shelf.old) (S.state shelf.new) (K.state out.old) (K.state out.new)) }
+    // A proof file is checked: a part is verified exactly where its log refutes its clauses. The status
+    // is 0 or 1, or 7 where the sink took a prefix.
+    ensures logged { OfLog (job_in arguments.now)
+        (λ name. IsLogged (S.state shelf.old).files name result judged.new.items
+        (K.state out.old) (K.state out.new)) }
+    // A pair of modules was made, printed, read back and judged: the counts of its rows, which are
+    // sound, or with status 7 a prefix.
+    ensures made { OfMake (job_in arguments.now)
+        (λ m. IsMade m result judged.new.items (K.state out.old) (K.state out.new)) }
+    // Status 4: the arguments ask for no job, and exactly then, unless memory runs out; with its line.
+    ensures words { RejectsWords (job_in arguments.now) result (K.state out.old) (K.state out.new) }
     // A file was not judged, or not checked: 5 it can't be read, 6 it is too long, 9 it is no module, or
-    // no proof file.
+    // no proof file; with its line.
     ensures refused { 4 < result → result ≢ 7 → result ≢ 8 → RefusesJob (job_in arguments.now)
         (S.state shelf.old) (S.state shelf.new) (K.state out.old) (K.state out.new) result }
-    // Memory ran out, and nothing was written.
+    // Status 7 comes only after a write that failed and was counted: the sink's, or the put of the proof
+    // file, whose line was written then, and nothing of the report.
+    ensures unwritten { result ≡ 7 → IsUnwritten (job_in arguments.now)
+        (S.state shelf.old) (S.state shelf.new) (K.state out.old) (K.state out.new) }
+    // Status 8: memory ran out, and nothing was written.
     ensures memory { result ≡ 8 → K.state out.new ≡ K.state out.old }
-    // Two files that are modules are judged, and a proof file is checked, unless a read or a write fails,
-    // or memory runs out.
-    ensures complete { AreModules (S.state shelf.old).files (job_in arguments.now)
-        → (result ≤ 3) ⊎ (result ≡ 5) ⊎ (result ≡ 7) ⊎ (result ≡ 8) }
-    ensures complete_log { AreParts (S.state shelf.old).files (job_in arguments.now)
-        → (result ≤ 1) ⊎ (result ≡ 5) ⊎ (result ≡ 7) ⊎ (result ≡ 8) }
-    ensures complete_make { OfMake (job_in arguments.now) (λ m. (result ≤ 3) ⊎ (result ≡ 7) ⊎ (result ≡ 8)) }
-    // No other failure is counted.
-    ensures quiet_shelf { result ≢ 5 → (S.state shelf.new).fetch_faults ≡ (S.state shelf.old).fetch_faults }
-    ensures quiet_puts { result ≢ 7 → (S.state shelf.new).put_faults ≡ (S.state shelf.old).put_faults }
-    ensures quiet_sink { result ≤ 3 → (K.state out.new).faults ≡ (K.state out.old).faults }
-    // There is no other status. No file changes but the one that `--proof` names, and none where
-    // there is no report.
+    // Without a report the earlier answers stay.
+    ensures unjudged { 3 < result → result ≢ 7 → judged.new.items ≡ judged.old.items }
+    // Two files that are modules are judged, a proof file is checked, and a pair is made and judged,
+    // unless a read or a write fails, or memory runs out.
+    ensures complete { Completes (S.state shelf.old).files (job_in arguments.now) result }
+    // No failure of a read or a write is counted but the one that the status reports.
+    ensures quiet { CountsNoOther result
+        (S.state shelf.old) (S.state shelf.new) (K.state out.old) (K.state out.new) }
+    // No file changes but the one that `--proof` names, and none where there is no report.
+    ensures files { ChangesOnlyProof (job_in arguments.now) result
+        (S.state shelf.old).files (S.state shelf.new).files }
+    // There is no other status.
     ensures known { result ≤ 9 }
-    ensures files { FileChanges (job_in arguments.now) (S.state shelf.old).files (S.state shelf.new).files }
-    ensures same { 3 < result → result ≢ 7 → SameFiles (S.state shelf.old).files (S.state shelf.new).files }
 {
     match read_job(rt.alloc(), arguments) {
         Ok(Some(Job::Check(check))) => run_check(rt, &check, shelf, out, gate, judged),
@@ -143,31 +144,40 @@ fn run_check<R: AllocGlobal + Threads + Sync, S: Shelf, K: Sink, G: Gate>(
 ) -> u8
     requires in_range { AreInRange check.now.bounds check.now.budget }
     requires workers { (1 ≤ check.now.workers) × (check.now.workers ≤ 64) }
-    ensures sound { result ≤ 3 → WhereKnown (S.state shelf.old).files
-        (λ files. MeansRefinement files (seen_check check.now) result (K.state out.old) (K.state out.new)) }
+    ensures sound { WhereKnown (S.state shelf.old).files
+        (λ files. WritesSound files (seen_check check.now) result
+        (S.state shelf.old) (S.state shelf.new) (K.state out.old) (K.state out.new)) }
+    ensures zero { result ≡ 0 → WhereKnown (S.state shelf.old).files
+        (λ files. FilesRefine files (seen_check check.now)) }
     ensures report { result ≤ 3 → WhereKnown (S.state shelf.old).files
-        (λ files. Written files (seen_check check.now) result judged.new.items (S.state shelf.new).files (K.state out.old) (K.state out.new)) }
-    ensures unwritten { result ≡ 7 → Rose (K.state out.old).faults (K.state out.new).faults
-        ⊎ IsNotPut (seen_check check.now).proof (S.state shelf.old) (S.state shelf.new) (K.state out.old) (K.state out.new) }
+        (λ files. Written files (seen_check check.now) result judged.new.items
+        (S.state shelf.new).files (K.state out.old) (K.state out.new)) }
+    ensures defined { result ≤ 3 → WhereKnown (S.state shelf.old).files
+        (λ files. check.now.budget.conflicts ≡ 0
+        → WritesDefinedReport files (seen_check check.now) result (K.state out.old) (K.state out.new)) }
     ensures part { result ≡ 7 → WhereKnown (S.state shelf.old).files
-        (λ files. PartlyWritten files (seen_check check.now) judged.new.items (S.state shelf.new).files (K.state out.old) (K.state out.new)
-        ⊎ IsNotPut (seen_check check.now).proof (S.state shelf.old) (S.state shelf.new) (K.state out.old) (K.state out.new)) }
-    ensures answers { result ≡ 7 → WhereKnown (S.state shelf.old).files (λ files. IsJudgedSo files (seen_check check.now) judged.new.items) }
-    ensures unjudged { 3 < result → result ≢ 7 → judged.new.items ≡ judged.old.items }
+        (λ files. IsUnfinished files (seen_check check.now) judged.new.items
+        (S.state shelf.old) (S.state shelf.new) (K.state out.old) (K.state out.new)) }
     ensures refused { 4 < result → result ≢ 7 → result ≢ 8 → Refuses (seen_check check.now)
         (S.state shelf.old) (S.state shelf.new) (K.state out.old) (K.state out.new) result }
+    ensures unwritten { result ≡ 7 → Rose (K.state out.old).faults (K.state out.new).faults
+        ⊎ IsNotPut (seen_check check.now).proof
+        (S.state shelf.old) (S.state shelf.new) (K.state out.old) (K.state out.new) }
     ensures memory { result ≡ 8 → K.state out.new ≡ K.state out.old }
+    ensures unjudged { 3 < result → result ≢ 7 → judged.new.items ≡ judged.old.items }
     ensures complete { AreModules (S.state shelf.old).files (Some (check_job (seen_check check.now)))
         → (result ≤ 3) ⊎ (result ≡ 5) ⊎ (result ≡ 7) ⊎ (result ≡ 8) }
-    ensures quiet_shelf { result ≢ 5 → (S.state shelf.new).fetch_faults ≡ (S.state shelf.old).fetch_faults }
-    ensures quiet_puts { result ≢ 7 → (S.state shelf.new).put_faults ≡ (S.state shelf.old).put_faults }
-    ensures quiet_sink { result ≤ 3 → (K.state out.new).faults ≡ (K.state out.old).faults }
+    ensures quiet { CountsNoOther result
+        (S.state shelf.old) (S.state shelf.new) (K.state out.old) (K.state out.new) }
     ensures known { (result ≤ 9) × (result ≢ 4) }
-    ensures files { ProofChanges (seen_check check.now).proof (S.state shelf.old).files (S.state shelf.new).files }
-    ensures same { 3 < result → result ≢ 7 → SameFiles (S.state shelf.old).files (S.state shelf.new).files }
+    ensures files { ProofChanges (seen_check check.now).proof
+        (S.state shelf.old).files (S.state shelf.new).files }
+    ensures same { 3 < result → result ≢ 7
+        → SameFiles (S.state shelf.old).files (S.state shelf.new).files }
 {
-    // The laws that `sound` and `complete` rest on; they do nothing.
-    reports_are_sound();
+    // The laws that `sound`, `defined` and `complete` rest on; they do nothing.
+    file_reports_are_sound();
+    file_reports_are_defined();
     modules_have_no_fault();
     match report_of(rt, rt.alloc(), shelf, gate, check) {
         Ok(report) => {
@@ -223,21 +233,17 @@ fn run_log<R: AllocGlobal + Threads + Sync, S: Shelf, K: Sink>(
     out: &mut K,
     judged: &mut Vec<Judged>,
 ) -> u8
-    ensures logged { result ≤ 3 → WhereKnown (S.state shelf.old).files
-        (λ files. LogWritten files name.now result (K.state out.old) (K.state out.new)) }
-    ensures logged_part { result ≡ 7 → WhereKnown (S.state shelf.old).files
-        (λ files. LogPartlyWritten files name.now (K.state out.old) (K.state out.new)) }
-    ensures unwritten { result ≡ 7 → Rose (K.state out.old).faults (K.state out.new).faults }
-    ensures unjudged { 3 < result → result ≢ 7 → judged.new.items ≡ judged.old.items }
-    ensures none_judged { (result ≤ 3) ⊎ (result ≡ 7) → judged.new.items ≡ [] }
+    ensures logged { IsLogged (S.state shelf.old).files name.now result judged.new.items
+        (K.state out.old) (K.state out.new) }
     ensures refused { 4 < result → result ≢ 7 → result ≢ 8 → RefusesLog name.now
         (S.state shelf.old) (S.state shelf.new) (K.state out.old) (K.state out.new) result }
+    ensures unwritten { result ≡ 7 → Rose (K.state out.old).faults (K.state out.new).faults }
     ensures memory { result ≡ 8 → K.state out.new ≡ K.state out.old }
+    ensures unjudged { 3 < result → result ≢ 7 → judged.new.items ≡ judged.old.items }
     ensures complete { AreParts (S.state shelf.old).files (Some (log_job name.now))
         → (result ≤ 1) ⊎ (result ≡ 5) ⊎ (result ≡ 7) ⊎ (result ≡ 8) }
-    ensures quiet_shelf { result ≢ 5 → (S.state shelf.new).fetch_faults ≡ (S.state shelf.old).fetch_faults }
-    ensures quiet_puts { (S.state shelf.new).put_faults ≡ (S.state shelf.old).put_faults }
-    ensures quiet_sink { result ≤ 3 → (K.state out.new).faults ≡ (K.state out.old).faults }
+    ensures quiet { CountsNoOther result
+        (S.state shelf.old) (S.state shelf.new) (K.state out.old) (K.state out.new) }
     ensures known { (result ≤ 1) ⊎ ((4 < result) × (result ≤ 9)) }
     ensures same { (S.state shelf.new).files ≡ (S.state shelf.old).files }
 {
@@ -263,8 +269,8 @@ fn run_make<R: AllocGlobal + Threads + Sync, K: Sink, G: Gate>(
     requires sizes { (job.now.functions ≤ 4096) × (job.now.insts ≤ 64) }
     requires in_range { AreInRange job.now.bounds job.now.budget }
     requires workers { (1 ≤ job.now.workers) × (job.now.workers ≤ 64) }
-    ensures made { result ≤ 3 → MadeWritten (seen_make job.now) result judged.new.items (K.state out.old) (K.state out.new) }
-    ensures made_part { result ≡ 7 → MadePartlyWritten (seen_make job.now) judged.new.items (K.state out.old) (K.state out.new) }
+    ensures made { IsMade (seen_make job.now) result judged.new.items
+        (K.state out.old) (K.state out.new) }
     ensures unwritten { result ≡ 7 → Rose (K.state out.old).faults (K.state out.new).faults }
     ensures unjudged { 3 < result → result ≢ 7 → judged.new.items ≡ judged.old.items }
     ensures memory { result ≡ 8 → K.state out.new ≡ K.state out.old }

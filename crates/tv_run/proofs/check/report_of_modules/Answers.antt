@@ -1,4 +1,5 @@
-use Rattle.std.proofs.Common.{All, List, ap, subst, sym, ◌∙◌}
+use Rattle.std.proofs.Common.{◌≡◌, All, List, map, ap, subst, sym, ◌∙◌}
+use Rattle.std.specs.List.{filter_map}
 use Rattle.pair_driver.specs.declared.judged.Judged.{Judged}
 use Rattle.report.specs.declared.row.Row.{Row}
 use Rattle.report.specs.Text.{report_text}
@@ -6,9 +7,10 @@ use Rattle.report.specs.Status.{status_of}
 use Rattle.proof_files.specs.Parts.{IsCertified, IsReadName, parts_of}
 use Rattle.tv_cli.specs.Seen.{seen_check}
 use Rattle.tv_run.specs.Answers.{IsProofAsked}
+use Rattle.tv_run.specs.Reports.{part_heading, row_heading}
 use Rattle.module_rows.specs.Judging.{may_answer}
 use Rattle.module_rows.proofs.Answered.{verdicts_with_extra}
-use Rattle.tv_run.proofs.Certified.{rows_certified, rows_named}
+use Rattle.tv_run.proofs.Certified.{rows_certified, rows_headed, rows_named}
 use Rattle.module_rows.proofs.OwnAnswers.{rows_have_answers}
 use Rattle.tv_run.proofs.check.report_of_modules.Goals as goal
 
@@ -22,6 +24,12 @@ proof_asked-requires-clause-certified g c =
     subst (λ (rows : List Row). All IsCertified (parts_of rows c.as_slice-2.result.now)) (sym c.as_slice.ensures.value)
     (subst (λ (answers : List Judged). All IsCertified (parts_of c.in_ok-rows.field-0.rows.items answers)) (sym c.as_slice-2.ensures.value)
     (rows_certified _ _ _ c.in_ok-rows.field-0.rows.items c.in_ok-rows.field-0.answers.items c.in_ok-rows.ensures.answered c.in_ok-rows.ensures.reported))
+
+pub proof_asked-requires-clause-each : goal.proof_asked-requires-clause-each
+proof_asked-requires-clause-each g c =
+    subst (λ (rows : List Row). map part_heading (parts_of rows c.as_slice-2.result.now) ≡ filter_map row_heading rows) (sym c.as_slice.ensures.value)
+    (subst (λ (answers : List Judged). map part_heading (parts_of c.in_ok-rows.field-0.rows.items answers) ≡ filter_map row_heading c.in_ok-rows.field-0.rows.items) (sym c.as_slice-2.ensures.value)
+    (rows_headed _ _ _ c.in_ok-rows.field-0.rows.items c.in_ok-rows.field-0.answers.items c.in_ok-rows.ensures.answered c.in_ok-rows.ensures.reported))
 
 pub returns : goal.returns
 returns g c = record {
