@@ -668,6 +668,50 @@ def put_in_a_closed_folder(bench):
         os.chmod(bench.folder, 0o755)
 
 
+# Modules at the limits of their size.
+
+MOST_INSTRUCTIONS = 65536
+NO_ROWS = "correct 0 incorrect 0 unknown 0 refused 0 signature 0 missing 0 extra 0\n"
+
+
+def chain(instructions):
+    """A function of this number of instructions, each over the one before."""
+    last = instructions - 2
+    lines = [f"  %r{number} = xor i1 %r{number - 1}, false\n" for number in range(1, last + 1)]
+    head = "define i1 @f(i1 %x) {\n  %r0 = xor i1 %x, false\n"
+    return f"{head}{''.join(lines)}  ret i1 %r{last}\n}}\n"
+
+
+def answered(bench, *args):
+    """Status and output of a run of tv."""
+    done = subprocess.run([bench.variables["TV"], *args], cwd=bench.folder, text=True,
+                          capture_output=True, timeout=300)
+    return done.returncode, done.stdout
+
+
+def longest_function(bench):
+    bench.write("A", chain(MOST_INSTRUCTIONS))
+    bench.write("longer", chain(MOST_INSTRUCTIONS + 1))
+    for source, weight, status, row in (
+            ("A", 131072, 0, "correct"), ("A", 131071, 2, "unknown weight"),
+            ("longer", 131072, 3, "refused source Limit 65538:3")):
+        found = answered(bench, "check", source, "A", "--turns", "0", "--weight", str(weight))
+        kind = row.split()[0]
+        wanted = (f"tv 1 turns 0 blocks 2 bytes 8 rounds 64 conflicts 0 weight {weight}\n@f {row}\n"
+                  + NO_ROWS.replace(f"{kind} 0", f"{kind} 1", 1))
+        equal(found, (status, wanted), f"answer for {source} at {weight}")
+
+
+def most_functions(bench):
+    wanted = ("tv 1 turns 4 blocks 2 bytes 8 rounds 64 conflicts 0 weight 100000\n"
+              "make seed 1 functions 4096 insts 1\n"
+              + NO_ROWS.replace("correct 0 incorrect 0", "correct 4013 incorrect 83"))
+    for workers in ("1", "64"):
+        found = answered(bench, "make", "--seed", "1", "--functions", "4096", "--insts", "1",
+                         "--workers", workers)
+        equal(found, (1, wanted), f"answer of {workers} workers")
+
+
 EVERY = [opt_output_is_passed_on, opt_gate, opt_changed_names, opt_steps, tree_totals,
          vacuous_rows, pages]
 FAKE_ONLY = [help_is_one_screen, opt_reads_standard_input, opt_failure_is_passed_on, opt_not_text,
@@ -677,6 +721,7 @@ FAKE_ONLY = [help_is_one_screen, opt_reads_standard_input, opt_failure_is_passed
 PUTS = [put_beside_a_file, put_beside_no_file, put_with_all_names_taken, put_to_a_pipe,
         put_to_a_device, put_through_a_link, put_keeps_permissions, put_leaves_hard_links,
         put_to_the_longest_name, put_in_a_closed_folder]
+LARGE = [longest_function, most_functions]
 LLVM = [llvm_tree, llvm_steps, llvm_bitcode, llvm_reads_printed]
 
 # The oldest LLVM whose opt these tests are for: the first with opaque pointers alone.
@@ -718,7 +763,7 @@ def cases():
     else:
         print("skipped: tv is not built (crates/tv/out/tv), nor named by TV")
     if real and writes_proofs(real):
-        for test in [proof_of_tv, *PUTS]:
+        for test in [proof_of_tv, *PUTS, *LARGE]:
             yield f"tv, {test.__name__}", test, {**fake, "TV": os.path.abspath(real)}
     else:
         print("skipped: there is no tv that writes proof files")

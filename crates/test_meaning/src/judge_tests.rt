@@ -18,21 +18,19 @@ const BUDGET: Budget = Budget {
     weight: 100_000,
 };
 
-/// The verdict on a module's pair with two given blocks of at most this number of bytes.
-fn verdict(alloc: Global, module: &Module, bytes: u64) -> Result<Verdict, Fail> {
+/// The verdict on a module's pair within these bounds.
+fn verdict(alloc: Global, module: &Module, bounds: &Bounds) -> Result<Verdict, Fail> {
     let (source, target) = two_in(module).ok_or("a pair")?;
     if !is_within_limits(source) || !is_within_limits(target) {
         return Err(Fail::from("within the limits"));
     }
-    if bytes > 1 || !has_same_signature(source, target) {
+    if bounds.turns > 64 || bounds.blocks > 4 || bounds.bytes > 32 {
+        return Err(Fail::from("bounds in their ranges"));
+    }
+    if !has_same_signature(source, target) {
         return Err(Fail::from("of one signature"));
     }
-    let bounds = Bounds {
-        turns: 0,
-        blocks: 2,
-        bytes,
-    };
-    let verdict = slow(alloc, &Pair::new(source, target), &bounds, &BUDGET)?;
+    let verdict = slow(alloc, &Pair::new(source, target), bounds, &BUDGET)?;
     Ok(verdict)
 }
 
@@ -63,15 +61,20 @@ fn is_wanted(alloc: Global, verdict: &Verdict, wanted: &str) -> Result<bool, Fai
     }
 }
 
-/// The verdict on the pair of a text.
-fn verdict_on(alloc: Global, pair: &str, bytes: u64) -> Result<Verdict, Fail> {
+/// The verdict on the pair of a text within these bounds.
+fn verdict_on(alloc: Global, pair: &str, bounds: &Bounds) -> Result<Verdict, Fail> {
     let module = read(alloc, pair.as_bytes()).ok().ok_or("a module")?;
-    verdict(alloc, &module, bytes)
+    verdict(alloc, &module, bounds)
 }
 
 fn holds(alloc: Global, line: &str) -> Result<bool, Fail> {
     let (bytes, wanted, pair) = fields_in(line).ok_or("a row")?;
-    let verdict = verdict_on(alloc, pair, bytes.parse::<u64>()?)?;
+    let bounds = Bounds {
+        turns: 0,
+        blocks: 2,
+        bytes: bytes.parse::<u64>()?,
+    };
+    let verdict = verdict_on(alloc, pair, &bounds)?;
     is_wanted(alloc, &verdict, wanted)
 }
 
@@ -81,4 +84,20 @@ fn verdicts_on_pairs_with_memory(rt: HostRuntime) -> Result<(), Fail> {
         expect(holds(rt.alloc(), line)?, line)?;
     }
     Ok(())
+}
+
+/// A run may make five choices, of which the source returns the first.
+const CHOICE: &str =
+    "define i4 @s() { %a = freeze i4 poison ret i4 %a } define i4 @t() { ret i4 3 }";
+
+const NO_BLOCK: Bounds = Bounds {
+    turns: 4,
+    blocks: 0,
+    bytes: 8,
+};
+
+#[test]
+fn a_choice_is_found_where_no_block_is_given(rt: HostRuntime) -> Result<(), Fail> {
+    let verdict = verdict_on(rt.alloc(), CHOICE, &NO_BLOCK)?;
+    expect(is_wanted(rt.alloc(), &verdict, "correct")?, CHOICE)
 }

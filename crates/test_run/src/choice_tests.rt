@@ -166,7 +166,93 @@ tv 1 turns 4 blocks 2 bytes 8 rounds 14 conflicts 0 weight 100000
 correct 0 incorrect 0 unknown 1 refused 0 signature 0 missing 0 extra 0
 ";
 
+/// The same with runs of up to four backward jumps, which may make more choices.
+const MORE_CHOICES: &str = "\
+a choice takes a round
+tv check A B
+--- A
+define i4 @f() {
+  %a = freeze i4 poison
+  ret i4 %a
+}
+--- B
+define i4 @f() {
+  ret i4 3
+}
+--- 0
+tv 1 turns 4 blocks 2 bytes 8 rounds 64 conflicts 0 weight 100000
+@f correct
+correct 1 incorrect 0 unknown 0 refused 0 signature 0 missing 0 extra 0
+=== without a round it is not found
+tv check A B --rounds 0
+--- A
+define i4 @f() {
+  %a = freeze i4 poison
+  ret i4 %a
+}
+--- B
+define i4 @f() {
+  ret i4 3
+}
+--- 2
+tv 1 turns 4 blocks 2 bytes 8 rounds 0 conflicts 0 weight 100000
+@f unknown rounds
+correct 0 incorrect 0 unknown 1 refused 0 signature 0 missing 0 extra 0
+=== undef is a choice that the source lacks
+tv check A B
+--- A
+define i8 @f() {
+  ret i8 5
+}
+--- B
+define i8 @f() {
+  ret i8 undef
+}
+--- 1
+tv 1 turns 4 blocks 2 bytes 8 rounds 64 conflicts 0 weight 100000
+@f incorrect
+  choice 0 = 0
+  source returns 5
+  target returns 0
+correct 0 incorrect 1 unknown 0 refused 0 signature 0 missing 0 extra 0
+=== undef may become any number
+tv check A B
+--- A
+define i8 @f() {
+  ret i8 undef
+}
+--- B
+define i8 @f() {
+  ret i8 5
+}
+--- 0
+tv 1 turns 4 blocks 2 bytes 8 rounds 64 conflicts 0 weight 100000
+@f correct
+correct 1 incorrect 0 unknown 0 refused 0 signature 0 missing 0 extra 0
+=== a choice minus itself is zero
+tv check A B
+--- A
+define i8 @f() {
+  %a = freeze i8 poison
+  %b = sub i8 %a, %a
+  ret i8 %b
+}
+--- B
+define i8 @f() {
+  ret i8 0
+}
+--- 0
+tv 1 turns 4 blocks 2 bytes 8 rounds 64 conflicts 0 weight 100000
+@f correct
+correct 1 incorrect 0 unknown 0 refused 0 signature 0 missing 0 extra 0
+";
+
 #[test]
 fn choices_are_covered_or_shown(rt: HostRuntime) -> Result<(), Fail> {
     are_answered(&rt, CHOICES)
+}
+
+#[test]
+fn more_choices_are_covered_or_shown(rt: HostRuntime) -> Result<(), Fail> {
+    are_answered(&rt, MORE_CHOICES)
 }

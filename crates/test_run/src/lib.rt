@@ -26,9 +26,13 @@ mod in_memory_tests;
 #[cfg(test)]
 mod io_tests;
 #[cfg(test)]
+mod large_tests;
+#[cfg(test)]
 mod log_tests;
 #[cfg(test)]
 mod make_tests;
+#[cfg(test)]
+mod memory_tests;
 #[cfg(test)]
 mod module_tests;
 #[cfg(test)]

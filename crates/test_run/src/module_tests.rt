@@ -92,6 +92,18 @@ tv 1 turns 4 blocks 2 bytes 8 rounds 64 conflicts 0 weight 100000
 @b missing
 @c extra
 correct 0 incorrect 0 unknown 0 refused 0 signature 1 missing 1 extra 1
+=== an empty source has no partner for a function
+tv check A B
+--- A
+--- B
+define i8 @f(i8 %x) {
+  %r = add nsw i8 %x, 1
+  ret i8 %r
+}
+--- 3
+tv 1 turns 4 blocks 2 bytes 8 rounds 64 conflicts 0 weight 100000
+@f extra
+correct 0 incorrect 0 unknown 0 refused 0 signature 0 missing 0 extra 1
 === six pairs are reported in the order of the source
 tv check A B
 --- A
@@ -362,6 +374,22 @@ define i8 @f(i8 %x) {
 }
 --- 2
 tv 1 turns 4 blocks 2 bytes 8 rounds 64 conflicts 0 weight 89
+@f unknown weight
+correct 0 incorrect 0 unknown 1 refused 0 signature 0 missing 0 extra 0
+=== a weight of 1 is below that of any pair
+tv check A B --weight 1
+--- A
+define i8 @f(i8 %x) {
+  %r = add i8 %x, %x
+  ret i8 %r
+}
+--- B
+define i8 @f(i8 %x) {
+  %r = shl i8 %x, 1
+  ret i8 %r
+}
+--- 2
+tv 1 turns 4 blocks 2 bytes 8 rounds 64 conflicts 0 weight 1
 @f unknown weight
 correct 0 incorrect 0 unknown 1 refused 0 signature 0 missing 0 extra 0
 === a pair as heavy as the limit is judged

@@ -214,6 +214,88 @@ tv 1 turns 4 blocks 2 bytes 8 rounds 64 conflicts 0 weight 100000
   source returns 1
   target returns 0
 correct 0 incorrect 1 unknown 0 refused 0 signature 0 missing 0 extra 0
+=== an exact shift is poison where it loses a bit
+tv check A B
+--- A
+define i8 @f(i8 %x) {
+  %r = lshr i8 %x, 1
+  ret i8 %r
+}
+--- B
+define i8 @f(i8 %x) {
+  %r = lshr exact i8 %x, 1
+  ret i8 %r
+}
+--- 1
+tv 1 turns 4 blocks 2 bytes 8 rounds 64 conflicts 0 weight 100000
+@f incorrect
+  arg 0 = 1
+  source returns 0
+  target returns poison
+correct 0 incorrect 1 unknown 0 refused 0 signature 0 missing 0 extra 0
+=== exact may be dropped
+tv check A B
+--- A
+define i8 @f(i8 %x) {
+  %r = lshr exact i8 %x, 1
+  ret i8 %r
+}
+--- B
+define i8 @f(i8 %x) {
+  %r = lshr i8 %x, 1
+  ret i8 %r
+}
+--- 0
+tv 1 turns 4 blocks 2 bytes 8 rounds 64 conflicts 0 weight 100000
+@f correct
+correct 1 incorrect 0 unknown 0 refused 0 signature 0 missing 0 extra 0
+=== a cut to fewer bits is poison under nuw where it loses a bit
+tv check A B
+--- A
+define i4 @f(i8 %x) {
+  %r = trunc i8 %x to i4
+  ret i4 %r
+}
+--- B
+define i4 @f(i8 %x) {
+  %r = trunc nuw i8 %x to i4
+  ret i4 %r
+}
+--- 1
+tv 1 turns 4 blocks 2 bytes 8 rounds 64 conflicts 0 weight 100000
+@f incorrect
+  arg 0 = 16
+  source returns 0
+  target returns poison
+correct 0 incorrect 1 unknown 0 refused 0 signature 0 missing 0 extra 0
+=== the least number is written without a sign too
+tv check A B
+--- A
+define i64 @f() {
+  ret i64 -9223372036854775808
+}
+--- B
+define i64 @f() {
+  ret i64 9223372036854775808
+}
+--- 0
+tv 1 turns 4 blocks 2 bytes 8 rounds 64 conflicts 0 weight 100000
+@f correct
+correct 1 incorrect 0 unknown 0 refused 0 signature 0 missing 0 extra 0
+=== all ones are written without a sign too
+tv check A B
+--- A
+define i64 @f() {
+  ret i64 -1
+}
+--- B
+define i64 @f() {
+  ret i64 18446744073709551615
+}
+--- 0
+tv 1 turns 4 blocks 2 bytes 8 rounds 64 conflicts 0 weight 100000
+@f correct
+correct 1 incorrect 0 unknown 0 refused 0 signature 0 missing 0 extra 0
 === a shift is a sum, in the lines that a compiler prints
 tv check A B
 --- A

@@ -167,6 +167,20 @@ define i65 @f(i65 %x) {
 tv 1 turns 4 blocks 2 bytes 8 rounds 64 conflicts 0 weight 100000
 @f refused source Limit 1:8
 correct 0 incorrect 0 unknown 0 refused 1 signature 0 missing 0 extra 0
+=== a number is too wide for 64 bits
+tv check A B
+--- A
+define i64 @f() {
+  ret i64 18446744073709551616
+}
+--- B
+define i64 @f() {
+  ret i64 0
+}
+--- 3
+tv 1 turns 4 blocks 2 bytes 8 rounds 64 conflicts 0 weight 100000
+@f refused source Limit 2:11
+correct 0 incorrect 0 unknown 0 refused 1 signature 0 missing 0 extra 0
 === a name is defined twice
 tv check A B
 --- A

@@ -3,7 +3,7 @@
 use crate::expecting::expect;
 use crate::written_terms::written;
 use bit_blast::Blast;
-use bv_terms::{TermId, Terms, Variable, fold};
+use bv_terms::{BinaryOp, TermId, Terms, Variable, fold};
 use std::alloc::Global;
 use std::test::Fail;
 use support::NoMemory;
@@ -52,6 +52,38 @@ fn weight_of(alloc: Global, terms: &mut Terms, text: &str) -> Result<Option<u64>
         Ok(found) => Ok(found.get(id.index).copied()),
         Err(_) => Err(NoMemory),
     }
+}
+
+/// A variable of 8 bits that is added to itself, and the sum to itself, this number of times.
+fn doubled(terms: &mut Terms, times: usize) -> Result<TermId, NoMemory> {
+    let mut last = terms.variable(0, 8)?;
+    'sums: for _ in 0..times {
+        if last.index >= terms.as_slice().len() {
+            return Err(NoMemory);
+        }
+        last = terms.binary(BinaryOp::Add, last, last)?;
+    }
+    Ok(last)
+}
+
+/// How many nodes a variable has that was doubled this number of times.
+fn weight_doubled(alloc: Global, times: usize) -> Result<Option<u64>, NoMemory> {
+    let mut terms = Terms::new(alloc);
+    let id = doubled(&mut terms, times)?;
+    match fold(alloc, &terms, &mut Weigh) {
+        Ok(found) => Ok(found.get(id.index).copied()),
+        Err(_) => Err(NoMemory),
+    }
+}
+
+/// A sum of two terms with n nodes has 2n + 1. So 63 sums in turn have 2^64 - 1, the greatest number,
+/// and 64 have more.
+#[test]
+fn weights_end_at_the_greatest_number(rt: HostRuntime) -> Result<(), Fail> {
+    for &(times, weight) in &[(62usize, u64::MAX / 2), (63, u64::MAX), (64, u64::MAX)] {
+        assert!(rt; weight_doubled(rt.alloc(), times)? == Some(weight));
+    }
+    Ok(())
 }
 
 /// A product of two sums has 7 nodes.

@@ -46,6 +46,14 @@ fn is_refuted_by(alloc: Global, answer: &Answer, rows: &[&[i64]]) -> Result<bool
     }
 }
 
+/// Whether an answer is a limit that is spent on these learned clauses.
+fn is_spent_on(alloc: Global, answer: &Answer, rows: &[&[i64]]) -> Result<bool, NoMemory> {
+    match answer {
+        Answer::Spent(log) => are_steps(alloc, log.as_slice(), rows),
+        Answer::Sat(_) | Answer::Unsat(_) => Ok(false),
+    }
+}
+
 /// Whether an answer is this model.
 pub fn is_model(answer: &Answer, values: &[bool]) -> bool {
     match answer {
@@ -61,6 +69,17 @@ fn the_least_model_is_found(rt: HostRuntime) -> Result<(), Fail> {
     for solver in SOLVERS {
         let answer = solved(rt.alloc(), solver, &clauses, 1)?;
         assert!(rt; is_model(&answer, &[false, true]));
+    }
+    Ok(())
+}
+
+/// No clauses over no variables have the empty model.
+#[test]
+fn no_clauses_have_the_empty_model(rt: HostRuntime) -> Result<(), Fail> {
+    let clauses = cnf(rt.alloc(), 0, 0, &[])?;
+    for solver in SOLVERS {
+        let answer = solved(rt.alloc(), solver, &clauses, 0)?;
+        assert!(rt; is_model(&answer, &[]));
     }
     Ok(())
 }
@@ -105,18 +124,18 @@ fn four_pigeons_in_four_holes(rt: HostRuntime) -> Result<(), Fail> {
     Ok(())
 }
 
-/// Whether a limit of one learned clause is spent on five pigeons in four holes, and without a limit
-/// they are refuted by a log that the checker accepts.
+/// Whether a limit of one learned clause is spent, and without a limit the clauses are refuted by a
+/// log that the checker accepts.
 fn are_refuted(
     rt: &(impl Threads + Sync),
     alloc: Global,
     solver: Solver,
+    clauses: &Cnf,
 ) -> Result<bool, NoMemory> {
-    let clauses = pigeons(alloc, 5, 4)?;
-    let spent = solved(alloc, solver, &clauses, 1)?;
-    match solved(alloc, solver, &clauses, 0)? {
+    let spent = solved(alloc, solver, clauses, 1)?;
+    match solved(alloc, solver, clauses, 0)? {
         Answer::Unsat(log) => Ok(
-            matches!(spent, Answer::Spent(_)) && check_log(rt, alloc, &clauses, &log).is_ok(),
+            matches!(spent, Answer::Spent(_)) && check_log(rt, alloc, clauses, &log).is_ok(),
         ),
         Answer::Sat(_) | Answer::Spent(_) => Ok(false),
     }
@@ -124,8 +143,21 @@ fn are_refuted(
 
 #[test]
 fn five_pigeons_in_four_holes(rt: HostRuntime) -> Result<(), Fail> {
+    let clauses = pigeons(rt.alloc(), 5, 4)?;
     for solver in SOLVERS {
-        assert!(rt; are_refuted(&rt, rt.alloc(), solver)?);
+        assert!(rt; are_refuted(&rt, rt.alloc(), solver, &clauses)?);
+    }
+    Ok(())
+}
+
+/// Four pigeons in three holes: the first clause that is learned is `-5 9 12`.
+#[test]
+fn four_pigeons_in_three_holes(rt: HostRuntime) -> Result<(), Fail> {
+    let clauses = pigeons(rt.alloc(), 4, 3)?;
+    for solver in SOLVERS {
+        let answer = solved(rt.alloc(), solver, &clauses, 1)?;
+        assert!(rt; is_spent_on(rt.alloc(), &answer, &[&[-5, 9, 12]])?);
+        assert!(rt; are_refuted(&rt, rt.alloc(), solver, &clauses)?);
     }
     Ok(())
 }

@@ -2,19 +2,38 @@ use crate::expecting::expect;
 use crate::gate_values::{number, values_of};
 use crate::written_terms::written;
 use bit_blast::Blast;
-use bv_terms::{Terms, fold};
+use bv_terms::{BinaryOp, TermId, Terms, fold};
 use gates::GateId;
 use std::alloc::Global;
 use std::test::Fail;
 use support::{NoMemory, Sequence};
 use term_folds::{Assigned, Evaluate};
 
-/// A number for a variable of 3 bits.
-fn assigned(number: u64, value: u128) -> Assigned {
+/// A number for a variable.
+fn assigned(number: u64, width: u32, value: u128) -> Assigned {
     Assigned {
         number,
-        width: 3,
+        width,
         value,
+    }
+}
+
+/// The value of a term where variables 0 and 1 have this width and these values.
+fn value_at(
+    alloc: Global,
+    terms: &Terms,
+    id: TermId,
+    width: u32,
+    x: u128,
+    y: u128,
+) -> Result<Option<u128>, NoMemory> {
+    let values = Vec::from_array(alloc, [assigned(0, width, x), assigned(1, width, y)])?;
+    let mut evaluate = Evaluate {
+        values: Sequence::from_vec(values),
+    };
+    match fold(alloc, terms, &mut evaluate) {
+        Ok(found) => Ok(found.get(id.index).copied()),
+        Err(_) => Err(NoMemory),
     }
 }
 
@@ -27,14 +46,25 @@ fn value_of(
     y: u128,
 ) -> Result<Option<u128>, NoMemory> {
     let id = written(alloc, terms, text)?;
-    let values = Vec::from_array(alloc, [assigned(0, x), assigned(1, y)])?;
-    let mut evaluate = Evaluate {
-        values: Sequence::from_vec(values),
-    };
-    match fold(alloc, terms, &mut evaluate) {
-        Ok(found) => Ok(found.get(id.index).copied()),
-        Err(_) => Err(NoMemory),
-    }
+    value_at(alloc, terms, id, 3, x, y)
+}
+
+/// The sum of two variables of 8 bits.
+fn sum(terms: &mut Terms) -> Result<TermId, NoMemory> {
+    let x = terms.variable(0, 8)?;
+    let y = terms.variable(1, 8)?;
+    terms.binary(BinaryOp::Add, x, y)
+}
+
+/// 200 and 100 are 44 modulo 256.
+#[test]
+fn sums_wrap(rt: HostRuntime) -> Result<(), Fail> {
+    let mut terms = Terms::new(rt.alloc());
+    let id = sum(&mut terms)?;
+    expect(
+        value_at(rt.alloc(), &terms, id, 8, 200, 100)? == Some(44),
+        "sums wrap",
+    )
 }
 
 /// The number that the bits of a term write where the inputs of the circuit, in order, are the bits of
