@@ -8,6 +8,9 @@ pub mod OneJob
 pub mod Named
 pub mod Certified
 pub mod Verified
+pub mod RowLines
+pub mod RowHeads
+pub mod RowsRead
 mod Logging
 mod Sending
 mod Pieces

@@ -125,7 +125,7 @@ pub record AreParts (known : Option Files) (command : Option Job) : Type 0 where
   pub job_is : command ≡ Some (log name)
   pub parts_are : HasParts (files name) parts
 
--- what is done whatever the files and the sink, by job: only a failed read or write, or memory, stops it
+-- which jobs are done: only a read or a write that fails, or memory that runs out, stops them
 pub record Completes (known : Option Files) (command : Option Job) (result : ℕ) : Type 0 where
   pub checked : AreModules known command → (result ≤ 3) ⊎ (result ≡ 5) ⊎ (result ≡ 7) ⊎ (result ≡ 8)
   pub logged : AreParts known command → (result ≤ 1) ⊎ (result ≡ 5) ⊎ (result ≡ 7) ⊎ (result ≡ 8)

@@ -45,6 +45,7 @@ FileChanges (Some (make m)) old new = new ≡ old
 FileChanges None old new = new ≡ old
 
 -- and none where there is no report
-pub record ChangesOnlyProof (command : Option Job) (result : ℕ) (old new : Option Files) : Type 0 where
+pub record ChangesOnlyProof (command : Option Job) (result : ℕ) (old new : Option Files)
+    : Type 0 where
   pub only : FileChanges command old new
   pub unreported : 3 < result → result ≢ 7 → SameFiles old new

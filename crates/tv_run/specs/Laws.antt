@@ -1,5 +1,6 @@
--- What follows from the definitions: a report is sound; without a limit on conflicts it is the defined
--- one, and two files have one; they have one fault; and the proof file of a report is verified whole.
+-- What follows from the definitions: a report is sound; without a limit on conflicts it is the
+-- defined one, and two files have one; they have one fault; and the proof file of a report is
+-- verified whole.
 use Rattle.std.specs.Prelude.{◌≡◌, ◌≢◌, ℕ, List, Some}
 use Rattle.tv_io.specs.Files.{Files}
 use Rattle.tv_io.specs.State.{ShelfState, SinkState}
@@ -28,7 +29,8 @@ ReportsAreSound = (bounds : Bounds) (budget : Budget) (source target : Module)
 
 -- so the report of two files says how their functions refine
 abbrev pub FileReportsAreSound : Type 0
-FileReportsAreSound = (files : Files) (c : Check) (answers : List Judged) (text : List ℕ) (status : ℕ)
+FileReportsAreSound = (files : Files) (c : Check)
+    (answers : List Judged) (text : List ℕ) (status : ℕ)
     → Reports files c answers text status → SaysRefinement files c text status
 
 -- without a limit on conflicts the rows are those of the verdicts' definition
@@ -40,7 +42,8 @@ ReportsAreDefined = (bounds : Bounds) (budget : Budget) (source target : Module)
 
 -- so the report of two files is the defined one
 abbrev pub FileReportsAreDefined : Type 0
-FileReportsAreDefined = (files : Files) (c : Check) (answers : List Judged) (text : List ℕ) (status : ℕ)
+FileReportsAreDefined = (files : Files) (c : Check)
+    (answers : List Judged) (text : List ℕ) (status : ℕ)
     → AreInRange c.bounds c.budget → c.budget.conflicts ≡ 0
     → Reports files c answers text status → IsTheDefinedReport files c text status
 

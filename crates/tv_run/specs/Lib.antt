@@ -7,3 +7,4 @@ pub mod Stops
 pub mod Answers
 pub mod Laws
 pub mod Makes
+pub mod OneReading

@@ -27,8 +27,8 @@ pub record IsReadBack (written read : Module) : Type 0 where
 abbrev pub make_line : Make → List ℕ
 make_line m = codes "make seed " ++ decimal m.seed ++ codes " functions " ++ decimal m.functions ++ codes " insts " ++ decimal m.insts ++ 10 ∷ []
 
--- the three lines of two modules and their status, with the judge's answers; the rows that are counted
--- are sound
+-- the three lines of two modules and their status, with the judge's answers; the rows that are
+-- counted are sound
 pub record IsSummary (m : Make) (source target : Module) (answers : List Judged) (text : List ℕ) (status : ℕ) : Type 0 where
   pub whole : List ℕ
   pub report : IsReport m.bounds m.budget source target answers whole status
@@ -57,6 +57,7 @@ pub record MadePartlyWritten (m : Make) (answers : List Judged) (old new : SinkS
   pub cut_off : IsCutOff text old new
 
 -- what `make` writes, by status
-pub record IsMade (m : Make) (result : ℕ) (answers : List Judged) (old new : SinkState) : Type 0 where
+pub record IsMade (m : Make) (result : ℕ) (answers : List Judged) (old new : SinkState)
+    : Type 0 where
   pub whole : result ≤ 3 → MadeWritten m result answers old new
   pub part : result ≡ 7 → MadePartlyWritten m answers old new

@@ -81,8 +81,8 @@ pub record PartlyWritten (files : Files) (c : Check) (answers : List Judged) (af
 abbrev pub IsJudgedSo : Files → Check → List Judged → Type 0
 IsJudgedSo files c answers = (text : List ℕ) × (status : ℕ) × Reports files c answers text status
 
--- the report was made, and not written whole: the sink had no room for it, or the proof file could not
--- be put
+-- the report was made, and not written whole: the sink had no room for it, or the proof file could
+-- not be put
 pub record IsUnfinished (files : Files) (c : Check) (answers : List Judged)
     (shelf_old shelf_new : ShelfState) (out_old out_new : SinkState) : Type 0 where
   pub judged : IsJudgedSo files c answers
@@ -107,7 +107,8 @@ pub record HasDefinedReport (files : Files) (c : Check) (text : List ℕ) (statu
   pub is : IsDefinedReport c.bounds c.budget source target text status
 
 -- and the files have no others
-pub record IsTheDefinedReport (files : Files) (c : Check) (text : List ℕ) (status : ℕ) : Type 0 where
+pub record IsTheDefinedReport (files : Files) (c : Check) (text : List ℕ) (status : ℕ)
+    : Type 0 where
   pub defined : HasDefinedReport files c text status
   pub only : (other : List ℕ) (other_status : ℕ) → HasDefinedReport files c other other_status
       → (other ≡ text) × (other_status ≡ status)

@@ -1,6 +1,6 @@
--- What a report says of two modules, in terms of refinement: a row `correct` means that the target's
--- function refines the source's, a row `incorrect` gives a counterexample, each pair of functions has its
--- row, and with status 0 each function of either module is refined.
+-- What a report says of two modules, in terms of refinement: a row `correct` means that the
+-- target's function refines the source's, a row `incorrect` gives a counterexample, each pair of
+-- functions has its row, and with status 0 each function of either module is in a pair that refines.
 use Rattle.std.specs.Prelude.{◌≡◌, ◌≤◌, ◌⊎◌, ℕ, true, All, List, Contains, Ok}
 use Rattle.std.specs.List.{IsDistinct}
 use Rattle.tv_io.specs.Files.{Files}
@@ -43,8 +43,8 @@ pub record IsPairNamed (source target : Module) (name : Name) (pair : Functions)
   pub target_has : HasFunction target name pair.target
   pub signature : same_signature pair.source pair.target ≡ true
 
--- the entry is this side of the pair of its name, and on every input within the bounds each run of the
--- target's function is allowed by a run of the source's
+-- the entry is this side of the pair of its name, and on every input within the bounds each run of
+-- the target's function is allowed by a run of the source's
 pub record IsRefined (bounds : Bounds) (source target : Module) (side : Functions → Function)
     (entry : Entry) : Type 0 where
   pub pair : Functions

@@ -164,8 +164,8 @@ pub record RejectsWords (command : Option Job) (result : ℕ) (old new : SinkSta
 -- ---- counts
 
 -- no failure is counted but the one that the status reports
-pub record CountsNoOther (result : ℕ) (shelf_old shelf_new : ShelfState) (out_old out_new : SinkState)
-    : Type 0 where
+pub record CountsNoOther (result : ℕ) (shelf_old shelf_new : ShelfState)
+    (out_old out_new : SinkState) : Type 0 where
   pub fetches : result ≢ 5 → shelf_new.fetch_faults ≡ shelf_old.fetch_faults
   pub puts : result ≢ 7 → shelf_new.put_faults ≡ shelf_old.put_faults
   pub writes : result ≤ 3 → out_new.faults ≡ out_old.faults

@@ -1,4 +1,5 @@
 ghost use Rattle.tv_run.specs.Laws.{FaultsAreOne, FileReportsAreDefined, FileReportsAreSound, ModulesHaveNoFault, PutProofsAreVerified, ReportsAreDefined, ReportsAreOne, ReportsAreSound};
+ghost use Rattle.tv_run.specs.OneReading.{TextsHaveOneListOfRows};
 
 use ir_reader::is_one_module;
 use proof_files::texts_are_verified;
@@ -65,3 +66,9 @@ pub fn put_proofs_are_verified()
 {
     texts_are_verified();
 }
+
+/// The text of a report says which rows it has: how many, and of each its name and its finding, except
+/// for the point of an incorrect row and what is shown of it.
+pub fn texts_have_one_list_of_rows()
+    ensures { TextsHaveOneListOfRows }
+{}

@@ -8,10 +8,10 @@
 //! function of both files (`zero`); and that without a limit on conflicts the output is the one defined
 //! report (`defined`). The proof file has a part for each correct and each incorrect row, whose log
 //! refutes its clauses, and `log` says `verified` exactly of such parts, so of all parts of such a file
-//! (`put_proofs_are_verified`).
-//! Each other status has its cause. A function that can't be judged is a row of the report like any
-//! other. It uses the command line, the reader, `module_rows`, the report, `proof_files` and `tv_io`; the
-//! program `tv` is `run` over the system's files and output.
+//! (`put_proofs_are_verified`). The text of a report has one list of rows
+//! (`texts_have_one_list_of_rows`). Each other status has its cause. A function that can't be judged is
+//! a row of the report like any other. It uses the command line, the reader, `module_rows`, the report,
+//! `proof_files` and `tv_io`; the program `tv` is `run` over the system's files and output.
 #![tactic(auto)]
 
 mod check;
@@ -28,5 +28,6 @@ pub use in_memory::{Checked, run_in_memory};
 pub use laws::{
     faults_are_one, file_reports_are_defined, file_reports_are_sound, modules_have_no_fault,
     put_proofs_are_verified, reports_are_defined, reports_are_one, reports_are_sound,
+    texts_have_one_list_of_rows,
 };
 pub use top::run;
