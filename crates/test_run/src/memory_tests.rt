@@ -157,7 +157,87 @@ tv 1 turns 4 blocks 2 bytes 8 rounds 64 conflicts 0 weight 100000
   target returns void
   target block 1 = 00
 correct 0 incorrect 1 unknown 0 refused 0 signature 0 missing 0 extra 0
-=== a store may not ask for more alignment
+=== another pointer is stored
+tv check A B --blocks 1
+--- A
+define void @f(ptr %p) {
+  store ptr null, ptr %p
+  ret void
+}
+--- B
+define void @f(ptr %p) {
+  store ptr %p, ptr %p
+  ret void
+}
+--- 1
+tv 1 turns 4 blocks 1 bytes 8 rounds 64 conflicts 0 weight 100000
+@f incorrect
+  arg 0 = given1+0
+  block 1 = 00 00 00 00 00 00 00 00
+  source returns void
+  source block 1 = null+0/0 null+0/1 null+0/2 null+0/3 null+0/4 null+0/5 null+0/6 null+0/7
+  target returns void
+  target block 1 = given1+0/0 given1+0/1 given1+0/2 given1+0/3 given1+0/4 given1+0/5 given1+0/6 given1+0/7
+correct 0 incorrect 1 unknown 0 refused 0 signature 0 missing 0 extra 0
+=== a byte of a stored pointer may not become poison
+tv check A B --blocks 1
+--- A
+define void @f(ptr %p, ptr %q) {
+  store ptr %q, ptr %p
+  ret void
+}
+--- B
+define void @f(ptr %p, ptr %q) {
+  store ptr %q, ptr %p
+  store i8 poison, ptr %p
+  ret void
+}
+--- 1
+tv 1 turns 4 blocks 1 bytes 8 rounds 64 conflicts 0 weight 100000
+@f incorrect
+  arg 0 = given1+0
+  arg 1 = null+0
+  block 1 = 00 00 00 00 00 00 00 00
+  source returns void
+  source block 1 = null+0/0 null+0/1 null+0/2 null+0/3 null+0/4 null+0/5 null+0/6 null+0/7
+  target returns void
+  target block 1 = -- null+0/1 null+0/2 null+0/3 null+0/4 null+0/5 null+0/6 null+0/7
+correct 0 incorrect 1 unknown 0 refused 0 signature 0 missing 0 extra 0
+=== stores through two pointers may not change places
+tv check A B --blocks 1
+--- A
+define void @f(ptr %p, ptr %q) {
+  store i8 1, ptr %p
+  store i8 2, ptr %q
+  ret void
+}
+--- B
+define void @f(ptr %p, ptr %q) {
+  store i8 2, ptr %q
+  store i8 1, ptr %p
+  ret void
+}
+--- 1
+tv 1 turns 4 blocks 1 bytes 8 rounds 64 conflicts 0 weight 100000
+@f incorrect
+  arg 0 = given1+0
+  arg 1 = given1+0
+  block 1 = 00
+  source returns void
+  source block 1 = 02
+  target returns void
+  target block 1 = 01
+correct 0 incorrect 1 unknown 0 refused 0 signature 0 missing 0 extra 0
+";
+
+#[test]
+fn given_blocks_are_covered_or_shown(rt: HostRuntime) -> Result<(), Fail> {
+    are_answered(&rt, STORES)
+}
+
+/// Stores to a pointer that may be one past a multiple of 2.
+const ALIGNMENTS: &str = "\
+a store may not ask for more alignment
 tv check A B
 --- A
 define void @f(ptr %p) {
@@ -194,80 +274,9 @@ define void @f(ptr %p) {
 tv 1 turns 4 blocks 2 bytes 8 rounds 64 conflicts 0 weight 100000
 @f correct
 correct 1 incorrect 0 unknown 0 refused 0 signature 0 missing 0 extra 0
-=== another pointer is stored
-tv check A B
---- A
-define void @f(ptr %p) {
-  store ptr null, ptr %p
-  ret void
-}
---- B
-define void @f(ptr %p) {
-  store ptr %p, ptr %p
-  ret void
-}
---- 1
-tv 1 turns 4 blocks 2 bytes 8 rounds 64 conflicts 0 weight 100000
-@f incorrect
-  arg 0 = given1+0
-  block 1 = 00 00 00 00 00 00 00 00
-  source returns void
-  source block 1 = null+0/0 null+0/1 null+0/2 null+0/3 null+0/4 null+0/5 null+0/6 null+0/7
-  target returns void
-  target block 1 = given1+0/0 given1+0/1 given1+0/2 given1+0/3 given1+0/4 given1+0/5 given1+0/6 given1+0/7
-correct 0 incorrect 1 unknown 0 refused 0 signature 0 missing 0 extra 0
-=== a byte of a stored pointer may not become poison
-tv check A B
---- A
-define void @f(ptr %p, ptr %q) {
-  store ptr %q, ptr %p
-  ret void
-}
---- B
-define void @f(ptr %p, ptr %q) {
-  store ptr %q, ptr %p
-  store i8 poison, ptr %p
-  ret void
-}
---- 1
-tv 1 turns 4 blocks 2 bytes 8 rounds 64 conflicts 0 weight 100000
-@f incorrect
-  arg 0 = given1+0
-  arg 1 = null+0
-  block 1 = 00 00 00 00 00 00 00 00
-  source returns void
-  source block 1 = null+0/0 null+0/1 null+0/2 null+0/3 null+0/4 null+0/5 null+0/6 null+0/7
-  target returns void
-  target block 1 = -- null+0/1 null+0/2 null+0/3 null+0/4 null+0/5 null+0/6 null+0/7
-correct 0 incorrect 1 unknown 0 refused 0 signature 0 missing 0 extra 0
-=== stores through two pointers may not change places
-tv check A B
---- A
-define void @f(ptr %p, ptr %q) {
-  store i8 1, ptr %p
-  store i8 2, ptr %q
-  ret void
-}
---- B
-define void @f(ptr %p, ptr %q) {
-  store i8 2, ptr %q
-  store i8 1, ptr %p
-  ret void
-}
---- 1
-tv 1 turns 4 blocks 2 bytes 8 rounds 64 conflicts 0 weight 100000
-@f incorrect
-  arg 0 = given1+0
-  arg 1 = given1+0
-  block 1 = 00
-  source returns void
-  source block 1 = 02
-  target returns void
-  target block 1 = 01
-correct 0 incorrect 1 unknown 0 refused 0 signature 0 missing 0 extra 0
 ";
 
 #[test]
-fn given_blocks_are_covered_or_shown(rt: HostRuntime) -> Result<(), Fail> {
-    are_answered(&rt, STORES)
+fn alignments_are_covered_or_shown(rt: HostRuntime) -> Result<(), Fail> {
+    are_answered(&rt, ALIGNMENTS)
 }
