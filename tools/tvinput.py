@@ -116,7 +116,11 @@ def of_two(before, after):
 
 def of_one(path):
     """A file with @src and @tgt, @src1 and @tgt1, and so on, as a pair."""
-    module = module_of(path)
+    return src_and_tgt(module_of(path), path)
+
+
+def src_and_tgt(module, path):
+    """A module's functions @src.. against those of its functions @tgt.. of the same endings."""
     names = [name for name in module.functions if SOURCE.match(name)]
     if not names:
         raise Failure(WORDS, f"{path} has no function @src: name two files (tv-check A B), a file "

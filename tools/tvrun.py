@@ -58,7 +58,7 @@ class Row:
         """Side, line and column of a refusal or of an access, or None."""
         found = POSITION.search(self.detail)
         side = self.detail.split(" ", 1)[0]
-        if self.kind not in ("refused", "bounded") or not found or side not in SIDES.values():
+        if self.kind not in ("refused", "bounded", "vacuous") or not found or side not in SIDES.values():
             return None
         return side, int(found.group(1)), int(found.group(2))
 
@@ -241,7 +241,7 @@ def reached(row, source, name, how, bounds):
     if kinds is None:
         return dataclasses.replace(row, kind="unknown", detail=f"reach {why}")
     if kinds[0] == "correct":
-        return dataclasses.replace(row, kind="vacuous")
+        return dataclasses.replace(row, kind="vacuous", detail=never(reach, how, bounds))
     for access, kind in zip(last, kinds[1:]):
         if kind == "correct":
             return dataclasses.replace(row, kind="bounded",
@@ -257,6 +257,16 @@ def asked(reach, questions, how, bounds):
     if odd or len(rows) != len(questions):
         return None, odd[0].detail.split(" ")[-1] if odd and odd[0].kind == "unknown" else "failed"
     return [row.kind for row in rows], ""
+
+
+def never(reach, how, bounds):
+    """The first access of a vacuous source that is begun and that no input makes defined, in
+    words; empty where there is none on the way to the last one."""
+    if not reach.accesses:
+        return ""
+    last = max(reach.accesses, key=lambda each: (len(reach.over[each.block]), each.at))
+    found = unreached(reach, last, how, bounds)
+    return found if " undefined " in found else ""
 
 
 def unreached(reach, access, how, bounds):
