@@ -223,7 +223,9 @@ def check_interrupted(bench):
     bench.write("after.ll", bench.passes("double,wrong", "both.ll"))
     child = subprocess.Popen([os.path.join(TOOLS, "tv-check"), "both.ll", "after.ll", "-j", "2",
                               "--seconds", "100", "--json=rows"], cwd=bench.folder, text=True,
-                             env=bench.variables, stdout=subprocess.PIPE, stderr=subprocess.PIPE)
+                             env=bench.variables, stdout=subprocess.PIPE, stderr=subprocess.PIPE,
+                             # a shell's job in the background is begun with interrupts ignored
+                             preexec_fn=lambda: signal.signal(signal.SIGINT, signal.SIG_DFL))
     lines = [child.stdout.readline() for _ in range(10)]
     equal(lines[9], "@calls refused source Unsupported 33:8 call @outside\n", "a row as it comes")
     child.send_signal(signal.SIGINT)
@@ -415,6 +417,11 @@ def check_layout(bench):
     equal(done.returncode, 3, "status")
     has(done.stdout, '@f refused source data-layout 2:21 target datalayout "e-p:32:32"\n',
         "tv judges 64-bit little-endian targets")
+
+
+def figures(bench):
+    done = bench.run("figures.py", "--check", TV_OPT="")
+    equal((done.returncode, done.stderr), (0, ""), f"status; docs/TOOLS.md: {done.stdout}")
 
 
 # opt-tv.
@@ -666,7 +673,7 @@ e:
 """
     bench.write("a.ll", text)
     bench.write("b.ll", text.replace("%d = add", "%d = sub"))
-    done = bench.run("tv-reduce", "a.ll", "b.ll", "-f", "f")
+    done = bench.run("tv-reduce", "a.ll", "b.ll", "-f", "f", TV_TIME="60")
     equal(done.returncode, 0, "status " + done.stderr)
     has(done.stderr, " steps tried, ", " kept, ", " lines, ")
     has(done.stdout, "a.reduced.ll", "@src incorrect\n")
@@ -896,7 +903,7 @@ def proof_of_tv(bench):
 
 EVERY = [check_two, check_src_and_tgt, check_forms, check_refusals, reduced_pair, opt_output_is_passed_on, opt_gate, opt_changed_names, opt_steps, tree_totals,
          vacuous_rows, pages]
-REAL_ONLY = [proof_of_tv, check_bounds, check_layout]
+REAL_ONLY = [proof_of_tv, check_bounds, check_layout, figures]
 FAKE_ONLY = [help_is_one_screen, check_folders, check_front, check_limit, check_interrupted,
              check_terminal, reduced_with_arguments, opt_reads_standard_input, opt_failure_is_passed_on, opt_not_text,
              opt_judges_nothing, opt_same, opt_summary,

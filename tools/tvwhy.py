@@ -30,7 +30,8 @@ ADVICE = {
     "floating point": "floating point is not read: leave the function out (--function, or a line "
                       "of tv-baseline)",
     "vector": "vectors are not read: check the scalar pass, or run 'scalarizer' on both sides",
-    "struct": "structs are not read as values: run 'sroa' on both sides (--before 'function(sroa)')",
+    "struct": "structs are not read: 'instcombine' on both sides first writes constant offsets of "
+              "fields in bytes (--before 'function(sroa,instcombine)'), 'sroa' takes values apart",
     "global": "globals and constant expressions are not read: pass the address as a parameter "
               "on both sides",
     "undef": "undef is read in `freeze` and `ret` alone: put poison or a parameter for it",
