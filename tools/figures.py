@@ -85,7 +85,8 @@ def pairs_row(module, passes):
                                "TV_TIME": str(SECONDS)})
     rows = [json.loads(line) for line in done.stdout.splitlines()]
     changed = [row for row in rows if row["kind"] != "same"]
-    at = collections.Counter(row["what"] for row in changed if row["kind"] == "refused")
+    at = collections.Counter(tvwhy.kind_of(row["what"]) for row in changed
+                             if row["kind"] == "refused")
     said = ", ".join(f"`{what}` {number}" for what, number in sorted(
         at.items(), key=lambda item: (-item[1], item[0])))
     return len(rows), f"| `{passes}` | {len(changed)} | {sum(at.values())} | {said} |"

@@ -354,6 +354,21 @@ e:
 define i32 @tgt5(i32 %x) {
   ret i32 0
 }
+define i8 @src8(ptr %p, i8 %x) {
+  %c = icmp ult i8 %x, 3
+  br i1 %c, label %a, label %b
+a:
+  %d = icmp ugt i8 %x, 5
+  br i1 %d, label %dead, label %b
+dead:
+  store i8 1, ptr %p
+  br label %b
+b:
+  ret i8 0
+}
+define i8 @tgt8(ptr %p, i8 %x) {
+  ret i8 0
+}
 define i32 @src6(i1 %c, ptr %p) {
 entry:
   %g = getelementptr i16, ptr %p, i64 6
@@ -392,18 +407,19 @@ define i16 @tgt7(ptr %p, ptr %q) {
 
 def check_bounds(bench):
     bench.write("m.ll", MEMORY)
-    done = bench.run("tv-check", "m.ll", "--seconds", "60")
+    done = bench.run("tv-check", "m.ll", "--seconds", "250")
     equal((done.returncode, done.stderr), (1, ""), "status")
     found = dict(re.findall(r"^@(\w+) (.*)$", done.stdout, re.M))
     equal(found, {"src": "incorrect [blocks 1 bytes 12]",
                   "src2": "vacuous source store undefined 12:3 [blocks 1]",
                   "src3": "bounded source store undefined 25:3 [blocks 1]",
-                  "src4": "bounded source load unreached 52:8 [blocks 1]",
+                  "src4": "bounded source load undefined 50:8 [blocks 1]",
+                  "src8": "bounded source store unreached 80:3 [blocks 1]",
                   "src5": "vacuous", "src6": "correct [blocks 1 bytes 20]",
                   "src7": "correct"}, "rows")
-    done = bench.run("tv-check", "m.ll", "--seconds", "60", "--bytes", "8", "-f", "src")
+    done = bench.run("tv-check", "m.ll", "--seconds", "250", "--bytes", "8", "-f", "src")
     has(done.stdout, "@src vacuous source store undefined 3:3 [blocks 1]\n")
-    done = bench.run("tv-check", "m.ll", "--seconds", "60", "-f", "src5", TV_ARGS="--turns 64")
+    done = bench.run("tv-check", "m.ll", "--seconds", "250", "-f", "src5", TV_ARGS="--turns 64")
     equal(done.returncode, 1, "status of a loop within --turns")
     has(done.stdout, "@src5 incorrect [turns 64]\n")
 

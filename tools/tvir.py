@@ -209,9 +209,11 @@ def names_of(source, target):
 
 
 def is_same(source, target, name):
-    """Whether a function's text is the same in both modules, with the items that it names."""
-    both = [module.alone(name).text for module in (source, target) if name in module.functions]
-    return len(both) == 2 and both[0].rstrip() == both[1].rstrip()
+    """Whether a function's text is the same in both modules, with the items that it names and but
+    for comments."""
+    both = [[bare(line) for line in module.alone(name).text.splitlines()]
+            for module in (source, target) if name in module.functions]
+    return len(both) == 2 and both[0] == both[1]
 
 
 TOKEN = re.compile(r'(?P<local>%[-"\w.$]+)|(?P<global>@[-"\w.$]+)|(?P<number>-?\d[\w.+]*)'

@@ -93,7 +93,8 @@ def row_lines(row, function, colours=False):
 
 def refusals(rows):
     """The table of what was refused: how often, what, and what to do."""
-    counts = collections.Counter((row.what, row.advice) for row in rows if row.kind == "refused")
+    counts = collections.Counter((tvwhy.kind_of(row.what), row.advice) for row in rows
+                                 if row.kind == "refused")
     if not counts:
         return []
     wide = max(len(what) for what, _ in counts)

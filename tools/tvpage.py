@@ -194,7 +194,7 @@ def report_page(heads, pairs, rows):
 
 def refused_table(refused):
     """What was refused: how often, what is there, what to do."""
-    counts = collections.Counter((row.what, row.advice) for row in refused)
+    counts = collections.Counter((tvwhy.kind_of(row.what), row.advice) for row in refused)
     rows = [[number, f"<code>{escaped(what)}</code>", escaped(tvwhy.ADVICE.get(advice, ""))]
             for (what, advice), number in counts.most_common()]
     return ["<h2>Refused</h2>", table(["rows", "what is there", "what to do"], rows, {0})]

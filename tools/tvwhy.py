@@ -69,6 +69,11 @@ def explained(module, reason, line, column):
     return word or "the end", class_of(word, reason)
 
 
+def kind_of(what):
+    """What is at a position without numbers of its own, as tables count it."""
+    return re.sub(r"\(.*\)", "(..)", what) if what.startswith("attribute ") else what
+
+
 def raw(text):
     """The first token of a text as it is."""
     text = text.lstrip()
