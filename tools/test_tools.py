@@ -689,7 +689,7 @@ e:
 """
     bench.write("a.ll", text)
     bench.write("b.ll", text.replace("%d = add", "%d = sub"))
-    done = bench.run("tv-reduce", "a.ll", "b.ll", "-f", "f", TV_TIME="60")
+    done = bench.run("tv-reduce", "a.ll", "b.ll", "-f", "f", TV_TIME="200")
     equal(done.returncode, 0, "status " + done.stderr)
     has(done.stderr, " steps tried, ", " kept, ", " lines, ")
     has(done.stdout, "a.reduced.ll", "@src incorrect\n")
