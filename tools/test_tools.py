@@ -414,7 +414,7 @@ def check_bounds(bench):
                   "src2": "vacuous source store undefined 12:3 [blocks 1]",
                   "src3": "bounded source store undefined 25:3 [blocks 1]",
                   "src4": "bounded source load undefined 50:8 [blocks 1]",
-                  "src8": "bounded source store unreached 80:3 [blocks 1]",
+                  "src8": "bounded source store unreached 79:3 [blocks 1]",
                   "src5": "vacuous", "src6": "correct [blocks 1 bytes 20]",
                   "src7": "correct"}, "rows")
     done = bench.run("tv-check", "m.ll", "--seconds", "250", "--bytes", "8", "-f", "src")
