@@ -41,7 +41,9 @@ import tempfile
 import threading
 import time
 
+import tvir
 import tvlib
+import tvrun
 
 BOUNDS = ["--turns", "1", "--blocks", "1", "--bytes", "2", "--weight", "2000", "--workers", "1"]
 CONFLICTS = 1000
@@ -273,9 +275,9 @@ def cut_up(versions):
     """Families of functions of one name, from versions of one module; none is very long."""
     families = collections.defaultdict(list)
     for text in versions:
-        for function in tvlib.functions_of(text):
+        for function in tvir.functions_of(text):
             if len(function.text) <= LONGEST:
-                families[function.name].append(tvlib.DEFINE.sub("@NAME(", function.text, 1))
+                families[function.name].append(tvir.DEFINE.sub("@NAME(", function.text, 1))
     return [sorted(set(family)) for _, family in sorted(families.items())]
 
 
@@ -384,7 +386,7 @@ class Runner:
 
 ROW = re.compile(r'^@("[^"]*"|[-\w.$]+) (\w+)(?: (.*))?$')
 FAULT = re.compile(r"^.*/(before|after)\.ll:(\d+):\d+: ([a-z ]+)\n$", re.S)
-LAST = re.compile(" ".join(rf"{kind} (\d+)" for kind in tvlib.KINDS) + "$")
+LAST = re.compile(" ".join(rf"{kind} (\d+)" for kind in tvrun.KINDS) + "$")
 POSITION = re.compile(r"(source|target) (\w+) \d+:\d+$")
 DIFFERENT = {"incorrect", "signature", "missing", "extra"}
 
@@ -398,13 +400,13 @@ def rows_of(status, output):
         raise Wrong(f"no report: {output[:200]!r}")
     for line in lines[1:-2]:
         row = ROW.match(line)
-        if row and row.group(2) in tvlib.KINDS:
+        if row and row.group(2) in tvrun.KINDS:
             detail = POSITION.sub(r"\2", row.group(3) or "")
             rows.append((row.group(1), row.group(2), f"{row.group(2)} {detail}".strip()))
         elif not line.startswith("  "):
             raise Wrong(f"no row: {line[:200]!r}")
     counts = collections.Counter(kind for _, kind, _ in rows)
-    if [counts[kind] for kind in tvlib.KINDS] != [int(count) for count in last.groups()]:
+    if [counts[kind] for kind in tvrun.KINDS] != [int(count) for count in last.groups()]:
         raise Wrong(f"other counts: {lines[-2]}")
     wanted = 1 if counts["incorrect"] else 2 if counts["unknown"] else 3
     wanted = 0 if len(rows) == counts["correct"] else wanted

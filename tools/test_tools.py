@@ -10,9 +10,12 @@ installed; what isn't there is skipped, and said. The last line counts; the stat
 case failed.
 """
 import concurrent.futures
+import contextlib
 import csv
 import html.parser
+import json
 import os
+import pty
 import pwd
 import re
 import shutil
@@ -22,6 +25,7 @@ import subprocess
 import sys
 import tempfile
 import time
+import xml.etree.ElementTree
 
 TOOLS = os.path.dirname(os.path.realpath(__file__))
 DATA = os.path.join(TOOLS, "testdata")
@@ -32,7 +36,8 @@ SLOW = os.path.join(DATA, "slow", "slow.ll")
 WHOLE = os.path.join(DATA, "whole", "whole.ll")
 PROOF = os.path.join(DATA, "two.tvproof")
 PRINTED = os.path.join(TOOLS, "..", "crates", "test_reading", "src", "print_tests.rt")
-SCRIPTS = ["opt-tv", "tv-tree", "tv-vacuous", "tv-reduce", "tv-html", "tv-baseline", "tv-proof"]
+SCRIPTS = ["tv-check", "opt-tv", "tv-tree", "tv-vacuous", "tv-reduce", "tv-html", "tv-baseline",
+           "tv-proof", "quick"]
 SOLVERS = ["cadical", "minisat", "picosat"]
 AT_A_TIME = 2
 
@@ -98,8 +103,343 @@ def help_is_one_screen(bench):
     for script in SCRIPTS:
         done = bench.run(script, "--help")
         equal((done.returncode, done.stderr), (0, ""), f"{script} --help")
-        has(done.stdout, script, {"tv-baseline": "BASELINE", "tv-proof": "FOLDER"}.get(script, "TV"))
+        has(done.stdout, script, {"tv-baseline": "BASELINE", "tv-proof": "FOLDER", "quick": "rt try"}.get(script, "TV"))
         equal(len(done.stdout.splitlines()) <= 50, True, f"{script} --help is one screen")
+
+
+# tv-check.
+
+COUNTS = "correct 1 incorrect 1 unknown 1 refused 1 signature 0 missing 0 extra 0 vacuous 1\n"
+REPORT = """tv-check 1 turns 4 blocks 2 bytes 8 seconds 10
+@twice correct
+@bad_sum incorrect
+  arg 0 %x = 0
+  arg 1 %y = 1
+  source returns 1
+  target returns 255 (-1, 0xff)
+@never vacuous
+@heavy unknown weight
+@calls refused source Unsupported 33:8 call @outside
+refused 1, by what is there:
+      1 call @outside  calls are not read: inline them on both sides first (--before \
+'always-inline' or 'inline'), or give the pass functions without calls
+""".replace("\\\n", "") + COUNTS
+
+
+def check_two(bench):
+    bench.write("after.ll", bench.passes("double,wrong", ARITH))
+    for args in ([ARITH, "after.ll"], ["-j", "1", ARITH, "after.ll"],
+                 ["--opt", "-passes=double,wrong", ARITH]):
+        done = bench.run("tv-check", *args)
+        equal((done.returncode, done.stdout, done.stderr), (1, REPORT, ""), f"answer to {args}")
+    done = bench.run("tv-check", ARITH, "-", data=bench.file("after.ll"))
+    equal((done.returncode, done.stdout), (1, REPORT), "answer with standard input")
+    done = bench.run("tv-baseline", "base", "-", "--name", "f", "--write", data=REPORT)
+    has(done.stdout, "incorrect: f @bad_sum incorrect\nrows 5 incorrect 1 new 0 gone 0\n")
+    has(bench.file("base"), "f @calls refused source Unsupported\n", "f @never vacuous\n")
+
+
+def check_src_and_tgt(bench):
+    text = "define i8 @src(i8 %x) {\n  %r = add i8 %x, %x\n  ret i8 %r\n}\n"
+    good = text.replace("src", "tgt").replace("add i8 %x, %x", "shl i8 %x, 1")
+    more = text.replace("src", "src2") + good.replace("tgt", "tgt2").replace("shl", "sub")
+    bench.write("pair.ll", text + good)
+    done = bench.run("tv-check", "pair.ll")
+    equal((done.returncode, done.stderr), (0, ""), "status of a right pair")
+    has(done.stdout, "@src correct\n")
+    done = bench.run("tv-check", "-", data=text + good + more + text.replace("src", "src_3"))
+    equal(done.returncode, 1, "status of three pairs")
+    has(done.stdout, "@src correct\n", "@src2 incorrect\n", "@src_3 missing\n")
+    equal(bench.run("tv-check", "-", data=text + text.replace("src", "tgt")).stdout.split("\n")[1],
+          "@src same", "the row of equal functions")
+
+
+def check_folders(bench):
+    tree = os.path.join(DATA, "tree")
+    done = bench.run("tv-check", "--opt", "-passes=rename,widen", tree)
+    equal(done.returncode, 2, "status where opt fails on a module")
+    has(done.stdout, f"module {NAMES}\n@old missing\n@wide signature\n@new extra\n",
+        f"fault {BROKEN}: opt -passes=rename,widen: wrong-opt: error")
+    equal(len(re.findall(r"^@\w+ same$", done.stdout, re.M)), 5, "same rows")
+    done = bench.run("tv-check", tree, tree, "--function", "o*", "-f", "@wide")
+    equal(re.findall(r"^@(\w+) (\w+)$", done.stdout, re.M), [("old", "same"), ("wide", "same")],
+          "rows of patterns")
+    bench.write("base.csv", done.stdout)
+    equal(bench.run("tv-baseline", "base", "base.csv").returncode, 0, "status of the baseline")
+
+
+def check_front(bench):
+    bench.write("one.ll", CALLS)
+    bench.write("empty.ll", "target triple = \"x\"\n")
+    bench.write("twice.ll", "define void @f() {\n  ret void\n}\n" * 2)
+    for args, status, wanted in [
+            ([], 4, "nothing to check: tv-check A B, "),
+            (["--tunrs", "3", "a", "b"], 4, "--tunrs is no option; did you mean --turns?"),
+            (["--turns", "99", "a", "b"], 4, "--turns: takes a number from 0 to 64, not '99'"),
+            (["--jobs", "0", "a", "b"], 4, "--jobs/-j: takes a number of at least 1, not '0'"),
+            (["check", "a", "b"], 4, "check is no file: tv-check takes files straight"),
+            (["a", "b", "c"], 4, "3 files: two are compared"),
+            (["one.l", "one.ll"], 5, "cannot read one.l: No such file or directory; did you mean "
+                                     "one.ll?"),
+            (["one.ll"], 4, "one.ll has no function @src: name two files"),
+            ([".", "one.ll"], 4, ". is a folder and one.ll is not"),
+            (["--opt=-passes=double"], 4, "--opt needs the files"),
+            (["one.ll", "one.ll", "-f", "cals"], 4, "no function @cals; did you mean @calls?"),
+            (["--json", "--sarif", "a", "b"], 4, "one form at most goes to standard output"),
+            (["twice.ll", "twice.ll"], 9, "twice.ll:4:1: name twice: @f"),
+            (["empty.ll", "empty.ll"], 3, "no function with a body: nothing was judged")]:
+        done = bench.run("tv-check", *args)
+        equal(done.returncode, status, f"status of {args}: {done.stderr}")
+        has(done.stderr, "tv-check: " if status != 4 or args else "", wanted)
+    equal(bench.run("tv-check", "one.ll", "one.ll", TV="/no/tv").returncode, 127, "without a tv")
+    done = bench.run("tv-check", "--version")
+    has(done.stdout, "tv-check 1, Python 3.", f"tv {bench.variables['TV']} sha256 ", "opt ")
+
+
+def check_refusals(bench):
+    text = CALLS.replace("call i8 @outside(i8 %x)", "call i8 @llvm.ctpop.i8(i8 %x)")
+    bench.write("before.ll", text)
+    bench.write("after.ll", text.replace("add i8 %y, %y", "shl i8 %y, 1"))
+    done = bench.run("tv-check", "before.ll", "after.ll", "--keep", "kept")
+    equal(done.returncode, 3, "status")
+    has(done.stdout, "@calls refused source Unsupported 4:8 call @llvm.ctpop.i8\n",
+        "      1 call @llvm.ctpop.i8  intrinsics are not read: ")
+    equal(bench.only("kept", ".after.ll"), bench.file("after.ll"), "the module that is kept")
+
+
+def check_limit(bench):
+    bench.write("both.ll", open(SLOW).read() + "\n" + open(NAMES).read())
+    bench.write("after.ll", bench.passes("double", "both.ll").replace("ret i8 %x", "ret i8 0"))
+    begun = time.monotonic()
+    done = bench.run("tv-check", "both.ll", "after.ll", "--seconds", "2")
+    equal(time.monotonic() - begun < 30, True, "within its time")
+    equal(done.returncode, 2, "status")
+    has(done.stdout, "@slow unknown time\n", "unknown 1")
+    done = bench.run("tv-check", "both.ll", "after.ll", "--function", "old")
+    has(done.stdout, "@old ")
+    has_not(done.stdout, "@slow")
+
+
+def check_interrupted(bench):
+    bench.write("both.ll", open(ARITH).read() + "\n" + open(SLOW).read())
+    bench.write("after.ll", bench.passes("double,wrong", "both.ll"))
+    child = subprocess.Popen([os.path.join(TOOLS, "tv-check"), "both.ll", "after.ll", "-j", "2",
+                              "--seconds", "100", "--json=rows"], cwd=bench.folder, text=True,
+                             env=bench.variables, stdout=subprocess.PIPE, stderr=subprocess.PIPE,
+                             # a shell's job in the background is begun with interrupts ignored
+                             preexec_fn=lambda: signal.signal(signal.SIGINT, signal.SIG_DFL))
+    lines = [child.stdout.readline() for _ in range(10)]
+    equal(lines[9], "@calls refused source Unsupported 33:8 call @outside\n", "a row as it comes")
+    child.send_signal(signal.SIGINT)
+    rest, errors = child.communicate(timeout=60)
+    equal((child.returncode, errors), (130, "tv-check: interrupted: 5 of 6 functions\n"), "status")
+    has(rest, COUNTS)
+    equal(bench.file("rows").count("\n"), 5, "objects of the rows that there are")
+
+
+def check_forms(bench):
+    args = ("tv-check", "--opt", "-passes=double,wrong", ARITH)
+    done = bench.run(*args, "--json", "--junit=j.xml", "--sarif=s.json", "--html=p.html")
+    equal((done.returncode, done.stderr), (1, ""), "status")
+    rows = {row["function"]: row for row in map(json.loads, done.stdout.splitlines())}
+    equal(list(rows), ["twice", "bad_sum", "never", "heavy", "calls"], "objects")
+    wrong, refused = rows["bad_sum"], rows["calls"]
+    equal((wrong["kind"], wrong["path"], wrong["first_line"], wrong["bounds"]),
+          ("incorrect", ARITH, 9, {"turns": 4, "blocks": 2, "bytes": 8}), "an incorrect row")
+    equal(wrong["counterexample"][1], {"what": "arg 1", "name": "%y", "value": "1", "forms": ""},
+          "an argument")
+    equal([refused[key] for key in ("side", "line", "column", "what")],
+          ["source", 33, 8, "call @outside"], "a refused row")
+    suite, = xml.etree.ElementTree.parse(os.path.join(bench.folder, "j.xml")).getroot()
+    equal([suite.get(key) for key in ("tests", "failures", "errors", "skipped")],
+          ["5", "1", "0", "3"], "a suite")
+    equal(suite[1][0].tag, "failure", "the case of an incorrect row")
+    sarif = json.loads(bench.file("s.json"))
+    results = sarif["runs"][0]["results"]
+    equal([(each["ruleId"], each["level"]) for each in results],
+          [("incorrect", "error"), ("vacuous", "warning"), ("unknown", "warning"),
+           ("refused", "note")], "results")
+    equal(results[0]["locations"][0]["physicalLocation"],
+          {"artifactLocation": {"uri": ARITH}, "region": {"startLine": 9}}, "a place")
+    well_formed(bench.file("p.html"))
+    has(bench.file("p.html"), "@bad_sum incorrect", "<code>%y</code>", "sha256")
+
+
+def check_terminal(bench):
+    bench.write("both.ll", open(SLOW).read() + "\n" + open(ARITH).read())
+    bench.write("after.ll", bench.passes("double,wrong", "both.ll"))
+    leader, follower = pty.openpty()
+    child = subprocess.Popen([os.path.join(TOOLS, "tv-check"), "both.ll", "after.ll", "-j", "2",
+                              "--seconds", "3"], cwd=bench.folder, stdin=follower, stdout=follower,
+                             stderr=follower, env={**bench.variables, "TERM": "xterm"})
+    os.close(follower)
+    text = b""
+    with contextlib.suppress(OSError):
+        while True:
+            text += os.read(leader, 65536)
+    equal(child.wait(timeout=60), 1, "status")
+    os.close(leader)
+    text = text.decode().replace("\r\n", "\n")
+    has(text, "@twice \033[32mcorrect\033[0m", "\033[1;31mincorrect", "/6 functions, ", "@slow runs ",
+        "in the order of the text:\n@slow \033[33munknown", COUNTS.replace("unknown 1", "unknown 2"))
+    equal(text.index("@twice \033") < text.index("@slow \033"), True, "rows as they come")
+
+
+MEMORY = """define void @src(ptr %p, i32 %x) {
+  %a = getelementptr inbounds i8, ptr %p, i64 8
+  store i32 %x, ptr %a
+  ret void
+}
+define void @tgt(ptr %p, i32 %x) {
+  %a = getelementptr inbounds i8, ptr %p, i64 8
+  store i32 12345, ptr %a
+  ret void
+}
+define void @src2(ptr %p, i32 %x) {
+  store i32 %x, ptr %p, align 32
+  ret void
+}
+define void @tgt2(ptr %p, i32 %x) {
+  store i32 7, ptr %p, align 32
+  ret void
+}
+define i32 @src3(ptr %p, i32 %x) {
+entry:
+  %c = icmp ult i32 %x, 10
+  br i1 %c, label %a, label %b
+a:
+  %q = getelementptr inbounds i8, ptr %p, i64 40
+  store i32 %x, ptr %q
+  br label %b
+b:
+  %r = phi i32 [ 1, %a ], [ 0, %entry ]
+  ret i32 %r
+}
+define i32 @tgt3(ptr %p, i32 %x) {
+entry:
+  %c = icmp ult i32 %x, 10
+  br i1 %c, label %a, label %b
+a:
+  %q = getelementptr inbounds i8, ptr %p, i64 40
+  store i32 11, ptr %q
+  br label %b
+b:
+  %r = phi i32 [ 1, %a ], [ 0, %entry ]
+  ret i32 %r
+}
+define i8 @src4(ptr %p, i8 %i) {
+  %z = zext i8 %i to i64
+  %j = add i64 %z, 33
+  %q = getelementptr inbounds i8, ptr %p, i64 %j
+  %c = icmp ult i8 %i, 9
+  br i1 %c, label %a, label %b
+a:
+  %v = load i8, ptr %q
+  ret i8 %v
+b:
+  ret i8 0
+}
+define i8 @tgt4(ptr %p, i8 %i) {
+  ret i8 0
+}
+define i32 @src5(i32 %x) {
+entry:
+  br label %l
+l:
+  %i = phi i32 [ 0, %entry ], [ %n, %l ]
+  %n = add i32 %i, 1
+  %c = icmp eq i32 %n, 40
+  br i1 %c, label %e, label %l
+e:
+  ret i32 %x
+}
+define i32 @tgt5(i32 %x) {
+  ret i32 0
+}
+define i8 @src8(ptr %p, i8 %x) {
+  %c = icmp ult i8 %x, 3
+  br i1 %c, label %a, label %b
+a:
+  %d = icmp ugt i8 %x, 5
+  br i1 %d, label %dead, label %b
+dead:
+  store i8 1, ptr %p
+  br label %b
+b:
+  ret i8 0
+}
+define i8 @tgt8(ptr %p, i8 %x) {
+  ret i8 0
+}
+define i32 @src6(i1 %c, ptr %p) {
+entry:
+  %g = getelementptr i16, ptr %p, i64 6
+  br i1 %c, label %a, label %b
+a:
+  br label %b
+b:
+  %s = phi ptr [ %p, %entry ], [ %g, %a ]
+  %h = getelementptr i8, ptr %s, i64 4
+  %v = load i32, ptr %h
+  ret i32 %v
+}
+define i32 @tgt6(i1 %c, ptr %p) {
+  %g = getelementptr i16, ptr %p, i64 6
+  %s = select i1 %c, ptr %g, ptr %p
+  %h = getelementptr i8, ptr %s, i64 4
+  %v = load i32, ptr %h
+  ret i32 %v
+}
+define i16 @src7(ptr %p, ptr %q) {
+  %a = load i16, ptr %p
+  %b = load i16, ptr %q
+  %s = add i16 %a, %b
+  store i16 %s, ptr %p
+  ret i16 %s
+}
+define i16 @tgt7(ptr %p, ptr %q) {
+  %b = load i16, ptr %q
+  %a = load i16, ptr %p
+  %s = add i16 %b, %a
+  store i16 %s, ptr %p
+  ret i16 %s
+}
+"""
+
+
+def check_bounds(bench):
+    bench.write("m.ll", MEMORY)
+    done = bench.run("tv-check", "m.ll", "--seconds", "250")
+    equal((done.returncode, done.stderr), (1, ""), "status")
+    found = dict(re.findall(r"^@(\w+) (.*)$", done.stdout, re.M))
+    equal(found, {"src": "incorrect [blocks 1 bytes 12]",
+                  "src2": "vacuous source store undefined 12:3 [blocks 1]",
+                  "src3": "bounded source store undefined 25:3 [blocks 1]",
+                  "src4": "bounded source load undefined 50:8 [blocks 1]",
+                  "src8": "bounded source store unreached 79:3 [blocks 1]",
+                  "src5": "vacuous", "src6": "correct [blocks 1 bytes 20]",
+                  "src7": "correct"}, "rows")
+    done = bench.run("tv-check", "m.ll", "--seconds", "250", "--bytes", "8", "-f", "src")
+    has(done.stdout, "@src vacuous source store undefined 3:3 [blocks 1]\n")
+    done = bench.run("tv-check", "m.ll", "--seconds", "250", "-f", "src5", TV_ARGS="--turns 64")
+    equal(done.returncode, 1, "status of a loop within --turns")
+    has(done.stdout, "@src5 incorrect [turns 64]\n")
+
+
+def check_layout(bench):
+    text = 'source_filename = "x"\ntarget datalayout = "e-p:32:32"\n\n' \
+           "define i8 @f(i8 %x) {\n  %r = add i8 %x, %x\n  ret i8 %r\n}\n"
+    bench.write("a.ll", text)
+    bench.write("b.ll", text.replace("add i8 %x, %x", "shl i8 %x, 1"))
+    done = bench.run("tv-check", "a.ll", "b.ll")
+    equal(done.returncode, 3, "status")
+    has(done.stdout, '@f refused source data-layout 2:21 target datalayout "e-p:32:32"\n',
+        "tv judges 64-bit little-endian targets")
+
+
+def figures(bench):
+    done = bench.run("figures.py", "--check", TV_OPT="")
+    equal((done.returncode, done.stderr), (0, ""), f"status; docs/TOOLS.md: {done.stdout}")
 
 
 # opt-tv.
@@ -110,7 +450,7 @@ def opt_output_is_passed_on(bench):
     equal(done.stdout, bench.passes("double,wrong", ARITH), "output")
     equal(done.stderr, "", "messages")
     has(bench.only("tv-out", ".txt"), "opt-tv: -S -passes=double,wrong", "@twice correct",
-        "@bad_sum incorrect\n  arg 0 = 0\n", "@calls refused source Unsupported 33:8",
+        "@bad_sum incorrect\n  arg 0 %x = 0\n", "@calls refused source Unsupported 33:8 call @outside",
         "@heavy unknown weight")
     equal(bench.only("tv-out", ".before.ll"), open(ARITH).read(), "kept source")
     equal(bench.only("tv-out", ".after.ll"), done.stdout, "kept target")
@@ -155,39 +495,78 @@ def opt_steps(bench):
 def opt_not_text(bench):
     done = bench.run("opt-tv", "-S", "-passes=double", ARITH, "-o", "/dev/null", TV_GATE="1")
     equal(done.returncode, 0, "status")
-    has(bench.only("tv-out", ".txt"), "not judged: the output is not textual IR")
+    has(bench.only("tv-out", ".txt"), "not judged: opt wrote no module")
 
 
 def opt_without_tv(bench):
-    args = ("opt-tv", "-S", "-passes=double", ARITH)
-    equal(bench.run(*args, TV="/no/tv").returncode, 0, "status without the gate")
-    has(bench.only("tv-out", ".txt"), "not judged: TV=/no/tv: no such program")
-    equal(bench.run(*args, TV="/no/tv", TV_GATE="1").returncode, 127, "status with the gate")
+    for gate in ("", "1"):
+        done = bench.run("opt-tv", "-S", "-passes=double", ARITH, TV="/no/tv", TV_GATE=gate)
+        equal((done.returncode, done.stdout, done.stderr),
+              (127, "", "opt-tv: TV=/no/tv: no such program\n"), "status and messages")
 
 
 def opt_slow_pair(bench):
     bench.run("opt-tv", "-S", "-passes=double", SLOW, TV_TIME="1")
-    has(bench.only("tv-out", ".txt"), "function by function", "time-out after 1 s",
-        "@slow time-out 1 s")
+    has(bench.only("tv-out", ".txt"), "@slow unknown time\n", "unknown 1")
 
 
 def opt_whole_refusal(bench):
     bench.run("opt-tv", "-S", "-passes=double", WHOLE)
-    has(bench.only("tv-out", ".txt"), "before.ll:1:1: no token", "@good correct")
+    has(bench.only("tv-out", ".txt"), "@good correct")
+
+
+def opt_judges_nothing(bench):
+    bench.write("calls.ll", CALLS)
+    args = ("opt-tv", "-S", "-passes=double", "calls.ll")
+    done = bench.run(*args, TV_GATE="1")
+    equal(done.returncode, 3, "status where all is refused")
+    has(done.stderr, "nothing was judged (correct 0", "refused 1", "--allow-none")
+    has(bench.only("tv-out", ".before.ll"), "call i8 @outside")
+    has(bench.only("tv-out", ".after.ll"), "shl i8 %y, 1")
+    for more, variables in (([], {"TV_ALLOW_NONE": "1"}), (["--allow-none"], {})):
+        done = bench.run(*args, *more, TV_GATE="1", **variables)
+        equal((done.returncode, done.stderr), (0, ""), "status where that is allowed")
+
+
+def opt_same(bench):
+    bench.run("opt-tv", "-S", "-passes=wrong", ARITH)
+    has(bench.only("tv-out", ".txt"), "@twice same\n", "@calls same\n", "same 4")
+
+
+def opt_summary(bench):
+    for passes, file in (("double,wrong", ARITH), ("double", NAMES), ("double", ARITH)):
+        bench.run("opt-tv", "-S", f"-passes={passes}", file)
+    done = bench.run("opt-tv", "--summary")
+    equal(done.returncode, 1, "status")
+    has(done.stdout, "incorrect @bad_sum in tv-out/arith.ll-", "reports 3 without rows 0\n",
+        "\ncorrect 2 incorrect 1 unknown 2 refused 2 ")
+    done = bench.run("tv-baseline", "base", "tv-out", "--write")
+    equal(done.returncode, 1, "status of the baseline, for a row is incorrect")
+    has(done.stdout, "incorrect: -S -passes=double,wrong arith.ll @bad_sum incorrect")
+    has(bench.file("base"), "-S -passes=double arith.ll @calls refused source Unsupported\n",
+        "@never vacuous\n", "@heavy unknown weight\n")
 
 
 # tv-tree.
 
 PASSES = ("-p", "double,wrong", "-p", "rename,widen")
+CALLS = """declare i8 @outside(i8)
+
+define i8 @calls(i8 %x) {
+  %y = call i8 @outside(i8 %x)
+  %r = add i8 %y, %y
+  ret i8 %r
+}
+"""
 TOTALS = """modules 6 opt failed 2 functions 15
 same             7
-correct          2
-                 1  vacuous
+correct          1
 incorrect        1
+vacuous          1
 unknown          1
                  1  unknown weight
 refused          1
-                 1  refused source Unsupported call
+                 1  refused source Unsupported call @outside
 signature        1
 missing          1
 extra            1
@@ -201,14 +580,14 @@ def tree_run(bench, *args, **variables):
 
 
 def tree_totals(bench):
-    done = tree_run(bench, "--out", "one", "--vacuous")
+    done = tree_run(bench, "--out", "one")
     equal((done.returncode, done.stdout), (1, TOTALS), "status and totals")
     rows = {(row["passes"], row["function"]): row
             for row in csv.DictReader(bench.file("one", "rows.csv").splitlines())}
     row = rows["double,wrong", "calls"]
     equal([row[key] for key in ("kind", "cause", "word", "column")],
-          ["refused", "source Unsupported", "call", "8"], "a refused row")
-    equal(rows["double,wrong", "never"]["vacuous"], "vacuous", "a vacuous row")
+          ["refused", "source Unsupported", "call @outside", "8"], "a refused row")
+    equal(rows["double,wrong", "never"]["kind"], "vacuous", "a vacuous row")
     page = bench.file("one", "index.html")
     well_formed(page)
     has(page, "@bad_sum incorrect", "opt failed", "source Unsupported")
@@ -218,7 +597,7 @@ def tree_resumes(bench):
     log = os.path.join(bench.folder, "log")
     tree_run(bench, "--out", "one", FAKE_TV_LOG=log)
     first = bench.file("log").count("\n")
-    equal(first, 6, "pairs that were asked")
+    equal(first, 8, "runs of tv: six pairs, and how far two correct ones reach")
     done = tree_run(bench, "--out", "one", FAKE_TV_LOG=log)
     equal((done.returncode, bench.file("log").count("\n")), (1, first), "status and pairs")
 
@@ -245,7 +624,7 @@ def rows_without_times(bench, folder):
 def tree_time_out(bench):
     done = bench.run("tv-tree", "run", SLOW, "-p", "double", "--out", "one", "--seconds", "1")
     equal(done.returncode, 0, "status")
-    has(done.stdout, "time-out         1")
+    has(done.stdout, "1  unknown time")
 
 
 def tree_stopped(bench):
@@ -264,7 +643,7 @@ def tree_stopped(bench):
     left = [name for name in os.listdir(bench.folder) if name.startswith("tv-")]
     equal(left, [], "temporary files")
     done = bench.run(*args[:-1], "3")
-    has(done.stdout, "modules 2 opt failed 0 functions 6", "time-out         1")
+    has(done.stdout, "modules 2 opt failed 0 functions 6", "1  unknown time")
 
 
 def tree_bad_folder(bench):
@@ -278,9 +657,10 @@ def vacuous_rows(bench):
     bench.write("after.ll", bench.passes("double,wrong", ARITH))
     done = bench.run("tv-vacuous", ARITH, "after.ll")
     equal((done.returncode, done.stdout),
-          (1, "@never vacuous\ncorrect 2 vacuous 1 time-out 0 unknown 0\n"), "status and rows")
+          (1, "@never vacuous\n@heavy unknown weight\ncorrect 2 vacuous 1 bounded 0 unknown 1\n"),
+          "status and rows")
     done = bench.run("tv-vacuous", NAMES, NAMES)
-    equal((done.returncode, done.stdout), (0, "correct 2 vacuous 0 time-out 0 unknown 0\n"), "none")
+    equal((done.returncode, done.stdout), (0, "correct 0 vacuous 0 bounded 0 unknown 0\n"), "none")
     equal(bench.run("tv-vacuous", NAMES, "nowhere.ll").returncode, 5, "status without a file")
 
 
@@ -293,6 +673,43 @@ def reduced(bench):
     has(small, "@bad_sum(")
     has_not(small, "@old", "@wide")
     has(bench.file("in.reduced.after.ll"), "@bad_sum(")
+
+
+def reduced_pair(bench):
+    text = """define i32 @f(i32 %x, i32 %y, ptr %p) {
+entry:
+  %a = add i32 %x, 3
+  %c = icmp ult i32 %y, 10
+  br i1 %c, label %t, label %e
+t:
+  %d = add i32 %a, %y
+  br label %e
+e:
+  %r = phi i32 [ %d, %t ], [ %a, %entry ]
+  ret i32 %r
+}
+"""
+    bench.write("a.ll", text)
+    bench.write("b.ll", text.replace("%d = add", "%d = sub"))
+    done = bench.run("tv-reduce", "a.ll", "b.ll", "-f", "f", TV_TIME="200")
+    equal(done.returncode, 0, "status " + done.stderr)
+    has(done.stderr, " steps tried, ", " kept, ", " lines, ")
+    has(done.stdout, "a.reduced.ll", "@src incorrect\n")
+    small = bench.file("a.reduced.ll")
+    has(small, "define i32 @src(", "%d = add i32 %a, %y\n", "%d = sub i32 %a, %y\n")
+    has_not(small, "icmp", "phi", "ptr")
+    done = bench.run("tv-check", "a.reduced.ll")
+    equal(done.returncode, 1, "status of the small pair")
+
+
+def reduced_with_arguments(bench):
+    bench.write("in.ll", open(ARITH).read())
+    log = os.path.join(bench.folder, "log")
+    done = bench.run("tv-reduce", "in.ll", "-f", "bad_sum", "-p", "wrong", "--opt",
+                     "-unknown-to-the-fake", WRONG_OPT_LOG=log)
+    equal(done.returncode, 0, "status " + done.stderr)
+    has(done.stderr, "tv-reduce: ", " steps tried, ")
+    has(bench.file("log"), "-unknown-to-the-fake -passes=wrong")
 
 
 def nothing_to_reduce(bench):
@@ -331,8 +748,11 @@ def pages(bench):
     equal((done.returncode, done.stderr), (0, ""), "status")
     well_formed(done.stdout)
     has(done.stdout, "@bad_sum incorrect", "<code>returns 255</code></td><td>-1, 0xff",
-        "<mark>call</mark>", "incorrect <strong>1</strong>",
+        "<mark>call</mark>", "incorrect <strong>1</strong>", "<code>%y</code>", "sha256",
+        "seconds 10", "calls are not read",
         '<div class="new"><span class="no">+ 10</span>  %r = sub i8')
+    equal(re.findall(r'<details id="f-([^"]*)"( open)?', done.stdout)[:2],
+          [("bad_sum", " open"), ("never", "")], "the order of the functions")
     bench.write("report", "tv 1 turns 4\n@twice unknown rounds\n")
     bench.run("tv-html", ARITH, "after.ll", "--report", "report", "-o", "page.html")
     has(bench.file("page.html"), "@twice unknown rounds")
@@ -368,14 +788,14 @@ def baseline_of_tree(bench):
     tree_run(bench, "--out", "one")
     done = bench.run("tv-baseline", "base", "one/rows.csv", "--write")
     equal(done.returncode, 1, "status, for a row is incorrect")
-    has(bench.file("base"), "arith.ll double,wrong @calls refused source Unsupported call\n",
+    has(bench.file("base"), "arith.ll double,wrong @calls refused source Unsupported call @outside\n",
         "names.ll rename,widen @wide signature\n", "broken.ll double,wrong opt failed")
 
 
 # LLVM's own passes.
 
 def llvm_tree(bench):
-    done = bench.run("tv-tree", "run", ARITH, "-p", "instcombine", "--out", "one", "--vacuous")
+    done = bench.run("tv-tree", "run", ARITH, "-p", "instcombine", "--out", "one")
     equal(done.returncode, 0, "status " + done.stderr)
     has(done.stdout, "refused source Unsupported call", "vacuous")
 
@@ -390,7 +810,12 @@ def llvm_steps(bench):
 def llvm_bitcode(bench):
     done = bench.run("opt-tv", "-passes=instcombine", ARITH, "-o", "out.bc", TV_GATE="1")
     equal(done.returncode, 0, "status")
-    has(bench.only("tv-out", ".txt"), "not judged: the output is not textual IR")
+    has(bench.only("tv-out", ".txt"), "@twice correct")
+    done = bench.run("tv-check", "out.bc", "out.bc")
+    equal((done.returncode, done.stderr), (0, ""), "status of bitcode against itself")
+    has(done.stdout, "@twice same\n")
+    done = bench.run("tv-check", "--opt", "-passes=instcombine", "out.bc", "-f", "twice")
+    equal(done.returncode, 0, "status of opt on bitcode")
 
 
 def printed_modules():
@@ -712,9 +1137,12 @@ def most_functions(bench):
         equal(found, (1, wanted), f"answer of {workers} workers")
 
 
-EVERY = [opt_output_is_passed_on, opt_gate, opt_changed_names, opt_steps, tree_totals,
+EVERY = [check_two, check_src_and_tgt, check_forms, check_refusals, reduced_pair, opt_output_is_passed_on, opt_gate, opt_changed_names, opt_steps, tree_totals,
          vacuous_rows, pages]
-FAKE_ONLY = [help_is_one_screen, opt_reads_standard_input, opt_failure_is_passed_on, opt_not_text,
+REAL_ONLY = [proof_of_tv, check_bounds, check_layout, figures]
+FAKE_ONLY = [help_is_one_screen, check_folders, check_front, check_limit, check_interrupted,
+             check_terminal, reduced_with_arguments, opt_reads_standard_input, opt_failure_is_passed_on, opt_not_text,
+             opt_judges_nothing, opt_same, opt_summary,
              opt_without_tv, opt_slow_pair, opt_whole_refusal, tree_by_lines, tree_resumes,
              tree_time_out, tree_stopped, tree_bad_folder, reduced, nothing_to_reduce, baseline,
              baseline_of_tree, proof_parts, wrong_logs, no_proof_files, wrong_lrat]
@@ -763,7 +1191,7 @@ def cases():
     else:
         print("skipped: tv is not built (crates/tv/out/tv), nor named by TV")
     if real and writes_proofs(real):
-        for test in [proof_of_tv, *PUTS, *LARGE]:
+        for test in [*REAL_ONLY, *PUTS, *LARGE]:
             yield f"tv, {test.__name__}", test, {**fake, "TV": os.path.abspath(real)}
     else:
         print("skipped: there is no tv that writes proof files")

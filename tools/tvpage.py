@@ -1,11 +1,16 @@
 """Static pages: functions side by side, counterexamples, counts. No scripts, light and dark."""
+import collections
 import difflib
 import html
 import re
 
+import tvout
+import tvrun
+import tvwhy
+
 COLOURS = {"correct": "good", "same": "same", "incorrect": "bad", "unknown": "open",
-           "time-out": "open", "failed": "open", "refused": "grey", "signature": "grey",
-           "missing": "grey", "extra": "grey"}
+           "vacuous": "open", "bounded": "open", "failed": "open", "refused": "grey",
+           "signature": "grey", "missing": "grey", "extra": "grey"}
 
 STYLE = """
 :root { --page:#fff; --ink:#1c1e21; --faint:#5c6470; --edge:#d5d9df; --code:#f6f7f9; --old:#ffe3e0;
@@ -82,41 +87,12 @@ def table(heads, rows, numbers=()):
 
 # A counterexample.
 
-def widths(text):
-    """The widths of a function's parameters and of its return; None where one isn't iN."""
-    header = text.split("{", 1)[0]
-    found = re.match(r'.*?@(?:"[^"]*"|[-\w.$]+)\s*\((.*)\)', header, re.S)
-    inside = re.sub(r"\([^()]*\)", "", found.group(1)) if found else ""
-    params = [re.match(r"\s*i(\d+)\b", part) for part in inside.split(",")]
-    result = re.search(r"\bi(\d+)\s+@", header)
-    sizes = [int(part.group(1)) if part else None for part in params]
-    return sizes, result and int(result.group(1))
-
-
-def readings(value, width):
-    """What a number is as a signed number and in hexadecimal, where that looks different."""
-    if not value.isdigit() or not width or int(value) < 10 and int(value) < 1 << (width - 1):
-        return ""
-    number = int(value)
-    signed = number - (1 << width) if number >> (width - 1) else number
-    return f"{signed}, 0x{number:x}" if signed != number else f"0x{number:x}"
-
-
-def counterexample(lines, text):
+def counterexample(lines, function):
     """The lines below an incorrect row as a table."""
-    params, result = widths(text)
-    rows = []
-    for line in lines:
-        name, equals, value = line.strip().partition(" = ")
-        width = None
-        if not equals:
-            name, _, value = line.strip().partition(" ")
-            name, width = name + "’s run", result
-        elif re.fullmatch(r"arg \d+", name) and int(name[4:]) < len(params):
-            width = params[int(name[4:])]
-        number = value.removeprefix("returns ")
-        rows.append([escaped(name), f"<code>{escaped(value)}</code>", readings(number, width)])
-    return table(["", "value", "signed, hexadecimal"], rows)
+    rows = [[escaped(what if name or " " in what else what + "’s run"),
+             f"<code>{escaped(name)}</code>" if name else "", f"<code>{escaped(value)}</code>",
+             escaped(forms)] for what, name, value, forms in tvout.points(lines, function)]
+    return table(["", "name", "value", "signed, hexadecimal"], rows)
 
 
 # Two functions side by side.
@@ -175,10 +151,50 @@ def pair(before, after, first=(1, 1), mark=None):
     return f'<div class="pair">{left}{right}</div>'
 
 
-def section(row, before, after, first=(1, 1), note=""):
-    """A function of a report: row, counterexample, both texts; open unless it is correct."""
-    opened = "" if row.kind in ("correct", "same") else " open"
-    body = counterexample(row.lines, before) if row.lines and before else ""
-    code = pair(before, after, first, row.position()) if before or after else ""
+def section(row, source, target, note=""):
+    """A function of a report: row, counterexample, both texts; open where it is incorrect.
+    `source` and `target` are the functions, None where a side has none."""
+    opened = " open" if row.kind == "incorrect" else ""
+    body = counterexample(row.lines, source) if row.lines else ""
+    advice = tvwhy.ADVICE.get(row.advice, "")
+    body += f'<p class="faint">{escaped(advice)}</p>' if advice else ""
+    texts = [function.text if function else "" for function in (source, target)]
+    first = [function.first if function else 1 for function in (source, target)]
+    code = pair(*texts, first, row.position()) if any(texts) else ""
     return (f'<details id="f-{escaped(row.name)}"{opened}><summary>{dot(row.kind)}<code>'
             f"{escaped(row.text())}</code>{note}</summary>{body}{code}</details>\n")
+
+
+# A whole report.
+
+FIRST = ["incorrect", "failed", "vacuous", "bounded", "unknown", "refused", "signature", "missing",
+         "extra", "correct", "same"]
+
+
+def report_page(heads, pairs, rows):
+    """The page of a report: `heads` are lines on versions and options, `pairs` what was compared,
+    `rows` pairs with their rows. Incorrect functions come first, `same` ones last."""
+    title = f"{pairs[0].path} → {pairs[0].other}" if len(pairs) == 1 else f"{len(pairs)} modules"
+    counts = tvrun.counts_of([row for _, row in rows])
+    parts = [f'<p class="faint">{escaped(line)}</p>' for head in heads
+             for line in head.splitlines()]
+    parts.append(bar({kind: counts[kind] for kind in FIRST}))
+    parts += [f"<p>{escaped(each.path)}: {escaped(each.fault)}</p>"
+              for each in pairs if each.fault]
+    if not rows:
+        parts.append("<p>The report has no rows.</p>")
+    refused = [row for _, row in rows if row.kind == "refused" and row.what]
+    parts += refused_table(refused) if refused else []
+    for each, row in sorted(rows, key=lambda found: FIRST.index(found[1].kind)):
+        both = [module.functions.get(row.name) for module in (each.source, each.target)]
+        where = f' <span class="faint">{escaped(each.path)}</span>' if len(pairs) > 1 else ""
+        parts.append(section(row, *both, note=where))
+    return page(title, "\n".join(parts))
+
+
+def refused_table(refused):
+    """What was refused: how often, what is there, what to do."""
+    counts = collections.Counter((tvwhy.kind_of(row.what), row.advice) for row in refused)
+    rows = [[number, f"<code>{escaped(what)}</code>", escaped(tvwhy.ADVICE.get(advice, ""))]
+            for (what, advice), number in counts.most_common()]
+    return ["<h2>Refused</h2>", table(["rows", "what is there", "what to do"], rows, {0})]

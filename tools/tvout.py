@@ -1,0 +1,232 @@
+"""Forms of a report: text, JSON, JUnit, SARIF. tvpage.py has the page."""
+import collections
+import json
+import os
+import re
+import xml.sax.saxutils
+
+import tvbounds
+import tvir
+import tvrun
+import tvwhy
+
+COLOURS = {"correct": "32", "same": "32", "incorrect": "1;31", "unknown": "33", "vacuous": "33",
+           "bounded": "33", "failed": "31"}
+FAINT = "2"
+MEANINGS = {
+    "correct": "the target refines the source within the bounds",
+    "same": "the function is the same on both sides",
+    "incorrect": "a miscompilation: the target does what the source never does",
+    "unknown": "not decided: a budget or the time ran out",
+    "vacuous": "nothing was asked: the source is undefined for every input within the bounds",
+    "bounded": "a part was not asked: no input within the bounds gets past an access",
+    "refused": "not judged: tv does not read this",
+    "signature": "not judged: the types of parameters or of the return differ",
+    "missing": "not judged: the target does not define it",
+    "extra": "not judged: the source does not define it",
+    "failed": "not judged: tv ended without a report",
+}
+
+
+def painted(text, colour, colours):
+    return f"\033[{colour}m{text}\033[0m" if colours and colour else text
+
+
+# A counterexample.
+
+NUMBER = re.compile(r"(\d+)$")
+
+
+def widths_of(function):
+    """The widths of a function's parameters and of its return; None where one isn't iN."""
+    def width(text):
+        found = re.match(r"i(\d+)\b", text)
+        return int(found.group(1)) if found else None
+    return [width(part) for part in function.parameters()], width(function.result_type())
+
+
+def readings(value, width):
+    """A number as a signed number and in hexadecimal, where that looks different; else ''."""
+    if not value.isdigit() or not width or int(value) < 10 and int(value) < 1 << (width - 1):
+        return ""
+    number = int(value)
+    signed = number - (1 << width) if number >> (width - 1) else number
+    return f"{signed}, 0x{number:x}" if signed != number else f"0x{number:x}"
+
+
+def points(lines, function):
+    """The lines below an incorrect row as what, name, value, and other forms of the value."""
+    params, result = widths_of(function) if function else ([], None)
+    names = function.argument_names() if function else []
+    found = []
+    for line in lines:
+        what, equals, value = line.strip().partition(" = ")
+        name, width = "", None
+        if not equals:
+            what, _, value = line.strip().partition(" ")
+            width = result
+        elif re.fullmatch(r"arg \d+", what) and int(what[4:]) < len(names):
+            name, width = names[int(what[4:])], params[int(what[4:])]
+        number = value[len("returns "):] if value.startswith("returns ") else value
+        found.append((what, name, value, readings(number, width)))
+    return found
+
+
+def point_lines(lines, function):
+    """The same lines with the parameters' names, and the other forms of numbers in brackets."""
+    found = []
+    for line, (what, name, value, other) in zip(lines, points(lines, function)):
+        head, equals, _ = line.partition(" = ")
+        text = f"{head} {name} = {value}" if equals and name else line
+        found.append(f"{text} ({other})" if other else text)
+    return found
+
+
+# Text.
+
+def row_lines(row, function, colours=False):
+    """A row as the text report has it."""
+    kind = painted(row.kind, COLOURS.get(row.kind, FAINT), colours)
+    rest = row.text()[len(f"@{row.name} {row.kind}"):]
+    return [f"@{row.name} {kind}{rest}", *point_lines(row.lines, function)]
+
+
+def refusals(rows):
+    """The table of what was refused: how often, what, and what to do."""
+    counts = collections.Counter((tvwhy.kind_of(row.what), row.advice) for row in rows
+                                 if row.kind == "refused")
+    if not counts:
+        return []
+    wide = max(len(what) for what, _ in counts)
+    lines = [f"refused {sum(counts.values())}, by what is there:"]
+    shown = set()
+    for (what, advice), number in counts.most_common():
+        said = "" if advice in shown else f"  {tvwhy.ADVICE.get(advice, '')}"
+        lines.append(f"{number:7} {what:{wide}}{said}".rstrip())
+        shown.add(advice)
+    return lines
+
+
+# One object a row.
+
+def object_of(pair, row):
+    """A row for JSON; docs/TOOLS.md has the fields."""
+    function = pair.source.functions.get(row.name) if pair.source else None
+    path, line = pair.place(row.name)
+    position = row.position() or (None, None, None)
+    return {
+        "file": pair.path, "against": pair.other, "function": row.name, "kind": row.kind,
+        "detail": row.detail, "meaning": MEANINGS[row.kind], "path": path, "first_line": line,
+        "side": position[0], "line": position[1], "column": position[2],
+        "what": row.what, "advice": tvwhy.ADVICE.get(row.advice, ""),
+        "bounds": {**tvbounds.DEFAULTS, **row.bounds}, "seconds": row.seconds,
+        "counterexample": [dict(zip(("what", "name", "value", "forms"), point))
+                           for point in points(row.lines, function)],
+    }
+
+
+def json_of(results):
+    return "".join(json.dumps(object_of(pair, row)) + "\n" for pair, row in results)
+
+
+# JUnit.
+
+def quoted(text):
+    clean = "".join(char if char in "\t\n" or char >= " " else "?" for char in text)
+    return xml.sax.saxutils.quoteattr(
+        clean.encode("utf-8", "surrogateescape").decode("utf-8", "replace"))
+
+
+def case_of(pair, row):
+    """A function as a test case: incorrect fails, failed is an error, what isn't decided or
+    judged is skipped."""
+    head = (f'<testcase classname={quoted(pair.path)} name={quoted("@" + row.name)} '
+            f'time="{row.seconds:.3f}"')
+    if row.kind in ("correct", "same"):
+        return head + "/>"
+    function = pair.source.functions.get(row.name)
+    body = "\n".join(row_lines(row, function) + ([row.what] if row.what else []))
+    tag = {"incorrect": "failure", "failed": "error"}.get(row.kind, "skipped")
+    text = xml.sax.saxutils.escape(
+        body.encode("utf-8", "surrogateescape").decode("utf-8", "replace"))
+    said = quoted(f"{row.kind}: {MEANINGS[row.kind]}")
+    return f"{head}><{tag} message={said}>{text}</{tag}></testcase>"
+
+
+def junit_of(results):
+    suites = collections.OrderedDict()
+    for pair, row in results:
+        suites.setdefault((pair.path, pair.other), []).append((pair, row))
+    parts = []
+    for (path, other), found in suites.items():
+        rows = [row for _, row in found]
+        wrong = sum(row.kind == "incorrect" for row in rows)
+        failed = sum(row.kind == "failed" for row in rows)
+        good = sum(row.kind in ("correct", "same") for row in rows)
+        seconds = sum(row.seconds for row in rows)
+        cases = "\n".join(case_of(pair, row) for pair, row in found)
+        parts.append(f'<testsuite name={quoted(f"{path} to {other}")} tests="{len(rows)}" '
+                     f'failures="{wrong}" errors="{failed}" '
+                     f'skipped="{len(rows) - wrong - failed - good}" time="{seconds:.3f}">\n'
+                     f"{cases}\n</testsuite>")
+    return '<?xml version="1.0" encoding="UTF-8"?>\n<testsuites>\n' + "\n".join(parts) + \
+        "\n</testsuites>\n"
+
+
+# SARIF 2.1.0.
+
+SCHEMA = "https://json.schemastore.org/sarif-2.1.0.json"
+LEVELS = {"incorrect": "error", "unknown": "warning", "vacuous": "warning", "bounded": "warning",
+          "failed": "warning"}
+
+
+def result_of(pair, row):
+    """A row as a SARIF result, at the function's line, or at the position of an access or a
+    refusal where that is in the same file."""
+    path, line = pair.place(row.name)
+    function = pair.source.functions.get(row.name)
+    region = {"startLine": max(1, line)}
+    position = row.position()
+    if position and position[0] == "source" and pair.original is pair.source:
+        region = {"startLine": position[1], "startColumn": position[2]}
+    if position and position[0] == "target" and os.path.isfile(pair.other):
+        path, region = pair.other, {"startLine": position[1], "startColumn": position[2]}
+    lines = row_lines(row, function)
+    text = "\n".join([f"{lines[0]}: {MEANINGS[row.kind]}", *lines[1:],
+                      *filter(None, [row.what, tvwhy.ADVICE.get(row.advice, "")])])
+    return {"ruleId": row.kind, "level": LEVELS.get(row.kind, "note"),
+            "message": {"text": text.encode("utf-8", "replace").decode()},
+            "locations": [{"physicalLocation": {
+                "artifactLocation": {"uri": path.replace(os.sep, "/")}, "region": region}}],
+            "partialFingerprints": {"function/v1": f"{pair.path} @{row.name} {row.cause()}"}}
+
+
+def sarif_of(results, version):
+    rules = [{"id": kind, "shortDescription": {"text": text},
+              "defaultConfiguration": {"level": LEVELS.get(kind, "note")}}
+             for kind, text in MEANINGS.items() if kind not in ("correct", "same")]
+    found = [result_of(pair, row) for pair, row in results
+             if row.kind not in ("correct", "same")]
+    driver = {"name": "tv-check", "version": version, "rules": rules}
+    return json.dumps({"$schema": SCHEMA, "version": "2.1.0",
+                       "runs": [{"tool": {"driver": driver}, "results": found,
+                                 "columnKind": "unicodeCodePoints"}]}, indent=1) + "\n"
+
+
+# A whole report.
+
+def report_lines(head, groups, colours=False):
+    """A report as text: the first line, the rows of each pair, what was refused, the counts.
+    `groups` has each pair with its rows; the pairs are named where there are several."""
+    lines, rows = [head], []
+    for pair, found in groups:
+        if len(groups) > 1:
+            lines.append(f"module {pair.path}")
+        if pair.fault:
+            lines.append(f"fault {pair.fault}")
+        for row in found:
+            function = pair.source.functions.get(row.name)
+            lines += row_lines(row, function, colours)
+        rows += found
+    return [*lines, *refusals(rows), tvrun.counts_line(rows)]
+

@@ -1,0 +1,287 @@
+"""Running `tv check` on pairs, and its rows.
+
+A pair is one function of two modules. Each is judged by a process of its own, so that a slow one
+or one that is refused costs no other its row, and each `correct` is asked how far it reaches
+(tvbounds.Reach): it may become `vacuous` or `bounded`.
+"""
+import dataclasses
+import os
+import re
+import tempfile
+import time
+
+import tvbounds
+import tvir
+import tvlib
+import tvwhy
+
+KINDS = ["correct", "incorrect", "unknown", "refused", "signature", "missing", "extra"]
+OWN_KINDS = ["same", "vacuous", "bounded", "failed"]
+STATUSES = {"incorrect": 1, "unknown": 2, "vacuous": 2, "bounded": 2, "failed": 2,
+            "refused": 3, "signature": 3, "missing": 3, "extra": 3}
+JUDGED = {"same", "correct", "incorrect", "unknown", "vacuous", "bounded"}
+OPTIONS = ["turns", "blocks", "bytes", "rounds", "conflicts", "weight"]
+ROW = re.compile(rf"@({tvir.NAME}) ({'|'.join([*KINDS, *OWN_KINDS])})(?: (.*))?$")
+REFUSAL = re.compile(r"((?:source|target) \S+ \d+:\d+)(?: (.*))?$")
+POSITION = re.compile(r"(\d+):(\d+)$")
+BOUNDS = re.compile(r" \[((?:[a-z]+ \d+ ?)*)\]$")
+FAULT = re.compile(r"(?:.*/)?(before|after)\.ll:(\d+):(\d+): (.*)")
+SIDES = {"before": "source", "after": "target"}
+
+
+@dataclasses.dataclass
+class Row:
+    """A row of a report: name, kind, what follows the kind, and the lines of a counterexample.
+    Of a row that these scripts made also the bounds that aren't tv's own, the seconds that its
+    processes took, and of a refusal what is at its position, and the class of advice for it."""
+    name: str
+    kind: str
+    detail: str = ""
+    lines: list = dataclasses.field(default_factory=list)
+    bounds: dict = dataclasses.field(default_factory=dict)
+    seconds: float = 0.0
+    what: str = ""
+    advice: str = ""
+
+    def text(self):
+        """The row as a line: name, kind, detail, and the bounds in brackets."""
+        bounds = " ".join(f"{key} {number}" for key, number in self.bounds.items())
+        what = self.what if self.kind == "refused" else ""
+        return " ".join(filter(None, [f"@{self.name}", self.kind, self.detail, what,
+                                      bounds and f"[{bounds}]"]))
+
+    def whole(self):
+        """The row with its lines."""
+        return "\n".join([self.text(), *self.lines]) + "\n"
+
+    def position(self):
+        """Side, line and column of a refusal or of an access, or None."""
+        found = POSITION.search(self.detail)
+        side = self.detail.split(" ", 1)[0]
+        if self.kind not in ("refused", "bounded", "vacuous") or not found or side not in SIDES.values():
+            return None
+        return side, int(found.group(1)), int(found.group(2))
+
+    def reason(self):
+        """The word of a refusal after its side, e.g. Unsupported."""
+        parts = self.detail.split(" ")
+        return parts[1] if self.kind == "refused" and len(parts) > 1 else ""
+
+    def cause(self):
+        """Kind and cause without a position: what stays when lines move."""
+        kept = self.detail.rsplit(" ", 1)[0] if self.position() else self.detail
+        return f"{self.kind} {kept}".rstrip()
+
+
+def rows_of(report):
+    """The rows of a report of `tv check` or of `tv-check`."""
+    rows, last = [], None
+    for line in report.splitlines():
+        found = ROW.match(line)
+        if found:
+            detail, bounds = found.group(3) or "", {}
+            mark = BOUNDS.search(" " + detail)
+            if mark:
+                words = mark.group(1).split()
+                bounds = dict(zip(words[::2], map(int, words[1::2])))
+                detail = detail[:max(0, mark.start() - 1)].rstrip()
+            refusal, what = REFUSAL.match(detail), ""
+            if found.group(2) == "refused" and refusal:
+                detail, what = refusal.groups("")
+            rows.append(Row(found.group(1), found.group(2), detail, bounds=bounds, what=what))
+            last = rows[-1]
+        elif line.startswith("  ") and last:
+            last.lines.append(line)
+        else:
+            last = None
+    return rows
+
+
+def counts_of(rows):
+    """The number of rows of each kind."""
+    counts = {kind: 0 for kind in KINDS + OWN_KINDS}
+    for row in rows:
+        counts[row.kind] = counts.get(row.kind, 0) + 1
+    return counts
+
+
+def counts_line(rows):
+    """The last line of a report: tv's kinds, then those of these scripts that there are."""
+    counts = counts_of(rows)
+    return " ".join(f"{kind} {number}" for kind, number in counts.items()
+                    if kind in KINDS or number)
+
+
+def status_of(rows):
+    """The status of a report: 1 something is incorrect, 2 something isn't decided, or says
+    nothing, 3 something wasn't judged, else 0."""
+    return min((STATUSES[row.kind] for row in rows if row.kind in STATUSES), default=0)
+
+
+def is_judged(rows):
+    """Whether there is a row that says something of a pair."""
+    return any(row.kind in JUDGED for row in rows)
+
+
+# Asking tv.
+
+def given_bounds(words):
+    """The bounds among arguments of `tv check`, e.g. ["--turns", "8"], as a map."""
+    found = {}
+    for at, word in enumerate(words):
+        name, equals, value = word.partition("=")
+        name = name[2:] if name.startswith("--") else ""
+        value = value if equals else words[at + 1] if at + 1 < len(words) else ""
+        if name in tvbounds.DEFAULTS and re.fullmatch(r"\+?\d+", value):
+            found[name] = int(value)
+    return found
+
+
+def check(source, target, seconds, words=()):
+    """`tv check` of two files, with more arguments than TV_ARGS has."""
+    return tvlib.run([tvlib.tv_program(), "check", *words, *tvlib.tv_args(), source, target],
+                     seconds=seconds, group=True)
+
+
+def check_texts(source, target, seconds, words=()):
+    """`tv check` of two texts. `before.ll` and `after.ll` are their names in what it prints."""
+    with tempfile.TemporaryDirectory(prefix="tv-") as folder:
+        names = [os.path.join(folder, name) for name in ("before.ll", "after.ll")]
+        for name, text in zip(names, (source, target)):
+            with open(name, "wb") as file:
+                file.write(text.encode("utf-8", "surrogateescape"))
+        return check(*names, seconds, words)
+
+
+@dataclasses.dataclass
+class How:
+    """How pairs are judged: seconds for a process, arguments for tv that aren't in TV_ARGS, and
+    the call that runs tv on two texts, or has its answer."""
+    seconds: float
+    words: list = dataclasses.field(default_factory=list)
+    ask: object = check_texts
+
+    def given(self):
+        """The bounds that the user gave."""
+        return given_bounds([*self.words, *tvlib.tv_args()])
+
+    def rows(self, before, after, bounds):
+        """tv's rows on two texts with these bounds, or the failed or timed out row in their
+        place."""
+        more = {key: number for key, number in bounds.items() if key not in self.given()}
+        words = [*self.words, *(word for key, number in more.items()
+                                for word in (f"--{key}", str(number))), *SINGLE]
+        done = self.ask(before, after, self.seconds, words)
+        if done.status is None:
+            return [Row("", "unknown", "time")]
+        output = done.output.decode("utf-8", "surrogateescape")
+        fault = FAULT.match(output)
+        if done.status in range(4):
+            return rows_of(output)
+        if done.status == tvir.NOT_A_MODULE and fault:
+            reason = fault.group(4).strip().replace(" ", "-")
+            return [Row("", "refused", f"{SIDES[fault.group(1)]} {reason} "
+                                       f"{fault.group(2)}:{fault.group(3)}")]
+        if done.status in (4, 7):
+            raise tvlib.Failure(done.status, f"tv says: {output.strip() or 'nothing'}")
+        return [Row("", "failed", f"status {done.status}")]
+
+
+# One thread judges one pair; the report is the same for each number of them.
+SINGLE = ["--workers", "1"]
+
+
+# Judging a pair.
+
+def judge(source, target, name, how):
+    """The row of one function of two modules."""
+    if name not in target.functions:
+        return Row(name, "missing")
+    if name not in source.functions:
+        return Row(name, "extra")
+    if tvir.is_same(source, target, name):
+        return Row(name, "same")
+    begun = time.monotonic()
+    bounds = tvbounds.fitted(source, target, name, how.given())
+    sides = {"source": source.alone(name), "target": target.alone(name)}
+    found = how.rows(sides["source"].text, sides["target"].text, bounds)
+    row = dataclasses.replace(found[0], name=name) if len(found) == 1 \
+        else Row(name, "failed", f"{len(found)} rows")
+    row = placed(row, sides, {"source": source, "target": target})
+    if row.kind == "correct":
+        row = reached(row, source, name, how, bounds)
+    return dataclasses.replace(row, seconds=round(time.monotonic() - begun, 3),
+                               bounds=shown_bounds(bounds) if row.kind in JUDGED else {})
+
+
+def shown_bounds(bounds):
+    """Those of some bounds that aren't tv's own."""
+    return {key: number for key, number in bounds.items() if number != tvbounds.DEFAULTS.get(key)}
+
+
+def placed(row, sides, modules):
+    """A row of a function alone with the position of the whole module, and what is there."""
+    position = row.position()
+    if not position:
+        return row
+    side, line, column = position
+    line = sides[side].line(line)
+    detail = POSITION.sub(f"{line}:{column}", row.detail)
+    what, advice = tvwhy.explained(modules[side], row.reason(), line, column)
+    return dataclasses.replace(row, detail=detail, what=what, advice=advice)
+
+
+def reached(row, source, name, how, bounds):
+    """A correct row, or `vacuous` or `bounded` in its place; `unknown reach` where tv doesn't say
+    how far the source is defined."""
+    reach = tvbounds.Reach(source, name)
+    last = reach.last_ones()
+    questions = [tvbounds.VACUOUS, *((access, True) for access in last)]
+    kinds, why = asked(reach, questions, how, bounds)
+    if kinds is None:
+        return dataclasses.replace(row, kind="unknown", detail=f"reach {why}")
+    if kinds[0] == "correct":
+        return dataclasses.replace(row, kind="vacuous", detail=never(reach, how, bounds))
+    for access, kind in zip(last, kinds[1:]):
+        if kind == "correct":
+            return dataclasses.replace(row, kind="bounded",
+                                       detail=unreached(reach, access, how, bounds))
+    return row
+
+
+def asked(reach, questions, how, bounds):
+    """What tv says of each question, `correct` or `incorrect`, and an empty text; or None, and why
+    there is no answer."""
+    rows = how.rows(*reach.modules(questions), bounds)
+    odd = [row for row in rows if row.kind not in ("correct", "incorrect")]
+    if odd or len(rows) != len(questions):
+        return None, odd[0].detail.split(" ")[-1] if odd and odd[0].kind == "unknown" else "failed"
+    return [row.kind for row in rows], ""
+
+
+def never(reach, how, bounds):
+    """The first access of a vacuous source that is begun and that no input makes defined, in
+    words; empty where there is none on the way to the last one."""
+    if not reach.accesses:
+        return ""
+    last = max(reach.accesses, key=lambda each: (len(reach.over[each.block]), each.at))
+    found = unreached(reach, last, how, bounds)
+    return found if " undefined " in found else ""
+
+
+def unreached(reach, access, how, bounds):
+    """Which of the accesses on the way to one that no run passes is the first such, in words: the
+    side, load or store, `undefined` or `unreached`, and its position."""
+    chain = reach.chain(access)
+    questions = [(each, after) for each in chain for after in (False, True)]
+    kinds, _ = asked(reach, questions, how, bounds)
+    first, word = access, "unpassed"
+    if kinds:
+        at = kinds.index("correct") if "correct" in kinds else len(kinds) - 1
+        first, after = questions[at]
+        word = "undefined" if after else "unreached"
+    line = reach.function.first + first.at
+    text = reach.function.text.splitlines()[first.at]
+    begin = tvir.INSTRUCTION.match(text).start(2)
+    column = len(text[:begin].encode("utf-8", "surrogateescape")) + 1
+    return f"source {first.word} {word} {line}:{column}"
