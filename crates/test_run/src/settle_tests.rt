@@ -100,7 +100,6 @@ fn is_returned(outcome: &Outcome, wanted: Value) -> bool {
     matches!(outcome, Outcome::Return(Some(value), _) if *value == wanted)
 }
 
-#[tactic(auto, using(points::proofs::Runnable::runnable))]
 fn is_replayed(alloc: Global, row: &Replayed) -> Result<(), Fail> {
     let module = read(alloc, row.pair.as_bytes())
         .ok()
