@@ -3,6 +3,7 @@ use Rattle.std.proofs.Common.{◌≡◌, inl, inr, ℕ, zero, suc, ◌+◌, ◌*
 use Rattle.std.proofs.lemmas.List.Sums.{sum_by-cons}
 use Rattle.ir_tree.specs.declared.tree.Parameter.{Parameter}
 use Rattle.byte_block.specs.declared.value.Byte.{Byte}
+use Rattle.points.specs.declared.point.Layout.{Layout}
 use Rattle.points.specs.declared.point.Shape.{Shape}
 use Rattle.points.specs.Code.{WordsFit}
 use Rattle.points.specs.Codes.{IsCodeOfArgs, AreSizes, IsCodeOfByte, IsCodeOfPlaces, IsCodeOfBlocks, IsCode}
@@ -47,8 +48,8 @@ all_read room i places rest digits h past = end h.left (let count = h.count in o
 
 -- ---- what a code has to read
 
-small_bytes : (blocks : ℕ) (front back : List ℕ) → IsCodeOfByte blocks front → HasByte (front ++ back)
-small_bytes blocks front back h = elim h as (λ _. HasByte (front ++ back)) [
+small_bytes : (layout : Layout) (front back : List ℕ) → IsCodeOfByte layout front → HasByte (front ++ back)
+small_bytes layout front back h = elim h as (λ _. HasByte (front ++ back)) [
   | inl n ↦ rw n.is (record { five = omega arith; number = λ e. n.small; part = λ e. absurd (omega (arith, e)) })
   | inr other ↦ elim other as (λ _. HasByte (front ++ back)) [
     | inl p ↦ (let part = p.of_eight in rw p.is (record { five = omega arith; number = λ e. absurd (omega (arith, e)); part = λ e. omega (arith, part) }))
@@ -56,52 +57,52 @@ small_bytes blocks front back h = elim h as (λ _. HasByte (front ++ back)) [
   ]
 ]
 
-have_bytes : (blocks room size : ℕ) (front back : List ℕ) → IsCodeOfPlaces blocks room size front → HaveBytes room (front ++ back)
-have_bytes blocks zero size front back h = tt
-have_bytes blocks (suc room) zero front back h =
-    let rest = have_bytes blocks room zero h.back back h.in_back in
+have_bytes : (layout : Layout) (room size : ℕ) (front back : List ℕ) → IsCodeOfPlaces layout room size front → HaveBytes room (front ++ back)
+have_bytes layout zero size front back h = tt
+have_bytes layout (suc room) zero front back h =
+    let rest = have_bytes layout room zero h.back back h.in_back in
     rw (h.whole, h.in_front) (record { five = omega arith; number = λ e. omega arith; part = λ e. absurd (omega (arith, e)) }, rest)
-have_bytes blocks (suc room) (suc size) front back h =
-    let first = small_bytes blocks h.front (h.back ++ back) h.in_front in
-    let reads = read_byte blocks h.front (h.back ++ back) h.in_front in
-    let rest = have_bytes blocks room size h.back back h.in_back in
+have_bytes layout (suc room) (suc size) front back h =
+    let first = small_bytes layout h.front (h.back ++ back) h.in_front in
+    let reads = read_byte layout h.front (h.back ++ back) h.in_front in
+    let rest = have_bytes layout room size h.back back h.in_back in
     rw (h.whole) (rw (append_assoc h.front h.back back) (first, rw reads.rest rest))
 
-pub have_blocks : (blocks bytes n : ℕ) (sizes ds : List ℕ) → AreSizes bytes n sizes → IsCodeOfBlocks blocks bytes sizes ds → HaveBlocks bytes sizes ds
-have_blocks blocks bytes n [] ds small h = tt
-have_blocks blocks bytes (suc n) (size ∷ sizes) ds small h =
-    let reads = read_places blocks bytes size h.front h.back small.0 h.in_front in
+pub have_blocks : (layout : Layout) (n : ℕ) (sizes ds : List ℕ) → AreSizes layout n sizes → IsCodeOfBlocks layout sizes ds → HaveBlocks layout sizes ds
+have_blocks layout n [] ds small h = tt
+have_blocks layout (suc n) (size ∷ sizes) ds small h =
+    let reads = read_places layout layout.bytes size h.front h.back small.0 h.in_front in
     let long = reads.length in
-    let rest = have_blocks blocks bytes n sizes h.back small.1 h.in_back in
-    rw (h.whole) (record { enough = rw (length-append) (omega (arith, long)); are_bytes = have_bytes blocks bytes size h.front h.back h.in_front }, rw (drop_front h.front h.back (bytes * 5) long) rest)
-have_blocks blocks bytes zero (size ∷ sizes) ds small h = absurd small
+    let rest = have_blocks layout n sizes h.back small.1 h.in_back in
+    rw (h.whole) (record { enough = rw (length-append) (omega (arith, long)); are_bytes = have_bytes layout layout.bytes size h.front h.back h.in_front }, rw (drop_front h.front h.back (layout.bytes * 5) long) rest)
+have_blocks layout zero (size ∷ sizes) ds small h = absurd small
 
 -- ---- the parts of a code
 
-pub args_count : (blocks : ℕ) (ps : List Parameter) (ds : List ℕ) → IsCodeOfArgs blocks ps ds → length ds ≡ args_length ps
-args_count blocks [] ds h = rw h refl
-args_count blocks (p ∷ ps) ds h =
-    let first = read_value blocks p.of_type h.front h.back h.in_front in
+pub args_count : (layout : Layout) (ps : List Parameter) (ds : List ℕ) → IsCodeOfArgs layout ps ds → length ds ≡ args_length ps
+args_count layout [] ds h = rw h refl
+args_count layout (p ∷ ps) ds h =
+    let first = read_value layout p.of_type h.front h.back h.in_front in
     let long = first.length in
-    let rest = args_count blocks ps h.back h.in_back in
+    let rest = args_count layout ps h.back h.in_back in
     let sum = sum_by-cons (λ (q : Parameter). value_length q.of_type) p ps in
     rw (h.whole, length-append) (omega (arith, long, rest, sum))
 
-sizes_count : (bytes n : ℕ) (sizes : List ℕ) → AreSizes bytes n sizes → length sizes ≡ n
-sizes_count bytes zero [] h = refl
-sizes_count bytes (suc n) (size ∷ sizes) h = ap suc (sizes_count bytes n sizes h.1)
-sizes_count bytes zero (size ∷ sizes) h = absurd h
-sizes_count bytes (suc n) [] h = absurd h
+sizes_count : (layout : Layout) (n : ℕ) (sizes : List ℕ) → AreSizes layout n sizes → length sizes ≡ n
+sizes_count layout zero [] h = refl
+sizes_count layout (suc n) (size ∷ sizes) h = ap suc (sizes_count layout n sizes h.1)
+sizes_count layout zero (size ∷ sizes) h = absurd h
+sizes_count layout (suc n) [] h = absurd h
 
 -- how long the parts are
 pub record IsLong (s : Shape) (code : List ℕ) : Type 0 where
   pub places : ℕ
-  pub count : args_length s.parameters + (s.blocks + (places + s.words)) ≡ length code
+  pub count : args_length s.parameters + (s.layout.blocks + (places + s.words)) ≡ length code
 
 pub code_count : (s : Shape) (code : List ℕ) → IsCode s code → IsLong s code
 code_count s code h =
-    let a = args_count s.blocks s.parameters h.front h.in_front in
-    let b = sizes_count s.bytes s.blocks h.in_back.front h.in_back.in_front in
+    let a = args_count s.layout s.parameters h.front h.in_front in
+    let b = sizes_count s.layout s.layout.blocks h.in_back.front h.in_back.in_front in
     let d = WordsFit-length s.word_width.bits s.words h.in_back.in_back.back h.in_back.in_back.in_back in
     record {
       places = length h.in_back.in_back.front;
@@ -128,21 +129,21 @@ cut n whole front back ds es e long first rest = record {
 -- the parts that are cut out are the parts of the code
 pub record AreParts (s : Shape) (code args sizes places tape : List ℕ) : Type 0 where
   pub whole : code ≡ args ++ (sizes ++ (places ++ tape))
-  pub are_args : IsCodeOfArgs s.blocks s.parameters args
-  pub are_sizes : AreSizes s.bytes s.blocks sizes
-  pub are_places : IsCodeOfBlocks s.blocks s.bytes sizes places
+  pub are_args : IsCodeOfArgs s.layout s.parameters args
+  pub are_sizes : AreSizes s.layout s.layout.blocks sizes
+  pub are_places : IsCodeOfBlocks s.layout sizes places
   pub are_words : WordsFit s.word_width.bits s.words tape
 
-pub parts_are : (s : Shape) (code front tape args rest sizes places : List ℕ) (n m : ℕ) → IsCode s code → n + s.words ≡ length code → front ≡ take n code → tape ≡ drop n code → m ≡ args_length s.parameters → args ≡ take m front → rest ≡ drop m front → sizes ≡ take s.blocks rest → places ≡ drop s.blocks rest → AreParts s code args sizes places tape
+pub parts_are : (s : Shape) (code front tape args rest sizes places : List ℕ) (n m : ℕ) → IsCode s code → n + s.words ≡ length code → front ≡ take n code → tape ≡ drop n code → m ≡ args_length s.parameters → args ≡ take m front → rest ≡ drop m front → sizes ≡ take s.layout.blocks rest → places ≡ drop s.layout.blocks rest → AreParts s code args sizes places tape
 parts_are s code front tape args rest sizes places n m h long f t count a r z p =
     let hs = h.front in let zs = h.in_back.front in let ps = h.in_back.in_back.front in let ts = h.in_back.in_back.back in
     let whole : code ≡ hs ++ (zs ++ (ps ++ ts)) = h.whole ∙ ap (λ ds. hs ++ ds) (h.in_back.whole ∙ ap (λ ds. zs ++ ds) h.in_back.in_back.whole) in
     let again : code ≡ (hs ++ (zs ++ ps)) ++ ts = whole ∙ ap (λ ds. hs ++ ds) (sym (append_assoc zs ps ts)) ∙ sym (append_assoc hs (zs ++ ps) ts) in
-    let la = args_count s.blocks s.parameters hs h.in_front in
-    let lz = sizes_count s.bytes s.blocks zs h.in_back.in_front in
+    let la = args_count s.layout s.parameters hs h.in_front in
+    let lz = sizes_count s.layout s.layout.blocks zs h.in_back.in_front in
     let lt = WordsFit-length s.word_width.bits s.words ts h.in_back.in_back.in_back in
     let lw : length code ≡ length (hs ++ (zs ++ ps)) + length ts = ap length again ∙ length-append (hs ++ (zs ++ ps)) ts in
     let first = cut n code (hs ++ (zs ++ ps)) ts front tape again (omega (arith, long, lt, lw)) f t in
     let second = cut m front hs (zs ++ ps) args rest first.in_front (la ∙ sym count) a r in
-    let third = cut s.blocks rest zs ps sizes places second.behind lz z p in
+    let third = cut s.layout.blocks rest zs ps sizes places second.behind lz z p in
     rw (second.in_front, third.in_front, third.behind, first.behind) (record { whole = whole; are_args = h.in_front; are_sizes = h.in_back.in_front; are_places = h.in_back.in_back.in_front; are_words = h.in_back.in_back.in_back })

@@ -6,7 +6,6 @@ pub mod Cursor
 pub mod Decoded
 pub mod Front
 pub mod Memories
-pub mod OneOfEach
 pub mod Order
 pub mod Places
 pub mod Plain

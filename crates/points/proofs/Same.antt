@@ -14,6 +14,7 @@ use Rattle.byte_block.specs.declared.value.Value.TheVariants as value
 use Rattle.byte_block.specs.declared.value.Byte.{Byte}
 use Rattle.byte_block.specs.declared.value.Byte.TheVariants as byte
 use Rattle.byte_block.specs.declared.block.MemoryBlock.{MemoryBlock}
+use Rattle.points.specs.declared.point.Layout.{Layout}
 use Rattle.points.specs.declared.point.Point.{Point}
 use Rattle.points.specs.Code.{BlockFits, PointerFits, ValueFits, ArgsFit, ByteFits, BytesFit, IsGivenBlock, BlocksFit, WordsFit, name_digit, value_code, args_code, byte_code, places_code, blocks_code, code_of, place_of}
 use Rattle.points.specs.Laws.{PlacesTellPoints}
@@ -27,17 +28,17 @@ record Both {A : Type 0} (x y : A) (ms ns : List ℕ) : Type 0 where
   pub one : x ≡ y
   pub rest : ms ≡ ns
 
-same_block : (blocks : ℕ) (a b : BlockName) → BlockFits blocks a → BlockFits blocks b → name_digit blocks a ≡ name_digit blocks b → a ≡ b
-same_block blocks Null Null fits fits' e = refl
-same_block blocks Null (Given i) fits fits' e = absurd (let low = fits'.0 in omega (arith, e, low))
-same_block blocks (Given i) Null fits fits' e = absurd (let low = fits.0 in omega (arith, e, low))
-same_block blocks (Given i) (Given j) fits fits' e = ap Given e
-same_block blocks (Local t p) b fits fits' e = absurd fits
-same_block blocks Null (Local t p) fits fits' e = absurd fits'
-same_block blocks (Given i) (Local t p) fits fits' e = absurd fits'
+same_block : (layout : Layout) (a b : BlockName) → BlockFits layout a → BlockFits layout b → name_digit layout a ≡ name_digit layout b → a ≡ b
+same_block layout Null Null fits fits' e = refl
+same_block layout Null (Given i) fits fits' e = absurd (let low = fits'.0 in omega (arith, e, low))
+same_block layout (Given i) Null fits fits' e = absurd (let low = fits.0 in omega (arith, e, low))
+same_block layout (Given i) (Given j) fits fits' e = ap Given e
+same_block layout (Local t p) b fits fits' e = absurd fits
+same_block layout Null (Local t p) fits fits' e = absurd fits'
+same_block layout (Given i) (Local t p) fits fits' e = absurd fits'
 
-same_pointer : (blocks : ℕ) (p q : Ptr) → PointerFits blocks p → PointerFits blocks q → name_digit blocks p.block ≡ name_digit blocks q.block → p.offset ≡ q.offset → p ≡ q
-same_pointer blocks p q fits fits' e f = let b = same_block blocks p.block q.block fits.block fits'.block e in λ i. record { block = b i; offset = f i }
+same_pointer : (layout : Layout) (p q : Ptr) → PointerFits layout p → PointerFits layout q → name_digit layout p.block ≡ name_digit layout q.block → p.offset ≡ q.offset → p ≡ q
+same_pointer layout p q fits fits' e f = let b = same_block layout p.block q.block fits.block fits'.block e in λ i. record { block = b i; offset = f i }
 
 zero_not_one : {A : Type 0} → ◌≡◌ {A = ℕ} 0 1 → A
 zero_not_one e = absurd (omega (arith, e))
@@ -48,65 +49,65 @@ zero_not_two e = absurd (omega (arith, e))
 one_not_two : {A : Type 0} → ◌≡◌ {A = ℕ} 1 2 → A
 one_not_two e = absurd (omega (arith, e))
 
-same_value : (blocks : ℕ) (t : IrType) (v v' : Value) (rest rest' : List ℕ) → ValueFits blocks t v → ValueFits blocks t v' → value_code blocks t v ++ rest ≡ value_code blocks t v' ++ rest' → Both v v' rest rest'
-same_value blocks (Int w) (Num a) (Num b) rest rest' fits fits' e = let n : a ≡ b = cc in record { one = ap Num n; rest = cc }
-same_value blocks (Int w) Poison Poison rest rest' fits fits' e = record { one = refl; rest = cc }
-same_value blocks (Int w) (Num a) Poison rest rest' fits fits' e = let f : ◌≡◌ {A = ℕ} 0 1 = cc in zero_not_one f
-same_value blocks (Int w) Poison (Num b) rest rest' fits fits' e = let f : ◌≡◌ {A = ℕ} 0 1 = cc in zero_not_one f
-same_value blocks (Int w) (value.Ptr p) v' rest rest' fits fits' e = absurd fits
-same_value blocks (Int w) (Num a) (value.Ptr p) rest rest' fits fits' e = absurd fits'
-same_value blocks (Int w) Poison (value.Ptr p) rest rest' fits fits' e = absurd fits'
-same_value blocks type.Ptr (value.Ptr p) (value.Ptr q) rest rest' fits fits' e =
-    let b : name_digit blocks p.block ≡ name_digit blocks q.block = cc in
+same_value : (layout : Layout) (t : IrType) (v v' : Value) (rest rest' : List ℕ) → ValueFits layout t v → ValueFits layout t v' → value_code layout t v ++ rest ≡ value_code layout t v' ++ rest' → Both v v' rest rest'
+same_value layout (Int w) (Num a) (Num b) rest rest' fits fits' e = let n : a ≡ b = cc in record { one = ap Num n; rest = cc }
+same_value layout (Int w) Poison Poison rest rest' fits fits' e = record { one = refl; rest = cc }
+same_value layout (Int w) (Num a) Poison rest rest' fits fits' e = let f : ◌≡◌ {A = ℕ} 0 1 = cc in zero_not_one f
+same_value layout (Int w) Poison (Num b) rest rest' fits fits' e = let f : ◌≡◌ {A = ℕ} 0 1 = cc in zero_not_one f
+same_value layout (Int w) (value.Ptr p) v' rest rest' fits fits' e = absurd fits
+same_value layout (Int w) (Num a) (value.Ptr p) rest rest' fits fits' e = absurd fits'
+same_value layout (Int w) Poison (value.Ptr p) rest rest' fits fits' e = absurd fits'
+same_value layout type.Ptr (value.Ptr p) (value.Ptr q) rest rest' fits fits' e =
+    let b : name_digit layout p.block ≡ name_digit layout q.block = cc in
     let o : p.offset ≡ q.offset = cc in
-    record { one = ap value.Ptr (same_pointer blocks p q fits fits' b o); rest = cc }
-same_value blocks type.Ptr Poison Poison rest rest' fits fits' e = record { one = refl; rest = cc }
-same_value blocks type.Ptr (value.Ptr p) Poison rest rest' fits fits' e = let f : ◌≡◌ {A = ℕ} 0 1 = cc in zero_not_one f
-same_value blocks type.Ptr Poison (value.Ptr q) rest rest' fits fits' e = let f : ◌≡◌ {A = ℕ} 0 1 = cc in zero_not_one f
-same_value blocks type.Ptr (Num a) v' rest rest' fits fits' e = absurd fits
-same_value blocks type.Ptr (value.Ptr p) (Num b) rest rest' fits fits' e = absurd fits'
-same_value blocks type.Ptr Poison (Num b) rest rest' fits fits' e = absurd fits'
+    record { one = ap value.Ptr (same_pointer layout p q fits fits' b o); rest = cc }
+same_value layout type.Ptr Poison Poison rest rest' fits fits' e = record { one = refl; rest = cc }
+same_value layout type.Ptr (value.Ptr p) Poison rest rest' fits fits' e = let f : ◌≡◌ {A = ℕ} 0 1 = cc in zero_not_one f
+same_value layout type.Ptr Poison (value.Ptr q) rest rest' fits fits' e = let f : ◌≡◌ {A = ℕ} 0 1 = cc in zero_not_one f
+same_value layout type.Ptr (Num a) v' rest rest' fits fits' e = absurd fits
+same_value layout type.Ptr (value.Ptr p) (Num b) rest rest' fits fits' e = absurd fits'
+same_value layout type.Ptr Poison (Num b) rest rest' fits fits' e = absurd fits'
 
 both_cons : {A : Type 0} (x y : A) (xs ys : List A) (rest rest' : List ℕ) → x ≡ y → Both xs ys rest rest' → Both (x ∷ xs) (y ∷ ys) rest rest'
 both_cons x y xs ys rest rest' e b = let f = b.one in record { one = cc; rest = b.rest }
 
-same_args : (blocks : ℕ) (ps : List Parameter) (vs vs' : List Value) (rest rest' : List ℕ) → ArgsFit blocks ps vs → ArgsFit blocks ps vs' → args_code blocks ps vs ++ rest ≡ args_code blocks ps vs' ++ rest' → Both vs vs' rest rest'
-same_args blocks [] [] [] rest rest' fits fits' e = record { one = refl; rest = e }
-same_args blocks (p ∷ ps) (v ∷ vs) (v' ∷ vs') rest rest' fits fits' e =
-    let e' : value_code blocks p.of_type v ++ (args_code blocks ps vs ++ rest) ≡ value_code blocks p.of_type v' ++ (args_code blocks ps vs' ++ rest') = sym (append_assoc (value_code blocks p.of_type v) (args_code blocks ps vs) rest) ∙ e ∙ append_assoc (value_code blocks p.of_type v') (args_code blocks ps vs') rest' in
-    let first = same_value blocks p.of_type v v' (args_code blocks ps vs ++ rest) (args_code blocks ps vs' ++ rest') fits.0 fits'.0 e' in
-    both_cons v v' vs vs' rest rest' first.one (same_args blocks ps vs vs' rest rest' fits.1 fits'.1 first.rest)
-same_args blocks [] (v ∷ vs) vs' rest rest' fits fits' e = absurd fits
-same_args blocks [] [] (v ∷ vs') rest rest' fits fits' e = absurd fits'
-same_args blocks (p ∷ ps) [] vs' rest rest' fits fits' e = absurd fits
-same_args blocks (p ∷ ps) (v ∷ vs) [] rest rest' fits fits' e = absurd fits'
+same_args : (layout : Layout) (ps : List Parameter) (vs vs' : List Value) (rest rest' : List ℕ) → ArgsFit layout ps vs → ArgsFit layout ps vs' → args_code layout ps vs ++ rest ≡ args_code layout ps vs' ++ rest' → Both vs vs' rest rest'
+same_args layout [] [] [] rest rest' fits fits' e = record { one = refl; rest = e }
+same_args layout (p ∷ ps) (v ∷ vs) (v' ∷ vs') rest rest' fits fits' e =
+    let e' : value_code layout p.of_type v ++ (args_code layout ps vs ++ rest) ≡ value_code layout p.of_type v' ++ (args_code layout ps vs' ++ rest') = sym (append_assoc (value_code layout p.of_type v) (args_code layout ps vs) rest) ∙ e ∙ append_assoc (value_code layout p.of_type v') (args_code layout ps vs') rest' in
+    let first = same_value layout p.of_type v v' (args_code layout ps vs ++ rest) (args_code layout ps vs' ++ rest') fits.0 fits'.0 e' in
+    both_cons v v' vs vs' rest rest' first.one (same_args layout ps vs vs' rest rest' fits.1 fits'.1 first.rest)
+same_args layout [] (v ∷ vs) vs' rest rest' fits fits' e = absurd fits
+same_args layout [] [] (v ∷ vs') rest rest' fits fits' e = absurd fits'
+same_args layout (p ∷ ps) [] vs' rest rest' fits fits' e = absurd fits
+same_args layout (p ∷ ps) (v ∷ vs) [] rest rest' fits fits' e = absurd fits'
 
 -- ---- bytes
 
-same_byte : (blocks : ℕ) (b b' : Byte) (rest rest' : List ℕ) → ByteFits blocks b → ByteFits blocks b' → byte_code blocks b ++ rest ≡ byte_code blocks b' ++ rest' → Both b b' rest rest'
-same_byte blocks (byte.Num a) (byte.Num b) rest rest' fits fits' e = let n : a ≡ b = cc in record { one = ap byte.Num n; rest = cc }
-same_byte blocks (byte.Part p i) (byte.Part q j) rest rest' fits fits' e =
-    let b : name_digit blocks p.block ≡ name_digit blocks q.block = cc in
+same_byte : (layout : Layout) (b b' : Byte) (rest rest' : List ℕ) → ByteFits layout b → ByteFits layout b' → byte_code layout b ++ rest ≡ byte_code layout b' ++ rest' → Both b b' rest rest'
+same_byte layout (byte.Num a) (byte.Num b) rest rest' fits fits' e = let n : a ≡ b = cc in record { one = ap byte.Num n; rest = cc }
+same_byte layout (byte.Part p i) (byte.Part q j) rest rest' fits fits' e =
+    let b : name_digit layout p.block ≡ name_digit layout q.block = cc in
     let o : p.offset ≡ q.offset = cc in
     let k : i ≡ j = cc in
-    let s = same_pointer blocks p q fits.0 fits'.0 b o in
+    let s = same_pointer layout p q fits.0 fits'.0 b o in
     record { one = λ x. byte.Part (s x) (k x); rest = cc }
-same_byte blocks byte.Poison byte.Poison rest rest' fits fits' e = record { one = refl; rest = cc }
-same_byte blocks (byte.Num a) (byte.Part q j) rest rest' fits fits' e = let f : ◌≡◌ {A = ℕ} 0 1 = cc in zero_not_one f
-same_byte blocks (byte.Part p i) (byte.Num b) rest rest' fits fits' e = let f : ◌≡◌ {A = ℕ} 0 1 = cc in zero_not_one f
-same_byte blocks (byte.Num a) byte.Poison rest rest' fits fits' e = let f : ◌≡◌ {A = ℕ} 0 2 = cc in zero_not_two f
-same_byte blocks byte.Poison (byte.Num b) rest rest' fits fits' e = let f : ◌≡◌ {A = ℕ} 0 2 = cc in zero_not_two f
-same_byte blocks (byte.Part p i) byte.Poison rest rest' fits fits' e = let f : ◌≡◌ {A = ℕ} 1 2 = cc in one_not_two f
-same_byte blocks byte.Poison (byte.Part q j) rest rest' fits fits' e = let f : ◌≡◌ {A = ℕ} 1 2 = cc in one_not_two f
+same_byte layout byte.Poison byte.Poison rest rest' fits fits' e = record { one = refl; rest = cc }
+same_byte layout (byte.Num a) (byte.Part q j) rest rest' fits fits' e = let f : ◌≡◌ {A = ℕ} 0 1 = cc in zero_not_one f
+same_byte layout (byte.Part p i) (byte.Num b) rest rest' fits fits' e = let f : ◌≡◌ {A = ℕ} 0 1 = cc in zero_not_one f
+same_byte layout (byte.Num a) byte.Poison rest rest' fits fits' e = let f : ◌≡◌ {A = ℕ} 0 2 = cc in zero_not_two f
+same_byte layout byte.Poison (byte.Num b) rest rest' fits fits' e = let f : ◌≡◌ {A = ℕ} 0 2 = cc in zero_not_two f
+same_byte layout (byte.Part p i) byte.Poison rest rest' fits fits' e = let f : ◌≡◌ {A = ℕ} 1 2 = cc in one_not_two f
+same_byte layout byte.Poison (byte.Part q j) rest rest' fits fits' e = let f : ◌≡◌ {A = ℕ} 1 2 = cc in one_not_two f
 
-same_bytes : (blocks : ℕ) (bs bs' : List Byte) (rest rest' : List ℕ) → BytesFit blocks bs → BytesFit blocks bs' → length bs ≡ length bs' → flat_map (byte_code blocks) bs ++ rest ≡ flat_map (byte_code blocks) bs' ++ rest' → Both bs bs' rest rest'
-same_bytes blocks [] [] rest rest' fits fits' long e = record { one = refl; rest = e }
-same_bytes blocks (b ∷ bs) (b' ∷ bs') rest rest' fits fits' long e =
-    let e' : byte_code blocks b ++ (flat_map (byte_code blocks) bs ++ rest) ≡ byte_code blocks b' ++ (flat_map (byte_code blocks) bs' ++ rest') = sym (append_assoc (byte_code blocks b) (flat_map (byte_code blocks) bs) rest) ∙ e ∙ append_assoc (byte_code blocks b') (flat_map (byte_code blocks) bs') rest' in
-    let first = same_byte blocks b b' (flat_map (byte_code blocks) bs ++ rest) (flat_map (byte_code blocks) bs' ++ rest') fits.0 fits'.0 e' in
-    both_cons b b' bs bs' rest rest' first.one (same_bytes blocks bs bs' rest rest' fits.1 fits'.1 (omega (arith, long)) first.rest)
-same_bytes blocks [] (b ∷ bs) rest rest' fits fits' long e = absurd (omega (arith, long))
-same_bytes blocks (b ∷ bs) [] rest rest' fits fits' long e = absurd (omega (arith, long))
+same_bytes : (layout : Layout) (bs bs' : List Byte) (rest rest' : List ℕ) → BytesFit layout bs → BytesFit layout bs' → length bs ≡ length bs' → flat_map (byte_code layout) bs ++ rest ≡ flat_map (byte_code layout) bs' ++ rest' → Both bs bs' rest rest'
+same_bytes layout [] [] rest rest' fits fits' long e = record { one = refl; rest = e }
+same_bytes layout (b ∷ bs) (b' ∷ bs') rest rest' fits fits' long e =
+    let e' : byte_code layout b ++ (flat_map (byte_code layout) bs ++ rest) ≡ byte_code layout b' ++ (flat_map (byte_code layout) bs' ++ rest') = sym (append_assoc (byte_code layout b) (flat_map (byte_code layout) bs) rest) ∙ e ∙ append_assoc (byte_code layout b') (flat_map (byte_code layout) bs') rest' in
+    let first = same_byte layout b b' (flat_map (byte_code layout) bs ++ rest) (flat_map (byte_code layout) bs' ++ rest') fits.0 fits'.0 e' in
+    both_cons b b' bs bs' rest rest' first.one (same_bytes layout bs bs' rest rest' fits.1 fits'.1 (omega (arith, long)) first.rest)
+same_bytes layout [] (b ∷ bs) rest rest' fits fits' long e = absurd (omega (arith, long))
+same_bytes layout (b ∷ bs) [] rest rest' fits fits' long e = absurd (omega (arith, long))
 
 -- ---- blocks
 
@@ -122,94 +123,94 @@ same_sizes (b ∷ bs) (b' ∷ bs') rest rest' long e =
 same_sizes [] (b ∷ bs) rest rest' long e = absurd (omega (arith, long))
 same_sizes (b ∷ bs) [] rest rest' long e = absurd (omega (arith, long))
 
-one_block : (blocks bytes number : ℕ) (b b' : MemoryBlock) → IsGivenBlock blocks bytes number b → IsGivenBlock blocks bytes number b' → b.size ≡ b'.size → b.places ≡ b'.places → b ≡ b'
-one_block blocks bytes number b b' given given' e f =
+one_block : (layout : Layout) (number : ℕ) (b b' : MemoryBlock) → IsGivenBlock layout number b → IsGivenBlock layout number b' → b.size ≡ b'.size → b.places ≡ b'.places → b ≡ b'
+one_block layout number b b' given given' e f =
     let n : b.name ≡ b'.name = given.named ∙ sym given'.named in
     let a : b.align ≡ b'.align = given.aligned ∙ sym given'.aligned in
     λ i. record { name = n i; size = e i; align = a i; places = f i }
 
-same_blocks : (blocks bytes number : ℕ) (bs bs' : List MemoryBlock) (rest rest' : List ℕ) → BlocksFit blocks bytes number bs → BlocksFit blocks bytes number bs' → sizes_of bs ≡ sizes_of bs' → flat_map (places_code blocks) bs ++ rest ≡ flat_map (places_code blocks) bs' ++ rest' → Both bs bs' rest rest'
-same_blocks blocks bytes number [] [] rest rest' fits fits' sizes e = record { one = refl; rest = e }
-same_blocks blocks bytes number (b ∷ bs) (b' ∷ bs') rest rest' fits fits' sizes e =
+same_blocks : (layout : Layout) (number : ℕ) (bs bs' : List MemoryBlock) (rest rest' : List ℕ) → BlocksFit layout number bs → BlocksFit layout number bs' → sizes_of bs ≡ sizes_of bs' → flat_map (places_code layout) bs ++ rest ≡ flat_map (places_code layout) bs' ++ rest' → Both bs bs' rest rest'
+same_blocks layout number [] [] rest rest' fits fits' sizes e = record { one = refl; rest = e }
+same_blocks layout number (b ∷ bs) (b' ∷ bs') rest rest' fits fits' sizes e =
     let n : b.size ≡ b'.size = cc in
     let more : sizes_of bs ≡ sizes_of bs' = cc in
-    let e' : places_code blocks b ++ (flat_map (places_code blocks) bs ++ rest) ≡ places_code blocks b' ++ (flat_map (places_code blocks) bs' ++ rest') = sym (append_assoc (places_code blocks b) (flat_map (places_code blocks) bs) rest) ∙ e ∙ append_assoc (places_code blocks b') (flat_map (places_code blocks) bs') rest' in
-    let first = same_bytes blocks b.places b'.places (flat_map (places_code blocks) bs ++ rest) (flat_map (places_code blocks) bs' ++ rest') fits.0.fit fits'.0.fit (fits.0.room ∙ sym fits'.0.room) e' in
-    both_cons b b' bs bs' rest rest' (one_block blocks bytes number b b' fits.0 fits'.0 n first.one) (same_blocks blocks bytes (number + 1) bs bs' rest rest' fits.1 fits'.1 more first.rest)
-same_blocks blocks bytes number [] (b ∷ bs) rest rest' fits fits' sizes e = absurd (let l : length (sizes_of []) ≡ length (sizes_of (b ∷ bs)) = ap length sizes in omega (arith, l))
-same_blocks blocks bytes number (b ∷ bs) [] rest rest' fits fits' sizes e = absurd (let l : length (sizes_of (b ∷ bs)) ≡ length (sizes_of []) = ap length sizes in omega (arith, l))
+    let e' : places_code layout b ++ (flat_map (places_code layout) bs ++ rest) ≡ places_code layout b' ++ (flat_map (places_code layout) bs' ++ rest') = sym (append_assoc (places_code layout b) (flat_map (places_code layout) bs) rest) ∙ e ∙ append_assoc (places_code layout b') (flat_map (places_code layout) bs') rest' in
+    let first = same_bytes layout b.places b'.places (flat_map (places_code layout) bs ++ rest) (flat_map (places_code layout) bs' ++ rest') fits.0.fit fits'.0.fit (fits.0.room ∙ sym fits'.0.room) e' in
+    both_cons b b' bs bs' rest rest' (one_block layout number b b' fits.0 fits'.0 n first.one) (same_blocks layout (number + 1) bs bs' rest rest' fits.1 fits'.1 more first.rest)
+same_blocks layout number [] (b ∷ bs) rest rest' fits fits' sizes e = absurd (let l : length (sizes_of []) ≡ length (sizes_of (b ∷ bs)) = ap length sizes in omega (arith, l))
+same_blocks layout number (b ∷ bs) [] rest rest' fits fits' sizes e = absurd (let l : length (sizes_of (b ∷ bs)) ≡ length (sizes_of []) = ap length sizes in omega (arith, l))
 
-pub BlocksFit-length : (blocks bytes number : ℕ) (bs : List MemoryBlock) → BlocksFit blocks bytes number bs → number + length bs ≡ blocks + 1
-BlocksFit-length blocks bytes number [] h = rw add-zero h
-BlocksFit-length blocks bytes number (b ∷ bs) h = let rest = BlocksFit-length blocks bytes (number + 1) bs h.1 in omega (arith, rest)
+pub BlocksFit-length : (layout : Layout) (number : ℕ) (bs : List MemoryBlock) → BlocksFit layout number bs → number + length bs ≡ layout.blocks + 1
+BlocksFit-length layout number [] h = rw add-zero h
+BlocksFit-length layout number (b ∷ bs) h = let rest = BlocksFit-length layout (number + 1) bs h.1 in omega (arith, rest)
 
-pub blocks_count : (blocks bytes : ℕ) (bs : List MemoryBlock) → BlocksFit blocks bytes 1 bs → length bs ≡ blocks
-blocks_count blocks bytes bs h = let e = BlocksFit-length blocks bytes 1 bs h in omega (arith, e)
+pub blocks_count : (layout : Layout) (bs : List MemoryBlock) → BlocksFit layout 1 bs → length bs ≡ layout.blocks
+blocks_count layout bs h = let e = BlocksFit-length layout 1 bs h in omega (arith, e)
 
 -- ---- digits
 
-pub byte_digits : (blocks : ℕ) (b : Byte) → blocks < 2 ^ 64 → ByteFits blocks b → Digits 5 (byte_code blocks b)
-byte_digits blocks (byte.Num n) few fits = (omega arith, (omega (arith, fits), (omega arith, (omega arith, (omega arith, tt)))))
-byte_digits blocks (byte.Part p i) few fits = (omega arith, (omega arith, (name_small blocks p.block few fits.0.block, (fits.0.offset, ((let part = fits.1 in omega (arith, part)), tt)))))
-byte_digits blocks byte.Poison few fits = (omega arith, (omega arith, (omega arith, (omega arith, (omega arith, tt)))))
+pub byte_digits : (layout : Layout) (b : Byte) → layout.blocks < 2 ^ 64 → ByteFits layout b → Digits 5 (byte_code layout b)
+byte_digits layout (byte.Num n) few fits = (omega arith, (omega (arith, fits), (omega arith, (omega arith, (omega arith, tt)))))
+byte_digits layout (byte.Part p i) few fits = (omega arith, (omega arith, (name_small layout p.block few fits.0.block, (fits.0.offset, ((let part = fits.1 in omega (arith, part)), tt)))))
+byte_digits layout byte.Poison few fits = (omega arith, (omega arith, (omega arith, (omega arith, (omega arith, tt)))))
 
-pub bytes_digits : (blocks : ℕ) (bs : List Byte) → blocks < 2 ^ 64 → BytesFit blocks bs → Digits (length bs * 5) (flat_map (byte_code blocks) bs)
-bytes_digits blocks [] few fits = digits_as (0 * 5) 0 [] (omega arith) tt
-bytes_digits blocks (b ∷ bs) few fits = digits_as (suc (length bs) * 5) (5 + length bs * 5) (flat_map (byte_code blocks) (b ∷ bs)) (omega arith) (Digits-append 5 (length bs * 5) (byte_code blocks b) (flat_map (byte_code blocks) bs) (byte_digits blocks b few fits.0) (bytes_digits blocks bs few fits.1))
+pub bytes_digits : (layout : Layout) (bs : List Byte) → layout.blocks < 2 ^ 64 → BytesFit layout bs → Digits (length bs * 5) (flat_map (byte_code layout) bs)
+bytes_digits layout [] few fits = digits_as (0 * 5) 0 [] (omega arith) tt
+bytes_digits layout (b ∷ bs) few fits = digits_as (suc (length bs) * 5) (5 + length bs * 5) (flat_map (byte_code layout) (b ∷ bs)) (omega arith) (Digits-append 5 (length bs * 5) (byte_code layout b) (flat_map (byte_code layout) bs) (byte_digits layout b few fits.0) (bytes_digits layout bs few fits.1))
 
-pub sizes_digits : (blocks bytes number : ℕ) (bs : List MemoryBlock) → bytes < 2 ^ 64 → BlocksFit blocks bytes number bs → Digits (length bs) (sizes_of bs)
-sizes_digits blocks bytes number [] short fits = tt
-sizes_digits blocks bytes number (b ∷ bs) short fits = ((let small = fits.0.small in omega (arith, small, short)), sizes_digits blocks bytes (number + 1) bs short fits.1)
+pub sizes_digits : (layout : Layout) (number : ℕ) (bs : List MemoryBlock) → layout.bytes < 2 ^ 64 → BlocksFit layout number bs → Digits (length bs) (sizes_of bs)
+sizes_digits layout number [] short fits = tt
+sizes_digits layout number (b ∷ bs) short fits = ((let small = fits.0.small in omega (arith, small, short)), sizes_digits layout (number + 1) bs short fits.1)
 
-pub places_digits : (blocks bytes number : ℕ) (bs : List MemoryBlock) → blocks < 2 ^ 64 → BlocksFit blocks bytes number bs → Digits (length bs * (bytes * 5)) (flat_map (places_code blocks) bs)
-places_digits blocks bytes number [] few fits = digits_as (0 * (bytes * 5)) 0 [] (omega arith) tt
-places_digits blocks bytes number (b ∷ bs) few fits =
-    let here : Digits (length b.places * 5) (places_code blocks b) = bytes_digits blocks b.places few fits.0.fit in
+pub places_digits : (layout : Layout) (number : ℕ) (bs : List MemoryBlock) → layout.blocks < 2 ^ 64 → BlocksFit layout number bs → Digits (length bs * (layout.bytes * 5)) (flat_map (places_code layout) bs)
+places_digits layout number [] few fits = digits_as (0 * (layout.bytes * 5)) 0 [] (omega arith) tt
+places_digits layout number (b ∷ bs) few fits =
+    let here : Digits (length b.places * 5) (places_code layout b) = bytes_digits layout b.places few fits.0.fit in
     let here' = rw fits.0.room at here in
-    digits_as (suc (length bs) * (bytes * 5)) (bytes * 5 + length bs * (bytes * 5)) (flat_map (places_code blocks) (b ∷ bs)) (omega arith) (Digits-append (bytes * 5) (length bs * (bytes * 5)) (places_code blocks b) (flat_map (places_code blocks) bs) here' (places_digits blocks bytes (number + 1) bs few fits.1))
+    digits_as (suc (length bs) * (layout.bytes * 5)) (layout.bytes * 5 + length bs * (layout.bytes * 5)) (flat_map (places_code layout) (b ∷ bs)) (omega arith) (Digits-append (layout.bytes * 5) (length bs * (layout.bytes * 5)) (places_code layout b) (flat_map (places_code layout) bs) here' (places_digits layout (number + 1) bs few fits.1))
 
-pub blocks_digits : (blocks bytes : ℕ) (bs : List MemoryBlock) → blocks < 2 ^ 64 → bytes < 2 ^ 64 → BlocksFit blocks bytes 1 bs → Digits (blocks + blocks * (bytes * 5)) (blocks_code blocks bs)
-blocks_digits blocks bytes bs few short fits =
-    let count = blocks_count blocks bytes bs fits in
-    let sizes = sizes_digits blocks bytes 1 bs short fits in
-    let places = places_digits blocks bytes 1 bs few fits in
-    Digits-append blocks (blocks * (bytes * 5)) (sizes_of bs) (flat_map (places_code blocks) bs) (rw (← count) sizes) (rw (← count) places)
+pub blocks_digits : (layout : Layout) (bs : List MemoryBlock) → layout.blocks < 2 ^ 64 → layout.bytes < 2 ^ 64 → BlocksFit layout 1 bs → Digits (layout.blocks + layout.blocks * (layout.bytes * 5)) (blocks_code layout bs)
+blocks_digits layout bs few short fits =
+    let count = blocks_count layout bs fits in
+    let sizes = sizes_digits layout 1 bs short fits in
+    let places = places_digits layout 1 bs few fits in
+    Digits-append layout.blocks (layout.blocks * (layout.bytes * 5)) (sizes_of bs) (flat_map (places_code layout) bs) (rw (← count) sizes) (rw (← count) places)
 
 -- ---- points
 
 -- what a point of a shape has, by the numbers of the shape
-pub record Fits (blocks bytes words width : ℕ) (ps : List Parameter) (p : Point) : Type 0 where
-  pub args : ArgsFit blocks ps p.input.args
-  pub given : BlocksFit blocks bytes 1 p.input.blocks
+pub record Fits (layout : Layout) (words width : ℕ) (ps : List Parameter) (p : Point) : Type 0 where
+  pub args : ArgsFit layout ps p.input.args
+  pub given : BlocksFit layout 1 p.input.blocks
   pub tape : WordsFit width words p.tape
 
-abbrev pub code_length : ℕ → ℕ → ℕ → List Parameter → ℕ
-code_length blocks bytes words ps = digits_of ps + (blocks + blocks * (bytes * 5) + words)
+abbrev pub code_length : Layout → ℕ → List Parameter → ℕ
+code_length layout words ps = digits_of ps + (layout.blocks + layout.blocks * (layout.bytes * 5) + words)
 
-pub code_digits : (blocks bytes words width : ℕ) (ps : List Parameter) (p : Point) → blocks < 2 ^ 64 → bytes < 2 ^ 64 → width ≤ 64 → Fits blocks bytes words width ps p → Digits (code_length blocks bytes words ps) (code_of blocks ps p)
-code_digits blocks bytes words width ps p few short narrow fits =
-    Digits-append (digits_of ps) (blocks + blocks * (bytes * 5) + words) (args_code blocks ps p.input.args) (blocks_code blocks p.input.blocks ++ p.tape)
-    (args_digits blocks ps p.input.args few fits.args)
-    (Digits-append (blocks + blocks * (bytes * 5)) words (blocks_code blocks p.input.blocks) p.tape (blocks_digits blocks bytes p.input.blocks few short fits.given) (WordsFit-digits width words p.tape narrow fits.tape))
+pub code_digits : (layout : Layout) (words width : ℕ) (ps : List Parameter) (p : Point) → layout.blocks < 2 ^ 64 → layout.bytes < 2 ^ 64 → width ≤ 64 → Fits layout words width ps p → Digits (code_length layout words ps) (code_of layout ps p)
+code_digits layout words width ps p few short narrow fits =
+    Digits-append (digits_of ps) (layout.blocks + layout.blocks * (layout.bytes * 5) + words) (args_code layout ps p.input.args) (blocks_code layout p.input.blocks ++ p.tape)
+    (args_digits layout ps p.input.args few fits.args)
+    (Digits-append (layout.blocks + layout.blocks * (layout.bytes * 5)) words (blocks_code layout p.input.blocks) p.tape (blocks_digits layout p.input.blocks few short fits.given) (WordsFit-digits width words p.tape narrow fits.tape))
 
-pub same_coded : (blocks bytes : ℕ) (ps : List Parameter) (p q : Point) → ArgsFit blocks ps p.input.args → ArgsFit blocks ps q.input.args → BlocksFit blocks bytes 1 p.input.blocks → BlocksFit blocks bytes 1 q.input.blocks → code_of blocks ps p ≡ code_of blocks ps q → p ≡ q
-same_coded blocks bytes ps p q fit fit' given given' codes =
-    let args = same_args blocks ps p.input.args q.input.args (blocks_code blocks p.input.blocks ++ p.tape) (blocks_code blocks q.input.blocks ++ q.tape) fit fit' codes in
-    let long : length p.input.blocks ≡ length q.input.blocks = blocks_count blocks bytes p.input.blocks given ∙ sym (blocks_count blocks bytes q.input.blocks given') in
-    let rest : sizes_of p.input.blocks ++ (flat_map (places_code blocks) p.input.blocks ++ p.tape) ≡ sizes_of q.input.blocks ++ (flat_map (places_code blocks) q.input.blocks ++ q.tape) =
-    sym (append_assoc (sizes_of p.input.blocks) (flat_map (places_code blocks) p.input.blocks) p.tape) ∙ args.rest ∙ append_assoc (sizes_of q.input.blocks) (flat_map (places_code blocks) q.input.blocks) q.tape in
-    let sizes = same_sizes p.input.blocks q.input.blocks (flat_map (places_code blocks) p.input.blocks ++ p.tape) (flat_map (places_code blocks) q.input.blocks ++ q.tape) long rest in
-    let both = same_blocks blocks bytes 1 p.input.blocks q.input.blocks p.tape q.tape given given' sizes.one sizes.rest in
+pub same_coded : (layout : Layout) (ps : List Parameter) (p q : Point) → ArgsFit layout ps p.input.args → ArgsFit layout ps q.input.args → BlocksFit layout 1 p.input.blocks → BlocksFit layout 1 q.input.blocks → code_of layout ps p ≡ code_of layout ps q → p ≡ q
+same_coded layout ps p q fit fit' given given' codes =
+    let args = same_args layout ps p.input.args q.input.args (blocks_code layout p.input.blocks ++ p.tape) (blocks_code layout q.input.blocks ++ q.tape) fit fit' codes in
+    let long : length p.input.blocks ≡ length q.input.blocks = blocks_count layout p.input.blocks given ∙ sym (blocks_count layout q.input.blocks given') in
+    let rest : sizes_of p.input.blocks ++ (flat_map (places_code layout) p.input.blocks ++ p.tape) ≡ sizes_of q.input.blocks ++ (flat_map (places_code layout) q.input.blocks ++ q.tape) =
+    sym (append_assoc (sizes_of p.input.blocks) (flat_map (places_code layout) p.input.blocks) p.tape) ∙ args.rest ∙ append_assoc (sizes_of q.input.blocks) (flat_map (places_code layout) q.input.blocks) q.tape in
+    let sizes = same_sizes p.input.blocks q.input.blocks (flat_map (places_code layout) p.input.blocks ++ p.tape) (flat_map (places_code layout) q.input.blocks ++ q.tape) long rest in
+    let both = same_blocks layout 1 p.input.blocks q.input.blocks p.tape q.tape given given' sizes.one sizes.rest in
     let a = args.one in let b = both.one in let t = both.rest in
     λ i. record { input = record { args = a i; blocks = b i }; tape = t i }
 
-pub same_point : (blocks bytes words width : ℕ) (ps : List Parameter) (p q : Point) → blocks < 2 ^ 64 → bytes < 2 ^ 64 → width ≤ 64 → Fits blocks bytes words width ps p → Fits blocks bytes words width ps q → place_of blocks ps p ≡ place_of blocks ps q → p ≡ q
-same_point blocks bytes words width ps p q few short narrow fits fits' e =
-    let n = code_length blocks bytes words ps in
-    let codes : code_of blocks ps p ≡ code_of blocks ps q = number_of-same n (code_of blocks ps p) (code_of blocks ps q) (code_digits blocks bytes words width ps p few short narrow fits) (code_digits blocks bytes words width ps q few short narrow fits') e in
-    same_coded blocks bytes ps p q fits.args fits'.args fits.given fits'.given codes
+pub same_point : (layout : Layout) (words width : ℕ) (ps : List Parameter) (p q : Point) → layout.blocks < 2 ^ 64 → layout.bytes < 2 ^ 64 → width ≤ 64 → Fits layout words width ps p → Fits layout words width ps q → place_of layout ps p ≡ place_of layout ps q → p ≡ q
+same_point layout words width ps p q few short narrow fits fits' e =
+    let n = code_length layout words ps in
+    let codes : code_of layout ps p ≡ code_of layout ps q = number_of-same n (code_of layout ps p) (code_of layout ps q) (code_digits layout words width ps p few short narrow fits) (code_digits layout words width ps q few short narrow fits') e in
+    same_coded layout ps p q fits.args fits'.args fits.given fits'.given codes
 
 pub places_tell_points : PlacesTellPoints
 places_tell_points = λ s p q few short fits fits' e.
-    same_point s.blocks s.bytes s.words s.word_width.bits s.parameters p q few short s.word_width.at_most_64
+    same_point s.layout s.words s.word_width.bits s.parameters p q few short s.word_width.at_most_64
     (record { args = fits.args; given = fits.given; tape = fits.tape }) (record { args = fits'.args; given = fits'.given; tape = fits'.tape }) e

@@ -12,6 +12,7 @@ use Rattle.byte_block.specs.declared.value.BlockName.TheVariants.{Null, Given, L
 use Rattle.byte_block.specs.declared.value.Byte.{Byte}
 use Rattle.byte_block.specs.declared.value.Byte.TheVariants as byte
 use Rattle.byte_block.specs.declared.block.MemoryBlock.{MemoryBlock}
+use Rattle.points.specs.declared.point.Layout.{Layout}
 use Rattle.points.specs.declared.point.Point.{Point}
 use Rattle.points.specs.declared.point.Shape.{Shape}
 
@@ -22,53 +23,57 @@ number_of (d ∷ ds) = d * (2 ^ 64) ^ length ds + number_of ds
 
 -- ---- the values of a shape
 
--- null, or one of `blocks` given blocks
-abbrev pub BlockFits : ℕ → BlockName → Type 0
-BlockFits blocks Null = Unit {0}
-BlockFits blocks (Given number) = (1 ≤ number) × (number ≤ blocks)
-BlockFits blocks (Local turn place) = ⊥
+-- without given blocks
+abbrev pub no_blocks : Layout
+no_blocks = record { blocks = 0; bytes = 0 }
 
-pub record PointerFits (blocks : ℕ) (p : Ptr) : Type 0 where
-  pub block : BlockFits blocks p.block
+-- null, or a given block
+abbrev pub BlockFits : Layout → BlockName → Type 0
+BlockFits layout Null = Unit {0}
+BlockFits layout (Given number) = (1 ≤ number) × (number ≤ layout.blocks)
+BlockFits layout (Local turn place) = ⊥
+
+pub record PointerFits (layout : Layout) (p : Ptr) : Type 0 where
+  pub block : BlockFits layout p.block
   pub offset : p.offset < 2 ^ 64
 
-abbrev pub ValueFits : ℕ → IrType → Value → Type 0
-ValueFits blocks (type.Int width) (value.Num n) = n < 2 ^ width.bits
-ValueFits blocks (type.Int width) value.Poison = Unit {0}
-ValueFits blocks (type.Int width) (value.Ptr p) = ⊥
-ValueFits blocks type.Ptr (value.Num n) = ⊥
-ValueFits blocks type.Ptr value.Poison = Unit {0}
-ValueFits blocks type.Ptr (value.Ptr p) = PointerFits blocks p
+abbrev pub ValueFits : Layout → IrType → Value → Type 0
+ValueFits layout (type.Int width) (value.Num n) = n < 2 ^ width.bits
+ValueFits layout (type.Int width) value.Poison = Unit {0}
+ValueFits layout (type.Int width) (value.Ptr p) = ⊥
+ValueFits layout type.Ptr (value.Num n) = ⊥
+ValueFits layout type.Ptr value.Poison = Unit {0}
+ValueFits layout type.Ptr (value.Ptr p) = PointerFits layout p
 
 -- one argument for each parameter
-abbrev pub ArgsFit : ℕ → List Parameter → List Value → Type 0
-ArgsFit blocks [] [] = Unit {0}
-ArgsFit blocks (p ∷ ps) (v ∷ vs) = ValueFits blocks p.of_type v × ArgsFit blocks ps vs
-ArgsFit blocks [] (v ∷ vs) = ⊥
-ArgsFit blocks (p ∷ ps) [] = ⊥
+abbrev pub ArgsFit : Layout → List Parameter → List Value → Type 0
+ArgsFit layout [] [] = Unit {0}
+ArgsFit layout (p ∷ ps) (v ∷ vs) = ValueFits layout p.of_type v × ArgsFit layout ps vs
+ArgsFit layout [] (v ∷ vs) = ⊥
+ArgsFit layout (p ∷ ps) [] = ⊥
 
-abbrev pub ByteFits : ℕ → Byte → Type 0
-ByteFits blocks (byte.Num n) = n < 2 ^ 8
-ByteFits blocks (byte.Part p i) = PointerFits blocks p × (i ≤ 7)
-ByteFits blocks byte.Poison = Unit {0}
+abbrev pub ByteFits : Layout → Byte → Type 0
+ByteFits layout (byte.Num n) = n < 2 ^ 8
+ByteFits layout (byte.Part p i) = PointerFits layout p × (i ≤ 7)
+ByteFits layout byte.Poison = Unit {0}
 
-abbrev pub BytesFit : ℕ → List Byte → Type 0
-BytesFit blocks [] = Unit {0}
-BytesFit blocks (b ∷ bs) = ByteFits blocks b × BytesFit blocks bs
+abbrev pub BytesFit : Layout → List Byte → Type 0
+BytesFit layout [] = Unit {0}
+BytesFit layout (b ∷ bs) = ByteFits layout b × BytesFit layout bs
 
--- the given block of this number, among `blocks`: its size is at most `bytes`, it has room for `bytes` bytes, and those past its size are the number 0
-pub record IsGivenBlock (blocks bytes number : ℕ) (block : MemoryBlock) : Type 0 where
+-- the given block of this number: its size is at most the layout's number of bytes, it has room for that many, and those past its size are the number 0
+pub record IsGivenBlock (layout : Layout) (number : ℕ) (block : MemoryBlock) : Type 0 where
   pub named : block.name ≡ Given number
   pub aligned : block.align ≡ 16
-  pub small : block.size ≤ bytes
-  pub room : length block.places ≡ bytes
-  pub past : drop block.size block.places ≡ replicate (bytes - block.size) (byte.Num 0)
-  pub fit : BytesFit blocks block.places
+  pub small : block.size ≤ layout.bytes
+  pub room : length block.places ≡ layout.bytes
+  pub past : drop block.size block.places ≡ replicate (layout.bytes - block.size) (byte.Num 0)
+  pub fit : BytesFit layout block.places
 
 -- the given blocks from this number on
-abbrev pub BlocksFit : ℕ → ℕ → ℕ → List MemoryBlock → Type 0
-BlocksFit blocks bytes number [] = number ≡ blocks + 1
-BlocksFit blocks bytes number (b ∷ bs) = IsGivenBlock blocks bytes number b × BlocksFit blocks bytes (number + 1) bs
+abbrev pub BlocksFit : Layout → ℕ → List MemoryBlock → Type 0
+BlocksFit layout number [] = number ≡ layout.blocks + 1
+BlocksFit layout number (b ∷ bs) = IsGivenBlock layout number b × BlocksFit layout (number + 1) bs
 
 -- n words, each below 2 ^ width
 abbrev pub WordsFit : ℕ → ℕ → List ℕ → Type 0
@@ -78,47 +83,47 @@ WordsFit width zero (w ∷ ws) = ⊥
 WordsFit width (suc n) [] = ⊥
 
 pub record IsOfShape (s : Shape) (p : Point) : Type 0 where
-  pub args : ArgsFit s.blocks s.parameters p.input.args
-  pub given : BlocksFit s.blocks s.bytes 1 p.input.blocks
+  pub args : ArgsFit s.layout s.parameters p.input.args
+  pub given : BlocksFit s.layout 1 p.input.blocks
   pub tape : WordsFit s.word_width.bits s.words p.tape
 
 -- ---- their code
 
--- among `blocks` given blocks
-abbrev pub name_digit : ℕ → BlockName → ℕ
-name_digit blocks Null = 0
-name_digit blocks (Given number) = number
-name_digit blocks (Local turn place) = 0
+-- the number of a given block; null's is 0
+abbrev pub name_digit : Layout → BlockName → ℕ
+name_digit layout Null = 0
+name_digit layout (Given number) = number
+name_digit layout (Local turn place) = 0
 
 -- a flag, which is 1 for poison, and the number, or the block and the offset; what isn't used is 0
-abbrev pub value_code : ℕ → IrType → Value → List ℕ
-value_code blocks (type.Int width) (value.Num n) = 0 ∷ n ∷ []
-value_code blocks (type.Int width) _ = 1 ∷ 0 ∷ []
-value_code blocks type.Ptr (value.Ptr p) = 0 ∷ name_digit blocks p.block ∷ p.offset ∷ []
-value_code blocks type.Ptr _ = 1 ∷ 0 ∷ 0 ∷ []
+abbrev pub value_code : Layout → IrType → Value → List ℕ
+value_code layout (type.Int width) (value.Num n) = 0 ∷ n ∷ []
+value_code layout (type.Int width) _ = 1 ∷ 0 ∷ []
+value_code layout type.Ptr (value.Ptr p) = 0 ∷ name_digit layout p.block ∷ p.offset ∷ []
+value_code layout type.Ptr _ = 1 ∷ 0 ∷ 0 ∷ []
 
-abbrev pub args_code : ℕ → List Parameter → List Value → List ℕ
-args_code blocks (p ∷ ps) (v ∷ vs) = value_code blocks p.of_type v ++ args_code blocks ps vs
-args_code blocks _ _ = []
+abbrev pub args_code : Layout → List Parameter → List Value → List ℕ
+args_code layout (p ∷ ps) (v ∷ vs) = value_code layout p.of_type v ++ args_code layout ps vs
+args_code layout _ _ = []
 
 -- the kind, the number, the pointer's block and offset, and the part's index; what isn't used is 0
-abbrev pub byte_code : ℕ → Byte → List ℕ
-byte_code blocks (byte.Num n) = 0 ∷ n ∷ 0 ∷ 0 ∷ 0 ∷ []
-byte_code blocks (byte.Part p i) = 1 ∷ 0 ∷ name_digit blocks p.block ∷ p.offset ∷ i ∷ []
-byte_code blocks byte.Poison = 2 ∷ 0 ∷ 0 ∷ 0 ∷ 0 ∷ []
+abbrev pub byte_code : Layout → Byte → List ℕ
+byte_code layout (byte.Num n) = 0 ∷ n ∷ 0 ∷ 0 ∷ 0 ∷ []
+byte_code layout (byte.Part p i) = 1 ∷ 0 ∷ name_digit layout p.block ∷ p.offset ∷ i ∷ []
+byte_code layout byte.Poison = 2 ∷ 0 ∷ 0 ∷ 0 ∷ 0 ∷ []
 
 -- a block's contents, past its size too
-abbrev pub places_code : ℕ → MemoryBlock → List ℕ
-places_code blocks b = flat_map (byte_code blocks) b.places
+abbrev pub places_code : Layout → MemoryBlock → List ℕ
+places_code layout b = flat_map (byte_code layout) b.places
 
 -- the sizes of all blocks come before their contents
-abbrev pub blocks_code : ℕ → List MemoryBlock → List ℕ
-blocks_code blocks bs = map (λ (b : MemoryBlock). b.size) bs ++ flat_map (places_code blocks) bs
+abbrev pub blocks_code : Layout → List MemoryBlock → List ℕ
+blocks_code layout bs = map (λ (b : MemoryBlock). b.size) bs ++ flat_map (places_code layout) bs
 
 -- the arguments, the given blocks, and the tape
-abbrev pub code_of : ℕ → List Parameter → Point → List ℕ
-code_of blocks parameters p = args_code blocks parameters p.input.args ++ (blocks_code blocks p.input.blocks ++ p.tape)
+abbrev pub code_of : Layout → List Parameter → Point → List ℕ
+code_of layout parameters p = args_code layout parameters p.input.args ++ (blocks_code layout p.input.blocks ++ p.tape)
 
 -- the position of the point in the order
-abbrev pub place_of : ℕ → List Parameter → Point → ℕ
-place_of blocks parameters p = number_of (code_of blocks parameters p)
+abbrev pub place_of : Layout → List Parameter → Point → ℕ
+place_of layout parameters p = number_of (code_of layout parameters p)

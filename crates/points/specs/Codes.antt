@@ -3,6 +3,7 @@ use Rattle.std.specs.Prelude.{◌≡◌, ◌⊎◌, ℕ, zero, suc, ◌^◌, ◌
 use Rattle.ir_tree.specs.declared.tree.IrType.{IrType}
 use Rattle.ir_tree.specs.declared.tree.IrType.TheVariants.{Int, Ptr}
 use Rattle.ir_tree.specs.declared.tree.Parameter.{Parameter}
+use Rattle.points.specs.declared.point.Layout.{Layout}
 use Rattle.points.specs.declared.point.Shape.{Shape}
 use Rattle.points.specs.Code.{WordsFit}
 
@@ -23,31 +24,31 @@ pub record IsNumberOf (width : ℕ) (ds : List ℕ) : Type 0 where
   pub small : number < 2 ^ width
 
 -- the flag 0, a block, which is 0 for null, and an offset
-pub record IsPointerAmong (blocks : ℕ) (ds : List ℕ) : Type 0 where
+pub record IsPointerAmong (layout : Layout) (ds : List ℕ) : Type 0 where
   pub block : ℕ
   pub offset : ℕ
   pub is : ds ≡ 0 ∷ block ∷ offset ∷ []
-  pub given : block ≤ blocks
+  pub given : block ≤ layout.blocks
   pub small : offset < 2 ^ 64
 
 -- a number or a pointer, or poison: the flag 1 and zeros
-abbrev pub IsCodeOfValue : ℕ → IrType → List ℕ → Type 0
-IsCodeOfValue blocks (Int width) ds = IsNumberOf width.bits ds ⊎ (ds ≡ 1 ∷ 0 ∷ [])
-IsCodeOfValue blocks Ptr ds = IsPointerAmong blocks ds ⊎ (ds ≡ 1 ∷ 0 ∷ 0 ∷ [])
+abbrev pub IsCodeOfValue : Layout → IrType → List ℕ → Type 0
+IsCodeOfValue layout (Int width) ds = IsNumberOf width.bits ds ⊎ (ds ≡ 1 ∷ 0 ∷ [])
+IsCodeOfValue layout Ptr ds = IsPointerAmong layout ds ⊎ (ds ≡ 1 ∷ 0 ∷ 0 ∷ [])
 
 -- a value's numbers for each parameter
-abbrev pub IsCodeOfArgs : ℕ → List Parameter → List ℕ → Type 0
-IsCodeOfArgs blocks [] ds = ds ≡ []
-IsCodeOfArgs blocks (p ∷ ps) ds = IsChain (IsCodeOfValue blocks p.of_type) (λ value rest. IsCodeOfArgs blocks ps rest) ds
+abbrev pub IsCodeOfArgs : Layout → List Parameter → List ℕ → Type 0
+IsCodeOfArgs layout [] ds = ds ≡ []
+IsCodeOfArgs layout (p ∷ ps) ds = IsChain (IsCodeOfValue layout p.of_type) (λ value rest. IsCodeOfArgs layout ps rest) ds
 
 -- ---- given blocks
 
--- n sizes, each at most `bytes`
-abbrev pub AreSizes : ℕ → ℕ → List ℕ → Type 0
-AreSizes bytes zero [] = Unit {0}
-AreSizes bytes (suc n) (size ∷ sizes) = (size ≤ bytes) × AreSizes bytes n sizes
-AreSizes bytes zero (size ∷ sizes) = ⊥
-AreSizes bytes (suc n) [] = ⊥
+-- n sizes, each at most the layout's number of bytes
+abbrev pub AreSizes : Layout → ℕ → List ℕ → Type 0
+AreSizes layout zero [] = Unit {0}
+AreSizes layout (suc n) (size ∷ sizes) = (size ≤ layout.bytes) × AreSizes layout n sizes
+AreSizes layout zero (size ∷ sizes) = ⊥
+AreSizes layout (suc n) [] = ⊥
 
 -- the kind 0 and a number below 256
 pub record IsNumberByte (ds : List ℕ) : Type 0 where
@@ -56,36 +57,36 @@ pub record IsNumberByte (ds : List ℕ) : Type 0 where
   pub small : number < 2 ^ 8
 
 -- the kind 1, a pointer's block and offset, and which of its eight parts
-pub record IsPartByte (blocks : ℕ) (ds : List ℕ) : Type 0 where
+pub record IsPartByte (layout : Layout) (ds : List ℕ) : Type 0 where
   pub block : ℕ
   pub offset : ℕ
   pub part : ℕ
   pub is : ds ≡ 1 ∷ 0 ∷ block ∷ offset ∷ part ∷ []
-  pub given : block ≤ blocks
+  pub given : block ≤ layout.blocks
   pub small : offset < 2 ^ 64
   pub of_eight : part ≤ 7
 
 -- a number, a part of a pointer, or poison: the kind 2 and zeros
-abbrev pub IsCodeOfByte : ℕ → List ℕ → Type 0
-IsCodeOfByte blocks ds = IsNumberByte ds ⊎ (IsPartByte blocks ds ⊎ (ds ≡ 2 ∷ 0 ∷ 0 ∷ 0 ∷ 0 ∷ []))
+abbrev pub IsCodeOfByte : Layout → List ℕ → Type 0
+IsCodeOfByte layout ds = IsNumberByte ds ⊎ (IsPartByte layout ds ⊎ (ds ≡ 2 ∷ 0 ∷ 0 ∷ 0 ∷ 0 ∷ []))
 
 -- the five numbers of an index past a block's size
 abbrev pub IsUnused : List ℕ → Type 0
 IsUnused ds = ds ≡ 0 ∷ 0 ∷ 0 ∷ 0 ∷ 0 ∷ []
 
 -- the contents of a block with room for this number of bytes: bytes before the size, and unused indices from there on
-abbrev pub IsCodeOfPlaces : ℕ → ℕ → ℕ → List ℕ → Type 0
-IsCodeOfPlaces blocks zero size ds = ds ≡ []
-IsCodeOfPlaces blocks (suc room) zero ds = IsChain IsUnused (λ place rest. IsCodeOfPlaces blocks room zero rest) ds
-IsCodeOfPlaces blocks (suc room) (suc size) ds = IsChain (IsCodeOfByte blocks) (λ place rest. IsCodeOfPlaces blocks room size rest) ds
+abbrev pub IsCodeOfPlaces : Layout → ℕ → ℕ → List ℕ → Type 0
+IsCodeOfPlaces layout zero size ds = ds ≡ []
+IsCodeOfPlaces layout (suc room) zero ds = IsChain IsUnused (λ place rest. IsCodeOfPlaces layout room zero rest) ds
+IsCodeOfPlaces layout (suc room) (suc size) ds = IsChain (IsCodeOfByte layout) (λ place rest. IsCodeOfPlaces layout room size rest) ds
 
--- the contents of blocks of these sizes, with room for `bytes` bytes each
-abbrev pub IsCodeOfBlocks : ℕ → ℕ → List ℕ → List ℕ → Type 0
-IsCodeOfBlocks blocks bytes [] ds = ds ≡ []
-IsCodeOfBlocks blocks bytes (size ∷ sizes) ds = IsChain (IsCodeOfPlaces blocks bytes size) (λ block rest. IsCodeOfBlocks blocks bytes sizes rest) ds
+-- the contents of the given blocks, whose sizes these are
+abbrev pub IsCodeOfBlocks : Layout → List ℕ → List ℕ → Type 0
+IsCodeOfBlocks layout [] ds = ds ≡ []
+IsCodeOfBlocks layout (size ∷ sizes) ds = IsChain (IsCodeOfPlaces layout layout.bytes size) (λ block rest. IsCodeOfBlocks layout sizes rest) ds
 
 -- ---- the whole
 
 -- the arguments, the sizes of the given blocks, the contents of blocks of these sizes, and the tape
 abbrev pub IsCode : Shape → List ℕ → Type 0
-IsCode s = IsChain (IsCodeOfArgs s.blocks s.parameters) (λ args. IsChain (AreSizes s.bytes s.blocks) (λ sizes. IsChain (IsCodeOfBlocks s.blocks s.bytes sizes) (λ places. WordsFit s.word_width.bits s.words)))
+IsCode s = IsChain (IsCodeOfArgs s.layout s.parameters) (λ args. IsChain (AreSizes s.layout s.layout.blocks) (λ sizes. IsChain (IsCodeOfBlocks s.layout sizes) (λ places. WordsFit s.word_width.bits s.words)))

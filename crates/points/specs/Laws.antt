@@ -21,17 +21,17 @@ NumbersCompareFromFront = (xs ys : List ℕ) → length xs ≡ length ys → Are
 
 -- two points of a shape at the same position in the order are equal
 abbrev pub PlacesTellPoints : Type 0
-PlacesTellPoints = (s : Shape) (p q : Point) → s.blocks < 2 ^ 64 → s.bytes < 2 ^ 64 → IsOfShape s p → IsOfShape s q → place_of s.blocks s.parameters p ≡ place_of s.blocks s.parameters q → p ≡ q
+PlacesTellPoints = (s : Shape) (p q : Point) → s.layout.blocks < 2 ^ 64 → s.layout.bytes < 2 ^ 64 → IsOfShape s p → IsOfShape s q → place_of s.layout s.parameters p ≡ place_of s.layout s.parameters q → p ≡ q
 
 -- the only point of the shape with this code
 pub record IsPointWith (s : Shape) (digits : List ℕ) (p : Point) : Type 0 where
   pub of_shape : IsOfShape s p
-  pub code : code_of s.blocks s.parameters p ≡ digits
-  pub only : (q : Point) → IsOfShape s q → code_of s.blocks s.parameters q ≡ digits → q ≡ p
+  pub code : code_of s.layout s.parameters p ≡ digits
+  pub only : (q : Point) → IsOfShape s q → code_of s.layout s.parameters q ≡ digits → q ≡ p
 
 -- each point of a shape has a code of the shape, and each code of the shape is that of exactly one point of it
 pub record CodesArePoints (s : Shape) : Type 0 where
-  pub codes : (p : Point) → IsOfShape s p → IsCode s (code_of s.blocks s.parameters p)
+  pub codes : (p : Point) → IsOfShape s p → IsCode s (code_of s.layout s.parameters p)
   pub points : (digits : List ℕ) → IsCode s digits → (p : Point) × IsPointWith s digits p
 
 abbrev pub CodesTellPoints : Type 0

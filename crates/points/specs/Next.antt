@@ -11,6 +11,7 @@ use Rattle.byte_block.specs.declared.value.Ptr.{Ptr}
 use Rattle.byte_block.specs.declared.value.Byte.{Byte}
 use Rattle.byte_block.specs.declared.value.Byte.TheVariants as byte
 use Rattle.byte_block.specs.declared.block.MemoryBlock.{MemoryBlock}
+use Rattle.points.specs.declared.point.Layout.{Layout}
 use Rattle.points.specs.declared.point.Point.{Point}
 use Rattle.points.specs.declared.point.Shape.{Shape}
 use Rattle.points.specs.Code.{number_of, WordsFit, ValueFits, ArgsFit, ByteFits, BytesFit, BlocksFit, IsOfShape, name_digit, value_code, args_code, byte_code, places_code, place_of}
@@ -26,27 +27,27 @@ abbrev pub IsLastWords : ℕ → List ℕ → Type 0
 IsLastWords width old = (words : List ℕ) → WordsFit width (length old) words → number_of words ≤ number_of old
 
 -- the values of a type are ordered by their codes
-abbrev pub value_number : ℕ → IrType → Value → ℕ
-value_number blocks t v = number_of (value_code blocks t v)
+abbrev pub value_number : Layout → IrType → Value → ℕ
+value_number layout t v = number_of (value_code layout t v)
 
-pub record IsNextValue (blocks : ℕ) (t : IrType) (old new : Value) : Type 0 where
-  pub fits : ValueFits blocks t new
-  pub later : value_number blocks t old < value_number blocks t new
-  pub no_gap : (v : Value) → ValueFits blocks t v → value_number blocks t v < value_number blocks t new → value_number blocks t v ≤ value_number blocks t old
+pub record IsNextValue (layout : Layout) (t : IrType) (old new : Value) : Type 0 where
+  pub fits : ValueFits layout t new
+  pub later : value_number layout t old < value_number layout t new
+  pub no_gap : (v : Value) → ValueFits layout t v → value_number layout t v < value_number layout t new → value_number layout t v ≤ value_number layout t old
 
-abbrev pub IsLastValue : ℕ → IrType → Value → Type 0
-IsLastValue blocks t old = (v : Value) → ValueFits blocks t v → value_number blocks t v ≤ value_number blocks t old
+abbrev pub IsLastValue : Layout → IrType → Value → Type 0
+IsLastValue layout t old = (v : Value) → ValueFits layout t v → value_number layout t v ≤ value_number layout t old
 
-abbrev pub args_number : ℕ → List Parameter → List Value → ℕ
-args_number blocks ps vs = number_of (args_code blocks ps vs)
+abbrev pub args_number : Layout → List Parameter → List Value → ℕ
+args_number layout ps vs = number_of (args_code layout ps vs)
 
-pub record IsNextArgs (blocks : ℕ) (parameters : List Parameter) (old new : List Value) : Type 0 where
-  pub fits : ArgsFit blocks parameters new
-  pub later : args_number blocks parameters old < args_number blocks parameters new
-  pub no_gap : (args : List Value) → ArgsFit blocks parameters args → args_number blocks parameters args < args_number blocks parameters new → args_number blocks parameters args ≤ args_number blocks parameters old
+pub record IsNextArgs (layout : Layout) (parameters : List Parameter) (old new : List Value) : Type 0 where
+  pub fits : ArgsFit layout parameters new
+  pub later : args_number layout parameters old < args_number layout parameters new
+  pub no_gap : (args : List Value) → ArgsFit layout parameters args → args_number layout parameters args < args_number layout parameters new → args_number layout parameters args ≤ args_number layout parameters old
 
-abbrev pub IsLastArgs : ℕ → List Parameter → List Value → Type 0
-IsLastArgs blocks parameters old = (args : List Value) → ArgsFit blocks parameters args → args_number blocks parameters args ≤ args_number blocks parameters old
+abbrev pub IsLastArgs : Layout → List Parameter → List Value → Type 0
+IsLastArgs layout parameters old = (args : List Value) → ArgsFit layout parameters args → args_number layout parameters args ≤ args_number layout parameters old
 
 -- the least value of a type
 abbrev pub least_value : IrType → Value
@@ -61,71 +62,71 @@ least_from (p ∷ ps) zero (v ∷ vs) = least_value p.of_type ∷ least_from ps 
 least_from (p ∷ ps) (suc n) (v ∷ vs) = v ∷ least_from ps n vs
 
 -- a pointer's block and offset as one number
-abbrev pub pointer_number : ℕ → Ptr → ℕ
-pointer_number blocks p = name_digit blocks p.block * 2 ^ 64 + p.offset
+abbrev pub pointer_number : Layout → Ptr → ℕ
+pointer_number layout p = name_digit layout p.block * 2 ^ 64 + p.offset
 
 -- bytes are ordered by their codes too
-abbrev pub byte_number : ℕ → Byte → ℕ
-byte_number blocks b = number_of (byte_code blocks b)
+abbrev pub byte_number : Layout → Byte → ℕ
+byte_number layout b = number_of (byte_code layout b)
 
-pub record IsNextByte (blocks : ℕ) (old new : Byte) : Type 0 where
-  pub fits : ByteFits blocks new
-  pub later : byte_number blocks old < byte_number blocks new
-  pub no_gap : (b : Byte) → ByteFits blocks b → byte_number blocks b < byte_number blocks new → byte_number blocks b ≤ byte_number blocks old
+pub record IsNextByte (layout : Layout) (old new : Byte) : Type 0 where
+  pub fits : ByteFits layout new
+  pub later : byte_number layout old < byte_number layout new
+  pub no_gap : (b : Byte) → ByteFits layout b → byte_number layout b < byte_number layout new → byte_number layout b ≤ byte_number layout old
 
-abbrev pub IsLastByte : ℕ → Byte → Type 0
-IsLastByte blocks old = (b : Byte) → ByteFits blocks b → byte_number blocks b ≤ byte_number blocks old
+abbrev pub IsLastByte : Layout → Byte → Type 0
+IsLastByte layout old = (b : Byte) → ByteFits layout b → byte_number layout b ≤ byte_number layout old
 
--- the contents of a block of this size: those past it are the number 0
-pub record PlacesFit (blocks bytes size : ℕ) (places : List Byte) : Type 0 where
+-- the contents of a block of this size that has room for `bytes` bytes: those past its size are the number 0
+pub record PlacesFit (layout : Layout) (bytes size : ℕ) (places : List Byte) : Type 0 where
   pub room : length places ≡ bytes
   pub past : drop size places ≡ replicate (bytes - size) (byte.Num 0)
-  pub fit : BytesFit blocks places
+  pub fit : BytesFit layout places
 
-abbrev pub places_number : ℕ → List Byte → ℕ
-places_number blocks places = number_of (flat_map (byte_code blocks) places)
+abbrev pub places_number : Layout → List Byte → ℕ
+places_number layout places = number_of (flat_map (byte_code layout) places)
 
-pub record IsNextPlaces (blocks bytes size : ℕ) (old new : List Byte) : Type 0 where
-  pub fits : PlacesFit blocks bytes size new
-  pub later : places_number blocks old < places_number blocks new
-  pub no_gap : (places : List Byte) → PlacesFit blocks bytes size places → places_number blocks places < places_number blocks new → places_number blocks places ≤ places_number blocks old
+pub record IsNextPlaces (layout : Layout) (bytes size : ℕ) (old new : List Byte) : Type 0 where
+  pub fits : PlacesFit layout bytes size new
+  pub later : places_number layout old < places_number layout new
+  pub no_gap : (places : List Byte) → PlacesFit layout bytes size places → places_number layout places < places_number layout new → places_number layout places ≤ places_number layout old
 
-abbrev pub IsLastPlaces : ℕ → ℕ → ℕ → List Byte → Type 0
-IsLastPlaces blocks bytes size old = (places : List Byte) → PlacesFit blocks bytes size places → places_number blocks places ≤ places_number blocks old
+abbrev pub IsLastPlaces : Layout → ℕ → ℕ → List Byte → Type 0
+IsLastPlaces layout bytes size old = (places : List Byte) → PlacesFit layout bytes size places → places_number layout places ≤ places_number layout old
 
 -- ---- the given blocks
 
 abbrev pub sizes_in : List MemoryBlock → List ℕ
 sizes_in bs = map (λ (b : MemoryBlock). b.size) bs
 
-abbrev pub memory_number : ℕ → List MemoryBlock → ℕ
-memory_number blocks bs = number_of (flat_map (places_code blocks) bs)
+abbrev pub memory_number : Layout → List MemoryBlock → ℕ
+memory_number layout bs = number_of (flat_map (places_code layout) bs)
 
 -- the given blocks with later contents and the same sizes, and none between the two was left out
-pub record IsNextMemory (blocks bytes : ℕ) (old new : List MemoryBlock) : Type 0 where
-  pub fits : BlocksFit blocks bytes 1 new
+pub record IsNextMemory (layout : Layout) (old new : List MemoryBlock) : Type 0 where
+  pub fits : BlocksFit layout 1 new
   pub sizes : sizes_in new ≡ sizes_in old
-  pub later : memory_number blocks old < memory_number blocks new
-  pub no_gap : (bs : List MemoryBlock) → BlocksFit blocks bytes 1 bs → sizes_in bs ≡ sizes_in old → memory_number blocks bs < memory_number blocks new → memory_number blocks bs ≤ memory_number blocks old
+  pub later : memory_number layout old < memory_number layout new
+  pub no_gap : (bs : List MemoryBlock) → BlocksFit layout 1 bs → sizes_in bs ≡ sizes_in old → memory_number layout bs < memory_number layout new → memory_number layout bs ≤ memory_number layout old
 
-abbrev pub IsLastMemory : ℕ → ℕ → List MemoryBlock → Type 0
-IsLastMemory blocks bytes old = (bs : List MemoryBlock) → BlocksFit blocks bytes 1 bs → sizes_in bs ≡ sizes_in old → memory_number blocks bs ≤ memory_number blocks old
+abbrev pub IsLastMemory : Layout → List MemoryBlock → Type 0
+IsLastMemory layout old = (bs : List MemoryBlock) → BlocksFit layout 1 bs → sizes_in bs ≡ sizes_in old → memory_number layout bs ≤ memory_number layout old
 
 -- later sizes, none left out, and the least contents for these sizes
-pub record IsNextSizes (blocks bytes : ℕ) (old new : List MemoryBlock) : Type 0 where
-  pub fits : BlocksFit blocks bytes 1 new
+pub record IsNextSizes (layout : Layout) (old new : List MemoryBlock) : Type 0 where
+  pub fits : BlocksFit layout 1 new
   pub later : number_of (sizes_in old) < number_of (sizes_in new)
-  pub no_gap : (sizes : List ℕ) → AreSizes bytes (length old) sizes → number_of sizes < number_of (sizes_in new) → number_of sizes ≤ number_of (sizes_in old)
-  pub least : memory_number blocks new ≡ 0
+  pub no_gap : (sizes : List ℕ) → AreSizes layout (length old) sizes → number_of sizes < number_of (sizes_in new) → number_of sizes ≤ number_of (sizes_in old)
+  pub least : memory_number layout new ≡ 0
 
-abbrev pub AreLastSizes : ℕ → List MemoryBlock → Type 0
-AreLastSizes bytes old = (sizes : List ℕ) → AreSizes bytes (length old) sizes → number_of sizes ≤ number_of (sizes_in old)
+abbrev pub AreLastSizes : Layout → List MemoryBlock → Type 0
+AreLastSizes layout old = (sizes : List ℕ) → AreSizes layout (length old) sizes → number_of sizes ≤ number_of (sizes_in old)
 
 -- the least given blocks
-pub record AreLeastBlocks (blocks bytes : ℕ) (new : List MemoryBlock) : Type 0 where
-  pub fits : BlocksFit blocks bytes 1 new
+pub record AreLeastBlocks (layout : Layout) (new : List MemoryBlock) : Type 0 where
+  pub fits : BlocksFit layout 1 new
   pub sizes : number_of (sizes_in new) ≡ 0
-  pub places : memory_number blocks new ≡ 0
+  pub places : memory_number layout new ≡ 0
 
 -- a list with the items from an index on changed
 abbrev pub from_place : {A : Type 0} → (A → A) → ℕ → List A → List A
@@ -147,7 +148,7 @@ zero_size b = record b { size = 0 }
 -- ---- points
 
 abbrev pub place_in_shape : Shape → Point → ℕ
-place_in_shape s p = place_of s.blocks s.parameters p
+place_in_shape s p = place_of s.layout s.parameters p
 
 -- a later point of the shape, and none between the two was left out
 pub record IsNextPoint (s : Shape) (old new : Point) : Type 0 where

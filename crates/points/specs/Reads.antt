@@ -11,6 +11,7 @@ use Rattle.byte_block.specs.declared.value.Value.TheVariants as value
 use Rattle.byte_block.specs.declared.value.Byte.{Byte}
 use Rattle.byte_block.specs.declared.value.Byte.TheVariants as byte
 use Rattle.byte_block.specs.declared.block.MemoryBlock.{MemoryBlock}
+use Rattle.points.specs.declared.point.Layout.{Layout}
 
 -- how many numbers a value of the type has
 abbrev pub value_length : IrType → ℕ
@@ -49,14 +50,14 @@ abbrev pub places_from : ℕ → List ℕ → List Byte
 places_from zero ds = []
 places_from (suc room) ds = byte_from ds ∷ places_from room (drop 5 ds)
 
--- the given block of this number
+-- the given block of this number, with room for `room` bytes
 abbrev pub block_from : ℕ → ℕ → ℕ → List ℕ → MemoryBlock
-block_from bytes number size ds = record { name = Given number; size = size; align = 16; places = places_from bytes ds }
+block_from room number size ds = record { name = Given number; size = size; align = 16; places = places_from room ds }
 
 -- the given blocks of these sizes, from this number on
-abbrev pub blocks_from : ℕ → ℕ → List ℕ → List ℕ → List MemoryBlock
-blocks_from bytes number [] ds = []
-blocks_from bytes number (size ∷ sizes) ds = block_from bytes number size ds ∷ blocks_from bytes (number + 1) sizes (drop (bytes * 5) ds)
+abbrev pub blocks_from : Layout → ℕ → List ℕ → List ℕ → List MemoryBlock
+blocks_from layout number [] ds = []
+blocks_from layout number (size ∷ sizes) ds = block_from layout.bytes number size ds ∷ blocks_from layout (number + 1) sizes (drop (layout.bytes * 5) ds)
 
 -- ---- where there are numbers to read
 
@@ -71,11 +72,11 @@ abbrev pub HaveBytes : ℕ → List ℕ → Type 0
 HaveBytes zero ds = Unit {0}
 HaveBytes (suc room) ds = HasByte ds × HaveBytes room (drop 5 ds)
 
-pub record HasPlaces (bytes : ℕ) (ds : List ℕ) : Type 0 where
-  pub enough : bytes * 5 ≤ length ds
-  pub are_bytes : HaveBytes bytes ds
+pub record HasPlaces (room : ℕ) (ds : List ℕ) : Type 0 where
+  pub enough : room * 5 ≤ length ds
+  pub are_bytes : HaveBytes room ds
 
--- the contents of a block for each size
-abbrev pub HaveBlocks : ℕ → List ℕ → List ℕ → Type 0
-HaveBlocks bytes [] ds = Unit {0}
-HaveBlocks bytes (size ∷ sizes) ds = HasPlaces bytes ds × HaveBlocks bytes sizes (drop (bytes * 5) ds)
+-- the contents of a given block for each size
+abbrev pub HaveBlocks : Layout → List ℕ → List ℕ → Type 0
+HaveBlocks layout [] ds = Unit {0}
+HaveBlocks layout (size ∷ sizes) ds = HasPlaces layout.bytes ds × HaveBlocks layout sizes (drop (layout.bytes * 5) ds)

@@ -2,24 +2,25 @@ ghost use Rattle.std.specs.Prelude.{◌≡◌, ◌+◌, ◌*◌, ◌^◌, ◌≤
 ghost use Rattle.points.specs.Code.{name_digit, BlockFits, PointerFits, ByteFits};
 ghost use Rattle.points.specs.Next.{pointer_number, IsNextByte, IsLastByte, PlacesFit, IsNextPlaces, IsLastPlaces, from_place, zero_byte};
 
+use crate::point::Layout;
 use byte_block::{BlockName, Byte, Ptr};
 use support::Sequence;
 
 /// The next of null and the given blocks.
-fn next_name(name: BlockName, blocks: u64) -> Option<BlockName>
-    requires { BlockFits blocks name }
-    ensures { MatchOption result (name_digit blocks name ≡ blocks) (λ next. BlockFits blocks next × (name_digit blocks next ≡ name_digit blocks name + 1)) }
+fn next_name(name: BlockName, layout: &Layout) -> Option<BlockName>
+    requires { BlockFits layout.now name }
+    ensures { MatchOption result (name_digit layout.now name ≡ layout.now.blocks) (λ next. BlockFits layout.now next × (name_digit layout.now next ≡ name_digit layout.now name + 1)) }
 {
     match name {
         BlockName::Null => {
-            if 0 < blocks {
+            if 0 < layout.blocks {
                 Some(BlockName::Given(1))
             } else {
                 None
             }
         }
         BlockName::Given(number) => {
-            if number < blocks {
+            if number < layout.blocks {
                 Some(BlockName::Given(number + 1))
             } else {
                 None
@@ -30,9 +31,9 @@ fn next_name(name: BlockName, blocks: u64) -> Option<BlockName>
 }
 
 /// The next pointer, the offset least significant.
-pub fn next_pointer(pointer: Ptr, blocks: u64) -> Option<Ptr>
-    requires { PointerFits blocks pointer }
-    ensures { MatchOption result (pointer_number blocks pointer + 1 ≡ (blocks + 1) * 2 ^ 64) (λ next. PointerFits blocks next × (pointer_number blocks next ≡ pointer_number blocks pointer + 1)) }
+pub fn next_pointer(pointer: Ptr, layout: &Layout) -> Option<Ptr>
+    requires { PointerFits layout.now pointer }
+    ensures { MatchOption result (pointer_number layout.now pointer + 1 ≡ (layout.now.blocks + 1) * 2 ^ 64) (λ next. PointerFits layout.now next × (pointer_number layout.now next ≡ pointer_number layout.now pointer + 1)) }
 {
     if pointer.offset < u64::MAX {
         return Some(Ptr {
@@ -40,7 +41,7 @@ pub fn next_pointer(pointer: Ptr, blocks: u64) -> Option<Ptr>
             offset: pointer.offset + 1,
         });
     }
-    match next_name(pointer.block, blocks) {
+    match next_name(pointer.block, layout) {
         Some(block) => Some(Ptr { block, offset: 0 }),
         None => None,
     }
@@ -48,23 +49,23 @@ pub fn next_pointer(pointer: Ptr, blocks: u64) -> Option<Ptr>
 
 /// What comes after a part of a pointer: its next part, the first part of the next pointer, or
 /// poison.
-fn byte_behind(pointer: Ptr, part: u8, blocks: u64) -> Byte
-    requires { ByteFits blocks (Byte.Part pointer part) }
-    ensures { IsNextByte blocks (Byte.Part pointer part) result }
+fn byte_behind(pointer: Ptr, part: u8, layout: &Layout) -> Byte
+    requires { ByteFits layout.now (Byte.Part pointer part) }
+    ensures { IsNextByte layout.now (Byte.Part pointer part) result }
 {
     if part < 7 {
         return Byte::Part(pointer, part + 1);
     }
-    match next_pointer(pointer, blocks) {
+    match next_pointer(pointer, layout) {
         Some(next) => Byte::Part(next, 0),
         None => Byte::Poison,
     }
 }
 
 /// The next byte: the numbers, then the parts of pointers, then poison.
-fn next_byte(byte: Byte, blocks: u64) -> Option<Byte>
-    requires { ByteFits blocks byte }
-    ensures { MatchOption result (IsLastByte blocks byte) (λ next. IsNextByte blocks byte next) }
+fn next_byte(byte: Byte, layout: &Layout) -> Option<Byte>
+    requires { ByteFits layout.now byte }
+    ensures { MatchOption result (IsLastByte layout.now byte) (λ next. IsNextByte layout.now byte next) }
 {
     match byte {
         Byte::Num(number) => {
@@ -80,7 +81,7 @@ fn next_byte(byte: Byte, blocks: u64) -> Option<Byte>
                 ))
             }
         }
-        Byte::Part(pointer, part) => Some(byte_behind(pointer, part, blocks)),
+        Byte::Part(pointer, part) => Some(byte_behind(pointer, part, layout)),
         Byte::Poison => None,
     }
 }
@@ -97,14 +98,14 @@ pub fn zero_bytes(places: &mut Sequence<Byte>, from: usize)
 
 /// Replaces the contents of a block of this size by the next ones. It answers false exactly at the
 /// last ones, which then stay.
-pub fn next_bytes(places: &mut Sequence<Byte>, size: u64, blocks: u64) -> bool
+pub fn next_bytes(places: &mut Sequence<Byte>, size: u64, layout: &Layout) -> bool
     requires room { size ≤ length places.old }
-    requires fit { PlacesFit blocks (length places.old) size places.old }
-    ensures next { IsTrue result → IsNextPlaces blocks (length places.old) size places.old places.new }
-    ensures last { IsFalse result → IsLastPlaces blocks (length places.old) size places.old × (places.new ≡ places.old) }
+    requires fit { PlacesFit layout.now (length places.old) size places.old }
+    ensures next { IsTrue result → IsNextPlaces layout.now (length places.old) size places.old places.new }
+    ensures last { IsFalse result → IsLastPlaces layout.now (length places.old) size places.old × (places.new ≡ places.old) }
 {
     for i in (0..size as usize).rev() {
-        if let Some(byte) = next_byte(*places.get(i), blocks) {
+        if let Some(byte) = next_byte(*places.get(i), layout) {
             places.set(i, byte);
             zero_bytes(places, i + 1);
             return true;

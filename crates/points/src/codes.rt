@@ -1,6 +1,7 @@
 ghost use Rattle.std.specs.Prelude.{◌≡◌, ℕ, ◌+◌, ◌*◌, ◌++◌, length, map, IfOk, OnOk};
 ghost use Rattle.std.specs.List.{flat_map};
 ghost use Rattle.byte_block.specs.declared.block.MemoryBlock.{MemoryBlock};
+ghost use Rattle.points.specs.declared.point.Layout.{Layout};
 ghost use Rattle.points.specs.Code.{name_digit, value_code, args_code, byte_code, places_code, blocks_code, code_of, ArgsFit, BlocksFit, IsOfShape};
 ghost use Rattle.points.specs.Codes.{IsCodeOfValue, IsCodeOfArgs, AreSizes, IsCodeOfByte, IsCodeOfPlaces, IsCodeOfBlocks, IsCode};
 
@@ -12,7 +13,7 @@ use support::{NoMemory, Sequence};
 
 /// The number of a block in a code: 0 for null.
 fn name_number(name: BlockName) -> u64
-    ensures { (blocks : ℕ) → result ≡ name_digit blocks name }
+    ensures { (layout : Layout) → result ≡ name_digit layout name }
 {
     match name {
         BlockName::Null | BlockName::Local(..) => 0,
@@ -21,7 +22,7 @@ fn name_number(name: BlockName) -> u64
 }
 
 fn push_value(code: &mut Vec<u64>, of_type: IrType, value: Value) -> Result<(), NoMemory>
-    ensures { OnOk result ((blocks : ℕ) → code.new.items ≡ code.old.items ++ value_code blocks of_type value) }
+    ensures { OnOk result ((layout : Layout) → code.new.items ≡ code.old.items ++ value_code layout of_type value) }
 {
     match (of_type, value) {
         (IrType::Int(_), Value::Num(number)) => code.extend_from_slice(&[0, number])?,
@@ -40,7 +41,7 @@ fn push_args(
     args: &Sequence<Value>,
 ) -> Result<(), NoMemory>
     requires { length args.now ≡ length parameters.now }
-    ensures { OnOk result ((blocks : ℕ) → code.new.items ≡ code.old.items ++ args_code blocks parameters.now args.now) }
+    ensures { OnOk result ((layout : Layout) → code.new.items ≡ code.old.items ++ args_code layout parameters.now args.now) }
 {
     for i in 0..parameters.len() {
         push_value(code, parameters[i].of_type, *args.get(i))?;
@@ -58,7 +59,7 @@ fn push_sizes(code: &mut Vec<u64>, blocks: &[MemoryBlock]) -> Result<(), NoMemor
 }
 
 fn push_byte(code: &mut Vec<u64>, byte: Byte) -> Result<(), NoMemory>
-    ensures { OnOk result ((blocks : ℕ) → code.new.items ≡ code.old.items ++ byte_code blocks byte) }
+    ensures { OnOk result ((layout : Layout) → code.new.items ≡ code.old.items ++ byte_code layout byte) }
 {
     match byte {
         Byte::Num(number) => code.extend_from_slice(&[0, number as u64, 0, 0, 0])?,
@@ -77,7 +78,7 @@ fn push_byte(code: &mut Vec<u64>, byte: Byte) -> Result<(), NoMemory>
 }
 
 fn push_bytes(code: &mut Vec<u64>, places: &[Byte]) -> Result<(), NoMemory>
-    ensures { OnOk result ((blocks : ℕ) → code.new.items ≡ code.old.items ++ flat_map (byte_code blocks) places.now) }
+    ensures { OnOk result ((layout : Layout) → code.new.items ≡ code.old.items ++ flat_map (byte_code layout) places.now) }
 {
     for byte in places {
         push_byte(code, *byte)?;
@@ -86,7 +87,7 @@ fn push_bytes(code: &mut Vec<u64>, places: &[Byte]) -> Result<(), NoMemory>
 }
 
 fn push_places(code: &mut Vec<u64>, memory: &[MemoryBlock]) -> Result<(), NoMemory>
-    ensures { OnOk result ((blocks : ℕ) → code.new.items ≡ code.old.items ++ flat_map (places_code blocks) memory.now) }
+    ensures { OnOk result ((layout : Layout) → code.new.items ≡ code.old.items ++ flat_map (places_code layout) memory.now) }
 {
     for block in memory {
         push_bytes(code, block.places.as_slice())?;
@@ -99,7 +100,7 @@ fn push_places(code: &mut Vec<u64>, memory: &[MemoryBlock]) -> Result<(), NoMemo
 /// for; the words of the tape.
 pub fn code_of(alloc: Global, point: &Point, shape: &Shape) -> Result<Vec<u64>, NoMemory>
     requires { IsOfShape shape.now point.now }
-    ensures { IfOk result (λ code. code.items ≡ code_of shape.now.blocks shape.now.parameters point.now) }
+    ensures { IfOk result (λ code. code.items ≡ code_of shape.now.layout shape.now.parameters point.now) }
 {
     let mut code = Vec::new(alloc);
     push_args(&mut code, shape.parameters.as_slice(), &point.input.args)?;

@@ -25,7 +25,7 @@ pub use laws::{
 };
 pub use machine::Machine;
 pub use outcome::Outcome;
-pub use point::{Bounds, Budget, Input, Point, Shape};
+pub use point::{Bounds, Budget, Input, Layout, Point, Shape};
 pub use point_steps::next;
 pub use reading::point_of;
 pub use refinement::{refines, returned_is_allowed};

@@ -1,3 +1,5 @@
+ghost use Rattle.std.specs.Prelude.{◌<◌, ◌^◌};
+
 use byte_block::{Memory, Value};
 use ir_tree::Parameter;
 use support::Sequence;
@@ -35,13 +37,29 @@ pub struct Point {
     pub tape: Sequence<u64>,
 }
 
-/// What the points of a pair look like: the parameters, how many given blocks there are, how many
-/// bytes each has room for, how many words the tape has, and how many bits a word.
+/// What the memory of an input looks like: how many given blocks there are, and how many bytes each
+/// has room for.
+#[derive(Drop)]
+pub struct Layout {
+    pub blocks: u64,
+    pub bytes: u64,
+}
+
+impl Layout {
+    /// Its numbers fit 64 bits. A call shows this to the proofs of those who only hand it on.
+    pub fn numbers_fit(&self)
+        ensures { (self.now.blocks < 2 ^ 64) × (self.now.bytes < 2 ^ 64) }
+    {
+        let (_blocks, _bytes) = (self.blocks, self.bytes);
+    }
+}
+
+/// What the points of a pair look like: the parameters, the memory, how many words the tape has, and
+/// how many bits a word.
 #[derive(Drop)]
 pub struct Shape {
     pub parameters: Sequence<Parameter>,
-    pub blocks: u64,
-    pub bytes: u64,
+    pub layout: Layout,
     pub words: u64,
     pub word_width: Width,
 }

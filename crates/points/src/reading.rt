@@ -3,7 +3,7 @@ ghost use Rattle.points.specs.Code.{IsOfShape, WordsFit, code_of};
 ghost use Rattle.points.specs.Codes.{IsCodeOfArgs, AreSizes, IsCodeOfBlocks, IsCode};
 ghost use Rattle.points.specs.Reads.{value_length, args_length, name_from, value_from, args_from, byte_from, places_from, block_from, blocks_from, HasByte, HaveBytes, HaveBlocks};
 
-use crate::point::{Input, Point, Shape};
+use crate::point::{Input, Layout, Point, Shape};
 use byte_block::{BlockName, Byte, Memory, MemoryBlock, Ptr, Value};
 use ir_tree::{IrType, Parameter};
 use std::alloc::Global;
@@ -117,29 +117,34 @@ fn block_with(
     digits: &[u64],
     number: u64,
     size: u64,
-    bytes: u64,
+    room: u64,
 ) -> Result<MemoryBlock, NoMemory>
-    requires { HaveBytes bytes digits.now }
-    ensures { IfOk result (λ block. block ≡ block_from bytes number size digits.now) }
+    requires { HaveBytes room digits.now }
+    ensures { IfOk result (λ block. block ≡ block_from room number size digits.now) }
 {
     Ok(MemoryBlock {
         name: BlockName::Given(number),
         size,
         align: 16,
-        places: places_with(alloc, digits, bytes)?,
+        places: places_with(alloc, digits, room)?,
     })
 }
 
 /// The given blocks of these sizes, whose contents come first.
-fn blocks_with(alloc: Global, digits: &[u64], sizes: &[u64], bytes: u64) -> Result<Memory, NoMemory>
-    requires { HaveBlocks bytes sizes.now digits.now }
-    ensures { IfOk result (λ blocks. blocks ≡ blocks_from bytes 1 sizes.now digits.now) }
+fn blocks_with(
+    alloc: Global,
+    digits: &[u64],
+    sizes: &[u64],
+    layout: &Layout,
+) -> Result<Memory, NoMemory>
+    requires { HaveBlocks layout.now sizes.now digits.now }
+    ensures { IfOk result (λ blocks. blocks ≡ blocks_from layout.now 1 sizes.now digits.now) }
 {
     let mut blocks = Vec::new(alloc);
     let mut rest = digits;
     for (i, size) in sizes.iter().enumerate() {
-        blocks.push(block_with(alloc, rest, i as u64 + 1, *size, bytes)?)?;
-        rest = rest.split_at(bytes as usize * 5).1;
+        blocks.push(block_with(alloc, rest, i as u64 + 1, *size, layout.bytes)?)?;
+        rest = rest.split_at(layout.bytes as usize * 5).1;
     }
     Ok(Sequence::from_vec(blocks))
 }
@@ -156,14 +161,14 @@ struct Parts<'a> {
 fn parts_of<'a>(code: &'a [u64], shape: &Shape) -> Parts<'a>
     requires { IsCode shape.now code.now }
     ensures whole { code.now ≡ result.args.now ++ (result.sizes.now ++ (result.places.now ++ result.tape.now)) }
-    ensures args { IsCodeOfArgs shape.now.blocks shape.now.parameters result.args.now }
-    ensures sizes { AreSizes shape.now.bytes shape.now.blocks result.sizes.now }
-    ensures places { IsCodeOfBlocks shape.now.blocks shape.now.bytes result.sizes.now result.places.now }
+    ensures args { IsCodeOfArgs shape.now.layout shape.now.parameters result.args.now }
+    ensures sizes { AreSizes shape.now.layout shape.now.layout.blocks result.sizes.now }
+    ensures places { IsCodeOfBlocks shape.now.layout result.sizes.now result.places.now }
     ensures tape { WordsFit shape.now.word_width.bits shape.now.words result.tape.now }
 {
     let (front, tape) = code.split_at(code.len() - shape.words as usize);
     let (args, rest) = front.split_at(args_length(shape.parameters.as_slice()));
-    let (sizes, places) = rest.split_at(shape.blocks as usize);
+    let (sizes, places) = rest.split_at(shape.layout.blocks as usize);
     Parts {
         args,
         sizes,
@@ -176,11 +181,11 @@ fn parts_of<'a>(code: &'a [u64], shape: &Shape) -> Parts<'a>
 pub fn point_of(alloc: Global, code: &[u64], shape: &Shape) -> Result<Point, NoMemory>
     requires { IsCode shape.now code.now }
     ensures of_shape { IfOk result (λ point. IsOfShape shape.now point) }
-    ensures code { IfOk result (λ point. code_of shape.now.blocks shape.now.parameters point ≡ code.now) }
+    ensures code { IfOk result (λ point. code_of shape.now.layout shape.now.parameters point ≡ code.now) }
 {
     let parts = parts_of(code, shape);
     let args = args_with(alloc, parts.args, shape.parameters.as_slice())?;
-    let blocks = blocks_with(alloc, parts.places, parts.sizes, shape.bytes)?;
+    let blocks = blocks_with(alloc, parts.places, parts.sizes, &shape.layout)?;
     let tape = Sequence::from_vec(parts.tape.to_vec(alloc)?);
     Ok(Point {
         input: Input { args, blocks },

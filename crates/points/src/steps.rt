@@ -1,8 +1,9 @@
 ghost use Rattle.std.specs.Prelude.{◌≡◌, ◌≤◌, ◌<◌, ◌+◌, ◌-◌, ◌^◌, IsTrue, IsFalse, take, replicate, length, ◌++◌};
 ghost use Rattle.ir_tree.specs.Pointers.{AreIntegers};
-ghost use Rattle.points.specs.Code.{WordsFit, ArgsFit};
+ghost use Rattle.points.specs.Code.{WordsFit, ArgsFit, no_blocks};
 ghost use Rattle.points.specs.Next.{IsNextWords, IsLastWords, IsNextArgs, IsLastArgs};
 
+use crate::point::Layout;
 use crate::value_steps::next_values;
 use byte_block::Value;
 use ir_tree::Parameter;
@@ -41,9 +42,13 @@ pub fn next_words(words: &mut Sequence<u64>, width: Width) -> bool
 /// last one, which then stays. Which blocks are given doesn't matter for integers.
 pub fn next_args(args: &mut Sequence<Value>, parameters: &[Parameter]) -> bool
     requires integers { AreIntegers parameters.now }
-    requires fit { ArgsFit 0 parameters.now args.old }
-    ensures next { IsTrue result → IsNextArgs 0 parameters.now args.old args.new }
-    ensures last { IsFalse result → IsLastArgs 0 parameters.now args.old × (args.new ≡ args.old) }
+    requires fit { ArgsFit no_blocks parameters.now args.old }
+    ensures next { IsTrue result → IsNextArgs no_blocks parameters.now args.old args.new }
+    ensures last { IsFalse result → IsLastArgs no_blocks parameters.now args.old × (args.new ≡ args.old) }
 {
-    next_values(args, parameters, 0)
+    let none = Layout {
+        blocks: 0,
+        bytes: 0,
+    };
+    next_values(args, parameters, &none)
 }

@@ -3,6 +3,7 @@ ghost use Rattle.points.specs.Code.{ValueFits, ArgsFit};
 ghost use Rattle.points.specs.Next.{IsNextValue, IsLastValue, IsNextArgs, IsLastArgs, least_value, least_from};
 
 use crate::byte_steps::next_pointer;
+use crate::point::Layout;
 use byte_block::{BlockName, Ptr, Value};
 use ir_tree::{IrType, Parameter};
 use support::Sequence;
@@ -21,9 +22,9 @@ fn least_value(of_type: IrType) -> Value
 }
 
 /// The next value of a type, poison being the last.
-fn next_value(value: Value, of_type: IrType, blocks: u64) -> Option<Value>
-    requires { ValueFits blocks of_type value }
-    ensures { MatchOption result (IsLastValue blocks of_type value) (λ next. IsNextValue blocks of_type value next) }
+fn next_value(value: Value, of_type: IrType, layout: &Layout) -> Option<Value>
+    requires { ValueFits layout.now of_type value }
+    ensures { MatchOption result (IsLastValue layout.now of_type value) (λ next. IsNextValue layout.now of_type value next) }
 {
     match of_type {
         IrType::Int(width) => match value {
@@ -38,7 +39,7 @@ fn next_value(value: Value, of_type: IrType, blocks: u64) -> Option<Value>
             Value::Ptr(_) => None,
         },
         IrType::Ptr => match value {
-            Value::Ptr(pointer) => match next_pointer(pointer, blocks) {
+            Value::Ptr(pointer) => match next_pointer(pointer, layout) {
                 Some(next) => Some(Value::Ptr(next)),
                 None => Some(Value::Poison),
             },
@@ -59,15 +60,15 @@ fn least_from(args: &mut Sequence<Value>, parameters: &[Parameter], from: usize)
     }
 }
 
-/// Replaces the arguments by the next list, with this number of given blocks. It answers false
-/// exactly at the last one, which then stays.
-pub fn next_values(args: &mut Sequence<Value>, parameters: &[Parameter], blocks: u64) -> bool
-    requires { ArgsFit blocks parameters.now args.old }
-    ensures next { IsTrue result → IsNextArgs blocks parameters.now args.old args.new }
-    ensures last { IsFalse result → IsLastArgs blocks parameters.now args.old × (args.new ≡ args.old) }
+/// Replaces the arguments by the next list. It answers false exactly at the last one, which then
+/// stays.
+pub fn next_values(args: &mut Sequence<Value>, parameters: &[Parameter], layout: &Layout) -> bool
+    requires { ArgsFit layout.now parameters.now args.old }
+    ensures next { IsTrue result → IsNextArgs layout.now parameters.now args.old args.new }
+    ensures last { IsFalse result → IsLastArgs layout.now parameters.now args.old × (args.new ≡ args.old) }
 {
     for i in (0..parameters.len()).rev() {
-        if let Some(value) = next_value(*args.get(i), parameters[i].of_type, blocks) {
+        if let Some(value) = next_value(*args.get(i), parameters[i].of_type, layout) {
             args.set(i, value);
             least_from(args, parameters, i + 1);
             return true;

@@ -6,5 +6,5 @@ abbrev pub invariant-loop-i : goal.invariant-loop-i
 invariant-loop-i l = record {
   unchanged : l.places ≡ l.fn.places;
   within : l.i ≤ l.size;
-  last : BytesAreLast l.blocks (length l.fn.places) l.size l.places l.i;
+  last : BytesAreLast l.layout (length l.fn.places) l.size l.places l.i;
 }

@@ -5,5 +5,5 @@ use Rattle.points.proofs.point_steps.next_places.Given as goal
 abbrev pub invariant-loop-i : goal.invariant-loop-i
 invariant-loop-i l = record {
   unchanged : l.blocks ≡ l.fn.blocks;
-  last : PlacesAreLast l.given l.bytes l.fn.blocks l.blocks l.i;
+  last : PlacesAreLast l.layout l.fn.blocks l.blocks l.i;
 }

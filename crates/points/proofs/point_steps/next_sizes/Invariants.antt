@@ -5,5 +5,5 @@ use Rattle.points.proofs.point_steps.next_sizes.Given as goal
 abbrev pub invariant-loop-i : goal.invariant-loop-i
 invariant-loop-i l = record {
   unchanged : l.blocks ≡ l.fn.blocks;
-  full : AreFullFrom l.bytes l.blocks l.i;
+  full : AreFullFrom l.layout l.blocks l.i;
 }

@@ -4,6 +4,6 @@ use Rattle.points.proofs.reading.blocks_with.Given as goal
 
 abbrev pub invariant-loop-i : goal.invariant-loop-i
 invariant-loop-i l = record {
-  enough : HaveBlocks l.bytes (drop l.i l.sizes) l.rest;
-  read : l.blocks.items ++ blocks_from l.bytes (l.i + 1) (drop l.i l.sizes) l.rest ≡ blocks_from l.bytes 1 l.sizes l.digits;
+  enough : HaveBlocks l.layout (drop l.i l.sizes) l.rest;
+  read : l.blocks.items ++ blocks_from l.layout (l.i + 1) (drop l.i l.sizes) l.rest ≡ blocks_from l.layout 1 l.sizes l.digits;
 }

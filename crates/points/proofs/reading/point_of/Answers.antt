@@ -8,7 +8,7 @@ pub args_with-requires : goal.args_with-requires
 args_with-requires c = let long = args_count _ _ _ c.parts_of-parts.ensures.args in rw c.as_slice.ensures (omega (arith, long))
 
 pub blocks_with-requires : goal.blocks_with-requires
-blocks_with-requires c = have_blocks _ _ _ _ _ c.parts_of-parts.ensures.sizes c.parts_of-parts.ensures.places
+blocks_with-requires c = have_blocks c.args.shape.now.layout c.args.shape.now.layout.blocks _ _ c.parts_of-parts.ensures.sizes c.parts_of-parts.ensures.places
 
 pub returns : goal.returns
 returns c =

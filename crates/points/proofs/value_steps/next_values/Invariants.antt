@@ -6,5 +6,5 @@ abbrev pub invariant-loop-i : goal.invariant-loop-i
 invariant-loop-i l = record {
   same_length : length l.args ≡ length l.parameters;
   unchanged : l.args ≡ l.fn.args;
-  last : AreLastValuesFrom l.blocks l.parameters l.args l.i;
+  last : AreLastValuesFrom l.layout l.parameters l.args l.i;
 }
