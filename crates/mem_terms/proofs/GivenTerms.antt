@@ -287,15 +287,15 @@ picked_blocks-more old a new c xs ys i x y picked more b hc hxs hys alike lt ix 
     }
 
 module _ (old new : List Term) (c : TermId) (xs ys picked : List SymBlock) (alike : length ys ≡ length xs) (so : PickedBlocks old new c xs ys (length xs) picked) where
-  pub picked_given : (blocks bytes : ℕ) → AreGivenBlocks blocks bytes old xs → AreGivenBlocks blocks bytes old ys → AreGivenBlocks blocks bytes new picked
-  picked_given blocks bytes gx gy = record {
+  pub picked_given : (known : List SymFrame) → AreGivenBlocks known old xs → AreGivenBlocks known old ys → AreGivenBlocks known new picked
+  picked_given known gx gy = record {
     are = so.made;
     always = so.always gx.always gy.always;
     frames = so.frames ∙ (ap (map frame_of) (take_all (length xs) xs (omega arith)) ∙ gx.frames);
   }
 
-  pub picked_blocks-whole : (blocks bytes : ℕ) (r : Reading) → AreGivenBlocks blocks bytes old xs → AreGivenBlocks blocks bytes old ys → memory_at r new picked ≡ cond (bit_at r.v old c) (memory_at r old xs) (memory_at r old ys)
-  picked_blocks-whole blocks bytes r gx gy =
+  pub picked_blocks-whole : (known : List SymFrame) (r : Reading) → AreGivenBlocks known old xs → AreGivenBlocks known old ys → memory_at r new picked ≡ cond (bit_at r.v old c) (memory_at r old xs) (memory_at r old ys)
+  picked_blocks-whole known r gx gy =
       memory-always r new picked (so.always gx.always gy.always)
       ∙ (so.stands r
       ∙ rw (take_all (length xs) xs (omega arith), take_all (length xs) ys (omega (arith, alike)), memory-always r old xs gx.always, memory-always r old ys gy.always) refl)

@@ -4,6 +4,7 @@ use Rattle.std.specs.Option.{option_map}
 use Rattle.ir_tree.specs.declared.tree.IrType.{IrType}
 use Rattle.ir_tree.specs.declared.tree.IrType.TheVariants as type
 use Rattle.ir_tree.specs.declared.tree.Parameter.{Parameter}
+use Rattle.points.specs.declared.point.Layout.{Layout}
 use Rattle.points.specs.Run.{Run}
 use Rattle.bv_terms.specs.declared.term.TermId.{TermId}
 use Rattle.bv_terms.specs.declared.term.Term.{Term}
@@ -19,7 +20,7 @@ use Rattle.mem_terms.specs.declared.values.SymValue.{SymValue}
 use Rattle.mem_terms.specs.declared.bytes.SymByte.{SymByte}
 use Rattle.mem_terms.specs.declared.blocks.SymBlock.{SymBlock}
 use Rattle.mem_terms.specs.Values.{Each, Reading, IsSymNumber, IsSymValue, AreSymValues, number_at, value_at, values_at}
-use Rattle.mem_terms.specs.Memory.{IsSymByte, AreSymBytes, IsSymBlock, AreSymBlocks, AreGivenBlocks, IsAlways, byte_at, places_at, block_at, memory_at}
+use Rattle.mem_terms.specs.Memory.{IsSymByte, AreSymBytes, IsSymBlock, AreSymBlocks, AreGivenBlocks, IsAlways, SymFrame, byte_at, places_at, block_at, memory_at}
 use Rattle.mem_terms.specs.Inputs.{IsArg, AreArgs, AreWords, IsByteTerms, IsBlockTerms, IsInput, arg_at, args_at, words_at, given_byte_at, given_block_at, given_blocks_at, input_at}
 use Rattle.mem_terms.specs.Outcomes.{IsOutcome, Shows, outcome_at}
 use Rattle.mem_terms.proofs.Eaches.{each-weaker, map-same}
@@ -188,13 +189,13 @@ module _ (old new : List Term) (k : Keeps old new) where
   pub sizes-later : (sizes : List TermId) → Each (IsTerm old 6) sizes → Each (IsTerm new 6) sizes
   sizes-later sizes h = each-weaker (IsTerm old 6) (IsTerm new 6) sizes (is_term-later 6) h
 
-  pub is_input-later : (ps : List Parameter) (blocks bytes : ℕ) (input : InputTerms) → IsInput ps blocks bytes old input → IsInput ps blocks bytes new input
-  is_input-later ps blocks bytes input h = record {
+  pub is_input-later : (ps : List Parameter) (layout : Layout) (input : InputTerms) → IsInput ps layout old input → IsInput ps layout new input
+  is_input-later ps layout input h = record {
     args = args-later ps input.args h.args;
     size_count = h.size_count;
     sizes = sizes-later input.sizes h.sizes;
     block_count = h.block_count;
-    places = block_terms_each-later bytes input.places h.places;
+    places = block_terms_each-later layout.bytes input.places h.places;
   }
 
   pub given_byte_at-later : (r : Reading) (b : ByteTerms) → IsByteTerms old b → given_byte_at r new b ≡ given_byte_at r old b
@@ -214,8 +215,8 @@ module _ (old new : List Term) (k : Keeps old new) where
   given_blocks_at-later r n (size ∷ sizes) [] hs hp = refl
   given_blocks_at-later r n (size ∷ sizes) (places ∷ rest) hs hp = rw (given_block_at-later r n size places hs.0 hp.0, given_blocks_at-later r (n + 1) sizes rest hs.1 hp.1) refl
 
-  pub input_at-later : (r : Reading) (ps : List Parameter) (blocks bytes : ℕ) (input : InputTerms) → IsInput ps blocks bytes old input → input_at r new input ≡ input_at r old input
-  input_at-later r ps blocks bytes input h = rw (args_at-later r ps input.args h.args, given_blocks_at-later r 1 input.sizes input.places h.sizes (block_terms-bytes bytes old input.places h.places)) refl
+  pub input_at-later : (r : Reading) (ps : List Parameter) (layout : Layout) (input : InputTerms) → IsInput ps layout old input → input_at r new input ≡ input_at r old input
+  input_at-later r ps layout input h = rw (args_at-later r ps input.args h.args, given_blocks_at-later r 1 input.sizes input.places h.sizes (block_terms-bytes layout.bytes old input.places h.places)) refl
 
   pub always-later : (b : SymBlock) → IsSymBlock old b → IsAlways old b → IsAlways new b
   always-later b h a v = bit-later v b.exists h.exists.within ∙ a v
@@ -224,8 +225,8 @@ module _ (old new : List Term) (k : Keeps old new) where
   always_each-later [] h a = tt
   always_each-later (b ∷ bs) h a = (always-later b h.0 a.0, always_each-later bs h.1 a.1)
 
-  pub given_blocks-later : (blocks bytes : ℕ) (bs : List SymBlock) → AreGivenBlocks blocks bytes old bs → AreGivenBlocks blocks bytes new bs
-  given_blocks-later blocks bytes bs h = record { are = sym_blocks-later bs h.are; always = always_each-later bs h.are h.always; frames = h.frames }
+  pub given_blocks-later : (known : List SymFrame) (bs : List SymBlock) → AreGivenBlocks known old bs → AreGivenBlocks known new bs
+  given_blocks-later known bs h = record { are = sym_blocks-later bs h.are; always = always_each-later bs h.are h.always; frames = h.frames }
 
   -- ---- outcomes
 

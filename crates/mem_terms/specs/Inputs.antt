@@ -7,6 +7,7 @@ use Rattle.byte_block.specs.declared.value.Value.{Value}
 use Rattle.byte_block.specs.declared.value.Byte.{Byte}
 use Rattle.byte_block.specs.declared.block.MemoryBlock.{MemoryBlock}
 use Rattle.points.specs.declared.point.Input.{Input}
+use Rattle.points.specs.declared.point.Layout.{Layout}
 use Rattle.bv_terms.specs.declared.term.TermId.{TermId}
 use Rattle.bv_terms.specs.declared.term.Term.{Term}
 use Rattle.bv_terms.specs.Trees.{IsTerm, bit_at, term_at}
@@ -71,12 +72,12 @@ pub record IsBlockTerms (bytes : ℕ) (terms : List Term) (places : List ByteTer
 -- ---- the whole input
 
 -- an argument for each parameter, and for each of the given blocks a size, below 64, and its contents
-pub record IsInput (ps : List Parameter) (blocks bytes : ℕ) (terms : List Term) (input : InputTerms) : Type 0 where
+pub record IsInput (ps : List Parameter) (layout : Layout) (terms : List Term) (input : InputTerms) : Type 0 where
   pub args : AreArgs terms ps input.args
-  pub size_count : length input.sizes ≡ blocks
+  pub size_count : length input.sizes ≡ layout.blocks
   pub sizes : Each (IsTerm terms 6) input.sizes
-  pub block_count : length input.places ≡ blocks
-  pub places : Each (IsBlockTerms bytes terms) input.places
+  pub block_count : length input.places ≡ layout.blocks
+  pub places : Each (IsBlockTerms layout.bytes terms) input.places
 
 -- ---- tapes
 

@@ -4,6 +4,7 @@ use Rattle.byte_block.specs.declared.value.Ptr.{Ptr}
 use Rattle.byte_block.specs.declared.value.Byte.{Byte}
 use Rattle.byte_block.specs.declared.value.Byte.TheVariants.{Num, Part, Poison}
 use Rattle.byte_block.specs.declared.block.MemoryBlock.{MemoryBlock}
+use Rattle.points.specs.declared.point.Layout.{Layout}
 use Rattle.bv_terms.specs.declared.term.Term.{Term}
 use Rattle.bv_terms.specs.Trees.{IsTerm, bit_at, term_at}
 use Rattle.mem_terms.specs.declared.bytes.SymByte.{SymByte}
@@ -72,8 +73,12 @@ abbrev pub given_frames : (first blocks bytes : ℕ) → List SymFrame
 given_frames first zero bytes = []
 given_frames first (suc n) bytes = record { number = first; align = 16; room = bytes } ∷ given_frames (first + 1) n bytes
 
--- the blocks that are given, with the numbers from 1 on
-pub record AreGivenBlocks (blocks bytes : ℕ) (terms : List Term) (bs : List SymBlock) : Type 0 where
+-- the blocks of an input, with the numbers from 1 on
+abbrev pub frames_of : Layout → List SymFrame
+frames_of layout = given_frames 1 layout.blocks layout.bytes
+
+-- blocks that exist in every run, of which this is known
+pub record AreGivenBlocks (known : List SymFrame) (terms : List Term) (bs : List SymBlock) : Type 0 where
   pub are : AreSymBlocks terms bs
   pub always : Each (IsAlways terms) bs
-  pub frames : map frame_of bs ≡ given_frames 1 blocks bytes
+  pub frames : map frame_of bs ≡ known

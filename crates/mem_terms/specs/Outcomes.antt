@@ -8,7 +8,7 @@ use Rattle.bv_terms.specs.declared.term.Term.{Term}
 use Rattle.bv_terms.specs.Trees.{IsTerm, bit_at, term_at}
 use Rattle.mem_terms.specs.declared.outcome.OutcomeTerms.{OutcomeTerms}
 use Rattle.mem_terms.specs.Values.{Each, IsSymValue, Reading, value_at}
-use Rattle.mem_terms.specs.Memory.{AreSymBlocks, IsAlways, frame_of, given_frames, memory_at}
+use Rattle.mem_terms.specs.Memory.{AreSymBlocks, SymFrame, IsAlways, frame_of, memory_at}
 
 abbrev pub outcome_at : Reading → List Term → OutcomeTerms → Outcome
 outcome_at r terms o = cond (bit_at r.v terms o.ub) Ub (cond (bit_at r.v terms o.beyond) Beyond (Return (option_map (value_at r terms) o.value) (memory_at r terms o.blocks)))
@@ -23,9 +23,9 @@ pub record IsOutcome (terms : List Term) (o : OutcomeTerms) : Type 0 where
   pub read : IsTerm terms 64 o.read
   pub plain : IsTerm terms 1 o.plain
 
--- they are `blocks` given ones, with room for `bytes` bytes each
-abbrev pub LeavesGiven : (blocks bytes : ℕ) → OutcomeTerms → Type 0
-LeavesGiven blocks bytes o = map frame_of o.blocks ≡ given_frames 1 blocks bytes
+-- the blocks that it leaves are those of which this is known
+abbrev pub LeavesGiven : List SymFrame → OutcomeTerms → Type 0
+LeavesGiven known o = map frame_of o.blocks ≡ known
 
 -- they show how the run on this tape ended, how many words of it were read, and whether the tape is plain for it
 pub record Shows (r : Reading) (terms : List Term) (tape : List ℕ) (run : Run) (o : OutcomeTerms) : Type 0 where

@@ -1,9 +1,10 @@
 //! Arguments and given blocks of an input.
 
-ghost use Rattle.std.specs.Prelude.{◌≡◌, ◌<◌, ℕ, IfOk, cond, length, map};
+ghost use Rattle.std.specs.Prelude.{◌≡◌, ◌<◌, ℕ, IfOk, cond, length, map, List};
 ghost use Rattle.bv_terms.specs.Trees.{IsTerm, Keeps, bit_at};
 ghost use Rattle.mem_terms.specs.Values.{Each, IsSymValue, Reading, value_at};
-ghost use Rattle.mem_terms.specs.Memory.{AreGivenBlocks, AreSymBlocks, AreSymBytes, IsAlways, IsSymBlock, IsSymByte, block_at, byte_at, frame_of, memory_at, places_at};
+ghost use Rattle.points.specs.declared.point.Layout.{Layout};
+ghost use Rattle.mem_terms.specs.Memory.{AreGivenBlocks, AreSymBlocks, AreSymBytes, IsAlways, IsSymBlock, IsSymByte, SymFrame, block_at, byte_at, frame_of, frames_of, memory_at, places_at};
 ghost use Rattle.mem_terms.specs.Inputs.{IsArg, IsBlockTerms, IsByteTerms, arg_at, given_block_at, given_blocks_at, given_byte_at};
 
 use crate::blocks::SymBlock;
@@ -135,7 +136,7 @@ pub fn given_blocks(
     requires places { Each (Each (IsByteTerms terms.old)) input.now.places }
     requires count { length input.now.sizes ≡ length input.now.places }
     ensures made { IfOk result (AreSymBlocks terms.new) }
-    ensures given { IfOk result (λ bs. (bytes : ℕ) → Each (IsBlockTerms bytes terms.old) input.now.places → AreGivenBlocks (length input.now.sizes) bytes terms.new bs) }
+    ensures given { IfOk result (λ bs. (layout : Layout) → length input.now.sizes ≡ layout.blocks → Each (IsBlockTerms layout.bytes terms.old) input.now.places → AreGivenBlocks (frames_of layout) terms.new bs) }
     ensures stands { IfOk result (λ bs. (r : Reading) → memory_at r terms.new bs ≡ given_blocks_at r terms.old 1 input.now.sizes input.now.places) }
     ensures kept { Keeps terms.old terms.new }
 {
@@ -218,8 +219,8 @@ pub fn pick_given(
     requires b { AreSymBlocks terms.old b.now }
     requires frames { map frame_of b.now ≡ map frame_of a.now }
     ensures made { IfOk result (AreSymBlocks terms.new) }
-    ensures given { IfOk result (λ m. (blocks bytes : ℕ) → AreGivenBlocks blocks bytes terms.old a.now → AreGivenBlocks blocks bytes terms.old b.now → AreGivenBlocks blocks bytes terms.new m) }
-    ensures stands { IfOk result (λ m. (blocks bytes : ℕ) (r : Reading) → AreGivenBlocks blocks bytes terms.old a.now → AreGivenBlocks blocks bytes terms.old b.now
+    ensures given { IfOk result (λ m. (known : List SymFrame) → AreGivenBlocks known terms.old a.now → AreGivenBlocks known terms.old b.now → AreGivenBlocks known terms.new m) }
+    ensures stands { IfOk result (λ m. (known : List SymFrame) (r : Reading) → AreGivenBlocks known terms.old a.now → AreGivenBlocks known terms.old b.now
         → memory_at r terms.new m ≡ cond (bit_at r.v terms.old c) (memory_at r terms.old a.now) (memory_at r terms.old b.now)) }
     ensures kept { Keeps terms.old terms.new }
 {

@@ -8,7 +8,7 @@ use Rattle.verdicts.specs.declared.verdict.Kept.{Kept}
 use Rattle.verdicts.specs.declared.verdict.Verdict.{Verdict}
 use Rattle.verdicts.specs.declared.verdict.Verdict.TheVariants.{Correct, Incorrect, Unknown}
 use Rattle.verdicts.specs.declared.verdict.Cause.TheVariants.{Weight, Rounds, Conflicts}
-use Rattle.verdicts.specs.Pair.{Functions}
+use Rattle.verdicts.specs.Pair.{Functions, layout_of}
 use Rattle.points.specs.Code.{number_of}
 use Rattle.points.specs.Range.{AreInRange}
 use Rattle.verdicts.specs.Weight.{IsHeavy}
@@ -27,11 +27,11 @@ true_not_false e = absurd (cc)
 
 -- ---- leasts are one
 
-fits_of : (pair : Functions) (bounds : Bounds) (p : Point) → IsPoint pair bounds p → Fits bounds.blocks bounds.bytes (need_of bounds.turns pair.target) (widest_choice pair.target) pair.target.parameters p
+fits_of : (pair : Functions) (bounds : Bounds) (p : Point) → IsPoint pair bounds p → Fits (layout_of pair bounds) (need_of bounds.turns pair.target) (widest_choice pair.target) pair.target.parameters p
 fits_of pair bounds p point = record { args = point.args; given = point.given; tape = point.tape }
 
 one_point : (pair : Functions) (bounds : Bounds) (p q : Point) → bounds.blocks < 2 ^ 64 → bounds.bytes < 2 ^ 64 → IsPoint pair bounds p → IsPoint pair bounds q → place_in pair bounds p ≡ place_in pair bounds q → p ≡ q
-one_point pair bounds p q few short point point' e = same_point bounds.blocks bounds.bytes (need_of bounds.turns pair.target) (widest_choice pair.target) pair.target.parameters p q few short (widest_small pair.target) (fits_of pair bounds p point) (fits_of pair bounds q point') e
+one_point pair bounds p q few short point point' e = same_point (layout_of pair bounds) (need_of bounds.turns pair.target) (widest_choice pair.target) pair.target.parameters p q few short (widest_small pair.target) (fits_of pair bounds p point) (fits_of pair bounds q point') e
 
 not_less : (pair : Functions) (bounds : Bounds) (tapes : List (List ℕ)) (p q : Point) → IsLeastUncovered pair bounds tapes p → IsLeastUncovered pair bounds tapes q → place_in pair bounds p < place_in pair bounds q → ⊥
 not_less pair bounds tapes p q h h' less = let covered = h'.least p h.point less in true_not_false (sym covered ∙ h.uncovered)

@@ -29,7 +29,7 @@ use Rattle.points.specs.declared.outcome.Outcome.TheVariants.{Return, Ub, Beyond
 use Rattle.points.specs.declared.point.Bounds.{Bounds}
 use Rattle.points.specs.declared.point.Input.{Input}
 use Rattle.points.specs.Table.{value_result}
-use Rattle.points.specs.Run.{Run, Exit, To, Over, ended, act, assigned, frozen, operand_value, typed_value, typed_operand_value, is_given, is_poison, undef_type, returned_with, phi_value, with_phis, entered, branch_on, switch_on, exit_by, exit_after, exit_insts, exit_of, Go, jump, go_on, forward, run_turns, breaks_noundef, first_machine, run_of}
+use Rattle.points.specs.Run.{Run, Exit, To, Over, ended, act, assigned, frozen, operand_value, typed_value, typed_operand_value, is_given, is_poison, undef_type, returned_with, phi_value, with_phis, entered, branch_on, switch_on, exit_by, exit_after, exit_insts, exit_of, Go, go_on, forward, run_turns, breaks_noundef, first_machine, run_of}
 use Rattle.points.proofs.Runs.{run_entered_by, run_of_is}
 
 abbrev pub with_memory : List MemoryBlock → Outcome → Outcome

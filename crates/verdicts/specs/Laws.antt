@@ -10,7 +10,7 @@ use Rattle.points.specs.Refines.{is_refined}
 use Rattle.points.specs.Run.{run_of, IsPlain}
 use Rattle.verdicts.specs.declared.verdict.Verdict.{Verdict}
 use Rattle.verdicts.specs.declared.verdict.Verdict.TheVariants.{Correct, Incorrect}
-use Rattle.verdicts.specs.Pair.{Functions}
+use Rattle.verdicts.specs.Pair.{Functions, layout_of}
 use Rattle.verdicts.specs.Covers.{covers, IsLeastCover}
 use Rattle.verdicts.specs.Trail.{IsPoint, place_in, IsVerdict}
 
@@ -20,8 +20,8 @@ pub record IsAllowed (pair : Functions) (bounds : Bounds) (input : Input) (tape 
   pub refined : is_refined (run_of pair.source bounds input source_tape).outcome (run_of pair.target bounds input tape).outcome ≡ true
 
 pub record IsWithin (pair : Functions) (bounds : Bounds) (input : Input) : Type 0 where
-  pub args : ArgsFit bounds.blocks pair.target.parameters input.args
-  pub given : BlocksFit bounds.blocks bounds.bytes 1 input.blocks
+  pub args : ArgsFit (layout_of pair bounds) pair.target.parameters input.args
+  pub given : BlocksFit (layout_of pair bounds) 1 input.blocks
 
 -- on every input within the bounds each run of the target, on a tape of any length, is one that some run of the source allows
 abbrev pub Holds : Functions → Bounds → Type 0

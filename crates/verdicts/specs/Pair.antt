@@ -4,11 +4,17 @@ use Rattle.ir_tree.specs.declared.tree.IrType.{IrType}
 use Rattle.ir_tree.specs.declared.tree.IrType.TheVariants.{Int, Ptr}
 use Rattle.ir_tree.specs.declared.tree.Parameter.{Parameter}
 use Rattle.ir_tree.specs.declared.tree.Function.{Function}
+use Rattle.points.specs.declared.point.Bounds.{Bounds}
+use Rattle.points.specs.declared.point.Layout.{Layout}
 
 -- the function before the optimisation, and the one after it
 pub record Functions : Type 0 where
   pub source : Function
   pub target : Function
+
+-- what the memory of the pair's inputs looks like
+abbrev pub layout_of : Functions → Bounds → Layout
+layout_of pair bounds = record { blocks = bounds.blocks; bytes = bounds.bytes }
 
 abbrev pub same_type : IrType → IrType → Bool
 same_type (Int v) (Int w) = v.bits == w.bits

@@ -7,7 +7,7 @@ use Rattle.verdicts.specs.declared.verdict.Kept.{Kept}
 use Rattle.verdicts.specs.declared.verdict.Verdict.{Verdict}
 use Rattle.verdicts.specs.declared.verdict.Verdict.TheVariants.{Correct, Incorrect, Unknown}
 use Rattle.verdicts.specs.declared.verdict.Cause.TheVariants.{Weight, Rounds}
-use Rattle.verdicts.specs.Pair.{Functions}
+use Rattle.verdicts.specs.Pair.{Functions, layout_of}
 use Rattle.points.specs.Code.{ArgsFit, BlocksFit, WordsFit, place_of}
 use Rattle.points.specs.Run.{run_of, IsPlain}
 use Rattle.points.specs.Tapes.{need_of, widest_choice}
@@ -16,13 +16,13 @@ use Rattle.verdicts.specs.Weight.{IsHeavy}
 
 -- an input within the bounds with a tape of the target, each of whose words is a choice that the target takes, or 0
 pub record IsPoint (pair : Functions) (bounds : Bounds) (p : Point) : Type 0 where
-  pub args : ArgsFit bounds.blocks pair.target.parameters p.input.args
-  pub given : BlocksFit bounds.blocks bounds.bytes 1 p.input.blocks
+  pub args : ArgsFit (layout_of pair bounds) pair.target.parameters p.input.args
+  pub given : BlocksFit (layout_of pair bounds) 1 p.input.blocks
   pub tape : WordsFit (widest_choice pair.target) (need_of bounds.turns pair.target) p.tape
   pub plain : IsPlain p.tape (run_of pair.target bounds p.input p.tape)
 
 abbrev pub place_in : Functions → Bounds → Point → ℕ
-place_in pair bounds p = place_of bounds.blocks pair.target.parameters p
+place_in pair bounds p = place_of (layout_of pair bounds) pair.target.parameters p
 
 pub record IsLeastUncovered (pair : Functions) (bounds : Bounds) (tapes : List (List ℕ)) (p : Point) : Type 0 where
   pub point : IsPoint pair bounds p

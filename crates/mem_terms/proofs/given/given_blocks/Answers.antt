@@ -1,5 +1,6 @@
-use Rattle.std.proofs.Common.{◌≡◌, ◌<◌, length, ap, subst, arith}
+use Rattle.std.proofs.Common.{◌≡◌, ◌∙◌, ◌<◌, length, ap, subst, arith}
 use Rattle.mem_terms.specs.Values.{Each}
+use Rattle.mem_terms.specs.Memory.{given_frames}
 use Rattle.mem_terms.specs.Inputs.{IsByteTerms}
 use Rattle.mem_terms.proofs.Eaches.{at-any, each-at}
 use Rattle.mem_terms.proofs.Later.{byte_terms_each-later}
@@ -29,3 +30,9 @@ returns-clause-stands c =
     let whole : c.loop-i.i ≡ length sizes = omega (arith, c.loop-i-test.false, c.loop-i.auto.i-end, ap length c.as_slice-size-items.ensures) in
     rw c.from_vec.ensures
     (blocks-whole c.args.terms.now c.loop-i.terms sizes lists c.loop-i.blocks.items c.requires.count (subst (λ i. BlocksSoFar c.args.terms.now c.loop-i.terms sizes lists i c.loop-i.blocks.items) whole c.loop-i.invariant))
+
+pub returns-clause-given : goal.returns-clause-given
+returns-clause-given c = λ layout count are.
+    let whole : c.loop-i.i ≡ layout.blocks = omega (arith, c.loop-i-test.false, c.loop-i.auto.i-end, ap length c.as_slice-size-items.ensures, count) in
+    rw c.from_vec.ensures
+    (record { are = c.loop-i.invariant.made; always = c.loop-i.invariant.always; frames = c.loop-i.invariant.frames layout.bytes are ∙ ap (λ n. given_frames 1 n layout.bytes) whole })

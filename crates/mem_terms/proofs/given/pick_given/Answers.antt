@@ -28,8 +28,8 @@ loop-i-preserved c =
     c.pick_block.ensures.kept c.in_ok-block.ensures.made c.in_ok-block.ensures.frame c.in_ok-block.ensures.exists c.in_ok-block.ensures.stands c.in_ok-push.ensures.items
 
 pub returns-clause-stands : goal.returns-clause-stands
-returns-clause-stands c blocks bytes r ga gb =
+returns-clause-stands c known r ga gb =
     let whole : c.loop-i.i ≡ length c.args.a.now = omega (arith, c.loop-i-test.false, c.loop-i.auto.i-end) in
     rw c.from_vec.ensures
     (picked_blocks-whole c.args.terms.now c.loop-i.terms c.args.c c.args.a.now c.args.b.now c.loop-i.picked.items (frames-alike c.args.a.now c.args.b.now c.requires.frames)
-    (subst (λ i. PickedBlocks c.args.terms.now c.loop-i.terms c.args.c c.args.a.now c.args.b.now i c.loop-i.picked.items) whole c.loop-i.invariant) blocks bytes r ga gb)
+    (subst (λ i. PickedBlocks c.args.terms.now c.loop-i.terms c.args.c c.args.a.now c.args.b.now i c.loop-i.picked.items) whole c.loop-i.invariant) known r ga gb)
