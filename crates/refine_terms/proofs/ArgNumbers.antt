@@ -5,6 +5,7 @@ use Rattle.std.proofs.lemmas.List.{drop_more, drop_all}
 use Rattle.ir_tree.specs.declared.tree.IrType.{IrType}
 use Rattle.ir_tree.specs.declared.tree.IrType.TheVariants as type
 use Rattle.ir_tree.specs.declared.tree.Parameter.{Parameter}
+use Rattle.points.specs.declared.point.Layout.{Layout}
 use Rattle.points.specs.Codes.{IsPointerAmong, IsCodeOfValue, IsCodeOfArgs}
 use Rattle.bv_terms.specs.declared.term.TermId.{TermId}
 use Rattle.bv_terms.specs.declared.term.Term.{Term}
@@ -23,38 +24,38 @@ use Rattle.refine_terms.proofs.Rows.{chain_parts}
 
 -- ---- a pointer
 
-pointer_there : (blocks f b o : ℕ) → f < 2 ^ 1 → o < 2 ^ 64 → (nat_le b blocks && (not (truth f) || (nat_eq b 0 && nat_eq o 0))) ≡ true → IsPointerAmong blocks (f ∷ b ∷ o ∷ []) ⊎ ((f ∷ b ∷ o ∷ []) ≡ (1 ∷ 0 ∷ 0 ∷ []))
-pointer_there blocks zero b o flag small h = inl (record { block = b; offset = o; is = refl; given = (at_most_says b blocks).0 (and_left (nat_le b blocks) true h); small = small })
-pointer_there blocks (suc zero) b o flag small h =
-    let zeros = and_right (nat_le b blocks) (nat_eq b 0 && nat_eq o 0) h in
+pointer_there : (layout : Layout) (f b o : ℕ) → f < 2 ^ 1 → o < 2 ^ 64 → (nat_le b layout.blocks && (not (truth f) || (nat_eq b 0 && nat_eq o 0))) ≡ true → IsPointerAmong layout (f ∷ b ∷ o ∷ []) ⊎ ((f ∷ b ∷ o ∷ []) ≡ (1 ∷ 0 ∷ 0 ∷ []))
+pointer_there layout zero b o flag small h = inl (record { block = b; offset = o; is = refl; given = (at_most_says b layout.blocks).0 (and_left (nat_le b layout.blocks) true h); small = small })
+pointer_there layout (suc zero) b o flag small h =
+    let zeros = and_right (nat_le b layout.blocks) (nat_eq b 0 && nat_eq o 0) h in
     let eb : b ≡ 0 = (equal_says b 0).0 (and_left (nat_eq b 0) (nat_eq o 0) zeros) in
     let eo : o ≡ 0 = (equal_says o 0).0 (and_right (nat_eq b 0) (nat_eq o 0) zeros) in
     inr (rw (eb, eo) refl)
-pointer_there blocks (suc (suc f)) b o flag small h = absurd (omega (arith, flag))
+pointer_there layout (suc (suc f)) b o flag small h = absurd (omega (arith, flag))
 
-pointer_back : (blocks f b o : ℕ) → IsPointerAmong blocks (f ∷ b ∷ o ∷ []) ⊎ ((f ∷ b ∷ o ∷ []) ≡ (1 ∷ 0 ∷ 0 ∷ [])) → (nat_le b blocks && (not (truth f) || (nat_eq b 0 && nat_eq o 0))) ≡ true
-pointer_back blocks f b o (inl h) =
+pointer_back : (layout : Layout) (f b o : ℕ) → IsPointerAmong layout (f ∷ b ∷ o ∷ []) ⊎ ((f ∷ b ∷ o ∷ []) ≡ (1 ∷ 0 ∷ 0 ∷ [])) → (nat_le b layout.blocks && (not (truth f) || (nat_eq b 0 && nat_eq o 0))) ≡ true
+pointer_back layout f b o (inl h) =
     let e = h.is in
     let ef : f ≡ 0 = cc in
     let eb : b ≡ h.block = cc in
     let given = h.given in
-    rw (ef, (at_most_says b blocks).1 (omega (arith, given, eb))) refl
-pointer_back blocks f b o (inr e) =
+    rw (ef, (at_most_says b layout.blocks).1 (omega (arith, given, eb))) refl
+pointer_back layout f b o (inr e) =
     let ef : f ≡ 1 = cc in
     let eb : b ≡ 0 = cc in
     let eo : o ≡ 0 = cc in
-    rw (ef, (at_most_says b blocks).1 (omega (arith, eb)), (equal_says b 0).1 eb, (equal_says o 0).1 eo) refl
+    rw (ef, (at_most_says b layout.blocks).1 (omega (arith, eb)), (equal_says b 0).1 eb, (equal_says o 0).1 eo) refl
 
-pub ptr_decides : (old a b c d e g : List Term) (blocks : ℕ) (t : IrType) (flag block offset is_given no_block no_offset is_zero fine id : TermId) → AreInRange old → IsArg old t (arg.Ptr flag block offset)
+pub ptr_decides : (old a b c d e g : List Term) (layout : Layout) (t : IrType) (flag block offset is_given no_block no_offset is_zero fine id : TermId) → AreInRange old → IsArg old t (arg.Ptr flag block offset)
     → Keeps old a → Keeps a b → Keeps b c → Keeps c d → Keeps d e
-    → Tests a is_given (λ v. nat_le (term_at v old block) blocks) → Tests b no_block (λ v. nat_eq (term_at v a block) 0) → Tests c no_offset (λ v. nat_eq (term_at v b offset) 0)
+    → Tests a is_given (λ v. nat_le (term_at v old block) layout.blocks) → Tests b no_block (λ v. nat_eq (term_at v a block) 0) → Tests c no_offset (λ v. nat_eq (term_at v b offset) 0)
     → Tests d is_zero (λ v. bit_at v c no_block && bit_at v c no_offset) → Tests e fine (λ v. not (bit_at v d flag) || bit_at v d is_zero) → Tests g id (λ v. bit_at v e is_given && bit_at v e fine)
-    → Decides g id (λ v. IsCodeOfValue blocks t (arg_numbers v old (arg.Ptr flag block offset)))
-ptr_decides old a b c d e g blocks (type.Int w) flag block offset is_given no_block no_offset is_zero fine id range h ka kb kc kd ke t1 t2 t3 t4 t5 t6 = absurd h
-ptr_decides old a b c d e g blocks type.Ptr flag block offset is_given no_block no_offset is_zero fine id range h ka kb kc kd ke t1 t2 t3 t4 t5 t6 =
+    → Decides g id (λ v. IsCodeOfValue layout t (arg_numbers v old (arg.Ptr flag block offset)))
+ptr_decides old a b c d e g layout (type.Int w) flag block offset is_given no_block no_offset is_zero fine id range h ka kb kc kd ke t1 t2 t3 t4 t5 t6 = absurd h
+ptr_decides old a b c d e g layout type.Ptr flag block offset is_given no_block no_offset is_zero fine id range h ka kb kc kd ke t1 t2 t3 t4 t5 t6 =
     let k_b = keeps_trans old a b ka kb in
     let k_bd = keeps_trans b c d kc kd in
-    let flat : Tests g id (λ v. nat_le (term_at v old block) blocks && (not (bit_at v old flag) || (nat_eq (term_at v old block) 0 && nat_eq (term_at v old offset) 0))) = record {
+    let flat : Tests g id (λ v. nat_le (term_at v old block) layout.blocks && (not (bit_at v old flag) || (nat_eq (term_at v old block) 0 && nat_eq (term_at v old offset) 0))) = record {
       within = t6.within;
       wide = t6.wide;
       says = λ v.
@@ -64,11 +65,11 @@ ptr_decides old a b c d e g blocks type.Ptr flag block offset is_given no_block 
           let offset_is = t3.says v ∙ ap (λ n. nat_eq n 0) (term-later old b k_b v offset h.2.within) in
           t6.says v ∙ (rw (given_is, t5.says v, flag_is, t4.says v, block_is, offset_is) refl);
     } in
-    tested g id (λ v. nat_le (term_at v old block) blocks && (not (bit_at v old flag) || (nat_eq (term_at v old block) 0 && nat_eq (term_at v old offset) 0)))
-    (λ v. IsCodeOfValue blocks type.Ptr (arg_numbers v old (arg.Ptr flag block offset))) flat
+    tested g id (λ v. nat_le (term_at v old block) layout.blocks && (not (bit_at v old flag) || (nat_eq (term_at v old block) 0 && nat_eq (term_at v old offset) 0)))
+    (λ v. IsCodeOfValue layout type.Ptr (arg_numbers v old (arg.Ptr flag block offset))) flat
     (λ v. (
-      pointer_there blocks (term_at v old flag) (term_at v old block) (term_at v old offset) (term-below old 1 flag range h.0 v) (term-below old 64 offset range h.2 v),
-      pointer_back blocks (term_at v old flag) (term_at v old block) (term_at v old offset),
+      pointer_there layout (term_at v old flag) (term_at v old block) (term_at v old offset) (term-below old 1 flag range h.0 v) (term-below old 64 offset range h.2 v),
+      pointer_back layout (term_at v old flag) (term_at v old block) (term_at v old offset),
     ))
 
 -- ---- all arguments
@@ -98,49 +99,49 @@ arg-at old (q ∷ ps) (b ∷ rest) (suc i) p a h lt = arg-at old ps rest i p a h
 pub arg_is : (old : List Term) (ps : List Parameter) (args : List ArgTerms) (i : ℕ) (p : Parameter) (a : ArgTerms) → AreArgs old ps args → i < length ps → p ≡ get_or ps i p → IsArg old p.of_type (get_or args i a)
 arg_is old ps args i p a h lt is = subst (λ (q : Parameter). IsArg old q.of_type (get_or args i a)) (sym is) (arg-at old ps args i p a h lt)
 
-value_long : (v : ℕ → ℕ → ℕ) (old : List Term) (blocks : ℕ) (t : IrType) (a : ArgTerms) → IsArg old t a → (ds : List ℕ) → IsCodeOfValue blocks t ds → length ds ≡ length (arg_numbers v old a)
-value_long v old blocks (type.Int w) (arg.Int flag n) h ds (inl c) = rw c.is refl
-value_long v old blocks (type.Int w) (arg.Int flag n) h ds (inr e) = rw e refl
-value_long v old blocks type.Ptr (arg.Ptr flag block offset) h ds (inl c) = rw c.is refl
-value_long v old blocks type.Ptr (arg.Ptr flag block offset) h ds (inr e) = rw e refl
-value_long v old blocks (type.Int w) (arg.Ptr flag block offset) h ds c = absurd h
-value_long v old blocks type.Ptr (arg.Int flag n) h ds c = absurd h
+value_long : (v : ℕ → ℕ → ℕ) (old : List Term) (layout : Layout) (t : IrType) (a : ArgTerms) → IsArg old t a → (ds : List ℕ) → IsCodeOfValue layout t ds → length ds ≡ length (arg_numbers v old a)
+value_long v old layout (type.Int w) (arg.Int flag n) h ds (inl c) = rw c.is refl
+value_long v old layout (type.Int w) (arg.Int flag n) h ds (inr e) = rw e refl
+value_long v old layout type.Ptr (arg.Ptr flag block offset) h ds (inl c) = rw c.is refl
+value_long v old layout type.Ptr (arg.Ptr flag block offset) h ds (inr e) = rw e refl
+value_long v old layout (type.Int w) (arg.Ptr flag block offset) h ds c = absurd h
+value_long v old layout type.Ptr (arg.Int flag n) h ds c = absurd h
 
-pub args_long : (v : ℕ → ℕ → ℕ) (old : List Term) (blocks : ℕ) (ps : List Parameter) (args : List ArgTerms) → AreArgs old ps args
-    → (ds : List ℕ) → IsCodeOfArgs blocks ps ds → length ds ≡ length (flat_map (arg_numbers v old) args)
-args_long v old blocks [] [] h ds c = rw c refl
-args_long v old blocks (p ∷ ps) (a ∷ rest) h ds c =
-    let here = value_long v old blocks p.of_type a h.0 c.front c.in_front in
-    let more = args_long v old blocks ps rest h.1 c.back c.in_back in
+pub args_long : (v : ℕ → ℕ → ℕ) (old : List Term) (layout : Layout) (ps : List Parameter) (args : List ArgTerms) → AreArgs old ps args
+    → (ds : List ℕ) → IsCodeOfArgs layout ps ds → length ds ≡ length (flat_map (arg_numbers v old) args)
+args_long v old layout [] [] h ds c = rw c refl
+args_long v old layout (p ∷ ps) (a ∷ rest) h ds c =
+    let here = value_long v old layout p.of_type a h.0 c.front c.in_front in
+    let more = args_long v old layout ps rest h.1 c.back c.in_back in
     rw (c.whole, length-append, length-append) (rw (here, more) refl)
-args_long v old blocks [] (a ∷ rest) h ds c = absurd h
-args_long v old blocks (p ∷ ps) [] h ds c = absurd h
+args_long v old layout [] (a ∷ rest) h ds c = absurd h
+args_long v old layout (p ∷ ps) [] h ds c = absurd h
 
-args_more : (v : ℕ → ℕ → ℕ) (old : List Term) (blocks i : ℕ) (ps : List Parameter) (args : List ArgTerms) (p : Parameter) (a : ArgTerms) → i < length ps → i < length args → p ≡ get_or ps i p → IsArg old p.of_type (get_or args i a)
-    → IsCodeOfArgs blocks (drop i ps) (flat_map (arg_numbers v old) (drop i args))
-    ↔ (IsCodeOfValue blocks p.of_type (arg_numbers v old (get_or args i a)) × IsCodeOfArgs blocks (drop (i + 1) ps) (flat_map (arg_numbers v old) (drop (i + 1) args)))
-args_more v old blocks i ps args p a lt lt_a is h =
+args_more : (v : ℕ → ℕ → ℕ) (old : List Term) (layout : Layout) (i : ℕ) (ps : List Parameter) (args : List ArgTerms) (p : Parameter) (a : ArgTerms) → i < length ps → i < length args → p ≡ get_or ps i p → IsArg old p.of_type (get_or args i a)
+    → IsCodeOfArgs layout (drop i ps) (flat_map (arg_numbers v old) (drop i args))
+    ↔ (IsCodeOfValue layout p.of_type (arg_numbers v old (get_or args i a)) × IsCodeOfArgs layout (drop (i + 1) ps) (flat_map (arg_numbers v old) (drop (i + 1) args)))
+args_more v old layout i ps args p a lt lt_a is h =
     let e_p : drop i ps ≡ p ∷ drop (i + 1) ps = drop_more ps i p lt ∙ ap (λ q. q ∷ drop (i + 1) ps) (sym is) in
     let e_a : drop i args ≡ get_or args i a ∷ drop (i + 1) args = drop_more args i a lt_a in
     rw (e_p, e_a)
-    (chain_parts (IsCodeOfValue blocks p.of_type) (λ value rest. IsCodeOfArgs blocks (drop (i + 1) ps) rest) (arg_numbers v old (get_or args i a)) (flat_map (arg_numbers v old) (drop (i + 1) args))
-    (λ ds c. value_long v old blocks p.of_type (get_or args i a) h ds c))
+    (chain_parts (IsCodeOfValue layout p.of_type) (λ value rest. IsCodeOfArgs layout (drop (i + 1) ps) rest) (arg_numbers v old (get_or args i a)) (flat_map (arg_numbers v old) (drop (i + 1) args))
+    (λ ds c. value_long v old layout p.of_type (get_or args i a) h ds c))
 
-pub arg_row : (old a b c : List Term) (blocks i : ℕ) (ps : List Parameter) (args : List ArgTerms) (p : Parameter) (x : ArgTerms) (all one next : TermId) → AreArgs old ps args → i < length ps → p ≡ get_or ps i p → Keeps old a → Keeps a b → IsTerm a 1 all
-    → ((v : ℕ → ℕ → ℕ) → ((bit_at v a all ≡ true) × IsCodeOfArgs blocks (drop i ps) (flat_map (arg_numbers v old) (drop i args))) ↔ IsCodeOfArgs blocks ps (flat_map (arg_numbers v old) args))
-    → Decides b one (λ v. IsCodeOfValue blocks p.of_type (arg_numbers v a (get_or args i x))) → Tests c next (λ v. bit_at v b all && bit_at v b one)
-    → (v : ℕ → ℕ → ℕ) → ((bit_at v c next ≡ true) × IsCodeOfArgs blocks (drop (i + 1) ps) (flat_map (arg_numbers v old) (drop (i + 1) args))) ↔ IsCodeOfArgs blocks ps (flat_map (arg_numbers v old) args)
-arg_row old a b c blocks i ps args p x all one next h lt is ka kb is_all so one_is t =
+pub arg_row : (old a b c : List Term) (layout : Layout) (i : ℕ) (ps : List Parameter) (args : List ArgTerms) (p : Parameter) (x : ArgTerms) (all one next : TermId) → AreArgs old ps args → i < length ps → p ≡ get_or ps i p → Keeps old a → Keeps a b → IsTerm a 1 all
+    → ((v : ℕ → ℕ → ℕ) → ((bit_at v a all ≡ true) × IsCodeOfArgs layout (drop i ps) (flat_map (arg_numbers v old) (drop i args))) ↔ IsCodeOfArgs layout ps (flat_map (arg_numbers v old) args))
+    → Decides b one (λ v. IsCodeOfValue layout p.of_type (arg_numbers v a (get_or args i x))) → Tests c next (λ v. bit_at v b all && bit_at v b one)
+    → (v : ℕ → ℕ → ℕ) → ((bit_at v c next ≡ true) × IsCodeOfArgs layout (drop (i + 1) ps) (flat_map (arg_numbers v old) (drop (i + 1) args))) ↔ IsCodeOfArgs layout ps (flat_map (arg_numbers v old) args)
+arg_row old a b c layout i ps args p x all one next h lt is ka kb is_all so one_is t =
     let lt_a : i < length args = omega (arith, args_count old ps args h, lt) in
     let here = arg_is old ps args i p x h lt is in
-    row_more a b c all one next (λ v. IsCodeOfValue blocks p.of_type (arg_numbers v a (get_or args i x)))
-    (λ v. IsCodeOfArgs blocks (drop i ps) (flat_map (arg_numbers v old) (drop i args)))
-    (λ v. IsCodeOfArgs blocks (drop (i + 1) ps) (flat_map (arg_numbers v old) (drop (i + 1) args)))
-    (λ v. IsCodeOfArgs blocks ps (flat_map (arg_numbers v old) args)) kb is_all so one_is t
-    (λ v. rw (arg_numbers-later old a ka p.of_type (get_or args i x) here v) (args_more v old blocks i ps args p x lt lt_a is here))
+    row_more a b c all one next (λ v. IsCodeOfValue layout p.of_type (arg_numbers v a (get_or args i x)))
+    (λ v. IsCodeOfArgs layout (drop i ps) (flat_map (arg_numbers v old) (drop i args)))
+    (λ v. IsCodeOfArgs layout (drop (i + 1) ps) (flat_map (arg_numbers v old) (drop (i + 1) args)))
+    (λ v. IsCodeOfArgs layout ps (flat_map (arg_numbers v old) args)) kb is_all so one_is t
+    (λ v. rw (arg_numbers-later old a ka p.of_type (get_or args i x) here v) (args_more v old layout i ps args p x lt lt_a is here))
 
-pub args_end : (v : ℕ → ℕ → ℕ) (old : List Term) (blocks i : ℕ) (ps : List Parameter) (args : List ArgTerms) → AreArgs old ps args → length ps ≤ i → IsCodeOfArgs blocks (drop i ps) (flat_map (arg_numbers v old) (drop i args))
-args_end v old blocks i ps args h le =
+pub args_end : (v : ℕ → ℕ → ℕ) (old : List Term) (layout : Layout) (i : ℕ) (ps : List Parameter) (args : List ArgTerms) → AreArgs old ps args → length ps ≤ i → IsCodeOfArgs layout (drop i ps) (flat_map (arg_numbers v old) (drop i args))
+args_end v old layout i ps args h le =
     let e_p : drop i ps ≡ [] = drop_all i ps le in
     let e_a : drop i args ≡ [] = drop_all i args (omega (arith, args_count old ps args h, le)) in
     rw (e_p, e_a) refl

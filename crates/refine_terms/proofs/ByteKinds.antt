@@ -1,5 +1,6 @@
 -- The tests of a byte's numbers say what kind of byte they are.
 use Rattle.std.proofs.Common.{ℕ, ◌≡◌, ◌<◌, ◌^◌, ◌↔◌, ◌⊎◌, Bool, true, false, ◌&&◌, ◌||◌, cond, nat_eq, nat_le, List, [], ◌∷◌, length, refl, sym, ap, ◌∙◌, arith}
+use Rattle.points.specs.declared.point.Layout.{Layout}
 use Rattle.points.specs.Codes.{IsNumberByte, IsPartByte, IsCodeOfByte, IsUnused}
 use Rattle.bv_terms.specs.declared.term.TermId.{TermId}
 use Rattle.bv_terms.specs.declared.term.Term.{Term}
@@ -131,28 +132,28 @@ number_decides old a b c x of_kind part id range h ka kb t1 t2 t3 =
 
 -- ---- a part of a pointer
 
-pointer_there : (blocks k n b o p : ℕ) → o < 2 ^ 64 → p < 2 ^ 3 → (nat_eq k 1 && (nat_eq n 0 && nat_le b blocks)) ≡ true → IsPartByte blocks (k ∷ n ∷ b ∷ o ∷ p ∷ [])
-pointer_there blocks k n b o p small eight h =
-    let h1 = and_right (nat_eq k 1) (nat_eq n 0 && nat_le b blocks) h in
-    let ek : k ≡ 1 = (equal_says k 1).0 (and_left (nat_eq k 1) (nat_eq n 0 && nat_le b blocks) h) in
-    let en : n ≡ 0 = (equal_says n 0).0 (and_left (nat_eq n 0) (nat_le b blocks) h1) in
-    record { block = b; offset = o; part = p; is = rw (ek, en) refl; given = (at_most_says b blocks).0 (and_right (nat_eq n 0) (nat_le b blocks) h1); small = small; of_eight = omega (arith, eight) }
+pointer_there : (layout : Layout) (k n b o p : ℕ) → o < 2 ^ 64 → p < 2 ^ 3 → (nat_eq k 1 && (nat_eq n 0 && nat_le b layout.blocks)) ≡ true → IsPartByte layout (k ∷ n ∷ b ∷ o ∷ p ∷ [])
+pointer_there layout k n b o p small eight h =
+    let h1 = and_right (nat_eq k 1) (nat_eq n 0 && nat_le b layout.blocks) h in
+    let ek : k ≡ 1 = (equal_says k 1).0 (and_left (nat_eq k 1) (nat_eq n 0 && nat_le b layout.blocks) h) in
+    let en : n ≡ 0 = (equal_says n 0).0 (and_left (nat_eq n 0) (nat_le b layout.blocks) h1) in
+    record { block = b; offset = o; part = p; is = rw (ek, en) refl; given = (at_most_says b layout.blocks).0 (and_right (nat_eq n 0) (nat_le b layout.blocks) h1); small = small; of_eight = omega (arith, eight) }
 
-pointer_back : (blocks k n b o p : ℕ) → IsPartByte blocks (k ∷ n ∷ b ∷ o ∷ p ∷ []) → (nat_eq k 1 && (nat_eq n 0 && nat_le b blocks)) ≡ true
-pointer_back blocks k n b o p h =
+pointer_back : (layout : Layout) (k n b o p : ℕ) → IsPartByte layout (k ∷ n ∷ b ∷ o ∷ p ∷ []) → (nat_eq k 1 && (nat_eq n 0 && nat_le b layout.blocks)) ≡ true
+pointer_back layout k n b o p h =
     let e = h.is in
     let ek : k ≡ 1 = cc in
     let en : n ≡ 0 = cc in
     let eb : b ≡ h.block = cc in
     let given = h.given in
-    rw ((equal_says k 1).1 ek, (equal_says n 0).1 en, (at_most_says b blocks).1 (omega (arith, given, eb))) refl
+    rw ((equal_says k 1).1 ek, (equal_says n 0).1 en, (at_most_says b layout.blocks).1 (omega (arith, given, eb))) refl
 
-pub pointer_decides : (old a b c d e : List Term) (x : ByteTerms) (blocks : ℕ) (of_kind number block rest id : TermId) → AreInRange old → IsByteTerms old x → Keeps old a → Keeps a b → Keeps b c → Keeps c d
-    → Tests a of_kind (λ v. nat_eq (term_at v old x.kind) 1) → Tests b number (λ v. nat_eq (term_at v a x.number) 0) → Tests c block (λ v. nat_le (term_at v b x.block) blocks)
+pub pointer_decides : (old a b c d e : List Term) (x : ByteTerms) (layout : Layout) (of_kind number block rest id : TermId) → AreInRange old → IsByteTerms old x → Keeps old a → Keeps a b → Keeps b c → Keeps c d
+    → Tests a of_kind (λ v. nat_eq (term_at v old x.kind) 1) → Tests b number (λ v. nat_eq (term_at v a x.number) 0) → Tests c block (λ v. nat_le (term_at v b x.block) layout.blocks)
     → Tests d rest (λ v. bit_at v c number && bit_at v c block) → Tests e id (λ v. bit_at v d of_kind && bit_at v d rest)
-    → Decides e id (λ v. IsPartByte blocks (byte_numbers v old x))
-pointer_decides old a b c d e x blocks of_kind number block rest id range h ka kb kc kd t1 t2 t3 t4 t5 =
-    let flat : Tests e id (λ v. nat_eq (term_at v old x.kind) 1 && (nat_eq (term_at v old x.number) 0 && nat_le (term_at v old x.block) blocks)) = record {
+    → Decides e id (λ v. IsPartByte layout (byte_numbers v old x))
+pointer_decides old a b c d e x layout of_kind number block rest id range h ka kb kc kd t1 t2 t3 t4 t5 =
+    let flat : Tests e id (λ v. nat_eq (term_at v old x.kind) 1 && (nat_eq (term_at v old x.number) 0 && nat_le (term_at v old x.block) layout.blocks)) = record {
       within = t5.within;
       wide = t5.wide;
       says = λ v.
@@ -162,46 +163,46 @@ pointer_decides old a b c d e x blocks of_kind number block rest id range h ka k
           let block_same = term-later old b (keeps_trans old a b ka kb) v x.block h.block.within in
           t5.says v ∙ (rw (kind_is, t4.says v, number_is, number_same, t3.says v, block_same) refl);
     } in
-    tested e id (λ v. nat_eq (term_at v old x.kind) 1 && (nat_eq (term_at v old x.number) 0 && nat_le (term_at v old x.block) blocks))
-    (λ v. IsPartByte blocks (byte_numbers v old x)) flat
+    tested e id (λ v. nat_eq (term_at v old x.kind) 1 && (nat_eq (term_at v old x.number) 0 && nat_le (term_at v old x.block) layout.blocks))
+    (λ v. IsPartByte layout (byte_numbers v old x)) flat
     (λ v. (
-      pointer_there blocks (term_at v old x.kind) (term_at v old x.number) (term_at v old x.block) (term_at v old x.offset) (term_at v old x.part) (term-below old 64 x.offset range h.offset v) (term-below old 3 x.part range h.part v),
-      pointer_back blocks (term_at v old x.kind) (term_at v old x.number) (term_at v old x.block) (term_at v old x.offset) (term_at v old x.part),
+      pointer_there layout (term_at v old x.kind) (term_at v old x.number) (term_at v old x.block) (term_at v old x.offset) (term_at v old x.part) (term-below old 64 x.offset range h.offset v) (term-below old 3 x.part range h.part v),
+      pointer_back layout (term_at v old x.kind) (term_at v old x.number) (term_at v old x.block) (term_at v old x.offset) (term_at v old x.part),
     ))
 
 -- ---- a byte
 
-pub byte_decides : (old a b c d e : List Term) (x : ByteTerms) (blocks : ℕ) (number part poison rest id : TermId) → IsByteTerms old x → Keeps old a → Keeps a b → Keeps b c → Keeps c d
-    → Decides a number (λ v. IsNumberByte (byte_numbers v old x)) → Decides b part (λ v. IsPartByte blocks (byte_numbers v a x))
+pub byte_decides : (old a b c d e : List Term) (x : ByteTerms) (layout : Layout) (number part poison rest id : TermId) → IsByteTerms old x → Keeps old a → Keeps a b → Keeps b c → Keeps c d
+    → Decides a number (λ v. IsNumberByte (byte_numbers v old x)) → Decides b part (λ v. IsPartByte layout (byte_numbers v a x))
     → Decides c poison (λ v. byte_numbers v b x ≡ (2 ∷ 0 ∷ 0 ∷ 0 ∷ 0 ∷ []))
     → Tests d rest (λ v. bit_at v c part || bit_at v c poison) → Tests e id (λ v. bit_at v d number || bit_at v d rest)
-    → Decides e id (λ v. IsCodeOfByte blocks (byte_numbers v old x))
-byte_decides old a b c d e x blocks number part poison rest id h ka kb kc kd d1 d2 d3 t4 t5 =
+    → Decides e id (λ v. IsCodeOfByte layout (byte_numbers v old x))
+byte_decides old a b c d e x layout number part poison rest id h ka kb kc kd d1 d2 d3 t4 t5 =
     let number_d = decides-later a d (keeps_trans a c d (keeps_trans a b c kb kc) kd) number (λ v. IsNumberByte (byte_numbers v old x)) d1 in
-    let part_old = at_equal b part (IsPartByte blocks) (λ v. byte_numbers v a x) (λ v. byte_numbers v old x) d2 (byte-later old a ka x h) in
-    let part_c = decides-later b c kc part (λ v. IsPartByte blocks (byte_numbers v old x)) part_old in
+    let part_old = at_equal b part (IsPartByte layout) (λ v. byte_numbers v a x) (λ v. byte_numbers v old x) d2 (byte-later old a ka x h) in
+    let part_c = decides-later b c kc part (λ v. IsPartByte layout (byte_numbers v old x)) part_old in
     let poison_c = at_equal c poison (λ ds. ds ≡ (2 ∷ 0 ∷ 0 ∷ 0 ∷ 0 ∷ [])) (λ v. byte_numbers v b x) (λ v. byte_numbers v old x) d3 (byte-later old b (keeps_trans old a b ka kb) x h) in
-    let rest_d = either_decides c d part poison rest (λ v. IsPartByte blocks (byte_numbers v old x)) (λ v. byte_numbers v old x ≡ (2 ∷ 0 ∷ 0 ∷ 0 ∷ 0 ∷ [])) part_c poison_c t4 in
-    either_decides d e number rest id (λ v. IsNumberByte (byte_numbers v old x)) (λ v. IsPartByte blocks (byte_numbers v old x) ⊎ (byte_numbers v old x ≡ (2 ∷ 0 ∷ 0 ∷ 0 ∷ 0 ∷ []))) number_d rest_d t5
+    let rest_d = either_decides c d part poison rest (λ v. IsPartByte layout (byte_numbers v old x)) (λ v. byte_numbers v old x ≡ (2 ∷ 0 ∷ 0 ∷ 0 ∷ 0 ∷ [])) part_c poison_c t4 in
+    either_decides d e number rest id (λ v. IsNumberByte (byte_numbers v old x)) (λ v. IsPartByte layout (byte_numbers v old x) ⊎ (byte_numbers v old x ≡ (2 ∷ 0 ∷ 0 ∷ 0 ∷ 0 ∷ []))) number_d rest_d t5
 
 -- ---- a byte
 
-placed : (p : Bool) (x y blocks : ℕ) (ds : List ℕ) → ((truth x ≡ true) ↔ IsUnused ds) → ((truth y ≡ true) ↔ IsCodeOfByte blocks ds) → (truth (cond p x y) ≡ true) ↔ IsCodeOfPlace blocks p ds
-placed true x y blocks ds h g = h
-placed false x y blocks ds h g = g
+placed : (p : Bool) (x y : ℕ) (layout : Layout) (ds : List ℕ) → ((truth x ≡ true) ↔ IsUnused ds) → ((truth y ≡ true) ↔ IsCodeOfByte layout ds) → (truth (cond p x y) ≡ true) ↔ IsCodeOfPlace layout p ds
+placed true x y layout ds h g = h
+placed false x y layout ds h g = g
 
-pub place_decides : (old a b c d : List Term) (x : ByteTerms) (blocks place : ℕ) (size byte unused is_past id : TermId) → IsByteTerms old x → size.index < length old → Keeps old a → Keeps a b → Keeps b c
-    → Decides a byte (λ v. IsCodeOfByte blocks (byte_numbers v old x)) → Decides b unused (λ v. byte_numbers v a x ≡ (0 ∷ 0 ∷ 0 ∷ 0 ∷ 0 ∷ []))
+pub place_decides : (old a b c d : List Term) (x : ByteTerms) (layout : Layout) (place : ℕ) (size byte unused is_past id : TermId) → IsByteTerms old x → size.index < length old → Keeps old a → Keeps a b → Keeps b c
+    → Decides a byte (λ v. IsCodeOfByte layout (byte_numbers v old x)) → Decides b unused (λ v. byte_numbers v a x ≡ (0 ∷ 0 ∷ 0 ∷ 0 ∷ 0 ∷ []))
     → Tests c is_past (λ v. nat_le (term_at v b size) place) → Makes d id (width_of (tree_in c unused)) (λ v. cond (bit_at v c is_past) (term_at v c unused) (term_at v c byte))
-    → Decides d id (λ v. IsCodeOfPlace blocks (nat_le (term_at v old size) place) (byte_numbers v old x))
-place_decides old a b c d x blocks place size byte unused is_past id h within ka kb kc d1 d2 t3 m =
-    let byte_c = decides-later a c (keeps_trans a b c kb kc) byte (λ v. IsCodeOfByte blocks (byte_numbers v old x)) d1 in
+    → Decides d id (λ v. IsCodeOfPlace layout (nat_le (term_at v old size) place) (byte_numbers v old x))
+place_decides old a b c d x layout place size byte unused is_past id h within ka kb kc d1 d2 t3 m =
+    let byte_c = decides-later a c (keeps_trans a b c kb kc) byte (λ v. IsCodeOfByte layout (byte_numbers v old x)) d1 in
     let unused_b = at_equal b unused (λ ds. ds ≡ (0 ∷ 0 ∷ 0 ∷ 0 ∷ 0 ∷ [])) (λ v. byte_numbers v a x) (λ v. byte_numbers v old x) d2 (byte-later old a ka x h) in
     let unused_c = decides-later b c kc unused (λ v. byte_numbers v old x ≡ (0 ∷ 0 ∷ 0 ∷ 0 ∷ 0 ∷ [])) unused_b in (
       record { within = m.within; wide = m.wide ∙ unused_c.0.wide },
       λ v.
           let past_is : bit_at v c is_past ≡ nat_le (term_at v old size) place = t3.says v ∙ ap (λ n. nat_le n place) (term-later old b (keeps_trans old a b ka kb) v size within) in
           let is : bit_at v d id ≡ truth (cond (nat_le (term_at v old size) place) (term_at v c unused) (term_at v c byte)) = ap truth (m.says v) ∙ ap (λ q. truth (cond q (term_at v c unused) (term_at v c byte))) past_is in
-          let told = placed (nat_le (term_at v old size) place) (term_at v c unused) (term_at v c byte) blocks (byte_numbers v old x) (unused_c.1 v) (byte_c.1 v) in
+          let told = placed (nat_le (term_at v old size) place) (term_at v c unused) (term_at v c byte) layout (byte_numbers v old x) (unused_c.1 v) (byte_c.1 v) in
           ((λ e. told.0 (sym is ∙ e)), (λ f. is ∙ told.1 f)),
     )

@@ -3,6 +3,7 @@ use Rattle.std.proofs.Common.{ℕ, zero, suc, ◌≡◌, ◌<◌, ◌≤◌, ◌
 use Rattle.std.specs.List.{flat_map}
 use Rattle.std.proofs.lemmas.Bool.Decides.{nat_tests}
 use Rattle.std.proofs.lemmas.List.{drop_more, drop_all}
+use Rattle.points.specs.declared.point.Layout.{Layout}
 use Rattle.points.specs.Codes.{IsChain, IsCodeOfByte, IsUnused, IsCodeOfPlaces, IsCodeOfBlocks}
 use Rattle.bv_terms.specs.declared.term.TermId.{TermId}
 use Rattle.bv_terms.specs.declared.term.Term.{Term}
@@ -85,22 +86,22 @@ chain_parts P Q front back long = (
 
 -- ---- contents
 
-byte_long : (blocks : ℕ) (ds : List ℕ) → IsCodeOfByte blocks ds → length ds ≡ 5
-byte_long blocks ds (inl n) = rw n.is refl
-byte_long blocks ds (inr (inl p)) = rw p.is refl
-byte_long blocks ds (inr (inr e)) = rw e refl
+byte_long : (layout : Layout) (ds : List ℕ) → IsCodeOfByte layout ds → length ds ≡ 5
+byte_long layout ds (inl n) = rw n.is refl
+byte_long layout ds (inr (inl p)) = rw p.is refl
+byte_long layout ds (inr (inr e)) = rw e refl
 
 unused_long : (ds : List ℕ) → IsUnused ds → length ds ≡ 5
 unused_long ds e = rw e refl
 
-place_more : (blocks room size : ℕ) (p : Bool) (front back : List ℕ) → length front ≡ 5 → (p ≡ true → size ≡ 0) → (p ≡ false → 0 < size)
-    → IsCodeOfPlaces blocks (suc room) size (front ++ back) ↔ (IsCodeOfPlace blocks p front × IsCodeOfPlaces blocks room (size - 1) back)
-place_more blocks room zero true front back five past inside = chain_parts IsUnused (λ place rest. IsCodeOfPlaces blocks room zero rest) front back (λ ds h. unused_long ds h ∙ sym five)
-place_more blocks room zero false front back five past inside = absurd (let x = inside refl in omega (arith, x))
-place_more blocks room (suc size) true front back five past inside = absurd (let x = past refl in omega (arith, x))
-place_more blocks room (suc size) false front back five past inside =
+place_more : (layout : Layout) (room size : ℕ) (p : Bool) (front back : List ℕ) → length front ≡ 5 → (p ≡ true → size ≡ 0) → (p ≡ false → 0 < size)
+    → IsCodeOfPlaces layout (suc room) size (front ++ back) ↔ (IsCodeOfPlace layout p front × IsCodeOfPlaces layout room (size - 1) back)
+place_more layout room zero true front back five past inside = chain_parts IsUnused (λ place rest. IsCodeOfPlaces layout room zero rest) front back (λ ds h. unused_long ds h ∙ sym five)
+place_more layout room zero false front back five past inside = absurd (let x = inside refl in omega (arith, x))
+place_more layout room (suc size) true front back five past inside = absurd (let x = past refl in omega (arith, x))
+place_more layout room (suc size) false front back five past inside =
     let e : suc size - 1 ≡ size = omega arith in
-    rw e (chain_parts (IsCodeOfByte blocks) (λ place rest. IsCodeOfPlaces blocks room size rest) front back (λ ds h. byte_long blocks ds h ∙ sym five))
+    rw e (chain_parts (IsCodeOfByte layout) (λ place rest. IsCodeOfPlaces layout room size rest) front back (λ ds h. byte_long layout ds h ∙ sym five))
 
 past_size : (size i : ℕ) → nat_le size i ≡ true → size - i ≡ 0
 past_size size i t = grind (arith, nat_tests)
@@ -108,66 +109,66 @@ past_size size i t = grind (arith, nat_tests)
 inside_size : (size i : ℕ) → nat_le size i ≡ false → 0 < size - i
 inside_size size i t = grind (arith, nat_tests)
 
-places_more : {A : Type 0} (blocks size i : ℕ) (f : A → List ℕ) (xs : List A) (d : A) → i < length xs → ((x : A) → length (f x) ≡ 5)
-    → IsCodeOfPlaces blocks (length xs - i) (size - i) (flat_map f (drop i xs)) ↔ (IsCodeOfPlace blocks (nat_le size i) (f (get_or xs i d)) × IsCodeOfPlaces blocks (length xs - (i + 1)) (size - (i + 1)) (flat_map f (drop (i + 1) xs)))
-places_more blocks size i f xs d lt five =
+places_more : {A : Type 0} (layout : Layout) (size i : ℕ) (f : A → List ℕ) (xs : List A) (d : A) → i < length xs → ((x : A) → length (f x) ≡ 5)
+    → IsCodeOfPlaces layout (length xs - i) (size - i) (flat_map f (drop i xs)) ↔ (IsCodeOfPlace layout (nat_le size i) (f (get_or xs i d)) × IsCodeOfPlaces layout (length xs - (i + 1)) (size - (i + 1)) (flat_map f (drop (i + 1) xs)))
+places_more layout size i f xs d lt five =
     let room : length xs - i ≡ suc (length xs - (i + 1)) = omega (arith, lt) in
     let less : (size - i) - 1 ≡ size - (i + 1) = omega arith in
     let more : drop i xs ≡ get_or xs i d ∷ drop (i + 1) xs = drop_more xs i d lt in
-    let main = place_more blocks (length xs - (i + 1)) (size - i) (nat_le size i) (f (get_or xs i d)) (flat_map f (drop (i + 1) xs)) (five (get_or xs i d)) (past_size size i) (inside_size size i) in
+    let main = place_more layout (length xs - (i + 1)) (size - i) (nat_le size i) (f (get_or xs i d)) (flat_map f (drop (i + 1) xs)) (five (get_or xs i d)) (past_size size i) (inside_size size i) in
     rw (room, more) (rw less at main)
 
-pub place_row : (old a b c : List Term) (xs : List ByteTerms) (i blocks : ℕ) (size : TermId) (d : ByteTerms) (all one next : TermId) → Each (IsByteTerms old) xs → IsNarrow old size → i < length xs → Keeps old a → Keeps a b → IsTerm a 1 all
-    → ((v : ℕ → ℕ → ℕ) → ((bit_at v a all ≡ true) × IsCodeOfPlaces blocks (length xs - i) (term_at v old size - i) (block_numbers v old (drop i xs))) ↔ IsCodeOfPlaces blocks (length xs) (term_at v old size) (block_numbers v old xs))
-    → Decides b one (λ v. IsCodeOfPlace blocks (nat_le (term_at v a size) i) (byte_numbers v a (get_or xs i d))) → Tests c next (λ v. bit_at v b all && bit_at v b one)
-    → (v : ℕ → ℕ → ℕ) → ((bit_at v c next ≡ true) × IsCodeOfPlaces blocks (length xs - (i + 1)) (term_at v old size - (i + 1)) (block_numbers v old (drop (i + 1) xs))) ↔ IsCodeOfPlaces blocks (length xs) (term_at v old size) (block_numbers v old xs)
-place_row old a b c xs i blocks size d all one next are narrow lt ka kb h so one_is t =
-    row_more a b c all one next (λ v. IsCodeOfPlace blocks (nat_le (term_at v a size) i) (byte_numbers v a (get_or xs i d)))
-    (λ v. IsCodeOfPlaces blocks (length xs - i) (term_at v old size - i) (block_numbers v old (drop i xs)))
-    (λ v. IsCodeOfPlaces blocks (length xs - (i + 1)) (term_at v old size - (i + 1)) (block_numbers v old (drop (i + 1) xs)))
-    (λ v. IsCodeOfPlaces blocks (length xs) (term_at v old size) (block_numbers v old xs)) kb h so one_is t
+pub place_row : (old a b c : List Term) (xs : List ByteTerms) (i : ℕ) (layout : Layout) (size : TermId) (d : ByteTerms) (all one next : TermId) → Each (IsByteTerms old) xs → IsNarrow old size → i < length xs → Keeps old a → Keeps a b → IsTerm a 1 all
+    → ((v : ℕ → ℕ → ℕ) → ((bit_at v a all ≡ true) × IsCodeOfPlaces layout (length xs - i) (term_at v old size - i) (block_numbers v old (drop i xs))) ↔ IsCodeOfPlaces layout (length xs) (term_at v old size) (block_numbers v old xs))
+    → Decides b one (λ v. IsCodeOfPlace layout (nat_le (term_at v a size) i) (byte_numbers v a (get_or xs i d))) → Tests c next (λ v. bit_at v b all && bit_at v b one)
+    → (v : ℕ → ℕ → ℕ) → ((bit_at v c next ≡ true) × IsCodeOfPlaces layout (length xs - (i + 1)) (term_at v old size - (i + 1)) (block_numbers v old (drop (i + 1) xs))) ↔ IsCodeOfPlaces layout (length xs) (term_at v old size) (block_numbers v old xs)
+place_row old a b c xs i layout size d all one next are narrow lt ka kb h so one_is t =
+    row_more a b c all one next (λ v. IsCodeOfPlace layout (nat_le (term_at v a size) i) (byte_numbers v a (get_or xs i d)))
+    (λ v. IsCodeOfPlaces layout (length xs - i) (term_at v old size - i) (block_numbers v old (drop i xs)))
+    (λ v. IsCodeOfPlaces layout (length xs - (i + 1)) (term_at v old size - (i + 1)) (block_numbers v old (drop (i + 1) xs)))
+    (λ v. IsCodeOfPlaces layout (length xs) (term_at v old size) (block_numbers v old xs)) kb h so one_is t
     (λ v.
     rw (term-later old a ka v size narrow.within, byte-later old a ka (get_or xs i d) (each_get (IsByteTerms old) xs i d are lt) v)
-    (places_more blocks (term_at v old size) i (byte_numbers v old) xs d lt (λ x. refl)))
+    (places_more layout (term_at v old size) i (byte_numbers v old) xs d lt (λ x. refl)))
 
-pub places_start : (a : List Term) (all : TermId) (blocks n : ℕ) (size : (ℕ → ℕ → ℕ) → ℕ) (ds : (ℕ → ℕ → ℕ) → List ℕ) → Tests a all (λ _. true)
-    → (v : ℕ → ℕ → ℕ) → ((bit_at v a all ≡ true) × IsCodeOfPlaces blocks (n - 0) (size v - 0) (ds v)) ↔ IsCodeOfPlaces blocks n (size v) (ds v)
-places_start a all blocks n size ds t v =
+pub places_start : (a : List Term) (all : TermId) (layout : Layout) (n : ℕ) (size : (ℕ → ℕ → ℕ) → ℕ) (ds : (ℕ → ℕ → ℕ) → List ℕ) → Tests a all (λ _. true)
+    → (v : ℕ → ℕ → ℕ) → ((bit_at v a all ≡ true) × IsCodeOfPlaces layout (n - 0) (size v - 0) (ds v)) ↔ IsCodeOfPlaces layout n (size v) (ds v)
+places_start a all layout n size ds t v =
     let room : n - 0 ≡ n = omega arith in
     let same : size v - 0 ≡ size v = omega arith in
-    rw (room, same) (row_starts a all (λ w. IsCodeOfPlaces blocks n (size w) (ds w)) t v)
+    rw (room, same) (row_starts a all (λ w. IsCodeOfPlaces layout n (size w) (ds w)) t v)
 
-pub places_end : (blocks size i : ℕ) (old : List Term) (v : ℕ → ℕ → ℕ) (xs : List ByteTerms) → length xs ≤ i → IsCodeOfPlaces blocks (length xs - i) (size - i) (block_numbers v old (drop i xs))
-places_end blocks size i old v xs le =
+pub places_end : (layout : Layout) (size i : ℕ) (old : List Term) (v : ℕ → ℕ → ℕ) (xs : List ByteTerms) → length xs ≤ i → IsCodeOfPlaces layout (length xs - i) (size - i) (block_numbers v old (drop i xs))
+places_end layout size i old v xs le =
     let none : length xs - i ≡ 0 = omega (arith, le) in
     let e : drop i xs ≡ [] = drop_all i xs le in
     rw (none, e) refl
 
 -- ---- blocks
 
-pub places_long : (blocks room size : ℕ) (ds : List ℕ) → IsCodeOfPlaces blocks room size ds → length ds ≡ room * 5
-places_long blocks zero size ds h = rw h refl
-places_long blocks (suc room) zero ds h =
-    let rest = places_long blocks room zero h.back h.in_back in
+pub places_long : (layout : Layout) (room size : ℕ) (ds : List ℕ) → IsCodeOfPlaces layout room size ds → length ds ≡ room * 5
+places_long layout zero size ds h = rw h refl
+places_long layout (suc room) zero ds h =
+    let rest = places_long layout room zero h.back h.in_back in
     let five = unused_long h.front h.in_front in
     rw (h.whole, length-append) (omega (arith, rest, five))
-places_long blocks (suc room) (suc size) ds h =
-    let rest = places_long blocks room size h.back h.in_back in
-    let five = byte_long blocks h.front h.in_front in
+places_long layout (suc room) (suc size) ds h =
+    let rest = places_long layout room size h.back h.in_back in
+    let five = byte_long layout h.front h.in_front in
     rw (h.whole, length-append) (omega (arith, rest, five))
 
 pub block_long : (v : ℕ → ℕ → ℕ) (old : List Term) (xs : List ByteTerms) → length (block_numbers v old xs) ≡ length xs * 5
 block_long v old [] = refl
 block_long v old (x ∷ xs) = let rest = block_long v old xs in omega (arith, rest)
 
-blocks_more : {A B : Type 0} (blocks bytes i : ℕ) (f : A → List ℕ) (g : B → ℕ) (xs : List A) (ss : List B) (d : A) (e : B) → i < length ss → length ss ≡ length xs → length (f (get_or xs i d)) ≡ bytes * 5
-    → IsCodeOfBlocks blocks bytes (map g (drop i ss)) (flat_map f (drop i xs)) ↔ (IsCodeOfPlaces blocks bytes (g (get_or ss i e)) (f (get_or xs i d)) × IsCodeOfBlocks blocks bytes (map g (drop (i + 1) ss)) (flat_map f (drop (i + 1) xs)))
-blocks_more blocks bytes i f g xs ss d e lt count long =
+blocks_more : {A B : Type 0} (layout : Layout) (i : ℕ) (f : A → List ℕ) (g : B → ℕ) (xs : List A) (ss : List B) (d : A) (e : B) → i < length ss → length ss ≡ length xs → length (f (get_or xs i d)) ≡ layout.bytes * 5
+    → IsCodeOfBlocks layout (map g (drop i ss)) (flat_map f (drop i xs)) ↔ (IsCodeOfPlaces layout layout.bytes (g (get_or ss i e)) (f (get_or xs i d)) × IsCodeOfBlocks layout (map g (drop (i + 1) ss)) (flat_map f (drop (i + 1) xs)))
+blocks_more layout i f g xs ss d e lt count long =
     let more : drop i xs ≡ get_or xs i d ∷ drop (i + 1) xs = drop_more xs i d (omega (arith, lt, count)) in
     let size : drop i ss ≡ get_or ss i e ∷ drop (i + 1) ss = drop_more ss i e lt in
     rw (more, size)
-    (chain_parts (IsCodeOfPlaces blocks bytes (g (get_or ss i e))) (λ block rest. IsCodeOfBlocks blocks bytes (map g (drop (i + 1) ss)) rest) (f (get_or xs i d)) (flat_map f (drop (i + 1) xs))
-    (λ ds h. places_long blocks bytes (g (get_or ss i e)) ds h ∙ sym long))
+    (chain_parts (IsCodeOfPlaces layout layout.bytes (g (get_or ss i e))) (λ block rest. IsCodeOfBlocks layout (map g (drop (i + 1) ss)) rest) (f (get_or xs i d)) (flat_map f (drop (i + 1) xs))
+    (λ ds h. places_long layout layout.bytes (g (get_or ss i e)) ds h ∙ sym long))
 
 pub same_parts : (a b c d : List ℕ) → a ≡ b → c ≡ d → (a ++ c) ≡ (b ++ d)
 same_parts a b c d e f = cc
@@ -176,26 +177,26 @@ pub block-later : (old new : List Term) (k : Keeps old new) (xs : List ByteTerms
 block-later old new k [] h v = refl
 block-later old new k (x ∷ xs) h v = same_parts (byte_numbers v new x) (byte_numbers v old x) (block_numbers v new xs) (block_numbers v old xs) (byte-later old new k x h.0 v) (block-later old new k xs h.1 v)
 
-pub block_row : (old a b c : List Term) (xs : List (List ByteTerms)) (ss : List TermId) (i blocks bytes : ℕ) (x : List ByteTerms) (e all one next : TermId) → length ss ≡ length xs → Each (IsNarrow old) ss → Each (IsBlockTerms bytes old) xs
+pub block_row : (old a b c : List Term) (xs : List (List ByteTerms)) (ss : List TermId) (i : ℕ) (layout : Layout) (x : List ByteTerms) (e all one next : TermId) → length ss ≡ length xs → Each (IsNarrow old) ss → Each (IsBlockTerms layout.bytes old) xs
     → i < length ss → x ≡ get_or xs i x → Keeps old a → Keeps a b → IsTerm a 1 all
-    → ((v : ℕ → ℕ → ℕ) → ((bit_at v a all ≡ true) × IsCodeOfBlocks blocks bytes (map (term_at v old) (drop i ss)) (flat_map (block_numbers v old) (drop i xs))) ↔ IsCodeOfBlocks blocks bytes (map (term_at v old) ss) (flat_map (block_numbers v old) xs))
-    → Decides b one (λ v. IsCodeOfPlaces blocks (length x) (term_at v a (get_or ss i e)) (block_numbers v a x)) → Tests c next (λ v. bit_at v b all && bit_at v b one)
-    → (v : ℕ → ℕ → ℕ) → ((bit_at v c next ≡ true) × IsCodeOfBlocks blocks bytes (map (term_at v old) (drop (i + 1) ss)) (flat_map (block_numbers v old) (drop (i + 1) xs))) ↔ IsCodeOfBlocks blocks bytes (map (term_at v old) ss) (flat_map (block_numbers v old) xs)
-block_row old a b c xs ss i blocks bytes x e all one next count narrow are lt is ka kb h so one_is t =
-    let here : IsBlockTerms bytes old x = subst (λ y. IsBlockTerms bytes old y) (sym is) (each_get (IsBlockTerms bytes old) xs i x are (omega (arith, lt, count))) in
-    row_more a b c all one next (λ v. IsCodeOfPlaces blocks (length x) (term_at v a (get_or ss i e)) (block_numbers v a x))
-    (λ v. IsCodeOfBlocks blocks bytes (map (term_at v old) (drop i ss)) (flat_map (block_numbers v old) (drop i xs)))
-    (λ v. IsCodeOfBlocks blocks bytes (map (term_at v old) (drop (i + 1) ss)) (flat_map (block_numbers v old) (drop (i + 1) xs)))
-    (λ v. IsCodeOfBlocks blocks bytes (map (term_at v old) ss) (flat_map (block_numbers v old) xs)) kb h so one_is t
+    → ((v : ℕ → ℕ → ℕ) → ((bit_at v a all ≡ true) × IsCodeOfBlocks layout (map (term_at v old) (drop i ss)) (flat_map (block_numbers v old) (drop i xs))) ↔ IsCodeOfBlocks layout (map (term_at v old) ss) (flat_map (block_numbers v old) xs))
+    → Decides b one (λ v. IsCodeOfPlaces layout (length x) (term_at v a (get_or ss i e)) (block_numbers v a x)) → Tests c next (λ v. bit_at v b all && bit_at v b one)
+    → (v : ℕ → ℕ → ℕ) → ((bit_at v c next ≡ true) × IsCodeOfBlocks layout (map (term_at v old) (drop (i + 1) ss)) (flat_map (block_numbers v old) (drop (i + 1) xs))) ↔ IsCodeOfBlocks layout (map (term_at v old) ss) (flat_map (block_numbers v old) xs)
+block_row old a b c xs ss i layout x e all one next count narrow are lt is ka kb h so one_is t =
+    let here : IsBlockTerms layout.bytes old x = subst (λ y. IsBlockTerms layout.bytes old y) (sym is) (each_get (IsBlockTerms layout.bytes old) xs i x are (omega (arith, lt, count))) in
+    row_more a b c all one next (λ v. IsCodeOfPlaces layout (length x) (term_at v a (get_or ss i e)) (block_numbers v a x))
+    (λ v. IsCodeOfBlocks layout (map (term_at v old) (drop i ss)) (flat_map (block_numbers v old) (drop i xs)))
+    (λ v. IsCodeOfBlocks layout (map (term_at v old) (drop (i + 1) ss)) (flat_map (block_numbers v old) (drop (i + 1) xs)))
+    (λ v. IsCodeOfBlocks layout (map (term_at v old) ss) (flat_map (block_numbers v old) xs)) kb h so one_is t
     (λ v.
-    let long : length (block_numbers v old x) ≡ bytes * 5 = block_long v old x ∙ ap (λ n. n * 5) here.count in
-    let more = blocks_more blocks bytes i (block_numbers v old) (term_at v old) xs ss x e lt count (subst (λ y. length (block_numbers v old y) ≡ bytes * 5) is long) in
+    let long : length (block_numbers v old x) ≡ layout.bytes * 5 = block_long v old x ∙ ap (λ n. n * 5) here.count in
+    let more = blocks_more layout i (block_numbers v old) (term_at v old) xs ss x e lt count (subst (λ y. length (block_numbers v old y) ≡ layout.bytes * 5) is long) in
     rw (term-later old a ka v (get_or ss i e) (each_get (IsNarrow old) ss i e narrow lt).within, block-later old a ka x here.are v, here.count)
     (rw (← is) at more))
 
-pub blocks_end : (blocks bytes i : ℕ) (old : List Term) (v : ℕ → ℕ → ℕ) (xs : List (List ByteTerms)) (ss : List TermId) → length ss ≡ length xs → length ss ≤ i
-    → IsCodeOfBlocks blocks bytes (map (term_at v old) (drop i ss)) (flat_map (block_numbers v old) (drop i xs))
-blocks_end blocks bytes i old v xs ss count le =
+pub blocks_end : (layout : Layout) (i : ℕ) (old : List Term) (v : ℕ → ℕ → ℕ) (xs : List (List ByteTerms)) (ss : List TermId) → length ss ≡ length xs → length ss ≤ i
+    → IsCodeOfBlocks layout (map (term_at v old) (drop i ss)) (flat_map (block_numbers v old) (drop i xs))
+blocks_end layout i old v xs ss count le =
     let e : drop i ss ≡ [] = drop_all i ss le in
     let e' : drop i xs ≡ [] = drop_all i xs (omega (arith, count, le)) in
     rw (e, e') refl

@@ -34,7 +34,7 @@ numbers_at v terms input tape =
 -- ---- the terms of a shape
 
 abbrev pub IsInputOf : Shape → List Term → InputTerms → Type 0
-IsInputOf s terms input = IsInput s.parameters s.blocks s.bytes terms input
+IsInputOf s terms input = IsInput s.parameters s.layout terms input
 
 pub record IsTapeOf (s : Shape) (terms : List Term) (tape : TapeTerms) : Type 0 where
   pub count : length tape.words ≡ s.words

@@ -12,18 +12,19 @@ use crate::comparing::{at_most, is_number};
 use bv_terms::{TermId, Terms};
 use ir_tree::{IrType, Parameter};
 use mem_terms::{ArgTerms, both, implies, truth};
+use points::Layout;
 use support::NoMemory;
 
-/// True where the numbers are those of an argument of the type, a pointer to null or to one of
-/// `blocks` blocks: where the flag says poison the other numbers are 0.
+/// True where the numbers are those of an argument of the type, a pointer to null or to a given
+/// block: where the flag says poison the other numbers are 0.
 fn arg_code(
     a: ArgTerms,
     of_type: IrType,
-    blocks: u64,
+    layout: &Layout,
     terms: &mut Terms,
 ) -> Result<TermId, NoMemory>
     requires { IsArg terms.old of_type a }
-    ensures made { IfOk result (λ id. Decides terms.new id (λ v. IsCodeOfValue blocks of_type (arg_numbers v terms.old a))) }
+    ensures made { IfOk result (λ id. Decides terms.new id (λ v. IsCodeOfValue layout.now of_type (arg_numbers v terms.old a))) }
     ensures kept { Keeps terms.old terms.new }
 {
     terms.values_fit();
@@ -38,7 +39,7 @@ fn arg_code(
             block,
             offset,
         } => {
-            let is_given = at_most(block, blocks, terms)?;
+            let is_given = at_most(block, layout.blocks, terms)?;
             let no_block = is_number(block, 0, terms)?;
             let no_offset = is_number(offset, 0, terms)?;
             let is_zero = both(terms, no_block, no_offset)?;
@@ -53,16 +54,16 @@ fn arg_code(
 pub fn args_code(
     args: &[ArgTerms],
     parameters: &[Parameter],
-    blocks: u64,
+    layout: &Layout,
     terms: &mut Terms,
 ) -> Result<TermId, NoMemory>
     requires { AreArgs terms.old parameters.now args.now }
-    ensures made { IfOk result (λ id. Decides terms.new id (λ v. IsCodeOfArgs blocks parameters.now (flat_map (arg_numbers v terms.old) args.now))) }
+    ensures made { IfOk result (λ id. Decides terms.new id (λ v. IsCodeOfArgs layout.now parameters.now (flat_map (arg_numbers v terms.old) args.now))) }
     ensures kept { Keeps terms.old terms.new }
 {
     let mut all = truth(terms, true)?;
     for (i, parameter) in parameters.iter().enumerate() {
-        let one = arg_code(args[i], parameter.of_type, blocks, terms)?;
+        let one = arg_code(args[i], parameter.of_type, layout, terms)?;
         all = both(terms, all, one)?;
     }
     Ok(all)

@@ -10,6 +10,7 @@ ghost use Rattle.refine_terms.specs.Numbers.{byte_numbers};
 use crate::comparing::{at_most, is_number};
 use bv_terms::{TermId, Terms};
 use mem_terms::{ByteTerms, both, either};
+use points::Layout;
 use support::NoMemory;
 
 /// True where the numbers of a pointer's part are 0.
@@ -54,29 +55,29 @@ fn number_byte(b: ByteTerms, terms: &mut Terms) -> Result<TermId, NoMemory>
     Ok(id)
 }
 
-/// True where the numbers are those of a part of a pointer to null or to one of `blocks` blocks.
-fn part_byte(b: ByteTerms, blocks: u64, terms: &mut Terms) -> Result<TermId, NoMemory>
+/// True where the numbers are those of a part of a pointer to null or to a given block.
+fn part_byte(b: ByteTerms, layout: &Layout, terms: &mut Terms) -> Result<TermId, NoMemory>
     requires { IsByteTerms terms.old b }
-    ensures made { IfOk result (λ id. Decides terms.new id (λ v. IsPartByte blocks (byte_numbers v terms.old b))) }
+    ensures made { IfOk result (λ id. Decides terms.new id (λ v. IsPartByte layout.now (byte_numbers v terms.old b))) }
     ensures kept { Keeps terms.old terms.new }
 {
     terms.values_fit();
     let of_kind = is_number(b.kind, 1, terms)?;
     let number = is_number(b.number, 0, terms)?;
-    let block = at_most(b.block, blocks, terms)?;
+    let block = at_most(b.block, layout.blocks, terms)?;
     let rest = both(terms, number, block)?;
     let id = both(terms, of_kind, rest)?;
     Ok(id)
 }
 
 /// True where the five numbers are a byte's: a number, a part of a pointer, or poison.
-pub fn byte_code(b: ByteTerms, blocks: u64, terms: &mut Terms) -> Result<TermId, NoMemory>
+pub fn byte_code(b: ByteTerms, layout: &Layout, terms: &mut Terms) -> Result<TermId, NoMemory>
     requires { IsByteTerms terms.old b }
-    ensures made { IfOk result (λ id. Decides terms.new id (λ v. IsCodeOfByte blocks (byte_numbers v terms.old b))) }
+    ensures made { IfOk result (λ id. Decides terms.new id (λ v. IsCodeOfByte layout.now (byte_numbers v terms.old b))) }
     ensures kept { Keeps terms.old terms.new }
 {
     let number = number_byte(b, terms)?;
-    let part = part_byte(b, blocks, terms)?;
+    let part = part_byte(b, layout, terms)?;
     let poison = kind_alone(b, 2, terms)?;
     let rest = either(terms, part, poison)?;
     let id = either(terms, number, rest)?;

@@ -30,15 +30,14 @@ fn code(
     let args = args_code(
         input.args.as_slice(),
         shape.parameters.as_slice(),
-        shape.blocks,
+        &shape.layout,
         terms,
     )?;
-    let sizes = all_at_most(input.sizes.as_slice(), shape.bytes, terms)?;
+    let sizes = all_at_most(input.sizes.as_slice(), shape.layout.bytes, terms)?;
     let places = blocks_code(
         input.places.as_slice(),
         input.sizes.as_slice(),
-        shape.bytes,
-        shape.blocks,
+        &shape.layout,
         terms,
     )?;
     let words = all_at_most(tape.words.as_slice(), shape.word_width.mask(), terms)?;

@@ -10,6 +10,6 @@ abbrev pub invariant-loop-i : goal.invariant-loop-i
 invariant-loop-i l = record {
   kept : Keeps l.fn.terms l.terms;
   all : IsTerm l.terms 1 l.all;
-  rest : (v : ℕ → ℕ → ℕ) → ((bit_at v l.terms l.all ≡ true) × IsCodeOfArgs l.blocks (drop l.i l.parameters) (flat_map (arg_numbers v l.fn.terms) (drop l.i l.args)))
-      ↔ IsCodeOfArgs l.blocks l.parameters (flat_map (arg_numbers v l.fn.terms) l.args);
+  rest : (v : ℕ → ℕ → ℕ) → ((bit_at v l.terms l.all ≡ true) × IsCodeOfArgs l.layout (drop l.i l.parameters) (flat_map (arg_numbers v l.fn.terms) (drop l.i l.args)))
+      ↔ IsCodeOfArgs l.layout l.parameters (flat_map (arg_numbers v l.fn.terms) l.args);
 }

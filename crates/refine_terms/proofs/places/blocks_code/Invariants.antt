@@ -9,6 +9,6 @@ abbrev pub invariant-loop-i : goal.invariant-loop-i
 invariant-loop-i l = record {
   kept : Keeps l.fn.terms l.terms;
   all : IsTerm l.terms 1 l.all;
-  rest : (v : ℕ → ℕ → ℕ) → ((bit_at v l.terms l.all ≡ true) × IsCodeOfBlocks l.blocks l.bytes (map (term_at v l.fn.terms) (drop l.i l.sizes)) (flat_map (block_numbers v l.fn.terms) (drop l.i l.places)))
-      ↔ IsCodeOfBlocks l.blocks l.bytes (map (term_at v l.fn.terms) l.sizes) (flat_map (block_numbers v l.fn.terms) l.places);
+  rest : (v : ℕ → ℕ → ℕ) → ((bit_at v l.terms l.all ≡ true) × IsCodeOfBlocks l.layout (map (term_at v l.fn.terms) (drop l.i l.sizes)) (flat_map (block_numbers v l.fn.terms) (drop l.i l.places)))
+      ↔ IsCodeOfBlocks l.layout (map (term_at v l.fn.terms) l.sizes) (flat_map (block_numbers v l.fn.terms) l.places);
 }

@@ -17,7 +17,7 @@ blocks_code-requires-clause-sizes c =
 pub blocks_code-requires-clause-places : goal.blocks_code-requires-clause-places
 blocks_code-requires-clause-places c =
     let kept = keeps_trans c.args.terms.now c.args_code.new.terms c.all_at_most.new.terms c.args_code.ensures.kept c.all_at_most.ensures.kept in
-    rw c.as_slice-4.ensures (are_blocks c.args.terms.now c.all_at_most.new.terms c.args.shape.now.bytes c.args.input.now.places kept c.requires.input.places)
+    rw c.as_slice-4.ensures (are_blocks c.args.terms.now c.all_at_most.new.terms c.args.shape.now.layout c.args.input.now.places kept c.requires.input.places)
 
 pub all_at_most-requires-2 : goal.all_at_most-requires-2
 all_at_most-requires-2 c =
