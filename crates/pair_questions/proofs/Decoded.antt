@@ -14,6 +14,7 @@ use Rattle.byte_block.specs.declared.value.Value.TheVariants as value
 use Rattle.byte_block.specs.declared.value.Byte.{Byte}
 use Rattle.byte_block.specs.declared.value.Byte.TheVariants as byte
 use Rattle.byte_block.specs.declared.block.MemoryBlock.{MemoryBlock}
+use Rattle.points.specs.declared.point.Layout.{Layout}
 use Rattle.points.specs.declared.point.Input.{Input}
 use Rattle.points.specs.declared.point.Point.{Point}
 use Rattle.points.specs.declared.point.Shape.{Shape}
@@ -57,65 +58,65 @@ Reads x y ms ns = (x ≡ y) × (ms ≡ ns)
 
 -- ---- pointers
 
-pub name_decoded : (blocks : ℕ) (b : BlockName) (n : ℕ) → BlockFits blocks b → name_digit blocks b ≡ n → b ≡ block_name blocks n
-name_decoded blocks Null n fits e = rw (sym e) refl
-name_decoded blocks (Given k) n fits e = rw (sym e) (sym (given_named blocks k (omega (arith, fits.0)) fits.1))
-name_decoded blocks (Local t p) n fits e = absurd fits
+pub name_decoded : (layout : Layout) (b : BlockName) (n : ℕ) → BlockFits layout b → name_digit layout b ≡ n → b ≡ block_name layout.blocks n
+name_decoded layout Null n fits e = rw (sym e) refl
+name_decoded layout (Given k) n fits e = rw (sym e) (sym (given_named layout.blocks k (omega (arith, fits.0)) fits.1))
+name_decoded layout (Local t p) n fits e = absurd fits
 
 ptr_is : (p : Ptr) (b : BlockName) (n : ℕ) → p.block ≡ b → p.offset ≡ n → p ≡ record { block = b; offset = n }
 ptr_is p b n e f = λ i. record { block = e i; offset = f i }
 
-pointer_decoded : (blocks : ℕ) (p : Ptr) (block offset : ℕ) → PointerFits blocks p → name_digit blocks p.block ≡ block → p.offset ≡ offset → p ≡ record { block = block_name blocks block; offset = offset }
-pointer_decoded blocks p block offset fits e f = ptr_is p (block_name blocks block) offset (name_decoded blocks p.block block fits.block e) f
+pointer_decoded : (layout : Layout) (p : Ptr) (block offset : ℕ) → PointerFits layout p → name_digit layout p.block ≡ block → p.offset ≡ offset → p ≡ record { block = block_name layout.blocks block; offset = offset }
+pointer_decoded layout p block offset fits e f = ptr_is p (block_name layout.blocks block) offset (name_decoded layout p.block block fits.block e) f
 
 -- ---- arguments
 
-int_decoded : (blocks : ℕ) (t : IrType) (x : Value) (flag number : ℕ) (rest others : List ℕ) → IsInteger t → ValueFits blocks t x → (value_code blocks t x ++ rest) ≡ (flag ∷ number ∷ others)
+int_decoded : (layout : Layout) (t : IrType) (x : Value) (flag number : ℕ) (rest others : List ℕ) → IsInteger t → ValueFits layout t x → (value_code layout t x ++ rest) ≡ (flag ∷ number ∷ others)
     → Reads x (value_from (truth flag) number) rest others
-int_decoded blocks (type.Int w) (value.Num n) flag number rest others i h e =
+int_decoded layout (type.Int w) (value.Num n) flag number rest others i h e =
     let f : flag ≡ 0 = cc in
     let m : number ≡ n = cc in
     let r : rest ≡ others = cc in
     ((rw (f, m) refl), r)
-int_decoded blocks (type.Int w) value.Poison flag number rest others i h e =
+int_decoded layout (type.Int w) value.Poison flag number rest others i h e =
     let f : flag ≡ 1 = cc in
     let r : rest ≡ others = cc in
     ((rw f refl), r)
-int_decoded blocks (type.Int w) (value.Ptr p) flag number rest others i h e = absurd h
-int_decoded blocks type.Ptr x flag number rest others i h e = absurd i
+int_decoded layout (type.Int w) (value.Ptr p) flag number rest others i h e = absurd h
+int_decoded layout type.Ptr x flag number rest others i h e = absurd i
 
-ptr_decoded : (blocks : ℕ) (x : Value) (flag block offset : ℕ) (rest others : List ℕ) → ValueFits blocks type.Ptr x → (value_code blocks type.Ptr x ++ rest) ≡ (flag ∷ block ∷ offset ∷ others)
-    → Reads x (value_of (truth flag) true (block_name blocks block) offset) rest others
-ptr_decoded blocks (value.Ptr p) flag block offset rest others h e =
+ptr_decoded : (layout : Layout) (x : Value) (flag block offset : ℕ) (rest others : List ℕ) → ValueFits layout type.Ptr x → (value_code layout type.Ptr x ++ rest) ≡ (flag ∷ block ∷ offset ∷ others)
+    → Reads x (value_of (truth flag) true (block_name layout.blocks block) offset) rest others
+ptr_decoded layout (value.Ptr p) flag block offset rest others h e =
     let f : flag ≡ 0 = cc in
-    let b : name_digit blocks p.block ≡ block = cc in
+    let b : name_digit layout p.block ≡ block = cc in
     let o : p.offset ≡ offset = cc in
     let r : rest ≡ others = cc in
-    ((rw f (ap value.Ptr (pointer_decoded blocks p block offset h b o))), r)
-ptr_decoded blocks value.Poison flag block offset rest others h e =
+    ((rw f (ap value.Ptr (pointer_decoded layout p block offset h b o))), r)
+ptr_decoded layout value.Poison flag block offset rest others h e =
     let f : flag ≡ 1 = cc in
     let r : rest ≡ others = cc in
     ((rw f refl), r)
-ptr_decoded blocks (value.Num n) flag block offset rest others h e = absurd h
+ptr_decoded layout (value.Num n) flag block offset rest others h e = absurd h
 
 pair_of : {A : Type 0} (x y : A) (xs ys : List A) → x ≡ y → xs ≡ ys → (x ∷ xs) ≡ (y ∷ ys)
 pair_of x y xs ys e f = cc
 
-module _ (v : ℕ → ℕ → ℕ) (terms : List Term) (blocks : ℕ) where
-  arg_decoded : (t : IrType) (x : Value) (a : ArgTerms) (rest others : List ℕ) → ValueFits blocks t x → IsArg terms t a → (value_code blocks t x ++ rest) ≡ (arg_numbers v terms a ++ others) → Reads x (arg_at (reading blocks v) terms a) rest others
-  arg_decoded (type.Int w) x (arg.Int flag number) rest others h is e = int_decoded blocks (type.Int w) x (term_at v terms flag) (term_at v terms number) rest others tt h e
-  arg_decoded type.Ptr x (arg.Ptr flag block offset) rest others h is e = ptr_decoded blocks x (term_at v terms flag) (term_at v terms block) (term_at v terms offset) rest others h e
+module _ (v : ℕ → ℕ → ℕ) (terms : List Term) (layout : Layout) where
+  arg_decoded : (t : IrType) (x : Value) (a : ArgTerms) (rest others : List ℕ) → ValueFits layout t x → IsArg terms t a → (value_code layout t x ++ rest) ≡ (arg_numbers v terms a ++ others) → Reads x (arg_at (reading layout.blocks v) terms a) rest others
+  arg_decoded (type.Int w) x (arg.Int flag number) rest others h is e = int_decoded layout (type.Int w) x (term_at v terms flag) (term_at v terms number) rest others tt h e
+  arg_decoded type.Ptr x (arg.Ptr flag block offset) rest others h is e = ptr_decoded layout x (term_at v terms flag) (term_at v terms block) (term_at v terms offset) rest others h e
   arg_decoded (type.Int w) x (arg.Ptr flag block offset) rest others h is e = absurd is
   arg_decoded type.Ptr x (arg.Int flag number) rest others h is e = absurd is
 
-  args_decoded : (ps : List Parameter) (xs : List Value) (args : List ArgTerms) (rest others : List ℕ) → ArgsFit blocks ps xs → AreArgs terms ps args → (args_code blocks ps xs ++ rest) ≡ (flat_map (arg_numbers v terms) args ++ others)
-      → Reads xs (args_at (reading blocks v) terms args) rest others
+  args_decoded : (ps : List Parameter) (xs : List Value) (args : List ArgTerms) (rest others : List ℕ) → ArgsFit layout ps xs → AreArgs terms ps args → (args_code layout ps xs ++ rest) ≡ (flat_map (arg_numbers v terms) args ++ others)
+      → Reads xs (args_at (reading layout.blocks v) terms args) rest others
   args_decoded [] [] [] rest others h are e = (refl, e)
   args_decoded (p ∷ ps) (x ∷ xs) (a ∷ more) rest others h are e =
-      let e' = regrouped (value_code blocks p.of_type x) (args_code blocks ps xs) rest (arg_numbers v terms a) (flat_map (arg_numbers v terms) more) others e in
-      let here = arg_decoded p.of_type x a (args_code blocks ps xs ++ rest) (flat_map (arg_numbers v terms) more ++ others) h.0 are.0 e' in
+      let e' = regrouped (value_code layout p.of_type x) (args_code layout ps xs) rest (arg_numbers v terms a) (flat_map (arg_numbers v terms) more) others e in
+      let here = arg_decoded p.of_type x a (args_code layout ps xs ++ rest) (flat_map (arg_numbers v terms) more ++ others) h.0 are.0 e' in
       let behind = args_decoded ps xs more rest others h.1 are.1 here.1 in
-      (pair_of x (arg_at (reading blocks v) terms a) xs (args_at (reading blocks v) terms more) here.0 behind.0, behind.1)
+      (pair_of x (arg_at (reading layout.blocks v) terms a) xs (args_at (reading layout.blocks v) terms more) here.0 behind.0, behind.1)
   args_decoded [] (x ∷ xs) args rest others h are e = absurd h
   args_decoded (p ∷ ps) [] args rest others h are e = absurd h
   args_decoded [] [] (a ∷ more) rest others h are e = absurd are
@@ -126,74 +127,74 @@ module _ (v : ℕ → ℕ → ℕ) (terms : List Term) (blocks : ℕ) where
 two : {A B C : Type 0} (f : A → B → C) {x x' : A} {y y' : B} → x ≡ x' → y ≡ y' → f x y ≡ f x' y'
 two f e g = cc
 
-byte_decoded : (blocks : ℕ) (b : Byte) (kind number block offset part : ℕ) (rest others : List ℕ) → ByteFits blocks b → (byte_code blocks b ++ rest) ≡ (kind ∷ number ∷ block ∷ offset ∷ part ∷ others)
-    → Reads b (byte_of kind number (record { block = block_name blocks block; offset = offset }) part) rest others
-byte_decoded blocks (byte.Num n) kind number block offset part rest others h e =
+byte_decoded : (layout : Layout) (b : Byte) (kind number block offset part : ℕ) (rest others : List ℕ) → ByteFits layout b → (byte_code layout b ++ rest) ≡ (kind ∷ number ∷ block ∷ offset ∷ part ∷ others)
+    → Reads b (byte_of kind number (record { block = block_name layout.blocks block; offset = offset }) part) rest others
+byte_decoded layout (byte.Num n) kind number block offset part rest others h e =
     let k : kind ≡ 0 = cc in
     let m : number ≡ n = cc in
     let r : rest ≡ others = cc in
     ((rw (k, m) refl), r)
-byte_decoded blocks (byte.Part p i) kind number block offset part rest others h e =
+byte_decoded layout (byte.Part p i) kind number block offset part rest others h e =
     let k : kind ≡ 1 = cc in
-    let b : name_digit blocks p.block ≡ block = cc in
+    let b : name_digit layout p.block ≡ block = cc in
     let o : p.offset ≡ offset = cc in
     let q : i ≡ part = cc in
     let r : rest ≡ others = cc in
-    let whole : p ≡ record { block = block_name blocks block; offset = offset } = pointer_decoded blocks p block offset h.0 b o in
+    let whole : p ≡ record { block = block_name layout.blocks block; offset = offset } = pointer_decoded layout p block offset h.0 b o in
     ((rw k (two byte.Part whole q)), r)
-byte_decoded blocks byte.Poison kind number block offset part rest others h e =
+byte_decoded layout byte.Poison kind number block offset part rest others h e =
     let k : kind ≡ 2 = cc in
     let r : rest ≡ others = cc in
     ((rw k refl), r)
 
-module _ (v : ℕ → ℕ → ℕ) (terms : List Term) (blocks : ℕ) where
-  place_decoded : (b : Byte) (place : ByteTerms) (rest others : List ℕ) → ByteFits blocks b → (byte_code blocks b ++ rest) ≡ (byte_numbers v terms place ++ others) → Reads b (given_byte_at (reading blocks v) terms place) rest others
+module _ (v : ℕ → ℕ → ℕ) (terms : List Term) (layout : Layout) where
+  place_decoded : (b : Byte) (place : ByteTerms) (rest others : List ℕ) → ByteFits layout b → (byte_code layout b ++ rest) ≡ (byte_numbers v terms place ++ others) → Reads b (given_byte_at (reading layout.blocks v) terms place) rest others
   unfolding given_byte_at
   place_decoded b place rest others h e =
-      byte_decoded blocks b (term_at v terms place.kind) (term_at v terms place.number) (term_at v terms place.block) (term_at v terms place.offset) (term_at v terms place.part) rest others h e
+      byte_decoded layout b (term_at v terms place.kind) (term_at v terms place.number) (term_at v terms place.block) (term_at v terms place.offset) (term_at v terms place.part) rest others h e
 
-  bytes_decoded : (bs : List Byte) (places : List ByteTerms) (rest others : List ℕ) → length bs ≡ length places → BytesFit blocks bs → (flat_map (byte_code blocks) bs ++ rest) ≡ (block_numbers v terms places ++ others)
-      → Reads bs (map (given_byte_at (reading blocks v) terms) places) rest others
+  bytes_decoded : (bs : List Byte) (places : List ByteTerms) (rest others : List ℕ) → length bs ≡ length places → BytesFit layout bs → (flat_map (byte_code layout) bs ++ rest) ≡ (block_numbers v terms places ++ others)
+      → Reads bs (map (given_byte_at (reading layout.blocks v) terms) places) rest others
   bytes_decoded [] [] rest others long h e = (refl, e)
   bytes_decoded (b ∷ bs) (p ∷ ps) rest others long h e =
-      let e' = regrouped (byte_code blocks b) (flat_map (byte_code blocks) bs) rest (byte_numbers v terms p) (block_numbers v terms ps) others e in
-      let here = place_decoded b p (flat_map (byte_code blocks) bs ++ rest) (block_numbers v terms ps ++ others) h.0 e' in
+      let e' = regrouped (byte_code layout b) (flat_map (byte_code layout) bs) rest (byte_numbers v terms p) (block_numbers v terms ps) others e in
+      let here = place_decoded b p (flat_map (byte_code layout) bs ++ rest) (block_numbers v terms ps ++ others) h.0 e' in
       let behind = bytes_decoded bs ps rest others (omega (arith, long)) h.1 here.1 in
-      (pair_of b (given_byte_at (reading blocks v) terms p) bs (map (given_byte_at (reading blocks v) terms) ps) here.0 behind.0, behind.1)
+      (pair_of b (given_byte_at (reading layout.blocks v) terms p) bs (map (given_byte_at (reading layout.blocks v) terms) ps) here.0 behind.0, behind.1)
   bytes_decoded [] (p ∷ ps) rest others long h e = absurd (omega (arith, long))
   bytes_decoded (b ∷ bs) [] rest others long h e = absurd (omega (arith, long))
 
 -- ---- blocks
 
 -- the last of them has the last number
-pub named_within : (blocks bytes number : ℕ) (bs : List MemoryBlock) → BlocksFit blocks bytes number bs → number + length bs ≡ blocks + 1
-named_within blocks bytes number [] h = omega (arith, h)
-named_within blocks bytes number (b ∷ bs) h = let more = named_within blocks bytes (number + 1) bs h.1 in omega (arith, more)
+pub named_within : (layout : Layout) (number : ℕ) (bs : List MemoryBlock) → BlocksFit layout number bs → number + length bs ≡ layout.blocks + 1
+named_within layout number [] h = omega (arith, h)
+named_within layout number (b ∷ bs) h = let more = named_within layout (number + 1) bs h.1 in omega (arith, more)
 
 pub block_is : (b : MemoryBlock) (name : BlockName) (size : ℕ) (places : List Byte) → b.name ≡ name → b.size ≡ size → b.align ≡ 16 → b.places ≡ places → b ≡ record { name = name; size = size; align = 16; places = places }
 block_is b name size places e f g h = λ i. record { name = e i; size = f i; align = g i; places = h i }
 
-module _ (v : ℕ → ℕ → ℕ) (terms : List Term) (blocks : ℕ) where
-  blocks_decoded : (bytes number : ℕ) (bs : List MemoryBlock) (sizes : List TermId) (places : List (List ByteTerms)) (rest others : List ℕ) → BlocksFit blocks bytes number bs → 1 ≤ number → sizes_of bs ≡ map (term_at v terms) sizes → length bs ≡ length places
-      → Each (IsBlockTerms bytes terms) places → (flat_map (places_code blocks) bs ++ rest) ≡ (flat_map (block_numbers v terms) places ++ others)
-      → Reads bs (given_blocks_at (reading blocks v) terms number sizes places) rest others
-  blocks_decoded bytes number [] [] [] rest others h low s long are e = (refl, e)
-  blocks_decoded bytes number (b ∷ bs) (z ∷ zs) (p ∷ ps) rest others h low s long are e =
-      let e' = regrouped (places_code blocks b) (flat_map (places_code blocks) bs) rest (block_numbers v terms p) (flat_map (block_numbers v terms) ps) others e in
-      let here = bytes_decoded v terms blocks b.places p (flat_map (places_code blocks) bs ++ rest) (flat_map (block_numbers v terms) ps ++ others) (h.0.room ∙ sym are.0.count) h.0.fit e' in
+module _ (v : ℕ → ℕ → ℕ) (terms : List Term) (layout : Layout) where
+  blocks_decoded : (number : ℕ) (bs : List MemoryBlock) (sizes : List TermId) (places : List (List ByteTerms)) (rest others : List ℕ) → BlocksFit layout number bs → 1 ≤ number → sizes_of bs ≡ map (term_at v terms) sizes → length bs ≡ length places
+      → Each (IsBlockTerms layout.bytes terms) places → (flat_map (places_code layout) bs ++ rest) ≡ (flat_map (block_numbers v terms) places ++ others)
+      → Reads bs (given_blocks_at (reading layout.blocks v) terms number sizes places) rest others
+  blocks_decoded number [] [] [] rest others h low s long are e = (refl, e)
+  blocks_decoded number (b ∷ bs) (z ∷ zs) (p ∷ ps) rest others h low s long are e =
+      let e' = regrouped (places_code layout b) (flat_map (places_code layout) bs) rest (block_numbers v terms p) (flat_map (block_numbers v terms) ps) others e in
+      let here = bytes_decoded v terms layout b.places p (flat_map (places_code layout) bs ++ rest) (flat_map (block_numbers v terms) ps ++ others) (h.0.room ∙ sym are.0.count) h.0.fit e' in
       let size : b.size ≡ term_at v terms z = cc in
       let sizes : sizes_of bs ≡ map (term_at v terms) zs = cc in
-      let last = named_within blocks bytes number (b ∷ bs) h in
-      let name : b.name ≡ block_name blocks number = h.0.named ∙ sym (given_named blocks number (omega (arith, low)) (omega (arith, last))) in
-      let behind = blocks_decoded bytes (number + 1) bs zs ps rest others h.1 (omega arith) sizes (omega (arith, long)) are.1 here.1 in (
-        pair_of b (given_block_at (reading blocks v) terms number z p) bs (given_blocks_at (reading blocks v) terms (number + 1) zs ps)
-            (block_is b (block_name blocks number) (term_at v terms z) (map (given_byte_at (reading blocks v) terms) p) name size h.0.aligned here.0) behind.0,
+      let last = named_within layout number (b ∷ bs) h in
+      let name : b.name ≡ block_name layout.blocks number = h.0.named ∙ sym (given_named layout.blocks number (omega (arith, low)) (omega (arith, last))) in
+      let behind = blocks_decoded (number + 1) bs zs ps rest others h.1 (omega arith) sizes (omega (arith, long)) are.1 here.1 in (
+        pair_of b (given_block_at (reading layout.blocks v) terms number z p) bs (given_blocks_at (reading layout.blocks v) terms (number + 1) zs ps)
+            (block_is b (block_name layout.blocks number) (term_at v terms z) (map (given_byte_at (reading layout.blocks v) terms) p) name size h.0.aligned here.0) behind.0,
         behind.1,
       )
-  blocks_decoded bytes number [] (z ∷ zs) places rest others h low s long are e = absurd (let x : ⊥ = cc in x)
-  blocks_decoded bytes number (b ∷ bs) [] places rest others h low s long are e = absurd (let x : ⊥ = cc in x)
-  blocks_decoded bytes number [] [] (p ∷ ps) rest others h low s long are e = absurd (omega (arith, long))
-  blocks_decoded bytes number (b ∷ bs) (z ∷ zs) [] rest others h low s long are e = absurd (omega (arith, long))
+  blocks_decoded number [] (z ∷ zs) places rest others h low s long are e = absurd (let x : ⊥ = cc in x)
+  blocks_decoded number (b ∷ bs) [] places rest others h low s long are e = absurd (let x : ⊥ = cc in x)
+  blocks_decoded number [] [] (p ∷ ps) rest others h low s long are e = absurd (omega (arith, long))
+  blocks_decoded number (b ∷ bs) (z ∷ zs) [] rest others h low s long are e = absurd (omega (arith, long))
 
 -- ---- points
 
@@ -201,18 +202,18 @@ input_is : (p : Input) (args : List Value) (blocks : List MemoryBlock) → p.arg
 input_is p args blocks e f = λ i. record { args = e i; blocks = f i }
 
 pub decoded : (v : ℕ → ℕ → ℕ) (terms : List Term) (s : Shape) (input : InputTerms) (tape : TapeTerms) (p : Point) → IsInputOf s terms input → IsOfShape s p
-    → code_of s.blocks s.parameters p ≡ numbers_at v terms input tape → (p.input ≡ input_at (reading s.blocks v) terms input) × (p.tape ≡ words_at v terms tape.words)
+    → code_of s.layout s.parameters p ≡ numbers_at v terms input tape → (p.input ≡ input_at (reading s.layout.blocks v) terms input) × (p.tape ≡ words_at v terms tape.words)
 decoded v terms s input tape p h of_shape e =
     let bs = p.input.blocks in
     let sizes = map (term_at v terms) input.sizes in
     let places = flat_map (block_numbers v terms) input.places in
     let words = words_at v terms tape.words in
-    let count = blocks_count s.blocks s.bytes bs of_shape.given in
-    let args = args_decoded v terms s.blocks s.parameters p.input.args input.args (blocks_code s.blocks bs ++ p.tape) (sizes ++ (places ++ words)) of_shape.args h.args e in
+    let count = blocks_count s.layout bs of_shape.given in
+    let args = args_decoded v terms s.layout s.parameters p.input.args input.args (blocks_code s.layout bs ++ p.tape) (sizes ++ (places ++ words)) of_shape.args h.args e in
     let long : length (sizes_of bs) ≡ length sizes = map-length (λ (b : MemoryBlock). b.size) bs ∙ (count ∙ (sym h.size_count ∙ sym (map-length (term_at v terms) input.sizes))) in
-    let parts = same_front (sizes_of bs) (flat_map (places_code s.blocks) bs ++ p.tape) sizes (places ++ words) long (sym (append_assoc (sizes_of bs) (flat_map (places_code s.blocks) bs) p.tape) ∙ args.1) in
-    let blocks = blocks_decoded v terms s.blocks s.bytes 1 bs input.sizes input.places p.tape words of_shape.given (omega arith) parts.0 (count ∙ sym h.block_count) h.places parts.1 in
-    (input_is p.input (args_at (reading s.blocks v) terms input.args) (given_blocks_at (reading s.blocks v) terms 1 input.sizes input.places) args.0 blocks.0, blocks.1)
+    let parts = same_front (sizes_of bs) (flat_map (places_code s.layout) bs ++ p.tape) sizes (places ++ words) long (sym (append_assoc (sizes_of bs) (flat_map (places_code s.layout) bs) p.tape) ∙ args.1) in
+    let blocks = blocks_decoded v terms s.layout 1 bs input.sizes input.places p.tape words of_shape.given (omega arith) parts.0 (count ∙ sym h.block_count) h.places parts.1 in
+    (input_is p.input (args_at (reading s.layout.blocks v) terms input.args) (given_blocks_at (reading s.layout.blocks v) terms 1 input.sizes input.places) args.0 blocks.0, blocks.1)
 
 -- ---- the numbers are those of the terms in order
 

@@ -10,6 +10,6 @@ encoded_stands_in f (Some g) h = h
 encoded_stands_in f None h = record {
   runs = λ bounds input tape. refl;
   can_run = λ run. run;
-  inputs = λ blocks bytes terms input is. is;
+  inputs = λ layout terms input is. is;
   returns = refl;
 }

@@ -6,7 +6,7 @@ use Rattle.points.specs.declared.point.Point.{Point}
 use Rattle.points.specs.declared.point.Shape.{Shape}
 use Rattle.points.specs.declared.outcome.Outcome.{Outcome}
 use Rattle.verdicts.specs.Covers.{covers, some_covers, shifted, is_covered}
-use Rattle.verdicts.specs.Pair.{Functions}
+use Rattle.verdicts.specs.Pair.{Functions, layout_of}
 use Rattle.points.specs.Run.{run_of}
 use Rattle.points.specs.Tapes.{need_of}
 use Rattle.bv_terms.specs.declared.term.TermId.{TermId}
@@ -31,6 +31,7 @@ use Rattle.pair_questions.specs.Subjects.{IsOfTarget, IsSubject}
 use Rattle.pair_questions.proofs.Fitting.{of_shape}
 use Rattle.pair_questions.proofs.Numbered.{order_kept}
 use Rattle.pair_questions.proofs.Uncovering.{and_both, and_left, and_right, none_is, not_false, not_true, numbers-later, point_at, the_point}
+use Rattle.mem_terms.specs.Memory.{frames_of}
 
 -- ---- one tape more
 
@@ -69,21 +70,21 @@ two F {x} {x'} {y} {y'} e f h = subst (λ b. F x' b) f (subst (λ a. F a y) e h)
 
 module _ (old new : List Term) (k : Keeps old new) (pair : Functions) (bounds : Bounds) (s : Shape) (input : InputTerms) (choices : TapeTerms) (are : IsInputOf s old input) (words : AreWords old choices.words) where
   -- the run that is shown on the earlier terms
-  pub of_target-made : (o : OutcomeTerms) → IsOutcome new o → LeavesGiven bounds.blocks bounds.bytes o
-      → ((v : ℕ → ℕ → ℕ) → Shows (reading bounds.blocks v) new (words_at v old choices.words) (run_of pair.target bounds (input_in bounds v old input) (words_at v old choices.words)) o) → IsOfTarget pair bounds new input choices o
+  pub of_target-made : (o : OutcomeTerms) → IsOutcome new o → LeavesGiven (frames_of (layout_of pair bounds)) o
+      → ((v : ℕ → ℕ → ℕ) → Shows (reading bounds.blocks v) new (words_at v old choices.words) (run_of pair.target bounds (input_in (layout_of pair bounds) v old input) (words_at v old choices.words)) o) → IsOfTarget pair bounds new input choices o
   of_target-made o made given shows = record {
     made = made;
     given = given;
     shows = λ v.
         let r = reading bounds.blocks v in
         let same_words : words_at v new choices.words ≡ words_at v old choices.words = words_at-later old new k v choices.words words in
-        let same_input : input_in bounds v new input ≡ input_in bounds v old input = input_at-later old new k r s.parameters s.blocks s.bytes input are in
+        let same_input : input_in (layout_of pair bounds) v new input ≡ input_in (layout_of pair bounds) v old input = input_at-later old new k r s.parameters s.layout input are in
         two (λ (i : Input) (ws : List ℕ). Shows r new ws (run_of pair.target bounds i ws) o) (sym same_input) (sym same_words) (shows v);
   }
 
   pub of_target-later : (o : OutcomeTerms) → IsOfTarget pair bounds old input choices o → IsOfTarget pair bounds new input choices o
   of_target-later o h = of_target-made o (is_outcome-later old new k o h.made) h.given
-      (λ v. shows-later old new k (reading bounds.blocks v) (words_at v old choices.words) (run_of pair.target bounds (input_in bounds v old input) (words_at v old choices.words)) o h.made (h.shows v))
+      (λ v. shows-later old new k (reading bounds.blocks v) (words_at v old choices.words) (run_of pair.target bounds (input_in (layout_of pair bounds) v old input) (words_at v old choices.words)) o h.made (h.shows v))
 
   pub decides-later : IsTapeOf s old choices → (id : TermId) (terms : List Term) (Answer : List ℕ → Type 0) → Decides terms id (λ v. Answer (numbers_at v old input choices)) → Decides terms id (λ v. Answer (numbers_at v new input choices))
   decides-later is_tape id terms Answer h = (h.0, λ v. subst (λ (ns : List ℕ). (bit_at v terms id ≡ true) ↔ Answer ns) (sym (numbers-later old new k s input choices are is_tape v)) (h.1 v))
@@ -93,18 +94,18 @@ module _ (old new : List Term) (k : Keeps old new) (pair : Functions) (bounds : 
 module _ (old new : List Term) (pair : Functions) (bounds : Bounds) (s : Shape) (input : InputTerms) (choices : TapeTerms) (target : OutcomeTerms) (goal id : TermId) (tapes : List (List ℕ)) (tape : List ℕ)
     (shape : IsShapeOf pair bounds s) (are : IsInputOf s old input) (run : IsOfTarget pair bounds old input choices target)
     (decides : Decides old goal (λ v. IsUncovered pair bounds tapes (numbers_at v old input choices)))
-    (tests : Tests new id (λ v. bit_at v old goal && none_allows pair.source bounds (input_in bounds v old input) (outcome_in bounds v old target) (tape ∷ []))) where
+    (tests : Tests new id (λ v. bit_at v old goal && none_allows pair.source bounds (input_in (layout_of pair bounds) v old input) (outcome_in (layout_of pair bounds) v old target) (tape ∷ []))) where
   abbrev here : (ℕ → ℕ → ℕ) → Point
-  here v = point_at bounds v old input choices
+  here v = point_at (layout_of pair bounds) v old input choices
 
   is_here : (v : ℕ → ℕ → ℕ) (others : List (List ℕ)) (u : IsUncovered pair bounds others (numbers_at v old input choices)) → here v ≡ u.of
-  is_here v others u = the_point pair bounds s old input choices shape are v u.of (of_shape pair bounds s shape u.of u.point) (rw (shape.parameters, shape.blocks) u.code)
+  is_here v others u = the_point pair bounds s old input choices shape are v u.of (of_shape pair bounds s shape u.of u.point) (rw (shape.parameters, shape.layout) u.code)
 
-  none_here : (v : ℕ → ℕ → ℕ) → none_allows pair.source bounds (input_in bounds v old input) (outcome_in bounds v old target) (tape ∷ []) ≡ not (some_covers pair bounds (here v) (tape ∷ []))
-  none_here v = ap (λ (z : Outcome). none_allows pair.source bounds (input_in bounds v old input) z (tape ∷ [])) (run.shows v).outcome ∙ none_is pair bounds (here v) (tape ∷ [])
+  none_here : (v : ℕ → ℕ → ℕ) → none_allows pair.source bounds (input_in (layout_of pair bounds) v old input) (outcome_in (layout_of pair bounds) v old target) (tape ∷ []) ≡ not (some_covers pair bounds (here v) (tape ∷ []))
+  none_here v = ap (λ (z : Outcome). none_allows pair.source bounds (input_in (layout_of pair bounds) v old input) z (tape ∷ [])) (run.shows v).outcome ∙ none_is pair bounds (here v) (tape ∷ [])
 
   abbrev left : (ℕ → ℕ → ℕ) → Bool
-  left v = none_allows pair.source bounds (input_in bounds v old input) (outcome_in bounds v old target) (tape ∷ [])
+  left v = none_allows pair.source bounds (input_in (layout_of pair bounds) v old input) (outcome_in (layout_of pair bounds) v old target) (tape ∷ [])
 
   to_more : (v : ℕ → ℕ → ℕ) → bit_at v new id ≡ true → IsUncovered pair bounds (tapes ++ tape ∷ []) (numbers_at v old input choices)
   to_more v e =
@@ -134,7 +135,7 @@ module _ (old new : List Term) (pair : Functions) (bounds : Bounds) (s : Shape) 
 -- ---- the question with one tape more
 
 pub question_more : (s : Subject) (q : PointQuestion) (terms : List Term) (id : TermId) (tapes : List (List ℕ)) (tape : List ℕ) → IsSubject s → IsPointQuestion s q → Keeps q.terms terms
-    → Tests terms id (λ v. bit_at v q.terms q.goal && none_allows s.pair.now.source s.bounds.now (input_in s.bounds.now v q.terms q.input) (outcome_in s.bounds.now v q.terms q.target) (tape ∷ []))
+    → Tests terms id (λ v. bit_at v q.terms q.goal && none_allows s.pair.now.source s.bounds.now (input_in (layout_of s.pair.now s.bounds.now) v q.terms q.input) (outcome_in (layout_of s.pair.now s.bounds.now) v q.terms q.target) (tape ∷ []))
     → tapes ≡ q.tapes ++ tape ∷ [] → IsPointQuestion s (record q { tapes = tapes; terms = terms; goal = id })
 question_more s q terms id tapes tape is h k tests e =
     let pair = s.pair.now in
@@ -142,7 +143,7 @@ question_more s q terms id tapes tape is h k tests e =
     let words = h.is_tape.words in
     record {
       tape = h.tape;
-      is_input = is_input-later q.terms terms k s.shape.parameters s.shape.blocks s.shape.bytes q.input h.is_input;
+      is_input = is_input-later q.terms terms k s.shape.parameters s.shape.layout q.input h.is_input;
       is_tape = record { count = h.is_tape.count; words = words-later q.terms terms k h.tape.words words };
       ids = h.ids;
       order = order_kept q.terms terms q.order q.widths k h.order;

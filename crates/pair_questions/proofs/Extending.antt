@@ -5,6 +5,7 @@ use Rattle.std.proofs.lemmas.List.{take_more}
 use Rattle.ir_tree.specs.declared.tree.IrType.{IrType}
 use Rattle.ir_tree.specs.declared.tree.IrType.TheVariants as type
 use Rattle.ir_tree.specs.declared.tree.Parameter.{Parameter}
+use Rattle.points.specs.declared.point.Layout.{Layout}
 use Rattle.points.specs.declared.point.Shape.{Shape}
 use Rattle.bv_terms.specs.declared.term.TermId.{TermId}
 use Rattle.bv_terms.specs.declared.term.Term.{Term}
@@ -73,7 +74,7 @@ module _ (old new : List Term) (e : Extends old new) where
     size_count = h.size_count;
     sizes = terms_extended 6 input.sizes h.sizes;
     block_count = h.block_count;
-    places = blocks_extended s.bytes input.places h.places;
+    places = blocks_extended s.layout.bytes input.places h.places;
   }
 
 -- ---- longer orders
@@ -115,11 +116,11 @@ places_more (suc n) =
     let e : suc n + 1 ≡ suc (n + 1) = omega arith in
     rw e (ap (λ ws. 2 ∷ 8 ∷ 3 ∷ 64 ∷ 3 ∷ ws) (places_more n))
 
-pub blocks_more : (bytes n : ℕ) → blocks_widths bytes n ++ places_widths bytes ≡ blocks_widths bytes (n + 1)
-blocks_more bytes zero = sym (append-nil (places_widths bytes))
-blocks_more bytes (suc n) =
+pub blocks_more : (layout : Layout) (n : ℕ) → blocks_widths layout n ++ places_widths layout.bytes ≡ blocks_widths layout (n + 1)
+blocks_more layout zero = sym (append-nil (places_widths layout.bytes))
+blocks_more layout (suc n) =
     let e : suc n + 1 ≡ suc (n + 1) = omega arith in
-    rw e (append_assoc (places_widths bytes) (blocks_widths bytes n) (places_widths bytes) ∙ ap (λ ws. places_widths bytes ++ ws) (blocks_more bytes n))
+    rw e (append_assoc (places_widths layout.bytes) (blocks_widths layout n) (places_widths layout.bytes) ∙ ap (λ ws. places_widths layout.bytes ++ ws) (blocks_more layout n))
 
 widths_push : (ps : List Parameter) (p : Parameter) → args_widths (ps ++ p ∷ []) ≡ args_widths ps ++ value_widths p.of_type
 widths_push [] p = append-nil (value_widths p.of_type)

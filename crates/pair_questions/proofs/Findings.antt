@@ -1,6 +1,7 @@
 -- What is found of numbers is found of points and of tapes.
 use Rattle.std.proofs.Common.{◌≡◌, ◌↔◌, ℕ, ◌+◌, ◌<◌, inl, inr, Bool, true, false, List, [], ◌++◌, map, slice_index, Option, Some, refl, sym, ap, subst, ◌∙◌, arith}
 use Rattle.std.proofs.lemmas.Bool.{cases_Bool}
+use Rattle.points.specs.declared.point.Layout.{Layout}
 use Rattle.bv_terms.specs.declared.term.TermId.{TermId}
 use Rattle.bv_terms.specs.declared.term.Term.{Term}
 use Rattle.bv_terms.specs.Trees.{AreFit, term_at}
@@ -9,7 +10,7 @@ use Rattle.clause_log.specs.declared.step.Cert.{Cert}
 use Rattle.points.specs.declared.point.Bounds.{Bounds}
 use Rattle.points.specs.declared.point.Point.{Point}
 use Rattle.points.specs.declared.point.Shape.{Shape}
-use Rattle.verdicts.specs.Pair.{Functions}
+use Rattle.verdicts.specs.Pair.{Functions, layout_of}
 use Rattle.points.specs.Code.{IsOfShape, code_of, number_of}
 use Rattle.points.specs.Codes.{IsCode}
 use Rattle.verdicts.specs.Covers.{covers, is_covered}
@@ -62,7 +63,7 @@ module _ (test : List ℕ → Bool) (widths : List ℕ) (Answer : List ℕ → T
 module _ (pair : Functions) (bounds : Bounds) (s : Shape) (is : IsShapeOf pair bounds s) (small : AreSmall bounds) (tapes : List (List ℕ)) (test : List ℕ → Bool)
     (passes : Passes test (point_widths pair bounds) (IsUncovered pair bounds tapes)) where
   abbrev code : Point → List ℕ
-  code p = code_of bounds.blocks pair.target.parameters p
+  code p = code_of (layout_of pair bounds) pair.target.parameters p
 
   fits : (q : Point) → IsPoint pair bounds q → Fits (point_widths pair bounds) (code q)
   fits q h = point_fits pair bounds s is small q h
@@ -80,20 +81,20 @@ module _ (pair : Functions) (bounds : Bounds) (s : Shape) (is : IsShapeOf pair b
   all_covered none q h = refused q h (none (code q) (fits q h))
 
   -- a code of the shape is the code of one point
-  one_point : (digits : List ℕ) (p q : Point) → IsOfShape s p → IsOfShape s q → code_of s.blocks s.parameters p ≡ digits → code_of s.blocks s.parameters q ≡ digits → p ≡ q
+  one_point : (digits : List ℕ) (p q : Point) → IsOfShape s p → IsOfShape s q → code_of s.layout s.parameters p ≡ digits → code_of s.layout s.parameters q ≡ digits → p ≡ q
   one_point digits p q of_p of_q e f =
       let tells = codes_tell_points s in
       let one = tells.points digits (subst (λ (ds : List ℕ). IsCode s ds) e (tells.codes p of_p)) in
       one.1.only p of_p e ∙ sym (one.1.only q of_q f)
 
-  shape_code : (p : Point) → code_of s.blocks s.parameters p ≡ code p
-  shape_code p = ap (λ b. code_of b s.parameters p) is.blocks ∙ ap (λ ps. code_of bounds.blocks ps p) is.parameters
+  shape_code : (p : Point) → code_of s.layout s.parameters p ≡ code p
+  shape_code p = ap (λ (y : Layout). code_of y s.parameters p) is.layout ∙ ap (λ ps. code_of (layout_of pair bounds) ps p) is.parameters
 
   least_point : (digits : List ℕ) → IsLeast test (point_widths pair bounds) digits → IsLeastCode pair bounds s tapes digits
   least_point digits least =
       let u = (passes digits least.fits).0 least.passes in
       let shaped = of_shape pair bounds s is u.of u.point in
-      let coded : code_of s.blocks s.parameters u.of ≡ digits = shape_code u.of ∙ u.code in
+      let coded : code_of s.layout s.parameters u.of ≡ digits = shape_code u.of ∙ u.code in
       record {
         of_shape = subst (λ (ds : List ℕ). IsCode s ds) coded ((codes_tell_points s).codes u.of shaped);
         least = λ p of_p e. subst (λ (q : Point). IsLeastUncovered pair bounds tapes q) (one_point digits u.of p shaped of_p coded e) (record {

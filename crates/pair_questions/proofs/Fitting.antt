@@ -11,10 +11,11 @@ use Rattle.byte_block.specs.declared.value.Value.TheVariants as value
 use Rattle.byte_block.specs.declared.value.Byte.{Byte}
 use Rattle.byte_block.specs.declared.value.Byte.TheVariants as byte
 use Rattle.byte_block.specs.declared.block.MemoryBlock.{MemoryBlock}
+use Rattle.points.specs.declared.point.Layout.{Layout}
 use Rattle.points.specs.declared.point.Bounds.{Bounds}
 use Rattle.points.specs.declared.point.Point.{Point}
 use Rattle.points.specs.declared.point.Shape.{Shape}
-use Rattle.verdicts.specs.Pair.{Functions}
+use Rattle.verdicts.specs.Pair.{Functions, layout_of}
 use Rattle.points.specs.Code.{ArgsFit, BlocksFit, ByteFits, BytesFit, IsOfShape, ValueFits, WordsFit, args_code, byte_code, code_of, places_code, value_code}
 use Rattle.points.specs.Tapes.{need_of, widest_choice}
 use Rattle.verdicts.specs.Trail.{IsPoint}
@@ -47,16 +48,16 @@ places-narrow : (n : ℕ) → AreWidths (places_widths n)
 places-narrow zero = tt
 places-narrow (suc n) = (omega arith, (omega arith, (omega arith, (omega arith, (omega arith, places-narrow n)))))
 
-blocks-narrow : (bytes n : ℕ) → AreWidths (blocks_widths bytes n)
-blocks-narrow bytes zero = tt
-blocks-narrow bytes (suc n) = narrow-append (places_widths bytes) (blocks_widths bytes n) (places-narrow bytes) (blocks-narrow bytes n)
+blocks-narrow : (layout : Layout) (n : ℕ) → AreWidths (blocks_widths layout n)
+blocks-narrow layout zero = tt
+blocks-narrow layout (suc n) = narrow-append (places_widths layout.bytes) (blocks_widths layout n) (places-narrow layout.bytes) (blocks-narrow layout n)
 
 pub point_narrow : (pair : Functions) (bounds : Bounds) → AreWidths (point_widths pair bounds)
 point_narrow pair bounds =
     let words = same-narrow (need_of bounds.turns pair.target) 64 (omega arith) in
-    let places = narrow-append (blocks_widths bounds.bytes bounds.blocks) (replicate (need_of bounds.turns pair.target) 64) (blocks-narrow bounds.bytes bounds.blocks) words in
-    let sizes = narrow-append (replicate bounds.blocks 6) (blocks_widths bounds.bytes bounds.blocks ++ replicate (need_of bounds.turns pair.target) 64) (same-narrow bounds.blocks 6 (omega arith)) places in
-    narrow-append (args_widths pair.target.parameters) (replicate bounds.blocks 6 ++ (blocks_widths bounds.bytes bounds.blocks ++ replicate (need_of bounds.turns pair.target) 64)) (args-narrow pair.target.parameters) sizes
+    let places = narrow-append (blocks_widths (layout_of pair bounds) bounds.blocks) (replicate (need_of bounds.turns pair.target) 64) (blocks-narrow (layout_of pair bounds) bounds.blocks) words in
+    let sizes = narrow-append (replicate bounds.blocks 6) (blocks_widths (layout_of pair bounds) bounds.blocks ++ replicate (need_of bounds.turns pair.target) 64) (same-narrow bounds.blocks 6 (omega arith)) places in
+    narrow-append (args_widths pair.target.parameters) (replicate bounds.blocks 6 ++ (blocks_widths (layout_of pair bounds) bounds.blocks ++ replicate (need_of bounds.turns pair.target) 64)) (args-narrow pair.target.parameters) sizes
 
 pub tape_narrow : (pair : Functions) (bounds : Bounds) → AreWidths (tape_widths pair bounds)
 tape_narrow pair bounds = same-narrow (need_of bounds.turns pair.source) 64 (omega arith)
@@ -86,64 +87,64 @@ fit_words (suc n) [] fits = absurd fits
 
 -- ---- the numbers of a code
 
-value-fits : (blocks : ℕ) (t : IrType) (v : Value) → blocks ≤ 4 → ValueFits blocks t v → Fits (value_widths t) (value_code blocks t v)
-value-fits blocks (Int w) (value.Num n) few fits = (omega arith, (fits, tt))
-value-fits blocks (Int w) value.Poison few fits = (omega arith, (below_wider 0 0 w.bits (omega arith) (omega arith), tt))
-value-fits blocks (Int w) (value.Ptr p) few fits = absurd fits
-value-fits blocks type.Ptr (value.Num n) few fits = absurd fits
-value-fits blocks type.Ptr value.Poison few fits = (omega arith, (omega arith, (omega arith, tt)))
-value-fits blocks type.Ptr (value.Ptr p) few fits = (omega arith, (omega (arith, few, name_at_most blocks p.block fits.block), (fits.offset, tt)))
+value-fits : (layout : Layout) (t : IrType) (v : Value) → layout.blocks ≤ 4 → ValueFits layout t v → Fits (value_widths t) (value_code layout t v)
+value-fits layout (Int w) (value.Num n) few fits = (omega arith, (fits, tt))
+value-fits layout (Int w) value.Poison few fits = (omega arith, (below_wider 0 0 w.bits (omega arith) (omega arith), tt))
+value-fits layout (Int w) (value.Ptr p) few fits = absurd fits
+value-fits layout type.Ptr (value.Num n) few fits = absurd fits
+value-fits layout type.Ptr value.Poison few fits = (omega arith, (omega arith, (omega arith, tt)))
+value-fits layout type.Ptr (value.Ptr p) few fits = (omega arith, (omega (arith, few, name_at_most layout p.block fits.block), (fits.offset, tt)))
 
-args-fit : (blocks : ℕ) (ps : List Parameter) (vs : List Value) → blocks ≤ 4 → ArgsFit blocks ps vs → Fits (args_widths ps) (args_code blocks ps vs)
-args-fit blocks [] [] few fits = tt
-args-fit blocks (p ∷ ps) (v ∷ vs) few fits =
-    fits-append (value_widths p.of_type) (args_widths ps) (value_code blocks p.of_type v) (args_code blocks ps vs) (value-fits blocks p.of_type v few fits.0) (args-fit blocks ps vs few fits.1)
-args-fit blocks [] (v ∷ vs) few fits = absurd fits
-args-fit blocks (p ∷ ps) [] few fits = absurd fits
+args-fit : (layout : Layout) (ps : List Parameter) (vs : List Value) → layout.blocks ≤ 4 → ArgsFit layout ps vs → Fits (args_widths ps) (args_code layout ps vs)
+args-fit layout [] [] few fits = tt
+args-fit layout (p ∷ ps) (v ∷ vs) few fits =
+    fits-append (value_widths p.of_type) (args_widths ps) (value_code layout p.of_type v) (args_code layout ps vs) (value-fits layout p.of_type v few fits.0) (args-fit layout ps vs few fits.1)
+args-fit layout [] (v ∷ vs) few fits = absurd fits
+args-fit layout (p ∷ ps) [] few fits = absurd fits
 
-sizes-fit : (blocks bytes number : ℕ) (bs : List MemoryBlock) → bytes ≤ 32 → BlocksFit blocks bytes number bs → Fits (replicate (length bs) 6) (sizes_of bs)
-sizes-fit blocks bytes number [] short fits = tt
-sizes-fit blocks bytes number (b ∷ bs) short fits = (omega (arith, short, fits.0.small), sizes-fit blocks bytes (number + 1) bs short fits.1)
+sizes-fit : (layout : Layout) (number : ℕ) (bs : List MemoryBlock) → layout.bytes ≤ 32 → BlocksFit layout number bs → Fits (replicate (length bs) 6) (sizes_of bs)
+sizes-fit layout number [] short fits = tt
+sizes-fit layout number (b ∷ bs) short fits = (omega (arith, short, fits.0.small), sizes-fit layout (number + 1) bs short fits.1)
 
-byte-fits : (blocks : ℕ) (b : Byte) → blocks ≤ 4 → ByteFits blocks b → Fits (places_widths 1) (byte_code blocks b)
-byte-fits blocks (byte.Num n) few fits = (omega arith, (fits, (omega arith, (omega arith, (omega arith, tt)))))
-byte-fits blocks (byte.Part p i) few fits = (omega arith, (omega arith, (omega (arith, few, name_at_most blocks p.block fits.0.block), (fits.0.offset, (omega (arith, fits.1), tt)))))
-byte-fits blocks byte.Poison few fits = (omega arith, (omega arith, (omega arith, (omega arith, (omega arith, tt)))))
+byte-fits : (layout : Layout) (b : Byte) → layout.blocks ≤ 4 → ByteFits layout b → Fits (places_widths 1) (byte_code layout b)
+byte-fits layout (byte.Num n) few fits = (omega arith, (fits, (omega arith, (omega arith, (omega arith, tt)))))
+byte-fits layout (byte.Part p i) few fits = (omega arith, (omega arith, (omega (arith, few, name_at_most layout p.block fits.0.block), (fits.0.offset, (omega (arith, fits.1), tt)))))
+byte-fits layout byte.Poison few fits = (omega arith, (omega arith, (omega arith, (omega arith, (omega arith, tt)))))
 
-bytes-fit : (blocks : ℕ) (bs : List Byte) → blocks ≤ 4 → BytesFit blocks bs → Fits (places_widths (length bs)) (flat_map (byte_code blocks) bs)
-bytes-fit blocks [] few fits = tt
-bytes-fit blocks (b ∷ bs) few fits = fits-append (places_widths 1) (places_widths (length bs)) (byte_code blocks b) (flat_map (byte_code blocks) bs) (byte-fits blocks b few fits.0) (bytes-fit blocks bs few fits.1)
+bytes-fit : (layout : Layout) (bs : List Byte) → layout.blocks ≤ 4 → BytesFit layout bs → Fits (places_widths (length bs)) (flat_map (byte_code layout) bs)
+bytes-fit layout [] few fits = tt
+bytes-fit layout (b ∷ bs) few fits = fits-append (places_widths 1) (places_widths (length bs)) (byte_code layout b) (flat_map (byte_code layout) bs) (byte-fits layout b few fits.0) (bytes-fit layout bs few fits.1)
 
-blocks-fit : (blocks bytes number : ℕ) (bs : List MemoryBlock) → blocks ≤ 4 → BlocksFit blocks bytes number bs → Fits (blocks_widths bytes (length bs)) (flat_map (places_code blocks) bs)
-blocks-fit blocks bytes number [] few fits = tt
-blocks-fit blocks bytes number (b ∷ bs) few fits =
-    let here : Fits (places_widths bytes) (places_code blocks b) = subst (λ n. Fits (places_widths n) (places_code blocks b)) fits.0.room (bytes-fit blocks b.places few fits.0.fit) in
-    fits-append (places_widths bytes) (blocks_widths bytes (length bs)) (places_code blocks b) (flat_map (places_code blocks) bs) here (blocks-fit blocks bytes (number + 1) bs few fits.1)
+blocks-fit : (layout : Layout) (number : ℕ) (bs : List MemoryBlock) → layout.blocks ≤ 4 → BlocksFit layout number bs → Fits (blocks_widths layout (length bs)) (flat_map (places_code layout) bs)
+blocks-fit layout number [] few fits = tt
+blocks-fit layout number (b ∷ bs) few fits =
+    let here : Fits (places_widths layout.bytes) (places_code layout b) = subst (λ n. Fits (places_widths n) (places_code layout b)) fits.0.room (bytes-fit layout b.places few fits.0.fit) in
+    fits-append (places_widths layout.bytes) (blocks_widths layout (length bs)) (places_code layout b) (flat_map (places_code layout) bs) here (blocks-fit layout (number + 1) bs few fits.1)
 
 -- ---- a point
 
 module _ (pair : Functions) (bounds : Bounds) (s : Shape) (is : IsShapeOf pair bounds s) where
   pub of_shape : (p : Point) → IsPoint pair bounds p → IsOfShape s p
   of_shape p h = record {
-    args = subst (λ b. ArgsFit b s.parameters p.input.args) (sym is.blocks) (subst (λ (ps : List Parameter). ArgsFit bounds.blocks ps p.input.args) (sym is.parameters) h.args);
-    given = subst (λ b. BlocksFit b s.bytes 1 p.input.blocks) (sym is.blocks) (subst (λ b. BlocksFit bounds.blocks b 1 p.input.blocks) (sym is.bytes) h.given);
+    args = subst (λ (y : Layout). ArgsFit y s.parameters p.input.args) (sym is.layout) (subst (λ (ps : List Parameter). ArgsFit (layout_of pair bounds) ps p.input.args) (sym is.parameters) h.args);
+    given = subst (λ (y : Layout). BlocksFit y 1 p.input.blocks) (sym is.layout) h.given;
     tape = subst (λ w. WordsFit w s.words p.tape) (sym is.word_width) (subst (λ n. WordsFit (widest_choice pair.target) n p.tape) (sym is.words) h.tape);
   }
 
-  pub point_fits : AreSmall bounds → (p : Point) → IsPoint pair bounds p → Fits (point_widths pair bounds) (code_of bounds.blocks pair.target.parameters p)
+  pub point_fits : AreSmall bounds → (p : Point) → IsPoint pair bounds p → Fits (point_widths pair bounds) (code_of (layout_of pair bounds) pair.target.parameters p)
   point_fits small p h =
       let bs = p.input.blocks in
       let need = need_of bounds.turns pair.target in
-      let count = blocks_count bounds.blocks bounds.bytes bs h.given in
+      let count = blocks_count (layout_of pair bounds) bs h.given in
       let narrow : widest_choice pair.target ≤ 64 = subst (λ w. w ≤ 64) is.word_width s.word_width.at_most_64 in
-      let sizes : Fits (replicate bounds.blocks 6) (sizes_of bs) = subst (λ n. Fits (replicate n 6) (sizes_of bs)) count (sizes-fit bounds.blocks bounds.bytes 1 bs small.bytes h.given) in
-      let places : Fits (blocks_widths bounds.bytes bounds.blocks) (flat_map (places_code bounds.blocks) bs) =
-      subst (λ n. Fits (blocks_widths bounds.bytes n) (flat_map (places_code bounds.blocks) bs)) count (blocks-fit bounds.blocks bounds.bytes 1 bs small.blocks h.given) in
+      let sizes : Fits (replicate bounds.blocks 6) (sizes_of bs) = subst (λ n. Fits (replicate n 6) (sizes_of bs)) count (sizes-fit (layout_of pair bounds) 1 bs small.bytes h.given) in
+      let places : Fits (blocks_widths (layout_of pair bounds) bounds.blocks) (flat_map (places_code (layout_of pair bounds)) bs) =
+      subst (λ n. Fits (blocks_widths (layout_of pair bounds) n) (flat_map (places_code (layout_of pair bounds)) bs)) count (blocks-fit (layout_of pair bounds) 1 bs small.blocks h.given) in
       let words : Fits (replicate need 64) p.tape = words_fit (widest_choice pair.target) need p.tape narrow h.tape in
-      let behind = fits-append (blocks_widths bounds.bytes bounds.blocks) (replicate need 64) (flat_map (places_code bounds.blocks) bs) p.tape places words in
-      let rest = fits-append (replicate bounds.blocks 6) (blocks_widths bounds.bytes bounds.blocks ++ replicate need 64) (sizes_of bs) (flat_map (places_code bounds.blocks) bs ++ p.tape) sizes behind in
-      let regroup : sizes_of bs ++ (flat_map (places_code bounds.blocks) bs ++ p.tape) ≡ (sizes_of bs ++ flat_map (places_code bounds.blocks) bs) ++ p.tape = sym (append_assoc (sizes_of bs) (flat_map (places_code bounds.blocks) bs) p.tape) in
-      fits-append (args_widths pair.target.parameters) (replicate bounds.blocks 6 ++ (blocks_widths bounds.bytes bounds.blocks ++ replicate need 64))
-      (args_code bounds.blocks pair.target.parameters p.input.args) ((sizes_of bs ++ flat_map (places_code bounds.blocks) bs) ++ p.tape)
-      (args-fit bounds.blocks pair.target.parameters p.input.args small.blocks h.args)
-      (subst (λ (ns : List ℕ). Fits (replicate bounds.blocks 6 ++ (blocks_widths bounds.bytes bounds.blocks ++ replicate need 64)) ns) regroup rest)
+      let behind = fits-append (blocks_widths (layout_of pair bounds) bounds.blocks) (replicate need 64) (flat_map (places_code (layout_of pair bounds)) bs) p.tape places words in
+      let rest = fits-append (replicate bounds.blocks 6) (blocks_widths (layout_of pair bounds) bounds.blocks ++ replicate need 64) (sizes_of bs) (flat_map (places_code (layout_of pair bounds)) bs ++ p.tape) sizes behind in
+      let regroup : sizes_of bs ++ (flat_map (places_code (layout_of pair bounds)) bs ++ p.tape) ≡ (sizes_of bs ++ flat_map (places_code (layout_of pair bounds)) bs) ++ p.tape = sym (append_assoc (sizes_of bs) (flat_map (places_code (layout_of pair bounds)) bs) p.tape) in
+      fits-append (args_widths pair.target.parameters) (replicate bounds.blocks 6 ++ (blocks_widths (layout_of pair bounds) bounds.blocks ++ replicate need 64))
+      (args_code (layout_of pair bounds) pair.target.parameters p.input.args) ((sizes_of bs ++ flat_map (places_code (layout_of pair bounds)) bs) ++ p.tape)
+      (args-fit (layout_of pair bounds) pair.target.parameters p.input.args small.blocks h.args)
+      (subst (λ (ns : List ℕ). Fits (replicate bounds.blocks 6 ++ (blocks_widths (layout_of pair bounds) bounds.blocks ++ replicate need 64)) ns) regroup rest)

@@ -1,12 +1,13 @@
 -- The variables of a question come in the order of its numbers.
 use Rattle.std.proofs.Common.{◌≡◌, ℕ, All, ◌<◌, List, [], ◌++◌, length, map, replicate, ap, subst, sym, ◌∙◌, append_assoc}
+use Rattle.points.specs.declared.point.Layout.{Layout}
 use Rattle.bv_terms.specs.declared.term.TermId.{TermId}
 use Rattle.bv_terms.specs.declared.term.Term.{Term}
 use Rattle.bv_terms.specs.Tree.{width_of}
 use Rattle.bv_terms.specs.Trees.{AreFit, Keeps, tree_in, variables_among}
 use Rattle.points.specs.declared.point.Bounds.{Bounds}
 use Rattle.points.specs.declared.point.Shape.{Shape}
-use Rattle.verdicts.specs.Pair.{Functions}
+use Rattle.verdicts.specs.Pair.{Functions, layout_of}
 use Rattle.points.specs.Tapes.{need_of}
 use Rattle.pair_questions.specs.Orders.{IsOrder}
 use Rattle.pair_questions.specs.Questions.{args_widths, blocks_widths, point_widths, tape_widths}
@@ -18,19 +19,18 @@ unfolding variables_among
 order_start terms order e f = rw (e, f) (record { numbered = tt; named = tt })
 
 abbrev pub input_widths : Shape → List ℕ
-input_widths s = args_widths s.parameters ++ (replicate s.blocks 6 ++ blocks_widths s.bytes s.blocks)
+input_widths s = args_widths s.parameters ++ (replicate s.layout.blocks 6 ++ blocks_widths s.layout s.layout.blocks)
 
 widths-shaped : (pair : Functions) (bounds : Bounds) (s : Shape) → IsShapeOf pair bounds s → input_widths s ++ replicate s.words 64 ≡ point_widths pair bounds
 widths-shaped pair bounds s is =
     let args = args_widths pair.target.parameters in
     let sizes = replicate bounds.blocks 6 in
-    let places = blocks_widths bounds.bytes bounds.blocks in
+    let places = blocks_widths (layout_of pair bounds) bounds.blocks in
     let words = replicate (need_of bounds.turns pair.target) 64 in
-    ap (λ ps. (args_widths ps ++ (replicate s.blocks 6 ++ blocks_widths s.bytes s.blocks)) ++ replicate s.words 64) is.parameters
-    ∙ (ap (λ n. (args ++ (replicate n 6 ++ blocks_widths s.bytes n)) ++ replicate s.words 64) is.blocks
-    ∙ (ap (λ n. (args ++ (sizes ++ blocks_widths n bounds.blocks)) ++ replicate s.words 64) is.bytes
+    ap (λ ps. (args_widths ps ++ (replicate s.layout.blocks 6 ++ blocks_widths s.layout s.layout.blocks)) ++ replicate s.words 64) is.parameters
+    ∙ (ap (λ (y : Layout). (args ++ (replicate y.blocks 6 ++ blocks_widths y y.blocks)) ++ replicate s.words 64) is.layout
     ∙ (ap (λ n. (args ++ (sizes ++ places)) ++ replicate n 64) is.words
-    ∙ (append_assoc args (sizes ++ places) words ∙ ap (λ ns. args ++ ns) (append_assoc sizes places words)))))
+    ∙ (append_assoc args (sizes ++ places) words ∙ ap (λ ns. args ++ ns) (append_assoc sizes places words))))
 
 pub point_order : (pair : Functions) (bounds : Bounds) (s : Shape) (none inputs all : List Term) (order order' order'' : List TermId) → IsShapeOf pair bounds s → none ≡ [] → order ≡ []
     → ((widths : List ℕ) → IsOrder none order widths → IsOrder inputs order' (widths ++ input_widths s)) → ((widths : List ℕ) → IsOrder inputs order' widths → IsOrder all order'' (widths ++ replicate s.words 64))

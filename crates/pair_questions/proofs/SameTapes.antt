@@ -4,6 +4,7 @@ use Rattle.std.proofs.lemmas.List.{drop_all}
 use Rattle.std.proofs.lemmas.List.Elements.{All-contains, Contains-append_left, Contains-get_or, Contains-push, Contains-push_cases}
 use Rattle.std.proofs.lemmas.Simd.{map-map}
 use Rattle.ir_tree.specs.declared.tree.Function.{Function}
+use Rattle.points.specs.declared.point.Layout.{Layout}
 use Rattle.points.specs.declared.point.Bounds.{Bounds}
 use Rattle.points.specs.declared.point.Input.{Input}
 use Rattle.points.specs.declared.outcome.Outcome.{Outcome}
@@ -116,17 +117,17 @@ three : {A B C D : Type 0} (f : A → B → C → D) {x x' : A} {y y' : B} {z z'
 three f e g h = cc
 
 -- a goal that no candidate of the later terms allows is one that none of the same tapes allows
-pub narrowed_same : (old mid new : List Term) (f : Function) (bounds : Bounds) (input : InputTerms) (target : OutcomeTerms) (goal id : TermId) (candidates : List TapeTerms) (tapes : (ℕ → ℕ → ℕ) → List (List ℕ))
-    → Keeps old mid → IsInput f.parameters bounds.blocks bounds.bytes old input → IsOutcome old target → IsTerm old 1 goal → ((v : ℕ → ℕ → ℕ) → AreSameTapes (tapes_at v mid candidates) (tapes v))
-    → Tests new id (λ v. bit_at v mid goal && none_allows f bounds (input_in bounds v mid input) (outcome_in bounds v mid target) (tapes_at v mid candidates))
-    → Tests new id (λ v. bit_at v old goal && none_allows f bounds (input_in bounds v old input) (outcome_in bounds v old target) (tapes v))
-narrowed_same old mid new f bounds input target goal id candidates tapes k are is_target is same narrows = record {
+pub narrowed_same : (old mid new : List Term) (f : Function) (bounds : Bounds) (layout : Layout) (input : InputTerms) (target : OutcomeTerms) (goal id : TermId) (candidates : List TapeTerms) (tapes : (ℕ → ℕ → ℕ) → List (List ℕ))
+    → Keeps old mid → IsInput f.parameters layout old input → IsOutcome old target → IsTerm old 1 goal → ((v : ℕ → ℕ → ℕ) → AreSameTapes (tapes_at v mid candidates) (tapes v))
+    → Tests new id (λ v. bit_at v mid goal && none_allows f bounds (input_in layout v mid input) (outcome_in layout v mid target) (tapes_at v mid candidates))
+    → Tests new id (λ v. bit_at v old goal && none_allows f bounds (input_in layout v old input) (outcome_in layout v old target) (tapes v))
+narrowed_same old mid new f bounds layout input target goal id candidates tapes k are is_target is same narrows = record {
   within = narrows.within;
   wide = narrows.wide;
   says = λ v.
       let same_goal : bit_at v mid goal ≡ bit_at v old goal = bit-later old mid k v goal is.within in
-      let same_input : input_in bounds v mid input ≡ input_in bounds v old input = input_at-later old mid k (reading bounds.blocks v) f.parameters bounds.blocks bounds.bytes input are in
-      let same_target : outcome_in bounds v mid target ≡ outcome_in bounds v old target = outcome-later old mid k (reading bounds.blocks v) target is_target in
+      let same_input : input_in layout v mid input ≡ input_in layout v old input = input_at-later old mid k (reading layout.blocks v) f.parameters layout input are in
+      let same_target : outcome_in layout v mid target ≡ outcome_in layout v old target = outcome-later old mid k (reading layout.blocks v) target is_target in
       narrows.says v ∙ three (λ (b : Bool) (i : Input) (o : Outcome). b && none_allows f bounds i o (tapes_at v mid candidates)) same_goal same_input same_target
-      ∙ ap (λ b. bit_at v old goal && b) (none_same f bounds (input_in bounds v old input) (outcome_in bounds v old target) (tapes_at v mid candidates) (tapes v) (same v));
+      ∙ ap (λ b. bit_at v old goal && b) (none_same f bounds (input_in layout v old input) (outcome_in layout v old target) (tapes_at v mid candidates) (tapes v) (same v));
 }

@@ -6,12 +6,13 @@ use Rattle.ir_tree.specs.declared.tree.IrType.{IrType}
 use Rattle.ir_tree.specs.declared.tree.IrType.TheVariants.{Int, Ptr}
 use Rattle.ir_tree.specs.declared.tree.Parameter.{Parameter}
 use Rattle.ir_tree.specs.declared.tree.Function.{Function}
+use Rattle.points.specs.declared.point.Layout.{Layout}
 use Rattle.points.specs.declared.point.Bounds.{Bounds}
 use Rattle.points.specs.declared.point.Input.{Input}
 use Rattle.points.specs.declared.point.Point.{Point}
 use Rattle.points.specs.declared.point.Shape.{Shape}
 use Rattle.points.specs.declared.outcome.Outcome.{Outcome}
-use Rattle.verdicts.specs.Pair.{Functions, same_type, same_types, same_return, same_signature}
+use Rattle.verdicts.specs.Pair.{Functions, same_type, same_types, same_return, same_signature, layout_of}
 use Rattle.points.specs.Code.{WordsFit, IsOfShape, code_of}
 use Rattle.points.specs.Codes.{IsCode}
 use Rattle.verdicts.specs.Covers.{covers, some_covers, shifted, is_covered}
@@ -80,8 +81,8 @@ args_alike terms [] (q ∷ qs) args e h = absurd (let z : ⊥ = cc in z)
 args_alike terms (p ∷ ps) [] args e h = absurd (let z : ⊥ = cc in z)
 
 -- an input of the target is one of the source
-pub source_input : (terms : List Term) (f g : Function) (blocks bytes : ℕ) (input : InputTerms) → same_signature f g ≡ true → IsInput g.parameters blocks bytes terms input → IsInput f.parameters blocks bytes terms input
-source_input terms f g blocks bytes input e h = record {
+pub source_input : (terms : List Term) (f g : Function) (layout : Layout) (input : InputTerms) → same_signature f g ≡ true → IsInput g.parameters layout terms input → IsInput f.parameters layout terms input
+source_input terms f g layout input e h = record {
   args = args_alike terms f.parameters g.parameters input.args (and_right (same_return f.returns g.returns) (same_types f.parameters g.parameters) e) h.args;
   size_count = h.size_count;
   sizes = h.sizes;
@@ -90,13 +91,13 @@ source_input terms f g blocks bytes input e h = record {
 }
 
 -- an input of the shape is one of the target
-pub shape_input : (pair : Functions) (bounds : Bounds) (s : Shape) (terms : List Term) (input : InputTerms) → IsShapeOf pair bounds s → IsInputOf s terms input → IsInput pair.target.parameters bounds.blocks bounds.bytes terms input
+pub shape_input : (pair : Functions) (bounds : Bounds) (s : Shape) (terms : List Term) (input : InputTerms) → IsShapeOf pair bounds s → IsInputOf s terms input → IsInput pair.target.parameters (layout_of pair bounds) terms input
 shape_input pair bounds s terms input is h = record {
   args = subst (λ (ps : List Parameter). AreArgs terms ps input.args) is.parameters h.args;
-  size_count = h.size_count ∙ is.blocks;
+  size_count = h.size_count ∙ ap (λ (y : Layout). y.blocks) is.layout;
   sizes = h.sizes;
-  block_count = h.block_count ∙ is.blocks;
-  places = subst (λ n. Each (IsBlockTerms n terms) input.places) is.bytes h.places;
+  block_count = h.block_count ∙ ap (λ (y : Layout). y.blocks) is.layout;
+  places = subst (λ (y : Layout). Each (IsBlockTerms y.bytes terms) input.places) is.layout h.places;
 }
 
 -- ---- numbers stay
@@ -136,7 +137,7 @@ numbers-later old new k s input tape h h' v =
     rw (
       args-later old new k s.parameters input.args h.args v,
       map-same (IsTerm old 6) (term_at v new) (term_at v old) input.sizes (λ a t. term-later old new k v a t.within) h.sizes,
-      blocks-later old new k s.bytes input.places h.places v,
+      blocks-later old new k s.layout.bytes input.places h.places v,
       words_at-later old new k v tape.words h'.words,
     ) refl
 
@@ -155,29 +156,29 @@ none_is pair bounds p (tape ∷ tapes) =
 
 -- ---- the uncovered point
 
-abbrev pub point_at : Bounds → (ℕ → ℕ → ℕ) → List Term → InputTerms → TapeTerms → Point
-point_at bounds v terms input tape = record { input = input_in bounds v terms input; tape = words_at v terms tape.words }
+abbrev pub point_at : Layout → (ℕ → ℕ → ℕ) → List Term → InputTerms → TapeTerms → Point
+point_at layout v terms input tape = record { input = input_in layout v terms input; tape = words_at v terms tape.words }
 
 point_is : (p : Point) (input : Input) (tape : List ℕ) → p.input ≡ input → p.tape ≡ tape → p ≡ record { input = input; tape = tape }
 point_is p input tape e f = λ i. record { input = e i; tape = f i }
 
 of_shape : (pair : Functions) (bounds : Bounds) (s : Shape) (p : Point) → IsShapeOf pair bounds s → IsPoint pair bounds p → IsOfShape s p
 of_shape pair bounds s p is h = record {
-  args = rw (is.parameters, is.blocks) h.args;
-  given = rw (is.blocks, is.bytes) h.given;
+  args = rw (is.parameters, is.layout) h.args;
+  given = rw is.layout h.given;
   tape = rw (is.word_width, is.words) h.tape;
 }
 
 a_point : (pair : Functions) (bounds : Bounds) (s : Shape) (p : Point) → IsShapeOf pair bounds s → IsOfShape s p → IsPlain p.tape (run_of pair.target bounds p.input p.tape) → IsPoint pair bounds p
 a_point pair bounds s p is h plain = record {
-  args = rw (is.parameters, is.blocks) at h.args;
-  given = rw (is.blocks, is.bytes) at h.given;
+  args = rw (is.parameters, is.layout) at h.args;
+  given = rw is.layout at h.given;
   tape = rw (is.word_width, is.words) at h.tape;
   plain = plain;
 }
 
-shape_code : {pair : Functions} {bounds : Bounds} {s : Shape} {numbers : List ℕ} (p : Point) → IsShapeOf pair bounds s → code_of s.blocks s.parameters p ≡ numbers → code_of bounds.blocks pair.target.parameters p ≡ numbers
-shape_code p is e = two (λ n ps. code_of n ps p) (sym is.blocks) (sym is.parameters) ∙ e
+shape_code : {pair : Functions} {bounds : Bounds} {s : Shape} {numbers : List ℕ} (p : Point) → IsShapeOf pair bounds s → code_of s.layout s.parameters p ≡ numbers → code_of (layout_of pair bounds) pair.target.parameters p ≡ numbers
+shape_code p is e = two (λ (y : Layout) (ps : List Parameter). code_of y ps p) (sym is.layout) (sym is.parameters) ∙ e
 
 pub not_true : (b : Bool) → not b ≡ true → b ≡ false
 not_true true e = absurd (let z : ⊥ = cc in z)
@@ -188,20 +189,20 @@ not_false b e = rw e refl
 
 -- a point whose code the terms denote is the one that they denote
 pub the_point : (pair : Functions) (bounds : Bounds) (s : Shape) (terms : List Term) (input : InputTerms) (tape : TapeTerms) → IsShapeOf pair bounds s → IsInputOf s terms input → (v : ℕ → ℕ → ℕ) (p : Point) → IsOfShape s p
-    → code_of s.blocks s.parameters p ≡ numbers_at v terms input tape → point_at bounds v terms input tape ≡ p
+    → code_of s.layout s.parameters p ≡ numbers_at v terms input tape → point_at (layout_of pair bounds) v terms input tape ≡ p
 the_point pair bounds s terms input tape shape are v p of code =
     let d = decoded v terms s input tape p are of code in
-    let there = d.0 ∙ ap (λ n. input_at (reading n v) terms input) shape.blocks in
-    sym (point_is p (input_in bounds v terms input) (words_at v terms tape.words) there d.1)
+    let there = d.0 ∙ ap (λ (y : Layout). input_at (reading y.blocks v) terms input) shape.layout in
+    sym (point_is p (input_in (layout_of pair bounds) v terms input) (words_at v terms tape.words) there d.1)
 
 module _ (pair : Functions) (bounds : Bounds) (tapes : List (List ℕ)) (s : Shape) (terms new : List Term) (input : InputTerms) (tape : TapeTerms) (plain : (ℕ → ℕ → ℕ) → Bool) (id : TermId) (well : (ℕ → ℕ → ℕ) → Bool)
     (shape : IsShapeOf pair bounds s) (are : IsInputOf s terms input)
-    (is_plain : (v : ℕ → ℕ → ℕ) → (plain v ≡ true) ↔ IsPlain (words_at v terms tape.words) (run_of pair.target bounds (input_in bounds v terms input) (words_at v terms tape.words)))
+    (is_plain : (v : ℕ → ℕ → ℕ) → (plain v ≡ true) ↔ IsPlain (words_at v terms tape.words) (run_of pair.target bounds (input_in (layout_of pair bounds) v terms input) (words_at v terms tape.words)))
     (is_well : (v : ℕ → ℕ → ℕ) → (well v ≡ true) ↔ (IsCode s (numbers_at v terms input tape) × (plain v ≡ true)))
-    (says : (v : ℕ → ℕ → ℕ) → bit_at v new id ≡ (well v && not (is_covered pair bounds tapes (point_at bounds v terms input tape)))) where
+    (says : (v : ℕ → ℕ → ℕ) → bit_at v new id ≡ (well v && not (is_covered pair bounds tapes (point_at (layout_of pair bounds) v terms input tape)))) where
   to_answer : (v : ℕ → ℕ → ℕ) → bit_at v new id ≡ true → IsUncovered pair bounds tapes (numbers_at v terms input tape)
   to_answer v e =
-      let q : Point = point_at bounds v terms input tape in
+      let q : Point = point_at (layout_of pair bounds) v terms input tape in
       let both = sym (says v) ∙ e in
       let is_code = (is_well v).0 (and_left (well v) (not (is_covered pair bounds tapes q)) both) in
       let found = (codes_tell_points s).points (numbers_at v terms input tape) is_code.0 in
@@ -220,12 +221,12 @@ module _ (pair : Functions) (bounds : Bounds) (tapes : List (List ℕ)) (s : Sha
   from_answer v u =
       let p : Point = u.of in
       let of = of_shape pair bounds s p shape u.point in
-      let code : code_of s.blocks s.parameters p ≡ numbers_at v terms input tape = rw (shape.parameters, shape.blocks) u.code in
+      let code : code_of s.layout s.parameters p ≡ numbers_at v terms input tape = rw (shape.parameters, shape.layout) u.code in
       let same = the_point pair bounds s terms input tape shape are v p of code in
       let is_code : IsCode s (numbers_at v terms input tape) = subst (IsCode s) code ((codes_tell_points s).codes p of) in
       let plain_there = (is_plain v).1 (subst (λ (q : Point). IsPlain q.tape (run_of pair.target bounds q.input q.tape)) (sym same) u.point.plain) in
-      let free : is_covered pair bounds tapes (point_at bounds v terms input tape) ≡ false = subst (λ (q : Point). is_covered pair bounds tapes q ≡ false) (sym same) u.uncovered in
-      says v ∙ and_both (well v) (not (is_covered pair bounds tapes (point_at bounds v terms input tape))) ((is_well v).1 (is_code, plain_there)) (not_false (is_covered pair bounds tapes (point_at bounds v terms input tape)) free)
+      let free : is_covered pair bounds tapes (point_at (layout_of pair bounds) v terms input tape) ≡ false = subst (λ (q : Point). is_covered pair bounds tapes q ≡ false) (sym same) u.uncovered in
+      says v ∙ and_both (well v) (not (is_covered pair bounds tapes (point_at (layout_of pair bounds) v terms input tape))) ((is_well v).1 (is_code, plain_there)) (not_false (is_covered pair bounds tapes (point_at (layout_of pair bounds) v terms input tape)) free)
 
   answers : IsTerm new 1 id → Decides new id (λ v. IsUncovered pair bounds tapes (numbers_at v terms input tape))
   answers is = (is, λ v. (to_answer v, from_answer v))
@@ -233,18 +234,18 @@ module _ (pair : Functions) (bounds : Bounds) (tapes : List (List ℕ)) (s : Sha
 pub uncovered_decides : (old mid new : List Term) (pair : Functions) (bounds : Bounds) (s : Shape) (input : InputTerms) (tape : TapeTerms) (o : OutcomeTerms) (well id : TermId)
     → IsShapeOf pair bounds s → IsInputOf s old input → IsTapeOf s old tape → Keeps old mid → IsOfTarget pair bounds old input tape o
     → Decides mid well (λ v. IsCode s (numbers_at v old input tape) × (bit_at v old o.plain ≡ true))
-    → Tests new id (λ v. bit_at v mid well && none_allows pair.source bounds (input_in bounds v mid input) (outcome_in bounds v mid o) (shifted (need_of bounds.turns pair.source) (words_at v mid tape.words)))
+    → Tests new id (λ v. bit_at v mid well && none_allows pair.source bounds (input_in (layout_of pair bounds) v mid input) (outcome_in (layout_of pair bounds) v mid o) (shifted (need_of bounds.turns pair.source) (words_at v mid tape.words)))
     → Decides new id (λ v. IsUncovered pair bounds [] (numbers_at v old input tape))
 uncovered_decides old mid new pair bounds s input tape o well id shape are words k run is_well shifts =
     answers pair bounds [] s old new input tape (λ v. bit_at v old o.plain) id (λ v. bit_at v mid well) shape are (λ v. (run.shows v).plain) is_well.1 says (record { within = shifts.within; wide = shifts.wide })
   where
-    says : (v : ℕ → ℕ → ℕ) → bit_at v new id ≡ (bit_at v mid well && not (is_covered pair bounds [] (point_at bounds v old input tape)))
+    says : (v : ℕ → ℕ → ℕ) → bit_at v new id ≡ (bit_at v mid well && not (is_covered pair bounds [] (point_at (layout_of pair bounds) v old input tape)))
     says v =
-        let p : Point = point_at bounds v old input tape in
+        let p : Point = point_at (layout_of pair bounds) v old input tape in
         let front : List (List ℕ) = shifted (need_of bounds.turns pair.source) p.tape in
         let same_words : words_at v mid tape.words ≡ p.tape = words_at-later old mid k v tape.words words.words in
-        let same_input : input_in bounds v mid input ≡ p.input = input_at-later old mid k (reading bounds.blocks v) s.parameters s.blocks s.bytes input are in
-        let same_outcome : outcome_in bounds v mid o ≡ (run_of pair.target bounds p.input p.tape).outcome = outcome-later old mid k (reading bounds.blocks v) o run.made ∙ (run.shows v).outcome in
+        let same_input : input_in (layout_of pair bounds) v mid input ≡ p.input = input_at-later old mid k (reading bounds.blocks v) s.parameters s.layout input are in
+        let same_outcome : outcome_in (layout_of pair bounds) v mid o ≡ (run_of pair.target bounds p.input p.tape).outcome = outcome-later old mid k (reading bounds.blocks v) o run.made ∙ (run.shows v).outcome in
         let none = three (λ (i : Input) (z : Outcome) (ws : List ℕ). none_allows pair.source bounds i z (shifted (need_of bounds.turns pair.source) ws)) same_input same_outcome same_words in
         shifts.says v ∙ ap (λ b. bit_at v mid well && b) (none ∙ (none_is pair bounds p front ∙ ap (λ xs. not (some_covers pair bounds p xs)) (sym (append-nil front))))
 
@@ -256,23 +257,23 @@ words_fit terms (w ∷ ws) range h v = (term-below terms 64 w range h.0 v, words
 
 pub covering_decides : (t0 t1 t2 t3 t4 t5 : List Term) (pair : Functions) (bounds : Bounds) (s : Shape) (p : Point) (input : InputTerms) (tape choices : TapeTerms) (source target : OutcomeTerms) (id : TermId)
     → AreInRange t0 → AreWords t0 tape.words → length tape.words ≡ need_of bounds.turns pair.source → IsShapeOf pair bounds s → IsInputOf s t1 input → AreWords t2 choices.words → Keeps t0 t1 → Keeps t1 t2 → Keeps t2 t3 → Keeps t3 t4
-    → ((v : ℕ → ℕ → ℕ) → input_at (reading s.blocks v) t1 input ≡ p.input) → ((v : ℕ → ℕ → ℕ) → words_at v t2 choices.words ≡ p.tape) → IsOfTarget pair bounds t3 input choices target
-    → ((v : ℕ → ℕ → ℕ) → Shows (reading bounds.blocks v) t4 (words_at v t3 tape.words) (run_of pair.source bounds (input_in bounds v t3 input) (words_at v t3 tape.words)) source)
-    → Tests t5 id (λ v. is_refined (outcome_in bounds v t4 source) (outcome_in bounds v t4 target))
+    → ((v : ℕ → ℕ → ℕ) → input_at (reading s.layout.blocks v) t1 input ≡ p.input) → ((v : ℕ → ℕ → ℕ) → words_at v t2 choices.words ≡ p.tape) → IsOfTarget pair bounds t3 input choices target
+    → ((v : ℕ → ℕ → ℕ) → Shows (reading bounds.blocks v) t4 (words_at v t3 tape.words) (run_of pair.source bounds (input_in (layout_of pair bounds) v t3 input) (words_at v t3 tape.words)) source)
+    → Tests t5 id (λ v. is_refined (outcome_in (layout_of pair bounds) v t4 source) (outcome_in (layout_of pair bounds) v t4 target))
     → Decides t5 id (λ v. IsCovering pair bounds p (words_at v t0 tape.words))
 unfolding covers
 covering_decides t0 t1 t2 t3 t4 t5 pair bounds s p input tape choices source target id range words count shape are choice_words k1 k2 k3 k4 known chosen of_target source_shows t =
     (record { within = t.within; wide = t.wide }, λ v. ((λ e. record { fits = subst (λ n. WordsFit 64 n (words_at v t0 tape.words)) count (words_fit t0 tape.words range words v); cover = sym (says v) ∙ e }), (λ c. says v ∙ c.cover)))
   where
-    inputs : (v : ℕ → ℕ → ℕ) → input_in bounds v t3 input ≡ p.input
-    inputs v = input_at-later t1 t3 (keeps_trans t1 t2 t3 k2 k3) (reading bounds.blocks v) s.parameters s.blocks s.bytes input are ∙ (ap (λ n. input_at (reading n v) t1 input) (sym shape.blocks) ∙ known v)
+    inputs : (v : ℕ → ℕ → ℕ) → input_in (layout_of pair bounds) v t3 input ≡ p.input
+    inputs v = input_at-later t1 t3 (keeps_trans t1 t2 t3 k2 k3) (reading bounds.blocks v) s.parameters s.layout input are ∙ (ap (λ (y : Layout). input_at (reading y.blocks v) t1 input) (sym shape.layout) ∙ known v)
 
     says : (v : ℕ → ℕ → ℕ) → bit_at v t5 id ≡ is_refined (run_of pair.source bounds p.input (words_at v t0 tape.words)).outcome (run_of pair.target bounds p.input p.tape).outcome
     says v =
         let k03 = keeps_trans t0 t1 t3 k1 (keeps_trans t1 t2 t3 k2 k3) in
-        let from_source : outcome_in bounds v t4 source ≡ (run_of pair.source bounds p.input (words_at v t0 tape.words)).outcome =
+        let from_source : outcome_in (layout_of pair bounds) v t4 source ≡ (run_of pair.source bounds p.input (words_at v t0 tape.words)).outcome =
         (source_shows v).outcome ∙ two (λ (i : Input) (ws : List ℕ). (run_of pair.source bounds i ws).outcome) (inputs v) (words_at-later t0 t3 k03 v tape.words words) in
-        let from_target : outcome_in bounds v t4 target ≡ (run_of pair.target bounds p.input p.tape).outcome =
+        let from_target : outcome_in (layout_of pair bounds) v t4 target ≡ (run_of pair.target bounds p.input p.tape).outcome =
         outcome-later t3 t4 k4 (reading bounds.blocks v) target of_target.made
         ∙ ((of_target.shows v).outcome ∙ two (λ (i : Input) (ws : List ℕ). (run_of pair.target bounds i ws).outcome) (inputs v) (words_at-later t2 t3 k3 v choices.words choice_words ∙ chosen v)) in
         t.says v ∙ two is_refined from_source from_target

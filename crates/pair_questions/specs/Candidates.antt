@@ -1,6 +1,7 @@
 -- Tapes of the source that are tried for an input and an outcome of the target.
 use Rattle.std.specs.Prelude.{◌≡◌, ℕ, Bool, true, not, ◌&&◌, List, [], ◌∷◌, map, Contains}
 use Rattle.ir_tree.specs.declared.tree.Function.{Function}
+use Rattle.points.specs.declared.point.Layout.{Layout}
 use Rattle.points.specs.declared.point.Bounds.{Bounds}
 use Rattle.points.specs.declared.point.Input.{Input}
 use Rattle.points.specs.declared.outcome.Outcome.{Outcome}
@@ -18,6 +19,7 @@ use Rattle.mem_terms.specs.Outcomes.{IsOutcome, LeavesGiven, outcome_at}
 use Rattle.pair_questions.specs.declared.goals.Trial.{Trial}
 use Rattle.pair_questions.specs.Encodables.{IsEncodable}
 use Rattle.run_terms.specs.Frontier.{CanRun}
+use Rattle.mem_terms.specs.Memory.{frames_of}
 
 -- the words of these tapes
 abbrev pub tapes_at : (ℕ → ℕ → ℕ) → List Term → List TapeTerms → List (List ℕ)
@@ -36,21 +38,21 @@ unfoldable pub none_allows : Function → Bounds → Input → Outcome → List 
 none_allows f bounds input target [] = true
 none_allows f bounds input target (tape ∷ tapes) = not (is_refined (run_of f bounds input tape).outcome target) && none_allows f bounds input target tapes
 
--- the source may be encoded, and the input and the outcome, which leaves given blocks as the bounds say, are made of these terms
+-- the source may be encoded, and the input and the outcome, which leaves the blocks of an input, are made of these terms
 pub record IsTrial (terms : List Term) (t : Trial) : Type 0 where
   pub source : IsEncodable t.bounds.now.turns t.source.now
   pub run : CanRun t.source.now.of.now
-  pub input : IsInput t.source.now.of.now.parameters t.bounds.now.blocks t.bounds.now.bytes terms t.input.now
+  pub input : IsInput t.source.now.of.now.parameters t.layout.now terms t.input.now
   pub target : IsOutcome terms t.target.now
-  pub given : LeavesGiven t.bounds.now.blocks t.bounds.now.bytes t.target.now
+  pub given : LeavesGiven (frames_of t.layout.now) t.target.now
 
--- what the input denotes, with as many given blocks as the bounds say
-abbrev pub input_in : Bounds → (ℕ → ℕ → ℕ) → List Term → InputTerms → Input
-input_in bounds v terms input = input_at (reading bounds.blocks v) terms input
+-- what the input denotes, with as many given blocks as the layout has
+abbrev pub input_in : Layout → (ℕ → ℕ → ℕ) → List Term → InputTerms → Input
+input_in layout v terms input = input_at (reading layout.blocks v) terms input
 
-abbrev pub outcome_in : Bounds → (ℕ → ℕ → ℕ) → List Term → OutcomeTerms → Outcome
-outcome_in bounds v terms o = outcome_at (reading bounds.blocks v) terms o
+abbrev pub outcome_in : Layout → (ℕ → ℕ → ℕ) → List Term → OutcomeTerms → Outcome
+outcome_in layout v terms o = outcome_at (reading layout.blocks v) terms o
 
 -- true where the goal is and the source's run on none of the tapes allows the target's outcome
 abbrev pub Narrows : Trial → (old new : List Term) → (goal : TermId) → (tapes : (ℕ → ℕ → ℕ) → List (List ℕ)) → TermId → Type 0
-Narrows t old new goal tapes id = Tests new id (λ v. bit_at v old goal && none_allows t.source.now.of.now t.bounds.now (input_in t.bounds.now v old t.input.now) (outcome_in t.bounds.now v old t.target.now) (tapes v))
+Narrows t old new goal tapes id = Tests new id (λ v. bit_at v old goal && none_allows t.source.now.of.now t.bounds.now (input_in t.layout.now v old t.input.now) (outcome_in t.layout.now v old t.target.now) (tapes v))

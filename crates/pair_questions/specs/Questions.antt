@@ -3,10 +3,11 @@ use Rattle.std.specs.Prelude.{◌≡◌, ◌↔◌, ℕ, zero, suc, Bool, true, 
 use Rattle.ir_tree.specs.declared.tree.IrType.{IrType}
 use Rattle.ir_tree.specs.declared.tree.IrType.TheVariants as type
 use Rattle.ir_tree.specs.declared.tree.Parameter.{Parameter}
+use Rattle.points.specs.declared.point.Layout.{Layout}
 use Rattle.points.specs.declared.point.Bounds.{Bounds}
 use Rattle.points.specs.declared.point.Point.{Point}
 use Rattle.points.specs.declared.point.Shape.{Shape}
-use Rattle.verdicts.specs.Pair.{Functions}
+use Rattle.verdicts.specs.Pair.{Functions, layout_of}
 use Rattle.points.specs.Code.{IsOfShape, WordsFit, code_of}
 use Rattle.points.specs.Codes.{IsCode}
 use Rattle.points.specs.Runnable.{IsRunnable}
@@ -49,14 +50,16 @@ abbrev pub places_widths : ℕ → List ℕ
 places_widths zero = []
 places_widths (suc n) = 2 ∷ 8 ∷ 3 ∷ 64 ∷ 3 ∷ places_widths n
 
-abbrev pub blocks_widths : (bytes blocks : ℕ) → List ℕ
-blocks_widths bytes zero = []
-blocks_widths bytes (suc n) = places_widths bytes ++ blocks_widths bytes n
+-- those of n given blocks
+abbrev pub blocks_widths : Layout → ℕ → List ℕ
+blocks_widths layout zero = []
+blocks_widths layout (suc n) = places_widths layout.bytes ++ blocks_widths layout n
 
 -- how many bits each number of a point's code has: those of the arguments, a size for each given block, the contents of all, and the words of the tape
 abbrev pub point_widths : Functions → Bounds → List ℕ
 point_widths pair bounds =
-    args_widths pair.target.parameters ++ (replicate bounds.blocks 6 ++ (blocks_widths bounds.bytes bounds.blocks ++ replicate (need_of bounds.turns pair.target) 64))
+    args_widths pair.target.parameters
+    ++ (replicate (layout_of pair bounds).blocks 6 ++ (blocks_widths (layout_of pair bounds) (layout_of pair bounds).blocks ++ replicate (need_of bounds.turns pair.target) 64))
 
 -- how many bits each word of a tape of the source has
 abbrev pub tape_widths : Functions → Bounds → List ℕ
@@ -68,7 +71,7 @@ tape_widths pair bounds = replicate (need_of bounds.turns pair.source) 64
 pub record IsUncovered (pair : Functions) (bounds : Bounds) (tapes : List (List ℕ)) (numbers : List ℕ) : Type 0 where
   pub of : Point
   pub point : IsPoint pair bounds of
-  pub code : code_of bounds.blocks pair.target.parameters of ≡ numbers
+  pub code : code_of (layout_of pair bounds) pair.target.parameters of ≡ numbers
   pub uncovered : is_covered pair bounds tapes of ≡ false
 
 -- a tape of the source that covers the point
@@ -105,7 +108,7 @@ IsFoundPoint pair bounds tapes limit (found.Spent cert) = (n : ℕ) × (limit �
 -- the code of the least such point: each point of the shape with this code is the least
 pub record IsLeastCode (pair : Functions) (bounds : Bounds) (s : Shape) (tapes : List (List ℕ)) (code : List ℕ) : Type 0 where
   pub of_shape : IsCode s code
-  pub least : (p : Point) → IsOfShape s p → code_of s.blocks s.parameters p ≡ code → IsLeastUncovered pair bounds tapes p
+  pub least : (p : Point) → IsOfShape s p → code_of s.layout s.parameters p ≡ code → IsLeastUncovered pair bounds tapes p
 
 abbrev pub IsFoundCode : Functions → Bounds → Shape → List (List ℕ) → Option ℕ → Found (List ℕ) → Type 0
 IsFoundCode pair bounds s tapes limit (found.Least code) = IsLeastCode pair bounds s tapes code

@@ -1,9 +1,10 @@
 -- What the points of a pair look like, and the terms of their numbers in order.
 use Rattle.std.specs.Prelude.{◌≡◌, List, [], ◌∷◌, ◌++◌}
 use Rattle.std.specs.List.{flat_map}
+use Rattle.points.specs.declared.point.Layout.{Layout}
 use Rattle.points.specs.declared.point.Bounds.{Bounds}
 use Rattle.points.specs.declared.point.Shape.{Shape}
-use Rattle.verdicts.specs.Pair.{Functions}
+use Rattle.verdicts.specs.Pair.{Functions, layout_of}
 use Rattle.points.specs.Tapes.{need_of, widest_choice}
 use Rattle.bv_terms.specs.declared.term.TermId.{TermId}
 use Rattle.mem_terms.specs.declared.inputs.ArgTerms.{ArgTerms}
@@ -11,11 +12,14 @@ use Rattle.mem_terms.specs.declared.inputs.ArgTerms.TheVariants as arg
 use Rattle.mem_terms.specs.declared.inputs.ByteTerms.{ByteTerms}
 use Rattle.mem_terms.specs.declared.inputs.InputTerms.{InputTerms}
 
+-- as many given blocks as a number of 3 bits names
+abbrev pub nameable : Layout
+nameable = record { blocks = 7; bytes = 0 }
+
 -- the shape of a pair's points
 pub record IsShapeOf (pair : Functions) (bounds : Bounds) (s : Shape) : Type 0 where
   pub parameters : s.parameters ≡ pair.target.parameters
-  pub blocks : s.blocks ≡ bounds.blocks
-  pub bytes : s.bytes ≡ bounds.bytes
+  pub layout : s.layout ≡ layout_of pair bounds
   pub words : s.words ≡ need_of bounds.turns pair.target
   pub word_width : s.word_width.bits ≡ widest_choice pair.target
 

@@ -1,7 +1,7 @@
 -- What all questions on a pair share.
 use Rattle.std.specs.Prelude.{◌≡◌, ℕ, true, List}
 use Rattle.points.specs.declared.point.Bounds.{Bounds}
-use Rattle.verdicts.specs.Pair.{Functions, same_signature}
+use Rattle.verdicts.specs.Pair.{Functions, same_signature, layout_of}
 use Rattle.points.specs.Run.{run_of}
 use Rattle.points.specs.Tapes.{need_of}
 use Rattle.bv_terms.specs.declared.term.Term.{Term}
@@ -16,6 +16,7 @@ use Rattle.pair_questions.specs.Candidates.{input_in}
 use Rattle.pair_questions.specs.Encodables.{IsEncodable}
 use Rattle.pair_questions.specs.Questions.{CanBeAsked}
 use Rattle.pair_questions.specs.Shapes.{IsShapeOf}
+use Rattle.mem_terms.specs.Memory.{frames_of}
 
 -- a pair that may be asked about, with the shape of its points, its functions as they are encoded and the words of a tape of its source
 pub record IsSubject (s : Subject) : Type 0 where
@@ -31,5 +32,5 @@ pub record IsSubject (s : Subject) : Type 0 where
 -- the outcome of the target's run on the input and the tape
 pub record IsOfTarget (pair : Functions) (bounds : Bounds) (terms : List Term) (input : InputTerms) (tape : TapeTerms) (o : OutcomeTerms) : Type 0 where
   pub made : IsOutcome terms o
-  pub given : LeavesGiven bounds.blocks bounds.bytes o
-  pub shows : (v : ℕ → ℕ → ℕ) → Shows (reading bounds.blocks v) terms (words_at v terms tape.words) (run_of pair.target bounds (input_in bounds v terms input) (words_at v terms tape.words)) o
+  pub given : LeavesGiven (frames_of (layout_of pair bounds)) o
+  pub shows : (v : ℕ → ℕ → ℕ) → Shows (reading (layout_of pair bounds).blocks v) terms (words_at v terms tape.words) (run_of pair.target bounds (input_in (layout_of pair bounds) v terms input) (words_at v terms tape.words)) o

@@ -9,12 +9,13 @@ ghost use Rattle.mem_terms.specs.Outcomes.{IsOutcome, LeavesGiven, Shows};
 ghost use Rattle.run_terms.specs.Frontier.{CanRun};
 ghost use Rattle.register_slots.specs.StandIn.{IsStandIn};
 ghost use Rattle.pair_questions.specs.Encodables.{IsEncodable, encoded_of};
+ghost use Rattle.mem_terms.specs.Memory.{frames_of};
 
 use bv_terms::Terms;
 use encoder::encode;
 use ir_tree::Function;
 use mem_terms::{InputTerms, OutcomeTerms, TapeTerms};
-use points::Bounds;
+use points::{Bounds, Layout};
 use register_slots::with_slots;
 use std::alloc::Global;
 use support::NoMemory;
@@ -60,22 +61,23 @@ impl<'m> Encodable<'m> {
         &self,
         alloc: Global,
         bounds: &Bounds,
+        layout: &Layout,
         input: &InputTerms,
         tape: &TapeTerms,
         terms: &mut Terms,
     ) -> Result<OutcomeTerms, NoMemory>
         requires encodable { IsEncodable bounds.now.turns self.now }
         requires run { CanRun self.now.of.now }
-        requires input { IsInput self.now.of.now.parameters bounds.now.blocks bounds.now.bytes terms.old input.now }
+        requires input { IsInput self.now.of.now.parameters layout.now terms.old input.now }
         requires tape { AreWords terms.old tape.now.words }
         ensures made { IfOk result (IsOutcome terms.new) }
-        ensures given { IfOk result (LeavesGiven bounds.now.blocks bounds.now.bytes) }
-        ensures stands { IfOk result (λ o. (v : ℕ → ℕ → ℕ) → Shows (reading bounds.now.blocks v) terms.new (words_at v terms.old tape.now.words)
-            (run_of self.now.of.now bounds.now (input_at (reading bounds.now.blocks v) terms.old input.now) (words_at v terms.old tape.now.words)) o) }
+        ensures given { IfOk result (LeavesGiven (frames_of layout.now)) }
+        ensures stands { IfOk result (λ o. (v : ℕ → ℕ → ℕ) → Shows (reading layout.now.blocks v) terms.new (words_at v terms.old tape.now.words)
+            (run_of self.now.of.now bounds.now (input_at (reading layout.now.blocks v) terms.old input.now) (words_at v terms.old tape.now.words)) o) }
         ensures kept { Keeps terms.old terms.new }
     {
         let f = encoded_of(self.of, &self.slotted);
-        let outcome = encode(alloc, f, &self.layered, bounds, input, tape, terms)?;
+        let outcome = encode(alloc, f, &self.layered, layout, input, tape, terms)?;
         Ok(outcome)
     }
 }

@@ -11,6 +11,8 @@ ghost use Rattle.refine_terms.specs.Numbers.{IsInputOf, IsTapeOf, numbers_at};
 ghost use Rattle.pair_questions.specs.Candidates.{AreTapes, IsTrial, Narrows, input_in, none_allows, outcome_in, tapes_at};
 ghost use Rattle.pair_questions.specs.Questions.{IsCovering, IsUncovered};
 ghost use Rattle.pair_questions.specs.Subjects.{IsOfTarget, IsSubject};
+ghost use Rattle.verdicts.specs.Pair.{layout_of};
+ghost use Rattle.mem_terms.specs.Memory.{frames_of};
 
 use crate::candidates::shifted_tapes;
 use crate::encodable::Encodable;
@@ -19,7 +21,7 @@ use crate::subject::Subject;
 use crate::tapes::known;
 use bv_terms::{TermId, Terms};
 use mem_terms::{InputTerms, OutcomeTerms, TapeTerms, both, negation};
-use points::{Bounds, Point};
+use points::{Bounds, Layout, Point};
 use refine_terms::{covered, well_point};
 use std::alloc::Global;
 use support::NoMemory;
@@ -29,6 +31,7 @@ use support::NoMemory;
 struct Trial<'t> {
     source: &'t Encodable<'t>,
     bounds: &'t Bounds,
+    layout: &'t Layout,
     input: &'t InputTerms,
     target: &'t OutcomeTerms,
 }
@@ -49,7 +52,7 @@ fn and_uncovered(
 {
     let source = trial
         .source
-        .encode(alloc, trial.bounds, trial.input, candidate, terms)?;
+        .encode(alloc, trial.bounds, trial.layout, trial.input, candidate, terms)?;
     let is_covered = covered(&source, trial.target, terms)?;
     let is_uncovered = negation(terms, is_covered)?;
     let id = both(terms, goal, is_uncovered)?;
@@ -111,16 +114,17 @@ pub fn and_no_tape(
     requires subject { IsSubject subject.now }
     requires input { IsInputOf subject.now.shape terms.old input.now }
     requires target { IsOutcome terms.old target.now }
-    requires given { LeavesGiven subject.now.bounds.now.blocks subject.now.bounds.now.bytes target.now }
+    requires given { LeavesGiven (frames_of (layout_of subject.now.pair.now subject.now.bounds.now)) target.now }
     requires goal { IsTerm terms.old 1 goal }
     ensures made { IfOk result (λ id. Tests terms.new id (λ v. bit_at v terms.old goal && none_allows subject.now.pair.now.source subject.now.bounds.now
-        (input_in subject.now.bounds.now v terms.old input.now) (outcome_in subject.now.bounds.now v terms.old target.now) (tape.now ∷ []))) }
+        (input_in (layout_of subject.now.pair.now subject.now.bounds.now) v terms.old input.now) (outcome_in (layout_of subject.now.pair.now subject.now.bounds.now) v terms.old target.now) (tape.now ∷ []))) }
     ensures kept { Keeps terms.old terms.new }
 {
     let candidate = known(alloc, tape, terms)?;
     let trial = Trial {
         source: &subject.source,
         bounds: subject.bounds,
+        layout: &subject.shape.layout,
         input,
         target,
     };
@@ -144,7 +148,7 @@ pub fn target_run(
 {
     let outcome = subject
         .target
-        .encode(alloc, subject.bounds, input, tape, terms)?;
+        .encode(alloc, subject.bounds, &subject.shape.layout, input, tape, terms)?;
     Ok(outcome)
 }
 
@@ -168,6 +172,7 @@ pub fn unshifted(
     let trial = Trial {
         source: &subject.source,
         bounds: subject.bounds,
+        layout: &subject.shape.layout,
         input,
         target,
     };
@@ -197,7 +202,7 @@ pub fn covering(
     let target = target_run(alloc, subject, &input, &choices, terms)?;
     let source = subject
         .source
-        .encode(alloc, subject.bounds, &input, tape, terms)?;
+        .encode(alloc, subject.bounds, &subject.shape.layout, &input, tape, terms)?;
     let id = covered(&source, &target, terms)?;
     Ok(id)
 }

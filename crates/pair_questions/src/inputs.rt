@@ -14,7 +14,7 @@ use crate::variables::variable;
 use bv_terms::{TermId, Terms};
 use ir_tree::{IrType, Parameter};
 use mem_terms::{ArgTerms, ByteTerms, InputTerms, TapeTerms};
-use points::Shape;
+use points::{Layout, Shape};
 use std::alloc::Global;
 use support::{NoMemory, Sequence};
 
@@ -117,23 +117,22 @@ fn block_variables(
     Ok(Sequence::from_vec(places))
 }
 
-/// The contents of this number of given blocks.
+/// The contents of the given blocks.
 fn blocks_variables(
     alloc: Global,
-    blocks: u64,
-    bytes: u64,
+    layout: &Layout,
     terms: &mut Terms,
     order: &mut Vec<TermId>,
 ) -> Result<Sequence<Sequence<ByteTerms>>, NoMemory>
-    ensures count { IfOk result (λ places. length places ≡ blocks) }
-    ensures places { IfOk result (Each (IsBlockTerms bytes terms.new)) }
-    ensures order { OnOk result ((widths : List ℕ) → IsOrder terms.old order.old.items widths → IsOrder terms.new order.new.items (widths ++ blocks_widths bytes blocks)) }
+    ensures count { IfOk result (λ places. length places ≡ layout.now.blocks) }
+    ensures places { IfOk result (Each (IsBlockTerms layout.now.bytes terms.new)) }
+    ensures order { OnOk result ((widths : List ℕ) → IsOrder terms.old order.old.items widths → IsOrder terms.new order.new.items (widths ++ blocks_widths layout.now layout.now.blocks)) }
     ensures ids { IfOk result (λ places. order.new.items ≡ order.old.items ++ flat_map (flat_map byte_ids) places) }
     ensures kept { Extends terms.old terms.new }
 {
     let mut places = Vec::new(alloc);
-    for _block in 0..blocks {
-        let block = block_variables(alloc, bytes, terms, order)?;
+    for _block in 0..layout.blocks {
+        let block = block_variables(alloc, layout.bytes, terms, order)?;
         places.push(block)?;
     }
     Ok(Sequence::from_vec(places))
@@ -171,13 +170,13 @@ pub fn input_variables(
 ) -> Result<InputTerms, NoMemory>
     ensures input { IfOk result (IsInputOf shape.now terms.new) }
     ensures order { OnOk result ((widths : List ℕ) → IsOrder terms.old order.old.items widths → IsOrder terms.new order.new.items
-        (widths ++ (args_widths shape.now.parameters ++ (replicate shape.now.blocks 6 ++ blocks_widths shape.now.bytes shape.now.blocks)))) }
+        (widths ++ (args_widths shape.now.parameters ++ (replicate shape.now.layout.blocks 6 ++ blocks_widths shape.now.layout shape.now.layout.blocks)))) }
     ensures ids { IfOk result (λ input. order.new.items ≡ order.old.items ++ input_ids input) }
     ensures kept { Extends terms.old terms.new }
 {
     let args = arg_variables(alloc, shape.parameters.as_slice(), terms, order)?;
-    let sizes = row_of_variables(alloc, shape.blocks, SIZE_WIDTH, terms, order)?;
-    let places = blocks_variables(alloc, shape.blocks, shape.bytes, terms, order)?;
+    let sizes = row_of_variables(alloc, shape.layout.blocks, SIZE_WIDTH, terms, order)?;
+    let places = blocks_variables(alloc, &shape.layout, terms, order)?;
     Ok(InputTerms {
         args,
         sizes,

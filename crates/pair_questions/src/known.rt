@@ -1,12 +1,14 @@
 //! A known input as terms.
 
 ghost use Rattle.std.specs.Prelude.{◌≡◌, ◌≤◌, All, IfOk, List, length, map, ℕ};
+ghost use Rattle.points.specs.declared.point.Layout.{Layout};
 ghost use Rattle.points.specs.Code.{ArgsFit, ByteFits, BytesFit, IsOfShape, PointerFits, ValueFits};
 ghost use Rattle.points.specs.Run.{block_number};
 ghost use Rattle.bv_terms.specs.Trees.{IsTerm, Keeps, Makes, term_at};
 ghost use Rattle.mem_terms.specs.Values.{Each, reading};
 ghost use Rattle.mem_terms.specs.Inputs.{AreArgs, IsArg, IsBlockTerms, IsByteTerms, arg_at, args_at, given_byte_at, input_at};
 ghost use Rattle.refine_terms.specs.Numbers.{IsInputOf};
+ghost use Rattle.pair_questions.specs.Shapes.{nameable};
 
 use crate::inputs::SIZE_WIDTH;
 use bv_terms::{TermId, Terms};
@@ -29,7 +31,7 @@ fn block_number(name: BlockName) -> u64
 
 /// A pointer's block, in 3 bits, and its offset.
 fn known_pointer(pointer: Ptr, terms: &mut Terms) -> Result<(TermId, TermId), NoMemory>
-    requires { PointerFits 7 pointer }
+    requires { PointerFits nameable pointer }
     ensures block { IfOk result (λ p. Makes terms.new p.0 3 (λ v. block_number pointer.block)) }
     ensures offset { IfOk result (λ p. Makes terms.new p.1 64 (λ v. pointer.offset)) }
     ensures kept { Keeps terms.old terms.new }
@@ -41,9 +43,9 @@ fn known_pointer(pointer: Ptr, terms: &mut Terms) -> Result<(TermId, TermId), No
 
 /// An argument that is this value, which fits the type.
 fn known_arg(of_type: IrType, value: Value, terms: &mut Terms) -> Result<ArgTerms, NoMemory>
-    requires { ValueFits 7 of_type value }
+    requires { ValueFits nameable of_type value }
     ensures is { IfOk result (IsArg terms.new of_type) }
-    ensures stands { IfOk result (λ arg. (blocks : ℕ) (v : ℕ → ℕ → ℕ) → ValueFits blocks of_type value → arg_at (reading blocks v) terms.new arg ≡ value) }
+    ensures stands { IfOk result (λ arg. (layout : Layout) (v : ℕ → ℕ → ℕ) → ValueFits layout of_type value → arg_at (reading layout.blocks v) terms.new arg ≡ value) }
     ensures kept { Keeps terms.old terms.new }
 {
     match (of_type, value) {
@@ -86,9 +88,9 @@ fn known_args(
     args: &[Value],
     terms: &mut Terms,
 ) -> Result<Sequence<ArgTerms>, NoMemory>
-    requires { ArgsFit 7 parameters.now args.now }
+    requires { ArgsFit nameable parameters.now args.now }
     ensures are { IfOk result (AreArgs terms.new parameters.now) }
-    ensures stands { IfOk result (λ known. (blocks : ℕ) (v : ℕ → ℕ → ℕ) → ArgsFit blocks parameters.now args.now → args_at (reading blocks v) terms.new known ≡ args.now) }
+    ensures stands { IfOk result (λ known. (layout : Layout) (v : ℕ → ℕ → ℕ) → ArgsFit layout parameters.now args.now → args_at (reading layout.blocks v) terms.new known ≡ args.now) }
     ensures kept { Keeps terms.old terms.new }
 {
     let mut known = Vec::new(alloc);
@@ -101,9 +103,9 @@ fn known_args(
 
 /// This byte as terms.
 fn known_byte(byte: Byte, terms: &mut Terms) -> Result<ByteTerms, NoMemory>
-    requires { ByteFits 7 byte }
+    requires { ByteFits nameable byte }
     ensures is { IfOk result (IsByteTerms terms.new) }
-    ensures stands { IfOk result (λ known. (blocks : ℕ) (v : ℕ → ℕ → ℕ) → ByteFits blocks byte → given_byte_at (reading blocks v) terms.new known ≡ byte) }
+    ensures stands { IfOk result (λ known. (layout : Layout) (v : ℕ → ℕ → ℕ) → ByteFits layout byte → given_byte_at (reading layout.blocks v) terms.new known ≡ byte) }
     ensures kept { Keeps terms.old terms.new }
 {
     let null = Ptr {
@@ -134,9 +136,9 @@ fn known_places(
     bytes: &[Byte],
     terms: &mut Terms,
 ) -> Result<Sequence<ByteTerms>, NoMemory>
-    requires { BytesFit 7 bytes.now }
+    requires { BytesFit nameable bytes.now }
     ensures are { IfOk result (IsBlockTerms (length bytes.now) terms.new) }
-    ensures stands { IfOk result (λ known. (blocks : ℕ) (v : ℕ → ℕ → ℕ) → BytesFit blocks bytes.now → map (given_byte_at (reading blocks v) terms.new) known ≡ bytes.now) }
+    ensures stands { IfOk result (λ known. (layout : Layout) (v : ℕ → ℕ → ℕ) → BytesFit layout bytes.now → map (given_byte_at (reading layout.blocks v) terms.new) known ≡ bytes.now) }
     ensures kept { Keeps terms.old terms.new }
 {
     let mut known = Vec::new(alloc);
@@ -173,11 +175,11 @@ fn known_blocks(
     blocks: &[MemoryBlock],
     terms: &mut Terms,
 ) -> Result<Sequence<Sequence<ByteTerms>>, NoMemory>
-    requires { All (λ (b : MemoryBlock). BytesFit 7 b.places) blocks.now }
+    requires { All (λ (b : MemoryBlock). BytesFit nameable b.places) blocks.now }
     ensures count { IfOk result (λ known. length known ≡ length blocks.now) }
     ensures are { IfOk result (λ known. (bytes : ℕ) → All (λ (b : MemoryBlock). length b.places ≡ bytes) blocks.now → Each (IsBlockTerms bytes terms.new) known) }
-    ensures stands { IfOk result (λ known. (given : ℕ) (v : ℕ → ℕ → ℕ) → All (λ (b : MemoryBlock). BytesFit given b.places) blocks.now
-        → map (λ (places : List ByteTerms). map (given_byte_at (reading given v) terms.new) places) known ≡ map (λ (b : MemoryBlock). b.places) blocks.now) }
+    ensures stands { IfOk result (λ known. (layout : Layout) (v : ℕ → ℕ → ℕ) → All (λ (b : MemoryBlock). BytesFit layout b.places) blocks.now
+        → map (λ (places : List ByteTerms). map (given_byte_at (reading layout.blocks v) terms.new) places) known ≡ map (λ (b : MemoryBlock). b.places) blocks.now) }
     ensures kept { Keeps terms.old terms.new }
 {
     let mut known = Vec::new(alloc);
@@ -197,10 +199,10 @@ pub fn known_input(
     terms: &mut Terms,
 ) -> Result<InputTerms, NoMemory>
     requires point { IsOfShape shape.now point.now }
-    requires blocks { shape.now.blocks ≤ 7 }
-    requires bytes { shape.now.bytes ≤ 63 }
+    requires blocks { shape.now.layout.blocks ≤ 7 }
+    requires bytes { shape.now.layout.bytes ≤ 63 }
     ensures is { IfOk result (IsInputOf shape.now terms.new) }
-    ensures stands { IfOk result (λ known. (v : ℕ → ℕ → ℕ) → input_at (reading shape.now.blocks v) terms.new known ≡ point.now.input) }
+    ensures stands { IfOk result (λ known. (v : ℕ → ℕ → ℕ) → input_at (reading shape.now.layout.blocks v) terms.new known ≡ point.now.input) }
     ensures kept { Keeps terms.old terms.new }
 {
     let input = &point.input;

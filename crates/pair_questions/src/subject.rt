@@ -7,7 +7,7 @@ ghost use Rattle.pair_questions.specs.Subjects.{IsSubject};
 
 use crate::encodable::Encodable;
 use pair_costs::{need, widest_of};
-use points::{Bounds, Shape};
+use points::{Bounds, Layout, Shape};
 use std::alloc::Global;
 use support::{NoMemory, Sequence};
 use verdicts::Pair;
@@ -32,8 +32,10 @@ fn shape_of(alloc: Global, pair: &Pair, bounds: &Bounds) -> Result<Shape, NoMemo
     let target = pair.target();
     Ok(Shape {
         parameters: Sequence::from_vec(target.parameters.as_slice().to_vec(alloc)?),
-        blocks: bounds.blocks,
-        bytes: bounds.bytes,
+        layout: Layout {
+            blocks: bounds.blocks,
+            bytes: bounds.bytes,
+        },
         words: need(target, bounds.turns)?,
         word_width: widest_of(target),
     })

@@ -3,6 +3,7 @@ use Rattle.mem_terms.proofs.Later.{is_input-later, is_outcome-later}
 use Rattle.pair_questions.proofs.SameTapes.{narrowed_same, same_as}
 use Rattle.pair_questions.proofs.Trying.{a_trial}
 use Rattle.pair_questions.proofs.Uncovering.{shape_input, source_input}
+use Rattle.verdicts.specs.Pair.{layout_of}
 use Rattle.pair_questions.proofs.goals.and_no_tape.Goals as goal
 
 pub and_uncovered-requires-clause-trial : goal.and_uncovered-requires-clause-trial
@@ -13,9 +14,9 @@ and_uncovered-requires-clause-trial c =
     let pair = s.pair.now in
     let bounds = s.bounds.now in
     let input = c.args.input.now in
-    let there = source_input old pair.source pair.target bounds.blocks bounds.bytes input c.requires.subject.signature (shape_input pair bounds s.shape old input c.requires.subject.shape c.requires.input) in
-    a_trial mid _ pair.source c.requires.subject.of_source c.requires.subject.source c.requires.subject.ready.source_run
-    (is_input-later old mid c.known.ensures.kept pair.source.parameters bounds.blocks bounds.bytes input there) (is_outcome-later old mid c.known.ensures.kept c.args.target.now c.requires.target) c.requires.given
+    let there = source_input old pair.source pair.target (layout_of pair bounds) input c.requires.subject.signature (shape_input pair bounds s.shape old input c.requires.subject.shape c.requires.input) in
+    rw c.requires.subject.shape.layout (a_trial mid _ pair.source c.requires.subject.of_source c.requires.subject.source c.requires.subject.ready.source_run
+    (is_input-later old mid c.known.ensures.kept pair.source.parameters (layout_of pair bounds) input there) (is_outcome-later old mid c.known.ensures.kept c.args.target.now c.requires.target) c.requires.given)
 
 pub returns-clause-made : goal.returns-clause-made
 returns-clause-made c =
@@ -26,6 +27,6 @@ returns-clause-made c =
     let bounds = s.bounds.now in
     let input = c.args.input.now in
     let candidate = c.in_ok-candidate.candidate in
-    let there = source_input old pair.source pair.target bounds.blocks bounds.bytes input c.requires.subject.signature (shape_input pair bounds s.shape old input c.requires.subject.shape c.requires.input) in
-    narrowed_same old mid c.and_uncovered.new.terms pair.source bounds input c.args.target.now c.args.goal c.in_ok-id.id (candidate ∷ []) (λ v. c.args.tape.now ∷ []) c.known.ensures.kept there c.requires.target c.requires.goal
-    (λ v. same_as _ _ (ap (λ ws. ws ∷ []) (c.in_ok-candidate.ensures.stands v))) (rw c.requires.subject.of_source at c.in_ok-id.ensures.made)
+    let there = source_input old pair.source pair.target (layout_of pair bounds) input c.requires.subject.signature (shape_input pair bounds s.shape old input c.requires.subject.shape c.requires.input) in
+    narrowed_same old mid c.and_uncovered.new.terms pair.source bounds (layout_of pair bounds) input c.args.target.now c.args.goal c.in_ok-id.id (candidate ∷ []) (λ v. c.args.tape.now ∷ []) c.known.ensures.kept there c.requires.target c.requires.goal
+    (λ v. same_as _ _ (ap (λ ws. ws ∷ []) (c.in_ok-candidate.ensures.stands v))) (rw (c.requires.subject.of_source, c.requires.subject.shape.layout) at c.in_ok-id.ensures.made)

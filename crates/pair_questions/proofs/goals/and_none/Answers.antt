@@ -27,6 +27,7 @@ loop-candidate-preserved c =
     let input = c.args.trial.now.input.now in
     let target = c.args.trial.now.target.now in
     let bounds = c.args.trial.now.bounds.now in
+    let layout = c.args.trial.now.layout.now in
     let i = c.loop-candidate.candidate-index in
     let tapes = c.args.candidates.now in
     let tape = c.candidate-item.result in
@@ -37,9 +38,9 @@ loop-candidate-preserved c =
       kept = keeps_trans old before after kept c.and_uncovered.ensures.kept;
       goal = record { within = made.within; wide = made.wide };
       rest =
-          tried_more old before before after f bounds input target c.loop-candidate.goal c.in_ok-goal.goal (λ v. words_at v old tape.words) tape.words
+          tried_more old before before after f bounds layout input target c.loop-candidate.goal c.in_ok-goal.goal (λ v. words_at v old tape.words) tape.words
           (λ v. drop (i + 1) (tapes_at v old tapes))
-          (λ v. bit_at v old c.args.goal && none_allows f bounds (input_in bounds v old input) (outcome_in bounds v old target) (tapes_at v old tapes))
+          (λ v. bit_at v old c.args.goal && none_allows f bounds (input_in layout v old input) (outcome_in layout v old target) (tapes_at v old tapes))
           c.requires.trial.input c.requires.trial.target kept (keeps_self before) c.loop-candidate.invariant.goal
           (λ v. words_at-later old before kept v tape.words are) c.in_ok-goal.ensures.made
           (λ v. rw (mapped_more (λ (t : TapeTerms). words_at v old t.words) tapes (tapes_at v old tapes) i tape refl c.loop-candidate-test.true, ← c.candidate-item.is) at (c.loop-candidate.invariant.rest v));
@@ -48,6 +49,7 @@ loop-candidate-preserved c =
 pub returns-clause-made : goal.returns-clause-made
 returns-clause-made c =
     let bounds = c.args.trial.now.bounds.now in
+    let layout = c.args.trial.now.layout.now in
     let old = c.args.terms.now in
     let f = c.args.trial.now.source.now.of.now in
     let tapes = c.args.candidates.now in
@@ -56,7 +58,7 @@ returns-clause-made c =
       wide = c.loop-candidate.invariant.goal.wide;
       says = λ v.
           tried_all (bit_at v c.loop-candidate.terms c.loop-candidate.goal)
-          (bit_at v old c.args.goal && none_allows f bounds (input_in bounds v old c.args.trial.now.input.now) (outcome_in bounds v old c.args.trial.now.target.now) (tapes_at v old tapes))
-          f bounds (input_in bounds v old c.args.trial.now.input.now) (outcome_in bounds v old c.args.trial.now.target.now) (drop c.loop-candidate.candidate-index (tapes_at v old tapes))
+          (bit_at v old c.args.goal && none_allows f bounds (input_in layout v old c.args.trial.now.input.now) (outcome_in layout v old c.args.trial.now.target.now) (tapes_at v old tapes))
+          f bounds (input_in layout v old c.args.trial.now.input.now) (outcome_in layout v old c.args.trial.now.target.now) (drop c.loop-candidate.candidate-index (tapes_at v old tapes))
           (tapes_behind v old tapes c.loop-candidate.candidate-index c.loop-candidate-test.false) (c.loop-candidate.invariant.rest v);
     }

@@ -9,6 +9,6 @@ invariant-loop-candidate l = record {
   kept : Keeps l.fn.terms l.terms;
   goal : IsTerm l.terms 1 l.goal;
   rest : (v : ℕ → ℕ → ℕ)
-      → (bit_at v l.terms l.goal && none_allows l.trial.source.now.of.now l.trial.bounds.now (input_in l.trial.bounds.now v l.fn.terms l.trial.input.now) (outcome_in l.trial.bounds.now v l.fn.terms l.trial.target.now) (drop l.candidate-index (tapes_at v l.fn.terms l.candidates)))
-      ≡ (bit_at v l.fn.terms l.fn.goal && none_allows l.trial.source.now.of.now l.trial.bounds.now (input_in l.trial.bounds.now v l.fn.terms l.trial.input.now) (outcome_in l.trial.bounds.now v l.fn.terms l.trial.target.now) (tapes_at v l.fn.terms l.candidates));
+      → (bit_at v l.terms l.goal && none_allows l.trial.source.now.of.now l.trial.bounds.now (input_in l.trial.layout.now v l.fn.terms l.trial.input.now) (outcome_in l.trial.layout.now v l.fn.terms l.trial.target.now) (drop l.candidate-index (tapes_at v l.fn.terms l.candidates)))
+      ≡ (bit_at v l.fn.terms l.fn.goal && none_allows l.trial.source.now.of.now l.trial.bounds.now (input_in l.trial.layout.now v l.fn.terms l.trial.input.now) (outcome_in l.trial.layout.now v l.fn.terms l.trial.target.now) (tapes_at v l.fn.terms l.candidates));
 }

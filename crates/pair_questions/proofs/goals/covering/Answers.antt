@@ -3,6 +3,7 @@ use Rattle.mem_terms.proofs.Later.{keeps_trans, is_input-later, words-later, is_
 use Rattle.pair_questions.proofs.Fitting.{of_shape}
 use Rattle.pair_questions.proofs.Trying.{covered_in}
 use Rattle.pair_questions.proofs.Uncovering.{shape_input, source_input, covering_decides}
+use Rattle.verdicts.specs.Pair.{layout_of}
 use Rattle.pair_questions.proofs.goals.covering.Goals as goal
 
 pub known_input-requires-clause-point : goal.known_input-requires-clause-point
@@ -11,15 +12,15 @@ known_input-requires-clause-point c =
     of_shape s.pair.now s.bounds.now s.shape c.requires.subject.shape c.args.point.now c.requires.point
 
 pub known_input-requires-clause-blocks : goal.known_input-requires-clause-blocks
-known_input-requires-clause-blocks c = rw c.requires.subject.shape.blocks (omega (arith, c.requires.subject.ready.small.blocks))
+known_input-requires-clause-blocks c = rw c.requires.subject.shape.layout (omega (arith, c.requires.subject.ready.small.blocks))
 
 pub known_input-requires-clause-bytes : goal.known_input-requires-clause-bytes
-known_input-requires-clause-bytes c = rw c.requires.subject.shape.bytes (omega (arith, c.requires.subject.ready.small.bytes))
+known_input-requires-clause-bytes c = rw c.requires.subject.shape.layout (omega (arith, c.requires.subject.ready.small.bytes))
 
 pub target_run-requires-clause-input : goal.target_run-requires-clause-input
 target_run-requires-clause-input c =
     let s = c.args.subject.now in
-    is_input-later c.known_input.new.terms c.known.new.terms c.known.ensures.kept s.shape.parameters s.shape.blocks s.shape.bytes c.in_ok-input.input c.in_ok-input.ensures.is
+    is_input-later c.known_input.new.terms c.known.new.terms c.known.ensures.kept s.shape.parameters s.shape.layout c.in_ok-input.input c.in_ok-input.ensures.is
 
 pub encode-requires-clause-input : goal.encode-requires-clause-input
 encode-requires-clause-input c =
@@ -29,8 +30,8 @@ encode-requires-clause-input c =
     let one = c.known_input.new.terms in
     let three = c.target_run.new.terms in
     let input = c.in_ok-input.input in
-    let there = source_input one pair.source pair.target bounds.blocks bounds.bytes input c.requires.subject.signature (shape_input pair bounds s.shape one input c.requires.subject.shape c.in_ok-input.ensures.is) in
-    rw c.requires.subject.of_source (is_input-later one three (keeps_trans one c.known.new.terms three c.known.ensures.kept c.target_run.ensures.kept) pair.source.parameters bounds.blocks bounds.bytes input there)
+    let there = source_input one pair.source pair.target (layout_of pair bounds) input c.requires.subject.signature (shape_input pair bounds s.shape one input c.requires.subject.shape c.in_ok-input.ensures.is) in
+    rw (c.requires.subject.of_source, c.requires.subject.shape.layout) (is_input-later one three (keeps_trans one c.known.new.terms three c.known.ensures.kept c.target_run.ensures.kept) pair.source.parameters (layout_of pair bounds) input there)
 
 pub encode-requires-clause-tape : goal.encode-requires-clause-tape
 encode-requires-clause-tape c =
@@ -53,7 +54,7 @@ pub covered-requires-clause-target : goal.covered-requires-clause-target
 covered-requires-clause-target c = is_outcome-later c.target_run.new.terms c.encode.new.terms c.encode.ensures.kept c.in_ok-target.target c.in_ok-target.ensures.made.made
 
 pub covered-requires-clause-frames : goal.covered-requires-clause-frames
-covered-requires-clause-frames c = c.in_ok-target.ensures.made.given ∙ sym c.in_ok-source.ensures.given
+covered-requires-clause-frames c = c.in_ok-target.ensures.made.given ∙ sym (rw c.requires.subject.shape.layout at c.in_ok-source.ensures.given)
 
 pub returns-in_err-id-clause-kept : goal.returns-in_err-id-clause-kept
 returns-in_err-id-clause-kept c =
@@ -73,8 +74,8 @@ returns-clause-made c =
     c.values_fit.ensures c.requires.words (c.requires.count ∙ c.requires.subject.need) c.requires.subject.shape c.in_ok-input.ensures.is c.in_ok-choices.ensures.are
     c.known_input.ensures.kept c.known.ensures.kept c.target_run.ensures.kept c.encode.ensures.kept
     c.in_ok-input.ensures.stands (λ v. c.in_ok-choices.ensures.stands v ∙ c.as_slice.ensures) c.in_ok-target.ensures.made
-    (λ v. rw c.requires.subject.of_source at (c.in_ok-source.ensures.stands v))
-    (covered_in c.encode.new.terms c.covered.new.terms s.bounds.now c.in_ok-source.source c.in_ok-target.target c.in_ok-id.id c.in_ok-source.ensures.given c.in_ok-id.ensures.made)
+    (λ v. rw (c.requires.subject.of_source, c.requires.subject.shape.layout) at (c.in_ok-source.ensures.stands v))
+    (covered_in c.encode.new.terms c.covered.new.terms (layout_of s.pair.now s.bounds.now) c.in_ok-source.source c.in_ok-target.target c.in_ok-id.id (rw c.requires.subject.shape.layout at c.in_ok-source.ensures.given) c.in_ok-id.ensures.made)
 
 pub returns-clause-kept : goal.returns-clause-kept
 returns-clause-kept c =

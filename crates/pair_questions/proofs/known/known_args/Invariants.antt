@@ -1,5 +1,6 @@
 -- The arguments so far are those of the first values.
 use Rattle.std.proofs.Common.{ℕ, ◌≡◌, take}
+use Rattle.points.specs.declared.point.Layout.{Layout}
 use Rattle.points.specs.Code.{ArgsFit}
 use Rattle.bv_terms.specs.Trees.{Keeps}
 use Rattle.mem_terms.specs.Values.{reading}
@@ -10,5 +11,5 @@ abbrev pub invariant-loop-i : goal.invariant-loop-i
 invariant-loop-i l = record {
   kept : Keeps l.fn.terms l.terms;
   are : AreArgs l.terms (take l.i l.parameters) l.known.items;
-  stands : (blocks : ℕ) (v : ℕ → ℕ → ℕ) → ArgsFit blocks l.parameters l.args → args_at (reading blocks v) l.terms l.known.items ≡ take l.i l.args;
+  stands : (layout : Layout) (v : ℕ → ℕ → ℕ) → ArgsFit layout l.parameters l.args → args_at (reading layout.blocks v) l.terms l.known.items ≡ take l.i l.args;
 }

@@ -9,11 +9,12 @@ use Rattle.mem_terms.proofs.Eaches.{map-same}
 use Rattle.mem_terms.proofs.Later.{keeps_trans, byte_lists-later, block_terms_each-later, given_bytes_at-later}
 use Rattle.pair_questions.proofs.Extending.{each_more}
 use Rattle.pair_questions.proofs.Knowing.{block_counted, count_more, images_more}
+use Rattle.pair_questions.specs.Shapes.{nameable}
 use Rattle.pair_questions.proofs.known.known_blocks.Goals as goal
 
 pub known_places-requires : goal.known_places-requires
 known_places-requires c =
-    rw c.as_slice.ensures (subst (λ (b : MemoryBlock). BytesFit 7 b.places) (sym c.block-item.is) (c.requires c.loop-block.block-index c.block-item.result c.loop-block-test.true))
+    rw c.as_slice.ensures (subst (λ (b : MemoryBlock). BytesFit nameable b.places) (sym c.block-item.is) (c.requires c.loop-block.block-index c.block-item.result c.loop-block-test.true))
 
 pub loop-block-preserved : goal.loop-block-preserved
 loop-block-preserved c =
@@ -35,11 +36,11 @@ loop-block-preserved c =
       are = λ bytes all.
           each_more (IsBlockTerms bytes after) known more places (block_terms_each-later before after kept bytes known (c.loop-block.invariant.are bytes all))
           (block_counted after bytes (length block.places) places (ap (λ (b : MemoryBlock). length b.places) c.block-item.is ∙ all i block c.loop-block-test.true) are) c.in_ok-push.ensures.items;
-      stands = λ given v all.
-          images_more (λ (ps : List ByteTerms). map (given_byte_at (reading given v) after) ps) (λ (b : MemoryBlock). b.places) known more places blocks i block c.in_ok-push.ensures.items c.loop-block-test.true c.block-item.is
-          (map-same (Each (IsByteTerms before)) (λ (ps : List ByteTerms). map (given_byte_at (reading given v) after) ps) (λ (ps : List ByteTerms). map (given_byte_at (reading given v) before) ps) known
-          (λ ps h. given_bytes_at-later before after kept (reading given v) ps h) c.loop-block.invariant.bytes ∙ c.loop-block.invariant.stands given v all)
-          ((rw c.as_slice.ensures at (c.in_ok-places.ensures.stands given v)) (subst (λ (b : MemoryBlock). BytesFit given b.places) (sym c.block-item.is) (all i block c.loop-block-test.true)));
+      stands = λ layout v all.
+          images_more (λ (ps : List ByteTerms). map (given_byte_at (reading layout.blocks v) after) ps) (λ (b : MemoryBlock). b.places) known more places blocks i block c.in_ok-push.ensures.items c.loop-block-test.true c.block-item.is
+          (map-same (Each (IsByteTerms before)) (λ (ps : List ByteTerms). map (given_byte_at (reading layout.blocks v) after) ps) (λ (ps : List ByteTerms). map (given_byte_at (reading layout.blocks v) before) ps) known
+          (λ ps h. given_bytes_at-later before after kept (reading layout.blocks v) ps h) c.loop-block.invariant.bytes ∙ c.loop-block.invariant.stands layout v all)
+          ((rw c.as_slice.ensures at (c.in_ok-places.ensures.stands layout v)) (subst (λ (b : MemoryBlock). BytesFit layout b.places) (sym c.block-item.is) (all i block c.loop-block-test.true)));
     }
 
 pub returns-clause-count : goal.returns-clause-count
@@ -49,5 +50,5 @@ pub returns-clause-are : goal.returns-clause-are
 returns-clause-are c bytes all = rw c.from_vec.ensures (c.loop-block.invariant.are bytes all)
 
 pub returns-clause-stands : goal.returns-clause-stands
-returns-clause-stands c given v all =
-    rw c.from_vec.ensures (c.loop-block.invariant.stands given v all ∙ ap (map (λ (b : MemoryBlock). b.places)) (take_all c.loop-block.block-index c.args.blocks.now c.loop-block-test.false))
+returns-clause-stands c layout v all =
+    rw c.from_vec.ensures (c.loop-block.invariant.stands layout v all ∙ ap (map (λ (b : MemoryBlock). b.places)) (take_all c.loop-block.block-index c.args.blocks.now c.loop-block-test.false))

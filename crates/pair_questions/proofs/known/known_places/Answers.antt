@@ -5,10 +5,11 @@ use Rattle.mem_terms.specs.Inputs.{IsByteTerms, given_byte_at}
 use Rattle.mem_terms.proofs.Later.{keeps_trans, byte_terms_each-later, given_bytes_at-later}
 use Rattle.pair_questions.proofs.Extending.{each_more}
 use Rattle.pair_questions.proofs.Knowing.{bytes_at, count_more, map_more}
+use Rattle.pair_questions.specs.Shapes.{nameable}
 use Rattle.pair_questions.proofs.known.known_places.Goals as goal
 
 pub known_byte-requires : goal.known_byte-requires
-known_byte-requires c = bytes_at 7 c.args.bytes.now c.loop-byte.byte-index _ c.requires c.loop-byte-test.true
+known_byte-requires c = bytes_at nameable c.args.bytes.now c.loop-byte.byte-index _ c.requires c.loop-byte-test.true
 
 pub loop-byte-preserved : goal.loop-byte-preserved
 loop-byte-preserved c =
@@ -25,10 +26,10 @@ loop-byte-preserved c =
       kept = keeps_trans old before after c.loop-byte.invariant.kept kept;
       count = count_more known more place bytes i c.loop-byte.invariant.count c.in_ok-push.ensures.items c.loop-byte-test.true;
       are = each_more (IsByteTerms after) known more place (byte_terms_each-later before after kept known c.loop-byte.invariant.are) c.in_ok-place.ensures.is c.in_ok-push.ensures.items;
-      stands = λ blocks v fits.
-          map_more (given_byte_at (reading blocks v) after) known more place bytes i _ c.in_ok-push.ensures.items c.loop-byte-test.true
-          (given_bytes_at-later before after kept (reading blocks v) known c.loop-byte.invariant.are ∙ c.loop-byte.invariant.stands blocks v fits)
-          (c.in_ok-place.ensures.stands blocks v (bytes_at blocks bytes i _ fits c.loop-byte-test.true));
+      stands = λ layout v fits.
+          map_more (given_byte_at (reading layout.blocks v) after) known more place bytes i _ c.in_ok-push.ensures.items c.loop-byte-test.true
+          (given_bytes_at-later before after kept (reading layout.blocks v) known c.loop-byte.invariant.are ∙ c.loop-byte.invariant.stands layout v fits)
+          (c.in_ok-place.ensures.stands layout v (bytes_at layout bytes i _ fits c.loop-byte-test.true));
     }
 
 pub returns-clause-are : goal.returns-clause-are
@@ -37,4 +38,4 @@ returns-clause-are c =
     rw c.from_vec.ensures (record { count = c.loop-byte.invariant.count ∙ ap length whole; are = c.loop-byte.invariant.are })
 
 pub returns-clause-stands : goal.returns-clause-stands
-returns-clause-stands c blocks v fits = rw c.from_vec.ensures (c.loop-byte.invariant.stands blocks v fits ∙ take_all c.loop-byte.byte-index c.args.bytes.now c.loop-byte-test.false)
+returns-clause-stands c layout v fits = rw c.from_vec.ensures (c.loop-byte.invariant.stands layout v fits ∙ take_all c.loop-byte.byte-index c.args.bytes.now c.loop-byte-test.false)

@@ -1,5 +1,6 @@
 -- The contents so far are those of the first bytes.
 use Rattle.std.proofs.Common.{ℕ, ◌≡◌, length, map, take}
+use Rattle.points.specs.declared.point.Layout.{Layout}
 use Rattle.points.specs.Code.{BytesFit}
 use Rattle.bv_terms.specs.Trees.{Keeps}
 use Rattle.mem_terms.specs.Values.{Each, reading}
@@ -11,5 +12,5 @@ invariant-loop-byte l = record {
   kept : Keeps l.fn.terms l.terms;
   count : length l.known.items ≡ length (take l.byte-index l.bytes);
   are : Each (IsByteTerms l.terms) l.known.items;
-  stands : (blocks : ℕ) (v : ℕ → ℕ → ℕ) → BytesFit blocks l.bytes → map (given_byte_at (reading blocks v) l.terms) l.known.items ≡ take l.byte-index l.bytes;
+  stands : (layout : Layout) (v : ℕ → ℕ → ℕ) → BytesFit layout l.bytes → map (given_byte_at (reading layout.blocks v) l.terms) l.known.items ≡ take l.byte-index l.bytes;
 }

@@ -7,12 +7,12 @@ use Rattle.pair_questions.proofs.encodable.Encodable.encode.Goals as goal
 
 pub encode-requires-clause-input : goal.encode-requires-clause-input
 encode-requires-clause-input c =
-    rw c.encoded_of-f.ensures (c.requires.encodable.stands_in.inputs c.args.bounds.now.blocks c.args.bounds.now.bytes c.args.terms.now c.args.input.now c.requires.input)
+    rw c.encoded_of-f.ensures (c.requires.encodable.stands_in.inputs c.args.layout.now c.args.terms.now c.args.input.now c.requires.input)
 
 pub returns-clause-stands : goal.returns-clause-stands
 returns-clause-stands c =
     let old = c.args.terms.now in
-    let blocks = c.args.bounds.now.blocks in
+    let blocks = c.args.layout.now.blocks in
     let words = c.args.tape.now.words in
     λ v. subst (λ (run : Run). Shows (reading blocks v) c.encode.new.terms (words_at v old words) run c.in_ok-outcome.outcome)
     (c.requires.encodable.stands_in.runs c.args.bounds.now (input_at (reading blocks v) old c.args.input.now) (words_at v old words))

@@ -25,7 +25,7 @@ pub unshifted-requires-clause-input : goal.unshifted-requires-clause-input
 unshifted-requires-clause-input c =
     let s = c.args.subject.now.shape in
     let there = input_extended c.input_variables.new.terms c.tape_variables.new.terms c.tape_variables.ensures.kept s c.in_ok-input.input c.in_ok-input.ensures.input in
-    is_input-later c.tape_variables.new.terms c.target_run.new.terms c.target_run.ensures.kept s.parameters s.blocks s.bytes c.in_ok-input.input there
+    is_input-later c.tape_variables.new.terms c.target_run.new.terms c.target_run.ensures.kept s.parameters s.layout c.in_ok-input.input there
 
 pub unshifted-requires-clause-tape : goal.unshifted-requires-clause-tape
 unshifted-requires-clause-tape c = record {
@@ -52,12 +52,12 @@ returns-clause-question c =
     let widths = c.from_vec-3.ensures ∙ counted one order c.as_slice.result.now asked c.in_ok-widths.widths.items c.in_ok-widths.ensures.fit is c.as_slice.ensures.value c.in_ok-widths.ensures.widths in
     let ids = ids_are c.new-order.result.items c.input_variables.new.order.items order (input_ids input) tape.words c.new-order.ensures.items c.in_ok-input.ensures.ids c.in_ok-tape.ensures.ids in
     let start = input_extended c.input_variables.new.terms one c.tape_variables.ensures.kept s.shape input c.in_ok-input.ensures.input in
-    let there = is_input-later one two c.target_run.ensures.kept s.shape.parameters s.shape.blocks s.shape.bytes input start in
+    let there = is_input-later one two c.target_run.ensures.kept s.shape.parameters s.shape.layout input start in
     let words = words-later one two c.target_run.ensures.kept tape.words c.in_ok-tape.ensures.are in
     let none = c.from_vec.ensures ∙ c.new.ensures.items in
     record {
       tape = tape;
-      is_input = is_input-later two three k s.shape.parameters s.shape.blocks s.shape.bytes input there;
+      is_input = is_input-later two three k s.shape.parameters s.shape.layout input there;
       is_tape = record { count = c.in_ok-tape.ensures.count; words = words-later two three k tape.words words };
       ids = c.from_vec-2.ensures ∙ ids;
       order = order_asked one three order c.from_vec-2.result asked c.from_vec-3.result (keeps_trans one two three c.target_run.ensures.kept k) is c.from_vec-2.ensures widths;
