@@ -8,7 +8,8 @@ use Rattle.byte_block.specs.declared.value.BlockName.TheVariants.{Null, Given, L
 use Rattle.byte_block.specs.declared.value.Byte.{Byte}
 use Rattle.byte_block.specs.declared.value.Byte.TheVariants as byte
 use Rattle.byte_block.specs.declared.block.MemoryBlock.{MemoryBlock}
-use Rattle.points.specs.Refines.{same_name, same_pointer, byte_allows, bytes_of, block_allows, blocks_allow, returned_allows, is_refined}
+use Rattle.memory_access.specs.Blocks.{equal_names, block_bytes}
+use Rattle.points.specs.Refines.{same_pointer, byte_allows, block_allows, blocks_allow, returned_allows, is_refined}
 use Rattle.points.proofs.Allowed.{pairs_pass-same}
 use Rattle.points.specs.declared.machine.Machine.{Machine}
 use Rattle.points.specs.Run.{Run, is_given}
@@ -19,10 +20,10 @@ use Rattle.choice_interp.specs.Left.{left_by}
 use Rattle.choice_interp.proofs.Items.{all_kept}
 use Rattle.choice_interp.specs.Ran.{outcome_of, run_with}
 
-same_name-same : (b : BlockName) → same_name b b ≡ true
-same_name-same Null = refl
-same_name-same (Given i) = eq-eqb i i refl
-same_name-same (Local t p) = rw (eq-eqb t t refl, eq-eqb p p refl) refl
+equal_names-same : (b : BlockName) → equal_names b b ≡ true
+equal_names-same Null = refl
+equal_names-same (Given i) = eq-eqb i i refl
+equal_names-same (Local t p) = rw (eq-eqb t t refl, eq-eqb p p refl) refl
 
 same_pointer-same : (b : BlockName) (n : ℕ) → same_pointer b n b n ≡ true
 same_pointer-same Null n = eq-eqb n n refl
@@ -35,7 +36,7 @@ byte_allows-same (byte.Num n) = eq-eqb n n refl
 byte_allows-same (byte.Part p i) = rw (same_pointer-same p.block p.offset, eq-eqb i i refl) refl
 
 block_allows-same : (b : MemoryBlock) → block_allows b b ≡ true
-block_allows-same b = rw (same_name-same b.name, eq-eqb b.size b.size refl, pairs_pass-same byte_allows (bytes_of b) byte_allows-same) refl
+block_allows-same b = rw (equal_names-same b.name, eq-eqb b.size b.size refl, pairs_pass-same byte_allows (block_bytes b) byte_allows-same) refl
 
 pub blocks_allow-same : (bs : List MemoryBlock) → blocks_allow bs bs ≡ true
 blocks_allow-same bs = pairs_pass-same block_allows bs block_allows-same

@@ -3,9 +3,8 @@ ghost use Rattle.byte_block.specs.declared.block.MemoryBlock.{MemoryBlock};
 ghost use Rattle.points.specs.Refines.{is_refined};
 ghost use Rattle.choice_interp.specs.Ran.{outcome_of};
 
-use crate::comparing::blocks_are_allowed;
 use byte_block::{Memory, Value};
-use points::{Outcome, returned_is_allowed};
+use points::{Outcome, blocks_are_allowed, returned_is_allowed};
 
 /// How a run ends, without the memory that it leaves.
 #[derive(Clone, Copy, Debug, PartialEq, Eq)]

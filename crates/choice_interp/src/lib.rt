@@ -8,7 +8,6 @@
 mod assigning;
 mod blocks;
 mod choosing;
-mod comparing;
 mod ending;
 mod entry;
 mod flow;

@@ -4,7 +4,8 @@ ghost use Rattle.memory_access.specs.Blocks.{equal_names, equal_pointers, names,
 
 use byte_block::{BlockName, Byte, MemoryBlock, Ptr};
 
-fn is_equal_name(a: BlockName, b: BlockName) -> bool
+/// Whether two names are those of one block, or both null.
+pub fn is_equal_name(a: BlockName, b: BlockName) -> bool
     ensures { result ≡ equal_names a b }
 {
     match (a, b) {

@@ -12,7 +12,8 @@ use Rattle.points.specs.declared.point.Input.{Input}
 use Rattle.points.specs.declared.point.Point.{Point}
 use Rattle.points.specs.declared.point.Shape.{Shape}
 use Rattle.points.specs.declared.outcome.Outcome.{Outcome}
-use Rattle.verdicts.specs.Pair.{Functions, same_type, same_types, same_return, same_signature, layout_of}
+use Rattle.ir_tree.specs.Sites.{is_same_type}
+use Rattle.verdicts.specs.Pair.{Functions, same_types, same_return, same_signature, layout_of}
 use Rattle.points.specs.Code.{WordsFit, IsOfShape, code_of}
 use Rattle.points.specs.Codes.{IsCode}
 use Rattle.verdicts.specs.Covers.{covers, some_covers, shifted, is_covered}
@@ -63,7 +64,7 @@ three f e g h = cc
 
 -- ---- arguments of both functions
 
-arg_alike : (terms : List Term) (t u : IrType) (a : ArgTerms) → same_type t u ≡ true → IsArg terms u a → IsArg terms t a
+arg_alike : (terms : List Term) (t u : IrType) (a : ArgTerms) → is_same_type t u ≡ true → IsArg terms u a → IsArg terms t a
 arg_alike terms (Int v) (Int w) (arg.Int flag number) e h = (h.0, subst (λ n. IsTerm terms n number) (sym (eqb-true v.bits w.bits e)) h.1)
 arg_alike terms (Int v) (Int w) (arg.Ptr flag block offset) e h = absurd h
 arg_alike terms (Int v) Ptr a e h = absurd (let z : ⊥ = cc in z)
@@ -73,8 +74,8 @@ arg_alike terms Ptr Ptr a e h = h
 args_alike : (terms : List Term) (ps qs : List Parameter) (args : List ArgTerms) → same_types ps qs ≡ true → AreArgs terms qs args → AreArgs terms ps args
 args_alike terms [] [] args e h = h
 args_alike terms (p ∷ ps) (q ∷ qs) (a ∷ rest) e h = (
-  arg_alike terms p.of_type q.of_type a (and_left (same_type p.of_type q.of_type) (same_types ps qs) e) h.0,
-  args_alike terms ps qs rest (and_right (same_type p.of_type q.of_type) (same_types ps qs) e) h.1,
+  arg_alike terms p.of_type q.of_type a (and_left (is_same_type p.of_type q.of_type) (same_types ps qs) e) h.0,
+  args_alike terms ps qs rest (and_right (is_same_type p.of_type q.of_type) (same_types ps qs) e) h.1,
 )
 args_alike terms (p ∷ ps) (q ∷ qs) [] e h = absurd h
 args_alike terms [] (q ∷ qs) args e h = absurd (let z : ⊥ = cc in z)

@@ -12,6 +12,7 @@ use Rattle.byte_block.specs.declared.value.BlockName.TheVariants.{Null, Given, L
 use Rattle.byte_block.specs.declared.value.Byte.{Byte}
 use Rattle.byte_block.specs.declared.value.Byte.TheVariants as byte
 use Rattle.byte_block.specs.declared.block.MemoryBlock.{MemoryBlock}
+use Rattle.points.specs.Run.{block_number}
 use Rattle.points.specs.declared.point.Layout.{Layout}
 use Rattle.points.specs.declared.point.Point.{Point}
 use Rattle.points.specs.declared.point.Shape.{Shape}
@@ -89,11 +90,9 @@ pub record IsOfShape (s : Shape) (p : Point) : Type 0 where
 
 -- ---- their code
 
--- the number of a given block; null's is 0
+-- the block of a pointer as a number
 abbrev pub name_digit : Layout → BlockName → ℕ
-name_digit layout Null = 0
-name_digit layout (Given number) = number
-name_digit layout (Local turn place) = 0
+name_digit layout name = block_number name
 
 -- a flag, which is 1 for poison, and the number, or the block and the offset; what isn't used is 0
 abbrev pub value_code : Layout → IrType → Value → List ℕ

@@ -1,25 +1,20 @@
 -- Which outcomes of the target an outcome of the source allows (refinement as Alive2 defines it: Lopes, Lee, Hur, Liu, Regehr, "Alive2: Bounded Translation Validation for LLVM", PLDI 2021).
-use Rattle.std.specs.Prelude.{ℕ, Bool, true, false, ◌&&◌, nat_eq, List, [], ◌∷◌, take, Option, Some, None}
+use Rattle.std.specs.Prelude.{ℕ, Bool, true, false, ◌&&◌, nat_eq, List, [], ◌∷◌, Option, Some, None}
 use Rattle.byte_block.specs.declared.value.Value.{Value}
 use Rattle.byte_block.specs.declared.value.Value.TheVariants as value
 use Rattle.byte_block.specs.declared.value.BlockName.{BlockName}
-use Rattle.byte_block.specs.declared.value.BlockName.TheVariants.{Null, Given, Local}
+use Rattle.byte_block.specs.declared.value.BlockName.TheVariants.{Local}
 use Rattle.byte_block.specs.declared.value.Byte.{Byte}
 use Rattle.byte_block.specs.declared.value.Byte.TheVariants as byte
 use Rattle.byte_block.specs.declared.block.MemoryBlock.{MemoryBlock}
+use Rattle.memory_access.specs.Blocks.{equal_names, block_bytes}
 use Rattle.points.specs.declared.outcome.Outcome.{Outcome}
 use Rattle.points.specs.declared.outcome.Outcome.TheVariants.{Return, Ub, Beyond}
-
-abbrev pub same_name : BlockName → BlockName → Bool
-same_name Null Null = true
-same_name (Given i) (Given j) = nat_eq i j
-same_name (Local turn place) (Local turn' place') = nat_eq turn turn' && nat_eq place place'
-same_name _ _ = false
 
 -- two pointers after the run: one to a local block is dead, and all dead ones are equal
 abbrev pub same_pointer : BlockName → ℕ → BlockName → ℕ → Bool
 same_pointer (Local turn place) offset (Local turn' place') offset' = true
-same_pointer name offset name' offset' = same_name name name' && nat_eq offset offset'
+same_pointer name offset name' offset' = equal_names name name' && nat_eq offset offset'
 
 -- the source's value comes first
 abbrev pub value_allows : Value → Value → Bool
@@ -40,12 +35,8 @@ pairs_pass test [] [] = true
 pairs_pass test (s ∷ ss) (t ∷ ts) = test s t && pairs_pass test ss ts
 pairs_pass test _ _ = false
 
--- the bytes of a block are its contents below its size
-abbrev pub bytes_of : MemoryBlock → List Byte
-bytes_of b = take b.size b.places
-
 abbrev pub block_allows : MemoryBlock → MemoryBlock → Bool
-block_allows s t = same_name s.name t.name && nat_eq s.size t.size && pairs_pass byte_allows (bytes_of s) (bytes_of t)
+block_allows s t = equal_names s.name t.name && nat_eq s.size t.size && pairs_pass byte_allows (block_bytes s) (block_bytes t)
 
 -- the given blocks of a return, in order
 abbrev pub blocks_allow : List MemoryBlock → List MemoryBlock → Bool

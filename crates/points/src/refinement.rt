@@ -1,8 +1,10 @@
 ghost use Rattle.std.specs.Prelude.{◌≡◌, take};
-ghost use Rattle.points.specs.Refines.{same_name, same_pointer, value_allows, byte_allows, bytes_of, pairs_pass, block_allows, blocks_allow, returned_allows, is_refined};
+ghost use Rattle.memory_access.specs.Blocks.{block_bytes};
+ghost use Rattle.points.specs.Refines.{same_pointer, value_allows, byte_allows, pairs_pass, block_allows, blocks_allow, returned_allows, is_refined};
 
 use crate::outcome::Outcome;
 use byte_block::{BlockName, Byte, MemoryBlock, Ptr, Value};
+use memory_access::{bytes_in, is_equal_name};
 
 /// Whether the source's outcome allows the target's. A run past the bounds allows and is allowed
 /// everything, undefined behaviour of the source allows everything, and poison allows every value
@@ -46,20 +48,7 @@ fn is_same_pointer(p: Ptr, q: Ptr) -> bool
 {
     match (p.block, q.block) {
         (BlockName::Local(..), BlockName::Local(..)) => true,
-        (name, other) => is_same_name(name, other) && p.offset == q.offset,
-    }
-}
-
-fn is_same_name(a: BlockName, b: BlockName) -> bool
-    ensures { result ≡ same_name a b }
-{
-    match (a, b) {
-        (BlockName::Null, BlockName::Null) => true,
-        (BlockName::Given(i), BlockName::Given(j)) => i == j,
-        (BlockName::Local(turn, place), BlockName::Local(other_turn, other_place)) => {
-            turn == other_turn && place == other_place
-        }
-        _ => false,
+        (name, other) => is_equal_name(name, other) && p.offset == q.offset,
     }
 }
 
@@ -88,27 +77,16 @@ fn bytes_are_allowed(source: &[Byte], target: &[Byte]) -> bool
     true
 }
 
-/// The bytes of a block: its contents below its size.
-fn bytes_in(block: &MemoryBlock) -> &[Byte]
-    ensures { result.now ≡ bytes_of block.now }
-{
-    let places = block.places.as_slice();
-    if block.size < places.len() as u64 {
-        &places[..block.size as usize]
-    } else {
-        places
-    }
-}
-
 fn block_is_allowed(source: &MemoryBlock, target: &MemoryBlock) -> bool
     ensures { result ≡ block_allows source.now target.now }
 {
-    is_same_name(source.name, target.name)
+    is_equal_name(source.name, target.name)
         && source.size == target.size
         && bytes_are_allowed(bytes_in(source), bytes_in(target))
 }
 
-fn blocks_are_allowed(source: &[MemoryBlock], target: &[MemoryBlock]) -> bool
+/// Whether the blocks that the source leaves allow those that the target does.
+pub fn blocks_are_allowed(source: &[MemoryBlock], target: &[MemoryBlock]) -> bool
     ensures { result ≡ blocks_allow source.now target.now }
 {
     if source.len() != target.len() {

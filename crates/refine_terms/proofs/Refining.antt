@@ -11,7 +11,8 @@ use Rattle.byte_block.specs.declared.value.Byte.TheVariants as byte
 use Rattle.byte_block.specs.declared.block.MemoryBlock.{MemoryBlock}
 use Rattle.points.specs.declared.outcome.Outcome.{Outcome}
 use Rattle.points.specs.declared.outcome.Outcome.TheVariants.{Return, Ub, Beyond}
-use Rattle.points.specs.Refines.{same_name, same_pointer, byte_allows, block_allows, blocks_allow, pairs_pass, value_allows, returned_allows, is_refined}
+use Rattle.memory_access.specs.Blocks.{equal_names}
+use Rattle.points.specs.Refines.{same_pointer, byte_allows, block_allows, blocks_allow, pairs_pass, value_allows, returned_allows, is_refined}
 use Rattle.bv_terms.specs.Tree.{truth}
 use Rattle.mem_terms.specs.Values.{block_name, first_local, value_of}
 use Rattle.mem_terms.specs.Memory.{byte_of}
@@ -19,10 +20,10 @@ use Rattle.mem_terms.proofs.Naming.{block_before, local_block}
 
 -- ---- pointers
 
-same_name-same : (b : BlockName) → same_name b b ≡ true
-same_name-same Null = refl
-same_name-same (Given i) = eq-eqb i i refl
-same_name-same (Local t p) = rw (eq-eqb t t refl, eq-eqb p p refl) refl
+equal_names-same : (b : BlockName) → equal_names b b ≡ true
+equal_names-same Null = refl
+equal_names-same (Given i) = eq-eqb i i refl
+equal_names-same (Local t p) = rw (eq-eqb t t refl, eq-eqb p p refl) refl
 
 same_pointer-same : (b : BlockName) (n : ℕ) → same_pointer b n b n ≡ true
 same_pointer-same Null n = eq-eqb n n refl
@@ -202,7 +203,7 @@ same_size m n true ss ts e = let same : m ≡ n = eqb-true m n e in ap (λ k. pa
 same_size m n false ss ts e = refl
 
 pub blocks_are : (name name' : BlockName) (m n k l : ℕ) (ss ts : List Byte) → name' ≡ name → (nat_eq m n && pairs_pass byte_allows (take m ss) (take m ts)) ≡ block_allows (block_from name m k ss) (block_from name' n l ts)
-blocks_are name name' m n k l ss ts e = rw (e, same_name-same name) (same_size m n (nat_eq m n) ss ts refl)
+blocks_are name name' m n k l ss ts e = rw (e, equal_names-same name) (same_size m n (nat_eq m n) ss ts refl)
 
 -- ---- outcomes
 

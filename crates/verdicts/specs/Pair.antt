@@ -1,9 +1,9 @@
 -- Two functions that are compared, and when their signatures are equal.
-use Rattle.std.specs.Prelude.{Bool, true, false, ◌&&◌, ◌==◌, List, [], ◌∷◌, Option, Some, None}
+use Rattle.std.specs.Prelude.{Bool, true, false, ◌&&◌, List, [], ◌∷◌, Option, Some, None}
 use Rattle.ir_tree.specs.declared.tree.IrType.{IrType}
-use Rattle.ir_tree.specs.declared.tree.IrType.TheVariants.{Int, Ptr}
 use Rattle.ir_tree.specs.declared.tree.Parameter.{Parameter}
 use Rattle.ir_tree.specs.declared.tree.Function.{Function}
+use Rattle.ir_tree.specs.Sites.{is_same_type}
 use Rattle.points.specs.declared.point.Bounds.{Bounds}
 use Rattle.points.specs.declared.point.Layout.{Layout}
 
@@ -16,20 +16,15 @@ pub record Functions : Type 0 where
 abbrev pub layout_of : Functions → Bounds → Layout
 layout_of pair bounds = record { blocks = bounds.blocks; bytes = bounds.bytes }
 
-abbrev pub same_type : IrType → IrType → Bool
-same_type (Int v) (Int w) = v.bits == w.bits
-same_type Ptr Ptr = true
-same_type _ _ = false
-
 abbrev pub same_return : Option IrType → Option IrType → Bool
 same_return None None = true
-same_return (Some s) (Some t) = same_type s t
+same_return (Some s) (Some t) = is_same_type s t
 same_return _ _ = false
 
 -- the same number of parameters, with equal types at each index
 abbrev pub same_types : List Parameter → List Parameter → Bool
 same_types [] [] = true
-same_types (p ∷ ps) (q ∷ qs) = same_type p.of_type q.of_type && same_types ps qs
+same_types (p ∷ ps) (q ∷ qs) = is_same_type p.of_type q.of_type && same_types ps qs
 same_types _ _ = false
 
 abbrev pub same_signature : Function → Function → Bool

@@ -1,7 +1,7 @@
 ghost use Rattle.std.specs.Prelude.{◌≡◌, true};
-ghost use Rattle.verdicts.specs.Pair.{same_type, same_return, same_types, same_signature};
+ghost use Rattle.verdicts.specs.Pair.{same_return, same_types, same_signature};
 
-use ir_tree::{Function, IrType, Parameter};
+use ir_tree::{Function, IrType, Parameter, is_same_type};
 use std::marker::Model;
 
 /// A source function and the target function of its name, of equal signature.
@@ -62,16 +62,6 @@ fn is_same_return(a: Option<IrType>, b: Option<IrType>) -> bool
     match (a, b) {
         (None, None) => true,
         (Some(a), Some(b)) => is_same_type(a, b),
-        _ => false,
-    }
-}
-
-fn is_same_type(a: IrType, b: IrType) -> bool
-    ensures { result ≡ same_type a b }
-{
-    match (a, b) {
-        (IrType::Int(a), IrType::Int(b)) => a.bits() == b.bits(),
-        (IrType::Ptr, IrType::Ptr) => true,
         _ => false,
     }
 }

@@ -1,6 +1,0 @@
-use Rattle.std.proofs.Common.{◌≡◌, drop}
-use Rattle.points.specs.Refines.{blocks_allow}
-use Rattle.choice_interp.proofs.comparing.blocks_are_allowed.Given as goal
-
-abbrev pub invariant-loop-i : goal.invariant-loop-i
-invariant-loop-i l = blocks_allow l.source l.target ≡ blocks_allow (drop l.i l.source) (drop l.i l.target)
