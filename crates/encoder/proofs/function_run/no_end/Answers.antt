@@ -27,6 +27,6 @@ returns-clause-made c =
 
 pub returns-clause-shape : goal.returns-clause-shape
 returns-clause-shape c =
-    let frames : map frame_of c.in_ok-blocks.blocks ≡ frames_of c.args.setting.layout.now = rw c.in_ok-blocks.ensures c.requires.frames in
+    let frames : map frame_of c.in_ok-blocks.field-0.blocks ≡ frames_of c.args.setting.layout.now = rw c.in_ok-blocks.ensures c.requires.frames in
     let alike = c.in_ok-value.ensures.alike in
     λ i. record { valued = alike i; frames = frames i }
