@@ -9,6 +9,7 @@ use Rattle.points.specs.declared.machine.Machine.{Machine}
 use Rattle.points.specs.declared.outcome.Outcome.TheVariants.{Ub}
 use Rattle.points.specs.declared.point.Bounds.{Bounds}
 use Rattle.points.specs.declared.point.Input.{Input}
+use Rattle.points.specs.declared.point.Layout.{Layout}
 use Rattle.points.specs.Run.{Run, breaks_noundef, ended, first_machine, run_of}
 use Rattle.unroll.specs.declared.layered.Edge.TheVariants as edge
 use Rattle.unroll.specs.declared.layered.BlockCopy.{BlockCopy}
@@ -138,7 +139,7 @@ zeros_end old a tape i read all past so v =
 
 pub finish_stands : (old a b : List Term) (ka : Keeps old a) (kb : Keeps a b) (e : Ending) (he : IsEnding old e) (tape : List TermId) (rest plain : TermId)
     → Tests a rest (λ v. zeros_past (term_at v old e.tally.read) 0 (words_at v old tape)) → Tests b plain (λ v. bit_at v a e.tally.fits && bit_at v a rest)
-    → (g : Scene) (run : Run) → Sees g old tape → EndedSo g old e run → Shows (sight g) b g.tape run (record { ub = e.ub; beyond = e.beyond; value = e.value; blocks = e.memory.blocks; read = e.tally.read; plain = plain })
+    → (g : Scene) (run : Run) → Sees g old tape → EndedSo g old e run → Shows (sight g) b g.tape run (record { ub = e.ub; beyond = e.beyond; value = e.value; blocks = e.blocks; read = e.tally.read; plain = plain })
 finish_stands old a b ka kb e he tape rest plain tr tp g run sees h =
     let k = keeps_trans old a b ka kb in
     let same : bit_at g.v b plain ≡ (fits_from g.tape 0 run.taken && zeros_past (length run.taken) 0 g.tape) =
@@ -192,22 +193,22 @@ run_is f layered input tape = by (breaks_noundef f.parameters input.args)
     by true = ap run_at_end (walk_over f layered.copies 0 tape (ended Ub (first_machine f input)))
     by false = refl
 
-pub encode_stands : (old a b d : List Term) (f : Function) (layered : Layered) (bounds : Bounds) (input : InputTerms) (tape : List TermId) (given : ℕ) (entered passed : Frontier) (o : OutcomeTerms)
-    → AreWords old tape → layered.copies ≡ copies_of bounds.turns f → given ≡ bounds.blocks → (ka : Keeps old a) (kb : Keeps a b)
-    → ((g : Scene) → g.given ≡ given → Tells g a entered (Some (placed f layered.copies 0 (first_place f (input_at (sight g) old input)))))
+pub encode_stands : (old a b d : List Term) (f : Function) (layered : Layered) (layout : Layout) (input : InputTerms) (tape : List TermId) (entered passed : Frontier) (o : OutcomeTerms)
+    → AreWords old tape → layered.copies ≡ copies_of layered.turns f → (ka : Keeps old a) (kb : Keeps a b)
+    → ((g : Scene) → g.given ≡ layout.blocks → Tells g a entered (Some (placed f layered.copies 0 (first_place f (input_at (sight g) old input)))))
     → ((g : Scene) (w : Where) → Sees g a tape → Tells g a entered (Some (placed f layered.copies 0 w)) → Tells g b passed (Some (placed f layered.copies (length layered.copies) (walk f 0 layered.copies g.tape w))))
     → ((g : Scene) (run : Run) → Sees g b tape → EndedSo g b passed.ending run → Shows (sight g) d g.tape run o)
-    → (v : ℕ → ℕ → ℕ) → Shows (reading bounds.blocks v) d (words_at v old tape) (run_of f bounds (input_at (reading bounds.blocks v) old input) (words_at v old tape)) o
-encode_stands old a b d f layered bounds input tape given entered passed o words copies count ka kb es ps fs v =
-    let g : Scene = record { v = v; tape = words_at v old tape; given = bounds.blocks } in
-    let first : Input = input_at (reading bounds.blocks v) old input in
+    → (bounds : Bounds) (v : ℕ → ℕ → ℕ) → bounds.turns ≡ layered.turns → Shows (reading layout.blocks v) d (words_at v old tape) (run_of f bounds (input_at (reading layout.blocks v) old input) (words_at v old tape)) o
+encode_stands old a b d f layered layout input tape entered passed o words copies ka kb es ps fs bounds v within =
+    let g : Scene = record { v = v; tape = words_at v old tape; given = layout.blocks } in
+    let first : Input = input_at (reading layout.blocks v) old input in
     let w = first_place f first in
     let sees_a = sees-later old a ka g tape words refl in
     let sees_b = sees-later old b (keeps_trans old a b ka kb) g tape words refl in
-    let t = ps g w sees_a (es g (sym count)) in
+    let t = ps g w sees_a (es g refl) in
     let t' = subst (λ (x : Where). Tells g b passed (Some x)) (placed_end f layered.copies (walk f 0 layered.copies (words_at v old tape) w)) t in
     let shows = fs g (run_at_end (walk f 0 layered.copies (words_at v old tape) w)) sees_b t'.ending in
-    subst (λ (r : Run). Shows (reading bounds.blocks v) d (words_at v old tape) r o) (run_is f layered first (words_at v old tape) ∙ layers_have_runs f layered bounds.turns copies bounds first (words_at v old tape) refl) shows
+    subst (λ (r : Run). Shows (reading layout.blocks v) d (words_at v old tape) r o) (run_is f layered first (words_at v old tape) ∙ layers_have_runs f layered layered.turns copies bounds first (words_at v old tape) within) shows
 
 -- ---- nothing is known at first
 

@@ -6,7 +6,7 @@ ghost use Rattle.points.specs.Run.{argument_value, breaks_noundef, first_machine
 ghost use Rattle.bv_terms.specs.Trees.{IsTerm, Keeps, bit_at};
 ghost use Rattle.mem_terms.specs.Values.{AreSymValues, Each, IsNaming, IsSymValue, Reading, value_at, values_at};
 ghost use Rattle.mem_terms.specs.Inputs.{AreArgs, IsArg, IsBlockTerms, IsInput, arg_at, args_at, given_blocks_at, input_at};
-ghost use Rattle.mem_terms.specs.Memory.{AreGivenBlocks, memory_at};
+ghost use Rattle.mem_terms.specs.Memory.{AreGivenBlocks, frames_of, memory_at};
 ghost use Rattle.run_terms.specs.Runs.{Carries, IsState, Scene, shape_of, sight};
 
 use bv_terms::{TermId, Terms};
@@ -15,6 +15,7 @@ use mem_terms::{
     ArgTerms, InputTerms, SymValue, arg_value, both, either, equals, given_blocks, negation,
     number, poison_value, truth,
 };
+use points::Layout;
 use run_terms::{RunMemory, RunState, Tally, put};
 use std::alloc::Global;
 use support::{NoMemory, Sequence};
@@ -138,23 +139,22 @@ pub struct Beginning {
     pub state: RunState,
 }
 
-/// The beginning of the run of a function on an input, whose given blocks have room for this number
-/// of bytes.
+/// The beginning of the run of a function on an input whose memory looks like this.
 pub fn begin(
     alloc: Global,
     terms: &mut Terms,
     f: &Function,
     input: &InputTerms,
-    room: usize,
+    layout: &Layout,
 ) -> Result<Beginning, NoMemory>
-    requires { IsInput f.now.parameters (length input.now.sizes) room terms.old input.now }
+    requires { IsInput f.now.parameters layout.now terms.old input.now }
     ensures undefined { IfOk result (λ b. IsTerm terms.new 1 b.undefined) }
     ensures breaks { IfOk result (λ b. (r : Reading) → IsNaming r.name → bit_at r.v terms.new b.undefined ≡ breaks_noundef f.now.parameters (args_at r terms.old input.now.args)) }
     ensures alive { IfOk result (λ b. (r : Reading) → bit_at r.v terms.new b.state.alive ≡ not (bit_at r.v terms.new b.undefined)) }
     ensures state { IfOk result (λ b. IsState terms.new b.state) }
-    ensures shape { IfOk result (λ b. shape_of b.state ≡ record { names = length f.now.names; given = length input.now.sizes; room = room }) }
-    ensures given { IfOk result (λ b. AreGivenBlocks (length input.now.sizes) room terms.new b.state.memory.blocks) }
-    ensures carries { IfOk result (λ b. (g : Scene) → g.given ≡ length input.now.sizes → Carries g terms.new (record { label = 0; turn = 0 }) b.state (first_machine f.now (input_at (sight g) terms.old input.now))) }
+    ensures shape { IfOk result (λ b. shape_of b.state ≡ record { names = length f.now.names; frames = frames_of layout.now }) }
+    ensures given { IfOk result (λ b. AreGivenBlocks (frames_of layout.now) terms.new b.state.memory.blocks) }
+    ensures carries { IfOk result (λ b. (g : Scene) → g.given ≡ layout.now.blocks → Carries g terms.new (record { label = 0; turn = 0 }) b.state (first_machine f.now (input_at (sight g) terms.old input.now))) }
     ensures kept { Keeps terms.old terms.new }
 {
     let args = input.args.as_slice();
@@ -162,7 +162,7 @@ pub fn begin(
     give_args(terms, &mut registers, f.parameters.as_slice(), args)?;
     let undefined = breaks_no_undef(terms, f.parameters.as_slice(), args)?;
     let alive = negation(terms, undefined)?;
-    let memory = given_memory(alloc, terms, input, room)?;
+    let memory = given_memory(alloc, terms, input, layout)?;
     let read = number(terms, 0)?;
     let fits = truth(terms, true)?;
     Ok(Beginning {
@@ -182,21 +182,20 @@ pub fn given_memory(
     alloc: Global,
     terms: &mut Terms,
     input: &InputTerms,
-    room: usize,
+    layout: &Layout,
 ) -> Result<RunMemory, NoMemory>
+    requires size_count { length input.now.sizes ≡ layout.now.blocks }
     requires sizes { Each (IsTerm terms.old 6) input.now.sizes }
-    requires places { Each (IsBlockTerms room terms.old) input.now.places }
-    requires count { length input.now.sizes ≡ length input.now.places }
-    ensures given { IfOk result (λ m. AreGivenBlocks (length input.now.sizes) room terms.new m.blocks) }
-    ensures count { IfOk result (λ m. m.given ≡ length input.now.sizes) }
-    ensures room { IfOk result (λ m. m.room ≡ room) }
+    requires block_count { length input.now.places ≡ layout.now.blocks }
+    requires places { Each (IsBlockTerms layout.now.bytes terms.old) input.now.places }
+    ensures given { IfOk result (λ m. AreGivenBlocks (frames_of layout.now) terms.new m.blocks) }
+    ensures count { IfOk result (λ m. m.given ≡ layout.now.blocks) }
     ensures stands { IfOk result (λ m. (r : Reading) → memory_at r terms.new m.blocks ≡ given_blocks_at r terms.old 1 input.now.sizes input.now.places) }
     ensures kept { Keeps terms.old terms.new }
 {
     let blocks = given_blocks(alloc, terms, input)?;
     Ok(RunMemory {
         blocks,
-        given: input.sizes.len(),
-        room,
+        given: layout.blocks as usize,
     })
 }

@@ -1,11 +1,12 @@
 //! The run of a function on every input and tape.
 
-ghost use Rattle.std.specs.Prelude.{◌≡◌, ◌&&◌, ◌||◌, ℕ, IfOk, IfSome, None, Some, is_some, nat_eq, nat_lt, replicate};
+ghost use Rattle.std.specs.Prelude.{◌≡◌, ◌&&◌, ◌||◌, ℕ, IfOk, IfSome, None, Some, is_some, map, nat_eq, nat_lt, replicate};
+ghost use Rattle.points.specs.declared.point.Bounds.{Bounds};
 ghost use Rattle.points.specs.Run.{Run, run_of};
 ghost use Rattle.unroll.specs.Layers.{copies_of};
 ghost use Rattle.bv_terms.specs.Trees.{IsTerm, Keeps, Tests, bit_at, term_at};
 ghost use Rattle.mem_terms.specs.Values.{IsSymValue, reading};
-ghost use Rattle.mem_terms.specs.Memory.{AreGivenBlocks};
+ghost use Rattle.mem_terms.specs.Memory.{AreGivenBlocks, frame_of, frames_of};
 ghost use Rattle.mem_terms.specs.Inputs.{AreWords, IsInput, input_at, words_at};
 ghost use Rattle.mem_terms.specs.Outcomes.{IsOutcome, LeavesGiven, Shows};
 ghost use Rattle.run_terms.specs.Runs.{Scene, Sees, sight, zeros_past};
@@ -19,7 +20,7 @@ use mem_terms::{
     InputTerms, OutcomeTerms, SymValue, TapeTerms, both, either, equals, less, number,
     poison_value, truth,
 };
-use points::Bounds;
+use points::Layout;
 use run_terms::{Ending, Frontier, Leaving, RunMemory, RunState, Setting, Tally, follow};
 use std::alloc::Global;
 use support::{NoMemory, Sequence};
@@ -53,9 +54,9 @@ fn no_value(terms: &mut Terms, returns: Option<IrType>) -> Result<Option<SymValu
 
 /// A run that has not ended, with this memory at its beginning.
 fn no_end(setting: Setting, terms: &mut Terms, memory: &RunMemory) -> Result<Ending, NoMemory>
-    requires { AreGivenBlocks setting.given setting.room terms.old memory.now.blocks }
+    requires { AreGivenBlocks (frames_of setting.layout.now) terms.old memory.now.blocks }
     ensures made { IfOk result (IsEnding terms.new) }
-    ensures shape { IfOk result (λ e. ending_shape e ≡ record { valued = is_some setting.entry.f.now.returns; given = setting.entry.given; room = setting.entry.room }) }
+    ensures shape { IfOk result (λ e. ending_shape e ≡ record { valued = is_some setting.entry.f.now.returns; frames = frames_of setting.entry.layout.now }) }
     ensures stands { IfOk result (λ e. (g : Scene) → NotEnded g terms.new e) }
     ensures kept { Keeps terms.old terms.new }
 {
@@ -67,18 +68,14 @@ fn no_end(setting: Setting, terms: &mut Terms, memory: &RunMemory) -> Result<End
         ub: never,
         beyond: never,
         value,
-        memory: RunMemory {
-            blocks,
-            given: setting.given,
-            room: setting.room,
-        },
+        blocks,
         tally: Tally { read, fits: never },
     })
 }
 
 /// Before the first copy nothing is known of any.
 fn unknown(setting: Setting, terms: &mut Terms, memory: &RunMemory) -> Result<Frontier, NoMemory>
-    requires { AreGivenBlocks setting.given setting.room terms.old memory.now.blocks }
+    requires { AreGivenBlocks (frames_of setting.layout.now) terms.old memory.now.blocks }
     ensures made { IfOk result (IsFrontier terms.new) }
     ensures shape { IfOk result (HasShape setting.entry) }
     ensures stands { IfOk result (λ w. (g : Scene) → Tells g terms.new w None) }
@@ -91,14 +88,14 @@ fn unknown(setting: Setting, terms: &mut Terms, memory: &RunMemory) -> Result<Fr
 
 /// The run comes to its first copy, or breaks `noundef` before.
 fn enter(setting: Setting, terms: &mut Terms, input: &InputTerms) -> Result<Frontier, NoMemory>
-    requires input { IsInput setting.f.now.parameters setting.given setting.room terms.old input.now }
+    requires input { IsInput setting.f.now.parameters setting.layout.now terms.old input.now }
     ensures made { IfOk result (IsFrontier terms.new) }
     ensures shape { IfOk result (HasShape setting.entry) }
-    ensures stands { IfOk result (λ w. (g : Scene) → g.given ≡ setting.entry.given
+    ensures stands { IfOk result (λ w. (g : Scene) → g.given ≡ setting.entry.layout.now.blocks
         → Tells g terms.new w (Some (placed setting.entry.f.now setting.entry.copies.now 0 (first_place setting.entry.f.now (input_at (sight g) terms.old input.now))))) }
     ensures kept { Keeps terms.old terms.new }
 {
-    let start = begin(setting.alloc, terms, setting.f, input, setting.room)?;
+    let start = begin(setting.alloc, terms, setting.f, input, setting.layout)?;
     let state = start.state;
     let mut frontier = unknown(setting, terms, &state.memory)?;
     frontier.end_undefined(terms, start.undefined, state.tally)?;
@@ -153,7 +150,7 @@ fn finish(terms: &mut Terms, ending: Ending, tape: &[TermId]) -> Result<OutcomeT
     requires ending { IsEnding terms.old ending }
     requires tape { AreWords terms.old tape.now }
     ensures made { IfOk result (IsOutcome terms.new) }
-    ensures given { IfOk result (LeavesGiven ending.memory.given ending.memory.room) }
+    ensures given { IfOk result (LeavesGiven (map frame_of ending.blocks)) }
     ensures valued { IfOk result (λ o. is_some o.value ≡ is_some ending.value) }
     ensures stands { IfOk result (λ o. (g : Scene) (run : Run) → Sees g terms.old tape.now → EndedSo g terms.old ending run → Shows (sight g) terms.new g.tape run o) }
     ensures kept { Keeps terms.old terms.new }
@@ -164,7 +161,7 @@ fn finish(terms: &mut Terms, ending: Ending, tape: &[TermId]) -> Result<OutcomeT
         ub: ending.ub,
         beyond: ending.beyond,
         value: ending.value,
-        blocks: ending.memory.blocks,
+        blocks: ending.blocks,
         read: ending.tally.read,
         plain,
     })
@@ -177,20 +174,20 @@ pub fn encode(
     alloc: Global,
     f: &Function,
     layered: &Layered,
-    bounds: &Bounds,
+    layout: &Layout,
     input: &InputTerms,
     tape: &TapeTerms,
     terms: &mut Terms,
 ) -> Result<OutcomeTerms, NoMemory>
-    requires layers { layered.now.copies ≡ copies_of bounds.now.turns f.now }
+    requires layers { layered.now.copies ≡ copies_of layered.now.turns f.now }
     requires run { CanRun f.now }
-    requires input { IsInput f.now.parameters bounds.now.blocks bounds.now.bytes terms.old input.now }
+    requires input { IsInput f.now.parameters layout.now terms.old input.now }
     requires tape { AreWords terms.old tape.now.words }
     ensures made { IfOk result (IsOutcome terms.new) }
-    ensures given { IfOk result (LeavesGiven bounds.now.blocks bounds.now.bytes) }
+    ensures given { IfOk result (LeavesGiven (frames_of layout.now)) }
     ensures valued { IfOk result (λ o. is_some o.value ≡ is_some f.now.returns) }
-    ensures stands { IfOk result (λ o. (v : ℕ → ℕ → ℕ) → Shows (reading bounds.now.blocks v) terms.new (words_at v terms.old tape.now.words)
-        (run_of f.now bounds.now (input_at (reading bounds.now.blocks v) terms.old input.now) (words_at v terms.old tape.now.words)) o) }
+    ensures stands { IfOk result (λ o. (bounds : Bounds) (v : ℕ → ℕ → ℕ) → bounds.turns ≡ layered.now.turns → Shows (reading layout.now.blocks v) terms.new (words_at v terms.old tape.now.words)
+        (run_of f.now bounds (input_at (reading layout.now.blocks v) terms.old input.now) (words_at v terms.old tape.now.words)) o) }
     ensures kept { Keeps terms.old terms.new }
 {
     let words = tape.words.as_slice();
@@ -199,8 +196,7 @@ pub fn encode(
         f,
         copies: &layered.copies,
         tape: words,
-        given: input.sizes.len(),
-        room: bounds.bytes as usize,
+        layout,
     };
     let mut frontier = enter(setting, terms, input)?;
     pass_all(setting, terms, &mut frontier)?;

@@ -12,6 +12,7 @@ use Rattle.ir_tree.specs.declared.tree.Block.{Block}
 use Rattle.ir_tree.specs.declared.tree.Parameter.{Parameter}
 use Rattle.ir_tree.specs.declared.tree.Function.{Function}
 use Rattle.ir_tree.specs.Limits.{HasSmallObjects, HasSmallTypes}
+use Rattle.points.specs.declared.point.Layout.{Layout}
 use Rattle.bv_terms.specs.declared.term.Term.{Term}
 use Rattle.mem_terms.specs.declared.inputs.ArgTerms.{ArgTerms}
 use Rattle.mem_terms.specs.declared.inputs.InputTerms.{InputTerms}
@@ -81,8 +82,8 @@ args_in slots terms (p ∷ ps) (a ∷ args) h = (h.0, args_in slots terms ps arg
 args_in slots terms [] (a ∷ args) h = h
 args_in slots terms (p ∷ ps) [] h = h
 
-input_in : (slots : List ℕ) (names : List Name) (f : Function) (blocks bytes : ℕ) (terms : List Term) (input : InputTerms) → IsInput f.parameters blocks bytes terms input → IsInput (function_in slots names f).parameters blocks bytes terms input
-input_in slots names f blocks bytes terms input h = record {
+input_in : (slots : List ℕ) (names : List Name) (f : Function) (layout : Layout) (terms : List Term) (input : InputTerms) → IsInput f.parameters layout terms input → IsInput (function_in slots names f).parameters layout terms input
+input_in slots names f layout terms input h = record {
   args = args_in slots terms f.parameters input.args h.args;
   size_count = h.size_count;
   sizes = h.sizes;

@@ -4,7 +4,7 @@
 //! block. [`with_slots`] answers the function with its values in slots: names that are never needed at the
 //! same time may share one (live ranges, as in a compiler's register allocation). It promises that the
 //! function with slots has the runs of the one that it is given. It builds on `points` for the run,
-//! and on `encoder` for what may be encoded.
+//! on `run_terms` for what may be run as terms, and on `mem_terms` for the terms of an input.
 #![tactic(auto)]
 
 mod allocating;

@@ -1,5 +1,5 @@
 -- The registers of a run before its first block.
-use Rattle.std.proofs.Common.{ℕ, zero, suc, ◌≡◌, ◌<◌, ◌≤◌, ◌-◌, Bool, true, false, ◌&&◌, ◌||◌, cond, if◌then◌else◌, List, [], ◌∷◌, length, map, take, drop, replicate, get_or, slice_set, nat_eq, refl, ap, sym, subst, ◌∙◌, arith}
+use Rattle.std.proofs.Common.{ℕ, zero, suc, ◌≡◌, ◌+◌, ◌<◌, ◌≤◌, ◌-◌, Bool, true, false, ◌&&◌, ◌||◌, cond, if◌then◌else◌, List, [], ◌∷◌, length, map, take, drop, replicate, get_or, slice_set, nat_eq, refl, ap, sym, subst, ◌∙◌, arith}
 use Rattle.std.proofs.Math.Dec.{eqb-suc-zero}
 use Rattle.std.proofs.lemmas.List.{take_all, drop_all}
 use Rattle.ir_tree.specs.declared.tree.Parameter.{Parameter}
@@ -9,6 +9,7 @@ use Rattle.byte_block.specs.declared.value.BlockName.TheVariants.{Null, Given, L
 use Rattle.byte_block.specs.declared.value.Value.{Value}
 use Rattle.byte_block.specs.declared.value.Value.TheVariants.{Poison, Ptr}
 use Rattle.memory_access.specs.Blocks.{equal_names}
+use Rattle.points.specs.declared.point.Layout.{Layout}
 use Rattle.points.specs.Run.{argument_value, breaks_noundef, first_machine, is_null, is_poison, with_args}
 use Rattle.bv_terms.specs.declared.term.TermId.{TermId}
 use Rattle.bv_terms.specs.declared.term.Term.{Term}
@@ -18,16 +19,16 @@ use Rattle.mem_terms.specs.declared.inputs.ArgTerms.{ArgTerms}
 use Rattle.mem_terms.specs.declared.inputs.InputTerms.{InputTerms}
 use Rattle.mem_terms.specs.declared.values.SymValue.{SymValue}
 use Rattle.mem_terms.specs.Values.{AreSymValues, Each, IsNaming, IsSymValue, Reading, first_local, value_at, value_of, values_at}
-use Rattle.mem_terms.specs.Memory.{AreGivenBlocks, AreSymBlocks, memory_at}
+use Rattle.mem_terms.specs.Memory.{AreGivenBlocks, AreSymBlocks, frame_of, frames_of, given_frames, memory_at}
 use Rattle.mem_terms.specs.Inputs.{AreArgs, IsArg, arg_at, args_at, given_blocks_at, input_at}
 use Rattle.mem_terms.proofs.Eaches.{map-set}
 use Rattle.mem_terms.proofs.Later.{keeps_trans, bit-later, term-later, values-later, args_at-later}
 use Rattle.mem_terms.proofs.Naming.{naming}
 use Rattle.run_terms.specs.declared.state.RunMemory.{RunMemory}
 use Rattle.run_terms.specs.declared.state.RunState.{RunState}
-use Rattle.run_terms.specs.Runs.{Scene, IsRunMemory, Carries, sight}
+use Rattle.run_terms.specs.Runs.{AreNumberedFrom, Scene, IsRunMemory, Carries, frames_in, sight}
 use Rattle.run_terms.proofs.Lasting.{blocks_at-later}
-use Rattle.run_terms.proofs.Memories.{given_count}
+use Rattle.run_terms.proofs.Memories.{given_count, given_framed}
 
 -- ---- null
 
@@ -162,17 +163,35 @@ front_is (y ∷ ys) x some is =
 
 -- ---- given blocks
 
+numbered_frames : (first n bytes : ℕ) → AreNumberedFrom first (given_frames first n bytes)
+numbered_frames first zero bytes = tt
+numbered_frames first (suc n) bytes = (refl, numbered_frames (first + 1) n bytes)
+
+frame_count : (first n bytes : ℕ) → length (given_frames first n bytes) ≡ n
+frame_count first zero bytes = refl
+frame_count first (suc n) bytes = ap suc (frame_count (first + 1) n bytes)
+
 -- given blocks alone are a memory
-pub only_given : (terms : List Term) (m : RunMemory) (n room : ℕ) → AreGivenBlocks n room terms m.blocks → m.given ≡ n → m.room ≡ room → IsRunMemory terms m
-only_given terms m n room h eg er =
-    let count = given_count n room terms m.blocks h in
-    let front : take m.given m.blocks ≡ m.blocks = take_all m.given m.blocks (omega (arith, count, eg)) in
-    let none : drop m.given m.blocks ≡ [] = drop_all m.given m.blocks (omega (arith, count, eg)) in
-    record {
-      given = subst (AreGivenBlocks m.given m.room terms) (sym front) (subst (λ (i : ℕ). AreGivenBlocks i m.room terms m.blocks) (sym eg) (subst (λ (i : ℕ). AreGivenBlocks n i terms m.blocks) (sym er) h));
-      are = subst (AreSymBlocks terms) (sym none) tt;
-      own = subst (Each (λ (b : SymBlock). first_local m.given ≤ b.number)) (sym none) tt;
-    }
+module _ (terms : List Term) (m : RunMemory) (layout : Layout) (h : AreGivenBlocks (frames_of layout) terms m.blocks) (is : m.given ≡ layout.blocks) where
+  count : length m.blocks ≡ layout.blocks
+  count = given_count (frames_of layout) terms m.blocks h ∙ frame_count 1 layout.blocks layout.bytes
+
+  front : take m.given m.blocks ≡ m.blocks
+  front = take_all m.given m.blocks (omega (arith, count, is))
+
+  pub only_frames : frames_in m ≡ frames_of layout
+  only_frames = ap (map frame_of) front ∙ h.frames
+
+  pub only_given : IsRunMemory terms m
+  only_given =
+      let none : drop m.given m.blocks ≡ [] = drop_all m.given m.blocks (omega (arith, count, is)) in
+      record {
+        given = subst (λ (bs : List SymBlock). AreGivenBlocks (map frame_of bs) terms bs) (sym front) (given_framed (frames_of layout) terms m.blocks h);
+        count = omega (arith, count, is);
+        numbered = subst (AreNumberedFrom 1) (sym only_frames) (numbered_frames 1 layout.blocks layout.bytes);
+        are = subst (AreSymBlocks terms) (sym none) tt;
+        own = subst (Each (λ (b : SymBlock). first_local m.given ≤ b.number)) (sym none) tt;
+      }
 
 -- ---- the first state
 

@@ -1,18 +1,20 @@
 -- A memory that a store or an alloca changed is one of a run still.
-use Rattle.std.proofs.Common.{ℕ, zero, suc, ◌≡◌, ◌≤◌, true, List, [], ◌∷◌, ◌++◌, map, take, drop, refl, ap, sym, subst, ◌∙◌}
+use Rattle.std.proofs.Common.{ℕ, zero, suc, ◌≡◌, ◌≤◌, true, List, [], ◌∷◌, ◌++◌, length, map, take, drop, refl, ap, sym, subst, ◌∙◌, arith}
 use Rattle.std.proofs.lemmas.List.{append_assoc, drop-map, take-append-drop, take-map}
 use Rattle.bv_terms.specs.declared.term.Term.{Term}
 use Rattle.bv_terms.specs.Trees.{Keeps, bit_at}
 use Rattle.mem_terms.specs.declared.blocks.SymBlock.{SymBlock}
 use Rattle.mem_terms.specs.Values.{Each, first_local}
 use Rattle.mem_terms.specs.Memory.{AreSymBlocks, IsSymBlock, SymFrame, frame_of}
+use Rattle.mem_terms.proofs.Eaches.{map-length}
 use Rattle.mem_terms.proofs.Later.{always_each-later, sym_blocks-later}
 use Rattle.access_terms.specs.Accesses as access
 use Rattle.access_terms.specs.Accesses.{sym_frame}
 use Rattle.run_terms.specs.declared.state.RunMemory.{RunMemory}
-use Rattle.run_terms.specs.Runs.{IsRunMemory}
+use Rattle.run_terms.specs.declared.state.RunState.{RunState}
+use Rattle.run_terms.specs.Runs.{AreNumberedFrom, IsRunMemory, frames_in, shape_of}
 use Rattle.run_terms.proofs.Lasting.{memory_blocks}
-use Rattle.run_terms.proofs.Memories.{memory_made}
+use Rattle.run_terms.proofs.Memories.{frames_count, frames_made, memory_made}
 
 -- ---- parts of lists
 
@@ -39,6 +41,11 @@ each-more P (y ∷ ys) x h p = (h.0, each-more P ys x h.1 p)
 pub blocks_later : (old new : List Term) (k : Keeps old new) (m : RunMemory) → IsRunMemory old m → AreSymBlocks new m.blocks
 blocks_later old new k m h = sym_blocks-later old new k m.blocks (memory_blocks old m h)
 
+-- ---- the same is known of the given blocks
+
+pub memory_shape : (s : RunState) (m : RunMemory) → frames_in m ≡ frames_in s.memory → shape_of (record s { memory = m }) ≡ shape_of s
+memory_shape s m e = λ i. record { names = length s.registers; frames = e i }
+
 -- ---- what a store keeps
 
 to_frames : (P : access.SymFrame → Type 0) (bs : List SymBlock) → Each (λ (b : SymBlock). P (sym_frame b)) bs → Each P (map sym_frame bs)
@@ -60,26 +67,45 @@ frames_less : (bs : List SymBlock) → map frame_of bs ≡ map less_framed (map 
 frames_less [] = refl
 frames_less (b ∷ bs) = ap (λ (fs : List SymFrame). frame_of b ∷ fs) (frames_less bs)
 
+front_same : (m : RunMemory) (blocks : List SymBlock) → map sym_frame blocks ≡ map sym_frame m.blocks → map sym_frame (take m.given blocks) ≡ map sym_frame (take m.given m.blocks)
+front_same m blocks same = sym (take-map sym_frame m.given blocks) ∙ (ap (take m.given) same ∙ take-map sym_frame m.given m.blocks)
+
+-- of the given blocks the same is known
+pub store_frames : (m : RunMemory) (blocks : List SymBlock) → map sym_frame blocks ≡ map sym_frame m.blocks → frames_in (record m { blocks = blocks }) ≡ frames_in m
+store_frames m blocks same = frames_less (take m.given blocks) ∙ (ap (map less_framed) (front_same m blocks same) ∙ sym (frames_less (take m.given m.blocks)))
+
 pub store_memory : (old new : List Term) (k : Keeps old new) (m : RunMemory) → IsRunMemory old m → (blocks : List SymBlock) → AreSymBlocks new blocks → map sym_frame blocks ≡ map sym_frame m.blocks → IsRunMemory new (record m { blocks = blocks })
 store_memory old new k m h blocks are same =
-    let front : map sym_frame (take m.given blocks) ≡ map sym_frame (take m.given m.blocks) = sym (take-map sym_frame m.given blocks) ∙ (ap (take m.given) same ∙ take-map sym_frame m.given m.blocks) in
+    let front = front_same m blocks same in
     let rest : map sym_frame (drop m.given blocks) ≡ map sym_frame (drop m.given m.blocks) = sym (drop-map sym_frame m.given blocks) ∙ (ap (drop m.given) same ∙ drop-map sym_frame m.given m.blocks) in
+    let long : length (map sym_frame blocks) ≡ length (map sym_frame m.blocks) = ap length same in
     record {
       given = record {
         are = each-front (IsSymBlock new) m.given blocks are;
         always = each-framed (λ (f : access.SymFrame). (v : ℕ → ℕ → ℕ) → bit_at v new f.exists ≡ true) (take m.given m.blocks) (take m.given blocks) front (always_each-later old new k (take m.given m.blocks) h.given.are h.given.always);
-        frames = frames_less (take m.given blocks) ∙ (ap (map less_framed) front ∙ (sym (frames_less (take m.given m.blocks)) ∙ h.given.frames));
+        frames = refl;
       };
+      count = omega (arith, long, map-length sym_frame blocks, map-length sym_frame m.blocks, h.count);
+      numbered = subst (AreNumberedFrom 1) (sym (store_frames m blocks same)) h.numbered;
       are = each-rest (IsSymBlock new) m.given blocks are;
       own = each-framed (λ (f : access.SymFrame). first_local m.given ≤ f.number) (drop m.given m.blocks) (drop m.given blocks) rest h.own;
     }
 
 -- ---- a block more
 
-pub alloca_memory : (old new : List Term) (k : Keeps old new) (m : RunMemory) → IsRunMemory old m → (blocks : List SymBlock) (b : SymBlock) → AreSymBlocks new blocks → blocks ≡ m.blocks ++ b ∷ [] → first_local m.given ≤ b.number → IsRunMemory new (record m { blocks = blocks })
-alloca_memory old new k m h blocks b are is own =
-    let parts : blocks ≡ take m.given m.blocks ++ (drop m.given m.blocks ++ b ∷ []) =
-    is ∙ (ap (λ (bs : List SymBlock). bs ++ b ∷ []) (sym (take-append-drop m.given m.blocks)) ∙ append_assoc (take m.given m.blocks) (drop m.given m.blocks) (b ∷ [])) in
-    memory_made old new (take m.given m.blocks) (drop m.given m.blocks ++ b ∷ []) blocks m.given m.room k h.given
-    (each-behind (IsSymBlock new) (take m.given m.blocks) (drop m.given m.blocks ++ b ∷ []) (subst (AreSymBlocks new) parts are))
-    (each-more (λ (x : SymBlock). first_local m.given ≤ x.number) (drop m.given m.blocks) b h.own own) parts
+module _ (old : List Term) (m : RunMemory) (h : IsRunMemory old m) (blocks : List SymBlock) (b : SymBlock) (is : blocks ≡ m.blocks ++ b ∷ []) where
+  parts : blocks ≡ take m.given m.blocks ++ (drop m.given m.blocks ++ b ∷ [])
+  parts = is ∙ (ap (λ (bs : List SymBlock). bs ++ b ∷ []) (sym (take-append-drop m.given m.blocks)) ∙ append_assoc (take m.given m.blocks) (drop m.given m.blocks) (b ∷ []))
+
+  count : length (take m.given m.blocks) ≡ m.given
+  count = sym (map-length frame_of (take m.given m.blocks)) ∙ frames_count m h.count
+
+  -- of the given blocks the same is known
+  pub alloca_frames : frames_in (record m { blocks = blocks }) ≡ frames_in m
+  alloca_frames = frames_made (take m.given m.blocks) (drop m.given m.blocks ++ b ∷ []) blocks m.given count parts (frames_in m) refl
+
+  pub alloca_memory : (new : List Term) (k : Keeps old new) → AreSymBlocks new blocks → first_local m.given ≤ b.number → IsRunMemory new (record m { blocks = blocks })
+  alloca_memory new k are own =
+      memory_made (take m.given m.blocks) (drop m.given m.blocks ++ b ∷ []) blocks m.given count parts old new (frames_in m) k h.given h.numbered
+      (each-behind (IsSymBlock new) (take m.given m.blocks) (drop m.given m.blocks ++ b ∷ []) (subst (AreSymBlocks new) parts are))
+      (each-more (λ (x : SymBlock). first_local m.given ≤ x.number) (drop m.given m.blocks) b h.own own)

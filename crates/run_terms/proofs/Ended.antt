@@ -23,7 +23,7 @@ or_false false = refl
 
 -- all that is reported stays
 same_end : (old new : List Term) (e d : Ending) (g : Scene) (at : Option Where) → bit_at g.v new d.ub ≡ bit_at g.v old e.ub → bit_at g.v new d.beyond ≡ bit_at g.v old e.beyond
-    → option_map (value_at (sight g) new) d.value ≡ option_map (value_at (sight g) old) e.value → memory_at (sight g) new d.memory.blocks ≡ memory_at (sight g) old e.memory.blocks
+    → option_map (value_at (sight g) new) d.value ≡ option_map (value_at (sight g) old) e.value → memory_at (sight g) new d.blocks ≡ memory_at (sight g) old e.blocks
     → ((made : List ℕ) → Counts g old e.tally made → Counts g new d.tally made) → EndTells g old e at → EndTells g new d at
 same_end old new e d g None u b x y t s = record { ub = u ∙ s.ub; beyond = b ∙ s.beyond }
 same_end old new e d g (Some (At n m)) u b x y t s = record { ub = u ∙ s.ub; beyond = b ∙ s.beyond }
@@ -38,34 +38,34 @@ module _ (old a b : List Term) (e : Ending) (own : IsEnding old e) (c : TermId) 
   counted g none made k = t g made (bit-later old a ka g.v c hc.within ∙ none) (counts-later old a ka g e.tally made own.tally k)
 
   pub undefined_stays : (ub : TermId) → Tests a ub (λ v. bit_at v old e.ub || bit_at v old c)
-      → (g : Scene) (at : Option Where) → bit_at g.v old c ≡ false → EndTells g old e at → EndTells g b (record { ub = ub; beyond = e.beyond; value = e.value; memory = e.memory; tally = tally }) at
+      → (g : Scene) (at : Option Where) → bit_at g.v old c ≡ false → EndTells g old e at → EndTells g b (record { ub = ub; beyond = e.beyond; value = e.value; blocks = e.blocks; tally = tally }) at
   undefined_stays ub tu g at none s =
-      same_end old b e (record { ub = ub; beyond = e.beyond; value = e.value; memory = e.memory; tally = tally }) g at
+      same_end old b e (record { ub = ub; beyond = e.beyond; value = e.value; blocks = e.blocks; tally = tally }) g at
       (bit-later a b kb g.v ub tu.within ∙ (tu.says g.v ∙ rw none (or_false (bit_at g.v old e.ub))))
       (bit-later old b kab g.v e.beyond own.beyond.within)
-      (option-later old b kab (sight g) e.value own.value) (memory-later old b kab (sight g) e.memory.blocks own.given.are) (counted g none) s
+      (option-later old b kab (sight g) e.value own.value) (memory-later old b kab (sight g) e.blocks own.given.are) (counted g none) s
 
   pub beyond_stays : (beyond : TermId) → Tests a beyond (λ v. bit_at v old e.beyond || bit_at v old c)
-      → (g : Scene) (at : Option Where) → bit_at g.v old c ≡ false → EndTells g old e at → EndTells g b (record { ub = e.ub; beyond = beyond; value = e.value; memory = e.memory; tally = tally }) at
+      → (g : Scene) (at : Option Where) → bit_at g.v old c ≡ false → EndTells g old e at → EndTells g b (record { ub = e.ub; beyond = beyond; value = e.value; blocks = e.blocks; tally = tally }) at
   beyond_stays beyond tu g at none s =
-      same_end old b e (record { ub = e.ub; beyond = beyond; value = e.value; memory = e.memory; tally = tally }) g at
+      same_end old b e (record { ub = e.ub; beyond = beyond; value = e.value; blocks = e.blocks; tally = tally }) g at
       (bit-later old b kab g.v e.ub own.ub.within)
       (bit-later a b kb g.v beyond tu.within ∙ (tu.says g.v ∙ rw none (or_false (bit_at g.v old e.beyond))))
-      (option-later old b kab (sight g) e.value own.value) (memory-later old b kab (sight g) e.memory.blocks own.given.are) (counted g none) s
+      (option-later old b kab (sight g) e.value own.value) (memory-later old b kab (sight g) e.blocks own.given.are) (counted g none) s
 
   -- the value is chosen first, and then the given blocks
   module _ (p : List Term) (kp : Keeps old p) (kpa : Keeps p a) (value picked : Option SymValue) (given blocks : List SymBlock) (hg : AreSymBlocks old given) (hp : IfSome picked (IsSymValue p)) (hb : AreSymBlocks a blocks)
       (sp : (r : Reading) → option_map (value_at r p) picked ≡ cond (bit_at r.v old c) (option_map (value_at r old) value) (option_map (value_at r old) e.value))
-      (sb : (r : Reading) → memory_at r a blocks ≡ cond (bit_at r.v p c) (memory_at r p given) (memory_at r p e.memory.blocks)) where
+      (sb : (r : Reading) → memory_at r a blocks ≡ cond (bit_at r.v p c) (memory_at r p given) (memory_at r p e.blocks)) where
     abbrev returned : Ending
-    returned = record { ub = e.ub; beyond = e.beyond; value = picked; memory = record { blocks = blocks; given = e.memory.given; room = e.memory.room }; tally = tally }
+    returned = record { ub = e.ub; beyond = e.beyond; value = picked; blocks = blocks; tally = tally }
 
     kpb : Keeps p b
     kpb = keeps_trans p a b kpa kb
 
-    left : (r : Reading) → memory_at r b blocks ≡ cond (bit_at r.v old c) (memory_at r old given) (memory_at r old e.memory.blocks)
+    left : (r : Reading) → memory_at r b blocks ≡ cond (bit_at r.v old c) (memory_at r old given) (memory_at r old e.blocks)
     left r = memory-later a b kb r blocks hb ∙ (sb r
-        ∙ rw (bit-later old p kp r.v c hc.within, memory-later old p kp r given hg, memory-later old p kp r e.memory.blocks own.given.are) refl)
+        ∙ rw (bit-later old p kp r.v c hc.within, memory-later old p kp r given hg, memory-later old p kp r e.blocks own.given.are) refl)
 
     pub return_stays : (g : Scene) (at : Option Where) → bit_at g.v old c ≡ false → EndTells g old e at → EndTells g b returned at
     return_stays g at none s =

@@ -16,6 +16,7 @@ use Rattle.run_terms.specs.declared.state.RunMemory.{RunMemory}
 use Rattle.run_terms.specs.declared.state.RunState.{RunState}
 use Rattle.run_terms.specs.Runs.{Scene, IsState, IsTally, Counts, Carries, StateShape, Visit, shape_of, sight}
 use Rattle.run_terms.proofs.Lasting.{counts-later, blocks_at-later}
+use Rattle.run_terms.proofs.Memories.{same_given}
 
 choice-push : (e : Bool) (xs ys : List Value) (x y : Value) → cond e xs ys ++ cond e x y ∷ [] ≡ cond e (xs ++ x ∷ []) (ys ++ y ∷ [])
 choice-push true xs ys x y = refl
@@ -97,7 +98,7 @@ module _ (old a b d e : List Term) (edge into : RunState) (alive : TermId) (tall
       → (g : Scene) (at : Visit) (m : Machine) → bit_at g.v old edge.alive ≡ false → Carries g old at into m → Carries g e at joined m
   join_stays st g at m none h = record {
     registers = values-later d e ke (sight g) registers hr ∙ (sd (sight g) ∙ rw (bit-later old b kab g.v edge.alive he.alive.within, none) (values-later old b kab (sight g) into.registers hi.registers ∙ h.registers));
-    given = given ∙ (ap (λ (x : StateShape). x.given) (sym shape) ∙ h.given);
+    given = given ∙ (sym (same_given old edge.memory into.memory he.memory hi.memory (ap (λ (x : StateShape). x.frames) shape)) ∙ h.given);
     memory = se (sight g) ∙ rw (bit-later old d kad g.v edge.alive he.alive.within, none) (blocks_at-later old d kad (sight g) into.memory hi.memory ∙ h.memory);
     tally = counts-later b e kbe g tally m.taken ht (st g m.taken (bit-later old a ka g.v edge.alive he.alive.within ∙ none) (counts-later old a ka g into.tally m.taken hi.tally h.tally));
     most = rw greatest (omega (arith, h.most));

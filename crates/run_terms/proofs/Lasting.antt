@@ -1,5 +1,5 @@
 -- What was said of a run so far is said of it over more terms.
-use Rattle.std.proofs.Common.{ℕ, zero, suc, ◌≡◌, List, [], ◌∷◌, take, drop, Option, Some, None, IfSome, refl, ap, sym, subst, ◌∙◌}
+use Rattle.std.proofs.Common.{ℕ, zero, suc, ◌≡◌, List, [], ◌∷◌, map, take, drop, Option, Some, None, IfSome, refl, ap, sym, subst, ◌∙◌}
 use Rattle.std.specs.Prelude.{slice_get, slice_set}
 use Rattle.std.specs.Option.{option_map}
 use Rattle.points.specs.declared.machine.Machine.{Machine}
@@ -9,7 +9,7 @@ use Rattle.bv_terms.specs.declared.term.Term.{Term}
 use Rattle.bv_terms.specs.Trees.{Keeps}
 use Rattle.mem_terms.specs.declared.values.SymValue.{SymValue}
 use Rattle.mem_terms.specs.Values.{Each, IsSymValue, Reading, value_at}
-use Rattle.mem_terms.specs.Memory.{AreSymBlocks, IsSymBlock, memory_at}
+use Rattle.mem_terms.specs.Memory.{AreSymBlocks, IsSymBlock, frame_of, memory_at}
 use Rattle.mem_terms.specs.Inputs.{AreWords}
 use Rattle.mem_terms.proofs.Eaches.{each-weaker, each-set}
 use Rattle.mem_terms.proofs.Later.{bit-later, term-later, is_term-later, sym_values-later, sym_value-later, sym_blocks-later, values-later, value-later, memory-later, given_blocks-later, words_at-later}
@@ -18,7 +18,7 @@ use Rattle.run_terms.specs.declared.state.RunMemory.{RunMemory}
 use Rattle.run_terms.specs.declared.state.RunState.{RunState}
 use Rattle.run_terms.specs.declared.ending.Ending.{Ending}
 use Rattle.run_terms.specs.declared.frontier.Frontier.{Frontier}
-use Rattle.run_terms.specs.Runs.{Scene, Sees, IsTally, IsRunMemory, IsState, Counts, Carries, Visit, sight, visit_of}
+use Rattle.run_terms.specs.Runs.{Scene, Sees, IsTally, IsRunMemory, IsState, Counts, Carries, Visit, frames_in, sight, visit_of}
 use Rattle.run_terms.specs.Frontier.{IsEnding, EndTells, AreStates, IsUnreached, AheadTells, IsFrontier, Tells, ending_at}
 
 pub each-get : {A : Type 0} (P : A → Type 0) (xs : List A) (n : ℕ) (x : A) → Each P xs → slice_get xs n ≡ Some x → P x
@@ -54,7 +54,9 @@ module _ (old new : List Term) (k : Keeps old new) where
 
   pub run_memory-later : (m : RunMemory) → IsRunMemory old m → IsRunMemory new m
   run_memory-later m h = record {
-    given = given_blocks-later old new k m.given m.room (take m.given m.blocks) h.given;
+    given = given_blocks-later old new k (frames_in m) (take m.given m.blocks) h.given;
+    count = h.count;
+    numbered = h.numbered;
     are = sym_blocks-later old new k (drop m.given m.blocks) h.are;
     own = h.own;
   }
@@ -98,13 +100,13 @@ module _ (old new : List Term) (k : Keeps old new) where
     ub = is_term-later old new k 1 e.ub h.ub;
     beyond = is_term-later old new k 1 e.beyond h.beyond;
     value = some-later e.value h.value;
-    given = given_blocks-later old new k e.memory.given e.memory.room e.memory.blocks h.given;
+    given = given_blocks-later old new k (map frame_of e.blocks) e.blocks h.given;
     tally = tally-later e.tally h.tally;
   }
 
   pub ending_at-later : (r : Reading) (e : Ending) → IsEnding old e → ending_at r new e ≡ ending_at r old e
   ending_at-later r e h =
-      rw (bit-later old new k r.v e.ub h.ub.within, bit-later old new k r.v e.beyond h.beyond.within, option-later r e.value h.value, memory-later old new k r e.memory.blocks h.given.are) refl
+      rw (bit-later old new k r.v e.ub h.ub.within, bit-later old new k r.v e.beyond h.beyond.within, option-later r e.value h.value, memory-later old new k r e.blocks h.given.are) refl
 
   pub end_tells-later : (g : Scene) (e : Ending) (at : Option Where) → IsEnding old e → EndTells g old e at → EndTells g new e at
   end_tells-later g e None h s = record { ub = bit-later old new k g.v e.ub h.ub.within ∙ s.ub; beyond = bit-later old new k g.v e.beyond h.beyond.within ∙ s.beyond }

@@ -1,5 +1,5 @@
 -- The blocks of a run's memory: the given ones, and after them those of allocas.
-use Rattle.std.proofs.Common.{ℕ, zero, suc, ◌≡◌, ◌<◌, ◌≤◌, ◌+◌, ◌-◌, Bool, true, false, cond, List, [], ◌∷◌, ◌++◌, length, take, drop, refl, ap, sym, subst, ◌∙◌, arith}
+use Rattle.std.proofs.Common.{ℕ, ◌≡◌, ◌<◌, ◌≤◌, ◌-◌, Bool, true, false, cond, List, [], ◌∷◌, ◌++◌, length, length-append, map, take, drop, refl, ap, sym, subst, ◌∙◌, arith}
 use Rattle.std.proofs.lemmas.List.{length-take, take-append-drop}
 use Rattle.std.proofs.Math.Seq.{drop-append_seam, take-append_seam}
 use Rattle.byte_block.specs.declared.block.MemoryBlock.{MemoryBlock}
@@ -8,26 +8,30 @@ use Rattle.bv_terms.specs.declared.term.Term.{Term}
 use Rattle.bv_terms.specs.Trees.{Keeps, IsTerm, bit_at}
 use Rattle.mem_terms.specs.declared.blocks.SymBlock.{SymBlock}
 use Rattle.mem_terms.specs.Values.{Each, Reading, first_local}
-use Rattle.mem_terms.specs.Memory.{AreGivenBlocks, AreSymBlocks, block_at, frame_of, given_frames, memory_at}
+use Rattle.mem_terms.specs.Memory.{AreGivenBlocks, AreSymBlocks, SymFrame, block_at, frame_of, memory_at}
 use Rattle.mem_terms.proofs.Eaches.{map-length}
 use Rattle.mem_terms.proofs.Later.{bit-later, memory-later, given_blocks-later}
 use Rattle.run_terms.specs.declared.state.RunMemory.{RunMemory}
-use Rattle.run_terms.specs.Runs.{IsRunMemory}
+use Rattle.run_terms.specs.Runs.{AreNumberedFrom, IsRunMemory, frames_in}
 
 -- ---- how many are given
 
-frame_count : (first n bytes : ℕ) → length (given_frames first n bytes) ≡ n
-frame_count first zero bytes = refl
-frame_count first (suc n) bytes = ap suc (frame_count (first + 1) n bytes)
+pub given_count : (known : List SymFrame) (terms : List Term) (bs : List SymBlock) → AreGivenBlocks known terms bs → length bs ≡ length known
+given_count known terms bs h = sym (map-length frame_of bs) ∙ ap length h.frames
 
-pub given_count : (blocks bytes : ℕ) (terms : List Term) (bs : List SymBlock) → AreGivenBlocks blocks bytes terms bs → length bs ≡ blocks
-given_count blocks bytes terms bs h = sym (map-length frame_of bs) ∙ (ap length h.frames ∙ frame_count 1 blocks bytes)
-
-pub given_within : (terms : List Term) (m : RunMemory) → IsRunMemory terms m → m.given ≤ length m.blocks
-given_within terms m h =
-    let count = given_count m.given m.room terms (take m.given m.blocks) h.given in
+pub frames_count : (m : RunMemory) → m.given ≤ length m.blocks → length (frames_in m) ≡ m.given
+frames_count m h =
+    let all = map-length frame_of (take m.given m.blocks) in
     let taken = length-take m.given m.blocks in
-    omega (arith, count, taken)
+    omega (arith, all, taken, h)
+
+-- two memories of which the same is known have as many given blocks
+pub same_given : (terms : List Term) (a b : RunMemory) → IsRunMemory terms a → IsRunMemory terms b → frames_in b ≡ frames_in a → b.given ≡ a.given
+same_given terms a b ha hb e = sym (frames_count b hb.count) ∙ (ap length e ∙ frames_count a ha.count)
+
+-- of given blocks is known what their frames say
+pub given_framed : (known : List SymFrame) (terms : List Term) (bs : List SymBlock) → AreGivenBlocks known terms bs → AreGivenBlocks (map frame_of bs) terms bs
+given_framed known terms bs h = record { are = h.are; always = h.always; frames = refl }
 
 -- ---- two lists of blocks
 
@@ -49,14 +53,16 @@ cond-append false xs ys zs ws = refl
 
 -- ---- one of two memories
 
--- the given blocks of a memory with the same number and room
-pub given_like : (terms : List Term) (m : RunMemory) (given room : ℕ) → IsRunMemory terms m → m.given ≡ given → m.room ≡ room
-    → AreGivenBlocks given room terms (take given m.blocks) × AreSymBlocks terms (drop given m.blocks) × Each (λ (b : SymBlock). first_local given ≤ b.number) (drop given m.blocks)
-given_like terms m given room h eg er = (
-  subst (λ (n : ℕ). AreGivenBlocks n room terms (take n m.blocks)) eg (subst (λ (n : ℕ). AreGivenBlocks m.given n terms (take m.given m.blocks)) er h.given),
-  subst (λ (n : ℕ). AreSymBlocks terms (drop n m.blocks)) eg h.are,
-  subst (λ (n : ℕ). Each (λ (b : SymBlock). first_local n ≤ b.number) (drop n m.blocks)) eg h.own,
-)
+-- the parts of a memory of whose given blocks the same is known as of another's
+pub given_like : (terms : List Term) (a b : RunMemory) → IsRunMemory terms a → IsRunMemory terms b → frames_in b ≡ frames_in a
+    → AreGivenBlocks (frames_in a) terms (take a.given b.blocks) × AreSymBlocks terms (drop a.given b.blocks) × Each (λ (x : SymBlock). first_local a.given ≤ x.number) (drop a.given b.blocks)
+given_like terms a b ha hb e =
+    let same = same_given terms a b ha hb e in
+    let known : AreGivenBlocks (frames_in a) terms (take b.given b.blocks) = subst (λ (fs : List SymFrame). AreGivenBlocks fs terms (take b.given b.blocks)) e hb.given in (
+      subst (λ (n : ℕ). AreGivenBlocks (frames_in a) terms (take n b.blocks)) same known,
+      subst (λ (n : ℕ). AreSymBlocks terms (drop n b.blocks)) same hb.are,
+      subst (λ (n : ℕ). Each (λ (x : SymBlock). first_local n ≤ x.number) (drop n b.blocks)) same hb.own,
+    )
 
 -- numbers from n on are those above the one before n
 pub above_before : (n : ℕ) (bs : List SymBlock) → 0 < n → Each (λ (b : SymBlock). n ≤ b.number) bs → Each (λ (b : SymBlock). n - 1 < b.number) bs
@@ -72,26 +78,35 @@ from_after n (b ∷ bs) pos h =
     (omega (arith, pos, here), from_after n bs pos h.1)
 
 -- what is made of given blocks and others
-pub memory_made : (a new : List Term) (given own blocks : List SymBlock) (n room : ℕ) → Keeps a new → AreGivenBlocks n room a given → AreSymBlocks new own → Each (λ (b : SymBlock). first_local n ≤ b.number) own → blocks ≡ given ++ own
-    → IsRunMemory new (record { blocks = blocks; given = n; room = room })
-memory_made a new given own blocks n room k hg ho numbers is =
-    let count = given_count n room a given hg in
-    let front : take n blocks ≡ given = ap (take n) is ∙ (ap (λ (i : ℕ). take i (given ++ own)) (sym count) ∙ take-append_seam given own) in
-    let behind : drop n blocks ≡ own = ap (drop n) is ∙ (ap (λ (i : ℕ). drop i (given ++ own)) (sym count) ∙ drop-append_seam given own) in
-    record {
-      given = subst (AreGivenBlocks n room new) (sym front) (given_blocks-later a new k n room given hg);
-      are = subst (AreSymBlocks new) (sym behind) ho;
-      own = subst (Each (λ (b : SymBlock). first_local n ≤ b.number)) (sym behind) numbers;
-    }
+module _ (given own blocks : List SymBlock) (n : ℕ) (count : length given ≡ n) (is : blocks ≡ given ++ own) where
+  front_made : take n blocks ≡ given
+  front_made = ap (take n) is ∙ (ap (λ (i : ℕ). take i (given ++ own)) (sym count) ∙ take-append_seam given own)
 
-pub memory_picked : (old a new : List Term) (c : TermId) (xs ys given own blocks : List SymBlock) (n room : ℕ) → IsTerm old 1 c → Keeps old a → Keeps a new
-    → AreGivenBlocks n room a given → AreSymBlocks old (drop n xs) → AreSymBlocks old (drop n ys)
+  pub frames_made : (known : List SymFrame) → map frame_of given ≡ known → map frame_of (take n blocks) ≡ known
+  frames_made known e = ap (map frame_of) front_made ∙ e
+
+  pub memory_made : (a new : List Term) (known : List SymFrame) → Keeps a new → AreGivenBlocks known a given → AreNumberedFrom 1 known → AreSymBlocks new own → Each (λ (b : SymBlock). first_local n ≤ b.number) own
+      → IsRunMemory new (record { blocks = blocks; given = n })
+  memory_made a new known k hg numbered ho numbers =
+      let behind : drop n blocks ≡ own = ap (drop n) is ∙ (ap (λ (i : ℕ). drop i (given ++ own)) (sym count) ∙ drop-append_seam given own) in
+      let long : length blocks ≡ length (given ++ own) = ap length is in
+      let later = given_framed known new given (given_blocks-later a new k known given hg) in
+      record {
+        given = subst (λ (bs : List SymBlock). AreGivenBlocks (map frame_of bs) new bs) (sym front_made) later;
+        count = omega (arith, long, length-append given own, count);
+        numbered = subst (AreNumberedFrom 1) (sym (frames_made known hg.frames)) numbered;
+        are = subst (AreSymBlocks new) (sym behind) ho;
+        own = subst (Each (λ (b : SymBlock). first_local n ≤ b.number)) (sym behind) numbers;
+      }
+
+pub memory_picked : (old a new : List Term) (c : TermId) (xs ys given own blocks : List SymBlock) (n : ℕ) → IsTerm old 1 c → Keeps old a → Keeps a new
+    → AreSymBlocks a given → AreSymBlocks old (drop n xs) → AreSymBlocks old (drop n ys)
     → ((r : Reading) → memory_at r a given ≡ cond (bit_at r.v old c) (memory_at r old (take n xs)) (memory_at r old (take n ys)))
     → ((r : Reading) → memory_at r new own ≡ cond (bit_at r.v a c) (memory_at r a (drop n xs)) (memory_at r a (drop n ys)))
     → blocks ≡ given ++ own
     → (r : Reading) → memory_at r new blocks ≡ cond (bit_at r.v old c) (memory_at r old xs) (memory_at r old ys)
-memory_picked old a new c xs ys given own blocks n room hc ka kb hg hx hy sg so is r =
-    let e_given : memory_at r new given ≡ cond (bit_at r.v old c) (memory_at r old (take n xs)) (memory_at r old (take n ys)) = memory-later a new kb r given hg.are ∙ sg r in
+memory_picked old a new c xs ys given own blocks n hc ka kb hg hx hy sg so is r =
+    let e_given : memory_at r new given ≡ cond (bit_at r.v old c) (memory_at r old (take n xs)) (memory_at r old (take n ys)) = memory-later a new kb r given hg ∙ sg r in
     let e_own : memory_at r new own ≡ cond (bit_at r.v old c) (memory_at r old (drop n xs)) (memory_at r old (drop n ys)) =
     so r ∙ rw (bit-later old a ka r.v c hc.within, memory-later old a ka r (drop n xs) hx, memory-later old a ka r (drop n ys) hy) refl in
     let whole : memory_at r new blocks ≡ cond (bit_at r.v old c) (memory_at r old (take n xs)) (memory_at r old (take n ys)) ++ cond (bit_at r.v old c) (memory_at r old (drop n xs)) (memory_at r old (drop n ys)) =

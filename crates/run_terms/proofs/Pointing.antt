@@ -1,8 +1,9 @@
 -- Which given block a word names.
-use Rattle.std.proofs.Common.{ℕ, zero, suc, ◌≡◌, ◌<◌, ◌≤◌, ◌+◌, Bool, true, false, ◌&&◌, ◌||◌, cond, List, [], ◌∷◌, map, take, drop, nat_eq, nat_lt, nat_le, inl, inr, refl, ap, sym, subst, ◌∙◌, arith}
+use Rattle.std.proofs.Common.{ℕ, zero, suc, ◌≡◌, ◌<◌, ◌≤◌, ◌+◌, Bool, true, false, ◌&&◌, ◌||◌, cond, List, [], ◌∷◌, length, map, take, drop, nat_eq, nat_lt, nat_le, inl, inr, refl, ap, sym, subst, ◌∙◌, arith}
 use Rattle.std.specs.List.{list_any}
 use Rattle.std.proofs.lemmas.Bool.{cases_Bool}
 use Rattle.std.proofs.lemmas.Bool.Decides.{nat_tests}
+use Rattle.std.proofs.lemmas.List.{length-take}
 use Rattle.std.proofs.lemmas.List.Folds.{list_any-append}
 use Rattle.byte_block.specs.declared.value.BlockName.TheVariants.{Given}
 use Rattle.byte_block.specs.declared.block.MemoryBlock.{MemoryBlock}
@@ -12,10 +13,10 @@ use Rattle.bv_terms.specs.declared.term.Term.{Term}
 use Rattle.bv_terms.specs.Trees.{bit_at}
 use Rattle.mem_terms.specs.declared.blocks.SymBlock.{SymBlock}
 use Rattle.mem_terms.specs.Values.{Each, block_name, first_local}
-use Rattle.mem_terms.specs.Memory.{IsAlways, SymFrame, block_at, frame_of, given_frames, memory_at}
+use Rattle.mem_terms.specs.Memory.{IsAlways, block_at, frame_of, memory_at}
 use Rattle.mem_terms.proofs.Naming.{given_before, given_named as block_named, local_block}
 use Rattle.run_terms.specs.declared.state.RunMemory.{RunMemory}
-use Rattle.run_terms.specs.Runs.{Scene, IsRunMemory, sight}
+use Rattle.run_terms.specs.Runs.{AreNumberedFrom, Scene, IsRunMemory, sight}
 use Rattle.run_terms.proofs.Memories.{memory-parts}
 
 -- ---- the name of a number
@@ -44,31 +45,15 @@ first_or_more k first n = grind (arith, nat_tests)
 none_between : (k first : ℕ) → false ≡ (nat_le first k && nat_lt k (first + 0))
 none_between k first = grind (arith, nat_tests)
 
-frames_first : (b : SymBlock) (bs : List SymBlock) (first n bytes : ℕ) → map frame_of (b ∷ bs) ≡ given_frames first (suc n) bytes → (b.number ≡ first) × (map frame_of bs ≡ given_frames (first + 1) n bytes)
-frames_first b bs first n bytes e = (
-  ap (λ (fs : List SymFrame). number_of fs) e,
-  ap (λ (fs : List SymFrame). rest_of fs) e,
-)
-  where
-    number_of : List SymFrame → ℕ
-    number_of [] = 0
-    number_of (f ∷ fs) = f.number
-
-    rest_of : List SymFrame → List SymFrame
-    rest_of [] = []
-    rest_of (f ∷ fs) = fs
-
-given_named : (g : Scene) (terms : List Term) (k first n bytes : ℕ) (bs : List SymBlock) → Each (IsAlways terms) bs → map frame_of bs ≡ given_frames first n bytes → 0 < first → first + n ≤ g.given + 1
-    → list_any (names (Given k)) (memory_at (sight g) terms bs) ≡ (nat_le first k && nat_lt k (first + n))
+given_named : (g : Scene) (terms : List Term) (k first : ℕ) (bs : List SymBlock) → Each (IsAlways terms) bs → AreNumberedFrom first (map frame_of bs) → 0 < first → first + length bs ≤ g.given + 1
+    → list_any (names (Given k)) (memory_at (sight g) terms bs) ≡ (nat_le first k && nat_lt k (first + length bs))
 unfolding memory_at block_at
-given_named g terms k first zero bytes [] always frames some within = none_between k first
-given_named g terms k first zero bytes (b ∷ bs) always frames some within = absurd (let c : ⊥ = cc in c)
-given_named g terms k first (suc n) bytes [] always frames some within = absurd (let c : ⊥ = cc in c)
-given_named g terms k first (suc n) bytes (b ∷ bs) always frames some within =
-    let parts = frames_first b bs first n bytes frames in
-    let more = given_named g terms k (first + 1) n bytes bs always.1 parts.1 (omega arith) (omega (arith, within)) in
-    let here : equal_names (Given k) (block_name g.given b.number) ≡ nat_eq k first = rw parts.0 (given_number g.given k first some (omega (arith, within))) in
-    rw (always.0 g.v, more) (ap (λ (x : Bool). x || (nat_le (first + 1) k && nat_lt k ((first + 1) + n))) here ∙ first_or_more k first n)
+given_named g terms k first [] always numbered some within = none_between k first
+given_named g terms k first (b ∷ bs) always numbered some within =
+    let is : b.number ≡ first = numbered.0 in
+    let more = given_named g terms k (first + 1) bs always.1 numbered.1 (omega arith) (omega (arith, within)) in
+    let here : equal_names (Given k) (block_name g.given b.number) ≡ nat_eq k first = rw is (given_number g.given k first some (omega (arith, within))) in
+    rw (always.0 g.v, more) (ap (λ (x : Bool). x || (nat_le (first + 1) k && nat_lt k ((first + 1) + length bs))) here ∙ first_or_more k first (length bs))
 
 or_false : (b : Bool) → (b || false) ≡ b
 or_false true = refl
@@ -79,11 +64,13 @@ pub names_given : (g : Scene) (terms : List Term) (m : RunMemory) (k : ℕ) → 
     → list_any (names (Given k)) (memory_at (sight g) terms m.blocks) ≡ (nat_le 1 k && nat_lt k (1 + g.given))
 names_given g terms m k h same =
     let bs = m.blocks in
-    let given = given_named g terms k 1 m.given m.room (take m.given bs) h.given.always h.given.frames (omega arith) (omega (arith, same)) in
+    let taken = length-take m.given bs in
+    let many : length (take m.given bs) ≡ g.given = omega (arith, taken, h.count, same) in
+    let given = given_named g terms k 1 (take m.given bs) h.given.always h.numbered (omega arith) (omega (arith, many)) in
     let own = own_unnamed g terms k (drop m.given bs) (subst (λ (n : ℕ). Each (λ (b : SymBlock). first_local n ≤ b.number) (drop m.given m.blocks)) same h.own) in
     ap (list_any (names (Given k))) (sym (memory-parts (sight g) terms m.given bs))
     ∙ (list_any-append (names (Given k)) (memory_at (sight g) terms (take m.given bs)) (memory_at (sight g) terms (drop m.given bs))
-    ∙ (rw (given, own) (or_false (nat_le 1 k && nat_lt k (1 + m.given))) ∙ ap (λ (n : ℕ). nat_le 1 k && nat_lt k (1 + n)) same))
+    ∙ (rw (given, own) (or_false (nat_le 1 k && nat_lt k (1 + length (take m.given bs)))) ∙ ap (λ (n : ℕ). nat_le 1 k && nat_lt k (1 + n)) many))
 
 -- ---- the block that is chosen
 

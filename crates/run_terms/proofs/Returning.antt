@@ -1,8 +1,9 @@
 -- A return leaves the given blocks of its memory.
-use Rattle.std.proofs.Common.{ℕ, zero, suc, ◌≡◌, ◌<◌, ◌≤◌, ◌+◌, Bool, true, false, cond, if◌then◌else◌, List, [], ◌∷◌, ◌++◌, map, take, drop, Option, Some, None, refl, ap, sym, subst, ◌∙◌, arith}
+use Rattle.std.proofs.Common.{ℕ, ◌≡◌, ◌<◌, ◌≤◌, ◌+◌, Bool, true, false, cond, if◌then◌else◌, List, [], ◌∷◌, ◌++◌, length, map, take, drop, Option, Some, None, refl, ap, sym, subst, ◌∙◌, arith}
 use Rattle.std.specs.Prelude.{is_some}
 use Rattle.std.specs.Option.{option_map}
 use Rattle.std.specs.List.{filter}
+use Rattle.std.proofs.lemmas.List.{length-take}
 use Rattle.std.proofs.lemmas.List.Elements.{filter-append}
 use Rattle.byte_block.specs.declared.value.Value.{Value}
 use Rattle.byte_block.specs.declared.block.MemoryBlock.{MemoryBlock}
@@ -16,7 +17,7 @@ use Rattle.bv_terms.specs.Trees.{Keeps, IsTerm, bit_at}
 use Rattle.mem_terms.specs.declared.values.SymValue.{SymValue}
 use Rattle.mem_terms.specs.declared.blocks.SymBlock.{SymBlock}
 use Rattle.mem_terms.specs.Values.{Each, first_local, reading, value_at}
-use Rattle.mem_terms.specs.Memory.{AreGivenBlocks, SymFrame, block_at, frame_of, given_frames, memory_at}
+use Rattle.mem_terms.specs.Memory.{AreGivenBlocks, SymFrame, block_at, frame_of, memory_at}
 use Rattle.mem_terms.proofs.Later.{bit-later, memory-later}
 use Rattle.mem_terms.proofs.Naming.{given_named, local_block}
 use Rattle.run_terms.specs.declared.state.Tally.{Tally}
@@ -24,30 +25,21 @@ use Rattle.run_terms.specs.declared.state.RunMemory.{RunMemory}
 use Rattle.run_terms.specs.declared.state.RunState.{RunState}
 use Rattle.run_terms.specs.declared.frontier.Frontier.{Frontier}
 use Rattle.run_terms.specs.declared.setting.Setting.{Setting}
-use Rattle.run_terms.specs.Runs.{Scene, IsRunMemory, IsState, Counts, Carries, StateShape, Visit, shape_of, sight}
+use Rattle.run_terms.specs.Runs.{AreNumberedFrom, Scene, IsRunMemory, IsState, Counts, Carries, StateShape, Visit, shape_of, sight}
 use Rattle.run_terms.specs.Frontier.{EndingShape, HasShape, IsFrontier, Tells, Moves, shape_in}
 use Rattle.run_terms.proofs.Lasting.{tells-later}
 use Rattle.run_terms.proofs.Memories.{memory-parts}
 
 -- ---- their numbers
 
-abbrev first_number : List SymFrame → ℕ
-first_number [] = 0
-first_number (f ∷ fs) = f.number
-
-abbrev behind_first : List SymFrame → List SymFrame
-behind_first [] = []
-behind_first (f ∷ fs) = fs
-
 abbrev IsGivenNumber : ℕ → SymBlock → Type 0
 IsGivenNumber given b = (0 < b.number) × (b.number ≤ given)
 
-given_numbers : (given first n bytes : ℕ) (bs : List SymBlock) → map frame_of bs ≡ given_frames first n bytes → 0 < first → first + n ≤ given + 1 → Each (IsGivenNumber given) bs
-given_numbers given first n bytes [] e p q = tt
-given_numbers given first zero bytes (b ∷ bs) e p q = absurd (let c : ⊥ = cc in c)
-given_numbers given first (suc n) bytes (b ∷ bs) e p q =
-    let is : b.number ≡ first = ap first_number e in
-    ((omega (arith, is, p), omega (arith, is, q)), given_numbers given (first + 1) n bytes bs (ap behind_first e) (omega arith) (omega (arith, q)))
+given_numbers : (given first : ℕ) (bs : List SymBlock) → AreNumberedFrom first (map frame_of bs) → 0 < first → first + length bs ≤ given + 1 → Each (IsGivenNumber given) bs
+given_numbers given first [] numbered p q = tt
+given_numbers given first (b ∷ bs) numbered p q =
+    let is : b.number ≡ first = numbered.0 in
+    ((omega (arith, is, p), omega (arith, is, q)), given_numbers given (first + 1) bs numbered.1 (omega arith) (omega (arith, q)))
 
 -- ---- which blocks are given
 
@@ -86,7 +78,8 @@ none_behind (x ∷ xs) ys e = ap (λ zs. x ∷ zs) (none_behind xs ys e)
 pub given_left : (terms : List Term) (m : RunMemory) → IsRunMemory terms m → (v : ℕ → ℕ → ℕ) → filter is_given (memory_at (reading m.given v) terms m.blocks) ≡ memory_at (reading m.given v) terms (take m.given m.blocks)
 given_left terms m h v =
     let r = reading m.given v in
-    let front = front_stays m.given v terms (take m.given m.blocks) (given_numbers m.given 1 m.given m.room (take m.given m.blocks) h.given.frames (omega arith) (omega arith)) in
+    let taken = length-take m.given m.blocks in
+    let front = front_stays m.given v terms (take m.given m.blocks) (given_numbers m.given 1 (take m.given m.blocks) h.numbered (omega arith) (omega (arith, taken, h.count))) in
     let own = own_goes m.given v terms (drop m.given m.blocks) h.own in
     ap (filter is_given) (sym (memory-parts r terms m.given m.blocks))
     ∙ (filter-append is_given (memory_at r terms (take m.given m.blocks)) (memory_at r terms (drop m.given m.blocks))
@@ -98,14 +91,12 @@ pub done_if : (p : Bool) (x y : Run) → cond p (Done x) (Done y) ≡ Done (if p
 done_if true x y = refl
 done_if false x y = refl
 
--- the given blocks, with the number and the room of the ending's
+-- of the given blocks of a state the same is known as of the ending's
 pub given_shaped : (setting : Setting) (terms : List Term) (w : Frontier) (s : RunState) → HasShape setting w → shape_of s ≡ shape_in setting → IsState terms s
-    → AreGivenBlocks w.ending.memory.given w.ending.memory.room terms (take s.memory.given s.memory.blocks)
+    → AreGivenBlocks (map frame_of w.ending.blocks) terms (take s.memory.given s.memory.blocks)
 given_shaped setting terms w s shape fits h =
-    let given : s.memory.given ≡ w.ending.memory.given = ap (λ (x : StateShape). x.given) fits ∙ sym (ap (λ (x : EndingShape). x.given) shape.ending) in
-    let room : s.memory.room ≡ w.ending.memory.room = ap (λ (x : StateShape). x.room) fits ∙ sym (ap (λ (x : EndingShape). x.room) shape.ending) in
-    subst (λ (n : ℕ). AreGivenBlocks n w.ending.memory.room terms (take s.memory.given s.memory.blocks)) given
-    (subst (λ (n : ℕ). AreGivenBlocks s.memory.given n terms (take s.memory.given s.memory.blocks)) room h.memory.given)
+    let frames = ap (λ (x : StateShape). x.frames) fits ∙ sym (ap (λ (x : EndingShape). x.frames) shape.ending) in
+    subst (λ (fs : List SymFrame). AreGivenBlocks fs terms (take s.memory.given s.memory.blocks)) frames h.memory.given
 
 pub ending_valued : (setting : Setting) (w : Frontier) → HasShape setting w → is_some w.ending.value ≡ is_some setting.f.now.returns
 ending_valued setting w shape = ap (λ (x : EndingShape). x.valued) shape.ending

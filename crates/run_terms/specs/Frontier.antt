@@ -27,7 +27,7 @@ use Rattle.bv_terms.specs.declared.term.TermId.{TermId}
 use Rattle.bv_terms.specs.declared.term.Term.{Term}
 use Rattle.bv_terms.specs.Trees.{IsTerm, bit_at}
 use Rattle.mem_terms.specs.Values.{Each, IsSymValue, Reading, value_at}
-use Rattle.mem_terms.specs.Memory.{AreGivenBlocks, memory_at}
+use Rattle.mem_terms.specs.Memory.{AreGivenBlocks, SymFrame, frame_of, frames_of, memory_at}
 use Rattle.run_terms.specs.declared.state.RunState.{RunState}
 use Rattle.run_terms.specs.declared.ending.Ending.{Ending}
 use Rattle.run_terms.specs.declared.setting.Setting.{Setting}
@@ -75,11 +75,11 @@ pub record IsEnding (terms : List Term) (e : Ending) : Type 0 where
   pub ub : IsTerm terms 1 e.ub
   pub beyond : IsTerm terms 1 e.beyond
   pub value : IfSome e.value (IsSymValue terms)
-  pub given : AreGivenBlocks e.memory.given e.memory.room terms e.memory.blocks
+  pub given : AreGivenBlocks (map frame_of e.blocks) terms e.blocks
   pub tally : IsTally terms e.tally
 
 abbrev pub ending_at : Reading → List Term → Ending → Outcome
-ending_at r terms e = cond (bit_at r.v terms e.ub) Ub (cond (bit_at r.v terms e.beyond) Beyond (Return (option_map (value_at r terms) e.value) (memory_at r terms e.memory.blocks)))
+ending_at r terms e = cond (bit_at r.v terms e.ub) Ub (cond (bit_at r.v terms e.beyond) Beyond (Return (option_map (value_at r terms) e.value) (memory_at r terms e.blocks)))
 
 -- it ended with this run
 pub record EndedSo (g : Scene) (terms : List Term) (e : Ending) (run : Run) : Type 0 where
@@ -129,22 +129,21 @@ pub record IsFrontier (terms : List Term) (w : Frontier) : Type 0 where
 
 -- the states that the run of a function may be in
 abbrev pub shape_in : Setting → StateShape
-shape_in s = record { names = length s.f.now.names; given = s.given; room = s.room }
+shape_in s = record { names = length s.f.now.names; frames = frames_of s.layout.now }
 
--- whether it has a value, how many given blocks, and for how many bytes each has room
+-- whether it has a value, and what is known of its given blocks
 pub record EndingShape : Type 0 where
   pub valued : Bool
-  pub given : ℕ
-  pub room : ℕ
+  pub frames : List SymFrame
 
 abbrev pub ending_shape : Ending → EndingShape
-ending_shape e = record { valued = is_some e.value; given = e.memory.given; room = e.memory.room }
+ending_shape e = record { valued = is_some e.value; frames = map frame_of e.blocks }
 
 -- an entry for each copy, and states and an ending as the function has them
 pub record HasShape (s : Setting) (w : Frontier) : Type 0 where
   pub ahead : HaveShape (shape_in s) w.ahead
   pub count : length w.ahead ≡ length s.copies.now
-  pub ending : ending_shape w.ending ≡ record { valued = is_some s.f.now.returns; given = s.given; room = s.room }
+  pub ending : ending_shape w.ending ≡ record { valued = is_some s.f.now.returns; frames = frames_of s.layout.now }
 
 -- None is a run that has left one copy and isn't yet at another
 pub record Tells (g : Scene) (terms : List Term) (w : Frontier) (at : Option Where) : Type 0 where

@@ -1,5 +1,5 @@
 -- What the terms of a run so far denote.
-use Rattle.std.specs.Prelude.{◌≡◌, ℕ, ◌+◌, ◌≤◌, Bool, true, false, ◌&&◌, ◌||◌, nat_eq, nat_lt, List, [], ◌∷◌, length, take, drop, Option, Some, None, slice_index}
+use Rattle.std.specs.Prelude.{◌≡◌, ℕ, ◌+◌, ◌≤◌, Bool, true, false, ◌&&◌, ◌||◌, nat_eq, nat_lt, List, [], ◌∷◌, length, map, take, drop, Option, Some, None, slice_index}
 use Rattle.ir_tree.specs.declared.tree.Inst.{Inst}
 use Rattle.points.specs.declared.machine.Machine.{Machine}
 use Rattle.points.specs.Run.{act}
@@ -8,7 +8,7 @@ use Rattle.bv_terms.specs.declared.term.Term.{Term}
 use Rattle.bv_terms.specs.Trees.{IsTerm, bit_at, term_at}
 use Rattle.mem_terms.specs.declared.blocks.SymBlock.{SymBlock}
 use Rattle.mem_terms.specs.Values.{Each, AreSymValues, Reading, first_local, reading, values_at}
-use Rattle.mem_terms.specs.Memory.{AreGivenBlocks, AreSymBlocks, memory_at}
+use Rattle.mem_terms.specs.Memory.{AreGivenBlocks, AreSymBlocks, SymFrame, frame_of, memory_at}
 use Rattle.mem_terms.specs.Inputs.{words_at}
 use Rattle.run_terms.specs.declared.state.Tally.{Tally}
 use Rattle.run_terms.specs.declared.state.RunMemory.{RunMemory}
@@ -49,9 +49,20 @@ pub record Counts (g : Scene) (terms : List Term) (t : Tally) (taken : List ℕ)
   pub read : term_at g.v terms t.read ≡ length taken
   pub fits : bit_at g.v terms t.fits ≡ fits_from g.tape 0 taken
 
+-- what is known of the given blocks
+abbrev pub frames_in : RunMemory → List SymFrame
+frames_in m = map frame_of (take m.given m.blocks)
+
+-- numbered from this number on
+abbrev pub AreNumberedFrom : ℕ → List SymFrame → Type 0
+AreNumberedFrom first [] = Unit {0}
+AreNumberedFrom first (f ∷ fs) = (f.number ≡ first) × AreNumberedFrom (first + 1) fs
+
 -- the given blocks, and after them those of allocas, whose numbers are above each number of 3 bits
 pub record IsRunMemory (terms : List Term) (m : RunMemory) : Type 0 where
-  pub given : AreGivenBlocks m.given m.room terms (take m.given m.blocks)
+  pub given : AreGivenBlocks (frames_in m) terms (take m.given m.blocks)
+  pub count : m.given ≤ length m.blocks
+  pub numbered : AreNumberedFrom 1 (frames_in m)
   pub are : AreSymBlocks terms (drop m.given m.blocks)
   pub own : Each (λ (b : SymBlock). first_local m.given ≤ b.number) (drop m.given m.blocks)
 
@@ -61,14 +72,13 @@ pub record IsState (terms : List Term) (s : RunState) : Type 0 where
   pub memory : IsRunMemory terms s.memory
   pub tally : IsTally terms s.tally
 
--- how many names it has, how many given blocks, and for how many bytes each has room
+-- how many names it has, and what is known of its given blocks
 pub record StateShape : Type 0 where
   pub names : ℕ
-  pub given : ℕ
-  pub room : ℕ
+  pub frames : List SymFrame
 
 abbrev pub shape_of : RunState → StateShape
-shape_of s = record { names = length s.registers; given = s.memory.given; room = s.memory.room }
+shape_of s = record { names = length s.registers; frames = frames_in s.memory }
 
 -- the block that a run is in, by its label, and how many backward jumps it has taken
 pub record Visit : Type 0 where

@@ -1,6 +1,6 @@
 //! How a run ended.
 
-ghost use Rattle.std.specs.Prelude.{◌≡◌, true, false, ℕ, List, IfOk, OnOk, IfSome, None, Some, Option, cond, is_some};
+ghost use Rattle.std.specs.Prelude.{◌≡◌, true, false, ℕ, List, IfOk, OnOk, IfSome, None, Some, Option, cond, is_some, map};
 ghost use Rattle.std.specs.Option.{option_map};
 ghost use Rattle.points.specs.declared.machine.Machine.{Machine};
 ghost use Rattle.points.specs.declared.outcome.Outcome.TheVariants as outcome;
@@ -8,16 +8,16 @@ ghost use Rattle.points.specs.Run.{Run};
 ghost use Rattle.unroll.specs.Layers.{Where, Done};
 ghost use Rattle.bv_terms.specs.Trees.{IsTerm, Keeps, bit_at};
 ghost use Rattle.mem_terms.specs.Values.{IsSymValue, Reading, value_at};
-ghost use Rattle.mem_terms.specs.Memory.{AreGivenBlocks, memory_at};
+ghost use Rattle.mem_terms.specs.Memory.{AreGivenBlocks, frame_of, memory_at};
 ghost use Rattle.run_terms.specs.Runs.{Scene, IsTally, Counts, sight};
 ghost use Rattle.run_terms.specs.Frontier.{IsEnding, EndTells, ending_shape};
 
 use crate::joining::pick_tally;
-use crate::state::{RunMemory, Tally};
+use crate::state::Tally;
 use bv_terms::{TermId, Terms};
 use mem_terms::{SymBlock, SymValue, either, pick_given, pick_value};
 use std::alloc::Global;
-use support::NoMemory;
+use support::{NoMemory, Sequence};
 
 /// How a run has ended so far, if it has: in undefined behaviour where `ub` is true, past the bound
 /// on jumps where `beyond` is, else in a return.
@@ -28,7 +28,7 @@ pub struct Ending {
     /// What it returns, where the function has a type.
     pub value: Option<SymValue>,
     /// The given blocks that it leaves.
-    pub memory: RunMemory,
+    pub blocks: Sequence<SymBlock>,
     pub tally: Tally,
 }
 
@@ -86,7 +86,7 @@ impl Ending {
         requires own { IsEnding terms.old self.old }
         requires alike { is_some value ≡ is_some self.old.value }
         requires value { IfSome value (IsSymValue terms.old) }
-        requires given { AreGivenBlocks self.old.memory.given self.old.memory.room terms.old given.now }
+        requires given { AreGivenBlocks (map frame_of self.old.blocks) terms.old given.now }
         requires c { IsTerm terms.old 1 c }
         requires tally { IsTally terms.old tally }
         ensures own { OnOk result (IsEnding terms.new self.new) }
@@ -97,8 +97,8 @@ impl Ending {
         ensures kept { Keeps terms.old terms.new }
     {
         self.value = pick_returned(terms, c, value, self.value)?;
-        let left = self.memory.blocks.as_slice();
-        self.memory.blocks = pick_given(alloc, terms, c, given, left)?;
+        let left = self.blocks.as_slice();
+        self.blocks = pick_given(alloc, terms, c, given, left)?;
         self.tally = pick_tally(terms, c, tally, self.tally)?;
         Ok(())
     }

@@ -1,6 +1,6 @@
 //! Where a run is between two copies.
 
-ghost use Rattle.std.specs.Prelude.{◌≡◌, ◌<◌, true, false, ℕ, List, is_some, IfOk, OnOk, IfSome, None, Some, Option, length, slice_get, slice_set};
+ghost use Rattle.std.specs.Prelude.{◌≡◌, ◌<◌, true, false, ℕ, List, is_some, IfOk, OnOk, IfSome, None, Some, Option, length, map, slice_get, slice_set};
 ghost use Rattle.std.specs.Option.{option_map};
 ghost use Rattle.points.specs.declared.machine.Machine.{Machine};
 ghost use Rattle.points.specs.declared.outcome.Outcome.TheVariants as outcome;
@@ -8,7 +8,7 @@ ghost use Rattle.points.specs.Run.{entered};
 ghost use Rattle.unroll.specs.Layers.{Where, At, Done};
 ghost use Rattle.bv_terms.specs.Trees.{IsTerm, Keeps, bit_at};
 ghost use Rattle.mem_terms.specs.Values.{IsSymValue, value_at};
-ghost use Rattle.mem_terms.specs.Memory.{AreGivenBlocks, memory_at};
+ghost use Rattle.mem_terms.specs.Memory.{AreGivenBlocks, frame_of, memory_at};
 ghost use Rattle.run_terms.specs.Runs.{Scene, IsState, IsTally, Counts, Carries, Visit, shape_of, sight, visit_of};
 ghost use Rattle.run_terms.specs.Frontier.{AheadTells, AreStates, HaveShape, IsFrontier, Moves, Tells, ending_shape};
 
@@ -172,7 +172,7 @@ impl Frontier {
         requires c { IsTerm terms.old 1 c }
         requires value { IfSome value (IsSymValue terms.old) }
         requires alike { is_some value ≡ is_some self.old.ending.value }
-        requires given { AreGivenBlocks self.old.ending.memory.given self.old.ending.memory.room terms.old given.now }
+        requires given { AreGivenBlocks (map frame_of self.old.ending.blocks) terms.old given.now }
         requires tally { IsTally terms.old tally }
         ensures own { OnOk result (IsFrontier terms.new self.new) }
         ensures ahead { OnOk result (self.new.ahead ≡ self.old.ahead) }

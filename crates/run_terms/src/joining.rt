@@ -5,7 +5,7 @@ ghost use Rattle.bv_terms.specs.Trees.{IsTerm, Keeps, Tests, bit_at};
 ghost use Rattle.mem_terms.specs.Values.{AreSymValues, Reading, values_at};
 ghost use Rattle.mem_terms.specs.Memory.{memory_at};
 ghost use Rattle.points.specs.declared.machine.Machine.{Machine};
-ghost use Rattle.run_terms.specs.Runs.{Scene, IsRunMemory, IsState, IsTally, Counts, Carries, Visit, shape_of};
+ghost use Rattle.run_terms.specs.Runs.{Scene, IsRunMemory, IsState, IsTally, Counts, Carries, Visit, frames_in, shape_of};
 
 use crate::state::{RunMemory, RunState, Tally};
 use access_terms::pick_memory;
@@ -79,11 +79,10 @@ fn pick_blocks(
     requires c { IsTerm terms.old 1 c }
     requires a { IsRunMemory terms.old a.now }
     requires b { IsRunMemory terms.old b.now }
-    requires given { b.now.given ≡ a.now.given }
-    requires room { b.now.room ≡ a.now.room }
+    requires frames { frames_in b.now ≡ frames_in a.now }
     ensures made { IfOk result (IsRunMemory terms.new) }
     ensures given { IfOk result (λ m. m.given ≡ a.now.given) }
-    ensures room { IfOk result (λ m. m.room ≡ a.now.room) }
+    ensures frames { IfOk result (λ m. frames_in m ≡ frames_in a.now) }
     ensures stands { IfOk result (λ m. (r : Reading) → memory_at r terms.new m.blocks ≡ cond (bit_at r.v terms.old c) (memory_at r terms.old a.now.blocks) (memory_at r terms.old b.now.blocks)) }
     ensures kept { Keeps terms.old terms.new }
 {
@@ -95,7 +94,6 @@ fn pick_blocks(
     Ok(RunMemory {
         blocks,
         given: a.given,
-        room: a.room,
     })
 }
 

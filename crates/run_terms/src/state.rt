@@ -22,8 +22,6 @@ pub struct RunMemory {
     pub blocks: Sequence<SymBlock>,
     /// How many blocks are given.
     pub given: usize,
-    /// For how many bytes each given block has room.
-    pub room: usize,
 }
 
 /// The state of a run at a point of the function, if the run comes there.
@@ -51,7 +49,6 @@ impl RunMemory {
         Ok(RunMemory {
             blocks: Sequence::from_vec(blocks),
             given: self.given,
-            room: self.room,
         })
     }
 

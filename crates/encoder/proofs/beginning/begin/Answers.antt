@@ -1,10 +1,11 @@
-use Rattle.std.proofs.Common.{◌∙◌, refl, ap, not, sym, length}
+use Rattle.std.proofs.Common.{◌≡◌, ◌∙◌, refl, ap, not, sym, length}
 use Rattle.mem_terms.specs.Values.{Each}
+use Rattle.mem_terms.specs.Memory.{frames_of}
 use Rattle.mem_terms.specs.Inputs.{IsBlockTerms, IsByteTerms}
 use Rattle.mem_terms.proofs.Eaches.{each-weaker}
 use Rattle.mem_terms.proofs.Later.{keeps_trans, args-later, args_at-later, term-later, bit-later, sym_values-later, is_term-later, sizes-later, block_terms_each-later, given_blocks_at-later, given_blocks-later}
 use Rattle.run_terms.proofs.Lasting.{run_memory-later}
-use Rattle.run_terms.proofs.Arguments.{begin_carries, only_given}
+use Rattle.run_terms.proofs.Arguments.{begin_carries, only_frames, only_given}
 use Rattle.encoder.proofs.beginning.begin.Goals as goal
 
 pub give_args-requires-clause-args : goal.give_args-requires-clause-args
@@ -34,10 +35,7 @@ given_memory-requires-clause-places c =
     let y = c.negation.new.terms in
     let kab = keeps_trans old a b c.poison_registers.ensures.kept c.give_args.ensures.kept in
     let k = keeps_trans old x y (keeps_trans old b x kab c.breaks_no_undef.ensures.kept) c.negation.ensures.kept in
-    block_terms_each-later old y k c.args.room c.args.input.now.places c.requires.places
-
-pub given_memory-requires-clause-count : goal.given_memory-requires-clause-count
-given_memory-requires-clause-count c = sym c.requires.block_count
+    block_terms_each-later old y k c.args.layout.now.bytes c.args.input.now.places c.requires.places
 
 pub returns-clause-undefined : goal.returns-clause-undefined
 returns-clause-undefined c =
@@ -77,7 +75,7 @@ returns-clause-alive c = λ r.
     ∙ (c.in_ok-alive.ensures.made.says r.v ∙ ap not (sym (bit-later x d kx r.v c.in_ok-undefined.undefined c.in_ok-undefined.ensures.made.within)))
 
 pub returns-clause-carries : goal.returns-clause-carries
-returns-clause-carries c =
+returns-clause-carries c = λ g given.
     let old = c.args.terms.now in
     let a = c.poison_registers.new.terms in
     let b = c.give_args.new.terms in
@@ -93,12 +91,12 @@ returns-clause-carries c =
     begin_carries old a b y z d c.args.f.now input c.in_ok-registers.registers
     (record { alive = c.in_ok-alive.alive; registers = c.give_args.new.registers; memory = c.in_ok-memory.memory; tally = record { read = c.in_ok-read.read; fits = c.in_ok-fits.fits }; most = 0 })
     c.poison_registers.ensures.kept c.give_args.ensures.kept kby c.given_memory.ensures.kept (keeps_trans z n d c.number.ensures.kept c.truth.ensures.kept)
-    c.requires.args c.in_ok-give_args.ensures.made (only_given z c.in_ok-memory.memory (length input.sizes) c.args.room memory.given memory.count memory.room)
+    c.requires.args c.in_ok-give_args.ensures.made (only_given z c.in_ok-memory.memory c.args.layout.now memory.given memory.count)
     (λ r. rw c.len.ensures at (c.in_ok-registers.ensures.stands r)) (λ r named. rw (c.as_slice.ensures, c.as_slice-args.ensures) at (c.in_ok-give_args.ensures.stands r named))
     memory.stands
-    (λ r. given_blocks_at-later old y (keeps_trans old b y kab kby) r 1 input.sizes input.places c.requires.sizes (each-weaker (IsBlockTerms c.args.room old) (Each (IsByteTerms old)) input.places (λ bytes h. h.are) c.requires.places))
-    memory.count
-    (λ v. term-later n d c.truth.ensures.kept v c.in_ok-read.read c.in_ok-read.ensures.made.within ∙ c.in_ok-read.ensures.made.says v) (λ v. c.in_ok-fits.ensures.made.says v)
+    (λ r. given_blocks_at-later old y (keeps_trans old b y kab kby) r 1 input.sizes input.places c.requires.sizes (each-weaker (IsBlockTerms c.args.layout.now.bytes old) (Each (IsByteTerms old)) input.places (λ bytes h. h.are) c.requires.places))
+    (memory.count ∙ sym c.requires.size_count)
+    (λ v. term-later n d c.truth.ensures.kept v c.in_ok-read.read c.in_ok-read.ensures.made.within ∙ c.in_ok-read.ensures.made.says v) (λ v. c.in_ok-fits.ensures.made.says v) g (given ∙ sym c.requires.size_count)
 
 pub returns-clause-state : goal.returns-clause-state
 returns-clause-state c =
@@ -118,16 +116,23 @@ returns-clause-state c =
     record {
       alive = is_term-later y d kyd 1 c.in_ok-alive.alive (record { within = alive.within; wide = alive.wide });
       registers = sym_values-later b d (keeps_trans b y d kby kyd) c.give_args.new.registers c.in_ok-give_args.ensures.made;
-      memory = run_memory-later z d kzd c.in_ok-memory.memory (only_given z c.in_ok-memory.memory (length c.args.input.now.sizes) c.args.room memory.given memory.count memory.room);
+      memory = run_memory-later z d kzd c.in_ok-memory.memory (only_given z c.in_ok-memory.memory c.args.layout.now memory.given memory.count);
       tally = record {
         read = is_term-later n d c.truth.ensures.kept 64 c.in_ok-read.read (record { within = read.within; wide = read.wide });
         fits = record { within = fits.within; wide = fits.wide };
       };
     }
 
+pub returns-clause-shape : goal.returns-clause-shape
+returns-clause-shape c =
+    let memory = c.in_ok-memory.ensures in
+    let names : length c.give_args.new.registers ≡ length c.args.f.now.names = c.in_ok-give_args.ensures.count ∙ (c.in_ok-registers.ensures.count ∙ c.len.ensures) in
+    let frames = only_frames c.given_memory.new.terms c.in_ok-memory.memory c.args.layout.now memory.given memory.count in
+    λ i. record { names = names i; frames = frames i }
+
 pub returns-clause-given : goal.returns-clause-given
 returns-clause-given c =
     let z = c.given_memory.new.terms in
     let n = c.number.new.terms in
     let d = c.truth.new.terms in
-    given_blocks-later z d (keeps_trans z n d c.number.ensures.kept c.truth.ensures.kept) (length c.args.input.now.sizes) c.args.room c.in_ok-memory.memory.blocks c.in_ok-memory.ensures.given
+    given_blocks-later z d (keeps_trans z n d c.number.ensures.kept c.truth.ensures.kept) (frames_of c.args.layout.now) c.in_ok-memory.memory.blocks c.in_ok-memory.ensures.given

@@ -1,5 +1,8 @@
+use Rattle.std.proofs.Common.{◌≡◌, map}
+use Rattle.mem_terms.specs.Memory.{frame_of, frames_of}
 use Rattle.mem_terms.proofs.Later.{given_blocks-later, is_term-later, keeps_trans}
 use Rattle.run_terms.proofs.Lasting.{some-later}
+use Rattle.run_terms.proofs.Memories.{given_framed}
 use Rattle.encoder.proofs.function_run.no_end.Goals as goal
 
 pub returns-clause-made : goal.returns-clause-made
@@ -15,9 +18,15 @@ returns-clause-made c =
       ub = record { within = never.within; wide = never.wide };
       beyond = record { within = never.within; wide = never.wide };
       value = some-later a new kan c.in_ok-value.value c.in_ok-value.ensures.made;
-      given = rw c.in_ok-blocks.ensures (given_blocks-later old new k c.args.setting.given c.args.setting.room c.args.memory.now.blocks c.requires);
+      given = rw c.in_ok-blocks.ensures (given_framed (frames_of c.args.setting.layout.now) new c.args.memory.now.blocks (given_blocks-later old new k (frames_of c.args.setting.layout.now) c.args.memory.now.blocks c.requires));
       tally = record {
         read = is_term-later b new c.truth.ensures.kept 64 c.in_ok-read.read (record { within = c.in_ok-read.ensures.made.within; wide = c.in_ok-read.ensures.made.wide });
         fits = record { within = never.within; wide = never.wide };
       };
     }
+
+pub returns-clause-shape : goal.returns-clause-shape
+returns-clause-shape c =
+    let frames : map frame_of c.in_ok-blocks.field-0.blocks ≡ frames_of c.args.setting.layout.now = rw c.in_ok-blocks.ensures c.requires.frames in
+    let alike = c.in_ok-value.ensures.alike in
+    λ i. record { valued = alike i; frames = frames i }

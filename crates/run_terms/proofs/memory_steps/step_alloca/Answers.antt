@@ -2,9 +2,10 @@ use Rattle.std.proofs.Common.{◌≤◌, ◌∙◌, refl, subst, sym, ℕ, arith
 use Rattle.mem_terms.specs.Values.{first_local}
 use Rattle.mem_terms.proofs.Later.{keeps_trans, is_term-later, sym_blocks-later, term-later}
 use Rattle.mem_terms.proofs.Naming.{given_before}
+use Rattle.run_terms.specs.declared.state.RunMemory.{RunMemory}
 use Rattle.run_terms.proofs.Lasting.{memory_blocks}
 use Rattle.run_terms.proofs.Stepping.{set_shape}
-use Rattle.run_terms.proofs.Changing.{alloca_memory}
+use Rattle.run_terms.proofs.Changing.{alloca_frames, alloca_memory, memory_shape}
 use Rattle.run_terms.proofs.Accessing.{memory_state, whole_object}
 use Rattle.run_terms.proofs.Loading.{alloca_follows}
 use Rattle.run_terms.proofs.memory_steps.step_alloca.Goals as goal
@@ -28,11 +29,16 @@ returns-clause-state c =
     let grown = c.in_ok-alloca.ensures.grown in
     rw c.assign.ensures (memory_state old new k s c.requires.state c.args.into c.in_ok-address.address s.alive (record s.memory { blocks = c.alloca.new.memory })
     (is_term-later old new k 1 s.alive c.requires.state.alive)
-    (alloca_memory old new k s.memory c.requires.state.memory c.alloca.new.memory grown.0 (sym_blocks-later a new kn c.alloca.new.memory c.in_ok-alloca.ensures.memory) grown.1 (subst (λ (n : ℕ). first_local s.memory.given ≤ n) (sym grown.2) c.requires.own))
+    (alloca_memory old s.memory c.requires.state.memory c.alloca.new.memory grown.0 grown.1 new k (sym_blocks-later a new kn c.alloca.new.memory c.in_ok-alloca.ensures.memory) (subst (λ (n : ℕ). first_local s.memory.given ≤ n) (sym grown.2) c.requires.own))
     c.in_ok-address.ensures.made)
 
 pub returns-clause-shape : goal.returns-clause-shape
-returns-clause-shape c = rw c.assign.ensures (set_shape c.args.state.now c.args.into c.in_ok-address.address)
+returns-clause-shape c =
+    let s = c.args.state.now in
+    let grown = c.in_ok-alloca.ensures.grown in
+    let memory : RunMemory = record s.memory { blocks = c.alloca.new.memory } in
+    rw c.assign.ensures (set_shape (record s { memory = memory }) c.args.into c.in_ok-address.address
+    ∙ memory_shape s memory (alloca_frames c.args.terms.now s.memory c.requires.state.memory c.alloca.new.memory grown.0 grown.1))
 
 pub returns-clause-stands : goal.returns-clause-stands
 returns-clause-stands c =

@@ -1,5 +1,5 @@
 use Rattle.mem_terms.proofs.Later.{keeps_trans, sym_blocks-later, sym_values-later}
-use Rattle.run_terms.proofs.Changing.{blocks_later, store_memory}
+use Rattle.run_terms.proofs.Changing.{blocks_later, memory_shape, store_frames, store_memory}
 use Rattle.run_terms.proofs.Accessing.{written_state}
 use Rattle.run_terms.proofs.Loading.{store_follows}
 use Rattle.run_terms.proofs.memory_steps.step_store.Goals as goal
@@ -23,6 +23,11 @@ returns-clause-state c =
     written_state old new k s c.requires.state c.in_ok-state.field-0 (record s.memory { blocks = c.store.new.memory })
     (record { within = c.in_ok-state.ensures.made.within; wide = c.in_ok-state.ensures.made.wide })
     (store_memory old new k s.memory c.requires.state.memory c.store.new.memory (sym_blocks-later w new c.both.ensures.kept c.store.new.memory c.in_ok-is_defined.ensures.memory) c.in_ok-is_defined.ensures.frames)
+
+pub returns-clause-shape : goal.returns-clause-shape
+returns-clause-shape c =
+    let s = c.args.state.now in
+    memory_shape s (record s.memory { blocks = c.store.new.memory }) (store_frames s.memory c.store.new.memory c.in_ok-is_defined.ensures.frames)
 
 pub returns-clause-stands : goal.returns-clause-stands
 returns-clause-stands c =

@@ -1,13 +1,12 @@
 use Rattle.std.proofs.Common.{◌∙◌, sym, refl, None}
 use Rattle.points.specs.declared.machine.Machine.{Machine}
 use Rattle.mem_terms.proofs.Later.{keeps_self}
-use Rattle.run_terms.proofs.Memories.{given_within}
 use Rattle.run_terms.proofs.Through.{shape_after}
 use Rattle.run_terms.proofs.Returning.{ending_valued, given_shaped, moves_return}
 use Rattle.run_terms.proofs.terminators.leave_by_return.Goals as goal
 
 pub given-given-requires : goal.given-given-requires
-given-given-requires c = given_within c.args.terms.now c.args.state.now.memory c.requires.state.memory
+given-given-requires c = c.requires.state.memory.count
 
 pub end_return-requires-clause-alike : goal.end_return-requires-clause-alike
 end_return-requires-clause-alike c = sym (ending_valued c.args.setting c.args.frontier.now c.requires.shape ∙ sym (rw c.in-None.is at c.requires.value))

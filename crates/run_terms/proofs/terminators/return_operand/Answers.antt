@@ -8,14 +8,13 @@ use Rattle.mem_terms.proofs.Later.{given_blocks-later}
 use Rattle.mem_terms.proofs.Naming.{naming}
 use Rattle.run_terms.specs.Runs.{sight}
 use Rattle.run_terms.proofs.Lasting.{counts-later, frontier-later, tally-later}
-use Rattle.run_terms.proofs.Memories.{given_within}
 use Rattle.run_terms.proofs.Moving.{moves_to}
 use Rattle.run_terms.proofs.Through.{shape_after}
 use Rattle.run_terms.proofs.Returning.{ending_valued, given_shaped, moves_return}
 use Rattle.run_terms.proofs.terminators.return_operand.Goals as goal
 
 pub given-given-requires : goal.given-given-requires
-given-given-requires c = given_within c.args.terms.now c.args.state.now.memory c.requires.state.memory
+given-given-requires c = c.requires.state.memory.count
 
 pub end_return-requires-clause-own : goal.end_return-requires-clause-own
 end_return-requires-clause-own c = frontier-later c.args.terms.now c.choose.new.terms c.choose.ensures.kept c.args.frontier.now c.requires.frontier
@@ -25,8 +24,7 @@ end_return-requires-clause-alike c = sym (ending_valued c.args.setting c.args.fr
 
 pub end_return-requires-clause-given : goal.end_return-requires-clause-given
 end_return-requires-clause-given c =
-    let ending = c.args.frontier.now.ending in
-    rw c.given-given.ensures (given_blocks-later c.args.terms.now c.choose.new.terms c.choose.ensures.kept ending.memory.given ending.memory.room _
+    rw c.given-given.ensures (given_blocks-later c.args.terms.now c.choose.new.terms c.choose.ensures.kept _ _
     (given_shaped c.args.setting c.args.terms.now c.args.frontier.now c.args.state.now c.requires.shape c.requires.fits c.requires.state))
 
 pub end_return-requires-in-None-clause-own : goal.end_return-requires-in-None-clause-own
@@ -37,8 +35,7 @@ end_return-requires-in-None-clause-alike c = sym (ending_valued c.args.setting c
 
 pub end_return-requires-in-None-clause-given : goal.end_return-requires-in-None-clause-given
 end_return-requires-in-None-clause-given c =
-    let ending = c.args.frontier.now.ending in
-    rw c.given-given.ensures (given_blocks-later c.args.terms.now c.typed_operand_of.new.terms c.typed_operand_of.ensures.kept ending.memory.given ending.memory.room _
+    rw c.given-given.ensures (given_blocks-later c.args.terms.now c.typed_operand_of.new.terms c.typed_operand_of.ensures.kept _ _
     (given_shaped c.args.setting c.args.terms.now c.args.frontier.now c.args.state.now c.requires.shape c.requires.fits c.requires.state))
 
 pub end_return-requires-in-None-clause-tally : goal.end_return-requires-in-None-clause-tally

@@ -1,3 +1,5 @@
+use Rattle.std.proofs.Common.{map}
+use Rattle.mem_terms.specs.Memory.{frame_of}
 use Rattle.mem_terms.proofs.Later.{keeps_trans, is_term-later, given_blocks-later}
 use Rattle.run_terms.proofs.Lasting.{some-later}
 use Rattle.run_terms.proofs.Ended.{beyond_stays}
@@ -16,6 +18,6 @@ returns-clause-own c =
       ub = is_term-later old b k 1 c.args.self.now.ub c.requires.own.ub;
       beyond = is_term-later c.either.new.terms c.pick_tally.new.terms c.pick_tally.ensures.kept 1 c.in_ok-self.field-0 (record { within = c.in_ok-self.ensures.made.within; wide = c.in_ok-self.ensures.made.wide });
       value = some-later old b k c.args.self.now.value c.requires.own.value;
-      given = given_blocks-later old b k c.args.self.now.memory.given c.args.self.now.memory.room c.args.self.now.memory.blocks c.requires.own.given;
+      given = given_blocks-later old b k (map frame_of c.args.self.now.blocks) c.args.self.now.blocks c.requires.own.given;
       tally = c.in_ok-self-2.ensures.made;
     }
