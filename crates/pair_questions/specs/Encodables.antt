@@ -12,6 +12,6 @@ encoded_of f None = f
 
 -- what is encoded may be run instead of the function, and the copies are those of its blocks
 pub record IsEncodable (turns : ℕ) (e : Encodable) : Type 0 where
-  pub turns : e.layered.turns ≡ turns
+  pub within : e.layered.turns ≡ turns
   pub stands_in : IsStandIn e.of.now (encoded_of e.of.now e.slotted)
   pub copies : e.layered.copies ≡ copies_of turns (encoded_of e.of.now e.slotted)

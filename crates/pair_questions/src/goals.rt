@@ -50,9 +50,14 @@ fn and_uncovered(
     ensures made { IfOk result (Narrows trial.now terms.old terms.new goal (λ v. words_at v terms.old candidate.now.words ∷ [])) }
     ensures kept { Keeps terms.old terms.new }
 {
-    let source = trial
-        .source
-        .encode(alloc, trial.bounds, trial.layout, trial.input, candidate, terms)?;
+    let source = trial.source.encode(
+        alloc,
+        trial.bounds,
+        trial.layout,
+        trial.input,
+        candidate,
+        terms,
+    )?;
     let is_covered = covered(&source, trial.target, terms)?;
     let is_uncovered = negation(terms, is_covered)?;
     let id = both(terms, goal, is_uncovered)?;
@@ -146,9 +151,14 @@ pub fn target_run(
     ensures made { IfOk result (IsOfTarget subject.now.pair.now subject.now.bounds.now terms.new input.now tape.now) }
     ensures kept { Keeps terms.old terms.new }
 {
-    let outcome = subject
-        .target
-        .encode(alloc, subject.bounds, &subject.shape.layout, input, tape, terms)?;
+    let outcome = subject.target.encode(
+        alloc,
+        subject.bounds,
+        &subject.shape.layout,
+        input,
+        tape,
+        terms,
+    )?;
     Ok(outcome)
 }
 
@@ -200,9 +210,14 @@ pub fn covering(
     let input = known_input(alloc, &subject.shape, point, terms)?;
     let choices = known(alloc, point.tape.as_slice(), terms)?;
     let target = target_run(alloc, subject, &input, &choices, terms)?;
-    let source = subject
-        .source
-        .encode(alloc, subject.bounds, &subject.shape.layout, &input, tape, terms)?;
+    let source = subject.source.encode(
+        alloc,
+        subject.bounds,
+        &subject.shape.layout,
+        &input,
+        tape,
+        terms,
+    )?;
     let id = covered(&source, &target, terms)?;
     Ok(id)
 }

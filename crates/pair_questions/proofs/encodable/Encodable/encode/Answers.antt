@@ -6,7 +6,7 @@ use Rattle.mem_terms.specs.Outcomes.{Shows}
 use Rattle.pair_questions.proofs.encodable.Encodable.encode.Goals as goal
 
 pub encode-requires-clause-layers : goal.encode-requires-clause-layers
-encode-requires-clause-layers c = rw (c.encoded_of-f.ensures, c.requires.encodable.turns) c.requires.encodable.copies
+encode-requires-clause-layers c = rw (c.encoded_of-f.ensures, c.requires.encodable.within) c.requires.encodable.copies
 
 pub encode-requires-clause-input : goal.encode-requires-clause-input
 encode-requires-clause-input c =
@@ -19,4 +19,4 @@ returns-clause-stands c =
     let words = c.args.tape.now.words in
     λ v. subst (λ (run : Run). Shows (reading blocks v) c.encode.new.terms (words_at v old words) run c.in_ok-outcome.outcome)
     (c.requires.encodable.stands_in.runs c.args.bounds.now (input_at (reading blocks v) old c.args.input.now) (words_at v old words))
-    (rw c.encoded_of-f.ensures at (c.in_ok-outcome.ensures.stands c.args.bounds.now v (sym c.requires.encodable.turns)))
+    (rw c.encoded_of-f.ensures at (c.in_ok-outcome.ensures.stands c.args.bounds.now v (sym c.requires.encodable.within)))
