@@ -41,7 +41,7 @@ each-more P (y ∷ ys) x h p = (h.0, each-more P ys x h.1 p)
 pub blocks_later : (old new : List Term) (k : Keeps old new) (m : RunMemory) → IsRunMemory old m → AreSymBlocks new m.blocks
 blocks_later old new k m h = sym_blocks-later old new k m.blocks (memory_blocks old m h)
 
--- ---- the same is known of the given blocks
+-- ---- the shape of a state with another memory
 
 pub memory_shape : (s : RunState) (m : RunMemory) → frames_in m ≡ frames_in s.memory → shape_of (record s { memory = m }) ≡ shape_of s
 memory_shape s m e = λ i. record { names = length s.registers; frames = e i }
@@ -70,7 +70,7 @@ frames_less (b ∷ bs) = ap (λ (fs : List SymFrame). frame_of b ∷ fs) (frames
 front_same : (m : RunMemory) (blocks : List SymBlock) → map sym_frame blocks ≡ map sym_frame m.blocks → map sym_frame (take m.given blocks) ≡ map sym_frame (take m.given m.blocks)
 front_same m blocks same = sym (take-map sym_frame m.given blocks) ∙ (ap (take m.given) same ∙ take-map sym_frame m.given m.blocks)
 
--- of the given blocks the same is known
+-- the frames of the given blocks stay
 pub store_frames : (m : RunMemory) (blocks : List SymBlock) → map sym_frame blocks ≡ map sym_frame m.blocks → frames_in (record m { blocks = blocks }) ≡ frames_in m
 store_frames m blocks same = frames_less (take m.given blocks) ∙ (ap (map less_framed) (front_same m blocks same) ∙ sym (frames_less (take m.given m.blocks)))
 
@@ -100,7 +100,7 @@ module _ (old : List Term) (m : RunMemory) (h : IsRunMemory old m) (blocks : Lis
   count : length (take m.given m.blocks) ≡ m.given
   count = sym (map-length frame_of (take m.given m.blocks)) ∙ frames_count m h.count
 
-  -- of the given blocks the same is known
+  -- the frames of the given blocks stay
   pub alloca_frames : frames_in (record m { blocks = blocks }) ≡ frames_in m
   alloca_frames = frames_made (take m.given m.blocks) (drop m.given m.blocks ++ b ∷ []) blocks m.given count parts (frames_in m) refl
 

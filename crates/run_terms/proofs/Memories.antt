@@ -25,11 +25,11 @@ frames_count m h =
     let taken = length-take m.given m.blocks in
     omega (arith, all, taken, h)
 
--- two memories of which the same is known have as many given blocks
+-- memories with the same frames have as many given blocks
 pub same_given : (terms : List Term) (a b : RunMemory) → IsRunMemory terms a → IsRunMemory terms b → frames_in b ≡ frames_in a → b.given ≡ a.given
 same_given terms a b ha hb e = sym (frames_count b hb.count) ∙ (ap length e ∙ frames_count a ha.count)
 
--- of given blocks is known what their frames say
+-- given blocks, by their own frames
 pub given_framed : (known : List SymFrame) (terms : List Term) (bs : List SymBlock) → AreGivenBlocks known terms bs → AreGivenBlocks (map frame_of bs) terms bs
 given_framed known terms bs h = record { are = h.are; always = h.always; frames = refl }
 
@@ -53,7 +53,7 @@ cond-append false xs ys zs ws = refl
 
 -- ---- one of two memories
 
--- the parts of a memory of whose given blocks the same is known as of another's
+-- the parts of the second memory, where the frames of its given blocks are those of the first
 pub given_like : (terms : List Term) (a b : RunMemory) → IsRunMemory terms a → IsRunMemory terms b → frames_in b ≡ frames_in a
     → AreGivenBlocks (frames_in a) terms (take a.given b.blocks) × AreSymBlocks terms (drop a.given b.blocks) × Each (λ (x : SymBlock). first_local a.given ≤ x.number) (drop a.given b.blocks)
 given_like terms a b ha hb e =

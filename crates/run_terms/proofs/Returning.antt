@@ -91,7 +91,7 @@ pub done_if : (p : Bool) (x y : Run) → cond p (Done x) (Done y) ≡ Done (if p
 done_if true x y = refl
 done_if false x y = refl
 
--- of the given blocks of a state the same is known as of the ending's
+-- the given blocks of a state have the frames of the ending
 pub given_shaped : (setting : Setting) (terms : List Term) (w : Frontier) (s : RunState) → HasShape setting w → shape_of s ≡ shape_in setting → IsState terms s
     → AreGivenBlocks (map frame_of w.ending.blocks) terms (take s.memory.given s.memory.blocks)
 given_shaped setting terms w s shape fits h =
