@@ -65,7 +65,6 @@ fn no_bytes(alloc: Global, layout: &Layout, number: u64) -> Result<MemoryBlock, 
 pub fn layout_of(pair: &Pair, bounds: &Bounds) -> Layout
     ensures { result ≡ layout_of pair.now bounds.now }
 {
-    let _ = pair;
     Layout {
         blocks: bounds.blocks,
         bytes: bounds.bytes,
