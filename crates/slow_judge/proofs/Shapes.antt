@@ -13,15 +13,15 @@ use Rattle.slow_judge.proofs.Searching.{AreFit}
 
 pub shape_fits : (pair : Functions) (bounds : Bounds) (s : Shape) → IsShapeOf pair bounds s → AreFit (IsOfShape s) pair bounds
 shape_fits pair bounds s shape = λ q of_shape. record {
-  args = rw (shape.blocks, shape.parameters) at of_shape.args;
-  given = rw (shape.blocks, shape.bytes) at of_shape.given;
+  args = rw (shape.layout, shape.parameters) at of_shape.args;
+  given = rw shape.layout at of_shape.given;
   tape = rw (shape.word_width, shape.words) at of_shape.tape;
 }
 
 pub fits_shape : (pair : Functions) (bounds : Bounds) (s : Shape) (p : Point) → IsShapeOf pair bounds s → IsFit pair bounds p → IsOfShape s p
 fits_shape pair bounds s p shape fits = record {
-  args = rw (shape.blocks, shape.parameters) fits.args;
-  given = rw (shape.blocks, shape.bytes) fits.given;
+  args = rw (shape.layout, shape.parameters) fits.args;
+  given = rw shape.layout fits.given;
   tape = rw (shape.word_width, shape.words) fits.tape;
 }
 
@@ -31,7 +31,7 @@ point_fits pair bounds p point = record { args = point.args; given = point.given
 -- ---- one after another
 
 place_is : (pair : Functions) (bounds : Bounds) (s : Shape) (p : Point) → IsShapeOf pair bounds s → place_in_shape s p ≡ place_in pair bounds p
-place_is pair bounds s p shape = rw (shape.blocks, shape.parameters) refl
+place_is pair bounds s p shape = rw (shape.layout, shape.parameters) refl
 
 less_as : (a a' b b' : ℕ) → a ≡ a' → b ≡ b' → a < b → a' < b'
 less_as a a' b b' e f h = omega (arith, e, f, h)

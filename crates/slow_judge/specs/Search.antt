@@ -8,11 +8,12 @@ use Rattle.byte_block.specs.declared.value.Value.{Value}
 use Rattle.byte_block.specs.declared.block.MemoryBlock.{MemoryBlock}
 use Rattle.points.specs.declared.point.Bounds.{Bounds}
 use Rattle.points.specs.declared.point.Budget.{Budget}
+use Rattle.points.specs.declared.point.Layout.{Layout}
 use Rattle.points.specs.declared.point.Point.{Point}
 use Rattle.points.specs.declared.point.Shape.{Shape}
 use Rattle.verdicts.specs.declared.verdict.Kept.{Kept}
 use Rattle.verdicts.specs.declared.verdict.Verdict.{Verdict}
-use Rattle.verdicts.specs.Pair.{Functions}
+use Rattle.verdicts.specs.Pair.{Functions, layout_of}
 use Rattle.points.specs.Code.{ArgsFit, WordsFit}
 use Rattle.points.specs.Next.{least_value}
 use Rattle.points.specs.Run.{run_of, IsPlain}
@@ -41,29 +42,32 @@ DoesEnd pair bounds p ending memory = (run_of pair.target bounds p.input p.tape)
 
 -- ---- given blocks
 
--- a given block of size 0, with room for this number of bytes
-abbrev pub empty_block : ℕ → ℕ → MemoryBlock
-empty_block bytes number = record { name = Given number; size = 0; align = 16; places = replicate bytes (byte.Num 0) }
+-- the given block of this number, with size 0
+abbrev pub empty_block : Layout → ℕ → MemoryBlock
+empty_block layout number = record { name = Given number; size = 0; align = 16; places = replicate layout.bytes (byte.Num 0) }
 
--- this number of them, numbered from 1
-unfoldable pub empty_blocks : ℕ → ℕ → List MemoryBlock
-empty_blocks bytes zero = []
-empty_blocks bytes (suc n) = empty_blocks bytes n ++ empty_block bytes (n + 1) ∷ []
+-- the first n of them, numbered from 1
+unfoldable pub first_empty : Layout → ℕ → List MemoryBlock
+first_empty layout zero = []
+first_empty layout (suc n) = first_empty layout n ++ empty_block layout (n + 1) ∷ []
+
+-- all of them
+abbrev pub empty_blocks : Layout → List MemoryBlock
+empty_blocks layout = first_empty layout layout.blocks
 
 -- ---- the points in order, whether or not their tape is plain
 
 -- the shape of the pair's points
 pub record IsShapeOf (pair : Functions) (bounds : Bounds) (s : Shape) : Type 0 where
   pub parameters : s.parameters ≡ pair.target.parameters
-  pub blocks : s.blocks ≡ bounds.blocks
-  pub bytes : s.bytes ≡ bounds.bytes
+  pub layout : s.layout ≡ layout_of pair bounds
   pub words : s.words ≡ need_of bounds.turns pair.target
   pub word_width : s.word_width.bits ≡ widest_choice pair.target
 
 -- a cell is a point with empty blocks
 pub record IsCell (pair : Functions) (bounds : Bounds) (p : Point) : Type 0 where
-  pub args : ArgsFit bounds.blocks pair.target.parameters p.input.args
-  pub blocks : p.input.blocks ≡ empty_blocks bounds.bytes bounds.blocks
+  pub args : ArgsFit (layout_of pair bounds) pair.target.parameters p.input.args
+  pub blocks : p.input.blocks ≡ empty_blocks (layout_of pair bounds)
   pub tape : WordsFit (widest_choice pair.target) (need_of bounds.turns pair.target) p.tape
 
 -- the least argument of each parameter

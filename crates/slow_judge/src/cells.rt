@@ -2,13 +2,14 @@ ghost use Rattle.std.specs.Prelude.{◌≡◌, IfOk, IsTrue, IsFalse, length, re
 ghost use Rattle.ir_tree.specs.Pointers.{AreIntegers};
 ghost use Rattle.points.specs.Next.{least_value};
 ghost use Rattle.points.specs.Tapes.{need_of, widest_choice};
+ghost use Rattle.verdicts.specs.Pair.{layout_of};
 ghost use Rattle.verdicts.specs.Trail.{place_in};
 ghost use Rattle.pair_costs.specs.Small.{AreSmall};
 ghost use Rattle.slow_judge.specs.Search.{empty_block, empty_blocks, least_args, IsCell, IsNextCell, IsLastCell};
 
 use byte_block::{BlockName, Byte, Memory, MemoryBlock, Ptr, Value};
 use ir_tree::{IrType, Parameter};
-use points::{Bounds, Input, Point, next_args, next_words, zero_from};
+use points::{Bounds, Input, Layout, Point, next_args, next_words, zero_from};
 use std::alloc::{AllocError, Global};
 use support::{NoMemory, Sequence};
 use tv_num::Width;
@@ -49,25 +50,35 @@ pub fn zeros(alloc: Global, count: usize) -> Result<Sequence<u64>, NoMemory>
     Ok(Sequence::from_vec(vec![in alloc; 0; count]?))
 }
 
-fn no_bytes(alloc: Global, room: u64, number: u64) -> Result<MemoryBlock, NoMemory>
-    ensures { IfOk result (λ block. block ≡ empty_block room number) }
+fn no_bytes(alloc: Global, layout: &Layout, number: u64) -> Result<MemoryBlock, NoMemory>
+    ensures { IfOk result (λ block. block ≡ empty_block layout.now number) }
 {
     Ok(MemoryBlock {
         name: BlockName::Given(number),
         size: 0,
         align: 16,
-        places: Sequence::from_vec(zero_bytes(alloc, room as usize)?),
+        places: Sequence::from_vec(zero_bytes(alloc, layout.bytes as usize)?),
     })
+}
+
+/// What the memory of the pair's inputs looks like.
+pub fn layout_of(pair: &Pair, bounds: &Bounds) -> Layout
+    ensures { result ≡ layout_of pair.now bounds.now }
+{
+    Layout {
+        blocks: bounds.blocks,
+        bytes: bounds.bytes,
+    }
 }
 
 /// The given blocks with size 0.
 #[tactic(auto, using(crate::proofs::Order::empty_none, crate::proofs::Order::empty_more))]
-pub fn blocks_without_bytes(alloc: Global, bounds: &Bounds) -> Result<Memory, NoMemory>
-    ensures { IfOk result (λ memory. memory ≡ empty_blocks bounds.now.bytes bounds.now.blocks) }
+pub fn blocks_without_bytes(alloc: Global, layout: &Layout) -> Result<Memory, NoMemory>
+    ensures { IfOk result (λ memory. memory ≡ empty_blocks layout.now) }
 {
     let mut blocks = Vec::new(alloc);
-    for i in 0..bounds.blocks {
-        blocks.push(no_bytes(alloc, bounds.bytes, i + 1)?)?;
+    for i in 0..layout.blocks {
+        blocks.push(no_bytes(alloc, layout, i + 1)?)?;
     }
     Ok(Sequence::from_vec(blocks))
 }
@@ -79,7 +90,7 @@ pub fn first(alloc: Global, pair: &Pair, bounds: &Bounds, need: usize) -> Result
     ensures place { IfOk result (λ p. place_in pair.now bounds.now p ≡ 0) }
 {
     let args = first_args(alloc, pair.target().parameters.as_slice())?;
-    let blocks = blocks_without_bytes(alloc, bounds)?;
+    let blocks = blocks_without_bytes(alloc, &layout_of(pair, bounds))?;
     let tape = zeros(alloc, need)?;
     Ok(Point {
         input: Input {

@@ -10,7 +10,7 @@ ghost use Rattle.pair_costs.specs.Small.{AreSmall};
 ghost use Rattle.slow_judge.specs.Search.{AreRunnable, HaveNoPointers, IsShapeOf, IsCell, IsReady, IsBench, IsLeastAmong, AreCoveredAmong};
 
 use crate::bench::Bench;
-use crate::cells::{first, next_cell, zeros};
+use crate::cells::{first, layout_of, next_cell, zeros};
 use crate::cover::{is_cover, is_uncovered};
 use crate::pointers::have_no_pointers;
 use byte_block::Memory;
@@ -45,8 +45,7 @@ fn shape_of(alloc: Global, pair: &Pair, bounds: &Bounds, of_target: Tape) -> Res
     let parameters = pair.target().parameters.as_slice().to_vec(alloc)?;
     Ok(Shape {
         parameters: Sequence::from_vec(parameters),
-        blocks: bounds.blocks,
-        bytes: bounds.bytes,
+        layout: layout_of(pair, bounds),
         words: of_target.words as u64,
         word_width: of_target.width,
     })

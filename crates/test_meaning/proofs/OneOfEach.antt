@@ -3,92 +3,93 @@ use Rattle.std.proofs.Common.{◌≡◌, inl, inr, ℕ, ◌^◌, ◌<◌, ◌≤
 use Rattle.tv_num.specs.declared.Width.{Width}
 use Rattle.ir_tree.specs.declared.tree.IrType.TheVariants.{Int, Ptr}
 use Rattle.ir_tree.specs.declared.tree.Parameter.{Parameter}
+use Rattle.points.specs.declared.point.Layout.{Layout}
 use Rattle.points.specs.declared.point.Shape.{Shape}
 use Rattle.points.specs.Codes.{IsCodeOfValue, IsCodeOfPlaces, IsCode}
 
 abbrev pub bit : Width → Parameter
 bit w = record { of_type = Int w; no_undef = false; non_null = false; name = 0 }
 
-pub one_of_each : (s : Shape) (w : Width) (flag n size kind m block offset part word : ℕ) → w.bits ≡ 1 → s.parameters ≡ bit w ∷ [] → s.blocks ≡ 1 → s.bytes ≡ 1 → s.words ≡ 1 → s.word_width.bits ≡ 1 → IsCodeOfValue 1 (Int w) (flag ∷ n ∷ []) → size ≤ 1 → IsCodeOfPlaces 1 1 size (kind ∷ m ∷ block ∷ offset ∷ part ∷ []) → word < 2 → IsCode s (flag ∷ n ∷ size ∷ kind ∷ m ∷ block ∷ offset ∷ part ∷ word ∷ [])
+pub one_of_each : (s : Shape) (w : Width) (flag n size kind m block offset part word : ℕ) → w.bits ≡ 1 → s.parameters ≡ bit w ∷ [] → s.layout.blocks ≡ 1 → s.layout.bytes ≡ 1 → s.words ≡ 1 → s.word_width.bits ≡ 1 → IsCodeOfValue s.layout (Int w) (flag ∷ n ∷ []) → size ≤ 1 → IsCodeOfPlaces s.layout 1 size (kind ∷ m ∷ block ∷ offset ∷ part ∷ []) → word < 2 → IsCode s (flag ∷ n ∷ size ∷ kind ∷ m ∷ block ∷ offset ∷ part ∷ word ∷ [])
 one_of_each s w flag n size kind m block offset part word bits parameters blocks bytes words width value small places low = record {
   front = flag ∷ n ∷ [];
   back = size ∷ kind ∷ m ∷ block ∷ offset ∷ part ∷ word ∷ [];
   whole = refl;
-  in_front = rw (parameters, blocks) (record { front = flag ∷ n ∷ []; back = []; whole = refl; in_front = value; in_back = refl });
+  in_front = rw parameters (record { front = flag ∷ n ∷ []; back = []; whole = refl; in_front = value; in_back = refl });
   in_back = record {
     front = size ∷ [];
     back = kind ∷ m ∷ block ∷ offset ∷ part ∷ word ∷ [];
     whole = refl;
-    in_front = rw (blocks, bytes) (small, tt);
+    in_front = rw blocks (rw bytes small, tt);
     in_back = record {
       front = kind ∷ m ∷ block ∷ offset ∷ part ∷ [];
       back = word ∷ [];
       whole = refl;
-      in_front = rw (blocks, bytes) (record { front = kind ∷ m ∷ block ∷ offset ∷ part ∷ []; back = []; whole = refl; in_front = places; in_back = refl });
+      in_front = record { front = kind ∷ m ∷ block ∷ offset ∷ part ∷ []; back = []; whole = refl; in_front = rw bytes places; in_back = refl };
       in_back = rw (words, width) (low, tt);
     };
   };
 }
 
-pub zero_bit : (w : Width) → w.bits ≡ 1 → IsCodeOfValue 1 (Int w) (0 ∷ 0 ∷ [])
-zero_bit w bits = inl (record { number = 0; is = refl; small = rw bits (omega arith) })
+pub zero_bit : (layout : Layout) (w : Width) → w.bits ≡ 1 → IsCodeOfValue layout (Int w) (0 ∷ 0 ∷ [])
+zero_bit layout w bits = inl (record { number = 0; is = refl; small = rw bits (omega arith) })
 
-pub one_bit : (w : Width) → w.bits ≡ 1 → IsCodeOfValue 1 (Int w) (0 ∷ 1 ∷ [])
-one_bit w bits = inl (record { number = 1; is = refl; small = rw bits (omega arith) })
+pub one_bit : (layout : Layout) (w : Width) → w.bits ≡ 1 → IsCodeOfValue layout (Int w) (0 ∷ 1 ∷ [])
+one_bit layout w bits = inl (record { number = 1; is = refl; small = rw bits (omega arith) })
 
-pub number_place : (m : ℕ) → m < 2 ^ 8 → IsCodeOfPlaces 1 1 1 (0 ∷ m ∷ 0 ∷ 0 ∷ 0 ∷ [])
-number_place m small = record { front = 0 ∷ m ∷ 0 ∷ 0 ∷ 0 ∷ []; back = []; whole = refl; in_front = inl (record { number = m; is = refl; small = small }); in_back = refl }
+pub number_place : (layout : Layout) (m : ℕ) → m < 2 ^ 8 → IsCodeOfPlaces layout 1 1 (0 ∷ m ∷ 0 ∷ 0 ∷ 0 ∷ [])
+number_place layout m small = record { front = 0 ∷ m ∷ 0 ∷ 0 ∷ 0 ∷ []; back = []; whole = refl; in_front = inl (record { number = m; is = refl; small = small }); in_back = refl }
 
-pub part_place : (block offset part : ℕ) → block ≤ 1 → offset < 2 ^ 64 → part ≤ 7 → IsCodeOfPlaces 1 1 1 (1 ∷ 0 ∷ block ∷ offset ∷ part ∷ [])
-part_place block offset part given small of_eight = record { front = 1 ∷ 0 ∷ block ∷ offset ∷ part ∷ []; back = []; whole = refl; in_front = inr (inl (record { block = block; offset = offset; part = part; is = refl; given = given; small = small; of_eight = of_eight })); in_back = refl }
+pub part_place : (layout : Layout) (block offset part : ℕ) → layout.blocks ≡ 1 → block ≤ 1 → offset < 2 ^ 64 → part ≤ 7 → IsCodeOfPlaces layout 1 1 (1 ∷ 0 ∷ block ∷ offset ∷ part ∷ [])
+part_place layout block offset part blocks given small of_eight = record { front = 1 ∷ 0 ∷ block ∷ offset ∷ part ∷ []; back = []; whole = refl; in_front = inr (inl (record { block = block; offset = offset; part = part; is = refl; given = rw blocks given; small = small; of_eight = of_eight })); in_back = refl }
 
-pub poison_place : IsCodeOfPlaces 1 1 1 (2 ∷ 0 ∷ 0 ∷ 0 ∷ 0 ∷ [])
-poison_place = record { front = 2 ∷ 0 ∷ 0 ∷ 0 ∷ 0 ∷ []; back = []; whole = refl; in_front = inr (inr refl); in_back = refl }
+pub poison_place : (layout : Layout) → IsCodeOfPlaces layout 1 1 (2 ∷ 0 ∷ 0 ∷ 0 ∷ 0 ∷ [])
+poison_place layout = record { front = 2 ∷ 0 ∷ 0 ∷ 0 ∷ 0 ∷ []; back = []; whole = refl; in_front = inr (inr refl); in_back = refl }
 
-pub no_place : IsCodeOfPlaces 1 1 0 (0 ∷ 0 ∷ 0 ∷ 0 ∷ 0 ∷ [])
-no_place = record { front = 0 ∷ 0 ∷ 0 ∷ 0 ∷ 0 ∷ []; back = []; whole = refl; in_front = refl; in_back = refl }
+pub no_place : (layout : Layout) → IsCodeOfPlaces layout 1 0 (0 ∷ 0 ∷ 0 ∷ 0 ∷ 0 ∷ [])
+no_place layout = record { front = 0 ∷ 0 ∷ 0 ∷ 0 ∷ 0 ∷ []; back = []; whole = refl; in_front = refl; in_back = refl }
 
-pub without_bytes : (s : Shape) (w : Width) → w.bits ≡ 1 → s.parameters ≡ bit w ∷ bit w ∷ [] → s.blocks ≡ 1 → s.bytes ≡ 0 → s.words ≡ 2 → s.word_width.bits ≡ 1 → IsCode s (0 ∷ 0 ∷ 0 ∷ 0 ∷ 0 ∷ 0 ∷ 0 ∷ [])
+pub without_bytes : (s : Shape) (w : Width) → w.bits ≡ 1 → s.parameters ≡ bit w ∷ bit w ∷ [] → s.layout.blocks ≡ 1 → s.layout.bytes ≡ 0 → s.words ≡ 2 → s.word_width.bits ≡ 1 → IsCode s (0 ∷ 0 ∷ 0 ∷ 0 ∷ 0 ∷ 0 ∷ 0 ∷ [])
 without_bytes s w bits parameters blocks bytes words width = record {
   front = 0 ∷ 0 ∷ 0 ∷ 0 ∷ [];
   back = 0 ∷ 0 ∷ 0 ∷ [];
   whole = refl;
-  in_front = rw (parameters, blocks) (record { front = 0 ∷ 0 ∷ []; back = 0 ∷ 0 ∷ []; whole = refl; in_front = zero_bit w bits; in_back = record { front = 0 ∷ 0 ∷ []; back = []; whole = refl; in_front = zero_bit w bits; in_back = refl } });
+  in_front = rw parameters (record { front = 0 ∷ 0 ∷ []; back = 0 ∷ 0 ∷ []; whole = refl; in_front = zero_bit s.layout w bits; in_back = record { front = 0 ∷ 0 ∷ []; back = []; whole = refl; in_front = zero_bit s.layout w bits; in_back = refl } });
   in_back = record {
     front = 0 ∷ [];
     back = 0 ∷ 0 ∷ [];
     whole = refl;
-    in_front = rw (blocks, bytes) (omega arith, tt);
+    in_front = rw blocks (rw bytes (omega arith), tt);
     in_back = record {
       front = [];
       back = 0 ∷ 0 ∷ [];
       whole = refl;
-      in_front = rw (blocks, bytes) (record { front = []; back = []; whole = refl; in_front = refl; in_back = refl });
+      in_front = record { front = []; back = []; whole = refl; in_front = rw bytes refl; in_back = refl };
       in_back = rw (words, width) (omega arith, (omega arith, tt));
     };
   };
 }
 
-pub one_pointer : (s : Shape) (flag block offset : ℕ) → s.parameters ≡ record { of_type = Ptr; no_undef = false; non_null = false; name = 0 } ∷ [] → s.blocks ≡ 1 → s.bytes ≡ 0 → s.words ≡ 0 → IsCodeOfValue 1 Ptr (flag ∷ block ∷ offset ∷ []) → IsCode s (flag ∷ block ∷ offset ∷ 0 ∷ [])
+pub one_pointer : (s : Shape) (flag block offset : ℕ) → s.parameters ≡ record { of_type = Ptr; no_undef = false; non_null = false; name = 0 } ∷ [] → s.layout.blocks ≡ 1 → s.layout.bytes ≡ 0 → s.words ≡ 0 → IsCodeOfValue s.layout Ptr (flag ∷ block ∷ offset ∷ []) → IsCode s (flag ∷ block ∷ offset ∷ 0 ∷ [])
 one_pointer s flag block offset parameters blocks bytes words value = record {
   front = flag ∷ block ∷ offset ∷ [];
   back = 0 ∷ [];
   whole = refl;
-  in_front = rw (parameters, blocks) (record { front = flag ∷ block ∷ offset ∷ []; back = []; whole = refl; in_front = value; in_back = refl });
+  in_front = rw parameters (record { front = flag ∷ block ∷ offset ∷ []; back = []; whole = refl; in_front = value; in_back = refl });
   in_back = record {
     front = 0 ∷ [];
     back = [];
     whole = refl;
-    in_front = rw (blocks, bytes) (omega arith, tt);
+    in_front = rw blocks (rw bytes (omega arith), tt);
     in_back = record {
       front = [];
       back = [];
       whole = refl;
-      in_front = rw (blocks, bytes) (record { front = []; back = []; whole = refl; in_front = refl; in_back = refl });
+      in_front = record { front = []; back = []; whole = refl; in_front = rw bytes refl; in_back = refl };
       in_back = rw words tt;
     };
   };
 }
 
-pub pointer_to : (block offset : ℕ) → block ≤ 1 → offset < 2 ^ 64 → IsCodeOfValue 1 Ptr (0 ∷ block ∷ offset ∷ [])
-pointer_to block offset given small = inl (record { block = block; offset = offset; is = refl; given = given; small = small })
+pub pointer_to : (layout : Layout) (block offset : ℕ) → layout.blocks ≡ 1 → block ≤ 1 → offset < 2 ^ 64 → IsCodeOfValue layout Ptr (0 ∷ block ∷ offset ∷ [])
+pointer_to layout block offset blocks given small = inl (record { block = block; offset = offset; is = refl; given = rw blocks given; small = small })

@@ -6,7 +6,7 @@ ghost use Rattle.points.specs.Codes.{IsCode};
 
 use crate::expecting::expect;
 use ir_tree::{IrType, Parameter};
-use points::{Point, Shape, code_of, next, point_of};
+use points::{Layout, Point, Shape, code_of, next, point_of};
 use std::alloc::{AllocError, Global};
 use std::test::Fail;
 use support::{NoMemory, Sequence};
@@ -28,15 +28,17 @@ fn shape_with(
     words: u64,
 ) -> Result<Shape, NoMemory>
     ensures parameters { IfOk result (λ s. s.parameters ≡ replicate count parameter) }
-    ensures blocks { IfOk result (λ s. s.blocks ≡ 1) }
-    ensures bytes { IfOk result (λ s. s.bytes ≡ bytes) }
+    ensures blocks { IfOk result (λ s. s.layout.blocks ≡ 1) }
+    ensures bytes { IfOk result (λ s. s.layout.bytes ≡ bytes) }
     ensures words { IfOk result (λ s. s.words ≡ words) }
     ensures width { IfOk result (λ s. s.word_width.bits ≡ 1) }
 {
     Ok(Shape {
         parameters: Sequence::from_vec(repeated(alloc, parameter, count)?),
-        blocks: 1,
-        bytes,
+        layout: Layout {
+            blocks: 1,
+            bytes,
+        },
         words,
         word_width: Width::of(1),
     })

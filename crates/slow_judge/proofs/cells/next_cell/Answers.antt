@@ -1,4 +1,6 @@
 use Rattle.std.proofs.Common.{◌≡◌, length, replicate, refl, ap, ◌∙◌, arith}
+use Rattle.points.specs.Code.{no_blocks}
+use Rattle.verdicts.specs.Pair.{layout_of}
 use Rattle.points.proofs.Args.{any_blocks}
 use Rattle.points.proofs.Words.{WordsFit-length}
 use Rattle.slow_judge.proofs.Order.{next_by_tape, next_by_args, last_by_both}
@@ -15,7 +17,7 @@ returns-then-next_words-clause-next c = λ _.
 pub next_args-requires-clause-fit : goal.next_args-requires-clause-fit
 next_args-requires-clause-fit c =
     let ps : c.as_slice.result.now ≡ c.args.pair.now.target.parameters = c.as_slice.ensures ∙ ap (λ f. f.parameters) c.target.ensures.value in
-    rw ps (any_blocks c.args.bounds.now.blocks 0 c.args.pair.now.target.parameters c.args.point.now.input.args c.requires.integers c.requires.cell.args)
+    rw ps (any_blocks (layout_of c.args.pair.now c.args.bounds.now) no_blocks c.args.pair.now.target.parameters c.args.point.now.input.args c.requires.integers c.requires.cell.args)
 
 pub returns-then-next_args-clause-next : goal.returns-then-next_args-clause-next
 returns-then-next_args-clause-next c = λ _.

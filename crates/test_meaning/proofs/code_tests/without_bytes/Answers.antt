@@ -1,4 +1,4 @@
-use Rattle.points.proofs.OneOfEach.{without_bytes}
+use Rattle.test_meaning.proofs.OneOfEach.{without_bytes}
 use Rattle.test_meaning.proofs.code_tests.without_bytes.Goals as goal
 
 pub returns : goal.returns
