@@ -1,12 +1,12 @@
 //! The resolvent of a chain.
 
-ghost use Rattle.std.specs.Prelude.{◌≡◌, ◌++◌, [], IfOk, IsTrue, List, Some, option_copied, map, length};
+ghost use Rattle.std.specs.Prelude.{◌≡◌, ◌++◌, [], IfOk, IsTrue, List, None, Some, false, option_copied, map, length};
 ghost use Rattle.clause_lits.specs.declared.lit.Lit.{Lit};
-ghost use Rattle.clause_lits.specs.Meaning.{IsClause};
 ghost use Rattle.clause_log.specs.Chain as spec;
 ghost use Rattle.clause_log.specs.Marking.{AreMarks};
 
-use crate::marks::Marks;
+use crate::marks::{Clashes, Marks};
+use crate::places::Places;
 use crate::resolver::resolve;
 use crate::step::Step;
 use clause_lits::Clause;
@@ -61,29 +61,35 @@ pub fn chain_resolvent(
     Ok(Some(current))
 }
 
-/// Whether a chain of clauses has a resolvent, which is then marked. Where there is no room for one
-/// of its clauses, the answer is no.
-pub fn mark_resolvent(marks: &mut Marks, clauses: &[Clause], steps: &[Step], chain: &[u64]) -> bool
-    requires { AreMarks marks.old.signs.items [] }
-    ensures { IsTrue result → (c : List Lit) × IsClause c × AreMarks marks.new.signs.items c
-        × (spec.chain_resolvent (clauses.now ++ map (λ s. s.clause) steps.now) chain.now ≡ Some c) }
+/// Whether a chain of clauses has a resolvent, which is then marked. It fails if a variable has no
+/// place.
+pub fn mark_resolvent(
+    marks: &mut Marks,
+    places: &Places,
+    clauses: &[Clause],
+    steps: &[Step],
+    chain: &[u64],
+) -> Result<bool, NoMemory>
+    ensures some { IfOk result (λ b. IsTrue b → (c : List Lit) × AreMarks places.now marks.new c
+        × (spec.chain_resolvent (clauses.now ++ map (λ s. s.clause) steps.now) chain.now ≡ Some c)) }
+    ensures none { IfOk result (λ b. b ≡ false → spec.chain_resolvent (clauses.now ++ map (λ s. s.clause) steps.now) chain.now ≡ None) }
 {
     let [first, rest @ ..] = chain else {
-        return false;
+        return Ok(false);
     };
     let Some(start) = clause_numbered(clauses, steps, *first) else {
-        return false;
+        return Ok(false);
     };
-    let Some(false) = marks.join(start) else {
-        return false;
-    };
+    marks.begin()?;
+    marks.join(places, start)?;
     for number in rest {
         let Some(next) = clause_numbered(clauses, steps, *number) else {
-            return false;
+            return Ok(false);
         };
-        let Some(true) = marks.join(next) else {
-            return false;
-        };
+        match marks.join(places, next)? {
+            Clashes::One => {}
+            Clashes::Zero | Clashes::Several => return Ok(false),
+        }
     }
-    true
+    Ok(true)
 }

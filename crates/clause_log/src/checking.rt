@@ -5,8 +5,9 @@ ghost use Rattle.clause_log.specs.Refutation.{EndsEmpty, IsSoundAt, Refutes};
 ghost use Rattle.clause_log.specs.Verdicts.{AreVerdicts};
 ghost use Rattle.clause_log.specs.Reported.{IsReported};
 
-use crate::chains::{chain_resolvent, mark_resolvent};
+use crate::chains::mark_resolvent;
 use crate::marks::Marks;
+use crate::places::Places;
 use crate::step::{Log, Step};
 use clause_lits::{Clause, Cnf};
 use rayon::prelude::*;
@@ -38,8 +39,9 @@ impl From<AllocError> for LogFault {
 }
 
 /// Checks that each step is the resolvent of its chain of earlier clauses, and the last one empty.
-/// The steps are checked in parallel, and the answer is that of one loop over them. A sound step
-/// takes time in the length of its chain's clauses, where there is room to mark its variables.
+/// The steps are checked in parallel, and the answer is that of one loop over them. Each step takes
+/// time in the length of its chain's clauses and of its own, times the logarithm of the number of
+/// variables where these are far greater than the clauses are long.
 pub fn check_log(
     rt: &(impl Threads + Sync),
     alloc: Global,
@@ -51,21 +53,16 @@ pub fn check_log(
 {
     let clauses = cnf.clauses.as_slice();
     let steps = log.as_slice();
-    let verdicts = verdicts(rt, alloc, room_for(cnf), clauses, steps)?;
+    let places = Places::of(alloc, clauses)?;
+    let verdicts = verdicts(rt, alloc, &places, clauses, steps)?;
     first_fault(clauses, steps, &verdicts)
-}
-
-/// Room for the marks of all variables, unless there are many more variables than clauses.
-fn room_for(cnf: &Cnf) -> usize {
-    let most = cnf.clauses.len().saturating_mul(8);
-    (cnf.variables as usize).min(most).saturating_add(1)
 }
 
 /// Whether the step at each index is sound.
 fn verdicts(
     rt: &(impl Threads + Sync),
     alloc: Global,
-    room: usize,
+    places: &Places,
     clauses: &[Clause],
     log: &[Step],
 ) -> Result<Vec<Result<bool, NoMemory>>, AllocError>
@@ -74,40 +71,18 @@ fn verdicts(
     (0..log.len())
         .into_par_iter()
         .map_init(
-            || Marks::new(alloc, room),
+            || Marks::new(alloc, places.room()),
             |marks: &mut Marks, i: usize| -> Result<bool, NoMemory>
                 ensures { IfOk result (λ b. IsTrue b ↔ IsSoundAt clauses.entry.now log.entry.now i) }
-            {
-                if is_shown_at(marks, clauses, log, i) {
-                    Ok(true)
-                } else {
-                    is_sound_at(alloc, clauses, log, i)
-                }
-            },
+            { is_sound_at(marks, places, clauses, log, i) },
         )
         .collect(rt, alloc)
 }
 
-/// Whether marks show that the step is the resolvent of its chain of earlier clauses. Marks in which
-/// an earlier step left literals, as an unsound one may, show none.
-fn is_shown_at(marks: &mut Marks, clauses: &[Clause], log: &[Step], index: usize) -> bool
-    ensures { IsTrue result → IsSoundAt clauses.now log.now index }
-{
-    let Some(step) = log.get(index) else {
-        return false;
-    };
-    if !marks.is_empty() {
-        return false;
-    }
-    if !mark_resolvent(marks, clauses, &log[..index], step.chain.as_slice()) {
-        return false;
-    }
-    marks.take_all(&step.clause)
-}
-
 /// Whether the step is the resolvent of its chain of earlier clauses.
 fn is_sound_at(
-    alloc: Global,
+    marks: &mut Marks,
+    places: &Places,
     clauses: &[Clause],
     log: &[Step],
     index: usize,
@@ -117,9 +92,10 @@ fn is_sound_at(
     let Some(step) = log.get(index) else {
         return Ok(false);
     };
-    match chain_resolvent(alloc, clauses, &log[..index], step.chain.as_slice())? {
-        Some(resolvent) => Ok(resolvent.is_same(&step.clause)),
-        None => Ok(false),
+    if mark_resolvent(marks, places, clauses, &log[..index], step.chain.as_slice())? {
+        Ok(marks.are_of(places, &step.clause))
+    } else {
+        Ok(false)
     }
 }
 

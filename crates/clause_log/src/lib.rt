@@ -9,7 +9,9 @@
 mod chains;
 mod checking;
 mod laws;
+mod mark;
 mod marks;
+mod places;
 mod resolver;
 mod step;
 

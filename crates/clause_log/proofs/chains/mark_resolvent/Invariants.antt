@@ -1,13 +1,12 @@
 -- The marked clause is taken by what is left of the chain to what the whole chain gives.
 use Rattle.std.proofs.Common.{◌≡◌, ◌++◌, List, map, drop}
 use Rattle.clause_lits.specs.declared.lit.Lit.{Lit}
-use Rattle.clause_lits.specs.Meaning.{IsClause}
 use Rattle.clause_log.specs.Chain.{resolved_along, chain_resolvent}
 use Rattle.clause_log.specs.Marking.{AreMarks}
 use Rattle.clause_log.proofs.chains.mark_resolvent.Given as goal
 
 abbrev pub invariant-loop-number : goal.invariant-loop-number
 invariant-loop-number l =
-    (c : List Lit) × IsClause c × AreMarks l.marks.signs.items c
+    (c : List Lit) × AreMarks l.places l.marks c
     × (resolved_along (l.clauses ++ map (λ s. s.clause) l.steps) c (drop l.number-index l.rest)
     ≡ chain_resolvent (l.clauses ++ map (λ s. s.clause) l.steps) l.chain)

@@ -1,11 +1,13 @@
--- The literals that are left take the marks to what the whole clause takes the first ones to.
-use Rattle.std.proofs.Common.{◌≡◌, ◌+◌, cond, drop, length}
-use Rattle.clause_log.proofs.Walking.{walked, clashing, HaveRoom}
+-- The literals that are left take the marks to what the whole clause takes the first ones to. The marks are always those of a clause.
+use Rattle.std.proofs.Common.{List, drop}
+use Rattle.clause_lits.specs.declared.lit.Lit.{Lit}
+use Rattle.clause_log.specs.Marking.{AreMarks, sign_of}
+use Rattle.clause_log.proofs.Walking.{IsWalk}
 use Rattle.clause_log.proofs.marks.Marks.join.Given as goal
 
 abbrev pub invariant-loop-literal : goal.invariant-loop-literal
 invariant-loop-literal l =
-    (walked l.self.signs.items (drop l.literal-index l.literal-items) ≡ walked l.fn.self.signs.items l.literal-items)
-    × (cond l.clashed 1 0 + clashing l.self.signs.items (drop l.literal-index l.literal-items) ≡ clashing l.fn.self.signs.items l.literal-items)
-    × (HaveRoom (length l.fn.self.signs.items) (drop l.literal-index l.literal-items) → HaveRoom (length l.fn.self.signs.items) l.literal-items)
-    × (length l.self.signs.items ≡ length l.fn.self.signs.items)
+    record {
+      walk : IsWalk (sign_of l.places l.fn.self) (sign_of l.places l.self) l.literal-items (drop l.literal-index l.literal-items) l.clashed;
+      marks : (c : List Lit) → AreMarks l.places l.fn.self c → (d : List Lit) × AreMarks l.places l.self d;
+    }

@@ -1,0 +1,9 @@
+-- The literals so far are marked.
+use Rattle.std.proofs.Common.{drop}
+use Rattle.clause_log.specs.Marking.{sign_of}
+use Rattle.clause_log.proofs.Walking.{AllMarked}
+use Rattle.clause_log.proofs.marks.Marks.are_of.Given as goal
+
+abbrev pub invariant-loop-literal : goal.invariant-loop-literal
+invariant-loop-literal l =
+    AllMarked (sign_of l.places l.self) (drop l.literal-index l.literals) → AllMarked (sign_of l.places l.self) l.literals
