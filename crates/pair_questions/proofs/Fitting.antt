@@ -131,20 +131,25 @@ module _ (pair : Functions) (bounds : Bounds) (s : Shape) (is : IsShapeOf pair b
     tape = subst (λ w. WordsFit w s.words p.tape) (sym is.word_width) (subst (λ n. WordsFit (widest_choice pair.target) n p.tape) (sym is.words) h.tape);
   }
 
-  pub point_fits : AreSmall bounds → (p : Point) → IsPoint pair bounds p → Fits (point_widths pair bounds) (code_of (layout_of pair bounds) pair.target.parameters p)
-  point_fits small p h =
+  -- a point of the shape
+  pub code_fits : AreSmall bounds → (p : Point) → ArgsFit (layout_of pair bounds) pair.target.parameters p.input.args → BlocksFit (layout_of pair bounds) 1 p.input.blocks
+      → WordsFit (widest_choice pair.target) (need_of bounds.turns pair.target) p.tape → Fits (point_widths pair bounds) (code_of (layout_of pair bounds) pair.target.parameters p)
+  code_fits small p args given tape =
       let bs = p.input.blocks in
       let need = need_of bounds.turns pair.target in
-      let count = blocks_count (layout_of pair bounds) bs h.given in
+      let count = blocks_count (layout_of pair bounds) bs given in
       let narrow : widest_choice pair.target ≤ 64 = subst (λ w. w ≤ 64) is.word_width s.word_width.at_most_64 in
-      let sizes : Fits (replicate bounds.blocks 6) (sizes_of bs) = subst (λ n. Fits (replicate n 6) (sizes_of bs)) count (sizes-fit (layout_of pair bounds) 1 bs small.bytes h.given) in
+      let sizes : Fits (replicate bounds.blocks 6) (sizes_of bs) = subst (λ n. Fits (replicate n 6) (sizes_of bs)) count (sizes-fit (layout_of pair bounds) 1 bs small.bytes given) in
       let places : Fits (blocks_widths (layout_of pair bounds) bounds.blocks) (flat_map (places_code (layout_of pair bounds)) bs) =
-      subst (λ n. Fits (blocks_widths (layout_of pair bounds) n) (flat_map (places_code (layout_of pair bounds)) bs)) count (blocks-fit (layout_of pair bounds) 1 bs small.blocks h.given) in
-      let words : Fits (replicate need 64) p.tape = words_fit (widest_choice pair.target) need p.tape narrow h.tape in
+      subst (λ n. Fits (blocks_widths (layout_of pair bounds) n) (flat_map (places_code (layout_of pair bounds)) bs)) count (blocks-fit (layout_of pair bounds) 1 bs small.blocks given) in
+      let words : Fits (replicate need 64) p.tape = words_fit (widest_choice pair.target) need p.tape narrow tape in
       let behind = fits-append (blocks_widths (layout_of pair bounds) bounds.blocks) (replicate need 64) (flat_map (places_code (layout_of pair bounds)) bs) p.tape places words in
       let rest = fits-append (replicate bounds.blocks 6) (blocks_widths (layout_of pair bounds) bounds.blocks ++ replicate need 64) (sizes_of bs) (flat_map (places_code (layout_of pair bounds)) bs ++ p.tape) sizes behind in
       let regroup : sizes_of bs ++ (flat_map (places_code (layout_of pair bounds)) bs ++ p.tape) ≡ (sizes_of bs ++ flat_map (places_code (layout_of pair bounds)) bs) ++ p.tape = sym (append_assoc (sizes_of bs) (flat_map (places_code (layout_of pair bounds)) bs) p.tape) in
       fits-append (args_widths pair.target.parameters) (replicate bounds.blocks 6 ++ (blocks_widths (layout_of pair bounds) bounds.blocks ++ replicate need 64))
       (args_code (layout_of pair bounds) pair.target.parameters p.input.args) ((sizes_of bs ++ flat_map (places_code (layout_of pair bounds)) bs) ++ p.tape)
-      (args-fit (layout_of pair bounds) pair.target.parameters p.input.args small.blocks h.args)
+      (args-fit (layout_of pair bounds) pair.target.parameters p.input.args small.blocks args)
       (subst (λ (ns : List ℕ). Fits (replicate bounds.blocks 6 ++ (blocks_widths (layout_of pair bounds) bounds.blocks ++ replicate need 64)) ns) regroup rest)
+
+  pub point_fits : AreSmall bounds → (p : Point) → IsPoint pair bounds p → Fits (point_widths pair bounds) (code_of (layout_of pair bounds) pair.target.parameters p)
+  point_fits small p h = code_fits small p h.args h.given h.tape

@@ -1,4 +1,5 @@
 mod Answered
+pub mod Assigning
 mod Decoded
 mod Encoding
 mod Excluding

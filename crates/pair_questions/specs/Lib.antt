@@ -1,3 +1,4 @@
+pub mod Assignments
 pub mod Encodables
 pub mod Candidates
 pub mod Numbers

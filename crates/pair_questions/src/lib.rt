@@ -15,6 +15,7 @@ mod found;
 mod goals;
 mod inputs;
 mod known;
+mod laws;
 mod point_question;
 mod subject;
 mod tape_question;
@@ -22,6 +23,7 @@ mod tapes;
 mod variables;
 
 pub use found::Found;
+pub use laws::inputs_have_assignments;
 pub use point_question::PointQuestion;
 pub use subject::Subject;
 pub use tape_question::least_cover;

@@ -1,0 +1,48 @@
+-- The assignment under which the terms of a question denote a point.
+use Rattle.std.proofs.Common.{◌≡◌, ℕ, ◌++◌, ◌×◌, List, map, slice_index, refl, ap, sym, subst, ◌∙◌}
+use Rattle.ir_tree.specs.declared.tree.Parameter.{Parameter}
+use Rattle.points.specs.declared.point.Bounds.{Bounds}
+use Rattle.points.specs.declared.point.Layout.{Layout}
+use Rattle.points.specs.declared.point.Point.{Point}
+use Rattle.points.specs.declared.point.Shape.{Shape}
+use Rattle.points.specs.Code.{IsOfShape, code_of}
+use Rattle.verdicts.specs.Pair.{Functions, layout_of}
+use Rattle.bv_terms.specs.declared.term.Term.{Term}
+use Rattle.bv_terms.specs.Trees.{term_at}
+use Rattle.mem_terms.specs.declared.inputs.InputTerms.{InputTerms}
+use Rattle.mem_terms.specs.declared.inputs.TapeTerms.{TapeTerms}
+use Rattle.mem_terms.specs.Values.{reading}
+use Rattle.mem_terms.specs.Inputs.{input_at}
+use Rattle.refine_terms.specs.Numbers.{numbers_at}
+use Rattle.answer_order.specs.Fronts.{Fits}
+use Rattle.pair_costs.specs.Small.{AreSmall}
+use Rattle.pair_questions.specs.Assignments.{AreVariables, IsAssigned, InputsHaveAssignments}
+use Rattle.pair_questions.specs.Questions.{point_widths}
+use Rattle.pair_questions.specs.Shapes.{IsShapeOf, input_ids}
+use Rattle.pair_questions.proofs.Decoded.{decoded, numbers_in_order}
+use Rattle.pair_questions.proofs.Fitting.{code_fits}
+use Rattle.pair_questions.proofs.Numbered.{numbers-looked}
+
+-- each variable has the number of the code at its place
+looked_up : List ℕ → ℕ → ℕ → ℕ
+looked_up numbers i width = slice_index numbers i
+
+code_of-shape : (pair : Functions) (bounds : Bounds) (s : Shape) (is : IsShapeOf pair bounds s) (p : Point) → code_of s.layout s.parameters p ≡ code_of (layout_of pair bounds) pair.target.parameters p
+code_of-shape pair bounds s is p = ap (λ (y : Layout). code_of y s.parameters p) is.layout ∙ ap (λ (ps : List Parameter). code_of (layout_of pair bounds) ps p) is.parameters
+
+shape-fits : (pair : Functions) (bounds : Bounds) (s : Shape) (is : IsShapeOf pair bounds s) (p : Point) → AreSmall bounds → IsOfShape s p → Fits (point_widths pair bounds) (code_of (layout_of pair bounds) pair.target.parameters p)
+shape-fits pair bounds s is p small h =
+    code_fits pair bounds s is small p (rw (is.parameters, is.layout) at h.args) (rw is.layout at h.given) (rw (is.word_width, is.words) at h.tape)
+
+pub inputs_have_assignments : InputsHaveAssignments
+inputs_have_assignments pair bounds s terms input tape small are p h =
+    let numbers = code_of (layout_of pair bounds) pair.target.parameters p in
+    let v = looked_up numbers in
+    let at = numbers-looked terms 0 (input_ids input ++ tape.words) (point_widths pair bounds) v numbers are.fit are.order.numbered (λ i width. refl) (shape-fits pair bounds s are.shape p small h) in
+    let code : code_of s.layout s.parameters p ≡ numbers_at v terms input tape = code_of-shape pair bounds s are.shape p ∙ (sym at ∙ numbers_in_order v terms input tape) in
+    let d = decoded v terms s input tape p are.inputs h code in
+    record {
+      v = v;
+      input_is = sym (d.0 ∙ ap (λ (y : Layout). input_at (reading y.blocks v) terms input) are.shape.layout);
+      tape_is = sym d.1;
+    }

@@ -1,0 +1,7 @@
+ghost use Rattle.pair_questions.specs.Assignments.{InputsHaveAssignments};
+
+/// The questions leave no input out: for each input within the bounds and each tape of the target
+/// there is an assignment of the question's variables under which its terms denote them.
+pub fn inputs_have_assignments()
+    ensures { InputsHaveAssignments }
+{}
