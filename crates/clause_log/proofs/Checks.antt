@@ -9,28 +9,10 @@ use Rattle.clause_log.specs.Chain.{chain_resolvent}
 use Rattle.clause_log.specs.Refutation.{standing_before, IsSoundAt, EndsEmpty, Refutes}
 use Rattle.clause_log.specs.Verdicts.{AreVerdicts}
 
--- a step whose chain gives nothing isn't sound
-pub unsound_at-none : (clauses : List (List Lit)) (log : List Step) (index : ℕ) (s : Step) (chain : List ℕ) (told : Option (List Lit))
-    → slice_get log index ≡ Some s → chain ≡ s.chain
-    → told ≡ chain_resolvent (standing_before clauses log index) chain → told ≡ None → IsSoundAt clauses log index → ⊥
-unsound_at-none clauses log index s chain told at is tells none (t, at', sound) =
-    let same : t ≡ s = cc in cc
-
 -- the steps below the next index are sound
 pub sound_below_more : (clauses : List (List Lit)) (log : List Step) (index : ℕ) → ((i : ℕ) → i < index → IsSoundAt clauses log i)
     → IsSoundAt clauses log index → (i : ℕ) → i < index + 1 → IsSoundAt clauses log i
 sound_below_more clauses log index below here i h = below_more (λ k. IsSoundAt clauses log k) index below here i h
-
--- a step whose chain gives a clause is sound where that is its own
-pub sound_at-some : (clauses : List (List Lit)) (log : List Step) (index : ℕ) (s : Step) (chain : List ℕ) (told : Option (List Lit)) (c : List Lit) (b : Bool)
-    → slice_get log index ≡ Some s → chain ≡ s.chain
-    → told ≡ chain_resolvent (standing_before clauses log index) chain → told ≡ Some c → (IsTrue b ↔ (c ≡ s.clause))
-    → IsTrue b ↔ IsSoundAt clauses log index
-sound_at-some clauses log index s chain told c b at is tells some same =
-    (λ t. (s, at, ap (chain_resolvent (standing_before clauses log index)) (sym is) ∙ (sym tells ∙ (some ∙ ap Some (same.0 t)))), λ p. same.1 (agrees p))
-  where
-    agrees : IsSoundAt clauses log index → c ≡ s.clause
-    agrees (t, at', sound) = let it : t ≡ s = cc in cc
 
 module _ {Y : Type 0} (R : ℕ → Y → Type 0) where
   -- a list that goes with the numbers from a on

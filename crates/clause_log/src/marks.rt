@@ -93,10 +93,9 @@ impl Marks {
         ensures stamp { self.new.stamp ≡ self.old.stamp }
         ensures count { self.new.count ≡ self.old.count + 1 }
     {
-        self.by_place[place] = Mark {
-            stamp: self.stamp,
-            positive,
-        };
+        let mark = &mut self.by_place[place];
+        mark.stamp = self.stamp;
+        mark.positive = positive;
         self.count += 1;
     }
 

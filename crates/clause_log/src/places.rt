@@ -42,6 +42,7 @@ impl Variables {
     }
 
     /// The index of a variable, found by binary search, or `None` if the list lacks it.
+    #[inline(never)]
     fn find(&self, variable: u64) -> Option<usize>
         ensures { result ≡ index_of self.now.numbers.items variable }
     {
@@ -63,8 +64,8 @@ impl Places {
     /// Places for the variables of these clauses. They take no more room than the literals of the
     /// clauses, however great the variables are.
     pub fn of(alloc: Global, clauses: &[Clause]) -> Result<Places, AllocError> {
-        let greatest = greatest_variable(clauses);
-        if greatest <= literal_count(clauses) {
+        let (greatest, count) = extent(clauses);
+        if greatest <= count {
             Ok(Places::Direct { greatest })
         } else {
             let variables = Variables::of(alloc, clauses)?;
@@ -91,22 +92,16 @@ impl Places {
     }
 }
 
-/// The greatest variable of the clauses, or 0 if they have none.
-fn greatest_variable(clauses: &[Clause]) -> u64 {
+/// The greatest variable of the clauses, or 0 if they have none, and how many literals they have.
+fn extent(clauses: &[Clause]) -> (u64, u64) {
     let mut greatest = 0;
-    for clause in clauses {
-        if let Some(last) = clause.literals().last() {
-            greatest = last.variable.max(greatest);
-        }
-    }
-    greatest
-}
-
-/// How many literals the clauses have.
-fn literal_count(clauses: &[Clause]) -> u64 {
     let mut count: u64 = 0;
     for clause in clauses {
-        count = count.saturating_add(clause.literals().len() as u64);
+        let literals = clause.literals();
+        if let Some(last) = literals.last() {
+            greatest = last.variable.max(greatest);
+        }
+        count = count.saturating_add(literals.len() as u64);
     }
-    count
+    (greatest, count)
 }
