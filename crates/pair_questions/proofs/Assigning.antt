@@ -1,5 +1,5 @@
 -- The assignment under which the terms of a question denote a point.
-use Rattle.std.proofs.Common.{◌≡◌, ℕ, ◌++◌, ◌×◌, List, map, slice_index, refl, ap, sym, subst, ◌∙◌}
+use Rattle.std.proofs.Common.{◌≡◌, ℕ, ◌+◌, ◌++◌, List, map, slice_index, ap, sym, ◌∙◌, arith}
 use Rattle.ir_tree.specs.declared.tree.Parameter.{Parameter}
 use Rattle.points.specs.declared.point.Bounds.{Bounds}
 use Rattle.points.specs.declared.point.Layout.{Layout}
@@ -24,7 +24,7 @@ use Rattle.pair_questions.proofs.Fitting.{code_fits}
 use Rattle.pair_questions.proofs.Numbered.{numbers-looked}
 
 -- each variable has the number of the code at its place
-looked_up : List ℕ → ℕ → ℕ → ℕ
+abbrev looked_up : List ℕ → ℕ → ℕ → ℕ
 looked_up numbers i width = slice_index numbers i
 
 code_of-shape : (pair : Functions) (bounds : Bounds) (s : Shape) (is : IsShapeOf pair bounds s) (p : Point) → code_of s.layout s.parameters p ≡ code_of (layout_of pair bounds) pair.target.parameters p
@@ -38,7 +38,7 @@ pub inputs_have_assignments : InputsHaveAssignments
 inputs_have_assignments pair bounds s terms input tape small are p h =
     let numbers = code_of (layout_of pair bounds) pair.target.parameters p in
     let v = looked_up numbers in
-    let at = numbers-looked terms 0 (input_ids input ++ tape.words) (point_widths pair bounds) v numbers are.fit are.order.numbered (λ i width. refl) (shape-fits pair bounds s are.shape p small h) in
+    let at = numbers-looked terms 0 (input_ids input ++ tape.words) (point_widths pair bounds) v numbers are.fit are.order.numbered (λ i width. let none : 0 + i ≡ i = omega arith in ap (λ k. slice_index numbers k) none) (shape-fits pair bounds s are.shape p small h) in
     let code : code_of s.layout s.parameters p ≡ numbers_at v terms input tape = code_of-shape pair bounds s are.shape p ∙ (sym at ∙ numbers_in_order v terms input tape) in
     let d = decoded v terms s input tape p are.inputs h code in
     record {
