@@ -1,5 +1,5 @@
 -- The assignment under which the terms of a question denote a point.
-use Rattle.std.proofs.Common.{◌≡◌, ℕ, ◌+◌, ◌++◌, List, map, slice_index, ap, sym, ◌∙◌, arith}
+use Rattle.std.proofs.Common.{◌≡◌, ℕ, ◌+◌, ◌++◌, List, slice_index, ap, sym, ◌∙◌, arith}
 use Rattle.ir_tree.specs.declared.tree.Parameter.{Parameter}
 use Rattle.points.specs.declared.point.Bounds.{Bounds}
 use Rattle.points.specs.declared.point.Layout.{Layout}
@@ -7,16 +7,12 @@ use Rattle.points.specs.declared.point.Point.{Point}
 use Rattle.points.specs.declared.point.Shape.{Shape}
 use Rattle.points.specs.Code.{IsOfShape, code_of}
 use Rattle.verdicts.specs.Pair.{Functions, layout_of}
-use Rattle.bv_terms.specs.declared.term.Term.{Term}
-use Rattle.bv_terms.specs.Trees.{term_at}
-use Rattle.mem_terms.specs.declared.inputs.InputTerms.{InputTerms}
-use Rattle.mem_terms.specs.declared.inputs.TapeTerms.{TapeTerms}
 use Rattle.mem_terms.specs.Values.{reading}
 use Rattle.mem_terms.specs.Inputs.{input_at}
 use Rattle.refine_terms.specs.Numbers.{numbers_at}
 use Rattle.answer_order.specs.Fronts.{Fits}
 use Rattle.pair_costs.specs.Small.{AreSmall}
-use Rattle.pair_questions.specs.Assignments.{AreVariables, IsAssigned, InputsHaveAssignments}
+use Rattle.pair_questions.specs.Assignments.{InputsHaveAssignments}
 use Rattle.pair_questions.specs.Questions.{point_widths}
 use Rattle.pair_questions.specs.Shapes.{IsShapeOf, input_ids}
 use Rattle.pair_questions.proofs.Decoded.{decoded, numbers_in_order}

@@ -1,5 +1,5 @@
 -- Tapes of the source that are tried for an input and an outcome of the target.
-use Rattle.std.specs.Prelude.{◌≡◌, ℕ, Bool, true, not, ◌&&◌, List, [], ◌∷◌, map, Contains}
+use Rattle.std.specs.Prelude.{ℕ, Bool, true, not, ◌&&◌, List, [], ◌∷◌, map, Contains}
 use Rattle.ir_tree.specs.declared.tree.Function.{Function}
 use Rattle.points.specs.declared.point.Layout.{Layout}
 use Rattle.points.specs.declared.point.Bounds.{Bounds}
