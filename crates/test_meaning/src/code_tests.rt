@@ -35,10 +35,7 @@ fn shape_with(
 {
     Ok(Shape {
         parameters: Sequence::from_vec(repeated(alloc, parameter, count)?),
-        layout: Layout {
-            blocks: 1,
-            bytes,
-        },
+        layout: Layout { blocks: 1, bytes },
         words,
         word_width: Width::of(1),
     })
