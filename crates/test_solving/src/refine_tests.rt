@@ -10,7 +10,7 @@ use bv_terms::{TermId, Terms};
 use byte_block::Value;
 use ir_tree::{IrType, Parameter};
 use mem_terms::{ArgTerms, InputTerms, OutcomeTerms, TapeTerms, number, truth};
-use points::{Outcome, Shape, refines};
+use points::{Layout, Outcome, Shape, refines};
 use refine_terms::{covered, well_point};
 use std::alloc::Global;
 use std::test::Fail;
@@ -107,8 +107,10 @@ fn is_point(
     };
     let shape = Shape {
         parameters: Sequence::from_vec(Vec::from_array(alloc, [parameter])?),
-        blocks: 0,
-        bytes: 0,
+        layout: Layout {
+            blocks: 0,
+            bytes: 0,
+        },
         words: 0,
         word_width: Width::of(1),
     };
