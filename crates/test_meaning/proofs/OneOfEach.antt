@@ -1,5 +1,5 @@
 -- Codes of three small shapes, for the tests.
-use Rattle.std.proofs.Common.{◌≡◌, inl, inr, ℕ, ◌^◌, ◌<◌, ◌≤◌, false, [], ◌∷◌, refl, arith}
+use Rattle.std.proofs.Common.{◌≡◌, inl, inr, ℕ, ◌^◌, ◌<◌, ◌≤◌, false, [], ◌∷◌, refl, sym, subst, arith}
 use Rattle.tv_num.specs.declared.Width.{Width}
 use Rattle.ir_tree.specs.declared.tree.IrType.TheVariants.{Int, Ptr}
 use Rattle.ir_tree.specs.declared.tree.Parameter.{Parameter}
@@ -11,25 +11,28 @@ abbrev pub bit : Width → Parameter
 bit w = record { of_type = Int w; no_undef = false; non_null = false; name = 0 }
 
 pub one_of_each : (s : Shape) (w : Width) (flag n size kind m block offset part word : ℕ) → w.bits ≡ 1 → s.parameters ≡ bit w ∷ [] → s.layout.blocks ≡ 1 → s.layout.bytes ≡ 1 → s.words ≡ 1 → s.word_width.bits ≡ 1 → IsCodeOfValue s.layout (Int w) (flag ∷ n ∷ []) → size ≤ 1 → IsCodeOfPlaces s.layout 1 size (kind ∷ m ∷ block ∷ offset ∷ part ∷ []) → word < 2 → IsCode s (flag ∷ n ∷ size ∷ kind ∷ m ∷ block ∷ offset ∷ part ∷ word ∷ [])
-one_of_each s w flag n size kind m block offset part word bits parameters blocks bytes words width value small places low = record {
-  front = flag ∷ n ∷ [];
-  back = size ∷ kind ∷ m ∷ block ∷ offset ∷ part ∷ word ∷ [];
-  whole = refl;
-  in_front = rw parameters (record { front = flag ∷ n ∷ []; back = []; whole = refl; in_front = value; in_back = refl });
-  in_back = record {
-    front = size ∷ [];
-    back = kind ∷ m ∷ block ∷ offset ∷ part ∷ word ∷ [];
-    whole = refl;
-    in_front = rw blocks (rw bytes small, tt);
-    in_back = record {
-      front = kind ∷ m ∷ block ∷ offset ∷ part ∷ [];
-      back = word ∷ [];
+one_of_each s w flag n size kind m block offset part word bits parameters blocks bytes words width value small places low =
+    let fits : size ≤ s.layout.bytes = omega (arith, small, bytes) in
+    let contents : IsCodeOfPlaces s.layout s.layout.bytes size (kind ∷ m ∷ block ∷ offset ∷ part ∷ []) = subst (λ room. IsCodeOfPlaces s.layout room size (kind ∷ m ∷ block ∷ offset ∷ part ∷ [])) (sym bytes) places in
+    record {
+      front = flag ∷ n ∷ [];
+      back = size ∷ kind ∷ m ∷ block ∷ offset ∷ part ∷ word ∷ [];
       whole = refl;
-      in_front = record { front = kind ∷ m ∷ block ∷ offset ∷ part ∷ []; back = []; whole = refl; in_front = rw bytes places; in_back = refl };
-      in_back = rw (words, width) (low, tt);
-    };
-  };
-}
+      in_front = rw parameters (record { front = flag ∷ n ∷ []; back = []; whole = refl; in_front = value; in_back = refl });
+      in_back = record {
+        front = size ∷ [];
+        back = kind ∷ m ∷ block ∷ offset ∷ part ∷ word ∷ [];
+        whole = refl;
+        in_front = rw blocks (fits, tt);
+        in_back = record {
+          front = kind ∷ m ∷ block ∷ offset ∷ part ∷ [];
+          back = word ∷ [];
+          whole = refl;
+          in_front = record { front = kind ∷ m ∷ block ∷ offset ∷ part ∷ []; back = []; whole = refl; in_front = contents; in_back = refl };
+          in_back = rw (words, width) (low, tt);
+        };
+      };
+    }
 
 pub zero_bit : (layout : Layout) (w : Width) → w.bits ≡ 1 → IsCodeOfValue layout (Int w) (0 ∷ 0 ∷ [])
 zero_bit layout w bits = inl (record { number = 0; is = refl; small = rw bits (omega arith) })
