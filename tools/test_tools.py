@@ -107,6 +107,26 @@ def help_is_one_screen(bench):
         equal(len(done.stdout.splitlines()) <= 50, True, f"{script} --help is one screen")
 
 
+def quick_without_rt(bench):
+    there = os.path.join(bench.folder, "bin")
+    os.mkdir(there)
+    for name in ("python3", "env"):
+        os.symlink(shutil.which(name), os.path.join(there, name))
+    done = bench.run("quick", "out", PATH=there)
+    equal((done.returncode, done.stdout), (127, ""), "status without an rt")
+    has(done.stderr, "quick: rt was not found: put the kit's bin on the PATH\n")
+    bench.write("bin/rt", "#!/bin/sh\necho 'error: no such kit' >&2\nexit 3\n")
+    os.chmod(os.path.join(there, "rt"), 0o755)
+    done = bench.run("quick", "out", PATH=there + os.pathsep + bench.variables["PATH"])
+    equal((done.returncode, done.stdout), (1, ""), "status where rt fails")
+    has(done.stderr, "rt try ended without a program:\nerror: no such kit\n")
+    for args in (["--fast"], ["a", "b"]):
+        done = bench.run("quick", *args, PATH=there)
+        equal((done.returncode, done.stdout), (4, ""), f"status of {args}")
+        has(done.stderr, "quick: ", "tools/quick [OUT]")
+    equal(sorted(os.listdir(bench.folder)), ["bin"], "files")
+
+
 # tv-check.
 
 COUNTS = "correct 1 incorrect 1 unknown 1 refused 1 signature 0 missing 0 extra 0 vacuous 1\n"
@@ -404,6 +424,57 @@ define i16 @tgt7(ptr %p, ptr %q) {
   store i16 %s, ptr %p
   ret i16 %s
 }
+define i8 @src9(ptr %p, i1 %c) {
+  br i1 %c, label %a, label %b
+a:
+  %q = getelementptr inbounds i8, ptr %p, i64 32
+  store i8 1, ptr %q
+  br label %b
+b:
+  ret i8 0
+}
+define i8 @tgt9(ptr %p, i1 %c) {
+  ret i8 0
+}
+define i8 @src10(ptr %p, i8 %i) {
+  %q = getelementptr inbounds i8, ptr %p, i64 16
+  %z = zext i8 %i to i64
+  %r = getelementptr inbounds i16, ptr %q, i64 %z
+  store i16 7, ptr %r
+  ret i8 0
+}
+define i8 @tgt10(ptr %p, i8 %i) {
+  %q = getelementptr inbounds i8, ptr %p, i64 16
+  store i16 7, ptr %q
+  ret i8 0
+}
+define i16 @src11(ptr %p, i8 %i) {
+  %j = add nuw i8 %i, 5
+  %z = zext i8 %j to i64
+  %r = getelementptr inbounds i16, ptr %p, i64 %z
+  %v = load i16, ptr %r
+  ret i16 %v
+}
+define i16 @tgt11(ptr %p, i8 %i) {
+  %r = getelementptr inbounds i8, ptr %p, i64 10
+  %v = load i16, ptr %r
+  ret i16 %v
+}
+define i8 @src12(ptr %p, i8 %i) {
+  %c = icmp ult i8 %i, 9
+  br i1 %c, label %a, label %b
+a:
+  %q = getelementptr inbounds i8, ptr %p, i64 30
+  %z = zext i8 %i to i64
+  %r = getelementptr inbounds i32, ptr %q, i64 %z
+  store i32 7, ptr %r
+  br label %b
+b:
+  ret i8 0
+}
+define i8 @tgt12(ptr %p, i8 %i) {
+  ret i8 0
+}
 """
 
 
@@ -418,7 +489,12 @@ def check_bounds(bench):
                   "src4": "bounded source load undefined 50:8 [blocks 1]",
                   "src8": "bounded source store unreached 79:3 [blocks 1]",
                   "src5": "vacuous", "src6": "correct [blocks 1 bytes 20]",
-                  "src7": "correct"}, "rows")
+                  "src7": "correct",
+                  # an access that can't fit doesn't raise the bytes
+                  "src9": "bounded source store undefined 118:3 [blocks 1]",
+                  # an index that varies counts as 0, past what is constant
+                  "src10": "correct [blocks 1 bytes 18]", "src11": "correct [blocks 1 bytes 12]",
+                  "src12": "bounded source store undefined 159:3 [blocks 1]"}, "rows")
     done = bench.run("tv-check", "m.ll", "--seconds", "250", "--bytes", "8", "-f", "src")
     has(done.stdout, "@src vacuous source store undefined 3:3 [blocks 1]\n")
     done = bench.run("tv-check", "m.ll", "--seconds", "250", "-f", "src5", TV_ARGS="--turns 64")
@@ -1140,7 +1216,7 @@ def most_functions(bench):
 EVERY = [check_two, check_src_and_tgt, check_forms, check_refusals, reduced_pair, opt_output_is_passed_on, opt_gate, opt_changed_names, opt_steps, tree_totals,
          vacuous_rows, pages]
 REAL_ONLY = [proof_of_tv, check_bounds, check_layout, figures]
-FAKE_ONLY = [help_is_one_screen, check_folders, check_front, check_limit, check_interrupted,
+FAKE_ONLY = [help_is_one_screen, quick_without_rt, check_folders, check_front, check_limit, check_interrupted,
              check_terminal, reduced_with_arguments, opt_reads_standard_input, opt_failure_is_passed_on, opt_not_text,
              opt_judges_nothing, opt_same, opt_summary,
              opt_without_tv, opt_slow_pair, opt_whole_refusal, tree_by_lines, tree_resumes,

@@ -108,6 +108,7 @@ def accesses_of(blocks, named):
 # What constants say of values.
 
 NUMBER = ""
+ZERO = {(NUMBER, 0)}
 
 
 class Values:
@@ -190,9 +191,12 @@ class Values:
     of_sext = of_trunc = of_zext
 
     def both(self, each, change):
+        """What an operation may give; of two operands one that isn't known counts as 0."""
         parts = tvir.split(FLAGS.sub("", each.rest, count=1))
         left, right = self.of(parts[0].rsplit(" ", 1)[-1]), self.of(parts[-1])
-        return {(NUMBER, change(a, b)) for base, a in left for other, b in right
+        if not left and not right:
+            return set()
+        return {(NUMBER, change(a, b)) for base, a in left or ZERO for other, b in right or ZERO
                 if base == other == NUMBER}
 
     def of_add(self, each):
@@ -239,24 +243,62 @@ class Needs:
 
 def needs_of(module, name, turns):
     """The number of pointers from outside through which the function reads or writes, and the
-    most bytes of a block, up to 32, that accesses at constant offsets reach."""
+    most bytes of a block, up to 32, that accesses at constant offsets reach. A `getelementptr
+    inbounds` counts by its own offset where an access that fits, or a pointer that is returned or
+    stored, is made from it."""
     function = module.functions[name]
     blocks = tvir.blocks_of(function)
     values = Values(function, blocks, module.named_types, turns)
-    spans, used = {}, set()
+    spans, used, ends = {}, set(), escapes(blocks, values)
     for access in accesses_of(blocks, module.named_types):
         for root, offset in values.of(access.pointer):
             if root in values.outside:
                 used.add(root)
                 spans.setdefault(root, []).append((offset, offset + access.size))
+                if offset + access.size <= LARGEST["bytes"]:
+                    ends.add(access.pointer)
+    made = makers(blocks)
+    wanted = set().union(*(tvir.reached_from(end, made) for end in ends))
     for block in blocks:
         for each in block.instructions:
-            if each.word == "getelementptr" and each.rest.startswith("inbounds"):
+            if each.word == "getelementptr" and each.rest.startswith("inbounds") \
+                    and each.result in wanted:
                 for root, offset in values.of(each.result):
                     if root in values.outside:
                         spans.setdefault(root, []).append((offset, offset))
     return Needs(min(len(used), LARGEST["blocks"]) or (1 if values.outside else 0),
                  max((span(each) for each in spans.values()), default=0))
+
+
+def makers(blocks):
+    """For each pointer those that it is made from; a local variable is made from what is stored to
+    it, and what is loaded from it is made from the variable."""
+    found = {}
+    for block in blocks:
+        for each in block.instructions:
+            parts = tvir.split(FLAGS.sub("", each.rest, count=1))
+            base = POINTER.search(parts[1]) if len(parts) > 1 else None
+            if each.word in ("phi", "select", "freeze"):
+                found.setdefault(each.result, []).extend(tvir.MENTION.findall(each.rest))
+            elif each.word in ("getelementptr", "load") and base:
+                found.setdefault(each.result, []).append(base.group(1))
+            elif each.word == "store" and base and parts[0].startswith("ptr"):
+                found.setdefault(base.group(1), []).append(parts[0].rsplit(" ", 1)[-1])
+    return found
+
+
+def escapes(blocks, values):
+    """The pointers that a function returns, or stores to memory from outside."""
+    found = set()
+    for block in blocks:
+        for each in block.instructions:
+            parts = tvir.split(FLAGS.sub("", each.rest, count=1))
+            base = POINTER.search(parts[1]) if len(parts) > 1 else None
+            outside = base and any(root in values.outside for root, _ in values.of(base.group(1)))
+            if each.word == "ret" or each.word == "store" and outside:
+                if parts and parts[0].startswith("ptr"):
+                    found.add(parts[0].rsplit(" ", 1)[-1])
+    return found
 
 
 def span(reached):
