@@ -41,7 +41,7 @@ def widths_of(function):
     def width(text):
         found = re.match(r"i(\d+)\b", text)
         return int(found.group(1)) if found else None
-    return [width(part) for part in function.parameters()], width(function.result_type())
+    return [width(part) for part in function.parameters], width(function.result_type())
 
 
 def readings(value, width):
@@ -56,7 +56,7 @@ def readings(value, width):
 def points(lines, function):
     """The lines below an incorrect row as what, name, value, and other forms of the value."""
     params, result = widths_of(function) if function else ([], None)
-    names = function.argument_names() if function else []
+    names = function.argument_names if function else []
     found = []
     for line in lines:
         what, equals, value = line.strip().partition(" = ")
