@@ -27,6 +27,8 @@ import tempfile
 import time
 import xml.etree.ElementTree
 
+import tvwhy
+
 TOOLS = os.path.dirname(os.path.realpath(__file__))
 DATA = os.path.join(TOOLS, "testdata")
 ARITH = os.path.join(DATA, "tree", "arith.ll")
@@ -225,6 +227,50 @@ def check_refusals(bench):
     has(done.stdout, "@calls refused source Unsupported 4:8 call @llvm.ctpop.i8\n",
         "      1 call @llvm.ctpop.i8  intrinsics are not read: ")
     equal(bench.only("kept", ".after.ll"), bench.file("after.ll"), "the module that is kept")
+
+
+def check_before(bench):
+    args = ("tv-check", "--opt", "-passes=double", "--before", "double", ARITH, "--json")
+    rows = list(map(json.loads, bench.run(*args).stdout.splitlines()))
+    equal({row["kind"] for row in rows}, {"same"}, "rows where the source has had the pass")
+    equal((rows[1]["path"], rows[1]["first_line"]), (ARITH, 9), "the line in the file")
+    done = bench.run("tv-check", "--opt", "-passes=double", "--before", "double", BROKEN)
+    equal((done.returncode, done.stderr), (2, ""), "status where opt fails")
+    has(done.stdout, f"fault {BROKEN}: opt -passes=double: wrong-opt: error")
+    equal(bench.run("tv-check", "--before", "double", ARITH).returncode, 4, "status without --opt")
+
+
+HEADS = "%struct.s = type { i32, i8 }\n@g = global i32 0\ndeclare i8 @llvm.ctpop.i8(i8)\n"
+# What tv refuses: parameters and body of a function, what the row names, and the class of advice.
+REFUSED = [
+    ("ptr nocapture %p", "ret i8 0", "attribute nocapture", "attribute"),
+    ("ptr dereferenceable(4) %p", "ret i8 0", "attribute dereferenceable(4)", "attribute"),
+    ("i8 %x", "%y = call i8 @llvm.ctpop.i8(i8 %x)\n  ret i8 %y", "call @llvm.ctpop.i8",
+     "intrinsic"),
+    ("i8 %x", 'call void asm "", ""()\n  ret i8 0', "call of inline asm", "call"),
+    ("ptr %p", "%y = load i8, ptr %p, !tbaa !0\n  ret i8 %y", "metadata !tbaa", "metadata"),
+    ("ptr %p", "%y = load volatile i8, ptr %p\n  ret i8 %y", "volatile", "atomic"),
+    ("float %x", "ret i8 0", "float", "floating point"),
+    ("<2 x i8> %x", "ret i8 0", "<", "vector"),
+    ("ptr %p", "%y = getelementptr %struct.s, ptr %p, i64 1\n  ret i8 0", "type %struct.s", "struct"),
+    ("i8 %x", "%y = load i8, ptr @g\n  ret i8 %y", "global @g", "global"),
+    ("i8 %x", "%y = add i8 %x, undef\n  ret i8 %y", "undef", "undef"),
+    ("ptr %p", "%y = ptrtoint ptr %p to i8\n  ret i8 %y", "ptrtoint", "pointer cast"),
+    ("i128 %x", "ret i8 0", "i128", "type"),
+]
+
+
+def check_words(bench):
+    texts = [HEADS + "".join(f"define i8 @f{number}({params}) {{\n  %u = add i8 0, {more}\n"
+                             f"  {body}\n}}\n" for number, (params, body, *_) in enumerate(REFUSED))
+             + "!0 = !{!1, !1, i64 0}\n!1 = !{!\"x\"}\n" for more in (0, 1)]
+    bench.write("a.ll", texts[0])
+    bench.write("b.ll", texts[1])
+    done = bench.run("tv-check", "a.ll", "b.ll", "--json")
+    rows = list(map(json.loads, done.stdout.splitlines()))
+    advice = {text: kind for kind, text in tvwhy.ADVICE.items()}
+    equal([(row["kind"], row["what"], advice.get(row["advice"])) for row in rows],
+          [("refused", what, kind) for _, _, what, kind in REFUSED], "what is refused")
 
 
 def check_limit(bench):
@@ -511,6 +557,10 @@ def check_layout(bench):
     equal(done.returncode, 3, "status")
     has(done.stdout, '@f refused source data-layout 2:21 target datalayout "e-p:32:32"\n',
         "tv judges 64-bit little-endian targets")
+    done = bench.run("tv-tree", "run", "a.ll", "-p", "double", "--out", "one")
+    has(done.stdout, '1  refused source data-layout target datalayout "e-p:32:32"\n')
+    bench.run("opt-tv", "-S", "-passes=double", "a.ll")
+    has(bench.only("tv-out", ".txt"), "@f refused source data-layout 2:21 target datalayout ")
 
 
 def figures(bench):
@@ -607,6 +657,13 @@ def opt_judges_nothing(bench):
 def opt_same(bench):
     bench.run("opt-tv", "-S", "-passes=wrong", ARITH)
     has(bench.only("tv-out", ".txt"), "@twice same\n", "@calls same\n", "same 4")
+
+
+def opt_asks_once(bench):
+    log = os.path.join(bench.folder, "log")
+    bench.run("opt-tv", "-S", "-passes=double,wrong", ARITH, FAKE_TV_LOG=log)
+    equal(bench.file("log").count("\n"), 7,
+          "runs of tv: a changed function each, and how far the two correct ones reach")
 
 
 def opt_summary(bench):
@@ -1215,10 +1272,11 @@ def most_functions(bench):
 
 EVERY = [check_two, check_src_and_tgt, check_forms, check_refusals, reduced_pair, opt_output_is_passed_on, opt_gate, opt_changed_names, opt_steps, tree_totals,
          vacuous_rows, pages]
-REAL_ONLY = [proof_of_tv, check_bounds, check_layout, figures]
-FAKE_ONLY = [help_is_one_screen, quick_without_rt, check_folders, check_front, check_limit, check_interrupted,
+REAL_ONLY = [proof_of_tv, check_bounds, check_layout, check_words, figures]
+FAKE_ONLY = [help_is_one_screen, quick_without_rt, check_folders, check_front, check_before,
+             check_limit, check_interrupted,
              check_terminal, reduced_with_arguments, opt_reads_standard_input, opt_failure_is_passed_on, opt_not_text,
-             opt_judges_nothing, opt_same, opt_summary,
+             opt_judges_nothing, opt_same, opt_asks_once, opt_summary,
              opt_without_tv, opt_slow_pair, opt_whole_refusal, tree_by_lines, tree_resumes,
              tree_time_out, tree_stopped, tree_bad_folder, reduced, nothing_to_reduce, baseline,
              baseline_of_tree, proof_parts, wrong_logs, no_proof_files, wrong_lrat]

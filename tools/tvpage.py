@@ -176,16 +176,18 @@ def report_page(heads, pairs, rows):
     `rows` pairs with their rows. Incorrect functions come first, `same` ones last."""
     title = f"{pairs[0].path} → {pairs[0].other}" if len(pairs) == 1 else f"{len(pairs)} modules"
     counts = tvrun.counts_of([row for _, row in rows])
-    parts = [f'<p class="faint">{escaped(line)}</p>' for head in heads
-             for line in head.splitlines()]
+    lines = [escaped(line) for head in heads for line in head.splitlines()]
+    parts = [f'<p class="faint">{"<br>".join(lines)}</p>']
     parts.append(bar({kind: counts[kind] for kind in FIRST}))
     parts += [f"<p>{escaped(each.path)}: {escaped(each.fault)}</p>"
               for each in pairs if each.fault]
     if not rows:
         parts.append("<p>The report has no rows.</p>")
     refused = [row for _, row in rows if row.kind == "refused" and row.what]
-    parts += refused_table(refused) if refused else []
     for each, row in sorted(rows, key=lambda found: FIRST.index(found[1].kind)):
+        if row.kind == "refused" and refused:
+            parts += refused_table(refused)
+            refused = []
         both = [module.functions.get(row.name) for module in (each.source, each.target)]
         where = f' <span class="faint">{escaped(each.path)}</span>' if len(pairs) > 1 else ""
         parts.append(section(row, *both, note=where))
