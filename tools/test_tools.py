@@ -537,10 +537,10 @@ def check_bounds(bench):
                   "src5": "vacuous", "src6": "correct [blocks 1 bytes 20]",
                   "src7": "correct",
                   # an access that can't fit doesn't raise the bytes
-                  "src9": "bounded source store undefined 118:3 [blocks 1]",
+                  "src9": "bounded source store undefined 124:3 [blocks 1]",
                   # an index that varies counts as 0, past what is constant
                   "src10": "correct [blocks 1 bytes 18]", "src11": "correct [blocks 1 bytes 12]",
-                  "src12": "bounded source store undefined 159:3 [blocks 1]"}, "rows")
+                  "src12": "bounded source store undefined 163:3 [blocks 1]"}, "rows")
     done = bench.run("tv-check", "m.ll", "--seconds", "250", "--bytes", "8", "-f", "src")
     has(done.stdout, "@src vacuous source store undefined 3:3 [blocks 1]\n")
     done = bench.run("tv-check", "m.ll", "--seconds", "250", "-f", "src5", TV_ARGS="--turns 64")
