@@ -174,7 +174,8 @@ FIRST = ["incorrect", "failed", "vacuous", "bounded", "unknown", "refused", "sig
 def report_page(heads, pairs, rows):
     """The page of a report: `heads` are lines on versions and options, `pairs` what was compared,
     `rows` pairs with their rows. Incorrect functions come first, `same` ones last."""
-    title = f"{pairs[0].path} → {pairs[0].other}" if len(pairs) == 1 else f"{len(pairs)} modules"
+    title = " → ".join(dict.fromkeys([pairs[0].path, pairs[0].other])) if len(pairs) == 1 \
+        else f"{len(pairs)} modules"
     counts = tvrun.counts_of([row for _, row in rows])
     lines = [escaped(line) for head in heads for line in head.splitlines()]
     parts = [f'<p class="faint">{"<br>".join(lines)}</p>']
