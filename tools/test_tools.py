@@ -27,6 +27,8 @@ import tempfile
 import time
 import xml.etree.ElementTree
 
+import tvwhy
+
 TOOLS = os.path.dirname(os.path.realpath(__file__))
 DATA = os.path.join(TOOLS, "testdata")
 ARITH = os.path.join(DATA, "tree", "arith.ll")
@@ -105,6 +107,26 @@ def help_is_one_screen(bench):
         equal((done.returncode, done.stderr), (0, ""), f"{script} --help")
         has(done.stdout, script, {"tv-baseline": "BASELINE", "tv-proof": "FOLDER", "quick": "rt try"}.get(script, "TV"))
         equal(len(done.stdout.splitlines()) <= 50, True, f"{script} --help is one screen")
+
+
+def quick_without_rt(bench):
+    there = os.path.join(bench.folder, "bin")
+    os.mkdir(there)
+    for name in ("python3", "env"):
+        os.symlink(shutil.which(name), os.path.join(there, name))
+    done = bench.run("quick", "out", PATH=there)
+    equal((done.returncode, done.stdout), (127, ""), "status without an rt")
+    has(done.stderr, "quick: rt was not found: put the kit's bin on the PATH\n")
+    bench.write("bin/rt", "#!/bin/sh\necho 'error: no such kit' >&2\nexit 3\n")
+    os.chmod(os.path.join(there, "rt"), 0o755)
+    done = bench.run("quick", "out", PATH=there + os.pathsep + bench.variables["PATH"])
+    equal((done.returncode, done.stdout), (1, ""), "status where rt fails")
+    has(done.stderr, "rt try ended without a program:\nerror: no such kit\n")
+    for args in (["--fast"], ["a", "b"]):
+        done = bench.run("quick", *args, PATH=there)
+        equal((done.returncode, done.stdout), (4, ""), f"status of {args}")
+        has(done.stderr, "quick: ", "tools/quick [OUT]")
+    equal(sorted(os.listdir(bench.folder)), ["bin"], "files")
 
 
 # tv-check.
@@ -205,6 +227,50 @@ def check_refusals(bench):
     has(done.stdout, "@calls refused source Unsupported 4:8 call @llvm.ctpop.i8\n",
         "      1 call @llvm.ctpop.i8  intrinsics are not read: ")
     equal(bench.only("kept", ".after.ll"), bench.file("after.ll"), "the module that is kept")
+
+
+def check_before(bench):
+    args = ("tv-check", "--opt", "-passes=double", "--before", "double", ARITH, "--json")
+    rows = list(map(json.loads, bench.run(*args).stdout.splitlines()))
+    equal({row["kind"] for row in rows}, {"same"}, "rows where the source has had the pass")
+    equal((rows[1]["path"], rows[1]["first_line"]), (ARITH, 9), "the line in the file")
+    done = bench.run("tv-check", "--opt", "-passes=double", "--before", "double", BROKEN)
+    equal((done.returncode, done.stderr), (2, ""), "status where opt fails")
+    has(done.stdout, f"fault {BROKEN}: opt -passes=double: wrong-opt: error")
+    equal(bench.run("tv-check", "--before", "double", ARITH).returncode, 4, "status without --opt")
+
+
+HEADS = "%struct.s = type { i32, i8 }\n@g = global i32 0\ndeclare i8 @llvm.ctpop.i8(i8)\n"
+# What tv refuses: parameters and body of a function, what the row names, and the class of advice.
+REFUSED = [
+    ("ptr nocapture %p", "ret i8 0", "attribute nocapture", "attribute"),
+    ("ptr dereferenceable(4) %p", "ret i8 0", "attribute dereferenceable(4)", "attribute"),
+    ("i8 %x", "%y = call i8 @llvm.ctpop.i8(i8 %x)\n  ret i8 %y", "call @llvm.ctpop.i8",
+     "intrinsic"),
+    ("i8 %x", 'call void asm "", ""()\n  ret i8 0', "call of inline asm", "call"),
+    ("ptr %p", "%y = load i8, ptr %p, !tbaa !0\n  ret i8 %y", "metadata !tbaa", "metadata"),
+    ("ptr %p", "%y = load volatile i8, ptr %p\n  ret i8 %y", "volatile", "atomic"),
+    ("float %x", "ret i8 0", "float", "floating point"),
+    ("<2 x i8> %x", "ret i8 0", "<", "vector"),
+    ("ptr %p", "%y = getelementptr %struct.s, ptr %p, i64 1\n  ret i8 0", "type %struct.s", "struct"),
+    ("i8 %x", "%y = load i8, ptr @g\n  ret i8 %y", "global @g", "global"),
+    ("i8 %x", "%y = add i8 %x, undef\n  ret i8 %y", "undef", "undef"),
+    ("ptr %p", "%y = ptrtoint ptr %p to i8\n  ret i8 %y", "ptrtoint", "pointer cast"),
+    ("i128 %x", "ret i8 0", "i128", "type"),
+]
+
+
+def check_words(bench):
+    texts = [HEADS + "".join(f"define i8 @f{number}({params}) {{\n  %u = add i8 0, {more}\n"
+                             f"  {body}\n}}\n" for number, (params, body, *_) in enumerate(REFUSED))
+             + "!0 = !{!1, !1, i64 0}\n!1 = !{!\"x\"}\n" for more in (0, 1)]
+    bench.write("a.ll", texts[0])
+    bench.write("b.ll", texts[1])
+    done = bench.run("tv-check", "a.ll", "b.ll", "--json")
+    rows = list(map(json.loads, done.stdout.splitlines()))
+    advice = {text: kind for kind, text in tvwhy.ADVICE.items()}
+    equal([(row["kind"], row["what"], advice.get(row["advice"])) for row in rows],
+          [("refused", what, kind) for _, _, what, kind in REFUSED], "what is refused")
 
 
 def check_limit(bench):
@@ -404,6 +470,57 @@ define i16 @tgt7(ptr %p, ptr %q) {
   store i16 %s, ptr %p
   ret i16 %s
 }
+define i8 @src9(ptr %p, i1 %c) {
+  br i1 %c, label %a, label %b
+a:
+  %q = getelementptr inbounds i8, ptr %p, i64 32
+  store i8 1, ptr %q
+  br label %b
+b:
+  ret i8 0
+}
+define i8 @tgt9(ptr %p, i1 %c) {
+  ret i8 0
+}
+define i8 @src10(ptr %p, i8 %i) {
+  %q = getelementptr inbounds i8, ptr %p, i64 16
+  %z = zext i8 %i to i64
+  %r = getelementptr inbounds i16, ptr %q, i64 %z
+  store i16 7, ptr %r
+  ret i8 0
+}
+define i8 @tgt10(ptr %p, i8 %i) {
+  %q = getelementptr inbounds i8, ptr %p, i64 16
+  store i16 7, ptr %q
+  ret i8 0
+}
+define i16 @src11(ptr %p, i8 %i) {
+  %j = add nuw i8 %i, 5
+  %z = zext i8 %j to i64
+  %r = getelementptr inbounds i16, ptr %p, i64 %z
+  %v = load i16, ptr %r
+  ret i16 %v
+}
+define i16 @tgt11(ptr %p, i8 %i) {
+  %r = getelementptr inbounds i8, ptr %p, i64 10
+  %v = load i16, ptr %r
+  ret i16 %v
+}
+define i8 @src12(ptr %p, i8 %i) {
+  %c = icmp ult i8 %i, 9
+  br i1 %c, label %a, label %b
+a:
+  %q = getelementptr inbounds i8, ptr %p, i64 30
+  %z = zext i8 %i to i64
+  %r = getelementptr inbounds i32, ptr %q, i64 %z
+  store i32 7, ptr %r
+  br label %b
+b:
+  ret i8 0
+}
+define i8 @tgt12(ptr %p, i8 %i) {
+  ret i8 0
+}
 """
 
 
@@ -418,7 +535,12 @@ def check_bounds(bench):
                   "src4": "bounded source load undefined 50:8 [blocks 1]",
                   "src8": "bounded source store unreached 79:3 [blocks 1]",
                   "src5": "vacuous", "src6": "correct [blocks 1 bytes 20]",
-                  "src7": "correct"}, "rows")
+                  "src7": "correct",
+                  # an access that can't fit doesn't raise the bytes
+                  "src9": "bounded source store undefined 124:3 [blocks 1]",
+                  # an index that varies counts as 0, past what is constant
+                  "src10": "correct [blocks 1 bytes 18]", "src11": "correct [blocks 1 bytes 12]",
+                  "src12": "bounded source store undefined 163:3 [blocks 1]"}, "rows")
     done = bench.run("tv-check", "m.ll", "--seconds", "250", "--bytes", "8", "-f", "src")
     has(done.stdout, "@src vacuous source store undefined 3:3 [blocks 1]\n")
     done = bench.run("tv-check", "m.ll", "--seconds", "250", "-f", "src5", TV_ARGS="--turns 64")
@@ -435,6 +557,10 @@ def check_layout(bench):
     equal(done.returncode, 3, "status")
     has(done.stdout, '@f refused source data-layout 2:21 target datalayout "e-p:32:32"\n',
         "tv judges 64-bit little-endian targets")
+    done = bench.run("tv-tree", "run", "a.ll", "-p", "double", "--out", "one")
+    has(done.stdout, '1  refused source data-layout target datalayout "e-p:32:32"\n')
+    bench.run("opt-tv", "-S", "-passes=double", "a.ll")
+    has(bench.only("tv-out", ".txt"), "@f refused source data-layout 2:21 target datalayout ")
 
 
 def figures(bench):
@@ -531,6 +657,13 @@ def opt_judges_nothing(bench):
 def opt_same(bench):
     bench.run("opt-tv", "-S", "-passes=wrong", ARITH)
     has(bench.only("tv-out", ".txt"), "@twice same\n", "@calls same\n", "same 4")
+
+
+def opt_asks_once(bench):
+    log = os.path.join(bench.folder, "log")
+    bench.run("opt-tv", "-S", "-passes=double,wrong", ARITH, FAKE_TV_LOG=log)
+    equal(bench.file("log").count("\n"), 7,
+          "runs of tv: a changed function each, and how far the two correct ones reach")
 
 
 def opt_summary(bench):
@@ -1139,10 +1272,11 @@ def most_functions(bench):
 
 EVERY = [check_two, check_src_and_tgt, check_forms, check_refusals, reduced_pair, opt_output_is_passed_on, opt_gate, opt_changed_names, opt_steps, tree_totals,
          vacuous_rows, pages]
-REAL_ONLY = [proof_of_tv, check_bounds, check_layout, figures]
-FAKE_ONLY = [help_is_one_screen, check_folders, check_front, check_limit, check_interrupted,
+REAL_ONLY = [proof_of_tv, check_bounds, check_layout, check_words, figures]
+FAKE_ONLY = [help_is_one_screen, quick_without_rt, check_folders, check_front, check_before,
+             check_limit, check_interrupted,
              check_terminal, reduced_with_arguments, opt_reads_standard_input, opt_failure_is_passed_on, opt_not_text,
-             opt_judges_nothing, opt_same, opt_summary,
+             opt_judges_nothing, opt_same, opt_asks_once, opt_summary,
              opt_without_tv, opt_slow_pair, opt_whole_refusal, tree_by_lines, tree_resumes,
              tree_time_out, tree_stopped, tree_bad_folder, reduced, nothing_to_reduce, baseline,
              baseline_of_tree, proof_parts, wrong_logs, no_proof_files, wrong_lrat]

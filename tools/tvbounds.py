@@ -16,10 +16,6 @@ DEFAULTS = {"turns": 4, "blocks": 2, "bytes": 8}
 LARGEST = {"turns": 64, "blocks": 4, "bytes": 32}
 FAR = 256
 MANY = 64
-OPERAND = rf"%(?:{tvir.NAME})|-?\d+|true|false|null"
-POINTER = re.compile(rf"\bptr\s+({OPERAND})$")
-FLAGS = re.compile(r"(?:(?:inbounds|nuw|nsw|nusw|exact|disjoint|nneg|samesign|volatile|atomic"
-                   r"|fast|inrange\([^)]*\))\s+)*")
 SCALARS = {"ptr": 8, "half": 2, "bfloat": 2, "float": 4, "double": 8, "fp128": 16}
 
 
@@ -92,15 +88,11 @@ def accesses_of(blocks, named):
     found = []
     for block in blocks:
         for each in block.instructions:
-            parts = tvir.split(FLAGS.sub("", each.rest, count=1))
-            if each.word == "load" and len(parts) >= 2:
-                size, pointer = layout_of(parts[0], named), parts[1]
-            elif each.word == "store" and len(parts) >= 2:
-                size, pointer = layout_of(parts[0].rsplit(" ", 1)[0], named), parts[1]
-            else:
+            if each.word not in ("load", "store") or len(each.operands) < 2:
                 continue
-            name = POINTER.search(pointer)
-            found.append(Access(each.at, each.word, block.name, name.group(1) if name else "",
+            first = each.operands[0]
+            size = layout_of(first if each.word == "load" else first.rsplit(" ", 1)[0], named)
+            found.append(Access(each.at, each.word, block.name, each.pointer,
                                 size[0] if size else 0))
     return found
 
@@ -108,6 +100,7 @@ def accesses_of(blocks, named):
 # What constants say of values.
 
 NUMBER = ""
+ZERO = {(NUMBER, 0)}
 
 
 class Values:
@@ -117,7 +110,7 @@ class Values:
 
     def __init__(self, function, blocks, named, turns):
         self.named, self.found, self.kept, self.outside = named, {}, {}, set()
-        for part, name in zip(function.parameters(), function.argument_names()):
+        for part, name in zip(function.parameters, function.argument_names):
             if part.startswith("ptr"):
                 self.outside.add(name)
                 self.found[name] = {(name, 0)}
@@ -140,7 +133,7 @@ class Values:
         """Adds what one instruction gives its result, or stores."""
         read = getattr(self, "of_" + each.word, None)
         if each.word == "store":
-            self.store(each.rest)
+            self.store(each)
         elif each.word == "alloca" and each.result:
             self.put(each.result, {(each.result, 0)})
         elif read and each.result:
@@ -153,21 +146,17 @@ class Values:
             if len(held) < MANY:
                 held.add(pair)
 
-    def store(self, rest):
-        parts = tvir.split(FLAGS.sub("", rest, count=1))
-        target = POINTER.search(parts[1]) if len(parts) > 1 else None
-        value = parts[0].rsplit(" ", 1)[-1]
-        for place in self.of(target.group(1)) if target else ():
+    def store(self, each):
+        value = each.operands[0].rsplit(" ", 1)[-1]
+        for place in self.of(each.pointer):
             if place[0] not in self.outside:
                 self.kept.setdefault(place, set()).update(list(self.of(value))[:MANY])
 
     def of_load(self, each):
-        parts = tvir.split(FLAGS.sub("", each.rest, count=1))
-        found = POINTER.search(parts[1]) if len(parts) > 1 else None
-        places = self.of(found.group(1)) if found else set()
+        places = self.of(each.pointer)
         own = {place for place in places if place[0] not in self.outside}
         held = set().union(*(self.kept.get(place, set()) for place in own))
-        if parts[0] == "ptr" and (places - own or not places):
+        if each.operands[0] == "ptr" and (places - own or not places):
             self.outside.add(each.result)
             held = held | {(each.result, 0)}
         return held
@@ -177,22 +166,24 @@ class Values:
         return set().union(*map(self.of, values))
 
     def of_select(self, each):
-        parts = tvir.split(each.rest)
-        return set().union(*(self.of(part.rsplit(" ", 1)[-1]) for part in parts[1:3]))
+        return set().union(*(self.of(part.rsplit(" ", 1)[-1]) for part in each.operands[1:3]))
 
     def of_freeze(self, each):
         return self.of(each.rest.rsplit(" ", 1)[-1])
 
     def of_zext(self, each):
-        found = re.search(rf"({OPERAND})\s+to\s", each.rest)
+        found = re.search(rf"({tvir.OPERAND})\s+to\s", each.rest)
         return self.of(found.group(1)) if found else set()
 
     of_sext = of_trunc = of_zext
 
     def both(self, each, change):
-        parts = tvir.split(FLAGS.sub("", each.rest, count=1))
-        left, right = self.of(parts[0].rsplit(" ", 1)[-1]), self.of(parts[-1])
-        return {(NUMBER, change(a, b)) for base, a in left for other, b in right
+        """What an operation may give; of two operands one that isn't known counts as 0."""
+        left = self.of(each.operands[0].rsplit(" ", 1)[-1])
+        right = self.of(each.operands[-1])
+        if not left and not right:
+            return set()
+        return {(NUMBER, change(a, b)) for base, a in left or ZERO for other, b in right or ZERO
                 if base == other == NUMBER}
 
     def of_add(self, each):
@@ -210,12 +201,9 @@ class Values:
     of_or = of_add
 
     def of_getelementptr(self, each):
-        parts = tvir.split(FLAGS.sub("", each.rest, count=1))
-        base = POINTER.search(parts[1]) if len(parts) > 1 else None
-        if not base:
-            return set()
-        shifts = self.shifts(parts[0], [part.rsplit(" ", 1)[-1] for part in parts[2:]])
-        return {(root, offset + shift) for root, offset in self.of(base.group(1))
+        indexes = [part.rsplit(" ", 1)[-1] for part in each.operands[2:]]
+        shifts = self.shifts(each.operands[0], indexes)
+        return {(root, offset + shift) for root, offset in self.of(each.pointer)
                 for shift in shifts}
 
     def shifts(self, kind, indexes):
@@ -239,24 +227,59 @@ class Needs:
 
 def needs_of(module, name, turns):
     """The number of pointers from outside through which the function reads or writes, and the
-    most bytes of a block, up to 32, that accesses at constant offsets reach."""
+    most bytes of a block, up to 32, that accesses at constant offsets reach. A `getelementptr
+    inbounds` counts by its own offset where an access that fits, or a pointer that is returned or
+    stored, is made from it."""
     function = module.functions[name]
-    blocks = tvir.blocks_of(function)
+    blocks = function.blocks
     values = Values(function, blocks, module.named_types, turns)
-    spans, used = {}, set()
+    spans, used, ends = {}, set(), escapes(blocks, values)
     for access in accesses_of(blocks, module.named_types):
         for root, offset in values.of(access.pointer):
             if root in values.outside:
                 used.add(root)
                 spans.setdefault(root, []).append((offset, offset + access.size))
+                if offset + access.size <= LARGEST["bytes"]:
+                    ends.add(access.pointer)
+    made = makers(blocks)
+    wanted = set().union(*(tvir.reached_from(end, made) for end in ends))
     for block in blocks:
         for each in block.instructions:
-            if each.word == "getelementptr" and each.rest.startswith("inbounds"):
+            if each.word == "getelementptr" and each.rest.startswith("inbounds") \
+                    and each.result in wanted:
                 for root, offset in values.of(each.result):
                     if root in values.outside:
                         spans.setdefault(root, []).append((offset, offset))
     return Needs(min(len(used), LARGEST["blocks"]) or (1 if values.outside else 0),
                  max((span(each) for each in spans.values()), default=0))
+
+
+def makers(blocks):
+    """For each pointer those that it is made from; a local variable is made from what is stored to
+    it, and what is loaded from it is made from the variable."""
+    found = {}
+    for block in blocks:
+        for each in block.instructions:
+            if each.word in ("phi", "select", "freeze"):
+                found.setdefault(each.result, []).extend(tvir.MENTION.findall(each.rest))
+            elif each.word in ("getelementptr", "load"):
+                found.setdefault(each.result, []).append(each.pointer)
+            elif each.word == "store" and each.operands[0].startswith("ptr "):
+                found.setdefault(each.pointer, []).append(each.operands[0].rsplit(" ", 1)[-1])
+    return found
+
+
+def escapes(blocks, values):
+    """The pointers that a function returns, or stores to memory from outside."""
+    found = set()
+    for block in blocks:
+        for each in block.instructions:
+            if each.word not in ("ret", "store") or not each.operands[0].startswith("ptr "):
+                continue
+            roots = {root for root, _ in values.of(each.pointer)}
+            if each.word == "ret" or roots & values.outside:
+                found.add(each.operands[0].rsplit(" ", 1)[-1])
+    return found
 
 
 def span(reached):
@@ -321,7 +344,7 @@ class Reach:
     def __init__(self, module, name):
         self.module, self.name = module, name
         self.function = module.functions[name]
-        self.blocks = tvir.blocks_of(self.function)
+        self.blocks = self.function.blocks
         self.over = tvir.dominators(self.blocks)
         own = own_pointers(self.blocks)
         self.accesses = [access for access in accesses_of(self.blocks, module.named_types)
@@ -377,9 +400,6 @@ def own_pointers(blocks):
     own = set()
     for block in blocks:
         for each in block.instructions:
-            parts = tvir.split(FLAGS.sub("", each.rest, count=1))
-            base = POINTER.search(parts[1]) if len(parts) > 1 else None
-            if each.word == "alloca" or (each.word == "getelementptr" and base
-                                         and base.group(1) in own):
+            if each.word == "alloca" or each.word == "getelementptr" and each.pointer in own:
                 own.add(each.result)
     return own

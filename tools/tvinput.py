@@ -148,6 +148,8 @@ def of_opt(path, args, before):
         done = tvlib.run([tvlib.opt_program(), "-S", *words, "-o", "-", "-"], data, OPT_SECONDS)
         if done.status != 0:
             why = last_line(done.errors) or f"status {done.status}"
+            why += "; the pass as -O2 has it is instcombine<no-verify-fixpoint>" \
+                if "did not reach a fixpoint" in why else ""
             return Pair(path, path, fault=f"opt {shlex.join(words)}: {why}")
         data = done.output
         texts.append(text_of(data, path))

@@ -41,31 +41,34 @@ class Function:
     first: int
     text: str
 
+    @functools.cached_property
     def brace(self):
         """The offset of the brace that opens the body."""
         depth, opened = 0, 0
-        for offset, char in enumerate(blank(self.text)):
-            if char == "{" and depth == 0:
-                opened = offset
-            depth += (char == "{") - (char == "}")
+        for found in re.finditer("[{}]", blank(self.text)):
+            if found.group() == "{" and depth == 0:
+                opened = found.start()
+            depth += 1 if found.group() == "{" else -1
         return opened
 
+    @functools.cached_property
     def header(self):
         """The text before the body."""
-        return self.text[:self.brace()]
+        return self.text[:self.brace]
 
     def unreachable(self):
         """The same function with `unreachable` as its whole body."""
-        return self.header() + "{\n  unreachable\n}\n"
+        return self.header + "{\n  unreachable\n}\n"
 
     def renamed(self, name, text=None):
         """The function's text, or another text of it, with this name in its header."""
         return DEFINE.sub(lambda _: f"@{name}(", self.text if text is None else text, count=1)
 
+    @functools.cached_property
     def parameters(self):
         """Each parameter's text, type first; [] where the header isn't read."""
-        header = blank(self.header())
-        found = DEFINE.search(self.header())
+        header = blank(self.header)
+        found = DEFINE.search(self.header)
         if not found:
             return []
         inside, depth = "", 1
@@ -76,10 +79,11 @@ class Function:
             inside += self.text[offset]
         return [part for part in split(inside) if part]
 
+    @functools.cached_property
     def argument_names(self):
         """`%x` for each parameter; one without a name has its number, as LLVM counts."""
         names, unnamed = [], 0
-        for part in self.parameters():
+        for part in self.parameters:
             found = re.search(rf"%(?:{NAME})$", part)
             last = found and found.group()
             if not last or part == last:
@@ -91,19 +95,25 @@ class Function:
 
     def result_type(self):
         """The type that the function returns, e.g. `i32`, or an empty text."""
-        found = re.search(rf"(\S+)\s+@(?:{NAME})\s*\(", self.header())
+        found = re.search(rf"(\S+)\s+@(?:{NAME})\s*\(", self.header)
         return found.group(1) if found else ""
 
+    @functools.cached_property
+    def blocks(self):
+        """Its basic blocks."""
+        return blocks_of(self)
 
-def split(text, mark=","):
+
+def split(text):
     """The parts of a text between its outermost commas, without blanks around them."""
     parts, depth, begun = [], 0, 0
-    quiet = blank(text) + mark
-    for offset, char in enumerate(quiet):
-        depth += (char in "([{<") - (char in ")]}>")
-        if char == mark and depth == 0:
-            parts.append(text[begun:offset].strip())
-            begun = offset + 1
+    for found in re.finditer(r"[][(){}<>,]", blank(text) + ","):
+        char = found.group()
+        if char != ",":
+            depth += 1 if char in "([{<" else -1
+        elif depth == 0:
+            parts.append(text[begun:found.start()].strip())
+            begun = found.end()
     return parts
 
 
@@ -211,9 +221,19 @@ def names_of(source, target):
 def is_same(source, target, name):
     """Whether a function's text is the same in both modules, with the items that it names and but
     for comments."""
-    both = [[bare(line) for line in module.alone(name).text.splitlines()]
-            for module in (source, target) if name in module.functions]
-    return len(both) == 2 and both[0] == both[1]
+    if name not in source.functions or name not in target.functions:
+        return False
+    texts = [module.functions[name].text for module in (source, target)]
+    return are_same(*texts) and are_same(*(module.alone(name).text for module in (source, target)))
+
+
+def are_same(one, other):
+    """Whether two texts are equal but for comments."""
+    if one == other:
+        return True
+    lines, others = one.splitlines(), other.splitlines()
+    return len(lines) == len(others) and all(
+        left == right or bare(left) == bare(right) for left, right in zip(lines, others))
 
 
 TOKEN = re.compile(r'(?P<local>%[-"\w.$]+)|(?P<global>@[-"\w.$]+)|(?P<number>-?\d[\w.+]*)'
@@ -245,6 +265,10 @@ def is_bitcode(data):
 LABEL = re.compile(rf"\s*({NAME}):")
 INSTRUCTION = re.compile(rf"\s*(?:(%(?:{NAME}))\s*=\s*)?(?:(?:tail|musttail|notail)\s+)?(\w+)\b\s*(.*)",
                          re.S)
+FLAGS = re.compile(r"(?:(?:inbounds|nuw|nsw|nusw|exact|disjoint|nneg|samesign|volatile|atomic"
+                   r"|fast|inrange\([^)]*\))\s+)*")
+OPERAND = rf"%(?:{NAME})|-?\d+|true|false|null"
+POINTER = re.compile(rf"\bptr\s+({OPERAND})$")
 TARGET = re.compile(rf"label\s+(%(?:{NAME}))")
 
 
@@ -255,6 +279,17 @@ class Instruction:
     result: str
     word: str
     rest: str
+
+    @functools.cached_property
+    def operands(self):
+        """What is between the commas after the word and its flags."""
+        return split(FLAGS.sub("", self.rest, count=1))
+
+    @functools.cached_property
+    def pointer(self):
+        """The second operand where it is a pointer: that of a load, store or getelementptr."""
+        found = POINTER.search(self.operands[1]) if len(self.operands) > 1 else None
+        return found.group(1) if found else ""
 
 
 @dataclasses.dataclass
@@ -270,11 +305,10 @@ class Block:
 
 def blocks_of(function):
     """The blocks of a function as LLVM prints it: one instruction a line."""
-    header = function.header()
-    unnamed = [name for name in function.argument_names() if re.fullmatch(r"%\d+", name)]
+    unnamed = [name for name in function.argument_names if re.fullmatch(r"%\d+", name)]
     blocks = [Block(f"%{len(unnamed)}", [], [])]
     lines = function.text.splitlines()
-    begun = header.count("\n") + 1
+    begun = function.header.count("\n") + 1
     depth = 0
     for at in range(begun, len(lines)):
         line = bare(lines[at])

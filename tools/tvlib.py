@@ -138,13 +138,14 @@ def run(command, data=b"", seconds=None, group=False):
         with _lock:
             if _stopped.is_set():
                 raise Failure(INTERRUPTED, "stopped")
-            child = subprocess.Popen(command, stdin=subprocess.PIPE, stdout=subprocess.PIPE,
+            child = subprocess.Popen(command, stdin=subprocess.PIPE if data else subprocess.DEVNULL,
+                                     stdout=subprocess.PIPE,
                                      stderr=subprocess.PIPE, start_new_session=group)
             _children[child] = group
     except OSError as error:
         raise Failure(NOT_FOUND, f"{command[0]}: {error.strerror}") from None
     try:
-        output, errors = child.communicate(data, timeout=seconds)
+        output, errors = child.communicate(data or None, timeout=seconds)
         if _stopped.is_set():
             raise Failure(INTERRUPTED, "stopped")
         return Done(child.returncode, output, errors)

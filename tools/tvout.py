@@ -3,7 +3,6 @@ import collections
 import json
 import os
 import re
-import xml.sax.saxutils
 
 import tvbounds
 import tvir
@@ -42,7 +41,7 @@ def widths_of(function):
     def width(text):
         found = re.match(r"i(\d+)\b", text)
         return int(found.group(1)) if found else None
-    return [width(part) for part in function.parameters()], width(function.result_type())
+    return [width(part) for part in function.parameters], width(function.result_type())
 
 
 def readings(value, width):
@@ -57,7 +56,7 @@ def readings(value, width):
 def points(lines, function):
     """The lines below an incorrect row as what, name, value, and other forms of the value."""
     params, result = widths_of(function) if function else ([], None)
-    names = function.argument_names() if function else []
+    names = function.argument_names if function else []
     found = []
     for line in lines:
         what, equals, value = line.strip().partition(" = ")
@@ -131,10 +130,19 @@ def json_of(results):
 
 # JUnit.
 
-def quoted(text):
+ESCAPES = {"&": "&amp;", "<": "&lt;", ">": "&gt;", '"': "&quot;", "\t": "&#9;", "\n": "&#10;"}
+
+
+def escaped(text):
+    """A text for XML. (The library's own functions for it cost a third of this script's start.)"""
     clean = "".join(char if char in "\t\n" or char >= " " else "?" for char in text)
-    return xml.sax.saxutils.quoteattr(
-        clean.encode("utf-8", "surrogateescape").decode("utf-8", "replace"))
+    clean = clean.encode("utf-8", "surrogateescape").decode("utf-8", "replace")
+    return re.sub('[&<>"]', lambda found: ESCAPES[found.group()], clean)
+
+
+def quoted(text):
+    """A text as the value of an attribute, in quotes."""
+    return '"' + re.sub("[\t\n]", lambda found: ESCAPES[found.group()], escaped(text)) + '"'
 
 
 def case_of(pair, row):
@@ -147,10 +155,8 @@ def case_of(pair, row):
     function = pair.source.functions.get(row.name)
     body = "\n".join(row_lines(row, function) + ([row.what] if row.what else []))
     tag = {"incorrect": "failure", "failed": "error"}.get(row.kind, "skipped")
-    text = xml.sax.saxutils.escape(
-        body.encode("utf-8", "surrogateescape").decode("utf-8", "replace"))
     said = quoted(f"{row.kind}: {MEANINGS[row.kind]}")
-    return f"{head}><{tag} message={said}>{text}</{tag}></testcase>"
+    return f"{head}><{tag} message={said}>{escaped(body)}</{tag}></testcase>"
 
 
 def junit_of(results):

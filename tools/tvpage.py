@@ -21,9 +21,9 @@ STYLE = """
   --same:#3f6b4b; --bad:#f0655f; --open:#e0a030; --grey:#8a939e } }
 * { box-sizing:border-box }
 body { margin:0 auto; max-width:76rem; padding:1rem; background:var(--page); color:var(--ink);
-  font:16px/1.45 system-ui,sans-serif }
-h1 { font-size:1.35rem; overflow-wrap:anywhere } h2 { font-size:1.1rem; margin-top:2rem }
-a { color:inherit } .faint { color:var(--faint); font-size:.875rem; overflow-wrap:anywhere }
+  font:16px/1.45 system-ui,sans-serif; overflow-wrap:anywhere }
+h1 { font-size:1.35rem } h2 { font-size:1.1rem; margin-top:2rem }
+a { color:inherit } .faint { color:var(--faint); font-size:.875rem }
 code,.code,td.value { font-family:ui-monospace,"DejaVu Sans Mono",monospace; font-size:.8125rem }
 .bar { display:flex; height:1.1rem; border-radius:.3rem; overflow:hidden; gap:2px; margin:.75rem 0 }
 .bar span { min-width:3px } .legend { display:flex; flex-wrap:wrap; gap:.25rem 1.1rem; padding:0;
@@ -33,9 +33,9 @@ code,.code,td.value { font-family:ui-monospace,"DejaVu Sans Mono",monospace; fon
 .open { background:var(--open) } .grey { background:var(--grey) } .same { background:var(--same) }
 .scroll { overflow-x:auto } table { border-collapse:collapse; margin:.5rem 0 }
 th,td { text-align:left; padding:.2rem .9rem .2rem 0; border-bottom:1px solid var(--edge);
-  vertical-align:top } td.number,th.number { text-align:right }
+  vertical-align:top; overflow-wrap:normal } td code { white-space:nowrap } td.number,th.number { text-align:right }
 details { border:1px solid var(--edge); border-radius:.4rem; margin:.6rem 0; padding:.5rem .75rem }
-summary { cursor:pointer; overflow-wrap:anywhere }
+summary { cursor:pointer }
 .pair { display:grid; grid-template-columns:minmax(0,1fr) minmax(0,1fr); gap:.75rem }
 .side { font-weight:600; font-size:.875rem; margin:.5rem 0 .25rem }
 .code { background:var(--code); border:1px solid var(--edge); border-radius:.3rem; overflow-x:auto;
@@ -174,18 +174,21 @@ FIRST = ["incorrect", "failed", "vacuous", "bounded", "unknown", "refused", "sig
 def report_page(heads, pairs, rows):
     """The page of a report: `heads` are lines on versions and options, `pairs` what was compared,
     `rows` pairs with their rows. Incorrect functions come first, `same` ones last."""
-    title = f"{pairs[0].path} → {pairs[0].other}" if len(pairs) == 1 else f"{len(pairs)} modules"
+    title = " → ".join(dict.fromkeys([pairs[0].path, pairs[0].other])) if len(pairs) == 1 \
+        else f"{len(pairs)} modules"
     counts = tvrun.counts_of([row for _, row in rows])
-    parts = [f'<p class="faint">{escaped(line)}</p>' for head in heads
-             for line in head.splitlines()]
+    lines = [escaped(line) for head in heads for line in head.splitlines()]
+    parts = [f'<p class="faint">{"<br>".join(lines)}</p>']
     parts.append(bar({kind: counts[kind] for kind in FIRST}))
     parts += [f"<p>{escaped(each.path)}: {escaped(each.fault)}</p>"
               for each in pairs if each.fault]
     if not rows:
         parts.append("<p>The report has no rows.</p>")
     refused = [row for _, row in rows if row.kind == "refused" and row.what]
-    parts += refused_table(refused) if refused else []
     for each, row in sorted(rows, key=lambda found: FIRST.index(found[1].kind)):
+        if row.kind == "refused" and refused:
+            parts += refused_table(refused)
+            refused = []
         both = [module.functions.get(row.name) for module in (each.source, each.target)]
         where = f' <span class="faint">{escaped(each.path)}</span>' if len(pairs) > 1 else ""
         parts.append(section(row, *both, note=where))

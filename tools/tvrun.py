@@ -8,6 +8,7 @@ import dataclasses
 import os
 import re
 import tempfile
+import threading
 import time
 
 import tvbounds
@@ -145,12 +146,18 @@ def check(source, target, seconds, words=()):
 
 def check_texts(source, target, seconds, words=()):
     """`tv check` of two texts. `before.ll` and `after.ll` are their names in what it prints."""
-    with tempfile.TemporaryDirectory(prefix="tv-") as folder:
-        names = [os.path.join(folder, name) for name in ("before.ll", "after.ll")]
-        for name, text in zip(names, (source, target)):
-            with open(name, "wb") as file:
-                file.write(text.encode("utf-8", "surrogateescape"))
-        return check(*names, seconds, words)
+    if not hasattr(_thread, "folder"):
+        _thread.folder = tempfile.TemporaryDirectory(prefix="tv-")
+    names = [os.path.join(_thread.folder.name, name) for name in ("before.ll", "after.ll")]
+    for name, text in zip(names, (source, target)):
+        with open(name, "wb") as file:
+            file.write(text.encode("utf-8", "surrogateescape"))
+    return check(*names, seconds, words)
+
+
+# A folder for each thread, removed at the thread's end: to make one for each question takes as
+# long as many a question does.
+_thread = threading.local()
 
 
 @dataclasses.dataclass

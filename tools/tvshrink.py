@@ -7,7 +7,6 @@ alone is the change that the pass made; of that only what is not used goes.
 """
 import re
 
-import tvbounds
 import tvir
 
 RESULT = re.compile(rf"\s*(%(?:{tvir.NAME}))\s*=\s*(\w+)\s+(.*)")
@@ -24,12 +23,12 @@ class Side:
 
     def __init__(self, function):
         body = [tvir.bare(line) for line in
-                function.text[function.brace() + 1:].rsplit("}", 1)[0].splitlines()]
-        unnamed = sum(bool(NUMBERED.fullmatch(name)) for name in function.argument_names())
+                function.text[function.brace + 1:].rsplit("}", 1)[0].splitlines()]
+        unnamed = sum(bool(NUMBERED.fullmatch(name)) for name in function.argument_names)
         parts = []
-        for part, name in zip(function.parameters(), function.argument_names()):
+        for part, name in zip(function.parameters, function.argument_names):
             parts.append(part if part.endswith(name) else f"{part} {name}")
-        self.header = function.header()
+        self.header = function.header
         self.parameters = [named(part) for part in parts]
         self.lines = [label_named(named(line)) for line in body if line.strip()]
         if self.lines and not tvir.LABEL.match(self.lines[0]):
@@ -135,7 +134,7 @@ def with_edges(line, block, edges, seen):
 
 def type_of(word, rest):
     """The type of an instruction's result, or None."""
-    rest = tvbounds.FLAGS.sub("", rest, count=1)
+    rest = tvir.FLAGS.sub("", rest, count=1)
     if word == "icmp":
         return "i1"
     if word in ("getelementptr", "alloca"):
@@ -174,7 +173,7 @@ def steps(sides):
 
 def operands(found, kind):
     """The operands of an instruction that may take its result's part: those of its type."""
-    word, rest = found.group(2), tvbounds.FLAGS.sub("", found.group(3), count=1)
+    word, rest = found.group(2), tvir.FLAGS.sub("", found.group(3), count=1)
     if word == "phi":
         edges = EDGE.findall(rest)
         return [edges[0][0]] if len(edges) == 1 else []
