@@ -4,7 +4,7 @@ use Rattle.std.specs.List.{flat_map, position_or_len}
 use Rattle.std.proofs.lemmas.Bool.{cases_lt, cases_Bool, both_ways}
 use Rattle.std.proofs.lemmas.Bool.Decides.{nat_tests}
 use Rattle.std.proofs.lemmas.List.{length-map, drop_more}
-use Rattle.block_paths.specs.Paths.{IsAssignedBefore, IsUnassignedBefore}
+use Rattle.ir_tree.specs.Paths.{IsAssignedBefore, IsUnassignedBefore}
 use Rattle.definite_assignment.specs.Sets.{AreRoomy, has}
 use Rattle.std.proofs.lemmas.List.Sums.{position_or_len_is}
 use Rattle.std.proofs.lemmas.List.Elements.{All-append, Contains-append_left, Contains-append_right, Contains-append_cases, Contains-get_or}

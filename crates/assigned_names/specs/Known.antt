@@ -1,6 +1,6 @@
 -- What is known of a function while its uses are walked.
 use Rattle.std.specs.Prelude.{◌≡◌, ◌<◌, IsTrue, false, ℕ, Bool, List, length, slice_get, Option, Some, None}
-use Rattle.block_paths.specs.Paths.{IsAssignedBefore, IsUnassignedBefore}
+use Rattle.ir_tree.specs.Paths.{IsAssignedBefore, IsUnassignedBefore}
 use Rattle.definite_assignment.specs.Sets.{AreRoomy, has}
 use Rattle.ir_tree.specs.declared.tree.Function.{Function}
 use Rattle.ir_tree.specs.declared.sites.Part.{Part}

@@ -1,11 +1,11 @@
 //! What each block of a function assigns.
 
-ghost use Rattle.std.specs.Prelude.{◌≡◌, ◌∷◌, ◌++◌, [], map, IfOk, OnOk, MatchOption};
+ghost use Rattle.std.specs.Prelude.{◌≡◌, ◌++◌, map, IfOk, OnOk};
 ghost use Rattle.std.specs.List.{flat_map};
 ghost use Rattle.ir_tree.specs.declared.tree.Phi.{Phi};
 ghost use Rattle.ir_tree.specs.Flow.{assigned_with, assigns, results_of};
 
-use ir_tree::{Block, Function, Inst, Phi};
+use ir_tree::{Block, Function, Inst, Phi, result_of};
 use std::alloc::Global;
 use support::{NoMemory, Sequence};
 
@@ -47,21 +47,4 @@ fn push_results(names: &mut Sequence<usize>, insts: &[Inst]) -> Result<(), NoMem
         }
     }
     Ok(())
-}
-
-// The name that an instruction assigns; a store assigns none.
-fn result_of(inst: &Inst) -> Option<usize>
-    ensures { MatchOption result (results_of inst.now ≡ []) (λ into. results_of inst.now ≡ into ∷ []) }
-{
-    match inst {
-        Inst::Binary { into, .. } => Some(*into),
-        Inst::Icmp { into, .. } => Some(*into),
-        Inst::Cast { into, .. } => Some(*into),
-        Inst::Select { into, .. } => Some(*into),
-        Inst::Freeze { into, .. } => Some(*into),
-        Inst::Alloca { into, .. } => Some(*into),
-        Inst::Load { into, .. } => Some(*into),
-        Inst::Store { .. } => None,
-        Inst::GetElementPtr { into, .. } => Some(*into),
-    }
 }

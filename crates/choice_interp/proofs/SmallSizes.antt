@@ -6,13 +6,13 @@ use Rattle.ir_tree.specs.declared.tree.IrType.{IrType}
 use Rattle.ir_tree.specs.declared.tree.IrType.TheVariants.{Int, Ptr}
 use Rattle.ir_tree.specs.declared.tree.MemoryType.{MemoryType}
 use Rattle.ir_tree.specs.declared.tree.GepIndex.{GepIndex}
-use Rattle.ir_tree.specs.Types.{type_size, nested_size, indexed_size}
+use Rattle.ir_tree.specs.Types.{type_align, nested_size, indexed_size}
 use Rattle.ir_tree.specs.Limits.{HasSmallArrays}
 use Rattle.ir_tree.proofs.Sizes.{small_from}
 use Rattle.byte_block.specs.declared.value.Value.{Value}
 use Rattle.points.specs.Run.{index_value, index_values}
 
-type_small : (element : IrType) → type_size element ≤ 8
+type_small : (element : IrType) → type_align element ≤ 8
 type_small (Int width) = let most = width.at_most_64 in omega (arith, most)
 type_small Ptr = omega arith
 

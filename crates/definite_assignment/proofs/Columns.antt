@@ -5,7 +5,7 @@ use Rattle.std.specs.List.{All, Contains}
 use Rattle.std.proofs.lemmas.List.{get_or-map, length-map, get_or_past}
 use Rattle.std.proofs.lemmas.List.Elements.{All-contains, All-map, Contains-get_or}
 use Rattle.std.proofs.lemmas.Bool.{both_ways, cases_eq, cases_lt}
-use Rattle.block_paths.specs.Paths.{Assigns, IsAssignedBefore, IsAssignedIn, IsUnassignedBefore}
+use Rattle.ir_tree.specs.Paths.{Assigns, IsAssignedBefore, IsAssignedIn, IsUnassignedBefore}
 use Rattle.definite_assignment.specs.Sets.{AreRoomy, by_columns, column_of, has, has_name}
 
 -- ---- numbering

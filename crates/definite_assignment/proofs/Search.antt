@@ -6,7 +6,7 @@ use Rattle.std.specs.List.{All, Contains, sum_by}
 use Rattle.std.proofs.lemmas.List.{get_or-set_same, get_or-set_other, get_or-replicate, length-replicate, get_or_default, get_or_past, replicate_more}
 use Rattle.std.proofs.lemmas.List.Elements.{All-contains, Contains-append_cases, Contains-append_right, All-nil, All-cons}
 use Rattle.std.proofs.lemmas.Bool.{cases_eq, cases_lt, cases_Bool, both_ways, false_from_ne_true}
-use Rattle.block_paths.specs.Paths.{Assigns, IsAssignedBefore, IsAssignedIn, IsSuccessor, IsUnassignedBefore}
+use Rattle.ir_tree.specs.Paths.{Assigns, IsAssignedBefore, IsAssignedIn, IsSuccessor, IsUnassignedBefore}
 use Rattle.definite_assignment.specs.Sets.{AreRoomy, has, has_name, places_for}
 use Rattle.definite_assignment.proofs.Names.{count-unset}
 use Rattle.definite_assignment.specs.Work.{IsLeaving, IsSearch, IsSpread, State, count, first_sets, is_waiting, rest_of, set_of}

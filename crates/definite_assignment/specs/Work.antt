@@ -1,7 +1,7 @@
 -- The search for the sets: those so far, and the blocks whose sets must still be passed on.
 use Rattle.std.specs.Prelude.{ℕ, ◌+◌, ◌≡◌, ◌<◌, ◌≤◌, ◌⊎◌, ◌↔◌, Bool, true, false, IsTrue, List, [], ◌∷◌, length, slice_index_or, count_by, replicate}
 use Rattle.std.specs.List.{Contains, sum_by}
-use Rattle.block_paths.specs.Paths.{Assigns, IsSuccessor, IsUnassignedBefore}
+use Rattle.ir_tree.specs.Paths.{Assigns, IsSuccessor, IsUnassignedBefore}
 use Rattle.definite_assignment.specs.Sets.{has, has_name, places_for}
 use Rattle.definite_assignment.specs.declared.work.Work.{Work}
 

@@ -9,7 +9,7 @@
 
 ghost use Rattle.std.specs.Prelude.{◌≡◌, ◌<◌, ◌↔◌, ℕ, List, false, length, IfOk, IsTrue};
 ghost use Rattle.std.specs.List.{All};
-ghost use Rattle.block_paths.specs.Paths.{IsAssignedBefore, IsUnassignedBefore};
+ghost use Rattle.ir_tree.specs.Paths.{IsAssignedBefore, IsUnassignedBefore};
 ghost use Rattle.definite_assignment.specs.Sets.{AreRoomy, has};
 
 mod name_columns;

@@ -10,7 +10,8 @@ ghost use Rattle.mem_terms.specs.Memory.{AreGivenBlocks, frame_of, frames_of};
 ghost use Rattle.mem_terms.specs.Inputs.{AreWords, IsInput, input_at, words_at};
 ghost use Rattle.mem_terms.specs.Outcomes.{IsOutcome, LeavesGiven, Shows};
 ghost use Rattle.run_terms.specs.Runs.{Scene, Sees, sight, zeros_past};
-ghost use Rattle.run_terms.specs.Frontier.{CanRun, EndedSo, HasShape, IsEnding, IsFrontier, NotEnded, Tells, ending_shape, first_place, placed};
+ghost use Rattle.run_terms.specs.Frontier.{EndedSo, HasShape, IsEnding, IsFrontier, NotEnded, Tells, ending_shape, first_place, placed};
+ghost use Rattle.ir_tree.specs.Limits.{CanRun};
 
 use crate::beginning::begin;
 use crate::passing::pass_all;

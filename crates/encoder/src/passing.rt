@@ -9,7 +9,8 @@ ghost use Rattle.bv_terms.specs.Trees.{Keeps};
 ghost use Rattle.mem_terms.specs.Values.{Each};
 ghost use Rattle.mem_terms.specs.Inputs.{AreWords};
 ghost use Rattle.run_terms.specs.Runs.{IsState, Scene, Sees, shape_of};
-ghost use Rattle.run_terms.specs.Frontier.{CanRun, HasShape, IsCopyIn, IsFrontier, Moves, Tells, placed, shape_in};
+ghost use Rattle.run_terms.specs.Frontier.{HasShape, IsCopyIn, IsFrontier, Moves, Tells, placed, shape_in};
+ghost use Rattle.ir_tree.specs.Limits.{CanRun};
 
 use bv_terms::Terms;
 use run_terms::{Frontier, Leaving, RunState, Setting, and_not, leave, step_all, take_entry};

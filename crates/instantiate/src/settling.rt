@@ -1,9 +1,8 @@
 //! The verdict on a pair.
 
 ghost use Rattle.std.specs.Prelude.{◌≡◌, IfOk};
-ghost use Rattle.ir_tree.specs.Limits.{IsWithinLimits};
+ghost use Rattle.ir_tree.specs.Limits.{IsWithinLimits, CanRun};
 ghost use Rattle.points.specs.Range.{AreInRange};
-ghost use Rattle.run_terms.specs.Frontier.{CanRun};
 ghost use Rattle.instantiate.specs.Settling.{IsSettled, IsTold};
 ghost use Rattle.pair_questions.specs.Subjects.{IsSubject};
 

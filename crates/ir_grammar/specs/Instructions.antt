@@ -20,7 +20,7 @@ use Rattle.std.specs.Prelude.{refl, ℕ, zero, suc, [], ◌∷◌, ◌++◌, len
 use Rattle.ir_lexer.specs.Lexeme.{Lexeme}
 use Rattle.ir_tree.specs.Types.{one_bit}
 use Rattle.ir_tree.specs.declared.tree.Flags.{Flags}
-use Rattle.ir_tree.specs.Types.{type_size}
+use Rattle.ir_tree.specs.Types.{type_align}
 use Rattle.ir_tree.specs.declared.tree.IrType.TheVariants.{Int}
 use Rattle.ir_tree.specs.declared.tree.Op.{Op}
 use Rattle.ir_tree.specs.declared.tree.Op.TheVariants as op
@@ -351,9 +351,9 @@ gep name = do
 
 -- the alignment of an instruction where none is written: the size of its type, or of the type's innermost element
 abbrev pub default_align : WrittenAccess → ℕ
-default_align (access.Alloca into number type) = type_size type.of_type.element
-default_align (access.Load into type from) = type_size type.of_type
-default_align (access.Store value to) = type_size value.of_type.of_type
+default_align (access.Alloca into number type) = type_align type.of_type.element
+default_align (access.Load into type from) = type_align type.of_type
+default_align (access.Store value to) = type_align value.of_type.of_type
 
 -- number, after the word align
 unfoldable pub aligned : WrittenAccess → Form never WrittenLine

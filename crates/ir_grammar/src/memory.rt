@@ -17,7 +17,7 @@ use crate::written::{
     WrittenType, WrittenTyped,
 };
 use ir_lexer::Kind;
-use ir_tree::{IrType, Reason, type_size};
+use ir_tree::{IrType, Reason, type_align};
 use token_forms::ReadFault;
 
 /// The alignment of an instruction where none is written: the size of its type, or of the type's
@@ -26,9 +26,9 @@ pub fn default_align(access: &WrittenAccess) -> u64
     ensures { result ≡ spec.default_align access.now }
 {
     match access {
-        WrittenAccess::Alloca { of_type, .. } => type_size(of_type.of_type.element),
-        WrittenAccess::Load { of_type, .. } => type_size(of_type.of_type),
-        WrittenAccess::Store { value, .. } => type_size(value.of_type.of_type),
+        WrittenAccess::Alloca { of_type, .. } => type_align(of_type.of_type.element),
+        WrittenAccess::Load { of_type, .. } => type_align(of_type.of_type),
+        WrittenAccess::Store { value, .. } => type_align(value.of_type.of_type),
     }
 }
 

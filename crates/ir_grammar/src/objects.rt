@@ -15,7 +15,7 @@ use crate::numbers::array_length;
 use crate::reasons::{reason_at, width_reason_at};
 use crate::written::{GepFlags, WrittenArrays, WrittenObject, WrittenType};
 use ir_lexer::{Kind, Token};
-use ir_tree::{IrType, MemoryType, Reason, type_size};
+use ir_tree::{IrType, MemoryType, Reason, type_align};
 use token_forms::ReadFault;
 
 /// The greatest number of arrays within one another.
@@ -64,7 +64,7 @@ fn memory_type_in(token: &Token) -> Option<IrType>
 fn capped_size(lengths: &[u64], element: IrType) -> u64
     ensures { result ≡ min (nested_size lengths.now element) 65 }
 {
-    let mut size = type_size(element);
+    let mut size = type_align(element);
     for i in (0..lengths.len()).rev() {
         size = size.saturating_mul(lengths[i]).min(MOST_ALLOCA_BYTES + 1);
     }
@@ -74,7 +74,7 @@ fn capped_size(lengths: &[u64], element: IrType) -> u64
 fn are_small_arrays(lengths: &[u64], element: IrType) -> bool
     ensures { result ≡ spelling.are_small_arrays lengths.now element }
 {
-    let mut size = type_size(element);
+    let mut size = type_align(element);
     for i in (0..lengths.len()).rev() {
         size = size.saturating_mul(lengths[i]);
         if size > MOST_ARRAY_BYTES {

@@ -5,8 +5,8 @@ use Rattle.std.specs.List.{AllByRecursion, Contains}
 use Rattle.std.proofs.lemmas.Bool.{lt-leb, cases_lt}
 use Rattle.std.proofs.lemmas.Option.{slice_get-get_or}
 use Rattle.std.proofs.lemmas.List.Elements.{All-nil, All-cons, Contains-append_left, Contains-append_right}
-use Rattle.ir_tree.specs.Limits.{IsAlignment, HasSmallArrays, HasSmallTypes, HasSmallObjects}
-use Rattle.ir_tree.specs.Types.{type_size, object_size}
+use Rattle.ir_tree.specs.Limits.{IsAlignment, HasSmallArrays, HasSmallTypes, HasSmallObjects, HasSmallNumber}
+use Rattle.ir_tree.specs.Types.{type_align, object_size}
 use Rattle.ir_tree.specs.Names.{with_name, number_of}
 use Rattle.ir_tree.specs.declared.name.Name.{Name}
 use Rattle.ir_tree.specs.declared.tree.Inst.{Inst}
@@ -29,15 +29,14 @@ use Rattle.ir_grammar.specs.declared.written.WrittenGep.{WrittenGep}
 use Rattle.ir_grammar.specs.declared.written.WrittenBody.{WrittenBody}
 use Rattle.ir_numbering.specs.Numbering.{so, each_in, value_in, typed_in, binary_in, icmp_in, cast_in, select_in, freeze_in, alloca_in, load_in, store_in, index_in, gep_in, inst_in, phi_in, terminator_in, block_in}
 use Rattle.ir_numbering.proofs.NumberedSites.{then-so, block_with}
-use Rattle.ir_reader.specs.Judgeable.{HasSmallNumber}
 
 -- ---- what is written
 
 -- an alloca's number, and what its own alignment is
 abbrev pub IsSmallAccess : WrittenAccess → Type 0
-IsSmallAccess (access.Alloca into number type) = (number < 65536) × (length type.of_type.lengths ≤ 8) × (object_size type.of_type ≤ 64) × IsAlignment (type_size type.of_type.element)
-IsSmallAccess (access.Load into type from) = IsAlignment (type_size type.of_type)
-IsSmallAccess (access.Store value to) = IsAlignment (type_size value.of_type.of_type)
+IsSmallAccess (access.Alloca into number type) = (number < 65536) × (length type.of_type.lengths ≤ 8) × (object_size type.of_type ≤ 64) × IsAlignment (type_align type.of_type.element)
+IsSmallAccess (access.Load into type from) = IsAlignment (type_align type.of_type)
+IsSmallAccess (access.Store value to) = IsAlignment (type_align value.of_type.of_type)
 
 abbrev pub IsSmallGep : WrittenGep → Type 0
 IsSmallGep g = (length g.of_type.of_type.lengths ≤ 8) × HasSmallArrays g.of_type.of_type.lengths g.of_type.of_type.element

@@ -10,7 +10,7 @@ use Rattle.ir_lexer.specs.Lexeme.{Lexeme}
 use Rattle.ir_lexer.specs.declared.token.Kind.{Kind}
 use Rattle.ir_lexer.specs.declared.token.Kind.TheVariants as kind
 use Rattle.ir_tree.specs.Limits.{IsAlignment, HasSmallArrays, alignments}
-use Rattle.ir_tree.specs.Types.{type_size, nested_size}
+use Rattle.ir_tree.specs.Types.{type_align, nested_size}
 use Rattle.ir_tree.specs.declared.tree.Op.{Op}
 use Rattle.ir_tree.specs.declared.tree.Cast.{Cast}
 use Rattle.ir_tree.specs.declared.tree.IrType.{IrType}
@@ -35,7 +35,7 @@ use Rattle.ir_reader.proofs.Objects.{IsSmallAccess, IsSmallInst}
 
 -- ---- alignments
 
-some-width : (w : Width) (a b c d : Bool) → eqb w.bits 8 ≡ a → eqb w.bits 16 ≡ b → eqb w.bits 32 ≡ c → eqb w.bits 64 ≡ d → (a || b || c || d) ≡ true → IsAlignment (type_size (Int w))
+some-width : (w : Width) (a b c d : Bool) → eqb w.bits 8 ≡ a → eqb w.bits 16 ≡ b → eqb w.bits 32 ≡ c → eqb w.bits 64 ≡ d → (a || b || c || d) ≡ true → IsAlignment (type_align (Int w))
 some-width w true b c d e f g h some = let is : w.bits ≡ 8 = eqb-true w.bits 8 e in rw is refl
 some-width w false true c d e f g h some = let is : w.bits ≡ 16 = eqb-true w.bits 16 f in rw is refl
 some-width w false false true d e f g h some = let is : w.bits ≡ 32 = eqb-true w.bits 32 g in rw is refl
@@ -43,24 +43,24 @@ some-width w false false false true e f g h some = let is : w.bits ≡ 64 = eqb-
 some-width w false false false false e f g h some = absurd (cc some)
 
 -- the size of what is in memory is an alignment
-memory-size : (type : IrType) → is_memory_type type ≡ true → IsAlignment (type_size type)
+memory-size : (type : IrType) → is_memory_type type ≡ true → IsAlignment (type_align type)
 memory-size (Int w) e = some-width w (eqb w.bits 8) (eqb w.bits 16) (eqb w.bits 32) (eqb w.bits 64) refl refl refl refl e
 memory-size Ptr e = refl
 
-found-size : (m : Option (Option IrType)) (type : IrType) → memory_type_of m ≡ Some type → IsAlignment (type_size type)
+found-size : (m : Option (Option IrType)) (type : IrType) → memory_type_of m ≡ Some type → IsAlignment (type_align type)
 found-size (Some (Some other)) type e = go (is_memory_type other) refl e
   where
-    go : (b : Bool) → is_memory_type other ≡ b → cond b (Some other) None ≡ Some type → IsAlignment (type_size type)
-    go true is e' = let same : other ≡ type = cc e' in subst (λ (t : IrType). IsAlignment (type_size t)) same (memory-size other is)
+    go : (b : Bool) → is_memory_type other ≡ b → cond b (Some other) None ≡ Some type → IsAlignment (type_align type)
+    go true is e' = let same : other ≡ type = cc e' in subst (λ (t : IrType). IsAlignment (type_align t)) same (memory-size other is)
     go false is e' = absurd (cc e')
 found-size (Some None) type e = absurd (cc e)
 found-size None type e = absurd (cc e)
 
-placed-size : (m : Option IrType) (at : Place) (x : WrittenType) → ((type : IrType) → m ≡ Some type → IsAlignment (type_size type)) → type_at m at ≡ Some x → IsAlignment (type_size x.of_type)
+placed-size : (m : Option IrType) (at : Place) (x : WrittenType) → ((type : IrType) → m ≡ Some type → IsAlignment (type_align type)) → type_at m at ≡ Some x → IsAlignment (type_align x.of_type)
 placed-size None at x sized e = absurd (cc e)
-placed-size (Some type) at x sized e = let same : (let y : WrittenType = record { of_type = type; at = at } in y) ≡ x = cc e in subst (λ (y : WrittenType). IsAlignment (type_size y.of_type)) same (sized type refl)
+placed-size (Some type) at x sized e = let same : (let y : WrittenType = record { of_type = type; at = at } in y) ≡ x = cc e in subst (λ (y : WrittenType). IsAlignment (type_align y.of_type)) same (sized type refl)
 
-pub memory-aligned : (t : Lexeme) (x : WrittenType) → type_at (memory_type_in t) t.place ≡ Some x → IsAlignment (type_size x.of_type)
+pub memory-aligned : (t : Lexeme) (x : WrittenType) → type_at (memory_type_in t) t.place ≡ Some x → IsAlignment (type_align x.of_type)
 memory-aligned t x e = placed-size (memory_type_in t) t.place x (λ type is. found-size (type_in t) type is) e
 
 and-second : (a b : Bool) → (a && b) ≡ true → b ≡ true
@@ -93,7 +93,7 @@ small-element in_alloca lengths None at x e kept = absurd (cc e)
 small-element in_alloca lengths (Some type) at x e kept = let same : (let y : WrittenType = record { of_type = type; at = at } in y) ≡ x = cc e in subst (λ (y : WrittenType). is_small_object in_alloca lengths y.of_type ≡ true) same kept
 
 abbrev IsSmallObject : WrittenObject → Type 0
-IsSmallObject o = (length o.of_type.lengths ≤ 8) × (nested_size o.of_type.lengths o.of_type.element ≤ 64) × IsAlignment (type_size o.of_type.element)
+IsSmallObject o = (length o.of_type.lengths ≤ 8) × (nested_size o.of_type.lengths o.of_type.element ≤ 64) × IsAlignment (type_align o.of_type.element)
 
 pub alloca-small : (x : WrittenObject) (ts rest : List Lexeme) → Spells true alloca_object x ts rest → IsSmallObject x
 unfolding alloca_object arrays

@@ -1,7 +1,9 @@
 pub mod Names
 pub mod Types
 pub mod Limits
+pub mod Operands
 pub mod Pointers
+pub mod Paths
 pub mod Flow
 pub mod BlockIndexes
 pub mod Sites

@@ -1,5 +1,5 @@
--- How large a function may be.
-use Rattle.std.specs.Prelude.{◌≡◌, ℕ, ◌+◌, ◌≤◌, true, nat_eq, List, [], ◌∷◌, All, length, sum_by}
+-- How large a function may be, and which functions can be run.
+use Rattle.std.specs.Prelude.{◌≡◌, ℕ, ◌+◌, ◌<◌, ◌≤◌, true, nat_eq, List, [], ◌∷◌, All, length, sum_by, Option, is_some}
 use Rattle.std.specs.List.{list_any}
 use Rattle.ir_tree.specs.declared.tree.Block.{Block}
 use Rattle.ir_tree.specs.declared.tree.Phi.{Phi}
@@ -61,3 +61,29 @@ pub record IsWithinLimits (f : Function) : Type 0 where
   pub cases : All HasFewCases f.blocks
   pub entries : All HasFewEntries f.blocks
   pub objects : All HasSmallObjects f.blocks
+
+-- ---- what can be run
+
+-- a `ret` has a value exactly where the function's header has a type
+abbrev pub FitsReturn : Option IrType → Terminator → Type 0
+FitsReturn returns (Return returned) = is_some returned ≡ is_some returns
+FitsReturn returns (Branch to) = Unit {0}
+FitsReturn returns (CondBranch condition if_true if_false) = Unit {0}
+FitsReturn returns (Switch width operand default cases) = Unit {0}
+FitsReturn returns Unreachable = Unit {0}
+
+abbrev pub ReturnsFit : Function → Type 0
+ReturnsFit f = All (λ (b : Block). FitsReturn f.returns b.terminator) f.blocks
+
+-- an alloca's number is below the limit on instructions
+abbrev pub HasSmallNumber : Inst → Type 0
+HasSmallNumber (inst.Alloca into number type align) = number < 65536
+HasSmallNumber _ = Unit {0}
+
+abbrev pub HasSmallNumbers : Block → Type 0
+HasSmallNumbers b = All HasSmallNumber b.insts
+
+pub record CanRun (f : Function) : Type 0 where
+  pub returns : ReturnsFit f
+  pub objects : All HasSmallObjects f.blocks
+  pub numbers : All HasSmallNumbers f.blocks

@@ -2,7 +2,7 @@
 -- reason is reported at the first of its sites, and only where no reason before it has one.
 use Rattle.std.specs.Prelude.{◌≡◌, ◌+◌, ◌<◌, ◌≤◌, ◌⊎◌, ◌↔◌, ◌==◌, ℕ, Bool, true, false, List, map, take, slice_get, Option, Some, None}
 use Rattle.std.specs.List.{Contains}
-use Rattle.block_paths.specs.Paths.{IsPathTo, IsAssignedIn}
+use Rattle.ir_tree.specs.Paths.{IsPathTo, IsAssignedIn}
 use Rattle.ir_tree.specs.declared.tree.IrType.{IrType}
 use Rattle.ir_tree.specs.declared.tree.IrType.TheVariants as type
 use Rattle.ir_tree.specs.declared.tree.Operand.{Operand}

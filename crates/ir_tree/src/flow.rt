@@ -1,10 +1,10 @@
-// Where the blocks of a function lead.
-ghost use Rattle.std.specs.Prelude.{◌≡◌, ◌∷◌, map, IfOk};
+// Where the blocks of a function lead, and what an instruction assigns.
+ghost use Rattle.std.specs.Prelude.{◌≡◌, ◌∷◌, [], map, IfOk, MatchOption};
 ghost use Rattle.ir_tree.specs.declared.tree.Case.{Case};
-ghost use Rattle.ir_tree.specs.Flow.{targets, block_of, successors};
+ghost use Rattle.ir_tree.specs.Flow.{targets, block_of, results_of, successors};
 ghost use Rattle.ir_tree.specs.BlockIndexes.{IsIndex};
 
-use crate::tree::{Case, Function, Terminator};
+use crate::tree::{Case, Function, Inst, Terminator};
 use indexmap::IndexMap;
 use std::alloc::Global;
 use std::marker::Model;
@@ -112,4 +112,21 @@ pub fn successors(alloc: Global, f: &Function) -> Result<Sequence<Sequence<usize
         graph.push(index.places(alloc, f, labels.as_slice())?)?;
     }
     Ok(graph)
+}
+
+/// The name that an instruction assigns; a store assigns none.
+pub fn result_of(inst: &Inst) -> Option<usize>
+    ensures { MatchOption result (results_of inst.now ≡ []) (λ into. results_of inst.now ≡ into ∷ []) }
+{
+    match inst {
+        Inst::Binary { into, .. } => Some(*into),
+        Inst::Icmp { into, .. } => Some(*into),
+        Inst::Cast { into, .. } => Some(*into),
+        Inst::Select { into, .. } => Some(*into),
+        Inst::Freeze { into, .. } => Some(*into),
+        Inst::Alloca { into, .. } => Some(*into),
+        Inst::Load { into, .. } => Some(*into),
+        Inst::Store { .. } => None,
+        Inst::GetElementPtr { into, .. } => Some(*into),
+    }
 }

@@ -1,7 +1,7 @@
 ghost use Rattle.std.specs.Prelude.{◌≡◌, ◌+◌, ◌<◌, ◌≤◌, ◌↔◌, IsTrue, All, sum_by, IfSome, None};
 ghost use Rattle.std.specs.Prelude.{◌%◌, ◌^◌, min};
 ghost use Rattle.ir_tree.specs.Limits.{instructions_of, HasFewCases, HasFewEntries, IsAlignment, HasSmallArrays, HasSmallTypes, HasSmallObjects, IsWithinLimits, cases_in};
-ghost use Rattle.ir_tree.specs.Types.{type_size, nested_size, object_size, indexed_size};
+ghost use Rattle.ir_tree.specs.Types.{store_size, padded, type_align, nested_size, object_size, indexed_size};
 
 use crate::tree::{Block, Function, Inst, IrType, MemoryType, Terminator};
 
@@ -101,14 +101,28 @@ fn have_few_entries(blocks: &[Block]) -> bool
     blocks.iter().all(|block| has_few_entries(block))
 }
 
-/// The bytes of a number or a pointer.
-pub fn type_size(of_type: IrType) -> u64
-    ensures value { result ≡ type_size of_type }
+/// How many bytes a load or a store of the type accesses (LLVM Language Reference, "Data Layout").
+pub fn store_size(of_type: IrType) -> u64
+    ensures value { result ≡ store_size of_type }
     ensures most { result ≤ 8 }
 {
     match of_type {
         IrType::Int(width) => (width.bits() as u64 + 7) / 8,
         IrType::Ptr => 8,
+    }
+}
+
+/// The alignment of a type in bytes where none is written, which is also its size in memory as an
+/// object and as an element of an array (LLVM Language Reference, "Data Layout").
+pub fn type_align(of_type: IrType) -> u64
+    ensures value { result ≡ type_align of_type }
+    ensures most { result ≤ 8 }
+{
+    match store_size(of_type) {
+        0 | 1 => 1,
+        2 => 2,
+        3 | 4 => 4,
+        _ => 8,
     }
 }
 
@@ -118,7 +132,7 @@ pub fn indexed_size(of_type: &MemoryType, n: usize) -> u64
     ensures { result ≡ indexed_size of_type.now n % 2 ^ 64 }
 {
     let lengths = of_type.lengths.as_slice();
-    let mut size = type_size(of_type.element);
+    let mut size = type_align(of_type.element);
     for i in (n..lengths.len()).rev() {
         size = size.wrapping_mul(lengths[i]);
     }
@@ -130,7 +144,7 @@ fn capped_size(of_type: &MemoryType) -> u64
     ensures { result ≡ min (object_size of_type.now) 65 }
 {
     let lengths = of_type.lengths.as_slice();
-    let mut size = type_size(of_type.element);
+    let mut size = type_align(of_type.element);
     for i in (0..lengths.len()).rev() {
         size = size.saturating_mul(lengths[i]).min(MOST_ALLOCA_BYTES + 1);
     }
@@ -141,7 +155,7 @@ fn has_small_arrays(of_type: &MemoryType) -> bool
     ensures { IsTrue result ↔ HasSmallArrays of_type.now.lengths of_type.now.element }
 {
     let lengths = of_type.lengths.as_slice();
-    let mut size = type_size(of_type.element);
+    let mut size = type_align(of_type.element);
     for i in (0..lengths.len()).rev() {
         size = size.saturating_mul(lengths[i]);
         if size > MOST_ARRAY_BYTES {

@@ -1,4 +1,7 @@
-use support::Sequence;
+ghost use Rattle.std.specs.Prelude.{◌≡◌, IfOk};
+
+use std::alloc::Global;
+use support::{NoMemory, Sequence};
 
 /// A local or global name, without its sign (LLVM Language Reference, "Identifiers").
 ///
@@ -9,4 +12,20 @@ pub enum Name {
     Number(Sequence<u8>),
     /// Any bytes, as they are after escapes.
     Word(Sequence<u8>),
+}
+
+/// A copy of the name.
+pub fn copy_name(alloc: Global, name: &Name) -> Result<Name, NoMemory>
+    ensures { IfOk result (λ copy. copy ≡ name.now) }
+{
+    match name {
+        Name::Number(digits) => Ok(Name::Number(copy_bytes(alloc, digits)?)),
+        Name::Word(bytes) => Ok(Name::Word(copy_bytes(alloc, bytes)?)),
+    }
+}
+
+fn copy_bytes(alloc: Global, bytes: &Sequence<u8>) -> Result<Sequence<u8>, NoMemory>
+    ensures { IfOk result (λ copy. copy ≡ bytes.now) }
+{
+    Ok(Sequence::from_vec(bytes.as_slice().to_vec(alloc)?))
 }

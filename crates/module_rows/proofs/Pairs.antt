@@ -11,11 +11,10 @@ use Rattle.ir_tree.specs.Names.{same_name}
 use Rattle.ir_lexer.specs.Lexeme.{Lexeme}
 use Rattle.ir_items.specs.declared.item.Define.{Define}
 use Rattle.ir_items.specs.Items.{IsCut, nothing, other, define}
-use Rattle.ir_reader.specs.Judgeable.{HasSmallNumber, IsJudgeable, IsJudgeableEntry}
+use Rattle.ir_reader.specs.Judgeable.{IsJudgeable, IsJudgeableEntry}
 use Rattle.ir_reader.specs.Module.{IsModule, AreEntries}
 use Rattle.verdicts.specs.Pair.{Functions, same_signature}
 use Rattle.pair_judge.specs.Answers.{CanBeJudged}
-use Rattle.pair_judge.proofs.AllocaNumbers.{small_numbers}
 use Rattle.report.specs.Rows.{function_named}
 use Rattle.module_rows.specs.Judging.{pairs_in, judged_pairs}
 
@@ -57,8 +56,8 @@ pair_judged (Ok f) (Some (Ok g)) s t = go (same_signature f g)
           target_formed = b.well_formed;
           source_limits = a.limits;
           target_limits = b.limits;
-          source_numbers = small_numbers HasSmallNumber (λ into number type align small. small) f a.numbers;
-          target_numbers = small_numbers HasSmallNumber (λ into number type align small. small) g b.numbers;
+          source_numbers = a.numbers;
+          target_numbers = b.numbers;
         }
 
     go : (same : Bool) → AllByRecursion CanBeJudged (if same then record { source = f; target = g } ∷ [] else [])

@@ -5,25 +5,9 @@ ghost use Rattle.ir_tree.specs.Names.{same_name};
 ghost use Rattle.report.specs.Rows.{function_named};
 ghost use Rattle.module_rows.specs.Searching.{entry_names, function_found};
 
-use ir_tree::{Entry, Name, Names};
+use ir_tree::{Entry, Name, Names, copy_name};
 use std::alloc::Global;
-use support::{NoMemory, Sequence};
-
-/// A copy of the name.
-pub fn copy_name(alloc: Global, name: &Name) -> Result<Name, NoMemory>
-    ensures { IfOk result (λ copy. copy ≡ name.now) }
-{
-    match name {
-        Name::Number(digits) => Ok(Name::Number(copy_bytes(alloc, digits)?)),
-        Name::Word(bytes) => Ok(Name::Word(copy_bytes(alloc, bytes)?)),
-    }
-}
-
-fn copy_bytes(alloc: Global, bytes: &Sequence<u8>) -> Result<Sequence<u8>, NoMemory>
-    ensures { IfOk result (λ copy. copy ≡ bytes.now) }
-{
-    Ok(Sequence::from_vec(bytes.as_slice().to_vec(alloc)?))
-}
+use support::NoMemory;
 
 /// The names of a module's functions, numbered in order.
 pub fn names_of(alloc: Global, entries: &[Entry]) -> Result<Names, NoMemory>

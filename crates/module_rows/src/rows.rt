@@ -8,8 +8,8 @@ ghost use Rattle.module_rows.specs.Judging.{AreAnswers, HasNext, IsTaken, IsUnju
 ghost use Rattle.module_rows.specs.Judging.{may_answer};
 ghost use Rattle.module_rows.specs.Searching.{entry_names, function_found};
 
-use crate::index::{copy_name, find, names_of};
-use ir_tree::{Entry, Module, Names};
+use crate::index::{find, names_of};
+use ir_tree::{Entry, Module, Names, copy_name};
 use pair_driver::{Gate, Judged, drive};
 use pair_judge::{Real, answers_are_verdicts};
 use points::{Bounds, copy_point};

@@ -21,7 +21,7 @@ use Rattle.std.specs.List.{AllByRecursion}
 use Rattle.std.proofs.lemmas.List.Elements.{recursion_from_All}
 use Rattle.ir_tree.specs.declared.tree.Phi.{Phi}
 use Rattle.ir_tree.specs.declared.tree.MemoryType.{MemoryType}
-use Rattle.ir_tree.specs.Types.{type_size, object_size}
+use Rattle.ir_tree.specs.Types.{store_size, object_size}
 use Rattle.ir_tree.specs.Limits.{IsWithinLimits, instructions_of, cases_in, HasFewCases, HasFewEntries, HasSmallTypes, HasSmallObjects}
 use Rattle.points.specs.declared.point.Bounds.{Bounds}
 use Rattle.points.specs.Run.{undef_type}
@@ -84,13 +84,13 @@ small_width : (t : IrType) → type_width t ≤ 4096
 small_width (type.Int width) = plain_cost width
 small_width type.Ptr = omega arith
 
-small_type : (t : IrType) → type_size t ≤ 8
+small_type : (t : IrType) → store_size t ≤ 8
 small_type (type.Int width) = let most = width.at_most_64 in let eighth : (width.bits + 7) / 8 ≤ 8 = omega (arith, most) in eighth
 small_type type.Ptr = omega arith
 
 -- an access that looks at each byte for each of its own
-pub small_access : (t : IrType) (memory : ℕ) → memory ≤ 272629888 → type_size t * memory ≤ 2181039104
-small_access t memory few = let m : type_size t * memory ≤ 8 * memory = mul-le-mul_right memory (small_type t) in omega (arith, m, few)
+pub small_access : (t : IrType) (memory : ℕ) → memory ≤ 272629888 → store_size t * memory ≤ 2181039104
+small_access t memory few = let m : store_size t * memory ≤ 8 * memory = mul-le-mul_right memory (small_type t) in omega (arith, m, few)
 
 -- of what is small nothing is cut
 pub small_object : (type : MemoryType) → object_size type ≤ 64 → object_size type % 2 ^ 64 ≡ object_size type

@@ -6,7 +6,7 @@ ghost use Rattle.pair_costs.specs.Small.{AreSmall};
 ghost use Rattle.verdicts.specs.Weight.{type_width, op_cost, inst_cost, phi_cost, end_cost, block_cost, cost_of, weight_of};
 
 use crate::memory::memory_of;
-use ir_tree::{Block, Function, Inst, IrType, Op, Phi, Terminator, indexed_size, type_size};
+use ir_tree::{Block, Function, Inst, IrType, Op, Phi, Terminator, indexed_size, store_size};
 use points::Bounds;
 use support::NoMemory;
 use tv_num::Width;
@@ -51,8 +51,8 @@ fn cost(inst: &Inst, memory: u64) -> u64
         Inst::Select { if_true, .. } => width_of(if_true.of_type),
         Inst::Freeze { of_type, .. } => width_of(*of_type),
         Inst::Alloca { of_type, .. } => 1 + indexed_size(of_type, 0),
-        Inst::Load { of_type, .. } => 64 + type_size(*of_type) * memory,
-        Inst::Store { value, .. } => 64 + type_size(value.of_type) * memory,
+        Inst::Load { of_type, .. } => 64 + store_size(*of_type) * memory,
+        Inst::Store { value, .. } => 64 + store_size(value.of_type) * memory,
         Inst::GetElementPtr { indices, .. } => 64 * (indices.len() as u64 + 1),
     }
 }

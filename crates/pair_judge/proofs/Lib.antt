@@ -1,3 +1,2 @@
-pub mod AllocaNumbers
 pub mod Returns
 pub mod Told

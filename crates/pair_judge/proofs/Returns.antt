@@ -9,10 +9,9 @@ use Rattle.ir_tree.specs.declared.tree.Block.{Block}
 use Rattle.ir_tree.specs.declared.tree.Function.{Function}
 use Rattle.ir_tree.specs.declared.sites.Site.TheVariants.{Written}
 use Rattle.ir_tree.specs.Sites.{terminator_sites}
-use Rattle.ir_tree.specs.Limits.{IsWithinLimits}
+use Rattle.ir_tree.specs.Limits.{IsWithinLimits, CanRun, FitsReturn, HasSmallNumbers, ReturnsFit}
 use Rattle.ir_tree.specs.WellFormed.{IsWellFormed}
 use Rattle.ir_tree.proofs.Standing.{end_site}
-use Rattle.run_terms.specs.Frontier.{CanRun, FitsReturn, HasSmallNumbers, ReturnsFit}
 
 -- no end of a block has a site that was wrongly written
 abbrev AllIsWell : Option IrType → Terminator → Type 0

@@ -1,12 +1,11 @@
 -- Which pairs the judge takes, and what it may answer of them.
 use Rattle.std.specs.Prelude.{All}
-use Rattle.ir_tree.specs.Limits.{IsWithinLimits}
+use Rattle.ir_tree.specs.Limits.{IsWithinLimits, HasSmallNumbers}
 use Rattle.ir_tree.specs.WellFormed.{IsWellFormed}
 use Rattle.points.specs.declared.point.Bounds.{Bounds}
 use Rattle.points.specs.declared.point.Budget.{Budget}
 use Rattle.verdicts.specs.Pair.{Functions}
 use Rattle.pair_driver.specs.declared.judged.Judged.{Judged}
-use Rattle.run_terms.specs.Frontier.{HasSmallNumbers}
 use Rattle.instantiate.specs.Settling.{IsJudged}
 
 -- functions that are well formed and within the limits, whose allocas have numbers below 65,536

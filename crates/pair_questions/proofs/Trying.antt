@@ -21,7 +21,7 @@ use Rattle.mem_terms.proofs.Later.{keeps_trans, bit-later, input_at-later, is_in
 use Rattle.pair_questions.specs.declared.goals.Trial.{Trial}
 use Rattle.pair_questions.specs.Candidates.{IsTrial, input_in, none_allows, outcome_in}
 use Rattle.pair_questions.specs.Encodables.{IsEncodable}
-use Rattle.run_terms.specs.Frontier.{CanRun}
+use Rattle.ir_tree.specs.Limits.{CanRun}
 
 -- ---- what tapes are tried for
 

@@ -18,7 +18,7 @@ use Rattle.mem_terms.specs.Inputs.{AreWords, IsInput, input_at, words_at}
 use Rattle.mem_terms.specs.Outcomes.{IsOutcome, LeavesGiven, outcome_at}
 use Rattle.pair_questions.specs.declared.goals.Trial.{Trial}
 use Rattle.pair_questions.specs.Encodables.{IsEncodable}
-use Rattle.run_terms.specs.Frontier.{CanRun}
+use Rattle.ir_tree.specs.Limits.{CanRun}
 use Rattle.mem_terms.specs.Memory.{frames_of}
 
 -- the words of these tapes

@@ -21,7 +21,7 @@ use Rattle.clause_search.specs.Outcome.{IsCareful, IsSpent}
 use Rattle.answer_order.specs.Fronts.{numbers_of, total}
 use Rattle.sat_ask.specs.Asks.{Asks, HasSmallNumbers}
 use Rattle.pair_costs.specs.Small.{AreSmall}
-use Rattle.run_terms.specs.Frontier.{CanRun}
+use Rattle.ir_tree.specs.Limits.{CanRun}
 use Rattle.pair_questions.specs.declared.found.Found.{Found}
 use Rattle.pair_questions.specs.declared.found.Found.TheVariants as found
 

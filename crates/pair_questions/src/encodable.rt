@@ -6,7 +6,7 @@ ghost use Rattle.bv_terms.specs.Trees.{Keeps};
 ghost use Rattle.mem_terms.specs.Values.{reading};
 ghost use Rattle.mem_terms.specs.Inputs.{AreWords, IsInput, input_at, words_at};
 ghost use Rattle.mem_terms.specs.Outcomes.{IsOutcome, LeavesGiven, Shows};
-ghost use Rattle.run_terms.specs.Frontier.{CanRun};
+ghost use Rattle.ir_tree.specs.Limits.{CanRun};
 ghost use Rattle.register_slots.specs.StandIn.{IsStandIn};
 ghost use Rattle.pair_questions.specs.Encodables.{IsEncodable, encoded_of};
 ghost use Rattle.mem_terms.specs.Memory.{frames_of};

@@ -11,7 +11,7 @@ use Rattle.tv_num.specs.declared.Width.{Width}
 use Rattle.ir_lexer.specs.declared.token.Kind.{Kind}
 use Rattle.ir_lexer.specs.declared.token.Kind.TheVariants as kind
 use Rattle.ir_tree.specs.Limits.{alignments}
-use Rattle.ir_tree.specs.Types.{type_size}
+use Rattle.ir_tree.specs.Types.{type_align}
 use Rattle.ir_tree.specs.declared.tree.IrType.{IrType}
 use Rattle.ir_tree.specs.declared.tree.IrType.TheVariants.{Int, Ptr}
 use Rattle.token_forms.specs.Spelling.{part_value}
@@ -38,7 +38,7 @@ part-begins false m a e = absurd (cc e)
 is-aligned : (n : ℕ) → list_any (nat_eq n) alignments ≡ true → Contains alignments n
 is-aligned n e = Contains-from_any {eq = nat_eq} (λ x y same. eqb-true x y same) n alignments e
 
-some-width : (w : Width) (a b c d : Bool) → eqb w.bits 8 ≡ a → eqb w.bits 16 ≡ b → eqb w.bits 32 ≡ c → eqb w.bits 64 ≡ d → (a || b || c || d) ≡ true → list_any (nat_eq (type_size (Int w))) alignments ≡ true
+some-width : (w : Width) (a b c d : Bool) → eqb w.bits 8 ≡ a → eqb w.bits 16 ≡ b → eqb w.bits 32 ≡ c → eqb w.bits 64 ≡ d → (a || b || c || d) ≡ true → list_any (nat_eq (type_align (Int w))) alignments ≡ true
 some-width w true b c d e f g h some = let is : w.bits ≡ 8 = eqb-true w.bits 8 e in rw is refl
 some-width w false true c d e f g h some = let is : w.bits ≡ 16 = eqb-true w.bits 16 f in rw is refl
 some-width w false false true d e f g h some = let is : w.bits ≡ 32 = eqb-true w.bits 32 g in rw is refl
@@ -46,9 +46,9 @@ some-width w false false false true e f g h some = let is : w.bits ≡ 64 = eqb-
 some-width w false false false false e f g h some = absurd (cc some)
 
 -- the size of what is in memory is an alignment
-size-aligned : (type : IrType) → is_memory_type type ≡ true → Contains alignments (type_size type)
-size-aligned (Int w) e = is-aligned (type_size (Int w)) (some-width w (eqb w.bits 8) (eqb w.bits 16) (eqb w.bits 32) (eqb w.bits 64) refl refl refl refl e)
-size-aligned Ptr e = is-aligned (type_size Ptr) refl
+size-aligned : (type : IrType) → is_memory_type type ≡ true → Contains alignments (type_align type)
+size-aligned (Int w) e = is-aligned (type_align (Int w)) (some-width w (eqb w.bits 8) (eqb w.bits 16) (eqb w.bits 32) (eqb w.bits 64) refl refl refl refl e)
+size-aligned Ptr e = is-aligned (type_align Ptr) refl
 
 pub default-aligned : (n : ℕ) (a : WrittenAccess) → IsAccess n a → Contains alignments (default_align a)
 default-aligned n (access.Alloca into number type) (name, is, object) = size-aligned type.of_type.element object.element

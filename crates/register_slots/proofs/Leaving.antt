@@ -21,7 +21,8 @@ use Rattle.points.specs.declared.machine.Machine.{Machine}
 use Rattle.points.specs.declared.outcome.Outcome.TheVariants.{Ub}
 use Rattle.points.specs.Run.{Exit, To, Over, ended, act, operand_value, is_poison, undef_type, returns, returned_with, returned_run, branch_on, switch_on, exit_by, exit_after, exit_insts}
 use Rattle.register_slots.specs.Renaming.{operand_in, typed_in, inst_in, terminator_in}
-use Rattle.register_slots.specs.Allocation.{holding, IsReadHeld, AreReadHeld, returned_operands, operands_at_end, AreRightInsts, held_after, IsRightJump}
+use Rattle.register_slots.specs.Allocation.{holding, IsReadHeld, AreReadHeld, AreRightInsts, held_after, IsRightJump}
+use Rattle.ir_tree.specs.Operands.{returned_operands, operands_at_end}
 use Rattle.register_slots.proofs.Held.{holding_length}
 use Rattle.register_slots.proofs.Registers.{Agrees}
 use Rattle.register_slots.proofs.Reading.{operand_read, typed_read}

@@ -11,13 +11,12 @@ use Rattle.ir_tree.specs.declared.tree.Terminator.TheVariants as terminator
 use Rattle.ir_tree.specs.declared.tree.Block.{Block}
 use Rattle.ir_tree.specs.declared.tree.Parameter.{Parameter}
 use Rattle.ir_tree.specs.declared.tree.Function.{Function}
-use Rattle.ir_tree.specs.Limits.{HasSmallObjects, HasSmallTypes}
+use Rattle.ir_tree.specs.Limits.{HasSmallObjects, HasSmallTypes, CanRun, FitsReturn, HasSmallNumber, HasSmallNumbers}
 use Rattle.points.specs.declared.point.Layout.{Layout}
 use Rattle.bv_terms.specs.declared.term.Term.{Term}
 use Rattle.mem_terms.specs.declared.inputs.ArgTerms.{ArgTerms}
 use Rattle.mem_terms.specs.declared.inputs.InputTerms.{InputTerms}
 use Rattle.mem_terms.specs.Inputs.{AreArgs, IsInput}
-use Rattle.run_terms.specs.Frontier.{CanRun, FitsReturn, HasSmallNumber, HasSmallNumbers}
 use Rattle.register_slots.specs.Renaming.{block_in, function_in, index_in, inst_in, parameter_in, terminator_in}
 use Rattle.register_slots.specs.Slotted.{IsSlotted}
 use Rattle.register_slots.specs.StandIn.{IsStandIn}

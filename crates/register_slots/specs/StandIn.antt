@@ -8,7 +8,7 @@ use Rattle.points.specs.Run.{run_of}
 use Rattle.bv_terms.specs.declared.term.Term.{Term}
 use Rattle.mem_terms.specs.declared.inputs.InputTerms.{InputTerms}
 use Rattle.mem_terms.specs.Inputs.{IsInput}
-use Rattle.run_terms.specs.Frontier.{CanRun}
+use Rattle.ir_tree.specs.Limits.{CanRun}
 
 -- g may be run instead of f
 pub record IsStandIn (f g : Function) : Type 0 where

@@ -13,14 +13,15 @@ ghost use Rattle.ir_tree.specs.Flow.{block_of, results_of, targets};
 ghost use Rattle.ir_tree.specs.BlockIndexes.{IsIndex};
 ghost use Rattle.register_slots.specs.PhiReads.{ArePhisHeld, AreEntriesHeld, IsBlockNoted};
 ghost use Rattle.register_slots.specs.Renaming.{slot_of};
-ghost use Rattle.register_slots.specs.Allocation.{IsHeld, holding, only_holding, IsReadHeld, AreReadHeld, operands_of, returned_operands, operands_at_end, HasSlot, IsRightInst, AreRightInsts, held_after, IsEntryHeld, IsRightPhi, IsRightEdge, IsRightJump, IsRightEnd, IsRightBlock, parameter_names, IsAllocation};
+ghost use Rattle.register_slots.specs.Allocation.{IsHeld, holding, only_holding, IsReadHeld, AreReadHeld, HasSlot, IsRightInst, AreRightInsts, held_after, IsEntryHeld, IsRightPhi, IsRightEdge, IsRightJump, IsRightEnd, IsRightBlock, parameter_names, IsAllocation};
+ghost use Rattle.ir_tree.specs.Operands.{operands_of, returned_operands, operands_at_end};
 
 use crate::phi_reads::phi_reads;
 use crate::renaming::slot_of;
 use crate::rows::row_at;
 use ir_tree::{
     Block, BlockIndex, Function, GepIndex, Inst, Operand, Parameter, Phi, Terminator, TypedOperand,
-    targets_of,
+    result_of, targets_of,
 };
 use std::alloc::Global;
 use support::{NoMemory, Sequence};
@@ -168,23 +169,6 @@ fn has_slot(slots: &[usize], names: usize, count: usize, name: usize) -> bool
     ensures { IsTrue result → HasSlot slots.now names count name }
 {
     name < names && slot_of(slots, name) < count
-}
-
-/// The name that an instruction assigns; a store assigns none.
-pub fn result_of(inst: &Inst) -> Option<usize>
-    ensures { MatchOption result (results_of inst.now ≡ []) (λ into. results_of inst.now ≡ into ∷ []) }
-{
-    match inst {
-        Inst::Binary { into, .. } => Some(*into),
-        Inst::Icmp { into, .. } => Some(*into),
-        Inst::Cast { into, .. } => Some(*into),
-        Inst::Select { into, .. } => Some(*into),
-        Inst::Freeze { into, .. } => Some(*into),
-        Inst::Alloca { into, .. } => Some(*into),
-        Inst::Load { into, .. } => Some(*into),
-        Inst::Store { .. } => None,
-        Inst::GetElementPtr { into, .. } => Some(*into),
-    }
 }
 
 /// Whether an instruction reads what is held; its result is held after it.

@@ -5,10 +5,9 @@
 
 ghost use Rattle.ir_tree.specs.BlockIndexes.{IsIndex};
 
-use crate::checking::result_of;
 use ir_tree::{
     BlockIndex, Function, GepIndex, Inst, Operand, Parameter, Phi, PhiEntry, Terminator,
-    TypedOperand,
+    TypedOperand, result_of,
 };
 use std::alloc::Global;
 use support::NoMemory;

@@ -4,10 +4,9 @@ ghost use Rattle.std.specs.Prelude.{◌≡◌, map, IfOk};
 ghost use Rattle.std.specs.Option.{option_map};
 ghost use Rattle.register_slots.specs.Renaming.{slot_of, operand_in, typed_in, index_in, inst_in, entry_in, phi_in, terminator_in, block_in, parameter_in, function_in};
 
-use crate::naming::copy_name;
 use ir_tree::{
     Block, Case, Function, GepIndex, Inst, MemoryType, Names, Operand, Parameter, Phi, PhiEntry,
-    Terminator, TypedOperand,
+    Terminator, TypedOperand, copy_name,
 };
 use std::alloc::Global;
 use support::{NoMemory, Sequence};

@@ -12,7 +12,7 @@ use Rattle.ir_tree.specs.declared.tree.Terminator.{Terminator}
 use Rattle.ir_tree.specs.declared.tree.Block.{Block}
 use Rattle.ir_tree.specs.declared.tree.Function.{Function}
 use Rattle.ir_tree.specs.Flow.{targets, block_of, successors}
-use Rattle.ir_tree.specs.Limits.{HasSmallObjects}
+use Rattle.ir_tree.specs.Limits.{HasSmallObjects, CanRun, HasSmallNumbers, FitsReturn, ReturnsFit}
 use Rattle.ir_tree.proofs.Indexing.{places_of}
 use Rattle.points.specs.declared.machine.Machine.{Machine}
 use Rattle.points.specs.declared.outcome.Outcome.TheVariants.{Ub}
@@ -31,7 +31,7 @@ use Rattle.run_terms.specs.declared.state.RunState.{RunState}
 use Rattle.run_terms.specs.declared.frontier.Frontier.{Frontier}
 use Rattle.run_terms.specs.declared.setting.Setting.{Setting}
 use Rattle.run_terms.specs.Runs.{Scene, Sees, IsState, Counts, Carries, Course, Idle, Dead, Live, Visit, advanced, shape_of, steps, Follows, visit_of}
-use Rattle.run_terms.specs.Frontier.{AreStates, CanRun, HasSmallNumbers, IsUnreached, AheadTells, HaveShape, IsFrontier, HasShape, Tells, Moves, AreByLabel, IsCopyIn, FitsReturn, ReturnsFit, ending_shape, entering, arrived, placed, shape_in}
+use Rattle.run_terms.specs.Frontier.{AreStates, IsUnreached, AheadTells, HaveShape, IsFrontier, HasShape, Tells, Moves, AreByLabel, IsCopyIn, ending_shape, entering, arrived, placed, shape_in}
 use Rattle.run_terms.proofs.Lasting.{each-get, counts-later, carries-later, tells-later}
 use Rattle.run_terms.proofs.Reached.{set_length, set_other, changed_tells, passes_taken}
 

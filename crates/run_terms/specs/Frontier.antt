@@ -34,25 +34,7 @@ use Rattle.run_terms.specs.declared.setting.Setting.{Setting}
 use Rattle.run_terms.specs.declared.frontier.Frontier.{Frontier}
 use Rattle.run_terms.specs.Runs.{Scene, sight, IsTally, IsState, StateShape, shape_of, Visit, visit_of, Counts, Carries}
 
--- ---- returns
-
--- a `ret` has a value exactly where the function's header has a type
-abbrev pub FitsReturn : Option IrType → Terminator → Type 0
-FitsReturn returns (terminator.Return returned) = is_some returned ≡ is_some returns
-FitsReturn returns (terminator.Branch to) = Unit {0}
-FitsReturn returns (terminator.CondBranch condition if_true if_false) = Unit {0}
-FitsReturn returns (terminator.Switch width operand default cases) = Unit {0}
-FitsReturn returns terminator.Unreachable = Unit {0}
-
-abbrev pub ReturnsFit : Function → Type 0
-ReturnsFit f = All (λ (b : Block). FitsReturn f.returns b.terminator) f.blocks
-
--- ---- what may be run
-
--- an alloca's number is below the limit on instructions
-abbrev pub HasSmallNumber : Inst → Type 0
-HasSmallNumber (inst.Alloca into number type align) = number < 65536
-HasSmallNumber _ = Unit {0}
+-- ---- instructions
 
 abbrev pub UsesMemory : Inst → Type 0
 UsesMemory (inst.Alloca into number type align) = Unit {0}
@@ -60,14 +42,6 @@ UsesMemory (inst.Load into type pointer align) = Unit {0}
 UsesMemory (inst.Store value pointer align) = Unit {0}
 UsesMemory (inst.GetElementPtr into inbounds nuw type base indices) = Unit {0}
 UsesMemory _ = ⊥
-
-abbrev pub HasSmallNumbers : Block → Type 0
-HasSmallNumbers b = All HasSmallNumber b.insts
-
-pub record CanRun (f : Function) : Type 0 where
-  pub returns : ReturnsFit f
-  pub objects : All HasSmallObjects f.blocks
-  pub numbers : All HasSmallNumbers f.blocks
 
 -- ---- how a run ended
 

@@ -3,7 +3,7 @@
 ghost use Rattle.std.specs.Prelude.{◌≡◌, ◌<◌, ◌&&◌, All, false, not, cond, ℕ, IfOk, OnOk, IsTrue, length};
 ghost use Rattle.ir_tree.specs.declared.tree.Inst.{Inst};
 ghost use Rattle.ir_tree.specs.declared.tree.Operand.{Operand};
-ghost use Rattle.ir_tree.specs.Limits.{HasSmallTypes};
+ghost use Rattle.ir_tree.specs.Limits.{HasSmallTypes, HasSmallNumber};
 ghost use Rattle.points.specs.declared.machine.Machine.{Machine};
 ghost use Rattle.points.specs.Run.{is_poison, operand_value, typed_operand_value, typed_value};
 ghost use Rattle.points.specs.Table.{cast_value, compared, selected, value_result};
@@ -11,7 +11,6 @@ ghost use Rattle.bv_terms.specs.Trees.{IsTerm, Keeps, Tests, bit_at};
 ghost use Rattle.mem_terms.specs.Values.{AreSymValues, IsNaming, IsSymNumber, IsSymValue, Reading, as_integer, number_at, option_from, value_at, values_at};
 ghost use Rattle.mem_terms.specs.Inputs.{AreWords};
 ghost use Rattle.run_terms.specs.Runs.{Course, Live, Follows, IsState, Scene, Sees, Visit, shape_of, sight, stepped, steps};
-ghost use Rattle.run_terms.specs.Frontier.{HasSmallNumber};
 
 use crate::choices::choose;
 use crate::memory_steps::step_memory;

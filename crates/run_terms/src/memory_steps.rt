@@ -4,7 +4,7 @@
 ghost use Rattle.std.specs.Prelude.{◌≡◌, ◌<◌, ◌≤◌, ℕ, List, IfOk, OnOk};
 ghost use Rattle.ir_tree.specs.declared.tree.Inst.{Inst};
 ghost use Rattle.ir_tree.specs.declared.tree.GepIndex.{GepIndex};
-ghost use Rattle.ir_tree.specs.Limits.{HasSmallArrays, HasSmallTypes};
+ghost use Rattle.ir_tree.specs.Limits.{HasSmallArrays, HasSmallTypes, HasSmallNumber};
 ghost use Rattle.ir_tree.specs.Types.{object_size};
 ghost use Rattle.byte_block.specs.declared.value.BlockName.TheVariants.{Local};
 ghost use Rattle.points.specs.Run.{access_of, index_value, index_values};
@@ -12,7 +12,7 @@ ghost use Rattle.bv_terms.specs.Trees.{Keeps};
 ghost use Rattle.mem_terms.specs.Values.{AreSymValues, IsNaming, Reading, first_local, local_number, values_at};
 ghost use Rattle.access_terms.specs.Offsets.{AreSymIndices, IsSymIndex, index_at, indices_at};
 ghost use Rattle.run_terms.specs.Runs.{Course, Follows, IsState, Scene, Visit, shape_of, sight, stepped};
-ghost use Rattle.run_terms.specs.Frontier.{HasSmallNumber, UsesMemory};
+ghost use Rattle.run_terms.specs.Frontier.{UsesMemory};
 
 use crate::operands::{number_of, operand_of, typed_operand_of};
 use crate::setting::Setting;

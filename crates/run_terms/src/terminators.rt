@@ -9,7 +9,8 @@ ghost use Rattle.unroll.specs.Layers.{Done, along, left_by};
 ghost use Rattle.bv_terms.specs.Trees.{IsTerm, Keeps, Tests, bit_at, term_at};
 ghost use Rattle.mem_terms.specs.Inputs.{AreWords};
 ghost use Rattle.run_terms.specs.Runs.{IsState, Scene, Sees, Visit, shape_of};
-ghost use Rattle.run_terms.specs.Frontier.{AreByLabel, FitsReturn, HasShape, IsFrontier, Moves, branched, placed, shape_in, switched_on};
+ghost use Rattle.run_terms.specs.Frontier.{AreByLabel, HasShape, IsFrontier, Moves, branched, placed, shape_in, switched_on};
+ghost use Rattle.ir_tree.specs.Limits.{FitsReturn};
 
 use crate::choices::choose;
 use crate::edges::{edge_at, follow};

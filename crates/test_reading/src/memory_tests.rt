@@ -3,7 +3,7 @@ use crate::expecting::expect;
 use crate::made_functions::function_of;
 use ir_tree::{
     Block, Function, GepIndex, Inst, IrType, MemoryType, Operand, Site, SiteList, Terminator,
-    TypedOperand, indexed_size, is_within_limits, sites_of, type_size,
+    TypedOperand, indexed_size, is_within_limits, sites_of, store_size, type_align,
 };
 use std::alloc::Global;
 use std::test::Fail;
@@ -57,10 +57,16 @@ fn has_sites(alloc: Global, inst: Inst, expected: &[Site]) -> Result<bool, Fail>
 /// An integer takes whole bytes, a pointer eight; an index counts what its array holds.
 #[test]
 fn types_have_sizes(rt: HostRuntime) -> Result<(), Fail> {
-    assert!(rt; type_size(IrType::Int(Width::of(1))) == 1);
-    assert!(rt; type_size(IrType::Int(Width::of(9))) == 2);
-    assert!(rt; type_size(IrType::Int(Width::of(64))) == 8);
-    assert!(rt; type_size(IrType::Ptr) == 8);
+    assert!(rt; store_size(IrType::Int(Width::of(1))) == 1);
+    assert!(rt; store_size(IrType::Int(Width::of(9))) == 2);
+    assert!(rt; store_size(IrType::Int(Width::of(17))) == 3);
+    assert!(rt; store_size(IrType::Int(Width::of(64))) == 8);
+    assert!(rt; store_size(IrType::Ptr) == 8);
+    assert!(rt; type_align(IrType::Int(Width::of(1))) == 1);
+    assert!(rt; type_align(IrType::Int(Width::of(9))) == 2);
+    assert!(rt; type_align(IrType::Int(Width::of(17))) == 4);
+    assert!(rt; type_align(IrType::Int(Width::of(33))) == 8);
+    assert!(rt; type_align(IrType::Ptr) == 8);
     let of_type = arrays(rt.alloc(), &[3, 4], IrType::Int(Width::of(16)))?;
     assert!(rt; indexed_size(&of_type, 0) == 24);
     assert!(rt; indexed_size(&of_type, 1) == 8);

@@ -11,7 +11,7 @@ use Rattle.ir_tree.specs.declared.tree.Terminator.{Terminator}
 use Rattle.ir_tree.specs.declared.tree.Terminator.TheVariants as terminator
 use Rattle.ir_tree.specs.declared.tree.Block.{Block}
 use Rattle.ir_tree.specs.declared.tree.Function.{Function}
-use Rattle.ir_tree.specs.Types.{type_size, object_size}
+use Rattle.ir_tree.specs.Types.{store_size, object_size}
 use Rattle.points.specs.declared.point.Bounds.{Bounds}
 use Rattle.points.specs.declared.point.Budget.{Budget}
 use Rattle.verdicts.specs.Pair.{Functions}
@@ -67,8 +67,8 @@ inst_cost memory (Cast into cast from operand to) = to.bits
 inst_cost memory (Select into condition if_true if_false) = type_width if_true.of_type
 inst_cost memory (Freeze into type operand) = type_width type
 inst_cost memory (Alloca into number type align) = 1 + object_size type
-inst_cost memory (Load into type pointer align) = 64 + type_size type * memory
-inst_cost memory (Store v pointer align) = 64 + type_size v.of_type * memory
+inst_cost memory (Load into type pointer align) = 64 + store_size type * memory
+inst_cost memory (Store v pointer align) = 64 + store_size v.of_type * memory
 inst_cost memory (GetElementPtr into inbounds nuw type base indices) = 64 * (length indices + 1)
 
 abbrev pub phi_cost : Phi → ℕ

@@ -1,8 +1,7 @@
 use Rattle.std.proofs.Common.{◌∙◌, sym, subst}
-use Rattle.ir_tree.specs.Limits.{HasSmallTypes}
+use Rattle.ir_tree.specs.Limits.{HasSmallTypes, HasSmallNumber}
 use Rattle.mem_terms.proofs.Later.{keeps_trans, words-later}
 use Rattle.run_terms.specs.Runs.{Course, Follows, stepped}
-use Rattle.run_terms.specs.Frontier.{HasSmallNumber}
 use Rattle.run_terms.proofs.Lasting.{sees-later}
 use Rattle.run_terms.proofs.Stepping.{steps_more, steps_end}
 use Rattle.run_terms.proofs.instructions.step_all.Goals as goal
