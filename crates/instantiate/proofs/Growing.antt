@@ -6,7 +6,7 @@ use Rattle.points.specs.declared.point.Point.{Point}
 use Rattle.verdicts.specs.declared.verdict.Verdict.{Verdict}
 use Rattle.verdicts.specs.declared.verdict.Verdict.TheVariants.{Correct, Incorrect, Unknown}
 use Rattle.verdicts.specs.declared.verdict.Cause.TheVariants.{Weight, Rounds, Conflicts}
-use Rattle.verdicts.specs.Pair.{Functions}
+use Rattle.verdicts.specs.Pair.{Functions, RunPair, run_pair}
 use Rattle.verdicts.specs.Covers.{IsLeastCover, HasNoCover}
 use Rattle.verdicts.specs.Trail.{TrailFrom, IsLeastUncovered, AreAllCovered, Ends}
 use Rattle.verdicts.proofs.Meaning.{cons_after}
@@ -19,7 +19,7 @@ use Rattle.instantiate.specs.Rounds.{IsTrail}
 use Rattle.instantiate.specs.Settling.{ComesWith, IsJudged, IsSpentNext, IsTrailSoFar, limit_of}
 use Rattle.pair_questions.specs.declared.subject.Subject.{Subject}
 
-module _ (pair : Functions) (bounds : Bounds) (budget : Budget) where
+module _ (pair : RunPair) (bounds : Bounds) (budget : Budget) where
   -- each point has its tape
   pub record IsGrown (tapes : List (List ℕ)) (points : List Point) : Type 0 where
     pub count : length points ≡ length tapes
@@ -138,14 +138,14 @@ module _ (pair : Functions) (bounds : Bounds) (budget : Budget) where
             (subst (λ k. IsSpentOn (IsCovering pair bounds p) (tape_widths pair bounds) k cert) l.1 spent);
       }
 
-  -- ---- a pair that is not too heavy
+-- ---- a pair that is not too heavy
 
-  pub judged : (kept : Kept) (cert : Option Cert) (v : Verdict) → ¬ IsHeavy pair bounds budget → ComesWith pair bounds budget kept cert v → IsJudged pair bounds budget kept cert v
-  judged kept cert Correct light h = (light, h)
-  judged kept cert (Incorrect p) light h = (light, h)
-  judged kept cert (Unknown Rounds) light h = (light, h)
-  judged kept cert (Unknown Conflicts) light h = (light, h)
-  judged kept cert (Unknown Weight) light h = absurd h
+pub judged : (pair : Functions) (bounds : Bounds) (budget : Budget) (kept : Kept) (cert : Option Cert) (v : Verdict) → ¬ IsHeavy pair bounds budget → ComesWith (run_pair pair) bounds budget kept cert v → IsJudged pair bounds budget kept cert v
+judged pair bounds budget kept cert Correct light h = (light, h)
+judged pair bounds budget kept cert (Incorrect p) light h = (light, h)
+judged pair bounds budget kept cert (Unknown Rounds) light h = (light, h)
+judged pair bounds budget kept cert (Unknown Conflicts) light h = (light, h)
+judged pair bounds budget kept cert (Unknown Weight) light h = absurd h
 
 pub grown_of : (s : Subject) (budget : Budget) (t : Trail) → IsTrail s budget t → IsGrown s.pair.now s.bounds.now budget t.question.tapes t.points.items
 grown_of s budget t h = record { count = h.count; trail = h.trail; within = h.within }

@@ -71,6 +71,7 @@ pub fn settle(
             cert: None,
         });
     }
-    let subject = Subject::new(alloc, pair, bounds)?;
+    let run = pair.run_pair();
+    let subject = Subject::new(alloc, &run, bounds)?;
     grow(alloc, &subject, budget)
 }

@@ -6,7 +6,7 @@ use Rattle.points.specs.declared.point.Layout.{Layout}
 use Rattle.points.specs.declared.point.Point.{Point}
 use Rattle.points.specs.declared.point.Shape.{Shape}
 use Rattle.points.specs.Code.{IsOfShape, code_of}
-use Rattle.verdicts.specs.Pair.{Functions, layout_of}
+use Rattle.verdicts.specs.Pair.{RunPair, layout_of}
 use Rattle.mem_terms.specs.Values.{reading}
 use Rattle.mem_terms.specs.Inputs.{input_at}
 use Rattle.refine_terms.specs.Numbers.{numbers_at}
@@ -23,10 +23,10 @@ use Rattle.pair_questions.proofs.Numbered.{numbers-looked}
 abbrev looked_up : List ℕ → ℕ → ℕ → ℕ
 looked_up numbers i width = slice_index numbers i
 
-code_of-shape : (pair : Functions) (bounds : Bounds) (s : Shape) (is : IsShapeOf pair bounds s) (p : Point) → code_of s.layout s.parameters p ≡ code_of (layout_of pair bounds) pair.target.parameters p
+code_of-shape : (pair : RunPair) (bounds : Bounds) (s : Shape) (is : IsShapeOf pair bounds s) (p : Point) → code_of s.layout s.parameters p ≡ code_of (layout_of pair bounds) pair.target.parameters p
 code_of-shape pair bounds s is p = ap (λ (y : Layout). code_of y s.parameters p) is.layout ∙ ap (λ (ps : List Parameter). code_of (layout_of pair bounds) ps p) is.parameters
 
-shape-fits : (pair : Functions) (bounds : Bounds) (s : Shape) (is : IsShapeOf pair bounds s) (p : Point) → AreSmall bounds → IsOfShape s p → Fits (point_widths pair bounds) (code_of (layout_of pair bounds) pair.target.parameters p)
+shape-fits : (pair : RunPair) (bounds : Bounds) (s : Shape) (is : IsShapeOf pair bounds s) (p : Point) → AreSmall bounds → IsOfShape s p → Fits (point_widths pair bounds) (code_of (layout_of pair bounds) pair.target.parameters p)
 shape-fits pair bounds s is p small h =
     code_fits pair bounds s is small p (rw (is.parameters, is.layout) at h.args) (rw is.layout at h.given) (rw (is.word_width, is.words) at h.tape)
 

@@ -6,7 +6,7 @@ use Rattle.points.specs.declared.point.Point.{Point}
 use Rattle.points.specs.declared.point.Shape.{Shape}
 use Rattle.points.specs.declared.outcome.Outcome.{Outcome}
 use Rattle.verdicts.specs.Covers.{covers, some_covers, shifted, is_covered}
-use Rattle.verdicts.specs.Pair.{Functions, layout_of}
+use Rattle.verdicts.specs.Pair.{RunPair, layout_of}
 use Rattle.points.specs.Run.{run_of}
 use Rattle.points.specs.Tapes.{need_of}
 use Rattle.bv_terms.specs.declared.term.TermId.{TermId}
@@ -50,13 +50,13 @@ or_right false b h = h
 or_both : (a b : Bool) → a ≡ false → b ≡ false → (a || b) ≡ false
 or_both a b p q = rw (p, q) refl
 
-some_append : (pair : Functions) (bounds : Bounds) (p : Point) (xs ys : List (List ℕ)) → some_covers pair bounds p (xs ++ ys) ≡ (some_covers pair bounds p xs || some_covers pair bounds p ys)
+some_append : (pair : RunPair) (bounds : Bounds) (p : Point) (xs ys : List (List ℕ)) → some_covers pair bounds p (xs ++ ys) ≡ (some_covers pair bounds p xs || some_covers pair bounds p ys)
 unfolding some_covers
 some_append pair bounds p [] ys = refl
 some_append pair bounds p (x ∷ xs) ys =
     ap (λ b. covers pair bounds p x || b) (some_append pair bounds p xs ys) ∙ sym (or_assoc (covers pair bounds p x) (some_covers pair bounds p xs) (some_covers pair bounds p ys))
 
-module _ (pair : Functions) (bounds : Bounds) (tapes : List (List ℕ)) (tape : List ℕ) (p : Point) where
+module _ (pair : RunPair) (bounds : Bounds) (tapes : List (List ℕ)) (tape : List ℕ) (p : Point) where
   abbrev front : List (List ℕ)
   front = shifted (need_of bounds.turns pair.source) p.tape
 
@@ -68,7 +68,7 @@ module _ (pair : Functions) (bounds : Bounds) (tapes : List (List ℕ)) (tape : 
 two : {A B : Type 0} (F : A → B → Type 0) {x x' : A} {y y' : B} → x ≡ x' → y ≡ y' → F x y → F x' y'
 two F {x} {x'} {y} {y'} e f h = subst (λ b. F x' b) f (subst (λ a. F a y) e h)
 
-module _ (old new : List Term) (k : Keeps old new) (pair : Functions) (bounds : Bounds) (s : Shape) (input : InputTerms) (choices : TapeTerms) (are : IsInputOf s old input) (words : AreWords old choices.words) where
+module _ (old new : List Term) (k : Keeps old new) (pair : RunPair) (bounds : Bounds) (s : Shape) (input : InputTerms) (choices : TapeTerms) (are : IsInputOf s old input) (words : AreWords old choices.words) where
   -- the run that is shown on the earlier terms
   pub of_target-made : (o : OutcomeTerms) → IsOutcome new o → LeavesGiven (frames_of (layout_of pair bounds)) o
       → ((v : ℕ → ℕ → ℕ) → Shows (reading bounds.blocks v) new (words_at v old choices.words) (run_of pair.target bounds (input_in (layout_of pair bounds) v old input) (words_at v old choices.words)) o) → IsOfTarget pair bounds new input choices o
@@ -91,7 +91,7 @@ module _ (old new : List Term) (k : Keeps old new) (pair : Functions) (bounds : 
 
 -- ---- the goal with one tape more
 
-module _ (old new : List Term) (pair : Functions) (bounds : Bounds) (s : Shape) (input : InputTerms) (choices : TapeTerms) (target : OutcomeTerms) (goal id : TermId) (tapes : List (List ℕ)) (tape : List ℕ)
+module _ (old new : List Term) (pair : RunPair) (bounds : Bounds) (s : Shape) (input : InputTerms) (choices : TapeTerms) (target : OutcomeTerms) (goal id : TermId) (tapes : List (List ℕ)) (tape : List ℕ)
     (shape : IsShapeOf pair bounds s) (are : IsInputOf s old input) (run : IsOfTarget pair bounds old input choices target)
     (decides : Decides old goal (λ v. IsUncovered pair bounds tapes (numbers_at v old input choices)))
     (tests : Tests new id (λ v. bit_at v old goal && none_allows pair.source bounds (input_in (layout_of pair bounds) v old input) (outcome_in (layout_of pair bounds) v old target) (tape ∷ []))) where

@@ -10,7 +10,7 @@ use Rattle.clause_log.specs.declared.step.Cert.{Cert}
 use Rattle.points.specs.declared.point.Bounds.{Bounds}
 use Rattle.points.specs.declared.point.Point.{Point}
 use Rattle.points.specs.declared.point.Shape.{Shape}
-use Rattle.verdicts.specs.Pair.{Functions, layout_of}
+use Rattle.verdicts.specs.Pair.{RunPair, layout_of}
 use Rattle.points.specs.Code.{IsOfShape, code_of, number_of}
 use Rattle.points.specs.Codes.{IsCode}
 use Rattle.verdicts.specs.Covers.{covers, is_covered}
@@ -60,7 +60,7 @@ module _ (test : List ℕ → Bool) (widths : List ℕ) (Answer : List ℕ → T
 
 -- ---- points
 
-module _ (pair : Functions) (bounds : Bounds) (s : Shape) (is : IsShapeOf pair bounds s) (small : AreSmall bounds) (tapes : List (List ℕ)) (test : List ℕ → Bool)
+module _ (pair : RunPair) (bounds : Bounds) (s : Shape) (is : IsShapeOf pair bounds s) (small : AreSmall bounds) (tapes : List (List ℕ)) (test : List ℕ → Bool)
     (passes : Passes test (point_widths pair bounds) (IsUncovered pair bounds tapes)) where
   abbrev code : Point → List ℕ
   code p = code_of (layout_of pair bounds) pair.target.parameters p
@@ -111,7 +111,7 @@ module _ (pair : Functions) (bounds : Bounds) (s : Shape) (is : IsShapeOf pair b
 
 -- ---- tapes
 
-module _ (pair : Functions) (bounds : Bounds) (p : Point) (test : List ℕ → Bool) (passes : Passes test (tape_widths pair bounds) (IsCovering pair bounds p)) where
+module _ (pair : RunPair) (bounds : Bounds) (p : Point) (test : List ℕ → Bool) (passes : Passes test (tape_widths pair bounds) (IsCovering pair bounds p)) where
   abbrev need : ℕ
   need = need_of bounds.turns pair.source
 

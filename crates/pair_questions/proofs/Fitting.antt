@@ -15,7 +15,7 @@ use Rattle.points.specs.declared.point.Layout.{Layout}
 use Rattle.points.specs.declared.point.Bounds.{Bounds}
 use Rattle.points.specs.declared.point.Point.{Point}
 use Rattle.points.specs.declared.point.Shape.{Shape}
-use Rattle.verdicts.specs.Pair.{Functions, layout_of}
+use Rattle.verdicts.specs.Pair.{RunPair, layout_of}
 use Rattle.points.specs.Code.{ArgsFit, BlocksFit, ByteFits, BytesFit, IsOfShape, ValueFits, WordsFit, args_code, byte_code, code_of, places_code, value_code}
 use Rattle.points.specs.Tapes.{need_of, widest_choice}
 use Rattle.verdicts.specs.Trail.{IsPoint}
@@ -52,14 +52,14 @@ blocks-narrow : (layout : Layout) (n : ℕ) → AreWidths (blocks_widths layout 
 blocks-narrow layout zero = tt
 blocks-narrow layout (suc n) = narrow-append (places_widths layout.bytes) (blocks_widths layout n) (places-narrow layout.bytes) (blocks-narrow layout n)
 
-pub point_narrow : (pair : Functions) (bounds : Bounds) → AreWidths (point_widths pair bounds)
+pub point_narrow : (pair : RunPair) (bounds : Bounds) → AreWidths (point_widths pair bounds)
 point_narrow pair bounds =
     let words = same-narrow (need_of bounds.turns pair.target) 64 (omega arith) in
     let places = narrow-append (blocks_widths (layout_of pair bounds) bounds.blocks) (replicate (need_of bounds.turns pair.target) 64) (blocks-narrow (layout_of pair bounds) bounds.blocks) words in
     let sizes = narrow-append (replicate bounds.blocks 6) (blocks_widths (layout_of pair bounds) bounds.blocks ++ replicate (need_of bounds.turns pair.target) 64) (same-narrow bounds.blocks 6 (omega arith)) places in
     narrow-append (args_widths pair.target.parameters) (replicate bounds.blocks 6 ++ (blocks_widths (layout_of pair bounds) bounds.blocks ++ replicate (need_of bounds.turns pair.target) 64)) (args-narrow pair.target.parameters) sizes
 
-pub tape_narrow : (pair : Functions) (bounds : Bounds) → AreWidths (tape_widths pair bounds)
+pub tape_narrow : (pair : RunPair) (bounds : Bounds) → AreWidths (tape_widths pair bounds)
 tape_narrow pair bounds = same-narrow (need_of bounds.turns pair.source) 64 (omega arith)
 
 -- ---- numbers
@@ -123,7 +123,7 @@ blocks-fit layout number (b ∷ bs) few fits =
 
 -- ---- a point
 
-module _ (pair : Functions) (bounds : Bounds) (s : Shape) (is : IsShapeOf pair bounds s) where
+module _ (pair : RunPair) (bounds : Bounds) (s : Shape) (is : IsShapeOf pair bounds s) where
   pub of_shape : (p : Point) → IsPoint pair bounds p → IsOfShape s p
   of_shape p h = record {
     args = subst (λ (y : Layout). ArgsFit y s.parameters p.input.args) (sym is.layout) (subst (λ (ps : List Parameter). ArgsFit (layout_of pair bounds) ps p.input.args) (sym is.parameters) h.args);

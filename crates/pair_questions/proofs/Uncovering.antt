@@ -13,7 +13,7 @@ use Rattle.points.specs.declared.point.Point.{Point}
 use Rattle.points.specs.declared.point.Shape.{Shape}
 use Rattle.points.specs.declared.outcome.Outcome.{Outcome}
 use Rattle.ir_tree.specs.Sites.{is_same_type}
-use Rattle.verdicts.specs.Pair.{Functions, same_types, same_return, same_signature, layout_of}
+use Rattle.verdicts.specs.Pair.{RunPair, same_types, same_return, same_signature, layout_of}
 use Rattle.points.specs.Code.{WordsFit, IsOfShape, code_of}
 use Rattle.points.specs.Codes.{IsCode}
 use Rattle.verdicts.specs.Covers.{covers, some_covers, shifted, is_covered}
@@ -92,7 +92,7 @@ source_input terms f g layout input e h = record {
 }
 
 -- an input of the shape is one of the target
-pub shape_input : (pair : Functions) (bounds : Bounds) (s : Shape) (terms : List Term) (input : InputTerms) → IsShapeOf pair bounds s → IsInputOf s terms input → IsInput pair.target.parameters (layout_of pair bounds) terms input
+pub shape_input : (pair : RunPair) (bounds : Bounds) (s : Shape) (terms : List Term) (input : InputTerms) → IsShapeOf pair bounds s → IsInputOf s terms input → IsInput pair.target.parameters (layout_of pair bounds) terms input
 shape_input pair bounds s terms input is h = record {
   args = subst (λ (ps : List Parameter). AreArgs terms ps input.args) is.parameters h.args;
   size_count = h.size_count ∙ ap (λ (y : Layout). y.blocks) is.layout;
@@ -148,7 +148,7 @@ not_either : (x r s : Bool) → r ≡ not s → (not x && r) ≡ not (x || s)
 not_either true r s e = refl
 not_either false r s e = e
 
-pub none_is : (pair : Functions) (bounds : Bounds) (p : Point) (tapes : List (List ℕ)) → none_allows pair.source bounds p.input (run_of pair.target bounds p.input p.tape).outcome tapes ≡ not (some_covers pair bounds p tapes)
+pub none_is : (pair : RunPair) (bounds : Bounds) (p : Point) (tapes : List (List ℕ)) → none_allows pair.source bounds p.input (run_of pair.target bounds p.input p.tape).outcome tapes ≡ not (some_covers pair bounds p tapes)
 unfolding none_allows some_covers covers
 none_is pair bounds p [] = refl
 none_is pair bounds p (tape ∷ tapes) =
@@ -163,14 +163,14 @@ point_at layout v terms input tape = record { input = input_in layout v terms in
 point_is : (p : Point) (input : Input) (tape : List ℕ) → p.input ≡ input → p.tape ≡ tape → p ≡ record { input = input; tape = tape }
 point_is p input tape e f = λ i. record { input = e i; tape = f i }
 
-of_shape : (pair : Functions) (bounds : Bounds) (s : Shape) (p : Point) → IsShapeOf pair bounds s → IsPoint pair bounds p → IsOfShape s p
+of_shape : (pair : RunPair) (bounds : Bounds) (s : Shape) (p : Point) → IsShapeOf pair bounds s → IsPoint pair bounds p → IsOfShape s p
 of_shape pair bounds s p is h = record {
   args = rw (is.parameters, is.layout) h.args;
   given = rw is.layout h.given;
   tape = rw (is.word_width, is.words) h.tape;
 }
 
-a_point : (pair : Functions) (bounds : Bounds) (s : Shape) (p : Point) → IsShapeOf pair bounds s → IsOfShape s p → IsPlain p.tape (run_of pair.target bounds p.input p.tape) → IsPoint pair bounds p
+a_point : (pair : RunPair) (bounds : Bounds) (s : Shape) (p : Point) → IsShapeOf pair bounds s → IsOfShape s p → IsPlain p.tape (run_of pair.target bounds p.input p.tape) → IsPoint pair bounds p
 a_point pair bounds s p is h plain = record {
   args = rw (is.parameters, is.layout) at h.args;
   given = rw is.layout at h.given;
@@ -178,7 +178,7 @@ a_point pair bounds s p is h plain = record {
   plain = plain;
 }
 
-shape_code : {pair : Functions} {bounds : Bounds} {s : Shape} {numbers : List ℕ} (p : Point) → IsShapeOf pair bounds s → code_of s.layout s.parameters p ≡ numbers → code_of (layout_of pair bounds) pair.target.parameters p ≡ numbers
+shape_code : {pair : RunPair} {bounds : Bounds} {s : Shape} {numbers : List ℕ} (p : Point) → IsShapeOf pair bounds s → code_of s.layout s.parameters p ≡ numbers → code_of (layout_of pair bounds) pair.target.parameters p ≡ numbers
 shape_code p is e = two (λ (y : Layout) (ps : List Parameter). code_of y ps p) (sym is.layout) (sym is.parameters) ∙ e
 
 pub not_true : (b : Bool) → not b ≡ true → b ≡ false
@@ -189,14 +189,14 @@ pub not_false : (b : Bool) → b ≡ false → not b ≡ true
 not_false b e = rw e refl
 
 -- a point whose code the terms denote is the one that they denote
-pub the_point : (pair : Functions) (bounds : Bounds) (s : Shape) (terms : List Term) (input : InputTerms) (tape : TapeTerms) → IsShapeOf pair bounds s → IsInputOf s terms input → (v : ℕ → ℕ → ℕ) (p : Point) → IsOfShape s p
+pub the_point : (pair : RunPair) (bounds : Bounds) (s : Shape) (terms : List Term) (input : InputTerms) (tape : TapeTerms) → IsShapeOf pair bounds s → IsInputOf s terms input → (v : ℕ → ℕ → ℕ) (p : Point) → IsOfShape s p
     → code_of s.layout s.parameters p ≡ numbers_at v terms input tape → point_at (layout_of pair bounds) v terms input tape ≡ p
 the_point pair bounds s terms input tape shape are v p of code =
     let d = decoded v terms s input tape p are of code in
     let there = d.0 ∙ ap (λ (y : Layout). input_at (reading y.blocks v) terms input) shape.layout in
     sym (point_is p (input_in (layout_of pair bounds) v terms input) (words_at v terms tape.words) there d.1)
 
-module _ (pair : Functions) (bounds : Bounds) (tapes : List (List ℕ)) (s : Shape) (terms new : List Term) (input : InputTerms) (tape : TapeTerms) (plain : (ℕ → ℕ → ℕ) → Bool) (id : TermId) (well : (ℕ → ℕ → ℕ) → Bool)
+module _ (pair : RunPair) (bounds : Bounds) (tapes : List (List ℕ)) (s : Shape) (terms new : List Term) (input : InputTerms) (tape : TapeTerms) (plain : (ℕ → ℕ → ℕ) → Bool) (id : TermId) (well : (ℕ → ℕ → ℕ) → Bool)
     (shape : IsShapeOf pair bounds s) (are : IsInputOf s terms input)
     (is_plain : (v : ℕ → ℕ → ℕ) → (plain v ≡ true) ↔ IsPlain (words_at v terms tape.words) (run_of pair.target bounds (input_in (layout_of pair bounds) v terms input) (words_at v terms tape.words)))
     (is_well : (v : ℕ → ℕ → ℕ) → (well v ≡ true) ↔ (IsCode s (numbers_at v terms input tape) × (plain v ≡ true)))
@@ -232,7 +232,7 @@ module _ (pair : Functions) (bounds : Bounds) (tapes : List (List ℕ)) (s : Sha
   answers : IsTerm new 1 id → Decides new id (λ v. IsUncovered pair bounds tapes (numbers_at v terms input tape))
   answers is = (is, λ v. (to_answer v, from_answer v))
 
-pub uncovered_decides : (old mid new : List Term) (pair : Functions) (bounds : Bounds) (s : Shape) (input : InputTerms) (tape : TapeTerms) (o : OutcomeTerms) (well id : TermId)
+pub uncovered_decides : (old mid new : List Term) (pair : RunPair) (bounds : Bounds) (s : Shape) (input : InputTerms) (tape : TapeTerms) (o : OutcomeTerms) (well id : TermId)
     → IsShapeOf pair bounds s → IsInputOf s old input → IsTapeOf s old tape → Keeps old mid → IsOfTarget pair bounds old input tape o
     → Decides mid well (λ v. IsCode s (numbers_at v old input tape) × (bit_at v old o.plain ≡ true))
     → Tests new id (λ v. bit_at v mid well && none_allows pair.source bounds (input_in (layout_of pair bounds) v mid input) (outcome_in (layout_of pair bounds) v mid o) (shifted (need_of bounds.turns pair.source) (words_at v mid tape.words)))
@@ -256,7 +256,7 @@ words_fit : (terms : List Term) (words : List TermId) → AreInRange terms → A
 words_fit terms [] range h v = tt
 words_fit terms (w ∷ ws) range h v = (term-below terms 64 w range h.0 v, words_fit terms ws range h.1 v)
 
-pub covering_decides : (t0 t1 t2 t3 t4 t5 : List Term) (pair : Functions) (bounds : Bounds) (s : Shape) (p : Point) (input : InputTerms) (tape choices : TapeTerms) (source target : OutcomeTerms) (id : TermId)
+pub covering_decides : (t0 t1 t2 t3 t4 t5 : List Term) (pair : RunPair) (bounds : Bounds) (s : Shape) (p : Point) (input : InputTerms) (tape choices : TapeTerms) (source target : OutcomeTerms) (id : TermId)
     → AreInRange t0 → AreWords t0 tape.words → length tape.words ≡ need_of bounds.turns pair.source → IsShapeOf pair bounds s → IsInputOf s t1 input → AreWords t2 choices.words → Keeps t0 t1 → Keeps t1 t2 → Keeps t2 t3 → Keeps t3 t4
     → ((v : ℕ → ℕ → ℕ) → input_at (reading s.layout.blocks v) t1 input ≡ p.input) → ((v : ℕ → ℕ → ℕ) → words_at v t2 choices.words ≡ p.tape) → IsOfTarget pair bounds t3 input choices target
     → ((v : ℕ → ℕ → ℕ) → Shows (reading bounds.blocks v) t4 (words_at v t3 tape.words) (run_of pair.source bounds (input_in (layout_of pair bounds) v t3 input) (words_at v t3 tape.words)) source)

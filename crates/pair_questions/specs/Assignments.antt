@@ -4,7 +4,7 @@ use Rattle.points.specs.declared.point.Bounds.{Bounds}
 use Rattle.points.specs.declared.point.Point.{Point}
 use Rattle.points.specs.declared.point.Shape.{Shape}
 use Rattle.points.specs.Code.{IsOfShape}
-use Rattle.verdicts.specs.Pair.{Functions, layout_of}
+use Rattle.verdicts.specs.Pair.{RunPair, layout_of}
 use Rattle.bv_terms.specs.declared.term.Term.{Term}
 use Rattle.bv_terms.specs.Trees.{AreFit}
 use Rattle.mem_terms.specs.declared.inputs.InputTerms.{InputTerms}
@@ -18,7 +18,7 @@ use Rattle.pair_questions.specs.Questions.{point_widths}
 use Rattle.pair_questions.specs.Shapes.{IsShapeOf, input_ids}
 
 -- terms that are variables in the order of a code, those of an input first and then those of a tape
-pub record AreVariables (pair : Functions) (bounds : Bounds) (s : Shape) (terms : List Term) (input : InputTerms) (tape : TapeTerms) : Type 0 where
+pub record AreVariables (pair : RunPair) (bounds : Bounds) (s : Shape) (terms : List Term) (input : InputTerms) (tape : TapeTerms) : Type 0 where
   pub fit : AreFit [] terms
   pub shape : IsShapeOf pair bounds s
   pub inputs : IsInputOf s terms input
@@ -32,5 +32,5 @@ pub record IsAssigned (given : ℕ) (terms : List Term) (input : InputTerms) (ta
   pub tape_is : words_at v terms tape.words ≡ p.tape
 
 abbrev pub InputsHaveAssignments : Type 0
-InputsHaveAssignments = (pair : Functions) (bounds : Bounds) (s : Shape) (terms : List Term) (input : InputTerms) (tape : TapeTerms) → AreSmall bounds
+InputsHaveAssignments = (pair : RunPair) (bounds : Bounds) (s : Shape) (terms : List Term) (input : InputTerms) (tape : TapeTerms) → AreSmall bounds
     → AreVariables pair bounds s terms input tape → (p : Point) → IsOfShape s p → IsAssigned (layout_of pair bounds).blocks terms input tape p

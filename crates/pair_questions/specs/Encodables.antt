@@ -1,4 +1,4 @@
--- Functions as they are encoded.
+-- RunPair as they are encoded.
 use Rattle.std.specs.Prelude.{◌≡◌, ℕ, Option, Some, None}
 use Rattle.ir_tree.specs.declared.tree.Function.{Function}
 use Rattle.unroll.specs.Layers.{copies_of}

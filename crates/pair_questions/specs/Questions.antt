@@ -7,7 +7,7 @@ use Rattle.points.specs.declared.point.Layout.{Layout}
 use Rattle.points.specs.declared.point.Bounds.{Bounds}
 use Rattle.points.specs.declared.point.Point.{Point}
 use Rattle.points.specs.declared.point.Shape.{Shape}
-use Rattle.verdicts.specs.Pair.{Functions, layout_of}
+use Rattle.verdicts.specs.Pair.{RunPair, layout_of}
 use Rattle.points.specs.Code.{IsOfShape, WordsFit, code_of}
 use Rattle.points.specs.Codes.{IsCode}
 use Rattle.points.specs.Runnable.{IsRunnable}
@@ -27,7 +27,7 @@ use Rattle.pair_questions.specs.declared.found.Found.TheVariants as found
 
 -- ---- what may be asked about
 
-pub record CanBeAsked (pair : Functions) (bounds : Bounds) : Type 0 where
+pub record CanBeAsked (pair : RunPair) (bounds : Bounds) : Type 0 where
   pub source_runnable : IsRunnable pair.source
   pub target_runnable : IsRunnable pair.target
   pub source_run : CanRun pair.source
@@ -56,26 +56,26 @@ blocks_widths layout zero = []
 blocks_widths layout (suc n) = places_widths layout.bytes ++ blocks_widths layout n
 
 -- how many bits each number of a point's code has: those of the arguments, a size for each given block, the contents of all, and the words of the tape
-abbrev pub point_widths : Functions → Bounds → List ℕ
+abbrev pub point_widths : RunPair → Bounds → List ℕ
 point_widths pair bounds =
     args_widths pair.target.parameters
     ++ (replicate (layout_of pair bounds).blocks 6 ++ (blocks_widths (layout_of pair bounds) (layout_of pair bounds).blocks ++ replicate (need_of bounds.turns pair.target) 64))
 
 -- how many bits each word of a tape of the source has
-abbrev pub tape_widths : Functions → Bounds → List ℕ
+abbrev pub tape_widths : RunPair → Bounds → List ℕ
 tape_widths pair bounds = replicate (need_of bounds.turns pair.source) 64
 
 -- ---- the questions
 
 -- the code of a point that neither a shift nor one of the tapes covers
-pub record IsUncovered (pair : Functions) (bounds : Bounds) (tapes : List (List ℕ)) (numbers : List ℕ) : Type 0 where
+pub record IsUncovered (pair : RunPair) (bounds : Bounds) (tapes : List (List ℕ)) (numbers : List ℕ) : Type 0 where
   pub of : Point
   pub point : IsPoint pair bounds of
   pub code : code_of (layout_of pair bounds) pair.target.parameters of ≡ numbers
   pub uncovered : is_covered pair bounds tapes of ≡ false
 
 -- a tape of the source that covers the point
-pub record IsCovering (pair : Functions) (bounds : Bounds) (p : Point) (tape : List ℕ) : Type 0 where
+pub record IsCovering (pair : RunPair) (bounds : Bounds) (p : Point) (tape : List ℕ) : Type 0 where
   pub fits : WordsFit 64 (need_of bounds.turns pair.source) tape
   pub cover : covers pair bounds p tape ≡ true
 
@@ -100,22 +100,22 @@ pub record IsSpentOn (Answer : List ℕ → Type 0) (widths : List ℕ) (limit :
 
 -- ---- the answers
 
-abbrev pub IsFoundPoint : Functions → Bounds → List (List ℕ) → Option ℕ → Found Point → Type 0
+abbrev pub IsFoundPoint : RunPair → Bounds → List (List ℕ) → Option ℕ → Found Point → Type 0
 IsFoundPoint pair bounds tapes limit (found.Least p) = IsLeastUncovered pair bounds tapes p
 IsFoundPoint pair bounds tapes limit (found.None cert) = AreAllCovered pair bounds tapes × IsRefuted (IsUncovered pair bounds tapes) (point_widths pair bounds) cert
 IsFoundPoint pair bounds tapes limit (found.Spent cert) = (n : ℕ) × (limit ≡ Some n) × IsSpentOn (IsUncovered pair bounds tapes) (point_widths pair bounds) n cert
 
 -- the code of the least such point: each point of the shape with this code is the least
-pub record IsLeastCode (pair : Functions) (bounds : Bounds) (s : Shape) (tapes : List (List ℕ)) (code : List ℕ) : Type 0 where
+pub record IsLeastCode (pair : RunPair) (bounds : Bounds) (s : Shape) (tapes : List (List ℕ)) (code : List ℕ) : Type 0 where
   pub of_shape : IsCode s code
   pub least : (p : Point) → IsOfShape s p → code_of s.layout s.parameters p ≡ code → IsLeastUncovered pair bounds tapes p
 
-abbrev pub IsFoundCode : Functions → Bounds → Shape → List (List ℕ) → Option ℕ → Found (List ℕ) → Type 0
+abbrev pub IsFoundCode : RunPair → Bounds → Shape → List (List ℕ) → Option ℕ → Found (List ℕ) → Type 0
 IsFoundCode pair bounds s tapes limit (found.Least code) = IsLeastCode pair bounds s tapes code
 IsFoundCode pair bounds s tapes limit (found.None cert) = IsFoundPoint pair bounds tapes limit (found.None cert)
 IsFoundCode pair bounds s tapes limit (found.Spent cert) = IsFoundPoint pair bounds tapes limit (found.Spent cert)
 
-abbrev pub IsFoundTape : Functions → Bounds → Point → Option ℕ → Found (List ℕ) → Type 0
+abbrev pub IsFoundTape : RunPair → Bounds → Point → Option ℕ → Found (List ℕ) → Type 0
 IsFoundTape pair bounds p limit (found.Least tape) = IsLeastCover pair bounds p tape
 IsFoundTape pair bounds p limit (found.None cert) = HasNoCover pair bounds p × IsRefuted (IsCovering pair bounds p) (tape_widths pair bounds) cert
 IsFoundTape pair bounds p limit (found.Spent cert) = (n : ℕ) × (limit ≡ Some n) × IsSpentOn (IsCovering pair bounds p) (tape_widths pair bounds) n cert

@@ -4,7 +4,7 @@ use Rattle.std.specs.List.{flat_map}
 use Rattle.points.specs.declared.point.Layout.{Layout}
 use Rattle.points.specs.declared.point.Bounds.{Bounds}
 use Rattle.points.specs.declared.point.Shape.{Shape}
-use Rattle.verdicts.specs.Pair.{Functions, layout_of}
+use Rattle.verdicts.specs.Pair.{RunPair, layout_of}
 use Rattle.points.specs.Tapes.{need_of, widest_choice}
 use Rattle.bv_terms.specs.declared.term.TermId.{TermId}
 use Rattle.mem_terms.specs.declared.inputs.ArgTerms.{ArgTerms}
@@ -17,7 +17,7 @@ abbrev pub nameable : Layout
 nameable = record { blocks = 7; bytes = 0 }
 
 -- the shape of a pair's points
-pub record IsShapeOf (pair : Functions) (bounds : Bounds) (s : Shape) : Type 0 where
+pub record IsShapeOf (pair : RunPair) (bounds : Bounds) (s : Shape) : Type 0 where
   pub parameters : s.parameters ≡ pair.target.parameters
   pub layout : s.layout ≡ layout_of pair bounds
   pub words : s.words ≡ need_of bounds.turns pair.target

@@ -1,7 +1,7 @@
 -- What all questions on a pair share.
 use Rattle.std.specs.Prelude.{◌≡◌, ℕ, true, List}
 use Rattle.points.specs.declared.point.Bounds.{Bounds}
-use Rattle.verdicts.specs.Pair.{Functions, same_signature, layout_of}
+use Rattle.verdicts.specs.Pair.{RunPair, same_signature, layout_of}
 use Rattle.points.specs.Run.{run_of}
 use Rattle.points.specs.Tapes.{need_of}
 use Rattle.bv_terms.specs.declared.term.Term.{Term}
@@ -30,7 +30,7 @@ pub record IsSubject (s : Subject) : Type 0 where
   pub need : s.need ≡ need_of s.bounds.now.turns s.pair.now.source
 
 -- the outcome of the target's run on the input and the tape
-pub record IsOfTarget (pair : Functions) (bounds : Bounds) (terms : List Term) (input : InputTerms) (tape : TapeTerms) (o : OutcomeTerms) : Type 0 where
+pub record IsOfTarget (pair : RunPair) (bounds : Bounds) (terms : List Term) (input : InputTerms) (tape : TapeTerms) (o : OutcomeTerms) : Type 0 where
   pub made : IsOutcome terms o
   pub given : LeavesGiven (frames_of (layout_of pair bounds)) o
   pub shows : (v : ℕ → ℕ → ℕ) → Shows (reading (layout_of pair bounds).blocks v) terms (words_at v terms tape.words) (run_of pair.target bounds (input_in (layout_of pair bounds) v terms input) (words_at v terms tape.words)) o

@@ -1,4 +1,4 @@
-//! Functions as they are encoded.
+//! RunPair as they are encoded.
 
 ghost use Rattle.std.specs.Prelude.{◌≡◌, ℕ, IfOk, IfSome, is_some};
 ghost use Rattle.points.specs.Run.{run_of};

@@ -10,13 +10,13 @@ use pair_costs::{need, widest_of};
 use points::{Bounds, Layout, Shape};
 use std::alloc::Global;
 use support::{NoMemory, Sequence};
-use verdicts::Pair;
+use verdicts::RunPair;
 
 /// A pair within bounds, what its points look like, both functions as they are encoded, and how many
 /// words a tape of the source has.
 #[derive(Drop)]
 pub struct Subject<'p, 'm> {
-    pub pair: &'p Pair<'m>,
+    pub pair: &'p RunPair<'m>,
     pub bounds: &'p Bounds,
     pub(crate) shape: Shape,
     pub(crate) source: Encodable<'m>,
@@ -25,7 +25,7 @@ pub struct Subject<'p, 'm> {
 }
 
 /// What the points of a pair look like.
-fn shape_of(alloc: Global, pair: &Pair, bounds: &Bounds) -> Result<Shape, NoMemory>
+fn shape_of(alloc: Global, pair: &RunPair, bounds: &Bounds) -> Result<Shape, NoMemory>
     requires { CanBeAsked pair.now bounds.now }
     ensures { IfOk result (IsShapeOf pair.now bounds.now) }
 {
@@ -45,7 +45,7 @@ impl<'p, 'm> Subject<'p, 'm> {
     /// What the questions on the pair within the bounds share.
     pub fn new(
         alloc: Global,
-        pair: &'p Pair<'m>,
+        pair: &'p RunPair<'m>,
         bounds: &'p Bounds,
     ) -> Result<Subject<'p, 'm>, NoMemory>
         requires { CanBeAsked pair.now bounds.now }

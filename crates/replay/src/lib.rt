@@ -22,8 +22,9 @@ pub fn replay(alloc: Global, pair: &Pair, bounds: &Bounds, point: &Point) -> Res
     ensures { IfOk result (IsShown pair.now bounds.now point.now) }
 {
     let tape = point.tape.as_slice();
-    let target = interpret(alloc, pair.target(), bounds, &point.input, tape)?;
-    let source = interpret(alloc, pair.source(), bounds, &point.input, &[])?;
+    let run = pair.run_pair();
+    let target = interpret(alloc, run.target(), bounds, &point.input, tape)?;
+    let source = interpret(alloc, run.source(), bounds, &point.input, &[])?;
     Ok(Shown {
         target: target.outcome,
         source: source.outcome,

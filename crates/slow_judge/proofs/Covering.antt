@@ -9,7 +9,7 @@ use Rattle.byte_block.specs.declared.block.MemoryBlock.{MemoryBlock}
 use Rattle.points.specs.declared.outcome.Outcome.{Outcome}
 use Rattle.points.specs.declared.point.Bounds.{Bounds}
 use Rattle.points.specs.declared.point.Point.{Point}
-use Rattle.verdicts.specs.Pair.{Functions}
+use Rattle.verdicts.specs.Pair.{RunPair}
 use Rattle.points.specs.Refines.{is_refined}
 use Rattle.points.specs.Run.{run_of, IsPlain}
 use Rattle.points.specs.Tapes.{need_of}
@@ -18,49 +18,49 @@ use Rattle.choice_interp.specs.declared.ending.Ending.{Ending}
 use Rattle.choice_interp.specs.Ran.{outcome_of}
 use Rattle.slow_judge.specs.Search.{DoesEnd, IsUncovered}
 
-pub covers_at : (pair : Functions) (bounds : Bounds) (p : Point) (tape : List ℕ) (source target : Ending) (holds : Bool) (left memory : List MemoryBlock) → (run_of pair.source bounds p.input tape).outcome ≡ outcome_of source left → DoesEnd pair bounds p target memory → holds ≡ is_refined (outcome_of source left) (outcome_of target memory) → holds ≡ covers pair bounds p tape
+pub covers_at : (pair : RunPair) (bounds : Bounds) (p : Point) (tape : List ℕ) (source target : Ending) (holds : Bool) (left memory : List MemoryBlock) → (run_of pair.source bounds p.input tape).outcome ≡ outcome_of source left → DoesEnd pair bounds p target memory → holds ≡ is_refined (outcome_of source left) (outcome_of target memory) → holds ≡ covers pair bounds p tape
 unfolding covers
 covers_at pair bounds p tape source target holds left memory e f h = h ∙ sym (both _ _ _ _ e f)
   where
     both : (x x' y y' : Outcome) → x ≡ x' → y ≡ y' → is_refined x y ≡ is_refined x' y'
     both x x' y y' e f = rw (e, f) refl
 
-pub some_covers_yes : (pair : Functions) (bounds : Bounds) (p : Point) (tapes : List (List ℕ)) (i : ℕ) (tape : List ℕ) → i < length tapes → tape ≡ get_or tapes i tape → covers pair bounds p tape ≡ true → some_covers pair bounds p (drop i tapes) ≡ true
+pub some_covers_yes : (pair : RunPair) (bounds : Bounds) (p : Point) (tapes : List (List ℕ)) (i : ℕ) (tape : List ℕ) → i < length tapes → tape ≡ get_or tapes i tape → covers pair bounds p tape ≡ true → some_covers pair bounds p (drop i tapes) ≡ true
 unfolding some_covers
 some_covers_yes pair bounds p tapes i tape below is holds = rw (drop_more tapes i tape below, ← is, holds) refl
 
-pub some_covers_no : (pair : Functions) (bounds : Bounds) (p : Point) (tapes : List (List ℕ)) (i : ℕ) (tape : List ℕ) → i < length tapes → tape ≡ get_or tapes i tape → covers pair bounds p tape ≡ false → some_covers pair bounds p (drop i tapes) ≡ some_covers pair bounds p (drop (i + 1) tapes)
+pub some_covers_no : (pair : RunPair) (bounds : Bounds) (p : Point) (tapes : List (List ℕ)) (i : ℕ) (tape : List ℕ) → i < length tapes → tape ≡ get_or tapes i tape → covers pair bounds p tape ≡ false → some_covers pair bounds p (drop i tapes) ≡ some_covers pair bounds p (drop (i + 1) tapes)
 unfolding some_covers
 some_covers_no pair bounds p tapes i tape below is fails = rw (drop_more tapes i tape below, ← is, fails) refl
 
-pub some_covers_end : (pair : Functions) (bounds : Bounds) (p : Point) (tapes : List (List ℕ)) (i : ℕ) → i ≡ length tapes → some_covers pair bounds p (drop i tapes) ≡ false
+pub some_covers_end : (pair : RunPair) (bounds : Bounds) (p : Point) (tapes : List (List ℕ)) (i : ℕ) → i ≡ length tapes → some_covers pair bounds p (drop i tapes) ≡ false
 unfolding some_covers
 some_covers_end pair bounds p tapes i e = rw (e, drop-length tapes) refl
 
-some_covers-append : (pair : Functions) (bounds : Bounds) (p : Point) (xs ys : List (List ℕ)) → some_covers pair bounds p (xs ++ ys) ≡ (some_covers pair bounds p xs || some_covers pair bounds p ys)
+some_covers-append : (pair : RunPair) (bounds : Bounds) (p : Point) (xs ys : List (List ℕ)) → some_covers pair bounds p (xs ++ ys) ≡ (some_covers pair bounds p xs || some_covers pair bounds p ys)
 unfolding some_covers
 some_covers-append pair bounds p [] ys = refl
 some_covers-append pair bounds p (x ∷ xs) ys =
     elim (covers pair bounds p x) as (λ b. (b || some_covers pair bounds p (xs ++ ys)) ≡ ((b || some_covers pair bounds p xs) || some_covers pair bounds p ys)) [ true ↦ refl | false ↦ some_covers-append pair bounds p xs ys ]
 
 -- a shift covers
-pub covered_by_shift : (pair : Functions) (bounds : Bounds) (tapes : List (List ℕ)) (p : Point) → some_covers pair bounds p (shifted (need_of bounds.turns pair.source) p.tape) ≡ true → is_covered pair bounds tapes p ≡ true
+pub covered_by_shift : (pair : RunPair) (bounds : Bounds) (tapes : List (List ℕ)) (p : Point) → some_covers pair bounds p (shifted (need_of bounds.turns pair.source) p.tape) ≡ true → is_covered pair bounds tapes p ≡ true
 covered_by_shift pair bounds tapes p holds = some_covers-append pair bounds p (shifted (need_of bounds.turns pair.source) p.tape) tapes ∙ ap (λ b. b || some_covers pair bounds p tapes) holds
 
 -- no shift does, and the tapes decide
-covered_by_tapes : (pair : Functions) (bounds : Bounds) (tapes : List (List ℕ)) (p : Point) → some_covers pair bounds p (shifted (need_of bounds.turns pair.source) p.tape) ≡ false → is_covered pair bounds tapes p ≡ some_covers pair bounds p tapes
+covered_by_tapes : (pair : RunPair) (bounds : Bounds) (tapes : List (List ℕ)) (p : Point) → some_covers pair bounds p (shifted (need_of bounds.turns pair.source) p.tape) ≡ false → is_covered pair bounds tapes p ≡ some_covers pair bounds p tapes
 covered_by_tapes pair bounds tapes p fails = some_covers-append pair bounds p (shifted (need_of bounds.turns pair.source) p.tape) tapes ∙ ap (λ b. b || some_covers pair bounds p tapes) fails
 
 false_not_true : IsTrue false → ⊥
 false_not_true h = cc
 
-pub not_uncovered : (pair : Functions) (bounds : Bounds) (tapes : List (List ℕ)) (p : Point) → is_covered pair bounds tapes p ≡ true → IsTrue false ↔ IsUncovered pair bounds tapes p
+pub not_uncovered : (pair : RunPair) (bounds : Bounds) (tapes : List (List ℕ)) (p : Point) → is_covered pair bounds tapes p ≡ true → IsTrue false ↔ IsUncovered pair bounds tapes p
 not_uncovered pair bounds tapes p holds = ((λ h. absurd (false_not_true h)), (λ u. let f : true ≡ false = sym holds ∙ u.uncovered in absurd (cc)))
 
-pub not_plain : (pair : Functions) (bounds : Bounds) (tapes : List (List ℕ)) (p : Point) → (IsPlain p.tape (run_of pair.target bounds p.input p.tape) → IsTrue false) → IsTrue false ↔ IsUncovered pair bounds tapes p
+pub not_plain : (pair : RunPair) (bounds : Bounds) (tapes : List (List ℕ)) (p : Point) → (IsPlain p.tape (run_of pair.target bounds p.input p.tape) → IsTrue false) → IsTrue false ↔ IsUncovered pair bounds tapes p
 not_plain pair bounds tapes p h = ((λ f. absurd (false_not_true f)), (λ u. h u.plain))
 
-pub uncovered_when : (pair : Functions) (bounds : Bounds) (tapes : List (List ℕ)) (p : Point) (b : Bool) → IsPlain p.tape (run_of pair.target bounds p.input p.tape) → some_covers pair bounds p (shifted (need_of bounds.turns pair.source) p.tape) ≡ false → b ≡ some_covers pair bounds p tapes → IsTrue (not b) ↔ IsUncovered pair bounds tapes p
+pub uncovered_when : (pair : RunPair) (bounds : Bounds) (tapes : List (List ℕ)) (p : Point) (b : Bool) → IsPlain p.tape (run_of pair.target bounds p.input p.tape) → some_covers pair bounds p (shifted (need_of bounds.turns pair.source) p.tape) ≡ false → b ≡ some_covers pair bounds p tapes → IsTrue (not b) ↔ IsUncovered pair bounds tapes p
 uncovered_when pair bounds tapes p b plain fails is =
     let e : is_covered pair bounds tapes p ≡ b = covered_by_tapes pair bounds tapes p fails ∙ sym is in
     elim b as (λ b. is_covered pair bounds tapes p ≡ b → IsTrue (not b) ↔ IsUncovered pair bounds tapes p) [
@@ -70,15 +70,15 @@ uncovered_when pair bounds tapes p b plain fails is =
 
 -- ---- one tape of a list
 
-pub covers_first : (pair : Functions) (bounds : Bounds) (p : Point) (tape : List ℕ) (tapes : List (List ℕ)) → covers pair bounds p tape ≡ true → some_covers pair bounds p (tape ∷ tapes) ≡ true
+pub covers_first : (pair : RunPair) (bounds : Bounds) (p : Point) (tape : List ℕ) (tapes : List (List ℕ)) → covers pair bounds p tape ≡ true → some_covers pair bounds p (tape ∷ tapes) ≡ true
 unfolding some_covers
 covers_first pair bounds p tape tapes holds = rw holds refl
 
-pub covers_later : (pair : Functions) (bounds : Bounds) (p : Point) (tape : List ℕ) (tapes : List (List ℕ)) → covers pair bounds p tape ≡ false → some_covers pair bounds p (tape ∷ tapes) ≡ some_covers pair bounds p tapes
+pub covers_later : (pair : RunPair) (bounds : Bounds) (p : Point) (tape : List ℕ) (tapes : List (List ℕ)) → covers pair bounds p tape ≡ false → some_covers pair bounds p (tape ∷ tapes) ≡ some_covers pair bounds p tapes
 unfolding some_covers
 covers_later pair bounds p tape tapes fails = rw fails refl
 
-pub covers_last : (pair : Functions) (bounds : Bounds) (p : Point) (tape : List ℕ) → some_covers pair bounds p (tape ∷ []) ≡ covers pair bounds p tape
+pub covers_last : (pair : RunPair) (bounds : Bounds) (p : Point) (tape : List ℕ) → some_covers pair bounds p (tape ∷ []) ≡ covers pair bounds p tape
 unfolding some_covers
 covers_last pair bounds p tape = elim (covers pair bounds p tape) as (λ b. (b || false) ≡ b) [ true ↦ refl | false ↦ refl ]
 

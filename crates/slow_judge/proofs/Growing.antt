@@ -6,7 +6,7 @@ use Rattle.points.specs.declared.point.Point.{Point}
 use Rattle.verdicts.specs.declared.verdict.Verdict.{Verdict}
 use Rattle.verdicts.specs.declared.verdict.Verdict.TheVariants.{Correct, Incorrect, Unknown}
 use Rattle.verdicts.specs.declared.verdict.Cause.TheVariants.{Weight, Rounds, Conflicts}
-use Rattle.verdicts.specs.Pair.{Functions}
+use Rattle.verdicts.specs.Pair.{Functions, RunPair, run_pair}
 use Rattle.verdicts.specs.Covers.{IsLeastCover, HasNoCover}
 use Rattle.verdicts.specs.Weight.{IsHeavy}
 use Rattle.verdicts.specs.Trail.{TrailFrom, IsLeastUncovered, AreAllCovered, Ends, Judges, IsTrail, IsVerdict}
@@ -14,17 +14,17 @@ use Rattle.verdicts.proofs.Meaning.{cons_after}
 use Rattle.std.proofs.Common.{subst}
 use Rattle.slow_judge.specs.Search.{HasTrail}
 
-pub record IsGrown (pair : Functions) (bounds : Bounds) (budget : Budget) (tapes : List (List ℕ)) : Type 0 where
+pub record IsGrown (pair : RunPair) (bounds : Bounds) (budget : Budget) (tapes : List (List ℕ)) : Type 0 where
   pub points : List Point
   pub count : length points ≡ length tapes
   pub trail : TrailFrom pair bounds [] tapes points
   pub within : length tapes ≤ budget.rounds
 
-pub grown_start : (pair : Functions) (bounds : Bounds) (budget : Budget) (tapes : List (List ℕ)) → tapes ≡ [] → IsGrown pair bounds budget tapes
+pub grown_start : (pair : RunPair) (bounds : Bounds) (budget : Budget) (tapes : List (List ℕ)) → tapes ≡ [] → IsGrown pair bounds budget tapes
 grown_start pair bounds budget tapes e = rw e (record { points = []; count = refl; trail = tt; within = omega arith })
 
 -- a trail goes on by one point and its tape
-trail_more : (pair : Functions) (bounds : Bounds) (before tapes : List (List ℕ)) (points : List Point) (p : Point) (tape : List ℕ) → length points ≡ length tapes → TrailFrom pair bounds before tapes points → IsLeastUncovered pair bounds (before ++ tapes) p → IsLeastCover pair bounds p tape → TrailFrom pair bounds before (tapes ++ tape ∷ []) (points ++ p ∷ [])
+trail_more : (pair : RunPair) (bounds : Bounds) (before tapes : List (List ℕ)) (points : List Point) (p : Point) (tape : List ℕ) → length points ≡ length tapes → TrailFrom pair bounds before tapes points → IsLeastUncovered pair bounds (before ++ tapes) p → IsLeastCover pair bounds p tape → TrailFrom pair bounds before (tapes ++ tape ∷ []) (points ++ p ∷ [])
 trail_more pair bounds before [] [] p tape count trail least cover = ((rw append-nil at least), cover, tt)
 trail_more pair bounds before (t ∷ ts) (q ∷ qs) p tape count trail least cover =
     let least' = rw (cons_after before t ts) at least in
@@ -33,7 +33,7 @@ trail_more pair bounds before [] (q ∷ qs) p tape count trail least cover = abs
 trail_more pair bounds before (t ∷ ts) [] p tape count trail least cover = absurd (omega (arith, count))
 
 -- or by only one point
-trail_open : (pair : Functions) (bounds : Bounds) (before tapes : List (List ℕ)) (points : List Point) (p : Point) → length points ≡ length tapes → TrailFrom pair bounds before tapes points → IsLeastUncovered pair bounds (before ++ tapes) p → TrailFrom pair bounds before tapes (points ++ p ∷ [])
+trail_open : (pair : RunPair) (bounds : Bounds) (before tapes : List (List ℕ)) (points : List Point) (p : Point) → length points ≡ length tapes → TrailFrom pair bounds before tapes points → IsLeastUncovered pair bounds (before ++ tapes) p → TrailFrom pair bounds before tapes (points ++ p ∷ [])
 trail_open pair bounds before [] [] p count trail least = rw append-nil at least
 trail_open pair bounds before (t ∷ ts) (q ∷ qs) p count trail least =
     let least' = rw (cons_after before t ts) at least in
@@ -53,10 +53,10 @@ one_behind (q ∷ ps) (t ∷ ts) p e = one_behind ps ts p (omega (arith, e))
 one_behind [] (t ∷ ts) p e = absurd (omega (arith, e))
 one_behind (q ∷ ps) [] p e = absurd (omega (arith, e))
 
-ends_at : (pair : Functions) (bounds : Bounds) (budget : Budget) (tapes : List (List ℕ)) (o o' : Option Point) (v : Verdict) → o ≡ o' → Ends pair bounds budget tapes o' v → Ends pair bounds budget tapes o v
+ends_at : (pair : RunPair) (bounds : Bounds) (budget : Budget) (tapes : List (List ℕ)) (o o' : Option Point) (v : Verdict) → o ≡ o' → Ends pair bounds budget tapes o' v → Ends pair bounds budget tapes o v
 ends_at pair bounds budget tapes o o' v e h = subst (λ x. Ends pair bounds budget tapes x v) (sym e) h
 
-pub grown_more : (pair : Functions) (bounds : Bounds) (budget : Budget) (tapes more : List (List ℕ)) (p : Point) (tape : List ℕ) → IsGrown pair bounds budget tapes → IsLeastUncovered pair bounds tapes p → IsLeastCover pair bounds p tape → length tapes < budget.rounds → more ≡ tapes ++ tape ∷ [] → IsGrown pair bounds budget more
+pub grown_more : (pair : RunPair) (bounds : Bounds) (budget : Budget) (tapes more : List (List ℕ)) (p : Point) (tape : List ℕ) → IsGrown pair bounds budget tapes → IsLeastUncovered pair bounds tapes p → IsLeastCover pair bounds p tape → length tapes < budget.rounds → more ≡ tapes ++ tape ∷ [] → IsGrown pair bounds budget more
 grown_more pair bounds budget tapes more p tape grown least cover room e =
     let count = grown.count in
     rw e (record {
@@ -66,7 +66,7 @@ grown_more pair bounds budget tapes more p tape grown least cover room e =
       within = (let len = length-append tapes (tape ∷ []) in omega (arith, len, room));
     })
 
-pub grown_correct : (pair : Functions) (bounds : Bounds) (budget : Budget) (tapes : List (List ℕ)) → IsGrown pair bounds budget tapes → AreAllCovered pair bounds tapes → HasTrail pair bounds budget Correct
+pub grown_correct : (pair : RunPair) (bounds : Bounds) (budget : Budget) (tapes : List (List ℕ)) → IsGrown pair bounds budget tapes → AreAllCovered pair bounds tapes → HasTrail pair bounds budget Correct
 grown_correct pair bounds budget tapes grown all = record {
   kept = record { tapes = tapes; points = grown.points };
   trail = grown.trail;
@@ -74,7 +74,7 @@ grown_correct pair bounds budget tapes grown all = record {
   ends = ends_at pair bounds budget tapes (slice_get grown.points (length tapes)) None Correct (none_behind grown.points tapes grown.count) all;
 }
 
-pub grown_incorrect : (pair : Functions) (bounds : Bounds) (budget : Budget) (tapes : List (List ℕ)) (p : Point) → IsGrown pair bounds budget tapes → IsLeastUncovered pair bounds tapes p → HasNoCover pair bounds p → HasTrail pair bounds budget (Incorrect p)
+pub grown_incorrect : (pair : RunPair) (bounds : Bounds) (budget : Budget) (tapes : List (List ℕ)) (p : Point) → IsGrown pair bounds budget tapes → IsLeastUncovered pair bounds tapes p → HasNoCover pair bounds p → HasTrail pair bounds budget (Incorrect p)
 grown_incorrect pair bounds budget tapes p grown least none = record {
   kept = record { tapes = tapes; points = grown.points ++ p ∷ [] };
   trail = trail_open pair bounds [] tapes grown.points p grown.count grown.trail least;
@@ -82,7 +82,7 @@ grown_incorrect pair bounds budget tapes p grown least none = record {
   ends = ends_at pair bounds budget tapes (slice_get (grown.points ++ p ∷ []) (length tapes)) (Some p) (Incorrect p) (one_behind grown.points tapes p grown.count) (refl, none);
 }
 
-pub grown_full : (pair : Functions) (bounds : Bounds) (budget : Budget) (tapes : List (List ℕ)) (p : Point) (tape : List ℕ) → IsGrown pair bounds budget tapes → IsLeastUncovered pair bounds tapes p → IsLeastCover pair bounds p tape → length tapes ≡ budget.rounds → HasTrail pair bounds budget (Unknown Rounds)
+pub grown_full : (pair : RunPair) (bounds : Bounds) (budget : Budget) (tapes : List (List ℕ)) (p : Point) (tape : List ℕ) → IsGrown pair bounds budget tapes → IsLeastUncovered pair bounds tapes p → IsLeastCover pair bounds p tape → length tapes ≡ budget.rounds → HasTrail pair bounds budget (Unknown Rounds)
 grown_full pair bounds budget tapes p tape grown least cover full = record {
   kept = record { tapes = tapes; points = grown.points ++ p ∷ [] };
   trail = trail_open pair bounds [] tapes grown.points p grown.count grown.trail least;
@@ -92,18 +92,18 @@ grown_full pair bounds budget tapes p tape grown least cover full = record {
 
 -- ---- the verdict
 
-verdict_of_trail : (pair : Functions) (bounds : Bounds) (budget : Budget) (v : Verdict) (trail : HasTrail pair bounds budget v) → IsTrail pair bounds budget trail.kept v → Judges pair bounds budget trail.kept v
+verdict_of_trail : (pair : Functions) (bounds : Bounds) (budget : Budget) (v : Verdict) (trail : HasTrail (run_pair pair) bounds budget v) → IsTrail pair bounds budget trail.kept v → Judges pair bounds budget trail.kept v
 verdict_of_trail pair bounds budget Correct trail h = h
 verdict_of_trail pair bounds budget (Incorrect p) trail h = h
 verdict_of_trail pair bounds budget (Unknown Rounds) trail h = h
 verdict_of_trail pair bounds budget (Unknown Conflicts) trail h = h
 verdict_of_trail pair bounds budget (Unknown Weight) trail h = absurd (no_weight (slice_get trail.kept.points (length trail.kept.tapes)) h.ends)
   where
-    no_weight : (o : Option Point) → Ends pair bounds budget trail.kept.tapes o (Unknown Weight) → ⊥
+    no_weight : (o : Option Point) → Ends (run_pair pair) bounds budget trail.kept.tapes o (Unknown Weight) → ⊥
     no_weight None e = e
     no_weight (Some p) e = e
 
-pub verdict_is : (pair : Functions) (bounds : Bounds) (budget : Budget) (v : Verdict) → (IsHeavy pair bounds budget → ⊥) → HasTrail pair bounds budget v → IsVerdict pair bounds budget v
+pub verdict_is : (pair : Functions) (bounds : Bounds) (budget : Budget) (v : Verdict) → (IsHeavy pair bounds budget → ⊥) → HasTrail (run_pair pair) bounds budget v → IsVerdict pair bounds budget v
 verdict_is pair bounds budget v not_heavy trail = record {
   kept = trail.kept;
   judges = verdict_of_trail pair bounds budget v trail (record { not_heavy = not_heavy; trail = trail.trail; within = trail.within; ends = trail.ends });

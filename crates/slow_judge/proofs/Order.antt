@@ -13,7 +13,7 @@ use Rattle.byte_block.specs.declared.block.MemoryBlock.{MemoryBlock}
 use Rattle.points.specs.declared.point.Bounds.{Bounds}
 use Rattle.points.specs.declared.point.Layout.{Layout}
 use Rattle.points.specs.declared.point.Point.{Point}
-use Rattle.verdicts.specs.Pair.{Functions, layout_of}
+use Rattle.verdicts.specs.Pair.{RunPair, layout_of}
 use Rattle.points.specs.Code.{no_blocks, number_of, ValueFits, ArgsFit, BytesFit, BlocksFit, WordsFit, value_code, args_code, byte_code, places_code, blocks_code, code_of}
 use Rattle.points.specs.Next.{IsNextWords, IsLastWords, IsNextArgs, IsLastArgs, least_value}
 use Rattle.points.specs.Tapes.{need_of, widest_choice}
@@ -111,10 +111,10 @@ middle_zeros layout = let zeros = empty_zeros layout layout.blocks in Zeros-appe
 
 -- ---- a cell's code
 
-abbrev pub middle_of : Functions → Bounds → List ℕ
+abbrev pub middle_of : RunPair → Bounds → List ℕ
 middle_of pair bounds = blocks_code (layout_of pair bounds) (empty_blocks (layout_of pair bounds))
 
-abbrev pub middle_count : Functions → Bounds → ℕ
+abbrev pub middle_count : RunPair → Bounds → ℕ
 middle_count pair bounds = (layout_of pair bounds).blocks + (layout_of pair bounds).blocks * ((layout_of pair bounds).bytes * 5)
 
 pub few : (bounds : Bounds) → AreSmall bounds → bounds.blocks < 2 ^ 64
@@ -123,27 +123,27 @@ few bounds small = let most = small.blocks in omega (arith, most)
 pub short : (bounds : Bounds) → AreSmall bounds → bounds.bytes < 2 ^ 64
 short bounds small = let most = small.bytes in omega (arith, most)
 
-middle_digits : (pair : Functions) (bounds : Bounds) → AreSmall bounds → Digits (middle_count pair bounds) (middle_of pair bounds)
+middle_digits : (pair : RunPair) (bounds : Bounds) → AreSmall bounds → Digits (middle_count pair bounds) (middle_of pair bounds)
 middle_digits pair bounds small = blocks_digits (layout_of pair bounds) (empty_blocks (layout_of pair bounds)) (few bounds small) (short bounds small) (empty_fit (layout_of pair bounds))
 
 -- arguments, blocks and a tape as a point of the pair has them
-abbrev pub IsFit : Functions → Bounds → Point → Type 0
+abbrev pub IsFit : RunPair → Bounds → Point → Type 0
 IsFit pair bounds p = Fits (layout_of pair bounds) (need_of bounds.turns pair.target) (widest_choice pair.target) pair.target.parameters p
 
-pub cell_fits : (pair : Functions) (bounds : Bounds) (p : Point) → IsCell pair bounds p → IsFit pair bounds p
+pub cell_fits : (pair : RunPair) (bounds : Bounds) (p : Point) → IsCell pair bounds p → IsFit pair bounds p
 cell_fits pair bounds p cell = record { args = cell.args; given = rw cell.blocks (empty_fit (layout_of pair bounds)); tape = cell.tape }
 
-pub same_place : (pair : Functions) (bounds : Bounds) (p q : Point) → AreSmall bounds → IsFit pair bounds p → IsFit pair bounds q → place_in pair bounds p ≡ place_in pair bounds q → p ≡ q
+pub same_place : (pair : RunPair) (bounds : Bounds) (p q : Point) → AreSmall bounds → IsFit pair bounds p → IsFit pair bounds q → place_in pair bounds p ≡ place_in pair bounds q → p ≡ q
 same_place pair bounds p q small fits fits' e = same_point (layout_of pair bounds) (need_of bounds.turns pair.target) (widest_choice pair.target) pair.target.parameters p q (few bounds small) (short bounds small) (widest_small pair.target) fits fits' e
 
 -- no position of a point is as great
-abbrev pub places_in : Functions → Bounds → ℕ
+abbrev pub places_in : RunPair → Bounds → ℕ
 places_in pair bounds = (2 ^ 64) ^ code_length (layout_of pair bounds) (need_of bounds.turns pair.target) pair.target.parameters
 
-pub within_places : (pair : Functions) (bounds : Bounds) (p : Point) → AreSmall bounds → IsFit pair bounds p → place_in pair bounds p < places_in pair bounds
+pub within_places : (pair : RunPair) (bounds : Bounds) (p : Point) → AreSmall bounds → IsFit pair bounds p → place_in pair bounds p < places_in pair bounds
 within_places pair bounds p small fits = number_of-below (code_length (layout_of pair bounds) (need_of bounds.turns pair.target) pair.target.parameters) (code_of (layout_of pair bounds) pair.target.parameters p) (code_digits (layout_of pair bounds) (need_of bounds.turns pair.target) (widest_choice pair.target) pair.target.parameters p (few bounds small) (short bounds small) (widest_small pair.target) fits)
 
-code_is : (pair : Functions) (bounds : Bounds) (p : Point) → AreIntegers pair.target.parameters → IsCell pair bounds p → code_of (layout_of pair bounds) pair.target.parameters p ≡ args_code no_blocks pair.target.parameters p.input.args ++ (middle_of pair bounds ++ p.tape)
+code_is : (pair : RunPair) (bounds : Bounds) (p : Point) → AreIntegers pair.target.parameters → IsCell pair bounds p → code_of (layout_of pair bounds) pair.target.parameters p ≡ args_code no_blocks pair.target.parameters p.input.args ++ (middle_of pair bounds ++ p.tape)
 code_is pair bounds p int cell =
     ap (λ (xs : List ℕ). xs ++ (blocks_code (layout_of pair bounds) p.input.blocks ++ p.tape)) (any_code (layout_of pair bounds) no_blocks pair.target.parameters p.input.args int cell.args)
     ∙ ap (λ (bs : List MemoryBlock). args_code no_blocks pair.target.parameters p.input.args ++ (blocks_code (layout_of pair bounds) bs ++ p.tape)) cell.blocks
@@ -213,7 +213,7 @@ last_of_all ps middle k width n vs ws small digits fits old last last' =
 
 -- ---- cells
 
-chain_of_cell : (pair : Functions) (bounds : Bounds) (q : Point) → AreIntegers pair.target.parameters → IsCell pair bounds q → IsCellCode pair.target.parameters (middle_of pair bounds) (widest_choice pair.target) (need_of bounds.turns pair.target) (code_of (layout_of pair bounds) pair.target.parameters q)
+chain_of_cell : (pair : RunPair) (bounds : Bounds) (q : Point) → AreIntegers pair.target.parameters → IsCell pair bounds q → IsCellCode pair.target.parameters (middle_of pair bounds) (widest_choice pair.target) (need_of bounds.turns pair.target) (code_of (layout_of pair bounds) pair.target.parameters q)
 chain_of_cell pair bounds q int cell = record {
   front = args_code no_blocks pair.target.parameters q.input.args;
   back = middle_of pair bounds ++ q.tape;
@@ -225,7 +225,7 @@ chain_of_cell pair bounds q int cell = record {
 less_at : (a a' b b' : ℕ) → a ≡ a' → b ≡ b' → a' < b' → a < b
 less_at a a' b b' e f h = omega (arith, e, f, h)
 
-cell_next : (pair : Functions) (bounds : Bounds) (old new : Point) → AreIntegers pair.target.parameters → IsCell pair bounds old → IsCell pair bounds new
+cell_next : (pair : RunPair) (bounds : Bounds) (old new : Point) → AreIntegers pair.target.parameters → IsCell pair bounds old → IsCell pair bounds new
     → IsNextIn (IsCellCode pair.target.parameters (middle_of pair bounds) (widest_choice pair.target) (need_of bounds.turns pair.target)) (args_code no_blocks pair.target.parameters old.input.args ++ (middle_of pair bounds ++ old.tape)) (args_code no_blocks pair.target.parameters new.input.args ++ (middle_of pair bounds ++ new.tape))
     → IsNextCell pair bounds old new
 cell_next pair bounds old new int cell cell' next =
@@ -240,7 +240,7 @@ cell_next pair bounds old new int cell cell' next =
           omega (arith, e, most);
     }
 
-pub next_by_tape : (pair : Functions) (bounds : Bounds) (old new : Point) → AreSmall bounds → AreIntegers pair.target.parameters → IsCell pair bounds old → new.input.args ≡ old.input.args → new.input.blocks ≡ old.input.blocks → IsNextWords (widest_choice pair.target) old.tape new.tape → IsNextCell pair bounds old new
+pub next_by_tape : (pair : RunPair) (bounds : Bounds) (old new : Point) → AreSmall bounds → AreIntegers pair.target.parameters → IsCell pair bounds old → new.input.args ≡ old.input.args → new.input.blocks ≡ old.input.blocks → IsNextWords (widest_choice pair.target) old.tape new.tape → IsNextCell pair bounds old new
 next_by_tape pair bounds old new small int cell same_args same_blocks next =
     let n = need_of bounds.turns pair.target in
     let width = widest_choice pair.target in
@@ -250,7 +250,7 @@ next_by_tape pair bounds old new small int cell same_args same_blocks next =
     let chain = next_tape_in pair.target.parameters (middle_of pair bounds) (middle_count pair bounds) width n old.input.args old.tape new.tape (widest_small pair.target) (middle_digits pair bounds small) (any_blocks (layout_of pair bounds) no_blocks pair.target.parameters old.input.args int cell.args) cell.tape fits next in
     cell_next pair bounds old new int cell cell' (rw same_args chain)
 
-pub next_by_args : (pair : Functions) (bounds : Bounds) (old new : Point) → AreSmall bounds → AreIntegers pair.target.parameters → IsCell pair bounds old → new.input.blocks ≡ old.input.blocks → IsLastWords (widest_choice pair.target) old.tape → IsNextArgs no_blocks pair.target.parameters old.input.args new.input.args → new.tape ≡ replicate (length old.tape) 0 → IsNextCell pair bounds old new
+pub next_by_args : (pair : RunPair) (bounds : Bounds) (old new : Point) → AreSmall bounds → AreIntegers pair.target.parameters → IsCell pair bounds old → new.input.blocks ≡ old.input.blocks → IsLastWords (widest_choice pair.target) old.tape → IsNextArgs no_blocks pair.target.parameters old.input.args new.input.args → new.tape ≡ replicate (length old.tape) 0 → IsNextCell pair bounds old new
 next_by_args pair bounds old new small int cell same_blocks last next zeros =
     let n = need_of bounds.turns pair.target in
     let width = widest_choice pair.target in
@@ -262,7 +262,7 @@ next_by_args pair bounds old new small int cell same_blocks last next zeros =
     cell_next pair bounds old new int cell cell'
     (next_args_in pair.target.parameters (middle_of pair bounds) (middle_count pair bounds) width n old.input.args new.input.args old.tape new.tape (widest_small pair.target) (middle_digits pair bounds small) (any_blocks (layout_of pair bounds) no_blocks pair.target.parameters old.input.args int cell.args) cell.tape fits last zero_number next)
 
-pub last_by_both : (pair : Functions) (bounds : Bounds) (p : Point) → AreSmall bounds → AreIntegers pair.target.parameters → IsCell pair bounds p → IsLastWords (widest_choice pair.target) p.tape → IsLastArgs no_blocks pair.target.parameters p.input.args → IsLastCell pair bounds p
+pub last_by_both : (pair : RunPair) (bounds : Bounds) (p : Point) → AreSmall bounds → AreIntegers pair.target.parameters → IsCell pair bounds p → IsLastWords (widest_choice pair.target) p.tape → IsLastArgs no_blocks pair.target.parameters p.input.args → IsLastCell pair bounds p
 last_by_both pair bounds p small int cell last last' = λ q q_cell.
     let e = ap number_of (code_is pair bounds p int cell) in
     let most = last_of_all pair.target.parameters (middle_of pair bounds) (middle_count pair bounds) (widest_choice pair.target) (need_of bounds.turns pair.target) p.input.args p.tape (widest_small pair.target) (middle_digits pair bounds small) (any_blocks (layout_of pair bounds) no_blocks pair.target.parameters p.input.args int cell.args) cell.tape last last' (code_of (layout_of pair bounds) pair.target.parameters q) (chain_of_cell pair bounds q int q_cell) in
@@ -286,14 +286,14 @@ least_args_zeros : (layout : Layout) (ps : List Parameter) → Zeros (args_code 
 least_args_zeros layout [] = tt
 least_args_zeros layout (p ∷ ps) = Zeros-append (value_code layout p.of_type (least_value p.of_type)) (args_code layout ps (least_args ps)) (least_value_zeros layout p.of_type) (least_args_zeros layout ps)
 
-pub first_cell : (pair : Functions) (bounds : Bounds) (p : Point) → p.input.args ≡ least_args pair.target.parameters → p.input.blocks ≡ empty_blocks (layout_of pair bounds) → p.tape ≡ replicate (need_of bounds.turns pair.target) 0 → IsCell pair bounds p
+pub first_cell : (pair : RunPair) (bounds : Bounds) (p : Point) → p.input.args ≡ least_args pair.target.parameters → p.input.blocks ≡ empty_blocks (layout_of pair bounds) → p.tape ≡ replicate (need_of bounds.turns pair.target) 0 → IsCell pair bounds p
 first_cell pair bounds p e f g = record {
   args = rw e (least_args_fit (layout_of pair bounds) pair.target.parameters);
   blocks = f;
   tape = rw g (words.zeros_fit (widest_choice pair.target) (need_of bounds.turns pair.target));
 }
 
-pub first_place : (pair : Functions) (bounds : Bounds) (p : Point) → p.input.args ≡ least_args pair.target.parameters → p.input.blocks ≡ empty_blocks (layout_of pair bounds) → p.tape ≡ replicate (need_of bounds.turns pair.target) 0 → place_in pair bounds p ≡ 0
+pub first_place : (pair : RunPair) (bounds : Bounds) (p : Point) → p.input.args ≡ least_args pair.target.parameters → p.input.blocks ≡ empty_blocks (layout_of pair bounds) → p.tape ≡ replicate (need_of bounds.turns pair.target) 0 → place_in pair bounds p ≡ 0
 first_place pair bounds p e f g =
     let ps = pair.target.parameters in
     let args : Zeros (args_code (layout_of pair bounds) ps p.input.args) = rw e (least_args_zeros (layout_of pair bounds) ps) in

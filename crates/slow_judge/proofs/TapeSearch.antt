@@ -3,7 +3,7 @@ use Rattle.std.proofs.Common.{◌≡◌, ℕ, ◌^◌, ◌<◌, inl, inr, List, 
 use Rattle.std.proofs.lemmas.Bool.{cases_eq}
 use Rattle.points.specs.declared.point.Bounds.{Bounds}
 use Rattle.points.specs.declared.point.Point.{Point}
-use Rattle.verdicts.specs.Pair.{Functions}
+use Rattle.verdicts.specs.Pair.{RunPair}
 use Rattle.points.specs.Code.{WordsFit, number_of}
 use Rattle.points.specs.Next.{IsNextWords, IsLastWords}
 use Rattle.points.specs.Run.{run_of}
@@ -17,24 +17,24 @@ use Rattle.verdicts.proofs.Meaning.{plain_covers}
 use Rattle.points.proofs.Widest.{widest_small, widen}
 
 -- the search has come to this tape: none before it covers the point
-pub record IsTapeReached (pair : Functions) (bounds : Bounds) (p : Point) (tape : List ℕ) : Type 0 where
+pub record IsTapeReached (pair : RunPair) (bounds : Bounds) (p : Point) (tape : List ℕ) : Type 0 where
   pub fits : WordsFit (widest_choice pair.source) (need_of bounds.turns pair.source) tape
   pub before : (other : List ℕ) → WordsFit (widest_choice pair.source) (need_of bounds.turns pair.source) other → number_of other < number_of tape → covers pair bounds p other ≡ false
 
-pub tape_reached_first : (pair : Functions) (bounds : Bounds) (p : Point) (tape : List ℕ) → tape ≡ replicate (need_of bounds.turns pair.source) 0 → IsTapeReached pair bounds p tape
+pub tape_reached_first : (pair : RunPair) (bounds : Bounds) (p : Point) (tape : List ℕ) → tape ≡ replicate (need_of bounds.turns pair.source) 0 → IsTapeReached pair bounds p tape
 tape_reached_first pair bounds p tape e = record {
   fits = rw e (words.zeros_fit (widest_choice pair.source) (need_of bounds.turns pair.source));
   before = λ other fits less. absurd (let zero_number = ap number_of e ∙ words.number_of-zeros (need_of bounds.turns pair.source) in omega (arith, less, zero_number));
 }
 
-same_tape : (pair : Functions) (bounds : Bounds) (p : Point) (tape other : List ℕ) → WordsFit (widest_choice pair.source) (need_of bounds.turns pair.source) tape → WordsFit (widest_choice pair.source) (need_of bounds.turns pair.source) other → covers pair bounds p tape ≡ false → number_of other ≡ number_of tape → covers pair bounds p other ≡ false
+same_tape : (pair : RunPair) (bounds : Bounds) (p : Point) (tape other : List ℕ) → WordsFit (widest_choice pair.source) (need_of bounds.turns pair.source) tape → WordsFit (widest_choice pair.source) (need_of bounds.turns pair.source) other → covers pair bounds p tape ≡ false → number_of other ≡ number_of tape → covers pair bounds p other ≡ false
 same_tape pair bounds p tape other fits fits' fails e =
     let need = need_of bounds.turns pair.source in
     let width = widest_choice pair.source in
     let same = number_of-same need other tape (WordsFit-digits width need other (widest_small pair.source) fits') (WordsFit-digits width need tape (widest_small pair.source) fits) e in
     ap (covers pair bounds p) same ∙ fails
 
-pub tape_reached_next : (pair : Functions) (bounds : Bounds) (p : Point) (tape new : List ℕ) → IsTapeReached pair bounds p tape → covers pair bounds p tape ≡ false → IsNextWords (widest_choice pair.source) tape new → IsTapeReached pair bounds p new
+pub tape_reached_next : (pair : RunPair) (bounds : Bounds) (p : Point) (tape new : List ℕ) → IsTapeReached pair bounds p tape → covers pair bounds p tape ≡ false → IsNextWords (widest_choice pair.source) tape new → IsTapeReached pair bounds p new
 tape_reached_next pair bounds p tape new reached fails next =
     let len : length tape ≡ need_of bounds.turns pair.source = WordsFit-length (widest_choice pair.source) (need_of bounds.turns pair.source) tape reached.fits in
     record {
@@ -47,7 +47,7 @@ tape_reached_next pair bounds p tape new reached fails next =
           ];
     }
 
-none_of_width : (pair : Functions) (bounds : Bounds) (p : Point) (tape : List ℕ) → IsTapeReached pair bounds p tape → covers pair bounds p tape ≡ false → IsLastWords (widest_choice pair.source) tape → (other : List ℕ) → WordsFit (widest_choice pair.source) (need_of bounds.turns pair.source) other → covers pair bounds p other ≡ false
+none_of_width : (pair : RunPair) (bounds : Bounds) (p : Point) (tape : List ℕ) → IsTapeReached pair bounds p tape → covers pair bounds p tape ≡ false → IsLastWords (widest_choice pair.source) tape → (other : List ℕ) → WordsFit (widest_choice pair.source) (need_of bounds.turns pair.source) other → covers pair bounds p other ≡ false
 none_of_width pair bounds p tape reached fails last other fits =
     let len : length tape ≡ need_of bounds.turns pair.source = WordsFit-length (widest_choice pair.source) (need_of bounds.turns pair.source) tape reached.fits in
     let at_most = last other (rw len fits) in
@@ -57,12 +57,12 @@ none_of_width pair bounds p tape reached fails last other fits =
     ]
 
 -- as of the tapes of the widest choice, so of all tapes
-pub none_at_all : (pair : Functions) (bounds : Bounds) (p : Point) (tape : List ℕ) → IsTapeReached pair bounds p tape → covers pair bounds p tape ≡ false → IsLastWords (widest_choice pair.source) tape → HasNoCover pair bounds p
+pub none_at_all : (pair : RunPair) (bounds : Bounds) (p : Point) (tape : List ℕ) → IsTapeReached pair bounds p tape → covers pair bounds p tape ≡ false → IsLastWords (widest_choice pair.source) tape → HasNoCover pair bounds p
 none_at_all pair bounds p tape reached fails last = λ other fits.
     let form = tapes_have_plain_forms pair.source bounds p.input other in
     sym (plain_covers pair bounds p other) ∙ none_of_width pair bounds p tape reached fails last (plain_form (need_of bounds.turns pair.source) (run_of pair.source bounds p.input other).taken) form.fits
 
-pub least_of_all : (pair : Functions) (bounds : Bounds) (p : Point) (tape : List ℕ) → IsTapeReached pair bounds p tape → covers pair bounds p tape ≡ true → IsLeastCover pair bounds p tape
+pub least_of_all : (pair : RunPair) (bounds : Bounds) (p : Point) (tape : List ℕ) → IsTapeReached pair bounds p tape → covers pair bounds p tape ≡ true → IsLeastCover pair bounds p tape
 least_of_all pair bounds p tape reached holds = record {
   fits = widen (widest_choice pair.source) (need_of bounds.turns pair.source) tape (widest_small pair.source) reached.fits;
   cover = holds;
@@ -72,5 +72,5 @@ least_of_all pair bounds p tape reached holds = record {
       sym (plain_covers pair bounds p other) ∙ reached.before _ form.fits (omega (arith, at_most, less));
 }
 
-pub tape_within : (pair : Functions) (bounds : Bounds) (p : Point) (tape : List ℕ) → IsTapeReached pair bounds p tape → number_of tape < (2 ^ 64) ^ need_of bounds.turns pair.source
+pub tape_within : (pair : RunPair) (bounds : Bounds) (p : Point) (tape : List ℕ) → IsTapeReached pair bounds p tape → number_of tape < (2 ^ 64) ^ need_of bounds.turns pair.source
 tape_within pair bounds p tape reached = number_of-below (need_of bounds.turns pair.source) tape (WordsFit-digits (widest_choice pair.source) (need_of bounds.turns pair.source) tape (widest_small pair.source) reached.fits)

@@ -13,7 +13,7 @@ use Rattle.points.specs.declared.point.Point.{Point}
 use Rattle.points.specs.declared.point.Shape.{Shape}
 use Rattle.verdicts.specs.declared.verdict.Kept.{Kept}
 use Rattle.verdicts.specs.declared.verdict.Verdict.{Verdict}
-use Rattle.verdicts.specs.Pair.{Functions, layout_of}
+use Rattle.verdicts.specs.Pair.{RunPair, layout_of}
 use Rattle.points.specs.Code.{ArgsFit, WordsFit}
 use Rattle.points.specs.Next.{least_value}
 use Rattle.points.specs.Run.{run_of, IsPlain}
@@ -28,16 +28,16 @@ use Rattle.slow_judge.specs.declared.bench.Bench.{Bench}
 use Rattle.slow_judge.specs.declared.cover.Shift.{Shift}
 use Rattle.slow_judge.specs.declared.cover.Shift.TheVariants.{Behind, Before}
 
-pub record AreRunnable (pair : Functions) : Type 0 where
+pub record AreRunnable (pair : RunPair) : Type 0 where
   pub source : IsRunnable pair.source
   pub target : IsRunnable pair.target
 
-pub record HaveNoPointers (pair : Functions) : Type 0 where
+pub record HaveNoPointers (pair : RunPair) : Type 0 where
   pub source : HasNoPointers pair.source
   pub target : HasNoPointers pair.target
 
 -- the target's run on the point ends so and leaves this memory
-abbrev pub DoesEnd : Functions → Bounds → Point → Ending → List MemoryBlock → Type 0
+abbrev pub DoesEnd : RunPair → Bounds → Point → Ending → List MemoryBlock → Type 0
 DoesEnd pair bounds p ending memory = (run_of pair.target bounds p.input p.tape).outcome ≡ outcome_of ending memory
 
 -- ---- given blocks
@@ -58,14 +58,14 @@ empty_blocks layout = first_empty layout layout.blocks
 -- ---- the points in order, whether or not their tape is plain
 
 -- the shape of the pair's points
-pub record IsShapeOf (pair : Functions) (bounds : Bounds) (s : Shape) : Type 0 where
+pub record IsShapeOf (pair : RunPair) (bounds : Bounds) (s : Shape) : Type 0 where
   pub parameters : s.parameters ≡ pair.target.parameters
   pub layout : s.layout ≡ layout_of pair bounds
   pub words : s.words ≡ need_of bounds.turns pair.target
   pub word_width : s.word_width.bits ≡ widest_choice pair.target
 
 -- a cell is a point with empty blocks
-pub record IsCell (pair : Functions) (bounds : Bounds) (p : Point) : Type 0 where
+pub record IsCell (pair : RunPair) (bounds : Bounds) (p : Point) : Type 0 where
   pub args : ArgsFit (layout_of pair bounds) pair.target.parameters p.input.args
   pub blocks : p.input.blocks ≡ empty_blocks (layout_of pair bounds)
   pub tape : WordsFit (widest_choice pair.target) (need_of bounds.turns pair.target) p.tape
@@ -75,49 +75,49 @@ abbrev pub least_args : List Parameter → List Value
 least_args parameters = map (λ (p : Parameter). least_value p.of_type) parameters
 
 -- the next one among some points: it comes later, and none of them between the two was left out
-pub record IsNextAmong (Among : Point → Type 0) (pair : Functions) (bounds : Bounds) (old new : Point) : Type 0 where
+pub record IsNextAmong (Among : Point → Type 0) (pair : RunPair) (bounds : Bounds) (old new : Point) : Type 0 where
   pub among : Among new
   pub later : place_in pair bounds old < place_in pair bounds new
   pub no_gap : (q : Point) → Among q → place_in pair bounds q < place_in pair bounds new → place_in pair bounds q ≤ place_in pair bounds old
 
-abbrev pub IsNextCell : Functions → Bounds → Point → Point → Type 0
+abbrev pub IsNextCell : RunPair → Bounds → Point → Point → Type 0
 IsNextCell pair bounds old new = IsNextAmong (IsCell pair bounds) pair bounds old new
 
-abbrev pub IsLastAmong : (Point → Type 0) → Functions → Bounds → Point → Type 0
+abbrev pub IsLastAmong : (Point → Type 0) → RunPair → Bounds → Point → Type 0
 IsLastAmong Among pair bounds p = (q : Point) → Among q → place_in pair bounds q ≤ place_in pair bounds p
 
-abbrev pub IsLastCell : Functions → Bounds → Point → Type 0
+abbrev pub IsLastCell : RunPair → Bounds → Point → Type 0
 IsLastCell pair bounds p = IsLastAmong (IsCell pair bounds) pair bounds p
 
 -- ---- the least of them that nothing covers
 
-pub record IsUncovered (pair : Functions) (bounds : Bounds) (tapes : List (List ℕ)) (p : Point) : Type 0 where
+pub record IsUncovered (pair : RunPair) (bounds : Bounds) (tapes : List (List ℕ)) (p : Point) : Type 0 where
   pub plain : IsPlain p.tape (run_of pair.target bounds p.input p.tape)
   pub uncovered : is_covered pair bounds tapes p ≡ false
 
-pub record IsLeastAmong (Among : Point → Type 0) (pair : Functions) (bounds : Bounds) (tapes : List (List ℕ)) (p : Point) : Type 0 where
+pub record IsLeastAmong (Among : Point → Type 0) (pair : RunPair) (bounds : Bounds) (tapes : List (List ℕ)) (p : Point) : Type 0 where
   pub among : Among p
   pub here : IsUncovered pair bounds tapes p
   pub least : (q : Point) → Among q → IsPlain q.tape (run_of pair.target bounds q.input q.tape) → place_in pair bounds q < place_in pair bounds p → is_covered pair bounds tapes q ≡ true
 
-abbrev pub AreCoveredAmong : (Point → Type 0) → Functions → Bounds → List (List ℕ) → Type 0
+abbrev pub AreCoveredAmong : (Point → Type 0) → RunPair → Bounds → List (List ℕ) → Type 0
 AreCoveredAmong Among pair bounds tapes = (q : Point) → Among q → IsPlain q.tape (run_of pair.target bounds q.input q.tape) → is_covered pair bounds tapes q ≡ true
 
 -- ---- what the judge works with
 
 -- runners of both functions with these blocks, and room for one tape of the source
-pub record IsReady (pair : Functions) (bounds : Bounds) (blocks : List MemoryBlock) (bench : Bench) : Type 0 where
+pub record IsReady (pair : RunPair) (bounds : Bounds) (blocks : List MemoryBlock) (bench : Bench) : Type 0 where
   pub source : IsRunner pair.source blocks bench.source
   pub target : IsRunner pair.target blocks bench.target
   pub candidate : length bench.candidate ≡ need_of bounds.turns pair.source
 
 -- with some blocks
-pub record IsBench (pair : Functions) (bounds : Bounds) (bench : Bench) : Type 0 where
+pub record IsBench (pair : RunPair) (bounds : Bounds) (bench : Bench) : Type 0 where
   pub blocks : List MemoryBlock
   pub ready : IsReady pair bounds blocks bench
 
 -- the verdict of a pair that is not too heavy
-pub record HasTrail (pair : Functions) (bounds : Bounds) (budget : Budget) (v : Verdict) : Type 0 where
+pub record HasTrail (pair : RunPair) (bounds : Bounds) (budget : Budget) (v : Verdict) : Type 0 where
   pub kept : Kept
   pub trail : TrailFrom pair bounds [] kept.tapes kept.points
   pub within : length kept.tapes ≤ budget.rounds

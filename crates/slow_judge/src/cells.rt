@@ -13,7 +13,7 @@ use points::{Bounds, Input, Layout, Point, next_args, next_words, zero_from};
 use std::alloc::{AllocError, Global};
 use support::{NoMemory, Sequence};
 use tv_num::Width;
-use verdicts::Pair;
+use verdicts::RunPair;
 
 fn zero_bytes(alloc: Global, count: usize) -> Result<Vec<Byte>, AllocError>
     ensures { IfOk result (λ bytes. bytes.items ≡ replicate count (Byte.Num 0)) }
@@ -62,7 +62,7 @@ fn no_bytes(alloc: Global, layout: &Layout, number: u64) -> Result<MemoryBlock, 
 }
 
 /// What the memory of the pair's inputs looks like.
-pub fn layout_of(pair: &Pair, bounds: &Bounds) -> Layout
+pub fn layout_of(pair: &RunPair, bounds: &Bounds) -> Layout
     ensures { result ≡ layout_of pair.now bounds.now }
 {
     Layout {
@@ -84,7 +84,7 @@ pub fn blocks_without_bytes(alloc: Global, layout: &Layout) -> Result<Memory, No
 }
 
 /// The first cell, which is the first of all points too.
-pub fn first(alloc: Global, pair: &Pair, bounds: &Bounds, need: usize) -> Result<Point, NoMemory>
+pub fn first(alloc: Global, pair: &RunPair, bounds: &Bounds, need: usize) -> Result<Point, NoMemory>
     requires need { need ≡ need_of bounds.now.turns pair.now.target }
     ensures cell { IfOk result (λ p. IsCell pair.now bounds.now p) }
     ensures place { IfOk result (λ p. place_in pair.now bounds.now p ≡ 0) }
@@ -102,7 +102,7 @@ pub fn first(alloc: Global, pair: &Pair, bounds: &Bounds, need: usize) -> Result
 }
 
 /// Replaces a cell by the next one. It answers false exactly at the last, which then stays.
-pub fn next_cell(pair: &Pair, bounds: &Bounds, width: Width, point: &mut Point) -> bool
+pub fn next_cell(pair: &RunPair, bounds: &Bounds, width: Width, point: &mut Point) -> bool
     requires integers { AreIntegers pair.now.target.parameters }
     requires small { AreSmall bounds.now }
     requires width { width.bits ≡ widest_choice pair.now.target }

@@ -10,11 +10,11 @@ use byte_block::Memory;
 use choice_interp::{Ending, Runner, is_plain, run_again, runs_refine};
 use points::{Bounds, Point};
 use support::{NoMemory, Sequence};
-use verdicts::Pair;
+use verdicts::RunPair;
 
 /// How the target's run on the point ends.
 fn run_target(
-    pair: &Pair,
+    pair: &RunPair,
     bounds: &Bounds,
     point: &Point,
     bench: &mut Bench,
@@ -39,7 +39,7 @@ fn run_target(
 /// and left this memory.
 #[tactic(auto, using(crate::proofs::Covering::covers_at))]
 fn allows(
-    pair: &Pair,
+    pair: &RunPair,
     bounds: &Bounds,
     point: &Point,
     tape: &[u64],
@@ -59,7 +59,7 @@ fn allows(
 
 /// Whether one of the tapes covers the point, on which the target's run ended so.
 fn some_allows(
-    pair: &Pair,
+    pair: &RunPair,
     bounds: &Bounds,
     point: &Point,
     tapes: &[Sequence<u64>],
@@ -125,7 +125,7 @@ fn shift_into(words: &mut Sequence<u64>, tape: &[u64], shift: Shift)
 
 /// Whether the target's tape, shifted so, covers the point, on which the target's run ended so.
 fn shift_allows(
-    pair: &Pair,
+    pair: &RunPair,
     bounds: &Bounds,
     point: &Point,
     target: Ending,
@@ -154,7 +154,7 @@ fn shift_allows(
 
 /// Whether the target's tape, as it is or shifted by one or two positions, covers the point.
 fn some_shift_allows(
-    pair: &Pair,
+    pair: &RunPair,
     bounds: &Bounds,
     point: &Point,
     target: Ending,
@@ -185,7 +185,7 @@ fn some_shift_allows(
 
 /// Whether the source covers the point with the tape.
 pub fn is_cover(
-    pair: &Pair,
+    pair: &RunPair,
     bounds: &Bounds,
     point: &Point,
     tape: &[u64],
@@ -211,7 +211,7 @@ pub fn is_cover(
 
 /// Whether the point's tape is plain and neither a shift nor one of the tapes covers the point.
 pub fn is_uncovered(
-    pair: &Pair,
+    pair: &RunPair,
     bounds: &Bounds,
     tapes: &[Sequence<u64>],
     point: &Point,

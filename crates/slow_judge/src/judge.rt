@@ -15,9 +15,9 @@ use pair_costs::{need, weight, widest_of};
 use points::{Bounds, Budget};
 use std::alloc::Global;
 use support::{NoMemory, Sequence};
-use verdicts::{Cause, Pair, Verdict};
+use verdicts::{Cause, Pair, RunPair, Verdict};
 
-fn bench_for(alloc: Global, pair: &Pair, bounds: &Bounds, need: usize) -> Result<Bench, NoMemory>
+fn bench_for(alloc: Global, pair: &RunPair, bounds: &Bounds, need: usize) -> Result<Bench, NoMemory>
     requires { need ≡ need_of bounds.now.turns pair.now.source }
     ensures { IfOk result (IsReady pair.now bounds.now (empty_blocks (layout_of pair.now bounds.now))) }
 {
@@ -32,7 +32,7 @@ fn bench_for(alloc: Global, pair: &Pair, bounds: &Bounds, need: usize) -> Result
 /// The verdict on a pair that is not too heavy.
 fn grow(
     alloc: Global,
-    pair: &Pair,
+    pair: &RunPair,
     bounds: &Bounds,
     budget: &Budget,
     of_source: Tape,
@@ -88,14 +88,15 @@ pub fn slow(
     if budget.weight < weight(pair, bounds)? {
         return Ok(Verdict::Unknown(Cause::Weight));
     }
+    let run = pair.run_pair();
     let of_source = Tape {
-        words: need(pair.source(), bounds.turns)? as usize,
-        width: widest_of(pair.source()),
+        words: need(run.source(), bounds.turns)? as usize,
+        width: widest_of(run.source()),
     };
     let of_target = Tape {
-        words: need(pair.target(), bounds.turns)? as usize,
-        width: widest_of(pair.target()),
+        words: need(run.target(), bounds.turns)? as usize,
+        width: widest_of(run.target()),
     };
-    let verdict = grow(alloc, pair, bounds, budget, of_source, of_target)?;
+    let verdict = grow(alloc, &run, bounds, budget, of_source, of_target)?;
     Ok(verdict)
 }

@@ -5,7 +5,7 @@ ghost use Rattle.ir_tree.specs.Pointers.{IsInteger, AreIntegers, IsIntegerOrVoid
 ghost use Rattle.slow_judge.specs.Search.{HaveNoPointers};
 
 use ir_tree::{Block, Function, Inst, IrType, Parameter, Phi, Terminator, TypedOperand};
-use verdicts::Pair;
+use verdicts::RunPair;
 
 fn is_integer(of_type: IrType) -> bool
     ensures { IsTrue result ↔ IsInteger of_type }
@@ -114,7 +114,7 @@ fn has_no_pointers(f: &Function) -> bool
 }
 
 /// Whether neither function of the pair has pointers or uses memory.
-pub fn have_no_pointers(pair: &Pair) -> bool
+pub fn have_no_pointers(pair: &RunPair) -> bool
     ensures { IsTrue result ↔ HaveNoPointers pair.now }
 {
     has_no_pointers(pair.source()) && has_no_pointers(pair.target())

@@ -1,7 +1,7 @@
 ghost use Rattle.std.specs.Prelude.{◌≡◌, MatchOption, IfOk, OnOk, IfSome, List};
 ghost use Rattle.byte_block.specs.declared.block.MemoryBlock.{MemoryBlock};
 ghost use Rattle.points.specs.Code.{IsOfShape};
-ghost use Rattle.verdicts.specs.Pair.{Functions};
+ghost use Rattle.verdicts.specs.Pair.{RunPair};
 ghost use Rattle.points.specs.Tapes.{need_of, widest_choice};
 ghost use Rattle.verdicts.specs.Trail.{IsLeastUncovered, AreAllCovered};
 ghost use Rattle.verdicts.specs.Covers.{IsLeastCover, HasNoCover};
@@ -19,7 +19,7 @@ use points::{Bounds, Point, Shape, next, next_words};
 use std::alloc::Global;
 use support::{NoMemory, Sequence};
 use tv_num::Width;
-use verdicts::Pair;
+use verdicts::RunPair;
 
 /// How many words a function needs, and how wide its widest choice is.
 #[derive(Clone, Copy, Debug, PartialEq, Eq)]
@@ -29,7 +29,7 @@ pub struct Tape {
 }
 
 fn give(bench: &mut Bench, blocks: &Memory) -> Result<(), NoMemory>
-    ensures { OnOk result ((pair : Functions) (bounds : Limits) → IsBench pair bounds bench.old → IsReady pair bounds blocks.now bench.new) }
+    ensures { OnOk result ((pair : RunPair) (bounds : Limits) → IsBench pair bounds bench.old → IsReady pair bounds blocks.now bench.new) }
 {
     give_blocks(&mut bench.source, blocks)?;
     give_blocks(&mut bench.target, blocks)?;
@@ -37,7 +37,7 @@ fn give(bench: &mut Bench, blocks: &Memory) -> Result<(), NoMemory>
 }
 
 /// What the points of the pair look like.
-fn shape_of(alloc: Global, pair: &Pair, bounds: &Bounds, of_target: Tape) -> Result<Shape, NoMemory>
+fn shape_of(alloc: Global, pair: &RunPair, bounds: &Bounds, of_target: Tape) -> Result<Shape, NoMemory>
     requires words { of_target.words ≡ need_of bounds.now.turns pair.now.target }
     requires width { of_target.width.bits ≡ widest_choice pair.now.target }
     ensures { IfOk result (IsShapeOf pair.now bounds.now) }
@@ -54,7 +54,7 @@ fn shape_of(alloc: Global, pair: &Pair, bounds: &Bounds, of_target: Tape) -> Res
 /// The least cell that neither a shift nor one of the tapes covers.
 fn least_cell(
     alloc: Global,
-    pair: &Pair,
+    pair: &RunPair,
     bounds: &Bounds,
     of_target: Tape,
     tapes: &[Sequence<u64>],
@@ -86,7 +86,7 @@ fn least_cell(
 /// The least of all points that neither a shift nor one of the tapes covers.
 fn least_point(
     alloc: Global,
-    pair: &Pair,
+    pair: &RunPair,
     bounds: &Bounds,
     of_target: Tape,
     tapes: &[Sequence<u64>],
@@ -119,7 +119,7 @@ fn least_point(
 /// with empty blocks decide, and the others are passed over.
 pub fn least_uncovered(
     alloc: Global,
-    pair: &Pair,
+    pair: &RunPair,
     bounds: &Bounds,
     of_target: Tape,
     tapes: &[Sequence<u64>],
@@ -146,7 +146,7 @@ pub fn least_uncovered(
 /// The least tape with which the source covers the point.
 pub fn least_cover(
     alloc: Global,
-    pair: &Pair,
+    pair: &RunPair,
     bounds: &Bounds,
     of_source: Tape,
     point: &Point,

@@ -7,7 +7,7 @@ use Rattle.points.specs.declared.point.Budget.{Budget}
 use Rattle.points.specs.declared.point.Input.{Input}
 use Rattle.points.specs.declared.point.Point.{Point}
 use Rattle.verdicts.specs.declared.verdict.Verdict.TheVariants.{Correct, Incorrect}
-use Rattle.verdicts.specs.Pair.{Functions}
+use Rattle.verdicts.specs.Pair.{RunPair, run_pair}
 use Rattle.points.specs.Refines.{is_refined}
 use Rattle.points.specs.Code.{WordsFit, number_of}
 use Rattle.points.specs.Run.{Run, run_of}
@@ -22,16 +22,16 @@ use Rattle.points.proofs.Widest.{widest_small, widen}
 
 -- ---- covers and plain forms
 
-covers_by_run : (pair : Functions) (bounds : Bounds) (p : Point) (tape other : List ℕ) → run_of pair.source bounds p.input other ≡ run_of pair.source bounds p.input tape → covers pair bounds p other ≡ covers pair bounds p tape
+covers_by_run : (pair : RunPair) (bounds : Bounds) (p : Point) (tape other : List ℕ) → run_of pair.source bounds p.input other ≡ run_of pair.source bounds p.input tape → covers pair bounds p other ≡ covers pair bounds p tape
 unfolding covers
 covers_by_run pair bounds p tape other e = ap (λ (run : Run). is_refined run.outcome (run_of pair.target bounds p.input p.tape).outcome) e
 
 -- the plain form covers where the tape does
-pub plain_covers : (pair : Functions) (bounds : Bounds) (p : Point) (tape : List ℕ) → covers pair bounds p (plain_form (need_of bounds.turns pair.source) (run_of pair.source bounds p.input tape).taken) ≡ covers pair bounds p tape
+pub plain_covers : (pair : RunPair) (bounds : Bounds) (p : Point) (tape : List ℕ) → covers pair bounds p (plain_form (need_of bounds.turns pair.source) (run_of pair.source bounds p.input tape).taken) ≡ covers pair bounds p tape
 plain_covers pair bounds p tape = covers_by_run pair bounds p tape (plain_form (need_of bounds.turns pair.source) (run_of pair.source bounds p.input tape).taken) (tapes_have_plain_forms pair.source bounds p.input tape).same
 
 -- where some tape of a list covers, there is one
-covering_tape : (pair : Functions) (bounds : Bounds) (p : Point) (tapes : List (List ℕ)) → some_covers pair bounds p tapes ≡ true → IsAllowed pair bounds p.input p.tape
+covering_tape : (pair : RunPair) (bounds : Bounds) (p : Point) (tapes : List (List ℕ)) → some_covers pair bounds p tapes ≡ true → IsAllowed pair bounds p.input p.tape
 unfolding some_covers covers
 covering_tape pair bounds p [] h = absurd (cc)
 covering_tape pair bounds p (tape ∷ tapes) h =
@@ -40,11 +40,11 @@ covering_tape pair bounds p (tape ∷ tapes) h =
       | inr later ↦ covering_tape pair bounds p tapes later
     ]
 
-pub covered_is_allowed : (pair : Functions) (bounds : Bounds) (tapes : List (List ℕ)) (p : Point) → is_covered pair bounds tapes p ≡ true → IsAllowed pair bounds p.input p.tape
+pub covered_is_allowed : (pair : RunPair) (bounds : Bounds) (tapes : List (List ℕ)) (p : Point) → is_covered pair bounds tapes p ≡ true → IsAllowed pair bounds p.input p.tape
 covered_is_allowed pair bounds tapes p h = covering_tape pair bounds p (shifted (need_of bounds.turns pair.source) p.tape ++ tapes) h
 
 -- the plain form of the target's tape is a point
-plain_point : (pair : Functions) (bounds : Bounds) (input : Input) (tape : List ℕ) → IsWithin pair bounds input → HasPlainForm pair.target bounds input tape → IsPoint pair bounds (record { input = input; tape = plain_form (need_of bounds.turns pair.target) (run_of pair.target bounds input tape).taken })
+plain_point : (pair : RunPair) (bounds : Bounds) (input : Input) (tape : List ℕ) → IsWithin pair bounds input → HasPlainForm pair.target bounds input tape → IsPoint pair bounds (record { input = input; tape = plain_form (need_of bounds.turns pair.target) (run_of pair.target bounds input tape).taken })
 plain_point pair bounds input tape fits form = record {
   args = fits.args;
   given = fits.given;
@@ -52,7 +52,7 @@ plain_point pair bounds input tape fits form = record {
   plain = rw form.same form.plain;
 }
 
-allowed_same : (pair : Functions) (bounds : Bounds) (input : Input) (tape other : List ℕ) → run_of pair.target bounds input other ≡ run_of pair.target bounds input tape → IsAllowed pair bounds input other → IsAllowed pair bounds input tape
+allowed_same : (pair : RunPair) (bounds : Bounds) (input : Input) (tape other : List ℕ) → run_of pair.target bounds input other ≡ run_of pair.target bounds input tape → IsAllowed pair bounds input other → IsAllowed pair bounds input tape
 allowed_same pair bounds input tape other e a = record { source_tape = a.source_tape; refined = (let r = a.refined in rw e at r) }
 
 -- ---- the least cover
@@ -77,15 +77,15 @@ least_covers_are_plain = λ pair bounds p tape least.
 
 -- ---- what a trail ends in
 
-pub ends_correct : (pair : Functions) (bounds : Bounds) (budget : Budget) (tapes : List (List ℕ)) (o : Option Point) → Ends pair bounds budget tapes o Correct → AreAllCovered pair bounds tapes
+pub ends_correct : (pair : RunPair) (bounds : Bounds) (budget : Budget) (tapes : List (List ℕ)) (o : Option Point) → Ends pair bounds budget tapes o Correct → AreAllCovered pair bounds tapes
 ends_correct pair bounds budget tapes None h = h
 ends_correct pair bounds budget tapes (Some p) h = absurd h
 
-pub record IsOpen (pair : Functions) (bounds : Bounds) (o : Option Point) (q : Point) : Type 0 where
+pub record IsOpen (pair : RunPair) (bounds : Bounds) (o : Option Point) (q : Point) : Type 0 where
   pub is : o ≡ Some q
   pub none : HasNoCover pair bounds q
 
-pub ends_incorrect : (pair : Functions) (bounds : Bounds) (budget : Budget) (tapes : List (List ℕ)) (o : Option Point) (q : Point) → Ends pair bounds budget tapes o (Incorrect q) → IsOpen pair bounds o q
+pub ends_incorrect : (pair : RunPair) (bounds : Bounds) (budget : Budget) (tapes : List (List ℕ)) (o : Option Point) (q : Point) → Ends pair bounds budget tapes o (Incorrect q) → IsOpen pair bounds o q
 ends_incorrect pair bounds budget tapes None q h = absurd h
 ends_incorrect pair bounds budget tapes (Some p) q h = record { is = ap Some (sym h.0); none = rw h.0 h.1 }
 
@@ -93,7 +93,7 @@ pub cons_after : (before : List (List ℕ)) (t : List ℕ) (ts : List (List ℕ)
 cons_after before t ts = sym (append_assoc before (t ∷ []) ts)
 
 -- the open point is the least that the tapes leave
-pub open_is_least : (pair : Functions) (bounds : Bounds) (before tapes : List (List ℕ)) (points : List Point) (p : Point) → TrailFrom pair bounds before tapes points → slice_get points (length tapes) ≡ Some p → IsLeastUncovered pair bounds (before ++ tapes) p
+pub open_is_least : (pair : RunPair) (bounds : Bounds) (before tapes : List (List ℕ)) (points : List Point) (p : Point) → TrailFrom pair bounds before tapes points → slice_get points (length tapes) ≡ Some p → IsLeastUncovered pair bounds (before ++ tapes) p
 open_is_least pair bounds before [] [] p trail e = absurd (cc)
 open_is_least pair bounds before [] (q ∷ []) p trail e = let same : q ≡ p = cc in rw append-nil (rw (← same) trail)
 open_is_least pair bounds before [] (q ∷ (r ∷ rs)) p trail e = absurd trail
@@ -103,7 +103,8 @@ open_is_least pair bounds before (t ∷ ts) [] p trail e = absurd trail
 -- ---- the two laws
 
 pub correct_holds : CorrectHolds
-correct_holds = λ pair bounds budget verdict. λ input tape within.
+correct_holds = λ functions bounds budget verdict. λ input tape within.
+    let pair : RunPair = run_pair functions in
     let all = ends_correct pair bounds budget verdict.kept.tapes (slice_get verdict.kept.points (length verdict.kept.tapes)) verdict.judges.ends in
     let form = tapes_have_plain_forms pair.target bounds input tape in
     let plain = plain_form (need_of bounds.turns pair.target) (run_of pair.target bounds input tape).taken in
@@ -111,7 +112,8 @@ correct_holds = λ pair bounds budget verdict. λ input tape within.
     allowed_same pair bounds input tape plain form.same (covered_is_allowed pair bounds verdict.kept.tapes p (all p (plain_point pair bounds input tape within form)))
 
 pub incorrect_fails : IncorrectFails
-incorrect_fails = λ pair bounds budget p verdict.
+incorrect_fails = λ functions bounds budget p verdict.
+    let pair : RunPair = run_pair functions in
     let opened = ends_incorrect pair bounds budget verdict.kept.tapes (slice_get verdict.kept.points (length verdict.kept.tapes)) p verdict.judges.ends in
     let last : IsLeastUncovered pair bounds verdict.kept.tapes p = open_is_least pair bounds [] verdict.kept.tapes verdict.kept.points p verdict.judges.trail opened.is in
     record {

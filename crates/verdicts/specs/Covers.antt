@@ -3,17 +3,17 @@ use Rattle.std.specs.Prelude.{◌≡◌, ℕ, ◌+◌, ◌-◌, ◌<◌, nat_lt,
 use Rattle.std.specs.List.{range_with_len}
 use Rattle.points.specs.declared.point.Bounds.{Bounds}
 use Rattle.points.specs.declared.point.Point.{Point}
-use Rattle.verdicts.specs.Pair.{Functions}
+use Rattle.verdicts.specs.Pair.{RunPair}
 use Rattle.points.specs.Code.{number_of, WordsFit}
 use Rattle.points.specs.Refines.{is_refined}
 use Rattle.points.specs.Run.{run_of}
 use Rattle.points.specs.Tapes.{need_of}
 
 -- the source's run on this tape allows the target's run on the point
-unfoldable pub covers : Functions → Bounds → Point → List ℕ → Bool
+unfoldable pub covers : RunPair → Bounds → Point → List ℕ → Bool
 covers pair bounds p tape = is_refined (run_of pair.source bounds p.input tape).outcome (run_of pair.target bounds p.input p.tape).outcome
 
-unfoldable pub some_covers : Functions → Bounds → Point → List (List ℕ) → Bool
+unfoldable pub some_covers : RunPair → Bounds → Point → List (List ℕ) → Bool
 some_covers pair bounds p [] = false
 some_covers pair bounds p (tape ∷ tapes) = covers pair bounds p tape || some_covers pair bounds p tapes
 
@@ -39,16 +39,16 @@ abbrev pub shifted : ℕ → List ℕ → List (List ℕ)
 shifted need tape = map (words_of need) (shifts tape)
 
 -- a shift of the point's tape or one of these tapes covers the point
-abbrev pub is_covered : Functions → Bounds → List (List ℕ) → Point → Bool
+abbrev pub is_covered : RunPair → Bounds → List (List ℕ) → Point → Bool
 is_covered pair bounds tapes p = some_covers pair bounds p (shifted (need_of bounds.turns pair.source) p.tape ++ tapes)
 
 -- ---- the least cover
 
 -- of all tapes of as many words as the source needs, each below 2 ^ 64, the least that covers the point
-pub record IsLeastCover (pair : Functions) (bounds : Bounds) (p : Point) (tape : List ℕ) : Type 0 where
+pub record IsLeastCover (pair : RunPair) (bounds : Bounds) (p : Point) (tape : List ℕ) : Type 0 where
   pub fits : WordsFit 64 (need_of bounds.turns pair.source) tape
   pub cover : covers pair bounds p tape ≡ true
   pub least : (other : List ℕ) → WordsFit 64 (need_of bounds.turns pair.source) other → number_of other < number_of tape → covers pair bounds p other ≡ false
 
-abbrev pub HasNoCover : Functions → Bounds → Point → Type 0
+abbrev pub HasNoCover : RunPair → Bounds → Point → Type 0
 HasNoCover pair bounds p = (tape : List ℕ) → WordsFit 64 (need_of bounds.turns pair.source) tape → covers pair bounds p tape ≡ false

@@ -7,13 +7,22 @@ use Rattle.ir_tree.specs.Sites.{is_same_type}
 use Rattle.points.specs.declared.point.Bounds.{Bounds}
 use Rattle.points.specs.declared.point.Layout.{Layout}
 
--- the function before the optimisation, and the one after it
+-- the pair as it is read, of which signatures, weights and rows speak: the function before the optimisation, and the one after it
 pub record Functions : Type 0 where
   pub source : Function
   pub target : Function
 
+-- the pair as it is run, of which runs, points, covers and trails speak
+pub record RunPair : Type 0 where
+  pub source : Function
+  pub target : Function
+
+-- both functions are run as they are read
+abbrev pub run_pair : Functions → RunPair
+run_pair pair = record { source = pair.source; target = pair.target }
+
 -- what the memory of the pair's inputs looks like
-abbrev pub layout_of : Functions → Bounds → Layout
+abbrev pub layout_of : RunPair → Bounds → Layout
 layout_of pair bounds = record { blocks = bounds.blocks; bytes = bounds.bytes }
 
 abbrev pub same_return : Option IrType → Option IrType → Bool

@@ -10,5 +10,5 @@ mod pair;
 mod verdict;
 
 pub use laws::{correct_holds, incorrect_fails, least_covers_are_plain, verdicts_are_one};
-pub use pair::{Pair, has_same_signature};
+pub use pair::{Pair, RunPair, has_same_signature};
 pub use verdict::{Cause, Kept, Shown, Verdict};
