@@ -1,5 +1,5 @@
 -- Sizes of functions that may be run or are within the limits.
-use Rattle.std.proofs.Common.{◌≡◌, ℕ, suc, ◌%◌, ◌/◌, All, Option, Some, None, ◌+◌, ◌*◌, ◌^◌, ◌<◌, ◌≤◌, max, List, [], ◌∷◌, length, drop, get_or, sum_by, refl, ap, ◌∙◌, arith, length-append}
+use Rattle.std.proofs.Common.{◌≡◌, ℕ, suc, ◌%◌, ◌/◌, All, ◌+◌, ◌*◌, ◌^◌, ◌<◌, ◌≤◌, max, List, [], ◌∷◌, length, drop, get_or, sum_by, refl, ap, ◌∙◌, arith, length-append}
 use Rattle.std.specs.List.{flat_map}
 use Rattle.std.proofs.lemmas.List.{drop_more}
 use Rattle.std.proofs.lemmas.List.Sums.{sum_by-cons}
@@ -24,9 +24,8 @@ use Rattle.ir_tree.specs.declared.tree.MemoryType.{MemoryType}
 use Rattle.ir_tree.specs.Types.{store_size, object_size}
 use Rattle.ir_tree.specs.Limits.{IsWithinLimits, instructions_of, cases_in, HasFewCases, HasFewEntries, HasSmallTypes, HasSmallObjects}
 use Rattle.points.specs.declared.point.Bounds.{Bounds}
-use Rattle.points.specs.Run.{undef_type}
 use Rattle.points.specs.Runnable.{IsRunnable}
-use Rattle.points.specs.Tapes.{word_widths, inst_widths, widths_of, end_widths, block_widths, choice_widths, widest}
+use Rattle.points.specs.Tapes.{inst_widths, end_widths, block_widths, choice_widths, widest}
 use Rattle.verdicts.specs.Weight.{type_width, op_cost, made_bytes, made_in, inst_cost, phi_cost, end_cost, block_cost}
 use Rattle.points.proofs.Plain.{widest-append}
 use Rattle.pair_costs.specs.Small.{AreSmall}
