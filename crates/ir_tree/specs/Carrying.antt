@@ -65,8 +65,8 @@ unfoldable pub leaves_within : ℕ → List Inst → Operand → ℕ
 leaves_within zero insts o = 0
 leaves_within (suc n) insts o = leaves_by insts (leaves_within n insts) o
 
--- How many leaves an operand has, from 0 to 65, which is more than 64. By then no count rises: each
--- step but the last raises that of some instruction.
+-- How many leaves an operand has; 65 says more than 64. After these steps no count rises any more:
+-- while one does, so does that of some instruction, and each of those rises at most 65 times.
 unfoldable pub leaf_count : Function → Operand → ℕ
 leaf_count f o = leaves_within (66 * (length (insts_of f) + 1)) (insts_of f) o
 

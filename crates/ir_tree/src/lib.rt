@@ -4,8 +4,8 @@
 //! stated here, with their test, and what is required of a function besides its spelling
 //! (`specs/WellFormed.antt`), with the list of what it is required of: the function's sites
 //! (`sites_of`), and where its blocks lead (`targets_of`, `successors`). It uses `block_paths`,
-//! `tv_num` and `text_places`; the reader makes trees, `ir_check` and `assigned_names` test them, and
-//! whatever runs or prints a function takes them.
+//! `tv_num` and `text_places`; the reader makes trees, `ir_check`, `assigned_names` and `undef_uses`
+//! test them, and whatever runs or prints a function takes them.
 #![tactic(auto)]
 
 mod definitions;
@@ -20,7 +20,7 @@ mod tree;
 
 pub use definitions::{are_numbered, first_definitions, is_defined_before};
 pub use flow::{BlockIndex, successors, targets_of};
-pub use laws::is_one_refusal;
+pub use laws::{are_least_counts, is_one_refusal};
 pub use limits::{indexed_size, is_within_limits, type_size};
 pub use module::{CheckFault, Entry, Module, Reason, Refused};
 pub use name::Name;
