@@ -2,6 +2,7 @@ pub mod Definers
 pub mod Failures
 pub mod Firsts
 pub mod Indexing
+pub mod Leaves
 pub mod Listing
 pub mod Refusals
 pub mod Sizes

@@ -8,5 +8,6 @@ pub mod Flow
 pub mod BlockIndexes
 pub mod Sites
 pub mod SiteLists
+pub mod Carrying
 pub mod WellFormed
 pub mod Definitions

@@ -18,12 +18,13 @@ use Rattle.ir_tree.specs.declared.sites.Part.TheVariants as part
 use Rattle.ir_tree.specs.declared.sites.Site.{Site}
 use Rattle.ir_tree.specs.declared.sites.Site.TheVariants.{Defines, Uses, Enters, Written}
 use Rattle.ir_tree.specs.declared.module.Reason.{Reason}
-use Rattle.ir_tree.specs.declared.module.Reason.TheVariants.{Syntax, Unsupported, Limit, NameTwice, NameUnknown, TypeClash, PhiEdges, Unassigned}
+use Rattle.ir_tree.specs.declared.module.Reason.TheVariants.{Syntax, Unsupported, Limit, NameTwice, NameUnknown, TypeClash, PhiEdges, Unassigned, UndefUse}
 use Rattle.ir_tree.specs.declared.module.Refused.{Refused}
 use Rattle.ir_tree.specs.declared.module.CheckFault.{CheckFault}
 use Rattle.ir_tree.specs.declared.module.CheckFault.TheVariants as fault
 use Rattle.ir_tree.specs.Sites.{sites, parts, is_same_type, same_number, place_of}
 use Rattle.ir_tree.specs.Flow.{IsPredecessor, successors, assigned_with, assigns}
+use Rattle.ir_tree.specs.Carrying.{UsesUndef}
 
 -- ---- names
 
@@ -184,6 +185,7 @@ FailsBy NameUnknown f n = UsesUnknown (sites f) n
 FailsBy TypeClash f n = ClashesType (sites f) n
 FailsBy PhiEdges f n = HasWrongEdge f n
 FailsBy Unassigned f n = UsesUnassigned f n
+FailsBy UndefUse f n = UsesUndef f n
 
 -- the reason holds nowhere
 abbrev pub Passes : Reason → Function → Type 0
@@ -202,6 +204,7 @@ pub record IsWellFormed (f : Function) : Type 0 where
   pub types : Passes TypeClash f
   pub edges : Passes PhiEdges f
   pub assigned : Passes Unassigned f
+  pub undef : Passes UndefUse f
 
 -- the reasons before it pass, and this is its first site
 abbrev pub IsTestedAs : Reason → Function → ℕ → Type 0
@@ -213,6 +216,7 @@ IsTestedAs NameUnknown f n = Passes NameTwice f × IsFirstSite NameUnknown f n
 IsTestedAs TypeClash f n = PassesNames f × IsFirstSite TypeClash f n
 IsTestedAs PhiEdges f n = PassesNames f × Passes TypeClash f × IsFirstSite PhiEdges f n
 IsTestedAs Unassigned f n = PassesNames f × Passes TypeClash f × Passes PhiEdges f × IsFirstSite Unassigned f n
+IsTestedAs UndefUse f n = PassesNames f × Passes TypeClash f × Passes PhiEdges f × Passes Unassigned f × IsFirstSite UndefUse f n
 
 -- ---- what is reported
 

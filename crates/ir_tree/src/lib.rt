@@ -19,7 +19,7 @@ mod tree;
 
 pub use definitions::{are_numbered, first_definitions, is_defined_before};
 pub use flow::{BlockIndex, result_of, successors, targets_of};
-pub use laws::is_one_refusal;
+pub use laws::{are_least_counts, is_one_refusal};
 pub use limits::{indexed_size, is_within_limits, store_size, type_align};
 pub use module::{CheckFault, Entry, Module, Reason, Refused};
 pub use name::{Name, copy_name};

@@ -34,6 +34,9 @@ pub enum Reason {
     /// A use that some path reaches without a definition.
     #[error("some path reaches a use before the definition")]
     Unassigned,
+    /// A use of a name that carries undef, where none may, or a name that carries too many.
+    #[error("a name that carries undef is used where none may be, or carries too many")]
+    UndefUse,
 }
 
 /// A refusal, with the line and the column, both from 1, of what it is about.
