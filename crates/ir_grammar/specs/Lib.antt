@@ -5,3 +5,4 @@ pub mod Spelling
 pub mod Classes
 pub mod Instructions
 pub mod Grammar
+pub mod All

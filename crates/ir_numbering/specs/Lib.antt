@@ -5,3 +5,4 @@ pub mod Numbering
 pub mod Mentions
 pub mod Laws
 pub mod Answer
+pub mod All

@@ -2,3 +2,4 @@ pub mod Pieces
 pub mod Instructions
 pub mod ModuleText
 pub mod Made
+pub mod All

@@ -11,3 +11,4 @@ pub mod SiteLists
 pub mod Carrying
 pub mod WellFormed
 pub mod Definitions
+pub mod All

@@ -2,3 +2,4 @@ pub mod Values
 pub mod Inputs
 pub mod Memory
 pub mod Outcomes
+pub mod All

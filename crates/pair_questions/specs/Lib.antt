@@ -8,3 +8,4 @@ pub mod Questions
 pub mod Shapes
 pub mod Subjects
 pub mod Tapes
+pub mod All

@@ -9,3 +9,4 @@ pub mod Run
 pub mod Runnable
 pub mod Table
 pub mod Tapes
+pub mod All

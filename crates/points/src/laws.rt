@@ -1,5 +1,4 @@
-ghost use Rattle.points.specs.Laws.{NumbersCompareFromFront, PlacesTellPoints, CodesTellPoints};
-ghost use Rattle.points.specs.Tapes.{TapesHavePlainForms};
+ghost use Rattle.points.specs.All.{NumbersCompareFromFront, PlacesTellPoints, CodesTellPoints, TapesHavePlainForms};
 
 /// Codes are compared lexicographically: of two lists of the same length the one with the smaller
 /// number at the first index where they differ comes first.

@@ -1,3 +1,4 @@
 pub mod Status
 pub mod Text
 pub mod Rows
+pub mod All

@@ -1,8 +1,7 @@
 //! The order of points by their codes, on three small shapes: which code comes after which.
 
 ghost use Rattle.std.specs.Prelude.{◌≡◌, ◌∷◌, [], replicate, IfOk};
-ghost use Rattle.points.specs.Code.{IsOfShape};
-ghost use Rattle.points.specs.Codes.{IsCode};
+ghost use Rattle.points.specs.All.{IsOfShape, IsCode};
 
 use crate::expecting::expect;
 use ir_tree::{IrType, Parameter};

@@ -6,3 +6,4 @@ pub mod Plain
 pub mod Answer
 pub mod Spelled
 pub mod Laws
+pub mod All

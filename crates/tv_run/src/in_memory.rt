@@ -1,9 +1,6 @@
 ghost use Rattle.std.specs.Prelude.{◌≡◌, ◌≤◌, IfOk};
 ghost use Rattle.tv_io.specs.MemoryShelf.{files_of};
-ghost use Rattle.tv_run.specs.Answers.{FitsIn};
-ghost use Rattle.tv_run.specs.Jobs.{OfCheck, job_in};
-ghost use Rattle.tv_run.specs.Reports.{IsTheDefinedReport};
-ghost use Rattle.tv_run.specs.Sound.{SaysRefinement};
+ghost use Rattle.tv_run.specs.All.{FitsIn, OfCheck, job_in, IsTheDefinedReport, SaysRefinement};
 
 use crate::top::run;
 use pair_driver::{Judged, OpenGate};

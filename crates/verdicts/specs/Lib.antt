@@ -4,3 +4,4 @@ pub mod Pair
 pub mod Shown
 pub mod Trail
 pub mod Weight
+pub mod All
