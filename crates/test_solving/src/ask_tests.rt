@@ -99,7 +99,7 @@ fn is_refuted(rt: &(impl Threads + Sync), alloc: Global, asked: &Asked) -> bool 
 }
 
 /// Whether this limit of learned clauses is spent.
-fn is_spent(asked: &Asked, limit: usize) -> bool {
+pub fn is_spent(asked: &Asked, limit: usize) -> bool {
     match asked {
         Asked::Spent(cert) => cert.log.len() == limit,
         Asked::None(_) | Asked::Least(_) => false,

@@ -37,6 +37,8 @@ mod memory_outcome_tests;
 #[cfg(test)]
 mod order_tests;
 #[cfg(test)]
+mod pigeon_tests;
+#[cfg(test)]
 mod refine_tests;
 #[cfg(test)]
 mod renumber_tests;
