@@ -10,7 +10,10 @@ use Rattle.bv_terms.specs.Tree.{width_of}
 use Rattle.bv_terms.specs.Trees.{IsTerm, Keeps, Makes, Tests, bit_at, term_at, tree_in}
 use Rattle.memory_access.specs.Accesses.{admits, overwritten}
 use Rattle.memory_access.specs.Blocks.{block_size}
-use Rattle.mem_terms.specs.All.{SymByte, SymBlock, Reading, IsSymBlock, block_at, byte_at, places_at}
+use Rattle.mem_terms.specs.declared.bytes.SymByte.{SymByte}
+use Rattle.mem_terms.specs.declared.blocks.SymBlock.{SymBlock}
+use Rattle.mem_terms.specs.Values.{Reading}
+use Rattle.mem_terms.specs.Memory.{IsSymBlock, block_at, byte_at, places_at}
 use Rattle.mem_terms.proofs.Eaches.{map-length}
 use Rattle.mem_terms.proofs.Later.{bit-later, block-later, keeps_trans, term-later}
 use Rattle.mem_terms.proofs.Made.{small_mod}

@@ -14,7 +14,11 @@ use Rattle.bv_terms.specs.declared.term.TermId.{TermId}
 use Rattle.bv_terms.specs.declared.term.Term.{Term}
 use Rattle.bv_terms.specs.Tree.{truth}
 use Rattle.bv_terms.specs.Trees.{Keeps, IsTerm, Makes, bit_at, term_at}
-use Rattle.mem_terms.specs.All.{SymByte, SymValue, SymBlock, IsSymValue, Reading, value_at, value_of, AreSymBlocks, AreSymBytes, IsSymBlock, block_at, memory_at, places_at}
+use Rattle.mem_terms.specs.declared.bytes.SymByte.{SymByte}
+use Rattle.mem_terms.specs.declared.values.SymValue.{SymValue}
+use Rattle.mem_terms.specs.declared.blocks.SymBlock.{SymBlock}
+use Rattle.mem_terms.specs.Values.{IsSymValue, Reading, value_at, value_of}
+use Rattle.mem_terms.specs.Memory.{AreSymBlocks, AreSymBytes, IsSymBlock, block_at, memory_at, places_at}
 use Rattle.mem_terms.proofs.Later.{keeps_trans, bit-later, term-later, block-later, memory-later, places-later, sym_bytes-later}
 use Rattle.access_terms.specs.declared.spans.Span.{Span}
 use Rattle.access_terms.specs.Accesses.{bytes_from, loaded_at}

@@ -8,7 +8,10 @@ use Rattle.bv_terms.specs.declared.term.TermId.{TermId}
 use Rattle.bv_terms.specs.declared.term.Term.{Term}
 use Rattle.bv_terms.specs.Tree.{truth}
 use Rattle.bv_terms.specs.Trees.{Keeps, IsTerm, Makes, bit_at, term_at}
-use Rattle.mem_terms.specs.All.{SymBlock, SymByte, Reading, AreSymBlocks, AreSymBytes, IsSymBlock, block_at, memory_at, places_at}
+use Rattle.mem_terms.specs.declared.blocks.SymBlock.{SymBlock}
+use Rattle.mem_terms.specs.declared.bytes.SymByte.{SymByte}
+use Rattle.mem_terms.specs.Values.{Reading}
+use Rattle.mem_terms.specs.Memory.{AreSymBlocks, AreSymBytes, IsSymBlock, block_at, memory_at, places_at}
 use Rattle.mem_terms.proofs.Eaches.{each-at, each-push, take-push}
 use Rattle.mem_terms.proofs.Later.{keeps_trans, bit-later, term-later, block-later, memory-later, places-later, is_term-later, sym_block-later}
 use Rattle.access_terms.specs.declared.joining.Joined.{Joined}

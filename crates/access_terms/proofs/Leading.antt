@@ -12,7 +12,10 @@ use Rattle.bv_terms.specs.Tree.{extended_signed, width_of}
 use Rattle.bv_terms.specs.declared.term.TermId.{TermId}
 use Rattle.bv_terms.specs.declared.term.Term.{Term}
 use Rattle.bv_terms.specs.Trees.{AreInRange, Keeps, IsTerm, Makes, bit_at, term_at, tree_in}
-use Rattle.mem_terms.specs.All.{SymValue, SymBlock, IsSymValue, Reading, value_at, value_of, memory_at}
+use Rattle.mem_terms.specs.declared.values.SymValue.{SymValue}
+use Rattle.mem_terms.specs.declared.blocks.SymBlock.{SymBlock}
+use Rattle.mem_terms.specs.Values.{IsSymValue, Reading, value_at, value_of}
+use Rattle.mem_terms.specs.Memory.{memory_at}
 use Rattle.mem_terms.proofs.Bits.{term-below}
 use Rattle.mem_terms.proofs.Eaches.{each-weaker, map-same}
 use Rattle.mem_terms.proofs.Later.{keeps_trans, bit-later, term-later, is_term-later}

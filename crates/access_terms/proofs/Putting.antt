@@ -12,7 +12,9 @@ use Rattle.byte_block.specs.declared.value.Byte.TheVariants.{Poison}
 use Rattle.bv_terms.specs.declared.term.TermId.{TermId}
 use Rattle.bv_terms.specs.declared.term.Term.{Term}
 use Rattle.bv_terms.specs.Trees.{IsTerm, Keeps, Tests, bit_at, term_at}
-use Rattle.mem_terms.specs.All.{SymByte, Each, Reading, AreSymBytes, IsSymByte, byte_at, places_at}
+use Rattle.mem_terms.specs.declared.bytes.SymByte.{SymByte}
+use Rattle.mem_terms.specs.Values.{Each, Reading}
+use Rattle.mem_terms.specs.Memory.{AreSymBytes, IsSymByte, byte_at, places_at}
 use Rattle.mem_terms.proofs.Eaches.{each-at, map-at, map-length, map-set}
 use Rattle.mem_terms.proofs.Later.{bit-later, byte-later, places-later, term-later}
 use Rattle.access_terms.specs.Places.{written}

@@ -5,7 +5,9 @@ use Rattle.memory_access.specs.Blocks.{block_named, block_size, bytes_named, byt
 use Rattle.bv_terms.specs.declared.term.TermId.{TermId}
 use Rattle.bv_terms.specs.declared.term.Term.{Term}
 use Rattle.bv_terms.specs.Trees.{Keeps, IsTerm, Makes, bit_at, term_at}
-use Rattle.mem_terms.specs.All.{SymBlock, Reading, IsSymBlock, block_at, memory_at}
+use Rattle.mem_terms.specs.declared.blocks.SymBlock.{SymBlock}
+use Rattle.mem_terms.specs.Values.{Reading}
+use Rattle.mem_terms.specs.Memory.{IsSymBlock, block_at, memory_at}
 use Rattle.mem_terms.proofs.Later.{keeps_trans, bit-later, term-later, block-later}
 use Rattle.access_terms.proofs.Finding.{block_named-front, memory-front}
 

@@ -16,7 +16,11 @@ use Rattle.memory_access.specs.Accesses.{admits, after_store, first_changed, ove
 use Rattle.bv_terms.specs.declared.term.TermId.{TermId}
 use Rattle.bv_terms.specs.declared.term.Term.{Term}
 use Rattle.bv_terms.specs.Trees.{Keeps, IsTerm, bit_at, term_at}
-use Rattle.mem_terms.specs.All.{SymBlock, SymByte, SymValue, Each, IsSymValue, Reading, value_at, value_of, AreSymBlocks, AreSymBytes, IsSymBlock, block_at, byte_at, memory_at, places_at}
+use Rattle.mem_terms.specs.declared.blocks.SymBlock.{SymBlock}
+use Rattle.mem_terms.specs.declared.bytes.SymByte.{SymByte}
+use Rattle.mem_terms.specs.declared.values.SymValue.{SymValue}
+use Rattle.mem_terms.specs.Values.{Each, IsSymValue, Reading, value_at, value_of}
+use Rattle.mem_terms.specs.Memory.{AreSymBlocks, AreSymBytes, IsSymBlock, block_at, byte_at, memory_at, places_at}
 use Rattle.mem_terms.proofs.Eaches.{map-length}
 use Rattle.mem_terms.proofs.Later.{keeps_trans, bit-later, term-later, block-later, memory-later, places-later, value-later}
 use Rattle.access_terms.specs.declared.spans.Span.{Span}

@@ -9,7 +9,9 @@ use Rattle.memory_access.specs.Blocks.{block_bytes, names}
 use Rattle.bv_terms.specs.declared.term.TermId.{TermId}
 use Rattle.bv_terms.specs.declared.term.Term.{Term}
 use Rattle.bv_terms.specs.Trees.{IsTerm, bit_at, term_at}
-use Rattle.mem_terms.specs.All.{SymBlock, IsSymValue, Reading, value_at, block_at}
+use Rattle.mem_terms.specs.declared.blocks.SymBlock.{SymBlock}
+use Rattle.mem_terms.specs.Values.{IsSymValue, Reading, value_at}
+use Rattle.mem_terms.specs.Memory.{block_at}
 use Rattle.access_terms.specs.declared.accesses.SymLoaded.{SymLoaded}
 
 -- ---- one block

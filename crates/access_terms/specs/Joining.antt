@@ -4,7 +4,9 @@ use Rattle.byte_block.specs.declared.block.MemoryBlock.{MemoryBlock}
 use Rattle.bv_terms.specs.declared.term.TermId.{TermId}
 use Rattle.bv_terms.specs.declared.term.Term.{Term}
 use Rattle.bv_terms.specs.Trees.{bit_at}
-use Rattle.mem_terms.specs.All.{SymBlock, Each, Reading, block_at, memory_at}
+use Rattle.mem_terms.specs.declared.blocks.SymBlock.{SymBlock}
+use Rattle.mem_terms.specs.Values.{Each, Reading}
+use Rattle.mem_terms.specs.Memory.{block_at, memory_at}
 use Rattle.access_terms.specs.declared.joining.Joined.{Joined}
 use Rattle.access_terms.specs.declared.joining.Next.{Next}
 use Rattle.access_terms.specs.declared.joining.Next.TheVariants as next

@@ -7,7 +7,10 @@ use Rattle.memory_access.specs.Blocks.{block_named, bytes_named, names}
 use Rattle.memory_access.specs.Accesses.{admits}
 use Rattle.bv_terms.specs.declared.term.Term.{Term}
 use Rattle.bv_terms.specs.Trees.{IsTerm, bit_at, term_at}
-use Rattle.mem_terms.specs.All.{SymByte, SymBlock, Reading, AreSymBytes, block_at, places_at}
+use Rattle.mem_terms.specs.declared.bytes.SymByte.{SymByte}
+use Rattle.mem_terms.specs.declared.blocks.SymBlock.{SymBlock}
+use Rattle.mem_terms.specs.Values.{Reading}
+use Rattle.mem_terms.specs.Memory.{AreSymBytes, block_at, places_at}
 use Rattle.access_terms.specs.declared.spans.Span.{Span}
 
 pub record IsSpan (terms : List Term) (s : Span) : Type 0 where

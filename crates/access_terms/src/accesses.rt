@@ -3,7 +3,8 @@
 ghost use Rattle.std.specs.Prelude.{◌≡◌, ◌<◌, ◌^◌, ◌&&◌, ◌++◌, ◌∷◌, [], IfOk, OnOk, map, not, true};
 ghost use Rattle.memory_access.specs.Accesses.{after_alloca, after_store, load_result, store_result};
 ghost use Rattle.bv_terms.specs.Trees.{IsTerm, Keeps, Tests, bit_at};
-ghost use Rattle.mem_terms.specs.All.{IsNaming, IsSymValue, Reading, value_at, AreSymBlocks, memory_at};
+ghost use Rattle.mem_terms.specs.Values.{IsNaming, IsSymValue, Reading, value_at};
+ghost use Rattle.mem_terms.specs.Memory.{AreSymBlocks, memory_at};
 ghost use Rattle.access_terms.specs.Accesses.{IsSymLoaded, loaded_at, stored_at, sym_frame};
 
 use crate::spans::{Span, admits, bytes_of};

@@ -2,7 +2,8 @@
 
 ghost use Rattle.std.specs.Prelude.{◌≡◌, ◌<◌, ◌≤◌, ◌+◌, ◌&&◌, ◌++◌, ◌∷◌, [], ℕ, IfOk, OnOk, cond, false, length, true};
 ghost use Rattle.bv_terms.specs.Trees.{IsTerm, Keeps, bit_at};
-ghost use Rattle.mem_terms.specs.All.{Each, Reading, AreSymBlocks, IsSymBlock, block_at, memory_at};
+ghost use Rattle.mem_terms.specs.Values.{Each, Reading};
+ghost use Rattle.mem_terms.specs.Memory.{AreSymBlocks, IsSymBlock, block_at, memory_at};
 ghost use Rattle.access_terms.specs.Joining.{AreAbove, AreAlike, IsGrown, IsJoined, IsNext, IsUpTo, part_at};
 
 use bv_terms::{TermId, Terms};

@@ -3,7 +3,8 @@
 ghost use Rattle.std.specs.Prelude.{◌≡◌, ◌<◌, ◌&&◌, ℕ, IfOk, true, false, length};
 ghost use Rattle.memory_access.specs.Blocks.{names};
 ghost use Rattle.bv_terms.specs.Trees.{IsTerm, Keeps, bit_at, term_at};
-ghost use Rattle.mem_terms.specs.All.{IsNaming, Reading, IsSymBlock, block_at};
+ghost use Rattle.mem_terms.specs.Values.{IsNaming, Reading};
+ghost use Rattle.mem_terms.specs.Memory.{IsSymBlock, block_at};
 
 use bv_terms::{Term, TermId, Terms};
 use mem_terms::{SymBlock, both, equals, number};

@@ -5,7 +5,8 @@ ghost use Rattle.std.specs.List.{list_all, list_any};
 ghost use Rattle.tv_num.specs.Width.{wrapped};
 ghost use Rattle.memory_access.specs.Offsets.{breaks_inbounds, gep_result, is_index, is_negative, last_sum, leaves_block};
 ghost use Rattle.bv_terms.specs.Trees.{IsTerm, Keeps, Makes, Tests, bit_at, term_at};
-ghost use Rattle.mem_terms.specs.All.{IsNaming, IsSymValue, Reading, value_at, AreSymBlocks, memory_at};
+ghost use Rattle.mem_terms.specs.Values.{IsNaming, IsSymValue, Reading, value_at};
+ghost use Rattle.mem_terms.specs.Memory.{AreSymBlocks, memory_at};
 ghost use Rattle.access_terms.specs.Offsets.{AreNumbers, AreSymIndices, IsSymIndex, index_at, indices_at, passes, walked_sum};
 
 use crate::sizes::size_named;

@@ -4,7 +4,8 @@ ghost use Rattle.std.specs.Prelude.{◌≡◌, ◌<◌, ◌≤◌, ◌+◌, ◌-
 ghost use Rattle.memory_access.specs.Accesses.{admits, overwritten};
 ghost use Rattle.memory_access.specs.Blocks.{block_size};
 ghost use Rattle.bv_terms.specs.Trees.{IsTerm, Keeps, Makes, Tests, bit_at, term_at};
-ghost use Rattle.mem_terms.specs.All.{Reading, AreSymBytes, IsSymBlock, block_at, places_at};
+ghost use Rattle.mem_terms.specs.Values.{Reading};
+ghost use Rattle.mem_terms.specs.Memory.{AreSymBytes, IsSymBlock, block_at, places_at};
 ghost use Rattle.access_terms.specs.Accesses.{bytes_from, sym_frame};
 ghost use Rattle.access_terms.specs.Places.{written};
 

@@ -3,7 +3,8 @@
 ghost use Rattle.std.specs.Prelude.{◌≡◌, ◌&&◌, IfOk, cond, length};
 ghost use Rattle.memory_access.specs.Blocks.{block_size, bytes_named, names};
 ghost use Rattle.bv_terms.specs.Trees.{IsTerm, Keeps, bit_at, term_at};
-ghost use Rattle.mem_terms.specs.All.{IsNaming, Reading, AreSymBlocks, IsSymBlock, block_at, memory_at};
+ghost use Rattle.mem_terms.specs.Values.{IsNaming, Reading};
+ghost use Rattle.mem_terms.specs.Memory.{AreSymBlocks, IsSymBlock, block_at, memory_at};
 
 use crate::named::{is_named, is_never};
 use crate::places::size_of;

@@ -4,7 +4,8 @@ ghost use Rattle.std.specs.Prelude.{◌≡◌, ◌&&◌, ◌∷◌, List, IfOk, 
 ghost use Rattle.byte_block.specs.declared.block.MemoryBlock.{MemoryBlock};
 ghost use Rattle.memory_access.specs.Blocks.{names};
 ghost use Rattle.bv_terms.specs.Trees.{IsTerm, Keeps, bit_at, term_at};
-ghost use Rattle.mem_terms.specs.All.{IsNaming, Reading, AreSymBlocks, AreSymBytes, IsSymBlock, block_at, memory_at, places_at};
+ghost use Rattle.mem_terms.specs.Values.{IsNaming, Reading};
+ghost use Rattle.mem_terms.specs.Memory.{AreSymBlocks, AreSymBytes, IsSymBlock, block_at, memory_at, places_at};
 ghost use Rattle.access_terms.specs.Spans.{AreSpanBytes, IsSpan, Reads, admits_span, block_of_span, bytes_of_span, span_name};
 
 use crate::named::{is_named, is_never};

@@ -4,7 +4,8 @@ ghost use Rattle.std.specs.Prelude.{◌≡◌, ◌&&◌, IfOk, OnOk, false, leng
 ghost use Rattle.memory_access.specs.Accesses.{admits, first_changed, overwritten};
 ghost use Rattle.memory_access.specs.Blocks.{names};
 ghost use Rattle.bv_terms.specs.Trees.{IsTerm, Keeps, bit_at, term_at};
-ghost use Rattle.mem_terms.specs.All.{IsNaming, Reading, AreSymBlocks, AreSymBytes, IsSymBlock, block_at, memory_at, places_at};
+ghost use Rattle.mem_terms.specs.Values.{IsNaming, Reading};
+ghost use Rattle.mem_terms.specs.Memory.{AreSymBlocks, AreSymBytes, IsSymBlock, block_at, memory_at, places_at};
 ghost use Rattle.access_terms.specs.Accesses.{sym_frame};
 ghost use Rattle.access_terms.specs.Spans.{IsSpan, admits_span, block_of_span, is_named_by, span_name};
 

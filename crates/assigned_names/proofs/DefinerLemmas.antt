@@ -4,14 +4,26 @@ use Rattle.std.specs.List.{flat_map, position_or_len}
 use Rattle.std.proofs.lemmas.Bool.{cases_lt, cases_Bool, both_ways}
 use Rattle.std.proofs.lemmas.Bool.Decides.{nat_tests}
 use Rattle.std.proofs.lemmas.List.{length-map, drop_more}
-use Rattle.ir_tree.specs.All.{IsAssignedBefore, IsUnassignedBefore, Inst, Phi, Block, Parameter, Function, Part, Site, SiteList, AreNumbered, IsNumbered, sites, parts, assigned_with, assigns, block_of, labels, results_of, successors, targets, DefinesIn, IsFirstDefinition, Passes, PassesNames}
+use Rattle.ir_tree.specs.Paths.{IsAssignedBefore, IsUnassignedBefore}
 use Rattle.definite_assignment.specs.Sets.{AreRoomy, has}
 use Rattle.std.proofs.lemmas.List.Sums.{position_or_len_is}
 use Rattle.std.proofs.lemmas.List.Elements.{All-append, Contains-append_left, Contains-append_right, Contains-append_cases, Contains-get_or}
 use Rattle.std.proofs.lemmas.Option.{slice_get_within, slice_get-map, get_or_from_slice_get, none-some, same_Some}
+use Rattle.ir_tree.specs.declared.tree.Inst.{Inst}
+use Rattle.ir_tree.specs.declared.tree.Phi.{Phi}
+use Rattle.ir_tree.specs.declared.tree.Block.{Block}
+use Rattle.ir_tree.specs.declared.tree.Parameter.{Parameter}
+use Rattle.ir_tree.specs.declared.tree.Function.{Function}
+use Rattle.ir_tree.specs.declared.sites.Part.{Part}
 use Rattle.ir_tree.specs.declared.sites.Part.TheVariants as part
+use Rattle.ir_tree.specs.declared.sites.Site.{Site}
 use Rattle.ir_tree.specs.declared.sites.Site.TheVariants.{Defines}
+use Rattle.ir_tree.specs.declared.sites.SiteList.{SiteList}
 use Rattle.ir_tree.specs.declared.module.Reason.TheVariants.{NameTwice}
+use Rattle.ir_tree.specs.Sites.{AreNumbered, IsNumbered, sites, parts}
+use Rattle.ir_tree.specs.Flow.{assigned_with, assigns, block_of, labels, results_of, successors, targets}
+use Rattle.ir_tree.specs.Definitions.{DefinesIn, IsFirstDefinition}
+use Rattle.ir_tree.specs.WellFormed.{Passes, PassesNames}
 use Rattle.ir_tree.proofs.Definers.{all_at, made_of, makes, one_site, defines_in, defined_at, entered_at, label_of_block}
 use Rattle.assigned_names.specs.Known.{AreKnown, AreBefore, IsBehind, IsDefiner, label_of}
 

@@ -4,10 +4,17 @@ use Rattle.std.proofs.lemmas.Bool.{cases_Bool, both_ways}
 use Rattle.std.proofs.lemmas.List.{take_all}
 use Rattle.std.proofs.lemmas.Option.{slice_get_within, none-some, same_Some}
 use Rattle.definite_assignment.specs.Sets.{has}
-use Rattle.ir_tree.specs.All.{Block, Function, IrType, Part, Site, sites, parts, block_of, Passes, IsMissed, IsMissedAt, IsMissedBehind, UsesUnassigned}
+use Rattle.ir_tree.specs.declared.tree.Block.{Block}
+use Rattle.ir_tree.specs.declared.tree.Function.{Function}
+use Rattle.ir_tree.specs.declared.tree.IrType.{IrType}
+use Rattle.ir_tree.specs.declared.sites.Part.{Part}
 use Rattle.ir_tree.specs.declared.sites.Part.TheVariants as part
+use Rattle.ir_tree.specs.declared.sites.Site.{Site}
 use Rattle.ir_tree.specs.declared.sites.Site.TheVariants.{Uses, Enters}
 use Rattle.ir_tree.specs.declared.module.Reason.TheVariants.{NameTwice}
+use Rattle.ir_tree.specs.Sites.{sites, parts}
+use Rattle.ir_tree.specs.Flow.{block_of}
+use Rattle.ir_tree.specs.WellFormed.{Passes, IsMissed, IsMissedAt, IsMissedBehind, UsesUnassigned}
 use Rattle.assigned_names.specs.Known.{AreBefore}
 use Rattle.assigned_names.proofs.DefinerLemmas.{IsAssignedThere, block_of_is, has_label}
 

@@ -1,10 +1,18 @@
 -- What is known of a function while its uses are walked.
 use Rattle.std.specs.Prelude.{◌≡◌, ◌<◌, IsTrue, false, ℕ, Bool, List, length, slice_get, Option, Some, None}
-use Rattle.ir_tree.specs.All.{IsAssignedBefore, IsUnassignedBefore, Function, Part, Site, SiteList, sites, parts, successors, assigns, DefinesIn, HasFirsts, Passes}
+use Rattle.ir_tree.specs.Paths.{IsAssignedBefore, IsUnassignedBefore}
 use Rattle.definite_assignment.specs.Sets.{AreRoomy, has}
+use Rattle.ir_tree.specs.declared.tree.Function.{Function}
+use Rattle.ir_tree.specs.declared.sites.Part.{Part}
 use Rattle.ir_tree.specs.declared.sites.Part.TheVariants.{Header, Parameter, Label, Phi, Inst, End}
+use Rattle.ir_tree.specs.declared.sites.Site.{Site}
 use Rattle.ir_tree.specs.declared.sites.Site.TheVariants.{Enters}
+use Rattle.ir_tree.specs.declared.sites.SiteList.{SiteList}
 use Rattle.ir_tree.specs.declared.module.Reason.TheVariants.{NameTwice}
+use Rattle.ir_tree.specs.Sites.{sites, parts}
+use Rattle.ir_tree.specs.Flow.{successors, assigns}
+use Rattle.ir_tree.specs.Definitions.{DefinesIn, HasFirsts}
+use Rattle.ir_tree.specs.WellFormed.{Passes}
 
 -- the sites and the first definitions are the function's, and it defines each name once
 pub record AreKnown (f : Function) (list : SiteList) (firsts : List (Option ℕ)) : Type 0 where

@@ -2,7 +2,8 @@
 
 ghost use Rattle.std.specs.Prelude.{◌≡◌, ◌++◌, map, IfOk, OnOk};
 ghost use Rattle.std.specs.List.{flat_map};
-ghost use Rattle.ir_tree.specs.All.{Phi, assigned_with, assigns, results_of};
+ghost use Rattle.ir_tree.specs.declared.tree.Phi.{Phi};
+ghost use Rattle.ir_tree.specs.Flow.{assigned_with, assigns, results_of};
 
 use ir_tree::{Block, Function, Inst, Phi, result_of};
 use std::alloc::Global;

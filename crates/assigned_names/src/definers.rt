@@ -2,8 +2,11 @@
 
 ghost use Rattle.std.specs.Prelude.{◌≡◌, ◌⊎◌, ◌<◌, ◌↔◌, ℕ, IsTrue, length, map, take, slice_get, Some};
 ghost use Rattle.std.specs.List.{Contains};
-ghost use Rattle.ir_tree.specs.All.{Block, Function, assigned_with, block_of, HasFirsts};
+ghost use Rattle.ir_tree.specs.declared.tree.Block.{Block};
 ghost use Rattle.ir_tree.specs.declared.tree.Parameter.{Parameter as Argument};
+ghost use Rattle.ir_tree.specs.declared.tree.Function.{Function};
+ghost use Rattle.ir_tree.specs.Flow.{assigned_with, block_of};
+ghost use Rattle.ir_tree.specs.Definitions.{HasFirsts};
 ghost use Rattle.assigned_names.specs.Known.{AreKnown, IsBehind, IsDefiner, label_of};
 
 use ir_tree::{Function, Part, SiteList};

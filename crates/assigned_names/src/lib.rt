@@ -11,7 +11,8 @@
 
 ghost use Rattle.std.specs.Prelude.{◌≡◌, ◌<◌, ◌↔◌, IsTrue, length, OnOk, IfErr, IfOk};
 ghost use Rattle.ir_tree.specs.declared.module.Reason.TheVariants.{Unassigned};
-ghost use Rattle.ir_tree.specs.All.{AreNumbered, Passes, PassesNames, IfRefused};
+ghost use Rattle.ir_tree.specs.Sites.{AreNumbered};
+ghost use Rattle.ir_tree.specs.WellFormed.{Passes, PassesNames, IfRefused};
 ghost use Rattle.ir_check.specs.Told.{IsToldAt};
 ghost use Rattle.assigned_names.specs.Known.{AreBefore};
 

@@ -1,7 +1,9 @@
 //! The uses of names, each with whether some path reaches it without the name's definition.
 
 ghost use Rattle.std.specs.Prelude.{◌≡◌, ◌<◌, ◌↔◌, IsTrue, length, take, slice_get, Some};
-ghost use Rattle.ir_tree.specs.All.{Block, parts, IsFirstFailure, IsMissed, IsMissedAt, IsMissedBehind, UsesUnassigned};
+ghost use Rattle.ir_tree.specs.declared.tree.Block.{Block};
+ghost use Rattle.ir_tree.specs.Sites.{parts};
+ghost use Rattle.ir_tree.specs.WellFormed.{IsFirstFailure, IsMissed, IsMissedAt, IsMissedBehind, UsesUnassigned};
 ghost use Rattle.assigned_names.specs.Known.{AreKnown, AreBefore, IsEntered};
 
 use crate::definers::{block_of, is_assigned_in};

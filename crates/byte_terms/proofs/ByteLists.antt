@@ -4,7 +4,9 @@ use Rattle.byte_block.specs.declared.value.Byte.{Byte}
 use Rattle.bv_terms.specs.declared.term.TermId.{TermId}
 use Rattle.bv_terms.specs.declared.term.Term.{Term}
 use Rattle.bv_terms.specs.Trees.{Keeps, IsTerm, bit_at}
-use Rattle.mem_terms.specs.All.{SymByte, Each, Reading, AreSymBytes, IsSymByte, byte_at, places_at}
+use Rattle.mem_terms.specs.declared.bytes.SymByte.{SymByte}
+use Rattle.mem_terms.specs.Values.{Each, Reading}
+use Rattle.mem_terms.specs.Memory.{AreSymBytes, IsSymByte, byte_at, places_at}
 use Rattle.mem_terms.proofs.Eaches.{each-at, each-push, map-at, map-length, map-push}
 use Rattle.mem_terms.proofs.Later.{keeps_trans, bit-later, byte-later, places-later, sym_bytes-later}
 

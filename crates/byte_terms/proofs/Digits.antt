@@ -19,7 +19,10 @@ use Rattle.bv_terms.specs.declared.term.TermId.{TermId}
 use Rattle.bv_terms.specs.declared.term.Term.{Term}
 use Rattle.bv_terms.specs.Tree.{width_of}
 use Rattle.bv_terms.specs.Trees.{AreInRange, IsTerm, Keeps, Makes, Tests, bit_at, term_at, tree_in}
-use Rattle.mem_terms.specs.All.{SymByte, SymValue, IsSymValue, Reading, number_at, value_at, value_from, value_of, AreSymBytes, IsSymByte, byte_at, byte_of, places_at}
+use Rattle.mem_terms.specs.declared.bytes.SymByte.{SymByte}
+use Rattle.mem_terms.specs.declared.values.SymValue.{SymValue}
+use Rattle.mem_terms.specs.Values.{IsSymValue, Reading, number_at, value_at, value_from, value_of}
+use Rattle.mem_terms.specs.Memory.{AreSymBytes, IsSymByte, byte_at, byte_of, places_at}
 use Rattle.mem_terms.proofs.Bits.{term-below}
 use Rattle.mem_terms.proofs.Eaches.{each-at, map-push}
 use Rattle.mem_terms.proofs.Later.{bit-later, keeps_trans, places-later, term-later}

@@ -14,7 +14,9 @@ use Rattle.bv_terms.specs.Tree as tree
 use Rattle.bv_terms.specs.Tree.{Tree, truth, value_of}
 use Rattle.bv_terms.specs.Trees.{AreFit, IsTerm, Keeps, Makes, Tests, bit_at, term_at, trees_from, trees_of}
 use Rattle.bv_terms.proofs.Stages.{tree-stored}
-use Rattle.mem_terms.specs.All.{SymBlock, IsNaming, Reading, IsSymBlock, block_at}
+use Rattle.mem_terms.specs.declared.blocks.SymBlock.{SymBlock}
+use Rattle.mem_terms.specs.Values.{IsNaming, Reading}
+use Rattle.mem_terms.specs.Memory.{IsSymBlock, block_at}
 use Rattle.mem_terms.proofs.Later.{bit-later, keeps_trans, term-later}
 use Rattle.byte_terms.proofs.Bools.{and-left, and-right, both_ways}
 

@@ -14,7 +14,10 @@ use Rattle.memory_access.proofs.ByteLists.{parts_from-get}
 use Rattle.bv_terms.specs.declared.term.TermId.{TermId}
 use Rattle.bv_terms.specs.declared.term.Term.{Term}
 use Rattle.bv_terms.specs.Trees.{IsTerm, Keeps, Makes, Tests, bit_at, term_at}
-use Rattle.mem_terms.specs.All.{SymByte, SymValue, IsNaming, IsSymValue, Reading, value_at, value_of, AreSymBytes, IsSymByte, byte_at, byte_of, places_at}
+use Rattle.mem_terms.specs.declared.bytes.SymByte.{SymByte}
+use Rattle.mem_terms.specs.declared.values.SymValue.{SymValue}
+use Rattle.mem_terms.specs.Values.{IsNaming, IsSymValue, Reading, value_at, value_of}
+use Rattle.mem_terms.specs.Memory.{AreSymBytes, IsSymByte, byte_at, byte_of, places_at}
 use Rattle.mem_terms.proofs.Eaches.{each-at, map-push}
 use Rattle.mem_terms.proofs.Later.{bit-later, keeps_trans, places-later, term-later}
 use Rattle.byte_terms.proofs.Naming.{equal_numbers}

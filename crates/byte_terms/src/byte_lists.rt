@@ -3,7 +3,8 @@
 ghost use Rattle.std.specs.Prelude.{◌≡◌, IfOk, cond, length, replicate};
 ghost use Rattle.byte_block.specs.declared.value.Byte.TheVariants.{Poison};
 ghost use Rattle.bv_terms.specs.Trees.{IsTerm, Keeps, bit_at};
-ghost use Rattle.mem_terms.specs.All.{Reading, AreSymBytes, places_at};
+ghost use Rattle.mem_terms.specs.Values.{Reading};
+ghost use Rattle.mem_terms.specs.Memory.{AreSymBytes, places_at};
 
 use bv_terms::{TermId, Terms};
 use mem_terms::{SymByte, pick_byte, poison_byte};

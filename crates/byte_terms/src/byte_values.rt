@@ -3,7 +3,8 @@
 ghost use Rattle.std.specs.Prelude.{◌≡◌, IfOk, length};
 ghost use Rattle.memory_access.specs.Bytes.{access_size, value_bytes, value_of_bytes};
 ghost use Rattle.bv_terms.specs.Trees.{Keeps};
-ghost use Rattle.mem_terms.specs.All.{IsNaming, IsSymValue, Reading, value_at, AreSymBytes, places_at};
+ghost use Rattle.mem_terms.specs.Values.{IsNaming, IsSymValue, Reading, value_at};
+ghost use Rattle.mem_terms.specs.Memory.{AreSymBytes, places_at};
 
 use crate::integer_bytes::{byte_count, integer_bytes, integer_of_bytes};
 use crate::pointer_bytes::{pointer_bytes, pointer_of_bytes};

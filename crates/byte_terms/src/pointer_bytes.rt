@@ -5,7 +5,8 @@ ghost use Rattle.byte_block.specs.declared.value.Byte.TheVariants.{Part, Poison}
 ghost use Rattle.memory_access.specs.declared.access_types.Access.TheVariants.{Pointer};
 ghost use Rattle.memory_access.specs.Bytes as meant;
 ghost use Rattle.bv_terms.specs.Trees.{IsTerm, Keeps, Tests, bit_at, term_at};
-ghost use Rattle.mem_terms.specs.All.{IsNaming, IsSymValue, Reading, value_at, AreSymBytes, IsSymByte, byte_at, places_at};
+ghost use Rattle.mem_terms.specs.Values.{IsNaming, IsSymValue, Reading, value_at};
+ghost use Rattle.mem_terms.specs.Memory.{AreSymBytes, IsSymByte, byte_at, places_at};
 
 use crate::byte_fields::{has_value, kind_unless};
 use bv_terms::{TermId, Terms};

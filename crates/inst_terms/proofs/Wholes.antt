@@ -1,7 +1,9 @@
 -- The results of the public calls denote what the table gives.
 use Rattle.std.proofs.Common.{ℕ, zero, suc, ◌≡◌, ◌<◌, ◌/◌, ◌%◌, ◌^◌, Bool, true, false, cond, ◌||◌, nat_eq, List, refl, ap, subst, ◌∙◌, arith}
 use Rattle.std.specs.Prelude.{if◌then◌else◌}
-use Rattle.ir_tree.specs.All.{Op, Cast, Predicate}
+use Rattle.ir_tree.specs.declared.tree.Op.{Op}
+use Rattle.ir_tree.specs.declared.tree.Cast.{Cast}
+use Rattle.ir_tree.specs.declared.tree.Predicate.{Predicate}
 use Rattle.byte_block.specs.declared.value.BlockName.{BlockName}
 use Rattle.byte_block.specs.declared.value.Value.{Value}
 use Rattle.byte_block.specs.declared.value.Value.TheVariants.{Num}
@@ -11,7 +13,9 @@ use Rattle.bv_terms.specs.Tree.{truth}
 use Rattle.bv_terms.specs.Trees.{Keeps, Makes, Tests, term_at, bit_at}
 use Rattle.points.specs.Table as table
 use Rattle.points.specs.Table.{is_undefined, value_result, are_unlike, holds_of, compared, cast_number, cast_value, selected}
-use Rattle.mem_terms.specs.All.{SymNumber, SymValue, IsSymNumber, IsSymValue, Reading, number_at, value_at, value_from, value_of, option_from}
+use Rattle.mem_terms.specs.declared.integers.SymNumber.{SymNumber}
+use Rattle.mem_terms.specs.declared.values.SymValue.{SymValue}
+use Rattle.mem_terms.specs.Values.{IsSymNumber, IsSymValue, Reading, number_at, value_at, value_from, value_of, option_from}
 use Rattle.mem_terms.proofs.Later.{bit-later, term-later, value-later, keeps_self, keeps_trans}
 use Rattle.inst_terms.specs.declared.narrow.NarrowValue.{NarrowValue}
 use Rattle.inst_terms.specs.Narrow.{IsNarrow, narrow_at}

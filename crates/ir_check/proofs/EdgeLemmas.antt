@@ -7,9 +7,13 @@ use Rattle.std.proofs.lemmas.List.{take_more, get_or-set_same, get_or-set_other,
 use Rattle.std.proofs.lemmas.List.Elements.{Contains-append_left, Contains-push, Contains-push_cases}
 use Rattle.std.proofs.lemmas.List.Folds.{Any-from_list_any, list_any_at}
 use Rattle.std.proofs.lemmas.Option.{slice_get_read, slice_get_within, get_or_from_slice_get}
-use Rattle.ir_tree.specs.All.{IrType, Operand, PhiEntry, Phi, is_same_operand, HasTwoOperands}
+use Rattle.ir_tree.specs.declared.tree.IrType.{IrType}
 use Rattle.ir_tree.specs.declared.tree.IrType.TheVariants.{Int, Ptr}
+use Rattle.ir_tree.specs.declared.tree.Operand.{Operand}
 use Rattle.ir_tree.specs.declared.tree.Operand.TheVariants.{Local, Number, Null, Poison, Undef}
+use Rattle.ir_tree.specs.declared.tree.PhiEntry.{PhiEntry}
+use Rattle.ir_tree.specs.declared.tree.Phi.{Phi}
+use Rattle.ir_tree.specs.WellFormed.{is_same_operand, HasTwoOperands}
 use Rattle.ir_tree.proofs.Definers.{made_of, makes}
 use Rattle.ir_check.specs.declared.marks.Mark.{Mark}
 use Rattle.ir_check.specs.declared.marks.Mark.TheVariants.{Stranger, Awaited, Given}

@@ -4,10 +4,16 @@ use Rattle.std.proofs.lemmas.Bool.{cases_eq}
 use Rattle.std.proofs.lemmas.List.{take_more, get_or_default, get_or-set_same, get_or-set_other, get_or-replicate, length-replicate}
 use Rattle.std.proofs.lemmas.List.Elements.{Contains-append_left, Contains-get_or, Contains-push, Contains-push_cases}
 use Rattle.std.proofs.lemmas.Option.{slice_get_read, slice_get_within, get_or_from_slice_get, same_Some}
-use Rattle.ir_tree.specs.All.{IrType, Phi, Block, Function, AreNumbered, IsNumbered, sites, parts, IsPredecessor, targets, ComesFromPredecessors, HasTwoOperands, HasWrongEdge}
+use Rattle.ir_tree.specs.declared.tree.IrType.{IrType}
+use Rattle.ir_tree.specs.declared.tree.Phi.{Phi}
+use Rattle.ir_tree.specs.declared.tree.Block.{Block}
+use Rattle.ir_tree.specs.declared.tree.Function.{Function}
 use Rattle.ir_tree.specs.declared.sites.Part.TheVariants as part
 use Rattle.ir_tree.specs.declared.sites.Site.TheVariants.{Defines, Enters}
+use Rattle.ir_tree.specs.Sites.{AreNumbered, IsNumbered, sites, parts}
+use Rattle.ir_tree.specs.Flow.{IsPredecessor, targets}
 use Rattle.ir_tree.proofs.Definers.{all_at, defined_at, entered_at}
+use Rattle.ir_tree.specs.WellFormed.{ComesFromPredecessors, HasTwoOperands, HasWrongEdge}
 use Rattle.ir_check.specs.Marks.{LeadsIn, ArePredecessors, IsUnfit, IsUnfitAt}
 
 -- ---- the items that were walked

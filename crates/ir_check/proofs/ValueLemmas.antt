@@ -3,8 +3,11 @@ use Rattle.std.proofs.Common.{◌≡◌, ◌↔◌, IsTrue, true, false, ℕ, �
 use Rattle.std.proofs.lemmas.Bool.{cases_eq}
 use Rattle.std.proofs.lemmas.Option.{slice_get_within}
 use Rattle.std.specs.List.{slice_get}
-use Rattle.ir_tree.specs.All.{IrType, Site, DefinesAgain, IsLabel, UsesUnknown, IsFirstDefinition}
+use Rattle.ir_tree.specs.declared.tree.IrType.{IrType}
+use Rattle.ir_tree.specs.declared.sites.Site.{Site}
 use Rattle.ir_tree.specs.declared.sites.Site.TheVariants.{Defines, Uses, Enters}
+use Rattle.ir_tree.specs.WellFormed.{DefinesAgain, IsLabel, UsesUnknown}
+use Rattle.ir_tree.specs.Definitions.{IsFirstDefinition}
 use Rattle.ir_check.specs.Values.{GivesValue, defined_type, is_label_of}
 
 -- each definition of the name is its first one

@@ -1,7 +1,14 @@
 -- What is required of a phi's entries, and what is marked of labels while the entries are walked.
 use Rattle.std.specs.Prelude.{◌≡◌, ◌⊎◌, ◌↔◌, ◌<◌, ℕ, Bool, true, false, ◌==◌, if◌then◌else◌, List, [], map, length, slice_get, slice_index_or, Some}
 use Rattle.std.specs.List.{Contains}
-use Rattle.ir_tree.specs.All.{IrType, Operand, PhiEntry, Phi, Block, Function, targets, is_same_operand, HasTwoOperands, ComesFromPredecessors}
+use Rattle.ir_tree.specs.declared.tree.IrType.{IrType}
+use Rattle.ir_tree.specs.declared.tree.Operand.{Operand}
+use Rattle.ir_tree.specs.declared.tree.PhiEntry.{PhiEntry}
+use Rattle.ir_tree.specs.declared.tree.Phi.{Phi}
+use Rattle.ir_tree.specs.declared.tree.Block.{Block}
+use Rattle.ir_tree.specs.declared.tree.Function.{Function}
+use Rattle.ir_tree.specs.Flow.{targets}
+use Rattle.ir_tree.specs.WellFormed.{is_same_operand, HasTwoOperands, ComesFromPredecessors}
 use Rattle.ir_check.specs.declared.marks.Mark.{Mark}
 use Rattle.ir_check.specs.declared.marks.Mark.TheVariants.{Stranger, Awaited, Given}
 use Rattle.ir_check.specs.declared.marks.Slot.{Slot}

@@ -1,7 +1,9 @@
 -- The values that names get, where each name is defined once.
 use Rattle.std.specs.Prelude.{◌≡◌, ℕ, Bool, true, false, List, slice_get, Option, Some, None}
-use Rattle.ir_tree.specs.All.{IrType, Site, HasValue}
+use Rattle.ir_tree.specs.declared.tree.IrType.{IrType}
+use Rattle.ir_tree.specs.declared.sites.Site.{Site}
 use Rattle.ir_tree.specs.declared.sites.Site.TheVariants.{Defines, Uses, Enters, Written}
+use Rattle.ir_tree.specs.WellFormed.{HasValue}
 
 -- the type that a site gives the name that it defines
 abbrev pub defined_type : Site → Option IrType

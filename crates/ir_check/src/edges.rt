@@ -1,7 +1,11 @@
 ghost use Rattle.std.specs.Prelude.{◌≡◌, ◌⊎◌, ◌↔◌, ◌<◌, ◌++◌, ◌∷◌, [], ℕ, List, IsTrue, true, false, length, slice_get, slice_index_or, Some, OnOk, IfErr};
 ghost use Rattle.std.specs.List.{All, list_any};
-ghost use Rattle.ir_tree.specs.All.{IrType, PhiEntry, Block, AreNumbered, sites, parts, Passes, PassesNames, IfRefused, IsFirstFailure, HasWrongEdge, is_same_operand};
+ghost use Rattle.ir_tree.specs.declared.tree.IrType.{IrType};
+ghost use Rattle.ir_tree.specs.declared.tree.PhiEntry.{PhiEntry};
+ghost use Rattle.ir_tree.specs.declared.tree.Block.{Block};
 ghost use Rattle.ir_tree.specs.declared.module.Reason.TheVariants.{PhiEdges};
+ghost use Rattle.ir_tree.specs.Sites.{AreNumbered, sites, parts};
+ghost use Rattle.ir_tree.specs.WellFormed.{Passes, PassesNames, IfRefused, IsFirstFailure, HasWrongEdge, is_same_operand};
 ghost use Rattle.ir_check.specs.declared.marks.Mark.TheVariants.{Stranger};
 ghost use Rattle.ir_check.specs.Told.{IsToldAt};
 ghost use Rattle.ir_check.specs.Marks.{ArePredecessors, AreMarked, HasUnfitEntry, IsUnfit, IsUnfitAt, IsUnfitEntry, is_awaited};

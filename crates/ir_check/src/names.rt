@@ -1,5 +1,7 @@
 ghost use Rattle.std.specs.Prelude.{◌<◌, ◌↔◌, IsTrue, ℕ, length, OnOk, IfErr};
-ghost use Rattle.ir_tree.specs.All.{AreNumbered, PassesNames, IfRefused, IsFirstFailure, DefinesAgain, UsesUnknown, HasFirsts};
+ghost use Rattle.ir_tree.specs.Sites.{AreNumbered};
+ghost use Rattle.ir_tree.specs.WellFormed.{PassesNames, IfRefused, IsFirstFailure, DefinesAgain, UsesUnknown};
+ghost use Rattle.ir_tree.specs.Definitions.{HasFirsts};
 ghost use Rattle.ir_check.specs.Told.{AreNamesToldAt};
 
 use crate::values::{is_label, value_type};

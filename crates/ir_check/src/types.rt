@@ -1,6 +1,8 @@
 ghost use Rattle.std.specs.Prelude.{◌≡◌, ◌<◌, ◌↔◌, IsTrue, ℕ, length, false, OnOk, IfErr, IsSomeAnd};
 ghost use Rattle.ir_tree.specs.declared.module.Reason.TheVariants.{TypeClash};
-ghost use Rattle.ir_tree.specs.All.{AreNumbered, is_same_type, Passes, PassesNames, IfRefused, IsFirstFailure, DefinesAgain, ClashesType, HasFirsts};
+ghost use Rattle.ir_tree.specs.Sites.{AreNumbered, is_same_type};
+ghost use Rattle.ir_tree.specs.WellFormed.{Passes, PassesNames, IfRefused, IsFirstFailure, DefinesAgain, ClashesType};
+ghost use Rattle.ir_tree.specs.Definitions.{HasFirsts};
 ghost use Rattle.ir_check.specs.Told.{IsToldAt};
 
 use crate::values::value_type;

@@ -1,5 +1,6 @@
 ghost use Rattle.std.specs.Prelude.{◌≡◌, ◌<◌, ◌↔◌, IsTrue, ℕ, length};
-ghost use Rattle.ir_tree.specs.All.{DefinesAgain, IsLabel, HasFirsts};
+ghost use Rattle.ir_tree.specs.WellFormed.{DefinesAgain, IsLabel};
+ghost use Rattle.ir_tree.specs.Definitions.{HasFirsts};
 ghost use Rattle.ir_check.specs.Values.{GivesValue, defined_type, is_label_of};
 
 use ir_tree::{IrType, Site};

@@ -6,9 +6,10 @@ use Rattle.ir_lexer.specs.declared.token.Kind.{Kind}
 use Rattle.ir_lexer.specs.declared.token.Kind.TheVariants as kind
 use Rattle.ir_lexer.specs.Lexeme.{Lexeme}
 use Rattle.ir_tree.specs.declared.name.Name.TheVariants as name
-use Rattle.ir_tree.specs.All.{IrType, Predicate}
+use Rattle.ir_tree.specs.declared.tree.IrType.{IrType}
 use Rattle.ir_tree.specs.declared.tree.IrType.TheVariants.{Ptr}
 use Rattle.ir_tree.specs.declared.tree.Op.TheVariants as op
+use Rattle.ir_tree.specs.declared.tree.Predicate.{Predicate}
 use Rattle.ir_tree.specs.declared.tree.Predicate.TheVariants as predicate
 use Rattle.token_forms.specs.Form.{Class}
 use Rattle.ir_grammar.specs.declared.word.Opcode.TheVariants as opcode

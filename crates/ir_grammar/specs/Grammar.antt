@@ -22,7 +22,8 @@ use Rattle.text_places.specs.declared.place.Place.{Place}
 use Rattle.ir_lexer.specs.declared.token.Kind.{Kind}
 use Rattle.ir_lexer.specs.declared.token.Kind.TheVariants as kind
 use Rattle.ir_lexer.specs.Lexeme.{Lexeme}
-use Rattle.ir_tree.specs.All.{one_bit, IrType}
+use Rattle.ir_tree.specs.Types.{one_bit}
+use Rattle.ir_tree.specs.declared.tree.IrType.{IrType}
 use Rattle.ir_tree.specs.declared.tree.IrType.TheVariants.{Int}
 use Rattle.token_forms.specs.declared.bracket.Bracket.TheVariants.{Round}
 use Rattle.token_forms.specs.Form.{Form, never, either, give, one, upto, peek, tail, balanced, mapped, ◌>>=◌}

@@ -18,9 +18,14 @@
 --   align       = "," "align" NUMBER
 use Rattle.std.specs.Prelude.{refl, ℕ, zero, suc, [], ◌∷◌, ◌++◌, length, Option, Bool, true, false, ◌||◌, nat_lt, codes}
 use Rattle.ir_lexer.specs.Lexeme.{Lexeme}
-use Rattle.ir_tree.specs.All.{one_bit, Flags, type_align, Op, Predicate, Cast}
+use Rattle.ir_tree.specs.Types.{one_bit}
+use Rattle.ir_tree.specs.declared.tree.Flags.{Flags}
+use Rattle.ir_tree.specs.Types.{type_align}
 use Rattle.ir_tree.specs.declared.tree.IrType.TheVariants.{Int}
+use Rattle.ir_tree.specs.declared.tree.Op.{Op}
 use Rattle.ir_tree.specs.declared.tree.Op.TheVariants as op
+use Rattle.ir_tree.specs.declared.tree.Predicate.{Predicate}
+use Rattle.ir_tree.specs.declared.tree.Cast.{Cast}
 use Rattle.ir_tree.specs.declared.tree.Cast.TheVariants as cast
 use Rattle.token_forms.specs.Form.{Class, Form, never, either, give, one, upto, peek, tail, mapped, ◌>>=◌}
 use Rattle.ir_grammar.specs.declared.word.WrapWord.{WrapWord}

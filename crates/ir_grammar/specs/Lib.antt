@@ -5,4 +5,3 @@ pub mod Spelling
 pub mod Classes
 pub mod Instructions
 pub mod Grammar
-pub mod All

@@ -8,9 +8,14 @@ use Rattle.ir_lexer.specs.Spelling.{is_digits}
 use Rattle.ir_lexer.specs.Lexeme.{Lexeme}
 use Rattle.ir_lexer.specs.declared.token.Kind.{Kind}
 use Rattle.ir_lexer.specs.declared.token.Kind.TheVariants as kind
-use Rattle.ir_tree.specs.All.{Name, Flags, IrType, Reason, one_bit, nested_size, alignments}
+use Rattle.ir_tree.specs.declared.name.Name.{Name}
+use Rattle.ir_tree.specs.declared.tree.Flags.{Flags}
+use Rattle.ir_tree.specs.declared.tree.IrType.{IrType}
 use Rattle.ir_tree.specs.declared.tree.IrType.TheVariants.{Int, Ptr}
+use Rattle.ir_tree.specs.declared.module.Reason.{Reason}
 use Rattle.ir_tree.specs.declared.module.Reason.TheVariants.{Limit}
+use Rattle.ir_tree.specs.Types.{one_bit, nested_size}
+use Rattle.ir_tree.specs.Limits.{alignments}
 use Rattle.ir_items.specs.Names.{name_in}
 use Rattle.ir_grammar.specs.declared.written.WrittenName.{WrittenName}
 use Rattle.ir_grammar.specs.declared.written.WrittenIntType.{WrittenIntType}

@@ -3,8 +3,10 @@ use Rattle.std.specs.Prelude.{ℕ, List, Option, Some, None, Bool, true, false, 
 use Rattle.std.specs.Str.{bytes_eq}
 use Rattle.ir_lexer.specs.declared.token.Kind.{Kind}
 use Rattle.ir_lexer.specs.declared.token.Kind.TheVariants as kind
-use Rattle.ir_tree.specs.All.{Flags, Op, Predicate}
+use Rattle.ir_tree.specs.declared.tree.Flags.{Flags}
+use Rattle.ir_tree.specs.declared.tree.Op.{Op}
 use Rattle.ir_tree.specs.declared.tree.Op.TheVariants as op
+use Rattle.ir_tree.specs.declared.tree.Predicate.{Predicate}
 use Rattle.ir_tree.specs.declared.tree.Predicate.TheVariants as predicate
 use Rattle.ir_grammar.specs.declared.word.WrapWord.{WrapWord}
 use Rattle.ir_grammar.specs.declared.word.WrapWord.TheVariants as wrap

@@ -2,8 +2,10 @@
 ghost use Rattle.std.specs.Prelude.{◌≡◌, [], true};
 ghost use Rattle.token_forms.specs.Form.{reads, read, begin_of, step_of};
 ghost use Rattle.token_forms.specs.Answer.{Reads};
-ghost use Rattle.ir_grammar.specs.All.{any, begins_block, block_begins, named_at, label_of};
+ghost use Rattle.ir_grammar.specs.Classes.{any};
 ghost use Rattle.ir_grammar.specs.Grammar as spec;
+ghost use Rattle.ir_grammar.specs.Grammar.{begins_block, block_begins};
+ghost use Rattle.ir_grammar.specs.Spelling.{named_at, label_of};
 
 use crate::cursor::Cursor;
 use crate::lists::pushed;

@@ -2,7 +2,9 @@
 ghost use Rattle.std.specs.Prelude.{◌≡◌, [], true, codes};
 ghost use Rattle.token_forms.specs.Form.{one_of, token_of, begin_of, reads, read, balanced};
 ghost use Rattle.token_forms.specs.Answer.{Reads, Passes};
-ghost use Rattle.ir_grammar.specs.All.{reason, type_reason, bits_behind, spelled_width, width_in, type_in, is_pointer, word_of_type, word_value, truth_value, is_void, as_word, as_mark, any, passed, brace, local, global, int_type, counted_type, value_type, bit_type, return_type, operand_class, literal_class, line_word, terminator_word, predicate_class};
+ghost use Rattle.ir_grammar.specs.Reasons.{reason, type_reason};
+ghost use Rattle.ir_grammar.specs.Spelling.{bits_behind, spelled_width, width_in, type_in, is_pointer, word_of_type, word_value, truth_value, is_void};
+ghost use Rattle.ir_grammar.specs.Classes.{as_word, as_mark, any, passed, brace, local, global, int_type, counted_type, value_type, bit_type, return_type, operand_class, literal_class, line_word, terminator_word, predicate_class};
 
 use crate::numbers::{literal, some_digits, width};
 use crate::reasons::{reason_at, type_reason_at};

@@ -1,10 +1,13 @@
 // Reading a function with a body.
 ghost use Rattle.std.specs.Prelude.{◌≡◌, [], true};
 ghost use Rattle.token_forms.specs.Form.{reads, read, begin_of, step_of, one_of};
-ghost use Rattle.token_forms.specs.All.{Reads, Passes, SpellsOrStops};
+ghost use Rattle.token_forms.specs.Answer.{Reads, Passes};
+ghost use Rattle.token_forms.specs.Spelled.{SpellsOrStops};
 ghost use Rattle.ir_grammar.specs.Spelling as spelling;
-ghost use Rattle.ir_grammar.specs.All.{is_attribute, any, comdat_name, is_prefix, next_prefix, follows_header, header_begins, with_header};
+ghost use Rattle.ir_grammar.specs.Spelling.{is_attribute};
+ghost use Rattle.ir_grammar.specs.Classes.{any, comdat_name};
 ghost use Rattle.ir_grammar.specs.Grammar as spec;
+ghost use Rattle.ir_grammar.specs.Grammar.{is_prefix, next_prefix, follows_header, header_begins, with_header};
 
 use crate::cursor::Cursor;
 use crate::lines::is_numbered;

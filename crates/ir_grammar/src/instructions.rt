@@ -3,7 +3,8 @@ ghost use Rattle.std.specs.Prelude.{◌≡◌, true};
 ghost use Rattle.token_forms.specs.Form.{reads, read, begin_of};
 ghost use Rattle.token_forms.specs.Answer.{Reads};
 ghost use Rattle.ir_tree.specs.Types.{one_bit};
-ghost use Rattle.ir_grammar.specs.All.{flag_text, any, as_word, passed};
+ghost use Rattle.ir_grammar.specs.Words.{flag_text};
+ghost use Rattle.ir_grammar.specs.Classes.{any, as_word, passed};
 ghost use Rattle.ir_grammar.specs.Instructions as spec;
 
 use crate::cursor::Cursor;

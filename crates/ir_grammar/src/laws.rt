@@ -1,4 +1,5 @@
-ghost use Rattle.token_forms.specs.All.{SpellsAsPlain, SpellsOne, ReadsWhatIsSpelled};
+ghost use Rattle.token_forms.specs.Plain.{SpellsAsPlain, SpellsOne};
+ghost use Rattle.token_forms.specs.Laws.{ReadsWhatIsSpelled};
 ghost use Rattle.ir_grammar.specs.Grammar.{define};
 
 use crate::written::WrittenFunction;

@@ -1,10 +1,13 @@
 // Reading the lines of a block and what is attached to them.
 ghost use Rattle.std.specs.Prelude.{◌≡◌, ◌||◌, ◌<◌, [], true, not};
 ghost use Rattle.token_forms.specs.Form.{reads, read, begin_of, step_of, token_of};
-ghost use Rattle.token_forms.specs.All.{Reads, Passes, one_of};
+ghost use Rattle.token_forms.specs.Answer.{Reads, Passes};
 ghost use Rattle.ir_grammar.specs.Spelling as spelling;
-ghost use Rattle.ir_grammar.specs.All.{is_attached, is_numbered, any, attachment_word, metadata_number, is_comma, comma_begins, attachment, record_rest, starts_inst, starts_line, line_begins, line_within, takes_comma, line_comma, with_comma};
+ghost use Rattle.ir_grammar.specs.Spelling.{is_attached, is_numbered};
+ghost use Rattle.ir_grammar.specs.Classes.{any, attachment_word, metadata_number};
+ghost use Rattle.token_forms.specs.Form.{one_of};
 ghost use Rattle.ir_grammar.specs.Grammar as spec;
+ghost use Rattle.ir_grammar.specs.Grammar.{is_comma, comma_begins, attachment, record_rest, starts_inst, starts_line, line_begins, line_within, takes_comma, line_comma, with_comma};
 ghost use Rattle.ir_lexer.specs.declared.token.Kind.TheVariants as kind;
 
 use crate::blocks::MOST_INSTS;

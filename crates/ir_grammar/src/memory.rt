@@ -1,7 +1,9 @@
 // Reading instructions on memory.
 ghost use Rattle.std.specs.Prelude.{◌≡◌, true};
-ghost use Rattle.token_forms.specs.All.{read, one_of, begin_of, Reads, Passes};
-ghost use Rattle.ir_grammar.specs.All.{any, width_in, int_typed_at, is_width};
+ghost use Rattle.token_forms.specs.Form.{read, one_of, begin_of};
+ghost use Rattle.ir_grammar.specs.Classes.{any};
+ghost use Rattle.ir_grammar.specs.Spelling.{width_in, int_typed_at, is_width};
+ghost use Rattle.token_forms.specs.Answer.{Reads, Passes};
 ghost use Rattle.ir_grammar.specs.Classes as class;
 ghost use Rattle.ir_grammar.specs.Instructions as spec;
 

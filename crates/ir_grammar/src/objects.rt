@@ -5,8 +5,9 @@ ghost use Rattle.token_forms.specs.Answer.{Reads, Passes};
 ghost use Rattle.ir_tree.specs.Types.{nested_size};
 ghost use Rattle.ir_grammar.specs.Spelling as spelling;
 ghost use Rattle.ir_grammar.specs.Classes as class;
-ghost use Rattle.ir_grammar.specs.All.{any, is_square, array_begins, array_within, with_length};
+ghost use Rattle.ir_grammar.specs.Classes.{any};
 ghost use Rattle.ir_grammar.specs.Instructions as spec;
+ghost use Rattle.ir_grammar.specs.Instructions.{is_square, array_begins, array_within, with_length};
 
 use crate::cursor::{Cursor, type_in};
 use crate::lists::pushed;

@@ -3,8 +3,9 @@ ghost use Rattle.std.specs.Prelude.{◌≡◌, ◌++◌, ◌∷◌, [], true, is
 ghost use Rattle.token_forms.specs.Form.{reads, read, begin_of, step_of};
 ghost use Rattle.token_forms.specs.Answer.{Reads};
 ghost use Rattle.ir_grammar.specs.Spelling as spelling;
-ghost use Rattle.ir_grammar.specs.All.{any, follows_parameter, parameter_begins, new_parameter, with_part};
+ghost use Rattle.ir_grammar.specs.Classes.{any};
 ghost use Rattle.ir_grammar.specs.Grammar as spec;
+ghost use Rattle.ir_grammar.specs.Grammar.{follows_parameter, parameter_begins, new_parameter, with_part};
 
 use crate::cursor::Cursor;
 use crate::lists::pushed;

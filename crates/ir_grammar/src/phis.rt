@@ -1,6 +1,7 @@
 // Reading a phi, and what follows its commas.
 ghost use Rattle.std.specs.Prelude.{◌≡◌, true};
-ghost use Rattle.token_forms.specs.All.{read, Reads};
+ghost use Rattle.token_forms.specs.Form.{read};
+ghost use Rattle.token_forms.specs.Answer.{Reads};
 ghost use Rattle.ir_grammar.specs.Instructions as spec;
 
 use crate::cursor::Cursor;

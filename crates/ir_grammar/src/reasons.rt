@@ -1,6 +1,7 @@
 // The reason at a token that isn't allowed where it is.
 ghost use Rattle.std.specs.Prelude.{◌≡◌};
-ghost use Rattle.ir_grammar.specs.All.{is_type_mark, reason, type_reason, width_reason};
+ghost use Rattle.ir_grammar.specs.Reasons.{is_type_mark, reason, type_reason};
+ghost use Rattle.ir_grammar.specs.Spelling.{width_reason};
 
 use crate::cursor::width_in;
 use ir_lexer::{Kind, Token};

@@ -2,7 +2,8 @@
 use Rattle.std.proofs.Common.{◌≡◌, ℕ, ◌+◌, ◌<◌, ◌≤◌, false, List, length, subst, inl, inr, arith}
 use Rattle.std.proofs.lemmas.Bool.{cases_lt, cases_order}
 use Rattle.ir_lexer.specs.Lexeme.{Lexeme}
-use Rattle.ir_items.specs.All.{marks, IsBalanced, IsInside, IsPiece, begins_item, OtherGoesOn, IsOther, BeforeName, IsNamed, BeforeBody, HasBody, IsDefine}
+use Rattle.ir_items.specs.Marks.{marks, IsBalanced, IsInside, IsPiece}
+use Rattle.ir_items.specs.Items.{begins_item, OtherGoesOn, IsOther, BeforeName, IsNamed, BeforeBody, HasBody, IsDefine}
 use Rattle.ir_items.proofs.Opening.{not_balanced, deeper, piece_balanced}
 use Rattle.ir_items.proofs.HeadTokens.{brace_begins_nothing}
 use Rattle.ir_items.proofs.Phases.{wrong_and_right}

@@ -8,7 +8,8 @@ use Rattle.ir_lexer.specs.Parts.{behind}
 use Rattle.ir_lexer.specs.declared.token.Kind.{Kind}
 use Rattle.ir_lexer.specs.declared.token.Kind.TheVariants as kind
 use Rattle.ir_lexer.specs.Lexeme.{Lexeme}
-use Rattle.ir_tree.specs.All.{Name, same_name}
+use Rattle.ir_tree.specs.declared.name.Name.{Name}
+use Rattle.ir_tree.specs.Names.{same_name}
 use Rattle.ir_items.specs.declared.item.Define.{Define}
 use Rattle.ir_items.specs.Names.{name_in, without_zeros}
 use Rattle.ir_items.specs.Marks.{mark_of, IsBalanced, IsPiece}

@@ -3,4 +3,3 @@ pub mod Marks
 pub mod Items
 pub mod Stops
 pub mod Pieces
-pub mod All

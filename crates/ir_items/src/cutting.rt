@@ -2,8 +2,11 @@ ghost use Rattle.std.specs.Prelude.{◌≡◌, ◌+◌, ◌<◌, ◌≤◌, ℕ,
 ghost use Rattle.ir_lexer.specs.Lexeme.{Lexeme};
 ghost use Rattle.ir_items.specs.declared.fault.Why.{Why as TheWhy};
 ghost use Rattle.ir_items.specs.declared.item.Define.{Define as TheDefine};
-ghost use Rattle.ir_items.specs.All.{IsBalanced, IsCut, ItemStops, IsAdded, Stops, IsNew, IsStop};
+ghost use Rattle.ir_items.specs.Marks.{IsBalanced};
 ghost use Rattle.ir_items.specs.Items as spec;
+ghost use Rattle.ir_items.specs.Items.{IsCut};
+ghost use Rattle.ir_items.specs.Pieces.{ItemStops, IsAdded};
+ghost use Rattle.ir_items.specs.Stops.{Stops, IsNew, IsStop};
 
 use crate::fault::{ItemFault, Why};
 use crate::heads::{begins_item, is_brace, is_called, is_define, is_head, is_wrong_layout};

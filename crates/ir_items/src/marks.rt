@@ -1,6 +1,7 @@
 // Brackets.
 ghost use Rattle.std.specs.Prelude.{◌≡◌, ◌<◌, List, ℕ, length, IfOk, IfErr, if◌then◌else◌, Some, None, slice_get, IsSomeAnd};
-ghost use Rattle.ir_items.specs.All.{mark_in, mark_of, opens, closes, closing, marks_after, IsPiece, PieceStops};
+ghost use Rattle.ir_items.specs.Marks.{mark_in, mark_of, opens, closes, closing, marks_after, IsPiece};
+ghost use Rattle.ir_items.specs.Pieces.{PieceStops};
 
 use crate::fault::{ItemFault, Why};
 use ir_lexer::{Kind, Tokens};

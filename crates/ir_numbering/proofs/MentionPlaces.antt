@@ -3,12 +3,23 @@ use Rattle.std.proofs.Common.{◌≡◌, ℕ, ◌+◌, List, [], ◌∷◌, ◌+
 use Rattle.std.specs.List.{flat_map}
 use Rattle.std.proofs.lemmas.List.{map-append}
 use Rattle.text_places.specs.declared.place.Place.{Place}
-use Rattle.ir_grammar.specs.All.{WrittenParameter, WrittenInst, WrittenReturn, WrittenPhi, WrittenTerminator, WrittenBody, WrittenBlock, WrittenFunction}
+use Rattle.ir_grammar.specs.declared.written.WrittenParameter.{WrittenParameter}
+use Rattle.ir_grammar.specs.declared.written.WrittenInst.{WrittenInst}
 use Rattle.ir_grammar.specs.declared.written.WrittenInst.TheVariants as line
 use Rattle.ir_grammar.specs.declared.written.WrittenAccess.TheVariants as access
+use Rattle.ir_grammar.specs.declared.written.WrittenReturn.{WrittenReturn}
 use Rattle.ir_grammar.specs.declared.written.WrittenReturn.TheVariants.{Void, Value}
+use Rattle.ir_grammar.specs.declared.written.WrittenPhi.{WrittenPhi}
+use Rattle.ir_grammar.specs.declared.written.WrittenTerminator.{WrittenTerminator}
 use Rattle.ir_grammar.specs.declared.written.WrittenTerminator.TheVariants as last
-use Rattle.ir_numbering.specs.All.{NamedParameter, place_or, places_of, index_places, inst_places, parameter_places, returned_places, entry_places, phi_places, case_places, terminator_places, body_places, block_places, named_behind, Mention, mention_at, index_mentions, inst_mentions, returned_mentions, entry_mentions, phi_mentions, case_mentions, terminator_mentions, body_mentions, block_mentions, parameter_mentions, names_written, entry_name}
+use Rattle.ir_grammar.specs.declared.written.WrittenBody.{WrittenBody}
+use Rattle.ir_grammar.specs.declared.written.WrittenBlock.{WrittenBlock}
+use Rattle.ir_grammar.specs.declared.written.WrittenFunction.{WrittenFunction}
+use Rattle.ir_numbering.specs.declared.numbering.NamedParameter.{NamedParameter}
+use Rattle.ir_numbering.specs.Places.{place_or, places_of, index_places, inst_places, parameter_places, returned_places, entry_places, phi_places, case_places, terminator_places, body_places, block_places}
+use Rattle.ir_numbering.specs.Numbering.{named_behind}
+use Rattle.ir_numbering.specs.Mentions.{Mention, mention_at, index_mentions, inst_mentions, returned_mentions, entry_mentions, phi_mentions, case_mentions, terminator_mentions, body_mentions, block_mentions, parameter_mentions, names_written}
+use Rattle.ir_numbering.specs.Numbering.{entry_name}
 
 abbrev at_in : Mention → Place
 at_in m = m.at

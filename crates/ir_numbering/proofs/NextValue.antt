@@ -9,7 +9,8 @@ use Rattle.std.proofs.lemmas.List.Elements.{Contains-append_left, Contains-appen
 use Rattle.ir_tree.specs.declared.name.Name.{Name}
 use Rattle.ir_tree.specs.declared.name.Name.TheVariants.{Number, Word}
 use Rattle.ir_grammar.specs.Numbers.{value_after, value_of}
-use Rattle.ir_numbering.specs.All.{is_greater, is_above, greatest, carried, one_more, next_name, AreDigits, IsDecimal, AreDecimal, IsNextName}
+use Rattle.ir_numbering.specs.EntryName.{is_greater, is_above, greatest, carried, one_more, next_name}
+use Rattle.ir_numbering.specs.NextNumber.{AreDigits, IsDecimal, AreDecimal, IsNextName}
 
 -- ---- values of digits
 

@@ -4,8 +4,9 @@ use Rattle.std.specs.Prelude.{not, ◌||◌}
 use Rattle.std.specs.List.{list_any, slice_get}
 use Rattle.std.proofs.lemmas.List.{length-append, append-nil}
 use Rattle.std.proofs.lemmas.Slice.Eq.{bytes_eq-Decides}
-use Rattle.ir_tree.specs.All.{Name, same_name, with_name, number_of}
+use Rattle.ir_tree.specs.declared.name.Name.{Name}
 use Rattle.ir_tree.specs.declared.name.Name.TheVariants.{Number, Word}
+use Rattle.ir_tree.specs.Names.{same_name, with_name, number_of}
 
 has-less : (xs : List Name) (x : Name) → list_any (same_name x) xs ≡ true → number_of xs x < length xs
 has-less [] x e = absurd (cc e)

@@ -1,7 +1,9 @@
 -- What holds of each function whose names are numbered.
 use Rattle.std.specs.Prelude.{◌≡◌, List, map, length, slice_get, Option, Some, None}
-use Rattle.ir_tree.specs.All.{Name, Site, sites, AreNumbered}
+use Rattle.ir_tree.specs.declared.name.Name.{Name}
+use Rattle.ir_tree.specs.declared.sites.Site.{Site}
 use Rattle.ir_tree.specs.declared.sites.Site.TheVariants.{Defines, Uses, Enters, Written}
+use Rattle.ir_tree.specs.Sites.{sites, AreNumbered}
 use Rattle.ir_grammar.specs.declared.written.WrittenFunction.{WrittenFunction}
 use Rattle.ir_numbering.specs.EntryName.{next_name}
 use Rattle.ir_numbering.specs.NextNumber.{AreDecimal, IsNextName}

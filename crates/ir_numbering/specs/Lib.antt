@@ -5,4 +5,3 @@ pub mod Numbering
 pub mod Mentions
 pub mod Laws
 pub mod Answer
-pub mod All

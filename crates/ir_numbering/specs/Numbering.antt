@@ -2,16 +2,48 @@
 -- are first mentioned, whether it is defined there or not.
 use Rattle.std.specs.Prelude.{ℕ, List, [], ◌∷◌, ◌++◌, map, Bool, Option, Some, None}
 use Rattle.tv_num.specs.declared.Width.{Width}
-use Rattle.ir_tree.specs.All.{with_name, number_of, Name, IrType, Operand, TypedOperand, Op, Cast, Predicate, Inst, MemoryType, GepIndex, PhiEntry, Phi, Case, Terminator, Block, Parameter, Function}
+use Rattle.ir_tree.specs.Names.{with_name, number_of}
+use Rattle.ir_tree.specs.declared.name.Name.{Name}
+use Rattle.ir_tree.specs.declared.tree.IrType.{IrType}
+use Rattle.ir_tree.specs.declared.tree.Operand.{Operand}
 use Rattle.ir_tree.specs.declared.tree.Operand.TheVariants as operand
+use Rattle.ir_tree.specs.declared.tree.TypedOperand.{TypedOperand}
+use Rattle.ir_tree.specs.declared.tree.Op.{Op}
+use Rattle.ir_tree.specs.declared.tree.Cast.{Cast}
+use Rattle.ir_tree.specs.declared.tree.Predicate.{Predicate}
+use Rattle.ir_tree.specs.declared.tree.Inst.{Inst}
 use Rattle.ir_tree.specs.declared.tree.Inst.TheVariants as inst
+use Rattle.ir_tree.specs.declared.tree.MemoryType.{MemoryType}
+use Rattle.ir_tree.specs.declared.tree.GepIndex.{GepIndex}
+use Rattle.ir_tree.specs.declared.tree.PhiEntry.{PhiEntry}
+use Rattle.ir_tree.specs.declared.tree.Phi.{Phi}
+use Rattle.ir_tree.specs.declared.tree.Case.{Case}
+use Rattle.ir_tree.specs.declared.tree.Terminator.{Terminator}
 use Rattle.ir_tree.specs.declared.tree.Terminator.TheVariants.{Return, Branch, CondBranch, Switch, Unreachable}
-use Rattle.ir_grammar.specs.All.{WrittenName, WrittenValue, WrittenTyped, WrittenParameter, WrittenInst, WrittenAccess, WrittenIndex, WrittenGep, WrittenEntry, WrittenPhi, WrittenCase, WrittenTerminator, WrittenBody, WrittenBlock, WrittenReturn, WrittenFunction}
+use Rattle.ir_tree.specs.declared.tree.Block.{Block}
+use Rattle.ir_tree.specs.declared.tree.Parameter.{Parameter}
+use Rattle.ir_tree.specs.declared.tree.Function.{Function}
+use Rattle.ir_grammar.specs.declared.written.WrittenName.{WrittenName}
+use Rattle.ir_grammar.specs.declared.written.WrittenValue.{WrittenValue}
 use Rattle.ir_grammar.specs.declared.written.WrittenValue.TheVariants as written
+use Rattle.ir_grammar.specs.declared.written.WrittenTyped.{WrittenTyped}
+use Rattle.ir_grammar.specs.declared.written.WrittenParameter.{WrittenParameter}
+use Rattle.ir_grammar.specs.declared.written.WrittenInst.{WrittenInst}
 use Rattle.ir_grammar.specs.declared.written.WrittenInst.TheVariants as line
+use Rattle.ir_grammar.specs.declared.written.WrittenAccess.{WrittenAccess}
 use Rattle.ir_grammar.specs.declared.written.WrittenAccess.TheVariants as access
+use Rattle.ir_grammar.specs.declared.written.WrittenIndex.{WrittenIndex}
+use Rattle.ir_grammar.specs.declared.written.WrittenGep.{WrittenGep}
+use Rattle.ir_grammar.specs.declared.written.WrittenEntry.{WrittenEntry}
+use Rattle.ir_grammar.specs.declared.written.WrittenPhi.{WrittenPhi}
+use Rattle.ir_grammar.specs.declared.written.WrittenCase.{WrittenCase}
+use Rattle.ir_grammar.specs.declared.written.WrittenTerminator.{WrittenTerminator}
 use Rattle.ir_grammar.specs.declared.written.WrittenTerminator.TheVariants as end
+use Rattle.ir_grammar.specs.declared.written.WrittenBody.{WrittenBody}
+use Rattle.ir_grammar.specs.declared.written.WrittenBlock.{WrittenBlock}
+use Rattle.ir_grammar.specs.declared.written.WrittenReturn.{WrittenReturn}
 use Rattle.ir_grammar.specs.declared.written.WrittenReturn.TheVariants.{Void, Value}
+use Rattle.ir_grammar.specs.declared.written.WrittenFunction.{WrittenFunction}
 use Rattle.ir_numbering.specs.declared.numbering.NamedParameter.{NamedParameter}
 use Rattle.ir_numbering.specs.EntryName.{next_name}
 use Rattle.ir_numbering.specs.Places.{places_of}

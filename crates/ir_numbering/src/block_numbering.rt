@@ -1,6 +1,7 @@
 // Numbering the names in the blocks of a function.
-ghost use Rattle.ir_numbering.specs.All.{Numbers, each_in, entry_in, phi_in, case_in, terminator_in};
+ghost use Rattle.ir_numbering.specs.Answer.{Numbers};
 ghost use Rattle.ir_numbering.specs.Numbering as spec;
+ghost use Rattle.ir_numbering.specs.Numbering.{each_in, entry_in, phi_in, case_in, terminator_in};
 
 use crate::numbering::{insts, number, typed, value};
 use ir_grammar::{

@@ -1,7 +1,8 @@
 // The name of what is written without one.
 ghost use Rattle.std.specs.Prelude.{◌≡◌, ◌∷◌, [], IfOk};
 ghost use Rattle.ir_tree.specs.declared.name.Name.TheVariants.{Number};
-ghost use Rattle.ir_numbering.specs.All.{is_greater, is_above, greatest, carried, one_more, next_name, names_of};
+ghost use Rattle.ir_numbering.specs.EntryName.{is_greater, is_above, greatest, carried, one_more, next_name};
+ghost use Rattle.ir_numbering.specs.Numbering.{names_of};
 
 use crate::numbering::NamedParameter;
 use ir_tree::Name;

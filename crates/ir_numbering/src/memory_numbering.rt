@@ -1,6 +1,7 @@
 // Numbering the names in instructions on memory.
-ghost use Rattle.ir_numbering.specs.All.{Numbers, each_in, index_in};
+ghost use Rattle.ir_numbering.specs.Answer.{Numbers};
 ghost use Rattle.ir_numbering.specs.Numbering as spec;
+ghost use Rattle.ir_numbering.specs.Numbering.{each_in, index_in};
 
 use crate::numbering::{number, typed, value};
 use ir_grammar::{WrittenAccess, WrittenGep, WrittenIndex, WrittenTyped, WrittenValue};

@@ -1,7 +1,9 @@
 // Numbering the names of a function in the order in which they are first mentioned.
 ghost use Rattle.std.specs.Prelude.{◌≡◌, [], IfOk};
-ghost use Rattle.ir_numbering.specs.All.{Numbers, next_name, each_in, parameter_in, inst_in, named_behind};
+ghost use Rattle.ir_numbering.specs.Answer.{Numbers};
+ghost use Rattle.ir_numbering.specs.EntryName.{next_name};
 ghost use Rattle.ir_numbering.specs.Numbering as spec;
+ghost use Rattle.ir_numbering.specs.Numbering.{each_in, parameter_in, inst_in, named_behind};
 
 use crate::block_numbering::blocks;
 use crate::entry_name::next_name;

@@ -2,4 +2,3 @@ pub mod Pieces
 pub mod Instructions
 pub mod ModuleText
 pub mod Made
-pub mod All

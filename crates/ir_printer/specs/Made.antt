@@ -3,13 +3,23 @@ use Rattle.std.proofs.Common.{lit≤}
 use Rattle.std.specs.Prelude.{ℕ, zero, suc, ◌+◌, ◌*◌, ◌-◌, ◌/◌, ◌%◌, ◌^◌, List, [], ◌∷◌, ◌++◌, codes, Bool, true, false, ◌&&◌, ◌==◌, nat_lt, if◌then◌else◌, Some, Ok, fold}
 use Rattle.std.specs.Fmt.{decimal}
 use Rattle.tv_num.specs.declared.Width.{Width}
-use Rattle.ir_tree.specs.All.{with_name, Name, Flags, Op, Operand, Inst, Parameter, Block, Function, Entry, Module}
+use Rattle.ir_tree.specs.Names.{with_name}
+use Rattle.ir_tree.specs.declared.name.Name.{Name}
 use Rattle.ir_tree.specs.declared.name.Name.TheVariants as name
 use Rattle.ir_tree.specs.declared.tree.IrType.TheVariants.{Int}
+use Rattle.ir_tree.specs.declared.tree.Flags.{Flags}
+use Rattle.ir_tree.specs.declared.tree.Op.{Op}
 use Rattle.ir_tree.specs.declared.tree.Op.TheVariants as op
+use Rattle.ir_tree.specs.declared.tree.Operand.{Operand}
 use Rattle.ir_tree.specs.declared.tree.Operand.TheVariants.{Local}
+use Rattle.ir_tree.specs.declared.tree.Inst.{Inst}
 use Rattle.ir_tree.specs.declared.tree.Inst.TheVariants.{Binary}
+use Rattle.ir_tree.specs.declared.tree.Parameter.{Parameter}
+use Rattle.ir_tree.specs.declared.tree.Block.{Block}
 use Rattle.ir_tree.specs.declared.tree.Terminator.TheVariants.{Return}
+use Rattle.ir_tree.specs.declared.tree.Function.{Function}
+use Rattle.ir_tree.specs.declared.module.Entry.{Entry}
+use Rattle.ir_tree.specs.declared.module.Module.{Module}
 
 -- ---- numbers drawn from a seed, by a linear congruential generator with the constants of the ISO C standard's `rand`
 

@@ -1,7 +1,14 @@
 -- The text of a module: its functions in order, an empty line between two of them (LLVM Language Reference, "Functions").
 use Rattle.std.specs.Prelude.{ℕ, List, [], ◌∷◌, ◌++◌, codes, Bool, true, false, Option, Some, None, Result, Ok, Err}
 use Rattle.std.specs.List.{flat_map}
-use Rattle.ir_tree.specs.All.{Name, IrType, Parameter, Block, Function, Refused, Entry, Module}
+use Rattle.ir_tree.specs.declared.name.Name.{Name}
+use Rattle.ir_tree.specs.declared.tree.IrType.{IrType}
+use Rattle.ir_tree.specs.declared.tree.Parameter.{Parameter}
+use Rattle.ir_tree.specs.declared.tree.Block.{Block}
+use Rattle.ir_tree.specs.declared.tree.Function.{Function}
+use Rattle.ir_tree.specs.declared.module.Refused.{Refused}
+use Rattle.ir_tree.specs.declared.module.Entry.{Entry}
+use Rattle.ir_tree.specs.declared.module.Module.{Module}
 use Rattle.token_text.specs.Pieces.{Piece, text_of}
 use Rattle.ir_printer.specs.Pieces.{none, space, line, word, mark, comma, name_in, local, global, label, type_text}
 use Rattle.ir_printer.specs.Instructions.{word_if, inst_pieces, phi_pieces, terminator_pieces}

@@ -4,7 +4,8 @@ ghost use Rattle.std.specs.Prelude.{◌≡◌, ◌∷◌, ◌++◌, [], OnOk};
 ghost use Rattle.std.specs.List.{flat_map};
 ghost use Rattle.ir_tree.specs.declared.tree.Inst.TheVariants as of;
 ghost use Rattle.token_text.specs.Pieces.{text_of};
-ghost use Rattle.ir_printer.specs.All.{array_pieces, closing_pieces, comma, object_pieces, pointer_pieces, align_pieces, index_pieces, inst_pieces};
+ghost use Rattle.ir_printer.specs.Pieces.{array_pieces, closing_pieces, comma, object_pieces, pointer_pieces};
+ghost use Rattle.ir_printer.specs.Instructions.{align_pieces, index_pieces, inst_pieces};
 
 use crate::instructions::push_result;
 use crate::pieces::{

@@ -4,7 +4,9 @@ ghost use Rattle.std.specs.Prelude.{◌≡◌, ◌∷◌, ◌++◌, [], OnOk};
 ghost use Rattle.std.specs.List.{flat_map};
 ghost use Rattle.ir_tree.specs.declared.tree.Parameter.{Parameter};
 ghost use Rattle.token_text.specs.Pieces.{text_of};
-ghost use Rattle.ir_printer.specs.All.{comma, space, inst_pieces, phi_pieces, block_pieces, function_pieces, header_pieces, parameter_pieces, parameters_pieces, return_text};
+ghost use Rattle.ir_printer.specs.Pieces.{comma, space};
+ghost use Rattle.ir_printer.specs.Instructions.{inst_pieces, phi_pieces};
+ghost use Rattle.ir_printer.specs.ModuleText.{block_pieces, function_pieces, header_pieces, parameter_pieces, parameters_pieces, return_text};
 
 use crate::instructions::{push_inst, push_word_if};
 use crate::pieces::{

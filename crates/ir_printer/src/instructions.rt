@@ -2,7 +2,8 @@
 
 ghost use Rattle.std.specs.Prelude.{◌≡◌, ◌∷◌, ◌++◌, [], OnOk, codes};
 ghost use Rattle.token_text.specs.Pieces.{text_of};
-ghost use Rattle.ir_printer.specs.All.{comma, space, typed_pieces, word, cast_pieces, flag_pieces, inst_pieces, op_pieces, operand_pieces, predicate_text, result_pieces, word_if};
+ghost use Rattle.ir_printer.specs.Pieces.{comma, space, typed_pieces, word};
+ghost use Rattle.ir_printer.specs.Instructions.{cast_pieces, flag_pieces, inst_pieces, op_pieces, operand_pieces, predicate_text, result_pieces, word_if};
 ghost use Rattle.ir_tree.specs.declared.tree.Inst.TheVariants as of;
 
 use crate::accesses::{push_alloca, push_gep, push_load, push_store};

@@ -5,7 +5,8 @@ ghost use Rattle.std.specs.List.{flat_map};
 ghost use Rattle.ir_tree.specs.declared.tree.PhiEntry.{PhiEntry};
 ghost use Rattle.ir_tree.specs.declared.tree.Terminator.TheVariants as of;
 ghost use Rattle.token_text.specs.Pieces.{text_of};
-ghost use Rattle.ir_printer.specs.All.{comma, mark, space, case_pieces, entries_pieces, entry_pieces, phi_pieces, returned_pieces, terminator_pieces};
+ghost use Rattle.ir_printer.specs.Pieces.{comma, mark, space};
+ghost use Rattle.ir_printer.specs.Instructions.{case_pieces, entries_pieces, entry_pieces, phi_pieces, returned_pieces, terminator_pieces};
 
 use crate::instructions::push_result;
 use crate::pieces::{

@@ -5,8 +5,11 @@ use Rattle.std.proofs.lemmas.Bool.{cases_eq}
 use Rattle.std.specs.List.{slice_get}
 use Rattle.std.specs.Option.{is_some}
 use borrow.Author.Count.{below_more}
-use Rattle.ir_tree.specs.All.{IrType, Site, IsUndefinedBefore, IsDefinition, IsFirstDefinition, AreFirst}
+use Rattle.ir_tree.specs.declared.tree.IrType.{IrType}
+use Rattle.ir_tree.specs.declared.sites.Site.{Site}
 use Rattle.ir_tree.specs.declared.sites.Site.TheVariants.{Defines}
+use Rattle.ir_tree.specs.WellFormed.{IsUndefinedBefore}
+use Rattle.ir_tree.specs.Definitions.{IsDefinition, IsFirstDefinition, AreFirst}
 
 pub none_when : (o : Option ℕ) (b : Bool) → is_some o ≡ not b → b ≡ true → o ≡ None
 none_when None b e yes' = refl

@@ -3,8 +3,11 @@ use Rattle.std.proofs.Common.{◌≡◌, ◌⊎◌, ◌+◌, ◌*◌, ◌<◌, �
 use Rattle.std.specs.List.{find, AllByRecursion}
 use Rattle.std.proofs.lemmas.Bool.{cases_Bool, cases_lt}
 use Rattle.std.proofs.lemmas.List.Sums.{sum_by-cons}
-use Rattle.ir_tree.specs.All.{Operand, Inst, Function, carrying_operands, insts_of, makes, carried_from, carried_by, leaves_by, leaves_within, leaf_count, LeafCountsAgree, LeafCountsAreLeast}
+use Rattle.ir_tree.specs.declared.tree.Operand.{Operand}
 use Rattle.ir_tree.specs.declared.tree.Operand.TheVariants.{Local, Number, Null, Poison, Undef}
+use Rattle.ir_tree.specs.declared.tree.Inst.{Inst}
+use Rattle.ir_tree.specs.declared.tree.Function.{Function}
+use Rattle.ir_tree.specs.Carrying.{carrying_operands, insts_of, makes, carried_from, carried_by, leaves_by, leaves_within, leaf_count, LeafCountsAgree, LeafCountsAreLeast}
 
 -- ---- sums
 

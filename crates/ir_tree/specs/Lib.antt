@@ -11,4 +11,3 @@ pub mod SiteLists
 pub mod Carrying
 pub mod WellFormed
 pub mod Definitions
-pub mod All

@@ -1,5 +1,7 @@
 ghost use Rattle.std.specs.Prelude.{◌≡◌, ◌↔◌, IsTrue, ◌+◌, ◌<◌, ℕ, List, All, length, slice_get, slice_index_or, Some, None, IfOk, IsSomeAnd};
-ghost use Rattle.ir_tree.specs.All.{Site, IsNumbered, AreFirst, HasFirsts};
+ghost use Rattle.ir_tree.specs.declared.sites.Site.{Site};
+ghost use Rattle.ir_tree.specs.Sites.{IsNumbered};
+ghost use Rattle.ir_tree.specs.Definitions.{AreFirst, HasFirsts};
 
 use crate::sites::Site;
 use std::alloc::Global;

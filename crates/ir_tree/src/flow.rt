@@ -1,6 +1,8 @@
 // Where the blocks of a function lead, and what an instruction assigns.
 ghost use Rattle.std.specs.Prelude.{◌≡◌, ◌∷◌, [], map, IfOk, MatchOption};
-ghost use Rattle.ir_tree.specs.All.{Case, targets, block_of, results_of, successors, IsIndex};
+ghost use Rattle.ir_tree.specs.declared.tree.Case.{Case};
+ghost use Rattle.ir_tree.specs.Flow.{targets, block_of, results_of, successors};
+ghost use Rattle.ir_tree.specs.BlockIndexes.{IsIndex};
 
 use crate::tree::{Case, Function, Inst, Terminator};
 use indexmap::IndexMap;

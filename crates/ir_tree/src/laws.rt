@@ -1,4 +1,5 @@
-ghost use Rattle.ir_tree.specs.All.{LeafCountsAgree, LeafCountsAreLeast, OneRefusal, RefusedIsNotWellFormed};
+ghost use Rattle.ir_tree.specs.Carrying.{LeafCountsAgree, LeafCountsAreLeast};
+ghost use Rattle.ir_tree.specs.WellFormed.{OneRefusal, RefusedIsNotWellFormed};
 
 /// A function is refused for one reason at one position, and not where it is well formed. It does
 /// nothing.

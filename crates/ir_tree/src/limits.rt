@@ -1,6 +1,7 @@
 ghost use Rattle.std.specs.Prelude.{◌≡◌, ◌+◌, ◌<◌, ◌≤◌, ◌↔◌, IsTrue, All, sum_by, IfSome, None};
 ghost use Rattle.std.specs.Prelude.{◌%◌, ◌^◌, min};
-ghost use Rattle.ir_tree.specs.All.{instructions_of, HasFewCases, HasFewEntries, IsAlignment, HasSmallArrays, HasSmallTypes, HasSmallObjects, IsWithinLimits, cases_in, store_size, padded, type_align, nested_size, object_size, indexed_size};
+ghost use Rattle.ir_tree.specs.Limits.{instructions_of, HasFewCases, HasFewEntries, IsAlignment, HasSmallArrays, HasSmallTypes, HasSmallObjects, IsWithinLimits, cases_in};
+ghost use Rattle.ir_tree.specs.Types.{store_size, padded, type_align, nested_size, object_size, indexed_size};
 
 use crate::tree::{Block, Function, Inst, IrType, MemoryType, Terminator};
 

@@ -1,6 +1,9 @@
 ghost use Rattle.std.specs.Prelude.{◌≡◌, ◌∷◌, [], length, true, Some, slice_index_or, OnOk, IfOk};
 ghost use Rattle.std.specs.List.{flat_map};
-ghost use Rattle.ir_tree.specs.All.{sites, parts, operand_site, is_same_type, same_number, changes_width, indices_sites, index_sites, inst_sites, entry_sites, phi_sites, has_case, case_sites, cases_sites, terminator_sites, returns_type, parameter_steps, phi_steps, inst_steps, block_steps, blocks_steps, no_place, one_bit, with_part, with_parts, refusal_at};
+ghost use Rattle.ir_tree.specs.Sites.{sites, parts, operand_site, is_same_type, same_number, changes_width, indices_sites, index_sites, inst_sites, entry_sites, phi_sites, has_case, case_sites, cases_sites, terminator_sites, returns_type, parameter_steps, phi_steps, inst_steps, block_steps, blocks_steps, no_place};
+ghost use Rattle.ir_tree.specs.Types.{one_bit};
+ghost use Rattle.ir_tree.specs.SiteLists.{with_part, with_parts};
+ghost use Rattle.ir_tree.specs.WellFormed.{refusal_at};
 
 use crate::module::{Reason, Refused};
 use crate::tree::{

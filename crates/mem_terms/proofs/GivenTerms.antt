@@ -12,8 +12,13 @@ use Rattle.bv_terms.specs.declared.term.Term.{Term}
 use Rattle.bv_terms.specs.Tree.{width_of}
 use Rattle.bv_terms.specs.Trees.{AreInRange, IsTerm, Keeps, Makes, Tests, bit_at, term_at, tree_in}
 use Rattle.mem_terms.specs.declared.inputs.ArgTerms.TheVariants as arg
-use Rattle.mem_terms.specs.All.{ByteTerms, Each, Reading, value_at, SymByte, AreGivenBlocks, AreSymBlocks, AreSymBytes, IsAlways, IsSymBlock, IsSymByte, SymFrame, block_at, byte_at, frame_of, given_frames, memory_at, places_at, SymBlock, IsArg, IsBlockTerms, IsByteTerms, arg_at, given_block_at, given_blocks_at, given_byte_at}
+use Rattle.mem_terms.specs.declared.inputs.ByteTerms.{ByteTerms}
+use Rattle.mem_terms.specs.Values.{Each, Reading, value_at}
+use Rattle.mem_terms.specs.declared.bytes.SymByte.{SymByte}
+use Rattle.mem_terms.specs.Memory.{AreGivenBlocks, AreSymBlocks, AreSymBytes, IsAlways, IsSymBlock, IsSymByte, SymFrame, block_at, byte_at, frame_of, given_frames, memory_at, places_at}
+use Rattle.mem_terms.specs.declared.blocks.SymBlock.{SymBlock}
 use Rattle.mem_terms.proofs.Eaches.{each-at, each-push, map-at, map-length, map-push, map-take, take-push}
+use Rattle.mem_terms.specs.Inputs.{IsArg, IsBlockTerms, IsByteTerms, arg_at, given_block_at, given_blocks_at, given_byte_at}
 use Rattle.mem_terms.proofs.Bits.{term-below}
 use Rattle.mem_terms.proofs.Later.{always-later, always_each-later, bit-later, block-later, blocks-same, byte-later, given_block_at-later, given_byte_at-later, given_bytes_at-later, keeps_trans, places-later, sym_blocks-later, sym_bytes-later, term-later}
 use Rattle.mem_terms.proofs.Made.{below-wider, pick-later, small_mod}

@@ -1,15 +1,28 @@
 -- What was said of terms is said of more of them.
 use Rattle.std.proofs.Common.{ℕ, ◌≡◌, ◌+◌, ◌<◌, Bool, List, [], ◌∷◌, length, map, Option, Some, None, IfSome, refl, ap, sym, ◌∙◌, arith}
 use Rattle.std.specs.Option.{option_map}
-use Rattle.ir_tree.specs.All.{IrType, Parameter}
+use Rattle.ir_tree.specs.declared.tree.IrType.{IrType}
 use Rattle.ir_tree.specs.declared.tree.IrType.TheVariants as type
-use Rattle.points.specs.All.{Layout, Run}
+use Rattle.ir_tree.specs.declared.tree.Parameter.{Parameter}
+use Rattle.points.specs.declared.point.Layout.{Layout}
+use Rattle.points.specs.Run.{Run}
 use Rattle.bv_terms.specs.declared.term.TermId.{TermId}
 use Rattle.bv_terms.specs.declared.term.Term.{Term}
 use Rattle.bv_terms.specs.Tree.{width_of, value_of, truth}
 use Rattle.bv_terms.specs.Trees.{Keeps, Makes, Tests, IsTerm, term_at, bit_at}
-use Rattle.mem_terms.specs.All.{SymNumber, ArgTerms, ByteTerms, InputTerms, OutcomeTerms, SymValue, SymByte, SymBlock, Each, Reading, IsSymNumber, IsSymValue, AreSymValues, number_at, value_at, values_at, IsSymByte, AreSymBytes, IsSymBlock, AreSymBlocks, AreGivenBlocks, IsAlways, SymFrame, byte_at, places_at, block_at, memory_at, IsArg, AreArgs, AreWords, IsByteTerms, IsBlockTerms, IsInput, arg_at, args_at, words_at, given_byte_at, given_block_at, given_blocks_at, input_at, IsOutcome, Shows, outcome_at}
+use Rattle.mem_terms.specs.declared.integers.SymNumber.{SymNumber}
+use Rattle.mem_terms.specs.declared.inputs.ArgTerms.{ArgTerms}
 use Rattle.mem_terms.specs.declared.inputs.ArgTerms.TheVariants as arg
+use Rattle.mem_terms.specs.declared.inputs.ByteTerms.{ByteTerms}
+use Rattle.mem_terms.specs.declared.inputs.InputTerms.{InputTerms}
+use Rattle.mem_terms.specs.declared.outcome.OutcomeTerms.{OutcomeTerms}
+use Rattle.mem_terms.specs.declared.values.SymValue.{SymValue}
+use Rattle.mem_terms.specs.declared.bytes.SymByte.{SymByte}
+use Rattle.mem_terms.specs.declared.blocks.SymBlock.{SymBlock}
+use Rattle.mem_terms.specs.Values.{Each, Reading, IsSymNumber, IsSymValue, AreSymValues, number_at, value_at, values_at}
+use Rattle.mem_terms.specs.Memory.{IsSymByte, AreSymBytes, IsSymBlock, AreSymBlocks, AreGivenBlocks, IsAlways, SymFrame, byte_at, places_at, block_at, memory_at}
+use Rattle.mem_terms.specs.Inputs.{IsArg, AreArgs, AreWords, IsByteTerms, IsBlockTerms, IsInput, arg_at, args_at, words_at, given_byte_at, given_block_at, given_blocks_at, input_at}
+use Rattle.mem_terms.specs.Outcomes.{IsOutcome, Shows, outcome_at}
 use Rattle.mem_terms.proofs.Eaches.{each-weaker, map-same}
 
 pub keeps_trans : (a b c : List Term) → Keeps a b → Keeps b c → Keeps a c

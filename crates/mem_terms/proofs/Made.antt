@@ -5,7 +5,8 @@ use Rattle.bv_terms.specs.declared.term.TermId.{TermId}
 use Rattle.bv_terms.specs.declared.term.Term.{Term}
 use Rattle.bv_terms.specs.Tree.{width_of, truth}
 use Rattle.bv_terms.specs.Trees.{Keeps, Makes, Tests, IsTerm, AreInRange, term_at, bit_at, tree_in}
-use Rattle.mem_terms.specs.All.{SymNumber, IsSymNumber, number_at, value_from}
+use Rattle.mem_terms.specs.declared.integers.SymNumber.{SymNumber}
+use Rattle.mem_terms.specs.Values.{IsSymNumber, number_at, value_from}
 use Rattle.mem_terms.proofs.Later.{bit-later, term-later, within-later}
 
 -- ---- numbers of another width

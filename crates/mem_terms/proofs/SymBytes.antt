@@ -6,7 +6,9 @@ use Rattle.bv_terms.specs.declared.term.TermId.{TermId}
 use Rattle.bv_terms.specs.declared.term.Term.{Term}
 use Rattle.bv_terms.specs.Tree.{width_of}
 use Rattle.bv_terms.specs.Trees.{IsTerm, Keeps, Makes, bit_at, term_at, tree_in}
-use Rattle.mem_terms.specs.All.{SymByte, Reading, IsSymByte, byte_at, byte_of}
+use Rattle.mem_terms.specs.declared.bytes.SymByte.{SymByte}
+use Rattle.mem_terms.specs.Values.{Reading}
+use Rattle.mem_terms.specs.Memory.{IsSymByte, byte_at, byte_of}
 use Rattle.mem_terms.proofs.Later.{keeps_self, keeps_trans}
 use Rattle.mem_terms.proofs.Made.{makes-term, pick-later}
 

@@ -7,7 +7,9 @@ use Rattle.bv_terms.specs.declared.term.TermId.{TermId}
 use Rattle.bv_terms.specs.declared.term.Term.{Term}
 use Rattle.bv_terms.specs.Tree.{width_of, truth}
 use Rattle.bv_terms.specs.Trees.{Keeps, Makes, Tests, IsTerm, term_at, bit_at, tree_in}
-use Rattle.mem_terms.specs.All.{SymNumber, SymValue, Reading, IsSymNumber, IsSymValue, as_integer, number_at, value_at, value_from, value_of}
+use Rattle.mem_terms.specs.declared.integers.SymNumber.{SymNumber}
+use Rattle.mem_terms.specs.declared.values.SymValue.{SymValue}
+use Rattle.mem_terms.specs.Values.{Reading, IsSymNumber, IsSymValue, as_integer, number_at, value_at, value_from, value_of}
 use Rattle.mem_terms.proofs.Later.{bit-later, term-later, keeps_self, keeps_trans}
 use Rattle.mem_terms.proofs.Made.{pick-later}
 

@@ -2,4 +2,3 @@ pub mod Values
 pub mod Inputs
 pub mod Memory
 pub mod Outcomes
-pub mod All

@@ -1,8 +1,9 @@
 -- What the terms of an outcome show of a run, under an assignment of the variables.
 use Rattle.std.specs.Prelude.{◌≡◌, ◌↔◌, ℕ, true, cond, List, length, map, IfSome}
 use Rattle.std.specs.Option.{option_map}
-use Rattle.points.specs.All.{Outcome, Run, IsPlain}
+use Rattle.points.specs.declared.outcome.Outcome.{Outcome}
 use Rattle.points.specs.declared.outcome.Outcome.TheVariants.{Return, Ub, Beyond}
+use Rattle.points.specs.Run.{Run, IsPlain}
 use Rattle.bv_terms.specs.declared.term.Term.{Term}
 use Rattle.bv_terms.specs.Trees.{IsTerm, bit_at, term_at}
 use Rattle.mem_terms.specs.declared.outcome.OutcomeTerms.{OutcomeTerms}

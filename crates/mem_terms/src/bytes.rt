@@ -3,7 +3,8 @@
 ghost use Rattle.std.specs.Prelude.{◌≡◌, IfOk, cond};
 ghost use Rattle.byte_block.specs.declared.value.Byte.TheVariants.{Poison};
 ghost use Rattle.bv_terms.specs.Trees.{IsTerm, Keeps, bit_at};
-ghost use Rattle.mem_terms.specs.All.{Reading, IsSymByte, byte_at};
+ghost use Rattle.mem_terms.specs.Values.{Reading};
+ghost use Rattle.mem_terms.specs.Memory.{IsSymByte, byte_at};
 
 use crate::numbers::{number, pick};
 use bv_terms::{TermId, Terms};

@@ -2,8 +2,10 @@
 
 ghost use Rattle.std.specs.Prelude.{◌≡◌, ◌<◌, ℕ, IfOk, cond, length, map, List};
 ghost use Rattle.bv_terms.specs.Trees.{IsTerm, Keeps, bit_at};
-ghost use Rattle.mem_terms.specs.All.{Each, IsSymValue, Reading, value_at, AreGivenBlocks, AreSymBlocks, AreSymBytes, IsAlways, IsSymBlock, IsSymByte, SymFrame, block_at, byte_at, frame_of, frames_of, memory_at, places_at, IsArg, IsBlockTerms, IsByteTerms, arg_at, given_block_at, given_blocks_at, given_byte_at};
+ghost use Rattle.mem_terms.specs.Values.{Each, IsSymValue, Reading, value_at};
 ghost use Rattle.points.specs.declared.point.Layout.{Layout};
+ghost use Rattle.mem_terms.specs.Memory.{AreGivenBlocks, AreSymBlocks, AreSymBytes, IsAlways, IsSymBlock, IsSymByte, SymFrame, block_at, byte_at, frame_of, frames_of, memory_at, places_at};
+ghost use Rattle.mem_terms.specs.Inputs.{IsArg, IsBlockTerms, IsByteTerms, arg_at, given_block_at, given_blocks_at, given_byte_at};
 
 use crate::blocks::SymBlock;
 use crate::bytes::{SymByte, pick_byte};

@@ -1,12 +1,18 @@
 -- Rows of pairs that are judged, and their own answers.
 use Rattle.std.proofs.Common.{◌≡◌, List, [], ◌∷◌, ◌++◌, refl, sym, ap, ◌∙◌, Option, Some, None, Result, Ok, Err, Bool, true, false, if◌then◌else◌}
-use Rattle.ir_tree.specs.All.{Function, Refused, Entry}
-use Rattle.points.specs.All.{Bounds, Budget}
-use Rattle.verdicts.specs.All.{Verdict, Functions, same_signature}
+use Rattle.ir_tree.specs.declared.tree.Function.{Function}
+use Rattle.ir_tree.specs.declared.module.Refused.{Refused}
+use Rattle.ir_tree.specs.declared.module.Entry.{Entry}
+use Rattle.points.specs.declared.point.Bounds.{Bounds}
+use Rattle.points.specs.declared.point.Budget.{Budget}
+use Rattle.verdicts.specs.declared.verdict.Verdict.{Verdict}
 use Rattle.verdicts.specs.declared.verdict.Verdict.TheVariants as verdict
+use Rattle.verdicts.specs.Pair.{Functions, same_signature}
 use Rattle.pair_driver.specs.declared.judged.Judged.{Judged}
-use Rattle.report.specs.All.{Finding, Row, function_named, IsJudged, IsCompared, IsFinding, AreSourceRows}
+use Rattle.report.specs.declared.row.Finding.{Finding}
 use Rattle.report.specs.declared.row.Finding.TheVariants as finding
+use Rattle.report.specs.declared.row.Row.{Row}
+use Rattle.report.specs.Rows.{function_named, IsJudged, IsCompared, IsFinding, AreSourceRows}
 use Rattle.module_rows.specs.Judging.{pairs_in, judged_pairs, AreAnswers, verdicts_in, verdicts_of, verdicts_answered, ReportsNext, ReportOwnAnswers}
 
 abbrev first_or : Verdict → List Verdict → Verdict

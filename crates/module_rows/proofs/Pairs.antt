@@ -2,7 +2,12 @@
 use Rattle.std.proofs.Common.{◌≡◌, ℕ, suc, ◌+◌, ◌-◌, ◌*◌, ◌^◌, ◌<◌, ◌≤◌, arith, refl, List, [], ◌∷◌, ◌++◌, length, length-append, Option, Some, None, Result, Ok, Err, Bool, true, false, true≢false, sym, ap, is_some, if◌then◌else◌}
 use Rattle.std.proofs.Math.Nat.{mul-le-mul_left}
 use Rattle.std.specs.List.{AllByRecursion}
-use Rattle.ir_tree.specs.All.{Name, Function, Refused, Entry, Module, same_name}
+use Rattle.ir_tree.specs.declared.name.Name.{Name}
+use Rattle.ir_tree.specs.declared.tree.Function.{Function}
+use Rattle.ir_tree.specs.declared.module.Refused.{Refused}
+use Rattle.ir_tree.specs.declared.module.Entry.{Entry}
+use Rattle.ir_tree.specs.declared.module.Module.{Module}
+use Rattle.ir_tree.specs.Names.{same_name}
 use Rattle.ir_lexer.specs.Lexeme.{Lexeme}
 use Rattle.ir_items.specs.declared.item.Define.{Define}
 use Rattle.ir_items.specs.Items.{IsCut, nothing, other, define}

@@ -2,7 +2,8 @@
 use Rattle.std.proofs.Common.{◌≡◌, Option, Some, None}
 use Rattle.std.specs.Prelude.{IfSome, Ok}
 use Rattle.std.specs.Borrow.{Bor}
-use Rattle.ir_tree.specs.All.{Entry, Function}
+use Rattle.ir_tree.specs.declared.module.Entry.{Entry}
+use Rattle.ir_tree.specs.declared.tree.Function.{Function}
 use Rattle.ir_reader.specs.Judgeable.{IsJudgeableEntry}
 use Rattle.points.specs.Runnable.{IsRunnable}
 use Rattle.points.proofs.Runnable.{runnable}

@@ -8,8 +8,10 @@ use Rattle.std.proofs.lemmas.Iterator.Adapters.{position_from-zero}
 use Rattle.std.proofs.Math.Seq.{take-suc}
 use Rattle.std.specs.List.{IsDistinct, AllByRecursion, list_any, position, position_from}
 use Rattle.std.specs.Str.{bytes_eq}
-use Rattle.ir_tree.specs.All.{Name, Entry, same_name, with_name}
+use Rattle.ir_tree.specs.declared.name.Name.{Name}
 use Rattle.ir_tree.specs.declared.name.Name.TheVariants.{Number, Word}
+use Rattle.ir_tree.specs.declared.module.Entry.{Entry}
+use Rattle.ir_tree.specs.Names.{same_name, with_name}
 use Rattle.report.specs.Rows.{function_named}
 use Rattle.module_rows.specs.Searching.{entry_names}
 

@@ -1,16 +1,24 @@
 -- Which pairs of two modules are judged, and what the judge answered of them.
 use Rattle.std.specs.Prelude.{◌≡◌, List, [], ◌∷◌, drop, length, map, take, Option, Some, None, Result, Ok, Err, if◌then◌else◌}
 use Rattle.std.specs.List.{flat_map}
-use Rattle.ir_tree.specs.All.{Function, Refused, Entry}
-use Rattle.points.specs.All.{Bounds, Budget}
-use Rattle.verdicts.specs.All.{Shown, Verdict, Functions, same_signature, IsShown}
+use Rattle.ir_tree.specs.declared.tree.Function.{Function}
+use Rattle.ir_tree.specs.declared.module.Refused.{Refused}
+use Rattle.ir_tree.specs.declared.module.Entry.{Entry}
+use Rattle.points.specs.declared.point.Bounds.{Bounds}
+use Rattle.points.specs.declared.point.Budget.{Budget}
+use Rattle.verdicts.specs.declared.verdict.Shown.{Shown}
+use Rattle.verdicts.specs.declared.verdict.Verdict.{Verdict}
 use Rattle.verdicts.specs.declared.verdict.Verdict.TheVariants as verdict
+use Rattle.verdicts.specs.Pair.{Functions, same_signature}
+use Rattle.verdicts.specs.Shown.{IsShown}
 use Rattle.pair_driver.specs.declared.judged.Judged.{Judged}
 use Rattle.pair_judge.specs.Answers.{IsAnswer}
 use Rattle.pair_judge.specs.Laws.{MayBeTold}
 use Rattle.report.specs.declared.row.Side.TheVariants as side
-use Rattle.report.specs.All.{Finding, Row, function_named}
+use Rattle.report.specs.declared.row.Finding.{Finding}
 use Rattle.report.specs.declared.row.Finding.TheVariants as finding
+use Rattle.report.specs.declared.row.Row.{Row}
+use Rattle.report.specs.Rows.{function_named}
 
 -- a function of the source and the target's of its name are judged where both are accepted and their signatures are equal
 abbrev pub pairs_in : Result Function Refused → Option (Result Function Refused) → List Functions

@@ -7,14 +7,25 @@ use Rattle.std.proofs.lemmas.List.Concat.{length-flat_map}
 use Rattle.std.proofs.Math.Seq.{drop-length}
 use Rattle.std.proofs.Math.Nat.{mul-le-mul_right, mod-eq_of_lt}
 use Rattle.tv_num.specs.declared.Width.{Width}
-use Rattle.ir_tree.specs.All.{IrType, Op, Inst, Terminator, Block, Function, Phi, MemoryType, store_size, object_size, IsWithinLimits, instructions_of, cases_in, HasFewCases, HasFewEntries, HasSmallTypes, HasSmallObjects}
+use Rattle.ir_tree.specs.declared.tree.IrType.{IrType}
 use Rattle.ir_tree.specs.declared.tree.IrType.TheVariants as type
+use Rattle.ir_tree.specs.declared.tree.Op.{Op}
 use Rattle.ir_tree.specs.declared.tree.Op.TheVariants.{Add, Sub, Mul, UnsignedDiv, UnsignedRem, SignedDiv, SignedRem, ShiftLeft, LogicalShiftRight, ArithmeticShiftRight, And, Or, Xor}
+use Rattle.ir_tree.specs.declared.tree.Inst.{Inst}
 use Rattle.ir_tree.specs.declared.tree.Inst.TheVariants.{Binary, Icmp, Cast, Select, Freeze, Alloca, Load, Store, GetElementPtr}
+use Rattle.ir_tree.specs.declared.tree.Terminator.{Terminator}
 use Rattle.ir_tree.specs.declared.tree.Terminator.TheVariants as terminator
+use Rattle.ir_tree.specs.declared.tree.Block.{Block}
+use Rattle.ir_tree.specs.declared.tree.Function.{Function}
 use Rattle.std.specs.List.{AllByRecursion}
 use Rattle.std.proofs.lemmas.List.Elements.{recursion_from_All}
-use Rattle.points.specs.All.{Bounds, IsRunnable, inst_widths, end_widths, block_widths, choice_widths, widest}
+use Rattle.ir_tree.specs.declared.tree.Phi.{Phi}
+use Rattle.ir_tree.specs.declared.tree.MemoryType.{MemoryType}
+use Rattle.ir_tree.specs.Types.{store_size, object_size}
+use Rattle.ir_tree.specs.Limits.{IsWithinLimits, instructions_of, cases_in, HasFewCases, HasFewEntries, HasSmallTypes, HasSmallObjects}
+use Rattle.points.specs.declared.point.Bounds.{Bounds}
+use Rattle.points.specs.Runnable.{IsRunnable}
+use Rattle.points.specs.Tapes.{inst_widths, end_widths, block_widths, choice_widths, widest}
 use Rattle.verdicts.specs.Weight.{type_width, op_cost, made_bytes, made_in, inst_cost, phi_cost, end_cost, block_cost}
 use Rattle.points.proofs.Plain.{widest-append}
 use Rattle.pair_costs.specs.Small.{AreSmall}

@@ -1,7 +1,9 @@
 //! How many words of its tape a run reads.
 
 ghost use Rattle.std.specs.Prelude.{◌≡◌, ◌≤◌, ◌+◌, ◌*◌, sum_by, length, IfOk};
-ghost use Rattle.points.specs.All.{undef_type, IsRunnable, word_widths, inst_widths, widths_of, returned_widths, end_widths, block_widths, choice_widths, need_of};
+ghost use Rattle.points.specs.Run.{undef_type};
+ghost use Rattle.points.specs.Runnable.{IsRunnable};
+ghost use Rattle.points.specs.Tapes.{word_widths, inst_widths, widths_of, returned_widths, end_widths, block_widths, choice_widths, need_of};
 
 use ir_tree::{Block, Function, Inst, IrType, Operand, Terminator, TypedOperand};
 use support::NoMemory;

@@ -2,9 +2,15 @@
 use Rattle.std.proofs.Common.{◌≡◌, ℕ, arith, refl, false, All, get_or, slice_get, Option, Some, None, inl}
 use Rattle.std.specs.List.{Contains}
 use Rattle.std.proofs.lemmas.Option.{slice_get-get_or}
-use Rattle.ir_tree.specs.All.{IrType, Terminator, Block, Function, terminator_sites, IsWithinLimits, CanRun, FitsReturn, HasSmallNumbers, ReturnsFit, IsWellFormed}
+use Rattle.ir_tree.specs.declared.tree.IrType.{IrType}
+use Rattle.ir_tree.specs.declared.tree.Terminator.{Terminator}
 use Rattle.ir_tree.specs.declared.tree.Terminator.TheVariants as terminator
+use Rattle.ir_tree.specs.declared.tree.Block.{Block}
+use Rattle.ir_tree.specs.declared.tree.Function.{Function}
 use Rattle.ir_tree.specs.declared.sites.Site.TheVariants.{Written}
+use Rattle.ir_tree.specs.Sites.{terminator_sites}
+use Rattle.ir_tree.specs.Limits.{IsWithinLimits, CanRun, FitsReturn, HasSmallNumbers, ReturnsFit}
+use Rattle.ir_tree.specs.WellFormed.{IsWellFormed}
 use Rattle.ir_tree.proofs.Standing.{end_site}
 
 -- no end of a block has a site that was wrongly written

@@ -1,10 +1,13 @@
 -- What an answer says.
 use Rattle.std.proofs.Common.{◌≡◌, refl, inl, inr, Option, Some, None}
-use Rattle.verdicts.specs.All.{Verdict, Kept, Functions}
+use Rattle.verdicts.specs.declared.verdict.Verdict.{Verdict}
 use Rattle.verdicts.specs.declared.verdict.Verdict.TheVariants.{Correct, Incorrect, Unknown}
 use Rattle.verdicts.specs.declared.verdict.Cause.TheVariants.{Weight, Rounds, Conflicts}
 use Rattle.clause_log.specs.declared.step.Cert.{Cert}
-use Rattle.points.specs.All.{Bounds, Budget}
+use Rattle.points.specs.declared.point.Bounds.{Bounds}
+use Rattle.points.specs.declared.point.Budget.{Budget}
+use Rattle.verdicts.specs.declared.verdict.Kept.{Kept}
+use Rattle.verdicts.specs.Pair.{Functions}
 use Rattle.instantiate.specs.Settling.{IsJudged}
 use Rattle.pair_judge.specs.Laws.{MayBeTold, AnswersAreVerdicts}
 

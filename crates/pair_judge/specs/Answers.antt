@@ -1,7 +1,9 @@
 -- Which pairs the judge takes, and what it may answer of them.
 use Rattle.std.specs.Prelude.{All}
-use Rattle.ir_tree.specs.All.{IsWithinLimits, HasSmallNumbers, IsWellFormed}
-use Rattle.points.specs.All.{Bounds, Budget}
+use Rattle.ir_tree.specs.Limits.{IsWithinLimits, HasSmallNumbers}
+use Rattle.ir_tree.specs.WellFormed.{IsWellFormed}
+use Rattle.points.specs.declared.point.Bounds.{Bounds}
+use Rattle.points.specs.declared.point.Budget.{Budget}
 use Rattle.verdicts.specs.Pair.{Functions}
 use Rattle.pair_driver.specs.declared.judged.Judged.{Judged}
 use Rattle.instantiate.specs.Settling.{IsJudged}

@@ -1,9 +1,12 @@
 -- What follows from the answers.
 use Rattle.std.specs.Prelude.{◌≡◌, ◌<◌, ◌⊎◌}
-use Rattle.points.specs.All.{Bounds, Budget}
-use Rattle.verdicts.specs.All.{Verdict, Functions, IsVerdict}
+use Rattle.points.specs.declared.point.Bounds.{Bounds}
+use Rattle.points.specs.declared.point.Budget.{Budget}
+use Rattle.verdicts.specs.declared.verdict.Verdict.{Verdict}
 use Rattle.verdicts.specs.declared.verdict.Verdict.TheVariants.{Unknown}
 use Rattle.verdicts.specs.declared.verdict.Cause.TheVariants.{Conflicts}
+use Rattle.verdicts.specs.Pair.{Functions}
+use Rattle.verdicts.specs.Trail.{IsVerdict}
 use Rattle.pair_driver.specs.declared.judged.Judged.{Judged}
 use Rattle.pair_judge.specs.Answers.{IsAnswer}
 

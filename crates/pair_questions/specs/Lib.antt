@@ -8,4 +8,3 @@ pub mod Questions
 pub mod Shapes
 pub mod Subjects
 pub mod Tapes
-pub mod All

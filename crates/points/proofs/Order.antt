@@ -4,7 +4,8 @@ use Rattle.std.proofs.Math.Nat.{mul-le-mul_right, pow-succ'}
 use Rattle.std.proofs.Common.{pow-add}
 use Rattle.std.proofs.lemmas.Bool.{cases_order}
 use Rattle.std.proofs.lemmas.Nat.{same_from_place}
-use Rattle.points.specs.All.{number_of, IsChain}
+use Rattle.points.specs.Code.{number_of}
+use Rattle.points.specs.Codes.{IsChain}
 
 -- this number of digits
 abbrev pub Digits : ℕ → List ℕ → Type 0

@@ -3,7 +3,9 @@ use Rattle.std.proofs.Common.{◌≡◌, inl, inr, ℕ, zero, suc, ◌+◌, ◌-
 use Rattle.std.proofs.Math.ListN.{set}
 use Rattle.std.specs.List.{flat_map}
 use Rattle.std.proofs.lemmas.Bool.{cases_eq}
-use Rattle.points.specs.All.{number_of, IsChain, from_place}
+use Rattle.points.specs.Code.{number_of}
+use Rattle.points.specs.Codes.{IsChain}
+use Rattle.points.specs.Next.{from_place}
 use Rattle.points.proofs.Order.{Digits, digits_as, IsNextIn, IsLastIn, HaveDigits, next_in_back, next_in_front, last_in_both, number_of-append}
 use Rattle.points.proofs.Args.{Digits-append}
 

@@ -2,11 +2,18 @@
 use Rattle.std.proofs.Common.{Option, Some, None, ◌*◌, ◌≤◌, List, [], ◌∷◌, length, sum_by, arith, length-append}
 use Rattle.std.specs.List.{flat_map}
 use Rattle.std.proofs.lemmas.List.Sums.{sum_by-cons}
-use Rattle.ir_tree.specs.All.{IrType, Inst, Terminator, Block, Function, IsWithinLimits, instructions_of}
+use Rattle.ir_tree.specs.declared.tree.IrType.{IrType}
 use Rattle.ir_tree.specs.declared.tree.IrType.TheVariants as type
+use Rattle.ir_tree.specs.declared.tree.Inst.{Inst}
 use Rattle.ir_tree.specs.declared.tree.Inst.TheVariants.{Binary, Icmp, Cast, Select, Freeze, Alloca, Load, Store, GetElementPtr}
+use Rattle.ir_tree.specs.declared.tree.Terminator.{Terminator}
 use Rattle.ir_tree.specs.declared.tree.Terminator.TheVariants as terminator
-use Rattle.points.specs.All.{undef_type, IsRunnable, word_widths, inst_widths, widths_of, end_widths, block_widths}
+use Rattle.ir_tree.specs.declared.tree.Block.{Block}
+use Rattle.ir_tree.specs.declared.tree.Function.{Function}
+use Rattle.ir_tree.specs.Limits.{IsWithinLimits, instructions_of}
+use Rattle.points.specs.Run.{undef_type}
+use Rattle.points.specs.Runnable.{IsRunnable}
+use Rattle.points.specs.Tapes.{word_widths, inst_widths, widths_of, end_widths, block_widths}
 
 two_choice_words : (type : IrType) → length (word_widths type) ≤ 2
 two_choice_words (type.Int width) = omega arith

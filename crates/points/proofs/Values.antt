@@ -5,14 +5,18 @@ use Rattle.std.proofs.Math.ListN.{set}
 use Rattle.std.proofs.lemmas.Bool.{cases_eq}
 use Rattle.std.proofs.lemmas.Nat.{pow_pos}
 use Rattle.tv_num.specs.declared.Width.{Width}
-use Rattle.ir_tree.specs.All.{IrType, Parameter}
+use Rattle.ir_tree.specs.declared.tree.IrType.{IrType}
 use Rattle.ir_tree.specs.declared.tree.IrType.TheVariants.{Int}
 use Rattle.ir_tree.specs.declared.tree.IrType.TheVariants as type
+use Rattle.ir_tree.specs.declared.tree.Parameter.{Parameter}
 use Rattle.byte_block.specs.declared.value.Ptr.{Ptr}
 use Rattle.byte_block.specs.declared.value.Value.{Value}
 use Rattle.byte_block.specs.declared.value.Value.TheVariants.{Num, Poison}
 use Rattle.byte_block.specs.declared.value.Value.TheVariants as value
-use Rattle.points.specs.All.{Layout, number_of, PointerFits, ValueFits, ArgsFit, value_code, args_code, IsChain, IsNextValue, IsLastValue, value_number, IsNextArgs, IsLastArgs, args_number, least_value, least_from, pointer_number}
+use Rattle.points.specs.declared.point.Layout.{Layout}
+use Rattle.points.specs.Code.{number_of, PointerFits, ValueFits, ArgsFit, value_code, args_code}
+use Rattle.points.specs.Codes.{IsChain}
+use Rattle.points.specs.Next.{IsNextValue, IsLastValue, value_number, IsNextArgs, IsLastArgs, args_number, least_value, least_from, pointer_number}
 use Rattle.points.proofs.Order.{IsNextIn, IsLastIn, HaveDigits, next_in_back, next_in_front, last_in_both}
 use Rattle.points.proofs.Args.{type_digits, digits_of, value_digits, args_digits}
 use Rattle.points.proofs.ByteOrder.{pointer_at_most}

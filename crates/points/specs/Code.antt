@@ -1,8 +1,9 @@
 -- The code of a point: a list of numbers below 2 ^ 64 of a length that the shape fixes. Points are ordered by their codes, the first number most significant.
 use Rattle.std.specs.Prelude.{◌≡◌, ℕ, zero, suc, ◌+◌, ◌-◌, ◌*◌, ◌^◌, ◌<◌, ◌≤◌, List, [], ◌∷◌, ◌++◌, length, map, drop, replicate}
 use Rattle.std.specs.List.{flat_map}
-use Rattle.ir_tree.specs.All.{IrType, Parameter}
+use Rattle.ir_tree.specs.declared.tree.IrType.{IrType}
 use Rattle.ir_tree.specs.declared.tree.IrType.TheVariants as type
+use Rattle.ir_tree.specs.declared.tree.Parameter.{Parameter}
 use Rattle.byte_block.specs.declared.value.Value.{Value}
 use Rattle.byte_block.specs.declared.value.Value.TheVariants as value
 use Rattle.byte_block.specs.declared.value.Ptr.{Ptr}

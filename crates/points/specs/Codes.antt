@@ -1,7 +1,8 @@
 -- Which lists of numbers are codes of a shape. It speaks of numbers only, not of points.
 use Rattle.std.specs.Prelude.{◌≡◌, ◌⊎◌, ℕ, zero, suc, ◌^◌, ◌<◌, ◌≤◌, List, [], ◌∷◌, ◌++◌}
-use Rattle.ir_tree.specs.All.{IrType, Parameter}
+use Rattle.ir_tree.specs.declared.tree.IrType.{IrType}
 use Rattle.ir_tree.specs.declared.tree.IrType.TheVariants.{Int, Ptr}
+use Rattle.ir_tree.specs.declared.tree.Parameter.{Parameter}
 use Rattle.points.specs.declared.point.Layout.{Layout}
 use Rattle.points.specs.declared.point.Shape.{Shape}
 use Rattle.points.specs.Code.{WordsFit}

@@ -9,4 +9,3 @@ pub mod Run
 pub mod Runnable
 pub mod Table
 pub mod Tapes
-pub mod All

@@ -1,6 +1,7 @@
 -- Which functions may be run.
 use Rattle.std.specs.Prelude.{◌≤◌, All, length}
-use Rattle.ir_tree.specs.All.{Function, HasSmallObjects}
+use Rattle.ir_tree.specs.declared.tree.Function.{Function}
+use Rattle.ir_tree.specs.Limits.{HasSmallObjects}
 use Rattle.points.specs.Tapes.{choice_widths}
 
 -- its choices have at most 65 words for each of 65,536 instructions, and its objects are small

@@ -1,5 +1,6 @@
 ghost use Rattle.std.specs.Prelude.{◌≡◌, ◌+◌, ◌*◌, ◌^◌, ◌≤◌, IsTrue, IsFalse, length, MatchOption};
-ghost use Rattle.points.specs.All.{name_digit, BlockFits, PointerFits, ByteFits, pointer_number, IsNextByte, IsLastByte, PlacesFit, IsNextPlaces, IsLastPlaces, from_place, zero_byte};
+ghost use Rattle.points.specs.Code.{name_digit, BlockFits, PointerFits, ByteFits};
+ghost use Rattle.points.specs.Next.{pointer_number, IsNextByte, IsLastByte, PlacesFit, IsNextPlaces, IsLastPlaces, from_place, zero_byte};
 
 use crate::point::Layout;
 use byte_block::{BlockName, Byte, Ptr};

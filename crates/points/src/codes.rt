@@ -1,7 +1,9 @@
 ghost use Rattle.std.specs.Prelude.{◌≡◌, ℕ, ◌+◌, ◌*◌, ◌++◌, length, map, IfOk, OnOk};
 ghost use Rattle.std.specs.List.{flat_map};
 ghost use Rattle.byte_block.specs.declared.block.MemoryBlock.{MemoryBlock};
-ghost use Rattle.points.specs.All.{Layout, name_digit, value_code, args_code, byte_code, places_code, blocks_code, code_of, ArgsFit, BlocksFit, IsOfShape, IsCodeOfValue, IsCodeOfArgs, AreSizes, IsCodeOfByte, IsCodeOfPlaces, IsCodeOfBlocks, IsCode};
+ghost use Rattle.points.specs.declared.point.Layout.{Layout};
+ghost use Rattle.points.specs.Code.{name_digit, value_code, args_code, byte_code, places_code, blocks_code, code_of, ArgsFit, BlocksFit, IsOfShape};
+ghost use Rattle.points.specs.Codes.{IsCodeOfValue, IsCodeOfArgs, AreSizes, IsCodeOfByte, IsCodeOfPlaces, IsCodeOfBlocks, IsCode};
 
 use crate::point::{Point, Shape};
 use byte_block::{BlockName, Byte, MemoryBlock, Value};

@@ -1,4 +1,5 @@
-ghost use Rattle.points.specs.All.{NumbersCompareFromFront, PlacesTellPoints, CodesTellPoints, TapesHavePlainForms};
+ghost use Rattle.points.specs.Laws.{NumbersCompareFromFront, PlacesTellPoints, CodesTellPoints};
+ghost use Rattle.points.specs.Tapes.{TapesHavePlainForms};
 
 /// Codes are compared lexicographically: of two lists of the same length the one with the smaller
 /// number at the first index where they differ comes first.

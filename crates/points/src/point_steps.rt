@@ -1,5 +1,6 @@
 ghost use Rattle.std.specs.Prelude.{◌≡◌, ◌<◌, ◌≤◌, IsTrue, IsFalse, length};
-ghost use Rattle.points.specs.All.{BlocksFit, IsOfShape, IsNextMemory, IsLastMemory, IsNextSizes, AreLastSizes, AreLeastBlocks, IsNextPoint, IsLastPoint, from_place, zero_places, zero_size};
+ghost use Rattle.points.specs.Code.{BlocksFit, IsOfShape};
+ghost use Rattle.points.specs.Next.{IsNextMemory, IsLastMemory, IsNextSizes, AreLastSizes, AreLeastBlocks, IsNextPoint, IsLastPoint, from_place, zero_places, zero_size};
 
 use crate::byte_steps::{next_bytes, zero_bytes};
 use crate::point::{Layout, Point, Shape};

@@ -1,5 +1,7 @@
 ghost use Rattle.std.specs.Prelude.{◌≡◌, ℕ, ◌++◌, ◌*◌, ◌^◌, ◌<◌, ◌≤◌, length, IfOk};
-ghost use Rattle.points.specs.All.{IsOfShape, WordsFit, code_of, IsCodeOfArgs, AreSizes, IsCodeOfBlocks, IsCode, value_length, args_length, name_from, value_from, args_from, byte_from, places_from, block_from, blocks_from, HasByte, HaveBytes, HaveBlocks};
+ghost use Rattle.points.specs.Code.{IsOfShape, WordsFit, code_of};
+ghost use Rattle.points.specs.Codes.{IsCodeOfArgs, AreSizes, IsCodeOfBlocks, IsCode};
+ghost use Rattle.points.specs.Reads.{value_length, args_length, name_from, value_from, args_from, byte_from, places_from, block_from, blocks_from, HasByte, HaveBytes, HaveBlocks};
 
 use crate::point::{Input, Layout, Point, Shape};
 use byte_block::{BlockName, Byte, Memory, MemoryBlock, Ptr, Value};

@@ -1,6 +1,7 @@
 ghost use Rattle.std.specs.Prelude.{◌≡◌, ◌≤◌, ◌<◌, ◌+◌, ◌-◌, ◌^◌, IsTrue, IsFalse, take, replicate, length, ◌++◌};
 ghost use Rattle.ir_tree.specs.Pointers.{AreIntegers};
-ghost use Rattle.points.specs.All.{WordsFit, ArgsFit, no_blocks, IsNextWords, IsLastWords, IsNextArgs, IsLastArgs};
+ghost use Rattle.points.specs.Code.{WordsFit, ArgsFit, no_blocks};
+ghost use Rattle.points.specs.Next.{IsNextWords, IsLastWords, IsNextArgs, IsLastArgs};
 
 use crate::point::Layout;
 use crate::value_steps::next_values;

@@ -1,5 +1,6 @@
 ghost use Rattle.std.specs.Prelude.{◌≡◌, ◌^◌, ◌≤◌, ◌<◌, IsTrue, IsFalse, length, MatchOption};
-ghost use Rattle.points.specs.All.{ValueFits, ArgsFit, IsNextValue, IsLastValue, IsNextArgs, IsLastArgs, least_value, least_from};
+ghost use Rattle.points.specs.Code.{ValueFits, ArgsFit};
+ghost use Rattle.points.specs.Next.{IsNextValue, IsLastValue, IsNextArgs, IsLastArgs, least_value, least_from};
 
 use crate::byte_steps::next_pointer;
 use crate::point::Layout;

@@ -6,7 +6,8 @@ use Rattle.std.proofs.lemmas.List.Sums.{sum_by-cons}
 use Rattle.clause_lits.specs.declared.lit.Lit.{Lit}
 use Rattle.clause_log.specs.declared.step.Step.{Step}
 use Rattle.clause_log.specs.Refutation.{Refutes, IsFirstBad}
-use Rattle.proof_text.specs.All.{Part, AreSameButFronts, IsSameButFront, PartsAreOne}
+use Rattle.proof_text.specs.declared.part.Part.{Part}
+use Rattle.proof_text.specs.OneReading.{AreSameButFronts, IsSameButFront, PartsAreOne}
 use Rattle.proof_files.specs.Checks.{IsBadStep, bad_count, counts_line, outcome_line, outcome_lines, verified_count}
 use Rattle.proof_files.specs.Laws.{AllRefute, ProofsAreVerified, TextsAreVerified}
 

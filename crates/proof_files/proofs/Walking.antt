@@ -6,9 +6,10 @@ use Rattle.std.proofs.lemmas.List.Elements.{All-append, All-head, All-tail}
 use Rattle.std.proofs.lemmas.List.Sums.{count_by-le-length, sum_by-append}
 use Rattle.pair_driver.specs.declared.judged.Judged.{Judged}
 use Rattle.report.specs.declared.row.Row.{Row}
-use Rattle.proof_text.specs.All.{Part, IsProof, part_of}
+use Rattle.proof_text.specs.declared.part.Part.{Part}
 use Rattle.clause_log.specs.declared.step.Cert.{Cert}
 use Rattle.ir_naming.specs.Naming.{name_text}
+use Rattle.proof_text.specs.Format.{IsProof, part_of}
 use Rattle.proof_files.specs.Checks.{AreChecked, IsBadStep, bad_count, counts_line, outcome_line, outcome_lines, verified_count}
 use Rattle.proof_files.specs.Parts.{IsCertified, decided, left_after, parts_of, row_parts}
 

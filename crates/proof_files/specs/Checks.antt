@@ -3,7 +3,8 @@ use Rattle.std.specs.Prelude.{ℕ, ◌≡◌, List, [], ◌∷◌, ◌++◌, cod
 use Rattle.std.specs.Fmt.{decimal}
 use Rattle.std.specs.List.{AllZip}
 use Rattle.clause_log.specs.Refutation.{Refutes, IsFirstBad}
-use Rattle.proof_text.specs.All.{Part, status_text}
+use Rattle.proof_text.specs.declared.part.Part.{Part}
+use Rattle.proof_text.specs.Format.{status_text}
 
 -- the log refutes its clauses, or has a first bad step
 abbrev pub IsBadStep : Part → Option ℕ → Type 0

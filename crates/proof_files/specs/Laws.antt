@@ -2,7 +2,8 @@
 use Rattle.std.specs.Prelude.{ℕ, ◌≡◌, ◌++◌, All, List, None, length}
 use Rattle.std.specs.List.{flat_map}
 use Rattle.clause_log.specs.Refutation.{Refutes}
-use Rattle.proof_text.specs.All.{Part, IsProof}
+use Rattle.proof_text.specs.declared.part.Part.{Part}
+use Rattle.proof_text.specs.Format.{IsProof}
 use Rattle.proof_files.specs.Checks.{AreChecked, counts_line, outcome_line}
 
 -- the log of each part refutes its clauses

@@ -5,10 +5,12 @@ use Rattle.clause_log.specs.Refutation.{Refutes}
 use Rattle.ir_tree.specs.declared.name.Name.{Name}
 use Rattle.ir_tree.specs.declared.name.Name.TheVariants as name
 use Rattle.pair_driver.specs.declared.judged.Judged.{Judged}
-use Rattle.report.specs.All.{Finding, Row}
+use Rattle.report.specs.declared.row.Finding.{Finding}
 use Rattle.report.specs.declared.row.Finding.TheVariants as finding
+use Rattle.report.specs.declared.row.Row.{Row}
 use Rattle.ir_naming.specs.Naming.{name_text}
-use Rattle.proof_text.specs.All.{Part, IsPrintedNumber, part_of}
+use Rattle.proof_text.specs.declared.part.Part.{Part}
+use Rattle.proof_text.specs.Format.{IsPrintedNumber, part_of}
 
 -- ---- the parts of a report
 

@@ -2,7 +2,8 @@
 
 ghost use Rattle.std.specs.Prelude.{◌≡◌, ◌<◌, ◌++◌, ◌∷◌, [], All, IfOk, List, OnOk, Some, option_copied};
 ghost use Rattle.clause_lits.specs.Meaning.{AreWithin, IsClause};
-ghost use Rattle.proof_text.specs.All.{Part, IsClauseOver, IsPart, IsPrintedName, IsProof, part_of};
+ghost use Rattle.proof_text.specs.declared.part.Part.{Part};
+ghost use Rattle.proof_text.specs.Format.{IsClauseOver, IsPart, IsPrintedName, IsProof, part_of};
 ghost use Rattle.ir_naming.specs.Naming.{name_text as text_of_name};
 ghost use Rattle.proof_files.specs.Parts.{IsCertified, IsReadName, decided as decided_of, left_after as left_of, parts_of, row_parts};
 

@@ -6,7 +6,8 @@ use Rattle.std.proofs.lemmas.Fmt.{decimal_injective}
 use Rattle.std.proofs.lemmas.Grind.{flat_map-append}
 use Rattle.std.proofs.lemmas.List.Elements.{All-contains, All-head, All-tail, Contains-append_right}
 use Rattle.clause_lits.specs.declared.lit.Lit.{Lit}
-use Rattle.proof_text.specs.All.{IsClauseOver, IsSmall, clause_line, literal_text, spaced, Parts}
+use Rattle.proof_text.specs.Format.{IsClauseOver, IsSmall, clause_line, literal_text, spaced}
+use Rattle.proof_text.specs.Words.{Parts}
 use Rattle.proof_text.proofs.Numbers.{free_decimal}
 use Rattle.proof_text.proofs.Splits.{contains_it, first_or_later, here, parted, same_parts}
 

@@ -4,7 +4,8 @@ use Rattle.std.specs.List.{flat_map}
 use Rattle.std.proofs.lemmas.Grind.{flat_map-append}
 use Rattle.std.proofs.lemmas.List.Elements.{All-push}
 use Rattle.clause_log.specs.declared.step.Cert.{Cert}
-use Rattle.proof_text.specs.All.{Part, IsPart, IsProof, cert_lines, ended, part_lines, part_of, proof_lines, row_line}
+use Rattle.proof_text.specs.declared.part.Part.{Part}
+use Rattle.proof_text.specs.Format.{IsPart, IsProof, cert_lines, ended, part_lines, part_of, proof_lines, row_line}
 
 lines_more : (parts : List Part) (p : Part) → proof_lines (parts ++ p ∷ []) ≡ proof_lines parts ++ part_lines p
 lines_more parts p =

@@ -8,9 +8,12 @@ use Rattle.std.proofs.lemmas.List.Elements.{All-cons, All-head, All-nil, All-rep
 use Rattle.clause_lits.specs.declared.lit.Lit.{Lit}
 use Rattle.clause_lits.specs.Meaning.{AreWithin, RisesFrom}
 use Rattle.clause_log.specs.declared.step.Step.{Step}
-use Rattle.proof_text.specs.All.{Part, IsClauseOver, IsPart, IsPrintedName, IsSmall, IsStepOver, clause_line, counts_line, log_line, part_lines, row_line, status_text, step_line, Clauses, Counts, File, Leads, Lines, Log, Rows, Steps, Parts}
+use Rattle.proof_text.specs.declared.part.Part.{Part}
+use Rattle.proof_text.specs.Format.{IsClauseOver, IsPart, IsPrintedName, IsSmall, IsStepOver, clause_line, counts_line, log_line, part_lines, row_line, status_text, step_line}
+use Rattle.proof_text.specs.Following.{Clauses, Counts, File, Leads, Lines, Log, Rows, Steps}
 use Rattle.proof_text.proofs.Numbers.{free_decimal}
 use Rattle.proof_text.proofs.Splits.{parted, same_parts}
+use Rattle.proof_text.specs.Words.{Parts}
 
 -- ---- samples
 

@@ -8,7 +8,10 @@ use Rattle.std.proofs.lemmas.List.Elements.{All-append, All-cons, All-contains, 
 use Rattle.clause_lits.specs.declared.lit.Lit.{Lit}
 use Rattle.clause_log.specs.declared.step.Step.{Step}
 use Rattle.ir_naming.specs.Naming.{escaped, hex_byte, hex_digit, is_bare, is_digit, is_name_byte, is_plain, quoted}
-use Rattle.proof_text.specs.All.{Part, IsClauseOver, IsPart, IsPrintedName, IsProof, IsSmall, IsStepOver, clause_line, counts_line, ended, literal_text, log_line, part_lines, proof_lines, row_line, spaced, status_text, step_line, File, IsStuck, IsWrong, Lines, Begin, IsCutShort, IsFirstFault, IsWrongLine}
+use Rattle.proof_text.specs.declared.part.Part.{Part}
+use Rattle.proof_text.specs.Format.{IsClauseOver, IsPart, IsPrintedName, IsProof, IsSmall, IsStepOver, clause_line, counts_line, ended, literal_text, log_line, part_lines, proof_lines, row_line, spaced, status_text, step_line}
+use Rattle.proof_text.specs.Following.{File, IsStuck, IsWrong, Lines}
+use Rattle.proof_text.specs.FirstFault.{Begin, IsCutShort, IsFirstFault, IsWrongLine}
 use Rattle.proof_text.proofs.Numbers.{free_decimal}
 use Rattle.proof_text.proofs.Splits.{contains_it, first_or_later, here, parted}
 

@@ -3,4 +3,3 @@ pub mod Words
 pub mod FirstFault
 pub mod Following
 pub mod OneReading
-pub mod All

@@ -1,8 +1,12 @@
 //! From a text to the parts of a proof file.
 
 ghost use Rattle.std.specs.Prelude.{◌≡◌, ◌==◌, ◌<◌, ◌≤◌, ◌-◌, ◌++◌, ◌∷◌, [], ◌+◌, ℕ, All, Bool, IfErr, IfNone, IfOk, IfSome, List, OnOk, codes, count_by, length, map, take};
-ghost use Rattle.proof_text.specs.All.{IsClauseOver, IsPart, IsPrintedName, IsProof, IsSmall, IsStepOver, clause_line, counts_line, log_line, part_lines, row_line, status_text, step_line, Part, IsFaultOf, AreSameButFronts, IsStopped, Moves};
+ghost use Rattle.proof_text.specs.Format.{IsClauseOver, IsPart, IsPrintedName, IsProof, IsSmall, IsStepOver, clause_line, counts_line, log_line, part_lines, row_line, status_text, step_line};
+ghost use Rattle.proof_text.specs.declared.part.Part.{Part};
+ghost use Rattle.proof_text.specs.FirstFault.{IsFaultOf};
+ghost use Rattle.proof_text.specs.OneReading.{AreSameButFronts};
 ghost use Rattle.proof_text.specs.Following as follow;
+ghost use Rattle.proof_text.specs.Following.{IsStopped, Moves};
 
 use crate::cursor::Lines;
 use crate::names::is_printed_name;

@@ -3,7 +3,8 @@
 ghost use Rattle.std.specs.Prelude.{◌≡◌, ◌<◌, ◌↔◌, ◌++◌, IfNone, IfOk, IfSome, IsTrue, slice_get, Some, length, ℕ};
 ghost use Rattle.std.specs.Fmt.{decimal};
 ghost use Rattle.clause_lits.specs.declared.lit.Lit.{Lit as LitValue};
-ghost use Rattle.proof_text.specs.All.{IsClauseOver, IsPrintedNumber, IsSmall, IsStepOver, clause_line, counts_line, literal_text, log_line, step_line, HasNoChain, IsChain, IsRead, chain_text};
+ghost use Rattle.proof_text.specs.Format.{IsClauseOver, IsPrintedNumber, IsSmall, IsStepOver, clause_line, counts_line, literal_text, log_line, step_line};
+ghost use Rattle.proof_text.specs.Words.{HasNoChain, IsChain, IsRead, chain_text};
 
 use crate::cursor::next_word;
 use clause_lits::{Clause, Lit, is_clause};

@@ -3,7 +3,8 @@
 ghost use Rattle.std.specs.Prelude.{◌≡◌, ◌++◌, ◌∷◌, [], All, IfOk, List, OnOk, Bool, codes, map};
 ghost use Rattle.std.specs.Fmt.{decimal};
 ghost use Rattle.std.specs.List.{flat_map};
-ghost use Rattle.proof_text.specs.All.{Part, IsPart, IsProof, cert_lines, clause_line, counts_line, ended, literal_text, log_line, part_of, row_line, spaced, step_line};
+ghost use Rattle.proof_text.specs.declared.part.Part.{Part};
+ghost use Rattle.proof_text.specs.Format.{IsPart, IsProof, cert_lines, clause_line, counts_line, ended, literal_text, log_line, part_of, row_line, spaced, step_line};
 
 use crate::part::Part;
 use clause_lits::{Clause, Lit};

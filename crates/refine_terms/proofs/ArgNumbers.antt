@@ -2,15 +2,18 @@
 use Rattle.std.proofs.Common.{ℕ, zero, suc, ◌≡◌, ◌<◌, ◌≤◌, ◌+◌, ◌^◌, ◌↔◌, ◌⊎◌, inl, inr, true, not, ◌&&◌, ◌||◌, nat_eq, nat_le, List, [], ◌∷◌, length, drop, get_or, refl, sym, ap, subst, ◌∙◌, arith, length-append}
 use Rattle.std.specs.List.{flat_map}
 use Rattle.std.proofs.lemmas.List.{drop_more, drop_all}
-use Rattle.ir_tree.specs.All.{IrType, Parameter}
+use Rattle.ir_tree.specs.declared.tree.IrType.{IrType}
 use Rattle.ir_tree.specs.declared.tree.IrType.TheVariants as type
-use Rattle.points.specs.All.{Layout, IsPointerAmong, IsCodeOfValue, IsCodeOfArgs}
+use Rattle.ir_tree.specs.declared.tree.Parameter.{Parameter}
+use Rattle.points.specs.declared.point.Layout.{Layout}
+use Rattle.points.specs.Codes.{IsPointerAmong, IsCodeOfValue, IsCodeOfArgs}
 use Rattle.bv_terms.specs.declared.term.TermId.{TermId}
 use Rattle.bv_terms.specs.declared.term.Term.{Term}
 use Rattle.bv_terms.specs.Tree.{truth}
 use Rattle.bv_terms.specs.Trees.{AreInRange, IsTerm, Keeps, Tests, bit_at, term_at}
-use Rattle.mem_terms.specs.All.{ArgTerms, IsArg, AreArgs}
+use Rattle.mem_terms.specs.declared.inputs.ArgTerms.{ArgTerms}
 use Rattle.mem_terms.specs.declared.inputs.ArgTerms.TheVariants as arg
+use Rattle.mem_terms.specs.Inputs.{IsArg, AreArgs}
 use Rattle.mem_terms.proofs.Bits.{term-below}
 use Rattle.mem_terms.proofs.Later.{bit-later, keeps_trans, term-later}
 use Rattle.refine_terms.specs.Deciding.{Decides}

@@ -5,7 +5,12 @@ use Rattle.points.specs.Refines.{byte_allows, block_allows, blocks_allow, pairs_
 use Rattle.bv_terms.specs.declared.term.TermId.{TermId}
 use Rattle.bv_terms.specs.declared.term.Term.{Term}
 use Rattle.bv_terms.specs.Trees.{IsTerm, Keeps, Makes, Tests, bit_at, term_at}
-use Rattle.mem_terms.specs.All.{SymByte, SymBlock, OutcomeTerms, Each, block_name, reading, value_at, AreSymBlocks, AreSymBytes, IsAlways, IsSymBlock, IsSymByte, SymFrame, block_at, byte_at, frame_of, memory_at, places_at, IsOutcome, outcome_at}
+use Rattle.mem_terms.specs.declared.bytes.SymByte.{SymByte}
+use Rattle.mem_terms.specs.declared.blocks.SymBlock.{SymBlock}
+use Rattle.mem_terms.specs.declared.outcome.OutcomeTerms.{OutcomeTerms}
+use Rattle.mem_terms.specs.Values.{Each, block_name, reading, value_at}
+use Rattle.mem_terms.specs.Memory.{AreSymBlocks, AreSymBytes, IsAlways, IsSymBlock, IsSymByte, SymFrame, block_at, byte_at, frame_of, memory_at, places_at}
+use Rattle.mem_terms.specs.Outcomes.{IsOutcome, outcome_at}
 use Rattle.mem_terms.proofs.Eaches.{at-any, each-at}
 use Rattle.mem_terms.proofs.Later.{bit-later, block-later, byte-later, keeps_trans, memory-later, places-later, term-later}
 use Rattle.mem_terms.proofs.GivenTerms.{memory-always}

@@ -2,11 +2,18 @@
 use Rattle.std.proofs.Common.{ℕ, zero, suc, ◌≡◌, ◌<◌, ◌≤◌, ◌-◌, ◌*◌, ◌^◌, ◌↔◌, true, ◌&&◌, List, [], ◌∷◌, ◌++◌, length, map, refl, sym, ap, subst, ◌∙◌, arith, length-append}
 use Rattle.std.specs.List.{flat_map}
 use Rattle.std.proofs.lemmas.Nat.{pow_pos}
-use Rattle.points.specs.All.{Layout, Shape, WordsFit, IsChain, IsCodeOfArgs, AreSizes, IsCodeOfBlocks, IsCode}
+use Rattle.points.specs.declared.point.Layout.{Layout}
+use Rattle.points.specs.declared.point.Shape.{Shape}
+use Rattle.points.specs.Code.{WordsFit}
+use Rattle.points.specs.Codes.{IsChain, IsCodeOfArgs, AreSizes, IsCodeOfBlocks, IsCode}
 use Rattle.bv_terms.specs.declared.term.TermId.{TermId}
 use Rattle.bv_terms.specs.declared.term.Term.{Term}
 use Rattle.bv_terms.specs.Trees.{Keeps, Tests, IsTerm, bit_at, term_at}
-use Rattle.mem_terms.specs.All.{ByteTerms, InputTerms, TapeTerms, Each, IsBlockTerms, words_at}
+use Rattle.mem_terms.specs.declared.inputs.ByteTerms.{ByteTerms}
+use Rattle.mem_terms.specs.declared.inputs.InputTerms.{InputTerms}
+use Rattle.mem_terms.specs.declared.inputs.TapeTerms.{TapeTerms}
+use Rattle.mem_terms.specs.Values.{Each}
+use Rattle.mem_terms.specs.Inputs.{IsBlockTerms, words_at}
 use Rattle.mem_terms.proofs.Eaches.{each-weaker, map-same, map-length}
 use Rattle.mem_terms.proofs.Later.{block_terms-later, keeps_trans, term-later, bit-later, is_term-later}
 use Rattle.refine_terms.specs.Deciding.{Decides, IsNarrow}

@@ -9,11 +9,13 @@ use Rattle.byte_block.specs.declared.value.BlockName.TheVariants.{Null, Given, L
 use Rattle.byte_block.specs.declared.value.Byte.{Byte}
 use Rattle.byte_block.specs.declared.value.Byte.TheVariants as byte
 use Rattle.byte_block.specs.declared.block.MemoryBlock.{MemoryBlock}
-use Rattle.points.specs.All.{Outcome, same_pointer, byte_allows, block_allows, blocks_allow, pairs_pass, value_allows, returned_allows, is_refined}
+use Rattle.points.specs.declared.outcome.Outcome.{Outcome}
 use Rattle.points.specs.declared.outcome.Outcome.TheVariants.{Return, Ub, Beyond}
 use Rattle.memory_access.specs.Blocks.{equal_names}
+use Rattle.points.specs.Refines.{same_pointer, byte_allows, block_allows, blocks_allow, pairs_pass, value_allows, returned_allows, is_refined}
 use Rattle.bv_terms.specs.Tree.{truth}
-use Rattle.mem_terms.specs.All.{block_name, first_local, value_of, byte_of}
+use Rattle.mem_terms.specs.Values.{block_name, first_local, value_of}
+use Rattle.mem_terms.specs.Memory.{byte_of}
 use Rattle.mem_terms.proofs.Naming.{block_before, local_block}
 
 -- ---- pointers

@@ -3,12 +3,15 @@ use Rattle.std.proofs.Common.{ℕ, zero, suc, ◌≡◌, ◌<◌, ◌≤◌, ◌
 use Rattle.std.specs.List.{flat_map}
 use Rattle.std.proofs.lemmas.Bool.Decides.{nat_tests}
 use Rattle.std.proofs.lemmas.List.{drop_more, drop_all}
-use Rattle.points.specs.All.{Layout, IsChain, IsCodeOfByte, IsUnused, IsCodeOfPlaces, IsCodeOfBlocks}
+use Rattle.points.specs.declared.point.Layout.{Layout}
+use Rattle.points.specs.Codes.{IsChain, IsCodeOfByte, IsUnused, IsCodeOfPlaces, IsCodeOfBlocks}
 use Rattle.bv_terms.specs.declared.term.TermId.{TermId}
 use Rattle.bv_terms.specs.declared.term.Term.{Term}
 use Rattle.bv_terms.specs.Tree.{Tree, width_of}
 use Rattle.bv_terms.specs.Trees.{Keeps, Tests, IsTerm, bit_at, term_at}
-use Rattle.mem_terms.specs.All.{ByteTerms, IsByteTerms, IsBlockTerms, Each}
+use Rattle.mem_terms.specs.declared.inputs.ByteTerms.{ByteTerms}
+use Rattle.mem_terms.specs.Inputs.{IsByteTerms, IsBlockTerms}
+use Rattle.mem_terms.specs.Values.{Each}
 use Rattle.mem_terms.proofs.Later.{within-later, term-later}
 use Rattle.refine_terms.specs.Deciding.{Decides, IsNarrow}
 use Rattle.refine_terms.specs.Groups.{IsCodeOfPlace}

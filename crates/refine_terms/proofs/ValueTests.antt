@@ -5,7 +5,10 @@ use Rattle.bv_terms.specs.declared.term.TermId.{TermId}
 use Rattle.bv_terms.specs.declared.term.Term.{Term}
 use Rattle.bv_terms.specs.Tree.{truth}
 use Rattle.bv_terms.specs.Trees.{AreInRange, IsTerm, Keeps, Makes, Tests, bit_at, term_at}
-use Rattle.mem_terms.specs.All.{SymValue, SymByte, IsSymValue, block_name, first_local, reading, value_at, IsSymByte, byte_at}
+use Rattle.mem_terms.specs.declared.values.SymValue.{SymValue}
+use Rattle.mem_terms.specs.declared.bytes.SymByte.{SymByte}
+use Rattle.mem_terms.specs.Values.{IsSymValue, block_name, first_local, reading, value_at}
+use Rattle.mem_terms.specs.Memory.{IsSymByte, byte_at}
 use Rattle.mem_terms.proofs.Bits.{term-below}
 use Rattle.mem_terms.proofs.Later.{bit-later, keeps_trans, term-later}
 use Rattle.refine_terms.proofs.Refining.{addresses_are, bytes_are, picked_truth, values_are}

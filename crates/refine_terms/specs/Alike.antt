@@ -4,7 +4,9 @@ use Rattle.points.specs.Refines.{same_pointer}
 use Rattle.bv_terms.specs.declared.term.TermId.{TermId}
 use Rattle.bv_terms.specs.declared.term.Term.{Term}
 use Rattle.bv_terms.specs.Trees.{bit_at, term_at}
-use Rattle.mem_terms.specs.All.{SymValue, SymByte, block_name}
+use Rattle.mem_terms.specs.declared.values.SymValue.{SymValue}
+use Rattle.mem_terms.specs.declared.bytes.SymByte.{SymByte}
+use Rattle.mem_terms.specs.Values.{block_name}
 
 -- pointers of these blocks and offsets are equal after the runs, with `given` given blocks
 abbrev pub alike_pointers : ℕ → (ℕ → ℕ → ℕ) → List Term → (block offset block' offset' : TermId) → Bool

@@ -4,8 +4,13 @@ use Rattle.std.specs.List.{flat_map}
 use Rattle.points.specs.declared.point.Shape.{Shape}
 use Rattle.bv_terms.specs.declared.term.Term.{Term}
 use Rattle.bv_terms.specs.Trees.{IsTerm, term_at}
-use Rattle.mem_terms.specs.All.{ArgTerms, ByteTerms, InputTerms, TapeTerms, Each, IsInput, words_at}
+use Rattle.mem_terms.specs.declared.inputs.ArgTerms.{ArgTerms}
 use Rattle.mem_terms.specs.declared.inputs.ArgTerms.TheVariants as arg
+use Rattle.mem_terms.specs.declared.inputs.ByteTerms.{ByteTerms}
+use Rattle.mem_terms.specs.declared.inputs.InputTerms.{InputTerms}
+use Rattle.mem_terms.specs.declared.inputs.TapeTerms.{TapeTerms}
+use Rattle.mem_terms.specs.Values.{Each}
+use Rattle.mem_terms.specs.Inputs.{IsInput, words_at}
 
 -- ---- the numbers
 

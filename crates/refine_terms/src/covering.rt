@@ -5,7 +5,9 @@ ghost use Rattle.std.specs.Option.{option_map};
 ghost use Rattle.points.specs.Refines.{block_allows, blocks_allow, byte_allows, is_refined, pairs_pass, returned_allows, value_allows};
 ghost use Rattle.bv_terms.specs.Trees.{IsTerm, Keeps, Tests, term_at};
 ghost use Rattle.refine_terms.specs.Alike.{alike_bytes, alike_content, alike_parts, alike_pointers, alike_values};
-ghost use Rattle.mem_terms.specs.All.{IsOutcome, outcome_at, Each, IsSymValue, reading, value_at, AreSymBlocks, AreSymBytes, IsAlways, IsSymBlock, IsSymByte, block_at, byte_at, frame_of, memory_at, places_at};
+ghost use Rattle.mem_terms.specs.Outcomes.{IsOutcome, outcome_at};
+ghost use Rattle.mem_terms.specs.Values.{Each, IsSymValue, reading, value_at};
+ghost use Rattle.mem_terms.specs.Memory.{AreSymBlocks, AreSymBytes, IsAlways, IsSymBlock, IsSymByte, block_at, byte_at, frame_of, memory_at, places_at};
 
 use crate::comparing::is_number;
 use bv_terms::{TermId, Terms};

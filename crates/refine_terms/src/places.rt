@@ -4,9 +4,10 @@ ghost use Rattle.std.specs.Prelude.{◌≡◌, ◌<◌, IfOk, length, map, nat_l
 ghost use Rattle.std.specs.List.{flat_map};
 ghost use Rattle.points.specs.Codes.{IsCodeOfBlocks, IsCodeOfPlaces};
 ghost use Rattle.bv_terms.specs.Trees.{IsTerm, Keeps, term_at};
-ghost use Rattle.mem_terms.specs.All.{Each, IsBlockTerms, IsByteTerms};
+ghost use Rattle.mem_terms.specs.Values.{Each};
 ghost use Rattle.refine_terms.specs.Deciding.{Decides, IsNarrow};
 ghost use Rattle.refine_terms.specs.Groups.{IsCodeOfPlace};
+ghost use Rattle.mem_terms.specs.Inputs.{IsBlockTerms, IsByteTerms};
 ghost use Rattle.refine_terms.specs.Numbers.{block_numbers, byte_numbers};
 
 use crate::bytes::{byte_code, kind_alone};

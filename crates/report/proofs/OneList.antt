@@ -1,11 +1,25 @@
 -- Two modules have one list of rows, where a judge may report one verdict of each pair.
 use Rattle.std.proofs.Common.{◌≡◌, refl, sym, ap, subst, ◌∙◌, List, [], ◌∷◌, ◌++◌, Option, Some, None, Result, Ok, Err, Bool, true, false, ℕ}
-use Rattle.ir_tree.specs.All.{Name, Function, Refused, Entry, Module}
-use Rattle.points.specs.All.{Outcome, Bounds, Point}
-use Rattle.verdicts.specs.All.{Cause, Shown, Verdict, Functions, same_signature, VerdictsAreOne, IsShown, IsVerdict}
+use Rattle.ir_tree.specs.declared.name.Name.{Name}
+use Rattle.ir_tree.specs.declared.tree.Function.{Function}
+use Rattle.ir_tree.specs.declared.module.Refused.{Refused}
+use Rattle.ir_tree.specs.declared.module.Entry.{Entry}
+use Rattle.ir_tree.specs.declared.module.Module.{Module}
+use Rattle.points.specs.declared.outcome.Outcome.{Outcome}
+use Rattle.points.specs.declared.point.Bounds.{Bounds}
+use Rattle.points.specs.declared.point.Point.{Point}
+use Rattle.verdicts.specs.declared.verdict.Cause.{Cause}
+use Rattle.verdicts.specs.declared.verdict.Shown.{Shown}
+use Rattle.verdicts.specs.declared.verdict.Verdict.{Verdict}
 use Rattle.verdicts.specs.declared.verdict.Verdict.TheVariants as verdict
-use Rattle.report.specs.All.{Finding, Row, function_named, IsJudged, IsCompared, IsFinding, IsRow, AreSourceRows, AreRows, extra_rows, RowsAreOne}
+use Rattle.verdicts.specs.Pair.{Functions, same_signature}
+use Rattle.verdicts.specs.Laws.{VerdictsAreOne}
+use Rattle.verdicts.specs.Shown.{IsShown}
+use Rattle.verdicts.specs.Trail.{IsVerdict}
+use Rattle.report.specs.declared.row.Finding.{Finding}
 use Rattle.report.specs.declared.row.Finding.TheVariants as finding
+use Rattle.report.specs.declared.row.Row.{Row}
+use Rattle.report.specs.Rows.{function_named, IsJudged, IsCompared, IsFinding, IsRow, AreSourceRows, AreRows, extra_rows, RowsAreOne}
 
 -- a judge that may report one verdict of each pair
 abbrev pub TellsOne : (Functions → Verdict → Type 0) → Type 0

@@ -1,4 +1,3 @@
 pub mod Status
 pub mod Text
 pub mod Rows
-pub mod All

@@ -1,9 +1,19 @@
 -- Which rows two modules have, by what a judge may report of a pair.
 use Rattle.std.specs.Prelude.{◌≡◌, List, [], ◌∷◌, ◌++◌, Option, Some, None, Result, Ok, Err, Bool, true, false, is_some, if◌then◌else◌}
-use Rattle.ir_tree.specs.All.{Name, Function, Refused, Entry, Module, same_name}
-use Rattle.points.specs.All.{Bounds, Budget, AreInRange}
-use Rattle.verdicts.specs.All.{Verdict, Functions, same_signature, IsShown, IsVerdict}
+use Rattle.ir_tree.specs.declared.name.Name.{Name}
+use Rattle.ir_tree.specs.declared.tree.Function.{Function}
+use Rattle.ir_tree.specs.declared.module.Refused.{Refused}
+use Rattle.ir_tree.specs.declared.module.Entry.{Entry}
+use Rattle.ir_tree.specs.declared.module.Module.{Module}
+use Rattle.ir_tree.specs.Names.{same_name}
+use Rattle.points.specs.declared.point.Bounds.{Bounds}
+use Rattle.points.specs.declared.point.Budget.{Budget}
+use Rattle.verdicts.specs.declared.verdict.Verdict.{Verdict}
 use Rattle.verdicts.specs.declared.verdict.Verdict.TheVariants as verdict
+use Rattle.verdicts.specs.Pair.{Functions, same_signature}
+use Rattle.points.specs.Range.{AreInRange}
+use Rattle.verdicts.specs.Shown.{IsShown}
+use Rattle.verdicts.specs.Trail.{IsVerdict}
 use Rattle.report.specs.declared.row.Side.TheVariants as side
 use Rattle.report.specs.declared.row.Finding.{Finding}
 use Rattle.report.specs.declared.row.Finding.TheVariants as finding

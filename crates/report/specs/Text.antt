@@ -2,8 +2,9 @@
 use Rattle.std.specs.Prelude.{ℕ, ◌+◌, List, [], ◌∷◌, ◌++◌, take, Option, None, Some, codes, nat_lt, if◌then◌else◌}
 use Rattle.std.specs.Fmt.{decimal}
 use Rattle.std.specs.List.{flat_map}
-use Rattle.ir_tree.specs.All.{Reason, Refused}
+use Rattle.ir_tree.specs.declared.module.Reason.{Reason}
 use Rattle.ir_tree.specs.declared.module.Reason.TheVariants as reason
+use Rattle.ir_tree.specs.declared.module.Refused.{Refused}
 use Rattle.byte_block.specs.declared.value.BlockName.{BlockName}
 use Rattle.byte_block.specs.declared.value.BlockName.TheVariants.{Null, Given, Local}
 use Rattle.byte_block.specs.declared.value.Ptr.{Ptr}
@@ -12,10 +13,14 @@ use Rattle.byte_block.specs.declared.value.Value.TheVariants as value
 use Rattle.byte_block.specs.declared.value.Byte.{Byte}
 use Rattle.byte_block.specs.declared.value.Byte.TheVariants as byte
 use Rattle.byte_block.specs.declared.block.MemoryBlock.{MemoryBlock}
-use Rattle.points.specs.All.{Outcome, Bounds, Budget, Point}
+use Rattle.points.specs.declared.outcome.Outcome.{Outcome}
 use Rattle.points.specs.declared.outcome.Outcome.TheVariants.{Return, Ub, Beyond}
-use Rattle.verdicts.specs.All.{Cause, Shown}
+use Rattle.points.specs.declared.point.Bounds.{Bounds}
+use Rattle.points.specs.declared.point.Budget.{Budget}
+use Rattle.points.specs.declared.point.Point.{Point}
+use Rattle.verdicts.specs.declared.verdict.Cause.{Cause}
 use Rattle.verdicts.specs.declared.verdict.Cause.TheVariants.{Weight, Rounds, Conflicts}
+use Rattle.verdicts.specs.declared.verdict.Shown.{Shown}
 use Rattle.report.specs.declared.row.Side.{Side}
 use Rattle.report.specs.declared.row.Side.TheVariants as side
 use Rattle.report.specs.declared.row.Finding.{Finding}

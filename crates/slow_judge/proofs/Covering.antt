@@ -6,8 +6,14 @@ use Rattle.std.proofs.Math.Seq.{drop-length, take-suc-set}
 use Rattle.std.proofs.Math.ListN.{set}
 use Rattle.std.proofs.lemmas.List.FromFn.{map-range_with_len_more}
 use Rattle.byte_block.specs.declared.block.MemoryBlock.{MemoryBlock}
-use Rattle.points.specs.All.{Outcome, Bounds, Point, is_refined, run_of, IsPlain, need_of}
-use Rattle.verdicts.specs.All.{RunPair, covers, some_covers, shifted, words_of, is_covered}
+use Rattle.points.specs.declared.outcome.Outcome.{Outcome}
+use Rattle.points.specs.declared.point.Bounds.{Bounds}
+use Rattle.points.specs.declared.point.Point.{Point}
+use Rattle.verdicts.specs.Pair.{RunPair}
+use Rattle.points.specs.Refines.{is_refined}
+use Rattle.points.specs.Run.{run_of, IsPlain}
+use Rattle.points.specs.Tapes.{need_of}
+use Rattle.verdicts.specs.Covers.{covers, some_covers, shifted, words_of, is_covered}
 use Rattle.choice_interp.specs.declared.ending.Ending.{Ending}
 use Rattle.choice_interp.specs.Ran.{outcome_of}
 use Rattle.slow_judge.specs.Search.{DoesEnd, IsUncovered}

@@ -1,9 +1,15 @@
 -- The trail as the judge grows it.
 use Rattle.std.proofs.Common.{◌≡◌, ℕ, ◌+◌, ◌≤◌, ◌<◌, List, [], ◌∷◌, ◌++◌, length, length-append, append-nil, Option, Some, None, slice_get, refl, sym, ap, ◌∙◌, arith}
-use Rattle.points.specs.All.{Bounds, Budget, Point}
-use Rattle.verdicts.specs.All.{Verdict, Functions, RunPair, run_pair, IsLeastCover, HasNoCover, IsHeavy, TrailFrom, IsLeastUncovered, AreAllCovered, Ends, Judges, IsTrail, IsVerdict}
+use Rattle.points.specs.declared.point.Bounds.{Bounds}
+use Rattle.points.specs.declared.point.Budget.{Budget}
+use Rattle.points.specs.declared.point.Point.{Point}
+use Rattle.verdicts.specs.declared.verdict.Verdict.{Verdict}
 use Rattle.verdicts.specs.declared.verdict.Verdict.TheVariants.{Correct, Incorrect, Unknown}
 use Rattle.verdicts.specs.declared.verdict.Cause.TheVariants.{Weight, Rounds, Conflicts}
+use Rattle.verdicts.specs.Pair.{Functions, RunPair, run_pair}
+use Rattle.verdicts.specs.Covers.{IsLeastCover, HasNoCover}
+use Rattle.verdicts.specs.Weight.{IsHeavy}
+use Rattle.verdicts.specs.Trail.{TrailFrom, IsLeastUncovered, AreAllCovered, Ends, Judges, IsTrail, IsVerdict}
 use Rattle.verdicts.proofs.Meaning.{cons_after}
 use Rattle.std.proofs.Common.{subst}
 use Rattle.slow_judge.specs.Search.{HasTrail}

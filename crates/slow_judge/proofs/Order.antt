@@ -3,13 +3,22 @@ use Rattle.std.proofs.Common.{◌≡◌, ℕ, zero, suc, ◌+◌, ◌-◌, ◌*�
 use Rattle.std.specs.List.{flat_map}
 use Rattle.std.proofs.lemmas.List.{length-replicate}
 use Rattle.std.proofs.lemmas.Nat.{pow_pos}
-use Rattle.ir_tree.specs.All.{IrType, Parameter, AreIntegers}
+use Rattle.ir_tree.specs.declared.tree.IrType.{IrType}
 use Rattle.ir_tree.specs.declared.tree.IrType.TheVariants as type
+use Rattle.ir_tree.specs.declared.tree.Parameter.{Parameter}
+use Rattle.ir_tree.specs.Pointers.{AreIntegers}
 use Rattle.byte_block.specs.declared.value.Value.{Value}
 use Rattle.byte_block.specs.declared.value.Byte.TheVariants as byte
 use Rattle.byte_block.specs.declared.block.MemoryBlock.{MemoryBlock}
-use Rattle.points.specs.All.{Bounds, Layout, Point, no_blocks, number_of, ValueFits, ArgsFit, BytesFit, BlocksFit, WordsFit, value_code, args_code, byte_code, places_code, blocks_code, code_of, IsNextWords, IsLastWords, IsNextArgs, IsLastArgs, least_value, need_of, widest_choice, IsChain}
-use Rattle.verdicts.specs.All.{RunPair, layout_of, place_in}
+use Rattle.points.specs.declared.point.Bounds.{Bounds}
+use Rattle.points.specs.declared.point.Layout.{Layout}
+use Rattle.points.specs.declared.point.Point.{Point}
+use Rattle.verdicts.specs.Pair.{RunPair, layout_of}
+use Rattle.points.specs.Code.{no_blocks, number_of, ValueFits, ArgsFit, BytesFit, BlocksFit, WordsFit, value_code, args_code, byte_code, places_code, blocks_code, code_of}
+use Rattle.points.specs.Next.{IsNextWords, IsLastWords, IsNextArgs, IsLastArgs, least_value}
+use Rattle.points.specs.Tapes.{need_of, widest_choice}
+use Rattle.verdicts.specs.Trail.{place_in}
+use Rattle.points.specs.Codes.{IsChain}
 use Rattle.points.proofs.Order.{Digits, IsNextIn, IsLastIn, HaveDigits, next_in_back, next_in_front, last_in_both, at_most_by_back, number_of-below}
 use Rattle.points.proofs.Words.{WordsFit-digits, WordsFit-length, number_of-zeros}
 use Rattle.points.proofs.Words as words

@@ -1,12 +1,26 @@
 -- What the judge goes through: the points of the pair's shape. Functions without pointers neither read nor change given blocks, so of their points those decide whose given blocks have size 0.
 use Rattle.std.specs.Prelude.{◌≡◌, ℕ, zero, suc, ◌+◌, ◌<◌, ◌≤◌, List, [], ◌∷◌, ◌++◌, length, map, replicate, true, false}
-use Rattle.ir_tree.specs.All.{Parameter, HasNoPointers}
+use Rattle.ir_tree.specs.declared.tree.Parameter.{Parameter}
+use Rattle.ir_tree.specs.Pointers.{HasNoPointers}
 use Rattle.byte_block.specs.declared.value.BlockName.TheVariants.{Given}
 use Rattle.byte_block.specs.declared.value.Byte.TheVariants as byte
 use Rattle.byte_block.specs.declared.value.Value.{Value}
 use Rattle.byte_block.specs.declared.block.MemoryBlock.{MemoryBlock}
-use Rattle.points.specs.All.{Bounds, Budget, Layout, Point, Shape, ArgsFit, WordsFit, least_value, run_of, IsPlain, IsRunnable, need_of, widest_choice}
-use Rattle.verdicts.specs.All.{Kept, Verdict, RunPair, layout_of, is_covered, word_before, word_behind, place_in, TrailFrom, open_point, Ends}
+use Rattle.points.specs.declared.point.Bounds.{Bounds}
+use Rattle.points.specs.declared.point.Budget.{Budget}
+use Rattle.points.specs.declared.point.Layout.{Layout}
+use Rattle.points.specs.declared.point.Point.{Point}
+use Rattle.points.specs.declared.point.Shape.{Shape}
+use Rattle.verdicts.specs.declared.verdict.Kept.{Kept}
+use Rattle.verdicts.specs.declared.verdict.Verdict.{Verdict}
+use Rattle.verdicts.specs.Pair.{RunPair, layout_of}
+use Rattle.points.specs.Code.{ArgsFit, WordsFit}
+use Rattle.points.specs.Next.{least_value}
+use Rattle.points.specs.Run.{run_of, IsPlain}
+use Rattle.points.specs.Runnable.{IsRunnable}
+use Rattle.points.specs.Tapes.{need_of, widest_choice}
+use Rattle.verdicts.specs.Covers.{is_covered, word_before, word_behind}
+use Rattle.verdicts.specs.Trail.{place_in, TrailFrom, open_point, Ends}
 use Rattle.choice_interp.specs.declared.ending.Ending.{Ending}
 use Rattle.choice_interp.specs.Ran.{outcome_of}
 use Rattle.choice_interp.specs.Runners.{IsRunner}

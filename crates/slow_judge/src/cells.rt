@@ -1,7 +1,9 @@
 ghost use Rattle.std.specs.Prelude.{◌≡◌, IfOk, IsTrue, IsFalse, length, replicate, ◌+◌, ◌<◌};
 ghost use Rattle.ir_tree.specs.Pointers.{AreIntegers};
-ghost use Rattle.points.specs.All.{least_value, need_of, widest_choice};
-ghost use Rattle.verdicts.specs.All.{layout_of, place_in};
+ghost use Rattle.points.specs.Next.{least_value};
+ghost use Rattle.points.specs.Tapes.{need_of, widest_choice};
+ghost use Rattle.verdicts.specs.Pair.{layout_of};
+ghost use Rattle.verdicts.specs.Trail.{place_in};
 ghost use Rattle.pair_costs.specs.Small.{AreSmall};
 ghost use Rattle.slow_judge.specs.Search.{empty_block, empty_blocks, least_args, IsCell, IsNextCell, IsLastCell};
 

@@ -1,6 +1,7 @@
 ghost use Rattle.std.specs.Prelude.{◌≡◌, ◌↔◌, ◌≤◌, ◌<◌, ◌+◌, ◌^◌, IsTrue, IfOk, OnOk, length};
 ghost use Rattle.choice_interp.specs.Runners.{IsRunner};
-ghost use Rattle.points.specs.All.{run_of, need_of};
+ghost use Rattle.points.specs.Run.{run_of};
+ghost use Rattle.points.specs.Tapes.{need_of};
 ghost use Rattle.verdicts.specs.Covers.{covers, some_covers, words_of, word_before, word_behind, shifted};
 ghost use Rattle.slow_judge.specs.Search.{AreRunnable, DoesEnd, IsReady, IsUncovered, shift_of};
 

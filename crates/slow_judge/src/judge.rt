@@ -1,7 +1,9 @@
 ghost use Rattle.std.specs.Prelude.{◌≡◌, IfOk};
 ghost use Rattle.ir_tree.specs.Limits.{IsWithinLimits};
-ghost use Rattle.points.specs.All.{AreInRange, need_of, widest_choice};
-ghost use Rattle.verdicts.specs.All.{layout_of, IsVerdict};
+ghost use Rattle.points.specs.Range.{AreInRange};
+ghost use Rattle.points.specs.Tapes.{need_of, widest_choice};
+ghost use Rattle.verdicts.specs.Pair.{layout_of};
+ghost use Rattle.verdicts.specs.Trail.{IsVerdict};
 ghost use Rattle.pair_costs.specs.Small.{AreSmall};
 ghost use Rattle.slow_judge.specs.Search.{AreRunnable, empty_blocks, IsReady, HasTrail};
 

@@ -1,7 +1,10 @@
 ghost use Rattle.std.specs.Prelude.{◌≡◌, MatchOption, IfOk, OnOk, IfSome, List};
 ghost use Rattle.byte_block.specs.declared.block.MemoryBlock.{MemoryBlock};
-ghost use Rattle.points.specs.All.{IsOfShape, need_of, widest_choice};
-ghost use Rattle.verdicts.specs.All.{RunPair, IsLeastUncovered, AreAllCovered, IsLeastCover, HasNoCover};
+ghost use Rattle.points.specs.Code.{IsOfShape};
+ghost use Rattle.verdicts.specs.Pair.{RunPair};
+ghost use Rattle.points.specs.Tapes.{need_of, widest_choice};
+ghost use Rattle.verdicts.specs.Trail.{IsLeastUncovered, AreAllCovered};
+ghost use Rattle.verdicts.specs.Covers.{IsLeastCover, HasNoCover};
 ghost use Rattle.points.specs.declared.point.Bounds.{Bounds as Limits};
 ghost use Rattle.pair_costs.specs.Small.{AreSmall};
 ghost use Rattle.slow_judge.specs.Search.{AreRunnable, HaveNoPointers, IsShapeOf, IsCell, IsReady, IsBench, IsLeastAmong, AreCoveredAmong};

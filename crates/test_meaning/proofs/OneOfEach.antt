@@ -3,7 +3,9 @@ use Rattle.std.proofs.Common.{◌≡◌, inl, inr, ℕ, ◌^◌, ◌<◌, ◌≤
 use Rattle.tv_num.specs.declared.Width.{Width}
 use Rattle.ir_tree.specs.declared.tree.IrType.TheVariants.{Int, Ptr}
 use Rattle.ir_tree.specs.declared.tree.Parameter.{Parameter}
-use Rattle.points.specs.All.{Layout, Shape, IsCodeOfValue, IsCodeOfPlaces, IsCode}
+use Rattle.points.specs.declared.point.Layout.{Layout}
+use Rattle.points.specs.declared.point.Shape.{Shape}
+use Rattle.points.specs.Codes.{IsCodeOfValue, IsCodeOfPlaces, IsCode}
 
 abbrev pub bit : Width → Parameter
 bit w = record { of_type = Int w; no_undef = false; non_null = false; name = 0 }

@@ -1,7 +1,8 @@
 //! The order of points by their codes, on three small shapes: which code comes after which.
 
 ghost use Rattle.std.specs.Prelude.{◌≡◌, ◌∷◌, [], replicate, IfOk};
-ghost use Rattle.points.specs.All.{IsOfShape, IsCode};
+ghost use Rattle.points.specs.Code.{IsOfShape};
+ghost use Rattle.points.specs.Codes.{IsCode};
 
 use crate::expecting::expect;
 use ir_tree::{IrType, Parameter};

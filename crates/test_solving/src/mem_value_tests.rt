@@ -2,7 +2,8 @@
 // Reference: a pointer is no number, and a number no pointer, not even 0.
 ghost use Rattle.std.specs.Prelude.{IfOk};
 ghost use Rattle.bv_terms.specs.Trees.{IsTerm, Keeps};
-ghost use Rattle.mem_terms.specs.All.{IsSymValue, IsSymByte};
+ghost use Rattle.mem_terms.specs.Values.{IsSymValue};
+ghost use Rattle.mem_terms.specs.Memory.{IsSymByte};
 
 use crate::expecting::expect;
 use crate::term_values::value_of;

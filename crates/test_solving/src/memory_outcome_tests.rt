@@ -2,7 +2,9 @@
 // pointer to a block of an alloca is dead after the run.
 ghost use Rattle.std.specs.Prelude.{◌≡◌, [], ◌∷◌, IfOk, length, map};
 ghost use Rattle.bv_terms.specs.Trees.{Keeps};
-ghost use Rattle.mem_terms.specs.All.{IsSymValue, AreSymBytes, IsAlways, IsSymBlock, IsSymByte, frame_of, IsOutcome};
+ghost use Rattle.mem_terms.specs.Values.{IsSymValue};
+ghost use Rattle.mem_terms.specs.Memory.{AreSymBytes, IsAlways, IsSymBlock, IsSymByte, frame_of};
+ghost use Rattle.mem_terms.specs.Outcomes.{IsOutcome};
 
 use crate::expecting::expect;
 use crate::term_values::value_of;

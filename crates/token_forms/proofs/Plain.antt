@@ -4,7 +4,8 @@ use Rattle.std.specs.Prelude.{not, ◌||◌, is_some}
 use Rattle.ir_lexer.specs.Lexeme.{Lexeme}
 use Rattle.ir_lexer.specs.declared.token.Kind.{Kind}
 use Rattle.token_forms.specs.Form.{never, either, Form, give, one, seq, upto, peek, tail, balanced, mapped, reads}
-use Rattle.token_forms.specs.All.{Token, IsNone, part_value, part_begins, SpellParts, Spells, PlainParts, SpellsPlainly, AreApart, TellsApart, SpellsAsPlain, SpellsOne}
+use Rattle.token_forms.specs.Spelling.{Token, IsNone, part_value, part_begins, SpellParts, Spells}
+use Rattle.token_forms.specs.Plain.{PlainParts, SpellsPlainly, AreApart, TellsApart, SpellsAsPlain, SpellsOne}
 use Rattle.token_forms.proofs.Exact.{read-again}
 use Rattle.token_forms.proofs.Laws.{is_free, free-never, free-left, free-right}
 

@@ -3,7 +3,8 @@ use Rattle.std.proofs.Common.{◌≡◌, ℕ, zero, suc, ◌⊎◌, inl, inr, Bo
 use Rattle.ir_lexer.specs.Lexeme.{Lexeme}
 use Rattle.ir_tree.specs.declared.module.Reason.{Reason}
 use Rattle.token_forms.specs.Form.{Form, give, one, seq, upto, peek, tail, mapped, unfit, Reading, reads, stops, and_then, Judged, none, past, found, judged, taken, token_of, first_of, begun, parts, read, balanced}
-use Rattle.token_forms.specs.All.{Token, part_value, part_begins, Spells, Misses, MissParts, RefusedAs}
+use Rattle.token_forms.specs.Spelling.{Token, part_value, part_begins, Spells}
+use Rattle.token_forms.specs.Refusals.{Misses, MissParts, RefusedAs}
 use Rattle.token_forms.proofs.Exact.{read-found, token-found, judged-stands, begun-begins, judged-nothing}
 use Rattle.token_forms.proofs.Stops.{then-stops}
 use Rattle.token_forms.proofs.Balanced.{closed-halts, balanced-refused}

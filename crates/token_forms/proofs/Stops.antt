@@ -3,7 +3,8 @@ use Rattle.std.proofs.Common.{◌≡◌, ℕ, zero, suc, ◌≤◌, ◌⊎◌, i
 use Rattle.ir_lexer.specs.Lexeme.{Lexeme}
 use Rattle.ir_tree.specs.declared.module.Reason.{Reason}
 use Rattle.token_forms.specs.Form.{never, Form, give, one, seq, upto, peek, tail, mapped, Why, unfit, limit, Reading, reads, stops, and_then, Judged, none, past, found, judged, taken, token_of, first_of, peeked, begun, parts, read, balanced}
-use Rattle.token_forms.specs.All.{Token, part_value, part_begins, Spells, Begins, Exceeds, ExceedParts, PassesLimit, StopsUnfit, StopsPast}
+use Rattle.token_forms.specs.Spelling.{Token, part_value, part_begins, Spells}
+use Rattle.token_forms.specs.Refusals.{Begins, Exceeds, ExceedParts, PassesLimit, StopsUnfit, StopsPast}
 use Rattle.token_forms.proofs.Laws.{Ends}
 use Rattle.token_forms.proofs.Lawful.{read_lawful}
 use Rattle.token_forms.proofs.Exact.{read-found, read-again, shorter, token-found, token-again, peek-first, peek-other, judged-stands, stands-judged, begun-begins, judged-nothing}

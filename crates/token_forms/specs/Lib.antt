@@ -6,4 +6,3 @@ pub mod Plain
 pub mod Answer
 pub mod Spelled
 pub mod Laws
-pub mod All

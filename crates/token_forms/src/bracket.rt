@@ -1,7 +1,8 @@
 // Brackets.
 ghost use Rattle.std.specs.Prelude.{◌≡◌, ◌↔◌, [], ◌∷◌, Some, None, true, IsTrue, IfOk, if◌then◌else◌};
-ghost use Rattle.token_forms.specs.All.{nesting_of, Passes};
+ghost use Rattle.token_forms.specs.Brackets.{nesting_of};
 ghost use Rattle.token_forms.specs.Form.{open_behind, balanced, read};
+ghost use Rattle.token_forms.specs.Answer.{Passes};
 
 use crate::fault::ReadFault;
 use ir_lexer::{Kind, Token};

@@ -3,7 +3,8 @@ use Rattle.std.proofs.lemmas.Slice.Eq.{bytes_eq-Decides}
 use Rattle.std.proofs.Common.{◌≡◌, ℕ, Bool, true, false, List, Option, Some, None, option_map, codes, refl, sym}
 use Rattle.std.specs.Str.{bytes_eq}
 use Rattle.clap.specs.Words.{Row, first_of}
-use Rattle.points.specs.All.{Bounds, Budget}
+use Rattle.points.specs.declared.point.Bounds.{Bounds}
+use Rattle.points.specs.declared.point.Budget.{Budget}
 use Rattle.tv_cli.specs.Words.{Text, check_with, make_with}
 use Rattle.tv_cli.specs.Words.Job.{log}
 use Rattle.tv_cli.specs.Walked.{check_of_names, job_in_rows}

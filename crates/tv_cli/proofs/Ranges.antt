@@ -5,7 +5,9 @@ use Rattle.std.specs.List.{list_all}
 use Rattle.std.specs.Char.{digit_value}
 use Rattle.std.specs.Str.{bytes_eq}
 use Rattle.std.specs.Str.Parse.{digits_value, without_leading_plus}
-use Rattle.points.specs.All.{Bounds, Budget, AreInRange}
+use Rattle.points.specs.declared.point.Bounds.{Bounds}
+use Rattle.points.specs.declared.point.Budget.{Budget}
+use Rattle.points.specs.Range.{AreInRange}
 use Rattle.tv_cli.specs.declared.number.Range.{Range}
 use Rattle.tv_cli.specs.Words.Job.{check, log, make}
 use Rattle.tv_cli.specs.Words.{Text, Part, Check, Make, Job, number_within, number_once, values_in, bounds_with, budget_with, check_with, check_named, check_in_parts, check_options, file_in_parts, job_of, make_in_parts, names_in, are_known, parts_of, turns_range, blocks_range, bytes_range, rounds_range, conflicts_range, weight_range}

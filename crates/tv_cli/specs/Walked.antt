@@ -4,7 +4,8 @@ use Rattle.std.specs.Str.{bytes_eq}
 use Rattle.clap.specs.Words.{App, Row, Rule, Kinds, fault_of, first_of, new_app, new_rule, subcommand_of, with_rule, with_subcommand}
 use Rattle.clap.specs.Simple.{on_top}
 use Rattle.clap.specs.declared.builder.ArgAction.TheVariants.{Set}
-use Rattle.points.specs.All.{Bounds, Budget}
+use Rattle.points.specs.declared.point.Bounds.{Bounds}
+use Rattle.points.specs.declared.point.Budget.{Budget}
 use Rattle.tv_cli.specs.declared.number.Range.{Range}
 use Rattle.tv_cli.specs.Words.Job.{check, log, make}
 use Rattle.tv_cli.specs.Words.{Check, Make, Job, Text, number_within, bounds_with, budget_with, check_with, make_with, turns_range, blocks_range, bytes_range, rounds_range, conflicts_range, weight_range, workers_range, seed_range, functions_range, insts_range}

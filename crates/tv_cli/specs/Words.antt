@@ -4,7 +4,8 @@ use Rattle.std.specs.List.{list_all, list_any, before_first, after_first}
 use Rattle.std.specs.Char.{digit_value}
 use Rattle.std.specs.Str.{bytes_eq}
 use Rattle.std.specs.Str.Parse.{digits_value, without_leading_plus}
-use Rattle.points.specs.All.{Bounds, Budget}
+use Rattle.points.specs.declared.point.Bounds.{Bounds}
+use Rattle.points.specs.declared.point.Budget.{Budget}
 use Rattle.tv_cli.specs.declared.number.Range.{Range}
 
 -- an argument, by its bytes

@@ -3,17 +3,27 @@ use Rattle.std.proofs.Common.{◌≡◌, ℕ, All, List, [], ◌∷◌, ◌++◌
 use Rattle.std.specs.List.{AllByRecursion, cons_option, filter_map}
 use Rattle.std.proofs.lemmas.List.Elements.{All-append, All-cons, All-nil}
 use Rattle.clause_log.specs.declared.step.Cert.{Cert}
-use Rattle.ir_tree.specs.All.{Name, Function, Refused, Entry, Module}
-use Rattle.points.specs.All.{Bounds, Budget}
-use Rattle.verdicts.specs.All.{Kept, Verdict, Functions}
+use Rattle.ir_tree.specs.declared.name.Name.{Name}
+use Rattle.ir_tree.specs.declared.tree.Function.{Function}
+use Rattle.ir_tree.specs.declared.module.Refused.{Refused}
+use Rattle.ir_tree.specs.declared.module.Entry.{Entry}
+use Rattle.ir_tree.specs.declared.module.Module.{Module}
+use Rattle.points.specs.declared.point.Bounds.{Bounds}
+use Rattle.points.specs.declared.point.Budget.{Budget}
+use Rattle.verdicts.specs.declared.verdict.Kept.{Kept}
+use Rattle.verdicts.specs.declared.verdict.Verdict.{Verdict}
 use Rattle.verdicts.specs.declared.verdict.Verdict.TheVariants as verdict
+use Rattle.verdicts.specs.Pair.{Functions}
 use Rattle.pair_questions.specs.Questions.{IsRefuted}
 use Rattle.instantiate.specs.Settling.{IsJudged, Shown}
 use Rattle.pair_driver.specs.declared.judged.Judged.{Judged}
-use Rattle.report.specs.All.{Finding, Row, AreRows, AreSourceRows, extra_row, extra_rows, function_named}
+use Rattle.report.specs.declared.row.Finding.{Finding}
 use Rattle.report.specs.declared.row.Finding.TheVariants as finding
+use Rattle.report.specs.declared.row.Row.{Row}
 use Rattle.ir_naming.specs.Naming.{name_text}
-use Rattle.proof_text.specs.All.{Part, part_of}
+use Rattle.report.specs.Rows.{AreRows, AreSourceRows, extra_row, extra_rows, function_named}
+use Rattle.proof_text.specs.declared.part.Part.{Part}
+use Rattle.proof_text.specs.Format.{part_of}
 use Rattle.proof_files.specs.Parts.{IsCertified, IsReadName, certified, decided, left_after, parts_of, row_parts}
 use Rattle.module_rows.specs.Judging.{AreAnswers, verdicts_answered, verdicts_in, verdicts_of}
 use Rattle.module_rows.specs.Searching.{entry_names}

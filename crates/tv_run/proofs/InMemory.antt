@@ -7,9 +7,15 @@ use Rattle.tv_io.specs.Taken.{IsWritten, then_taken}
 use Rattle.ir_tree.specs.declared.module.Module.{Module}
 use Rattle.pair_driver.specs.declared.judged.Judged.{Judged}
 use Rattle.tv_run.specs.declared.stop.Trouble.TheVariants as trouble
-use Rattle.tv_run.specs.All.{Stop, AreModules, FitsIn, HasModule, WhereChecked, IsTheDefinedReport, IsUnfinished, PartlyWritten, WritesDefinedReport, MeansRefinement, SaysRefinement, HasCause, IsNotPut, Refuses, RefusesJob, stop_status}
+use Rattle.tv_run.specs.declared.stop.Stop.{Stop}
 use Rattle.tv_run.specs.declared.stop.Stop.TheVariants as stop
 use Rattle.tv_cli.specs.Words.{Check, Job}
+use Rattle.tv_run.specs.Answers.{AreModules, FitsIn}
+use Rattle.tv_run.specs.Files.{HasModule}
+use Rattle.tv_run.specs.Jobs.{WhereChecked}
+use Rattle.tv_run.specs.Reports.{IsTheDefinedReport, IsUnfinished, PartlyWritten, WritesDefinedReport}
+use Rattle.tv_run.specs.Sound.{MeansRefinement, SaysRefinement}
+use Rattle.tv_run.specs.Stops.{HasCause, IsNotPut, Refuses, RefusesJob, stop_status}
 
 -- a file that is a module is not absent
 not_absent : (files : Files) (name : List ℕ) (m : Module) → HasModule (files name) m → fails_absent files name ≡ true → ⊥

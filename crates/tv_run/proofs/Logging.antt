@@ -4,13 +4,19 @@ use Rattle.std.proofs.Common.{◌≡◌, ◌≤◌, ◌⊎◌, ℕ, arith, List,
 use Rattle.tv_io.specs.Count.{Rose}
 use Rattle.tv_io.specs.Files.{Files}
 use Rattle.tv_io.specs.State.{ShelfState, SinkState}
-use Rattle.proof_text.specs.All.{Part, IsProof}
+use Rattle.proof_text.specs.declared.part.Part.{Part}
+use Rattle.proof_text.specs.Format.{IsProof}
 use Rattle.proof_files.specs.Checks.{AreChecked}
 use Rattle.tv_cli.specs.Words.{Text}
 use Rattle.tv_cli.specs.Words.Job.{log}
-use Rattle.tv_run.specs.All.{LogTrouble, LogStop, AreParts, CountsLog, IsLogStop, IsNoProof, IsSent, LoadsProof, HasParts, WhereKnown, LogPartlyWritten, LogWritten, SaysVerified, HasLogTrouble, log_trouble_status}
+use Rattle.tv_run.specs.declared.stop.LogTrouble.{LogTrouble}
 use Rattle.tv_run.specs.declared.stop.LogTrouble.TheVariants as log_trouble
+use Rattle.tv_run.specs.declared.stop.LogStop.{LogStop}
 use Rattle.tv_run.specs.declared.stop.LogStop.TheVariants as log_stop
+use Rattle.tv_run.specs.Answers.{AreParts, CountsLog, IsLogStop, IsNoProof, IsSent, LoadsProof}
+use Rattle.tv_run.specs.Files.{HasParts, WhereKnown}
+use Rattle.tv_run.specs.Logs.{LogPartlyWritten, LogWritten, SaysVerified}
+use Rattle.tv_run.specs.Stops.{HasLogTrouble, log_trouble_status}
 use Rattle.tv_run.proofs.Files.{same_text}
 use Rattle.tv_run.proofs.OneJob.{log_is}
 

@@ -10,9 +10,12 @@ use Rattle.ir_lexer.specs.Lexeme.{Lexeme}
 use Rattle.ir_lexer.specs.Spelling.{is_digits}
 use Rattle.ir_lexer.specs.declared.token.Kind.{Kind}
 use Rattle.ir_lexer.specs.declared.token.Kind.TheVariants as kind
-use Rattle.ir_tree.specs.All.{Name, Entry, Module}
-use Rattle.ir_items.specs.All.{Define, name_in, name_of, without_zeros}
+use Rattle.ir_tree.specs.declared.name.Name.{Name}
+use Rattle.ir_tree.specs.declared.module.Entry.{Entry}
+use Rattle.ir_tree.specs.declared.module.Module.{Module}
+use Rattle.ir_items.specs.declared.item.Define.{Define}
 use Rattle.ir_items.specs.Items.{IsCut, nothing, other, define, name_at, name_from}
+use Rattle.ir_items.specs.Names.{name_in, name_of, without_zeros}
 use Rattle.ir_reader.specs.Module.{IsModule, AreEntries}
 use Rattle.ir_naming.specs.Naming.{is_digit as is_printed_digit}
 use Rattle.proof_text.specs.Format.{IsPrintedNumber}

@@ -11,8 +11,10 @@ use Rattle.ir_reader.specs.Module.{IsModule}
 use Rattle.ir_printer.specs.ModuleText.{module_text}
 use Rattle.read_back.specs.SameModule.{IsSameModule}
 use Rattle.read_back.specs.ReadBack.{IsPrintable, PrintedModulesReadBack}
-use Rattle.tv_run.specs.All.{Trouble, IsFaultOf, IsSent, IsReadBack, MadePartlyWritten, MadeWritten, SaysMade}
+use Rattle.tv_run.specs.declared.stop.Trouble.{Trouble}
 use Rattle.tv_run.specs.declared.stop.Trouble.TheVariants as trouble
+use Rattle.tv_run.specs.Answers.{IsFaultOf, IsSent}
+use Rattle.tv_run.specs.Makes.{IsReadBack, MadePartlyWritten, MadeWritten, SaysMade}
 
 -- a text that is a module has no fault
 pub no_fault : ModuleOrFault → (text : List ℕ) (m : Module) (t : Trouble) → IsModule text m → IsFaultOf text t → ⊥

@@ -16,8 +16,9 @@ use Rattle.byte_block.specs.declared.value.Value.TheVariants as value
 use Rattle.byte_block.specs.declared.value.Byte.{Byte}
 use Rattle.byte_block.specs.declared.value.Byte.TheVariants as byte
 use Rattle.byte_block.specs.declared.block.MemoryBlock.{MemoryBlock}
-use Rattle.points.specs.All.{Outcome, Point}
+use Rattle.points.specs.declared.outcome.Outcome.{Outcome}
 use Rattle.points.specs.declared.outcome.Outcome.TheVariants.{Return, Ub, Beyond}
+use Rattle.points.specs.declared.point.Point.{Point}
 use Rattle.verdicts.specs.declared.verdict.Shown.{Shown}
 use Rattle.report.specs.Text.{address_text, arg_lines, block_line, block_lines, byte_text, bytes_line, choice_lines, contents_line, newline, numbered_line, outcome_lines, point_lines, pointer_text, returned_lines, returned_text, sentence, shown_lines, spaced_byte, value_text}
 use Rattle.proof_text.specs.Format.{ended}

@@ -6,15 +6,20 @@ use Rattle.std.proofs.lemmas.Bool.Decides.{nat_tests}
 use Rattle.std.proofs.lemmas.Fmt.{decimal_injective}
 use Rattle.std.proofs.lemmas.List.{append_cancel_left}
 use Rattle.std.proofs.lemmas.List.Elements.{All-head, All-tail}
-use Rattle.ir_tree.specs.All.{Name, Reason, Refused}
+use Rattle.ir_tree.specs.declared.name.Name.{Name}
 use Rattle.ir_tree.specs.declared.name.Name.TheVariants.{Number, Word}
+use Rattle.ir_tree.specs.declared.module.Reason.{Reason}
 use Rattle.ir_tree.specs.declared.module.Reason.TheVariants as reason
+use Rattle.ir_tree.specs.declared.module.Refused.{Refused}
 use Rattle.ir_naming.specs.Naming.{escaped, hex_byte, hex_digit, is_bare, is_digit, is_name_byte, is_plain, name_text, quoted}
 use Rattle.verdicts.specs.declared.verdict.Cause.{Cause}
 use Rattle.verdicts.specs.declared.verdict.Cause.TheVariants.{Weight, Rounds, Conflicts}
-use Rattle.report.specs.All.{Side, Finding, Row, cause_text, reason_text, refused_text, side_text}
+use Rattle.report.specs.declared.row.Side.{Side}
 use Rattle.report.specs.declared.row.Side.TheVariants as side
+use Rattle.report.specs.declared.row.Finding.{Finding}
 use Rattle.report.specs.declared.row.Finding.TheVariants as finding
+use Rattle.report.specs.declared.row.Row.{Row}
+use Rattle.report.specs.Text.{cause_text, reason_text, refused_text, side_text}
 use Rattle.tv_run.specs.OneReading.{HasPosition, IsReadRow, IsSameFinding, SaysTheSame, TextsHaveOneListOfRows}
 use Rattle.proof_text.specs.Format.{IsPrintedNumber}
 use Rattle.proof_files.specs.Parts.{IsReadName}

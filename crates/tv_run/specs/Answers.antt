@@ -6,7 +6,8 @@ use Rattle.tv_io.specs.Count.{Rose}
 use Rattle.tv_io.specs.Files.{Files, HoldsFile}
 use Rattle.tv_io.specs.State.{ShelfState, SinkState}
 use Rattle.tv_io.specs.Taken.{IsWritten, IsCutOff}
-use Rattle.ir_tree.specs.All.{same_name, Module}
+use Rattle.ir_tree.specs.Names.{same_name}
+use Rattle.ir_tree.specs.declared.module.Module.{Module}
 use Rattle.ir_reader.specs.declared.fault.ModuleFault.TheVariants as fault
 use Rattle.ir_reader.specs.Judgeable.{IsJudgeableEntry}
 use Rattle.ir_reader.specs.Module.{IsModule, IsFault}

@@ -4,8 +4,10 @@ use Rattle.tv_io.specs.Files.{Files}
 use Rattle.ir_tree.specs.declared.module.Module.{Module}
 use Rattle.ir_reader.specs.declared.fault.ModuleFault.{ModuleFault}
 use Rattle.ir_reader.specs.Module.{IsModule, IsFault}
-use Rattle.proof_text.specs.All.{Part, IsFaultOf, IsProof}
+use Rattle.proof_text.specs.declared.part.Part.{Part}
 use Rattle.proof_text.specs.declared.part.ProofFault.TheVariants as proof_fault
+use Rattle.proof_text.specs.FirstFault.{IsFaultOf}
+use Rattle.proof_text.specs.Format.{IsProof}
 
 -- the most bytes of a module
 abbrev pub text_limit : ℕ

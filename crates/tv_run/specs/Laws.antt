@@ -6,7 +6,9 @@ use Rattle.tv_io.specs.Files.{Files}
 use Rattle.tv_io.specs.State.{ShelfState, SinkState}
 use Rattle.ir_tree.specs.declared.module.Module.{Module}
 use Rattle.tv_run.specs.declared.stop.Stop.{Stop}
-use Rattle.points.specs.All.{Bounds, Budget, AreInRange}
+use Rattle.points.specs.declared.point.Bounds.{Bounds}
+use Rattle.points.specs.declared.point.Budget.{Budget}
+use Rattle.points.specs.Range.{AreInRange}
 use Rattle.pair_driver.specs.declared.judged.Judged.{Judged}
 use Rattle.report.specs.declared.row.Row.{Row}
 use Rattle.proof_files.specs.Parts.{parts_of}

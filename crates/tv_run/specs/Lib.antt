@@ -8,4 +8,3 @@ pub mod Answers
 pub mod Laws
 pub mod Makes
 pub mod OneReading
-pub mod All

@@ -5,7 +5,8 @@ use Rattle.tv_io.specs.State.{SinkState}
 use Rattle.tv_io.specs.Taken.{IsWritten, IsCutOff}
 use Rattle.ir_tree.specs.declared.module.Module.{Module}
 use Rattle.ir_reader.specs.Module.{IsModule}
-use Rattle.ir_printer.specs.All.{made_module, module_text}
+use Rattle.ir_printer.specs.Made.{made_module}
+use Rattle.ir_printer.specs.ModuleText.{module_text}
 use Rattle.read_back.specs.SameModule.{IsSameModule}
 use Rattle.pair_driver.specs.declared.judged.Judged.{Judged}
 use Rattle.report.specs.Text.{summary_text}

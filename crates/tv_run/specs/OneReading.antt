@@ -2,9 +2,12 @@
 -- incorrect row and what is shown of it.
 use Rattle.std.specs.Prelude.{◌≡◌, ◌<◌, ◌^◌, All, List}
 use Rattle.std.specs.List.{AllZip}
-use Rattle.points.specs.All.{Bounds, Budget}
-use Rattle.report.specs.All.{Finding, Row, report_text}
+use Rattle.points.specs.declared.point.Bounds.{Bounds}
+use Rattle.points.specs.declared.point.Budget.{Budget}
+use Rattle.report.specs.declared.row.Finding.{Finding}
 use Rattle.report.specs.declared.row.Finding.TheVariants as finding
+use Rattle.report.specs.declared.row.Row.{Row}
+use Rattle.report.specs.Text.{report_text}
 use Rattle.proof_files.specs.Parts.{IsReadName}
 
 -- line and column of a refusal are u64

@@ -5,13 +5,18 @@ use Rattle.tv_io.specs.Files.{Files, HoldsFile}
 use Rattle.tv_io.specs.State.{ShelfState, SinkState}
 use Rattle.tv_io.specs.Taken.{IsWritten, IsCutOff}
 use Rattle.ir_tree.specs.declared.module.Module.{Module}
-use Rattle.points.specs.All.{Bounds, Budget}
+use Rattle.points.specs.declared.point.Bounds.{Bounds}
+use Rattle.points.specs.declared.point.Budget.{Budget}
 use Rattle.verdicts.specs.Trail.{IsVerdict}
 use Rattle.pair_driver.specs.declared.judged.Judged.{Judged}
-use Rattle.report.specs.All.{Row, AreRows, report_text, status_of}
+use Rattle.report.specs.declared.row.Row.{Row}
+use Rattle.report.specs.Rows.{AreRows}
+use Rattle.report.specs.Text.{report_text}
+use Rattle.report.specs.Status.{status_of}
 use Rattle.clause_log.specs.Refutation.{Refutes}
 use Rattle.ir_naming.specs.Naming.{name_text}
-use Rattle.proof_text.specs.All.{Part, IsProof}
+use Rattle.proof_text.specs.declared.part.Part.{Part}
+use Rattle.proof_text.specs.Format.{IsProof}
 use Rattle.proof_files.specs.Parts.{decided, parts_of}
 use Rattle.tv_cli.specs.Words.{Text, Check}
 use Rattle.tv_run.specs.Files.{HasModule}

@@ -6,12 +6,22 @@ use Rattle.std.specs.List.{IsDistinct}
 use Rattle.tv_io.specs.Files.{Files}
 use Rattle.tv_io.specs.State.{ShelfState, SinkState}
 use Rattle.tv_io.specs.Taken.{IsWritten, IsCutOff}
-use Rattle.ir_tree.specs.All.{Name, Function, Entry, Module, same_name}
-use Rattle.points.specs.All.{Bounds, Point}
-use Rattle.verdicts.specs.All.{Shown, Functions, same_signature, Holds, IsCounterexample}
+use Rattle.ir_tree.specs.declared.name.Name.{Name}
+use Rattle.ir_tree.specs.declared.tree.Function.{Function}
+use Rattle.ir_tree.specs.declared.module.Entry.{Entry}
+use Rattle.ir_tree.specs.declared.module.Module.{Module}
+use Rattle.ir_tree.specs.Names.{same_name}
+use Rattle.points.specs.declared.point.Bounds.{Bounds}
+use Rattle.points.specs.declared.point.Point.{Point}
+use Rattle.verdicts.specs.declared.verdict.Shown.{Shown}
+use Rattle.verdicts.specs.Pair.{Functions, same_signature}
+use Rattle.verdicts.specs.Laws.{Holds, IsCounterexample}
 use Rattle.module_rows.specs.Searching.{entry_names}
-use Rattle.report.specs.All.{Finding, Row, report_text, status_of}
+use Rattle.report.specs.declared.row.Finding.{Finding}
 use Rattle.report.specs.declared.row.Finding.TheVariants as finding
+use Rattle.report.specs.declared.row.Row.{Row}
+use Rattle.report.specs.Text.{report_text}
+use Rattle.report.specs.Status.{status_of}
 use Rattle.tv_cli.specs.Words.{Check}
 use Rattle.tv_run.specs.Files.{HasModule}
 use Rattle.tv_run.specs.Stops.{IsNotPut}

@@ -6,7 +6,10 @@ ghost use Rattle.ir_reader.specs.Module.{IsModule};
 ghost use Rattle.points.specs.Range.{AreInRange};
 ghost use Rattle.proof_files.specs.Parts.{IsCertified, IsReadName, parts_of};
 ghost use Rattle.tv_cli.specs.Seen.{seen_check};
-ghost use Rattle.tv_run.specs.All.{WhereKnown, part_heading, row_heading, HasCause, CountsStop, HasReport, IsProofAsked, IsReportOf, IsJudgeableModule, IsUnread};
+ghost use Rattle.tv_run.specs.Files.{WhereKnown};
+ghost use Rattle.tv_run.specs.Reports.{part_heading, row_heading};
+ghost use Rattle.tv_run.specs.Stops.{HasCause};
+ghost use Rattle.tv_run.specs.Answers.{CountsStop, HasReport, IsProofAsked, IsReportOf, IsJudgeableModule, IsUnread};
 
 use crate::stop::{LoadFault, Stop};
 use crate::texts::{load, module_from};

@@ -1,6 +1,9 @@
 ghost use Rattle.std.specs.Prelude.{◌≡◌, ◌≤◌, IfOk};
 ghost use Rattle.tv_io.specs.MemoryShelf.{files_of};
-ghost use Rattle.tv_run.specs.All.{FitsIn, OfCheck, job_in, IsTheDefinedReport, SaysRefinement};
+ghost use Rattle.tv_run.specs.Answers.{FitsIn};
+ghost use Rattle.tv_run.specs.Jobs.{OfCheck, job_in};
+ghost use Rattle.tv_run.specs.Reports.{IsTheDefinedReport};
+ghost use Rattle.tv_run.specs.Sound.{SaysRefinement};
 
 use crate::top::run;
 use pair_driver::{Judged, OpenGate};

@@ -1,4 +1,5 @@
-ghost use Rattle.tv_run.specs.All.{FaultsAreOne, FileReportsAreDefined, FileReportsAreSound, ModulesHaveNoFault, PutProofsAreVerified, ReportsAreDefined, ReportsAreOne, ReportsAreSound, TextsHaveOneListOfRows};
+ghost use Rattle.tv_run.specs.Laws.{FaultsAreOne, FileReportsAreDefined, FileReportsAreSound, ModulesHaveNoFault, PutProofsAreVerified, ReportsAreDefined, ReportsAreOne, ReportsAreSound};
+ghost use Rattle.tv_run.specs.OneReading.{TextsHaveOneListOfRows};
 
 use ir_reader::is_one_module;
 use proof_files::texts_are_verified;

@@ -1,8 +1,11 @@
 ghost use Rattle.std.specs.Prelude.{◌≡◌, List, IfOk, IfErr, OnOk};
 ghost use Rattle.tv_io.specs.State.{ShelfState};
-ghost use Rattle.proof_text.specs.All.{Part, IsProof};
+ghost use Rattle.proof_text.specs.declared.part.Part.{Part};
+ghost use Rattle.proof_text.specs.Format.{IsProof};
 ghost use Rattle.proof_files.specs.Checks.{AreChecked};
-ghost use Rattle.tv_run.specs.All.{WhereKnown, SaysVerified, CountsLog, IsLogStop, IsNoProof, LoadsProof};
+ghost use Rattle.tv_run.specs.Files.{WhereKnown};
+ghost use Rattle.tv_run.specs.Logs.{SaysVerified};
+ghost use Rattle.tv_run.specs.Answers.{CountsLog, IsLogStop, IsNoProof, LoadsProof};
 
 use crate::stop::{LogStop, LogTrouble};
 use proof_files::{Checked, check_parts};

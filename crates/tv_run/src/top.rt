@@ -5,7 +5,14 @@ ghost use Rattle.tv_io.specs.Files.{SameFiles};
 ghost use Rattle.tv_io.specs.State.{ShelfState, SinkState};
 ghost use Rattle.tv_cli.specs.Seen.{seen_check, seen_make};
 ghost use Rattle.tv_cli.specs.Words.Job.{check as check_job, log as log_job};
-ghost use Rattle.tv_run.specs.All.{ChangesOnlyProof, OfLog, OfMake, ProofChanges, WhereChecked, job_in, WhereKnown, FilesRefine, WritesSound, IsUnfinished, WritesDefinedReport, Written, IsLogged, IsMade, CountsNoOther, IsNotPut, IsUnwritten, Refuses, RefusesJob, RefusesLog, RejectsWords, Says, WritesLine, log_trouble_line, log_trouble_status, stop_status, trouble_line, trouble_status, AreModules, AreParts, Completes, IsDelivered, IsSent};
+ghost use Rattle.tv_run.specs.Jobs.{ChangesOnlyProof, OfLog, OfMake, ProofChanges, WhereChecked, job_in};
+ghost use Rattle.tv_run.specs.Files.{WhereKnown};
+ghost use Rattle.tv_run.specs.Sound.{FilesRefine, WritesSound};
+ghost use Rattle.tv_run.specs.Reports.{IsUnfinished, WritesDefinedReport, Written};
+ghost use Rattle.tv_run.specs.Logs.{IsLogged};
+ghost use Rattle.tv_run.specs.Makes.{IsMade};
+ghost use Rattle.tv_run.specs.Stops.{CountsNoOther, IsNotPut, IsUnwritten, Refuses, RefusesJob, RefusesLog, RejectsWords, Says, WritesLine, log_trouble_line, log_trouble_status, stop_status, trouble_line, trouble_status};
+ghost use Rattle.tv_run.specs.Answers.{AreModules, AreParts, Completes, IsDelivered, IsSent};
 
 use crate::check::{Report, report_of};
 use crate::laws::{file_reports_are_defined, file_reports_are_sound, modules_have_no_fault};

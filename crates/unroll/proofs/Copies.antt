@@ -2,7 +2,9 @@
 use Rattle.std.proofs.Common.{◌≡◌, ℕ, zero, suc, ◌+◌, ◌-◌, ◌<◌, List, [], ◌∷◌, ◌++◌, length, map, drop, get_or, refl, sym, ap, ◌∙◌, arith}
 use Rattle.std.proofs.lemmas.List.{drop_more, append-nil, append_assoc}
 use Rattle.std.proofs.Math.Seq.{drop-length}
-use Rattle.ir_tree.specs.All.{Block, Function, successors}
+use Rattle.ir_tree.specs.declared.tree.Block.{Block}
+use Rattle.ir_tree.specs.declared.tree.Function.{Function}
+use Rattle.ir_tree.specs.Flow.{successors}
 use Rattle.unroll.specs.declared.layered.Edge.{Edge}
 use Rattle.unroll.specs.declared.layered.BlockCopy.{BlockCopy}
 use Rattle.unroll.specs.Layers.{edge_to, copy_of, layer_of, layers_of, copies_of}

@@ -2,7 +2,8 @@
 use Rattle.std.proofs.Common.{◌≡◌, ℕ, zero, suc, ◌+◌, ◌*◌, ◌<◌, ◌≤◌, List, [], ◌∷◌, ◌++◌, length, map, inl, inr, refl, sym, ap, subst, ◌∙◌, arith, length-append}
 use Rattle.std.proofs.lemmas.Bool.{cases_lt, lt-ltb, le-ltb, lt-leb, le-leb}
 use Rattle.std.proofs.Math.Nat.{mul-le-mul_right}
-use Rattle.ir_tree.specs.All.{Function, successors}
+use Rattle.ir_tree.specs.declared.tree.Function.{Function}
+use Rattle.ir_tree.specs.Flow.{successors}
 use Rattle.unroll.specs.declared.layered.BlockCopy.{BlockCopy}
 use Rattle.unroll.specs.Layers.{edge_to, layer_of, layers_of, copies_of, LeadsOn, AllLeadOn, AreForward}
 use Rattle.unroll.proofs.Copies.{length_places}

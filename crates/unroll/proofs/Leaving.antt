@@ -3,9 +3,16 @@ use Rattle.std.proofs.Common.{◌≡◌, ℕ, ◌%◌, List, [], ◌∷◌, map,
 use Rattle.std.specs.List.{find}
 use Rattle.std.specs.Option.{option_map, option_map_or}
 use Rattle.std.proofs.lemmas.Bool.{cases_Bool, eqb-true, eqb-false}
-use Rattle.ir_tree.specs.All.{IrType, Inst, Phi, Case, Terminator, Block, same_number, targets}
+use Rattle.ir_tree.specs.declared.tree.IrType.{IrType}
+use Rattle.ir_tree.specs.declared.tree.Inst.{Inst}
 use Rattle.ir_tree.specs.declared.tree.Inst.TheVariants.{Binary, Icmp, Cast, Select, Freeze, Alloca, Load, Store, GetElementPtr}
+use Rattle.ir_tree.specs.declared.tree.Phi.{Phi}
+use Rattle.ir_tree.specs.declared.tree.Case.{Case}
+use Rattle.ir_tree.specs.declared.tree.Terminator.{Terminator}
 use Rattle.ir_tree.specs.declared.tree.Terminator.TheVariants as terminator
+use Rattle.ir_tree.specs.declared.tree.Block.{Block}
+use Rattle.ir_tree.specs.Sites.{same_number}
+use Rattle.ir_tree.specs.Flow.{targets}
 use Rattle.byte_block.specs.declared.value.Value.{Value}
 use Rattle.byte_block.specs.declared.value.Value.TheVariants.{Num, Poison}
 use Rattle.byte_block.specs.declared.value.Value.TheVariants as value
@@ -15,7 +22,8 @@ use Rattle.memory_access.specs.declared.access_types.Loaded.TheVariants as load
 use Rattle.memory_access.specs.declared.access_types.Stored.{Stored}
 use Rattle.memory_access.specs.declared.access_types.Stored.TheVariants as store
 use Rattle.memory_access.specs.Accesses.{load_result, store_result, after_store}
-use Rattle.points.specs.All.{Machine, value_result}
+use Rattle.points.specs.declared.machine.Machine.{Machine}
+use Rattle.points.specs.Table.{value_result}
 use Rattle.points.specs.Run.{Exit, Over, To, act, assigned, frozen, operand_value, typed_value, typed_operand_value, access_of, loaded, stored, phi_value, with_phis, entered, branch_on, switch_on, exit_by, exit_after, exit_insts, exit_of}
 use Rattle.unroll.specs.declared.layered.Edge.{Edge}
 use Rattle.unroll.specs.Layers.{edge_of, labels_of}

@@ -4,9 +4,13 @@ use Rattle.std.specs.Prelude.{slice_get}
 use Rattle.std.proofs.lemmas.Bool.{cases_Bool, cases_lt, lt-ltb, le-ltb, lt-leb, le-leb, eqb-true, eqb-false}
 use Rattle.std.proofs.lemmas.Option.{slice_get_past}
 use Rattle.std.proofs.Math.Nat.{mul-le-mul_right}
-use Rattle.ir_tree.specs.All.{Block, Function, targets, block_of, successors}
-use Rattle.points.specs.All.{Machine, Bounds, Input}
+use Rattle.ir_tree.specs.declared.tree.Block.{Block}
+use Rattle.ir_tree.specs.declared.tree.Function.{Function}
+use Rattle.ir_tree.specs.Flow.{targets, block_of, successors}
+use Rattle.points.specs.declared.machine.Machine.{Machine}
 use Rattle.points.specs.declared.outcome.Outcome.TheVariants.{Ub, Beyond}
+use Rattle.points.specs.declared.point.Bounds.{Bounds}
+use Rattle.points.specs.declared.point.Input.{Input}
 use Rattle.points.specs.Run.{Run, Exit, To, Over, ended, exit_of, Go, jump, go_on, forward, run_turns, breaks_noundef, first_machine}
 use Rattle.points.proofs.Runs.{run_of_is, run_entered_by}
 use Rattle.unroll.specs.declared.layered.Edge.TheVariants as edge

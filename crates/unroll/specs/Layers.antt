@@ -1,8 +1,12 @@
 -- Copies of a function's blocks, one of each for each count of backward jumps, and a run through them: each copy once, in order.
 use Rattle.std.specs.Prelude.{◌≡◌, ℕ, zero, suc, ◌+◌, ◌*◌, ◌<◌, List, [], ◌∷◌, ◌++◌, length, map, nat_eq, nat_le, nat_lt, ◌==◌, if◌then◌else◌, slice_get, Option, Some, None}
-use Rattle.ir_tree.specs.All.{Block, Function, targets, successors}
-use Rattle.points.specs.All.{Machine, Bounds, Input}
+use Rattle.ir_tree.specs.declared.tree.Block.{Block}
+use Rattle.ir_tree.specs.declared.tree.Function.{Function}
+use Rattle.ir_tree.specs.Flow.{targets, successors}
+use Rattle.points.specs.declared.machine.Machine.{Machine}
 use Rattle.points.specs.declared.outcome.Outcome.TheVariants.{Ub, Beyond}
+use Rattle.points.specs.declared.point.Bounds.{Bounds}
+use Rattle.points.specs.declared.point.Input.{Input}
 use Rattle.points.specs.Run.{Run, Exit, To, Over, ended, exit_of, first_machine, breaks_noundef, run_of}
 use Rattle.unroll.specs.declared.layered.Edge.{Edge}
 use Rattle.unroll.specs.declared.layered.Edge.TheVariants as edge

@@ -2,9 +2,19 @@
 use Rattle.std.proofs.Common.{◌≡◌, ℕ, inl, inr, List, [], ◌∷◌, ◌++◌, length, true, false, Option, Some, None, slice_get, sym, ap, ◌∙◌, arith, append_assoc, append-nil}
 use Rattle.std.specs.Prelude.{slice_index}
 use Rattle.std.proofs.lemmas.Bool.{or_cases, cases_order}
-use Rattle.points.specs.All.{Bounds, Budget, Input, Point, is_refined, WordsFit, number_of, Run, run_of, need_of, widest_choice, plain_form, HasPlainForm}
+use Rattle.points.specs.declared.point.Bounds.{Bounds}
+use Rattle.points.specs.declared.point.Budget.{Budget}
+use Rattle.points.specs.declared.point.Input.{Input}
+use Rattle.points.specs.declared.point.Point.{Point}
 use Rattle.verdicts.specs.declared.verdict.Verdict.TheVariants.{Correct, Incorrect}
-use Rattle.verdicts.specs.All.{RunPair, run_pair, covers, some_covers, is_covered, shifted, HasNoCover, IsPoint, IsLeastUncovered, AreAllCovered, TrailFrom, Ends, IsAllowed, IsWithin, CorrectHolds, IncorrectFails, LeastCoversArePlain}
+use Rattle.verdicts.specs.Pair.{RunPair, run_pair}
+use Rattle.points.specs.Refines.{is_refined}
+use Rattle.points.specs.Code.{WordsFit, number_of}
+use Rattle.points.specs.Run.{Run, run_of}
+use Rattle.points.specs.Tapes.{need_of, widest_choice, plain_form, HasPlainForm}
+use Rattle.verdicts.specs.Covers.{covers, some_covers, is_covered, shifted, HasNoCover}
+use Rattle.verdicts.specs.Trail.{IsPoint, IsLeastUncovered, AreAllCovered, TrailFrom, Ends}
+use Rattle.verdicts.specs.Laws.{IsAllowed, IsWithin, CorrectHolds, IncorrectFails, LeastCoversArePlain}
 use Rattle.points.proofs.Order.{number_of-same}
 use Rattle.points.proofs.Words.{WordsFit-digits, WordsFit-length}
 use Rattle.points.proofs.Plain.{tapes_have_plain_forms}

@@ -1,10 +1,21 @@
 -- A pair has one verdict: its trail is grown in one way.
 use Rattle.std.proofs.Common.{◌≡◌, ℕ, ◌^◌, ◌<◌, ◌≤◌, ◌⊎◌, inl, inr, List, [], ◌∷◌, ◌++◌, length, Bool, true, false, Option, Some, None, slice_get, refl, sym, ap, subst, ◌∙◌, arith, append-nil, length-append}
 use Rattle.std.proofs.lemmas.Bool.{cases_order}
-use Rattle.points.specs.All.{Bounds, Budget, Point, number_of, AreInRange, need_of, widest_choice}
-use Rattle.verdicts.specs.All.{Kept, Verdict, Functions, RunPair, layout_of, run_pair, IsHeavy, IsLeastCover, HasNoCover, IsPoint, place_in, IsLeastUncovered, AreAllCovered, TrailFrom, HasCover, Ends, Judges, IsTrail, VerdictsAreOne}
+use Rattle.points.specs.declared.point.Bounds.{Bounds}
+use Rattle.points.specs.declared.point.Budget.{Budget}
+use Rattle.points.specs.declared.point.Point.{Point}
+use Rattle.verdicts.specs.declared.verdict.Kept.{Kept}
+use Rattle.verdicts.specs.declared.verdict.Verdict.{Verdict}
 use Rattle.verdicts.specs.declared.verdict.Verdict.TheVariants.{Correct, Incorrect, Unknown}
 use Rattle.verdicts.specs.declared.verdict.Cause.TheVariants.{Weight, Rounds, Conflicts}
+use Rattle.verdicts.specs.Pair.{Functions, RunPair, layout_of, run_pair}
+use Rattle.points.specs.Code.{number_of}
+use Rattle.points.specs.Range.{AreInRange}
+use Rattle.verdicts.specs.Weight.{IsHeavy}
+use Rattle.points.specs.Tapes.{need_of, widest_choice}
+use Rattle.verdicts.specs.Covers.{IsLeastCover, HasNoCover}
+use Rattle.verdicts.specs.Trail.{IsPoint, place_in, IsLeastUncovered, AreAllCovered, TrailFrom, HasCover, Ends, Judges, IsTrail}
+use Rattle.verdicts.specs.Laws.{VerdictsAreOne}
 use Rattle.points.proofs.Order.{number_of-same}
 use Rattle.points.proofs.Words.{WordsFit-digits}
 use Rattle.points.proofs.Same.{Fits, same_point}

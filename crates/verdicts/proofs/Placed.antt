@@ -4,17 +4,31 @@ use Rattle.std.specs.Prelude.{slice_get, nat_lt}
 use Rattle.std.specs.List.{filter, AllByRecursion}
 use Rattle.std.specs.Option.{option_map}
 use Rattle.std.proofs.lemmas.List.Elements.{recursion_from_All}
-use Rattle.ir_tree.specs.All.{IrType, Operand, Inst, TypedOperand, Phi, Case, Terminator, Block, Function, block_of, IsInteger, IsIntegerOrVoid, IsOnIntegers, EndsOnIntegers, IsBlockOnIntegers, HasNoPointers}
+use Rattle.ir_tree.specs.declared.tree.IrType.{IrType}
 use Rattle.ir_tree.specs.declared.tree.IrType.TheVariants as type
+use Rattle.ir_tree.specs.declared.tree.Operand.{Operand}
 use Rattle.ir_tree.specs.declared.tree.Operand.TheVariants as operand
+use Rattle.ir_tree.specs.declared.tree.Inst.{Inst}
 use Rattle.ir_tree.specs.declared.tree.Inst.TheVariants.{Binary, Icmp, Cast, Select, Freeze, Alloca, Load, Store, GetElementPtr}
+use Rattle.ir_tree.specs.declared.tree.TypedOperand.{TypedOperand}
+use Rattle.ir_tree.specs.declared.tree.Phi.{Phi}
+use Rattle.ir_tree.specs.declared.tree.Case.{Case}
+use Rattle.ir_tree.specs.declared.tree.Terminator.{Terminator}
 use Rattle.ir_tree.specs.declared.tree.Terminator.TheVariants as terminator
+use Rattle.ir_tree.specs.declared.tree.Block.{Block}
+use Rattle.ir_tree.specs.declared.tree.Function.{Function}
+use Rattle.ir_tree.specs.Flow.{block_of}
+use Rattle.ir_tree.specs.Pointers.{IsInteger, IsIntegerOrVoid, IsOnIntegers, EndsOnIntegers, IsBlockOnIntegers, HasNoPointers}
 use Rattle.byte_block.specs.declared.value.Value.{Value}
 use Rattle.byte_block.specs.declared.value.Value.TheVariants.{Num, Poison}
 use Rattle.byte_block.specs.declared.value.Value.TheVariants as value
 use Rattle.byte_block.specs.declared.block.MemoryBlock.{MemoryBlock}
-use Rattle.points.specs.All.{Machine, Outcome, Bounds, Input, value_result}
+use Rattle.points.specs.declared.machine.Machine.{Machine}
+use Rattle.points.specs.declared.outcome.Outcome.{Outcome}
 use Rattle.points.specs.declared.outcome.Outcome.TheVariants.{Return, Ub, Beyond}
+use Rattle.points.specs.declared.point.Bounds.{Bounds}
+use Rattle.points.specs.declared.point.Input.{Input}
+use Rattle.points.specs.Table.{value_result}
 use Rattle.points.specs.Run.{Run, Exit, To, Over, ended, act, assigned, frozen, operand_value, typed_value, typed_operand_value, is_given, is_poison, undef_type, returned_with, phi_value, with_phis, entered, branch_on, switch_on, exit_by, exit_after, exit_insts, exit_of, Go, go_on, forward, run_turns, breaks_noundef, first_machine, run_of}
 use Rattle.points.proofs.Runs.{run_entered_by, run_of_is}
 

@@ -1,8 +1,13 @@
 -- Which tapes of the source cover a point, and which of them are tried for every point.
 use Rattle.std.specs.Prelude.{◌≡◌, ℕ, ◌+◌, ◌-◌, ◌<◌, nat_lt, if◌then◌else◌, List, [], ◌∷◌, ◌++◌, map, slice_index, Bool, true, false, ◌||◌}
 use Rattle.std.specs.List.{range_with_len}
-use Rattle.points.specs.All.{Bounds, Point, number_of, WordsFit, is_refined, run_of, need_of}
+use Rattle.points.specs.declared.point.Bounds.{Bounds}
+use Rattle.points.specs.declared.point.Point.{Point}
 use Rattle.verdicts.specs.Pair.{RunPair}
+use Rattle.points.specs.Code.{number_of, WordsFit}
+use Rattle.points.specs.Refines.{is_refined}
+use Rattle.points.specs.Run.{run_of}
+use Rattle.points.specs.Tapes.{need_of}
 
 -- the source's run on this tape allows the target's run on the point
 unfoldable pub covers : RunPair → Bounds → Point → List ℕ → Bool

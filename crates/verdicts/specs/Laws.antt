@@ -1,6 +1,13 @@
 -- What `correct` and `incorrect` mean of a pair, and that a pair has one verdict.
 use Rattle.std.specs.Prelude.{◌≡◌, ◌<◌, ℕ, List, true, false}
-use Rattle.points.specs.All.{Bounds, Budget, Input, Point, ArgsFit, BlocksFit, AreInRange, is_refined, run_of, IsPlain}
+use Rattle.points.specs.declared.point.Bounds.{Bounds}
+use Rattle.points.specs.declared.point.Budget.{Budget}
+use Rattle.points.specs.declared.point.Input.{Input}
+use Rattle.points.specs.declared.point.Point.{Point}
+use Rattle.points.specs.Code.{ArgsFit, BlocksFit}
+use Rattle.points.specs.Range.{AreInRange}
+use Rattle.points.specs.Refines.{is_refined}
+use Rattle.points.specs.Run.{run_of, IsPlain}
 use Rattle.verdicts.specs.declared.verdict.Verdict.{Verdict}
 use Rattle.verdicts.specs.declared.verdict.Verdict.TheVariants.{Correct, Incorrect}
 use Rattle.verdicts.specs.Pair.{Functions, RunPair, layout_of, run_pair}

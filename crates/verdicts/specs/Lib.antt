@@ -4,4 +4,3 @@ pub mod Pair
 pub mod Shown
 pub mod Trail
 pub mod Weight
-pub mod All

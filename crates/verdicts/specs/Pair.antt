@@ -1,7 +1,11 @@
 -- Two functions that are compared, and when their signatures are equal.
 use Rattle.std.specs.Prelude.{Bool, true, false, ◌&&◌, List, [], ◌∷◌, Option, Some, None}
-use Rattle.ir_tree.specs.All.{IrType, Parameter, Function, is_same_type}
-use Rattle.points.specs.All.{Bounds, Layout}
+use Rattle.ir_tree.specs.declared.tree.IrType.{IrType}
+use Rattle.ir_tree.specs.declared.tree.Parameter.{Parameter}
+use Rattle.ir_tree.specs.declared.tree.Function.{Function}
+use Rattle.ir_tree.specs.Sites.{is_same_type}
+use Rattle.points.specs.declared.point.Bounds.{Bounds}
+use Rattle.points.specs.declared.point.Layout.{Layout}
 
 -- the pair as it is read, of which signatures, weights and rows speak: the function before the optimisation, and the one after it
 pub record Functions : Type 0 where

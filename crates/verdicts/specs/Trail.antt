@@ -1,11 +1,16 @@
 -- The verdict on a pair: tapes are added one by one, each the least that covers the least point which nothing before it covers.
 use Rattle.std.specs.Prelude.{◌≡◌, ℕ, ◌<◌, ◌≤◌, List, [], ◌∷◌, ◌++◌, length, slice_get, Option, Some, None, true, false}
-use Rattle.points.specs.All.{Bounds, Budget, Point, ArgsFit, BlocksFit, WordsFit, place_of, run_of, IsPlain, need_of, widest_choice}
+use Rattle.points.specs.declared.point.Bounds.{Bounds}
+use Rattle.points.specs.declared.point.Budget.{Budget}
+use Rattle.points.specs.declared.point.Point.{Point}
 use Rattle.verdicts.specs.declared.verdict.Kept.{Kept}
 use Rattle.verdicts.specs.declared.verdict.Verdict.{Verdict}
 use Rattle.verdicts.specs.declared.verdict.Verdict.TheVariants.{Correct, Incorrect, Unknown}
 use Rattle.verdicts.specs.declared.verdict.Cause.TheVariants.{Weight, Rounds}
 use Rattle.verdicts.specs.Pair.{Functions, RunPair, layout_of, run_pair}
+use Rattle.points.specs.Code.{ArgsFit, BlocksFit, WordsFit, place_of}
+use Rattle.points.specs.Run.{run_of, IsPlain}
+use Rattle.points.specs.Tapes.{need_of, widest_choice}
 use Rattle.verdicts.specs.Covers.{covers, is_covered, IsLeastCover, HasNoCover}
 use Rattle.verdicts.specs.Weight.{IsHeavy}
 

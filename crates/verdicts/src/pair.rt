@@ -13,7 +13,7 @@ pub struct Pair<'m> {
 
 impl<'m> Model for Pair<'m> {
     ghost use Rattle.std.specs.Prelude.{◌≡◌, true};
-    ghost use Rattle.verdicts.specs.All.{Functions, same_signature, RunPair};
+    ghost use Rattle.verdicts.specs.Pair.{Functions, same_signature};
 
     ghost Value = { Functions };
 
@@ -67,6 +67,7 @@ pub struct RunPair<'m> {
 
 impl<'m> Model for RunPair<'m> {
     ghost use Rattle.std.specs.Prelude.{◌≡◌, true};
+    ghost use Rattle.verdicts.specs.Pair.{RunPair, same_signature};
 
     ghost Value = { RunPair };
 

@@ -2,7 +2,8 @@
 use Rattle.std.proofs.Common.{◌≡◌, ◌<◌, true, length, take, drop, Some}
 use Rattle.memory_access.specs.Accesses.{admits}
 use Rattle.bv_terms.specs.Trees.{Keeps, term_at}
-use Rattle.mem_terms.specs.All.{Reading, AreSymBytes, block_at, places_at}
+use Rattle.mem_terms.specs.Values.{Reading}
+use Rattle.mem_terms.specs.Memory.{AreSymBytes, block_at, places_at}
 use Rattle.access_terms.proofs.places.bytes_at.Given as goal
 
 abbrev pub invariant-loop-place : goal.invariant-loop-place

@@ -2,7 +2,8 @@
 use Rattle.std.proofs.Common.{◌≡◌, ◌&&◌, nat_lt, Some}
 use Rattle.memory_access.specs.Accesses.{admits}
 use Rattle.bv_terms.specs.Trees.{IsTerm, Keeps, bit_at, term_at}
-use Rattle.mem_terms.specs.All.{Reading, block_at}
+use Rattle.mem_terms.specs.Values.{Reading}
+use Rattle.mem_terms.specs.Memory.{block_at}
 use Rattle.access_terms.proofs.places.is_admitted.Given as goal
 
 abbrev pub invariant-loop-place : goal.invariant-loop-place

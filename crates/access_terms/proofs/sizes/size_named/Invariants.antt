@@ -2,7 +2,8 @@
 use Rattle.std.proofs.Common.{◌≡◌, ◌≤◌, length, drop}
 use Rattle.memory_access.specs.Blocks.{bytes_named}
 use Rattle.bv_terms.specs.Trees.{Keeps, IsTerm, term_at}
-use Rattle.mem_terms.specs.All.{IsNaming, Reading, memory_at}
+use Rattle.mem_terms.specs.Values.{IsNaming, Reading}
+use Rattle.mem_terms.specs.Memory.{memory_at}
 use Rattle.access_terms.proofs.sizes.size_named.Given as goal
 
 abbrev pub invariant-loop-i : goal.invariant-loop-i

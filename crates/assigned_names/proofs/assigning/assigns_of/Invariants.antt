@@ -1,5 +1,6 @@
 use Rattle.std.proofs.Common.{◌≡◌, ◌++◌, map, drop}
-use Rattle.ir_tree.specs.All.{Block, assigned_with, assigns}
+use Rattle.ir_tree.specs.declared.tree.Block.{Block}
+use Rattle.ir_tree.specs.Flow.{assigned_with, assigns}
 use Rattle.assigned_names.proofs.assigning.assigns_of.Given as goal
 
 abbrev pub invariant-loop-block : goal.invariant-loop-block

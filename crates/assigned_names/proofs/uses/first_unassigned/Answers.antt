@@ -1,6 +1,7 @@
 use Rattle.std.proofs.Common.{◌≡◌, true, length, ap, arith}
 use borrow.Author.Count.{below_more}
-use Rattle.ir_tree.specs.All.{sites, UsesUnassigned}
+use Rattle.ir_tree.specs.Sites.{sites}
+use Rattle.ir_tree.specs.WellFormed.{UsesUnassigned}
 use Rattle.ir_tree.proofs.Failures.{failure, no_failure}
 use Rattle.assigned_names.proofs.UseLemmas.{use_within}
 use Rattle.assigned_names.proofs.uses.first_unassigned.Goals as goal

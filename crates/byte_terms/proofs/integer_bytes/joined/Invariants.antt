@@ -2,7 +2,8 @@
 use Rattle.std.proofs.Common.{ℕ, ◌≡◌, ◌≤◌, ◌*◌, drop, length, Some}
 use Rattle.memory_access.specs.Bytes as meant
 use Rattle.bv_terms.specs.Trees.{IsTerm, Keeps, term_at}
-use Rattle.mem_terms.specs.All.{Reading, places_at}
+use Rattle.mem_terms.specs.Values.{Reading}
+use Rattle.mem_terms.specs.Memory.{places_at}
 use Rattle.byte_terms.proofs.Digits.{Left}
 use Rattle.byte_terms.proofs.integer_bytes.joined.Given as goal
 

@@ -3,7 +3,8 @@ use Rattle.std.proofs.Common.{◌≡◌, cond, nat_eq, replicate, take}
 use Rattle.byte_block.specs.declared.value.Byte.TheVariants.{Poison}
 use Rattle.memory_access.specs.Bytes as meant
 use Rattle.bv_terms.specs.Trees.{Keeps, term_at}
-use Rattle.mem_terms.specs.All.{Reading, AreSymBytes, places_at}
+use Rattle.mem_terms.specs.Values.{Reading}
+use Rattle.mem_terms.specs.Memory.{AreSymBytes, places_at}
 use Rattle.byte_terms.proofs.Parts.{pointer_at}
 use Rattle.byte_terms.proofs.pointer_bytes.pointer_parts.Given as goal
 

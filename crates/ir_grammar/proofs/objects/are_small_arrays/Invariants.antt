@@ -1,5 +1,6 @@
 use Rattle.std.proofs.Common.{◌≡◌, ◌≤◌, length, drop}
-use Rattle.ir_tree.specs.All.{nested_size, HasSmallArrays}
+use Rattle.ir_tree.specs.Types.{nested_size}
+use Rattle.ir_tree.specs.Limits.{HasSmallArrays}
 use Rattle.ir_grammar.proofs.objects.are_small_arrays.Given as goal
 
 abbrev pub invariant-loop-i : goal.invariant-loop-i

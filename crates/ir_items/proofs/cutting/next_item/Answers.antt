@@ -1,6 +1,8 @@
 use Rattle.std.proofs.Common.{sym, ◌∙◌}
 use Rattle.std.proofs.lemmas.Result.{IfOk-weaker}
-use Rattle.ir_items.specs.All.{IsOther, IsCut, StopsAt, IsAdded}
+use Rattle.ir_items.specs.Items.{IsOther, IsCut}
+use Rattle.ir_items.specs.Stops.{StopsAt}
+use Rattle.ir_items.specs.Pieces.{IsAdded}
 use Rattle.ir_items.proofs.cutting.next_item.Goals as goal
 
 pub returns-then-not-is_head-clause-stops : goal.returns-then-not-is_head-clause-stops

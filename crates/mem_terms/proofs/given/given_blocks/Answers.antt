@@ -1,5 +1,7 @@
 use Rattle.std.proofs.Common.{◌≡◌, ◌∙◌, ◌<◌, length, ap, subst, arith}
-use Rattle.mem_terms.specs.All.{Each, given_frames, IsByteTerms}
+use Rattle.mem_terms.specs.Values.{Each}
+use Rattle.mem_terms.specs.Memory.{given_frames}
+use Rattle.mem_terms.specs.Inputs.{IsByteTerms}
 use Rattle.mem_terms.proofs.Eaches.{at-any, each-at}
 use Rattle.mem_terms.proofs.Later.{byte_terms_each-later}
 use Rattle.mem_terms.proofs.GivenTerms.{BlocksSoFar, blocks-more, blocks-whole, got}

@@ -2,7 +2,8 @@ use Rattle.std.proofs.Common.{◌≡◌, ◌-◌, ◌+◌, ◌∷◌, [], length
 use Rattle.std.proofs.lemmas.List.{length_push}
 use Rattle.std.proofs.lemmas.List.Elements.{All-push}
 use Rattle.std.proofs.lemmas.Result.{err_from_is_err_and}
-use Rattle.proof_text.specs.All.{IsStepOver, step_line, Moves, Rows, Steps}
+use Rattle.proof_text.specs.Format.{IsStepOver, step_line}
+use Rattle.proof_text.specs.Following.{Moves, Rows, Steps}
 use Rattle.proof_text.proofs.Languages.{many_done}
 use Rattle.proof_text.proofs.Moves.{moves_on, moves_push, stopped_after}
 use Rattle.proof_text.proofs.reader.read_steps.Goals as goal

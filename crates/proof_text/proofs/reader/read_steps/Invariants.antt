@@ -1,5 +1,6 @@
 use Rattle.std.proofs.Common.{◌≡◌, ◌-◌, All, length, map}
-use Rattle.proof_text.specs.All.{IsStepOver, step_line, Moves, Steps}
+use Rattle.proof_text.specs.Format.{IsStepOver, step_line}
+use Rattle.proof_text.specs.Following.{Moves, Steps}
 use Rattle.proof_text.proofs.reader.read_steps.Given as goal
 
 abbrev pub invariant-loop-index : goal.invariant-loop-index

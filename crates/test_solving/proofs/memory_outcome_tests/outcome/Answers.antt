@@ -1,6 +1,7 @@
 use Rattle.std.proofs.Common.{◌≡◌, [], ◌∷◌, ◌∙◌, subst, sym}
 use Rattle.bv_terms.specs.Trees.{Keeps}
-use Rattle.mem_terms.specs.All.{Each, AreSymBlocks, IsAlways}
+use Rattle.mem_terms.specs.Values.{Each}
+use Rattle.mem_terms.specs.Memory.{AreSymBlocks, IsAlways}
 use Rattle.mem_terms.proofs.Later.{always-later, is_term-later, keeps_trans, sym_block-later, sym_value-later}
 use Rattle.test_solving.proofs.memory_outcome_tests.outcome.Goals as goal
 

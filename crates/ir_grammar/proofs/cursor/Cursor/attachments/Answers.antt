@@ -4,7 +4,8 @@ use Rattle.ir_lexer.specs.Lexeme.{Lexeme}
 use Rattle.token_forms.specs.Form.{Reading, reads, read}
 use Rattle.token_forms.proofs.Exact.{shorter}
 use Rattle.token_forms.proofs.Loops.{at_start, step-more, step-done, step-fails, step-shorter}
-use Rattle.ir_grammar.specs.All.{any, is_comma, comma_begins, attachment, attachments}
+use Rattle.ir_grammar.specs.Classes.{any}
+use Rattle.ir_grammar.specs.Grammar.{is_comma, comma_begins, attachment, attachments}
 use Rattle.ir_grammar.proofs.cursor.Cursor.attachments.Goals as goal
 
 abbrev part : Unit {0} → Unit {0} → List Lexeme → Reading (Unit {0})

@@ -4,7 +4,9 @@ use Rattle.ir_lexer.specs.Lexeme.{Lexeme}
 use Rattle.token_forms.specs.Form.{Reading, reads, read}
 use Rattle.token_forms.proofs.Exact.{shorter}
 use Rattle.token_forms.proofs.Loops.{at_start, step-more, step-done, step-fails, step-shorter}
-use Rattle.ir_grammar.specs.All.{any, is_comma, line_comma, with_comma, behind_commas, WrittenLine}
+use Rattle.ir_grammar.specs.Classes.{any}
+use Rattle.ir_grammar.specs.Grammar.{is_comma, line_comma, with_comma, behind_commas}
+use Rattle.ir_grammar.specs.declared.written.WrittenLine.{WrittenLine}
 use Rattle.ir_grammar.proofs.cursor.Cursor.behind_commas.Goals as goal
 
 abbrev part : WrittenLine → Unit {0} → List Lexeme → Reading (WrittenLine)

@@ -5,7 +5,8 @@ use Rattle.token_forms.specs.Form.{Reading, reads, read}
 use Rattle.token_forms.proofs.Exact.{shorter}
 use Rattle.token_forms.proofs.Loops.{at_start, step-more, step-done, step-fails, step-shorter}
 use Rattle.ir_grammar.specs.Grammar.{is_type, case_begins, case_within, with_case, cases}
-use Rattle.ir_grammar.specs.All.{WrittenIntType, WrittenCase}
+use Rattle.ir_grammar.specs.declared.written.WrittenIntType.{WrittenIntType}
+use Rattle.ir_grammar.specs.declared.written.WrittenCase.{WrittenCase}
 use Rattle.ir_grammar.proofs.cursor.Cursor.cases.Goals as goal
 
 abbrev part : List WrittenCase → WrittenIntType → List Lexeme → Reading (List WrittenCase)

@@ -4,7 +4,9 @@ use Rattle.ir_lexer.specs.Lexeme.{Lexeme}
 use Rattle.token_forms.specs.Form.{Reading, reads, read}
 use Rattle.token_forms.proofs.Exact.{shorter}
 use Rattle.token_forms.proofs.Loops.{at_start, step-more, step-done, step-fails, step-shorter}
-use Rattle.ir_grammar.specs.All.{starts_line, line_begins, line_within, next_line, opened, lines, LineStart, WrittenLines}
+use Rattle.ir_grammar.specs.Grammar.{starts_line, line_begins, line_within, next_line, opened, lines}
+use Rattle.ir_grammar.specs.declared.word.LineStart.{LineStart}
+use Rattle.ir_grammar.specs.declared.written.WrittenLines.{WrittenLines}
 use Rattle.ir_grammar.proofs.cursor.Cursor.lines.Goals as goal
 
 abbrev part : WrittenLines → LineStart → List Lexeme → Reading (WrittenLines)

@@ -1,6 +1,7 @@
 use Rattle.std.proofs.Common.{◌≡◌, drop}
 use Rattle.std.specs.List.{flat_map}
-use Rattle.ir_tree.specs.All.{entry_sites, with_part}
+use Rattle.ir_tree.specs.Sites.{entry_sites}
+use Rattle.ir_tree.specs.SiteLists.{with_part}
 use Rattle.ir_tree.proofs.sites.SiteList.entries.Given as goal
 
 abbrev pub invariant-loop-entry : goal.invariant-loop-entry
