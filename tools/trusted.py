@@ -75,15 +75,7 @@ def read_specs():
                 definitions[current] = [line]
             elif current and line.strip() and not re.match(r"\s*--|use |infix|pub mod ", line):
                 definitions[current].append(line)
-    return definitions, {module: followed(found, imports) for module, found in imports.items()}
-
-
-def followed(found, imports):
-    """The imported names, those of a crate's All.antt as the definitions that it passes on."""
-    return {
-        name: imports.get(key[:2], {}).get(key[2], key) if key[1] == "All" else key
-        for name, key in found.items()
-    }
+    return definitions, imports
 
 
 def reached(start, definitions, imports):
@@ -102,12 +94,12 @@ def reached(start, definitions, imports):
     return seen
 
 
-def contract_of_run(imports):
+def contract_of_run():
     """The definitions that the clauses of `run` name."""
     text = TOP.read_text()
     begin = text.index("pub fn run")
     clauses = text[begin : text.index("\n{", begin)]
-    known = followed(imports_in(text), imports)
+    known = imports_in(text)
     return [known[name] for name in names_in(clauses) if name in known]
 
 
@@ -136,7 +128,7 @@ def listing(with_names):
         if key not in definitions:
             sys.exit("no such definition: " + "/".join(key))
     meaning = starts[QUESTIONS[0][0]]
-    whole = reached(contract_of_run(imports) + meaning, definitions, imports)
+    whole = reached(contract_of_run() + meaning, definitions, imports)
     sizes = lambda keys: (len(keys), sum(len(definitions[k]) for k in keys), len({k[:2] for k in keys}))
     lines = ["{} definitions, {} lines, in {} files.".format(*sizes(whole))]
     left = set(whole)
