@@ -1,6 +1,7 @@
 -- A run from its beginning to its end.
 use Rattle.std.proofs.Common.{ℕ, zero, suc, ◌≡◌, ◌<◌, ◌≤◌, ◌+◌, Bool, true, false, not, ◌&&◌, ◌||◌, if◌then◌else◌, List, [], ◌∷◌, ◌++◌, length, drop, replicate, get_or, nat_eq, nat_lt, Option, Some, None, IfSome, inl, inr, refl, ap, sym, subst, ◌∙◌, arith}
 use Rattle.std.specs.Prelude.{slice_index}
+use Rattle.std.proofs.Math.Bool.{and-true, and_assoc}
 use Rattle.std.proofs.lemmas.Bool.{cases_Bool, cases_lt, eqb-true, eq-eqb}
 use Rattle.std.proofs.lemmas.Bool.Decides.{nat_tests}
 use Rattle.std.proofs.lemmas.List.{drop_more, drop_all}
@@ -30,20 +31,13 @@ use Rattle.mem_terms.proofs.Naming.{naming}
 use Rattle.run_terms.specs.declared.state.RunState.{RunState}
 use Rattle.run_terms.specs.declared.ending.Ending.{Ending}
 use Rattle.run_terms.specs.declared.frontier.Frontier.{Frontier}
-use Rattle.run_terms.specs.Runs.{Scene, Sees, IsState, Counts, Carries, StateShape, fits_from, shape_of, sight, zeros_past}
-use Rattle.run_terms.specs.Frontier.{IsEnding, EndedSo, AreStates, HaveShape, IsUnreached, Tells, Moves, first_place, placed}
-use Rattle.run_terms.proofs.Lasting.{sees-later, counts-later, carries-later, ending_at-later}
+use Rattle.run_terms.specs.Runs.{Scene, Sees, IsState, Counts, MatchesState, StateShape, fits_from, shape_of, sight, zeros_past}
+use Rattle.run_terms.specs.Frontier.{IsEnding, EndedSo, AreStates, HaveShape, IsUnreached, MatchesFrontier, Simulates, first_place, placed}
+use Rattle.run_terms.proofs.Arguments.{each-replicate}
+use Rattle.run_terms.proofs.Lasting.{sees-later, counts-later, matches_state-later, ending_at-later}
 use Rattle.run_terms.proofs.Through.{placed_end, walk_over}
 
 -- ---- plain
-
-and_assoc : (a b c : Bool) → ((a && b) && c) ≡ (a && (b && c))
-and_assoc true b c = refl
-and_assoc false b c = refl
-
-and_true : (b : Bool) → (b && true) ≡ b
-and_true true = refl
-and_true false = refl
 
 and_left : (a b : Bool) → (a && b) ≡ true → a ≡ true
 and_left true b h = refl
@@ -133,7 +127,7 @@ pub zeros_end : (old a : List Term) (tape : List TermId) (i : ℕ) (read all : T
     → (v : ℕ → ℕ → ℕ) → bit_at v a all ≡ zeros_past (term_at v old read) 0 (words_at v old tape)
 zeros_end old a tape i read all past so v =
     let none = drop_all i (words_at v old tape) (omega (arith, map-length (term_at v old) tape)) in
-    sym (and_true (bit_at v a all)) ∙ (ap (λ ws. bit_at v a all && zeros_past (term_at v old read) i ws) (sym none) ∙ so v)
+    sym (and-true (bit_at v a all)) ∙ (ap (λ ws. bit_at v a all && zeros_past (term_at v old read) i ws) (sym none) ∙ so v)
 
 -- ---- the end
 
@@ -153,35 +147,32 @@ finish_stands old a b ka kb e he tape rest plain tr tp g run sees h =
 -- ---- the beginning
 
 pub enter_stands : (old a b d e : List Term) (f : Function) (copies : List BlockCopy) (input : InputTerms) (unknown between entered : Frontier) (undefined : TermId) (s : RunState)
-    (ka : Keeps old a) (kb : Keeps a b) (kd : Keeps b d) (hs : IsState a s) (hu : IsTerm a 1 undefined)
+    (kb : Keeps a b) (kd : Keeps b d) (hs : IsState a s) (hu : IsTerm a 1 undefined)
     → ((r : Reading) → IsNaming r.name → bit_at r.v a undefined ≡ breaks_noundef f.parameters (args_at r old input.args)) → ((r : Reading) → bit_at r.v a s.alive ≡ not (bit_at r.v a undefined))
-    → (g : Scene) → Carries g a (record { label = 0; turn = 0 }) s (first_machine f (input_at (sight g) old input))
-    → Tells g b unknown None
-    → ((at : Option Where) → bit_at g.v b undefined ≡ false → Tells g b unknown at → Tells g d between at)
-    → ((made : List ℕ) → bit_at g.v b undefined ≡ true → Counts g b s.tally made → Tells g b unknown None → Tells g d between (Some (Done (record { outcome = Ub; taken = made }))))
-    → Moves g d e between entered s.alive (record { label = 0; turn = 0 }) s (λ (m : Machine). placed f copies 0 (along (edge.Copy 0) m))
-    → Tells g e entered (Some (placed f copies 0 (first_place f (input_at (sight g) old input))))
-enter_stands old a b d e f copies input unknown between entered undefined s ka kb kd hs hu breaks alive g carries none st go moves =
+    → (g : Scene) → MatchesState g a (record { label = 0; turn = 0 }) s (first_machine f (input_at (sight g) old input))
+    → MatchesFrontier g b unknown None
+    → Simulates g b d unknown between (bit_at g.v b undefined) (record { label = 0; turn = 0 }) s (λ (m : Machine). Done (ended Ub m))
+    → Simulates g d e between entered (bit_at g.v d s.alive) (record { label = 0; turn = 0 }) s (λ (m : Machine). placed f copies 0 (along (edge.Copy 0) m))
+    → MatchesFrontier g e entered (Some (placed f copies 0 (first_place f (input_at (sight g) old input))))
+enter_stands old a b d e f copies input unknown between entered undefined s kb kd hs hu breaks alive g matches none ends enters =
     by (breaks_noundef f.parameters (args_at (sight g) old input.args)) refl
   where
     kad : Keeps a d
     kad = keeps_trans a b d kb kd
 
-    broken_is : (broken : Bool) → breaks_noundef f.parameters (args_at (sight g) old input.args) ≡ broken → bit_at g.v a undefined ≡ broken
-    broken_is broken is = breaks (sight g) (naming g.given) ∙ is
+    first : Machine
+    first = first_machine f (input_at (sight g) old input)
+
+    broken_is : (broken : Bool) → breaks_noundef f.parameters (args_at (sight g) old input.args) ≡ broken → bit_at g.v b undefined ≡ broken
+    broken_is broken is = bit-later a b kb g.v undefined hu.within ∙ (breaks (sight g) (naming g.given) ∙ is)
 
     lives : (broken : Bool) → breaks_noundef f.parameters (args_at (sight g) old input.args) ≡ broken → bit_at g.v d s.alive ≡ not broken
-    lives broken is = bit-later a d kad g.v s.alive hs.alive.within ∙ (alive (sight g) ∙ ap not (broken_is broken is))
+    lives broken is = bit-later a d kad g.v s.alive hs.alive.within ∙ (alive (sight g) ∙ ap not (breaks (sight g) (naming g.given) ∙ is))
 
     by : (broken : Bool) → breaks_noundef f.parameters (args_at (sight g) old input.args) ≡ broken
-        → Tells g e entered (Some (placed f copies 0 (if broken then Done (ended Ub (first_machine f (input_at (sight g) old input))) else At 0 (first_machine f (input_at (sight g) old input)))))
-    by true is =
-        moves.stays (Some (Done (ended Ub (first_machine f (input_at (sight g) old input))))) (lives true is)
-        (go [] (bit-later a b kb g.v undefined hu.within ∙ broken_is true is) (counts-later a b kb g s.tally [] hs.tally carries.tally) none)
-    by false is =
-        moves.goes (first_machine f (input_at (sight g) old input)) (lives false is)
-        (carries-later a d kad g (record { label = 0; turn = 0 }) s (first_machine f (input_at (sight g) old input)) hs carries)
-        (st None (bit-later a b kb g.v undefined hu.within ∙ broken_is false is) none)
+        → MatchesFrontier g e entered (Some (placed f copies 0 (if broken then Done (ended Ub (first_machine f (input_at (sight g) old input))) else At 0 (first_machine f (input_at (sight g) old input)))))
+    by true is = enters.stays (Some (Done (ended Ub first))) (lives true is) (ends.goes first (broken_is true is) (matches_state-later a b kb g (record { label = 0; turn = 0 }) s first hs matches) none)
+    by false is = enters.goes first (lives false is) (matches_state-later a d kad g (record { label = 0; turn = 0 }) s first hs matches) (ends.stays None (broken_is false is) none)
 
 -- ---- all of it
 
@@ -195,8 +186,8 @@ run_is f layered input tape = by (breaks_noundef f.parameters input.args)
 
 pub encode_stands : (old a b d : List Term) (f : Function) (layered : Layered) (layout : Layout) (input : InputTerms) (tape : List TermId) (entered passed : Frontier) (o : OutcomeTerms)
     → AreWords old tape → layered.copies ≡ copies_of layered.turns f → (ka : Keeps old a) (kb : Keeps a b)
-    → ((g : Scene) → g.given ≡ layout.blocks → Tells g a entered (Some (placed f layered.copies 0 (first_place f (input_at (sight g) old input)))))
-    → ((g : Scene) (w : Where) → Sees g a tape → Tells g a entered (Some (placed f layered.copies 0 w)) → Tells g b passed (Some (placed f layered.copies (length layered.copies) (walk f 0 layered.copies g.tape w))))
+    → ((g : Scene) → g.given ≡ layout.blocks → MatchesFrontier g a entered (Some (placed f layered.copies 0 (first_place f (input_at (sight g) old input)))))
+    → ((g : Scene) (w : Where) → Sees g a tape → MatchesFrontier g a entered (Some (placed f layered.copies 0 w)) → MatchesFrontier g b passed (Some (placed f layered.copies (length layered.copies) (walk f 0 layered.copies g.tape w))))
     → ((g : Scene) (run : Run) → Sees g b tape → EndedSo g b passed.ending run → Shows (sight g) d g.tape run o)
     → (bounds : Bounds) (v : ℕ → ℕ → ℕ) → bounds.turns ≡ layered.turns → Shows (reading layout.blocks v) d (words_at v old tape) (run_of f bounds (input_at (reading layout.blocks v) old input) (words_at v old tape)) o
 encode_stands old a b d f layered layout input tape entered passed o words copies ka kb es ps fs bounds v within =
@@ -206,7 +197,7 @@ encode_stands old a b d f layered layout input tape entered passed o words copie
     let sees_a = sees-later old a ka g tape words refl in
     let sees_b = sees-later old b (keeps_trans old a b ka kb) g tape words refl in
     let t = ps g w sees_a (es g refl) in
-    let t' = subst (λ (x : Where). Tells g b passed (Some x)) (placed_end f layered.copies (walk f 0 layered.copies (words_at v old tape) w)) t in
+    let t' = subst (λ (x : Where). MatchesFrontier g b passed (Some x)) (placed_end f layered.copies (walk f 0 layered.copies (words_at v old tape) w)) t in
     let shows = fs g (run_at_end (walk f 0 layered.copies (words_at v old tape) w)) sees_b t'.ending in
     subst (λ (r : Run). Shows (reading layout.blocks v) d (words_at v old tape) r o) (run_is f layered first (words_at v old tape) ∙ layers_have_runs f layered layered.turns copies bounds first (words_at v old tape) within) shows
 
@@ -215,14 +206,6 @@ encode_stands old a b d f layered layout input tape entered passed o words copie
 pub snoc : {A : Type 0} (n : ℕ) (x : A) → replicate (suc n) x ≡ replicate n x ++ x ∷ []
 snoc zero x = refl
 snoc (suc n) x = ap (λ xs. x ∷ xs) (snoc n x)
-
-pub each-replicate : {A : Type 0} (P : A → Type 0) (n : ℕ) (x : A) → P x → Each P (replicate n x)
-each-replicate P zero x h = tt
-each-replicate P (suc n) x h = (h, each-replicate P n x h)
-
-pub length-replicate : {A : Type 0} (n : ℕ) (x : A) → length (replicate n x) ≡ n
-length-replicate zero x = refl
-length-replicate (suc n) x = ap suc (length-replicate n x)
 
 pub unknown_states : (terms : List Term) (ahead : List (Option RunState)) (n : ℕ) → ahead ≡ replicate n None → AreStates terms ahead
 unknown_states terms ahead n is = subst (λ (xs : List (Option RunState)). AreStates terms xs) (sym is) (each-replicate (λ (o : Option RunState). IfSome o (IsState terms)) n None tt)

@@ -7,7 +7,7 @@ ghost use Rattle.bv_terms.specs.Trees.{IsTerm, Keeps, bit_at};
 ghost use Rattle.mem_terms.specs.Values.{AreSymValues, Each, IsNaming, IsSymValue, Reading, value_at, values_at};
 ghost use Rattle.mem_terms.specs.Inputs.{AreArgs, IsArg, IsBlockTerms, IsInput, arg_at, args_at, given_blocks_at, input_at};
 ghost use Rattle.mem_terms.specs.Memory.{AreGivenBlocks, frames_of, memory_at};
-ghost use Rattle.run_terms.specs.Runs.{Carries, IsState, Scene, shape_of, sight};
+ghost use Rattle.run_terms.specs.Runs.{MatchesState, IsState, Scene, shape_of, sight};
 
 use bv_terms::{TermId, Terms};
 use ir_tree::{Function, Parameter};
@@ -16,7 +16,7 @@ use mem_terms::{
     number, poison_value, truth,
 };
 use points::Layout;
-use run_terms::{RunMemory, RunState, Tally, put};
+use run_terms::{RunMemory, RunState, Tally, assign};
 use std::alloc::Global;
 use support::{NoMemory, Sequence};
 
@@ -95,7 +95,7 @@ fn give_args(
             return Ok(());
         };
         let value = argument(terms, parameter, *arg)?;
-        put(registers, parameter.name, value);
+        assign(registers, parameter.name, value);
         parameters = more_parameters;
         args = more_args;
     }
@@ -154,7 +154,7 @@ pub fn begin(
     ensures state { IfOk result (λ b. IsState terms.new b.state) }
     ensures shape { IfOk result (λ b. shape_of b.state ≡ record { names = length f.now.names; frames = frames_of layout.now }) }
     ensures given { IfOk result (λ b. AreGivenBlocks (frames_of layout.now) terms.new b.state.memory.blocks) }
-    ensures carries { IfOk result (λ b. (g : Scene) → g.given ≡ layout.now.blocks → Carries g terms.new (record { label = 0; turn = 0 }) b.state (first_machine f.now (input_at (sight g) terms.old input.now))) }
+    ensures matches { IfOk result (λ b. (g : Scene) → g.given ≡ layout.now.blocks → MatchesState g terms.new (record { label = 0; turn = 0 }) b.state (first_machine f.now (input_at (sight g) terms.old input.now))) }
     ensures kept { Keeps terms.old terms.new }
 {
     let args = input.args.as_slice();
@@ -172,7 +172,7 @@ pub fn begin(
             registers,
             memory,
             tally: Tally { read, fits },
-            most: 0,
+            words_bound: 0,
         },
     })
 }

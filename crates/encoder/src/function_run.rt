@@ -10,7 +10,7 @@ ghost use Rattle.mem_terms.specs.Memory.{AreGivenBlocks, frame_of, frames_of};
 ghost use Rattle.mem_terms.specs.Inputs.{AreWords, IsInput, input_at, words_at};
 ghost use Rattle.mem_terms.specs.Outcomes.{IsOutcome, LeavesGiven, Shows};
 ghost use Rattle.run_terms.specs.Runs.{Scene, Sees, sight, zeros_past};
-ghost use Rattle.run_terms.specs.Frontier.{EndedSo, HasShape, IsEnding, IsFrontier, NotEnded, Tells, ending_shape, first_place, placed};
+ghost use Rattle.run_terms.specs.Frontier.{EndedSo, HasShape, IsEnding, IsFrontier, NotEnded, MatchesFrontier, ending_shape, first_place, placed};
 ghost use Rattle.ir_tree.specs.Limits.{CanRun};
 
 use crate::beginning::begin;
@@ -79,7 +79,7 @@ fn unknown(setting: Setting, terms: &mut Terms, memory: &RunMemory) -> Result<Fr
     requires { AreGivenBlocks (frames_of setting.layout.now) terms.old memory.now.blocks }
     ensures made { IfOk result (IsFrontier terms.new) }
     ensures shape { IfOk result (HasShape setting.entry) }
-    ensures stands { IfOk result (λ w. (g : Scene) → Tells g terms.new w None) }
+    ensures stands { IfOk result (λ w. (g : Scene) → MatchesFrontier g terms.new w None) }
     ensures kept { Keeps terms.old terms.new }
 {
     let ahead = nothing_known(setting.alloc, setting.copies.len())?;
@@ -93,13 +93,14 @@ fn enter(setting: Setting, terms: &mut Terms, input: &InputTerms) -> Result<Fron
     ensures made { IfOk result (IsFrontier terms.new) }
     ensures shape { IfOk result (HasShape setting.entry) }
     ensures stands { IfOk result (λ w. (g : Scene) → g.given ≡ setting.entry.layout.now.blocks
-        → Tells g terms.new w (Some (placed setting.entry.f.now setting.entry.copies.now 0 (first_place setting.entry.f.now (input_at (sight g) terms.old input.now))))) }
+        → MatchesFrontier g terms.new w (Some (placed setting.entry.f.now setting.entry.copies.now 0 (first_place setting.entry.f.now (input_at (sight g) terms.old input.now))))) }
     ensures kept { Keeps terms.old terms.new }
 {
     let start = begin(setting.alloc, terms, setting.f, input, setting.layout)?;
     let state = start.state;
     let mut frontier = unknown(setting, terms, &state.memory)?;
-    frontier.end_undefined(terms, start.undefined, state.tally)?;
+    let ending = &mut frontier.ending;
+    ending.end_undefined(terms, start.undefined, state.tally)?;
     let leaving = Leaving {
         label: 0,
         ahead: 0,

@@ -5,11 +5,11 @@ ghost use Rattle.ir_tree.specs.declared.tree.Block.{Block};
 ghost use Rattle.ir_tree.specs.Flow.{targets};
 ghost use Rattle.points.specs.Run.{exit_insts};
 ghost use Rattle.unroll.specs.Layers.{Where, left_by, pass_copy, walk};
-ghost use Rattle.bv_terms.specs.Trees.{Keeps};
+ghost use Rattle.bv_terms.specs.Trees.{Keeps, bit_at};
 ghost use Rattle.mem_terms.specs.Values.{Each};
 ghost use Rattle.mem_terms.specs.Inputs.{AreWords};
 ghost use Rattle.run_terms.specs.Runs.{IsState, Scene, Sees, shape_of};
-ghost use Rattle.run_terms.specs.Frontier.{HasShape, IsCopyIn, IsFrontier, Moves, Tells, placed, shape_in};
+ghost use Rattle.run_terms.specs.Frontier.{HasShape, IsCopyIn, IsFrontier, Simulates, MatchesFrontier, placed, shape_in};
 ghost use Rattle.ir_tree.specs.Limits.{CanRun};
 
 use bv_terms::Terms;
@@ -36,8 +36,8 @@ fn run_copy(
     requires tape { AreWords terms.old setting.tape.now }
     ensures frontier { OnOk result (IsFrontier terms.new frontier.new) }
     ensures shape { OnOk result (HasShape setting.entry frontier.new) }
-    ensures moves { OnOk result ((g : Scene) (block : Block) → Sees g terms.old setting.entry.tape.now → slice_get setting.entry.f.now.blocks copy.now.block ≡ Some block
-        → Moves g terms.old terms.new frontier.old frontier.new entry.alive (record { label = block.label; turn = copy.now.turn }) entry (λ m. placed setting.entry.f.now setting.entry.copies.now (number + 1)
+    ensures simulates { OnOk result ((g : Scene) (block : Block) → Sees g terms.old setting.entry.tape.now → slice_get setting.entry.f.now.blocks copy.now.block ≡ Some block
+        → Simulates g terms.old terms.new frontier.old frontier.new (bit_at g.v terms.old entry.alive) (record { label = block.label; turn = copy.now.turn }) entry (λ m. placed setting.entry.f.now setting.entry.copies.now (number + 1)
         (left_by (targets block.terminator) copy.now.edges (exit_insts setting.entry.f.now.returns_no_undef block.insts block.terminator g.tape m)))) }
     ensures kept { Keeps terms.old terms.new }
 {
@@ -52,7 +52,8 @@ fn run_copy(
         copy.turn,
     )?;
     let undefined = and_not(terms, alive, state.alive)?;
-    frontier.end_undefined(terms, undefined, state.tally)?;
+    let ending = &mut frontier.ending;
+    ending.end_undefined(terms, undefined, state.tally)?;
     let leaving = Leaving {
         label: block.label,
         ahead: number + 1,
@@ -80,8 +81,8 @@ fn pass_copy(
     requires tape { AreWords terms.old setting.tape.now }
     ensures frontier { OnOk result (IsFrontier terms.new frontier.new) }
     ensures shape { OnOk result (HasShape setting.entry frontier.new) }
-    ensures passes { OnOk result ((g : Scene) (w : Where) → Sees g terms.old setting.entry.tape.now → Tells g terms.old frontier.old (Some (placed setting.entry.f.now setting.entry.copies.now number w))
-        → Tells g terms.new frontier.new (Some (placed setting.entry.f.now setting.entry.copies.now (number + 1) (pass_copy setting.entry.f.now number copy.now g.tape w)))) }
+    ensures passes { OnOk result ((g : Scene) (w : Where) → Sees g terms.old setting.entry.tape.now → MatchesFrontier g terms.old frontier.old (Some (placed setting.entry.f.now setting.entry.copies.now number w))
+        → MatchesFrontier g terms.new frontier.new (Some (placed setting.entry.f.now setting.entry.copies.now (number + 1) (pass_copy setting.entry.f.now number copy.now g.tape w)))) }
     ensures kept { Keeps terms.old terms.new }
 {
     match take_entry(&mut frontier.ahead, number) {
@@ -106,8 +107,8 @@ pub fn pass_all(
     requires tape { AreWords terms.old setting.tape.now }
     ensures frontier { OnOk result (IsFrontier terms.new frontier.new) }
     ensures shape { OnOk result (HasShape setting.entry frontier.new) }
-    ensures passes { OnOk result ((g : Scene) (w : Where) → Sees g terms.old setting.entry.tape.now → Tells g terms.old frontier.old (Some (placed setting.entry.f.now setting.entry.copies.now 0 w))
-        → Tells g terms.new frontier.new (Some (placed setting.entry.f.now setting.entry.copies.now (length setting.entry.copies.now) (walk setting.entry.f.now 0 setting.entry.copies.now g.tape w)))) }
+    ensures passes { OnOk result ((g : Scene) (w : Where) → Sees g terms.old setting.entry.tape.now → MatchesFrontier g terms.old frontier.old (Some (placed setting.entry.f.now setting.entry.copies.now 0 w))
+        → MatchesFrontier g terms.new frontier.new (Some (placed setting.entry.f.now setting.entry.copies.now (length setting.entry.copies.now) (walk setting.entry.f.now 0 setting.entry.copies.now g.tape w)))) }
     ensures kept { Keeps terms.old terms.new }
 {
     for (number, copy) in setting.copies.as_slice().iter().enumerate() {

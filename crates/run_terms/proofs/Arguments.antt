@@ -1,5 +1,6 @@
 -- The registers of a run before its first block.
 use Rattle.std.proofs.Common.{ℕ, zero, suc, ◌≡◌, ◌+◌, ◌<◌, ◌≤◌, ◌-◌, Bool, true, false, ◌&&◌, ◌||◌, cond, if◌then◌else◌, List, [], ◌∷◌, length, map, take, drop, replicate, get_or, slice_set, nat_eq, refl, ap, sym, subst, ◌∙◌, arith}
+use Rattle.std.proofs.Math.Bool.{or_assoc}
 use Rattle.std.proofs.Math.Dec.{eqb-suc-zero}
 use Rattle.std.proofs.lemmas.List.{take_all, drop_all}
 use Rattle.ir_tree.specs.declared.tree.Parameter.{Parameter}
@@ -26,7 +27,7 @@ use Rattle.mem_terms.proofs.Later.{keeps_trans, bit-later, term-later, values-la
 use Rattle.mem_terms.proofs.Naming.{naming}
 use Rattle.run_terms.specs.declared.state.RunMemory.{RunMemory}
 use Rattle.run_terms.specs.declared.state.RunState.{RunState}
-use Rattle.run_terms.specs.Runs.{AreNumberedFrom, Scene, IsRunMemory, Carries, frames_in, sight}
+use Rattle.run_terms.specs.Runs.{AreNumberedFrom, Scene, IsRunMemory, MatchesState, frames_in, sight}
 use Rattle.run_terms.proofs.Lasting.{blocks_at-later}
 use Rattle.run_terms.proofs.Memories.{given_count, given_framed}
 
@@ -91,7 +92,7 @@ map-replicate : {A B : Type 0} (f : A → B) (n : ℕ) (x : A) → map f (replic
 map-replicate f zero x = refl
 map-replicate f (suc n) x = ap (λ xs. f x ∷ xs) (map-replicate f n x)
 
-each-replicate : {A : Type 0} (P : A → Type 0) (n : ℕ) (x : A) → P x → Each P (replicate n x)
+pub each-replicate : {A : Type 0} (P : A → Type 0) (n : ℕ) (x : A) → P x → Each P (replicate n x)
 each-replicate P zero x h = tt
 each-replicate P (suc n) x h = (h, each-replicate P n x h)
 
@@ -106,9 +107,6 @@ poison_stands terms s n rs is h r = ap (values_at r terms) is ∙ (map-replicate
 pub args_front : (terms : List Term) (parameters ps : List Parameter) (p : Parameter) (args rest : List ArgTerms) (a : ArgTerms) → parameters ≡ p ∷ ps → args ≡ a ∷ rest → AreArgs terms parameters args → IsArg terms p.of_type a × AreArgs terms ps rest
 args_front terms parameters ps p args rest a is are h = subst (λ (qs : List Parameter). AreArgs terms qs (a ∷ rest)) is (subst (λ (bs : List ArgTerms). AreArgs terms parameters bs) are h)
 
-pub args_none : (terms : List Term) (parameters ps : List Parameter) (p : Parameter) (args : List ArgTerms) → parameters ≡ p ∷ ps → args ≡ [] → AreArgs terms parameters args → ⊥
-args_none terms parameters ps p args is are h = subst (λ (qs : List Parameter). AreArgs terms qs []) is (subst (λ (bs : List ArgTerms). AreArgs terms parameters bs) are h)
-
 pub given_more : (a b : List Term) (k : Keeps a b) (parameters ps : List Parameter) (p : Parameter) (args rest : List ArgTerms) (arg : ArgTerms) (rs : List SymValue) (value : SymValue) (whole : Reading → List Value)
     → parameters ≡ p ∷ ps → args ≡ arg ∷ rest → AreArgs a parameters args → AreSymValues a rs → ((r : Reading) → IsNaming r.name → value_at r b value ≡ argument_value p (arg_at r a arg))
     → ((r : Reading) → IsNaming r.name → with_args parameters (args_at r a args) (values_at r a rs) ≡ whole r)
@@ -120,10 +118,6 @@ given_more a b k parameters ps p args rest arg rs value whole is are h hr one so
     let so' : with_args (p ∷ ps) (args_at r a (arg ∷ rest)) (values_at r a rs) ≡ whole r =
     subst (λ (qs : List Parameter). with_args qs (args_at r a (arg ∷ rest)) (values_at r a rs) ≡ whole r) is (subst (λ (bs : List ArgTerms). with_args parameters (args_at r a bs) (values_at r a rs) ≡ whole r) are (so r named)) in
     rw (set, further) so'
-
-or_assoc : (a b c : Bool) → ((a || b) || c) ≡ (a || (b || c))
-or_assoc true b c = refl
-or_assoc false b c = refl
 
 module _ (a d : List Term) (k : Keeps a d) (parameters ps : List Parameter) (p : Parameter) (args rest : List ArgTerms) (arg : ArgTerms) (broken : TermId) (whole : Reading → Bool)
     (is : parameters ≡ p ∷ ps) (are : args ≡ arg ∷ rest) (h : AreArgs a parameters args) (so : (r : Reading) → IsNaming r.name → (bit_at r.v a broken || breaks_noundef parameters (args_at r a args)) ≡ whole r) where
@@ -143,23 +137,11 @@ module _ (a d : List Term) (k : Keeps a d) (parameters ps : List Parameter) (p :
       let flag : is_poison (argument_value p (arg_at r a arg)) ≡ bit_at r.v b value.poison = ap is_poison (sym (one r named)) ∙ poison_bit r b value in
       rw (t.says r.v, further_same r, bit-later a b kb r.v broken within) (or_assoc (bit_at r.v a broken) (bit_at r.v b value.poison) (breaks_noundef ps (args_at r a rest)) ∙ (rw (noundef, flag) at here))
 
-  -- or not
-  pub broken_same : p.no_undef ≡ false → ((v : ℕ → ℕ → ℕ) → bit_at v d broken ≡ bit_at v a broken)
-      → (r : Reading) → IsNaming r.name → (bit_at r.v d broken || breaks_noundef ps (args_at r d rest)) ≡ whole r
-  broken_same other same r named =
-      let here : (bit_at r.v a broken || ((p.no_undef && is_poison (argument_value p (arg_at r a arg))) || breaks_noundef ps (args_at r a rest))) ≡ whole r = broken_so r named in
-      rw (same r.v, further_same r) (rw other at here)
-
-take_whole : {A : Type 0} (xs : List A) → take (length xs) xs ≡ xs
-take_whole [] = refl
-take_whole (x ∷ xs) = ap (λ ys. x ∷ ys) (take_whole xs)
-
 -- a list is its first item and the part from the second on
 pub front_is : {A : Type 0} (xs : List A) (x : A) → 1 ≤ length xs → x ≡ get_or xs 0 x → xs ≡ x ∷ take (length xs - 1) (drop 1 xs)
 front_is [] x some is = absurd (omega arith)
 front_is (y ∷ ys) x some is =
-    let n : length (y ∷ ys) - 1 ≡ length ys = omega arith in
-    ap (λ z. z ∷ ys) (sym is) ∙ ap (λ zs. x ∷ zs) (sym (ap (λ k. take k ys) n ∙ take_whole ys))
+    ap (λ z. z ∷ ys) (sym is) ∙ ap (λ zs. x ∷ zs) (sym (take_all (length (y ∷ ys) - 1) ys (omega arith)))
 
 -- ---- given blocks
 
@@ -195,7 +177,7 @@ module _ (terms : List Term) (m : RunMemory) (layout : Layout) (h : AreGivenBloc
 
 -- ---- the first state
 
-pub begin_carries : (old a b x y new : List Term) (f : Function) (input : InputTerms) (first : List SymValue) (s : RunState) (ka : Keeps old a) (kb : Keeps a b) (kx : Keeps b x) (ky : Keeps x y) (kn : Keeps y new)
+pub first_matches : (old a b x y new : List Term) (f : Function) (input : InputTerms) (first : List SymValue) (s : RunState) (ka : Keeps old a) (kb : Keeps a b) (kx : Keeps b x) (ky : Keeps x y) (kn : Keeps y new)
     → AreArgs old f.parameters input.args → AreSymValues b s.registers → IsRunMemory y s.memory
     → ((r : Reading) → values_at r a first ≡ replicate (length f.names) Poison)
     → ((r : Reading) → IsNaming r.name → values_at r b s.registers ≡ with_args f.parameters (args_at r a input.args) (values_at r a first))
@@ -203,8 +185,8 @@ pub begin_carries : (old a b x y new : List Term) (f : Function) (input : InputT
     → ((r : Reading) → given_blocks_at r x 1 input.sizes input.places ≡ given_blocks_at r old 1 input.sizes input.places)
     → s.memory.given ≡ length input.sizes
     → ((v : ℕ → ℕ → ℕ) → term_at v new s.tally.read ≡ 0) → ((v : ℕ → ℕ → ℕ) → bit_at v new s.tally.fits ≡ true)
-    → (g : Scene) → g.given ≡ length input.sizes → Carries g new (record { label = 0; turn = 0 }) s (first_machine f (input_at (sight g) old input))
-begin_carries old a b x y new f input first s ka kb kx ky kn hargs hr hm poison given left same count read fits g is =
+    → (g : Scene) → g.given ≡ length input.sizes → MatchesState g new (record { label = 0; turn = 0 }) s (first_machine f (input_at (sight g) old input))
+first_matches old a b x y new f input first s ka kb kx ky kn hargs hr hm poison given left same count read fits g is =
     let r = sight g in
     let given' : values_at r b s.registers ≡ with_args f.parameters (args_at r old input.args) (replicate (length f.names) Poison) =
     given r (naming g.given) ∙ rw (args_at-later old a ka r f.parameters input.args hargs, poison r) refl in
@@ -213,6 +195,6 @@ begin_carries old a b x y new f input first s ka kb kx ky kn hargs hr hm poison 
       given = count ∙ sym is;
       memory = blocks_at-later y new kn r s.memory hm ∙ (left r ∙ same r);
       tally = record { read = read g.v; fits = fits g.v };
-      most = omega arith;
+      words_bound = omega arith;
       visit = refl;
     }

@@ -6,8 +6,9 @@ use Rattle.bv_terms.specs.Trees.{Keeps, bit_at}
 use Rattle.mem_terms.specs.declared.blocks.SymBlock.{SymBlock}
 use Rattle.mem_terms.specs.Values.{Each, first_local}
 use Rattle.mem_terms.specs.Memory.{AreSymBlocks, IsSymBlock, SymFrame, frame_of}
-use Rattle.mem_terms.proofs.Eaches.{map-length}
+use Rattle.mem_terms.proofs.Eaches.{each-push, map-length}
 use Rattle.mem_terms.proofs.Later.{always_each-later, sym_blocks-later}
+use Rattle.access_terms.proofs.Stored.{each-take}
 use Rattle.access_terms.specs.Accesses as access
 use Rattle.access_terms.specs.Accesses.{sym_frame}
 use Rattle.run_terms.specs.declared.state.RunMemory.{RunMemory}
@@ -18,11 +19,6 @@ use Rattle.run_terms.proofs.Memories.{frames_count, frames_made, memory_made}
 
 -- ---- parts of lists
 
-each-front : {A : Type 0} (P : A → Type 0) (n : ℕ) (xs : List A) → Each P xs → Each P (take n xs)
-each-front P zero xs h = tt
-each-front P (suc n) [] h = tt
-each-front P (suc n) (x ∷ xs) h = (h.0, each-front P n xs h.1)
-
 each-rest : {A : Type 0} (P : A → Type 0) (n : ℕ) (xs : List A) → Each P xs → Each P (drop n xs)
 each-rest P zero xs h = h
 each-rest P (suc n) [] h = tt
@@ -31,10 +27,6 @@ each-rest P (suc n) (x ∷ xs) h = each-rest P n xs h.1
 each-behind : {A : Type 0} (P : A → Type 0) (xs ys : List A) → Each P (xs ++ ys) → Each P ys
 each-behind P [] ys h = h
 each-behind P (x ∷ xs) ys h = each-behind P xs ys h.1
-
-each-more : {A : Type 0} (P : A → Type 0) (xs : List A) (x : A) → Each P xs → P x → Each P (xs ++ x ∷ [])
-each-more P [] x h p = (p, tt)
-each-more P (y ∷ ys) x h p = (h.0, each-more P ys x h.1 p)
 
 -- ---- more terms
 
@@ -81,7 +73,7 @@ store_memory old new k m h blocks are same =
     let long : length (map sym_frame blocks) ≡ length (map sym_frame m.blocks) = ap length same in
     record {
       given = record {
-        are = each-front (IsSymBlock new) m.given blocks are;
+        are = each-take (IsSymBlock new) blocks m.given are;
         always = each-framed (λ (f : access.SymFrame). (v : ℕ → ℕ → ℕ) → bit_at v new f.exists ≡ true) (take m.given m.blocks) (take m.given blocks) front (always_each-later old new k (take m.given m.blocks) h.given.are h.given.always);
         frames = refl;
       };
@@ -108,4 +100,4 @@ module _ (old : List Term) (m : RunMemory) (h : IsRunMemory old m) (blocks : Lis
   alloca_memory new k are own =
       memory_made (take m.given m.blocks) (drop m.given m.blocks ++ b ∷ []) blocks m.given count parts old new (frames_in m) k h.given h.numbered
       (each-behind (IsSymBlock new) (take m.given m.blocks) (drop m.given m.blocks ++ b ∷ []) (subst (AreSymBlocks new) parts are))
-      (each-more (λ (x : SymBlock). first_local m.given ≤ x.number) (drop m.given m.blocks) b h.own own)
+      (each-push (λ (x : SymBlock). first_local m.given ≤ x.number) (drop m.given m.blocks) b h.own own)

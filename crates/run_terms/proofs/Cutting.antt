@@ -15,7 +15,7 @@ use Rattle.mem_terms.proofs.Made.{small_mod, below-wider}
 pub narrow : (x n : ℕ) → n ≤ 64 → x % 2 ^ n % 2 ^ 64 ≡ x % 2 ^ n
 narrow x n small = small_mod (x % 2 ^ n) (2 ^ 64) (below-wider (x % 2 ^ n) n 64 (mod_below x (2 ^ n) (pow_pos n)) small)
 
-cut-from : (p : Bool) (x y n : ℕ) → y ≡ x % 2 ^ n → value_from p y ≡ cut_value n (value_from p x)
+pub cut-from : (p : Bool) (x y n : ℕ) → y ≡ x % 2 ^ n → value_from p y ≡ cut_value n (value_from p x)
 cut-from true x y n e = refl
 cut-from false x y n e = ap Num e
 

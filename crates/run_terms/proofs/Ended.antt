@@ -1,7 +1,10 @@
 -- How a run ended, with one way more to end.
-use Rattle.std.proofs.Common.{ℕ, ◌≡◌, Bool, true, false, ◌||◌, cond, List, Option, Some, None, IfSome, refl, ◌∙◌}
+use Rattle.std.proofs.Common.{ℕ, ◌≡◌, true, false, ◌||◌, cond, List, map, Option, Some, None, IfSome, refl, ◌∙◌}
+use Rattle.std.specs.Prelude.{is_some}
 use Rattle.std.specs.Option.{option_map}
-use Rattle.points.specs.declared.outcome.Outcome.TheVariants.{Return}
+use Rattle.std.proofs.Math.Bool.{or-false, or-true}
+use Rattle.points.specs.declared.outcome.Outcome.{Outcome}
+use Rattle.points.specs.declared.outcome.Outcome.TheVariants.{Ub, Beyond, Return}
 use Rattle.unroll.specs.Layers.{Where, At, Done}
 use Rattle.bv_terms.specs.declared.term.TermId.{TermId}
 use Rattle.bv_terms.specs.declared.term.Term.{Term}
@@ -9,77 +12,94 @@ use Rattle.bv_terms.specs.Trees.{Keeps, Tests, IsTerm, bit_at}
 use Rattle.mem_terms.specs.declared.values.SymValue.{SymValue}
 use Rattle.mem_terms.specs.declared.blocks.SymBlock.{SymBlock}
 use Rattle.mem_terms.specs.Values.{IsSymValue, Reading, value_at}
-use Rattle.mem_terms.specs.Memory.{AreSymBlocks, memory_at}
-use Rattle.mem_terms.proofs.Later.{keeps_trans, bit-later, memory-later}
+use Rattle.mem_terms.specs.Memory.{AreGivenBlocks, AreSymBlocks, frame_of, memory_at}
+use Rattle.mem_terms.proofs.Later.{keeps_trans, bit-later, is_term-later, memory-later, given_blocks-later}
 use Rattle.run_terms.specs.declared.state.Tally.{Tally}
 use Rattle.run_terms.specs.declared.ending.Ending.{Ending}
 use Rattle.run_terms.specs.Runs.{Scene, IsTally, Counts, sight}
-use Rattle.run_terms.specs.Frontier.{IsEnding, EndedSo, NotEnded, EndTells}
-use Rattle.run_terms.proofs.Lasting.{counts-later, option-later}
+use Rattle.run_terms.specs.Frontier.{Ends, IsEnding, NotEnded, MatchesEnding, ending_at, ending_shape}
+use Rattle.run_terms.proofs.Lasting.{counts-later, ending-later, option-later, some-later}
+use Rattle.run_terms.proofs.Memories.{given_framed}
 
-or_false : (b : Bool) → (b || false) ≡ b
-or_false true = refl
-or_false false = refl
+-- what is known of how it ended stays
+record Same (g : Scene) (old new : List Term) (e d : Ending) : Type 0 where
+  ub : bit_at g.v new d.ub ≡ bit_at g.v old e.ub
+  beyond : bit_at g.v new d.beyond ≡ bit_at g.v old e.beyond
+  value : option_map (value_at (sight g) new) d.value ≡ option_map (value_at (sight g) old) e.value
+  blocks : memory_at (sight g) new d.blocks ≡ memory_at (sight g) old e.blocks
 
--- all that is reported stays
-same_end : (old new : List Term) (e d : Ending) (g : Scene) (at : Option Where) → bit_at g.v new d.ub ≡ bit_at g.v old e.ub → bit_at g.v new d.beyond ≡ bit_at g.v old e.beyond
-    → option_map (value_at (sight g) new) d.value ≡ option_map (value_at (sight g) old) e.value → memory_at (sight g) new d.blocks ≡ memory_at (sight g) old e.blocks
-    → ((made : List ℕ) → Counts g old e.tally made → Counts g new d.tally made) → EndTells g old e at → EndTells g new d at
-same_end old new e d g None u b x y t s = record { ub = u ∙ s.ub; beyond = b ∙ s.beyond }
-same_end old new e d g (Some (At n m)) u b x y t s = record { ub = u ∙ s.ub; beyond = b ∙ s.beyond }
-same_end old new e d g (Some (Done run)) u b x y t s = record { outcome = rw (u, b, x, y) s.outcome; tally = t run.taken s.tally }
+same_ending : {g : Scene} {old new : List Term} {e d : Ending} → Same g old new e d → ((taken : List ℕ) → Counts g old e.tally taken → Counts g new d.tally taken) → (at : Option Where) → MatchesEnding g old e at → MatchesEnding g new d at
+same_ending h t None s = record { ub = h.ub ∙ s.ub; beyond = h.beyond ∙ s.beyond }
+same_ending h t (Some (At n m)) s = record { ub = h.ub ∙ s.ub; beyond = h.beyond ∙ s.beyond }
+same_ending h t (Some (Done run)) s = record { outcome = rw (h.ub, h.beyond, h.value, h.blocks) s.outcome; tally = t run.taken s.tally }
 
-module _ (old a b : List Term) (e : Ending) (own : IsEnding old e) (c : TermId) (tally : Tally) (hc : IsTerm old 1 c) (ka : Keeps old a) (kb : Keeps a b)
-    (t : (g : Scene) (made : List ℕ) → bit_at g.v a c ≡ false → Counts g a e.tally made → Counts g b tally made) where
-  kab : Keeps old b
-  kab = keeps_trans old a b ka kb
+module _ (old a b : List Term) (e : Ending) (own : IsEnding old e) (c : TermId) (read tally : Tally) (hc : IsTerm old 1 c) (hr : IsTally old read) (ka : Keeps old a) (kb : Keeps a b) (ht : IsTally b tally)
+    (st : (g : Scene) (taken : List ℕ) → bit_at g.v a c ≡ false → Counts g a e.tally taken → Counts g b tally taken)
+    (go : (g : Scene) (taken : List ℕ) → bit_at g.v a c ≡ true → Counts g a read taken → Counts g b tally taken) where
+  k : Keeps old b
+  k = keeps_trans old a b ka kb
 
-  counted : (g : Scene) → bit_at g.v old c ≡ false → (made : List ℕ) → Counts g old e.tally made → Counts g b tally made
-  counted g none made k = t g made (bit-later old a ka g.v c hc.within ∙ none) (counts-later old a ka g e.tally made own.tally k)
+  -- all but the tally, where the condition holds and where it does not
+  ends_by : {outcome : Scene → Outcome} (d : Ending) → IsEnding b d → ending_shape d ≡ ending_shape e → d.tally ≡ tally
+      → ((g : Scene) → bit_at g.v old c ≡ false → Same g old b e d) → ((g : Scene) → bit_at g.v old c ≡ true → NotEnded g old e → ending_at (sight g) b d ≡ outcome g) → Ends old b e d c read outcome
+  ends_by d made shape is same so = record {
+    made = made;
+    shape = shape;
+    stays = λ g at none. same_ending (same g none) (λ taken h. rw is (st g taken (bit-later old a ka g.v c hc.within ∙ none) (counts-later old a ka g e.tally taken own.tally h))) at;
+    goes = λ g taken held h not. record {
+      outcome = so g held not;
+      tally = rw is (go g taken (bit-later old a ka g.v c hc.within ∙ held) (counts-later old a ka g read taken hr h));
+    };
+  }
 
-  pub undefined_stays : (ub : TermId) → Tests a ub (λ v. bit_at v old e.ub || bit_at v old c)
-      → (g : Scene) (at : Option Where) → bit_at g.v old c ≡ false → EndTells g old e at → EndTells g b (record { ub = ub; beyond = e.beyond; value = e.value; blocks = e.blocks; tally = tally }) at
-  undefined_stays ub tu g at none s =
-      same_end old b e (record { ub = ub; beyond = e.beyond; value = e.value; blocks = e.blocks; tally = tally }) g at
-      (bit-later a b kb g.v ub tu.within ∙ (tu.says g.v ∙ rw none (or_false (bit_at g.v old e.ub))))
-      (bit-later old b kab g.v e.beyond own.beyond.within)
-      (option-later old b kab (sight g) e.value own.value) (memory-later old b kab (sight g) e.blocks own.given.are) (counted g none) s
+  pub undefined_ends : (ub : TermId) → Tests a ub (λ v. bit_at v old e.ub || bit_at v old c) → Ends old b e (record e { ub = ub; tally = tally }) c read (λ g. Ub)
+  undefined_ends ub t =
+      let is : (g : Scene) → bit_at g.v b ub ≡ (bit_at g.v old e.ub || bit_at g.v old c) = λ g. bit-later a b kb g.v ub t.within ∙ t.says g.v in
+      let later = ending-later old b k e own in
+      ends_by (record e { ub = ub; tally = tally })
+      (record { ub = is_term-later a b kb 1 ub (record { within = t.within; wide = t.wide }); beyond = later.beyond; value = later.value; given = later.given; tally = ht }) refl refl
+      (λ g none. record {
+        ub = is g ∙ rw none (or-false (bit_at g.v old e.ub));
+        beyond = bit-later old b k g.v e.beyond own.beyond.within;
+        value = option-later old b k (sight g) e.value own.value;
+        blocks = memory-later old b k (sight g) e.blocks own.given.are;
+      })
+      (λ g held not. rw (is g, held, or-true (bit_at g.v old e.ub)) refl)
 
-  pub beyond_stays : (beyond : TermId) → Tests a beyond (λ v. bit_at v old e.beyond || bit_at v old c)
-      → (g : Scene) (at : Option Where) → bit_at g.v old c ≡ false → EndTells g old e at → EndTells g b (record { ub = e.ub; beyond = beyond; value = e.value; blocks = e.blocks; tally = tally }) at
-  beyond_stays beyond tu g at none s =
-      same_end old b e (record { ub = e.ub; beyond = beyond; value = e.value; blocks = e.blocks; tally = tally }) g at
-      (bit-later old b kab g.v e.ub own.ub.within)
-      (bit-later a b kb g.v beyond tu.within ∙ (tu.says g.v ∙ rw none (or_false (bit_at g.v old e.beyond))))
-      (option-later old b kab (sight g) e.value own.value) (memory-later old b kab (sight g) e.blocks own.given.are) (counted g none) s
+  pub beyond_ends : (beyond : TermId) → Tests a beyond (λ v. bit_at v old e.beyond || bit_at v old c) → Ends old b e (record e { beyond = beyond; tally = tally }) c read (λ g. Beyond)
+  beyond_ends beyond t =
+      let is : (g : Scene) → bit_at g.v b beyond ≡ (bit_at g.v old e.beyond || bit_at g.v old c) = λ g. bit-later a b kb g.v beyond t.within ∙ t.says g.v in
+      let later = ending-later old b k e own in
+      ends_by (record e { beyond = beyond; tally = tally })
+      (record { ub = later.ub; beyond = is_term-later a b kb 1 beyond (record { within = t.within; wide = t.wide }); value = later.value; given = later.given; tally = ht }) refl refl
+      (λ g none. record {
+        ub = bit-later old b k g.v e.ub own.ub.within;
+        beyond = is g ∙ rw none (or-false (bit_at g.v old e.beyond));
+        value = option-later old b k (sight g) e.value own.value;
+        blocks = memory-later old b k (sight g) e.blocks own.given.are;
+      })
+      (λ g held not. rw (bit-later old b k g.v e.ub own.ub.within, not.ub, is g, held, or-true (bit_at g.v old e.beyond)) refl)
 
   -- the value is chosen first, and then the given blocks
-  module _ (p : List Term) (kp : Keeps old p) (kpa : Keeps p a) (value picked : Option SymValue) (given blocks : List SymBlock) (hg : AreSymBlocks old given) (hp : IfSome picked (IsSymValue p)) (hb : AreSymBlocks a blocks)
-      (sp : (r : Reading) → option_map (value_at r p) picked ≡ cond (bit_at r.v old c) (option_map (value_at r old) value) (option_map (value_at r old) e.value))
-      (sb : (r : Reading) → memory_at r a blocks ≡ cond (bit_at r.v p c) (memory_at r p given) (memory_at r p e.blocks)) where
-    abbrev returned : Ending
-    returned = record { ub = e.ub; beyond = e.beyond; value = picked; blocks = blocks; tally = tally }
-
-    kpb : Keeps p b
-    kpb = keeps_trans p a b kpa kb
-
-    left : (r : Reading) → memory_at r b blocks ≡ cond (bit_at r.v old c) (memory_at r old given) (memory_at r old e.blocks)
-    left r = memory-later a b kb r blocks hb ∙ (sb r
-        ∙ rw (bit-later old p kp r.v c hc.within, memory-later old p kp r given hg, memory-later old p kp r e.blocks own.given.are) refl)
-
-    pub return_stays : (g : Scene) (at : Option Where) → bit_at g.v old c ≡ false → EndTells g old e at → EndTells g b returned at
-    return_stays g at none s =
-        same_end old b e returned g at
-        (bit-later old b kab g.v e.ub own.ub.within) (bit-later old b kab g.v e.beyond own.beyond.within)
-        (option-later p b kpb (sight g) picked hp ∙ (sp (sight g) ∙ rw none refl)) (left (sight g) ∙ rw none refl) (counted g none) s
-
-    pub return_goes : (read : Tally) → IsTally old read → ((g : Scene) (made : List ℕ) → bit_at g.v a c ≡ true → Counts g a read made → Counts g b tally made)
-        → (g : Scene) (made : List ℕ) → bit_at g.v old c ≡ true → Counts g old read made → NotEnded g old e
-        → EndedSo g b returned (record { outcome = Return (option_map (value_at (sight g) old) value) (memory_at (sight g) old given); taken = made })
-    return_goes read hr tg g made held k s =
-        let is : option_map (value_at (sight g) b) picked ≡ option_map (value_at (sight g) old) value = option-later p b kpb (sight g) picked hp ∙ (sp (sight g) ∙ rw held refl) in
-        let leaves : memory_at (sight g) b blocks ≡ memory_at (sight g) old given = left (sight g) ∙ rw held refl in
-        record {
-          outcome = rw (bit-later old b kab g.v e.ub own.ub.within, s.ub, bit-later old b kab g.v e.beyond own.beyond.within, s.beyond, is, leaves) refl;
-          tally = tg g made (bit-later old a ka g.v c hc.within ∙ held) (counts-later old a ka g read made hr k);
-        }
+  pub return_ends : (p : List Term) (kp : Keeps old p) (kpa : Keeps p a) (value picked : Option SymValue) (given blocks : List SymBlock) → AreSymBlocks old given → IfSome picked (IsSymValue p) → is_some picked ≡ is_some e.value → AreGivenBlocks (map frame_of e.blocks) a blocks
+      → ((r : Reading) → option_map (value_at r p) picked ≡ cond (bit_at r.v old c) (option_map (value_at r old) value) (option_map (value_at r old) e.value))
+      → ((r : Reading) → memory_at r a blocks ≡ cond (bit_at r.v p c) (memory_at r p given) (memory_at r p e.blocks))
+      → Ends old b e (record e { value = picked; blocks = blocks; tally = tally }) c read (λ g. Return (option_map (value_at (sight g) old) value) (memory_at (sight g) old given))
+  return_ends p kp kpa value picked given blocks hg hp alike hb sp sb =
+      let kpb = keeps_trans p a b kpa kb in
+      let known = map frame_of e.blocks in
+      let later = ending-later old b k e own in
+      let left : (r : Reading) → memory_at r b blocks ≡ cond (bit_at r.v old c) (memory_at r old given) (memory_at r old e.blocks) = λ r. memory-later a b kb r blocks hb.are ∙ (sb r
+      ∙ rw (bit-later old p kp r.v c hc.within, memory-later old p kp r given hg, memory-later old p kp r e.blocks own.given.are) refl) in
+      ends_by (record e { value = picked; blocks = blocks; tally = tally })
+      (record { ub = later.ub; beyond = later.beyond; value = some-later p b kpb picked hp; given = given_framed known b blocks (given_blocks-later a b kb known blocks hb); tally = ht }) (λ i. record { valued = alike i; frames = hb.frames i }) refl
+      (λ g none. record {
+        ub = bit-later old b k g.v e.ub own.ub.within;
+        beyond = bit-later old b k g.v e.beyond own.beyond.within;
+        value = option-later p b kpb (sight g) picked hp ∙ (sp (sight g) ∙ rw none refl);
+        blocks = left (sight g) ∙ rw none refl;
+      })
+      (λ g held not.
+          let is : option_map (value_at (sight g) b) picked ≡ option_map (value_at (sight g) old) value = option-later p b kpb (sight g) picked hp ∙ (sp (sight g) ∙ rw held refl) in
+          let leaves : memory_at (sight g) b blocks ≡ memory_at (sight g) old given = left (sight g) ∙ rw held refl in
+          rw (bit-later old b k g.v e.ub own.ub.within, not.ub, bit-later old b k g.v e.beyond own.beyond.within, not.beyond, is, leaves) refl)

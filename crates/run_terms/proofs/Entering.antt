@@ -14,12 +14,8 @@ use Rattle.mem_terms.proofs.Eaches.{map-set}
 use Rattle.mem_terms.proofs.Later.{values-later}
 use Rattle.mem_terms.proofs.Naming.{naming}
 use Rattle.run_terms.specs.declared.state.RunState.{RunState}
-use Rattle.run_terms.specs.Runs.{Scene, IsState, Counts, Carries, Visit, sight}
+use Rattle.run_terms.specs.Runs.{Scene, IsState, Counts, MatchesState, Visit, sight}
 use Rattle.run_terms.proofs.Lasting.{counts-later, blocks_at-later}
-
-pub phis_begin : (old : List Term) (registers behind : List SymValue) (label : ℕ) (phis : List Phi) → behind ≡ registers
-    → (r : Reading) (m : Machine) → IsNaming r.name → values_at r old registers ≡ m.registers → m.block ≡ label → with_phis m phis (record m { registers = values_at r old behind }) ≡ with_phis m phis m
-phis_begin old registers behind label phis is r m naming e at = ap (λ (rs : List Value). with_phis m phis (record m { registers = rs })) (ap (values_at r old) is ∙ e)
 
 pub phis_more : (old a b : List Term) (registers behind : List SymValue) (label : ℕ) (phis : List Phi) (i : ℕ) (phi : Phi) (value : SymValue) → AreSymValues old registers → Keeps old a → AreSymValues a behind
     → i < length phis → phi ≡ get_or phis i phi → Keeps a b
@@ -40,10 +36,10 @@ phis_end new behind phis i r m past so =
     ap (λ (ps : List Phi). with_phis m ps (record m { registers = values_at r new behind })) (sym (drop_all i phis past)) ∙ so
 
 -- the state on an edge, after the phis of the block that it leads to
-pub edge_carries : (old new : List Term) (s t : RunState) (label : ℕ) (block : Block) → IsState old s → Keeps old new → t.memory ≡ s.memory → t.tally ≡ s.tally → t.most ≡ s.most
+pub edge_matches : (old new : List Term) (s t : RunState) (label : ℕ) (block : Block) → IsState old s → Keeps old new → t.memory ≡ s.memory → t.tally ≡ s.tally → t.words_bound ≡ s.words_bound
     → ((r : Reading) (m : Machine) → IsNaming r.name → values_at r old s.registers ≡ m.registers → m.block ≡ label → record m { registers = values_at r new t.registers } ≡ with_phis m block.phis m)
-    → (g : Scene) (m : Machine) (from to : ℕ) → Carries g old (record { label = label; turn = from }) s m → Carries g new (record { label = block.label; turn = to }) t (entered block (record m { turn = to }))
-edge_carries old new s t label block hs k memory tally most so g m from to h =
+    → (g : Scene) (m : Machine) (from to : ℕ) → MatchesState g old (record { label = label; turn = from }) s m → MatchesState g new (record { label = block.label; turn = to }) t (entered block (record m { turn = to }))
+edge_matches old new s t label block hs k memory tally words_bound so g m from to h =
     let n : Machine = record m { turn = to } in
     let e : record n { registers = values_at (sight g) new t.registers } ≡ with_phis n block.phis n = so (sight g) n (naming g.given) h.registers (ap (λ (v : Visit). v.label) h.visit) in
     let same : m.taken ≡ (with_phis n block.phis n).taken = ap (λ (x : Machine). x.taken) e in
@@ -52,6 +48,6 @@ edge_carries old new s t label block hs k memory tally most so g m from to h =
       given = rw memory h.given;
       memory = rw memory (blocks_at-later old new k (sight g) s.memory hs.memory ∙ (h.memory ∙ ap (λ (x : Machine). x.memory) e));
       tally = rw tally (subst (λ (ts : List ℕ). Counts g new s.tally ts) same (counts-later old new k g s.tally m.taken hs.tally h.tally));
-      most = rw most (subst (λ (ts : List ℕ). length ts ≤ s.most) same h.most);
+      words_bound = rw words_bound (subst (λ (ts : List ℕ). length ts ≤ s.words_bound) same h.words_bound);
       visit = ap (λ (turn : ℕ). record { label = block.label; turn = turn }) (sym (ap (λ (x : Machine). x.turn) e));
     }

@@ -1,5 +1,5 @@
 -- The terms of a state follow a freeze.
-use Rattle.std.proofs.Common.{ℕ, ◌≡◌, ◌≤◌, ◌+◌, Bool, true, false, cond, ◌&&◌, List, ◌++◌, length, slice_set, refl, ap, sym, ◌∙◌, arith, length-append}
+use Rattle.std.proofs.Common.{ℕ, ◌≡◌, ◌≤◌, ◌+◌, Bool, true, false, cond, ◌&&◌, List, ◌++◌, length, slice_set, Some, refl, ap, sym, ◌∙◌, arith, length-append}
 use Rattle.ir_tree.specs.declared.tree.IrType.{IrType}
 use Rattle.ir_tree.specs.declared.tree.Inst.TheVariants as inst
 use Rattle.ir_tree.specs.declared.tree.Operand.{Operand}
@@ -20,9 +20,9 @@ use Rattle.mem_terms.proofs.Later.{keeps_trans, bit-later, term-later, value-lat
 use Rattle.mem_terms.proofs.Naming.{naming}
 use Rattle.run_terms.specs.declared.state.Tally.{Tally}
 use Rattle.run_terms.specs.declared.state.RunState.{RunState}
-use Rattle.run_terms.specs.Runs.{Scene, Sees, IsTally, IsState, Counts, Carries, Course, Idle, Dead, Live, Visit, sight, stepped, Follows}
-use Rattle.run_terms.proofs.Lasting.{sees-later, counts-later, carries-later}
-use Rattle.run_terms.proofs.Stepping.{set_carries, set_registers}
+use Rattle.run_terms.specs.Runs.{Scene, Sees, IsTally, IsState, Counts, MatchesState, Course, Idle, Dead, Live, Steps, Visit, sight, stepped, MatchesCourse}
+use Rattle.run_terms.proofs.Lasting.{sees-later, counts-later, matches_state-later, state-later, tally-later}
+use Rattle.run_terms.proofs.Stepping.{set_registers, set_shape, set_state, value_steps}
 
 -- ---- the value
 
@@ -84,24 +84,22 @@ unfolding value_at
 poison_at r terms x e = rw e refl
 
 -- a value that is never poison
-pub plain_follows : (old new : List Term) (k : Keeps old new) (s : RunState) (hs : IsState old s) (into : ℕ) (type : IrType) (operand : Operand) (x : SymValue)
+pub plain_steps : {on : Scene → Visit → Type 0} (old new : List Term) (k : Keeps old new) (s : RunState) (hs : IsState old s) (into : ℕ) (type : IrType) (operand : Operand) (x : SymValue) → IsSymValue new x
     → ((r : Reading) → IsNaming r.name → value_at r new x ≡ typed_value type (operand_value (values_at r old s.registers) operand)) → ((v : ℕ → ℕ → ℕ) → bit_at v new x.poison ≡ false)
-    → (g : Scene) (at : Visit) (c : Course) → Follows g old at s c → Follows g new at (record s { registers = slice_set s.registers into x }) (stepped (inst.Freeze into type operand) g.tape c)
-plain_follows old new k s hs into type operand x has never g at Idle h = bit-later old new k g.v s.alive hs.alive.within ∙ h
-plain_follows old new k s hs into type operand x has never g at (Dead m) h = (bit-later old new k g.v s.alive hs.alive.within ∙ h.0, counts-later old new k g s.tally m.taken hs.tally h.1)
-plain_follows old new k s hs into type operand x has never g at (Live m) h =
-    let is : value_at (sight g) new x ≡ typed_value type (operand_value m.registers operand) = has (sight g) (naming g.given) ∙ ap (λ (rs : List Value). typed_value type (operand_value rs operand)) h.1.registers in
-    let defined : is_poison (typed_value type (operand_value m.registers operand)) ≡ false = sym (ap is_poison is) ∙ defined_at (sight g) new x (never g.v) in
-    rw (frozen_defined type (typed_value type (operand_value m.registers operand)) defined g.tape m into)
-    (bit-later old new k g.v s.alive hs.alive.within ∙ h.0, set_carries old new k s hs into x g at m (typed_value type (operand_value m.registers operand)) s.alive h.1 is)
+    → Steps on old new s (record s { registers = slice_set s.registers into x }) (stepped (inst.Freeze into type operand))
+plain_steps old new k s hs into type operand x hx has never =
+    value_steps old new k s hs (inst.Freeze into type operand) into x (λ g m. typed_value type (operand_value m.registers operand)) hx (λ g at m here h.
+        let is : value_at (sight g) new x ≡ typed_value type (operand_value m.registers operand) = has (sight g) (naming g.given) ∙ ap (λ (rs : List Value). typed_value type (operand_value rs operand)) h.registers in
+        let defined : is_poison (typed_value type (operand_value m.registers operand)) ≡ false = sym (ap is_poison is) ∙ defined_at (sight g) new x (never g.v) in
+        (ap Some (frozen_defined type (typed_value type (operand_value m.registers operand)) defined g.tape m into), is))
 
 -- a choice where it is poison
 module _ (old a b d : List Term) (ka : Keeps old a) (kb : Keeps a b) (kd : Keeps b d) (s : RunState) (hs : IsState old s) (into : ℕ) (type : IrType) (x y z : SymValue) (hx : IsSymValue old x)
-    (taken : TermId) (tally : Tally) (most : ℕ) (tape : List TermId) (words : AreWords old tape) (ht : IsTally b tally)
-    (more : (g : Scene) (m : Machine) → length m.taken ≤ s.most → length m.taken + length (choice_of type g.tape m).words ≤ most)
+    (taken : TermId) (tally : Tally) (words_bound : ℕ) (tape : List TermId) (words : AreWords old tape) (ht : IsTally b tally) (hz : IsSymValue d z)
+    (more : (g : Scene) (m : Machine) → length m.taken ≤ s.words_bound → length m.taken + length (choice_of type g.tape m).words ≤ words_bound)
     (t : Tests a taken (λ v. bit_at v old s.alive && bit_at v old x.poison))
     (stays : (g : Scene) (made : List ℕ) → bit_at g.v a taken ≡ false → Counts g a s.tally made → Counts g b tally made)
-    (takes : (g : Scene) (at : Visit) (m : Machine) → Sees g a tape → bit_at g.v a taken ≡ true → Carries g a at s m
+    (takes : (g : Scene) (at : Visit) (m : Machine) → Sees g a tape → bit_at g.v a taken ≡ true → MatchesState g a at s m
     → Counts g b tally (m.taken ++ (choice_of type g.tape m).words) × (value_at (sight g) b y ≡ (choice_of type g.tape m).value))
     (has : (r : Reading) → value_at r d z ≡ cond (bit_at r.v b x.poison) (value_at r b y) (value_at r b x)) where
   kab : Keeps old b
@@ -116,39 +114,47 @@ module _ (old a b d : List Term) (ka : Keeps old a) (kb : Keeps a b) (kd : Keeps
   left_out : (g : Scene) (made : List ℕ) → (bit_at g.v old s.alive && bit_at g.v old x.poison) ≡ false → Counts g old s.tally made → Counts g d tally made
   left_out g made none k = counts-later b d kd g tally made ht (stays g made (t.says g.v ∙ none) (counts-later old a ka g s.tally made hs.tally k))
 
-  lived : (g : Scene) (at : Visit) (m : Machine) (v : Value) → Sees g old tape → bit_at g.v old s.alive ≡ true → Carries g old at s m → value_at (sight g) old x ≡ v → (p : Bool) → bit_at g.v old x.poison ≡ p
-      → Carries g d at (record s { registers = slice_set s.registers into z; tally = tally; most = most }) (frozen g.tape m into type v)
+  lived : (g : Scene) (at : Visit) (m : Machine) (v : Value) → Sees g old tape → bit_at g.v old s.alive ≡ true → MatchesState g old at s m → value_at (sight g) old x ≡ v → (p : Bool) → bit_at g.v old x.poison ≡ p
+      → MatchesState g d at (record s { registers = slice_set s.registers into z; tally = tally; words_bound = words_bound }) (frozen g.tape m into type v)
   lived g at m v sees on h e true p =
       let choice = choice_of type g.tape m in
-      let took = takes g at m (sees-later old a ka g tape words sees) (t.says g.v ∙ rw (on, p) refl) (carries-later old a ka g at s m hs h) in
+      let took = takes g at m (sees-later old a ka g tape words sees) (t.says g.v ∙ rw (on, p) refl) (matches_state-later old a ka g at s m hs h) in
       let is : value_at (sight g) d z ≡ choice.value = has (sight g) ∙ rw (bit-later old b kab g.v x.poison hx.poison.within, p, took.1) refl in
-      let later = carries-later old d kad g at s m hs h in
-      let enough = more g m h.most in
+      let later = matches_state-later old d kad g at s m hs h in
+      let enough = more g m h.words_bound in
       rw (frozen_poison type v (sym e ∙ poison_at (sight g) old x p) g.tape m into) (record {
         registers = set_registers old d kad s hs into z g m choice.value h.registers is;
         given = later.given;
         memory = later.memory;
         tally = counts-later b d kd g tally (m.taken ++ choice.words) ht took.0;
-        most = omega (arith, enough, length-append m.taken choice.words);
+        words_bound = omega (arith, enough, length-append m.taken choice.words);
         visit = later.visit;
       })
   lived g at m v sees on h e false p =
       let is : value_at (sight g) d z ≡ v = has (sight g) ∙ (rw (bit-later old b kab g.v x.poison hx.poison.within, p) (value-later old b kab (sight g) x hx) ∙ e) in
       let defined : is_poison v ≡ false = sym (ap is_poison e) ∙ defined_at (sight g) old x p in
-      let later = carries-later old d kad g at s m hs h in
-      let enough = more g m h.most in
+      let later = matches_state-later old d kad g at s m hs h in
+      let enough = more g m h.words_bound in
       rw (frozen_defined type v defined g.tape m into) (record {
         registers = set_registers old d kad s hs into z g m v h.registers is;
         given = later.given;
         memory = later.memory;
         tally = left_out g m.taken (rw (on, p) refl) h.tally;
-        most = omega (arith, enough);
+        words_bound = omega (arith, enough);
         visit = later.visit;
       })
 
-  pub choice_follows : (g : Scene) (at : Visit) (c : Course) (operand : Operand) → Sees g old tape
-      → ((m : Machine) → c ≡ Live m → value_at (sight g) old x ≡ typed_value type (operand_value m.registers operand))
-      → Follows g old at s c → Follows g d at (record s { registers = slice_set s.registers into z; tally = tally; most = most }) (stepped (inst.Freeze into type operand) g.tape c)
-  choice_follows g at Idle operand sees e h = alive_is g ∙ h
-  choice_follows g at (Dead m) operand sees e h = (alive_is g ∙ h.0, left_out g m.taken (rw h.0 refl) h.1)
-  choice_follows g at (Live m) operand sees e h = (alive_is g ∙ h.0, lived g at m (typed_value type (operand_value m.registers operand)) sees h.0 h.1 (e m refl) (bit_at g.v old x.poison) refl)
+  pub choice_steps : (operand : Operand) → Steps (λ g at. Sees g old tape × (value_at (sight g) old x ≡ typed_value type (operand_value (values_at (sight g) old s.registers) operand)))
+      old d s (record s { registers = slice_set s.registers into z; tally = tally; words_bound = words_bound }) (stepped (inst.Freeze into type operand))
+  choice_steps operand = record { state = made; shape = set_shape s into z; matches = by }
+    where
+      made : IsState d (record s { registers = slice_set s.registers into z; tally = tally; words_bound = words_bound })
+      made = let later = state-later old d kad s hs in set_state old d kad s hs into z s.alive s.memory tally words_bound later.alive hz later.memory (tally-later b d kd tally ht)
+
+      by : (g : Scene) (at : Visit) (c : Course) → Sees g old tape × (value_at (sight g) old x ≡ typed_value type (operand_value (values_at (sight g) old s.registers) operand)) → MatchesCourse g old at s c
+          → MatchesCourse g d at (record s { registers = slice_set s.registers into z; tally = tally; words_bound = words_bound }) (stepped (inst.Freeze into type operand) g.tape c)
+      by g at Idle here h = alive_is g ∙ h
+      by g at (Dead m) here h = (alive_is g ∙ h.0, left_out g m.taken (rw h.0 refl) h.1)
+      by g at (Live m) here h =
+          let is : value_at (sight g) old x ≡ typed_value type (operand_value m.registers operand) = here.1 ∙ ap (λ (rs : List Value). typed_value type (operand_value rs operand)) h.1.registers in
+          (alive_is g ∙ h.0, lived g at m (typed_value type (operand_value m.registers operand)) here.0 h.0 h.1 is (bit_at g.v old x.poison) refl)

@@ -1,5 +1,5 @@
 -- One of two states of a run.
-use Rattle.std.proofs.Common.{ℕ, zero, suc, ◌≡◌, ◌<◌, ◌≤◌, ◌+◌, max, Bool, true, false, cond, List, [], ◌∷◌, ◌++◌, length, take, get_or, refl, ap, sym, subst, ◌∙◌, arith, add-one, length-append}
+use Rattle.std.proofs.Common.{ℕ, ◌≡◌, ◌<◌, ◌≤◌, ◌+◌, max, Bool, true, false, cond, List, [], ◌∷◌, ◌++◌, length, take, get_or, refl, ap, sym, subst, ◌∙◌, arith, length-append}
 use Rattle.byte_block.specs.declared.value.Value.{Value}
 use Rattle.points.specs.declared.machine.Machine.{Machine}
 use Rattle.bv_terms.specs.declared.term.TermId.{TermId}
@@ -9,23 +9,18 @@ use Rattle.bv_terms.specs.Trees.{Keeps, Makes, IsTerm, term_at, bit_at}
 use Rattle.mem_terms.specs.declared.values.SymValue.{SymValue}
 use Rattle.mem_terms.specs.Values.{AreSymValues, IsSymValue, Reading, value_at, values_at}
 use Rattle.mem_terms.specs.Memory.{memory_at}
-use Rattle.mem_terms.proofs.Eaches.{each-at, each-push, map-at, map-length, map-push}
+use Rattle.mem_terms.proofs.Eaches.{each-at, each-push, map-at, map-length, map-push, take-push}
 use Rattle.mem_terms.proofs.Later.{keeps_trans, bit-later, term-later, sym_values-later, value-later, values-later}
 use Rattle.run_terms.specs.declared.state.Tally.{Tally}
 use Rattle.run_terms.specs.declared.state.RunMemory.{RunMemory}
 use Rattle.run_terms.specs.declared.state.RunState.{RunState}
-use Rattle.run_terms.specs.Runs.{Scene, IsState, IsTally, Counts, Carries, StateShape, Visit, shape_of, sight}
+use Rattle.run_terms.specs.Runs.{Scene, IsState, IsTally, Counts, MatchesState, StateShape, Visit, shape_of, sight}
 use Rattle.run_terms.proofs.Lasting.{counts-later, blocks_at-later}
 use Rattle.run_terms.proofs.Memories.{same_given}
 
 choice-push : (e : Bool) (xs ys : List Value) (x y : Value) → cond e xs ys ++ cond e x y ∷ [] ≡ cond e (xs ++ x ∷ []) (ys ++ y ∷ [])
 choice-push true xs ys x y = refl
 choice-push false xs ys x y = refl
-
-take_push : (xs : List Value) (i : ℕ) (x d : Value) → i < length xs → get_or xs i d ≡ x → take i xs ++ x ∷ [] ≡ take (i + 1) xs
-take_push [] i x d lt e = absurd (omega arith)
-take_push (y ∷ ys) zero x d lt e = ap (λ z. z ∷ []) (sym e)
-take_push (y ∷ ys) (suc i) x d lt e = rw add-one (ap (λ zs. y ∷ zs) (rw add-one at (take_push ys i x d (omega arith) e)))
 
 pub registers_more : (old a b : List Term) (c : TermId) (xs ys picked new : List SymValue) (i : ℕ) (x y r : SymValue) → IsTerm old 1 c
     → AreSymValues old xs → AreSymValues old ys → length ys ≡ length xs → i < length xs → x ≡ get_or xs i x → y ≡ get_or ys i y
@@ -48,8 +43,8 @@ registers_more old a b c xs ys picked new i x y r hc hxs hys len lt ix iy ka hp 
           ∙ (ap (λ z. cond (bit_at s.v old c) (take i (values_at s old xs)) (take i (values_at s old ys)) ++ z ∷ []) e_r
           ∙ (choice-push (bit_at s.v old c) (take i (values_at s old xs)) (take i (values_at s old ys)) (value_at s old x) (value_at s old y)
           ∙ rw (
-            take_push (values_at s old xs) i (value_at s old x) (value_at s old x) (omega (arith, map-length (value_at s old) xs)) (map-at (value_at s old) xs i x (value_at s old x) lt ix),
-            take_push (values_at s old ys) i (value_at s old y) (value_at s old y) (omega (arith, map-length (value_at s old) ys)) (map-at (value_at s old) ys i y (value_at s old y) (omega arith) iy),
+            take-push (values_at s old xs) i (value_at s old x) (omega (arith, map-length (value_at s old) xs)) (sym (map-at (value_at s old) xs i x (value_at s old x) lt ix)),
+            take-push (values_at s old ys) i (value_at s old y) (omega (arith, map-length (value_at s old) ys)) (sym (map-at (value_at s old) ys i y (value_at s old y) (omega arith) iy)),
           ) refl)))),
     )
 
@@ -67,12 +62,12 @@ module _ (old a b : List Term) (c read fits : TermId) (s t : Tally) (m n : ℕ) 
     fits = ap truth (mf.says g.v) ∙ rw (bit-later old a ka g.v c hc.within, none) (bit-later old a ka g.v t.fits ht.fits.within ∙ k.fits);
   }
 
-module _ (old a b d e : List Term) (edge into : RunState) (alive : TermId) (tally : Tally) (registers : List SymValue) (memory : RunMemory) (most : ℕ) (he : IsState old edge) (hi : IsState old into) (shape : shape_of into ≡ shape_of edge)
-    (ka : Keeps old a) (kb : Keeps a b) (kd : Keeps b d) (ke : Keeps d e) (greatest : most ≡ max edge.most into.most) (ht : IsTally b tally) (hr : AreSymValues d registers) (given : memory.given ≡ edge.memory.given)
+module _ (old a b d e : List Term) (edge into : RunState) (alive : TermId) (tally : Tally) (registers : List SymValue) (memory : RunMemory) (words_bound : ℕ) (he : IsState old edge) (hi : IsState old into) (shape : shape_of into ≡ shape_of edge)
+    (ka : Keeps old a) (kb : Keeps a b) (kd : Keeps b d) (ke : Keeps d e) (greatest : words_bound ≡ max edge.words_bound into.words_bound) (ht : IsTally b tally) (hr : AreSymValues d registers) (given : memory.given ≡ edge.memory.given)
     (sd : (s : Reading) → values_at s d registers ≡ cond (bit_at s.v b edge.alive) (values_at s b edge.registers) (values_at s b into.registers))
     (se : (r : Reading) → memory_at r e memory.blocks ≡ cond (bit_at r.v d edge.alive) (memory_at r d edge.memory.blocks) (memory_at r d into.memory.blocks)) where
   abbrev joined : RunState
-  joined = record { alive = alive; registers = registers; memory = memory; tally = tally; most = most }
+  joined = record { alive = alive; registers = registers; memory = memory; tally = tally; words_bound = words_bound }
 
   kab : Keeps old b
   kab = keeps_trans old a b ka kb
@@ -84,23 +79,23 @@ module _ (old a b d e : List Term) (edge into : RunState) (alive : TermId) (tall
   kbe = keeps_trans b d e kd ke
 
   pub join_goes : ((g : Scene) (made : List ℕ) → bit_at g.v a edge.alive ≡ true → Counts g a edge.tally made → Counts g b tally made)
-      → (g : Scene) (at : Visit) (m : Machine) → bit_at g.v old edge.alive ≡ true → Carries g old at edge m → Carries g e at joined m
+      → (g : Scene) (at : Visit) (m : Machine) → bit_at g.v old edge.alive ≡ true → MatchesState g old at edge m → MatchesState g e at joined m
   join_goes st g at m held h = record {
     registers = values-later d e ke (sight g) registers hr ∙ (sd (sight g) ∙ rw (bit-later old b kab g.v edge.alive he.alive.within, held) (values-later old b kab (sight g) edge.registers he.registers ∙ h.registers));
     given = given ∙ h.given;
     memory = se (sight g) ∙ rw (bit-later old d kad g.v edge.alive he.alive.within, held) (blocks_at-later old d kad (sight g) edge.memory he.memory ∙ h.memory);
     tally = counts-later b e kbe g tally m.taken ht (st g m.taken (bit-later old a ka g.v edge.alive he.alive.within ∙ held) (counts-later old a ka g edge.tally m.taken he.tally h.tally));
-    most = rw greatest (omega (arith, h.most));
+    words_bound = rw greatest (omega (arith, h.words_bound));
     visit = h.visit;
   }
 
   pub join_stays : ((g : Scene) (made : List ℕ) → bit_at g.v a edge.alive ≡ false → Counts g a into.tally made → Counts g b tally made)
-      → (g : Scene) (at : Visit) (m : Machine) → bit_at g.v old edge.alive ≡ false → Carries g old at into m → Carries g e at joined m
+      → (g : Scene) (at : Visit) (m : Machine) → bit_at g.v old edge.alive ≡ false → MatchesState g old at into m → MatchesState g e at joined m
   join_stays st g at m none h = record {
     registers = values-later d e ke (sight g) registers hr ∙ (sd (sight g) ∙ rw (bit-later old b kab g.v edge.alive he.alive.within, none) (values-later old b kab (sight g) into.registers hi.registers ∙ h.registers));
     given = given ∙ (sym (same_given old edge.memory into.memory he.memory hi.memory (ap (λ (x : StateShape). x.frames) shape)) ∙ h.given);
     memory = se (sight g) ∙ rw (bit-later old d kad g.v edge.alive he.alive.within, none) (blocks_at-later old d kad (sight g) into.memory hi.memory ∙ h.memory);
     tally = counts-later b e kbe g tally m.taken ht (st g m.taken (bit-later old a ka g.v edge.alive he.alive.within ∙ none) (counts-later old a ka g into.tally m.taken hi.tally h.tally));
-    most = rw greatest (omega (arith, h.most));
+    words_bound = rw greatest (omega (arith, h.words_bound));
     visit = h.visit;
   }

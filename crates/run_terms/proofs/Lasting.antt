@@ -1,12 +1,12 @@
 -- What was said of a run so far is said of it over more terms.
-use Rattle.std.proofs.Common.{ℕ, zero, suc, ◌≡◌, List, [], ◌∷◌, map, take, drop, Option, Some, None, IfSome, refl, ap, sym, subst, ◌∙◌}
+use Rattle.std.proofs.Common.{ℕ, zero, suc, ◌≡◌, Bool, List, [], ◌∷◌, map, take, drop, Option, Some, None, IfSome, refl, ap, sym, subst, ◌∙◌}
 use Rattle.std.specs.Prelude.{slice_get, slice_set}
 use Rattle.std.specs.Option.{option_map}
 use Rattle.points.specs.declared.machine.Machine.{Machine}
 use Rattle.unroll.specs.Layers.{Where, At, Done}
 use Rattle.bv_terms.specs.declared.term.TermId.{TermId}
 use Rattle.bv_terms.specs.declared.term.Term.{Term}
-use Rattle.bv_terms.specs.Trees.{Keeps}
+use Rattle.bv_terms.specs.Trees.{Keeps, IsTerm, Tests}
 use Rattle.mem_terms.specs.declared.values.SymValue.{SymValue}
 use Rattle.mem_terms.specs.Values.{Each, IsSymValue, Reading, value_at}
 use Rattle.mem_terms.specs.Memory.{AreSymBlocks, IsSymBlock, frame_of, memory_at}
@@ -18,13 +18,19 @@ use Rattle.run_terms.specs.declared.state.RunMemory.{RunMemory}
 use Rattle.run_terms.specs.declared.state.RunState.{RunState}
 use Rattle.run_terms.specs.declared.ending.Ending.{Ending}
 use Rattle.run_terms.specs.declared.frontier.Frontier.{Frontier}
-use Rattle.run_terms.specs.Runs.{Scene, Sees, IsTally, IsRunMemory, IsState, Counts, Carries, Visit, frames_in, sight, visit_of}
-use Rattle.run_terms.specs.Frontier.{IsEnding, EndTells, AreStates, IsUnreached, AheadTells, IsFrontier, Tells, ending_at}
+use Rattle.run_terms.specs.declared.frontier.Leaving.{Leaving}
+use Rattle.run_terms.specs.declared.setting.Setting.{Setting}
+use Rattle.run_terms.specs.Runs.{Scene, Sees, IsTally, IsRunMemory, IsState, Counts, MatchesState, Visit, frames_in, sight, visit_of}
+use Rattle.run_terms.specs.Frontier.{IsEnding, MatchesEnding, AreStates, IsUnreached, MatchesAhead, IsFrontier, IsLeaving, HasShape, MatchesFrontier, ending_at}
 
 pub each-get : {A : Type 0} (P : A → Type 0) (xs : List A) (n : ℕ) (x : A) → Each P xs → slice_get xs n ≡ Some x → P x
 each-get P [] n x h e = absurd (let c : ⊥ = cc in c)
 each-get P (y ∷ ys) zero x h e = (let is : y ≡ x = cc in subst P is h.0)
 each-get P (y ∷ ys) (suc n) x h e = each-get P ys n x h.1 e
+
+-- a term that tests something
+pub tested : {terms : List Term} {id : TermId} {test : (ℕ → ℕ → ℕ) → Bool} → Tests terms id test → IsTerm terms 1 id
+tested t = record { within = t.within; wide = t.wide }
 
 -- of both parts of a list
 pub each-parts : {A : Type 0} (P : A → Type 0) (n : ℕ) (xs : List A) → Each P (take n xs) → Each P (drop n xs) → Each P xs
@@ -37,8 +43,8 @@ pub memory_blocks : (terms : List Term) (m : RunMemory) → IsRunMemory terms m 
 memory_blocks terms m h = each-parts (IsSymBlock terms) m.given m.blocks h.given.are h.are
 
 -- where the machine is, is where the state says
-pub carries_there : (g : Scene) (terms : List Term) (at : Visit) (s : RunState) (m : Machine) → Carries g terms at s m → Carries g terms (visit_of m) s m
-carries_there g terms at s m h = subst (λ (v : Visit). Carries g terms v s m) (sym h.visit) h
+pub matches_there : (g : Scene) (terms : List Term) (at : Visit) (s : RunState) (m : Machine) → MatchesState g terms at s m → MatchesState g terms (visit_of m) s m
+matches_there g terms at s m h = subst (λ (v : Visit). MatchesState g terms v s m) (sym h.visit) h
 
 module _ (old new : List Term) (k : Keeps old new) where
   pub sees-later : (g : Scene) (tape : List TermId) → AreWords old tape → Sees g old tape → Sees g new tape
@@ -75,13 +81,13 @@ module _ (old new : List Term) (k : Keeps old new) where
     tally = tally-later s.tally h.tally;
   }
 
-  pub carries-later : (g : Scene) (at : Visit) (s : RunState) (m : Machine) → IsState old s → Carries g old at s m → Carries g new at s m
-  carries-later g at s m h c = record {
+  pub matches_state-later : (g : Scene) (at : Visit) (s : RunState) (m : Machine) → IsState old s → MatchesState g old at s m → MatchesState g new at s m
+  matches_state-later g at s m h c = record {
     registers = values-later old new k (sight g) s.registers h.registers ∙ c.registers;
     given = c.given;
     memory = blocks_at-later (sight g) s.memory h.memory ∙ c.memory;
     tally = counts-later g s.tally m.taken h.tally c.tally;
-    most = c.most;
+    words_bound = c.words_bound;
     visit = c.visit;
   }
 
@@ -108,10 +114,10 @@ module _ (old new : List Term) (k : Keeps old new) where
   ending_at-later r e h =
       rw (bit-later old new k r.v e.ub h.ub.within, bit-later old new k r.v e.beyond h.beyond.within, option-later r e.value h.value, memory-later old new k r e.blocks h.given.are) refl
 
-  pub end_tells-later : (g : Scene) (e : Ending) (at : Option Where) → IsEnding old e → EndTells g old e at → EndTells g new e at
-  end_tells-later g e None h s = record { ub = bit-later old new k g.v e.ub h.ub.within ∙ s.ub; beyond = bit-later old new k g.v e.beyond h.beyond.within ∙ s.beyond }
-  end_tells-later g e (Some (At n m)) h s = record { ub = bit-later old new k g.v e.ub h.ub.within ∙ s.ub; beyond = bit-later old new k g.v e.beyond h.beyond.within ∙ s.beyond }
-  end_tells-later g e (Some (Done run)) h s = record {
+  pub matches_ending-later : (g : Scene) (e : Ending) (at : Option Where) → IsEnding old e → MatchesEnding g old e at → MatchesEnding g new e at
+  matches_ending-later g e None h s = record { ub = bit-later old new k g.v e.ub h.ub.within ∙ s.ub; beyond = bit-later old new k g.v e.beyond h.beyond.within ∙ s.beyond }
+  matches_ending-later g e (Some (At n m)) h s = record { ub = bit-later old new k g.v e.ub h.ub.within ∙ s.ub; beyond = bit-later old new k g.v e.beyond h.beyond.within ∙ s.beyond }
+  matches_ending-later g e (Some (Done run)) h s = record {
     outcome = ending_at-later (sight g) e h ∙ s.outcome;
     tally = counts-later g e.tally run.taken h.tally s.tally;
   }
@@ -133,21 +139,28 @@ module _ (old new : List Term) (k : Keeps old new) where
   unreached-later g [] h u = tt
   unreached-later g (o ∷ os) h u = (unreached_of-later g o h.0 u.0, unreached-later g os h.1 u.1)
 
-  pub ahead_tells-later : (g : Scene) (ahead : List (Option RunState)) (at : Option Where) → AreStates old ahead → AheadTells g old ahead at → AheadTells g new ahead at
-  ahead_tells-later g ahead None h s = unreached-later g ahead h s
-  ahead_tells-later g ahead (Some (At n m)) h s =
+  pub matches_ahead-later : (g : Scene) (ahead : List (Option RunState)) (at : Option Where) → AreStates old ahead → MatchesAhead g old ahead at → MatchesAhead g new ahead at
+  matches_ahead-later g ahead None h s = unreached-later g ahead h s
+  matches_ahead-later g ahead (Some (At n m)) h s =
       let entry = each-get (λ (o : Option RunState). IfSome o (IsState old)) ahead n (Some s.entry) h s.is in
       record {
         entry = s.entry;
         is = s.is;
         alive = bit-later old new k g.v s.entry.alive entry.alive.within ∙ s.alive;
-        carries = carries-later g (visit_of m) s.entry m entry s.carries;
+        matches = matches_state-later g (visit_of m) s.entry m entry s.matches;
         others = unreached-later g (slice_set ahead n None) (each-set (λ (o : Option RunState). IfSome o (IsState old)) ahead n None h tt) s.others;
       }
-  ahead_tells-later g ahead (Some (Done run)) h s = unreached-later g ahead h s
+  matches_ahead-later g ahead (Some (Done run)) h s = unreached-later g ahead h s
 
-  pub tells-later : (g : Scene) (w : Frontier) (at : Option Where) → IsFrontier old w → Tells g old w at → Tells g new w at
-  tells-later g w at h s = record { ahead = ahead_tells-later g w.ahead at h.ahead s.ahead; ending = end_tells-later g w.ending at h.ending s.ending }
+  pub matches_frontier-later : (g : Scene) (w : Frontier) (at : Option Where) → IsFrontier old w → MatchesFrontier g old w at → MatchesFrontier g new w at
+  matches_frontier-later g w at h s = record { ahead = matches_ahead-later g w.ahead at h.ahead s.ahead; ending = matches_ending-later g w.ending at h.ending s.ending }
 
   pub frontier-later : (w : Frontier) → IsFrontier old w → IsFrontier new w
   frontier-later w h = record { ahead = states-later w.ahead h.ahead; ending = ending-later w.ending h.ending }
+
+  -- at another frontier, where another condition holds
+  pub leaving-at : (setting : Setting) (w w' : Frontier) (l : Leaving) (c : TermId) → IsLeaving setting old w l → IsFrontier new w' → HasShape setting w' → IsTerm new 1 c → IsLeaving setting new w' (record l { c = c })
+  leaving-at setting w w' l c h frontier shape hc = record { frontier = frontier; shape = shape; state = state-later l.state.now h.state; fits = h.fits; c = hc }
+
+  pub leaving-later : (setting : Setting) (w : Frontier) (l : Leaving) → IsLeaving setting old w l → IsLeaving setting new w l
+  leaving-later setting w l h = leaving-at setting w w l l.c h (frontier-later w h.frontier) h.shape (is_term-later old new k 1 l.c h.c)

@@ -1,10 +1,9 @@
 -- A block is left.
-use Rattle.std.proofs.Common.{ℕ, zero, suc, ◌≡◌, ◌<◌, ◌≤◌, ◌+◌, ◌%◌, ◌^◌, Bool, true, false, cond, not, ◌&&◌, nat_eq, if◌then◌else◌, List, [], ◌∷◌, ◌++◌, length, map, take, get_or, Option, Some, None, inl, inr, refl, ap, sym, subst, ◌∙◌, arith, add-one}
+use Rattle.std.proofs.Common.{ℕ, zero, suc, ◌≡◌, ◌<◌, ◌+◌, ◌%◌, ◌^◌, Bool, true, false, cond, not, ◌&&◌, nat_eq, if◌then◌else◌, List, [], ◌∷◌, length, map, get_or, Option, Some, None, inl, inr, refl, ap, sym, subst, ◌∙◌, arith, add-one}
 use Rattle.std.specs.Prelude.{slice_get, slice_index_or}
 use Rattle.std.specs.Option.{option_map_or}
 use Rattle.std.specs.List.{find}
 use Rattle.std.proofs.lemmas.Bool.{cases_Bool}
-use Rattle.std.proofs.lemmas.List.{take_all}
 use Rattle.ir_tree.specs.declared.tree.Case.{Case}
 use Rattle.ir_tree.specs.declared.tree.Function.{Function}
 use Rattle.ir_tree.specs.Sites.{same_number}
@@ -21,27 +20,59 @@ use Rattle.unroll.specs.Layers.{Where, Done, along, edge_of, left_by}
 use Rattle.bv_terms.specs.declared.term.TermId.{TermId}
 use Rattle.bv_terms.specs.declared.term.Term.{Term}
 use Rattle.bv_terms.specs.Tree.{truth}
-use Rattle.bv_terms.specs.Trees.{Keeps, IsTerm, bit_at, term_at}
+use Rattle.bv_terms.specs.Trees.{Keeps, Tests, IsTerm, bit_at, term_at}
 use Rattle.mem_terms.specs.declared.integers.SymNumber.{SymNumber}
-use Rattle.mem_terms.specs.Values.{number_at, value_from}
-use Rattle.mem_terms.proofs.Later.{bit-later, term-later}
-use Rattle.run_terms.specs.declared.state.RunState.{RunState}
+use Rattle.mem_terms.specs.Values.{as_integer, number_at, value_from}
+use Rattle.mem_terms.proofs.Later.{bit-later, keeps_trans, term-later}
 use Rattle.run_terms.specs.declared.frontier.Frontier.{Frontier}
-use Rattle.run_terms.specs.Runs.{Scene, IsState, Visit}
-use Rattle.run_terms.specs.Frontier.{AreByLabel, IsFrontier, Moves, branched, placed, switched_on}
+use Rattle.run_terms.specs.declared.frontier.Leaving.{Leaving}
+use Rattle.run_terms.specs.declared.setting.Setting.{Setting}
+use Rattle.run_terms.specs.Runs.{MatchesState, Scene, Visit}
+use Rattle.run_terms.specs.Frontier.{AreByLabel, Everywhere, IsLeaving, Leaves, Simulates, branched, placed, switched_on}
 use Rattle.run_terms.proofs.Lasting.{state-later}
-use Rattle.run_terms.proofs.Moving.{moves_to, moves_later, moves_choice, edge_of_label, switched, switched_push, switched_is, take_push}
+use Rattle.run_terms.proofs.Moving.{simulates_to, simulates_when, simulates_later, simulates_choice, edge_of_label}
+use Rattle.run_terms.proofs.Reading.{branched_integer, switched_integer}
 
--- ---- one way or the other
+-- ---- by a bit
 
-module _ (g : Scene) (visit : Visit) (s : RunState) where
-  pub split_moves : (old a b d : List Term) (ka : Keeps old a) (kb : Keeps a b) (before between after : Frontier) (c on off : TermId) (test : Bool) (to1 to2 : Machine → Where) → IsFrontier old before → IsState old s → IsTerm old 1 c → IsTerm a 1 off
-      → bit_at g.v a on ≡ (bit_at g.v old c && test) → bit_at g.v a off ≡ (bit_at g.v old c && not test)
-      → Moves g a b before between on visit s to1 → Moves g b d between after off visit s to2 → Moves g old d before after c visit s (λ (m : Machine). cond test (to1 m) (to2 m))
-  split_moves old a b d ka kb before between after c on off test to1 to2 hb hs hc hoff e1 e2 m1 m2 =
-      let same = bit-later old a ka g.v c hc.within in
-      moves_later g visit s old a d ka before after c (λ (m : Machine). cond test (to1 m) (to2 m)) hb hs hc
-      (moves_choice g visit s a b d kb before between after c on off test to1 to2 (state-later old a ka s hs) hoff (e1 ∙ ap (λ x. x && test) (sym same)) (e2 ∙ ap (λ x. x && not test) (sym same)) m1 m2)
+choice_along : (f : Function) (copies : List BlockCopy) (ahead : ℕ) (b : Bool) (if_true if_false : Edge) (m : Machine)
+    → cond b (placed f copies ahead (along if_true m)) (placed f copies ahead (along if_false m)) ≡ placed f copies ahead (along (if b then if_true else if_false) m)
+choice_along f copies ahead true if_true if_false m = refl
+choice_along f copies ahead false if_true if_false m = refl
+
+-- by one edge or the other
+pub bit_leaves : {setting : Setting} {l : Leaving} {on off : TermId} {old a b new : List Term} {before between after : Frontier} (bit : TermId) (if_true if_false : Edge) → Keeps old a → Keeps a b → IsLeaving setting old before l
+    → Tests a on (λ v. bit_at v old l.c && bit_at v old bit) → Tests a off (λ v. bit_at v old l.c && not (bit_at v old bit))
+    → Leaves Everywhere setting (record l { c = on }) a b before between (λ g m. along if_true m) → Leaves Everywhere setting (record l { c = off }) b new between after (λ g m. along if_false m)
+    → Leaves Everywhere setting l old new before after (λ g m. along (if bit_at g.v old bit then if_true else if_false) m)
+bit_leaves {setting = setting} {l = l} {off = off} {old = old} {a = a} {b = b} bit if_true if_false ka kb h t_on t_off h1 h2 = record {
+  frontier = h2.frontier;
+  shape = h2.shape;
+  simulates = λ g turn here.
+      let first = simulates_later (simulates_when (h1.simulates g turn tt) (sym (t_on.says g.v))) ka h.frontier h.state in
+      let second = simulates_when (h2.simulates g turn tt) (sym (bit-later a b kb g.v off t_off.within ∙ t_off.says g.v)) in
+      simulates_to (simulates_choice (bit_at g.v old l.c) (bit_at g.v old bit) (keeps_trans old a b ka kb) h.state first second)
+      (λ m matches. choice_along setting.f.now setting.copies.now l.ahead (bit_at g.v old bit) if_true if_false m);
+}
+
+-- ---- by a value that may be poison
+
+-- where it is the run ends, and otherwise it goes on
+pub poison_leaves : {on on' : Scene → Type 0} {setting : Setting} {l : Leaving} {c : TermId} {old a b new : List Term} {before between after : Frontier} {to to' : Scene → Machine → Where} (poison : TermId) → Keeps old a → Keeps a b → IsLeaving setting old before l
+    → ((v : ℕ → ℕ → ℕ) → bit_at v b c ≡ (bit_at v a l.c && not (bit_at v a poison)))
+    → ((g : Scene) (at : Visit) → Simulates g a b before between (bit_at g.v a l.c && bit_at g.v a poison) at l.state.now (λ m. Done (ended Ub m)))
+    → Leaves on setting (record l { c = c }) b new between after to → ((g : Scene) → on' g → on g)
+    → ((g : Scene) (at : Visit) (m : Machine) → MatchesState g old at l.state.now m → cond (bit_at g.v a poison) (Done (ended Ub m)) (placed setting.f.now setting.copies.now l.ahead (to g m)) ≡ placed setting.f.now setting.copies.now l.ahead (to' g m))
+    → Leaves on' setting l old new before after to'
+poison_leaves {l = l} {old = old} {a = a} poison ka kb h rest ends goes here same = record {
+  frontier = goes.frontier;
+  shape = goes.shape;
+  simulates = λ g turn there.
+      let at : Visit = record { label = l.label; turn = turn } in
+      let second = simulates_when (goes.simulates g turn (here g there)) (sym (rest g.v)) in
+      let both = simulates_choice (bit_at g.v a l.c) (bit_at g.v a poison) kb (state-later old a ka l.state.now h.state) (ends g at) second in
+      simulates_to (simulates_when (simulates_later both ka h.frontier h.state) (sym (bit-later old a ka g.v l.c h.c.within))) (same g at);
+}
 
 -- ---- branches
 
@@ -53,59 +84,32 @@ lowest_is x = by (x % 2) (omega arith)
     by (suc zero) lt = refl
     by (suc (suc n)) lt = absurd (omega arith)
 
-branch_at : (f : Function) (copies : List BlockCopy) (ahead : ℕ) (p : Bool) (n : ℕ) (x : Value) (e1 e2 : Edge) (m : Machine) → value_from p n ≡ x
-    → cond p (Done (ended Ub m)) (cond (nat_eq (n % 2) 1) (placed f copies ahead (along e1 m)) (placed f copies ahead (along e2 m))) ≡ placed f copies ahead (branched x e1 e2 m)
-branch_at f copies ahead true n x e1 e2 m is = subst (λ (y : Value). Done (ended Ub m) ≡ placed f copies ahead (branched y e1 e2 m)) is refl
-branch_at f copies ahead false n x e1 e2 m is = subst (λ (y : Value). cond (nat_eq (n % 2) 1) (placed f copies ahead (along e1 m)) (placed f copies ahead (along e2 m)) ≡ placed f copies ahead (branched y e1 e2 m)) is (by (nat_eq (n % 2) 1))
-  where
-    by : (b : Bool) → cond b (placed f copies ahead (along e1 m)) (placed f copies ahead (along e2 m)) ≡ placed f copies ahead (along (if b then e1 else e2) m)
-    by true = refl
-    by false = refl
+branch_at : (f : Function) (copies : List BlockCopy) (ahead : ℕ) (p t : Bool) (n : ℕ) (x : Value) (e1 e2 : Edge) (m : Machine) → value_from p n ≡ as_integer x → t ≡ nat_eq (n % 2) 1
+    → cond p (Done (ended Ub m)) (placed f copies ahead (along (if t then e1 else e2) m)) ≡ placed f copies ahead (branched (as_integer x) e1 e2 m)
+branch_at f copies ahead true t n x e1 e2 m is e = subst (λ (y : Value). Done (ended Ub m) ≡ placed f copies ahead (branched y e1 e2 m)) is refl
+branch_at f copies ahead false t n x e1 e2 m is e = rw e (subst (λ (y : Value). placed f copies ahead (along (if nat_eq (n % 2) 1 then e1 else e2) m) ≡ placed f copies ahead (branched y e1 e2 m)) is refl)
 
-pub branch_is : (v : ℕ → ℕ → ℕ) (terms : List Term) (s : SymNumber) (f : Function) (copies : List BlockCopy) (ahead : ℕ) (x : Value) (e1 e2 : Edge) (m : Machine) (t : Bool) → number_at v terms s ≡ x → t ≡ nat_eq (term_at v terms s.number % 2) 1
-    → cond (bit_at v terms s.poison) (Done (ended Ub m)) (cond t (placed f copies ahead (along e1 m)) (placed f copies ahead (along e2 m))) ≡ placed f copies ahead (branched x e1 e2 m)
+pub branch_is : (v : ℕ → ℕ → ℕ) (terms : List Term) (s : SymNumber) (f : Function) (copies : List BlockCopy) (ahead : ℕ) (p t : Bool) (x : Value) (e1 e2 : Edge) (m : Machine)
+    → number_at v terms s ≡ as_integer x → p ≡ bit_at v terms s.poison → t ≡ nat_eq (term_at v terms s.number % 2) 1
+    → cond p (Done (ended Ub m)) (placed f copies ahead (along (if t then e1 else e2) m)) ≡ placed f copies ahead (branched x e1 e2 m)
 unfolding number_at
-branch_is v terms s f copies ahead x e1 e2 m t is e = rw e (branch_at f copies ahead (bit_at v terms s.poison) (term_at v terms s.number) x e1 e2 m is)
+branch_is v terms s f copies ahead p t x e1 e2 m is ep et =
+    rw ep (branch_at f copies ahead (bit_at v terms s.poison) t (term_at v terms s.number) x e1 e2 m is et) ∙ ap (placed f copies ahead) (branched_integer x e1 e2 m)
 
 -- ---- switches
 
-switch_at : (f : Function) (copies : List BlockCopy) (ahead width : ℕ) (p : Bool) (n : ℕ) (x : Value) (edge : Case → Edge) (default : Edge) (cases : List Case) (m : Machine) → value_from p n ≡ x
-    → cond p (Done (ended Ub m)) (placed f copies ahead (along (option_map_or edge (find (λ (c : Case). nat_eq (c.value % 2 ^ width) (n % 2 ^ width)) cases) default) m)) ≡ placed f copies ahead (switched_on width x edge default cases m)
-switch_at f copies ahead width true n x edge default cases m is = subst (λ (y : Value). Done (ended Ub m) ≡ placed f copies ahead (switched_on width y edge default cases m)) is refl
-switch_at f copies ahead width false n x edge default cases m is =
-    subst (λ (y : Value). placed f copies ahead (along (option_map_or edge (find (λ (c : Case). nat_eq (c.value % 2 ^ width) (n % 2 ^ width)) cases) default) m) ≡ placed f copies ahead (switched_on width y edge default cases m)) is refl
+switch_at : (f : Function) (copies : List BlockCopy) (ahead width : ℕ) (p : Bool) (number n : ℕ) (x : Value) (edge : Case → Edge) (default : Edge) (cases : List Case) (m : Machine) → value_from p n ≡ as_integer x → number ≡ n % 2 ^ width
+    → cond p (Done (ended Ub m)) (placed f copies ahead (along (option_map_or edge (find (λ (c : Case). nat_eq (c.value % 2 ^ width) number) cases) default) m)) ≡ placed f copies ahead (switched_on width (as_integer x) edge default cases m)
+switch_at f copies ahead width true number n x edge default cases m is e = subst (λ (y : Value). Done (ended Ub m) ≡ placed f copies ahead (switched_on width y edge default cases m)) is refl
+switch_at f copies ahead width false number n x edge default cases m is e =
+    rw e (subst (λ (y : Value). placed f copies ahead (along (option_map_or edge (find (λ (c : Case). nat_eq (c.value % 2 ^ width) (n % 2 ^ width)) cases) default) m) ≡ placed f copies ahead (switched_on width y edge default cases m)) is refl)
 
-pub switch_is : (v : ℕ → ℕ → ℕ) (terms : List Term) (s : SymNumber) (f : Function) (copies : List BlockCopy) (ahead width number : ℕ) (x : Value) (edge : Case → Edge) (default : Edge) (cases : List Case) (m : Machine) → number_at v terms s ≡ x → number ≡ term_at v terms s.number % 2 ^ width
-    → cond (bit_at v terms s.poison) (Done (ended Ub m)) (placed f copies ahead (along (option_map_or edge (find (λ (c : Case). nat_eq (c.value % 2 ^ width) number) cases) default) m)) ≡ placed f copies ahead (switched_on width x edge default cases m)
+pub switch_is : (v : ℕ → ℕ → ℕ) (terms : List Term) (s : SymNumber) (f : Function) (copies : List BlockCopy) (ahead width : ℕ) (p : Bool) (number : ℕ) (x : Value) (edge : Case → Edge) (default : Edge) (cases : List Case) (m : Machine)
+    → number_at v terms s ≡ as_integer x → p ≡ bit_at v terms s.poison → number ≡ term_at v terms s.number % 2 ^ width
+    → cond p (Done (ended Ub m)) (placed f copies ahead (along (option_map_or edge (find (λ (c : Case). nat_eq (c.value % 2 ^ width) number) cases) default) m)) ≡ placed f copies ahead (switched_on width x edge default cases m)
 unfolding number_at
-switch_is v terms s f copies ahead width number x edge default cases m is e = rw e (switch_at f copies ahead width (bit_at v terms s.poison) (term_at v terms s.number) x edge default cases m is)
-
-module _ (g : Scene) (visit : Visit) (s : RunState) (f : Function) (copies : List BlockCopy) (ahead : ℕ) (hit : Case → Bool) (edge : Case → Edge) where
-  abbrev place : Edge → Machine → Where
-  place e m = placed f copies ahead (along e m)
-
-  pub cases_step : (old l a b new : List Term) (ka : Keeps l a) (kb : Keeps a b) (start w between after : Frontier) (c left here rest : TermId) (cases : List Case) (i : ℕ) (case : Case) (e : Edge) (to : Machine → Where)
-      → IsFrontier l w → IsState l s → IsTerm l 1 left → IsTerm a 1 rest → i < length cases → case ≡ get_or cases i case → e ≡ edge case
-      → bit_at g.v a here ≡ (bit_at g.v l left && hit case) → bit_at g.v a rest ≡ (bit_at g.v l left && not (hit case))
-      → Moves g a b w between here visit s (λ (m : Machine). placed f copies ahead (along e m))
-      → ((to' : Machine → Where) → Moves g l new w after left visit s to' → Moves g old new start after c visit s (switched hit (λ (x : Case). place (edge x)) to' (take i cases)))
-      → Moves g b new between after rest visit s to → Moves g old new start after c visit s (switched hit (λ (x : Case). place (edge x)) to (take (i + 1) cases))
-  cases_step old l a b new ka kb start w between after c left here rest cases i case e to hw hs hl hr lt is same e1 e2 m1 so m2 =
-      let go : Case → Machine → Where = λ (x : Case). place (edge x) in
-      let to' : Machine → Where = λ (m : Machine). cond (hit case) (place e m) (to m) in
-      let one = split_moves g visit s l a b new ka kb w between after left here rest (hit case) (place e) to hw hs hl hr e1 e2 m1 m2 in
-      let more : take (i + 1) cases ≡ take i cases ++ case ∷ [] = take_push cases i case lt is in
-      moves_to g visit s old new start after c (switched hit go to' (take i cases)) (switched hit go to (take (i + 1) cases))
-      (λ m h. ap (λ (x : Edge). switched hit go (λ (y : Machine). cond (hit case) (place x y) (to y)) (take i cases) m) same ∙ (switched_push hit go to (take i cases) case m ∙ ap (λ (cs : List Case). switched hit go to cs m) (sym more)))
-      (so to' one)
-
-  pub cases_end : (old l new : List Term) (start w after : Frontier) (c left : TermId) (cases : List Case) (i : ℕ) (e default : Edge) → length cases ≤ i → e ≡ default
-      → ((to' : Machine → Where) → Moves g l new w after left visit s to' → Moves g old new start after c visit s (switched hit (λ (x : Case). place (edge x)) to' (take i cases)))
-      → Moves g l new w after left visit s (λ (m : Machine). placed f copies ahead (along e m)) → Moves g old new start after c visit s (λ (m : Machine). placed f copies ahead (along (option_map_or edge (find hit cases) default) m))
-  cases_end old l new start w after c left cases i e default past same so m =
-      moves_to g visit s old new start after c (switched hit (λ (x : Case). place (edge x)) (place e) (take i cases)) (λ (x : Machine). place (option_map_or edge (find hit cases) default) x)
-      (λ x h. ap (λ (d : Edge). switched hit (λ (y : Case). place (edge y)) (place d) (take i cases) x) same ∙ (ap (λ (cs : List Case). switched hit (λ (y : Case). place (edge y)) (place default) cs x) (take_all i cases past) ∙ switched_is hit place edge default cases x))
-      (so (place e) m)
+switch_is v terms s f copies ahead width p number x edge default cases m is ep en =
+    rw ep (switch_at f copies ahead width (bit_at v terms s.poison) number (term_at v terms s.number) x edge default cases m is en) ∙ ap (placed f copies ahead) (switched_integer width x edge default cases m)
 
 pub case_edge : (edges : List Edge) (default : Edge) (edge : Case → Edge) (cases : List Case) (i : ℕ) (case : Case) → edges ≡ default ∷ map edge cases → i < length cases → case ≡ get_or cases i case → slice_index_or edges (i + 1) Nowhere ≡ edge case
 case_edge edges default edge cases i case is lt at = rw (is, add-one) (item cases i lt at)

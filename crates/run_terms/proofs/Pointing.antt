@@ -1,6 +1,7 @@
 -- Which given block a word names.
 use Rattle.std.proofs.Common.{ℕ, zero, suc, ◌≡◌, ◌<◌, ◌≤◌, ◌+◌, Bool, true, false, ◌&&◌, ◌||◌, cond, List, [], ◌∷◌, length, map, take, drop, nat_eq, nat_lt, nat_le, inl, inr, refl, ap, sym, subst, ◌∙◌, arith}
 use Rattle.std.specs.List.{list_any}
+use Rattle.std.proofs.Math.Bool.{or-false}
 use Rattle.std.proofs.lemmas.Bool.{cases_Bool}
 use Rattle.std.proofs.lemmas.Bool.Decides.{nat_tests}
 use Rattle.std.proofs.lemmas.List.{length-take}
@@ -55,10 +56,6 @@ given_named g terms k first (b ∷ bs) always numbered some within =
     let here : equal_names (Given k) (block_name g.given b.number) ≡ nat_eq k first = rw is (given_number g.given k first some (omega (arith, within))) in
     rw (always.0 g.v, more) (ap (λ (x : Bool). x || (nat_le (first + 1) k && nat_lt k ((first + 1) + length bs))) here ∙ first_or_more k first (length bs))
 
-or_false : (b : Bool) → (b || false) ≡ b
-or_false true = refl
-or_false false = refl
-
 -- a given name names a block of a run's memory where its number is that of a given block
 pub names_given : (g : Scene) (terms : List Term) (m : RunMemory) (k : ℕ) → IsRunMemory terms m → m.given ≡ g.given
     → list_any (names (Given k)) (memory_at (sight g) terms m.blocks) ≡ (nat_le 1 k && nat_lt k (1 + g.given))
@@ -70,7 +67,7 @@ names_given g terms m k h same =
     let own = own_unnamed g terms k (drop m.given bs) (subst (λ (n : ℕ). Each (λ (b : SymBlock). first_local n ≤ b.number) (drop m.given m.blocks)) same h.own) in
     ap (list_any (names (Given k))) (sym (memory-parts (sight g) terms m.given bs))
     ∙ (list_any-append (names (Given k)) (memory_at (sight g) terms (take m.given bs)) (memory_at (sight g) terms (drop m.given bs))
-    ∙ (rw (given, own) (or_false (nat_le 1 k && nat_lt k (1 + length (take m.given bs)))) ∙ ap (λ (n : ℕ). nat_le 1 k && nat_lt k (1 + n)) many))
+    ∙ (rw (given, own) (or-false (nat_le 1 k && nat_lt k (1 + length (take m.given bs)))) ∙ ap (λ (n : ℕ). nat_le 1 k && nat_lt k (1 + n)) many))
 
 -- ---- the block that is chosen
 

@@ -1,33 +1,33 @@
 -- A return leaves the given blocks of its memory.
-use Rattle.std.proofs.Common.{ℕ, ◌≡◌, ◌<◌, ◌≤◌, ◌+◌, Bool, true, false, cond, if◌then◌else◌, List, [], ◌∷◌, ◌++◌, length, map, take, drop, Option, Some, None, refl, ap, sym, subst, ◌∙◌, arith}
+use Rattle.std.proofs.Common.{ℕ, ◌≡◌, ◌<◌, ◌≤◌, ◌+◌, Bool, true, false, cond, if◌then◌else◌, List, [], ◌∷◌, ◌++◌, length, map, take, drop, Option, refl, ap, sym, subst, ◌∙◌, arith}
 use Rattle.std.specs.Prelude.{is_some}
 use Rattle.std.specs.Option.{option_map}
 use Rattle.std.specs.List.{filter}
-use Rattle.std.proofs.lemmas.List.{length-take}
+use Rattle.std.proofs.lemmas.List.{append-nil, length-take}
 use Rattle.std.proofs.lemmas.List.Elements.{filter-append}
-use Rattle.byte_block.specs.declared.value.Value.{Value}
 use Rattle.byte_block.specs.declared.block.MemoryBlock.{MemoryBlock}
 use Rattle.points.specs.declared.machine.Machine.{Machine}
 use Rattle.points.specs.declared.outcome.Outcome.TheVariants.{Return}
 use Rattle.points.specs.Run.{Run, is_given}
-use Rattle.unroll.specs.Layers.{Where, Done}
-use Rattle.bv_terms.specs.declared.term.TermId.{TermId}
+use Rattle.unroll.specs.Layers.{Done}
 use Rattle.bv_terms.specs.declared.term.Term.{Term}
-use Rattle.bv_terms.specs.Trees.{Keeps, IsTerm, bit_at}
+use Rattle.bv_terms.specs.Trees.{Keeps, bit_at}
 use Rattle.mem_terms.specs.declared.values.SymValue.{SymValue}
 use Rattle.mem_terms.specs.declared.blocks.SymBlock.{SymBlock}
 use Rattle.mem_terms.specs.Values.{Each, first_local, reading, value_at}
 use Rattle.mem_terms.specs.Memory.{AreGivenBlocks, SymFrame, block_at, frame_of, memory_at}
-use Rattle.mem_terms.proofs.Later.{bit-later, memory-later}
+use Rattle.mem_terms.proofs.Later.{memory-later}
 use Rattle.mem_terms.proofs.Naming.{given_named, local_block}
 use Rattle.run_terms.specs.declared.state.Tally.{Tally}
 use Rattle.run_terms.specs.declared.state.RunMemory.{RunMemory}
 use Rattle.run_terms.specs.declared.state.RunState.{RunState}
+use Rattle.run_terms.specs.declared.ending.Ending.{Ending}
 use Rattle.run_terms.specs.declared.frontier.Frontier.{Frontier}
+use Rattle.run_terms.specs.declared.frontier.Leaving.{Leaving}
 use Rattle.run_terms.specs.declared.setting.Setting.{Setting}
-use Rattle.run_terms.specs.Runs.{AreNumberedFrom, Scene, IsRunMemory, IsState, Counts, Carries, StateShape, Visit, shape_of, sight}
-use Rattle.run_terms.specs.Frontier.{EndingShape, HasShape, IsFrontier, Tells, Moves, shape_in}
-use Rattle.run_terms.proofs.Lasting.{tells-later}
+use Rattle.run_terms.specs.Runs.{AreNumberedFrom, Scene, IsRunMemory, IsState, MatchesState, StateShape, Visit, sight}
+use Rattle.run_terms.specs.Frontier.{EndingShape, Ends, HasShape, IsLeaving, IsReturned, Leaves}
+use Rattle.run_terms.proofs.Moving.{ends_leaves}
 use Rattle.run_terms.proofs.Memories.{memory-parts}
 
 -- ---- their numbers
@@ -71,10 +71,6 @@ own_goes given v terms [] h = refl
 own_goes given v terms (b ∷ bs) h =
     own_one (bit_at v terms b.exists) (block_at (reading given v) terms b) (memory_at (reading given v) terms bs) (own_block given v terms b h.0) (own_goes given v terms bs h.1)
 
-none_behind : {A : Type 0} (xs ys : List A) → ys ≡ [] → xs ++ ys ≡ xs
-none_behind [] ys e = e
-none_behind (x ∷ xs) ys e = ap (λ zs. x ∷ zs) (none_behind xs ys e)
-
 pub given_left : (terms : List Term) (m : RunMemory) → IsRunMemory terms m → (v : ℕ → ℕ → ℕ) → filter is_given (memory_at (reading m.given v) terms m.blocks) ≡ memory_at (reading m.given v) terms (take m.given m.blocks)
 given_left terms m h v =
     let r = reading m.given v in
@@ -83,7 +79,7 @@ given_left terms m h v =
     let own = own_goes m.given v terms (drop m.given m.blocks) h.own in
     ap (filter is_given) (sym (memory-parts r terms m.given m.blocks))
     ∙ (filter-append is_given (memory_at r terms (take m.given m.blocks)) (memory_at r terms (drop m.given m.blocks))
-    ∙ (none_behind (filter is_given (memory_at r terms (take m.given m.blocks))) (filter is_given (memory_at r terms (drop m.given m.blocks))) own ∙ front))
+    ∙ (ap (λ (bs : List MemoryBlock). filter is_given (memory_at r terms (take m.given m.blocks)) ++ bs) own ∙ (append-nil (filter is_given (memory_at r terms (take m.given m.blocks))) ∙ front)))
 
 -- ---- the return
 
@@ -92,35 +88,26 @@ done_if true x y = refl
 done_if false x y = refl
 
 -- the given blocks of a state have the frames of the ending
-pub given_shaped : (setting : Setting) (terms : List Term) (w : Frontier) (s : RunState) → HasShape setting w → shape_of s ≡ shape_in setting → IsState terms s
-    → AreGivenBlocks (map frame_of w.ending.blocks) terms (take s.memory.given s.memory.blocks)
-given_shaped setting terms w s shape fits h =
-    let frames = ap (λ (x : StateShape). x.frames) fits ∙ sym (ap (λ (x : EndingShape). x.frames) shape.ending) in
-    subst (λ (fs : List SymFrame). AreGivenBlocks fs terms (take s.memory.given s.memory.blocks)) frames h.memory.given
+pub given_shaped : (setting : Setting) (terms : List Term) (w : Frontier) (l : Leaving) → IsLeaving setting terms w l → AreGivenBlocks (map frame_of w.ending.blocks) terms (take l.state.now.memory.given l.state.now.memory.blocks)
+given_shaped setting terms w l h =
+    let frames = ap (λ (x : StateShape). x.frames) h.fits ∙ sym (ap (λ (x : EndingShape). x.frames) h.shape.ending) in
+    subst (λ (fs : List SymFrame). AreGivenBlocks fs terms (take l.state.now.memory.given l.state.now.memory.blocks)) frames h.state.memory.given
 
 pub ending_valued : (setting : Setting) (w : Frontier) → HasShape setting w → is_some w.ending.value ≡ is_some setting.f.now.returns
 ending_valued setting w shape = ap (λ (x : EndingShape). x.valued) shape.ending
 
-pub moves_return : (g : Scene) (visit : Visit) (s : RunState) (old a b : List Term) (ka : Keeps old a) (before after : Frontier) (hb : IsFrontier old before) (hs : IsState old s) (c : TermId) (hc : IsTerm old 1 c) (value : Option SymValue) (tally : Tally)
-    (x : Machine → Option Value) (taken : Machine → List ℕ)
-    → ((at : Option Where) → bit_at g.v a c ≡ false → Tells g a before at → Tells g b after at)
-    → ((made : List ℕ) → bit_at g.v a c ≡ true → Counts g a tally made → Tells g a before None
-    → Tells g b after (Some (Done (record { outcome = Return (option_map (value_at (sight g) a) value) (memory_at (sight g) a (take s.memory.given s.memory.blocks)); taken = made }))))
-    → ((m : Machine) → bit_at g.v old c ≡ true → Carries g old visit s m → Counts g a tally (taken m) × (option_map (value_at (sight g) a) value ≡ x m))
-    → Moves g old b before after c visit s (λ (m : Machine). Done (record { outcome = Return (x m) (filter is_given m.memory); taken = taken m }))
-moves_return g visit s old a b ka before after hb hs c hc value tally x taken st go so =
-    let same = bit-later old a ka g.v c hc.within in
-    record {
-      stays = λ at none sh. st at (same ∙ none) (tells-later old a ka g before at hb sh);
-      goes = λ m held h sh.
-          let it = so m held h in
-          let left = memory_left m h in
-          let e : Done (record { outcome = Return (option_map (value_at (sight g) a) value) (memory_at (sight g) a (take s.memory.given s.memory.blocks)); taken = taken m }) ≡ Done (record { outcome = Return (x m) (filter is_given m.memory); taken = taken m }) = rw (it.1, left) refl in
-          subst (λ (w : Where). Tells g b after (Some w)) e (go (taken m) (same ∙ held) it.0 (tells-later old a ka g before None hb sh));
-    }
-  where
-    memory_left : (m : Machine) → Carries g old visit s m → memory_at (sight g) a (take s.memory.given s.memory.blocks) ≡ filter is_given m.memory
-    memory_left m h =
-        memory-later old a ka (sight g) (take s.memory.given s.memory.blocks) hs.memory.given.are
-        ∙ (subst (λ (n : ℕ). memory_at (reading n g.v) old (take s.memory.given s.memory.blocks) ≡ filter is_given (memory_at (reading n g.v) old s.memory.blocks)) h.given (sym (given_left old s.memory hs.memory g.v))
-        ∙ ap (filter is_given) h.memory)
+-- the blocks that it leaves
+pub memory_left : (old a : List Term) (k : Keeps old a) (s : RunState) (hs : IsState old s) (g : Scene) (visit : Visit) (m : Machine) → MatchesState g old visit s m → memory_at (sight g) a (take s.memory.given s.memory.blocks) ≡ filter is_given m.memory
+memory_left old a k s hs g visit m h =
+    memory-later old a k (sight g) (take s.memory.given s.memory.blocks) hs.memory.given.are
+    ∙ (subst (λ (n : ℕ). memory_at (reading n g.v) old (take s.memory.given s.memory.blocks) ≡ filter is_given (memory_at (reading n g.v) old s.memory.blocks)) h.given (sym (given_left old s.memory hs.memory g.v))
+    ∙ ap (filter is_given) h.memory)
+
+pub return_leaves : {on : Scene → Type 0} {setting : Setting} {l : Leaving} {old a new : List Term} {before : Frontier} {e : Ending} {t : Tally} (value : Option SymValue) {run : Scene → Machine → Run}
+    → (ka : Keeps old a) → Keeps a new → (h : IsLeaving setting old before l)
+    → Ends a new before.ending e l.c t (λ g. Return (option_map (value_at (sight g) a) value) (memory_at (sight g) a (take l.state.now.memory.given l.state.now.memory.blocks)))
+    → ((g : Scene) (at : Visit) (m : Machine) → on g → bit_at g.v old l.c ≡ true → MatchesState g old at l.state.now m → IsReturned g a t value m (run g m))
+    → Leaves on setting l old new before (record before { ending = e }) (λ g m. Done (run g m))
+return_leaves {l = l} {old = old} {a = a} value ka kn h ends so = ends_leaves ka kn h ends (λ g at m here held matches.
+    let it = so g at m here held matches in
+    (it.tally, ap (Return (option_map (value_at (sight g) a) value)) (memory_left old a ka l.state.now h.state g at m matches) ∙ it.outcome))

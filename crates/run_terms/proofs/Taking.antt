@@ -1,5 +1,6 @@
 -- A choice is taken.
-use Rattle.std.proofs.Common.{ℕ, zero, suc, ◌≡◌, ◌<◌, ◌≤◌, ◌+◌, ◌%◌, ◌^◌, Bool, true, false, cond, not, ◌&&◌, ◌||◌, List, [], ◌∷◌, ◌++◌, length, map, take, nat_eq, nat_le, slice_index, refl, ap, sym, subst, ◌∙◌, arith, length-append}
+use Rattle.std.proofs.Common.{ℕ, zero, suc, ◌≡◌, ◌<◌, ◌≤◌, ◌+◌, ◌%◌, ◌^◌, true, false, cond, not, ◌&&◌, ◌||◌, List, [], ◌∷◌, ◌++◌, length, map, take, nat_eq, nat_le, slice_index, refl, ap, sym, subst, ◌∙◌, arith, length-append}
+use Rattle.std.proofs.Math.Bool.{and-true, and_assoc}
 use Rattle.std.proofs.lemmas.Bool.Decides.{nat_tests}
 use Rattle.byte_block.specs.declared.value.Value.TheVariants.{Num, Ptr}
 use Rattle.points.specs.declared.machine.Machine.{Machine}
@@ -9,26 +10,19 @@ use Rattle.bv_terms.specs.declared.term.Term.{Term}
 use Rattle.bv_terms.specs.Tree.{width_of}
 use Rattle.bv_terms.specs.Trees.{Keeps, Makes, Tests, IsTerm, AreInRange, term_at, bit_at, tree_in}
 use Rattle.mem_terms.specs.declared.values.SymValue.{SymValue}
-use Rattle.mem_terms.specs.Values.{Each, Reading, number_at, value_at}
+use Rattle.mem_terms.specs.Values.{Reading, number_at, value_at}
 use Rattle.mem_terms.specs.Inputs.{AreWords, words_at}
 use Rattle.mem_terms.proofs.Later.{keeps_trans, bit-later, term-later, is_term-later, words_at-later}
 use Rattle.mem_terms.proofs.Made.{small_mod}
+use Rattle.access_terms.proofs.Stored.{each-take}
 use Rattle.run_terms.specs.declared.state.Tally.{Tally}
 use Rattle.run_terms.specs.declared.state.RunState.{RunState}
-use Rattle.run_terms.specs.Runs.{Scene, Sees, IsState, IsTally, Counts, Carries, Visit, fits_from, sight}
+use Rattle.run_terms.specs.Runs.{Scene, Sees, IsState, IsTally, Counts, MatchesState, Visit, fits_from, sight}
 use Rattle.run_terms.proofs.Cutting.{narrow}
 use Rattle.run_terms.proofs.Pointing.{chosen_block, names_given}
 
 abbrev pub chosen_number : List ℕ → Machine → ℕ → ℕ
 chosen_number tape m n = next_word tape m 0 % 2 ^ n
-
-and_assoc : (a b c : Bool) → ((a && b) && c) ≡ (a && (b && c))
-and_assoc true b c = refl
-and_assoc false b c = refl
-
-and_true : (b : Bool) → (b && true) ≡ b
-and_true true = refl
-and_true false = refl
 
 equal_self : (n : ℕ) → nat_eq n n ≡ true
 equal_self n = grind (arith, nat_tests)
@@ -41,7 +35,7 @@ fits-append tape k (c ∷ cs) ds =
     ∙ sym (and_assoc (nat_eq (slice_index tape k) c) (fits_from tape (k + 1) cs) (fits_from tape (k + suc (length cs)) ds))
 
 pub fits-push : (tape : List ℕ) (k : ℕ) (cs : List ℕ) (c : ℕ) → fits_from tape k (cs ++ c ∷ []) ≡ (fits_from tape k cs && nat_eq (slice_index tape (k + length cs)) c)
-fits-push tape k cs c = fits-append tape k cs (c ∷ []) ∙ ap (λ b. fits_from tape k cs && b) (and_true (nat_eq (slice_index tape (k + length cs)) c))
+fits-push tape k cs c = fits-append tape k cs (c ∷ []) ∙ ap (λ b. fits_from tape k cs && b) (and-true (nat_eq (slice_index tape (k + length cs)) c))
 
 near_index : (f : TermId → ℕ) (xs : List TermId) (n i : ℕ) → i < n → slice_index (map f (take n xs)) i ≡ slice_index (map f xs) i
 near_index f [] zero i lt = refl
@@ -52,23 +46,15 @@ near_index f (x ∷ xs) (suc n) (suc i) lt = near_index f xs n i (omega arith)
 
 -- ---- a number
 
-module _ (old new : List Term) (tape near : List TermId) (number read fits oread ofits taken : TermId) (n most : ℕ) where
+module _ (old new : List Term) (tape near : List TermId) (number read fits oread ofits taken : TermId) (n words_bound : ℕ) where
   abbrev word : (ℕ → ℕ → ℕ) → ℕ
   word v = slice_index (words_at v old near) (term_at v old oread)
 
-  pub choice_stays : Makes new read 64 (λ v. cond (bit_at v old taken) ((term_at v old oread + 1) % 2 ^ 64) (term_at v old oread))
-      → Tests new fits (λ v. bit_at v old ofits && (not (bit_at v old taken) || nat_eq (word v) (word v % 2 ^ n % 2 ^ 64)))
-      → (g : Scene) (ts : List ℕ) → bit_at g.v old taken ≡ false → Counts g old (record { read = oread; fits = ofits }) ts → Counts g new (record { read = read; fits = fits }) ts
-  choice_stays mr tf g ts none k = record {
-    read = mr.says g.v ∙ rw none k.read;
-    fits = tf.says g.v ∙ rw none (and_true (bit_at g.v old ofits) ∙ k.fits);
-  }
-
-  pub choice_taken : n ≤ 64 → most + 1 < 2 ^ 64 → near ≡ take (most + 1) tape
+  pub choice_taken : n ≤ 64 → words_bound + 1 < 2 ^ 64 → near ≡ take (words_bound + 1) tape
       → Makes new number 64 (λ v. word v % 2 ^ n % 2 ^ 64)
       → Makes new read 64 (λ v. cond (bit_at v old taken) ((term_at v old oread + 1) % 2 ^ 64) (term_at v old oread))
       → Tests new fits (λ v. bit_at v old ofits && (not (bit_at v old taken) || nat_eq (word v) (word v % 2 ^ n % 2 ^ 64)))
-      → (g : Scene) (m : Machine) → Sees g old tape → bit_at g.v old taken ≡ true → length m.taken ≤ most → Counts g old (record { read = oread; fits = ofits }) m.taken
+      → (g : Scene) (m : Machine) → Sees g old tape → bit_at g.v old taken ≡ true → length m.taken ≤ words_bound → Counts g old (record { read = oread; fits = ofits }) m.taken
       → Counts g new (record { read = read; fits = fits }) (m.taken ++ chosen_number g.tape m n ∷ []) × (term_at g.v new number ≡ chosen_number g.tape m n)
   choice_taken small room is mn mr tf g m sees held within k =
       let r = length m.taken in
@@ -77,7 +63,7 @@ module _ (old new : List Term) (tape near : List TermId) (number read fits oread
       let w : word g.v ≡ next_word g.tape m 0 =
       ap (λ i. slice_index (words_at g.v old near) i) k.read
       ∙ (ap (λ (ns : List TermId). slice_index (words_at g.v old ns) r) is
-      ∙ (near_index (term_at g.v old) tape (most + 1) r (omega (arith, within)) ∙ (ap (λ ws. slice_index ws r) sees ∙ ap (slice_index g.tape) here))) in
+      ∙ (near_index (term_at g.v old) tape (words_bound + 1) r (omega (arith, within)) ∙ (ap (λ ws. slice_index ws r) sees ∙ ap (slice_index g.tape) here))) in
       let whole : word g.v % 2 ^ n % 2 ^ 64 ≡ c = ap (λ x. x % 2 ^ n % 2 ^ 64) w ∙ narrow (next_word g.tape m 0) n small in
       let e_read : cond (bit_at g.v old taken) ((term_at g.v old oread + 1) % 2 ^ 64) (term_at g.v old oread) ≡ (r + 1) % 2 ^ 64 = rw (held, k.read) refl in
       let count : (r + 1) % 2 ^ 64 ≡ length (m.taken ++ c ∷ []) = small_mod (r + 1) (2 ^ 64) (omega (arith, room, within)) ∙ omega (arith, length-append m.taken (c ∷ [])) in
@@ -97,11 +83,6 @@ number_value a b poison number v x within k t e = rw (t.says v, term-later a b k
 
 -- ---- a pointer
 
-each-take : {A : Type 0} (P : A → Type 0) (n : ℕ) (xs : List A) → Each P xs → Each P (take n xs)
-each-take P zero xs h = tt
-each-take P (suc n) [] h = tt
-each-take P (suc n) (x ∷ xs) h = (h.0, each-take P n xs h.1)
-
 word_below : (terms : List Term) → AreInRange terms → (v : ℕ → ℕ → ℕ) (ws : List TermId) → AreWords terms ws → (i : ℕ) → slice_index (words_at v terms ws) i < 2 ^ 64
 word_below terms range v [] h i = omega arith
 word_below terms range v (w ∷ ws) h zero = rw h.0.wide at (range v w h.0.within)
@@ -119,7 +100,7 @@ module _ (old a b d e : List Term) (tally : Tally) (taken first block read fits 
   pub pointer_stays : (g : Scene) (made : List ℕ) → bit_at g.v old taken ≡ false → Counts g old tally made → Counts g e (record { read = read; fits = fits }) made
   pointer_stays g made none k = record {
     read = term-later b e kbe g.v read mr.within ∙ (mr.says g.v ∙ rw (bit-later old a ka g.v taken hk.within, none, term-later old a ka g.v tally.read ht.read.within) k.read);
-    fits = bit-later d e ke g.v fits tf.within ∙ (tf.says g.v ∙ rw (bit-later old b kab g.v taken hk.within, none, bit-later old b kab g.v tally.fits ht.fits.within) (and_true (bit_at g.v old tally.fits) ∙ k.fits));
+    fits = bit-later d e ke g.v fits tf.within ∙ (tf.says g.v ∙ rw (bit-later old b kab g.v taken hk.within, none, bit-later old b kab g.v tally.fits ht.fits.within) (and-true (bit_at g.v old tally.fits) ∙ k.fits));
   }
 
   pointer_counts : (g : Scene) (made : List ℕ) (x y : ℕ) → length made + 2 < 2 ^ 64 → bit_at g.v old taken ≡ true → Counts g old tally made
@@ -130,7 +111,7 @@ module _ (old a b d e : List Term) (tally : Tally) (taken first block read fits 
       let second : (nat_eq (slice_index g.tape (length made + 1)) y && true) ≡ true = rw ey (ap (λ b. b && true) (equal_self y)) in
       let from : 0 + length made ≡ length made = omega arith in
       let both : fits_from g.tape (0 + length made) (x ∷ y ∷ []) ≡ nat_eq (slice_index g.tape (length made)) x =
-      ap (λ i. fits_from g.tape i (x ∷ y ∷ [])) from ∙ (ap (λ b. nat_eq (slice_index g.tape (length made)) x && b) second ∙ and_true (nat_eq (slice_index g.tape (length made)) x)) in
+      ap (λ i. fits_from g.tape i (x ∷ y ∷ [])) from ∙ (ap (λ b. nat_eq (slice_index g.tape (length made)) x && b) second ∙ and-true (nat_eq (slice_index g.tape (length made)) x)) in
       let whole : (fits_from g.tape 0 made && nat_eq (slice_index g.tape (length made)) x) ≡ fits_from g.tape 0 (made ++ x ∷ y ∷ []) =
       sym (fits-append g.tape 0 made (x ∷ y ∷ []) ∙ ap (λ b. fits_from g.tape 0 made && b) both) in
       record {
@@ -140,7 +121,7 @@ module _ (old a b d e : List Term) (tally : Tally) (taken first block read fits 
 
   -- the words after those that were read, and the block that the first names
   module _ (t1 t2 t3 t4 : List Term) (tape near : List TermId) (one next offset : TermId) (s : RunState) (n : ℕ) (hs : IsState old s) (range : AreInRange old) (words : AreWords old tape) (near_is : near ≡ take n tape)
-      (k1 : Keeps old t1) (k2 : Keeps t1 t2) (k3 : Keeps t2 t3) (k4 : Keeps t3 t4) (k5 : Keeps t4 a) (room : s.most + 2 < 2 ^ 64) (enough : s.most + 1 < n) (same : s.tally ≡ tally)
+      (k1 : Keeps old t1) (k2 : Keeps t1 t2) (k3 : Keeps t2 t3) (k4 : Keeps t3 t4) (k5 : Keeps t4 a) (room : s.words_bound + 2 < 2 ^ 64) (enough : s.words_bound + 1 < n) (same : s.tally ≡ tally)
       (m1 : Makes t1 first 64 (λ v. slice_index (words_at v old near) (term_at v old tally.read)))
       (m2 : Makes t2 one 64 (λ _. 1))
       (m3 : Makes t3 next (width_of (tree_in t2 tally.read)) (λ v. (term_at v t2 tally.read + term_at v t2 one) % 2 ^ width_of (tree_in t2 tally.read)))
@@ -159,7 +140,7 @@ module _ (old a b d e : List Term) (tally : Tally) (taken first block read fits 
     k1b = keeps_trans t1 a b (keeps_trans t1 t4 a k14 k5) kb
 
     near_words : AreWords old near
-    near_words = subst (AreWords old) (sym near_is) (each-take (IsTerm old 64) n tape words)
+    near_words = subst (AreWords old) (sym near_is) (each-take (IsTerm old 64) tape n words)
 
     near_at : (g : Scene) (i : ℕ) → Sees g old tape → i < n → slice_index (words_at g.v old near) i ≡ slice_index g.tape i
     near_at g i sees lt = ap (λ (ns : List TermId). slice_index (words_at g.v old ns) i) near_is ∙ (near_index (term_at g.v old) tape n i lt ∙ ap (λ ws. slice_index ws i) sees)
@@ -177,26 +158,26 @@ module _ (old a b d e : List Term) (tally : Tally) (taken first block read fits 
 
     pub pointer_takes : (value : SymValue)
         → ((r : Reading) → value_at r e value ≡ Ptr (record { block = r.name (term_at r.v d block); offset = term_at r.v d offset }))
-        → (g : Scene) (at : Visit) (m : Machine) → Sees g old tape → bit_at g.v old taken ≡ true → Carries g old at s m
+        → (g : Scene) (at : Visit) (m : Machine) → Sees g old tape → bit_at g.v old taken ≡ true → MatchesState g old at s m
         → Counts g e (record { read = read; fits = fits }) (m.taken ++ block_number (given_or_null m.memory (next_word g.tape m 0 % 65536)) ∷ next_word g.tape m 1 % 2 ^ 64 ∷ [])
         × (value_at (sight g) e value ≡ Ptr (record { block = given_or_null m.memory (next_word g.tape m 0 % 65536); offset = next_word g.tape m 1 % 2 ^ 64 }))
     pointer_takes value stands g at m sees held h =
         let r = length m.taken in
-        let most = h.most in
+        let words_bound = h.words_bound in
         let counts : Counts g old tally m.taken = subst (λ (t : Tally). Counts g old t m.taken) same h.tally in
-        let small : r + 1 < 2 ^ 64 = omega (arith, room, most) in
+        let small : r + 1 < 2 ^ 64 = omega (arith, room, words_bound) in
         let here : r + 0 ≡ r = omega arith in
         let low = next_word g.tape m 0 % 65536 in
-        let e_first : term_at g.v t1 first ≡ slice_index g.tape r = first_is g r sees (omega (arith, enough, most)) counts.read in
+        let e_first : term_at g.v t1 first ≡ slice_index g.tape r = first_is g r sees (omega (arith, enough, words_bound)) counts.read in
         let e_low : term_at g.v t4 first % 65536 ≡ low = ap (λ x. x % 65536) (term-later t1 t4 k14 g.v first m1.within ∙ (e_first ∙ sym (ap (slice_index g.tape) here))) in
         let e_block : term_at g.v a block ≡ cond (nat_le low g.given) low 0 = m5.says g.v ∙ rw (e_low, h.given) refl in
         let named = names_given g old s.memory low hs.memory h.given in
         let there = chosen_block m.memory g.given low (rw h.memory at named) in
         let below : slice_index g.tape (r + 1) < 2 ^ 64 = rw sees at (word_below old range g.v tape words (r + 1)) in
         let e_word : slice_index g.tape (r + 1) ≡ next_word g.tape m 1 % 2 ^ 64 = sym (small_mod (slice_index g.tape (r + 1)) (2 ^ 64) below) in
-        let e_offset : term_at g.v t4 offset ≡ next_word g.tape m 1 % 2 ^ 64 = offset_is g r sees (omega (arith, enough, most)) small counts.read ∙ e_word in
+        let e_offset : term_at g.v t4 offset ≡ next_word g.tape m 1 % 2 ^ 64 = offset_is g r sees (omega (arith, enough, words_bound)) small counts.read ∙ e_word in
         let kad = keeps_trans a b d kb kd in (
-          pointer_counts g m.taken (block_number (given_or_null m.memory low)) (next_word g.tape m 1 % 2 ^ 64) (omega (arith, room, most)) held counts
+          pointer_counts g m.taken (block_number (given_or_null m.memory low)) (next_word g.tape m 1 % 2 ^ 64) (omega (arith, room, words_bound)) held counts
               (term-later t1 b k1b g.v first m1.within ∙ e_first) (term-later a b kb g.v block m5.within ∙ (e_block ∙ there.1)) e_word,
           stands (sight g) ∙ rw (term-later a d kad g.v block m5.within, e_block, there.0, term-later t4 d (keeps_trans t4 a d k5 kad) g.v offset m4.within, e_offset) refl,
         )

@@ -1,11 +1,9 @@
 -- A run through one copy, and through all.
 use Rattle.std.proofs.Common.{ℕ, zero, suc, ◌≡◌, ◌<◌, ◌≤◌, ◌+◌, Bool, true, false, not, ◌&&◌, nat_eq, nat_le, if◌then◌else◌, List, [], ◌∷◌, ◌++◌, length, map, drop, get_or, Option, Some, None, IfSome, ◌⊎◌, inl, inr, refl, ap, sym, subst, ◌∙◌, arith}
 use Rattle.std.specs.Prelude.{slice_get, slice_set}
-use Rattle.std.specs.List.{All}
-use Rattle.std.proofs.lemmas.List.Elements.{All-get_or}
 use Rattle.std.proofs.lemmas.Bool.{cases_Bool, cases_lt, lt-leb, le-leb, eqb-true, eqb-false}
-use Rattle.std.proofs.lemmas.Option.{slice_get_past, slice_get_within, get_or_from_slice_get}
-use Rattle.std.proofs.lemmas.List.{drop_more, drop_all}
+use Rattle.std.proofs.lemmas.Option.{slice_get_past, slice_get_within}
+use Rattle.std.proofs.lemmas.List.{drop_more, drop_all, length-set}
 use Rattle.ir_tree.specs.declared.tree.Inst.{Inst}
 use Rattle.ir_tree.specs.declared.tree.Phi.{Phi}
 use Rattle.ir_tree.specs.declared.tree.Terminator.{Terminator}
@@ -13,6 +11,7 @@ use Rattle.ir_tree.specs.declared.tree.Block.{Block}
 use Rattle.ir_tree.specs.declared.tree.Function.{Function}
 use Rattle.ir_tree.specs.Flow.{targets, block_of, successors}
 use Rattle.ir_tree.specs.Limits.{HasSmallObjects, CanRun, HasSmallNumbers, FitsReturn, ReturnsFit}
+use Rattle.ir_tree.proofs.Definers.{all_at}
 use Rattle.ir_tree.proofs.Indexing.{places_of}
 use Rattle.points.specs.declared.machine.Machine.{Machine}
 use Rattle.points.specs.declared.outcome.Outcome.TheVariants.{Ub}
@@ -24,16 +23,16 @@ use Rattle.bv_terms.specs.declared.term.TermId.{TermId}
 use Rattle.bv_terms.specs.declared.term.Term.{Term}
 use Rattle.bv_terms.specs.Trees.{Keeps, Tests, bit_at}
 use Rattle.mem_terms.specs.Values.{Each}
-use Rattle.mem_terms.specs.Inputs.{AreWords}
 use Rattle.mem_terms.proofs.Eaches.{each-set}
 use Rattle.mem_terms.proofs.Later.{keeps_self, keeps_trans, bit-later}
 use Rattle.run_terms.specs.declared.state.RunState.{RunState}
+use Rattle.run_terms.specs.declared.ending.Ending.{Ending}
 use Rattle.run_terms.specs.declared.frontier.Frontier.{Frontier}
 use Rattle.run_terms.specs.declared.setting.Setting.{Setting}
-use Rattle.run_terms.specs.Runs.{Scene, Sees, IsState, Counts, Carries, Course, Idle, Dead, Live, Visit, advanced, shape_of, steps, Follows, visit_of}
-use Rattle.run_terms.specs.Frontier.{AreStates, IsUnreached, AheadTells, HaveShape, IsFrontier, HasShape, Tells, Moves, AreByLabel, IsCopyIn, ending_shape, entering, arrived, placed, shape_in}
-use Rattle.run_terms.proofs.Lasting.{each-get, counts-later, carries-later, tells-later}
-use Rattle.run_terms.proofs.Reached.{set_length, set_other, changed_tells, passes_taken}
+use Rattle.run_terms.specs.Runs.{Scene, IsState, MatchesState, Course, Idle, Dead, Live, Steps, Visit, advanced, shape_of, steps, MatchesCourse, visit_of}
+use Rattle.run_terms.specs.Frontier.{AreStates, Ends, IsUnreached, MatchesAhead, HaveShape, IsFrontier, HasShape, MatchesFrontier, Simulates, AreByLabel, IsCopyIn, entering, arrived, placed, shape_in}
+use Rattle.run_terms.proofs.Lasting.{each-get, counts-later, states-later, matches_ahead-later, matches_state-later, matches_frontier-later}
+use Rattle.run_terms.proofs.Reached.{set_other, changed_ahead, passes_taken}
 
 -- ---- the instructions of a block and its end
 
@@ -70,61 +69,60 @@ unfolding steps exit_insts
 comes no_undef [] end tape m = inr (m, refl, refl)
 comes no_undef (i ∷ is) end tape m = comes_by no_undef i is end tape m (act i tape m) refl (comes no_undef is end tape)
 
-module _ (old a b d new : List Term) (ka : Keeps old a) (kb : Keeps a b) (kd : Keeps b d) (before between after : Frontier) (hb : IsFrontier old before) (tape : List TermId) (words : AreWords old tape)
-    (entry s : RunState) (he : IsState old entry) (hs : IsState a s) (block : Block) (no_undef : Bool) (undefined : TermId) (visit : Visit) (place : Exit → Where) where
-  pub copy_moves : ((g : Scene) (c : Course) → Sees g old tape → Follows g old visit entry c → Follows g a visit s (steps block.insts g.tape c))
-      → Tests b undefined (λ v. bit_at v a entry.alive && not (bit_at v a s.alive))
-      → ((g : Scene) (at : Option Where) → bit_at g.v b undefined ≡ false → Tells g b before at → Tells g d between at)
-      → ((g : Scene) (made : List ℕ) → bit_at g.v b undefined ≡ true → Counts g b s.tally made → Tells g b before None → Tells g d between (Some (Done (record { outcome = Ub; taken = made }))))
-      → ((r : Run) → place (Over r) ≡ Done r)
-      → (g : Scene) → Sees g old tape
-      → Moves g d new between after s.alive visit s (λ (m : Machine). place (exit_by no_undef block.terminator g.tape m))
-      → Moves g old new before after entry.alive visit entry (λ (m : Machine). place (exit_insts no_undef block.insts block.terminator g.tape m))
-  copy_moves run t st go over g sees last =
-      let kab = keeps_trans old a b ka kb in
-      let kad = keeps_trans a b d kb kd in
-      let und : bit_at g.v b undefined ≡ (bit_at g.v old entry.alive && not (bit_at g.v a s.alive)) = t.says g.v ∙ ap (λ x. x && not (bit_at g.v a s.alive)) (bit-later old a ka g.v entry.alive he.alive.within) in
-      record {
-        stays = λ at none sh.
-            let idle = run g Idle sees none in
-            let sh' : Tells g b before at = tells-later old b kab g before at hb sh in
-            let off : bit_at g.v a s.alive ≡ false = idle_is none idle in
-            last.stays at (bit-later a d kad g.v s.alive hs.alive.within ∙ off) (st g at (und ∙ rw none refl) sh');
-        goes = λ m held h sh.
-            let sh' : Tells g b before None = tells-later old b kab g before None hb sh in
-            let follows = run g (Live m) sees (held, h) in
-            elim (comes no_undef block.insts block.terminator g.tape m) [
-              | inl e ↦ dies m held sh' e.0 e.1 e.2 follows und
-              | inr e ↦ lives m held sh' e.0 e.1 e.2 follows und
-            ];
-      }
+module _ {old a b d : List Term} {on : Scene → Visit → Type 0} {before : Frontier} {ending : Ending} {undefined : TermId} (ka : Keeps old a) (kb : Keeps a b) (kd : Keeps b d) (hb : IsFrontier old before) (entry s : RunState) (he : IsState old entry) (block : Block) (no_undef : Bool) (place : Exit → Where)
+    (run : Steps on old a entry s (steps block.insts)) (t : Tests b undefined (λ v. bit_at v a entry.alive && not (bit_at v a s.alive))) (ends : Ends b d before.ending ending undefined s.tally (λ g. Ub)) where
+  kab : Keeps old b
+  kab = keeps_trans old a b ka kb
+
+  kad : Keeps a d
+  kad = keeps_trans a b d kb kd
+
+  -- a copy is run from its entry: an instruction is undefined, or its terminator is come to
+  pub simulates_copy : {new : List Term} {after : Frontier} (g : Scene) (visit : Visit) → on g visit → ((r : Run) → place (Over r) ≡ Done r)
+      → Simulates g d new (record before { ending = ending }) after (bit_at g.v d s.alive) visit s (λ (m : Machine). place (exit_by no_undef block.terminator g.tape m))
+      → Simulates g old new before after (bit_at g.v old entry.alive) visit entry (λ (m : Machine). place (exit_insts no_undef block.insts block.terminator g.tape m))
+  simulates_copy {new = new} {after = after} g visit here over last = record {
+    stays = λ at none there.
+        let off = subst (λ (c : Course). MatchesCourse g a visit s c) (steps_idle block.insts g.tape) (run.matches g visit Idle here none) in
+        last.stays at (alive_is ∙ off) (left_out at (und_is false false none off) there);
+    goes = λ m held at none.
+        let follows = run.matches g visit (Live m) here (held, at) in
+        elim (comes no_undef block.insts block.terminator g.tape m) [
+          | inl e ↦ dies m held none e.0 e.1 e.2 follows
+          | inr e ↦ lives m held none e.0 e.1 e.2 follows
+        ];
+  }
     where
-      idle_is : bit_at g.v old entry.alive ≡ false → Follows g a visit s (steps block.insts g.tape Idle) → bit_at g.v a s.alive ≡ false
-      idle_is none h = subst (λ (c : Course). Follows g a visit s c) (steps_idle block.insts g.tape) h
+      alive_is : bit_at g.v d s.alive ≡ bit_at g.v a s.alive
+      alive_is = bit-later a d kad g.v s.alive run.state.alive.within
 
-      und_is : bit_at g.v b undefined ≡ (bit_at g.v old entry.alive && not (bit_at g.v a s.alive)) → (x y : Bool) → bit_at g.v old entry.alive ≡ x → bit_at g.v a s.alive ≡ y → bit_at g.v b undefined ≡ (x && not y)
-      und_is und x y ex ey = und ∙ rw (ex, ey) refl
+      und_is : (x y : Bool) → bit_at g.v old entry.alive ≡ x → bit_at g.v a s.alive ≡ y → bit_at g.v b undefined ≡ (x && not y)
+      und_is x y ex ey = t.says g.v ∙ rw (bit-later old a ka g.v entry.alive he.alive.within, ex, ey) refl
 
-      dies : (m : Machine) → bit_at g.v old entry.alive ≡ true → Tells g b before None → (n : Machine) → steps block.insts g.tape (Live m) ≡ Dead n
-          → exit_insts no_undef block.insts block.terminator g.tape m ≡ Over (ended Ub n) → Follows g a visit s (steps block.insts g.tape (Live m))
-          → bit_at g.v b undefined ≡ (bit_at g.v old entry.alive && not (bit_at g.v a s.alive))
-          → Tells g new after (Some (place (exit_insts no_undef block.insts block.terminator g.tape m)))
-      dies m held sh' n is exit follows und =
-          let dead = subst (λ (c : Course). Follows g a visit s c) is follows in
-          let k : Counts g b s.tally n.taken = counts-later a b kb g s.tally n.taken hs.tally dead.1 in
-          let over' : place (exit_insts no_undef block.insts block.terminator g.tape m) ≡ Done (ended Ub n) = ap place exit ∙ over (ended Ub n) in
-          subst (λ (w : Where). Tells g new after (Some w)) (sym over')
-          (last.stays (Some (Done (ended Ub n))) (bit-later a d (keeps_trans a b d kb kd) g.v s.alive hs.alive.within ∙ dead.0) (go g n.taken (und_is und true false held dead.0) k sh'))
+      left_out : (at : Option Where) → bit_at g.v b undefined ≡ false → MatchesFrontier g old before at → MatchesFrontier g d (record before { ending = ending }) at
+      left_out at none there =
+          let later = matches_frontier-later old b kab g before at hb there in
+          record { ahead = matches_ahead-later b d kd g before.ahead at (states-later old b kab before.ahead hb.ahead) later.ahead; ending = ends.stays g at none later.ending }
 
-      lives : (m : Machine) → bit_at g.v old entry.alive ≡ true → Tells g b before None → (n : Machine) → steps block.insts g.tape (Live m) ≡ Live n
-          → exit_insts no_undef block.insts block.terminator g.tape m ≡ exit_by no_undef block.terminator g.tape n → Follows g a visit s (steps block.insts g.tape (Live m))
-          → bit_at g.v b undefined ≡ (bit_at g.v old entry.alive && not (bit_at g.v a s.alive))
-          → Tells g new after (Some (place (exit_insts no_undef block.insts block.terminator g.tape m)))
-      lives m held sh' n is exit follows und =
-          let kad = keeps_trans a b d kb kd in
-          let live = subst (λ (c : Course). Follows g a visit s c) is follows in
-          subst (λ (w : Where). Tells g new after (Some w)) (sym (ap place exit))
-          (last.goes n (bit-later a d kad g.v s.alive hs.alive.within ∙ live.0) (carries-later a d kad g visit s n hs live.1) (st g None (und_is und true true held live.0) sh'))
+      dies : (m : Machine) → bit_at g.v old entry.alive ≡ true → MatchesFrontier g old before None → (n : Machine) → steps block.insts g.tape (Live m) ≡ Dead n
+          → exit_insts no_undef block.insts block.terminator g.tape m ≡ Over (ended Ub n) → MatchesCourse g a visit s (steps block.insts g.tape (Live m))
+          → MatchesFrontier g new after (Some (place (exit_insts no_undef block.insts block.terminator g.tape m)))
+      dies m held none n is exit follows =
+          let dead = subst (λ (c : Course). MatchesCourse g a visit s c) is follows in
+          let later = matches_frontier-later old b kab g before None hb none in
+          subst (λ (w : Where). MatchesFrontier g new after (Some w)) (sym (ap place exit ∙ over (ended Ub n)))
+          (last.stays (Some (Done (ended Ub n))) (alive_is ∙ dead.0) (record {
+            ahead = matches_ahead-later b d kd g before.ahead None (states-later old b kab before.ahead hb.ahead) later.ahead;
+            ending = ends.goes g n.taken (und_is true false held dead.0) (counts-later a b kb g s.tally n.taken run.state.tally dead.1) later.ending;
+          }))
+
+      lives : (m : Machine) → bit_at g.v old entry.alive ≡ true → MatchesFrontier g old before None → (n : Machine) → steps block.insts g.tape (Live m) ≡ Live n
+          → exit_insts no_undef block.insts block.terminator g.tape m ≡ exit_by no_undef block.terminator g.tape n → MatchesCourse g a visit s (steps block.insts g.tape (Live m))
+          → MatchesFrontier g new after (Some (place (exit_insts no_undef block.insts block.terminator g.tape m)))
+      lives m held none n is exit follows =
+          let live = subst (λ (c : Course). MatchesCourse g a visit s c) is follows in
+          subst (λ (w : Where). MatchesFrontier g new after (Some w)) (sym (ap place exit))
+          (last.goes n (alive_is ∙ live.0) (matches_state-later a d kad g visit s n run.state live.1) (left_out None (und_is true true held live.0) none))
 
 -- ---- the copy of a number
 
@@ -162,54 +160,54 @@ placed_elsewhere f copies k n m apart = by (nat_le k n) (entering f (slice_get c
     by true (Some e) = apart
     by false o = tt
 
-unreached_here : (g : Scene) (terms : List Term) (ahead : List (Option RunState)) (k : ℕ) (known : Option RunState) (w : Where) → slice_get ahead k ≡ Some known → IsElsewhere k w → AheadTells g terms ahead (Some w) → IsUnreached g terms known
+unreached_here : (g : Scene) (terms : List Term) (ahead : List (Option RunState)) (k : ℕ) (known : Option RunState) (w : Where) → slice_get ahead k ≡ Some known → IsElsewhere k w → MatchesAhead g terms ahead (Some w) → IsUnreached g terms known
 unreached_here g terms ahead k known (At n m) is apart s =
     each-get (IsUnreached g terms) (slice_set ahead n None) k known s.others (set_other ahead n k None (λ e. apart (sym e)) ∙ is)
 unreached_here g terms ahead k known (Done run) is apart s = each-get (IsUnreached g terms) ahead k known s is
 
 -- what is known of the others, where the entry is taken out
-taken_out : (g : Scene) (old : List Term) (w : Frontier) (hw : IsFrontier old w) (k : ℕ) (known : Option RunState) (at : Where) → slice_get w.ahead k ≡ Some known → IsElsewhere k at → Tells g old w (Some at)
-    → Tells g old (record { ahead = slice_set w.ahead k None; ending = w.ending }) (Some at)
+taken_out : (g : Scene) (old : List Term) (w : Frontier) (hw : IsFrontier old w) (k : ℕ) (known : Option RunState) (at : Where) → slice_get w.ahead k ≡ Some known → IsElsewhere k at → MatchesFrontier g old w (Some at)
+    → MatchesFrontier g old (record { ahead = slice_set w.ahead k None; ending = w.ending }) (Some at)
 taken_out g old w hw k known at is apart s = record {
-  ahead = changed_tells old old (keeps_self old) w.ahead hw.ahead g k known None (Some at) (slice_get_within w.ahead k known is) is (passes_taken old g known (unreached_here g old w.ahead k known at is apart s.ahead)) s.ahead;
+  ahead = changed_ahead old old (keeps_self old) w.ahead hw.ahead g k known None (Some at) (slice_get_within w.ahead k known is) is (passes_taken old g known (unreached_here g old w.ahead k known at is apart s.ahead)) s.ahead;
   ending = s.ending;
 }
 
 -- a copy of which nothing is known is passed
 pub pass_unknown : (g : Scene) (old : List Term) (f : Function) (copies : List BlockCopy) (w : Frontier) (hw : IsFrontier old w) (k : ℕ) (copy : BlockCopy) (block : Block) (x : Where)
     → slice_get w.ahead k ≡ Some None → slice_get copies k ≡ Some copy → slice_get f.blocks copy.block ≡ Some block
-    → Tells g old w (Some (placed f copies k x)) → Tells g old (record { ahead = slice_set w.ahead k None; ending = w.ending }) (Some (placed f copies (k + 1) (pass_copy f k copy g.tape x)))
+    → MatchesFrontier g old w (Some (placed f copies k x)) → MatchesFrontier g old (record { ahead = slice_set w.ahead k None; ending = w.ending }) (Some (placed f copies (k + 1) (pass_copy f k copy g.tape x)))
 pass_unknown g old f copies w hw k copy block (Done run) none is found s = taken_out g old w hw k None (Done run) none tt s
 pass_unknown g old f copies w hw k copy block (At n m) none is found s = elim (cases_Bool (nat_eq k n)) [
   | inl t ↦ absurd (never (eqb-true k n t))
   | inr f' ↦ there f' (eqb-false k n f')
 ]
   where
-    there : nat_eq k n ≡ false → (k ≡ n → ⊥) → Tells g old (record { ahead = slice_set w.ahead k None; ending = w.ending }) (Some (placed f copies (k + 1) (pass_copy f k copy g.tape (At n m))))
+    there : nat_eq k n ≡ false → (k ≡ n → ⊥) → MatchesFrontier g old (record { ahead = slice_set w.ahead k None; ending = w.ending }) (Some (placed f copies (k + 1) (pass_copy f k copy g.tape (At n m))))
     there off apart =
         let stays : At n m ≡ pass_copy f k copy g.tape (At n m) = rw off refl in
-        subst (λ (y : Where). Tells g old (record { ahead = slice_set w.ahead k None; ending = w.ending }) (Some (placed f copies (k + 1) y))) stays
-        (subst (λ (y : Where). Tells g old (record { ahead = slice_set w.ahead k None; ending = w.ending }) (Some y)) (placed_further f copies k n m apart)
+        subst (λ (y : Where). MatchesFrontier g old (record { ahead = slice_set w.ahead k None; ending = w.ending }) (Some (placed f copies (k + 1) y))) stays
+        (subst (λ (y : Where). MatchesFrontier g old (record { ahead = slice_set w.ahead k None; ending = w.ending }) (Some y)) (placed_further f copies k n m apart)
         (taken_out g old w hw k None (placed f copies k (At n m)) none (placed_elsewhere f copies k n m apart) s))
 
     never : k ≡ n → ⊥
     never same =
         let at : placed f copies k (At n m) ≡ At k (entered block (record m { turn = copy.turn })) = ap (λ (i : ℕ). placed f copies k (At i m)) (sym same) ∙ placed_here f copies k copy block m is found in
-        let s' = subst (λ (y : Where). Tells g old w (Some y)) at s in
+        let s' = subst (λ (y : Where). MatchesFrontier g old w (Some y)) at s in
         let there = s'.ahead.is in
         let c : ⊥ = cc in c
 
 -- and one whose block is run from its entry
 pub pass_known : (g : Scene) (old new : List Term) (f : Function) (copies : List BlockCopy) (w after : Frontier) (hw : IsFrontier old w) (k : ℕ) (copy : BlockCopy) (block : Block) (entry : RunState) (x : Where)
     → slice_get w.ahead k ≡ Some (Some entry) → slice_get copies k ≡ Some copy → slice_get f.blocks copy.block ≡ Some block
-    → Moves g old new (record { ahead = slice_set w.ahead k None; ending = w.ending }) after entry.alive (record { label = block.label; turn = copy.turn }) entry (λ (m : Machine). placed f copies (k + 1) (left_by (targets block.terminator) copy.edges (exit_insts f.returns_no_undef block.insts block.terminator g.tape m)))
-    → Tells g old w (Some (placed f copies k x)) → Tells g new after (Some (placed f copies (k + 1) (pass_copy f k copy g.tape x)))
+    → Simulates g old new (record { ahead = slice_set w.ahead k None; ending = w.ending }) after (bit_at g.v old entry.alive) (record { label = block.label; turn = copy.turn }) entry (λ (m : Machine). placed f copies (k + 1) (left_by (targets block.terminator) copy.edges (exit_insts f.returns_no_undef block.insts block.terminator g.tape m)))
+    → MatchesFrontier g old w (Some (placed f copies k x)) → MatchesFrontier g new after (Some (placed f copies (k + 1) (pass_copy f k copy g.tape x)))
 pass_known g old new f copies w after hw k copy block entry (Done run) known is found move s =
     move.stays (Some (Done run)) (unreached_here g old w.ahead k (Some entry) (Done run) known tt s.ahead) (taken_out g old w hw k (Some entry) (Done run) known tt s)
 pass_known g old new f copies w after hw k copy block entry (At n m) known is found move s = elim (cases_Bool (nat_eq k n)) [
-  | inl t ↦ subst (λ (y : Where). Tells g new after (Some (placed f copies (k + 1) y))) (runs t) (here (eqb-true k n t))
-  | inr f' ↦ subst (λ (y : Where). Tells g new after (Some (placed f copies (k + 1) y))) (rests f')
-      (subst (λ (y : Where). Tells g new after (Some y)) (placed_further f copies k n m (eqb-false k n f')) (there (eqb-false k n f')))
+  | inl t ↦ subst (λ (y : Where). MatchesFrontier g new after (Some (placed f copies (k + 1) y))) (runs t) (here (eqb-true k n t))
+  | inr f' ↦ subst (λ (y : Where). MatchesFrontier g new after (Some (placed f copies (k + 1) y))) (rests f')
+      (subst (λ (y : Where). MatchesFrontier g new after (Some y)) (placed_further f copies k n m (eqb-false k n f')) (there (eqb-false k n f')))
 ]
   where
     runs : nat_eq k n ≡ true → left_by (targets block.terminator) copy.edges (exit_insts f.returns_no_undef block.insts block.terminator g.tape (entered block (record m { turn = copy.turn }))) ≡ pass_copy f k copy g.tape (At n m)
@@ -218,19 +216,19 @@ pass_known g old new f copies w after hw k copy block entry (At n m) known is fo
     rests : nat_eq k n ≡ false → At n m ≡ pass_copy f k copy g.tape (At n m)
     rests off = rw off refl
 
-    here : k ≡ n → Tells g new after (Some (placed f copies (k + 1) (left_by (targets block.terminator) copy.edges (exit_insts f.returns_no_undef block.insts block.terminator g.tape (entered block (record m { turn = copy.turn }))))))
+    here : k ≡ n → MatchesFrontier g new after (Some (placed f copies (k + 1) (left_by (targets block.terminator) copy.edges (exit_insts f.returns_no_undef block.insts block.terminator g.tape (entered block (record m { turn = copy.turn }))))))
     here same =
         let at : placed f copies k (At n m) ≡ At k (entered block (record m { turn = copy.turn })) = ap (λ (i : ℕ). placed f copies k (At i m)) (sym same) ∙ placed_here f copies k copy block m is found in
-        let s' = subst (λ (y : Where). Tells g old w (Some y)) at s in
+        let s' = subst (λ (y : Where). MatchesFrontier g old w (Some y)) at s in
         let stands = s'.ahead in
         let there = stands.is in
         let one : stands.entry ≡ entry = cc in
         move.goes (entered block (record m { turn = copy.turn })) (ap (λ (e : RunState). bit_at g.v old e.alive) (sym one) ∙ stands.alive)
-        (subst (λ (e : RunState). Carries g old (record { label = block.label; turn = copy.turn }) e (entered block (record m { turn = copy.turn }))) one
-        (subst (λ (v : Visit). Carries g old v stands.entry (entered block (record m { turn = copy.turn }))) (entered_visit block (record m { turn = copy.turn })) stands.carries))
+        (subst (λ (e : RunState). MatchesState g old (record { label = block.label; turn = copy.turn }) e (entered block (record m { turn = copy.turn }))) one
+        (subst (λ (v : Visit). MatchesState g old v stands.entry (entered block (record m { turn = copy.turn }))) (entered_visit block (record m { turn = copy.turn })) stands.matches))
         (record { ahead = stands.others; ending = s'.ending })
 
-    there : (k ≡ n → ⊥) → Tells g new after (Some (placed f copies k (At n m)))
+    there : (k ≡ n → ⊥) → MatchesFrontier g new after (Some (placed f copies k (At n m)))
     there apart =
         let other = placed_elsewhere f copies k n m apart in
         move.stays (Some (placed f copies k (At n m))) (unreached_here g old w.ahead k (Some entry) (placed f copies k (At n m)) known other s.ahead) (taken_out g old w hw k (Some entry) (placed f copies k (At n m)) known other s)
@@ -304,7 +302,7 @@ taken_frontier old w ahead k is h = record {
 pub taken_shape : (setting : Setting) (w : Frontier) (ahead : List (Option RunState)) (k : ℕ) → ahead ≡ slice_set w.ahead k None → HasShape setting w → HasShape setting (record { ahead = ahead; ending = w.ending })
 taken_shape setting w ahead k is h = record {
   ahead = subst (λ (xs : List (Option RunState)). HaveShape (shape_in setting) xs) (sym is) (each-set (λ (o : Option RunState). IfSome o (λ (s : RunState). shape_of s ≡ shape_in setting)) w.ahead k None h.ahead tt);
-  count = ap length is ∙ (set_length w.ahead k None ∙ h.count);
+  count = ap length is ∙ (length-set w.ahead k None ∙ h.count);
   ending = h.ending;
 }
 
@@ -315,12 +313,6 @@ pub entry_shape : (setting : Setting) (w : Frontier) (k : ℕ) (entry : RunState
 entry_shape setting w k entry is h = each-get (λ (o : Option RunState). IfSome o (λ (s : RunState). shape_of s ≡ shape_in setting)) w.ahead k (Some entry) h.ahead is
 
 -- ---- what a copy has of its function
-
-all_at : {A : Type 0} (P : A → Type 0) (xs : List A) (i : ℕ) (x : A) → All P xs → slice_get xs i ≡ Some x → P x
-all_at P xs i x h is =
-    let lt = slice_get_within xs i x is in
-    let e : get_or xs i x ≡ x = get_or_from_slice_get xs i x x is in
-    subst P e (All-get_or P xs i x lt h)
 
 pub fits_at : (f : Function) (at : ℕ) (block : Block) → ReturnsFit f → slice_get f.blocks at ≡ Some block → FitsReturn f.returns block.terminator
 fits_at f at block h is = all_at (λ (b : Block). FitsReturn f.returns b.terminator) f.blocks at block h is
@@ -337,10 +329,3 @@ labels_at f copy block h is =
     let there = h.is in
     let same : h.block ≡ block = cc in
     subst (λ (b : Block). AreByLabel (targets b.terminator) copy.edges) same h.edges
-
-pub shape_after : (setting : Setting) (w after : Frontier) → after.ahead ≡ w.ahead → ending_shape after.ending ≡ ending_shape w.ending → HasShape setting w → HasShape setting after
-shape_after setting w after ahead ending h = record {
-  ahead = subst (λ (xs : List (Option RunState)). HaveShape (shape_in setting) xs) (sym ahead) h.ahead;
-  count = ap length ahead ∙ h.count;
-  ending = ending ∙ h.ending;
-}

@@ -1,6 +1,6 @@
 -- Where a run is between two copies, by what is known of the copies ahead and of how it ended.
 use Rattle.std.specs.Prelude.{◌≡◌, ℕ, ◌<◌, Bool, true, false, cond, is_some, nat_eq, nat_le, ◌%◌, if◌then◌else◌, List, length, map, All, Option, Some, None, IfSome, slice_get, slice_set}
-use Rattle.std.specs.List.{find}
+use Rattle.std.specs.List.{filter, find}
 use Rattle.std.specs.Option.{option_map, option_map_or}
 use Rattle.ir_tree.specs.declared.tree.IrType.{IrType}
 use Rattle.ir_tree.specs.declared.tree.Case.{Case}
@@ -19,20 +19,23 @@ use Rattle.points.specs.declared.machine.Machine.{Machine}
 use Rattle.points.specs.declared.outcome.Outcome.{Outcome}
 use Rattle.points.specs.declared.outcome.Outcome.TheVariants.{Return, Ub, Beyond}
 use Rattle.points.specs.declared.point.Input.{Input}
-use Rattle.points.specs.Run.{Run, ended, entered, breaks_noundef, first_machine}
+use Rattle.points.specs.Run.{Run, ended, entered, breaks_noundef, first_machine, is_given}
 use Rattle.unroll.specs.declared.layered.Edge.{Edge}
 use Rattle.unroll.specs.declared.layered.BlockCopy.{BlockCopy}
 use Rattle.unroll.specs.Layers.{Where, At, Done, along}
 use Rattle.bv_terms.specs.declared.term.TermId.{TermId}
 use Rattle.bv_terms.specs.declared.term.Term.{Term}
 use Rattle.bv_terms.specs.Trees.{IsTerm, bit_at}
+use Rattle.mem_terms.specs.declared.values.SymValue.{SymValue}
 use Rattle.mem_terms.specs.Values.{Each, IsSymValue, Reading, value_at}
 use Rattle.mem_terms.specs.Memory.{AreGivenBlocks, SymFrame, frame_of, frames_of, memory_at}
 use Rattle.run_terms.specs.declared.state.RunState.{RunState}
 use Rattle.run_terms.specs.declared.ending.Ending.{Ending}
 use Rattle.run_terms.specs.declared.setting.Setting.{Setting}
 use Rattle.run_terms.specs.declared.frontier.Frontier.{Frontier}
-use Rattle.run_terms.specs.Runs.{Scene, sight, IsTally, IsState, StateShape, shape_of, Visit, visit_of, Counts, Carries}
+use Rattle.run_terms.specs.declared.frontier.Leaving.{Leaving}
+use Rattle.run_terms.specs.declared.state.Tally.{Tally}
+use Rattle.run_terms.specs.Runs.{Scene, sight, IsTally, IsState, StateShape, shape_of, Visit, visit_of, Counts, MatchesState}
 
 -- ---- instructions
 
@@ -65,10 +68,30 @@ pub record NotEnded (g : Scene) (terms : List Term) (e : Ending) : Type 0 where
   pub ub : bit_at g.v terms e.ub ≡ false
   pub beyond : bit_at g.v terms e.beyond ≡ false
 
-abbrev pub EndTells : Scene → List Term → Ending → Option Where → Type 0
-EndTells g terms e None = NotEnded g terms e
-EndTells g terms e (Some (At n m)) = NotEnded g terms e
-EndTells g terms e (Some (Done run)) = EndedSo g terms e run
+-- the run returns the value, with the choices of the tally, and leaves the given blocks of the machine
+pub record IsReturned (g : Scene) (terms : List Term) (t : Tally) (value : Option SymValue) (m : Machine) (run : Run) : Type 0 where
+  pub tally : Counts g terms t run.taken
+  pub outcome : Return (option_map (value_at (sight g) terms) value) (filter is_given m.memory) ≡ run.outcome
+
+abbrev pub MatchesEnding : Scene → List Term → Ending → Option Where → Type 0
+MatchesEnding g terms e None = NotEnded g terms e
+MatchesEnding g terms e (Some (At n m)) = NotEnded g terms e
+MatchesEnding g terms e (Some (Done run)) = EndedSo g terms e run
+
+-- whether it has a value, and what is known of its given blocks
+pub record EndingShape : Type 0 where
+  pub valued : Bool
+  pub frames : List SymFrame
+
+abbrev pub ending_shape : Ending → EndingShape
+ending_shape e = record { valued = is_some e.value; frames = map frame_of e.blocks }
+
+-- where the condition holds a run that has not ended yet ends with the outcome, and with the choices of the tally; otherwise nothing changes
+pub record Ends (old new : List Term) (before after : Ending) (c : TermId) (t : Tally) (outcome : Scene → Outcome) : Type 0 where
+  pub made : IsEnding new after
+  pub shape : ending_shape after ≡ ending_shape before
+  pub stays : (g : Scene) (at : Option Where) → bit_at g.v old c ≡ false → MatchesEnding g old before at → MatchesEnding g new after at
+  pub goes : (g : Scene) (taken : List ℕ) → bit_at g.v old c ≡ true → Counts g old t taken → NotEnded g old before → EndedSo g new after (record { outcome = outcome g; taken = taken })
 
 -- ---- the copies ahead
 
@@ -83,17 +106,17 @@ abbrev pub IsUnreached : Scene → List Term → Option RunState → Type 0
 IsUnreached g terms entry = IfSome entry (λ (s : RunState). bit_at g.v terms s.alive ≡ false)
 
 -- the run is at the entry of the copy of a number, its phis done, and at no other
-pub record StandsAt (g : Scene) (terms : List Term) (ahead : List (Option RunState)) (n : ℕ) (m : Machine) : Type 0 where
+pub record MatchesEntry (g : Scene) (terms : List Term) (ahead : List (Option RunState)) (n : ℕ) (m : Machine) : Type 0 where
   pub entry : RunState
   pub is : slice_get ahead n ≡ Some (Some entry)
   pub alive : bit_at g.v terms entry.alive ≡ true
-  pub carries : Carries g terms (visit_of m) entry m
+  pub matches : MatchesState g terms (visit_of m) entry m
   pub others : Each (IsUnreached g terms) (slice_set ahead n None)
 
-abbrev pub AheadTells : Scene → List Term → List (Option RunState) → Option Where → Type 0
-AheadTells g terms ahead None = Each (IsUnreached g terms) ahead
-AheadTells g terms ahead (Some (At n m)) = StandsAt g terms ahead n m
-AheadTells g terms ahead (Some (Done run)) = Each (IsUnreached g terms) ahead
+abbrev pub MatchesAhead : Scene → List Term → List (Option RunState) → Option Where → Type 0
+MatchesAhead g terms ahead None = Each (IsUnreached g terms) ahead
+MatchesAhead g terms ahead (Some (At n m)) = MatchesEntry g terms ahead n m
+MatchesAhead g terms ahead (Some (Done run)) = Each (IsUnreached g terms) ahead
 
 -- ---- both
 
@@ -105,14 +128,6 @@ pub record IsFrontier (terms : List Term) (w : Frontier) : Type 0 where
 abbrev pub shape_in : Setting → StateShape
 shape_in s = record { names = length s.f.now.names; frames = frames_of s.layout.now }
 
--- whether it has a value, and what is known of its given blocks
-pub record EndingShape : Type 0 where
-  pub valued : Bool
-  pub frames : List SymFrame
-
-abbrev pub ending_shape : Ending → EndingShape
-ending_shape e = record { valued = is_some e.value; frames = map frame_of e.blocks }
-
 -- an entry for each copy, and states and an ending as the function has them
 pub record HasShape (s : Setting) (w : Frontier) : Type 0 where
   pub ahead : HaveShape (shape_in s) w.ahead
@@ -120,9 +135,9 @@ pub record HasShape (s : Setting) (w : Frontier) : Type 0 where
   pub ending : ending_shape w.ending ≡ record { valued = is_some s.f.now.returns; frames = frames_of s.layout.now }
 
 -- None is a run that has left one copy and isn't yet at another
-pub record Tells (g : Scene) (terms : List Term) (w : Frontier) (at : Option Where) : Type 0 where
-  pub ahead : AheadTells g terms w.ahead at
-  pub ending : EndTells g terms w.ending at
+pub record MatchesFrontier (g : Scene) (terms : List Term) (w : Frontier) (at : Option Where) : Type 0 where
+  pub ahead : MatchesAhead g terms w.ahead at
+  pub ending : MatchesEnding g terms w.ending at
 
 -- ---- where a jump leads
 
@@ -140,10 +155,28 @@ abbrev pub placed : Function → List BlockCopy → (from : ℕ) → Where → W
 placed f copies from (Done run) = Done run
 placed f copies from (At n m) = if nat_le from n then arrived n m (entering f (slice_get copies n) m) else Done (ended Ub m)
 
--- where the condition holds the run goes there from the state that it is in; otherwise nothing changes
-pub record Moves (g : Scene) (old new : List Term) (before after : Frontier) (c : TermId) (at : Visit) (s : RunState) (to : Machine → Where) : Type 0 where
-  pub stays : (at : Option Where) → bit_at g.v old c ≡ false → Tells g old before at → Tells g new after at
-  pub goes : (m : Machine) → bit_at g.v old c ≡ true → Carries g old at s m → Tells g old before None → Tells g new after (Some (to m))
+-- where this holds the run goes there from the state that it is in; otherwise nothing changes
+pub record Simulates (g : Scene) (old new : List Term) (before after : Frontier) (holds : Bool) (at : Visit) (s : RunState) (to : Machine → Where) : Type 0 where
+  pub stays : (at : Option Where) → holds ≡ false → MatchesFrontier g old before at → MatchesFrontier g new after at
+  pub goes : (m : Machine) → holds ≡ true → MatchesState g old at s m → MatchesFrontier g old before None → MatchesFrontier g new after (Some (to m))
+
+pub record IsLeaving (setting : Setting) (terms : List Term) (w : Frontier) (l : Leaving) : Type 0 where
+  pub frontier : IsFrontier terms w
+  pub shape : HasShape setting w
+  pub state : IsState terms l.state.now
+  pub fits : shape_of l.state.now ≡ shape_in setting
+  pub c : IsTerm terms 1 l.c
+
+-- the frontier after is one of the same shape, and the leaving run goes there, in scenes where `on` holds
+pub record Leaves (on : Scene → Type 0) (setting : Setting) (l : Leaving) (old new : List Term) (before after : Frontier) (to : Scene → Machine → Where) : Type 0 where
+  pub frontier : IsFrontier new after
+  pub shape : HasShape setting after
+  pub simulates : (g : Scene) (turn : ℕ) → on g
+      → Simulates g old new before after (bit_at g.v old l.c) (record { label = l.label; turn = turn }) l.state.now (λ m. placed setting.f.now setting.copies.now l.ahead (to g m))
+
+-- in every scene
+abbrev pub Everywhere : Scene → Type 0
+Everywhere g = Unit {0}
 
 -- a run begins at the first copy, unless an argument breaks `noundef`
 abbrev pub first_place : Function → Input → Where

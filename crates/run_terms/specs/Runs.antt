@@ -89,12 +89,12 @@ abbrev pub visit_of : Machine → Visit
 visit_of m = record { label = m.block; turn = m.turn }
 
 -- the state of the run there
-pub record Carries (g : Scene) (terms : List Term) (at : Visit) (s : RunState) (m : Machine) : Type 0 where
+pub record MatchesState (g : Scene) (terms : List Term) (at : Visit) (s : RunState) (m : Machine) : Type 0 where
   pub registers : values_at (sight g) terms s.registers ≡ m.registers
   pub given : s.memory.given ≡ g.given
   pub memory : memory_at (sight g) terms s.memory.blocks ≡ m.memory
   pub tally : Counts g terms s.tally m.taken
-  pub most : length m.taken ≤ s.most
+  pub words_bound : length m.taken ≤ s.words_bound
   pub visit : visit_of m ≡ at
 
 -- ---- the instructions of a block
@@ -118,7 +118,18 @@ unfoldable pub steps : List Inst → List ℕ → Course → Course
 steps [] tape c = c
 steps (inst ∷ insts) tape c = steps insts tape (stepped inst tape c)
 
-abbrev pub Follows : Scene → List Term → Visit → RunState → Course → Type 0
-Follows g terms at s Idle = bit_at g.v terms s.alive ≡ false
-Follows g terms at s (Dead m) = (bit_at g.v terms s.alive ≡ false) × Counts g terms s.tally m.taken
-Follows g terms at s (Live m) = (bit_at g.v terms s.alive ≡ true) × Carries g terms at s m
+-- the state of the run along that course
+abbrev pub MatchesCourse : Scene → List Term → Visit → RunState → Course → Type 0
+MatchesCourse g terms at s Idle = bit_at g.v terms s.alive ≡ false
+MatchesCourse g terms at s (Dead m) = (bit_at g.v terms s.alive ≡ false) × Counts g terms s.tally m.taken
+MatchesCourse g terms at s (Live m) = (bit_at g.v terms s.alive ≡ true) × MatchesState g terms at s m
+
+-- the state after is one of the same shape, and of whatever course the one before matches, where `on` holds, it matches what comes of the course
+pub record Steps (on : Scene → Visit → Type 0) (old new : List Term) (before after : RunState) (to : List ℕ → Course → Course) : Type 0 where
+  pub state : IsState new after
+  pub shape : shape_of after ≡ shape_of before
+  pub matches : (g : Scene) (at : Visit) (c : Course) → on g at → MatchesCourse g old at before c → MatchesCourse g new at after (to g.tape c)
+
+-- in every scene and at every visit
+abbrev pub Always : Scene → Visit → Type 0
+Always g at = Unit {0}

@@ -6,7 +6,7 @@ ghost use Rattle.points.specs.Run.{choice_of, is_poison};
 ghost use Rattle.bv_terms.specs.Trees.{IsTerm, Keeps, Makes, Tests, bit_at, term_at};
 ghost use Rattle.mem_terms.specs.Values.{IsSymValue, Reading, value_at};
 ghost use Rattle.mem_terms.specs.Inputs.{AreWords, words_at};
-ghost use Rattle.run_terms.specs.Runs.{Scene, Sees, IsState, IsTally, Counts, Carries, Visit, sight};
+ghost use Rattle.run_terms.specs.Runs.{Scene, Sees, IsState, IsTally, Counts, MatchesState, Visit, sight};
 
 use crate::state::{RunState, Tally};
 use crate::words::{word_at, words_up_to};
@@ -26,7 +26,7 @@ pub struct Choice {
     pub value: SymValue,
     pub tally: Tally,
     /// No run has read more words by then.
-    pub most: usize,
+    pub words_bound: usize,
 }
 
 /// `count` more words where the choice is taken.
@@ -68,11 +68,11 @@ fn still_fits(
 
 /// How many words there may be with `count` more. It fails where that is more than a `usize` holds,
 /// which no memory holds.
-fn read_more(most: usize, count: usize) -> Result<usize, NoMemory>
-    ensures count { IfOk result (λ more. more ≡ most + count) }
-    ensures room { OnOk result (most + count < 2 ^ 64) }
+fn read_more(words_bound: usize, count: usize) -> Result<usize, NoMemory>
+    ensures count { IfOk result (λ more. more ≡ words_bound + count) }
+    ensures room { OnOk result (words_bound + count < 2 ^ 64) }
 {
-    let more = most.checked_add(count).ok_or(NoMemory)?;
+    let more = words_bound.checked_add(count).ok_or(NoMemory)?;
     Ok(more)
 }
 
@@ -117,18 +117,18 @@ fn choose_number(
     ensures value { IfOk result (λ c. IsSymValue terms.new c.value) }
     ensures tally { IfOk result (λ c. IsTally terms.new c.tally) }
     ensures defined { IfOk result (λ c. (r : Reading) → is_poison (value_at r terms.new c.value) ≡ false) }
-    ensures most { IfOk result (λ c. (g : Scene) (m : Machine) → length m.taken ≤ state.now.most → length m.taken + length (choice_of (IrType.Int width) g.tape m).words ≤ c.most) }
+    ensures words_bound { IfOk result (λ c. (g : Scene) (m : Machine) → length m.taken ≤ state.now.words_bound → length m.taken + length (choice_of (IrType.Int width) g.tape m).words ≤ c.words_bound) }
     ensures stays { IfOk result (λ c. (g : Scene) (made : List ℕ) → bit_at g.v terms.old taken ≡ false → Counts g terms.old state.now.tally made → Counts g terms.new c.tally made) }
-    ensures takes { IfOk result (λ c. (g : Scene) (at : Visit) (m : Machine) → Sees g terms.old tape.now → bit_at g.v terms.old taken ≡ true → Carries g terms.old at state.now m
+    ensures takes { IfOk result (λ c. (g : Scene) (at : Visit) (m : Machine) → Sees g terms.old tape.now → bit_at g.v terms.old taken ≡ true → MatchesState g terms.old at state.now m
         → Counts g terms.new c.tally (m.taken ++ (choice_of (IrType.Int width) g.tape m).words) × (value_at (sight g) terms.new c.value ≡ (choice_of (IrType.Int width) g.tape m).value)) }
     ensures kept { Keeps terms.old terms.new }
 {
-    let most = read_more(state.most, 1)?;
-    let words = words_up_to(tape, state.most);
+    let words_bound = read_more(state.words_bound, 1)?;
+    let words = words_up_to(tape, state.words_bound);
     let (number, tally) = number_among(terms, words, state.tally, taken, width)?;
     let poison = truth(terms, false)?;
     let value = integer_value(terms, SymNumber { poison, number })?;
-    Ok(Choice { value, tally, most })
+    Ok(Choice { value, tally, words_bound })
 }
 
 /// The given block that the low 16 bits of a word name, or null where there is none.
@@ -159,15 +159,15 @@ fn choose_pointer(
     ensures value { IfOk result (λ c. IsSymValue terms.new c.value) }
     ensures tally { IfOk result (λ c. IsTally terms.new c.tally) }
     ensures defined { IfOk result (λ c. (r : Reading) → is_poison (value_at r terms.new c.value) ≡ false) }
-    ensures most { IfOk result (λ c. (g : Scene) (m : Machine) → length m.taken ≤ state.now.most → length m.taken + length (choice_of IrType.Ptr g.tape m).words ≤ c.most) }
+    ensures words_bound { IfOk result (λ c. (g : Scene) (m : Machine) → length m.taken ≤ state.now.words_bound → length m.taken + length (choice_of IrType.Ptr g.tape m).words ≤ c.words_bound) }
     ensures stays { IfOk result (λ c. (g : Scene) (made : List ℕ) → bit_at g.v terms.old taken ≡ false → Counts g terms.old state.now.tally made → Counts g terms.new c.tally made) }
-    ensures takes { IfOk result (λ c. (g : Scene) (at : Visit) (m : Machine) → Sees g terms.old tape.now → bit_at g.v terms.old taken ≡ true → Carries g terms.old at state.now m
+    ensures takes { IfOk result (λ c. (g : Scene) (at : Visit) (m : Machine) → Sees g terms.old tape.now → bit_at g.v terms.old taken ≡ true → MatchesState g terms.old at state.now m
         → Counts g terms.new c.tally (m.taken ++ (choice_of IrType.Ptr g.tape m).words) × (value_at (sight g) terms.new c.value ≡ (choice_of IrType.Ptr g.tape m).value)) }
     ensures kept { Keeps terms.old terms.new }
 {
     terms.values_fit();
-    let most = read_more(state.most, 2)?;
-    let words = words_up_to(tape, state.most + 1);
+    let words_bound = read_more(state.words_bound, 2)?;
+    let words = words_up_to(tape, state.words_bound + 1);
     let first = word_at(terms, words, state.tally.read)?;
     let one = number(terms, 1)?;
     let next = add(terms, state.tally.read, one)?;
@@ -177,7 +177,7 @@ fn choose_pointer(
     let fits = still_fits(terms, state.tally.fits, taken, first, block)?;
     let value = pointer_value(terms, block, offset)?;
     let tally = Tally { read, fits };
-    Ok(Choice { value, tally, most })
+    Ok(Choice { value, tally, words_bound })
 }
 
 /// The next choice of a value of the type. It is made where it is taken.
@@ -194,9 +194,9 @@ pub fn choose(
     ensures value { IfOk result (λ c. IsSymValue terms.new c.value) }
     ensures tally { IfOk result (λ c. IsTally terms.new c.tally) }
     ensures defined { IfOk result (λ c. (r : Reading) → is_poison (value_at r terms.new c.value) ≡ false) }
-    ensures most { IfOk result (λ c. (g : Scene) (m : Machine) → length m.taken ≤ state.now.most → length m.taken + length (choice_of of_type g.tape m).words ≤ c.most) }
+    ensures words_bound { IfOk result (λ c. (g : Scene) (m : Machine) → length m.taken ≤ state.now.words_bound → length m.taken + length (choice_of of_type g.tape m).words ≤ c.words_bound) }
     ensures stays { IfOk result (λ c. (g : Scene) (made : List ℕ) → bit_at g.v terms.old taken ≡ false → Counts g terms.old state.now.tally made → Counts g terms.new c.tally made) }
-    ensures takes { IfOk result (λ c. (g : Scene) (at : Visit) (m : Machine) → Sees g terms.old tape.now → bit_at g.v terms.old taken ≡ true → Carries g terms.old at state.now m
+    ensures takes { IfOk result (λ c. (g : Scene) (at : Visit) (m : Machine) → Sees g terms.old tape.now → bit_at g.v terms.old taken ≡ true → MatchesState g terms.old at state.now m
         → Counts g terms.new c.tally (m.taken ++ (choice_of of_type g.tape m).words) × (value_at (sight g) terms.new c.value ≡ (choice_of of_type g.tape m).value)) }
     ensures kept { Keeps terms.old terms.new }
 {

@@ -6,9 +6,8 @@ ghost use Rattle.points.specs.declared.machine.Machine.{Machine};
 ghost use Rattle.points.specs.declared.outcome.Outcome.TheVariants as outcome;
 ghost use Rattle.points.specs.Run.{ended, entered};
 ghost use Rattle.unroll.specs.Layers.{At, Done, along};
-ghost use Rattle.bv_terms.specs.Trees.{IsTerm, Keeps};
-ghost use Rattle.run_terms.specs.Runs.{Scene, IsState, shape_of};
-ghost use Rattle.run_terms.specs.Frontier.{HasShape, IsFrontier, Moves, placed, shape_in};
+ghost use Rattle.bv_terms.specs.Trees.{Keeps};
+ghost use Rattle.run_terms.specs.Frontier.{Everywhere, IsLeaving, Leaves, placed};
 
 use crate::frontier::{Frontier, Leaving};
 use crate::setting::Setting;
@@ -53,15 +52,8 @@ fn follow_to(
     leaving: Leaving,
     n: usize,
 ) -> Result<(), NoMemory>
-    requires frontier { IsFrontier terms.old frontier.old }
-    requires shape { HasShape setting frontier.old }
-    requires state { IsState terms.old leaving.state.now }
-    requires fits { shape_of leaving.state.now ≡ shape_in setting }
-    requires c { IsTerm terms.old 1 leaving.c }
-    ensures frontier { OnOk result (IsFrontier terms.new frontier.new) }
-    ensures shape { OnOk result (HasShape setting.entry frontier.new) }
-    ensures moves { OnOk result ((g : Scene) (turn : ℕ) → Moves g terms.old terms.new frontier.old frontier.new leaving.entry.c (record { label = leaving.entry.label; turn = turn }) leaving.entry.state.now
-        (λ m. placed setting.entry.f.now setting.entry.copies.now leaving.entry.ahead (At n m))) }
+    requires { IsLeaving setting terms.old frontier.old leaving }
+    ensures leaves { OnOk result (Leaves Everywhere setting.entry leaving.entry terms.old terms.new frontier.old frontier.new (λ g m. At n m)) }
     ensures kept { Keeps terms.old terms.new }
 {
     match block_ahead(setting, leaving.ahead, n) {
@@ -71,7 +63,8 @@ fn follow_to(
             Ok(())
         }
         None => {
-            frontier.end_undefined(terms, leaving.c, leaving.state.tally)?;
+            let ending = &mut frontier.ending;
+            ending.end_undefined(terms, leaving.c, leaving.state.tally)?;
             Ok(())
         }
     }
@@ -85,25 +78,20 @@ pub fn follow(
     leaving: Leaving,
     edge: Edge,
 ) -> Result<(), NoMemory>
-    requires frontier { IsFrontier terms.old frontier.old }
-    requires shape { HasShape setting frontier.old }
-    requires state { IsState terms.old leaving.state.now }
-    requires fits { shape_of leaving.state.now ≡ shape_in setting }
-    requires c { IsTerm terms.old 1 leaving.c }
-    ensures frontier { OnOk result (IsFrontier terms.new frontier.new) }
-    ensures shape { OnOk result (HasShape setting.entry frontier.new) }
-    ensures moves { OnOk result ((g : Scene) (turn : ℕ) → Moves g terms.old terms.new frontier.old frontier.new leaving.entry.c (record { label = leaving.entry.label; turn = turn }) leaving.entry.state.now
-        (λ m. placed setting.entry.f.now setting.entry.copies.now leaving.entry.ahead (along edge m))) }
+    requires { IsLeaving setting terms.old frontier.old leaving }
+    ensures leaves { OnOk result (Leaves Everywhere setting.entry leaving.entry terms.old terms.new frontier.old frontier.new (λ g m. along edge m)) }
     ensures kept { Keeps terms.old terms.new }
 {
     match edge {
         Edge::Copy(n) => follow_to(setting, terms, frontier, leaving, n),
         Edge::Beyond => {
-            frontier.end_beyond(terms, leaving.c, leaving.state.tally)?;
+            let ending = &mut frontier.ending;
+            ending.end_beyond(terms, leaving.c, leaving.state.tally)?;
             Ok(())
         }
         Edge::Nowhere => {
-            frontier.end_undefined(terms, leaving.c, leaving.state.tally)?;
+            let ending = &mut frontier.ending;
+            ending.end_undefined(terms, leaving.c, leaving.state.tally)?;
             Ok(())
         }
     }

@@ -1,16 +1,13 @@
 //! How a run ended.
 
-ghost use Rattle.std.specs.Prelude.{◌≡◌, true, false, ℕ, List, IfOk, OnOk, IfSome, None, Some, Option, cond, is_some, map};
+ghost use Rattle.std.specs.Prelude.{◌≡◌, IfOk, OnOk, IfSome, cond, is_some, map};
 ghost use Rattle.std.specs.Option.{option_map};
-ghost use Rattle.points.specs.declared.machine.Machine.{Machine};
 ghost use Rattle.points.specs.declared.outcome.Outcome.TheVariants as outcome;
-ghost use Rattle.points.specs.Run.{Run};
-ghost use Rattle.unroll.specs.Layers.{Where, Done};
 ghost use Rattle.bv_terms.specs.Trees.{IsTerm, Keeps, bit_at};
 ghost use Rattle.mem_terms.specs.Values.{IsSymValue, Reading, value_at};
 ghost use Rattle.mem_terms.specs.Memory.{AreGivenBlocks, frame_of, memory_at};
-ghost use Rattle.run_terms.specs.Runs.{Scene, IsTally, Counts, sight};
-ghost use Rattle.run_terms.specs.Frontier.{IsEnding, EndTells, ending_shape};
+ghost use Rattle.run_terms.specs.Runs.{IsTally, sight};
+ghost use Rattle.run_terms.specs.Frontier.{Ends, IsEnding};
 
 use crate::joining::pick_tally;
 use crate::state::Tally;
@@ -43,11 +40,7 @@ impl Ending {
         requires own { IsEnding terms.old self.old }
         requires c { IsTerm terms.old 1 c }
         requires tally { IsTally terms.old tally }
-        ensures own { OnOk result (IsEnding terms.new self.new) }
-        ensures shape { OnOk result (ending_shape self.new ≡ ending_shape self.old) }
-        ensures stays { OnOk result ((g : Scene) (at : Option Where) → bit_at g.v terms.old c ≡ false → EndTells g terms.old self.old at → EndTells g terms.new self.new at) }
-        ensures goes { OnOk result ((g : Scene) (made : List ℕ) → bit_at g.v terms.old c ≡ true → Counts g terms.old tally made → EndTells g terms.old self.old None
-            → EndTells g terms.new self.new (Some (Done (record { outcome = outcome.Ub; taken = made })))) }
+        ensures ends { OnOk result (Ends terms.old terms.new self.old self.new c tally (λ g. outcome.Ub)) }
         ensures kept { Keeps terms.old terms.new }
     {
         self.ub = either(terms, self.ub, c)?;
@@ -60,11 +53,7 @@ impl Ending {
         requires own { IsEnding terms.old self.old }
         requires c { IsTerm terms.old 1 c }
         requires tally { IsTally terms.old tally }
-        ensures own { OnOk result (IsEnding terms.new self.new) }
-        ensures shape { OnOk result (ending_shape self.new ≡ ending_shape self.old) }
-        ensures stays { OnOk result ((g : Scene) (at : Option Where) → bit_at g.v terms.old c ≡ false → EndTells g terms.old self.old at → EndTells g terms.new self.new at) }
-        ensures goes { OnOk result ((g : Scene) (made : List ℕ) → bit_at g.v terms.old c ≡ true → Counts g terms.old tally made → EndTells g terms.old self.old None
-            → EndTells g terms.new self.new (Some (Done (record { outcome = outcome.Beyond; taken = made })))) }
+        ensures ends { OnOk result (Ends terms.old terms.new self.old self.new c tally (λ g. outcome.Beyond)) }
         ensures kept { Keeps terms.old terms.new }
     {
         self.beyond = either(terms, self.beyond, c)?;
@@ -89,11 +78,7 @@ impl Ending {
         requires given { AreGivenBlocks (map frame_of self.old.blocks) terms.old given.now }
         requires c { IsTerm terms.old 1 c }
         requires tally { IsTally terms.old tally }
-        ensures own { OnOk result (IsEnding terms.new self.new) }
-        ensures shape { OnOk result (ending_shape self.new ≡ ending_shape self.old) }
-        ensures stays { OnOk result ((g : Scene) (at : Option Where) → bit_at g.v terms.old c ≡ false → EndTells g terms.old self.old at → EndTells g terms.new self.new at) }
-        ensures goes { OnOk result ((g : Scene) (made : List ℕ) → bit_at g.v terms.old c ≡ true → Counts g terms.old tally made → EndTells g terms.old self.old None
-            → EndTells g terms.new self.new (Some (Done (record { outcome = outcome.Return (option_map (value_at (sight g) terms.old) value) (memory_at (sight g) terms.old given.now); taken = made })))) }
+        ensures ends { OnOk result (Ends terms.old terms.new self.old self.new c tally (λ g. outcome.Return (option_map (value_at (sight g) terms.old) value) (memory_at (sight g) terms.old given.now))) }
         ensures kept { Keeps terms.old terms.new }
     {
         self.value = pick_returned(terms, c, value, self.value)?;

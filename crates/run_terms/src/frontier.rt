@@ -1,24 +1,19 @@
 //! Where a run is between two copies.
 
-ghost use Rattle.std.specs.Prelude.{◌≡◌, ◌<◌, true, false, ℕ, List, is_some, IfOk, OnOk, IfSome, None, Some, Option, length, map, slice_get, slice_set};
-ghost use Rattle.std.specs.Option.{option_map};
+ghost use Rattle.std.specs.Prelude.{◌≡◌, ◌<◌, true, false, ℕ, IfOk, OnOk, None, Some, Option, length, slice_get, slice_set};
 ghost use Rattle.points.specs.declared.machine.Machine.{Machine};
-ghost use Rattle.points.specs.declared.outcome.Outcome.TheVariants as outcome;
 ghost use Rattle.points.specs.Run.{entered};
-ghost use Rattle.unroll.specs.Layers.{Where, At, Done};
+ghost use Rattle.unroll.specs.Layers.{Where, At};
 ghost use Rattle.bv_terms.specs.Trees.{IsTerm, Keeps, bit_at};
-ghost use Rattle.mem_terms.specs.Values.{IsSymValue, value_at};
-ghost use Rattle.mem_terms.specs.Memory.{AreGivenBlocks, frame_of, memory_at};
-ghost use Rattle.run_terms.specs.Runs.{Scene, IsState, IsTally, Counts, Carries, Visit, shape_of, sight, visit_of};
-ghost use Rattle.run_terms.specs.Frontier.{AheadTells, AreStates, HaveShape, IsFrontier, Moves, Tells, ending_shape};
+ghost use Rattle.run_terms.specs.Runs.{Scene, IsState, MatchesState, shape_of, visit_of};
+ghost use Rattle.run_terms.specs.Frontier.{MatchesAhead, AreStates, HaveShape, IsFrontier, Simulates};
 
 use crate::ending::Ending;
 use crate::joining::join;
-use crate::phis::registers_behind;
-use crate::state::{RunState, Tally};
+use crate::phis::registers_after;
+use crate::state::RunState;
 use bv_terms::{TermId, Terms};
 use ir_tree::Block;
-use mem_terms::{SymBlock, SymValue};
 use std::alloc::Global;
 use support::{NoMemory, Sequence};
 
@@ -64,8 +59,8 @@ fn reach(
     ensures ahead { OnOk result (AreStates terms.new ahead.new) }
     ensures shapes { OnOk result (HaveShape (shape_of edge) ahead.new) }
     ensures count { OnOk result (length ahead.new ≡ length ahead.old) }
-    ensures stays { OnOk result ((g : Scene) (at : Option Where) → bit_at g.v terms.old edge.alive ≡ false → AheadTells g terms.old ahead.old at → AheadTells g terms.new ahead.new at) }
-    ensures goes { OnOk result ((g : Scene) (m : Machine) → bit_at g.v terms.old edge.alive ≡ true → Carries g terms.old (visit_of m) edge m → AheadTells g terms.old ahead.old None → AheadTells g terms.new ahead.new (Some (At n m))) }
+    ensures stays { OnOk result ((g : Scene) (at : Option Where) → bit_at g.v terms.old edge.alive ≡ false → MatchesAhead g terms.old ahead.old at → MatchesAhead g terms.new ahead.new at) }
+    ensures goes { OnOk result ((g : Scene) (m : Machine) → bit_at g.v terms.old edge.alive ≡ true → MatchesState g terms.old (visit_of m) edge m → MatchesAhead g terms.old ahead.old None → MatchesAhead g terms.new ahead.new (Some (At n m))) }
     ensures kept { Keeps terms.old terms.new }
 {
     match take_entry(ahead, n) {
@@ -96,11 +91,11 @@ fn state_on_edge(
     ensures made { IfOk result (IsState terms.new) }
     ensures shape { IfOk result (λ edge. shape_of edge ≡ shape_of state.now) }
     ensures alive { IfOk result (λ edge. edge.alive ≡ c) }
-    ensures stands { IfOk result (λ edge. (g : Scene) (m : Machine) (from to : ℕ) → Carries g terms.old (record { label = label; turn = from }) state.now m
-        → Carries g terms.new (record { label = block.now.label; turn = to }) edge (entered block.now (record m { turn = to }))) }
+    ensures stands { IfOk result (λ edge. (g : Scene) (m : Machine) (from to : ℕ) → MatchesState g terms.old (record { label = label; turn = from }) state.now m
+        → MatchesState g terms.new (record { label = block.now.label; turn = to }) edge (entered block.now (record m { turn = to }))) }
     ensures kept { Keeps terms.old terms.new }
 {
-    let registers = registers_behind(
+    let registers = registers_after(
         alloc,
         terms,
         state.registers.as_slice(),
@@ -113,80 +108,11 @@ fn state_on_edge(
         registers,
         memory,
         tally: state.tally,
-        most: state.most,
+        words_bound: state.words_bound,
     })
 }
 
 impl Frontier {
-    /// Where the condition holds, the run ends in undefined behaviour, with these choices.
-    pub fn end_undefined(
-        &mut self,
-        terms: &mut Terms,
-        c: TermId,
-        tally: Tally,
-    ) -> Result<(), NoMemory>
-        requires own { IsFrontier terms.old self.old }
-        requires c { IsTerm terms.old 1 c }
-        requires tally { IsTally terms.old tally }
-        ensures own { OnOk result (IsFrontier terms.new self.new) }
-        ensures ahead { OnOk result (self.new.ahead ≡ self.old.ahead) }
-        ensures shape { OnOk result (ending_shape self.new.ending ≡ ending_shape self.old.ending) }
-        ensures stays { OnOk result ((g : Scene) (at : Option Where) → bit_at g.v terms.old c ≡ false → Tells g terms.old self.old at → Tells g terms.new self.new at) }
-        ensures goes { OnOk result ((g : Scene) (made : List ℕ) → bit_at g.v terms.old c ≡ true → Counts g terms.old tally made → Tells g terms.old self.old None
-            → Tells g terms.new self.new (Some (Done (record { outcome = outcome.Ub; taken = made })))) }
-        ensures kept { Keeps terms.old terms.new }
-    {
-        self.ending.end_undefined(terms, c, tally)?;
-        Ok(())
-    }
-
-    /// Where the condition holds, the run would take one jump too many, with these choices.
-    pub fn end_beyond(&mut self, terms: &mut Terms, c: TermId, tally: Tally) -> Result<(), NoMemory>
-        requires own { IsFrontier terms.old self.old }
-        requires c { IsTerm terms.old 1 c }
-        requires tally { IsTally terms.old tally }
-        ensures own { OnOk result (IsFrontier terms.new self.new) }
-        ensures ahead { OnOk result (self.new.ahead ≡ self.old.ahead) }
-        ensures shape { OnOk result (ending_shape self.new.ending ≡ ending_shape self.old.ending) }
-        ensures stays { OnOk result ((g : Scene) (at : Option Where) → bit_at g.v terms.old c ≡ false → Tells g terms.old self.old at → Tells g terms.new self.new at) }
-        ensures goes { OnOk result ((g : Scene) (made : List ℕ) → bit_at g.v terms.old c ≡ true → Counts g terms.old tally made → Tells g terms.old self.old None
-            → Tells g terms.new self.new (Some (Done (record { outcome = outcome.Beyond; taken = made })))) }
-        ensures kept { Keeps terms.old terms.new }
-    {
-        self.ending.end_beyond(terms, c, tally)?;
-        Ok(())
-    }
-
-    /// Where the condition holds, the run returns this value, or nothing, and leaves these given
-    /// blocks, with these choices.
-    pub fn end_return(
-        &mut self,
-        alloc: Global,
-        terms: &mut Terms,
-        c: TermId,
-        value: Option<SymValue>,
-        given: &[SymBlock],
-        tally: Tally,
-    ) -> Result<(), NoMemory>
-        requires own { IsFrontier terms.old self.old }
-        requires c { IsTerm terms.old 1 c }
-        requires value { IfSome value (IsSymValue terms.old) }
-        requires alike { is_some value ≡ is_some self.old.ending.value }
-        requires given { AreGivenBlocks (map frame_of self.old.ending.blocks) terms.old given.now }
-        requires tally { IsTally terms.old tally }
-        ensures own { OnOk result (IsFrontier terms.new self.new) }
-        ensures ahead { OnOk result (self.new.ahead ≡ self.old.ahead) }
-        ensures shape { OnOk result (ending_shape self.new.ending ≡ ending_shape self.old.ending) }
-        ensures stays { OnOk result ((g : Scene) (at : Option Where) → bit_at g.v terms.old c ≡ false → Tells g terms.old self.old at → Tells g terms.new self.new at) }
-        ensures goes { OnOk result ((g : Scene) (made : List ℕ) → bit_at g.v terms.old c ≡ true → Counts g terms.old tally made → Tells g terms.old self.old None
-            → Tells g terms.new self.new (Some (Done (record { outcome = outcome.Return (option_map (value_at (sight g) terms.old) value) (memory_at (sight g) terms.old given.now); taken = made })))) }
-        ensures kept { Keeps terms.old terms.new }
-    {
-        self.ending
-            .end_return(alloc, terms, c, value, given, tally)?;
-        Ok(())
-    }
-
     /// Where the leaving run's condition holds, it comes to the entry of a copy of a block.
     pub fn arrive(
         &mut self,
@@ -205,8 +131,8 @@ impl Frontier {
         ensures shapes { OnOk result (HaveShape (shape_of leaving.entry.state.now) self.new.ahead) }
         ensures count { OnOk result (length self.new.ahead ≡ length self.old.ahead) }
         ensures ending { OnOk result (self.new.ending ≡ self.old.ending) }
-        ensures moves { OnOk result ((g : Scene) (from to : ℕ)
-            → Moves g terms.old terms.new self.old self.new leaving.entry.c (record { label = leaving.entry.label; turn = from }) leaving.entry.state.now (λ m. At n (entered block.now (record m { turn = to })))) }
+        ensures simulates { OnOk result ((g : Scene) (from to : ℕ)
+            → Simulates g terms.old terms.new self.old self.new (bit_at g.v terms.old leaving.entry.c) (record { label = leaving.entry.label; turn = from }) leaving.entry.state.now (λ m. At n (entered block.now (record m { turn = to })))) }
         ensures kept { Keeps terms.old terms.new }
     {
         let edge = state_on_edge(alloc, terms, leaving.c, leaving.label, leaving.state, block)?;

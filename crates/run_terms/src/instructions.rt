@@ -4,19 +4,18 @@ ghost use Rattle.std.specs.Prelude.{◌≡◌, ◌<◌, ◌&&◌, All, false, no
 ghost use Rattle.ir_tree.specs.declared.tree.Inst.{Inst};
 ghost use Rattle.ir_tree.specs.declared.tree.Operand.{Operand};
 ghost use Rattle.ir_tree.specs.Limits.{HasSmallTypes, HasSmallNumber};
-ghost use Rattle.points.specs.declared.machine.Machine.{Machine};
 ghost use Rattle.points.specs.Run.{is_poison, operand_value, typed_operand_value, typed_value};
 ghost use Rattle.points.specs.Table.{cast_value, compared, selected, value_result};
 ghost use Rattle.bv_terms.specs.Trees.{IsTerm, Keeps, Tests, bit_at};
 ghost use Rattle.mem_terms.specs.Values.{AreSymValues, IsNaming, IsSymNumber, IsSymValue, Reading, as_integer, number_at, option_from, value_at, values_at};
 ghost use Rattle.mem_terms.specs.Inputs.{AreWords};
-ghost use Rattle.run_terms.specs.Runs.{Course, Live, Follows, IsState, Scene, Sees, Visit, shape_of, sight, stepped, steps};
+ghost use Rattle.run_terms.specs.Runs.{Always, IsState, Sees, Steps, sight, stepped, steps};
 
 use crate::choices::choose;
 use crate::memory_steps::step_memory;
 use crate::operands::{number_of, operand_of, typed, typed_operand_of};
 use crate::setting::Setting;
-use crate::state::RunState;
+use crate::state::{RunState, assign};
 use bv_terms::{Term, TermId, Terms};
 use inst_terms::{Computed, binary, cast, compare, select};
 use ir_tree::{Cast, Inst, IrType, Op, Operand, Predicate, TypedOperand};
@@ -159,16 +158,13 @@ fn step_binary(
     operands: Operands,
 ) -> Result<(), NoMemory>
     requires { IsState terms.old state.old }
-    ensures state { OnOk result (IsState terms.new state.new) }
-    ensures shape { OnOk result (shape_of state.new ≡ shape_of state.old) }
-    ensures stands { OnOk result ((g : Scene) (at : Visit) (c : Course) → Follows g terms.old at state.old c
-        → Follows g terms.new at state.new (stepped (Inst.Binary into op width operands.left operands.right) g.tape c)) }
+    ensures steps { OnOk result (Steps Always terms.old terms.new state.old state.new (stepped (Inst.Binary into op width operands.left operands.right))) }
     ensures kept { Keeps terms.old terms.new }
 {
     let row = computed(terms, state.registers.as_slice(), op, width, operands)?;
     let value = integer_value(terms, row.value)?;
     state.alive = and_not(terms, state.alive, row.undefined)?;
-    state.assign(into, value);
+    assign(&mut state.registers, into, value);
     Ok(())
 }
 
@@ -182,15 +178,12 @@ fn step_icmp(
     operands: Operands,
 ) -> Result<(), NoMemory>
     requires { IsState terms.old state.old }
-    ensures state { OnOk result (IsState terms.new state.new) }
-    ensures shape { OnOk result (shape_of state.new ≡ shape_of state.old) }
-    ensures stands { OnOk result ((g : Scene) (at : Visit) (c : Course) → Follows g terms.old at state.old c
-        → Follows g terms.new at state.new (stepped (Inst.Icmp into predicate same_sign width operands.left operands.right) g.tape c)) }
+    ensures steps { OnOk result (Steps Always terms.old terms.new state.old state.new (stepped (Inst.Icmp into predicate same_sign width operands.left operands.right))) }
     ensures kept { Keeps terms.old terms.new }
 {
     let registers = state.registers.as_slice();
     let value = comparison(terms, registers, predicate, same_sign, width, operands)?;
-    state.assign(into, value);
+    assign(&mut state.registers, into, value);
     Ok(())
 }
 
@@ -204,14 +197,12 @@ fn step_cast(
     to: Width,
 ) -> Result<(), NoMemory>
     requires { IsState terms.old state.old }
-    ensures state { OnOk result (IsState terms.new state.new) }
-    ensures shape { OnOk result (shape_of state.new ≡ shape_of state.old) }
-    ensures stands { OnOk result ((g : Scene) (at : Visit) (c : Course) → Follows g terms.old at state.old c → Follows g terms.new at state.new (stepped (Inst.Cast into cast from operand to) g.tape c)) }
+    ensures steps { OnOk result (Steps Always terms.old terms.new state.old state.new (stepped (Inst.Cast into cast from operand to))) }
     ensures kept { Keeps terms.old terms.new }
 {
     let registers = state.registers.as_slice();
     let value = conversion(terms, registers, cast, from, operand, to)?;
-    state.assign(into, value);
+    assign(&mut state.registers, into, value);
     Ok(())
 }
 
@@ -224,14 +215,12 @@ fn step_select(
     if_false: TypedOperand,
 ) -> Result<(), NoMemory>
     requires { IsState terms.old state.old }
-    ensures state { OnOk result (IsState terms.new state.new) }
-    ensures shape { OnOk result (shape_of state.new ≡ shape_of state.old) }
-    ensures stands { OnOk result ((g : Scene) (at : Visit) (c : Course) → Follows g terms.old at state.old c → Follows g terms.new at state.new (stepped (Inst.Select into condition if_true if_false) g.tape c)) }
+    ensures steps { OnOk result (Steps Always terms.old terms.new state.old state.new (stepped (Inst.Select into condition if_true if_false))) }
     ensures kept { Keeps terms.old terms.new }
 {
     let registers = state.registers.as_slice();
     let value = selection(terms, registers, condition, if_true, if_false)?;
-    state.assign(into, value);
+    assign(&mut state.registers, into, value);
     Ok(())
 }
 
@@ -268,19 +257,15 @@ fn assign_or_choose(
     requires state { IsState terms.old state.old }
     requires value { IsSymValue terms.old value }
     requires tape { AreWords terms.old tape.now }
-    ensures state { OnOk result (IsState terms.new state.new) }
-    ensures shape { OnOk result (shape_of state.new ≡ shape_of state.old) }
-    ensures stands { OnOk result ((g : Scene) (at : Visit) (c : Course) (operand : Operand) → Sees g terms.old tape.now
-        → ((m : Machine) → c ≡ Live m → value_at (sight g) terms.old value ≡ typed_value of_type (operand_value m.registers operand))
-        → Follows g terms.old at state.old c → Follows g terms.new at state.new (stepped (Inst.Freeze into of_type operand) g.tape c)) }
+    ensures steps { OnOk result ((operand : Operand) → Steps (λ g at. Sees g terms.old tape.now × (value_at (sight g) terms.old value ≡ typed_value of_type (operand_value (values_at (sight g) terms.old state.old.registers) operand))) terms.old terms.new state.old state.new (stepped (Inst.Freeze into of_type operand))) }
     ensures kept { Keeps terms.old terms.new }
 {
     let taken = both(terms, state.alive, value.poison)?;
     let choice = choose(terms, state, taken, of_type, tape)?;
     let value = frozen(terms, value, choice.value)?;
     state.tally = choice.tally;
-    state.most = choice.most;
-    state.assign(into, value);
+    state.words_bound = choice.words_bound;
+    assign(&mut state.registers, into, value);
     Ok(())
 }
 
@@ -296,15 +281,13 @@ fn step_freeze(
 ) -> Result<(), NoMemory>
     requires state { IsState terms.old state.old }
     requires tape { AreWords terms.old tape.now }
-    ensures state { OnOk result (IsState terms.new state.new) }
-    ensures shape { OnOk result (shape_of state.new ≡ shape_of state.old) }
-    ensures stands { OnOk result ((g : Scene) (at : Visit) (c : Course) → Sees g terms.old tape.now → Follows g terms.old at state.old c → Follows g terms.new at state.new (stepped (Inst.Freeze into of_type operand) g.tape c)) }
+    ensures steps { OnOk result (Steps (λ g at. Sees g terms.old tape.now) terms.old terms.new state.old state.new (stepped (Inst.Freeze into of_type operand))) }
     ensures kept { Keeps terms.old terms.new }
 {
     let value = operand_of(terms, state.registers.as_slice(), operand)?;
     let value = typed(terms, of_type, value)?;
     if is_plainly_false(terms, value.poison) {
-        state.assign(into, value);
+        assign(&mut state.registers, into, value);
         Ok(())
     } else {
         assign_or_choose(terms, state, into, of_type, value, tape)
@@ -323,9 +306,7 @@ fn step(
     requires tape { AreWords terms.old setting.tape.now }
     requires types { HasSmallTypes inst.now }
     requires number { HasSmallNumber inst.now }
-    ensures state { OnOk result (IsState terms.new state.new) }
-    ensures shape { OnOk result (shape_of state.new ≡ shape_of state.old) }
-    ensures stands { OnOk result ((g : Scene) (at : Visit) (c : Course) → at.turn ≡ turn → Sees g terms.old setting.entry.tape.now → Follows g terms.old at state.old c → Follows g terms.new at state.new (stepped inst.now g.tape c)) }
+    ensures steps { OnOk result (Steps (λ g at. (at.turn ≡ turn) × Sees g terms.old setting.entry.tape.now) terms.old terms.new state.old state.new (stepped inst.now)) }
     ensures kept { Keeps terms.old terms.new }
 {
     match inst {
@@ -407,9 +388,7 @@ pub fn step_all(
     requires tape { AreWords terms.old setting.tape.now }
     requires types { All HasSmallTypes insts.now }
     requires numbers { All HasSmallNumber insts.now }
-    ensures state { OnOk result (IsState terms.new state.new) }
-    ensures shape { OnOk result (shape_of state.new ≡ shape_of state.old) }
-    ensures stands { OnOk result ((g : Scene) (at : Visit) (c : Course) → at.turn ≡ turn → Sees g terms.old setting.entry.tape.now → Follows g terms.old at state.old c → Follows g terms.new at state.new (steps insts.now g.tape c)) }
+    ensures steps { OnOk result (Steps (λ g at. (at.turn ≡ turn) × Sees g terms.old setting.entry.tape.now) terms.old terms.new state.old state.new (steps insts.now)) }
     ensures kept { Keeps terms.old terms.new }
 {
     for inst in insts {

@@ -5,7 +5,7 @@ ghost use Rattle.bv_terms.specs.Trees.{IsTerm, Keeps, Tests, bit_at};
 ghost use Rattle.mem_terms.specs.Values.{AreSymValues, Reading, values_at};
 ghost use Rattle.mem_terms.specs.Memory.{memory_at};
 ghost use Rattle.points.specs.declared.machine.Machine.{Machine};
-ghost use Rattle.run_terms.specs.Runs.{Scene, IsRunMemory, IsState, IsTally, Counts, Carries, Visit, frames_in, shape_of};
+ghost use Rattle.run_terms.specs.Runs.{Scene, IsRunMemory, IsState, IsTally, Counts, MatchesState, Visit, frames_in, shape_of};
 
 use crate::state::{RunMemory, RunState, Tally};
 use access_terms::pick_memory;
@@ -111,8 +111,8 @@ pub fn join(
     ensures made { IfOk result (IsState terms.new) }
     ensures shape { IfOk result (λ r. shape_of r ≡ shape_of edge.now) }
     ensures alive { IfOk result (λ r. Tests terms.new r.alive (λ v. bit_at v terms.old into.now.alive || bit_at v terms.old edge.now.alive)) }
-    ensures stays { IfOk result (λ r. (g : Scene) (at : Visit) (m : Machine) → bit_at g.v terms.old edge.now.alive ≡ false → Carries g terms.old at into.now m → Carries g terms.new at r m) }
-    ensures goes { IfOk result (λ r. (g : Scene) (at : Visit) (m : Machine) → bit_at g.v terms.old edge.now.alive ≡ true → Carries g terms.old at edge.now m → Carries g terms.new at r m) }
+    ensures stays { IfOk result (λ r. (g : Scene) (at : Visit) (m : Machine) → bit_at g.v terms.old edge.now.alive ≡ false → MatchesState g terms.old at into.now m → MatchesState g terms.new at r m) }
+    ensures goes { IfOk result (λ r. (g : Scene) (at : Visit) (m : Machine) → bit_at g.v terms.old edge.now.alive ≡ true → MatchesState g terms.old at edge.now m → MatchesState g terms.new at r m) }
     ensures kept { Keeps terms.old terms.new }
 {
     let c = edge.alive;
@@ -126,12 +126,12 @@ pub fn join(
         into.registers.as_slice(),
     )?;
     let memory = pick_blocks(alloc, terms, c, &edge.memory, &into.memory)?;
-    let most = edge.most.max(into.most);
+    let words_bound = edge.words_bound.max(into.words_bound);
     Ok(RunState {
         alive,
         registers,
         memory,
         tally,
-        most,
+        words_bound,
     })
 }

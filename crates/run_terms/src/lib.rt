@@ -31,7 +31,6 @@ pub use edges::follow;
 pub use ending::Ending;
 pub use frontier::{Frontier, Leaving, take_entry};
 pub use instructions::{and_not, step_all};
-pub use phis::put;
 pub use setting::Setting;
-pub use state::{RunMemory, RunState, Tally};
+pub use state::{RunMemory, RunState, Tally, assign};
 pub use terminators::leave;

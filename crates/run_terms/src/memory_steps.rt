@@ -11,12 +11,12 @@ ghost use Rattle.points.specs.Run.{access_of, index_value, index_values};
 ghost use Rattle.bv_terms.specs.Trees.{Keeps};
 ghost use Rattle.mem_terms.specs.Values.{AreSymValues, IsNaming, Reading, first_local, local_number, values_at};
 ghost use Rattle.access_terms.specs.Offsets.{AreSymIndices, IsSymIndex, index_at, indices_at};
-ghost use Rattle.run_terms.specs.Runs.{Course, Follows, IsState, Scene, Visit, shape_of, sight, stepped};
+ghost use Rattle.run_terms.specs.Runs.{Always, IsState, Steps, sight, stepped};
 ghost use Rattle.run_terms.specs.Frontier.{UsesMemory};
 
 use crate::operands::{number_of, operand_of, typed_operand_of};
 use crate::setting::Setting;
-use crate::state::RunState;
+use crate::state::{RunState, assign};
 use access_terms::{SymIndex, alloca, gep, load, store};
 use bv_terms::Terms;
 use ir_tree::{GepIndex, Inst, IrType, MemoryType, Operand, TypedOperand, indexed_size};
@@ -66,10 +66,7 @@ fn step_alloca(
     requires state { IsState terms.old state.old }
     requires own { first_local state.old.memory.given ≤ block }
     requires size { object_size of_type.now ≤ 64 }
-    ensures state { OnOk result (IsState terms.new state.new) }
-    ensures shape { OnOk result (shape_of state.new ≡ shape_of state.old) }
-    ensures stands { OnOk result ((g : Scene) (at : Visit) (c : Course) (number : ℕ) → (state.old.memory.given ≡ g.given → (sight g).name block ≡ Local at.turn number)
-        → Follows g terms.old at state.old c → Follows g terms.new at state.new (stepped (Inst.Alloca into number of_type.now align) g.tape c)) }
+    ensures steps { OnOk result ((number : ℕ) → Steps (λ g at. state.old.memory.given ≡ g.given → (sight g).name block ≡ Local at.turn number) terms.old terms.new state.old state.new (stepped (Inst.Alloca into number of_type.now align))) }
     ensures kept { Keeps terms.old terms.new }
 {
     let size = indexed_size(of_type, 0);
@@ -77,7 +74,7 @@ fn step_alloca(
     let known = number(terms, block)?;
     let zero = number(terms, 0)?;
     let address = pointer_value(terms, known, zero)?;
-    state.assign(into, address);
+    assign(&mut state.registers, into, address);
     Ok(())
 }
 
@@ -93,16 +90,14 @@ fn step_load(
 ) -> Result<(), NoMemory>
     requires state { IsState terms.old state.old }
     requires align { 0 < align }
-    ensures state { OnOk result (IsState terms.new state.new) }
-    ensures shape { OnOk result (shape_of state.new ≡ shape_of state.old) }
-    ensures stands { OnOk result ((g : Scene) (at : Visit) (c : Course) → Follows g terms.old at state.old c → Follows g terms.new at state.new (stepped (Inst.Load into of_type pointer align) g.tape c)) }
+    ensures steps { OnOk result (Steps Always terms.old terms.new state.old state.new (stepped (Inst.Load into of_type pointer align))) }
     ensures kept { Keeps terms.old terms.new }
 {
     let at = operand_of(terms, state.registers.as_slice(), pointer)?;
     let blocks = state.memory.blocks.as_slice();
     let loaded = load(alloc, terms, blocks, at, access_of(of_type), align)?;
     state.alive = both(terms, state.alive, loaded.is_defined)?;
-    state.assign(into, loaded.value);
+    assign(&mut state.registers, into, loaded.value);
     Ok(())
 }
 
@@ -117,9 +112,7 @@ fn step_store(
 ) -> Result<(), NoMemory>
     requires state { IsState terms.old state.old }
     requires align { 0 < align }
-    ensures state { OnOk result (IsState terms.new state.new) }
-    ensures shape { OnOk result (shape_of state.new ≡ shape_of state.old) }
-    ensures stands { OnOk result ((g : Scene) (at : Visit) (c : Course) → Follows g terms.old at state.old c → Follows g terms.new at state.new (stepped (Inst.Store value pointer align) g.tape c)) }
+    ensures steps { OnOk result (Steps Always terms.old terms.new state.old state.new (stepped (Inst.Store value pointer align))) }
     ensures kept { Keeps terms.old terms.new }
 {
     let registers = state.registers.as_slice();
@@ -198,10 +191,7 @@ fn step_gep(
 ) -> Result<(), NoMemory>
     requires state { IsState terms.old state.old }
     requires arrays { HasSmallArrays path.of_type.now.lengths path.of_type.now.element }
-    ensures state { OnOk result (IsState terms.new state.new) }
-    ensures shape { OnOk result (shape_of state.new ≡ shape_of state.old) }
-    ensures stands { OnOk result ((g : Scene) (at : Visit) (c : Course) (indices : List GepIndex) → indices ≡ path.entry.indices.now → Follows g terms.old at state.old c
-        → Follows g terms.new at state.new (stepped (Inst.GetElementPtr into path.entry.inbounds path.entry.nuw path.entry.of_type.now path.entry.base indices) g.tape c)) }
+    ensures steps { OnOk result ((indices : List GepIndex) → indices ≡ path.entry.indices.now → Steps Always terms.old terms.new state.old state.new (stepped (Inst.GetElementPtr into path.entry.inbounds path.entry.nuw path.entry.of_type.now path.entry.base indices))) }
     ensures kept { Keeps terms.old terms.new }
 {
     let registers = state.registers.as_slice();
@@ -216,7 +206,7 @@ fn step_gep(
         path.inbounds,
         path.nuw,
     )?;
-    state.assign(into, address);
+    assign(&mut state.registers, into, address);
     Ok(())
 }
 
@@ -232,9 +222,7 @@ pub fn step_memory(
     requires memory { UsesMemory inst.now }
     requires types { HasSmallTypes inst.now }
     requires number { HasSmallNumber inst.now }
-    ensures state { OnOk result (IsState terms.new state.new) }
-    ensures shape { OnOk result (shape_of state.new ≡ shape_of state.old) }
-    ensures stands { OnOk result ((g : Scene) (at : Visit) (c : Course) → at.turn ≡ turn → Follows g terms.old at state.old c → Follows g terms.new at state.new (stepped inst.now g.tape c)) }
+    ensures steps { OnOk result (Steps (λ g at. at.turn ≡ turn) terms.old terms.new state.old state.new (stepped inst.now)) }
     ensures kept { Keeps terms.old terms.new }
 {
     let alloc = setting.alloc;

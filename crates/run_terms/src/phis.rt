@@ -1,6 +1,6 @@
 //! The phis of a block, on an edge to it (LLVM Language Reference, "phi Instruction").
 
-ghost use Rattle.std.specs.Prelude.{◌≡◌, ℕ, IfOk, length, nat_eq, slice_set};
+ghost use Rattle.std.specs.Prelude.{◌≡◌, ℕ, IfOk, length, nat_eq};
 ghost use Rattle.std.specs.List.{find};
 ghost use Rattle.bv_terms.specs.Trees.{Keeps};
 ghost use Rattle.mem_terms.specs.Values.{AreSymValues, IsNaming, IsSymValue, Reading, value_at, values_at};
@@ -8,6 +8,7 @@ ghost use Rattle.points.specs.declared.machine.Machine.{Machine};
 ghost use Rattle.points.specs.Run.{entry_value, phi_value, with_phis};
 
 use crate::operands::{operand_of, typed};
+use crate::state::assign;
 use bv_terms::Terms;
 use ir_tree::{Phi, PhiEntry};
 use mem_terms::{SymValue, poison_value};
@@ -60,18 +61,9 @@ fn phi_value(
     Ok(value)
 }
 
-/// Gives a name its value. A name that there is no register for is left out.
-pub fn put(registers: &mut Sequence<SymValue>, name: usize, value: SymValue)
-    ensures { registers.new ≡ slice_set registers.old name value }
-{
-    if name < registers.len() {
-        registers.set(name, value);
-    }
-}
-
 /// The registers after the phis of a block that is entered from the one with this label. All phis
 /// read the registers before them.
-pub fn registers_behind(
+pub fn registers_after(
     alloc: Global,
     terms: &mut Terms,
     registers: &[SymValue],
@@ -80,14 +72,14 @@ pub fn registers_behind(
 ) -> Result<Sequence<SymValue>, NoMemory>
     requires { AreSymValues terms.old registers.now }
     ensures made { IfOk result (AreSymValues terms.new) }
-    ensures count { IfOk result (λ behind. length behind ≡ length registers.now) }
-    ensures stands { IfOk result (λ behind. (r : Reading) (m : Machine) → IsNaming r.name → values_at r terms.old registers.now ≡ m.registers → m.block ≡ label → record m { registers = values_at r terms.new behind } ≡ with_phis m phis.now m) }
+    ensures count { IfOk result (λ after. length after ≡ length registers.now) }
+    ensures stands { IfOk result (λ after. (r : Reading) (m : Machine) → IsNaming r.name → values_at r terms.old registers.now ≡ m.registers → m.block ≡ label → record m { registers = values_at r terms.new after } ≡ with_phis m phis.now m) }
     ensures kept { Keeps terms.old terms.new }
 {
-    let mut behind = Sequence::from_vec(registers.to_vec(alloc)?);
+    let mut after = Sequence::from_vec(registers.to_vec(alloc)?);
     for phi in phis {
         let value = phi_value(terms, registers, label, phi)?;
-        put(&mut behind, phi.into, value);
+        assign(&mut after, phi.into, value);
     }
-    Ok(behind)
+    Ok(after)
 }

@@ -34,7 +34,7 @@ pub struct RunState {
     pub memory: RunMemory,
     pub tally: Tally,
     /// No run that comes there has read more words.
-    pub most: usize,
+    pub words_bound: usize,
 }
 
 impl RunMemory {
@@ -73,13 +73,11 @@ fn copy_block(alloc: Global, block: &SymBlock) -> Result<SymBlock, NoMemory>
     })
 }
 
-impl RunState {
-    /// Gives a name its value. A name that there is no register for is left out.
-    pub fn assign(&mut self, into: usize, value: SymValue)
-        ensures { self.new ≡ record self.old { registers = slice_set self.old.registers into value } }
-    {
-        if into < self.registers.len() {
-            self.registers.set(into, value);
-        }
+/// Gives a name its value. A name that there is no register for is left out.
+pub fn assign(registers: &mut Sequence<SymValue>, name: usize, value: SymValue)
+    ensures { registers.new ≡ slice_set registers.old name value }
+{
+    if name < registers.len() {
+        registers.set(name, value);
     }
 }

@@ -1,15 +1,18 @@
 //! How a block ends (LLVM Language Reference, "Terminator Instructions").
 
-ghost use Rattle.std.specs.Prelude.{◌≡◌, ◌∷◌, ◌%◌, ◌^◌, ◌&&◌, not, nat_eq, true, cond, ℕ, Some, IfOk, OnOk, map, is_some};
+ghost use Rattle.std.specs.Prelude.{◌≡◌, ◌∷◌, ◌%◌, ◌^◌, ◌&&◌, not, nat_eq, true, if◌then◌else◌, ℕ, Some, IfOk, OnOk, map, is_some};
 ghost use Rattle.std.specs.List.{find};
 ghost use Rattle.std.specs.Option.{option_map_or};
 ghost use Rattle.ir_tree.specs.Flow.{targets};
-ghost use Rattle.points.specs.Run.{exit_by, operand_value, returned_run, returned_with, undef_type};
+ghost use Rattle.points.specs.declared.machine.Machine.{Machine};
+ghost use Rattle.points.specs.declared.outcome.Outcome.TheVariants.{Ub};
+ghost use Rattle.points.specs.Run.{ended, exit_by, operand_value, returned_run, returned_with, undef_type};
 ghost use Rattle.unroll.specs.Layers.{Done, along, left_by};
 ghost use Rattle.bv_terms.specs.Trees.{IsTerm, Keeps, Tests, bit_at, term_at};
+ghost use Rattle.mem_terms.specs.Values.{IsSymValue};
 ghost use Rattle.mem_terms.specs.Inputs.{AreWords};
-ghost use Rattle.run_terms.specs.Runs.{IsState, Scene, Sees, Visit, shape_of};
-ghost use Rattle.run_terms.specs.Frontier.{AreByLabel, HasShape, IsFrontier, Moves, branched, placed, shape_in, switched_on};
+ghost use Rattle.run_terms.specs.Runs.{IsState, IsTally, MatchesState, Scene, Sees, Visit};
+ghost use Rattle.run_terms.specs.Frontier.{AreByLabel, Everywhere, IsLeaving, IsReturned, Leaves, Simulates, branched, switched_on};
 ghost use Rattle.ir_tree.specs.Limits.{FitsReturn};
 
 use crate::choices::choose;
@@ -18,10 +21,10 @@ use crate::frontier::{Frontier, Leaving};
 use crate::instructions::and_not;
 use crate::operands::{number_of, typed_operand_of};
 use crate::setting::Setting;
-use crate::state::RunState;
+use crate::state::Tally;
 use bv_terms::{TermId, Terms};
 use ir_tree::{Case, IrType, Operand, Terminator, TypedOperand};
-use mem_terms::{both, equals, resize};
+use mem_terms::{SymValue, both, equals, resize};
 use support::NoMemory;
 use term_rules::constant;
 use tv_num::{Width, wrap};
@@ -50,103 +53,126 @@ fn undef_type(returned: TypedOperand) -> Option<IrType>
     }
 }
 
+/// Where the value that a terminator uses is poison, which this bit says, the run ends in undefined
+/// behaviour. It goes on under the condition that is returned.
+fn end_where_poison(
+    setting: Setting,
+    terms: &mut Terms,
+    frontier: &mut Frontier,
+    leaving: Leaving,
+    poison: TermId,
+) -> Result<TermId, NoMemory>
+    requires leaving { IsLeaving setting terms.old frontier.old leaving }
+    requires poison { IsTerm terms.old 1 poison }
+    ensures leaving { IfOk result (λ c. IsLeaving setting.entry terms.new frontier.new (record leaving.entry { c = c })) }
+    ensures rest { IfOk result (λ c. (v : ℕ → ℕ → ℕ) → bit_at v terms.new c ≡ (bit_at v terms.old leaving.entry.c && not (bit_at v terms.old poison))) }
+    ensures simulates { IfOk result (λ c. (g : Scene) (at : Visit)
+        → Simulates g terms.old terms.new frontier.old frontier.new (bit_at g.v terms.old leaving.entry.c && bit_at g.v terms.old poison) at leaving.entry.state.now (λ m. Done (ended Ub m))) }
+    ensures kept { Keeps terms.old terms.new }
+{
+    let (undefined, defined) = split(terms, leaving.c, poison)?;
+    let ending = &mut frontier.ending;
+    ending.end_undefined(terms, undefined, leaving.state.tally)?;
+    Ok(defined)
+}
+
+/// What the operand is where the run returns it, undef as a choice, and the choices with it.
+fn returned_value(
+    setting: Setting,
+    terms: &mut Terms,
+    leaving: Leaving,
+    returned: TypedOperand,
+) -> Result<(SymValue, Tally), NoMemory>
+    requires state { IsState terms.old leaving.state.now }
+    requires c { IsTerm terms.old 1 leaving.c }
+    requires tape { AreWords terms.old setting.tape.now }
+    ensures value { IfOk result (λ p. IsSymValue terms.new p.0) }
+    ensures tally { IfOk result (λ p. IsTally terms.new p.1) }
+    ensures stands { IfOk result (λ p. (g : Scene) (at : Visit) (m : Machine) → Sees g terms.old setting.entry.tape.now → bit_at g.v terms.old leaving.entry.c ≡ true → MatchesState g terms.old at leaving.entry.state.now m
+        → IsReturned g terms.new p.1 (Some p.0) m (returned_with (undef_type returned.of_type returned.operand) returned g.tape m)) }
+    ensures kept { Keeps terms.old terms.new }
+{
+    let state = leaving.state;
+    match undef_type(returned) {
+        Some(of_type) => {
+            let choice = choose(terms, state, leaving.c, of_type, setting.tape)?;
+            Ok((choice.value, choice.tally))
+        }
+        None => {
+            let value = typed_operand_of(terms, state.registers.as_slice(), returned)?;
+            Ok((value, state.tally))
+        }
+    }
+}
+
 /// Where the condition holds, the operand is returned, undef as a choice.
 fn return_operand(
     setting: Setting,
     terms: &mut Terms,
     frontier: &mut Frontier,
-    c: TermId,
-    state: &RunState,
+    leaving: Leaving,
     returned: TypedOperand,
 ) -> Result<(), NoMemory>
-    requires frontier { IsFrontier terms.old frontier.old }
-    requires shape { HasShape setting frontier.old }
+    requires leaving { IsLeaving setting terms.old frontier.old leaving }
     requires value { is_some setting.f.now.returns ≡ true }
-    requires c { IsTerm terms.old 1 c }
-    requires state { IsState terms.old state.now }
-    requires fits { shape_of state.now ≡ shape_in setting }
     requires tape { AreWords terms.old setting.tape.now }
-    ensures frontier { OnOk result (IsFrontier terms.new frontier.new) }
-    ensures shape { OnOk result (HasShape setting.entry frontier.new) }
-    ensures moves { OnOk result ((g : Scene) (at : Visit) → Sees g terms.old setting.entry.tape.now
-        → Moves g terms.old terms.new frontier.old frontier.new c at state.now (λ m. Done (returned_with (undef_type returned.of_type returned.operand) returned g.tape m))) }
+    ensures leaves { OnOk result (Leaves (λ g. Sees g terms.old setting.entry.tape.now) setting.entry leaving.entry terms.old terms.new frontier.old frontier.new (λ g m. Done (returned_with (undef_type returned.of_type returned.operand) returned g.tape m))) }
     ensures kept { Keeps terms.old terms.new }
 {
-    let alloc = setting.alloc;
-    let given = state.memory.given();
-    match undef_type(returned) {
-        Some(of_type) => {
-            let choice = choose(terms, state, c, of_type, setting.tape)?;
-            frontier.end_return(alloc, terms, c, Some(choice.value), given, choice.tally)?;
-            Ok(())
-        }
-        None => {
-            let value = typed_operand_of(terms, state.registers.as_slice(), returned)?;
-            frontier.end_return(alloc, terms, c, Some(value), given, state.tally)?;
-            Ok(())
-        }
-    }
+    let (value, tally) = returned_value(setting, terms, leaving, returned)?;
+    let given = leaving.state.memory.given();
+    let ending = &mut frontier.ending;
+    ending.end_return(setting.alloc, terms, leaving.c, Some(value), given, tally)?;
+    Ok(())
 }
 
-/// The run returns the operand where it is alive and that is neither poison nor undef; where it is,
-/// that is undefined behaviour.
+/// The run returns the operand where that is neither poison nor undef; where it is, that is
+/// undefined behaviour.
 fn return_defined(
     setting: Setting,
     terms: &mut Terms,
     frontier: &mut Frontier,
-    state: &RunState,
+    leaving: Leaving,
     returned: TypedOperand,
 ) -> Result<(), NoMemory>
-    requires frontier { IsFrontier terms.old frontier.old }
-    requires shape { HasShape setting frontier.old }
+    requires leaving { IsLeaving setting terms.old frontier.old leaving }
     requires value { is_some setting.f.now.returns ≡ true }
-    requires state { IsState terms.old state.now }
-    requires fits { shape_of state.now ≡ shape_in setting }
     requires tape { AreWords terms.old setting.tape.now }
-    ensures frontier { OnOk result (IsFrontier terms.new frontier.new) }
-    ensures shape { OnOk result (HasShape setting.entry frontier.new) }
-    ensures moves { OnOk result ((g : Scene) (at : Visit) → Sees g terms.old setting.entry.tape.now
-        → Moves g terms.old terms.new frontier.old frontier.new state.now.alive at state.now (λ m. Done (returned_run true (Some returned) g.tape m))) }
+    ensures leaves { OnOk result (Leaves (λ g. Sees g terms.old setting.entry.tape.now) setting.entry leaving.entry terms.old terms.new frontier.old frontier.new (λ g m. Done (returned_run true (Some returned) g.tape m))) }
     ensures kept { Keeps terms.old terms.new }
 {
-    let value = typed_operand_of(terms, state.registers.as_slice(), returned)?;
-    let (undefined, defined) = split(terms, state.alive, value.poison)?;
-    frontier.end_undefined(terms, undefined, state.tally)?;
-    return_operand(setting, terms, frontier, defined, state, returned)
+    let value = typed_operand_of(terms, leaving.state.registers.as_slice(), returned)?;
+    let c = end_where_poison(setting, terms, frontier, leaving, value.poison)?;
+    return_operand(setting, terms, frontier, Leaving { c, ..leaving }, returned)
 }
 
-/// The run returns where it is alive. Where the return is `noundef`, poison and undef are undefined
-/// behaviour.
+/// The run returns. Where the return is `noundef`, poison and undef are undefined behaviour.
 fn leave_by_return(
     setting: Setting,
     terms: &mut Terms,
     frontier: &mut Frontier,
-    state: &RunState,
+    leaving: Leaving,
     returned: Option<TypedOperand>,
 ) -> Result<(), NoMemory>
-    requires frontier { IsFrontier terms.old frontier.old }
-    requires shape { HasShape setting frontier.old }
+    requires leaving { IsLeaving setting terms.old frontier.old leaving }
     requires value { is_some returned ≡ is_some setting.f.now.returns }
-    requires state { IsState terms.old state.now }
-    requires fits { shape_of state.now ≡ shape_in setting }
     requires tape { AreWords terms.old setting.tape.now }
-    ensures frontier { OnOk result (IsFrontier terms.new frontier.new) }
-    ensures shape { OnOk result (HasShape setting.entry frontier.new) }
-    ensures moves { OnOk result ((g : Scene) (at : Visit) → Sees g terms.old setting.entry.tape.now
-        → Moves g terms.old terms.new frontier.old frontier.new state.now.alive at state.now (λ m. Done (returned_run setting.entry.f.now.returns_no_undef returned g.tape m))) }
+    ensures leaves { OnOk result (Leaves (λ g. Sees g terms.old setting.entry.tape.now) setting.entry leaving.entry terms.old terms.new frontier.old frontier.new (λ g m. Done (returned_run setting.entry.f.now.returns_no_undef returned g.tape m))) }
     ensures kept { Keeps terms.old terms.new }
 {
     match returned {
         None => {
-            let given = state.memory.given();
-            frontier.end_return(setting.alloc, terms, state.alive, None, given, state.tally)?;
+            let given = leaving.state.memory.given();
+            let tally = leaving.state.tally;
+            let ending = &mut frontier.ending;
+            ending.end_return(setting.alloc, terms, leaving.c, None, given, tally)?;
             Ok(())
         }
         Some(returned) => {
             if setting.f.returns_no_undef {
-                return_defined(setting, terms, frontier, state, returned)
+                return_defined(setting, terms, frontier, leaving, returned)
             } else {
-                return_operand(setting, terms, frontier, state.alive, state, returned)
+                return_operand(setting, terms, frontier, leaving, returned)
             }
         }
     }
@@ -162,16 +188,9 @@ fn leave_by_bit(
     if_true: Edge,
     if_false: Edge,
 ) -> Result<(), NoMemory>
-    requires frontier { IsFrontier terms.old frontier.old }
-    requires shape { HasShape setting frontier.old }
-    requires c { IsTerm terms.old 1 leaving.c }
-    requires state { IsState terms.old leaving.state.now }
-    requires fits { shape_of leaving.state.now ≡ shape_in setting }
+    requires leaving { IsLeaving setting terms.old frontier.old leaving }
     requires bit { IsTerm terms.old 1 bit }
-    ensures frontier { OnOk result (IsFrontier terms.new frontier.new) }
-    ensures shape { OnOk result (HasShape setting.entry frontier.new) }
-    ensures moves { OnOk result ((g : Scene) (turn : ℕ) → Moves g terms.old terms.new frontier.old frontier.new leaving.entry.c (record { label = leaving.entry.label; turn = turn }) leaving.entry.state.now (λ m.
-        cond (bit_at g.v terms.old bit) (placed setting.entry.f.now setting.entry.copies.now leaving.entry.ahead (along if_true m)) (placed setting.entry.f.now setting.entry.copies.now leaving.entry.ahead (along if_false m)))) }
+    ensures leaves { OnOk result (Leaves Everywhere setting.entry leaving.entry terms.old terms.new frontier.old frontier.new (λ g m. along (if bit_at g.v terms.old bit then if_true else if_false) m)) }
     ensures kept { Keeps terms.old terms.new }
 {
     let (on, off) = split(terms, leaving.c, bit)?;
@@ -202,26 +221,14 @@ fn leave_by_branch(
     if_true: Edge,
     if_false: Edge,
 ) -> Result<(), NoMemory>
-    requires frontier { IsFrontier terms.old frontier.old }
-    requires shape { HasShape setting frontier.old }
-    requires c { IsTerm terms.old 1 leaving.c }
-    requires state { IsState terms.old leaving.state.now }
-    requires fits { shape_of leaving.state.now ≡ shape_in setting }
-    ensures frontier { OnOk result (IsFrontier terms.new frontier.new) }
-    ensures shape { OnOk result (HasShape setting.entry frontier.new) }
-    ensures moves { OnOk result ((g : Scene) (turn : ℕ) → Moves g terms.old terms.new frontier.old frontier.new leaving.entry.c (record { label = leaving.entry.label; turn = turn }) leaving.entry.state.now (λ m.
-        placed setting.entry.f.now setting.entry.copies.now leaving.entry.ahead (branched (operand_value m.registers condition) if_true if_false m))) }
+    requires { IsLeaving setting terms.old frontier.old leaving }
+    ensures leaves { OnOk result (Leaves Everywhere setting.entry leaving.entry terms.old terms.new frontier.old frontier.new (λ g m. branched (operand_value m.registers condition) if_true if_false m)) }
     ensures kept { Keeps terms.old terms.new }
 {
-    let state = leaving.state;
-    let test = number_of(terms, state.registers.as_slice(), condition)?;
+    let test = number_of(terms, leaving.state.registers.as_slice(), condition)?;
     let lowest = resize(terms, test.number, 1)?;
-    let (undefined, defined) = split(terms, leaving.c, test.poison)?;
-    frontier.end_undefined(terms, undefined, state.tally)?;
-    let leaving = Leaving {
-        c: defined,
-        ..leaving
-    };
+    let c = end_where_poison(setting, terms, frontier, leaving, test.poison)?;
+    let leaving = Leaving { c, ..leaving };
     leave_by_bit(setting, terms, frontier, leaving, lowest, if_true, if_false)
 }
 
@@ -263,17 +270,10 @@ fn leave_by_cases(
     leaving: Leaving,
     switch: Switch,
 ) -> Result<(), NoMemory>
-    requires frontier { IsFrontier terms.old frontier.old }
-    requires shape { HasShape setting frontier.old }
-    requires c { IsTerm terms.old 1 leaving.c }
-    requires state { IsState terms.old leaving.state.now }
-    requires fits { shape_of leaving.state.now ≡ shape_in setting }
+    requires leaving { IsLeaving setting terms.old frontier.old leaving }
     requires number { IsTerm terms.old switch.width.bits switch.number }
-    ensures frontier { OnOk result (IsFrontier terms.new frontier.new) }
-    ensures shape { OnOk result (HasShape setting.entry frontier.new) }
-    ensures moves { OnOk result ((g : Scene) (turn : ℕ) (edge : Case → Edge) (default : Edge) → switch.entry.edges.now ≡ default ∷ map edge switch.entry.cases.now
-        → Moves g terms.old terms.new frontier.old frontier.new leaving.entry.c (record { label = leaving.entry.label; turn = turn }) leaving.entry.state.now (λ m. placed setting.entry.f.now setting.entry.copies.now leaving.entry.ahead
-        (along (option_map_or edge (find (λ case. nat_eq (case.value % 2 ^ switch.entry.width.bits) (term_at g.v terms.old switch.entry.number)) switch.entry.cases.now) default) m))) }
+    ensures leaves { OnOk result ((edge : Case → Edge) (default : Edge) → switch.entry.edges.now ≡ default ∷ map edge switch.entry.cases.now
+        → Leaves Everywhere setting.entry leaving.entry terms.old terms.new frontier.old frontier.new (λ g m. along (option_map_or edge (find (λ case. nat_eq (case.value % 2 ^ switch.entry.width.bits) (term_at g.v terms.old switch.entry.number)) switch.entry.cases.now) default) m)) }
     ensures kept { Keeps terms.old terms.new }
 {
     let mut left = leaving.c;
@@ -310,28 +310,16 @@ fn leave_by_switch(
     cases: &[Case],
     edges: &[Edge],
 ) -> Result<(), NoMemory>
-    requires frontier { IsFrontier terms.old frontier.old }
-    requires shape { HasShape setting frontier.old }
-    requires c { IsTerm terms.old 1 leaving.c }
-    requires state { IsState terms.old leaving.state.now }
-    requires fits { shape_of leaving.state.now ≡ shape_in setting }
-    ensures frontier { OnOk result (IsFrontier terms.new frontier.new) }
-    ensures shape { OnOk result (HasShape setting.entry frontier.new) }
-    ensures moves { OnOk result ((g : Scene) (turn : ℕ) (edge : Case → Edge) (default : Edge) → edges.now ≡ default ∷ map edge cases.now
-        → Moves g terms.old terms.new frontier.old frontier.new leaving.entry.c (record { label = leaving.entry.label; turn = turn }) leaving.entry.state.now (λ m. placed setting.entry.f.now setting.entry.copies.now leaving.entry.ahead
-        (switched_on on.0.bits (operand_value m.registers on.1) edge default cases.now m))) }
+    requires { IsLeaving setting terms.old frontier.old leaving }
+    ensures leaves { OnOk result ((edge : Case → Edge) (default : Edge) → edges.now ≡ default ∷ map edge cases.now
+        → Leaves Everywhere setting.entry leaving.entry terms.old terms.new frontier.old frontier.new (λ g m. switched_on on.0.bits (operand_value m.registers on.1) edge default cases.now m)) }
     ensures kept { Keeps terms.old terms.new }
 {
     let (width, operand) = on;
-    let state = leaving.state;
-    let value = number_of(terms, state.registers.as_slice(), operand)?;
+    let value = number_of(terms, leaving.state.registers.as_slice(), operand)?;
     let number = resize(terms, value.number, width.bits())?;
-    let (undefined, defined) = split(terms, leaving.c, value.poison)?;
-    frontier.end_undefined(terms, undefined, state.tally)?;
-    let leaving = Leaving {
-        c: defined,
-        ..leaving
-    };
+    let c = end_where_poison(setting, terms, frontier, leaving, value.poison)?;
+    let leaving = Leaving { c, ..leaving };
     let switch = Switch {
         number,
         width,
@@ -350,24 +338,16 @@ pub fn leave(
     terminator: &Terminator,
     edges: &[Edge],
 ) -> Result<(), NoMemory>
-    requires frontier { IsFrontier terms.old frontier.old }
-    requires shape { HasShape setting frontier.old }
-    requires state { IsState terms.old leaving.state.now }
-    requires fits { shape_of leaving.state.now ≡ shape_in setting }
-    requires alive { leaving.c ≡ leaving.state.now.alive }
+    requires leaving { IsLeaving setting terms.old frontier.old leaving }
     requires returned { FitsReturn setting.f.now.returns terminator.now }
     requires edges { AreByLabel (targets terminator.now) edges.now }
     requires tape { AreWords terms.old setting.tape.now }
-    ensures frontier { OnOk result (IsFrontier terms.new frontier.new) }
-    ensures shape { OnOk result (HasShape setting.entry frontier.new) }
-    ensures moves { OnOk result ((g : Scene) (turn : ℕ) → Sees g terms.old setting.entry.tape.now
-        → Moves g terms.old terms.new frontier.old frontier.new leaving.entry.c (record { label = leaving.entry.label; turn = turn }) leaving.entry.state.now (λ m.
-        placed setting.entry.f.now setting.entry.copies.now leaving.entry.ahead (left_by (targets terminator.now) edges.now (exit_by setting.entry.f.now.returns_no_undef terminator.now g.tape m)))) }
+    ensures leaves { OnOk result (Leaves (λ g. Sees g terms.old setting.entry.tape.now) setting.entry leaving.entry terms.old terms.new frontier.old frontier.new (λ g m. left_by (targets terminator.now) edges.now (exit_by setting.entry.f.now.returns_no_undef terminator.now g.tape m))) }
     ensures kept { Keeps terms.old terms.new }
 {
     match terminator {
         Terminator::Return(returned) => {
-            leave_by_return(setting, terms, frontier, leaving.state, *returned)
+            leave_by_return(setting, terms, frontier, leaving, *returned)
         }
         Terminator::Branch { .. } => {
             let edge = edge_at(edges, 0);
@@ -391,7 +371,8 @@ pub fn leave(
             leave_by_switch(setting, terms, frontier, leaving, on, cases, edges)
         }
         Terminator::Unreachable => {
-            frontier.end_undefined(terms, leaving.c, leaving.state.tally)?;
+            let ending = &mut frontier.ending;
+            ending.end_undefined(terms, leaving.c, leaving.state.tally)?;
             Ok(())
         }
     }

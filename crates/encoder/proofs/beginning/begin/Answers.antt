@@ -5,7 +5,7 @@ use Rattle.mem_terms.specs.Inputs.{IsBlockTerms, IsByteTerms}
 use Rattle.mem_terms.proofs.Eaches.{each-weaker}
 use Rattle.mem_terms.proofs.Later.{keeps_trans, args-later, args_at-later, term-later, bit-later, sym_values-later, is_term-later, sizes-later, block_terms_each-later, given_blocks_at-later, given_blocks-later}
 use Rattle.run_terms.proofs.Lasting.{run_memory-later}
-use Rattle.run_terms.proofs.Arguments.{begin_carries, only_frames, only_given}
+use Rattle.run_terms.proofs.Arguments.{first_matches, only_frames, only_given}
 use Rattle.encoder.proofs.beginning.begin.Goals as goal
 
 pub give_args-requires-clause-args : goal.give_args-requires-clause-args
@@ -74,8 +74,8 @@ returns-clause-alive c = λ r.
     bit-later y d ky r.v c.in_ok-alive.alive c.in_ok-alive.ensures.made.within
     ∙ (c.in_ok-alive.ensures.made.says r.v ∙ ap not (sym (bit-later x d kx r.v c.in_ok-undefined.undefined c.in_ok-undefined.ensures.made.within)))
 
-pub returns-clause-carries : goal.returns-clause-carries
-returns-clause-carries c = λ g given.
+pub returns-clause-matches : goal.returns-clause-matches
+returns-clause-matches c = λ g given.
     let old = c.args.terms.now in
     let a = c.poison_registers.new.terms in
     let b = c.give_args.new.terms in
@@ -88,8 +88,8 @@ returns-clause-carries c = λ g given.
     let kby = keeps_trans b x y c.breaks_no_undef.ensures.kept c.negation.ensures.kept in
     let input = c.args.input.now in
     let memory = c.in_ok-memory.ensures in
-    begin_carries old a b y z d c.args.f.now input c.in_ok-registers.registers
-    (record { alive = c.in_ok-alive.alive; registers = c.give_args.new.registers; memory = c.in_ok-memory.memory; tally = record { read = c.in_ok-read.read; fits = c.in_ok-fits.fits }; most = 0 })
+    first_matches old a b y z d c.args.f.now input c.in_ok-registers.registers
+    (record { alive = c.in_ok-alive.alive; registers = c.give_args.new.registers; memory = c.in_ok-memory.memory; tally = record { read = c.in_ok-read.read; fits = c.in_ok-fits.fits }; words_bound = 0 })
     c.poison_registers.ensures.kept c.give_args.ensures.kept kby c.given_memory.ensures.kept (keeps_trans z n d c.number.ensures.kept c.truth.ensures.kept)
     c.requires.args c.in_ok-give_args.ensures.made (only_given z c.in_ok-memory.memory c.args.layout.now memory.given memory.count)
     (λ r. rw c.len.ensures at (c.in_ok-registers.ensures.stands r)) (λ r named. rw (c.as_slice.ensures, c.as_slice-args.ensures) at (c.in_ok-give_args.ensures.stands r named))

@@ -4,7 +4,7 @@ use Rattle.mem_terms.specs.declared.inputs.ArgTerms.TheVariants as arg
 use Rattle.mem_terms.specs.Values.{IsSymValue}
 use Rattle.mem_terms.proofs.Eaches.{at-any, each-set}
 use Rattle.mem_terms.proofs.Later.{keeps_trans, sym_values-later, args-later}
-use Rattle.run_terms.proofs.Reached.{set_length}
+use Rattle.std.proofs.lemmas.List.{length-set}
 use Rattle.run_terms.proofs.Arguments.{front_is, args_front, given_more}
 use Rattle.points.specs.Run.{with_args}
 use Rattle.mem_terms.specs.Values.{values_at}
@@ -28,10 +28,10 @@ loop-parameters-preserved c =
     let more_bs = take (length bs - 1) (drop 1 bs) in
     record {
       kept = keeps_trans c.args.terms.now a b c.loop-parameters.invariant.kept k;
-      made = rw c.put.ensures (each-set (IsSymValue b) c.loop-parameters.registers p.name c.in_ok-value.value (sym_values-later a b k c.loop-parameters.registers c.loop-parameters.invariant.made) c.in_ok-value.ensures.made);
-      count = ap (λ (rs : List SymValue). length rs) c.put.ensures ∙ (set_length c.loop-parameters.registers p.name c.in_ok-value.value ∙ c.loop-parameters.invariant.count);
+      made = rw c.assign.ensures (each-set (IsSymValue b) c.loop-parameters.registers p.name c.in_ok-value.value (sym_values-later a b k c.loop-parameters.registers c.loop-parameters.invariant.made) c.in_ok-value.ensures.made);
+      count = ap (λ (rs : List SymValue). length rs) c.assign.ensures ∙ (length-set c.loop-parameters.registers p.name c.in_ok-value.value ∙ c.loop-parameters.invariant.count);
       fit = args-later a b k more_ps more_bs (args_front a ps more_ps p bs more_bs first is are c.loop-parameters.invariant.fit).1;
-      given = rw c.put.ensures (given_more a b k ps more_ps p bs more_bs first c.loop-parameters.registers c.in_ok-value.value
+      given = rw c.assign.ensures (given_more a b k ps more_ps p bs more_bs first c.loop-parameters.registers c.in_ok-value.value
           (λ r. with_args c.args.parameters.now (args_at r c.args.terms.now c.args.args.now) (values_at r c.args.terms.now c.args.registers.now))
           is are c.loop-parameters.invariant.fit c.loop-parameters.invariant.made c.in_ok-value.ensures.stands c.loop-parameters.invariant.given);
     }

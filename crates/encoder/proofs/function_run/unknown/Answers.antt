@@ -1,6 +1,7 @@
 use Rattle.std.proofs.Common.{◌∙◌, ap, length, None}
 use Rattle.run_terms.specs.Frontier.{shape_in}
-use Rattle.encoder.proofs.Whole.{length-replicate, unknown_states, unknown_shape, unknown_unreached}
+use Rattle.std.proofs.lemmas.List.{length-replicate}
+use Rattle.encoder.proofs.Whole.{unknown_states, unknown_shape, unknown_unreached}
 use Rattle.encoder.proofs.function_run.unknown.Goals as goal
 
 pub returns-clause-made : goal.returns-clause-made

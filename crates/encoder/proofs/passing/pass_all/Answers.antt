@@ -3,7 +3,7 @@ use Rattle.std.proofs.lemmas.Option.{slice_get_read}
 use Rattle.unroll.specs.Layers.{Where, pass_copy, walk}
 use Rattle.mem_terms.proofs.Eaches.{each-at}
 use Rattle.mem_terms.proofs.Later.{keeps_trans, words-later}
-use Rattle.run_terms.specs.Frontier.{IsCopyIn, Tells, placed}
+use Rattle.run_terms.specs.Frontier.{IsCopyIn, MatchesFrontier, placed}
 use Rattle.run_terms.proofs.Lasting.{sees-later}
 use Rattle.run_terms.proofs.Through.{walk_more, walk_end}
 use Rattle.encoder.proofs.passing.pass_all.Goals as goal
@@ -23,8 +23,8 @@ loop-number-preserved c = record {
   within = (let lt = rw c.as_slice-copy-items.ensures at c.loop-number-test.true in omega (arith, lt));
   frontier = c.in_ok-pass_copy.ensures.frontier;
   shape = c.in_ok-pass_copy.ensures.shape;
-  tells = λ g w sees s.
-      let so = c.loop-number.invariant.tells g w sees s in (
+  matches = λ g w sees s.
+      let so = c.loop-number.invariant.matches g w sees s in (
         pass_copy c.args.setting.f.now c.loop-number.number c.copy-item.result g.tape so.0,
         sym (walk_more c.args.setting.f.now c.args.setting.copies.now c.loop-number.number c.copy-item.result g.tape so.0 (rw c.as_slice-copy-items.ensures at c.loop-number-test.true) (rw c.as_slice-copy-items.ensures at c.copy-item.is)) ∙ so.1,
         c.in_ok-pass_copy.ensures.passes g so.0 (sees-later c.args.terms.now c.loop-number.terms c.loop-number.invariant.kept g c.args.setting.tape.now c.requires.tape sees) so.2,
@@ -33,9 +33,9 @@ loop-number-preserved c = record {
 
 pub returns-clause-passes : goal.returns-clause-passes
 returns-clause-passes c = λ g w sees s.
-    let so = c.loop-number.invariant.tells g w sees s in
+    let so = c.loop-number.invariant.matches g w sees s in
     let past = rw c.as_slice-copy-items.ensures at c.loop-number-test.false in
     let all : c.loop-number.number ≡ length c.args.setting.copies.now = omega (arith, past, c.loop-number.invariant.within) in
     let there = sym (walk_end c.args.setting.f.now c.args.setting.copies.now c.loop-number.number g.tape so.0 past) ∙ so.1 in
-    subst (λ (n : ℕ). Tells g c.loop-number.terms c.loop-number.frontier (Some (placed c.args.setting.f.now c.args.setting.copies.now n (walk c.args.setting.f.now 0 c.args.setting.copies.now g.tape w)))) all
-    (subst (λ (x : Where). Tells g c.loop-number.terms c.loop-number.frontier (Some (placed c.args.setting.f.now c.args.setting.copies.now c.loop-number.number x))) there so.2)
+    subst (λ (n : ℕ). MatchesFrontier g c.loop-number.terms c.loop-number.frontier (Some (placed c.args.setting.f.now c.args.setting.copies.now n (walk c.args.setting.f.now 0 c.args.setting.copies.now g.tape w)))) all
+    (subst (λ (x : Where). MatchesFrontier g c.loop-number.terms c.loop-number.frontier (Some (placed c.args.setting.f.now c.args.setting.copies.now c.loop-number.number x))) there so.2)

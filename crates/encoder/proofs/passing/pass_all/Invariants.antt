@@ -3,7 +3,7 @@ use Rattle.std.proofs.Common.{◌≡◌, ◌≤◌, drop, length, Some}
 use Rattle.unroll.specs.Layers.{Where, walk}
 use Rattle.bv_terms.specs.Trees.{Keeps}
 use Rattle.run_terms.specs.Runs.{Scene, Sees}
-use Rattle.run_terms.specs.Frontier.{IsFrontier, HasShape, Tells, placed}
+use Rattle.run_terms.specs.Frontier.{IsFrontier, HasShape, MatchesFrontier, placed}
 use Rattle.encoder.proofs.passing.pass_all.Given as goal
 
 abbrev pub invariant-loop-number : goal.invariant-loop-number
@@ -12,6 +12,6 @@ invariant-loop-number l = record {
   within : l.number ≤ length l.setting.copies.now;
   frontier : IsFrontier l.terms l.frontier;
   shape : HasShape l.setting l.frontier;
-  tells : (g : Scene) (w : Where) → Sees g l.fn.terms l.setting.tape.now → Tells g l.fn.terms l.fn.frontier (Some (placed l.setting.f.now l.setting.copies.now 0 w))
-      → (x : Where) × (walk l.setting.f.now l.number (drop l.number l.setting.copies.now) g.tape x ≡ walk l.setting.f.now 0 l.setting.copies.now g.tape w) × Tells g l.terms l.frontier (Some (placed l.setting.f.now l.setting.copies.now l.number x));
+  matches : (g : Scene) (w : Where) → Sees g l.fn.terms l.setting.tape.now → MatchesFrontier g l.fn.terms l.fn.frontier (Some (placed l.setting.f.now l.setting.copies.now 0 w))
+      → (x : Where) × (walk l.setting.f.now l.number (drop l.number l.setting.copies.now) g.tape x ≡ walk l.setting.f.now 0 l.setting.copies.now g.tape w) × MatchesFrontier g l.terms l.frontier (Some (placed l.setting.f.now l.setting.copies.now l.number x));
 }

@@ -5,7 +5,8 @@ use Rattle.ir_tree.specs.Flow.{targets}
 use Rattle.points.specs.declared.machine.Machine.{Machine}
 use Rattle.points.specs.Run.{exit_insts}
 use Rattle.unroll.specs.Layers.{left_by, pass_copy}
-use Rattle.run_terms.specs.Frontier.{Moves, Tells, placed}
+use Rattle.bv_terms.specs.Trees.{bit_at}
+use Rattle.run_terms.specs.Frontier.{Simulates, MatchesFrontier, placed}
 use Rattle.run_terms.proofs.Through.{taken_frontier, taken_shape, entry_state, entry_shape, pass_unknown, pass_known}
 use Rattle.encoder.proofs.passing.pass_copy.Goals as goal
 
@@ -29,9 +30,9 @@ returns-in_ok-run_copy-in-Some-clause-passes c = λ g w sees s.
     let known = c.take_entry.ensures.value ∙ ap Some c.in-Some.is in
     let it = c.requires.copy in
     pass_known g c.args.terms.now c.run_copy.new.terms c.args.setting.f.now c.args.setting.copies.now c.args.frontier.now c.run_copy.new.frontier c.requires.frontier c.args.number c.args.copy.now it.block c.in-Some.entry w known c.requires.number it.is
-    (subst (λ (xs : List (Option RunState)). Moves g c.args.terms.now c.run_copy.new.terms (record { ahead = xs; ending = c.args.frontier.now.ending }) c.run_copy.new.frontier c.in-Some.entry.alive (record { label = it.block.label; turn = c.args.copy.now.turn }) c.in-Some.entry
+    (subst (λ (xs : List (Option RunState)). Simulates g c.args.terms.now c.run_copy.new.terms (record { ahead = xs; ending = c.args.frontier.now.ending }) c.run_copy.new.frontier (bit_at g.v c.args.terms.now c.in-Some.entry.alive) (record { label = it.block.label; turn = c.args.copy.now.turn }) c.in-Some.entry
     (λ (m : Machine). placed c.args.setting.f.now c.args.setting.copies.now (c.args.number + 1) (left_by (targets it.block.terminator) c.args.copy.now.edges (exit_insts c.args.setting.f.now.returns_no_undef it.block.insts it.block.terminator g.tape m)))) c.take_entry.ensures.rest
-    (c.in_ok-run_copy-in-Some.ensures.moves g it.block sees it.is)) s
+    (c.in_ok-run_copy-in-Some.ensures.simulates g it.block sees it.is)) s
 
 pub returns-in-None-clause-frontier : goal.returns-in-None-clause-frontier
 returns-in-None-clause-frontier c = taken_frontier c.args.terms.now c.args.frontier.now c.take_entry.new.ahead c.args.number c.take_entry.ensures.rest c.requires.frontier
@@ -42,6 +43,6 @@ returns-in-None-clause-shape c = taken_shape c.args.setting c.args.frontier.now 
 pub returns-in-None-clause-passes : goal.returns-in-None-clause-passes
 returns-in-None-clause-passes c = λ g w sees s.
     let it = c.requires.copy in
-    subst (λ (xs : List (Option RunState)). Tells g c.args.terms.now (record { ahead = xs; ending = c.args.frontier.now.ending })
+    subst (λ (xs : List (Option RunState)). MatchesFrontier g c.args.terms.now (record { ahead = xs; ending = c.args.frontier.now.ending })
     (Some (placed c.args.setting.f.now c.args.setting.copies.now (c.args.number + 1) (pass_copy c.args.setting.f.now c.args.number c.args.copy.now g.tape w)))) (sym c.take_entry.ensures.rest)
     (pass_unknown g c.args.terms.now c.args.setting.f.now c.args.setting.copies.now c.args.frontier.now c.requires.frontier c.args.number c.args.copy.now it.block w (c.take_entry.ensures.value ∙ ap Some c.in-None.is) c.requires.number it.is s)

@@ -34,12 +34,12 @@ returns-clause-takes c =
     let k02 = keeps_trans old t1 t2 c.word_at.ensures.kept c.number.ensures.kept in
     let k24 = keeps_trans t2 t3 t4 c.add.ensures.kept c.word_at-2.ensures.kept in
     let ka = keeps_trans old t4 a (keeps_trans old t2 t4 k02 k24) c.given_or_null.ensures.kept in
-    let enough : c.args.state.now.most + 1 < (c.args.state.now.most + 1) + 1 = omega arith in
+    let enough : c.args.state.now.words_bound + 1 < (c.args.state.now.words_bound + 1) + 1 = omega arith in
     pointer_takes old a b d e c.args.state.now.tally c.args.taken c.in_ok-first.first c.in_ok-block.block c.in_ok-read.read c.in_ok-fits.fits
     ka c.more_words.ensures.kept c.still_fits.ensures.kept c.pointer_value.ensures.kept c.requires.state.tally c.requires.taken c.in_ok-read.ensures.made c.in_ok-fits.ensures.made
-    t1 t2 t3 t4 c.args.tape.now c.words_up_to-words.result.now c.in_ok-one.one c.in_ok-next.next c.in_ok-offset.offset c.args.state.now ((c.args.state.now.most + 1) + 1)
+    t1 t2 t3 t4 c.args.tape.now c.words_up_to-words.result.now c.in_ok-one.one c.in_ok-next.next c.in_ok-offset.offset c.args.state.now ((c.args.state.now.words_bound + 1) + 1)
     c.requires.state c.values_fit.ensures c.requires.tape c.words_up_to-words.ensures
-    c.word_at.ensures.kept c.number.ensures.kept c.add.ensures.kept c.word_at-2.ensures.kept c.given_or_null.ensures.kept c.in_ok-most.ensures.room enough refl
+    c.word_at.ensures.kept c.number.ensures.kept c.add.ensures.kept c.word_at-2.ensures.kept c.given_or_null.ensures.kept c.in_ok-words_bound.ensures.room enough refl
     c.in_ok-first.ensures.made c.in_ok-one.ensures.made c.in_ok-next.ensures.made c.in_ok-offset.ensures.made c.in_ok-block.ensures.made
     c.in_ok-value.value c.in_ok-value.ensures.stands
 

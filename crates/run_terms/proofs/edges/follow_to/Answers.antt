@@ -1,15 +1,30 @@
-use Rattle.std.proofs.Common.{sym}
+use Rattle.std.proofs.Common.{◌∙◌, sym, subst, ap}
 use Rattle.points.specs.declared.outcome.Outcome.TheVariants.{Ub}
-use Rattle.run_terms.proofs.Moving.{moves_to, moves_end}
+use Rattle.run_terms.specs.Runs.{StateShape}
+use Rattle.run_terms.specs.Frontier.{HaveShape, ending_shape}
+use Rattle.run_terms.proofs.Moving.{ends_here, simulates_to}
 use Rattle.run_terms.proofs.edges.follow_to.Goals as goal
 
-pub returns-in_ok-arrive-in-Some-clause-moves : goal.returns-in_ok-arrive-in-Some-clause-moves
-returns-in_ok-arrive-in-Some-clause-moves c = λ g turn.
+pub returns-in_ok-arrive-in-Some-clause-leaves : goal.returns-in_ok-arrive-in-Some-clause-leaves
+returns-in_ok-arrive-in-Some-clause-leaves c =
     let goes = c.in-Some.ensures.goes c.get-block.result.now c.get-block.ensures in
-    moves_to g (record { label = c.args.leaving.label; turn = turn }) c.args.leaving.state.now c.args.terms.now c.arrive.new.terms c.args.frontier.now c.arrive.new.self c.args.leaving.c _ _ (λ m h. sym (goes.1 m)) (c.in_ok-arrive-in-Some.ensures.moves g turn goes.0)
+    let arrive = c.in_ok-arrive-in-Some.ensures in
+    let before = c.requires.shape in
+    record {
+      frontier = arrive.own;
+      shape = record {
+        ahead = subst (λ (x : StateShape). HaveShape x c.arrive.new.self.ahead) c.requires.fits arrive.shapes;
+        count = arrive.count ∙ before.count;
+        ending = ap ending_shape arrive.ending ∙ before.ending;
+      };
+      simulates = λ g turn here. simulates_to (arrive.simulates g turn goes.0) (λ m h. sym (goes.1 m));
+    }
 
-pub returns-in_ok-end_undefined-in-None-clause-moves : goal.returns-in_ok-end_undefined-in-None-clause-moves
-returns-in_ok-end_undefined-in-None-clause-moves c = λ g turn.
-    moves_to g (record { label = c.args.leaving.label; turn = turn }) c.args.leaving.state.now c.args.terms.now c.end_undefined.new.terms c.args.frontier.now c.end_undefined.new.self c.args.leaving.c _ _ (λ m h. sym (c.block_ahead.ensures.none c.in-None.is m))
-    (moves_end c.args.terms.now c.end_undefined.new.terms c.args.frontier.now c.end_undefined.new.self c.args.leaving.c c.args.leaving.state.now (record { label = c.args.leaving.label; turn = turn }) Ub
-    c.in_ok-end_undefined-in-None.ensures.stays c.in_ok-end_undefined-in-None.ensures.goes g)
+pub returns-in_ok-end_undefined-in-None-clause-leaves : goal.returns-in_ok-end_undefined-in-None-clause-leaves
+returns-in_ok-end_undefined-in-None-clause-leaves c =
+    let h = ends_here Ub c.end_undefined.ensures.kept c.requires c.in_ok-end_undefined-in-None.ensures.ends in
+    record {
+      frontier = h.frontier;
+      shape = h.shape;
+      simulates = λ g turn here. simulates_to (h.simulates g turn tt) (λ m at. sym (c.block_ahead.ensures.none c.in-None.is m));
+    }

@@ -1,19 +1,19 @@
 use Rattle.std.proofs.Common.{refl}
 use Rattle.mem_terms.proofs.Later.{is_term-later}
 use Rattle.run_terms.proofs.Lasting.{run_memory-later, tally-later}
-use Rattle.run_terms.proofs.Entering.{edge_carries}
+use Rattle.run_terms.proofs.Entering.{edge_matches}
 use Rattle.run_terms.proofs.frontier.state_on_edge.Goals as goal
 
 pub returns-clause-stands : goal.returns-clause-stands
-returns-clause-stands c = edge_carries c.args.terms.now c.registers_behind.new.terms c.args.state.now
-    (record { alive = c.args.c; registers = c.in_ok-registers.registers; memory = c.in_ok-memory.memory; tally = c.args.state.now.tally; most = c.args.state.now.most }) c.args.label c.args.block.now
-    c.requires.state c.registers_behind.ensures.kept c.in_ok-memory.ensures refl refl (λ r m. rw (c.as_slice.ensures, c.as_slice-2.ensures) at (c.in_ok-registers.ensures.stands r m))
+returns-clause-stands c = edge_matches c.args.terms.now c.registers_after.new.terms c.args.state.now
+    (record { alive = c.args.c; registers = c.in_ok-registers.registers; memory = c.in_ok-memory.memory; tally = c.args.state.now.tally; words_bound = c.args.state.now.words_bound }) c.args.label c.args.block.now
+    c.requires.state c.registers_after.ensures.kept c.in_ok-memory.ensures refl refl (λ r m. rw (c.as_slice.ensures, c.as_slice-2.ensures) at (c.in_ok-registers.ensures.stands r m))
 
 pub returns-clause-made : goal.returns-clause-made
 returns-clause-made c =
     let old = c.args.terms.now in
-    let new = c.registers_behind.new.terms in
-    let k = c.registers_behind.ensures.kept in
+    let new = c.registers_after.new.terms in
+    let k = c.registers_after.ensures.kept in
     record {
       alive = is_term-later old new k 1 c.args.c c.requires.c;
       registers = c.in_ok-registers.ensures.made;

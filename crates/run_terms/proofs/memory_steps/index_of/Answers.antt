@@ -5,7 +5,8 @@ use Rattle.mem_terms.specs.Values.{number_at, value_from, values_at}
 use Rattle.mem_terms.proofs.Later.{bit-later, is_term-later}
 use Rattle.access_terms.specs.Offsets.{index_at}
 use Rattle.run_terms.proofs.Reading.{cut_integer}
-use Rattle.run_terms.proofs.Accessing.{cut_from, index_small, whole_index}
+use Rattle.run_terms.proofs.Cutting.{cut-from}
+use Rattle.run_terms.proofs.Accessing.{index_small, whole_index}
 use Rattle.run_terms.proofs.memory_steps.index_of.Goals as goal
 
 pub returns-clause-made : goal.returns-clause-made
@@ -29,5 +30,5 @@ returns-clause-stands c = λ r names.
     let made = rw c.bits.ensures at c.in_ok-number.ensures.made in
     let read = c.in_ok-operand.ensures.stands r names in
     let value : value_from (bit_at r.v mid operand.poison) (term_at r.v mid operand.number % 2 ^ width) ≡ cut_value width (operand_value (values_at r c.args.terms.now c.args.registers.now) c.args.index.operand) =
-    cut_from (bit_at r.v mid operand.poison) (term_at r.v mid operand.number) width ∙ (ap (cut_value width) read ∙ cut_integer width (operand_value (values_at r c.args.terms.now c.args.registers.now) c.args.index.operand)) in
+    cut-from (bit_at r.v mid operand.poison) (term_at r.v mid operand.number) _ width refl ∙ (ap (cut_value width) read ∙ cut_integer width (operand_value (values_at r c.args.terms.now c.args.registers.now) c.args.index.operand)) in
     rw (bit-later mid new c.resize.ensures.kept r.v operand.poison c.in_ok-operand.ensures.made.poison.within, made.says r.v, value, c.indexed_size.ensures, whole_index c.args.of_type.now c.args.n c.requires.arrays) refl

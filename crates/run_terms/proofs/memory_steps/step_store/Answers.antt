@@ -1,7 +1,6 @@
-use Rattle.mem_terms.proofs.Later.{keeps_trans, sym_blocks-later, sym_values-later}
-use Rattle.run_terms.proofs.Changing.{blocks_later, memory_shape, store_frames, store_memory}
-use Rattle.run_terms.proofs.Accessing.{written_state}
-use Rattle.run_terms.proofs.Loading.{store_follows}
+use Rattle.mem_terms.proofs.Later.{keeps_trans, sym_values-later}
+use Rattle.run_terms.proofs.Changing.{blocks_later}
+use Rattle.run_terms.proofs.Loading.{store_steps}
 use Rattle.run_terms.proofs.memory_steps.step_store.Goals as goal
 
 pub typed_operand_of-requires : goal.typed_operand_of-requires
@@ -11,28 +10,10 @@ pub store-requires-clause-memory : goal.store-requires-clause-memory
 store-requires-clause-memory c =
     blocks_later c.args.terms.now c.typed_operand_of.new.terms (keeps_trans c.args.terms.now c.operand_of.new.terms c.typed_operand_of.new.terms c.operand_of.ensures.kept c.typed_operand_of.ensures.kept) c.args.state.now.memory c.requires.state.memory
 
-pub returns-clause-state : goal.returns-clause-state
-returns-clause-state c =
-    let old = c.args.terms.now in
-    let w = c.store.new.terms in
-    let new = c.both.new.terms in
-    let s = c.args.state.now in
-    let kt = keeps_trans old c.operand_of.new.terms c.typed_operand_of.new.terms c.operand_of.ensures.kept c.typed_operand_of.ensures.kept in
-    let kw = keeps_trans old c.typed_operand_of.new.terms w kt c.store.ensures.kept in
-    let k = keeps_trans old w new kw c.both.ensures.kept in
-    written_state old new k s c.requires.state c.in_ok-state.field-0 (record s.memory { blocks = c.store.new.memory })
-    (record { within = c.in_ok-state.ensures.made.within; wide = c.in_ok-state.ensures.made.wide })
-    (store_memory old new k s.memory c.requires.state.memory c.store.new.memory (sym_blocks-later w new c.both.ensures.kept c.store.new.memory c.in_ok-is_defined.ensures.memory) c.in_ok-is_defined.ensures.frames)
-
-pub returns-clause-shape : goal.returns-clause-shape
-returns-clause-shape c =
-    let s = c.args.state.now in
-    memory_shape s (record s.memory { blocks = c.store.new.memory }) (store_frames s.memory c.store.new.memory c.in_ok-is_defined.ensures.frames)
-
-pub returns-clause-stands : goal.returns-clause-stands
-returns-clause-stands c =
-    store_follows c.args.terms.now c.operand_of.new.terms c.typed_operand_of.new.terms c.store.new.terms c.both.new.terms c.operand_of.ensures.kept c.typed_operand_of.ensures.kept c.store.ensures.kept c.both.ensures.kept
+pub returns-clause-steps : goal.returns-clause-steps
+returns-clause-steps c =
+    store_steps c.args.terms.now c.operand_of.new.terms c.typed_operand_of.new.terms c.store.new.terms c.both.new.terms c.operand_of.ensures.kept c.typed_operand_of.ensures.kept c.store.ensures.kept c.both.ensures.kept
     c.args.state.now c.requires.state c.args.value c.args.pointer c.args.align c.in_ok-at.at c.in_ok-written.written c.in_ok-is_defined.is_defined c.in_ok-state.field-0 c.access_of-access.result c.store.new.memory
-    c.access_of-access.ensures c.in_ok-at.ensures.made c.in_ok-is_defined.ensures.memory
+    c.access_of-access.ensures c.in_ok-at.ensures.made c.in_ok-is_defined.ensures.memory c.in_ok-is_defined.ensures.frames
     (λ r names. rw c.as_slice-registers.ensures at (c.in_ok-at.ensures.stands r names)) (λ r names. rw c.as_slice-registers.ensures at (c.in_ok-written.ensures.stands r names))
     c.in_ok-is_defined.ensures.stands c.in_ok-is_defined.ensures.after c.in_ok-state.ensures.made

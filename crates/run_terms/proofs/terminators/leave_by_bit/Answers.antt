@@ -1,28 +1,29 @@
 use Rattle.std.proofs.lemmas.Result.{on_ok_weaker}
-use Rattle.bv_terms.specs.Trees.{bit_at}
-use Rattle.mem_terms.proofs.Later.{keeps_trans}
-use Rattle.run_terms.proofs.Lasting.{frontier-later, state-later}
-use Rattle.run_terms.proofs.Leaves.{split_moves}
+use Rattle.mem_terms.proofs.Later.{keeps_trans, is_term-later}
+use Rattle.run_terms.proofs.Lasting.{frontier-later, leaving-at, tested}
+use Rattle.run_terms.proofs.Leaves.{bit_leaves}
 use Rattle.run_terms.proofs.terminators.leave_by_bit.Goals as goal
 
-pub follow-requires-clause-frontier : goal.follow-requires-clause-frontier
-follow-requires-clause-frontier c = frontier-later c.args.terms.now c.split.new.terms c.split.ensures.kept c.args.frontier.now c.requires.frontier
+pub follow-requires : goal.follow-requires
+follow-requires c =
+    let old = c.args.terms.now in
+    let a = c.split.new.terms in
+    let h = c.requires.leaving in
+    leaving-at old a c.split.ensures.kept c.args.setting c.args.frontier.now c.args.frontier.now c.args.leaving c.in_ok-on.on h (frontier-later old a c.split.ensures.kept c.args.frontier.now h.frontier) h.shape (tested c.in_ok-on.ensures.on)
 
-pub follow-requires-clause-state : goal.follow-requires-clause-state
-follow-requires-clause-state c = state-later c.args.terms.now c.split.new.terms c.split.ensures.kept c.args.leaving.state.now c.requires.state
+pub follow-requires-2 : goal.follow-requires-2
+follow-requires-2 c =
+    let a = c.split.new.terms in
+    let b = c.follow.new.terms in
+    let after = c.in_ok-follow.ensures.leaves in
+    leaving-at c.args.terms.now b (keeps_trans c.args.terms.now a b c.split.ensures.kept c.follow.ensures.kept) c.args.setting c.args.frontier.now c.follow.new.frontier c.args.leaving c.in_ok-on.off c.requires.leaving
+    after.frontier after.shape (is_term-later a b c.follow.ensures.kept 1 c.in_ok-on.off (tested c.in_ok-on.ensures.off))
 
-pub follow-requires-2-clause-state : goal.follow-requires-2-clause-state
-follow-requires-2-clause-state c =
-    state-later c.args.terms.now c.follow.new.terms (keeps_trans c.args.terms.now c.split.new.terms c.follow.new.terms c.split.ensures.kept c.follow.ensures.kept) c.args.leaving.state.now c.requires.state
+pub returns-clause-leaves : goal.returns-clause-leaves
+returns-clause-leaves c = on_ok_weaker c.follow-2.result (λ so.
+    bit_leaves c.args.bit c.args.if_true c.args.if_false c.split.ensures.kept c.follow.ensures.kept c.requires.leaving c.in_ok-on.ensures.on c.in_ok-on.ensures.off c.in_ok-follow.ensures.leaves so) c.follow-2.ensures.leaves
 
 pub returns-clause-kept : goal.returns-clause-kept
 returns-clause-kept c =
     keeps_trans c.args.terms.now c.split.new.terms c.follow-2.new.terms c.split.ensures.kept
     (keeps_trans c.split.new.terms c.follow.new.terms c.follow-2.new.terms c.follow.ensures.kept c.follow-2.ensures.kept)
-
-pub returns-clause-moves : goal.returns-clause-moves
-returns-clause-moves c = on_ok_weaker c.follow-2.result (λ so g turn.
-    split_moves g (record { label = c.args.leaving.label; turn = turn }) c.args.leaving.state.now c.args.terms.now c.split.new.terms c.follow.new.terms c.follow-2.new.terms c.split.ensures.kept c.follow.ensures.kept c.args.frontier.now c.follow.new.frontier c.follow-2.new.frontier
-    c.args.leaving.c c.in_ok-on.on c.in_ok-on.off (bit_at g.v c.args.terms.now c.args.bit) _ _ c.requires.frontier c.requires.state c.requires.c
-    (record { within = c.in_ok-on.ensures.off.within; wide = c.in_ok-on.ensures.off.wide }) (c.in_ok-on.ensures.on.says g.v) (c.in_ok-on.ensures.off.says g.v)
-    (c.in_ok-follow.ensures.moves g turn) (so g turn)) c.follow-2.ensures.moves

@@ -1,22 +1,20 @@
-use Rattle.std.proofs.Common.{◌∙◌, sym, refl, None}
-use Rattle.points.specs.declared.machine.Machine.{Machine}
+use Rattle.std.proofs.Common.{◌∙◌, Bool, Some, None, ap, sym, refl}
+use Rattle.std.proofs.lemmas.Result.{on_ok_weaker}
+use Rattle.points.specs.Run.{returned_run}
+use Rattle.unroll.specs.Layers.{Done}
 use Rattle.mem_terms.proofs.Later.{keeps_self}
-use Rattle.run_terms.proofs.Through.{shape_after}
-use Rattle.run_terms.proofs.Returning.{ending_valued, given_shaped, moves_return}
+use Rattle.run_terms.proofs.Moving.{leaves_to}
+use Rattle.run_terms.proofs.Returning.{ending_valued, given_shaped, return_leaves}
 use Rattle.run_terms.proofs.terminators.leave_by_return.Goals as goal
 
 pub given-given-requires : goal.given-given-requires
-given-given-requires c = c.requires.state.memory.count
+given-given-requires c = c.requires.leaving.state.memory.count
 
 pub end_return-requires-clause-alike : goal.end_return-requires-clause-alike
-end_return-requires-clause-alike c = sym (ending_valued c.args.setting c.args.frontier.now c.requires.shape ∙ sym (rw c.in-None.is at c.requires.value))
+end_return-requires-clause-alike c = sym (ending_valued c.args.setting c.args.frontier.now c.requires.leaving.shape ∙ sym (rw c.in-None.is at c.requires.value))
 
 pub end_return-requires-clause-given : goal.end_return-requires-clause-given
-end_return-requires-clause-given c = rw c.given-given.ensures (given_shaped c.args.setting c.args.terms.now c.args.frontier.now c.args.state.now c.requires.shape c.requires.fits c.requires.state)
-
-pub returns-in_ok-end_return-in-None-clause-shape : goal.returns-in_ok-end_return-in-None-clause-shape
-returns-in_ok-end_return-in-None-clause-shape c =
-    shape_after c.args.setting c.args.frontier.now c.end_return.new.self c.in_ok-end_return-in-None.ensures.ahead c.in_ok-end_return-in-None.ensures.shape c.requires.shape
+end_return-requires-clause-given c = rw c.given-given.ensures (given_shaped c.args.setting c.args.terms.now c.args.frontier.now c.args.leaving c.requires.leaving)
 
 pub return_defined-requires-clause-value : goal.return_defined-requires-clause-value
 return_defined-requires-clause-value c = sym (rw c.in-Some.is at c.requires.value)
@@ -24,14 +22,14 @@ return_defined-requires-clause-value c = sym (rw c.in-Some.is at c.requires.valu
 pub return_operand-requires-clause-value : goal.return_operand-requires-clause-value
 return_operand-requires-clause-value c = sym (rw c.in-Some.is at c.requires.value)
 
-pub returns-in_ok-end_return-in-None-clause-moves : goal.returns-in_ok-end_return-in-None-clause-moves
-returns-in_ok-end_return-in-None-clause-moves c = rw c.in-None.is (λ g visit sees.
-    let old = c.args.terms.now in
-    moves_return g visit c.args.state.now old old c.end_return.new.terms (keeps_self old) c.args.frontier.now c.end_return.new.self c.requires.frontier c.requires.state c.args.state.now.alive c.requires.state.alive
-    None c.args.state.now.tally (λ (m : Machine). None) (λ (m : Machine). m.taken) (c.in_ok-end_return-in-None.ensures.stays g) (rw c.given-given.ensures at (c.in_ok-end_return-in-None.ensures.goes g)) (λ m held h. (h.tally, refl)))
+pub returns-in_ok-end_return-in-None-clause-leaves : goal.returns-in_ok-end_return-in-None-clause-leaves
+returns-in_ok-end_return-in-None-clause-leaves c = rw c.in-None.is (return_leaves None (keeps_self c.args.terms.now) c.end_return.ensures.kept c.requires.leaving
+    (rw c.given-given.ensures at c.in_ok-end_return-in-None.ensures.ends) (λ g at m sees held h. record { tally = h.tally; outcome = refl }))
 
-pub returns-then-setting-clause-moves : goal.returns-then-setting-clause-moves
-returns-then-setting-clause-moves c = rw (c.in-Some.is, c.if-setting.true) c.return_defined.ensures.moves
+pub returns-then-setting-clause-leaves : goal.returns-then-setting-clause-leaves
+returns-then-setting-clause-leaves c = rw c.in-Some.is (on_ok_weaker c.return_defined.result (λ so. leaves_to so (λ g sees. sees) (λ g m.
+    ap (λ (b : Bool). Done (returned_run b (Some c.in-Some.returned) g.tape m)) (sym c.if-setting.true))) c.return_defined.ensures.leaves)
 
-pub returns-else-setting-clause-moves : goal.returns-else-setting-clause-moves
-returns-else-setting-clause-moves c = rw (c.in-Some.is, c.if-setting.false) c.return_operand.ensures.moves
+pub returns-else-setting-clause-leaves : goal.returns-else-setting-clause-leaves
+returns-else-setting-clause-leaves c = rw c.in-Some.is (on_ok_weaker c.return_operand.result (λ so. leaves_to so (λ g sees. sees) (λ g m.
+    ap (λ (b : Bool). Done (returned_run b (Some c.in-Some.returned) g.tape m)) (sym c.if-setting.false))) c.return_operand.ensures.leaves)
