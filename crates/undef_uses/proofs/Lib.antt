@@ -1,0 +1,4 @@
+pub mod CountLemmas
+pub mod TableLemmas
+pub mod UseLemmas
+pub mod UserLemmas

@@ -1,0 +1,82 @@
+-- The lists of users as they are made, name by name.
+use Rattle.std.proofs.Common.{◌≡◌, ◌⊎◌, ◌≢◌, ◌+◌, ◌<◌, ℕ, List, [], ◌∷◌, ◌++◌, length, get_or, set, replicate, slice_get, Some, inl, inr, refl, sym, ◌∙◌, ap, subst, arith, length-set, All, Contains}
+use Rattle.std.proofs.lemmas.Bool.{cases_eq}
+use Rattle.std.proofs.lemmas.List.{get_or-set_same, get_or-set_other, length-replicate}
+use Rattle.std.proofs.lemmas.List.Elements.{All-replicate, All-nil, All-set, All-push, All-get_or, Contains-append_left, Contains-push}
+use Rattle.std.proofs.lemmas.Option.{slice_get_within, get_or_from_slice_get}
+use Rattle.ir_tree.specs.declared.tree.Operand.{Operand}
+use Rattle.ir_tree.specs.declared.tree.Operand.TheVariants.{Local}
+use Rattle.undef_uses.specs.declared.carried.Carried.{Carried}
+use Rattle.undef_uses.specs.Counts.{carried_at}
+use Rattle.undef_uses.specs.Users.{AreBelow, AreUsers, HasUser, HasUsers, Mentions, users_at}
+
+-- an operand that is no name of the lists adds nothing
+pub user_none : (users : List (List ℕ)) (o : Operand) (user : ℕ) → ((name : ℕ) → name < length users → o ≡ Local name → ⊥) → HasUser users users o user
+user_none users o user none = record {
+  long = refl;
+  kept = λ name other found. found;
+  added = λ name below is. absurd (none name below is);
+  below = λ most least all. all;
+}
+
+pub user_more : (users : List (List ℕ)) (name user : ℕ) (row row' : List ℕ) → slice_get users name ≡ Some row → row' ≡ row ++ user ∷ [] → HasUser users (set users name row') (Local name) user
+user_more users name user row row' read pushed = record { long = length-set users name row'; kept = λ n other found. kept n other (cases_eq n name) found; added = λ n below is. added n is; below = λ most least all. below most least all }
+  where
+    within : name < length users
+    within = slice_get_within users name row read
+
+    at : get_or users name [] ≡ row
+    at = get_or_from_slice_get users name row [] read
+
+    now : get_or (set users name row') name [] ≡ row'
+    now = get_or-set_same users name row' [] within
+
+    kept : (n other : ℕ) → (n ≡ name) ⊎ (n ≢ name) → Contains (get_or users n []) other → Contains (get_or (set users name row') n []) other
+    kept n other (inl same) found =
+        subst (λ (k : ℕ). Contains (get_or (set users name row') k []) other) (sym same)
+        (subst (λ (r : List ℕ). Contains r other) (sym (now ∙ pushed)) (Contains-append_left row (user ∷ []) other (subst (λ (r : List ℕ). Contains r other) at (subst (λ (k : ℕ). Contains (get_or users k []) other) same found))))
+    kept n other (inr away) found = subst (λ (r : List ℕ). Contains r other) (sym (get_or-set_other users name n row' [] away)) found
+
+    added : (n : ℕ) → Local name ≡ Local n → Contains (get_or (set users name row') n []) user
+    added n is =
+        let same : name ≡ n = cc in
+        subst (λ (k : ℕ). Contains (get_or (set users name row') k []) user) same (subst (λ (r : List ℕ). Contains r user) (sym (now ∙ pushed)) (Contains-push row user))
+
+    below : (most : ℕ) → user < most → AreBelow most users → AreBelow most (set users name row')
+    below most least all =
+        let old : All (λ u. u < most) row = subst (All (λ u. u < most)) at (All-get_or (All (λ u. u < most)) users name [] within all) in
+        All-set (All (λ u. u < most)) users name row' (subst (All (λ u. u < most)) (sym pushed) (All-push (λ u. u < most) row user old least)) all
+
+-- one after another
+pub users_three : (a b c d : List (List ℕ)) (carried : Carried) (user : ℕ) → HasUser a b carried.first user → HasUser b c carried.second user → HasUser c d carried.third user → HasUsers a d carried user
+users_three a b c d carried user first second third = record {
+  long = third.long ∙ (second.long ∙ first.long);
+  kept = λ name other found. third.kept name other (second.kept name other (first.kept name other found));
+  added = λ name below m. by name below m;
+  below = λ most least all. third.below most least (second.below most least (first.below most least all));
+}
+  where
+    by : (name : ℕ) → name < length a → Mentions carried name → Contains (users_at d name) user
+    by name below (inl is) = third.kept name user (second.kept name user (first.added name below is))
+    by name below (inr (inl is)) = third.kept name user (second.added name (let long = first.long in omega (arith, below, long)) is)
+    by name below (inr (inr is)) = third.added name (let long = first.long in let longer = second.long in omega (arith, below, long, longer)) is
+
+pub users_start : (table : List Carried) (users : List (List ℕ)) → users ≡ replicate (length table) [] → AreUsers table 0 users
+users_start table users is = record {
+  long = ap length is ∙ length-replicate (length table) [];
+  below = subst (AreBelow (length table)) (sym is) (All-replicate (All (λ u. u < length table)) (length table) [] (All-nil (λ u. u < length table)));
+  each = λ user name below within m. absurd (omega (arith, below));
+}
+
+pub users_more : (table : List Carried) (n : ℕ) (carried : Carried) (old new : List (List ℕ)) → n < length table → carried_at table n ≡ carried → AreUsers table n old → HasUsers old new carried n → AreUsers table (n + 1) new
+users_more table n carried old new below is before has = record {
+  long = has.long ∙ before.long;
+  below = has.below (length table) below before.below;
+  each = λ user name up within m. each user name (cases_eq user n) up within m;
+}
+  where
+    each : (user name : ℕ) → (user ≡ n) ⊎ (user ≢ n) → user < n + 1 → name < length table → Mentions (carried_at table user) name → Contains (users_at new name) user
+    each user name (inl same) up within m =
+        let its : Mentions carried name = subst (λ (c : Carried). Mentions c name) (ap (carried_at table) same ∙ is) m in
+        subst (λ (k : ℕ). Contains (users_at new name) k) (sym same) (has.added name (let long = before.long in omega (arith, within, long)) its)
+    each user name (inr away) up within m = has.kept name user (before.each user name (omega (arith, up, away)) within m)
