@@ -31,10 +31,10 @@ use Rattle.mem_terms.proofs.Naming.{naming}
 use Rattle.run_terms.specs.declared.state.RunState.{RunState}
 use Rattle.run_terms.specs.declared.ending.Ending.{Ending}
 use Rattle.run_terms.specs.declared.frontier.Frontier.{Frontier}
-use Rattle.run_terms.specs.Runs.{Scene, Sees, IsState, Counts, MatchesState, StateShape, fits_from, shape_of, sight, zeros_past}
+use Rattle.run_terms.specs.Runs.{Scene, Sees, IsState, MatchesState, StateShape, fits_from, shape_of, sight, zeros_past}
 use Rattle.run_terms.specs.Frontier.{IsEnding, EndedSo, AreStates, HaveShape, IsUnreached, MatchesFrontier, Simulates, first_place, placed}
 use Rattle.run_terms.proofs.Arguments.{each-replicate}
-use Rattle.run_terms.proofs.Lasting.{sees-later, counts-later, matches_state-later, ending_at-later}
+use Rattle.run_terms.proofs.Lasting.{sees-later, matches_state-later, ending_at-later}
 use Rattle.run_terms.proofs.Through.{placed_end, walk_over}
 
 -- ---- plain

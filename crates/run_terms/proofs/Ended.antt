@@ -100,6 +100,6 @@ module _ (old a b : List Term) (e : Ending) (own : IsEnding old e) (c : TermId) 
         blocks = left (sight g) ∙ rw none refl;
       })
       (λ g held not.
-          let is : option_map (value_at (sight g) b) picked ≡ option_map (value_at (sight g) old) value = option-later p b kpb (sight g) picked hp ∙ (sp (sight g) ∙ rw held refl) in
-          let leaves : memory_at (sight g) b blocks ≡ memory_at (sight g) old given = left (sight g) ∙ rw held refl in
-          rw (bit-later old b k g.v e.ub own.ub.within, not.ub, bit-later old b k g.v e.beyond own.beyond.within, not.beyond, is, leaves) refl)
+      let is : option_map (value_at (sight g) b) picked ≡ option_map (value_at (sight g) old) value = option-later p b kpb (sight g) picked hp ∙ (sp (sight g) ∙ rw held refl) in
+      let leaves : memory_at (sight g) b blocks ≡ memory_at (sight g) old given = left (sight g) ∙ rw held refl in
+      rw (bit-later old b k g.v e.ub own.ub.within, not.ub, bit-later old b k g.v e.beyond own.beyond.within, not.beyond, is, leaves) refl)

@@ -89,9 +89,9 @@ pub plain_steps : {on : Scene → Visit → Type 0} (old new : List Term) (k : K
     → Steps on old new s (record s { registers = slice_set s.registers into x }) (stepped (inst.Freeze into type operand))
 plain_steps old new k s hs into type operand x hx has never =
     value_steps old new k s hs (inst.Freeze into type operand) into x (λ g m. typed_value type (operand_value m.registers operand)) hx (λ g at m here h.
-        let is : value_at (sight g) new x ≡ typed_value type (operand_value m.registers operand) = has (sight g) (naming g.given) ∙ ap (λ (rs : List Value). typed_value type (operand_value rs operand)) h.registers in
-        let defined : is_poison (typed_value type (operand_value m.registers operand)) ≡ false = sym (ap is_poison is) ∙ defined_at (sight g) new x (never g.v) in
-        (ap Some (frozen_defined type (typed_value type (operand_value m.registers operand)) defined g.tape m into), is))
+    let is : value_at (sight g) new x ≡ typed_value type (operand_value m.registers operand) = has (sight g) (naming g.given) ∙ ap (λ (rs : List Value). typed_value type (operand_value rs operand)) h.registers in
+    let defined : is_poison (typed_value type (operand_value m.registers operand)) ≡ false = sym (ap is_poison is) ∙ defined_at (sight g) new x (never g.v) in
+    (ap Some (frozen_defined type (typed_value type (operand_value m.registers operand)) defined g.tape m into), is))
 
 -- a choice where it is poison
 module _ (old a b d : List Term) (ka : Keeps old a) (kb : Keeps a b) (kd : Keeps b d) (s : RunState) (hs : IsState old s) (into : ℕ) (type : IrType) (x y z : SymValue) (hx : IsSymValue old x)

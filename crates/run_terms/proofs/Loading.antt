@@ -133,12 +133,12 @@ alloca_steps old a new ka kn s hs into type align block size blocks x hb grown o
     (set_shape (record s { memory = record s.memory { blocks = blocks } }) into x ∙ memory_shape s (record s.memory { blocks = blocks }) (alloca_frames old s.memory hs.memory blocks grown.0 grown.1)) refl
     (λ g. bit-later old new k g.v s.alive hs.alive.within ∙ sym (and-true (bit_at g.v old s.alive)))
     (λ g visit m named h.
-        let turned : (sight g).name block ≡ Local m.turn number = named h.given ∙ ap (λ (n : ℕ). Local n number) (sym (ap (λ (v : Visit). v.turn) h.visit)) in (
-          allocated m into number type align,
-          refl,
-          λ e. set_matches old new k s hs into x s.alive (record s.memory { blocks = blocks }) g visit m (value.Ptr (record { block = Local m.turn number; offset = 0 })) (after_alloca m.memory (Local m.turn number) (object_size type) align) h
-              (points (sight g) ∙ rw turned refl) refl (memory-later a new kn (sight g) blocks hb ∙ (grows (sight g) ∙ rw (turned, h.memory, whole) refl)),
-        ))
+    let turned : (sight g).name block ≡ Local m.turn number = named h.given ∙ ap (λ (n : ℕ). Local n number) (sym (ap (λ (v : Visit). v.turn) h.visit)) in (
+      allocated m into number type align,
+      refl,
+      λ e. set_matches old new k s hs into x s.alive (record s.memory { blocks = blocks }) g visit m (value.Ptr (record { block = Local m.turn number; offset = 0 })) (after_alloca m.memory (Local m.turn number) (object_size type) align) h
+          (points (sight g) ∙ rw turned refl) refl (memory-later a new kn (sight g) blocks hb ∙ (grows (sight g) ∙ rw (turned, h.memory, whole) refl)),
+    ))
   where
     k : Keeps old new
     k = keeps_trans old a new ka kn

@@ -150,8 +150,8 @@ module _ (old new : List Term) (k : Keeps old new) (s : RunState) (hs : IsState 
       defined_steps i (record s { registers = slice_set s.registers into x }) (λ g. true) (set_state into x s.alive s.memory s.tally s.words_bound later.alive hx later.memory later.tally) (set_shape s into x) refl
       (λ g. bit-later old new k g.v s.alive hs.alive.within ∙ sym (and-true (bit_at g.v old s.alive)))
       (λ g at m here h.
-          let it = is g at m here h in
-          (assigned m into (value g m), it.0, λ e. set_matches into x s.alive s.memory g at m (value g m) m.memory h it.1 refl (blocks_at-later old new k (sight g) s.memory hs.memory ∙ h.memory)))
+      let it = is g at m here h in
+      (assigned m into (value g m), it.0, λ e. set_matches into x s.alive s.memory g at m (value g m) m.memory h it.1 refl (blocks_at-later old new k (sight g) s.memory hs.memory ∙ h.memory)))
 
   -- one that the registers decide
   pub result_steps : (i : Inst) (into : ℕ) (x : SymValue) (f : List Value → Value) → IsSymValue new x → ((tape : List ℕ) (m : Machine) → act i tape m ≡ Some (assigned m into (f m.registers)))
@@ -171,11 +171,11 @@ module _ (old new : List Term) (k : Keeps old new) (s : RunState) (hs : IsState 
       (set_state into x alive s.memory s.tally s.words_bound (tested t) (sym_value-later second new kb x hx) later.memory later.tally) (set_shape s into x) refl
       (λ g. t.says g.v ∙ rw (bit-later first second ki g.v undefined hu.within, bit-later old second (keeps_trans old first second ka ki) g.v s.alive hs.alive.within) refl)
       (λ g at m here h.
-          let row : option_from (bit_at g.v first undefined) (number_at g.v first n) ≡ value_result op width.bits (operand_value m.registers left) (operand_value m.registers right) = gives (sight g) (naming g.given) ∙ rw h.registers refl in (
-            assigned m into (number_at g.v first n),
-            result_acts (bit_at g.v first undefined) (number_at g.v first n) _ m into row,
-            λ e. set_matches into x alive s.memory g at m (number_at g.v first n) m.memory h (value-later second new kb (sight g) x hx ∙ whole (sight g)) refl (blocks_at-later old new k (sight g) s.memory hs.memory ∙ h.memory),
-          ))
+      let row : option_from (bit_at g.v first undefined) (number_at g.v first n) ≡ value_result op width.bits (operand_value m.registers left) (operand_value m.registers right) = gives (sight g) (naming g.given) ∙ rw h.registers refl in (
+        assigned m into (number_at g.v first n),
+        result_acts (bit_at g.v first undefined) (number_at g.v first n) _ m into row,
+        λ e. set_matches into x alive s.memory g at m (number_at g.v first n) m.memory h (value-later second new kb (sight g) x hx ∙ whole (sight g)) refl (blocks_at-later old new k (sight g) s.memory hs.memory ∙ h.memory),
+      ))
 
 -- ---- a term that is never true
 

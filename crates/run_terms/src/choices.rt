@@ -128,7 +128,11 @@ fn choose_number(
     let (number, tally) = number_among(terms, words, state.tally, taken, width)?;
     let poison = truth(terms, false)?;
     let value = integer_value(terms, SymNumber { poison, number })?;
-    Ok(Choice { value, tally, words_bound })
+    Ok(Choice {
+        value,
+        tally,
+        words_bound,
+    })
 }
 
 /// The given block that the low 16 bits of a word name, or null where there is none.
@@ -177,7 +181,11 @@ fn choose_pointer(
     let fits = still_fits(terms, state.tally.fits, taken, first, block)?;
     let value = pointer_value(terms, block, offset)?;
     let tally = Tally { read, fits };
-    Ok(Choice { value, tally, words_bound })
+    Ok(Choice {
+        value,
+        tally,
+        words_bound,
+    })
 }
 
 /// The next choice of a value of the type. It is made where it is taken.

@@ -36,5 +36,5 @@ returns-else-is_plainly_false-clause-steps c =
     on_ok_weaker c.assign_or_choose.result (λ so. steps_later (so c.args.operand) k c.requires.state (λ g at sees. (
       sees-later old new k g c.args.tape.now c.requires.tape sees,
       c.in_ok-value-2.ensures.stands (sight g) ∙ ap (typed_value c.args.of_type) ((rw c.as_slice.ensures at (c.in_ok-value.ensures.stands (sight g) (naming g.given)))
-      ∙ ap (λ (rs : List Value). operand_value rs c.args.operand) (sym (values-later old new k (sight g) s.registers c.requires.state.registers))),
+          ∙ ap (λ (rs : List Value). operand_value rs c.args.operand) (sym (values-later old new k (sight g) s.registers c.requires.state.registers))),
     ))) c.assign_or_choose.ensures.steps
