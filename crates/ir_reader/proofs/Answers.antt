@@ -5,7 +5,7 @@ use Rattle.ir_lexer.specs.Lexeme.{Lexeme}
 use Rattle.ir_tree.specs.WellFormed.{Passes, PassesNames, IsRefusedAt, IfRefused}
 use Rattle.ir_check.specs.Told.{IsToldAt, AreNamesToldAt}
 use Rattle.ir_tree.specs.declared.module.Reason.{Reason}
-use Rattle.ir_tree.specs.declared.module.Reason.TheVariants.{NameTwice, NameUnknown, TypeClash, PhiEdges, Unassigned}
+use Rattle.ir_tree.specs.declared.module.Reason.TheVariants.{NameTwice, NameUnknown, TypeClash, PhiEdges, Unassigned, UndefUse}
 use Rattle.ir_tree.specs.declared.module.CheckFault.{CheckFault}
 use Rattle.ir_tree.specs.declared.module.CheckFault.TheVariants as fault
 use Rattle.ir_tree.specs.declared.tree.Function.{Function}
@@ -62,6 +62,10 @@ edges-tested f fault.NoMemory names types t = tt
 pub assigned-tested : (f : Function) (fault : CheckFault) → PassesNames f → Passes TypeClash f → Passes PhiEdges f → IfRefused (IsToldAt Unassigned f) fault → Tests f (Err fault)
 assigned-tested f (fault.Refused refused) names types edges T = (Unassigned, record { site = T.site; tested = (names, types, edges, T.first); told = T.told })
 assigned-tested f fault.NoMemory names types edges t = tt
+
+pub undef-tested : (f : Function) (fault : CheckFault) → PassesNames f → Passes TypeClash f → Passes PhiEdges f → Passes Unassigned f → IfRefused (IsToldAt UndefUse f) fault → Tests f (Err fault)
+undef-tested f (fault.Refused refused) names types edges assigned T = (UndefUse, record { site = T.site; tested = (names, types, edges, assigned, T.first); told = T.told })
+undef-tested f fault.NoMemory names types edges assigned t = tt
 
 pub answers-fault : (ts : List Lexeme) (fault : CheckFault) → Writes ts (Err fault) → Answers ts (Err fault)
 answers-fault ts (fault.Refused refused) e = e

@@ -9,6 +9,7 @@ use Rattle.ir_tree.specs.declared.sites.Part.{Part}
 use Rattle.ir_tree.specs.declared.sites.Part.TheVariants as part
 use Rattle.ir_tree.specs.Sites.{steps}
 use Rattle.ir_tree.specs.Flow.{IsPredecessor}
+use Rattle.ir_tree.specs.Carrying.{RefusesUndef, UsesUndef, leaf_count}
 use Rattle.ir_tree.specs.WellFormed.{ComesFromPredecessors, IsUnfitPhi, JumpsToEntry, HasWrongEdge, IsMissed, IsMissedBehind, IsMissedAt, UsesUnassigned, IsWellFormed}
 
 -- the function with other positions
@@ -112,6 +113,34 @@ unassigned f p n h = record {
   missed = missed_at f p h.part n h.name h.missed;
 }
 
+-- ---- undef
+
+refuses : (f : Function) (p : List Place) (at : Part) → RefusesUndef (placed f p) at → RefusesUndef f at
+refuses f p part.Header h = absurd h
+refuses f p part.Parameter h = absurd h
+refuses f p (part.Label block) h = absurd h
+refuses f p (part.Phi block place) h = tt
+refuses f p (part.Inst block place) h = h
+refuses f p (part.End block) h = h
+
+undef : (f : Function) (p : List Place) (n : ℕ) → UsesUndef (placed f p) n → UsesUndef f n
+unfolding steps leaf_count
+undef f p n (inl u) = inl (record {
+  type = u.type;
+  name = u.name;
+  here = u.here;
+  carried = u.carried;
+  part = u.part;
+  stands = u.stands;
+  refuses = refuses f p u.part u.refuses;
+})
+undef f p n (inr m) = inr (record {
+  type = m.type;
+  name = m.name;
+  here = m.here;
+  many = m.many;
+})
+
 -- ---- all of it
 
 pub well_formed-placed : (f : Function) (p : List Place) → IsWellFormed f
@@ -122,4 +151,5 @@ well_formed-placed f p h = record {
   types = λ n fails. h.types n fails;
   edges = λ n fails. h.edges n (edge f p n fails);
   assigned = λ n fails. h.assigned n (unassigned f p n fails);
+  undef = λ n fails. h.undef n (undef f p n fails);
 }

@@ -15,6 +15,7 @@ use std::alloc::Global;
 use support::Sequence;
 use text_places::Place;
 use token_forms::ReadFault;
+use undef_uses::check_undef;
 
 fn refused_at(reason: Reason, place: Place) -> Refused
     ensures { result ≡ spec.refused_at reason place }
@@ -73,7 +74,7 @@ fn written(alloc: Global, tokens: &[Token]) -> Result<WrittenFunction, CheckFaul
     }
 }
 
-// Whether the names and types of a function are right.
+// Whether a function is right in its names, types, edges, assignments and uses of undef.
 fn test(alloc: Global, f: &Function) -> Result<(), CheckFault>
     requires { AreNumbered f.now }
     ensures { Tests f.now result }
@@ -82,6 +83,7 @@ fn test(alloc: Global, f: &Function) -> Result<(), CheckFault>
     check_types(alloc, f)?;
     check_edges(alloc, f)?;
     check_assigned(alloc, f)?;
+    check_undef(alloc, f)?;
     Ok(())
 }
 

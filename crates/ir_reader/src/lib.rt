@@ -6,8 +6,8 @@
 //! empty: the positions of its parts only say where it is refused, and are not kept.
 //! `specs/Module.antt` says what a module of a text is, `specs/Functions.antt` what the tokens of
 //! one define are. It uses `ir_lexer` for the tokens, `ir_items` for the defines, `ir_grammar` and
-//! `ir_numbering` for a function of tokens, `ir_check` and `assigned_names` for what is required of
-//! a function besides its grammar, and `ir_tree` for what it makes; the command uses it.
+//! `ir_numbering` for a function of tokens, `ir_check`, `assigned_names` and `undef_uses` for what is
+//! required of a function besides its grammar, and `ir_tree` for what it makes; the command uses it.
 #![tactic(auto)]
 
 mod fault;

@@ -49,6 +49,7 @@ mod ReadBackFunctions
 mod ReadBackModule
 mod MadeNames
 mod MadeInsts
+mod MadeLeaves
 mod MadeWritten
 mod MadeSpellable
 mod MadeSites

@@ -1,11 +1,12 @@
 -- A made function is well formed: each name comes before its uses, and all values are bytes.
 use Rattle.std.proofs.Common.{◌≡◌, ℕ, zero, suc, ◌+◌, ◌<◌, ◌≤◌, inl, inr, true, false, List, [], ◌∷◌, ◌++◌, length, take, Some, None, refl, sym, ap, ◌∙◌, subst, append-nil, append_assoc, arith}
 use Rattle.std.specs.List.{Contains, slice_get}
-use Rattle.std.proofs.lemmas.Bool.{cases_lt}
+use Rattle.std.proofs.lemmas.Bool.{cases_lt, ltb-true}
 use Rattle.std.proofs.lemmas.Grind.{flat_map-append}
 use Rattle.ir_tree.specs.declared.name.Name.{Name}
 use Rattle.ir_tree.specs.declared.tree.IrType.{IrType}
 use Rattle.ir_tree.specs.declared.tree.IrType.TheVariants.{Int}
+use Rattle.ir_tree.specs.declared.tree.Operand.TheVariants.{Local}
 use Rattle.ir_tree.specs.declared.tree.Inst.{Inst}
 use Rattle.ir_tree.specs.declared.tree.Block.{Block}
 use Rattle.ir_tree.specs.declared.tree.Phi.{Phi}
@@ -16,9 +17,11 @@ use Rattle.ir_tree.specs.declared.sites.Site.TheVariants.{Defines, Uses, Enters,
 use Rattle.ir_tree.specs.Sites.{Step, steps, sites, parts, sites_in, inst_sites, inst_steps, is_same_type}
 use Rattle.ir_tree.specs.Flow.{assigned_with}
 use Rattle.ir_tree.specs.WellFormed.{DefinesAgain, UsesUnknown, ClashesType, HasWrongEdge, IsMissed, IsMissedAt, UsesUnassigned, IsWellFormed}
+use Rattle.ir_tree.specs.Carrying.{UsesUndef, leaf_count}
 use Rattle.ir_printer.specs.Made.{eight, value_name}
 use Rattle.read_back.proofs.MadeNames.{value-big}
 use Rattle.read_back.proofs.MadeInsts.{AreMade}
+use Rattle.read_back.proofs.MadeLeaves.{no_leaves}
 use Rattle.read_back.proofs.MadeWritten.{plain_block, plain_function}
 use Rattle.read_back.proofs.MadeSites.{Found, only-some, site-found, Rises, rising-once}
 use Rattle.read_back.proofs.MadeAssigned.{IsBehind, IsAssigned, IsSound, last_step, made_steps, all-sound}
@@ -194,6 +197,16 @@ assigned n insts h k u =
     never n insts u.part k u.name (subst (λ (p : Part).
     IsAssigned insts p u.name) same f.holds.1.assigned) u.missed
 
+undef : (n : Name) (insts : List Inst) → AreMade 0 insts → (k : ℕ)
+    → UsesUndef (plain_function n insts) k → ⊥
+undef n insts h k (inl u) =
+    let none = no_leaves n insts h u.name in
+    let some = ltb-true 0 (leaf_count (plain_function n insts) (Local u.name)) u.carried in
+    omega (arith, none, some)
+undef n insts h k (inr m) =
+    let none = no_leaves n insts h m.name in
+    let many = m.many in omega (arith, none, many)
+
 pub made-well_formed : (n : Name) (insts : List Inst) → AreMade 0 insts
     → IsWellFormed (plain_function n insts)
 made-well_formed n insts h = record {
@@ -201,4 +214,5 @@ made-well_formed n insts h = record {
   types = typed n insts h;
   edges = edged n insts h;
   assigned = assigned n insts h;
+  undef = undef n insts h;
 }

@@ -139,6 +139,7 @@ reason_text reason.NameUnknown = codes "NameUnknown"
 reason_text reason.TypeClash = codes "TypeClash"
 reason_text reason.PhiEdges = codes "PhiEdges"
 reason_text reason.Unassigned = codes "Unassigned"
+reason_text reason.UndefUse = codes "UndefUse"
 
 -- the reason, and line and column of its position
 abbrev pub refused_text : Refused → List ℕ

@@ -149,6 +149,7 @@ fn reason_word(reason: Reason) -> &'static [u8]
         Reason::TypeClash => b"TypeClash",
         Reason::PhiEdges => b"PhiEdges",
         Reason::Unassigned => b"Unassigned",
+        Reason::UndefUse => b"UndefUse",
     }
 }
 

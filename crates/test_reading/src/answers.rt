@@ -27,6 +27,7 @@ fn reason_word(reason: Reason) -> &'static str {
         Reason::TypeClash => "TypeClash",
         Reason::PhiEdges => "PhiEdges",
         Reason::Unassigned => "Unassigned",
+        Reason::UndefUse => "UndefUse",
     }
 }
 

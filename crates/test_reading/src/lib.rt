@@ -42,3 +42,5 @@ mod print_tests;
 mod tests;
 #[cfg(test)]
 mod token_lists;
+#[cfg(test)]
+mod undef_tests;

@@ -134,6 +134,7 @@ reason_without c reason.NameUnknown below = letters c (codes "NameUnknown") belo
 reason_without c reason.TypeClash below = letters c (codes "TypeClash") below refl
 reason_without c reason.PhiEdges below = letters c (codes "PhiEdges") below refl
 reason_without c reason.Unassigned below = letters c (codes "Unassigned") below refl
+reason_without c reason.UndefUse below = letters c (codes "UndefUse") below refl
 
 free_after : (found : Finding) → Free (after_name found)
 free_after finding.Correct = free_known (codes " correct") refl

@@ -132,7 +132,7 @@ reason_in text =
     else (if get_or text 0 0 == 76 then reason.Limit
     else (if get_or text 0 0 == 84 then reason.TypeClash
     else (if get_or text 0 0 == 80 then reason.PhiEdges
-    else (if get_or text 0 0 == 85 then (if get_or text 2 0 == 115 then reason.Unsupported else reason.Unassigned)
+    else (if get_or text 0 0 == 85 then (if get_or text 2 0 == 115 then reason.Unsupported else (if get_or text 2 0 == 100 then reason.UndefUse else reason.Unassigned))
     else (if get_or text 4 0 == 84 then reason.NameTwice else reason.NameUnknown))))))
 
 reason_is : (r : Reason) → reason_in (reason_text r) ≡ r
@@ -145,6 +145,7 @@ reason_is reason.NameUnknown = refl
 reason_is reason.TypeClash = refl
 reason_is reason.PhiEdges = refl
 reason_is reason.Unassigned = refl
+reason_is reason.UndefUse = refl
 
 same_reason : (a b : Reason) → reason_text a ≡ reason_text b → a ≡ b
 same_reason a b e = sym (reason_is a) ∙ ap reason_in e ∙ reason_is b

@@ -64,6 +64,7 @@ fn push_user(
     ensures { OnOk result (HasUser users.old users.new (Local name) user) }
 {
     if name >= users.len() {
+        // No instruction makes it, so its count does not rise.
         return Ok(());
     }
     users.get_mut(name).push(user)
