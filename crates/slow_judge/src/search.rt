@@ -37,7 +37,12 @@ fn give(bench: &mut Bench, blocks: &Memory) -> Result<(), NoMemory>
 }
 
 /// What the points of the pair look like.
-fn shape_of(alloc: Global, pair: &RunPair, bounds: &Bounds, of_target: Tape) -> Result<Shape, NoMemory>
+fn shape_of(
+    alloc: Global,
+    pair: &RunPair,
+    bounds: &Bounds,
+    of_target: Tape,
+) -> Result<Shape, NoMemory>
     requires words { of_target.words ≡ need_of bounds.now.turns pair.now.target }
     requires width { of_target.width.bits ≡ widest_choice pair.now.target }
     ensures { IfOk result (IsShapeOf pair.now bounds.now) }
