@@ -1,23 +1,27 @@
 -- Sizes within the limits fit 64 bits, and the indices of a getelementptr one after another.
-use Rattle.std.proofs.Common.{◌≡◌, ℕ, ◌+◌, ◌%◌, ◌^◌, ◌<◌, ◌≤◌, List, [], ◌∷◌, length, drop, get_or, refl, arith}
+use Rattle.std.proofs.Common.{◌≡◌, ℕ, ◌+◌, ◌%◌, ◌^◌, ◌<◌, ◌≤◌, List, [], ◌∷◌, length, drop, get_or, refl, arith, nat_le, if◌then◌else◌, Bool, true, false}
 use Rattle.std.proofs.lemmas.List.{drop_more}
 use Rattle.std.proofs.Math.Nat.{mod-eq_of_lt}
 use Rattle.ir_tree.specs.declared.tree.IrType.{IrType}
-use Rattle.ir_tree.specs.declared.tree.IrType.TheVariants.{Int, Ptr}
 use Rattle.ir_tree.specs.declared.tree.MemoryType.{MemoryType}
 use Rattle.ir_tree.specs.declared.tree.GepIndex.{GepIndex}
-use Rattle.ir_tree.specs.Types.{type_align, nested_size, indexed_size}
+use Rattle.ir_tree.specs.Types.{padded, store_size, nested_size, indexed_size}
 use Rattle.ir_tree.specs.Limits.{HasSmallArrays}
 use Rattle.ir_tree.proofs.Sizes.{small_from}
 use Rattle.byte_block.specs.declared.value.Value.{Value}
 use Rattle.points.specs.Run.{index_value, index_values}
 
-type_small : (element : IrType) → type_align element ≤ 8
-type_small (Int width) = let most = width.at_most_64 in omega (arith, most)
-type_small Ptr = omega arith
+padded_small : (n : ℕ) → padded n ≤ 8
+padded_small n = go (nat_le n 1) (nat_le n 2) (nat_le n 4)
+  where
+    go : (a b c : Bool) → (let size : ℕ = if a then 1 else if b then 2 else if c then 4 else 8 in size) ≤ 8
+    go true b c = omega arith
+    go false true c = omega arith
+    go false false true = omega arith
+    go false false false = omega arith
 
 nested_small : (lengths : List ℕ) (element : IrType) → HasSmallArrays lengths element → nested_size lengths element ≤ 1048576
-nested_small [] element small = let most = type_small element in omega (arith, most)
+nested_small [] element small = let most = padded_small (store_size element) in omega (arith, most)
 nested_small (n ∷ lengths) element small = small.0
 
 -- a size within the limits is not cut
