@@ -6,33 +6,27 @@ use Rattle.std.proofs.lemmas.Bool.{cases_Bool, cases_lt, eqb-true, eq-eqb}
 use Rattle.std.proofs.lemmas.Bool.Decides.{nat_tests}
 use Rattle.std.proofs.lemmas.List.{drop_more, drop_all}
 use Rattle.ir_tree.specs.declared.tree.Function.{Function}
-use Rattle.points.specs.declared.machine.Machine.{Machine}
 use Rattle.points.specs.declared.outcome.Outcome.TheVariants.{Ub}
 use Rattle.points.specs.declared.point.Bounds.{Bounds}
 use Rattle.points.specs.declared.point.Input.{Input}
 use Rattle.points.specs.declared.point.Layout.{Layout}
-use Rattle.points.specs.Run.{Run, breaks_noundef, ended, first_machine, run_of}
+use Rattle.points.specs.Run.{breaks_noundef, first_machine, run_of}
 use Rattle.unroll.specs.declared.layered.Edge.TheVariants as edge
 use Rattle.unroll.specs.declared.layered.BlockCopy.{BlockCopy}
 use Rattle.unroll.specs.declared.layered.Layered.{Layered}
-use Rattle.unroll.specs.Layers.{Where, At, Done, along, copies_of, run_at_end, run_layers, walk}
+use Rattle.unroll.specs.Layers.{copies_of, run_at_end, run_layers, walk}
 use Rattle.unroll.proofs.Walking.{layers_have_runs}
-use Rattle.bv_terms.specs.declared.term.TermId.{TermId}
-use Rattle.bv_terms.specs.declared.term.Term.{Term}
-use Rattle.bv_terms.specs.Trees.{Keeps, Tests, IsTerm, bit_at, term_at}
 use Rattle.mem_terms.specs.declared.inputs.InputTerms.{InputTerms}
 use Rattle.mem_terms.specs.declared.outcome.OutcomeTerms.{OutcomeTerms}
-use Rattle.mem_terms.specs.Values.{Each, IsNaming, Reading, reading}
-use Rattle.mem_terms.specs.Inputs.{AreWords, args_at, input_at, words_at}
+use Rattle.mem_terms.specs.Values.{reading}
+use Rattle.mem_terms.specs.Inputs.{args_at, input_at}
 use Rattle.mem_terms.specs.Outcomes.{Shows}
 use Rattle.mem_terms.proofs.Eaches.{each-at, map-at, map-length}
 use Rattle.mem_terms.proofs.Later.{keeps_trans, bit-later, term-later}
 use Rattle.mem_terms.proofs.Naming.{naming}
-use Rattle.run_terms.specs.declared.state.RunState.{RunState}
-use Rattle.run_terms.specs.declared.ending.Ending.{Ending}
-use Rattle.run_terms.specs.declared.frontier.Frontier.{Frontier}
-use Rattle.run_terms.specs.Runs.{Scene, Sees, IsState, MatchesState, StateShape, fits_from, shape_of, sight, zeros_past}
-use Rattle.run_terms.specs.Frontier.{IsEnding, EndedSo, AreStates, HaveShape, IsUnreached, MatchesFrontier, Simulates, first_place, placed}
+use Rattle.run_terms.specs.Common.{Machine, Run, ended, Where, At, Done, along, TermId, Term, Keeps, IsTerm, Tests, bit_at, term_at, Each, IsNaming, Reading, AreWords, words_at, RunState, Ending, Frontier, IsState, MatchesState, Scene, Sees, StateShape, shape_of, sight, AreStates, EndedSo, HaveShape, IsEnding, IsUnreached, MatchesFrontier, Simulates, placed}
+use Rattle.run_terms.specs.Runs.{fits_from, zeros_past}
+use Rattle.run_terms.specs.Frontier.{first_place}
 use Rattle.run_terms.proofs.Arguments.{each-replicate}
 use Rattle.run_terms.proofs.Lasting.{sees-later, matches_state-later, ending_at-later}
 use Rattle.run_terms.proofs.Through.{placed_end, walk_over}

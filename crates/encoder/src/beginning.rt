@@ -3,11 +3,9 @@
 ghost use Rattle.std.specs.Prelude.{◌≡◌, not, if◌then◌else◌, ℕ, IfOk, OnOk, length, replicate};
 ghost use Rattle.byte_block.specs.declared.value.Value.TheVariants.{Poison};
 ghost use Rattle.points.specs.Run.{argument_value, breaks_noundef, first_machine, is_null, with_args};
-ghost use Rattle.bv_terms.specs.Trees.{IsTerm, Keeps, bit_at};
-ghost use Rattle.mem_terms.specs.Values.{AreSymValues, Each, IsNaming, IsSymValue, Reading, value_at, values_at};
 ghost use Rattle.mem_terms.specs.Inputs.{AreArgs, IsArg, IsBlockTerms, IsInput, arg_at, args_at, given_blocks_at, input_at};
-ghost use Rattle.mem_terms.specs.Memory.{AreGivenBlocks, frames_of, memory_at};
-ghost use Rattle.run_terms.specs.Runs.{MatchesState, IsState, Scene, shape_of, sight};
+ghost use Rattle.mem_terms.specs.Memory.{frames_of};
+ghost use Rattle.run_terms.specs.Common.{Keeps, IsTerm, bit_at, Each, AreSymValues, IsNaming, IsSymValue, Reading, value_at, values_at, AreGivenBlocks, memory_at, IsState, MatchesState, Scene, shape_of, sight};
 
 use bv_terms::{TermId, Terms};
 use ir_tree::{Function, Parameter};

@@ -4,12 +4,9 @@ ghost use Rattle.std.specs.Prelude.{◌≡◌, ◌<◌, ◌+◌, ◌^◌, OnOk, 
 ghost use Rattle.ir_tree.specs.declared.tree.Block.{Block};
 ghost use Rattle.ir_tree.specs.Flow.{targets};
 ghost use Rattle.points.specs.Run.{exit_insts};
-ghost use Rattle.unroll.specs.Layers.{Where, left_by, pass_copy, walk};
-ghost use Rattle.bv_terms.specs.Trees.{Keeps, bit_at};
-ghost use Rattle.mem_terms.specs.Values.{Each};
-ghost use Rattle.mem_terms.specs.Inputs.{AreWords};
-ghost use Rattle.run_terms.specs.Runs.{IsState, Scene, Sees, shape_of};
-ghost use Rattle.run_terms.specs.Frontier.{CanRun, HasShape, IsCopyIn, IsFrontier, Simulates, MatchesFrontier, placed, shape_in};
+ghost use Rattle.unroll.specs.Layers.{left_by, pass_copy, walk};
+ghost use Rattle.run_terms.specs.Common.{Where, Keeps, bit_at, Each, AreWords, IsState, Scene, Sees, shape_of, HasShape, IsCopyIn, IsFrontier, MatchesFrontier, Simulates, placed, shape_in};
+ghost use Rattle.run_terms.specs.Frontier.{CanRun};
 
 use bv_terms::Terms;
 use run_terms::{Frontier, Leaving, RunState, Setting, and_not, leave, step_all, take_entry};

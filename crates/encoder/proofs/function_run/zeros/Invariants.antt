@@ -1,6 +1,5 @@
 use Rattle.std.proofs.Common.{ℕ, ◌≡◌, ◌&&◌, drop}
-use Rattle.bv_terms.specs.Trees.{Keeps, IsTerm, term_at, bit_at}
-use Rattle.mem_terms.specs.Inputs.{words_at}
+use Rattle.run_terms.specs.Common.{Keeps, IsTerm, bit_at, term_at, words_at}
 use Rattle.run_terms.specs.Runs.{zeros_past}
 use Rattle.encoder.proofs.function_run.zeros.Given as goal
 
