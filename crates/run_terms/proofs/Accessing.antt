@@ -8,14 +8,13 @@ use Rattle.ir_tree.specs.declared.tree.GepIndex.{GepIndex}
 use Rattle.ir_tree.specs.Types.{padded, store_size, nested_size, object_size, indexed_size}
 use Rattle.ir_tree.specs.Limits.{HasSmallArrays}
 use Rattle.ir_tree.proofs.Sizes.{small_from}
-use Rattle.byte_block.specs.declared.value.Value.{Value}
 use Rattle.byte_block.specs.declared.block.MemoryBlock.{MemoryBlock}
 use Rattle.memory_access.specs.declared.access_types.Loaded.{Loaded}
 use Rattle.memory_access.specs.declared.access_types.Loaded.TheVariants as loading
 use Rattle.memory_access.specs.declared.access_types.Stored.{Stored}
 use Rattle.memory_access.specs.declared.access_types.Stored.TheVariants as storing
-use Rattle.points.specs.declared.machine.Machine.{Machine}
 use Rattle.points.specs.Run.{assigned, index_value, index_values, loaded, stored}
+use Rattle.run_terms.specs.Common.{Value, Machine}
 use Rattle.run_terms.proofs.Stepping.{if_defined}
 
 -- ---- what is within the limits

@@ -7,27 +7,19 @@ use Rattle.ir_tree.specs.declared.tree.Parameter.{Parameter}
 use Rattle.ir_tree.specs.declared.tree.Function.{Function}
 use Rattle.byte_block.specs.declared.value.BlockName.{BlockName}
 use Rattle.byte_block.specs.declared.value.BlockName.TheVariants.{Null, Given, Local}
-use Rattle.byte_block.specs.declared.value.Value.{Value}
 use Rattle.byte_block.specs.declared.value.Value.TheVariants.{Poison, Ptr}
 use Rattle.memory_access.specs.Blocks.{equal_names}
 use Rattle.points.specs.declared.point.Layout.{Layout}
 use Rattle.points.specs.Run.{argument_value, breaks_noundef, first_machine, is_null, is_poison, with_args}
-use Rattle.bv_terms.specs.declared.term.TermId.{TermId}
-use Rattle.bv_terms.specs.declared.term.Term.{Term}
-use Rattle.bv_terms.specs.Trees.{Keeps, Makes, Tests, term_at, bit_at}
-use Rattle.mem_terms.specs.declared.blocks.SymBlock.{SymBlock}
 use Rattle.mem_terms.specs.declared.inputs.ArgTerms.{ArgTerms}
 use Rattle.mem_terms.specs.declared.inputs.InputTerms.{InputTerms}
-use Rattle.mem_terms.specs.declared.values.SymValue.{SymValue}
-use Rattle.mem_terms.specs.Values.{AreSymValues, Each, IsNaming, IsSymValue, Reading, first_local, value_at, value_of, values_at}
-use Rattle.mem_terms.specs.Memory.{AreGivenBlocks, AreSymBlocks, frame_of, frames_of, given_frames, memory_at}
+use Rattle.mem_terms.specs.Values.{value_at, value_of}
+use Rattle.mem_terms.specs.Memory.{frames_of, given_frames}
 use Rattle.mem_terms.specs.Inputs.{AreArgs, IsArg, arg_at, args_at, given_blocks_at, input_at}
 use Rattle.mem_terms.proofs.Eaches.{map-set}
 use Rattle.mem_terms.proofs.Later.{keeps_trans, bit-later, term-later, values-later, args_at-later}
 use Rattle.mem_terms.proofs.Naming.{naming}
-use Rattle.run_terms.specs.declared.state.RunMemory.{RunMemory}
-use Rattle.run_terms.specs.declared.state.RunState.{RunState}
-use Rattle.run_terms.specs.Runs.{AreNumberedFrom, Scene, IsRunMemory, MatchesState, frames_in, sight}
+use Rattle.run_terms.specs.Common.{Value, TermId, Term, Keeps, Makes, Tests, bit_at, term_at, SymValue, SymBlock, Each, AreSymValues, IsNaming, IsSymValue, Reading, first_local, values_at, AreGivenBlocks, AreSymBlocks, frame_of, memory_at, RunMemory, RunState, AreNumberedFrom, IsRunMemory, MatchesState, Scene, frames_in, sight}
 use Rattle.run_terms.proofs.Lasting.{blocks_at-later}
 use Rattle.run_terms.proofs.Memories.{given_count, given_framed}
 

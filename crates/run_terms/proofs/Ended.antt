@@ -5,19 +5,8 @@ use Rattle.std.specs.Option.{option_map}
 use Rattle.std.proofs.Math.Bool.{or-false, or-true}
 use Rattle.points.specs.declared.outcome.Outcome.{Outcome}
 use Rattle.points.specs.declared.outcome.Outcome.TheVariants.{Ub, Beyond, Return}
-use Rattle.unroll.specs.Layers.{Where, At, Done}
-use Rattle.bv_terms.specs.declared.term.TermId.{TermId}
-use Rattle.bv_terms.specs.declared.term.Term.{Term}
-use Rattle.bv_terms.specs.Trees.{Keeps, Tests, IsTerm, bit_at}
-use Rattle.mem_terms.specs.declared.values.SymValue.{SymValue}
-use Rattle.mem_terms.specs.declared.blocks.SymBlock.{SymBlock}
-use Rattle.mem_terms.specs.Values.{IsSymValue, Reading, value_at}
-use Rattle.mem_terms.specs.Memory.{AreGivenBlocks, AreSymBlocks, frame_of, memory_at}
 use Rattle.mem_terms.proofs.Later.{keeps_trans, bit-later, is_term-later, memory-later, given_blocks-later}
-use Rattle.run_terms.specs.declared.state.Tally.{Tally}
-use Rattle.run_terms.specs.declared.ending.Ending.{Ending}
-use Rattle.run_terms.specs.Runs.{Scene, IsTally, Counts, sight}
-use Rattle.run_terms.specs.Frontier.{Ends, IsEnding, NotEnded, MatchesEnding, ending_at, ending_shape}
+use Rattle.run_terms.specs.Common.{Where, At, Done, TermId, Term, Keeps, IsTerm, Tests, bit_at, SymValue, SymBlock, IsSymValue, Reading, value_at, AreGivenBlocks, AreSymBlocks, frame_of, memory_at, Tally, Ending, Counts, IsTally, Scene, sight, Ends, IsEnding, MatchesEnding, NotEnded, ending_at, ending_shape}
 use Rattle.run_terms.proofs.Lasting.{counts-later, ending-later, option-later, some-later}
 use Rattle.run_terms.proofs.Memories.{given_framed}
 

@@ -3,18 +3,11 @@ use Rattle.std.proofs.Common.{ℕ, ◌≡◌, ◌<◌, ◌≤◌, ◌+◌, List,
 use Rattle.std.proofs.lemmas.List.{drop_more, drop_all}
 use Rattle.ir_tree.specs.declared.tree.Phi.{Phi}
 use Rattle.ir_tree.specs.declared.tree.Block.{Block}
-use Rattle.byte_block.specs.declared.value.Value.{Value}
-use Rattle.points.specs.declared.machine.Machine.{Machine}
 use Rattle.points.specs.Run.{phi_value, with_phis, entered}
-use Rattle.bv_terms.specs.declared.term.Term.{Term}
-use Rattle.bv_terms.specs.Trees.{Keeps}
-use Rattle.mem_terms.specs.declared.values.SymValue.{SymValue}
-use Rattle.mem_terms.specs.Values.{AreSymValues, IsNaming, Reading, value_at, values_at}
 use Rattle.mem_terms.proofs.Eaches.{map-set}
 use Rattle.mem_terms.proofs.Later.{values-later}
 use Rattle.mem_terms.proofs.Naming.{naming}
-use Rattle.run_terms.specs.declared.state.RunState.{RunState}
-use Rattle.run_terms.specs.Runs.{Scene, IsState, Counts, MatchesState, Visit, sight}
+use Rattle.run_terms.specs.Common.{Value, Machine, Term, Keeps, SymValue, AreSymValues, IsNaming, Reading, value_at, values_at, RunState, Counts, IsState, MatchesState, Scene, Visit, sight}
 use Rattle.run_terms.proofs.Lasting.{counts-later, blocks_at-later}
 
 pub phis_more : (old a b : List Term) (registers behind : List SymValue) (label : ℕ) (phis : List Phi) (i : ℕ) (phi : Phi) (value : SymValue) → AreSymValues old registers → Keeps old a → AreSymValues a behind

@@ -4,23 +4,16 @@ use Rattle.ir_tree.specs.declared.tree.IrType.{IrType}
 use Rattle.ir_tree.specs.declared.tree.Inst.TheVariants as inst
 use Rattle.ir_tree.specs.declared.tree.Operand.{Operand}
 use Rattle.byte_block.specs.declared.value.BlockName.{BlockName}
-use Rattle.byte_block.specs.declared.value.Value.{Value}
 use Rattle.byte_block.specs.declared.value.Value.TheVariants as value
 use Rattle.byte_block.specs.declared.value.Value.TheVariants.{Num, Poison}
-use Rattle.points.specs.declared.machine.Machine.{Machine}
-use Rattle.points.specs.Run.{assigned, choice_of, frozen, is_poison, operand_value, typed_value, with_taken}
-use Rattle.bv_terms.specs.declared.term.TermId.{TermId}
-use Rattle.bv_terms.specs.declared.term.Term.{Term}
+use Rattle.points.specs.Run.{assigned, choice_of, frozen, is_poison, typed_value, with_taken}
 use Rattle.bv_terms.specs.Tree.{truth, width_of}
-use Rattle.bv_terms.specs.Trees.{Keeps, Makes, Tests, bit_at, term_at, tree_in}
-use Rattle.mem_terms.specs.declared.values.SymValue.{SymValue}
-use Rattle.mem_terms.specs.Values.{IsNaming, IsSymValue, Reading, value_at, value_of, values_at}
-use Rattle.mem_terms.specs.Inputs.{AreWords}
+use Rattle.bv_terms.specs.Trees.{tree_in}
+use Rattle.mem_terms.specs.Values.{value_at, value_of}
 use Rattle.mem_terms.proofs.Later.{keeps_trans, bit-later, term-later, value-later}
 use Rattle.mem_terms.proofs.Naming.{naming}
-use Rattle.run_terms.specs.declared.state.Tally.{Tally}
-use Rattle.run_terms.specs.declared.state.RunState.{RunState}
-use Rattle.run_terms.specs.Runs.{Scene, Sees, IsTally, IsState, Counts, MatchesState, Course, Idle, Dead, Live, Steps, Visit, sight, stepped, MatchesCourse}
+use Rattle.run_terms.specs.Common.{Value, Machine, operand_value, TermId, Term, Keeps, Makes, Tests, bit_at, term_at, SymValue, IsNaming, IsSymValue, Reading, values_at, AreWords, Tally, RunState, Counts, IsState, IsTally, MatchesCourse, MatchesState, Scene, Sees, Steps, Visit, sight, stepped}
+use Rattle.run_terms.specs.Runs.{Course, Idle, Dead, Live}
 use Rattle.run_terms.proofs.Lasting.{sees-later, counts-later, matches_state-later, state-later, tally-later}
 use Rattle.run_terms.proofs.Stepping.{set_registers, set_shape, set_state, value_steps}
 

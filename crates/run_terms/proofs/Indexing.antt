@@ -3,15 +3,13 @@ use Rattle.std.proofs.Common.{ℕ, ◌≡◌, ◌<◌, ◌≤◌, ◌+◌, ◌++
 use Rattle.std.proofs.lemmas.List.{append_assoc, append-nil}
 use Rattle.ir_tree.specs.declared.tree.MemoryType.{MemoryType}
 use Rattle.ir_tree.specs.declared.tree.GepIndex.{GepIndex}
-use Rattle.byte_block.specs.declared.value.Value.{Value}
 use Rattle.memory_access.specs.declared.offsets.Index.{Index}
 use Rattle.points.specs.Run.{index_value, index_values}
-use Rattle.bv_terms.specs.declared.term.Term.{Term}
-use Rattle.bv_terms.specs.Trees.{Keeps}
 use Rattle.mem_terms.proofs.Eaches.{each-push, each-weaker, map-push, map-same}
 use Rattle.mem_terms.proofs.Later.{bit-later, term-later, is_term-later}
 use Rattle.access_terms.specs.declared.offsets.SymIndex.{SymIndex}
 use Rattle.access_terms.specs.Offsets.{AreSymIndices, IsSymIndex, index_at, indices_at}
+use Rattle.run_terms.specs.Common.{Value, Term, Keeps}
 use Rattle.run_terms.proofs.Accessing.{indices_end, indices_more}
 
 module _ (old new : List Term) (k : Keeps old new) where

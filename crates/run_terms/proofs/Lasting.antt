@@ -2,26 +2,10 @@
 use Rattle.std.proofs.Common.{ℕ, zero, suc, ◌≡◌, Bool, List, [], ◌∷◌, map, take, drop, Option, Some, None, IfSome, refl, ap, sym, subst, ◌∙◌}
 use Rattle.std.specs.Prelude.{slice_get, slice_set}
 use Rattle.std.specs.Option.{option_map}
-use Rattle.points.specs.declared.machine.Machine.{Machine}
-use Rattle.unroll.specs.Layers.{Where, At, Done}
-use Rattle.bv_terms.specs.declared.term.TermId.{TermId}
-use Rattle.bv_terms.specs.declared.term.Term.{Term}
-use Rattle.bv_terms.specs.Trees.{Keeps, IsTerm, Tests}
-use Rattle.mem_terms.specs.declared.values.SymValue.{SymValue}
-use Rattle.mem_terms.specs.Values.{Each, IsSymValue, Reading, value_at}
-use Rattle.mem_terms.specs.Memory.{AreSymBlocks, IsSymBlock, frame_of, memory_at}
-use Rattle.mem_terms.specs.Inputs.{AreWords}
+use Rattle.mem_terms.specs.Memory.{IsSymBlock}
 use Rattle.mem_terms.proofs.Eaches.{each-weaker, each-set}
 use Rattle.mem_terms.proofs.Later.{bit-later, term-later, is_term-later, sym_values-later, sym_value-later, sym_blocks-later, values-later, value-later, memory-later, given_blocks-later, words_at-later}
-use Rattle.run_terms.specs.declared.state.Tally.{Tally}
-use Rattle.run_terms.specs.declared.state.RunMemory.{RunMemory}
-use Rattle.run_terms.specs.declared.state.RunState.{RunState}
-use Rattle.run_terms.specs.declared.ending.Ending.{Ending}
-use Rattle.run_terms.specs.declared.frontier.Frontier.{Frontier}
-use Rattle.run_terms.specs.declared.frontier.Leaving.{Leaving}
-use Rattle.run_terms.specs.declared.setting.Setting.{Setting}
-use Rattle.run_terms.specs.Runs.{Scene, Sees, IsTally, IsRunMemory, IsState, Counts, MatchesState, Visit, frames_in, sight, visit_of}
-use Rattle.run_terms.specs.Frontier.{IsEnding, MatchesEnding, AreStates, IsUnreached, MatchesAhead, IsFrontier, IsLeaving, HasShape, MatchesFrontier, ending_at}
+use Rattle.run_terms.specs.Common.{Machine, Where, At, Done, TermId, Term, Keeps, IsTerm, Tests, SymValue, Each, IsSymValue, Reading, value_at, AreSymBlocks, frame_of, memory_at, AreWords, Tally, RunMemory, RunState, Ending, Frontier, Leaving, Setting, Counts, IsRunMemory, IsState, IsTally, MatchesState, Scene, Sees, Visit, frames_in, sight, visit_of, AreStates, HasShape, IsEnding, IsFrontier, IsLeaving, IsUnreached, MatchesAhead, MatchesEnding, MatchesFrontier, ending_at}
 
 pub each-get : {A : Type 0} (P : A → Type 0) (xs : List A) (n : ℕ) (x : A) → Each P xs → slice_get xs n ≡ Some x → P x
 each-get P [] n x h e = absurd (let c : ⊥ = cc in c)

@@ -7,28 +7,19 @@ use Rattle.std.proofs.lemmas.Bool.{cases_Bool}
 use Rattle.ir_tree.specs.declared.tree.Case.{Case}
 use Rattle.ir_tree.specs.declared.tree.Function.{Function}
 use Rattle.ir_tree.specs.Sites.{same_number}
-use Rattle.byte_block.specs.declared.value.Value.{Value}
 use Rattle.byte_block.specs.declared.value.Value.TheVariants as value
 use Rattle.byte_block.specs.declared.value.Value.TheVariants.{Num, Poison}
-use Rattle.points.specs.declared.machine.Machine.{Machine}
 use Rattle.points.specs.declared.outcome.Outcome.TheVariants.{Ub}
-use Rattle.points.specs.Run.{branch_on, ended, switch_on}
+use Rattle.points.specs.Run.{branch_on, switch_on}
 use Rattle.unroll.specs.declared.layered.Edge.{Edge}
 use Rattle.unroll.specs.declared.layered.Edge.TheVariants.{Nowhere}
 use Rattle.unroll.specs.declared.layered.BlockCopy.{BlockCopy}
-use Rattle.unroll.specs.Layers.{Where, Done, along, edge_of, left_by}
-use Rattle.bv_terms.specs.declared.term.TermId.{TermId}
-use Rattle.bv_terms.specs.declared.term.Term.{Term}
+use Rattle.unroll.specs.Layers.{edge_of, left_by}
 use Rattle.bv_terms.specs.Tree.{truth}
-use Rattle.bv_terms.specs.Trees.{Keeps, Tests, IsTerm, bit_at, term_at}
 use Rattle.mem_terms.specs.declared.integers.SymNumber.{SymNumber}
-use Rattle.mem_terms.specs.Values.{as_integer, number_at, value_from}
+use Rattle.mem_terms.specs.Values.{number_at, value_from}
 use Rattle.mem_terms.proofs.Later.{bit-later, keeps_trans, term-later}
-use Rattle.run_terms.specs.declared.frontier.Frontier.{Frontier}
-use Rattle.run_terms.specs.declared.frontier.Leaving.{Leaving}
-use Rattle.run_terms.specs.declared.setting.Setting.{Setting}
-use Rattle.run_terms.specs.Runs.{MatchesState, Scene, Visit}
-use Rattle.run_terms.specs.Frontier.{AreByLabel, Everywhere, IsLeaving, Leaves, Simulates, branched, placed, switched_on}
+use Rattle.run_terms.specs.Common.{Value, Machine, ended, Where, Done, along, TermId, Term, Keeps, IsTerm, Tests, bit_at, term_at, as_integer, Frontier, Leaving, Setting, MatchesState, Scene, Visit, AreByLabel, Everywhere, IsLeaving, Leaves, Simulates, branched, placed, switched_on}
 use Rattle.run_terms.proofs.Lasting.{state-later}
 use Rattle.run_terms.proofs.Moving.{simulates_to, simulates_when, simulates_later, simulates_choice, edge_of_label}
 use Rattle.run_terms.proofs.Reading.{branched_integer, switched_integer}

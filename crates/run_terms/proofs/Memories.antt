@@ -3,16 +3,10 @@ use Rattle.std.proofs.Common.{ℕ, ◌≡◌, ◌<◌, ◌≤◌, ◌-◌, Bool,
 use Rattle.std.proofs.lemmas.List.{length-take, take-append-drop}
 use Rattle.std.proofs.Math.Seq.{drop-append_seam, take-append_seam}
 use Rattle.byte_block.specs.declared.block.MemoryBlock.{MemoryBlock}
-use Rattle.bv_terms.specs.declared.term.TermId.{TermId}
-use Rattle.bv_terms.specs.declared.term.Term.{Term}
-use Rattle.bv_terms.specs.Trees.{Keeps, IsTerm, bit_at}
-use Rattle.mem_terms.specs.declared.blocks.SymBlock.{SymBlock}
-use Rattle.mem_terms.specs.Values.{Each, Reading, first_local}
-use Rattle.mem_terms.specs.Memory.{AreGivenBlocks, AreSymBlocks, SymFrame, block_at, frame_of, memory_at}
+use Rattle.mem_terms.specs.Memory.{SymFrame, block_at, memory_at}
 use Rattle.mem_terms.proofs.Eaches.{map-length}
 use Rattle.mem_terms.proofs.Later.{bit-later, memory-later, given_blocks-later}
-use Rattle.run_terms.specs.declared.state.RunMemory.{RunMemory}
-use Rattle.run_terms.specs.Runs.{AreNumberedFrom, IsRunMemory, frames_in}
+use Rattle.run_terms.specs.Common.{TermId, Term, Keeps, IsTerm, bit_at, SymBlock, Each, Reading, first_local, AreGivenBlocks, AreSymBlocks, frame_of, RunMemory, AreNumberedFrom, IsRunMemory, frames_in}
 
 -- ---- how many are given
 

@@ -8,26 +8,15 @@ use Rattle.std.proofs.lemmas.List.{take_all}
 use Rattle.ir_tree.specs.declared.tree.Case.{Case}
 use Rattle.ir_tree.specs.declared.tree.Block.{Block}
 use Rattle.ir_tree.specs.declared.tree.Function.{Function}
-use Rattle.points.specs.declared.machine.Machine.{Machine}
 use Rattle.points.specs.declared.outcome.Outcome.{Outcome}
 use Rattle.points.specs.declared.outcome.Outcome.TheVariants.{Ub}
-use Rattle.points.specs.Run.{Run, ended, entered}
+use Rattle.points.specs.Run.{entered}
 use Rattle.unroll.specs.declared.layered.Edge.{Edge}
 use Rattle.unroll.specs.declared.layered.BlockCopy.{BlockCopy}
-use Rattle.unroll.specs.Layers.{Where, At, Done, edge_of}
-use Rattle.bv_terms.specs.declared.term.TermId.{TermId}
-use Rattle.bv_terms.specs.declared.term.Term.{Term}
-use Rattle.bv_terms.specs.Trees.{Keeps, IsTerm, bit_at}
+use Rattle.unroll.specs.Layers.{edge_of}
 use Rattle.mem_terms.proofs.Eaches.{take-push}
 use Rattle.mem_terms.proofs.Later.{keeps_self, keeps_trans, bit-later}
-use Rattle.run_terms.specs.declared.state.Tally.{Tally}
-use Rattle.run_terms.specs.declared.state.RunState.{RunState}
-use Rattle.run_terms.specs.declared.ending.Ending.{Ending}
-use Rattle.run_terms.specs.declared.frontier.Frontier.{Frontier}
-use Rattle.run_terms.specs.declared.frontier.Leaving.{Leaving}
-use Rattle.run_terms.specs.declared.setting.Setting.{Setting}
-use Rattle.run_terms.specs.Runs.{Scene, IsState, Counts, MatchesState, Visit, visit_of}
-use Rattle.run_terms.specs.Frontier.{EndedSo, Ends, Everywhere, HasShape, IsFrontier, IsLeaving, Leaves, MatchesAhead, MatchesFrontier, Simulates, placed}
+use Rattle.run_terms.specs.Common.{Machine, Run, ended, Where, At, Done, TermId, Term, Keeps, IsTerm, bit_at, Tally, RunState, Ending, Frontier, Leaving, Setting, Counts, IsState, MatchesState, Scene, Visit, visit_of, EndedSo, Ends, Everywhere, HasShape, IsFrontier, IsLeaving, Leaves, MatchesAhead, MatchesFrontier, Simulates, placed}
 use Rattle.run_terms.proofs.Lasting.{states-later, matches_state-later, matches_there, matches_frontier-later, matches_ahead-later, matches_ending-later}
 
 -- ---- one after another

@@ -10,14 +10,10 @@ use Rattle.byte_block.specs.declared.value.BlockName.TheVariants.{Given}
 use Rattle.byte_block.specs.declared.block.MemoryBlock.{MemoryBlock}
 use Rattle.memory_access.specs.Blocks.{equal_names, names}
 use Rattle.points.specs.Run.{block_number, given_or_null}
-use Rattle.bv_terms.specs.declared.term.Term.{Term}
-use Rattle.bv_terms.specs.Trees.{bit_at}
-use Rattle.mem_terms.specs.declared.blocks.SymBlock.{SymBlock}
-use Rattle.mem_terms.specs.Values.{Each, block_name, first_local}
-use Rattle.mem_terms.specs.Memory.{IsAlways, block_at, frame_of, memory_at}
+use Rattle.mem_terms.specs.Values.{block_name}
+use Rattle.mem_terms.specs.Memory.{IsAlways, block_at, memory_at}
 use Rattle.mem_terms.proofs.Naming.{given_before, given_named as block_named, local_block}
-use Rattle.run_terms.specs.declared.state.RunMemory.{RunMemory}
-use Rattle.run_terms.specs.Runs.{AreNumberedFrom, Scene, IsRunMemory, sight}
+use Rattle.run_terms.specs.Common.{Term, bit_at, SymBlock, Each, first_local, frame_of, RunMemory, AreNumberedFrom, IsRunMemory, Scene, sight}
 use Rattle.run_terms.proofs.Memories.{memory-parts}
 
 -- ---- the name of a number

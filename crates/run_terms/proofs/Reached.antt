@@ -4,16 +4,9 @@ use Rattle.std.specs.Prelude.{slice_get, slice_set}
 use Rattle.std.proofs.Math.Bool.{or-false, or-true}
 use Rattle.std.proofs.lemmas.Bool.{cases_Bool, eqb-true, eqb-false}
 use Rattle.std.proofs.lemmas.List.{set-set, set_comm}
-use Rattle.points.specs.declared.machine.Machine.{Machine}
-use Rattle.unroll.specs.Layers.{Where, At, Done}
-use Rattle.bv_terms.specs.declared.term.Term.{Term}
-use Rattle.bv_terms.specs.Trees.{Keeps, Tests, bit_at}
-use Rattle.mem_terms.specs.Values.{Each}
 use Rattle.mem_terms.proofs.Eaches.{each-set}
 use Rattle.mem_terms.proofs.Later.{bit-later}
-use Rattle.run_terms.specs.declared.state.RunState.{RunState}
-use Rattle.run_terms.specs.Runs.{Scene, IsState, MatchesState, Visit, visit_of}
-use Rattle.run_terms.specs.Frontier.{AreStates, IsUnreached, MatchesEntry, MatchesAhead}
+use Rattle.run_terms.specs.Common.{Machine, Where, At, Done, Term, Keeps, Tests, bit_at, Each, RunState, IsState, MatchesState, Scene, Visit, visit_of, AreStates, IsUnreached, MatchesAhead, MatchesEntry}
 use Rattle.run_terms.proofs.Lasting.{each-get, matches_state-later, unreached-later, states-later}
 
 -- ---- lists with one item set

@@ -6,17 +6,12 @@ use Rattle.ir_tree.specs.declared.tree.Op.TheVariants.{Add, Sub, Mul, UnsignedDi
 use Rattle.ir_tree.specs.declared.tree.Predicate.{Predicate}
 use Rattle.ir_tree.specs.declared.tree.Cast.{Cast}
 use Rattle.ir_tree.specs.declared.tree.Case.{Case}
-use Rattle.byte_block.specs.declared.value.Value.{Value}
 use Rattle.byte_block.specs.declared.value.Value.TheVariants as value
 use Rattle.byte_block.specs.declared.value.Value.TheVariants.{Num, Poison}
-use Rattle.points.specs.declared.machine.Machine.{Machine}
 use Rattle.points.specs.Table.{cast_value, compared, defined_result, has_no_quotient, is_least_or_poison, is_minus_1, is_undefined, is_zero_or_poison, selected, value_result}
 use Rattle.points.specs.Run.{cut_value}
 use Rattle.unroll.specs.declared.layered.Edge.{Edge}
-use Rattle.bv_terms.specs.declared.term.Term.{Term}
-use Rattle.mem_terms.specs.declared.values.SymValue.{SymValue}
-use Rattle.mem_terms.specs.Values.{Reading, as_integer, value_at, values_at}
-use Rattle.run_terms.specs.Frontier.{branched, switched_on}
+use Rattle.run_terms.specs.Common.{Value, Machine, Term, SymValue, Reading, as_integer, value_at, values_at, branched, switched_on}
 
 -- a register, where there is one
 pub register_at : (r : Reading) (terms : List Term) (registers : List SymValue) (name : ℕ) (none : SymValue) → name < length registers

@@ -6,27 +6,14 @@ use Rattle.std.specs.List.{filter}
 use Rattle.std.proofs.lemmas.List.{append-nil, length-take}
 use Rattle.std.proofs.lemmas.List.Elements.{filter-append}
 use Rattle.byte_block.specs.declared.block.MemoryBlock.{MemoryBlock}
-use Rattle.points.specs.declared.machine.Machine.{Machine}
 use Rattle.points.specs.declared.outcome.Outcome.TheVariants.{Return}
-use Rattle.points.specs.Run.{Run, is_given}
-use Rattle.unroll.specs.Layers.{Done}
-use Rattle.bv_terms.specs.declared.term.Term.{Term}
-use Rattle.bv_terms.specs.Trees.{Keeps, bit_at}
-use Rattle.mem_terms.specs.declared.values.SymValue.{SymValue}
-use Rattle.mem_terms.specs.declared.blocks.SymBlock.{SymBlock}
-use Rattle.mem_terms.specs.Values.{Each, first_local, reading, value_at}
-use Rattle.mem_terms.specs.Memory.{AreGivenBlocks, SymFrame, block_at, frame_of, memory_at}
+use Rattle.points.specs.Run.{is_given}
+use Rattle.mem_terms.specs.Values.{reading}
+use Rattle.mem_terms.specs.Memory.{SymFrame, block_at, memory_at}
 use Rattle.mem_terms.proofs.Later.{memory-later}
 use Rattle.mem_terms.proofs.Naming.{given_named, local_block}
-use Rattle.run_terms.specs.declared.state.Tally.{Tally}
-use Rattle.run_terms.specs.declared.state.RunMemory.{RunMemory}
-use Rattle.run_terms.specs.declared.state.RunState.{RunState}
-use Rattle.run_terms.specs.declared.ending.Ending.{Ending}
-use Rattle.run_terms.specs.declared.frontier.Frontier.{Frontier}
-use Rattle.run_terms.specs.declared.frontier.Leaving.{Leaving}
-use Rattle.run_terms.specs.declared.setting.Setting.{Setting}
-use Rattle.run_terms.specs.Runs.{AreNumberedFrom, Scene, IsRunMemory, IsState, MatchesState, StateShape, Visit, sight}
-use Rattle.run_terms.specs.Frontier.{EndingShape, Ends, HasShape, IsLeaving, IsReturned, Leaves}
+use Rattle.run_terms.specs.Common.{Machine, Run, Done, Term, Keeps, bit_at, SymValue, SymBlock, Each, first_local, value_at, AreGivenBlocks, frame_of, Tally, RunMemory, RunState, Ending, Frontier, Leaving, Setting, AreNumberedFrom, IsRunMemory, IsState, MatchesState, Scene, StateShape, Visit, sight, Ends, HasShape, IsLeaving, Leaves}
+use Rattle.run_terms.specs.Frontier.{EndingShape, IsReturned}
 use Rattle.run_terms.proofs.Moving.{ends_leaves}
 use Rattle.run_terms.proofs.Memories.{memory-parts}
 

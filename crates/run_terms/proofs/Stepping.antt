@@ -9,29 +9,21 @@ use Rattle.ir_tree.specs.declared.tree.Inst.TheVariants as inst
 use Rattle.ir_tree.specs.declared.tree.Op.{Op}
 use Rattle.ir_tree.specs.declared.tree.Operand.{Operand}
 use Rattle.tv_num.specs.declared.Width.{Width}
-use Rattle.byte_block.specs.declared.value.Value.{Value}
 use Rattle.byte_block.specs.declared.block.MemoryBlock.{MemoryBlock}
-use Rattle.points.specs.declared.machine.Machine.{Machine}
 use Rattle.points.specs.Table.{value_result}
-use Rattle.points.specs.Run.{act, assigned, operand_value}
-use Rattle.bv_terms.specs.declared.term.TermId.{TermId}
-use Rattle.bv_terms.specs.declared.term.Term.{Term}
+use Rattle.points.specs.Run.{act, assigned}
 use Rattle.bv_terms.specs.declared.term.Term.TheVariants as term
 use Rattle.bv_terms.specs.Tree as tree
 use Rattle.bv_terms.specs.Tree.{Tree, truth, value_of}
 use Rattle.bv_terms.proofs.Stages.{tree-stored}
-use Rattle.bv_terms.specs.Trees.{AreFit, Keeps, Tests, IsTerm, bit_at, trees_from, trees_of}
+use Rattle.bv_terms.specs.Trees.{AreFit, trees_from, trees_of}
 use Rattle.mem_terms.specs.declared.integers.SymNumber.{SymNumber}
-use Rattle.mem_terms.specs.declared.values.SymValue.{SymValue}
-use Rattle.mem_terms.specs.Values.{IsNaming, IsSymValue, Reading, number_at, option_from, value_at, values_at}
-use Rattle.mem_terms.specs.Memory.{memory_at}
+use Rattle.mem_terms.specs.Values.{option_from}
 use Rattle.mem_terms.proofs.Eaches.{each-set, map-set, take-push}
 use Rattle.mem_terms.proofs.Later.{keeps_trans, bit-later, sym_value-later, sym_values-later, value-later, values-later}
 use Rattle.mem_terms.proofs.Naming.{naming}
-use Rattle.run_terms.specs.declared.state.Tally.{Tally}
-use Rattle.run_terms.specs.declared.state.RunMemory.{RunMemory}
-use Rattle.run_terms.specs.declared.state.RunState.{RunState}
-use Rattle.run_terms.specs.Runs.{Always, Scene, IsRunMemory, IsTally, IsState, MatchesState, Counts, Course, Idle, Dead, Live, Steps, Visit, advanced, shape_of, sight, stepped, steps, MatchesCourse}
+use Rattle.run_terms.specs.Common.{Value, Machine, operand_value, TermId, Term, Keeps, IsTerm, Tests, bit_at, SymValue, IsNaming, IsSymValue, Reading, number_at, value_at, values_at, memory_at, Tally, RunMemory, RunState, Always, Counts, IsRunMemory, IsState, IsTally, MatchesCourse, MatchesState, Scene, Steps, Visit, shape_of, sight, stepped}
+use Rattle.run_terms.specs.Runs.{Course, Idle, Dead, Live, advanced, steps}
 use Rattle.run_terms.proofs.Lasting.{counts-later, matches_state-later, blocks_at-later, state-later, tested}
 
 -- ---- more terms

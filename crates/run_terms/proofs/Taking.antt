@@ -3,21 +3,15 @@ use Rattle.std.proofs.Common.{ℕ, zero, suc, ◌≡◌, ◌<◌, ◌≤◌, ◌
 use Rattle.std.proofs.Math.Bool.{and-true, and_assoc}
 use Rattle.std.proofs.lemmas.Bool.Decides.{nat_tests}
 use Rattle.byte_block.specs.declared.value.Value.TheVariants.{Num, Ptr}
-use Rattle.points.specs.declared.machine.Machine.{Machine}
 use Rattle.points.specs.Run.{block_number, given_or_null, next_word}
-use Rattle.bv_terms.specs.declared.term.TermId.{TermId}
-use Rattle.bv_terms.specs.declared.term.Term.{Term}
 use Rattle.bv_terms.specs.Tree.{width_of}
-use Rattle.bv_terms.specs.Trees.{Keeps, Makes, Tests, IsTerm, AreInRange, term_at, bit_at, tree_in}
-use Rattle.mem_terms.specs.declared.values.SymValue.{SymValue}
-use Rattle.mem_terms.specs.Values.{Reading, number_at, value_at}
-use Rattle.mem_terms.specs.Inputs.{AreWords, words_at}
+use Rattle.bv_terms.specs.Trees.{AreInRange, tree_in}
+use Rattle.mem_terms.specs.Values.{number_at}
 use Rattle.mem_terms.proofs.Later.{keeps_trans, bit-later, term-later, is_term-later, words_at-later}
 use Rattle.mem_terms.proofs.Made.{small_mod}
 use Rattle.access_terms.proofs.Stored.{each-take}
-use Rattle.run_terms.specs.declared.state.Tally.{Tally}
-use Rattle.run_terms.specs.declared.state.RunState.{RunState}
-use Rattle.run_terms.specs.Runs.{Scene, Sees, IsState, IsTally, Counts, MatchesState, Visit, fits_from, sight}
+use Rattle.run_terms.specs.Common.{Machine, TermId, Term, Keeps, IsTerm, Makes, Tests, bit_at, term_at, SymValue, Reading, value_at, AreWords, words_at, Tally, RunState, Counts, IsState, IsTally, MatchesState, Scene, Sees, Visit, sight}
+use Rattle.run_terms.specs.Runs.{fits_from}
 use Rattle.run_terms.proofs.Cutting.{narrow}
 use Rattle.run_terms.proofs.Pointing.{chosen_block, names_given}
 

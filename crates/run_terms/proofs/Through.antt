@@ -13,24 +13,16 @@ use Rattle.ir_tree.specs.Flow.{targets, block_of, successors}
 use Rattle.ir_tree.specs.Limits.{HasSmallObjects, CanRun, HasSmallNumbers, FitsReturn, ReturnsFit}
 use Rattle.ir_tree.proofs.Definers.{all_at}
 use Rattle.ir_tree.proofs.Indexing.{places_of}
-use Rattle.points.specs.declared.machine.Machine.{Machine}
 use Rattle.points.specs.declared.outcome.Outcome.TheVariants.{Ub}
-use Rattle.points.specs.Run.{Run, Exit, Over, act, assigned, phi_value, with_phis, ended, entered, exit_after, exit_by, exit_insts}
+use Rattle.points.specs.Run.{Exit, Over, act, assigned, phi_value, with_phis, entered, exit_after, exit_by, exit_insts}
 use Rattle.unroll.specs.declared.layered.Edge.{Edge}
 use Rattle.unroll.specs.declared.layered.BlockCopy.{BlockCopy}
-use Rattle.unroll.specs.Layers.{edge_to, layer_of, layers_of, copies_of, Where, At, Done, left_by, pass_copy, walk, run_at_end}
-use Rattle.bv_terms.specs.declared.term.TermId.{TermId}
-use Rattle.bv_terms.specs.declared.term.Term.{Term}
-use Rattle.bv_terms.specs.Trees.{Keeps, Tests, bit_at}
-use Rattle.mem_terms.specs.Values.{Each}
+use Rattle.unroll.specs.Layers.{edge_to, layer_of, layers_of, copies_of, left_by, pass_copy, walk, run_at_end}
 use Rattle.mem_terms.proofs.Eaches.{each-set}
 use Rattle.mem_terms.proofs.Later.{keeps_self, keeps_trans, bit-later}
-use Rattle.run_terms.specs.declared.state.RunState.{RunState}
-use Rattle.run_terms.specs.declared.ending.Ending.{Ending}
-use Rattle.run_terms.specs.declared.frontier.Frontier.{Frontier}
-use Rattle.run_terms.specs.declared.setting.Setting.{Setting}
-use Rattle.run_terms.specs.Runs.{Scene, IsState, MatchesState, Course, Idle, Dead, Live, Steps, Visit, advanced, shape_of, steps, MatchesCourse, visit_of}
-use Rattle.run_terms.specs.Frontier.{AreStates, Ends, IsUnreached, MatchesAhead, HaveShape, IsFrontier, HasShape, MatchesFrontier, Simulates, AreByLabel, IsCopyIn, entering, arrived, placed, shape_in}
+use Rattle.run_terms.specs.Common.{Machine, Run, ended, Where, At, Done, TermId, Term, Keeps, Tests, bit_at, Each, RunState, Ending, Frontier, Setting, IsState, MatchesCourse, MatchesState, Scene, Steps, Visit, shape_of, visit_of, AreByLabel, AreStates, Ends, HasShape, HaveShape, IsCopyIn, IsFrontier, IsUnreached, MatchesAhead, MatchesFrontier, Simulates, placed, shape_in}
+use Rattle.run_terms.specs.Runs.{Course, Idle, Dead, Live, advanced, steps}
+use Rattle.run_terms.specs.Frontier.{entering, arrived}
 use Rattle.run_terms.proofs.Lasting.{each-get, counts-later, states-later, matches_ahead-later, matches_state-later, matches_frontier-later}
 use Rattle.run_terms.proofs.Reached.{set_other, changed_ahead, passes_taken}
 

@@ -155,11 +155,12 @@ abbrev pub placed : Function → List BlockCopy → (from : ℕ) → Where → W
 placed f copies from (Done run) = Done run
 placed f copies from (At n m) = if nat_le from n then arrived n m (entering f (slice_get copies n) m) else Done (ended Ub m)
 
--- where this holds the run goes there from the state that it is in; otherwise nothing changes
+-- where `holds` is true the run goes there from the state that it is in; otherwise nothing changes
 pub record Simulates (g : Scene) (old new : List Term) (before after : Frontier) (holds : Bool) (at : Visit) (s : RunState) (to : Machine → Where) : Type 0 where
   pub stays : (at : Option Where) → holds ≡ false → MatchesFrontier g old before at → MatchesFrontier g new after at
   pub goes : (m : Machine) → holds ≡ true → MatchesState g old at s m → MatchesFrontier g old before None → MatchesFrontier g new after (Some (to m))
 
+-- a run that may leave its block: the frontier and its state are of the function's shape
 pub record IsLeaving (setting : Setting) (terms : List Term) (w : Frontier) (l : Leaving) : Type 0 where
   pub frontier : IsFrontier terms w
   pub shape : HasShape setting w
@@ -167,7 +168,7 @@ pub record IsLeaving (setting : Setting) (terms : List Term) (w : Frontier) (l :
   pub fits : shape_of l.state.now ≡ shape_in setting
   pub c : IsTerm terms 1 l.c
 
--- the frontier after is one of the same shape, and the leaving run goes there, in scenes where `on` holds
+-- the frontier after has the function's shape, and where `on` holds the leaving run goes there
 pub record Leaves (on : Scene → Type 0) (setting : Setting) (l : Leaving) (old new : List Term) (before after : Frontier) (to : Scene → Machine → Where) : Type 0 where
   pub frontier : IsFrontier new after
   pub shape : HasShape setting after

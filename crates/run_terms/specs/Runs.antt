@@ -124,7 +124,7 @@ MatchesCourse g terms at s Idle = bit_at g.v terms s.alive ≡ false
 MatchesCourse g terms at s (Dead m) = (bit_at g.v terms s.alive ≡ false) × Counts g terms s.tally m.taken
 MatchesCourse g terms at s (Live m) = (bit_at g.v terms s.alive ≡ true) × MatchesState g terms at s m
 
--- the state after is one of the same shape, and of whatever course the one before matches, where `on` holds, it matches what comes of the course
+-- the state after has the same shape, and where `on` holds it matches the course after the step, whatever course the state before matches
 pub record Steps (on : Scene → Visit → Type 0) (old new : List Term) (before after : RunState) (to : List ℕ → Course → Course) : Type 0 where
   pub state : IsState new after
   pub shape : shape_of after ≡ shape_of before

@@ -1,12 +1,8 @@
 //! Choices from a tape.
 
 ghost use Rattle.std.specs.Prelude.{◌≡◌, ◌<◌, ◌≤◌, ◌+◌, ◌%◌, ◌^◌, ◌&&◌, ◌||◌, ◌++◌, true, false, not, cond, ℕ, List, length, IfOk, OnOk, nat_eq, nat_le, slice_index};
-ghost use Rattle.points.specs.declared.machine.Machine.{Machine};
 ghost use Rattle.points.specs.Run.{choice_of, is_poison};
-ghost use Rattle.bv_terms.specs.Trees.{IsTerm, Keeps, Makes, Tests, bit_at, term_at};
-ghost use Rattle.mem_terms.specs.Values.{IsSymValue, Reading, value_at};
-ghost use Rattle.mem_terms.specs.Inputs.{AreWords, words_at};
-ghost use Rattle.run_terms.specs.Runs.{Scene, Sees, IsState, IsTally, Counts, MatchesState, Visit, sight};
+ghost use Rattle.run_terms.specs.Common.{Machine, Keeps, IsTerm, Makes, Tests, bit_at, term_at, IsSymValue, Reading, value_at, AreWords, words_at, Counts, IsState, IsTally, MatchesState, Scene, Sees, Visit, sight};
 
 use crate::state::{RunState, Tally};
 use crate::words::{word_at, words_up_to};

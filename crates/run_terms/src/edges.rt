@@ -2,12 +2,9 @@
 
 ghost use Rattle.std.specs.Prelude.{◌≡◌, ◌≤◌, ◌<◌, ℕ, IfOk, OnOk, IfSome, None, Some, length, slice_get, slice_index_or};
 ghost use Rattle.ir_tree.specs.declared.tree.Block.{Block};
-ghost use Rattle.points.specs.declared.machine.Machine.{Machine};
 ghost use Rattle.points.specs.declared.outcome.Outcome.TheVariants as outcome;
-ghost use Rattle.points.specs.Run.{ended, entered};
-ghost use Rattle.unroll.specs.Layers.{At, Done, along};
-ghost use Rattle.bv_terms.specs.Trees.{Keeps};
-ghost use Rattle.run_terms.specs.Frontier.{Everywhere, IsLeaving, Leaves, placed};
+ghost use Rattle.points.specs.Run.{entered};
+ghost use Rattle.run_terms.specs.Common.{Machine, ended, At, Done, along, Keeps, Everywhere, IsLeaving, Leaves, placed};
 
 use crate::frontier::{Frontier, Leaving};
 use crate::setting::Setting;

@@ -3,11 +3,7 @@
 ghost use Rattle.std.specs.Prelude.{◌≡◌, IfOk, OnOk, IfSome, cond, is_some, map};
 ghost use Rattle.std.specs.Option.{option_map};
 ghost use Rattle.points.specs.declared.outcome.Outcome.TheVariants as outcome;
-ghost use Rattle.bv_terms.specs.Trees.{IsTerm, Keeps, bit_at};
-ghost use Rattle.mem_terms.specs.Values.{IsSymValue, Reading, value_at};
-ghost use Rattle.mem_terms.specs.Memory.{AreGivenBlocks, frame_of, memory_at};
-ghost use Rattle.run_terms.specs.Runs.{IsTally, sight};
-ghost use Rattle.run_terms.specs.Frontier.{Ends, IsEnding};
+ghost use Rattle.run_terms.specs.Common.{Keeps, IsTerm, bit_at, IsSymValue, Reading, value_at, AreGivenBlocks, frame_of, memory_at, IsTally, sight, Ends, IsEnding};
 
 use crate::joining::pick_tally;
 use crate::state::Tally;

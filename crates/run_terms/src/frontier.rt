@@ -1,12 +1,8 @@
 //! Where a run is between two copies.
 
 ghost use Rattle.std.specs.Prelude.{◌≡◌, ◌<◌, true, false, ℕ, IfOk, OnOk, None, Some, Option, length, slice_get, slice_set};
-ghost use Rattle.points.specs.declared.machine.Machine.{Machine};
 ghost use Rattle.points.specs.Run.{entered};
-ghost use Rattle.unroll.specs.Layers.{Where, At};
-ghost use Rattle.bv_terms.specs.Trees.{IsTerm, Keeps, bit_at};
-ghost use Rattle.run_terms.specs.Runs.{Scene, IsState, MatchesState, shape_of, visit_of};
-ghost use Rattle.run_terms.specs.Frontier.{MatchesAhead, AreStates, HaveShape, IsFrontier, Simulates};
+ghost use Rattle.run_terms.specs.Common.{Machine, Where, At, Keeps, IsTerm, bit_at, IsState, MatchesState, Scene, shape_of, visit_of, AreStates, HaveShape, IsFrontier, MatchesAhead, Simulates};
 
 use crate::ending::Ending;
 use crate::joining::join;

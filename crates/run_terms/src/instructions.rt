@@ -4,12 +4,11 @@ ghost use Rattle.std.specs.Prelude.{◌≡◌, ◌<◌, ◌&&◌, All, false, no
 ghost use Rattle.ir_tree.specs.declared.tree.Inst.{Inst};
 ghost use Rattle.ir_tree.specs.declared.tree.Operand.{Operand};
 ghost use Rattle.ir_tree.specs.Limits.{HasSmallTypes, HasSmallNumber};
-ghost use Rattle.points.specs.Run.{is_poison, operand_value, typed_operand_value, typed_value};
+ghost use Rattle.points.specs.Run.{is_poison, typed_value};
 ghost use Rattle.points.specs.Table.{cast_value, compared, selected, value_result};
-ghost use Rattle.bv_terms.specs.Trees.{IsTerm, Keeps, Tests, bit_at};
-ghost use Rattle.mem_terms.specs.Values.{AreSymValues, IsNaming, IsSymNumber, IsSymValue, Reading, as_integer, number_at, option_from, value_at, values_at};
-ghost use Rattle.mem_terms.specs.Inputs.{AreWords};
-ghost use Rattle.run_terms.specs.Runs.{Always, IsState, Sees, Steps, sight, stepped, steps};
+ghost use Rattle.mem_terms.specs.Values.{IsSymNumber, option_from};
+ghost use Rattle.run_terms.specs.Common.{operand_value, typed_operand_value, Keeps, IsTerm, Tests, bit_at, AreSymValues, IsNaming, IsSymValue, Reading, as_integer, number_at, value_at, values_at, AreWords, Always, IsState, Sees, Steps, sight, stepped};
+ghost use Rattle.run_terms.specs.Runs.{steps};
 
 use crate::choices::choose;
 use crate::memory_steps::step_memory;

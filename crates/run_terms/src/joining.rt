@@ -1,11 +1,7 @@
 //! Where several edges come to one copy of a block.
 
 ghost use Rattle.std.specs.Prelude.{◌≡◌, ◌++◌, ◌||◌, true, false, ℕ, List, IfOk, length, cond};
-ghost use Rattle.bv_terms.specs.Trees.{IsTerm, Keeps, Tests, bit_at};
-ghost use Rattle.mem_terms.specs.Values.{AreSymValues, Reading, values_at};
-ghost use Rattle.mem_terms.specs.Memory.{memory_at};
-ghost use Rattle.points.specs.declared.machine.Machine.{Machine};
-ghost use Rattle.run_terms.specs.Runs.{Scene, IsRunMemory, IsState, IsTally, Counts, MatchesState, Visit, frames_in, shape_of};
+ghost use Rattle.run_terms.specs.Common.{Machine, Keeps, IsTerm, Tests, bit_at, AreSymValues, Reading, values_at, memory_at, Counts, IsRunMemory, IsState, IsTally, MatchesState, Scene, Visit, frames_in, shape_of};
 
 use crate::state::{RunMemory, RunState, Tally};
 use access_terms::pick_memory;

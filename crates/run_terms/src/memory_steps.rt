@@ -8,10 +8,9 @@ ghost use Rattle.ir_tree.specs.Limits.{HasSmallArrays, HasSmallTypes, HasSmallNu
 ghost use Rattle.ir_tree.specs.Types.{object_size};
 ghost use Rattle.byte_block.specs.declared.value.BlockName.TheVariants.{Local};
 ghost use Rattle.points.specs.Run.{access_of, index_value, index_values};
-ghost use Rattle.bv_terms.specs.Trees.{Keeps};
-ghost use Rattle.mem_terms.specs.Values.{AreSymValues, IsNaming, Reading, first_local, local_number, values_at};
+ghost use Rattle.mem_terms.specs.Values.{local_number};
 ghost use Rattle.access_terms.specs.Offsets.{AreSymIndices, IsSymIndex, index_at, indices_at};
-ghost use Rattle.run_terms.specs.Runs.{Always, IsState, Steps, sight, stepped};
+ghost use Rattle.run_terms.specs.Common.{Keeps, AreSymValues, IsNaming, Reading, first_local, values_at, Always, IsState, Steps, sight, stepped};
 ghost use Rattle.run_terms.specs.Frontier.{UsesMemory};
 
 use crate::operands::{number_of, operand_of, typed_operand_of};

@@ -2,10 +2,8 @@
 
 ghost use Rattle.std.specs.Prelude.{◌≡◌, ℕ, IfOk, length, nat_eq};
 ghost use Rattle.std.specs.List.{find};
-ghost use Rattle.bv_terms.specs.Trees.{Keeps};
-ghost use Rattle.mem_terms.specs.Values.{AreSymValues, IsNaming, IsSymValue, Reading, value_at, values_at};
-ghost use Rattle.points.specs.declared.machine.Machine.{Machine};
 ghost use Rattle.points.specs.Run.{entry_value, phi_value, with_phis};
+ghost use Rattle.run_terms.specs.Common.{Machine, Keeps, AreSymValues, IsNaming, IsSymValue, Reading, value_at, values_at};
 
 use crate::operands::{operand_of, typed};
 use crate::state::assign;

@@ -4,15 +4,11 @@ ghost use Rattle.std.specs.Prelude.{◌≡◌, ◌∷◌, ◌%◌, ◌^◌, ◌&
 ghost use Rattle.std.specs.List.{find};
 ghost use Rattle.std.specs.Option.{option_map_or};
 ghost use Rattle.ir_tree.specs.Flow.{targets};
-ghost use Rattle.points.specs.declared.machine.Machine.{Machine};
 ghost use Rattle.points.specs.declared.outcome.Outcome.TheVariants.{Ub};
-ghost use Rattle.points.specs.Run.{ended, exit_by, operand_value, returned_run, returned_with, undef_type};
-ghost use Rattle.unroll.specs.Layers.{Done, along, left_by};
-ghost use Rattle.bv_terms.specs.Trees.{IsTerm, Keeps, Tests, bit_at, term_at};
-ghost use Rattle.mem_terms.specs.Values.{IsSymValue};
-ghost use Rattle.mem_terms.specs.Inputs.{AreWords};
-ghost use Rattle.run_terms.specs.Runs.{IsState, IsTally, MatchesState, Scene, Sees, Visit};
-ghost use Rattle.run_terms.specs.Frontier.{AreByLabel, Everywhere, IsLeaving, IsReturned, Leaves, Simulates, branched, switched_on};
+ghost use Rattle.points.specs.Run.{exit_by, returned_run, returned_with, undef_type};
+ghost use Rattle.unroll.specs.Layers.{left_by};
+ghost use Rattle.run_terms.specs.Common.{Machine, ended, operand_value, Done, along, Keeps, IsTerm, Tests, bit_at, term_at, IsSymValue, AreWords, IsState, IsTally, MatchesState, Scene, Sees, Visit, AreByLabel, Everywhere, IsLeaving, Leaves, Simulates, branched, switched_on};
+ghost use Rattle.run_terms.specs.Frontier.{IsReturned};
 ghost use Rattle.ir_tree.specs.Limits.{FitsReturn};
 
 use crate::choices::choose;

@@ -1,8 +1,7 @@
 //! Words of a tape.
 
 ghost use Rattle.std.specs.Prelude.{◌≡◌, ◌+◌, IfOk, slice_index, take};
-ghost use Rattle.bv_terms.specs.Trees.{IsTerm, Keeps, Makes, term_at};
-ghost use Rattle.mem_terms.specs.Inputs.{AreWords, words_at};
+ghost use Rattle.run_terms.specs.Common.{Keeps, IsTerm, Makes, term_at, AreWords, words_at};
 
 use bv_terms::{TermId, Terms};
 use mem_terms::{equals, number, pick};

@@ -2,9 +2,7 @@ use Rattle.std.proofs.Common.{◌≡◌, ◌∙◌, ap, sym, subst, List, [], Op
 use Rattle.std.specs.Prelude.{slice_set}
 use Rattle.std.proofs.lemmas.List.{set-set}
 use Rattle.mem_terms.proofs.Later.{keeps_self}
-use Rattle.run_terms.specs.declared.state.RunState.{RunState}
-use Rattle.run_terms.specs.Runs.{IsState, shape_of, visit_of}
-use Rattle.run_terms.specs.Frontier.{AreStates, MatchesAhead, MatchesEntry}
+use Rattle.run_terms.specs.Common.{RunState, IsState, shape_of, visit_of, AreStates, MatchesAhead, MatchesEntry}
 use Rattle.run_terms.proofs.Lasting.{each-get}
 use Rattle.run_terms.proofs.Reached.{set_entries, changed_ahead, changed_reached, passes_first, passes_joined, joined_alive}
 use Rattle.run_terms.proofs.frontier.reach.Goals as goal

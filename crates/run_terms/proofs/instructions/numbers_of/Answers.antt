@@ -1,8 +1,6 @@
 use Rattle.std.proofs.Common.{◌∙◌, ap, List}
-use Rattle.byte_block.specs.declared.value.Value.{Value}
-use Rattle.points.specs.Run.{operand_value}
-use Rattle.mem_terms.specs.Values.{as_integer}
 use Rattle.mem_terms.proofs.Later.{number-later, values-later}
+use Rattle.run_terms.specs.Common.{Value, operand_value, as_integer}
 use Rattle.run_terms.proofs.instructions.numbers_of.Goals as goal
 
 pub returns-clause-left : goal.returns-clause-left

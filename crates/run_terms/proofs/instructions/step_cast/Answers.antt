@@ -1,8 +1,7 @@
 use Rattle.std.proofs.Common.{List, refl}
 use Rattle.ir_tree.specs.declared.tree.Inst.TheVariants as inst
-use Rattle.byte_block.specs.declared.value.Value.{Value}
-use Rattle.points.specs.Run.{operand_value}
 use Rattle.points.specs.Table.{cast_value}
+use Rattle.run_terms.specs.Common.{Value, operand_value}
 use Rattle.run_terms.proofs.Stepping.{result_steps}
 use Rattle.run_terms.proofs.instructions.step_cast.Goals as goal
 

@@ -1,10 +1,9 @@
 use Rattle.std.proofs.Common.{◌∙◌, ap, sym, List}
 use Rattle.std.proofs.lemmas.Result.{on_ok_weaker}
-use Rattle.byte_block.specs.declared.value.Value.{Value}
-use Rattle.points.specs.Run.{operand_value, typed_value}
+use Rattle.points.specs.Run.{typed_value}
 use Rattle.mem_terms.proofs.Later.{keeps_trans, values-later, words-later}
 use Rattle.mem_terms.proofs.Naming.{naming}
-use Rattle.run_terms.specs.Runs.{sight}
+use Rattle.run_terms.specs.Common.{Value, operand_value, sight}
 use Rattle.run_terms.proofs.Lasting.{sees-later, state-later}
 use Rattle.run_terms.proofs.Stepping.{steps_later}
 use Rattle.run_terms.proofs.Freezing.{plain_steps}

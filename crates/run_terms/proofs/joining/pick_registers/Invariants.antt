@@ -1,7 +1,6 @@
 -- The registers so far are those of a prefix of each list.
 use Rattle.std.proofs.Common.{◌≡◌, ◌≤◌, length, take, cond}
-use Rattle.bv_terms.specs.Trees.{Keeps, bit_at}
-use Rattle.mem_terms.specs.Values.{AreSymValues, Reading, values_at}
+use Rattle.run_terms.specs.Common.{Keeps, bit_at, AreSymValues, Reading, values_at}
 use Rattle.run_terms.proofs.joining.pick_registers.Given as goal
 
 abbrev pub invariant-loop-i : goal.invariant-loop-i

@@ -2,9 +2,8 @@ use Rattle.std.proofs.Common.{◌∙◌, ◌∷◌, [], ap, refl}
 use Rattle.std.proofs.lemmas.Result.{on_ok_weaker}
 use Rattle.ir_tree.specs.declared.tree.Case.{Case}
 use Rattle.points.specs.declared.outcome.Outcome.TheVariants.{Ub}
-use Rattle.points.specs.Run.{operand_value}
 use Rattle.unroll.specs.declared.layered.Edge.{Edge}
-use Rattle.unroll.specs.Layers.{along}
+use Rattle.run_terms.specs.Common.{operand_value, along}
 use Rattle.run_terms.proofs.Moving.{ends_here, leaves_to}
 use Rattle.run_terms.proofs.Leaves.{branch_left, label_edge, switch_edges, switch_left}
 use Rattle.run_terms.proofs.terminators.leave.Goals as goal

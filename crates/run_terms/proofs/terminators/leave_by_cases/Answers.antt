@@ -1,12 +1,9 @@
 use Rattle.std.proofs.Common.{◌%◌, ◌^◌, ◌∙◌, ◌&&◌, not, map, nat_eq, ap, sym, arith}
 use Rattle.std.proofs.lemmas.Result.{on_ok_weaker}
 use Rattle.ir_tree.specs.declared.tree.Case.{Case}
-use Rattle.points.specs.declared.machine.Machine.{Machine}
 use Rattle.unroll.specs.declared.layered.Edge.{Edge}
-use Rattle.unroll.specs.Layers.{Where, along}
-use Rattle.bv_terms.specs.Trees.{bit_at, term_at}
 use Rattle.mem_terms.proofs.Later.{keeps_self, keeps_trans, bit-later, is_term-later}
-use Rattle.run_terms.specs.Frontier.{placed}
+use Rattle.run_terms.specs.Common.{Machine, Where, along, bit_at, term_at, placed}
 use Rattle.run_terms.proofs.Lasting.{frontier-later, leaving-at, tested}
 use Rattle.run_terms.proofs.Moving.{cases_end, cases_step, simulates_later, simulates_to, simulates_when}
 use Rattle.run_terms.proofs.Leaves.{case_edge, default_edge, hit_is}

@@ -3,14 +3,8 @@ use Rattle.std.proofs.Common.{ℕ, ◌≡◌, ◌≤◌, ◌∷◌, ◌%◌, ◌
 use Rattle.std.specs.List.{find}
 use Rattle.std.specs.Option.{option_map_or}
 use Rattle.ir_tree.specs.declared.tree.Case.{Case}
-use Rattle.points.specs.declared.machine.Machine.{Machine}
 use Rattle.unroll.specs.declared.layered.Edge.{Edge}
-use Rattle.unroll.specs.Layers.{Where, along}
-use Rattle.bv_terms.specs.declared.term.Term.{Term}
-use Rattle.bv_terms.specs.Trees.{Keeps, bit_at, term_at}
-use Rattle.run_terms.specs.declared.frontier.Frontier.{Frontier}
-use Rattle.run_terms.specs.Runs.{Scene}
-use Rattle.run_terms.specs.Frontier.{IsLeaving, Simulates, placed}
+use Rattle.run_terms.specs.Common.{Machine, Where, along, Term, Keeps, bit_at, term_at, Frontier, Scene, IsLeaving, Simulates, placed}
 use Rattle.run_terms.proofs.terminators.leave_by_cases.Given as goal
 
 abbrev pub invariant-loop-i : goal.invariant-loop-i

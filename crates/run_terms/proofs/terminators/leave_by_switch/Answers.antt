@@ -1,12 +1,8 @@
 use Rattle.std.proofs.Common.{◌≡◌, ◌%◌, ◌^◌, ◌∙◌, ap, List}
 use Rattle.std.proofs.lemmas.Result.{on_ok_weaker}
-use Rattle.byte_block.specs.declared.value.Value.{Value}
-use Rattle.points.specs.Run.{operand_value}
-use Rattle.bv_terms.specs.Trees.{bit_at, term_at}
-use Rattle.mem_terms.specs.Values.{as_integer}
 use Rattle.mem_terms.proofs.Later.{keeps_trans, bit-later, term-later}
 use Rattle.mem_terms.proofs.Naming.{naming}
-use Rattle.run_terms.specs.Runs.{sight}
+use Rattle.run_terms.specs.Common.{Value, operand_value, bit_at, term_at, as_integer, sight}
 use Rattle.run_terms.proofs.Lasting.{leaving-later}
 use Rattle.run_terms.proofs.Leaves.{poison_leaves, switch_is}
 use Rattle.run_terms.proofs.terminators.leave_by_switch.Goals as goal

@@ -1,13 +1,10 @@
 use Rattle.std.proofs.Common.{◌≡◌, ◌∙◌, ap, sym, Bool, List, if◌then◌else◌}
 use Rattle.std.proofs.lemmas.Result.{on_ok_weaker}
-use Rattle.byte_block.specs.declared.value.Value.{Value}
-use Rattle.points.specs.Run.{ended, is_poison, returned_with, typed_operand_value, undef_type}
+use Rattle.points.specs.Run.{is_poison, returned_with, undef_type}
 use Rattle.points.specs.declared.outcome.Outcome.TheVariants.{Ub}
-use Rattle.unroll.specs.Layers.{Done}
-use Rattle.bv_terms.specs.Trees.{bit_at}
 use Rattle.mem_terms.proofs.Later.{keeps_trans, words-later}
 use Rattle.mem_terms.proofs.Naming.{naming}
-use Rattle.run_terms.specs.Runs.{sight}
+use Rattle.run_terms.specs.Common.{Value, ended, typed_operand_value, Done, bit_at, sight}
 use Rattle.run_terms.proofs.Arguments.{poison_bit}
 use Rattle.run_terms.proofs.Lasting.{leaving-later, sees-later}
 use Rattle.run_terms.proofs.Leaves.{poison_leaves}
