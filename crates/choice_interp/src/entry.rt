@@ -31,7 +31,7 @@ fn is_null(value: Value) -> bool
 }
 
 /// What a parameter gets of an argument: null is poison where the parameter is `nonnull`.
-fn argument_value(parameter: &Parameter, arg: Value) -> Value
+pub fn argument_value(parameter: &Parameter, arg: Value) -> Value
     ensures { result ≡ argument_value parameter.now arg }
 {
     if parameter.non_null && is_null(arg) {

@@ -24,7 +24,8 @@ pub enum Left {
     Over(Ending),
 }
 
-fn entry_from(entries: &[PhiEntry], from: usize) -> Option<PhiEntry>
+/// The entry of a phi for the block with this label, by the label's number.
+pub fn entry_from(entries: &[PhiEntry], from: usize) -> Option<PhiEntry>
     ensures { result ≡ find (λ e. nat_eq e.from from) entries.now }
 {
     entries.iter().copied().find(|entry| entry.from == from)

@@ -15,7 +15,8 @@ use points::Machine;
 use std::alloc::Global;
 use support::{NoMemory, Sequence};
 
-fn access_of(of_type: IrType) -> Access
+/// What a load reads, or a store writes, of a type.
+pub fn access_of(of_type: IrType) -> Access
     ensures { result ≡ access_of of_type }
 {
     match of_type {
