@@ -20,7 +20,7 @@ mod returning;
 mod room;
 mod run;
 mod runners;
-mod step;
+mod stepping;
 mod table;
 
 pub use blocks::free_locals;
@@ -33,5 +33,5 @@ pub use rerun::run_again;
 pub use room::Room;
 pub use run::{Ran, interpret, is_plain};
 pub use runners::{Runner, give_blocks, runner_for};
-pub use step::step;
+pub use stepping::step;
 pub use table::low_bits;

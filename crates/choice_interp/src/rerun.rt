@@ -14,7 +14,7 @@ use crate::entry::{begin, breaks_no_undef};
 use crate::flow::{Left, enter, jump, leave};
 use crate::room::Room;
 use crate::runners::Runner;
-use crate::step::step;
+use crate::stepping::step;
 use ir_tree::{Block, BlockIndex, Function};
 use points::{Bounds, Input, Machine};
 use support::NoMemory;
