@@ -1,5 +1,5 @@
 -- Why a getelementptr gives poison.
-use Rattle.std.proofs.Common.{◌≡◌, ◌≢◌, ◌⊎◌, ℕ, ◌+◌, ◌<◌, List, [], ◌∷◌, map, length, Bool, true, false, ◌&&◌, ◌||◌, not, if◌then◌else◌, Some, inl, inr, refl, sym, ap, ◌∙◌}
+use Rattle.std.proofs.Common.{◌≡◌, ◌≢◌, ℕ, ◌+◌, ◌<◌, List, [], ◌∷◌, map, length, Bool, true, false, ◌&&◌, ◌||◌, not, if◌then◌else◌, inl, inr, refl, sym, ap, ◌∙◌}
 use Rattle.std.specs.List.{list_any, list_all}
 use Rattle.ir_tree.specs.declared.tree.IrType.TheVariants as type
 use Rattle.ir_tree.specs.declared.tree.Operand.{Operand}
@@ -14,11 +14,11 @@ use Rattle.memory_access.specs.declared.offsets.Index.{Index}
 use Rattle.memory_access.specs.Offsets as offsets
 use Rattle.memory_access.specs.Offsets.{is_number, is_index, is_negative, breaks_inbounds, moved, gep_result}
 use Rattle.points.specs.declared.machine.Machine.{Machine}
-use Rattle.points.specs.Run.{operand_value, cut_value, address_value, index_value, index_values, is_poison, assigned}
+use Rattle.points.specs.Run.{operand_value, cut_value, address_value, index_values, is_poison}
 use Rattle.run_trace.specs.declared.steps.Flag.{Flag}
 use Rattle.run_trace.specs.declared.steps.Flag.TheVariants.{NoUnsignedWrap, NoSignedWrap, Exact, Disjoint, NonNegative, SameSign, Inbounds}
 use Rattle.run_trace.specs.Operands.{used_as, index_operand, is_poison_name, is_poison_literal}
-use Rattle.run_trace.specs.Reasons.{is_flag, no_flag, inst_kept, gives_poison, IsByFlag}
+use Rattle.run_trace.specs.Reasons.{gives_poison, IsByFlag}
 use Rattle.run_trace.specs.Causes.{NeedsCause}
 use Rattle.run_trace.proofs.Given.{true_not_false, given, given_back, defined_first, others_same}
 
@@ -42,8 +42,8 @@ all_numbers registers of_type n (index ∷ indices) names literals =
     let first = is_number-cut index.width.bits (operand_value registers index.operand) (defined_first registers (index_operand index) (map index_operand indices) names literals) in
     rw first
     (all_numbers registers of_type (n + 1) indices
-      (others_same (is_poison_name registers) (index_operand index) (map index_operand indices) names)
-      (others_same (is_poison_literal registers) (index_operand index) (map index_operand indices) literals))
+    (others_same (is_poison_name registers) (index_operand index) (map index_operand indices) names)
+    (others_same (is_poison_literal registers) (index_operand index) (map index_operand indices) literals))
 
 -- where the flags agree with nuw alone
 nuw_alone : (numbers inbounds breaks nuw negative : Bool) → (not numbers || (inbounds && breaks) || (nuw && negative)) ≡ true
@@ -71,7 +71,7 @@ module _ (memory : List MemoryBlock) (p : Ptr) (indices : List Index) where
   by_nuw inbounds nuw e f =
       poison_if_leads memory p indices false nuw
       ∙ nuw_alone (list_all is_index indices) inbounds (breaks_inbounds memory p indices) nuw (list_any is_negative indices)
-        (sym (poison_if_leads memory p indices inbounds nuw) ∙ e) (sym (poison_if_leads memory p indices inbounds false) ∙ f)
+      (sym (poison_if_leads memory p indices inbounds nuw) ∙ e) (sym (poison_if_leads memory p indices inbounds false) ∙ f)
 
 module _ (into : ℕ) (inbounds nuw : Bool) (of_type : MemoryType) (base : Operand) (indices : List GepIndex) (tape : List ℕ) (m : Machine)
     (within : into < length m.registers) where
@@ -91,8 +91,8 @@ module _ (into : ℕ) (inbounds nuw : Bool) (of_type : MemoryType) (base : Opera
   }
   by_flag NoUnsignedWrap p b vs e f is numbers poison in_bounds by_wrap = record {
     with_it =
-      gives false nuw b vs e f ∙ ap (λ (v : Value). is_poison (gep_result m.memory v vs false nuw)) is
-      ∙ by_nuw m.memory p vs inbounds nuw (ap (λ (v : Value). is_poison (gep_result m.memory v vs inbounds nuw)) (sym is) ∙ poison)
+        gives false nuw b vs e f ∙ ap (λ (v : Value). is_poison (gep_result m.memory v vs false nuw)) is
+        ∙ by_nuw m.memory p vs inbounds nuw (ap (λ (v : Value). is_poison (gep_result m.memory v vs inbounds nuw)) (sym is) ∙ poison)
         (ap (λ (v : Value). is_poison (gep_result m.memory v vs inbounds false)) (sym is) ∙ (by_wrap (λ (h : ◌≡◌ {A = Flag} NoUnsignedWrap Inbounds). cc)).1);
     without = gives false false b vs e f ∙ ap (λ (v : Value). is_poison (gep_result m.memory v vs false false)) is ∙ without_flags m.memory p vs numbers;
   }

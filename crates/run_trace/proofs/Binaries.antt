@@ -1,5 +1,5 @@
 -- Why an operation on two numbers gives poison, or is undefined behaviour.
-use Rattle.std.proofs.Common.{◌≡◌, ◌⊎◌, ℕ, ◌<◌, ◌%◌, ◌^◌, List, [], ◌∷◌, length, Bool, true, false, ◌&&◌, ◌||◌, nat_le, if◌then◌else◌, Option, Some, None, inl, inr, refl, sym, ap, ◌∙◌}
+use Rattle.std.proofs.Common.{◌≡◌, ℕ, ◌<◌, ◌%◌, ◌^◌, List, [], ◌∷◌, length, Bool, true, false, ◌&&◌, ◌||◌, Option, Some, None, inl, inr, refl, sym, ap, ◌∙◌}
 use Rattle.std.specs.Prelude.{IsSomeAnd, MatchOption}
 use Rattle.std.specs.List.{list_any}
 use Rattle.tv_num.specs.declared.Width.{Width}
@@ -9,15 +9,15 @@ use Rattle.ir_tree.specs.declared.tree.Op.{Op}
 use Rattle.ir_tree.specs.declared.tree.Op.TheVariants.{Add, Sub, Mul, UnsignedDiv, UnsignedRem, SignedDiv, SignedRem, ShiftLeft, LogicalShiftRight, ArithmeticShiftRight, And, Or, Xor}
 use Rattle.ir_tree.specs.declared.tree.Inst.TheVariants.{Binary}
 use Rattle.byte_block.specs.declared.value.Value.{Value}
-use Rattle.byte_block.specs.declared.value.Value.TheVariants.{Num, Poison}
+use Rattle.byte_block.specs.declared.value.Value.TheVariants.{Num}
 use Rattle.points.specs.declared.machine.Machine.{Machine}
 use Rattle.points.specs.Table.{poison_if, is_zero_or_poison, is_minus_1, is_least_or_poison, has_no_quotient, is_undefined, is_poisoned, number_result, defined_result, value_result}
-use Rattle.points.specs.Run.{operand_value, is_poison, assigned, act}
+use Rattle.points.specs.Run.{operand_value, is_poison}
 use Rattle.run_trace.specs.declared.steps.Flag.{Flag}
 use Rattle.run_trace.specs.declared.steps.Reason.{Reason}
 use Rattle.run_trace.specs.declared.steps.Reason.TheVariants as reason
-use Rattle.run_trace.specs.Operands.{used_as, is_poison_name, is_poison_literal, value_after}
-use Rattle.run_trace.specs.Reasons.{is_flag, no_flag, op_kept, is_shift, is_past_width, is_some_poison, gives_poison, is_cause_of_division, IsInstReason, IsByFlag}
+use Rattle.run_trace.specs.Operands.{used_as, is_poison_name, is_poison_literal}
+use Rattle.run_trace.specs.Reasons.{is_flag, no_flag, op_kept, gives_poison, is_cause_of_division, IsInstReason}
 use Rattle.run_trace.specs.Causes.{IsPoisonCause, NeedsCause}
 use Rattle.run_trace.proofs.Given.{true_not_false, no_and, given, given_back, defined_first, others_same, defined_number}
 
@@ -42,7 +42,7 @@ divisor_found n l r x = go (is_zero_or_poison n r) (is_minus_1 n r && is_least_o
 
 pub division_reason : (into : ℕ) (op : Op) (width : Width) (left right : Operand) (tape : List ℕ) (m : Machine) (x : Reason)
     → (is_undefined op width.bits (operand_value m.registers left) (operand_value m.registers right)
-        && is_cause_of_division x width.bits (operand_value m.registers left) (operand_value m.registers right)) ≡ true
+    && is_cause_of_division x width.bits (operand_value m.registers left) (operand_value m.registers right)) ≡ true
     → IsInstReason x (Binary into op width left right) tape m
 division_reason into op width left right tape m (reason.Flag flag) e = no_and _ e
 division_reason into op width left right tape m reason.ShiftPastWidth e = no_and _ e
@@ -200,7 +200,7 @@ module _ (into : ℕ) (op : Op) (width : Width) (left right : Operand) (tape : L
 
   pub numbers_reason : (o : Option Reason)
       → ((a b : ℕ) → operand_value m.registers left ≡ Num a → operand_value m.registers right ≡ Num b → is_poisoned op width.bits (a % 2 ^ width.bits) (b % 2 ^ width.bits) ≡ true
-          → IsSomeAnd o (λ x. IsPoisonCause x op width.bits (a % 2 ^ width.bits) (b % 2 ^ width.bits)))
+      → IsSomeAnd o (λ x. IsPoisonCause x op width.bits (a % 2 ^ width.bits) (b % 2 ^ width.bits)))
       → IsSomeAnd o (λ x. IsInstReason x (Binary into op width left right) tape m)
   numbers_reason None found = absurd (found of.a of.b of.left of.right of.poison)
   numbers_reason (Some x) found = poison_reason x (found of.a of.b of.left of.right of.poison)
@@ -211,7 +211,7 @@ pub numbers_found : (into : ℕ) (op : Op) (width : Width) (left right : Operand
     → is_undefined op width.bits l r ≡ false
     → list_any (is_poison_literal m.registers) (used_as (type.Int width) left ∷ used_as (type.Int width) right ∷ []) ≡ false
     → ((a b : ℕ) → l ≡ Num a → r ≡ Num b → is_poisoned op width.bits (a % 2 ^ width.bits) (b % 2 ^ width.bits) ≡ true
-        → IsSomeAnd o (λ x. IsPoisonCause x op width.bits (a % 2 ^ width.bits) (b % 2 ^ width.bits)))
+    → IsSomeAnd o (λ x. IsPoisonCause x op width.bits (a % 2 ^ width.bits) (b % 2 ^ width.bits)))
     → NeedsCause (Binary into op width left right) tape m
     → IsSomeAnd o (λ x. IsInstReason x (Binary into op width left right) tape m)
 numbers_found into op width left right tape m l r o e f defined literals found needs =

@@ -1,5 +1,5 @@
 -- What a name reads after it was assigned, and operands that are not poison.
-use Rattle.std.proofs.Common.{◌≡◌, ℕ, ◌<◌, ◌≤◌, List, [], ◌∷◌, length, Bool, true, false, ◌&&◌, ◌||◌, not, Option, Some, None, inl, inr, refl, sym, ap, ◌∙◌, subst}
+use Rattle.std.proofs.Common.{◌≡◌, ℕ, ◌<◌, ◌≤◌, List, ◌∷◌, length, Bool, true, false, ◌&&◌, ◌||◌, not, Some, inl, inr, refl, sym, ap, ◌∙◌, subst}
 use Rattle.std.specs.Prelude.{slice_get, slice_set}
 use Rattle.std.specs.List.{list_any}
 use Rattle.std.proofs.lemmas.Bool.{cases_lt}
@@ -10,7 +10,7 @@ use Rattle.byte_block.specs.declared.value.Value.{Value}
 use Rattle.byte_block.specs.declared.value.Value.TheVariants as value
 use Rattle.byte_block.specs.declared.value.Value.TheVariants.{Num, Poison}
 use Rattle.points.specs.declared.machine.Machine.{Machine}
-use Rattle.points.specs.Run.{assigned, cut_value, address_value, typed_operand_value, is_poison}
+use Rattle.points.specs.Run.{assigned, cut_value, typed_operand_value, is_poison}
 use Rattle.run_trace.specs.Operands.{is_name, is_poison_name, is_poison_literal, value_after}
 use Rattle.run_trace.specs.Reasons.{is_some_poison}
 
@@ -53,11 +53,11 @@ given m into v below = ap is_some_poison (set_gives m.registers into v below)
 pub given_back : (m : Machine) (into : ℕ) (v : Value) → is_some_poison (value_after (Some (assigned m into v)) (Some into)) ≡ true
     → (into < length m.registers) × (is_poison v ≡ true)
 given_back m into v poison = elim (cases_lt into (length m.registers)) as (λ _. (into < length m.registers) × (is_poison v ≡ true)) [
-    | inl below ↦ (below, sym (given m into v below) ∙ poison)
-    | inr past ↦
-        let none = slice_get_past (slice_set m.registers into v) into (subst (λ n. n ≤ into) (sym (length-set m.registers into v)) past) in
-        true_not_false (sym poison ∙ ap is_some_poison none)
-  ]
+  | inl below ↦ (below, sym (given m into v below) ∙ poison)
+  | inr past ↦
+      let none = slice_get_past (slice_set m.registers into v) into (subst (λ n. n ≤ into) (sym (length-set m.registers into v)) past) in
+      true_not_false (sym poison ∙ ap is_some_poison none)
+]
 
 -- ---- operands
 

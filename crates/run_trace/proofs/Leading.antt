@@ -1,5 +1,5 @@
 -- How the steps that are shown go on.
-use Rattle.std.proofs.Common.{◌≡◌, ℕ, zero, suc, ◌+◌, ◌<◌, ◌≤◌, List, [], ◌∷◌, ◌++◌, length, drop, get_or, Bool, true, false, ◌&&◌, if◌then◌else◌, Option, Some, None, refl, sym, ap, subst, ◌∙◌, arith}
+use Rattle.std.proofs.Common.{◌≡◌, ℕ, ◌+◌, ◌<◌, ◌≤◌, List, [], ◌∷◌, ◌++◌, length, drop, get_or, true, false, ◌&&◌, Option, Some, None, refl, sym, ap, subst, ◌∙◌, arith}
 use Rattle.std.specs.Prelude.{slice_get}
 use Rattle.std.proofs.lemmas.Option.{slice_get_past}
 use Rattle.std.proofs.lemmas.List.{drop_more}
@@ -15,7 +15,7 @@ use Rattle.points.specs.declared.point.Bounds.{Bounds}
 use Rattle.points.specs.declared.point.Input.{Input}
 use Rattle.points.specs.Run.{act, ended, entered, argument_value, is_poison, first_machine}
 use Rattle.run_trace.specs.declared.steps.Step.{Step}
-use Rattle.run_trace.specs.Items.{Position, Phase, Call, Phis, Insts, State, At, Done, first_state, Item, Gets, Begins, Reads, Enters, Acts, Missing, item_at, parameter_item, after_inst, after_argument, after}
+use Rattle.run_trace.specs.Items.{Position, Phase, Call, Phis, Insts, State, At, Done, first_state, Item, Gets, Begins, Reads, Enters, Acts, Missing, item_at, parameter_item, after_inst, after}
 use Rattle.run_trace.specs.Trace.{site_of, Shows, Leads, stays, shown, silent}
 use Rattle.run_trace.specs.Parts.{position, ShowsAt, GoesOn}
 

@@ -1,5 +1,5 @@
 -- Instructions that never give poison of operands that are not.
-use Rattle.std.proofs.Common.{◌≡◌, ℕ, ◌%◌, List, [], ◌∷◌, nat_eq, Bool, true, false, ◌||◌, if◌then◌else◌, Some, inl, inr, refl, sym, ◌∙◌}
+use Rattle.std.proofs.Common.{◌≡◌, ℕ, ◌%◌, List, [], ◌∷◌, nat_eq, Bool, true, false, if◌then◌else◌, Some, inl, inr, refl, sym, ◌∙◌}
 use Rattle.std.specs.List.{list_any}
 use Rattle.ir_tree.specs.declared.tree.IrType.{IrType}
 use Rattle.ir_tree.specs.declared.tree.IrType.TheVariants as type
@@ -51,8 +51,8 @@ select_reason into condition if_true if_false tape m (inr needs) =
         let back = given_back m into (selected v (typed_operand_value m.registers if_true) (typed_operand_value m.registers if_false)) needs.0 in
         true_not_false
         (sym back.1
-          ∙ arm_defined m.registers v if_true if_false (defined_first m.registers first arms needs.1 e)
-            (others_same (is_poison_name m.registers) first arms needs.1) (others_same (is_poison_literal m.registers) first arms e))
+        ∙ arm_defined m.registers v if_true if_false (defined_first m.registers first arms needs.1 e)
+        (others_same (is_poison_name m.registers) first arms needs.1) (others_same (is_poison_literal m.registers) first arms e))
 
 pub choice_defined : (of_type : IrType) (tape : List ℕ) (m : Machine) → is_poison (choice_of of_type tape m).value ≡ false
 choice_defined (type.Int width) tape m = refl

@@ -1,5 +1,5 @@
 -- What is shown of an instruction that acted.
-use Rattle.std.proofs.Common.{◌≡◌, ◌⊎◌, ℕ, List, [], ◌∷◌, drop, length, Bool, true, false, ◌&&◌, ◌||◌, not, if◌then◌else◌, Option, Some, None, inl, inr, refl, sym, ap, ◌∙◌}
+use Rattle.std.proofs.Common.{◌≡◌, ℕ, List, drop, length, Bool, true, false, ◌&&◌, ◌||◌, not, if◌then◌else◌, Option, Some, None, inl, inr, refl, sym, ap, ◌∙◌}
 use Rattle.std.proofs.Math.Seq.{drop-length}
 use Rattle.std.specs.List.{list_any}
 use Rattle.ir_tree.specs.declared.tree.Inst.{Inst}
@@ -9,14 +9,13 @@ use Rattle.points.specs.declared.machine.Machine.{Machine}
 use Rattle.points.specs.Run.{act}
 use Rattle.run_trace.specs.declared.steps.Site.TheVariants as site
 use Rattle.run_trace.specs.declared.steps.Reason.{Reason}
-use Rattle.run_trace.specs.declared.steps.Step.{Step}
 use Rattle.run_trace.specs.declared.insts.Before.{Before}
 use Rattle.run_trace.specs.Operands.{effective_operands, is_poison_name, name_of, value_after, words_after}
 use Rattle.run_trace.specs.Items.{Position, Acts, after_inst}
-use Rattle.run_trace.specs.Reasons.{is_some_poison, gives_poison, IsInstReason}
+use Rattle.run_trace.specs.Reasons.{is_some_poison, gives_poison}
 use Rattle.run_trace.specs.Causes.{NeedsCause, IsCauseOf}
 use Rattle.run_trace.specs.Trace.{is_failure, needs_reason, HasReason, Shows}
-use Rattle.run_trace.specs.Parts.{position, IsBefore, ShowsAt}
+use Rattle.run_trace.specs.Parts.{position, IsBefore}
 use Rattle.run_trace.proofs.Given.{true_not_false, and_true}
 
 not_true : (b : Bool) → not b ≡ true → b ≡ false
@@ -57,7 +56,7 @@ pub shows_inst : (f : Function) (inst : Inst) (tape : List ℕ) (m m' : Machine)
     → result ≡ value_after (if goes then Some m' else None) (name_of inst) → taken ≡ drop before.read m'.taken
     → reason ≡ (if (not goes || (is_some_poison result && not before.inherits)) then before.cause else None)
     → Shows f tape (Acts inst) (position at k jumps m)
-      (record { block = at; turn = before.turn; site = site.Inst k; operands = before.operands; result = result; taken = taken; to = None; location = before.location; reason = reason })
+    (record { block = at; turn = before.turn; site = site.Inst k; operands = before.operands; result = result; taken = taken; to = None; location = before.location; reason = reason })
 shows_inst f inst tape m m' before at k jumps goes result taken reason is acts stays is_result is_taken is_reason =
     let p = position at k jumps m in
     let needs : needs_reason f tape (Acts inst) p ≡ (not goes || (is_some_poison result && not before.inherits)) = needs_is f inst tape p goes m' acts ∙ rw (is_result, is.inherits) refl in

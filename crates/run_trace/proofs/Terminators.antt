@@ -1,5 +1,5 @@
 -- What is shown of a terminator.
-use Rattle.std.proofs.Common.{◌≡◌, ℕ, zero, suc, ◌+◌, ◌≤◌, List, [], ◌∷◌, ◌++◌, length, Bool, true, false, ◌&&◌, ◌||◌, not, nat_eq, nat_lt, if◌then◌else◌, Option, Some, None, refl, sym, ap, subst, ◌∙◌, arith}
+use Rattle.std.proofs.Common.{◌≡◌, ℕ, zero, suc, ◌≤◌, List, [], ◌∷◌, ◌++◌, length, Bool, true, false, ◌&&◌, ◌||◌, not, nat_eq, nat_lt, if◌then◌else◌, Option, Some, None, refl, sym, ap, subst, ◌∙◌, arith}
 use Rattle.std.specs.Prelude.{IsSomeAnd, slice_get}
 use Rattle.std.specs.List.{list_any}
 use Rattle.std.proofs.Math.Dec.{eqb-suc-zero}
@@ -7,7 +7,6 @@ use Rattle.std.proofs.lemmas.Bool.{eqb-true}
 use Rattle.std.proofs.lemmas.Option.{slice_get_past}
 use Rattle.tv_num.specs.declared.Width.{Width}
 use Rattle.ir_tree.specs.declared.tree.IrType.{IrType}
-use Rattle.ir_tree.specs.declared.tree.IrType.TheVariants as type
 use Rattle.ir_tree.specs.declared.tree.Operand.{Operand}
 use Rattle.ir_tree.specs.declared.tree.TypedOperand.{TypedOperand}
 use Rattle.ir_tree.specs.declared.tree.Case.{Case}
@@ -34,7 +33,7 @@ use Rattle.run_trace.specs.declared.steps.Reason.TheVariants as reason
 use Rattle.run_trace.specs.declared.steps.Step.{Step}
 use Rattle.run_trace.specs.declared.ends.Leaving.{Leaving}
 use Rattle.run_trace.specs.Operands.{end_operands, is_name, is_poison_name, is_poison_literal}
-use Rattle.run_trace.specs.Items.{Position, Insts, State, At, Leaves, item_at, after, at_block, after_jump, after_exit, again}
+use Rattle.run_trace.specs.Items.{Position, Insts, State, At, Leaves, item_at, at_block, after_jump, after_exit, again}
 use Rattle.run_trace.specs.Reasons.{is_number, is_some_poison, is_poison_operand, IsReturnOf, IsOnPoison, IsEndReason}
 use Rattle.run_trace.specs.Trace.{is_no_return, is_failure, value_of_exit, block_of_exit, taken_by_exit, needs_reason, HasReason, Shows, Leads}
 use Rattle.run_trace.specs.Parts.{position, IsFailedExit, IsReasonOver, IsLeaving, is_too_many}
@@ -94,6 +93,7 @@ returned_literal no_undef r tape m poison name = go (no_undef && is_poison (type
     by_type : (o : Option IrType) → is_some_poison (value_of_exit (exit.Over (returned_with o r tape m))) ≡ true → is_poison_literal m.registers r ≡ true
     by_type None e = literal_of m.registers r e name
     by_type (Some type) e = true_not_false (sym e ∙ choice_defined type tape m)
+
     go : (b : Bool) → is_some_poison (value_of_exit (exit.Over (if b then ended Ub m else returned_with (undef_type r.of_type r.operand) r tape m))) ≡ true → is_poison_literal m.registers r ≡ true
     go true e = true_not_false (sym e)
     go false e = by_type (undef_type r.of_type r.operand) e
@@ -143,6 +143,7 @@ end_failed f end tape m n leaving k o is failed found = go o (found (rw is.exit 
     needs : (x : Exit) → IsFailedExit x → (is_failure (after_exit f (position leaving.at k leaving.jumps m) x) || (is_some_poison (value_of_exit x) && not (list_any (is_poison_name m.registers) (end_operands end)))) ≡ true
     needs (exit.To label m') e = absurd e
     needs (exit.Over run) e = rw e refl
+
     go : (r : Option Reason) → IsSomeAnd r (λ r. IsEndReason r f end tape leaving.at leaving.jumps m) → HasReason f tape (Leaves end) (position leaving.at k leaving.jumps m) r
     go None h = absurd h
     go (Some r) h = (needs_by f end tape (position leaving.at k leaving.jumps m) (exit_with leaving.left n) is.exit ∙ needs (exit_with leaving.left n) failed, h)
@@ -174,14 +175,16 @@ end_returned f end tape m n leaving k v o is so e =
     no_name : (b : Bool) → not b ≡ true → b ≡ false
     no_name true h = true_not_false (sym h)
     no_name false h = refl
+
     go : (b : Bool) → needs_reason f tape (Leaves end) (position leaving.at k leaving.jumps m) ≡ (is_some_poison v && not (list_any (is_poison_name m.registers) (end_operands end)))
         → exit_by f.returns_no_undef end tape m ≡ exit_with (left.Over (ending.Return v)) n
         → (is_some_poison v && not (list_any (is_poison_name m.registers) (end_operands end))) ≡ b
         → HasReason f tape (Leaves end) (position leaving.at k leaving.jumps m) (if b then Some reason.PoisonOperand else None)
     go true needs x h =
-        let both = and_true (is_some_poison v) (not (list_any (is_poison_name m.registers) (end_operands end))) h in
-        (needs ∙ h,
-          poison_literal f.returns_no_undef end tape m (ap (λ y. is_some_poison (value_of_exit y)) x ∙ both.0) (no_name (list_any (is_poison_name m.registers) (end_operands end)) both.1))
+        let both = and_true (is_some_poison v) (not (list_any (is_poison_name m.registers) (end_operands end))) h in (
+          needs ∙ h,
+          poison_literal f.returns_no_undef end tape m (ap (λ y. is_some_poison (value_of_exit y)) x ∙ both.0) (no_name (list_any (is_poison_name m.registers) (end_operands end)) both.1),
+        )
     go false needs x h = needs ∙ h
 
 pub over_has_reason : (f : Function) (end : Terminator) (tape : List ℕ) (m n : Machine) (leaving : Leaving) (k : ℕ) (e : Ending) (registers : List Value) (operands : List TypedOperand) (o : Option Reason)
@@ -190,7 +193,7 @@ pub over_has_reason : (f : Function) (end : Terminator) (tape : List ℕ) (m n :
 over_has_reason f end tape m n leaving k (ending.Return v) registers operands o is so same read found =
     end_returned f end tape m n leaving k v o is so
     (found ∙ ap (λ (rs : List Value). if is_some_poison v && not (list_any (is_poison_name rs) operands) then Some reason.PoisonOperand else None) same
-      ∙ ap (λ (ts : List TypedOperand). if is_some_poison v && not (list_any (is_poison_name n.registers) ts) then Some reason.PoisonOperand else None) read)
+    ∙ ap (λ (ts : List TypedOperand). if is_some_poison v && not (list_any (is_poison_name n.registers) ts) then Some reason.PoisonOperand else None) read)
 over_has_reason f end tape m n leaving k ending.Ub registers operands o is so same read found =
     end_over f end tape m n leaving k ending.Ub o is so refl (found f tape leaving.at leaving.jumps m)
 over_has_reason f end tape m n leaving k ending.Beyond registers operands o is so same read found =
@@ -211,9 +214,11 @@ end_jumped f end tape m n leaving k label o is so e =
     or_false_is : (b : Bool) → (b || false) ≡ b
     or_false_is true = refl
     or_false_is false = refl
+
     backward : (b : Bool) → not b ≡ true → b ≡ false
     backward true h = true_not_false (sym h)
     backward false h = refl
+
     go : (b : Bool) → needs_reason f tape (Leaves end) (position leaving.at k leaving.jumps m) ≡ is_too_many leaving.at leaving.jumps (Some (block_of f label))
         → exit_by f.returns_no_undef end tape m ≡ exit_with (left.To label) n
         → is_too_many leaving.at leaving.jumps (Some (block_of f label)) ≡ b

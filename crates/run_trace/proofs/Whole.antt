@@ -1,5 +1,5 @@
 -- The small steps lead to the end of the run that is defined.
-use Rattle.std.proofs.Common.{◌≡◌, ◌⊎◌, ℕ, zero, suc, ◌+◌, ◌<◌, ◌≤◌, List, [], ◌∷◌, length, drop, get_or, Bool, true, false, ◌&&◌, ◌||◌, nat_lt, if◌then◌else◌, Option, Some, None, inl, inr, refl, sym, ap, subst, ◌∙◌, arith}
+use Rattle.std.proofs.Common.{◌≡◌, ℕ, zero, suc, ◌+◌, ◌≤◌, List, [], ◌∷◌, length, drop, Bool, true, false, ◌&&◌, ◌||◌, nat_lt, if◌then◌else◌, Option, Some, None, inl, inr, refl, sym, ap, subst, ◌∙◌, arith}
 use Rattle.std.specs.Prelude.{slice_get}
 use Rattle.std.proofs.lemmas.Bool.{ltb-true}
 use Rattle.std.proofs.lemmas.List.{drop_all, drop_more}
@@ -12,16 +12,15 @@ use Rattle.ir_tree.specs.declared.tree.Function.{Function}
 use Rattle.ir_tree.specs.Flow.{block_of}
 use Rattle.byte_block.specs.declared.value.Value.{Value}
 use Rattle.points.specs.declared.machine.Machine.{Machine}
-use Rattle.points.specs.declared.outcome.Outcome.TheVariants.{Ub, Beyond}
+use Rattle.points.specs.declared.outcome.Outcome.TheVariants.{Ub}
 use Rattle.points.specs.declared.point.Bounds.{Bounds}
 use Rattle.points.specs.declared.point.Input.{Input}
-use Rattle.points.specs.Run.{Run, Exit, To, Over, ended, act, entered, exit_by, exit_insts, exit_of, go_on, forward, run_turns, breaks_noundef, argument_value, is_poison, first_machine, run_of}
+use Rattle.points.specs.Run.{Run, Exit, To, Over, ended, act, entered, exit_by, exit_insts, forward, run_turns, breaks_noundef, argument_value, is_poison, first_machine, run_of}
 use Rattle.points.proofs.Runs.{exit_goes, exit_stops}
 use Rattle.choice_interp.proofs.Ways.{again_of, IsOnTheWay, IsLeftSo, way_start, way_outside}
 use Rattle.run_trace.specs.declared.steps.Step.{Step}
-use Rattle.run_trace.specs.Items.{Position, Phase, Call, Phis, Insts, State, At, Done, first_state, item_at, parameter_item, phi_item, inst_item, phi_item_in, inst_item_in, after, after_argument, after_inst, after_exit, after_jump, again, at_block}
+use Rattle.run_trace.specs.Items.{Position, Phase, Call, Phis, Insts, State, At, Done, first_state, item_at, parameter_item, phi_item, inst_item, phi_item_in, inst_item_in, after, after_inst, after_exit, after_jump, again, at_block}
 use Rattle.run_trace.specs.Trace.{Leads, stays, shown, silent}
-use Rattle.run_trace.proofs.Given.{true_not_false}
 
 -- ---- from here the run goes on as the whole one does
 
@@ -63,9 +62,9 @@ after_call f tape whole v vs p None is called =
   where
     past_of : (ps : List Parameter) (i : ℕ) → slice_get ps i ≡ None → length ps ≤ i
     past_of ps i none = elim (slice_get_cases ps i).1 [
-        | inl found ↦ let some = found.2 in absurd (cc (some, none))
-        | inr past ↦ past.0
-      ]
+      | inl found ↦ let some = found.2 in absurd (cc (some, none))
+      | inr past ↦ past.0
+    ]
 after_call f tape whole v vs p (Some q) is called =
     let below = slice_get_within f.parameters p.index q is in
     let more : drop p.index f.parameters ≡ q ∷ drop (p.index + 1) f.parameters = drop_more f.parameters p.index q below ∙ ap (λ (x : Parameter). x ∷ drop (p.index + 1) f.parameters) (get_or_from_slice_get f.parameters p.index q q is) in
@@ -95,9 +94,9 @@ after_phis f tape whole p None is way = sym (way_outside f tape p.jumps p.block 
   where
     past_of : (bs : List Block) (i : ℕ) → slice_get bs i ≡ None → length bs ≤ i
     past_of bs i none = elim (slice_get_cases bs i).1 [
-        | inl found ↦ let some = found.2 in absurd (cc (some, none))
-        | inr past ↦ past.0
-      ]
+      | inl found ↦ let some = found.2 in absurd (cc (some, none))
+      | inr past ↦ past.0
+    ]
 after_phis f tape whole p (Some b) is way = go (slice_get b.phis p.index)
   where
     go : (o : Option Phi) → IsOn f tape whole (after f tape (phi_item b o) p)
@@ -124,6 +123,7 @@ jumped f tape whole at jumps spare to m enough goes = go (nat_lt at to) refl goe
       enough = omega arith;
       rest = sym (run_turns_is f tape j to (record m { turn = m.turn + 1 })) ∙ e;
     }
+
     go : (b : Bool) → nat_lt at to ≡ b → (if b then forward f tape (again_of f tape jumps) spare to m else again_of f tape jumps to (record m { turn = m.turn + 1 })) ≡ whole
         → IsOn f tape whole (if b then at_block to jumps m else again to jumps m)
     go true less e = record { spare = spare; enough = (let later = ltb-true at to less in omega (arith, later, enough)); rest = e }
@@ -147,9 +147,10 @@ after_insts f tape whole p (Some b) is so = go (slice_get b.insts p.index) refl
   where
     past_of : (is : List Inst) (i : ℕ) → slice_get is i ≡ None → length is ≤ i
     past_of is i none = elim (slice_get_cases is i).1 [
-        | inl found ↦ let some = found.2 in absurd (cc (some, none))
-        | inr past ↦ past.0
-      ]
+      | inl found ↦ let some = found.2 in absurd (cc (some, none))
+      | inr past ↦ past.0
+    ]
+
     acted : (inst : Inst) → slice_get b.insts p.index ≡ Some inst → (o : Option Machine) → act inst tape p.machine ≡ o → IsOn f tape whole (after_inst p o)
     acted inst e None stops =
         let x = exit_stops f.returns_no_undef b.insts b.terminator tape p.machine p.index inst (slice_get_within b.insts p.index inst e) (sym (get_or_from_slice_get b.insts p.index inst inst e)) stops in
@@ -157,6 +158,7 @@ after_insts f tape whole p (Some b) is so = go (slice_get b.insts p.index) refl
     acted inst e (Some m) goes =
         let x = exit_goes f.returns_no_undef b.insts b.terminator tape p.machine m p.index inst (slice_get_within b.insts p.index inst e) (sym (get_or_from_slice_get b.insts p.index inst inst e)) goes in
         rw is (rw x at so)
+
     go : (o : Option Inst) → slice_get b.insts p.index ≡ o → IsOn f tape whole (after f tape (inst_item b o) p)
     go None e = left_goes f tape whole p (exit_by f.returns_no_undef b.terminator tape p.machine) (rw (exit_empty f.returns_no_undef b p.index tape p.machine (past_of b.insts p.index e)) at so)
     go (Some inst) e = acted inst e (act inst tape p.machine) refl

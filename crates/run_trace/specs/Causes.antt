@@ -1,15 +1,13 @@
 -- What the search for a reason promises of an instruction, and of the parts of one.
-use Rattle.std.specs.Prelude.{◌≡◌, ◌⊎◌, ℕ, ◌%◌, ◌^◌, List, nat_le, Bool, true, false, ◌&&◌, Option, None, IsSomeAnd}
+use Rattle.std.specs.Prelude.{◌≡◌, ◌⊎◌, ℕ, List, nat_le, true, false, ◌&&◌, Option, None, IsSomeAnd}
 use Rattle.std.specs.List.{list_any}
 use Rattle.ir_tree.specs.declared.tree.Op.{Op}
 use Rattle.ir_tree.specs.declared.tree.Cast.{Cast}
 use Rattle.ir_tree.specs.declared.tree.Inst.{Inst}
-use Rattle.byte_block.specs.declared.value.Value.{Value}
 use Rattle.points.specs.declared.machine.Machine.{Machine}
 use Rattle.points.specs.Table.{is_poisoned, cast_number}
 use Rattle.points.specs.Run.{act, is_poison}
 use Rattle.run_trace.specs.declared.steps.Flag.{Flag}
-use Rattle.run_trace.specs.declared.steps.Location.{Location}
 use Rattle.run_trace.specs.declared.steps.Reason.{Reason}
 use Rattle.run_trace.specs.declared.steps.Reason.TheVariants as reason
 use Rattle.run_trace.specs.Operands.{effective_operands, is_poison_name}

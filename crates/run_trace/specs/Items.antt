@@ -1,6 +1,6 @@
 -- The small steps of a run: where it is, what is there, and where it is next (LLVM Language
 -- Reference, "Functions", "phi Instruction", "Terminator Instructions").
-use Rattle.std.specs.Prelude.{ℕ, zero, suc, ◌+◌, List, [], ◌∷◌, nat_lt, if◌then◌else◌, Bool, ◌&&◌, Option, Some, None, slice_get}
+use Rattle.std.specs.Prelude.{ℕ, zero, suc, ◌+◌, List, [], ◌∷◌, nat_lt, if◌then◌else◌, ◌&&◌, Option, Some, None, slice_get}
 use Rattle.ir_tree.specs.declared.tree.Parameter.{Parameter}
 use Rattle.ir_tree.specs.declared.tree.Phi.{Phi}
 use Rattle.ir_tree.specs.declared.tree.Inst.{Inst}

@@ -1,8 +1,7 @@
 -- Why a step gives poison, or is the end of a run (LLVM Language Reference, "Poison Values",
 -- "Undefined Values", "Parameter Attributes").
-use Rattle.std.specs.Prelude.{◌≡◌, ◌≢◌, ℕ, ◌+◌, ◌%◌, ◌^◌, List, [], nat_eq, nat_lt, nat_le, Bool, true, false, ◌&&◌, ◌||◌, not, Option, Some, None, IsSomeAnd}
+use Rattle.std.specs.Prelude.{◌≡◌, ◌≢◌, ℕ, ◌+◌, ◌%◌, ◌^◌, List, [], nat_eq, nat_lt, nat_le, Bool, true, false, ◌&&◌, not, Option, Some, None, IsSomeAnd}
 use Rattle.std.specs.List.{list_any}
-use Rattle.ir_tree.specs.declared.tree.IrType.{IrType}
 use Rattle.ir_tree.specs.declared.tree.Flags.{Flags}
 use Rattle.ir_tree.specs.declared.tree.Op.{Op}
 use Rattle.ir_tree.specs.declared.tree.Op.TheVariants.{Add, Sub, Mul, UnsignedDiv, UnsignedRem, SignedDiv, SignedRem, ShiftLeft, LogicalShiftRight, ArithmeticShiftRight, And, Or, Xor}

@@ -10,7 +10,7 @@ use Rattle.points.specs.declared.outcome.Outcome.{Outcome}
 use Rattle.points.specs.declared.outcome.Outcome.TheVariants.{Return, Ub, Beyond}
 use Rattle.points.specs.declared.point.Bounds.{Bounds}
 use Rattle.points.specs.declared.point.Input.{Input}
-use Rattle.points.specs.Run.{Run, Exit, To, Over, act, exit_by, phi_value, argument_value, is_poison, run_of}
+use Rattle.points.specs.Run.{Exit, To, Over, act, exit_by, phi_value, argument_value, is_poison, run_of}
 use Rattle.run_trace.specs.declared.steps.Site.{Site}
 use Rattle.run_trace.specs.declared.steps.Site.TheVariants as site
 use Rattle.run_trace.specs.declared.steps.Location.{Location}

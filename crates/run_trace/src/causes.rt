@@ -120,28 +120,21 @@ fn cast_cause(
     ensures { (into : ℕ) → IsCauseOf (Inst.Cast into cast from operand to) machine.now result }
 {
     match value_of(machine.registers.as_slice(), operand) {
-        Value::Num(n) => cast_flag(cast, from, to, low_bits(n, from)).map(|flag| Reason::Flag(flag)),
+        Value::Num(n) => cast_flag(cast, from, to, low_bits(n, from)).map(|flag| Reason::Flag(
+            flag,
+        )),
         Value::Poison | Value::Ptr(_) => None,
     }
 }
 
-fn load_cause(
-    machine: &Machine,
-    of_type: IrType,
-    pointer: Operand,
-    align: u64,
-) -> Option<Reason>
+fn load_cause(machine: &Machine, of_type: IrType, pointer: Operand, align: u64) -> Option<Reason>
     requires { 0 < align }
     ensures { (into : ℕ) → IsCauseOf (Inst.Load into of_type pointer align) machine.now result }
 {
     let address = value_of(machine.registers.as_slice(), pointer);
     let access = access_of(of_type);
     match load(&machine.memory, address, access, align) {
-        Loaded::Ub => Some(access_cause(
-            machine.memory.as_slice(),
-            address,
-            access_size(access),
-        )),
+        Loaded::Ub => Some(access_cause(machine.memory.as_slice(), address, access_size(access))),
         Loaded::Done(_) => Some(Reason::LoadedPoison),
     }
 }
@@ -218,7 +211,14 @@ pub fn cause_of(
             base,
             indices,
             ..
-        } => gep_cause(machine, values, of_type, *base, indices.as_slice(), *inbounds),
+        } => gep_cause(
+            machine,
+            values,
+            of_type,
+            *base,
+            indices.as_slice(),
+            *inbounds,
+        ),
         Inst::Select { .. } => Ok(Some(Reason::PoisonOperand)),
         Inst::Freeze { .. } => Ok(None),
         Inst::Alloca { .. } => Ok(None),

@@ -88,11 +88,7 @@ fn value_after(machine: &Machine, inst: &Inst, goes: bool) -> Option<Value>
 }
 
 /// The words of the tape that were taken after the first ones, this many.
-pub fn words_after(
-    alloc: Global,
-    machine: &Machine,
-    read: usize,
-) -> Result<Sequence<u64>, NoMemory>
+pub fn words_after(alloc: Global, machine: &Machine, read: usize) -> Result<Sequence<u64>, NoMemory>
     ensures { IfOk result (λ words. words ≡ drop read machine.now.taken) }
 {
     let taken = machine.taken.as_slice();

@@ -40,7 +40,9 @@ pub fn location_of(machine: &Machine, inst: &Inst) -> Option<Location>
     let registers = machine.registers.as_slice();
     match inst {
         Inst::Load {
-            of_type, pointer, ..
+            of_type,
+            pointer,
+            ..
         } => location_at(
             value_of(registers, *pointer),
             access_size(access_of(*of_type)),

@@ -60,10 +60,16 @@ pub fn operands_of(alloc: Global, inst: &Inst) -> Result<Sequence<TypedOperand>,
 {
     match inst {
         Inst::Binary {
-            width, left, right, ..
+            width,
+            left,
+            right,
+            ..
         }
         | Inst::Icmp {
-            width, left, right, ..
+            width,
+            left,
+            right,
+            ..
         } => {
             let of_type = IrType::Int(*width);
             two(alloc, used_as(of_type, *left), used_as(of_type, *right))
@@ -74,11 +80,11 @@ pub fn operands_of(alloc: Global, inst: &Inst) -> Result<Sequence<TypedOperand>,
             if_true,
             if_false,
             ..
-        } => Ok(Sequence::from_vec(
-            vec![in alloc; condition_of(*condition), *if_true, *if_false]?,
-        )),
+        } => Ok(Sequence::from_vec(vec![in alloc; condition_of(*condition), *if_true, *if_false]?)),
         Inst::Freeze {
-            of_type, operand, ..
+            of_type,
+            operand,
+            ..
         } => one(alloc, used_as(*of_type, *operand)),
         Inst::Alloca { .. } => Ok(Sequence::from_vec(Vec::new(alloc))),
         Inst::Load { pointer, .. } => one(alloc, used_as(IrType::Ptr, *pointer)),

@@ -1,4 +1,4 @@
-use Rattle.std.proofs.Common.{◌≡◌, ◌+◌, List, length, drop, Some, None, refl, sym, ap, subst, ◌∙◌}
+use Rattle.std.proofs.Common.{◌≡◌, ◌+◌, List, length, drop, Some, refl, sym, ap, subst, ◌∙◌}
 use Rattle.std.specs.Prelude.{slice_get}
 use Rattle.std.proofs.lemmas.List.{drop_all}
 use Rattle.std.proofs.lemmas.Option.{slice_get_read, slice_get_past}
@@ -24,7 +24,7 @@ returns-then-is_broken c = λ f tape first jumps m ps turn leads.
     let parameter = c.index-parameters-k.result in
     let there : slice_get f.parameters k ≡ Some parameter = ap (λ (ys : List Parameter). slice_get ys k) ps ∙ slice_get_read c.args.parameters.now (length c.args.parameters.now) k parameter refl c.loop-k-test.true c.index-parameters-k.is in
     let before = subst (λ (vs : List Value). Leads f tape first c.loop-k.steps (At (Call vs) (position 0 k jumps m))) (unrolled c.args.args.now k c.in-Some.arg.now found.3.0 found.1)
-        (c.loop-k.invariant f tape first jumps m ps turn leads) in
+    (c.loop-k.invariant f tape first jumps m ps turn leads) in
     argument_stops f tape first c.loop-k.steps c.push.new.self k jumps m parameter c.in-Some.arg.now (drop (k + 1) c.args.args.now) c.in_ok-argument_step.field-0
     there (sym c.is_broken.ensures ∙ c.if-is_broken.true) before (c.in_ok-argument_step.ensures tape m (drop (k + 1) c.args.args.now) turn) c.in_ok-push.ensures.ok
 
@@ -35,7 +35,7 @@ loop-k-preserved c = λ f tape first jumps m ps turn leads.
     let parameter = c.index-parameters-k.result in
     let there : slice_get f.parameters k ≡ Some parameter = ap (λ (ys : List Parameter). slice_get ys k) ps ∙ slice_get_read c.args.parameters.now (length c.args.parameters.now) k parameter refl c.loop-k-test.true c.index-parameters-k.is in
     let before = subst (λ (vs : List Value). Leads f tape first c.loop-k.steps (At (Call vs) (position 0 k jumps m))) (unrolled c.args.args.now k c.in-Some.arg.now found.3.0 found.1)
-        (c.loop-k.invariant f tape first jumps m ps turn leads) in
+    (c.loop-k.invariant f tape first jumps m ps turn leads) in
     argument_goes f tape first c.loop-k.steps c.push.new.self k jumps m parameter c.in-Some.arg.now (drop (k + 1) c.args.args.now) c.in_ok-argument_step.field-0
     there (sym c.is_broken.ensures ∙ c.if-is_broken.false) before (c.in_ok-argument_step.ensures tape m (drop (k + 1) c.args.args.now) turn) c.in_ok-push.ensures.ok
 

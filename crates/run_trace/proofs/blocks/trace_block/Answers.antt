@@ -10,7 +10,7 @@ returns-then-not-branch-clause-shown c = λ first leads.
     let tape = c.args.tape.now in
     let b = c.get-block.result.now in
     let started = block_leads f tape first b c.args.at c.args.jumps c.args.tracer.now.machine c.enter.new.machine c.args.tracer.now.steps c.trace_phis.new.steps c.get-block.ensures
-        (c.in_ok-trace_phis.ensures tape) c.in_ok-enter.ensures.value leads in
+    (c.in_ok-trace_phis.ensures tape) c.in_ok-enter.ensures.value leads in
     subst (λ (goes : Bool). Leads f tape first c.trace_insts.new.tracer.steps (after_insts goes b c.args.at c.trace_insts.new.tracer.machine c.args.jumps)) c.if-not-branch.true
     (c.in_ok-trace_insts.ensures.shown f first c.args.jumps c.get-block.ensures started)
 
@@ -20,7 +20,7 @@ returns-clause-shown c = λ first leads.
     let tape = c.args.tape.now in
     let b = c.get-block.result.now in
     let started = block_leads f tape first b c.args.at c.args.jumps c.args.tracer.now.machine c.enter.new.machine c.args.tracer.now.steps c.trace_phis.new.steps c.get-block.ensures
-        (c.in_ok-trace_phis.ensures tape) c.in_ok-enter.ensures.value leads in
+    (c.in_ok-trace_phis.ensures tape) c.in_ok-enter.ensures.value leads in
     let acted = subst (λ (goes : Bool). Leads f tape first c.trace_insts.new.tracer.steps (after_insts goes b c.args.at c.trace_insts.new.tracer.machine c.args.jumps)) c.if-not-branch.false
-        (c.in_ok-trace_insts.ensures.shown f first c.args.jumps c.get-block.ensures started) in
+    (c.in_ok-trace_insts.ensures.shown f first c.args.jumps c.get-block.ensures started) in
     c.in_ok-next.ensures.shown first c.get-block.ensures acted

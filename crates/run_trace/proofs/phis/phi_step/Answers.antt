@@ -7,7 +7,7 @@ pub returns : goal.returns
 returns c = λ tape f jumps.
     let m = c.args.machine.now in
     let read : c.in_ok-values.values ≡ values_of m.registers (phi_operand m c.args.phi.now) =
-        c.in_ok-values.ensures ∙ ap (λ (rs : List Value). values_of rs c.as_slice-2.result.now) c.as_slice.ensures ∙ ap (values_of m.registers) (c.as_slice-2.ensures ∙ c.in_ok-operands.ensures) in
+    c.in_ok-values.ensures ∙ ap (λ (rs : List Value). values_of rs c.as_slice-2.result.now) c.as_slice.ensures ∙ ap (values_of m.registers) (c.as_slice-2.ensures ∙ c.in_ok-operands.ensures) in
     record {
       block = refl;
       turn = refl;

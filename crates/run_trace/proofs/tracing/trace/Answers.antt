@@ -1,5 +1,5 @@
 use Rattle.std.proofs.Common.{length, ap, subst, ◌∙◌}
-use Rattle.points.specs.Run.{Run, run_of}
+use Rattle.points.specs.Run.{Run}
 use Rattle.choice_interp.specs.Left.{left_by}
 use Rattle.run_trace.specs.Items.{Done, first_state}
 use Rattle.run_trace.specs.Trace.{Leads}

@@ -1,4 +1,4 @@
-use Rattle.std.proofs.Common.{◌≡◌, ◌+◌, ◌-◌, ◌*◌, length}
+use Rattle.std.proofs.Common.{◌≡◌, ◌+◌, ◌-◌, ◌*◌}
 use Rattle.run_trace.specs.Items.{Phis, State, At}
 use Rattle.run_trace.specs.Trace.{Leads}
 use Rattle.run_trace.specs.Parts.{position}

@@ -30,4 +30,4 @@ returns c =
     let started = call_leads f bounds input tape c.args.tracer.now.steps c.as_slice-2.result.now m c.requires.steps c.requires.machine c.as_slice-2.ensures in
     c.in_ok-ending.ensures first
     (subst (λ (goes : Bool). Leads f tape first c.trace_arguments.new.steps (if goes then At Phis (position 0 0 bounds.turns m) else Done (ended Ub m))) c.if-not-goes.false
-      (c.in_ok-goes.ensures f tape first bounds.turns m (sym c.as_slice.ensures) refl started))
+    (c.in_ok-goes.ensures f tape first bounds.turns m (sym c.as_slice.ensures) refl started))
