@@ -1,0 +1,88 @@
+-- What a name reads after it was assigned, and operands that are not poison.
+use Rattle.std.proofs.Common.{◌≡◌, ℕ, ◌<◌, ◌≤◌, List, ◌∷◌, length, Bool, true, false, ◌&&◌, ◌||◌, not, Some, inl, inr, refl, sym, ap, ◌∙◌, subst}
+use Rattle.std.specs.Prelude.{slice_get, slice_set}
+use Rattle.std.specs.List.{list_any}
+use Rattle.std.proofs.lemmas.Bool.{cases_lt}
+use Rattle.std.proofs.lemmas.Option.{slice_get_past, slice_get-get_or}
+use Rattle.std.proofs.lemmas.List.{get_or-set_same, length-set}
+use Rattle.ir_tree.specs.declared.tree.TypedOperand.{TypedOperand}
+use Rattle.byte_block.specs.declared.value.Value.{Value}
+use Rattle.byte_block.specs.declared.value.Value.TheVariants as value
+use Rattle.byte_block.specs.declared.value.Value.TheVariants.{Num, Poison}
+use Rattle.points.specs.declared.machine.Machine.{Machine}
+use Rattle.points.specs.Run.{assigned, cut_value, typed_operand_value, is_poison}
+use Rattle.run_trace.specs.Operands.{is_name, is_poison_name, is_poison_literal, value_after}
+use Rattle.run_trace.specs.Reasons.{is_some_poison}
+
+-- ---- tests
+
+pub true_not_false : {A : Type 0} → ◌≡◌ {A = Bool} true false → A
+true_not_false e = absurd (cc)
+
+pub or_false : (x y : Bool) → (x || y) ≡ false → (x ≡ false) × (y ≡ false)
+or_false true y e = true_not_false e
+or_false false y e = (refl, e)
+
+pub or_true : (x y : Bool) → (x || y) ≡ true → x ≡ false → y ≡ true
+or_true true y e f = true_not_false f
+or_true false y e f = e
+
+pub and_true : (x y : Bool) → (x && y) ≡ true → (x ≡ true) × (y ≡ true)
+and_true true y e = (refl, e)
+and_true false y e = true_not_false (sym e)
+
+pub and_with : (x y : Bool) → x ≡ true → y ≡ true → (x && y) ≡ true
+and_with true y e f = f
+and_with false y e f = true_not_false (sym e)
+
+pub no_and : {A : Type 0} (x : Bool) → (x && false) ≡ true → A
+no_and true e = true_not_false (sym e)
+no_and false e = true_not_false (sym e)
+
+-- ---- after an assignment
+
+pub set_gives : (registers : List Value) (into : ℕ) (v : Value) → into < length registers → slice_get (slice_set registers into v) into ≡ Some v
+set_gives registers into v below =
+    slice_get-get_or (slice_set registers into v) into v (subst (λ n. into < n) (sym (length-set registers into v)) below)
+    ∙ ap (λ (w : Value). Some w) (get_or-set_same registers into v v below)
+
+pub given : (m : Machine) (into : ℕ) (v : Value) → into < length m.registers
+    → is_some_poison (value_after (Some (assigned m into v)) (Some into)) ≡ is_poison v
+given m into v below = ap is_some_poison (set_gives m.registers into v below)
+
+pub given_back : (m : Machine) (into : ℕ) (v : Value) → is_some_poison (value_after (Some (assigned m into v)) (Some into)) ≡ true
+    → (into < length m.registers) × (is_poison v ≡ true)
+given_back m into v poison = elim (cases_lt into (length m.registers)) as (λ _. (into < length m.registers) × (is_poison v ≡ true)) [
+  | inl below ↦ (below, sym (given m into v below) ∙ poison)
+  | inr past ↦
+      let none = slice_get_past (slice_set m.registers into v) into (subst (λ n. n ≤ into) (sym (length-set m.registers into v)) past) in
+      true_not_false (sym poison ∙ ap is_some_poison none)
+]
+
+-- ---- operands
+
+-- an operand is neither a name that is poison nor written poison
+pub defined_operand : (registers : List Value) (t : TypedOperand) → is_poison_name registers t ≡ false → is_poison_literal registers t ≡ false
+    → is_poison (typed_operand_value registers t) ≡ false
+defined_operand registers t = go (is_name t.operand) (is_poison (typed_operand_value registers t))
+  where
+    go : (name poison : Bool) → (name && poison) ≡ false → (not name && poison) ≡ false → poison ≡ false
+    go true poison e f = e
+    go false poison e f = f
+
+pub defined_first : (registers : List Value) (t : TypedOperand) (ts : List TypedOperand)
+    → list_any (is_poison_name registers) (t ∷ ts) ≡ false → list_any (is_poison_literal registers) (t ∷ ts) ≡ false
+    → is_poison (typed_operand_value registers t) ≡ false
+defined_first registers t ts names literals =
+    defined_operand registers t
+    (or_false (is_poison_name registers t) (list_any (is_poison_name registers) ts) names).0
+    (or_false (is_poison_literal registers t) (list_any (is_poison_literal registers) ts) literals).0
+
+pub others_same : {A : Type 0} (p : A → Bool) (x : A) (xs : List A) → list_any p (x ∷ xs) ≡ false → list_any p xs ≡ false
+others_same p x xs none = (or_false (p x) (list_any p xs) none).1
+
+-- what is used as a number and is not poison is a number
+pub defined_number : (n : ℕ) (v : Value) → is_poison (cut_value n v) ≡ false → (a : ℕ) × (v ≡ Num a)
+defined_number n (Num a) e = (a, refl)
+defined_number n Poison e = true_not_false e
+defined_number n (value.Ptr p) e = true_not_false e

@@ -1,0 +1,7 @@
+use Rattle.std.proofs.Common.{◌≡◌, drop}
+use Rattle.std.specs.List.{list_any}
+use Rattle.run_trace.specs.Operands.{is_poison_literal}
+use Rattle.run_trace.proofs.operands.has_poison_literal.Given as goal
+
+abbrev pub invariant-loop-operand : goal.invariant-loop-operand
+invariant-loop-operand l = list_any (is_poison_literal l.registers) (drop l.operand-index l.operands) ≡ list_any (is_poison_literal l.registers) l.operands

@@ -1,0 +1,6 @@
+use Rattle.std.proofs.Common.{◌≡◌, ◌++◌, drop}
+use Rattle.run_trace.specs.Operands.{values_of}
+use Rattle.run_trace.proofs.operands.values_of.Given as goal
+
+abbrev pub invariant-loop-operand : goal.invariant-loop-operand
+invariant-loop-operand l = l.values ++ values_of l.registers (drop l.operand-index l.operands) ≡ values_of l.registers l.operands

@@ -1,0 +1,74 @@
+//! All that the steps of a loop show.
+
+use crate::reading::{expect, trace_of};
+use run_trace::Step;
+use std::alloc::{AllocError, Global};
+use std::test::Fail;
+
+/// Counts down from the argument, by a choice at each turn, and stores the sum of the choices.
+const LOOP: &str = "\
+define i8 @f(i8 %x) {
+  %p = alloca i8, align 1
+  br label %l
+l:
+  %n = phi i8 [ %x, %0 ], [ %m, %l ]
+  %c = freeze i8 poison
+  store i8 %c, ptr %p, align 1
+  %m = sub i8 %n, 1
+  %z = icmp eq i8 %m, 0
+  br i1 %z, label %e, label %l
+e:
+  ret i8 %c
+}
+";
+
+/// The block, the backward jumps so far, the site, the operands, the result, the words of the tape,
+/// the block that it leads to, and where it stores.
+const STEPS: &str = "\
+0 0 Parameter(0) [Num(2)] Some(Num(2)) [] None None
+0 0 Inst(0) [] Some(Ptr(Ptr { block: Local(0, 0), offset: 0 })) [] None None
+0 0 Terminator [] None [] Some(1) None
+1 0 Phi(0) [Num(2)] Some(Num(2)) [] None None
+1 0 Inst(0) [Poison] Some(Num(7)) [7] None None
+1 0 Inst(1) [Num(7), Ptr(Ptr { block: Local(0, 0), offset: 0 })] None [] None \
+Some(Location { pointer: Ptr { block: Local(0, 0), offset: 0 }, bytes: 1 })
+1 0 Inst(2) [Num(2), Num(1)] Some(Num(1)) [] None None
+1 0 Inst(3) [Num(1), Num(0)] Some(Num(0)) [] None None
+1 0 Terminator [Num(0)] None [] Some(1) None
+1 1 Phi(0) [Num(1)] Some(Num(1)) [] None None
+1 1 Inst(0) [Poison] Some(Num(1)) [1] None None
+1 1 Inst(1) [Num(1), Ptr(Ptr { block: Local(0, 0), offset: 0 })] None [] None \
+Some(Location { pointer: Ptr { block: Local(0, 0), offset: 0 }, bytes: 1 })
+1 1 Inst(2) [Num(1), Num(1)] Some(Num(0)) [] None None
+1 1 Inst(3) [Num(0), Num(0)] Some(Num(1)) [] None None
+1 1 Terminator [Num(1)] None [] Some(2) None
+2 1 Terminator [Num(1)] Some(Num(1)) [] None None
+";
+
+fn values_of(alloc: Global, step: &Step) -> Result<String, AllocError> {
+    let operands = step.operands.as_slice();
+    let taken = step.taken.as_slice();
+    format!(in alloc; "{:?} {:?} {:?}", operands, step.result, taken)
+}
+
+fn line_of(alloc: Global, step: &Step) -> Result<String, AllocError> {
+    let values = values_of(alloc, step)?;
+    let place = format!(in alloc; "{} {} {:?}", step.block, step.turn, step.site)?;
+    format!(in alloc; "{place} {values} {:?} {:?}", step.to, step.location)
+}
+
+fn are_shown(alloc: Global, steps: &[Step]) -> Result<bool, AllocError> {
+    let mut text = String::new(alloc);
+    for step in steps {
+        text.push_str(&line_of(alloc, step)?)?;
+        text.push_str("\n")?;
+    }
+    Ok(text.as_str() == STEPS)
+}
+
+#[test]
+fn a_loop_shows_its_steps(rt: HostRuntime) -> Result<(), Fail> {
+    let traced = trace_of(rt.alloc(), LOOP, "2", &[7, 257])?;
+    let is_shown = are_shown(rt.alloc(), traced.steps.as_slice())?;
+    expect(is_shown && traced.read == 2, "the steps of a loop")
+}
