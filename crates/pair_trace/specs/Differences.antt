@@ -1,12 +1,12 @@
 -- How the outcome of the target differs from the source's (refinement as in `points`, `Refines`).
-use Rattle.std.specs.Prelude.{◌≡◌, ◌≢◌, ℕ, Bool, true, false, ◌&&◌, nat_eq, List, length, take, Option, Some, None, IsSomeAnd, slice_get}
+use Rattle.std.specs.Prelude.{◌≡◌, ◌≢◌, ℕ, Bool, true, false, ◌&&◌, nat_eq, List, length, take, Option, Some, IsSomeAnd, slice_get}
 use Rattle.byte_block.specs.declared.value.Value.{Value}
 use Rattle.byte_block.specs.declared.value.Value.TheVariants as value
 use Rattle.byte_block.specs.declared.value.Byte.{Byte}
 use Rattle.byte_block.specs.declared.block.MemoryBlock.{MemoryBlock}
 use Rattle.memory_access.specs.Blocks.{equal_names, block_bytes}
 use Rattle.points.specs.declared.outcome.Outcome.{Outcome}
-use Rattle.points.specs.declared.outcome.Outcome.TheVariants.{Return, Ub, Beyond}
+use Rattle.points.specs.declared.outcome.Outcome.TheVariants.{Return, Ub}
 use Rattle.points.specs.Refines.{byte_allows, pairs_pass, returned_allows}
 use Rattle.pair_trace.specs.declared.differences.Difference.{Difference}
 use Rattle.pair_trace.specs.declared.differences.Difference.TheVariants as difference

@@ -35,11 +35,7 @@ fn other_byte(source: &[Byte], target: &[Byte]) -> Option<usize>
 }
 
 /// How two blocks differ, the one at this index of the memories.
-fn block_difference(
-    index: usize,
-    source: &MemoryBlock,
-    target: &MemoryBlock,
-) -> Option<Difference>
+fn block_difference(index: usize, source: &MemoryBlock, target: &MemoryBlock) -> Option<Difference>
     ensures { MatchOption result (block_allows source.now target.now ≡ true) (IsBlockDifference index source.now target.now) }
 {
     if !is_equal_name(source.name, target.name) || source.size != target.size {

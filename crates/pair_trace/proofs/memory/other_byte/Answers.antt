@@ -1,4 +1,4 @@
-use Rattle.std.proofs.Common.{◌≤◌, length, sym, ◌∙◌, arith}
+use Rattle.std.proofs.Common.{sym, ◌∙◌, arith}
 use Rattle.pair_trace.proofs.Bytes.{none_before, before_more, before_all, other_at}
 use Rattle.pair_trace.proofs.memory.other_byte.Goals as goal
 
