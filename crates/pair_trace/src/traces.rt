@@ -32,9 +32,10 @@ pub fn trace_pair(
     requires target { IsRunnable pair.now.target }
     ensures { IfOk result (AreTracesOf pair.now bounds.now point.now) }
 {
+    let run = pair.run_pair();
     let tape = point.tape.as_slice();
     Ok(Traces {
-        source: trace(alloc, pair.source(), bounds, &point.input, &[])?,
-        target: trace(alloc, pair.target(), bounds, &point.input, tape)?,
+        source: trace(alloc, run.source(), bounds, &point.input, &[])?,
+        target: trace(alloc, run.target(), bounds, &point.input, tape)?,
     })
 }
