@@ -23,6 +23,8 @@ mod code_tests;
 #[cfg(test)]
 mod copy_tests;
 #[cfg(test)]
+mod difference_tests;
+#[cfg(test)]
 mod expecting;
 #[cfg(test)]
 mod functions;
