@@ -67,9 +67,9 @@ poison | Inst(0) PoisonDividend | \
     define i8 @f(i8 %x) { %r = sdiv i8 %x, -1 ret i8 %r }
 poison | Inst(0) PoisonAddress | \
     define i8 @f(ptr %x) { %r = load i8, ptr %x, align 1 ret i8 %r }
-null | Inst(0) NullAddress | \
+null+0 | Inst(0) NullAddress | \
     define i8 @f(ptr %x) { %r = load i8, ptr %x, align 1 ret i8 %r }
-given | Inst(0) DeadBlock | \
+given1+0 | Inst(0) DeadBlock | \
     define i8 @f(ptr %x) { store i8 1, ptr %x, align 1 ret i8 1 }
 1 | Inst(1) PastEnd | \
     define i8 @f(i8 %x) { %p = alloca i8, align 1 store i16 1, ptr %p, align 1 ret i8 1 }
@@ -85,7 +85,7 @@ poison | Terminator PoisonReturn | \
     define noundef i8 @f(i8 %x) { ret i8 %x }
 poison | Parameter(0) PoisonArgument | \
     define i8 @f(i8 noundef %x) { ret i8 %x }
-null | Parameter(0) NullArgument | \
+null+0 | Parameter(0) NullArgument | \
     define ptr @f(ptr nonnull %x) { ret ptr %x }
 1 | Terminator TooManyJumps | \
     define i8 @f(i8 %x) { br label %l l: br label %l }

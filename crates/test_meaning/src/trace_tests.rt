@@ -1,9 +1,21 @@
-//! All that the steps of a loop show.
+//! What the steps of a run show: each kind of reason, and all that the steps of a loop show.
 
-use crate::reading::{expect, trace_of};
-use run_trace::Step;
+use crate::expecting::expect;
+use crate::functions::function_of;
+use crate::reason_rows::REASONS;
+use crate::words::value_in;
+use byte_block::Value;
+use points::{Bounds, Input};
+use run_trace::{Step, Trace, trace};
 use std::alloc::{AllocError, Global};
 use std::test::Fail;
+use support::{NoMemory, Sequence};
+
+const BOUNDS: Bounds = Bounds {
+    turns: 2,
+    blocks: 0,
+    bytes: 0,
+};
 
 /// Counts down from the argument, by a choice at each turn, and stores the sum of the choices.
 const LOOP: &str = "\
@@ -45,13 +57,62 @@ Some(Location { pointer: Ptr { block: Local(0, 0), offset: 0 }, bytes: 1 })
 2 1 Terminator [Num(1)] Some(Num(1)) [] None None
 ";
 
+fn input_of(alloc: Global, arg: Value) -> Result<Input, NoMemory> {
+    Ok(Input {
+        args: Sequence::from_vec(vec![in alloc; arg; 1]?),
+        blocks: Sequence::from_vec(Vec::new(alloc)),
+    })
+}
+
+/// The trace of the function of a text on an argument and a tape, with two backward jumps at most.
+fn trace_of(alloc: Global, text: &str, arg: &str, tape: &[u64]) -> Result<Trace, Fail> {
+    let f = function_of(alloc, text)?;
+    let input = input_of(alloc, value_in(arg).ok_or("an argument")?)?;
+    let traced = trace(alloc, &f, &BOUNDS, &input, tape)?;
+    Ok(traced)
+}
+
+fn reason_line(alloc: Global, step: &Step) -> Result<String, AllocError> {
+    match step.reason {
+        Some(reason) => format!(in alloc; "{:?} {:?}", step.site, reason),
+        None => Ok(String::new(alloc)),
+    }
+}
+
+/// The steps that have a reason, one after another, or `none`.
+fn reasons_of(alloc: Global, steps: &[Step]) -> Result<String, AllocError> {
+    let mut text = String::new(alloc);
+    for step in steps {
+        text.push_str(&reason_line(alloc, step)?)?;
+    }
+    if text.is_empty() {
+        text.push_str("none")?;
+    }
+    Ok(text)
+}
+
+fn holds(alloc: Global, row: &str) -> Result<bool, Fail> {
+    let (arg, rest) = row.split_once(" | ").ok_or("an argument")?;
+    let (reasons, text) = rest.split_once(" | ").ok_or("reasons")?;
+    let traced = trace_of(alloc, text, arg, &[])?;
+    Ok(reasons_of(alloc, traced.steps.as_slice())?.as_str() == reasons)
+}
+
+#[test]
+fn each_reason_is_given_where_it_is_one(rt: HostRuntime) -> Result<(), Fail> {
+    for row in REASONS.lines() {
+        expect(holds(rt.alloc(), row)?, row)?;
+    }
+    Ok(())
+}
+
 fn values_of(alloc: Global, step: &Step) -> Result<String, AllocError> {
     let operands = step.operands.as_slice();
     let taken = step.taken.as_slice();
     format!(in alloc; "{:?} {:?} {:?}", operands, step.result, taken)
 }
 
-fn line_of(alloc: Global, step: &Step) -> Result<String, AllocError> {
+fn step_line(alloc: Global, step: &Step) -> Result<String, AllocError> {
     let values = values_of(alloc, step)?;
     let place = format!(in alloc; "{} {} {:?}", step.block, step.turn, step.site)?;
     format!(in alloc; "{place} {values} {:?} {:?}", step.to, step.location)
@@ -60,7 +121,7 @@ fn line_of(alloc: Global, step: &Step) -> Result<String, AllocError> {
 fn are_shown(alloc: Global, steps: &[Step]) -> Result<bool, AllocError> {
     let mut text = String::new(alloc);
     for step in steps {
-        text.push_str(&line_of(alloc, step)?)?;
+        text.push_str(&step_line(alloc, step)?)?;
         text.push_str("\n")?;
     }
     Ok(text.as_str() == STEPS)

@@ -1,0 +1,94 @@
+//! How the outcomes of two runs differ. The block 1 has one byte, which is 0.
+
+use crate::expecting::expect;
+use crate::functions::two_in;
+use crate::words::value_in;
+use byte_block::{BlockName, Byte, MemoryBlock, Value};
+use ir_reader::read;
+use ir_tree::{Function, is_within_limits};
+use pair_trace::{difference_of, trace_pair};
+use points::{Bounds, Input, Point};
+use std::alloc::Global;
+use std::test::Fail;
+use support::{NoMemory, Sequence};
+use verdicts::{Pair, has_same_signature};
+
+const BOUNDS: Bounds = Bounds {
+    turns: 0,
+    blocks: 1,
+    bytes: 1,
+};
+
+/// The argument, the difference, and the pair.
+const ROWS: &str = "\
+1 | None | \
+    define i8 @f(i8 %x) { ret i8 poison } \
+    define i8 @g(i8 %x) { ret i8 %x }
+1 | Some(Value) | \
+    define i8 @f(i8 %x) { ret i8 %x } \
+    define i8 @g(i8 %x) { %r = add i8 %x, 1 ret i8 %r }
+1 | Some(MorePoisonous) | \
+    define i8 @f(i8 %x) { ret i8 %x } \
+    define i8 @g(i8 %x) { %r = shl i8 %x, 8 ret i8 %r }
+1 | Some(Undefined) | \
+    define i8 @f(i8 %x) { ret i8 %x } \
+    define i8 @g(i8 %x) { unreachable }
+given1+0 | Some(Byte { index: 0, byte: 0 }) | \
+    define void @f(ptr %x) { ret void } \
+    define void @g(ptr %x) { store i8 1, ptr %x, align 1 ret void }
+";
+
+fn input_of(alloc: Global, arg: Value) -> Result<Input, NoMemory> {
+    let block = MemoryBlock {
+        name: BlockName::Given(1),
+        size: 1,
+        align: 16,
+        places: Sequence::from_vec(vec![in alloc; Byte::Num(0); 1]?),
+    };
+    let mut blocks = Sequence::from_vec(Vec::new(alloc));
+    blocks.push(block)?;
+    Ok(Input {
+        args: Sequence::from_vec(vec![in alloc; arg; 1]?),
+        blocks,
+    })
+}
+
+#[tactic(auto, using(points::proofs::Runnable::runnable))]
+fn difference(
+    alloc: Global,
+    source: &Function,
+    target: &Function,
+    arg: Value,
+) -> Result<String, Fail> {
+    if !is_within_limits(source) || !is_within_limits(target) {
+        return Err(Fail::from("within the limits"));
+    }
+    if !has_same_signature(source, target) {
+        return Err(Fail::from("of one signature"));
+    }
+    let point = Point {
+        input: input_of(alloc, arg)?,
+        tape: Sequence::from_vec(Vec::new(alloc)),
+    };
+    let traces = trace_pair(alloc, &Pair::new(source, target), &BOUNDS, &point)?;
+    let found = difference_of(&traces.source.outcome, &traces.target.outcome);
+    let text = format!(in alloc; "{:?}", found)?;
+    Ok(text)
+}
+
+fn holds(alloc: Global, row: &str) -> Result<bool, Fail> {
+    let (arg, rest) = row.split_once(" | ").ok_or("an argument")?;
+    let (wanted, text) = rest.split_once(" | ").ok_or("a difference")?;
+    let module = read(alloc, text.as_bytes()).ok().ok_or("a module")?;
+    let (source, target) = two_in(&module).ok_or("a pair")?;
+    let arg = value_in(arg).ok_or("an argument")?;
+    Ok(difference(alloc, source, target, arg)?.as_str() == wanted)
+}
+
+#[test]
+fn outcomes_differ_so(rt: HostRuntime) -> Result<(), Fail> {
+    for row in ROWS.lines() {
+        expect(holds(rt.alloc(), row)?, row)?;
+    }
+    Ok(())
+}
