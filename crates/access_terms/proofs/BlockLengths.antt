@@ -1,24 +1,5 @@
 -- How many bytes a block has, and which accesses it admits.
-use Rattle.std.proofs.Common.{ℕ, ◌≡◌, ◌<◌, ◌≤◌, ◌+◌, ◌-◌, ◌%◌, min, Bool, true, false, cond, not, ◌&&◌, ◌||◌, nat_eq, nat_lt, nat_le, List, length, take, drop, Some, refl, ap, sym, ◌∙◌, inl, inr, arith, eqb-true}
-use Rattle.std.proofs.lemmas.Bool.{cases_eq, eq-eqb, le-leb, le-ltb, leb-true, lt-ltb, ltb-true, ne_eqb}
-use Rattle.std.proofs.lemmas.Bool.Decides.{nat_tests}
-use Rattle.std.proofs.lemmas.List.{drop-take, length-take, take-take}
-use Rattle.byte_block.specs.declared.value.Byte.{Byte}
-use Rattle.bv_terms.specs.declared.term.TermId.{TermId}
-use Rattle.bv_terms.specs.declared.term.Term.{Term}
-use Rattle.bv_terms.specs.Tree.{width_of}
-use Rattle.bv_terms.specs.Trees.{IsTerm, Keeps, Makes, Tests, bit_at, term_at, tree_in}
-use Rattle.memory_access.specs.Accesses.{admits, overwritten}
-use Rattle.memory_access.specs.Blocks.{block_size}
-use Rattle.mem_terms.specs.declared.bytes.SymByte.{SymByte}
-use Rattle.mem_terms.specs.declared.blocks.SymBlock.{SymBlock}
-use Rattle.mem_terms.specs.Values.{Reading}
-use Rattle.mem_terms.specs.Memory.{IsSymBlock, block_at, byte_at, places_at}
-use Rattle.mem_terms.proofs.Eaches.{map-length}
-use Rattle.mem_terms.proofs.Later.{bit-later, block-later, keeps_trans, term-later}
-use Rattle.mem_terms.proofs.Made.{small_mod}
-use Rattle.access_terms.specs.Accesses.{bytes_from}
-use Rattle.access_terms.specs.Places.{written}
+use Rattle.access_terms.proofs.Common.{ℕ, ◌≡◌, ◌<◌, ◌≤◌, ◌+◌, ◌-◌, ◌%◌, min, Bool, true, false, cond, not, ◌&&◌, ◌||◌, nat_eq, nat_lt, nat_le, List, length, take, drop, Some, refl, ap, sym, ◌∙◌, inl, inr, arith, eqb-true, cases_eq, eq-eqb, le-leb, le-ltb, leb-true, lt-ltb, ltb-true, ne_eqb, nat_tests, drop-take, length-take, take-take, Byte, TermId, Term, width_of, IsTerm, Keeps, Makes, Tests, bit_at, term_at, tree_in, admits, overwritten, block_size, SymByte, SymBlock, Reading, IsSymBlock, block_at, byte_at, places_at, map-length, bit-later, block-later, keeps_trans, term-later, small_mod, bytes_from, written}
 use Rattle.byte_terms.proofs.Bools.{and-false, and-left, and-right, and-true, both-true, or-false}
 
 lesser : (m n : ℕ) → cond (nat_lt m n) m n ≡ min m n

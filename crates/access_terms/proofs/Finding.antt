@@ -1,28 +1,6 @@
 -- The first block that an access names, and its bytes.
-use Rattle.std.proofs.lemmas.Bool.{cases_Bool}
-use Rattle.std.proofs.Common.{ℕ, zero, suc, ◌≡◌, ◌<◌, ◌≤◌, Bool, true, false, not, ◌&&◌, cond, List, [], ◌∷◌, length, take, drop, get_or, Option, Some, None, inl, inr, refl, ap, sym, subst, ◌∙◌, arith}
-use Rattle.byte_block.specs.declared.value.BlockName.{BlockName}
-use Rattle.byte_block.specs.declared.value.Byte.{Byte}
-use Rattle.byte_block.specs.declared.value.Value.{Value}
-use Rattle.byte_block.specs.declared.block.MemoryBlock.{MemoryBlock}
-use Rattle.memory_access.specs.declared.access_types.Access.{Access}
+use Rattle.access_terms.proofs.Common.{cases_Bool, ℕ, zero, suc, ◌≡◌, ◌<◌, ◌≤◌, Bool, true, false, not, ◌&&◌, cond, List, [], ◌∷◌, length, take, drop, get_or, Option, Some, None, inl, inr, refl, ap, sym, subst, ◌∙◌, arith, BlockName, Byte, Value, MemoryBlock, Access, names, block_bytes, block_named, bytes_named, access_size, value_of_bytes, admits, load_result, TermId, Term, truth, Keeps, IsTerm, Makes, bit_at, term_at, SymByte, SymValue, SymBlock, IsSymValue, Reading, value_at, value_of, AreSymBlocks, AreSymBytes, IsSymBlock, block_at, memory_at, places_at, keeps_trans, bit-later, term-later, block-later, memory-later, places-later, sym_bytes-later, Span, bytes_from, loaded_at, AreSpanBytes, IsSpan, Reads, admits_span, block_of_span, span_name}
 use Rattle.memory_access.specs.declared.access_types.Loaded.TheVariants as loaded
-use Rattle.memory_access.specs.Blocks.{names, block_bytes, block_named, bytes_named}
-use Rattle.memory_access.specs.Bytes.{access_size, value_of_bytes}
-use Rattle.memory_access.specs.Accesses.{admits, load_result}
-use Rattle.bv_terms.specs.declared.term.TermId.{TermId}
-use Rattle.bv_terms.specs.declared.term.Term.{Term}
-use Rattle.bv_terms.specs.Tree.{truth}
-use Rattle.bv_terms.specs.Trees.{Keeps, IsTerm, Makes, bit_at, term_at}
-use Rattle.mem_terms.specs.declared.bytes.SymByte.{SymByte}
-use Rattle.mem_terms.specs.declared.values.SymValue.{SymValue}
-use Rattle.mem_terms.specs.declared.blocks.SymBlock.{SymBlock}
-use Rattle.mem_terms.specs.Values.{IsSymValue, Reading, value_at, value_of}
-use Rattle.mem_terms.specs.Memory.{AreSymBlocks, AreSymBytes, IsSymBlock, block_at, memory_at, places_at}
-use Rattle.mem_terms.proofs.Later.{keeps_trans, bit-later, term-later, block-later, memory-later, places-later, sym_bytes-later}
-use Rattle.access_terms.specs.declared.spans.Span.{Span}
-use Rattle.access_terms.specs.Accesses.{bytes_from, loaded_at}
-use Rattle.access_terms.specs.Spans.{AreSpanBytes, IsSpan, Reads, admits_span, block_of_span, span_name}
 
 -- ---- blocks in order
 

@@ -1,20 +1,5 @@
 -- Walks over indices that are terms.
-use Rattle.std.proofs.lemmas.Bool.{cases_Bool}
-use Rattle.std.proofs.Common.{ℕ, zero, suc, ◌≡◌, ◌<◌, ◌≤◌, ◌+◌, ◌^◌, Bool, true, false, not, ◌||◌, nat_lt, List, [], ◌∷◌, length, drop, get_or, pos, ◌+ℤ◌, inl, inr, refl, ap, sym, ◌∙◌, arith}
-use Rattle.std.specs.Prelude.{◌*ℤ◌}
-use Rattle.std.specs.List.{list_all, list_any}
-use Rattle.std.proofs.lemmas.Bool.{le-ltb, lt-ltb, cases_lt}
-use Rattle.std.proofs.lemmas.List.{at_drop_more, at_drop_all}
-use Rattle.tv_num.specs.Width.{signed_of, wrapped}
-use Rattle.memory_access.specs.declared.offsets.Index.{Index}
-use Rattle.memory_access.specs.Offsets.{is_index, is_number, is_outside, last_sum, leaves_block, scaled}
-use Rattle.memory_access.proofs.Sums.{inside, last_sum-end, last_sum-more, leaves-at_base, leaves-here, leaves-later, leaves-never, wrapped-small}
-use Rattle.bv_terms.specs.declared.term.Term.{Term}
-use Rattle.bv_terms.specs.Trees.{bit_at, term_at}
-use Rattle.mem_terms.specs.Values.{value_from}
-use Rattle.mem_terms.proofs.Eaches.{map-at, map-length}
-use Rattle.access_terms.specs.declared.offsets.SymIndex.{SymIndex}
-use Rattle.access_terms.specs.Offsets.{AreNumbers, index_at, indices_at}
+use Rattle.access_terms.proofs.Common.{cases_Bool, ℕ, zero, suc, ◌≡◌, ◌<◌, ◌≤◌, ◌+◌, ◌^◌, Bool, true, false, not, ◌||◌, nat_lt, List, [], ◌∷◌, length, drop, get_or, pos, ◌+ℤ◌, inl, inr, refl, ap, sym, ◌∙◌, arith, ◌*ℤ◌, list_all, list_any, le-ltb, lt-ltb, cases_lt, at_drop_more, at_drop_all, signed_of, wrapped, Index, is_index, is_number, is_outside, last_sum, leaves_block, scaled, inside, last_sum-end, last_sum-more, leaves-at_base, leaves-here, leaves-later, leaves-never, wrapped-small, Term, bit_at, term_at, value_from, map-at, map-length, SymIndex, AreNumbers, index_at, indices_at}
 use Rattle.access_terms.proofs.Stored.{and-left, and-right}
 
 -- ---- one index

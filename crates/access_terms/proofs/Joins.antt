@@ -1,21 +1,6 @@
 -- Two memories joined block by block.
-use Rattle.std.proofs.lemmas.List.{append-nil}
-use Rattle.std.proofs.Common.{ℕ, ◌≡◌, ◌<◌, ◌+◌, Bool, true, false, not, ◌&&◌, cond, List, [], ◌∷◌, ◌++◌, length, take, get_or, refl, ap, sym, subst, ◌∙◌}
-use Rattle.byte_block.specs.declared.value.BlockName.{BlockName}
-use Rattle.byte_block.specs.declared.value.Byte.{Byte}
-use Rattle.byte_block.specs.declared.block.MemoryBlock.{MemoryBlock}
-use Rattle.bv_terms.specs.declared.term.TermId.{TermId}
-use Rattle.bv_terms.specs.declared.term.Term.{Term}
-use Rattle.bv_terms.specs.Tree.{truth}
-use Rattle.bv_terms.specs.Trees.{Keeps, IsTerm, Makes, bit_at, term_at}
-use Rattle.mem_terms.specs.declared.blocks.SymBlock.{SymBlock}
-use Rattle.mem_terms.specs.declared.bytes.SymByte.{SymByte}
-use Rattle.mem_terms.specs.Values.{Reading}
-use Rattle.mem_terms.specs.Memory.{AreSymBlocks, AreSymBytes, IsSymBlock, block_at, memory_at, places_at}
-use Rattle.mem_terms.proofs.Eaches.{each-at, each-push, take-push}
-use Rattle.mem_terms.proofs.Later.{keeps_trans, bit-later, term-later, block-later, memory-later, places-later, is_term-later, sym_block-later}
+use Rattle.access_terms.proofs.Common.{append-nil, ℕ, ◌≡◌, ◌<◌, ◌+◌, Bool, true, false, not, ◌&&◌, cond, List, [], ◌∷◌, ◌++◌, length, take, get_or, refl, ap, sym, subst, ◌∙◌, BlockName, Byte, MemoryBlock, TermId, Term, truth, Keeps, IsTerm, Makes, bit_at, term_at, SymBlock, SymByte, Reading, AreSymBlocks, AreSymBytes, IsSymBlock, block_at, memory_at, places_at, each-at, each-push, take-push, keeps_trans, bit-later, term-later, block-later, memory-later, places-later, is_term-later, sym_block-later, AreAbove, AreAlike, IsGrown, IsJoined, part_at}
 use Rattle.access_terms.specs.declared.joining.Joined.{Joined}
-use Rattle.access_terms.specs.Joining.{AreAbove, AreAlike, IsGrown, IsJoined, part_at}
 use Rattle.access_terms.proofs.Finding.{truth-cond}
 use Rattle.access_terms.proofs.Memories.{memory-push}
 use Rattle.access_terms.proofs.Stored.{each-take}

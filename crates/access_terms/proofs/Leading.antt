@@ -1,26 +1,5 @@
 -- Where a getelementptr leads.
-use Rattle.std.proofs.lemmas.Bool.{cases_Bool}
-use Rattle.std.proofs.Common.{ℕ, ◌≡◌, ◌<◌, ◌≤◌, ◌+◌, ◌-◌, ◌*◌, ◌%◌, ◌^◌, Bool, true, false, not, ◌&&◌, ◌||◌, nat_eq, nat_lt, List, length, pos, ◌+ℤ◌, inl, inr, refl, ap, sym, ◌∙◌, arith}
-use Rattle.std.specs.List.{list_all, list_any}
-use Rattle.byte_block.specs.declared.value.BlockName.{BlockName}
-use Rattle.byte_block.specs.declared.block.MemoryBlock.{MemoryBlock}
-use Rattle.tv_num.specs.Width.{wrapped}
-use Rattle.memory_access.specs.declared.offsets.Index.{Index}
-use Rattle.memory_access.specs.Blocks.{bytes_named}
-use Rattle.memory_access.specs.Offsets.{breaks_inbounds, gep_result, is_index, is_negative, is_nonzero, is_outside, last_sum, leaves_block, scaled}
-use Rattle.bv_terms.specs.Tree.{extended_signed, width_of}
-use Rattle.bv_terms.specs.declared.term.TermId.{TermId}
-use Rattle.bv_terms.specs.declared.term.Term.{Term}
-use Rattle.bv_terms.specs.Trees.{AreInRange, Keeps, IsTerm, Makes, bit_at, term_at, tree_in}
-use Rattle.mem_terms.specs.declared.values.SymValue.{SymValue}
-use Rattle.mem_terms.specs.declared.blocks.SymBlock.{SymBlock}
-use Rattle.mem_terms.specs.Values.{IsSymValue, Reading, value_at, value_of}
-use Rattle.mem_terms.specs.Memory.{memory_at}
-use Rattle.mem_terms.proofs.Bits.{term-below}
-use Rattle.mem_terms.proofs.Eaches.{each-weaker, map-same}
-use Rattle.mem_terms.proofs.Later.{keeps_trans, bit-later, term-later, is_term-later}
-use Rattle.access_terms.specs.declared.offsets.SymIndex.{SymIndex}
-use Rattle.access_terms.specs.Offsets.{AreNumbers, AreSymIndices, IsSymIndex, index_at, indices_at, walked_sum}
+use Rattle.access_terms.proofs.Common.{cases_Bool, ℕ, ◌≡◌, ◌<◌, ◌≤◌, ◌+◌, ◌-◌, ◌*◌, ◌%◌, ◌^◌, Bool, true, false, not, ◌&&◌, ◌||◌, nat_eq, nat_lt, List, length, pos, ◌+ℤ◌, inl, inr, refl, ap, sym, ◌∙◌, arith, list_all, list_any, BlockName, MemoryBlock, wrapped, Index, bytes_named, breaks_inbounds, gep_result, is_index, is_negative, is_nonzero, is_outside, last_sum, leaves_block, scaled, extended_signed, width_of, TermId, Term, AreInRange, Keeps, IsTerm, Makes, bit_at, term_at, tree_in, SymValue, SymBlock, IsSymValue, Reading, value_at, value_of, memory_at, term-below, each-weaker, map-same, keeps_trans, bit-later, term-later, is_term-later, SymIndex, AreNumbers, AreSymIndices, IsSymIndex, index_at, indices_at, walked_sum}
 use Rattle.access_terms.proofs.Indices.{scaled-is}
 use Rattle.access_terms.proofs.Walked.{negative-is, nonzero-is, walked-low, walked-outside}
 

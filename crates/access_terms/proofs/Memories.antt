@@ -1,17 +1,5 @@
 -- Memories made of parts.
-use Rattle.std.proofs.Common.{ℕ, ◌≡◌, Bool, true, false, cond, List, [], ◌∷◌, ◌++◌, refl, ap, sym, subst, ◌∙◌}
-use Rattle.byte_block.specs.declared.block.MemoryBlock.{MemoryBlock}
-use Rattle.bv_terms.specs.declared.term.Term.{Term}
-use Rattle.bv_terms.specs.declared.term.TermId.{TermId}
-use Rattle.bv_terms.specs.Trees.{Keeps, bit_at, term_at}
-use Rattle.mem_terms.specs.declared.blocks.SymBlock.{SymBlock}
-use Rattle.mem_terms.specs.Values.{Reading}
-use Rattle.byte_block.specs.declared.value.Byte.{Byte}
-use Rattle.mem_terms.specs.declared.bytes.SymByte.{SymByte}
-use Rattle.mem_terms.specs.Memory.{AreSymBlocks, IsSymBlock, block_at, memory_at, places_at}
-use Rattle.access_terms.specs.Joining.{part_at}
-use Rattle.mem_terms.proofs.Eaches.{each-push}
-use Rattle.mem_terms.proofs.Later.{memory-later, sym_blocks-later}
+use Rattle.access_terms.proofs.Common.{ℕ, ◌≡◌, Bool, true, false, cond, List, [], ◌∷◌, ◌++◌, refl, ap, sym, subst, ◌∙◌, MemoryBlock, Term, TermId, Keeps, bit_at, term_at, SymBlock, Reading, Byte, SymByte, AreSymBlocks, IsSymBlock, block_at, memory_at, places_at, part_at, each-push, memory-later, sym_blocks-later}
 
 cond-front-more : (c : Bool) (x : MemoryBlock) (xs ys : List MemoryBlock) → cond c (x ∷ xs ++ ys) (xs ++ ys) ≡ cond c (x ∷ xs) xs ++ ys
 cond-front-more true x xs ys = refl

@@ -1,23 +1,8 @@
 -- Bytes that replace others, one by one and where the offset is one of several.
-use Rattle.std.proofs.Common.{ℕ, zero, suc, ◌≡◌, ◌<◌, ◌≤◌, ◌+◌, ◌-◌, ◌%◌, Bool, true, false, cond, ◌&&◌, nat_eq, nat_lt, nat_le, List, [], ◌∷◌, ◌++◌, length, map, take, drop, get_or, refl, ap, sym, ◌∙◌, inl, inr, arith}
+use Rattle.access_terms.proofs.Common.{ℕ, zero, suc, ◌≡◌, ◌<◌, ◌≤◌, ◌+◌, ◌-◌, ◌%◌, Bool, true, false, cond, ◌&&◌, nat_eq, nat_lt, nat_le, List, [], ◌∷◌, ◌++◌, length, map, take, drop, get_or, refl, ap, sym, ◌∙◌, inl, inr, arith, paste, cases_eq, eq-eqb, le-ltb, lt-ltb, ne_eqb, nat_tests, append-nil, drop_all, drop-map, length-drop, length-take, set-get_or, take-map, Byte, Poison, TermId, Term, IsTerm, Keeps, Tests, bit_at, term_at, SymByte, Each, Reading, AreSymBytes, IsSymByte, byte_at, places_at, each-at, map-at, map-length, map-set, bit-later, byte-later, places-later, term-later, written}
 use Rattle.std.specs.Prelude.{slice_set}
 use Rattle.std.proofs.Math.ListN.{set}
-use lib.Seq.{paste}
-use Rattle.std.proofs.lemmas.Bool.{cases_eq, eq-eqb, le-ltb, lt-ltb, ne_eqb}
-use Rattle.std.proofs.lemmas.Bool.Decides.{nat_tests}
-use Rattle.std.proofs.lemmas.List.{append-nil, drop_all, drop-map, length-drop, length-take, set-get_or, take-map}
 use Rattle.std.proofs.lemmas.List.Edits.{paste_more, paste_all}
-use Rattle.byte_block.specs.declared.value.Byte.{Byte}
-use Rattle.byte_block.specs.declared.value.Byte.TheVariants.{Poison}
-use Rattle.bv_terms.specs.declared.term.TermId.{TermId}
-use Rattle.bv_terms.specs.declared.term.Term.{Term}
-use Rattle.bv_terms.specs.Trees.{IsTerm, Keeps, Tests, bit_at, term_at}
-use Rattle.mem_terms.specs.declared.bytes.SymByte.{SymByte}
-use Rattle.mem_terms.specs.Values.{Each, Reading}
-use Rattle.mem_terms.specs.Memory.{AreSymBytes, IsSymByte, byte_at, places_at}
-use Rattle.mem_terms.proofs.Eaches.{each-at, map-at, map-length, map-set}
-use Rattle.mem_terms.proofs.Later.{bit-later, byte-later, places-later, term-later}
-use Rattle.access_terms.specs.Places.{written}
 
 -- ---- the first bytes
 

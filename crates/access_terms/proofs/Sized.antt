@@ -1,14 +1,5 @@
 -- The size of the block that a number names.
-use Rattle.std.proofs.Common.{ℕ, suc, ◌≡◌, ◌<◌, Bool, true, false, ◌&&◌, cond, List, length, drop, get_or, Option, Some, refl, ap, sym, ◌∙◌}
-use Rattle.byte_block.specs.declared.block.MemoryBlock.{MemoryBlock}
-use Rattle.memory_access.specs.Blocks.{block_named, block_size, bytes_named, bytes_or_none, names}
-use Rattle.bv_terms.specs.declared.term.TermId.{TermId}
-use Rattle.bv_terms.specs.declared.term.Term.{Term}
-use Rattle.bv_terms.specs.Trees.{Keeps, IsTerm, Makes, bit_at, term_at}
-use Rattle.mem_terms.specs.declared.blocks.SymBlock.{SymBlock}
-use Rattle.mem_terms.specs.Values.{Reading}
-use Rattle.mem_terms.specs.Memory.{IsSymBlock, block_at, memory_at}
-use Rattle.mem_terms.proofs.Later.{keeps_trans, bit-later, term-later, block-later}
+use Rattle.access_terms.proofs.Common.{ℕ, suc, ◌≡◌, ◌<◌, Bool, true, false, ◌&&◌, cond, List, length, drop, get_or, Option, Some, refl, ap, sym, ◌∙◌, MemoryBlock, block_named, block_size, bytes_named, bytes_or_none, names, TermId, Term, Keeps, IsTerm, Makes, bit_at, term_at, SymBlock, Reading, IsSymBlock, block_at, memory_at, keeps_trans, bit-later, term-later, block-later}
 use Rattle.access_terms.proofs.Finding.{block_named-front, memory-front}
 
 cond-numbers : (c c' : Bool) (x x' y y' : ℕ) → c ≡ c' → x ≡ x' → y ≡ y' → cond c x y ≡ cond c' x' y'

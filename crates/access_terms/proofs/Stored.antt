@@ -1,31 +1,8 @@
 -- The memory that a store leaves.
-use Rattle.std.proofs.lemmas.Bool.{cases_Bool}
-use Rattle.std.proofs.lemmas.List.{append-nil}
-use Rattle.std.proofs.Common.{ℕ, zero, suc, ◌≡◌, ◌<◌, ◌≤◌, ◌+◌, Bool, true, false, not, ◌&&◌, cond, List, [], ◌∷◌, ◌++◌, length, take, drop, get_or, slice_get, slice_set, map, Some, Result, Ok, Err, OnOk, inl, inr, refl, ap, sym, ◌∙◌, arith, add-one, append_assoc}
-use Rattle.byte_block.specs.declared.value.BlockName.{BlockName}
-use Rattle.byte_block.specs.declared.value.Byte.{Byte}
-use Rattle.byte_block.specs.declared.block.MemoryBlock.{MemoryBlock}
+use Rattle.access_terms.proofs.Common.{cases_Bool, append-nil, ℕ, zero, suc, ◌≡◌, ◌<◌, ◌≤◌, ◌+◌, Bool, true, false, not, ◌&&◌, cond, List, [], ◌∷◌, ◌++◌, length, take, drop, get_or, slice_get, slice_set, map, Some, Result, Ok, Err, OnOk, inl, inr, refl, ap, sym, ◌∙◌, arith, add-one, append_assoc, BlockName, Byte, MemoryBlock, Value, Access, access_size, value_bytes, names, block_named, admits, after_store, first_changed, overwritten, store_result, TermId, Term, Keeps, IsTerm, bit_at, term_at, SymBlock, SymByte, SymValue, Each, IsSymValue, Reading, value_at, value_of, AreSymBlocks, AreSymBytes, IsSymBlock, block_at, byte_at, memory_at, places_at, map-length, keeps_trans, bit-later, term-later, block-later, memory-later, places-later, value-later, Span, stored_at, IsSpan, admits_span, block_of_span, is_named_by, span_name}
 use Rattle.byte_block.specs.declared.value.BlockName.TheVariants.{Null}
-use Rattle.byte_block.specs.declared.value.Value.{Value}
-use Rattle.memory_access.specs.declared.access_types.Access.{Access}
 use Rattle.memory_access.specs.declared.access_types.Stored.TheVariants as stored
-use Rattle.memory_access.specs.Bytes.{access_size, value_bytes}
 use Rattle.memory_access.proofs.Values.{length-value_bytes}
-use Rattle.memory_access.specs.Blocks.{names, block_named}
-use Rattle.memory_access.specs.Accesses.{admits, after_store, first_changed, overwritten, store_result}
-use Rattle.bv_terms.specs.declared.term.TermId.{TermId}
-use Rattle.bv_terms.specs.declared.term.Term.{Term}
-use Rattle.bv_terms.specs.Trees.{Keeps, IsTerm, bit_at, term_at}
-use Rattle.mem_terms.specs.declared.blocks.SymBlock.{SymBlock}
-use Rattle.mem_terms.specs.declared.bytes.SymByte.{SymByte}
-use Rattle.mem_terms.specs.declared.values.SymValue.{SymValue}
-use Rattle.mem_terms.specs.Values.{Each, IsSymValue, Reading, value_at, value_of}
-use Rattle.mem_terms.specs.Memory.{AreSymBlocks, AreSymBytes, IsSymBlock, block_at, byte_at, memory_at, places_at}
-use Rattle.mem_terms.proofs.Eaches.{map-length}
-use Rattle.mem_terms.proofs.Later.{keeps_trans, bit-later, term-later, block-later, memory-later, places-later, value-later}
-use Rattle.access_terms.specs.declared.spans.Span.{Span}
-use Rattle.access_terms.specs.Accesses.{stored_at}
-use Rattle.access_terms.specs.Spans.{IsSpan, admits_span, block_of_span, is_named_by, span_name}
 use Rattle.byte_terms.proofs.ByteLists.{take_all}
 use Rattle.access_terms.proofs.Finding.{block_named-front, memory-end, memory-front, name-later}
 use Rattle.access_terms.proofs.Memories.{memory-push}

@@ -1,17 +1,9 @@
 -- Sums of an offset and scaled indices, in 64 bits and exact.
-use Rattle.std.proofs.Common.{ℕ, zero, suc, ◌≡◌, ◌<◌, ◌≤◌, ◌+◌, ◌-◌, ◌*◌, ◌%◌, ◌^◌, not, nat_eq, nat_lt, ℤ, pos, negsuc, neg_ℤ, ◌+ℤ◌, inl, inr, refl, ap, sym, ◌∙◌, arith, pow-add, pow_pos, pow_mono, subst}
-use Rattle.std.specs.Prelude.{◌*ℤ◌, int_lt}
+use Rattle.access_terms.proofs.Common.{ℕ, zero, suc, ◌≡◌, ◌<◌, ◌≤◌, ◌+◌, ◌-◌, ◌*◌, ◌%◌, ◌^◌, not, nat_eq, nat_lt, ℤ, pos, negsuc, neg_ℤ, ◌+ℤ◌, inl, inr, refl, ap, sym, ◌∙◌, arith, pow-add, pow_pos, pow_mono, subst, ◌*ℤ◌, int_lt, cases_lt, lt-ltb, le-ltb, le-leb, lt-leb, ne_eqb, mod_below, mul-le, extended_signed, signed_of, wrapped, is_outside, wrapped-euclid, walked_sum}
 use Rattle.std.specs.Ordering.{int_eq}
-use Rattle.std.proofs.lemmas.Bool.{cases_lt, lt-ltb, le-ltb, le-leb, lt-leb, ne_eqb}
 use Rattle.std.proofs.lemmas.Int.{ints, int_rem_euclid_is}
-use Rattle.std.proofs.lemmas.Nat.{mod_below, mul-le}
 use Rattle.std.proofs.Math.Nat.{mod-add-mod, mod-eq_of_lt}
 use Rattle.std.proofs.Math.Pow.{mod-mod-pow}
-use Rattle.bv_terms.specs.Tree.{extended_signed}
-use Rattle.tv_num.specs.Width.{signed_of, wrapped}
-use Rattle.memory_access.specs.Offsets.{is_outside}
-use Rattle.memory_access.proofs.Sums.{wrapped-euclid}
-use Rattle.access_terms.specs.Offsets.{walked_sum}
 
 -- ---- two's complement
 

@@ -1,14 +1,5 @@
 -- Lists of bytes made of parts.
-use Rattle.std.proofs.Common.{ℕ, zero, suc, ◌≡◌, ◌<◌, ◌≤◌, ◌+◌, Bool, true, false, cond, List, [], ◌∷◌, ◌++◌, length, take, get_or, map, replicate, refl, ap, sym, subst, ◌∙◌, arith, add-one, length-append}
-use Rattle.byte_block.specs.declared.value.Byte.{Byte}
-use Rattle.bv_terms.specs.declared.term.TermId.{TermId}
-use Rattle.bv_terms.specs.declared.term.Term.{Term}
-use Rattle.bv_terms.specs.Trees.{Keeps, IsTerm, bit_at}
-use Rattle.mem_terms.specs.declared.bytes.SymByte.{SymByte}
-use Rattle.mem_terms.specs.Values.{Each, Reading}
-use Rattle.mem_terms.specs.Memory.{AreSymBytes, IsSymByte, byte_at, places_at}
-use Rattle.mem_terms.proofs.Eaches.{each-at, each-push, map-at, map-length, map-push}
-use Rattle.mem_terms.proofs.Later.{keeps_trans, bit-later, byte-later, places-later, sym_bytes-later}
+use Rattle.byte_terms.proofs.Common.{ℕ, zero, suc, ◌≡◌, ◌<◌, ◌≤◌, ◌+◌, Bool, true, false, cond, List, [], ◌∷◌, ◌++◌, length, take, get_or, map, replicate, refl, ap, sym, subst, ◌∙◌, arith, add-one, length-append, Byte, TermId, Term, Keeps, IsTerm, bit_at, SymByte, Each, Reading, AreSymBytes, IsSymByte, byte_at, places_at, each-at, each-push, map-at, map-length, map-push, keeps_trans, bit-later, byte-later, places-later, sym_bytes-later}
 
 pub map-replicate : {A B : Type 0} (f : A → B) (n : ℕ) (x : A) → map f (replicate n x) ≡ replicate n (f x)
 map-replicate f zero x = refl

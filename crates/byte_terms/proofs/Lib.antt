@@ -1,3 +1,4 @@
+pub mod Common
 pub mod Bools
 pub mod Naming
 pub mod Digits

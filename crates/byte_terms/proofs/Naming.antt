@@ -1,23 +1,13 @@
 -- Which block a number names, and a term that is never true.
-use Rattle.std.proofs.Common.{ℕ, ◌≡◌, ◌<◌, ◌+◌, true, false, ◌&&◌, nat_eq, List, [], Some, refl, ap, ap₂, sym, ◌∙◌, arith, eqb-true}
-use Rattle.std.specs.Prelude.{slice_get, slice_index_or}
-use Rattle.std.proofs.lemmas.Bool.{eq-eqb}
+use Rattle.byte_terms.proofs.Common.{ℕ, ◌≡◌, ◌<◌, ◌+◌, true, false, ◌&&◌, nat_eq, List, [], Some, refl, ap, ap₂, sym, ◌∙◌, arith, eqb-true, slice_get, slice_index_or, eq-eqb, BlockName, equal_names, names, TermId, Term, Tree, truth, AreFit, IsTerm, Keeps, Makes, Tests, bit_at, term_at, trees_from, trees_of, IsNaming, Reading, IsSymBlock, block_at, bit-later, keeps_trans, term-later}
 use Rattle.std.proofs.lemmas.Bool.Decides.{nat_tests}
-use Rattle.byte_block.specs.declared.value.BlockName.{BlockName}
 use Rattle.byte_block.specs.declared.value.BlockName.TheVariants.{Null, Given, Local}
 use Rattle.byte_block.specs.declared.block.MemoryBlock.{MemoryBlock}
-use Rattle.memory_access.specs.Blocks.{equal_names, names}
-use Rattle.bv_terms.specs.declared.term.TermId.{TermId}
-use Rattle.bv_terms.specs.declared.term.Term.{Term}
 use Rattle.bv_terms.specs.declared.term.Term.TheVariants as term
 use Rattle.bv_terms.specs.Tree as tree
-use Rattle.bv_terms.specs.Tree.{Tree, truth, value_of}
-use Rattle.bv_terms.specs.Trees.{AreFit, IsTerm, Keeps, Makes, Tests, bit_at, term_at, trees_from, trees_of}
+use Rattle.bv_terms.specs.Tree.{value_of}
 use Rattle.bv_terms.proofs.Stages.{tree-stored}
 use Rattle.mem_terms.specs.declared.blocks.SymBlock.{SymBlock}
-use Rattle.mem_terms.specs.Values.{IsNaming, Reading}
-use Rattle.mem_terms.specs.Memory.{IsSymBlock, block_at}
-use Rattle.mem_terms.proofs.Later.{bit-later, keeps_trans, term-later}
 use Rattle.byte_terms.proofs.Bools.{and-left, and-right, both_ways}
 
 -- ---- names

@@ -1,25 +1,5 @@
 -- Pointers as bytes, and bytes as pointers.
-use Rattle.std.proofs.Common.{ℕ, zero, suc, ◌≡◌, ◌<◌, ◌≤◌, ◌+◌, Bool, true, false, cond, not, ◌&&◌, ◌||◌, nat_eq, List, [], ◌∷◌, ◌++◌, length, take, drop, replicate, get_or, Some, refl, ap, sym, ◌∙◌, inl, inr, arith, eqb-true}
-use Rattle.std.specs.Prelude.{slice_get}
-use Rattle.std.proofs.lemmas.Bool.{cases_Bool, ne_eqb}
-use Rattle.std.proofs.lemmas.List.{at_drop_all, at_drop_more}
-use Rattle.byte_block.specs.declared.value.BlockName.{BlockName}
-use Rattle.byte_block.specs.declared.value.Ptr.{Ptr}
-use Rattle.byte_block.specs.declared.value.Byte.{Byte}
-use Rattle.byte_block.specs.declared.value.Byte.TheVariants.{Part, Poison}
-use Rattle.memory_access.specs.declared.access_types.Access.TheVariants.{Pointer}
-use Rattle.memory_access.specs.Blocks.{equal_pointers}
-use Rattle.memory_access.specs.Bytes.{are_parts, is_part_of, parts_from, pointer_or_poison, value_bytes}
-use Rattle.memory_access.proofs.ByteLists.{parts_from-get}
-use Rattle.bv_terms.specs.declared.term.TermId.{TermId}
-use Rattle.bv_terms.specs.declared.term.Term.{Term}
-use Rattle.bv_terms.specs.Trees.{IsTerm, Keeps, Makes, Tests, bit_at, term_at}
-use Rattle.mem_terms.specs.declared.bytes.SymByte.{SymByte}
-use Rattle.mem_terms.specs.declared.values.SymValue.{SymValue}
-use Rattle.mem_terms.specs.Values.{IsNaming, IsSymValue, Reading, value_at, value_of}
-use Rattle.mem_terms.specs.Memory.{AreSymBytes, IsSymByte, byte_at, byte_of, places_at}
-use Rattle.mem_terms.proofs.Eaches.{each-at, map-push}
-use Rattle.mem_terms.proofs.Later.{bit-later, keeps_trans, places-later, term-later}
+use Rattle.byte_terms.proofs.Common.{ℕ, zero, suc, ◌≡◌, ◌<◌, ◌≤◌, ◌+◌, Bool, true, false, cond, not, ◌&&◌, ◌||◌, nat_eq, List, [], ◌∷◌, ◌++◌, length, take, drop, replicate, get_or, Some, refl, ap, sym, ◌∙◌, inl, inr, arith, eqb-true, slice_get, cases_Bool, ne_eqb, at_drop_all, at_drop_more, BlockName, Ptr, Byte, Part, Poison, Pointer, equal_pointers, are_parts, is_part_of, parts_from, pointer_or_poison, value_bytes, parts_from-get, TermId, Term, IsTerm, Keeps, Makes, Tests, bit_at, term_at, SymByte, SymValue, IsNaming, IsSymValue, Reading, value_at, value_of, AreSymBytes, IsSymByte, byte_at, byte_of, places_at, each-at, map-push, bit-later, keeps_trans, places-later, term-later}
 use Rattle.byte_terms.proofs.Naming.{equal_numbers}
 use Rattle.byte_terms.proofs.Digits.{front_all, front_more, kind_isn't}
 use Rattle.byte_terms.proofs.Bools.{and-thrice, and-yes}

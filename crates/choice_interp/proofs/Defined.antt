@@ -1,10 +1,7 @@
 -- Where an operation is defined and gives no poison.
-use Rattle.std.proofs.Common.{◌≡◌, ◌≢◌, ℕ, zero, suc, ◌-◌, ◌%◌, ◌^◌, ◌<◌, Bool, true, false, ◌&&◌, ◌||◌, nat_le, inl, inr, refl, sym, ◌∙◌, eq-eqb, arith}
-use Rattle.std.proofs.lemmas.Bool.{cases_lt, le-leb}
-use Rattle.std.proofs.Math.Nat.{mod-mod, mod-eq_of_lt, zero-mod}
+use Rattle.choice_interp.proofs.Common.{◌≡◌, ◌≢◌, ℕ, zero, suc, ◌-◌, ◌%◌, ◌^◌, ◌<◌, Bool, true, false, ◌&&◌, ◌||◌, nat_le, inl, inr, refl, sym, ◌∙◌, eq-eqb, arith, cases_lt, le-leb, mod-mod, mod-eq_of_lt, zero-mod, Num}
 use Rattle.ir_tree.specs.declared.tree.Op.{Op}
 use Rattle.ir_tree.specs.declared.tree.Op.TheVariants.{Add, Sub, Mul, UnsignedDiv, UnsignedRem, SignedDiv, SignedRem, ShiftLeft, LogicalShiftRight, ArithmeticShiftRight, And, Or, Xor}
-use Rattle.byte_block.specs.declared.value.Value.TheVariants.{Num}
 use Rattle.points.specs.Table.{is_zero_or_poison, is_minus_1, is_least_or_poison, has_no_quotient, is_undefined}
 
 -- numbers that are cut to the width are as defined as before

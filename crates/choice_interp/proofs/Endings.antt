@@ -1,22 +1,11 @@
 -- Two endings with one memory, and an ending once local blocks are freed.
-use Rattle.std.proofs.Common.{◌≡◌, List, Bool, true, false, ◌&&◌, refl, sym, ap, ◌∙◌, eq-eqb, ℕ, Option}
-use Rattle.std.specs.Prelude.{All}
-use Rattle.std.specs.List.{filter}
-use Rattle.byte_block.specs.declared.value.Value.{Value}
+use Rattle.choice_interp.proofs.Common.{◌≡◌, List, Bool, true, false, ◌&&◌, refl, sym, ap, ◌∙◌, eq-eqb, ℕ, Option, All, filter, Value, Null, Given, Local, MemoryBlock, equal_names, block_bytes, Machine, Run, is_given, Ending, IsGiven, left_by}
 use Rattle.byte_block.specs.declared.value.BlockName.{BlockName}
-use Rattle.byte_block.specs.declared.value.BlockName.TheVariants.{Null, Given, Local}
 use Rattle.byte_block.specs.declared.value.Byte.{Byte}
 use Rattle.byte_block.specs.declared.value.Byte.TheVariants as byte
-use Rattle.byte_block.specs.declared.block.MemoryBlock.{MemoryBlock}
-use Rattle.memory_access.specs.Blocks.{equal_names, block_bytes}
 use Rattle.points.specs.Refines.{same_pointer, byte_allows, block_allows, blocks_allow, returned_allows, is_refined}
 use Rattle.points.proofs.Allowed.{pairs_pass-same}
-use Rattle.points.specs.declared.machine.Machine.{Machine}
-use Rattle.points.specs.Run.{Run, is_given}
-use Rattle.choice_interp.specs.declared.ending.Ending.{Ending}
 use Rattle.choice_interp.specs.declared.ending.Ending.TheVariants.{Return}
-use Rattle.choice_interp.specs.Keeping.{IsGiven}
-use Rattle.choice_interp.specs.Left.{left_by}
 use Rattle.choice_interp.proofs.Items.{all_kept}
 use Rattle.choice_interp.specs.Ran.{outcome_of, run_with}
 

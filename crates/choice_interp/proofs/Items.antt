@@ -1,7 +1,5 @@
 -- What all items of a list have, one of them has.
-use Rattle.std.proofs.Common.{◌≡◌, ℕ, ◌<◌, List, [], ◌∷◌, length, get_or, Bool, true, refl, sym, subst}
-use Rattle.std.specs.Prelude.{All}
-use Rattle.std.specs.List.{filter}
+use Rattle.choice_interp.proofs.Common.{◌≡◌, ℕ, ◌<◌, List, [], ◌∷◌, length, get_or, Bool, true, refl, sym, subst, All, filter}
 use Rattle.std.proofs.lemmas.List.Elements.{All-get_or, All-head, All-tail, All-same}
 
 pub item_in : {A : Type 0} (P : A → Type 0) (xs : List A) (i : ℕ) (x : A) → i < length xs → x ≡ get_or xs i x → All P xs → P x

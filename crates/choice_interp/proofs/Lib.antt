@@ -1,3 +1,4 @@
+pub mod Common
 mod Defined
 pub mod Endings
 pub mod Items

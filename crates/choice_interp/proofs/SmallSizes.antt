@@ -1,15 +1,12 @@
 -- Sizes within the limits fit 64 bits, and the indices of a getelementptr one after another.
-use Rattle.std.proofs.Common.{◌≡◌, ℕ, ◌+◌, ◌%◌, ◌^◌, ◌<◌, ◌≤◌, List, [], ◌∷◌, length, drop, get_or, refl, arith, nat_le, if◌then◌else◌, Bool, true, false}
+use Rattle.choice_interp.proofs.Common.{◌≡◌, ℕ, ◌+◌, ◌%◌, ◌^◌, ◌<◌, ◌≤◌, List, [], ◌∷◌, length, drop, get_or, refl, arith, nat_le, if◌then◌else◌, Bool, true, false, mod-eq_of_lt, Value, index_value, index_values}
 use Rattle.std.proofs.lemmas.List.{drop_more}
-use Rattle.std.proofs.Math.Nat.{mod-eq_of_lt}
 use Rattle.ir_tree.specs.declared.tree.IrType.{IrType}
 use Rattle.ir_tree.specs.declared.tree.MemoryType.{MemoryType}
 use Rattle.ir_tree.specs.declared.tree.GepIndex.{GepIndex}
 use Rattle.ir_tree.specs.Types.{padded, store_size, nested_size, indexed_size}
 use Rattle.ir_tree.specs.Limits.{HasSmallArrays}
 use Rattle.ir_tree.proofs.Sizes.{small_from}
-use Rattle.byte_block.specs.declared.value.Value.{Value}
-use Rattle.points.specs.Run.{index_value, index_values}
 
 padded_small : (n : ℕ) → padded n ≤ 8
 padded_small n = go (nat_le n 1) (nat_le n 2) (nat_le n 4)

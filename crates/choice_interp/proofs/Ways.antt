@@ -1,21 +1,12 @@
 -- A run, one block at a time.
-use Rattle.std.proofs.Common.{◌≡◌, inl, inr, ℕ, zero, suc, ◌+◌, ◌<◌, ◌≤◌, List, [], ◌∷◌, length, map, get_or, Option, Some, None, refl, sym, ap, subst, ◌∙◌, arith}
-use Rattle.std.specs.Prelude.{slice_get}
+use Rattle.choice_interp.proofs.Common.{◌≡◌, inl, inr, ℕ, zero, suc, ◌+◌, ◌<◌, ◌≤◌, List, [], ◌∷◌, length, map, get_or, Option, Some, None, refl, sym, ap, subst, ◌∙◌, arith, slice_get, lt-ltb, le-ltb, Phi, Block, Value, Machine, Run, Exit, To, Over, ended, phi_value, with_phis, assigned, exit_of, Go, jump, go_on, forward, run_turns, Ending, assign_all, left_by, exit_with, IsJump}
 use Rattle.std.proofs.lemmas.Option.{slice_get_past, slice_get_read}
-use Rattle.std.proofs.lemmas.Bool.{lt-ltb, le-ltb}
-use Rattle.ir_tree.specs.declared.tree.Phi.{Phi}
-use Rattle.ir_tree.specs.declared.tree.Block.{Block}
 use Rattle.ir_tree.specs.declared.tree.Function.{Function}
 use Rattle.ir_tree.specs.Flow.{block_of}
-use Rattle.byte_block.specs.declared.value.Value.{Value}
-use Rattle.points.specs.declared.machine.Machine.{Machine}
 use Rattle.points.specs.declared.outcome.Outcome.TheVariants as outcome
-use Rattle.points.specs.Run.{Run, Exit, To, Over, ended, phi_value, with_phis, assigned, exit_of, Go, jump, go_on, forward, run_turns}
-use Rattle.choice_interp.specs.declared.ending.Ending.{Ending}
 use Rattle.choice_interp.specs.declared.ending.Ending.TheVariants as ending
 use Rattle.choice_interp.specs.declared.flow.Left.{Left}
 use Rattle.choice_interp.specs.declared.flow.Left.TheVariants as left
-use Rattle.choice_interp.specs.Left.{assign_all, left_by, exit_with, IsJump}
 
 -- the values of all phis, read before, and given one after another
 pub all_phis : (before : Machine) (phis : List Phi) (m : Machine) → assign_all phis (map (phi_value before) phis) m ≡ with_phis before phis m

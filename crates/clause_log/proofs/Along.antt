@@ -1,13 +1,7 @@
 -- What is marked along a chain.
-use Rattle.std.proofs.Common.{option_and_then, ◌-◌, take, ℕ, suc, ◌≡◌, ◌<◌, List, [], ◌∷◌, Option, Some, get_or, drop, length, arith, sym, ap, ◌∙◌}
-use Rattle.std.proofs.Math.Seq.{take-length}
-use Rattle.clause_lits.specs.declared.lit.Lit.{Lit}
-use Rattle.clause_log.specs.declared.marks.Marks.{Marks}
+use Rattle.clause_log.proofs.Common.{option_and_then, ◌-◌, take, ℕ, suc, ◌≡◌, ◌<◌, List, [], ◌∷◌, Option, Some, get_or, drop, length, arith, sym, ap, ◌∙◌, take-length, Lit, Marks, Places, clause_numbered, resolved_along, chain_resolvent, AreMarks, AreJoined}
 use Rattle.clause_log.specs.declared.marks.Clashes.{Clashes}
 use Rattle.clause_log.specs.declared.marks.Clashes.TheVariants.{Zero, One, Several}
-use Rattle.clause_log.specs.declared.places.Places.{Places}
-use Rattle.clause_log.specs.Chain.{clause_numbered, resolved_along, chain_resolvent}
-use Rattle.clause_log.specs.Marking.{AreMarks, AreJoined}
 
 pub chain-begun : (all : List (List Lit)) (chain : List ℕ) (told : Option (List Lit)) (d : List Lit) → 0 < length chain
     → told ≡ clause_numbered all (get_or chain 0 0) → told ≡ Some d

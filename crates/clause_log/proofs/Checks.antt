@@ -1,12 +1,6 @@
 -- What the verdicts on the steps of a log show.
-use Rattle.std.proofs.Common.{◌-◌, ℕ, zero, suc, ◌≡◌, ◌<◌, ◌+◌, ◌↔◌, List, [], ◌∷◌, Option, Some, None, Result, IfOk, Bool, IsTrue, length, slice_get, get_or, arith, sym, ap, subst, refl, ◌∙◌}
-use Rattle.std.specs.List.{AllZip, range_with_len}
+use Rattle.clause_log.proofs.Common.{◌-◌, ℕ, zero, suc, ◌≡◌, ◌<◌, ◌+◌, ◌↔◌, List, [], ◌∷◌, Option, Some, None, Result, IfOk, Bool, IsTrue, length, slice_get, get_or, arith, sym, ap, subst, refl, ◌∙◌, AllZip, range_with_len, below_more, Lit, Step, chain_resolvent, standing_before, IsSoundAt, EndsEmpty, Refutes}
 use Rattle.support.specs.declared.no_memory.NoMemory.{NoMemory}
-use Rattle.std.proofs.Common.{below_more}
-use Rattle.clause_lits.specs.declared.lit.Lit.{Lit}
-use Rattle.clause_log.specs.declared.step.Step.{Step}
-use Rattle.clause_log.specs.Chain.{chain_resolvent}
-use Rattle.clause_log.specs.Refutation.{standing_before, IsSoundAt, EndsEmpty, Refutes}
 use Rattle.clause_log.specs.Verdicts.{AreVerdicts}
 
 -- the steps below the next index are sound

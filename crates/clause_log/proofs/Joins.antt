@@ -1,19 +1,8 @@
 -- The marks after a clause is joined to them are the literals of the join, and they are counted.
-use Rattle.std.proofs.Common.{ℕ, zero, suc, ◌≡◌, ◌<◌, ◌≤◌, ◌+◌, inl, inr, Bool, true, false, not, cond, ltb, List, [], ◌∷◌, Option, Some, None, length, get_or, set, drop, option_and_then, arith, sym, ap, subst, refl, ◌∙◌}
-use Rattle.std.proofs.lemmas.Bool.{cases_Bool, cases_eq, ltb-true, ltb-false, false≢true, true≢false}
+use Rattle.clause_log.proofs.Common.{ℕ, zero, suc, ◌≡◌, ◌<◌, ◌≤◌, ◌+◌, inl, inr, Bool, true, false, not, cond, ltb, List, [], ◌∷◌, Option, Some, None, length, get_or, set, drop, option_and_then, arith, sym, ap, subst, refl, ◌∙◌, cases_Bool, cases_eq, ltb-true, ltb-false, false≢true, true≢false, All, Lit, RisesFrom, IsClause, opposite_of, Mark, Marks, Places, Has, place_of, AreSigns, AreMarks, unmarked, sign_at, sign_of, joined, joined_at, clashes, same_sign}
 use Rattle.std.proofs.Math.ListN.{drop_of_length-le}
-use Rattle.std.specs.List.{All}
 use Rattle.std.specs.Option.{option_eq}
 use mathlib.Core.Bool.{beq}
-use Rattle.clause_lits.specs.declared.lit.Lit.{Lit}
-use Rattle.clause_lits.specs.Meaning.{RisesFrom, IsClause, opposite_of}
-use Rattle.clause_log.specs.declared.mark.Mark.{Mark}
-use Rattle.clause_log.specs.declared.marks.Marks.{Marks}
-use Rattle.clause_log.specs.declared.places.Places.{Places}
-use Rattle.clause_log.specs.Members.{Has}
-use Rattle.clause_log.specs.Placing.{place_of}
-use Rattle.clause_log.specs.Marking.{AreSigns, AreMarks, unmarked, sign_at, sign_of}
-use Rattle.clause_log.specs.Resolution.{joined, joined_at, clashes, same_sign}
 use Rattle.clause_log.proofs.Joining.{joined-nil, rises-joined}
 use Rattle.clause_log.proofs.Membership.{like, rises-has, same_members}
 use Rattle.clause_log.proofs.Walking.{met, clash, changed, after, walked, AllMarked, IsWalk, literal_at, walk-split, walk-more, changed-same, changed-other}

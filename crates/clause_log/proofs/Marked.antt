@@ -1,11 +1,5 @@
 -- What marks show of a clause that is joined to them.
-use Rattle.std.proofs.Common.{ℕ, ◌≡◌, ◌<◌, ◌⊎◌, inl, inr, Bool, true, false, not, cond, List, [], ◌∷◌, Option, Some, None, arith, sym, ap, subst, refl, ◌∙◌}
-use Rattle.std.proofs.lemmas.Bool.{cases_Bool, cases_eq, false≢true, true≢false}
-use Rattle.clause_lits.specs.declared.lit.Lit.{Lit}
-use Rattle.clause_lits.specs.Meaning.{RisesFrom, IsClause, opposite_of}
-use Rattle.clause_log.specs.Members.{Has}
-use Rattle.clause_log.specs.Resolution.{joined, clashes}
-use Rattle.clause_log.specs.Marking.{AreSigns}
+use Rattle.clause_log.proofs.Common.{ℕ, ◌≡◌, ◌<◌, ◌⊎◌, inl, inr, Bool, true, false, not, cond, List, [], ◌∷◌, Option, Some, None, arith, sym, ap, subst, refl, ◌∙◌, cases_Bool, cases_eq, false≢true, true≢false, Lit, RisesFrom, IsClause, opposite_of, Has, joined, clashes, AreSigns}
 use Rattle.clause_log.proofs.Membership.{same_lit, opposite-opposite, rises-has, from_joined, left_joined, right_joined, gone_joined, none_clash, one_clash, zero_clash, only_clash}
 use Rattle.clause_log.proofs.Walking.{alike, met, clash, changed, walked, clashing, changed-same, changed-other}
 

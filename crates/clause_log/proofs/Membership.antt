@@ -1,10 +1,5 @@
 -- Which literals the join of two clauses has, and where exactly one variable clashes.
-use Rattle.std.proofs.Common.{ℕ, ◌≡◌, ◌<◌, ◌+◌, ◌⊎◌, inl, inr, Bool, true, false, not, cond, List, [], ◌∷◌, ltb, arith, sym, ap, refl, ◌∙◌}
-use Rattle.std.proofs.lemmas.Bool.{ltb-true, ltb-false, cases_Bool, false≢true, true≢false}
-use Rattle.clause_lits.specs.declared.lit.Lit.{Lit}
-use Rattle.clause_lits.specs.Meaning.{RisesFrom, opposite_of}
-use Rattle.clause_log.specs.Members.{Has}
-use Rattle.clause_log.specs.Resolution.{joined, joined_at, clashes, clashes_at, same_sign}
+use Rattle.clause_log.proofs.Common.{ℕ, ◌≡◌, ◌<◌, ◌+◌, ◌⊎◌, inl, inr, Bool, true, false, not, cond, List, [], ◌∷◌, ltb, arith, sym, ap, refl, ◌∙◌, ltb-true, ltb-false, cases_Bool, false≢true, true≢false, Lit, RisesFrom, opposite_of, Has, joined, joined_at, clashes, clashes_at, same_sign}
 
 pub same_lit : (a b : Lit) → a.variable ≡ b.variable → a.positive ≡ b.positive → a ≡ b
 same_lit a b v s =

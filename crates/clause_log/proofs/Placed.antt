@@ -1,20 +1,9 @@
 -- Where marks are, and what one change of them changes.
-use Rattle.std.proofs.Common.{ℕ, zero, suc, ◌≡◌, ◌<◌, ◌≤◌, ◌+◌, inl, inr, Bool, eqb, ltb, List, [], ◌∷◌, Option, Some, None, Result, Ok, Err, length, get_or, set, option_and_then, arith, sym, ap, subst, refl, ◌∙◌}
-use Rattle.std.specs.List.{All, count_by}
-use Rattle.std.specs.List.Sorted.{IsStrictlyIncreasing, IsBinarySearchResult}
-use Rattle.std.specs.Ordering.{nat_cmp}
+use Rattle.clause_log.proofs.Common.{ℕ, zero, suc, ◌≡◌, ◌<◌, ◌≤◌, ◌+◌, inl, inr, Bool, eqb, ltb, List, [], ◌∷◌, Option, Some, None, Result, Ok, Err, length, get_or, set, option_and_then, arith, sym, ap, subst, refl, ◌∙◌, All, count_by, IsStrictlyIncreasing, IsBinarySearchResult, nat_cmp, cases_Bool, cases_eq, eq-eqb, ne_eqb, eqb-true, ltb-true, ltb-false, get_or-set_same, get_or-set_other, sorted_from_strictly_increasing, below_from_sorted, Mark, Marks, Places, next_index, index_of, place_of, unmarked, sign_in, sign_at, sign_of}
 use Rattle.std.specs.Result.{MatchResult, result_ok}
-use Rattle.std.proofs.lemmas.Bool.{cases_Bool, cases_eq, eq-eqb, ne_eqb, eqb-true, ltb-true, ltb-false}
-use Rattle.std.proofs.lemmas.List.{get_or-set_same, get_or-set_other}
 use Rattle.std.proofs.lemmas.List.Elements.{All-head, All-tail}
 use Rattle.std.proofs.lemmas.List.Sorted.{searched}
-use Rattle.std.proofs.lemmas.Map.Keys.{sorted_from_strictly_increasing, below_from_sorted}
-use Rattle.clause_log.specs.declared.mark.Mark.{Mark}
-use Rattle.clause_log.specs.declared.marks.Marks.{Marks}
-use Rattle.clause_log.specs.declared.places.Places.{Places}
 use Rattle.clause_log.specs.declared.places.Places.TheVariants.{Direct, Listed}
-use Rattle.clause_log.specs.Placing.{next_index, index_of, place_of}
-use Rattle.clause_log.specs.Marking.{unmarked, sign_in, sign_at, sign_of}
 use Rattle.clause_log.proofs.Walking.{changed, changed-same, changed-other}
 
 -- ---- the index of a number

@@ -1,10 +1,5 @@
 -- The computed resolvent is the resolvent.
-use Rattle.std.proofs.Common.{◌≡◌, ◌⊎◌, ◌↔◌, inl, inr, List, Option, Some, None, eqb, arith, sym, ap, subst, ◌∙◌}
-use Rattle.std.proofs.lemmas.Bool.{cases_Bool, eqb-true}
-use Rattle.clause_lits.specs.declared.lit.Lit.{Lit}
-use Rattle.clause_lits.specs.Meaning.{IsClause, opposite_of}
-use Rattle.clause_log.specs.Members.{Has}
-use Rattle.clause_log.specs.Resolution.{joined, clashes, resolvent, Resolves, IsResolventOf}
+use Rattle.clause_log.proofs.Common.{◌≡◌, ◌⊎◌, ◌↔◌, inl, inr, List, Option, Some, None, eqb, arith, sym, ap, subst, ◌∙◌, cases_Bool, eqb-true, Lit, IsClause, opposite_of, Has, joined, clashes, resolvent, Resolves, IsResolventOf}
 use Rattle.clause_log.proofs.Joining.{rises-joined, resolvent-one}
 use Rattle.clause_log.proofs.Membership.{opposite-opposite, from_joined, left_joined, right_joined, gone_joined, one_clash, only_clash, some_clash, same_members}
 

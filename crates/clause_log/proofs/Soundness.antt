@@ -1,14 +1,6 @@
 -- A resolvent is true wherever both clauses are, so what a log refutes has no model.
-use Rattle.std.proofs.Common.{option_and_then, ℕ, zero, suc, ◌≡◌, ◌<◌, ◌+◌, ◌-◌, ◌++◌, ◌⊎◌, inl, inr, Bool, true, false, not, cond, List, [], ◌∷◌, Option, Some, None, length, slice_get, take, map, ltb, eqb, arith, sym, subst, refl, ◌∙◌}
-use Rattle.std.proofs.lemmas.Bool.{ltb-false, cases_Bool, eqb-true, false≢true, true≢false, and_parts, and_from, or_cases, or_left, or_right}
+use Rattle.clause_log.proofs.Common.{option_and_then, ℕ, zero, suc, ◌≡◌, ◌<◌, ◌+◌, ◌-◌, ◌++◌, ◌⊎◌, inl, inr, Bool, true, false, not, cond, List, [], ◌∷◌, Option, Some, None, length, slice_get, take, map, ltb, eqb, arith, sym, subst, refl, ◌∙◌, ltb-false, cases_Bool, eqb-true, false≢true, true≢false, and_parts, and_from, or_cases, or_left, or_right, take-length, Lit, lit_true, clause_true, clauses_true, Step, joined, joined_at, clashes, clashes_at, resolvent, same_sign, clause_numbered, resolved_along, chain_resolvent, standing_before, IsSoundAt, EndsEmpty, Refutes}
 use Rattle.std.proofs.lemmas.Option.{slice_get_within}
-use Rattle.std.proofs.Math.Seq.{take-length}
-use Rattle.clause_lits.specs.declared.lit.Lit.{Lit}
-use Rattle.clause_lits.specs.Meaning.{lit_true, clause_true, clauses_true}
-use Rattle.clause_log.specs.declared.step.Step.{Step}
-use Rattle.clause_log.specs.Resolution.{joined, joined_at, clashes, clashes_at, resolvent, same_sign}
-use Rattle.clause_log.specs.Chain.{clause_numbered, resolved_along, chain_resolvent}
-use Rattle.clause_log.specs.Refutation.{standing_before, IsSoundAt, EndsEmpty, Refutes}
 
 -- two literals of one variable and one sign have one value
 lit_true-same : (v : ℕ → Bool) (x y : Lit) → x.variable ≡ y.variable → same_sign x y ≡ true → lit_true v x ≡ lit_true v y

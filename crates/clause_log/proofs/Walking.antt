@@ -1,8 +1,5 @@
 -- A clause is joined to marks literal by literal. Marks are given by the sign of each variable.
-use Rattle.std.proofs.Common.{ℕ, ◌≡◌, ◌<◌, ◌+◌, Bool, true, false, cond, eqb, List, [], ◌∷◌, Option, Some, None, length, get_or, drop, arith, subst, refl, ap, ◌∙◌}
-use Rattle.std.proofs.lemmas.Bool.{eq-eqb, ne_eqb}
-use Rattle.std.proofs.lemmas.List.{drop_more}
-use Rattle.clause_lits.specs.declared.lit.Lit.{Lit}
+use Rattle.clause_log.proofs.Common.{ℕ, ◌≡◌, ◌<◌, ◌+◌, Bool, true, false, cond, eqb, List, [], ◌∷◌, Option, Some, None, length, get_or, drop, arith, subst, refl, ap, ◌∙◌, eq-eqb, ne_eqb, drop_more, Lit}
 
 abbrev pub alike : Bool → Bool → Bool
 alike p q = cond p q (cond q false true)

@@ -1,14 +1,5 @@
 -- What a conflict gives: a clause that no earlier one is part of, and that is unit further down.
-use Rattle.std.proofs.Common.{append_assoc, ℕ, zero, suc, ◌≡◌, ◌-◌, ◌⊎◌, ◌++◌, inl, inr, Bool, true, false, not, List, [], ◌∷◌, Some, slice_get, eqb, sym, ap, subst, refl, ◌∙◌}
-use Rattle.std.proofs.lemmas.Bool.{cases_Bool, false≢true}
-use Rattle.clause_log.specs.Members.{Has}
-use Rattle.clause_lits.specs.declared.lit.Lit.{Lit}
-use Rattle.clause_lits.specs.Meaning.{IsClause, opposite_of}
-use Rattle.clause_log.specs.Resolution.{joined, clashes}
-use Rattle.clause_log.specs.Chain.{clause_numbered}
-use Rattle.clause_log.proofs.Membership.{one_clash, gone_joined, from_joined, right_joined, opposite-opposite}
-use Rattle.clause_search.specs.declared.trail.Entry.{Entry}
-use Rattle.clause_search.specs.Trail.{Stands, IsFalse, IsUnassigned, AllFalse, FalseBut, IsSettled, IsGrounded, IsTrail, IsConsistent, IsUnready}
+use Rattle.clause_search.proofs.Common.{append_assoc, ℕ, zero, suc, ◌≡◌, ◌-◌, ◌⊎◌, ◌++◌, inl, inr, Bool, true, false, not, List, [], ◌∷◌, Some, slice_get, eqb, sym, ap, subst, refl, ◌∙◌, cases_Bool, false≢true, Has, Lit, IsClause, opposite_of, joined, clashes, clause_numbered, one_clash, gone_joined, from_joined, right_joined, opposite-opposite, Entry, Stands, IsFalse, IsUnassigned, AllFalse, FalseBut, IsSettled, IsGrounded, IsTrail, IsConsistent, IsUnready}
 use Rattle.clause_search.proofs.Leastness.{stands-split, stands-left}
 
 turned : (l m : Lit) → opposite_of l ≡ m → l ≡ opposite_of m

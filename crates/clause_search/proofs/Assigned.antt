@@ -1,12 +1,5 @@
 -- Which variables are assigned, and which decision is the last.
-use Rattle.std.proofs.Common.{ℕ, ◌≡◌, ◌<◌, ◌≤◌, ◌+◌, ◌-◌, inl, inr, Bool, true, false, not, List, [], Option, Some, None, get_or, length, arith, sym, ap, subst, refl, ◌∙◌}
-use Rattle.std.proofs.lemmas.Bool.{cases_eq, cases_Bool}
-use Rattle.std.proofs.lemmas.Option.{slice_get-get_or, get_or_from_slice_get, slice_get_within}
-use Rattle.clause_lits.specs.declared.lit.Lit.{Lit}
-use Rattle.clause_lits.specs.Meaning.{lit_true, opposite_of, values_of}
-use Rattle.clause_search.specs.declared.trail.Entry.{Entry}
-use Rattle.clause_search.specs.Trail.{Stands, IsAssigned, IsConsistent, IsTrail}
-use Rattle.clause_search.specs.Assigning.{AreAssigned, AreImplied, IsLastPlace, IsLastBelow, TellsAll}
+use Rattle.clause_search.proofs.Common.{ℕ, ◌≡◌, ◌<◌, ◌≤◌, ◌+◌, ◌-◌, inl, inr, Bool, true, false, not, List, [], Option, Some, None, get_or, length, arith, sym, ap, subst, refl, ◌∙◌, cases_eq, cases_Bool, slice_get-get_or, get_or_from_slice_get, slice_get_within, Lit, lit_true, opposite_of, values_of, Entry, Stands, IsAssigned, IsConsistent, IsTrail, AreAssigned, AreImplied, IsLastPlace, IsLastBelow, TellsAll}
 use Rattle.clause_search.proofs.Leastness.{AllTrue}
 use Rattle.clause_search.proofs.Counting.{in_range}
 

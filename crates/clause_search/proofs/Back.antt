@@ -1,19 +1,5 @@
 -- One step back from a conflict.
-use Rattle.std.proofs.Common.{ℕ, ◌≡◌, ◌<◌, ◌+◌, ◌-◌, ◌++◌, inl, inr, List, [], ◌∷◌, Option, Some, None, take, get_or, slice_get, length, option_and_then, arith, sym, ap, subst, refl, ◌∙◌}
-use Rattle.std.proofs.lemmas.List.{take_more, take_all}
-use Rattle.std.proofs.lemmas.Option.{get_or_from_slice_get, slice_get_within}
-use Rattle.std.proofs.lemmas.Bool.{cases_eq}
-use Rattle.clause_log.specs.Members.{Has}
-use Rattle.clause_lits.specs.declared.lit.Lit.{Lit}
-use Rattle.clause_lits.specs.Meaning.{IsClause, opposite_of}
-use Rattle.clause_log.specs.Resolution.{joined, resolvent}
-use Rattle.clause_log.specs.Chain.{clause_numbered, resolved_along, chain_resolvent}
-use Rattle.clause_log.proofs.Joining.{resolvent-one}
-use Rattle.clause_search.specs.declared.trail.Entry.{Entry}
-use Rattle.clause_search.specs.declared.learning.Learned.{Learned}
-use Rattle.clause_search.specs.Trail.{IsConsistent, AllFalse, FalseBut, IsSettled, IsImplied, IsGrounded, IsTrail}
-use Rattle.clause_search.specs.Findings.{IsFalseAt}
-use Rattle.clause_search.specs.Learning.{IsDecisionAt, IsLastDecision, IsLearned, IsBack}
+use Rattle.clause_search.proofs.Common.{ℕ, ◌≡◌, ◌<◌, ◌+◌, ◌-◌, ◌++◌, inl, inr, List, [], ◌∷◌, Option, Some, None, take, get_or, slice_get, length, option_and_then, arith, sym, ap, subst, refl, ◌∙◌, take_more, take_all, get_or_from_slice_get, slice_get_within, cases_eq, Has, Lit, IsClause, opposite_of, joined, resolvent, clause_numbered, resolved_along, chain_resolvent, resolvent-one, Entry, Learned, IsConsistent, AllFalse, FalseBut, IsSettled, IsImplied, IsGrounded, IsTrail, IsFalseAt, IsDecisionAt, IsLastDecision, IsLearned, IsBack}
 use Rattle.clause_search.proofs.Analysis.{consistent-trail, skipped, resolves, resolvent-false, resolvent-above, settled-above, ends}
 use Rattle.clause_search.proofs.Findings.{among-numbered}
 use Rattle.clause_search.proofs.ByPlace.{grounded-at, trail-take, stands-take}

@@ -1,13 +1,5 @@
 -- A trail by its positions.
-use Rattle.std.proofs.Common.{append_assoc, ℕ, zero, suc, ◌≡◌, ◌<◌, ◌≤◌, ◌+◌, ◌++◌, inl, inr, List, [], ◌∷◌, Option, Some, None, IfSome, ◌⊎◌, take, drop, get_or, slice_get, length, arith, sym, ap, subst, refl, ◌∙◌}
-use Rattle.std.proofs.lemmas.List.{take_more, take-append-drop}
-use Rattle.std.proofs.lemmas.Option.{slice_get_within, get_or_from_slice_get}
-use Rattle.std.proofs.Math.Seq.{drop-cons}
-use Rattle.clause_lits.specs.declared.lit.Lit.{Lit}
-use Rattle.clause_lits.specs.Meaning.{opposite_of}
-use Rattle.clause_search.specs.declared.trail.Entry.{Entry}
-use Rattle.clause_search.specs.Assigning.{IsLastBelow}
-use Rattle.clause_search.specs.Trail.{Stands, FalseBut, IsGrounded, IsTrail, IsUnready}
+use Rattle.clause_search.proofs.Common.{append_assoc, ℕ, zero, suc, ◌≡◌, ◌<◌, ◌≤◌, ◌+◌, ◌++◌, inl, inr, List, [], ◌∷◌, Option, Some, None, IfSome, ◌⊎◌, take, drop, get_or, slice_get, length, arith, sym, ap, subst, refl, ◌∙◌, take_more, take-append-drop, slice_get_within, get_or_from_slice_get, drop-cons, Lit, opposite_of, Entry, IsLastBelow, Stands, FalseBut, IsGrounded, IsTrail, IsUnready}
 use Rattle.clause_search.proofs.Analysis.{trail-at, trail-front}
 
 pub split-at : (trail : List Entry) (i : ℕ) (d : Entry) → i < length trail → take i trail ++ get_or trail i d ∷ drop (suc i) trail ≡ trail

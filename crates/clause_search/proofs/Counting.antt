@@ -1,12 +1,6 @@
 -- A trail isn't longer than there are variables.
-use Rattle.std.proofs.Common.{ℕ, ◌≡◌, ◌<◌, ◌≤◌, ◌+◌, ◌++◌, inl, inr, true, false, List, [], ◌∷◌, eqb, length, map, arith, sym, ap, refl, ◌∙◌}
-use Rattle.std.specs.List.{list_any, IsDistinct, AllByRecursion}
-use Rattle.std.proofs.lemmas.Bool.{eqb-true, or_cases, false≢true, ne_eqb}
-use Rattle.std.proofs.lemmas.List.{length-map}
+use Rattle.clause_search.proofs.Common.{ℕ, ◌≡◌, ◌<◌, ◌≤◌, ◌+◌, ◌++◌, inl, inr, true, false, List, [], ◌∷◌, eqb, length, map, arith, sym, ap, refl, ◌∙◌, list_any, IsDistinct, AllByRecursion, eqb-true, or_cases, false≢true, ne_eqb, length-map, Lit, Entry, Stands, IsUnassigned, IsAssigned, IsTrail}
 use Rattle.std.proofs.lemmas.Map.Steps.{length-le_from_distinct_below}
-use Rattle.clause_lits.specs.declared.lit.Lit.{Lit}
-use Rattle.clause_search.specs.declared.trail.Entry.{Entry}
-use Rattle.clause_search.specs.Trail.{Stands, IsUnassigned, IsAssigned, IsTrail}
 use Rattle.clause_search.proofs.Leastness.{stands-left, stands-right}
 
 abbrev pub variables_of : List Entry → List ℕ

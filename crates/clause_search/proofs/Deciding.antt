@@ -1,13 +1,5 @@
 -- Where there is a decision, each variable up to its own is assigned.
-use Rattle.std.proofs.Common.{ℕ, ◌≡◌, ◌<◌, inl, inr, List, [], Some, None, take, slice_get, arith, sym, ap, subst, ◌∙◌}
-use Rattle.std.proofs.lemmas.Bool.{cases_eq}
-use Rattle.std.proofs.lemmas.Option.{slice_get_within, get_or_from_slice_get}
-use Rattle.clause_lits.specs.declared.lit.Lit.{Lit}
-use Rattle.clause_log.specs.Chain.{clause_numbered}
-use Rattle.clause_search.specs.declared.trail.Entry.{Entry}
-use Rattle.clause_search.specs.Trail.{Stands, IsAssigned, IsImplied, IsGrounded, IsTrail}
-use Rattle.clause_search.specs.Learning.{IsDecisionAt}
-use Rattle.clause_search.specs.Assigning.{AreAssigned}
+use Rattle.clause_search.proofs.Common.{ℕ, ◌≡◌, ◌<◌, inl, inr, List, [], Some, None, take, slice_get, arith, sym, ap, subst, ◌∙◌, cases_eq, slice_get_within, get_or_from_slice_get, Lit, clause_numbered, Entry, Stands, IsAssigned, IsImplied, IsGrounded, IsTrail, IsDecisionAt, AreAssigned}
 use Rattle.clause_search.proofs.ByPlace.{grounded-at}
 use Rattle.clause_search.proofs.Placing.{stands-at, somewhere-stands}
 

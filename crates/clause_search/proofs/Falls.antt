@@ -1,8 +1,6 @@
 -- The measure of the search: the trail read as a number of base 3, which rises at each step.
-use Rattle.std.proofs.Common.{ℕ, zero, suc, ◌≡◌, ◌<◌, ◌+◌, ◌*◌, ◌^◌, ◌++◌, cond, List, [], ◌∷◌, eqb, length, true, false, arith}
+use Rattle.clause_search.proofs.Common.{ℕ, zero, suc, ◌≡◌, ◌<◌, ◌+◌, ◌*◌, ◌^◌, ◌++◌, cond, List, [], ◌∷◌, eqb, length, true, false, arith, Entry, digit_of, code_of}
 use Rattle.std.proofs.Math.Nat.{pow-suc}
-use Rattle.clause_search.specs.declared.trail.Entry.{Entry}
-use Rattle.clause_search.specs.Ending.{digit_of, code_of}
 
 pow_above : (n : ℕ) → 0 < 3 ^ n
 pow_above zero = omega arith

@@ -1,18 +1,7 @@
 -- What looks at the clauses one after another show.
-use Rattle.std.proofs.Common.{ℕ, zero, suc, ◌≡◌, ◌<◌, ◌+◌, ◌-◌, ◌++◌, inl, inr, List, [], ◌∷◌, Some, None, false, nat_eq, eqb, ltb, slice_get, length, map, arith, ap, subst}
-use Rattle.std.proofs.lemmas.Bool.{cases_Bool, cases_eq, ne_eqb, ltb-true, ltb-false}
-use Rattle.std.proofs.Common.{length-append}
-use Rattle.std.proofs.lemmas.List.{length-map}
-use Rattle.clause_log.specs.Members.{Has}
-use Rattle.clause_lits.specs.declared.lit.Lit.{Lit}
-use Rattle.clause_log.specs.declared.step.Step.{Step}
-use Rattle.clause_log.specs.Chain.{clause_numbered}
-use Rattle.clause_search.specs.declared.trail.Entry.{Entry}
-use Rattle.clause_search.specs.Trail.{IsSettled, FalseBut, Stands}
-use Rattle.clause_search.specs.Looks.{IsOpen}
+use Rattle.clause_search.proofs.Common.{ℕ, zero, suc, ◌≡◌, ◌<◌, ◌+◌, ◌-◌, ◌++◌, inl, inr, List, [], ◌∷◌, Some, None, false, nat_eq, eqb, ltb, slice_get, length, map, arith, ap, subst, cases_Bool, cases_eq, ne_eqb, ltb-true, ltb-false, length-append, length-map, Has, Lit, Step, clause_numbered, Entry, IsSettled, FalseBut, Stands, IsOpen, AreOpen, IsFound, IsFoundBetween}
 use Rattle.clause_search.specs.declared.looking.Found.{Found}
 use Rattle.clause_search.specs.declared.looking.Found.TheVariants.{Nothing, Unit, Conflict}
-use Rattle.clause_search.specs.Findings.{AreOpen, IsFound, IsFoundBetween}
 
 pub open_start : (clauses : List (List Lit)) (trail : List Entry) (from : ℕ) → AreOpen clauses trail from from
 open_start clauses trail from n c above lt e = absurd (omega (arith, above, lt))

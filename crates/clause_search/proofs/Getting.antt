@@ -1,5 +1,5 @@
 -- Which item is at an index.
-use Rattle.std.proofs.Common.{ℕ, zero, suc, ◌≡◌, ◌<◌, ◌+◌, ◌++◌, List, [], ◌∷◌, Some, take, slice_get, length, arith, refl}
+use Rattle.clause_search.proofs.Common.{ℕ, zero, suc, ◌≡◌, ◌<◌, ◌+◌, ◌++◌, List, [], ◌∷◌, Some, take, slice_get, length, arith, refl}
 
 module _ {X : Type 0} where
   -- in a list with one more item

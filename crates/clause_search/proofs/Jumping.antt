@@ -1,12 +1,5 @@
 -- The position up to which the other literals of a clause are false.
-use Rattle.std.proofs.Common.{ℕ, ◌≡◌, ◌<◌, ◌≤◌, ◌+◌, ◌⊎◌, inl, inr, List, ◌∷◌, Some, refl, get_or, drop, take, slice_get, length, add-one, arith, sym, ap, subst, ◌∙◌}
-use Rattle.std.proofs.Math.Seq.{drop-cons}
-use Rattle.clause_log.specs.Members.{Has}
-use Rattle.clause_lits.specs.declared.lit.Lit.{Lit}
-use Rattle.clause_lits.specs.Meaning.{opposite_of}
-use Rattle.clause_search.specs.declared.trail.Entry.{Entry}
-use Rattle.clause_search.specs.Trail.{Stands, IsFalse, FalseBut}
-use Rattle.clause_search.specs.Placing.{IsPlaceOf}
+use Rattle.clause_search.proofs.Common.{ℕ, ◌≡◌, ◌<◌, ◌≤◌, ◌+◌, ◌⊎◌, inl, inr, List, ◌∷◌, Some, refl, get_or, drop, take, slice_get, length, add-one, arith, sym, ap, subst, ◌∙◌, drop-cons, Has, Lit, opposite_of, Entry, Stands, IsFalse, FalseBut, IsPlaceOf}
 use Rattle.clause_search.proofs.Placing.{stands-at, at-stands, stands-somewhere}
 use Rattle.clause_search.proofs.Walking.{stands-whole}
 

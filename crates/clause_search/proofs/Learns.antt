@@ -1,24 +1,9 @@
 -- A learned clause keeps what holds all through a search, and makes its measure fall.
-use Rattle.std.proofs.Common.{append_assoc, ℕ, suc, ◌≡◌, ◌<◌, ◌≤◌, ◌+◌, ◌-◌, ◌++◌, ◌⊎◌, inl, inr, false, List, [], ◌∷◌, Some, take, drop, get_or, slice_get, map, length, nat_eq, arith, sym, ap, subst, refl, ◌∙◌, length-append}
-use Rattle.std.proofs.lemmas.List.{length-take}
-use Rattle.std.proofs.lemmas.Option.{get_or_from_slice_get, slice_get_within}
-use Rattle.std.proofs.lemmas.Bool.{cases_eq, ne_eqb, eq-eqb}
-use Rattle.clause_log.specs.Members.{Has}
-use Rattle.clause_lits.specs.declared.lit.Lit.{Lit}
-use Rattle.clause_lits.specs.Meaning.{opposite_of}
-use Rattle.clause_log.specs.declared.step.Step.{Step}
-use Rattle.clause_log.specs.Chain.{clause_numbered}
-use Rattle.clause_log.specs.Refutation.{standing_before}
-use Rattle.clause_search.specs.declared.trail.Entry.{Entry}
-use Rattle.clause_search.specs.declared.learning.Learned.{Learned}
-use Rattle.clause_search.specs.Trail.{IsUnassigned, FalseBut, IsGrounded, IsTrail, IsUnready}
-use Rattle.clause_search.specs.Learning.{IsDecisionAt, IsLastDecision, IsLearned}
-use Rattle.clause_search.specs.Searching.{standing, AreInRange, IsNew, IsSearch}
+use Rattle.clause_search.proofs.Common.{append_assoc, ℕ, suc, ◌≡◌, ◌<◌, ◌≤◌, ◌+◌, ◌-◌, ◌++◌, ◌⊎◌, inl, inr, false, List, [], ◌∷◌, Some, take, drop, get_or, slice_get, map, length, nat_eq, arith, sym, ap, subst, refl, ◌∙◌, length-append, length-take, get_or_from_slice_get, slice_get_within, cases_eq, ne_eqb, eq-eqb, Has, Lit, opposite_of, Step, clause_numbered, standing_before, Entry, Learned, IsUnassigned, FalseBut, IsGrounded, IsTrail, IsUnready, IsDecisionAt, IsLastDecision, IsLearned, standing, AreInRange, IsNew, IsSearch, digit_of, code_of, left_of}
 use Rattle.clause_search.proofs.Analysis.{trail-push, trail-more, new_clause}
 use Rattle.clause_search.proofs.Findings.{length-standing}
 use Rattle.clause_search.proofs.ByPlace.{trail-take, stands-take, split-at}
 use Rattle.clause_search.proofs.Back.{settled-low}
-use Rattle.clause_search.specs.Ending.{digit_of, code_of, left_of}
 use Rattle.clause_search.proofs.Falls.{code-below, code-jump}
 use Rattle.clause_search.proofs.Counting.{length-trail, in_range}
 use Rattle.clause_search.proofs.Searches.{before-same, before-all}

@@ -1,12 +1,5 @@
 -- A trail that decides the least variable as 0 gives the least model.
-use Rattle.std.proofs.Common.{append_assoc, ℕ, ◌≡◌, ◌<◌, ◌⊎◌, ◌++◌, inl, inr, Bool, true, false, not, cond, List, [], ◌∷◌, sym, subst, refl, ◌∙◌}
-use Rattle.std.proofs.lemmas.Bool.{false≢true, cases_order}
-use Rattle.clause_log.specs.Members.{Has}
-use Rattle.clause_lits.specs.declared.lit.Lit.{Lit}
-use Rattle.clause_lits.specs.Meaning.{opposite_of, lit_true, clause_true}
-use Rattle.clause_log.proofs.Soundness.{Holds, holds_from}
-use Rattle.clause_search.specs.declared.trail.Entry.{Entry}
-use Rattle.clause_search.specs.Trail.{Stands, IsAssigned, FalseBut, IsDecision, IsGrounded, IsTrail}
+use Rattle.clause_search.proofs.Common.{append_assoc, ℕ, ◌≡◌, ◌<◌, ◌⊎◌, ◌++◌, inl, inr, Bool, true, false, not, cond, List, [], ◌∷◌, sym, subst, refl, ◌∙◌, false≢true, cases_order, Has, Lit, opposite_of, lit_true, clause_true, Holds, holds_from, Entry, Stands, IsAssigned, FalseBut, IsDecision, IsGrounded, IsTrail}
 
 -- every literal on the trail is true
 abbrev pub AllTrue : (ℕ → Bool) → List Entry → Type 0

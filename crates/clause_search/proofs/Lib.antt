@@ -1,3 +1,4 @@
+pub mod Common
 pub mod Analysis
 pub mod Assigned
 pub mod Back

@@ -1,10 +1,5 @@
 -- Marks, their count and their list.
-use Rattle.std.proofs.Common.{ℕ, zero, suc, ◌≡◌, ◌<◌, ◌≤◌, ◌+◌, ◌-◌, ◌++◌, ◌⊎◌, inl, inr, Bool, true, false, cond, List, [], ◌∷◌, get_or, set, replicate, length, arith, sym, ap, subst, refl, ◌∙◌}
-use Rattle.std.proofs.lemmas.Bool.{cases_eq, false≢true}
-use Rattle.std.proofs.lemmas.List.{get_or-set_same, get_or-set_other, set-get_or}
-use Rattle.clause_log.specs.Members.{Has}
-use Rattle.clause_search.specs.declared.marks.Marks.{Marks}
-use Rattle.clause_search.specs.Marking.{AreApart, IsCounted, marked_from}
+use Rattle.clause_search.proofs.Common.{ℕ, zero, suc, ◌≡◌, ◌<◌, ◌≤◌, ◌+◌, ◌-◌, ◌++◌, ◌⊎◌, inl, inr, Bool, true, false, cond, List, [], ◌∷◌, get_or, set, replicate, length, arith, sym, ap, subst, refl, ◌∙◌, cases_eq, false≢true, get_or-set_same, get_or-set_other, set-get_or, Has, Marks, AreApart, IsCounted, marked_from}
 
 abbrev bit : Bool → ℕ
 bit b = cond b 1 0

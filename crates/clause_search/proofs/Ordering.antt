@@ -1,18 +1,7 @@
 -- The literals of a learned clause, once they are sorted, are the clause.
-use Rattle.std.proofs.Common.{ℕ, zero, suc, ◌≡◌, ◌<◌, ◌+◌, inl, inr, false, List, [], ◌∷◌, ◌++◌, length, map, take, drop, get_or, slice_get, slice_index, eqb, Some, refl, ap, sym, subst, ◌∙◌, arith}
-use Rattle.std.specs.List.{IsDistinct, AllByRecursion, Contains, refill}
+use Rattle.clause_search.proofs.Common.{ℕ, zero, suc, ◌≡◌, ◌<◌, ◌+◌, inl, inr, false, List, [], ◌∷◌, ◌++◌, length, map, take, drop, get_or, slice_get, slice_index, eqb, Some, refl, ap, sym, subst, ◌∙◌, arith, IsDistinct, AllByRecursion, Contains, refill, cases_Bool, eqb-true, eqb-false, get_or-map, take_more, get_or_from_slice_get, Contains-permutation, IsPermutation-map, IsPermutation-sym, Lit, RisesFrom, opposite_of, Has, rises-has, same_members, Entry, AreApart, IsSingle, IsSpread, opposites_at}
 use Rattle.std.specs.List.Sorted.{IsNonDecreasing, IsNonDecreasingBy, IsPermutation, IsStrictlyIncreasing}
-use Rattle.std.proofs.lemmas.Bool.{cases_Bool, eqb-true, eqb-false}
-use Rattle.std.proofs.lemmas.List.{get_or-map, take_more}
-use Rattle.std.proofs.lemmas.Option.{get_or_from_slice_get}
-use Rattle.std.proofs.lemmas.List.Sorted.{Contains-permutation, IsPermutation-map, IsPermutation-sym}
 use Rattle.std.proofs.lemmas.Map.Keys.{IsDistinct-IsPermutation, IsStrictlyIncreasing-from_distinct}
-use Rattle.clause_lits.specs.declared.lit.Lit.{Lit}
-use Rattle.clause_lits.specs.Meaning.{RisesFrom, opposite_of}
-use Rattle.clause_log.specs.Members.{Has}
-use Rattle.clause_log.proofs.Membership.{rises-has, same_members}
-use Rattle.clause_search.specs.declared.trail.Entry.{Entry}
-use Rattle.clause_search.specs.Marking.{AreApart, IsSingle, IsSpread, opposites_at}
 use Rattle.clause_search.proofs.Walking.{entry-inside}
 
 -- ---- one more literal

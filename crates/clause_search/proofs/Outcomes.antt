@@ -1,13 +1,5 @@
 -- Where each clause is settled and each variable assigned, the values are the least model.
-use Rattle.std.proofs.Common.{ℕ, ◌≡◌, ◌<◌, ◌≤◌, ◌+◌, ◌-◌, ◌⊎◌, inl, inr, Bool, true, false, not, List, [], ◌∷◌, length, get_or, arith, sym, ap, subst, refl, ◌∙◌}
-use Rattle.std.proofs.lemmas.Bool.{and_from, and_parts}
-use Rattle.clause_log.specs.Members.{Has}
-use Rattle.clause_lits.specs.declared.lit.Lit.{Lit}
-use Rattle.clause_lits.specs.Meaning.{opposite_of, clause_true, clauses_true, values_of, IsModel}
-use Rattle.clause_log.proofs.Soundness.{Holds, from_holds}
-use Rattle.clause_search.specs.declared.trail.Entry.{Entry}
-use Rattle.clause_search.specs.Trail.{Stands, IsFalse, IsAssigned, AllFalse, IsSettled, IsConsistent, IsTrail}
-use Rattle.clause_search.specs.Outcome.{IsLess, IsLeast}
+use Rattle.clause_search.proofs.Common.{ℕ, ◌≡◌, ◌<◌, ◌≤◌, ◌+◌, ◌-◌, ◌⊎◌, inl, inr, Bool, true, false, not, List, [], ◌∷◌, length, get_or, arith, sym, ap, subst, refl, ◌∙◌, and_from, and_parts, Has, Lit, opposite_of, clause_true, clauses_true, values_of, IsModel, Holds, from_holds, Entry, Stands, IsFalse, IsAssigned, AllFalse, IsSettled, IsConsistent, IsTrail, IsLess, IsLeast}
 use Rattle.clause_search.proofs.Leastness.{AllTrue, unassigned}
 use Rattle.clause_search.proofs.Analysis.{settled-above, consistent-trail}
 

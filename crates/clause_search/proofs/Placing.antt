@@ -1,15 +1,5 @@
 -- What the positions and marks of a trail say.
-use Rattle.std.proofs.Common.{ℕ, zero, suc, ◌≡◌, ◌<◌, ◌≤◌, ◌+◌, ◌-◌, ◌++◌, ◌↔◌, ◌⊎◌, inl, inr, Bool, IsTrue, List, [], ◌∷◌, Option, Some, None, IsSome, take, slice_get, get_or, length, arith, sym, ap, subst, refl, ◌∙◌}
-use Rattle.std.proofs.lemmas.Bool.{cases_eq, false≢true}
-use Rattle.std.proofs.lemmas.List.{take-map, length-map}
-use Rattle.std.proofs.lemmas.Option.{slice_get_within, slice_get_read, slice_get-map, get_or_from_slice_get}
-use Rattle.clause_lits.specs.declared.lit.Lit.{Lit}
-use Rattle.clause_search.specs.declared.trail.Entry.{Entry}
-use Rattle.clause_search.specs.declared.trail.Mark.{Mark}
-use Rattle.clause_search.specs.Trail.{IsAssigned, Stands, IsUnassigned, literal_eq}
-use Rattle.clause_search.specs.Learning.{IsDecisionAt}
-use Rattle.clause_search.specs.Assigning.{IsLastBelow}
-use Rattle.clause_search.specs.Placing.{entries_of, ArePlaced, AreLast, IsPlaceOf}
+use Rattle.clause_search.proofs.Common.{ℕ, zero, suc, ◌≡◌, ◌<◌, ◌≤◌, ◌+◌, ◌-◌, ◌++◌, ◌↔◌, ◌⊎◌, inl, inr, Bool, IsTrue, List, [], ◌∷◌, Option, Some, None, IsSome, take, slice_get, get_or, length, arith, sym, ap, subst, refl, ◌∙◌, cases_eq, false≢true, take-map, length-map, slice_get_within, slice_get_read, slice_get-map, get_or_from_slice_get, Lit, Entry, Mark, IsAssigned, Stands, IsUnassigned, literal_eq, IsDecisionAt, IsLastBelow, entries_of, ArePlaced, AreLast, IsPlaceOf}
 use Rattle.clause_search.proofs.Getting.{get-early, get-late, get-last, get-kept, get-taken, get-take, length-push}
 use Rattle.clause_search.proofs.Assigned.{last-decision, last-implied}
 use Rattle.clause_search.proofs.Seeing.{literal_eq-true, literal_eq-refl}

@@ -1,10 +1,5 @@
 -- What holds of each by its index holds of each member.
-use Rattle.std.proofs.Common.{ℕ, suc, ◌<◌, ◌≤◌, inl, inr, List, [], ◌∷◌, arith, subst}
-use Rattle.std.specs.List.{All}
-use Rattle.clause_log.specs.Members.{Has}
-use Rattle.clause_lits.specs.declared.lit.Lit.{Lit}
-use Rattle.clause_lits.specs.Meaning.{AreWithin}
-use Rattle.clause_search.specs.Searching.{AreInRange}
+use Rattle.clause_search.proofs.Common.{ℕ, suc, ◌<◌, ◌≤◌, inl, inr, List, [], ◌∷◌, arith, subst, All, Has, Lit, AreWithin, AreInRange}
 
 module _ {X : Type 0} (Q : X → Type 0) where
   has-all : (xs : List X) (x : X) → All Q xs → Has xs x → Q x

@@ -1,17 +1,5 @@
 -- The way back from a conflict with no decision, to the empty clause.
-use Rattle.std.proofs.Common.{ℕ, ◌≡◌, ◌<◌, ◌≤◌, ◌+◌, ◌-◌, ◌++◌, inl, inr, List, [], ◌∷◌, Some, None, take, slice_get, length, arith, sym, ap, subst, refl, ◌∙◌}
-use Rattle.std.proofs.lemmas.List.{take_more, take_all}
-use Rattle.std.proofs.lemmas.Option.{get_or_from_slice_get}
-use Rattle.clause_log.specs.Members.{Has}
-use Rattle.clause_lits.specs.declared.lit.Lit.{Lit}
-use Rattle.clause_lits.specs.Meaning.{IsClause, opposite_of}
-use Rattle.clause_log.specs.Resolution.{joined, resolvent}
-use Rattle.clause_log.specs.Chain.{clause_numbered, chain_resolvent}
-use Rattle.clause_log.proofs.Joining.{resolvent-one}
-use Rattle.clause_search.specs.declared.trail.Entry.{Entry}
-use Rattle.clause_search.specs.Trail.{Stands, IsConsistent, AllFalse, IsImplied, IsGrounded, IsTrail}
-use Rattle.clause_search.specs.Findings.{IsFalseAt}
-use Rattle.clause_search.specs.Assigning.{AreImplied}
+use Rattle.clause_search.proofs.Common.{ℕ, ◌≡◌, ◌<◌, ◌≤◌, ◌+◌, ◌-◌, ◌++◌, inl, inr, List, [], ◌∷◌, Some, None, take, slice_get, length, arith, sym, ap, subst, refl, ◌∙◌, take_more, take_all, get_or_from_slice_get, Has, Lit, IsClause, opposite_of, joined, resolvent, clause_numbered, chain_resolvent, resolvent-one, Entry, Stands, IsConsistent, AllFalse, IsImplied, IsGrounded, IsTrail, IsFalseAt, AreImplied}
 use Rattle.clause_search.proofs.Analysis.{consistent-trail, skipped, resolves, resolvent-false}
 use Rattle.clause_search.proofs.ByPlace.{grounded-at, trail-take}
 use Rattle.clause_search.proofs.Back.{chain-push}

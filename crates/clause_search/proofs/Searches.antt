@@ -1,25 +1,8 @@
 -- The steps of the search keep what holds all through it, and its measure falls.
-use Rattle.std.proofs.Common.{ℕ, zero, suc, ◌≡◌, ◌<◌, ◌≤◌, ◌+◌, ◌-◌, ◌++◌, inl, inr, Bool, false, List, [], ◌∷◌, Option, Some, None, slice_get, take, map, length, arith, sym, ap, subst, refl, ◌∙◌, length-append}
-use Rattle.std.proofs.Math.Seq.{take-length}
-use Rattle.std.proofs.lemmas.List.{take-append-le}
-use Rattle.std.proofs.lemmas.Option.{slice_get_within}
-use Rattle.std.proofs.lemmas.Bool.{cases_eq}
-use Rattle.clause_log.specs.Members.{Has}
-use Rattle.clause_lits.specs.declared.lit.Lit.{Lit}
-use Rattle.clause_log.specs.declared.step.Step.{Step}
-use Rattle.clause_log.specs.Chain.{chain_resolvent}
-use Rattle.clause_log.specs.Refutation.{standing_before, IsSoundAt, Refutes}
-use Rattle.clause_log.proofs.Soundness.{standing-true}
-use Rattle.clause_search.specs.declared.trail.Entry.{Entry}
-use Rattle.clause_search.specs.Trail.{IsConsistent, IsSettled}
-use Rattle.clause_search.specs.Findings.{IsUnitAt}
-use Rattle.clause_search.specs.Assigning.{IsNextVariable, TellsAll}
-use Rattle.clause_search.specs.Outcome.{IsLeast, IsCareful, IsSpent}
-use Rattle.clause_search.specs.Searching.{standing, AreInRange, IsSearch, IsEmptyStep}
+use Rattle.clause_search.proofs.Common.{ℕ, zero, suc, ◌≡◌, ◌<◌, ◌≤◌, ◌+◌, ◌-◌, ◌++◌, inl, inr, Bool, false, List, [], ◌∷◌, Option, Some, None, slice_get, take, map, length, arith, sym, ap, subst, refl, ◌∙◌, length-append, take-length, take-append-le, slice_get_within, cases_eq, Has, Lit, Step, chain_resolvent, standing_before, IsSoundAt, Refutes, standing-true, Entry, IsConsistent, IsSettled, IsUnitAt, IsNextVariable, TellsAll, IsLeast, IsCareful, IsSpent, standing, AreInRange, IsSearch, IsEmptyStep, left_of}
 use Rattle.clause_search.proofs.ByPlace.{trail-take}
 use Rattle.clause_search.proofs.Analysis.{consistent-trail, trail-push}
 use Rattle.clause_search.proofs.Findings.{among-numbered}
-use Rattle.clause_search.specs.Ending.{left_of}
 use Rattle.clause_search.proofs.Getting.{get-early, get-late, get-last, get-kept}
 use Rattle.clause_search.proofs.Falls.{code-below, code-push}
 use Rattle.clause_search.proofs.Counting.{length-trail}

@@ -1,16 +1,5 @@
 -- What a look along a clause shows.
-use Rattle.std.proofs.Common.{ℕ, ◌≡◌, ◌<◌, ◌≤◌, ◌+◌, inl, inr, Bool, true, false, cond, List, [], ◌∷◌, Option, Some, None, nat_eq, get_or, drop, length, add-one, arith, sym, ap, subst, refl, ◌∙◌}
-use Rattle.std.proofs.Math.Seq.{drop-cons}
-use Rattle.std.specs.List.{list_any}
-use Rattle.std.proofs.lemmas.Bool.{cases_Bool, or_cases, or_left, or_right, and_parts, and_from, eqb-true, eq-eqb, false≢true}
-use Rattle.clause_log.specs.Members.{Has}
-use Rattle.clause_lits.specs.declared.lit.Lit.{Lit}
-use Rattle.clause_lits.specs.Meaning.{RisesFrom, opposite_of}
-use Rattle.clause_log.specs.Resolution.{same_sign}
-use Rattle.clause_log.proofs.Membership.{like, unlike, opposite-opposite}
-use Rattle.clause_search.specs.declared.trail.Entry.{Entry}
-use Rattle.clause_search.specs.Trail.{Stands, IsFalse, IsUnassigned, IsConsistent, AllFalse, literal_eq}
-use Rattle.clause_search.specs.Looks.{IsOpen, IsUnit, IsSeen}
+use Rattle.clause_search.proofs.Common.{ℕ, ◌≡◌, ◌<◌, ◌≤◌, ◌+◌, inl, inr, Bool, true, false, cond, List, [], ◌∷◌, Option, Some, None, nat_eq, get_or, drop, length, add-one, arith, sym, ap, subst, refl, ◌∙◌, drop-cons, list_any, cases_Bool, or_cases, or_left, or_right, and_parts, and_from, eqb-true, eq-eqb, false≢true, Has, Lit, RisesFrom, opposite_of, same_sign, like, unlike, opposite-opposite, Entry, Stands, IsFalse, IsUnassigned, IsConsistent, AllFalse, literal_eq, IsOpen, IsUnit, IsSeen}
 
 sign-self : (p : Bool) → cond p p (cond p false true) ≡ true
 sign-self true = refl

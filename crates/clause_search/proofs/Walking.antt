@@ -1,23 +1,6 @@
 -- The marked way back from a conflict.
-use Rattle.std.proofs.Common.{append_assoc, ℕ, zero, suc, ◌≡◌, ◌<◌, ◌≤◌, ◌+◌, ◌-◌, ◌++◌, ◌⊎◌, inl, inr, Bool, true, false, ltb, List, [], ◌∷◌, Some, None, get_or, set, take, slice_get, length, map, arith, sym, ap, subst, refl, ◌∙◌}
-use Rattle.std.proofs.lemmas.Bool.{cases_Bool, cases_eq, false≢true, ltb-true, ltb-false}
-use Rattle.std.proofs.lemmas.List.{get_or-set_same, get_or-set_other, get_or_past, length-set, take_more}
-use Rattle.std.proofs.lemmas.Option.{get_or_from_slice_get, slice_get_within}
-use Rattle.clause_log.specs.Members.{Has}
-use Rattle.clause_lits.specs.declared.lit.Lit.{Lit}
-use Rattle.clause_lits.specs.Meaning.{IsClause, opposite_of}
-use Rattle.clause_log.specs.Resolution.{Resolves, joined, resolvent}
-use Rattle.clause_log.specs.Chain.{clause_numbered}
-use Rattle.clause_log.proofs.Joining.{rises-joined}
-use Rattle.clause_log.proofs.Membership.{opposite-opposite}
+use Rattle.clause_search.proofs.Common.{append_assoc, ℕ, zero, suc, ◌≡◌, ◌<◌, ◌≤◌, ◌+◌, ◌-◌, ◌++◌, ◌⊎◌, inl, inr, Bool, true, false, ltb, List, [], ◌∷◌, Some, None, get_or, set, take, slice_get, length, map, arith, sym, ap, subst, refl, ◌∙◌, cases_Bool, cases_eq, false≢true, ltb-true, ltb-false, get_or-set_same, get_or-set_other, get_or_past, length-set, take_more, get_or_from_slice_get, slice_get_within, Has, Lit, IsClause, opposite_of, Resolves, joined, resolvent, clause_numbered, rises-joined, opposite-opposite, Entry, Marks, Learned, Stands, IsFalse, IsAssigned, AllFalse, FalseBut, IsImplied, IsTrail, IsPlaceOf, IsBack, IsLastDecision, IsLearned, HasVariable, AreMarked, IsCounted, IsSingle, IsSpread, IsMarkedBack, marked_from, opposites_at}
 use Rattle.clause_log.proofs.Resolving.{resolves-from}
-use Rattle.clause_search.specs.declared.trail.Entry.{Entry}
-use Rattle.clause_search.specs.declared.marks.Marks.{Marks}
-use Rattle.clause_search.specs.declared.learning.Learned.{Learned}
-use Rattle.clause_search.specs.Trail.{Stands, IsFalse, IsAssigned, AllFalse, FalseBut, IsImplied, IsTrail}
-use Rattle.clause_search.specs.Placing.{IsPlaceOf}
-use Rattle.clause_search.specs.Learning.{IsBack, IsLastDecision, IsLearned}
-use Rattle.clause_search.specs.Marking.{HasVariable, AreMarked, IsCounted, IsSingle, IsSpread, IsMarkedBack, marked_from, opposites_at}
 use Rattle.clause_search.proofs.ByPlace.{grounded-at}
 use Rattle.clause_search.proofs.Back.{back-skip, back-learned, back-implied, next-reason, next-resolvent, next-back}
 use Rattle.clause_search.proofs.Placing.{stands-at, at-stands, somewhere-stands}

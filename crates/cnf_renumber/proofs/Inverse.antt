@@ -1,13 +1,5 @@
 -- Tables that undo each other, and what is renumbered so far.
-use Rattle.std.proofs.Common.{ℕ, zero, suc, ◌≡◌, ◌<◌, ◌≤◌, ◌+◌, ◌⊎◌, inl, inr, Bool, true, false, not, cond, List, [], ◌∷◌, ◌++◌, length, map, get_or, refl, ap, sym, subst, ◌∙◌, append_assoc, append-nil, arith}
-use Rattle.clause_lits.specs.declared.lit.Lit.{Lit}
-use Rattle.clause_lits.specs.Meaning.{AreWithin, IsClause, opposite_of}
-use Rattle.clause_log.specs.Members.{Has}
-use Rattle.clause_log.proofs.Membership.{opposite-opposite}
-use Rattle.clause_log.specs.declared.step.Step.{Step}
-use Rattle.clause_search.specs.Searching.{AreInRange, standing}
-use Rattle.clause_search.proofs.Ranges.{in_range-within}
-use Rattle.cnf_renumber.specs.Renumbered.{AreClauses, AreInverse, Undoes, entry_of, renumbered, renumbered_literal, renumbered_log}
+use Rattle.cnf_renumber.proofs.Common.{ℕ, zero, suc, ◌≡◌, ◌<◌, ◌≤◌, ◌+◌, ◌⊎◌, inl, inr, Bool, true, false, not, cond, List, [], ◌∷◌, ◌++◌, length, map, get_or, refl, ap, sym, subst, ◌∙◌, append_assoc, append-nil, arith, Lit, AreWithin, IsClause, opposite_of, Has, opposite-opposite, Step, AreInRange, standing, in_range-within, AreClauses, AreInverse, Undoes, entry_of, renumbered, renumbered_literal, renumbered_log}
 use Rattle.cnf_renumber.proofs.Literals.{above_zero, flipped, same_or_opposite}
 use Rattle.cnf_renumber.proofs.Renumbered.{renumbered-has}
 

@@ -1,3 +1,4 @@
+pub mod Common
 pub mod Inverse
 pub mod Literals
 pub mod Models

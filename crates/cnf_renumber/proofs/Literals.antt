@@ -1,9 +1,5 @@
 -- Bijections of literals that keep opposites opposite.
-use Rattle.std.proofs.Common.{ℕ, zero, suc, ◌≡◌, ◌<◌, ◌⊎◌, inl, inr, Bool, true, false, not, refl, ap, sym, ◌∙◌, arith}
-use Rattle.clause_lits.specs.declared.lit.Lit.{Lit}
-use Rattle.clause_lits.specs.Meaning.{opposite_of}
-use Rattle.clause_log.proofs.Membership.{same_lit}
-use Rattle.cnf_renumber.specs.Renumbered.{IsRenumbering}
+use Rattle.cnf_renumber.proofs.Common.{ℕ, zero, suc, ◌≡◌, ◌<◌, ◌⊎◌, inl, inr, Bool, true, false, not, refl, ap, sym, ◌∙◌, arith, Lit, opposite_of, same_lit, IsRenumbering}
 
 -- two literals of one variable are one or opposite
 pub same_or_opposite : (a b : Lit) → a.variable ≡ b.variable → (a ≡ b) ⊎ (a ≡ opposite_of b)

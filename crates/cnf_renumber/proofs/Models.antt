@@ -1,13 +1,6 @@
 -- A model of renumbered clauses, mapped back.
-use Rattle.std.proofs.Common.{ℕ, ◌≡◌, ◌<◌, ◌≤◌, ◌+◌, ◌-◌, inl, inr, Bool, true, false, not, cond, List, [], ◌∷◌, length, map, refl, ap, sym, subst, ◌∙◌, arith}
-use Rattle.std.proofs.lemmas.Bool.{and_from, and_parts}
-use Rattle.clause_lits.specs.declared.lit.Lit.{Lit}
-use Rattle.clause_lits.specs.Meaning.{clause_true, clauses_true, lit_true, opposite_of, values_of}
-use Rattle.clause_log.specs.Members.{Has}
+use Rattle.cnf_renumber.proofs.Common.{ℕ, ◌≡◌, ◌<◌, ◌≤◌, ◌+◌, ◌-◌, inl, inr, Bool, true, false, not, cond, List, [], ◌∷◌, length, map, refl, ap, sym, subst, ◌∙◌, arith, and_from, and_parts, Lit, clause_true, clauses_true, lit_true, opposite_of, values_of, Has, AreInRange, in_range-within, AreMappedBack, FoundModelsAreModels, IsRenumbering, renumbered}
 use Rattle.clause_log.proofs.Soundness.{Holds, from_holds, holds_from}
-use Rattle.clause_search.specs.Searching.{AreInRange}
-use Rattle.clause_search.proofs.Ranges.{in_range-within}
-use Rattle.cnf_renumber.specs.Renumbered.{AreMappedBack, FoundModelsAreModels, IsRenumbering, renumbered}
 use Rattle.cnf_renumber.proofs.Literals.{same_or_opposite}
 use Rattle.cnf_renumber.proofs.Renumbered.{renumbered-has}
 

@@ -1,20 +1,13 @@
 -- Resolution doesn't see the numbers and signs of the variables.
-use Rattle.std.proofs.Common.{ℕ, zero, suc, ◌≡◌, ◌<◌, ◌≤◌, ◌-◌, ◌⊎◌, inl, inr, true, false, List, [], ◌∷◌, ◌++◌, length, map, take, nat_lt, nat_eq, slice_get, Option, Some, None, refl, ap, sym, subst, ◌∙◌, arith}
+use Rattle.cnf_renumber.proofs.Common.{ℕ, zero, suc, ◌≡◌, ◌<◌, ◌≤◌, ◌-◌, ◌⊎◌, inl, inr, true, false, List, [], ◌∷◌, ◌++◌, length, map, take, nat_lt, nat_eq, slice_get, Option, Some, None, refl, ap, sym, subst, ◌∙◌, arith, cases_Bool, Lit, IsClause, RisesFrom, opposite_of, Has, Step, rises-has, same_members, placed, renumbered, renumbered_log, IsRenumbering, RenumberedLogsRefute, RenumberedLogsAreCareful, FoundLogsRefute, FoundLogsAreSpent}
 use Rattle.std.specs.Prelude.{option_and_then}
-use Rattle.std.proofs.lemmas.Bool.{cases_Bool}
 use Rattle.std.proofs.lemmas.Bool.Decides.{nat_tests}
-use Rattle.clause_lits.specs.declared.lit.Lit.{Lit}
-use Rattle.clause_lits.specs.Meaning.{IsClause, RisesFrom, opposite_of}
-use Rattle.clause_log.specs.Members.{Has}
-use Rattle.clause_log.specs.declared.step.Step.{Step}
 use Rattle.clause_log.specs.Resolution.{Resolves, resolvent}
 use Rattle.clause_log.specs.Chain.{clause_numbered, resolved_along, chain_resolvent}
 use Rattle.clause_log.specs.Refutation.{Refutes, IsSoundAt, EndsEmpty, standing_before}
 use Rattle.clause_log.proofs.Resolving.{resolves-from, resolves-to}
-use Rattle.clause_log.proofs.Membership.{rises-has, same_members}
 use Rattle.cnf_renumber.proofs.Literals.{flipped, literal-one, variable-kept, variable-one}
 use Rattle.cnf_renumber.specs.Renumbered as told
-use Rattle.cnf_renumber.specs.Renumbered.{placed, renumbered, renumbered_log, IsRenumbering, RenumberedLogsRefute, RenumberedLogsAreCareful, FoundLogsRefute, FoundLogsAreSpent}
 use Rattle.clause_search.specs.Outcome.{IsCareful, ContainsClause}
 
 -- ---- clauses one by one

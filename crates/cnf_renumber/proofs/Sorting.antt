@@ -1,16 +1,8 @@
 -- Renumbered literals, once they are sorted, are the renumbered clause.
-use Rattle.std.proofs.Common.{ℕ, zero, suc, ◌≡◌, ◌<◌, ◌+◌, inl, inr, false, List, [], ◌∷◌, ◌++◌, length, map, take, drop, slice_get, slice_index, eqb, Some, refl, ap, sym, subst, ◌∙◌, arith}
+use Rattle.cnf_renumber.proofs.Common.{ℕ, zero, suc, ◌≡◌, ◌<◌, ◌+◌, inl, inr, false, List, [], ◌∷◌, ◌++◌, length, map, take, drop, slice_get, slice_index, eqb, Some, refl, ap, sym, subst, ◌∙◌, arith, cases_Bool, eqb-true, eqb-false, get_or-map, Contains-permutation, IsPermutation-map, IsPermutation-sym, Lit, IsClause, RisesFrom, Has, rises-has, same_members, IsRenumbering, renumbered}
 use Rattle.std.specs.List.{IsDistinct, AllByRecursion, Contains, refill}
 use Rattle.std.specs.List.Sorted.{IsNonDecreasing, IsNonDecreasingBy, IsPermutation, IsStrictlyIncreasing}
-use Rattle.std.proofs.lemmas.Bool.{cases_Bool, eqb-true, eqb-false}
-use Rattle.std.proofs.lemmas.List.{get_or-map}
-use Rattle.std.proofs.lemmas.List.Sorted.{Contains-permutation, IsPermutation-map, IsPermutation-sym}
 use Rattle.std.proofs.lemmas.Map.Keys.{IsDistinct-IsPermutation, IsStrictlyIncreasing-from_distinct}
-use Rattle.clause_lits.specs.declared.lit.Lit.{Lit}
-use Rattle.clause_lits.specs.Meaning.{IsClause, RisesFrom}
-use Rattle.clause_log.specs.Members.{Has}
-use Rattle.clause_log.proofs.Membership.{rises-has, same_members}
-use Rattle.cnf_renumber.specs.Renumbered.{IsRenumbering, renumbered}
 use Rattle.cnf_renumber.proofs.Literals.{variable-one}
 use Rattle.cnf_renumber.proofs.Renumbered.{has-placed, placed-has, renumbered-rises}
 

@@ -1,10 +1,5 @@
 -- One more step, and one more value.
-use Rattle.std.proofs.Common.{ℕ, zero, suc, ◌≡◌, ◌<◌, ◌+◌, ◌++◌, inl, inr, Bool, false, List, [], ◌∷◌, length, map, take, get_or, refl, ap, sym, subst, ◌∙◌, append_assoc, arith}
-use Rattle.std.proofs.lemmas.Bool.{cases_eq}
-use Rattle.std.proofs.lemmas.List.{get_or-map}
-use Rattle.clause_lits.specs.declared.lit.Lit.{Lit}
-use Rattle.clause_lits.specs.Meaning.{IsClause}
-use Rattle.clause_log.specs.declared.step.Step.{Step}
+use Rattle.cnf_renumber.proofs.Common.{ℕ, zero, suc, ◌≡◌, ◌<◌, ◌+◌, ◌++◌, inl, inr, Bool, false, List, [], ◌∷◌, length, map, take, get_or, refl, ap, sym, subst, ◌∙◌, append_assoc, arith, cases_eq, get_or-map, Lit, IsClause, Step}
 
 abbrev clauses_of : List Step → List (List Lit)
 clauses_of steps = map (λ s. s.clause) steps

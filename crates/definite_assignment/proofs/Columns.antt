@@ -1,12 +1,6 @@
 -- Names and their columns.
-use Rattle.std.proofs.Common.{ℕ, zero, suc, ◌+◌, ◌≡◌, ◌<◌, ◌≤◌, ◌⊎◌, inl, inr, Bool, true, false, List, [], ◌∷◌, ◌++◌, length, get_or, refl, ap, sym, subst, ◌∙◌, arith, length-append}
-use Rattle.std.specs.Prelude.{IsTrue, ◌↔◌, map}
-use Rattle.std.specs.List.{All, Contains}
-use Rattle.std.proofs.lemmas.List.{get_or-map, length-map, get_or_past}
-use Rattle.std.proofs.lemmas.List.Elements.{All-contains, All-map, Contains-get_or}
-use Rattle.std.proofs.lemmas.Bool.{both_ways, cases_eq, cases_lt}
-use Rattle.ir_tree.specs.Paths.{Assigns, IsAssignedBefore, IsAssignedIn, IsUnassignedBefore}
-use Rattle.definite_assignment.specs.Sets.{AreRoomy, by_columns, column_of, has, has_name}
+use Rattle.definite_assignment.proofs.Common.{ℕ, zero, suc, ◌+◌, ◌≡◌, ◌<◌, ◌≤◌, ◌⊎◌, inl, inr, Bool, true, false, List, [], ◌∷◌, ◌++◌, length, get_or, refl, ap, sym, subst, ◌∙◌, arith, length-append, IsTrue, ◌↔◌, All, Contains, get_or-map, length-map, get_or_past, All-contains, All-map, Contains-get_or, both_ways, cases_eq, cases_lt, Assigns, IsAssignedBefore, IsAssignedIn, IsUnassignedBefore, AreRoomy, by_columns, column_of, has, has_name}
+use Rattle.std.specs.Prelude.{map}
 
 -- ---- numbering
 

@@ -1,7 +1,5 @@
 -- Words cut one after another.
-use Rattle.std.proofs.Common.{ℕ, ◌+◌, ◌≡◌, ◌≢◌, ◌<◌, ◌≤◌, ◌⊎◌, inl, inr, Bool, true, false, ◌||◌, List, length, get_or, set, refl, ap, sym, ◌∙◌, arith, bit_and}
-use Rattle.std.proofs.lemmas.List.{get_or-set_same, get_or-set_other, set-get_or}
-use Rattle.std.proofs.lemmas.Bool.{cases_eq, cases_Bool, or_parts, or_cases}
+use Rattle.definite_assignment.proofs.Common.{ℕ, ◌+◌, ◌≡◌, ◌≢◌, ◌<◌, ◌≤◌, ◌⊎◌, inl, inr, Bool, true, false, ◌||◌, List, length, get_or, set, refl, ap, sym, ◌∙◌, arith, bit_and, get_or-set_same, get_or-set_other, set-get_or, cases_eq, cases_Bool, or_parts, or_cases}
 
 -- the first i words are cut, the others as they were, and it is known whether one changed
 pub record AreCut (old others new : List ℕ) (i : ℕ) (changed : Bool) : Type 0 where

@@ -1,12 +1,5 @@
 -- The names that leave a block, one after another.
-use Rattle.std.proofs.Common.{ℕ, ◌≡◌, ◌<◌, ◌⊎◌, inl, inr, Bool, true, false, List, [], ◌∷◌, ◌++◌, length, get_or, set, ap, sym, ◌∙◌, arith, length-set}
-use Rattle.std.specs.Prelude.{IsTrue}
-use Rattle.std.specs.List.{Contains}
-use Rattle.std.proofs.lemmas.List.{get_or-set_same, get_or-set_other}
-use Rattle.std.proofs.lemmas.List.Elements.{Contains-push, Contains-push_cases, Contains-append_left}
-use Rattle.std.proofs.lemmas.Bool.{cases_eq}
-use Rattle.definite_assignment.specs.Sets.{has_name}
-use Rattle.definite_assignment.specs.Work.{IsLeaving}
+use Rattle.definite_assignment.proofs.Common.{ℕ, ◌≡◌, ◌<◌, ◌⊎◌, inl, inr, Bool, true, false, List, [], ◌∷◌, ◌++◌, length, get_or, set, ap, sym, ◌∙◌, arith, length-set, IsTrue, Contains, get_or-set_same, get_or-set_other, Contains-push, Contains-push_cases, Contains-append_left, cases_eq, has_name, IsLeaving}
 
 pub leaving_none : (s t : List Bool) → t ≡ s → IsLeaving s [] t
 leaving_none s t e =

@@ -1,17 +1,11 @@
 -- Sets of names, and the words that keep them.
-use Rattle.std.proofs.Common.{ℕ, suc, zero, ◌+◌, ◌*◌, ◌/◌, ◌%◌, ◌^◌, ◌≡◌, ◌≢◌, ◌<◌, ◌≤◌, ◌⊎◌, inl, inr, Bool, true, false, cond, ◌&&◌, List, [], ◌∷◌, length, get_or, set, replicate, min, refl, ap, sym, ◌∙◌, arith, bit_and, bit_or, length-set}
-use Rattle.std.specs.Prelude.{nat_eq}
+use Rattle.definite_assignment.proofs.Common.{ℕ, suc, zero, ◌+◌, ◌*◌, ◌/◌, ◌%◌, ◌^◌, ◌≡◌, ◌≢◌, ◌<◌, ◌≤◌, ◌⊎◌, inl, inr, Bool, true, false, cond, ◌&&◌, List, [], ◌∷◌, length, get_or, set, replicate, min, refl, ap, sym, ◌∙◌, arith, bit_and, bit_or, length-set, nat_eq, same_lists, get_or_past, get_or-set_same, get_or-set_other, get_or-replicate, length-replicate, sum_by-cons, cases_eq, cases_lt, and_right, both, has_bit, has_name, names_in, count}
 use Rattle.std.specs.Int.{bit_at}
-use Rattle.std.proofs.lemmas.List.{same_lists, get_or_past, get_or-set_same, get_or-set_other, get_or-replicate, length-replicate}
 use Rattle.std.proofs.lemmas.List.FromFn.{length-map-range_with_len, get_or-map-range_with_len}
-use Rattle.std.proofs.lemmas.List.Sums.{sum_by-cons}
 use Rattle.std.proofs.lemmas.Nat.{and_le_l, div-mul-add, mod-mul-add, div_below, mod_below}
 use Rattle.std.proofs.lemmas.Nat.Bits.{bit_at-lt, bit_at_and, bit_at_set_same, bit_at_set_other, same_from_bits_below, bit_at_ones, bit_at-zero}
-use Rattle.std.proofs.lemmas.Bool.{cases_eq, cases_lt, and_right}
 use Rattle.std.proofs.lemmas.Bool.Decides.{nat_tests}
 use Rattle.std.specs.Int.{w64}
-use Rattle.definite_assignment.specs.Sets.{both, has_bit, has_name, names_in}
-use Rattle.definite_assignment.specs.Work.{count}
 
 pub length-names_in : (words : List ℕ) → length (names_in words) ≡ 64 * length words
 unfolding names_in

@@ -1,11 +1,7 @@
 -- A depth-first search over the blocks.
-use Rattle.std.proofs.Common.{ℕ, suc, zero, ◌+◌, ◌≡◌, ◌<◌, Bool, true, false, List, [], ◌∷◌, length, get_or, set, subst, arith, ◌++◌}
-use Rattle.std.specs.Prelude.{Some, IfSome}
+use Rattle.definite_assignment.proofs.Common.{ℕ, suc, zero, ◌+◌, ◌≡◌, ◌<◌, Bool, true, false, List, [], ◌∷◌, length, get_or, set, subst, arith, ◌++◌, Some, IfSome, All, All-pop, block_of, steps_left}
 use Rattle.std.specs.Option.{option_to_list}
-use Rattle.std.specs.List.{All}
-use Rattle.std.proofs.lemmas.List.Elements.{All-pop}
 use Rattle.definite_assignment.specs.declared.visiting_order.Step.{Step}
-use Rattle.definite_assignment.specs.Order.{block_of, steps_left}
 
 -- a block that is entered leaves the steps of the others
 pub steps_left-enter : (marks : List Bool) (successors : List (List ℕ)) (block : ℕ) → block < length marks → block < length successors → get_or marks block false ≡ false

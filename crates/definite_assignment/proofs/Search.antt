@@ -1,15 +1,6 @@
 -- The search from its start to its end.
-use Rattle.std.proofs.Common.{ℕ, suc, zero, ◌+◌, ◌-◌, ◌≡◌, ◌<◌, ◌≤◌, ◌⊎◌, inl, inr, Bool, true, false, List, [], ◌∷◌, ◌++◌, length, get_or, set, replicate, refl, ap, sym, subst, ◌∙◌, arith, length-set}
-use Rattle.std.specs.Prelude.{IsTrue, Some, slice_get, ◌↔◌}
-use Rattle.std.proofs.lemmas.Option.{get_or_from_slice_get}
-use Rattle.std.specs.List.{All, Contains, sum_by}
-use Rattle.std.proofs.lemmas.List.{get_or-set_same, get_or-set_other, get_or-replicate, length-replicate, get_or_default, get_or_past, replicate_more}
-use Rattle.std.proofs.lemmas.List.Elements.{All-contains, Contains-append_cases, Contains-append_right, All-nil, All-cons}
-use Rattle.std.proofs.lemmas.Bool.{cases_eq, cases_lt, cases_Bool, both_ways, false_from_ne_true}
-use Rattle.ir_tree.specs.Paths.{Assigns, IsAssignedBefore, IsAssignedIn, IsSuccessor, IsUnassignedBefore}
-use Rattle.definite_assignment.specs.Sets.{AreRoomy, has, has_name, places_for}
+use Rattle.definite_assignment.proofs.Common.{ℕ, suc, zero, ◌+◌, ◌-◌, ◌≡◌, ◌<◌, ◌≤◌, ◌⊎◌, inl, inr, Bool, true, false, List, [], ◌∷◌, ◌++◌, length, get_or, set, replicate, refl, ap, sym, subst, ◌∙◌, arith, length-set, IsTrue, Some, slice_get, ◌↔◌, get_or_from_slice_get, All, Contains, sum_by, get_or-set_same, get_or-set_other, get_or-replicate, length-replicate, get_or_default, get_or_past, replicate_more, All-contains, Contains-append_cases, Contains-append_right, All-nil, All-cons, cases_eq, cases_lt, cases_Bool, both_ways, false_from_ne_true, Assigns, IsAssignedBefore, IsAssignedIn, IsSuccessor, IsUnassignedBefore, AreRoomy, has, has_name, places_for, IsLeaving, IsSearch, IsSpread, State, count, first_sets, is_waiting, rest_of, set_of}
 use Rattle.definite_assignment.proofs.Names.{count-unset}
-use Rattle.definite_assignment.specs.Work.{IsLeaving, IsSearch, IsSpread, State, count, first_sets, is_waiting, rest_of, set_of}
 
 -- a name of a set has an entry there
 place_of : (s : List Bool) (name : ℕ) → IsTrue (has_name s name) → name < length s

@@ -1,14 +1,5 @@
 -- One block's names passed on to its successors.
-use Rattle.std.proofs.Common.{ℕ, ◌+◌, ◌≡◌, ◌<◌, ◌≤◌, ◌⊎◌, inl, inr, Bool, true, false, List, [], ◌∷◌, ◌++◌, length, get_or, set, refl, ap, sym, subst, ◌∙◌, arith, length-set}
-use Rattle.std.specs.Prelude.{IsTrue, Some, slice_get}
-use Rattle.std.proofs.lemmas.Option.{get_or_from_slice_get}
-use Rattle.std.specs.List.{Contains}
-use Rattle.std.proofs.lemmas.List.{get_or-set_same, get_or-set_other}
-use Rattle.std.proofs.lemmas.List.Elements.{Contains-append_left, Contains-append_right, Contains-append_cases, Contains-push, All-contains}
-use Rattle.std.proofs.lemmas.List.Sums.{sum_by-set}
-use Rattle.std.proofs.lemmas.Bool.{cases_eq, and_parts, and_from, both_ways}
-use Rattle.definite_assignment.specs.Sets.{both, has, has_name}
-use Rattle.definite_assignment.specs.Work.{State, IsSpread, count}
+use Rattle.definite_assignment.proofs.Common.{ℕ, ◌+◌, ◌≡◌, ◌<◌, ◌≤◌, ◌⊎◌, inl, inr, Bool, true, false, List, [], ◌∷◌, ◌++◌, length, get_or, set, refl, ap, sym, subst, ◌∙◌, arith, length-set, IsTrue, Some, slice_get, get_or_from_slice_get, Contains, get_or-set_same, get_or-set_other, Contains-append_left, Contains-append_right, Contains-append_cases, Contains-push, All-contains, sum_by-set, cases_eq, and_parts, and_from, both_ways, both, has, has_name, State, IsSpread, count}
 use Rattle.definite_assignment.proofs.Names.{has_name-both, length-both, count-both, count-both_less, count-set}
 
 -- a set replaces one: what is at a block

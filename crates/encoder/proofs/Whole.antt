@@ -1,41 +1,26 @@
 -- A run from its beginning to its end.
-use Rattle.std.proofs.Common.{ℕ, zero, suc, ◌≡◌, ◌<◌, ◌≤◌, ◌+◌, Bool, true, false, not, ◌&&◌, ◌||◌, if◌then◌else◌, List, [], ◌∷◌, ◌++◌, length, drop, replicate, get_or, nat_eq, nat_lt, Option, Some, None, IfSome, inl, inr, refl, ap, sym, subst, ◌∙◌, arith}
+use Rattle.encoder.proofs.Common.{ℕ, zero, suc, ◌≡◌, ◌<◌, ◌≤◌, ◌+◌, Bool, true, false, not, ◌&&◌, ◌||◌, if◌then◌else◌, List, [], ◌∷◌, ◌++◌, length, drop, replicate, get_or, nat_eq, nat_lt, Option, Some, None, IfSome, inl, inr, refl, ap, sym, subst, ◌∙◌, arith, drop_more, drop_all, Machine, Run, breaks_noundef, ended, first_machine, run_of, Where, At, Done, along, copies_of, run_at_end, run_layers, walk, Keeps, Tests, IsTerm, bit_at, term_at, Each, IsNaming, Reading, reading, AreWords, args_at, input_at, words_at, each-at, map-at, map-length, keeps_trans, bit-later, term-later, RunState, Scene, Sees, IsState, MatchesState, StateShape, fits_from, shape_of, sight, zeros_past, IsEnding, EndedSo, AreStates, HaveShape, IsUnreached, MatchesFrontier, Simulates, first_place, placed, each-replicate, sees-later, matches_state-later, ending_at-later, placed_end, walk_over}
 use Rattle.std.specs.Prelude.{slice_index}
 use Rattle.std.proofs.Math.Bool.{and-true, and_assoc}
 use Rattle.std.proofs.lemmas.Bool.{cases_Bool, cases_lt, eqb-true, eq-eqb}
 use Rattle.std.proofs.lemmas.Bool.Decides.{nat_tests}
-use Rattle.std.proofs.lemmas.List.{drop_more, drop_all}
 use Rattle.ir_tree.specs.declared.tree.Function.{Function}
-use Rattle.points.specs.declared.machine.Machine.{Machine}
 use Rattle.points.specs.declared.outcome.Outcome.TheVariants.{Ub}
 use Rattle.points.specs.declared.point.Bounds.{Bounds}
 use Rattle.points.specs.declared.point.Input.{Input}
 use Rattle.points.specs.declared.point.Layout.{Layout}
-use Rattle.points.specs.Run.{Run, breaks_noundef, ended, first_machine, run_of}
 use Rattle.unroll.specs.declared.layered.Edge.TheVariants as edge
 use Rattle.unroll.specs.declared.layered.BlockCopy.{BlockCopy}
 use Rattle.unroll.specs.declared.layered.Layered.{Layered}
-use Rattle.unroll.specs.Layers.{Where, At, Done, along, copies_of, run_at_end, run_layers, walk}
 use Rattle.unroll.proofs.Walking.{layers_have_runs}
 use Rattle.bv_terms.specs.declared.term.TermId.{TermId}
 use Rattle.bv_terms.specs.declared.term.Term.{Term}
-use Rattle.bv_terms.specs.Trees.{Keeps, Tests, IsTerm, bit_at, term_at}
 use Rattle.mem_terms.specs.declared.inputs.InputTerms.{InputTerms}
 use Rattle.mem_terms.specs.declared.outcome.OutcomeTerms.{OutcomeTerms}
-use Rattle.mem_terms.specs.Values.{Each, IsNaming, Reading, reading}
-use Rattle.mem_terms.specs.Inputs.{AreWords, args_at, input_at, words_at}
 use Rattle.mem_terms.specs.Outcomes.{Shows}
-use Rattle.mem_terms.proofs.Eaches.{each-at, map-at, map-length}
-use Rattle.mem_terms.proofs.Later.{keeps_trans, bit-later, term-later}
 use Rattle.mem_terms.proofs.Naming.{naming}
-use Rattle.run_terms.specs.declared.state.RunState.{RunState}
 use Rattle.run_terms.specs.declared.ending.Ending.{Ending}
 use Rattle.run_terms.specs.declared.frontier.Frontier.{Frontier}
-use Rattle.run_terms.specs.Runs.{Scene, Sees, IsState, MatchesState, StateShape, fits_from, shape_of, sight, zeros_past}
-use Rattle.run_terms.specs.Frontier.{IsEnding, EndedSo, AreStates, HaveShape, IsUnreached, MatchesFrontier, Simulates, first_place, placed}
-use Rattle.run_terms.proofs.Arguments.{each-replicate}
-use Rattle.run_terms.proofs.Lasting.{sees-later, matches_state-later, ending_at-later}
-use Rattle.run_terms.proofs.Through.{placed_end, walk_over}
 
 -- ---- plain
 

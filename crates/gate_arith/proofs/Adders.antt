@@ -1,15 +1,5 @@
 -- Sums bit by bit.
-use Rattle.std.proofs.Common.{ℕ, suc, ◌≡◌, ◌<◌, ◌≤◌, ◌+◌, ◌-◌, ◌*◌, ◌%◌, ◌^◌, ◌++◌, Bool, true, false, not, cond, List, [], ◌∷◌, get_or, drop, map, reverse, length, arith, sym, ap, subst, refl, ◌∙◌, length-append}
-use Rattle.std.specs.Prelude.{nat_lt}
-use Rattle.std.proofs.Math.Nat.{pow-suc, add-mul-mod_self_right, mod-eq_of_lt}
-use Rattle.std.proofs.lemmas.List.{length-map, length-reverse, length-drop, reverse-append, drop_more, drop_all}
-use Rattle.std.proofs.lemmas.Bool.{le-ltb, lt-ltb}
-use Rattle.bv_terms.specs.Tree.{digit}
-use Rattle.gates.specs.declared.circuit.GateId.{GateId}
-use Rattle.gates.specs.declared.circuit.Gate.{Gate}
-use Rattle.gates.specs.Values.{exclusive, gate_at, Keeps, Makes}
-use Rattle.gate_arith.specs.Adder.{IsDifference, IsFullSum}
-use Rattle.gate_arith.specs.Numbers.{AreGates, IsSum, Writes, number_at}
+use Rattle.gate_arith.proofs.Common.{ℕ, suc, ◌≡◌, ◌<◌, ◌≤◌, ◌+◌, ◌-◌, ◌*◌, ◌%◌, ◌^◌, ◌++◌, Bool, true, false, not, cond, List, [], ◌∷◌, get_or, drop, map, reverse, length, arith, sym, ap, subst, refl, ◌∙◌, length-append, nat_lt, pow-suc, add-mul-mod_self_right, mod-eq_of_lt, length-map, length-reverse, length-drop, reverse-append, drop_more, drop_all, le-ltb, lt-ltb, digit, GateId, Gate, exclusive, gate_at, Keeps, Makes, IsDifference, IsFullSum, AreGates, IsSum, Writes, number_at}
 use Rattle.gate_arith.proofs.Digits.{keeps_self, keeps_trans, gates_later, gates_push, number-kept, number-at-below}
 
 full : (a b c : Bool) → digit (exclusive (exclusive a b) c) + 2 * digit (cond (exclusive a b) c a) ≡ digit a + digit b + digit c

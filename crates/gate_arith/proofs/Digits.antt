@@ -1,13 +1,5 @@
 -- Numbers as bits, and gates that stay.
-use Rattle.std.proofs.Common.{ℕ, zero, suc, ◌≡◌, ◌<◌, ◌≤◌, ◌+◌, ◌*◌, ◌^◌, ◌++◌, Bool, true, false, List, [], ◌∷◌, map, length, arith, sym, ap, refl, ◌∙◌, length-append}
-use Rattle.std.proofs.Math.Nat.{pow-suc}
-use Rattle.std.proofs.lemmas.Nat.{pow-add}
-use Rattle.std.proofs.lemmas.List.{length-map}
-use Rattle.bv_terms.specs.Tree.{digit}
-use Rattle.gates.specs.declared.circuit.GateId.{GateId}
-use Rattle.gates.specs.declared.circuit.Gate.{Gate}
-use Rattle.gates.specs.Values.{gate_at, Keeps, Grows}
-use Rattle.gate_arith.specs.Numbers.{AreGates, number_at, number_of}
+use Rattle.gate_arith.proofs.Common.{ℕ, zero, suc, ◌≡◌, ◌<◌, ◌≤◌, ◌+◌, ◌*◌, ◌^◌, ◌++◌, Bool, true, false, List, [], ◌∷◌, map, length, arith, sym, ap, refl, ◌∙◌, length-append, pow-suc, pow-add, length-map, digit, GateId, Gate, gate_at, Keeps, Grows, AreGates, number_at, number_of}
 
 pub keeps_self : (gs : List Gate) → Keeps gs gs
 keeps_self gs = record { longer = omega arith; kept = λ v a lt. refl; inputs = refl }

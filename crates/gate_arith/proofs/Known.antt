@@ -1,19 +1,9 @@
 -- Bits that are known, and inputs.
-use Rattle.std.proofs.Common.{ℕ, zero, suc, ◌≡◌, ◌<◌, ◌≤◌, ◌+◌, ◌*◌, ◌/◌, ◌%◌, ◌^◌, ◌++◌, inl, inr, Bool, false, List, [], ◌∷◌, Some, All, get_or, take, map, length, arith, sym, ap, subst, refl, ◌∙◌, length-append}
-use Rattle.std.specs.Prelude.{nat_eq, bit_and}
-use Rattle.std.proofs.Math.Nat.{div-eq_of_lt}
-use Rattle.std.proofs.lemmas.Nat.{shr-shr, div-add-mod'}
+use Rattle.gate_arith.proofs.Common.{ℕ, zero, suc, ◌≡◌, ◌<◌, ◌≤◌, ◌+◌, ◌*◌, ◌/◌, ◌%◌, ◌^◌, ◌++◌, inl, inr, Bool, false, List, [], ◌∷◌, Some, All, get_or, take, map, length, arith, sym, ap, subst, refl, ◌∙◌, length-append, nat_eq, bit_and, div-eq_of_lt, shr-shr, div-add-mod', cases_eq, map_push, append_assoc, append-nil, get_or_push, get_or_append_left, take_all, take-append-le, digit, GateId, Gate, gate_at, inputs_of, Grows, IsInput, Keeps, Makes, AreFresh, AreGates, Writes, number_at, number_of}
 use Rattle.std.proofs.lemmas.Nat.Bits.{shr_and_one, bit_at-lt}
-use Rattle.std.proofs.lemmas.Bool.{cases_eq}
-use Rattle.std.proofs.lemmas.List.{map_push, append_assoc, append-nil, get_or_push, get_or_append_left, take_all, take-append-le}
 use Rattle.std.proofs.lemmas.Option.{slice_get_within, get_or_from_slice_get, slice_get-get_or}
-use Rattle.bv_terms.specs.Tree.{digit}
-use Rattle.gates.specs.declared.circuit.GateId.{GateId}
-use Rattle.gates.specs.declared.circuit.Gate.{Gate}
 use Rattle.gates.specs.declared.circuit.Gate.TheVariants.{Input}
 use Rattle.gates.specs.Numbering.{AreApart}
-use Rattle.gates.specs.Values.{gate_at, inputs_of, Grows, IsInput, Keeps, Makes}
-use Rattle.gate_arith.specs.Numbers.{AreFresh, AreGates, Writes, number_at, number_of}
 use Rattle.gate_arith.proofs.Digits.{gates_later, gates_push, keeps_self, keeps_trans, map-grown, number-kept, number-push}
 
 one_test : (n : ℕ) → n < 2 → digit (nat_eq n 1) ≡ n

@@ -1,19 +1,8 @@
 -- Numbers moved up or down.
-use Rattle.std.proofs.Common.{ℕ, zero, suc, ◌≡◌, ◌<◌, ◌≤◌, ◌+◌, ◌-◌, ◌*◌, ◌/◌, ◌%◌, ◌^◌, inl, inr, Bool, true, false, cond, List, [], get_or, take, drop, map, min, replicate, length, arith, sym, ap, subst, refl, ◌∙◌}
-use Rattle.std.specs.Prelude.{nat_lt}
-use Rattle.std.proofs.Math.Nat.{pow-suc, div-eq_of_lt, mod-eq_of_lt, mul-mod_left}
-use Rattle.std.proofs.Math.Pow.{pow_mono}
-use Rattle.std.proofs.lemmas.Nat.{pow-add, shl-shr, shr-shr, mod-pow-add, mul-mod_first}
-use Rattle.std.proofs.lemmas.Bool.{cases_lt, le-ltb, lt-ltb}
-use Rattle.std.proofs.lemmas.List.{length-map, length-drop, length-take, length-replicate, drop_more, drop_all, take-append-drop}
-use Rattle.bv_terms.specs.Tree.{digit, shifted_right, shifted_signed, truth}
-use Rattle.gates.specs.declared.circuit.GateId.{GateId}
-use Rattle.gates.specs.declared.circuit.Gate.{Gate}
-use Rattle.gates.specs.Values.{gate_at, Keeps, Makes}
+use Rattle.gate_arith.proofs.Common.{ℕ, zero, suc, ◌≡◌, ◌<◌, ◌≤◌, ◌+◌, ◌-◌, ◌*◌, ◌/◌, ◌%◌, ◌^◌, inl, inr, Bool, true, false, cond, List, [], get_or, take, drop, map, min, replicate, length, arith, sym, ap, subst, refl, ◌∙◌, nat_lt, pow-suc, div-eq_of_lt, mod-eq_of_lt, mul-mod_left, pow_mono, pow-add, shl-shr, shr-shr, mod-pow-add, mul-mod_first, cases_lt, le-ltb, lt-ltb, length-map, length-drop, length-take, length-replicate, drop_more, drop_all, take-append-drop, digit, shifted_right, shifted_signed, truth, GateId, Gate, gate_at, Keeps, Makes, AreGates, Writes, number_at}
 use Rattle.gate_arith.specs.declared.shifts.Direction.{Direction}
 use Rattle.gate_arith.specs.declared.shifts.Direction.TheVariants.{Up, Down}
 use Rattle.gate_arith.specs.Moves.{moved_by, shifted_by}
-use Rattle.gate_arith.specs.Numbers.{AreGates, Writes, number_at}
 use Rattle.gate_arith.proofs.Digits.{gates_later, keeps_self, keeps_trans, number-at-below, number-kept}
 use Rattle.gate_arith.proofs.Testing.{truth-positive}
 use Rattle.gate_arith.proofs.Pieces.{gates_drop, gates_replicate, gates_take, number-at-append, number-drop, number-replicate, number-take, sign-at}

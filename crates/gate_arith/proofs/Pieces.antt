@@ -1,15 +1,5 @@
 -- Parts of numbers, and numbers put together.
-use Rattle.std.proofs.Common.{ℕ, zero, suc, ◌≡◌, ◌<◌, ◌≤◌, ◌+◌, ◌-◌, ◌*◌, ◌/◌, ◌%◌, ◌^◌, ◌++◌, Bool, true, false, cond, List, [], ◌∷◌, get_or, take, drop, map, min, replicate, length, arith, sym, ap, subst, refl, ◌∙◌, length-append}
-use Rattle.std.specs.Prelude.{nat_le}
-use Rattle.std.proofs.Math.Nat.{pow-suc}
-use Rattle.std.proofs.lemmas.Nat.{pow-add, pow_pos, shr_high, mod_low, field_of}
-use Rattle.std.proofs.lemmas.Bool.{le-leb, lt-leb}
-use Rattle.std.proofs.lemmas.List.{length-map, length-take, length-drop, length-replicate, map-append, take-append-drop}
-use Rattle.bv_terms.specs.Tree.{digit, extended_signed, is_negative}
-use Rattle.gates.specs.declared.circuit.GateId.{GateId}
-use Rattle.gates.specs.declared.circuit.Gate.{Gate}
-use Rattle.gates.specs.Values.{gate_at, Keeps, Makes}
-use Rattle.gate_arith.specs.Numbers.{AreGates, Writes, number_at, number_of}
+use Rattle.gate_arith.proofs.Common.{ℕ, zero, suc, ◌≡◌, ◌<◌, ◌≤◌, ◌+◌, ◌-◌, ◌*◌, ◌/◌, ◌%◌, ◌^◌, ◌++◌, Bool, true, false, cond, List, [], ◌∷◌, get_or, take, drop, map, min, replicate, length, arith, sym, ap, subst, refl, ◌∙◌, length-append, nat_le, pow-suc, pow-add, pow_pos, shr_high, mod_low, field_of, le-leb, lt-leb, length-map, length-take, length-drop, length-replicate, map-append, take-append-drop, digit, extended_signed, is_negative, GateId, Gate, gate_at, Keeps, Makes, AreGates, Writes, number_at, number_of}
 use Rattle.gate_arith.proofs.Digits.{gates_later, number-append, number-at-below, number-below, number-kept}
 
 pub gates_append : (gates : List Gate) (xs ys : List GateId) → AreGates gates xs → AreGates gates ys → AreGates gates (xs ++ ys)

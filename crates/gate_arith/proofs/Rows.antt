@@ -1,13 +1,5 @@
 -- Products row by row.
-use Rattle.std.proofs.Common.{ℕ, suc, ◌≡◌, ◌<◌, ◌≤◌, ◌+◌, ◌-◌, ◌*◌, ◌%◌, ◌^◌, Bool, true, false, cond, List, [], get_or, drop, map, replicate, length, arith, sym, ap, refl, ◌∙◌}
-use Rattle.std.proofs.Math.Nat.{pow-suc, mod-eq_of_lt, mod-add-mod, add-mod-mod, zero-mod}
-use Rattle.std.proofs.lemmas.Nat.{mul-mod_first}
-use Rattle.std.proofs.lemmas.List.{length-map, length-drop, length-replicate, drop_more, drop_all}
-use Rattle.bv_terms.specs.Tree.{digit}
-use Rattle.gates.specs.declared.circuit.GateId.{GateId}
-use Rattle.gates.specs.declared.circuit.Gate.{Gate}
-use Rattle.gates.specs.Values.{gate_at, Keeps, Makes}
-use Rattle.gate_arith.specs.Numbers.{AreGates, Writes, number_at}
+use Rattle.gate_arith.proofs.Common.{ℕ, suc, ◌≡◌, ◌<◌, ◌≤◌, ◌+◌, ◌-◌, ◌*◌, ◌%◌, ◌^◌, Bool, true, false, cond, List, [], get_or, drop, map, replicate, length, arith, sym, ap, refl, ◌∙◌, pow-suc, mod-eq_of_lt, mod-add-mod, add-mod-mod, zero-mod, mul-mod_first, length-map, length-drop, length-replicate, drop_more, drop_all, digit, GateId, Gate, gate_at, Keeps, Makes, AreGates, Writes, number_at}
 use Rattle.gate_arith.proofs.Digits.{gates_later, keeps_trans, number-at-below, number-kept}
 use Rattle.gate_arith.proofs.Pieces.{gates_replicate, number-replicate}
 

@@ -1,18 +1,6 @@
 -- Divisions step by step.
-use Rattle.std.proofs.Common.{ℕ, zero, suc, ◌≡◌, ◌<◌, ◌≤◌, ◌+◌, ◌-◌, ◌*◌, ◌/◌, ◌%◌, ◌^◌, ◌++◌, inl, inr, Bool, true, false, cond, List, [], ◌∷◌, get_or, take, drop, map, replicate, length, arith, sym, ap, subst, refl, ◌∙◌, length-append}
-use Rattle.std.specs.Prelude.{nat_le}
-use Rattle.std.proofs.Math.Nat.{pow-suc, div-eq_of_lt, mod-eq_of_lt, mod-le, zero-mod}
-use Rattle.std.proofs.Math.Pow.{pow_mono}
-use Rattle.std.proofs.lemmas.Nat.{pow_pos, div-add-mod', div-mul-add, mod-mul-add, mod_below}
-use Rattle.std.proofs.lemmas.Bool.{cases_lt, le-leb, lt-leb, ne_eqb}
-use Rattle.std.proofs.lemmas.List.{length-drop, length-take-le, length-replicate, map_push, take_more, take_all}
-use Rattle.bv_terms.specs.Tree.{digit, quotient, remainder}
-use Rattle.gates.specs.declared.circuit.GateId.{GateId}
-use Rattle.gates.specs.declared.circuit.Gate.{Gate}
-use Rattle.gates.specs.Values.{gate_at, Keeps, Makes}
-use Rattle.gate_arith.specs.Adder.{IsDifference}
+use Rattle.gate_arith.proofs.Common.{ℕ, zero, suc, ◌≡◌, ◌<◌, ◌≤◌, ◌+◌, ◌-◌, ◌*◌, ◌/◌, ◌%◌, ◌^◌, ◌++◌, inl, inr, Bool, true, false, cond, List, [], ◌∷◌, get_or, take, drop, map, replicate, length, arith, sym, ap, subst, refl, ◌∙◌, length-append, nat_le, pow-suc, div-eq_of_lt, mod-eq_of_lt, mod-le, zero-mod, pow_mono, pow_pos, div-add-mod', div-mul-add, mod-mul-add, mod_below, cases_lt, le-leb, lt-leb, ne_eqb, length-drop, length-take-le, length-replicate, map_push, take_more, take_all, digit, quotient, remainder, GateId, Gate, gate_at, Keeps, Makes, IsDifference, AreGates, Writes, number_at, number_of}
 use Rattle.gate_arith.specs.Division.{IsStep, brought_down}
-use Rattle.gate_arith.specs.Numbers.{AreGates, Writes, number_at, number_of}
 use Rattle.gate_arith.proofs.Digits.{gates_later, gates_push, keeps_trans, number-at-below, number-kept, number-push}
 use Rattle.gate_arith.proofs.Pieces.{gates_drop, gates_replicate, number-drop, number-replicate}
 

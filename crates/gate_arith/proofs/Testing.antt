@@ -1,15 +1,6 @@
 -- Tests of numbers by gates.
-use Rattle.std.proofs.Common.{ℕ, zero, suc, ◌≡◌, ◌<◌, ◌≤◌, ◌+◌, ◌*◌, inl, inr, Bool, true, false, not, ◌||◌, cond, List, get_or, take, map, length, arith, sym, ap, refl, ◌∙◌}
-use Rattle.std.specs.Prelude.{nat_eq, nat_lt, bit_xor}
+use Rattle.gate_arith.proofs.Common.{ℕ, zero, suc, ◌≡◌, ◌<◌, ◌≤◌, ◌+◌, ◌*◌, inl, inr, Bool, true, false, not, ◌||◌, cond, List, get_or, take, map, length, arith, sym, ap, refl, ◌∙◌, nat_eq, nat_lt, bit_xor, and_le_l, and_le_r, cases_eq, eq-eqb, ne_eqb, map_push, take_more, take_all, digit, is_less_signed, is_negative, truth, GateId, Gate, gate_at, Keeps, Makes, AreGates, Writes, number_at, number_of}
 use Rattle.std.specs.Int.Bits.{xor_self, xor_add_and}
-use Rattle.std.proofs.lemmas.Nat.{and_le_l, and_le_r}
-use Rattle.std.proofs.lemmas.Bool.{cases_eq, eq-eqb, ne_eqb}
-use Rattle.std.proofs.lemmas.List.{map_push, take_more, take_all}
-use Rattle.bv_terms.specs.Tree.{digit, is_less_signed, is_negative, truth}
-use Rattle.gates.specs.declared.circuit.GateId.{GateId}
-use Rattle.gates.specs.declared.circuit.Gate.{Gate}
-use Rattle.gates.specs.Values.{gate_at, Keeps, Makes}
-use Rattle.gate_arith.specs.Numbers.{AreGates, Writes, number_at, number_of}
 use Rattle.gate_arith.proofs.Digits.{keeps_trans, number-push}
 use Rattle.gate_arith.proofs.Pieces.{sign-at}
 

@@ -1,18 +1,9 @@
 -- Operations bit by bit.
-use Rattle.std.proofs.Common.{ℕ, ◌≡◌, ◌<◌, ◌+◌, ◌-◌, ◌*◌, ◌^◌, ◌++◌, Bool, true, false, cond, not, ◌&&◌, ◌||◌, List, [], ◌∷◌, get_or, take, map, length, arith, sym, ap, refl, ◌∙◌, length-append}
+use Rattle.gate_arith.proofs.Common.{ℕ, ◌≡◌, ◌<◌, ◌+◌, ◌-◌, ◌*◌, ◌^◌, ◌++◌, Bool, true, false, cond, not, ◌&&◌, ◌||◌, List, [], ◌∷◌, get_or, take, map, length, arith, sym, ap, refl, ◌∙◌, length-append, pow-suc, and_block, or_block, xor_block, length-map, map_push, take_more, length-take-le, take_all, digit, GateId, Gate, exclusive, gate_at, Keeps, Makes, And, Or, Xor, Choose, AreGates, Writes, number_at, number_of}
 use Rattle.std.specs.Int.RustNames.{bit_or, bit_xor}
 use lib.Bits.{bit_and}
-use Rattle.std.proofs.Math.Nat.{pow-suc}
-use Rattle.std.proofs.lemmas.Nat.{and_block, or_block, xor_block}
-use Rattle.std.proofs.lemmas.List.{length-map, map_push, take_more, length-take-le, take_all}
-use Rattle.bv_terms.specs.Tree.{digit}
-use Rattle.gates.specs.declared.circuit.GateId.{GateId}
-use Rattle.gates.specs.declared.circuit.Gate.{Gate}
-use Rattle.gates.specs.Values.{exclusive, gate_at, Keeps, Makes}
 use Rattle.gate_arith.specs.declared.bitwise.BitOp.{BitOp}
-use Rattle.gate_arith.specs.declared.bitwise.BitOp.TheVariants.{And, Or, Xor, Choose}
 use Rattle.gate_arith.specs.Bitwise.{IsOp, IsZip, bit_by, zip_by}
-use Rattle.gate_arith.specs.Numbers.{AreGates, Writes, number_at, number_of}
 use Rattle.gate_arith.proofs.Digits.{keeps_self, keeps_trans, gates_later, gates_push, map-kept, number-below}
 
 zip-push : (f : Bool → Bool → Bool) (xs ys : List Bool) (x y : Bool) → length xs ≡ length ys → zip_by f (xs ++ x ∷ []) (ys ++ y ∷ []) ≡ zip_by f xs ys ++ f x y ∷ []

@@ -1,9 +1,6 @@
 -- The clauses of a gate are true exactly where its variable has its value.
-use Rattle.std.proofs.Common.{All, ℕ, zero, suc, ◌≡◌, ◌<◌, ◌≤◌, ◌++◌, ◌↔◌, ◌⊎◌, inl, inr, Bool, true, false, not, ◌&&◌, ◌||◌, cond, List, [], ◌∷◌, arith, ap, sym, refl, ◌∙◌}
-use Rattle.std.specs.Prelude.{Result, Ok, Err, OnOk}
+use Rattle.gates.proofs.Common.{All, ℕ, zero, suc, ◌≡◌, ◌<◌, ◌≤◌, ◌++◌, ◌↔◌, ◌⊎◌, inl, inr, Bool, true, false, not, ◌&&◌, ◌||◌, cond, List, [], ◌∷◌, arith, ap, sym, refl, ◌∙◌, Result, Ok, Err, OnOk, Lit, AreWithin, clause_true, clauses_true, lit_true, opposite_of}
 use Rattle.std.specs.List.{list_any}
-use Rattle.clause_lits.specs.declared.lit.Lit.{Lit}
-use Rattle.clause_lits.specs.Meaning.{AreWithin, clause_true, clauses_true, lit_true, opposite_of}
 
 pub OnOk-then : {T E : Type 0} (r : Result T E) (P Q : Type 0) → OnOk r P → (P → Q) → OnOk r Q
 OnOk-then (Ok v) P Q h f = f h

@@ -1,20 +1,7 @@
 -- The clauses that say what the gates do have one model over each assignment of the inputs.
-use Rattle.std.proofs.Common.{All, ℕ, suc, ◌≡◌, ◌<◌, ◌≤◌, ◌+◌, ◌-◌, ◌++◌, ◌↔◌, inl, inr, Bool, true, false, List, [], ◌∷◌, Some, get_or, slice_get, map, take, drop, length, arith, ap, sym, subst, refl, ◌∙◌}
-use Rattle.std.specs.Prelude.{Contains}
-use Rattle.std.proofs.lemmas.List.{length-map, get_or-map, get_or-take, drop_more, take_all}
-use Rattle.clause_lits.specs.declared.lit.Lit.{Lit}
+use Rattle.gates.proofs.Common.{All, ℕ, suc, ◌≡◌, ◌<◌, ◌≤◌, ◌+◌, ◌-◌, ◌++◌, ◌↔◌, inl, inr, Bool, true, false, List, [], ◌∷◌, Some, get_or, slice_get, map, take, drop, length, arith, ap, sym, subst, refl, ◌∙◌, Contains, length-map, get_or-map, get_or-take, drop_more, take_all, Lit, IsModel, clauses_true, lit_true, GateId, Gate, Input, AreFit, IsFit, exclusive, gate_at, inputs_of, values_of, AreFacts, IsNeeded, operands, output, operand, HasNumber, IsNumberingOf, AreAllNamed, AreInputs, Encodes, Extends}
 use Rattle.clause_lits.specs.declared.cnf.Cnf.{Cnf}
 use Rattle.clause_lits.specs.Meaning as meaning
-use Rattle.clause_lits.specs.Meaning.{IsModel, clauses_true, lit_true}
-use Rattle.gates.specs.declared.circuit.GateId.{GateId}
-use Rattle.gates.specs.declared.circuit.Gate.{Gate}
-use Rattle.gates.specs.declared.circuit.Gate.TheVariants.{Input}
-use Rattle.gates.specs.Values.{AreFit, IsFit, exclusive, gate_at, inputs_of, values_of}
-use Rattle.gates.specs.Facts.{AreFacts}
-use Rattle.gates.specs.Cone.{IsNeeded, operands}
-use Rattle.gates.specs.Cone.IsNeeded.{output, operand}
-use Rattle.gates.specs.Numbering.{HasNumber, IsNumberingOf}
-use Rattle.gates.specs.Encoding.{AreAllNamed, AreInputs, Encodes, Extends}
 use Rattle.gates.proofs.Stages.{input-place}
 use Rattle.gates.proofs.FactLemmas.{fit_stored, input_named, value-input, value_fact, values-determined}
 use Rattle.gates.proofs.Marks.{all-contains, operands-below}

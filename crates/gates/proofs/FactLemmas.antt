@@ -1,14 +1,5 @@
 -- The facts of the gates, one after the other, and the values that keep them.
-use Rattle.std.proofs.Common.{All, ℕ, zero, suc, ◌≡◌, ◌<◌, ◌+◌, ◌↔◌, inl, inr, Bool, false, List, [], ◌∷◌, Some, get_or, slice_get, length, arith, ap, sym, subst, refl, ◌∙◌}
-use Rattle.std.specs.Prelude.{Contains}
-use Rattle.std.proofs.lemmas.Bool.{cases_eq}
-use Rattle.gates.specs.declared.circuit.GateId.{GateId}
-use Rattle.gates.specs.declared.circuit.Gate.{Gate}
-use Rattle.gates.specs.declared.circuit.Gate.TheVariants.{Zero, Input, And, Xor, Choose}
-use Rattle.gates.specs.Cone.{operands}
-use Rattle.gates.specs.Encoding.{AreInputs}
-use Rattle.gates.specs.Values.{AreFit, IsFit, gate_value, inputs_of, values_from, values_of}
-use Rattle.gates.specs.Facts.{AreFacts, IsFact, gate_fact}
+use Rattle.gates.proofs.Common.{All, ℕ, zero, suc, ◌≡◌, ◌<◌, ◌+◌, ◌↔◌, inl, inr, Bool, false, List, [], ◌∷◌, Some, get_or, slice_get, length, arith, ap, sym, subst, refl, ◌∙◌, Contains, cases_eq, GateId, Gate, Zero, Input, And, Xor, Choose, operands, AreInputs, AreFit, IsFit, gate_value, inputs_of, values_from, values_of, AreFacts, IsFact, gate_fact}
 use Rattle.gates.proofs.Stages.{value-stored}
 
 pub fit-at : (n : ℕ) (gs : List Gate) (i : ℕ) (d : Gate) → AreFit n gs → i < length gs → IsFit (n + i) (get_or gs i d)

@@ -1,12 +1,6 @@
 -- What gates are where signs and equal operands decide it.
-use Rattle.std.proofs.Common.{ℕ, ◌≡◌, ◌<◌, ◌+◌, ◌⊎◌, inl, inr, Bool, true, false, not, ◌&&◌, cond, List, [], Some, get_or, slice_get, length, arith, sym, ap, refl, ◌∙◌}
-use mathlib.Core.Bool.{beq}
+use Rattle.gates.proofs.Common.{ℕ, ◌≡◌, ◌<◌, ◌+◌, ◌⊎◌, inl, inr, Bool, true, false, not, ◌&&◌, cond, List, [], Some, get_or, slice_get, length, arith, sym, ap, refl, ◌∙◌, beq, eqb-true, GateId, Gate, And, Xor, Choose, exclusive, gate_at, gate_value, values_from, values_of, AreFit, Keeps, Makes}
 use lib.Dec.{eqb}
-use Rattle.std.proofs.lemmas.Bool.{eqb-true}
-use Rattle.gates.specs.declared.circuit.GateId.{GateId}
-use Rattle.gates.specs.declared.circuit.Gate.{Gate}
-use Rattle.gates.specs.declared.circuit.Gate.TheVariants.{And, Xor, Choose}
-use Rattle.gates.specs.Values.{exclusive, gate_at, gate_value, values_from, values_of, AreFit, Keeps, Makes}
 use Rattle.gates.proofs.Stages.{value-stored}
 
 pub negated_if-sign : (n o : Bool) → not (beq n o) ≡ exclusive o n

@@ -1,3 +1,4 @@
+pub mod Common
 pub mod Stages
 pub mod Folding
 pub mod Clauses

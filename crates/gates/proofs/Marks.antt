@@ -1,15 +1,6 @@
 -- Which gates are marked, from the output down.
-use Rattle.std.proofs.Common.{ℕ, zero, suc, ◌≡◌, ◌≢◌, ◌<◌, ◌≤◌, ◌+◌, inl, inr, Bool, true, false, All, List, [], ◌∷◌, ◌++◌, ◌-◌, drop, take, get_or, slice_get, Some, length, arith, sym, ap, subst, refl, ◌∙◌}
-use Rattle.std.specs.Prelude.{Contains, slice_set, replicate}
-use Rattle.std.proofs.lemmas.Bool.{cases_eq, cases_lt}
-use Rattle.std.proofs.lemmas.List.{get_or-set_same, get_or-set_other, get_or-replicate, get_or_past, length-replicate, length-set}
-use Rattle.std.proofs.lemmas.Option.{slice_get-get_or, slice_get_within}
+use Rattle.gates.proofs.Common.{ℕ, zero, suc, ◌≡◌, ◌≢◌, ◌<◌, ◌≤◌, ◌+◌, inl, inr, Bool, true, false, All, List, [], ◌∷◌, ◌++◌, ◌-◌, drop, take, get_or, slice_get, Some, length, arith, sym, ap, subst, refl, ◌∙◌, Contains, slice_set, replicate, cases_eq, cases_lt, get_or-set_same, get_or-set_other, get_or-replicate, get_or_past, length-replicate, length-set, slice_get-get_or, slice_get_within, Gate, Zero, Input, And, Xor, Choose, IsCone, IsMarked, IsNeeded, marked, operands, output, operand, AreFit, IsFit}
 use Rattle.std.proofs.Math.Seq.{take-append_seam}
-use Rattle.gates.specs.declared.circuit.Gate.{Gate}
-use Rattle.gates.specs.declared.circuit.Gate.TheVariants.{Zero, Input, And, Xor, Choose}
-use Rattle.gates.specs.Cone.{IsCone, IsMarked, IsNeeded, marked, operands}
-use Rattle.gates.specs.Cone.IsNeeded.{output, operand}
-use Rattle.gates.specs.Values.{AreFit, IsFit}
 use Rattle.gates.proofs.FactLemmas.{fit_stored}
 
 -- the operands of a gate come before it

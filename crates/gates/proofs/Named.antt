@@ -1,16 +1,5 @@
 -- One more gate has the next variable.
-use Rattle.std.proofs.Common.{All, ℕ, zero, suc, ◌≡◌, ◌≢◌, ◌<◌, ◌≤◌, ◌+◌, ◌-◌, ◌++◌, inl, inr, Bool, false, List, [], ◌∷◌, get_or, slice_get, Some, length, arith, sym, ap, subst, refl, ◌∙◌, length-append}
-use Rattle.std.specs.Prelude.{Contains, slice_set, replicate}
-use Rattle.std.proofs.lemmas.List.{get_or_push, get_or_append_left, get_or-set_same, get_or-set_other, get_or-replicate, get_or_past, length-replicate, length-set}
-use Rattle.std.proofs.lemmas.Bool.{cases_eq, cases_lt}
-use Rattle.gates.specs.declared.circuit.GateId.{GateId}
-use Rattle.gates.specs.declared.circuit.Gate.{Gate}
-use Rattle.gates.specs.declared.circuit.Gate.TheVariants.{Input}
-use Rattle.gates.specs.Cone.{IsCone, IsMarked, operands}
-use Rattle.gates.specs.Encoding.{AreInputs}
-use Rattle.gates.specs.Numbering.{AreApart, AreNumbered, HasNumber, IsNumbering, IsNumberingOf, IsPartNumbering}
-use Rattle.gates.specs.Values.{AreFit, IsFit, inputs_of}
-use Rattle.std.proofs.lemmas.Option.{slice_get_within}
+use Rattle.gates.proofs.Common.{All, ℕ, zero, suc, ◌≡◌, ◌≢◌, ◌<◌, ◌≤◌, ◌+◌, ◌-◌, ◌++◌, inl, inr, Bool, false, List, [], ◌∷◌, get_or, slice_get, Some, length, arith, sym, ap, subst, refl, ◌∙◌, length-append, Contains, slice_set, replicate, get_or_push, get_or_append_left, get_or-set_same, get_or-set_other, get_or-replicate, get_or_past, length-replicate, length-set, cases_eq, cases_lt, GateId, Gate, Input, IsCone, IsMarked, operands, AreInputs, AreApart, AreNumbered, HasNumber, IsNumbering, IsNumberingOf, IsPartNumbering, AreFit, IsFit, inputs_of, slice_get_within}
 use Rattle.gates.proofs.FactLemmas.{fit_stored, input_gate, inputs_stored}
 use Rattle.gates.proofs.Marks.{operands-below}
 

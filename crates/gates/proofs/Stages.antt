@@ -1,13 +1,6 @@
 -- The values of gates as one more is stored.
-use Rattle.std.proofs.Common.{ℕ, zero, suc, ◌≡◌, ◌<◌, ◌+◌, ◌++◌, ◌⊎◌, inl, inr, Bool, true, false, not, ◌&&◌, cond, List, [], ◌∷◌, Some, get_or, slice_get, take, length, arith, sym, ap, subst, refl, ◌∙◌, length-append, append-nil}
-use mathlib.Core.Bool.{beq}
-use Rattle.std.proofs.lemmas.List.{get_or_push, get_or_append_left}
-use Rattle.gates.specs.declared.circuit.GateId.{GateId}
-use Rattle.gates.specs.declared.circuit.Gate.{Gate}
-use Rattle.gates.specs.declared.circuit.Gate.TheVariants.{Zero, Input, And, Xor, Choose}
-use Rattle.std.specs.Prelude.{Contains, Result, Ok, Err, IfOk}
+use Rattle.gates.proofs.Common.{ℕ, zero, suc, ◌≡◌, ◌<◌, ◌+◌, ◌++◌, ◌⊎◌, inl, inr, Bool, true, false, not, ◌&&◌, cond, List, [], ◌∷◌, Some, get_or, slice_get, take, length, arith, sym, ap, subst, refl, ◌∙◌, length-append, append-nil, beq, get_or_push, get_or_append_left, GateId, Gate, Zero, Input, And, Xor, Choose, Contains, Result, Ok, Err, IfOk, value_at, gate_value, values_from, values_of, exclusive, gate_at, inputs_of, IsFit, AreFit, IsInput, Keeps, Grows, Makes}
 use Rattle.std.proofs.lemmas.List.Elements.{Contains-append_right}
-use Rattle.gates.specs.Values.{value_at, gate_value, values_from, values_of, exclusive, gate_at, inputs_of, IsFit, AreFit, IsInput, Keeps, Grows, Makes}
 
 pub AreFit-push : (n : ℕ) (gs : List Gate) (g : Gate) → AreFit n gs → IsFit (n + length gs) g → AreFit n (gs ++ g ∷ [])
 AreFit-push n [] g h fit = (subst (λ k. IsFit k g) (let e : n + 0 ≡ n = omega arith in e) fit, tt)

@@ -1,16 +1,5 @@
 -- Sums and differences, and where they have no room.
-use Rattle.std.proofs.Common.{ℕ, suc, ◌≡◌, ◌<◌, ◌≤◌, ◌+◌, ◌-◌, ◌*◌, ◌%◌, ◌^◌, Bool, true, false, not, ◌&&◌, ◌||◌, nat_le, nat_lt, pos, negsuc, inl, inr, refl, ap, sym, ◌∙◌, arith}
-use Rattle.std.specs.Prelude.{◌+ℤ◌, ◌-ℤ◌}
-use Rattle.std.proofs.lemmas.Bool.{cases_lt, lt-ltb, le-ltb, le-leb, lt-leb}
-use Rattle.std.proofs.lemmas.Int.{ints}
-use Rattle.std.proofs.Math.Nat.{mod-eq_of_lt, add-mod_right}
-use Rattle.byte_block.specs.declared.value.Value.TheVariants.{Num}
-use Rattle.ir_tree.specs.declared.tree.Flags.{Flags}
-use Rattle.ir_tree.specs.declared.tree.Op.TheVariants.{Add, Sub}
-use Rattle.tv_num.specs.Width.{signed_of, wrapped, is_outside_signed, is_outside_unsigned}
-use Rattle.points.specs.Table.{is_negative, is_flagged, poison_if}
-use Rattle.mem_terms.specs.Values.{value_from}
-use Rattle.inst_terms.specs.Rows.{is_sign_alone, row_of}
+use Rattle.inst_terms.proofs.Common.{ℕ, suc, ◌≡◌, ◌<◌, ◌≤◌, ◌+◌, ◌-◌, ◌*◌, ◌%◌, ◌^◌, Bool, true, false, not, ◌&&◌, ◌||◌, nat_le, nat_lt, pos, negsuc, inl, inr, refl, ap, sym, ◌∙◌, arith, ◌+ℤ◌, ◌-ℤ◌, cases_lt, lt-ltb, le-ltb, le-leb, lt-leb, ints, mod-eq_of_lt, add-mod_right, Num, Flags, Add, Sub, signed_of, wrapped, is_outside_signed, is_outside_unsigned, is_negative, is_flagged, poison_if, value_from, is_sign_alone, row_of}
 use Rattle.inst_terms.proofs.Rows.{from_is-if}
 use Rattle.inst_terms.proofs.Halves.{halves, signed_low, signed_high, outside-pos, outside-neg}
 

@@ -1,19 +1,6 @@
 -- Casts of numbers.
-use Rattle.std.proofs.Common.{ℕ, ◌≡◌, ◌<◌, ◌≤◌, ◌+◌, ◌-◌, ◌*◌, ◌/◌, ◌%◌, ◌^◌, Bool, false, ◌&&◌, ◌||◌, List, pos, inl, inr, refl, ap, sym, ◌∙◌, arith, pow_pos, subst}
-use Rattle.std.proofs.lemmas.Bool.{cases_lt, lt-leb}
-use Rattle.std.proofs.lemmas.Nat.{mod_below, mod-mul-add, shr_split, shr_below}
-use Rattle.std.proofs.Math.Nat.{mod-eq_of_lt}
-use Rattle.ir_tree.specs.declared.tree.Flags.{Flags}
+use Rattle.inst_terms.proofs.Common.{ℕ, ◌≡◌, ◌<◌, ◌≤◌, ◌+◌, ◌-◌, ◌*◌, ◌/◌, ◌%◌, ◌^◌, Bool, false, ◌&&◌, ◌||◌, List, pos, inl, inr, refl, ap, sym, ◌∙◌, arith, pow_pos, subst, cases_lt, lt-leb, mod_below, mod-mul-add, shr_split, shr_below, mod-eq_of_lt, Flags, TermId, Term, width_of, extended_signed, Makes, Tests, IsTerm, AreInRange, term_at, tree_in, signed_of, wrapped, is_outside_signed, is_outside_unsigned, cast_number, is_flagged, is_negative, term-below, NarrowValue, narrow_at}
 use Rattle.ir_tree.specs.declared.tree.Cast.TheVariants.{Truncate, ZeroExtend, SignExtend}
-use Rattle.bv_terms.specs.declared.term.TermId.{TermId}
-use Rattle.bv_terms.specs.declared.term.Term.{Term}
-use Rattle.bv_terms.specs.Tree.{width_of, extended_signed}
-use Rattle.bv_terms.specs.Trees.{Makes, Tests, IsTerm, AreInRange, term_at, tree_in}
-use Rattle.tv_num.specs.Width.{signed_of, wrapped, is_outside_signed, is_outside_unsigned}
-use Rattle.points.specs.Table.{cast_number, is_flagged, is_negative}
-use Rattle.mem_terms.proofs.Bits.{term-below}
-use Rattle.inst_terms.specs.declared.narrow.NarrowValue.{NarrowValue}
-use Rattle.inst_terms.specs.Narrow.{narrow_at}
 use Rattle.inst_terms.proofs.Rows.{from_is-if}
 use Rattle.inst_terms.proofs.Halves.{halves, signed_low, signed_high, outside-pos, outside-neg}
 use Rattle.inst_terms.proofs.Additions.{outside-natural}

@@ -1,17 +1,6 @@
 -- What terms made one after another denote.
-use Rattle.std.proofs.Common.{ℕ, zero, suc, ◌≡◌, ◌<◌, ◌≤◌, ◌-◌, ◌*◌, ◌/◌, ◌%◌, ◌^◌, not, nat_eq, nat_le, nat_lt, List, pos, refl, ap, ◌∙◌, arith}
-use Rattle.std.specs.Prelude.{int_lt, int_le, ◌*ℤ◌}
-use Rattle.bv_terms.specs.declared.term.TermId.{TermId}
-use Rattle.bv_terms.specs.declared.term.Term.{Term}
-use Rattle.bv_terms.specs.Tree.{width_of, truth, extended_signed, is_less_signed}
-use Rattle.bv_terms.specs.Trees.{Keeps, Makes, Tests, IsTerm, AreInRange, term_at, bit_at, tree_in}
-use Rattle.tv_num.specs.Width.{signed_of, is_outside_signed, is_outside_unsigned}
+use Rattle.inst_terms.proofs.Common.{ℕ, zero, suc, ◌≡◌, ◌<◌, ◌≤◌, ◌-◌, ◌*◌, ◌/◌, ◌%◌, ◌^◌, not, nat_eq, nat_le, nat_lt, List, pos, refl, ap, ◌∙◌, arith, int_lt, int_le, ◌*ℤ◌, TermId, Term, width_of, truth, extended_signed, is_less_signed, Keeps, Makes, Tests, IsTerm, AreInRange, term_at, bit_at, tree_in, signed_of, is_outside_signed, is_outside_unsigned, number_at, value_from, term-below, bit-later, term-later, keeps_trans, NarrowValue, IsNarrow, narrow_at}
 use Rattle.points.specs.Table as table
-use Rattle.mem_terms.specs.Values.{number_at, value_from}
-use Rattle.mem_terms.proofs.Bits.{term-below}
-use Rattle.mem_terms.proofs.Later.{bit-later, term-later, keeps_trans}
-use Rattle.inst_terms.specs.declared.narrow.NarrowValue.{NarrowValue}
-use Rattle.inst_terms.specs.Narrow.{IsNarrow, narrow_at}
 use Rattle.inst_terms.proofs.Orders.{not-less, not-less-integer, less-signed}
 use Rattle.inst_terms.proofs.Cuts.{outside-unsigned, outside-signed}
 use Rattle.inst_terms.proofs.Multiplication.{product-fits, product-exact, product-low}

@@ -1,10 +1,5 @@
 -- Numbers with fewer bits, and whether they are the same.
-use Rattle.std.proofs.Common.{ℕ, zero, suc, ◌≡◌, ◌≢◌, ◌<◌, ◌≤◌, ◌+◌, ◌-◌, ◌*◌, ◌/◌, ◌%◌, ◌^◌, not, nat_eq, nat_le, pos, inl, inr, refl, ap, sym, ◌∙◌, arith, pow-add, pow_pos, pow_mono, subst}
-use Rattle.std.proofs.lemmas.Bool.{cases_lt, le-leb, lt-leb, eq-eqb, ne_eqb}
-use Rattle.std.proofs.lemmas.Nat.{mod_below, mod-mul-add, shr_split, shr_below}
-use Rattle.std.proofs.Math.Nat.{mod-eq_of_lt, div-eq_of_lt}
-use Rattle.bv_terms.specs.Tree.{extended_signed}
-use Rattle.tv_num.specs.Width.{signed_of, is_outside_signed, is_outside_unsigned}
+use Rattle.inst_terms.proofs.Common.{ℕ, zero, suc, ◌≡◌, ◌≢◌, ◌<◌, ◌≤◌, ◌+◌, ◌-◌, ◌*◌, ◌/◌, ◌%◌, ◌^◌, not, nat_eq, nat_le, pos, inl, inr, refl, ap, sym, ◌∙◌, arith, pow-add, pow_pos, pow_mono, subst, cases_lt, le-leb, lt-leb, eq-eqb, ne_eqb, mod_below, mod-mul-add, shr_split, shr_below, mod-eq_of_lt, div-eq_of_lt, extended_signed, signed_of, is_outside_signed, is_outside_unsigned}
 use Rattle.inst_terms.proofs.Halves.{halves, signed_low, signed_high, outside-pos, outside-neg}
 use Rattle.inst_terms.proofs.Additions.{outside-natural}
 

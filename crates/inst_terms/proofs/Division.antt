@@ -1,17 +1,7 @@
 -- Division of numbers in two's complement by their magnitudes.
-use Rattle.std.proofs.Common.{ℕ, zero, suc, ◌≡◌, ◌<◌, ◌≤◌, ◌+◌, ◌-◌, ◌/◌, ◌%◌, ◌^◌, Bool, true, false, not, cond, ◌&&◌, ◌||◌, nat_eq, pos, neg_ℤ, inl, inr, refl, ap, sym, ◌∙◌, arith, pow_pos}
-use Rattle.std.specs.Prelude.{int_div, int_rem}
+use Rattle.inst_terms.proofs.Common.{ℕ, zero, suc, ◌≡◌, ◌<◌, ◌≤◌, ◌+◌, ◌-◌, ◌/◌, ◌%◌, ◌^◌, Bool, true, false, not, cond, ◌&&◌, ◌||◌, nat_eq, pos, neg_ℤ, inl, inr, refl, ap, sym, ◌∙◌, arith, pow_pos, int_div, int_rem, cases_lt, lt-ltb, le-ltb, le-leb, lt-leb, mod-eq_of_lt, mod_self, div-le_self, mod-le, SignedDiv, SignedRem, Num, quotient, remainder, signed_of, wrapped, is_negative, have_two_signs, is_zero_or_poison, has_no_quotient, is_undefined, value_from, magnitude, negated_if, row_of}
 use Rattle.std.specs.Ordering.{int_eq}
 use Rattle.std.proofs.Math.Dec.{eqb-suc-zero}
-use Rattle.std.proofs.lemmas.Bool.{cases_lt, lt-ltb, le-ltb, le-leb, lt-leb}
-use Rattle.std.proofs.Math.Nat.{mod-eq_of_lt, mod_self, div-le_self, mod-le}
-use Rattle.ir_tree.specs.declared.tree.Op.TheVariants.{SignedDiv, SignedRem}
-use Rattle.byte_block.specs.declared.value.Value.TheVariants.{Num}
-use Rattle.bv_terms.specs.Tree.{quotient, remainder}
-use Rattle.tv_num.specs.Width.{signed_of, wrapped}
-use Rattle.points.specs.Table.{is_negative, have_two_signs, is_zero_or_poison, has_no_quotient, is_undefined}
-use Rattle.mem_terms.specs.Values.{value_from}
-use Rattle.inst_terms.specs.Rows.{magnitude, negated_if, row_of}
 use Rattle.inst_terms.proofs.Rows.{from_is-if, some-divisor}
 use Rattle.inst_terms.proofs.Halves.{halves, signed_low, signed_high}
 use Rattle.inst_terms.proofs.Additions.{by-halves}

@@ -1,16 +1,6 @@
 -- Where divisions are undefined.
-use Rattle.std.proofs.Common.{ℕ, ◌≡◌, ◌<◌, ◌-◌, ◌^◌, Bool, true, false, ◌&&◌, ◌||◌, nat_eq, List, refl, ◌∙◌}
-use Rattle.byte_block.specs.declared.value.Value.{Value}
-use Rattle.bv_terms.specs.declared.term.TermId.{TermId}
-use Rattle.bv_terms.specs.declared.term.Term.{Term}
-use Rattle.bv_terms.specs.Trees.{Keeps, Tests, AreInRange, term_at, bit_at}
-use Rattle.mem_terms.specs.Values.{value_from}
-use Rattle.mem_terms.proofs.Bits.{term-below}
-use Rattle.mem_terms.proofs.Later.{bit-later}
+use Rattle.inst_terms.proofs.Common.{ℕ, ◌≡◌, ◌<◌, ◌-◌, ◌^◌, Bool, true, false, ◌&&◌, ◌||◌, nat_eq, List, refl, ◌∙◌, Value, TermId, Term, Keeps, Tests, AreInRange, term_at, bit_at, value_from, term-below, bit-later, has_no_quotient, is_least_or_poison, is_zero_or_poison, NarrowValue, IsNarrow, narrow_at}
 use Rattle.mem_terms.proofs.Made.{small_mod}
-use Rattle.points.specs.Table.{has_no_quotient, is_least_or_poison, is_zero_or_poison}
-use Rattle.inst_terms.specs.declared.narrow.NarrowValue.{NarrowValue}
-use Rattle.inst_terms.specs.Narrow.{IsNarrow, narrow_at}
 use Rattle.inst_terms.proofs.Chains.{narrow-later}
 
 zero_is : (n : ℕ) (p : Bool) (x : ℕ) → x < 2 ^ n → (p || nat_eq x 0) ≡ is_zero_or_poison n (value_from p x)

@@ -1,16 +1,5 @@
 -- Numbers in two's complement, and their signs.
-use Rattle.std.proofs.Common.{ℕ, zero, suc, ◌≡◌, ◌<◌, ◌≤◌, ◌-◌, ◌*◌, ◌/◌, ◌%◌, ◌^◌, Bool, true, false, not, ◌&&◌, ◌||◌, nat_le, pos, negsuc, neg_ℤ, inl, inr, List, refl, ap, ◌∙◌, arith, bit_xor, pow_pos}
-use Rattle.std.specs.Prelude.{int_lt, int_le}
-use Rattle.std.proofs.lemmas.Bool.{cases_lt, lt-ltb, le-ltb, le-leb, lt-leb}
-use Rattle.std.proofs.lemmas.Int.{ints}
-use Rattle.std.proofs.Math.Nat.{div-eq_of_lt, div-eq_of_lt-le}
-use Rattle.bv_terms.specs.declared.term.TermId.{TermId}
-use Rattle.bv_terms.specs.declared.term.Term.{Term}
-use Rattle.bv_terms.specs.Tree.{width_of, truth}
-use Rattle.bv_terms.specs.Trees.{Makes, Tests, IsTerm, AreInRange, term_at, bit_at, tree_in}
-use Rattle.mem_terms.proofs.Bits.{term-below}
-use Rattle.tv_num.specs.Width.{signed_of, is_outside_signed}
-use Rattle.points.specs.Table.{is_negative}
+use Rattle.inst_terms.proofs.Common.{ℕ, zero, suc, ◌≡◌, ◌<◌, ◌≤◌, ◌-◌, ◌*◌, ◌/◌, ◌%◌, ◌^◌, Bool, true, false, not, ◌&&◌, ◌||◌, nat_le, pos, negsuc, neg_ℤ, inl, inr, List, refl, ap, ◌∙◌, arith, bit_xor, pow_pos, int_lt, int_le, cases_lt, lt-ltb, le-ltb, le-leb, lt-leb, ints, div-eq_of_lt, div-eq_of_lt-le, TermId, Term, width_of, truth, Makes, Tests, IsTerm, AreInRange, term_at, bit_at, tree_in, term-below, signed_of, is_outside_signed, is_negative}
 
 -- ---- the two halves
 

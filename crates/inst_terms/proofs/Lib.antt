@@ -1,3 +1,4 @@
+pub mod Common
 pub mod Halves
 pub mod Rows
 pub mod Additions

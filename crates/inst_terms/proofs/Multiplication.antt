@@ -1,12 +1,6 @@
 -- Exact products of numbers in two's complement.
-use Rattle.std.proofs.Common.{ℕ, zero, suc, ◌≡◌, ◌<◌, ◌≤◌, ◌+◌, ◌-◌, ◌*◌, ◌%◌, ◌^◌, pos, negsuc, neg_ℤ, inl, inr, refl, ap, sym, ◌∙◌, arith, pow-add, pow_pos}
-use Rattle.std.specs.Prelude.{◌*ℤ◌}
-use Rattle.std.proofs.lemmas.Bool.{cases_lt}
-use Rattle.std.proofs.lemmas.Nat.{mod-mul-add, mul-lt, mul-le, mul-mod}
-use Rattle.std.proofs.Math.Nat.{mod-eq_of_lt, mod_self, zero-mod}
+use Rattle.inst_terms.proofs.Common.{ℕ, zero, suc, ◌≡◌, ◌<◌, ◌≤◌, ◌+◌, ◌-◌, ◌*◌, ◌%◌, ◌^◌, pos, negsuc, neg_ℤ, inl, inr, refl, ap, sym, ◌∙◌, arith, pow-add, pow_pos, ◌*ℤ◌, cases_lt, mod-mul-add, mul-lt, mul-le, mul-mod, mod-eq_of_lt, mod_self, zero-mod, extended_signed, signed_of}
 use Rattle.std.proofs.Math.Pow.{mod-mod-pow}
-use Rattle.bv_terms.specs.Tree.{extended_signed}
-use Rattle.tv_num.specs.Width.{signed_of}
 use Rattle.inst_terms.proofs.Halves.{halves, signed_low, signed_high}
 use Rattle.inst_terms.proofs.Additions.{by-halves}
 use Rattle.inst_terms.proofs.Cuts.{wider, extended-low, extended-high}

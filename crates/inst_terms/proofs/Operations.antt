@@ -1,17 +1,5 @@
 -- Each operation on numbers denotes its row.
-use Rattle.std.proofs.Common.{ℕ, ◌≤◌, ◌+◌, ◌-◌, ◌*◌, ◌%◌, ◌^◌, Bool, false, not, ◌&&◌, ◌||◌, nat_eq, nat_le, nat_lt, List, pos, bit_and, bit_or, bit_xor}
-use Rattle.std.specs.Prelude.{◌*ℤ◌}
-use Rattle.ir_tree.specs.declared.tree.Flags.{Flags}
-use Rattle.ir_tree.specs.declared.tree.Op.TheVariants.{Add, Sub, Mul, UnsignedDiv, UnsignedRem, SignedDiv, SignedRem, ShiftLeft, LogicalShiftRight, ArithmeticShiftRight, And, Or, Xor}
-use Rattle.bv_terms.specs.declared.term.TermId.{TermId}
-use Rattle.bv_terms.specs.declared.term.Term.{Term}
-use Rattle.bv_terms.specs.Tree.{quotient, remainder, shifted_left, shifted_right, shifted_signed}
-use Rattle.bv_terms.specs.Trees.{Makes, Tests, IsTerm, AreInRange, term_at}
-use Rattle.tv_num.specs.Width.{signed_of, is_outside_signed, is_outside_unsigned}
-use Rattle.points.specs.Table.{have_two_signs, is_flagged, is_negative}
-use Rattle.mem_terms.proofs.Bits.{term-below}
-use Rattle.inst_terms.specs.declared.narrow.NarrowValue.{NarrowValue}
-use Rattle.inst_terms.specs.Rows.{IsRow, is_sign_alone, magnitude, negated_if}
+use Rattle.inst_terms.proofs.Common.{ℕ, ◌≤◌, ◌+◌, ◌-◌, ◌*◌, ◌%◌, ◌^◌, Bool, false, not, ◌&&◌, ◌||◌, nat_eq, nat_le, nat_lt, List, pos, bit_and, bit_or, bit_xor, ◌*ℤ◌, Flags, Add, Sub, Mul, UnsignedDiv, UnsignedRem, SignedDiv, SignedRem, ShiftLeft, LogicalShiftRight, ArithmeticShiftRight, And, Or, Xor, TermId, Term, quotient, remainder, shifted_left, shifted_right, shifted_signed, Makes, Tests, IsTerm, AreInRange, term_at, signed_of, is_outside_signed, is_outside_unsigned, have_two_signs, is_flagged, is_negative, term-below, NarrowValue, IsRow, is_sign_alone, magnitude, negated_if}
 use Rattle.inst_terms.proofs.Rows.{from_is-if, and_is, or_is, xor_is, quotient_is, remainder_is}
 use Rattle.inst_terms.proofs.Additions.{sum_is, difference_is}
 use Rattle.inst_terms.proofs.Division.{signed_quotient_is, signed_remainder_is}

@@ -1,9 +1,5 @@
 -- Orders of numbers, and their truths.
-use Rattle.std.proofs.Common.{ℕ, ◌≡◌, ◌<◌, ◌-◌, ◌^◌, not, nat_le, nat_lt, ℤ, pos, negsuc, inl, inr, refl, ap, ◌∙◌, arith}
-use Rattle.std.specs.Prelude.{int_lt, int_le}
-use Rattle.std.proofs.lemmas.Bool.{cases_lt, lt-ltb, le-ltb, le-leb, lt-leb}
-use Rattle.bv_terms.specs.Tree.{is_less_signed}
-use Rattle.tv_num.specs.Width.{signed_of}
+use Rattle.inst_terms.proofs.Common.{ℕ, ◌≡◌, ◌<◌, ◌-◌, ◌^◌, not, nat_le, nat_lt, ℤ, pos, negsuc, inl, inr, refl, ap, ◌∙◌, arith, int_lt, int_le, cases_lt, lt-ltb, le-ltb, le-leb, lt-leb, is_less_signed, signed_of}
 use Rattle.inst_terms.proofs.Halves.{signed_low, signed_high}
 
 pub not-less : (a b : ℕ) → not (nat_lt b a) ≡ nat_le a b

@@ -1,14 +1,5 @@
 -- The rows that need no arithmetic, and the whole table from them.
-use Rattle.std.proofs.Common.{ℕ, ◌≡◌, ◌<◌, ◌/◌, ◌%◌, ◌^◌, Bool, true, false, not, ◌&&◌, ◌||◌, nat_eq, Some, inl, inr, bit_and, bit_or, bit_xor, refl, ap, sym, ◌∙◌}
-use Rattle.std.proofs.lemmas.Bool.{cases_Bool}
-use Rattle.std.proofs.Math.Nat.{mod-mod, mod-eq_of_lt}
-use Rattle.ir_tree.specs.declared.tree.Op.{Op}
-use Rattle.ir_tree.specs.declared.tree.Op.TheVariants.{Add, Sub, Mul, UnsignedDiv, UnsignedRem, SignedDiv, SignedRem, ShiftLeft, LogicalShiftRight, ArithmeticShiftRight, And, Or, Xor}
-use Rattle.byte_block.specs.declared.value.Value.TheVariants.{Num}
-use Rattle.bv_terms.specs.Tree.{quotient, remainder}
-use Rattle.points.specs.Table.{poison_if, is_zero_or_poison, is_minus_1, is_least_or_poison, is_undefined, defined_result, value_result}
-use Rattle.mem_terms.specs.Values.{value_from, option_from}
-use Rattle.inst_terms.specs.Rows.{row_of}
+use Rattle.inst_terms.proofs.Common.{ℕ, ◌≡◌, ◌<◌, ◌/◌, ◌%◌, ◌^◌, Bool, true, false, not, ◌&&◌, ◌||◌, nat_eq, Some, inl, inr, bit_and, bit_or, bit_xor, refl, ap, sym, ◌∙◌, cases_Bool, mod-mod, mod-eq_of_lt, Op, Add, Sub, Mul, UnsignedDiv, UnsignedRem, SignedDiv, SignedRem, ShiftLeft, LogicalShiftRight, ArithmeticShiftRight, And, Or, Xor, Num, quotient, remainder, poison_if, is_zero_or_poison, is_minus_1, is_least_or_poison, is_undefined, defined_result, value_result, value_from, option_from, row_of}
 
 pub from_is-if : (p : Bool) (x : ℕ) → value_from p x ≡ poison_if p (Num x)
 from_is-if true x = refl

@@ -1,17 +1,6 @@
 -- Shifts, and whether they lose bits.
-use Rattle.std.proofs.Common.{ℕ, zero, suc, ◌≡◌, ◌<◌, ◌≤◌, ◌+◌, ◌-◌, ◌*◌, ◌/◌, ◌%◌, ◌^◌, Bool, not, cond, ◌&&◌, ◌||◌, nat_eq, nat_le, pos, negsuc, neg_ℤ, inl, inr, refl, ap, sym, ◌∙◌, arith, pow-add, pow_pos, subst}
-use Rattle.std.specs.Prelude.{◌*ℤ◌}
+use Rattle.inst_terms.proofs.Common.{ℕ, zero, suc, ◌≡◌, ◌<◌, ◌≤◌, ◌+◌, ◌-◌, ◌*◌, ◌/◌, ◌%◌, ◌^◌, Bool, not, cond, ◌&&◌, ◌||◌, nat_eq, nat_le, pos, negsuc, neg_ℤ, inl, inr, refl, ap, sym, ◌∙◌, arith, pow-add, pow_pos, subst, ◌*ℤ◌, cases_lt, cases_eq, lt-ltb, le-leb, lt-leb, eq-eqb, ne_eqb, mod_below, mod-pow-add, shl-shr, shr_split, div-mul-add, mod-mul-add, mul-le, shr_below, mod-eq_of_lt, mul-mod_left, div-le_self, Flags, ShiftLeft, LogicalShiftRight, ArithmeticShiftRight, extended_signed, shifted_left, shifted_right, shifted_signed, signed_of, wrapped, is_outside_signed, is_outside_unsigned, is_negative, value_from, row_of}
 use Rattle.std.specs.Int.{int_shr}
-use Rattle.std.proofs.lemmas.Bool.{cases_lt, cases_eq, lt-ltb, le-leb, lt-leb, eq-eqb, ne_eqb}
-use Rattle.std.proofs.lemmas.Nat.{mod_below, mod-pow-add, shl-shr, shr_split, div-mul-add, mod-mul-add, mul-le, shr_below}
-use Rattle.std.proofs.Math.Nat.{mod-eq_of_lt, mul-mod_left, div-le_self}
-use Rattle.ir_tree.specs.declared.tree.Flags.{Flags}
-use Rattle.ir_tree.specs.declared.tree.Op.TheVariants.{ShiftLeft, LogicalShiftRight, ArithmeticShiftRight}
-use Rattle.bv_terms.specs.Tree.{extended_signed, shifted_left, shifted_right, shifted_signed}
-use Rattle.tv_num.specs.Width.{signed_of, wrapped, is_outside_signed, is_outside_unsigned}
-use Rattle.points.specs.Table.{is_negative}
-use Rattle.mem_terms.specs.Values.{value_from}
-use Rattle.inst_terms.specs.Rows.{row_of}
 use Rattle.inst_terms.proofs.Rows.{from_is-if}
 use Rattle.inst_terms.proofs.Halves.{signed_low, signed_high, outside-pos, outside-neg}
 use Rattle.inst_terms.proofs.Additions.{flagged-is, outside-natural}

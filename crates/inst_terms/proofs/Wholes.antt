@@ -1,25 +1,11 @@
 -- The results of the public calls denote what the table gives.
-use Rattle.std.proofs.Common.{ℕ, zero, suc, ◌≡◌, ◌<◌, ◌/◌, ◌%◌, ◌^◌, Bool, true, false, cond, ◌||◌, nat_eq, List, refl, ap, subst, ◌∙◌, arith}
-use Rattle.std.specs.Prelude.{if◌then◌else◌}
-use Rattle.ir_tree.specs.declared.tree.Op.{Op}
+use Rattle.inst_terms.proofs.Common.{ℕ, zero, suc, ◌≡◌, ◌<◌, ◌/◌, ◌%◌, ◌^◌, Bool, true, false, cond, ◌||◌, nat_eq, List, refl, ap, subst, ◌∙◌, arith, if◌then◌else◌, Op, Value, Num, TermId, Term, truth, Keeps, Makes, Tests, term_at, bit_at, is_undefined, value_result, are_unlike, holds_of, compared, cast_number, cast_value, selected, IsSymNumber, IsSymValue, Reading, number_at, value_at, value_from, value_of, option_from, bit-later, term-later, value-later, keeps_self, keeps_trans, NarrowValue, IsNarrow, narrow_at, IsRow, row_of}
 use Rattle.ir_tree.specs.declared.tree.Cast.{Cast}
 use Rattle.ir_tree.specs.declared.tree.Predicate.{Predicate}
 use Rattle.byte_block.specs.declared.value.BlockName.{BlockName}
-use Rattle.byte_block.specs.declared.value.Value.{Value}
-use Rattle.byte_block.specs.declared.value.Value.TheVariants.{Num}
-use Rattle.bv_terms.specs.declared.term.TermId.{TermId}
-use Rattle.bv_terms.specs.declared.term.Term.{Term}
-use Rattle.bv_terms.specs.Tree.{truth}
-use Rattle.bv_terms.specs.Trees.{Keeps, Makes, Tests, term_at, bit_at}
 use Rattle.points.specs.Table as table
-use Rattle.points.specs.Table.{is_undefined, value_result, are_unlike, holds_of, compared, cast_number, cast_value, selected}
 use Rattle.mem_terms.specs.declared.integers.SymNumber.{SymNumber}
 use Rattle.mem_terms.specs.declared.values.SymValue.{SymValue}
-use Rattle.mem_terms.specs.Values.{IsSymNumber, IsSymValue, Reading, number_at, value_at, value_from, value_of, option_from}
-use Rattle.mem_terms.proofs.Later.{bit-later, term-later, value-later, keeps_self, keeps_trans}
-use Rattle.inst_terms.specs.declared.narrow.NarrowValue.{NarrowValue}
-use Rattle.inst_terms.specs.Narrow.{IsNarrow, narrow_at}
-use Rattle.inst_terms.specs.Rows.{IsRow, row_of}
 use Rattle.inst_terms.proofs.Rows.{binary_is, from_is-if}
 
 -- ---- two operands at their width

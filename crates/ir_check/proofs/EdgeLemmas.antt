@@ -1,23 +1,10 @@
 -- What the marks say once the entries of a phi were walked.
-use Rattle.std.proofs.Common.{◌≡◌, ◌↔◌, ◌⊎◌, inl, inr, ℕ, ◌+◌, ◌<◌, ◌≤◌, ◌%◌, ◌^◌, ◌==◌, Bool, true, false, List, [], ◌∷◌, ◌++◌, length, get_or, take, drop, take-append-drop, map, set, replicate, refl, ap, sym, subst, ◌∙◌, arith, Any, Contains}
-use Rattle.std.specs.List.{list_any}
-use Rattle.std.proofs.lemmas.Bool.{cases_eq, cases_lt, both_ways}
-use Rattle.std.proofs.lemmas.Bool.Decides.{nat_tests}
-use Rattle.std.proofs.lemmas.List.{take_more, get_or-set_same, get_or-set_other, get_or-replicate, get_or_past, length-replicate}
-use Rattle.std.proofs.lemmas.List.Elements.{Contains-append_left, Contains-push, Contains-push_cases}
+use Rattle.ir_check.proofs.Common.{◌≡◌, ◌↔◌, ◌⊎◌, inl, inr, ℕ, ◌+◌, ◌<◌, ◌≤◌, ◌%◌, ◌^◌, ◌==◌, Bool, true, false, List, [], ◌∷◌, ◌++◌, length, get_or, take, drop, take-append-drop, map, set, replicate, refl, ap, sym, subst, ◌∙◌, arith, Any, Contains, list_any, cases_eq, cases_lt, both_ways, nat_tests, take_more, get_or-set_same, get_or-set_other, get_or-replicate, get_or_past, length-replicate, Contains-append_left, Contains-push, Contains-push_cases, slice_get_read, slice_get_within, get_or_from_slice_get, IrType, Phi, is_same_operand, HasTwoOperands, made_of, makes, Mark, Stranger, Awaited, Given, IsUnfit, IsUnfitEntry, HasUnfitEntry, HasNoEntry, HasOneOperand, IsMarkOf, AreMarked, is_awaited}
 use Rattle.std.proofs.lemmas.List.Folds.{Any-from_list_any, list_any_at}
-use Rattle.std.proofs.lemmas.Option.{slice_get_read, slice_get_within, get_or_from_slice_get}
-use Rattle.ir_tree.specs.declared.tree.IrType.{IrType}
 use Rattle.ir_tree.specs.declared.tree.IrType.TheVariants.{Int, Ptr}
 use Rattle.ir_tree.specs.declared.tree.Operand.{Operand}
 use Rattle.ir_tree.specs.declared.tree.Operand.TheVariants.{Local, Number, Null, Poison, Undef}
 use Rattle.ir_tree.specs.declared.tree.PhiEntry.{PhiEntry}
-use Rattle.ir_tree.specs.declared.tree.Phi.{Phi}
-use Rattle.ir_tree.specs.WellFormed.{is_same_operand, HasTwoOperands}
-use Rattle.ir_tree.proofs.Definers.{made_of, makes}
-use Rattle.ir_check.specs.declared.marks.Mark.{Mark}
-use Rattle.ir_check.specs.declared.marks.Mark.TheVariants.{Stranger, Awaited, Given}
-use Rattle.ir_check.specs.Marks.{IsUnfit, IsUnfitEntry, HasUnfitEntry, HasNoEntry, HasOneOperand, IsMarkOf, AreMarked, is_awaited}
 
 -- ---- operands
 

@@ -1,20 +1,9 @@
 -- The lists of predecessors as they are made, block by block.
-use Rattle.std.proofs.Common.{◌≡◌, ◌↔◌, ◌⊎◌, inl, inr, ℕ, ◌<◌, List, [], ◌∷◌, ◌++◌, length, take, ◌+◌, get_or, set, slice_get, replicate, Option, Some, refl, ap, sym, subst, ◌∙◌, arith, length-set, All, Contains}
-use Rattle.std.proofs.lemmas.Bool.{cases_eq}
-use Rattle.std.proofs.lemmas.List.{take_more, get_or_default, get_or-set_same, get_or-set_other, get_or-replicate, length-replicate}
-use Rattle.std.proofs.lemmas.List.Elements.{Contains-append_left, Contains-get_or, Contains-push, Contains-push_cases}
-use Rattle.std.proofs.lemmas.Option.{slice_get_read, slice_get_within, get_or_from_slice_get, same_Some}
-use Rattle.ir_tree.specs.declared.tree.IrType.{IrType}
-use Rattle.ir_tree.specs.declared.tree.Phi.{Phi}
+use Rattle.ir_check.proofs.Common.{◌≡◌, ◌↔◌, ◌⊎◌, inl, inr, ℕ, ◌<◌, List, [], ◌∷◌, ◌++◌, length, take, ◌+◌, get_or, set, slice_get, replicate, Option, Some, refl, ap, sym, subst, ◌∙◌, arith, length-set, All, Contains, cases_eq, take_more, get_or_default, get_or-set_same, get_or-set_other, get_or-replicate, length-replicate, Contains-append_left, Contains-get_or, Contains-push, Contains-push_cases, slice_get_read, slice_get_within, get_or_from_slice_get, same_Some, IrType, Phi, Defines, Enters, AreNumbered, IsNumbered, sites, parts, all_at, defined_at, entered_at, ComesFromPredecessors, HasTwoOperands, HasWrongEdge, LeadsIn, ArePredecessors, IsUnfit, IsUnfitAt}
 use Rattle.ir_tree.specs.declared.tree.Block.{Block}
 use Rattle.ir_tree.specs.declared.tree.Function.{Function}
 use Rattle.ir_tree.specs.declared.sites.Part.TheVariants as part
-use Rattle.ir_tree.specs.declared.sites.Site.TheVariants.{Defines, Enters}
-use Rattle.ir_tree.specs.Sites.{AreNumbered, IsNumbered, sites, parts}
 use Rattle.ir_tree.specs.Flow.{IsPredecessor, targets}
-use Rattle.ir_tree.proofs.Definers.{all_at, defined_at, entered_at}
-use Rattle.ir_tree.specs.WellFormed.{ComesFromPredecessors, HasTwoOperands, HasWrongEdge}
-use Rattle.ir_check.specs.Marks.{LeadsIn, ArePredecessors, IsUnfit, IsUnfitAt}
 
 -- ---- the items that were walked
 

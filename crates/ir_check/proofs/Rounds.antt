@@ -1,11 +1,6 @@
 -- Marks of a round.
-use Rattle.std.proofs.Common.{◌≡◌, ℕ, suc, ◌+◌, ◌<◌, ◌≤◌, ◌==◌, true, false, List, [], ◌∷◌, length, get_or, set, replicate, refl, ap, sym, ◌∙◌, arith, All}
-use Rattle.std.proofs.lemmas.Bool.Decides.{nat_tests}
-use Rattle.std.proofs.lemmas.List.{get_or-replicate, length-replicate, length-map, map-set}
-use Rattle.ir_check.specs.declared.marks.Mark.{Mark}
-use Rattle.ir_check.specs.declared.marks.Mark.TheVariants.{Stranger}
+use Rattle.ir_check.proofs.Common.{◌≡◌, ℕ, suc, ◌+◌, ◌<◌, ◌≤◌, ◌==◌, true, false, List, [], ◌∷◌, length, get_or, set, replicate, refl, ap, sym, ◌∙◌, arith, All, nat_tests, get_or-replicate, length-replicate, length-map, map-set, Mark, Stranger, mark_in, marks_in}
 use Rattle.ir_check.specs.declared.marks.Slot.{Slot}
-use Rattle.ir_check.specs.Marks.{mark_in, marks_in}
 
 differs : (a b : ℕ) → a < b → (a == b) ≡ false
 differs a b less = grind (arith, nat_tests)

@@ -1,12 +1,7 @@
 -- The value of a name is that of its first definition.
-use Rattle.std.proofs.Common.{◌≡◌, ◌↔◌, IsTrue, true, false, ℕ, ◌<◌, ◌⊎◌, List, Option, Some, None, length, inl, inr, refl, arith}
-use Rattle.std.proofs.lemmas.Bool.{cases_eq}
-use Rattle.std.proofs.lemmas.Option.{slice_get_within}
+use Rattle.ir_check.proofs.Common.{◌≡◌, ◌↔◌, IsTrue, true, false, ℕ, ◌<◌, ◌⊎◌, List, Option, Some, None, length, inl, inr, refl, arith, cases_eq, slice_get_within, IrType, Defines, Uses, Enters, DefinesAgain, IsLabel, UsesUnknown}
 use Rattle.std.specs.List.{slice_get}
-use Rattle.ir_tree.specs.declared.tree.IrType.{IrType}
 use Rattle.ir_tree.specs.declared.sites.Site.{Site}
-use Rattle.ir_tree.specs.declared.sites.Site.TheVariants.{Defines, Uses, Enters}
-use Rattle.ir_tree.specs.WellFormed.{DefinesAgain, IsLabel, UsesUnknown}
 use Rattle.ir_tree.specs.Definitions.{IsFirstDefinition}
 use Rattle.ir_check.specs.Values.{GivesValue, defined_type, is_label_of}
 

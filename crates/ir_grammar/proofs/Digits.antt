@@ -1,11 +1,9 @@
 -- The number of digits, from the left.
-use Rattle.std.proofs.Common.{◌≡◌, ℕ, ◌+◌, ◌-◌, ◌*◌, ◌<◌, ◌≤◌, ◌^◌, List, [], ◌∷◌, length, get_or, drop, Some, None, refl, sym, ap, ◌∙◌, add-one, arith, drop-cons}
-use Rattle.std.proofs.lemmas.Bool.{le-ltb, lt-ltb}
+use Rattle.ir_grammar.proofs.Common.{◌≡◌, ℕ, ◌+◌, ◌-◌, ◌*◌, ◌<◌, ◌≤◌, ◌^◌, List, [], ◌∷◌, length, get_or, drop, Some, None, refl, sym, ap, ◌∙◌, add-one, arith, drop-cons, le-ltb, lt-ltb, value_after, value_of, some_below}
 use Rattle.std.proofs.lemmas.List.{drop_all}
 use Rattle.std.specs.List.{list_all}
 use Rattle.ir_lexer.specs.Bytes.{is_digit}
 use Rattle.ir_lexer.specs.Spelling.{is_digits}
-use Rattle.ir_grammar.specs.Numbers.{value_after, value_of, some_below}
 
 pub value_after-ge : (v : ℕ) (ds : List ℕ) → v ≤ value_after v ds
 value_after-ge v [] = omega arith

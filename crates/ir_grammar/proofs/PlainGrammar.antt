@@ -1,16 +1,12 @@
 -- The forms of the grammar distinguish what comes next, so that looking one token ahead loses nothing.
-use Rattle.std.proofs.Common.{◌≡◌, ℕ, zero, suc, Bool, true, false, List, Option, Some, None, cond, refl, sym, subst, codes}
-use Rattle.std.specs.Prelude.{◌||◌, is_some, nat_lt}
+use Rattle.ir_grammar.proofs.Common.{◌≡◌, ℕ, zero, suc, Bool, true, false, List, Option, Some, None, cond, refl, sym, subst, codes, ◌||◌, is_some, nat_lt, Lexeme, IrType, never, either, LineStart, ParameterPart, HeaderPart, WrittenName, WrittenIntType, WrittenParameters, WrittenLines, WrittenLine, WrittenArrays, is_word_of, is_mark_of, terminator_of, flag_text, prefix_of, prefix_named, is_linkage, is_visibility, bits_of, spelled_width, int_typed_at, passed, passed_at, as_word, as_mark, int_type, element_type, return_type, terminator_word, attachment_or_type, brace, is_wrap, wraps, flagged_type, comparison, typed, binary, wrapping, exact, plain, disjunction, icmp, cast_by, truncate, zero_extend, sign_extend, select, freeze, inst_by, entry, phi, next_entry, attached, entry_or_attachment, is_square, with_length, arrays, closers, alloca_object, is_gep_flag, gep_flags, gep_arrays, gep_object, pointer, alloca, load, store, gep, aligned, align_or_attachment, next_index, index_or_attachment, inst_line, line_by, line_named, is_comma, is_prefix, prefixes, follows_parameter, with_part, parameter_parts, first_parameter, parameters, follows_header, comdat_rest, debug_rest, with_header, header_parts, attachment, record_rest, starts_line, started, commas, with_comma, whole_line, next_line, lines, returned_by, returned, target, cond_branch, branch_to, branch, is_type, with_case, cases, switch, return_of, terminator_by, attachments, block, begins_block, entry_block, next_block, blocks, define}
 use Rattle.std.specs.Str.{bytes_eq}
 use Rattle.std.proofs.lemmas.Slice.Eq.{bytes_eq-Decides}
 use Rattle.text_places.specs.declared.place.Place.{Place}
-use Rattle.ir_lexer.specs.Lexeme.{Lexeme}
 use Rattle.ir_lexer.specs.declared.token.Kind.{Kind}
 use Rattle.ir_lexer.specs.declared.token.Kind.TheVariants as kind
-use Rattle.ir_tree.specs.declared.tree.IrType.{IrType}
 use Rattle.ir_tree.specs.declared.tree.Op.{Op}
 use Rattle.ir_tree.specs.declared.tree.Cast.{Cast}
-use Rattle.token_forms.specs.Form.{never, either}
 use Rattle.token_forms.specs.Plain.{AreApart, TellsApart, SpellsAsPlain, SpellsOne}
 use Rattle.token_forms.proofs.Plain.{apart-never, apart-either, apart-spelled, apart-class, apart-tail, spells-as-plain, spells-one}
 use Rattle.ir_grammar.specs.declared.word.Opcode.{Opcode}
@@ -21,28 +17,14 @@ use Rattle.ir_grammar.specs.declared.word.LineWord.{LineWord}
 use Rattle.ir_grammar.specs.declared.word.LineWord.TheVariants as word_of
 use Rattle.ir_grammar.specs.declared.word.TerminatorWord.{TerminatorWord}
 use Rattle.ir_grammar.specs.declared.word.TerminatorWord.TheVariants as finish
-use Rattle.ir_grammar.specs.declared.word.LineStart.{LineStart}
 use Rattle.ir_grammar.specs.declared.word.LineStart.TheVariants as start
-use Rattle.ir_grammar.specs.declared.word.ParameterPart.{ParameterPart}
 use Rattle.ir_grammar.specs.declared.word.ParameterPart.TheVariants as part
-use Rattle.ir_grammar.specs.declared.word.HeaderPart.{HeaderPart}
 use Rattle.ir_grammar.specs.declared.word.HeaderPart.TheVariants as header
-use Rattle.ir_grammar.specs.declared.written.WrittenName.{WrittenName}
-use Rattle.ir_grammar.specs.declared.written.WrittenIntType.{WrittenIntType}
 use Rattle.ir_grammar.specs.declared.written.WrittenType.{WrittenType}
-use Rattle.ir_grammar.specs.declared.written.WrittenParameters.{WrittenParameters}
-use Rattle.ir_grammar.specs.declared.written.WrittenLines.{WrittenLines}
-use Rattle.ir_grammar.specs.declared.written.WrittenLine.{WrittenLine}
 use Rattle.ir_grammar.specs.declared.written.WrittenLine.TheVariants as line
 use Rattle.ir_grammar.specs.declared.written.WrittenPhi.{WrittenPhi}
-use Rattle.ir_grammar.specs.declared.written.WrittenArrays.{WrittenArrays}
 use Rattle.ir_grammar.specs.declared.written.WrittenAccess.{WrittenAccess}
 use Rattle.ir_grammar.specs.declared.written.WrittenGep.{WrittenGep}
-use Rattle.ir_grammar.specs.Words.{is_word_of, is_mark_of, terminator_of, flag_text, prefix_of, prefix_named, is_linkage, is_visibility}
-use Rattle.ir_grammar.specs.Spelling.{bits_of, spelled_width, int_typed_at}
-use Rattle.ir_grammar.specs.Classes.{passed, passed_at, as_word, as_mark, int_type, element_type, return_type, terminator_word, attachment_or_type, brace}
-use Rattle.ir_grammar.specs.Instructions.{is_wrap, wraps, flagged_type, comparison, typed, binary, wrapping, exact, plain, disjunction, icmp, cast_by, truncate, zero_extend, sign_extend, select, freeze, inst_by, entry, phi, next_entry, attached, entry_or_attachment, is_square, with_length, arrays, closers, alloca_object, is_gep_flag, gep_flags, gep_arrays, gep_object, pointer, alloca, load, store, gep, aligned, align_or_attachment, next_index, index_or_attachment, inst_line, line_by, line_named}
-use Rattle.ir_grammar.specs.Grammar.{is_comma, is_prefix, prefixes, follows_parameter, with_part, parameter_parts, first_parameter, parameters, follows_header, comdat_rest, debug_rest, with_header, header_parts, attachment, record_rest, starts_line, started, commas, with_comma, whole_line, next_line, lines, returned_by, returned, target, cond_branch, branch_to, branch, is_type, with_case, cases, switch, return_of, terminator_by, attachments, block, begins_block, entry_block, next_block, blocks, define}
 
 bytes-same : (xs ys : List ℕ) → bytes_eq xs ys ≡ true → xs ≡ ys
 bytes-same xs ys e = (bytes_eq-Decides xs ys).0 e

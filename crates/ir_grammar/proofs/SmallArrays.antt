@@ -1,11 +1,5 @@
 -- The test of nested arrays for their bytes.
-use Rattle.std.proofs.Common.{◌≡◌, ℕ, Bool, true, false, leb, List, [], ◌∷◌, refl}
-use Rattle.std.specs.Prelude.{◌&&◌}
-use Rattle.std.proofs.lemmas.Bool.{le-leb, leb-true}
-use Rattle.ir_tree.specs.declared.tree.IrType.{IrType}
-use Rattle.ir_tree.specs.Types.{nested_size}
-use Rattle.ir_tree.specs.Limits.{HasSmallArrays}
-use Rattle.ir_grammar.specs.Spelling.{are_small_arrays}
+use Rattle.ir_grammar.proofs.Common.{◌≡◌, ℕ, Bool, true, false, leb, List, [], ◌∷◌, refl, ◌&&◌, le-leb, leb-true, IrType, nested_size, HasSmallArrays, are_small_arrays}
 
 pub small-arrays : (lengths : List ℕ) (element : IrType) → HasSmallArrays lengths element → are_small_arrays lengths element ≡ true
 small-arrays [] element small = refl

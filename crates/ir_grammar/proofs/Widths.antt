@@ -1,9 +1,7 @@
 -- A width is its number of bits.
-use Rattle.std.proofs.Common.{◌≡◌, ℕ, ◌≤◌, ◌^◌, Bool, true, false, leb, ltb, cond, Some, None, refl, sym, ap, subst, ◌∙◌, arith}
-use Rattle.std.proofs.lemmas.Bool.{le-leb, leb-true, lt-ltb}
+use Rattle.ir_grammar.proofs.Common.{◌≡◌, ℕ, ◌≤◌, ◌^◌, Bool, true, false, leb, ltb, cond, Some, None, refl, sym, ap, subst, ◌∙◌, arith, le-leb, leb-true, lt-ltb, width_when, width_of, some_below}
 use Rattle.std.proofs.Math.Bridge.{le_prop}
 use Rattle.tv_num.specs.declared.Width.{Width}
-use Rattle.ir_grammar.specs.Numbers.{width_when, width_of, some_below}
 
 abbrev made : (n : ℕ) → 1 ≤ n → n ≤ 64 → Width
 made n low high = record { bits = n; at_least_1 = low; at_most_64 = high }

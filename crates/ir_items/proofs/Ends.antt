@@ -1,9 +1,5 @@
 -- An item has one end, and one name and body where it is a define.
-use Rattle.std.proofs.Common.{◌≡◌, ℕ, ◌+◌, ◌<◌, ◌≤◌, false, List, length, subst, inl, inr, arith}
-use Rattle.std.proofs.lemmas.Bool.{cases_lt, cases_order}
-use Rattle.ir_lexer.specs.Lexeme.{Lexeme}
-use Rattle.ir_items.specs.Marks.{marks, IsBalanced, IsInside, IsPiece}
-use Rattle.ir_items.specs.Items.{begins_item, OtherGoesOn, IsOther, BeforeName, IsNamed, BeforeBody, HasBody, IsDefine}
+use Rattle.ir_items.proofs.Common.{◌≡◌, ℕ, ◌+◌, ◌<◌, ◌≤◌, false, List, length, subst, inl, inr, arith, cases_lt, cases_order, Lexeme, marks, IsBalanced, IsInside, IsPiece, begins_item, OtherGoesOn, IsOther, BeforeName, IsNamed, BeforeBody, HasBody, IsDefine}
 use Rattle.ir_items.proofs.Opening.{not_balanced, deeper, piece_balanced}
 use Rattle.ir_items.proofs.HeadTokens.{brace_begins_nothing}
 use Rattle.ir_items.proofs.Phases.{wrong_and_right}

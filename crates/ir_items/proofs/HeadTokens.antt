@@ -1,18 +1,8 @@
 -- Heads and names are no brackets.
-use Rattle.std.proofs.Common.{◌≡◌, ◌⊎◌, ℕ, suc, ◌+◌, ◌<◌, Bool, true, false, cond, ◌&&◌, ◌||◌, List, [], ◌∷◌, length, drop, Option, Some, None, refl, sym, ap, ◌∙◌, inl, inr, arith}
-use Rattle.std.specs.Prelude.{slice_get, IsSomeAnd, codes, position, is_some, nat_lt}
-use Rattle.std.specs.List.{list_any, position_or_len}
+use Rattle.ir_items.proofs.Common.{◌≡◌, ◌⊎◌, ℕ, suc, ◌+◌, ◌<◌, Bool, true, false, cond, ◌&&◌, ◌||◌, List, [], ◌∷◌, length, drop, Option, Some, None, refl, sym, ap, ◌∙◌, inl, inr, arith, slice_get, IsSomeAnd, codes, position, is_some, nat_lt, list_any, position_or_len, and_parts, eqb-true, cases_eq, cases_Bool, cases_lt, lt-ltb, le-ltb, slice_get_within, Kind, Lexeme, mark_in, mark_of, marks_after, IsBalanced, passes, token_passes, is_word_of, is_word, is_head_word, is_name, is_global_kind, is_global, is_mark, is_head, is_define, is_called, is_brace, is_first_on_line, begins_item, is_plain_string, has_bad_layout, is_wrong_layout, OtherGoesOn, NoHeadBetween, name_from, name_at, Name, name_of, name_in}
 use Rattle.std.specs.Str.{bytes_eq}
 use Rattle.std.specs.Cmp.Lexicographic.{bytes_decides}
-use Rattle.std.proofs.lemmas.Bool.{and_parts, eqb-true, cases_eq, cases_Bool, cases_lt, lt-ltb, le-ltb}
-use Rattle.std.proofs.lemmas.Option.{slice_get_within}
-use Rattle.ir_lexer.specs.declared.token.Kind.{Kind}
 use Rattle.ir_lexer.specs.declared.token.Kind.TheVariants as kind
-use Rattle.ir_lexer.specs.Lexeme.{Lexeme}
-use Rattle.ir_items.specs.Marks.{mark_in, mark_of, marks_after, IsBalanced}
-use Rattle.ir_items.specs.Items.{passes, token_passes, is_word_of, is_word, is_head_word, is_name, is_global_kind, is_global, is_mark, is_head, is_define, is_called, is_brace, is_first_on_line, begins_item, is_plain_string, has_bad_layout, is_wrong_layout, OtherGoesOn, NoHeadBetween, name_from, name_at}
-use Rattle.ir_tree.specs.declared.name.Name.{Name}
-use Rattle.ir_items.specs.Names.{name_of, name_in}
 use Rattle.ir_items.proofs.Opening.{at_start, marks_next, balanced_on}
 
 kinds : (k : Kind) (text : List ℕ) → (k ≡ kind.Mark) ⊎ (mark_in k text ≡ 0)

@@ -1,8 +1,5 @@
 -- The parts of a data layout, one byte after another.
-use Rattle.std.proofs.Common.{◌≡◌, ℕ, ◌+◌, ◌<◌, ◌≤◌, Bool, true, false, ◌||◌, eqb, List, length, get_or, drop, slice_range, refl, sym, ap, ◌∙◌, arith}
-use Rattle.std.proofs.lemmas.List.{drop_more, drop_all}
-use Rattle.std.proofs.lemmas.List.Edits.{between_more, between_none}
-use Rattle.ir_items.specs.Items.{is_bad_part, has_bad_part}
+use Rattle.ir_items.proofs.Common.{◌≡◌, ℕ, ◌+◌, ◌<◌, ◌≤◌, Bool, true, false, ◌||◌, eqb, List, length, get_or, drop, slice_range, refl, sym, ap, ◌∙◌, arith, drop_more, drop_all, between_more, between_none, is_bad_part, has_bad_part}
 
 pub part_more : (text : List ℕ) (start place : ℕ) → start ≤ place → place < length text → eqb (get_or text place 0) 45 ≡ false
     → has_bad_part (slice_range text start place) (drop place text) ≡ has_bad_part (slice_range text start (place + 1)) (drop (place + 1) text)

@@ -1,11 +1,5 @@
 -- The items of a text, or its stop, are one.
-use Rattle.std.proofs.Common.{◌≡◌, ◌⊎◌, ℕ, ◌-◌, ◌<◌, ◌≤◌, false, List, [], ◌∷◌, ◌++◌, length, Some, refl, sym, ap, subst, ◌∙◌, inl, inr, arith}
-use Rattle.ir_lexer.specs.Lexeme.{Lexeme}
-use Rattle.ir_tree.specs.declared.name.Name.{Name}
-use Rattle.ir_items.specs.declared.item.Define.{Define}
-use Rattle.ir_items.specs.declared.fault.Why.{Why}
-use Rattle.ir_items.specs.Items.{IsOther, IsDefine, name_at, has_name, IsCut}
-use Rattle.ir_items.specs.Stops.{StopsAt, IsStop}
+use Rattle.ir_items.proofs.Common.{◌≡◌, ◌⊎◌, ℕ, ◌-◌, ◌<◌, ◌≤◌, false, List, [], ◌∷◌, ◌++◌, length, Some, refl, sym, ap, subst, ◌∙◌, inl, inr, arith, Lexeme, Name, Define, Why, IsOther, IsDefine, name_at, has_name, IsCut, StopsAt, IsStop}
 use Rattle.ir_items.proofs.Phases.{wrong_and_right}
 use Rattle.ir_items.proofs.Ends.{other_one, define_one, define_rises}
 use Rattle.ir_items.proofs.OneStop.{one_stop, stop_first, other_apart, define_apart}

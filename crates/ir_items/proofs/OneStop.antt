@@ -1,15 +1,6 @@
 -- An item that stops, stops once, and doesn't end.
-use Rattle.std.proofs.Common.{◌≡◌, ◌⊎◌, ℕ, ◌+◌, ◌<◌, ◌≤◌, Bool, true, false, cond, eqb, ◌||◌, List, [], length, Some, None, refl, sym, ap, subst, ◌∙◌, inl, inr, arith}
-use Rattle.std.specs.Prelude.{is_some}
-use Rattle.std.proofs.lemmas.Bool.{cases_lt, cases_Bool, eq-eqb, ne_eqb}
-use Rattle.ir_lexer.specs.Lexeme.{Lexeme}
-use Rattle.ir_tree.specs.declared.name.Name.{Name}
-use Rattle.ir_items.specs.declared.item.Define.{Define}
-use Rattle.ir_items.specs.declared.fault.Why.{Why}
+use Rattle.ir_items.proofs.Common.{◌≡◌, ◌⊎◌, ℕ, ◌+◌, ◌<◌, ◌≤◌, Bool, true, false, cond, eqb, ◌||◌, List, [], length, Some, None, refl, sym, ap, subst, ◌∙◌, inl, inr, arith, is_some, cases_lt, cases_Bool, eq-eqb, ne_eqb, Lexeme, Name, Define, Why, marks, IsBalanced, has_open, IsInside, is_head, is_define, begins_item, is_called, is_wrong_layout, NoHeadBetween, OtherGoesOn, IsOther, IsNamed, HasBody, IsDefine, name_at, has_name, IsNew, GoesOn, StopsAt}
 use Rattle.ir_items.specs.declared.fault.Why.TheVariants as why
-use Rattle.ir_items.specs.Marks.{marks, IsBalanced, has_open, IsInside}
-use Rattle.ir_items.specs.Items.{is_head, is_define, begins_item, is_called, is_wrong_layout, NoHeadBetween, OtherGoesOn, IsOther, IsNamed, HasBody, IsDefine, name_at, has_name}
-use Rattle.ir_items.specs.Stops.{IsNew, GoesOn, StopsAt}
 use Rattle.ir_items.proofs.Opening.{fits_before, balanced_fits, inside_fits, balanced_on}
 use Rattle.ir_items.proofs.HeadTokens.{called_begins_nothing, called_opens, brace_begins_nothing, wrong_layout_balanced, wrong_layout_within, define_within, define_is_head, begins_within, begins_balanced}
 use Rattle.ir_items.proofs.Phases.{wrong_and_right, no_head_to, to_place, parameters_balanced}

@@ -1,13 +1,5 @@
 -- What is open after one more token.
-use Rattle.std.proofs.Common.{◌≡◌, ℕ, ◌+◌, ◌-◌, ◌<◌, ◌≤◌, true, false, List, [], ◌∷◌, ◌++◌, length, slice_range, take, drop, Option, Some, None, refl, sym, ap, ◌∙◌, inl, inr, arith}
-use Rattle.std.specs.Prelude.{fold, is_some, slice_get, IsSomeAnd}
-use Rattle.std.proofs.lemmas.Bool.{cases_lt}
-use Rattle.std.proofs.lemmas.List.{take-append-drop, take-take, drop-take, drop-drop}
-use Rattle.std.proofs.lemmas.List.Edits.{between_more, between_none}
-use Rattle.std.proofs.lemmas.List.Sums.{fold_push, fold-append}
-use Rattle.std.proofs.lemmas.Option.{slice_get_within, get_or_from_slice_get}
-use Rattle.ir_lexer.specs.Lexeme.{Lexeme}
-use Rattle.ir_items.specs.Marks.{mark_of, marks_after, marks_behind, marks, IsBalanced, has_open, IsInside, IsPiece}
+use Rattle.ir_items.proofs.Common.{◌≡◌, ℕ, ◌+◌, ◌-◌, ◌<◌, ◌≤◌, true, false, List, [], ◌∷◌, ◌++◌, length, slice_range, take, drop, Option, Some, None, refl, sym, ap, ◌∙◌, inl, inr, arith, fold, is_some, slice_get, IsSomeAnd, cases_lt, take-append-drop, take-take, drop-take, drop-drop, between_more, between_none, fold_push, fold-append, slice_get_within, get_or_from_slice_get, Lexeme, mark_of, marks_after, marks_behind, marks, IsBalanced, has_open, IsInside, IsPiece}
 
 abbrev marks_from : Option (List ℕ) → List Lexeme → Option (List ℕ)
 marks_from start tokens = fold (λ open_marks t. marks_after open_marks (mark_of t)) start tokens

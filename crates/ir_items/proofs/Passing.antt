@@ -1,14 +1,6 @@
 -- A test of the token at an index.
-use Rattle.std.proofs.Common.{◌≡◌, ℕ, ◌≤◌, Bool, false, List, length, take, take_while, Option, Some, None, refl, sym, ap, arith}
-use Rattle.std.specs.Prelude.{slice_get, IsSomeAnd}
-use Rattle.std.specs.List.{prefix_len}
-use Rattle.std.proofs.lemmas.List.{length-take}
-use Rattle.std.proofs.lemmas.List.Sums.{prefix_len-le-length}
-use Rattle.std.proofs.lemmas.Option.{slice_get_past}
-use Rattle.ir_lexer.specs.declared.token.Kind.{Kind}
-use Rattle.ir_lexer.specs.Lexeme.{Lexeme}
+use Rattle.ir_items.proofs.Common.{◌≡◌, ℕ, ◌≤◌, Bool, false, List, length, take, take_while, Option, Some, None, refl, sym, ap, arith, slice_get, IsSomeAnd, prefix_len, length-take, prefix_len-le-length, slice_get_past, Kind, Lexeme, passes, token_passes}
 use Rattle.ir_lexer.proofs.Behind.{drop-run, run-le}
-use Rattle.ir_items.specs.Items.{passes, token_passes}
 
 pub passes_kind : (tokens : List Lexeme) (test : Kind → Bool) (i : ℕ) (kind : Kind) → IsSomeAnd (slice_get tokens i) (λ t. kind ≡ t.kind) → token_passes tokens (λ t. test t.kind) i ≡ test kind
 passes_kind tokens test i kind kinds = go (slice_get tokens i) kinds

@@ -1,16 +1,8 @@
 -- How an item goes on, one piece after another.
-use Rattle.std.proofs.Common.{◌≡◌, ℕ, ◌+◌, ◌<◌, ◌≤◌, Bool, true, false, ◌||◌, List, length, refl, sym, ap, subst, ◌∙◌, inl, inr, arith}
-use Rattle.std.proofs.lemmas.Bool.{cases_order}
-use Rattle.ir_lexer.specs.Lexeme.{Lexeme}
-use Rattle.ir_items.specs.declared.item.Define.{Define}
-use Rattle.ir_items.specs.declared.fault.Why.{Why}
+use Rattle.ir_items.proofs.Common.{◌≡◌, ℕ, ◌+◌, ◌<◌, ◌≤◌, Bool, true, false, ◌||◌, List, length, refl, sym, ap, subst, ◌∙◌, inl, inr, arith, cases_order, Lexeme, Define, Why, marks, IsBalanced, has_open, IsInside, IsPiece, is_define, begins_item, is_called, is_brace, is_wrong_layout, NoHeadBetween, OtherGoesOn, BeforeName, IsNamed, BeforeBody, HasBody, IsNew, GoesOn, StopsAt, PieceStopsAt, PieceStops, ItemStops}
 use Rattle.ir_items.specs.declared.fault.Why.TheVariants as why
-use Rattle.ir_items.specs.Marks.{marks, IsBalanced, has_open, IsInside, IsPiece}
-use Rattle.ir_items.specs.Items.{is_define, begins_item, is_called, is_brace, is_wrong_layout, NoHeadBetween, OtherGoesOn, BeforeName, IsNamed, BeforeBody, HasBody}
-use Rattle.ir_items.specs.Stops.{IsNew, GoesOn, StopsAt}
 use Rattle.ir_items.specs.declared.fault.ItemFault.{ItemFault}
 use Rattle.ir_items.specs.declared.fault.ItemFault.TheVariants.{Stop, NoMemory}
-use Rattle.ir_items.specs.Pieces.{PieceStopsAt, PieceStops, ItemStops}
 use Rattle.ir_items.proofs.Opening.{marks_join, deeper, piece_balanced, inside_fits}
 use Rattle.ir_items.proofs.HeadTokens.{called_begins_nothing, called_balanced, called_opens}
 

@@ -1,11 +1,6 @@
 -- What follows the bytes that pass.
-use Rattle.std.proofs.Common.{◌≡◌, ℕ, suc, ◌-◌, ◌≤◌, Bool, true, false, cond, not, eqb, List, [], ◌∷◌, length, drop, take_while, refl, ap, ◌∙◌, inl, inr, arith}
-use Rattle.std.proofs.lemmas.Bool.{cases_Bool}
+use Rattle.ir_lexer.proofs.Common.{◌≡◌, ℕ, suc, ◌-◌, ◌≤◌, Bool, true, false, cond, not, eqb, List, [], ◌∷◌, length, drop, take_while, refl, ap, ◌∙◌, inl, inr, arith, cases_Bool, length-drop, is_blank, behind, behind_blanks}
 use Rattle.std.proofs.lemmas.List.Sums.{take_while-cons}
-use Rattle.std.proofs.lemmas.List.{length-drop}
-use Rattle.ir_lexer.specs.Bytes.{is_blank}
-use Rattle.ir_lexer.specs.Parts.{behind}
-use Rattle.ir_lexer.specs.Tokens.{behind_blanks}
 
 -- how far a test passes
 abbrev pub run : (ℕ → Bool) → List ℕ → ℕ

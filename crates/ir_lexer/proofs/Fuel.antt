@@ -1,11 +1,5 @@
 -- More steps than there are bytes left find no other tokens.
-use Rattle.std.proofs.Common.{◌≡◌, ℕ, zero, suc, ◌-◌, ◌<◌, ◌≤◌, false, List, [], ◌∷◌, length, take, drop, Option, Some, None, Result, refl, ap, subst, arith}
-use Rattle.std.specs.Prelude.{IfSome}
-use Rattle.std.proofs.lemmas.List.{length-drop}
-use Rattle.text_places.specs.Place.{place_at}
-use Rattle.ir_lexer.specs.declared.token.Kind.{Kind}
-use Rattle.ir_lexer.specs.Lexeme.{Lexeme}
-use Rattle.ir_lexer.specs.Tokens.{longest_token, behind_blanks, Spot, with_front, with_token, tokens_of}
+use Rattle.ir_lexer.proofs.Common.{◌≡◌, ℕ, zero, suc, ◌-◌, ◌<◌, ◌≤◌, false, List, [], ◌∷◌, length, take, drop, Option, Some, None, Result, refl, ap, subst, arith, IfSome, length-drop, place_at, Kind, Lexeme, longest_token, behind_blanks, Spot, with_front, with_token, tokens_of}
 use Rattle.ir_lexer.proofs.Behind.{blanks-within}
 use Rattle.ir_lexer.proofs.Longest.{longest-bounds}
 

@@ -1,12 +1,5 @@
 -- What is kept of a token denotes it again.
-use Rattle.std.proofs.Common.{◌≡◌, ℕ, ◌+◌, ◌-◌, ◌≤◌, List, length, take, drop, refl, sym, ap, ◌∙◌, arith}
-use Rattle.std.proofs.lemmas.List.{length-take, length-drop}
-use Rattle.text_places.specs.declared.place.Place.{Place}
-use Rattle.text_places.specs.Place.{place_at}
-use Rattle.text_places.proofs.Moves.{line-within}
-use Rattle.ir_lexer.specs.Lexeme.{Lexeme}
-use Rattle.ir_lexer.specs.Marks.{IsMark, lexeme_of, mark_of}
-use Rattle.ir_lexer.specs.Position.{Position, bytes_before, IsWithin, IsToken}
+use Rattle.ir_lexer.proofs.Common.{◌≡◌, ℕ, ◌+◌, ◌-◌, ◌≤◌, List, length, take, drop, refl, sym, ap, ◌∙◌, arith, length-take, length-drop, Place, place_at, line-within, Lexeme, IsMark, lexeme_of, mark_of, Position, bytes_before, IsWithin, IsToken}
 use Rattle.ir_lexer.proofs.Fuel.{found-bounds}
 
 -- the token is of these bytes of the text

@@ -1,16 +1,6 @@
 -- The tokens that a loop has kept, and those that are left.
-use Rattle.std.proofs.Common.{◌≡◌, ℕ, List, [], ◌∷◌, ◌++◌, map, Result, Ok, Err, refl, sym, ap, subst, ◌∙◌, append_assoc}
-use Rattle.std.specs.List.{All}
-use Rattle.std.proofs.lemmas.List.{append-nil, map-append}
+use Rattle.ir_lexer.proofs.Common.{◌≡◌, ℕ, List, [], ◌∷◌, ◌++◌, map, Result, Ok, Err, refl, sym, ap, subst, ◌∙◌, append_assoc, All, append-nil, map-append, Mark, LexFault, NoToken, NoMemory, Fails, Stops, Lexeme, IsMark, lexeme_of, mark_of, Position, tokens_left, start_of, IsWithin, IsToken, Reads, Spot, with_front, lexed}
 use Rattle.std.proofs.lemmas.List.Elements.{All-nil, All-push}
-use Rattle.ir_lexer.specs.declared.mark.Mark.{Mark}
-use Rattle.ir_lexer.specs.declared.lexing.LexFault.{LexFault}
-use Rattle.ir_lexer.specs.declared.lexing.LexFault.TheVariants.{NoToken, NoMemory}
-use Rattle.ir_lexer.specs.Answer.{Fails, Stops}
-use Rattle.ir_lexer.specs.Lexeme.{Lexeme}
-use Rattle.ir_lexer.specs.Marks.{IsMark, lexeme_of, mark_of}
-use Rattle.ir_lexer.specs.Position.{Position, tokens_left, start_of, IsWithin, IsToken, Reads}
-use Rattle.ir_lexer.specs.Tokens.{Spot, with_front, lexed}
 use Rattle.ir_lexer.proofs.Kept.{Bounds, bounds, lexeme-mark, is_mark}
 use Rattle.ir_lexer.proofs.Next.{left-token, left-nil, reads-next}
 

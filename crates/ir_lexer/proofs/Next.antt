@@ -1,14 +1,5 @@
 -- What is read at a position is the next of the tokens that are left.
-use Rattle.std.proofs.Common.{◌≡◌, ℕ, ◌-◌, ◌<◌, false, List, [], ◌∷◌, length, take, drop, Option, Some, None, Result, Ok, Err, refl, sym, ap, ◌∙◌, arith}
-use Rattle.text_places.specs.declared.place.Place.{Place}
-use Rattle.text_places.specs.Place.{place_at}
-use Rattle.ir_lexer.specs.declared.token.Kind.{Kind}
-use Rattle.ir_lexer.specs.declared.lexing.LexFault.{LexFault}
-use Rattle.ir_lexer.specs.declared.lexing.LexFault.TheVariants.{NoToken, NoMemory}
-use Rattle.ir_lexer.specs.Lexeme.{Lexeme}
-use Rattle.ir_lexer.specs.Tokens.{longest_token, behind_blanks, Spot, with_front, with_token, tokens_of, lexed}
-use Rattle.ir_lexer.specs.Answer.{IsNext}
-use Rattle.ir_lexer.specs.Position.{Position, start_of, tokens_left, bytes_before, IsToken, Reads}
+use Rattle.ir_lexer.proofs.Common.{◌≡◌, ℕ, ◌-◌, ◌<◌, false, List, [], ◌∷◌, length, take, drop, Option, Some, None, Result, Ok, Err, refl, sym, ap, ◌∙◌, arith, Place, place_at, Kind, LexFault, NoToken, NoMemory, Lexeme, longest_token, behind_blanks, Spot, with_front, with_token, tokens_of, lexed, IsNext, Position, start_of, tokens_left, bytes_before, IsToken, Reads}
 use Rattle.ir_lexer.proofs.Behind.{blanks-within}
 use Rattle.ir_lexer.proofs.Fuel.{steps-enough, found-bounds, after-shorter}
 

@@ -1,10 +1,5 @@
 -- What is left of a text begins at a position.
-use Rattle.std.proofs.Common.{◌≡◌, ℕ, ◌+◌, ◌-◌, ◌^◌, ◌<◌, ◌≤◌, List, [], ◌++◌, length, take, drop, refl, sym, ap, ◌∙◌, append_assoc, arith}
-use Rattle.std.proofs.lemmas.List.{length-append, take-append-drop, take_at, drop_at}
-use Rattle.text_places.specs.declared.place.Place.{Place}
-use Rattle.text_places.specs.Place.{place_behind, place_at}
-use Rattle.text_places.proofs.Moves.{line-within, column-within}
-use Rattle.ir_lexer.specs.Position.{Here}
+use Rattle.ir_lexer.proofs.Common.{◌≡◌, ℕ, ◌+◌, ◌-◌, ◌^◌, ◌<◌, ◌≤◌, List, [], ◌++◌, length, take, drop, refl, sym, ap, ◌∙◌, append_assoc, arith, length-append, take-append-drop, take_at, drop_at, Place, place_behind, place_at, line-within, column-within, Here}
 
 pub at_start : (text : List ℕ) (place : Place) → place ≡ place_behind [] → Here text text place
 at_start text place is = record { before = []; split = refl; is = is }

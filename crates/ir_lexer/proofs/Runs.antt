@@ -1,10 +1,6 @@
 -- What is left of a run of name bytes after a token.
-use Rattle.std.proofs.Common.{◌≡◌, ℕ, zero, suc, ◌-◌, ◌<◌, ◌≤◌, true, false, eqb, List, [], ◌∷◌, drop, refl, sym, ap, ◌∙◌, inl, inr, arith}
-use Rattle.std.proofs.lemmas.Bool.{cases_Bool}
+use Rattle.ir_lexer.proofs.Common.{◌≡◌, ℕ, zero, suc, ◌-◌, ◌<◌, ◌≤◌, true, false, eqb, List, [], ◌∷◌, drop, refl, sym, ap, ◌∙◌, inl, inr, arith, cases_Bool, is_name_byte, is_blank, name_run, behind_blanks}
 use Rattle.std.proofs.lemmas.Bool.Decides.{nat_tests}
-use Rattle.ir_lexer.specs.Bytes.{is_name_byte, is_blank}
-use Rattle.ir_lexer.specs.Scan.{name_run}
-use Rattle.ir_lexer.specs.Tokens.{behind_blanks}
 use Rattle.ir_lexer.proofs.Behind.{run-cons}
 
 name_byte_stays : (c : ℕ) → is_name_byte c ≡ true → (is_blank c ≡ false) × (eqb c 59 ≡ false)

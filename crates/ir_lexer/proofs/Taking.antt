@@ -1,12 +1,5 @@
 -- Part of the tokens that are left, one after another.
-use Rattle.std.proofs.Common.{◌≡◌, ℕ, zero, suc, ◌<◌, ◌≤◌, List, [], ◌∷◌, ◌++◌, length, take, drop, Option, Some, None, Result, Ok, Err, refl, sym, ap, subst, ◌∙◌, arith}
-use Rattle.std.specs.Prelude.{IsOkAnd}
-use Rattle.std.proofs.lemmas.List.{length-drop}
-use Rattle.ir_lexer.specs.declared.lexing.LexFault.{LexFault}
-use Rattle.ir_lexer.specs.declared.lexing.LexFault.TheVariants.{NoToken, NoMemory}
-use Rattle.ir_lexer.specs.Lexeme.{Lexeme}
-use Rattle.ir_lexer.specs.Tokens.{Spot, with_front}
-use Rattle.ir_lexer.specs.Answer.{IsNext}
+use Rattle.ir_lexer.proofs.Common.{◌≡◌, ℕ, zero, suc, ◌<◌, ◌≤◌, List, [], ◌∷◌, ◌++◌, length, take, drop, Option, Some, None, Result, Ok, Err, refl, sym, ap, subst, ◌∙◌, arith, IsOkAnd, length-drop, LexFault, NoToken, NoMemory, Lexeme, Spot, with_front, IsNext}
 
 -- after n of these tokens, which have been read so far
 pub record IsPart (tokens part : List Lexeme) (n : ℕ) (left : Result (List Lexeme) Spot) : Type 0 where

@@ -1,8 +1,5 @@
 -- Each item of a list in turn, as a loop goes over them.
-use Rattle.std.proofs.Common.{◌≡◌, ℕ, suc, ◌+◌, ◌<◌, List, [], ◌∷◌, ◌++◌, length, drop, get_or, refl, sym, ap, ◌∙◌, append_assoc, add-one, drop-cons}
-use Rattle.std.specs.List.{flat_map}
-use Rattle.ir_tree.specs.declared.name.Name.{Name}
-use Rattle.ir_numbering.specs.Numbering.{Numbered, so, each_in, ◌>>=◌}
+use Rattle.ir_numbering.proofs.Common.{◌≡◌, ℕ, suc, ◌+◌, ◌<◌, List, [], ◌∷◌, ◌++◌, length, drop, get_or, refl, sym, ap, ◌∙◌, append_assoc, add-one, drop-cons, flat_map, Name, Numbered, so, each_in, ◌>>=◌}
 
 -- ---- items that are numbered
 

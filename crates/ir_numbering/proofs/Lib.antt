@@ -1,3 +1,4 @@
+pub mod Common
 pub mod Each
 pub mod NumberOf
 pub mod NextValue

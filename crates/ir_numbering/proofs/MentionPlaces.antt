@@ -1,25 +1,8 @@
 -- The positions of what is written.
-use Rattle.std.proofs.Common.{◌≡◌, ℕ, ◌+◌, List, [], ◌∷◌, ◌++◌, length, map, refl, sym, ap, ◌∙◌, arith}
-use Rattle.std.specs.List.{flat_map}
-use Rattle.std.proofs.lemmas.List.{map-append}
-use Rattle.text_places.specs.declared.place.Place.{Place}
-use Rattle.ir_grammar.specs.declared.written.WrittenParameter.{WrittenParameter}
-use Rattle.ir_grammar.specs.declared.written.WrittenInst.{WrittenInst}
+use Rattle.ir_numbering.proofs.Common.{◌≡◌, ℕ, ◌+◌, List, [], ◌∷◌, ◌++◌, length, map, refl, sym, ap, ◌∙◌, arith, flat_map, map-append, Place, WrittenParameter, WrittenInst, WrittenReturn, Void, Value, WrittenPhi, WrittenTerminator, WrittenBody, WrittenBlock, WrittenFunction, NamedParameter, place_or, places_of, index_places, inst_places, parameter_places, returned_places, entry_places, phi_places, case_places, terminator_places, body_places, block_places, named_behind, Mention, mention_at, index_mentions, inst_mentions, returned_mentions, entry_mentions, phi_mentions, case_mentions, terminator_mentions, body_mentions, block_mentions, parameter_mentions, names_written, entry_name}
 use Rattle.ir_grammar.specs.declared.written.WrittenInst.TheVariants as line
 use Rattle.ir_grammar.specs.declared.written.WrittenAccess.TheVariants as access
-use Rattle.ir_grammar.specs.declared.written.WrittenReturn.{WrittenReturn}
-use Rattle.ir_grammar.specs.declared.written.WrittenReturn.TheVariants.{Void, Value}
-use Rattle.ir_grammar.specs.declared.written.WrittenPhi.{WrittenPhi}
-use Rattle.ir_grammar.specs.declared.written.WrittenTerminator.{WrittenTerminator}
 use Rattle.ir_grammar.specs.declared.written.WrittenTerminator.TheVariants as last
-use Rattle.ir_grammar.specs.declared.written.WrittenBody.{WrittenBody}
-use Rattle.ir_grammar.specs.declared.written.WrittenBlock.{WrittenBlock}
-use Rattle.ir_grammar.specs.declared.written.WrittenFunction.{WrittenFunction}
-use Rattle.ir_numbering.specs.declared.numbering.NamedParameter.{NamedParameter}
-use Rattle.ir_numbering.specs.Places.{place_or, places_of, index_places, inst_places, parameter_places, returned_places, entry_places, phi_places, case_places, terminator_places, body_places, block_places}
-use Rattle.ir_numbering.specs.Numbering.{named_behind}
-use Rattle.ir_numbering.specs.Mentions.{Mention, mention_at, index_mentions, inst_mentions, returned_mentions, entry_mentions, phi_mentions, case_mentions, terminator_mentions, body_mentions, block_mentions, parameter_mentions, names_written}
-use Rattle.ir_numbering.specs.Numbering.{entry_name}
 
 abbrev at_in : Mention → Place
 at_in m = m.at

@@ -1,15 +1,8 @@
 -- The name of what is written without one: its digits are those of one more than the greatest number before it, or 0.
-use Rattle.std.proofs.Common.{◌≡◌, ℕ, zero, suc, ◌+◌, ◌-◌, ◌*◌, ◌^◌, ◌<◌, ◌≤◌, ◌⊎◌, inl, inr, Bool, true, false, cond, eqb, ltb, List, [], ◌∷◌, ◌++◌, length, refl, sym, ap, subst, ◌∙◌, arith}
-use Rattle.std.specs.Prelude.{◌||◌, ◌&&◌, reverse}
+use Rattle.ir_numbering.proofs.Common.{◌≡◌, ℕ, zero, suc, ◌+◌, ◌-◌, ◌*◌, ◌^◌, ◌<◌, ◌≤◌, ◌⊎◌, inl, inr, Bool, true, false, cond, eqb, ltb, List, [], ◌∷◌, ◌++◌, length, refl, sym, ap, subst, ◌∙◌, arith, ◌||◌, ◌&&◌, reverse, reverse-append, reverse-reverse, length-reverse, Contains, Contains-append_left, Contains-append_right, Contains-push, Contains-push_cases, Contains-append_cases, Name, Number, Word, is_greater, is_above, greatest, carried, one_more, next_name}
 use Rattle.std.proofs.Math.Nat.{pow-succ', pow-le-pow_right, mul-le-mul_right}
 use Rattle.std.proofs.lemmas.Bool.{true≢false, ltb-true, ltb-false, lt-ltb, eqb-true, eqb-false}
-use Rattle.std.proofs.lemmas.List.{reverse-append, reverse-reverse, length-reverse}
-use Rattle.std.specs.List.{Contains}
-use Rattle.std.proofs.lemmas.List.Elements.{Contains-append_left, Contains-append_right, Contains-push, Contains-push_cases, Contains-append_cases}
-use Rattle.ir_tree.specs.declared.name.Name.{Name}
-use Rattle.ir_tree.specs.declared.name.Name.TheVariants.{Number, Word}
 use Rattle.ir_grammar.specs.Numbers.{value_after, value_of}
-use Rattle.ir_numbering.specs.EntryName.{is_greater, is_above, greatest, carried, one_more, next_name}
 use Rattle.ir_numbering.specs.NextNumber.{AreDigits, IsDecimal, AreDecimal, IsNextName}
 
 -- ---- values of digits

@@ -1,12 +1,6 @@
 -- A name's number is below the size of the table that has it, and the table has the name there, however it grows on.
-use Rattle.std.proofs.Common.{◌≡◌, ℕ, suc, ◌+◌, ◌<◌, ◌≤◌, Bool, true, false, cond, List, [], ◌∷◌, ◌++◌, length, Option, Some, refl, sym, ap, ◌∙◌, arith}
-use Rattle.std.specs.Prelude.{not, ◌||◌}
-use Rattle.std.specs.List.{list_any, slice_get}
-use Rattle.std.proofs.lemmas.List.{length-append, append-nil}
+use Rattle.ir_numbering.proofs.Common.{◌≡◌, ℕ, suc, ◌+◌, ◌<◌, ◌≤◌, Bool, true, false, cond, List, [], ◌∷◌, ◌++◌, length, Option, Some, refl, sym, ap, ◌∙◌, arith, not, ◌||◌, list_any, slice_get, length-append, append-nil, Name, Number, Word, same_name, with_name, number_of}
 use Rattle.std.proofs.lemmas.Slice.Eq.{bytes_eq-Decides}
-use Rattle.ir_tree.specs.declared.name.Name.{Name}
-use Rattle.ir_tree.specs.declared.name.Name.TheVariants.{Number, Word}
-use Rattle.ir_tree.specs.Names.{same_name, with_name, number_of}
 
 has-less : (xs : List Name) (x : Name) → list_any (same_name x) xs ≡ true → number_of xs x < length xs
 has-less [] x e = absurd (cc e)

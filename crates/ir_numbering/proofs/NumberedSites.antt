@@ -1,18 +1,11 @@
 -- The sites of a function whose names were numbered: each name has its number in the table, and is the one that is written there.
-use Rattle.std.proofs.Common.{◌≡◌, ℕ, ◌+◌, ◌*◌, ◌≤◌, Bool, true, false, List, [], ◌∷◌, ◌++◌, length, map, Option, Some, None, refl, sym, ap, subst, ◌∙◌, append_assoc, arith}
-use Rattle.std.specs.Prelude.{nat_le}
-use Rattle.std.specs.List.{All, flat_map}
-use Rattle.std.proofs.lemmas.List.{length-append, length-map, append-nil, map-append}
+use Rattle.ir_numbering.proofs.Common.{◌≡◌, ℕ, ◌+◌, ◌*◌, ◌≤◌, Bool, true, false, List, [], ◌∷◌, ◌++◌, length, map, Option, Some, None, refl, sym, ap, subst, ◌∙◌, append_assoc, arith, nat_le, All, flat_map, length-append, length-map, append-nil, map-append, All-nil, All-cons, All-append, All-weaker, Place, with_name, number_of, Name, WrittenParameter, WrittenInst, WrittenPhi, WrittenTerminator, WrittenBody, WrittenBlock, WrittenReturn, Void, Value, WrittenFunction, NamedParameter, place_or, Mention, nameless, mention, mention_at, local_name, operand_mention, typed_mentions, index_mentions, inst_mentions, returned_mentions, entry_mentions, phi_mentions, case_mentions, terminator_mentions, body_mentions, block_mentions, parameter_mentions, names_written, Numbered, so, ◌>>=◌, value_in, typed_in, binary_in, icmp_in, cast_in, select_in, freeze_in, alloca_in, load_in, store_in, index_in, gep_in, inst_in, returned_in, parameter_in, each_in, entry_in, phi_in, case_in, branch_in, cond_branch_in, switch_in, terminator_in, block_in, labelled_in, blocks_in, parts_in, function_of, named, named_behind, entry_name, numbered}
 use Rattle.std.proofs.lemmas.Grind.{flat_map-append}
-use Rattle.std.proofs.lemmas.List.Elements.{All-nil, All-cons, All-append, All-weaker}
-use Rattle.text_places.specs.declared.place.Place.{Place}
 use Rattle.tv_num.specs.declared.Width.{Width}
-use Rattle.ir_tree.specs.Names.{with_name, number_of}
 use Rattle.ir_tree.specs.Sites.{IsNumbered, AreNumbered, Step, sites, sites_in, steps, parameter_steps, phi_steps, inst_steps, block_steps, blocks_steps, header_sites, parameter_sites, entry_sites, phi_sites, index_sites, indices_sites, inst_sites, case_sites, cases_sites, terminator_sites, typed_sites, operand_site}
 use Rattle.ir_tree.specs.declared.sites.Part.TheVariants as part_of
 use Rattle.ir_tree.specs.declared.sites.Site.{Site}
 use Rattle.ir_tree.specs.declared.sites.Site.TheVariants.{Defines, Uses, Enters, Written}
-use Rattle.ir_tree.specs.declared.name.Name.{Name}
 use Rattle.ir_tree.specs.declared.tree.IrType.{IrType}
 use Rattle.ir_tree.specs.declared.tree.IrType.TheVariants.{Int, Ptr}
 use Rattle.ir_tree.specs.declared.tree.Operand.{Operand}
@@ -34,26 +27,13 @@ use Rattle.ir_grammar.specs.declared.written.WrittenOperand.{WrittenOperand}
 use Rattle.ir_grammar.specs.declared.written.WrittenValue.{WrittenValue}
 use Rattle.ir_grammar.specs.declared.written.WrittenValue.TheVariants as written
 use Rattle.ir_grammar.specs.declared.written.WrittenTyped.{WrittenTyped}
-use Rattle.ir_grammar.specs.declared.written.WrittenParameter.{WrittenParameter}
-use Rattle.ir_grammar.specs.declared.written.WrittenInst.{WrittenInst}
 use Rattle.ir_grammar.specs.declared.written.WrittenInst.TheVariants as line
 use Rattle.ir_grammar.specs.declared.written.WrittenAccess.TheVariants as access
 use Rattle.ir_grammar.specs.declared.written.WrittenIndex.{WrittenIndex}
 use Rattle.ir_grammar.specs.declared.written.WrittenEntry.{WrittenEntry}
-use Rattle.ir_grammar.specs.declared.written.WrittenPhi.{WrittenPhi}
 use Rattle.ir_grammar.specs.declared.written.WrittenCase.{WrittenCase}
-use Rattle.ir_grammar.specs.declared.written.WrittenTerminator.{WrittenTerminator}
 use Rattle.ir_grammar.specs.declared.written.WrittenTerminator.TheVariants as last
-use Rattle.ir_grammar.specs.declared.written.WrittenBody.{WrittenBody}
-use Rattle.ir_grammar.specs.declared.written.WrittenBlock.{WrittenBlock}
-use Rattle.ir_grammar.specs.declared.written.WrittenReturn.{WrittenReturn}
-use Rattle.ir_grammar.specs.declared.written.WrittenReturn.TheVariants.{Void, Value}
-use Rattle.ir_grammar.specs.declared.written.WrittenFunction.{WrittenFunction}
-use Rattle.ir_numbering.specs.declared.numbering.NamedParameter.{NamedParameter}
-use Rattle.ir_numbering.specs.Places.{place_or}
-use Rattle.ir_numbering.specs.Mentions.{Mention, nameless, mention, mention_at, local_name, operand_mention, typed_mentions, index_mentions, inst_mentions, returned_mentions, entry_mentions, phi_mentions, case_mentions, terminator_mentions, body_mentions, block_mentions, parameter_mentions, names_written}
 use Rattle.ir_numbering.specs.Laws.{name_at}
-use Rattle.ir_numbering.specs.Numbering.{Numbered, so, ◌>>=◌, value_in, typed_in, binary_in, icmp_in, cast_in, select_in, freeze_in, alloca_in, load_in, store_in, index_in, gep_in, inst_in, returned_in, parameter_in, each_in, entry_in, phi_in, case_in, branch_in, cond_branch_in, switch_in, terminator_in, block_in, labelled_in, blocks_in, parts_in, function_of, named, named_behind, entry_name, numbered}
 use Rattle.ir_numbering.proofs.NumberOf.{joins}
 use Rattle.ir_numbering.proofs.MentionPlaces.{places-written}
 

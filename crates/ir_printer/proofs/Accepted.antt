@@ -1,12 +1,7 @@
 -- The functions of a module's entries, entry by entry.
-use Rattle.std.proofs.Common.{◌≡◌, ◌<◌, ◌≤◌, ◌+◌, ℕ, Bool, true, List, [], ◌∷◌, ◌++◌, length, drop, get_or, refl, ap, ◌∙◌, sym, append_assoc, append-nil}
-use Rattle.std.specs.Prelude.{Result, Ok, Err}
-use Rattle.std.proofs.lemmas.List.{at_drop_all, drop_more}
-use Rattle.ir_tree.specs.declared.module.Entry.{Entry}
+use Rattle.ir_printer.proofs.Common.{◌≡◌, ◌<◌, ◌≤◌, ◌+◌, ℕ, Bool, true, List, [], ◌∷◌, ◌++◌, length, drop, get_or, refl, ap, ◌∙◌, sym, append_assoc, append-nil, Result, Ok, Err, at_drop_all, drop_more, Entry, text_of, accepted, accepted_first, function_pieces, functions_pieces, gap_behind, has_any}
 use Rattle.ir_tree.specs.declared.module.Refused.{Refused}
 use Rattle.ir_tree.specs.declared.tree.Function.{Function}
-use Rattle.token_text.specs.Pieces.{text_of}
-use Rattle.ir_printer.specs.ModuleText.{accepted, accepted_first, function_pieces, functions_pieces, gap_behind, has_any}
 use Rattle.ir_printer.proofs.Texts.{text_of-append}
 
 pieces-first : (b : Bool) (r : Result Function Refused) (fs : List Function)

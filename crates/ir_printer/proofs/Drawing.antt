@@ -1,13 +1,5 @@
 -- What is drawn, step by step.
-use Rattle.std.proofs.Common.{◌≡◌, ◌<◌, ◌+◌, ◌-◌, ◌*◌, ℕ, suc, Bool, List, [], ◌∷◌, ◌++◌, refl, ap, ◌∙◌, sym, append_assoc, arith}
-use Rattle.std.specs.Prelude.{codes, fold, ◌&&◌, ◌==◌}
-use Rattle.std.specs.Fmt.{decimal}
-use Rattle.ir_tree.specs.Names.{with_name}
-use Rattle.ir_tree.specs.declared.name.Name.{Name}
-use Rattle.ir_tree.specs.declared.name.Name.TheVariants.{Word}
-use Rattle.ir_tree.specs.declared.tree.Inst.{Inst}
-use Rattle.ir_tree.specs.declared.module.Entry.{Entry}
-use Rattle.ir_printer.specs.Made.{drawn, made_binary, made_entries, made_entry, made_inst, made_insts, result_names, state_behind}
+use Rattle.ir_printer.proofs.Common.{◌≡◌, ◌<◌, ◌+◌, ◌-◌, ◌*◌, ℕ, suc, Bool, List, [], ◌∷◌, ◌++◌, refl, ap, ◌∙◌, sym, append_assoc, arith, codes, fold, ◌&&◌, ◌==◌, decimal, with_name, Name, Word, Inst, Entry, drawn, made_binary, made_entries, made_entry, made_inst, made_insts, result_names, state_behind}
 
 one_left : (n i : ℕ) → i < n → n - i ≡ suc (n - (i + 1))
 one_left n i lt = omega arith

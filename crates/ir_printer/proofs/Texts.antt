@@ -1,12 +1,5 @@
 -- The text of lists of tokens, part by part.
-use Rattle.std.proofs.Common.{◌≡◌, ◌<◌, ◌≤◌, ◌+◌, ℕ, List, [], ◌∷◌, ◌++◌, length, drop, get_or, refl, ap, ◌∙◌, sym, append_assoc, append-nil}
-use Rattle.std.proofs.lemmas.List.{at_drop_all, drop_more}
-use Rattle.std.specs.Prelude.{codes}
-use Rattle.std.specs.List.{flat_map}
-use Rattle.std.proofs.lemmas.Grind.{flat_map-append}
-use Rattle.std.specs.Fmt.{decimal}
-use Rattle.token_text.specs.Pieces.{Piece, piece_text, text_of}
-use Rattle.ir_printer.specs.Pieces.{none, space, mark, number, word, array_pieces, closing_pieces}
+use Rattle.ir_printer.proofs.Common.{◌≡◌, ◌<◌, ◌≤◌, ◌+◌, ℕ, List, [], ◌∷◌, ◌++◌, length, drop, get_or, refl, ap, ◌∙◌, sym, append_assoc, append-nil, at_drop_all, drop_more, codes, flat_map, flat_map-append, decimal, Piece, piece_text, text_of, none, space, mark, number, word, array_pieces, closing_pieces}
 
 pub text_of-append : (a b : List Piece) → text_of (a ++ b) ≡ text_of a ++ text_of b
 text_of-append a b = flat_map-append piece_text a b

@@ -1,27 +1,13 @@
 -- What reading the tokens of a define answers.
-use Rattle.std.proofs.Common.{◌≡◌, ◌≤◌, ◌<◌, ◌∙◌, true, List, [], ◌∷◌, length, get_or, inl, inr, refl, sym, ap, subst, arith}
-use Rattle.std.specs.Prelude.{Err}
-use Rattle.ir_lexer.specs.Lexeme.{Lexeme}
-use Rattle.ir_tree.specs.WellFormed.{Passes, PassesNames, IsRefusedAt, IfRefused}
+use Rattle.ir_reader.proofs.Common.{◌≡◌, ◌≤◌, ◌<◌, ◌∙◌, true, List, [], ◌∷◌, length, get_or, inl, inr, refl, sym, ap, subst, arith, Err, Lexeme, Passes, PassesNames, IsRefusedAt, IfRefused, Reason, NameTwice, NameUnknown, TypeClash, PhiEdges, Unassigned, UndefUse, Function, Spells, StopsPast, WrittenFunction, reason, define, numbered, IsUnfit, tested, unfit, past, Answers, Writes, Tests, fault_at}
 use Rattle.ir_check.specs.Told.{IsToldAt, AreNamesToldAt}
-use Rattle.ir_tree.specs.declared.module.Reason.{Reason}
-use Rattle.ir_tree.specs.declared.module.Reason.TheVariants.{NameTwice, NameUnknown, TypeClash, PhiEdges, Unassigned, UndefUse}
 use Rattle.ir_tree.specs.declared.module.CheckFault.{CheckFault}
 use Rattle.ir_tree.specs.declared.module.CheckFault.TheVariants as fault
-use Rattle.ir_tree.specs.declared.tree.Function.{Function}
 use Rattle.token_forms.specs.declared.fault.ReadFault.{ReadFault}
 use Rattle.token_forms.specs.declared.fault.ReadFault.TheVariants as stop
-use Rattle.token_forms.specs.Spelling.{Spells}
-use Rattle.token_forms.specs.Refusals.{StopsPast}
 use Rattle.token_forms.specs.Spelled.{SpellsOrStops}
 use Rattle.token_forms.proofs.RefusedAgain.{refused-again}
-use Rattle.ir_grammar.specs.declared.written.WrittenFunction.{WrittenFunction}
-use Rattle.ir_grammar.specs.Reasons.{reason}
-use Rattle.ir_grammar.specs.Grammar.{define}
-use Rattle.ir_numbering.specs.Numbering.{numbered}
-use Rattle.ir_reader.specs.Functions.{IsUnfit, tested, unfit, past, Answers}
 use Rattle.ir_reader.proofs.StopReasons.{unfit-behind, unfit-why}
-use Rattle.ir_reader.specs.Answer.{Writes, Tests, fault_at}
 
 nil-of : (rest : List Lexeme) → length rest < 1 → rest ≡ []
 nil-of [] h = refl

@@ -1,16 +1,8 @@
 -- The entries of a module have different names.
-use Rattle.std.proofs.Common.{◌≡◌, ℕ, ◌-◌, Bool, true, false, List, [], ◌∷◌, ◌++◌, map, refl, sym, ap, subst, ◌∙◌}
-use Rattle.std.specs.Prelude.{◌||◌}
-use Rattle.std.specs.List.{list_any, AllByRecursion, IsDistinct}
+use Rattle.ir_reader.proofs.Common.{◌≡◌, ℕ, ◌-◌, Bool, true, false, List, [], ◌∷◌, ◌++◌, map, refl, sym, ap, subst, ◌∙◌, ◌||◌, list_any, AllByRecursion, IsDistinct, Lexeme, Define, IsCut, nothing, other, same_name, Name, Entry, AreEntries}
 use Rattle.std.proofs.lemmas.Slice.Eq.{bytes_eq-Decides}
-use Rattle.ir_lexer.specs.Lexeme.{Lexeme}
-use Rattle.ir_items.specs.declared.item.Define.{Define}
-use Rattle.ir_items.specs.Items.{IsCut, nothing, other, define}
-use Rattle.ir_tree.specs.Names.{same_name}
-use Rattle.ir_tree.specs.declared.name.Name.{Name}
+use Rattle.ir_items.specs.Items.{define}
 use Rattle.ir_tree.specs.declared.name.Name.TheVariants.{Number, Word}
-use Rattle.ir_tree.specs.declared.module.Entry.{Entry}
-use Rattle.ir_reader.specs.Module.{AreEntries}
 
 bytes-same : (xs ys : List ℕ) (b : Bool) → (b ≡ true → xs ≡ ys) × (xs ≡ ys → b ≡ true) → (c : Bool) → (c ≡ true → ys ≡ xs) × (ys ≡ xs → c ≡ true) → b ≡ c
 bytes-same xs ys true d true e = refl

@@ -1,17 +1,10 @@
 -- The entries of a module, as a loop makes them, and where its defines are.
-use Rattle.std.proofs.Common.{◌≡◌, ℕ, zero, suc, ◌+◌, ◌-◌, ◌<◌, ◌≤◌, List, [], ◌∷◌, ◌++◌, length, get_or, drop, Option, Some, None, Result, Ok, Err, ◌∙◌, refl, sym, ap, subst, append_assoc, append-nil, arith}
-use Rattle.std.specs.Prelude.{slice_get, IsOkAnd, min}
-use Rattle.std.proofs.lemmas.List.{drop-drop}
-use Rattle.ir_lexer.specs.Lexeme.{Lexeme}
-use Rattle.ir_lexer.specs.Tokens.{Spot, with_front}
+use Rattle.ir_reader.proofs.Common.{◌≡◌, ℕ, zero, suc, ◌+◌, ◌-◌, ◌<◌, ◌≤◌, List, [], ◌∷◌, ◌++◌, length, get_or, drop, Option, Some, None, ◌∙◌, refl, sym, ap, subst, append_assoc, arith, slice_get, IsOkAnd, min, drop-drop, Lexeme, Spot, with_front, Define, IsCut, nothing, other, IsDefine, Entry, Ascend, IsEntry, AreEntries}
+use Rattle.std.proofs.Common.{Result, Ok, Err, append-nil}
 use Rattle.ir_lexer.specs.declared.lexing.LexFault.{LexFault}
 use Rattle.ir_lexer.specs.declared.lexing.LexFault.TheVariants.{NoToken, NoMemory}
 use Rattle.ir_lexer.specs.Answer.{IsNext, Stops}
-use Rattle.ir_items.specs.declared.item.Define.{Define}
-use Rattle.ir_items.specs.Items.{IsCut, nothing, other, define, IsDefine}
-use Rattle.ir_tree.specs.declared.module.Entry.{Entry}
-use Rattle.ir_reader.specs.Answer.{Ascend}
-use Rattle.ir_reader.specs.Module.{IsEntry, AreEntries}
+use Rattle.ir_items.specs.Items.{define}
 
 -- ---- the defines follow one another
 

@@ -1,3 +1,4 @@
+pub mod Common
 pub mod StopReasons
 pub mod TypesTold
 pub mod Looking

@@ -1,66 +1,27 @@
 -- What is spelled keeps the limits of a function.
-use Rattle.std.proofs.Common.{◌≡◌, ℕ, zero, suc, ◌+◌, ◌-◌, ◌<◌, ◌≤◌, Bool, true, false, ltb, cond, List, [], ◌∷◌, ◌++◌, length, Option, Some, None, sym, subst, ap, ◌∙◌, refl, inl, inr, arith}
-use Rattle.std.specs.Prelude.{◌&&◌, ◌||◌, not, codes, Result, Ok}
-use Rattle.std.specs.Str.{bytes_eq}
-use Rattle.std.specs.List.{All, AllByRecursion, sum_by}
-use Rattle.std.proofs.lemmas.Bool.{ltb-true}
-use Rattle.std.proofs.lemmas.List.{length-append}
-use Rattle.std.proofs.lemmas.List.Elements.{All-nil, All-cons}
+use Rattle.ir_reader.proofs.Common.{◌≡◌, ℕ, zero, suc, ◌+◌, ◌-◌, ◌<◌, ◌≤◌, Bool, true, false, ltb, cond, List, [], ◌∷◌, ◌++◌, length, Option, Some, None, sym, subst, ap, ◌∙◌, refl, inl, inr, arith, ◌&&◌, ◌||◌, not, Result, Ok, bytes_eq, All, AllByRecursion, sum_by, ltb-true, length-append, All-nil, All-cons, Lexeme, Kind, Define, instructions_of, cases_in, HasFewCases, HasFewEntries, with_name, number_of, Entry, Refused, Name, Phi, Block, Function, SpellParts, Spells, part_value, part_begins, LineStart, LineWord, TerminatorWord, ParameterPart, WrittenParameters, WrittenName, WrittenPhi, WrittenInst, WrittenLine, WrittenLines, WrittenCase, WrittenBody, WrittenFunction, any, named_at, label_line, is_record, line_start, inst_line, phi, alloca, load, store, gep, default_align, line_by, line_named, entry_or_attachment, next_entry, attached, align_or_attachment, aligned, index_or_attachment, next_index, follows_parameter, parameter_begins, with_part, parameter_parts, first_parameter, parameters, is_comma, is_local_kind, starts_line, line_begins, line_within, next_number, started, line_comma, with_comma, whole_line, with_phi, with_inst, with_line, next_line, lines, is_type, case_begins, case_within, with_case, cases, branch, branch_to, cond_branch, switch, return_of, terminator_by, block, body_of, entry_block, begins_block, block_begins, next_block, blocks, define, Numbered, so, each_in, parameter_in, inst_in, value_in, typed_in, entry_in, phi_in, case_in, branch_in, cond_branch_in, switch_in, terminator_in, block_in, labelled_in, blocks_in, parts_in, returned_in, function_of, named_behind, entry_name, numbered, IsFunction, well_formed, tested, unfit, past, without_places, AreEntries, tokens_of, IsWellFormed, then-so, named-count, block_with}
+use Rattle.std.specs.Prelude.{codes}
 use Rattle.std.proofs.lemmas.List.Sums.{sum_by-cons, sum_by_push}
-use Rattle.ir_lexer.specs.Lexeme.{Lexeme}
-use Rattle.ir_lexer.specs.declared.token.Kind.{Kind}
 use Rattle.ir_lexer.specs.declared.token.Kind.TheVariants as kind
-use Rattle.ir_items.specs.declared.item.Define.{Define}
 use Rattle.ir_items.specs.Names.{name_in}
-use Rattle.ir_tree.specs.Limits.{instructions_of, cases_in, HasFewCases, HasFewEntries}
-use Rattle.ir_tree.specs.Names.{with_name, number_of}
-use Rattle.ir_tree.specs.declared.module.Entry.{Entry}
-use Rattle.ir_tree.specs.declared.module.Refused.{Refused}
-use Rattle.ir_tree.specs.declared.name.Name.{Name}
-use Rattle.ir_tree.specs.declared.tree.Phi.{Phi}
 use Rattle.ir_tree.specs.declared.tree.Terminator.{Terminator}
 use Rattle.ir_tree.specs.declared.tree.Terminator.TheVariants.{Return, Branch, CondBranch, Switch, Unreachable}
-use Rattle.ir_tree.specs.declared.tree.Block.{Block}
 use Rattle.ir_tree.specs.declared.tree.Parameter.{Parameter}
-use Rattle.ir_tree.specs.declared.tree.Function.{Function}
-use Rattle.token_forms.specs.Spelling.{SpellParts, Spells, part_value, part_begins}
-use Rattle.ir_grammar.specs.declared.word.LineStart.{LineStart}
 use Rattle.ir_grammar.specs.declared.word.LineStart.TheVariants as start
-use Rattle.ir_grammar.specs.declared.word.LineWord.{LineWord}
 use Rattle.ir_grammar.specs.declared.word.LineWord.TheVariants as word_of
-use Rattle.ir_grammar.specs.declared.word.TerminatorWord.{TerminatorWord}
 use Rattle.ir_grammar.specs.declared.word.TerminatorWord.TheVariants as finish
-use Rattle.ir_grammar.specs.declared.word.ParameterPart.{ParameterPart}
 use Rattle.ir_grammar.specs.declared.word.ParameterPart.TheVariants as part
 use Rattle.ir_grammar.specs.declared.written.WrittenParameter.{WrittenParameter}
-use Rattle.ir_grammar.specs.declared.written.WrittenParameters.{WrittenParameters}
-use Rattle.ir_grammar.specs.declared.written.WrittenName.{WrittenName}
-use Rattle.ir_grammar.specs.declared.written.WrittenPhi.{WrittenPhi}
-use Rattle.ir_grammar.specs.declared.written.WrittenInst.{WrittenInst}
 use Rattle.ir_grammar.specs.declared.written.WrittenInst.TheVariants as inst
-use Rattle.ir_grammar.specs.declared.written.WrittenLine.{WrittenLine}
-use Rattle.ir_grammar.specs.declared.written.WrittenLines.{WrittenLines}
-use Rattle.ir_grammar.specs.declared.written.WrittenCase.{WrittenCase}
 use Rattle.ir_grammar.specs.declared.written.WrittenTerminator.{WrittenTerminator}
-use Rattle.ir_grammar.specs.declared.written.WrittenBody.{WrittenBody}
 use Rattle.ir_grammar.specs.declared.written.WrittenBlock.{WrittenBlock}
 use Rattle.ir_grammar.specs.declared.written.WrittenBlocks.{WrittenBlocks}
-use Rattle.ir_grammar.specs.declared.written.WrittenFunction.{WrittenFunction}
 use Rattle.ir_grammar.specs.declared.written.WrittenLine.TheVariants as line
 use Rattle.ir_grammar.specs.declared.written.WrittenTerminator.TheVariants as end
 use Rattle.ir_grammar.specs.declared.written.WrittenReturn.TheVariants.{Void, Value}
 use Rattle.ir_numbering.specs.declared.numbering.NamedParameter.{NamedParameter}
-use Rattle.ir_grammar.specs.Classes.{any}
-use Rattle.ir_grammar.specs.Spelling.{named_at, label_line, is_record, line_start}
 use Rattle.ir_grammar.specs.Words.{is_word_of}
-use Rattle.ir_grammar.specs.Instructions.{inst_line, phi, alloca, load, store, gep, default_align, line_by, line_named, entry_or_attachment, next_entry, attached, align_or_attachment, aligned, index_or_attachment, next_index}
-use Rattle.ir_grammar.specs.Grammar.{follows_parameter, parameter_begins, with_part, parameter_parts, first_parameter, parameters, is_comma, is_local_kind, starts_line, line_begins, line_within, next_number, started, line_comma, with_comma, whole_line, with_phi, with_inst, with_line, next_line, lines, is_type, case_begins, case_within, with_case, cases, branch, branch_to, cond_branch, switch, return_of, terminator_by, block, body_of, entry_block, begins_block, block_begins, next_block, blocks, define}
-use Rattle.ir_numbering.specs.Numbering.{Numbered, so, each_in, parameter_in, inst_in, value_in, typed_in, entry_in, phi_in, case_in, branch_in, cond_branch_in, switch_in, terminator_in, block_in, labelled_in, blocks_in, parts_in, returned_in, function_of, named_behind, entry_name, numbered}
-use Rattle.ir_reader.specs.Functions.{IsFunction, well_formed, tested, unfit, past, without_places}
-use Rattle.ir_reader.specs.Module.{AreEntries, tokens_of}
-use Rattle.ir_tree.specs.WellFormed.{IsWellFormed}
 use Rattle.ir_reader.specs.Judgeable.{IsJudgeable, IsJudgeableEntry}
-use Rattle.ir_numbering.proofs.NumberedSites.{then-so, named-count, block_with}
 use Rattle.ir_reader.proofs.Placed.{well_formed-placed}
 use Rattle.ir_reader.proofs.Objects.{IsSmallAccess, IsSmallGep, IsSmallInst, IsSmallBlock, block-small, blocks-small}
 use Rattle.ir_reader.proofs.Spelled.{memory-aligned, alignment-kept, default-aligned, alloca-small, gep-small, plain-small}

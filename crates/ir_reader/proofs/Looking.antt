@@ -1,29 +1,13 @@
 -- Whether a type is allowed at a stop: from what each class of a form says of types, by induction on the form.
-use Rattle.std.proofs.Common.{◌≡◌, ℕ, zero, suc, ◌≤◌, ◌⊎◌, inl, inr, Bool, true, false, List, [], ◌∷◌, ◌++◌, length, Option, Some, None, refl, sym, ap, subst, ◌∙◌, append_assoc, arith, codes}
-use Rattle.std.specs.Prelude.{◌==◌, if◌then◌else◌, not}
+use Rattle.ir_reader.proofs.Common.{◌≡◌, ℕ, zero, suc, ◌≤◌, ◌⊎◌, inl, inr, Bool, true, false, List, [], ◌∷◌, ◌++◌, length, Option, Some, None, refl, sym, ap, subst, ◌∙◌, append_assoc, arith, codes, ◌==◌, if◌then◌else◌, not, length-append, Lexeme, Kind, Reason, Syntax, Class, never, Form, give, one, seq, upto, peek, tail, balanced, mapped, Reading, reads, stops, and_then, Judged, none, found, judged, taken, one_of, first_of, peeked, begun, parts, read, until_closed, fitting, open_behind, IsNone, SpellParts, part_begins, LeavesOpen, SameHead, Follows, Whole, Lawful, free-never, then-found, read_lawful, then-stops, token, reason, width_reason, SomeType}
 use Rattle.std.proofs.lemmas.Bool.Decides.{nat_tests}
-use Rattle.std.proofs.lemmas.List.{length-append}
-use Rattle.ir_lexer.specs.Lexeme.{Lexeme}
-use Rattle.ir_lexer.specs.declared.token.Kind.{Kind}
 use Rattle.ir_lexer.specs.declared.token.Kind.TheVariants as kind
-use Rattle.ir_tree.specs.declared.module.Reason.{Reason}
-use Rattle.ir_tree.specs.declared.module.Reason.TheVariants.{Syntax}
-use Rattle.token_forms.specs.Form.{Class, never, Form, give, one, seq, upto, peek, tail, balanced, mapped, Why, unfit, Reading, reads, stops, and_then, Judged, none, past, found, judged, taken, one_of, first_of, peeked, begun, parts, read, until_closed, fitting, open_behind}
+use Rattle.token_forms.specs.Form.{Why, unfit, past}
 use Rattle.token_forms.specs.declared.bracket.Bracket.{Bracket}
 use Rattle.token_forms.specs.declared.bracket.Nesting.TheVariants.{Opens, Closes, Plain}
 use Rattle.token_forms.specs.declared.bracket.Bracket.TheVariants.{Round, Square, Curly}
 use Rattle.token_forms.specs.Brackets.{nesting_in, nesting_of}
-use Rattle.token_forms.specs.Spelling.{IsNone, SpellParts, part_begins}
-use Rattle.token_forms.specs.Refusals.{LeavesOpen}
-use Rattle.token_forms.proofs.Laws.{SameHead, Follows, Whole, Lawful, free-never}
 use Rattle.token_forms.proofs.Balanced.{Halted, balanced-refused, closed-halts}
-use Rattle.token_forms.proofs.Exact.{then-found}
-use Rattle.token_forms.proofs.Lawful.{read_lawful}
-use Rattle.token_forms.proofs.Stops.{then-stops}
-use Rattle.ir_grammar.specs.Classes.{token}
-use Rattle.ir_grammar.specs.Reasons.{reason}
-use Rattle.ir_grammar.specs.Spelling.{width_reason}
-use Rattle.ir_reader.specs.StopReason.{SomeType}
 
 abbrev Tokens : Type 0
 Tokens = List Lexeme

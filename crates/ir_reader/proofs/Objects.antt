@@ -1,34 +1,15 @@
 -- What is numbered has small objects, and its allocas small numbers.
-use Rattle.std.proofs.Common.{◌≡◌, ℕ, zero, suc, ◌+◌, ◌<◌, ◌≤◌, ◌⊎◌, inl, inr, Bool, true, false, List, [], ◌∷◌, length, All, get_or, refl, sym, subst, arith}
-use Rattle.std.specs.Prelude.{nat_le, Some}
-use Rattle.std.specs.List.{AllByRecursion, Contains}
-use Rattle.std.proofs.lemmas.Bool.{lt-leb, cases_lt}
+use Rattle.ir_reader.proofs.Common.{◌≡◌, ℕ, zero, suc, ◌+◌, ◌<◌, ◌≤◌, ◌⊎◌, inl, inr, Bool, true, false, List, [], ◌∷◌, length, get_or, refl, sym, subst, arith, nat_le, AllByRecursion, Contains, lt-leb, cases_lt, All-nil, All-cons, Contains-append_left, Contains-append_right, IsAlignment, HasSmallArrays, HasSmallTypes, HasSmallObjects, HasSmallNumber, type_align, object_size, with_name, number_of, Name, Inst, Block, Function, Int, Ptr, TypeClash, operand_site, index_sites, indices_sites, inst_sites, Passes, WrittenInst, WrittenAccess, WrittenGep, WrittenBody, so, each_in, value_in, typed_in, binary_in, icmp_in, cast_in, select_in, freeze_in, alloca_in, load_in, store_in, index_in, gep_in, inst_in, phi_in, terminator_in, block_in, then-so, block_with}
+use Rattle.std.proofs.Common.{All}
+use Rattle.std.specs.Prelude.{Some}
 use Rattle.std.proofs.lemmas.Option.{slice_get-get_or}
-use Rattle.std.proofs.lemmas.List.Elements.{All-nil, All-cons, Contains-append_left, Contains-append_right}
-use Rattle.ir_tree.specs.Limits.{IsAlignment, HasSmallArrays, HasSmallTypes, HasSmallObjects, HasSmallNumber}
-use Rattle.ir_tree.specs.Types.{type_align, object_size}
-use Rattle.ir_tree.specs.Names.{with_name, number_of}
-use Rattle.ir_tree.specs.declared.name.Name.{Name}
-use Rattle.ir_tree.specs.declared.tree.Inst.{Inst}
 use Rattle.ir_tree.specs.declared.tree.Inst.TheVariants as inst
-use Rattle.ir_tree.specs.declared.tree.Block.{Block}
-use Rattle.ir_tree.specs.declared.tree.Function.{Function}
 use Rattle.ir_tree.specs.declared.tree.GepIndex.{GepIndex}
-use Rattle.ir_tree.specs.declared.tree.IrType.TheVariants.{Int, Ptr}
 use Rattle.ir_tree.specs.declared.sites.Site.{Site}
 use Rattle.ir_tree.specs.declared.sites.Site.TheVariants.{Defines, Written}
-use Rattle.ir_tree.specs.declared.module.Reason.TheVariants.{TypeClash}
-use Rattle.ir_tree.specs.Sites.{operand_site, index_sites, indices_sites, inst_sites}
-use Rattle.ir_tree.specs.WellFormed.{Passes}
 use Rattle.ir_tree.proofs.Standing.{inst_site}
-use Rattle.ir_grammar.specs.declared.written.WrittenInst.{WrittenInst}
 use Rattle.ir_grammar.specs.declared.written.WrittenInst.TheVariants as line
-use Rattle.ir_grammar.specs.declared.written.WrittenAccess.{WrittenAccess}
 use Rattle.ir_grammar.specs.declared.written.WrittenAccess.TheVariants as access
-use Rattle.ir_grammar.specs.declared.written.WrittenGep.{WrittenGep}
-use Rattle.ir_grammar.specs.declared.written.WrittenBody.{WrittenBody}
-use Rattle.ir_numbering.specs.Numbering.{so, each_in, value_in, typed_in, binary_in, icmp_in, cast_in, select_in, freeze_in, alloca_in, load_in, store_in, index_in, gep_in, inst_in, phi_in, terminator_in, block_in}
-use Rattle.ir_numbering.proofs.NumberedSites.{then-so, block_with}
 
 -- ---- what is written
 

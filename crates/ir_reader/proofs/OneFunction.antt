@@ -1,35 +1,14 @@
 -- The tokens of a define are one function, or are refused in one way; a text is one module.
-use Rattle.std.proofs.Common.{◌≡◌, ℕ, ◌⊎◌, true, List, [], ◌∷◌, length, inl, inr, refl, sym, ap, subst, ◌∙◌}
-use Rattle.std.specs.Prelude.{Result, Ok, Err}
-use Rattle.text_places.specs.declared.place.Place.{Place}
+use Rattle.ir_reader.proofs.Common.{◌≡◌, ℕ, ◌⊎◌, true, List, [], ◌∷◌, length, inl, inr, refl, sym, ap, subst, ◌∙◌, Result, Ok, Err, Place, Lexeme, Spot, Define, IsCut, IsStop, IsWellFormed, IsRefusedAt, Reason, Limit, Refused, Entry, Function, Reading, reads, stops, limit, read, read-again, read-found, limit-again, WrittenFunction, reason, define, numbered, IsFunction, well_formed, tested, unfit, past, IsUnfit, refused_at, stop_place, without_places, IsModule, IsFault, AreEntries, tokens_of, place_or_end}
 use Rattle.std.specs.List.{slice_get}
-use Rattle.ir_lexer.specs.Lexeme.{Lexeme}
-use Rattle.ir_lexer.specs.Tokens.{Spot}
-use Rattle.ir_items.specs.declared.item.Define.{Define}
-use Rattle.ir_items.specs.Items.{IsCut}
 use Rattle.ir_items.specs.declared.fault.Why.{Why}
-use Rattle.ir_items.specs.Stops.{IsStop}
 use Rattle.ir_items.proofs.OneCut.{one_cut, cut_apart, one_stop_of_all}
-use Rattle.ir_tree.specs.WellFormed.{IsWellFormed, IsRefusedAt}
-use Rattle.ir_tree.specs.declared.module.Reason.{Reason}
-use Rattle.ir_tree.specs.declared.module.Reason.TheVariants.{Limit}
-use Rattle.ir_tree.specs.declared.module.Refused.{Refused}
-use Rattle.ir_tree.specs.declared.module.Entry.{Entry}
 use Rattle.ir_tree.specs.declared.module.Module.{Module}
-use Rattle.ir_tree.specs.declared.tree.Function.{Function}
 use Rattle.ir_tree.proofs.Refusals.{one_refusal, never_well_formed}
-use Rattle.token_forms.specs.Form.{Reading, reads, stops, unfit as unfit_why, limit, read}
-use Rattle.token_forms.proofs.Exact.{read-again, read-found}
-use Rattle.token_forms.proofs.Stops.{limit-again}
-use Rattle.ir_grammar.specs.declared.written.WrittenFunction.{WrittenFunction}
-use Rattle.ir_grammar.specs.Reasons.{reason}
-use Rattle.ir_grammar.specs.Grammar.{define}
-use Rattle.ir_numbering.specs.Numbering.{numbered}
-use Rattle.ir_reader.specs.Functions.{IsFunction, well_formed, tested, unfit, past, IsUnfit, refused_at, stop_place, without_places}
+use Rattle.token_forms.specs.Form.{unfit as unfit_why}
 use Rattle.ir_reader.proofs.StopReasons.{one-unfit, unfit-behind, unfit-limit, unfit-whole, unfit-why}
 use Rattle.ir_reader.specs.declared.fault.ModuleFault.{ModuleFault}
 use Rattle.ir_reader.specs.declared.fault.ModuleFault.TheVariants as fault
-use Rattle.ir_reader.specs.Module.{IsModule, IsFault, AreEntries, tokens_of, place_or_end}
 
 -- what is reported of a stop
 abbrev told_of : Reason → List Lexeme → List Lexeme → Result Function Refused

@@ -1,16 +1,9 @@
 -- Whether a function is well formed doesn't depend on where its parts are.
-use Rattle.std.proofs.Common.{ℕ, List, inl, inr}
-use Rattle.text_places.specs.declared.place.Place.{Place}
-use Rattle.ir_tree.specs.declared.tree.Inst.{Inst}
-use Rattle.ir_tree.specs.declared.tree.Phi.{Phi}
-use Rattle.ir_tree.specs.declared.tree.Block.{Block}
-use Rattle.ir_tree.specs.declared.tree.Function.{Function}
+use Rattle.ir_reader.proofs.Common.{ℕ, List, inl, inr, Place, Inst, Phi, Block, Function, steps, ComesFromPredecessors, IsUnfitPhi, JumpsToEntry, HasWrongEdge, IsMissed, IsMissedBehind, IsMissedAt, UsesUnassigned, IsWellFormed}
 use Rattle.ir_tree.specs.declared.sites.Part.{Part}
 use Rattle.ir_tree.specs.declared.sites.Part.TheVariants as part
-use Rattle.ir_tree.specs.Sites.{steps}
 use Rattle.ir_tree.specs.Flow.{IsPredecessor}
 use Rattle.ir_tree.specs.Carrying.{RefusesUndef, UsesUndef, leaf_count}
-use Rattle.ir_tree.specs.WellFormed.{ComesFromPredecessors, IsUnfitPhi, JumpsToEntry, HasWrongEdge, IsMissed, IsMissedBehind, IsMissedAt, UsesUnassigned, IsWellFormed}
 
 -- the function with other positions
 abbrev pub placed : Function → List Place → Function

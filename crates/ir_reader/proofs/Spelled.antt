@@ -1,35 +1,11 @@
 -- What is spelled of instructions on memory keeps their limits.
-use Rattle.std.proofs.Common.{◌≡◌, ℕ, zero, suc, ◌<◌, ◌≤◌, Bool, true, false, eqb, cond, List, [], ◌∷◌, length, Option, Some, None, refl, subst, arith}
-use Rattle.std.specs.Prelude.{◌&&◌, ◌||◌, not, nat_eq}
-use Rattle.std.specs.List.{list_any}
-use Rattle.std.proofs.lemmas.Bool.{ltb-true, leb-true, eqb-true}
-use Rattle.std.proofs.lemmas.List.{length-append}
-use Rattle.text_places.specs.declared.place.Place.{Place}
-use Rattle.tv_num.specs.declared.Width.{Width}
-use Rattle.ir_lexer.specs.Lexeme.{Lexeme}
-use Rattle.ir_lexer.specs.declared.token.Kind.{Kind}
+use Rattle.ir_reader.proofs.Common.{◌≡◌, ℕ, zero, suc, ◌<◌, ◌≤◌, Bool, true, false, eqb, cond, List, [], ◌∷◌, length, Option, Some, None, refl, subst, arith, ◌&&◌, ◌||◌, not, nat_eq, list_any, ltb-true, leb-true, eqb-true, length-append, Place, Width, Lexeme, Kind, IsAlignment, HasSmallArrays, alignments, type_align, nested_size, Op, Cast, IrType, Int, Ptr, SpellParts, Spells, Opcode, WrittenName, WrittenIntType, WrittenType, WrittenArrays, WrittenAccess, WrittenInst, is_memory_type, memory_type_of, memory_type_in, type_in, type_at, fits_object, is_small_object, number_of_kind, is_alignment, is_square, array_begins, array_within, with_length, arrays, alloca_object, gep_arrays, gep_object, default_align, binary, cast_by, wrapping, exact, plain, disjunction, icmp, truncate, zero_extend, sign_extend, select, freeze, inst_by}
 use Rattle.ir_lexer.specs.declared.token.Kind.TheVariants as kind
-use Rattle.ir_tree.specs.Limits.{IsAlignment, HasSmallArrays, alignments}
-use Rattle.ir_tree.specs.Types.{type_align, nested_size}
-use Rattle.ir_tree.specs.declared.tree.Op.{Op}
-use Rattle.ir_tree.specs.declared.tree.Cast.{Cast}
-use Rattle.ir_tree.specs.declared.tree.IrType.{IrType}
-use Rattle.ir_tree.specs.declared.tree.IrType.TheVariants.{Int, Ptr}
-use Rattle.token_forms.specs.Spelling.{SpellParts, Spells}
-use Rattle.ir_grammar.specs.declared.word.Opcode.{Opcode}
 use Rattle.ir_grammar.specs.declared.word.Opcode.TheVariants as opcode
 use Rattle.ir_grammar.specs.declared.written.GepFlags.{GepFlags}
-use Rattle.ir_grammar.specs.declared.written.WrittenName.{WrittenName}
-use Rattle.ir_grammar.specs.declared.written.WrittenIntType.{WrittenIntType}
-use Rattle.ir_grammar.specs.declared.written.WrittenType.{WrittenType}
-use Rattle.ir_grammar.specs.declared.written.WrittenArrays.{WrittenArrays}
 use Rattle.ir_grammar.specs.declared.written.WrittenObject.{WrittenObject}
-use Rattle.ir_grammar.specs.declared.written.WrittenAccess.{WrittenAccess}
 use Rattle.ir_grammar.specs.declared.written.WrittenAccess.TheVariants as access
-use Rattle.ir_grammar.specs.declared.written.WrittenInst.{WrittenInst}
 use Rattle.ir_grammar.specs.Numbers.{is_negative, magnitude}
-use Rattle.ir_grammar.specs.Spelling.{is_memory_type, memory_type_of, memory_type_in, type_in, type_at, fits_object, is_small_object, number_of_kind, is_alignment}
-use Rattle.ir_grammar.specs.Instructions.{is_square, array_begins, array_within, with_length, arrays, alloca_object, gep_arrays, gep_object, default_align, binary, cast_by, wrapping, exact, plain, disjunction, icmp, truncate, zero_extend, sign_extend, select, freeze, inst_by}
 use Rattle.ir_grammar.proofs.SmallArrays.{are-small}
 use Rattle.ir_reader.proofs.Objects.{IsSmallAccess, IsSmallInst}
 

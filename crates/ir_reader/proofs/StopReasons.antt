@@ -1,20 +1,6 @@
 -- Reading stops for the one reason that the definitions give.
-use Rattle.std.proofs.Common.{◌≡◌, ◌⊎◌, inl, inr, true, false, List, [], ◌∷◌, ◌++◌, refl, sym, ap, subst, ◌∙◌, append_assoc}
-use Rattle.std.proofs.lemmas.List.{append-nil, append_cancel_right}
-use Rattle.ir_lexer.specs.Lexeme.{Lexeme}
-use Rattle.ir_tree.specs.declared.module.Reason.{Reason}
-use Rattle.token_forms.specs.Form.{unfit, limit, reads, stops, read}
-use Rattle.token_forms.specs.Spelling.{Spells}
-use Rattle.token_forms.specs.Refusals.{Begins, StopsUnfit}
-use Rattle.token_forms.proofs.Laws.{free-never}
-use Rattle.token_forms.proofs.Lawful.{read_lawful}
-use Rattle.token_forms.proofs.Exact.{read-found, read-again}
-use Rattle.token_forms.proofs.Stops.{passes-limit, stops-unfit, stops-behind}
-use Rattle.ir_grammar.specs.declared.written.WrittenFunction.{WrittenFunction}
-use Rattle.ir_grammar.specs.Reasons.{reason}
-use Rattle.ir_grammar.specs.Grammar.{define}
-use Rattle.ir_reader.specs.StopReason.{TypeMayStand, IsStopReason}
-use Rattle.ir_reader.specs.Functions.{IsUnfit}
+use Rattle.ir_reader.proofs.Common.{◌≡◌, ◌⊎◌, inl, inr, true, false, List, [], ◌∷◌, ◌++◌, refl, sym, ap, subst, ◌∙◌, append_assoc, append-nil, append_cancel_right, Lexeme, Reason, limit, reads, stops, read, Spells, Begins, StopsUnfit, free-never, read_lawful, read-found, read-again, passes-limit, stops-unfit, stops-behind, WrittenFunction, reason, define, TypeMayStand, IsStopReason, IsUnfit}
+use Rattle.token_forms.specs.Form.{unfit}
 use Rattle.ir_reader.proofs.Looking.{AllTypes, Uses, Refuses, Says, some-type, look}
 use Rattle.ir_reader.proofs.TypesTold.{tells-define}
 

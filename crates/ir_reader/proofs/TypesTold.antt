@@ -1,55 +1,18 @@
 -- Each class of the grammar is of one of two kinds: where it comes next a type is allowed, and its reason looks
 -- for types, or neither.
-use Rattle.std.proofs.Common.{◌≡◌, ℕ, zero, suc, ◌+◌, inl, inr, Bool, true, false, List, [], ◌∷◌, ◌++◌, length, Option, Some, None, refl, sym, ap, subst, codes, arith}
-use Rattle.std.specs.Prelude.{◌&&◌, ◌==◌, if◌then◌else◌, nat_lt, is_some}
-use Rattle.std.specs.Str.{bytes_eq}
-use Rattle.tv_num.specs.declared.Width.{Width}
-use Rattle.text_places.specs.declared.place.Place.{Place}
-use Rattle.ir_lexer.specs.Lexeme.{Lexeme}
+use Rattle.ir_reader.proofs.Common.{◌≡◌, ℕ, zero, suc, ◌+◌, inl, inr, Bool, true, false, List, [], ◌∷◌, ◌++◌, length, Option, Some, None, refl, sym, ap, subst, codes, arith, ◌&&◌, ◌==◌, if◌then◌else◌, nat_lt, is_some, bytes_eq, Width, Place, Lexeme, IrType, Int, Ptr, Op, Cast, Opcode, LineWord, TerminatorWord, LineStart, ParameterPart, WrittenName, WrittenIntType, WrittenType, WrittenParameters, WrittenLines, WrittenLine, WrittenPhi, WrittenCase, WrittenArrays, WrittenAccess, WrittenGep, reads, read, type_reason, width_in, width_reason, width_reason_of, int_typed_at, typed_at, type_in, int_type_in, is_pointer, is_void, returned_at, truth_value, operand_at, literal_at, token, start, bit_fits, int_type, counted_type, memory_type, element_type, pointer_type, bit_type, return_type, operand_class, literal_class, line_word, flag_word, wraps, flagged_type, comparison, typed, binary, wrapping, exact, plain, disjunction, icmp, cast_by, truncate, zero_extend, sign_extend, select, freeze, inst_by, entry, phi, next_entry, attached, entry_or_attachment, with_length, arrays, closers, alloca_object, gep_flags, gep_arrays, gep_object, pointer, alloca, load, store, gep, aligned, align_or_attachment, next_index, index_or_attachment, inst_line, line_by, line_named, prefixes, with_part, parameter_parts, first_parameter, parameters, comdat_rest, debug_rest, with_header, header_parts, attachment, record_rest, started, with_comma, whole_line, next_line, lines, returned_by, returned, target, cond_branch, branch_to, branch, is_type, with_case, cases, switch, return_of, terminator_by, attachments, block, entry_block, next_block, blocks, define, append-nil, parts, Spells, part_value, part_begins, read_lawful, read-found, one_bit, case_begins, case_within, most_parameters}
 use Rattle.ir_lexer.specs.declared.token.Kind.TheVariants as kind
-use Rattle.ir_tree.specs.declared.tree.IrType.{IrType}
-use Rattle.ir_tree.specs.declared.tree.IrType.TheVariants.{Int, Ptr}
-use Rattle.ir_tree.specs.declared.tree.Op.{Op}
-use Rattle.ir_tree.specs.declared.tree.Cast.{Cast}
-use Rattle.ir_grammar.specs.declared.word.Opcode.{Opcode}
 use Rattle.ir_grammar.specs.declared.word.Opcode.TheVariants as opcode
 use Rattle.ir_grammar.specs.declared.word.Flag.{Flag}
 use Rattle.ir_grammar.specs.declared.word.Flag.TheVariants as flag
-use Rattle.ir_grammar.specs.declared.word.LineWord.{LineWord}
 use Rattle.ir_grammar.specs.declared.word.LineWord.TheVariants as word_of
-use Rattle.ir_grammar.specs.declared.word.TerminatorWord.{TerminatorWord}
 use Rattle.ir_grammar.specs.declared.word.TerminatorWord.TheVariants as finish
-use Rattle.ir_grammar.specs.declared.word.LineStart.{LineStart}
 use Rattle.ir_grammar.specs.declared.word.LineStart.TheVariants as start_of
-use Rattle.ir_grammar.specs.declared.word.ParameterPart.{ParameterPart}
 use Rattle.ir_grammar.specs.declared.word.ParameterPart.TheVariants as part
 use Rattle.ir_grammar.specs.declared.word.HeaderPart.{HeaderPart}
 use Rattle.ir_grammar.specs.declared.word.HeaderPart.TheVariants as header
-use Rattle.ir_grammar.specs.declared.written.WrittenName.{WrittenName}
-use Rattle.ir_grammar.specs.declared.written.WrittenIntType.{WrittenIntType}
-use Rattle.ir_grammar.specs.declared.written.WrittenType.{WrittenType}
-use Rattle.ir_grammar.specs.declared.written.WrittenParameters.{WrittenParameters}
-use Rattle.ir_grammar.specs.declared.written.WrittenLines.{WrittenLines}
-use Rattle.ir_grammar.specs.declared.written.WrittenLine.{WrittenLine}
 use Rattle.ir_grammar.specs.declared.written.WrittenLine.TheVariants as line
-use Rattle.ir_grammar.specs.declared.written.WrittenPhi.{WrittenPhi}
-use Rattle.ir_grammar.specs.declared.written.WrittenCase.{WrittenCase}
-use Rattle.ir_grammar.specs.declared.written.WrittenArrays.{WrittenArrays}
-use Rattle.ir_grammar.specs.declared.written.WrittenAccess.{WrittenAccess}
-use Rattle.ir_grammar.specs.declared.written.WrittenGep.{WrittenGep}
-use Rattle.token_forms.specs.Form.{reads, read}
-use Rattle.ir_grammar.specs.Reasons.{type_reason}
-use Rattle.ir_grammar.specs.Spelling.{width_in, width_reason, width_reason_of, int_typed_at, typed_at, type_in, int_type_in, is_pointer, is_void, returned_at, truth_value, value_in, operand_at, literal_at}
-use Rattle.ir_grammar.specs.Classes.{token, start, bit_fits, int_type, counted_type, memory_type, element_type, pointer_type, bit_type, return_type, operand_class, literal_class, line_word, flag_word}
-use Rattle.ir_grammar.specs.Instructions.{wraps, flagged_type, comparison, typed, binary, wrapping, exact, plain, disjunction, icmp, cast_by, truncate, zero_extend, sign_extend, select, freeze, inst_by, entry, phi, next_entry, attached, entry_or_attachment, with_length, arrays, closers, alloca_object, gep_flags, gep_arrays, gep_object, pointer, alloca, load, store, gep, aligned, align_or_attachment, next_index, index_or_attachment, inst_line, line_by, line_named}
-use Rattle.ir_grammar.specs.Grammar.{prefixes, with_part, parameter_parts, first_parameter, parameters, comdat_rest, debug_rest, with_header, header_parts, attachment, record_rest, started, with_comma, whole_line, next_line, lines, returned_by, returned, target, cond_branch, branch_to, branch, is_type, with_case, cases, switch, return_of, terminator_by, attachments, block, entry_block, next_block, blocks, define}
-use Rattle.std.proofs.lemmas.List.{append-nil}
-use Rattle.token_forms.specs.Form.{parts}
-use Rattle.token_forms.specs.Spelling.{Spells, part_value, part_begins}
-use Rattle.token_forms.proofs.Lawful.{read_lawful}
-use Rattle.token_forms.proofs.Exact.{read-found}
-use Rattle.ir_tree.specs.Types.{one_bit}
-use Rattle.ir_grammar.specs.Grammar.{case_begins, case_within, most_parameters}
+use Rattle.ir_grammar.specs.Spelling.{value_in}
 use Rattle.ir_reader.proofs.Looking.{GoesOnWithTypes, parts-go-on, parts-end, IsOfType, IsOfNone, Stands, TellsTypes}
 
 -- ---- classes of types

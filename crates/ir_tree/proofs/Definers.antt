@@ -1,33 +1,11 @@
 -- Which names the parts of a function define, and which labels they enter.
-use Rattle.std.proofs.Common.{◌≡◌, ◌⊎◌, ℕ, true, not, ◌==◌, zero, suc, ◌+◌, ◌<◌, ◌≤◌, List, [], ◌∷◌, ◌++◌, map, length, get_or, slice_get, Option, Some, None, inl, inr, refl, ap, subst, ◌∙◌, arith, All, Contains}
-use Rattle.std.specs.List.{flat_map, AllByRecursion}
-use Rattle.std.proofs.lemmas.Bool.{cases_lt}
-use Rattle.std.proofs.lemmas.Option.{slice_get-get_or, slice_get_within, get_or_from_slice_get, none-some, same_Some}
-use Rattle.tv_num.specs.declared.Width.{Width}
-use Rattle.ir_tree.specs.declared.tree.IrType.{IrType}
+use Rattle.ir_tree.proofs.Common.{◌≡◌, ◌⊎◌, ℕ, true, not, ◌==◌, zero, suc, ◌+◌, ◌<◌, ◌≤◌, List, [], ◌∷◌, ◌++◌, map, length, get_or, slice_get, Option, Some, None, inl, inr, refl, ap, subst, ◌∙◌, arith, All, Contains, flat_map, AllByRecursion, cases_lt, slice_get-get_or, slice_get_within, get_or_from_slice_get, none-some, same_Some, Width, IrType, Operand, Local, Number, Null, Poison, Undef, Inst, PhiEntry, Phi, Case, Block, Parameter, Function, Part, Site, Defines, Uses, Enters, Written, sites, parts, steps, has_case, operand_site, indices_sites, inst_sites, entry_sites, phi_sites, cases_sites, terminator_sites, one_bit, targets, results_of, DefinesAgain, IsLabel, DefinesIn}
 use Rattle.ir_tree.specs.declared.tree.IrType.TheVariants.{Int, Ptr}
-use Rattle.ir_tree.specs.declared.tree.Operand.{Operand}
-use Rattle.ir_tree.specs.declared.tree.Operand.TheVariants.{Local, Number, Null, Poison, Undef}
-use Rattle.ir_tree.specs.declared.tree.Inst.{Inst}
 use Rattle.ir_tree.specs.declared.tree.Inst.TheVariants as inst
 use Rattle.ir_tree.specs.declared.tree.GepIndex.{GepIndex}
-use Rattle.ir_tree.specs.declared.tree.PhiEntry.{PhiEntry}
-use Rattle.ir_tree.specs.declared.tree.Phi.{Phi}
-use Rattle.ir_tree.specs.declared.tree.Case.{Case}
 use Rattle.ir_tree.specs.declared.tree.Terminator.{Terminator}
 use Rattle.ir_tree.specs.declared.tree.Terminator.TheVariants.{Return, Branch, CondBranch, Switch, Unreachable}
-use Rattle.ir_tree.specs.declared.tree.Block.{Block}
-use Rattle.ir_tree.specs.declared.tree.Parameter.{Parameter}
-use Rattle.ir_tree.specs.declared.tree.Function.{Function}
-use Rattle.ir_tree.specs.declared.sites.Part.{Part}
 use Rattle.ir_tree.specs.declared.sites.Part.TheVariants as part
-use Rattle.ir_tree.specs.declared.sites.Site.{Site}
-use Rattle.ir_tree.specs.declared.sites.Site.TheVariants.{Defines, Uses, Enters, Written}
-use Rattle.ir_tree.specs.Sites.{sites, parts, steps, has_case, operand_site, indices_sites, inst_sites, entry_sites, phi_sites, cases_sites, terminator_sites}
-use Rattle.ir_tree.specs.Types.{one_bit}
-use Rattle.ir_tree.specs.Flow.{targets, results_of}
-use Rattle.ir_tree.specs.WellFormed.{DefinesAgain, IsLabel}
-use Rattle.ir_tree.specs.Definitions.{DefinesIn}
 use Rattle.ir_tree.proofs.Listing.{list-length}
 use Rattle.ir_tree.proofs.Standing.{InFunction, Stands, behind, at_site, parameter_site, label_site, phi_site, inst_site, end_site}
 

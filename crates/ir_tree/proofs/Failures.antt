@@ -1,6 +1,5 @@
 -- Where a test of numbers first fails.
-use Rattle.std.proofs.Common.{ℕ, ◌<◌, Some, None, arith}
-use Rattle.ir_tree.specs.WellFormed.{IsFirstFailure}
+use Rattle.ir_tree.proofs.Common.{ℕ, ◌<◌, Some, None, arith, IsFirstFailure}
 
 -- it fails here, and not before
 pub failure : (Fails : ℕ → Type 0) (n : ℕ) → Fails n → ((k : ℕ) → k < n → Fails k → ⊥) → IsFirstFailure Fails (Some n)

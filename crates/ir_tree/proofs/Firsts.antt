@@ -1,15 +1,7 @@
 -- The table of first definitions, when one more site is looked at.
-use Rattle.std.proofs.Common.{◌≡◌, ℕ, ◌+◌, ◌<◌, ◌⊎◌, Bool, true, false, not, List, Option, Some, None, length, get_or, set, length-set, refl, ◌∙◌, ap, arith, inl, inr}
-use Rattle.std.proofs.lemmas.List.{get_or-set_same, get_or-set_other}
-use Rattle.std.proofs.lemmas.Bool.{cases_eq}
+use Rattle.ir_tree.proofs.Common.{◌≡◌, ℕ, ◌+◌, ◌<◌, ◌⊎◌, Bool, true, false, not, List, Option, Some, None, length, get_or, set, length-set, refl, ◌∙◌, ap, arith, inl, inr, get_or-set_same, get_or-set_other, cases_eq, is_some, IrType, Site, Defines, IsUndefinedBefore, IsDefinition, IsFirstDefinition, AreFirst}
 use Rattle.std.specs.List.{slice_get}
-use Rattle.std.specs.Option.{is_some}
 use borrow.Author.Count.{below_more}
-use Rattle.ir_tree.specs.declared.tree.IrType.{IrType}
-use Rattle.ir_tree.specs.declared.sites.Site.{Site}
-use Rattle.ir_tree.specs.declared.sites.Site.TheVariants.{Defines}
-use Rattle.ir_tree.specs.WellFormed.{IsUndefinedBefore}
-use Rattle.ir_tree.specs.Definitions.{IsDefinition, IsFirstDefinition, AreFirst}
 
 pub none_when : (o : Option ℕ) (b : Bool) → is_some o ≡ not b → b ≡ true → o ≡ None
 none_when None b e yes' = refl

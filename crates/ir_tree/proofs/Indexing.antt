@@ -1,14 +1,6 @@
 -- The indices of blocks by their labels, and where blocks lead, in loops.
-use Rattle.std.proofs.Common.{◌≡◌, ℕ, ◌+◌, ◌<◌, List, [], ◌∷◌, ◌++◌, length, map, drop, get_or, nat_eq, ◌==◌, cond, true, false, Some, inl, inr, refl, sym, ap, ◌∙◌, arith}
+use Rattle.ir_tree.proofs.Common.{◌≡◌, ℕ, ◌+◌, ◌<◌, List, [], ◌∷◌, ◌++◌, length, map, drop, get_or, nat_eq, ◌==◌, cond, true, false, Some, inl, inr, refl, sym, ap, ◌∙◌, arith, position_or_len, option_map_or, cases_Bool, eqb-true, eqb-false, eq-eqb, ne_eqb, drop_more, append_assoc, drop-length, Block, Function, targets, block_of}
 use Rattle.std.specs.Map.{lookup}
-use Rattle.std.specs.List.{position_or_len}
-use Rattle.std.specs.Option.{option_map_or}
-use Rattle.std.proofs.lemmas.Bool.{cases_Bool, eqb-true, eqb-false, eq-eqb, ne_eqb}
-use Rattle.std.proofs.lemmas.List.{drop_more, append_assoc}
-use Rattle.std.proofs.Math.Seq.{drop-length}
-use Rattle.ir_tree.specs.declared.tree.Block.{Block}
-use Rattle.ir_tree.specs.declared.tree.Function.{Function}
-use Rattle.ir_tree.specs.Flow.{targets, block_of}
 
 -- where a block leads
 abbrev pub places_of : Function → Block → List ℕ

@@ -1,12 +1,6 @@
 -- The counts of leaves agree with their rule, and are the least that do.
-use Rattle.std.proofs.Common.{◌≡◌, ◌⊎◌, ◌+◌, ◌*◌, ◌<◌, ◌≤◌, ℕ, zero, suc, min, Bool, true, false, cond, List, [], ◌∷◌, length, sum_by, Option, Some, None, inl, inr, refl, ◌∙◌, ap, subst, arith}
-use Rattle.std.specs.List.{find, AllByRecursion}
-use Rattle.std.proofs.lemmas.Bool.{cases_Bool, cases_lt}
+use Rattle.ir_tree.proofs.Common.{◌≡◌, ◌⊎◌, ◌+◌, ◌*◌, ◌<◌, ◌≤◌, ℕ, zero, suc, min, Bool, true, false, cond, List, [], ◌∷◌, length, sum_by, Option, Some, None, inl, inr, refl, ◌∙◌, ap, subst, arith, find, AllByRecursion, cases_Bool, cases_lt, Operand, Local, Number, Null, Poison, Undef, Inst, Function}
 use Rattle.std.proofs.lemmas.List.Sums.{sum_by-cons}
-use Rattle.ir_tree.specs.declared.tree.Operand.{Operand}
-use Rattle.ir_tree.specs.declared.tree.Operand.TheVariants.{Local, Number, Null, Poison, Undef}
-use Rattle.ir_tree.specs.declared.tree.Inst.{Inst}
-use Rattle.ir_tree.specs.declared.tree.Function.{Function}
 use Rattle.ir_tree.specs.Carrying.{carrying_operands, insts_of, makes, carried_from, carried_by, leaves_by, leaves_within, leaf_count, LeafCountsAgree, LeafCountsAreLeast}
 
 -- ---- sums

@@ -1,3 +1,4 @@
+pub mod Common
 pub mod Definers
 pub mod Failures
 pub mod Firsts

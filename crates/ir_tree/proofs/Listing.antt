@@ -1,20 +1,8 @@
 -- What a list of sites has when its parts went in.
-use Rattle.std.proofs.Common.{◌≡◌, ℕ, ◌+◌, ◌<◌, List, [], ◌∷◌, ◌++◌, Option, length, map, drop, take, get_or, refl, ap, sym, ◌∙◌, append_assoc, length-append, append-nil, arith}
-use Rattle.std.specs.List.{flat_map}
-use Rattle.std.proofs.lemmas.List.{drop_more, take_more, length-map, map-append}
-use Rattle.std.proofs.Math.Seq.{drop-length}
-use Rattle.tv_num.specs.declared.Width.{Width}
-use Rattle.ir_tree.specs.declared.tree.IrType.{IrType}
-use Rattle.ir_tree.specs.declared.tree.Block.{Block}
-use Rattle.ir_tree.specs.declared.tree.PhiEntry.{PhiEntry}
-use Rattle.ir_tree.specs.declared.tree.Case.{Case}
-use Rattle.ir_tree.specs.declared.tree.Function.{Function}
-use Rattle.ir_tree.specs.declared.sites.Part.{Part}
+use Rattle.ir_tree.proofs.Common.{◌≡◌, ℕ, ◌+◌, ◌<◌, List, [], ◌∷◌, ◌++◌, Option, length, map, drop, take, get_or, refl, ap, sym, ◌∙◌, length-append, append-nil, arith, flat_map, drop_more, take_more, length-map, map-append, drop-length, Width, IrType, Block, PhiEntry, Case, Function, Part, Site, Step, sites, sites_in, parts, parts_in, steps, block_steps, blocks_steps, phi_steps, inst_steps, parameter_steps, label_sites, entry_sites, case_sites, cases_sites, terminator_sites, header_sites, with_part, with_parts}
+use Rattle.std.proofs.Common.{append_assoc}
 use Rattle.ir_tree.specs.declared.sites.Part.TheVariants as part
-use Rattle.ir_tree.specs.declared.sites.Site.{Site}
 use Rattle.ir_tree.specs.declared.sites.SiteList.{SiteList}
-use Rattle.ir_tree.specs.Sites.{Step, sites, sites_in, parts, parts_in, steps, block_steps, blocks_steps, phi_steps, inst_steps, parameter_steps, label_sites, entry_sites, case_sites, cases_sites, terminator_sites, header_sites}
-use Rattle.ir_tree.specs.SiteLists.{with_part, with_parts}
 
 -- ---- one part
 

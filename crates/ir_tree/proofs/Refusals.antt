@@ -1,9 +1,7 @@
 -- A function is refused for the first reason that has a site, at its first site.
-use Rattle.std.proofs.Common.{◌≡◌, ◌≤◌, ℕ, refl, sym, ◌∙◌, ap, arith}
-use Rattle.ir_tree.specs.declared.tree.Function.{Function}
+use Rattle.ir_tree.proofs.Common.{◌≡◌, ◌≤◌, ℕ, refl, sym, ◌∙◌, ap, arith, Function, IsFirstSite, IsTestedAs, IsWellFormed, refusal_at, OneRefusal, RefusedIsNotWellFormed}
 use Rattle.ir_tree.specs.declared.module.Reason.{Reason}
 use Rattle.ir_tree.specs.declared.module.Reason.TheVariants.{Syntax, Unsupported, Limit, NameTwice, NameUnknown, TypeClash, PhiEdges, Unassigned, UndefUse}
-use Rattle.ir_tree.specs.WellFormed.{IsFirstSite, IsTestedAs, IsWellFormed, refusal_at, OneRefusal, RefusedIsNotWellFormed}
 
 same_site : (reason : Reason) (f : Function) (n m : ℕ) → IsFirstSite reason f n → IsFirstSite reason f m → n ≡ m
 same_site reason f n m a b = let low : n ≤ m = a.first m b.fails in let high : m ≤ n = b.first n a.fails in omega (arith, low, high)

@@ -1,11 +1,7 @@
 -- Sizes of nested arrays, from the innermost length outwards.
-use Rattle.std.proofs.Common.{◌≡◌, ℕ, zero, suc, ◌+◌, ◌*◌, ◌%◌, ◌-◌, ◌<◌, ◌≤◌, List, [], ◌∷◌, length, drop, get_or, min, sym, ap, subst, ◌∙◌, arith}
-use Rattle.std.proofs.lemmas.List.{drop_more}
+use Rattle.ir_tree.proofs.Common.{◌≡◌, ℕ, zero, suc, ◌+◌, ◌*◌, ◌%◌, ◌-◌, ◌<◌, ◌≤◌, List, [], ◌∷◌, length, drop, get_or, min, sym, ap, subst, ◌∙◌, arith, drop_more, IrType, nested_size, HasSmallArrays}
 use Rattle.std.proofs.lemmas.Nat.{mul-mod_first}
 use Rattle.std.proofs.Math.Nat.{mul_comm}
-use Rattle.ir_tree.specs.declared.tree.IrType.{IrType}
-use Rattle.ir_tree.specs.Types.{nested_size}
-use Rattle.ir_tree.specs.Limits.{HasSmallArrays}
 
 -- arrays within small ones are small
 pub small_from : (lengths : List ℕ) (element : IrType) (i : ℕ) → HasSmallArrays lengths element → HasSmallArrays (drop i lengths) element

@@ -1,18 +1,7 @@
 -- Which sites are in which parts of a function.
-use Rattle.std.proofs.Common.{◌≡◌, ◌⊎◌, ℕ, zero, suc, ◌+◌, ◌<◌, List, [], ◌∷◌, ◌++◌, map, length, get_or, slice_get, Option, Some, inl, inr, refl, ap, sym, subst, ◌∙◌, arith, Contains, length-append, get_or-append-add, zero-add}
-use Rattle.std.proofs.lemmas.List.{get_or_append_left, length-map}
+use Rattle.ir_tree.proofs.Common.{◌≡◌, ◌⊎◌, ℕ, zero, suc, ◌+◌, ◌<◌, List, [], ◌∷◌, ◌++◌, map, length, get_or, slice_get, Option, Some, inl, inr, refl, ap, sym, subst, ◌∙◌, arith, Contains, length-append, get_or-append-add, zero-add, get_or_append_left, length-map, slice_get-get_or, slice_get_within, get_or_from_slice_get, same_Some, none-some, IrType, Inst, Phi, Block, Parameter, Function, Part, Site, Step, sites, sites_in, parts, parts_in, steps, block_steps, blocks_steps, phi_steps, inst_steps, parameter_steps, parameter_sites, label_sites, phi_sites, inst_sites, terminator_sites, header_sites}
 use Rattle.std.proofs.lemmas.List.Elements.{Contains-append_right}
-use Rattle.std.proofs.lemmas.Option.{slice_get-get_or, slice_get_within, get_or_from_slice_get, same_Some, none-some}
-use Rattle.ir_tree.specs.declared.tree.IrType.{IrType}
-use Rattle.ir_tree.specs.declared.tree.Inst.{Inst}
-use Rattle.ir_tree.specs.declared.tree.Phi.{Phi}
-use Rattle.ir_tree.specs.declared.tree.Block.{Block}
-use Rattle.ir_tree.specs.declared.tree.Parameter.{Parameter}
-use Rattle.ir_tree.specs.declared.tree.Function.{Function}
-use Rattle.ir_tree.specs.declared.sites.Part.{Part}
 use Rattle.ir_tree.specs.declared.sites.Part.TheVariants as part
-use Rattle.ir_tree.specs.declared.sites.Site.{Site}
-use Rattle.ir_tree.specs.Sites.{Step, sites, sites_in, parts, parts_in, steps, block_steps, blocks_steps, phi_steps, inst_steps, parameter_steps, parameter_sites, label_sites, phi_sites, inst_sites, terminator_sites, header_sites}
 
 -- one of the steps is this part, and has the site
 abbrev pub AreIn : List Step → Part → Site → Type 0

@@ -1,7 +1,6 @@
 -- A width is its number of bits.
-use Rattle.std.proofs.Common.{◌≡◌, ℕ, ◌≤◌, ap, subst, ◌∙◌}
+use Rattle.ir_tree.proofs.Common.{◌≡◌, ℕ, ◌≤◌, ap, subst, ◌∙◌, Width}
 use Rattle.std.proofs.Math.Bridge.{le_prop}
-use Rattle.tv_num.specs.declared.Width.{Width}
 
 abbrev made : (n : ℕ) → 1 ≤ n → n ≤ 64 → Width
 made n low high = record { bits = n; at_least_1 = low; at_most_64 = high }

@@ -1,21 +1,6 @@
 -- Steps within those of a log, each with no earlier clause within it.
-use Rattle.std.proofs.Common.{ℕ, ◌≡◌, ◌≤◌, ◌+◌, ◌-◌, ◌++◌, ◌⊎◌, inl, inr, List, [], ◌∷◌, Some, None, length, slice_get, take, arith, sym, ap, subst, refl, ◌∙◌, append_assoc}
-use Rattle.std.proofs.lemmas.Bool.{cases_lt}
-use Rattle.std.proofs.lemmas.List.{length_push}
-use Rattle.std.proofs.lemmas.Option.{slice_get_within}
-use Rattle.clause_lits.specs.declared.lit.Lit.{Lit}
-use Rattle.clause_log.specs.declared.step.Step.{Step}
-use Rattle.clause_log.specs.Members.{Has}
-use Rattle.clause_log.specs.Chain.{chain_resolvent, clause_numbered}
-use Rattle.clause_log.specs.Refutation.{EndsEmpty, IsSoundAt, Refutes, standing_before}
-use Rattle.clause_search.specs.Outcome.{ContainsClause, IsCareful}
-use Rattle.clause_search.specs.Searching.{standing}
+use Rattle.log_tidy.proofs.Common.{ℕ, ◌≡◌, ◌≤◌, ◌+◌, ◌-◌, ◌++◌, ◌⊎◌, inl, inr, List, [], ◌∷◌, Some, None, length, slice_get, take, arith, sym, ap, subst, refl, ◌∙◌, append_assoc, cases_lt, length_push, slice_get_within, Lit, Step, Has, chain_resolvent, clause_numbered, EndsEmpty, IsSoundAt, Refutes, standing_before, ContainsClause, IsCareful, standing, get-kept, get-last, Index, IsWithin, IsEntered, IsFound, IsIndexed, IsListed, AreTidied, IsAdded, RefutesCarefully}
 use Rattle.clause_search.proofs.Findings.{length-standing}
-use Rattle.clause_search.proofs.Getting.{get-kept, get-last}
-use Rattle.log_tidy.specs.declared.index.Index.{Index}
-use Rattle.log_tidy.specs.Inclusion.{IsWithin}
-use Rattle.log_tidy.specs.Indexed.{IsEntered, IsFound, IsIndexed, IsListed}
-use Rattle.log_tidy.specs.Tidied.{AreTidied, IsAdded, RefutesCarefully}
 use Rattle.log_tidy.proofs.Numbered.{clauses_of, left-numbered, numbered-from, numbered-left, numbered-within}
 use Rattle.log_tidy.proofs.Links.{alone-derived}
 use Rattle.log_tidy.proofs.Pushed.{careful-pushed, ends-pushed, sound-pushed}

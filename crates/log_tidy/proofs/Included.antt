@@ -1,14 +1,7 @@
 -- A merge finds each literal of one clause in another where that one has them.
-use Rattle.std.proofs.Common.{ℕ, ◌≡◌, inl, inr, Bool, true, false, cond, List, [], ◌∷◌, ltb, arith, sym, ap, subst, refl, ◌∙◌, IsTrue, ◌↔◌}
-use Rattle.std.proofs.lemmas.Bool.{ltb-true, ltb-false, cases_Bool, false≢true}
-use Rattle.clause_lits.specs.declared.lit.Lit.{Lit}
-use Rattle.clause_lits.specs.Meaning.{IsClause, RisesFrom}
-use Rattle.clause_log.specs.Members.{Has}
-use Rattle.clause_log.proofs.Membership.{rises-has}
-use Rattle.clause_search.specs.Outcome.{ContainsClause}
+use Rattle.log_tidy.proofs.Common.{ℕ, ◌≡◌, inl, inr, Bool, true, false, cond, List, [], ◌∷◌, ltb, arith, sym, ap, subst, refl, ◌∙◌, IsTrue, ◌↔◌, ltb-true, ltb-false, cases_Bool, false≢true, Lit, IsClause, RisesFrom, Has, rises-has, ContainsClause, included, included_at}
 use Rattle.clause_search.specs.Trail.{literal_eq}
 use Rattle.clause_search.proofs.Seeing.{literal_eq-refl, literal_eq-true}
-use Rattle.log_tidy.specs.Inclusion.{included, included_at}
 
 at-less : (x y : Lit) (rest : List Lit → Bool) (ys : List Lit) → ltb y.variable x.variable ≡ true → included_at x rest (y ∷ ys) ≡ included_at x rest ys
 at-less x y rest ys e = ap (λ b. cond b (included_at x rest ys) (cond (literal_eq x y) (rest ys) false)) e

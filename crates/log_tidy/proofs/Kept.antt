@@ -1,18 +1,5 @@
 -- The marked steps, by their new numbers, are a log of their own.
-use Rattle.std.proofs.Common.{ℕ, zero, suc, ◌≡◌, ◌<◌, ◌+◌, ◌-◌, ◌++◌, inl, inr, Bool, true, false, List, [], ◌∷◌, Some, length, slice_get, get_or, take, map, arith, sym, ap, subst, refl, ◌∙◌}
-use Rattle.std.proofs.lemmas.Bool.{cases_lt}
-use Rattle.std.proofs.lemmas.List.{length_push}
-use Rattle.std.proofs.lemmas.Option.{slice_get_within}
-use Rattle.clause_lits.specs.declared.lit.Lit.{Lit}
-use Rattle.clause_log.specs.declared.step.Step.{Step}
-use Rattle.clause_log.specs.Members.{Has}
-use Rattle.clause_log.specs.Chain.{chain_resolvent, clause_numbered}
-use Rattle.clause_log.specs.Refutation.{EndsEmpty, IsSoundAt, Refutes, standing_before}
-use Rattle.clause_search.specs.Searching.{standing}
-use Rattle.clause_search.proofs.Getting.{get-kept, get-last, get-taken}
-use Rattle.log_tidy.specs.Marks.{AreMarked, IsBelow, IsMarked}
-use Rattle.log_tidy.specs.Numbers.{new_number, renumbered_step}
-use Rattle.log_tidy.specs.Trimmed.{AreKept, IsFrom, IsMoved, IsTrimmed}
+use Rattle.log_tidy.proofs.Common.{ℕ, zero, suc, ◌≡◌, ◌<◌, ◌+◌, ◌-◌, ◌++◌, inl, inr, Bool, true, false, List, [], ◌∷◌, Some, length, slice_get, get_or, take, map, arith, sym, ap, subst, refl, ◌∙◌, cases_lt, length_push, slice_get_within, Lit, Step, Has, chain_resolvent, clause_numbered, EndsEmpty, IsSoundAt, Refutes, standing_before, standing, get-kept, get-last, get-taken, AreMarked, IsBelow, IsMarked, new_number, renumbered_step, AreKept, IsFrom, IsMoved, IsTrimmed}
 use Rattle.log_tidy.specs.Used.{IsUsed}
 use Rattle.log_tidy.proofs.Numbered.{chain-same, clauses_of, left-numbered, map-same, new_number-first, new_number-more, new_number-step, numbered-left, numbered-step, sound-below, step-numbered}
 use Rattle.log_tidy.proofs.Pushed.{careful-pushed, has-either, has-first, has-second, sound-pushed}

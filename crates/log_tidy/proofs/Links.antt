@@ -1,24 +1,8 @@
 -- Resolvents of clauses within those that a resolvent is of.
-use Rattle.std.proofs.Common.{option_and_then, ℕ, zero, suc, ◌≡◌, ◌<◌, ◌≤◌, ◌+◌, ◌-◌, inl, inr, List, [], ◌∷◌, Option, Some, None, length, slice_get, get_or, take, drop, map, arith, sym, ap, subst, refl, ◌∙◌}
-use Rattle.std.proofs.lemmas.Bool.{cases_lt}
-use Rattle.std.proofs.lemmas.List.{drop_all, drop_more, take_more}
-use Rattle.std.proofs.lemmas.Option.{option_and_then_some}
-use Rattle.clause_lits.specs.declared.lit.Lit.{Lit}
-use Rattle.clause_lits.specs.Meaning.{IsClause, RisesFrom, opposite_of}
-use Rattle.clause_log.specs.declared.step.Step.{Step}
-use Rattle.clause_log.specs.Members.{Has}
-use Rattle.clause_log.specs.Resolution.{Resolves, joined, resolvent}
-use Rattle.clause_log.specs.Chain.{chain_resolvent, clause_numbered, resolved_along}
+use Rattle.log_tidy.proofs.Common.{option_and_then, ℕ, zero, suc, ◌≡◌, ◌<◌, ◌≤◌, ◌+◌, ◌-◌, inl, inr, List, [], ◌∷◌, Option, Some, None, length, slice_get, get_or, take, drop, map, arith, sym, ap, subst, refl, ◌∙◌, cases_lt, drop_all, drop_more, take_more, option_and_then_some, Lit, IsClause, RisesFrom, opposite_of, Step, Has, Resolves, joined, resolvent, chain_resolvent, clause_numbered, resolved_along, one_clash, rises-has, ContainsClause, standing, get-taken, IsWithin, AreParts, AreSame, AreShorter, IsDerived, IsNumbered, IsResolved, Resolve, new_number, renumbered_step}
 use Rattle.clause_log.proofs.Joining.{resolvent-one}
-use Rattle.clause_log.proofs.Membership.{one_clash, rises-has}
 use Rattle.clause_log.proofs.Resolving.{resolves-from}
-use Rattle.clause_search.specs.Outcome.{ContainsClause}
-use Rattle.clause_search.specs.Searching.{standing}
 use Rattle.clause_search.proofs.Back.{chain-push}
-use Rattle.clause_search.proofs.Getting.{get-taken}
-use Rattle.log_tidy.specs.Inclusion.{IsWithin}
-use Rattle.log_tidy.specs.Linked.{AreParts, AreSame, AreShorter, IsDerived, IsNumbered, IsResolved, Resolve}
-use Rattle.log_tidy.specs.Numbers.{new_number, renumbered_step}
 use Rattle.log_tidy.proofs.Marked.{has-last}
 use Rattle.log_tidy.proofs.Numbered.{chain-same, clauses_of, left-numbered, new_number-first, new_number-step, numbered-left, step-numbered}
 

@@ -1,18 +1,6 @@
 -- Which entries an index has.
+use Rattle.log_tidy.proofs.Common.{ℕ, zero, suc, ◌≡◌, ◌<◌, ◌+◌, ◌%◌, ◌++◌, ◌⊎◌, inl, inr, Bool, true, false, cond, List, [], ◌∷◌, Some, None, length, slice_get, get_or, take, arith, sym, ap, subst, refl, ◌∙◌, slice_set, cases_eq, get_or-set_other, get_or-set_same, length-set, take_more, get_or_from_slice_get, slice_get_within, Lit, Has, clause_numbered, Entry, Index, IsWithin, AreCovered, AreNone, IsEntered, IsFound, IsIndexed, IsListed, IsPut, IsSized, slot, IsMarked}
 use Rattle.std.proofs.Math.Nat.{mod-lt}
-use Rattle.std.proofs.Common.{ℕ, zero, suc, ◌≡◌, ◌<◌, ◌+◌, ◌%◌, ◌++◌, ◌⊎◌, inl, inr, Bool, true, false, cond, List, [], ◌∷◌, Some, None, length, slice_get, get_or, take, arith, sym, ap, subst, refl, ◌∙◌}
-use Rattle.std.specs.Prelude.{slice_set}
-use Rattle.std.proofs.lemmas.Bool.{cases_eq}
-use Rattle.std.proofs.lemmas.List.{get_or-set_other, get_or-set_same, length-set, take_more}
-use Rattle.std.proofs.lemmas.Option.{get_or_from_slice_get, slice_get_within}
-use Rattle.clause_lits.specs.declared.lit.Lit.{Lit}
-use Rattle.clause_log.specs.Members.{Has}
-use Rattle.clause_log.specs.Chain.{clause_numbered}
-use Rattle.log_tidy.specs.declared.index.Entry.{Entry}
-use Rattle.log_tidy.specs.declared.index.Index.{Index}
-use Rattle.log_tidy.specs.Inclusion.{IsWithin}
-use Rattle.log_tidy.specs.Indexed.{AreCovered, AreNone, IsEntered, IsFound, IsIndexed, IsListed, IsPut, IsSized, slot}
-use Rattle.log_tidy.specs.Marks.{IsMarked}
 use Rattle.log_tidy.proofs.Numbered.{numbered-from}
 
 module _ {X : Type 0} where

@@ -1,12 +1,5 @@
 -- Which steps are marked, from the last one down.
-use Rattle.std.proofs.Common.{ℕ, ◌≡◌, ◌<◌, ◌+◌, ◌-◌, ◌++◌, ◌⊎◌, inl, inr, Bool, true, false, List, [], ◌∷◌, Some, length, get_or, slice_get, arith, sym, ap, subst, refl, ◌∙◌}
-use Rattle.std.specs.Prelude.{slice_set, replicate}
-use Rattle.std.proofs.lemmas.Bool.{cases_eq, cases_lt}
-use Rattle.std.proofs.lemmas.List.{get_or-replicate, get_or-set_other, get_or-set_same, get_or_past, length-replicate, length-set}
-use Rattle.std.proofs.lemmas.Option.{slice_get_within}
-use Rattle.clause_log.specs.declared.step.Step.{Step}
-use Rattle.clause_log.specs.Members.{Has}
-use Rattle.log_tidy.specs.Marks.{AreMarked, IsBelow, IsMarked, IsMarking}
+use Rattle.log_tidy.proofs.Common.{ℕ, ◌≡◌, ◌<◌, ◌+◌, ◌-◌, ◌++◌, ◌⊎◌, inl, inr, Bool, true, false, List, [], ◌∷◌, Some, length, get_or, slice_get, arith, sym, ap, subst, refl, ◌∙◌, slice_set, replicate, cases_eq, cases_lt, get_or-replicate, get_or-set_other, get_or-set_same, get_or_past, length-replicate, length-set, slice_get_within, Step, Has, AreMarked, IsBelow, IsMarked, IsMarking}
 
 pub has-last : (xs : List ℕ) (x y : ℕ) → Has (xs ++ x ∷ []) y → Has xs y ⊎ Has (x ∷ []) y
 has-last [] x y h = inr h

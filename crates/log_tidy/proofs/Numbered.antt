@@ -1,16 +1,5 @@
 -- Which clause has which number.
-use Rattle.std.proofs.Common.{option_and_then, ℕ, zero, suc, ◌≡◌, ◌<◌, ◌≤◌, ◌+◌, ◌-◌, ◌++◌, inl, inr, Bool, cond, List, [], ◌∷◌, Some, None, length, slice_get, take, map, ltb, get_or, arith, sym, ap, subst, refl, ◌∙◌, length-append}
-use Rattle.std.proofs.lemmas.Bool.{cases_Bool, le-ltb, lt-ltb, ltb-true, ne_eqb}
-use Rattle.std.proofs.lemmas.List.{get_or_append_left, length-map, length-take}
-use Rattle.std.proofs.lemmas.Option.{get_or_from_slice_get, option_and_then_some, slice_get_within}
-use Rattle.clause_lits.specs.declared.lit.Lit.{Lit}
-use Rattle.clause_log.specs.declared.step.Step.{Step}
-use Rattle.clause_log.specs.Members.{Has}
-use Rattle.clause_log.specs.Resolution.{resolvent}
-use Rattle.clause_log.specs.Chain.{chain_resolvent, clause_numbered, resolved_along}
-use Rattle.clause_log.specs.Refutation.{IsSoundAt, standing_before}
-use Rattle.log_tidy.specs.Marks.{IsBelow}
-use Rattle.log_tidy.specs.Numbers.{new_number}
+use Rattle.log_tidy.proofs.Common.{option_and_then, ℕ, zero, suc, ◌≡◌, ◌<◌, ◌≤◌, ◌+◌, ◌-◌, ◌++◌, inl, inr, Bool, cond, List, [], ◌∷◌, Some, None, length, slice_get, take, map, ltb, get_or, arith, sym, ap, subst, refl, ◌∙◌, length-append, cases_Bool, le-ltb, lt-ltb, ltb-true, ne_eqb, get_or_append_left, length-map, length-take, get_or_from_slice_get, option_and_then_some, slice_get_within, Lit, Step, Has, resolvent, chain_resolvent, clause_numbered, resolved_along, IsSoundAt, standing_before, IsBelow, new_number}
 
 abbrev pub clauses_of : List Step → List (List Lit)
 clauses_of steps = map (λ (s : Step). s.clause) steps

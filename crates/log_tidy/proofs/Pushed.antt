@@ -1,17 +1,6 @@
 -- A log with one more step.
-use Rattle.std.proofs.Common.{ℕ, ◌≡◌, ◌<◌, ◌≤◌, ◌-◌, ◌++◌, ◌⊎◌, inl, inr, List, [], ◌∷◌, Some, length, slice_get, map, arith, sym, ap, subst, ◌∙◌}
+use Rattle.log_tidy.proofs.Common.{ℕ, ◌≡◌, ◌<◌, ◌≤◌, ◌-◌, ◌++◌, ◌⊎◌, inl, inr, List, [], ◌∷◌, Some, length, slice_get, map, arith, sym, ap, subst, ◌∙◌, cases_lt, length_push, take-append-le, slice_get_within, Lit, Step, Has, chain_resolvent, EndsEmpty, IsSoundAt, standing_before, ContainsClause, IsCareful, standing, get-early, get-kept, get-last, get-late}
 use Rattle.std.proofs.Math.Seq.{take-length}
-use Rattle.std.proofs.lemmas.Bool.{cases_lt}
-use Rattle.std.proofs.lemmas.List.{length_push, take-append-le}
-use Rattle.std.proofs.lemmas.Option.{slice_get_within}
-use Rattle.clause_lits.specs.declared.lit.Lit.{Lit}
-use Rattle.clause_log.specs.declared.step.Step.{Step}
-use Rattle.clause_log.specs.Members.{Has}
-use Rattle.clause_log.specs.Chain.{chain_resolvent}
-use Rattle.clause_log.specs.Refutation.{EndsEmpty, IsSoundAt, standing_before}
-use Rattle.clause_search.specs.Outcome.{ContainsClause, IsCareful}
-use Rattle.clause_search.specs.Searching.{standing}
-use Rattle.clause_search.proofs.Getting.{get-early, get-kept, get-last, get-late}
 
 pub has-either : (cs ds : List (List Lit)) (c : List Lit) → Has (cs ++ ds) c → Has cs c ⊎ Has ds c
 has-either [] ds c h = inr h

@@ -1,17 +1,7 @@
 -- The bytes of values, and walks over bytes.
-use Rattle.std.proofs.Common.{◌≡◌, ℕ, zero, suc, ◌+◌, ◌*◌, ◌/◌, ◌%◌, ◌^◌, ◌<◌, ◌≤◌, nat_eq, ◌&&◌, List, [], ◌∷◌, ◌++◌, length, get_or, take, drop, replicate, Some, None, refl, sym, ap, ◌∙◌, arith}
-use Rattle.std.specs.Prelude.{slice_get}
-use Rattle.std.proofs.lemmas.List.{at_drop_more, at_drop_all}
+use Rattle.memory_access.proofs.Common.{◌≡◌, ℕ, zero, suc, ◌+◌, ◌*◌, ◌/◌, ◌%◌, ◌^◌, ◌<◌, ◌≤◌, nat_eq, ◌&&◌, List, [], ◌∷◌, ◌++◌, length, get_or, take, drop, replicate, Some, None, refl, sym, ap, ◌∙◌, arith, slice_get, at_drop_more, at_drop_all, shr-shr, set, paste, pow-suc, pow-le-pow_right, mul-le-mul_right, Ptr, Byte, Num, Part, Poison, number_bytes, parts_from, number_of_bytes, are_parts, is_part_of}
 use Rattle.std.proofs.lemmas.List.Edits.{paste_more, paste_all}
-use Rattle.std.proofs.lemmas.Nat.{shr-shr}
 use Rattle.std.proofs.lemmas.Option.{slice_get_within, get_or_from_slice_get}
-use Rattle.std.proofs.Math.ListN.{set}
-use lib.Seq.{paste}
-use Rattle.std.proofs.Math.Nat.{pow-suc, pow-le-pow_right, mul-le-mul_right}
-use Rattle.byte_block.specs.declared.value.Ptr.{Ptr}
-use Rattle.byte_block.specs.declared.value.Byte.{Byte}
-use Rattle.byte_block.specs.declared.value.Byte.TheVariants.{Num, Part, Poison}
-use Rattle.memory_access.specs.Bytes.{number_bytes, parts_from, number_of_bytes, are_parts, is_part_of}
 
 -- ---- one byte of a value
 

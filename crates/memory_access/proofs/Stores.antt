@@ -1,23 +1,8 @@
 -- What a store leaves of a memory.
-use Rattle.std.proofs.Common.{◌≡◌, ◌⊎◌, ℕ, ◌+◌, ◌%◌, ◌≤◌, Bool, true, false, ◌&&◌, nat_eq, nat_le, if◌then◌else◌, List, [], ◌∷◌, length, map, take, drop, Option, Some, None, refl, sym, ap, ap₂, ◌∙◌, inl, inr, arith}
-use Rattle.std.specs.Prelude.{slice_get}
-use Rattle.std.specs.List.{find}
-use Rattle.std.proofs.lemmas.Bool.{eqb-true, leb-true}
-use Rattle.std.proofs.lemmas.List.{length-take}
-use Rattle.byte_block.specs.declared.value.BlockName.{BlockName}
-use Rattle.byte_block.specs.declared.value.BlockName.TheVariants.{Null, Given, Local}
-use Rattle.byte_block.specs.declared.value.Ptr.{Ptr}
-use Rattle.byte_block.specs.declared.value.Value.{Value}
+use Rattle.memory_access.proofs.Common.{◌≡◌, ◌⊎◌, ℕ, ◌+◌, ◌%◌, ◌≤◌, Bool, true, false, ◌&&◌, nat_eq, nat_le, if◌then◌else◌, List, [], ◌∷◌, length, map, take, drop, Option, Some, None, refl, sym, ap, ap₂, ◌∙◌, inl, inr, arith, slice_get, find, eqb-true, leb-true, length-take, BlockName, Null, Given, Local, Ptr, Value, Byte, MemoryBlock, Access, equal_names, names, block_bytes, bytes_or_none, bytes_named, access_size, value_bytes, value_of_bytes, admits, is_defined, load_result, overwritten, first_changed, store_result, after_store, Fits, IsElsewhere, frame_of}
 use Rattle.byte_block.specs.declared.value.Value.TheVariants as value
-use Rattle.byte_block.specs.declared.value.Byte.{Byte}
-use Rattle.byte_block.specs.declared.block.MemoryBlock.{MemoryBlock}
-use Rattle.memory_access.specs.declared.access_types.Access.{Access}
 use Rattle.memory_access.specs.declared.access_types.Loaded.TheVariants as loaded
 use Rattle.memory_access.specs.declared.access_types.Stored.TheVariants as stored
-use Rattle.memory_access.specs.Blocks.{equal_names, names, block_bytes, bytes_or_none, bytes_named}
-use Rattle.memory_access.specs.Bytes.{access_size, value_bytes, value_of_bytes}
-use Rattle.memory_access.specs.Accesses.{admits, is_defined, load_result, overwritten, first_changed, store_result, after_store}
-use Rattle.memory_access.specs.Laws.{Fits, IsElsewhere, frame_of}
 use Rattle.memory_access.proofs.Windows.{length-over, length-take-over, over-part, over-elsewhere}
 use Rattle.memory_access.proofs.Values.{length-value_bytes, value_of_bytes-value_bytes}
 

@@ -1,18 +1,9 @@
 -- Sums of indices: walks over them, and what wrapping keeps.
-use Rattle.std.proofs.Common.{◌≡◌, ℕ, zero, suc, ◌+◌, ◌-◌, ◌*◌, ◌%◌, ◌^◌, ◌<◌, ◌≤◌, Bool, true, false, ◌||◌, ◌&&◌, List, [], ◌∷◌, length, get_or, drop, ℤ, pos, negsuc, ◌+ℤ◌, ◌≤ℤ◌, neg_ℤ, to_z, of_z, Fits, w64, refl, sym, ap, ◌∙◌, arith, rules}
-use Rattle.std.specs.Int.{int_rem_euclid, w128}
+use Rattle.memory_access.proofs.Common.{◌≡◌, ℕ, zero, suc, ◌+◌, ◌-◌, ◌*◌, ◌%◌, ◌^◌, ◌<◌, ◌≤◌, Bool, true, false, ◌||◌, ◌&&◌, List, [], ◌∷◌, length, get_or, drop, ℤ, pos, negsuc, ◌+ℤ◌, ◌≤ℤ◌, neg_ℤ, to_z, of_z, w64, refl, sym, ap, ◌∙◌, arith, rules, int_rem_euclid, w128, list_any, list_all, at_drop_more, at_drop_all, ints, int_rem_euclid_is, to_z_pos, nat_tests, pow_pos, mod_below, mod-add-mod, mod-eq_of_lt, wrapped, Index, scaled, partial_sums, last_sum, is_outside, leaves_block}
+use Rattle.std.proofs.Common.{Fits}
 use lib.Dec.{T}
 use lib.IntN.{nat_abs}
 use lib.Signed.{non_neg}
-use Rattle.std.specs.List.{list_any, list_all}
-use Rattle.std.proofs.lemmas.List.{at_drop_more, at_drop_all}
-use Rattle.std.proofs.lemmas.Int.{ints, int_rem_euclid_is, to_z_pos}
-use Rattle.std.proofs.lemmas.Bool.Decides.{nat_tests}
-use Rattle.std.proofs.lemmas.Nat.{pow_pos, mod_below}
-use Rattle.std.proofs.Math.Nat.{mod-add-mod, mod-eq_of_lt}
-use Rattle.tv_num.specs.Width.{wrapped}
-use Rattle.memory_access.specs.declared.offsets.Index.{Index}
-use Rattle.memory_access.specs.Offsets.{scaled, partial_sums, last_sum, is_outside, leaves_block}
 
 -- ---- walks
 

@@ -1,24 +1,7 @@
 -- Values and their bytes are inverse to each other.
-use Rattle.std.proofs.Common.{◌≡◌, ℕ, zero, suc, ◌+◌, ◌*◌, ◌/◌, ◌%◌, ◌^◌, ◌<◌, ◌≤◌, true, nat_eq, List, [], ◌∷◌, length, replicate, Option, Some, None, refl, sym, ap, ap₂, ◌∙◌, arith}
-use Rattle.std.specs.Prelude.{All}
+use Rattle.memory_access.proofs.Common.{◌≡◌, ℕ, zero, suc, ◌+◌, ◌*◌, ◌/◌, ◌%◌, ◌^◌, ◌<◌, ◌≤◌, true, nat_eq, List, [], ◌∷◌, length, replicate, Option, Some, None, refl, sym, ap, ap₂, ◌∙◌, arith, All, nat_tests, length-replicate, All-head, All-tail, pow-add, pow-suc, pow-le-pow_right, mod-add-div, add-mul-mod_self_left, div-lt_iff_lt-mul, mod-eq_of_lt, BlockName, Null, Given, Local, Ptr, Value, Byte, Num, Part, Poison, Access, Int, Pointer, equal_names, access_size, number_bytes, parts_from, number_of_bytes, number_or_poison, is_part_of, are_parts, pointer_or_poison, value_bytes, value_of_bytes, IsByte, Fits}
 use Rattle.std.specs.Option.{option_map}
-use Rattle.std.proofs.lemmas.Bool.Decides.{nat_tests}
-use Rattle.std.proofs.lemmas.List.{length-replicate}
-use Rattle.std.proofs.lemmas.List.Elements.{All-head, All-tail}
-use Rattle.std.proofs.lemmas.Nat.{pow-add}
-use Rattle.std.proofs.Math.Nat.{pow-suc, pow-le-pow_right, mod-add-div, add-mul-mod_self_left, div-lt_iff_lt-mul, mod-eq_of_lt}
-use Rattle.byte_block.specs.declared.value.BlockName.{BlockName}
-use Rattle.byte_block.specs.declared.value.BlockName.TheVariants.{Null, Given, Local}
-use Rattle.byte_block.specs.declared.value.Ptr.{Ptr}
-use Rattle.byte_block.specs.declared.value.Value.{Value}
 use Rattle.byte_block.specs.declared.value.Value.TheVariants as value
-use Rattle.byte_block.specs.declared.value.Byte.{Byte}
-use Rattle.byte_block.specs.declared.value.Byte.TheVariants.{Num, Part, Poison}
-use Rattle.memory_access.specs.declared.access_types.Access.{Access}
-use Rattle.memory_access.specs.declared.access_types.Access.TheVariants.{Int, Pointer}
-use Rattle.memory_access.specs.Blocks.{equal_names}
-use Rattle.memory_access.specs.Bytes.{access_size, number_bytes, parts_from, number_of_bytes, number_or_poison, is_part_of, are_parts, pointer_or_poison, value_bytes, value_of_bytes}
-use Rattle.memory_access.specs.Laws.{IsByte, Fits}
 
 -- ---- lengths
 

@@ -1,18 +1,6 @@
 -- Indices that are all 0.
-use Rattle.std.proofs.Common.{◌≡◌, ℕ, ◌-◌, ◌^◌, ◌<◌, Bool, true, false, List, [], ◌∷◌, ℤ, pos, ◌+ℤ◌, ◌*ℤ◌, refl, ap, ◌∙◌, arith}
-use Rattle.std.specs.Prelude.{All}
-use Rattle.std.specs.List.{list_any, list_all}
-use Rattle.std.proofs.lemmas.Bool.Decides.{nat_tests}
-use Rattle.std.proofs.lemmas.Int.{ints}
-use Rattle.std.proofs.lemmas.List.Elements.{All-head, All-tail}
-use Rattle.std.proofs.lemmas.Nat.{pow_pos}
-use Rattle.tv_num.specs.Width.{signed_of, wrapped}
-use Rattle.byte_block.specs.declared.value.Ptr.{Ptr}
+use Rattle.memory_access.proofs.Common.{◌≡◌, ℕ, ◌-◌, ◌^◌, ◌<◌, Bool, true, false, List, [], ◌∷◌, ℤ, pos, ◌+ℤ◌, ◌*ℤ◌, refl, ap, ◌∙◌, arith, All, list_any, list_all, nat_tests, ints, All-head, All-tail, pow_pos, signed_of, wrapped, Ptr, MemoryBlock, Index, is_index, signed_number, signed_index, is_nonzero, is_negative, scaled, last_sum, gep_result, IsZero}
 use Rattle.byte_block.specs.declared.value.Value.TheVariants as value
-use Rattle.byte_block.specs.declared.block.MemoryBlock.{MemoryBlock}
-use Rattle.memory_access.specs.declared.offsets.Index.{Index}
-use Rattle.memory_access.specs.Offsets.{is_index, signed_number, signed_index, is_nonzero, is_negative, scaled, last_sum, gep_result}
-use Rattle.memory_access.specs.Laws.{IsZero}
 use Rattle.memory_access.proofs.Sums.{wrapped-small}
 
 signed_of-zero : (n : ℕ) → signed_of n 0 ≡ pos 0

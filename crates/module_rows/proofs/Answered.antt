@@ -1,23 +1,7 @@
 -- Answers of the judge, and rows of the source, one at a time.
-use Rattle.std.proofs.Common.{◌≡◌, ℕ, zero, suc, ◌+◌, ◌<◌, ◌≤◌, List, [], ◌∷◌, ◌++◌, length, drop, take, get_or, refl, sym, ap, subst, ◌∙◌, Bool, true, false, true≢false, Option, Some, None, Result, Ok, Err, is_some, if◌then◌else◌}
+use Rattle.module_rows.proofs.Common.{◌≡◌, ℕ, zero, suc, ◌+◌, ◌<◌, ◌≤◌, List, [], ◌∷◌, ◌++◌, length, drop, take, get_or, refl, sym, ap, subst, ◌∙◌, Bool, true, false, true≢false, Option, Some, None, Result, Ok, Err, is_some, if◌then◌else◌, append-nil, append_assoc, drop_all, drop_more, Function, Refused, Entry, Bounds, Budget, Verdict, Functions, same_signature, Judged, IsAnswer, AllZip, Finding, Row, function_named, IsJudged, IsCompared, IsFinding, IsRow, AreSourceRows, extra_row, extra_rows, pairs_in, judged_pairs, AreAnswers, verdicts_in, verdicts_of, verdicts_answered, HasNext, IsTaken, IsUnjudged, ShowsVerdict, may_answer}
 use Rattle.std.proofs.lemmas.Grind.{flat_map-append}
-use Rattle.std.proofs.lemmas.List.{append-nil, append_assoc, drop_all, drop_more}
-use Rattle.ir_tree.specs.declared.tree.Function.{Function}
-use Rattle.ir_tree.specs.declared.module.Refused.{Refused}
-use Rattle.ir_tree.specs.declared.module.Entry.{Entry}
-use Rattle.points.specs.declared.point.Bounds.{Bounds}
-use Rattle.points.specs.declared.point.Budget.{Budget}
-use Rattle.verdicts.specs.declared.verdict.Verdict.{Verdict}
 use Rattle.verdicts.specs.declared.verdict.Verdict.TheVariants as verdict
-use Rattle.verdicts.specs.Pair.{Functions, same_signature}
-use Rattle.pair_driver.specs.declared.judged.Judged.{Judged}
-use Rattle.pair_judge.specs.Answers.{IsAnswer}
-use Rattle.std.specs.List.{AllZip}
-use Rattle.report.specs.declared.row.Finding.{Finding}
-use Rattle.report.specs.declared.row.Row.{Row}
-use Rattle.report.specs.Rows.{function_named, IsJudged, IsCompared, IsFinding, IsRow, AreSourceRows, extra_row, extra_rows}
-use Rattle.module_rows.specs.Judging.{pairs_in, judged_pairs, AreAnswers, verdicts_in, verdicts_of, verdicts_answered, HasNext, IsTaken, IsUnjudged, ShowsVerdict}
-use Rattle.module_rows.specs.Judging.{may_answer}
 
 cons≢nil : {x : Functions} {xs : List Functions} → x ∷ xs ≡ [] → ⊥
 cons≢nil e = true≢false (ap has_some e)

@@ -1,3 +1,4 @@
+pub mod Common
 pub mod Runnable
 pub mod Searches
 pub mod Answered

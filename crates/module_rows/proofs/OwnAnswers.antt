@@ -1,19 +1,7 @@
 -- Rows of pairs that are judged, and their own answers.
-use Rattle.std.proofs.Common.{◌≡◌, List, [], ◌∷◌, ◌++◌, refl, sym, ap, ◌∙◌, Option, Some, None, Result, Ok, Err, Bool, true, false, if◌then◌else◌}
-use Rattle.ir_tree.specs.declared.tree.Function.{Function}
-use Rattle.ir_tree.specs.declared.module.Refused.{Refused}
-use Rattle.ir_tree.specs.declared.module.Entry.{Entry}
-use Rattle.points.specs.declared.point.Bounds.{Bounds}
-use Rattle.points.specs.declared.point.Budget.{Budget}
-use Rattle.verdicts.specs.declared.verdict.Verdict.{Verdict}
+use Rattle.module_rows.proofs.Common.{◌≡◌, List, [], ◌∷◌, ◌++◌, refl, sym, ap, ◌∙◌, Option, Some, None, Result, Ok, Err, Bool, true, false, if◌then◌else◌, Function, Refused, Entry, Bounds, Budget, Verdict, Functions, same_signature, Judged, Finding, Row, function_named, IsJudged, IsCompared, IsFinding, AreSourceRows, pairs_in, judged_pairs, AreAnswers, verdicts_in, verdicts_of, verdicts_answered, ReportsNext, ReportOwnAnswers}
 use Rattle.verdicts.specs.declared.verdict.Verdict.TheVariants as verdict
-use Rattle.verdicts.specs.Pair.{Functions, same_signature}
-use Rattle.pair_driver.specs.declared.judged.Judged.{Judged}
-use Rattle.report.specs.declared.row.Finding.{Finding}
 use Rattle.report.specs.declared.row.Finding.TheVariants as finding
-use Rattle.report.specs.declared.row.Row.{Row}
-use Rattle.report.specs.Rows.{function_named, IsJudged, IsCompared, IsFinding, AreSourceRows}
-use Rattle.module_rows.specs.Judging.{pairs_in, judged_pairs, AreAnswers, verdicts_in, verdicts_of, verdicts_answered, ReportsNext, ReportOwnAnswers}
 
 abbrev first_or : Verdict → List Verdict → Verdict
 first_or v [] = v

@@ -1,22 +1,11 @@
 -- The pairs that are judged: the judge takes each of them, and there are no more of them than functions.
-use Rattle.std.proofs.Common.{◌≡◌, ℕ, suc, ◌+◌, ◌-◌, ◌*◌, ◌^◌, ◌<◌, ◌≤◌, arith, refl, List, [], ◌∷◌, ◌++◌, length, length-append, Option, Some, None, Result, Ok, Err, Bool, true, false, true≢false, sym, ap, is_some, if◌then◌else◌}
+use Rattle.module_rows.proofs.Common.{◌≡◌, ℕ, suc, ◌+◌, ◌-◌, ◌*◌, ◌^◌, ◌<◌, ◌≤◌, arith, refl, List, [], ◌∷◌, ◌++◌, length, length-append, Option, Some, None, Result, Ok, Err, Bool, true, false, true≢false, sym, ap, is_some, if◌then◌else◌, AllByRecursion, Name, Function, Refused, Entry, same_name, IsJudgeable, IsJudgeableEntry, Functions, same_signature, CanBeJudged, function_named, pairs_in, judged_pairs}
 use Rattle.std.proofs.Math.Nat.{mul-le-mul_left}
-use Rattle.std.specs.List.{AllByRecursion}
-use Rattle.ir_tree.specs.declared.name.Name.{Name}
-use Rattle.ir_tree.specs.declared.tree.Function.{Function}
-use Rattle.ir_tree.specs.declared.module.Refused.{Refused}
-use Rattle.ir_tree.specs.declared.module.Entry.{Entry}
 use Rattle.ir_tree.specs.declared.module.Module.{Module}
-use Rattle.ir_tree.specs.Names.{same_name}
 use Rattle.ir_lexer.specs.Lexeme.{Lexeme}
 use Rattle.ir_items.specs.declared.item.Define.{Define}
 use Rattle.ir_items.specs.Items.{IsCut, nothing, other, define}
-use Rattle.ir_reader.specs.Judgeable.{IsJudgeable, IsJudgeableEntry}
 use Rattle.ir_reader.specs.Module.{IsModule, AreEntries}
-use Rattle.verdicts.specs.Pair.{Functions, same_signature}
-use Rattle.pair_judge.specs.Answers.{CanBeJudged}
-use Rattle.report.specs.Rows.{function_named}
-use Rattle.module_rows.specs.Judging.{pairs_in, judged_pairs}
 
 -- ---- the judge takes them
 

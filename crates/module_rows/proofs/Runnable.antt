@@ -1,13 +1,9 @@
 -- Functions of pairs that are judged may be run.
-use Rattle.std.proofs.Common.{◌≡◌, Option, Some, None}
+use Rattle.module_rows.proofs.Common.{◌≡◌, Option, Some, None, Entry, Function, IsJudgeableEntry, function_found}
 use Rattle.std.specs.Prelude.{IfSome, Ok}
 use Rattle.std.specs.Borrow.{Bor}
-use Rattle.ir_tree.specs.declared.module.Entry.{Entry}
-use Rattle.ir_tree.specs.declared.tree.Function.{Function}
-use Rattle.ir_reader.specs.Judgeable.{IsJudgeableEntry}
 use Rattle.points.specs.Runnable.{IsRunnable}
 use Rattle.points.proofs.Runnable.{runnable}
-use Rattle.module_rows.specs.Searching.{function_found}
 use Rattle.module_rows.proofs.Pairs.{some_is, none≢some}
 
 pub source_runnable : (e : Entry) (f : Function) → IsJudgeableEntry e → e.function ≡ Ok f → IsRunnable f

@@ -1,19 +1,12 @@
 -- Names and the functions that have them.
-use Rattle.std.proofs.Common.{◌≡◌, ℕ, zero, suc, ◌+◌, ◌<◌, arith, Bool, true, false, cond, ◌||◌, List, [], ◌∷◌, ◌++◌, length, get_or, take, Some, None, refl, sym, ap, ◌∙◌, add-one}
+use Rattle.module_rows.proofs.Common.{◌≡◌, ℕ, zero, suc, ◌+◌, ◌<◌, arith, Bool, true, false, cond, ◌||◌, List, [], ◌∷◌, ◌++◌, length, get_or, take, Some, None, refl, sym, ap, ◌∙◌, add-one, length-map, get_or-map, IsDistinct, AllByRecursion, list_any, position, position_from, Name, Entry, same_name, with_name, function_named, entry_names}
 use Rattle.std.proofs.lemmas.Bool.Decides.{same_from_decides}
 use Rattle.std.proofs.lemmas.Slice.Eq.{bytes_eq-Decides}
-use Rattle.std.proofs.lemmas.List.{length-map, get_or-map}
 use Rattle.std.proofs.lemmas.Map.Keys.{IsDistinct-head, IsDistinct-tail}
 use Rattle.std.proofs.lemmas.Iterator.Adapters.{position_from-zero}
 use Rattle.std.proofs.Math.Seq.{take-suc}
-use Rattle.std.specs.List.{IsDistinct, AllByRecursion, list_any, position, position_from}
 use Rattle.std.specs.Str.{bytes_eq}
-use Rattle.ir_tree.specs.declared.name.Name.{Name}
 use Rattle.ir_tree.specs.declared.name.Name.TheVariants.{Number, Word}
-use Rattle.ir_tree.specs.declared.module.Entry.{Entry}
-use Rattle.ir_tree.specs.Names.{same_name, with_name}
-use Rattle.report.specs.Rows.{function_named}
-use Rattle.module_rows.specs.Searching.{entry_names}
 
 bytes_eq-flips : (a b : List ℕ) → bytes_eq a b ≡ bytes_eq b a
 bytes_eq-flips a b =

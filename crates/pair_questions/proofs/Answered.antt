@@ -1,24 +1,12 @@
 -- What is answered in bits is answered in numbers.
-use Rattle.std.proofs.Common.{ℕ, zero, suc, ◌≡◌, ◌<◌, ◌+◌, ◌%◌, ◌^◌, inl, inr, Bool, List, [], ◌∷◌, Some, slice_get, map, length, arith, sym, ap, subst, refl, ◌∙◌}
-use Rattle.std.specs.Prelude.{slice_index}
-use Rattle.bv_terms.specs.declared.term.TermId.{TermId}
-use Rattle.bv_terms.specs.declared.term.Term.{Term}
+use Rattle.pair_questions.proofs.Common.{ℕ, zero, suc, ◌≡◌, ◌<◌, ◌+◌, ◌%◌, ◌^◌, inl, inr, Bool, List, [], ◌∷◌, Some, slice_get, map, length, arith, sym, ap, subst, refl, ◌∙◌, slice_index, TermId, Term, Variable, Tree, truth, AreFit, term_at, tree_in, Cnf, AreWidths, IsLeast, NonePass, numbers_of, total, fits-numbers, Mentions, assigned_by, digit_count, goal_test, variables_of, tree_placed, AsksNumbers, looked_up, number_test, AreNumbered, IsNumbered, IsOrder}
 use Rattle.bv_terms.specs.declared.term.Term.TheVariants as term
-use Rattle.bv_terms.specs.declared.variable.Variable.{Variable}
 use Rattle.bv_terms.specs.Tree as tree
-use Rattle.bv_terms.specs.Tree.{Tree, truth, value_of}
-use Rattle.bv_terms.specs.Trees.{AreFit, term_at, tree_in}
-use Rattle.clause_lits.specs.declared.cnf.Cnf.{Cnf}
+use Rattle.bv_terms.specs.Tree.{value_of}
 use Rattle.clause_search.specs.Outcome.{IsLess}
-use Rattle.answer_order.specs.Fronts.{AreWidths, IsLeast, NonePass, numbers_of, total}
-use Rattle.answer_order.proofs.Binary.{fits-numbers}
 use Rattle.answer_order.proofs.Ordering.{least_digits, no_digits}
 use Rattle.sat_ask.specs.Asks as asks
 use Rattle.sat_ask.specs.Asks.{Asks}
-use Rattle.sat_ask.specs.Questions.{Mentions, assigned_by, digit_count, goal_test, variables_of}
-use Rattle.sat_ask.proofs.Marking.{tree_placed}
-use Rattle.pair_questions.specs.Numbers.{AsksNumbers, looked_up, number_test}
-use Rattle.pair_questions.specs.Orders.{AreNumbered, IsNumbered, IsOrder}
 use Rattle.pair_questions.proofs.Mentioned.{terms_only}
 use Rattle.pair_questions.proofs.Numbered.{count_is, numbers-looked, numbers-written, variables_are, variables_from}
 

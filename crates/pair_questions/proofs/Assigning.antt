@@ -1,20 +1,7 @@
 -- The assignment under which the terms of a question denote a point.
-use Rattle.std.proofs.Common.{◌≡◌, ℕ, ◌+◌, ◌++◌, List, slice_index, ap, sym, ◌∙◌, arith}
-use Rattle.ir_tree.specs.declared.tree.Parameter.{Parameter}
-use Rattle.points.specs.declared.point.Bounds.{Bounds}
-use Rattle.points.specs.declared.point.Layout.{Layout}
-use Rattle.points.specs.declared.point.Point.{Point}
-use Rattle.points.specs.declared.point.Shape.{Shape}
-use Rattle.points.specs.Code.{IsOfShape, code_of}
-use Rattle.verdicts.specs.Pair.{RunPair, layout_of}
-use Rattle.mem_terms.specs.Values.{reading}
-use Rattle.mem_terms.specs.Inputs.{input_at}
-use Rattle.refine_terms.specs.Numbers.{numbers_at}
-use Rattle.answer_order.specs.Fronts.{Fits}
-use Rattle.pair_costs.specs.Small.{AreSmall}
+use Rattle.pair_questions.proofs.Common.{◌≡◌, ℕ, ◌+◌, ◌++◌, List, ap, sym, ◌∙◌, arith, Parameter, Bounds, Layout, Point, Shape, IsOfShape, code_of, RunPair, layout_of, reading, input_at, numbers_at, Fits, AreSmall, point_widths, IsShapeOf, input_ids}
+use Rattle.std.proofs.Common.{slice_index}
 use Rattle.pair_questions.specs.Assignments.{InputsHaveAssignments}
-use Rattle.pair_questions.specs.Questions.{point_widths}
-use Rattle.pair_questions.specs.Shapes.{IsShapeOf, input_ids}
 use Rattle.pair_questions.proofs.Decoded.{decoded, numbers_in_order}
 use Rattle.pair_questions.proofs.Fitting.{code_fits}
 use Rattle.pair_questions.proofs.Numbered.{numbers-looked}

@@ -1,41 +1,10 @@
 -- Numbers that are the code of a point give its input and its tape back.
-use Rattle.std.proofs.Common.{ℕ, ◌≡◌, ◌+◌, ◌≤◌, true, List, [], ◌∷◌, ◌++◌, length, map, refl, ap, sym, ◌∙◌, arith, append_assoc}
-use Rattle.std.specs.List.{flat_map}
-use Rattle.std.proofs.lemmas.List.{map-append}
-use Rattle.ir_tree.specs.declared.tree.IrType.{IrType}
+use Rattle.pair_questions.proofs.Common.{ℕ, ◌≡◌, ◌+◌, ◌≤◌, true, List, [], ◌∷◌, ◌++◌, length, map, refl, ap, sym, ◌∙◌, arith, append_assoc, flat_map, map-append, IrType, Parameter, BlockName, Null, Given, Local, Ptr, Value, Byte, MemoryBlock, Layout, Input, Point, Shape, BlockFits, PointerFits, ValueFits, ArgsFit, ByteFits, BytesFit, BlocksFit, IsOfShape, name_digit, value_code, args_code, byte_code, places_code, blocks_code, code_of, blocks_count, sizes_of, TermId, Term, truth, term_at, ArgTerms, ByteTerms, InputTerms, TapeTerms, Each, block_name, reading, value_from, value_of, byte_of, IsArg, AreArgs, IsBlockTerms, arg_at, args_at, given_block_at, given_blocks_at, given_byte_at, input_at, words_at, map-length, given_named, IsInputOf, arg_numbers, byte_numbers, block_numbers, numbers_at, arg_ids, byte_ids, input_ids}
 use Rattle.ir_tree.specs.declared.tree.IrType.TheVariants as type
-use Rattle.ir_tree.specs.declared.tree.Parameter.{Parameter}
 use Rattle.ir_tree.specs.Pointers.{IsInteger}
-use Rattle.byte_block.specs.declared.value.BlockName.{BlockName}
-use Rattle.byte_block.specs.declared.value.BlockName.TheVariants.{Null, Given, Local}
-use Rattle.byte_block.specs.declared.value.Ptr.{Ptr}
-use Rattle.byte_block.specs.declared.value.Value.{Value}
 use Rattle.byte_block.specs.declared.value.Value.TheVariants as value
-use Rattle.byte_block.specs.declared.value.Byte.{Byte}
 use Rattle.byte_block.specs.declared.value.Byte.TheVariants as byte
-use Rattle.byte_block.specs.declared.block.MemoryBlock.{MemoryBlock}
-use Rattle.points.specs.declared.point.Layout.{Layout}
-use Rattle.points.specs.declared.point.Input.{Input}
-use Rattle.points.specs.declared.point.Point.{Point}
-use Rattle.points.specs.declared.point.Shape.{Shape}
-use Rattle.points.specs.Code.{BlockFits, PointerFits, ValueFits, ArgsFit, ByteFits, BytesFit, BlocksFit, IsOfShape, name_digit, value_code, args_code, byte_code, places_code, blocks_code, code_of}
-use Rattle.points.proofs.Same.{blocks_count, sizes_of}
-use Rattle.bv_terms.specs.declared.term.TermId.{TermId}
-use Rattle.bv_terms.specs.declared.term.Term.{Term}
-use Rattle.bv_terms.specs.Tree.{truth}
-use Rattle.bv_terms.specs.Trees.{term_at}
-use Rattle.mem_terms.specs.declared.inputs.ArgTerms.{ArgTerms}
 use Rattle.mem_terms.specs.declared.inputs.ArgTerms.TheVariants as arg
-use Rattle.mem_terms.specs.declared.inputs.ByteTerms.{ByteTerms}
-use Rattle.mem_terms.specs.declared.inputs.InputTerms.{InputTerms}
-use Rattle.mem_terms.specs.declared.inputs.TapeTerms.{TapeTerms}
-use Rattle.mem_terms.specs.Values.{Each, block_name, reading, value_from, value_of}
-use Rattle.mem_terms.specs.Memory.{byte_of}
-use Rattle.mem_terms.specs.Inputs.{IsArg, AreArgs, IsBlockTerms, arg_at, args_at, given_block_at, given_blocks_at, given_byte_at, input_at, words_at}
-use Rattle.mem_terms.proofs.Eaches.{map-length}
-use Rattle.mem_terms.proofs.Naming.{given_named}
-use Rattle.refine_terms.specs.Numbers.{IsInputOf, arg_numbers, byte_numbers, block_numbers, numbers_at}
-use Rattle.pair_questions.specs.Shapes.{arg_ids, byte_ids, input_ids}
 
 -- ---- lists in two parts
 

@@ -1,37 +1,11 @@
 -- A goal that decides which points some tapes leave uncovered, and the goal with one tape more.
-use Rattle.std.proofs.Common.{ℕ, ◌≡◌, ◌↔◌, Bool, true, false, not, ◌&&◌, ◌||◌, List, [], ◌∷◌, ◌++◌, refl, ap, sym, subst, ◌∙◌, append_assoc}
-use Rattle.points.specs.declared.point.Bounds.{Bounds}
-use Rattle.points.specs.declared.point.Input.{Input}
-use Rattle.points.specs.declared.point.Point.{Point}
-use Rattle.points.specs.declared.point.Shape.{Shape}
-use Rattle.points.specs.declared.outcome.Outcome.{Outcome}
-use Rattle.verdicts.specs.Covers.{covers, some_covers, shifted, is_covered}
-use Rattle.verdicts.specs.Pair.{RunPair, layout_of}
-use Rattle.points.specs.Run.{run_of}
-use Rattle.points.specs.Tapes.{need_of}
-use Rattle.bv_terms.specs.declared.term.TermId.{TermId}
-use Rattle.bv_terms.specs.declared.term.Term.{Term}
-use Rattle.bv_terms.specs.Trees.{Keeps, Tests, bit_at}
-use Rattle.mem_terms.specs.declared.inputs.InputTerms.{InputTerms}
-use Rattle.mem_terms.specs.declared.inputs.TapeTerms.{TapeTerms}
-use Rattle.mem_terms.specs.declared.outcome.OutcomeTerms.{OutcomeTerms}
-use Rattle.mem_terms.specs.Values.{reading}
-use Rattle.mem_terms.specs.Inputs.{AreWords, words_at}
-use Rattle.mem_terms.specs.Outcomes.{IsOutcome, LeavesGiven, Shows}
-use Rattle.mem_terms.proofs.Later.{input_at-later, is_input-later, is_outcome-later, shows-later, words-later, words_at-later}
-use Rattle.refine_terms.specs.Deciding.{Decides}
-use Rattle.refine_terms.specs.Numbers.{IsInputOf, IsTapeOf, numbers_at}
+use Rattle.pair_questions.proofs.Common.{ℕ, ◌≡◌, ◌↔◌, Bool, true, false, not, ◌&&◌, ◌||◌, List, [], ◌∷◌, ◌++◌, refl, ap, sym, subst, ◌∙◌, append_assoc, Bounds, Input, Point, Shape, Outcome, covers, some_covers, shifted, is_covered, RunPair, layout_of, run_of, need_of, TermId, Term, Keeps, Tests, bit_at, InputTerms, TapeTerms, OutcomeTerms, reading, AreWords, words_at, IsOutcome, LeavesGiven, Shows, input_at-later, is_input-later, is_outcome-later, shows-later, words-later, words_at-later, Decides, IsInputOf, IsTapeOf, numbers_at, input_in, none_allows, outcome_in, IsUncovered, IsShapeOf, IsOfTarget, IsSubject, frames_of}
 use Rattle.pair_questions.specs.declared.point_question.PointQuestion.{PointQuestion}
 use Rattle.pair_questions.specs.declared.subject.Subject.{Subject}
-use Rattle.pair_questions.specs.Candidates.{input_in, none_allows, outcome_in}
 use Rattle.pair_questions.specs.PointQuestions.{IsPointQuestion}
-use Rattle.pair_questions.specs.Questions.{IsUncovered}
-use Rattle.pair_questions.specs.Shapes.{IsShapeOf}
-use Rattle.pair_questions.specs.Subjects.{IsOfTarget, IsSubject}
 use Rattle.pair_questions.proofs.Fitting.{of_shape}
 use Rattle.pair_questions.proofs.Numbered.{order_kept}
 use Rattle.pair_questions.proofs.Uncovering.{and_both, and_left, and_right, none_is, not_false, not_true, numbers-later, point_at, the_point}
-use Rattle.mem_terms.specs.Memory.{frames_of}
 
 -- ---- one tape more
 

@@ -1,26 +1,7 @@
 -- What variables one after another do to the terms and to their order.
-use Rattle.std.proofs.Common.{ℕ, zero, suc, ◌≡◌, ◌<◌, ◌+◌, List, [], ◌∷◌, ◌++◌, length, replicate, take, get_or, refl, ap, sym, subst, ◌∙◌, arith, length-append, append_assoc, append-nil}
-use Rattle.std.specs.List.{flat_map}
-use Rattle.std.proofs.lemmas.List.{take_more}
-use Rattle.ir_tree.specs.declared.tree.IrType.{IrType}
+use Rattle.pair_questions.proofs.Common.{ℕ, zero, suc, ◌≡◌, ◌<◌, ◌+◌, List, [], ◌∷◌, ◌++◌, length, replicate, take, get_or, refl, ap, sym, subst, ◌∙◌, arith, length-append, append_assoc, append-nil, flat_map, take_more, IrType, Parameter, Layout, Shape, TermId, Term, width_of, Extends, IsTerm, ArgTerms, ByteTerms, InputTerms, Each, IsArg, AreArgs, IsByteTerms, IsBlockTerms, each-weaker, each-push, IsInputOf, IsOrder, value_widths, args_widths, places_widths, blocks_widths}
 use Rattle.ir_tree.specs.declared.tree.IrType.TheVariants as type
-use Rattle.ir_tree.specs.declared.tree.Parameter.{Parameter}
-use Rattle.points.specs.declared.point.Layout.{Layout}
-use Rattle.points.specs.declared.point.Shape.{Shape}
-use Rattle.bv_terms.specs.declared.term.TermId.{TermId}
-use Rattle.bv_terms.specs.declared.term.Term.{Term}
-use Rattle.bv_terms.specs.Tree.{width_of}
-use Rattle.bv_terms.specs.Trees.{Extends, IsTerm}
-use Rattle.mem_terms.specs.declared.inputs.ArgTerms.{ArgTerms}
 use Rattle.mem_terms.specs.declared.inputs.ArgTerms.TheVariants as arg
-use Rattle.mem_terms.specs.declared.inputs.ByteTerms.{ByteTerms}
-use Rattle.mem_terms.specs.declared.inputs.InputTerms.{InputTerms}
-use Rattle.mem_terms.specs.Values.{Each}
-use Rattle.mem_terms.specs.Inputs.{IsArg, AreArgs, IsByteTerms, IsBlockTerms}
-use Rattle.mem_terms.proofs.Eaches.{each-weaker, each-push}
-use Rattle.refine_terms.specs.Numbers.{IsInputOf}
-use Rattle.pair_questions.specs.Orders.{IsOrder}
-use Rattle.pair_questions.specs.Questions.{value_widths, args_widths, places_widths, blocks_widths}
 
 -- ---- more terms
 

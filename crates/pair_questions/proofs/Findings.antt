@@ -1,36 +1,9 @@
 -- What is found of numbers is found of points and of tapes.
-use Rattle.std.proofs.Common.{◌≡◌, ◌↔◌, ℕ, ◌+◌, ◌<◌, inl, inr, Bool, true, false, List, [], ◌++◌, map, slice_index, Option, Some, refl, sym, ap, subst, ◌∙◌, arith}
-use Rattle.std.proofs.lemmas.Bool.{cases_Bool}
-use Rattle.points.specs.declared.point.Layout.{Layout}
-use Rattle.bv_terms.specs.declared.term.TermId.{TermId}
-use Rattle.bv_terms.specs.declared.term.Term.{Term}
-use Rattle.bv_terms.specs.Trees.{AreFit, term_at}
-use Rattle.clause_lits.specs.declared.cnf.Cnf.{Cnf}
+use Rattle.pair_questions.proofs.Common.{◌≡◌, ◌↔◌, ℕ, ◌+◌, ◌<◌, inl, inr, Bool, true, false, List, [], ◌++◌, map, Option, Some, refl, sym, ap, subst, ◌∙◌, arith, cases_Bool, Layout, TermId, Term, AreFit, term_at, Cnf, Bounds, Point, Shape, RunPair, layout_of, IsOfShape, code_of, number_of, IsCode, covers, is_covered, need_of, AreAllCovered, IsLeastUncovered, IsPoint, codes_tell_points, Fits, IsLeast, NonePass, numbers_of, fits-numbers, InputTerms, TapeTerms, words_at, Decides, numbers_at, AreSmall, AsksNumbers, IsFoundNumbers, IsRefutedTest, IsSpentTest, looked_up, number_test, AreNumbered, AsksFor, IsCovering, IsFoundCode, IsFoundTape, IsLeastCode, IsRefuted, IsSpentOn, IsUncovered, point_widths, tape_widths, IsShapeOf, input_ids}
+use Rattle.std.proofs.Common.{slice_index}
 use Rattle.clause_log.specs.declared.step.Cert.{Cert}
-use Rattle.points.specs.declared.point.Bounds.{Bounds}
-use Rattle.points.specs.declared.point.Point.{Point}
-use Rattle.points.specs.declared.point.Shape.{Shape}
-use Rattle.verdicts.specs.Pair.{RunPair, layout_of}
-use Rattle.points.specs.Code.{IsOfShape, code_of, number_of}
-use Rattle.points.specs.Codes.{IsCode}
-use Rattle.verdicts.specs.Covers.{covers, is_covered}
-use Rattle.points.specs.Tapes.{need_of}
-use Rattle.verdicts.specs.Trail.{AreAllCovered, IsLeastUncovered, IsPoint}
-use Rattle.points.proofs.Decoded.{codes_tell_points}
-use Rattle.answer_order.specs.Fronts.{Fits, IsLeast, NonePass, numbers_of}
-use Rattle.answer_order.proofs.Binary.{fits-numbers}
-use Rattle.mem_terms.specs.declared.inputs.InputTerms.{InputTerms}
-use Rattle.mem_terms.specs.declared.inputs.TapeTerms.{TapeTerms}
-use Rattle.mem_terms.specs.Inputs.{words_at}
-use Rattle.refine_terms.specs.Deciding.{Decides}
-use Rattle.refine_terms.specs.Numbers.{numbers_at}
-use Rattle.pair_costs.specs.Small.{AreSmall}
 use Rattle.pair_questions.specs.declared.found.Found.{Found}
 use Rattle.pair_questions.specs.declared.found.Found.TheVariants as found
-use Rattle.pair_questions.specs.Numbers.{AsksNumbers, IsFoundNumbers, IsRefutedTest, IsSpentTest, looked_up, number_test}
-use Rattle.pair_questions.specs.Orders.{AreNumbered}
-use Rattle.pair_questions.specs.Questions.{AsksFor, IsCovering, IsFoundCode, IsFoundTape, IsLeastCode, IsRefuted, IsSpentOn, IsUncovered, point_widths, tape_widths}
-use Rattle.pair_questions.specs.Shapes.{IsShapeOf, input_ids}
 use Rattle.pair_questions.proofs.Decoded.{numbers_in_order}
 use Rattle.pair_questions.proofs.Fitting.{fit_words, of_shape, point_fits, words_fit}
 use Rattle.pair_questions.proofs.Numbered.{numbers-looked}

@@ -1,30 +1,10 @@
 -- The numbers of a point's code, and the words of a tape, have the widths that they are asked for with.
-use Rattle.std.proofs.Common.{◌≡◌, ℕ, zero, suc, ◌+◌, ◌^◌, ◌<◌, ◌≤◌, List, [], ◌∷◌, ◌++◌, length, replicate, sym, subst, arith, append_assoc}
-use Rattle.std.specs.List.{flat_map}
+use Rattle.pair_questions.proofs.Common.{◌≡◌, ℕ, zero, suc, ◌+◌, ◌^◌, ◌<◌, ◌≤◌, List, [], ◌∷◌, ◌++◌, length, replicate, sym, subst, arith, append_assoc, flat_map, IrType, Int, Parameter, Value, Byte, MemoryBlock, Layout, Bounds, Point, Shape, RunPair, layout_of, ArgsFit, BlocksFit, ByteFits, BytesFit, IsOfShape, ValueFits, WordsFit, args_code, byte_code, code_of, places_code, value_code, need_of, widest_choice, IsPoint, blocks_count, sizes_of, AreWidths, Fits, AreSmall, args_widths, blocks_widths, places_widths, point_widths, tape_widths, value_widths, IsShapeOf}
 use Rattle.std.proofs.Math.Pow.{pow_mono}
-use Rattle.ir_tree.specs.declared.tree.IrType.{IrType}
-use Rattle.ir_tree.specs.declared.tree.IrType.TheVariants.{Int}
 use Rattle.ir_tree.specs.declared.tree.IrType.TheVariants as type
-use Rattle.ir_tree.specs.declared.tree.Parameter.{Parameter}
-use Rattle.byte_block.specs.declared.value.Value.{Value}
 use Rattle.byte_block.specs.declared.value.Value.TheVariants as value
-use Rattle.byte_block.specs.declared.value.Byte.{Byte}
 use Rattle.byte_block.specs.declared.value.Byte.TheVariants as byte
-use Rattle.byte_block.specs.declared.block.MemoryBlock.{MemoryBlock}
-use Rattle.points.specs.declared.point.Layout.{Layout}
-use Rattle.points.specs.declared.point.Bounds.{Bounds}
-use Rattle.points.specs.declared.point.Point.{Point}
-use Rattle.points.specs.declared.point.Shape.{Shape}
-use Rattle.verdicts.specs.Pair.{RunPair, layout_of}
-use Rattle.points.specs.Code.{ArgsFit, BlocksFit, ByteFits, BytesFit, IsOfShape, ValueFits, WordsFit, args_code, byte_code, code_of, places_code, value_code}
-use Rattle.points.specs.Tapes.{need_of, widest_choice}
-use Rattle.verdicts.specs.Trail.{IsPoint}
 use Rattle.points.proofs.ByteOrder.{name_at_most}
-use Rattle.points.proofs.Same.{blocks_count, sizes_of}
-use Rattle.answer_order.specs.Fronts.{AreWidths, Fits}
-use Rattle.pair_costs.specs.Small.{AreSmall}
-use Rattle.pair_questions.specs.Questions.{args_widths, blocks_widths, places_widths, point_widths, tape_widths, value_widths}
-use Rattle.pair_questions.specs.Shapes.{IsShapeOf}
 
 -- ---- widths
 

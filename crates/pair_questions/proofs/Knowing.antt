@@ -1,36 +1,8 @@
 -- Known inputs denote what they were made of.
-use Rattle.std.proofs.Common.{ℕ, zero, suc, ◌≡◌, ◌<◌, ◌≤◌, ◌+◌, Bool, true, false, List, [], ◌∷◌, ◌++◌, length, map, take, get_or, All, refl, ap, sym, subst, ◌∙◌, arith, length-append}
-use Rattle.std.proofs.lemmas.List.{take_more}
-use Rattle.ir_tree.specs.declared.tree.IrType.{IrType}
+use Rattle.pair_questions.proofs.Common.{ℕ, zero, suc, ◌≡◌, ◌<◌, ◌≤◌, ◌+◌, Bool, true, false, List, [], ◌∷◌, ◌++◌, length, map, take, get_or, All, refl, ap, sym, subst, ◌∙◌, arith, length-append, take_more, IrType, Parameter, BlockName, Null, Given, Local, Ptr, Value, Byte, MemoryBlock, Layout, Input, Point, Shape, BlockFits, PointerFits, ValueFits, ArgsFit, ByteFits, BytesFit, BlocksFit, IsOfShape, name_digit, block_number, blocks_count, TermId, Term, IsTerm, Keeps, Makes, term_at, ArgTerms, ByteTerms, Each, Reading, block_name, reading, value_of, byte_of, AreArgs, IsBlockTerms, arg_at, args_at, given_block_at, given_blocks_at, given_byte_at, input_at, map-push, map-same, args-later, args_at-later, keeps_trans, sizes-later, term-later, given_named, IsInputOf}
 use Rattle.ir_tree.specs.declared.tree.IrType.TheVariants as type
-use Rattle.ir_tree.specs.declared.tree.Parameter.{Parameter}
-use Rattle.byte_block.specs.declared.value.BlockName.{BlockName}
-use Rattle.byte_block.specs.declared.value.BlockName.TheVariants.{Null, Given, Local}
-use Rattle.byte_block.specs.declared.value.Ptr.{Ptr}
-use Rattle.byte_block.specs.declared.value.Value.{Value}
 use Rattle.byte_block.specs.declared.value.Value.TheVariants as value
-use Rattle.byte_block.specs.declared.value.Byte.{Byte}
 use Rattle.byte_block.specs.declared.value.Byte.TheVariants as byte
-use Rattle.byte_block.specs.declared.block.MemoryBlock.{MemoryBlock}
-use Rattle.points.specs.declared.point.Layout.{Layout}
-use Rattle.points.specs.declared.point.Input.{Input}
-use Rattle.points.specs.declared.point.Point.{Point}
-use Rattle.points.specs.declared.point.Shape.{Shape}
-use Rattle.points.specs.Code.{BlockFits, PointerFits, ValueFits, ArgsFit, ByteFits, BytesFit, BlocksFit, IsOfShape, name_digit}
-use Rattle.points.specs.Run.{block_number}
-use Rattle.points.proofs.Same.{blocks_count}
-use Rattle.bv_terms.specs.declared.term.TermId.{TermId}
-use Rattle.bv_terms.specs.declared.term.Term.{Term}
-use Rattle.bv_terms.specs.Trees.{IsTerm, Keeps, Makes, term_at}
-use Rattle.mem_terms.specs.declared.inputs.ArgTerms.{ArgTerms}
-use Rattle.mem_terms.specs.declared.inputs.ByteTerms.{ByteTerms}
-use Rattle.mem_terms.specs.Values.{Each, Reading, block_name, reading, value_of}
-use Rattle.mem_terms.specs.Memory.{byte_of}
-use Rattle.mem_terms.specs.Inputs.{AreArgs, IsBlockTerms, arg_at, args_at, given_block_at, given_blocks_at, given_byte_at, input_at}
-use Rattle.mem_terms.proofs.Eaches.{map-push, map-same}
-use Rattle.mem_terms.proofs.Later.{args-later, args_at-later, keeps_trans, sizes-later, term-later}
-use Rattle.mem_terms.proofs.Naming.{given_named}
-use Rattle.refine_terms.specs.Numbers.{IsInputOf}
 use Rattle.pair_questions.proofs.Decoded.{name_decoded, block_is, named_within}
 
 -- ---- what a builder made stays

@@ -1,3 +1,4 @@
+pub mod Common
 mod Answered
 pub mod Assigning
 mod Decoded

@@ -1,20 +1,8 @@
 -- Terms whose variables are all named mention no other variable.
-use Rattle.std.proofs.Common.{ℕ, zero, suc, ◌≡◌, ◌<◌, ◌+◌, ◌⊎◌, inl, inr, List, [], ◌∷◌, ◌++◌, Some, length, get_or, slice_get, ap, sym, subst, arith, ◌∙◌, length-append}
-use Rattle.std.proofs.lemmas.Bool.{cases_eq}
-use Rattle.std.proofs.lemmas.List.{get_or-map, get_or_push, get_or_append_left}
-use Rattle.std.proofs.lemmas.Option.{get_or_from_slice_get}
-use Rattle.bv_terms.specs.declared.term.TermId.{TermId}
-use Rattle.bv_terms.specs.declared.term.Term.{Term}
+use Rattle.pair_questions.proofs.Common.{ℕ, zero, suc, ◌≡◌, ◌<◌, ◌+◌, ◌⊎◌, inl, inr, List, [], ◌∷◌, ◌++◌, Some, length, get_or, slice_get, ap, sym, subst, arith, ◌∙◌, length-append, cases_eq, get_or-map, get_or_push, get_or_append_left, get_or_from_slice_get, TermId, Term, Variable, Tree, AreFit, IsFit, tree_at, tree_of, trees_from, trees_of, tree_in, variable_in, variables_among, HasAll, Mentions, variable_of, Each, map-length, AreNumbered, IsNumbered, IsOrder}
 use Rattle.bv_terms.specs.declared.term.Term.TheVariants as term
-use Rattle.bv_terms.specs.declared.variable.Variable.{Variable}
 use Rattle.bv_terms.specs.Tree as tree
-use Rattle.bv_terms.specs.Tree.{Tree}
-use Rattle.bv_terms.specs.Trees.{AreFit, IsFit, tree_at, tree_of, trees_from, trees_of, tree_in, variable_in, variables_among}
 use Rattle.bv_terms.proofs.Stages.{length-trees}
-use Rattle.sat_ask.specs.Questions.{HasAll, Mentions, variable_of}
-use Rattle.mem_terms.specs.Values.{Each}
-use Rattle.mem_terms.proofs.Eaches.{map-length}
-use Rattle.pair_questions.specs.Orders.{AreNumbered, IsNumbered, IsOrder}
 
 module _ (P : Variable → Type 0) where
   abbrev Only : Tree → Type 0

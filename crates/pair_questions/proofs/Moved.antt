@@ -1,16 +1,6 @@
 -- The words of a moved tape, and of a known one.
-use Rattle.std.proofs.Common.{ℕ, ◌≡◌, ◌<◌, ◌+◌, List, [], ◌∷◌, ◌++◌, length, take, get_or, ap, sym, subst, ◌∙◌, arith}
-use Rattle.std.proofs.lemmas.List.{take_more}
+use Rattle.pair_questions.proofs.Common.{ℕ, ◌≡◌, ◌<◌, ◌+◌, List, [], ◌∷◌, ◌++◌, length, take, get_or, ap, sym, subst, ◌∙◌, arith, take_more, words_of, TermId, Term, IsTerm, Keeps, Makes, term_at, AreWords, words_at, each-push, map-push, words_at-later, Shift, shift_of}
 use Rattle.std.proofs.lemmas.List.FromFn.{map-range_with_len_more}
-use Rattle.verdicts.specs.Covers.{words_of}
-use Rattle.bv_terms.specs.declared.term.TermId.{TermId}
-use Rattle.bv_terms.specs.declared.term.Term.{Term}
-use Rattle.bv_terms.specs.Trees.{IsTerm, Keeps, Makes, term_at}
-use Rattle.mem_terms.specs.Inputs.{AreWords, words_at}
-use Rattle.mem_terms.proofs.Eaches.{each-push, map-push}
-use Rattle.mem_terms.proofs.Later.{words_at-later}
-use Rattle.pair_questions.specs.declared.tapes.Shift.{Shift}
-use Rattle.pair_questions.specs.Tapes.{shift_of}
 
 pub are_more : (terms : List Term) (tape more : List TermId) (word : TermId) → AreWords terms tape → IsTerm terms 64 word → more ≡ tape ++ word ∷ [] → AreWords terms more
 are_more terms tape more word h w e = subst (AreWords terms) (sym e) (each-push (IsTerm terms 64) tape word h w)

@@ -1,24 +1,12 @@
 -- Numbered variables: how they grow, which questions they fit, and what bits and numbers make of them.
-use Rattle.std.proofs.Common.{ℕ, zero, suc, ◌≡◌, ◌<◌, ◌≤◌, ◌+◌, ◌%◌, ◌^◌, ◌++◌, inl, inr, Bool, false, cond, All, List, [], ◌∷◌, Option, Some, None, slice_get, take, drop, map, length, arith, sym, ap, subst, refl, ◌∙◌}
-use Rattle.std.specs.Prelude.{nat_eq, ◌&&◌, slice_index}
-use Rattle.std.proofs.lemmas.Bool.{eq-eqb, ne_eqb}
-use Rattle.std.proofs.lemmas.List.{length-drop, length-take-le}
-use Rattle.std.proofs.lemmas.Option.{slice_get_within, get_or_from_slice_get}
+use Rattle.pair_questions.proofs.Common.{ℕ, zero, suc, ◌≡◌, ◌<◌, ◌≤◌, ◌+◌, ◌%◌, ◌^◌, ◌++◌, inl, inr, Bool, false, cond, All, List, [], ◌∷◌, Option, Some, slice_get, take, drop, map, length, arith, sym, ap, subst, refl, ◌∙◌, nat_eq, slice_index, eq-eqb, ne_eqb, length-drop, length-take-le, slice_get_within, get_or_from_slice_get, TermId, Term, Variable, width_of, AreFit, Extends, Gains, Keeps, term_at, tree_in, variables_among, Fits, numbers_of, total, AreDifferent, IsVariable, assigned_by, digit_count, variable_of, variables_of, tree_placed, Each, each-push, each-weaker, AreNumbered, IsNumbered, IsOrder}
+use Rattle.std.proofs.Common.{None}
+use Rattle.std.specs.Prelude.{◌&&◌}
 use Rattle.std.proofs.Math.Nat.{mod-eq_of_lt}
-use Rattle.bv_terms.specs.declared.term.TermId.{TermId}
-use Rattle.bv_terms.specs.declared.term.Term.{Term}
 use Rattle.bv_terms.specs.declared.term.Term.TheVariants as term
-use Rattle.bv_terms.specs.declared.variable.Variable.{Variable}
-use Rattle.bv_terms.specs.Tree.{value_of, width_of}
-use Rattle.bv_terms.specs.Trees.{AreFit, Extends, Gains, Keeps, term_at, tree_in, variables_among}
+use Rattle.bv_terms.specs.Tree.{value_of}
 use Rattle.gate_arith.specs.Numbers.{number_of}
 use Rattle.gate_arith.proofs.Digits.{number-below}
-use Rattle.answer_order.specs.Fronts.{Fits, numbers_of, total}
-use Rattle.sat_ask.specs.Questions.{AreDifferent, IsVariable, assigned_by, digit_count, variable_of, variables_of}
-use Rattle.sat_ask.proofs.Marking.{tree_placed}
-use Rattle.mem_terms.specs.Values.{Each}
-use Rattle.mem_terms.proofs.Eaches.{each-push, each-weaker}
-use Rattle.pair_questions.specs.Orders.{AreNumbered, IsNumbered, IsOrder}
 
 -- ---- more variables, and more terms
 

@@ -1,17 +1,5 @@
 -- The variables of a question come in the order of its numbers.
-use Rattle.std.proofs.Common.{◌≡◌, ℕ, All, ◌<◌, List, [], ◌++◌, length, map, replicate, ap, subst, sym, ◌∙◌, append_assoc}
-use Rattle.points.specs.declared.point.Layout.{Layout}
-use Rattle.bv_terms.specs.declared.term.TermId.{TermId}
-use Rattle.bv_terms.specs.declared.term.Term.{Term}
-use Rattle.bv_terms.specs.Tree.{width_of}
-use Rattle.bv_terms.specs.Trees.{AreFit, Keeps, tree_in, variables_among}
-use Rattle.points.specs.declared.point.Bounds.{Bounds}
-use Rattle.points.specs.declared.point.Shape.{Shape}
-use Rattle.verdicts.specs.Pair.{RunPair, layout_of}
-use Rattle.points.specs.Tapes.{need_of}
-use Rattle.pair_questions.specs.Orders.{IsOrder}
-use Rattle.pair_questions.specs.Questions.{args_widths, blocks_widths, point_widths, tape_widths}
-use Rattle.pair_questions.specs.Shapes.{IsShapeOf}
+use Rattle.pair_questions.proofs.Common.{◌≡◌, ℕ, All, ◌<◌, List, [], ◌++◌, length, map, replicate, ap, subst, sym, ◌∙◌, append_assoc, Layout, TermId, Term, width_of, AreFit, Keeps, tree_in, variables_among, Bounds, Shape, RunPair, layout_of, need_of, IsOrder, args_widths, blocks_widths, point_widths, tape_widths, IsShapeOf}
 use Rattle.pair_questions.proofs.Numbered.{all_within, order_kept, widths_are}
 
 order_start : (terms : List Term) (order : List TermId) → terms ≡ [] → order ≡ [] → IsOrder terms order []

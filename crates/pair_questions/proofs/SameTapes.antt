@@ -1,27 +1,6 @@
 -- A tape that occurs more than once need be tried only once.
-use Rattle.std.proofs.Common.{ℕ, zero, suc, ◌≡◌, ◌<◌, ◌≤◌, inl, inr, Bool, true, false, not, ◌&&◌, List, [], ◌∷◌, ◌++◌, length, map, drop, get_or, All, Contains, refl, ap, sym, subst, ◌∙◌, arith}
-use Rattle.std.proofs.lemmas.List.{drop_all}
-use Rattle.std.proofs.lemmas.List.Elements.{All-contains, Contains-append_left, Contains-get_or, Contains-push, Contains-push_cases}
+use Rattle.pair_questions.proofs.Common.{ℕ, zero, suc, ◌≡◌, ◌<◌, ◌≤◌, inl, inr, Bool, true, false, not, ◌&&◌, List, [], ◌∷◌, ◌++◌, length, map, drop, get_or, All, Contains, refl, ap, sym, subst, ◌∙◌, arith, drop_all, All-contains, Contains-append_left, Contains-get_or, Contains-push, Contains-push_cases, Function, Layout, Bounds, Input, Outcome, is_refined, run_of, TermId, Term, IsTerm, Keeps, Tests, bit_at, InputTerms, TapeTerms, OutcomeTerms, reading, AreWords, IsInput, words_at, IsOutcome, each-weaker, map-at, map-length, map-same, bit-later, input_at-later, outcome-later, words-later, words_at-later, AreSameTapes, AreTapes, input_in, none_allows, outcome_in, tapes_at}
 use Rattle.std.proofs.lemmas.Simd.{map-map}
-use Rattle.ir_tree.specs.declared.tree.Function.{Function}
-use Rattle.points.specs.declared.point.Layout.{Layout}
-use Rattle.points.specs.declared.point.Bounds.{Bounds}
-use Rattle.points.specs.declared.point.Input.{Input}
-use Rattle.points.specs.declared.outcome.Outcome.{Outcome}
-use Rattle.points.specs.Refines.{is_refined}
-use Rattle.points.specs.Run.{run_of}
-use Rattle.bv_terms.specs.declared.term.TermId.{TermId}
-use Rattle.bv_terms.specs.declared.term.Term.{Term}
-use Rattle.bv_terms.specs.Trees.{IsTerm, Keeps, Tests, bit_at}
-use Rattle.mem_terms.specs.declared.inputs.InputTerms.{InputTerms}
-use Rattle.mem_terms.specs.declared.inputs.TapeTerms.{TapeTerms}
-use Rattle.mem_terms.specs.declared.outcome.OutcomeTerms.{OutcomeTerms}
-use Rattle.mem_terms.specs.Values.{reading}
-use Rattle.mem_terms.specs.Inputs.{AreWords, IsInput, words_at}
-use Rattle.mem_terms.specs.Outcomes.{IsOutcome}
-use Rattle.mem_terms.proofs.Eaches.{each-weaker, map-at, map-length, map-same}
-use Rattle.mem_terms.proofs.Later.{bit-later, input_at-later, outcome-later, words-later, words_at-later}
-use Rattle.pair_questions.specs.Candidates.{AreSameTapes, AreTapes, input_in, none_allows, outcome_in, tapes_at}
 
 -- ---- terms that grow
 

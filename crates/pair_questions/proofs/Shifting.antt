@@ -1,18 +1,6 @@
 -- The tapes so far are those of the shifts so far.
-use Rattle.std.proofs.Common.{ℕ, ◌≡◌, ◌<◌, ◌+◌, List, [], ◌∷◌, ◌++◌, length, map, take, get_or, Contains, ap, sym, subst, ◌∙◌}
-use Rattle.verdicts.specs.Covers.{words_of}
-use Rattle.bv_terms.specs.declared.term.TermId.{TermId}
-use Rattle.bv_terms.specs.declared.term.Term.{Term}
-use Rattle.bv_terms.specs.Trees.{Keeps}
-use Rattle.mem_terms.specs.declared.inputs.TapeTerms.{TapeTerms}
-use Rattle.mem_terms.specs.Inputs.{AreWords, words_at}
-use Rattle.mem_terms.proofs.Eaches.{at-any, map-push, map-take}
-use Rattle.mem_terms.proofs.Later.{words_at-later}
-use Rattle.pair_questions.specs.declared.tapes.Shift.{Shift}
+use Rattle.pair_questions.proofs.Common.{ℕ, ◌≡◌, ◌<◌, ◌+◌, List, [], ◌∷◌, ◌++◌, length, map, take, get_or, Contains, ap, sym, subst, ◌∙◌, words_of, TermId, Term, Keeps, TapeTerms, AreWords, words_at, at-any, map-push, map-take, words_at-later, Shift, SHIFTS, AreSameTapes, AreTapes, tapes_at, shift_of}
 use Rattle.pair_questions.specs.declared.tapes.Shift.TheVariants.{Behind}
-use Rattle.pair_questions.specs.declared.tapes.TheConstants.{SHIFTS}
-use Rattle.pair_questions.specs.Candidates.{AreSameTapes, AreTapes, tapes_at}
-use Rattle.pair_questions.specs.Tapes.{shift_of}
 use Rattle.pair_questions.proofs.SameTapes.{same_more, same_seen, tapes_at-later, words_among}
 
 module _ (old before mid : List Term) (need i : ℕ) (words : List TermId) (tapes more : List TapeTerms) (tape : TapeTerms) (first : Keeps old before) (k : Keeps before mid) (are : AreWords old words) (so : AreTapes before tapes)

@@ -1,26 +1,6 @@
 -- Tapes of the source tried one after another.
-use Rattle.std.proofs.Common.{ℕ, zero, suc, ◌≡◌, ◌<◌, ◌+◌, Bool, true, false, not, ◌&&◌, List, [], ◌∷◌, length, map, drop, get_or, refl, ap, sym, subst, ◌∙◌, arith}
-use Rattle.ir_tree.specs.declared.tree.Function.{Function}
-use Rattle.points.specs.declared.point.Layout.{Layout}
-use Rattle.points.specs.declared.point.Bounds.{Bounds}
-use Rattle.points.specs.declared.point.Input.{Input}
-use Rattle.points.specs.declared.outcome.Outcome.{Outcome}
-use Rattle.points.specs.Refines.{is_refined}
-use Rattle.points.specs.Run.{run_of}
-use Rattle.bv_terms.specs.declared.term.TermId.{TermId}
-use Rattle.bv_terms.specs.declared.term.Term.{Term}
-use Rattle.bv_terms.specs.Trees.{IsTerm, Keeps, Tests, bit_at}
-use Rattle.mem_terms.specs.declared.inputs.InputTerms.{InputTerms}
-use Rattle.mem_terms.specs.declared.outcome.OutcomeTerms.{OutcomeTerms}
-use Rattle.mem_terms.specs.Values.{reading}
-use Rattle.mem_terms.specs.Memory.{frame_of, frames_of, given_frames}
-use Rattle.mem_terms.specs.Inputs.{IsInput, words_at}
-use Rattle.mem_terms.specs.Outcomes.{IsOutcome, LeavesGiven, Shows, outcome_at}
-use Rattle.mem_terms.proofs.Eaches.{map-length}
-use Rattle.mem_terms.proofs.Later.{keeps_trans, bit-later, input_at-later, is_input-later, is_outcome-later, outcome-later}
+use Rattle.pair_questions.proofs.Common.{ℕ, zero, suc, ◌≡◌, ◌<◌, ◌+◌, Bool, true, false, not, ◌&&◌, List, [], ◌∷◌, length, map, drop, get_or, refl, ap, sym, subst, ◌∙◌, arith, Function, Layout, Bounds, Input, Outcome, is_refined, run_of, TermId, Term, IsTerm, Keeps, Tests, bit_at, InputTerms, OutcomeTerms, reading, frame_of, frames_of, given_frames, IsInput, words_at, IsOutcome, LeavesGiven, Shows, outcome_at, map-length, keeps_trans, bit-later, input_at-later, is_input-later, is_outcome-later, outcome-later, IsTrial, input_in, none_allows, outcome_in, IsEncodable}
 use Rattle.pair_questions.specs.declared.goals.Trial.{Trial}
-use Rattle.pair_questions.specs.Candidates.{IsTrial, input_in, none_allows, outcome_in}
-use Rattle.pair_questions.specs.Encodables.{IsEncodable}
 use Rattle.ir_tree.specs.Limits.{CanRun}
 
 -- ---- what tapes are tried for

@@ -1,48 +1,9 @@
 -- The goals of the two questions are true exactly on their answers.
-use Rattle.std.proofs.Common.{ℕ, ◌≡◌, ◌↔◌, Bool, true, false, not, ◌&&◌, ◌||◌, List, [], ◌∷◌, ◌++◌, length, append-nil, refl, ap, sym, subst, ◌∙◌}
-use Rattle.std.specs.List.{flat_map}
-use Rattle.std.proofs.lemmas.Bool.{eqb-true}
-use Rattle.ir_tree.specs.declared.tree.IrType.{IrType}
-use Rattle.ir_tree.specs.declared.tree.IrType.TheVariants.{Int, Ptr}
-use Rattle.ir_tree.specs.declared.tree.Parameter.{Parameter}
-use Rattle.ir_tree.specs.declared.tree.Function.{Function}
-use Rattle.points.specs.declared.point.Layout.{Layout}
-use Rattle.points.specs.declared.point.Bounds.{Bounds}
-use Rattle.points.specs.declared.point.Input.{Input}
-use Rattle.points.specs.declared.point.Point.{Point}
-use Rattle.points.specs.declared.point.Shape.{Shape}
-use Rattle.points.specs.declared.outcome.Outcome.{Outcome}
+use Rattle.pair_questions.proofs.Common.{ℕ, ◌≡◌, ◌↔◌, Bool, true, false, not, ◌&&◌, ◌||◌, List, [], ◌∷◌, ◌++◌, length, append-nil, refl, ap, sym, subst, ◌∙◌, flat_map, eqb-true, IrType, Int, Parameter, Function, Layout, Bounds, Input, Point, Shape, Outcome, RunPair, same_types, same_return, same_signature, layout_of, WordsFit, IsOfShape, code_of, IsCode, covers, some_covers, shifted, is_covered, is_refined, run_of, IsPlain, need_of, IsPoint, codes_tell_points, TermId, Term, AreInRange, IsTerm, Keeps, Tests, bit_at, term_at, ArgTerms, ByteTerms, InputTerms, TapeTerms, OutcomeTerms, Each, reading, IsArg, AreArgs, AreWords, IsInput, IsByteTerms, IsBlockTerms, input_at, words_at, Shows, map-same, keeps_trans, term-later, input_at-later, words_at-later, outcome-later, Decides, IsInputOf, IsTapeOf, arg_numbers, byte_numbers, block_numbers, numbers_at, input_in, none_allows, outcome_in, IsCovering, IsUncovered, IsShapeOf, IsOfTarget}
+use Rattle.ir_tree.specs.declared.tree.IrType.TheVariants.{Ptr}
 use Rattle.ir_tree.specs.Sites.{is_same_type}
-use Rattle.verdicts.specs.Pair.{RunPair, same_types, same_return, same_signature, layout_of}
-use Rattle.points.specs.Code.{WordsFit, IsOfShape, code_of}
-use Rattle.points.specs.Codes.{IsCode}
-use Rattle.verdicts.specs.Covers.{covers, some_covers, shifted, is_covered}
-use Rattle.points.specs.Refines.{is_refined}
-use Rattle.points.specs.Run.{run_of, IsPlain}
-use Rattle.points.specs.Tapes.{need_of}
-use Rattle.verdicts.specs.Trail.{IsPoint}
-use Rattle.points.proofs.Decoded.{codes_tell_points}
-use Rattle.bv_terms.specs.declared.term.TermId.{TermId}
-use Rattle.bv_terms.specs.declared.term.Term.{Term}
-use Rattle.bv_terms.specs.Trees.{AreInRange, IsTerm, Keeps, Tests, bit_at, term_at}
-use Rattle.mem_terms.specs.declared.inputs.ArgTerms.{ArgTerms}
 use Rattle.mem_terms.specs.declared.inputs.ArgTerms.TheVariants as arg
-use Rattle.mem_terms.specs.declared.inputs.ByteTerms.{ByteTerms}
-use Rattle.mem_terms.specs.declared.inputs.InputTerms.{InputTerms}
-use Rattle.mem_terms.specs.declared.inputs.TapeTerms.{TapeTerms}
-use Rattle.mem_terms.specs.declared.outcome.OutcomeTerms.{OutcomeTerms}
-use Rattle.mem_terms.specs.Values.{Each, reading}
-use Rattle.mem_terms.specs.Inputs.{IsArg, AreArgs, AreWords, IsInput, IsByteTerms, IsBlockTerms, input_at, words_at}
-use Rattle.mem_terms.specs.Outcomes.{Shows}
 use Rattle.mem_terms.proofs.Bits.{term-below}
-use Rattle.mem_terms.proofs.Eaches.{map-same}
-use Rattle.mem_terms.proofs.Later.{keeps_trans, term-later, input_at-later, words_at-later, outcome-later}
-use Rattle.refine_terms.specs.Deciding.{Decides}
-use Rattle.refine_terms.specs.Numbers.{IsInputOf, IsTapeOf, arg_numbers, byte_numbers, block_numbers, numbers_at}
-use Rattle.pair_questions.specs.Candidates.{input_in, none_allows, outcome_in}
-use Rattle.pair_questions.specs.Questions.{IsCovering, IsUncovered}
-use Rattle.pair_questions.specs.Shapes.{IsShapeOf}
-use Rattle.pair_questions.specs.Subjects.{IsOfTarget}
 use Rattle.pair_questions.proofs.Decoded.{decoded}
 
 pub and_left : (a b : Bool) → (a && b) ≡ true → a ≡ true

@@ -1,20 +1,8 @@
 -- Arguments: how many digits their code has, and zeros.
-use Rattle.std.proofs.Common.{◌≡◌, ℕ, zero, suc, ◌+◌, ◌^◌, ◌<◌, ◌≤◌, List, [], ◌∷◌, ◌++◌, length, replicate, refl, ap, arith, slice_get, Some, zero-add, suc-add}
-use Rattle.std.proofs.Math.Pow.{pow_mono}
-use Rattle.std.proofs.lemmas.Nat.{pow_pos}
-use Rattle.ir_tree.specs.declared.tree.IrType.{IrType}
-use Rattle.ir_tree.specs.declared.tree.IrType.TheVariants.{Int}
+use Rattle.points.proofs.Common.{◌≡◌, ℕ, zero, suc, ◌+◌, ◌^◌, ◌<◌, ◌≤◌, List, [], ◌∷◌, ◌++◌, length, replicate, refl, ap, arith, slice_get, Some, zero-add, suc-add, pow_mono, pow_pos, IrType, Int, Parameter, BlockName, Null, Given, Local, Value, Num, Poison, Layout, no_blocks, number_of, BlockFits, ValueFits, ArgsFit, name_digit, value_code, args_code, args_number}
 use Rattle.ir_tree.specs.declared.tree.IrType.TheVariants as type
-use Rattle.ir_tree.specs.declared.tree.Parameter.{Parameter}
 use Rattle.ir_tree.specs.Pointers.{IsInteger, AreIntegers}
-use Rattle.byte_block.specs.declared.value.BlockName.{BlockName}
-use Rattle.byte_block.specs.declared.value.BlockName.TheVariants.{Null, Given, Local}
-use Rattle.byte_block.specs.declared.value.Value.{Value}
-use Rattle.byte_block.specs.declared.value.Value.TheVariants.{Num, Poison}
 use Rattle.byte_block.specs.declared.value.Value.TheVariants as value
-use Rattle.points.specs.declared.point.Layout.{Layout}
-use Rattle.points.specs.Code.{no_blocks, number_of, BlockFits, ValueFits, ArgsFit, name_digit, value_code, args_code}
-use Rattle.points.specs.Next.{args_number}
 use Rattle.points.proofs.Order.{Digits}
 
 -- ---- how many digits

@@ -1,12 +1,6 @@
 -- The next byte: numbers, then parts of pointers, then poison.
-use Rattle.std.proofs.Common.{◌≡◌, ℕ, ◌+◌, ◌*◌, ◌^◌, ◌<◌, ◌≤◌, arith}
-use Rattle.byte_block.specs.declared.value.BlockName.{BlockName}
-use Rattle.byte_block.specs.declared.value.BlockName.TheVariants.{Null, Given, Local}
-use Rattle.byte_block.specs.declared.value.Ptr.{Ptr}
-use Rattle.byte_block.specs.declared.value.Byte.TheVariants.{Num, Part, Poison}
-use Rattle.points.specs.declared.point.Layout.{Layout}
-use Rattle.points.specs.Code.{number_of, BlockFits, PointerFits, ByteFits, name_digit}
-use Rattle.points.specs.Next.{byte_number, pointer_number, IsNextByte, IsLastByte}
+use Rattle.points.proofs.Common.{◌≡◌, ℕ, ◌+◌, ◌*◌, ◌^◌, ◌<◌, ◌≤◌, arith, BlockName, Null, Given, Local, Ptr, Part, Layout, number_of, BlockFits, PointerFits, ByteFits, name_digit, byte_number, pointer_number, IsNextByte, IsLastByte}
+use Rattle.byte_block.specs.declared.value.Byte.TheVariants.{Num, Poison}
 
 pub name_at_most : (layout : Layout) (name : BlockName) → BlockFits layout name → name_digit layout name ≤ layout.blocks
 name_at_most layout Null fits = omega arith

@@ -1,13 +1,5 @@
 -- A loop that reads a code from the start, and the parts of a code.
-use Rattle.std.proofs.Common.{◌≡◌, inl, inr, ℕ, zero, suc, ◌+◌, ◌*◌, ◌<◌, ◌≤◌, List, [], ◌∷◌, ◌++◌, length, take, drop, refl, sym, ap, ◌∙◌, arith, append_assoc, append-nil, length-append}
-use Rattle.std.proofs.lemmas.List.Sums.{sum_by-cons}
-use Rattle.ir_tree.specs.declared.tree.Parameter.{Parameter}
-use Rattle.byte_block.specs.declared.value.Byte.{Byte}
-use Rattle.points.specs.declared.point.Layout.{Layout}
-use Rattle.points.specs.declared.point.Shape.{Shape}
-use Rattle.points.specs.Code.{WordsFit}
-use Rattle.points.specs.Codes.{IsCodeOfArgs, AreSizes, IsCodeOfByte, IsCodeOfPlaces, IsCodeOfBlocks, IsCode}
-use Rattle.points.specs.Reads.{value_length, args_length, byte_from, places_from, HasByte, HaveBytes, HaveBlocks}
+use Rattle.points.proofs.Common.{◌≡◌, inl, inr, ℕ, zero, suc, ◌+◌, ◌*◌, ◌<◌, ◌≤◌, List, [], ◌∷◌, ◌++◌, length, take, drop, refl, sym, ap, ◌∙◌, arith, append_assoc, append-nil, length-append, sum_by-cons, Parameter, Byte, Layout, Shape, WordsFit, IsCodeOfArgs, AreSizes, IsCodeOfByte, IsCodeOfPlaces, IsCodeOfBlocks, IsCode, value_length, args_length, byte_from, places_from, HasByte, HaveBytes, HaveBlocks}
 use Rattle.points.proofs.Words.{WordsFit-length}
 use Rattle.points.proofs.Decoded.{read_value, read_byte, read_places, drop_front}
 

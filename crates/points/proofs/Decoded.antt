@@ -1,18 +1,7 @@
 -- Each code of a shape is the code of exactly one point.
-use Rattle.std.proofs.Common.{◌≡◌, inl, inr, ℕ, zero, suc, ◌+◌, ◌-◌, ◌*◌, ◌≤◌, List, [], ◌∷◌, ◌++◌, length, drop, replicate, refl, sym, ap, ◌∙◌, arith, append_assoc, length-append}
-use Rattle.std.specs.List.{flat_map}
-use Rattle.ir_tree.specs.declared.tree.IrType.{IrType}
-use Rattle.ir_tree.specs.declared.tree.IrType.TheVariants.{Int}
+use Rattle.points.proofs.Common.{◌≡◌, inl, inr, ℕ, zero, suc, ◌+◌, ◌-◌, ◌*◌, ◌≤◌, List, [], ◌∷◌, ◌++◌, length, drop, replicate, refl, sym, ap, ◌∙◌, arith, append_assoc, length-append, flat_map, IrType, Int, Parameter, Layout, Point, Shape, BlockFits, ValueFits, ArgsFit, ByteFits, BytesFit, BlocksFit, WordsFit, IsOfShape, name_digit, value_code, args_code, byte_code, places_code, code_of, IsCodeOfValue, IsCodeOfArgs, AreSizes, IsCodeOfByte, IsCodeOfPlaces, IsCodeOfBlocks, IsCode, value_length, name_from, value_from, args_from, byte_from, places_from, blocks_from, IsPointWith, CodesTellPoints}
 use Rattle.ir_tree.specs.declared.tree.IrType.TheVariants as type
-use Rattle.ir_tree.specs.declared.tree.Parameter.{Parameter}
 use Rattle.byte_block.specs.declared.value.Byte.TheVariants as byte
-use Rattle.points.specs.declared.point.Layout.{Layout}
-use Rattle.points.specs.declared.point.Point.{Point}
-use Rattle.points.specs.declared.point.Shape.{Shape}
-use Rattle.points.specs.Code.{BlockFits, ValueFits, ArgsFit, ByteFits, BytesFit, BlocksFit, WordsFit, IsOfShape, name_digit, value_code, args_code, byte_code, places_code, code_of}
-use Rattle.points.specs.Codes.{IsCodeOfValue, IsCodeOfArgs, AreSizes, IsCodeOfByte, IsCodeOfPlaces, IsCodeOfBlocks, IsCode}
-use Rattle.points.specs.Reads.{value_length, name_from, value_from, args_from, byte_from, places_from, blocks_from}
-use Rattle.points.specs.Laws.{IsPointWith, CodesTellPoints}
 use Rattle.points.proofs.Same.{sizes_of, same_coded}
 use Rattle.points.proofs.Coded.{point_coded}
 

@@ -1,7 +1,5 @@
 -- Lists of digits are ordered by their numbers as they are lexicographically.
-use Rattle.std.proofs.Common.{◌≡◌, inl, inr, ℕ, zero, suc, ◌^◌, ◌<◌, List, [], ◌∷◌, length, get_or, arith}
-use Rattle.points.specs.Code.{number_of}
-use Rattle.points.specs.Laws.{IsLessFromFront, AreDigits, NumbersCompareFromFront}
+use Rattle.points.proofs.Common.{◌≡◌, inl, inr, ℕ, zero, suc, ◌^◌, ◌<◌, List, [], ◌∷◌, length, get_or, arith, number_of, IsLessFromFront, AreDigits, NumbersCompareFromFront}
 use Rattle.points.proofs.Order.{Digits, number_of-below, lead, split_lem}
 
 digits_of_each : (xs : List ℕ) → AreDigits xs → Digits (length xs) xs

@@ -1,17 +1,5 @@
 -- The next contents of the given blocks, and their next sizes.
-use Rattle.std.proofs.Common.{◌≡◌, inl, inr, ℕ, zero, suc, ◌+◌, ◌-◌, ◌*◌, ◌^◌, ◌<◌, ◌≤◌, List, [], ◌∷◌, length, refl, sym, ap, ◌∙◌, arith, slice_get, Some, add-one}
-use Rattle.std.proofs.Math.ListN.{set}
-use Rattle.std.specs.List.{flat_map}
-use Rattle.std.proofs.lemmas.Bool.{cases_eq}
-use Rattle.std.proofs.lemmas.List.{set-get_or}
-use Rattle.std.proofs.lemmas.Option.{get_or_from_slice_get}
-use Rattle.byte_block.specs.declared.value.BlockName.TheVariants.{Given}
-use Rattle.byte_block.specs.declared.value.Byte.{Byte}
-use Rattle.byte_block.specs.declared.block.MemoryBlock.{MemoryBlock}
-use Rattle.points.specs.declared.point.Layout.{Layout}
-use Rattle.points.specs.Code.{number_of, IsGivenBlock, BlocksFit, byte_code, places_code}
-use Rattle.points.specs.Codes.{AreSizes}
-use Rattle.points.specs.Next.{PlacesFit, IsNextPlaces, IsLastPlaces, sizes_in, memory_number, IsNextMemory, IsLastMemory, IsNextSizes, AreLastSizes, AreLeastBlocks, from_place, zero_byte, zero_places, zero_size}
+use Rattle.points.proofs.Common.{◌≡◌, inl, inr, ℕ, zero, suc, ◌+◌, ◌-◌, ◌*◌, ◌^◌, ◌<◌, ◌≤◌, List, [], ◌∷◌, length, refl, sym, ap, ◌∙◌, arith, slice_get, Some, add-one, set, flat_map, cases_eq, set-get_or, get_or_from_slice_get, Given, Byte, MemoryBlock, Layout, number_of, IsGivenBlock, BlocksFit, byte_code, places_code, AreSizes, PlacesFit, IsNextPlaces, IsLastPlaces, sizes_in, memory_number, IsNextMemory, IsLastMemory, IsNextSizes, AreLastSizes, AreLeastBlocks, from_place, zero_byte, zero_places, zero_size}
 use Rattle.points.proofs.Same.{bytes_digits}
 use Rattle.points.proofs.Rows.{zero_number, RowFits, AreThings, IsNextThing, IsLastThing, AreLastFrom, raised, raised_is, raised_fits, last_row, next_row, last_more}
 use Rattle.points.proofs.Places.{zeros_fit, zeros_number}

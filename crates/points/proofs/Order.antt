@@ -1,11 +1,5 @@
 -- Lists of digits in their order: what comes next where two lists are put one after the other.
-use Rattle.std.proofs.Common.{◌≡◌, ◌⊎◌, inl, inr, ℕ, zero, suc, ◌+◌, ◌*◌, ◌^◌, ◌<◌, ◌≤◌, List, [], ◌∷◌, ◌++◌, length, refl, ap, arith, length-append}
-use Rattle.std.proofs.Math.Nat.{mul-le-mul_right, pow-succ'}
-use Rattle.std.proofs.Common.{pow-add}
-use Rattle.std.proofs.lemmas.Bool.{cases_order}
-use Rattle.std.proofs.lemmas.Nat.{same_from_place}
-use Rattle.points.specs.Code.{number_of}
-use Rattle.points.specs.Codes.{IsChain}
+use Rattle.points.proofs.Common.{◌≡◌, ◌⊎◌, inl, inr, ℕ, zero, suc, ◌+◌, ◌*◌, ◌^◌, ◌<◌, ◌≤◌, List, [], ◌∷◌, ◌++◌, length, refl, ap, arith, length-append, mul-le-mul_right, pow-succ', pow-add, cases_order, same_from_place, number_of, IsChain}
 
 -- this number of digits
 abbrev pub Digits : ℕ → List ℕ → Type 0

@@ -1,12 +1,6 @@
 -- The next contents of a block: what is before its size is a row of bytes, and the rest a row of zeros.
-use Rattle.std.proofs.Common.{◌≡◌, ℕ, zero, suc, ◌+◌, ◌-◌, ◌^◌, ◌<◌, ◌≤◌, Bool, true, false, List, [], ◌∷◌, length, drop, replicate, refl, ap, ◌∙◌, arith, slice_get, Some, add-one}
-use Rattle.std.proofs.Math.ListN.{set}
-use Rattle.std.specs.List.{flat_map}
-use Rattle.byte_block.specs.declared.value.Byte.{Byte}
+use Rattle.points.proofs.Common.{◌≡◌, ℕ, zero, suc, ◌+◌, ◌-◌, ◌^◌, ◌<◌, ◌≤◌, Bool, true, false, List, [], ◌∷◌, length, drop, replicate, refl, ap, ◌∙◌, arith, slice_get, Some, add-one, set, flat_map, Byte, Layout, number_of, ByteFits, BytesFit, byte_code, byte_number, IsNextByte, IsLastByte, PlacesFit, places_number, IsNextPlaces, IsLastPlaces, from_place, zero_byte}
 use Rattle.byte_block.specs.declared.value.Byte.TheVariants.{Num}
-use Rattle.points.specs.declared.point.Layout.{Layout}
-use Rattle.points.specs.Code.{number_of, ByteFits, BytesFit, byte_code}
-use Rattle.points.specs.Next.{byte_number, IsNextByte, IsLastByte, PlacesFit, places_number, IsNextPlaces, IsLastPlaces, from_place, zero_byte}
 use Rattle.points.proofs.Order.{Digits}
 use Rattle.points.proofs.Same.{byte_digits}
 use Rattle.points.proofs.Rows.{RowFits, AreThings, IsNextThing, AreLastFrom, raised, raised_is, raised_fits, last_row, next_row, last_more, row_at}

@@ -1,29 +1,12 @@
 -- What a run reads of its tape.
-use Rattle.std.proofs.Common.{◌≡◌, inl, inr, ℕ, zero, suc, ◌+◌, ◌-◌, ◌*◌, ◌^◌, ◌%◌, ◌<◌, ◌≤◌, max, Bool, true, false, ◌&&◌, if◌then◌else◌, List, [], ◌∷◌, ◌++◌, length, get_or, drop, replicate, Some, None, Option, refl, sym, ap, subst, ◌∙◌, arith, append_assoc, append-nil, length-append}
+use Rattle.points.proofs.Common.{◌≡◌, inl, inr, ℕ, zero, suc, ◌+◌, ◌-◌, ◌*◌, ◌^◌, ◌%◌, ◌<◌, ◌≤◌, max, Bool, true, false, ◌&&◌, if◌then◌else◌, List, [], ◌∷◌, ◌++◌, length, get_or, drop, replicate, Some, None, Option, refl, sym, ap, subst, ◌∙◌, arith, append_assoc, append-nil, length-append, flat_map, list_any, mod_below, pow_pos, cases_lt, ltb-true, mod-le, mod-eq_of_lt, mul-le-mul_right, pow_mono, length-replicate, IrType, Inst, Binary, Icmp, Cast, Select, Freeze, Alloca, Load, Store, GetElementPtr, Terminator, Block, Function, BlockName, Null, Given, MemoryBlock, Value, Num, Poison, Machine, Bounds, Input, number_of, WordsFit, Ub, Beyond, act, ended, frozen, Choice, next_word, block_number, given_or_null, integer_choice, pointer_choice, choice_of, with_taken, assigned, operand_value, typed_value, typed_operand_value, access_of, allocated, loaded, stored, index_values, returns, is_poison, undef_type, returned_with, breaks_noundef, first_machine, run_of, Exit, Over, To, exit_by, exit_after, exit_insts, exit_of, branch_on, switch_on, entered, Go, jump, go_on, forward, run_turns, word_widths, inst_widths, widths_of, end_widths, block_widths, choice_widths, need_of, widest, widest_choice, plain_form, TapesHavePlainForms}
 use Rattle.std.specs.Prelude.{slice_index, slice_get, nat_lt}
-use Rattle.std.specs.List.{flat_map, list_any}
 use Rattle.std.specs.Option.{option_map}
-use Rattle.std.proofs.lemmas.Nat.{mod_below, pow_pos}
-use Rattle.std.proofs.lemmas.Bool.{cases_lt, ltb-true}
-use Rattle.std.proofs.Math.Nat.{mod-le, mod-eq_of_lt, mul-le-mul_right}
-use Rattle.std.proofs.Math.Pow.{pow_mono}
-use Rattle.std.proofs.lemmas.List.{length-replicate}
-use Rattle.ir_tree.specs.declared.tree.IrType.{IrType}
 use Rattle.ir_tree.specs.declared.tree.IrType.TheVariants as type
-use Rattle.ir_tree.specs.declared.tree.Inst.{Inst}
-use Rattle.ir_tree.specs.declared.tree.Inst.TheVariants.{Binary, Icmp, Cast, Select, Freeze, Alloca, Load, Store, GetElementPtr}
 use Rattle.ir_tree.specs.declared.tree.TypedOperand.{TypedOperand}
 use Rattle.ir_tree.specs.declared.tree.Case.{Case}
-use Rattle.ir_tree.specs.declared.tree.Terminator.{Terminator}
 use Rattle.ir_tree.specs.declared.tree.Terminator.TheVariants as terminator
-use Rattle.ir_tree.specs.declared.tree.Block.{Block}
-use Rattle.ir_tree.specs.declared.tree.Function.{Function}
 use Rattle.ir_tree.specs.Flow.{block_of}
-use Rattle.byte_block.specs.declared.value.BlockName.{BlockName}
-use Rattle.byte_block.specs.declared.value.BlockName.TheVariants.{Null, Given}
-use Rattle.byte_block.specs.declared.block.MemoryBlock.{MemoryBlock}
-use Rattle.byte_block.specs.declared.value.Value.{Value}
-use Rattle.byte_block.specs.declared.value.Value.TheVariants.{Num, Poison}
 use Rattle.byte_block.specs.declared.value.Value.TheVariants as value
 use Rattle.memory_access.specs.declared.access_types.Loaded.{Loaded}
 use Rattle.memory_access.specs.declared.access_types.Loaded.TheVariants as load
@@ -32,14 +15,7 @@ use Rattle.memory_access.specs.declared.access_types.Stored.TheVariants as store
 use Rattle.memory_access.specs.Blocks.{names}
 use Rattle.memory_access.specs.Accesses.{load_result, store_result, after_store}
 use Rattle.memory_access.specs.Offsets.{gep_result}
-use Rattle.points.specs.declared.machine.Machine.{Machine}
-use Rattle.points.specs.declared.point.Bounds.{Bounds}
-use Rattle.points.specs.declared.point.Input.{Input}
-use Rattle.points.specs.Code.{number_of, WordsFit}
-use Rattle.points.specs.declared.outcome.Outcome.TheVariants.{Ub, Beyond}
 use Rattle.points.specs.Table.{value_result, compared, cast_value, selected}
-use Rattle.points.specs.Run.{act, ended, frozen, Choice, next_word, block_number, given_or_null, integer_choice, pointer_choice, choice_of, with_taken, assigned, operand_value, typed_value, typed_operand_value, access_of, allocated, loaded, stored, index_values, returns, is_poison, undef_type, returned_with, breaks_noundef, first_machine, run_of, Exit, Over, To, exit_by, exit_after, exit_insts, exit_of, branch_on, switch_on, entered, Go, jump, go_on, forward, run_turns}
-use Rattle.points.specs.Tapes.{word_widths, inst_widths, widths_of, end_widths, block_widths, choice_widths, need_of, widest, widest_choice, plain_form, TapesHavePlainForms}
 use Rattle.points.proofs.Runs.{exit_taken, entered_taken, run_entered_by, run_of_is}
 
 -- ---- the widest of two lists

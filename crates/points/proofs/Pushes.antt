@@ -1,12 +1,5 @@
 -- A loop that pushes the code of each item after the code so far.
-use Rattle.std.proofs.Common.{◌≡◌, ℕ, ◌+◌, ◌<◌, ◌≤◌, List, ◌∷◌, ◌++◌, length, get_or, drop, Some, slice_get, sym, ap, ◌∙◌, append_assoc, append-nil}
-use Rattle.std.specs.List.{flat_map}
-use Rattle.std.proofs.lemmas.List.{drop_more, at_drop_all}
-use Rattle.std.proofs.lemmas.Option.{get_or_from_slice_get}
-use Rattle.ir_tree.specs.declared.tree.Parameter.{Parameter}
-use Rattle.byte_block.specs.declared.value.Value.{Value}
-use Rattle.points.specs.declared.point.Layout.{Layout}
-use Rattle.points.specs.Code.{value_code, args_code}
+use Rattle.points.proofs.Common.{◌≡◌, ℕ, ◌+◌, ◌<◌, ◌≤◌, List, ◌∷◌, ◌++◌, length, get_or, drop, Some, slice_get, sym, ap, ◌∙◌, append_assoc, append-nil, flat_map, drop_more, at_drop_all, get_or_from_slice_get, Parameter, Value, Layout, value_code, args_code}
 
 drop_item : {A : Type 0} (xs : List A) (i : ℕ) (x : A) → i < length xs → x ≡ get_or xs i x → drop i xs ≡ x ∷ drop (i + 1) xs
 drop_item xs i x within is = drop_more xs i x within ∙ ap (λ y. y ∷ drop (i + 1) xs) (sym is)

@@ -1,11 +1,5 @@
 -- Rows of things, each with a code of the same number of digits: what comes next in a row.
-use Rattle.std.proofs.Common.{◌≡◌, inl, inr, ℕ, zero, suc, ◌+◌, ◌-◌, ◌*◌, ◌<◌, ◌≤◌, List, [], ◌∷◌, ◌++◌, length, refl, sym, ap, arith, slice_get, Some, add-one}
-use Rattle.std.proofs.Math.ListN.{set}
-use Rattle.std.specs.List.{flat_map}
-use Rattle.std.proofs.lemmas.Bool.{cases_eq}
-use Rattle.points.specs.Code.{number_of}
-use Rattle.points.specs.Codes.{IsChain}
-use Rattle.points.specs.Next.{from_place}
+use Rattle.points.proofs.Common.{◌≡◌, inl, inr, ℕ, zero, suc, ◌+◌, ◌-◌, ◌*◌, ◌<◌, ◌≤◌, List, [], ◌∷◌, ◌++◌, length, refl, sym, ap, arith, slice_get, Some, add-one, set, flat_map, cases_eq, number_of, IsChain, from_place}
 use Rattle.points.proofs.Order.{Digits, digits_as, IsNextIn, IsLastIn, HaveDigits, next_in_back, next_in_front, last_in_both, number_of-append}
 use Rattle.points.proofs.Args.{Digits-append}
 

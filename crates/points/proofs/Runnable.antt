@@ -1,19 +1,9 @@
 -- A function within the limits may be run: each instruction makes a choice of two words at most.
-use Rattle.std.proofs.Common.{Option, Some, None, ◌*◌, ◌≤◌, List, [], ◌∷◌, length, sum_by, arith, length-append}
-use Rattle.std.specs.List.{flat_map}
-use Rattle.std.proofs.lemmas.List.Sums.{sum_by-cons}
-use Rattle.ir_tree.specs.declared.tree.IrType.{IrType}
+use Rattle.points.proofs.Common.{Option, Some, None, ◌*◌, ◌≤◌, List, [], ◌∷◌, length, sum_by, arith, length-append, flat_map, sum_by-cons, IrType, Inst, Binary, Icmp, Cast, Select, Freeze, Alloca, Load, Store, GetElementPtr, Terminator, Block, Function, undef_type, word_widths, inst_widths, widths_of, end_widths, block_widths}
 use Rattle.ir_tree.specs.declared.tree.IrType.TheVariants as type
-use Rattle.ir_tree.specs.declared.tree.Inst.{Inst}
-use Rattle.ir_tree.specs.declared.tree.Inst.TheVariants.{Binary, Icmp, Cast, Select, Freeze, Alloca, Load, Store, GetElementPtr}
-use Rattle.ir_tree.specs.declared.tree.Terminator.{Terminator}
 use Rattle.ir_tree.specs.declared.tree.Terminator.TheVariants as terminator
-use Rattle.ir_tree.specs.declared.tree.Block.{Block}
-use Rattle.ir_tree.specs.declared.tree.Function.{Function}
 use Rattle.ir_tree.specs.Limits.{IsWithinLimits, instructions_of}
-use Rattle.points.specs.Run.{undef_type}
 use Rattle.points.specs.Runnable.{IsRunnable}
-use Rattle.points.specs.Tapes.{word_widths, inst_widths, widths_of, end_widths, block_widths}
 
 two_choice_words : (type : IrType) → length (word_widths type) ≤ 2
 two_choice_words (type.Int width) = omega arith

@@ -1,17 +1,6 @@
 -- A run, one instruction and one block at a time.
-use Rattle.std.proofs.Common.{◌≡◌, ℕ, ◌+◌, ◌<◌, List, [], ◌∷◌, length, drop, get_or, Bool, true, false, if◌then◌else◌, Some, None, refl, ap, ◌∙◌}
-use Rattle.std.proofs.lemmas.List.{drop_more}
-use Rattle.std.proofs.Math.Seq.{drop-length}
-use Rattle.ir_tree.specs.declared.tree.Inst.{Inst}
+use Rattle.points.proofs.Common.{◌≡◌, ℕ, ◌+◌, ◌<◌, List, [], ◌∷◌, length, drop, get_or, Bool, true, false, if◌then◌else◌, Some, None, refl, ap, ◌∙◌, drop_more, drop-length, Inst, Terminator, Block, Function, Machine, Ub, Bounds, Input, Run, Exit, Over, To, ended, act, assigned, phi_value, with_phis, entered, exit_insts, exit_by, breaks_noundef, first_machine, run_turns, run_of}
 use Rattle.ir_tree.specs.declared.tree.Phi.{Phi}
-use Rattle.ir_tree.specs.declared.tree.Terminator.{Terminator}
-use Rattle.ir_tree.specs.declared.tree.Block.{Block}
-use Rattle.ir_tree.specs.declared.tree.Function.{Function}
-use Rattle.points.specs.declared.machine.Machine.{Machine}
-use Rattle.points.specs.declared.outcome.Outcome.TheVariants.{Ub}
-use Rattle.points.specs.declared.point.Bounds.{Bounds}
-use Rattle.points.specs.declared.point.Input.{Input}
-use Rattle.points.specs.Run.{Run, Exit, Over, To, ended, act, assigned, phi_value, with_phis, entered, exit_insts, exit_by, breaks_noundef, first_machine, run_turns, run_of}
 
 -- ---- what a block has taken
 

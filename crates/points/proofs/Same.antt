@@ -1,23 +1,8 @@
 -- Two points of one shape at one position in the order are one point.
-use Rattle.std.proofs.Common.{◌≡◌, ℕ, suc, ◌+◌, ◌*◌, ◌^◌, ◌<◌, ◌≤◌, List, [], ◌∷◌, ◌++◌, length, map, refl, sym, ap, ◌∙◌, arith, append_assoc, add-zero}
-use Rattle.std.specs.List.{flat_map}
-use Rattle.ir_tree.specs.declared.tree.IrType.{IrType}
-use Rattle.ir_tree.specs.declared.tree.IrType.TheVariants.{Int}
+use Rattle.points.proofs.Common.{◌≡◌, ℕ, suc, ◌+◌, ◌*◌, ◌^◌, ◌<◌, ◌≤◌, List, [], ◌∷◌, ◌++◌, length, map, refl, sym, ap, ◌∙◌, arith, append_assoc, add-zero, flat_map, IrType, Int, Parameter, BlockName, Null, Given, Local, Ptr, Value, Num, Poison, Byte, MemoryBlock, Layout, Point, BlockFits, PointerFits, ValueFits, ArgsFit, ByteFits, BytesFit, IsGivenBlock, BlocksFit, WordsFit, name_digit, value_code, args_code, byte_code, places_code, blocks_code, code_of, place_of, PlacesTellPoints}
 use Rattle.ir_tree.specs.declared.tree.IrType.TheVariants as type
-use Rattle.ir_tree.specs.declared.tree.Parameter.{Parameter}
-use Rattle.byte_block.specs.declared.value.BlockName.{BlockName}
-use Rattle.byte_block.specs.declared.value.BlockName.TheVariants.{Null, Given, Local}
-use Rattle.byte_block.specs.declared.value.Ptr.{Ptr}
-use Rattle.byte_block.specs.declared.value.Value.{Value}
-use Rattle.byte_block.specs.declared.value.Value.TheVariants.{Num, Poison}
 use Rattle.byte_block.specs.declared.value.Value.TheVariants as value
-use Rattle.byte_block.specs.declared.value.Byte.{Byte}
 use Rattle.byte_block.specs.declared.value.Byte.TheVariants as byte
-use Rattle.byte_block.specs.declared.block.MemoryBlock.{MemoryBlock}
-use Rattle.points.specs.declared.point.Layout.{Layout}
-use Rattle.points.specs.declared.point.Point.{Point}
-use Rattle.points.specs.Code.{BlockFits, PointerFits, ValueFits, ArgsFit, ByteFits, BytesFit, IsGivenBlock, BlocksFit, WordsFit, name_digit, value_code, args_code, byte_code, places_code, blocks_code, code_of, place_of}
-use Rattle.points.specs.Laws.{PlacesTellPoints}
 use Rattle.points.proofs.Order.{Digits, digits_as, number_of-same}
 use Rattle.points.proofs.Words.{WordsFit-digits}
 use Rattle.points.proofs.Args.{digits_of, args_digits, name_small, Digits-append}

@@ -1,22 +1,8 @@
 -- The next value of a type, and the next list of arguments.
-use Rattle.std.proofs.Common.{◌≡◌, inl, inr, ℕ, zero, suc, ◌+◌, ◌-◌, ◌*◌, ◌^◌, ◌<◌, ◌≤◌, List, [], ◌∷◌, length, refl, sym, ap, ◌∙◌, arith, slice_get, Some, add-one}
-use Rattle.std.proofs.Math.Pow.{pow_mono}
-use Rattle.std.proofs.Math.ListN.{set}
-use Rattle.std.proofs.lemmas.Bool.{cases_eq}
-use Rattle.std.proofs.lemmas.Nat.{pow_pos}
+use Rattle.points.proofs.Common.{◌≡◌, inl, inr, ℕ, zero, suc, ◌+◌, ◌-◌, ◌*◌, ◌^◌, ◌<◌, ◌≤◌, List, [], ◌∷◌, length, refl, sym, ap, ◌∙◌, arith, slice_get, Some, add-one, pow_mono, set, cases_eq, pow_pos, IrType, Int, Parameter, Ptr, Value, Num, Poison, Layout, number_of, PointerFits, ValueFits, ArgsFit, value_code, args_code, IsChain, IsNextValue, IsLastValue, value_number, IsNextArgs, IsLastArgs, args_number, least_value, least_from, pointer_number}
 use Rattle.tv_num.specs.declared.Width.{Width}
-use Rattle.ir_tree.specs.declared.tree.IrType.{IrType}
-use Rattle.ir_tree.specs.declared.tree.IrType.TheVariants.{Int}
 use Rattle.ir_tree.specs.declared.tree.IrType.TheVariants as type
-use Rattle.ir_tree.specs.declared.tree.Parameter.{Parameter}
-use Rattle.byte_block.specs.declared.value.Ptr.{Ptr}
-use Rattle.byte_block.specs.declared.value.Value.{Value}
-use Rattle.byte_block.specs.declared.value.Value.TheVariants.{Num, Poison}
 use Rattle.byte_block.specs.declared.value.Value.TheVariants as value
-use Rattle.points.specs.declared.point.Layout.{Layout}
-use Rattle.points.specs.Code.{number_of, PointerFits, ValueFits, ArgsFit, value_code, args_code}
-use Rattle.points.specs.Codes.{IsChain}
-use Rattle.points.specs.Next.{IsNextValue, IsLastValue, value_number, IsNextArgs, IsLastArgs, args_number, least_value, least_from, pointer_number}
 use Rattle.points.proofs.Order.{IsNextIn, IsLastIn, HaveDigits, next_in_back, next_in_front, last_in_both}
 use Rattle.points.proofs.Args.{type_digits, digits_of, value_digits, args_digits}
 use Rattle.points.proofs.ByteOrder.{pointer_at_most}

@@ -1,14 +1,5 @@
 -- The next point: its tape, then the contents, then the sizes, then the arguments.
-use Rattle.std.proofs.Common.{◌≡◌, ℕ, zero, suc, ◌+◌, ◌-◌, ◌*◌, ◌^◌, ◌<◌, List, [], ◌∷◌, ◌++◌, length, take, replicate, refl, ap, ◌∙◌, arith, append_assoc}
-use Rattle.std.specs.List.{flat_map}
-use Rattle.byte_block.specs.declared.value.Value.{Value}
-use Rattle.byte_block.specs.declared.block.MemoryBlock.{MemoryBlock}
-use Rattle.points.specs.declared.point.Layout.{Layout}
-use Rattle.points.specs.declared.point.Point.{Point}
-use Rattle.points.specs.declared.point.Shape.{Shape}
-use Rattle.points.specs.Code.{number_of, BlocksFit, WordsFit, IsOfShape, args_code, places_code, code_of}
-use Rattle.points.specs.Codes.{IsChain, AreSizes}
-use Rattle.points.specs.Next.{IsNextWords, IsLastWords, IsNextArgs, IsLastArgs, sizes_in, IsNextMemory, IsLastMemory, IsNextSizes, AreLastSizes, AreLeastBlocks, IsNextPoint, IsLastPoint}
+use Rattle.points.proofs.Common.{◌≡◌, ℕ, zero, suc, ◌+◌, ◌-◌, ◌*◌, ◌^◌, ◌<◌, List, [], ◌∷◌, ◌++◌, length, take, replicate, refl, ap, ◌∙◌, arith, append_assoc, flat_map, Value, MemoryBlock, Layout, Point, Shape, number_of, BlocksFit, WordsFit, IsOfShape, args_code, places_code, code_of, IsChain, AreSizes, IsNextWords, IsLastWords, IsNextArgs, IsLastArgs, sizes_in, IsNextMemory, IsLastMemory, IsNextSizes, AreLastSizes, AreLeastBlocks, IsNextPoint, IsLastPoint}
 use Rattle.points.proofs.Order.{Digits, IsNextIn, IsLastIn, IsFirstIn, HaveDigits, next_in_back, next_in_front, last_in_both}
 use Rattle.points.proofs.Words.{WordsFit-length, WordsFit-digits, zeros_fit, number_of-zeros}
 use Rattle.points.proofs.Args.{digits_of, args_digits, Digits-append}

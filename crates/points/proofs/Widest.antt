@@ -1,20 +1,9 @@
 -- No choice is wider than 64 bits.
-use Rattle.std.proofs.Common.{ℕ, zero, suc, ◌^◌, ◌≤◌, List, [], ◌∷◌, Some, None, arith}
-use Rattle.std.specs.List.{flat_map}
-use Rattle.std.proofs.Math.Pow.{pow_mono}
-use Rattle.ir_tree.specs.declared.tree.IrType.{IrType}
+use Rattle.points.proofs.Common.{ℕ, zero, suc, ◌^◌, ◌≤◌, List, [], ◌∷◌, Some, None, arith, flat_map, pow_mono, IrType, Inst, Binary, Icmp, Cast, Select, Freeze, Alloca, Load, Store, GetElementPtr, Terminator, Block, Function, WordsFit, undef_type, word_widths, inst_widths, widths_of, end_widths, block_widths, widest, widest_choice}
 use Rattle.ir_tree.specs.declared.tree.IrType.TheVariants as type
 use Rattle.ir_tree.specs.declared.tree.Operand.{Operand}
 use Rattle.ir_tree.specs.declared.tree.Operand.TheVariants as operand
-use Rattle.ir_tree.specs.declared.tree.Inst.{Inst}
-use Rattle.ir_tree.specs.declared.tree.Inst.TheVariants.{Binary, Icmp, Cast, Select, Freeze, Alloca, Load, Store, GetElementPtr}
-use Rattle.ir_tree.specs.declared.tree.Terminator.{Terminator}
 use Rattle.ir_tree.specs.declared.tree.Terminator.TheVariants as terminator
-use Rattle.ir_tree.specs.declared.tree.Block.{Block}
-use Rattle.ir_tree.specs.declared.tree.Function.{Function}
-use Rattle.points.specs.Code.{WordsFit}
-use Rattle.points.specs.Run.{undef_type}
-use Rattle.points.specs.Tapes.{word_widths, inst_widths, widths_of, end_widths, block_widths, widest, widest_choice}
 use Rattle.points.proofs.Plain.{widest-append}
 
 choice_small : (type : IrType) → widest (word_widths type) ≤ 64

@@ -1,12 +1,5 @@
 -- Reading the numbers of a chain.
-use Rattle.std.proofs.Common.{ℕ, ◌≡◌, ◌<◌, ◌⊎◌, List, [], ◌∷◌, ◌++◌, get_or, codes, Contains, append_assoc, append-nil, subst, sym, ap, ◌∙◌, refl, inl, inr, ⊎_elim, arith}
-use Rattle.std.specs.Fmt.{decimal}
-use Rattle.std.specs.List.{flat_map}
-use Rattle.std.proofs.lemmas.Fmt.{decimal_injective, first_decimal}
-use Rattle.std.proofs.lemmas.Grind.{flat_map-append}
-use Rattle.std.proofs.lemmas.List.Elements.{All-contains, All-head, All-push, All-tail, Contains-append_right}
-use Rattle.proof_text.specs.Format.{IsSmall, spaced}
-use Rattle.proof_text.specs.Words.{IsChain, Parts, chain_text}
+use Rattle.proof_text.proofs.Common.{ℕ, ◌≡◌, ◌<◌, ◌⊎◌, List, [], ◌∷◌, ◌++◌, get_or, codes, Contains, append_assoc, append-nil, subst, sym, ap, ◌∙◌, refl, inl, inr, ⊎_elim, arith, decimal, flat_map, decimal_injective, first_decimal, flat_map-append, All-contains, All-head, All-push, All-tail, Contains-append_right, IsSmall, spaced, IsChain, Parts, chain_text}
 use Rattle.proof_text.proofs.Numbers.{free_decimal}
 use Rattle.proof_text.proofs.Splits.{contains_it, first_or_later, here, parted, same_parts}
 

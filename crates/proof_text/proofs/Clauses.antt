@@ -1,13 +1,5 @@
 -- Reading the literals of a clause.
-use Rattle.std.proofs.Common.{ℕ, ◌≡◌, ◌<◌, ◌≤◌, ◌^◌, Bool, true, false, cond, List, [], ◌∷◌, ◌++◌, codes, drop, get_or, All, Contains, append_assoc, append-nil, subst, sym, ap, ap₂, ◌∙◌, refl, ⊎_elim, arith}
-use Rattle.std.specs.Fmt.{decimal}
-use Rattle.std.specs.List.{flat_map}
-use Rattle.std.proofs.lemmas.Fmt.{decimal_injective}
-use Rattle.std.proofs.lemmas.Grind.{flat_map-append}
-use Rattle.std.proofs.lemmas.List.Elements.{All-contains, All-head, All-tail, Contains-append_right}
-use Rattle.clause_lits.specs.declared.lit.Lit.{Lit}
-use Rattle.proof_text.specs.Format.{IsClauseOver, IsSmall, clause_line, literal_text, spaced}
-use Rattle.proof_text.specs.Words.{Parts}
+use Rattle.proof_text.proofs.Common.{ℕ, ◌≡◌, ◌<◌, ◌≤◌, ◌^◌, Bool, true, false, cond, List, [], ◌∷◌, ◌++◌, codes, drop, get_or, All, Contains, append_assoc, append-nil, subst, sym, ap, ap₂, ◌∙◌, refl, ⊎_elim, arith, decimal, flat_map, decimal_injective, flat_map-append, All-contains, All-head, All-tail, Contains-append_right, Lit, IsClauseOver, IsSmall, clause_line, literal_text, spaced, Parts}
 use Rattle.proof_text.proofs.Numbers.{free_decimal}
 use Rattle.proof_text.proofs.Splits.{contains_it, first_or_later, here, parted, same_parts}
 

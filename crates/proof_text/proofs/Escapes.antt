@@ -1,11 +1,5 @@
 -- Reading what is printed of a word.
-use Rattle.std.proofs.Common.{ℕ, ◌≡◌, ◌⊎◌, ◌<◌, ◌≤◌, ◌/◌, ◌%◌, Bool, true, false, cond, List, [], ◌∷◌, ◌++◌, length, get_or, drop, All, Contains, append_assoc, append-nil, subst, sym, ap, ◌∙◌, refl, inl, inr, arith, true≢false, Option, Some, None, Bor, IfSome, MatchOption}
-use Rattle.std.specs.List.{flat_map}
-use Rattle.std.proofs.lemmas.List.Elements.{All-contains, Contains-append_right}
-use Rattle.std.proofs.lemmas.Bool.Decides.{nat_tests}
-use Rattle.std.proofs.lemmas.List.{append_cancel_right}
-use Rattle.ir_tree.specs.declared.name.Name.TheVariants.{Word}
-use Rattle.ir_naming.specs.Naming.{escaped, hex_byte, hex_digit, is_bare, is_plain, name_text, quoted}
+use Rattle.proof_text.proofs.Common.{ℕ, ◌≡◌, ◌⊎◌, ◌<◌, ◌≤◌, ◌/◌, ◌%◌, Bool, true, false, cond, List, [], ◌∷◌, ◌++◌, length, get_or, drop, All, Contains, append_assoc, append-nil, subst, sym, ap, ◌∙◌, refl, inl, inr, arith, true≢false, Option, Some, None, Bor, IfSome, MatchOption, flat_map, All-contains, Contains-append_right, nat_tests, append_cancel_right, Word, escaped, hex_byte, hex_digit, is_bare, is_plain, name_text, quoted}
 use Rattle.proof_text.proofs.Splits.{here}
 
 plain_is : (b : ℕ) → is_plain b ≡ true → b ≡ 92 → ⊥

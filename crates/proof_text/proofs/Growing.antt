@@ -1,11 +1,6 @@
 -- A text of parts, and one part more.
-use Rattle.std.proofs.Common.{ℕ, ◌≡◌, Bool, List, [], ◌∷◌, ◌++◌, append_assoc, append-nil, codes, sym, ap, ◌∙◌}
-use Rattle.std.specs.List.{flat_map}
-use Rattle.std.proofs.lemmas.Grind.{flat_map-append}
-use Rattle.std.proofs.lemmas.List.Elements.{All-push}
+use Rattle.proof_text.proofs.Common.{ℕ, ◌≡◌, Bool, List, [], ◌∷◌, ◌++◌, append_assoc, append-nil, codes, sym, ap, ◌∙◌, flat_map, flat_map-append, All-push, Part, IsPart, IsProof, cert_lines, ended, part_lines, part_of, proof_lines, row_line}
 use Rattle.clause_log.specs.declared.step.Cert.{Cert}
-use Rattle.proof_text.specs.declared.part.Part.{Part}
-use Rattle.proof_text.specs.Format.{IsPart, IsProof, cert_lines, ended, part_lines, part_of, proof_lines, row_line}
 
 lines_more : (parts : List Part) (p : Part) → proof_lines (parts ++ p ∷ []) ≡ proof_lines parts ++ part_lines p
 lines_more parts p =

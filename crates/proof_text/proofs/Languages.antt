@@ -1,19 +1,8 @@
 -- The lines that may follow, from position to position.
-use Rattle.std.proofs.Common.{ℕ, ◌≡◌, ◌<◌, ◌≤◌, ◌-◌, Bool, true, false, List, [], ◌∷◌, ◌++◌, length, map, codes, replicate, All, Contains, append_assoc, subst, sym, ap, ap₂, ◌∙◌, refl, arith}
-use Rattle.std.specs.Fmt.{decimal}
-use Rattle.std.specs.List.{flat_map}
-use Rattle.std.proofs.lemmas.Fmt.{decimal_injective}
-use Rattle.std.proofs.lemmas.List.{append_cancel_left, append_cancel_right, length-replicate, same_from_push}
-use Rattle.std.proofs.lemmas.List.Elements.{All-cons, All-head, All-nil, All-replicate, All-tail, All-weaker}
-use Rattle.clause_lits.specs.declared.lit.Lit.{Lit}
+use Rattle.proof_text.proofs.Common.{ℕ, ◌≡◌, ◌<◌, ◌≤◌, ◌-◌, Bool, true, false, List, [], ◌∷◌, ◌++◌, length, map, codes, replicate, All, Contains, append_assoc, subst, sym, ap, ap₂, ◌∙◌, refl, arith, decimal, flat_map, decimal_injective, append_cancel_left, append_cancel_right, length-replicate, same_from_push, All-cons, All-head, All-nil, All-replicate, All-tail, All-weaker, Lit, Step, Part, IsClauseOver, IsPart, IsPrintedName, IsSmall, IsStepOver, clause_line, counts_line, log_line, part_lines, row_line, status_text, step_line, Clauses, Counts, File, Leads, Lines, Log, Rows, Steps, Parts}
 use Rattle.clause_lits.specs.Meaning.{AreWithin, RisesFrom}
-use Rattle.clause_log.specs.declared.step.Step.{Step}
-use Rattle.proof_text.specs.declared.part.Part.{Part}
-use Rattle.proof_text.specs.Format.{IsClauseOver, IsPart, IsPrintedName, IsSmall, IsStepOver, clause_line, counts_line, log_line, part_lines, row_line, status_text, step_line}
-use Rattle.proof_text.specs.Following.{Clauses, Counts, File, Leads, Lines, Log, Rows, Steps}
 use Rattle.proof_text.proofs.Numbers.{free_decimal}
 use Rattle.proof_text.proofs.Splits.{parted, same_parts}
-use Rattle.proof_text.specs.Words.{Parts}
 
 -- ---- samples
 

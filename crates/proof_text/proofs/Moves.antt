@@ -1,12 +1,7 @@
 -- Reading one after another.
-use Rattle.std.proofs.Common.{ℕ, ◌≡◌, ◌<◌, List, [], ◌∷◌, ◌++◌, length, map, Contains, append_assoc, append-nil, subst, sym, ap, ◌∙◌, refl, inl, inr, ⊎_elim, arith}
-use Rattle.std.proofs.lemmas.Grind.{flat_map-append}
-use Rattle.std.proofs.lemmas.List.{map-append}
+use Rattle.proof_text.proofs.Common.{ℕ, ◌≡◌, ◌<◌, List, [], ◌∷◌, ◌++◌, length, map, Contains, append_assoc, append-nil, subst, sym, ap, ◌∙◌, refl, inl, inr, ⊎_elim, arith, flat_map-append, map-append, ended, IsStopped, IsStuck, IsWrong, Leads, Lines, Moves, Parts}
 use Rattle.proof_text.specs.declared.part.Stop.{Stop}
 use Rattle.proof_text.specs.declared.part.Stop.TheVariants.{NoMemory, At}
-use Rattle.proof_text.specs.Format.{ended}
-use Rattle.proof_text.specs.Following.{IsStopped, IsStuck, IsWrong, Leads, Lines, Moves}
-use Rattle.proof_text.specs.Words.{Parts}
 use Rattle.proof_text.proofs.Languages.{Some_lines}
 
 pub leads_then : (A B C : Lines → Type 0) (s t : Lines) → Leads A s B → Leads B t C → Leads A (s ++ t) C

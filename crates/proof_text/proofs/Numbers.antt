@@ -1,17 +1,11 @@
 -- Digits and the numbers that have them.
-use Rattle.std.proofs.Common.{ℕ, ◌≡◌, ◌<◌, ◌^◌, true, List, [], ◌∷◌, length, get_or, slice_get, All, Contains, Some, None, Ok, Err, Result, MatchResult, subst, sym, ap, ◌∙◌, ⊎_elim, arith, eq-zero-or-pos}
-use Rattle.std.specs.Fmt.{decimal}
+use Rattle.proof_text.proofs.Common.{ℕ, ◌≡◌, ◌<◌, ◌^◌, true, List, [], ◌∷◌, length, get_or, slice_get, All, Contains, Some, None, Ok, Err, Result, MatchResult, subst, sym, ap, ◌∙◌, ⊎_elim, arith, eq-zero-or-pos, decimal, IsAscii-from_digits, decimal-digits_value, decimal_digit, decimal_is_IsNumeral, decimal_nonempty, first_decimal, parse-decimal, All-contains, All-from_get_or, nat_tests, is_digit, IsPrintedNumber}
 use Rattle.std.specs.Int.{IsInRange}
 use Rattle.std.specs.Result.{result_ok}
 use Rattle.std.specs.Str.{IsUtf8}
 use Rattle.std.specs.Str.Parse.{AllDigits, ParsesUnsigned, digits_value}
 use Rattle.std.proofs.lemmas.Str.Parse.{IsNumeralModel, numerals_by_value, parse_digits, tells_by_index, tells_digits, digit_at}
-use Rattle.std.proofs.lemmas.Fmt.{IsAscii-from_digits, decimal-digits_value, decimal_digit, decimal_is_IsNumeral, decimal_nonempty, first_decimal, parse-decimal}
 use Rattle.std.proofs.lemmas.Str.{IsUtf8-from_ascii}
-use Rattle.std.proofs.lemmas.List.Elements.{All-contains, All-from_get_or}
-use Rattle.std.proofs.lemmas.Bool.Decides.{nat_tests}
-use Rattle.ir_naming.specs.Naming.{is_digit}
-use Rattle.proof_text.specs.Format.{IsPrintedNumber}
 
 digit_range : (b : ℕ) → is_digit b ≡ true → IsInRange 48 57 b
 digit_range b h = grind (arith, nat_tests)

@@ -1,13 +1,5 @@
 -- A text has one list of parts, but for their `front`.
-use Rattle.std.proofs.Common.{ℕ, ◌≡◌, List, [], ◌∷◌, ◌++◌, length, map, codes, All, sym, ap₂, ◌∙◌, refl, arith}
-use Rattle.std.specs.List.{flat_map}
-use Rattle.std.proofs.lemmas.List.{append_cancel_left}
-use Rattle.std.proofs.lemmas.List.Elements.{All-head, All-tail}
-use Rattle.clause_lits.specs.declared.lit.Lit.{Lit}
-use Rattle.clause_log.specs.declared.step.Step.{Step}
-use Rattle.proof_text.specs.declared.part.Part.{Part}
-use Rattle.proof_text.specs.Following.{Lines}
-use Rattle.proof_text.specs.Format.{IsClauseOver, IsPart, IsSmall, IsStepOver, clause_line, counts_line, log_line, part_lines, proof_lines, row_line, status_text, step_line}
+use Rattle.proof_text.proofs.Common.{ℕ, ◌≡◌, List, [], ◌∷◌, ◌++◌, length, map, codes, All, sym, ap₂, ◌∙◌, refl, arith, flat_map, append_cancel_left, All-head, All-tail, Lit, Step, Part, Lines, IsClauseOver, IsPart, IsSmall, IsStepOver, clause_line, counts_line, log_line, part_lines, proof_lines, row_line, status_text, step_line}
 use Rattle.proof_text.specs.OneReading.{AreSameButFronts, IsSameButFront, PartsAreOne}
 use Rattle.proof_text.proofs.Chains.{same_chain}
 use Rattle.proof_text.proofs.Clauses.{same_clause}

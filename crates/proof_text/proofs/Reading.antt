@@ -1,11 +1,5 @@
 -- Reading a part, and the parts one after another.
-use Rattle.std.proofs.Common.{ℕ, ◌≡◌, ◌<◌, List, [], ◌∷◌, ◌++◌, length, map, codes, All, append-nil, length-append, subst, sym, ap, ◌∙◌, arith}
-use Rattle.std.specs.List.{flat_map}
-use Rattle.std.proofs.lemmas.Grind.{flat_map-append}
-use Rattle.clause_lits.specs.declared.lit.Lit.{Lit}
-use Rattle.proof_text.specs.declared.part.Part.{Part}
-use Rattle.proof_text.specs.Format.{IsClauseOver, IsPart, IsPrintedName, IsSmall, IsStepOver, clause_line, counts_line, ended, log_line, part_lines, proof_lines, row_line, step_line}
-use Rattle.proof_text.specs.Following.{Clauses, Counts, File, Lines, Log, Moves, Rows, Steps}
+use Rattle.proof_text.proofs.Common.{ℕ, ◌≡◌, ◌<◌, List, [], ◌∷◌, ◌++◌, length, map, codes, All, append-nil, length-append, subst, sym, ap, ◌∙◌, arith, flat_map, flat_map-append, Lit, Part, IsClauseOver, IsPart, IsPrintedName, IsSmall, IsStepOver, clause_line, counts_line, ended, log_line, part_lines, proof_lines, row_line, step_line, Clauses, Counts, File, Lines, Log, Moves, Rows, Steps}
 use Rattle.proof_text.proofs.Moves.{moves_then}
 
 pub part_fits : (p : Part) (v n k : ℕ) (cs : List (List Lit)) → p.cert.cnf.variables ≡ v → p.cert.cnf.clauses ≡ cs → IsPrintedName p.name → IsSmall v → IsSmall n → IsSmall k → length cs ≡ n → length p.cert.log ≡ k → All (IsClauseOver v) cs → All (IsStepOver v) p.cert.log → IsPart p

@@ -1,7 +1,5 @@
 -- Texts that are parted at the first byte of a kind.
-use Rattle.std.proofs.Common.{ℕ, zero, suc, ◌≡◌, ◌<◌, ◌⊎◌, List, [], ◌∷◌, ◌++◌, length, slice_index_or, length-append, Contains, subst, sym, ap, ◌∙◌, refl, inl, inr, arith}
-use Rattle.std.proofs.lemmas.List.Elements.{Contains-append_right}
-use Rattle.proof_text.specs.Words.{Parts}
+use Rattle.proof_text.proofs.Common.{ℕ, zero, suc, ◌≡◌, ◌<◌, ◌⊎◌, List, [], ◌∷◌, ◌++◌, length, slice_index_or, length-append, Contains, subst, sym, ap, ◌∙◌, refl, inl, inr, arith, Contains-append_right, Parts}
 
 -- a list contains its first item
 pub here : {X : Type 0} (x : X) (xs : List X) → Contains (x ∷ xs) x

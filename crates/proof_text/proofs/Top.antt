@@ -1,16 +1,6 @@
 -- From the lines of a file to its text.
-use Rattle.std.proofs.Common.{ℕ, ◌≡◌, ◌≢◌, ◌⊎◌, ◌<◌, ◌≤◌, ◌+◌, ◌-◌, ◌==◌, ◌/◌, ◌%◌, ◌&&◌, ◌||◌, Bool, true, false, cond, not, eqb, List, [], ◌∷◌, ◌++◌, length, map, take, codes, All, Contains, count_by, ne_eqb, sum_by, append_assoc, append-nil, length-append, take_at, subst, sym, ap, ap₂, ◌∙◌, refl, inl, inr, ⊎_elim, arith}
-use Rattle.std.specs.Fmt.{decimal}
-use Rattle.std.specs.List.{flat_map, list_all, list_any}
-use Rattle.std.proofs.lemmas.Bool.Decides.{nat_tests}
+use Rattle.proof_text.proofs.Common.{ℕ, ◌≡◌, ◌≢◌, ◌⊎◌, ◌<◌, ◌≤◌, ◌+◌, ◌-◌, ◌==◌, ◌/◌, ◌%◌, ◌&&◌, ◌||◌, Bool, true, false, cond, not, eqb, List, [], ◌∷◌, ◌++◌, length, map, take, codes, All, Contains, count_by, ne_eqb, sum_by, append_assoc, append-nil, length-append, take_at, subst, sym, ap, ap₂, ◌∙◌, refl, inl, inr, ⊎_elim, arith, decimal, flat_map, list_all, list_any, nat_tests, All-append, All-cons, All-contains, All-head, All-map, All-nil, All-tail, All-weaker, Contains-append_cases, Contains-append_right, Lit, Step, escaped, hex_byte, hex_digit, is_bare, is_digit, is_name_byte, is_plain, quoted, Part, IsClauseOver, IsPart, IsPrintedName, IsProof, IsSmall, IsStepOver, clause_line, counts_line, ended, literal_text, log_line, part_lines, proof_lines, row_line, spaced, status_text, step_line, File, IsStuck, IsWrong, Lines}
 use Rattle.std.proofs.lemmas.List.Sums.{sum_by-append, sum_by-cons}
-use Rattle.std.proofs.lemmas.List.Elements.{All-append, All-cons, All-contains, All-head, All-map, All-nil, All-tail, All-weaker, Contains-append_cases, Contains-append_right}
-use Rattle.clause_lits.specs.declared.lit.Lit.{Lit}
-use Rattle.clause_log.specs.declared.step.Step.{Step}
-use Rattle.ir_naming.specs.Naming.{escaped, hex_byte, hex_digit, is_bare, is_digit, is_name_byte, is_plain, quoted}
-use Rattle.proof_text.specs.declared.part.Part.{Part}
-use Rattle.proof_text.specs.Format.{IsClauseOver, IsPart, IsPrintedName, IsProof, IsSmall, IsStepOver, clause_line, counts_line, ended, literal_text, log_line, part_lines, proof_lines, row_line, spaced, status_text, step_line}
-use Rattle.proof_text.specs.Following.{File, IsStuck, IsWrong, Lines}
 use Rattle.proof_text.specs.FirstFault.{Begin, IsCutShort, IsFirstFault, IsWrongLine}
 use Rattle.proof_text.proofs.Numbers.{free_decimal}
 use Rattle.proof_text.proofs.Splits.{contains_it, first_or_later, here, parted}

@@ -1,30 +1,8 @@
 -- The tokens of a printed function stay apart.
-use Rattle.std.proofs.Common.{◌≡◌, ℕ, ◌+◌, Bool, true, false, List, [], ◌∷◌, ◌++◌, length, Option, Some, None, refl, subst, append-nil}
+use Rattle.read_back.proofs.Common.{◌≡◌, ℕ, ◌+◌, Bool, true, false, List, [], ◌∷◌, ◌++◌, length, Option, Some, None, refl, subst, append-nil, list_all, flat_map, AllByRecursion, is_blank, class_of, one_bit, Name, IrType, Int, WrittenEntry, WrittenPhi, WrittenCase, WrittenReturn, Void, Value, WrittenTerminator, WrittenBody, WrittenBlock, WrittenFunction, NamedParameter, named_behind, entry_name, Piece, text_of, ends_token, AreApart, none, space, line, indented, word, mark, number, comma, local, global, label, width_text, type_text, word_if, return_text}
 use Rattle.std.specs.Prelude.{codes}
-use Rattle.std.specs.List.{list_all, flat_map, AllByRecursion}
 use Rattle.ir_lexer.specs.declared.token.Kind.TheVariants as kind
-use Rattle.ir_lexer.specs.Bytes.{is_blank}
-use Rattle.ir_lexer.specs.Spelling.{class_of}
-use Rattle.ir_tree.specs.Types.{one_bit}
-use Rattle.ir_tree.specs.declared.name.Name.{Name}
-use Rattle.ir_tree.specs.declared.tree.IrType.{IrType}
-use Rattle.ir_tree.specs.declared.tree.IrType.TheVariants.{Int}
-use Rattle.ir_grammar.specs.declared.written.WrittenEntry.{WrittenEntry}
-use Rattle.ir_grammar.specs.declared.written.WrittenPhi.{WrittenPhi}
-use Rattle.ir_grammar.specs.declared.written.WrittenCase.{WrittenCase}
-use Rattle.ir_grammar.specs.declared.written.WrittenReturn.{WrittenReturn}
-use Rattle.ir_grammar.specs.declared.written.WrittenReturn.TheVariants.{Void, Value}
-use Rattle.ir_grammar.specs.declared.written.WrittenTerminator.{WrittenTerminator}
 use Rattle.ir_grammar.specs.declared.written.WrittenTerminator.TheVariants as end
-use Rattle.ir_grammar.specs.declared.written.WrittenBody.{WrittenBody}
-use Rattle.ir_grammar.specs.declared.written.WrittenBlock.{WrittenBlock}
-use Rattle.ir_grammar.specs.declared.written.WrittenFunction.{WrittenFunction}
-use Rattle.ir_numbering.specs.declared.numbering.NamedParameter.{NamedParameter}
-use Rattle.ir_numbering.specs.Numbering.{named_behind, entry_name}
-use Rattle.token_text.specs.Pieces.{Piece, text_of, ends_token, AreApart}
-use Rattle.ir_printer.specs.Pieces.{none, space, line, indented, word, mark, number, comma, local, global, label, width_text, type_text}
-use Rattle.ir_printer.specs.Instructions.{word_if}
-use Rattle.ir_printer.specs.ModuleText.{return_text}
 use Rattle.read_back.proofs.Written.{value_piece, target, result_pieces, inst_pieces, entry_pieces, entries_pieces, phi_pieces, case_pieces, returned_pieces, terminator_pieces, body_pieces, block_pieces, parameter_pieces, parameters_pieces, written_pieces}
 use Rattle.read_back.proofs.Spellable.{IsName, IsEntry, IsPhi, IsCase, IsReturned, IsTerminator, IsBody, body_size, AreBlocks, IsSpellable}
 use Rattle.read_back.proofs.ApartLinks.{gap-alone, Stands, Links, nothing-links, links-append, stands-append, token-stands, free-links, mark-links}

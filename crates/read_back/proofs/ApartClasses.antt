@@ -1,19 +1,10 @@
 -- The classes of what is printed of names, numbers and types.
-use Rattle.std.proofs.Common.{◌≡◌, ℕ, ◌+◌, ◌<◌, ◌^◌, ◌%◌, ◌/◌, Bool, true, false, not, eqb, ◌||◌, List, [], ◌∷◌, ◌++◌, Some, refl, ap, ◌∙◌, append_assoc, inl, inr, arith}
-use Rattle.std.specs.List.{list_all, flat_map}
-use Rattle.std.specs.Fmt.{decimal}
-use Rattle.std.proofs.lemmas.Bool.{cases_Bool, and_parts}
-use Rattle.std.proofs.lemmas.Bool.Decides.{nat_tests}
-use Rattle.std.proofs.lemmas.Fmt.{decimal_by_steps}
+use Rattle.read_back.proofs.Common.{◌≡◌, ℕ, ◌+◌, ◌<◌, ◌^◌, ◌%◌, ◌/◌, Bool, true, false, eqb, List, [], ◌∷◌, ◌++◌, Some, refl, ap, ◌∙◌, append_assoc, inl, inr, arith, list_all, flat_map, decimal, cases_Bool, and_parts, nat_tests, decimal_by_steps, is_digit, begins_word, is_name_byte, begins_name, is_inside_quotes, is_mark_byte, nothing, byte, behind, many, is_digits, is_number, is_word, is_quoted, is_plain_name, is_name, is_word_or_number, is_label, is_mark, class_of, Name, escaped, hex_digit, is_bare, is_plain, name_text}
+use Rattle.std.proofs.Common.{not, ◌||◌}
 use Rattle.ir_lexer.specs.declared.token.Kind.TheVariants as kind
-use Rattle.ir_lexer.specs.Bytes.{is_digit, begins_word, is_name_byte, begins_name, is_inside_quotes, is_mark_byte}
-use Rattle.ir_lexer.specs.Parts.{nothing, byte, behind, many}
 use Rattle.ir_lexer.specs.Spelling as spelling
-use Rattle.ir_lexer.specs.Spelling.{is_digits, is_number, is_word, is_quoted, is_plain_name, is_name, is_word_or_number, is_label, is_mark, class_of}
-use Rattle.ir_tree.specs.declared.name.Name.{Name}
 use Rattle.ir_tree.specs.declared.name.Name.TheVariants as name
 use Rattle.ir_naming.specs.Naming as naming
-use Rattle.ir_naming.specs.Naming.{escaped, hex_digit, is_bare, is_plain, name_text}
 
 -- ---- decimal numbers
 

@@ -1,29 +1,12 @@
 -- The tokens of printed instructions stay apart.
-use Rattle.std.proofs.Common.{◌≡◌, ℕ, ◌+◌, true, false, List, [], ◌∷◌, ◌++◌, Some, refl}
+use Rattle.read_back.proofs.Common.{◌≡◌, ℕ, ◌+◌, true, false, List, [], ◌∷◌, ◌++◌, Some, refl, flat_map, Contains, AllByRecursion, Width, class_of, one_bit, alignments, Flags, Op, Cast, Predicate, Int, WrittenValue, WrittenAccess, WrittenIndex, WrittenInst, Piece, space, indented, word, number, comma, width_text, type_text, object_pieces, word_if, flag_pieces, op_pieces, predicate_text, cast_pieces, align_pieces}
 use Rattle.std.specs.Prelude.{codes}
-use Rattle.std.specs.List.{flat_map, Contains, AllByRecursion}
-use Rattle.tv_num.specs.declared.Width.{Width}
 use Rattle.ir_lexer.specs.declared.token.Kind.TheVariants as kind
-use Rattle.ir_lexer.specs.Spelling.{class_of}
-use Rattle.ir_tree.specs.Types.{one_bit}
-use Rattle.ir_tree.specs.Limits.{alignments}
-use Rattle.ir_tree.specs.declared.tree.Flags.{Flags}
-use Rattle.ir_tree.specs.declared.tree.Op.{Op}
 use Rattle.ir_tree.specs.declared.tree.Op.TheVariants as op
-use Rattle.ir_tree.specs.declared.tree.Cast.{Cast}
 use Rattle.ir_tree.specs.declared.tree.Cast.TheVariants as cast
-use Rattle.ir_tree.specs.declared.tree.Predicate.{Predicate}
 use Rattle.ir_tree.specs.declared.tree.Predicate.TheVariants as predicate
-use Rattle.ir_tree.specs.declared.tree.IrType.TheVariants.{Int}
-use Rattle.ir_grammar.specs.declared.written.WrittenValue.{WrittenValue}
-use Rattle.ir_grammar.specs.declared.written.WrittenAccess.{WrittenAccess}
 use Rattle.ir_grammar.specs.declared.written.WrittenAccess.TheVariants as access
-use Rattle.ir_grammar.specs.declared.written.WrittenIndex.{WrittenIndex}
-use Rattle.ir_grammar.specs.declared.written.WrittenInst.{WrittenInst}
 use Rattle.ir_grammar.specs.declared.written.WrittenInst.TheVariants as inst
-use Rattle.token_text.specs.Pieces.{Piece}
-use Rattle.ir_printer.specs.Pieces.{space, indented, word, number, comma, width_text, type_text, object_pieces}
-use Rattle.ir_printer.specs.Instructions.{word_if, flag_pieces, op_pieces, predicate_text, cast_pieces, align_pieces}
 use Rattle.read_back.proofs.Written.{value_piece, typed_pieces, pointer_pieces, result_pieces, operand_pieces, index_pieces, access_pieces, inst_pieces}
 use Rattle.read_back.proofs.Spellable.{FitsValue, IsAccess, IsIndex, IsInst, AreInsts}
 use Rattle.read_back.proofs.ApartLinks.{Links, nothing-links, links-append, free-links}

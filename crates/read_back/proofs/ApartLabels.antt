@@ -1,15 +1,9 @@
 -- The class of a name with a colon after it.
-use Rattle.std.proofs.Common.{◌≡◌, ℕ, Bool, true, false, eqb, ◌||◌, List, [], ◌∷◌, ◌++◌, Some, refl, ap, ◌∙◌, append_assoc, inl, inr, arith}
-use Rattle.std.specs.List.{list_all, flat_map}
-use Rattle.std.proofs.lemmas.Bool.{cases_Bool, and_parts, and_right}
-use Rattle.std.proofs.lemmas.Bool.Decides.{nat_tests}
+use Rattle.read_back.proofs.Common.{◌≡◌, ℕ, Bool, true, false, eqb, List, [], ◌∷◌, ◌++◌, Some, refl, ap, ◌∙◌, append_assoc, inl, inr, arith, list_all, flat_map, cases_Bool, and_parts, and_right, nat_tests, is_digit, begins_word, is_name_byte, begins_name, is_mark_byte, nothing, byte, many, maybe, is_digits, is_number, is_word, is_quoted, is_plain_name, is_name, is_word_or_number, is_label, is_mark, class_of, Name, escaped, is_bare, name_text}
+use Rattle.std.proofs.Common.{◌||◌}
 use Rattle.ir_lexer.specs.declared.token.Kind.TheVariants as kind
-use Rattle.ir_lexer.specs.Bytes.{is_digit, begins_word, is_name_byte, begins_name, is_mark_byte}
-use Rattle.ir_lexer.specs.Parts.{nothing, one, byte, many, maybe}
-use Rattle.ir_lexer.specs.Spelling.{is_digits, is_number, is_word, is_quoted, is_plain_name, is_name, is_word_or_number, is_label, is_mark, class_of}
-use Rattle.ir_tree.specs.declared.name.Name.{Name}
+use Rattle.ir_lexer.specs.Parts.{one}
 use Rattle.ir_tree.specs.declared.name.Name.TheVariants as name
-use Rattle.ir_naming.specs.Naming.{escaped, is_bare, name_text}
 use Rattle.read_back.proofs.ApartClasses.{HasDigits, bare, digits-names, quoted-then}
 
 -- ---- tests that no bytes with a colon after them pass

@@ -1,12 +1,6 @@
 -- Tokens that stay apart, put together from their parts.
-use Rattle.std.proofs.Common.{◌≡◌, ℕ, true, List, [], ◌∷◌, ◌++◌, Some, refl, sym, ap, ◌∙◌, append_assoc, subst}
-use Rattle.std.specs.List.{list_all, flat_map, AllByRecursion}
-use Rattle.std.proofs.lemmas.Bool.{or_left}
-use Rattle.ir_lexer.specs.declared.token.Kind.{Kind}
+use Rattle.read_back.proofs.Common.{◌≡◌, ℕ, true, List, [], ◌∷◌, ◌++◌, Some, refl, sym, ap, ◌∙◌, append_assoc, subst, list_all, flat_map, AllByRecursion, or_left, Kind, is_blank, class_of, Piece, piece_text, text_of, is_separator, ends_token, is_separator_alone, is_ended, AreApart}
 use Rattle.ir_lexer.specs.declared.token.Kind.TheVariants as kind
-use Rattle.ir_lexer.specs.Bytes.{is_blank}
-use Rattle.ir_lexer.specs.Spelling.{class_of}
-use Rattle.token_text.specs.Pieces.{Piece, piece_text, text_of, is_separator, ends_token, is_separator_alone, is_ended, AreApart}
 
 -- a token of its class after blanks, which ends where other tokens end before it
 pub record IsToken (p : Piece) : Type 0 where

@@ -1,21 +1,7 @@
 -- The names that the language gives to what has none are names too.
-use Rattle.std.proofs.Common.{◌≡◌, ◌⊎◌, ℕ, ◌<◌, ◌≤◌, Bool, true, false, cond, eqb, ◌&&◌, nat_lt, List, [], ◌∷◌, ◌++◌, length, Option, Some, None, refl, sym, ap, ◌∙◌, subst, inl, inr, arith}
-use Rattle.std.specs.List.{list_all, AllByRecursion}
-use Rattle.std.proofs.lemmas.Bool.{cases_Bool, and_parts, lt-ltb}
-use Rattle.std.proofs.lemmas.Bool.Decides.{nat_tests}
-use Rattle.std.proofs.lemmas.List.Elements.{All-contains, All-from_recursion}
-use Rattle.ir_lexer.specs.Bytes.{is_digit}
-use Rattle.ir_items.specs.Names.{without_zeros}
-use Rattle.ir_tree.specs.declared.name.Name.{Name}
+use Rattle.read_back.proofs.Common.{◌≡◌, ◌⊎◌, ℕ, ◌<◌, ◌≤◌, Bool, true, false, cond, eqb, List, [], ◌∷◌, ◌++◌, length, Option, Some, None, refl, sym, ap, ◌∙◌, subst, inl, inr, arith, list_all, AllByRecursion, cases_Bool, and_parts, lt-ltb, nat_tests, All-contains, All-from_recursion, is_digit, without_zeros, Name, WrittenName, WrittenParameter, WrittenFunction, NamedParameter, AreDigits, IsDecimal, AreDecimal, next_name, name_or, names_of, named, named_behind, entry_name, next-name}
+use Rattle.std.proofs.Common.{◌&&◌, nat_lt}
 use Rattle.ir_tree.specs.declared.name.Name.TheVariants as name
-use Rattle.ir_grammar.specs.declared.written.WrittenName.{WrittenName}
-use Rattle.ir_grammar.specs.declared.written.WrittenParameter.{WrittenParameter}
-use Rattle.ir_grammar.specs.declared.written.WrittenFunction.{WrittenFunction}
-use Rattle.ir_numbering.specs.declared.numbering.NamedParameter.{NamedParameter}
-use Rattle.ir_numbering.specs.NextNumber.{AreDigits, IsDecimal, AreDecimal}
-use Rattle.ir_numbering.specs.EntryName.{next_name}
-use Rattle.ir_numbering.specs.Numbering.{name_or, names_of, named, named_behind, entry_name}
-use Rattle.ir_numbering.proofs.NextValue.{next-name}
 use Rattle.read_back.proofs.Spellable.{IsName, IsNameOrNone, IsParameter, IsSpellable}
 
 -- ---- digits

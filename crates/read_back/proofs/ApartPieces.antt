@@ -1,28 +1,10 @@
 -- Each printed token is of its class, and stays apart.
-use Rattle.std.proofs.Common.{◌≡◌, ℕ, ◌<◌, ◌≤◌, ◌^◌, Bool, true, false, ◌||◌, List, [], ◌∷◌, ◌++◌, Some, refl, arith}
-use Rattle.std.specs.Prelude.{codes, All}
-use Rattle.std.specs.List.{list_all, Contains, AllByRecursion}
-use Rattle.std.specs.Fmt.{decimal}
-use Rattle.std.proofs.Math.Nat.{pow-le-pow_right}
-use Rattle.std.proofs.lemmas.Bool.{or_right, and_parts}
-use Rattle.std.proofs.lemmas.List.Elements.{All-contains, All-from_recursion, recursion_from_All}
-use Rattle.tv_num.specs.declared.Width.{Width}
+use Rattle.read_back.proofs.Common.{◌≡◌, ℕ, ◌<◌, ◌≤◌, ◌^◌, Bool, true, false, List, [], ◌∷◌, ◌++◌, Some, refl, arith, All, list_all, Contains, AllByRecursion, decimal, pow-le-pow_right, or_right, and_parts, All-contains, All-from_recursion, recursion_from_All, Width, is_blank, class_of, alignments, Name, IrType, Int, Ptr, MemoryType, WrittenName, WrittenValue, WrittenTyped, Piece, is_separator, none, space, indented, word, mark, number, comma, local, global, label, width_text, type_text, array_pieces, closing_pieces, object_pieces, word_if, align_pieces}
+use Rattle.std.proofs.Common.{◌||◌}
+use Rattle.std.specs.Prelude.{codes}
 use Rattle.ir_lexer.specs.declared.token.Kind.TheVariants as kind
-use Rattle.ir_lexer.specs.Bytes.{is_blank}
-use Rattle.ir_lexer.specs.Spelling.{class_of}
-use Rattle.ir_tree.specs.Limits.{alignments}
-use Rattle.ir_tree.specs.declared.name.Name.{Name}
 use Rattle.ir_tree.specs.declared.name.Name.TheVariants as name
-use Rattle.ir_tree.specs.declared.tree.IrType.{IrType}
-use Rattle.ir_tree.specs.declared.tree.IrType.TheVariants.{Int, Ptr}
-use Rattle.ir_tree.specs.declared.tree.MemoryType.{MemoryType}
-use Rattle.ir_grammar.specs.declared.written.WrittenName.{WrittenName}
-use Rattle.ir_grammar.specs.declared.written.WrittenValue.{WrittenValue}
 use Rattle.ir_grammar.specs.declared.written.WrittenValue.TheVariants as value
-use Rattle.ir_grammar.specs.declared.written.WrittenTyped.{WrittenTyped}
-use Rattle.token_text.specs.Pieces.{Piece, is_separator}
-use Rattle.ir_printer.specs.Pieces.{none, space, indented, word, mark, number, comma, local, global, label, width_text, type_text, array_pieces, closing_pieces, object_pieces}
-use Rattle.ir_printer.specs.Instructions.{word_if, align_pieces}
 use Rattle.read_back.proofs.Written.{value_piece, typed_pieces, pointer_pieces, target, result_pieces}
 use Rattle.read_back.proofs.Spellable.{IsName, FitsValue, IsTyped, IsPointer, IsObject}
 use Rattle.read_back.proofs.ApartClasses.{HasDigits, decimal-digits, number-class, int_type-class, local-class, global-class}

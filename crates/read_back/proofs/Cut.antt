@@ -1,28 +1,8 @@
 -- The tokens of printed functions are cut into a define for each.
-use Rattle.std.proofs.Common.{◌≡◌, ℕ, suc, ◌+◌, ◌-◌, ◌<◌, ◌≤◌, Bool, true, false, List, [], ◌∷◌, ◌++◌, length, take, map, slice_range, Option, Some, None, refl, sym, ap, ◌∙◌, subst, append_assoc, append-nil, arith}
+use Rattle.read_back.proofs.Common.{◌≡◌, ℕ, suc, ◌+◌, ◌-◌, ◌<◌, ◌≤◌, Bool, true, false, List, [], ◌∷◌, ◌++◌, length, take, map, slice_range, Option, Some, None, refl, sym, ap, ◌∙◌, subst, append_assoc, append-nil, arith, flat_map, AllByRecursion, AllZip, IsDistinct, length-append, length-map, map-append, take_at, recursion_from_All, Kind, Lexeme, same_name, Name, IrType, Int, Ptr, name_text, Define, name_of, name_at, IsCut, WrittenFunction, named_behind, entry_name, Piece, spelled, none, space, line, word, mark, global, word_if, return_text}
 use Rattle.std.specs.Prelude.{codes}
-use Rattle.std.specs.List.{flat_map, AllByRecursion, AllZip, IsDistinct}
-use Rattle.std.proofs.lemmas.List.{length-append, length-map, map-append, take_at}
-use Rattle.std.proofs.lemmas.List.Elements.{recursion_from_All}
-use Rattle.ir_lexer.specs.declared.token.Kind.{Kind}
 use Rattle.ir_lexer.specs.declared.token.Kind.TheVariants as kind
-use Rattle.ir_lexer.specs.Lexeme.{Lexeme}
-use Rattle.ir_tree.specs.Names.{same_name}
-use Rattle.ir_tree.specs.declared.name.Name.{Name}
 use Rattle.ir_tree.specs.declared.name.Name.TheVariants as name
-use Rattle.ir_tree.specs.declared.tree.IrType.{IrType}
-use Rattle.ir_tree.specs.declared.tree.IrType.TheVariants.{Int, Ptr}
-use Rattle.ir_naming.specs.Naming.{name_text}
-use Rattle.ir_items.specs.declared.item.Define.{Define}
-use Rattle.ir_items.specs.Names.{name_of}
-use Rattle.ir_items.specs.Items.{name_at, IsCut}
-use Rattle.ir_grammar.specs.declared.written.WrittenFunction.{WrittenFunction}
-use Rattle.ir_numbering.specs.Numbering.{named_behind, entry_name}
-use Rattle.token_text.specs.Pieces.{Piece}
-use Rattle.token_text.specs.Laws.{spelled}
-use Rattle.ir_printer.specs.Pieces.{none, space, line, word, mark, global}
-use Rattle.ir_printer.specs.Instructions.{word_if}
-use Rattle.ir_printer.specs.ModuleText.{return_text}
 use Rattle.read_back.proofs.Written.{parameters_pieces, body_pieces, block_pieces, written_pieces}
 use Rattle.read_back.proofs.Spellable.{IsName, IsSpellable}
 use Rattle.read_back.proofs.CutNested.{Nested, mark_by}

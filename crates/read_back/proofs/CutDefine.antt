@@ -1,14 +1,8 @@
 -- A define, from the classes and bytes of its tokens.
-use Rattle.std.proofs.Common.{◌≡◌, ℕ, zero, suc, ◌+◌, ◌-◌, ◌<◌, Bool, true, false, ◌||◌, List, [], ◌∷◌, ◌++◌, length, take, map, Some, refl, sym, ap, ◌∙◌, append_assoc, arith}
+use Rattle.read_back.proofs.Common.{◌≡◌, ℕ, zero, suc, ◌+◌, ◌-◌, ◌<◌, Bool, true, false, List, [], ◌∷◌, ◌++◌, length, take, map, Some, refl, sym, ap, ◌∙◌, append_assoc, arith, AllByRecursion, bytes_eq, length-append, length-map, take_at, map-append, Kind, Lexeme, spelled, is_head_word, is_head, is_define, begins_item, is_called, is_brace, IsNamed, IsDefine}
+use Rattle.std.proofs.Common.{◌||◌}
 use Rattle.std.specs.Prelude.{codes}
-use Rattle.std.specs.List.{AllByRecursion}
-use Rattle.std.specs.Str.{bytes_eq}
-use Rattle.std.proofs.lemmas.List.{length-append, length-map, take_at, map-append}
-use Rattle.ir_lexer.specs.declared.token.Kind.{Kind}
 use Rattle.ir_lexer.specs.declared.token.Kind.TheVariants as kind
-use Rattle.ir_lexer.specs.Lexeme.{Lexeme}
-use Rattle.token_text.specs.Laws.{spelled}
-use Rattle.ir_items.specs.Items.{is_head_word, is_head, is_define, begins_item, is_called, is_brace, IsNamed, IsDefine}
 use Rattle.ir_items.proofs.Phases.{behind_parameters, parameters_end_balanced}
 use Rattle.read_back.proofs.CutNested.{left, Nested, nothing-nested, plain-nested, mark_by}
 use Rattle.read_back.proofs.CutPlaces.{At, at, marks-at, piece-at}

@@ -1,39 +1,12 @@
 -- The brackets of what is printed between a function's parentheses, and between its braces, close what they open.
-use Rattle.std.proofs.Common.{◌≡◌, ℕ, Bool, true, false, List, [], ◌∷◌, ◌++◌, map, refl, sym, ap, ◌∙◌, append_assoc, subst}
+use Rattle.read_back.proofs.Common.{◌≡◌, ℕ, Bool, true, false, List, [], ◌∷◌, ◌++◌, map, refl, sym, ap, ◌∙◌, append_assoc, subst, flat_map, map-append, Width, Name, Flags, Op, Cast, MemoryType, mark_in, opens, closes, WrittenName, WrittenValue, WrittenTyped, WrittenAccess, WrittenIndex, WrittenInst, WrittenEntry, WrittenPhi, WrittenCase, WrittenReturn, Void, Value, WrittenTerminator, WrittenBody, WrittenBlock, NamedParameter, Piece, none, space, indented, word, mark, number, comma, local, label, width_text, type_text, array_pieces, closing_pieces, object_pieces, word_if, flag_pieces, op_pieces, predicate_text, cast_pieces, align_pieces}
 use Rattle.std.specs.Prelude.{codes}
-use Rattle.std.specs.List.{flat_map}
-use Rattle.std.proofs.lemmas.List.{map-append}
-use Rattle.tv_num.specs.declared.Width.{Width}
-use Rattle.ir_tree.specs.declared.name.Name.{Name}
-use Rattle.ir_tree.specs.declared.tree.Flags.{Flags}
-use Rattle.ir_tree.specs.declared.tree.Op.{Op}
 use Rattle.ir_tree.specs.declared.tree.Op.TheVariants as op
-use Rattle.ir_tree.specs.declared.tree.Cast.{Cast}
 use Rattle.ir_tree.specs.declared.tree.Cast.TheVariants as cast
-use Rattle.ir_tree.specs.declared.tree.MemoryType.{MemoryType}
-use Rattle.ir_items.specs.Marks.{mark_in, opens, closes}
-use Rattle.ir_grammar.specs.declared.written.WrittenName.{WrittenName}
-use Rattle.ir_grammar.specs.declared.written.WrittenValue.{WrittenValue}
 use Rattle.ir_grammar.specs.declared.written.WrittenValue.TheVariants as value
-use Rattle.ir_grammar.specs.declared.written.WrittenTyped.{WrittenTyped}
-use Rattle.ir_grammar.specs.declared.written.WrittenAccess.{WrittenAccess}
 use Rattle.ir_grammar.specs.declared.written.WrittenAccess.TheVariants as access
-use Rattle.ir_grammar.specs.declared.written.WrittenIndex.{WrittenIndex}
-use Rattle.ir_grammar.specs.declared.written.WrittenInst.{WrittenInst}
 use Rattle.ir_grammar.specs.declared.written.WrittenInst.TheVariants as inst
-use Rattle.ir_grammar.specs.declared.written.WrittenEntry.{WrittenEntry}
-use Rattle.ir_grammar.specs.declared.written.WrittenPhi.{WrittenPhi}
-use Rattle.ir_grammar.specs.declared.written.WrittenCase.{WrittenCase}
-use Rattle.ir_grammar.specs.declared.written.WrittenReturn.{WrittenReturn}
-use Rattle.ir_grammar.specs.declared.written.WrittenReturn.TheVariants.{Void, Value}
-use Rattle.ir_grammar.specs.declared.written.WrittenTerminator.{WrittenTerminator}
 use Rattle.ir_grammar.specs.declared.written.WrittenTerminator.TheVariants as end
-use Rattle.ir_grammar.specs.declared.written.WrittenBody.{WrittenBody}
-use Rattle.ir_grammar.specs.declared.written.WrittenBlock.{WrittenBlock}
-use Rattle.ir_numbering.specs.declared.numbering.NamedParameter.{NamedParameter}
-use Rattle.token_text.specs.Pieces.{Piece}
-use Rattle.ir_printer.specs.Pieces.{none, space, indented, word, mark, number, comma, local, label, width_text, type_text, array_pieces, closing_pieces, object_pieces}
-use Rattle.ir_printer.specs.Instructions.{word_if, flag_pieces, op_pieces, predicate_text, cast_pieces, align_pieces}
 use Rattle.read_back.proofs.Written.{value_piece, typed_pieces, pointer_pieces, target, result_pieces, operand_pieces, index_pieces, access_pieces, inst_pieces, entry_pieces, entries_pieces, phi_pieces, case_pieces, returned_pieces, terminator_pieces, body_pieces, block_pieces, parameter_pieces, parameters_pieces}
 use Rattle.read_back.proofs.CutNested.{Nested, nothing-nested, plain-nested, nested-append, pair-nested}
 

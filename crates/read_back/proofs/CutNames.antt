@@ -1,15 +1,8 @@
 -- A printed name is read as itself.
-use Rattle.std.proofs.Common.{◌≡◌, ℕ, ◌+◌, ◌-◌, ◌*◌, ◌/◌, ◌%◌, ◌<◌, true, false, not, eqb, List, [], ◌∷◌, ◌++◌, length, refl, ap, ◌∙◌, inl, inr, arith}
-use Rattle.std.specs.List.{list_all, flat_map, AllByRecursion}
-use Rattle.std.proofs.lemmas.Bool.{cases_Bool, and_parts}
-use Rattle.std.proofs.lemmas.Bool.Decides.{nat_tests}
-use Rattle.std.proofs.lemmas.List.{length-append, take_at}
-use Rattle.ir_lexer.specs.Bytes.{is_digit, is_hexadecimal_digit}
-use Rattle.ir_lexer.specs.Spelling.{is_digits}
+use Rattle.read_back.proofs.Common.{◌≡◌, ℕ, ◌+◌, ◌-◌, ◌*◌, ◌/◌, ◌%◌, ◌<◌, true, false, eqb, List, [], ◌∷◌, ◌++◌, length, refl, ap, ◌∙◌, inl, inr, arith, list_all, flat_map, AllByRecursion, cases_Bool, and_parts, nat_tests, length-append, take_at, is_digit, is_hexadecimal_digit, is_digits, escaped, hex_digit, is_bare, is_plain, name_text, without_zeros, hexadecimal_value, is_backslash, unescaped, name_of}
+use Rattle.std.proofs.Common.{not}
 use Rattle.ir_tree.specs.declared.name.Name.TheVariants as name
 use Rattle.ir_naming.specs.Naming as naming
-use Rattle.ir_naming.specs.Naming.{escaped, hex_digit, is_bare, is_plain, name_text}
-use Rattle.ir_items.specs.Names.{without_zeros, hexadecimal_value, is_backslash, unescaped, name_of}
 
 -- ---- one byte
 

@@ -1,11 +1,6 @@
 -- Tokens whose brackets close what they open.
-use Rattle.std.proofs.Common.{◌≡◌, ℕ, zero, suc, ◌+◌, ◌-◌, ◌<◌, ◌≤◌, true, false, eqb, nat_lt, List, [], ◌∷◌, ◌++◌, length, take, map, get_or, Option, Some, refl, sym, ap, ◌∙◌, append_assoc, append-nil, inl, inr, arith}
-use Rattle.std.specs.Prelude.{fold}
-use Rattle.std.proofs.lemmas.Bool.{cases_lt, lt-ltb, eq-eqb}
-use Rattle.std.proofs.lemmas.List.{length-append, take_at, take-append-le, get_or_at}
-use Rattle.ir_lexer.specs.declared.token.Kind.{Kind}
-use Rattle.ir_lexer.specs.Lexeme.{Lexeme}
-use Rattle.ir_items.specs.Marks.{mark_in, mark_of, opens, closes, closing, shut, marks_after, marks_behind}
+use Rattle.read_back.proofs.Common.{◌≡◌, ℕ, zero, suc, ◌+◌, ◌-◌, ◌<◌, ◌≤◌, true, false, eqb, List, [], ◌∷◌, ◌++◌, length, take, map, get_or, Option, Some, refl, sym, ap, ◌∙◌, append_assoc, append-nil, inl, inr, arith, fold, cases_lt, lt-ltb, eq-eqb, length-append, take_at, take-append-le, get_or_at, Kind, Lexeme, mark_in, mark_of, opens, closes, closing, shut, marks_after, marks_behind}
+use Rattle.std.proofs.Common.{nat_lt}
 
 -- what is to come after these marks
 abbrev pub left : Option (List ℕ) → List ℕ → Option (List ℕ)

@@ -1,12 +1,6 @@
 -- Tokens at their indices, from the classes and bytes of all.
-use Rattle.std.proofs.Common.{◌≡◌, ℕ, suc, ◌+◌, ◌-◌, ◌<◌, ◌≤◌, true, List, [], ◌∷◌, ◌++◌, length, take, drop, map, slice_get, slice_range, Option, Some, None, refl, sym, ap, ◌∙◌, append_assoc, arith}
-use Rattle.std.specs.Prelude.{option_map}
-use Rattle.std.proofs.lemmas.List.{length-append, length-map, take_at, drop_at, take-append-le, take-map, drop-map, map-append}
-use Rattle.std.proofs.lemmas.Option.{slice_get-map}
-use Rattle.ir_lexer.specs.declared.token.Kind.{Kind}
-use Rattle.ir_lexer.specs.Lexeme.{Lexeme}
-use Rattle.token_text.specs.Laws.{spelled}
-use Rattle.ir_items.specs.Marks.{mark_of, marks, IsBalanced, has_open, IsPiece}
+use Rattle.read_back.proofs.Common.{◌≡◌, ℕ, suc, ◌+◌, ◌-◌, ◌<◌, ◌≤◌, true, List, [], ◌∷◌, ◌++◌, length, take, drop, map, slice_range, Option, Some, None, refl, sym, ap, ◌∙◌, append_assoc, arith, option_map, length-append, length-map, take_at, drop_at, take-append-le, take-map, drop-map, map-append, slice_get-map, Kind, Lexeme, spelled, mark_of, marks, IsBalanced, has_open, IsPiece}
+use Rattle.std.proofs.Common.{slice_get}
 use Rattle.read_back.proofs.CutNested.{left, Above, Nested, IsPair, opened, pair-nested, marks_behind-left, mark_by}
 
 -- ---- one token

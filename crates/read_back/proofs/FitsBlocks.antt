@@ -1,24 +1,7 @@
 -- The lines of a block, and the blocks of a function.
-use Rattle.std.proofs.Common.{◌≡◌, ℕ, zero, suc, ◌+◌, ◌-◌, ◌<◌, ◌≤◌, Bool, true, false, List, [], ◌∷◌, ◌++◌, length, refl, sym, subst, arith}
-use Rattle.std.specs.Prelude.{◌==◌}
-use Rattle.std.specs.List.{AllByRecursion}
-use Rattle.std.proofs.lemmas.Bool.{ltb-true, eqb-true}
-use Rattle.std.proofs.lemmas.List.{length-append}
-use Rattle.token_forms.specs.Spelling.{part_begins}
-use Rattle.ir_grammar.specs.declared.written.WrittenName.{WrittenName}
-use Rattle.ir_grammar.specs.declared.written.WrittenPhi.{WrittenPhi}
-use Rattle.ir_grammar.specs.declared.written.WrittenInst.{WrittenInst}
+use Rattle.read_back.proofs.Common.{◌≡◌, ℕ, zero, suc, ◌+◌, ◌-◌, ◌<◌, ◌≤◌, Bool, true, false, List, [], ◌∷◌, ◌++◌, length, refl, sym, subst, arith, ◌==◌, AllByRecursion, ltb-true, eqb-true, length-append, part_begins, WrittenName, WrittenPhi, WrittenInst, WrittenLine, WrittenLines, WrittenTerminator, WrittenBlock, WrittenBlocks, label_of, any, default_align, starts_line, line_begins, line_within, may_have_phi, next_number, with_phi, with_inst, with_line, next_line, opened, lines, block, body_of, entry_block, begins_block, block_begins, with_block, next_block, blocks}
 use Rattle.ir_grammar.specs.declared.written.WrittenInst.TheVariants as inst
-use Rattle.ir_grammar.specs.declared.written.WrittenLine.{WrittenLine}
 use Rattle.ir_grammar.specs.declared.written.WrittenLine.TheVariants as line
-use Rattle.ir_grammar.specs.declared.written.WrittenLines.{WrittenLines}
-use Rattle.ir_grammar.specs.declared.written.WrittenTerminator.{WrittenTerminator}
-use Rattle.ir_grammar.specs.declared.written.WrittenBlock.{WrittenBlock}
-use Rattle.ir_grammar.specs.declared.written.WrittenBlocks.{WrittenBlocks}
-use Rattle.ir_grammar.specs.Spelling.{label_of}
-use Rattle.ir_grammar.specs.Classes.{any}
-use Rattle.ir_grammar.specs.Instructions.{default_align}
-use Rattle.ir_grammar.specs.Grammar.{starts_line, line_begins, line_within, may_have_phi, next_number, with_phi, with_inst, with_line, next_line, opened, lines, block, body_of, entry_block, begins_block, block_begins, with_block, next_block, blocks}
 use Rattle.read_back.proofs.Spellable.{IsName, IsNameOrNone, IsPhi, IsInst, AreInsts, IsBody, body_size, AreBlocks}
 use Rattle.read_back.proofs.FitsForms.{Stands, Gives, GivesParts}
 use Rattle.read_back.proofs.FitsNames.{label-is, named-is}

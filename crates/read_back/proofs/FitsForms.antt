@@ -1,10 +1,6 @@
 -- What a form gives that some tokens of bytes spell, apart from those tokens.
-use Rattle.std.proofs.Common.{◌≡◌, ◌⊎◌, ℕ, zero, suc, inl, inr, Bool, true, List, [], ◌∷◌, ◌++◌, Option, Some, All, subst}
-use Rattle.std.proofs.lemmas.List.Elements.{All-head, All-tail}
-use Rattle.ir_lexer.specs.Lexeme.{Lexeme}
-use Rattle.token_forms.specs.Form.{Form, give, one, seq, upto, peek, tail, balanced, mapped}
-use Rattle.token_forms.specs.Spelling.{Token, part_begins, SpellParts, Spells}
-use Rattle.read_back.specs.ReadBack.{IsOfBytes}
+use Rattle.read_back.proofs.Common.{◌≡◌, ◌⊎◌, ℕ, zero, suc, inl, inr, Bool, true, List, [], ◌∷◌, ◌++◌, Option, Some, subst, All-head, All-tail, Lexeme, Form, give, one, seq, upto, peek, tail, balanced, mapped, Token, part_begins, SpellParts, Spells, IsOfBytes}
+use Rattle.std.proofs.Common.{All}
 
 -- some token of bytes denotes x, within the limits
 pub record Stands {A : Type 0} (stands : Lexeme → Option A) (within : Lexeme → Bool) (x : A) : Type 0 where

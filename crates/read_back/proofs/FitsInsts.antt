@@ -1,15 +1,6 @@
 -- Instructions on values.
-use Rattle.std.proofs.Common.{ℕ, true, false, subst}
-use Rattle.ir_tree.specs.declared.tree.IrType.TheVariants.{Int}
-use Rattle.ir_tree.specs.Types.{one_bit}
-use Rattle.ir_tree.specs.declared.tree.Op.{Op}
-use Rattle.ir_tree.specs.declared.tree.Cast.{Cast}
-use Rattle.ir_grammar.specs.declared.word.Opcode.{Opcode}
+use Rattle.read_back.proofs.Common.{ℕ, true, false, subst, Int, one_bit, Op, Cast, Opcode, WrittenName, WrittenIntType, WrittenInst, binary, cast_by, wrapping, exact, plain, disjunction, icmp, truncate, zero_extend, sign_extend, select, freeze, inst_by}
 use Rattle.ir_grammar.specs.declared.word.Opcode.TheVariants as opcode
-use Rattle.ir_grammar.specs.declared.written.WrittenName.{WrittenName}
-use Rattle.ir_grammar.specs.declared.written.WrittenIntType.{WrittenIntType}
-use Rattle.ir_grammar.specs.declared.written.WrittenInst.{WrittenInst}
-use Rattle.ir_grammar.specs.Instructions.{binary, cast_by, wrapping, exact, plain, disjunction, icmp, truncate, zero_extend, sign_extend, select, freeze, inst_by}
 use Rattle.read_back.proofs.Spellable.{IsName, IsInst}
 use Rattle.read_back.proofs.FitsForms.{Gives}
 use Rattle.read_back.proofs.FitsOperands.{operand-fits, typed-gives}

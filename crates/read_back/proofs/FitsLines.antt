@@ -1,32 +1,11 @@
 -- One line of a block, with what follows its commas.
-use Rattle.std.proofs.Common.{◌≡◌, ℕ, zero, suc, ◌<◌, inl, inr, Bool, true, false, cond, List, length, Option, Some, None, codes, refl, subst}
-use Rattle.std.specs.Prelude.{◌||◌, not, nat_lt}
-use Rattle.std.specs.Str.{bytes_eq}
-use Rattle.std.proofs.lemmas.Bool.{ltb-true}
-use Rattle.text_places.specs.declared.place.Place.{Place}
-use Rattle.ir_lexer.specs.declared.token.Kind.{Kind}
+use Rattle.read_back.proofs.Common.{◌≡◌, ℕ, zero, suc, ◌<◌, inl, inr, Bool, true, false, cond, List, length, Option, Some, None, codes, refl, subst, ◌||◌, not, nat_lt, bytes_eq, ltb-true, Place, Kind, name_in, Int, part_begins, LineStart, LineWord, Opcode, WrittenName, WrittenIndex, WrittenGep, WrittenLines, WrittenLine, is_word_of, opcode_of, inst_word, memory_word_of, or_word, line_word_of, named_at, label_line, inst_line, is_record, line_start, any, line_word, phi, alloca, load, store, gep, line_by, line_named, next_entry, entry_or_attachment, attached, aligned, align_or_attachment, with_index, next_index, index_or_attachment, is_comma, is_local_kind, starts_line, line_begins, line_within, may_have_phi, next_number, started, line_comma, with_comma, whole_line}
 use Rattle.ir_lexer.specs.declared.token.Kind.TheVariants as kind
-use Rattle.ir_items.specs.Names.{name_in}
-use Rattle.ir_tree.specs.declared.tree.IrType.TheVariants.{Int}
-use Rattle.token_forms.specs.Spelling.{part_begins}
-use Rattle.ir_grammar.specs.declared.word.LineStart.{LineStart}
 use Rattle.ir_grammar.specs.declared.word.LineStart.TheVariants as start
-use Rattle.ir_grammar.specs.declared.word.LineWord.{LineWord}
 use Rattle.ir_grammar.specs.declared.word.LineWord.TheVariants as word_of
-use Rattle.ir_grammar.specs.declared.word.Opcode.{Opcode}
-use Rattle.ir_grammar.specs.declared.written.WrittenName.{WrittenName}
-use Rattle.ir_grammar.specs.declared.written.WrittenIndex.{WrittenIndex}
-use Rattle.ir_grammar.specs.declared.written.WrittenGep.{WrittenGep}
 use Rattle.ir_grammar.specs.declared.written.WrittenInst.TheVariants as inst
-use Rattle.ir_grammar.specs.declared.written.WrittenLines.{WrittenLines}
-use Rattle.ir_grammar.specs.declared.written.WrittenLine.{WrittenLine}
 use Rattle.ir_grammar.specs.declared.written.WrittenLine.TheVariants as line
-use Rattle.ir_grammar.specs.Words.{is_word_of, opcode_of, inst_word, memory_word_of, or_word, line_word_of}
-use Rattle.ir_grammar.specs.Spelling.{named_at, label_line, inst_line, is_record, line_start}
-use Rattle.ir_grammar.specs.Classes.{any, line_word}
-use Rattle.ir_grammar.specs.Instructions.{phi, alloca, load, store, gep, line_by, line_named, next_entry, entry_or_attachment, attached, aligned, align_or_attachment, with_index, next_index, index_or_attachment}
 use Rattle.ir_grammar.specs.Instructions as forms
-use Rattle.ir_grammar.specs.Grammar.{is_comma, is_local_kind, starts_line, line_begins, line_within, may_have_phi, next_number, started, line_comma, with_comma, whole_line}
 use Rattle.read_back.proofs.Spellable.{IsName, IsPhi, IsAccess, IsIndex, IsInst}
 use Rattle.read_back.proofs.FitsForms.{Stands, Gives, GivesParts}
 use Rattle.read_back.proofs.FitsNames.{AreBytes, local-is, label-is}

@@ -1,30 +1,9 @@
 -- Alignments, types of objects in memory, and the flags of a getelementptr.
-use Rattle.std.proofs.Common.{◌≡◌, ℕ, zero, suc, ◌<◌, ◌≤◌, ◌^◌, Bool, true, false, cond, eqb, List, [], ◌∷◌, ◌++◌, length, Option, Some, None, All, codes, refl, subst, arith}
-use Rattle.std.specs.Prelude.{◌&&◌, ◌||◌, ◌==◌, not, nat_eq, nat_lt}
-use Rattle.std.specs.Str.{bytes_eq}
-use Rattle.std.specs.List.{list_any, Contains}
-use Rattle.std.proofs.lemmas.Bool.{ltb-true, eqb-true}
-use Rattle.std.proofs.lemmas.List.{length-append}
-use Rattle.std.proofs.lemmas.List.Elements.{All-nil, All-push}
+use Rattle.read_back.proofs.Common.{◌≡◌, ℕ, zero, suc, ◌<◌, ◌≤◌, ◌^◌, Bool, true, false, cond, eqb, List, [], ◌∷◌, ◌++◌, length, Option, Some, None, codes, refl, subst, arith, ◌&&◌, ◌||◌, ◌==◌, not, nat_eq, nat_lt, bytes_eq, list_any, Contains, ltb-true, eqb-true, length-append, All-nil, All-push, Width, Kind, alignments, type_align, IrType, Int, Ptr, part_value, GepFlags, WrittenType, WrittenArrays, WrittenObject, WrittenAccess, is_negative, magnitude, is_memory_type, memory_type_in, fits_object, is_small_object, number_of_kind, gep_flag_named, gep_flag_of, any, element_type, array_length, alignment, is_square, array_begins, array_within, with_length, arrays, alloca_object, is_gep_flag, next_gep_flag, gep_flags, gep_arrays, gep_object, default_align}
+use Rattle.std.proofs.Common.{All}
 use Rattle.std.proofs.lemmas.Map.Views.{Contains-from_any}
-use Rattle.tv_num.specs.declared.Width.{Width}
-use Rattle.ir_lexer.specs.declared.token.Kind.{Kind}
 use Rattle.ir_lexer.specs.declared.token.Kind.TheVariants as kind
-use Rattle.ir_tree.specs.Limits.{alignments}
-use Rattle.ir_tree.specs.Types.{type_align}
-use Rattle.ir_tree.specs.declared.tree.IrType.{IrType}
-use Rattle.ir_tree.specs.declared.tree.IrType.TheVariants.{Int, Ptr}
-use Rattle.token_forms.specs.Spelling.{part_value}
-use Rattle.ir_grammar.specs.declared.written.GepFlags.{GepFlags}
-use Rattle.ir_grammar.specs.declared.written.WrittenType.{WrittenType}
-use Rattle.ir_grammar.specs.declared.written.WrittenArrays.{WrittenArrays}
-use Rattle.ir_grammar.specs.declared.written.WrittenObject.{WrittenObject}
-use Rattle.ir_grammar.specs.declared.written.WrittenAccess.{WrittenAccess}
 use Rattle.ir_grammar.specs.declared.written.WrittenAccess.TheVariants as access
-use Rattle.ir_grammar.specs.Numbers.{is_negative, magnitude}
-use Rattle.ir_grammar.specs.Spelling.{is_memory_type, memory_type_in, fits_object, is_small_object, number_of_kind, gep_flag_named, gep_flag_of}
-use Rattle.ir_grammar.specs.Classes.{any, element_type, array_length, alignment}
-use Rattle.ir_grammar.specs.Instructions.{is_square, array_begins, array_within, with_length, arrays, alloca_object, is_gep_flag, next_gep_flag, gep_flags, gep_arrays, gep_object, default_align}
 use Rattle.read_back.proofs.Spellable.{IsObject, IsAccess, AreFlags}
 use Rattle.read_back.proofs.FitsForms.{Stands, Gives, GivesParts}
 use Rattle.read_back.proofs.FitsOperands.{memory-fits, type-at}

@@ -1,19 +1,8 @@
 -- The name that bytes spell: digits without leading zeros, or bytes.
-use Rattle.std.proofs.Common.{◌≡◌, ℕ, ◌+◌, ◌-◌, ◌*◌, ◌<◌, Bool, true, false, cond, List, [], ◌∷◌, length, take, drop, Option, Some, None, All, refl, sym, subst, arith}
-use Rattle.std.specs.Prelude.{◌&&◌, ◌==◌, nat_lt}
-use Rattle.std.specs.List.{list_all}
-use Rattle.std.proofs.lemmas.Bool.Decides.{nat_tests}
-use Rattle.std.proofs.lemmas.List.Elements.{All-nil, All-cons, All-head, All-tail, All-take, All-drop}
-use Rattle.text_places.specs.declared.place.Place.{Place}
-use Rattle.ir_lexer.specs.Bytes.{is_digit, is_hexadecimal_digit}
-use Rattle.ir_lexer.specs.Spelling.{is_digits}
-use Rattle.ir_lexer.specs.declared.token.Kind.{Kind}
+use Rattle.read_back.proofs.Common.{◌≡◌, ℕ, ◌+◌, ◌-◌, ◌*◌, ◌<◌, Bool, true, false, cond, List, [], ◌∷◌, length, take, drop, Option, Some, None, refl, sym, subst, arith, ◌&&◌, ◌==◌, nat_lt, list_all, nat_tests, All-nil, All-cons, All-head, All-tail, All-take, All-drop, Place, is_digit, is_hexadecimal_digit, is_digits, Kind, Name, without_zeros, hexadecimal_value, is_backslash, unescaped, name_of, WrittenName, local_of, global_of, label_of, named_at}
+use Rattle.std.proofs.Common.{All}
 use Rattle.ir_lexer.specs.declared.token.Kind.TheVariants as kind
-use Rattle.ir_tree.specs.declared.name.Name.{Name}
 use Rattle.ir_tree.specs.declared.name.Name.TheVariants as name
-use Rattle.ir_items.specs.Names.{without_zeros, hexadecimal_value, is_backslash, unescaped, name_of}
-use Rattle.ir_grammar.specs.declared.written.WrittenName.{WrittenName}
-use Rattle.ir_grammar.specs.Spelling.{local_of, global_of, label_of, named_at}
 use Rattle.ir_grammar.specs.Classes.{local, global}
 use Rattle.read_back.proofs.Spellable.{IsName}
 use Rattle.read_back.proofs.FitsForms.{Stands}

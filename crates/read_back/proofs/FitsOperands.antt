@@ -1,27 +1,8 @@
 -- Operands, types, and the parts of instructions that one token is.
-use Rattle.std.proofs.Common.{◌≡◌, ℕ, ◌-◌, ◌<◌, ◌≤◌, ◌^◌, Bool, true, false, cond, List, drop, Option, Some, None, codes, refl, ap, subst, arith}
-use Rattle.std.specs.Prelude.{◌&&◌, ◌==◌}
-use Rattle.std.specs.Str.{bytes_eq}
-use Rattle.std.proofs.lemmas.Bool.{ltb-true}
-use Rattle.std.proofs.lemmas.Nat.{pow_pos, pow_below, mod_below}
-use Rattle.text_places.specs.declared.place.Place.{Place}
-use Rattle.tv_num.specs.declared.Width.{Width}
-use Rattle.ir_lexer.specs.Lexeme.{Lexeme}
-use Rattle.ir_lexer.specs.declared.token.Kind.{Kind}
+use Rattle.read_back.proofs.Common.{◌≡◌, ℕ, ◌-◌, ◌<◌, ◌≤◌, ◌^◌, Bool, true, false, cond, List, drop, Option, Some, None, codes, refl, ap, subst, arith, ◌&&◌, ◌==◌, bytes_eq, ltb-true, pow_pos, pow_below, mod_below, Place, Width, Lexeme, Kind, name_of, IrType, Int, Ptr, WrittenType, WrittenValue, WrittenOperand, WrittenLiteral, WrittenTyped, is_negative, magnitude, in_range, wrapped, truth_value, literal_value, literal_of, word_of_type, word_value, number_value, literal_at, operand_at, fits_bits, fits_type, is_memory_type, memory_type_of, memory_type_in, type_in, type_at, is_pointer, pointer_in, operand_class, literal_class, pointer_type, typed, pointer}
 use Rattle.ir_lexer.specs.declared.token.Kind.TheVariants as kind
-use Rattle.ir_items.specs.Names.{name_of}
-use Rattle.ir_tree.specs.declared.tree.IrType.{IrType}
-use Rattle.ir_tree.specs.declared.tree.IrType.TheVariants.{Int, Ptr}
-use Rattle.ir_grammar.specs.declared.written.WrittenType.{WrittenType}
-use Rattle.ir_grammar.specs.declared.written.WrittenValue.{WrittenValue}
 use Rattle.ir_grammar.specs.declared.written.WrittenValue.TheVariants as value
-use Rattle.ir_grammar.specs.declared.written.WrittenOperand.{WrittenOperand}
-use Rattle.ir_grammar.specs.declared.written.WrittenLiteral.{WrittenLiteral}
-use Rattle.ir_grammar.specs.declared.written.WrittenTyped.{WrittenTyped}
-use Rattle.ir_grammar.specs.Numbers.{is_negative, magnitude, in_range, wrapped}
-use Rattle.ir_grammar.specs.Spelling.{truth_value, literal_value, literal_of, word_of_type, word_value, number_value, literal_at, value_in, operand_at, fits_bits, fits_type, is_memory_type, memory_type_of, memory_type_in, type_in, type_at, is_pointer, pointer_in}
-use Rattle.ir_grammar.specs.Classes.{operand_class, literal_class, pointer_type}
-use Rattle.ir_grammar.specs.Instructions.{typed, pointer}
+use Rattle.ir_grammar.specs.Spelling.{value_in}
 use Rattle.read_back.proofs.Spellable.{FitsValue, IsTyped, IsPointer}
 use Rattle.read_back.proofs.FitsForms.{Stands, Gives}
 use Rattle.read_back.proofs.FitsNames.{AreBytes, local-is}

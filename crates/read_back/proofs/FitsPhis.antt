@@ -1,12 +1,5 @@
 -- Phis, and lists of what is spelled in turn.
-use Rattle.std.proofs.Common.{◌<◌, false, List, [], ◌∷◌, ◌++◌, length, subst, arith}
-use Rattle.std.specs.List.{AllByRecursion}
-use Rattle.std.proofs.lemmas.List.{length-append}
-use Rattle.ir_grammar.specs.declared.written.WrittenName.{WrittenName}
-use Rattle.ir_grammar.specs.declared.written.WrittenType.{WrittenType}
-use Rattle.ir_grammar.specs.declared.written.WrittenEntry.{WrittenEntry}
-use Rattle.ir_grammar.specs.declared.written.WrittenPhi.{WrittenPhi}
-use Rattle.ir_grammar.specs.Instructions.{entry, with_entry}
+use Rattle.read_back.proofs.Common.{◌<◌, false, List, [], ◌∷◌, ◌++◌, length, subst, arith, AllByRecursion, length-append, WrittenName, WrittenType, WrittenEntry, WrittenPhi, entry, with_entry}
 use Rattle.read_back.proofs.Spellable.{IsName, IsEntry, IsPhi}
 use Rattle.read_back.proofs.FitsForms.{Gives}
 use Rattle.read_back.proofs.FitsNames.{local-fits}

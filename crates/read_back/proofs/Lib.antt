@@ -1,3 +1,4 @@
+pub mod Common
 mod Written
 mod Spellable
 mod Placeless

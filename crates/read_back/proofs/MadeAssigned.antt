@@ -1,19 +1,6 @@
 -- What holds of each site of a made function: types are bytes, and values come before their uses.
-use Rattle.std.proofs.Common.{◌≡◌, ◌⊎◌, ℕ, zero, suc, ◌+◌, ◌<◌, ◌≤◌, inl, inr, true, List, [], ◌∷◌, ◌++◌, length, take, Some, None, refl, sym, ap, subst, arith}
-use Rattle.std.specs.List.{AllByRecursion, Contains, flat_map}
-use Rattle.std.proofs.lemmas.Bool.{cases_lt}
-use Rattle.std.proofs.lemmas.List.{length-take-le}
-use Rattle.std.proofs.lemmas.List.Elements.{Contains-append_left, Contains-append_right}
-use Rattle.ir_tree.specs.declared.tree.IrType.TheVariants.{Int}
-use Rattle.ir_tree.specs.declared.tree.Inst.{Inst}
-use Rattle.ir_tree.specs.declared.tree.Terminator.TheVariants.{Return}
-use Rattle.ir_tree.specs.declared.sites.Part.{Part}
+use Rattle.read_back.proofs.Common.{◌≡◌, ◌⊎◌, ℕ, zero, suc, ◌+◌, ◌<◌, ◌≤◌, inl, inr, true, List, [], ◌∷◌, ◌++◌, length, take, Some, None, refl, sym, ap, subst, arith, AllByRecursion, Contains, flat_map, cases_lt, length-take-le, Contains-append_left, Contains-append_right, Int, Inst, Return, Part, Site, Defines, Uses, Enters, Written, Step, inst_sites, inst_steps, header_sites, parameter_sites, terminator_sites, results_of, eight, value_name, value, byte_parameter}
 use Rattle.ir_tree.specs.declared.sites.Part.TheVariants as part
-use Rattle.ir_tree.specs.declared.sites.Site.{Site}
-use Rattle.ir_tree.specs.declared.sites.Site.TheVariants.{Defines, Uses, Enters, Written}
-use Rattle.ir_tree.specs.Sites.{Step, inst_sites, inst_steps, header_sites, parameter_sites, terminator_sites}
-use Rattle.ir_tree.specs.Flow.{results_of}
-use Rattle.ir_printer.specs.Made.{eight, value_name, value, byte_parameter}
 use Rattle.read_back.proofs.MadeInsts.{AreMade, made-take}
 use Rattle.read_back.proofs.MadeSites.{HoldsIn, holds-append}
 

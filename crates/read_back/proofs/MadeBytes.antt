@@ -1,28 +1,8 @@
 -- The tokens that are printed of a made function are bytes.
-use Rattle.std.proofs.Common.{◌≡◌, ℕ, zero, suc, ◌+◌, ◌-◌, ◌/◌, ◌%◌, ◌<◌, ◌≤◌, ◌^◌, Bool, true, false, cond, ltb, List, [], ◌∷◌, ◌++◌, length, map, codes, refl, ap, arith}
-use Rattle.std.specs.Prelude.{All}
-use Rattle.std.specs.Fmt.{decimal}
-use Rattle.std.specs.List.{AllByRecursion, flat_map}
-use Rattle.std.proofs.lemmas.List.Elements.{All-from_recursion, recursion_from_All}
-use Rattle.ir_lexer.specs.declared.token.Kind.{Kind}
-use Rattle.ir_lexer.specs.Lexeme.{Lexeme}
-use Rattle.ir_tree.specs.Sites.{no_place}
-use Rattle.ir_tree.specs.declared.name.Name.{Name}
+use Rattle.read_back.proofs.Common.{◌≡◌, ℕ, zero, suc, ◌+◌, ◌-◌, ◌/◌, ◌%◌, ◌<◌, ◌≤◌, ◌^◌, Bool, true, false, cond, ltb, List, [], ◌∷◌, ◌++◌, length, map, codes, refl, ap, arith, All, decimal, AllByRecursion, flat_map, All-from_recursion, recursion_from_All, Kind, Lexeme, no_place, Name, Flags, Op, Inst, hex_digit, hex_byte, is_plain, is_bare, escaped, quoted, name_text, Piece, spelled, WrittenFunction, named_behind, none, space, line, mark, width_text, word_if, flag_pieces, op_pieces, eight, IsOfBytes}
 use Rattle.ir_tree.specs.declared.name.Name.TheVariants as name
-use Rattle.ir_tree.specs.declared.tree.Flags.{Flags}
-use Rattle.ir_tree.specs.declared.tree.Op.{Op}
 use Rattle.ir_tree.specs.declared.tree.Op.TheVariants as op
-use Rattle.ir_tree.specs.declared.tree.Inst.{Inst}
-use Rattle.ir_naming.specs.Naming.{hex_digit, hex_byte, is_plain, is_bare, escaped, quoted, name_text}
-use Rattle.token_text.specs.Pieces.{Piece}
-use Rattle.token_text.specs.Laws.{spelled}
 use Rattle.ir_grammar.specs.declared.written.WrittenValue.TheVariants as written
-use Rattle.ir_grammar.specs.declared.written.WrittenFunction.{WrittenFunction}
-use Rattle.ir_numbering.specs.Numbering.{named_behind}
-use Rattle.ir_printer.specs.Pieces.{none, space, line, mark, width_text}
-use Rattle.ir_printer.specs.Instructions.{word_if, flag_pieces, op_pieces}
-use Rattle.ir_printer.specs.Made.{eight}
-use Rattle.read_back.specs.ReadBack.{IsOfBytes}
 use Rattle.read_back.proofs.Written.{operand_pieces, inst_pieces, terminator_pieces, body_pieces, parameters_pieces, header_pieces, written_pieces}
 use Rattle.read_back.proofs.MadeNames.{result_name, value_word}
 use Rattle.read_back.proofs.MadeInsts.{IsMade, AreMade}

@@ -1,11 +1,5 @@
 -- The instructions of a made function: each is an operation on two bytes that come before it.
-use Rattle.std.proofs.Common.{◌≡◌, ℕ, zero, suc, ◌+◌, ◌/◌, ◌<◌, Bool, true, false, List, [], ◌∷◌, length, take, refl, ap, arith}
-use Rattle.std.specs.Prelude.{◌&&◌, ◌==◌}
-use Rattle.std.proofs.lemmas.Nat.{mod_below}
-use Rattle.ir_tree.specs.declared.tree.Op.{Op}
-use Rattle.ir_tree.specs.declared.tree.Inst.{Inst}
-use Rattle.ir_tree.specs.declared.tree.Inst.TheVariants.{Binary}
-use Rattle.ir_printer.specs.Made.{state_behind, drawn, made_op, eight, value_name, value, made_binary, made_insts}
+use Rattle.read_back.proofs.Common.{◌≡◌, ℕ, zero, suc, ◌+◌, ◌/◌, ◌<◌, Bool, true, false, List, [], ◌∷◌, length, take, refl, ap, arith, ◌&&◌, ◌==◌, mod_below, Op, Inst, Binary, state_behind, drawn, made_op, eight, value_name, value, made_binary, made_insts}
 
 -- the instruction of this number
 pub record IsMade (i : ℕ) (inst : Inst) : Type 0 where

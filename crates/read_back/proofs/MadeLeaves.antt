@@ -1,12 +1,5 @@
 -- A made function has no undef, so no name of it carries any.
-use Rattle.std.proofs.Common.{◌≡◌, ◌+◌, ◌≤◌, ℕ, zero, min, List, [], ◌∷◌, sum_by, Option, Some, None, refl, sym, ap, append-nil, subst, arith}
-use Rattle.std.specs.List.{AllByRecursion, find}
-use Rattle.ir_tree.specs.declared.name.Name.{Name}
-use Rattle.ir_tree.specs.declared.tree.Operand.{Operand}
-use Rattle.ir_tree.specs.declared.tree.Operand.TheVariants.{Local, Number, Null, Poison, Undef}
-use Rattle.ir_tree.specs.declared.tree.Inst.{Inst}
-use Rattle.ir_tree.specs.declared.tree.Function.{Function}
-use Rattle.ir_tree.specs.Carrying.{carried_from, carrying_operands, insts_of, leaf_count, leaves_by, makes}
+use Rattle.read_back.proofs.Common.{◌≡◌, ◌+◌, ◌≤◌, ℕ, zero, min, List, [], ◌∷◌, sum_by, Option, Some, None, refl, sym, ap, append-nil, subst, arith, AllByRecursion, find, Name, Operand, Local, Number, Null, Poison, Undef, Inst, Function, carried_from, carrying_operands, insts_of, leaf_count, leaves_by, makes}
 use Rattle.ir_tree.proofs.Leaves.{count-least, found}
 use Rattle.read_back.proofs.MadeInsts.{AreMade}
 use Rattle.read_back.proofs.MadeWritten.{plain_function}

@@ -1,19 +1,5 @@
 -- The modules of a seed can be printed, where printed tokens spell functions.
-use Rattle.std.proofs.Common.{◌≡◌, ℕ, zero, suc, ◌+◌, ◌*◌, ◌<◌, ◌≤◌, ◌^◌, Bool, false, List, [], ◌∷◌, length, map, Some, refl, sym, ap, ◌∙◌, subst, arith}
-use Rattle.std.specs.List.{AllByRecursion, IsDistinct}
-use Rattle.ir_tree.specs.Names.{same_name}
-use Rattle.ir_tree.specs.declared.name.Name.{Name}
-use Rattle.ir_tree.specs.declared.tree.IrType.TheVariants.{Int}
-use Rattle.ir_tree.specs.declared.tree.Inst.{Inst}
-use Rattle.ir_tree.specs.declared.tree.Terminator.TheVariants.{Return}
-use Rattle.ir_tree.specs.declared.tree.Function.{Function}
-use Rattle.ir_tree.specs.declared.module.Entry.{Entry}
-use Rattle.ir_grammar.specs.declared.written.WrittenFunction.{WrittenFunction}
-use Rattle.ir_numbering.specs.Numbering.{numbered}
-use Rattle.token_text.specs.Pieces.{Piece}
-use Rattle.ir_printer.specs.Pieces.{none}
-use Rattle.ir_printer.specs.Made.{state_behind, eight, value, byte_parameter, made_insts, function_name, made_function, made_entries}
-use Rattle.read_back.specs.ReadBack.{IsSpelled, IsPrintableEntry, MadeModulesArePrintable}
+use Rattle.read_back.proofs.Common.{◌≡◌, ℕ, zero, suc, ◌+◌, ◌*◌, ◌<◌, ◌≤◌, ◌^◌, Bool, false, List, [], ◌∷◌, length, map, Some, refl, sym, ap, ◌∙◌, subst, arith, AllByRecursion, IsDistinct, same_name, Name, Int, Inst, Return, Function, Entry, WrittenFunction, numbered, Piece, none, state_behind, eight, value, byte_parameter, made_insts, function_name, made_function, made_entries, IsSpelled, IsPrintableEntry, MadeModulesArePrintable}
 use Rattle.read_back.proofs.Written.{written_pieces}
 use Rattle.read_back.proofs.Steps.{SpellableIsSpelled}
 use Rattle.read_back.proofs.ReadBackPlaces.{well_formed-same, same-back}

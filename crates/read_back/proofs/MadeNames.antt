@@ -1,16 +1,6 @@
 -- The names of a made function: they differ, and each has its index in the table as its number.
-use Rattle.std.proofs.Common.{◌≡◌, ℕ, zero, suc, ◌+◌, ◌<◌, ◌≤◌, ◌^◌, inl, inr, true, false, List, [], ◌∷◌, ◌++◌, codes, refl, ap, ◌∙◌, arith}
-use Rattle.std.specs.Prelude.{fold}
-use Rattle.std.specs.Fmt.{decimal}
-use Rattle.std.specs.List.{list_any}
-use Rattle.std.specs.Str.{bytes_eq}
-use Rattle.std.proofs.lemmas.Bool.{false_from_ne_true, cases_lt, le-ltb}
-use Rattle.std.proofs.lemmas.Fmt.{decimal_injective}
-use Rattle.std.proofs.lemmas.Slice.Eq.{bytes_eq-Decides}
-use Rattle.ir_tree.specs.Names.{same_name, with_name, number_of}
-use Rattle.ir_tree.specs.declared.name.Name.{Name}
+use Rattle.read_back.proofs.Common.{◌≡◌, ℕ, zero, suc, ◌+◌, ◌<◌, ◌≤◌, ◌^◌, inl, inr, true, false, List, [], ◌∷◌, ◌++◌, codes, refl, ap, ◌∙◌, arith, fold, decimal, list_any, bytes_eq, false_from_ne_true, cases_lt, le-ltb, decimal_injective, bytes_eq-Decides, same_name, with_name, number_of, Name, value_name, result_names, made_names}
 use Rattle.ir_tree.specs.declared.name.Name.TheVariants as name
-use Rattle.ir_printer.specs.Made.{value_name, result_names, made_names}
 
 abbrev pub result_name : ℕ → Name
 result_name i = name.Word (codes "r" ++ decimal i)

@@ -1,11 +1,6 @@
 -- Sites by their numbers: what holds of each in its part, and names defined in rising order.
-use Rattle.std.proofs.Common.{◌≡◌, ℕ, zero, suc, ◌+◌, ◌<◌, ◌≤◌, List, [], ◌∷◌, ◌++◌, map, Option, Some, refl, subst, arith}
-use Rattle.std.specs.List.{AllByRecursion, slice_get}
-use Rattle.ir_tree.specs.declared.tree.IrType.{IrType}
-use Rattle.ir_tree.specs.declared.sites.Part.{Part}
-use Rattle.ir_tree.specs.declared.sites.Site.{Site}
-use Rattle.ir_tree.specs.declared.sites.Site.TheVariants.{Defines, Uses, Enters, Written}
-use Rattle.ir_tree.specs.Sites.{Step, sites_in, parts_in}
+use Rattle.read_back.proofs.Common.{◌≡◌, ℕ, zero, suc, ◌+◌, ◌<◌, ◌≤◌, List, [], ◌∷◌, ◌++◌, map, Option, Some, refl, subst, arith, AllByRecursion, slice_get, IrType, Part, Site, Defines, Uses, Enters, Written, Step, sites_in}
+use Rattle.ir_tree.specs.Sites.{parts_in}
 
 -- ---- what holds of a site in its part
 

@@ -1,14 +1,6 @@
 -- A made function, as it is written, is spellable.
-use Rattle.std.proofs.Common.{◌≡◌, ℕ, zero, suc, ◌+◌, ◌<◌, ◌≤◌, ◌^◌, Bool, true, List, [], ◌∷◌, length, codes, refl, ap, arith}
-use Rattle.std.specs.Prelude.{All, nat_lt}
-use Rattle.std.specs.Fmt.{decimal}
-use Rattle.std.specs.List.{AllByRecursion, list_all}
-use Rattle.std.proofs.lemmas.Bool.{and_parts, ltb-true, false≢true}
-use Rattle.std.proofs.lemmas.Fmt.{IsAscii-decimal}
-use Rattle.std.proofs.lemmas.List.Elements.{All-from_recursion, All-from_get_or, All-cons}
-use Rattle.ir_tree.specs.declared.name.Name.{Name}
+use Rattle.read_back.proofs.Common.{◌≡◌, ℕ, zero, suc, ◌+◌, ◌<◌, ◌≤◌, ◌^◌, Bool, true, List, [], ◌∷◌, length, codes, refl, ap, arith, All, nat_lt, decimal, AllByRecursion, list_all, and_parts, ltb-true, false≢true, IsAscii-decimal, All-from_recursion, All-from_get_or, All-cons, Name, Inst}
 use Rattle.ir_tree.specs.declared.name.Name.TheVariants as name
-use Rattle.ir_tree.specs.declared.tree.Inst.{Inst}
 use Rattle.read_back.proofs.Spellable.{IsName, IsParameter, IsInst, AreInsts, IsSpellable}
 use Rattle.read_back.proofs.MadeNames.{value_word}
 use Rattle.read_back.proofs.MadeInsts.{IsMade, AreMade}

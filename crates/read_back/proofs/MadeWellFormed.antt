@@ -1,24 +1,7 @@
 -- A made function is well formed: each name comes before its uses, and all values are bytes.
-use Rattle.std.proofs.Common.{◌≡◌, ℕ, zero, suc, ◌+◌, ◌<◌, ◌≤◌, inl, inr, true, false, List, [], ◌∷◌, ◌++◌, length, take, Some, None, refl, sym, ap, ◌∙◌, subst, append-nil, append_assoc, arith}
-use Rattle.std.specs.List.{Contains, slice_get}
-use Rattle.std.proofs.lemmas.Bool.{cases_lt, ltb-true}
+use Rattle.read_back.proofs.Common.{◌≡◌, ℕ, zero, suc, ◌+◌, ◌<◌, ◌≤◌, inl, inr, true, false, List, [], ◌∷◌, ◌++◌, length, take, Some, None, refl, sym, ap, ◌∙◌, subst, append-nil, append_assoc, arith, Contains, slice_get, cases_lt, ltb-true, Name, IrType, Int, Local, Inst, Block, Phi, Part, Site, Defines, Uses, Enters, Written, Step, steps, sites, parts, sites_in, inst_sites, inst_steps, is_same_type, assigned_with, DefinesAgain, UsesUnknown, ClashesType, HasWrongEdge, IsMissed, IsMissedAt, UsesUnassigned, IsWellFormed, UsesUndef, leaf_count, eight, value_name}
 use Rattle.std.proofs.lemmas.Grind.{flat_map-append}
-use Rattle.ir_tree.specs.declared.name.Name.{Name}
-use Rattle.ir_tree.specs.declared.tree.IrType.{IrType}
-use Rattle.ir_tree.specs.declared.tree.IrType.TheVariants.{Int}
-use Rattle.ir_tree.specs.declared.tree.Operand.TheVariants.{Local}
-use Rattle.ir_tree.specs.declared.tree.Inst.{Inst}
-use Rattle.ir_tree.specs.declared.tree.Block.{Block}
-use Rattle.ir_tree.specs.declared.tree.Phi.{Phi}
-use Rattle.ir_tree.specs.declared.sites.Part.{Part}
 use Rattle.ir_tree.specs.declared.sites.Part.TheVariants as part
-use Rattle.ir_tree.specs.declared.sites.Site.{Site}
-use Rattle.ir_tree.specs.declared.sites.Site.TheVariants.{Defines, Uses, Enters, Written}
-use Rattle.ir_tree.specs.Sites.{Step, steps, sites, parts, sites_in, inst_sites, inst_steps, is_same_type}
-use Rattle.ir_tree.specs.Flow.{assigned_with}
-use Rattle.ir_tree.specs.WellFormed.{DefinesAgain, UsesUnknown, ClashesType, HasWrongEdge, IsMissed, IsMissedAt, UsesUnassigned, IsWellFormed}
-use Rattle.ir_tree.specs.Carrying.{UsesUndef, leaf_count}
-use Rattle.ir_printer.specs.Made.{eight, value_name}
 use Rattle.read_back.proofs.MadeNames.{value-big}
 use Rattle.read_back.proofs.MadeInsts.{AreMade}
 use Rattle.read_back.proofs.MadeLeaves.{no_leaves}

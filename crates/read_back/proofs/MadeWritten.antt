@@ -1,35 +1,11 @@
 -- A made function as it is written; numbering the names gives the function.
-use Rattle.std.proofs.Common.{◌≡◌, ℕ, suc, ◌+◌, ◌<◌, ◌^◌, false, List, [], ◌∷◌, length, codes, Some, refl, sym, ap, ◌∙◌, arith}
-use Rattle.ir_tree.specs.Names.{with_name, number_of}
-use Rattle.ir_tree.specs.Sites.{no_place}
-use Rattle.ir_tree.specs.declared.name.Name.{Name}
+use Rattle.read_back.proofs.Common.{◌≡◌, ℕ, suc, ◌+◌, ◌<◌, ◌^◌, false, List, [], ◌∷◌, length, codes, Some, refl, sym, ap, ◌∙◌, arith, with_name, number_of, no_place, Name, Int, Op, Local, Inst, Binary, Block, Return, Function, WrittenName, WrittenIntType, WrittenType, WrittenOperand, WrittenParameter, WrittenInst, Value, WrittenFunction, places_of, Numbered, so, ◌>>=◌, each_in, binary_in, inst_in, typed_in, returned_in, parameter_in, block_in, blocks_in, parts_in, numbered, eight, value_name, value, byte_parameter, IsSameFunction, placed}
 use Rattle.ir_tree.specs.declared.name.Name.TheVariants as name
-use Rattle.ir_tree.specs.declared.tree.IrType.TheVariants.{Int}
-use Rattle.ir_tree.specs.declared.tree.Op.{Op}
-use Rattle.ir_tree.specs.declared.tree.Operand.TheVariants.{Local}
-use Rattle.ir_tree.specs.declared.tree.Inst.{Inst}
-use Rattle.ir_tree.specs.declared.tree.Inst.TheVariants.{Binary}
-use Rattle.ir_tree.specs.declared.tree.Block.{Block}
-use Rattle.ir_tree.specs.declared.tree.Terminator.TheVariants.{Return}
-use Rattle.ir_tree.specs.declared.tree.Function.{Function}
-use Rattle.ir_grammar.specs.declared.written.WrittenName.{WrittenName}
-use Rattle.ir_grammar.specs.declared.written.WrittenIntType.{WrittenIntType}
-use Rattle.ir_grammar.specs.declared.written.WrittenType.{WrittenType}
-use Rattle.ir_grammar.specs.declared.written.WrittenOperand.{WrittenOperand}
 use Rattle.ir_grammar.specs.declared.written.WrittenValue.TheVariants as written
-use Rattle.ir_grammar.specs.declared.written.WrittenParameter.{WrittenParameter}
-use Rattle.ir_grammar.specs.declared.written.WrittenInst.{WrittenInst}
 use Rattle.ir_grammar.specs.declared.written.WrittenInst.TheVariants as line
-use Rattle.ir_grammar.specs.declared.written.WrittenReturn.TheVariants.{Value}
 use Rattle.ir_grammar.specs.declared.written.WrittenTerminator.TheVariants as end
-use Rattle.ir_grammar.specs.declared.written.WrittenFunction.{WrittenFunction}
-use Rattle.ir_numbering.specs.Places.{places_of}
-use Rattle.ir_numbering.specs.Numbering.{Numbered, so, ◌>>=◌, each_in, binary_in, inst_in, typed_in, returned_in, parameter_in, block_in, blocks_in, parts_in, numbered}
-use Rattle.ir_printer.specs.Made.{eight, value_name, value, byte_parameter}
-use Rattle.read_back.specs.SameModule.{IsSameFunction}
 use Rattle.read_back.proofs.MadeNames.{result_name, value_word, names_behind, value-number, value-known, result-number, result-new}
 use Rattle.read_back.proofs.MadeInsts.{IsMade, AreMade}
-use Rattle.ir_reader.proofs.Placed.{placed}
 use Rattle.read_back.proofs.ReadBackPlaces.{same-back}
 
 -- ---- what is written

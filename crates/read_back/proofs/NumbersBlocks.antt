@@ -1,27 +1,11 @@
 -- What is shown of numbers by the names that they denote: phis, terminators and blocks.
-use Rattle.std.proofs.Common.{◌≡◌, List, [], ◌∷◌, ◌++◌, codes, refl, ap, ◌∙◌}
-use Rattle.std.specs.List.{flat_map}
-use Rattle.ir_tree.specs.Names.{with_name}
-use Rattle.ir_tree.specs.declared.name.Name.{Name}
-use Rattle.ir_tree.specs.declared.tree.Inst.{Inst}
+use Rattle.read_back.proofs.Common.{◌≡◌, List, [], ◌∷◌, ◌++◌, codes, refl, ap, ◌∙◌, flat_map, with_name, Name, Inst, Phi, Block, WrittenEntry, WrittenPhi, WrittenCase, Void, Value, WrittenTerminator, WrittenBody, WrittenBlock, Numbered, so, each_in, inst_in, returned_in, entry_in, phi_in, case_in, branch_in, cond_branch_in, switch_in, terminator_in, block_in, labelled_in, blocks_in, Piece, block_pieces}
 use Rattle.ir_tree.specs.declared.tree.PhiEntry.{PhiEntry}
-use Rattle.ir_tree.specs.declared.tree.Phi.{Phi}
 use Rattle.ir_tree.specs.declared.tree.Case.{Case}
 use Rattle.ir_tree.specs.declared.tree.Terminator.{Terminator}
-use Rattle.ir_tree.specs.declared.tree.Block.{Block}
-use Rattle.ir_grammar.specs.declared.written.WrittenEntry.{WrittenEntry}
-use Rattle.ir_grammar.specs.declared.written.WrittenPhi.{WrittenPhi}
-use Rattle.ir_grammar.specs.declared.written.WrittenCase.{WrittenCase}
-use Rattle.ir_grammar.specs.declared.written.WrittenReturn.TheVariants.{Void, Value}
-use Rattle.ir_grammar.specs.declared.written.WrittenTerminator.{WrittenTerminator}
 use Rattle.ir_grammar.specs.declared.written.WrittenTerminator.TheVariants as end
-use Rattle.ir_grammar.specs.declared.written.WrittenBody.{WrittenBody}
-use Rattle.ir_grammar.specs.declared.written.WrittenBlock.{WrittenBlock}
-use Rattle.ir_numbering.specs.Numbering.{Numbered, so, each_in, inst_in, returned_in, entry_in, phi_in, case_in, branch_in, cond_branch_in, switch_in, terminator_in, block_in, labelled_in, blocks_in}
-use Rattle.token_text.specs.Pieces.{Piece}
 use Rattle.ir_printer.specs.Pieces as pieces
 use Rattle.ir_printer.specs.Instructions as printed
-use Rattle.ir_printer.specs.ModuleText.{block_pieces}
 use Rattle.read_back.proofs.Written as written
 use Rattle.read_back.proofs.NumbersShown.{kept-on, Keeps, keeps-then, grows-not, each-kept, name-kept, value-then, typed-then, inst-kept}
 

@@ -1,15 +1,7 @@
 -- Names occur where their numbers do.
-use Rattle.std.proofs.Common.{◌≡◌, ℕ, List, [], ◌∷◌, ◌++◌, codes, refl, sym, ap, ◌∙◌}
-use Rattle.std.specs.List.{flat_map}
+use Rattle.read_back.proofs.Common.{◌≡◌, ℕ, List, [], ◌∷◌, ◌++◌, codes, refl, sym, ap, ◌∙◌, flat_map, Name, Parameter, Block, NamedParameter, Numbered, each_in, parameter_in, blocks_in, parts_in, function_of, named_behind, entry_name, numbered, Piece, parameter_pieces, parameters_pieces, block_pieces, function_pieces}
 use Rattle.std.proofs.lemmas.List.{append-nil}
-use Rattle.ir_tree.specs.declared.name.Name.{Name}
-use Rattle.ir_tree.specs.declared.tree.Parameter.{Parameter}
-use Rattle.ir_tree.specs.declared.tree.Block.{Block}
-use Rattle.ir_numbering.specs.declared.numbering.NamedParameter.{NamedParameter}
-use Rattle.ir_numbering.specs.Numbering.{Numbered, each_in, parameter_in, blocks_in, parts_in, function_of, named_behind, entry_name, numbered}
-use Rattle.token_text.specs.Pieces.{Piece}
 use Rattle.ir_printer.specs.Pieces as pieces
-use Rattle.ir_printer.specs.ModuleText.{parameter_pieces, parameters_pieces, block_pieces, function_pieces}
 use Rattle.read_back.proofs.Written as written
 use Rattle.read_back.proofs.Steps.{PiecesAreWritten}
 use Rattle.read_back.proofs.NumbersShown.{Kept, kept-on, Keeps, keeps-then, grows-not, each-kept, name-kept}

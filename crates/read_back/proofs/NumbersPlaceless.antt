@@ -1,34 +1,9 @@
 -- Numbering looks at no position.
-use Rattle.std.proofs.Common.{◌≡◌, ℕ, List, [], ◌∷◌, map, refl, sym, ap, ◌∙◌}
-use Rattle.text_places.specs.declared.place.Place.{Place}
-use Rattle.ir_tree.specs.declared.name.Name.{Name}
-use Rattle.ir_tree.specs.declared.name.Name.TheVariants.{Word}
-use Rattle.ir_tree.specs.declared.tree.Parameter.{Parameter}
-use Rattle.ir_tree.specs.declared.tree.Block.{Block}
+use Rattle.read_back.proofs.Common.{◌≡◌, ℕ, List, [], ◌∷◌, map, refl, sym, ap, ◌∙◌, Place, Name, Word, Parameter, Block, Switch, Function, WrittenIndex, WrittenGep, WrittenAccess, WrittenInst, WrittenEntry, WrittenPhi, WrittenCase, WrittenReturn, Void, Value, WrittenTerminator, WrittenBody, WrittenBlock, WrittenParameter, WrittenFunction, NamedParameter, places_of, Numbered, so, ◌>>=◌, number_in, parameter_in, value_in, typed_in, select_in, each_in, alloca_in, load_in, store_in, access_in, index_in, gep_in, inst_in, returned_in, entry_in, phi_in, case_in, switch_in, terminator_in, block_in, labelled_in, others_in, blocks_in, parts_in, function_of, name_or, named_behind, entry_name, numbered, IsSameFunction}
 use Rattle.ir_tree.specs.declared.tree.Inst.TheVariants as tree
-use Rattle.ir_tree.specs.declared.tree.Terminator.TheVariants.{Switch}
-use Rattle.ir_tree.specs.declared.tree.Function.{Function}
-use Rattle.ir_grammar.specs.declared.written.WrittenIndex.{WrittenIndex}
-use Rattle.ir_grammar.specs.declared.written.WrittenGep.{WrittenGep}
-use Rattle.ir_grammar.specs.declared.written.WrittenAccess.{WrittenAccess}
 use Rattle.ir_grammar.specs.declared.written.WrittenAccess.TheVariants as access
-use Rattle.ir_grammar.specs.declared.written.WrittenInst.{WrittenInst}
 use Rattle.ir_grammar.specs.declared.written.WrittenInst.TheVariants as inst
-use Rattle.ir_grammar.specs.declared.written.WrittenEntry.{WrittenEntry}
-use Rattle.ir_grammar.specs.declared.written.WrittenPhi.{WrittenPhi}
-use Rattle.ir_grammar.specs.declared.written.WrittenCase.{WrittenCase}
-use Rattle.ir_grammar.specs.declared.written.WrittenReturn.{WrittenReturn}
-use Rattle.ir_grammar.specs.declared.written.WrittenReturn.TheVariants.{Void, Value}
-use Rattle.ir_grammar.specs.declared.written.WrittenTerminator.{WrittenTerminator}
 use Rattle.ir_grammar.specs.declared.written.WrittenTerminator.TheVariants as end
-use Rattle.ir_grammar.specs.declared.written.WrittenBody.{WrittenBody}
-use Rattle.ir_grammar.specs.declared.written.WrittenBlock.{WrittenBlock}
-use Rattle.ir_grammar.specs.declared.written.WrittenParameter.{WrittenParameter}
-use Rattle.ir_grammar.specs.declared.written.WrittenFunction.{WrittenFunction}
-use Rattle.ir_numbering.specs.declared.numbering.NamedParameter.{NamedParameter}
-use Rattle.ir_numbering.specs.Places.{places_of}
-use Rattle.ir_numbering.specs.Numbering.{Numbered, so, ◌>>=◌, number_in, parameter_in, value_in, typed_in, select_in, each_in, alloca_in, load_in, store_in, access_in, index_in, gep_in, inst_in, returned_in, entry_in, phi_in, case_in, switch_in, terminator_in, block_in, labelled_in, others_in, blocks_in, parts_in, function_of, name_or, named_behind, entry_name, numbered}
-use Rattle.read_back.specs.SameModule.{IsSameFunction}
 use Rattle.read_back.proofs.Placeless.{index_of, gep_of, access_of, inst_of, entry_of, phi_of, case_of, returned_of, terminator_of, body_of, block_of, parameter_of, placeless}
 use Rattle.read_back.proofs.Steps.{PlacelessIsSame}
 

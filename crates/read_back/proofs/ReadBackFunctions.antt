@@ -1,23 +1,5 @@
 -- The functions of a module that can be printed, as they are written.
-use Rattle.std.proofs.Common.{◌≡◌, ℕ, suc, true, false, List, [], ◌∷◌, ◌++◌, length, map, Ok, Result, refl, ap, ◌∙◌}
-use Rattle.std.specs.Prelude.{All}
-use Rattle.std.specs.List.{flat_map, AllByRecursion, AllZip}
-use Rattle.ir_lexer.specs.Lexeme.{Lexeme}
-use Rattle.ir_tree.specs.WellFormed.{IsWellFormed}
-use Rattle.ir_tree.specs.declared.name.Name.{Name}
-use Rattle.ir_tree.specs.declared.tree.Parameter.{Parameter}
-use Rattle.ir_tree.specs.declared.tree.Block.{Block}
-use Rattle.ir_tree.specs.declared.tree.Function.{Function}
-use Rattle.ir_tree.specs.declared.module.Refused.{Refused}
-use Rattle.ir_tree.specs.declared.module.Entry.{Entry}
-use Rattle.ir_grammar.specs.declared.written.WrittenFunction.{WrittenFunction}
-use Rattle.ir_numbering.specs.Numbering.{Numbered, so, parts_in, function_of, named_behind, entry_name, numbered}
-use Rattle.ir_reader.specs.Functions.{IsFunction, well_formed}
-use Rattle.token_text.specs.Pieces.{Piece}
-use Rattle.ir_printer.specs.ModuleText.{accepted, accepted_first, function_pieces, functions_pieces}
-use Rattle.ir_printer.specs.Pieces.{none}
-use Rattle.read_back.specs.SameModule.{IsSameFunction}
-use Rattle.read_back.specs.ReadBack.{IsOfBytes, IsPrintableEntry}
+use Rattle.read_back.proofs.Common.{◌≡◌, ℕ, suc, true, false, List, [], ◌∷◌, ◌++◌, length, map, Ok, Result, refl, ap, ◌∙◌, All, flat_map, AllByRecursion, AllZip, Lexeme, IsWellFormed, Name, Parameter, Block, Function, Refused, Entry, WrittenFunction, Numbered, so, parts_in, function_of, named_behind, entry_name, numbered, IsFunction, well_formed, Piece, accepted, accepted_first, function_pieces, functions_pieces, none, IsSameFunction, IsOfBytes, IsPrintableEntry}
 use Rattle.read_back.proofs.Written.{written_pieces}
 use Rattle.read_back.proofs.Spellable.{IsSpellable}
 use Rattle.read_back.proofs.FitsFunction.{spelled_is_spellable}

@@ -1,26 +1,9 @@
 -- What is printed of a module reads back, where printed tokens spell functions.
-use Rattle.std.proofs.Common.{◌≡◌, ℕ, ◌≤◌, true, false, List, [], ◌∷◌, ◌++◌, length, map, Ok, Result, refl, sym, ap, ◌∙◌, subst, arith}
-use Rattle.std.specs.List.{flat_map, AllZip, IsDistinct}
-use Rattle.ir_lexer.specs.Lexeme.{Lexeme}
-use Rattle.ir_tree.specs.Names.{same_name}
-use Rattle.ir_tree.specs.WellFormed.{IsWellFormed}
-use Rattle.ir_tree.specs.declared.tree.Function.{Function}
-use Rattle.ir_tree.specs.declared.module.Refused.{Refused}
-use Rattle.ir_tree.specs.declared.module.Entry.{Entry}
+use Rattle.read_back.proofs.Common.{◌≡◌, ℕ, ◌≤◌, true, false, List, [], ◌∷◌, ◌++◌, length, map, Ok, Result, refl, sym, ap, ◌∙◌, subst, arith, flat_map, AllZip, IsDistinct, Lexeme, same_name, IsWellFormed, Function, Refused, Entry, Define, WrittenFunction, numbered, IsFunction, well_formed, without_places, Piece, text_of, spelled, LexesTo, none, line, accepted, accepted_first, functions_pieces, has_any, last_end, module_text, IsSameFunction, AreSameFound, AreSameEntries, ReadsBack, PrintedModulesReadBack}
 use Rattle.ir_tree.specs.declared.module.Module.{Module}
-use Rattle.ir_items.specs.declared.item.Define.{Define}
-use Rattle.ir_grammar.specs.declared.written.WrittenFunction.{WrittenFunction}
 use Rattle.ir_grammar.proofs.PlainGrammar.{plain-define}
-use Rattle.ir_numbering.specs.Numbering.{numbered}
-use Rattle.ir_reader.specs.Functions.{IsFunction, well_formed, without_places}
 use Rattle.ir_reader.specs.Module.{tokens_of, AreEntries}
-use Rattle.token_text.specs.Pieces.{Piece, text_of}
-use Rattle.token_text.specs.Laws.{spelled, LexesTo}
 use Rattle.token_text.proofs.Lexed.{texts-lexed}
-use Rattle.ir_printer.specs.Pieces.{none, line}
-use Rattle.ir_printer.specs.ModuleText.{accepted, accepted_first, functions_pieces, has_any, last_end, module_text}
-use Rattle.read_back.specs.SameModule.{IsSameFunction, AreSameFound, AreSameEntries}
-use Rattle.read_back.specs.ReadBack.{ReadsBack, PrintedModulesReadBack}
 use Rattle.read_back.proofs.Written.{written_pieces}
 use Rattle.read_back.proofs.Spellable.{IsSpellable}
 use Rattle.read_back.proofs.Steps.{SpellableIsSpelled}

@@ -1,9 +1,5 @@
 -- Functions that are the same except for the positions of their parts.
-use Rattle.std.proofs.Common.{sym, ap, ◌∙◌, subst}
-use Rattle.ir_tree.specs.declared.tree.Function.{Function}
-use Rattle.ir_tree.specs.WellFormed.{IsWellFormed}
-use Rattle.ir_reader.proofs.Placed.{placed, well_formed-placed}
-use Rattle.read_back.specs.SameModule.{IsSameFunction}
+use Rattle.read_back.proofs.Common.{sym, ap, ◌∙◌, subst, Function, IsWellFormed, placed, well_formed-placed, IsSameFunction}
 
 pub well_formed-same : (f g : Function) → IsSameFunction f g → IsWellFormed f → IsWellFormed g
 well_formed-same f g same h = subst IsWellFormed (sym same) (well_formed-placed f g.places h)

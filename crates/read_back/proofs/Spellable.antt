@@ -1,38 +1,10 @@
 -- What holds of each function that some tokens spell, apart from those tokens.
-use Rattle.std.proofs.Common.{◌≡◌, ◌<◌, ◌≤◌, ◌+◌, ◌^◌, ℕ, List, [], ◌∷◌, length, Bool, true, false, Option, Some, None}
-use Rattle.std.specs.Prelude.{All}
-use Rattle.std.specs.List.{AllByRecursion, Contains}
-use Rattle.ir_lexer.specs.Spelling.{is_digits}
-use Rattle.ir_items.specs.Names.{without_zeros}
-use Rattle.ir_tree.specs.Types.{one_bit}
-use Rattle.ir_tree.specs.Limits.{alignments}
-use Rattle.ir_tree.specs.declared.name.Name.{Name}
+use Rattle.read_back.proofs.Common.{◌≡◌, ◌<◌, ◌≤◌, ◌+◌, ◌^◌, ℕ, List, [], ◌∷◌, length, Bool, true, false, Option, Some, None, All, AllByRecursion, Contains, is_digits, without_zeros, one_bit, alignments, Name, IrType, Int, Ptr, MemoryType, WrittenName, WrittenValue, WrittenTyped, WrittenParameter, GepFlags, WrittenAccess, WrittenIndex, WrittenInst, WrittenEntry, WrittenPhi, WrittenCase, WrittenReturn, Void, Value, WrittenTerminator, WrittenBody, WrittenBlock, WrittenFunction, is_memory_type, is_pointer_type, is_small_object}
 use Rattle.ir_tree.specs.declared.name.Name.TheVariants as name
-use Rattle.ir_tree.specs.declared.tree.IrType.{IrType}
-use Rattle.ir_tree.specs.declared.tree.IrType.TheVariants.{Int, Ptr}
-use Rattle.ir_tree.specs.declared.tree.MemoryType.{MemoryType}
-use Rattle.ir_grammar.specs.declared.written.WrittenName.{WrittenName}
-use Rattle.ir_grammar.specs.declared.written.WrittenValue.{WrittenValue}
 use Rattle.ir_grammar.specs.declared.written.WrittenValue.TheVariants as value
-use Rattle.ir_grammar.specs.declared.written.WrittenTyped.{WrittenTyped}
-use Rattle.ir_grammar.specs.declared.written.WrittenParameter.{WrittenParameter}
-use Rattle.ir_grammar.specs.declared.written.GepFlags.{GepFlags}
-use Rattle.ir_grammar.specs.declared.written.WrittenAccess.{WrittenAccess}
 use Rattle.ir_grammar.specs.declared.written.WrittenAccess.TheVariants as access
-use Rattle.ir_grammar.specs.declared.written.WrittenIndex.{WrittenIndex}
-use Rattle.ir_grammar.specs.declared.written.WrittenInst.{WrittenInst}
 use Rattle.ir_grammar.specs.declared.written.WrittenInst.TheVariants as inst
-use Rattle.ir_grammar.specs.declared.written.WrittenEntry.{WrittenEntry}
-use Rattle.ir_grammar.specs.declared.written.WrittenPhi.{WrittenPhi}
-use Rattle.ir_grammar.specs.declared.written.WrittenCase.{WrittenCase}
-use Rattle.ir_grammar.specs.declared.written.WrittenReturn.{WrittenReturn}
-use Rattle.ir_grammar.specs.declared.written.WrittenReturn.TheVariants.{Void, Value}
-use Rattle.ir_grammar.specs.declared.written.WrittenTerminator.{WrittenTerminator}
 use Rattle.ir_grammar.specs.declared.written.WrittenTerminator.TheVariants as end
-use Rattle.ir_grammar.specs.declared.written.WrittenBody.{WrittenBody}
-use Rattle.ir_grammar.specs.declared.written.WrittenBlock.{WrittenBlock}
-use Rattle.ir_grammar.specs.declared.written.WrittenFunction.{WrittenFunction}
-use Rattle.ir_grammar.specs.Spelling.{is_memory_type, is_pointer_type, is_small_object}
 
 -- digits without leading zeros, or bytes
 abbrev pub IsName : Name → Type 0

@@ -1,28 +1,9 @@
 -- Printed blocks are spelled.
-use Rattle.std.proofs.Common.{◌≡◌, ℕ, zero, ◌+◌, ◌-◌, ◌<◌, ◌≤◌, Bool, true, false, List, [], ◌∷◌, ◌++◌, map, length, Option, Some, None, refl, sym, ap, subst, ◌∙◌, arith, append_assoc, append-nil}
-use Rattle.std.specs.Prelude.{nat_lt, ◌==◌}
-use Rattle.std.specs.List.{flat_map, AllByRecursion}
-use Rattle.std.proofs.lemmas.Bool.{lt-ltb}
-use Rattle.std.proofs.lemmas.List.{map-append}
-use Rattle.text_places.specs.declared.place.Place.{Place}
-use Rattle.ir_tree.specs.declared.name.Name.{Name}
+use Rattle.read_back.proofs.Common.{◌≡◌, ℕ, zero, ◌+◌, ◌-◌, ◌<◌, ◌≤◌, Bool, true, false, List, [], ◌∷◌, ◌++◌, map, length, Option, Some, None, refl, sym, ap, subst, ◌∙◌, arith, append_assoc, append-nil, nat_lt, ◌==◌, flat_map, AllByRecursion, lt-ltb, map-append, Place, Name, WrittenName, WrittenPhi, WrittenInst, WrittenLines, WrittenTerminator, WrittenBody, WrittenBlock, WrittenBlocks, is_comma, starts_line, line_begins, line_within, may_have_phi, commas, whole_line, with_inst, with_line, next_line, opened, lines, attachments, block, entry_alone, entry_block, begins_block, block_begins, with_block, next_block, blocks, never, either, part_begins, Piece, indented}
 use Rattle.ir_grammar.specs.declared.word.LineStart.TheVariants as start
-use Rattle.ir_grammar.specs.declared.written.WrittenName.{WrittenName}
-use Rattle.ir_grammar.specs.declared.written.WrittenPhi.{WrittenPhi}
-use Rattle.ir_grammar.specs.declared.written.WrittenInst.{WrittenInst}
 use Rattle.ir_grammar.specs.declared.written.WrittenLine.TheVariants as line
-use Rattle.ir_grammar.specs.declared.written.WrittenLines.{WrittenLines}
-use Rattle.ir_grammar.specs.declared.written.WrittenTerminator.{WrittenTerminator}
-use Rattle.ir_grammar.specs.declared.written.WrittenBody.{WrittenBody}
-use Rattle.ir_grammar.specs.declared.written.WrittenBlock.{WrittenBlock}
-use Rattle.ir_grammar.specs.declared.written.WrittenBlocks.{WrittenBlocks}
-use Rattle.ir_grammar.specs.Grammar.{is_comma, starts_line, line_begins, line_within, may_have_phi, commas, whole_line, with_inst, with_line, next_line, opened, lines, attachments, block, entry_alone, entry_block, begins_block, block_begins, with_block, next_block, blocks}
 use Rattle.ir_grammar.specs.Grammar as form
-use Rattle.token_forms.specs.Form.{never, either}
-use Rattle.token_forms.specs.Spelling.{part_begins}
-use Rattle.token_text.specs.Pieces.{Piece}
 use Rattle.ir_printer.specs.Pieces as piece
-use Rattle.ir_printer.specs.Pieces.{indented}
 use Rattle.read_back.proofs.Written.{phi_pieces, inst_pieces, terminator_pieces, body_pieces, block_pieces}
 use Rattle.read_back.proofs.Placeless.{name_of, phi_of, inst_of, terminator_of, body_of, block_of}
 use Rattle.read_back.proofs.Spellable.{IsName, IsPhi, IsInst, AreInsts, IsTerminator, IsBody, body_size, AreBlocks}

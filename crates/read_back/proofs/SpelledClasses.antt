@@ -1,37 +1,11 @@
 -- What single tokens denote that have the bytes of printed names, types, operands and words.
-use Rattle.std.proofs.Common.{◌≡◌, ℕ, ◌^◌, ◌<◌, ◌≤◌, Bool, true, false, List, Option, Some, None, refl, sym, ap, ◌∙◌, arith, codes}
-use Rattle.std.specs.List.{Contains}
-use Rattle.std.specs.Str.{bytes_eq}
-use Rattle.std.specs.Fmt.{decimal}
-use Rattle.std.proofs.lemmas.Bool.{lt-ltb}
-use Rattle.tv_num.specs.declared.Width.{Width}
-use Rattle.text_places.specs.declared.place.Place.{Place}
-use Rattle.ir_lexer.specs.Spelling.{is_digits}
-use Rattle.ir_lexer.specs.Lexeme.{Lexeme}
-use Rattle.ir_tree.specs.Limits.{alignments}
-use Rattle.ir_tree.specs.declared.name.Name.{Name}
-use Rattle.ir_tree.specs.declared.tree.IrType.{IrType}
-use Rattle.ir_tree.specs.declared.tree.IrType.TheVariants.{Int, Ptr}
-use Rattle.ir_tree.specs.declared.tree.Predicate.{Predicate}
+use Rattle.read_back.proofs.Common.{◌≡◌, ℕ, ◌^◌, ◌<◌, ◌≤◌, Bool, true, false, List, Option, Some, None, refl, sym, ap, ◌∙◌, arith, codes, Contains, bytes_eq, decimal, lt-ltb, Width, Place, is_digits, Lexeme, alignments, Name, IrType, Int, Ptr, Predicate, LineWord, WrittenName, WrittenIntType, WrittenType, WrittenReturnType, WrittenOperand, WrittenValue, WrittenLiteral, value_of, width_of, is_negative, magnitude, wrapped, in_range, or_word, memory_word, inst_word, opcode_named, bits_behind, spelled_width, int_typed_at, is_width, int_type_in, type_in, typed_at, memory_type_in, memory_type_of, is_memory_type, type_at, is_small_object, fits_object, returned_at, int_type, counted_type, memory_type, element_type, pointer_type, bit_type, return_type, operand_class, literal_class, array_length, alignment, predicate_class, line_word, width_text, type_text, predicate_text, return_text}
 use Rattle.ir_tree.specs.declared.tree.Predicate.TheVariants as predicate
-use Rattle.ir_grammar.specs.declared.word.LineWord.{LineWord}
-use Rattle.ir_grammar.specs.declared.written.WrittenName.{WrittenName}
-use Rattle.ir_grammar.specs.declared.written.WrittenIntType.{WrittenIntType}
-use Rattle.ir_grammar.specs.declared.written.WrittenType.{WrittenType}
-use Rattle.ir_grammar.specs.declared.written.WrittenReturnType.{WrittenReturnType}
-use Rattle.ir_grammar.specs.declared.written.WrittenOperand.{WrittenOperand}
-use Rattle.ir_grammar.specs.declared.written.WrittenValue.{WrittenValue}
 use Rattle.ir_grammar.specs.declared.written.WrittenValue.TheVariants as value
-use Rattle.ir_grammar.specs.declared.written.WrittenLiteral.{WrittenLiteral}
-use Rattle.ir_grammar.specs.Numbers.{value_of, width_of, is_negative, magnitude, wrapped, in_range}
-use Rattle.ir_grammar.specs.Words.{or_word, memory_word, inst_word, opcode_named}
-use Rattle.ir_grammar.specs.Spelling.{bits_behind, spelled_width, int_typed_at, is_width, int_type_in, type_in, typed_at, is_type, memory_type_in, memory_type_of, is_memory_type, type_at, is_small_object, fits_object, returned_at}
-use Rattle.ir_grammar.specs.Classes.{local, global, int_type, counted_type, memory_type, element_type, pointer_type, bit_type, return_type, operand_class, literal_class, array_length, alignment, predicate_class, line_word}
+use Rattle.ir_grammar.specs.Spelling.{is_type}
+use Rattle.ir_grammar.specs.Classes.{local, global}
 use Rattle.ir_grammar.proofs.Widths.{width_of-bits}
 use Rattle.ir_printer.specs.Pieces as piece
-use Rattle.ir_printer.specs.Pieces.{width_text, type_text}
-use Rattle.ir_printer.specs.Instructions.{predicate_text}
-use Rattle.ir_printer.specs.ModuleText.{return_text}
 use Rattle.read_back.proofs.Written.{value_piece}
 use Rattle.read_back.proofs.Spellable.{IsName, FitsValue}
 use Rattle.read_back.proofs.SpelledTokens.{Reads, as_piece}

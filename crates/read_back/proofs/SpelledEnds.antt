@@ -1,33 +1,9 @@
 -- Printed last instructions of blocks are spelled.
-use Rattle.std.proofs.Common.{◌≡◌, ℕ, ◌+◌, ◌<◌, ◌≤◌, Bool, true, false, List, [], ◌∷◌, ◌++◌, map, length, Option, Some, None, refl, sym, ap, subst, ◌∙◌, codes, arith, append_assoc, append-nil}
-use Rattle.std.specs.Prelude.{is_some}
-use Rattle.std.specs.List.{flat_map, AllByRecursion}
-use Rattle.std.proofs.lemmas.Bool.{lt-ltb, and_from}
-use Rattle.std.proofs.lemmas.List.{map-append, length-append}
-use Rattle.tv_num.specs.declared.Width.{Width}
-use Rattle.text_places.specs.declared.place.Place.{Place}
-use Rattle.ir_tree.specs.Sites.{no_place}
-use Rattle.ir_tree.specs.Types.{one_bit}
-use Rattle.ir_tree.specs.declared.tree.IrType.TheVariants.{Int}
-use Rattle.ir_grammar.specs.declared.word.TerminatorWord.{TerminatorWord}
+use Rattle.read_back.proofs.Common.{◌≡◌, ℕ, ◌+◌, ◌<◌, ◌≤◌, Bool, true, false, List, [], ◌∷◌, ◌++◌, map, length, Option, Some, None, refl, sym, ap, subst, ◌∙◌, codes, arith, append_assoc, append-nil, is_some, flat_map, AllByRecursion, lt-ltb, and_from, map-append, length-append, Width, Place, no_place, one_bit, Int, TerminatorWord, WrittenName, WrittenIntType, WrittenOperand, WrittenCase, WrittenReturn, Void, Value, WrittenTerminator, int_typed_at, is_width, terminator_word, returned, cond_branch, branch_to, branch, is_type, case_begins, case_within, with_case, cases, switch, return_of, terminator_by, never, part_begins, part_value, Piece, space, indented, comma, width_text}
 use Rattle.ir_grammar.specs.declared.word.TerminatorWord.TheVariants as finish
-use Rattle.ir_grammar.specs.declared.written.WrittenName.{WrittenName}
-use Rattle.ir_grammar.specs.declared.written.WrittenIntType.{WrittenIntType}
-use Rattle.ir_grammar.specs.declared.written.WrittenOperand.{WrittenOperand}
-use Rattle.ir_grammar.specs.declared.written.WrittenCase.{WrittenCase}
-use Rattle.ir_grammar.specs.declared.written.WrittenReturn.{WrittenReturn}
-use Rattle.ir_grammar.specs.declared.written.WrittenReturn.TheVariants.{Void, Value}
-use Rattle.ir_grammar.specs.declared.written.WrittenTerminator.{WrittenTerminator}
 use Rattle.ir_grammar.specs.declared.written.WrittenTerminator.TheVariants as end
-use Rattle.ir_grammar.specs.Spelling.{int_typed_at, is_width}
-use Rattle.ir_grammar.specs.Classes.{terminator_word}
-use Rattle.ir_grammar.specs.Grammar.{returned, cond_branch, branch_to, branch, is_type, case_begins, case_within, with_case, cases, switch, return_of, terminator_by}
 use Rattle.ir_grammar.specs.Grammar as form
-use Rattle.token_forms.specs.Form.{never}
-use Rattle.token_forms.specs.Spelling.{part_begins, part_value}
-use Rattle.token_text.specs.Pieces.{Piece}
 use Rattle.ir_printer.specs.Pieces as piece
-use Rattle.ir_printer.specs.Pieces.{space, indented, comma, width_text}
 use Rattle.read_back.proofs.Written.{value_piece, target, case_pieces, returned_pieces, terminator_pieces}
 use Rattle.read_back.proofs.Placeless.{name_of, int_type_of, operand_of, case_of, literal_of, returned_of, terminator_of}
 use Rattle.read_back.proofs.Spellable.{IsName, FitsValue, IsCase, IsReturned, IsTerminator}

@@ -1,24 +1,6 @@
 -- What is spellable is spelled by the tokens that are printed.
-use Rattle.std.proofs.Common.{◌≡◌, ℕ, ◌≤◌, Bool, true, false, List, [], ◌∷◌, ◌++◌, map, length, Option, Some, None, refl, sym, ap, subst, ◌∙◌, codes, arith, append_assoc}
-use Rattle.std.specs.List.{flat_map}
-use Rattle.text_places.specs.declared.place.Place.{Place}
-use Rattle.ir_tree.specs.Sites.{no_place}
-use Rattle.ir_tree.specs.declared.name.Name.{Name}
-use Rattle.ir_grammar.specs.declared.written.WrittenName.{WrittenName}
-use Rattle.ir_grammar.specs.declared.written.WrittenParameter.{WrittenParameter}
-use Rattle.ir_grammar.specs.declared.written.WrittenBody.{WrittenBody}
-use Rattle.ir_grammar.specs.declared.written.WrittenBlock.{WrittenBlock}
-use Rattle.ir_grammar.specs.declared.written.WrittenBlocks.{WrittenBlocks}
-use Rattle.ir_grammar.specs.declared.written.WrittenFunction.{WrittenFunction}
-use Rattle.ir_grammar.specs.Grammar.{is_prefix, prefixes, follows_header, header_parts, define}
-use Rattle.ir_numbering.specs.Numbering.{name_or, names_of, named_behind, entry_name}
-use Rattle.ir_numbering.specs.EntryName.{next_name}
-use Rattle.token_forms.specs.Form.{never}
-use Rattle.token_text.specs.Pieces.{Piece}
+use Rattle.read_back.proofs.Common.{◌≡◌, ℕ, ◌≤◌, Bool, true, false, List, [], ◌∷◌, ◌++◌, map, length, Option, Some, None, refl, sym, ap, subst, ◌∙◌, codes, arith, append_assoc, flat_map, Place, no_place, Name, WrittenName, WrittenParameter, WrittenBody, WrittenBlock, WrittenBlocks, WrittenFunction, is_prefix, prefixes, follows_header, header_parts, define, name_or, names_of, named_behind, entry_name, next_name, never, Piece, none, space, word_if, return_text}
 use Rattle.ir_printer.specs.Pieces as piece
-use Rattle.ir_printer.specs.Pieces.{none, space}
-use Rattle.ir_printer.specs.Instructions.{word_if}
-use Rattle.ir_printer.specs.ModuleText.{return_text}
 use Rattle.read_back.proofs.Written.{parameters_pieces, body_pieces, block_pieces, written_pieces}
 use Rattle.read_back.proofs.Placeless.{name_of, parameter_of, body_of, block_of, return_type_of, placeless}
 use Rattle.read_back.proofs.Spellable.{IsSpellable}

@@ -1,22 +1,6 @@
 -- The names that the language gives to what is written without one are names that can be printed.
-use Rattle.std.proofs.Common.{◌≡◌, ◌⊎◌, inl, inr, ℕ, ◌+◌, ◌<◌, ◌≤◌, Bool, true, false, eqb, ltb, cond, List, [], ◌∷◌, ◌++◌, length, Option, Some, None, refl, sym, ap, subst, ◌∙◌, arith}
-use Rattle.std.specs.Prelude.{All, ◌&&◌}
-use Rattle.std.specs.List.{list_all, AllByRecursion}
-use Rattle.std.proofs.lemmas.Bool.{and_parts, and_from, and_right, ne_eqb, eqb-false, le-ltb, lt-ltb}
-use Rattle.std.proofs.lemmas.List.{length-append}
-use Rattle.std.proofs.lemmas.List.Elements.{All-contains, All-from_recursion}
-use Rattle.ir_lexer.specs.Bytes.{is_digit}
-use Rattle.ir_tree.specs.declared.name.Name.{Name}
+use Rattle.read_back.proofs.Common.{◌≡◌, ◌⊎◌, inl, inr, ℕ, ◌+◌, ◌<◌, ◌≤◌, Bool, true, false, eqb, ltb, cond, List, [], ◌∷◌, ◌++◌, length, Option, Some, None, refl, sym, ap, subst, ◌∙◌, arith, All, ◌&&◌, list_all, AllByRecursion, and_parts, and_from, and_right, ne_eqb, eqb-false, le-ltb, lt-ltb, length-append, All-contains, All-from_recursion, is_digit, Name, without_zeros, is_pointer_type, WrittenName, WrittenParameter, NamedParameter, next_name, AreDigits, IsDecimal, AreDecimal, name_or, names_of, named, named_behind, next-name}
 use Rattle.ir_tree.specs.declared.name.Name.TheVariants as name
-use Rattle.ir_items.specs.Names.{without_zeros}
-use Rattle.ir_grammar.specs.Spelling.{is_pointer_type}
-use Rattle.ir_grammar.specs.declared.written.WrittenName.{WrittenName}
-use Rattle.ir_grammar.specs.declared.written.WrittenParameter.{WrittenParameter}
-use Rattle.ir_numbering.specs.declared.numbering.NamedParameter.{NamedParameter}
-use Rattle.ir_numbering.specs.EntryName.{next_name}
-use Rattle.ir_numbering.specs.NextNumber.{AreDigits, IsDecimal, AreDecimal}
-use Rattle.ir_numbering.specs.Numbering.{name_or, names_of, named, named_behind}
-use Rattle.ir_numbering.proofs.NextValue.{next-name}
 use Rattle.read_back.proofs.Spellable.{IsName, IsNameOrNone, IsParameter}
 use Rattle.read_back.proofs.SpelledNumbers.{is-digit, digit-range}
 

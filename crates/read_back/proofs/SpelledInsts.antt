@@ -1,40 +1,18 @@
 -- Printed instructions whose lines end without a comma are spelled.
-use Rattle.std.proofs.Common.{◌≡◌, ℕ, Bool, true, false, List, [], ◌∷◌, ◌++◌, Some, refl, ap, ◌∙◌, codes}
-use Rattle.std.specs.Str.{bytes_eq}
-use Rattle.text_places.specs.declared.place.Place.{Place}
-use Rattle.ir_lexer.specs.Lexeme.{Lexeme}
-use Rattle.ir_tree.specs.Sites.{no_place}
-use Rattle.ir_tree.specs.Types.{one_bit}
-use Rattle.ir_tree.specs.declared.tree.IrType.TheVariants.{Int}
-use Rattle.ir_tree.specs.declared.tree.Flags.{Flags}
-use Rattle.ir_tree.specs.declared.tree.Op.{Op}
+use Rattle.read_back.proofs.Common.{◌≡◌, ℕ, Bool, true, false, List, [], ◌∷◌, ◌++◌, Some, refl, ap, ◌∙◌, codes, bytes_eq, Place, Lexeme, no_place, one_bit, Int, Flags, Op, Cast, Predicate, Opcode, WrittenName, WrittenIntType, WrittenOperand, WrittenTyped, WrittenInst, WrittenLine, wrapping_op, exact_op, or_word, memory_word, inst_word, opcode_named, comparison, wrapping, exact, plain, disjunction, icmp, cast_by, truncate, zero_extend, sign_extend, select, freeze, inst_by, line_named, Form, seq, Piece, space, comma, width_text, type_text, word_if, flag_pieces, op_pieces, predicate_text, cast_pieces}
 use Rattle.ir_tree.specs.declared.tree.Op.TheVariants as op
-use Rattle.ir_tree.specs.declared.tree.Cast.{Cast}
 use Rattle.ir_tree.specs.declared.tree.Cast.TheVariants as cast
-use Rattle.ir_tree.specs.declared.tree.Predicate.{Predicate}
 use Rattle.ir_grammar.specs.declared.word.Flag.TheVariants as flag
 use Rattle.ir_grammar.specs.declared.word.WrapWord.{WrapWord}
 use Rattle.ir_grammar.specs.declared.word.WrapWord.TheVariants as wrap
 use Rattle.ir_grammar.specs.declared.word.ExactWord.{ExactWord}
 use Rattle.ir_grammar.specs.declared.word.ExactWord.TheVariants as exact_word
-use Rattle.ir_grammar.specs.declared.word.Opcode.{Opcode}
 use Rattle.ir_grammar.specs.declared.word.Opcode.TheVariants as opcode
 use Rattle.ir_grammar.specs.declared.word.LineWord.TheVariants as word_of
-use Rattle.ir_grammar.specs.declared.written.WrittenName.{WrittenName}
-use Rattle.ir_grammar.specs.declared.written.WrittenIntType.{WrittenIntType}
-use Rattle.ir_grammar.specs.declared.written.WrittenOperand.{WrittenOperand}
-use Rattle.ir_grammar.specs.declared.written.WrittenTyped.{WrittenTyped}
-use Rattle.ir_grammar.specs.declared.written.WrittenInst.{WrittenInst}
 use Rattle.ir_grammar.specs.declared.written.WrittenInst.TheVariants as inst
-use Rattle.ir_grammar.specs.declared.written.WrittenLine.{WrittenLine}
 use Rattle.ir_grammar.specs.declared.written.WrittenLine.TheVariants as line
-use Rattle.ir_grammar.specs.Words.{wrapping_op, exact_op, or_word, memory_word, inst_word, opcode_named}
-use Rattle.ir_grammar.specs.Instructions.{comparison, wrapping, exact, plain, disjunction, icmp, cast_by, truncate, zero_extend, sign_extend, select, freeze, inst_by, inst_line, line_named}
-use Rattle.token_forms.specs.Form.{Form, seq}
-use Rattle.token_text.specs.Pieces.{Piece}
+use Rattle.ir_grammar.specs.Instructions.{inst_line}
 use Rattle.ir_printer.specs.Pieces as piece
-use Rattle.ir_printer.specs.Pieces.{space, comma, width_text, type_text}
-use Rattle.ir_printer.specs.Instructions.{word_if, flag_pieces, op_pieces, predicate_text, cast_pieces}
 use Rattle.read_back.proofs.Written.{value_piece, typed_pieces, operand_pieces}
 use Rattle.read_back.proofs.Placeless.{name_of, operand_of, inst_of}
 use Rattle.read_back.proofs.Spellable.{FitsValue, IsTyped}

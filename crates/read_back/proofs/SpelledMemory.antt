@@ -1,27 +1,9 @@
 -- Printed types of objects and instructions on memory are spelled, up to what follows commas.
-use Rattle.std.proofs.Common.{◌≡◌, ℕ, suc, ◌+◌, ◌<◌, ◌≤◌, ◌^◌, Bool, true, false, List, [], ◌∷◌, ◌++◌, length, refl, sym, ap, subst, ◌∙◌, codes, arith, append_assoc, append-nil}
-use Rattle.std.specs.Prelude.{All}
-use Rattle.std.proofs.lemmas.Bool.{lt-ltb}
-use Rattle.std.proofs.lemmas.List.{length-append}
+use Rattle.read_back.proofs.Common.{◌≡◌, ℕ, suc, ◌+◌, ◌<◌, ◌≤◌, ◌^◌, Bool, true, false, List, [], ◌∷◌, ◌++◌, length, refl, sym, ap, subst, ◌∙◌, codes, arith, append_assoc, append-nil, All, lt-ltb, length-append, WrittenName, WrittenType, WrittenTyped, WrittenObject, WrittenArrays, GepFlags, WrittenGep, WrittenAccess, WrittenLine, is_memory_type, is_square, array_begins, array_within, with_length, arrays, no_gep_flags, behind_flags, closers, alloca_object, is_gep_flag, gep_flags, gep_arrays, gep_object, alloca, load, store, gep, line_named, never, either, Piece, none, space, comma, type_text, array_pieces, closing_pieces, object_pieces, word_if}
 use Rattle.ir_grammar.specs.declared.word.LineWord.TheVariants as word_of
-use Rattle.ir_grammar.specs.declared.written.WrittenName.{WrittenName}
-use Rattle.ir_grammar.specs.declared.written.WrittenType.{WrittenType}
-use Rattle.ir_grammar.specs.declared.written.WrittenTyped.{WrittenTyped}
-use Rattle.ir_grammar.specs.declared.written.WrittenObject.{WrittenObject}
-use Rattle.ir_grammar.specs.declared.written.WrittenArrays.{WrittenArrays}
-use Rattle.ir_grammar.specs.declared.written.GepFlags.{GepFlags}
-use Rattle.ir_grammar.specs.declared.written.WrittenGep.{WrittenGep}
-use Rattle.ir_grammar.specs.declared.written.WrittenAccess.{WrittenAccess}
 use Rattle.ir_grammar.specs.declared.written.WrittenAccess.TheVariants as access
-use Rattle.ir_grammar.specs.declared.written.WrittenLine.{WrittenLine}
 use Rattle.ir_grammar.specs.declared.written.WrittenLine.TheVariants as line
-use Rattle.ir_grammar.specs.Spelling.{is_memory_type}
-use Rattle.ir_grammar.specs.Instructions.{is_square, array_begins, array_within, with_length, arrays, no_gep_flags, behind_flags, closers, alloca_object, is_gep_flag, gep_flags, gep_arrays, gep_object, alloca, load, store, gep, line_named}
-use Rattle.token_forms.specs.Form.{never, either}
-use Rattle.token_text.specs.Pieces.{Piece}
 use Rattle.ir_printer.specs.Pieces as piece
-use Rattle.ir_printer.specs.Pieces.{none, space, comma, type_text, array_pieces, closing_pieces, object_pieces}
-use Rattle.ir_printer.specs.Instructions.{word_if}
 use Rattle.read_back.proofs.Written.{typed_pieces, pointer_pieces}
 use Rattle.read_back.proofs.Placeless.{name_of, type_of, typed_of, object_of, access_of, gep_of}
 use Rattle.read_back.proofs.Spellable.{IsTyped, IsPointer, IsObject, AreFlags}

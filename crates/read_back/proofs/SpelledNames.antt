@@ -1,17 +1,8 @@
 -- A printed name is read as itself.
-use Rattle.std.proofs.Common.{◌≡◌, ℕ, suc, ◌+◌, ◌-◌, ◌*◌, ◌/◌, ◌%◌, ◌<◌, Bool, true, false, eqb, cond, List, [], ◌∷◌, ◌++◌, length, take, refl, sym, ap, ◌∙◌, arith}
-use Rattle.std.specs.Prelude.{not, All}
-use Rattle.std.specs.List.{list_all, flat_map}
-use Rattle.std.proofs.lemmas.Bool.{and_parts, and_left, ne_eqb, not-true}
-use Rattle.std.proofs.lemmas.Bool.Decides.{nat_tests}
-use Rattle.std.proofs.lemmas.List.{take_at, length-append}
-use Rattle.ir_lexer.specs.Bytes.{is_hexadecimal_digit}
+use Rattle.read_back.proofs.Common.{◌≡◌, ℕ, suc, ◌+◌, ◌-◌, ◌*◌, ◌/◌, ◌%◌, ◌<◌, Bool, true, false, eqb, cond, List, [], ◌∷◌, ◌++◌, length, take, refl, sym, ap, ◌∙◌, arith, not, All, list_all, flat_map, and_parts, and_left, ne_eqb, not-true, nat_tests, take_at, length-append, is_hexadecimal_digit, is_digits, Name, without_zeros, hexadecimal_value, is_backslash, unescaped, name_of, hex_digit, hex_byte, is_bare, is_plain, escaped, quoted, name_text}
 use Rattle.ir_lexer.specs.Bytes as bytes
-use Rattle.ir_lexer.specs.Spelling.{is_digits}
-use Rattle.ir_tree.specs.declared.name.Name.{Name}
 use Rattle.ir_tree.specs.declared.name.Name.TheVariants as name
-use Rattle.ir_items.specs.Names.{without_zeros, hexadecimal_value, is_backslash, unescaped, name_of}
-use Rattle.ir_naming.specs.Naming.{hex_digit, hex_byte, is_digit, is_name_byte, is_bare, is_plain, escaped, quoted, name_text}
+use Rattle.ir_naming.specs.Naming.{is_digit, is_name_byte}
 use Rattle.read_back.proofs.Spellable.{IsName}
 use Rattle.read_back.proofs.SpelledNumbers.{digit-range}
 

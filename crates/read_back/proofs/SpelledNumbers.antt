@@ -1,16 +1,7 @@
 -- A printed number is read as itself.
-use Rattle.std.proofs.Common.{◌≡◌, ℕ, ◌+◌, ◌-◌, ◌*◌, ◌/◌, ◌%◌, ◌^◌, ◌<◌, ◌≤◌, Bool, true, false, eqb, ltb, List, [], ◌∷◌, ◌++◌, refl, sym, ap, subst, ◌∙◌, arith}
-use Rattle.std.specs.Prelude.{◌||◌, nat_eq, get_or}
-use Rattle.std.specs.List.{list_all, list_any, Contains}
-use Rattle.std.specs.Fmt.{decimal}
-use Rattle.std.proofs.lemmas.Fmt.{decimal_by_steps}
-use Rattle.std.proofs.Math.Nat.{pow-le-pow_right}
+use Rattle.read_back.proofs.Common.{◌≡◌, ℕ, ◌+◌, ◌-◌, ◌*◌, ◌/◌, ◌%◌, ◌^◌, ◌<◌, ◌≤◌, Bool, true, false, eqb, ltb, List, [], ◌∷◌, ◌++◌, refl, sym, ap, subst, ◌∙◌, arith, ◌||◌, nat_eq, list_all, list_any, Contains, decimal, decimal_by_steps, pow-le-pow_right, ltb-true, le-leb, leb-true, and_parts, and_from, ne_eqb, eq-eqb, eqb-true, is_digit, is_digits, value_after, value_of, is_negative, magnitude, alignments}
+use Rattle.std.specs.Prelude.{get_or}
 use Rattle.std.proofs.lemmas.List.Folds.{list_any_at}
-use Rattle.std.proofs.lemmas.Bool.{ltb-true, le-leb, leb-true, and_parts, and_from, ne_eqb, eq-eqb, eqb-true}
-use Rattle.ir_lexer.specs.Bytes.{is_digit}
-use Rattle.ir_lexer.specs.Spelling.{is_digits}
-use Rattle.ir_grammar.specs.Numbers.{value_after, value_of, is_negative, magnitude}
-use Rattle.ir_tree.specs.Limits.{alignments}
 
 -- digits of this value
 pub record IsNumeral (n : ℕ) (ds : List ℕ) : Type 0 where

@@ -1,26 +1,10 @@
 -- Printed operands are spelled.
-use Rattle.std.proofs.Common.{◌≡◌, ℕ, Bool, true, false, List, [], ◌∷◌, ◌++◌, Some, refl, codes}
-use Rattle.text_places.specs.declared.place.Place.{Place}
-use Rattle.ir_lexer.specs.Lexeme.{Lexeme}
+use Rattle.read_back.proofs.Common.{◌≡◌, ℕ, Bool, true, false, List, [], ◌∷◌, ◌++◌, Some, refl, codes, Place, Lexeme, Int, Ptr, Flags, Op, Width, WrittenIntType, WrittenTyped, WrittenOperand, WrittenName, is_word_of, is_mark_of, flag_text, passed, flag_fits, is_wrap, wraps, flagged_type, typed, pointer, binary, Form, never, one, seq, Piece, space, comma, width_text, word_if, flag_pieces}
 use Rattle.ir_lexer.specs.declared.token.Kind.TheVariants as kind
-use Rattle.ir_tree.specs.declared.tree.IrType.TheVariants.{Int, Ptr}
-use Rattle.ir_tree.specs.declared.tree.Flags.{Flags}
-use Rattle.ir_tree.specs.declared.tree.Op.{Op}
-use Rattle.tv_num.specs.declared.Width.{Width}
 use Rattle.ir_grammar.specs.declared.word.Flag.{Flag}
-use Rattle.ir_grammar.specs.declared.written.WrittenIntType.{WrittenIntType}
-use Rattle.ir_grammar.specs.declared.written.WrittenTyped.{WrittenTyped}
 use Rattle.ir_grammar.specs.declared.written.WrittenInst.TheVariants as inst
-use Rattle.ir_grammar.specs.declared.written.WrittenOperand.{WrittenOperand}
-use Rattle.ir_grammar.specs.declared.written.WrittenName.{WrittenName}
-use Rattle.ir_grammar.specs.Words.{is_word_of, is_mark_of, flag_text}
-use Rattle.ir_grammar.specs.Classes.{passed, word, mark, flag_fits}
-use Rattle.ir_grammar.specs.Instructions.{is_wrap, wraps, flagged_type, typed, pointer, binary}
-use Rattle.token_forms.specs.Form.{Form, never, one, seq}
-use Rattle.token_text.specs.Pieces.{Piece}
+use Rattle.ir_grammar.specs.Classes.{word, mark}
 use Rattle.ir_printer.specs.Pieces as piece
-use Rattle.ir_printer.specs.Pieces.{space, comma, width_text}
-use Rattle.ir_printer.specs.Instructions.{word_if, flag_pieces}
 use Rattle.read_back.proofs.Written.{value_piece, typed_pieces, pointer_pieces}
 use Rattle.read_back.proofs.Placeless.{typed_of, inst_of}
 use Rattle.read_back.proofs.Spellable.{FitsValue, IsTyped, IsPointer}

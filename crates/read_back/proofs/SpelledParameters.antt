@@ -1,26 +1,7 @@
 -- Printed parameters are spelled.
-use Rattle.std.proofs.Common.{◌≡◌, ◌+◌, ◌≤◌, Bool, true, false, List, [], ◌∷◌, ◌++◌, map, length, Option, Some, None, refl, sym, ap, subst, ◌∙◌, codes, arith, append_assoc, append-nil}
-use Rattle.std.specs.Prelude.{nat_lt}
-use Rattle.std.specs.List.{flat_map, AllByRecursion}
-use Rattle.std.proofs.lemmas.Bool.{lt-ltb}
-use Rattle.std.proofs.lemmas.List.{map-append, length-append}
-use Rattle.text_places.specs.declared.place.Place.{Place}
-use Rattle.ir_tree.specs.declared.name.Name.{Name}
+use Rattle.read_back.proofs.Common.{◌≡◌, ◌+◌, ◌≤◌, Bool, true, false, List, [], ◌∷◌, ◌++◌, map, length, Option, Some, None, refl, sym, ap, subst, ◌∙◌, codes, arith, append_assoc, append-nil, nat_lt, flat_map, AllByRecursion, lt-ltb, map-append, length-append, Place, Name, WrittenName, WrittenType, WrittenParameter, WrittenParameters, is_pointer_type, follows_parameter, parameter_begins, with_part, parameter_parts, first_parameter, parameters, NamedParameter, named, named_behind, never, part_begins, Piece, none, space, comma, type_text, word_if}
 use Rattle.ir_grammar.specs.declared.word.ParameterPart.TheVariants as part
-use Rattle.ir_grammar.specs.declared.written.WrittenName.{WrittenName}
-use Rattle.ir_grammar.specs.declared.written.WrittenType.{WrittenType}
-use Rattle.ir_grammar.specs.declared.written.WrittenParameter.{WrittenParameter}
-use Rattle.ir_grammar.specs.declared.written.WrittenParameters.{WrittenParameters}
-use Rattle.ir_grammar.specs.Spelling.{is_pointer_type}
-use Rattle.ir_grammar.specs.Grammar.{follows_parameter, parameter_begins, with_part, parameter_parts, first_parameter, parameters}
-use Rattle.ir_numbering.specs.declared.numbering.NamedParameter.{NamedParameter}
-use Rattle.ir_numbering.specs.Numbering.{named, named_behind}
-use Rattle.token_forms.specs.Form.{never}
-use Rattle.token_forms.specs.Spelling.{part_begins}
-use Rattle.token_text.specs.Pieces.{Piece}
 use Rattle.ir_printer.specs.Pieces as piece
-use Rattle.ir_printer.specs.Pieces.{none, space, comma, type_text}
-use Rattle.ir_printer.specs.Instructions.{word_if}
 use Rattle.read_back.proofs.Written.{parameter_pieces, parameters_pieces}
 use Rattle.read_back.proofs.Placeless.{name_of, type_of, parameter_of}
 use Rattle.read_back.proofs.Spellable.{IsName}

@@ -1,25 +1,9 @@
 -- Printed phis are spelled.
-use Rattle.std.proofs.Common.{◌≡◌, ℕ, ◌+◌, ◌≤◌, Bool, true, false, List, [], ◌∷◌, ◌++◌, map, length, refl, sym, ap, subst, ◌∙◌, codes, arith, append_assoc, append-nil}
-use Rattle.std.specs.Prelude.{nat_lt}
-use Rattle.std.specs.List.{flat_map, AllByRecursion}
-use Rattle.std.proofs.lemmas.Bool.{lt-ltb}
-use Rattle.std.proofs.lemmas.List.{map-append, length-append, length-map}
+use Rattle.read_back.proofs.Common.{◌≡◌, ℕ, ◌+◌, ◌≤◌, Bool, true, false, List, [], ◌∷◌, ◌++◌, map, length, refl, sym, ap, subst, ◌∙◌, codes, arith, append_assoc, append-nil, nat_lt, flat_map, AllByRecursion, lt-ltb, map-append, length-append, length-map, WrittenName, WrittenType, WrittenEntry, WrittenPhi, WrittenLine, WrittenLines, line_word, entry, phi, with_entry, next_entry, entry_or_attachment, line_named, is_comma, commas, may_have_phi, next_number, whole_line, with_phi, with_line, next_line, never, Piece, space, indented, comma, type_text}
 use Rattle.ir_grammar.specs.declared.word.LineWord.TheVariants as word_of
 use Rattle.ir_grammar.specs.declared.word.LineStart.TheVariants as start
-use Rattle.ir_grammar.specs.declared.written.WrittenName.{WrittenName}
-use Rattle.ir_grammar.specs.declared.written.WrittenType.{WrittenType}
-use Rattle.ir_grammar.specs.declared.written.WrittenEntry.{WrittenEntry}
-use Rattle.ir_grammar.specs.declared.written.WrittenPhi.{WrittenPhi}
-use Rattle.ir_grammar.specs.declared.written.WrittenLine.{WrittenLine}
 use Rattle.ir_grammar.specs.declared.written.WrittenLine.TheVariants as line
-use Rattle.ir_grammar.specs.declared.written.WrittenLines.{WrittenLines}
-use Rattle.ir_grammar.specs.Classes.{line_word}
-use Rattle.ir_grammar.specs.Instructions.{entry, phi, with_entry, next_entry, entry_or_attachment, line_named}
-use Rattle.ir_grammar.specs.Grammar.{is_comma, commas, may_have_phi, next_number, whole_line, with_phi, with_line, next_line}
-use Rattle.token_forms.specs.Form.{never}
-use Rattle.token_text.specs.Pieces.{Piece}
 use Rattle.ir_printer.specs.Pieces as piece
-use Rattle.ir_printer.specs.Pieces.{space, indented, comma, type_text}
 use Rattle.read_back.proofs.Written.{value_piece, entry_pieces, phi_pieces}
 use Rattle.read_back.proofs.Placeless.{name_of, type_of, entry_of, phi_of}
 use Rattle.read_back.proofs.Spellable.{IsEntry, IsPhi}

@@ -1,13 +1,5 @@
 -- Tokens that have the classes and bytes of printed pieces, and what a form makes of them.
-use Rattle.std.proofs.Common.{◌≡◌, ℕ, zero, suc, List, [], ◌∷◌, ◌++◌, map, Bool, true, false, Option, Some, inl, inr, refl, sym, subst, ap}
-use Rattle.text_places.specs.declared.place.Place.{Place}
-use Rattle.ir_lexer.specs.declared.token.Kind.{Kind}
-use Rattle.ir_lexer.specs.Lexeme.{Lexeme}
-use Rattle.token_forms.specs.Form.{Class, Form, never, give, one, seq, upto, peek, tail, mapped}
-use Rattle.token_forms.specs.Spelling.{Token, part_begins}
-use Rattle.token_forms.specs.Plain.{PlainParts, SpellsPlainly}
-use Rattle.token_text.specs.Pieces.{Piece}
-use Rattle.token_text.specs.Laws.{spelled}
+use Rattle.read_back.proofs.Common.{◌≡◌, ℕ, zero, suc, List, [], ◌∷◌, ◌++◌, map, Bool, true, false, Option, Some, inl, inr, refl, sym, subst, ap, Place, Kind, Lexeme, Class, Form, never, give, one, seq, upto, peek, tail, mapped, Token, part_begins, PlainParts, SpellsPlainly, Piece, spelled}
 
 -- the first token has the class and the bytes of the piece
 pub record IsPiece (p : Piece) (ts others : List Lexeme) : Type 0 where

@@ -1,18 +1,5 @@
 -- The steps of the proof that a printed module reads back.
-use Rattle.std.proofs.Common.{◌≡◌, ℕ, List, [], map, true}
-use Rattle.std.specs.Prelude.{All}
-use Rattle.ir_lexer.specs.Lexeme.{Lexeme}
-use Rattle.token_forms.specs.Spelling.{Spells}
-use Rattle.token_forms.specs.Plain.{SpellsPlainly}
-use Rattle.ir_grammar.specs.Grammar.{define}
-use Rattle.ir_grammar.specs.declared.written.WrittenFunction.{WrittenFunction}
-use Rattle.ir_numbering.specs.Numbering.{numbered}
-use Rattle.token_text.specs.Pieces.{Piece, AreApart}
-use Rattle.token_text.specs.Laws.{spelled}
-use Rattle.ir_printer.specs.Pieces.{line}
-use Rattle.ir_printer.specs.ModuleText.{function_pieces}
-use Rattle.read_back.specs.SameModule.{IsSameFunction}
-use Rattle.read_back.specs.ReadBack.{IsOfBytes}
+use Rattle.read_back.proofs.Common.{◌≡◌, ℕ, List, [], map, true, All, Lexeme, Spells, SpellsPlainly, define, WrittenFunction, numbered, Piece, AreApart, spelled, line, function_pieces, IsSameFunction, IsOfBytes}
 use Rattle.read_back.proofs.Written.{written_pieces}
 use Rattle.read_back.proofs.Placeless.{placeless}
 use Rattle.read_back.proofs.Spellable.{IsSpellable}

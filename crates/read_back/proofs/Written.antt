@@ -1,36 +1,10 @@
 -- The tokens of a function as it is written, where its parts are printed instead of their numbers.
-use Rattle.std.proofs.Common.{ℕ, List, [], ◌∷◌, ◌++◌, Bool, Option, Some, None}
+use Rattle.read_back.proofs.Common.{ℕ, List, [], ◌∷◌, ◌++◌, Bool, Option, Some, None, flat_map, Width, Name, IrType, WrittenName, WrittenValue, WrittenTyped, WrittenParameter, WrittenAccess, WrittenIndex, WrittenInst, WrittenEntry, WrittenPhi, WrittenCase, WrittenReturn, Void, Value, WrittenTerminator, WrittenBody, WrittenBlock, WrittenFunction, NamedParameter, named_behind, entry_name, Piece, none, space, line, indented, word, mark, number, comma, local, global, label, width_text, type_text, object_pieces, word_if, op_pieces, predicate_text, cast_pieces, align_pieces, return_text}
 use Rattle.std.specs.Prelude.{codes}
-use Rattle.std.specs.List.{flat_map}
-use Rattle.tv_num.specs.declared.Width.{Width}
-use Rattle.ir_tree.specs.declared.name.Name.{Name}
-use Rattle.ir_tree.specs.declared.tree.IrType.{IrType}
-use Rattle.ir_grammar.specs.declared.written.WrittenName.{WrittenName}
-use Rattle.ir_grammar.specs.declared.written.WrittenValue.{WrittenValue}
 use Rattle.ir_grammar.specs.declared.written.WrittenValue.TheVariants as value
-use Rattle.ir_grammar.specs.declared.written.WrittenTyped.{WrittenTyped}
-use Rattle.ir_grammar.specs.declared.written.WrittenParameter.{WrittenParameter}
-use Rattle.ir_grammar.specs.declared.written.WrittenAccess.{WrittenAccess}
 use Rattle.ir_grammar.specs.declared.written.WrittenAccess.TheVariants as access
-use Rattle.ir_grammar.specs.declared.written.WrittenIndex.{WrittenIndex}
-use Rattle.ir_grammar.specs.declared.written.WrittenInst.{WrittenInst}
 use Rattle.ir_grammar.specs.declared.written.WrittenInst.TheVariants as inst
-use Rattle.ir_grammar.specs.declared.written.WrittenEntry.{WrittenEntry}
-use Rattle.ir_grammar.specs.declared.written.WrittenPhi.{WrittenPhi}
-use Rattle.ir_grammar.specs.declared.written.WrittenCase.{WrittenCase}
-use Rattle.ir_grammar.specs.declared.written.WrittenReturn.{WrittenReturn}
-use Rattle.ir_grammar.specs.declared.written.WrittenReturn.TheVariants.{Void, Value}
-use Rattle.ir_grammar.specs.declared.written.WrittenTerminator.{WrittenTerminator}
 use Rattle.ir_grammar.specs.declared.written.WrittenTerminator.TheVariants as end
-use Rattle.ir_grammar.specs.declared.written.WrittenBody.{WrittenBody}
-use Rattle.ir_grammar.specs.declared.written.WrittenBlock.{WrittenBlock}
-use Rattle.ir_grammar.specs.declared.written.WrittenFunction.{WrittenFunction}
-use Rattle.ir_numbering.specs.declared.numbering.NamedParameter.{NamedParameter}
-use Rattle.ir_numbering.specs.Numbering.{named_behind, entry_name}
-use Rattle.token_text.specs.Pieces.{Piece}
-use Rattle.ir_printer.specs.Pieces.{none, space, line, indented, word, mark, number, comma, local, global, label, width_text, type_text, object_pieces}
-use Rattle.ir_printer.specs.Instructions.{word_if, op_pieces, predicate_text, cast_pieces, align_pieces}
-use Rattle.ir_printer.specs.ModuleText.{return_text}
 
 abbrev pub value_piece : WrittenValue → Piece
 value_piece (value.Local name) = local space name

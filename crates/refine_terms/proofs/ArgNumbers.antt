@@ -1,23 +1,10 @@
 -- The tests of an argument's numbers say that they are a code of one.
-use Rattle.std.proofs.Common.{ℕ, zero, suc, ◌≡◌, ◌<◌, ◌≤◌, ◌+◌, ◌^◌, ◌↔◌, ◌⊎◌, inl, inr, true, not, ◌&&◌, ◌||◌, nat_eq, nat_le, List, [], ◌∷◌, length, drop, get_or, refl, sym, ap, subst, ◌∙◌, arith, length-append}
-use Rattle.std.specs.List.{flat_map}
-use Rattle.std.proofs.lemmas.List.{drop_more, drop_all}
+use Rattle.refine_terms.proofs.Common.{ℕ, zero, suc, ◌≡◌, ◌<◌, ◌≤◌, ◌+◌, ◌^◌, ◌↔◌, ◌⊎◌, inl, inr, true, not, ◌&&◌, ◌||◌, nat_eq, nat_le, List, [], ◌∷◌, length, drop, get_or, refl, sym, ap, subst, ◌∙◌, arith, length-append, flat_map, drop_more, drop_all, Layout, IsPointerAmong, IsCodeOfValue, IsCodeOfArgs, TermId, Term, truth, AreInRange, IsTerm, Keeps, Tests, bit_at, term_at, IsArg, AreArgs, term-below, bit-later, keeps_trans, term-later, Decides, arg_numbers}
 use Rattle.ir_tree.specs.declared.tree.IrType.{IrType}
 use Rattle.ir_tree.specs.declared.tree.IrType.TheVariants as type
 use Rattle.ir_tree.specs.declared.tree.Parameter.{Parameter}
-use Rattle.points.specs.declared.point.Layout.{Layout}
-use Rattle.points.specs.Codes.{IsPointerAmong, IsCodeOfValue, IsCodeOfArgs}
-use Rattle.bv_terms.specs.declared.term.TermId.{TermId}
-use Rattle.bv_terms.specs.declared.term.Term.{Term}
-use Rattle.bv_terms.specs.Tree.{truth}
-use Rattle.bv_terms.specs.Trees.{AreInRange, IsTerm, Keeps, Tests, bit_at, term_at}
 use Rattle.mem_terms.specs.declared.inputs.ArgTerms.{ArgTerms}
 use Rattle.mem_terms.specs.declared.inputs.ArgTerms.TheVariants as arg
-use Rattle.mem_terms.specs.Inputs.{IsArg, AreArgs}
-use Rattle.mem_terms.proofs.Bits.{term-below}
-use Rattle.mem_terms.proofs.Later.{bit-later, keeps_trans, term-later}
-use Rattle.refine_terms.specs.Deciding.{Decides}
-use Rattle.refine_terms.specs.Numbers.{arg_numbers}
 use Rattle.refine_terms.proofs.Truths.{and_left, and_right, equal_says, at_most_says}
 use Rattle.refine_terms.proofs.Deciders.{tested, row_more}
 use Rattle.refine_terms.proofs.Rows.{chain_parts}

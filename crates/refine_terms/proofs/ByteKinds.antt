@@ -1,18 +1,5 @@
 -- The tests of a byte's numbers say what kind of byte they are.
-use Rattle.std.proofs.Common.{ℕ, ◌≡◌, ◌<◌, ◌^◌, ◌↔◌, ◌⊎◌, Bool, true, false, ◌&&◌, ◌||◌, cond, nat_eq, nat_le, List, [], ◌∷◌, length, refl, sym, ap, ◌∙◌, arith}
-use Rattle.points.specs.declared.point.Layout.{Layout}
-use Rattle.points.specs.Codes.{IsNumberByte, IsPartByte, IsCodeOfByte, IsUnused}
-use Rattle.bv_terms.specs.declared.term.TermId.{TermId}
-use Rattle.bv_terms.specs.declared.term.Term.{Term}
-use Rattle.bv_terms.specs.Tree.{width_of, truth}
-use Rattle.bv_terms.specs.Trees.{Keeps, Makes, Tests, AreInRange, bit_at, term_at, tree_in}
-use Rattle.mem_terms.specs.declared.inputs.ByteTerms.{ByteTerms}
-use Rattle.mem_terms.proofs.Bits.{term-below}
-use Rattle.mem_terms.proofs.Later.{keeps_trans, bit-later, term-later}
-use Rattle.refine_terms.specs.Deciding.{Decides}
-use Rattle.mem_terms.specs.Inputs.{IsByteTerms}
-use Rattle.refine_terms.specs.Numbers.{byte_numbers}
-use Rattle.refine_terms.specs.Groups.{IsCodeOfPlace}
+use Rattle.refine_terms.proofs.Common.{ℕ, ◌≡◌, ◌<◌, ◌^◌, ◌↔◌, ◌⊎◌, Bool, true, false, ◌&&◌, ◌||◌, cond, nat_eq, nat_le, List, [], ◌∷◌, length, refl, sym, ap, ◌∙◌, arith, Layout, IsNumberByte, IsPartByte, IsCodeOfByte, IsUnused, TermId, Term, width_of, truth, Keeps, Makes, Tests, AreInRange, bit_at, term_at, tree_in, ByteTerms, term-below, keeps_trans, bit-later, term-later, Decides, IsByteTerms, byte_numbers, IsCodeOfPlace}
 use Rattle.refine_terms.proofs.Truths.{and_left, and_right, equal_says, at_most_says}
 use Rattle.refine_terms.proofs.Deciders.{tested, at_equal, decides-later, either_decides}
 

@@ -1,10 +1,5 @@
 -- What decides one fact decides another.
-use Rattle.std.proofs.Common.{ℕ, ◌≡◌, ◌≤◌, ◌↔◌, ◌⊎◌, inl, inr, Bool, true, ◌&&◌, ◌||◌, nat_eq, nat_le, List, sym, subst, ◌∙◌}
-use Rattle.bv_terms.specs.declared.term.TermId.{TermId}
-use Rattle.bv_terms.specs.declared.term.Term.{Term}
-use Rattle.bv_terms.specs.Trees.{Keeps, Tests, IsTerm, bit_at}
-use Rattle.mem_terms.proofs.Later.{bit-later, is_term-later}
-use Rattle.refine_terms.specs.Deciding.{Decides}
+use Rattle.refine_terms.proofs.Common.{ℕ, ◌≡◌, ◌≤◌, ◌↔◌, ◌⊎◌, inl, inr, Bool, true, ◌&&◌, ◌||◌, nat_eq, nat_le, List, sym, subst, ◌∙◌, TermId, Term, Keeps, Tests, IsTerm, bit_at, bit-later, is_term-later, Decides}
 use Rattle.refine_terms.proofs.Truths.{and_left, and_right, and_both, or_left, or_right, or_either, equal_says, at_most_says}
 
 pub tested : (new : List Term) (id : TermId) (test : (ℕ → ℕ → ℕ) → Bool) (fact : (ℕ → ℕ → ℕ) → Type 0) → Tests new id test → ((v : ℕ → ℕ → ℕ) → (test v ≡ true) ↔ fact v) → Decides new id fact

@@ -1,3 +1,4 @@
+pub mod Common
 pub mod Truths
 pub mod Deciders
 pub mod Refining

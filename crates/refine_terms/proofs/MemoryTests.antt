@@ -1,20 +1,9 @@
 -- The tests of contents, blocks and outcomes.
-use Rattle.std.proofs.Common.{ℕ, ◌≡◌, ◌<◌, ◌≤◌, ◌+◌, ◌-◌, Bool, true, false, not, ◌&&◌, ◌||◌, List, length, map, take, drop, get_or, nat_eq, nat_lt, refl, sym, ap, ◌∙◌, arith}
+use Rattle.refine_terms.proofs.Common.{ℕ, ◌≡◌, ◌<◌, ◌≤◌, ◌+◌, ◌-◌, Bool, true, false, not, ◌&&◌, ◌||◌, List, length, map, take, drop, get_or, nat_eq, nat_lt, refl, sym, ap, ◌∙◌, arith, byte_allows, block_allows, blocks_allow, pairs_pass, returned_allows, is_refined, TermId, Term, IsTerm, Keeps, Makes, Tests, bit_at, term_at, SymByte, Each, block_name, reading, value_at, AreSymBlocks, AreSymBytes, IsAlways, IsSymBlock, IsSymByte, SymFrame, block_at, byte_at, frame_of, memory_at, places_at, at-any, each-at, bit-later, block-later, byte-later, keeps_trans, memory-later, places-later, term-later, memory-always, eqb-true}
 use Rattle.std.specs.Option.{option_map}
-use Rattle.points.specs.Refines.{byte_allows, block_allows, blocks_allow, pairs_pass, returned_allows, is_refined}
-use Rattle.bv_terms.specs.declared.term.TermId.{TermId}
-use Rattle.bv_terms.specs.declared.term.Term.{Term}
-use Rattle.bv_terms.specs.Trees.{IsTerm, Keeps, Makes, Tests, bit_at, term_at}
-use Rattle.mem_terms.specs.declared.bytes.SymByte.{SymByte}
 use Rattle.mem_terms.specs.declared.blocks.SymBlock.{SymBlock}
 use Rattle.mem_terms.specs.declared.outcome.OutcomeTerms.{OutcomeTerms}
-use Rattle.mem_terms.specs.Values.{Each, block_name, reading, value_at}
-use Rattle.mem_terms.specs.Memory.{AreSymBlocks, AreSymBytes, IsAlways, IsSymBlock, IsSymByte, SymFrame, block_at, byte_at, frame_of, memory_at, places_at}
 use Rattle.mem_terms.specs.Outcomes.{IsOutcome, outcome_at}
-use Rattle.mem_terms.proofs.Eaches.{at-any, each-at}
-use Rattle.mem_terms.proofs.Later.{bit-later, block-later, byte-later, keeps_trans, memory-later, places-later, term-later}
-use Rattle.mem_terms.proofs.GivenTerms.{memory-always}
-use Rattle.std.proofs.lemmas.Bool.{eqb-true}
 use Rattle.refine_terms.proofs.Truths.{and_left, and_right}
 use Rattle.refine_terms.proofs.Refining.{blocks_are, blocks_done, block_step, byte_allows-same, covered_is, place_step, places_begin, places_done, tests_more}
 

@@ -1,23 +1,10 @@
 -- The tests of a point's groups say that its numbers are a code.
-use Rattle.std.proofs.Common.{ℕ, zero, suc, ◌≡◌, ◌<◌, ◌≤◌, ◌-◌, ◌*◌, ◌^◌, ◌↔◌, true, ◌&&◌, List, [], ◌∷◌, ◌++◌, length, map, refl, sym, ap, subst, ◌∙◌, arith, length-append}
-use Rattle.std.specs.List.{flat_map}
+use Rattle.refine_terms.proofs.Common.{ℕ, zero, suc, ◌≡◌, ◌<◌, ◌≤◌, ◌-◌, ◌*◌, ◌^◌, ◌↔◌, true, ◌&&◌, List, [], ◌∷◌, ◌++◌, length, map, refl, sym, ap, subst, ◌∙◌, arith, length-append, flat_map, Layout, IsChain, IsCodeOfArgs, AreSizes, IsCodeOfBlocks, IsCode, TermId, Term, Keeps, Tests, IsTerm, bit_at, term_at, ByteTerms, Each, IsBlockTerms, words_at, each-weaker, map-same, map-length, block_terms-later, keeps_trans, term-later, bit-later, is_term-later, Decides, IsNarrow, IsInputOf, IsTapeOf, arg_numbers, block_numbers, numbers_at}
 use Rattle.std.proofs.lemmas.Nat.{pow_pos}
-use Rattle.points.specs.declared.point.Layout.{Layout}
 use Rattle.points.specs.declared.point.Shape.{Shape}
 use Rattle.points.specs.Code.{WordsFit}
-use Rattle.points.specs.Codes.{IsChain, IsCodeOfArgs, AreSizes, IsCodeOfBlocks, IsCode}
-use Rattle.bv_terms.specs.declared.term.TermId.{TermId}
-use Rattle.bv_terms.specs.declared.term.Term.{Term}
-use Rattle.bv_terms.specs.Trees.{Keeps, Tests, IsTerm, bit_at, term_at}
-use Rattle.mem_terms.specs.declared.inputs.ByteTerms.{ByteTerms}
 use Rattle.mem_terms.specs.declared.inputs.InputTerms.{InputTerms}
 use Rattle.mem_terms.specs.declared.inputs.TapeTerms.{TapeTerms}
-use Rattle.mem_terms.specs.Values.{Each}
-use Rattle.mem_terms.specs.Inputs.{IsBlockTerms, words_at}
-use Rattle.mem_terms.proofs.Eaches.{each-weaker, map-same, map-length}
-use Rattle.mem_terms.proofs.Later.{block_terms-later, keeps_trans, term-later, bit-later, is_term-later}
-use Rattle.refine_terms.specs.Deciding.{Decides, IsNarrow}
-use Rattle.refine_terms.specs.Numbers.{IsInputOf, IsTapeOf, arg_numbers, block_numbers, numbers_at}
 use Rattle.refine_terms.proofs.Deciders.{as_fact, at_equal, decides-later, both_decide}
 use Rattle.refine_terms.proofs.Rows.{chain_parts, same_parts, places_long, block_long, block-later}
 use Rattle.refine_terms.proofs.ArgNumbers.{args_long}

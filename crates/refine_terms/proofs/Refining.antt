@@ -1,8 +1,5 @@
 -- The test of coverage is refinement.
-use Rattle.std.proofs.Common.{ℕ, zero, suc, ◌≡◌, ◌<◌, ◌≤◌, ◌+◌, ◌-◌, ◌/◌, ◌%◌, ◌^◌, Bool, true, false, cond, not, ◌&&◌, ◌||◌, List, [], ◌∷◌, length, map, take, drop, get_or, nat_eq, nat_lt, Option, refl, sym, ap, ◌∙◌, arith}
-use Rattle.std.proofs.lemmas.Bool.{eq-eqb, eqb-true}
-use Rattle.std.proofs.lemmas.Bool.Decides.{nat_tests}
-use Rattle.std.proofs.lemmas.List.{drop_more, drop_all}
+use Rattle.refine_terms.proofs.Common.{ℕ, zero, suc, ◌≡◌, ◌<◌, ◌≤◌, ◌+◌, ◌-◌, ◌/◌, ◌%◌, ◌^◌, Bool, true, false, cond, not, ◌&&◌, ◌||◌, List, [], ◌∷◌, length, map, take, drop, get_or, nat_eq, nat_lt, Option, refl, sym, ap, ◌∙◌, arith, eq-eqb, eqb-true, nat_tests, drop_more, drop_all, same_pointer, byte_allows, block_allows, blocks_allow, pairs_pass, value_allows, returned_allows, is_refined, truth, block_name, first_local, value_of, byte_of}
 use Rattle.byte_block.specs.declared.value.Value.{Value}
 use Rattle.byte_block.specs.declared.value.BlockName.{BlockName}
 use Rattle.byte_block.specs.declared.value.BlockName.TheVariants.{Null, Given, Local}
@@ -12,10 +9,6 @@ use Rattle.byte_block.specs.declared.block.MemoryBlock.{MemoryBlock}
 use Rattle.points.specs.declared.outcome.Outcome.{Outcome}
 use Rattle.points.specs.declared.outcome.Outcome.TheVariants.{Return, Ub, Beyond}
 use Rattle.memory_access.specs.Blocks.{equal_names}
-use Rattle.points.specs.Refines.{same_pointer, byte_allows, block_allows, blocks_allow, pairs_pass, value_allows, returned_allows, is_refined}
-use Rattle.bv_terms.specs.Tree.{truth}
-use Rattle.mem_terms.specs.Values.{block_name, first_local, value_of}
-use Rattle.mem_terms.specs.Memory.{byte_of}
 use Rattle.mem_terms.proofs.Naming.{block_before, local_block}
 
 -- ---- pointers

@@ -1,21 +1,5 @@
 -- Rows of numbers, one more at a time.
-use Rattle.std.proofs.Common.{ℕ, zero, suc, ◌≡◌, ◌<◌, ◌≤◌, ◌+◌, ◌-◌, ◌*◌, ◌↔◌, inl, inr, Bool, true, false, ◌&&◌, nat_le, List, [], ◌∷◌, ◌++◌, length, map, drop, get_or, refl, sym, ap, subst, ◌∙◌, arith, length-append}
-use Rattle.std.specs.List.{flat_map}
-use Rattle.std.proofs.lemmas.Bool.Decides.{nat_tests}
-use Rattle.std.proofs.lemmas.List.{drop_more, drop_all}
-use Rattle.points.specs.declared.point.Layout.{Layout}
-use Rattle.points.specs.Codes.{IsChain, IsCodeOfByte, IsUnused, IsCodeOfPlaces, IsCodeOfBlocks}
-use Rattle.bv_terms.specs.declared.term.TermId.{TermId}
-use Rattle.bv_terms.specs.declared.term.Term.{Term}
-use Rattle.bv_terms.specs.Tree.{Tree, width_of}
-use Rattle.bv_terms.specs.Trees.{Keeps, Tests, IsTerm, bit_at, term_at}
-use Rattle.mem_terms.specs.declared.inputs.ByteTerms.{ByteTerms}
-use Rattle.mem_terms.specs.Inputs.{IsByteTerms, IsBlockTerms}
-use Rattle.mem_terms.specs.Values.{Each}
-use Rattle.mem_terms.proofs.Later.{within-later, term-later}
-use Rattle.refine_terms.specs.Deciding.{Decides, IsNarrow}
-use Rattle.refine_terms.specs.Groups.{IsCodeOfPlace}
-use Rattle.refine_terms.specs.Numbers.{byte_numbers, block_numbers}
+use Rattle.refine_terms.proofs.Common.{ℕ, zero, suc, ◌≡◌, ◌<◌, ◌≤◌, ◌+◌, ◌-◌, ◌*◌, ◌↔◌, inl, inr, Bool, true, false, ◌&&◌, nat_le, List, [], ◌∷◌, ◌++◌, length, map, drop, get_or, refl, sym, ap, subst, ◌∙◌, arith, length-append, flat_map, nat_tests, drop_more, drop_all, Layout, IsChain, IsCodeOfByte, IsUnused, IsCodeOfPlaces, IsCodeOfBlocks, TermId, Term, Tree, width_of, Keeps, Tests, IsTerm, bit_at, term_at, ByteTerms, IsByteTerms, IsBlockTerms, Each, within-later, term-later, Decides, IsNarrow, IsCodeOfPlace, byte_numbers, block_numbers}
 use Rattle.refine_terms.proofs.Deciders.{row_more, row_starts, at_most_decides}
 use Rattle.refine_terms.proofs.ByteKinds.{byte-later}
 

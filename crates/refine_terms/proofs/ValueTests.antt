@@ -1,16 +1,6 @@
 -- The tests of two pointers, values and bytes.
-use Rattle.std.proofs.Common.{ℕ, ◌≡◌, ◌+◌, cond, not, ◌&&◌, ◌||◌, List, nat_eq, nat_lt, refl, ap, ◌∙◌}
-use Rattle.points.specs.Refines.{same_pointer, byte_allows, value_allows}
-use Rattle.bv_terms.specs.declared.term.TermId.{TermId}
-use Rattle.bv_terms.specs.declared.term.Term.{Term}
-use Rattle.bv_terms.specs.Tree.{truth}
-use Rattle.bv_terms.specs.Trees.{AreInRange, IsTerm, Keeps, Makes, Tests, bit_at, term_at}
+use Rattle.refine_terms.proofs.Common.{ℕ, ◌≡◌, ◌+◌, cond, not, ◌&&◌, ◌||◌, List, nat_eq, nat_lt, refl, ap, ◌∙◌, same_pointer, byte_allows, value_allows, TermId, Term, truth, AreInRange, IsTerm, Keeps, Makes, Tests, bit_at, term_at, SymByte, IsSymValue, block_name, first_local, reading, value_at, IsSymByte, byte_at, term-below, bit-later, keeps_trans, term-later}
 use Rattle.mem_terms.specs.declared.values.SymValue.{SymValue}
-use Rattle.mem_terms.specs.declared.bytes.SymByte.{SymByte}
-use Rattle.mem_terms.specs.Values.{IsSymValue, block_name, first_local, reading, value_at}
-use Rattle.mem_terms.specs.Memory.{IsSymByte, byte_at}
-use Rattle.mem_terms.proofs.Bits.{term-below}
-use Rattle.mem_terms.proofs.Later.{bit-later, keeps_trans, term-later}
 use Rattle.refine_terms.proofs.Refining.{addresses_are, bytes_are, picked_truth, values_are}
 
 -- ---- pointers

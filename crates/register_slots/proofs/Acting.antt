@@ -1,17 +1,8 @@
 -- An instruction does the same on names and on their slots.
-use Rattle.std.proofs.Common.{◌≡◌, ℕ, List, length, map, Option, Some, None, refl, sym, ap, subst}
-use Rattle.std.specs.Prelude.{slice_set}
-use Rattle.std.specs.Option.{option_map}
-use Rattle.ir_tree.specs.declared.tree.IrType.{IrType}
+use Rattle.register_slots.proofs.Common.{◌≡◌, ℕ, List, length, map, Option, Some, None, refl, sym, ap, subst, slice_set, option_map, IrType, Inst, MemoryType, results_of, object_size, Value, Num, Poison, Machine, act, assigned, allocated, frozen, loaded, stored, with_taken, choice_of, access_of, operand_value, typed_value, typed_operand_value, index_values, slot_of, operand_in, typed_in, index_in, inst_in, HasSlot, IsRightInst, holding}
 use Rattle.ir_tree.specs.declared.tree.IrType.TheVariants as type
-use Rattle.ir_tree.specs.declared.tree.Inst.{Inst}
 use Rattle.ir_tree.specs.declared.tree.Inst.TheVariants.{Binary, Icmp, Cast, Select, Freeze, Alloca, Load, Store, GetElementPtr}
-use Rattle.ir_tree.specs.declared.tree.MemoryType.{MemoryType}
-use Rattle.ir_tree.specs.Flow.{results_of}
-use Rattle.ir_tree.specs.Types.{object_size}
 use Rattle.byte_block.specs.declared.value.BlockName.TheVariants.{Local}
-use Rattle.byte_block.specs.declared.value.Value.{Value}
-use Rattle.byte_block.specs.declared.value.Value.TheVariants.{Num, Poison}
 use Rattle.byte_block.specs.declared.value.Value.TheVariants as value
 use Rattle.byte_block.specs.declared.block.MemoryBlock.{MemoryBlock}
 use Rattle.memory_access.specs.declared.access_types.Loaded.{Loaded}
@@ -20,11 +11,7 @@ use Rattle.memory_access.specs.declared.access_types.Stored.{Stored}
 use Rattle.memory_access.specs.declared.access_types.Stored.TheVariants as store
 use Rattle.memory_access.specs.Accesses.{load_result, store_result, after_store, after_alloca}
 use Rattle.memory_access.specs.Offsets.{gep_result}
-use Rattle.points.specs.declared.machine.Machine.{Machine}
 use Rattle.points.specs.Table.{value_result, compared, cast_value, selected}
-use Rattle.points.specs.Run.{act, assigned, allocated, frozen, loaded, stored, with_taken, choice_of, access_of, operand_value, typed_value, typed_operand_value, index_values}
-use Rattle.register_slots.specs.Renaming.{slot_of, operand_in, typed_in, index_in, inst_in}
-use Rattle.register_slots.specs.Allocation.{HasSlot, IsRightInst, holding}
 use Rattle.register_slots.proofs.Registers.{Agrees, agrees_assigned}
 use Rattle.register_slots.proofs.Reading.{operand_read, typed_read, indices_read}
 

@@ -1,18 +1,8 @@
 -- Parameters get the arguments in their slots, so an allocation keeps runs.
-use Rattle.std.proofs.Common.{◌≡◌, ℕ, List, [], ◌∷◌, length, map, replicate, Bool, true, false, ◌&&◌, ◌||◌, Option, refl, sym, ap, subst, ◌∙◌}
-use Rattle.std.specs.List.{AllByRecursion}
-use Rattle.ir_tree.specs.declared.name.Name.{Name}
-use Rattle.ir_tree.specs.declared.tree.Parameter.{Parameter}
-use Rattle.ir_tree.specs.declared.tree.Function.{Function}
-use Rattle.byte_block.specs.declared.value.Value.{Value}
-use Rattle.byte_block.specs.declared.value.Value.TheVariants.{Poison}
+use Rattle.register_slots.proofs.Common.{◌≡◌, ℕ, List, [], ◌∷◌, length, map, replicate, Bool, true, false, ◌&&◌, ◌||◌, Option, refl, sym, ap, subst, ◌∙◌, AllByRecursion, Name, Parameter, Function, Value, Poison, is_poison, argument_value, with_args, first_machine, breaks_noundef, slice_set, slot_of, parameter_in, function_in, IsHeld, only_holding, HasSlot, parameter_names, IsAllocation}
 use Rattle.points.specs.declared.point.Bounds.{Bounds}
 use Rattle.points.specs.declared.point.Input.{Input}
-use Rattle.points.specs.Run.{is_poison, argument_value, with_args, first_machine, breaks_noundef}
 use Rattle.points.proofs.Runs.{run_entered_by, run_of_is}
-use Rattle.std.specs.Prelude.{slice_set}
-use Rattle.register_slots.specs.Renaming.{slot_of, parameter_in, function_in}
-use Rattle.register_slots.specs.Allocation.{IsHeld, only_holding, HasSlot, parameter_names, IsAllocation}
 use Rattle.register_slots.specs.Laws.{AllocationsKeepRuns}
 use Rattle.register_slots.proofs.Held.{only_holding_length}
 use Rattle.register_slots.proofs.Registers.{Agrees, agrees_kept, agrees_at_first}

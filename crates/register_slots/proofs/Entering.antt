@@ -1,16 +1,5 @@
 -- A block that is entered along a right edge: its phis, and how it is left.
-use Rattle.std.proofs.Common.{◌≡◌, ℕ, List, [], ◌∷◌, length, map, Bool, Option, Some, refl, sym, ap, subst, ◌∙◌}
-use Rattle.std.specs.Prelude.{slice_set}
-use Rattle.std.specs.List.{AllByRecursion}
-use Rattle.std.proofs.lemmas.List.{length-set}
-use Rattle.ir_tree.specs.declared.tree.Phi.{Phi}
-use Rattle.ir_tree.specs.declared.tree.Block.{Block}
-use Rattle.ir_tree.specs.declared.tree.Function.{Function}
-use Rattle.byte_block.specs.declared.value.Value.{Value}
-use Rattle.points.specs.declared.machine.Machine.{Machine}
-use Rattle.points.specs.Run.{assigned, typed_value, phi_value, with_phis, entered, exit_insts, exit_of}
-use Rattle.register_slots.specs.Renaming.{slot_of, inst_in, phi_in, terminator_in, block_in}
-use Rattle.register_slots.specs.Allocation.{IsHeld, holding, only_holding, HasSlot, held_after, IsRightPhi, IsRightEdge, IsRightBlock}
+use Rattle.register_slots.proofs.Common.{◌≡◌, ℕ, List, [], ◌∷◌, length, map, Bool, Option, Some, refl, sym, ap, subst, ◌∙◌, slice_set, AllByRecursion, length-set, Phi, Block, Function, Value, Machine, assigned, typed_value, phi_value, with_phis, entered, exit_insts, exit_of, slot_of, inst_in, phi_in, terminator_in, block_in, IsHeld, holding, only_holding, HasSlot, held_after, IsRightPhi, IsRightEdge, IsRightBlock}
 use Rattle.register_slots.proofs.Held.{holding_length, only_holding_length, only_among}
 use Rattle.register_slots.proofs.Registers.{Agrees, agrees_assigned, agrees_fewer}
 use Rattle.register_slots.proofs.Reading.{entry_read}

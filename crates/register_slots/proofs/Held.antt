@@ -1,12 +1,5 @@
 -- Which names slots hold after names are assigned.
-use Rattle.std.proofs.Common.{◌≡◌, ℕ, zero, suc, ◌<◌, List, [], ◌∷◌, length, replicate, Option, Some, None, ◌⊎◌, inl, inr, refl, sym, ap, subst, ◌∙◌, arith}
-use Rattle.std.specs.Prelude.{slice_get, slice_set}
-use Rattle.std.specs.List.{AllByRecursion}
-use Rattle.std.proofs.lemmas.Bool.{cases_eq}
-use Rattle.std.proofs.lemmas.List.{length-set, length-replicate, get_or-replicate}
-use Rattle.std.proofs.lemmas.Option.{slice_get_within, slice_get-get_or}
-use Rattle.register_slots.specs.Renaming.{slot_of}
-use Rattle.register_slots.specs.Allocation.{IsHeld, holding, only_holding}
+use Rattle.register_slots.proofs.Common.{◌≡◌, ℕ, zero, suc, ◌<◌, List, [], ◌∷◌, length, replicate, Option, Some, None, ◌⊎◌, inl, inr, refl, sym, ap, subst, ◌∙◌, arith, slice_get, slice_set, AllByRecursion, cases_eq, length-set, length-replicate, get_or-replicate, slice_get_within, slice_get-get_or, slot_of, IsHeld, holding, only_holding}
 
 -- ---- a list that is set at an index
 

@@ -1,27 +1,11 @@
 -- The instructions and the terminator of a block leave it alike on names and on their slots.
-use Rattle.std.proofs.Common.{◌≡◌, ℕ, ◌%◌, List, [], ◌∷◌, length, map, nat_eq, Bool, true, false, cond, ◌&&◌, if◌then◌else◌, Option, Some, None, refl, sym, ap, subst, ◌∙◌}
-use Rattle.std.specs.List.{AllByRecursion, find}
-use Rattle.std.specs.Option.{option_map, option_map_or}
-use Rattle.ir_tree.specs.declared.tree.IrType.{IrType}
+use Rattle.register_slots.proofs.Common.{◌≡◌, ℕ, ◌%◌, List, [], ◌∷◌, length, map, nat_eq, Bool, true, false, cond, ◌&&◌, if◌then◌else◌, Option, Some, None, refl, sym, ap, subst, ◌∙◌, AllByRecursion, find, option_map, option_map_or, IrType, Operand, Inst, TypedOperand, Terminator, Function, block_of, results_of, targets, Value, Num, Poison, Machine, Ub, Exit, To, Over, ended, act, operand_value, is_poison, undef_type, returns, returned_with, returned_run, branch_on, switch_on, exit_by, exit_after, exit_insts, operand_in, typed_in, inst_in, terminator_in, holding, IsReadHeld, AreReadHeld, AreRightInsts, held_after, IsRightJump}
 use Rattle.ir_tree.specs.declared.tree.IrType.TheVariants as type
-use Rattle.ir_tree.specs.declared.tree.Operand.{Operand}
 use Rattle.ir_tree.specs.declared.tree.Operand.TheVariants as operand
-use Rattle.ir_tree.specs.declared.tree.Inst.{Inst}
-use Rattle.ir_tree.specs.declared.tree.TypedOperand.{TypedOperand}
 use Rattle.ir_tree.specs.declared.tree.Case.{Case}
-use Rattle.ir_tree.specs.declared.tree.Terminator.{Terminator}
 use Rattle.ir_tree.specs.declared.tree.Terminator.TheVariants as terminator
-use Rattle.ir_tree.specs.declared.tree.Function.{Function}
 use Rattle.ir_tree.specs.Sites.{same_number}
-use Rattle.ir_tree.specs.Flow.{block_of, results_of, targets}
-use Rattle.byte_block.specs.declared.value.Value.{Value}
-use Rattle.byte_block.specs.declared.value.Value.TheVariants.{Num, Poison}
 use Rattle.byte_block.specs.declared.value.Value.TheVariants as value
-use Rattle.points.specs.declared.machine.Machine.{Machine}
-use Rattle.points.specs.declared.outcome.Outcome.TheVariants.{Ub}
-use Rattle.points.specs.Run.{Exit, To, Over, ended, act, operand_value, is_poison, undef_type, returns, returned_with, returned_run, branch_on, switch_on, exit_by, exit_after, exit_insts}
-use Rattle.register_slots.specs.Renaming.{operand_in, typed_in, inst_in, terminator_in}
-use Rattle.register_slots.specs.Allocation.{holding, IsReadHeld, AreReadHeld, AreRightInsts, held_after, IsRightJump}
 use Rattle.ir_tree.specs.Operands.{returned_operands, operands_at_end}
 use Rattle.register_slots.proofs.Held.{holding_length}
 use Rattle.register_slots.proofs.Registers.{Agrees}

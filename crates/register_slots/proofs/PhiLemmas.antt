@@ -1,19 +1,8 @@
 -- The names that phis read, as they are noted.
-use Rattle.std.proofs.Common.{◌≡◌, ◌↔◌, ◌⊎◌, inl, inr, ℕ, zero, suc, ◌+◌, ◌<◌, ◌≤◌, Bool, true, false, List, [], ◌∷◌, length, drop, get_or, set, slice_get, cond, nat_eq, Option, Some, refl, sym, ap, subst, ◌∙◌, arith, Contains}
-use Rattle.std.specs.Prelude.{slice_index_or}
-use Rattle.std.specs.List.{AllByRecursion, find}
-use Rattle.std.proofs.lemmas.Bool.{cases_eq, eqb-true}
+use Rattle.register_slots.proofs.Common.{◌≡◌, ◌↔◌, ◌⊎◌, inl, inr, ℕ, zero, suc, ◌+◌, ◌<◌, ◌≤◌, Bool, true, false, List, [], ◌∷◌, length, drop, get_or, set, cond, nat_eq, Option, Some, refl, sym, ap, subst, ◌∙◌, arith, Contains, slice_index_or, AllByRecursion, find, cases_eq, eqb-true, get_or-set_same, get_or-set_other, slice_get_within, get_or_from_slice_get, none-some, same_Some, Operand, PhiEntry, Phi, Block, Function, HasSlot, IsHeld, IsReadHeld, IsEntryHeld, IsRightPhi, Grows, IsReadNoted, IsEntryNoted, IsPhiNoted, IsBlockNoted, ArePhisHeld, AreEntriesHeld}
+use Rattle.std.proofs.Common.{slice_get}
 use Rattle.std.proofs.Math.ListN.{drop_of_length-le}
-use Rattle.std.proofs.lemmas.List.{get_or-set_same, get_or-set_other}
-use Rattle.std.proofs.lemmas.Option.{slice_get_within, get_or_from_slice_get, none-some, same_Some}
-use Rattle.ir_tree.specs.declared.tree.Operand.{Operand}
 use Rattle.ir_tree.specs.declared.tree.Operand.TheVariants as operand
-use Rattle.ir_tree.specs.declared.tree.PhiEntry.{PhiEntry}
-use Rattle.ir_tree.specs.declared.tree.Phi.{Phi}
-use Rattle.ir_tree.specs.declared.tree.Block.{Block}
-use Rattle.ir_tree.specs.declared.tree.Function.{Function}
-use Rattle.register_slots.specs.Allocation.{HasSlot, IsHeld, IsReadHeld, IsEntryHeld, IsRightPhi}
-use Rattle.register_slots.specs.PhiReads.{Grows, IsReadNoted, IsEntryNoted, IsPhiNoted, IsBlockNoted, ArePhisHeld, AreEntriesHeld}
 use Rattle.register_slots.proofs.RightParts.{one_more}
 
 -- ---- rows

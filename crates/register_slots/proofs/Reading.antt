@@ -1,19 +1,6 @@
 -- What is read of names that are held is read of their slots.
-use Rattle.std.proofs.Common.{◌≡◌, ℕ, ◌+◌, List, [], ◌∷◌, map, nat_eq, Bool, true, false, cond, Option, Some, refl, ap}
-use Rattle.std.specs.List.{AllByRecursion, find}
-use Rattle.std.specs.Option.{option_map_or}
-use Rattle.ir_tree.specs.declared.tree.Operand.{Operand}
+use Rattle.register_slots.proofs.Common.{◌≡◌, ℕ, ◌+◌, List, [], ◌∷◌, map, nat_eq, Bool, true, false, cond, Option, Some, refl, ap, AllByRecursion, find, option_map_or, Operand, MemoryType, GepIndex, TypedOperand, PhiEntry, indexed_size, Value, Poison, operand_value, cut_value, typed_value, typed_operand_value, index_values, operand_in, typed_in, index_in, entry_in, IsReadHeld, IsEntryHeld}
 use Rattle.ir_tree.specs.declared.tree.Operand.TheVariants as operand
-use Rattle.ir_tree.specs.declared.tree.MemoryType.{MemoryType}
-use Rattle.ir_tree.specs.declared.tree.GepIndex.{GepIndex}
-use Rattle.ir_tree.specs.declared.tree.TypedOperand.{TypedOperand}
-use Rattle.ir_tree.specs.declared.tree.PhiEntry.{PhiEntry}
-use Rattle.ir_tree.specs.Types.{indexed_size}
-use Rattle.byte_block.specs.declared.value.Value.{Value}
-use Rattle.byte_block.specs.declared.value.Value.TheVariants.{Poison}
-use Rattle.points.specs.Run.{operand_value, cut_value, typed_value, typed_operand_value, index_values}
-use Rattle.register_slots.specs.Renaming.{operand_in, typed_in, index_in, entry_in}
-use Rattle.register_slots.specs.Allocation.{IsReadHeld, IsEntryHeld}
 use Rattle.register_slots.proofs.Registers.{Agrees}
 
 module _ (slots : List ℕ) (names : ℕ) (held : List (Option ℕ)) (registers slotted : List Value) (agrees : Agrees slots names held registers slotted) where

@@ -1,13 +1,6 @@
 -- Registers by name agree with registers by slot on the names that are held, also after an assignment.
-use Rattle.std.proofs.Common.{◌≡◌, ℕ, List, length, replicate, Option, Some, ◌⊎◌, inl, inr, refl, sym, ap, ◌∙◌, arith}
-use Rattle.std.specs.Prelude.{slice_get, slice_set, slice_index_or}
-use Rattle.std.proofs.lemmas.Bool.{cases_eq, cases_lt}
-use Rattle.std.proofs.lemmas.List.{length-set, length-replicate, get_or-set_other, get_or-replicate, get_or_past}
+use Rattle.register_slots.proofs.Common.{◌≡◌, ℕ, List, length, replicate, Option, Some, ◌⊎◌, inl, inr, refl, sym, ap, ◌∙◌, arith, slice_get, slice_set, slice_index_or, cases_eq, cases_lt, length-set, length-replicate, get_or-set_other, get_or-replicate, get_or_past, Value, Poison, slot_of, IsHeld, HasSlot}
 use Rattle.std.proofs.lemmas.Grind.{get_or-set_at}
-use Rattle.byte_block.specs.declared.value.Value.{Value}
-use Rattle.byte_block.specs.declared.value.Value.TheVariants.{Poison}
-use Rattle.register_slots.specs.Renaming.{slot_of}
-use Rattle.register_slots.specs.Allocation.{IsHeld, HasSlot}
 use Rattle.register_slots.proofs.Held.{get_set_same, get_set_other, name_is}
 
 -- `registers` are by name and `slotted` by slot; the slot of each name that is held has the name's value

@@ -1,14 +1,7 @@
 -- The parts of an allocation, in loops.
-use Rattle.std.proofs.Common.{◌≡◌, ℕ, ◌+◌, ◌<◌, List, [], length, drop, get_or, slice_get, Option, Some, refl, sym, subst}
-use Rattle.std.specs.Prelude.{slice_index_or}
-use Rattle.std.specs.List.{AllByRecursion}
-use Rattle.std.proofs.lemmas.List.{drop_more}
+use Rattle.register_slots.proofs.Common.{◌≡◌, ℕ, ◌+◌, ◌<◌, List, [], length, drop, get_or, Option, Some, refl, sym, subst, slice_index_or, AllByRecursion, drop_more, Inst, Block, Function, results_of, IsHeld, holding, only_holding, HasSlot, IsRightInst, AreRightInsts, held_after, IsRightJump, IsRightBlock, parameter_names, IsAllocation}
+use Rattle.std.proofs.Common.{slice_get}
 use Rattle.std.proofs.Math.Seq.{drop-length}
-use Rattle.ir_tree.specs.declared.tree.Inst.{Inst}
-use Rattle.ir_tree.specs.declared.tree.Block.{Block}
-use Rattle.ir_tree.specs.declared.tree.Function.{Function}
-use Rattle.ir_tree.specs.Flow.{results_of}
-use Rattle.register_slots.specs.Allocation.{IsHeld, holding, only_holding, HasSlot, IsRightInst, AreRightInsts, held_after, IsRightJump, IsRightBlock, parameter_names, IsAllocation}
 
 -- ---- lists
 

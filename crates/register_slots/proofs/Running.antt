@@ -1,20 +1,5 @@
 -- The run from block to block, on names and on their slots.
-use Rattle.std.proofs.Common.{◌≡◌, ℕ, zero, suc, ◌+◌, List, [], ◌∷◌, length, map, nat_lt, Bool, true, false, ◌==◌, if◌then◌else◌, Option, Some, None, refl, sym, ap, subst, ◌∙◌}
-use Rattle.std.specs.Prelude.{slice_get, slice_index_or}
-use Rattle.std.specs.List.{position_or_len}
-use Rattle.std.specs.Option.{option_map}
-use Rattle.std.proofs.lemmas.List.{length-map}
-use Rattle.std.proofs.lemmas.Option.{slice_get-map}
-use Rattle.ir_tree.specs.declared.name.Name.{Name}
-use Rattle.ir_tree.specs.declared.tree.Block.{Block}
-use Rattle.ir_tree.specs.declared.tree.Function.{Function}
-use Rattle.ir_tree.specs.Flow.{block_of}
-use Rattle.byte_block.specs.declared.value.Value.{Value}
-use Rattle.points.specs.declared.machine.Machine.{Machine}
-use Rattle.points.specs.declared.outcome.Outcome.TheVariants.{Beyond}
-use Rattle.points.specs.Run.{Exit, To, Over, ended, exit_of, Go, jump, go_on, forward, run_turns}
-use Rattle.register_slots.specs.Renaming.{block_in, function_in}
-use Rattle.register_slots.specs.Allocation.{only_holding, held_after, IsRightJump, IsAllocation}
+use Rattle.register_slots.proofs.Common.{◌≡◌, ℕ, zero, suc, ◌+◌, List, [], ◌∷◌, length, map, nat_lt, Bool, true, false, ◌==◌, if◌then◌else◌, Option, Some, None, refl, sym, ap, subst, ◌∙◌, slice_get, slice_index_or, position_or_len, option_map, length-map, slice_get-map, Name, Block, Function, block_of, Value, Machine, Beyond, Exit, To, Over, ended, exit_of, Go, jump, go_on, forward, run_turns, block_in, function_in, only_holding, held_after, IsRightJump, IsAllocation}
 use Rattle.register_slots.proofs.Held.{only_holding_length}
 use Rattle.register_slots.proofs.Registers.{Agrees}
 use Rattle.register_slots.proofs.Leaving.{LeavesAlike, held_after_length}

@@ -1,23 +1,14 @@
 -- The function with slots may be run in place of the one that it is made of.
-use Rattle.std.proofs.Common.{ℕ, ◌≡◌, List, [], ◌∷◌, length, map, Option, Some, None, refl, sym, ap, subst, suc}
-use Rattle.std.specs.Prelude.{All, IfSome}
+use Rattle.register_slots.proofs.Common.{ℕ, ◌≡◌, List, [], ◌∷◌, length, map, Option, Some, None, refl, sym, ap, subst, suc, All, IfSome, Name, IrType, Inst, Terminator, Block, Parameter, Function, block_in, function_in, index_in, inst_in, parameter_in, terminator_in}
 use Rattle.std.proofs.lemmas.List.Elements.{All-map, All-weaker}
-use Rattle.ir_tree.specs.declared.name.Name.{Name}
-use Rattle.ir_tree.specs.declared.tree.IrType.{IrType}
-use Rattle.ir_tree.specs.declared.tree.Inst.{Inst}
 use Rattle.ir_tree.specs.declared.tree.Inst.TheVariants as inst
-use Rattle.ir_tree.specs.declared.tree.Terminator.{Terminator}
 use Rattle.ir_tree.specs.declared.tree.Terminator.TheVariants as terminator
-use Rattle.ir_tree.specs.declared.tree.Block.{Block}
-use Rattle.ir_tree.specs.declared.tree.Parameter.{Parameter}
-use Rattle.ir_tree.specs.declared.tree.Function.{Function}
 use Rattle.ir_tree.specs.Limits.{HasSmallObjects, HasSmallTypes, CanRun, FitsReturn, HasSmallNumber, HasSmallNumbers}
 use Rattle.points.specs.declared.point.Layout.{Layout}
 use Rattle.bv_terms.specs.declared.term.Term.{Term}
 use Rattle.mem_terms.specs.declared.inputs.ArgTerms.{ArgTerms}
 use Rattle.mem_terms.specs.declared.inputs.InputTerms.{InputTerms}
 use Rattle.mem_terms.specs.Inputs.{AreArgs, IsInput}
-use Rattle.register_slots.specs.Renaming.{block_in, function_in, index_in, inst_in, parameter_in, terminator_in}
 use Rattle.register_slots.specs.Slotted.{IsSlotted}
 use Rattle.register_slots.specs.StandIn.{IsStandIn}
 use Rattle.register_slots.proofs.Beginning.{allocations_keep_runs}

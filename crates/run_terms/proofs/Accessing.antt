@@ -1,20 +1,11 @@
 -- The terms of a state follow an instruction that uses memory.
-use Rattle.std.proofs.Common.{ℕ, ◌≡◌, ◌<◌, ◌≤◌, ◌+◌, ◌%◌, ◌^◌, Bool, true, false, cond, List, [], ◌∷◌, length, drop, get_or, refl, ap, sym, arith, nat_le, if◌then◌else◌}
-use Rattle.std.proofs.lemmas.List.{drop_more, drop_all}
+use Rattle.run_terms.proofs.Common.{ℕ, ◌≡◌, ◌<◌, ◌≤◌, ◌+◌, ◌%◌, ◌^◌, Bool, true, false, cond, List, [], ◌∷◌, length, drop, get_or, refl, ap, sym, arith, nat_le, if◌then◌else◌, drop_more, drop_all, IrType, MemoryType, GepIndex, padded, store_size, nested_size, object_size, indexed_size, HasSmallArrays, MemoryBlock, assigned, index_value, index_values, loaded, stored, Value, Machine}
 use Rattle.std.proofs.Math.Nat.{mod-eq_of_lt}
-use Rattle.ir_tree.specs.declared.tree.IrType.{IrType}
-use Rattle.ir_tree.specs.declared.tree.MemoryType.{MemoryType}
-use Rattle.ir_tree.specs.declared.tree.GepIndex.{GepIndex}
-use Rattle.ir_tree.specs.Types.{padded, store_size, nested_size, object_size, indexed_size}
-use Rattle.ir_tree.specs.Limits.{HasSmallArrays}
 use Rattle.ir_tree.proofs.Sizes.{small_from}
-use Rattle.byte_block.specs.declared.block.MemoryBlock.{MemoryBlock}
 use Rattle.memory_access.specs.declared.access_types.Loaded.{Loaded}
 use Rattle.memory_access.specs.declared.access_types.Loaded.TheVariants as loading
 use Rattle.memory_access.specs.declared.access_types.Stored.{Stored}
 use Rattle.memory_access.specs.declared.access_types.Stored.TheVariants as storing
-use Rattle.points.specs.Run.{assigned, index_value, index_values, loaded, stored}
-use Rattle.run_terms.specs.Common.{Value, Machine}
 use Rattle.run_terms.proofs.Stepping.{if_defined}
 
 -- ---- what is within the limits

@@ -1,25 +1,11 @@
 -- The registers of a run before its first block.
-use Rattle.std.proofs.Common.{ℕ, zero, suc, ◌≡◌, ◌+◌, ◌<◌, ◌≤◌, ◌-◌, Bool, true, false, ◌&&◌, ◌||◌, cond, if◌then◌else◌, List, [], ◌∷◌, length, map, take, drop, replicate, get_or, slice_set, nat_eq, refl, ap, sym, subst, ◌∙◌, arith}
-use Rattle.std.proofs.Math.Bool.{or_assoc}
-use Rattle.std.proofs.Math.Dec.{eqb-suc-zero}
-use Rattle.std.proofs.lemmas.List.{take_all, drop_all}
+use Rattle.run_terms.proofs.Common.{ℕ, zero, suc, ◌≡◌, ◌+◌, ◌<◌, ◌≤◌, ◌-◌, Bool, true, false, ◌&&◌, ◌||◌, cond, if◌then◌else◌, List, [], ◌∷◌, length, map, take, drop, replicate, get_or, slice_set, nat_eq, refl, ap, sym, subst, ◌∙◌, arith, or_assoc, eqb-suc-zero, take_all, drop_all, Function, BlockName, Null, Given, Local, Poison, Ptr, equal_names, argument_value, breaks_noundef, first_machine, is_null, is_poison, with_args, value_of, frames_of, given_frames, map-set, keeps_trans, bit-later, term-later, values-later, args_at-later, naming, Value, TermId, Term, Keeps, Makes, Tests, bit_at, term_at, SymValue, SymBlock, Each, AreSymValues, IsNaming, IsSymValue, Reading, first_local, values_at, AreGivenBlocks, AreSymBlocks, frame_of, memory_at, RunMemory, RunState, AreNumberedFrom, IsRunMemory, MatchesState, Scene, frames_in, sight}
 use Rattle.ir_tree.specs.declared.tree.Parameter.{Parameter}
-use Rattle.ir_tree.specs.declared.tree.Function.{Function}
-use Rattle.byte_block.specs.declared.value.BlockName.{BlockName}
-use Rattle.byte_block.specs.declared.value.BlockName.TheVariants.{Null, Given, Local}
-use Rattle.byte_block.specs.declared.value.Value.TheVariants.{Poison, Ptr}
-use Rattle.memory_access.specs.Blocks.{equal_names}
 use Rattle.points.specs.declared.point.Layout.{Layout}
-use Rattle.points.specs.Run.{argument_value, breaks_noundef, first_machine, is_null, is_poison, with_args}
 use Rattle.mem_terms.specs.declared.inputs.ArgTerms.{ArgTerms}
 use Rattle.mem_terms.specs.declared.inputs.InputTerms.{InputTerms}
-use Rattle.mem_terms.specs.Values.{value_at, value_of}
-use Rattle.mem_terms.specs.Memory.{frames_of, given_frames}
+use Rattle.mem_terms.specs.Values.{value_at}
 use Rattle.mem_terms.specs.Inputs.{AreArgs, IsArg, arg_at, args_at, given_blocks_at, input_at}
-use Rattle.mem_terms.proofs.Eaches.{map-set}
-use Rattle.mem_terms.proofs.Later.{keeps_trans, bit-later, term-later, values-later, args_at-later}
-use Rattle.mem_terms.proofs.Naming.{naming}
-use Rattle.run_terms.specs.Common.{Value, TermId, Term, Keeps, Makes, Tests, bit_at, term_at, SymValue, SymBlock, Each, AreSymValues, IsNaming, IsSymValue, Reading, first_local, values_at, AreGivenBlocks, AreSymBlocks, frame_of, memory_at, RunMemory, RunState, AreNumberedFrom, IsRunMemory, MatchesState, Scene, frames_in, sight}
 use Rattle.run_terms.proofs.Lasting.{blocks_at-later}
 use Rattle.run_terms.proofs.Memories.{given_count, given_framed}
 

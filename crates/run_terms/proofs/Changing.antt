@@ -1,13 +1,6 @@
 -- A memory that a store or an alloca changed is one of a run still.
-use Rattle.std.proofs.Common.{ℕ, zero, suc, ◌≡◌, ◌≤◌, true, List, [], ◌∷◌, ◌++◌, length, map, take, drop, refl, ap, sym, subst, ◌∙◌, arith}
-use Rattle.std.proofs.lemmas.List.{append_assoc, drop-map, take-append-drop, take-map}
-use Rattle.mem_terms.specs.Memory.{IsSymBlock, SymFrame}
-use Rattle.mem_terms.proofs.Eaches.{each-push, map-length}
-use Rattle.mem_terms.proofs.Later.{always_each-later, sym_blocks-later}
-use Rattle.access_terms.proofs.Stored.{each-take}
+use Rattle.run_terms.proofs.Common.{ℕ, zero, suc, ◌≡◌, ◌≤◌, true, List, [], ◌∷◌, ◌++◌, length, map, take, drop, refl, ap, sym, subst, ◌∙◌, arith, append_assoc, drop-map, take-append-drop, take-map, IsSymBlock, SymFrame, each-push, map-length, always_each-later, sym_blocks-later, each-take, sym_frame, Term, Keeps, bit_at, SymBlock, Each, first_local, AreSymBlocks, frame_of, RunMemory, RunState, AreNumberedFrom, IsRunMemory, frames_in, shape_of}
 use Rattle.access_terms.specs.Accesses as access
-use Rattle.access_terms.specs.Accesses.{sym_frame}
-use Rattle.run_terms.specs.Common.{Term, Keeps, bit_at, SymBlock, Each, first_local, AreSymBlocks, frame_of, RunMemory, RunState, AreNumberedFrom, IsRunMemory, frames_in, shape_of}
 use Rattle.run_terms.proofs.Lasting.{memory_blocks}
 use Rattle.run_terms.proofs.Memories.{frames_count, frames_made, memory_made}
 

@@ -1,13 +1,6 @@
 -- Numbers at a width.
-use Rattle.std.proofs.Common.{ℕ, ◌≡◌, ◌≤◌, ◌%◌, ◌^◌, Bool, true, false, List, refl, ap, ◌∙◌}
+use Rattle.run_terms.proofs.Common.{ℕ, ◌≡◌, ◌≤◌, ◌%◌, ◌^◌, Bool, true, false, List, refl, ap, ◌∙◌, Num, cut_value, SymNumber, IsSymNumber, number_at, value_from, keeps_trans, bit-later, small_mod, below-wider, TermId, Term, Keeps, Makes, bit_at, term_at}
 use Rattle.std.proofs.lemmas.Nat.{pow_pos, mod_below}
-use Rattle.byte_block.specs.declared.value.Value.TheVariants.{Num}
-use Rattle.points.specs.Run.{cut_value}
-use Rattle.mem_terms.specs.declared.integers.SymNumber.{SymNumber}
-use Rattle.mem_terms.specs.Values.{IsSymNumber, number_at, value_from}
-use Rattle.mem_terms.proofs.Later.{keeps_trans, bit-later}
-use Rattle.mem_terms.proofs.Made.{small_mod, below-wider}
-use Rattle.run_terms.specs.Common.{TermId, Term, Keeps, Makes, bit_at, term_at}
 
 -- a number of at most 64 bits has them in 64
 pub narrow : (x n : ℕ) → n ≤ 64 → x % 2 ^ n % 2 ^ 64 ≡ x % 2 ^ n

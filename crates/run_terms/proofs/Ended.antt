@@ -1,12 +1,5 @@
 -- How a run ended, with one way more to end.
-use Rattle.std.proofs.Common.{ℕ, ◌≡◌, true, false, ◌||◌, cond, List, map, Option, Some, None, IfSome, refl, ◌∙◌}
-use Rattle.std.specs.Prelude.{is_some}
-use Rattle.std.specs.Option.{option_map}
-use Rattle.std.proofs.Math.Bool.{or-false, or-true}
-use Rattle.points.specs.declared.outcome.Outcome.{Outcome}
-use Rattle.points.specs.declared.outcome.Outcome.TheVariants.{Ub, Beyond, Return}
-use Rattle.mem_terms.proofs.Later.{keeps_trans, bit-later, is_term-later, memory-later, given_blocks-later}
-use Rattle.run_terms.specs.Common.{Where, At, Done, TermId, Term, Keeps, IsTerm, Tests, bit_at, SymValue, SymBlock, IsSymValue, Reading, value_at, AreGivenBlocks, AreSymBlocks, frame_of, memory_at, Tally, Ending, Counts, IsTally, Scene, sight, Ends, IsEnding, MatchesEnding, NotEnded, ending_at, ending_shape}
+use Rattle.run_terms.proofs.Common.{ℕ, ◌≡◌, true, false, ◌||◌, cond, List, map, Option, Some, None, IfSome, refl, ◌∙◌, is_some, option_map, or-false, or-true, Outcome, Ub, Beyond, Return, keeps_trans, bit-later, is_term-later, memory-later, given_blocks-later, Where, At, Done, TermId, Term, Keeps, IsTerm, Tests, bit_at, SymValue, SymBlock, IsSymValue, Reading, value_at, AreGivenBlocks, AreSymBlocks, frame_of, memory_at, Tally, Ending, Counts, IsTally, Scene, sight, Ends, IsEnding, MatchesEnding, NotEnded, ending_at, ending_shape}
 use Rattle.run_terms.proofs.Lasting.{counts-later, ending-later, option-later, some-later}
 use Rattle.run_terms.proofs.Memories.{given_framed}
 

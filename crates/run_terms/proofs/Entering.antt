@@ -1,13 +1,5 @@
 -- The phis of a block, one after another.
-use Rattle.std.proofs.Common.{ℕ, ◌≡◌, ◌<◌, ◌≤◌, ◌+◌, List, ◌∷◌, length, drop, get_or, slice_set, refl, ap, sym, subst, ◌∙◌}
-use Rattle.std.proofs.lemmas.List.{drop_more, drop_all}
-use Rattle.ir_tree.specs.declared.tree.Phi.{Phi}
-use Rattle.ir_tree.specs.declared.tree.Block.{Block}
-use Rattle.points.specs.Run.{phi_value, with_phis, entered}
-use Rattle.mem_terms.proofs.Eaches.{map-set}
-use Rattle.mem_terms.proofs.Later.{values-later}
-use Rattle.mem_terms.proofs.Naming.{naming}
-use Rattle.run_terms.specs.Common.{Value, Machine, Term, Keeps, SymValue, AreSymValues, IsNaming, Reading, value_at, values_at, RunState, Counts, IsState, MatchesState, Scene, Visit, sight}
+use Rattle.run_terms.proofs.Common.{ℕ, ◌≡◌, ◌<◌, ◌≤◌, ◌+◌, List, ◌∷◌, length, drop, get_or, slice_set, refl, ap, sym, subst, ◌∙◌, drop_more, drop_all, Phi, Block, phi_value, with_phis, entered, map-set, values-later, naming, Value, Machine, Term, Keeps, SymValue, AreSymValues, IsNaming, Reading, value_at, values_at, RunState, Counts, IsState, MatchesState, Scene, Visit, sight}
 use Rattle.run_terms.proofs.Lasting.{counts-later, blocks_at-later}
 
 pub phis_more : (old a b : List Term) (registers behind : List SymValue) (label : ℕ) (phis : List Phi) (i : ℕ) (phi : Phi) (value : SymValue) → AreSymValues old registers → Keeps old a → AreSymValues a behind

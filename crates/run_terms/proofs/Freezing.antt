@@ -1,19 +1,8 @@
 -- The terms of a state follow a freeze.
-use Rattle.std.proofs.Common.{ℕ, ◌≡◌, ◌≤◌, ◌+◌, Bool, true, false, cond, ◌&&◌, List, ◌++◌, length, slice_set, Some, refl, ap, sym, ◌∙◌, arith, length-append}
-use Rattle.ir_tree.specs.declared.tree.IrType.{IrType}
+use Rattle.run_terms.proofs.Common.{ℕ, ◌≡◌, ◌≤◌, ◌+◌, Bool, true, false, cond, ◌&&◌, List, ◌++◌, length, slice_set, Some, refl, ap, sym, ◌∙◌, arith, length-append, IrType, Operand, BlockName, Num, Poison, assigned, choice_of, frozen, is_poison, typed_value, with_taken, truth, width_of, tree_in, value_of, keeps_trans, bit-later, term-later, value-later, naming, Value, Machine, operand_value, TermId, Term, Keeps, Makes, Tests, bit_at, term_at, SymValue, IsNaming, IsSymValue, Reading, values_at, AreWords, Tally, RunState, Counts, IsState, IsTally, MatchesCourse, MatchesState, Scene, Sees, Steps, Visit, sight, stepped, Course, Idle, Dead, Live}
 use Rattle.ir_tree.specs.declared.tree.Inst.TheVariants as inst
-use Rattle.ir_tree.specs.declared.tree.Operand.{Operand}
-use Rattle.byte_block.specs.declared.value.BlockName.{BlockName}
 use Rattle.byte_block.specs.declared.value.Value.TheVariants as value
-use Rattle.byte_block.specs.declared.value.Value.TheVariants.{Num, Poison}
-use Rattle.points.specs.Run.{assigned, choice_of, frozen, is_poison, typed_value, with_taken}
-use Rattle.bv_terms.specs.Tree.{truth, width_of}
-use Rattle.bv_terms.specs.Trees.{tree_in}
-use Rattle.mem_terms.specs.Values.{value_at, value_of}
-use Rattle.mem_terms.proofs.Later.{keeps_trans, bit-later, term-later, value-later}
-use Rattle.mem_terms.proofs.Naming.{naming}
-use Rattle.run_terms.specs.Common.{Value, Machine, operand_value, TermId, Term, Keeps, Makes, Tests, bit_at, term_at, SymValue, IsNaming, IsSymValue, Reading, values_at, AreWords, Tally, RunState, Counts, IsState, IsTally, MatchesCourse, MatchesState, Scene, Sees, Steps, Visit, sight, stepped}
-use Rattle.run_terms.specs.Runs.{Course, Idle, Dead, Live}
+use Rattle.mem_terms.specs.Values.{value_at}
 use Rattle.run_terms.proofs.Lasting.{sees-later, counts-later, matches_state-later, state-later, tally-later}
 use Rattle.run_terms.proofs.Stepping.{set_registers, set_shape, set_state, value_steps}
 

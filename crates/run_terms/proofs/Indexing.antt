@@ -1,15 +1,6 @@
 -- The indices of a getelementptr, one after another.
-use Rattle.std.proofs.Common.{ℕ, ◌≡◌, ◌<◌, ◌≤◌, ◌+◌, ◌++◌, ◌∷◌, [], ◌∙◌, List, length, drop, get_or, refl, ap, sym}
-use Rattle.std.proofs.lemmas.List.{append_assoc, append-nil}
-use Rattle.ir_tree.specs.declared.tree.MemoryType.{MemoryType}
-use Rattle.ir_tree.specs.declared.tree.GepIndex.{GepIndex}
+use Rattle.run_terms.proofs.Common.{ℕ, ◌≡◌, ◌<◌, ◌≤◌, ◌+◌, ◌++◌, ◌∷◌, [], ◌∙◌, List, length, drop, get_or, refl, ap, sym, append_assoc, append-nil, MemoryType, GepIndex, index_value, index_values, each-push, each-weaker, map-push, map-same, bit-later, term-later, is_term-later, SymIndex, AreSymIndices, IsSymIndex, index_at, indices_at, Value, Term, Keeps}
 use Rattle.memory_access.specs.declared.offsets.Index.{Index}
-use Rattle.points.specs.Run.{index_value, index_values}
-use Rattle.mem_terms.proofs.Eaches.{each-push, each-weaker, map-push, map-same}
-use Rattle.mem_terms.proofs.Later.{bit-later, term-later, is_term-later}
-use Rattle.access_terms.specs.declared.offsets.SymIndex.{SymIndex}
-use Rattle.access_terms.specs.Offsets.{AreSymIndices, IsSymIndex, index_at, indices_at}
-use Rattle.run_terms.specs.Common.{Value, Term, Keeps}
 use Rattle.run_terms.proofs.Accessing.{indices_end, indices_more}
 
 module _ (old new : List Term) (k : Keeps old new) where

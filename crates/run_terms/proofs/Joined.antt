@@ -1,9 +1,5 @@
 -- One of two states of a run.
-use Rattle.std.proofs.Common.{ℕ, ◌≡◌, ◌<◌, ◌≤◌, ◌+◌, max, Bool, true, false, cond, List, [], ◌∷◌, ◌++◌, length, take, get_or, refl, ap, sym, subst, ◌∙◌, arith, length-append}
-use Rattle.bv_terms.specs.Tree.{truth}
-use Rattle.mem_terms.proofs.Eaches.{each-at, each-push, map-at, map-length, map-push, take-push}
-use Rattle.mem_terms.proofs.Later.{keeps_trans, bit-later, term-later, sym_values-later, value-later, values-later}
-use Rattle.run_terms.specs.Common.{Value, Machine, TermId, Term, Keeps, IsTerm, Makes, bit_at, term_at, SymValue, AreSymValues, IsSymValue, Reading, value_at, values_at, memory_at, Tally, RunMemory, RunState, Counts, IsState, IsTally, MatchesState, Scene, StateShape, Visit, shape_of, sight}
+use Rattle.run_terms.proofs.Common.{ℕ, ◌≡◌, ◌<◌, ◌≤◌, ◌+◌, max, Bool, true, false, cond, List, [], ◌∷◌, ◌++◌, length, take, get_or, refl, ap, sym, subst, ◌∙◌, arith, length-append, truth, each-at, each-push, map-at, map-length, map-push, take-push, keeps_trans, bit-later, term-later, sym_values-later, value-later, values-later, Value, Machine, TermId, Term, Keeps, IsTerm, Makes, bit_at, term_at, SymValue, AreSymValues, IsSymValue, Reading, value_at, values_at, memory_at, Tally, RunMemory, RunState, Counts, IsState, IsTally, MatchesState, Scene, StateShape, Visit, shape_of, sight}
 use Rattle.run_terms.proofs.Lasting.{counts-later, blocks_at-later}
 use Rattle.run_terms.proofs.Memories.{same_given}
 

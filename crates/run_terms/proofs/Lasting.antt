@@ -1,11 +1,6 @@
 -- What was said of a run so far is said of it over more terms.
-use Rattle.std.proofs.Common.{ℕ, zero, suc, ◌≡◌, Bool, List, [], ◌∷◌, map, take, drop, Option, Some, None, IfSome, refl, ap, sym, subst, ◌∙◌}
-use Rattle.std.specs.Prelude.{slice_get, slice_set}
-use Rattle.std.specs.Option.{option_map}
-use Rattle.mem_terms.specs.Memory.{IsSymBlock}
-use Rattle.mem_terms.proofs.Eaches.{each-weaker, each-set}
-use Rattle.mem_terms.proofs.Later.{bit-later, term-later, is_term-later, sym_values-later, sym_value-later, sym_blocks-later, values-later, value-later, memory-later, given_blocks-later, words_at-later}
-use Rattle.run_terms.specs.Common.{Machine, Where, At, Done, TermId, Term, Keeps, IsTerm, Tests, SymValue, Each, IsSymValue, Reading, value_at, AreSymBlocks, frame_of, memory_at, AreWords, Tally, RunMemory, RunState, Ending, Frontier, Leaving, Setting, Counts, IsRunMemory, IsState, IsTally, MatchesState, Scene, Sees, Visit, frames_in, sight, visit_of, AreStates, HasShape, IsEnding, IsFrontier, IsLeaving, IsUnreached, MatchesAhead, MatchesEnding, MatchesFrontier, ending_at}
+use Rattle.run_terms.proofs.Common.{ℕ, zero, suc, ◌≡◌, Bool, List, [], ◌∷◌, map, take, drop, Option, Some, None, IfSome, refl, ap, sym, subst, ◌∙◌, slice_get, option_map, IsSymBlock, each-weaker, each-set, bit-later, term-later, is_term-later, sym_values-later, sym_value-later, sym_blocks-later, values-later, value-later, memory-later, given_blocks-later, words_at-later, Machine, Where, At, Done, TermId, Term, Keeps, IsTerm, Tests, SymValue, Each, IsSymValue, Reading, value_at, AreSymBlocks, frame_of, memory_at, AreWords, Tally, RunMemory, RunState, Ending, Frontier, Leaving, Setting, Counts, IsRunMemory, IsState, IsTally, MatchesState, Scene, Sees, Visit, frames_in, sight, visit_of, AreStates, HasShape, IsEnding, IsFrontier, IsLeaving, IsUnreached, MatchesAhead, MatchesEnding, MatchesFrontier, ending_at}
+use Rattle.std.specs.Prelude.{slice_set}
 
 pub each-get : {A : Type 0} (P : A → Type 0) (xs : List A) (n : ℕ) (x : A) → Each P xs → slice_get xs n ≡ Some x → P x
 each-get P [] n x h e = absurd (let c : ⊥ = cc in c)

@@ -1,25 +1,8 @@
 -- A block is left.
-use Rattle.std.proofs.Common.{ℕ, zero, suc, ◌≡◌, ◌<◌, ◌+◌, ◌%◌, ◌^◌, Bool, true, false, cond, not, ◌&&◌, nat_eq, if◌then◌else◌, List, [], ◌∷◌, length, map, get_or, Option, Some, None, inl, inr, refl, ap, sym, subst, ◌∙◌, arith, add-one}
-use Rattle.std.specs.Prelude.{slice_get, slice_index_or}
-use Rattle.std.specs.Option.{option_map_or}
-use Rattle.std.specs.List.{find}
-use Rattle.std.proofs.lemmas.Bool.{cases_Bool}
-use Rattle.ir_tree.specs.declared.tree.Case.{Case}
-use Rattle.ir_tree.specs.declared.tree.Function.{Function}
+use Rattle.run_terms.proofs.Common.{ℕ, zero, suc, ◌≡◌, ◌<◌, ◌+◌, ◌%◌, ◌^◌, Bool, true, false, cond, not, ◌&&◌, nat_eq, if◌then◌else◌, List, [], ◌∷◌, length, map, get_or, Option, Some, None, inl, inr, refl, ap, sym, subst, ◌∙◌, arith, add-one, slice_get, slice_index_or, option_map_or, find, cases_Bool, Case, Function, Num, Poison, Ub, branch_on, switch_on, Edge, BlockCopy, edge_of, left_by, truth, SymNumber, number_at, value_from, bit-later, keeps_trans, term-later, Value, Machine, ended, Where, Done, along, TermId, Term, Keeps, IsTerm, Tests, bit_at, term_at, as_integer, Frontier, Leaving, Setting, MatchesState, Scene, Visit, AreByLabel, Everywhere, IsLeaving, Leaves, Simulates, branched, placed, switched_on}
 use Rattle.ir_tree.specs.Sites.{same_number}
 use Rattle.byte_block.specs.declared.value.Value.TheVariants as value
-use Rattle.byte_block.specs.declared.value.Value.TheVariants.{Num, Poison}
-use Rattle.points.specs.declared.outcome.Outcome.TheVariants.{Ub}
-use Rattle.points.specs.Run.{branch_on, switch_on}
-use Rattle.unroll.specs.declared.layered.Edge.{Edge}
 use Rattle.unroll.specs.declared.layered.Edge.TheVariants.{Nowhere}
-use Rattle.unroll.specs.declared.layered.BlockCopy.{BlockCopy}
-use Rattle.unroll.specs.Layers.{edge_of, left_by}
-use Rattle.bv_terms.specs.Tree.{truth}
-use Rattle.mem_terms.specs.declared.integers.SymNumber.{SymNumber}
-use Rattle.mem_terms.specs.Values.{number_at, value_from}
-use Rattle.mem_terms.proofs.Later.{bit-later, keeps_trans, term-later}
-use Rattle.run_terms.specs.Common.{Value, Machine, ended, Where, Done, along, TermId, Term, Keeps, IsTerm, Tests, bit_at, term_at, as_integer, Frontier, Leaving, Setting, MatchesState, Scene, Visit, AreByLabel, Everywhere, IsLeaving, Leaves, Simulates, branched, placed, switched_on}
 use Rattle.run_terms.proofs.Lasting.{state-later}
 use Rattle.run_terms.proofs.Moving.{simulates_to, simulates_when, simulates_later, simulates_choice, edge_of_label}
 use Rattle.run_terms.proofs.Reading.{branched_integer, switched_integer}

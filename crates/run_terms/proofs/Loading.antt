@@ -1,29 +1,14 @@
 -- The terms of a state follow a load, a store, an alloca and a getelementptr.
-use Rattle.std.proofs.Common.{ℕ, ◌≡◌, ◌≤◌, Bool, true, cond, ◌&&◌, List, [], ◌∷◌, ◌++◌, map, slice_set, refl, ap, sym, subst, ◌∙◌}
-use Rattle.std.proofs.Math.Bool.{and-true}
+use Rattle.run_terms.proofs.Common.{ℕ, ◌≡◌, ◌≤◌, Bool, true, cond, ◌&&◌, List, [], ◌∷◌, ◌++◌, map, slice_set, refl, ap, sym, subst, ◌∙◌, and-true, IrType, MemoryType, GepIndex, Operand, object_size, Local, MemoryBlock, access_of, allocated, assigned, index_values, keeps_trans, bit-later, memory-later, sym_blocks-later, sym_value-later, value-later, values-later, naming, SymIndex, IsSymLoaded, loaded_at, stored_at, sym_frame, indices_at, Value, Machine, operand_value, typed_operand_value, TermId, Term, Keeps, Tests, bit_at, SymValue, SymBlock, IsNaming, IsSymValue, Reading, first_local, value_at, values_at, AreSymBlocks, memory_at, RunState, Always, IsState, MatchesState, Scene, Steps, Visit, sight, stepped}
 use Rattle.ir_tree.specs.declared.tree.Inst.TheVariants as inst
-use Rattle.ir_tree.specs.declared.tree.IrType.{IrType}
-use Rattle.ir_tree.specs.declared.tree.MemoryType.{MemoryType}
-use Rattle.ir_tree.specs.declared.tree.GepIndex.{GepIndex}
-use Rattle.ir_tree.specs.declared.tree.Operand.{Operand}
 use Rattle.ir_tree.specs.declared.tree.TypedOperand.{TypedOperand}
-use Rattle.ir_tree.specs.Types.{object_size}
-use Rattle.byte_block.specs.declared.value.BlockName.TheVariants.{Local}
 use Rattle.byte_block.specs.declared.value.Value.TheVariants as value
-use Rattle.byte_block.specs.declared.block.MemoryBlock.{MemoryBlock}
 use Rattle.memory_access.specs.declared.access_types.Access.{Access}
 use Rattle.memory_access.specs.declared.access_types.Loaded.TheVariants as loading
 use Rattle.memory_access.specs.declared.access_types.Stored.TheVariants as storing
 use Rattle.memory_access.specs.Accesses.{load_result, store_result, after_store, after_alloca}
 use Rattle.memory_access.specs.Offsets.{gep_result}
-use Rattle.points.specs.Run.{access_of, allocated, assigned, index_values}
-use Rattle.mem_terms.proofs.Later.{keeps_trans, bit-later, memory-later, sym_blocks-later, sym_value-later, value-later, values-later}
-use Rattle.mem_terms.proofs.Naming.{naming}
 use Rattle.access_terms.specs.declared.accesses.SymLoaded.{SymLoaded}
-use Rattle.access_terms.specs.declared.offsets.SymIndex.{SymIndex}
-use Rattle.access_terms.specs.Accesses.{IsSymLoaded, loaded_at, stored_at, sym_frame}
-use Rattle.access_terms.specs.Offsets.{indices_at}
-use Rattle.run_terms.specs.Common.{Value, Machine, operand_value, typed_operand_value, TermId, Term, Keeps, Tests, bit_at, SymValue, SymBlock, IsNaming, IsSymValue, Reading, first_local, value_at, values_at, AreSymBlocks, memory_at, RunState, Always, IsState, MatchesState, Scene, Steps, Visit, sight, stepped}
 use Rattle.run_terms.proofs.Lasting.{blocks_at-later, matches_state-later, state-later, tested}
 use Rattle.run_terms.proofs.Stepping.{defined_steps, set_matches, set_shape, set_state, value_steps}
 use Rattle.run_terms.proofs.Changing.{alloca_frames, alloca_memory, memory_shape, store_frames, store_memory}

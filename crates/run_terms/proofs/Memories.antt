@@ -1,12 +1,7 @@
 -- The blocks of a run's memory: the given ones, and after them those of allocas.
-use Rattle.std.proofs.Common.{ℕ, ◌≡◌, ◌<◌, ◌≤◌, ◌-◌, Bool, true, false, cond, List, [], ◌∷◌, ◌++◌, length, length-append, map, take, drop, refl, ap, sym, subst, ◌∙◌, arith}
-use Rattle.std.proofs.lemmas.List.{length-take, take-append-drop}
+use Rattle.run_terms.proofs.Common.{ℕ, ◌≡◌, ◌<◌, ◌≤◌, ◌-◌, Bool, true, false, cond, List, [], ◌∷◌, ◌++◌, length, length-append, map, take, drop, refl, ap, sym, subst, ◌∙◌, arith, length-take, take-append-drop, MemoryBlock, SymFrame, block_at, map-length, bit-later, memory-later, given_blocks-later, TermId, Term, Keeps, IsTerm, bit_at, SymBlock, Each, Reading, first_local, AreGivenBlocks, AreSymBlocks, frame_of, RunMemory, AreNumberedFrom, IsRunMemory, frames_in}
 use Rattle.std.proofs.Math.Seq.{drop-append_seam, take-append_seam}
-use Rattle.byte_block.specs.declared.block.MemoryBlock.{MemoryBlock}
-use Rattle.mem_terms.specs.Memory.{SymFrame, block_at, memory_at}
-use Rattle.mem_terms.proofs.Eaches.{map-length}
-use Rattle.mem_terms.proofs.Later.{bit-later, memory-later, given_blocks-later}
-use Rattle.run_terms.specs.Common.{TermId, Term, Keeps, IsTerm, bit_at, SymBlock, Each, Reading, first_local, AreGivenBlocks, AreSymBlocks, frame_of, RunMemory, AreNumberedFrom, IsRunMemory, frames_in}
+use Rattle.mem_terms.specs.Memory.{memory_at}
 
 -- ---- how many are given
 

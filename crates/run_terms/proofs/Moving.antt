@@ -1,22 +1,5 @@
 -- A run goes on from where it is.
-use Rattle.std.proofs.Common.{ℕ, zero, suc, ◌≡◌, ◌<◌, ◌≤◌, ◌+◌, Bool, true, false, cond, not, ◌&&◌, nat_eq, nat_le, List, [], ◌∷◌, ◌++◌, length, map, take, get_or, Option, Some, None, inl, inr, refl, ap, sym, subst, ◌∙◌}
-use Rattle.std.specs.Prelude.{slice_get}
-use Rattle.std.specs.Option.{option_map_or}
-use Rattle.std.specs.List.{find}
-use Rattle.std.proofs.lemmas.Bool.{cases_Bool, le-leb, eqb-true, eqb-false}
-use Rattle.std.proofs.lemmas.List.{take_all}
-use Rattle.ir_tree.specs.declared.tree.Case.{Case}
-use Rattle.ir_tree.specs.declared.tree.Block.{Block}
-use Rattle.ir_tree.specs.declared.tree.Function.{Function}
-use Rattle.points.specs.declared.outcome.Outcome.{Outcome}
-use Rattle.points.specs.declared.outcome.Outcome.TheVariants.{Ub}
-use Rattle.points.specs.Run.{entered}
-use Rattle.unroll.specs.declared.layered.Edge.{Edge}
-use Rattle.unroll.specs.declared.layered.BlockCopy.{BlockCopy}
-use Rattle.unroll.specs.Layers.{edge_of}
-use Rattle.mem_terms.proofs.Eaches.{take-push}
-use Rattle.mem_terms.proofs.Later.{keeps_self, keeps_trans, bit-later}
-use Rattle.run_terms.specs.Common.{Machine, Run, ended, Where, At, Done, TermId, Term, Keeps, IsTerm, bit_at, Tally, RunState, Ending, Frontier, Leaving, Setting, Counts, IsState, MatchesState, Scene, Visit, visit_of, EndedSo, Ends, Everywhere, HasShape, IsFrontier, IsLeaving, Leaves, MatchesAhead, MatchesFrontier, Simulates, placed}
+use Rattle.run_terms.proofs.Common.{ℕ, zero, suc, ◌≡◌, ◌<◌, ◌≤◌, ◌+◌, Bool, true, false, cond, not, ◌&&◌, nat_eq, nat_le, List, [], ◌∷◌, ◌++◌, length, map, take, get_or, Option, Some, None, inl, inr, refl, ap, sym, subst, ◌∙◌, slice_get, option_map_or, find, cases_Bool, le-leb, eqb-true, eqb-false, take_all, Case, Block, Function, Outcome, Ub, entered, Edge, BlockCopy, edge_of, take-push, keeps_self, keeps_trans, bit-later, Machine, Run, ended, Where, At, Done, TermId, Term, Keeps, IsTerm, bit_at, Tally, RunState, Ending, Frontier, Leaving, Setting, Counts, IsState, MatchesState, Scene, Visit, visit_of, EndedSo, Ends, Everywhere, HasShape, IsFrontier, IsLeaving, Leaves, MatchesAhead, MatchesFrontier, Simulates, placed}
 use Rattle.run_terms.proofs.Lasting.{states-later, matches_state-later, matches_there, matches_frontier-later, matches_ahead-later, matches_ending-later}
 
 -- ---- one after another

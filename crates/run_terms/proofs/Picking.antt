@@ -1,13 +1,5 @@
 -- The word at an index, index by index.
-use Rattle.std.proofs.Common.{ℕ, zero, suc, ◌≡◌, ◌<◌, ◌≤◌, ◌+◌, cond, List, [], ◌∷◌, length, take, get_or, slice_index, nat_eq, add-one, refl, ap, sym, ◌∙◌, arith}
-use Rattle.std.proofs.lemmas.List.{take_all}
-use Rattle.std.proofs.Math.Dec.{eqb-suc-zero, eqb-zero-suc, eqb-suc-suc}
-use Rattle.bv_terms.specs.Tree.{width_of}
-use Rattle.bv_terms.specs.Trees.{tree_in}
-use Rattle.mem_terms.proofs.Later.{keeps_trans}
-use Rattle.mem_terms.proofs.Eaches.{each-at, map-at, map-length}
-use Rattle.mem_terms.proofs.Later.{term-later, is_term-later}
-use Rattle.run_terms.specs.Common.{TermId, Term, Keeps, IsTerm, Makes, Tests, bit_at, term_at, AreWords, words_at}
+use Rattle.run_terms.proofs.Common.{ℕ, zero, suc, ◌≡◌, ◌<◌, ◌≤◌, ◌+◌, cond, List, [], ◌∷◌, length, take, get_or, slice_index, nat_eq, add-one, refl, ap, sym, ◌∙◌, arith, take_all, eqb-suc-zero, eqb-zero-suc, eqb-suc-suc, width_of, tree_in, keeps_trans, each-at, map-at, map-length, term-later, is_term-later, TermId, Term, Keeps, IsTerm, Makes, Tests, bit_at, term_at, AreWords, words_at}
 
 pub take_pick : (xs : List ℕ) (i r x : ℕ) → i < length xs → get_or xs i 0 ≡ x → get_or (take (suc i) xs) r 0 ≡ cond (nat_eq r i) x (get_or (take i xs) r 0)
 take_pick [] i r x lt e = absurd (omega arith)

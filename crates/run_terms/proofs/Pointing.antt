@@ -1,19 +1,8 @@
 -- Which given block a word names.
-use Rattle.std.proofs.Common.{ℕ, zero, suc, ◌≡◌, ◌<◌, ◌≤◌, ◌+◌, Bool, true, false, ◌&&◌, ◌||◌, cond, List, [], ◌∷◌, length, map, take, drop, nat_eq, nat_lt, nat_le, inl, inr, refl, ap, sym, subst, ◌∙◌, arith}
-use Rattle.std.specs.List.{list_any}
-use Rattle.std.proofs.Math.Bool.{or-false}
-use Rattle.std.proofs.lemmas.Bool.{cases_Bool}
-use Rattle.std.proofs.lemmas.Bool.Decides.{nat_tests}
-use Rattle.std.proofs.lemmas.List.{length-take}
+use Rattle.run_terms.proofs.Common.{ℕ, zero, suc, ◌≡◌, ◌<◌, ◌≤◌, ◌+◌, Bool, true, false, ◌&&◌, ◌||◌, cond, List, [], ◌∷◌, length, map, take, drop, nat_eq, nat_lt, nat_le, inl, inr, refl, ap, sym, subst, ◌∙◌, arith, list_any, or-false, cases_Bool, nat_tests, length-take, Given, MemoryBlock, equal_names, names, block_number, given_or_null, block_name, IsAlways, block_at, given_before, local_block, Term, bit_at, SymBlock, Each, first_local, frame_of, RunMemory, AreNumberedFrom, IsRunMemory, Scene, sight}
 use Rattle.std.proofs.lemmas.List.Folds.{list_any-append}
-use Rattle.byte_block.specs.declared.value.BlockName.TheVariants.{Given}
-use Rattle.byte_block.specs.declared.block.MemoryBlock.{MemoryBlock}
-use Rattle.memory_access.specs.Blocks.{equal_names, names}
-use Rattle.points.specs.Run.{block_number, given_or_null}
-use Rattle.mem_terms.specs.Values.{block_name}
-use Rattle.mem_terms.specs.Memory.{IsAlways, block_at, memory_at}
-use Rattle.mem_terms.proofs.Naming.{given_before, given_named as block_named, local_block}
-use Rattle.run_terms.specs.Common.{Term, bit_at, SymBlock, Each, first_local, frame_of, RunMemory, AreNumberedFrom, IsRunMemory, Scene, sight}
+use Rattle.mem_terms.specs.Memory.{memory_at}
+use Rattle.mem_terms.proofs.Naming.{given_named as block_named}
 use Rattle.run_terms.proofs.Memories.{memory-parts}
 
 -- ---- the name of a number

@@ -1,12 +1,6 @@
 -- An entry of the list of the copies ahead is changed.
-use Rattle.std.proofs.Common.{ℕ, zero, suc, ◌≡◌, ◌<◌, true, false, ◌||◌, List, [], ◌∷◌, length, nat_eq, Option, Some, None, IfSome, inl, inr, refl, ap, sym, subst, ◌∙◌, arith}
-use Rattle.std.specs.Prelude.{slice_get, slice_set}
-use Rattle.std.proofs.Math.Bool.{or-false, or-true}
-use Rattle.std.proofs.lemmas.Bool.{cases_Bool, eqb-true, eqb-false}
-use Rattle.std.proofs.lemmas.List.{set-set, set_comm}
-use Rattle.mem_terms.proofs.Eaches.{each-set}
-use Rattle.mem_terms.proofs.Later.{bit-later}
-use Rattle.run_terms.specs.Common.{Machine, Where, At, Done, Term, Keeps, Tests, bit_at, Each, RunState, IsState, MatchesState, Scene, Visit, visit_of, AreStates, IsUnreached, MatchesAhead, MatchesEntry}
+use Rattle.run_terms.proofs.Common.{ℕ, zero, suc, ◌≡◌, ◌<◌, true, false, ◌||◌, List, [], ◌∷◌, length, nat_eq, Option, Some, None, IfSome, inl, inr, refl, ap, sym, subst, ◌∙◌, arith, slice_get, or-false, or-true, cases_Bool, eqb-true, eqb-false, set-set, set_comm, each-set, bit-later, Machine, Where, At, Done, Term, Keeps, Tests, bit_at, Each, RunState, IsState, MatchesState, Scene, Visit, visit_of, AreStates, IsUnreached, MatchesAhead, MatchesEntry}
+use Rattle.std.specs.Prelude.{slice_set}
 use Rattle.run_terms.proofs.Lasting.{each-get, matches_state-later, unreached-later, states-later}
 
 -- ---- lists with one item set

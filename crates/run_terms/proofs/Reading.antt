@@ -1,17 +1,9 @@
 -- Where an integer is used, a pointer reads as poison.
-use Rattle.std.proofs.Common.{ℕ, zero, suc, ◌≡◌, ◌<◌, Bool, List, [], ◌∷◌, length, refl, arith}
-use Rattle.std.specs.Prelude.{slice_index_or}
-use Rattle.ir_tree.specs.declared.tree.Op.{Op}
+use Rattle.run_terms.proofs.Common.{ℕ, zero, suc, ◌≡◌, ◌<◌, Bool, List, [], ◌∷◌, length, refl, arith, slice_index_or, Op, Case, Num, Poison, cast_value, compared, defined_result, has_no_quotient, is_least_or_poison, is_minus_1, is_undefined, is_zero_or_poison, selected, value_result, cut_value, Edge, Value, Machine, Term, SymValue, Reading, as_integer, value_at, values_at, branched, switched_on}
 use Rattle.ir_tree.specs.declared.tree.Op.TheVariants.{Add, Sub, Mul, UnsignedDiv, UnsignedRem, SignedDiv, SignedRem, ShiftLeft, LogicalShiftRight, ArithmeticShiftRight, And, Or, Xor}
 use Rattle.ir_tree.specs.declared.tree.Predicate.{Predicate}
 use Rattle.ir_tree.specs.declared.tree.Cast.{Cast}
-use Rattle.ir_tree.specs.declared.tree.Case.{Case}
 use Rattle.byte_block.specs.declared.value.Value.TheVariants as value
-use Rattle.byte_block.specs.declared.value.Value.TheVariants.{Num, Poison}
-use Rattle.points.specs.Table.{cast_value, compared, defined_result, has_no_quotient, is_least_or_poison, is_minus_1, is_undefined, is_zero_or_poison, selected, value_result}
-use Rattle.points.specs.Run.{cut_value}
-use Rattle.unroll.specs.declared.layered.Edge.{Edge}
-use Rattle.run_terms.specs.Common.{Value, Machine, Term, SymValue, Reading, as_integer, value_at, values_at, branched, switched_on}
 
 -- a register, where there is one
 pub register_at : (r : Reading) (terms : List Term) (registers : List SymValue) (name : ℕ) (none : SymValue) → name < length registers

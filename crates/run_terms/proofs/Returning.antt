@@ -1,19 +1,7 @@
 -- A return leaves the given blocks of its memory.
-use Rattle.std.proofs.Common.{ℕ, ◌≡◌, ◌<◌, ◌≤◌, ◌+◌, Bool, true, false, cond, if◌then◌else◌, List, [], ◌∷◌, ◌++◌, length, map, take, drop, Option, refl, ap, sym, subst, ◌∙◌, arith}
-use Rattle.std.specs.Prelude.{is_some}
-use Rattle.std.specs.Option.{option_map}
-use Rattle.std.specs.List.{filter}
-use Rattle.std.proofs.lemmas.List.{append-nil, length-take}
+use Rattle.run_terms.proofs.Common.{ℕ, ◌≡◌, ◌<◌, ◌≤◌, ◌+◌, Bool, true, false, cond, if◌then◌else◌, List, [], ◌∷◌, ◌++◌, length, map, take, drop, Option, refl, ap, sym, subst, ◌∙◌, arith, is_some, option_map, filter, append-nil, length-take, MemoryBlock, Return, is_given, reading, SymFrame, block_at, memory-later, given_named, local_block, Machine, Run, Done, Term, Keeps, bit_at, SymValue, SymBlock, Each, first_local, value_at, AreGivenBlocks, frame_of, Tally, RunMemory, RunState, Ending, Frontier, Leaving, Setting, AreNumberedFrom, IsRunMemory, IsState, MatchesState, Scene, StateShape, Visit, sight, Ends, HasShape, IsLeaving, Leaves, EndingShape, IsReturned}
 use Rattle.std.proofs.lemmas.List.Elements.{filter-append}
-use Rattle.byte_block.specs.declared.block.MemoryBlock.{MemoryBlock}
-use Rattle.points.specs.declared.outcome.Outcome.TheVariants.{Return}
-use Rattle.points.specs.Run.{is_given}
-use Rattle.mem_terms.specs.Values.{reading}
-use Rattle.mem_terms.specs.Memory.{SymFrame, block_at, memory_at}
-use Rattle.mem_terms.proofs.Later.{memory-later}
-use Rattle.mem_terms.proofs.Naming.{given_named, local_block}
-use Rattle.run_terms.specs.Common.{Machine, Run, Done, Term, Keeps, bit_at, SymValue, SymBlock, Each, first_local, value_at, AreGivenBlocks, frame_of, Tally, RunMemory, RunState, Ending, Frontier, Leaving, Setting, AreNumberedFrom, IsRunMemory, IsState, MatchesState, Scene, StateShape, Visit, sight, Ends, HasShape, IsLeaving, Leaves}
-use Rattle.run_terms.specs.Frontier.{EndingShape, IsReturned}
+use Rattle.mem_terms.specs.Memory.{memory_at}
 use Rattle.run_terms.proofs.Moving.{ends_leaves}
 use Rattle.run_terms.proofs.Memories.{memory-parts}
 

@@ -1,29 +1,12 @@
 -- The terms of a state follow an instruction.
-use Rattle.std.proofs.Common.{ℕ, ◌≡◌, ◌<◌, ◌≤◌, ◌+◌, Bool, true, false, not, ◌&&◌, List, [], ◌∷◌, ◌++◌, length, take, get_or, slice_set, Option, Some, None, refl, ap, sym, subst, ◌∙◌, arith}
-use Rattle.std.specs.Prelude.{slice_get, slice_index_or}
-use Rattle.std.specs.Option.{option_map}
-use Rattle.std.proofs.Math.Bool.{and-true}
-use Rattle.std.proofs.lemmas.List.{length-set, take_all}
-use Rattle.ir_tree.specs.declared.tree.Inst.{Inst}
+use Rattle.run_terms.proofs.Common.{ℕ, ◌≡◌, ◌<◌, ◌≤◌, ◌+◌, Bool, true, false, not, ◌&&◌, List, [], ◌∷◌, ◌++◌, length, take, get_or, slice_set, Option, Some, None, refl, ap, sym, subst, ◌∙◌, arith, slice_get, slice_index_or, option_map, and-true, length-set, take_all, Inst, Op, Operand, MemoryBlock, value_result, act, assigned, Tree, truth, AreFit, trees_from, trees_of, SymNumber, option_from, each-set, map-set, take-push, keeps_trans, bit-later, sym_value-later, sym_values-later, value-later, values-later, naming, Value, Machine, operand_value, TermId, Term, Keeps, IsTerm, Tests, bit_at, SymValue, IsNaming, IsSymValue, Reading, value_at, values_at, memory_at, Tally, RunMemory, RunState, Always, Counts, IsRunMemory, IsState, IsTally, MatchesCourse, MatchesState, Scene, Steps, Visit, shape_of, sight, stepped, Course, Idle, Dead, Live, advanced, steps}
 use Rattle.ir_tree.specs.declared.tree.Inst.TheVariants as inst
-use Rattle.ir_tree.specs.declared.tree.Op.{Op}
-use Rattle.ir_tree.specs.declared.tree.Operand.{Operand}
 use Rattle.tv_num.specs.declared.Width.{Width}
-use Rattle.byte_block.specs.declared.block.MemoryBlock.{MemoryBlock}
-use Rattle.points.specs.Table.{value_result}
-use Rattle.points.specs.Run.{act, assigned}
 use Rattle.bv_terms.specs.declared.term.Term.TheVariants as term
 use Rattle.bv_terms.specs.Tree as tree
-use Rattle.bv_terms.specs.Tree.{Tree, truth, value_of}
+use Rattle.bv_terms.specs.Tree.{value_of}
 use Rattle.bv_terms.proofs.Stages.{tree-stored}
-use Rattle.bv_terms.specs.Trees.{AreFit, trees_from, trees_of}
-use Rattle.mem_terms.specs.declared.integers.SymNumber.{SymNumber}
-use Rattle.mem_terms.specs.Values.{option_from}
-use Rattle.mem_terms.proofs.Eaches.{each-set, map-set, take-push}
-use Rattle.mem_terms.proofs.Later.{keeps_trans, bit-later, sym_value-later, sym_values-later, value-later, values-later}
-use Rattle.mem_terms.proofs.Naming.{naming}
-use Rattle.run_terms.specs.Common.{Value, Machine, operand_value, TermId, Term, Keeps, IsTerm, Tests, bit_at, SymValue, IsNaming, IsSymValue, Reading, number_at, value_at, values_at, memory_at, Tally, RunMemory, RunState, Always, Counts, IsRunMemory, IsState, IsTally, MatchesCourse, MatchesState, Scene, Steps, Visit, shape_of, sight, stepped}
-use Rattle.run_terms.specs.Runs.{Course, Idle, Dead, Live, advanced, steps}
+use Rattle.run_terms.specs.Common.{number_at}
 use Rattle.run_terms.proofs.Lasting.{counts-later, matches_state-later, blocks_at-later, state-later, tested}
 
 -- ---- more terms

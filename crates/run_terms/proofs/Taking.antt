@@ -1,17 +1,5 @@
 -- A choice is taken.
-use Rattle.std.proofs.Common.{ℕ, zero, suc, ◌≡◌, ◌<◌, ◌≤◌, ◌+◌, ◌%◌, ◌^◌, true, false, cond, not, ◌&&◌, ◌||◌, List, [], ◌∷◌, ◌++◌, length, map, take, nat_eq, nat_le, slice_index, refl, ap, sym, subst, ◌∙◌, arith, length-append}
-use Rattle.std.proofs.Math.Bool.{and-true, and_assoc}
-use Rattle.std.proofs.lemmas.Bool.Decides.{nat_tests}
-use Rattle.byte_block.specs.declared.value.Value.TheVariants.{Num, Ptr}
-use Rattle.points.specs.Run.{block_number, given_or_null, next_word}
-use Rattle.bv_terms.specs.Tree.{width_of}
-use Rattle.bv_terms.specs.Trees.{AreInRange, tree_in}
-use Rattle.mem_terms.specs.Values.{number_at}
-use Rattle.mem_terms.proofs.Later.{keeps_trans, bit-later, term-later, is_term-later, words_at-later}
-use Rattle.mem_terms.proofs.Made.{small_mod}
-use Rattle.access_terms.proofs.Stored.{each-take}
-use Rattle.run_terms.specs.Common.{Machine, TermId, Term, Keeps, IsTerm, Makes, Tests, bit_at, term_at, SymValue, Reading, value_at, AreWords, words_at, Tally, RunState, Counts, IsState, IsTally, MatchesState, Scene, Sees, Visit, sight}
-use Rattle.run_terms.specs.Runs.{fits_from}
+use Rattle.run_terms.proofs.Common.{ℕ, zero, suc, ◌≡◌, ◌<◌, ◌≤◌, ◌+◌, ◌%◌, ◌^◌, true, false, cond, not, ◌&&◌, ◌||◌, List, [], ◌∷◌, ◌++◌, length, map, take, nat_eq, nat_le, slice_index, refl, ap, sym, subst, ◌∙◌, arith, length-append, and-true, and_assoc, nat_tests, Num, Ptr, block_number, given_or_null, next_word, width_of, AreInRange, tree_in, number_at, keeps_trans, bit-later, term-later, is_term-later, words_at-later, small_mod, each-take, Machine, TermId, Term, Keeps, IsTerm, Makes, Tests, bit_at, term_at, SymValue, Reading, value_at, AreWords, words_at, Tally, RunState, Counts, IsState, IsTally, MatchesState, Scene, Sees, Visit, sight, fits_from}
 use Rattle.run_terms.proofs.Cutting.{narrow}
 use Rattle.run_terms.proofs.Pointing.{chosen_block, names_given}
 

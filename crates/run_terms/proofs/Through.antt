@@ -1,28 +1,10 @@
 -- A run through one copy, and through all.
-use Rattle.std.proofs.Common.{ℕ, zero, suc, ◌≡◌, ◌<◌, ◌≤◌, ◌+◌, Bool, true, false, not, ◌&&◌, nat_eq, nat_le, if◌then◌else◌, List, [], ◌∷◌, ◌++◌, length, map, drop, get_or, Option, Some, None, IfSome, ◌⊎◌, inl, inr, refl, ap, sym, subst, ◌∙◌, arith}
-use Rattle.std.specs.Prelude.{slice_get, slice_set}
-use Rattle.std.proofs.lemmas.Bool.{cases_Bool, cases_lt, lt-leb, le-leb, eqb-true, eqb-false}
-use Rattle.std.proofs.lemmas.Option.{slice_get_past, slice_get_within}
-use Rattle.std.proofs.lemmas.List.{drop_more, drop_all, length-set}
-use Rattle.ir_tree.specs.declared.tree.Inst.{Inst}
-use Rattle.ir_tree.specs.declared.tree.Phi.{Phi}
+use Rattle.run_terms.proofs.Common.{ℕ, zero, suc, ◌≡◌, ◌<◌, ◌≤◌, ◌+◌, Bool, true, false, not, ◌&&◌, nat_eq, nat_le, if◌then◌else◌, List, [], ◌∷◌, ◌++◌, length, map, drop, get_or, Option, Some, None, IfSome, ◌⊎◌, inl, inr, refl, ap, sym, subst, ◌∙◌, arith, slice_get, cases_Bool, cases_lt, lt-leb, le-leb, eqb-true, eqb-false, slice_get_past, slice_get_within, drop_more, drop_all, length-set, Inst, Phi, Block, Function, HasSmallObjects, CanRun, HasSmallNumbers, FitsReturn, ReturnsFit, Ub, Exit, Over, act, assigned, phi_value, with_phis, entered, exit_after, exit_by, exit_insts, Edge, BlockCopy, edge_to, layer_of, layers_of, copies_of, left_by, pass_copy, walk, run_at_end, each-set, keeps_self, keeps_trans, bit-later, Machine, Run, ended, Where, At, Done, TermId, Term, Keeps, Tests, bit_at, Each, RunState, Ending, Frontier, Setting, IsState, MatchesCourse, MatchesState, Scene, Steps, Visit, shape_of, visit_of, AreByLabel, AreStates, Ends, HasShape, HaveShape, IsCopyIn, IsFrontier, IsUnreached, MatchesAhead, MatchesFrontier, Simulates, placed, shape_in, Course, Idle, Dead, Live, advanced, steps, entering, arrived}
+use Rattle.std.specs.Prelude.{slice_set}
 use Rattle.ir_tree.specs.declared.tree.Terminator.{Terminator}
-use Rattle.ir_tree.specs.declared.tree.Block.{Block}
-use Rattle.ir_tree.specs.declared.tree.Function.{Function}
 use Rattle.ir_tree.specs.Flow.{targets, block_of, successors}
-use Rattle.ir_tree.specs.Limits.{HasSmallObjects, CanRun, HasSmallNumbers, FitsReturn, ReturnsFit}
 use Rattle.ir_tree.proofs.Definers.{all_at}
 use Rattle.ir_tree.proofs.Indexing.{places_of}
-use Rattle.points.specs.declared.outcome.Outcome.TheVariants.{Ub}
-use Rattle.points.specs.Run.{Exit, Over, act, assigned, phi_value, with_phis, entered, exit_after, exit_by, exit_insts}
-use Rattle.unroll.specs.declared.layered.Edge.{Edge}
-use Rattle.unroll.specs.declared.layered.BlockCopy.{BlockCopy}
-use Rattle.unroll.specs.Layers.{edge_to, layer_of, layers_of, copies_of, left_by, pass_copy, walk, run_at_end}
-use Rattle.mem_terms.proofs.Eaches.{each-set}
-use Rattle.mem_terms.proofs.Later.{keeps_self, keeps_trans, bit-later}
-use Rattle.run_terms.specs.Common.{Machine, Run, ended, Where, At, Done, TermId, Term, Keeps, Tests, bit_at, Each, RunState, Ending, Frontier, Setting, IsState, MatchesCourse, MatchesState, Scene, Steps, Visit, shape_of, visit_of, AreByLabel, AreStates, Ends, HasShape, HaveShape, IsCopyIn, IsFrontier, IsUnreached, MatchesAhead, MatchesFrontier, Simulates, placed, shape_in}
-use Rattle.run_terms.specs.Runs.{Course, Idle, Dead, Live, advanced, steps}
-use Rattle.run_terms.specs.Frontier.{entering, arrived}
 use Rattle.run_terms.proofs.Lasting.{each-get, counts-later, states-later, matches_ahead-later, matches_state-later, matches_frontier-later}
 use Rattle.run_terms.proofs.Reached.{set_other, changed_ahead, passes_taken}
 

@@ -1,25 +1,14 @@
 -- Why a getelementptr gives poison.
-use Rattle.std.proofs.Common.{◌≡◌, ◌≢◌, ℕ, ◌+◌, ◌<◌, List, [], ◌∷◌, map, length, Bool, true, false, ◌&&◌, ◌||◌, not, if◌then◌else◌, inl, inr, refl, sym, ap, ◌∙◌}
-use Rattle.std.specs.List.{list_any, list_all}
+use Rattle.run_trace.proofs.Common.{◌≡◌, ◌≢◌, ℕ, ◌+◌, ◌<◌, List, [], ◌∷◌, map, length, Bool, true, false, ◌&&◌, ◌||◌, not, if◌then◌else◌, inl, inr, refl, sym, ap, ◌∙◌, list_any, list_all, Operand, MemoryType, GetElementPtr, Value, Machine, operand_value, cut_value, address_value, index_values, is_poison, Flag, used_as, index_operand, is_poison_name, is_poison_literal, gives_poison, IsByFlag, NeedsCause}
 use Rattle.ir_tree.specs.declared.tree.IrType.TheVariants as type
-use Rattle.ir_tree.specs.declared.tree.Operand.{Operand}
 use Rattle.ir_tree.specs.declared.tree.GepIndex.{GepIndex}
-use Rattle.ir_tree.specs.declared.tree.MemoryType.{MemoryType}
-use Rattle.ir_tree.specs.declared.tree.Inst.TheVariants.{GetElementPtr}
 use Rattle.byte_block.specs.declared.value.Ptr.{Ptr}
-use Rattle.byte_block.specs.declared.value.Value.{Value}
 use Rattle.byte_block.specs.declared.value.Value.TheVariants as value
 use Rattle.byte_block.specs.declared.block.MemoryBlock.{MemoryBlock}
 use Rattle.memory_access.specs.declared.offsets.Index.{Index}
 use Rattle.memory_access.specs.Offsets as offsets
 use Rattle.memory_access.specs.Offsets.{is_number, is_index, is_negative, breaks_inbounds, moved, gep_result}
-use Rattle.points.specs.declared.machine.Machine.{Machine}
-use Rattle.points.specs.Run.{operand_value, cut_value, address_value, index_values, is_poison}
-use Rattle.run_trace.specs.declared.steps.Flag.{Flag}
 use Rattle.run_trace.specs.declared.steps.Flag.TheVariants.{NoUnsignedWrap, NoSignedWrap, Exact, Disjoint, NonNegative, SameSign, Inbounds}
-use Rattle.run_trace.specs.Operands.{used_as, index_operand, is_poison_name, is_poison_literal}
-use Rattle.run_trace.specs.Reasons.{gives_poison, IsByFlag}
-use Rattle.run_trace.specs.Causes.{NeedsCause}
 use Rattle.run_trace.proofs.Given.{true_not_false, given, given_back, defined_first, others_same}
 
 -- what is used as a pointer and is not poison is a pointer

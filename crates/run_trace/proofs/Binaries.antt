@@ -1,24 +1,9 @@
 -- Why an operation on two numbers gives poison, or is undefined behaviour.
-use Rattle.std.proofs.Common.{◌≡◌, ℕ, ◌<◌, ◌%◌, ◌^◌, List, [], ◌∷◌, length, Bool, true, false, ◌&&◌, ◌||◌, Option, Some, None, inl, inr, refl, sym, ap, ◌∙◌}
-use Rattle.std.specs.Prelude.{IsSomeAnd, MatchOption}
-use Rattle.std.specs.List.{list_any}
-use Rattle.tv_num.specs.declared.Width.{Width}
+use Rattle.run_trace.proofs.Common.{◌≡◌, ℕ, ◌<◌, ◌%◌, ◌^◌, List, [], ◌∷◌, length, Bool, true, false, ◌&&◌, ◌||◌, Option, Some, None, inl, inr, refl, sym, ap, ◌∙◌, IsSomeAnd, MatchOption, list_any, Width, Operand, Binary, Value, Num, Machine, poison_if, is_zero_or_poison, is_minus_1, is_least_or_poison, has_no_quotient, is_undefined, is_poisoned, number_result, defined_result, value_result, operand_value, is_poison, Flag, Reason, used_as, is_poison_name, is_poison_literal, is_flag, no_flag, op_kept, gives_poison, is_cause_of_division, IsInstReason, IsPoisonCause, NeedsCause}
 use Rattle.ir_tree.specs.declared.tree.IrType.TheVariants as type
-use Rattle.ir_tree.specs.declared.tree.Operand.{Operand}
 use Rattle.ir_tree.specs.declared.tree.Op.{Op}
 use Rattle.ir_tree.specs.declared.tree.Op.TheVariants.{Add, Sub, Mul, UnsignedDiv, UnsignedRem, SignedDiv, SignedRem, ShiftLeft, LogicalShiftRight, ArithmeticShiftRight, And, Or, Xor}
-use Rattle.ir_tree.specs.declared.tree.Inst.TheVariants.{Binary}
-use Rattle.byte_block.specs.declared.value.Value.{Value}
-use Rattle.byte_block.specs.declared.value.Value.TheVariants.{Num}
-use Rattle.points.specs.declared.machine.Machine.{Machine}
-use Rattle.points.specs.Table.{poison_if, is_zero_or_poison, is_minus_1, is_least_or_poison, has_no_quotient, is_undefined, is_poisoned, number_result, defined_result, value_result}
-use Rattle.points.specs.Run.{operand_value, is_poison}
-use Rattle.run_trace.specs.declared.steps.Flag.{Flag}
-use Rattle.run_trace.specs.declared.steps.Reason.{Reason}
 use Rattle.run_trace.specs.declared.steps.Reason.TheVariants as reason
-use Rattle.run_trace.specs.Operands.{used_as, is_poison_name, is_poison_literal}
-use Rattle.run_trace.specs.Reasons.{is_flag, no_flag, op_kept, gives_poison, is_cause_of_division, IsInstReason}
-use Rattle.run_trace.specs.Causes.{IsPoisonCause, NeedsCause}
 use Rattle.run_trace.proofs.Given.{true_not_false, no_and, given, given_back, defined_first, others_same, defined_number}
 
 -- ---- undefined behaviour

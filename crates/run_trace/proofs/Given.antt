@@ -1,18 +1,6 @@
 -- What a name reads after it was assigned, and operands that are not poison.
-use Rattle.std.proofs.Common.{◌≡◌, ℕ, ◌<◌, ◌≤◌, List, ◌∷◌, length, Bool, true, false, ◌&&◌, ◌||◌, not, Some, inl, inr, refl, sym, ap, ◌∙◌, subst}
-use Rattle.std.specs.Prelude.{slice_get, slice_set}
-use Rattle.std.specs.List.{list_any}
-use Rattle.std.proofs.lemmas.Bool.{cases_lt}
-use Rattle.std.proofs.lemmas.Option.{slice_get_past, slice_get-get_or}
-use Rattle.std.proofs.lemmas.List.{get_or-set_same, length-set}
-use Rattle.ir_tree.specs.declared.tree.TypedOperand.{TypedOperand}
-use Rattle.byte_block.specs.declared.value.Value.{Value}
+use Rattle.run_trace.proofs.Common.{◌≡◌, ℕ, ◌<◌, ◌≤◌, List, ◌∷◌, length, Bool, true, false, ◌&&◌, ◌||◌, not, Some, inl, inr, refl, sym, ap, ◌∙◌, subst, slice_get, slice_set, list_any, cases_lt, slice_get_past, slice_get-get_or, get_or-set_same, length-set, TypedOperand, Value, Num, Poison, Machine, assigned, cut_value, typed_operand_value, is_poison, is_name, is_poison_name, is_poison_literal, value_after, is_some_poison}
 use Rattle.byte_block.specs.declared.value.Value.TheVariants as value
-use Rattle.byte_block.specs.declared.value.Value.TheVariants.{Num, Poison}
-use Rattle.points.specs.declared.machine.Machine.{Machine}
-use Rattle.points.specs.Run.{assigned, cut_value, typed_operand_value, is_poison}
-use Rattle.run_trace.specs.Operands.{is_name, is_poison_name, is_poison_literal, value_after}
-use Rattle.run_trace.specs.Reasons.{is_some_poison}
 
 -- ---- tests
 

@@ -1,23 +1,5 @@
 -- How the steps that are shown go on.
-use Rattle.std.proofs.Common.{◌≡◌, ℕ, ◌+◌, ◌<◌, ◌≤◌, List, [], ◌∷◌, ◌++◌, length, drop, get_or, true, false, ◌&&◌, Option, Some, None, refl, sym, ap, subst, ◌∙◌, arith}
-use Rattle.std.specs.Prelude.{slice_get}
-use Rattle.std.proofs.lemmas.Option.{slice_get_past}
-use Rattle.std.proofs.lemmas.List.{drop_more}
-use Rattle.ir_tree.specs.declared.tree.Parameter.{Parameter}
-use Rattle.ir_tree.specs.declared.tree.Phi.{Phi}
-use Rattle.ir_tree.specs.declared.tree.Inst.{Inst}
-use Rattle.ir_tree.specs.declared.tree.Block.{Block}
-use Rattle.ir_tree.specs.declared.tree.Function.{Function}
-use Rattle.byte_block.specs.declared.value.Value.{Value}
-use Rattle.points.specs.declared.machine.Machine.{Machine}
-use Rattle.points.specs.declared.outcome.Outcome.TheVariants.{Ub}
-use Rattle.points.specs.declared.point.Bounds.{Bounds}
-use Rattle.points.specs.declared.point.Input.{Input}
-use Rattle.points.specs.Run.{act, ended, entered, argument_value, is_poison, first_machine}
-use Rattle.run_trace.specs.declared.steps.Step.{Step}
-use Rattle.run_trace.specs.Items.{Position, Phase, Call, Phis, Insts, State, At, Done, first_state, Item, Gets, Begins, Reads, Enters, Acts, Missing, item_at, parameter_item, after_inst, after}
-use Rattle.run_trace.specs.Trace.{site_of, Shows, Leads, stays, shown, silent}
-use Rattle.run_trace.specs.Parts.{position, ShowsAt, GoesOn}
+use Rattle.run_trace.proofs.Common.{◌≡◌, ℕ, ◌+◌, ◌<◌, ◌≤◌, List, [], ◌∷◌, ◌++◌, length, drop, get_or, true, false, ◌&&◌, Option, Some, None, refl, sym, ap, subst, ◌∙◌, arith, slice_get, slice_get_past, drop_more, Parameter, Phi, Inst, Block, Function, Value, Machine, Ub, Bounds, Input, act, ended, entered, argument_value, is_poison, first_machine, Step, Position, Phase, Call, Phis, Insts, State, At, Done, first_state, Item, Gets, Begins, Reads, Enters, Acts, Missing, item_at, parameter_item, after_inst, after, site_of, Shows, Leads, stays, shown, silent, position, ShowsAt, GoesOn}
 
 pub leads_shown : (f : Function) (tape : List ℕ) (first : State) (steps : List Step) (phase : Phase) (p : Position) (item : Item) (step : Step)
     → item_at f phase p ≡ item → Leads f tape first steps (At phase p) → Shows f tape item p step

@@ -1,3 +1,4 @@
+pub mod Common
 pub mod Given
 pub mod Binaries
 pub mod Addresses

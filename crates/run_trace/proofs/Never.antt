@@ -1,25 +1,10 @@
 -- Instructions that never give poison of operands that are not.
-use Rattle.std.proofs.Common.{◌≡◌, ℕ, ◌%◌, List, [], ◌∷◌, nat_eq, Bool, true, false, if◌then◌else◌, Some, inl, inr, refl, sym, ◌∙◌}
-use Rattle.std.specs.List.{list_any}
-use Rattle.ir_tree.specs.declared.tree.IrType.{IrType}
+use Rattle.run_trace.proofs.Common.{◌≡◌, ℕ, ◌%◌, List, [], ◌∷◌, nat_eq, Bool, true, false, if◌then◌else◌, Some, inl, inr, refl, sym, ◌∙◌, list_any, IrType, Operand, MemoryType, TypedOperand, Inst, Select, Freeze, Alloca, Value, Num, Poison, Machine, selected, operand_value, typed_operand_value, cut_value, typed_value, choice_of, with_taken, frozen, is_poison, used_as, taken_arm, effective_operands, is_poison_name, is_poison_literal, value_after, is_some_poison, NeedsCause}
 use Rattle.ir_tree.specs.declared.tree.IrType.TheVariants as type
-use Rattle.ir_tree.specs.declared.tree.Operand.{Operand}
-use Rattle.ir_tree.specs.declared.tree.MemoryType.{MemoryType}
-use Rattle.ir_tree.specs.declared.tree.TypedOperand.{TypedOperand}
-use Rattle.ir_tree.specs.declared.tree.Inst.{Inst}
-use Rattle.ir_tree.specs.declared.tree.Inst.TheVariants.{Select, Freeze, Alloca}
 use Rattle.ir_tree.specs.Types.{one_bit, object_size}
 use Rattle.byte_block.specs.declared.value.BlockName.TheVariants.{Local}
-use Rattle.byte_block.specs.declared.value.Value.{Value}
 use Rattle.byte_block.specs.declared.value.Value.TheVariants as value
-use Rattle.byte_block.specs.declared.value.Value.TheVariants.{Num, Poison}
 use Rattle.memory_access.specs.Accesses.{after_alloca}
-use Rattle.points.specs.declared.machine.Machine.{Machine}
-use Rattle.points.specs.Table.{selected}
-use Rattle.points.specs.Run.{operand_value, typed_operand_value, cut_value, typed_value, choice_of, with_taken, frozen, is_poison}
-use Rattle.run_trace.specs.Operands.{used_as, taken_arm, effective_operands, is_poison_name, is_poison_literal, value_after}
-use Rattle.run_trace.specs.Reasons.{is_some_poison}
-use Rattle.run_trace.specs.Causes.{NeedsCause}
 use Rattle.run_trace.proofs.Given.{true_not_false, given_back, defined_first, others_same}
 
 -- an arm that is not poison, on a condition that is not

@@ -1,21 +1,8 @@
 -- What is shown of an instruction that acted.
-use Rattle.std.proofs.Common.{◌≡◌, ℕ, List, drop, length, Bool, true, false, ◌&&◌, ◌||◌, not, if◌then◌else◌, Option, Some, None, inl, inr, refl, sym, ap, ◌∙◌}
+use Rattle.run_trace.proofs.Common.{◌≡◌, ℕ, List, drop, length, Bool, true, false, ◌&&◌, ◌||◌, not, if◌then◌else◌, Option, Some, None, inl, inr, refl, sym, ap, ◌∙◌, list_any, Inst, Function, Value, Machine, act, Reason, effective_operands, is_poison_name, name_of, value_after, words_after, Position, Acts, after_inst, is_some_poison, gives_poison, NeedsCause, IsCauseOf, is_failure, needs_reason, HasReason, Shows, position, IsBefore}
 use Rattle.std.proofs.Math.Seq.{drop-length}
-use Rattle.std.specs.List.{list_any}
-use Rattle.ir_tree.specs.declared.tree.Inst.{Inst}
-use Rattle.ir_tree.specs.declared.tree.Function.{Function}
-use Rattle.byte_block.specs.declared.value.Value.{Value}
-use Rattle.points.specs.declared.machine.Machine.{Machine}
-use Rattle.points.specs.Run.{act}
 use Rattle.run_trace.specs.declared.steps.Site.TheVariants as site
-use Rattle.run_trace.specs.declared.steps.Reason.{Reason}
 use Rattle.run_trace.specs.declared.insts.Before.{Before}
-use Rattle.run_trace.specs.Operands.{effective_operands, is_poison_name, name_of, value_after, words_after}
-use Rattle.run_trace.specs.Items.{Position, Acts, after_inst}
-use Rattle.run_trace.specs.Reasons.{is_some_poison, gives_poison}
-use Rattle.run_trace.specs.Causes.{NeedsCause, IsCauseOf}
-use Rattle.run_trace.specs.Trace.{is_failure, needs_reason, HasReason, Shows}
-use Rattle.run_trace.specs.Parts.{position, IsBefore}
 use Rattle.run_trace.proofs.Given.{true_not_false, and_true}
 
 not_true : (b : Bool) → not b ≡ true → b ≡ false

@@ -1,42 +1,19 @@
 -- What is shown of a terminator.
-use Rattle.std.proofs.Common.{◌≡◌, ℕ, zero, suc, ◌≤◌, List, [], ◌∷◌, ◌++◌, length, Bool, true, false, ◌&&◌, ◌||◌, not, nat_eq, nat_lt, if◌then◌else◌, Option, Some, None, refl, sym, ap, subst, ◌∙◌, arith}
-use Rattle.std.specs.Prelude.{IsSomeAnd, slice_get}
-use Rattle.std.specs.List.{list_any}
+use Rattle.run_trace.proofs.Common.{◌≡◌, ℕ, zero, suc, ◌≤◌, List, [], ◌∷◌, ◌++◌, length, Bool, true, false, ◌&&◌, ◌||◌, not, nat_eq, nat_lt, if◌then◌else◌, Option, Some, None, refl, sym, ap, subst, ◌∙◌, arith, IsSomeAnd, slice_get, list_any, eqb-true, slice_get_past, Width, IrType, Operand, TypedOperand, Block, Function, block_of, Value, Num, Poison, Machine, Exit, exit_by, branch_on, switch_on, returned_run, returned_with, undef_type, operand_value, typed_operand_value, is_poison, ended, Ub, exit_with, Reason, Step, end_operands, is_name, is_poison_name, is_poison_literal, Position, Insts, State, At, Leaves, item_at, at_block, after_jump, after_exit, again, is_some_poison, is_poison_operand, IsReturnOf, IsOnPoison, IsEndReason, is_no_return, is_failure, value_of_exit, block_of_exit, taken_by_exit, needs_reason, HasReason, Shows, Leads, position, IsFailedExit, IsReasonOver, IsLeaving, is_too_many}
 use Rattle.std.proofs.Math.Dec.{eqb-suc-zero}
-use Rattle.std.proofs.lemmas.Bool.{eqb-true}
-use Rattle.std.proofs.lemmas.Option.{slice_get_past}
-use Rattle.tv_num.specs.declared.Width.{Width}
-use Rattle.ir_tree.specs.declared.tree.IrType.{IrType}
-use Rattle.ir_tree.specs.declared.tree.Operand.{Operand}
-use Rattle.ir_tree.specs.declared.tree.TypedOperand.{TypedOperand}
 use Rattle.ir_tree.specs.declared.tree.Case.{Case}
 use Rattle.ir_tree.specs.declared.tree.Terminator.{Terminator}
 use Rattle.ir_tree.specs.declared.tree.Terminator.TheVariants as terminator
-use Rattle.ir_tree.specs.declared.tree.Block.{Block}
-use Rattle.ir_tree.specs.declared.tree.Function.{Function}
-use Rattle.ir_tree.specs.Flow.{block_of}
-use Rattle.byte_block.specs.declared.value.Value.{Value}
 use Rattle.byte_block.specs.declared.value.Value.TheVariants as value
-use Rattle.byte_block.specs.declared.value.Value.TheVariants.{Num, Poison}
-use Rattle.points.specs.declared.machine.Machine.{Machine}
-use Rattle.points.specs.Run.{Exit, exit_by, branch_on, switch_on, returned_run, returned_with, undef_type, operand_value, typed_operand_value, is_poison, ended}
 use Rattle.points.specs.Run as exit
-use Rattle.points.specs.declared.outcome.Outcome.TheVariants.{Ub}
 use Rattle.choice_interp.specs.declared.flow.Left.{Left}
 use Rattle.choice_interp.specs.declared.flow.Left.TheVariants as left
 use Rattle.choice_interp.specs.declared.ending.Ending.{Ending}
 use Rattle.choice_interp.specs.declared.ending.Ending.TheVariants as ending
 use Rattle.choice_interp.specs.Ran.{outcome_of}
-use Rattle.choice_interp.specs.Left.{exit_with}
-use Rattle.run_trace.specs.declared.steps.Reason.{Reason}
 use Rattle.run_trace.specs.declared.steps.Reason.TheVariants as reason
-use Rattle.run_trace.specs.declared.steps.Step.{Step}
 use Rattle.run_trace.specs.declared.ends.Leaving.{Leaving}
-use Rattle.run_trace.specs.Operands.{end_operands, is_name, is_poison_name, is_poison_literal}
-use Rattle.run_trace.specs.Items.{Position, Insts, State, At, Leaves, item_at, at_block, after_jump, after_exit, again}
-use Rattle.run_trace.specs.Reasons.{is_number, is_some_poison, is_poison_operand, IsReturnOf, IsOnPoison, IsEndReason}
-use Rattle.run_trace.specs.Trace.{is_no_return, is_failure, value_of_exit, block_of_exit, taken_by_exit, needs_reason, HasReason, Shows, Leads}
-use Rattle.run_trace.specs.Parts.{position, IsFailedExit, IsReasonOver, IsLeaving, is_too_many}
+use Rattle.run_trace.specs.Reasons.{is_number}
 use Rattle.run_trace.proofs.Given.{true_not_false, and_true, or_false}
 use Rattle.run_trace.proofs.Never.{choice_defined}
 use Rattle.run_trace.proofs.Leading.{leads_shown}

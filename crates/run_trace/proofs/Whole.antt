@@ -1,26 +1,7 @@
 -- The small steps lead to the end of the run that is defined.
-use Rattle.std.proofs.Common.{◌≡◌, ℕ, zero, suc, ◌+◌, ◌≤◌, List, [], ◌∷◌, length, drop, Bool, true, false, ◌&&◌, ◌||◌, nat_lt, if◌then◌else◌, Option, Some, None, inl, inr, refl, sym, ap, subst, ◌∙◌, arith}
-use Rattle.std.specs.Prelude.{slice_get}
-use Rattle.std.proofs.lemmas.Bool.{ltb-true}
-use Rattle.std.proofs.lemmas.List.{drop_all, drop_more}
-use Rattle.std.proofs.lemmas.Option.{slice_get_cases, slice_get_within, get_or_from_slice_get}
-use Rattle.ir_tree.specs.declared.tree.Parameter.{Parameter}
-use Rattle.ir_tree.specs.declared.tree.Phi.{Phi}
-use Rattle.ir_tree.specs.declared.tree.Inst.{Inst}
-use Rattle.ir_tree.specs.declared.tree.Block.{Block}
-use Rattle.ir_tree.specs.declared.tree.Function.{Function}
-use Rattle.ir_tree.specs.Flow.{block_of}
-use Rattle.byte_block.specs.declared.value.Value.{Value}
-use Rattle.points.specs.declared.machine.Machine.{Machine}
-use Rattle.points.specs.declared.outcome.Outcome.TheVariants.{Ub}
-use Rattle.points.specs.declared.point.Bounds.{Bounds}
-use Rattle.points.specs.declared.point.Input.{Input}
-use Rattle.points.specs.Run.{Run, Exit, To, Over, ended, act, entered, exit_by, exit_insts, forward, run_turns, breaks_noundef, argument_value, is_poison, first_machine, run_of}
+use Rattle.run_trace.proofs.Common.{◌≡◌, ℕ, zero, suc, ◌+◌, ◌≤◌, List, [], ◌∷◌, length, drop, Bool, true, false, ◌&&◌, ◌||◌, nat_lt, if◌then◌else◌, Option, Some, None, inl, inr, refl, sym, ap, subst, ◌∙◌, arith, slice_get, ltb-true, drop_all, drop_more, slice_get_cases, slice_get_within, get_or_from_slice_get, Parameter, Phi, Inst, Block, Function, block_of, Value, Machine, Ub, Bounds, Input, Run, Exit, To, Over, ended, act, entered, exit_by, exit_insts, forward, run_turns, breaks_noundef, argument_value, is_poison, first_machine, run_of, Step, Position, Phase, Call, Phis, Insts, State, At, Done, first_state, item_at, parameter_item, phi_item, inst_item, phi_item_in, inst_item_in, after, after_inst, after_exit, after_jump, again, at_block, Leads, stays, shown, silent}
 use Rattle.points.proofs.Runs.{exit_goes, exit_stops}
 use Rattle.choice_interp.proofs.Ways.{again_of, IsOnTheWay, IsLeftSo, way_start, way_outside}
-use Rattle.run_trace.specs.declared.steps.Step.{Step}
-use Rattle.run_trace.specs.Items.{Position, Phase, Call, Phis, Insts, State, At, Done, first_state, item_at, parameter_item, phi_item, inst_item, phi_item_in, inst_item_in, after, after_inst, after_exit, after_jump, again, at_block}
-use Rattle.run_trace.specs.Trace.{Leads, stays, shown, silent}
 
 -- ---- from here the run goes on as the whole one does
 

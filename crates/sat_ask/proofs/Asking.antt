@@ -1,21 +1,12 @@
 -- The solver's answer on a circuit's clauses is the answer to its question.
-use Rattle.std.proofs.Common.{ℕ, suc, ◌≡◌, ◌<◌, ◌≤◌, ◌+◌, ◌-◌, Bool, true, false, ◌&&◌, ◌||◌, List, [], ◌∷◌, ◌++◌, length, map, take, drop, get_or, slice_get, Option, Some, refl, ap, sym, subst, ◌∙◌, arith}
-use Rattle.std.proofs.lemmas.List.{length-take-le, get_or-take, drop_more}
+use Rattle.sat_ask.proofs.Common.{ℕ, suc, ◌≡◌, ◌<◌, ◌≤◌, ◌+◌, ◌-◌, Bool, true, false, ◌&&◌, ◌||◌, List, [], ◌∷◌, ◌++◌, length, map, take, drop, get_or, slice_get, Option, Some, refl, ap, sym, subst, ◌∙◌, arith, length-take-le, get_or-take, drop_more, Cnf, Answer, IsAnswer, IsLeast, IsLess, GateId, Gate, gate_at, AreAllNamed, Encodes, HasOneModelAFront, Asks, IsLeastOf, NonePass, UsesEachStepOf}
 use Rattle.clause_lits.specs.declared.lit.Lit.{Lit}
-use Rattle.clause_lits.specs.declared.cnf.Cnf.{Cnf}
 use Rattle.clause_lits.specs.Meaning as meaning
 use Rattle.clause_lits.specs.Meaning.{IsModel, clauses_true, clause_true, lit_true}
 use Rattle.clause_log.specs.declared.step.Step.{Step}
 use Rattle.clause_log.specs.Refutation.{Refutes}
 use Rattle.clause_log.proofs.Soundness.{refuted-false}
-use Rattle.clause_search.specs.declared.answer.Answer.{Answer}
 use Rattle.clause_search.specs.declared.answer.Answer.TheVariants as answer
-use Rattle.clause_search.specs.Outcome.{IsAnswer, IsLeast, IsLess}
-use Rattle.gates.specs.declared.circuit.GateId.{GateId}
-use Rattle.gates.specs.declared.circuit.Gate.{Gate}
-use Rattle.gates.specs.Values.{gate_at}
-use Rattle.gates.specs.Encoding.{AreAllNamed, Encodes, HasOneModelAFront}
-use Rattle.sat_ask.specs.Asks.{Asks, IsLeastOf, NonePass, UsesEachStepOf}
 
 and_left : (a b : Bool) → (a && b) ≡ true → a ≡ true
 and_left true b h = refl

@@ -1,27 +1,10 @@
 -- The bits of the goal's terms, one term after the other.
-use Rattle.std.proofs.Common.{ℕ, ◌≡◌, ◌<◌, ◌+◌, ◌*◌, ◌^◌, ◌++◌, inl, inr, Bool, true, false, All, List, [], ◌∷◌, Some, get_or, slice_get, drop, length, arith, sym, ap, subst, refl, ◌∙◌, length-append}
-use Rattle.std.proofs.lemmas.Bool.{cases_eq}
-use Rattle.std.proofs.lemmas.List.{drop_all, get_or_push, get_or_append_left}
-use Rattle.std.proofs.lemmas.Option.{slice_get-get_or, get_or_from_slice_get}
-use Rattle.bv_terms.specs.declared.term.TermId.{TermId}
-use Rattle.bv_terms.specs.declared.term.Term.{Term}
+use Rattle.sat_ask.proofs.Common.{ℕ, ◌≡◌, ◌<◌, ◌+◌, ◌*◌, ◌^◌, ◌++◌, inl, inr, Bool, true, false, All, List, [], ◌∷◌, Some, get_or, slice_get, drop, length, arith, sym, ap, subst, refl, ◌∙◌, length-append, cases_eq, drop_all, get_or_push, get_or_append_left, slice_get-get_or, get_or_from_slice_get, TermId, Term, Tree, digit, truth, value_of, width_of, AreFit, IsFit, tree_in, tree_of, trees_from, trees_of, GateId, Gate, gate_at, number_at, Variable, Blasted, Follows, operands, HasVariable, operands-within, AreKnown, IsCone, IsGoal, IsMarked, Mentions}
 use Rattle.bv_terms.specs.declared.term.Term.TheVariants as term
 use Rattle.bv_terms.specs.Tree as tree
-use Rattle.bv_terms.specs.Tree.{Tree, digit, truth, value_of, width_of}
-use Rattle.bv_terms.specs.Trees.{AreFit, IsFit, tree_in, tree_of, trees_from, trees_of}
 use Rattle.bv_terms.proofs.Zips.{IsStage, IsStage-fit, IsStage-more, stage_start}
-use Rattle.gates.specs.declared.circuit.GateId.{GateId}
-use Rattle.gates.specs.declared.circuit.Gate.{Gate}
-use Rattle.gates.specs.Values.{gate_at}
-use Rattle.gate_arith.specs.Numbers.{number_at}
-use Rattle.bv_terms.specs.declared.variable.Variable.{Variable}
 use Rattle.bit_blast.specs.Bits.{AreBits, AreStanding}
 use Rattle.bit_blast.specs.Following.{bits_kept}
-use Rattle.bit_blast.specs.Table.{Blasted, Follows}
-use Rattle.bit_blast.specs.Written.{operands, HasVariable}
-use Rattle.bit_blast.proofs.Standing.{operands-within}
-use Rattle.sat_ask.specs.Cones.{AreKnown, IsCone, IsGoal, IsMarked}
-use Rattle.sat_ask.specs.Questions.{Mentions}
 use Rattle.sat_ask.proofs.Marking.{got-at, tree_placed}
 
 -- the marked terms among the first ones have their bits

@@ -1,22 +1,8 @@
 -- Which terms are marked, from the goal down.
-use Rattle.std.proofs.Common.{ℕ, zero, suc, ◌≡◌, ◌≢◌, ◌<◌, ◌≤◌, ◌+◌, inl, inr, Bool, true, false, All, List, [], ◌∷◌, ◌++◌, ◌-◌, drop, take, get_or, slice_get, Some, length, length-append, arith, sym, ap, subst, refl, ◌∙◌}
+use Rattle.sat_ask.proofs.Common.{ℕ, zero, suc, ◌≡◌, ◌≢◌, ◌<◌, ◌≤◌, ◌+◌, inl, inr, Bool, true, false, All, List, [], ◌∷◌, ◌++◌, ◌-◌, drop, take, get_or, slice_get, Some, length, length-append, arith, sym, ap, subst, refl, ◌∙◌, cases_eq, cases_lt, get_or-set_same, get_or-set_other, get_or-replicate, get_or_past, length-replicate, length-set, slice_get-get_or, slice_get_within, take-append_seam, TermId, Term, Tree, AreFit, IsWithin, tree_at, tree_in, tree_of, trees_of, tree-stored, Variable, operands, operands-within, IsCone, IsMarked, marked, Mentions}
 use Rattle.std.specs.Prelude.{slice_set, replicate}
-use Rattle.std.proofs.lemmas.Bool.{cases_eq, cases_lt}
-use Rattle.std.proofs.lemmas.List.{get_or-set_same, get_or-set_other, get_or-replicate, get_or_past, length-replicate, length-set}
-use Rattle.std.proofs.lemmas.Option.{slice_get-get_or, slice_get_within}
-use Rattle.std.proofs.Math.Seq.{take-append_seam}
-use Rattle.bv_terms.specs.declared.term.TermId.{TermId}
-use Rattle.bv_terms.specs.declared.term.Term.{Term}
 use Rattle.bv_terms.specs.declared.term.Term.TheVariants as term
 use Rattle.bv_terms.specs.Tree as tree
-use Rattle.bv_terms.specs.Tree.{Tree}
-use Rattle.bv_terms.specs.Trees.{AreFit, IsWithin, tree_at, tree_in, tree_of, trees_of}
-use Rattle.bv_terms.proofs.Stages.{tree-stored}
-use Rattle.bv_terms.specs.declared.variable.Variable.{Variable}
-use Rattle.bit_blast.specs.Written.{operands}
-use Rattle.bit_blast.proofs.Standing.{operands-within}
-use Rattle.sat_ask.specs.Cones.{IsCone, IsMarked, marked}
-use Rattle.sat_ask.specs.Questions.{Mentions}
 
 -- the tree of a term by its index
 pub tree_placed : (terms : List Term) (i : ℕ) (t : Term) → AreFit [] terms → slice_get terms i ≡ Some t → tree_in terms (record { index = i }) ≡ tree_of (trees_of terms) t

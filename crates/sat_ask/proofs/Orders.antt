@@ -1,27 +1,10 @@
 -- The variables of an order, their bits, and what values of these assign.
-use Rattle.std.proofs.Common.{ℕ, zero, suc, ◌≡◌, ◌<◌, ◌+◌, ◌%◌, ◌^◌, ◌++◌, inl, inr, Bool, true, cond, All, List, [], ◌∷◌, Some, get_or, slice_get, take, drop, map, length, arith, sym, ap, subst, refl, ◌∙◌, length-append}
-use Rattle.std.proofs.lemmas.Bool.{cases_Bool, eq-eqb}
-use Rattle.std.proofs.lemmas.List.{length-map, map-append, map_push, take_more}
-use Rattle.std.proofs.lemmas.Option.{slice_get_within, slice_get-get_or, get_or_from_slice_get}
+use Rattle.sat_ask.proofs.Common.{ℕ, zero, suc, ◌≡◌, ◌<◌, ◌+◌, ◌%◌, ◌^◌, ◌++◌, inl, inr, Bool, true, cond, All, List, [], ◌∷◌, Some, get_or, slice_get, take, drop, map, length, arith, sym, ap, subst, refl, ◌∙◌, length-append, cases_Bool, eq-eqb, length-map, map-append, map_push, take_more, slice_get_within, slice_get-get_or, get_or_from_slice_get, take-append_seam, drop-append_seam, TermId, Term, AreDistinct, bit_at, Cnf, GateId, Gate, AreAllNamed, Encodes, HasOneModelAFront, number_of, Variable, Adds, Agrees, AreDigits, IsTable, all_digits, digits_of, Asks, AreKnown, IsGoal, AreDifferent, HasAll, IsVariable, assigned_by, digit_count, goal_test, variable_of, variables_of}
 use Rattle.std.proofs.Math.Nat.{mod-eq_of_lt}
-use Rattle.std.proofs.Math.Seq.{take-append_seam, drop-append_seam}
-use Rattle.bv_terms.specs.declared.term.TermId.{TermId}
-use Rattle.bv_terms.specs.declared.term.Term.{Term}
 use Rattle.bv_terms.specs.declared.term.Term.TheVariants as term
-use Rattle.bv_terms.specs.Trees.{AreDistinct, bit_at}
-use Rattle.clause_lits.specs.declared.cnf.Cnf.{Cnf}
-use Rattle.gates.specs.declared.circuit.GateId.{GateId}
-use Rattle.gates.specs.declared.circuit.Gate.{Gate}
-use Rattle.gates.specs.Encoding.{AreAllNamed, Encodes, HasOneModelAFront}
-use Rattle.gate_arith.specs.Numbers.{number_of}
 use Rattle.gate_arith.proofs.Digits.{number-below}
-use Rattle.bv_terms.specs.declared.variable.Variable.{Variable}
 use Rattle.bv_terms.specs.Variables.{is_variable}
-use Rattle.bit_blast.specs.Table.{Adds, Agrees, AreDigits, IsTable, all_digits, digits_of}
 use Rattle.bv_terms.proofs.Variables.{same_variable}
-use Rattle.sat_ask.specs.Asks.{Asks}
-use Rattle.sat_ask.specs.Cones.{AreKnown, IsGoal}
-use Rattle.sat_ask.specs.Questions.{AreDifferent, HasAll, IsVariable, assigned_by, digit_count, goal_test, variable_of, variables_of}
 use Rattle.sat_ask.proofs.Asking.{IsTestOf, asks}
 
 -- the variables of a table

@@ -1,16 +1,6 @@
 -- Logs one after the other are one log.
-use Rattle.std.proofs.Common.{ℕ, zero, suc, ◌≡◌, ◌<◌, ◌≤◌, ◌+◌, ◌-◌, ◌++◌, ◌⊎◌, inl, inr, List, [], ◌∷◌, Some, length, slice_get, take, map, arith, sym, subst, refl, ap, ◌∙◌, append_assoc, length-append}
-use Rattle.std.proofs.Math.Seq.{take-append-add}
+use Rattle.sat_restarts.proofs.Common.{ℕ, zero, suc, ◌≡◌, ◌<◌, ◌≤◌, ◌+◌, ◌-◌, ◌++◌, ◌⊎◌, inl, inr, List, [], ◌∷◌, Some, length, slice_get, take, map, arith, sym, subst, refl, ap, ◌∙◌, append_assoc, length-append, take-append-add, slice_get_within, Lit, Step, Has, chain_resolvent, EndsEmpty, IsSoundAt, Refutes, standing_before, IsCareful, IsSpent, standing, AreLearned}
 use Rattle.std.proofs.lemmas.List.{take-append-le}
-use Rattle.std.proofs.lemmas.Option.{slice_get_within}
-use Rattle.clause_lits.specs.declared.lit.Lit.{Lit}
-use Rattle.clause_log.specs.declared.step.Step.{Step}
-use Rattle.clause_log.specs.Members.{Has}
-use Rattle.clause_log.specs.Chain.{chain_resolvent}
-use Rattle.clause_log.specs.Refutation.{EndsEmpty, IsSoundAt, Refutes, standing_before}
-use Rattle.clause_search.specs.Outcome.{IsCareful, IsSpent}
-use Rattle.clause_search.specs.Searching.{standing}
-use Rattle.sat_restarts.specs.Searched.{AreLearned}
 
 get-early : (xs ys : List Step) (i : ℕ) → i < length xs → slice_get (xs ++ ys) i ≡ slice_get xs i
 get-early [] ys i lt = absurd (omega (arith, lt))

@@ -1,13 +1,5 @@
 -- Models of clauses and of those that are learned from them.
-use Rattle.std.proofs.Common.{ℕ, ◌≡◌, ◌<◌, ◌++◌, Bool, true, List, [], ◌∷◌, length, map, refl}
-use Rattle.std.proofs.lemmas.Bool.{and_from, and_parts}
-use Rattle.clause_lits.specs.declared.lit.Lit.{Lit}
-use Rattle.clause_lits.specs.Meaning.{IsModel, clause_true, clauses_true, values_of}
-use Rattle.clause_log.specs.declared.step.Step.{Step}
-use Rattle.clause_log.specs.Refutation.{IsSoundAt}
-use Rattle.clause_log.proofs.Soundness.{standing-true}
-use Rattle.clause_search.specs.Outcome.{IsLeast}
-use Rattle.clause_search.specs.Searching.{standing}
+use Rattle.sat_restarts.proofs.Common.{ℕ, ◌≡◌, ◌<◌, ◌++◌, Bool, true, List, [], ◌∷◌, length, map, refl, and_from, and_parts, Lit, IsModel, clause_true, clauses_true, values_of, Step, IsSoundAt, standing-true, IsLeast, standing}
 
 pub true-left : (v : ℕ → Bool) (cs ds : List (List Lit)) → clauses_true v (cs ++ ds) ≡ true → clauses_true v cs ≡ true
 true-left v [] ds t = refl

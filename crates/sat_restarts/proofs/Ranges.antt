@@ -1,16 +1,7 @@
 -- What is learned from clauses has no other variables.
-use Rattle.std.proofs.Common.{option_and_then, ℕ, zero, suc, ◌≡◌, ◌<◌, ◌≤◌, ◌++◌, ◌⊎◌, inl, inr, List, [], ◌∷◌, Some, length, get_or, slice_get, take, map, sym, subst, refl}
-use Rattle.std.proofs.lemmas.Option.{cond_some, option_and_then_some, same_Some, slice_get_within}
-use Rattle.std.proofs.Math.Seq.{take-length}
-use Rattle.clause_lits.specs.declared.lit.Lit.{Lit}
-use Rattle.clause_lits.specs.Meaning.{AreWithin}
-use Rattle.clause_log.specs.declared.step.Step.{Step}
-use Rattle.clause_log.specs.Members.{Has}
+use Rattle.sat_restarts.proofs.Common.{option_and_then, ℕ, zero, suc, ◌≡◌, ◌<◌, ◌≤◌, ◌++◌, ◌⊎◌, inl, inr, List, [], ◌∷◌, Some, length, get_or, slice_get, take, map, sym, subst, refl, cond_some, option_and_then_some, same_Some, slice_get_within, take-length, Lit, AreWithin, Step, Has, chain_resolvent, clause_numbered, resolved_along, IsSoundAt, standing_before, AreInRange, standing}
 use Rattle.clause_log.specs.Resolution.{joined, resolvent}
-use Rattle.clause_log.specs.Chain.{chain_resolvent, clause_numbered, resolved_along}
-use Rattle.clause_log.specs.Refutation.{IsSoundAt, standing_before}
 use Rattle.clause_log.proofs.Membership.{from_joined}
-use Rattle.clause_search.specs.Searching.{AreInRange, standing}
 use Rattle.clause_search.proofs.Findings.{among-numbered}
 use Rattle.cnf_renumber.proofs.Inverse.{append-has, place-has}
 

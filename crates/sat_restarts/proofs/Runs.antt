@@ -1,17 +1,9 @@
 -- What a run of the solver shows, from what the earlier ones learned.
-use Rattle.std.proofs.Common.{ℕ, ◌≡◌, ◌+◌, ◌++◌, Bool, List, Option, Some, length, map, sym, subst}
-use Rattle.clause_lits.specs.declared.lit.Lit.{Lit}
-use Rattle.clause_lits.specs.Meaning.{AreWithin, IsModel}
-use Rattle.clause_log.specs.declared.step.Step.{Step}
-use Rattle.clause_log.specs.Refutation.{Refutes}
-use Rattle.clause_search.specs.Outcome.{IsAnswer, IsCareful, IsLeast, IsSpent}
+use Rattle.sat_restarts.proofs.Common.{ℕ, ◌≡◌, ◌+◌, ◌++◌, Bool, List, Option, Some, length, map, sym, subst, Lit, AreWithin, IsModel, Step, Refutes, IsAnswer, IsCareful, IsLeast, IsSpent, standing, AreClauses, AreMappedBack, IsRenumbering, renumbered, renumbered_log, AreLearned}
 use Rattle.clause_search.specs.declared.answer.Answer.TheVariants as answer
-use Rattle.clause_search.specs.Searching.{standing}
 use Rattle.clause_search.proofs.Ranges.{in_range-within}
-use Rattle.cnf_renumber.specs.Renumbered.{AreClauses, AreMappedBack, IsRenumbering, renumbered, renumbered_log}
 use Rattle.cnf_renumber.proofs.Models.{found_models_are_models}
 use Rattle.cnf_renumber.proofs.Renumbered.{found_logs_are_spent, found_logs_refute}
-use Rattle.sat_restarts.specs.Searched.{AreLearned}
 use Rattle.sat_restarts.proofs.Logs.{careful-both, refutes-both, spent-both}
 use Rattle.sat_restarts.proofs.Models.{least-standing, model-standing}
 use Rattle.sat_restarts.proofs.Ranges.{learned-range, standing-range, within-in_range}

@@ -1,17 +1,6 @@
 -- One more bit of a least model is settled.
-use Rattle.std.proofs.Common.{ℕ, ◌≡◌, ◌+◌, ◌-◌, ◌++◌, ◌⊎◌, inl, inr, Bool, true, false, List, [], ◌∷◌, length, length-append, get_or, take, arith, sym, subst, refl, ap, ◌∙◌}
-use Rattle.std.proofs.Math.Seq.{take-append_seam}
-use Rattle.std.proofs.lemmas.Bool.{cases_eq, true≢false}
-use Rattle.clause_lits.specs.declared.lit.Lit.{Lit}
+use Rattle.sat_restarts.proofs.Common.{ℕ, ◌≡◌, ◌+◌, ◌-◌, ◌++◌, ◌⊎◌, inl, inr, Bool, true, false, List, [], ◌∷◌, length, length-append, get_or, take, arith, sym, subst, refl, ap, ◌∙◌, take-append_seam, cases_eq, true≢false, Lit, IsModel, clauses_true, values_of, Step, Refutes, refuted-false, standing-true, IsLeast, IsLess, standing, AreLearned, Agree, IsSettled}
 use Rattle.clause_lits.specs.declared.cnf.Cnf.{Cnf}
-use Rattle.clause_lits.specs.Meaning.{IsModel, clauses_true, values_of}
-use Rattle.clause_log.specs.declared.step.Step.{Step}
-use Rattle.clause_log.specs.Refutation.{Refutes}
-use Rattle.clause_log.proofs.Soundness.{refuted-false, standing-true}
-use Rattle.clause_search.specs.Outcome.{IsLeast, IsLess}
-use Rattle.clause_search.specs.Searching.{standing}
-use Rattle.sat_restarts.specs.Searched.{AreLearned}
-use Rattle.sat_restarts.specs.Settled.{Agree, IsSettled}
 use Rattle.sat_restarts.proofs.Models.{model-standing, true-both, true-left, true-right}
 
 -- the clause of one literal, of the variable of a bit

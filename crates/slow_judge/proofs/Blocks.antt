@@ -1,25 +1,8 @@
 -- RunPair without pointers: the points with empty blocks decide.
-use Rattle.std.proofs.Common.{◌≡◌, ℕ, ◌+◌, ◌≤◌, List, [], ◌∷◌, ◌++◌, length, Option, Some, None, refl, sym, ap, ◌∙◌, arith, length-append}
-use Rattle.std.specs.Prelude.{MatchOption, slice_index}
-use Rattle.std.specs.List.{filter}
-use Rattle.byte_block.specs.declared.block.MemoryBlock.{MemoryBlock}
-use Rattle.points.specs.declared.outcome.Outcome.{Outcome}
+use Rattle.slow_judge.proofs.Common.{◌≡◌, ℕ, ◌+◌, ◌≤◌, List, [], ◌∷◌, ◌++◌, length, Option, Some, None, refl, sym, ap, ◌∙◌, arith, length-append, MatchOption, slice_index, filter, MemoryBlock, Outcome, Bounds, Point, RunPair, layout_of, is_refined, number_of, args_code, blocks_code, BlocksFit, Run, is_given, run_of, IsPlain, need_of, covers, some_covers, shifted, is_covered, IsPoint, place_in, IsLeastUncovered, AreAllCovered, number_of-append, length_of_Digits, blocks_digits, AreSmall, HaveNoPointers, empty_blocks, IsCell, IsLeastAmong, AreCoveredAmong}
 use Rattle.points.specs.declared.outcome.Outcome.TheVariants.{Return, Ub, Beyond}
-use Rattle.points.specs.declared.point.Bounds.{Bounds}
-use Rattle.points.specs.declared.point.Point.{Point}
-use Rattle.verdicts.specs.Pair.{RunPair, layout_of}
-use Rattle.points.specs.Refines.{is_refined}
-use Rattle.points.specs.Code.{number_of, args_code, blocks_code, BlocksFit}
-use Rattle.points.specs.Run.{Run, is_given, run_of, IsPlain}
-use Rattle.points.specs.Tapes.{need_of}
-use Rattle.verdicts.specs.Covers.{covers, some_covers, shifted, is_covered}
-use Rattle.verdicts.specs.Trail.{IsPoint, place_in, IsLeastUncovered, AreAllCovered}
-use Rattle.points.proofs.Order.{number_of-append, length_of_Digits}
 use Rattle.verdicts.proofs.Placed.{with_memory, with_blocks, run_any_memory}
-use Rattle.points.proofs.Same.{blocks_digits}
 use Rattle.choice_interp.proofs.Endings.{blocks_allow-same}
-use Rattle.pair_costs.specs.Small.{AreSmall}
-use Rattle.slow_judge.specs.Search.{HaveNoPointers, empty_blocks, IsCell, IsLeastAmong, AreCoveredAmong}
 use Rattle.slow_judge.proofs.Order.{empty_fit, middle_zeros, number_of-Zeros, few, short}
 
 -- ---- a run hands its memory on

@@ -1,22 +1,9 @@
 -- Tapes that cover a point, one after another.
-use Rattle.std.proofs.Common.{◌≡◌, ℕ, ◌+◌, ◌<◌, List, [], ◌∷◌, ◌++◌, length, drop, take, get_or, add-one, zero-add, Bool, true, false, ◌||◌, refl, sym, ap, ◌∙◌}
-use Rattle.std.specs.Prelude.{IsTrue, not, ◌↔◌}
-use Rattle.std.proofs.lemmas.List.{drop_more}
+use Rattle.slow_judge.proofs.Common.{◌≡◌, ℕ, ◌+◌, ◌<◌, List, [], ◌∷◌, ◌++◌, length, drop, take, get_or, add-one, zero-add, Bool, true, false, ◌||◌, refl, sym, ap, ◌∙◌, IsTrue, not, ◌↔◌, drop_more, set, MemoryBlock, Outcome, Bounds, Point, RunPair, is_refined, run_of, IsPlain, need_of, covers, some_covers, shifted, words_of, is_covered, DoesEnd, IsUncovered}
 use Rattle.std.proofs.Math.Seq.{drop-length, take-suc-set}
-use Rattle.std.proofs.Math.ListN.{set}
 use Rattle.std.proofs.lemmas.List.FromFn.{map-range_with_len_more}
-use Rattle.byte_block.specs.declared.block.MemoryBlock.{MemoryBlock}
-use Rattle.points.specs.declared.outcome.Outcome.{Outcome}
-use Rattle.points.specs.declared.point.Bounds.{Bounds}
-use Rattle.points.specs.declared.point.Point.{Point}
-use Rattle.verdicts.specs.Pair.{RunPair}
-use Rattle.points.specs.Refines.{is_refined}
-use Rattle.points.specs.Run.{run_of, IsPlain}
-use Rattle.points.specs.Tapes.{need_of}
-use Rattle.verdicts.specs.Covers.{covers, some_covers, shifted, words_of, is_covered}
 use Rattle.choice_interp.specs.declared.ending.Ending.{Ending}
 use Rattle.choice_interp.specs.Ran.{outcome_of}
-use Rattle.slow_judge.specs.Search.{DoesEnd, IsUncovered}
 
 pub covers_at : (pair : RunPair) (bounds : Bounds) (p : Point) (tape : List ℕ) (source target : Ending) (holds : Bool) (left memory : List MemoryBlock) → (run_of pair.source bounds p.input tape).outcome ≡ outcome_of source left → DoesEnd pair bounds p target memory → holds ≡ is_refined (outcome_of source left) (outcome_of target memory) → holds ≡ covers pair bounds p tape
 unfolding covers

@@ -1,18 +1,10 @@
 -- The trail as the judge grows it.
-use Rattle.std.proofs.Common.{◌≡◌, ℕ, ◌+◌, ◌≤◌, ◌<◌, List, [], ◌∷◌, ◌++◌, length, length-append, append-nil, Option, Some, None, slice_get, refl, sym, ap, ◌∙◌, arith}
-use Rattle.points.specs.declared.point.Bounds.{Bounds}
+use Rattle.slow_judge.proofs.Common.{◌≡◌, ℕ, ◌+◌, ◌≤◌, ◌<◌, List, [], ◌∷◌, ◌++◌, length, length-append, append-nil, Option, Some, None, slice_get, refl, sym, ap, ◌∙◌, arith, Bounds, Point, Functions, RunPair, run_pair, IsLeastCover, HasNoCover, TrailFrom, IsLeastUncovered, AreAllCovered, Ends, Judges, IsTrail, IsVerdict, cons_after, subst, HasTrail}
 use Rattle.points.specs.declared.point.Budget.{Budget}
-use Rattle.points.specs.declared.point.Point.{Point}
 use Rattle.verdicts.specs.declared.verdict.Verdict.{Verdict}
 use Rattle.verdicts.specs.declared.verdict.Verdict.TheVariants.{Correct, Incorrect, Unknown}
 use Rattle.verdicts.specs.declared.verdict.Cause.TheVariants.{Weight, Rounds, Conflicts}
-use Rattle.verdicts.specs.Pair.{Functions, RunPair, run_pair}
-use Rattle.verdicts.specs.Covers.{IsLeastCover, HasNoCover}
 use Rattle.verdicts.specs.Weight.{IsHeavy}
-use Rattle.verdicts.specs.Trail.{TrailFrom, IsLeastUncovered, AreAllCovered, Ends, Judges, IsTrail, IsVerdict}
-use Rattle.verdicts.proofs.Meaning.{cons_after}
-use Rattle.std.proofs.Common.{subst}
-use Rattle.slow_judge.specs.Search.{HasTrail}
 
 pub record IsGrown (pair : RunPair) (bounds : Bounds) (budget : Budget) (tapes : List (List ℕ)) : Type 0 where
   pub points : List Point

@@ -1,8 +1,5 @@
 -- Integer parameters, one by one and together.
-use Rattle.std.proofs.Common.{ℕ, zero, suc, ◌<◌, List, [], ◌∷◌, length, get_or, arith}
-use Rattle.std.specs.Prelude.{All}
-use Rattle.ir_tree.specs.declared.tree.Parameter.{Parameter}
-use Rattle.ir_tree.specs.Pointers.{IsInteger, AreIntegers}
+use Rattle.slow_judge.proofs.Common.{ℕ, zero, suc, ◌<◌, List, [], ◌∷◌, length, get_or, arith, All, Parameter, IsInteger, AreIntegers}
 
 pub together : (ps : List Parameter) → All (λ (p : Parameter). IsInteger p.of_type) ps → AreIntegers ps
 together [] h = tt

@@ -1,3 +1,4 @@
+pub mod Common
 pub mod Blocks
 pub mod Covering
 pub mod Growing

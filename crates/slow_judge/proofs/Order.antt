@@ -1,32 +1,13 @@
 -- Cells one after another: the tape counts least, then the arguments; the blocks are the same in all.
-use Rattle.std.proofs.Common.{◌≡◌, ℕ, zero, suc, ◌+◌, ◌-◌, ◌*◌, ◌^◌, ◌<◌, ◌≤◌, List, [], ◌∷◌, ◌++◌, length, map, replicate, refl, sym, ap, ◌∙◌, arith, add-one, zero-add, append_assoc, append-nil}
-use Rattle.std.specs.List.{flat_map}
-use Rattle.std.proofs.lemmas.List.{length-replicate}
+use Rattle.slow_judge.proofs.Common.{◌≡◌, ℕ, zero, suc, ◌+◌, ◌-◌, ◌*◌, ◌^◌, ◌<◌, ◌≤◌, List, [], ◌∷◌, ◌++◌, length, map, replicate, refl, sym, ap, ◌∙◌, arith, add-one, zero-add, append_assoc, append-nil, flat_map, length-replicate, Parameter, AreIntegers, MemoryBlock, Bounds, Point, RunPair, layout_of, no_blocks, number_of, ValueFits, ArgsFit, BytesFit, BlocksFit, WordsFit, value_code, args_code, byte_code, places_code, blocks_code, code_of, IsNextWords, IsLastWords, IsNextArgs, IsLastArgs, least_value, need_of, widest_choice, place_in, Digits, IsNextIn, IsLastIn, HaveDigits, next_in_back, next_in_front, last_in_both, at_most_by_back, number_of-below, WordsFit-digits, WordsFit-length, number_of-zeros, IsArgsCode, args_digits, digits_of, Digits-append, any_blocks, any_code, Fits, blocks_digits, code_length, code_digits, same_point, widest_small, AreSmall, empty_block, first_empty, empty_blocks, least_args, IsCell, IsNextCell, IsLastCell}
 use Rattle.std.proofs.lemmas.Nat.{pow_pos}
 use Rattle.ir_tree.specs.declared.tree.IrType.{IrType}
 use Rattle.ir_tree.specs.declared.tree.IrType.TheVariants as type
-use Rattle.ir_tree.specs.declared.tree.Parameter.{Parameter}
-use Rattle.ir_tree.specs.Pointers.{AreIntegers}
 use Rattle.byte_block.specs.declared.value.Value.{Value}
 use Rattle.byte_block.specs.declared.value.Byte.TheVariants as byte
-use Rattle.byte_block.specs.declared.block.MemoryBlock.{MemoryBlock}
-use Rattle.points.specs.declared.point.Bounds.{Bounds}
 use Rattle.points.specs.declared.point.Layout.{Layout}
-use Rattle.points.specs.declared.point.Point.{Point}
-use Rattle.verdicts.specs.Pair.{RunPair, layout_of}
-use Rattle.points.specs.Code.{no_blocks, number_of, ValueFits, ArgsFit, BytesFit, BlocksFit, WordsFit, value_code, args_code, byte_code, places_code, blocks_code, code_of}
-use Rattle.points.specs.Next.{IsNextWords, IsLastWords, IsNextArgs, IsLastArgs, least_value}
-use Rattle.points.specs.Tapes.{need_of, widest_choice}
-use Rattle.verdicts.specs.Trail.{place_in}
 use Rattle.points.specs.Codes.{IsChain}
-use Rattle.points.proofs.Order.{Digits, IsNextIn, IsLastIn, HaveDigits, next_in_back, next_in_front, last_in_both, at_most_by_back, number_of-below}
-use Rattle.points.proofs.Words.{WordsFit-digits, WordsFit-length, number_of-zeros}
 use Rattle.points.proofs.Words as words
-use Rattle.points.proofs.Args.{IsArgsCode, args_digits, digits_of, Digits-append, any_blocks, any_code}
-use Rattle.points.proofs.Same.{Fits, blocks_digits, code_length, code_digits, same_point}
-use Rattle.points.proofs.Widest.{widest_small}
-use Rattle.pair_costs.specs.Small.{AreSmall}
-use Rattle.slow_judge.specs.Search.{empty_block, first_empty, empty_blocks, least_args, IsCell, IsNextCell, IsLastCell}
 
 -- ---- empty blocks fit
 

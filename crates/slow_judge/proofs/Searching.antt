@@ -1,15 +1,5 @@
 -- Some points in order, up to the first that nothing covers.
-use Rattle.std.proofs.Common.{◌≡◌, ℕ, ◌<◌, inl, inr, List, true, false, sym, arith}
-use Rattle.std.specs.Prelude.{IsTrue}
-use Rattle.std.proofs.lemmas.Bool.{cases_eq, cases_Bool}
-use Rattle.points.specs.declared.point.Bounds.{Bounds}
-use Rattle.points.specs.declared.point.Point.{Point}
-use Rattle.verdicts.specs.Pair.{RunPair}
-use Rattle.points.specs.Run.{run_of, IsPlain}
-use Rattle.verdicts.specs.Covers.{is_covered}
-use Rattle.verdicts.specs.Trail.{place_in}
-use Rattle.pair_costs.specs.Small.{AreSmall}
-use Rattle.slow_judge.specs.Search.{IsNextAmong, IsLastAmong, IsUncovered, IsLeastAmong, AreCoveredAmong}
+use Rattle.slow_judge.proofs.Common.{◌≡◌, ℕ, ◌<◌, inl, inr, List, true, false, sym, arith, IsTrue, cases_eq, cases_Bool, Bounds, Point, RunPair, run_of, IsPlain, is_covered, place_in, AreSmall, IsNextAmong, IsLastAmong, IsUncovered, IsLeastAmong, AreCoveredAmong}
 use Rattle.slow_judge.proofs.Order.{IsFit, same_place}
 
 -- the search has come to this point: each one before it is covered

@@ -1,13 +1,6 @@
 -- The points of a pair's shape.
-use Rattle.std.proofs.Common.{◌≡◌, ℕ, ◌<◌, ◌≤◌, List, refl, sym, arith}
-use Rattle.points.specs.declared.point.Bounds.{Bounds}
-use Rattle.points.specs.declared.point.Point.{Point}
+use Rattle.slow_judge.proofs.Common.{◌≡◌, ℕ, ◌<◌, ◌≤◌, List, refl, sym, arith, Bounds, Point, RunPair, IsOfShape, IsNextPoint, IsLastPoint, place_in_shape, IsPoint, place_in, IsLeastUncovered, AreAllCovered, IsShapeOf, IsNextAmong, IsLastAmong, IsLeastAmong, AreCoveredAmong}
 use Rattle.points.specs.declared.point.Shape.{Shape}
-use Rattle.verdicts.specs.Pair.{RunPair}
-use Rattle.points.specs.Code.{IsOfShape}
-use Rattle.points.specs.Next.{IsNextPoint, IsLastPoint, place_in_shape}
-use Rattle.verdicts.specs.Trail.{IsPoint, place_in, IsLeastUncovered, AreAllCovered}
-use Rattle.slow_judge.specs.Search.{IsShapeOf, IsNextAmong, IsLastAmong, IsLeastAmong, AreCoveredAmong}
 use Rattle.slow_judge.proofs.Order.{IsFit}
 use Rattle.slow_judge.proofs.Searching.{AreFit}
 

@@ -1,20 +1,7 @@
 -- The source's tapes in order, up to the first that covers a point.
-use Rattle.std.proofs.Common.{◌≡◌, ℕ, ◌^◌, ◌<◌, inl, inr, List, length, replicate, true, false, sym, ap, ◌∙◌, arith}
-use Rattle.std.proofs.lemmas.Bool.{cases_eq}
-use Rattle.points.specs.declared.point.Bounds.{Bounds}
-use Rattle.points.specs.declared.point.Point.{Point}
-use Rattle.verdicts.specs.Pair.{RunPair}
-use Rattle.points.specs.Code.{WordsFit, number_of}
-use Rattle.points.specs.Next.{IsNextWords, IsLastWords}
-use Rattle.points.specs.Run.{run_of}
-use Rattle.points.specs.Tapes.{need_of, widest_choice, plain_form}
-use Rattle.verdicts.specs.Covers.{covers, IsLeastCover, HasNoCover}
-use Rattle.points.proofs.Order.{number_of-same, number_of-below}
-use Rattle.points.proofs.Words.{WordsFit-length, WordsFit-digits}
+use Rattle.slow_judge.proofs.Common.{◌≡◌, ℕ, ◌^◌, ◌<◌, inl, inr, List, length, replicate, true, false, sym, ap, ◌∙◌, arith, cases_eq, Bounds, Point, RunPair, WordsFit, number_of, IsNextWords, IsLastWords, run_of, need_of, widest_choice, plain_form, covers, IsLeastCover, HasNoCover, number_of-same, number_of-below, WordsFit-length, WordsFit-digits, plain_covers, widest_small, widen}
 use Rattle.points.proofs.Words as words
 use Rattle.points.proofs.Plain.{tapes_have_plain_forms}
-use Rattle.verdicts.proofs.Meaning.{plain_covers}
-use Rattle.points.proofs.Widest.{widest_small, widen}
 
 -- the search has come to this tape: none before it covers the point
 pub record IsTapeReached (pair : RunPair) (bounds : Bounds) (p : Point) (tape : List ℕ) : Type 0 where

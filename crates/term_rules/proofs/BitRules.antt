@@ -1,20 +1,8 @@
 -- Why the rules of operations bit by bit are right.
-use Rattle.std.proofs.Common.{ap, ℕ, ◌≡◌, ◌<◌, ◌+◌, ◌-◌, ◌^◌, List, length, arith, ◌∙◌, sym, subst, refl}
-use Rattle.std.specs.Prelude.{bit_and, bit_or, bit_xor}
-use Rattle.std.specs.Int.Bits.{and_self, or_self, xor_self, or_add_and, xor_add_and, or_zero_r, xor_assoc, xor_zero_r}
-use Rattle.std.proofs.lemmas.Nat.{and_assoc, and_comm, and_mask, and-not, and_or_self, or_comm, pow_pos, xor_comm}
-use Rattle.std.proofs.Math.Nat.{mod-eq_of_lt}
+use Rattle.term_rules.proofs.Common.{ap, ℕ, ◌≡◌, ◌<◌, ◌+◌, ◌-◌, ◌^◌, List, length, arith, ◌∙◌, sym, subst, refl, bit_and, bit_or, bit_xor, and_self, or_self, xor_self, or_add_and, xor_add_and, or_zero_r, xor_assoc, xor_zero_r, and_assoc, and_comm, and_mask, and-not, and_or_self, or_comm, pow_pos, xor_comm, mod-eq_of_lt, TermId, Term, Tree, value_of, width_of, AreInRange, IsWidth, term_at, tree_in, weight_of, Form, Built, Known, Simplifies}
 use Rattle.bv_terms.specs.declared.term.BinaryOp.TheVariants as op
-use Rattle.bv_terms.specs.declared.term.TermId.{TermId}
-use Rattle.bv_terms.specs.declared.term.Term.{Term}
 use Rattle.bv_terms.specs.declared.term.Term.TheVariants as term
 use Rattle.bv_terms.specs.Tree as tree
-use Rattle.bv_terms.specs.Tree.{Tree, value_of, width_of}
-use Rattle.bv_terms.specs.Trees.{AreInRange, IsWidth, term_at, tree_in}
-use Rattle.term_folds.specs.Weight.{weight_of}
-use Rattle.term_rules.specs.declared.form.Form.{Form}
-use Rattle.term_rules.specs.declared.form.Form.TheVariants.{Built, Known}
-use Rattle.term_rules.specs.Forms.{Simplifies}
 use Rattle.term_rules.proofs.Simplifying.{constant_form, same_tree, simplifies_like}
 
 -- ---- numbers

@@ -1,18 +1,8 @@
 -- Why sums of small numbers don't wrap.
-use Rattle.std.proofs.Common.{ap, ℕ, ◌≡◌, ◌<◌, ◌≤◌, ◌+◌, ◌-◌, ◌*◌, ◌%◌, ◌^◌, List, length, arith, lit<, ◌∙◌, sym, subst, refl}
-use Rattle.std.proofs.lemmas.Bool.{le-ltb}
-use Rattle.std.proofs.lemmas.Nat.{mul-add-lt, pow-add}
-use Rattle.std.proofs.Math.Nat.{mod-eq_of_lt, mod-le, mul-le-mul_right, mul_comm}
+use Rattle.term_rules.proofs.Common.{ap, ℕ, ◌≡◌, ◌<◌, ◌≤◌, ◌+◌, ◌-◌, ◌*◌, ◌%◌, ◌^◌, List, length, arith, lit<, ◌∙◌, sym, subst, refl, le-ltb, mul-add-lt, pow-add, mod-eq_of_lt, mod-le, mul-le-mul_right, mul_comm, TermId, Term, Tree, digit, value_of, width_of, AreInRange, term_at, tree_in, pow-le, Built, Simplifies}
 use Rattle.bv_terms.specs.declared.term.BinaryOp.TheVariants as op
-use Rattle.bv_terms.specs.declared.term.TermId.{TermId}
-use Rattle.bv_terms.specs.declared.term.Term.{Term}
 use Rattle.bv_terms.specs.declared.term.Term.TheVariants as term
 use Rattle.bv_terms.specs.Tree as tree
-use Rattle.bv_terms.specs.Tree.{Tree, digit, value_of, width_of}
-use Rattle.bv_terms.specs.Trees.{AreInRange, term_at, tree_in}
-use Rattle.term_folds.proofs.Cuts.{pow-le}
-use Rattle.term_rules.specs.declared.form.Form.TheVariants.{Built}
-use Rattle.term_rules.specs.Forms.{Simplifies}
 use Rattle.term_rules.proofs.Simplifying.{constant_form, same_tree}
 
 -- ---- numbers

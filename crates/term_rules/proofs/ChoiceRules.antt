@@ -1,20 +1,8 @@
 -- Why the rules of choices are right.
-use Rattle.std.proofs.Common.{ap, ℕ, ◌≡◌, ◌<◌, ◌≤◌, ◌+◌, ◌-◌, ◌^◌, Bool, true, false, cond, not, List, length, arith, ◌∙◌, sym, subst, refl, inl, inr}
-use Rattle.std.specs.Prelude.{bit_and, bit_or}
-use Rattle.std.specs.Int.Bits.{and_zero_l, or_zero_l}
-use Rattle.std.proofs.lemmas.Bool.{cases_eq}
-use Rattle.std.proofs.lemmas.Nat.{and_comm, or_comm}
+use Rattle.term_rules.proofs.Common.{ap, ℕ, ◌≡◌, ◌<◌, ◌≤◌, ◌+◌, ◌-◌, ◌^◌, Bool, true, false, cond, not, List, length, arith, ◌∙◌, sym, subst, refl, inl, inr, bit_and, bit_or, and_zero_l, or_zero_l, cases_eq, and_comm, or_comm, TermId, Term, Tree, value_of, width_of, truth, AreInRange, bit_at, term_at, tree_in, weight_of, Form, Built, Simplifies}
 use Rattle.bv_terms.specs.declared.term.BinaryOp.TheVariants as op
-use Rattle.bv_terms.specs.declared.term.TermId.{TermId}
-use Rattle.bv_terms.specs.declared.term.Term.{Term}
 use Rattle.bv_terms.specs.declared.term.Term.TheVariants as term
 use Rattle.bv_terms.specs.Tree as tree
-use Rattle.bv_terms.specs.Tree.{Tree, value_of, width_of, truth}
-use Rattle.bv_terms.specs.Trees.{AreInRange, bit_at, term_at, tree_in}
-use Rattle.term_folds.specs.Weight.{weight_of}
-use Rattle.term_rules.specs.declared.form.Form.{Form}
-use Rattle.term_rules.specs.declared.form.Form.TheVariants.{Built}
-use Rattle.term_rules.specs.Forms.{Simplifies}
 use Rattle.term_rules.proofs.Simplifying.{same_tree, simplifies_like}
 use Rattle.term_rules.proofs.BitRules.{and_ones, or_ones}
 

@@ -1,17 +1,7 @@
 -- Why the rules of terms beside their inverses are right.
-use Rattle.std.proofs.Common.{ap, ℕ, ◌≡◌, ◌<◌, ◌+◌, ◌-◌, ◌^◌, List, length, arith, ◌∙◌, sym, subst}
-use Rattle.std.specs.Prelude.{bit_and, bit_or}
-use Rattle.std.specs.Int.Bits.{and_zero_l, and_zero_r, or_add_and}
-use Rattle.std.proofs.lemmas.Nat.{and_assoc, and_comm, and-not, and_or_self, or_comm, or_lt}
+use Rattle.term_rules.proofs.Common.{ap, ℕ, ◌≡◌, ◌<◌, ◌+◌, ◌-◌, ◌^◌, List, length, arith, ◌∙◌, sym, subst, bit_and, bit_or, and_zero_l, and_zero_r, or_add_and, and_assoc, and_comm, and-not, and_or_self, or_comm, or_lt, TermId, Term, Tree, value_of, width_of, AreInRange, term_at, tree_in, weight_of, Form, IsAndPart, IsOrPart, Simplifies}
 use Rattle.bv_terms.specs.declared.term.BinaryOp.TheVariants as op
-use Rattle.bv_terms.specs.declared.term.TermId.{TermId}
-use Rattle.bv_terms.specs.declared.term.Term.{Term}
 use Rattle.bv_terms.specs.Tree as tree
-use Rattle.bv_terms.specs.Tree.{Tree, value_of, width_of}
-use Rattle.bv_terms.specs.Trees.{AreInRange, term_at, tree_in}
-use Rattle.term_folds.specs.Weight.{weight_of}
-use Rattle.term_rules.specs.declared.form.Form.{Form}
-use Rattle.term_rules.specs.Forms.{IsAndPart, IsOrPart, Simplifies}
 use Rattle.term_rules.proofs.BitRules.{and_turned, or_turned}
 use Rattle.term_rules.proofs.Simplifying.{simplifies_like}
 

@@ -1,16 +1,8 @@
 -- Why a common factor is multiplied once.
-use Rattle.std.proofs.Common.{ap, ℕ, ◌≡◌, ◌<◌, ◌+◌, ◌*◌, ◌%◌, ◌^◌, List, length, arith, ◌∙◌, sym}
-use Rattle.std.proofs.lemmas.Nat.{mul-mod_second}
-use Rattle.std.proofs.Math.Nat.{add-mod-mod, mod-add-mod, mul_comm}
+use Rattle.term_rules.proofs.Common.{ap, ℕ, ◌≡◌, ◌<◌, ◌+◌, ◌*◌, ◌%◌, ◌^◌, List, length, arith, ◌∙◌, sym, mul-mod_second, add-mod-mod, mod-add-mod, mul_comm, TermId, Term, Tree, value_of, width_of, Makes, term_at, tree_in, weight_of, IsCofactor, IsFactored}
 use Rattle.bv_terms.specs.declared.term.BinaryOp.TheVariants as op
-use Rattle.bv_terms.specs.declared.term.TermId.{TermId}
-use Rattle.bv_terms.specs.declared.term.Term.{Term}
 use Rattle.bv_terms.specs.Tree as tree
-use Rattle.bv_terms.specs.Tree.{Tree, value_of, width_of}
-use Rattle.bv_terms.specs.Trees.{Makes, term_at, tree_in}
-use Rattle.term_folds.specs.Weight.{weight_of}
 use Rattle.term_rules.specs.declared.factors.Factors.{Factors}
-use Rattle.term_rules.specs.Forms.{IsCofactor, IsFactored}
 use Rattle.term_rules.proofs.Simplifying.{same_tree}
 
 pub distributed_number : (c x y m : ℕ) → (c * ((x + y) % m)) % m ≡ ((c * x) % m + (c * y) % m) % m

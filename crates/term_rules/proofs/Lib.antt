@@ -1,3 +1,4 @@
+pub mod Common
 pub mod Stored
 pub mod Simplifying
 pub mod BitRules

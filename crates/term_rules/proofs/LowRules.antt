@@ -1,20 +1,9 @@
 -- Why low bits come from low bits.
-use Rattle.std.proofs.Common.{ap, ℕ, ◌≡◌, ◌<◌, ◌≤◌, ◌+◌, ◌-◌, ◌*◌, ◌/◌, ◌%◌, ◌^◌, Bool, true, false, cond, List, length, arith, ◌∙◌, sym, subst}
-use Rattle.std.proofs.lemmas.Nat.{and_mod, div-add-mod', mul-mod, or_mod, pow-add, pow_pos, xor_mod}
-use Rattle.std.proofs.Math.Nat.{add-mod-mod, add-mul, add-mul-mod_self_right, lt_of_mul-lt-mul_right, mod-add-mod, mod-eq_of_lt, mod-lt}
-use Rattle.std.proofs.Math.Pow.{mod-mod-pow}
-use Rattle.bv_terms.specs.declared.term.TermId.{TermId}
-use Rattle.bv_terms.specs.declared.term.Term.{Term}
+use Rattle.term_rules.proofs.Common.{ap, ℕ, ◌≡◌, ◌<◌, ◌≤◌, ◌+◌, ◌-◌, ◌*◌, ◌/◌, ◌%◌, ◌^◌, Bool, true, false, cond, List, length, arith, ◌∙◌, sym, subst, and_mod, div-add-mod', mul-mod, or_mod, pow-add, pow_pos, xor_mod, add-mod-mod, add-mul, add-mul-mod_self_right, lt_of_mul-lt-mul_right, mod-add-mod, mod-eq_of_lt, mod-lt, mod-mod-pow, TermId, Term, Tree, extended_signed, is_negative, value_of, width_of, AreInRange, term_at, tree_in, weight_of, pow-le, Form, IsLow, IsNarrowing, IsOperation, Simplifies, operated}
 use Rattle.bv_terms.specs.Tree as tree
-use Rattle.bv_terms.specs.Tree.{Tree, extended_signed, is_negative, value_of, width_of}
-use Rattle.bv_terms.specs.Trees.{AreInRange, term_at, tree_in}
-use Rattle.term_folds.specs.Weight.{weight_of}
-use Rattle.term_folds.proofs.Cuts.{pow-le}
-use Rattle.term_rules.specs.declared.form.Form.{Form}
 use Rattle.term_rules.specs.declared.low_bits.Kind.{Kind}
 use Rattle.term_rules.specs.declared.low_bits.Operation.{Operation}
 use Rattle.term_rules.specs.declared.low_bits.Kind.TheVariants.{Sum, Difference, Reverse, Product, Conjunction, Disjunction, Exclusive}
-use Rattle.term_rules.specs.Forms.{IsLow, IsNarrowing, IsOperation, Simplifies, operated}
 
 -- ---- numbers
 

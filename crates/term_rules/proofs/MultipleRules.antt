@@ -1,15 +1,7 @@
 -- Why a number is its quotient times the divisor, and the remainder.
-use Rattle.std.proofs.Common.{ap, ℕ, ◌≡◌, ◌<◌, ◌+◌, ◌-◌, ◌*◌, ◌/◌, ◌%◌, ◌^◌, Bool, true, false, cond, eqb, List, length, arith, ◌∙◌, sym, subst, refl}
-use Rattle.std.proofs.lemmas.Bool.{eqb-true}
-use Rattle.std.proofs.lemmas.Nat.{div-add-mod'}
-use Rattle.std.proofs.Math.Nat.{add-mod_right, mod-eq_of_lt, zero-mod}
+use Rattle.term_rules.proofs.Common.{ap, ℕ, ◌≡◌, ◌<◌, ◌+◌, ◌-◌, ◌*◌, ◌/◌, ◌%◌, ◌^◌, Bool, true, false, cond, eqb, List, length, arith, ◌∙◌, sym, subst, refl, eqb-true, div-add-mod', add-mod_right, mod-eq_of_lt, zero-mod, TermId, Term, Tree, quotient, remainder, value_of, width_of, AreInRange, Makes, term_at, tree_in, IsMultiple, IsPart}
 use Rattle.bv_terms.specs.declared.term.BinaryOp.TheVariants as op
-use Rattle.bv_terms.specs.declared.term.TermId.{TermId}
-use Rattle.bv_terms.specs.declared.term.Term.{Term}
 use Rattle.bv_terms.specs.Tree as tree
-use Rattle.bv_terms.specs.Tree.{Tree, quotient, remainder, value_of, width_of}
-use Rattle.bv_terms.specs.Trees.{AreInRange, Makes, term_at, tree_in}
-use Rattle.term_rules.specs.Forms.{IsMultiple, IsPart}
 use Rattle.term_rules.proofs.Simplifying.{same_tree}
 
 -- ---- numbers

@@ -1,17 +1,8 @@
 -- Why the rules of divisions, shifts and comparisons are right.
-use Rattle.std.proofs.Common.{ap, ℕ, ◌≡◌, ◌<◌, ◌≤◌, ◌+◌, ◌-◌, ◌*◌, ◌%◌, ◌^◌, Bool, true, false, cond, eqb, List, length, arith, lit<, ◌∙◌, sym, subst, refl}
-use Rattle.std.proofs.lemmas.Bool.{eqb-true, ne_eqb, lt-ltb}
-use Rattle.std.proofs.lemmas.Nat.{pow_pos, pow-add}
-use Rattle.std.proofs.Math.Nat.{mod-eq_of_lt, mod_self}
+use Rattle.term_rules.proofs.Common.{ap, ℕ, ◌≡◌, ◌<◌, ◌≤◌, ◌+◌, ◌-◌, ◌*◌, ◌%◌, ◌^◌, Bool, true, false, cond, eqb, List, length, arith, lit<, ◌∙◌, sym, subst, refl, eqb-true, ne_eqb, lt-ltb, pow_pos, pow-add, mod-eq_of_lt, mod_self, TermId, Term, Tree, value_of, width_of, remainder, shifted_left, digit, AreInRange, IsWidth, term_at, tree_in, Built, Known, Simplifies}
 use Rattle.bv_terms.specs.declared.term.BinaryOp.TheVariants as op
-use Rattle.bv_terms.specs.declared.term.TermId.{TermId}
-use Rattle.bv_terms.specs.declared.term.Term.{Term}
 use Rattle.bv_terms.specs.declared.term.Term.TheVariants as term
 use Rattle.bv_terms.specs.Tree as tree
-use Rattle.bv_terms.specs.Tree.{Tree, value_of, width_of, remainder, shifted_left, digit}
-use Rattle.bv_terms.specs.Trees.{AreInRange, IsWidth, term_at, tree_in}
-use Rattle.term_rules.specs.declared.form.Form.TheVariants.{Built, Known}
-use Rattle.term_rules.specs.Forms.{Simplifies}
 use Rattle.term_rules.proofs.Simplifying.{constant_form, same_tree}
 
 -- a number leaves nothing when it is divided by itself, also where it is 0

@@ -1,15 +1,6 @@
 -- Why operations on widened numbers are those at the width before.
-use Rattle.std.proofs.Common.{ap, ℕ, ◌≡◌, ◌<◌, ◌≤◌, ◌+◌, ◌-◌, ◌/◌, ◌%◌, ◌^◌, true, false, cond, List, arith, ◌∙◌, sym, subst}
-use Rattle.std.specs.Prelude.{nat_eq, nat_lt}
-use Rattle.std.proofs.lemmas.Bool.{ne_eqb}
-use Rattle.std.proofs.Math.Nat.{add-mod_right, mod-eq_of_lt}
-use Rattle.bv_terms.specs.declared.term.TermId.{TermId}
-use Rattle.bv_terms.specs.declared.term.Term.{Term}
-use Rattle.bv_terms.specs.Tree.{digit, is_less_signed, is_negative, quotient, value_of, width_of}
-use Rattle.bv_terms.specs.Trees.{AreInRange, Makes, term_at, tree_in}
-use Rattle.term_folds.proofs.Cuts.{pow-le}
+use Rattle.term_rules.proofs.Common.{ap, ℕ, ◌≡◌, ◌<◌, ◌≤◌, ◌+◌, ◌-◌, ◌/◌, ◌%◌, ◌^◌, true, false, cond, List, arith, ◌∙◌, sym, subst, nat_eq, nat_lt, ne_eqb, add-mod_right, mod-eq_of_lt, TermId, Term, digit, is_less_signed, is_negative, quotient, value_of, width_of, AreInRange, Makes, term_at, tree_in, pow-le, IsShrunk, IsTaken, form_tree}
 use Rattle.term_rules.specs.declared.shrinking.Shrunk.{Shrunk}
-use Rattle.term_rules.specs.Forms.{IsShrunk, IsTaken, form_tree}
 use Rattle.term_rules.proofs.WidthRules.{unsigned}
 
 -- ---- numbers

@@ -1,15 +1,7 @@
 -- How it is shown that a form simplifies a tree.
-use Rattle.std.proofs.Common.{ap, ℕ, ◌≡◌, ◌<◌, ◌≤◌, ◌^◌, List, get_or, arith, ◌∙◌, sym}
-use Rattle.bv_terms.specs.declared.term.TermId.{TermId}
-use Rattle.bv_terms.specs.declared.term.Term.{Term}
+use Rattle.term_rules.proofs.Common.{ap, ℕ, ◌≡◌, ◌<◌, ◌≤◌, ◌^◌, List, get_or, arith, ◌∙◌, sym, TermId, Term, Tree, value_of, width_of, IsWidth, tree_in, trees_of, weight_of, Form, Built, Simplifies}
 use Rattle.bv_terms.specs.declared.term.Term.TheVariants as term
 use Rattle.bv_terms.specs.Tree as tree
-use Rattle.bv_terms.specs.Tree.{Tree, value_of, width_of}
-use Rattle.bv_terms.specs.Trees.{IsWidth, tree_in, trees_of}
-use Rattle.term_folds.specs.Weight.{weight_of}
-use Rattle.term_rules.specs.declared.form.Form.{Form}
-use Rattle.term_rules.specs.declared.form.Form.TheVariants.{Built}
-use Rattle.term_rules.specs.Forms.{Simplifies}
 use Rattle.term_rules.proofs.Stored.{weight_positive}
 
 -- terms of one index have one tree

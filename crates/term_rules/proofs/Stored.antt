@@ -1,15 +1,8 @@
 -- What is read of a list of terms, and what is stored in one.
-use Rattle.std.proofs.Common.{ap, ℕ, zero, suc, ◌≡◌, ◌<◌, ◌≤◌, ◌+◌, ◌^◌, List, [], ◌∷◌, ◌++◌, length, get_or, slice_get, Some, sym, subst, arith, ◌∙◌}
-use Rattle.bv_terms.specs.declared.term.TermId.{TermId}
-use Rattle.bv_terms.specs.declared.term.Term.{Term}
+use Rattle.term_rules.proofs.Common.{ap, ℕ, zero, suc, ◌≡◌, ◌<◌, ◌≤◌, ◌+◌, ◌^◌, List, [], ◌∷◌, ◌++◌, length, get_or, slice_get, Some, sym, subst, arith, ◌∙◌, TermId, Term, Tree, width_of, value_of, AreFit, AreInRange, AreMatched, Extends, IsFit, IsWithin, tree_at, tree_in, tree_of, term_width, trees_from, trees_of, length-trees, tree-same, tree-stored, trees-front, width-tree, within-more, term_place, weight_of}
 use Rattle.bv_terms.specs.declared.term.Term.TheVariants as term
 use Rattle.bv_terms.specs.Tree as tree
-use Rattle.bv_terms.specs.Tree.{Tree, width_of, value_of}
-use Rattle.bv_terms.specs.Trees.{AreFit, AreInRange, AreMatched, Extends, IsFit, IsWithin, tree_at, tree_in, tree_of, term_width, trees_from, trees_of}
-use Rattle.bv_terms.proofs.Stages.{length-trees, tree-same, tree-stored, trees-front, width-tree, within-more}
-use Rattle.bv_terms.proofs.Keeping.{term_place}
 use Rattle.bv_terms.proofs.Below.{AreBelow, tree-below}
-use Rattle.term_folds.specs.Weight.{weight_of}
 
 -- widths go together over lists that agree on what the term names
 module _ (early late : List Tree) (same : (a : TermId) → a.index < length early → tree_at late a ≡ tree_at early a) where

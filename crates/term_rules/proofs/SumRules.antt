@@ -1,17 +1,7 @@
 -- Why the rules of sums and differences are right.
-use Rattle.std.proofs.Common.{ap, ℕ, zero, suc, ◌≡◌, ◌<◌, ◌+◌, ◌-◌, ◌*◌, ◌%◌, ◌^◌, cond, List, length, arith, ◌∙◌, sym, subst, refl}
-use Rattle.std.proofs.lemmas.Bool.{lt-ltb}
-use Rattle.std.proofs.Math.Nat.{add-mod-mod, add-mod_right, mod-add-mod, mod-eq_of_lt, pow-suc}
+use Rattle.term_rules.proofs.Common.{ap, ℕ, zero, suc, ◌≡◌, ◌<◌, ◌+◌, ◌-◌, ◌*◌, ◌%◌, ◌^◌, cond, List, length, arith, ◌∙◌, sym, subst, refl, lt-ltb, add-mod-mod, add-mod_right, mod-add-mod, mod-eq_of_lt, pow-suc, TermId, Term, Tree, shifted_left, value_of, width_of, AreInRange, IsWidth, term_at, tree_in, weight_of, Form, Known, Shifted, IsPart, IsRest, Simplifies}
 use Rattle.bv_terms.specs.declared.term.BinaryOp.TheVariants as op
-use Rattle.bv_terms.specs.declared.term.TermId.{TermId}
-use Rattle.bv_terms.specs.declared.term.Term.{Term}
 use Rattle.bv_terms.specs.Tree as tree
-use Rattle.bv_terms.specs.Tree.{Tree, shifted_left, value_of, width_of}
-use Rattle.bv_terms.specs.Trees.{AreInRange, IsWidth, term_at, tree_in}
-use Rattle.term_folds.specs.Weight.{weight_of}
-use Rattle.term_rules.specs.declared.form.Form.{Form}
-use Rattle.term_rules.specs.declared.form.Form.TheVariants.{Known, Shifted}
-use Rattle.term_rules.specs.Forms.{IsPart, IsRest, Simplifies}
 use Rattle.term_rules.proofs.Simplifying.{same_tree, simplifies_like}
 use Rattle.term_rules.proofs.Stored.{weight_positive}
 

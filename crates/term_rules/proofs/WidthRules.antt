@@ -1,20 +1,7 @@
 -- Why the rules of parts of numbers are right.
-use Rattle.std.proofs.Common.{ap, ℕ, ◌≡◌, ◌<◌, ◌≤◌, ◌+◌, ◌-◌, ◌*◌, ◌/◌, ◌%◌, ◌^◌, false, cond, List, length, arith, ◌∙◌, sym, subst, refl}
-use Rattle.std.proofs.lemmas.Bool.{lt-leb}
-use Rattle.std.proofs.lemmas.Nat.{field_of, mod_low, mod-pow-add, pow_pos, shr-shr, shr_high}
-use Rattle.std.proofs.Math.Nat.{div-eq_of_lt, div-one, mod-eq_of_lt, zero-mod}
-use Rattle.std.proofs.Math.Pow.{mod-mod-pow}
-use Rattle.bv_terms.specs.declared.term.TermId.{TermId}
-use Rattle.bv_terms.specs.declared.term.Term.{Term}
+use Rattle.term_rules.proofs.Common.{ap, ℕ, ◌≡◌, ◌<◌, ◌≤◌, ◌+◌, ◌-◌, ◌*◌, ◌/◌, ◌%◌, ◌^◌, false, cond, List, length, arith, ◌∙◌, sym, subst, refl, lt-leb, field_of, mod_low, mod-pow-add, pow_pos, shr-shr, shr_high, div-eq_of_lt, div-one, mod-eq_of_lt, zero-mod, mod-mod-pow, TermId, Term, Tree, extended_signed, is_negative, value_of, width_of, AreInRange, IsWidth, term_at, tree_in, weight_of, pow-le, Form, Built, Known, Simplifies}
 use Rattle.bv_terms.specs.declared.term.Term.TheVariants as term
 use Rattle.bv_terms.specs.Tree as tree
-use Rattle.bv_terms.specs.Tree.{Tree, extended_signed, is_negative, value_of, width_of}
-use Rattle.bv_terms.specs.Trees.{AreInRange, IsWidth, term_at, tree_in}
-use Rattle.term_folds.specs.Weight.{weight_of}
-use Rattle.term_folds.proofs.Cuts.{pow-le}
-use Rattle.term_rules.specs.declared.form.Form.{Form}
-use Rattle.term_rules.specs.declared.form.Form.TheVariants.{Built, Known}
-use Rattle.term_rules.specs.Forms.{Simplifies}
 use Rattle.term_rules.proofs.Simplifying.{constant_form, same_tree, simplifies_like}
 
 -- ---- numbers

@@ -1,14 +1,5 @@
 -- A form is read as it is spelled.
-use Rattle.std.proofs.Common.{◌≡◌, Bool, true, List, ◌∷◌}
-use Rattle.std.specs.Prelude.{◌↔◌, Result, Ok, Err}
-use Rattle.ir_lexer.specs.Lexeme.{Lexeme}
-use Rattle.ir_tree.specs.declared.module.Reason.{Reason}
-use Rattle.token_forms.specs.declared.fault.ReadFault.{ReadFault}
-use Rattle.token_forms.specs.declared.fault.ReadFault.TheVariants.{Unfit, PastLimit, NoMemory}
-use Rattle.token_forms.specs.Form.{never, Form, unfit, limit, reads, stops, read}
-use Rattle.token_forms.specs.Spelling.{Spells}
-use Rattle.token_forms.specs.Refusals.{RefusedAs, StopsUnfit, StopsPast}
-use Rattle.token_forms.specs.Answer.{Reads}
+use Rattle.token_forms.proofs.Common.{◌≡◌, Bool, true, List, ◌∷◌, ◌↔◌, Result, Ok, Err, Lexeme, Reason, ReadFault, Unfit, PastLimit, NoMemory, never, Form, unfit, limit, reads, stops, read, Spells, RefusedAs, StopsUnfit, StopsPast, Reads}
 use Rattle.token_forms.specs.Spelled.{SpellsOrStops}
 use Rattle.token_forms.proofs.Exact.{read-found, read-again}
 use Rattle.token_forms.proofs.Stops.{limit-again, stops-unfit, stops-past, stops-behind}

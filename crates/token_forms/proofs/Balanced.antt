@@ -1,16 +1,9 @@
 -- Reading up to the mark that closes a bracket.
-use Rattle.std.proofs.Common.{◌≡◌, ℕ, ◌⊎◌, inl, inr, Bool, true, false, List, [], ◌∷◌, ◌++◌, refl, sym, ap, subst, ◌∙◌, append_assoc}
+use Rattle.token_forms.proofs.Common.{◌≡◌, ℕ, ◌⊎◌, inl, inr, Bool, true, false, List, [], ◌∷◌, ◌++◌, refl, sym, ap, subst, ◌∙◌, append_assoc, Lexeme, Reason, Syntax, Bracket, nesting_of, is_same, IsBalanced, nothing, plain, nested, IsClosed, IsInnermost, same, deeper, Why, unfit, Reading, reads, stops, until_closed, LeavesOpen, StaysOpen}
 use Rattle.ir_lexer.specs.declared.token.Kind.TheVariants as kind
-use Rattle.ir_lexer.specs.Lexeme.{Lexeme}
-use Rattle.ir_tree.specs.declared.module.Reason.{Reason}
-use Rattle.ir_tree.specs.declared.module.Reason.TheVariants.{Syntax}
-use Rattle.token_forms.specs.declared.bracket.Bracket.{Bracket}
 use Rattle.token_forms.specs.declared.bracket.Bracket.TheVariants.{Round, Square, Curly}
 use Rattle.token_forms.specs.declared.bracket.Nesting.{Nesting}
 use Rattle.token_forms.specs.declared.bracket.Nesting.TheVariants.{Opens, Closes, Plain}
-use Rattle.token_forms.specs.Brackets.{nesting_of, is_same, IsBalanced, nothing, plain, nested, IsClosed, IsInnermost, same, deeper}
-use Rattle.token_forms.specs.Form.{Why, unfit, Reading, reads, stops, until_closed}
-use Rattle.token_forms.specs.Refusals.{LeavesOpen, StaysOpen}
 
 abbrev Tokens : Type 0
 Tokens = List Lexeme

@@ -1,12 +1,6 @@
 -- What is read is what is spelled.
-use Rattle.std.proofs.Common.{◌≡◌, ℕ, zero, suc, ◌≤◌, ◌⊎◌, inl, inr, Bool, true, false, cond, List, [], ◌∷◌, length, Option, Some, None, refl, sym, ap, subst, ◌∙◌, arith}
-use Rattle.std.specs.Prelude.{◌||◌, not}
-use Rattle.ir_lexer.specs.Lexeme.{Lexeme}
-use Rattle.ir_tree.specs.declared.module.Reason.{Reason}
-use Rattle.token_forms.specs.Form.{Class, Form, give, one, seq, upto, peek, tail, mapped, Reading, reads, stops, and_then, Judged, none, past, found, judged, taken, token_of, first_of, peeked, begun, parts, read, balanced}
-use Rattle.std.proofs.lemmas.List.{length-append}
+use Rattle.token_forms.proofs.Common.{◌≡◌, ℕ, zero, suc, ◌≤◌, ◌⊎◌, inl, inr, Bool, true, false, cond, List, [], ◌∷◌, length, Option, Some, None, refl, sym, ap, subst, ◌∙◌, arith, ◌||◌, not, Lexeme, Reason, Class, Form, give, one, seq, upto, peek, tail, mapped, Reading, reads, stops, and_then, Judged, none, past, found, judged, taken, token_of, first_of, peeked, begun, parts, read, balanced, length-append, Keeps, Token, IsNone, part_value, part_begins, SpellParts, Spells}
 use Rattle.token_forms.proofs.Lawful.{read_lawful}
-use Rattle.token_forms.specs.Spelling.{Keeps, Token, IsNone, part_value, part_begins, SpellParts, Spells}
 use Rattle.token_forms.proofs.Balanced.{balanced-found, balanced-again}
 
 abbrev Tokens : Type 0

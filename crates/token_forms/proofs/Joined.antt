@@ -1,9 +1,5 @@
 -- What holds of reading one form after another.
-use Rattle.std.proofs.Common.{◌≡◌, suc, inl, inr, Bool, true, false, List, [], ◌∷◌, ◌++◌, length, refl, sym, ap, subst, ◌∙◌, append_assoc, arith}
-use Rattle.std.proofs.lemmas.List.{append-nil}
-use Rattle.ir_lexer.specs.Lexeme.{Lexeme}
-use Rattle.ir_tree.specs.declared.module.Reason.{Reason}
-use Rattle.token_forms.specs.Form.{Class, never, Why, unfit, Reading, reads, stops, and_then, Judged, none, past, found, judged, taken, one_of}
+use Rattle.token_forms.proofs.Common.{◌≡◌, suc, inl, inr, Bool, true, false, List, [], ◌∷◌, ◌++◌, length, refl, sym, ap, subst, ◌∙◌, append_assoc, arith, append-nil, Lexeme, Reason, Class, never, Why, unfit, Reading, reads, stops, and_then, Judged, none, past, found, judged, taken, one_of}
 use Rattle.token_forms.proofs.Laws.{is_free, SameHead, Follows, Whole, Ends, Halts, Lawful, free-never, same-head-at}
 use Rattle.token_forms.proofs.Tokens.{give_lawful, one_lawful}
 

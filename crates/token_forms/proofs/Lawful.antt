@@ -1,9 +1,5 @@
 -- What holds of reading by each form.
-use Rattle.std.proofs.Common.{◌≡◌, Bool, false, [], ◌∷◌, length, ◌∙◌}
-use Rattle.ir_lexer.specs.Lexeme.{Lexeme}
-use Rattle.ir_tree.specs.declared.module.Reason.TheVariants.{Syntax}
-use Rattle.token_forms.specs.Form.{never, Form, give, one, seq, upto, peek, tail, mapped, unfit, limit, reads, parts, read, balanced, until_closed}
-use Rattle.token_forms.specs.declared.bracket.Bracket.{Bracket}
+use Rattle.token_forms.proofs.Common.{◌≡◌, Bool, false, [], ◌∷◌, length, ◌∙◌, Lexeme, Syntax, never, Form, give, one, seq, upto, peek, tail, mapped, unfit, limit, reads, parts, read, balanced, until_closed, Bracket}
 use Rattle.token_forms.proofs.Balanced.{all_closing, closed-ends, closed-whole, closed-halts}
 use Rattle.token_forms.proofs.Laws.{Lawful}
 use Rattle.token_forms.proofs.Tokens.{give_lawful, one_lawful}

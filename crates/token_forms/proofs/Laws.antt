@@ -1,9 +1,5 @@
 -- What holds of a reading function.
-use Rattle.std.proofs.Common.{◌≡◌, ◌⊎◌, inl, inr, Bool, true, false, List, [], ◌∷◌, ◌++◌, refl, sym, subst}
-use Rattle.std.specs.Prelude.{◌||◌, not}
-use Rattle.ir_lexer.specs.Lexeme.{Lexeme}
-use Rattle.ir_tree.specs.declared.module.Reason.{Reason}
-use Rattle.token_forms.specs.Form.{never, either, Why, unfit, limit, Reading, reads, stops}
+use Rattle.token_forms.proofs.Common.{◌≡◌, ◌⊎◌, inl, inr, Bool, true, false, List, [], ◌∷◌, ◌++◌, refl, sym, subst, ◌||◌, not, Lexeme, Reason, never, either, Why, unfit, limit, Reading, reads, stops}
 
 abbrev Tokens : Type 0
 Tokens = List Lexeme

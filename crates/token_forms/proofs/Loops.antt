@@ -1,15 +1,6 @@
 -- Parts, as a loop reads them.
-use Rattle.std.proofs.Common.{◌≡◌, ◌≢◌, ◌-◌, take, drop, get_or, ℕ, zero, suc, ◌<◌, ◌≤◌, ◌⊎◌, inl, inr, Bool, true, false, List, [], ◌∷◌, length, Option, Some, None, refl, sym, ap, ◌∙◌, arith}
+use Rattle.token_forms.proofs.Common.{◌≡◌, ◌≢◌, ◌-◌, take, drop, get_or, ℕ, zero, suc, ◌<◌, ◌≤◌, ◌⊎◌, inl, inr, Bool, true, false, List, [], ◌∷◌, length, Option, Some, None, refl, sym, ap, ◌∙◌, arith, Lexeme, ReadFault, Unfit, PastLimit, NoMemory, Fails, Why, unfit, limit, Reading, reads, stops, and_then, Judged, none, past, found, begun, beginning, begin_of, parts, step_from, step_of, Syntax, Bracket, nesting_of, open_behind, until_closed}
 use Rattle.std.proofs.Math.Seq.{take-length}
-use Rattle.ir_lexer.specs.Lexeme.{Lexeme}
-use Rattle.token_forms.specs.declared.fault.ReadFault.{ReadFault}
-use Rattle.token_forms.specs.declared.fault.ReadFault.TheVariants.{Unfit, PastLimit, NoMemory}
-use Rattle.token_forms.specs.Answer.{Fails}
-use Rattle.token_forms.specs.Form.{Why, unfit, limit, Reading, reads, stops, and_then, Judged, none, past, found, begun, beginning, begin_of, parts, step_from, step_of}
-use Rattle.ir_tree.specs.declared.module.Reason.TheVariants.{Syntax}
-use Rattle.token_forms.specs.declared.bracket.Bracket.{Bracket}
-use Rattle.token_forms.specs.Brackets.{nesting_of}
-use Rattle.token_forms.specs.Form.{open_behind, until_closed}
 
 abbrev pub Part : Type 0 → Type 0 → Type 0
 Part A S = S → A → List Lexeme → Reading S

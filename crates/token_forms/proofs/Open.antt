@@ -1,7 +1,5 @@
 -- What holds of reading a form that more may go on with, and then what may be empty.
-use Rattle.std.proofs.Common.{◌≡◌, inl, Bool, List, [], ◌∷◌, ◌++◌, refl, sym, subst}
-use Rattle.ir_lexer.specs.Lexeme.{Lexeme}
-use Rattle.token_forms.specs.Form.{either, Reading, reads, and_then}
+use Rattle.token_forms.proofs.Common.{◌≡◌, inl, Bool, List, [], ◌∷◌, ◌++◌, refl, sym, subst, Lexeme, either, Reading, reads, and_then}
 use Rattle.token_forms.proofs.Laws.{SameHead, Follows, Whole, Ends, Lawful, free-left, free-right, follows-left, follows-right}
 use Rattle.token_forms.proofs.Tokens.{give_lawful}
 use Rattle.token_forms.proofs.Joined.{join_lawful}

@@ -1,10 +1,5 @@
 -- What holds of reading parts, as long as one begins.
-use Rattle.std.proofs.Common.{◌≡◌, ℕ, zero, suc, ◌≤◌, inl, inr, Bool, true, false, List, [], ◌∷◌, ◌++◌, length, Option, refl, sym, ap, subst, ◌∙◌, append_assoc, arith}
-use Rattle.std.specs.Prelude.{not}
-use Rattle.std.proofs.lemmas.List.{append-nil, length-append}
-use Rattle.ir_lexer.specs.Lexeme.{Lexeme}
-use Rattle.ir_tree.specs.declared.module.Reason.{Reason}
-use Rattle.token_forms.specs.Form.{either, Why, unfit, limit, Reading, reads, stops, and_then, Judged, none, past, found, first_of, begun, parts}
+use Rattle.token_forms.proofs.Common.{◌≡◌, ℕ, zero, suc, ◌≤◌, inl, inr, Bool, true, false, List, [], ◌∷◌, ◌++◌, length, Option, refl, sym, ap, subst, ◌∙◌, append_assoc, arith, not, append-nil, length-append, Lexeme, Reason, either, Why, unfit, limit, Reading, reads, stops, and_then, Judged, none, past, found, first_of, begun, parts}
 use Rattle.token_forms.proofs.Laws.{is_free, SameHead, Follows, Whole, Ends, Halts, Lawful, free-left, free-right, follows-right, same-head-at}
 use Rattle.token_forms.proofs.Tokens.{judged-lifts, judged-none, judged-past}
 

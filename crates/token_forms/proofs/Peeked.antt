@@ -1,9 +1,5 @@
 -- What holds of reading by the class of the first token.
-use Rattle.std.proofs.Common.{◌≡◌, Bool, false, List, [], ◌∷◌, ◌++◌, refl, sym, ap}
-use Rattle.ir_lexer.specs.Lexeme.{Lexeme}
-use Rattle.ir_tree.specs.declared.module.Reason.{Reason}
-use Rattle.ir_tree.specs.declared.module.Reason.TheVariants.{Syntax}
-use Rattle.token_forms.specs.Form.{Class, Why, unfit, limit, Reading, reads, stops, and_then, Judged, none, past, found, judged, taken, one_of, first_of, peeked}
+use Rattle.token_forms.proofs.Common.{◌≡◌, Bool, false, List, [], ◌∷◌, ◌++◌, refl, sym, ap, Lexeme, Reason, Syntax, Class, Why, unfit, limit, Reading, reads, stops, and_then, Judged, none, past, found, judged, taken, one_of, first_of, peeked}
 use Rattle.token_forms.proofs.Laws.{Whole, Ends, Halts, Lawful}
 use Rattle.token_forms.proofs.Tokens.{judged-lifts, judged-none, judged-past}
 

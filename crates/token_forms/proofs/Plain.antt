@@ -1,10 +1,6 @@
 -- Forms that distinguish what comes next spell as the plain grammar does.
-use Rattle.std.proofs.Common.{◌≡◌, ℕ, zero, suc, inl, inr, Bool, true, false, List, [], ◌∷◌, Option, Some, None, refl, sym, ap, subst, ◌∙◌}
-use Rattle.std.specs.Prelude.{not, ◌||◌, is_some}
-use Rattle.ir_lexer.specs.Lexeme.{Lexeme}
+use Rattle.token_forms.proofs.Common.{◌≡◌, ℕ, zero, suc, inl, inr, Bool, true, false, List, [], ◌∷◌, Option, Some, None, refl, sym, ap, subst, ◌∙◌, not, ◌||◌, is_some, Lexeme, never, either, Form, give, one, seq, upto, peek, tail, balanced, mapped, reads, Token, IsNone, part_value, part_begins, SpellParts, Spells}
 use Rattle.ir_lexer.specs.declared.token.Kind.{Kind}
-use Rattle.token_forms.specs.Form.{never, either, Form, give, one, seq, upto, peek, tail, balanced, mapped, reads}
-use Rattle.token_forms.specs.Spelling.{Token, IsNone, part_value, part_begins, SpellParts, Spells}
 use Rattle.token_forms.specs.Plain.{PlainParts, SpellsPlainly, AreApart, TellsApart, SpellsAsPlain, SpellsOne}
 use Rattle.token_forms.proofs.Exact.{read-again}
 use Rattle.token_forms.proofs.Laws.{is_free, free-never, free-left, free-right}

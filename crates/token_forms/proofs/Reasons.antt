@@ -1,14 +1,8 @@
 -- The reason at a stop.
-use Rattle.std.proofs.Common.{◌≡◌, ℕ, zero, suc, ◌⊎◌, inl, inr, Bool, true, List, [], ◌∷◌, length, Option, None, refl, sym, ◌∙◌}
-use Rattle.ir_lexer.specs.Lexeme.{Lexeme}
-use Rattle.ir_tree.specs.declared.module.Reason.{Reason}
-use Rattle.token_forms.specs.Form.{Form, give, one, seq, upto, peek, tail, mapped, unfit, Reading, reads, stops, and_then, Judged, none, past, found, judged, taken, token_of, first_of, begun, parts, read, balanced}
-use Rattle.token_forms.specs.Spelling.{Token, part_value, part_begins, Spells}
-use Rattle.token_forms.specs.Refusals.{Misses, MissParts, RefusedAs}
+use Rattle.token_forms.proofs.Common.{◌≡◌, ℕ, zero, suc, ◌⊎◌, inl, inr, Bool, true, List, [], ◌∷◌, length, Option, None, refl, sym, ◌∙◌, Lexeme, Reason, Form, give, one, seq, upto, peek, tail, mapped, unfit, Reading, reads, stops, and_then, Judged, none, past, found, judged, taken, token_of, first_of, begun, parts, read, balanced, Token, part_value, part_begins, Spells, Misses, MissParts, RefusedAs, Syntax}
 use Rattle.token_forms.proofs.Exact.{read-found, token-found, judged-stands, begun-begins, judged-nothing}
 use Rattle.token_forms.proofs.Stops.{then-stops}
 use Rattle.token_forms.proofs.Balanced.{closed-halts, balanced-refused}
-use Rattle.ir_tree.specs.declared.module.Reason.TheVariants.{Syntax}
 
 token-misses : {A : Type 0} (stands : Lexeme → Option A) (within : Lexeme → Bool) (reason : Lexeme → Reason) (r : Reason) (ts rest : List Lexeme) → token_of true stands within reason ts ≡ stops (unfit r) rest → Misses stands reason ts rest r
 token-misses stands within reason r [] rest e = (cc e, cc e)

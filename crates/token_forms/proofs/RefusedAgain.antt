@@ -1,11 +1,5 @@
 -- A refusal is where reading stops, with its reason.
-use Rattle.std.proofs.Common.{◌≡◌, ℕ, zero, suc, ◌≤◌, ◌⊎◌, inl, inr, Bool, true, false, List, [], ◌∷◌, length, Option, Some, None, refl, sym, ap, ◌∙◌, arith}
-use Rattle.ir_lexer.specs.Lexeme.{Lexeme}
-use Rattle.ir_tree.specs.declared.module.Reason.{Reason}
-use Rattle.ir_tree.specs.declared.module.Reason.TheVariants.{Syntax}
-use Rattle.token_forms.specs.Form.{Form, give, one, seq, upto, peek, tail, balanced, mapped, Why, unfit, Reading, reads, stops, and_then, Judged, found, judged, token_of, peeked, begun, parts, read}
-use Rattle.token_forms.specs.Spelling.{Token, part_value, part_begins, Spells}
-use Rattle.token_forms.specs.Refusals.{Misses, MissParts, RefusedAs}
+use Rattle.token_forms.proofs.Common.{◌≡◌, ℕ, zero, suc, ◌≤◌, ◌⊎◌, inl, inr, Bool, true, false, List, [], ◌∷◌, length, Option, Some, None, refl, sym, ap, ◌∙◌, arith, Lexeme, Reason, Syntax, Form, give, one, seq, upto, peek, tail, balanced, mapped, Why, unfit, Reading, reads, stops, and_then, Judged, found, judged, token_of, peeked, begun, parts, read, Token, part_value, part_begins, Spells, Misses, MissParts, RefusedAs}
 use Rattle.token_forms.proofs.Exact.{read-again, shorter, token-again, peek-first, peek-other, stands-judged, begun-begins}
 use Rattle.token_forms.proofs.Balanced.{open-again}
 

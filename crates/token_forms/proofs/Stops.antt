@@ -1,15 +1,9 @@
 -- Reading stops at the first token that isn't allowed, or that passes a limit.
-use Rattle.std.proofs.Common.{◌≡◌, ℕ, zero, suc, ◌≤◌, ◌⊎◌, inl, inr, Bool, true, false, List, [], ◌∷◌, ◌++◌, length, Option, Some, None, refl, sym, ap, ◌∙◌, append_assoc, arith}
-use Rattle.ir_lexer.specs.Lexeme.{Lexeme}
-use Rattle.ir_tree.specs.declared.module.Reason.{Reason}
-use Rattle.token_forms.specs.Form.{never, Form, give, one, seq, upto, peek, tail, mapped, Why, unfit, limit, Reading, reads, stops, and_then, Judged, none, past, found, judged, taken, token_of, first_of, peeked, begun, parts, read, balanced}
-use Rattle.token_forms.specs.Spelling.{Token, part_value, part_begins, Spells}
-use Rattle.token_forms.specs.Refusals.{Begins, Exceeds, ExceedParts, PassesLimit, StopsUnfit, StopsPast}
+use Rattle.token_forms.proofs.Common.{◌≡◌, ℕ, zero, suc, ◌≤◌, ◌⊎◌, inl, inr, Bool, true, false, List, [], ◌∷◌, ◌++◌, length, Option, Some, None, refl, sym, ap, ◌∙◌, append_assoc, arith, Lexeme, Reason, never, Form, give, one, seq, upto, peek, tail, mapped, Why, unfit, limit, Reading, reads, stops, and_then, Judged, none, past, found, judged, taken, token_of, first_of, peeked, begun, parts, read, balanced, Token, part_value, part_begins, Spells, Begins, Exceeds, ExceedParts, PassesLimit, StopsUnfit, StopsPast, Syntax}
 use Rattle.token_forms.proofs.Laws.{Ends}
 use Rattle.token_forms.proofs.Lawful.{read_lawful}
 use Rattle.token_forms.proofs.Exact.{read-found, read-again, shorter, token-found, token-again, peek-first, peek-other, judged-stands, stands-judged, begun-begins, judged-nothing}
 use Rattle.token_forms.proofs.Balanced.{closed-halts}
-use Rattle.ir_tree.specs.declared.module.Reason.TheVariants.{Syntax}
 
 begins-by : {X : Type 0} (f : Form never X) (front : List Lexeme) → Ends never (λ ts. read false f ts) front → Begins f front
 begins-by f front E = (E.more ++ [], E.value, read-found false f (front ++ (E.more ++ [])) E.value [] (E.whole [] refl))

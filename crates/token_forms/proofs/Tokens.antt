@@ -1,10 +1,5 @@
 -- What holds of reading no token, or one.
-use Rattle.std.proofs.Common.{◌≡◌, Bool, true, false, cond, List, [], ◌∷◌, Option, Some, None, refl, sym, ap}
-use Rattle.std.specs.Prelude.{◌||◌, not}
-use Rattle.ir_lexer.specs.Lexeme.{Lexeme}
-use Rattle.ir_tree.specs.declared.module.Reason.{Reason}
-use Rattle.ir_tree.specs.declared.module.Reason.TheVariants.{Syntax}
-use Rattle.token_forms.specs.Form.{Class, never, Why, unfit, limit, Reading, reads, stops, Judged, none, past, found, judged, taken, one_of}
+use Rattle.token_forms.proofs.Common.{◌≡◌, Bool, true, false, cond, List, [], ◌∷◌, Option, Some, None, refl, sym, ap, ◌||◌, not, Lexeme, Reason, Syntax, Class, never, Why, unfit, limit, Reading, reads, stops, Judged, none, past, found, judged, taken, one_of}
 use Rattle.token_forms.proofs.Laws.{Whole, Ends, Halts, Lawful}
 
 abbrev Tokens : Type 0

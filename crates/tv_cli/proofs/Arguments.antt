@@ -1,19 +1,6 @@
 -- The arguments of the commands, as `clap` has them.
-use Rattle.std.proofs.Common.{◌≡◌, ◌||◌, ◌+◌, ℕ, min, Bool, true, false, true≢false, refl, sym, ap, subst, List, [], ◌∷◌, Option, Some, None, codes}
-use Rattle.std.specs.List.{list_any}
-use Rattle.std.specs.Str.{bytes_eq}
-use Rattle.std.proofs.lemmas.Slice.Eq.{bytes_eq-Decides}
-use Rattle.clap.specs.Lexer.{usize_max}
-use Rattle.clap.specs.Words.{Row, Rule}
-use Rattle.clap.specs.Walk.{arg_by_id, arg_by_index, arg_by_long, arg_by_short, is_append, action_of, most_values, takes_several, takes_values, used, with_values, without}
-use Rattle.clap.specs.Kinds.{or_else}
-use Rattle.clap.specs.Faults.{repeat_fault, use_fault}
-use Rattle.clap.specs.Simple.{Shape, built, built_leaf, filled, inherited, marked_built, on_top, with_index, with_leaf_noted}
-use Rattle.clap.specs.declared.parser.matches.ValueSource.TheVariants.{CommandLine}
-use Rattle.clap.specs.declared.builder.value_parser.Reading.TheVariants.{AsWritten}
+use Rattle.tv_cli.proofs.Common.{◌≡◌, ◌||◌, ◌+◌, ℕ, min, Bool, true, false, true≢false, refl, sym, ap, subst, List, [], ◌∷◌, Option, Some, None, codes, list_any, bytes_eq, bytes_eq-Decides, usize_max, Row, Rule, arg_by_id, arg_by_index, arg_by_long, arg_by_short, is_append, action_of, most_values, takes_several, takes_values, used, with_values, without, or_else, repeat_fault, use_fault, Shape, built, built_leaf, filled, inherited, marked_built, on_top, with_index, with_leaf_noted, CommandLine, AsWritten, Text, check_options, is_option, make_options, check_app, log_app, make_app, name_rule, option_rule, tv_app}
 use Rattle.clap.specs.declared.error.kind.ErrorKind.TheVariants as kind
-use Rattle.tv_cli.specs.Words.{Text, check_options, is_option, make_options}
-use Rattle.tv_cli.specs.Walked.{check_app, log_app, make_app, name_rule, option_rule, tv_app}
 use Rattle.tv_cli.proofs.Uses.{or_false}
 
 -- an argument that takes one value, once

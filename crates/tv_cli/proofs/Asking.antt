@@ -1,14 +1,5 @@
 -- The uses of the parts of a command ask for what its parts ask for.
-use Rattle.std.proofs.Common.{◌≡◌, ◌++◌, ◌&&◌, Bool, true, false, true≢false, cond, refl, sym, ap, subst, ◌∙◌, List, [], ◌∷◌, Option, Some, None, append_assoc}
-use Rattle.std.specs.Str.{bytes_eq}
-use Rattle.std.proofs.lemmas.Slice.Eq.{bytes_eq-Decides}
-use Rattle.clap.specs.Words.{Row}
-use Rattle.clap.specs.Kinds.{or_else}
-use Rattle.clap.specs.Faults.{check_fault}
-use Rattle.clap.specs.Simple.{Shape}
-use Rattle.tv_cli.specs.Words.{Text, Part, are_known, is_option, names_in, values_in}
-use Rattle.tv_cli.specs.Words.Part.{option, name}
-use Rattle.tv_cli.specs.Walked.{unless_fault}
+use Rattle.tv_cli.proofs.Common.{◌≡◌, ◌++◌, ◌&&◌, Bool, true, false, true≢false, cond, refl, sym, ap, subst, ◌∙◌, List, [], ◌∷◌, Option, Some, None, append_assoc, bytes_eq, bytes_eq-Decides, Row, or_else, check_fault, Shape, Text, Part, are_known, is_option, names_in, values_in, option, name, unless_fault}
 use Rattle.tv_cli.proofs.Given.{other_text}
 use Rattle.tv_cli.proofs.Uses.{Use, has, rows_of_uses, taken}
 use Rattle.tv_cli.proofs.Arguments.{Each}

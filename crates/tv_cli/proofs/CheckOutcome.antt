@@ -1,10 +1,5 @@
 -- What the uses of a walk of `check` ask for.
-use Rattle.std.proofs.Common.{◌≡◌, ◌++◌, ◌||◌, true, false, not, cond, refl, ap, ap₂, ◌∙◌, List, [], ◌∷◌, Option, Some, None, codes}
-use Rattle.std.specs.Str.{bytes_eq}
-use Rattle.clap.specs.Kinds.{check_kinds, or_else}
-use Rattle.clap.specs.Faults.{check_fault}
-use Rattle.tv_cli.specs.Words.{Text, Part, Check, are_known, check_in_parts, check_named, check_options, check_with, is_option, names_in, number_once, text_once, values_in, workers_range}
-use Rattle.tv_cli.specs.Walked.{check_in_rows, check_of_names, unless_fault}
+use Rattle.tv_cli.proofs.Common.{◌≡◌, ◌++◌, ◌||◌, true, false, not, cond, refl, ap, ap₂, ◌∙◌, List, [], ◌∷◌, Option, Some, None, codes, bytes_eq, check_kinds, or_else, check_fault, Text, Part, Check, are_known, check_in_parts, check_named, check_options, check_with, is_option, names_in, number_once, text_once, values_in, workers_range, check_in_rows, check_of_names, unless_fault}
 use Rattle.tv_cli.proofs.Given.{no_bounds, no_budget, no_workers, no_proof}
 use Rattle.tv_cli.proofs.Uses.{Use, rows_of_uses, taken}
 use Rattle.tv_cli.proofs.Arguments.{Each, check_names, check_shape, each}

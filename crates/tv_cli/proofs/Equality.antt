@@ -1,20 +1,5 @@
 -- What a walk of `clap` comes to is the job that the words are.
-use Rattle.std.proofs.Common.{◌≡◌, Bool, true, false, cond, refl, sym, ap, ap₂, subst, ◌∙◌, List, [], ◌∷◌, ◌++◌, map, Option, Some, None, option_map, codes, fold, inl, inr, ◌⊎◌, is_some, String, string_bytes, IsUtf8}
-use Rattle.std.specs.Prelude.{option_and_then}
-use Rattle.std.specs.Str.{bytes_eq}
-use Rattle.std.proofs.lemmas.Str.{IsUtf8-string_bytes}
-use Rattle.clap.specs.Words.{Row, Rule, Kinds, fault_of, first_of, subcommand_of}
-use Rattle.clap.specs.Walk.{Held, Names, Walk, finished, has_row, nothing_held, rows_after, settled, walk, walk_from, walked, with_default}
-use Rattle.clap.specs.Kinds.{or_else}
-use Rattle.clap.specs.Faults.{check_fault, defaults_fault, default_fault, entered_fault, flags_fault, level_fault, settle_fault, turn_fault, walk_fault}
-use Rattle.clap.specs.Simple.{App, Shape, built, entered}
-use Rattle.clap.proofs.WalkLemmas.{walk_stopped}
-use Rattle.clap.proofs.OnLiterals.{clap_on_literals}
-use Rattle.tv_cli.specs.Words.{Text, Kind, Part, Job, check_in_parts, check_options, file_in_parts, is_option, job_of, kind_of, make_in_parts, make_options, parts_of}
-use Rattle.tv_cli.specs.Words.Job.{check, log, make}
-use Rattle.tv_cli.specs.Words.Kind.{end, attached, separate, dashed, plain}
-use Rattle.tv_cli.specs.Words.Part.{option, name}
-use Rattle.tv_cli.specs.Walked.{check_in_rows, job_in_rows, job_walked, make_in_rows, tv_app, unless_fault}
+use Rattle.tv_cli.proofs.Common.{◌≡◌, Bool, true, false, cond, refl, sym, ap, ap₂, subst, ◌∙◌, List, [], ◌∷◌, ◌++◌, map, Option, Some, None, option_map, codes, fold, inl, inr, ◌⊎◌, is_some, String, string_bytes, IsUtf8, option_and_then, bytes_eq, IsUtf8-string_bytes, Row, Rule, Kinds, fault_of, first_of, subcommand_of, Held, Names, Walk, finished, has_row, nothing_held, rows_after, settled, walk, walk_from, walked, with_default, or_else, check_fault, defaults_fault, default_fault, entered_fault, flags_fault, level_fault, settle_fault, turn_fault, walk_fault, App, Shape, built, entered, walk_stopped, clap_on_literals, Text, Kind, Part, Job, check_in_parts, check_options, file_in_parts, is_option, job_of, kind_of, make_in_parts, make_options, parts_of, check, log, make, end, attached, separate, dashed, plain, option, name, check_in_rows, job_in_rows, job_walked, make_in_rows, tv_app, unless_fault}
 use Rattle.tv_cli.proofs.Uses.{Use, after, rows_of_uses}
 use Rattle.tv_cli.proofs.WordKinds.{Met, ends_options, met}
 use Rattle.tv_cli.proofs.Arguments.{IsCommand, NamesFrom, check_names, check_shape, is_check, is_log, is_make, is_no_option, log_names, log_shape, make_shape, names_of_check, names_of_log, names_of_make}

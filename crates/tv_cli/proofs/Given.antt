@@ -1,13 +1,5 @@
 -- A `check` or a `make` of which a part is missing is none; what `log` asks for.
-use Rattle.std.proofs.lemmas.Slice.Eq.{bytes_eq-Decides}
-use Rattle.std.proofs.Common.{◌≡◌, ℕ, Bool, true, false, List, Option, Some, None, option_map, codes, refl, sym}
-use Rattle.std.specs.Str.{bytes_eq}
-use Rattle.clap.specs.Words.{Row, first_of}
-use Rattle.points.specs.declared.point.Bounds.{Bounds}
-use Rattle.points.specs.declared.point.Budget.{Budget}
-use Rattle.tv_cli.specs.Words.{Text, check_with, make_with}
-use Rattle.tv_cli.specs.Words.Job.{log}
-use Rattle.tv_cli.specs.Walked.{check_of_names, job_in_rows}
+use Rattle.tv_cli.proofs.Common.{bytes_eq-Decides, ◌≡◌, ℕ, Bool, true, false, List, Option, Some, None, option_map, codes, refl, sym, bytes_eq, Row, first_of, Bounds, Budget, Text, check_with, make_with, log, check_of_names, job_in_rows}
 
 pub no_target : (source target : Option Text) (rows : List Row) → target ≡ None
     → check_of_names source target rows ≡ None

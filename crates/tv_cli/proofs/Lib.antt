@@ -1,3 +1,4 @@
+pub mod Common
 pub mod Numerals
 pub mod Given
 pub mod Walking

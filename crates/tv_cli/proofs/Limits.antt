@@ -1,9 +1,5 @@
 -- The bounds and the budget of a job, by the values of its options.
-use Rattle.std.proofs.Common.{◌≡◌, ℕ, refl, List, [], Option, Some, None, codes}
-use Rattle.points.specs.declared.point.Bounds.{Bounds}
-use Rattle.points.specs.declared.point.Budget.{Budget}
-use Rattle.tv_cli.specs.Words.{Text, bounds_with, budget_with, number_once, turns_range, blocks_range, bytes_range, rounds_range, conflicts_range, weight_range}
-use Rattle.tv_cli.specs.Walked.{bounds_in_rows, budget_in_rows}
+use Rattle.tv_cli.proofs.Common.{◌≡◌, ℕ, refl, List, [], Option, Some, None, codes, Bounds, Budget, Text, bounds_with, budget_with, number_once, turns_range, blocks_range, bytes_range, rounds_range, conflicts_range, weight_range, bounds_in_rows, budget_in_rows}
 use Rattle.tv_cli.proofs.Uses.{Use, rows_of_uses}
 use Rattle.tv_cli.proofs.Values.{AreOnce, IsTwice, all_values, number-uses, number_once-twice}
 

@@ -1,7 +1,5 @@
 -- What the uses of a walk of `make` ask for.
-use Rattle.std.proofs.Common.{◌≡◌, ◌++◌, true, cond, refl, ap, ◌∙◌, List, [], ◌∷◌, Option, Some, None, codes}
-use Rattle.tv_cli.specs.Words.{Text, Part, Make, are_known, is_option, make_in_parts, make_named, make_options, make_with, names_in, number_once, values_in, workers_range, seed_range, functions_range, insts_range}
-use Rattle.tv_cli.specs.Walked.{make_in_rows}
+use Rattle.tv_cli.proofs.Common.{◌≡◌, ◌++◌, true, cond, refl, ap, ◌∙◌, List, [], ◌∷◌, Option, Some, None, codes, Text, Part, Make, are_known, is_option, make_in_parts, make_named, make_options, make_with, names_in, number_once, values_in, workers_range, seed_range, functions_range, insts_range, make_in_rows}
 use Rattle.tv_cli.proofs.Given.{no_seed, no_functions, no_insts, no_made_bounds, no_made_budget, no_made_workers}
 use Rattle.tv_cli.proofs.Uses.{Use, taken}
 use Rattle.tv_cli.proofs.Arguments.{each, make_shape}

@@ -1,12 +1,5 @@
 -- A number as a text.
-use Rattle.std.proofs.Common.{◌≡◌, ◌≤◌, ◌&&◌, ℕ, Bool, true, false, true≢false, refl, sym, List, [], ◌∷◌, length, Some, None, nat_lt, nat_le, lt-ltb, ltb-true}
-use Rattle.std.proofs.lemmas.Bool.{leb-true}
-use Rattle.std.proofs.Math.Bool.{and-false}
-use Rattle.std.specs.List.{list_all}
-use Rattle.std.specs.Char.{digit_value}
-use Rattle.std.specs.Str.Parse.{AllDigits, IsNumeral, digits_value, without_leading_plus}
-use Rattle.tv_cli.specs.declared.number.Range.{Range}
-use Rattle.tv_cli.specs.Words.{number_within}
+use Rattle.tv_cli.proofs.Common.{◌≡◌, ◌≤◌, ◌&&◌, ℕ, Bool, true, false, true≢false, refl, sym, List, [], ◌∷◌, length, Some, None, nat_lt, nat_le, lt-ltb, ltb-true, leb-true, and-false, list_all, digit_value, AllDigits, IsNumeral, digits_value, without_leading_plus, Range, number_within}
 
 digits_pass : (ds : List ℕ) → AllDigits 10 ds → list_all (λ d. nat_lt (digit_value d) 10) ds ≡ true
 digits_pass [] h = refl

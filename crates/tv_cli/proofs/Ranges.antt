@@ -1,16 +1,6 @@
 -- The bounds and the budget of a job are in their ranges.
-use Rattle.std.proofs.Common.{◌≡◌, ◌≤◌, ◌&&◌, ℕ, Bool, true, false, true≢false, cond, refl, sym, ap, subst, arith, List, [], ◌∷◌, length, Option, Some, None, option_map, is_some, ◌∙◌, codes, nat_lt, nat_le}
-use Rattle.std.proofs.lemmas.Bool.{leb-true}
-use Rattle.std.specs.List.{list_all}
-use Rattle.std.specs.Char.{digit_value}
-use Rattle.std.specs.Str.{bytes_eq}
-use Rattle.std.specs.Str.Parse.{digits_value, without_leading_plus}
-use Rattle.points.specs.declared.point.Bounds.{Bounds}
-use Rattle.points.specs.declared.point.Budget.{Budget}
+use Rattle.tv_cli.proofs.Common.{◌≡◌, ◌≤◌, ◌&&◌, ℕ, Bool, true, false, true≢false, cond, refl, sym, ap, subst, arith, List, [], ◌∷◌, length, Option, Some, None, option_map, is_some, ◌∙◌, codes, nat_lt, nat_le, leb-true, list_all, digit_value, bytes_eq, digits_value, without_leading_plus, Bounds, Budget, Range, check, log, make, Text, Part, Check, Make, Job, number_within, number_once, values_in, bounds_with, budget_with, check_with, check_named, check_in_parts, check_options, file_in_parts, job_of, make_in_parts, names_in, are_known, parts_of, turns_range, blocks_range, bytes_range, rounds_range, conflicts_range, weight_range}
 use Rattle.points.specs.Range.{AreInRange}
-use Rattle.tv_cli.specs.declared.number.Range.{Range}
-use Rattle.tv_cli.specs.Words.Job.{check, log, make}
-use Rattle.tv_cli.specs.Words.{Text, Part, Check, Make, Job, number_within, number_once, values_in, bounds_with, budget_with, check_with, check_named, check_in_parts, check_options, file_in_parts, job_of, make_in_parts, names_in, are_known, parts_of, turns_range, blocks_range, bytes_range, rounds_range, conflicts_range, weight_range}
 
 pub none≢some : {X : Type 0} (x : X) → None ≡ Some x → ⊥
 none≢some x e = true≢false (sym (ap (λ o. is_some o) e))

@@ -1,16 +1,7 @@
 -- One word of a walk of `clap` over the words of a command.
-use Rattle.std.proofs.Common.{◌≡◌, ◌&&◌, ◌++◌, ◌+◌, ℕ, Bool, true, false, cond, refl, sym, ap, subst, ◌∙◌, min, List, [], ◌∷◌, Option, Some, None, fold}
-use Rattle.std.proofs.Math.Bool.{and-false}
-use Rattle.std.specs.Str.{bytes_eq}
-use Rattle.std.proofs.lemmas.Slice.Eq.{bytes_eq-Decides}
-use Rattle.clap.specs.Words.{Row, Kinds}
-use Rattle.clap.specs.Lexer.{usize_max}
-use Rattle.clap.specs.Walk.{Waiting, Walk, arg_by_index, idle, is_pending, option, settled, used, walked}
-use Rattle.clap.specs.Kinds.{or_else}
-use Rattle.clap.specs.Faults.{flags_fault, settle_fault, turn_fault, use_fault, walk_fault}
-use Rattle.clap.specs.Simple.{Shape}
+use Rattle.tv_cli.proofs.Common.{◌≡◌, ◌&&◌, ◌++◌, ◌+◌, ℕ, Bool, true, false, cond, refl, sym, ap, subst, ◌∙◌, min, List, [], ◌∷◌, Option, Some, None, fold, and-false, bytes_eq, bytes_eq-Decides, Row, Kinds, usize_max, Waiting, Walk, arg_by_index, idle, is_pending, settled, used, walked, or_else, flags_fault, settle_fault, turn_fault, use_fault, walk_fault, Shape, Text}
+use Rattle.clap.specs.Walk.{option}
 use Rattle.clap.specs.declared.error.kind.ErrorKind.TheVariants as kind
-use Rattle.tv_cli.specs.Words.{Text}
 use Rattle.tv_cli.proofs.Uses.{Use, has, has_row-uses, held_with, noted, pending_use, rows_of_uses, settle, used-first}
 use Rattle.tv_cli.proofs.WordKinds.{IsPlain, IsDashed, IsLong, ends_options}
 use Rattle.tv_cli.proofs.Arguments.{IsCommand, OptionOf, RuleOf}

@@ -1,12 +1,6 @@
 -- What is used by the words of a command, one use after another, and the rows that hold it.
-use Rattle.std.proofs.Common.{◌≡◌, ◌||◌, ◌++◌, Bool, true, false, true≢false, refl, sym, ap, ◌∙◌, List, [], ◌∷◌, map, Option, Some, None, if◌then◌else◌}
-use Rattle.std.specs.List.{list_any}
-use Rattle.std.specs.Str.{bytes_eq}
-use Rattle.clap.specs.Walk.{Held, Row, at_row, has_row, with_values, without, more_values}
-use Rattle.clap.specs.declared.parser.matches.ValueSource.TheVariants.{CommandLine}
-use Rattle.clap.specs.declared.builder.value_parser.Reading.TheVariants.{AsWritten}
-use Rattle.tv_cli.specs.Words.{Text, Part}
-use Rattle.tv_cli.specs.Words.Part.{option, name}
+use Rattle.tv_cli.proofs.Common.{◌≡◌, ◌||◌, ◌++◌, Bool, true, false, true≢false, refl, sym, ap, ◌∙◌, List, [], ◌∷◌, map, Option, Some, None, if◌then◌else◌, list_any, bytes_eq, Held, at_row, has_row, with_values, without, more_values, CommandLine, AsWritten, Text, Part, option, name}
+use Rattle.clap.specs.Walk.{Row}
 
 -- an argument's name with its value
 abbrev pub Use : Type 0

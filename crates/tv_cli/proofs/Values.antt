@@ -1,13 +1,6 @@
 -- The values that uses give an argument, in order.
-use Rattle.std.proofs.Common.{◌≡◌, ◌++◌, ◌||◌, Bool, true, false, true≢false, cond, refl, sym, ap, subst, ◌∙◌, List, [], ◌∷◌, Option, Some, None, append_assoc, append-nil}
-use Rattle.std.specs.Str.{bytes_eq}
-use Rattle.std.proofs.lemmas.Slice.Eq.{bytes_eq-Decides}
-use Rattle.clap.specs.Words.{first_of}
+use Rattle.tv_cli.proofs.Common.{◌≡◌, ◌++◌, ◌||◌, Bool, true, false, true≢false, cond, refl, sym, ap, subst, ◌∙◌, List, [], ◌∷◌, Option, Some, None, append_assoc, append-nil, bytes_eq, bytes_eq-Decides, first_of, Range, Text, Part, number_once, text_once, values_in, option, number_or_usual}
 use Rattle.clap.specs.Takes.{is_given}
-use Rattle.tv_cli.specs.declared.number.Range.{Range}
-use Rattle.tv_cli.specs.Words.{Text, Part, number_once, text_once, values_in}
-use Rattle.tv_cli.specs.Words.Part.{option}
-use Rattle.tv_cli.specs.Walked.{number_or_usual}
 use Rattle.tv_cli.proofs.Uses.{Use, has, rows_of_uses}
 use Rattle.tv_cli.proofs.Arguments.{same}
 

@@ -1,16 +1,11 @@
 -- What the matches of the command line say of the job.
-use Rattle.std.proofs.Common.{◌≡◌, ◌≢◌, true, List, [], ◌∷◌, Option, None, Some, option_map, refl, sym, ap, ap₂, ◌∙◌, subst, inl, inr}
-use Rattle.clap.specs.Words.{Row, HasKind, Kinds, fault_of, is_simple, is_simple_and_free, kind_of, subcommand_of}
+use Rattle.tv_cli.proofs.Common.{◌≡◌, ◌≢◌, true, List, [], ◌∷◌, Option, None, Some, option_map, refl, sym, ap, ap₂, ◌∙◌, subst, inl, inr, Row, HasKind, Kinds, fault_of, is_simple, is_simple_and_free, subcommand_of, clap_on_literals, subcommand_rows, Box, option_and_then, Text, job_in_rows, job_walked, tv_app, unless_fault}
+use Rattle.clap.specs.Words.{kind_of}
 use Rattle.clap.specs.declared.Error.{Error}
 use Rattle.clap.specs.declared.error.ErrorKind.TheVariants as kind
-use Rattle.clap.proofs.OnLiterals.{clap_on_literals}
-use Rattle.clap.specs.Simple.{subcommand_rows}
 use Rattle.clap.specs.declared.parser.matches.ArgMatches.TheViews.{out-SubCommand}
 use Rattle.clap.specs.declared.parser.matches.SubCommand.{SubCommand}
-use Rattle.std.specs.Prelude.{Box, option_and_then}
 use Rattle.std.specs.Box.{box_value}
-use Rattle.tv_cli.specs.Words.{Text}
-use Rattle.tv_cli.specs.Walked.{job_in_rows, job_walked, tv_app, unless_fault}
 use Rattle.tv_cli.proofs.Ranges.{none≢some, some_is}
 
 pub tv_is_simple : is_simple_and_free tv_app ≡ true

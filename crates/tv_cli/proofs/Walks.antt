@@ -1,14 +1,6 @@
 -- A walk of `clap` over the words of a command uses what their parts are, in order, or ends in a fault.
-use Rattle.std.proofs.Common.{◌≡◌, ◌++◌, ℕ, Bool, true, false, cond, refl, sym, ap, subst, ◌∙◌, List, [], ◌∷◌, map, Option, Some, None, IsUtf8}
-use Rattle.clap.specs.Words.{Kinds}
-use Rattle.clap.specs.Walk.{Waiting, Walk, idle, settled, used, walked}
+use Rattle.tv_cli.proofs.Common.{◌≡◌, ◌++◌, ℕ, Bool, true, false, cond, refl, sym, ap, subst, ◌∙◌, List, [], ◌∷◌, map, Option, Some, None, IsUtf8, Kinds, Waiting, Walk, idle, settled, used, walked, or_else, settle_fault, turn_fault, use_fault, walk_fault, Shape, Text, Kind, Part, kind_of, parts_from, parts_of, value_from, with_part, end, attached, separate, dashed, plain, option, name}
 use Rattle.clap.specs.Walk.{option as option_waits}
-use Rattle.clap.specs.Kinds.{or_else}
-use Rattle.clap.specs.Faults.{settle_fault, turn_fault, use_fault, walk_fault}
-use Rattle.clap.specs.Simple.{Shape}
-use Rattle.tv_cli.specs.Words.{Text, Kind, Part, kind_of, parts_from, parts_of, value_from, with_part}
-use Rattle.tv_cli.specs.Words.Kind.{end, attached, separate, dashed, plain}
-use Rattle.tv_cli.specs.Words.Part.{option, name}
 use Rattle.tv_cli.proofs.Uses.{Use, has, held_with, noted, rows_of_uses, settle, taken, after}
 use Rattle.tv_cli.proofs.WordKinds.{IsLong, IsPlain, Met, met}
 use Rattle.tv_cli.proofs.Arguments.{IsCommand, NamesFrom, OptionOf, RuleOf, next_position}

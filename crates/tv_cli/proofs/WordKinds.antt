@@ -1,17 +1,7 @@
 -- What `clap` sees in a word, by its kind.
-use Rattle.std.proofs.Common.{◌≡◌, ◌==◌, ℕ, Bool, true, false, refl, sym, ap, subst, ◌∙◌, arith, List, [], ◌∷◌, length, take, Option, Some, None, slice_get, IsUtf8, encode_utf8_all}
-use Rattle.std.proofs.lemmas.Bool.{eqb-true}
-use Rattle.std.specs.List.{list_any}
-use Rattle.std.specs.Char.{encode_utf8}
-use Rattle.std.specs.List.{position_or_len, before_first}
+use Rattle.tv_cli.proofs.Common.{◌≡◌, ◌==◌, ℕ, Bool, true, false, refl, sym, ap, subst, ◌∙◌, arith, List, [], ◌∷◌, length, take, Option, Some, None, slice_get, IsUtf8, encode_utf8_all, eqb-true, list_any, encode_utf8, position_or_len, before_first, bytes_eq, chars, chars_after, continuation_len, lead_bits, and-false, encodes-chars, long_of, short_of, Text, Kind, kind_of, kind_behind, is_equals, end, attached, separate, dashed, plain}
 use Rattle.tv_cli.proofs.Uses.{or_false}
-use Rattle.std.specs.Str.{bytes_eq, chars, chars_after, continuation_len, lead_bits}
-use Rattle.std.proofs.Math.Bool.{and-false}
 use Rattle.std.proofs.Math.Seq.{take-length}
-use Rattle.std.proofs.lemmas.Str.{encodes-chars}
-use Rattle.clap.specs.Lexer.{long_of, short_of}
-use Rattle.tv_cli.specs.Words.{Text, Kind, kind_of, kind_behind, is_equals}
-use Rattle.tv_cli.specs.Words.Kind.{end, attached, separate, dashed, plain}
 
 abbrev pub ends_options : Text → Bool
 ends_options word = bytes_eq word (45 ∷ 45 ∷ [])

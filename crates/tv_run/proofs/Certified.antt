@@ -1,33 +1,11 @@
 -- The parts of a report's proof file: their names are printed, their logs refute their clauses, and each decided row has one.
-use Rattle.std.proofs.Common.{◌≡◌, ℕ, All, List, [], ◌∷◌, ◌++◌, map, Bool, true, false, Option, Some, None, Result, refl, sym, ap, subst, if◌then◌else◌, is_some}
-use Rattle.std.specs.List.{AllByRecursion, cons_option, filter_map}
-use Rattle.std.proofs.lemmas.List.Elements.{All-append, All-cons, All-nil}
+use Rattle.tv_run.proofs.Common.{◌≡◌, ℕ, All, List, [], ◌∷◌, ◌++◌, map, Bool, true, false, Option, Some, None, Result, refl, sym, ap, subst, if◌then◌else◌, is_some, AllByRecursion, cons_option, filter_map, All-append, All-cons, All-nil, Name, Function, Refused, Entry, Module, Bounds, Budget, Verdict, Functions, Judged, Finding, Row, name_text, AreRows, AreSourceRows, extra_row, extra_rows, function_named, Part, part_of, IsCertified, IsReadName, certified, decided, left_after, parts_of, row_parts, AreAnswers, verdicts_answered, verdicts_in, verdicts_of, entry_names, part_heading, row_heading}
 use Rattle.clause_log.specs.declared.step.Cert.{Cert}
-use Rattle.ir_tree.specs.declared.name.Name.{Name}
-use Rattle.ir_tree.specs.declared.tree.Function.{Function}
-use Rattle.ir_tree.specs.declared.module.Refused.{Refused}
-use Rattle.ir_tree.specs.declared.module.Entry.{Entry}
-use Rattle.ir_tree.specs.declared.module.Module.{Module}
-use Rattle.points.specs.declared.point.Bounds.{Bounds}
-use Rattle.points.specs.declared.point.Budget.{Budget}
 use Rattle.verdicts.specs.declared.verdict.Kept.{Kept}
-use Rattle.verdicts.specs.declared.verdict.Verdict.{Verdict}
 use Rattle.verdicts.specs.declared.verdict.Verdict.TheVariants as verdict
-use Rattle.verdicts.specs.Pair.{Functions}
 use Rattle.pair_questions.specs.Questions.{IsRefuted}
 use Rattle.instantiate.specs.Settling.{IsJudged, Shown}
-use Rattle.pair_driver.specs.declared.judged.Judged.{Judged}
-use Rattle.report.specs.declared.row.Finding.{Finding}
 use Rattle.report.specs.declared.row.Finding.TheVariants as finding
-use Rattle.report.specs.declared.row.Row.{Row}
-use Rattle.ir_naming.specs.Naming.{name_text}
-use Rattle.report.specs.Rows.{AreRows, AreSourceRows, extra_row, extra_rows, function_named}
-use Rattle.proof_text.specs.declared.part.Part.{Part}
-use Rattle.proof_text.specs.Format.{part_of}
-use Rattle.proof_files.specs.Parts.{IsCertified, IsReadName, certified, decided, left_after, parts_of, row_parts}
-use Rattle.module_rows.specs.Judging.{AreAnswers, verdicts_answered, verdicts_in, verdicts_of}
-use Rattle.module_rows.specs.Searching.{entry_names}
-use Rattle.tv_run.specs.Reports.{part_heading, row_heading}
 
 -- ---- names
 

@@ -1,15 +1,6 @@
 -- The modules and the faults of files, and which files change.
-use Rattle.std.proofs.Common.{◌≡◌, ◌⊎◌, ℕ, List, Option, Some, None, refl, sym, subst, ◌∙◌}
-use Rattle.tv_io.specs.Files.{Files, SameElsewhere, SameFiles}
-use Rattle.tv_cli.specs.Words.{Job, Text}
-use Rattle.tv_cli.specs.Words.Job.{check, log, make}
-use Rattle.tv_run.specs.Jobs.{FileChanges, ProofChanges}
-use Rattle.ir_tree.specs.declared.module.Module.{Module}
-use Rattle.ir_reader.specs.declared.fault.ModuleFault.{ModuleFault}
+use Rattle.tv_run.proofs.Common.{◌≡◌, ◌⊎◌, ℕ, List, Option, Some, None, refl, sym, subst, ◌∙◌, Files, SameElsewhere, SameFiles, Job, Text, check, log, make, FileChanges, ProofChanges, Module, ModuleFault, OneModule, ModuleOrFault, OneFault, IsModule, IsFault, HasModule, HasFault}
 use Rattle.ir_reader.specs.declared.fault.ModuleFault.TheVariants.{NoMemory}
-use Rattle.ir_reader.specs.Laws.{OneModule, ModuleOrFault, OneFault}
-use Rattle.ir_reader.specs.Module.{IsModule, IsFault}
-use Rattle.tv_run.specs.Files.{HasModule, HasFault}
 
 some_text : (a b : List ℕ) → Some a ≡ Some b → a ≡ b
 some_text a b e = cc e

@@ -1,21 +1,7 @@
 -- A run over files in memory.
-use Rattle.std.proofs.Common.{◌≡◌, ◌≢◌, ◌⊎◌, ◌≤◌, ◌<◌, ℕ, arith, true, List, [], Option, Some, None, is_none, sym, ap, subst, ◌∙◌, inl, inr}
-use Rattle.tv_io.specs.Files.{Files}
-use Rattle.tv_io.specs.MemoryShelf.{fails_absent}
-use Rattle.tv_io.specs.State.{ShelfState, SinkState}
-use Rattle.tv_io.specs.Taken.{IsWritten, then_taken}
-use Rattle.ir_tree.specs.declared.module.Module.{Module}
-use Rattle.pair_driver.specs.declared.judged.Judged.{Judged}
+use Rattle.tv_run.proofs.Common.{◌≡◌, ◌≢◌, ◌⊎◌, ◌≤◌, ◌<◌, ℕ, arith, true, List, [], Option, Some, None, is_none, sym, ap, subst, ◌∙◌, inl, inr, Files, fails_absent, ShelfState, SinkState, IsWritten, then_taken, Module, Judged, Stop, Check, Job, AreModules, FitsIn, HasModule, WhereChecked, IsTheDefinedReport, IsUnfinished, PartlyWritten, WritesDefinedReport, MeansRefinement, SaysRefinement, HasCause, IsNotPut, Refuses, RefusesJob, stop_status}
 use Rattle.tv_run.specs.declared.stop.Trouble.TheVariants as trouble
-use Rattle.tv_run.specs.declared.stop.Stop.{Stop}
 use Rattle.tv_run.specs.declared.stop.Stop.TheVariants as stop
-use Rattle.tv_cli.specs.Words.{Check, Job}
-use Rattle.tv_run.specs.Answers.{AreModules, FitsIn}
-use Rattle.tv_run.specs.Files.{HasModule}
-use Rattle.tv_run.specs.Jobs.{WhereChecked}
-use Rattle.tv_run.specs.Reports.{IsTheDefinedReport, IsUnfinished, PartlyWritten, WritesDefinedReport}
-use Rattle.tv_run.specs.Sound.{MeansRefinement, SaysRefinement}
-use Rattle.tv_run.specs.Stops.{HasCause, IsNotPut, Refuses, RefusesJob, stop_status}
 
 -- a file that is a module is not absent
 not_absent : (files : Files) (name : List ℕ) (m : Module) → HasModule (files name) m → fails_absent files name ≡ true → ⊥

@@ -1,3 +1,4 @@
+pub mod Common
 pub mod Soundness
 pub mod Files
 pub mod Stopping

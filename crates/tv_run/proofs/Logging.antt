@@ -1,22 +1,11 @@
 -- What the check of a proof file writes, and that a proof file is checked.
-use Rattle.std.specs.Global.{Vec}
-use Rattle.std.proofs.Common.{◌≡◌, ◌≤◌, ◌⊎◌, ℕ, arith, List, length, Option, Some, refl, sym, ap, subst, ◌∙◌, inl, inr}
-use Rattle.tv_io.specs.Count.{Rose}
-use Rattle.tv_io.specs.Files.{Files}
-use Rattle.tv_io.specs.State.{ShelfState, SinkState}
-use Rattle.proof_text.specs.declared.part.Part.{Part}
-use Rattle.proof_text.specs.Format.{IsProof}
+use Rattle.tv_run.proofs.Common.{Vec, ◌≡◌, ◌≤◌, ◌⊎◌, ℕ, arith, List, length, Option, Some, refl, sym, ap, subst, ◌∙◌, inl, inr, Rose, Files, ShelfState, SinkState, Part, IsProof, Text, log, AreParts, CountsLog, IsLogStop, IsNoProof, IsSent, LoadsProof, HasParts, WhereKnown, HasLogTrouble, log_trouble_status}
 use Rattle.proof_files.specs.Checks.{AreChecked}
-use Rattle.tv_cli.specs.Words.{Text}
-use Rattle.tv_cli.specs.Words.Job.{log}
 use Rattle.tv_run.specs.declared.stop.LogTrouble.{LogTrouble}
 use Rattle.tv_run.specs.declared.stop.LogTrouble.TheVariants as log_trouble
 use Rattle.tv_run.specs.declared.stop.LogStop.{LogStop}
 use Rattle.tv_run.specs.declared.stop.LogStop.TheVariants as log_stop
-use Rattle.tv_run.specs.Answers.{AreParts, CountsLog, IsLogStop, IsNoProof, IsSent, LoadsProof}
-use Rattle.tv_run.specs.Files.{HasParts, WhereKnown}
 use Rattle.tv_run.specs.Logs.{LogPartlyWritten, LogWritten, SaysVerified}
-use Rattle.tv_run.specs.Stops.{HasLogTrouble, log_trouble_status}
 use Rattle.tv_run.proofs.Files.{same_text}
 use Rattle.tv_run.proofs.OneJob.{log_is}
 

@@ -1,26 +1,15 @@
 -- Numbers among the names of a module have no leading zeros.
-use Rattle.std.proofs.Common.{◌≡◌, ◌&&◌, ◌-◌, ℕ, eqb, ltb, arith, All, List, [], ◌∷◌, ◌++◌, length, drop, take, slice_get, Some, Bool, true, false, refl, sym, subst, inl, inr}
-use Rattle.std.specs.List.{AllByRecursion, list_all}
-use Rattle.std.proofs.lemmas.Bool.{cases_Bool, eqb-false, ltb-false}
-use Rattle.std.proofs.lemmas.Bool.Decides.{nat_tests}
-use Rattle.std.proofs.lemmas.List.Elements.{All-cons, All-nil}
+use Rattle.tv_run.proofs.Common.{◌≡◌, ◌&&◌, ◌-◌, ℕ, eqb, ltb, arith, All, List, [], ◌∷◌, ◌++◌, length, drop, take, slice_get, Some, Bool, true, false, refl, sym, subst, inl, inr, AllByRecursion, list_all, cases_Bool, eqb-false, ltb-false, nat_tests, All-cons, All-nil, Name, Entry, Module, IsModule, AreEntries, IsPrintedNumber, IsReadName, entry_names}
 use Rattle.std.proofs.lemmas.Option.{same_Some}
 use Rattle.ir_lexer.specs.Bytes.{is_digit}
 use Rattle.ir_lexer.specs.Lexeme.{Lexeme}
 use Rattle.ir_lexer.specs.Spelling.{is_digits}
 use Rattle.ir_lexer.specs.declared.token.Kind.{Kind}
 use Rattle.ir_lexer.specs.declared.token.Kind.TheVariants as kind
-use Rattle.ir_tree.specs.declared.name.Name.{Name}
-use Rattle.ir_tree.specs.declared.module.Entry.{Entry}
-use Rattle.ir_tree.specs.declared.module.Module.{Module}
 use Rattle.ir_items.specs.declared.item.Define.{Define}
 use Rattle.ir_items.specs.Items.{IsCut, nothing, other, define, name_at, name_from}
 use Rattle.ir_items.specs.Names.{name_in, name_of, without_zeros}
-use Rattle.ir_reader.specs.Module.{IsModule, AreEntries}
 use Rattle.ir_naming.specs.Naming.{is_digit as is_printed_digit}
-use Rattle.proof_text.specs.Format.{IsPrintedNumber}
-use Rattle.proof_files.specs.Parts.{IsReadName}
-use Rattle.module_rows.specs.Searching.{entry_names}
 
 -- ---- digits
 

@@ -1,18 +1,8 @@
 -- Two files have one fault, or are modules.
-use Rattle.std.proofs.Common.{◌≡◌, ◌≢◌, ◌⊎◌, ℕ, List, Some, refl, sym, ap, ◌∙◌, inl, inr}
-use Rattle.tv_io.specs.Files.{Files}
-use Rattle.tv_io.specs.State.{ShelfState}
-use Rattle.ir_tree.specs.declared.module.Module.{Module}
-use Rattle.ir_reader.specs.declared.fault.ModuleFault.{ModuleFault}
+use Rattle.tv_run.proofs.Common.{◌≡◌, ◌≢◌, ◌⊎◌, ℕ, List, Some, refl, sym, ap, ◌∙◌, inl, inr, Files, ShelfState, Module, ModuleFault, ModuleOrFault, OneFault, Trouble, Check, HasModule, HasFault, HasTrouble, IsBeforeTarget, trouble_status, FaultsAreOne, ModulesHaveNoFault}
 use Rattle.ir_reader.specs.declared.fault.ModuleFault.TheVariants as fault
-use Rattle.ir_reader.specs.Laws.{ModuleOrFault, OneFault}
-use Rattle.tv_run.specs.declared.stop.Trouble.{Trouble}
 use Rattle.tv_run.specs.declared.stop.Trouble.TheVariants as trouble
 use Rattle.tv_run.specs.declared.stop.Stop.TheVariants as stop
-use Rattle.tv_cli.specs.Words.{Check}
-use Rattle.tv_run.specs.Files.{HasModule, HasFault}
-use Rattle.tv_run.specs.Stops.{HasTrouble, IsBeforeTarget, trouble_status}
-use Rattle.tv_run.specs.Laws.{FaultsAreOne, ModulesHaveNoFault}
 use Rattle.tv_run.proofs.Files.{module_or_fault, fault_one}
 
 -- the trouble that reports a fault; none reports out of memory, for which any other is taken here

@@ -1,10 +1,5 @@
 -- A command line asks for one job.
-use Rattle.std.proofs.Common.{◌≡◌, ◌∙◌, Option, Some, subst}
-use Rattle.tv_io.specs.Files.{Files}
-use Rattle.tv_cli.specs.Words.{Check, Job, Text}
-use Rattle.tv_cli.specs.Words.Job.{check, log}
-use Rattle.tv_run.specs.Files.{WhereKnown}
-use Rattle.tv_run.specs.Jobs.{WhereChecked}
+use Rattle.tv_run.proofs.Common.{◌≡◌, ◌∙◌, Option, Some, subst, Files, Check, Job, Text, check, log, WhereKnown, WhereChecked}
 
 pub check_is : (a b : Check) → Some (check a) ≡ Some (check b) → a ≡ b
 check_is a b e = cc e

@@ -1,26 +1,7 @@
 -- Without a limit on conflicts two files have one report, the defined one.
-use Rattle.std.proofs.Common.{◌≡◌, ℕ, arith, List, [], ◌∷◌, Option, Some, None, Result, Ok, Err, Bool, true, false, sym, ap, subst, ◌∙◌, inl, inr}
-use Rattle.ir_tree.specs.declared.tree.Function.{Function}
-use Rattle.ir_tree.specs.declared.module.Refused.{Refused}
-use Rattle.ir_tree.specs.declared.module.Entry.{Entry}
-use Rattle.ir_tree.specs.declared.module.Module.{Module}
-use Rattle.ir_reader.specs.Laws.{OneModule}
-use Rattle.points.specs.declared.point.Bounds.{Bounds}
-use Rattle.points.specs.declared.point.Budget.{Budget}
-use Rattle.verdicts.specs.declared.verdict.Verdict.{Verdict}
-use Rattle.verdicts.specs.Pair.{Functions, same_signature}
-use Rattle.points.specs.Range.{AreInRange}
+use Rattle.tv_run.proofs.Common.{◌≡◌, ℕ, arith, List, [], ◌∷◌, Option, Some, None, Result, Ok, Err, Bool, true, false, sym, ap, subst, ◌∙◌, inl, inr, Function, Refused, Entry, Module, OneModule, Bounds, Budget, Verdict, Functions, same_signature, AreInRange, Finding, Row, function_named, IsJudged, IsCompared, IsFinding, AreSourceRows, AreRows, RowsAreOne, report_text, status_of, HasModule, FileReportsAreDefined, ReportsAreDefined, ReportsAreOne, IsDefinedReport, may_answer}
 use Rattle.verdicts.specs.Trail.{IsVerdict}
-use Rattle.report.specs.declared.row.Finding.{Finding}
 use Rattle.report.specs.declared.row.Finding.TheVariants as finding
-use Rattle.report.specs.declared.row.Row.{Row}
-use Rattle.report.specs.Rows.{function_named, IsJudged, IsCompared, IsFinding, AreSourceRows, AreRows, RowsAreOne}
-use Rattle.report.specs.Text.{report_text}
-use Rattle.report.specs.Status.{status_of}
-use Rattle.tv_run.specs.Files.{HasModule}
-use Rattle.tv_run.specs.Laws.{FileReportsAreDefined, ReportsAreDefined, ReportsAreOne}
-use Rattle.tv_run.specs.Reports.{IsDefinedReport}
-use Rattle.module_rows.specs.Judging.{may_answer}
 use Rattle.tv_run.proofs.Files.{module_one}
 
 -- ---- a judge that answers only what another may answer

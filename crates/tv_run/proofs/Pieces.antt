@@ -1,10 +1,5 @@
 -- A line that is written in pieces.
-use Rattle.std.proofs.Common.{◌≡◌, ℕ, List, ◌++◌, Result, Ok, Err, subst}
-use Rattle.std.specs.Prelude.{OnErr}
-use Rattle.tv_io.specs.State.{SinkState}
-use Rattle.tv_io.specs.Taken.{IsWritten, IsCutOff}
-use Rattle.tv_io.specs.declared.sink.Failed.{Failed}
-use Rattle.tv_io.proofs.TakenLemmas.{IsCutOff-second_write}
+use Rattle.tv_run.proofs.Common.{◌≡◌, ℕ, List, ◌++◌, Result, Ok, Err, subst, OnErr, SinkState, IsWritten, IsCutOff, Failed, IsCutOff-second_write}
 
 -- the second of two pieces was cut off, if it failed, whatever else the pieces are called
 pub IsCutOff-second_piece : (r : Result (Unit {0}) Failed) (xs ys first second : List ℕ) (old mid new : SinkState) → xs ≡ first → ys ≡ second → IsWritten xs old mid → OnErr r (IsCutOff ys mid new) → OnErr r (IsCutOff (first ++ second) old new)

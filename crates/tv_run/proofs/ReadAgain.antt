@@ -1,20 +1,9 @@
 -- What is read of a module that was printed.
-use Rattle.std.proofs.Common.{◌≡◌, ◌≤◌, ◌⊎◌, ℕ, List, arith, inl, inr, subst, sym}
-use Rattle.tv_io.specs.Count.{Rose}
-use Rattle.tv_io.specs.State.{SinkState}
-use Rattle.pair_driver.specs.declared.judged.Judged.{Judged}
-use Rattle.tv_cli.specs.Words.{Make}
-use Rattle.ir_tree.specs.declared.module.Module.{Module}
+use Rattle.tv_run.proofs.Common.{◌≡◌, ◌≤◌, ◌⊎◌, ℕ, List, arith, inl, inr, subst, sym, Rose, SinkState, Judged, Make, Module, ModuleOrFault, OneModule, IsModule, module_text, Trouble, IsFaultOf, IsSent, IsReadBack, MadePartlyWritten, MadeWritten, SaysMade}
 use Rattle.ir_reader.specs.declared.fault.ModuleFault.TheVariants as fault
-use Rattle.ir_reader.specs.Laws.{ModuleOrFault, OneModule}
-use Rattle.ir_reader.specs.Module.{IsModule}
-use Rattle.ir_printer.specs.ModuleText.{module_text}
 use Rattle.read_back.specs.SameModule.{IsSameModule}
 use Rattle.read_back.specs.ReadBack.{IsPrintable, PrintedModulesReadBack}
-use Rattle.tv_run.specs.declared.stop.Trouble.{Trouble}
 use Rattle.tv_run.specs.declared.stop.Trouble.TheVariants as trouble
-use Rattle.tv_run.specs.Answers.{IsFaultOf, IsSent}
-use Rattle.tv_run.specs.Makes.{IsReadBack, MadePartlyWritten, MadeWritten, SaysMade}
 
 -- a text that is a module has no fault
 pub no_fault : ModuleOrFault → (text : List ℕ) (m : Module) (t : Trouble) → IsModule text m → IsFaultOf text t → ⊥

@@ -1,32 +1,10 @@
 -- The first lines of the rows of a report's text.
-use Rattle.std.proofs.Common.{ℕ, ◌≡◌, ◌≢◌, ◌<◌, ◌/◌, ◌%◌, ◌&&◌, arith, Bool, true, false, cond, not, All, List, [], ◌∷◌, ◌++◌, codes, map, append_assoc, append-nil, refl, sym, ap, subst, ◌∙◌, true≢false, nat_lt}
-use Rattle.std.specs.Fmt.{decimal}
-use Rattle.std.specs.List.{flat_map, list_all}
-use Rattle.std.specs.Prelude.{filter}
-use Rattle.std.proofs.lemmas.Bool.Decides.{nat_tests}
-use Rattle.std.proofs.lemmas.List.Elements.{All-contains, All-head, All-tail}
-use Rattle.ir_tree.specs.declared.name.Name.{Name}
-use Rattle.ir_tree.specs.declared.name.Name.TheVariants.{Number, Word}
-use Rattle.ir_tree.specs.declared.module.Reason.{Reason}
+use Rattle.tv_run.proofs.Common.{ℕ, ◌≡◌, ◌≢◌, ◌<◌, ◌/◌, ◌%◌, ◌&&◌, arith, Bool, true, false, cond, not, All, List, [], ◌∷◌, ◌++◌, codes, map, append_assoc, append-nil, refl, sym, ap, subst, ◌∙◌, true≢false, nat_lt, decimal, flat_map, list_all, filter, nat_tests, All-contains, All-head, All-tail, Name, Number, Word, Reason, Refused, escaped, hex_byte, hex_digit, is_bare, is_digit, is_name_byte, is_plain, name_text, quoted, Bounds, Budget, Cause, Weight, Rounds, Conflicts, Side, Finding, Row, count, bounds_text, budget_text, cause_text, counted, finding_text, first_line, judged_counts, last_line, newline, other_counts, reason_text, refused_text, report_text, row_text, shown_lines, side_text, IsReadRow, IsReadName, Free, same_lines}
 use Rattle.ir_tree.specs.declared.module.Reason.TheVariants as reason
-use Rattle.ir_tree.specs.declared.module.Refused.{Refused}
-use Rattle.ir_naming.specs.Naming.{escaped, hex_byte, hex_digit, is_bare, is_digit, is_name_byte, is_plain, name_text, quoted}
-use Rattle.points.specs.declared.point.Bounds.{Bounds}
-use Rattle.points.specs.declared.point.Budget.{Budget}
-use Rattle.verdicts.specs.declared.verdict.Cause.{Cause}
-use Rattle.verdicts.specs.declared.verdict.Cause.TheVariants.{Weight, Rounds, Conflicts}
-use Rattle.report.specs.declared.row.Side.{Side}
 use Rattle.report.specs.declared.row.Side.TheVariants as side
-use Rattle.report.specs.declared.row.Finding.{Finding}
 use Rattle.report.specs.declared.row.Finding.TheVariants as finding
-use Rattle.report.specs.declared.row.Row.{Row}
 use Rattle.report.specs.declared.status.Class.TheVariants as class
-use Rattle.report.specs.Status.{count}
-use Rattle.report.specs.Text.{bounds_text, budget_text, cause_text, counted, finding_text, first_line, judged_counts, last_line, newline, other_counts, reason_text, refused_text, report_text, row_text, shown_lines, side_text}
-use Rattle.tv_run.specs.OneReading.{IsReadRow}
-use Rattle.proof_files.specs.Parts.{IsReadName}
 use Rattle.tv_run.proofs.RowLines.{HasMarked, Without, free_decimal, free_known, hex_other, is_marked, marked_append, marked_line, marked_nil, shown_marked, unmarked_line, without_append, without_cons, without_known, without_nil}
-use Rattle.proof_text.proofs.Top.{Free, same_lines}
 
 -- ---- names
 

@@ -1,13 +1,5 @@
 -- The text of a report as lines, of which those that begin with `@` are the first lines of its rows.
-use Rattle.std.proofs.Common.{ℕ, zero, suc, ◌≡◌, ◌≢◌, ◌<◌, ◌≤◌, ◌+◌, ◌-◌, ◌/◌, ◌%◌, ◌||◌, ◌==◌, eqb, arith, Bool, true, false, cond, All, Contains, List, [], ◌∷◌, ◌++◌, codes, map, take, append_assoc, append-nil, Option, Some, None, refl, sym, ap, ap₂, subst, ◌∙◌, ⊎_elim, nat_lt, if◌then◌else◌}
-use Rattle.std.specs.Prelude.{filter}
-use Rattle.std.specs.Fmt.{decimal, digits, digit_glyph, digits_onto}
-use Rattle.std.specs.List.{flat_map, list_any}
-use Rattle.std.proofs.lemmas.Bool.Decides.{nat_tests}
-use Rattle.std.proofs.lemmas.List.Elements.{All-append, All-cons, All-nil, Contains-append_cases}
-use Rattle.std.proofs.lemmas.Grind.{flat_map-append}
-use Rattle.std.proofs.lemmas.List.Elements.{filter-append}
-use Rattle.ir_naming.specs.Naming.{hex_byte, hex_digit, is_digit}
+use Rattle.tv_run.proofs.Common.{ℕ, zero, suc, ◌≡◌, ◌≢◌, ◌<◌, ◌≤◌, ◌+◌, ◌-◌, ◌/◌, ◌%◌, ◌||◌, ◌==◌, eqb, arith, Bool, true, false, cond, All, Contains, List, [], ◌∷◌, ◌++◌, codes, map, take, append_assoc, append-nil, Option, Some, None, refl, sym, ap, ap₂, subst, ◌∙◌, ⊎_elim, nat_lt, if◌then◌else◌, filter, decimal, digits, digit_glyph, digits_onto, flat_map, list_any, nat_tests, All-append, All-cons, All-nil, Contains-append_cases, flat_map-append, filter-append, hex_byte, hex_digit, is_digit, Point, Shown, address_text, arg_lines, block_line, block_lines, byte_text, bytes_line, choice_lines, contents_line, newline, numbered_line, outcome_lines, point_lines, pointer_text, returned_lines, returned_text, sentence, shown_lines, spaced_byte, value_text, ended, first_or_later, AreFree, Free}
 use Rattle.byte_block.specs.declared.value.BlockName.{BlockName}
 use Rattle.byte_block.specs.declared.value.BlockName.TheVariants.{Null, Given, Local}
 use Rattle.byte_block.specs.declared.value.Ptr.{Ptr}
@@ -18,12 +10,6 @@ use Rattle.byte_block.specs.declared.value.Byte.TheVariants as byte
 use Rattle.byte_block.specs.declared.block.MemoryBlock.{MemoryBlock}
 use Rattle.points.specs.declared.outcome.Outcome.{Outcome}
 use Rattle.points.specs.declared.outcome.Outcome.TheVariants.{Return, Ub, Beyond}
-use Rattle.points.specs.declared.point.Point.{Point}
-use Rattle.verdicts.specs.declared.verdict.Shown.{Shown}
-use Rattle.report.specs.Text.{address_text, arg_lines, block_line, block_lines, byte_text, bytes_line, choice_lines, contents_line, newline, numbered_line, outcome_lines, point_lines, pointer_text, returned_lines, returned_text, sentence, shown_lines, spaced_byte, value_text}
-use Rattle.proof_text.specs.Format.{ended}
-use Rattle.proof_text.proofs.Splits.{first_or_later}
-use Rattle.proof_text.proofs.Top.{AreFree, Free}
 
 -- ---- bytes that a text does not contain
 

@@ -1,31 +1,12 @@
 -- A report's text has one list of rows, but for the points of incorrect rows and what is shown of them.
-use Rattle.std.proofs.Common.{ℕ, ◌≡◌, ◌≢◌, ◌<◌, ◌^◌, ◌+◌, ◌*◌, ◌/◌, ◌%◌, ◌==◌, ◌&&◌, arith, Bool, true, false, cond, not, All, Contains, List, [], ◌∷◌, ◌++◌, codes, length, map, append_assoc, get_or, drop, refl, sym, ap, ap₂, subst, ◌∙◌, true≢false, eqb, eq-eqb, if◌then◌else◌}
-use Rattle.std.specs.Fmt.{decimal}
-use Rattle.std.specs.List.{AllZip, flat_map, list_all}
-use Rattle.std.proofs.lemmas.Bool.Decides.{nat_tests}
+use Rattle.tv_run.proofs.Common.{ℕ, ◌≡◌, ◌≢◌, ◌<◌, ◌^◌, ◌+◌, ◌*◌, ◌/◌, ◌%◌, ◌==◌, ◌&&◌, arith, Bool, true, false, cond, not, All, Contains, List, [], ◌∷◌, ◌++◌, codes, length, map, append_assoc, get_or, drop, refl, sym, ap, ap₂, subst, ◌∙◌, true≢false, eqb, eq-eqb, if◌then◌else◌, decimal, AllZip, flat_map, list_all, nat_tests, All-head, All-tail, Name, Number, Word, Reason, Refused, escaped, hex_byte, hex_digit, is_bare, is_digit, is_name_byte, is_plain, name_text, quoted, Cause, Weight, Rounds, Conflicts, Side, Finding, Row, cause_text, reason_text, refused_text, side_text, HasPosition, IsReadRow, IsSameFinding, SaysTheSame, TextsHaveOneListOfRows, IsPrintedNumber, IsReadName, parted}
 use Rattle.std.proofs.lemmas.Fmt.{decimal_injective}
 use Rattle.std.proofs.lemmas.List.{append_cancel_left}
-use Rattle.std.proofs.lemmas.List.Elements.{All-head, All-tail}
-use Rattle.ir_tree.specs.declared.name.Name.{Name}
-use Rattle.ir_tree.specs.declared.name.Name.TheVariants.{Number, Word}
-use Rattle.ir_tree.specs.declared.module.Reason.{Reason}
 use Rattle.ir_tree.specs.declared.module.Reason.TheVariants as reason
-use Rattle.ir_tree.specs.declared.module.Refused.{Refused}
-use Rattle.ir_naming.specs.Naming.{escaped, hex_byte, hex_digit, is_bare, is_digit, is_name_byte, is_plain, name_text, quoted}
-use Rattle.verdicts.specs.declared.verdict.Cause.{Cause}
-use Rattle.verdicts.specs.declared.verdict.Cause.TheVariants.{Weight, Rounds, Conflicts}
-use Rattle.report.specs.declared.row.Side.{Side}
 use Rattle.report.specs.declared.row.Side.TheVariants as side
-use Rattle.report.specs.declared.row.Finding.{Finding}
 use Rattle.report.specs.declared.row.Finding.TheVariants as finding
-use Rattle.report.specs.declared.row.Row.{Row}
-use Rattle.report.specs.Text.{cause_text, reason_text, refused_text, side_text}
-use Rattle.tv_run.specs.OneReading.{HasPosition, IsReadRow, IsSameFinding, SaysTheSame, TextsHaveOneListOfRows}
-use Rattle.proof_text.specs.Format.{IsPrintedNumber}
-use Rattle.proof_files.specs.Parts.{IsReadName}
 use Rattle.tv_run.proofs.RowLines.{decimal_without}
 use Rattle.tv_run.proofs.RowHeads.{after_name, all_escaped_without, bare_without, digits_without, first_of_row, reason_without, same_firsts}
-use Rattle.proof_text.proofs.Splits.{parted}
 
 -- ---- names
 

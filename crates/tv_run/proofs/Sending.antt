@@ -1,19 +1,5 @@
 -- What the delivery of a report says of the check of the command line.
-use Rattle.std.specs.Global.{Vec}
-use Rattle.std.proofs.Common.{◌≡◌, ◌≤◌, ◌⊎◌, ℕ, arith, List, Option, Some, None, sym, subst, inl, inr, ◌∙◌}
-use Rattle.tv_io.specs.Count.{Rose}
-use Rattle.tv_io.specs.Files.{Files}
-use Rattle.tv_io.specs.State.{ShelfState, SinkState}
-use Rattle.points.specs.Range.{AreInRange}
-use Rattle.pair_driver.specs.declared.judged.Judged.{Judged}
-use Rattle.report.specs.declared.row.Row.{Row}
-use Rattle.tv_cli.specs.Words.{Text, Check}
-use Rattle.tv_run.specs.Answers.{HasReport, HoldsText, IsDelivered, IsProofAsked, IsSent}
-use Rattle.tv_run.specs.Files.{WhereKnown}
-use Rattle.tv_run.specs.Laws.{FileReportsAreDefined, FileReportsAreSound}
-use Rattle.tv_run.specs.Reports.{HoldsProof, IsUnfinished, PartlyWritten, WritesDefinedReport, Written}
-use Rattle.tv_run.specs.Sound.{FilesRefine, PartlyMeansRefinement, WritesSound}
-use Rattle.tv_run.specs.Stops.{IsNotPut}
+use Rattle.tv_run.proofs.Common.{Vec, ◌≡◌, ◌≤◌, ◌⊎◌, ℕ, arith, List, Option, Some, None, sym, subst, inl, inr, ◌∙◌, Rose, Files, ShelfState, SinkState, AreInRange, Judged, Row, Text, Check, HasReport, HoldsText, IsDelivered, IsProofAsked, IsSent, WhereKnown, FileReportsAreDefined, FileReportsAreSound, HoldsProof, IsUnfinished, PartlyWritten, WritesDefinedReport, Written, FilesRefine, PartlyMeansRefinement, WritesSound, IsNotPut}
 
 -- the text that was put is that of the rows' proof file
 proof_held : (asked : Option Text) (rows : List Row) (answers : List Judged) (proof : Option (Vec ℕ)) (after : Option Files) → IsProofAsked asked rows answers proof → HoldsText asked proof after → HoldsProof asked rows answers after

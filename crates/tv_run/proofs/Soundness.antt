@@ -1,40 +1,16 @@
 -- The rows of two modules are sound.
-use Rattle.std.proofs.Common.{◌≡◌, ◌≤◌, ◌⊎◌, ◌+◌, ◌||◌, ℕ, zero, suc, arith, Bool, true, false, true≢false, cond, List, [], ◌∷◌, Option, Some, None, Result, Ok, Err, refl, sym, ap, subst, ◌∙◌, inl, inr, is_some, if◌then◌else◌}
-use Rattle.std.specs.Prelude.{Contains, count_by}
-use Rattle.std.specs.List.{IsDistinct, AllByRecursion}
-use Rattle.std.proofs.lemmas.Bool.{ltb-false}
-use Rattle.std.proofs.lemmas.List.Elements.{All-contains_itself, All-weaker, Contains-append_cases, Contains-append_left, Contains-append_right}
+use Rattle.tv_run.proofs.Common.{◌≡◌, ◌≤◌, ◌⊎◌, ◌+◌, ◌||◌, ℕ, zero, suc, arith, Bool, true, false, true≢false, cond, List, [], ◌∷◌, Option, Some, None, Result, Ok, Err, refl, sym, ap, subst, ◌∙◌, inl, inr, is_some, if◌then◌else◌, count_by, IsDistinct, AllByRecursion, ltb-false, All-contains_itself, All-weaker, Contains-append_cases, Contains-append_left, Contains-append_right, Name, Number, Word, Function, Refused, Entry, Module, IsModule, Bounds, Budget, Point, Shown, Verdict, Functions, same_signature, Finding, Row, function_named, IsJudged, IsCompared, IsFinding, IsRow, AreSourceRows, AreRows, extra_row, extra_rows, has_some, is_of_class, status_of, FileReportsAreSound, ReportsAreSound, may_answer, entry_names, HasDistinctNames, HasFunction, HoldsThroughout, IsPairNamed, IsRefined, HasVerdict, IsSound}
+use Rattle.std.specs.Prelude.{Contains}
 use Rattle.std.proofs.lemmas.List.Sums.{sum_by-cons}
 use Rattle.std.proofs.lemmas.Map.Keys.{IsDistinct-head, IsDistinct-tail}
 use Rattle.std.proofs.lemmas.Slice.Eq.{bytes_eq-Decides}
-use Rattle.ir_tree.specs.declared.name.Name.{Name}
-use Rattle.ir_tree.specs.declared.name.Name.TheVariants.{Number, Word}
-use Rattle.ir_tree.specs.declared.tree.Function.{Function}
-use Rattle.ir_tree.specs.declared.module.Refused.{Refused}
-use Rattle.ir_tree.specs.declared.module.Entry.{Entry}
-use Rattle.ir_tree.specs.declared.module.Module.{Module}
 use Rattle.ir_tree.specs.Names.{same_name}
-use Rattle.ir_reader.specs.Module.{IsModule}
 use Rattle.ir_reader.proofs.Different.{different}
-use Rattle.points.specs.declared.point.Bounds.{Bounds}
-use Rattle.points.specs.declared.point.Budget.{Budget}
-use Rattle.points.specs.declared.point.Point.{Point}
-use Rattle.verdicts.specs.declared.verdict.Shown.{Shown}
-use Rattle.verdicts.specs.declared.verdict.Verdict.{Verdict}
 use Rattle.verdicts.specs.declared.verdict.Verdict.TheVariants as verdict
-use Rattle.verdicts.specs.Pair.{Functions, same_signature}
 use Rattle.verdicts.specs.Laws.{Holds, IsCounterexample, CorrectHolds, IncorrectFails}
-use Rattle.report.specs.declared.row.Finding.{Finding}
 use Rattle.report.specs.declared.row.Finding.TheVariants as finding
-use Rattle.report.specs.declared.row.Row.{Row}
-use Rattle.report.specs.Rows.{function_named, IsJudged, IsCompared, IsFinding, IsRow, AreSourceRows, AreRows, extra_row, extra_rows}
 use Rattle.report.specs.declared.status.Class.{Class}
 use Rattle.report.specs.declared.status.Class.TheVariants as class
-use Rattle.report.specs.Status.{has_some, is_of_class, status_of}
-use Rattle.tv_run.specs.Laws.{FileReportsAreSound, ReportsAreSound}
-use Rattle.module_rows.specs.Judging.{may_answer}
-use Rattle.module_rows.specs.Searching.{entry_names}
-use Rattle.tv_run.specs.Sound.{HasDistinctNames, HasFunction, HoldsThroughout, IsPairNamed, IsRefined, HasVerdict, IsSound}
 use Rattle.module_rows.proofs.Searches.{same_name-flips}
 
 -- ---- elements of a list

@@ -1,21 +1,8 @@
 -- What is written at a stop, and that two modules are judged.
-use Rattle.std.proofs.Common.{◌≡◌, ◌≢◌, ◌⊎◌, ◌≤◌, ℕ, arith, List, length, Option, Some, Result, Ok, Err, refl, ap, subst, ◌∙◌, inl, inr}
-use Rattle.std.specs.Prelude.{OnOk, OnErr}
-use Rattle.tv_io.specs.State.{ShelfState, SinkState}
-use Rattle.tv_io.specs.Taken.{IsWritten, IsCutOff}
-use Rattle.tv_io.specs.declared.sink.Failed.{Failed}
-use Rattle.ir_tree.specs.declared.module.Module.{Module}
+use Rattle.tv_run.proofs.Common.{◌≡◌, ◌≢◌, ◌⊎◌, ◌≤◌, ℕ, arith, List, length, Option, Some, Result, Ok, Err, refl, ap, subst, ◌∙◌, inl, inr, OnOk, OnErr, ShelfState, SinkState, IsWritten, IsCutOff, Failed, Module, Stop, Files, Check, check, IsLonger, HasModule, HasCause, stop_status, WritesLine, AreModules, CountsStop, ModulesHaveNoFault}
 use Rattle.tv_run.specs.declared.stop.Trouble.TheVariants as trouble
-use Rattle.tv_run.specs.declared.stop.Stop.{Stop}
 use Rattle.tv_run.specs.declared.stop.Stop.TheVariants as stop
-use Rattle.tv_io.specs.Files.{Files}
-use Rattle.tv_cli.specs.Words.{Check}
-use Rattle.tv_cli.specs.Words.Job.{check}
 use Rattle.tv_run.proofs.OneJob.{check_is}
-use Rattle.tv_run.specs.Files.{IsLonger, HasModule}
-use Rattle.tv_run.specs.Stops.{HasCause, stop_status, WritesLine}
-use Rattle.tv_run.specs.Answers.{AreModules, CountsStop}
-use Rattle.tv_run.specs.Laws.{ModulesHaveNoFault}
 use Rattle.tv_run.proofs.Files.{same_text}
 
 pub from_write : (r : Result (Unit {0}) Failed) (line : List ℕ) (old new : SinkState) → OnOk r (IsWritten line old new) → OnErr r (IsCutOff line old new) → WritesLine line old new

@@ -1,10 +1,6 @@
 -- The proof file that a check put is verified whole.
-use Rattle.std.proofs.Common.{ℕ, ◌≡◌, List, subst}
-use Rattle.tv_io.specs.Taken.{IsWritten}
-use Rattle.proof_text.specs.Format.{IsProof}
+use Rattle.tv_run.proofs.Common.{ℕ, ◌≡◌, List, subst, IsWritten, IsProof, parts_of, PutProofsAreVerified}
 use Rattle.proof_files.specs.Laws.{TextsAreVerified}
-use Rattle.proof_files.specs.Parts.{parts_of}
-use Rattle.tv_run.specs.Laws.{PutProofsAreVerified}
 use Rattle.tv_run.proofs.Files.{same_text}
 
 pub put_proofs_are_verified : TextsAreVerified → PutProofsAreVerified

@@ -1,9 +1,5 @@
 -- A code and its literal determine each other.
-use Rattle.std.proofs.Common.{ℕ, ◌≡◌, ◌<◌, ◌≤◌, ◌+◌, ◌*◌, ◌/◌, ◌%◌, ◌⊎◌, inl, inr, Bool, true, false, cond, nat_eq, eqb, arith, sym, ap, refl, ◌∙◌}
-use Rattle.std.proofs.lemmas.Bool.{cases_Bool, eqb-true, eqb-false, cases_eq}
-use Rattle.clause_lits.specs.declared.lit.Lit.{Lit}
-use Rattle.watch_solver.specs.declared.code.Code.{Code}
-use Rattle.watch_solver.specs.Codes.{index_of, lit_of}
+use Rattle.watch_solver.proofs.Common.{ℕ, ◌≡◌, ◌<◌, ◌≤◌, ◌+◌, ◌*◌, ◌/◌, ◌%◌, ◌⊎◌, inl, inr, Bool, true, false, cond, nat_eq, eqb, arith, sym, ap, refl, ◌∙◌, cases_Bool, eqb-true, eqb-false, cases_eq, Lit, Code, index_of, lit_of}
 
 number-index : (n : ℕ) → n ≡ 2 * (n / 2) + cond (nat_eq (n % 2) 1) 1 0
 number-index n = elim (cases_Bool (eqb (n % 2) 1)) [

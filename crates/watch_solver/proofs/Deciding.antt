@@ -1,20 +1,6 @@
 -- Where all is propagated the search decides, or ends with a model.
-use Rattle.std.proofs.Common.{ℕ, ◌≡◌, ◌++◌, List, [], ◌∷◌, None, take, length, arith, sym, ap, subst, refl, ◌∙◌}
-use Rattle.std.proofs.lemmas.List.{take-append-le, take_all}
-use Rattle.std.proofs.lemmas.Option.{slice_get_within}
-use Rattle.clause_log.specs.declared.step.Step.{Step}
-use Rattle.clause_lits.specs.declared.lit.Lit.{Lit}
-use Rattle.clause_search.specs.declared.trail.Entry.{Entry}
-use Rattle.clause_search.specs.Trail.{IsSettled, Stands}
-use Rattle.clause_search.specs.Searching.{IsSearch, standing}
-use Rattle.clause_search.proofs.Leastness.{stands-left}
-use Rattle.clause_search.proofs.Searches.{search-consistent}
+use Rattle.watch_solver.proofs.Common.{ℕ, ◌≡◌, ◌++◌, List, [], ◌∷◌, None, take, length, arith, sym, ap, subst, refl, ◌∙◌, take-append-le, take_all, slice_get_within, Step, Lit, Entry, IsSettled, Stands, IsSearch, standing, stands-left, search-consistent, Watch, Pair, AreKept, AreLinked, IsStart, IsWatched}
 use Rattle.watch_solver.specs.declared.start.Start.{Start}
-use Rattle.watch_solver.specs.declared.watches.Watch.{Watch}
-use Rattle.watch_solver.specs.declared.watches.Pair.{Pair}
-use Rattle.watch_solver.specs.Kept.{AreKept, AreLinked}
-use Rattle.watch_solver.specs.Starts.{IsStart}
-use Rattle.watch_solver.specs.Walks.{IsWatched}
 use Rattle.watch_solver.proofs.Keeping.{back-decided, kept-later, kept-settled}
 
 -- the start with no conflict

@@ -1,11 +1,5 @@
 -- A clause that is looked through in two parts.
-use Rattle.std.proofs.Common.{ℕ, ◌⊎◌, ◌++◌, inl, inr, List, [], ◌∷◌, Option, Some, None, drop, take, sym, subst}
-use Rattle.std.proofs.lemmas.List.{take-append-drop}
-use Rattle.clause_log.specs.Members.{Has}
-use Rattle.clause_lits.specs.declared.lit.Lit.{Lit}
-use Rattle.clause_search.specs.declared.trail.Entry.{Entry}
-use Rattle.clause_search.specs.Trail.{FalseBut}
-use Rattle.watch_solver.specs.Free.{IsFree}
+use Rattle.watch_solver.proofs.Common.{ℕ, ◌⊎◌, ◌++◌, inl, inr, List, [], ◌∷◌, Option, Some, None, drop, take, sym, subst, take-append-drop, Has, Lit, Entry, FalseBut, IsFree}
 
 has-left : (xs ys : List Lit) (l : Lit) → Has xs l → Has (xs ++ ys) l
 has-left [] ys l h = absurd h

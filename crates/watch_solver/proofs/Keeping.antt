@@ -1,20 +1,5 @@
 -- Clauses that are kept stay so while the trail grows and pairs change.
-use Rattle.std.proofs.Common.{ℕ, zero, suc, ◌≡◌, ◌<◌, ◌+◌, ◌-◌, ◌++◌, inl, inr, false, List, [], ◌∷◌, Some, slice_get, take, length, nat_eq, arith, sym, ap, subst, refl, ◌∙◌}
-use Rattle.std.proofs.Math.ListN.{set}
-use Rattle.std.proofs.lemmas.Bool.{cases_eq, ne_eqb}
-use Rattle.std.proofs.lemmas.List.{take-append-le, take_all}
-use Rattle.std.proofs.lemmas.Option.{slice_get_within}
-use Rattle.clause_log.specs.Members.{Has}
-use Rattle.clause_log.specs.Chain.{clause_numbered}
-use Rattle.clause_lits.specs.declared.lit.Lit.{Lit}
-use Rattle.clause_lits.specs.Meaning.{opposite_of}
-use Rattle.clause_search.specs.declared.trail.Entry.{Entry}
-use Rattle.clause_search.specs.Trail.{IsConsistent, IsFalse, IsSettled, Stands}
-use Rattle.clause_search.proofs.Getting.{get-early, get-late, length-push}
-use Rattle.watch_solver.specs.declared.watches.Pair.{Pair}
-use Rattle.watch_solver.specs.Codes.{lit_of}
-use Rattle.watch_solver.specs.Kept.{AreFree, AreKept, AreKeptBack, IsKept}
-use Rattle.watch_solver.specs.Verdicts.{IsMove, IsOneOf}
+use Rattle.watch_solver.proofs.Common.{ℕ, zero, suc, ◌≡◌, ◌<◌, ◌+◌, ◌-◌, ◌++◌, inl, inr, false, List, [], ◌∷◌, Some, slice_get, take, length, nat_eq, arith, sym, ap, subst, refl, ◌∙◌, set, cases_eq, ne_eqb, take-append-le, take_all, slice_get_within, Has, clause_numbered, Lit, opposite_of, Entry, IsConsistent, IsFalse, IsSettled, Stands, get-early, get-late, length-push, Pair, lit_of, AreFree, AreKept, AreKeptBack, IsKept, IsMove, IsOneOf}
 use Rattle.watch_solver.proofs.Lists.{get-set}
 
 -- what is true early is true on the whole trail

@@ -1,29 +1,7 @@
 -- A learned clause is watched by its asserting literal and another one, which is false at no decision gone back to.
-use Rattle.std.proofs.Common.{append_assoc, ℕ, zero, suc, ◌≡◌, ◌<◌, ◌≤◌, ◌+◌, ◌*◌, ◌++◌, inl, inr, List, [], ◌∷◌, Option, Some, None, Result, Ok, Err, OnOk, slice_get, unwrap_or, take, length, map, arith, sym, ap, subst, refl, ◌∙◌}
-use Rattle.std.proofs.lemmas.List.{take-append-le}
-use Rattle.std.proofs.lemmas.Option.{slice_get_within}
-use Rattle.clause_log.specs.Members.{Has}
-use Rattle.clause_log.specs.declared.step.Step.{Step}
-use Rattle.clause_lits.specs.declared.lit.Lit.{Lit}
-use Rattle.clause_lits.specs.Meaning.{opposite_of}
-use Rattle.clause_search.specs.declared.trail.Entry.{Entry}
+use Rattle.watch_solver.proofs.Common.{append_assoc, ℕ, zero, suc, ◌≡◌, ◌<◌, ◌≤◌, ◌+◌, ◌*◌, ◌++◌, inl, inr, List, [], ◌∷◌, Option, Some, None, Result, Ok, Err, OnOk, slice_get, unwrap_or, take, length, map, arith, sym, ap, subst, refl, ◌∙◌, take-append-le, slice_get_within, Has, Step, Lit, opposite_of, Entry, Learned, standing, FalseBut, IsFalse, IsTrail, IsUnassigned, IsUnready, Stands, stands-take, trail-take, in_range, get-take, get-taken, stands-left, stands-right, Code, Watch, Pair, lit_of, IsFree, AreKept, AreKeptBack, AreLinked, IsKept, IsPair, with_watch, IsAdded, IsRoomy, IsWatched}
 use Rattle.clause_search.specs.Assigning.{IsLastBelow}
-use Rattle.clause_search.specs.declared.learning.Learned.{Learned}
 use Rattle.clause_search.specs.Learning.{IsDecisionAt, IsLearned}
-use Rattle.clause_search.specs.Searching.{standing}
-use Rattle.clause_search.specs.Trail.{FalseBut, IsFalse, IsTrail, IsUnassigned, IsUnready, Stands}
-use Rattle.clause_search.proofs.ByPlace.{stands-take, trail-take}
-use Rattle.clause_search.proofs.Counting.{in_range}
-use Rattle.clause_search.proofs.Getting.{get-take, get-taken}
-use Rattle.clause_search.proofs.Leastness.{stands-left, stands-right}
-use Rattle.watch_solver.specs.declared.code.Code.{Code}
-use Rattle.watch_solver.specs.declared.watches.Watch.{Watch}
-use Rattle.watch_solver.specs.declared.watches.Pair.{Pair}
-use Rattle.watch_solver.specs.Codes.{lit_of}
-use Rattle.watch_solver.specs.Free.{IsFree}
-use Rattle.watch_solver.specs.Kept.{AreKept, AreKeptBack, AreLinked, IsKept, IsPair}
-use Rattle.watch_solver.specs.Lists.{with_watch}
-use Rattle.watch_solver.specs.Walks.{IsAdded, IsRoomy, IsWatched}
 use Rattle.watch_solver.proofs.Codes.{index-below}
 use Rattle.watch_solver.proofs.Linking.{linked-added, linked-none}
 use Rattle.watch_solver.proofs.Keeping.{back-implied, kept-added, kept-later}

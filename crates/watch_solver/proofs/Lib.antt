@@ -1,3 +1,4 @@
+pub mod Common
 pub mod Codes
 pub mod Deciding
 pub mod Freeing

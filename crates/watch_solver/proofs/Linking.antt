@@ -1,19 +1,5 @@
 -- Changes after which the lists have each clause under its watched literals still.
-use Rattle.std.proofs.Common.{ℕ, zero, suc, ◌≡◌, ◌<◌, ◌+◌, ◌*◌, ◌++◌, ◌⊎◌, inl, inr, List, [], ◌∷◌, Some, slice_get, get_or, length, arith, sym, ap, subst, refl, ◌∙◌}
-use Rattle.std.proofs.Math.ListN.{set, length-set}
-use Rattle.std.specs.List.{swap_remove}
-use Rattle.std.proofs.lemmas.Bool.{cases_eq}
-use Rattle.std.proofs.lemmas.Option.{slice_get_within}
-use Rattle.clause_log.specs.Members.{Has}
-use Rattle.clause_lits.specs.declared.lit.Lit.{Lit}
-use Rattle.clause_search.proofs.Getting.{get-early, get-late, get-last, get-kept, length-push}
-use Rattle.watch_solver.specs.declared.code.Code.{Code}
-use Rattle.watch_solver.specs.declared.watches.Watch.{Watch}
-use Rattle.watch_solver.specs.declared.watches.Pair.{Pair}
-use Rattle.watch_solver.specs.Codes.{index_of, lit_of}
-use Rattle.watch_solver.specs.Kept.{AreApart, AreLinked, IsPair, IsWatch}
-use Rattle.watch_solver.specs.Lists.{HasFrom, list_of, with_list, with_watch}
-use Rattle.watch_solver.specs.Verdicts.{IsOneOf}
+use Rattle.watch_solver.proofs.Common.{ℕ, zero, suc, ◌≡◌, ◌<◌, ◌+◌, ◌*◌, ◌++◌, ◌⊎◌, inl, inr, List, [], ◌∷◌, Some, slice_get, get_or, length, arith, sym, ap, subst, refl, ◌∙◌, set, length-set, swap_remove, cases_eq, slice_get_within, Has, Lit, get-early, get-late, get-last, get-kept, length-push, Code, Watch, Pair, index_of, lit_of, AreApart, AreLinked, IsPair, IsWatch, HasFrom, list_of, with_list, with_watch, IsOneOf}
 use Rattle.watch_solver.proofs.Codes.{lit_cases}
 use Rattle.watch_solver.proofs.Lists.{get-set, get-set_other, get-removed, list-same, list-other, length-lists, list-room, has-push, has-last, has-set, has-removed}
 

@@ -1,14 +1,5 @@
 -- What is in a list after a change.
-use Rattle.std.proofs.Common.{ℕ, zero, suc, ◌≡◌, ◌<◌, ◌≤◌, ◌+◌, ◌-◌, ◌++◌, ◌⊎◌, inl, inr, List, [], ◌∷◌, Some, None, slice_get, get_or, take, length, arith, sym, ap, subst, refl, ◌∙◌, get_or-set_same, get_or-set_other}
-use Rattle.std.proofs.Math.ListN.{set, length-set}
-use Rattle.std.specs.List.{swap_remove}
-use Rattle.std.proofs.lemmas.Bool.{cases_eq}
-use Rattle.std.proofs.lemmas.Option.{slice_get_within, slice_get-get_or, get_or_from_slice_get}
-use Rattle.clause_lits.specs.declared.lit.Lit.{Lit}
-use Rattle.clause_search.proofs.Getting.{get-last, get-kept, get-take, get-taken}
-use Rattle.watch_solver.specs.declared.watches.Watch.{Watch}
-use Rattle.watch_solver.specs.Codes.{index_of}
-use Rattle.watch_solver.specs.Lists.{HasFrom, list_of, with_list}
+use Rattle.watch_solver.proofs.Common.{ℕ, zero, suc, ◌≡◌, ◌<◌, ◌≤◌, ◌+◌, ◌-◌, ◌++◌, ◌⊎◌, inl, inr, List, [], ◌∷◌, Some, None, slice_get, get_or, take, length, arith, sym, ap, subst, refl, ◌∙◌, get_or-set_same, get_or-set_other, set, length-set, swap_remove, cases_eq, slice_get_within, slice_get-get_or, get_or_from_slice_get, Lit, get-last, get-kept, get-take, get-taken, Watch, index_of, HasFrom, list_of, with_list}
 use Rattle.watch_solver.proofs.Codes.{index-injective}
 
 module _ {X : Type 0} where

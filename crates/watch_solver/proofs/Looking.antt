@@ -1,24 +1,5 @@
 -- The look at a clause that a watch names.
-use Rattle.std.proofs.Common.{ℕ, ◌≡◌, ◌≤◌, ◌+◌, inl, inr, List, Some, slice_get, get_or, take, length, arith, sym, subst, ◌∙◌}
-use Rattle.std.proofs.lemmas.List.{take_all}
-use Rattle.std.proofs.lemmas.Option.{get_or_from_slice_get}
-use Rattle.clause_log.specs.Members.{Has}
-use Rattle.clause_log.specs.Chain.{clause_numbered}
-use Rattle.clause_lits.specs.declared.lit.Lit.{Lit}
-use Rattle.clause_lits.specs.Meaning.{opposite_of}
-use Rattle.clause_search.specs.declared.trail.Entry.{Entry}
-use Rattle.clause_search.specs.Trail.{FalseBut, IsFalse, Stands}
-use Rattle.clause_search.specs.Findings.{IsFalseAt, IsUnitAt}
-use Rattle.clause_search.specs.Searching.{AreInRange}
-use Rattle.clause_search.proofs.Findings.{among-numbered}
-use Rattle.clause_search.proofs.Seeing.{unassigned-from}
-use Rattle.watch_solver.specs.declared.code.Code.{Code}
-use Rattle.watch_solver.specs.declared.watches.Watch.{Watch}
-use Rattle.watch_solver.specs.declared.watches.Pair.{Pair}
-use Rattle.watch_solver.specs.Codes.{lit_of}
-use Rattle.watch_solver.specs.Free.{IsFree}
-use Rattle.watch_solver.specs.Kept.{IsWatch}
-use Rattle.watch_solver.specs.Verdicts.{IsMove, IsOneOf, IsOther}
+use Rattle.watch_solver.proofs.Common.{ℕ, ◌≡◌, ◌≤◌, ◌+◌, inl, inr, List, Some, slice_get, get_or, take, length, arith, sym, subst, ◌∙◌, take_all, get_or_from_slice_get, Has, clause_numbered, Lit, opposite_of, Entry, FalseBut, IsFalse, Stands, IsFalseAt, IsUnitAt, AreInRange, among-numbered, unassigned-from, Code, Watch, Pair, lit_of, IsFree, IsWatch, IsMove, IsOneOf, IsOther}
 use Rattle.watch_solver.proofs.Keeping.{get-numbered}
 
 module _ (clauses : List (List Lit)) (pairs : List Pair) (trail : List Entry) (f : Lit) (w : Watch) (watch : IsWatch clauses pairs w) (d : Pair) (second : Code)

@@ -1,28 +1,5 @@
 -- The first look keeps what holds before any decision.
-use Rattle.std.proofs.Common.{ℕ, ◌≡◌, ◌<◌, ◌≤◌, ◌+◌, ◌*◌, ◌++◌, inl, inr, List, [], ◌∷◌, Some, slice_get, get_or, take, length, arith, sym, ap, subst, refl, ◌∙◌}
-use Rattle.std.proofs.lemmas.Bool.{cases_eq}
-use Rattle.std.proofs.lemmas.List.{take_more, take_all}
-use Rattle.std.proofs.lemmas.Option.{slice_get_within, get_or_from_slice_get}
-use Rattle.clause_log.specs.Members.{Has}
-use Rattle.clause_log.specs.Chain.{clause_numbered}
-use Rattle.clause_lits.specs.declared.lit.Lit.{Lit}
-use Rattle.clause_lits.specs.Meaning.{IsClause, opposite_of}
-use Rattle.clause_search.specs.declared.trail.Entry.{Entry}
-use Rattle.clause_search.specs.Trail.{AllFalse, IsFalse, Stands}
-use Rattle.clause_search.specs.Findings.{IsFalseAt, IsUnitAt}
-use Rattle.clause_search.specs.Searching.{AreInRange, standing}
-use Rattle.clause_search.proofs.Findings.{among-numbered}
-use Rattle.clause_search.proofs.Getting.{get-early, get-late, length-push}
-use Rattle.clause_search.proofs.Leastness.{stands-left, stands-right}
-use Rattle.clause_search.proofs.Searches.{search-unit}
-use Rattle.clause_search.proofs.Seeing.{unassigned-from}
-use Rattle.watch_solver.specs.declared.code.Code.{Code}
-use Rattle.watch_solver.specs.declared.watches.Watch.{Watch}
-use Rattle.watch_solver.specs.declared.watches.Pair.{Pair}
-use Rattle.watch_solver.specs.Codes.{index_of, lit_of}
-use Rattle.watch_solver.specs.Kept.{AreKept, AreLinked, IsPair}
-use Rattle.watch_solver.specs.Lists.{with_watch}
-use Rattle.watch_solver.specs.Starts.{IsStarted, IsUndecided}
+use Rattle.watch_solver.proofs.Common.{ℕ, ◌≡◌, ◌<◌, ◌≤◌, ◌+◌, ◌*◌, ◌++◌, inl, inr, List, [], ◌∷◌, Some, slice_get, get_or, take, length, arith, sym, ap, subst, refl, ◌∙◌, cases_eq, take_more, take_all, slice_get_within, get_or_from_slice_get, Has, clause_numbered, Lit, IsClause, opposite_of, Entry, AllFalse, IsFalse, Stands, IsFalseAt, IsUnitAt, AreInRange, standing, among-numbered, get-early, get-late, length-push, stands-left, stands-right, search-unit, unassigned-from, Code, Watch, Pair, index_of, lit_of, AreKept, AreLinked, IsPair, with_watch, IsStarted, IsUndecided}
 use Rattle.watch_solver.proofs.Codes.{index-below}
 use Rattle.watch_solver.proofs.Linking.{linked-added, linked-empty, linked-none}
 use Rattle.watch_solver.proofs.Keeping.{kept-added, kept-later, numbered-get}

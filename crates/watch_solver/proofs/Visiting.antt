@@ -1,26 +1,6 @@
 -- The walk along the clauses that watch a literal which became false.
-use Rattle.std.proofs.Common.{ℕ, ◌≡◌, ◌≤◌, ◌+◌, ◌++◌, ◌⊎◌, inl, inr, List, [], ◌∷◌, Some, None, slice_get, take, length, arith, sym, ap, subst, refl, ◌∙◌}
-use Rattle.std.proofs.Math.ListN.{set}
-use Rattle.std.specs.List.{swap_remove}
-use Rattle.std.proofs.lemmas.Bool.{cases_eq}
-use Rattle.std.proofs.lemmas.List.{take-append-le, take_more}
-use Rattle.std.proofs.lemmas.Option.{slice_get_within, get_or_from_slice_get}
-use Rattle.clause_log.specs.Members.{Has}
-use Rattle.clause_log.proofs.Membership.{opposite-opposite}
-use Rattle.clause_lits.specs.declared.lit.Lit.{Lit}
-use Rattle.clause_lits.specs.Meaning.{opposite_of}
-use Rattle.clause_search.specs.declared.trail.Entry.{Entry}
-use Rattle.clause_search.specs.Trail.{IsFalse, Stands}
-use Rattle.clause_search.specs.Findings.{IsUnitAt}
+use Rattle.watch_solver.proofs.Common.{ℕ, ◌≡◌, ◌≤◌, ◌+◌, ◌++◌, ◌⊎◌, inl, inr, List, [], ◌∷◌, Some, None, slice_get, take, length, arith, sym, ap, subst, refl, ◌∙◌, set, swap_remove, cases_eq, take-append-le, take_more, slice_get_within, get_or_from_slice_get, Has, opposite-opposite, Lit, opposite_of, Entry, IsFalse, Stands, IsUnitAt, stands-left, stands-right, Watch, Pair, lit_of, AreFree, AreKept, AreLinked, IsKept, HasFrom, list_of, IsMove, IsOneOf, IsTrueBy, AreVisited}
 use Rattle.clause_search.proofs.Analysis.{stands-push}
-use Rattle.clause_search.proofs.Leastness.{stands-left, stands-right}
-use Rattle.watch_solver.specs.declared.watches.Watch.{Watch}
-use Rattle.watch_solver.specs.declared.watches.Pair.{Pair}
-use Rattle.watch_solver.specs.Codes.{lit_of}
-use Rattle.watch_solver.specs.Kept.{AreFree, AreKept, AreLinked, IsKept}
-use Rattle.watch_solver.specs.Lists.{HasFrom, list_of}
-use Rattle.watch_solver.specs.Verdicts.{IsMove, IsOneOf, IsTrueBy}
-use Rattle.watch_solver.specs.Walks.{AreVisited}
 use Rattle.watch_solver.proofs.Codes.{lit_cases}
 use Rattle.watch_solver.proofs.Lists.{get-set, has-none, has-removed, has-rest, has-set}
 use Rattle.watch_solver.proofs.Keeping.{free-moved, get-numbered, kept-later, stands-whole}

@@ -1,29 +1,6 @@
 -- Each look keeps what holds all along the walk.
-use Rattle.std.proofs.Common.{ℕ, zero, suc, ◌≡◌, ◌<◌, ◌≤◌, ◌+◌, ◌++◌, inl, inr, List, [], ◌∷◌, Some, None, slice_get, take, length, arith, sym, ap, subst, refl, ◌∙◌}
-use Rattle.std.proofs.Math.ListN.{set, length-set}
-use Rattle.std.specs.List.{swap_remove}
-use Rattle.std.proofs.lemmas.Option.{slice_get_within}
-use Rattle.clause_log.specs.Members.{Has}
-use Rattle.clause_log.specs.declared.step.Step.{Step}
-use Rattle.clause_log.proofs.Membership.{opposite-opposite}
-use Rattle.clause_lits.specs.declared.lit.Lit.{Lit}
-use Rattle.clause_lits.specs.Meaning.{opposite_of}
-use Rattle.clause_search.specs.declared.trail.Entry.{Entry}
-use Rattle.clause_search.specs.Trail.{IsFalse, Stands}
-use Rattle.clause_search.specs.Findings.{IsUnitAt}
-use Rattle.clause_search.specs.Searching.{IsSearch, standing}
-use Rattle.clause_search.proofs.Getting.{get-kept}
-use Rattle.clause_search.proofs.Counting.{in_range}
+use Rattle.watch_solver.proofs.Common.{ℕ, zero, suc, ◌≡◌, ◌<◌, ◌≤◌, ◌+◌, ◌++◌, inl, inr, List, [], ◌∷◌, Some, None, slice_get, take, length, arith, sym, ap, subst, refl, ◌∙◌, set, length-set, swap_remove, slice_get_within, Has, Step, opposite-opposite, Lit, opposite_of, Entry, IsFalse, Stands, IsUnitAt, IsSearch, standing, get-kept, in_range, search-unit, Code, Watch, Pair, index_of, lit_of, AreKept, IsWatch, list_of, with_list, with_watch, IsMove, IsOneOf, IsTrueBy, IsWalk, IsWatched}
 use Rattle.clause_search.proofs.Placing.{somewhere-stands}
-use Rattle.clause_search.proofs.Searches.{search-unit}
-use Rattle.watch_solver.specs.declared.code.Code.{Code}
-use Rattle.watch_solver.specs.declared.watches.Watch.{Watch}
-use Rattle.watch_solver.specs.declared.watches.Pair.{Pair}
-use Rattle.watch_solver.specs.Codes.{index_of, lit_of}
-use Rattle.watch_solver.specs.Kept.{AreKept, IsWatch}
-use Rattle.watch_solver.specs.Lists.{list_of, with_list, with_watch}
-use Rattle.watch_solver.specs.Verdicts.{IsMove, IsOneOf, IsTrueBy}
-use Rattle.watch_solver.specs.Walks.{IsWalk, IsWatched}
 use Rattle.watch_solver.proofs.Codes.{index-below}
 use Rattle.watch_solver.proofs.Lists.{get-set_same, length-removed, list-other, list-room, list-same}
 use Rattle.watch_solver.proofs.Linking.{linked-moved, linked-removed, linked-set}

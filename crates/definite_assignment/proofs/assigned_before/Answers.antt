@@ -1,8 +1,4 @@
-use Rattle.std.proofs.Common.{ℕ, ◌≡◌, ◌<◌, ◌∙◌, List, Bool, false, true, length, get_or, map, ap, sym, subst, arith}
-use Rattle.std.specs.List.{All}
-use Rattle.std.specs.Prelude.{IsTrue, ◌↔◌}
-use Rattle.ir_tree.specs.Paths.{IsAssignedBefore, IsUnassignedBefore}
-use Rattle.definite_assignment.specs.Sets.{column_of, has}
+use Rattle.definite_assignment.proofs.Common.{ℕ, ◌≡◌, ◌<◌, ◌∙◌, List, Bool, false, true, length, get_or, map, ap, sym, subst, arith, All, IsTrue, ◌↔◌, IsAssignedBefore, IsUnassignedBefore, column_of, has}
 use Rattle.definite_assignment.proofs.Columns.{AreApart, apart_from, by_columns-roomy, columns_within, exact_by_columns, missed_by_columns}
 use Rattle.definite_assignment.proofs.assigned_before.Goals as goal
 

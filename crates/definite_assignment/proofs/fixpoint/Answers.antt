@@ -1,7 +1,4 @@
-use Rattle.std.proofs.Common.{rules, ◌≡◌, ◌∙◌, false, length, refl, ap, sym, subst, arith}
-use Rattle.std.proofs.lemmas.List.{length-replicate}
-use Rattle.definite_assignment.specs.Sets.{places_for}
-use Rattle.definite_assignment.specs.Work.{IsSearch, state_of}
+use Rattle.definite_assignment.proofs.Common.{rules, ◌≡◌, ◌∙◌, false, length, refl, ap, sym, subst, arith, length-replicate, places_for, IsSearch, state_of}
 use Rattle.definite_assignment.proofs.Search.{none_waits, search_ends, search_room, search_starts_at}
 use Rattle.definite_assignment.proofs.fixpoint.Goals as goal
 

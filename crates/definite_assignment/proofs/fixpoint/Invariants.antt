@@ -1,6 +1,4 @@
-use Rattle.std.proofs.Common.{◌≡◌, length}
-use Rattle.definite_assignment.specs.Sets.{places_for}
-use Rattle.definite_assignment.specs.Work.{IsSearch, rest_of, state_of}
+use Rattle.definite_assignment.proofs.Common.{◌≡◌, length, places_for, IsSearch, rest_of, state_of}
 use Rattle.definite_assignment.proofs.fixpoint.Given as goal
 
 abbrev pub invariant-loop : goal.invariant-loop

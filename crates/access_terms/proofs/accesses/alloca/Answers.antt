@@ -1,7 +1,4 @@
-use Rattle.std.proofs.Common.{◌∙◌, refl, replicate}
-use Rattle.std.proofs.lemmas.Result.{on_ok_weaker}
-use Rattle.byte_block.specs.declared.value.Byte.TheVariants.{Poison}
-use Rattle.mem_terms.proofs.Later.{keeps_trans, is_term-later, bit-later, places-later, sym_bytes-later}
+use Rattle.access_terms.proofs.Common.{◌∙◌, refl, replicate, on_ok_weaker, Poison, keeps_trans, is_term-later, bit-later, places-later, sym_bytes-later}
 use Rattle.access_terms.proofs.Memories.{alloca_stands, new_block, pushed_made}
 use Rattle.access_terms.proofs.accesses.alloca.Goals as goal
 

@@ -1,4 +1,4 @@
-use Rattle.mem_terms.proofs.Later.{keeps_trans, sym_blocks-later}
+use Rattle.access_terms.proofs.Common.{keeps_trans, sym_blocks-later}
 use Rattle.access_terms.proofs.Finding.{load_stands}
 use Rattle.access_terms.proofs.accesses.load.Goals as goal
 

@@ -1,6 +1,4 @@
-use Rattle.std.proofs.Common.{◌∙◌, sym}
-use Rattle.mem_terms.proofs.Later.{keeps_trans, sym_blocks-later}
-use Rattle.mem_terms.specs.Memory.{memory_at}
+use Rattle.access_terms.proofs.Common.{◌∙◌, sym, keeps_trans, sym_blocks-later, memory_at}
 use Rattle.access_terms.proofs.Stored.{after_stands, store_stands, stored_count}
 use Rattle.access_terms.proofs.accesses.store.Goals as goal
 

@@ -1,6 +1,4 @@
-use Rattle.mem_terms.specs.Memory.{IsSymBlock}
-use Rattle.mem_terms.proofs.Eaches.{each-at}
-use Rattle.mem_terms.proofs.Later.{sym_block-later, sym_blocks-later}
+use Rattle.access_terms.proofs.Common.{IsSymBlock, each-at, sym_block-later, sym_blocks-later}
 use Rattle.access_terms.proofs.Joins.{above-grown, joined_both, joined_first, joined_second}
 use Rattle.access_terms.proofs.joining.join_next.Goals as goal
 

@@ -1,4 +1,4 @@
-use Rattle.mem_terms.proofs.Later.{keeps_trans}
+use Rattle.access_terms.proofs.Common.{keeps_trans}
 use Rattle.access_terms.proofs.Joins.{joined_more}
 use Rattle.access_terms.proofs.joining.pick_memory.Goals as goal
 

@@ -1,9 +1,5 @@
 -- What is picked is the one or the other, as far as they are joined.
-use Rattle.std.proofs.Common.{ℕ, ◌+◌, ◌-◌, length}
-use Rattle.bv_terms.specs.Trees.{Keeps}
-use Rattle.mem_terms.specs.Values.{Reading}
-use Rattle.mem_terms.specs.Memory.{AreSymBlocks}
-use Rattle.access_terms.specs.Joining.{AreAbove, IsJoined, IsUpTo}
+use Rattle.access_terms.proofs.Common.{ℕ, ◌+◌, ◌-◌, length, Keeps, Reading, AreSymBlocks, AreAbove, IsJoined, IsUpTo}
 use Rattle.access_terms.proofs.joining.pick_memory.Given as goal
 
 abbrev pub invariant-loop-alloc : goal.invariant-loop-alloc

@@ -1,6 +1,4 @@
-use Rattle.std.proofs.Common.{◌∙◌, refl}
-use Rattle.std.proofs.lemmas.Result.{on_ok_weaker}
-use Rattle.mem_terms.proofs.Later.{is_term-later, keeps_trans, sym_bytes-later}
+use Rattle.access_terms.proofs.Common.{◌∙◌, refl, on_ok_weaker, is_term-later, keeps_trans, sym_bytes-later}
 use Rattle.access_terms.proofs.Joins.{either_made, either_stands}
 use Rattle.access_terms.proofs.Memories.{pushed_made}
 use Rattle.access_terms.proofs.joining.push_either.Goals as goal

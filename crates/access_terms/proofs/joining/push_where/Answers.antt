@@ -1,5 +1,4 @@
-use Rattle.std.proofs.Common.{◌≡◌, ◌∙◌, refl, rules}
-use Rattle.std.proofs.lemmas.Result.{on_ok_weaker}
+use Rattle.access_terms.proofs.Common.{◌≡◌, ◌∙◌, refl, rules, on_ok_weaker}
 use Rattle.access_terms.proofs.Joins.{copied_is, where_made, where_stands}
 use Rattle.access_terms.proofs.Memories.{pushed_made}
 use Rattle.access_terms.proofs.joining.push_where.Goals as goal

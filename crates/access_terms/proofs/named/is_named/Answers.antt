@@ -1,4 +1,4 @@
-use Rattle.byte_terms.proofs.Naming.{named_stands}
+use Rattle.access_terms.proofs.Common.{named_stands}
 use Rattle.access_terms.proofs.named.is_named.Goals as goal
 
 pub returns-clause-stands : goal.returns-clause-stands

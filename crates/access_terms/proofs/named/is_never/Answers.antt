@@ -1,7 +1,6 @@
-use Rattle.std.proofs.Common.{◌∙◌, ap, Some, eqb-true}
+use Rattle.access_terms.proofs.Common.{◌∙◌, ap, Some, eqb-true, never_true}
 use Rattle.bv_terms.specs.declared.term.Term.TheVariants as term
 use Rattle.bv_terms.proofs.Keeping.{term_place}
-use Rattle.byte_terms.proofs.Naming.{never_true}
 use Rattle.access_terms.proofs.named.is_never.Goals as goal
 
 pub returns-in-Constant : goal.returns-in-Constant

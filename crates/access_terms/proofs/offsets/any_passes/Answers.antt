@@ -1,8 +1,4 @@
-use Rattle.std.proofs.Common.{◌∙◌, ◌||◌, ap, arith}
-use Rattle.bv_terms.specs.Trees.{bit_at}
-use Rattle.mem_terms.proofs.Eaches.{each-at}
-use Rattle.mem_terms.proofs.Later.{bit-later, keeps_trans}
-use Rattle.access_terms.specs.Offsets.{IsSymIndex, indices_at, passes}
+use Rattle.access_terms.proofs.Common.{◌∙◌, ◌||◌, ap, arith, bit_at, each-at, bit-later, keeps_trans, IsSymIndex, indices_at, passes}
 use Rattle.access_terms.proofs.Indices.{any_more, index-in, index-number, indices-length}
 use Rattle.access_terms.proofs.Leading.{index-later, sym_index-later}
 use Rattle.access_terms.proofs.offsets.any_passes.Goals as goal

@@ -1,8 +1,5 @@
 -- Some index passes if one before the index does, or one from there on.
-use Rattle.std.proofs.Common.{ℕ, ◌≡◌, ◌||◌, drop}
-use Rattle.std.specs.List.{list_any}
-use Rattle.bv_terms.specs.Trees.{Keeps, IsTerm, bit_at}
-use Rattle.access_terms.specs.Offsets.{AreNumbers, indices_at, passes}
+use Rattle.access_terms.proofs.Common.{ℕ, ◌≡◌, ◌||◌, drop, list_any, Keeps, IsTerm, bit_at, AreNumbers, indices_at, passes}
 use Rattle.access_terms.proofs.offsets.any_passes.Given as goal
 
 abbrev pub invariant-loop-index : goal.invariant-loop-index

@@ -1,4 +1,4 @@
-use Rattle.mem_terms.proofs.Later.{keeps_trans}
+use Rattle.access_terms.proofs.Common.{keeps_trans}
 use Rattle.access_terms.proofs.Leading.{gep_made, gep_stands, kept_by_4}
 use Rattle.access_terms.proofs.offsets.gep.Goals as goal
 

@@ -1,5 +1,4 @@
-use Rattle.std.proofs.lemmas.Result.{IfOk-weaker}
-use Rattle.mem_terms.proofs.Later.{keeps_trans}
+use Rattle.access_terms.proofs.Common.{IfOk-weaker, keeps_trans}
 use Rattle.access_terms.proofs.Leading.{no_offset_is, sym_indices-later}
 use Rattle.access_terms.proofs.offsets.has_no_offset.Goals as goal
 

@@ -1,9 +1,4 @@
-use Rattle.std.proofs.Common.{◌∙◌, not, arith}
-use Rattle.memory_access.specs.Offsets.{is_index}
-use Rattle.bv_terms.specs.Trees.{bit_at}
-use Rattle.mem_terms.proofs.Eaches.{each-at}
-use Rattle.mem_terms.proofs.Later.{bit-later, keeps_trans}
-use Rattle.access_terms.specs.Offsets.{IsSymIndex, indices_at}
+use Rattle.access_terms.proofs.Common.{◌∙◌, not, arith, is_index, bit_at, each-at, bit-later, keeps_trans, IsSymIndex, indices_at}
 use Rattle.access_terms.proofs.Indices.{any_more, any_whole, index-in, indices-length, not-all, poison-is}
 use Rattle.access_terms.proofs.offsets.has_poison.Goals as goal
 

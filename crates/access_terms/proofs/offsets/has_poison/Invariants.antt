@@ -1,9 +1,5 @@
 -- Some index is poison if one before the index is, or one from there on.
-use Rattle.std.proofs.Common.{ℕ, ◌≡◌, not, ◌||◌, drop}
-use Rattle.std.specs.List.{list_any}
-use Rattle.memory_access.specs.Offsets.{is_index}
-use Rattle.bv_terms.specs.Trees.{Keeps, IsTerm, bit_at}
-use Rattle.access_terms.specs.Offsets.{indices_at}
+use Rattle.access_terms.proofs.Common.{ℕ, ◌≡◌, not, ◌||◌, drop, list_any, is_index, Keeps, IsTerm, bit_at, indices_at}
 use Rattle.access_terms.proofs.offsets.has_poison.Given as goal
 
 abbrev pub invariant-loop-index : goal.invariant-loop-index

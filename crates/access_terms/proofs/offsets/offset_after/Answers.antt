@@ -1,10 +1,4 @@
-use Rattle.std.proofs.Common.{◌∙◌, sym, arith}
-use Rattle.bv_terms.specs.Trees.{term_at}
-use Rattle.memory_access.proofs.Sums.{last_sum-end, last_sum-more}
-use Rattle.mem_terms.proofs.Bits.{term-below}
-use Rattle.mem_terms.proofs.Eaches.{each-at}
-use Rattle.mem_terms.proofs.Later.{keeps_trans}
-use Rattle.access_terms.specs.Offsets.{IsSymIndex, indices_at}
+use Rattle.access_terms.proofs.Common.{◌∙◌, sym, arith, term_at, last_sum-end, last_sum-more, term-below, each-at, keeps_trans, IsSymIndex, indices_at}
 use Rattle.access_terms.proofs.Indices.{index-in, index-number, indices-length}
 use Rattle.access_terms.proofs.Leading.{offset_next, sym_index-later}
 use Rattle.access_terms.proofs.Walked.{walked-whole}

@@ -1,9 +1,5 @@
 -- The indices from the index on lead from here where all lead from the offset.
-use Rattle.std.proofs.Common.{ℕ, ◌≡◌, drop, pos}
-use Rattle.tv_num.specs.Width.{wrapped}
-use Rattle.memory_access.specs.Offsets.{last_sum}
-use Rattle.bv_terms.specs.Trees.{Keeps, IsTerm, term_at}
-use Rattle.access_terms.specs.Offsets.{AreNumbers, indices_at}
+use Rattle.access_terms.proofs.Common.{ℕ, ◌≡◌, drop, pos, wrapped, last_sum, Keeps, IsTerm, term_at, AreNumbers, indices_at}
 use Rattle.access_terms.proofs.offsets.offset_after.Given as goal
 
 abbrev pub invariant-loop-index : goal.invariant-loop-index

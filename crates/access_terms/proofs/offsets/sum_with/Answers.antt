@@ -1,6 +1,4 @@
-use Rattle.std.proofs.Common.{arith}
-use Rattle.std.proofs.lemmas.Result.{IfOk-weaker}
-use Rattle.mem_terms.proofs.Made.{below-wider}
+use Rattle.access_terms.proofs.Common.{arith, IfOk-weaker, below-wider}
 use Rattle.access_terms.proofs.Leading.{sum_with_made}
 use Rattle.access_terms.proofs.offsets.sum_with.Goals as goal
 

@@ -1,4 +1,4 @@
-use Rattle.std.proofs.lemmas.Result.{IfOk-weaker}
+use Rattle.access_terms.proofs.Common.{IfOk-weaker}
 use Rattle.access_terms.proofs.Leading.{negative_stands, nonzero_stands}
 use Rattle.access_terms.proofs.offsets.test_index.Goals as goal
 

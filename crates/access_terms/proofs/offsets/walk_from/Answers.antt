@@ -1,5 +1,4 @@
-use Rattle.mem_terms.specs.Memory.{memory_at}
-use Rattle.mem_terms.proofs.Later.{keeps_trans}
+use Rattle.access_terms.proofs.Common.{memory_at, keeps_trans}
 use Rattle.access_terms.proofs.Leading.{kept_by_4, only_if, sym_indices-later, walk_leaves, walk_offset}
 use Rattle.access_terms.proofs.offsets.walk_from.Goals as goal
 

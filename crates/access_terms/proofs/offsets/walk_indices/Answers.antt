@@ -1,10 +1,4 @@
-use Rattle.std.proofs.Common.{◌∙◌, ◌^◌, ◌||◌, nat_lt, ap, arith, pow_pos}
-use Rattle.std.proofs.lemmas.Nat.{mod_below}
-use Rattle.bv_terms.specs.Trees.{bit_at, term_at}
-use Rattle.mem_terms.proofs.Bits.{term-below}
-use Rattle.mem_terms.proofs.Eaches.{each-at}
-use Rattle.mem_terms.proofs.Later.{is_term-later, keeps_trans, term-later}
-use Rattle.access_terms.specs.Offsets.{IsSymIndex, indices_at, walked_sum}
+use Rattle.access_terms.proofs.Common.{◌∙◌, ◌^◌, ◌||◌, nat_lt, ap, arith, pow_pos, mod_below, bit_at, term_at, term-below, each-at, is_term-later, keeps_trans, term-later, IsSymIndex, indices_at, walked_sum}
 use Rattle.access_terms.proofs.Indices.{index-in, index-number, indices-length, walked_leaves, walked_more, walked_none, walked_sum_is}
 use Rattle.access_terms.proofs.Leading.{offset_next, outside_next, sym_index-later}
 use Rattle.access_terms.proofs.offsets.walk_indices.Goals as goal

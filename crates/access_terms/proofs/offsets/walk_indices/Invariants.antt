@@ -1,7 +1,5 @@
 -- The walk so far is that of the indices before the index.
-use Rattle.std.proofs.Common.{ℕ, ◌<◌, ◌^◌}
-use Rattle.bv_terms.specs.Trees.{Keeps, IsTerm, bit_at, term_at}
-use Rattle.access_terms.specs.Offsets.{AreNumbers, indices_at}
+use Rattle.access_terms.proofs.Common.{ℕ, ◌<◌, ◌^◌, Keeps, IsTerm, bit_at, term_at, AreNumbers, indices_at}
 use Rattle.access_terms.proofs.Indices.{IsWalked}
 use Rattle.access_terms.proofs.offsets.walk_indices.Given as goal
 

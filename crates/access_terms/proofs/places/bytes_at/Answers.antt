@@ -1,7 +1,4 @@
-use Rattle.std.proofs.Common.{◌∙◌, sym, arith}
-use Rattle.bv_terms.specs.Trees.{term_at}
-use Rattle.mem_terms.specs.Memory.{places_at}
-use Rattle.mem_terms.proofs.Later.{keeps_trans, sym_bytes-later}
+use Rattle.access_terms.proofs.Common.{◌∙◌, sym, arith, term_at, places_at, keeps_trans, sym_bytes-later}
 use Rattle.access_terms.proofs.Putting.{first_taken, taken_more}
 use Rattle.access_terms.proofs.BlockLengths.{admitted_room, bytes_are}
 use Rattle.access_terms.proofs.places.bytes_at.Goals as goal

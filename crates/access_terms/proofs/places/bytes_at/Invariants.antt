@@ -1,9 +1,5 @@
 -- The bytes are those at the offset where it is one of those so far.
-use Rattle.std.proofs.Common.{◌≡◌, ◌<◌, true, length, take, drop, Some}
-use Rattle.memory_access.specs.Accesses.{admits}
-use Rattle.bv_terms.specs.Trees.{Keeps, term_at}
-use Rattle.mem_terms.specs.Values.{Reading}
-use Rattle.mem_terms.specs.Memory.{AreSymBytes, block_at, places_at}
+use Rattle.access_terms.proofs.Common.{◌≡◌, ◌<◌, true, length, take, drop, Some, admits, Keeps, term_at, Reading, AreSymBytes, block_at, places_at}
 use Rattle.access_terms.proofs.places.bytes_at.Given as goal
 
 abbrev pub invariant-loop-place : goal.invariant-loop-place

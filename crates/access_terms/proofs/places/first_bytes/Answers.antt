@@ -1,5 +1,4 @@
-use Rattle.std.proofs.Common.{◌∙◌, arith, rules}
-use Rattle.std.proofs.lemmas.Result.{IfOk-weaker}
+use Rattle.access_terms.proofs.Common.{◌∙◌, arith, rules, IfOk-weaker}
 use Rattle.access_terms.proofs.Putting.{first_places}
 use Rattle.access_terms.proofs.places.first_bytes.Goals as goal
 

@@ -1,6 +1,4 @@
-use Rattle.std.proofs.Common.{◌-◌, ◌+◌, ◌≤◌, length, arith}
-use Rattle.bv_terms.specs.Trees.{bit_at, term_at}
-use Rattle.mem_terms.proofs.Later.{keeps_trans, sym_block-later}
+use Rattle.access_terms.proofs.Common.{◌-◌, ◌+◌, ◌≤◌, length, arith, bit_at, term_at, keeps_trans, sym_block-later}
 use Rattle.access_terms.proofs.BlockLengths.{admitted_more, all_admitted}
 use Rattle.access_terms.proofs.places.is_admitted.Goals as goal
 

@@ -1,9 +1,5 @@
 -- True where the offset is one of those so far, and the block admits it.
-use Rattle.std.proofs.Common.{◌≡◌, ◌&&◌, nat_lt, Some}
-use Rattle.memory_access.specs.Accesses.{admits}
-use Rattle.bv_terms.specs.Trees.{IsTerm, Keeps, bit_at, term_at}
-use Rattle.mem_terms.specs.Values.{Reading}
-use Rattle.mem_terms.specs.Memory.{block_at}
+use Rattle.access_terms.proofs.Common.{◌≡◌, ◌&&◌, nat_lt, Some, admits, IsTerm, Keeps, bit_at, term_at, Reading, block_at}
 use Rattle.access_terms.proofs.places.is_admitted.Given as goal
 
 abbrev pub invariant-loop-place : goal.invariant-loop-place

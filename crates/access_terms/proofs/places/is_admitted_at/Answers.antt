@@ -1,5 +1,4 @@
-use Rattle.std.proofs.Common.{◌∙◌, nat_eq, sym}
-use Rattle.bv_terms.specs.Trees.{bit_at, term_at}
+use Rattle.access_terms.proofs.Common.{◌∙◌, nat_eq, sym, bit_at, term_at}
 use Rattle.access_terms.proofs.BlockLengths.{elsewhere_stands, fits_stands, unaligned_stands}
 use Rattle.access_terms.proofs.places.is_admitted_at.Goals as goal
 

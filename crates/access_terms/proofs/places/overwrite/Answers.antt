@@ -1,7 +1,4 @@
-use Rattle.std.proofs.Common.{◌+◌, ◌%◌, ◌&&◌, ◌∙◌, length, nat_eq, nat_le, refl, sym, arith}
-use Rattle.bv_terms.specs.Trees.{bit_at, term_at}
-use Rattle.mem_terms.specs.Memory.{places_at}
-use Rattle.access_terms.specs.Places.{written}
+use Rattle.access_terms.proofs.Common.{◌+◌, ◌%◌, ◌&&◌, ◌∙◌, length, nat_eq, nat_le, refl, sym, arith, bit_at, term_at, places_at, written}
 use Rattle.access_terms.proofs.BlockLengths.{first_room, first_stands, first_stays, overwrite_stands, overwrite_stays}
 use Rattle.access_terms.proofs.places.overwrite.Goals as goal
 

@@ -1,6 +1,4 @@
-use Rattle.std.proofs.Common.{◌%◌, ◌∙◌}
-use Rattle.std.proofs.lemmas.Bool.{eq-eqb}
-use Rattle.mem_terms.proofs.Later.{keeps_trans, sym_bytes-later}
+use Rattle.access_terms.proofs.Common.{◌%◌, ◌∙◌, eq-eqb, keeps_trans, sym_bytes-later}
 use Rattle.access_terms.proofs.Putting.{put_next}
 use Rattle.access_terms.proofs.places.overwrite_places.Goals as goal
 

@@ -1,9 +1,5 @@
 -- The bytes are put where the offset is one of those so far.
-use Rattle.std.proofs.Common.{◌≡◌, ◌%◌, ◌&&◌, cond, nat_eq, nat_lt, length}
-use Rattle.bv_terms.specs.Trees.{Keeps, bit_at, term_at}
-use Rattle.mem_terms.specs.Values.{Reading}
-use Rattle.mem_terms.specs.Memory.{AreSymBytes, places_at}
-use Rattle.access_terms.specs.Places.{written}
+use Rattle.access_terms.proofs.Common.{◌≡◌, ◌%◌, ◌&&◌, cond, nat_eq, nat_lt, length, Keeps, bit_at, term_at, Reading, AreSymBytes, places_at, written}
 use Rattle.access_terms.proofs.places.overwrite_places.Given as goal
 
 abbrev pub invariant-loop-place : goal.invariant-loop-place

@@ -1,11 +1,5 @@
-use Rattle.std.proofs.Common.{◌+◌, ◌∙◌, List, length, get_or, ap, sym, arith}
-use Rattle.std.proofs.lemmas.List.{length-set}
+use Rattle.access_terms.proofs.Common.{◌+◌, ◌∙◌, List, length, get_or, ap, sym, arith, length-set, SymByte, bit_at, IsSymByte, byte_at, places_at, at-any, each-set, map-length, keeps_trans, sym_bytes-later}
 use Rattle.std.proofs.lemmas.Option.{get_or_from_slice_get}
-use Rattle.mem_terms.specs.declared.bytes.SymByte.{SymByte}
-use Rattle.bv_terms.specs.Trees.{bit_at}
-use Rattle.mem_terms.specs.Memory.{IsSymByte, byte_at, places_at}
-use Rattle.mem_terms.proofs.Eaches.{at-any, each-set, map-length}
-use Rattle.mem_terms.proofs.Later.{keeps_trans, sym_bytes-later}
 use Rattle.access_terms.proofs.Putting.{put_all, put_more}
 use Rattle.access_terms.proofs.places.put_bytes.Goals as goal
 

@@ -1,9 +1,5 @@
 -- The bytes so far are put where the condition is true.
-use Rattle.std.proofs.Common.{◌≡◌, ◌≤◌, length, cond}
-use lib.Seq.{paste}
-use Rattle.bv_terms.specs.Trees.{Keeps, bit_at}
-use Rattle.mem_terms.specs.Values.{Reading}
-use Rattle.mem_terms.specs.Memory.{AreSymBytes, places_at}
+use Rattle.access_terms.proofs.Common.{◌≡◌, ◌≤◌, length, cond, paste, Keeps, bit_at, Reading, AreSymBytes, places_at}
 use Rattle.access_terms.proofs.places.put_bytes.Given as goal
 
 abbrev pub invariant-loop-i : goal.invariant-loop-i

@@ -1,8 +1,4 @@
-use Rattle.bv_terms.specs.Trees.{bit_at, term_at}
-use Rattle.std.proofs.Common.{◌&&◌, ◌∙◌, nat_eq, sym}
-use Rattle.mem_terms.specs.Memory.{places_at}
-use Rattle.mem_terms.proofs.Later.{keeps_trans, sym_bytes-later}
-use Rattle.access_terms.specs.Places.{written}
+use Rattle.access_terms.proofs.Common.{bit_at, term_at, ◌&&◌, ◌∙◌, nat_eq, sym, places_at, keeps_trans, sym_bytes-later, written}
 use Rattle.access_terms.proofs.Putting.{chosen_put, chosen_says, never_put}
 use Rattle.access_terms.proofs.places.put_bytes_at.Goals as goal
 

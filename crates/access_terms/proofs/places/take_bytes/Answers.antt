@@ -1,7 +1,4 @@
-use Rattle.std.proofs.Common.{◌+◌, ◌-◌, ◌∙◌, drop, length, nat_eq, sym, take, arith}
-use Rattle.bv_terms.specs.Trees.{bit_at, term_at}
-use Rattle.mem_terms.specs.Memory.{IsSymByte, places_at}
-use Rattle.mem_terms.proofs.Later.{sym_bytes-later}
+use Rattle.access_terms.proofs.Common.{◌+◌, ◌-◌, ◌∙◌, drop, length, nat_eq, sym, take, arith, bit_at, term_at, IsSymByte, places_at, sym_bytes-later}
 use Rattle.access_terms.proofs.Putting.{each-part, never_put, taken}
 use Rattle.access_terms.proofs.places.take_bytes.Goals as goal
 

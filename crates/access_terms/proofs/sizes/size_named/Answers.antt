@@ -1,7 +1,4 @@
-use Rattle.std.proofs.Common.{◌≡◌, ◌-◌, ◌<◌, length, suc, arith}
-use Rattle.mem_terms.proofs.Eaches.{each-at}
-use Rattle.mem_terms.proofs.Later.{keeps_trans, sym_block-later}
-use Rattle.mem_terms.specs.Memory.{IsSymBlock}
+use Rattle.access_terms.proofs.Common.{◌≡◌, ◌-◌, ◌<◌, length, suc, arith, each-at, keeps_trans, sym_block-later, IsSymBlock}
 use Rattle.access_terms.proofs.Finding.{memory-end}
 use Rattle.access_terms.proofs.Sized.{size_front}
 use Rattle.access_terms.proofs.sizes.size_named.Goals as goal

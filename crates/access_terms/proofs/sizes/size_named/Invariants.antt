@@ -1,9 +1,5 @@
 -- The size is that of the first block from the index on that is named.
-use Rattle.std.proofs.Common.{◌≡◌, ◌≤◌, length, drop}
-use Rattle.memory_access.specs.Blocks.{bytes_named}
-use Rattle.bv_terms.specs.Trees.{Keeps, IsTerm, term_at}
-use Rattle.mem_terms.specs.Values.{IsNaming, Reading}
-use Rattle.mem_terms.specs.Memory.{memory_at}
+use Rattle.access_terms.proofs.Common.{◌≡◌, ◌≤◌, length, drop, bytes_named, Keeps, IsTerm, term_at, IsNaming, Reading, memory_at}
 use Rattle.access_terms.proofs.sizes.size_named.Given as goal
 
 abbrev pub invariant-loop-i : goal.invariant-loop-i

@@ -1,5 +1,4 @@
-use Rattle.std.proofs.lemmas.Result.{IfOk-weaker}
-use Rattle.mem_terms.proofs.Later.{sym_block-later}
+use Rattle.access_terms.proofs.Common.{IfOk-weaker, sym_block-later}
 use Rattle.access_terms.proofs.Sized.{size_with_is}
 use Rattle.access_terms.proofs.sizes.size_with.Goals as goal
 

@@ -1,7 +1,4 @@
-use Rattle.std.proofs.Common.{◌≡◌, ◌-◌, ◌<◌, length, suc, arith}
-use Rattle.mem_terms.proofs.Eaches.{each-at}
-use Rattle.mem_terms.proofs.Later.{keeps_trans, sym_block-later}
-use Rattle.mem_terms.specs.Memory.{IsSymBlock}
+use Rattle.access_terms.proofs.Common.{◌≡◌, ◌-◌, ◌<◌, length, suc, arith, each-at, keeps_trans, sym_block-later, IsSymBlock}
 use Rattle.access_terms.proofs.Finding.{admits_front, memory-end}
 use Rattle.access_terms.proofs.spans.admits.Goals as goal
 

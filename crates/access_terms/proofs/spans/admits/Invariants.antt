@@ -1,9 +1,5 @@
 -- What is known is what the blocks from the index on admit.
-use Rattle.std.proofs.Common.{◌≡◌, ◌≤◌, length, drop}
-use Rattle.bv_terms.specs.Trees.{Keeps, IsTerm, bit_at}
-use Rattle.mem_terms.specs.Values.{IsNaming, Reading}
-use Rattle.mem_terms.specs.Memory.{memory_at}
-use Rattle.access_terms.specs.Spans.{admits_span, block_of_span}
+use Rattle.access_terms.proofs.Common.{◌≡◌, ◌≤◌, length, drop, Keeps, IsTerm, bit_at, IsNaming, Reading, memory_at, admits_span, block_of_span}
 use Rattle.access_terms.proofs.spans.admits.Given as goal
 
 abbrev pub invariant-loop-i : goal.invariant-loop-i

@@ -1,7 +1,4 @@
-use Rattle.std.proofs.Common.{◌≡◌, ◌-◌, ◌<◌, length, suc, arith, refl}
-use Rattle.mem_terms.proofs.Eaches.{each-at}
-use Rattle.mem_terms.proofs.Later.{keeps_self, keeps_trans, sym_block-later}
-use Rattle.mem_terms.specs.Memory.{IsSymBlock}
+use Rattle.access_terms.proofs.Common.{◌≡◌, ◌-◌, ◌<◌, length, suc, arith, refl, each-at, keeps_self, keeps_trans, sym_block-later, IsSymBlock}
 use Rattle.access_terms.proofs.Finding.{reads_front, memory-end}
 use Rattle.access_terms.proofs.spans.bytes_of.Goals as goal
 

@@ -1,9 +1,5 @@
 -- The bytes are those that the blocks from the index on admit.
-use Rattle.std.proofs.Common.{◌≤◌, length, drop}
-use Rattle.bv_terms.specs.Trees.{Keeps, term_at}
-use Rattle.mem_terms.specs.Values.{IsNaming, Reading}
-use Rattle.mem_terms.specs.Memory.{memory_at}
-use Rattle.access_terms.specs.Spans.{AreSpanBytes, Reads, span_name}
+use Rattle.access_terms.proofs.Common.{◌≤◌, length, drop, Keeps, term_at, IsNaming, Reading, memory_at, AreSpanBytes, Reads, span_name}
 use Rattle.access_terms.proofs.spans.bytes_of.Given as goal
 
 abbrev pub invariant-loop-i : goal.invariant-loop-i

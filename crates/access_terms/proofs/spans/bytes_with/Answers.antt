@@ -1,5 +1,4 @@
-use Rattle.std.proofs.Common.{[]}
-use Rattle.mem_terms.proofs.Later.{keeps_self, keeps_trans, sym_block-later, sym_bytes-later}
+use Rattle.access_terms.proofs.Common.{[], keeps_self, keeps_trans, sym_block-later, sym_bytes-later}
 use Rattle.access_terms.proofs.Finding.{reads_either, reads_never, reads_one, span_bytes-later}
 use Rattle.access_terms.proofs.spans.bytes_with.Goals as goal
 

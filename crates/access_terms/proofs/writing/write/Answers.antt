@@ -1,8 +1,4 @@
-use Rattle.std.proofs.Common.{◌<◌, ◌∙◌, length, slice_set, ap, refl, arith}
-use Rattle.mem_terms.specs.Memory.{IsSymBlock}
-use Rattle.mem_terms.proofs.Eaches.{each-at, each-set}
-use Rattle.mem_terms.proofs.Later.{keeps_trans, sym_blocks-later, sym_bytes-later}
-use Rattle.access_terms.specs.Accesses.{SymFrame, sym_frame}
+use Rattle.access_terms.proofs.Common.{◌<◌, ◌∙◌, length, slice_set, ap, refl, arith, IsSymBlock, each-at, each-set, keeps_trans, sym_blocks-later, sym_bytes-later, SymFrame, sym_frame}
 use Rattle.access_terms.proofs.Stored.{at-slice, drop-one, drop-set, front-same, map-set-same, set-length, written-none, written_more, written_whole}
 use Rattle.access_terms.proofs.writing.write.Goals as goal
 

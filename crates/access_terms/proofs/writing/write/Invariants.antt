@@ -1,10 +1,5 @@
 -- The blocks up to the index are as they shall be, and the others are as they were.
-use Rattle.std.proofs.Common.{◌≡◌, ◌≤◌, true, length, map, drop}
-use Rattle.bv_terms.specs.Trees.{Keeps, IsTerm, bit_at}
-use Rattle.mem_terms.specs.Values.{IsNaming, Reading}
-use Rattle.mem_terms.specs.Memory.{AreSymBlocks, memory_at, places_at}
-use Rattle.access_terms.specs.Accesses.{sym_frame}
-use Rattle.access_terms.specs.Spans.{admits_span, block_of_span}
+use Rattle.access_terms.proofs.Common.{◌≡◌, ◌≤◌, true, length, map, drop, Keeps, IsTerm, bit_at, IsNaming, Reading, AreSymBlocks, memory_at, places_at, sym_frame, admits_span, block_of_span}
 use Rattle.access_terms.proofs.Stored.{IsWritten}
 use Rattle.access_terms.proofs.writing.write.Given as goal
 

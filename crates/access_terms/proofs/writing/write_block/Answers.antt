@@ -1,5 +1,4 @@
-use Rattle.std.proofs.lemmas.Result.{IfOk-weaker}
-use Rattle.mem_terms.proofs.Later.{block-later, keeps_trans, sym_block-later, sym_bytes-later}
+use Rattle.access_terms.proofs.Common.{IfOk-weaker, block-later, keeps_trans, sym_block-later, sym_bytes-later}
 use Rattle.access_terms.proofs.Stored.{block_changes, block_goes, block_stays, on_ok_always}
 use Rattle.access_terms.proofs.writing.write_block.Goals as goal
 

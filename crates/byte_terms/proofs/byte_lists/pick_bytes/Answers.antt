@@ -1,5 +1,4 @@
-use Rattle.std.proofs.Common.{get_or, arith, ◌<◌, length}
-use Rattle.mem_terms.proofs.Eaches.{at-any}
+use Rattle.byte_terms.proofs.Common.{get_or, arith, ◌<◌, length, at-any}
 use Rattle.byte_terms.proofs.ByteLists.{bytes_more}
 use Rattle.byte_terms.proofs.byte_lists.pick_bytes.Goals as goal
 

@@ -1,8 +1,5 @@
 -- The bytes so far are those of a prefix of each list.
-use Rattle.std.proofs.Common.{◌≡◌, ◌≤◌, length, take, cond}
-use Rattle.bv_terms.specs.Trees.{Keeps, bit_at}
-use Rattle.mem_terms.specs.Values.{Reading}
-use Rattle.mem_terms.specs.Memory.{AreSymBytes, places_at}
+use Rattle.byte_terms.proofs.Common.{◌≡◌, ◌≤◌, length, take, cond, Keeps, bit_at, Reading, AreSymBytes, places_at}
 use Rattle.byte_terms.proofs.byte_lists.pick_bytes.Given as goal
 
 abbrev pub invariant-loop-i : goal.invariant-loop-i

@@ -1,5 +1,4 @@
-use Rattle.std.proofs.Common.{◌≡◌, ◌∙◌, sym, subst, ap, rules, replicate}
-use Rattle.mem_terms.specs.Memory.{AreSymBytes, IsSymByte, byte_at, places_at}
+use Rattle.byte_terms.proofs.Common.{◌≡◌, ◌∙◌, sym, subst, ap, rules, replicate, AreSymBytes, IsSymByte, byte_at, places_at}
 use Rattle.byte_terms.proofs.ByteLists.{each-replicate, map-replicate}
 use Rattle.byte_terms.proofs.byte_lists.poison_bytes.Goals as goal
 

@@ -1,8 +1,5 @@
-use Rattle.std.proofs.Common.{get_or}
-use Rattle.mem_terms.proofs.Eaches.{at-any}
-use Rattle.mem_terms.proofs.Later.{keeps_trans}
+use Rattle.byte_terms.proofs.Common.{get_or, at-any, keeps_trans, bit_at}
 use Rattle.byte_terms.proofs.Digits.{numbers_all, numbers_more}
-use Rattle.bv_terms.specs.Trees.{bit_at}
 use Rattle.byte_terms.proofs.integer_bytes.are_numbers.Goals as goal
 
 pub loop-byte-preserved : goal.loop-byte-preserved

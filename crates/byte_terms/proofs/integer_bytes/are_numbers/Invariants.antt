@@ -1,10 +1,6 @@
 -- The bytes so far are numbers where it is true.
-use Rattle.std.proofs.Common.{◌≡◌, ◌&&◌, drop}
-use Rattle.std.specs.Option.{is_some}
+use Rattle.byte_terms.proofs.Common.{◌≡◌, ◌&&◌, drop, is_some, IsTerm, Keeps, bit_at, Reading, places_at}
 use Rattle.memory_access.specs.Bytes as meant
-use Rattle.bv_terms.specs.Trees.{IsTerm, Keeps, bit_at}
-use Rattle.mem_terms.specs.Values.{Reading}
-use Rattle.mem_terms.specs.Memory.{places_at}
 use Rattle.byte_terms.proofs.integer_bytes.are_numbers.Given as goal
 
 abbrev pub invariant-loop-byte : goal.invariant-loop-byte

@@ -1,4 +1,4 @@
-use Rattle.std.proofs.Common.{◌<◌, arith}
+use Rattle.byte_terms.proofs.Common.{◌<◌, arith}
 use Rattle.byte_terms.proofs.Digits.{has_width_stands}
 use Rattle.byte_terms.proofs.integer_bytes.has_width.Goals as goal
 

@@ -1,4 +1,4 @@
-use Rattle.mem_terms.proofs.Later.{keeps_trans}
+use Rattle.byte_terms.proofs.Common.{keeps_trans}
 use Rattle.byte_terms.proofs.Digits.{integer_of_bytes_stands}
 use Rattle.byte_terms.proofs.integer_bytes.integer_of_bytes.Goals as goal
 

@@ -1,9 +1,4 @@
-use Rattle.std.proofs.Common.{◌+◌, ◌*◌, ◌^◌, get_or, arith}
-use Rattle.bv_terms.specs.Tree.{width_of}
-use Rattle.bv_terms.specs.Trees.{term_at, tree_in}
-use Rattle.mem_terms.specs.Memory.{IsSymByte}
-use Rattle.mem_terms.proofs.Eaches.{at-any, each-at}
-use Rattle.mem_terms.proofs.Later.{keeps_self, keeps_trans, sym_byte-later}
+use Rattle.byte_terms.proofs.Common.{◌+◌, ◌*◌, ◌^◌, get_or, arith, width_of, term_at, tree_in, IsSymByte, at-any, each-at, keeps_self, keeps_trans, sym_byte-later}
 use Rattle.byte_terms.proofs.Digits.{joined_all, joined_first, joined_more, joined_wide}
 use Rattle.byte_terms.proofs.integer_bytes.joined.Goals as goal
 

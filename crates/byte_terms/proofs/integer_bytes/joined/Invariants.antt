@@ -1,9 +1,6 @@
 -- The bytes so far are the low ones of the number.
-use Rattle.std.proofs.Common.{ℕ, ◌≡◌, ◌≤◌, ◌*◌, drop, length, Some}
+use Rattle.byte_terms.proofs.Common.{ℕ, ◌≡◌, ◌≤◌, ◌*◌, drop, length, Some, IsTerm, Keeps, term_at, Reading, places_at}
 use Rattle.memory_access.specs.Bytes as meant
-use Rattle.bv_terms.specs.Trees.{IsTerm, Keeps, term_at}
-use Rattle.mem_terms.specs.Values.{Reading}
-use Rattle.mem_terms.specs.Memory.{places_at}
 use Rattle.byte_terms.proofs.Digits.{Left}
 use Rattle.byte_terms.proofs.integer_bytes.joined.Given as goal
 

@@ -1,6 +1,4 @@
-use Rattle.mem_terms.specs.Memory.{IsSymByte}
-use Rattle.mem_terms.proofs.Eaches.{each-push}
-use Rattle.mem_terms.proofs.Later.{keeps_trans, sym_bytes-later}
+use Rattle.byte_terms.proofs.Common.{IsSymByte, each-push, keeps_trans, sym_bytes-later}
 use Rattle.byte_terms.proofs.Digits.{digits_all, digits_more}
 use Rattle.byte_terms.proofs.integer_bytes.number_bytes.Goals as goal
 

@@ -1,8 +1,4 @@
-use Rattle.std.proofs.Common.{get_or}
-use Rattle.bv_terms.specs.Trees.{bit_at}
-use Rattle.mem_terms.specs.Memory.{IsSymByte}
-use Rattle.mem_terms.proofs.Eaches.{at-any, each-at}
-use Rattle.mem_terms.proofs.Later.{byte-later, keeps_trans}
+use Rattle.byte_terms.proofs.Common.{get_or, bit_at, IsSymByte, at-any, each-at, byte-later, keeps_trans}
 use Rattle.byte_terms.proofs.Parts.{are_parts_all, are_parts_more, pointer_at}
 use Rattle.byte_terms.proofs.pointer_bytes.are_parts.Goals as goal
 

@@ -1,9 +1,6 @@
 -- The bytes so far are the first parts of the pointer where it is true.
-use Rattle.std.proofs.Common.{◌≡◌, ◌&&◌, drop}
+use Rattle.byte_terms.proofs.Common.{◌≡◌, ◌&&◌, drop, IsTerm, Keeps, bit_at, IsNaming, Reading, places_at}
 use Rattle.memory_access.specs.Bytes as meant
-use Rattle.bv_terms.specs.Trees.{IsTerm, Keeps, bit_at}
-use Rattle.mem_terms.specs.Values.{IsNaming, Reading}
-use Rattle.mem_terms.specs.Memory.{places_at}
 use Rattle.byte_terms.proofs.Parts.{pointer_at}
 use Rattle.byte_terms.proofs.pointer_bytes.are_parts.Given as goal
 

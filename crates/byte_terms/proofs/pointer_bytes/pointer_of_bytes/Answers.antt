@@ -1,5 +1,4 @@
-use Rattle.std.proofs.Common.{◌<◌, get_or, length, arith}
-use Rattle.mem_terms.proofs.Eaches.{at-any}
+use Rattle.byte_terms.proofs.Common.{◌<◌, get_or, length, arith, at-any}
 use Rattle.byte_terms.proofs.Parts.{pointer_of_bytes_stands}
 use Rattle.byte_terms.proofs.pointer_bytes.pointer_of_bytes.Goals as goal
 

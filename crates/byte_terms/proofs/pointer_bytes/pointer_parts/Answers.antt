@@ -1,6 +1,4 @@
-use Rattle.mem_terms.specs.Memory.{IsSymByte}
-use Rattle.mem_terms.proofs.Eaches.{each-push}
-use Rattle.mem_terms.proofs.Later.{keeps_trans, sym_bytes-later}
+use Rattle.byte_terms.proofs.Common.{IsSymByte, each-push, keeps_trans, sym_bytes-later}
 use Rattle.byte_terms.proofs.Parts.{parts_all, parts_more}
 use Rattle.byte_terms.proofs.pointer_bytes.pointer_parts.Goals as goal
 

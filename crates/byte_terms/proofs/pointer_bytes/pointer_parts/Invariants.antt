@@ -1,10 +1,6 @@
 -- The bytes so far are the first of the pointer's parts, or poison.
-use Rattle.std.proofs.Common.{◌≡◌, cond, nat_eq, replicate, take}
-use Rattle.byte_block.specs.declared.value.Byte.TheVariants.{Poison}
+use Rattle.byte_terms.proofs.Common.{◌≡◌, cond, nat_eq, replicate, take, Poison, Keeps, term_at, Reading, AreSymBytes, places_at}
 use Rattle.memory_access.specs.Bytes as meant
-use Rattle.bv_terms.specs.Trees.{Keeps, term_at}
-use Rattle.mem_terms.specs.Values.{Reading}
-use Rattle.mem_terms.specs.Memory.{AreSymBytes, places_at}
 use Rattle.byte_terms.proofs.Parts.{pointer_at}
 use Rattle.byte_terms.proofs.pointer_bytes.pointer_parts.Given as goal
 

@@ -1,4 +1,4 @@
-use Rattle.std.proofs.Common.{◌≤◌, ◌-◌, length}
+use Rattle.choice_interp.proofs.Common.{◌≤◌, ◌-◌, length}
 use Rattle.choice_interp.proofs.blocks.fit.Given as goal
 
 abbrev pub invariant-loop-alloc : goal.invariant-loop-alloc

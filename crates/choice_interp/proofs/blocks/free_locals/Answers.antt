@@ -1,8 +1,5 @@
-use Rattle.std.proofs.Common.{rules, List, ap, ◌∙◌}
-use Rattle.std.specs.List.{filter}
+use Rattle.choice_interp.proofs.Common.{rules, List, ap, ◌∙◌, filter, MemoryBlock, is_given}
 use Rattle.std.proofs.lemmas.Fn.{filter_same}
-use Rattle.byte_block.specs.declared.block.MemoryBlock.{MemoryBlock}
-use Rattle.points.specs.Run.{is_given}
 use Rattle.choice_interp.proofs.blocks.free_locals.Goals as goal
 
 pub returns : goal.returns

@@ -1,4 +1,4 @@
-use Rattle.std.proofs.Common.{◌≡◌, take, length}
+use Rattle.choice_interp.proofs.Common.{◌≡◌, take, length}
 use Rattle.choice_interp.proofs.blocks.restore.Given as goal
 
 abbrev pub invariant-loop-i : goal.invariant-loop-i

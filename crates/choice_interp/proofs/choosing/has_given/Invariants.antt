@@ -1,7 +1,4 @@
-use Rattle.std.proofs.Common.{◌≡◌, drop}
-use Rattle.std.specs.List.{list_any}
-use Rattle.byte_block.specs.declared.value.BlockName.TheVariants.{Given}
-use Rattle.memory_access.specs.Blocks.{names}
+use Rattle.choice_interp.proofs.Common.{◌≡◌, drop, list_any, Given, names}
 use Rattle.choice_interp.proofs.choosing.has_given.Given as goal
 
 abbrev pub invariant-loop-block : goal.invariant-loop-block

@@ -1,5 +1,4 @@
-use Rattle.std.proofs.Common.{◌≡◌, length}
-use Rattle.points.specs.Run.{breaks_noundef}
+use Rattle.choice_interp.proofs.Common.{◌≡◌, length, breaks_noundef}
 use Rattle.choice_interp.proofs.entry.breaks_no_undef.Given as goal
 
 abbrev pub invariant-loop-parameters : goal.invariant-loop-parameters

@@ -1,5 +1,4 @@
-use Rattle.std.proofs.Common.{◌≡◌, length}
-use Rattle.points.specs.Run.{with_args}
+use Rattle.choice_interp.proofs.Common.{◌≡◌, length, with_args}
 use Rattle.choice_interp.proofs.entry.give_args.Given as goal
 
 abbrev pub invariant-loop-parameters : goal.invariant-loop-parameters

@@ -1,5 +1,4 @@
-use Rattle.std.proofs.Common.{◌≡◌, take, replicate, length}
-use Rattle.byte_block.specs.declared.value.Value.TheVariants.{Poison}
+use Rattle.choice_interp.proofs.Common.{◌≡◌, take, replicate, length, Poison}
 use Rattle.choice_interp.proofs.entry.poison_all.Given as goal
 
 abbrev pub invariant-loop-i : goal.invariant-loop-i

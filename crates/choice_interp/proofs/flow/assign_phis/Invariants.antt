@@ -1,5 +1,4 @@
-use Rattle.std.proofs.Common.{◌≡◌, length, drop}
-use Rattle.choice_interp.specs.Left.{assign_all}
+use Rattle.choice_interp.proofs.Common.{◌≡◌, length, drop, assign_all}
 use Rattle.choice_interp.proofs.flow.assign_phis.Given as goal
 
 abbrev pub invariant-loop-i : goal.invariant-loop-i

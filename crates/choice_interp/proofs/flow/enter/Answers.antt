@@ -1,9 +1,4 @@
-use Rattle.std.proofs.Common.{◌≡◌, List, map, ap, ◌∙◌}
-use Rattle.ir_tree.specs.declared.tree.Phi.{Phi}
-use Rattle.byte_block.specs.declared.value.Value.{Value}
-use Rattle.points.specs.declared.machine.Machine.{Machine}
-use Rattle.points.specs.Run.{phi_value, with_phis}
-use Rattle.choice_interp.specs.Left.{assign_all}
+use Rattle.choice_interp.proofs.Common.{◌≡◌, List, map, ap, ◌∙◌, Phi, Value, Machine, phi_value, with_phis, assign_all}
 use Rattle.choice_interp.proofs.Ways.{all_phis}
 use Rattle.choice_interp.proofs.flow.enter.Goals as goal
 

@@ -1,5 +1,4 @@
-use Rattle.std.proofs.Common.{◌≡◌, ◌++◌, drop, map}
-use Rattle.points.specs.Run.{phi_value}
+use Rattle.choice_interp.proofs.Common.{◌≡◌, ◌++◌, drop, map, phi_value}
 use Rattle.choice_interp.proofs.flow.take_phi_values.Given as goal
 
 abbrev pub invariant-loop-phi : goal.invariant-loop-phi

@@ -1,4 +1,4 @@
-use Rattle.std.proofs.Common.{refl}
+use Rattle.choice_interp.proofs.Common.{refl}
 use Rattle.choice_interp.proofs.SmallSizes.{whole_size}
 use Rattle.choice_interp.proofs.memory_steps.index_value.Goals as goal
 

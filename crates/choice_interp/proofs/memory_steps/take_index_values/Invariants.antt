@@ -1,7 +1,5 @@
-use Rattle.std.proofs.Common.{◌≡◌, ◌++◌, drop}
-use Rattle.std.specs.Prelude.{All}
+use Rattle.choice_interp.proofs.Common.{◌≡◌, ◌++◌, drop, All, index_values}
 use Rattle.memory_access.specs.Offsets.{IndexFits}
-use Rattle.points.specs.Run.{index_values}
 use Rattle.choice_interp.proofs.memory_steps.take_index_values.Given as goal
 
 abbrev pub invariant-loop-n : goal.invariant-loop-n

@@ -1,10 +1,5 @@
-use Rattle.std.proofs.Common.{◌≡◌, List, Bool, true, false, sym, ap, ◌∙◌}
+use Rattle.choice_interp.proofs.Common.{◌≡◌, List, Bool, true, false, sym, ap, ◌∙◌, Value, Machine, Ub, ended, run_turns, breaks_noundef, run_broken, run_unbroken}
 use Rattle.ir_tree.specs.declared.tree.Parameter.{Parameter}
-use Rattle.byte_block.specs.declared.value.Value.{Value}
-use Rattle.points.specs.declared.machine.Machine.{Machine}
-use Rattle.points.specs.declared.outcome.Outcome.TheVariants.{Ub}
-use Rattle.points.specs.Run.{ended, run_turns, breaks_noundef}
-use Rattle.points.proofs.Runs.{run_broken, run_unbroken}
 use Rattle.choice_interp.proofs.Endings.{left_freed, left_given}
 use Rattle.choice_interp.proofs.rerun.run_again.Goals as goal
 

@@ -1,9 +1,5 @@
-use Rattle.std.proofs.Common.{◌≤◌, List, length, refl, sym, ap, subst, ◌∙◌, arith}
-use Rattle.byte_block.specs.declared.value.Value.{Value}
-use Rattle.ir_tree.specs.declared.tree.Block.{Block}
-use Rattle.points.specs.Run.{run_turns}
+use Rattle.choice_interp.proofs.Common.{◌≤◌, List, length, refl, sym, ap, subst, ◌∙◌, arith, Value, Block, run_turns, DoesKeepMemory}
 use Rattle.choice_interp.specs.declared.flow.Left.TheVariants as left
-use Rattle.choice_interp.specs.Keeping.{DoesKeepMemory}
 use Rattle.choice_interp.proofs.Items.{block_in}
 use Rattle.choice_interp.proofs.Ways.{way_start, left_at, way_over, way_on, way_beyond, way_outside}
 use Rattle.choice_interp.proofs.rerun.run_blocks.Goals as goal

@@ -1,7 +1,4 @@
-use Rattle.std.proofs.Common.{◌≡◌, length, ◌-◌, ◌+◌, ◌*◌}
-use Rattle.std.specs.Prelude.{All}
-use Rattle.points.specs.Run.{run_turns}
-use Rattle.choice_interp.specs.Keeping.{DoesKeepMemory}
+use Rattle.choice_interp.proofs.Common.{◌≡◌, length, ◌-◌, ◌+◌, ◌*◌, All, run_turns, DoesKeepMemory}
 use Rattle.choice_interp.proofs.Ways.{IsOnTheWay}
 use Rattle.choice_interp.proofs.rerun.run_blocks.Given as goal
 

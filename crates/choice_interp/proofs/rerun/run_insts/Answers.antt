@@ -1,9 +1,5 @@
-use Rattle.std.proofs.Common.{◌≡◌, ◌<◌, length, get_or, Some, None, sym, ap, ◌∙◌, arith}
-use Rattle.points.specs.Run.{act, Over, ended}
-use Rattle.points.specs.declared.outcome.Outcome.TheVariants.{Ub}
-use Rattle.choice_interp.specs.Keeping.{KeepsMemory}
+use Rattle.choice_interp.proofs.Common.{◌≡◌, ◌<◌, length, get_or, Some, None, sym, ap, ◌∙◌, arith, act, Over, ended, Ub, KeepsMemory, exit_goes, exit_stops, exit_ends}
 use Rattle.choice_interp.proofs.Items.{item_in}
-use Rattle.points.proofs.Runs.{exit_goes, exit_stops, exit_ends}
 use Rattle.choice_interp.proofs.rerun.run_insts.Goals as goal
 
 pub returns-then-not-branch-clause-exit : goal.returns-then-not-branch-clause-exit

@@ -1,6 +1,4 @@
-use Rattle.std.proofs.Common.{◌≡◌, drop, length}
-use Rattle.points.specs.Run.{exit_insts}
-use Rattle.choice_interp.specs.Keeping.{DoesKeepMemory}
+use Rattle.choice_interp.proofs.Common.{◌≡◌, drop, length, exit_insts, DoesKeepMemory}
 use Rattle.choice_interp.proofs.rerun.run_insts.Given as goal
 
 abbrev pub invariant-loop-inst : goal.invariant-loop-inst

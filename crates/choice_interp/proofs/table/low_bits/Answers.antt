@@ -1,4 +1,4 @@
-use Rattle.std.proofs.Common.{bit_and, ap, ◌∙◌}
+use Rattle.choice_interp.proofs.Common.{bit_and, ap, ◌∙◌}
 use Rattle.std.proofs.lemmas.Nat.{and_mask}
 use Rattle.choice_interp.proofs.table.low_bits.Goals as goal
 

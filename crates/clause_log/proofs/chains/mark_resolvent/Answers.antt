@@ -1,5 +1,5 @@
 -- The first clause is marked, and then what each next one resolves to.
-use Rattle.std.proofs.Common.{◌++◌, [], map, option_copied, ap, arith}
+use Rattle.clause_log.proofs.Common.{◌++◌, [], map, option_copied, ap, arith}
 use Rattle.clause_log.proofs.Along.{chain-begun, marks-begun}
 use Rattle.clause_log.proofs.chains.mark_resolvent.Goals as goal
 

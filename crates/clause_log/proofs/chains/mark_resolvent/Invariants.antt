@@ -1,8 +1,5 @@
 -- The marked clause is taken by what is left of the chain to what the whole chain gives.
-use Rattle.std.proofs.Common.{◌≡◌, ◌++◌, List, map, drop}
-use Rattle.clause_lits.specs.declared.lit.Lit.{Lit}
-use Rattle.clause_log.specs.Chain.{resolved_along, chain_resolvent}
-use Rattle.clause_log.specs.Marking.{AreMarks}
+use Rattle.clause_log.proofs.Common.{◌≡◌, ◌++◌, List, map, drop, Lit, resolved_along, chain_resolvent, AreMarks}
 use Rattle.clause_log.proofs.chains.mark_resolvent.Given as goal
 
 abbrev pub invariant-loop-number : goal.invariant-loop-number

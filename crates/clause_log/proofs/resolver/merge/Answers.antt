@@ -1,5 +1,5 @@
 -- Where one clause ends, the rest of the other is the rest of the join.
-use Rattle.std.proofs.Common.{◌⊎◌, ◌<◌, ◌∙◌, ◌++◌, ap, inl, inr, length, sym, arith, Some}
+use Rattle.clause_log.proofs.Common.{◌⊎◌, ◌<◌, ◌∙◌, ◌++◌, ap, inl, inr, length, sym, arith, Some}
 use Rattle.clause_log.proofs.Joining.{resolvent-unmet, resolvent-met, clause-met}
 use Rattle.clause_log.proofs.resolver.merge.Goals as goal
 use Rattle.clause_log.proofs.resolver.merge.Goals.{in_default, in-len1-up+in_default-right}

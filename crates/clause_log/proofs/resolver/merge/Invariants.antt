@@ -1,6 +1,5 @@
 -- What is written and what is left of the two clauses make up the whole.
-use Rattle.std.proofs.Common.{◌≡◌, ◌+◌, ◌++◌, cond, length}
-use Rattle.clause_log.specs.Resolution.{joined, clashes}
+use Rattle.clause_log.proofs.Common.{◌≡◌, ◌+◌, ◌++◌, cond, length, joined, clashes}
 use Rattle.clause_log.proofs.resolver.merge.Given as goal
 
 abbrev pub invariant-loop-left : goal.invariant-loop-left

@@ -1,4 +1,4 @@
-use Rattle.clause_search.specs.Assigning.{TellsAll}
+use Rattle.clause_search.proofs.Common.{TellsAll}
 use Rattle.clause_search.proofs.assignment.values.Given as goal
 
 abbrev pub invariant-loop-index : goal.invariant-loop-index

@@ -1,7 +1,5 @@
 -- The way back from the conflict, marked entry by marked entry.
-use Rattle.std.proofs.Common.{[], refl, List}
-use Rattle.clause_lits.specs.declared.lit.Lit.{Lit}
-use Rattle.clause_search.specs.Searching.{standing}
+use Rattle.clause_search.proofs.Common.{[], refl, List, Lit, standing}
 use Rattle.clause_search.proofs.Back.{back-first}
 use Rattle.clause_search.proofs.Walking.{marked-none, walk-skip, walk-spread, walk-learned, walk-reason, walk-assigned, walk-marked, walk-next}
 use Rattle.clause_search.proofs.learning.analyze.Goals as goal

@@ -1,6 +1,5 @@
 -- On the way back.
-use Rattle.clause_search.specs.Searching.{standing}
-use Rattle.clause_search.specs.Marking.{IsMarkedBack}
+use Rattle.clause_search.proofs.Common.{standing, IsMarkedBack}
 use Rattle.clause_search.proofs.learning.analyze.Given as goal
 
 abbrev pub invariant-back : goal.invariant-back

@@ -1,8 +1,5 @@
 -- The sorted literals are the clause.
-use Rattle.std.proofs.Common.{◌∙◌, List, rules, subst, sym}
-use Rattle.std.proofs.lemmas.List.Sorted.{IsNonDecreasingBy-from_sort_by_key}
-use Rattle.clause_lits.specs.declared.lit.Lit.{Lit}
-use Rattle.clause_lits.specs.Meaning.{IsClause}
+use Rattle.clause_search.proofs.Common.{◌∙◌, List, rules, subst, sym, IsNonDecreasingBy-from_sort_by_key, Lit, IsClause}
 use Rattle.clause_search.proofs.Ordering.{put-in-order}
 use Rattle.clause_search.proofs.learning.clause_at.Goals as goal
 

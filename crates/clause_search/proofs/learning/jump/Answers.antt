@@ -1,6 +1,5 @@
 -- No decision further down makes the clause unit.
-use Rattle.std.proofs.Common.{Some, None, arith}
-use Rattle.std.proofs.lemmas.Option.{slice_get_within}
+use Rattle.clause_search.proofs.Common.{Some, None, arith, slice_get_within}
 use Rattle.clause_search.proofs.ByPlace.{unready-at}
 use Rattle.clause_search.proofs.Jumping.{but-whole}
 use Rattle.clause_search.proofs.learning.jump.Goals as goal

@@ -1,7 +1,5 @@
 -- At the decision so far the clause is unit.
-use Rattle.std.proofs.Common.{◌≤◌, take}
-use Rattle.clause_search.specs.Trail.{FalseBut}
-use Rattle.clause_search.specs.Learning.{IsDecisionAt}
+use Rattle.clause_search.proofs.Common.{◌≤◌, take, FalseBut, IsDecisionAt}
 use Rattle.clause_search.proofs.learning.jump.Given as goal
 
 abbrev pub invariant-down : goal.invariant-down

@@ -1,8 +1,5 @@
 -- The learned clause is added, and its literal at the position gone back to.
-use Rattle.std.proofs.Common.{◌∙◌, ◌+◌, List, length, refl, ap, subst}
-use Rattle.clause_log.specs.declared.step.Step.{Step}
-use Rattle.clause_search.specs.declared.trail.Entry.{Entry}
-use Rattle.clause_search.specs.Trail.{Stands}
+use Rattle.clause_search.proofs.Common.{◌∙◌, ◌+◌, List, length, refl, ap, subst, Step, Entry, Stands}
 use Rattle.clause_search.proofs.ByPlace.{stands-take}
 use Rattle.clause_search.proofs.Learns.{search-learned, search-learn, search-learn-falls}
 use Rattle.clause_search.proofs.Searches.{search-cut}

@@ -1,5 +1,5 @@
 -- One more position.
-use Rattle.std.proofs.Common.{slice_index_or}
+use Rattle.clause_search.proofs.Common.{slice_index_or}
 use Rattle.clause_search.proofs.Walking.{has-index}
 use Rattle.clause_search.proofs.Ordering.{opposites-push}
 use Rattle.clause_search.proofs.learning.literals_at.Goals as goal

@@ -1,6 +1,5 @@
 -- The literals so far.
-use Rattle.std.proofs.Common.{◌≡◌, take}
-use Rattle.clause_search.specs.Marking.{opposites_at}
+use Rattle.clause_search.proofs.Common.{◌≡◌, take, opposites_at}
 use Rattle.clause_search.proofs.learning.literals_at.Given as goal
 
 abbrev pub invariant-loop-place : goal.invariant-loop-place

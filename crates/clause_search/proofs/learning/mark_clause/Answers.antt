@@ -1,10 +1,5 @@
 -- One more variable is marked.
-use Rattle.std.proofs.Common.{◌<◌, ◌++◌, ◌∙◌, List, length, arith, false, get_or, subst, ap}
-use Rattle.std.proofs.lemmas.List.{length-set, take_all}
-use Rattle.std.proofs.lemmas.Option.{slice_get_within}
-use Rattle.clause_lits.specs.declared.lit.Lit.{Lit}
-use Rattle.clause_log.specs.Members.{Has}
-use Rattle.clause_search.specs.Marking.{AreMarked}
+use Rattle.clause_search.proofs.Common.{◌<◌, ◌++◌, ◌∙◌, List, length, arith, false, get_or, subst, ap, length-set, take_all, slice_get_within, Lit, Has, AreMarked}
 use Rattle.clause_search.proofs.Walking.{has-index, marked-step}
 use Rattle.clause_search.proofs.learning.mark_clause.Goals as goal
 

@@ -1,7 +1,5 @@
 -- The entries of the literals so far are marked.
-use Rattle.std.proofs.Common.{◌≡◌, ◌++◌, List, length, take}
-use Rattle.clause_lits.specs.declared.lit.Lit.{Lit}
-use Rattle.clause_search.specs.Marking.{AreMarked, IsCounted}
+use Rattle.clause_search.proofs.Common.{◌≡◌, ◌++◌, List, length, take, Lit, AreMarked, IsCounted}
 use Rattle.clause_search.proofs.learning.mark_clause.Given as goal
 
 abbrev pub invariant-loop-literal : goal.invariant-loop-literal

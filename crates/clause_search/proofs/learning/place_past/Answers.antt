@@ -1,9 +1,5 @@
 -- One more literal.
-use Rattle.std.proofs.Common.{◌+◌, ◌∙◌, inl, inr, List, arith, false, get_or, refl, sym, subst}
-use Rattle.std.proofs.lemmas.Bool.{false≢true}
-use Rattle.clause_lits.specs.declared.lit.Lit.{Lit}
-use Rattle.clause_lits.specs.Meaning.{opposite_of}
-use Rattle.clause_log.specs.Members.{Has}
+use Rattle.clause_search.proofs.Common.{◌+◌, ◌∙◌, inl, inr, List, arith, false, get_or, refl, sym, subst, false≢true, Lit, opposite_of, Has}
 use Rattle.clause_search.proofs.Seeing.{literal_eq-true, literal_eq-refl}
 use Rattle.clause_search.proofs.Walking.{has-index}
 use Rattle.clause_search.proofs.Jumping.{past-skip-at, past-more-at}

@@ -1,8 +1,5 @@
 -- The literals so far are the one or false before the position, and before no earlier one.
-use Rattle.std.proofs.Common.{ℕ, ◌≤◌, ◌≡◌, ◌⊎◌, drop, take}
-use Rattle.clause_log.specs.Members.{Has}
-use Rattle.clause_lits.specs.declared.lit.Lit.{Lit}
-use Rattle.clause_search.specs.Trail.{FalseBut, IsFalse}
+use Rattle.clause_search.proofs.Common.{ℕ, ◌≤◌, ◌≡◌, ◌⊎◌, drop, take, Has, Lit, FalseBut, IsFalse}
 use Rattle.clause_search.proofs.learning.place_past.Given as goal
 
 abbrev pub invariant-loop-other : goal.invariant-loop-other

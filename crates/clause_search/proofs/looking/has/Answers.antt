@@ -1,4 +1,4 @@
-use Rattle.std.proofs.Common.{◌∙◌, sym}
+use Rattle.clause_search.proofs.Common.{◌∙◌, sym}
 use Rattle.clause_search.proofs.Seeing.{among-has, has-among}
 use Rattle.clause_search.proofs.looking.has.Goals as goal
 

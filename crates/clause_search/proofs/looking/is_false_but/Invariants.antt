@@ -1,8 +1,5 @@
 -- The literals so far are the one or false.
-use Rattle.std.proofs.Common.{◌≡◌, ◌⊎◌, drop, take}
-use Rattle.clause_log.specs.Members.{Has}
-use Rattle.clause_lits.specs.declared.lit.Lit.{Lit}
-use Rattle.clause_search.specs.Trail.{IsFalse}
+use Rattle.clause_search.proofs.Common.{◌≡◌, ◌⊎◌, drop, take, Has, Lit, IsFalse}
 use Rattle.clause_search.proofs.looking.is_false_but.Given as goal
 
 abbrev pub invariant-loop-other : goal.invariant-loop-other

@@ -1,7 +1,5 @@
 -- Each literal is true, false or not assigned.
-use Rattle.std.proofs.Common.{◌<◌, length, arith, refl, false, subst}
-use Rattle.clause_lits.specs.declared.lit.Lit.{Lit}
-use Rattle.clause_search.specs.Trail.{Stands}
+use Rattle.clause_search.proofs.Common.{◌<◌, length, arith, refl, false, subst, Lit, Stands}
 use Rattle.clause_search.proofs.Seeing.{seen-at, seen-false}
 use Rattle.clause_search.proofs.looking.look_at.Goals as goal
 

@@ -1,6 +1,5 @@
 -- What is known of the literals so far.
-use Rattle.std.proofs.Common.{drop}
-use Rattle.clause_search.specs.Looks.{IsSeen}
+use Rattle.clause_search.proofs.Common.{drop, IsSeen}
 use Rattle.clause_search.proofs.looking.look_at.Given as goal
 
 abbrev pub invariant-loop-literal : goal.invariant-loop-literal

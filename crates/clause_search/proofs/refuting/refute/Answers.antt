@@ -1,9 +1,5 @@
 -- The way back from the conflict, entry by entry.
-use Rattle.std.proofs.Common.{◌∙◌, List, sym, subst, arith}
-use Rattle.std.proofs.lemmas.Bool.{both_ways}
-use Rattle.clause_log.specs.Members.{Has}
-use Rattle.clause_lits.specs.declared.lit.Lit.{Lit}
-use Rattle.clause_search.specs.Searching.{standing}
+use Rattle.clause_search.proofs.Common.{◌∙◌, List, sym, subst, arith, both_ways, Has, Lit, standing}
 use Rattle.clause_search.proofs.Root.{down-last, down-skip, down-reason, down-resolvent, down-next}
 use Rattle.clause_search.proofs.refuting.refute.Goals as goal
 

@@ -1,4 +1,4 @@
-use Rattle.clause_search.specs.Searching.{standing}
+use Rattle.clause_search.proofs.Common.{standing}
 use Rattle.clause_search.proofs.Root.{IsDown}
 use Rattle.clause_search.proofs.refuting.refute.Given as goal
 

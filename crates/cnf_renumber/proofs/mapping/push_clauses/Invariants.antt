@@ -1,8 +1,5 @@
 -- The clauses so far.
-use Rattle.std.proofs.Common.{ℕ, ◌≡◌, ◌<◌, ◌++◌, List, get_or, map, take}
-use Rattle.clause_lits.specs.declared.lit.Lit.{Lit}
-use Rattle.clause_lits.specs.Meaning.{IsClause}
-use Rattle.cnf_renumber.specs.Renumbered.{renumbered, renumbered_literal}
+use Rattle.cnf_renumber.proofs.Common.{ℕ, ◌≡◌, ◌<◌, ◌++◌, List, get_or, map, take, Lit, IsClause, renumbered, renumbered_literal}
 use Rattle.cnf_renumber.proofs.mapping.push_clauses.Given as goal
 
 abbrev pub invariant-loop-clause : goal.invariant-loop-clause

@@ -1,6 +1,5 @@
 -- The clause of one more step.
-use Rattle.std.proofs.Common.{◌<◌, length, arith}
-use Rattle.cnf_renumber.specs.Renumbered.{renumbered, renumbered_literal}
+use Rattle.cnf_renumber.proofs.Common.{◌<◌, length, arith, renumbered, renumbered_literal}
 use Rattle.cnf_renumber.proofs.Steps.{clauses-more, steps-more}
 use Rattle.cnf_renumber.proofs.mapping.push_steps.Goals as goal
 

@@ -1,9 +1,5 @@
 -- The sorted literals are the renumbered clause.
-use Rattle.std.proofs.Common.{◌∙◌, List, ap, map, rules, subst, sym}
-use Rattle.std.proofs.lemmas.List.Sorted.{IsNonDecreasingBy-from_sort_by_key}
-use Rattle.clause_lits.specs.declared.lit.Lit.{Lit}
-use Rattle.clause_lits.specs.Meaning.{IsClause}
-use Rattle.cnf_renumber.specs.Renumbered.{renumbered_literal}
+use Rattle.cnf_renumber.proofs.Common.{◌∙◌, List, ap, map, rules, subst, sym, IsNonDecreasingBy-from_sort_by_key, Lit, IsClause, renumbered_literal}
 use Rattle.cnf_renumber.proofs.Renumbered.{renumbered-rises}
 use Rattle.cnf_renumber.proofs.Sorting.{put-in-order}
 use Rattle.cnf_renumber.proofs.mapping.renumbered_clause.Goals as goal

@@ -1,6 +1,5 @@
 -- The literals so far.
-use Rattle.std.proofs.Common.{◌≡◌, map, take}
-use Rattle.cnf_renumber.specs.Renumbered.{renumbered_literal}
+use Rattle.cnf_renumber.proofs.Common.{◌≡◌, map, take, renumbered_literal}
 use Rattle.cnf_renumber.proofs.mapping.renumbered_literals.Given as goal
 
 abbrev pub invariant-loop-literal : goal.invariant-loop-literal

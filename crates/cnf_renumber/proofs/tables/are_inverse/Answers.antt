@@ -1,6 +1,5 @@
 -- The variable 0 stays, and else each test is one part.
-use Rattle.std.proofs.Common.{◌≡◌, ◌∙◌, ap, sym, false, true}
-use Rattle.clause_lits.specs.declared.lit.Lit.{Lit}
+use Rattle.cnf_renumber.proofs.Common.{◌≡◌, ◌∙◌, ap, sym, false, true, Lit}
 use Rattle.cnf_renumber.proofs.Inverse.{inverse-from, zero-stays, inverse-undoes}
 use Rattle.cnf_renumber.proofs.tables.are_inverse.Goals as goal
 

@@ -1,6 +1,5 @@
 -- The variables so far come back.
-use Rattle.std.proofs.Common.{ℕ, ◌≡◌, ◌<◌, true}
-use Rattle.cnf_renumber.specs.Renumbered.{entry_of, renumbered_literal}
+use Rattle.cnf_renumber.proofs.Common.{ℕ, ◌≡◌, ◌<◌, true, entry_of, renumbered_literal}
 use Rattle.cnf_renumber.proofs.tables.undoes.Given as goal
 
 abbrev pub invariant-loop-index : goal.invariant-loop-index

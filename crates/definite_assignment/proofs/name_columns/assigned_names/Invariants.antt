@@ -1,5 +1,4 @@
-use Rattle.std.proofs.Common.{◌≡◌, true, false, length, get_or, take}
-use Rattle.std.specs.List.{All}
+use Rattle.definite_assignment.proofs.Common.{◌≡◌, true, false, length, get_or, take, All}
 use Rattle.definite_assignment.proofs.name_columns.assigned_names.Given as goal
 
 abbrev pub invariant-loop-list : goal.invariant-loop-list

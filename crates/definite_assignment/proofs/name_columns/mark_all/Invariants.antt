@@ -1,5 +1,4 @@
-use Rattle.std.proofs.Common.{ℕ, ◌≡◌, true, false, get_or, take}
-use Rattle.std.specs.List.{All}
+use Rattle.definite_assignment.proofs.Common.{ℕ, ◌≡◌, true, false, get_or, take, All}
 use Rattle.definite_assignment.proofs.name_columns.mark_all.Given as goal
 
 abbrev pub invariant-loop-name : goal.invariant-loop-name

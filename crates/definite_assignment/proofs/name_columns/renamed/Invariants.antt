@@ -1,5 +1,4 @@
-use Rattle.std.proofs.Common.{◌≡◌, map, take}
-use Rattle.definite_assignment.specs.Sets.{column_of}
+use Rattle.definite_assignment.proofs.Common.{◌≡◌, map, take, column_of}
 use Rattle.definite_assignment.proofs.name_columns.renamed.Given as goal
 
 abbrev pub invariant-loop-name : goal.invariant-loop-name

@@ -1,6 +1,4 @@
-use Rattle.std.proofs.Common.{ℕ, ◌+◌, ◌≡◌, ◌<◌, length}
-use Rattle.std.specs.List.{All}
-use Rattle.definite_assignment.specs.Order.{block_of}
+use Rattle.definite_assignment.proofs.Common.{ℕ, ◌+◌, ◌≡◌, ◌<◌, length, All, block_of}
 use Rattle.definite_assignment.proofs.visiting_order.enter_all.Given as goal
 
 abbrev pub invariant-loop-block : goal.invariant-loop-block

@@ -1,7 +1,4 @@
-use Rattle.std.proofs.Common.{◌≡◌, ◌<◌, ◌∙◌, false, [], length, get_or, ap, sym, arith, length-set}
-use Rattle.std.proofs.lemmas.List.{get_or_default}
-use Rattle.std.proofs.lemmas.List.Elements.{All-same, All-push}
-use Rattle.definite_assignment.specs.Order.{block_of}
+use Rattle.definite_assignment.proofs.Common.{◌≡◌, ◌<◌, ◌∙◌, false, [], length, get_or, ap, sym, arith, length-set, get_or_default, All-same, All-push, block_of}
 use Rattle.definite_assignment.specs.declared.visiting_order.Step.TheVariants.{Leave}
 use Rattle.definite_assignment.proofs.Order.{next_step, steps_left-enter}
 use Rattle.definite_assignment.proofs.Search.{list_at, nexts_fit}

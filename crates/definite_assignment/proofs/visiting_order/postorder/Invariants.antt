@@ -1,6 +1,4 @@
-use Rattle.std.proofs.Common.{◌+◌, ◌≡◌, ◌<◌, length}
-use Rattle.std.specs.List.{All}
-use Rattle.definite_assignment.specs.Order.{block_of, steps_left}
+use Rattle.definite_assignment.proofs.Common.{◌+◌, ◌≡◌, ◌<◌, length, All, block_of, steps_left}
 use Rattle.definite_assignment.proofs.visiting_order.postorder.Given as goal
 
 abbrev pub invariant-loop-step : goal.invariant-loop-step

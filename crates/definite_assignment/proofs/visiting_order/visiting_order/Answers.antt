@@ -1,7 +1,4 @@
-use Rattle.std.proofs.Common.{ℕ, ◌+◌, ◌≡◌, ◌<◌, ◌⊎◌, inl, inr, [], ◌∷◌, ◌++◌, List, length, subst, sym, arith}
-use Rattle.std.specs.List.{Contains}
-use Rattle.std.proofs.lemmas.Bool.{cases_eq}
-use Rattle.std.proofs.lemmas.List.Elements.{All-same, All-push, Contains-append_left, Contains-push}
+use Rattle.definite_assignment.proofs.Common.{ℕ, ◌+◌, ◌≡◌, ◌<◌, ◌⊎◌, inl, inr, [], ◌∷◌, ◌++◌, List, length, subst, sym, arith, Contains, cases_eq, All-same, All-push, Contains-append_left, Contains-push}
 use Rattle.definite_assignment.proofs.visiting_order.visiting_order.Goals as goal
 
 one_more : (order : List ℕ) (n : ℕ) → ((block : ℕ) → block < n → Contains order block) → (block : ℕ) → block < n + 1 → Contains (order ++ n ∷ []) block

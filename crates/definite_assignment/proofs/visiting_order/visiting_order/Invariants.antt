@@ -1,5 +1,4 @@
-use Rattle.std.proofs.Common.{ℕ, ◌<◌, length}
-use Rattle.std.specs.List.{All, Contains}
+use Rattle.definite_assignment.proofs.Common.{ℕ, ◌<◌, length, All, Contains}
 use Rattle.definite_assignment.proofs.visiting_order.visiting_order.Given as goal
 
 abbrev pub invariant-loop-block : goal.invariant-loop-block

@@ -1,4 +1,4 @@
-use Rattle.std.proofs.Common.{ℕ, ◌<◌, ◌^◌, get_or}
+use Rattle.definite_assignment.proofs.Common.{ℕ, ◌<◌, ◌^◌, get_or}
 use Rattle.definite_assignment.proofs.Cuts.{AreCut}
 use Rattle.definite_assignment.proofs.words.cut.Given as goal
 

@@ -1,4 +1,4 @@
-use Rattle.std.proofs.Common.{refl}
+use Rattle.definite_assignment.proofs.Common.{refl}
 use Rattle.definite_assignment.proofs.Search.{first_sets-more}
 use Rattle.definite_assignment.proofs.work.first_sets.Goals as goal
 

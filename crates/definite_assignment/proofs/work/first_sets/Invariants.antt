@@ -1,5 +1,4 @@
-use Rattle.std.proofs.Common.{◌≡◌, ◌-◌}
-use Rattle.definite_assignment.specs.Work.{first_sets}
+use Rattle.definite_assignment.proofs.Common.{◌≡◌, ◌-◌, first_sets}
 use Rattle.definite_assignment.proofs.work.first_sets.Given as goal
 
 abbrev pub invariant-loop-block : goal.invariant-loop-block

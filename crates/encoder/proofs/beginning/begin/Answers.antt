@@ -1,11 +1,4 @@
-use Rattle.std.proofs.Common.{◌≡◌, ◌∙◌, refl, ap, not, sym, length}
-use Rattle.mem_terms.specs.Values.{Each}
-use Rattle.mem_terms.specs.Memory.{frames_of}
-use Rattle.mem_terms.specs.Inputs.{IsBlockTerms, IsByteTerms}
-use Rattle.mem_terms.proofs.Eaches.{each-weaker}
-use Rattle.mem_terms.proofs.Later.{keeps_trans, args-later, args_at-later, term-later, bit-later, sym_values-later, is_term-later, sizes-later, block_terms_each-later, given_blocks_at-later, given_blocks-later}
-use Rattle.run_terms.proofs.Lasting.{run_memory-later}
-use Rattle.run_terms.proofs.Arguments.{first_matches, only_frames, only_given}
+use Rattle.encoder.proofs.Common.{◌≡◌, ◌∙◌, refl, ap, not, sym, length, Each, frames_of, IsBlockTerms, IsByteTerms, each-weaker, keeps_trans, args-later, args_at-later, term-later, bit-later, sym_values-later, is_term-later, sizes-later, block_terms_each-later, given_blocks_at-later, given_blocks-later, run_memory-later, first_matches, only_frames, only_given}
 use Rattle.encoder.proofs.beginning.begin.Goals as goal
 
 pub give_args-requires-clause-args : goal.give_args-requires-clause-args

@@ -1,10 +1,5 @@
-use Rattle.std.proofs.Common.{◌≤◌, ◌-◌, refl, length, get_or, take, drop, arith}
-use Rattle.points.specs.Run.{breaks_noundef}
+use Rattle.encoder.proofs.Common.{◌≤◌, ◌-◌, refl, length, get_or, take, drop, arith, breaks_noundef, args_at, at-any, keeps_trans, args-later, args_at-later, front_is, args_front, broken_more}
 use Rattle.mem_terms.specs.declared.inputs.ArgTerms.TheVariants as arg
-use Rattle.mem_terms.specs.Inputs.{args_at}
-use Rattle.mem_terms.proofs.Eaches.{at-any}
-use Rattle.mem_terms.proofs.Later.{keeps_trans, args-later, args_at-later}
-use Rattle.run_terms.proofs.Arguments.{front_is, args_front, broken_more}
 use Rattle.encoder.proofs.beginning.breaks_no_undef.Goals as goal
 
 pub loop-parameters-init : goal.loop-parameters-init

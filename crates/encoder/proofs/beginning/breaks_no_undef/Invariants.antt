@@ -1,9 +1,5 @@
 -- Broken so far, or by what is left.
-use Rattle.std.proofs.Common.{◌≡◌, ◌||◌, length}
-use Rattle.points.specs.Run.{breaks_noundef}
-use Rattle.bv_terms.specs.Trees.{IsTerm, Keeps, bit_at}
-use Rattle.mem_terms.specs.Values.{IsNaming, Reading}
-use Rattle.mem_terms.specs.Inputs.{AreArgs, args_at}
+use Rattle.encoder.proofs.Common.{◌≡◌, ◌||◌, length, breaks_noundef, IsTerm, Keeps, bit_at, IsNaming, Reading, AreArgs, args_at}
 use Rattle.encoder.proofs.beginning.breaks_no_undef.Given as goal
 
 abbrev pub invariant-loop-parameters : goal.invariant-loop-parameters

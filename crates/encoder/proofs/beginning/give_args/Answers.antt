@@ -1,14 +1,6 @@
-use Rattle.std.proofs.Common.{◌≤◌, ◌-◌, ◌∙◌, ap, List, length, get_or, take, drop, arith}
+use Rattle.encoder.proofs.Common.{◌≤◌, ◌-◌, ◌∙◌, ap, List, length, get_or, take, drop, arith, IsSymValue, at-any, each-set, keeps_trans, sym_values-later, args-later, length-set, front_is, args_front, given_more, with_args, values_at, args_at}
 use Rattle.mem_terms.specs.declared.values.SymValue.{SymValue}
 use Rattle.mem_terms.specs.declared.inputs.ArgTerms.TheVariants as arg
-use Rattle.mem_terms.specs.Values.{IsSymValue}
-use Rattle.mem_terms.proofs.Eaches.{at-any, each-set}
-use Rattle.mem_terms.proofs.Later.{keeps_trans, sym_values-later, args-later}
-use Rattle.std.proofs.lemmas.List.{length-set}
-use Rattle.run_terms.proofs.Arguments.{front_is, args_front, given_more}
-use Rattle.points.specs.Run.{with_args}
-use Rattle.mem_terms.specs.Values.{values_at}
-use Rattle.mem_terms.specs.Inputs.{args_at}
 use Rattle.encoder.proofs.beginning.give_args.Goals as goal
 
 pub loop-parameters-preserved : goal.loop-parameters-preserved

@@ -1,9 +1,5 @@
 -- What is left of the arguments takes the registers so far to those with all.
-use Rattle.std.proofs.Common.{◌≡◌, length}
-use Rattle.points.specs.Run.{with_args}
-use Rattle.bv_terms.specs.Trees.{Keeps}
-use Rattle.mem_terms.specs.Values.{AreSymValues, IsNaming, Reading, values_at}
-use Rattle.mem_terms.specs.Inputs.{AreArgs, args_at}
+use Rattle.encoder.proofs.Common.{◌≡◌, length, with_args, Keeps, AreSymValues, IsNaming, Reading, values_at, AreArgs, args_at}
 use Rattle.encoder.proofs.beginning.give_args.Given as goal
 
 abbrev pub invariant-loop-parameters : goal.invariant-loop-parameters

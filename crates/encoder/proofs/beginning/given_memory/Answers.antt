@@ -1,6 +1,4 @@
-use Rattle.mem_terms.specs.Values.{Each}
-use Rattle.mem_terms.specs.Inputs.{IsBlockTerms, IsByteTerms}
-use Rattle.mem_terms.proofs.Eaches.{each-weaker}
+use Rattle.encoder.proofs.Common.{Each, IsBlockTerms, IsByteTerms, each-weaker}
 use Rattle.encoder.proofs.beginning.given_memory.Goals as goal
 
 pub given_blocks-requires-clause-places : goal.given_blocks-requires-clause-places

@@ -1,4 +1,4 @@
-use Rattle.run_terms.proofs.Arguments.{non_null_stands}
+use Rattle.encoder.proofs.Common.{non_null_stands}
 use Rattle.encoder.proofs.beginning.non_null.Goals as goal
 
 pub returns-clause-stands : goal.returns-clause-stands

@@ -1,5 +1,4 @@
-use Rattle.std.proofs.Common.{◌∙◌, rules}
-use Rattle.run_terms.proofs.Arguments.{poison_made, poison_stands}
+use Rattle.encoder.proofs.Common.{◌∙◌, rules, poison_made, poison_stands}
 use Rattle.encoder.proofs.beginning.poison_registers.Goals as goal
 
 pub returns-clause-stands : goal.returns-clause-stands

@@ -1,7 +1,4 @@
-use Rattle.std.proofs.Common.{◌∙◌, ap}
-use Rattle.mem_terms.proofs.Later.{keeps_trans, words-later}
-use Rattle.run_terms.specs.Frontier.{EndingShape}
-use Rattle.run_terms.proofs.Through.{copies_in}
+use Rattle.encoder.proofs.Common.{◌∙◌, ap, keeps_trans, words-later, EndingShape, copies_in}
 use Rattle.encoder.proofs.Whole.{encode_stands}
 use Rattle.encoder.proofs.function_run.encode.Goals as goal
 

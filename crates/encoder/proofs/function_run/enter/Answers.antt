@@ -1,7 +1,4 @@
-use Rattle.std.proofs.Common.{refl}
-use Rattle.mem_terms.proofs.Later.{keeps_self, keeps_trans, is_term-later}
-use Rattle.run_terms.proofs.Lasting.{state-later, tally-later}
-use Rattle.run_terms.proofs.Moving.{ended_frontier, ended_shape, ends_simulates}
+use Rattle.encoder.proofs.Common.{refl, keeps_self, keeps_trans, is_term-later, state-later, tally-later, ended_frontier, ended_shape, ends_simulates}
 use Rattle.encoder.proofs.Whole.{enter_stands}
 use Rattle.encoder.proofs.function_run.enter.Goals as goal
 

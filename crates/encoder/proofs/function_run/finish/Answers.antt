@@ -1,5 +1,4 @@
-use Rattle.mem_terms.proofs.Later.{is_term-later, keeps_trans}
-use Rattle.run_terms.proofs.Lasting.{ending-later}
+use Rattle.encoder.proofs.Common.{is_term-later, keeps_trans, ending-later}
 use Rattle.encoder.proofs.Whole.{finish_stands}
 use Rattle.encoder.proofs.function_run.finish.Goals as goal
 

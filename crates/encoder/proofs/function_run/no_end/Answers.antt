@@ -1,7 +1,4 @@
-use Rattle.std.proofs.Common.{◌≡◌, map}
-use Rattle.mem_terms.specs.Memory.{frame_of, frames_of}
-use Rattle.mem_terms.proofs.Later.{given_blocks-later, is_term-later, keeps_trans}
-use Rattle.run_terms.proofs.Lasting.{some-later}
+use Rattle.encoder.proofs.Common.{◌≡◌, map, frame_of, frames_of, given_blocks-later, is_term-later, keeps_trans, some-later}
 use Rattle.run_terms.proofs.Memories.{given_framed}
 use Rattle.encoder.proofs.function_run.no_end.Goals as goal
 

@@ -1,4 +1,4 @@
-use Rattle.std.proofs.Common.{◌≡◌, ◌+◌, ◌∙◌, suc, replicate, ap, arith, None}
+use Rattle.encoder.proofs.Common.{◌≡◌, ◌+◌, ◌∙◌, suc, replicate, ap, arith, None}
 use Rattle.encoder.proofs.Whole.{snoc}
 use Rattle.encoder.proofs.function_run.nothing_known.Goals as goal
 

@@ -1,4 +1,4 @@
-use Rattle.std.proofs.Common.{◌≡◌, ◌≤◌, replicate, None}
+use Rattle.encoder.proofs.Common.{◌≡◌, ◌≤◌, replicate, None}
 use Rattle.encoder.proofs.function_run.nothing_known.Given as goal
 
 abbrev pub invariant-loop : goal.invariant-loop

@@ -1,6 +1,4 @@
-use Rattle.std.proofs.Common.{◌∙◌, ap, length, None}
-use Rattle.run_terms.specs.Frontier.{shape_in}
-use Rattle.std.proofs.lemmas.List.{length-replicate}
+use Rattle.encoder.proofs.Common.{◌∙◌, ap, length, None, shape_in, length-replicate}
 use Rattle.encoder.proofs.Whole.{unknown_states, unknown_shape, unknown_unreached}
 use Rattle.encoder.proofs.function_run.unknown.Goals as goal
 

@@ -1,9 +1,4 @@
-use Rattle.std.proofs.Common.{get_or, arith}
-use Rattle.bv_terms.specs.Trees.{term_at}
-use Rattle.mem_terms.specs.Inputs.{words_at}
-use Rattle.mem_terms.proofs.Eaches.{at-any}
-use Rattle.mem_terms.proofs.Later.{keeps_trans}
-use Rattle.run_terms.specs.Runs.{zeros_past}
+use Rattle.encoder.proofs.Common.{get_or, arith, term_at, words_at, at-any, keeps_trans, zeros_past}
 use Rattle.encoder.proofs.Whole.{zeros_step, zeros_end}
 use Rattle.encoder.proofs.function_run.zeros.Goals as goal
 

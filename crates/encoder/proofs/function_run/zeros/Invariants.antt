@@ -1,7 +1,4 @@
-use Rattle.std.proofs.Common.{ℕ, ◌≡◌, ◌&&◌, drop}
-use Rattle.bv_terms.specs.Trees.{Keeps, IsTerm, term_at, bit_at}
-use Rattle.mem_terms.specs.Inputs.{words_at}
-use Rattle.run_terms.specs.Runs.{zeros_past}
+use Rattle.encoder.proofs.Common.{ℕ, ◌≡◌, ◌&&◌, drop, Keeps, IsTerm, term_at, bit_at, words_at, zeros_past}
 use Rattle.encoder.proofs.function_run.zeros.Given as goal
 
 abbrev pub invariant-loop-i : goal.invariant-loop-i

@@ -1,11 +1,4 @@
-use Rattle.std.proofs.Common.{◌≡◌, ◌∙◌, ℕ, length, sym, subst, refl, arith, Some}
-use Rattle.std.proofs.lemmas.Option.{slice_get_read}
-use Rattle.unroll.specs.Layers.{Where, pass_copy, walk}
-use Rattle.mem_terms.proofs.Eaches.{each-at}
-use Rattle.mem_terms.proofs.Later.{keeps_trans, words-later}
-use Rattle.run_terms.specs.Frontier.{IsCopyIn, MatchesFrontier, placed}
-use Rattle.run_terms.proofs.Lasting.{sees-later}
-use Rattle.run_terms.proofs.Through.{walk_more, walk_end}
+use Rattle.encoder.proofs.Common.{◌≡◌, ◌∙◌, ℕ, length, sym, subst, refl, arith, Some, slice_get_read, Where, pass_copy, walk, each-at, keeps_trans, words-later, IsCopyIn, MatchesFrontier, placed, sees-later, walk_more, walk_end}
 use Rattle.encoder.proofs.passing.pass_all.Goals as goal
 
 pub pass_copy-requires-clause-number : goal.pass_copy-requires-clause-number

@@ -1,9 +1,5 @@
 -- What is left of the copies takes where the run is to where all of them take it.
-use Rattle.std.proofs.Common.{◌≡◌, ◌≤◌, drop, length, Some}
-use Rattle.unroll.specs.Layers.{Where, walk}
-use Rattle.bv_terms.specs.Trees.{Keeps}
-use Rattle.run_terms.specs.Runs.{Scene, Sees}
-use Rattle.run_terms.specs.Frontier.{IsFrontier, HasShape, MatchesFrontier, placed}
+use Rattle.encoder.proofs.Common.{◌≡◌, ◌≤◌, drop, length, Some, Where, walk, Keeps, Scene, Sees, IsFrontier, HasShape, MatchesFrontier, placed}
 use Rattle.encoder.proofs.passing.pass_all.Given as goal
 
 abbrev pub invariant-loop-number : goal.invariant-loop-number

@@ -1,13 +1,4 @@
-use Rattle.std.proofs.Common.{◌+◌, ◌∙◌, ap, sym, subst, List, Option, Some, arith}
-use Rattle.std.proofs.lemmas.Option.{slice_get_within}
-use Rattle.run_terms.specs.declared.state.RunState.{RunState}
-use Rattle.ir_tree.specs.Flow.{targets}
-use Rattle.points.specs.declared.machine.Machine.{Machine}
-use Rattle.points.specs.Run.{exit_insts}
-use Rattle.unroll.specs.Layers.{left_by, pass_copy}
-use Rattle.bv_terms.specs.Trees.{bit_at}
-use Rattle.run_terms.specs.Frontier.{Simulates, MatchesFrontier, placed}
-use Rattle.run_terms.proofs.Through.{taken_frontier, taken_shape, entry_state, entry_shape, pass_unknown, pass_known}
+use Rattle.encoder.proofs.Common.{◌+◌, ◌∙◌, ap, sym, subst, List, Option, Some, arith, slice_get_within, RunState, targets, Machine, exit_insts, left_by, pass_copy, bit_at, Simulates, MatchesFrontier, placed, taken_frontier, taken_shape, entry_state, entry_shape, pass_unknown, pass_known}
 use Rattle.encoder.proofs.passing.pass_copy.Goals as goal
 
 pub run_copy-requires-clause-frontier : goal.run_copy-requires-clause-frontier

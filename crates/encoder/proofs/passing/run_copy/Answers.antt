@@ -1,17 +1,6 @@
-use Rattle.std.proofs.Common.{◌≡◌, ◌∙◌, ◌+◌, subst, refl}
+use Rattle.encoder.proofs.Common.{◌≡◌, ◌∙◌, ◌+◌, subst, refl, slice_get_within, targets, Machine, Exit, exit_insts, left_by, bit_at, keeps_self, keeps_trans, is_term-later, words-later, Simulates, placed, ending-later, frontier-later, state-later, tally-later, sees-later, tested, ended_frontier, ended_shape, simulates_copy, fits_at, labels_at, numbers_at, objects_at}
 use Rattle.std.proofs.lemmas.Result.{on_ok_weaker}
-use Rattle.std.proofs.lemmas.Option.{slice_get_within}
 use Rattle.ir_tree.specs.declared.tree.Block.{Block}
-use Rattle.ir_tree.specs.Flow.{targets}
-use Rattle.points.specs.declared.machine.Machine.{Machine}
-use Rattle.points.specs.Run.{Exit, exit_insts}
-use Rattle.unroll.specs.Layers.{left_by}
-use Rattle.bv_terms.specs.Trees.{bit_at}
-use Rattle.mem_terms.proofs.Later.{keeps_self, keeps_trans, is_term-later, words-later}
-use Rattle.run_terms.specs.Frontier.{Simulates, placed}
-use Rattle.run_terms.proofs.Lasting.{ending-later, frontier-later, state-later, tally-later, sees-later, tested}
-use Rattle.run_terms.proofs.Moving.{ended_frontier, ended_shape}
-use Rattle.run_terms.proofs.Through.{simulates_copy, fits_at, labels_at, numbers_at, objects_at}
 use Rattle.encoder.proofs.passing.run_copy.Goals as goal
 
 pub get-block-requires : goal.get-block-requires

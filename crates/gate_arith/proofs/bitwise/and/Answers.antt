@@ -1,5 +1,4 @@
-use Rattle.std.specs.Prelude.{bit_and}
-use Rattle.gate_arith.specs.declared.bitwise.BitOp.TheVariants.{And}
+use Rattle.gate_arith.proofs.Common.{bit_and, And}
 use Rattle.gate_arith.proofs.Zips.{zip-and, zip-writes}
 use Rattle.gate_arith.proofs.bitwise.and.Goals as goal
 

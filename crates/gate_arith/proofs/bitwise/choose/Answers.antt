@@ -1,6 +1,4 @@
-use Rattle.std.proofs.Common.{cond}
-use Rattle.gates.specs.Values.{gate_at}
-use Rattle.gate_arith.specs.declared.bitwise.BitOp.TheVariants.{Choose}
+use Rattle.gate_arith.proofs.Common.{cond, gate_at, Choose}
 use Rattle.gate_arith.proofs.Zips.{choose-number, zip-writes}
 use Rattle.gate_arith.proofs.bitwise.choose.Goals as goal
 

@@ -1,6 +1,5 @@
 -- One more bit inverted, in a circuit that stays.
-use Rattle.std.proofs.Common.{◌≡◌, ◌<◌, false, length, get_or, arith, refl, ◌∙◌}
-use Rattle.gates.specs.declared.circuit.GateId.{GateId}
+use Rattle.gate_arith.proofs.Common.{◌≡◌, ◌<◌, false, length, get_or, arith, refl, ◌∙◌, GateId}
 use Rattle.gate_arith.proofs.Digits.{keeps_self}
 use Rattle.gate_arith.proofs.Zips.{inverse-more, inverse-writes, none_inverse, turned_in}
 use Rattle.gate_arith.proofs.bitwise.inverse.Goals as goal

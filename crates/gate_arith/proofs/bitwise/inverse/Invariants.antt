@@ -1,4 +1,4 @@
-use Rattle.std.proofs.Common.{◌≡◌}
+use Rattle.gate_arith.proofs.Common.{◌≡◌}
 use Rattle.gate_arith.proofs.Zips.{IsPartInverse}
 use Rattle.gate_arith.proofs.bitwise.inverse.Given as goal
 

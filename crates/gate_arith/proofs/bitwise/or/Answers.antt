@@ -1,5 +1,5 @@
+use Rattle.gate_arith.proofs.Common.{Or}
 use Rattle.std.specs.Prelude.{bit_or}
-use Rattle.gate_arith.specs.declared.bitwise.BitOp.TheVariants.{Or}
 use Rattle.gate_arith.proofs.Zips.{zip-or, zip-writes}
 use Rattle.gate_arith.proofs.bitwise.or.Goals as goal
 

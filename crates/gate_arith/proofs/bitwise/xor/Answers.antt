@@ -1,5 +1,4 @@
-use Rattle.std.specs.Prelude.{bit_xor}
-use Rattle.gate_arith.specs.declared.bitwise.BitOp.TheVariants.{Xor}
+use Rattle.gate_arith.proofs.Common.{bit_xor, Xor}
 use Rattle.gate_arith.proofs.Zips.{zip-xor, zip-writes}
 use Rattle.gate_arith.proofs.bitwise.xor.Goals as goal
 

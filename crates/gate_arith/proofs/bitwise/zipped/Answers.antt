@@ -1,6 +1,5 @@
 -- One more bit.
-use Rattle.std.proofs.Common.{◌<◌, false, length, arith}
-use Rattle.gates.specs.declared.circuit.GateId.{GateId}
+use Rattle.gate_arith.proofs.Common.{◌<◌, false, length, arith, GateId}
 use Rattle.gate_arith.proofs.Zips.{no_places, zip-more, zip-whole}
 use Rattle.gate_arith.proofs.bitwise.zipped.Goals as goal
 

@@ -1,5 +1,4 @@
-use Rattle.std.proofs.Common.{◌<◌, false, length, arith}
-use Rattle.gates.specs.declared.circuit.GateId.{GateId}
+use Rattle.gate_arith.proofs.Common.{◌<◌, false, length, arith, GateId}
 use Rattle.gate_arith.proofs.Testing.{any-more, any-whole, none_any}
 use Rattle.gate_arith.proofs.comparisons.any.Goals as goal
 

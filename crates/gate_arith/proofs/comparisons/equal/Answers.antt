@@ -1,6 +1,5 @@
-use Rattle.gates.proofs.Stages.{IfOk-then}
+use Rattle.gate_arith.proofs.Common.{IfOk-then, length}
 use Rattle.gate_arith.proofs.Testing.{equal-tests}
-use Rattle.std.proofs.Common.{length}
 use Rattle.gate_arith.proofs.comparisons.equal.Goals as goal
 
 pub returns-clause-made : goal.returns-clause-made

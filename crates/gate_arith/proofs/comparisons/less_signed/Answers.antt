@@ -1,6 +1,4 @@
-use Rattle.std.proofs.Common.{false}
-use Rattle.gates.specs.declared.circuit.GateId.{GateId}
-use Rattle.gates.proofs.Stages.{IfOk-then}
+use Rattle.gate_arith.proofs.Common.{false, GateId, IfOk-then}
 use Rattle.gate_arith.proofs.Testing.{signed-tests}
 use Rattle.gate_arith.proofs.comparisons.less_signed.Goals as goal
 

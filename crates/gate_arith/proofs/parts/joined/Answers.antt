@@ -1,4 +1,4 @@
-use Rattle.std.proofs.Common.{◌++◌, ap, ◌∙◌}
+use Rattle.gate_arith.proofs.Common.{◌++◌, ap, ◌∙◌}
 use Rattle.gate_arith.proofs.Pieces.{joined-writes}
 use Rattle.gate_arith.proofs.parts.joined.Goals as goal
 

@@ -1,4 +1,4 @@
-use Rattle.std.proofs.Common.{◌-◌, length, arith}
+use Rattle.gate_arith.proofs.Common.{◌-◌, length, arith}
 use Rattle.gate_arith.proofs.Pieces.{part-writes}
 use Rattle.gate_arith.proofs.parts.part.Goals as goal
 

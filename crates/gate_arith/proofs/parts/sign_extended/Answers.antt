@@ -1,5 +1,4 @@
-use Rattle.std.proofs.Common.{◌-◌, false, get_or, length, arith, refl}
-use Rattle.gates.specs.declared.circuit.GateId.{GateId}
+use Rattle.gate_arith.proofs.Common.{◌-◌, false, get_or, length, arith, refl, GateId}
 use Rattle.gate_arith.proofs.Pieces.{sign-extended-writes}
 use Rattle.gate_arith.proofs.parts.sign_extended.Goals as goal
 

@@ -1,5 +1,5 @@
 -- One more bit, by its index.
-use Rattle.std.proofs.Common.{◌≡◌, ◌+◌, ◌-◌, arith}
+use Rattle.gate_arith.proofs.Common.{◌≡◌, ◌+◌, ◌-◌, arith}
 use Rattle.gate_arith.proofs.Known.{constant-more, constant-whole, no_constant}
 use Rattle.gate_arith.proofs.places.constant.Goals as goal
 

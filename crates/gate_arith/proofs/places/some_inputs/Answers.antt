@@ -1,5 +1,5 @@
 -- One more input.
-use Rattle.std.proofs.Common.{◌∙◌}
+use Rattle.gate_arith.proofs.Common.{◌∙◌}
 use Rattle.gate_arith.proofs.Known.{fresh-more, none_fresh}
 use Rattle.gate_arith.proofs.places.some_inputs.Goals as goal
 

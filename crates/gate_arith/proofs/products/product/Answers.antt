@@ -1,6 +1,5 @@
 -- One more row.
-use Rattle.std.proofs.Common.{◌≡◌, ◌<◌, ◌+◌, ◌-◌, false, length, arith}
-use Rattle.gates.specs.declared.circuit.GateId.{GateId}
+use Rattle.gate_arith.proofs.Common.{◌≡◌, ◌<◌, ◌+◌, ◌-◌, false, length, arith, GateId}
 use Rattle.gate_arith.proofs.Rows.{no_rows, product-more, product-whole}
 use Rattle.gate_arith.proofs.products.product.Goals as goal
 

@@ -1,5 +1,4 @@
-use Rattle.std.proofs.Common.{◌<◌, [], drop, length, ap, arith, ◌∙◌}
-use Rattle.std.proofs.lemmas.List.{take_rest}
+use Rattle.gate_arith.proofs.Common.{◌<◌, [], drop, length, ap, arith, ◌∙◌, take_rest}
 use Rattle.gate_arith.proofs.Digits.{gates_later, gates_push}
 use Rattle.gate_arith.proofs.Steps.{step-is}
 use Rattle.gate_arith.proofs.quotients.bring_down.Goals as goal

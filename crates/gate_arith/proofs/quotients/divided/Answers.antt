@@ -1,6 +1,5 @@
 -- One more step.
-use Rattle.std.proofs.Common.{◌<◌, false, length, arith}
-use Rattle.gates.specs.declared.circuit.GateId.{GateId}
+use Rattle.gate_arith.proofs.Common.{◌<◌, false, length, arith, GateId}
 use Rattle.gate_arith.proofs.Steps.{division-more, division-quotient, division-remainder, no_steps}
 use Rattle.gate_arith.proofs.quotients.divided.Goals as goal
 

@@ -1,5 +1,4 @@
-use Rattle.std.proofs.Common.{◌-◌, length}
-use Rattle.std.proofs.lemmas.List.{take_rest}
+use Rattle.gate_arith.proofs.Common.{◌-◌, length, take_rest}
 use Rattle.gate_arith.proofs.Moved.{front-writes}
 use Rattle.gate_arith.proofs.shifts.moved_up.Goals as goal
 

@@ -1,5 +1,4 @@
-use Rattle.std.proofs.Common.{false}
-use Rattle.gates.specs.declared.circuit.GateId.{GateId}
+use Rattle.gate_arith.proofs.Common.{false, GateId}
 use Rattle.gate_arith.proofs.Moved.{signed-writes}
 use Rattle.gate_arith.proofs.shifts.shift_right_signed.Goals as goal
 

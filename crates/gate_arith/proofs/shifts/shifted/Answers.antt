@@ -1,4 +1,4 @@
-use Rattle.std.proofs.Common.{arith}
+use Rattle.gate_arith.proofs.Common.{arith}
 use Rattle.gate_arith.proofs.Moved.{shifted-writes}
 use Rattle.gate_arith.proofs.shifts.shifted.Goals as goal
 

@@ -1,6 +1,5 @@
 -- One more stage.
-use Rattle.std.proofs.Common.{◌≡◌, ◌<◌, ◌+◌, ◌-◌, false, length, arith}
-use Rattle.gates.specs.declared.circuit.GateId.{GateId}
+use Rattle.gate_arith.proofs.Common.{◌≡◌, ◌<◌, ◌+◌, ◌-◌, false, length, arith, GateId}
 use Rattle.gate_arith.proofs.Moved.{count-below, moved-more, moved-whole, not_moved}
 use Rattle.gate_arith.proofs.shifts.staged.Goals as goal
 

@@ -1,4 +1,4 @@
-use Rattle.gates.proofs.Stages.{IfOk-then}
+use Rattle.gate_arith.proofs.Common.{IfOk-then}
 use Rattle.gate_arith.proofs.Adders.{carry-less}
 use Rattle.gate_arith.proofs.sums.less.Goals as goal
 

@@ -1,6 +1,5 @@
 -- One more bit, by the full adder.
-use Rattle.std.proofs.Common.{◌≡◌, ◌<◌, ◌+◌, ◌-◌, false, length, arith}
-use Rattle.gates.specs.declared.circuit.GateId.{GateId}
+use Rattle.gate_arith.proofs.Common.{◌≡◌, ◌<◌, ◌+◌, ◌-◌, false, length, arith, GateId}
 use Rattle.gate_arith.proofs.Adders.{no_sum, sum-more, sum-whole}
 use Rattle.gate_arith.proofs.sums.sum_with_carry.Goals as goal
 

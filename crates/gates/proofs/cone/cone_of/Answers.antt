@@ -1,8 +1,6 @@
 -- What the gate at an index names comes before it, and is marked with it.
-use Rattle.std.proofs.Common.{◌≡◌, ◌∙◌, ◌+◌, ◌-◌, ◌<◌, ◌≤◌, All, Bool, true, false, List, slice_set, ap, arith, get_or, length, subst, sym, ℕ}
-use Rattle.gates.specs.declared.circuit.Gate.TheVariants.{Zero}
-use Rattle.gates.specs.Cone.{IsCone, operands}
-use Rattle.gates.specs.Values.{IsFit}
+use Rattle.gates.proofs.Common.{◌≡◌, ◌∙◌, ◌+◌, ◌-◌, ◌<◌, ◌≤◌, All, Bool, true, false, List, ap, arith, get_or, length, subst, sym, ℕ, Zero, IsCone, operands, IsFit}
+use Rattle.std.proofs.Common.{slice_set}
 use Rattle.gates.proofs.FactLemmas.{fit-at}
 use Rattle.gates.proofs.Marks.{cone-start, got-at, length-marked, mark-step, operands-below, resized, written-back}
 use Rattle.gates.proofs.cone.cone_of.Goals as goal

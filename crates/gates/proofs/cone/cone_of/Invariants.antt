@@ -1,5 +1,5 @@
 -- The operands of marked gates are marked, from an index on.
-use Rattle.gates.specs.Cone.{IsCone}
+use Rattle.gates.proofs.Common.{IsCone}
 use Rattle.gates.proofs.cone.cone_of.Given as goal
 
 abbrev pub invariant-loop-place : goal.invariant-loop-place

@@ -1,7 +1,5 @@
 -- The clauses of the gate of one more variable.
-use Rattle.std.proofs.Common.{get_or, ◌≡◌, ◌<◌, ◌+◌, subst, ℕ, arith, length}
-use Rattle.gates.specs.declared.circuit.Gate.TheVariants.{Zero}
-use Rattle.gates.specs.Values.{IsFit}
+use Rattle.gates.proofs.Common.{get_or, ◌≡◌, ◌<◌, ◌+◌, subst, ℕ, arith, length, Zero, IsFit}
 use Rattle.gates.proofs.FactLemmas.{fit-at, facts-more, gate_place}
 use Rattle.gates.proofs.Named.{number-ranged}
 use Rattle.gates.proofs.encoding.body_of.Goals as goal

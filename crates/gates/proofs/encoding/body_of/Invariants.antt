@@ -1,7 +1,5 @@
 -- The clauses so far say what the gates of the variables so far do.
-use Rattle.std.proofs.Common.{ℕ, ◌≡◌, ◌↔◌, Bool, true, length}
-use Rattle.clause_lits.specs.Meaning.{AreWithin, clauses_true}
-use Rattle.gates.specs.Facts.{AreFacts}
+use Rattle.gates.proofs.Common.{ℕ, ◌≡◌, ◌↔◌, Bool, true, length, AreWithin, clauses_true, AreFacts}
 use Rattle.gates.proofs.encoding.body_of.Given as goal
 
 abbrev pub invariant-loop-place : goal.invariant-loop-place

@@ -1,4 +1,4 @@
-use Rattle.std.proofs.Common.{◌∙◌, ap, [], ◌∷◌, ◌++◌}
+use Rattle.gates.proofs.Common.{◌∙◌, ap, [], ◌∷◌, ◌++◌}
 use Rattle.gates.proofs.Clauses.{and-says, within-push}
 use Rattle.gates.proofs.encoding.push_and.Goals as goal
 

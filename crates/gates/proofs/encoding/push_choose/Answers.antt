@@ -1,4 +1,4 @@
-use Rattle.std.proofs.Common.{◌∙◌, ap, [], ◌∷◌, ◌++◌}
+use Rattle.gates.proofs.Common.{◌∙◌, ap, [], ◌∷◌, ◌++◌}
 use Rattle.gates.proofs.Clauses.{choose-says, within-push}
 use Rattle.gates.proofs.encoding.push_choose.Goals as goal
 

@@ -1,6 +1,5 @@
 -- The variables of a gate and its operands are among all.
-use Rattle.std.proofs.Common.{ap, arith}
-use Rattle.clause_lits.specs.declared.lit.Lit.{Lit}
+use Rattle.gates.proofs.Common.{ap, arith, Lit}
 use Rattle.gates.proofs.Clauses.{OnOk-then}
 use Rattle.gates.proofs.encoding.push_gate.Goals as goal
 

@@ -1,6 +1,5 @@
 -- The order of the literals is no matter.
-use Rattle.std.proofs.Common.{◌∙◌, inl, inr}
-use Rattle.clause_lits.specs.Meaning.{lit_true}
+use Rattle.gates.proofs.Common.{◌∙◌, inl, inr, lit_true}
 use Rattle.gates.proofs.Clauses.{any-three}
 use Rattle.gates.proofs.encoding.three.Goals as goal
 use Rattle.gates.proofs.encoding.three.Goals.{then-c-low, else-c-low+then-c-high, else-c-low+else-c-high}

@@ -1,8 +1,5 @@
 -- What was made is an encoding.
-use Rattle.std.proofs.Common.{◌++◌, ◌∷◌, [], ◌∙◌, ap, arith, subst, sym, List}
-use Rattle.clause_lits.specs.declared.lit.Lit.{Lit}
-use Rattle.gates.specs.declared.circuit.Gate.{Gate}
-use Rattle.gates.specs.Encoding.{AreInputs}
+use Rattle.gates.proofs.Common.{◌++◌, ◌∷◌, [], ◌∙◌, ap, arith, subst, sym, List, Lit, Gate, AreInputs}
 use Rattle.gates.proofs.FactLemmas.{inputs_stored}
 use Rattle.gates.proofs.Encoded.{encoded, one-a_front}
 use Rattle.gates.proofs.encoding.to_cnf.Goals as goal

@@ -1,6 +1,5 @@
 -- The next input that is named gets the next variable.
-use Rattle.std.proofs.Common.{◌<◌, length, arith, false, get_or}
-use Rattle.gates.specs.declared.circuit.GateId.{GateId}
+use Rattle.gates.proofs.Common.{◌<◌, length, arith, false, get_or, GateId}
 use Rattle.gates.proofs.Named.{at_place, named-next}
 use Rattle.gates.proofs.numbering.named_first.Goals as goal
 

@@ -1,5 +1,5 @@
 -- The inputs named so far have the first variables.
-use Rattle.gates.specs.Numbering.{AreNumbered}
+use Rattle.gates.proofs.Common.{AreNumbered}
 use Rattle.gates.proofs.numbering.named_first.Given as goal
 
 abbrev pub invariant-loop-a : goal.invariant-loop-a

@@ -1,5 +1,5 @@
 -- A needed gate that has no variable gets the next one.
-use Rattle.std.proofs.Common.{◌≡◌, ◌<◌, ◌∙◌, true, false, length, arith, sym, get_or}
+use Rattle.gates.proofs.Common.{◌≡◌, ◌<◌, ◌∙◌, true, false, length, arith, sym, get_or}
 use Rattle.gates.proofs.FactLemmas.{input_within}
 use Rattle.gates.proofs.Marks.{got-at}
 use Rattle.gates.proofs.Named.{part-add, part-none, part-skip, part-whole}

@@ -1,6 +1,5 @@
 -- The needed gates so far have variables.
-use Rattle.std.proofs.Common.{length}
-use Rattle.gates.specs.Numbering.{IsPartNumbering}
+use Rattle.gates.proofs.Common.{length, IsPartNumbering}
 use Rattle.gates.proofs.numbering.numbering_of.Given as goal
 
 abbrev pub invariant-loop-place : goal.invariant-loop-place

@@ -1,4 +1,4 @@
-use Rattle.mem_terms.proofs.Later.{keeps_trans}
+use Rattle.inst_terms.proofs.Common.{keeps_trans}
 use Rattle.inst_terms.proofs.Wholes.{binary-stands}
 use Rattle.inst_terms.proofs.binary_operations.binary.Goals as goal
 

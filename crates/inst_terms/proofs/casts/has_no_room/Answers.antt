@@ -1,4 +1,4 @@
-use Rattle.std.proofs.Common.{arith}
+use Rattle.inst_terms.proofs.Common.{arith}
 use Rattle.inst_terms.proofs.Casting.{room-stands}
 use Rattle.inst_terms.proofs.casts.has_no_room.Goals as goal
 

@@ -1,4 +1,4 @@
-use Rattle.std.proofs.Common.{arith}
+use Rattle.inst_terms.proofs.Common.{arith}
 use Rattle.inst_terms.proofs.Casting.{signed_room-stands}
 use Rattle.inst_terms.proofs.casts.has_no_signed_room.Goals as goal
 

@@ -1,4 +1,4 @@
-use Rattle.std.proofs.Common.{arith}
+use Rattle.inst_terms.proofs.Common.{arith}
 use Rattle.inst_terms.proofs.Casting.{cut-made, extended-made}
 use Rattle.inst_terms.proofs.casts.resized_signed.Goals as goal
 

@@ -1,4 +1,4 @@
-use Rattle.mem_terms.proofs.Later.{keeps_trans}
+use Rattle.inst_terms.proofs.Common.{keeps_trans}
 use Rattle.inst_terms.proofs.Wholes.{compare-stands}
 use Rattle.inst_terms.proofs.comparisons.compare.Goals as goal
 

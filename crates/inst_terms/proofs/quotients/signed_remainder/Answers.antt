@@ -1,4 +1,4 @@
-use Rattle.mem_terms.proofs.Later.{keeps_trans}
+use Rattle.inst_terms.proofs.Common.{keeps_trans}
 use Rattle.inst_terms.proofs.quotients.signed_remainder.Goals as goal
 
 pub returns-clause-kept : goal.returns-clause-kept

@@ -1,4 +1,4 @@
-use Rattle.std.proofs.Common.{arith}
+use Rattle.inst_terms.proofs.Common.{arith}
 use Rattle.inst_terms.proofs.Chains.{outside_signed-stands}
 use Rattle.inst_terms.proofs.room.is_outside_signed.Goals as goal
 

@@ -1,4 +1,4 @@
-use Rattle.std.proofs.Common.{arith}
+use Rattle.inst_terms.proofs.Common.{arith}
 use Rattle.inst_terms.proofs.Chains.{outside_unsigned-stands}
 use Rattle.inst_terms.proofs.room.is_outside_unsigned.Goals as goal
 

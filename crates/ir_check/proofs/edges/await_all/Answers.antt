@@ -1,6 +1,4 @@
-use Rattle.std.proofs.Common.{◌∙◌, take, length, get_or, length-set, ap, arith}
-use Rattle.std.proofs.lemmas.List.{take_all, take_more, length-replicate}
-use Rattle.ir_check.specs.declared.marks.Mark.TheVariants.{Stranger}
+use Rattle.ir_check.proofs.Common.{◌∙◌, take, length, get_or, length-set, ap, arith, take_all, take_more, length-replicate, Stranger}
 use Rattle.ir_check.proofs.EdgeLemmas.{strangers, awaited_more}
 use Rattle.ir_check.proofs.edges.await_all.Goals as goal
 

@@ -1,6 +1,4 @@
-use Rattle.std.proofs.Common.{◌≡◌, [], length, take}
-use Rattle.ir_tree.specs.declared.tree.IrType.{IrType}
-use Rattle.ir_check.specs.Marks.{AreMarked}
+use Rattle.ir_check.proofs.Common.{◌≡◌, [], length, take, IrType, AreMarked}
 use Rattle.ir_check.proofs.edges.await_all.Given as goal
 
 abbrev pub invariant-loop-label : goal.invariant-loop-label

@@ -1,8 +1,4 @@
-use Rattle.std.proofs.Common.{◌≡◌, ◌∙◌, true, length, arith, ap}
-use borrow.Author.Count.{below_more}
-use Rattle.ir_tree.specs.Sites.{sites}
-use Rattle.ir_tree.specs.WellFormed.{HasWrongEdge}
-use Rattle.ir_tree.proofs.Failures.{failure, no_failure}
+use Rattle.ir_check.proofs.Common.{◌≡◌, ◌∙◌, true, length, arith, ap, below_more, sites, HasWrongEdge, failure, no_failure}
 use Rattle.ir_check.proofs.PredecessorLemmas.{wrong_within}
 use Rattle.ir_check.proofs.edges.first_wrong.Goals as goal
 

@@ -1,5 +1,4 @@
-use Rattle.std.proofs.Common.{◌≡◌, ◌<◌, ℕ, length}
-use Rattle.ir_tree.specs.WellFormed.{HasWrongEdge}
+use Rattle.ir_check.proofs.Common.{◌≡◌, ◌<◌, ℕ, length, HasWrongEdge}
 use Rattle.ir_check.proofs.edges.first_wrong.Given as goal
 
 abbrev pub invariant-loop-n : goal.invariant-loop-n

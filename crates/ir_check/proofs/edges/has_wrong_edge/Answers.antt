@@ -1,7 +1,5 @@
-use Rattle.std.proofs.Common.{◌≡◌, slice_get, Some}
+use Rattle.ir_check.proofs.Common.{◌≡◌, slice_get, Some, Defines, sites, parts}
 use Rattle.ir_tree.specs.declared.sites.Part.TheVariants as part
-use Rattle.ir_tree.specs.declared.sites.Site.TheVariants.{Defines}
-use Rattle.ir_tree.specs.Sites.{sites, parts}
 use Rattle.ir_check.proofs.PredecessorLemmas.{phi_wrong}
 use Rattle.ir_check.proofs.edges.has_wrong_edge.Goals as goal
 

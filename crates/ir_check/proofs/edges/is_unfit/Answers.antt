@@ -1,4 +1,4 @@
-use Rattle.std.proofs.Common.{◌∙◌, sym, refl}
+use Rattle.ir_check.proofs.Common.{◌∙◌, sym, refl}
 use Rattle.ir_check.proofs.EdgeLemmas.{unfit_entry, awaited_unfit, none_unfit, is_true}
 use Rattle.ir_check.proofs.edges.is_unfit.Goals as goal
 

@@ -1,4 +1,4 @@
-use Rattle.std.proofs.Common.{◌≡◌, ◌<◌, length, slice_get, Some, arith}
+use Rattle.ir_check.proofs.Common.{◌≡◌, ◌<◌, length, slice_get, Some, arith}
 use Rattle.ir_check.proofs.PredecessorLemmas.{got, label_numbered, predecessors_numbered, unfit_at, at_unfit}
 use Rattle.ir_check.proofs.edges.is_unfit_at.Goals as goal
 

@@ -1,4 +1,4 @@
-use Rattle.std.proofs.Common.{◌∙◌, sym}
+use Rattle.ir_check.proofs.Common.{◌∙◌, sym}
 use Rattle.ir_check.proofs.EdgeLemmas.{first_met, met_again, from_stranger, with_other, marked_within}
 use Rattle.ir_check.proofs.edges.meet.Goals as goal
 

@@ -1,5 +1,4 @@
-use Rattle.std.proofs.Common.{◌∙◌, take}
-use Rattle.std.proofs.lemmas.List.Elements.{Contains-get_or}
+use Rattle.ir_check.proofs.Common.{◌∙◌, take, Contains-get_or}
 use Rattle.ir_check.proofs.EdgeLemmas.{unfit_among, met_more, stands_before}
 use Rattle.ir_check.proofs.edges.meet_all.Goals as goal
 

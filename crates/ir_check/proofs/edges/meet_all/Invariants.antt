@@ -1,5 +1,4 @@
-use Rattle.std.proofs.Common.{◌≡◌, ℕ, List, [], length, take}
-use Rattle.ir_check.specs.Marks.{AreMarked}
+use Rattle.ir_check.proofs.Common.{◌≡◌, ℕ, List, [], length, take, AreMarked}
 use Rattle.ir_check.proofs.edges.meet_all.Given as goal
 
 abbrev pub invariant-loop-entry : goal.invariant-loop-entry

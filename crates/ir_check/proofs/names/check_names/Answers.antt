@@ -1,4 +1,4 @@
-use Rattle.std.proofs.Common.{inl, inr}
+use Rattle.ir_check.proofs.Common.{inl, inr}
 use Rattle.ir_check.proofs.names.check_names.Goals as goal
 
 pub returns-in-Some-clause-refused : goal.returns-in-Some-clause-refused

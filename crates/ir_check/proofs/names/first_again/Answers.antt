@@ -1,8 +1,4 @@
-use Rattle.std.proofs.Common.{length, arith}
-use Rattle.std.proofs.lemmas.Option.{slice_get_within}
-use Rattle.ir_tree.specs.declared.sites.Site.TheVariants.{Defines}
-use Rattle.ir_tree.specs.WellFormed.{DefinesAgain}
-use Rattle.ir_tree.proofs.Failures.{failure, no_failure}
+use Rattle.ir_check.proofs.Common.{length, arith, slice_get_within, Defines, DefinesAgain, failure, no_failure}
 use Rattle.ir_check.proofs.names.first_again.Goals as goal
 
 pub returns-then-defines_again : goal.returns-then-defines_again

@@ -1,5 +1,4 @@
-use Rattle.std.proofs.Common.{◌<◌, ℕ}
-use Rattle.ir_tree.specs.WellFormed.{DefinesAgain}
+use Rattle.ir_check.proofs.Common.{◌<◌, ℕ, DefinesAgain}
 use Rattle.ir_check.proofs.names.first_again.Given as goal
 
 abbrev pub invariant-loop-n : goal.invariant-loop-n

@@ -1,7 +1,4 @@
-use Rattle.std.proofs.Common.{◌≡◌, true, length, arith}
-use borrow.Author.Count.{below_more}
-use Rattle.ir_tree.specs.WellFormed.{UsesUnknown}
-use Rattle.ir_tree.proofs.Failures.{failure, no_failure}
+use Rattle.ir_check.proofs.Common.{◌≡◌, true, length, arith, below_more, UsesUnknown, failure, no_failure}
 use Rattle.ir_check.proofs.ValueLemmas.{unknown_within}
 use Rattle.ir_check.proofs.names.first_unknown.Goals as goal
 

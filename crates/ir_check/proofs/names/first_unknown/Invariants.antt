@@ -1,5 +1,4 @@
-use Rattle.std.proofs.Common.{◌<◌, ℕ}
-use Rattle.ir_tree.specs.WellFormed.{UsesUnknown}
+use Rattle.ir_check.proofs.Common.{◌<◌, ℕ, UsesUnknown}
 use Rattle.ir_check.proofs.names.first_unknown.Given as goal
 
 abbrev pub invariant-loop-n : goal.invariant-loop-n

@@ -1,5 +1,4 @@
-use Rattle.std.proofs.Common.{take, get_or}
-use Rattle.std.proofs.lemmas.List.{take_all, take_more}
+use Rattle.ir_check.proofs.Common.{take, get_or, take_all, take_more}
 use Rattle.ir_check.proofs.PredecessorLemmas.{added_more}
 use Rattle.ir_check.proofs.predecessors.add_predecessor.Goals as goal
 

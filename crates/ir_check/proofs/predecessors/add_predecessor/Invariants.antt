@@ -1,4 +1,4 @@
-use Rattle.std.proofs.Common.{take}
+use Rattle.ir_check.proofs.Common.{take}
 use Rattle.ir_check.proofs.PredecessorLemmas.{HaveAdded}
 use Rattle.ir_check.proofs.predecessors.add_predecessor.Given as goal
 

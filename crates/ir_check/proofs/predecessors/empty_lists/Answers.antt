@@ -1,5 +1,4 @@
-use Rattle.std.proofs.Common.{[]}
-use Rattle.std.proofs.lemmas.List.{replicate_more}
+use Rattle.ir_check.proofs.Common.{[], replicate_more}
 use Rattle.ir_check.proofs.predecessors.empty_lists.Goals as goal
 
 pub loop-list-preserved : goal.loop-list-preserved

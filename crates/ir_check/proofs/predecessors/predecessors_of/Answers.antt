@@ -1,5 +1,4 @@
-use Rattle.std.proofs.Common.{◌∙◌, length, take, refl}
-use Rattle.std.proofs.lemmas.Option.{slice_get_read}
+use Rattle.ir_check.proofs.Common.{◌∙◌, length, take, refl, slice_get_read}
 use Rattle.ir_check.proofs.PredecessorLemmas.{taken, leads_more, targets_numbered}
 use Rattle.ir_check.proofs.predecessors.predecessors_of.Goals as goal
 

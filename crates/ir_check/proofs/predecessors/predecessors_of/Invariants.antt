@@ -1,5 +1,4 @@
-use Rattle.std.proofs.Common.{◌≡◌, length, take}
-use Rattle.ir_check.specs.Marks.{ArePredecessors}
+use Rattle.ir_check.proofs.Common.{◌≡◌, length, take, ArePredecessors}
 use Rattle.ir_check.proofs.predecessors.predecessors_of.Given as goal
 
 abbrev pub invariant-loop-block : goal.invariant-loop-block

@@ -1,5 +1,4 @@
-use Rattle.std.proofs.Common.{◌<◌, ℕ}
-use Rattle.ir_tree.specs.WellFormed.{ClashesType}
+use Rattle.ir_check.proofs.Common.{◌<◌, ℕ, ClashesType}
 use Rattle.ir_check.proofs.types.first_clash.Given as goal
 
 abbrev pub invariant-loop-n : goal.invariant-loop-n

@@ -1,5 +1,4 @@
-use Rattle.std.proofs.Common.{length, refl}
-use Rattle.std.proofs.lemmas.Option.{slice_get_read}
+use Rattle.ir_check.proofs.Common.{length, refl, slice_get_read}
 use Rattle.ir_check.proofs.ValueLemmas.{first_label}
 use Rattle.ir_check.proofs.values.is_label.Goals as goal
 

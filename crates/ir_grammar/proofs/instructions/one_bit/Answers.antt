@@ -1,4 +1,4 @@
-use Rattle.ir_tree.specs.Types.{one_bit}
+use Rattle.ir_grammar.proofs.Common.{one_bit}
 use Rattle.ir_grammar.proofs.Widths.{same_width}
 use Rattle.ir_grammar.proofs.instructions.one_bit.Goals as goal
 

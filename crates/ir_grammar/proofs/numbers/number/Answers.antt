@@ -1,4 +1,4 @@
-use Rattle.std.proofs.Common.{◌∙◌, sym, arith}
+use Rattle.ir_grammar.proofs.Common.{◌∙◌, sym, arith}
 use Rattle.ir_grammar.proofs.Digits.{too_large, below}
 use Rattle.ir_grammar.proofs.numbers.number.Goals as goal
 

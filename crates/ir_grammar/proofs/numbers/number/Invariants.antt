@@ -1,5 +1,4 @@
-use Rattle.std.proofs.Common.{◌≡◌, ◌^◌, ◌<◌, drop}
-use Rattle.ir_grammar.specs.Numbers.{value_of, value_after}
+use Rattle.ir_grammar.proofs.Common.{◌≡◌, ◌^◌, ◌<◌, drop, value_of, value_after}
 use Rattle.ir_grammar.proofs.numbers.number.Given as goal
 
 abbrev pub invariant-loop-digit : goal.invariant-loop-digit

@@ -1,5 +1,4 @@
-use Rattle.std.proofs.Common.{◌^◌, sym, ◌∙◌, arith}
-use Rattle.ir_grammar.specs.Numbers.{value_of}
+use Rattle.ir_grammar.proofs.Common.{◌^◌, sym, ◌∙◌, arith, value_of}
 use Rattle.ir_grammar.proofs.Widths.{width_of-bits, width_of-past, width_of-out, some_below-is}
 use Rattle.ir_grammar.proofs.numbers.width.Goals as goal
 

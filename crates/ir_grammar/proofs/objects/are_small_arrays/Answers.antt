@@ -1,4 +1,4 @@
-use Rattle.std.proofs.Common.{◌≡◌, ℕ, ◌≤◌, sym, subst, arith}
+use Rattle.ir_grammar.proofs.Common.{◌≡◌, ℕ, ◌≤◌, sym, subst, arith}
 use Rattle.ir_tree.proofs.Sizes.{large_at, small_at, small_more}
 use Rattle.ir_grammar.proofs.SmallArrays.{small-arrays, not-small-arrays}
 use Rattle.ir_grammar.proofs.objects.are_small_arrays.Goals as goal

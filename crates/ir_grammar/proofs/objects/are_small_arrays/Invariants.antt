@@ -1,6 +1,4 @@
-use Rattle.std.proofs.Common.{◌≡◌, ◌≤◌, length, drop}
-use Rattle.ir_tree.specs.Types.{nested_size}
-use Rattle.ir_tree.specs.Limits.{HasSmallArrays}
+use Rattle.ir_grammar.proofs.Common.{◌≡◌, ◌≤◌, length, drop, nested_size, HasSmallArrays}
 use Rattle.ir_grammar.proofs.objects.are_small_arrays.Given as goal
 
 abbrev pub invariant-loop-i : goal.invariant-loop-i

@@ -1,5 +1,4 @@
-use Rattle.std.proofs.Common.{◌≡◌, ◌≤◌, length, drop, min}
-use Rattle.ir_tree.specs.Types.{nested_size}
+use Rattle.ir_grammar.proofs.Common.{◌≡◌, ◌≤◌, length, drop, min, nested_size}
 use Rattle.ir_grammar.proofs.objects.capped_size.Given as goal
 
 abbrev pub invariant-loop-i : goal.invariant-loop-i

@@ -1,8 +1,4 @@
-use Rattle.std.proofs.Common.{◌≡◌, ℕ, sym, subst, ◌∙◌, arith}
-use Rattle.std.proofs.lemmas.Result.{err_from_is_err_and}
-use Rattle.ir_items.specs.Marks.{IsBalanced}
-use Rattle.ir_items.specs.Items.{BeforeBody}
-use Rattle.ir_items.specs.Stops.{GoesOn, StopsAt}
+use Rattle.ir_items.proofs.Common.{◌≡◌, ℕ, sym, subst, ◌∙◌, arith, err_from_is_err_and, IsBalanced, BeforeBody, GoesOn, StopsAt}
 use Rattle.ir_items.proofs.Opening.{piece_balanced, balanced_fits}
 use Rattle.ir_items.proofs.Phases.{body_piece, body_fault, define_ends}
 use Rattle.ir_items.proofs.cutting.body_place.Goals as goal

@@ -1,6 +1,4 @@
-use Rattle.std.proofs.Common.{ℕ, ◌-◌, length}
-use Rattle.ir_items.specs.Marks.{IsBalanced}
-use Rattle.ir_items.specs.Items.{BeforeBody}
+use Rattle.ir_items.proofs.Common.{ℕ, ◌-◌, length, IsBalanced, BeforeBody}
 use Rattle.ir_items.proofs.cutting.body_place.Given as goal
 
 abbrev pub invariant-loop-place : goal.invariant-loop-place

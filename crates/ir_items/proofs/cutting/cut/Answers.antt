@@ -1,6 +1,4 @@
-use Rattle.std.proofs.Common.{List, map, sym, ap, ◌∙◌, arith}
-use Rattle.ir_items.specs.declared.item.Define.{Define}
-use Rattle.ir_items.specs.Items.{IsCut}
+use Rattle.ir_items.proofs.Common.{List, map, sym, ap, ◌∙◌, arith, Define, IsCut}
 use Rattle.ir_items.proofs.cutting.cut.Goals as goal
 
 pub loop-at-init : goal.loop-at-init

@@ -1,5 +1,4 @@
-use Rattle.std.proofs.Common.{◌≡◌, ◌≤◌, ◌-◌, length, map}
-use Rattle.ir_items.specs.Items.{IsCut}
+use Rattle.ir_items.proofs.Common.{◌≡◌, ◌≤◌, ◌-◌, length, map, IsCut}
 use Rattle.ir_items.proofs.cutting.cut.Given as goal
 
 abbrev pub invariant-loop-at : goal.invariant-loop-at

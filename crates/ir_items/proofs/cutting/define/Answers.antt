@@ -1,10 +1,5 @@
-use Rattle.std.proofs.Common.{◌≡◌, true, false, sym, ap, ◌∙◌, arith}
-use Rattle.std.specs.Prelude.{is_some, position}
-use Rattle.std.specs.List.{list_any}
-use Rattle.std.proofs.lemmas.Grind.{common_steps}
-use Rattle.std.proofs.lemmas.Result.{err_from_is_err_and}
+use Rattle.ir_items.proofs.Common.{◌≡◌, true, false, sym, ap, ◌∙◌, arith, is_some, position, list_any, common_steps, err_from_is_err_and, StopsAt}
 use Rattle.ir_tree.specs.Names.{same_name}
-use Rattle.ir_items.specs.Stops.{StopsAt}
 use Rattle.ir_items.proofs.HeadTokens.{called_opens, called_name, found_some}
 use Rattle.ir_items.proofs.cutting.define.Goals as goal
 

@@ -1,10 +1,4 @@
-use Rattle.std.proofs.Common.{ℕ, List}
-use Rattle.ir_items.specs.declared.item.Define.{Define}
-use Rattle.ir_items.specs.Marks.{IsPiece}
-use Rattle.ir_items.specs.Items.{IsNamed, IsDefine}
-use Rattle.ir_items.specs.Pieces.{PieceStops, ItemStops}
-use Rattle.ir_items.specs.Stops.{IsNew}
-use Rattle.std.proofs.lemmas.Result.{err_from_is_err_and, IfOk-weaker, IfErr-weaker}
+use Rattle.ir_items.proofs.Common.{ℕ, List, Define, IsPiece, IsNamed, IsDefine, PieceStops, ItemStops, IsNew, err_from_is_err_and, IfOk-weaker, IfErr-weaker}
 use Rattle.ir_items.proofs.Phases.{parameters_fault, behind_parameters, parameters_end_balanced, in_body_fault}
 use Rattle.ir_items.proofs.cutting.define_end.Goals as goal
 

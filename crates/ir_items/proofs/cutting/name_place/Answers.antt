@@ -1,6 +1,4 @@
-use Rattle.std.proofs.Common.{◌≡◌, ℕ, sym, subst, ◌∙◌, arith}
-use Rattle.std.proofs.lemmas.Result.{err_from_is_err_and}
-use Rattle.ir_items.specs.Stops.{GoesOn, StopsAt}
+use Rattle.ir_items.proofs.Common.{◌≡◌, ℕ, sym, subst, ◌∙◌, arith, err_from_is_err_and, GoesOn, StopsAt}
 use Rattle.ir_items.proofs.Opening.{piece_balanced, balanced_fits}
 use Rattle.ir_items.proofs.HeadTokens.{head_balanced}
 use Rattle.ir_items.proofs.Phases.{name_piece, name_fault, define_ends}

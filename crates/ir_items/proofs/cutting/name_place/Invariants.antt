@@ -1,6 +1,4 @@
-use Rattle.std.proofs.Common.{◌-◌, length}
-use Rattle.ir_items.specs.Marks.{IsBalanced}
-use Rattle.ir_items.specs.Items.{BeforeName}
+use Rattle.ir_items.proofs.Common.{◌-◌, length, IsBalanced, BeforeName}
 use Rattle.ir_items.proofs.cutting.name_place.Given as goal
 
 abbrev pub invariant-loop-place : goal.invariant-loop-place

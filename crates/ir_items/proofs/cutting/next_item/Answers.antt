@@ -1,8 +1,4 @@
-use Rattle.std.proofs.Common.{sym, ◌∙◌}
-use Rattle.std.proofs.lemmas.Result.{IfOk-weaker}
-use Rattle.ir_items.specs.Items.{IsOther, IsCut}
-use Rattle.ir_items.specs.Stops.{StopsAt}
-use Rattle.ir_items.specs.Pieces.{IsAdded}
+use Rattle.ir_items.proofs.Common.{sym, ◌∙◌, IfOk-weaker, IsOther, IsCut, StopsAt, IsAdded}
 use Rattle.ir_items.proofs.cutting.next_item.Goals as goal
 
 pub returns-then-not-is_head-clause-stops : goal.returns-then-not-is_head-clause-stops

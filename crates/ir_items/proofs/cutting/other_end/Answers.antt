@@ -1,7 +1,4 @@
-use Rattle.std.proofs.Common.{◌≡◌, false, true, sym, ◌∙◌, arith}
-use Rattle.std.proofs.lemmas.Result.{err_from_is_err_and}
-use Rattle.ir_items.specs.Items.{is_wrong_layout}
-use Rattle.ir_items.specs.Stops.{StopsAt}
+use Rattle.ir_items.proofs.Common.{◌≡◌, false, true, sym, ◌∙◌, arith, err_from_is_err_and, is_wrong_layout, StopsAt}
 use Rattle.ir_items.proofs.Opening.{piece_balanced}
 use Rattle.ir_items.proofs.HeadTokens.{head_balanced, wrong_layout_goes_on, wrong_layout_within}
 use Rattle.ir_items.proofs.Phases.{other_piece, other_fault}

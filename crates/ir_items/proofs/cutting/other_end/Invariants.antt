@@ -1,6 +1,4 @@
-use Rattle.std.proofs.Common.{◌-◌, length}
-use Rattle.ir_items.specs.Marks.{IsBalanced}
-use Rattle.ir_items.specs.Items.{OtherGoesOn}
+use Rattle.ir_items.proofs.Common.{◌-◌, length, IsBalanced, OtherGoesOn}
 use Rattle.ir_items.proofs.cutting.other_end.Given as goal
 
 abbrev pub invariant-loop-place : goal.invariant-loop-place

@@ -1,5 +1,4 @@
-use Rattle.std.proofs.Common.{◌≡◌, ◌≤◌, [], drop, slice_range}
-use Rattle.ir_items.specs.Items.{has_bad_part}
+use Rattle.ir_items.proofs.Common.{◌≡◌, ◌≤◌, [], drop, slice_range, has_bad_part}
 use Rattle.ir_items.proofs.layout.some_bad_part.Given as goal
 
 abbrev pub invariant-loop-place : goal.invariant-loop-place

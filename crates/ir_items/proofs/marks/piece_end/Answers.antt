@@ -1,10 +1,5 @@
-use Rattle.std.proofs.Common.{◌≡◌, ℕ, ◌+◌, ◌<◌, Bool, cond, List, [], length, Some, None, sym, ap, subst, ◌∙◌, arith}
+use Rattle.ir_items.proofs.Common.{◌≡◌, ℕ, ◌+◌, ◌<◌, Bool, cond, List, [], length, Some, None, sym, ap, subst, ◌∙◌, arith, eqb-true, common_steps, nil_from_length, marks, marks_after, has_open, IsInside, bracket, text_ends}
 use Rattle.std.specs.Vec.{vec_len}
-use Rattle.std.proofs.lemmas.Bool.{eqb-true}
-use Rattle.std.proofs.lemmas.Grind.{common_steps}
-use Rattle.std.proofs.lemmas.List.{nil_from_length}
-use Rattle.ir_items.specs.Marks.{marks, marks_after, has_open, IsInside}
-use Rattle.ir_items.specs.Pieces.{bracket, text_ends}
 use Rattle.ir_items.proofs.Opening.{at_start, marks_next, inside_more, nonempty_open}
 use Rattle.ir_items.proofs.marks.piece_end.Goals as goal
 

@@ -1,5 +1,4 @@
-use Rattle.std.proofs.Common.{◌≡◌, Some}
-use Rattle.ir_items.specs.Marks.{marks, IsInside}
+use Rattle.ir_items.proofs.Common.{◌≡◌, Some, marks, IsInside}
 use Rattle.ir_items.proofs.marks.piece_end.Given as goal
 
 abbrev pub invariant-loop-place : goal.invariant-loop-place

@@ -1,5 +1,4 @@
-use Rattle.std.proofs.Common.{◌≡◌, ◌++◌, length}
-use Rattle.ir_items.specs.Names.{unescaped}
+use Rattle.ir_items.proofs.Common.{◌≡◌, ◌++◌, length, unescaped}
 use Rattle.ir_items.proofs.names.unescaped.Given as goal
 
 abbrev pub invariant-loop-rest : goal.invariant-loop-rest

@@ -1,5 +1,4 @@
-use Rattle.std.proofs.Common.{◌≡◌, length}
-use Rattle.ir_items.specs.Names.{without_zeros}
+use Rattle.ir_items.proofs.Common.{◌≡◌, length, without_zeros}
 use Rattle.ir_items.proofs.names.without_zeros.Given as goal
 
 abbrev pub invariant-loop-rest : goal.invariant-loop-rest

@@ -1,5 +1,4 @@
-use Rattle.std.proofs.Common.{length, ◌≡◌, ◌≤◌, false}
-use Rattle.ir_lexer.specs.Tokens.{behind_blanks}
+use Rattle.ir_lexer.proofs.Common.{length, ◌≡◌, ◌≤◌, false, behind_blanks}
 use Rattle.ir_lexer.proofs.blanks.behind_blanks.Given as goal
 
 abbrev pub invariant-loop-rest : goal.invariant-loop-rest

@@ -1,9 +1,5 @@
-use Rattle.std.proofs.Common.{◌≡◌, ◌∙◌, ◌++◌, ◌∷◌, [], List, Option, None, Ok, length, ap, sym, subst, arith}
+use Rattle.ir_lexer.proofs.Common.{◌≡◌, ◌∙◌, ◌++◌, ◌∷◌, [], List, Option, None, Ok, length, ap, sym, subst, arith, Mark, Lexeme, mark_of, Position, IsToken, Reads}
 use Rattle.std.proofs.lemmas.Result.{err_from_is_err_and}
-use Rattle.ir_lexer.specs.declared.mark.Mark.{Mark}
-use Rattle.ir_lexer.specs.Lexeme.{Lexeme}
-use Rattle.ir_lexer.specs.Marks.{mark_of}
-use Rattle.ir_lexer.specs.Position.{Position, IsToken, Reads}
 use Rattle.ir_lexer.proofs.Fuel.{after-shorter}
 use Rattle.ir_lexer.proofs.Kept.{bounds}
 use Rattle.ir_lexer.proofs.Left.{IsLeft, begins, one_more, is_done, fails}

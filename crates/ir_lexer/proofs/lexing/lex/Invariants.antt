@@ -1,4 +1,4 @@
-use Rattle.std.proofs.Common.{length}
+use Rattle.ir_lexer.proofs.Common.{length}
 use Rattle.ir_lexer.proofs.Left.{IsLeft}
 use Rattle.ir_lexer.proofs.lexing.lex.Given as goal
 

@@ -1,7 +1,4 @@
-use Rattle.std.proofs.Common.{◌≡◌, length, ◌<◌, ◌≤◌, ◌∙◌, Option, ℕ, subst, sym}
-use Rattle.std.specs.Prelude.{IfSome}
-use Rattle.ir_lexer.specs.declared.token.Kind.{Kind}
-use Rattle.ir_lexer.specs.Tokens.{longest_token}
+use Rattle.ir_lexer.proofs.Common.{◌≡◌, length, ◌<◌, ◌≤◌, ◌∙◌, Option, ℕ, subst, sym, IfSome, Kind, longest_token}
 use Rattle.ir_lexer.proofs.Longest.{front_token-longest, longest-bounds}
 use Rattle.ir_lexer.proofs.scan.first_token.Goals as goal
 

@@ -1,5 +1,4 @@
-use Rattle.std.proofs.Common.{refl}
-use Rattle.ir_lexer.specs.Scan.{front_token}
+use Rattle.ir_lexer.proofs.Common.{refl, front_token}
 use Rattle.ir_lexer.proofs.scan.scanned.Goals as goal
 
 pub returns : goal.returns

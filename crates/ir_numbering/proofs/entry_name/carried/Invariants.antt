@@ -1,5 +1,4 @@
-use Rattle.std.proofs.Common.{◌≡◌, ◌++◌, length}
-use Rattle.ir_numbering.specs.EntryName.{carried}
+use Rattle.ir_numbering.proofs.Common.{◌≡◌, ◌++◌, length, carried}
 use Rattle.ir_numbering.proofs.entry_name.carried.Given as goal
 
 abbrev pub invariant-loop-rest : goal.invariant-loop-rest

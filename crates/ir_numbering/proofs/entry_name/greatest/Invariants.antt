@@ -1,6 +1,4 @@
-use Rattle.std.proofs.Common.{◌≡◌, drop, []}
-use Rattle.ir_numbering.specs.EntryName.{greatest}
-use Rattle.ir_numbering.specs.Numbering.{names_of}
+use Rattle.ir_numbering.proofs.Common.{◌≡◌, drop, [], greatest, names_of}
 use Rattle.ir_numbering.proofs.entry_name.greatest.Given as goal
 
 abbrev pub invariant-loop-parameter : goal.invariant-loop-parameter

@@ -1,5 +1,4 @@
-use Rattle.std.proofs.Common.{◌≡◌, length}
-use Rattle.ir_numbering.specs.EntryName.{is_greater}
+use Rattle.ir_numbering.proofs.Common.{◌≡◌, length, is_greater}
 use Rattle.ir_numbering.proofs.entry_name.is_greater.Given as goal
 
 abbrev pub invariant-loop-left : goal.invariant-loop-left

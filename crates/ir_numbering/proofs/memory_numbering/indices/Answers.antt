@@ -1,6 +1,4 @@
-use Rattle.std.proofs.Common.{◌≡◌, ◌∷◌}
-use Rattle.std.specs.Vec.Iter.{into_iter_items}
-use Rattle.ir_numbering.specs.Numbering.{index_in, each_in}
+use Rattle.ir_numbering.proofs.Common.{◌≡◌, ◌∷◌, into_iter_items, index_in, each_in}
 use Rattle.ir_numbering.proofs.Each.{each-more}
 use Rattle.ir_numbering.proofs.memory_numbering.indices.Goals as goal
 

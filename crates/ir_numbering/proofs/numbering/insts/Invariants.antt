@@ -1,6 +1,4 @@
-use Rattle.std.proofs.Common.{◌≡◌}
-use Rattle.std.specs.Vec.Iter.{into_iter_items}
-use Rattle.ir_numbering.specs.Numbering.{inst_in, each_in}
+use Rattle.ir_numbering.proofs.Common.{◌≡◌, into_iter_items, inst_in, each_in}
 use Rattle.ir_numbering.proofs.Each.{in_front}
 use Rattle.ir_numbering.proofs.numbering.insts.Given as goal
 

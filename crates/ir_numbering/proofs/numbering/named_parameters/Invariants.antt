@@ -1,6 +1,4 @@
-use Rattle.std.proofs.Common.{◌≡◌, []}
-use Rattle.std.specs.Vec.Iter.{into_iter_items}
-use Rattle.ir_numbering.specs.Numbering.{named_behind}
+use Rattle.ir_numbering.proofs.Common.{◌≡◌, [], into_iter_items, named_behind}
 use Rattle.ir_numbering.proofs.numbering.named_parameters.Given as goal
 
 abbrev pub invariant-loop-parameter : goal.invariant-loop-parameter

@@ -1,6 +1,4 @@
-use Rattle.std.proofs.Common.{◌≡◌, ◌++◌, drop}
-use Rattle.std.specs.List.{flat_map}
-use Rattle.ir_numbering.specs.Places.{block_places}
+use Rattle.ir_numbering.proofs.Common.{◌≡◌, ◌++◌, drop, flat_map, block_places}
 use Rattle.ir_numbering.proofs.places.add_blocks.Given as goal
 
 abbrev pub invariant-loop-block : goal.invariant-loop-block

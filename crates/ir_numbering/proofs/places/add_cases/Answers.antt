@@ -1,5 +1,4 @@
-use Rattle.std.proofs.Common.{arith}
-use Rattle.ir_numbering.specs.Places.{case_places}
+use Rattle.ir_numbering.proofs.Common.{arith, case_places}
 use Rattle.ir_numbering.proofs.Each.{flat-more}
 use Rattle.ir_numbering.proofs.places.add_cases.Goals as goal
 

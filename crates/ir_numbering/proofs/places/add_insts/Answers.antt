@@ -1,5 +1,4 @@
-use Rattle.std.proofs.Common.{arith}
-use Rattle.ir_numbering.specs.Places.{inst_places}
+use Rattle.ir_numbering.proofs.Common.{arith, inst_places}
 use Rattle.ir_numbering.proofs.Each.{flat-more}
 use Rattle.ir_numbering.proofs.places.add_insts.Goals as goal
 

@@ -1,6 +1,4 @@
-use Rattle.std.proofs.Common.{◌≡◌, ◌++◌, drop}
-use Rattle.std.specs.List.{flat_map}
-use Rattle.ir_numbering.specs.Places.{inst_places}
+use Rattle.ir_numbering.proofs.Common.{◌≡◌, ◌++◌, drop, flat_map, inst_places}
 use Rattle.ir_numbering.proofs.places.add_insts.Given as goal
 
 abbrev pub invariant-loop-inst : goal.invariant-loop-inst

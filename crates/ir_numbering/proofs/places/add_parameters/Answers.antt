@@ -1,5 +1,4 @@
-use Rattle.std.proofs.Common.{arith}
-use Rattle.ir_numbering.specs.Places.{parameter_places}
+use Rattle.ir_numbering.proofs.Common.{arith, parameter_places}
 use Rattle.ir_numbering.proofs.Each.{flat-more}
 use Rattle.ir_numbering.proofs.places.add_parameters.Goals as goal
 

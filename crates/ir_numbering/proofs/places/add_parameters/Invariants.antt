@@ -1,6 +1,4 @@
-use Rattle.std.proofs.Common.{◌≡◌, ◌++◌, drop}
-use Rattle.std.specs.List.{flat_map}
-use Rattle.ir_numbering.specs.Places.{parameter_places}
+use Rattle.ir_numbering.proofs.Common.{◌≡◌, ◌++◌, drop, flat_map, parameter_places}
 use Rattle.ir_numbering.proofs.places.add_parameters.Given as goal
 
 abbrev pub invariant-loop-parameter : goal.invariant-loop-parameter

@@ -1,6 +1,4 @@
-use Rattle.std.proofs.Common.{◌≡◌, ◌++◌, drop}
-use Rattle.std.specs.List.{flat_map}
-use Rattle.ir_numbering.specs.Places.{phi_places}
+use Rattle.ir_numbering.proofs.Common.{◌≡◌, ◌++◌, drop, flat_map, phi_places}
 use Rattle.ir_numbering.proofs.places.add_phis.Given as goal
 
 abbrev pub invariant-loop-phi : goal.invariant-loop-phi

@@ -1,4 +1,4 @@
-use Rattle.std.proofs.Common.{◌++◌, ◌∙◌, ap, sym}
+use Rattle.ir_printer.proofs.Common.{◌++◌, ◌∙◌, ap, sym}
 use Rattle.ir_printer.proofs.Texts.{all_done, one_more, array_text, arrays-text}
 use Rattle.ir_printer.proofs.accesses.push_arrays.Goals as goal
 

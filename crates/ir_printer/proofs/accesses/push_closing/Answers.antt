@@ -1,5 +1,4 @@
-use Rattle.std.proofs.Common.{◌++◌, ◌∙◌, ap, sym, arith}
-use Rattle.std.proofs.lemmas.Grind.{common_steps}
+use Rattle.ir_printer.proofs.Common.{◌++◌, ◌∙◌, ap, sym, arith, common_steps}
 use Rattle.ir_printer.proofs.Texts.{all_done, one_more, closing_text, closing-text}
 use Rattle.ir_printer.proofs.accesses.push_closing.Goals as goal
 

@@ -1,6 +1,4 @@
-use Rattle.std.proofs.Common.{◌≡◌, drop, ◌++◌, ◌∷◌}
-use Rattle.std.specs.List.{flat_map}
-use Rattle.token_text.specs.Pieces.{text_of}
+use Rattle.ir_printer.proofs.Common.{◌≡◌, drop, ◌++◌, ◌∷◌, flat_map, text_of}
 use Rattle.ir_printer.proofs.Texts.{closing_text}
 use Rattle.ir_printer.proofs.accesses.push_closing.Given as goal
 

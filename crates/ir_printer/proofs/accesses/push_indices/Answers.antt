@@ -1,5 +1,5 @@
+use Rattle.ir_printer.proofs.Common.{index_pieces}
 use Rattle.ir_printer.proofs.Texts.{all_texts}
-use Rattle.ir_printer.specs.Instructions.{index_pieces}
 use Rattle.ir_printer.proofs.accesses.push_indices.Goals as goal
 
 pub returns : goal.returns

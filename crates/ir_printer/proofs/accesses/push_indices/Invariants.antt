@@ -1,7 +1,4 @@
-use Rattle.std.proofs.Common.{◌≡◌, drop, ◌++◌, ◌∷◌}
-use Rattle.std.specs.List.{flat_map}
-use Rattle.token_text.specs.Pieces.{text_of}
-use Rattle.ir_printer.specs.Instructions.{index_pieces}
+use Rattle.ir_printer.proofs.Common.{◌≡◌, drop, ◌++◌, ◌∷◌, flat_map, text_of, index_pieces}
 use Rattle.ir_printer.proofs.accesses.push_indices.Given as goal
 
 abbrev pub invariant-loop-index : goal.invariant-loop-index

@@ -1,5 +1,5 @@
+use Rattle.ir_printer.proofs.Common.{block_pieces}
 use Rattle.ir_printer.proofs.Texts.{all_texts}
-use Rattle.ir_printer.specs.ModuleText.{block_pieces}
 use Rattle.ir_printer.proofs.functions.push_blocks.Goals as goal
 
 pub returns : goal.returns

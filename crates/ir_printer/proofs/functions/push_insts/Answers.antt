@@ -1,5 +1,5 @@
+use Rattle.ir_printer.proofs.Common.{inst_pieces}
 use Rattle.ir_printer.proofs.Texts.{all_texts}
-use Rattle.ir_printer.specs.Instructions.{inst_pieces}
 use Rattle.ir_printer.proofs.functions.push_insts.Goals as goal
 
 pub returns : goal.returns

@@ -1,7 +1,5 @@
+use Rattle.ir_printer.proofs.Common.{◌∷◌, parameter_pieces, comma, space}
 use Rattle.ir_printer.proofs.Texts.{all_texts}
-use Rattle.std.proofs.Common.{◌∷◌}
-use Rattle.ir_printer.specs.ModuleText.{parameter_pieces}
-use Rattle.ir_printer.specs.Pieces.{comma, space}
 use Rattle.ir_printer.proofs.functions.push_more_parameters.Goals as goal
 
 pub returns : goal.returns

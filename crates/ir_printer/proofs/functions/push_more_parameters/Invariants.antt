@@ -1,8 +1,4 @@
-use Rattle.std.proofs.Common.{◌≡◌, drop, ◌++◌, ◌∷◌}
-use Rattle.std.specs.List.{flat_map}
-use Rattle.token_text.specs.Pieces.{text_of}
-use Rattle.ir_printer.specs.ModuleText.{parameter_pieces}
-use Rattle.ir_printer.specs.Pieces.{comma, space}
+use Rattle.ir_printer.proofs.Common.{◌≡◌, drop, ◌++◌, ◌∷◌, flat_map, text_of, parameter_pieces, comma, space}
 use Rattle.ir_printer.proofs.functions.push_more_parameters.Given as goal
 
 abbrev pub invariant-loop-parameter : goal.invariant-loop-parameter

@@ -1,5 +1,5 @@
+use Rattle.ir_printer.proofs.Common.{phi_pieces}
 use Rattle.ir_printer.proofs.Texts.{all_texts}
-use Rattle.ir_printer.specs.Instructions.{phi_pieces}
 use Rattle.ir_printer.proofs.functions.push_phis.Goals as goal
 
 pub returns : goal.returns

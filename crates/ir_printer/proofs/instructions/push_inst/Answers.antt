@@ -1,15 +1,8 @@
-use Rattle.std.proofs.Common.{◌≡◌, ◌++◌, ◌∷◌, ◌∙◌, ℕ, Bool, List, ap, sym, subst}
-use Rattle.std.specs.Prelude.{codes}
-use Rattle.std.specs.List.{flat_map}
-use Rattle.ir_tree.specs.declared.name.Name.{Name}
+use Rattle.ir_printer.proofs.Common.{◌≡◌, ◌++◌, ◌∷◌, ◌∙◌, ℕ, Bool, List, ap, sym, subst, codes, flat_map, Name, Inst, Piece, text_of, comma, object_pieces, pointer_pieces, space, word, index_pieces, inst_pieces, result_pieces, word_if}
 use Rattle.ir_tree.specs.declared.tree.Operand.{Operand}
 use Rattle.ir_tree.specs.declared.tree.MemoryType.{MemoryType}
 use Rattle.ir_tree.specs.declared.tree.GepIndex.{GepIndex}
-use Rattle.ir_tree.specs.declared.tree.Inst.{Inst}
 use Rattle.ir_tree.specs.declared.tree.Inst.TheVariants.{GetElementPtr}
-use Rattle.token_text.specs.Pieces.{Piece, text_of}
-use Rattle.ir_printer.specs.Pieces.{comma, object_pieces, pointer_pieces, space, word}
-use Rattle.ir_printer.specs.Instructions.{index_pieces, inst_pieces, result_pieces, word_if}
 use Rattle.ir_printer.proofs.Texts.{regrouped, two_parts}
 use Rattle.ir_printer.proofs.instructions.push_inst.Goals as goal
 

@@ -1,7 +1,4 @@
-use Rattle.std.proofs.Common.{◌++◌, ◌∷◌, ◌∙◌, ap, sym}
-use Rattle.std.specs.Prelude.{codes}
-use Rattle.ir_printer.specs.Pieces.{comma, operand_piece, space, typed_pieces, word}
-use Rattle.ir_printer.specs.Instructions.{result_pieces}
+use Rattle.ir_printer.proofs.Common.{◌++◌, ◌∷◌, ◌∙◌, ap, sym, codes, comma, operand_piece, space, typed_pieces, word, result_pieces}
 use Rattle.ir_printer.proofs.Texts.{five_joined, text_of-append}
 use Rattle.ir_printer.proofs.instructions.push_select.Goals as goal
 

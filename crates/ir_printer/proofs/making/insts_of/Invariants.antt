@@ -1,5 +1,4 @@
-use Rattle.std.proofs.Common.{◌≡◌, ◌++◌, ◌*◌, ◌-◌}
-use Rattle.ir_printer.specs.Made.{made_insts, state_behind}
+use Rattle.ir_printer.proofs.Common.{◌≡◌, ◌++◌, ◌*◌, ◌-◌, made_insts, state_behind}
 use Rattle.ir_printer.proofs.making.insts_of.Given as goal
 
 abbrev pub invariant-loop-i : goal.invariant-loop-i

@@ -1,5 +1,4 @@
-use Rattle.std.proofs.Common.{◌≡◌, ◌++◌, ◌-◌}
-use Rattle.ir_printer.specs.Made.{made_entries}
+use Rattle.ir_printer.proofs.Common.{◌≡◌, ◌++◌, ◌-◌, made_entries}
 use Rattle.ir_printer.proofs.making.module_of.Given as goal
 
 abbrev pub invariant-loop-k : goal.invariant-loop-k

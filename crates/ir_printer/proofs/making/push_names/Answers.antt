@@ -1,5 +1,4 @@
-use Rattle.std.proofs.Common.{arith}
-use Rattle.std.proofs.lemmas.Grind.{common_steps}
+use Rattle.ir_printer.proofs.Common.{arith, common_steps}
 use Rattle.ir_printer.proofs.Drawing.{names_more}
 use Rattle.ir_printer.proofs.making.push_names.Goals as goal
 

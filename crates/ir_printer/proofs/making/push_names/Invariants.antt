@@ -1,7 +1,4 @@
-use Rattle.std.proofs.Common.{◌≡◌, ◌-◌}
-use Rattle.std.specs.Prelude.{fold}
-use Rattle.ir_tree.specs.Names.{with_name}
-use Rattle.ir_printer.specs.Made.{made_names, result_names}
+use Rattle.ir_printer.proofs.Common.{◌≡◌, ◌-◌, fold, with_name, made_names, result_names}
 use Rattle.ir_printer.proofs.making.push_names.Given as goal
 
 abbrev pub invariant-loop-i : goal.invariant-loop-i

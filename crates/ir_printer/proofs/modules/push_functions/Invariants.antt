@@ -1,7 +1,4 @@
-use Rattle.std.proofs.Common.{◌≡◌, drop, ◌++◌}
-use Rattle.std.specs.Prelude.{false}
-use Rattle.token_text.specs.Pieces.{text_of}
-use Rattle.ir_printer.specs.ModuleText.{accepted, functions_pieces, has_any}
+use Rattle.ir_printer.proofs.Common.{◌≡◌, drop, ◌++◌, false, text_of, accepted, functions_pieces, has_any}
 use Rattle.ir_printer.proofs.modules.push_functions.Given as goal
 
 abbrev pub invariant-loop-entry : goal.invariant-loop-entry

@@ -1,10 +1,6 @@
-use Rattle.std.proofs.Common.{◌≡◌, ◌++◌, ◌∙◌, [], ap, sym, arith}
-use Rattle.std.specs.Prelude.{unwrap_or, option_copied}
+use Rattle.ir_printer.proofs.Common.{◌≡◌, ◌++◌, ◌∙◌, [], ap, sym, arith, unwrap_or, option_copied, Word, name_in, common_steps}
 use Rattle.std.proofs.lemmas.Option.{unwrap_or-slice_get}
 use Rattle.ir_naming.specs.Naming.{name_text}
-use Rattle.ir_tree.specs.declared.name.Name.TheVariants.{Word}
-use Rattle.ir_printer.specs.Pieces.{name_in}
-use Rattle.std.proofs.lemmas.Grind.{common_steps}
 use Rattle.ir_printer.proofs.pieces.push_name_of.Goals as goal
 
 -- the table has no name of this number

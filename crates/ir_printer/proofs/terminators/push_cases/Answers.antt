@@ -1,5 +1,5 @@
+use Rattle.ir_printer.proofs.Common.{case_pieces}
 use Rattle.ir_printer.proofs.Texts.{all_texts}
-use Rattle.ir_printer.specs.Instructions.{case_pieces}
 use Rattle.ir_printer.proofs.terminators.push_cases.Goals as goal
 
 pub returns : goal.returns

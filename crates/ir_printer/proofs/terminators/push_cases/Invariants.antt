@@ -1,7 +1,4 @@
-use Rattle.std.proofs.Common.{◌≡◌, drop, ◌++◌, ◌∷◌}
-use Rattle.std.specs.List.{flat_map}
-use Rattle.token_text.specs.Pieces.{text_of}
-use Rattle.ir_printer.specs.Instructions.{case_pieces}
+use Rattle.ir_printer.proofs.Common.{◌≡◌, drop, ◌++◌, ◌∷◌, flat_map, text_of, case_pieces}
 use Rattle.ir_printer.proofs.terminators.push_cases.Given as goal
 
 abbrev pub invariant-loop-case : goal.invariant-loop-case

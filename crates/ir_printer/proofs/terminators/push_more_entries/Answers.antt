@@ -1,7 +1,5 @@
+use Rattle.ir_printer.proofs.Common.{◌∷◌, entry_pieces, comma}
 use Rattle.ir_printer.proofs.Texts.{all_texts}
-use Rattle.std.proofs.Common.{◌∷◌}
-use Rattle.ir_printer.specs.Instructions.{entry_pieces}
-use Rattle.ir_printer.specs.Pieces.{comma}
 use Rattle.ir_printer.proofs.terminators.push_more_entries.Goals as goal
 
 pub returns : goal.returns

@@ -1,8 +1,4 @@
-use Rattle.std.proofs.Common.{◌≡◌, drop, ◌++◌, ◌∷◌}
-use Rattle.std.specs.List.{flat_map}
-use Rattle.token_text.specs.Pieces.{text_of}
-use Rattle.ir_printer.specs.Instructions.{entry_pieces}
-use Rattle.ir_printer.specs.Pieces.{comma}
+use Rattle.ir_printer.proofs.Common.{◌≡◌, drop, ◌++◌, ◌∷◌, flat_map, text_of, entry_pieces, comma}
 use Rattle.ir_printer.proofs.terminators.push_more_entries.Given as goal
 
 abbrev pub invariant-loop-entry : goal.invariant-loop-entry

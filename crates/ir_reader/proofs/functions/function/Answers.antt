@@ -1,10 +1,5 @@
-use Rattle.std.proofs.Common.{sym, ap, ◌∙◌, subst, Ok}
-use Rattle.std.proofs.lemmas.Result.{err_from_is_err_and}
-use Rattle.ir_tree.specs.Sites.{AreNumbered}
-use Rattle.ir_tree.specs.WellFormed.{IsWellFormed}
-use Rattle.ir_tree.specs.declared.tree.Function.{Function}
-use Rattle.ir_reader.specs.Functions.{IsFunction, well_formed, without_places}
-use Rattle.ir_numbering.proofs.NumberedSites.{whole}
+use Rattle.ir_reader.proofs.Common.{sym, ap, ◌∙◌, subst, err_from_is_err_and, AreNumbered, IsWellFormed, Function, IsFunction, well_formed, without_places, whole}
+use Rattle.std.proofs.Common.{Ok}
 use Rattle.ir_reader.proofs.Answers.{answers-tested}
 use Rattle.ir_reader.proofs.functions.function.Goals as goal
 

@@ -1,4 +1,4 @@
-use Rattle.std.proofs.lemmas.Result.{err_from_is_err_and}
+use Rattle.ir_reader.proofs.Common.{err_from_is_err_and}
 use Rattle.ir_reader.proofs.Answers.{names-tested, types-tested, edges-tested, assigned-tested, undef-tested}
 use Rattle.ir_reader.proofs.functions.test.Goals as goal
 

@@ -1,5 +1,4 @@
-use Rattle.std.proofs.Common.{◌∙◌, sym, ap, length, get_or, arith, List}
-use Rattle.ir_lexer.specs.Lexeme.{Lexeme}
+use Rattle.ir_reader.proofs.Common.{◌∙◌, sym, ap, length, get_or, arith, List, Lexeme}
 use Rattle.ir_reader.proofs.Answers.{writes-whole, writes-more, writes-fault}
 use Rattle.ir_reader.proofs.functions.written.Goals as goal
 

@@ -1,6 +1,6 @@
-use Rattle.std.proofs.Common.{◌≡◌, ◌∙◌, ap, subst, min}
+use Rattle.ir_reader.proofs.Common.{◌≡◌, ◌∙◌, ap, subst, place_or_end}
+use Rattle.std.proofs.Common.{min}
 use Rattle.ir_items.specs.Stops.{Stops}
-use Rattle.ir_reader.specs.Module.{place_or_end}
 use Rattle.ir_reader.proofs.Entries.{get-min}
 use Rattle.ir_reader.proofs.reading.defines.Goals as goal
 

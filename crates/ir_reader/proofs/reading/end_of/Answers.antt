@@ -1,6 +1,4 @@
-use Rattle.std.proofs.Common.{◌≡◌, [], ap, sym, ◌∙◌, length, arith}
-use Rattle.std.proofs.lemmas.List.{take_all}
-use Rattle.text_places.specs.declared.place.Place.{Place}
+use Rattle.ir_reader.proofs.Common.{◌≡◌, [], ap, sym, ◌∙◌, length, arith, take_all, Place}
 use Rattle.text_places.specs.Place.{place_behind}
 use Rattle.ir_reader.proofs.reading.end_of.Goals as goal
 

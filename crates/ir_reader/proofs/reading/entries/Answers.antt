@@ -1,8 +1,5 @@
-use Rattle.std.proofs.Common.{◌≡◌, ◌∙◌, ◌+◌, ◌≤◌, List, [], length, sym, subst, Result, arith}
-use Rattle.std.specs.Prelude.{IsOkAnd}
-use Rattle.std.specs.Vec.Iter.{into_iter_items}
-use Rattle.ir_lexer.specs.Lexeme.{Lexeme}
-use Rattle.ir_lexer.specs.Tokens.{Spot}
+use Rattle.ir_reader.proofs.Common.{◌≡◌, ◌∙◌, ◌+◌, ◌≤◌, List, [], length, sym, subst, arith, IsOkAnd, into_iter_items, Lexeme, Spot}
+use Rattle.std.proofs.Common.{Result}
 use Rattle.ir_reader.proofs.Entries.{so-far-start, so-far-more, so-far-ahead, so-far-all, none-left}
 use Rattle.ir_reader.proofs.reading.entries.Goals as goal
 

@@ -1,7 +1,4 @@
-use Rattle.std.proofs.Common.{List}
-use Rattle.std.specs.Vec.Iter.{into_iter_items}
-use Rattle.ir_lexer.specs.Lexeme.{Lexeme}
-use Rattle.ir_reader.specs.Answer.{AreDefines}
+use Rattle.ir_reader.proofs.Common.{List, into_iter_items, Lexeme, AreDefines}
 use Rattle.ir_reader.proofs.Entries.{SoFar}
 use Rattle.ir_reader.proofs.reading.entries.Given as goal
 

@@ -1,6 +1,4 @@
-use Rattle.std.proofs.Common.{◌≡◌, ◌∙◌, ◌+◌, List, drop, refl, subst}
-use Rattle.ir_lexer.specs.Lexeme.{Lexeme}
-use Rattle.ir_reader.specs.Functions.{IsFunction}
+use Rattle.ir_reader.proofs.Common.{◌≡◌, ◌∙◌, ◌+◌, List, drop, refl, subst, Lexeme, IsFunction}
 use Rattle.ir_reader.proofs.Entries.{passed, enough}
 use Rattle.ir_reader.proofs.reading.entry.Goals as goal
 

@@ -1,8 +1,4 @@
-use Rattle.std.proofs.Common.{◌≡◌, ◌∙◌, ◌≤◌, length, Option, Some, None, sym, ap}
-use Rattle.std.specs.Prelude.{slice_get}
-use Rattle.ir_lexer.specs.Lexeme.{Lexeme}
-use Rattle.ir_lexer.specs.Tokens.{lexed}
-use Rattle.ir_reader.specs.Module.{place_or_end}
+use Rattle.ir_reader.proofs.Common.{◌≡◌, ◌∙◌, ◌≤◌, length, Option, Some, None, sym, ap, slice_get, Lexeme, lexed, place_or_end}
 use Rattle.ir_reader.proofs.Entries.{is-at, ok-and}
 use Rattle.ir_reader.proofs.reading.place_or_end.Goals as goal
 

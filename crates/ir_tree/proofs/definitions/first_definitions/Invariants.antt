@@ -1,5 +1,4 @@
-use Rattle.std.proofs.Common.{◌≡◌, length}
-use Rattle.ir_tree.specs.Definitions.{AreFirst}
+use Rattle.ir_tree.proofs.Common.{◌≡◌, length, AreFirst}
 use Rattle.ir_tree.proofs.definitions.first_definitions.Given as goal
 
 abbrev pub invariant-loop-n : goal.invariant-loop-n

@@ -1,4 +1,4 @@
-use Rattle.std.proofs.Common.{◌≡◌, ◌++◌, map, drop}
+use Rattle.ir_tree.proofs.Common.{◌≡◌, ◌++◌, map, drop}
 use Rattle.ir_tree.proofs.Indexing.{places_of}
 use Rattle.ir_tree.proofs.flow.successors.Given as goal
 

@@ -1,5 +1,4 @@
-use Rattle.std.proofs.Common.{◌≡◌, ◌∷◌, ◌++◌, map, drop}
-use Rattle.ir_tree.specs.declared.tree.Case.{Case}
+use Rattle.ir_tree.proofs.Common.{◌≡◌, ◌∷◌, ◌++◌, map, drop, Case}
 use Rattle.ir_tree.proofs.flow.switch_targets.Given as goal
 
 abbrev pub invariant-loop-case : goal.invariant-loop-case

@@ -1,5 +1,4 @@
-use Rattle.std.proofs.Common.{◌≡◌, ◌+◌, sum_by, drop}
-use Rattle.ir_tree.specs.Limits.{instructions_of}
+use Rattle.ir_tree.proofs.Common.{◌≡◌, ◌+◌, sum_by, drop, instructions_of}
 use Rattle.ir_tree.proofs.limits.has_few_instructions.Given as goal
 
 abbrev pub invariant-loop-block : goal.invariant-loop-block

@@ -1,4 +1,4 @@
-use Rattle.std.proofs.Common.{ℕ, ◌≤◌, subst, arith}
+use Rattle.ir_tree.proofs.Common.{ℕ, ◌≤◌, subst, arith}
 use Rattle.ir_tree.proofs.Sizes.{large_at, small_at, small_more}
 use Rattle.ir_tree.proofs.limits.has_small_arrays.Goals as goal
 

@@ -1,4 +1,4 @@
-use Rattle.std.proofs.Common.{◌^◌, arith}
+use Rattle.ir_tree.proofs.Common.{◌^◌, arith}
 use Rattle.ir_tree.proofs.Sizes.{cut_more}
 use Rattle.ir_tree.proofs.limits.indexed_size.Goals as goal
 

@@ -1,4 +1,4 @@
-use Rattle.ir_tree.specs.Types.{one_bit}
+use Rattle.ir_tree.proofs.Common.{one_bit}
 use Rattle.ir_tree.proofs.Widths.{same_width}
 use Rattle.ir_tree.proofs.sites.one_bit.Goals as goal
 

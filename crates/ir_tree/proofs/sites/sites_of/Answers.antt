@@ -1,4 +1,4 @@
-use Rattle.std.proofs.Common.{◌∙◌}
+use Rattle.ir_tree.proofs.Common.{◌∙◌}
 use Rattle.ir_tree.proofs.Listing.{function-made, list-length}
 use Rattle.ir_tree.proofs.sites.sites_of.Goals as goal
 

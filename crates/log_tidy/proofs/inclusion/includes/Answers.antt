@@ -1,7 +1,5 @@
 -- The literals of a clause are in order.
-use Rattle.std.proofs.Common.{◌∙◌, List, ap}
-use Rattle.clause_lits.specs.declared.lit.Lit.{Lit}
-use Rattle.log_tidy.specs.Inclusion.{included}
+use Rattle.log_tidy.proofs.Common.{◌∙◌, List, ap, Lit, included}
 use Rattle.log_tidy.proofs.Included.{includes-from}
 use Rattle.log_tidy.proofs.inclusion.includes.Goals as goal
 

@@ -1,6 +1,5 @@
 -- What is left of the two decides.
-use Rattle.std.proofs.Common.{◌≡◌, ◌+◌, length}
-use Rattle.log_tidy.specs.Inclusion.{included}
+use Rattle.log_tidy.proofs.Common.{◌≡◌, ◌+◌, length, included}
 use Rattle.log_tidy.proofs.inclusion.merged.Given as goal
 
 abbrev pub invariant-loop-left : goal.invariant-loop-left

@@ -1,9 +1,5 @@
 -- One more entry is of no clause within this one.
-use Rattle.std.proofs.Common.{inl, inr, subst, sym}
-use Rattle.std.proofs.lemmas.Bool.{both_ways}
-use Rattle.clause_search.specs.Searching.{standing}
-use Rattle.log_tidy.specs.declared.index.Entry.{Entry}
-use Rattle.log_tidy.specs.Indexed.{IsHit}
+use Rattle.log_tidy.proofs.Common.{inl, inr, subst, sym, both_ways, standing, Entry, IsHit}
 use Rattle.log_tidy.proofs.Listed.{item-more}
 use Rattle.log_tidy.proofs.index.first_within.Goals as goal
 

@@ -1,7 +1,5 @@
 -- None of the entries so far is of a clause within this one.
-use Rattle.std.proofs.Common.{take}
-use Rattle.clause_search.specs.Searching.{standing}
-use Rattle.log_tidy.specs.Indexed.{AreNone}
+use Rattle.log_tidy.proofs.Common.{take, standing, AreNone}
 use Rattle.log_tidy.proofs.index.first_within.Given as goal
 
 abbrev pub invariant-loop-entry : goal.invariant-loop-entry

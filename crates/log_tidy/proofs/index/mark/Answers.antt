@@ -1,9 +1,5 @@
 -- The slot of one more literal is marked.
-use Rattle.std.proofs.Common.{ℕ, false, ◌≡◌, ◌<◌, ◌∙◌, List, ap, arith, get_or, length, sym}
-use Rattle.std.specs.Prelude.{slice_set}
-use Rattle.std.proofs.lemmas.List.{length-set}
-use Rattle.clause_lits.specs.declared.lit.Lit.{Lit}
-use Rattle.log_tidy.specs.Indexed.{slot}
+use Rattle.log_tidy.proofs.Common.{ℕ, false, ◌≡◌, ◌<◌, ◌∙◌, List, ap, arith, get_or, length, sym, slice_set, length-set, Lit, slot}
 use Rattle.log_tidy.proofs.Listed.{covered-more}
 use Rattle.log_tidy.proofs.index.mark.Goals as goal
 

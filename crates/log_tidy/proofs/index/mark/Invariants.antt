@@ -1,6 +1,5 @@
 -- The slots of the literals so far are marked.
-use Rattle.std.proofs.Common.{◌≡◌, ◌+◌, true, length, take}
-use Rattle.log_tidy.specs.Indexed.{AreCovered}
+use Rattle.log_tidy.proofs.Common.{◌≡◌, ◌+◌, true, length, take, AreCovered}
 use Rattle.log_tidy.proofs.index.mark.Given as goal
 
 abbrev pub invariant-loop-literal : goal.invariant-loop-literal

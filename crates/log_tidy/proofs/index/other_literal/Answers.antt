@@ -1,7 +1,5 @@
 -- The last literal is one of the clause.
-use Rattle.std.proofs.Common.{◌-◌, List, length, subst, sym}
-use Rattle.clause_lits.specs.declared.lit.Lit.{Lit}
-use Rattle.clause_log.specs.Members.{Has}
+use Rattle.log_tidy.proofs.Common.{◌-◌, List, length, subst, sym, Lit, Has}
 use Rattle.log_tidy.proofs.Listed.{item-got}
 use Rattle.log_tidy.proofs.index.other_literal.Goals as goal
 

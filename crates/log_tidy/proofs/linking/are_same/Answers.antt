@@ -1,8 +1,5 @@
 -- One more clause of the chain is the same.
-use Rattle.std.proofs.Common.{◌∙◌, ap, get_or, length, sym}
-use Rattle.clause_log.specs.Chain.{clause_numbered}
-use Rattle.clause_search.specs.Searching.{standing}
-use Rattle.log_tidy.specs.Numbers.{new_number}
+use Rattle.log_tidy.proofs.Common.{◌∙◌, ap, get_or, length, sym, clause_numbered, standing, new_number}
 use Rattle.log_tidy.proofs.Links.{has-get, same-more}
 use Rattle.log_tidy.proofs.linking.are_same.Goals as goal
 

@@ -1,10 +1,5 @@
 -- A chain of the same clauses has the same resolvent.
-use Rattle.std.proofs.Common.{ℕ, List, length, subst}
-use Rattle.std.proofs.lemmas.Result.{IfOk-weaker}
-use Rattle.clause_log.specs.Members.{Has}
-use Rattle.clause_search.specs.Searching.{standing}
-use Rattle.log_tidy.specs.Linked.{AreSame}
-use Rattle.log_tidy.specs.Numbers.{new_number}
+use Rattle.log_tidy.proofs.Common.{ℕ, List, length, subst, IfOk-weaker, Has, standing, AreSame, new_number}
 use Rattle.log_tidy.proofs.Links.{chain-numbered, moved-derived}
 use Rattle.log_tidy.proofs.linking.derived.Goals as goal
 

@@ -1,6 +1,5 @@
 -- Where neither of the two lies within the resolvent, they have one that does.
-use Rattle.std.proofs.lemmas.Bool.{both_ways}
-use Rattle.std.proofs.lemmas.Result.{IfOk-weaker}
+use Rattle.log_tidy.proofs.Common.{both_ways, IfOk-weaker}
 use Rattle.log_tidy.proofs.Links.{parts-resolve, resolved-derived}
 use Rattle.log_tidy.proofs.linking.linked.Goals as goal
 

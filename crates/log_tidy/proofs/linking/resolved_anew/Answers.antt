@@ -1,8 +1,5 @@
 -- One more link of the chain.
-use Rattle.std.proofs.Common.{ℕ, ◌-◌, ◌∙◌, drop, get_or, length, subst, sym, take}
-use Rattle.clause_search.specs.Searching.{standing}
-use Rattle.log_tidy.specs.Linked.{IsNumbered}
-use Rattle.log_tidy.specs.Numbers.{new_number}
+use Rattle.log_tidy.proofs.Common.{ℕ, ◌-◌, ◌∙◌, drop, get_or, length, subst, sym, take, standing, IsNumbered, new_number}
 use Rattle.log_tidy.proofs.Links.{anew-more, anew-next, shorter-numbered, within-same}
 use Rattle.log_tidy.proofs.linking.resolved_anew.Goals as goal
 

@@ -1,5 +1,5 @@
 -- What the chain so far became.
-use Rattle.clause_search.specs.Searching.{standing}
+use Rattle.log_tidy.proofs.Common.{standing}
 use Rattle.log_tidy.proofs.Links.{IsAnew}
 use Rattle.log_tidy.proofs.linking.resolved_anew.Given as goal
 

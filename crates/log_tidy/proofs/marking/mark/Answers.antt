@@ -1,7 +1,5 @@
 -- One more number of the chain is marked.
-use Rattle.std.proofs.Common.{ℕ, List, get_or, take, subst, sym}
-use Rattle.std.proofs.lemmas.List.{take_more}
-use Rattle.log_tidy.specs.Marks.{IsMarking}
+use Rattle.log_tidy.proofs.Common.{ℕ, List, get_or, take, subst, sym, take_more, IsMarking}
 use Rattle.log_tidy.proofs.Marked.{marking-more}
 use Rattle.log_tidy.proofs.marking.mark.Goals as goal
 

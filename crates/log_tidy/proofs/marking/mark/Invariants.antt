@@ -1,6 +1,5 @@
 -- The steps of the chain so far are marked.
-use Rattle.std.proofs.Common.{take}
-use Rattle.log_tidy.specs.Marks.{IsMarking}
+use Rattle.log_tidy.proofs.Common.{take, IsMarking}
 use Rattle.log_tidy.proofs.marking.mark.Given as goal
 
 abbrev pub invariant-loop-number : goal.invariant-loop-number

@@ -1,8 +1,5 @@
 -- One step after another, from the last one down.
-use Rattle.std.proofs.Common.{ℕ, ◌≡◌, ◌<◌, ◌+◌, ◌-◌, ◌∙◌, List, false, length, arith, refl, subst, sym, ap}
-use Rattle.std.proofs.lemmas.Option.{get_or_from_slice_get, slice_get_read}
-use Rattle.clause_log.specs.declared.step.Step.{Step}
-use Rattle.log_tidy.specs.Marks.{AreMarked, IsMarking}
+use Rattle.log_tidy.proofs.Common.{ℕ, ◌≡◌, ◌<◌, ◌+◌, ◌-◌, ◌∙◌, List, false, length, arith, refl, subst, sym, ap, get_or_from_slice_get, slice_get_read, Step, AreMarked, IsMarking}
 use Rattle.log_tidy.proofs.Marked.{marks-skip, marks-step}
 use Rattle.log_tidy.proofs.marking.marks.Goals as goal
 

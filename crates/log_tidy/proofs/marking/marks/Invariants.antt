@@ -1,5 +1,5 @@
 -- What the steps from an index on need is marked.
-use Rattle.log_tidy.specs.Marks.{AreMarked}
+use Rattle.log_tidy.proofs.Common.{AreMarked}
 use Rattle.log_tidy.proofs.marking.marks.Given as goal
 
 abbrev pub invariant-loop-index : goal.invariant-loop-index

@@ -1,5 +1,5 @@
 -- The numbers so far.
-use Rattle.std.proofs.Common.{◌≡◌, map, take}
+use Rattle.log_tidy.proofs.Common.{◌≡◌, map, take}
 use Rattle.log_tidy.specs.Numbers as spec
 use Rattle.log_tidy.proofs.numbering.renumbered_chain.Given as goal
 

@@ -1,9 +1,5 @@
 -- The step is added, with its entry.
-use Rattle.std.proofs.Common.{◌≡◌, ◌+◌, List, None, arith, length, subst, sym}
-use Rattle.clause_log.specs.declared.step.Step.{Step}
-use Rattle.clause_search.specs.Searching.{standing}
-use Rattle.log_tidy.specs.Indexed.{IsFound, IsIndexed}
-use Rattle.log_tidy.specs.Tidied.{IsAdded}
+use Rattle.log_tidy.proofs.Common.{◌≡◌, ◌+◌, List, None, arith, length, subst, sym, Step, standing, IsFound, IsIndexed, IsAdded}
 use Rattle.log_tidy.proofs.Adding.{added-one}
 use Rattle.log_tidy.proofs.tidying.add.Goals as goal
 

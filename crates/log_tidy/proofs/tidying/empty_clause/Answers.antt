@@ -1,6 +1,5 @@
 -- One more clause isn't empty.
-use Rattle.std.proofs.Common.{◌∙◌, [], inl, inr}
-use Rattle.std.proofs.lemmas.Bool.{both_ways}
+use Rattle.log_tidy.proofs.Common.{◌∙◌, [], inl, inr, both_ways}
 use Rattle.log_tidy.proofs.Listed.{item-more}
 use Rattle.log_tidy.proofs.tidying.empty_clause.Goals as goal
 

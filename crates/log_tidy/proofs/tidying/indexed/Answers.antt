@@ -1,9 +1,5 @@
 -- One more clause has an entry.
-use Rattle.std.proofs.Common.{◌+◌, ◌∙◌, List, [], ◌∷◌, ◌++◌, arith, subst, sym, take}
-use Rattle.std.proofs.lemmas.List.{length-take-le, take_more}
-use Rattle.clause_lits.specs.declared.lit.Lit.{Lit}
-use Rattle.clause_log.specs.Members.{Has}
-use Rattle.log_tidy.specs.Indexed.{IsIndexed}
+use Rattle.log_tidy.proofs.Common.{◌+◌, ◌∙◌, List, [], ◌∷◌, ◌++◌, arith, subst, sym, take, length-take-le, take_more, Lit, Has, IsIndexed}
 use Rattle.log_tidy.proofs.Adding.{indexed-more}
 use Rattle.log_tidy.proofs.Listed.{item-at}
 use Rattle.log_tidy.proofs.tidying.indexed.Goals as goal

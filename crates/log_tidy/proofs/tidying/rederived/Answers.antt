@@ -1,11 +1,5 @@
 -- The steps become steps within theirs.
-use Rattle.std.proofs.Common.{ℕ, ◌+◌, List, length, refl, subst, sym, take}
-use Rattle.std.proofs.lemmas.Option.{slice_get_read}
-use Rattle.clause_log.specs.declared.step.Step.{Step}
-use Rattle.clause_search.specs.Searching.{standing}
-use Rattle.log_tidy.specs.Linked.{AreShorter, IsDerived}
-use Rattle.log_tidy.specs.Numbers.{new_number}
-use Rattle.log_tidy.specs.Tidied.{AreTidied, RefutesCarefully}
+use Rattle.log_tidy.proofs.Common.{ℕ, ◌+◌, List, length, refl, subst, sym, take, slice_get_read, Step, standing, AreShorter, IsDerived, new_number, AreTidied, RefutesCarefully}
 use Rattle.log_tidy.proofs.Adding.{ends-carefully, sound-step, tidied-all, tidied-more}
 use Rattle.log_tidy.proofs.Links.{shorter-from}
 use Rattle.log_tidy.proofs.tidying.rederived.Goals as goal

@@ -1,5 +1,5 @@
 -- The steps so far have clauses within theirs.
-use Rattle.log_tidy.specs.Tidied.{AreTidied}
+use Rattle.log_tidy.proofs.Common.{AreTidied}
 use Rattle.log_tidy.proofs.tidying.rederived.Given as goal
 
 abbrev pub invariant-loop-place : goal.invariant-loop-place

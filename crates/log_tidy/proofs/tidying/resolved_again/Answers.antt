@@ -1,9 +1,5 @@
 -- A step of an empty clause is by itself a refutation.
-use Rattle.std.proofs.Common.{◌≡◌, ◌++◌, ◌∷◌, ◌∙◌, [], List, Some, ap, subst, sym}
-use Rattle.std.proofs.lemmas.Option.{get_or_from_slice_get}
-use Rattle.clause_lits.specs.declared.lit.Lit.{Lit}
-use Rattle.clause_log.specs.declared.step.Step.{Step}
-use Rattle.log_tidy.specs.Tidied.{RefutesCarefully}
+use Rattle.log_tidy.proofs.Common.{◌≡◌, ◌++◌, ◌∷◌, ◌∙◌, [], List, Some, ap, subst, sym, get_or_from_slice_get, Lit, Step, RefutesCarefully}
 use Rattle.log_tidy.proofs.Adding.{alone-carefully}
 use Rattle.log_tidy.proofs.tidying.resolved_again.Goals as goal
 

@@ -1,9 +1,5 @@
 -- A marked step is kept, another is left out.
-use Rattle.std.proofs.Common.{ℕ, ◌≡◌, ◌+◌, ◌++◌, ◌∷◌, [], ◌∙◌, List, Some, false, length, arith, ap, refl, subst, slice_get}
-use Rattle.std.proofs.lemmas.Option.{get_or_from_slice_get, slice_get_read}
-use Rattle.clause_log.specs.declared.step.Step.{Step}
-use Rattle.log_tidy.specs.Numbers.{renumbered_step}
-use Rattle.log_tidy.specs.Trimmed.{AreKept}
+use Rattle.log_tidy.proofs.Common.{ℕ, ◌≡◌, ◌+◌, ◌++◌, ◌∷◌, [], ◌∙◌, List, Some, false, length, arith, ap, refl, subst, slice_get, get_or_from_slice_get, slice_get_read, Step, renumbered_step, AreKept}
 use Rattle.log_tidy.proofs.Kept.{kept-all, kept-as, kept-push, kept-skip}
 use Rattle.log_tidy.proofs.trimming.marked_steps.Goals as goal
 use Rattle.log_tidy.proofs.trimming.marked_steps.Goals.{then-get+in_ok-renumbered_step+in_ok-push, else-get}

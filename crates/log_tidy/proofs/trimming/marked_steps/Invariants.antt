@@ -1,5 +1,5 @@
 -- The marked ones among the steps so far are kept.
-use Rattle.log_tidy.specs.Trimmed.{AreKept}
+use Rattle.log_tidy.proofs.Common.{AreKept}
 use Rattle.log_tidy.proofs.trimming.marked_steps.Given as goal
 
 abbrev pub invariant-loop-index : goal.invariant-loop-index

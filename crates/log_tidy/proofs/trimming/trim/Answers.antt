@@ -1,7 +1,5 @@
 -- The steps of a refutation are resolved from earlier clauses.
-use Rattle.std.proofs.Common.{ℕ, ◌<◌, List, length, subst, sym}
-use Rattle.clause_log.specs.declared.step.Step.{Step}
-use Rattle.log_tidy.specs.Marks.{IsBelow}
+use Rattle.log_tidy.proofs.Common.{ℕ, ◌<◌, List, length, subst, sym, Step, IsBelow}
 use Rattle.log_tidy.proofs.Numbered.{sound-below}
 use Rattle.log_tidy.proofs.trimming.trim.Goals as goal
 

@@ -1,5 +1,4 @@
-use Rattle.std.proofs.Common.{refl, sym}
-use Rattle.memory_access.specs.Blocks.{names}
+use Rattle.memory_access.proofs.Common.{refl, sym, names}
 use Rattle.memory_access.proofs.Found.{first_at, find-none}
 use Rattle.memory_access.proofs.accesses.load.Goals as goal
 

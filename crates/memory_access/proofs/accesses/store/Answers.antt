@@ -1,7 +1,4 @@
-use Rattle.std.proofs.Common.{◌≡◌, true, false, Some, refl, sym}
-use Rattle.memory_access.specs.Blocks.{names}
-use Rattle.memory_access.specs.Bytes.{access_size, value_bytes}
-use Rattle.memory_access.specs.Accesses.{admits, overwritten}
+use Rattle.memory_access.proofs.Common.{◌≡◌, true, false, Some, refl, sym, names, access_size, value_bytes, admits, overwritten}
 use Rattle.memory_access.proofs.Found.{first_at, find-none}
 use Rattle.memory_access.proofs.accesses.store.Goals as goal
 

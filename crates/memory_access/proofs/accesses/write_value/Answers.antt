@@ -1,6 +1,4 @@
-use Rattle.std.proofs.Common.{◌+◌, ap, ◌∙◌, arith}
-use Rattle.std.proofs.Math.ListN.{set}
-use Rattle.memory_access.specs.Bytes.{value_bytes}
+use Rattle.memory_access.proofs.Common.{◌+◌, ap, ◌∙◌, arith, set, value_bytes}
 use Rattle.memory_access.proofs.ByteLists.{paste-byte, paste-all}
 use Rattle.memory_access.proofs.Values.{length-value_bytes}
 use Rattle.memory_access.proofs.accesses.write_value.Goals as goal

@@ -1,6 +1,4 @@
-use Rattle.std.proofs.Common.{◌≡◌}
-use lib.Seq.{paste}
-use Rattle.memory_access.specs.Bytes.{value_bytes}
+use Rattle.memory_access.proofs.Common.{◌≡◌, paste, value_bytes}
 use Rattle.memory_access.proofs.accesses.write_value.Given as goal
 
 abbrev pub invariant-loop-k : goal.invariant-loop-k

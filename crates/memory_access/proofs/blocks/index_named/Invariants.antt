@@ -1,6 +1,4 @@
-use Rattle.std.proofs.Common.{◌≡◌, drop}
-use Rattle.std.specs.List.{position_from}
-use Rattle.memory_access.specs.Blocks.{names}
+use Rattle.memory_access.proofs.Common.{◌≡◌, drop, position_from, names}
 use Rattle.memory_access.proofs.blocks.index_named.Given as goal
 
 abbrev pub invariant-loop-i : goal.invariant-loop-i

@@ -1,7 +1,4 @@
-use Rattle.std.proofs.Common.{◌≡◌, ◌+◌, Some, inl, inr, ap, arith}
-use Rattle.byte_block.specs.declared.value.Byte.TheVariants.{Part, Poison}
-use Rattle.memory_access.specs.declared.access_types.Access.TheVariants.{Int}
-use Rattle.memory_access.specs.Bytes.{access_size}
+use Rattle.memory_access.proofs.Common.{◌≡◌, ◌+◌, Some, inl, inr, ap, arith, Part, Poison, Int, access_size}
 use Rattle.memory_access.proofs.ByteLists.{number_bytes-get, parts_from-get, replicate-get}
 use Rattle.memory_access.proofs.byte_values.byte_of.Goals as goal
 

@@ -1,5 +1,4 @@
-use Rattle.std.proofs.Common.{◌≡◌, drop}
-use Rattle.memory_access.specs.Bytes.{are_parts}
+use Rattle.memory_access.proofs.Common.{◌≡◌, drop, are_parts}
 use Rattle.memory_access.proofs.byte_values.is_whole.Given as goal
 
 abbrev pub invariant-loop-i : goal.invariant-loop-i

@@ -1,4 +1,4 @@
-use Rattle.std.proofs.Common.{◌≡◌, suc, ◌-◌, ◌+◌, length, inl, inr, sym, arith}
+use Rattle.memory_access.proofs.Common.{◌≡◌, suc, ◌-◌, ◌+◌, length, inl, inr, sym, arith}
 use Rattle.memory_access.proofs.ByteLists.{number_of-more, number_of-part, number_of-poison, number_of-none, number-below, number-room}
 use Rattle.memory_access.proofs.byte_values.number_in.Goals as goal
 

@@ -1,5 +1,4 @@
-use Rattle.std.proofs.Common.{◌≡◌, ◌≤◌, ◌<◌, ◌-◌, ◌^◌, length, drop, Some}
-use Rattle.memory_access.specs.Bytes.{number_of_bytes}
+use Rattle.memory_access.proofs.Common.{◌≡◌, ◌≤◌, ◌<◌, ◌-◌, ◌^◌, length, drop, Some, number_of_bytes}
 use Rattle.memory_access.proofs.byte_values.number_in.Given as goal
 
 abbrev pub invariant-loop-i : goal.invariant-loop-i

@@ -1,6 +1,4 @@
-use Rattle.std.proofs.Common.{◌≡◌, drop}
-use Rattle.std.specs.List.{list_all}
-use Rattle.memory_access.specs.Offsets.{is_index}
+use Rattle.memory_access.proofs.Common.{◌≡◌, drop, list_all, is_index}
 use Rattle.memory_access.proofs.offsets.are_numbers.Given as goal
 
 abbrev pub invariant-loop-index : goal.invariant-loop-index

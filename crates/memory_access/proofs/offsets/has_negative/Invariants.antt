@@ -1,6 +1,4 @@
-use Rattle.std.proofs.Common.{◌≡◌, drop}
-use Rattle.std.specs.List.{list_any}
-use Rattle.memory_access.specs.Offsets.{is_negative}
+use Rattle.memory_access.proofs.Common.{◌≡◌, drop, list_any, is_negative}
 use Rattle.memory_access.proofs.offsets.has_negative.Given as goal
 
 abbrev pub invariant-loop-index : goal.invariant-loop-index

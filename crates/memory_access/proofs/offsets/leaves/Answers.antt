@@ -1,4 +1,4 @@
-use Rattle.std.proofs.Common.{sym, ◌∙◌}
+use Rattle.memory_access.proofs.Common.{sym, ◌∙◌}
 use Rattle.memory_access.proofs.Sums.{leaves-at_base, leaves-here, leaves-later, leaves-never}
 use Rattle.memory_access.proofs.offsets.leaves.Goals as goal
 

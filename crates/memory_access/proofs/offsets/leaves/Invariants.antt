@@ -1,5 +1,4 @@
-use Rattle.std.proofs.Common.{◌≡◌, ◌≤◌, drop}
-use Rattle.memory_access.specs.Offsets.{leaves_block}
+use Rattle.memory_access.proofs.Common.{◌≡◌, ◌≤◌, drop, leaves_block}
 use Rattle.memory_access.proofs.offsets.leaves.Given as goal
 
 abbrev pub invariant-loop-index : goal.invariant-loop-index

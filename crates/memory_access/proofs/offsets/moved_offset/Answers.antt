@@ -1,7 +1,4 @@
-use Rattle.std.proofs.Common.{◌+ℤ◌, pos, ◌^◌, ap, ◌∙◌}
-use Rattle.std.specs.Int.{int_rem_euclid}
-use Rattle.tv_num.specs.Width.{wrapped}
-use Rattle.memory_access.specs.Offsets.{scaled}
+use Rattle.memory_access.proofs.Common.{◌+ℤ◌, pos, ◌^◌, ap, ◌∙◌, int_rem_euclid, wrapped, scaled}
 use Rattle.memory_access.proofs.Sums.{sum-128, wrapped-euclid, wrapped-below, cast-offset}
 use Rattle.memory_access.proofs.offsets.moved_offset.Goals as goal
 

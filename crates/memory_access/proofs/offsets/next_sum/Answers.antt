@@ -1,5 +1,4 @@
-use Rattle.std.proofs.Common.{◌+ℤ◌, pos, ap, sym, ◌∙◌}
-use Rattle.memory_access.specs.Offsets.{is_outside}
+use Rattle.memory_access.proofs.Common.{◌+ℤ◌, pos, ap, sym, ◌∙◌, is_outside}
 use Rattle.memory_access.proofs.Sums.{sum-128}
 use Rattle.memory_access.proofs.offsets.next_sum.Goals as goal
 

@@ -1,5 +1,4 @@
-use Rattle.std.proofs.Common.{◌+ℤ◌, pos, sym, ◌∙◌}
-use Rattle.memory_access.specs.Offsets.{scaled}
+use Rattle.memory_access.proofs.Common.{◌+ℤ◌, pos, sym, ◌∙◌, scaled}
 use Rattle.memory_access.proofs.Sums.{last_sum-more, last_sum-end, wrapped-below}
 use Rattle.memory_access.proofs.offsets.offset_after.Goals as goal
 

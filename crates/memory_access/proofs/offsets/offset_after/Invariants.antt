@@ -1,6 +1,4 @@
-use Rattle.std.proofs.Common.{◌≡◌, ◌<◌, ◌^◌, drop, pos}
-use Rattle.tv_num.specs.Width.{wrapped}
-use Rattle.memory_access.specs.Offsets.{last_sum}
+use Rattle.memory_access.proofs.Common.{◌≡◌, ◌<◌, ◌^◌, drop, pos, wrapped, last_sum}
 use Rattle.memory_access.proofs.offsets.offset_after.Given as goal
 
 abbrev pub invariant-loop-index : goal.invariant-loop-index

@@ -1,10 +1,4 @@
-use Rattle.std.proofs.Common.{◌≡◌, ◌<◌, arith, List, length, ap, sym, subst, ◌∙◌, Some, None}
-use Rattle.std.specs.List.{position}
-use Rattle.ir_tree.specs.declared.name.Name.{Name}
-use Rattle.ir_tree.specs.declared.module.Entry.{Entry}
-use Rattle.ir_tree.specs.Names.{same_name}
-use Rattle.ir_reader.specs.Judgeable.{IsJudgeableEntry}
-use Rattle.module_rows.specs.Searching.{entry_names}
+use Rattle.module_rows.proofs.Common.{◌≡◌, ◌<◌, arith, List, length, ap, sym, subst, ◌∙◌, Some, None, position, Name, Entry, same_name, IsJudgeableEntry, entry_names}
 use Rattle.module_rows.proofs.Searches.{all_at, function_named-at, function_named-none, length-entry_names}
 use Rattle.module_rows.proofs.index.find.Goals as goal
 

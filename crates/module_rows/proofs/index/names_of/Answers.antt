@@ -1,8 +1,4 @@
-use Rattle.std.proofs.Common.{◌≡◌, ◌<◌, arith, List, length, ap, sym, ◌∙◌, take, get_or}
-use Rattle.ir_tree.specs.declared.name.Name.{Name}
-use Rattle.ir_tree.specs.declared.module.Entry.{Entry}
-use Rattle.ir_tree.specs.Names.{with_name}
-use Rattle.module_rows.specs.Searching.{entry_names}
+use Rattle.module_rows.proofs.Common.{◌≡◌, ◌<◌, arith, List, length, ap, sym, ◌∙◌, take, get_or, Name, Entry, with_name, entry_names}
 use Rattle.module_rows.proofs.Searches.{with_name-next, entry_names-at, length-entry_names}
 use Rattle.module_rows.proofs.index.names_of.Goals as goal
 

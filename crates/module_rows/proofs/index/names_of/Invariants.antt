@@ -1,5 +1,4 @@
-use Rattle.std.proofs.Common.{◌≡◌, take}
-use Rattle.module_rows.specs.Searching.{entry_names}
+use Rattle.module_rows.proofs.Common.{◌≡◌, take, entry_names}
 use Rattle.module_rows.proofs.index.names_of.Given as goal
 
 abbrev pub invariant-loop-entry : goal.invariant-loop-entry

@@ -1,10 +1,4 @@
-use Rattle.std.proofs.Common.{◌≡◌, ◌+◌, ◌*◌, ◌^◌, ◌<◌, List, length, sym, ap, subst, ◌∙◌}
-use Rattle.std.specs.List.{AllByRecursion, AllZip}
-use Rattle.ir_tree.specs.declared.module.Entry.{Entry}
-use Rattle.verdicts.specs.Pair.{Functions}
-use Rattle.pair_driver.specs.declared.judged.Judged.{Judged}
-use Rattle.pair_judge.specs.Answers.{CanBeJudged, IsAnswer}
-use Rattle.module_rows.specs.Judging.{AreAnswers, judged_pairs, verdicts_answered}
+use Rattle.module_rows.proofs.Common.{◌≡◌, ◌+◌, ◌*◌, ◌^◌, ◌<◌, List, length, sym, ap, subst, ◌∙◌, AllByRecursion, AllZip, Entry, Functions, Judged, CanBeJudged, IsAnswer, AreAnswers, judged_pairs, verdicts_answered}
 use Rattle.module_rows.proofs.Answered.{verdicts_with_extra, zipped_answers}
 use Rattle.module_rows.proofs.Pairs.{pairs_judged, pairs_fit}
 use Rattle.module_rows.proofs.rows.all_rows.Goals as goal

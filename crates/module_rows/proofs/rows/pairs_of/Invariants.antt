@@ -1,5 +1,4 @@
-use Rattle.std.proofs.Common.{◌≡◌, drop, ◌++◌}
-use Rattle.module_rows.specs.Judging.{judged_pairs}
+use Rattle.module_rows.proofs.Common.{◌≡◌, drop, ◌++◌, judged_pairs}
 use Rattle.module_rows.proofs.rows.pairs_of.Given as goal
 
 abbrev pub invariant-loop-source : goal.invariant-loop-source

@@ -1,5 +1,4 @@
-use Rattle.std.proofs.Common.{◌≡◌, drop, ◌++◌}
-use Rattle.report.specs.Rows.{extra_rows}
+use Rattle.module_rows.proofs.Common.{◌≡◌, drop, ◌++◌, extra_rows}
 use Rattle.module_rows.proofs.rows.push_extra_rows.Given as goal
 
 abbrev pub invariant-loop-target : goal.invariant-loop-target

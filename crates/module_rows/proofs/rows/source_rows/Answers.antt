@@ -1,5 +1,4 @@
-use Rattle.std.proofs.Common.{sym, subst}
-use Rattle.ir_reader.specs.Judgeable.{IsJudgeableEntry}
+use Rattle.module_rows.proofs.Common.{sym, subst, IsJudgeableEntry}
 use Rattle.module_rows.proofs.Answered.{no_rows, has_next, one_row, all_rows}
 use Rattle.module_rows.proofs.Searches.{all_at}
 use Rattle.module_rows.proofs.rows.source_rows.Goals as goal

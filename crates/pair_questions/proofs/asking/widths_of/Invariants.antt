@@ -1,7 +1,4 @@
-use Rattle.std.proofs.Common.{◌≡◌, map, take}
-use Rattle.bv_terms.specs.declared.term.TermId.{TermId}
-use Rattle.bv_terms.specs.Tree.{width_of}
-use Rattle.bv_terms.specs.Trees.{tree_in}
+use Rattle.pair_questions.proofs.Common.{◌≡◌, map, take, TermId, width_of, tree_in}
 use Rattle.pair_questions.proofs.asking.widths_of.Given as goal
 
 abbrev pub invariant-loop-id : goal.invariant-loop-id

@@ -1,15 +1,9 @@
 -- Terms are compared index by index.
-use Rattle.std.proofs.Common.{ℕ, ◌≡◌, ◌<◌, ◌+◌, inl, inr, List, length, map, take, get_or, Contains, ap, sym, subst, ◌∙◌, arith, refl}
+use Rattle.pair_questions.proofs.Common.{ℕ, ◌≡◌, ◌<◌, ◌+◌, inl, inr, List, length, map, take, get_or, Contains, ap, sym, subst, ◌∙◌, arith, refl, false≢true, take_all, Contains-push_cases, TermId, TapeTerms, map-at, map-length, map-take}
 use Rattle.std.specs.Bool.{Decides}
-use Rattle.std.proofs.lemmas.Bool.{false≢true}
 use Rattle.std.proofs.lemmas.Bool.Decides.{Decides-eqb}
-use Rattle.std.proofs.lemmas.List.{take_all}
-use Rattle.std.proofs.lemmas.List.Elements.{Contains-push_cases}
 use Rattle.std.proofs.lemmas.Slice.Eq.{slice_eq-Decides}
-use Rattle.bv_terms.specs.declared.term.TermId.{TermId}
 use Rattle.bv_terms.specs.contracts.term.TermIdPartialEq.TheImpl.{eq-value}
-use Rattle.mem_terms.specs.declared.inputs.TapeTerms.{TapeTerms}
-use Rattle.mem_terms.proofs.Eaches.{map-at, map-length, map-take}
 use Rattle.pair_questions.proofs.candidates.has_tape.Goals as goal
 
 id_decides : (a b : TermId) → Decides (eq-value.it a b) (a ≡ b)

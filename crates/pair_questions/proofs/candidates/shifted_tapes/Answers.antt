@@ -1,9 +1,4 @@
-use Rattle.std.proofs.Common.{◌≡◌, List, [], ◌∷◌, ◌++◌, refl, sym, subst}
-use Rattle.mem_terms.specs.declared.inputs.TapeTerms.{TapeTerms}
-use Rattle.mem_terms.specs.Inputs.{AreWords}
-use Rattle.mem_terms.proofs.Eaches.{each-push}
-use Rattle.mem_terms.proofs.Later.{keeps_trans}
-use Rattle.pair_questions.specs.Candidates.{AreTapes}
+use Rattle.pair_questions.proofs.Common.{◌≡◌, List, [], ◌∷◌, ◌++◌, refl, sym, subst, TapeTerms, AreWords, each-push, keeps_trans, AreTapes}
 use Rattle.pair_questions.proofs.SameTapes.{tapes-later}
 use Rattle.pair_questions.proofs.Shifting.{shift_new, shift_seen}
 use Rattle.pair_questions.proofs.candidates.shifted_tapes.Goals as goal

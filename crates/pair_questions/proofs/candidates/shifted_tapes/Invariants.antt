@@ -1,12 +1,5 @@
 -- The tapes so far are those of the shifts so far.
-use Rattle.std.proofs.Common.{ℕ, map, take}
-use Rattle.verdicts.specs.Covers.{words_of}
-use Rattle.bv_terms.specs.Trees.{Keeps}
-use Rattle.mem_terms.specs.Inputs.{words_at}
-use Rattle.pair_questions.specs.declared.tapes.Shift.{Shift}
-use Rattle.pair_questions.specs.declared.tapes.TheConstants.{SHIFTS}
-use Rattle.pair_questions.specs.Candidates.{AreSameTapes, AreTapes, tapes_at}
-use Rattle.pair_questions.specs.Tapes.{shift_of}
+use Rattle.pair_questions.proofs.Common.{ℕ, map, take, words_of, Keeps, words_at, Shift, SHIFTS, AreSameTapes, AreTapes, tapes_at, shift_of}
 use Rattle.pair_questions.proofs.candidates.shifted_tapes.Given as goal
 
 abbrev pub invariant-loop-shift : goal.invariant-loop-shift

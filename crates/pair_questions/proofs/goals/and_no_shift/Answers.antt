@@ -1,5 +1,4 @@
-use Rattle.verdicts.specs.Covers.{shifted}
-use Rattle.mem_terms.specs.Inputs.{words_at}
+use Rattle.pair_questions.proofs.Common.{shifted, words_at}
 use Rattle.pair_questions.proofs.SameTapes.{narrowed_same}
 use Rattle.pair_questions.proofs.Trying.{trial_later}
 use Rattle.pair_questions.proofs.goals.and_no_shift.Goals as goal

@@ -1,9 +1,7 @@
-use Rattle.std.proofs.Common.{[], ◌∷◌, ap}
-use Rattle.mem_terms.proofs.Later.{is_input-later, is_outcome-later}
+use Rattle.pair_questions.proofs.Common.{[], ◌∷◌, ap, is_input-later, is_outcome-later, layout_of}
 use Rattle.pair_questions.proofs.SameTapes.{narrowed_same, same_as}
 use Rattle.pair_questions.proofs.Trying.{a_trial}
 use Rattle.pair_questions.proofs.Uncovering.{shape_input, source_input}
-use Rattle.verdicts.specs.Pair.{layout_of}
 use Rattle.pair_questions.proofs.goals.and_no_tape.Goals as goal
 
 pub and_uncovered-requires-clause-trial : goal.and_uncovered-requires-clause-trial

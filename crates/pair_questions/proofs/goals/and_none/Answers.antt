@@ -1,10 +1,4 @@
-use Rattle.std.proofs.Common.{◌&&◌, ◌+◌, drop, refl}
-use Rattle.bv_terms.specs.Trees.{bit_at}
-use Rattle.mem_terms.specs.declared.inputs.TapeTerms.{TapeTerms}
-use Rattle.mem_terms.specs.Inputs.{AreWords, words_at}
-use Rattle.mem_terms.proofs.Eaches.{each-at}
-use Rattle.mem_terms.proofs.Later.{keeps_self, keeps_trans, words-later, words_at-later}
-use Rattle.pair_questions.specs.Candidates.{input_in, none_allows, outcome_in, tapes_at}
+use Rattle.pair_questions.proofs.Common.{◌&&◌, ◌+◌, drop, refl, bit_at, TapeTerms, AreWords, words_at, each-at, keeps_self, keeps_trans, words-later, words_at-later, input_in, none_allows, outcome_in, tapes_at}
 use Rattle.pair_questions.proofs.SameTapes.{tapes_behind}
 use Rattle.pair_questions.proofs.Trying.{trial_later, tried_more, tried_all, mapped_more}
 use Rattle.pair_questions.proofs.goals.and_none.Goals as goal

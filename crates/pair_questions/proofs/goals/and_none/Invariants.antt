@@ -1,7 +1,5 @@
 -- The goal so far and the candidates that are left are the goal before and all candidates.
-use Rattle.std.proofs.Common.{ℕ, ◌≡◌, ◌&&◌, drop}
-use Rattle.bv_terms.specs.Trees.{IsTerm, Keeps, bit_at}
-use Rattle.pair_questions.specs.Candidates.{input_in, none_allows, outcome_in, tapes_at}
+use Rattle.pair_questions.proofs.Common.{ℕ, ◌≡◌, ◌&&◌, drop, IsTerm, Keeps, bit_at, input_in, none_allows, outcome_in, tapes_at}
 use Rattle.pair_questions.proofs.goals.and_none.Given as goal
 
 abbrev pub invariant-loop-candidate : goal.invariant-loop-candidate

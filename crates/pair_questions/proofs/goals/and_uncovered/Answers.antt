@@ -1,4 +1,4 @@
-use Rattle.mem_terms.proofs.Later.{is_outcome-later}
+use Rattle.pair_questions.proofs.Common.{is_outcome-later}
 use Rattle.pair_questions.proofs.Trying.{covered_in, tried}
 use Rattle.pair_questions.proofs.goals.and_uncovered.Goals as goal
 

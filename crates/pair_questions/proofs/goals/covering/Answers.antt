@@ -1,9 +1,7 @@
-use Rattle.std.proofs.Common.{sym, ◌∙◌, arith}
-use Rattle.mem_terms.proofs.Later.{keeps_trans, is_input-later, words-later, is_outcome-later}
+use Rattle.pair_questions.proofs.Common.{sym, ◌∙◌, arith, keeps_trans, is_input-later, words-later, is_outcome-later, layout_of}
 use Rattle.pair_questions.proofs.Fitting.{of_shape}
 use Rattle.pair_questions.proofs.Trying.{covered_in}
 use Rattle.pair_questions.proofs.Uncovering.{shape_input, source_input, covering_decides}
-use Rattle.verdicts.specs.Pair.{layout_of}
 use Rattle.pair_questions.proofs.goals.covering.Goals as goal
 
 pub known_input-requires-clause-point : goal.known_input-requires-clause-point

@@ -1,7 +1,6 @@
-use Rattle.mem_terms.proofs.Later.{is_input-later, is_outcome-later, words-later}
+use Rattle.pair_questions.proofs.Common.{is_input-later, is_outcome-later, words-later, layout_of}
 use Rattle.pair_questions.proofs.Trying.{a_trial}
 use Rattle.pair_questions.proofs.Uncovering.{shape_input, source_input, uncovered_decides}
-use Rattle.verdicts.specs.Pair.{layout_of}
 use Rattle.pair_questions.proofs.goals.unshifted.Goals as goal
 
 pub and_no_shift-requires-clause-trial : goal.and_no_shift-requires-clause-trial

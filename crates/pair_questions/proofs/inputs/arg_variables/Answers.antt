@@ -1,9 +1,4 @@
-use Rattle.std.proofs.Common.{◌++◌, ◌+◌, take, ap, subst, ◌∙◌}
-use Rattle.std.specs.List.{flat_map}
-use Rattle.ir_tree.specs.declared.tree.Parameter.{Parameter}
-use Rattle.mem_terms.specs.Inputs.{IsArg}
-use Rattle.pair_questions.specs.Questions.{args_widths, value_widths}
-use Rattle.pair_questions.specs.Shapes.{arg_ids}
+use Rattle.pair_questions.proofs.Common.{◌++◌, ◌+◌, take, ap, subst, ◌∙◌, flat_map, Parameter, IsArg, args_widths, value_widths, arg_ids}
 use Rattle.pair_questions.proofs.Extending.{extends_trans, args_extended, args_more, widths_more, grows_as, grows_trans, ids_more, ids_pushed}
 use Rattle.pair_questions.proofs.inputs.arg_variables.Goals as goal
 

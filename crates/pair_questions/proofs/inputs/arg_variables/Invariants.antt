@@ -1,10 +1,5 @@
 -- An argument for each parameter so far.
-use Rattle.std.proofs.Common.{◌≡◌, ◌++◌, take}
-use Rattle.std.specs.List.{flat_map}
-use Rattle.bv_terms.specs.Trees.{Extends}
-use Rattle.mem_terms.specs.Inputs.{AreArgs}
-use Rattle.pair_questions.specs.Questions.{args_widths}
-use Rattle.pair_questions.specs.Shapes.{arg_ids}
+use Rattle.pair_questions.proofs.Common.{◌≡◌, ◌++◌, take, flat_map, Extends, AreArgs, args_widths, arg_ids}
 use Rattle.pair_questions.proofs.Extending.{Grows}
 use Rattle.pair_questions.proofs.inputs.arg_variables.Given as goal
 

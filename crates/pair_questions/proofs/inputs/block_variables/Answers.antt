@@ -1,8 +1,4 @@
-use Rattle.std.proofs.Common.{◌++◌, ◌+◌, arith}
-use Rattle.std.specs.List.{flat_map}
-use Rattle.mem_terms.specs.Inputs.{IsByteTerms}
-use Rattle.pair_questions.specs.Questions.{places_widths}
-use Rattle.pair_questions.specs.Shapes.{byte_ids}
+use Rattle.pair_questions.proofs.Common.{◌++◌, ◌+◌, arith, flat_map, IsByteTerms, places_widths, byte_ids}
 use Rattle.pair_questions.proofs.Extending.{extends_trans, bytes_extended, each_more, length_more, grows_as, grows_trans, places_more, ids_more, ids_pushed}
 use Rattle.pair_questions.proofs.inputs.block_variables.Goals as goal
 

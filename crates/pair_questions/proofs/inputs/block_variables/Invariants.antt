@@ -1,11 +1,5 @@
 -- This number of bytes so far.
-use Rattle.std.proofs.Common.{◌≡◌, ◌≤◌, ◌++◌, length}
-use Rattle.std.specs.List.{flat_map}
-use Rattle.bv_terms.specs.Trees.{Extends}
-use Rattle.mem_terms.specs.Values.{Each}
-use Rattle.mem_terms.specs.Inputs.{IsByteTerms}
-use Rattle.pair_questions.specs.Questions.{places_widths}
-use Rattle.pair_questions.specs.Shapes.{byte_ids}
+use Rattle.pair_questions.proofs.Common.{◌≡◌, ◌≤◌, ◌++◌, length, flat_map, Extends, Each, IsByteTerms, places_widths, byte_ids}
 use Rattle.pair_questions.proofs.Extending.{Grows}
 use Rattle.pair_questions.proofs.inputs.block_variables.Given as goal
 

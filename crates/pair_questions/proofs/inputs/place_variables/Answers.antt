@@ -1,4 +1,4 @@
-use Rattle.std.proofs.Common.{◌∷◌, []}
+use Rattle.pair_questions.proofs.Common.{◌∷◌, []}
 use Rattle.pair_questions.proofs.Extending.{grows_trans}
 use Rattle.pair_questions.proofs.inputs.place_variables.Goals as goal
 

@@ -1,7 +1,5 @@
-use Rattle.std.proofs.Common.{◌++◌, ◌∷◌, ◌+◌, [], replicate, arith}
-use Rattle.bv_terms.specs.Trees.{IsTerm}
+use Rattle.pair_questions.proofs.Common.{◌++◌, ◌∷◌, ◌+◌, [], replicate, arith, IsTerm, sym}
 use Rattle.pair_questions.proofs.Extending.{extends_trans, terms_extended, each_more, length_more, grows_as, grows_trans, replicate_more, ids_as, ids_more}
-use Rattle.std.proofs.Common.{sym}
 use Rattle.pair_questions.proofs.inputs.row_of_variables.Goals as goal
 
 pub loop-variable-preserved : goal.loop-variable-preserved

@@ -1,7 +1,5 @@
 -- So many variables so far.
-use Rattle.std.proofs.Common.{◌≡◌, ◌≤◌, ◌++◌, length, replicate}
-use Rattle.bv_terms.specs.Trees.{Extends, IsTerm}
-use Rattle.mem_terms.specs.Values.{Each}
+use Rattle.pair_questions.proofs.Common.{◌≡◌, ◌≤◌, ◌++◌, length, replicate, Extends, IsTerm, Each}
 use Rattle.pair_questions.proofs.Extending.{Grows}
 use Rattle.pair_questions.proofs.inputs.row_of_variables.Given as goal
 

@@ -1,6 +1,4 @@
-use Rattle.std.proofs.Common.{◌∙◌}
-use Rattle.bv_terms.specs.Trees.{bit_at, term_at}
-use Rattle.mem_terms.proofs.Later.{bit-later}
+use Rattle.pair_questions.proofs.Common.{◌∙◌, bit_at, term_at, bit-later}
 use Rattle.pair_questions.proofs.Knowing.{pointer_value}
 use Rattle.pair_questions.proofs.known.known_arg.Goals as goal
 

@@ -1,14 +1,7 @@
-use Rattle.std.proofs.Common.{◌<◌, length, take, get_or, sym, subst, ◌∙◌, arith}
-use Rattle.std.proofs.lemmas.List.{take_all}
-use Rattle.ir_tree.specs.declared.tree.Parameter.{Parameter}
+use Rattle.pair_questions.proofs.Common.{◌<◌, length, take, get_or, sym, subst, ◌∙◌, arith, take_all, Parameter, ValueFits, reading, IsArg, keeps_trans, args-later, nameable}
 use Rattle.byte_block.specs.declared.value.Value.TheVariants.{Num}
-use Rattle.points.specs.Code.{ValueFits}
-use Rattle.mem_terms.specs.Values.{reading}
-use Rattle.mem_terms.specs.Inputs.{IsArg}
-use Rattle.mem_terms.proofs.Later.{keeps_trans, args-later}
 use Rattle.pair_questions.proofs.Extending.{args_more}
 use Rattle.pair_questions.proofs.Knowing.{fit_count, fit_at, args_stand}
-use Rattle.pair_questions.specs.Shapes.{nameable}
 use Rattle.pair_questions.proofs.known.known_args.Goals as goal
 
 pub known_arg-requires : goal.known_arg-requires

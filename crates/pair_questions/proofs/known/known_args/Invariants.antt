@@ -1,10 +1,5 @@
 -- The arguments so far are those of the first values.
-use Rattle.std.proofs.Common.{ℕ, ◌≡◌, take}
-use Rattle.points.specs.declared.point.Layout.{Layout}
-use Rattle.points.specs.Code.{ArgsFit}
-use Rattle.bv_terms.specs.Trees.{Keeps}
-use Rattle.mem_terms.specs.Values.{reading}
-use Rattle.mem_terms.specs.Inputs.{AreArgs, args_at}
+use Rattle.pair_questions.proofs.Common.{ℕ, ◌≡◌, take, Layout, ArgsFit, Keeps, reading, AreArgs, args_at}
 use Rattle.pair_questions.proofs.known.known_args.Given as goal
 
 abbrev pub invariant-loop-i : goal.invariant-loop-i

@@ -1,15 +1,6 @@
-use Rattle.std.proofs.Common.{List, length, map, ap, sym, subst, ◌∙◌}
-use Rattle.std.proofs.lemmas.List.{take_all}
-use Rattle.byte_block.specs.declared.block.MemoryBlock.{MemoryBlock}
-use Rattle.points.specs.Code.{BytesFit}
-use Rattle.mem_terms.specs.declared.inputs.ByteTerms.{ByteTerms}
-use Rattle.mem_terms.specs.Values.{Each, reading}
-use Rattle.mem_terms.specs.Inputs.{IsByteTerms, IsBlockTerms, given_byte_at}
-use Rattle.mem_terms.proofs.Eaches.{map-same}
-use Rattle.mem_terms.proofs.Later.{keeps_trans, byte_lists-later, block_terms_each-later, given_bytes_at-later}
+use Rattle.pair_questions.proofs.Common.{List, length, map, ap, sym, subst, ◌∙◌, take_all, MemoryBlock, BytesFit, ByteTerms, Each, reading, IsByteTerms, IsBlockTerms, given_byte_at, map-same, keeps_trans, byte_lists-later, block_terms_each-later, given_bytes_at-later, nameable}
 use Rattle.pair_questions.proofs.Extending.{each_more}
 use Rattle.pair_questions.proofs.Knowing.{block_counted, count_more, images_more}
-use Rattle.pair_questions.specs.Shapes.{nameable}
 use Rattle.pair_questions.proofs.known.known_blocks.Goals as goal
 
 pub known_places-requires : goal.known_places-requires

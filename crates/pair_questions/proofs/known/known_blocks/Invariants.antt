@@ -1,12 +1,5 @@
 -- The contents so far are those of the first blocks.
-use Rattle.std.proofs.Common.{ℕ, ◌≡◌, All, List, length, map, take}
-use Rattle.byte_block.specs.declared.block.MemoryBlock.{MemoryBlock}
-use Rattle.points.specs.declared.point.Layout.{Layout}
-use Rattle.points.specs.Code.{BytesFit}
-use Rattle.bv_terms.specs.Trees.{Keeps}
-use Rattle.mem_terms.specs.declared.inputs.ByteTerms.{ByteTerms}
-use Rattle.mem_terms.specs.Values.{Each, reading}
-use Rattle.mem_terms.specs.Inputs.{IsByteTerms, IsBlockTerms, given_byte_at}
+use Rattle.pair_questions.proofs.Common.{ℕ, ◌≡◌, All, List, length, map, take, MemoryBlock, Layout, BytesFit, Keeps, ByteTerms, Each, reading, IsByteTerms, IsBlockTerms, given_byte_at}
 use Rattle.pair_questions.proofs.known.known_blocks.Given as goal
 
 abbrev pub invariant-loop-block : goal.invariant-loop-block

@@ -1,8 +1,4 @@
-use Rattle.std.proofs.Common.{sym, ap, subst, ◌∙◌}
-use Rattle.points.specs.Code.{ByteFits}
-use Rattle.mem_terms.specs.Values.{reading}
-use Rattle.mem_terms.proofs.Later.{keeps_trans}
-use Rattle.points.specs.Run.{block_number}
+use Rattle.pair_questions.proofs.Common.{sym, ap, subst, ◌∙◌, ByteFits, reading, keeps_trans, block_number}
 use Rattle.pair_questions.proofs.Knowing.{byte_read, five_known, part_value}
 use Rattle.pair_questions.proofs.known.known_byte.Goals.{in-Num, in-Part, in-Poison}
 use Rattle.pair_questions.proofs.known.known_byte.Goals as goal

@@ -1,8 +1,5 @@
-use Rattle.std.proofs.Common.{◌≤◌, arith}
-use Rattle.byte_block.specs.declared.block.MemoryBlock.{MemoryBlock}
-use Rattle.points.specs.Code.{BytesFit}
+use Rattle.pair_questions.proofs.Common.{◌≤◌, arith, MemoryBlock, BytesFit, nameable}
 use Rattle.pair_questions.proofs.Knowing.{args_fit_more, bytes_fit_more, each_given, input_stands, known_is}
-use Rattle.pair_questions.specs.Shapes.{nameable}
 use Rattle.pair_questions.proofs.known.known_input.Goals as goal
 
 pub known_args-requires : goal.known_args-requires

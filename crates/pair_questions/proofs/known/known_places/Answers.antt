@@ -1,11 +1,6 @@
-use Rattle.std.proofs.Common.{length, ap, ◌∙◌}
-use Rattle.std.proofs.lemmas.List.{take_all}
-use Rattle.mem_terms.specs.Values.{reading}
-use Rattle.mem_terms.specs.Inputs.{IsByteTerms, given_byte_at}
-use Rattle.mem_terms.proofs.Later.{keeps_trans, byte_terms_each-later, given_bytes_at-later}
+use Rattle.pair_questions.proofs.Common.{length, ap, ◌∙◌, take_all, reading, IsByteTerms, given_byte_at, keeps_trans, byte_terms_each-later, given_bytes_at-later, nameable}
 use Rattle.pair_questions.proofs.Extending.{each_more}
 use Rattle.pair_questions.proofs.Knowing.{bytes_at, count_more, map_more}
-use Rattle.pair_questions.specs.Shapes.{nameable}
 use Rattle.pair_questions.proofs.known.known_places.Goals as goal
 
 pub known_byte-requires : goal.known_byte-requires

@@ -1,10 +1,5 @@
 -- The contents so far are those of the first bytes.
-use Rattle.std.proofs.Common.{ℕ, ◌≡◌, length, map, take}
-use Rattle.points.specs.declared.point.Layout.{Layout}
-use Rattle.points.specs.Code.{BytesFit}
-use Rattle.bv_terms.specs.Trees.{Keeps}
-use Rattle.mem_terms.specs.Values.{Each, reading}
-use Rattle.mem_terms.specs.Inputs.{IsByteTerms, given_byte_at}
+use Rattle.pair_questions.proofs.Common.{ℕ, ◌≡◌, length, map, take, Layout, BytesFit, Keeps, Each, reading, IsByteTerms, given_byte_at}
 use Rattle.pair_questions.proofs.known.known_places.Given as goal
 
 abbrev pub invariant-loop-byte : goal.invariant-loop-byte

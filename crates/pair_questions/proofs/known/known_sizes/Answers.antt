@@ -1,9 +1,4 @@
-use Rattle.std.proofs.Common.{length, map, ap, ◌∙◌}
-use Rattle.std.proofs.lemmas.List.{take_all}
-use Rattle.byte_block.specs.declared.block.MemoryBlock.{MemoryBlock}
-use Rattle.bv_terms.specs.Trees.{IsTerm, term_at}
-use Rattle.mem_terms.proofs.Eaches.{map-same}
-use Rattle.mem_terms.proofs.Later.{keeps_trans, sizes-later, term-later}
+use Rattle.pair_questions.proofs.Common.{length, map, ap, ◌∙◌, take_all, MemoryBlock, IsTerm, term_at, map-same, keeps_trans, sizes-later, term-later}
 use Rattle.pair_questions.proofs.Extending.{each_more}
 use Rattle.pair_questions.proofs.Knowing.{count_more, images_more, made_size}
 use Rattle.pair_questions.proofs.known.known_sizes.Goals as goal

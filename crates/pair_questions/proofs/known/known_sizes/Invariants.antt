@@ -1,8 +1,5 @@
 -- The sizes so far are those of the first blocks.
-use Rattle.std.proofs.Common.{ℕ, ◌≡◌, length, map, take}
-use Rattle.byte_block.specs.declared.block.MemoryBlock.{MemoryBlock}
-use Rattle.bv_terms.specs.Trees.{IsTerm, Keeps, term_at}
-use Rattle.mem_terms.specs.Values.{Each}
+use Rattle.pair_questions.proofs.Common.{ℕ, ◌≡◌, length, map, take, MemoryBlock, IsTerm, Keeps, term_at, Each}
 use Rattle.pair_questions.proofs.known.known_sizes.Given as goal
 
 abbrev pub invariant-loop-block : goal.invariant-loop-block

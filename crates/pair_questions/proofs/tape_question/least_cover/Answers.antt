@@ -1,8 +1,5 @@
 -- The variables are the words of a tape, and what is found of numbers is found of tapes.
-use Rattle.std.proofs.Common.{ℕ, List, sym, subst, ◌∙◌}
-use Rattle.answer_order.specs.Fronts.{AreWidths}
-use Rattle.pair_questions.specs.Numbers.{IsFoundNumbers, number_test}
-use Rattle.pair_questions.specs.Questions.{IsCovering, tape_widths}
+use Rattle.pair_questions.proofs.Common.{ℕ, List, sym, subst, ◌∙◌, AreWidths, IsFoundNumbers, number_test, IsCovering, tape_widths}
 use Rattle.pair_questions.proofs.Findings.{found_tape, tape_passes, words_are}
 use Rattle.pair_questions.proofs.Fitting.{tape_narrow}
 use Rattle.pair_questions.proofs.Ordered.{counted, order_asked, order_within, tape_order}

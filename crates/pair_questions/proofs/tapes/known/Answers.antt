@@ -1,4 +1,4 @@
-use Rattle.mem_terms.proofs.Later.{keeps_trans, words-later}
+use Rattle.pair_questions.proofs.Common.{keeps_trans, words-later}
 use Rattle.pair_questions.proofs.Moved.{are_more, known_more}
 use Rattle.pair_questions.proofs.tapes.known.Goals as goal
 

@@ -1,7 +1,5 @@
 -- The words so far are the tape's first ones.
-use Rattle.std.proofs.Common.{ℕ, ◌≡◌, take}
-use Rattle.bv_terms.specs.Trees.{Keeps}
-use Rattle.mem_terms.specs.Inputs.{AreWords, words_at}
+use Rattle.pair_questions.proofs.Common.{ℕ, ◌≡◌, take, Keeps, AreWords, words_at}
 use Rattle.pair_questions.proofs.tapes.known.Given as goal
 
 abbrev pub invariant-loop-word : goal.invariant-loop-word

@@ -1,5 +1,4 @@
-use Rattle.std.proofs.Common.{arith}
-use Rattle.mem_terms.proofs.Later.{words-later}
+use Rattle.pair_questions.proofs.Common.{arith, words-later}
 use Rattle.pair_questions.proofs.Moved.{are_more, moved_more}
 use Rattle.pair_questions.proofs.tapes.moved.Goals as goal
 

@@ -1,8 +1,5 @@
 -- The words so far are those of the moved tape.
-use Rattle.std.proofs.Common.{ℕ, ◌≡◌, ◌≤◌}
-use Rattle.verdicts.specs.Covers.{words_of}
-use Rattle.mem_terms.specs.Inputs.{AreWords, words_at}
-use Rattle.pair_questions.specs.Tapes.{shift_of}
+use Rattle.pair_questions.proofs.Common.{ℕ, ◌≡◌, ◌≤◌, words_of, AreWords, words_at, shift_of}
 use Rattle.pair_questions.proofs.tapes.moved.Given as goal
 
 abbrev pub invariant-loop-place : goal.invariant-loop-place

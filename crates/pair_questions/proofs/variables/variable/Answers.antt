@@ -1,5 +1,5 @@
 -- The variable's number is its index in the order.
-use Rattle.std.proofs.Common.{◌≡◌, length, arith}
+use Rattle.pair_questions.proofs.Common.{◌≡◌, length, arith}
 use Rattle.pair_questions.proofs.Numbered.{order_push}
 use Rattle.pair_questions.proofs.variables.variable.Goals as goal
 

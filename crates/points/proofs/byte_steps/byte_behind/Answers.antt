@@ -1,4 +1,4 @@
-use Rattle.std.proofs.Common.{arith}
+use Rattle.points.proofs.Common.{arith}
 use Rattle.points.proofs.ByteOrder.{part_next, pointer_next, poison_next}
 use Rattle.points.proofs.byte_steps.byte_behind.Goals as goal
 

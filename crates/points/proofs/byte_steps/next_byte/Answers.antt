@@ -1,4 +1,4 @@
-use Rattle.std.proofs.Common.{arith}
+use Rattle.points.proofs.Common.{arith}
 use Rattle.points.proofs.ByteOrder.{number_next, part_first, poison_last}
 use Rattle.points.proofs.byte_steps.next_byte.Goals as goal
 

@@ -1,4 +1,4 @@
-use Rattle.std.proofs.Common.{◌-◌, length, refl, ap, arith}
+use Rattle.points.proofs.Common.{◌-◌, length, refl, ap, arith}
 use Rattle.points.proofs.Places.{bytes_last_past, byte_fits_at, bytes_last_more, next_bytes_is, last_bytes_is}
 use Rattle.points.proofs.byte_steps.next_bytes.Goals as goal
 

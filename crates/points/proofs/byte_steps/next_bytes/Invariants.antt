@@ -1,4 +1,4 @@
-use Rattle.std.proofs.Common.{◌≡◌, ◌≤◌, length}
+use Rattle.points.proofs.Common.{◌≡◌, ◌≤◌, length}
 use Rattle.points.proofs.Places.{BytesAreLast}
 use Rattle.points.proofs.byte_steps.next_bytes.Given as goal
 

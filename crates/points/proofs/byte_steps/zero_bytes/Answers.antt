@@ -1,8 +1,5 @@
-use Rattle.std.proofs.Common.{sym, ◌∙◌, arith}
-use Rattle.std.proofs.Math.ListN.{length-set}
-use Rattle.std.proofs.lemmas.Option.{slice_get-get_or}
+use Rattle.points.proofs.Common.{sym, ◌∙◌, arith, length-set, slice_get-get_or, zero_byte}
 use Rattle.byte_block.specs.declared.value.Byte.TheVariants.{Num}
-use Rattle.points.specs.Next.{zero_byte}
 use Rattle.points.proofs.Rows.{from_place-set, from_place-past}
 use Rattle.points.proofs.byte_steps.zero_bytes.Goals as goal
 

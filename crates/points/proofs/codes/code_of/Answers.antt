@@ -1,4 +1,4 @@
-use Rattle.std.proofs.Common.{length, ap, sym, ◌∙◌}
+use Rattle.points.proofs.Common.{length, ap, sym, ◌∙◌}
 use Rattle.points.proofs.Args.{ArgsFit-length}
 use Rattle.points.proofs.codes.code_of.Goals as goal
 

@@ -1,6 +1,4 @@
-use Rattle.std.proofs.Common.{◌++◌, ap, sym, ◌∙◌, arith}
-use Rattle.ir_tree.specs.declared.tree.Parameter.{Parameter}
-use Rattle.points.specs.Code.{value_code}
+use Rattle.points.proofs.Common.{◌++◌, ap, sym, ◌∙◌, arith, Parameter, value_code}
 use Rattle.points.proofs.Pushes.{args_pushed, all_args_pushed}
 use Rattle.points.proofs.codes.push_args.Goals as goal
 

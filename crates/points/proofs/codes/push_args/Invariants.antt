@@ -1,6 +1,4 @@
-use Rattle.std.proofs.Common.{◌≡◌, ◌++◌, drop}
-use Rattle.points.specs.declared.point.Layout.{Layout}
-use Rattle.points.specs.Code.{args_code}
+use Rattle.points.proofs.Common.{◌≡◌, ◌++◌, drop, Layout, args_code}
 use Rattle.points.proofs.codes.push_args.Given as goal
 
 abbrev pub invariant-loop-i : goal.invariant-loop-i

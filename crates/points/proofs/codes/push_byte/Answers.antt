@@ -1,4 +1,4 @@
-use Rattle.std.proofs.Common.{rules}
+use Rattle.points.proofs.Common.{rules}
 use Rattle.points.proofs.codes.push_byte.Goals as goal
 
 pub returns-in_ok-extend_from_slice-in-Part : goal.returns-in_ok-extend_from_slice-in-Part

@@ -1,5 +1,4 @@
-use Rattle.std.proofs.Common.{arith}
-use Rattle.points.specs.Code.{byte_code}
+use Rattle.points.proofs.Common.{arith, byte_code}
 use Rattle.points.proofs.Pushes.{pushed_at, all_pushed}
 use Rattle.points.proofs.codes.push_bytes.Goals as goal
 

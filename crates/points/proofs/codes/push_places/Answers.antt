@@ -1,6 +1,4 @@
-use Rattle.std.proofs.Common.{◌++◌, ap, ◌∙◌, arith}
-use Rattle.std.specs.List.{flat_map}
-use Rattle.points.specs.Code.{byte_code, places_code}
+use Rattle.points.proofs.Common.{◌++◌, ap, ◌∙◌, arith, flat_map, byte_code, places_code}
 use Rattle.points.proofs.Pushes.{pushed, all_pushed}
 use Rattle.points.proofs.codes.push_places.Goals as goal
 

@@ -1,7 +1,4 @@
-use Rattle.std.proofs.Common.{◌≡◌, ◌++◌, drop}
-use Rattle.std.specs.List.{flat_map}
-use Rattle.points.specs.declared.point.Layout.{Layout}
-use Rattle.points.specs.Code.{places_code}
+use Rattle.points.proofs.Common.{◌≡◌, ◌++◌, drop, flat_map, Layout, places_code}
 use Rattle.points.proofs.codes.push_places.Given as goal
 
 abbrev pub invariant-loop-block : goal.invariant-loop-block

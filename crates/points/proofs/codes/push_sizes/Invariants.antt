@@ -1,5 +1,4 @@
-use Rattle.std.proofs.Common.{◌≡◌, ◌++◌, map, drop}
-use Rattle.byte_block.specs.declared.block.MemoryBlock.{MemoryBlock}
+use Rattle.points.proofs.Common.{◌≡◌, ◌++◌, map, drop, MemoryBlock}
 use Rattle.points.proofs.codes.push_sizes.Given as goal
 
 abbrev pub invariant-loop-block : goal.invariant-loop-block

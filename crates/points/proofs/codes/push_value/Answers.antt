@@ -1,4 +1,4 @@
-use Rattle.std.proofs.Common.{rules}
+use Rattle.points.proofs.Common.{rules}
 use Rattle.points.proofs.codes.push_value.Goals as goal
 
 pub returns-in_ok-extend_from_slice-in-Ptr-Ptr : goal.returns-in_ok-extend_from_slice-in-Ptr-Ptr

@@ -1,6 +1,4 @@
-use Rattle.std.proofs.Common.{sym, ◌∙◌, arith}
-use Rattle.std.proofs.Math.ListN.{length-set}
-use Rattle.points.specs.Next.{zero_places}
+use Rattle.points.proofs.Common.{sym, ◌∙◌, arith, length-set, zero_places}
 use Rattle.points.proofs.Rows.{from_place-set, from_place-past}
 use Rattle.points.proofs.point_steps.clear_places.Goals as goal
 

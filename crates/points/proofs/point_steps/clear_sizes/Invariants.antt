@@ -1,5 +1,4 @@
-use Rattle.std.proofs.Common.{◌≡◌, length}
-use Rattle.points.specs.Next.{from_place, zero_size}
+use Rattle.points.proofs.Common.{◌≡◌, length, from_place, zero_size}
 use Rattle.points.proofs.point_steps.clear_sizes.Given as goal
 
 abbrev pub invariant-loop-i : goal.invariant-loop-i

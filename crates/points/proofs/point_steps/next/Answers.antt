@@ -1,4 +1,4 @@
-use Rattle.std.proofs.Common.{refl, ◌∙◌}
+use Rattle.points.proofs.Common.{refl, ◌∙◌}
 use Rattle.points.proofs.Words.{WordsFit-length}
 use Rattle.points.proofs.Memories.{least_blocks_are}
 use Rattle.points.proofs.Whole.{zero_tape, tape_moves, places_move, sizes_move, args_move, none_moves}

@@ -1,5 +1,4 @@
-use Rattle.std.proofs.Common.{◌-◌, List, refl, ap, ◌∙◌, arith}
-use Rattle.byte_block.specs.declared.value.Byte.{Byte}
+use Rattle.points.proofs.Common.{◌-◌, List, refl, ap, ◌∙◌, arith, Byte}
 use Rattle.points.proofs.Memories.{size_fits, places_fit, none_past_blocks, next_memory_is, last_memory_is, places_last_more, set_again}
 use Rattle.points.proofs.point_steps.next_places.Goals as goal
 

@@ -1,4 +1,4 @@
-use Rattle.std.proofs.Common.{◌≡◌}
+use Rattle.points.proofs.Common.{◌≡◌}
 use Rattle.points.proofs.Memories.{PlacesAreLast}
 use Rattle.points.proofs.point_steps.next_places.Given as goal
 

@@ -1,4 +1,4 @@
-use Rattle.std.proofs.Common.{◌-◌, refl, ◌∙◌, arith}
+use Rattle.points.proofs.Common.{◌-◌, refl, ◌∙◌, arith}
 use Rattle.points.proofs.Memories.{none_full_past, next_sizes_is, last_sizes_are, full_more, set_again}
 use Rattle.points.proofs.point_steps.next_sizes.Goals as goal
 

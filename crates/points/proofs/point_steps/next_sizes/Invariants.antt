@@ -1,4 +1,4 @@
-use Rattle.std.proofs.Common.{◌≡◌}
+use Rattle.points.proofs.Common.{◌≡◌}
 use Rattle.points.proofs.Memories.{AreFullFrom}
 use Rattle.points.proofs.point_steps.next_sizes.Given as goal
 

@@ -1,5 +1,4 @@
-use Rattle.std.proofs.Common.{◌≡◌, ◌≤◌, ◌++◌, length, drop}
-use Rattle.points.specs.Reads.{args_length, args_from}
+use Rattle.points.proofs.Common.{◌≡◌, ◌≤◌, ◌++◌, length, drop, args_length, args_from}
 use Rattle.points.proofs.reading.args_with.Given as goal
 
 abbrev pub invariant-loop-parameter : goal.invariant-loop-parameter

@@ -1,5 +1,4 @@
-use Rattle.std.proofs.Common.{◌≡◌, ◌+◌, ◌++◌, drop}
-use Rattle.points.specs.Reads.{blocks_from, HaveBlocks}
+use Rattle.points.proofs.Common.{◌≡◌, ◌+◌, ◌++◌, drop, blocks_from, HaveBlocks}
 use Rattle.points.proofs.reading.blocks_with.Given as goal
 
 abbrev pub invariant-loop-i : goal.invariant-loop-i

@@ -1,4 +1,4 @@
-use Rattle.std.proofs.Common.{arith}
+use Rattle.points.proofs.Common.{arith}
 use Rattle.points.proofs.Cursor.{code_count, parts_are}
 use Rattle.points.proofs.reading.parts_of.Goals as goal
 

@@ -1,4 +1,4 @@
-use Rattle.std.proofs.Common.{refl, arith}
+use Rattle.points.proofs.Common.{refl, arith}
 use Rattle.points.proofs.Cursor.{byte_here, read_more}
 use Rattle.points.proofs.reading.places_with.Goals as goal
 

@@ -1,5 +1,4 @@
-use Rattle.std.proofs.Common.{◌≡◌, ap, sym, ◌∙◌, arith, rules}
-use Rattle.points.specs.Reads.{args_from}
+use Rattle.points.proofs.Common.{◌≡◌, ap, sym, ◌∙◌, arith, rules, args_from}
 use Rattle.points.proofs.Cursor.{args_count, have_blocks}
 use Rattle.points.proofs.Decoded.{read_point}
 use Rattle.points.proofs.reading.point_of.Goals as goal

@@ -1,5 +1,4 @@
-use Rattle.std.proofs.Common.{refl, sym, ◌∙◌, arith}
-use Rattle.points.specs.Refines.{block_allows}
+use Rattle.points.proofs.Common.{refl, sym, ◌∙◌, arith, block_allows}
 use Rattle.points.proofs.Allowed.{pairs_pass-lengths, pairs_pass-more, pairs_pass-end}
 use Rattle.points.proofs.refinement.blocks_are_allowed.Goals as goal
 

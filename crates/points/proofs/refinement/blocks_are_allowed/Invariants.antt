@@ -1,5 +1,4 @@
-use Rattle.std.proofs.Common.{◌≡◌, drop}
-use Rattle.points.specs.Refines.{blocks_allow}
+use Rattle.points.proofs.Common.{◌≡◌, drop, blocks_allow}
 use Rattle.points.proofs.refinement.blocks_are_allowed.Given as goal
 
 abbrev pub invariant-loop-i : goal.invariant-loop-i

@@ -1,6 +1,5 @@
-use Rattle.std.proofs.Common.{refl, sym, ◌∙◌, arith}
+use Rattle.points.proofs.Common.{refl, sym, ◌∙◌, arith, byte_allows}
 use Rattle.byte_block.specs.declared.value.Byte.TheVariants.{Num}
-use Rattle.points.specs.Refines.{byte_allows}
 use Rattle.points.proofs.Allowed.{pairs_pass-lengths, pairs_pass-more, pairs_pass-end}
 use Rattle.points.proofs.refinement.bytes_are_allowed.Goals as goal
 

@@ -1,5 +1,4 @@
-use Rattle.std.proofs.Common.{◌≡◌, drop}
-use Rattle.points.specs.Refines.{byte_allows, pairs_pass}
+use Rattle.points.proofs.Common.{◌≡◌, drop, byte_allows, pairs_pass}
 use Rattle.points.proofs.refinement.bytes_are_allowed.Given as goal
 
 abbrev pub invariant-loop-i : goal.invariant-loop-i

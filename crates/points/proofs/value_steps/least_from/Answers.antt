@@ -1,6 +1,4 @@
-use Rattle.std.proofs.Common.{refl, sym, ◌∙◌, arith}
-use Rattle.std.proofs.Math.ListN.{length-set}
-use Rattle.std.proofs.lemmas.Option.{slice_get_read}
+use Rattle.points.proofs.Common.{refl, sym, ◌∙◌, arith, length-set, slice_get_read}
 use Rattle.points.proofs.Values.{least_from-set, least_from-past}
 use Rattle.points.proofs.value_steps.least_from.Goals as goal
 

@@ -1,5 +1,4 @@
-use Rattle.std.proofs.Common.{◌≡◌, length}
-use Rattle.points.specs.Next.{least_from}
+use Rattle.points.proofs.Common.{◌≡◌, length, least_from}
 use Rattle.points.proofs.value_steps.least_from.Given as goal
 
 abbrev pub invariant-loop-i : goal.invariant-loop-i

@@ -1,4 +1,4 @@
-use Rattle.std.proofs.Common.{arith}
+use Rattle.points.proofs.Common.{arith}
 use Rattle.points.proofs.Values.{next_number, next_poison, last_poison, next_pointer_value, next_poison_pointer, last_poison_pointer}
 use Rattle.points.proofs.value_steps.next_value.Goals as goal
 

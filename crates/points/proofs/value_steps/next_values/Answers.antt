@@ -1,5 +1,4 @@
-use Rattle.std.proofs.Common.{◌-◌, refl, arith}
-use Rattle.std.proofs.lemmas.Option.{slice_get_read}
+use Rattle.points.proofs.Common.{◌-◌, refl, arith, slice_get_read}
 use Rattle.points.proofs.Args.{ArgsFit-length, none_past}
 use Rattle.points.proofs.Values.{values_last_more, value_fits_at, next_values_is, last_values_are}
 use Rattle.points.proofs.value_steps.next_values.Goals as goal

@@ -1,4 +1,4 @@
-use Rattle.std.proofs.Common.{◌≡◌, length}
+use Rattle.points.proofs.Common.{◌≡◌, length}
 use Rattle.points.proofs.Values.{AreLastValuesFrom}
 use Rattle.points.proofs.value_steps.next_values.Given as goal
 

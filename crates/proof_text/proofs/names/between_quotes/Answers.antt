@@ -1,6 +1,4 @@
-use Rattle.std.proofs.Common.{◌∷◌, []}
-use Rattle.std.proofs.lemmas.Slice.Eq.{strip_prefix_is, strip_suffix_is}
-use Rattle.std.proofs.lemmas.Bool.Decides.{Decides-eqb}
+use Rattle.proof_text.proofs.Common.{◌∷◌, [], strip_prefix_is, strip_suffix_is, Decides-eqb}
 use Rattle.proof_text.proofs.Escapes.{quoted_some}
 use Rattle.proof_text.proofs.names.between_quotes.Goals as goal
 

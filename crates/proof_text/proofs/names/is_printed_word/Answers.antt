@@ -1,8 +1,4 @@
-use Rattle.std.proofs.Common.{ℕ, ◌≡◌, ◌∙◌, List, ap, sym}
-use Rattle.std.proofs.lemmas.Slice.Eq.{slice_eq-Decides}
-use Rattle.std.proofs.lemmas.Bool.Decides.{Decides-eqb}
-use Rattle.ir_naming.specs.Naming.{name_text}
-use Rattle.ir_tree.specs.declared.name.Name.TheVariants.{Word}
+use Rattle.proof_text.proofs.Common.{ℕ, ◌≡◌, ◌∙◌, List, ap, sym, slice_eq-Decides, Decides-eqb, name_text, Word}
 use Rattle.proof_text.proofs.names.is_printed_word.Goals as goal
 
 pub returns : goal.returns

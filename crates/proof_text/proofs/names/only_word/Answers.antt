@@ -1,6 +1,4 @@
-use Rattle.std.proofs.Common.{ℕ, ◌∙◌, List, get_or, ap, sym, ⊎_elim}
-use Rattle.std.specs.List.{flat_map}
-use Rattle.ir_naming.specs.Naming.{escaped}
+use Rattle.proof_text.proofs.Common.{ℕ, ◌∙◌, List, get_or, ap, sym, ⊎_elim, flat_map, escaped}
 use Rattle.proof_text.proofs.Escapes.{bare_first, same_inner, word_kind}
 use Rattle.proof_text.proofs.names.only_word.Goals as goal
 

@@ -1,5 +1,4 @@
-use Rattle.std.proofs.Common.{◌<◌}
-use Rattle.std.proofs.lemmas.List.Elements.{All-push}
+use Rattle.proof_text.proofs.Common.{◌<◌, All-push}
 use Rattle.proof_text.proofs.Escapes.{goes_on, was_read}
 use Rattle.proof_text.proofs.names.unescaped.Goals as goal
 

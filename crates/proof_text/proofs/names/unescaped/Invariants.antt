@@ -1,4 +1,4 @@
-use Rattle.std.proofs.Common.{◌<◌, All, length}
+use Rattle.proof_text.proofs.Common.{◌<◌, All, length}
 use Rattle.proof_text.proofs.Escapes.{GoesOn}
 use Rattle.proof_text.proofs.names.unescaped.Given as goal
 

@@ -1,7 +1,4 @@
-use Rattle.std.proofs.Common.{subst, ◌-◌}
-use Rattle.proof_text.specs.Format.{IsClauseOver, clause_line}
-use Rattle.proof_text.specs.Following.{Clauses, Log}
-use Rattle.proof_text.specs.Words.{Parts}
+use Rattle.proof_text.proofs.Common.{subst, ◌-◌, IsClauseOver, clause_line, Clauses, Log, Parts}
 use Rattle.proof_text.proofs.Languages.{many_leads, many_missing, many_nil, some_clauses}
 use Rattle.proof_text.proofs.Moves.{moves_line, stuck_at_end, stuck_at_line}
 use Rattle.proof_text.proofs.reader.read_clause.Goals as goal

@@ -1,6 +1,4 @@
-use Rattle.std.proofs.Common.{◌≡◌, ◌-◌, All, length, map}
-use Rattle.proof_text.specs.Format.{IsClauseOver, clause_line}
-use Rattle.proof_text.specs.Following.{Clauses, Moves}
+use Rattle.proof_text.proofs.Common.{◌≡◌, ◌-◌, All, length, map, IsClauseOver, clause_line, Clauses, Moves}
 use Rattle.proof_text.proofs.reader.read_clauses.Given as goal
 
 abbrev pub invariant-loop-index : goal.invariant-loop-index

@@ -1,7 +1,4 @@
-use Rattle.std.proofs.Common.{subst}
-use Rattle.proof_text.specs.Format.{counts_line}
-use Rattle.proof_text.specs.Following.{Clauses, Counts}
-use Rattle.proof_text.specs.Words.{Parts}
+use Rattle.proof_text.proofs.Common.{subst, counts_line, Clauses, Counts, Parts}
 use Rattle.proof_text.proofs.Languages.{counts_leads, counts_missing, counts_nil, some_counts}
 use Rattle.proof_text.proofs.Moves.{moves_line, stuck_at_end, stuck_at_line}
 use Rattle.proof_text.proofs.reader.read_counts.Goals as goal

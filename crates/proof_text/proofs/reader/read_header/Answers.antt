@@ -1,7 +1,4 @@
-use Rattle.std.proofs.Common.{◌≡◌, ◌∙◌, sym, true≢false, codes}
-use Rattle.std.proofs.lemmas.Slice.Eq.{slice_eq-Decides}
-use Rattle.std.proofs.lemmas.Bool.Decides.{Decides-eqb}
-use Rattle.proof_text.specs.Following.{File}
+use Rattle.proof_text.proofs.Common.{◌≡◌, ◌∙◌, sym, true≢false, codes, slice_eq-Decides, Decides-eqb, File}
 use Rattle.proof_text.proofs.Languages.{file_missing, file_nil, some_file}
 use Rattle.proof_text.proofs.Moves.{stuck_at_end, stuck_at_line}
 use Rattle.proof_text.proofs.reader.read_header.Goals as goal

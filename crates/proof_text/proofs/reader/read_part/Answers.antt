@@ -1,8 +1,4 @@
-use Rattle.std.proofs.Common.{◌∷◌, [], ◌++◌, map}
-use Rattle.std.proofs.lemmas.Result.{err_from_is_err_and}
-use Rattle.proof_text.specs.declared.part.Part.{Part}
-use Rattle.proof_text.specs.Format.{clause_line, counts_line, log_line, row_line}
-use Rattle.proof_text.specs.Following.{Clauses, Counts, Log, Rows, Steps}
+use Rattle.proof_text.proofs.Common.{◌∷◌, [], ◌++◌, map, err_from_is_err_and, Part, clause_line, counts_line, log_line, row_line, Clauses, Counts, Log, Rows, Steps}
 use Rattle.proof_text.proofs.Languages.{clauses_within}
 use Rattle.proof_text.proofs.Moves.{moves_then, stopped_after}
 use Rattle.proof_text.proofs.Reading.{part_fits, part_moves}

@@ -1,9 +1,4 @@
-use Rattle.std.proofs.Common.{◌≡◌}
-use Rattle.std.proofs.lemmas.List.Elements.{All-push}
-use Rattle.std.proofs.lemmas.Result.{err_from_is_err_and}
-use Rattle.proof_text.specs.declared.part.Part.{Part}
-use Rattle.proof_text.specs.Format.{IsPart, proof_lines}
-use Rattle.proof_text.specs.Following.{File, Rows}
+use Rattle.proof_text.proofs.Common.{◌≡◌, All-push, err_from_is_err_and, Part, IsPart, proof_lines, File, Rows}
 use Rattle.proof_text.proofs.Moves.{stopped_after}
 use Rattle.proof_text.proofs.Reading.{parts_push}
 use Rattle.proof_text.proofs.reader.read_parts.Goals as goal

@@ -1,6 +1,4 @@
-use Rattle.std.proofs.Common.{◌≡◌, All, length}
-use Rattle.proof_text.specs.Format.{IsPart, proof_lines}
-use Rattle.proof_text.specs.Following.{File, Moves, Rows}
+use Rattle.proof_text.proofs.Common.{◌≡◌, All, length, IsPart, proof_lines, File, Moves, Rows}
 use Rattle.proof_text.proofs.reader.read_parts.Given as goal
 
 abbrev pub invariant-loop-lines : goal.invariant-loop-lines

@@ -1,7 +1,4 @@
-use Rattle.std.proofs.Common.{subst}
-use Rattle.proof_text.specs.Format.{row_line}
-use Rattle.proof_text.specs.Following.{Counts, Rows}
-use Rattle.proof_text.specs.Words.{Parts}
+use Rattle.proof_text.proofs.Common.{subst, row_line, Counts, Rows, Parts}
 use Rattle.proof_text.proofs.Languages.{row_leads, row_missing, some_rows}
 use Rattle.proof_text.proofs.Moves.{moves_line, stuck_at_line, stuck_within}
 use Rattle.proof_text.proofs.reader.read_row.Goals as goal

@@ -1,7 +1,4 @@
-use Rattle.std.proofs.Common.{subst, ◌-◌}
-use Rattle.proof_text.specs.Format.{IsStepOver, step_line}
-use Rattle.proof_text.specs.Following.{Rows, Steps}
-use Rattle.proof_text.specs.Words.{Parts}
+use Rattle.proof_text.proofs.Common.{subst, ◌-◌, IsStepOver, step_line, Rows, Steps, Parts}
 use Rattle.proof_text.proofs.Languages.{many_leads, many_missing, many_nil, some_steps}
 use Rattle.proof_text.proofs.Moves.{moves_line, stuck_at_end, stuck_at_line}
 use Rattle.proof_text.proofs.reader.read_step.Goals as goal

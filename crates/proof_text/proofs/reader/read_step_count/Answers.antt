@@ -1,7 +1,4 @@
-use Rattle.std.proofs.Common.{subst}
-use Rattle.proof_text.specs.Format.{log_line}
-use Rattle.proof_text.specs.Following.{Log, Steps}
-use Rattle.proof_text.specs.Words.{Parts}
+use Rattle.proof_text.proofs.Common.{subst, log_line, Log, Steps, Parts}
 use Rattle.proof_text.proofs.Languages.{log_leads, log_missing, log_nil, some_log}
 use Rattle.proof_text.proofs.Moves.{moves_line, stuck_at_end, stuck_at_line}
 use Rattle.proof_text.proofs.reader.read_step_count.Goals as goal

@@ -1,9 +1,4 @@
-use Rattle.std.proofs.Common.{◌≡◌, ◌-◌, ◌+◌, ◌∷◌, [], length, map, subst, ap, arith}
-use Rattle.std.proofs.lemmas.List.{length_push}
-use Rattle.std.proofs.lemmas.List.Elements.{All-push}
-use Rattle.std.proofs.lemmas.Result.{err_from_is_err_and}
-use Rattle.proof_text.specs.Format.{IsStepOver, step_line}
-use Rattle.proof_text.specs.Following.{Moves, Rows, Steps}
+use Rattle.proof_text.proofs.Common.{◌≡◌, ◌-◌, ◌+◌, ◌∷◌, [], length, map, subst, ap, arith, length_push, All-push, err_from_is_err_and, IsStepOver, step_line, Moves, Rows, Steps}
 use Rattle.proof_text.proofs.Languages.{many_done}
 use Rattle.proof_text.proofs.Moves.{moves_on, moves_push, stopped_after}
 use Rattle.proof_text.proofs.reader.read_steps.Goals as goal

@@ -1,6 +1,4 @@
-use Rattle.std.proofs.Common.{◌≡◌, ◌-◌, All, length, map}
-use Rattle.proof_text.specs.Format.{IsStepOver, step_line}
-use Rattle.proof_text.specs.Following.{Moves, Steps}
+use Rattle.proof_text.proofs.Common.{◌≡◌, ◌-◌, All, length, map, IsStepOver, step_line, Moves, Steps}
 use Rattle.proof_text.proofs.reader.read_steps.Given as goal
 
 abbrev pub invariant-loop-index : goal.invariant-loop-index

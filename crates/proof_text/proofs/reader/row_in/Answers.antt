@@ -1,7 +1,4 @@
-use Rattle.std.proofs.Common.{sym, codes, subst, ◌∙◌, true≢false}
-use Rattle.std.proofs.lemmas.Slice.Eq.{strip_prefix_is}
-use Rattle.std.proofs.lemmas.Bool.Decides.{Decides-eqb}
-use Rattle.proof_text.specs.Format.{IsPrintedName}
+use Rattle.proof_text.proofs.Common.{sym, codes, subst, ◌∙◌, true≢false, strip_prefix_is, Decides-eqb, IsPrintedName}
 use Rattle.proof_text.proofs.Languages.{same_name}
 use Rattle.proof_text.proofs.reader.row_in.Goals as goal
 

@@ -1,6 +1,4 @@
-use Rattle.std.proofs.Common.{codes}
-use Rattle.std.proofs.lemmas.Slice.Eq.{strip_suffix_is}
-use Rattle.std.proofs.lemmas.Bool.Decides.{Decides-eqb}
+use Rattle.proof_text.proofs.Common.{codes, strip_suffix_is, Decides-eqb}
 use Rattle.proof_text.proofs.reader.split_status.Goals as goal
 
 pub returns-in-Some-clause-some : goal.returns-in-Some-clause-some

@@ -1,6 +1,4 @@
-use Rattle.std.proofs.Common.{sym, ◌∙◌, true≢false, ⊎_elim}
-use Rattle.std.proofs.lemmas.Slice.Eq.{slice_eq-Decides}
-use Rattle.std.proofs.lemmas.Bool.Decides.{Decides-eqb}
+use Rattle.proof_text.proofs.Common.{sym, ◌∙◌, true≢false, ⊎_elim, slice_eq-Decides, Decides-eqb}
 use Rattle.proof_text.proofs.Chains.{chain_end, chain_missing, chain_step, next_number}
 use Rattle.proof_text.proofs.words.chain_in.Goals as goal
 

@@ -1,4 +1,4 @@
-use Rattle.std.proofs.Common.{length}
+use Rattle.proof_text.proofs.Common.{length}
 use Rattle.proof_text.proofs.Chains.{ChainRead}
 use Rattle.proof_text.proofs.words.chain_in.Given as goal
 

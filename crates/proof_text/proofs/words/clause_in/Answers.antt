@@ -1,7 +1,4 @@
-use Rattle.std.proofs.Common.{subst, sym, ◌∙◌, true≢false}
-use Rattle.std.proofs.lemmas.Slice.Eq.{slice_eq-Decides}
-use Rattle.std.proofs.lemmas.Bool.Decides.{Decides-eqb}
-use Rattle.proof_text.specs.Format.{IsClauseOver}
+use Rattle.proof_text.proofs.Common.{subst, sym, ◌∙◌, true≢false, slice_eq-Decides, Decides-eqb, IsClauseOver}
 use Rattle.proof_text.proofs.Clauses.{clause_end, clause_step, next_literal}
 use Rattle.proof_text.proofs.words.clause_in.Goals.{else-eq-via-then-eq+else-is_clause_over, else-eq-via-else-eq}
 use Rattle.proof_text.proofs.words.clause_in.Goals as goal

@@ -1,4 +1,4 @@
-use Rattle.std.proofs.Common.{length}
+use Rattle.proof_text.proofs.Common.{length}
 use Rattle.proof_text.proofs.Clauses.{ClauseRead}
 use Rattle.proof_text.proofs.words.clause_in.Given as goal
 

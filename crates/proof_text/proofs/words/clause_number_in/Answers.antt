@@ -1,5 +1,4 @@
-use Rattle.std.proofs.Common.{sym, ◌∙◌, arith}
-use Rattle.std.proofs.lemmas.Fmt.{decimal_injective}
+use Rattle.proof_text.proofs.Common.{sym, ◌∙◌, arith, decimal_injective}
 use Rattle.proof_text.proofs.words.clause_number_in.Goals as goal
 
 pub returns-else-number-gt0 : goal.returns-else-number-gt0

@@ -1,6 +1,4 @@
-use Rattle.std.proofs.Common.{codes}
-use Rattle.std.proofs.lemmas.Slice.Eq.{strip_prefix_is}
-use Rattle.std.proofs.lemmas.Bool.Decides.{Decides-eqb}
+use Rattle.proof_text.proofs.Common.{codes, strip_prefix_is, Decides-eqb}
 use Rattle.proof_text.proofs.Languages.{counts_parts}
 use Rattle.proof_text.proofs.words.counts_in.Goals as goal
 

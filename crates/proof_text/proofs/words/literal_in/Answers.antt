@@ -1,5 +1,4 @@
-use Rattle.std.proofs.Common.{rules, ◌≡◌, ◌∙◌, get_or}
-use Rattle.std.proofs.lemmas.List.{take_rest}
+use Rattle.proof_text.proofs.Common.{rules, ◌≡◌, ◌∙◌, get_or, take_rest}
 use Rattle.proof_text.proofs.Clauses.{minus_off}
 use Rattle.proof_text.proofs.words.literal_in.Goals as goal
 

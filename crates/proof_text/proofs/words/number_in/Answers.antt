@@ -1,5 +1,4 @@
-use Rattle.std.proofs.Common.{◌≡◌, subst, arith, sym, ◌∙◌, true≢false}
-use Rattle.proof_text.specs.Format.{IsPrintedNumber}
+use Rattle.proof_text.proofs.Common.{◌≡◌, subst, arith, sym, ◌∙◌, true≢false, IsPrintedNumber}
 use Rattle.proof_text.proofs.Numbers.{found, no_utf8, parsed, parsed_decimal, printed_decimal, utf8_printed}
 use Rattle.proof_text.proofs.words.number_in.Goals as goal
 

@@ -1,5 +1,4 @@
-use Rattle.std.proofs.Common.{sym, ◌∙◌}
-use Rattle.proof_text.specs.Format.{clause_line}
+use Rattle.proof_text.proofs.Common.{sym, ◌∙◌, clause_line}
 use Rattle.proof_text.proofs.Chains.{same_chain}
 use Rattle.proof_text.proofs.words.step_in.Goals as goal
 

@@ -1,7 +1,4 @@
-use Rattle.std.proofs.Common.{◌≡◌, ◌++◌, take}
-use Rattle.std.specs.Fmt.{decimal}
-use Rattle.std.specs.List.{flat_map}
-use Rattle.proof_text.specs.Format.{spaced}
+use Rattle.proof_text.proofs.Common.{◌≡◌, ◌++◌, take, decimal, flat_map, spaced}
 use Rattle.proof_text.proofs.writer.push_chain.Given as goal
 
 abbrev pub invariant-loop-number : goal.invariant-loop-number

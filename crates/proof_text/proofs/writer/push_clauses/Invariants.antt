@@ -1,5 +1,4 @@
-use Rattle.std.proofs.Common.{◌≡◌, ◌++◌, map, take}
-use Rattle.proof_text.specs.Format.{clause_line, ended}
+use Rattle.proof_text.proofs.Common.{◌≡◌, ◌++◌, map, take, clause_line, ended}
 use Rattle.proof_text.proofs.writer.push_clauses.Given as goal
 
 abbrev pub invariant-loop-clause : goal.invariant-loop-clause

@@ -1,6 +1,4 @@
-use Rattle.std.proofs.Common.{◌≡◌, ◌++◌, take}
-use Rattle.std.specs.List.{flat_map}
-use Rattle.proof_text.specs.Format.{literal_text, spaced}
+use Rattle.proof_text.proofs.Common.{◌≡◌, ◌++◌, take, flat_map, literal_text, spaced}
 use Rattle.proof_text.proofs.writer.push_literals.Given as goal
 
 abbrev pub invariant-loop-literal : goal.invariant-loop-literal

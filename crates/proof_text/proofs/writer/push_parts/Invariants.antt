@@ -1,5 +1,4 @@
-use Rattle.std.proofs.Common.{take}
-use Rattle.proof_text.specs.Format.{IsProof}
+use Rattle.proof_text.proofs.Common.{take, IsProof}
 use Rattle.proof_text.proofs.writer.push_parts.Given as goal
 
 abbrev pub invariant-loop-part : goal.invariant-loop-part

@@ -1,5 +1,4 @@
-use Rattle.std.proofs.Common.{◌≡◌, ◌++◌, map, take}
-use Rattle.proof_text.specs.Format.{ended, step_line}
+use Rattle.proof_text.proofs.Common.{◌≡◌, ◌++◌, map, take, ended, step_line}
 use Rattle.proof_text.proofs.writer.push_steps.Given as goal
 
 abbrev pub invariant-loop-step : goal.invariant-loop-step

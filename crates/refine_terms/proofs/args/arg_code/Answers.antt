@@ -1,5 +1,4 @@
-use Rattle.std.proofs.Common.{subst}
-use Rattle.mem_terms.specs.Inputs.{IsArg}
+use Rattle.refine_terms.proofs.Common.{subst, IsArg}
 use Rattle.refine_terms.proofs.ArgNumbers.{ptr_decides}
 use Rattle.refine_terms.proofs.args.arg_code.Goals as goal
 

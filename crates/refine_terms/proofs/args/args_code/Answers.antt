@@ -1,8 +1,4 @@
-use Rattle.std.proofs.Common.{arith, drop}
-use Rattle.std.specs.List.{flat_map}
-use Rattle.points.specs.Codes.{IsCodeOfArgs}
-use Rattle.mem_terms.proofs.Later.{arg-later, keeps_trans}
-use Rattle.refine_terms.specs.Numbers.{arg_numbers}
+use Rattle.refine_terms.proofs.Common.{arith, drop, flat_map, IsCodeOfArgs, arg-later, keeps_trans, arg_numbers}
 use Rattle.refine_terms.proofs.Deciders.{row_ends}
 use Rattle.refine_terms.proofs.ArgNumbers.{arg_is, arg_row, args_count, args_end, no_arg}
 use Rattle.refine_terms.proofs.args.args_code.Goals as goal

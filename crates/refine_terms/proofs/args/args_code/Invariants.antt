@@ -1,9 +1,5 @@
 -- What is left of the arguments, and the test of those so far, say the whole.
-use Rattle.std.proofs.Common.{ℕ, ◌≡◌, ◌↔◌, true, drop}
-use Rattle.std.specs.List.{flat_map}
-use Rattle.points.specs.Codes.{IsCodeOfArgs}
-use Rattle.bv_terms.specs.Trees.{IsTerm, Keeps, bit_at}
-use Rattle.refine_terms.specs.Numbers.{arg_numbers}
+use Rattle.refine_terms.proofs.Common.{ℕ, ◌≡◌, ◌↔◌, true, drop, flat_map, IsCodeOfArgs, IsTerm, Keeps, bit_at, arg_numbers}
 use Rattle.refine_terms.proofs.args.args_code.Given as goal
 
 abbrev pub invariant-loop-i : goal.invariant-loop-i

@@ -1,8 +1,4 @@
-use Rattle.std.proofs.Common.{◌≤◌, drop}
-use Rattle.bv_terms.specs.Trees.{term_at}
-use Rattle.mem_terms.specs.Values.{Each}
-use Rattle.mem_terms.proofs.Later.{keeps_trans, is_term-later}
-use Rattle.refine_terms.specs.Deciding.{IsNarrow}
+use Rattle.refine_terms.proofs.Common.{◌≤◌, drop, term_at, Each, keeps_trans, is_term-later, IsNarrow}
 use Rattle.refine_terms.proofs.Deciders.{row_starts, row_ends}
 use Rattle.refine_terms.proofs.Rows.{each_get, each_end, narrow-later, most_row}
 use Rattle.refine_terms.proofs.comparing.all_at_most.Goals as goal

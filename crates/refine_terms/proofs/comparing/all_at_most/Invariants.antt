@@ -1,6 +1,4 @@
-use Rattle.std.proofs.Common.{ℕ, ◌≡◌, ◌≤◌, ◌↔◌, true, drop}
-use Rattle.bv_terms.specs.Trees.{IsTerm, Keeps, bit_at, term_at}
-use Rattle.mem_terms.specs.Values.{Each}
+use Rattle.refine_terms.proofs.Common.{ℕ, ◌≡◌, ◌≤◌, ◌↔◌, true, drop, IsTerm, Keeps, bit_at, term_at, Each}
 use Rattle.refine_terms.proofs.comparing.all_at_most.Given as goal
 
 abbrev pub invariant-loop-a : goal.invariant-loop-a

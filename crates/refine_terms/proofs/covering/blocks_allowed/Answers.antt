@@ -1,8 +1,4 @@
-use Rattle.std.proofs.Common.{◌<◌, length, arith}
-use Rattle.mem_terms.specs.Memory.{IsSymBlock}
-use Rattle.mem_terms.proofs.Eaches.{each-at}
-use Rattle.mem_terms.proofs.GivenTerms.{frame-at, frames-alike}
-use Rattle.mem_terms.proofs.Later.{keeps_trans, sym_block-later}
+use Rattle.refine_terms.proofs.Common.{◌<◌, length, arith, IsSymBlock, each-at, frame-at, frames-alike, keeps_trans, sym_block-later}
 use Rattle.refine_terms.proofs.MemoryTests.{block_row, blocks_end}
 use Rattle.refine_terms.proofs.covering.blocks_allowed.Goals as goal
 

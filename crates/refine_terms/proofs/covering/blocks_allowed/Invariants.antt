@@ -1,6 +1,5 @@
 -- What is left of the blocks, and the test of those so far, say the whole.
-use Rattle.std.proofs.Common.{ℕ, ◌≡◌, ◌&&◌}
-use Rattle.bv_terms.specs.Trees.{IsTerm, Keeps, bit_at}
+use Rattle.refine_terms.proofs.Common.{ℕ, ◌≡◌, ◌&&◌, IsTerm, Keeps, bit_at}
 use Rattle.refine_terms.proofs.MemoryTests.{all_blocks_pass, blocks_pass}
 use Rattle.refine_terms.proofs.covering.blocks_allowed.Given as goal
 

@@ -1,4 +1,4 @@
-use Rattle.std.proofs.Common.{◌∙◌, sym}
+use Rattle.refine_terms.proofs.Common.{◌∙◌, sym}
 use Rattle.refine_terms.proofs.MemoryTests.{byte_is_same, terms_same}
 use Rattle.refine_terms.proofs.covering.byte_allowed.Goals as goal
 

@@ -1,6 +1,4 @@
-use Rattle.std.proofs.Common.{length}
-use Rattle.mem_terms.proofs.Later.{keeps_trans}
-use Rattle.mem_terms.proofs.SymBytes.{keeps_five}
+use Rattle.refine_terms.proofs.Common.{length, keeps_trans, keeps_five}
 use Rattle.refine_terms.proofs.MemoryTests.{covered_tests}
 use Rattle.refine_terms.proofs.covering.covered.Goals as goal
 

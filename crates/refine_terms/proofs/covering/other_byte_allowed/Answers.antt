@@ -1,4 +1,4 @@
-use Rattle.mem_terms.proofs.SymBytes.{keeps_five}
+use Rattle.refine_terms.proofs.Common.{keeps_five}
 use Rattle.refine_terms.proofs.ValueTests.{byte_tests}
 use Rattle.refine_terms.proofs.covering.other_byte_allowed.Goals as goal
 

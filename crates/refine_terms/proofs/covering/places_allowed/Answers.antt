@@ -1,6 +1,4 @@
-use Rattle.std.proofs.Common.{◌<◌, length, arith}
-use Rattle.mem_terms.proofs.Later.{keeps_trans}
-use Rattle.mem_terms.proofs.SymBytes.{keeps_five}
+use Rattle.refine_terms.proofs.Common.{◌<◌, length, arith, keeps_trans, keeps_five}
 use Rattle.refine_terms.proofs.MemoryTests.{no_sym_byte, place_row, places_end}
 use Rattle.refine_terms.proofs.covering.places_allowed.Goals as goal
 

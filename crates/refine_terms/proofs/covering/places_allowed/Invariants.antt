@@ -1,6 +1,5 @@
 -- What is left of the contents, and the test of those so far, say the whole.
-use Rattle.std.proofs.Common.{ℕ, ◌≡◌, ◌&&◌}
-use Rattle.bv_terms.specs.Trees.{IsTerm, Keeps, bit_at}
+use Rattle.refine_terms.proofs.Common.{ℕ, ◌≡◌, ◌&&◌, IsTerm, Keeps, bit_at}
 use Rattle.refine_terms.proofs.MemoryTests.{all_pass, places_pass}
 use Rattle.refine_terms.proofs.covering.places_allowed.Given as goal
 

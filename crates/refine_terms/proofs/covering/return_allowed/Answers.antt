@@ -1,4 +1,4 @@
-use Rattle.mem_terms.proofs.Later.{always_each-later, sym_blocks-later}
+use Rattle.refine_terms.proofs.Common.{always_each-later, sym_blocks-later}
 use Rattle.refine_terms.proofs.MemoryTests.{return_tests}
 use Rattle.refine_terms.proofs.covering.return_allowed.Goals as goal
 

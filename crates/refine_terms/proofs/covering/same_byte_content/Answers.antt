@@ -1,5 +1,4 @@
-use Rattle.std.proofs.Common.{ap, ◌∙◌}
-use Rattle.bv_terms.specs.Tree.{width_of}
+use Rattle.refine_terms.proofs.Common.{ap, ◌∙◌, width_of}
 use Rattle.refine_terms.proofs.ValueTests.{content_tests}
 use Rattle.refine_terms.proofs.covering.same_byte_content.Goals as goal
 

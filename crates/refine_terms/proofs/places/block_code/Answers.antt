@@ -1,9 +1,4 @@
-use Rattle.std.proofs.Common.{◌-◌, length, drop}
-use Rattle.points.specs.Codes.{IsCodeOfPlaces}
-use Rattle.bv_terms.specs.Trees.{term_at}
-use Rattle.mem_terms.proofs.Later.{byte_terms-later, keeps_trans, is_term-later}
-use Rattle.mem_terms.specs.Inputs.{IsByteTerms}
-use Rattle.refine_terms.specs.Numbers.{block_numbers}
+use Rattle.refine_terms.proofs.Common.{◌-◌, length, drop, IsCodeOfPlaces, term_at, byte_terms-later, keeps_trans, is_term-later, IsByteTerms, block_numbers}
 use Rattle.refine_terms.proofs.Deciders.{row_ends}
 use Rattle.refine_terms.proofs.Rows.{each_get, narrow-later, no_byte, place_row, places_start, places_end}
 use Rattle.refine_terms.proofs.places.block_code.Goals as goal

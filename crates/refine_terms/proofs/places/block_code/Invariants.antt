@@ -1,7 +1,4 @@
-use Rattle.std.proofs.Common.{ℕ, ◌≡◌, ◌↔◌, ◌-◌, true, drop, length}
-use Rattle.points.specs.Codes.{IsCodeOfPlaces}
-use Rattle.bv_terms.specs.Trees.{IsTerm, Keeps, bit_at, term_at}
-use Rattle.refine_terms.specs.Numbers.{block_numbers}
+use Rattle.refine_terms.proofs.Common.{ℕ, ◌≡◌, ◌↔◌, ◌-◌, true, drop, length, IsCodeOfPlaces, IsTerm, Keeps, bit_at, term_at, block_numbers}
 use Rattle.refine_terms.proofs.places.block_code.Given as goal
 
 abbrev pub invariant-loop-i : goal.invariant-loop-i

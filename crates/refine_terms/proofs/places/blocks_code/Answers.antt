@@ -1,12 +1,4 @@
-use Rattle.std.proofs.Common.{◌<◌, length, drop, map, arith}
-use Rattle.std.specs.List.{flat_map}
-use Rattle.points.specs.Codes.{IsCodeOfBlocks}
-use Rattle.bv_terms.specs.Trees.{term_at}
-use Rattle.mem_terms.proofs.Eaches.{each-at}
-use Rattle.mem_terms.proofs.Later.{block_terms-later, keeps_trans, is_term-later}
-use Rattle.refine_terms.specs.Deciding.{IsNarrow}
-use Rattle.mem_terms.specs.Inputs.{IsBlockTerms}
-use Rattle.refine_terms.specs.Numbers.{block_numbers}
+use Rattle.refine_terms.proofs.Common.{◌<◌, length, drop, map, arith, flat_map, IsCodeOfBlocks, term_at, each-at, block_terms-later, keeps_trans, is_term-later, IsNarrow, IsBlockTerms, block_numbers}
 use Rattle.refine_terms.proofs.Deciders.{row_starts, row_ends}
 use Rattle.refine_terms.proofs.Rows.{each_get, narrow-later, block_row, blocks_end}
 use Rattle.refine_terms.proofs.places.blocks_code.Goals as goal

@@ -1,8 +1,4 @@
-use Rattle.std.proofs.Common.{ℕ, ◌≡◌, ◌↔◌, true, drop, map}
-use Rattle.std.specs.List.{flat_map}
-use Rattle.points.specs.Codes.{IsCodeOfBlocks}
-use Rattle.bv_terms.specs.Trees.{IsTerm, Keeps, bit_at, term_at}
-use Rattle.refine_terms.specs.Numbers.{block_numbers}
+use Rattle.refine_terms.proofs.Common.{ℕ, ◌≡◌, ◌↔◌, true, drop, map, flat_map, IsCodeOfBlocks, IsTerm, Keeps, bit_at, term_at, block_numbers}
 use Rattle.refine_terms.proofs.places.blocks_code.Given as goal
 
 abbrev pub invariant-loop-i : goal.invariant-loop-i

@@ -1,5 +1,4 @@
-use Rattle.std.proofs.Common.{arith}
-use Rattle.mem_terms.proofs.Later.{keeps_trans}
+use Rattle.refine_terms.proofs.Common.{arith, keeps_trans}
 use Rattle.refine_terms.proofs.PointChains.{are_narrow, are_blocks, code_decides}
 use Rattle.refine_terms.proofs.point.code.Goals as goal
 

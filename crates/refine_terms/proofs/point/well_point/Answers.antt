@@ -1,5 +1,4 @@
-use Rattle.points.specs.Codes.{IsCode}
-use Rattle.refine_terms.specs.Numbers.{numbers_at}
+use Rattle.refine_terms.proofs.Common.{IsCode, numbers_at}
 use Rattle.refine_terms.proofs.PointChains.{code_and_plain}
 use Rattle.refine_terms.proofs.point.well_point.Goals as goal
 

@@ -1,6 +1,4 @@
-use Rattle.std.proofs.Common.{drop, map}
-use Rattle.ir_tree.specs.declared.tree.GepIndex.{GepIndex}
-use Rattle.register_slots.specs.Allocation.{AreReadHeld}
+use Rattle.register_slots.proofs.Common.{drop, map, GepIndex, AreReadHeld}
 use Rattle.register_slots.proofs.checking.are_indices_held.Given as goal
 
 abbrev pub invariant-loop-index : goal.invariant-loop-index

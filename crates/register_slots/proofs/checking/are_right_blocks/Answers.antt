@@ -1,6 +1,5 @@
-use Rattle.std.proofs.Common.{arith}
+use Rattle.register_slots.proofs.Common.{arith, slice_get_within}
 use borrow.Author.Count.{below_more}
-use Rattle.std.proofs.lemmas.Option.{slice_get_within}
 use Rattle.register_slots.proofs.checking.are_right_blocks.Goals as goal
 
 pub loop-at-preserved : goal.loop-at-preserved

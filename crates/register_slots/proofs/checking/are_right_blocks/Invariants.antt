@@ -1,7 +1,5 @@
-use Rattle.std.proofs.Common.{◌≡◌, ◌<◌, ℕ, [], Some, slice_get}
-use Rattle.std.specs.Prelude.{slice_index_or}
-use Rattle.ir_tree.specs.declared.tree.Block.{Block}
-use Rattle.register_slots.specs.Allocation.{IsRightBlock}
+use Rattle.register_slots.proofs.Common.{◌≡◌, ◌<◌, ℕ, [], Some, slice_index_or, Block, IsRightBlock}
+use Rattle.std.proofs.Common.{slice_get}
 use Rattle.register_slots.proofs.checking.are_right_blocks.Given as goal
 
 abbrev pub invariant-loop-at : goal.invariant-loop-at

@@ -1,5 +1,4 @@
-use Rattle.std.proofs.Common.{List, Option, ℕ, drop, ◌+◌, sym, ap, subst, ◌∙◌, arith}
-use Rattle.register_slots.specs.Allocation.{AreRightInsts, held_after}
+use Rattle.register_slots.proofs.Common.{List, Option, ℕ, drop, ◌+◌, sym, ap, subst, ◌∙◌, arith, AreRightInsts, held_after}
 use Rattle.register_slots.proofs.RightParts.{inst_joins, held_joins, insts_end, held_end}
 use Rattle.register_slots.proofs.checking.are_right_insts.Goals as goal
 

@@ -1,5 +1,4 @@
-use Rattle.std.proofs.Common.{◌≡◌, drop}
-use Rattle.register_slots.specs.Allocation.{AreRightInsts, held_after}
+use Rattle.register_slots.proofs.Common.{◌≡◌, drop, AreRightInsts, held_after}
 use Rattle.register_slots.proofs.checking.are_right_insts.Given as goal
 
 abbrev pub invariant-loop-inst : goal.invariant-loop-inst

@@ -1,6 +1,4 @@
-use Rattle.std.proofs.Common.{ℕ}
-use Rattle.ir_tree.specs.Flow.{block_of}
-use Rattle.register_slots.specs.Allocation.{IsRightJump}
+use Rattle.register_slots.proofs.Common.{ℕ, block_of, IsRightJump}
 use Rattle.register_slots.proofs.RightParts.{one_more}
 use Rattle.register_slots.proofs.checking.are_right_jumps.Goals as goal
 

@@ -1,7 +1,4 @@
-use Rattle.std.specs.List.{AllByRecursion}
-use Rattle.std.proofs.Common.{ℕ, drop}
-use Rattle.ir_tree.specs.Flow.{block_of}
-use Rattle.register_slots.specs.Allocation.{IsRightJump}
+use Rattle.register_slots.proofs.Common.{AllByRecursion, ℕ, drop, block_of, IsRightJump}
 use Rattle.register_slots.proofs.checking.are_right_jumps.Given as goal
 
 abbrev pub invariant-loop-label : goal.invariant-loop-label

@@ -1,6 +1,4 @@
-use Rattle.std.specs.List.{AllByRecursion}
-use Rattle.std.proofs.Common.{drop}
-use Rattle.register_slots.specs.Allocation.{HasSlot}
+use Rattle.register_slots.proofs.Common.{AllByRecursion, drop, HasSlot}
 use Rattle.register_slots.proofs.checking.have_slots.Given as goal
 
 abbrev pub invariant-loop-name : goal.invariant-loop-name

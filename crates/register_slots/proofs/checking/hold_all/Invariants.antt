@@ -1,5 +1,4 @@
-use Rattle.std.proofs.Common.{◌≡◌, drop}
-use Rattle.register_slots.specs.Allocation.{holding}
+use Rattle.register_slots.proofs.Common.{◌≡◌, drop, holding}
 use Rattle.register_slots.proofs.checking.hold_all.Given as goal
 
 abbrev pub invariant-loop-name : goal.invariant-loop-name

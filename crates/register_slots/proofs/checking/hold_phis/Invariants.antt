@@ -1,6 +1,4 @@
-use Rattle.std.proofs.Common.{◌≡◌, drop, map}
-use Rattle.ir_tree.specs.declared.tree.Phi.{Phi}
-use Rattle.register_slots.specs.Allocation.{holding}
+use Rattle.register_slots.proofs.Common.{◌≡◌, drop, map, Phi, holding}
 use Rattle.register_slots.proofs.checking.hold_phis.Given as goal
 
 abbrev pub invariant-loop-phi : goal.invariant-loop-phi

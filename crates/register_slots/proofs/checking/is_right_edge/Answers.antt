@@ -1,7 +1,4 @@
-use Rattle.std.proofs.Common.{◌≡◌, ℕ, List, Option, map, ap, subst, ◌∙◌}
-use Rattle.std.specs.List.{AllByRecursion}
-use Rattle.ir_tree.specs.declared.tree.Phi.{Phi}
-use Rattle.register_slots.specs.Allocation.{IsHeld, holding}
+use Rattle.register_slots.proofs.Common.{◌≡◌, ℕ, List, Option, map, ap, subst, ◌∙◌, AllByRecursion, Phi, IsHeld, holding}
 use Rattle.register_slots.proofs.PhiLemmas.{right_phis}
 use Rattle.register_slots.proofs.checking.is_right_edge.Goals as goal
 

@@ -1,5 +1,4 @@
-use Rattle.std.proofs.Common.{◌≡◌, ◌++◌, drop, map}
-use Rattle.ir_tree.specs.declared.tree.Parameter.{Parameter}
+use Rattle.register_slots.proofs.Common.{◌≡◌, ◌++◌, drop, map, Parameter}
 use Rattle.register_slots.proofs.checking.names_of.Given as goal
 
 abbrev pub invariant-loop-parameter : goal.invariant-loop-parameter

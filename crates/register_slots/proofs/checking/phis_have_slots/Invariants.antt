@@ -1,7 +1,4 @@
-use Rattle.std.proofs.Common.{drop}
-use Rattle.std.specs.List.{AllByRecursion}
-use Rattle.ir_tree.specs.declared.tree.Phi.{Phi}
-use Rattle.register_slots.specs.Allocation.{HasSlot}
+use Rattle.register_slots.proofs.Common.{drop, AllByRecursion, Phi, HasSlot}
 use Rattle.register_slots.proofs.checking.phis_have_slots.Given as goal
 
 abbrev pub invariant-loop-phi : goal.invariant-loop-phi

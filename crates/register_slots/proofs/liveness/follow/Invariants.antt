@@ -1,4 +1,4 @@
-use Rattle.std.proofs.Common.{◌+◌, vec_len}
+use Rattle.register_slots.proofs.Common.{◌+◌, vec_len}
 use Rattle.register_slots.proofs.liveness.follow.Given as goal
 
 abbrev pub decreases-loop-block : goal.decreases-loop-block

@@ -1,4 +1,4 @@
-use Rattle.register_slots.specs.PhiReads.{IsEntryNoted}
+use Rattle.register_slots.proofs.Common.{IsEntryNoted}
 use Rattle.register_slots.proofs.PhiLemmas.{entry_later, note_more, all_end}
 use Rattle.register_slots.proofs.phi_reads.note_entries.Goals as goal
 

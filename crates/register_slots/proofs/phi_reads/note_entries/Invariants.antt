@@ -1,6 +1,4 @@
-use Rattle.std.proofs.Common.{ℕ, List, drop}
-use Rattle.std.specs.List.{AllByRecursion}
-use Rattle.register_slots.specs.PhiReads.{Grows, IsEntryNoted}
+use Rattle.register_slots.proofs.Common.{ℕ, List, drop, AllByRecursion, Grows, IsEntryNoted}
 use Rattle.register_slots.proofs.phi_reads.note_entries.Given as goal
 
 abbrev pub invariant-loop-entry : goal.invariant-loop-entry

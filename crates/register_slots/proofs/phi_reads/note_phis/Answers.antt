@@ -1,8 +1,4 @@
-use Rattle.std.proofs.Common.{List, subst}
-use Rattle.std.specs.List.{AllByRecursion}
-use Rattle.ir_tree.specs.declared.tree.Phi.{Phi}
-use Rattle.ir_tree.specs.declared.tree.PhiEntry.{PhiEntry}
-use Rattle.register_slots.specs.PhiReads.{IsEntryNoted, IsPhiNoted}
+use Rattle.register_slots.proofs.Common.{List, subst, AllByRecursion, Phi, PhiEntry, IsEntryNoted, IsPhiNoted}
 use Rattle.register_slots.proofs.PhiLemmas.{phi_later, note_more, all_end}
 use Rattle.register_slots.proofs.phi_reads.note_phis.Goals as goal
 

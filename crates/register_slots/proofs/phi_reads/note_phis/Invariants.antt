@@ -1,6 +1,4 @@
-use Rattle.std.proofs.Common.{ℕ, List, drop}
-use Rattle.std.specs.List.{AllByRecursion}
-use Rattle.register_slots.specs.PhiReads.{Grows, IsPhiNoted}
+use Rattle.register_slots.proofs.Common.{ℕ, List, drop, AllByRecursion, Grows, IsPhiNoted}
 use Rattle.register_slots.proofs.phi_reads.note_phis.Given as goal
 
 abbrev pub invariant-loop-phi : goal.invariant-loop-phi

@@ -1,8 +1,4 @@
-use Rattle.std.proofs.Common.{List, subst}
-use Rattle.std.specs.List.{AllByRecursion}
-use Rattle.ir_tree.specs.declared.tree.Phi.{Phi}
-use Rattle.ir_tree.specs.declared.tree.Block.{Block}
-use Rattle.register_slots.specs.PhiReads.{IsPhiNoted, IsBlockNoted}
+use Rattle.register_slots.proofs.Common.{List, subst, AllByRecursion, Phi, Block, IsPhiNoted, IsBlockNoted}
 use Rattle.register_slots.proofs.PhiLemmas.{block_later, note_more, all_end}
 use Rattle.register_slots.proofs.phi_reads.phi_reads.Goals as goal
 

@@ -1,6 +1,4 @@
-use Rattle.std.proofs.Common.{ℕ, List, drop}
-use Rattle.std.specs.List.{AllByRecursion}
-use Rattle.register_slots.specs.PhiReads.{Grows, IsBlockNoted}
+use Rattle.register_slots.proofs.Common.{ℕ, List, drop, AllByRecursion, Grows, IsBlockNoted}
 use Rattle.register_slots.proofs.phi_reads.phi_reads.Given as goal
 
 abbrev pub invariant-loop-block : goal.invariant-loop-block

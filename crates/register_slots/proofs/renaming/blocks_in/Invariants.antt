@@ -1,5 +1,4 @@
-use Rattle.std.proofs.Common.{◌≡◌, ◌++◌, map, drop}
-use Rattle.register_slots.specs.Renaming.{block_in}
+use Rattle.register_slots.proofs.Common.{◌≡◌, ◌++◌, map, drop, block_in}
 use Rattle.register_slots.proofs.renaming.blocks_in.Given as goal
 
 abbrev pub invariant-loop-block : goal.invariant-loop-block

@@ -1,5 +1,4 @@
-use Rattle.std.proofs.Common.{◌≡◌, ◌++◌, map, drop}
-use Rattle.register_slots.specs.Renaming.{entry_in}
+use Rattle.register_slots.proofs.Common.{◌≡◌, ◌++◌, map, drop, entry_in}
 use Rattle.register_slots.proofs.renaming.entries_in.Given as goal
 
 abbrev pub invariant-loop-entry : goal.invariant-loop-entry

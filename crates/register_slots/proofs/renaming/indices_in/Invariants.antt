@@ -1,5 +1,4 @@
-use Rattle.std.proofs.Common.{◌≡◌, ◌++◌, map, drop}
-use Rattle.register_slots.specs.Renaming.{index_in}
+use Rattle.register_slots.proofs.Common.{◌≡◌, ◌++◌, map, drop, index_in}
 use Rattle.register_slots.proofs.renaming.indices_in.Given as goal
 
 abbrev pub invariant-loop-index : goal.invariant-loop-index

@@ -1,5 +1,4 @@
-use Rattle.std.proofs.Common.{◌≡◌, ◌++◌, map, drop}
-use Rattle.register_slots.specs.Renaming.{inst_in}
+use Rattle.register_slots.proofs.Common.{◌≡◌, ◌++◌, map, drop, inst_in}
 use Rattle.register_slots.proofs.renaming.insts_in.Given as goal
 
 abbrev pub invariant-loop-inst : goal.invariant-loop-inst

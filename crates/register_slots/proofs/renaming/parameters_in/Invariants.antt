@@ -1,5 +1,4 @@
-use Rattle.std.proofs.Common.{◌≡◌, ◌++◌, map, drop}
-use Rattle.register_slots.specs.Renaming.{parameter_in}
+use Rattle.register_slots.proofs.Common.{◌≡◌, ◌++◌, map, drop, parameter_in}
 use Rattle.register_slots.proofs.renaming.parameters_in.Given as goal
 
 abbrev pub invariant-loop-parameter : goal.invariant-loop-parameter

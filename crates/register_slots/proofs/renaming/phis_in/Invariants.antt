@@ -1,5 +1,4 @@
-use Rattle.std.proofs.Common.{◌≡◌, ◌++◌, map, drop}
-use Rattle.register_slots.specs.Renaming.{phi_in}
+use Rattle.register_slots.proofs.Common.{◌≡◌, ◌++◌, map, drop, phi_in}
 use Rattle.register_slots.proofs.renaming.phis_in.Given as goal
 
 abbrev pub invariant-loop-phi : goal.invariant-loop-phi

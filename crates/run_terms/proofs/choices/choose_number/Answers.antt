@@ -1,6 +1,4 @@
-use Rattle.std.proofs.Common.{◌∙◌, ap, refl}
-use Rattle.points.specs.Run.{is_poison}
-use Rattle.mem_terms.proofs.Later.{keeps_trans}
+use Rattle.run_terms.proofs.Common.{◌∙◌, ap, refl, is_poison, keeps_trans}
 use Rattle.run_terms.specs.Runs.{sight}
 use Rattle.run_terms.proofs.Lasting.{counts-later}
 use Rattle.run_terms.proofs.Taking.{choice_taken, number_value}

@@ -1,5 +1,4 @@
-use Rattle.std.proofs.Common.{◌+◌, ◌<◌, refl, arith}
-use Rattle.mem_terms.proofs.Later.{keeps_trans}
+use Rattle.run_terms.proofs.Common.{◌+◌, ◌<◌, refl, arith, keeps_trans}
 use Rattle.run_terms.proofs.Taking.{pointer_stays, pointer_takes}
 use Rattle.run_terms.proofs.choices.choose_pointer.Goals as goal
 

@@ -1,5 +1,4 @@
-use Rattle.std.proofs.Common.{◌≤◌, length, arith}
-use Rattle.std.proofs.lemmas.Option.{slice_get_past}
+use Rattle.run_terms.proofs.Common.{◌≤◌, length, arith, slice_get_past}
 use Rattle.run_terms.proofs.Moving.{placed_at, placed_blockless}
 use Rattle.run_terms.proofs.edges.block_ahead.Goals as goal
 

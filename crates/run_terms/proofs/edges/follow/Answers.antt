@@ -1,4 +1,4 @@
-use Rattle.points.specs.declared.outcome.Outcome.TheVariants.{Ub, Beyond}
+use Rattle.run_terms.proofs.Common.{Ub, Beyond}
 use Rattle.run_terms.proofs.Moving.{ends_here}
 use Rattle.run_terms.proofs.edges.follow.Goals as goal
 

@@ -1,6 +1,4 @@
-use Rattle.std.proofs.Common.{◌∙◌, sym, subst, ap}
-use Rattle.points.specs.declared.outcome.Outcome.TheVariants.{Ub}
-use Rattle.run_terms.specs.Common.{StateShape, HaveShape, ending_shape}
+use Rattle.run_terms.proofs.Common.{◌∙◌, sym, subst, ap, Ub, StateShape, HaveShape, ending_shape}
 use Rattle.run_terms.proofs.Moving.{ends_here, simulates_to}
 use Rattle.run_terms.proofs.edges.follow_to.Goals as goal
 

@@ -1,8 +1,5 @@
-use Rattle.std.proofs.Common.{◌≡◌, ◌∙◌, ap, sym, subst, List, [], Option, Some, None, IfSome}
+use Rattle.run_terms.proofs.Common.{◌≡◌, ◌∙◌, ap, sym, subst, List, [], Option, Some, None, IfSome, set-set, keeps_self, RunState, IsState, shape_of, visit_of, AreStates, MatchesAhead, MatchesEntry}
 use Rattle.std.specs.Prelude.{slice_set}
-use Rattle.std.proofs.lemmas.List.{set-set}
-use Rattle.mem_terms.proofs.Later.{keeps_self}
-use Rattle.run_terms.specs.Common.{RunState, IsState, shape_of, visit_of, AreStates, MatchesAhead, MatchesEntry}
 use Rattle.run_terms.proofs.Lasting.{each-get}
 use Rattle.run_terms.proofs.Reached.{set_entries, changed_ahead, changed_reached, passes_first, passes_joined, joined_alive}
 use Rattle.run_terms.proofs.frontier.reach.Goals as goal

@@ -1,5 +1,4 @@
-use Rattle.std.proofs.Common.{refl}
-use Rattle.mem_terms.proofs.Later.{is_term-later}
+use Rattle.run_terms.proofs.Common.{refl, is_term-later}
 use Rattle.run_terms.proofs.Lasting.{run_memory-later, tally-later}
 use Rattle.run_terms.proofs.Entering.{edge_matches}
 use Rattle.run_terms.proofs.frontier.state_on_edge.Goals as goal

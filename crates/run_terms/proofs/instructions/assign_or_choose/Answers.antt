@@ -1,4 +1,4 @@
-use Rattle.mem_terms.proofs.Later.{keeps_trans, sym_value-later}
+use Rattle.run_terms.proofs.Common.{keeps_trans, sym_value-later}
 use Rattle.run_terms.proofs.Lasting.{state-later}
 use Rattle.run_terms.proofs.Freezing.{choice_steps}
 use Rattle.run_terms.proofs.instructions.assign_or_choose.Goals as goal

@@ -1,4 +1,4 @@
-use Rattle.std.proofs.Common.{◌∙◌}
+use Rattle.run_terms.proofs.Common.{◌∙◌}
 use Rattle.run_terms.proofs.Reading.{cast_integer}
 use Rattle.run_terms.proofs.instructions.conversion.Goals as goal
 

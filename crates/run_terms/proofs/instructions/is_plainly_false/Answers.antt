@@ -1,4 +1,5 @@
-use Rattle.std.proofs.Common.{◌∙◌, ap, Some, eqb-true}
+use Rattle.run_terms.proofs.Common.{◌∙◌, ap, Some}
+use Rattle.std.proofs.Common.{eqb-true}
 use Rattle.bv_terms.specs.declared.term.Term.TheVariants as term
 use Rattle.bv_terms.proofs.Keeping.{term_place}
 use Rattle.run_terms.proofs.Stepping.{plainly_false}

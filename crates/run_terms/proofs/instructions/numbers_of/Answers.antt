@@ -1,6 +1,4 @@
-use Rattle.std.proofs.Common.{◌∙◌, ap, List}
-use Rattle.mem_terms.proofs.Later.{number-later, values-later}
-use Rattle.run_terms.specs.Common.{Value, operand_value, as_integer}
+use Rattle.run_terms.proofs.Common.{◌∙◌, ap, List, number-later, values-later, Value, operand_value, as_integer}
 use Rattle.run_terms.proofs.instructions.numbers_of.Goals as goal
 
 pub returns-clause-left : goal.returns-clause-left

@@ -1,6 +1,5 @@
-use Rattle.std.proofs.Common.{◌≡◌, ◌∙◌, ap, List}
-use Rattle.mem_terms.proofs.Later.{keeps_trans, number-later, sym_values-later, value-later, values-later}
-use Rattle.run_terms.specs.Common.{Value, operand_value, typed_operand_value, as_integer, number_at, value_at, values_at}
+use Rattle.run_terms.proofs.Common.{◌≡◌, ◌∙◌, ap, List, keeps_trans, number-later, sym_values-later, value-later, values-later, Value, operand_value, typed_operand_value, as_integer, value_at, values_at}
+use Rattle.run_terms.specs.Common.{number_at}
 use Rattle.run_terms.proofs.Reading.{selected_integer}
 use Rattle.run_terms.proofs.instructions.selection.Goals as goal
 

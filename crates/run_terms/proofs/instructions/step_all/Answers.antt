@@ -1,6 +1,4 @@
-use Rattle.std.proofs.Common.{sym, subst}
-use Rattle.ir_tree.specs.Limits.{HasSmallTypes, HasSmallNumber}
-use Rattle.mem_terms.proofs.Later.{keeps_self, keeps_trans, words-later}
+use Rattle.run_terms.proofs.Common.{sym, subst, HasSmallTypes, HasSmallNumber, keeps_self, keeps_trans, words-later}
 use Rattle.run_terms.proofs.Lasting.{sees-later}
 use Rattle.run_terms.proofs.Stepping.{steps_all, steps_more, steps_none}
 use Rattle.run_terms.proofs.instructions.step_all.Goals as goal

@@ -1,7 +1,7 @@
 -- The instructions so far are taken.
-use Rattle.std.proofs.Common.{◌≡◌, take}
+use Rattle.run_terms.proofs.Common.{◌≡◌, take, steps}
 use Rattle.bv_terms.specs.Trees.{Keeps}
-use Rattle.run_terms.specs.Runs.{Sees, Steps, steps}
+use Rattle.run_terms.specs.Runs.{Sees, Steps}
 use Rattle.run_terms.proofs.instructions.step_all.Given as goal
 
 abbrev pub invariant-loop-inst : goal.invariant-loop-inst

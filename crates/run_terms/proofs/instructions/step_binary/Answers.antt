@@ -1,4 +1,4 @@
-use Rattle.mem_terms.proofs.Later.{keeps_trans, is_term-later}
+use Rattle.run_terms.proofs.Common.{keeps_trans, is_term-later}
 use Rattle.run_terms.proofs.Stepping.{binary_steps}
 use Rattle.run_terms.proofs.instructions.step_binary.Goals as goal
 

@@ -1,7 +1,5 @@
-use Rattle.std.proofs.Common.{List, refl}
+use Rattle.run_terms.proofs.Common.{List, refl, cast_value, Value, operand_value}
 use Rattle.ir_tree.specs.declared.tree.Inst.TheVariants as inst
-use Rattle.points.specs.Table.{cast_value}
-use Rattle.run_terms.specs.Common.{Value, operand_value}
 use Rattle.run_terms.proofs.Stepping.{result_steps}
 use Rattle.run_terms.proofs.instructions.step_cast.Goals as goal
 

@@ -1,9 +1,4 @@
-use Rattle.std.proofs.Common.{◌∙◌, ap, sym, List}
-use Rattle.std.proofs.lemmas.Result.{on_ok_weaker}
-use Rattle.points.specs.Run.{typed_value}
-use Rattle.mem_terms.proofs.Later.{keeps_trans, values-later, words-later}
-use Rattle.mem_terms.proofs.Naming.{naming}
-use Rattle.run_terms.specs.Common.{Value, operand_value, sight}
+use Rattle.run_terms.proofs.Common.{◌∙◌, ap, sym, List, on_ok_weaker, typed_value, keeps_trans, values-later, words-later, naming, Value, operand_value, sight}
 use Rattle.run_terms.proofs.Lasting.{sees-later, state-later}
 use Rattle.run_terms.proofs.Stepping.{steps_later}
 use Rattle.run_terms.proofs.Freezing.{plain_steps}

@@ -1,7 +1,5 @@
-use Rattle.std.proofs.Common.{List, refl}
+use Rattle.run_terms.proofs.Common.{List, refl, selected, Value, operand_value, typed_operand_value}
 use Rattle.ir_tree.specs.declared.tree.Inst.TheVariants as inst
-use Rattle.points.specs.Table.{selected}
-use Rattle.run_terms.specs.Common.{Value, operand_value, typed_operand_value}
 use Rattle.run_terms.proofs.Stepping.{result_steps}
 use Rattle.run_terms.proofs.instructions.step_select.Goals as goal
 

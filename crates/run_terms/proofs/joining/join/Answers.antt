@@ -1,4 +1,4 @@
-use Rattle.mem_terms.proofs.Later.{keeps_trans, is_term-later, sym_values-later}
+use Rattle.run_terms.proofs.Common.{keeps_trans, is_term-later, sym_values-later}
 use Rattle.run_terms.proofs.Lasting.{run_memory-later, tally-later}
 use Rattle.run_terms.proofs.Joined.{join_goes, join_stays}
 use Rattle.run_terms.proofs.joining.join.Goals as goal

@@ -1,7 +1,4 @@
-use Rattle.std.proofs.Common.{◌≡◌, ◌<◌, ◌-◌, ◌∙◌, ap, length, take, drop, arith}
-use Rattle.mem_terms.proofs.Later.{sym_blocks-later}
-use Rattle.mem_terms.proofs.Naming.{given_before}
-use Rattle.run_terms.specs.Common.{first_local, frames_in}
+use Rattle.run_terms.proofs.Common.{◌≡◌, ◌<◌, ◌-◌, ◌∙◌, ap, length, take, drop, arith, sym_blocks-later, given_before, first_local, frames_in}
 use Rattle.run_terms.proofs.Memories.{above_before, frames_count, frames_made, from_after, given_count, given_like, memory_made, memory_picked}
 use Rattle.run_terms.proofs.joining.pick_blocks.Goals as goal
 

@@ -1,5 +1,4 @@
-use Rattle.std.proofs.Common.{get_or, arith, ◌<◌, length}
-use Rattle.mem_terms.proofs.Eaches.{at-any}
+use Rattle.run_terms.proofs.Common.{get_or, arith, ◌<◌, length, at-any}
 use Rattle.run_terms.proofs.Joined.{registers_more}
 use Rattle.run_terms.proofs.joining.pick_registers.Goals as goal
 

@@ -1,6 +1,5 @@
 -- The registers so far are those of a prefix of each list.
-use Rattle.std.proofs.Common.{◌≡◌, ◌≤◌, length, take, cond}
-use Rattle.run_terms.specs.Common.{Keeps, bit_at, AreSymValues, Reading, values_at}
+use Rattle.run_terms.proofs.Common.{◌≡◌, ◌≤◌, length, take, cond, Keeps, bit_at, AreSymValues, Reading, values_at}
 use Rattle.run_terms.proofs.joining.pick_registers.Given as goal
 
 abbrev pub invariant-loop-i : goal.invariant-loop-i

@@ -1,9 +1,7 @@
-use Rattle.std.proofs.Common.{◌≡◌, ◌^◌, ◌%◌, ◌∙◌, ap, refl, arith}
-use Rattle.points.specs.Run.{cut_value, operand_value}
+use Rattle.run_terms.proofs.Common.{◌≡◌, ◌^◌, ◌%◌, ◌∙◌, ap, refl, arith, cut_value, number_at, value_from, bit-later, is_term-later, index_at}
+use Rattle.points.specs.Run.{operand_value}
 use Rattle.bv_terms.specs.Trees.{bit_at, term_at}
-use Rattle.mem_terms.specs.Values.{number_at, value_from, values_at}
-use Rattle.mem_terms.proofs.Later.{bit-later, is_term-later}
-use Rattle.access_terms.specs.Offsets.{index_at}
+use Rattle.mem_terms.specs.Values.{values_at}
 use Rattle.run_terms.proofs.Reading.{cut_integer}
 use Rattle.run_terms.proofs.Cutting.{cut-from}
 use Rattle.run_terms.proofs.Accessing.{index_small, whole_index}

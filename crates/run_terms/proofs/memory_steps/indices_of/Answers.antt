@@ -1,7 +1,4 @@
-use Rattle.std.proofs.Common.{◌∙◌, List, ap, arith}
-use Rattle.points.specs.Run.{index_value}
-use Rattle.mem_terms.proofs.Later.{keeps_trans, sym_values-later, values-later}
-use Rattle.run_terms.specs.Common.{Value, values_at}
+use Rattle.run_terms.proofs.Common.{◌∙◌, List, ap, arith, index_value, keeps_trans, sym_values-later, values-later, Value, values_at}
 use Rattle.run_terms.proofs.Indexing.{all_stand, pushed_made, pushed_stands}
 use Rattle.run_terms.proofs.memory_steps.indices_of.Goals as goal
 

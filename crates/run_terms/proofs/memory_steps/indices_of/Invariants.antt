@@ -1,8 +1,5 @@
 -- What the indices read so far, and those that are left, are what all read.
-use Rattle.std.proofs.Common.{◌≡◌, ◌≤◌, ◌++◌, drop, length}
-use Rattle.points.specs.Run.{index_values}
-use Rattle.access_terms.specs.Offsets.{AreSymIndices, indices_at}
-use Rattle.run_terms.specs.Common.{Keeps, IsNaming, Reading, values_at}
+use Rattle.run_terms.proofs.Common.{◌≡◌, ◌≤◌, ◌++◌, drop, length, index_values, AreSymIndices, indices_at, Keeps, IsNaming, Reading, values_at}
 use Rattle.run_terms.proofs.memory_steps.indices_of.Given as goal
 
 abbrev pub invariant-loop-n : goal.invariant-loop-n

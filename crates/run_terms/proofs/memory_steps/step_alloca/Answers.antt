@@ -1,6 +1,4 @@
-use Rattle.std.proofs.Common.{◌∙◌, refl, arith}
-use Rattle.mem_terms.proofs.Later.{keeps_trans, term-later}
-use Rattle.mem_terms.proofs.Naming.{given_before}
+use Rattle.run_terms.proofs.Common.{◌∙◌, refl, arith, keeps_trans, term-later, given_before}
 use Rattle.run_terms.proofs.Lasting.{memory_blocks}
 use Rattle.run_terms.proofs.Accessing.{whole_object}
 use Rattle.run_terms.proofs.Loading.{alloca_steps}

@@ -1,4 +1,4 @@
-use Rattle.mem_terms.proofs.Later.{keeps_trans, sym_value-later, sym_values-later}
+use Rattle.run_terms.proofs.Common.{keeps_trans, sym_value-later, sym_values-later}
 use Rattle.run_terms.proofs.Changing.{blocks_later}
 use Rattle.run_terms.proofs.Loading.{gep_steps}
 use Rattle.run_terms.proofs.memory_steps.step_gep.Goals as goal

@@ -1,8 +1,4 @@
-use Rattle.std.proofs.Common.{◌∙◌, ℕ, ap, sym}
-use Rattle.std.proofs.lemmas.Result.{on_ok_weaker}
-use Rattle.byte_block.specs.declared.value.BlockName.TheVariants.{Local}
-use Rattle.mem_terms.specs.Values.{block_name, local_number}
-use Rattle.mem_terms.proofs.Naming.{local_named}
+use Rattle.run_terms.proofs.Common.{◌∙◌, ℕ, ap, sym, on_ok_weaker, Local, block_name, local_number, local_named}
 use Rattle.run_terms.proofs.Stepping.{steps_on}
 use Rattle.run_terms.proofs.memory_steps.step_memory.Goals as goal
 

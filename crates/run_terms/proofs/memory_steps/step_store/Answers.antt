@@ -1,4 +1,4 @@
-use Rattle.mem_terms.proofs.Later.{keeps_trans, sym_values-later}
+use Rattle.run_terms.proofs.Common.{keeps_trans, sym_values-later}
 use Rattle.run_terms.proofs.Changing.{blocks_later}
 use Rattle.run_terms.proofs.Loading.{store_steps}
 use Rattle.run_terms.proofs.memory_steps.step_store.Goals as goal

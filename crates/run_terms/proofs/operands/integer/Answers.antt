@@ -1,5 +1,4 @@
-use Rattle.std.proofs.Common.{◌∙◌, ap}
-use Rattle.points.specs.Run.{cut_value}
+use Rattle.run_terms.proofs.Common.{◌∙◌, ap, cut_value}
 use Rattle.run_terms.proofs.Reading.{cut_integer}
 use Rattle.run_terms.proofs.operands.integer.Goals as goal
 

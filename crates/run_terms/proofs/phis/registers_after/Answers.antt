@@ -1,8 +1,5 @@
-use Rattle.std.proofs.Common.{◌∙◌}
+use Rattle.run_terms.proofs.Common.{◌∙◌, each-set, keeps_trans, sym_values-later, length-set}
 use Rattle.mem_terms.specs.Values.{IsSymValue}
-use Rattle.mem_terms.proofs.Eaches.{each-set}
-use Rattle.mem_terms.proofs.Later.{keeps_trans, sym_values-later}
-use Rattle.std.proofs.lemmas.List.{length-set}
 use Rattle.run_terms.proofs.Entering.{phis_more, phis_end}
 use Rattle.run_terms.proofs.phis.registers_after.Goals as goal
 

@@ -1,7 +1,5 @@
 -- What is left of the phis takes the registers so far to those after all.
-use Rattle.std.proofs.Common.{◌≡◌, drop, length}
-use Rattle.points.specs.Run.{with_phis}
-use Rattle.run_terms.specs.Common.{Machine, Keeps, AreSymValues, IsNaming, Reading, values_at}
+use Rattle.run_terms.proofs.Common.{◌≡◌, drop, length, with_phis, Machine, Keeps, AreSymValues, IsNaming, Reading, values_at}
 use Rattle.run_terms.proofs.phis.registers_after.Given as goal
 
 abbrev pub invariant-loop-phi : goal.invariant-loop-phi

@@ -1,5 +1,4 @@
-use Rattle.std.proofs.Common.{◌∙◌, refl, sym}
-use Rattle.mem_terms.proofs.Later.{keeps_self, keeps_trans, bit-later, is_term-later}
+use Rattle.run_terms.proofs.Common.{◌∙◌, refl, sym, keeps_self, keeps_trans, bit-later, is_term-later}
 use Rattle.run_terms.proofs.Lasting.{ending-later, frontier-later, leaving-at, tally-later, tested}
 use Rattle.run_terms.proofs.Moving.{ended_frontier, ended_shape, ends_simulates, simulates_later, simulates_when}
 use Rattle.run_terms.proofs.terminators.end_where_poison.Goals as goal

@@ -1,9 +1,4 @@
-use Rattle.std.proofs.Common.{◌∙◌, ◌∷◌, [], ap, refl}
-use Rattle.std.proofs.lemmas.Result.{on_ok_weaker}
-use Rattle.ir_tree.specs.declared.tree.Case.{Case}
-use Rattle.points.specs.declared.outcome.Outcome.TheVariants.{Ub}
-use Rattle.unroll.specs.declared.layered.Edge.{Edge}
-use Rattle.run_terms.specs.Common.{operand_value, along}
+use Rattle.run_terms.proofs.Common.{◌∙◌, ◌∷◌, [], ap, refl, on_ok_weaker, Case, Ub, Edge, operand_value, along}
 use Rattle.run_terms.proofs.Moving.{ends_here, leaves_to}
 use Rattle.run_terms.proofs.Leaves.{branch_left, label_edge, switch_edges, switch_left}
 use Rattle.run_terms.proofs.terminators.leave.Goals as goal

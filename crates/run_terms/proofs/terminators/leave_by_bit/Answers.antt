@@ -1,5 +1,4 @@
-use Rattle.std.proofs.lemmas.Result.{on_ok_weaker}
-use Rattle.mem_terms.proofs.Later.{keeps_trans, is_term-later}
+use Rattle.run_terms.proofs.Common.{on_ok_weaker, keeps_trans, is_term-later}
 use Rattle.run_terms.proofs.Lasting.{frontier-later, leaving-at, tested}
 use Rattle.run_terms.proofs.Leaves.{bit_leaves}
 use Rattle.run_terms.proofs.terminators.leave_by_bit.Goals as goal

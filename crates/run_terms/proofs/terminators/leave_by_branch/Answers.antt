@@ -1,9 +1,4 @@
-use Rattle.std.proofs.Common.{◌≡◌, ◌%◌, ◌∙◌, ap, List, nat_eq}
-use Rattle.std.proofs.lemmas.Result.{on_ok_weaker}
-use Rattle.bv_terms.specs.Tree.{truth}
-use Rattle.mem_terms.proofs.Later.{keeps_trans, bit-later}
-use Rattle.mem_terms.proofs.Naming.{naming}
-use Rattle.run_terms.specs.Common.{Value, operand_value, bit_at, term_at, as_integer, sight}
+use Rattle.run_terms.proofs.Common.{◌≡◌, ◌%◌, ◌∙◌, ap, List, nat_eq, on_ok_weaker, truth, keeps_trans, bit-later, naming, Value, operand_value, bit_at, term_at, as_integer, sight}
 use Rattle.run_terms.proofs.Lasting.{leaving-later}
 use Rattle.run_terms.proofs.Leaves.{branch_is, lowest_is, poison_leaves}
 use Rattle.run_terms.proofs.terminators.leave_by_branch.Goals as goal

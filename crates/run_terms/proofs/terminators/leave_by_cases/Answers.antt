@@ -1,9 +1,4 @@
-use Rattle.std.proofs.Common.{◌%◌, ◌^◌, ◌∙◌, ◌&&◌, not, map, nat_eq, ap, sym, arith}
-use Rattle.std.proofs.lemmas.Result.{on_ok_weaker}
-use Rattle.ir_tree.specs.declared.tree.Case.{Case}
-use Rattle.unroll.specs.declared.layered.Edge.{Edge}
-use Rattle.mem_terms.proofs.Later.{keeps_self, keeps_trans, bit-later, is_term-later}
-use Rattle.run_terms.specs.Common.{Machine, Where, along, bit_at, term_at, placed}
+use Rattle.run_terms.proofs.Common.{◌%◌, ◌^◌, ◌∙◌, ◌&&◌, not, map, nat_eq, ap, sym, arith, on_ok_weaker, Case, Edge, keeps_self, keeps_trans, bit-later, is_term-later, Machine, Where, along, bit_at, term_at, placed}
 use Rattle.run_terms.proofs.Lasting.{frontier-later, leaving-at, tested}
 use Rattle.run_terms.proofs.Moving.{cases_end, cases_step, simulates_later, simulates_to, simulates_when}
 use Rattle.run_terms.proofs.Leaves.{case_edge, default_edge, hit_is}

@@ -1,10 +1,5 @@
 -- Wherever what is left of the cases takes the run, all of them take it there.
-use Rattle.std.proofs.Common.{ℕ, ◌≡◌, ◌≤◌, ◌∷◌, ◌%◌, ◌^◌, List, length, map, take, nat_eq}
-use Rattle.std.specs.List.{find}
-use Rattle.std.specs.Option.{option_map_or}
-use Rattle.ir_tree.specs.declared.tree.Case.{Case}
-use Rattle.unroll.specs.declared.layered.Edge.{Edge}
-use Rattle.run_terms.specs.Common.{Machine, Where, along, Term, Keeps, bit_at, term_at, Frontier, Scene, IsLeaving, Simulates, placed}
+use Rattle.run_terms.proofs.Common.{ℕ, ◌≡◌, ◌≤◌, ◌∷◌, ◌%◌, ◌^◌, List, length, map, take, nat_eq, find, option_map_or, Case, Edge, Machine, Where, along, Term, Keeps, bit_at, term_at, Frontier, Scene, IsLeaving, Simulates, placed}
 use Rattle.run_terms.proofs.terminators.leave_by_cases.Given as goal
 
 abbrev pub invariant-loop-i : goal.invariant-loop-i

@@ -1,8 +1,5 @@
-use Rattle.std.proofs.Common.{◌∙◌, Bool, Some, None, ap, sym, refl}
-use Rattle.std.proofs.lemmas.Result.{on_ok_weaker}
-use Rattle.points.specs.Run.{returned_run}
+use Rattle.run_terms.proofs.Common.{◌∙◌, Bool, Some, None, ap, sym, refl, on_ok_weaker, returned_run, keeps_self}
 use Rattle.unroll.specs.Layers.{Done}
-use Rattle.mem_terms.proofs.Later.{keeps_self}
 use Rattle.run_terms.proofs.Moving.{leaves_to}
 use Rattle.run_terms.proofs.Returning.{ending_valued, given_shaped, return_leaves}
 use Rattle.run_terms.proofs.terminators.leave_by_return.Goals as goal

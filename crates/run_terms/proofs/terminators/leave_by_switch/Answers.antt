@@ -1,8 +1,4 @@
-use Rattle.std.proofs.Common.{◌≡◌, ◌%◌, ◌^◌, ◌∙◌, ap, List}
-use Rattle.std.proofs.lemmas.Result.{on_ok_weaker}
-use Rattle.mem_terms.proofs.Later.{keeps_trans, bit-later, term-later}
-use Rattle.mem_terms.proofs.Naming.{naming}
-use Rattle.run_terms.specs.Common.{Value, operand_value, bit_at, term_at, as_integer, sight}
+use Rattle.run_terms.proofs.Common.{◌≡◌, ◌%◌, ◌^◌, ◌∙◌, ap, List, on_ok_weaker, keeps_trans, bit-later, term-later, naming, Value, operand_value, bit_at, term_at, as_integer, sight}
 use Rattle.run_terms.proofs.Lasting.{leaving-later}
 use Rattle.run_terms.proofs.Leaves.{poison_leaves, switch_is}
 use Rattle.run_terms.proofs.terminators.leave_by_switch.Goals as goal

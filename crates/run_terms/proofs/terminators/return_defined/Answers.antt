@@ -1,10 +1,4 @@
-use Rattle.std.proofs.Common.{◌≡◌, ◌∙◌, ap, sym, Bool, List, if◌then◌else◌}
-use Rattle.std.proofs.lemmas.Result.{on_ok_weaker}
-use Rattle.points.specs.Run.{is_poison, returned_with, undef_type}
-use Rattle.points.specs.declared.outcome.Outcome.TheVariants.{Ub}
-use Rattle.mem_terms.proofs.Later.{keeps_trans, words-later}
-use Rattle.mem_terms.proofs.Naming.{naming}
-use Rattle.run_terms.specs.Common.{Value, ended, typed_operand_value, Done, bit_at, sight}
+use Rattle.run_terms.proofs.Common.{◌≡◌, ◌∙◌, ap, sym, Bool, List, if◌then◌else◌, on_ok_weaker, is_poison, returned_with, undef_type, Ub, keeps_trans, words-later, naming, Value, ended, typed_operand_value, Done, bit_at, sight}
 use Rattle.run_terms.proofs.Arguments.{poison_bit}
 use Rattle.run_terms.proofs.Lasting.{leaving-later, sees-later}
 use Rattle.run_terms.proofs.Leaves.{poison_leaves}

@@ -1,5 +1,4 @@
-use Rattle.std.proofs.Common.{◌∙◌, sym, Some}
-use Rattle.mem_terms.proofs.Later.{given_blocks-later}
+use Rattle.run_terms.proofs.Common.{◌∙◌, sym, Some, given_blocks-later}
 use Rattle.run_terms.proofs.Lasting.{ending-later}
 use Rattle.run_terms.proofs.Returning.{ending_valued, given_shaped, return_leaves}
 use Rattle.run_terms.proofs.terminators.return_operand.Goals as goal

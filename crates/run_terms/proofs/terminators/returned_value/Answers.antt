@@ -1,11 +1,4 @@
-use Rattle.std.proofs.Common.{◌∙◌, ap, sym, subst, List, Option, Some}
-use Rattle.std.specs.List.{filter}
-use Rattle.ir_tree.specs.declared.tree.IrType.{IrType}
-use Rattle.points.specs.declared.outcome.Outcome.TheVariants.{Return}
-use Rattle.points.specs.Run.{is_given, returned_with}
-use Rattle.mem_terms.proofs.Naming.{naming}
-use Rattle.run_terms.specs.Common.{Value, typed_operand_value, sight}
-use Rattle.run_terms.specs.Frontier.{IsReturned}
+use Rattle.run_terms.proofs.Common.{◌∙◌, ap, sym, subst, List, Option, Some, filter, IrType, Return, is_given, returned_with, naming, Value, typed_operand_value, sight, IsReturned}
 use Rattle.run_terms.proofs.Lasting.{counts-later, tally-later}
 use Rattle.run_terms.proofs.terminators.returned_value.Goals as goal
 

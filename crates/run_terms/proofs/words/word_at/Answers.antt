@@ -1,5 +1,4 @@
-use Rattle.std.proofs.Common.{get_or, arith}
-use Rattle.mem_terms.proofs.Eaches.{at-any}
+use Rattle.run_terms.proofs.Common.{get_or, arith, at-any}
 use Rattle.run_terms.proofs.Picking.{word_more, take_whole}
 use Rattle.run_terms.proofs.words.word_at.Goals as goal
 

@@ -1,6 +1,5 @@
 -- The word so far is the one among the first words of the tape.
-use Rattle.std.proofs.Common.{take, slice_index}
-use Rattle.run_terms.specs.Common.{Keeps, Makes, term_at, words_at}
+use Rattle.run_terms.proofs.Common.{take, slice_index, Keeps, Makes, term_at, words_at}
 use Rattle.run_terms.proofs.words.word_at.Given as goal
 
 abbrev pub invariant-loop-i : goal.invariant-loop-i

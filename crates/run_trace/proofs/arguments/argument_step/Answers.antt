@@ -1,5 +1,4 @@
-use Rattle.std.proofs.Common.{Some, refl, sym, ap, ◌∙◌}
-use Rattle.byte_block.specs.declared.value.Value.{Value}
+use Rattle.run_trace.proofs.Common.{Some, refl, sym, ap, ◌∙◌, Value}
 use Rattle.run_trace.proofs.arguments.argument_step.Goals as goal
 
 pub returns : goal.returns

@@ -1,12 +1,4 @@
-use Rattle.std.proofs.Common.{◌≡◌, ◌+◌, List, length, drop, Some, refl, sym, ap, subst, ◌∙◌}
-use Rattle.std.specs.Prelude.{slice_get}
-use Rattle.std.proofs.lemmas.List.{drop_all}
-use Rattle.std.proofs.lemmas.Option.{slice_get_read, slice_get_past}
-use Rattle.ir_tree.specs.declared.tree.Parameter.{Parameter}
-use Rattle.byte_block.specs.declared.value.Value.{Value}
-use Rattle.run_trace.specs.Items.{Call, At}
-use Rattle.run_trace.specs.Trace.{Leads}
-use Rattle.run_trace.specs.Parts.{position}
+use Rattle.run_trace.proofs.Common.{◌≡◌, ◌+◌, List, length, drop, Some, refl, sym, ap, subst, ◌∙◌, slice_get, drop_all, slice_get_read, slice_get_past, Parameter, Value, Call, At, Leads, position}
 use Rattle.run_trace.proofs.Leading.{unrolled, argument_goes, argument_stops, arguments_end, begins_empty, begins_past}
 use Rattle.run_trace.proofs.arguments.trace_arguments.Goals as goal
 

@@ -1,9 +1,4 @@
-use Rattle.std.proofs.Common.{◌≡◌, ℕ, List, drop}
-use Rattle.ir_tree.specs.declared.tree.Function.{Function}
-use Rattle.points.specs.declared.machine.Machine.{Machine}
-use Rattle.run_trace.specs.Items.{Call, State, At}
-use Rattle.run_trace.specs.Trace.{Leads}
-use Rattle.run_trace.specs.Parts.{position}
+use Rattle.run_trace.proofs.Common.{◌≡◌, ℕ, List, drop, Function, Machine, Call, State, At, Leads, position}
 use Rattle.run_trace.proofs.arguments.trace_arguments.Given as goal
 
 abbrev pub invariant-loop-k : goal.invariant-loop-k

@@ -1,6 +1,4 @@
-use Rattle.std.proofs.Common.{Bool, subst}
-use Rattle.run_trace.specs.Parts.{after_insts}
-use Rattle.run_trace.specs.Trace.{Leads}
+use Rattle.run_trace.proofs.Common.{Bool, subst, after_insts, Leads}
 use Rattle.run_trace.proofs.Leading.{block_leads}
 use Rattle.run_trace.proofs.blocks.trace_block.Goals as goal
 

@@ -1,6 +1,4 @@
-use Rattle.std.proofs.Common.{List, sym, ap, ◌∙◌}
-use Rattle.byte_block.specs.declared.value.Value.{Value}
-use Rattle.points.specs.Run.{operand_value}
+use Rattle.run_trace.proofs.Common.{List, sym, ap, ◌∙◌, Value, operand_value}
 use Rattle.run_trace.proofs.Binaries.{division_found, numbers_found}
 use Rattle.run_trace.proofs.causes.binary_cause.Goals as goal
 

@@ -1,5 +1,4 @@
-use Rattle.std.proofs.Common.{inl, inr, ap}
-use Rattle.points.specs.Table.{is_undefined}
+use Rattle.run_trace.proofs.Common.{inl, inr, ap, is_undefined}
 use Rattle.run_trace.proofs.Binaries.{divisor_clause}
 use Rattle.run_trace.proofs.causes.division_cause.Goals as goal
 

@@ -1,6 +1,4 @@
-use Rattle.std.proofs.Common.{List, ap, ◌∙◌}
-use Rattle.byte_block.specs.declared.value.Value.{Value}
-use Rattle.points.specs.Run.{operand_value, index_values}
+use Rattle.run_trace.proofs.Common.{List, ap, ◌∙◌, Value, operand_value, index_values}
 use Rattle.run_trace.proofs.Addresses.{gep_reason}
 use Rattle.run_trace.proofs.causes.gep_cause.Goals as goal
 

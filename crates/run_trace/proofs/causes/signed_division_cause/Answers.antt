@@ -1,4 +1,4 @@
-use Rattle.std.proofs.Common.{sym, ◌∙◌}
+use Rattle.run_trace.proofs.Common.{sym, ◌∙◌}
 use Rattle.run_trace.proofs.Binaries.{quotient_found, quotient_fits}
 use Rattle.run_trace.proofs.causes.signed_division_cause.Goals as goal
 

@@ -1,7 +1,4 @@
-use Rattle.std.proofs.Common.{List, drop, refl, sym, ap, ◌∙◌}
-use Rattle.byte_block.specs.declared.value.Value.{Value}
-use Rattle.run_trace.specs.Operands.{values_of, words_since}
-use Rattle.run_trace.specs.Trace.{value_of_exit, block_of_exit, taken_by_exit}
+use Rattle.run_trace.proofs.Common.{List, drop, refl, sym, ap, ◌∙◌, Value, values_of, words_since, value_of_exit, block_of_exit, taken_by_exit}
 use Rattle.run_trace.proofs.Terminators.{taken_by-exit_with}
 use Rattle.run_trace.proofs.ends.end_step.Goals as goal
 

@@ -1,5 +1,4 @@
-use Rattle.std.proofs.Common.{length}
-use Rattle.run_trace.specs.Parts.{state_after, IsLeaving}
+use Rattle.run_trace.proofs.Common.{length, state_after, IsLeaving}
 use Rattle.run_trace.proofs.Terminators.{end_leads}
 use Rattle.run_trace.proofs.ends.trace_end.Goals as goal
 

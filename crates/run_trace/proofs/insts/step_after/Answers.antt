@@ -1,4 +1,4 @@
-use Rattle.std.proofs.Common.{Bool, if◌then◌else◌, None, ap, ◌∙◌}
+use Rattle.run_trace.proofs.Common.{Bool, if◌then◌else◌, None, ap, ◌∙◌}
 use Rattle.run_trace.proofs.Shown.{shows_inst}
 use Rattle.run_trace.proofs.insts.step_after.Goals as goal
 

@@ -1,8 +1,4 @@
-use Rattle.std.proofs.Common.{◌≡◌, List, length, Some, None, refl, sym, ap, ◌∙◌}
-use Rattle.std.specs.Prelude.{slice_get}
-use Rattle.std.proofs.lemmas.Option.{slice_get_read}
-use Rattle.ir_tree.specs.declared.tree.Inst.{Inst}
-use Rattle.points.specs.Run.{act}
+use Rattle.run_trace.proofs.Common.{◌≡◌, List, length, Some, None, refl, sym, ap, ◌∙◌, slice_get, slice_get_read, Inst, act}
 use Rattle.run_trace.proofs.Leading.{inst_goes, inst_stops}
 use Rattle.run_trace.proofs.insts.trace_insts.Goals as goal
 

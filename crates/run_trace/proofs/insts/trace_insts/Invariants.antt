@@ -1,6 +1,4 @@
-use Rattle.std.proofs.Common.{◌≡◌}
-use Rattle.run_trace.specs.Items.{Insts, At}
-use Rattle.run_trace.specs.Parts.{position, GoesOn}
+use Rattle.run_trace.proofs.Common.{◌≡◌, Insts, At, position, GoesOn}
 use Rattle.run_trace.proofs.insts.trace_insts.Given as goal
 
 abbrev pub invariant-loop-k : goal.invariant-loop-k

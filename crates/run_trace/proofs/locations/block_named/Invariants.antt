@@ -1,5 +1,4 @@
-use Rattle.std.proofs.Common.{◌≡◌, drop}
-use Rattle.std.specs.List.{find}
+use Rattle.run_trace.proofs.Common.{◌≡◌, drop, find}
 use Rattle.memory_access.specs.Blocks.{names, block_named}
 use Rattle.run_trace.proofs.locations.block_named.Given as goal
 

@@ -1,6 +1,5 @@
-use Rattle.std.proofs.Common.{◌≡◌, ◌++◌, ◌∷◌, map, drop}
+use Rattle.run_trace.proofs.Common.{◌≡◌, ◌++◌, ◌∷◌, map, drop, used_as, index_operand}
 use Rattle.ir_tree.specs.declared.tree.IrType.TheVariants.{Ptr}
-use Rattle.run_trace.specs.Operands.{used_as, index_operand}
 use Rattle.run_trace.proofs.operands.base_and_indices.Given as goal
 
 abbrev pub invariant-loop-index : goal.invariant-loop-index

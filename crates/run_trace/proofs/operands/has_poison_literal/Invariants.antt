@@ -1,6 +1,4 @@
-use Rattle.std.proofs.Common.{◌≡◌, drop}
-use Rattle.std.specs.List.{list_any}
-use Rattle.run_trace.specs.Operands.{is_poison_literal}
+use Rattle.run_trace.proofs.Common.{◌≡◌, drop, list_any, is_poison_literal}
 use Rattle.run_trace.proofs.operands.has_poison_literal.Given as goal
 
 abbrev pub invariant-loop-operand : goal.invariant-loop-operand

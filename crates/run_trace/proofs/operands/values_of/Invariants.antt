@@ -1,5 +1,4 @@
-use Rattle.std.proofs.Common.{◌≡◌, ◌++◌, drop}
-use Rattle.run_trace.specs.Operands.{values_of}
+use Rattle.run_trace.proofs.Common.{◌≡◌, ◌++◌, drop, values_of}
 use Rattle.run_trace.proofs.operands.values_of.Given as goal
 
 abbrev pub invariant-loop-operand : goal.invariant-loop-operand

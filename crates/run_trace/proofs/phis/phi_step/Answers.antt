@@ -1,6 +1,4 @@
-use Rattle.std.proofs.Common.{◌≡◌, List, Some, refl, ap, ◌∙◌}
-use Rattle.byte_block.specs.declared.value.Value.{Value}
-use Rattle.run_trace.specs.Operands.{phi_operand, values_of}
+use Rattle.run_trace.proofs.Common.{◌≡◌, List, Some, refl, ap, ◌∙◌, Value, phi_operand, values_of}
 use Rattle.run_trace.proofs.phis.phi_step.Goals as goal
 
 pub returns : goal.returns

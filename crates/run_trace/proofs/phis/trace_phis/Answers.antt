@@ -1,7 +1,4 @@
-use Rattle.std.proofs.Common.{◌≡◌, List, length, Some, refl, sym, ap, ◌∙◌}
-use Rattle.std.specs.Prelude.{slice_get}
-use Rattle.std.proofs.lemmas.Option.{slice_get_read}
-use Rattle.ir_tree.specs.declared.tree.Phi.{Phi}
+use Rattle.run_trace.proofs.Common.{◌≡◌, List, length, Some, refl, sym, ap, ◌∙◌, slice_get, slice_get_read, Phi}
 use Rattle.run_trace.proofs.Leading.{phi_goes}
 use Rattle.run_trace.proofs.phis.trace_phis.Goals as goal
 

@@ -1,6 +1,4 @@
-use Rattle.std.proofs.Common.{◌≡◌, ℕ, List}
-use Rattle.run_trace.specs.Items.{Phis, At}
-use Rattle.run_trace.specs.Parts.{position, GoesOn}
+use Rattle.run_trace.proofs.Common.{◌≡◌, ℕ, List, Phis, At, position, GoesOn}
 use Rattle.run_trace.proofs.phis.trace_phis.Given as goal
 
 abbrev pub invariant-loop-k : goal.invariant-loop-k

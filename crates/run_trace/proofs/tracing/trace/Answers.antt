@@ -1,8 +1,4 @@
-use Rattle.std.proofs.Common.{length, ap, subst, ◌∙◌}
-use Rattle.points.specs.Run.{Run}
-use Rattle.choice_interp.specs.Left.{left_by}
-use Rattle.run_trace.specs.Items.{Done, first_state}
-use Rattle.run_trace.specs.Trace.{Leads}
+use Rattle.run_trace.proofs.Common.{length, ap, subst, ◌∙◌, Run, left_by, Done, first_state, Leads}
 use Rattle.run_trace.proofs.Whole.{leads_to_run}
 use Rattle.run_trace.proofs.tracing.trace.Goals as goal
 

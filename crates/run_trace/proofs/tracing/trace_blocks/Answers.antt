@@ -1,4 +1,4 @@
-use Rattle.std.proofs.Common.{◌≤◌, length, arith}
+use Rattle.run_trace.proofs.Common.{◌≤◌, length, arith}
 use Rattle.run_trace.proofs.Leading.{missing_leads}
 use Rattle.run_trace.proofs.tracing.trace_blocks.Goals as goal
 

@@ -1,7 +1,4 @@
-use Rattle.std.proofs.Common.{◌≡◌, ◌+◌, ◌-◌, ◌*◌}
-use Rattle.run_trace.specs.Items.{Phis, State, At}
-use Rattle.run_trace.specs.Trace.{Leads}
-use Rattle.run_trace.specs.Parts.{position}
+use Rattle.run_trace.proofs.Common.{◌≡◌, ◌+◌, ◌-◌, ◌*◌, Phis, State, At, Leads, position}
 use Rattle.run_trace.proofs.tracing.trace_blocks.Given as goal
 
 abbrev pub invariant-loop-at : goal.invariant-loop-at

@@ -1,9 +1,4 @@
-use Rattle.std.proofs.Common.{Bool, if◌then◌else◌, refl, sym, subst}
-use Rattle.points.specs.declared.outcome.Outcome.TheVariants.{Ub}
-use Rattle.points.specs.Run.{ended}
-use Rattle.run_trace.specs.Items.{Phis, At, Done, first_state}
-use Rattle.run_trace.specs.Trace.{Leads}
-use Rattle.run_trace.specs.Parts.{position}
+use Rattle.run_trace.proofs.Common.{Bool, if◌then◌else◌, refl, sym, subst, Ub, ended, Phis, At, Done, first_state, Leads, position}
 use Rattle.run_trace.proofs.Leading.{call_leads}
 use Rattle.run_trace.proofs.tracing.trace_call.Goals as goal
 

@@ -1,11 +1,6 @@
 -- What the term at an index names comes before it, and is marked with it.
-use Rattle.std.proofs.Common.{◌≡◌, ◌∙◌, ◌+◌, ◌-◌, ◌<◌, ◌≤◌, Bool, true, false, List, [], ap, arith, get_or, length, subst, sym}
-use Rattle.bv_terms.specs.declared.term.Term.{Term}
+use Rattle.sat_ask.proofs.Common.{◌≡◌, ◌∙◌, ◌+◌, ◌-◌, ◌<◌, ◌≤◌, Bool, true, false, List, [], ap, arith, get_or, length, subst, sym, Term, IsWithin, operands, IsCone, within-more}
 use Rattle.bv_terms.specs.declared.term.Term.TheVariants as term
-use Rattle.bv_terms.specs.Trees.{IsWithin}
-use Rattle.bit_blast.specs.Written.{operands}
-use Rattle.sat_ask.specs.Cones.{IsCone}
-use Rattle.bv_terms.proofs.Stages.{within-more}
 use Rattle.sat_ask.proofs.Marking.{got-at, length-marked, mark-step, within-at, written-back}
 use Rattle.sat_ask.proofs.cone.cone_of.Goals as goal
 

@@ -1,5 +1,5 @@
 -- What is named from an index on is marked.
-use Rattle.sat_ask.specs.Cones.{IsCone}
+use Rattle.sat_ask.proofs.Common.{IsCone}
 use Rattle.sat_ask.proofs.cone.cone_of.Given as goal
 
 abbrev pub invariant-loop-place : goal.invariant-loop-place

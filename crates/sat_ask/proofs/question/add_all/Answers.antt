@@ -1,12 +1,6 @@
 -- Each term of the order is a variable, which has its bits after the others.
-use Rattle.std.proofs.Common.{◌≡◌, ◌∙◌, List, Some, ap, arith, get_or, map, slice_get, subst, sym, take, ◌+◌}
-use Rattle.std.proofs.lemmas.Option.{get_or_from_slice_get, slice_get-get_or}
-use Rattle.bv_terms.specs.declared.term.TermId.{TermId}
+use Rattle.sat_ask.proofs.Common.{◌≡◌, ◌∙◌, List, Some, ap, arith, get_or, map, slice_get, subst, sym, take, ◌+◌, get_or_from_slice_get, slice_get-get_or, TermId, Variable, GateId, Blasted, variables_of}
 use Rattle.bv_terms.specs.declared.term.Term.TheVariants as term
-use Rattle.bv_terms.specs.declared.variable.Variable.{Variable}
-use Rattle.gates.specs.declared.circuit.GateId.{GateId}
-use Rattle.bit_blast.specs.Table.{Blasted}
-use Rattle.sat_ask.specs.Questions.{variables_of}
 use Rattle.sat_ask.proofs.Orders.{add-more, variable-place}
 use Rattle.sat_ask.proofs.question.add_all.Goals as goal
 use Rattle.sat_ask.proofs.question.add_all.Goals.{in-Variable+in_ok-add, in_default}

@@ -1,6 +1,5 @@
 -- The table has the variables so far.
-use Rattle.std.proofs.Common.{◌≡◌, map, take}
-use Rattle.sat_ask.specs.Questions.{variables_of}
+use Rattle.sat_ask.proofs.Common.{◌≡◌, map, take, variables_of}
 use Rattle.sat_ask.proofs.question.add_all.Given as goal
 
 abbrev pub invariant-loop-a : goal.invariant-loop-a

@@ -1,9 +1,5 @@
 -- The inputs are the bits of the order, and the gate of the goal is its test.
-use Rattle.std.proofs.Common.{◌∙◌, List, ap, map, subst}
-use Rattle.bv_terms.specs.declared.variable.Variable.{Variable}
-use Rattle.gates.specs.declared.circuit.GateId.{GateId}
-use Rattle.gates.specs.declared.circuit.Gate.{Gate}
-use Rattle.gates.specs.Encoding.{Encodes, HasOneModelAFront}
+use Rattle.sat_ask.proofs.Common.{◌∙◌, List, ap, map, subst, Variable, GateId, Gate, Encodes, HasOneModelAFront}
 use Rattle.sat_ask.proofs.Orders.{all-known, goal-asked}
 use Rattle.sat_ask.proofs.question.clauses_by.Goals as goal
 

@@ -1,5 +1,5 @@
 -- One more term, where the goal is made of it, has its bits; in the end the goal has its one.
-use Rattle.std.proofs.Common.{◌≡◌, ◌∙◌, ◌<◌, arith, ap, length, refl, []}
+use Rattle.sat_ask.proofs.Common.{◌≡◌, ◌∙◌, ◌<◌, arith, ap, length, refl, []}
 use Rattle.bv_terms.specs.declared.term.Term.TheVariants as term
 use Rattle.sat_ask.proofs.Building.{built-goal, built-next, built_none, known-at, stood-at}
 use Rattle.sat_ask.proofs.Marking.{got-at}

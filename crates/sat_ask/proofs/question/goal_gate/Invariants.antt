@@ -1,5 +1,5 @@
 -- The terms so far that the goal is made of have their bits.
-use Rattle.std.proofs.Common.{◌≡◌}
+use Rattle.sat_ask.proofs.Common.{◌≡◌}
 use Rattle.sat_ask.proofs.Building.{IsBuilt}
 use Rattle.sat_ask.proofs.question.goal_gate.Given as goal
 

@@ -1,8 +1,5 @@
 -- The solver's answer on the goal's clauses is the answer to the question.
-use Rattle.std.proofs.Common.{◌∙◌, ap, subst, take}
-use Rattle.clause_search.specs.declared.answer.Answer.{Answer}
-use Rattle.clause_search.specs.Outcome.{IsAnswer}
-use Rattle.sat_ask.specs.Questions.{digit_count, goal_test, variables_of}
+use Rattle.sat_ask.proofs.Common.{◌∙◌, ap, subst, take, Answer, IsAnswer, digit_count, goal_test, variables_of}
 use Rattle.sat_ask.proofs.Asking.{least-front, none-pass}
 use Rattle.sat_ask.proofs.question.searched.Goals as goal
 

@@ -1,7 +1,5 @@
 -- Nothing is settled at first.
-use Rattle.std.proofs.Common.{◌∙◌, List, ap}
-use Rattle.clause_log.specs.declared.step.Step.{Step}
-use Rattle.clause_search.specs.Searching.{standing}
+use Rattle.sat_restarts.proofs.Common.{◌∙◌, List, ap, Step, standing}
 use Rattle.sat_restarts.proofs.Settling.{settled-none}
 use Rattle.sat_restarts.proofs.bits.least_by_bits.Goals as goal
 

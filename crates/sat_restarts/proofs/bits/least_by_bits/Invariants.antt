@@ -1,5 +1,5 @@
 -- The bits so far are settled.
-use Rattle.sat_restarts.specs.Settled.{IsSettled}
+use Rattle.sat_restarts.proofs.Common.{IsSettled}
 use Rattle.sat_restarts.proofs.bits.least_by_bits.Given as goal
 
 abbrev pub invariant-loop-bit : goal.invariant-loop-bit

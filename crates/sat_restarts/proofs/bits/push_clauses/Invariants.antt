@@ -1,6 +1,5 @@
 -- The clauses so far, and those of the steps that are left.
-use Rattle.std.proofs.Common.{◌≡◌, ◌++◌, map}
-use Rattle.std.specs.Vec.Iter.{into_iter_items}
+use Rattle.sat_restarts.proofs.Common.{◌≡◌, ◌++◌, map, into_iter_items}
 use Rattle.sat_restarts.proofs.bits.push_clauses.Given as goal
 
 abbrev pub invariant-loop-step : goal.invariant-loop-step

@@ -1,9 +1,6 @@
 -- The bit is the last model's, one that a search finds, or 1.
-use Rattle.std.proofs.Common.{◌∙◌, ◌+◌, ◌++◌, ◌∷◌, [], false, true, List, None, ap, subst}
-use Rattle.std.proofs.lemmas.Option.{get_or_from_slice_get}
-use Rattle.clause_lits.specs.declared.lit.Lit.{Lit}
+use Rattle.sat_restarts.proofs.Common.{◌∙◌, ◌+◌, ◌++◌, ◌∷◌, [], false, true, List, None, ap, subst, get_or_from_slice_get, Lit, IsSearched}
 use Rattle.sat_restarts.specs.declared.searching.Searched.{Searched}
-use Rattle.sat_restarts.specs.Searched.{IsSearched}
 use Rattle.sat_restarts.proofs.Settling.{settled-found, settled-learned, settled-one, settled-zero, without-last}
 use Rattle.sat_restarts.proofs.bits.settle.Goals as goal
 

@@ -1,7 +1,5 @@
 -- What is learned has no other variables.
-use Rattle.std.proofs.Common.{List, subst, sym}
-use Rattle.clause_lits.specs.declared.lit.Lit.{Lit}
-use Rattle.clause_lits.specs.Meaning.{AreWithin}
+use Rattle.sat_restarts.proofs.Common.{List, subst, sym, Lit, AreWithin}
 use Rattle.sat_restarts.proofs.Runs.{standing-within}
 use Rattle.sat_restarts.proofs.bits.with_log.Goals as goal
 

@@ -1,6 +1,5 @@
 -- The steps so far, and those that are left.
-use Rattle.std.proofs.Common.{◌≡◌, ◌++◌}
-use Rattle.std.specs.Vec.Iter.{into_iter_items}
+use Rattle.sat_restarts.proofs.Common.{◌≡◌, ◌++◌, into_iter_items}
 use Rattle.sat_restarts.proofs.running.append.Given as goal
 
 abbrev pub invariant-loop-step : goal.invariant-loop-step

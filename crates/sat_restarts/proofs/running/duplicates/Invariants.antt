@@ -1,5 +1,5 @@
 -- The clauses so far.
-use Rattle.std.proofs.Common.{◌≡◌, take}
+use Rattle.sat_restarts.proofs.Common.{◌≡◌, take}
 use Rattle.sat_restarts.proofs.running.duplicates.Given as goal
 
 abbrev pub invariant-loop-clause : goal.invariant-loop-clause

@@ -1,11 +1,5 @@
 -- What the solver shows of the renumbered clauses is mapped back.
-use Rattle.std.proofs.Common.{◌≡◌, ◌∙◌, List, ap, map, refl, subst, sym}
-use Rattle.clause_lits.specs.Meaning.{AreWithin}
-use Rattle.clause_log.specs.declared.step.Step.{Step}
-use Rattle.clause_search.specs.declared.answer.Answer.{Answer}
-use Rattle.clause_search.specs.Outcome.{IsAnswer}
-use Rattle.clause_search.specs.Searching.{standing}
-use Rattle.cnf_renumber.specs.Renumbered.{AreClauses, renumbered, renumbered_literal}
+use Rattle.sat_restarts.proofs.Common.{◌≡◌, ◌∙◌, List, ap, map, refl, subst, sym, AreWithin, Step, Answer, IsAnswer, standing, AreClauses, renumbered, renumbered_literal}
 use Rattle.sat_restarts.proofs.Runs.{learned-within, model-run, refuted-run, spent-run}
 use Rattle.sat_restarts.proofs.running.run.Goals as goal
 

@@ -1,9 +1,5 @@
 -- What the solver shows of the clauses and the learned ones it shows of the clauses.
-use Rattle.std.proofs.Common.{◌≡◌, ◌∙◌, List, ap, refl, subst}
-use Rattle.clause_log.specs.declared.step.Step.{Step}
-use Rattle.clause_search.specs.declared.answer.Answer.{Answer}
-use Rattle.clause_search.specs.Outcome.{IsAnswer}
-use Rattle.clause_search.specs.Searching.{standing}
+use Rattle.sat_restarts.proofs.Common.{◌≡◌, ◌∙◌, List, ap, refl, subst, Step, Answer, IsAnswer, standing}
 use Rattle.sat_restarts.proofs.Runs.{least-ordered, refuted-ordered, spent-ordered}
 use Rattle.sat_restarts.proofs.running.run_in_order.Goals as goal
 

@@ -1,10 +1,5 @@
 -- What is learned has no other variables.
-use Rattle.std.proofs.Common.{◌≡◌, ◌∙◌, List, ap, arith, length, subst, sym, take}
-use Rattle.std.proofs.Math.Seq.{take-length}
-use Rattle.clause_lits.specs.declared.lit.Lit.{Lit}
-use Rattle.clause_lits.specs.Meaning.{AreWithin}
-use Rattle.clause_log.specs.declared.step.Step.{Step}
-use Rattle.clause_search.specs.Searching.{standing}
+use Rattle.sat_restarts.proofs.Common.{◌≡◌, ◌∙◌, List, ap, arith, length, subst, sym, take, take-length, Lit, AreWithin, Step, standing}
 use Rattle.sat_restarts.proofs.Runs.{standing-within}
 use Rattle.sat_restarts.proofs.running.with_steps.Goals as goal
 

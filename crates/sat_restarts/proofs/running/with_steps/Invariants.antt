@@ -1,5 +1,5 @@
 -- The clauses of the steps so far.
-use Rattle.std.proofs.Common.{◌≡◌, ◌++◌, map, take}
+use Rattle.sat_restarts.proofs.Common.{◌≡◌, ◌++◌, map, take}
 use Rattle.sat_restarts.proofs.running.with_steps.Given as goal
 
 abbrev pub invariant-loop-step : goal.invariant-loop-step

@@ -1,5 +1,5 @@
 -- What is learned so far leaves room for more.
-use Rattle.sat_restarts.specs.Searched.{AreBelowLimit, AreLearned}
+use Rattle.sat_restarts.proofs.Common.{AreBelowLimit, AreLearned}
 use Rattle.sat_restarts.proofs.searching.search.Given as goal
 
 abbrev pub invariant-runs : goal.invariant-runs

@@ -1,5 +1,4 @@
-use Rattle.std.proofs.Common.{◌≡◌, replicate, ap, ◌∙◌}
-use Rattle.slow_judge.specs.Search.{empty_blocks, least_args}
+use Rattle.slow_judge.proofs.Common.{◌≡◌, replicate, ap, ◌∙◌, empty_blocks, least_args}
 use Rattle.slow_judge.proofs.Order.{first_cell, first_place}
 use Rattle.slow_judge.proofs.cells.first.Goals as goal
 

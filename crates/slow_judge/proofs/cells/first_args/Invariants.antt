@@ -1,5 +1,4 @@
-use Rattle.std.proofs.Common.{◌≡◌, take}
-use Rattle.slow_judge.specs.Search.{least_args}
+use Rattle.slow_judge.proofs.Common.{◌≡◌, take, least_args}
 use Rattle.slow_judge.proofs.cells.first_args.Given as goal
 
 abbrev pub invariant-loop-parameter : goal.invariant-loop-parameter

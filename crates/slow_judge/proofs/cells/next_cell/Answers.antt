@@ -1,8 +1,4 @@
-use Rattle.std.proofs.Common.{◌≡◌, length, replicate, refl, ap, ◌∙◌, arith}
-use Rattle.points.specs.Code.{no_blocks}
-use Rattle.verdicts.specs.Pair.{layout_of}
-use Rattle.points.proofs.Args.{any_blocks}
-use Rattle.points.proofs.Words.{WordsFit-length}
+use Rattle.slow_judge.proofs.Common.{◌≡◌, length, replicate, refl, ap, ◌∙◌, arith, no_blocks, layout_of, any_blocks, WordsFit-length}
 use Rattle.slow_judge.proofs.Order.{next_by_tape, next_by_args, last_by_both}
 use Rattle.slow_judge.proofs.cells.next_cell.Goals as goal
 

@@ -1,5 +1,4 @@
-use Rattle.std.proofs.Common.{ap, ◌∙◌, sym}
-use Rattle.points.specs.Run.{Run, run_of}
+use Rattle.slow_judge.proofs.Common.{ap, ◌∙◌, sym, Run, run_of}
 use Rattle.slow_judge.proofs.Covering.{covers_at}
 use Rattle.slow_judge.proofs.cover.allows.Goals as goal
 

@@ -1,6 +1,4 @@
-use Rattle.std.proofs.Common.{ℕ, sym, ap, ◌∙◌, List}
-use Rattle.std.specs.Prelude.{slice_index}
-use Rattle.points.specs.Run.{run_of, IsPlain}
+use Rattle.slow_judge.proofs.Common.{ℕ, sym, ap, ◌∙◌, List, slice_index, run_of, IsPlain}
 use Rattle.slow_judge.proofs.Covering.{covered_by_shift, not_uncovered, uncovered_when}
 use Rattle.slow_judge.proofs.cover.is_uncovered.Goals as goal
 

@@ -1,5 +1,4 @@
-use Rattle.std.proofs.Common.{ℕ, List, ap, ◌∙◌, sym}
-use Rattle.points.specs.Run.{Run, run_of}
+use Rattle.slow_judge.proofs.Common.{ℕ, List, ap, ◌∙◌, sym, Run, run_of}
 use Rattle.slow_judge.proofs.cover.run_target.Goals as goal
 
 pub returns-clause-end : goal.returns-clause-end

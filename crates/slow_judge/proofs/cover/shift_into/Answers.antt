@@ -1,6 +1,4 @@
-use Rattle.std.proofs.Common.{arith}
-use Rattle.std.proofs.Math.ListN.{length-set}
-use Rattle.slow_judge.specs.Search.{shift_of}
+use Rattle.slow_judge.proofs.Common.{arith, length-set, shift_of}
 use Rattle.slow_judge.proofs.Covering.{shift_more}
 use Rattle.slow_judge.proofs.cover.shift_into.Goals as goal
 

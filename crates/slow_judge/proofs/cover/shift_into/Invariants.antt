@@ -1,6 +1,4 @@
-use Rattle.std.proofs.Common.{◌≡◌, take, length}
-use Rattle.verdicts.specs.Covers.{words_of}
-use Rattle.slow_judge.specs.Search.{shift_of}
+use Rattle.slow_judge.proofs.Common.{◌≡◌, take, length, words_of, shift_of}
 use Rattle.slow_judge.proofs.cover.shift_into.Given as goal
 
 abbrev pub invariant-loop-i : goal.invariant-loop-i

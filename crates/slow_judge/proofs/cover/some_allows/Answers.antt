@@ -1,5 +1,4 @@
-use Rattle.std.proofs.Common.{◌≡◌, true, false, sym, ap, ◌∙◌, arith}
-use Rattle.verdicts.specs.Covers.{covers}
+use Rattle.slow_judge.proofs.Common.{◌≡◌, true, false, sym, ap, ◌∙◌, arith, covers}
 use Rattle.slow_judge.proofs.Covering.{some_covers_yes, some_covers_no, some_covers_end}
 use Rattle.slow_judge.proofs.cover.some_allows.Goals as goal
 

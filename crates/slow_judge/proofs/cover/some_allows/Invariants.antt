@@ -1,5 +1,4 @@
-use Rattle.std.proofs.Common.{◌≡◌, drop}
-use Rattle.verdicts.specs.Covers.{some_covers}
+use Rattle.slow_judge.proofs.Common.{◌≡◌, drop, some_covers}
 use Rattle.choice_interp.specs.Runners.{IsRunner}
 use Rattle.slow_judge.proofs.cover.some_allows.Given as goal
 

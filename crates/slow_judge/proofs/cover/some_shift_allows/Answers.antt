@@ -1,4 +1,4 @@
-use Rattle.std.proofs.Common.{sym, ◌∙◌}
+use Rattle.slow_judge.proofs.Common.{sym, ◌∙◌}
 use Rattle.slow_judge.proofs.Covering.{covers_first, covers_later, covers_last}
 use Rattle.slow_judge.proofs.cover.some_shift_allows.Goals as goal
 

@@ -1,4 +1,4 @@
-use Rattle.std.proofs.Common.{arith}
+use Rattle.slow_judge.proofs.Common.{arith}
 use Rattle.slow_judge.proofs.Growing.{grown_more, grown_correct, grown_incorrect, grown_full}
 use Rattle.slow_judge.proofs.judge.grow.Goals as goal
 

@@ -1,5 +1,4 @@
-use Rattle.std.proofs.Common.{◌-◌, length}
-use Rattle.slow_judge.specs.Search.{IsBench}
+use Rattle.slow_judge.proofs.Common.{◌-◌, length, IsBench}
 use Rattle.slow_judge.proofs.Growing.{IsGrown}
 use Rattle.slow_judge.proofs.judge.grow.Given as goal
 

@@ -1,4 +1,4 @@
-use Rattle.std.proofs.Common.{arith}
+use Rattle.slow_judge.proofs.Common.{arith}
 use Rattle.slow_judge.proofs.Growing.{heavy_is}
 use Rattle.slow_judge.proofs.judge.slow.Goals as goal
 

@@ -1,6 +1,4 @@
-use Rattle.std.proofs.Common.{false, refl, arith}
-use Rattle.std.specs.Prelude.{IsTrue}
-use Rattle.slow_judge.specs.Search.{IsCell, IsUncovered}
+use Rattle.slow_judge.proofs.Common.{false, refl, arith, IsTrue, IsCell, IsUncovered}
 use Rattle.slow_judge.proofs.Order.{cell_fits, within_places}
 use Rattle.slow_judge.proofs.Searching.{reached_first, reached_is_least, reached_next, reached_last}
 use Rattle.slow_judge.proofs.search.least_cell.Goals as goal

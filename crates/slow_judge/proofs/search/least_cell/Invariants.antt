@@ -1,6 +1,4 @@
-use Rattle.std.proofs.Common.{◌-◌}
-use Rattle.verdicts.specs.Trail.{place_in}
-use Rattle.slow_judge.specs.Search.{IsCell, IsReady}
+use Rattle.slow_judge.proofs.Common.{◌-◌, place_in, IsCell, IsReady}
 use Rattle.slow_judge.proofs.Order.{places_in}
 use Rattle.slow_judge.proofs.Searching.{IsReached}
 use Rattle.slow_judge.proofs.search.least_cell.Given as goal

@@ -1,6 +1,4 @@
-use Rattle.std.proofs.Common.{◌≡◌, replicate, true, false, refl, sym, ap, ◌∙◌, arith}
-use Rattle.verdicts.specs.Covers.{covers}
-use Rattle.points.proofs.Words.{WordsFit-length}
+use Rattle.slow_judge.proofs.Common.{◌≡◌, replicate, true, false, refl, sym, ap, ◌∙◌, arith, covers, WordsFit-length}
 use Rattle.slow_judge.proofs.TapeSearch.{tape_reached_first, tape_reached_next, none_at_all, least_of_all, tape_within}
 use Rattle.slow_judge.proofs.search.least_cover.Goals as goal
 

@@ -1,7 +1,4 @@
-use Rattle.std.proofs.Common.{◌-◌, ◌^◌}
-use Rattle.points.specs.Code.{number_of}
-use Rattle.points.specs.Tapes.{need_of}
-use Rattle.slow_judge.specs.Search.{IsReady}
+use Rattle.slow_judge.proofs.Common.{◌-◌, ◌^◌, number_of, need_of, IsReady}
 use Rattle.slow_judge.proofs.TapeSearch.{IsTapeReached}
 use Rattle.slow_judge.proofs.search.least_cover.Given as goal
 

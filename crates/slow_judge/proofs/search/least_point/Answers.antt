@@ -1,7 +1,4 @@
-use Rattle.std.proofs.Common.{false, refl, arith}
-use Rattle.std.specs.Prelude.{IsTrue}
-use Rattle.points.specs.Code.{IsOfShape}
-use Rattle.slow_judge.specs.Search.{IsUncovered}
+use Rattle.slow_judge.proofs.Common.{false, refl, arith, IsTrue, IsOfShape, IsUncovered}
 use Rattle.slow_judge.proofs.Order.{cell_fits, within_places}
 use Rattle.slow_judge.proofs.Searching.{reached_first, reached_is_least, reached_next, reached_last}
 use Rattle.slow_judge.proofs.Shapes.{shape_fits, fits_shape, next_is, last_is, all_covered, least_of_points}

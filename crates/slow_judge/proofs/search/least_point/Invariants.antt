@@ -1,7 +1,4 @@
-use Rattle.std.proofs.Common.{◌-◌}
-use Rattle.points.specs.Code.{IsOfShape}
-use Rattle.verdicts.specs.Trail.{place_in}
-use Rattle.slow_judge.specs.Search.{IsBench}
+use Rattle.slow_judge.proofs.Common.{◌-◌, IsOfShape, place_in, IsBench}
 use Rattle.slow_judge.proofs.Order.{places_in}
 use Rattle.slow_judge.proofs.Searching.{IsReached}
 use Rattle.slow_judge.proofs.search.least_point.Given as goal

@@ -1,4 +1,4 @@
-use Rattle.std.proofs.Common.{refl}
+use Rattle.slow_judge.proofs.Common.{refl}
 use Rattle.slow_judge.proofs.Blocks.{cells_decide}
 use Rattle.slow_judge.proofs.search.least_uncovered.Goals as goal
 

@@ -1,5 +1,4 @@
-use Rattle.std.proofs.Common.{sym}
-use Rattle.term_rules.specs.declared.form.Form.TheVariants.{Known}
+use Rattle.term_rules.proofs.Common.{sym, Known}
 use Rattle.term_rules.proofs.SumRules.{sum_of_part, sum_shifted, sum_swapped, sum_with_number}
 use Rattle.term_rules.proofs.arithmetic.ordered_sum.Goals as goal
 

@@ -1,9 +1,7 @@
 -- Two numbers that are added one after the other are added at once.
-use Rattle.std.proofs.Common.{subst}
+use Rattle.term_rules.proofs.Common.{subst, tree_in, Simplifies}
 use Rattle.bv_terms.specs.declared.term.BinaryOp.TheVariants as op
 use Rattle.bv_terms.specs.Tree as tree
-use Rattle.bv_terms.specs.Trees.{tree_in}
-use Rattle.term_rules.specs.Forms.{Simplifies}
 use Rattle.term_rules.proofs.SumRules.{raised_twice}
 use Rattle.term_rules.proofs.arithmetic.raised.Goals as goal
 

@@ -1,6 +1,4 @@
-use Rattle.std.proofs.Common.{◌∙◌, refl}
-use Rattle.std.proofs.lemmas.Nat.{or_comm}
-use Rattle.bv_terms.specs.Trees.{term_at}
+use Rattle.term_rules.proofs.Common.{◌∙◌, refl, or_comm, term_at}
 use Rattle.term_rules.proofs.BitRules.{or_is_first, or_is_second}
 use Rattle.term_rules.proofs.bitwise.greater.Goals as goal
 

@@ -1,4 +1,4 @@
-use Rattle.std.proofs.lemmas.Bool.{eqb-true}
+use Rattle.term_rules.proofs.Common.{eqb-true}
 use Rattle.term_rules.proofs.BitRules.{in_and_first, in_and_second, or_where_lesser}
 use Rattle.term_rules.proofs.bitwise.is_in_and.Goals as goal
 

@@ -1,4 +1,4 @@
-use Rattle.std.proofs.lemmas.Bool.{eqb-true}
+use Rattle.term_rules.proofs.Common.{eqb-true}
 use Rattle.term_rules.proofs.BitRules.{in_or_first, in_or_second, or_where_greater}
 use Rattle.term_rules.proofs.bitwise.is_in_or.Goals as goal
 

@@ -1,6 +1,4 @@
-use Rattle.std.proofs.Common.{◌∙◌, refl}
-use Rattle.std.proofs.lemmas.Nat.{and_comm}
-use Rattle.bv_terms.specs.Trees.{term_at}
+use Rattle.term_rules.proofs.Common.{◌∙◌, refl, and_comm, term_at}
 use Rattle.term_rules.proofs.BitRules.{and_is_first, and_is_second}
 use Rattle.term_rules.proofs.bitwise.lesser.Goals as goal
 

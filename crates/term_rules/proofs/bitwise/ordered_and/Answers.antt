@@ -1,6 +1,6 @@
+use Rattle.term_rules.proofs.Common.{◌∙◌, refl}
 use Rattle.term_rules.proofs.ComplementRules.{and_by_part}
 use Rattle.term_rules.proofs.BitRules.{and_of_apart, and_of_ones, and_swapped}
-use Rattle.std.proofs.Common.{◌∙◌, refl}
 use Rattle.term_rules.proofs.bitwise.ordered_and.Goals as goal
 
 pub returns-then-are_apart : goal.returns-then-are_apart

@@ -1,6 +1,6 @@
+use Rattle.term_rules.proofs.Common.{◌∙◌, refl}
 use Rattle.term_rules.proofs.ComplementRules.{or_by_part}
 use Rattle.term_rules.proofs.BitRules.{or_of_ones, or_of_same, or_of_whole, or_of_zero, or_swapped}
-use Rattle.std.proofs.Common.{◌∙◌, refl}
 use Rattle.term_rules.proofs.bitwise.ordered_or.Goals as goal
 
 pub returns-then-a-b : goal.returns-then-a-b

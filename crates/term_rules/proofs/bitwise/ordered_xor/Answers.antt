@@ -1,6 +1,5 @@
-use Rattle.term_rules.specs.declared.form.Form.TheVariants.{Known}
+use Rattle.term_rules.proofs.Common.{Known, ◌∙◌}
 use Rattle.term_rules.proofs.BitRules.{xor_of_ones, xor_of_same, xor_swapped}
-use Rattle.std.proofs.Common.{◌∙◌}
 use Rattle.term_rules.proofs.bitwise.ordered_xor.Goals as goal
 
 pub returns-then-a-b : goal.returns-then-a-b

@@ -1,5 +1,4 @@
-use Rattle.std.proofs.Common.{◌+◌, arith}
-use Rattle.std.proofs.lemmas.Bool.{ltb-true}
+use Rattle.term_rules.proofs.Common.{◌+◌, arith, ltb-true}
 use Rattle.term_rules.proofs.BoundRules.{product_is_small, zext_small}
 use Rattle.term_rules.proofs.bounds.is_small.Goals as goal
 

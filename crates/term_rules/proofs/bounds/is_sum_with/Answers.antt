@@ -1,5 +1,4 @@
-use Rattle.std.proofs.Common.{refl}
-use Rattle.std.proofs.lemmas.Bool.{eqb-true}
+use Rattle.term_rules.proofs.Common.{refl, eqb-true}
 use Rattle.term_rules.proofs.BoundRules.{sum_with_first, sum_with_second}
 use Rattle.term_rules.proofs.bounds.is_sum_with.Goals as goal
 

@@ -1,7 +1,6 @@
 -- A variable is one node.
-use Rattle.std.proofs.Common.{ap, arith}
+use Rattle.term_rules.proofs.Common.{ap, arith, weight_of}
 use Rattle.bv_terms.specs.declared.term.Term.TheVariants as term
-use Rattle.term_folds.specs.Weight.{weight_of}
 use Rattle.term_rules.proofs.Stored.{tree_stored}
 use Rattle.term_rules.proofs.builders.variable.Goals as goal
 

@@ -1,7 +1,5 @@
 -- The value of an operation fits its width.
-use Rattle.std.proofs.Common.{ℕ, ◌<◌, ◌^◌, subst}
-use Rattle.bv_terms.specs.Trees.{term_width}
-use Rattle.bv_terms.proofs.Stages.{width-within}
+use Rattle.term_rules.proofs.Common.{ℕ, ◌<◌, ◌^◌, subst, term_width, width-within}
 use Rattle.term_rules.proofs.Stored.{value_fits}
 use Rattle.term_rules.proofs.building.apply.Goals as goal
 

@@ -1,7 +1,6 @@
 -- Two numbers that are joined fit the width of both.
-use Rattle.std.proofs.Common.{ℕ, ◌≡◌, ◌<◌, ◌≤◌, ◌+◌, ◌*◌, ◌^◌, arith, subst, pow-add}
-use Rattle.std.proofs.lemmas.Nat.{mul-add-lt}
-use Rattle.term_folds.proofs.Cuts.{pow-le}
+use Rattle.term_rules.proofs.Common.{ℕ, ◌≡◌, ◌<◌, ◌≤◌, ◌+◌, ◌*◌, ◌^◌, arith, subst, mul-add-lt, pow-le}
+use Rattle.std.proofs.Common.{pow-add}
 use Rattle.term_rules.proofs.building.folded.Goals as goal
 
 joined_fits : (x y above below width : ℕ) → x < 2 ^ above → y < 2 ^ below → above + below ≡ width → width ≤ 128 → x * 2 ^ below + y < 2 ^ 128

@@ -1,6 +1,4 @@
-use Rattle.std.proofs.Common.{refl}
-use Rattle.bv_terms.specs.Tree.{width_of}
-use Rattle.bv_terms.specs.Trees.{tree_in}
+use Rattle.term_rules.proofs.Common.{refl, width_of, tree_in}
 use Rattle.term_rules.proofs.BoundRules.{never_less}
 use Rattle.term_rules.proofs.comparisons.less.Goals as goal
 

@@ -1,4 +1,4 @@
-use Rattle.std.proofs.Common.{refl}
+use Rattle.term_rules.proofs.Common.{refl}
 use Rattle.term_rules.proofs.OtherRules.{equal_to_turned}
 use Rattle.term_rules.proofs.comparisons.ordered_equal.Goals as goal
 

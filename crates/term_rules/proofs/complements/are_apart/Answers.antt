@@ -1,6 +1,4 @@
-use Rattle.std.proofs.Common.{◌∙◌, refl}
-use Rattle.std.proofs.lemmas.Nat.{and_comm}
-use Rattle.bv_terms.specs.Trees.{term_at}
+use Rattle.term_rules.proofs.Common.{◌∙◌, refl, and_comm, term_at}
 use Rattle.term_rules.proofs.ComplementRules.{apart_inverse}
 use Rattle.term_rules.proofs.complements.are_apart.Goals as goal
 

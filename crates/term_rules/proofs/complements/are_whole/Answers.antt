@@ -1,6 +1,4 @@
-use Rattle.std.proofs.Common.{ap, ◌-◌, ◌^◌, ◌∙◌, refl, sym}
-use Rattle.std.proofs.lemmas.Nat.{or_comm}
-use Rattle.bv_terms.specs.Trees.{term_at}
+use Rattle.term_rules.proofs.Common.{ap, ◌-◌, ◌^◌, ◌∙◌, refl, sym, or_comm, term_at}
 use Rattle.term_rules.proofs.ComplementRules.{whole_inverse}
 use Rattle.term_rules.proofs.complements.are_whole.Goals as goal
 

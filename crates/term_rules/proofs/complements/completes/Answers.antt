@@ -1,4 +1,4 @@
-use Rattle.std.proofs.Common.{refl}
+use Rattle.term_rules.proofs.Common.{refl}
 use Rattle.term_rules.proofs.ComplementRules.{completes_first, completes_second}
 use Rattle.term_rules.proofs.complements.completes.Goals as goal
 

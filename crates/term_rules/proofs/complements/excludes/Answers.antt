@@ -1,4 +1,4 @@
-use Rattle.std.proofs.Common.{refl}
+use Rattle.term_rules.proofs.Common.{refl}
 use Rattle.term_rules.proofs.ComplementRules.{excludes_first, excludes_second}
 use Rattle.term_rules.proofs.complements.excludes.Goals as goal
 

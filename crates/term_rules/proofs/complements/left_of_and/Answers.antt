@@ -1,4 +1,4 @@
-use Rattle.std.proofs.Common.{refl}
+use Rattle.term_rules.proofs.Common.{refl}
 use Rattle.term_rules.proofs.ComplementRules.{or_part_first, or_part_second}
 use Rattle.term_rules.proofs.complements.left_of_and.Goals as goal
 

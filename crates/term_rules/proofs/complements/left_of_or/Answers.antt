@@ -1,4 +1,4 @@
-use Rattle.std.proofs.Common.{refl}
+use Rattle.term_rules.proofs.Common.{refl}
 use Rattle.term_rules.proofs.ComplementRules.{and_part_first, and_part_second}
 use Rattle.term_rules.proofs.complements.left_of_or.Goals as goal
 

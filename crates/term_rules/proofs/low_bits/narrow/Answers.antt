@@ -1,4 +1,4 @@
-use Rattle.std.proofs.Common.{◌≤◌, arith, subst}
+use Rattle.term_rules.proofs.Common.{◌≤◌, arith, subst}
 use Rattle.term_rules.proofs.LowRules.{low_of_sext, low_of_zext}
 use Rattle.term_rules.proofs.low_bits.narrow.Goals as goal
 

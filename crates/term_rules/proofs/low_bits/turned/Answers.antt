@@ -1,4 +1,4 @@
-use Rattle.std.proofs.lemmas.Nat.{and_comm, or_comm, xor_comm}
+use Rattle.term_rules.proofs.Common.{and_comm, or_comm, xor_comm}
 use Rattle.term_rules.proofs.low_bits.turned.Goals as goal
 
 pub returns-in-Conjunction : goal.returns-in-Conjunction

@@ -1,7 +1,6 @@
 -- The term at an index goes well after all terms, and its tree is the one of the index.
-use Rattle.std.proofs.Common.{sym}
+use Rattle.term_rules.proofs.Common.{sym, term_place}
 use Rattle.bv_terms.specs.declared.term.Term.TheVariants as term
-use Rattle.bv_terms.proofs.Keeping.{term_place}
 use Rattle.term_rules.proofs.Stored.{fit_at, tree_stored, within_at}
 use Rattle.term_rules.proofs.reading.term.Goals as goal
 

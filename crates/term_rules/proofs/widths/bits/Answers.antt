@@ -1,4 +1,4 @@
-use Rattle.std.proofs.Common.{◌∙◌}
+use Rattle.term_rules.proofs.Common.{◌∙◌}
 use Rattle.term_rules.proofs.WidthRules.{whole_part}
 use Rattle.term_rules.proofs.widths.bits.Goals as goal
 

@@ -1,4 +1,4 @@
-use Rattle.std.proofs.Common.{arith}
+use Rattle.term_rules.proofs.Common.{arith}
 use Rattle.term_rules.proofs.WidthRules.{part_above, part_of_high, part_of_low, part_of_part}
 use Rattle.term_rules.proofs.widths.part.Goals as goal
 

@@ -1,4 +1,4 @@
-use Rattle.std.proofs.Common.{arith}
+use Rattle.term_rules.proofs.Common.{arith}
 use Rattle.term_rules.proofs.WidthRules.{signed_of_zext}
 use Rattle.term_rules.proofs.widths.widened_signed.Goals as goal
 

@@ -1,4 +1,4 @@
-use Rattle.std.proofs.Common.{Some, None, Bool, cond, ap, ◌∙◌, arith}
+use Rattle.token_forms.proofs.Common.{Some, None, Bool, cond, ap, ◌∙◌, arith}
 use Rattle.token_forms.proofs.Loops.{closed_more, closed_done, closed_stops, closed_ends, first_and_others}
 use Rattle.token_forms.proofs.bracket.pass_bracket.Goals as goal
 

@@ -1,5 +1,4 @@
-use Rattle.std.proofs.Common.{◌≡◌, [], ◌∷◌, length}
-use Rattle.token_forms.specs.Form.{until_closed}
+use Rattle.token_forms.proofs.Common.{◌≡◌, [], ◌∷◌, length, until_closed}
 use Rattle.token_forms.proofs.bracket.pass_bracket.Given as goal
 
 abbrev pub invariant-loop-brackets : goal.invariant-loop-brackets

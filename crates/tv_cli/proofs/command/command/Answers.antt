@@ -1,7 +1,6 @@
-use Rattle.std.proofs.Common.{ap, ap₂, ◌∙◌, ◌≡◌}
+use Rattle.tv_cli.proofs.Common.{ap, ap₂, ◌∙◌, ◌≡◌, app_of, new_app, with_subcommand, app_of_fields, on_top}
 use Rattle.std.specs.Prelude.{codes, true}
-use Rattle.clap.specs.Words.{App, Shape, app_of, new_app, with_subcommand}
-use Rattle.clap.specs.Simple.{app_of_fields, on_top}
+use Rattle.clap.specs.Words.{App, Shape}
 use Rattle.tv_cli.proofs.command.command.Goals as goal
 
 pub returns : goal.returns

@@ -1,5 +1,4 @@
-use Rattle.std.proofs.Common.{ap₂, ◌∙◌}
-use Rattle.clap.specs.Words.{with_rule}
+use Rattle.tv_cli.proofs.Common.{ap₂, ◌∙◌, with_rule}
 use Rattle.tv_cli.proofs.command.limited_command.Goals as goal
 
 pub returns-clause-app : goal.returns-clause-app

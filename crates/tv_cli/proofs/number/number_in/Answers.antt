@@ -1,6 +1,4 @@
-use Rattle.std.proofs.Common.{◌≡◌, ◌≤◌, ◌∙◌, ℕ, arith, sym, ap, subst, Some}
-use Rattle.std.specs.Str.Parse.{digits_value, without_leading_plus}
-use Rattle.std.proofs.lemmas.Bool.{le-leb}
+use Rattle.tv_cli.proofs.Common.{◌≡◌, ◌≤◌, ◌∙◌, ℕ, arith, sym, ap, subst, Some, digits_value, without_leading_plus, le-leb}
 use Rattle.tv_cli.proofs.Numerals.{numeral_is, no_numeral}
 use Rattle.tv_cli.proofs.number.number_in.Goals as goal
 

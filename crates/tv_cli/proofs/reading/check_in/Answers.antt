@@ -1,8 +1,4 @@
-use Rattle.std.proofs.Common.{◌≡◌, Some, None, codes, ◌∙◌, sym, ap}
-use Rattle.clap.specs.Words.{first_of, found_of, rows_of}
-use Rattle.clap.proofs.WalkLemmas.{first_value-rows}
-use Rattle.tv_cli.specs.Words.{check_with}
-use Rattle.tv_cli.specs.Walked.{check_of_names}
+use Rattle.tv_cli.proofs.Common.{◌≡◌, Some, None, codes, ◌∙◌, sym, ap, first_of, found_of, rows_of, first_value-rows, check_with, check_of_names}
 use Rattle.tv_cli.proofs.Given.{no_target}
 use Rattle.tv_cli.proofs.reading.check_in.Goals as goal
 

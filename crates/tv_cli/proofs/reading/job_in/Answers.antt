@@ -1,9 +1,5 @@
-use Rattle.std.proofs.Common.{◌≡◌, Some, None, codes, true, false, true≢false, sym, ◌∙◌}
-use Rattle.std.specs.Str.{bytes_eq}
-use Rattle.std.proofs.lemmas.Slice.Eq.{bytes_eq-Decides, slice_eq-Decides}
+use Rattle.tv_cli.proofs.Common.{◌≡◌, Some, None, codes, true, false, true≢false, sym, ◌∙◌, bytes_eq, bytes_eq-Decides, slice_eq-Decides, first_of, found_of, rows_of, first_value-rows}
 use Rattle.std.proofs.lemmas.Bool.Decides.{Decides-eqb}
-use Rattle.clap.specs.Words.{first_of, found_of, rows_of}
-use Rattle.clap.proofs.WalkLemmas.{first_value-rows}
 use Rattle.tv_cli.proofs.Given.{log_in_rows, other_text}
 use Rattle.tv_cli.proofs.reading.job_in.Goals as goal
 

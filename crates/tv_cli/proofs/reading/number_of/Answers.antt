@@ -1,7 +1,4 @@
-use Rattle.std.proofs.Common.{◌≡◌, Some, None, ◌∙◌, ap}
-use Rattle.clap.specs.Words.{first_of, found_of, rows_of}
-use Rattle.clap.proofs.WalkLemmas.{first_value-rows}
-use Rattle.tv_cli.specs.Walked.{number_or_usual}
+use Rattle.tv_cli.proofs.Common.{◌≡◌, Some, None, ◌∙◌, ap, first_of, found_of, rows_of, first_value-rows, number_or_usual}
 use Rattle.tv_cli.proofs.reading.number_of.Goals as goal
 
 pub returns-in-Some-clause-value : goal.returns-in-Some-clause-value

@@ -1,6 +1,5 @@
-use Rattle.std.proofs.Common.{◌∙◌, List, map, string_bytes}
+use Rattle.tv_cli.proofs.Common.{◌∙◌, List, map, string_bytes, Text}
 use Rattle.std.proofs.lemmas.Result.{IfOk-weaker}
-use Rattle.tv_cli.specs.Words.{Text}
 use Rattle.tv_cli.proofs.Equality.{walked-job, are_texts}
 use Rattle.tv_cli.proofs.reading.read_job.Goals as goal
 

@@ -1,7 +1,4 @@
-use Rattle.std.proofs.Common.{◌≡◌, List, [], Some, map, string_bytes, sym, ap, ◌∙◌, subst}
-use Rattle.clap.specs.Words.{app_of, fault_of, found_of, HasKind, is_simple, is_simple_and_free, rows_of, subcommand_of, subcommand_rows_of}
-use Rattle.tv_cli.specs.Words.{Text}
-use Rattle.tv_cli.specs.Walked.{tv_app}
+use Rattle.tv_cli.proofs.Common.{◌≡◌, List, [], Some, map, string_bytes, sym, ap, ◌∙◌, subst, app_of, fault_of, found_of, HasKind, is_simple, is_simple_and_free, rows_of, subcommand_of, subcommand_rows_of, Text, tv_app}
 use Rattle.tv_cli.proofs.Walking.{subcommand_pair, walked-found, tv_is_simple, tv_is_read, walked-refused}
 use Rattle.tv_cli.proofs.reading.walked.Goals as goal
 

@@ -1,7 +1,5 @@
-use Rattle.std.proofs.Common.{◌≡◌, ◌∙◌, rules, arith, subst, Ok}
-use Rattle.std.proofs.lemmas.Grind.{common_steps}
+use Rattle.tv_run.proofs.Common.{◌≡◌, ◌∙◌, rules, arith, subst, Ok, common_steps, Loads}
 use Rattle.std.proofs.lemmas.Result.{IfOk-weaker}
-use Rattle.tv_run.specs.Answers.{Loads}
 use Rattle.tv_run.proofs.check.report_of.Goals as goal
 
 pub returns-clause-reports : goal.returns-clause-reports

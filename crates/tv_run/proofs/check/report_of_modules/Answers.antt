@@ -1,17 +1,5 @@
-use Rattle.std.proofs.Common.{◌≡◌, All, List, map, ap, subst, sym, ◌∙◌}
-use Rattle.std.specs.List.{filter_map}
-use Rattle.pair_driver.specs.declared.judged.Judged.{Judged}
-use Rattle.report.specs.declared.row.Row.{Row}
-use Rattle.report.specs.Text.{report_text}
-use Rattle.report.specs.Status.{status_of}
-use Rattle.proof_files.specs.Parts.{IsCertified, IsReadName, parts_of}
-use Rattle.tv_cli.specs.Seen.{seen_check}
-use Rattle.tv_run.specs.Answers.{IsProofAsked}
-use Rattle.tv_run.specs.Reports.{part_heading, row_heading}
-use Rattle.module_rows.specs.Judging.{may_answer}
-use Rattle.module_rows.proofs.Answered.{verdicts_with_extra}
+use Rattle.tv_run.proofs.Common.{◌≡◌, All, List, map, ap, subst, sym, ◌∙◌, filter_map, Judged, Row, report_text, status_of, IsCertified, IsReadName, parts_of, seen_check, IsProofAsked, part_heading, row_heading, may_answer, verdicts_with_extra, rows_have_answers}
 use Rattle.tv_run.proofs.Certified.{rows_certified, rows_headed, rows_named}
-use Rattle.module_rows.proofs.OwnAnswers.{rows_have_answers}
 use Rattle.tv_run.proofs.check.report_of_modules.Goals as goal
 
 pub proof_asked-requires-clause-names : goal.proof_asked-requires-clause-names

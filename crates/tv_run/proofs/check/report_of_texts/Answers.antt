@@ -1,6 +1,4 @@
-use Rattle.std.proofs.Common.{◌≡◌, rules, arith, subst, Ok}
-use Rattle.std.proofs.lemmas.Grind.{common_steps}
-use Rattle.tv_run.specs.Answers.{IsParsed, Parses}
+use Rattle.tv_run.proofs.Common.{◌≡◌, rules, arith, subst, Ok, common_steps, IsParsed, Parses}
 use Rattle.tv_run.proofs.check.report_of_texts.Goals as goal
 
 pub returns-clause-reports : goal.returns-clause-reports

@@ -1,7 +1,4 @@
-use Rattle.std.proofs.Common.{◌-◌, Some, refl, ap, vec_len}
-use Rattle.tv_io.specs.MemoryShelf.{files_of, memory_state}
-use Rattle.tv_io.specs.State.{ShelfState, SinkState}
-use Rattle.tv_run.specs.Jobs.{job_in}
+use Rattle.tv_run.proofs.Common.{◌-◌, Some, refl, ap, vec_len, files_of, memory_state, ShelfState, SinkState, job_in}
 use Rattle.tv_run.proofs.InMemory.{complete, defined, sound}
 use Rattle.tv_run.proofs.in_memory.run_in_memory.Goals as goal
 

@@ -1,6 +1,4 @@
-use Rattle.std.proofs.Common.{ℕ, List, [], ◌∷◌, ◌++◌, codes, refl, subst}
-use Rattle.tv_io.specs.Taken.{IsWritten}
-use Rattle.tv_io.proofs.TakenLemmas.{IsWritten-append, IsCutOff-first, IsCutOff-second}
+use Rattle.tv_run.proofs.Common.{ℕ, List, [], ◌∷◌, ◌++◌, codes, refl, subst, IsWritten, IsWritten-append, IsCutOff-first, IsCutOff-second}
 use Rattle.tv_run.proofs.Pieces.{IsCutOff-second_piece, OnErr-always}
 use Rattle.tv_run.proofs.lines.write_fault.Goals as goal
 

@@ -1,4 +1,4 @@
-use Rattle.std.proofs.Common.{ℕ, List, [], ◌∷◌, ◌++◌, ap, ◌∙◌}
+use Rattle.tv_run.proofs.Common.{ℕ, List, [], ◌∷◌, ◌++◌, ap, ◌∙◌}
 use Rattle.tv_run.proofs.Pieces.{IsCutOff-second_piece}
 use Rattle.tv_run.proofs.lines.write_place.Goals as goal
 

@@ -1,13 +1,4 @@
-use Rattle.std.proofs.Common.{◌∙◌, List, ℕ, ap, refl, sym}
-use Rattle.report.specs.declared.row.Row.{Row}
-use Rattle.report.specs.Text.{report_text, summary_text}
-use Rattle.report.specs.Status.{status_of}
-use Rattle.tv_cli.specs.Seen.{seen_make}
-use Rattle.tv_run.specs.Makes.{make_line}
-use Rattle.tv_run.specs.Reports.{IsReport}
-use Rattle.module_rows.specs.Judging.{may_answer}
-use Rattle.module_rows.proofs.Answered.{verdicts_with_extra}
-use Rattle.module_rows.proofs.OwnAnswers.{rows_have_answers}
+use Rattle.tv_run.proofs.Common.{◌∙◌, List, ℕ, ap, refl, sym, Row, report_text, summary_text, status_of, seen_make, make_line, IsReport, may_answer, verdicts_with_extra, rows_have_answers}
 use Rattle.tv_run.proofs.made.made_of_modules.Goals as goal
 
 pub returns : goal.returns

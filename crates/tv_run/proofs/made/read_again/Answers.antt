@@ -1,7 +1,4 @@
-use Rattle.std.proofs.Common.{◌∙◌, List, ℕ, subst}
-use Rattle.ir_reader.specs.Module.{IsModule}
-use Rattle.ir_printer.specs.ModuleText.{module_text}
-use Rattle.tv_run.specs.Answers.{IsFaultOf}
+use Rattle.tv_run.proofs.Common.{◌∙◌, List, ℕ, subst, IsModule, module_text, IsFaultOf}
 use Rattle.tv_run.proofs.ReadAgain.{no_fault, read_is_same}
 use Rattle.tv_run.proofs.made.read_again.Goals as goal
 

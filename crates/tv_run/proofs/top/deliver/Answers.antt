@@ -1,4 +1,4 @@
-use Rattle.std.proofs.Common.{ap, inr, option_map, refl}
+use Rattle.tv_run.proofs.Common.{ap, inr, option_map, refl}
 use Rattle.tv_run.proofs.Stopping.{from_write}
 use Rattle.tv_run.proofs.top.deliver.Goals as goal
 

@@ -1,7 +1,4 @@
-use Rattle.std.proofs.Common.{◌∙◌, Some, ap, arith, option_map, refl, sym}
-use Rattle.tv_cli.specs.Seen.{seen, seen_check}
-use Rattle.tv_run.specs.Jobs.{job_in}
-use Rattle.tv_run.specs.Reports.{IsUnfinished}
+use Rattle.tv_run.proofs.Common.{◌∙◌, Some, ap, arith, option_map, refl, sym, seen, seen_check, job_in, IsUnfinished}
 use Rattle.tv_run.proofs.Files.{job_unchanged, unchanged}
 use Rattle.tv_run.proofs.OneJob.{where_checked}
 use Rattle.tv_run.proofs.top.run.Goals as goal

@@ -1,4 +1,4 @@
-use Rattle.tv_cli.specs.Seen.{seen_check}
+use Rattle.tv_run.proofs.Common.{seen_check}
 use Rattle.tv_run.proofs.Sending.{delivered_defined, delivered_from, delivered_sound, delivered_unfinished, delivered_whole, delivered_zero}
 use Rattle.tv_run.proofs.Stopping.{complete}
 use Rattle.tv_run.proofs.top.run_check.Goals as goal

@@ -1,8 +1,5 @@
 -- The literals so far are the one or false.
-use Rattle.std.proofs.Common.{◌≡◌, ◌⊎◌, drop, take}
-use Rattle.clause_log.specs.Members.{Has}
-use Rattle.clause_lits.specs.declared.lit.Lit.{Lit}
-use Rattle.clause_search.specs.Trail.{IsFalse}
+use Rattle.watch_solver.proofs.Common.{◌≡◌, ◌⊎◌, drop, take, Has, Lit, IsFalse}
 use Rattle.watch_solver.proofs.free.free_among.Given as goal
 
 abbrev pub invariant-loop-literal : goal.invariant-loop-literal

@@ -1,7 +1,5 @@
 -- The two parts are the clause.
-use Rattle.std.proofs.Common.{Some, List, take, subst}
-use Rattle.clause_lits.specs.declared.lit.Lit.{Lit}
-use Rattle.watch_solver.specs.Free.{IsFree}
+use Rattle.watch_solver.proofs.Common.{Some, List, take, subst, Lit, IsFree}
 use Rattle.watch_solver.proofs.Freeing.{free-rest, free-front}
 use Rattle.watch_solver.proofs.free.free_literal.Goals as goal
 

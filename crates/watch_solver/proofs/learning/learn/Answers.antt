@@ -1,12 +1,5 @@
 -- The learned clause is added and watched, and its literal is true at the position gone back to.
-use Rattle.std.proofs.Common.{ℕ, ◌≤◌, ◌+◌, List, length, take, arith, ap, refl, subst}
-use Rattle.std.proofs.lemmas.Option.{slice_get_within}
-use Rattle.clause_log.specs.declared.step.Step.{Step}
-use Rattle.clause_search.specs.declared.trail.Entry.{Entry}
-use Rattle.clause_search.specs.declared.learning.Learned.{Learned}
-use Rattle.clause_search.specs.Searching.{standing}
-use Rattle.clause_search.specs.Trail.{IsUnassigned, Stands}
-use Rattle.clause_search.proofs.ByPlace.{stands-take}
+use Rattle.watch_solver.proofs.Common.{ℕ, ◌≤◌, ◌+◌, List, length, take, arith, ap, refl, subst, slice_get_within, Step, Entry, Learned, standing, IsUnassigned, Stands, stands-take}
 use Rattle.clause_search.proofs.Learns.{search-learn, search-learn-falls}
 use Rattle.watch_solver.proofs.Learned.{learned-done, learned-range, learned-roomy, learned-watched}
 use Rattle.watch_solver.proofs.learning.learn.Goals as goal

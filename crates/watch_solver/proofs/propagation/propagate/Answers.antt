@@ -1,7 +1,5 @@
 -- The trail is no longer than there are variables.
-use Rattle.std.proofs.Common.{arith}
-use Rattle.clause_search.specs.Searching.{standing}
-use Rattle.clause_search.proofs.Counting.{length-trail}
+use Rattle.watch_solver.proofs.Common.{arith, standing, length-trail}
 use Rattle.watch_solver.proofs.propagation.propagate.Goals as goal
 
 pub queue-smaller : goal.queue-smaller

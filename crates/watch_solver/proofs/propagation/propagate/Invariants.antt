@@ -1,9 +1,5 @@
 -- All clauses are kept by the entries before the next one.
-use Rattle.std.proofs.Common.{◌≤◌, ◌+◌, ◌-◌, take}
-use Rattle.clause_search.specs.Ending.{left_of}
-use Rattle.clause_search.specs.Searching.{IsSearch, standing}
-use Rattle.watch_solver.specs.Kept.{AreKept}
-use Rattle.watch_solver.specs.Walks.{IsWatched}
+use Rattle.watch_solver.proofs.Common.{◌≤◌, ◌+◌, ◌-◌, take, left_of, IsSearch, standing, AreKept, IsWatched}
 use Rattle.watch_solver.proofs.propagation.propagate.Given as goal
 
 abbrev pub invariant-queue : goal.invariant-queue

@@ -1,8 +1,5 @@
 -- Each look keeps what holds all along the walk.
-use Rattle.std.proofs.Common.{◌∙◌, arith, ap, sym}
-use Rattle.clause_lits.specs.declared.lit.Lit.{Lit}
-use Rattle.clause_search.proofs.Searches.{search-consistent, search-falls}
-use Rattle.watch_solver.specs.Codes.{lit_of}
+use Rattle.watch_solver.proofs.Common.{◌∙◌, arith, ap, sym, Lit, search-consistent, search-falls, lit_of}
 use Rattle.watch_solver.proofs.Walking.{falsified-range, length-elsewhere, length-moved, length-true, walk-clause, walk-elsewhere, walk-end, walk-false, walk-moved, walk-place, walk-place_kept, walk-room, walk-start, walk-true, walk-unit, walk-watch, walk-within}
 use Rattle.watch_solver.proofs.propagation.visit.Goals as goal
 

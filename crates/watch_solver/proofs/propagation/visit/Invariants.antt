@@ -1,9 +1,5 @@
 -- The clauses of the watches before the index are kept by one more entry.
-use Rattle.std.proofs.Common.{◌≤◌, ◌-◌, length}
-use Rattle.clause_search.specs.Ending.{left_of}
-use Rattle.watch_solver.specs.Codes.{lit_of}
-use Rattle.watch_solver.specs.Lists.{list_of}
-use Rattle.watch_solver.specs.Walks.{IsWalk}
+use Rattle.watch_solver.proofs.Common.{◌≤◌, ◌-◌, length, left_of, lit_of, list_of, IsWalk}
 use Rattle.watch_solver.proofs.propagation.visit.Given as goal
 
 abbrev pub invariant-walk : goal.invariant-walk

@@ -1,5 +1,5 @@
 -- The last step is sound and the others were.
-use Rattle.clause_search.proofs.Searches.{search-careful-more, search-refutes}
+use Rattle.watch_solver.proofs.Common.{search-careful-more, search-refutes}
 use Rattle.watch_solver.proofs.solver.refuted.Goals as goal
 
 pub returns : goal.returns

@@ -1,6 +1,5 @@
 -- Each round implies literals, decides one or learns a clause.
-use Rattle.std.proofs.Common.{◌≡◌, None, arith, sym}
-use Rattle.clause_search.proofs.Searches.{search-decide, search-falls, search-sat, search-spent}
+use Rattle.watch_solver.proofs.Common.{◌≡◌, None, arith, sym, search-decide, search-falls, search-sat, search-spent}
 use Rattle.watch_solver.proofs.Deciding.{decided-kept, decided-watched, propagated-settled}
 use Rattle.watch_solver.proofs.solver.search_from.Goals as goal
 

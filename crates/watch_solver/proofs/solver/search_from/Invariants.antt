@@ -1,9 +1,5 @@
 -- The search holds, its watches go with it, and each clause is kept by the entries that were looked at.
-use Rattle.std.proofs.Common.{take}
-use Rattle.clause_search.specs.Ending.{left_of}
-use Rattle.clause_search.specs.Searching.{IsSearch, standing}
-use Rattle.watch_solver.specs.Kept.{AreKept}
-use Rattle.watch_solver.specs.Walks.{IsWatched}
+use Rattle.watch_solver.proofs.Common.{take, left_of, IsSearch, standing, AreKept, IsWatched}
 use Rattle.watch_solver.proofs.solver.search_from.Given as goal
 
 abbrev pub invariant-search : goal.invariant-search

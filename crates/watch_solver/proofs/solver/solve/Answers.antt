@@ -1,7 +1,5 @@
 -- The variables of a list of clauses are in range by its type.
-use Rattle.std.proofs.Common.{List, sym, subst}
-use Rattle.clause_lits.specs.declared.lit.Lit.{Lit}
-use Rattle.clause_search.specs.Searching.{AreInRange}
+use Rattle.watch_solver.proofs.Common.{List, sym, subst, Lit, AreInRange}
 use Rattle.clause_search.proofs.Ranges.{in_range-within}
 use Rattle.watch_solver.proofs.solver.solve.Goals as goal
 

@@ -1,10 +1,5 @@
 -- What becomes of a clause of no, one or more literals.
-use Rattle.std.proofs.Common.{get_or, arith, false, inl, inr, refl, sym, subst}
-use Rattle.std.proofs.lemmas.Bool.{both_ways}
-use Rattle.std.proofs.lemmas.Option.{slice_get_within}
-use Rattle.clause_lits.specs.declared.lit.Lit.{Lit}
-use Rattle.clause_search.specs.Trail.{Stands}
-use Rattle.watch_solver.specs.declared.watches.Pair.{Pair}
+use Rattle.watch_solver.proofs.Common.{get_or, arith, false, inl, inr, refl, sym, subst, both_ways, slice_get_within, Lit, Stands, Pair}
 use Rattle.watch_solver.proofs.Starting.{false-only, first-two, only-of, started-false, started-pair, started-range, started-room, started-true, started-unit, two-of}
 use Rattle.watch_solver.proofs.start.add_clause.Goals as goal
 

@@ -1,6 +1,5 @@
 -- Before the first clause nothing is watched.
-use Rattle.std.proofs.Common.{length, refl}
-use Rattle.std.proofs.lemmas.Option.{slice_get_read}
+use Rattle.watch_solver.proofs.Common.{length, refl, slice_get_read}
 use Rattle.watch_solver.proofs.Starting.{started-none}
 use Rattle.watch_solver.proofs.start.begin.Goals as goal
 

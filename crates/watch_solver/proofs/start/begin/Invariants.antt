@@ -1,5 +1,5 @@
 -- The clauses so far were looked at.
-use Rattle.watch_solver.specs.Starts.{IsStarted}
+use Rattle.watch_solver.proofs.Common.{IsStarted}
 use Rattle.watch_solver.proofs.start.begin.Given as goal
 
 abbrev pub invariant-loop-index : goal.invariant-loop-index

@@ -1,9 +1,4 @@
-use Rattle.std.proofs.Common.{List, arith, refl, subst, sym}
-use Rattle.std.proofs.lemmas.Bool.{both_ways}
-use Rattle.clause_lits.specs.declared.lit.Lit.{Lit}
-use Rattle.clause_search.specs.Searching.{standing}
-use Rattle.clause_search.specs.Trail.{Stands}
-use Rattle.watch_solver.specs.declared.watches.Pair.{Pair}
+use Rattle.watch_solver.proofs.Common.{List, arith, refl, subst, sym, both_ways, Lit, standing, Stands, Pair}
 use Rattle.watch_solver.proofs.Looking.{looked-range, looked-move, looked-false, looked-unit}
 use Rattle.watch_solver.proofs.verdict.look_at.Goals as goal
 

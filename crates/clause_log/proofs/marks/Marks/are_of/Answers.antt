@@ -1,5 +1,5 @@
 -- The clause has as many literals as are marked, and each of them is.
-use Rattle.std.proofs.Common.{◌≡◌, ◌∙◌, length, ap, sym, refl}
+use Rattle.clause_log.proofs.Common.{◌≡◌, ◌∙◌, length, ap, sym, refl}
 use Rattle.clause_log.proofs.Joins.{marks-of, marks-lack}
 use Rattle.clause_log.proofs.marks.Marks.are_of.Goals as goal
 

@@ -1,6 +1,5 @@
 -- The literals so far are marked.
-use Rattle.std.proofs.Common.{drop}
-use Rattle.clause_log.specs.Marking.{sign_of}
+use Rattle.clause_log.proofs.Common.{drop, sign_of}
 use Rattle.clause_log.proofs.Walking.{AllMarked}
 use Rattle.clause_log.proofs.marks.Marks.are_of.Given as goal
 

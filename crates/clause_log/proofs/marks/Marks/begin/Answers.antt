@@ -1,5 +1,5 @@
 -- No mark has the next stamp.
-use Rattle.std.proofs.Common.{◌≡◌, ◌+◌, arith, sym, refl}
+use Rattle.clause_log.proofs.Common.{◌≡◌, ◌+◌, arith, sym, refl}
 use Rattle.clause_log.proofs.Placed.{none-marked}
 use Rattle.clause_log.proofs.Joins.{no-marks}
 use Rattle.clause_log.proofs.marks.Marks.begin.Goals as goal

@@ -1,6 +1,5 @@
 -- What is marked at the end is the join.
-use Rattle.std.proofs.Common.{◌<◌, ◌∙◌, length, sym, arith}
-use Rattle.clause_lits.specs.Meaning.{IsClause}
+use Rattle.clause_log.proofs.Common.{◌<◌, ◌∙◌, length, sym, arith, IsClause}
 use Rattle.clause_log.proofs.Joins.{joined-end, second-clash, new-walk, new-marks, same-walk, gone-walk, gone-marks}
 use Rattle.clause_log.proofs.marks.Marks.join.Goals as goal
 use Rattle.clause_log.proofs.marks.Marks.join.Goals.{in-None, in-Some-sign+then-positive-literal+else-clashed, in-Some-sign+else-positive-literal}

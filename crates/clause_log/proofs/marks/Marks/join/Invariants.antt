@@ -1,7 +1,5 @@
 -- The literals that are left take the marks to what the whole clause takes the first ones to. The marks are always those of a clause.
-use Rattle.std.proofs.Common.{List, drop}
-use Rattle.clause_lits.specs.declared.lit.Lit.{Lit}
-use Rattle.clause_log.specs.Marking.{AreMarks, sign_of}
+use Rattle.clause_log.proofs.Common.{List, drop, Lit, AreMarks, sign_of}
 use Rattle.clause_log.proofs.Walking.{IsWalk}
 use Rattle.clause_log.proofs.marks.Marks.join.Given as goal
 

@@ -1,6 +1,4 @@
-use Rattle.std.proofs.Common.{◌∙◌, subst}
-use Rattle.std.specs.List.Sorted.{IsBinarySearchResult}
-use Rattle.std.specs.Ordering.{nat_cmp}
+use Rattle.clause_log.proofs.Common.{◌∙◌, subst, IsBinarySearchResult, nat_cmp}
 use Rattle.clause_log.proofs.Placed.{index_of-searched}
 use Rattle.clause_log.proofs.places.Variables.find.Goals as goal
 

@@ -1,7 +1,5 @@
 -- After the sort each number is at least the one before it, and no two are the same.
-use Rattle.std.proofs.Common.{eqb, subst, sym}
-use Rattle.std.specs.List.Sorted.{IsStrictlyIncreasing}
-use Rattle.std.proofs.lemmas.Map.Keys.{IsStrictlyIncreasing-dedup}
+use Rattle.clause_log.proofs.Common.{eqb, subst, sym, IsStrictlyIncreasing, IsStrictlyIncreasing-dedup}
 use Rattle.std.proofs.lemmas.List.Filters.{dedup_is}
 use Rattle.clause_log.proofs.places.Variables.sorted.Goals as goal
 

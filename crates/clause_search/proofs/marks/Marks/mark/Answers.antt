@@ -1,5 +1,5 @@
 -- One mark more.
-use Rattle.std.proofs.Common.{arith, refl}
+use Rattle.clause_search.proofs.Common.{arith, refl}
 use Rattle.clause_search.proofs.Marking.{count-room, counted-early, counted-more, read-mark}
 use Rattle.clause_search.proofs.marks.Marks.mark.Goals as goal
 

@@ -1,5 +1,5 @@
 -- No entry is marked.
-use Rattle.std.proofs.Common.{refl, rules}
+use Rattle.clause_search.proofs.Common.{refl, rules}
 use Rattle.clause_search.proofs.Marking.{counted-none}
 use Rattle.clause_search.proofs.marks.Marks.new.Goals as goal
 

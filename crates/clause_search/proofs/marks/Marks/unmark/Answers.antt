@@ -1,5 +1,5 @@
 -- One mark less from the position on.
-use Rattle.std.proofs.Common.{arith, refl}
+use Rattle.clause_search.proofs.Common.{arith, refl}
 use Rattle.clause_search.proofs.Marking.{count-some, counted-less}
 use Rattle.clause_search.proofs.marks.Marks.unmark.Goals as goal
 

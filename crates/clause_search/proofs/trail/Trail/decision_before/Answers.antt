@@ -1,6 +1,4 @@
-use Rattle.std.proofs.Common.{◌≤◌, length, List, sym, subst}
-use Rattle.clause_search.specs.declared.trail.Entry.{Entry}
-use Rattle.clause_search.specs.Assigning.{IsLastBelow}
+use Rattle.clause_search.proofs.Common.{◌≤◌, length, List, sym, subst, Entry, IsLastBelow}
 use Rattle.clause_search.proofs.Placing.{last-at}
 use Rattle.clause_search.proofs.trail.Trail.decision_before.Goals as goal
 

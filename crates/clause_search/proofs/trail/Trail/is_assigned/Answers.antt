@@ -1,4 +1,4 @@
-use Rattle.std.proofs.Common.{◌∙◌, sym}
+use Rattle.clause_search.proofs.Common.{◌∙◌, sym}
 use Rattle.clause_search.proofs.Placing.{assigned-some}
 use Rattle.clause_search.proofs.trail.Trail.is_assigned.Goals as goal
 

@@ -1,8 +1,5 @@
 -- The variable's position is out of date where another one is there, or none.
-use Rattle.std.proofs.Common.{Some, None, List, length, subst, refl}
-use Rattle.std.proofs.lemmas.Option.{slice_get_read}
-use Rattle.clause_search.specs.declared.trail.Entry.{Entry}
-use Rattle.clause_search.specs.Placing.{IsPlaceOf}
+use Rattle.clause_search.proofs.Common.{Some, None, List, length, subst, refl, slice_get_read, Entry, IsPlaceOf}
 use Rattle.clause_search.proofs.Placing.{place-past, place-unmarked, place-other, place-marked}
 use Rattle.clause_search.proofs.trail.Trail.place_of.Goals as goal
 

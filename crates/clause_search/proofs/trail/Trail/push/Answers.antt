@@ -1,11 +1,5 @@
 -- The new entry has its position, and its last decision.
-use Rattle.std.proofs.Common.{◌≡◌, ◌∙◌, List, ℕ, Some, length, inl, inr, sym, ap, subst}
-use Rattle.std.proofs.lemmas.List.{length-map}
-use Rattle.clause_search.specs.declared.trail.Entry.{Entry}
-use Rattle.clause_search.specs.declared.trail.Mark.{Mark}
-use Rattle.clause_search.specs.Trail.{IsUnassigned}
-use Rattle.clause_search.specs.Assigning.{IsLastBelow}
-use Rattle.clause_search.specs.Placing.{entries_of, ArePlaced, AreLast}
+use Rattle.clause_search.proofs.Common.{◌≡◌, ◌∙◌, List, ℕ, Some, length, inl, inr, sym, ap, subst, length-map, Entry, Mark, IsUnassigned, IsLastBelow, entries_of, ArePlaced, AreLast}
 use Rattle.clause_search.proofs.Placing.{placed-put, placed-push, last-push}
 use Rattle.clause_search.proofs.trail.Trail.push.Goals as goal
 use Rattle.clause_search.proofs.trail.Trail.push.Goals.{then-entry-eq0, else-entry-eq0}

@@ -1,6 +1,5 @@
 -- The literal is assigned where its variable is.
-use Rattle.std.proofs.Common.{arith}
-use Rattle.std.proofs.lemmas.Bool.{false≢true, ltb-true}
+use Rattle.clause_search.proofs.Common.{arith, false≢true, ltb-true}
 use Rattle.clause_search.proofs.Placing.{stands-none, stands-here, stands-later}
 use Rattle.clause_search.proofs.trail.Trail.stands_before.Goals as goal
 

@@ -1,8 +1,5 @@
 -- What is left keeps its positions and decisions.
-use Rattle.std.proofs.Common.{◌∙◌, List, take, sym, subst, ap}
-use Rattle.std.proofs.lemmas.List.{take-map}
-use Rattle.clause_search.specs.declared.trail.Mark.{Mark}
-use Rattle.clause_search.specs.Placing.{entries_of, ArePlaced, AreLast}
+use Rattle.clause_search.proofs.Common.{◌∙◌, List, take, sym, subst, ap, take-map, Mark, entries_of, ArePlaced, AreLast}
 use Rattle.clause_search.proofs.Placing.{placed-take, last-take}
 use Rattle.clause_search.proofs.trail.Trail.truncate.Goals as goal
 

@@ -1,8 +1,5 @@
 -- Each step mapped back is one more of the log.
-use Rattle.std.proofs.Common.{◌≡◌, ◌∷◌, List, subst, sym}
-use Rattle.clause_lits.specs.declared.lit.Lit.{Lit}
-use Rattle.std.specs.Vec.Iter.{into_iter_items}
-use Rattle.cnf_renumber.specs.Renumbered.{IsRenumbering, renumbered_literal}
+use Rattle.cnf_renumber.proofs.Common.{◌≡◌, ◌∷◌, List, subst, sym, Lit, into_iter_items, IsRenumbering, renumbered_literal}
 use Rattle.cnf_renumber.proofs.Literals.{flipped}
 use Rattle.cnf_renumber.proofs.Inverse.{log-more}
 use Rattle.cnf_renumber.proofs.tables.Renumbering.log_back.Goals as goal

@@ -1,6 +1,5 @@
 -- The steps so far.
-use Rattle.std.specs.Vec.Iter.{into_iter_items}
-use Rattle.cnf_renumber.specs.Renumbered.{renumbered_literal}
+use Rattle.cnf_renumber.proofs.Common.{into_iter_items, renumbered_literal}
 use Rattle.cnf_renumber.proofs.Inverse.{LogSoFar}
 use Rattle.cnf_renumber.proofs.tables.Renumbering.log_back.Given as goal
 

@@ -1,10 +1,5 @@
 -- The renumbered clauses have no other variables.
-use Rattle.std.proofs.Common.{◌≡◌, ◌∙◌, List, map, subst, sym}
-use Rattle.clause_lits.specs.declared.lit.Lit.{Lit}
-use Rattle.clause_lits.specs.Meaning.{AreWithin}
-use Rattle.clause_log.specs.declared.step.Step.{Step}
-use Rattle.clause_search.specs.Searching.{standing}
-use Rattle.cnf_renumber.specs.Renumbered.{renumbered, renumbered_literal}
+use Rattle.cnf_renumber.proofs.Common.{◌≡◌, ◌∙◌, List, map, subst, sym, Lit, AreWithin, Step, standing, renumbered, renumbered_literal}
 use Rattle.cnf_renumber.proofs.Inverse.{map-standing, renumbered-within, standing-range}
 use Rattle.cnf_renumber.proofs.tables.Renumbering.renumber.Goals as goal
 

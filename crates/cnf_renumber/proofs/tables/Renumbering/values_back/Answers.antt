@@ -1,7 +1,5 @@
 -- One more value.
-use Rattle.std.proofs.Common.{ℕ, ◌∙◌, ◌+◌, true, refl}
-use Rattle.clause_lits.specs.Meaning.{lit_true, values_of}
-use Rattle.cnf_renumber.specs.Renumbered.{renumbered_literal}
+use Rattle.cnf_renumber.proofs.Common.{ℕ, ◌∙◌, ◌+◌, true, refl, lit_true, values_of, renumbered_literal}
 use Rattle.cnf_renumber.proofs.Steps.{values-more}
 use Rattle.cnf_renumber.proofs.tables.Renumbering.values_back.Goals as goal
 

@@ -1,7 +1,5 @@
 -- The values so far.
-use Rattle.std.proofs.Common.{ℕ, ◌≡◌, ◌<◌, ◌+◌, false, true, length, slice_index_or}
-use Rattle.clause_lits.specs.Meaning.{lit_true, values_of}
-use Rattle.cnf_renumber.specs.Renumbered.{renumbered_literal}
+use Rattle.cnf_renumber.proofs.Common.{ℕ, ◌≡◌, ◌<◌, ◌+◌, false, true, length, slice_index_or, lit_true, values_of, renumbered_literal}
 use Rattle.cnf_renumber.proofs.tables.Renumbering.values_back.Given as goal
 
 abbrev pub invariant-loop-index : goal.invariant-loop-index

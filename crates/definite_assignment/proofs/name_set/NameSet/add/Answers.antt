@@ -1,6 +1,4 @@
-use Rattle.std.proofs.Common.{ap, length, ◌∙◌, arith}
-use Rattle.std.proofs.lemmas.List.{with_items_is}
-use Rattle.definite_assignment.specs.Sets.{names_in}
+use Rattle.definite_assignment.proofs.Common.{ap, length, ◌∙◌, arith, with_items_is, names_in}
 use Rattle.definite_assignment.proofs.Names.{places_of, set_is-add}
 use Rattle.definite_assignment.proofs.name_set.NameSet.add.Goals as goal
 

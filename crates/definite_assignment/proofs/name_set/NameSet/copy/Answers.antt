@@ -1,4 +1,4 @@
-use Rattle.std.proofs.Common.{ap, length, sym, ◌∙◌}
+use Rattle.definite_assignment.proofs.Common.{ap, length, sym, ◌∙◌}
 use Rattle.definite_assignment.proofs.Names.{same_words}
 use Rattle.definite_assignment.proofs.name_set.NameSet.copy.Goals as goal
 

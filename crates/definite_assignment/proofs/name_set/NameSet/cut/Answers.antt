@@ -1,6 +1,4 @@
-use Rattle.std.proofs.Common.{ap, length, sym, ◌∙◌}
-use Rattle.std.proofs.lemmas.List.{with_items_is}
-use Rattle.definite_assignment.specs.Sets.{names_in}
+use Rattle.definite_assignment.proofs.Common.{ap, length, sym, ◌∙◌, with_items_is, names_in}
 use Rattle.definite_assignment.proofs.Names.{same_words, set_is-both, set_differs}
 use Rattle.definite_assignment.proofs.name_set.NameSet.cut.Goals as goal
 

@@ -1,5 +1,4 @@
-use Rattle.std.proofs.Common.{ap, ◌+◌, ◌/◌, ◌∙◌}
-use Rattle.definite_assignment.specs.Sets.{names_in}
+use Rattle.definite_assignment.proofs.Common.{ap, ◌+◌, ◌/◌, ◌∙◌, names_in}
 use Rattle.definite_assignment.proofs.Names.{names_in-ones}
 use Rattle.definite_assignment.proofs.name_set.NameSet.every.Goals as goal
 

@@ -1,5 +1,4 @@
-use Rattle.std.proofs.Common.{take, get_or, arith}
-use Rattle.std.proofs.lemmas.List.{take_all, take_more}
+use Rattle.definite_assignment.proofs.Common.{take, get_or, arith, take_all, take_more}
 use Rattle.definite_assignment.proofs.Leaving.{leaving_none, leaving_more}
 use Rattle.definite_assignment.proofs.name_set.NameSet.fill.Goals as goal
 

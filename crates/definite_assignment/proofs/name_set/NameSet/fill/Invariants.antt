@@ -1,5 +1,4 @@
-use Rattle.std.proofs.Common.{take}
-use Rattle.definite_assignment.specs.Work.{IsLeaving}
+use Rattle.definite_assignment.proofs.Common.{take, IsLeaving}
 use Rattle.definite_assignment.proofs.name_set.NameSet.fill.Given as goal
 
 abbrev pub invariant-loop-name : goal.invariant-loop-name

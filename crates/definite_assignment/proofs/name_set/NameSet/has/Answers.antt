@@ -1,4 +1,4 @@
-use Rattle.std.proofs.Common.{◌∙◌}
+use Rattle.definite_assignment.proofs.Common.{◌∙◌}
 use Rattle.definite_assignment.proofs.Names.{set_is-has}
 use Rattle.definite_assignment.proofs.name_set.NameSet.has.Goals as goal
 

@@ -1,8 +1,4 @@
-use Rattle.std.proofs.Common.{◌≡◌, ◌<◌, ◌∙◌, false, length, get_or, sym, ap, arith}
-use Rattle.std.proofs.lemmas.List.{take_all, get_or_default}
-use Rattle.std.proofs.lemmas.List.Elements.{All-more}
-use Rattle.std.proofs.lemmas.Bool.{both_ways}
-use Rattle.definite_assignment.specs.Work.{is_waiting, rest_of, state_of}
+use Rattle.definite_assignment.proofs.Common.{◌≡◌, ◌<◌, ◌∙◌, false, length, get_or, sym, ap, arith, take_all, get_or_default, All-more, both_ways, is_waiting, rest_of, state_of}
 use Rattle.definite_assignment.proofs.work.Work.pass.Goals as goal
 use Rattle.definite_assignment.proofs.work.Work.pass.Goals.{then-index, else-index}
 

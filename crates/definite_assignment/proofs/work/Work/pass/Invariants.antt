@@ -1,6 +1,4 @@
-use Rattle.std.proofs.Common.{◌≡◌, ◌<◌, ◌≤◌, true, false, length, take}
-use Rattle.std.specs.List.{All}
-use Rattle.definite_assignment.specs.Work.{IsSearch, is_waiting, rest_of, state_of}
+use Rattle.definite_assignment.proofs.Common.{◌≡◌, ◌<◌, ◌≤◌, true, false, length, take, All, IsSearch, is_waiting, rest_of, state_of}
 use Rattle.definite_assignment.proofs.work.Work.pass.Given as goal
 
 abbrev pub invariant-loop-block : goal.invariant-loop-block

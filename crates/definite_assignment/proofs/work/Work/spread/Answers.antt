@@ -1,6 +1,4 @@
-use Rattle.std.proofs.Common.{take, get_or, arith, ◌∙◌, sym}
-use Rattle.std.proofs.lemmas.List.{take_all, take_more}
-use Rattle.definite_assignment.specs.Work.{state_of}
+use Rattle.definite_assignment.proofs.Common.{take, get_or, arith, ◌∙◌, sym, take_all, take_more, state_of}
 use Rattle.definite_assignment.proofs.Spread.{spread_none, spread_more}
 use Rattle.definite_assignment.proofs.work.Work.spread.Goals as goal
 

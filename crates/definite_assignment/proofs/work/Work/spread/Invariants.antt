@@ -1,5 +1,4 @@
-use Rattle.std.proofs.Common.{take}
-use Rattle.definite_assignment.specs.Work.{IsSpread, state_of}
+use Rattle.definite_assignment.proofs.Common.{take, IsSpread, state_of}
 use Rattle.definite_assignment.proofs.work.Work.spread.Given as goal
 
 abbrev pub invariant-loop-next : goal.invariant-loop-next

@@ -1,5 +1,4 @@
-use Rattle.std.proofs.Common.{◌<◌, ◌∙◌, false, length, set, refl, sym, subst, arith}
-use Rattle.definite_assignment.specs.Work.{IsSearch, state_of}
+use Rattle.definite_assignment.proofs.Common.{◌<◌, ◌∙◌, false, length, set, refl, sym, subst, arith, IsSearch, state_of}
 use Rattle.definite_assignment.proofs.Search.{list_at, search_turns, set_places, visit_shrinks}
 use Rattle.definite_assignment.proofs.work.Work.visit.Goals as goal
 

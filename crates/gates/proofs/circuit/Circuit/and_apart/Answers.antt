@@ -1,7 +1,6 @@
 -- An and gate has its two in order, so the values may be the other way round.
-use Rattle.std.proofs.Common.{◌∙◌, ◌&&◌, ap}
+use Rattle.gates.proofs.Common.{◌∙◌, ◌&&◌, ap, gate_at}
 use Rattle.gates.proofs.Stages.{IfOk-then}
-use Rattle.gates.specs.Values.{gate_at}
 use Rattle.gates.proofs.Stages.{and-value, and-swapped}
 use Rattle.gates.proofs.Folding.{kept-twice}
 use Rattle.gates.proofs.circuit.Circuit.and_apart.Goals as goal

@@ -1,5 +1,5 @@
 -- A gate and its negation are never both 1.
-use Rattle.std.proofs.Common.{◌∙◌, sym}
+use Rattle.gates.proofs.Common.{◌∙◌, sym}
 use Rattle.gates.proofs.Stages.{IfOk-then}
 use Rattle.gates.proofs.Stages.{apart-value}
 use Rattle.gates.proofs.circuit.Circuit.and_same.Goals as goal

@@ -1,7 +1,6 @@
 -- Of opposite arms the choice is an exclusive or.
-use Rattle.std.proofs.Common.{◌∙◌, ap, cond, sym}
+use Rattle.gates.proofs.Common.{◌∙◌, ap, cond, sym, gate_at}
 use Rattle.gates.proofs.Stages.{IfOk-then}
-use Rattle.gates.specs.Values.{gate_at}
 use Rattle.gates.proofs.Folding.{opposite-place}
 use Rattle.gates.proofs.circuit.Circuit.choose_same.Goals as goal
 

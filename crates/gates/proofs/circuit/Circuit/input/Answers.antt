@@ -1,6 +1,5 @@
 -- An input goes last, since it carries its index.
-use Rattle.std.proofs.Common.{◌++◌, ◌∷◌, [], ap, ◌∙◌}
-use Rattle.gates.specs.declared.circuit.Gate.TheVariants.{Input}
+use Rattle.gates.proofs.Common.{◌++◌, ◌∷◌, [], ap, ◌∙◌, Input}
 use Rattle.gates.proofs.Stages.{grows_grown, input_last, input_inputs, input_is, input_made, input_pushed}
 use Rattle.gates.proofs.circuit.Circuit.input.Goals as goal
 

@@ -1,4 +1,4 @@
-use Rattle.gates.specs.declared.circuit.Gate.TheVariants.{Zero}
+use Rattle.gates.proofs.Common.{Zero}
 use Rattle.gates.proofs.Stages.{constant-value, stored_at}
 use Rattle.gates.proofs.circuit.Circuit.is_constant.Goals as goal
 

@@ -1,6 +1,5 @@
 -- An and gate is 0 where an operand is.
-use Rattle.std.proofs.Common.{◌∙◌, inl, inr, sym}
-use Rattle.gates.specs.declared.circuit.Gate.TheVariants.{And, Zero}
+use Rattle.gates.proofs.Common.{◌∙◌, inl, inr, sym, And, Zero}
 use Rattle.gates.proofs.Stages.{stored_at}
 use Rattle.gates.proofs.Folding.{over-value, same_gate}
 use Rattle.gates.proofs.circuit.Circuit.is_over.Goals as goal

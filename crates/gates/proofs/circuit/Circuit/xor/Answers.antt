@@ -1,5 +1,5 @@
 -- Of gates at one index the signs decide.
-use Rattle.std.proofs.Common.{◌∙◌}
+use Rattle.gates.proofs.Common.{◌∙◌}
 use Rattle.gates.proofs.Stages.{IfOk-then}
 use Rattle.gates.proofs.Folding.{exclusive-place}
 use Rattle.gates.proofs.circuit.Circuit.xor.Goals as goal

@@ -1,7 +1,4 @@
-use Rattle.std.proofs.Common.{◌≡◌, List, length, replicate, rules, ap, ◌∙◌}
-use Rattle.ir_check.specs.declared.marks.Mark.{Mark}
-use Rattle.ir_check.specs.declared.marks.Mark.TheVariants.{Stranger}
-use Rattle.ir_check.specs.Marks.{marks_in}
+use Rattle.ir_check.proofs.Common.{◌≡◌, List, length, replicate, rules, ap, ◌∙◌, Mark, Stranger, marks_in}
 use Rattle.ir_check.proofs.Rounds.{unmarked, next_round, first_round}
 use Rattle.ir_check.proofs.marks.Marks.clear.Goals as goal
 

@@ -1,5 +1,4 @@
-use Rattle.std.proofs.Common.{◌∙◌, ap, rules}
-use Rattle.ir_check.specs.Marks.{marks_in}
+use Rattle.ir_check.proofs.Common.{◌∙◌, ap, rules, marks_in}
 use Rattle.ir_check.proofs.Rounds.{no_marks}
 use Rattle.ir_check.proofs.marks.Marks.new.Goals as goal
 

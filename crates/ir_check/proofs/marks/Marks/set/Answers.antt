@@ -1,5 +1,4 @@
-use Rattle.std.proofs.Common.{List, set, ap, ◌∙◌}
-use Rattle.ir_check.specs.declared.marks.Mark.{Mark}
+use Rattle.ir_check.proofs.Common.{List, set, ap, ◌∙◌, Mark}
 use Rattle.ir_check.proofs.Rounds.{mark_set}
 use Rattle.ir_check.proofs.marks.Marks.set.Goals as goal
 

@@ -1,11 +1,4 @@
-use Rattle.std.proofs.Common.{◌≡◌, ◌≤◌, List, true, length}
-use Rattle.std.proofs.lemmas.Result.{err_from_is_err_and}
-use Rattle.ir_lexer.specs.Lexeme.{Lexeme}
-use Rattle.token_forms.specs.Form.{Reading, reads, read}
-use Rattle.token_forms.proofs.Exact.{shorter}
-use Rattle.token_forms.proofs.Loops.{at_start, step-more, step-done, step-fails, step-shorter}
-use Rattle.ir_grammar.specs.Instructions.{is_square, array_begins, array_within, with_length, arrays}
-use Rattle.ir_grammar.specs.declared.written.WrittenArrays.{WrittenArrays}
+use Rattle.ir_grammar.proofs.Common.{◌≡◌, ◌≤◌, List, true, length, err_from_is_err_and, Lexeme, Reading, reads, read, shorter, at_start, step-more, step-done, step-fails, step-shorter, is_square, array_begins, array_within, with_length, arrays, WrittenArrays}
 use Rattle.ir_grammar.proofs.cursor.Cursor.arrays.Goals as goal
 
 abbrev part : WrittenArrays → Unit {0} → List Lexeme → Reading (WrittenArrays)

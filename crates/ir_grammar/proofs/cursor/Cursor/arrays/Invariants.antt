@@ -1,7 +1,4 @@
-use Rattle.std.proofs.Common.{true, length}
-use Rattle.token_forms.specs.Form.{read}
-use Rattle.token_forms.proofs.Loops.{Left}
-use Rattle.ir_grammar.specs.Instructions.{is_square, array_begins, array_within, with_length, arrays}
+use Rattle.ir_grammar.proofs.Common.{true, length, read, Left, is_square, array_begins, array_within, with_length, arrays}
 use Rattle.ir_grammar.proofs.cursor.Cursor.arrays.Given as goal
 
 abbrev pub invariant-loop-next : goal.invariant-loop-next

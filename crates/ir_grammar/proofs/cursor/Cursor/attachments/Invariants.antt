@@ -1,8 +1,4 @@
-use Rattle.std.proofs.Common.{true, length}
-use Rattle.token_forms.specs.Form.{read}
-use Rattle.token_forms.proofs.Loops.{Left}
-use Rattle.ir_grammar.specs.Classes.{any}
-use Rattle.ir_grammar.specs.Grammar.{is_comma, comma_begins, attachment, attachments}
+use Rattle.ir_grammar.proofs.Common.{true, length, read, Left, any, is_comma, comma_begins, attachment, attachments}
 use Rattle.ir_grammar.proofs.cursor.Cursor.attachments.Given as goal
 
 abbrev pub invariant-loop-is_more : goal.invariant-loop-is_more

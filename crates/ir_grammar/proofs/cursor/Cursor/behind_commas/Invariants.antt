@@ -1,8 +1,4 @@
-use Rattle.std.proofs.Common.{true, length}
-use Rattle.token_forms.specs.Form.{read}
-use Rattle.token_forms.proofs.Loops.{Left}
-use Rattle.ir_grammar.specs.Classes.{any}
-use Rattle.ir_grammar.specs.Grammar.{is_comma, line_comma, with_comma, behind_commas}
+use Rattle.ir_grammar.proofs.Common.{true, length, read, Left, any, is_comma, line_comma, with_comma, behind_commas}
 use Rattle.ir_grammar.proofs.cursor.Cursor.behind_commas.Given as goal
 
 abbrev pub invariant-loop-next : goal.invariant-loop-next

@@ -1,11 +1,4 @@
-use Rattle.std.proofs.Common.{◌≡◌, ◌≤◌, List, [], true, length}
-use Rattle.std.proofs.lemmas.Result.{err_from_is_err_and}
-use Rattle.ir_lexer.specs.Lexeme.{Lexeme}
-use Rattle.token_forms.specs.Form.{Reading, reads, read}
-use Rattle.token_forms.proofs.Exact.{shorter}
-use Rattle.token_forms.proofs.Loops.{at_start, step-more, step-done, step-fails, step-shorter}
-use Rattle.ir_grammar.specs.Grammar.{is_type, case_begins, case_within, with_case, cases}
-use Rattle.ir_grammar.specs.declared.written.WrittenIntType.{WrittenIntType}
+use Rattle.ir_grammar.proofs.Common.{◌≡◌, ◌≤◌, List, [], true, length, err_from_is_err_and, Lexeme, Reading, reads, read, shorter, at_start, step-more, step-done, step-fails, step-shorter, is_type, case_begins, case_within, with_case, cases, WrittenIntType}
 use Rattle.ir_grammar.specs.declared.written.WrittenCase.{WrittenCase}
 use Rattle.ir_grammar.proofs.cursor.Cursor.cases.Goals as goal
 

@@ -1,7 +1,4 @@
-use Rattle.std.proofs.Common.{true, length}
-use Rattle.token_forms.specs.Form.{read}
-use Rattle.token_forms.proofs.Loops.{Left}
-use Rattle.ir_grammar.specs.Grammar.{is_type, case_begins, case_within, with_case, cases}
+use Rattle.ir_grammar.proofs.Common.{true, length, read, Left, is_type, case_begins, case_within, with_case, cases}
 use Rattle.ir_grammar.proofs.cursor.Cursor.cases.Given as goal
 
 abbrev pub invariant-loop-next : goal.invariant-loop-next

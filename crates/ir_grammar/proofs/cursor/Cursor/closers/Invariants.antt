@@ -1,6 +1,4 @@
-use Rattle.std.proofs.Common.{◌≡◌, true}
-use Rattle.token_forms.specs.Form.{read}
-use Rattle.ir_grammar.specs.Instructions.{closers}
+use Rattle.ir_grammar.proofs.Common.{◌≡◌, true, read, closers}
 use Rattle.ir_grammar.proofs.cursor.Cursor.closers.Given as goal
 
 abbrev pub invariant-loop-left : goal.invariant-loop-left

@@ -1,5 +1,5 @@
+use Rattle.ir_grammar.proofs.Common.{define}
 use Rattle.token_forms.proofs.AsSpelled.{as-spelled}
-use Rattle.ir_grammar.specs.Grammar.{define}
 use Rattle.ir_grammar.proofs.cursor.Cursor.define.Goals as goal
 
 pub returns : goal.returns

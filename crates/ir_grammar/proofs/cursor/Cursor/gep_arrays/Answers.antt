@@ -1,4 +1,4 @@
-use Rattle.ir_grammar.specs.Instructions.{arrays, gep_arrays}
+use Rattle.ir_grammar.proofs.Common.{arrays, gep_arrays}
 use Rattle.ir_grammar.proofs.cursor.Cursor.gep_arrays.Goals as goal
 
 pub returns : goal.returns

@@ -1,8 +1,4 @@
-use Rattle.std.proofs.Common.{refl, arith}
-use Rattle.token_forms.specs.Form.{reads}
-use Rattle.token_forms.proofs.Loops.{at_start, one_more, no_more, begins-shorter}
-use Rattle.ir_grammar.specs.Classes.{any}
-use Rattle.ir_grammar.specs.Instructions.{gep_flags, is_gep_flag, next_gep_flag, no_gep_flags}
+use Rattle.ir_grammar.proofs.Common.{refl, arith, reads, at_start, one_more, no_more, begins-shorter, any, gep_flags, is_gep_flag, next_gep_flag, no_gep_flags}
 use Rattle.ir_grammar.proofs.cursor.Cursor.gep_flags.Goals as goal
 
 pub loop-more-init : goal.loop-more-init

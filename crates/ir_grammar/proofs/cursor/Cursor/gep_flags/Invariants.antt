@@ -1,8 +1,4 @@
-use Rattle.std.proofs.Common.{true, length}
-use Rattle.token_forms.specs.Form.{give, read}
-use Rattle.token_forms.proofs.Loops.{Left}
-use Rattle.ir_grammar.specs.Classes.{any}
-use Rattle.ir_grammar.specs.Instructions.{gep_flags, is_gep_flag, next_gep_flag}
+use Rattle.ir_grammar.proofs.Common.{true, length, give, read, Left, any, gep_flags, is_gep_flag, next_gep_flag}
 use Rattle.ir_grammar.proofs.cursor.Cursor.gep_flags.Given as goal
 
 abbrev pub invariant-loop-more : goal.invariant-loop-more

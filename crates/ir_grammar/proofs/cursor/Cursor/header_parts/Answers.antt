@@ -1,13 +1,4 @@
-use Rattle.std.proofs.Common.{◌≡◌, ◌≤◌, List, true, false, length}
-use Rattle.std.proofs.lemmas.Result.{err_from_is_err_and}
-use Rattle.ir_lexer.specs.Lexeme.{Lexeme}
-use Rattle.token_forms.specs.Form.{Reading, reads, read}
-use Rattle.token_forms.proofs.Exact.{shorter}
-use Rattle.token_forms.proofs.Loops.{at_start, step-more, step-done, step-fails, step-shorter}
-use Rattle.ir_grammar.specs.Classes.{any}
-use Rattle.ir_grammar.specs.Grammar.{follows_header, header_begins, with_header, header_parts}
-use Rattle.std.proofs.Common.{Bool}
-use Rattle.ir_grammar.specs.declared.word.HeaderPart.{HeaderPart}
+use Rattle.ir_grammar.proofs.Common.{◌≡◌, ◌≤◌, List, true, false, length, err_from_is_err_and, Lexeme, Reading, reads, read, shorter, at_start, step-more, step-done, step-fails, step-shorter, any, follows_header, header_begins, with_header, header_parts, Bool, HeaderPart}
 use Rattle.ir_grammar.proofs.cursor.Cursor.header_parts.Goals as goal
 
 abbrev part : Bool → HeaderPart → List Lexeme → Reading (Bool)

@@ -1,12 +1,4 @@
-use Rattle.std.proofs.Common.{◌≡◌, ◌≤◌, List, true, length}
-use Rattle.std.proofs.lemmas.Result.{err_from_is_err_and}
-use Rattle.ir_lexer.specs.Lexeme.{Lexeme}
-use Rattle.token_forms.specs.Form.{Reading, reads, read}
-use Rattle.token_forms.proofs.Exact.{shorter}
-use Rattle.token_forms.proofs.Loops.{at_start, step-more, step-done, step-fails, step-shorter}
-use Rattle.ir_grammar.specs.Grammar.{starts_line, line_begins, line_within, next_line, opened, lines}
-use Rattle.ir_grammar.specs.declared.word.LineStart.{LineStart}
-use Rattle.ir_grammar.specs.declared.written.WrittenLines.{WrittenLines}
+use Rattle.ir_grammar.proofs.Common.{◌≡◌, ◌≤◌, List, true, length, err_from_is_err_and, Lexeme, Reading, reads, read, shorter, at_start, step-more, step-done, step-fails, step-shorter, starts_line, line_begins, line_within, next_line, opened, lines, LineStart, WrittenLines}
 use Rattle.ir_grammar.proofs.cursor.Cursor.lines.Goals as goal
 
 abbrev part : WrittenLines → LineStart → List Lexeme → Reading (WrittenLines)

@@ -1,7 +1,4 @@
-use Rattle.std.proofs.Common.{true, length}
-use Rattle.token_forms.specs.Form.{read}
-use Rattle.token_forms.proofs.Loops.{Left}
-use Rattle.ir_grammar.specs.Grammar.{starts_line, line_begins, line_within, next_line, lines}
+use Rattle.ir_grammar.proofs.Common.{true, length, read, Left, starts_line, line_begins, line_within, next_line, lines}
 use Rattle.ir_grammar.proofs.cursor.Cursor.lines.Given as goal
 
 abbrev pub invariant-loop-next : goal.invariant-loop-next

@@ -1,12 +1,4 @@
-use Rattle.std.proofs.Common.{◌≡◌, ◌≤◌, List, true, length}
-use Rattle.std.proofs.lemmas.Result.{err_from_is_err_and}
-use Rattle.ir_lexer.specs.Lexeme.{Lexeme}
-use Rattle.token_forms.specs.Form.{Reading, reads, read}
-use Rattle.token_forms.proofs.Exact.{shorter}
-use Rattle.token_forms.proofs.Loops.{at_start, step-more, step-done, step-fails, step-shorter}
-use Rattle.ir_grammar.specs.Classes.{any}
-use Rattle.ir_grammar.specs.Grammar.{begins_block, block_begins, next_block, other_blocks}
-use Rattle.ir_grammar.specs.declared.written.WrittenName.{WrittenName}
+use Rattle.ir_grammar.proofs.Common.{◌≡◌, ◌≤◌, List, true, length, err_from_is_err_and, Lexeme, Reading, reads, read, shorter, at_start, step-more, step-done, step-fails, step-shorter, any, begins_block, block_begins, next_block, other_blocks, WrittenName}
 use Rattle.ir_grammar.specs.declared.written.WrittenBlocks.{WrittenBlocks}
 use Rattle.ir_grammar.proofs.cursor.Cursor.other_blocks.Goals as goal
 

@@ -1,8 +1,4 @@
-use Rattle.std.proofs.Common.{true, length}
-use Rattle.token_forms.specs.Form.{read}
-use Rattle.token_forms.proofs.Loops.{Left}
-use Rattle.ir_grammar.specs.Classes.{any}
-use Rattle.ir_grammar.specs.Grammar.{begins_block, block_begins, next_block, other_blocks}
+use Rattle.ir_grammar.proofs.Common.{true, length, read, Left, any, begins_block, block_begins, next_block, other_blocks}
 use Rattle.ir_grammar.proofs.cursor.Cursor.other_blocks.Given as goal
 
 abbrev pub invariant-loop-next : goal.invariant-loop-next

@@ -1,13 +1,4 @@
-use Rattle.std.proofs.Common.{◌≡◌, ◌≤◌, List, [], true, length}
-use Rattle.std.proofs.lemmas.Result.{err_from_is_err_and}
-use Rattle.ir_lexer.specs.Lexeme.{Lexeme}
-use Rattle.token_forms.specs.Form.{Reading, reads, read}
-use Rattle.token_forms.proofs.Exact.{shorter}
-use Rattle.token_forms.proofs.Loops.{at_start, step-more, step-done, step-fails, step-shorter}
-use Rattle.ir_grammar.specs.Classes.{any}
-use Rattle.ir_grammar.specs.Grammar.{follows_parameter, parameter_begins, with_part, parameter_parts, new_parameter}
-use Rattle.ir_grammar.specs.declared.word.ParameterPart.{ParameterPart}
-use Rattle.ir_grammar.specs.declared.written.WrittenParameters.{WrittenParameters}
+use Rattle.ir_grammar.proofs.Common.{◌≡◌, ◌≤◌, List, [], true, length, err_from_is_err_and, Lexeme, Reading, reads, read, shorter, at_start, step-more, step-done, step-fails, step-shorter, any, follows_parameter, parameter_begins, with_part, parameter_parts, new_parameter, ParameterPart, WrittenParameters}
 use Rattle.ir_grammar.proofs.cursor.Cursor.parameter_parts.Goals as goal
 
 abbrev part : WrittenParameters → ParameterPart → List Lexeme → Reading (WrittenParameters)

@@ -1,8 +1,4 @@
-use Rattle.std.proofs.Common.{true, length}
-use Rattle.token_forms.specs.Form.{read}
-use Rattle.token_forms.proofs.Loops.{Left}
-use Rattle.ir_grammar.specs.Classes.{any}
-use Rattle.ir_grammar.specs.Grammar.{follows_parameter, parameter_begins, with_part, parameter_parts}
+use Rattle.ir_grammar.proofs.Common.{true, length, read, Left, any, follows_parameter, parameter_begins, with_part, parameter_parts}
 use Rattle.ir_grammar.proofs.cursor.Cursor.parameter_parts.Given as goal
 
 abbrev pub invariant-loop-next : goal.invariant-loop-next

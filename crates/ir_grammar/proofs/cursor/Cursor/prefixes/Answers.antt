@@ -1,8 +1,4 @@
-use Rattle.std.proofs.Common.{refl, false, arith}
-use Rattle.token_forms.specs.Form.{reads}
-use Rattle.token_forms.proofs.Loops.{at_start, one_more, no_more, begins-shorter}
-use Rattle.ir_grammar.specs.Classes.{any}
-use Rattle.ir_grammar.specs.Grammar.{prefixes, is_prefix, next_prefix}
+use Rattle.ir_grammar.proofs.Common.{refl, false, arith, reads, at_start, one_more, no_more, begins-shorter, any, prefixes, is_prefix, next_prefix}
 use Rattle.ir_grammar.proofs.cursor.Cursor.prefixes.Goals as goal
 
 pub loop-more-init : goal.loop-more-init

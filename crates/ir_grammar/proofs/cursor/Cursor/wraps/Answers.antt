@@ -1,9 +1,4 @@
-use Rattle.std.proofs.Common.{refl, arith}
-use Rattle.token_forms.specs.Form.{reads}
-use Rattle.token_forms.proofs.Loops.{at_start, one_more, no_more, begins-shorter}
-use Rattle.ir_grammar.specs.Classes.{any}
-use Rattle.ir_grammar.specs.Words.{no_flags}
-use Rattle.ir_grammar.specs.Instructions.{wraps, is_wrap, next_wrap}
+use Rattle.ir_grammar.proofs.Common.{refl, arith, reads, at_start, one_more, no_more, begins-shorter, any, no_flags, wraps, is_wrap, next_wrap}
 use Rattle.ir_grammar.proofs.cursor.Cursor.wraps.Goals as goal
 
 pub loop-more-init : goal.loop-more-init

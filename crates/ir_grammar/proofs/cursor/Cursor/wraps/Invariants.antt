@@ -1,8 +1,4 @@
-use Rattle.std.proofs.Common.{true, length}
-use Rattle.token_forms.specs.Form.{give, read}
-use Rattle.token_forms.proofs.Loops.{Left}
-use Rattle.ir_grammar.specs.Classes.{any}
-use Rattle.ir_grammar.specs.Instructions.{wraps, is_wrap, next_wrap}
+use Rattle.ir_grammar.proofs.Common.{true, length, give, read, Left, any, wraps, is_wrap, next_wrap}
 use Rattle.ir_grammar.proofs.cursor.Cursor.wraps.Given as goal
 
 abbrev pub invariant-loop-more : goal.invariant-loop-more

@@ -1,4 +1,4 @@
-use Rattle.std.proofs.Common.{arith}
+use Rattle.ir_lexer.proofs.Common.{arith}
 use Rattle.ir_lexer.proofs.Places.{at_start, moved, line_fits, column_fits}
 use Rattle.ir_lexer.proofs.cursor.Cursor.new.Goals as goal
 

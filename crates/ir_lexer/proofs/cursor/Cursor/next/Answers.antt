@@ -1,6 +1,4 @@
-use Rattle.std.proofs.Common.{◌≡◌, ◌-◌, arith, drop, false, ap, ◌∙◌, ℕ}
-use Rattle.ir_lexer.specs.Scan.{name_run}
-use Rattle.ir_lexer.specs.Tokens.{behind_blanks}
+use Rattle.ir_lexer.proofs.Common.{◌≡◌, ◌-◌, arith, drop, false, ap, ◌∙◌, ℕ, name_run, behind_blanks}
 use Rattle.ir_lexer.proofs.Places.{moved, line_fits, column_fits, here-place, here-drop}
 use Rattle.ir_lexer.proofs.Runs.{run_left}
 use Rattle.ir_lexer.proofs.cursor.Cursor.next.Goals as goal

@@ -1,5 +1,4 @@
-use Rattle.std.proofs.Common.{ap, ◌∙◌}
-use Rattle.ir_lexer.specs.Position.{tokens_left}
+use Rattle.ir_lexer.proofs.Common.{ap, ◌∙◌, tokens_left}
 use Rattle.ir_lexer.proofs.Next.{left-start}
 use Rattle.ir_lexer.proofs.lexer.Lexer.new.Goals as goal
 

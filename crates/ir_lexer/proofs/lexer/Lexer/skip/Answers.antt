@@ -1,4 +1,4 @@
-use Rattle.std.proofs.Common.{◌+◌, arith}
+use Rattle.ir_lexer.proofs.Common.{◌+◌, arith}
 use Rattle.ir_lexer.proofs.Taking.{enough, skip_one}
 use Rattle.ir_lexer.proofs.lexer.Lexer.skip.Goals as goal
 

@@ -1,6 +1,4 @@
-use Rattle.std.proofs.Common.{◌≡◌, List, take}
-use Rattle.ir_lexer.specs.Lexeme.{Lexeme}
-use Rattle.std.proofs.Common.{Ok}
+use Rattle.ir_lexer.proofs.Common.{◌≡◌, List, take, Lexeme, Ok}
 use Rattle.ir_lexer.proofs.Taking.{IsPart}
 use Rattle.ir_lexer.proofs.lexer.Lexer.skip.Given as goal
 

@@ -1,8 +1,4 @@
-use Rattle.std.proofs.Common.{◌≡◌, ◌+◌, ◌<◌, ◌++◌, ◌∷◌, [], List, length, Option, Some, Result, Ok, ap, subst, sym, ◌∙◌, arith}
-use Rattle.std.proofs.lemmas.List.{length-append}
-use Rattle.ir_lexer.specs.declared.lexing.LexFault.{LexFault}
-use Rattle.ir_lexer.specs.Answer.{IsNext}
-use Rattle.ir_lexer.specs.Lexeme.{Lexeme}
+use Rattle.ir_lexer.proofs.Common.{◌≡◌, ◌+◌, ◌<◌, ◌++◌, ◌∷◌, [], List, length, Option, Some, Result, Ok, ap, subst, sym, ◌∙◌, arith, length-append, LexFault, IsNext, Lexeme}
 use Rattle.ir_lexer.proofs.Taking.{IsPart, are, enough, is_one, read_one}
 use Rattle.ir_lexer.proofs.lexer.Lexer.take.Goals as goal
 

@@ -1,5 +1,4 @@
-use Rattle.std.proofs.Common.{◌≡◌, ◌-◌, ◌≤◌, List, Ok, length}
-use Rattle.ir_lexer.specs.Lexeme.{Lexeme}
+use Rattle.ir_lexer.proofs.Common.{◌≡◌, ◌-◌, ◌≤◌, List, Ok, length, Lexeme}
 use Rattle.ir_lexer.proofs.Taking.{IsPart}
 use Rattle.ir_lexer.proofs.lexer.Lexer.take.Given as goal
 

@@ -1,4 +1,4 @@
-use Rattle.std.proofs.Common.{◌≡◌, ◌≤◌, length}
+use Rattle.ir_tree.proofs.Common.{◌≡◌, ◌≤◌, length}
 use Rattle.ir_tree.proofs.Indexing.{IsIndexFrom}
 use Rattle.ir_tree.proofs.flow.BlockIndex.of.Given as goal
 

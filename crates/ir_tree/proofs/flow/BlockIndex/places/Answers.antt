@@ -1,5 +1,4 @@
-use Rattle.std.proofs.Common.{map}
-use Rattle.ir_tree.specs.Flow.{block_of}
+use Rattle.ir_tree.proofs.Common.{map, block_of}
 use Rattle.ir_tree.proofs.Indexing.{mapped_more}
 use Rattle.ir_tree.proofs.flow.BlockIndex.places.Goals as goal
 

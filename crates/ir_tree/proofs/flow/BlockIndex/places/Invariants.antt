@@ -1,5 +1,4 @@
-use Rattle.std.proofs.Common.{◌≡◌, ◌++◌, map, drop}
-use Rattle.ir_tree.specs.Flow.{block_of}
+use Rattle.ir_tree.proofs.Common.{◌≡◌, ◌++◌, map, drop, block_of}
 use Rattle.ir_tree.proofs.flow.BlockIndex.places.Given as goal
 
 abbrev pub invariant-loop-label : goal.invariant-loop-label

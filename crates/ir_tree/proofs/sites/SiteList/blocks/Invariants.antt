@@ -1,6 +1,4 @@
-use Rattle.std.proofs.Common.{◌≡◌, drop}
-use Rattle.ir_tree.specs.Sites.{blocks_steps}
-use Rattle.ir_tree.specs.SiteLists.{with_parts}
+use Rattle.ir_tree.proofs.Common.{◌≡◌, drop, blocks_steps, with_parts}
 use Rattle.ir_tree.proofs.sites.SiteList.blocks.Given as goal
 
 abbrev pub invariant-loop-place : goal.invariant-loop-place

@@ -1,6 +1,4 @@
-use Rattle.std.proofs.Common.{◌≡◌, [], drop, take}
-use Rattle.ir_tree.specs.Sites.{cases_sites}
-use Rattle.ir_tree.specs.SiteLists.{with_part}
+use Rattle.ir_tree.proofs.Common.{◌≡◌, [], drop, take, cases_sites, with_part}
 use Rattle.ir_tree.proofs.sites.SiteList.cases.Given as goal
 
 abbrev pub invariant-loop-place : goal.invariant-loop-place

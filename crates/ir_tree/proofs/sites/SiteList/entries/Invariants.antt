@@ -1,7 +1,4 @@
-use Rattle.std.proofs.Common.{◌≡◌, drop}
-use Rattle.std.specs.List.{flat_map}
-use Rattle.ir_tree.specs.Sites.{entry_sites}
-use Rattle.ir_tree.specs.SiteLists.{with_part}
+use Rattle.ir_tree.proofs.Common.{◌≡◌, drop, flat_map, entry_sites, with_part}
 use Rattle.ir_tree.proofs.sites.SiteList.entries.Given as goal
 
 abbrev pub invariant-loop-entry : goal.invariant-loop-entry

@@ -1,6 +1,4 @@
-use Rattle.std.proofs.Common.{◌≡◌, drop}
-use Rattle.ir_tree.specs.Sites.{indices_sites}
-use Rattle.ir_tree.specs.SiteLists.{with_part}
+use Rattle.ir_tree.proofs.Common.{◌≡◌, drop, indices_sites, with_part}
 use Rattle.ir_tree.proofs.sites.SiteList.indices.Given as goal
 
 abbrev pub invariant-loop-n : goal.invariant-loop-n

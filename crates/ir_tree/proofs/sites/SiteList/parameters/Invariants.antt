@@ -1,6 +1,4 @@
-use Rattle.std.proofs.Common.{◌≡◌, drop}
-use Rattle.ir_tree.specs.Sites.{parameter_steps}
-use Rattle.ir_tree.specs.SiteLists.{with_parts}
+use Rattle.ir_tree.proofs.Common.{◌≡◌, drop, parameter_steps, with_parts}
 use Rattle.ir_tree.proofs.sites.SiteList.parameters.Given as goal
 
 abbrev pub invariant-loop-parameter : goal.invariant-loop-parameter

@@ -1,5 +1,4 @@
-use Rattle.std.proofs.Common.{◌≡◌, ◌++◌, map, take}
-use Rattle.ir_tree.specs.declared.sites.Site.{Site}
+use Rattle.ir_tree.proofs.Common.{◌≡◌, ◌++◌, map, take, Site}
 use Rattle.ir_tree.proofs.sites.SiteList.part.Given as goal
 
 abbrev pub invariant-loop-site : goal.invariant-loop-site

@@ -1,6 +1,4 @@
-use Rattle.std.proofs.Common.{◌≡◌, drop}
-use Rattle.ir_tree.specs.Sites.{phi_steps}
-use Rattle.ir_tree.specs.SiteLists.{with_parts}
+use Rattle.ir_tree.proofs.Common.{◌≡◌, drop, phi_steps, with_parts}
 use Rattle.ir_tree.proofs.sites.SiteList.phis.Given as goal
 
 abbrev pub invariant-loop-place : goal.invariant-loop-place

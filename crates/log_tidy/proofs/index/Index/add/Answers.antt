@@ -1,5 +1,5 @@
 -- The literal and the hint are of the clause.
-use Rattle.std.proofs.lemmas.Result.{on_ok_weaker}
+use Rattle.log_tidy.proofs.Common.{on_ok_weaker}
 use Rattle.log_tidy.proofs.Listed.{put-entered, slot-within}
 use Rattle.log_tidy.proofs.index.Index.add.Goals as goal
 

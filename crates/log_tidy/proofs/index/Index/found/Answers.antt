@@ -1,12 +1,5 @@
 -- One literal after another.
-use Rattle.std.proofs.Common.{false, ◌≡◌, ◌<◌, ◌∙◌, List, Some, ap, arith, get_or, length, refl, slice_get, subst, sym}
-use Rattle.std.proofs.lemmas.List.{take_all}
-use Rattle.std.proofs.lemmas.Option.{slice_get_read}
-use Rattle.clause_lits.specs.declared.lit.Lit.{Lit}
-use Rattle.clause_log.specs.Members.{Has}
-use Rattle.clause_search.specs.Searching.{standing}
-use Rattle.log_tidy.specs.declared.index.Entry.{Entry}
-use Rattle.log_tidy.specs.Indexed.{AreNone, slot}
+use Rattle.log_tidy.proofs.Common.{false, ◌≡◌, ◌<◌, ◌∙◌, List, Some, ap, arith, get_or, length, refl, slice_get, subst, sym, take_all, slice_get_read, Lit, Has, standing, Entry, AreNone, slot}
 use Rattle.log_tidy.proofs.Listed.{none-found, none-more}
 use Rattle.log_tidy.proofs.index.Index.found.Goals as goal
 

@@ -1,5 +1,5 @@
 -- So many lists.
-use Rattle.std.proofs.Common.{◌≡◌, length}
+use Rattle.log_tidy.proofs.Common.{◌≡◌, length}
 use Rattle.log_tidy.proofs.index.Index.new.Given as goal
 
 abbrev pub invariant-loop-slot : goal.invariant-loop-slot

@@ -1,7 +1,5 @@
 -- Another literal of the clause.
-use Rattle.std.proofs.Common.{List, subst, sym}
-use Rattle.clause_lits.specs.declared.lit.Lit.{Lit}
-use Rattle.clause_log.specs.Members.{Has}
+use Rattle.log_tidy.proofs.Common.{List, subst, sym, Lit, Has}
 use Rattle.log_tidy.proofs.Listed.{item-at}
 use Rattle.log_tidy.proofs.index.Index.rarest.Goals as goal
 use Rattle.log_tidy.proofs.index.Index.rarest.Goals.{then-count, else-count}

@@ -1,5 +1,5 @@
 -- It is a literal of the clause.
-use Rattle.clause_log.specs.Members.{Has}
+use Rattle.log_tidy.proofs.Common.{Has}
 use Rattle.log_tidy.proofs.index.Index.rarest.Given as goal
 
 abbrev pub invariant-loop-literal : goal.invariant-loop-literal

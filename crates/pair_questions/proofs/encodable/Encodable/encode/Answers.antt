@@ -1,8 +1,4 @@
-use Rattle.std.proofs.Common.{sym, subst}
-use Rattle.points.specs.Run.{Run}
-use Rattle.mem_terms.specs.Values.{reading}
-use Rattle.mem_terms.specs.Inputs.{input_at, words_at}
-use Rattle.mem_terms.specs.Outcomes.{Shows}
+use Rattle.pair_questions.proofs.Common.{sym, subst, Run, reading, input_at, words_at, Shows}
 use Rattle.pair_questions.proofs.encodable.Encodable.encode.Goals as goal
 
 pub encode-requires-clause-layers : goal.encode-requires-clause-layers

@@ -1,8 +1,5 @@
 -- What is found of numbers is found of points.
-use Rattle.std.proofs.Common.{ℕ, List, sym, subst, ◌∙◌}
-use Rattle.answer_order.specs.Fronts.{AreWidths}
-use Rattle.pair_questions.specs.Numbers.{IsFoundNumbers, number_test}
-use Rattle.pair_questions.specs.Questions.{IsUncovered}
+use Rattle.pair_questions.proofs.Common.{ℕ, List, sym, subst, ◌∙◌, AreWidths, IsFoundNumbers, number_test, IsUncovered}
 use Rattle.pair_questions.proofs.Findings.{Passes, found_code, point_passes}
 use Rattle.pair_questions.proofs.Fitting.{point_narrow}
 use Rattle.pair_questions.proofs.point_question.PointQuestion.least_code.Goals as goal

@@ -1,10 +1,5 @@
 -- The variables are the numbers of a code, and the goal decides what the shifts leave uncovered.
-use Rattle.std.proofs.Common.{ℕ, List, sym, subst, ◌∙◌}
-use Rattle.mem_terms.proofs.Later.{keeps_trans, is_input-later, words-later}
-use Rattle.refine_terms.specs.Deciding.{Decides}
-use Rattle.refine_terms.specs.Numbers.{numbers_at}
-use Rattle.pair_questions.specs.Questions.{IsUncovered, point_widths}
-use Rattle.pair_questions.specs.Shapes.{input_ids}
+use Rattle.pair_questions.proofs.Common.{ℕ, List, sym, subst, ◌∙◌, keeps_trans, is_input-later, words-later, Decides, numbers_at, IsUncovered, point_widths, input_ids}
 use Rattle.pair_questions.proofs.Excluding.{decides-later, of_target-later}
 use Rattle.pair_questions.proofs.Extending.{input_extended}
 use Rattle.pair_questions.proofs.Findings.{ids_are}

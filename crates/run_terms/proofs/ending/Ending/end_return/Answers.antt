@@ -1,6 +1,5 @@
-use Rattle.std.proofs.Common.{map}
+use Rattle.run_terms.proofs.Common.{map, keeps_trans, sym_blocks-later, given_blocks-later}
 use Rattle.mem_terms.specs.Memory.{frame_of}
-use Rattle.mem_terms.proofs.Later.{keeps_trans, sym_blocks-later, given_blocks-later}
 use Rattle.run_terms.proofs.Ended.{return_ends}
 use Rattle.run_terms.proofs.ending.Ending.end_return.Goals as goal
 

@@ -1,4 +1,4 @@
-use Rattle.mem_terms.proofs.Later.{keeps_trans}
+use Rattle.run_terms.proofs.Common.{keeps_trans}
 use Rattle.run_terms.proofs.Lasting.{states-later, ending-later}
 use Rattle.run_terms.proofs.Moving.{simulates_arrive}
 use Rattle.run_terms.proofs.frontier.Frontier.arrive.Goals as goal

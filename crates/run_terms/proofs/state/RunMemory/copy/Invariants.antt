@@ -1,5 +1,5 @@
 -- The blocks so far are a prefix of the list.
-use Rattle.std.proofs.Common.{◌≡◌, take}
+use Rattle.run_terms.proofs.Common.{◌≡◌, take}
 use Rattle.run_terms.proofs.state.RunMemory.copy.Given as goal
 
 abbrev pub invariant-loop-block : goal.invariant-loop-block

@@ -1,5 +1,4 @@
-use Rattle.std.proofs.Common.{eq-eqb}
-use Rattle.std.proofs.lemmas.Bool.{eqb-true}
+use Rattle.watch_solver.proofs.Common.{eq-eqb, eqb-true}
 use Rattle.watch_solver.proofs.Codes.{number-same, same-number}
 use Rattle.watch_solver.proofs.code.Code.is_same.Goals as goal
 

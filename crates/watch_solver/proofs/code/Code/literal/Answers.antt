@@ -1,6 +1,4 @@
-use Rattle.std.proofs.Common.{ℕ, ap, nat_eq, ◌%◌}
-use Rattle.clause_lits.specs.declared.lit.Lit.{Lit}
-use Rattle.watch_solver.specs.Codes.{lit_of}
+use Rattle.watch_solver.proofs.Common.{ℕ, ap, nat_eq, ◌%◌, Lit, lit_of}
 use Rattle.watch_solver.proofs.code.Code.literal.Goals as goal
 
 pub returns : goal.returns

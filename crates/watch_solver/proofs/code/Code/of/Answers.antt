@@ -1,4 +1,4 @@
-use Rattle.std.proofs.Common.{◌≡◌, cond, ◌+◌, ◌*◌, ap, sym, ◌∙◌}
+use Rattle.watch_solver.proofs.Common.{◌≡◌, cond, ◌+◌, ◌*◌, ap, sym, ◌∙◌}
 use Rattle.watch_solver.proofs.Codes.{lit_made}
 use Rattle.watch_solver.proofs.code.Code.of.Goals as goal
 use Rattle.watch_solver.proofs.code.Code.of.Goals.{then-literal, else-literal}

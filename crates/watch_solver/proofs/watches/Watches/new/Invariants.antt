@@ -1,6 +1,5 @@
 -- All lists so far are empty.
-use Rattle.std.proofs.Common.{◌≡◌, ℕ, List, [], Some, slice_get, length}
-use Rattle.watch_solver.specs.declared.watches.Watch.{Watch}
+use Rattle.watch_solver.proofs.Common.{◌≡◌, ℕ, List, [], Some, slice_get, length, Watch}
 use Rattle.watch_solver.proofs.watches.Watches.new.Given as goal
 
 abbrev pub invariant-loop-literal : goal.invariant-loop-literal
