@@ -1,5 +1,5 @@
 -- Bytes that replace others, one by one and where the offset is one of several.
-use Rattle.access_terms.proofs.Common.{ℕ, zero, suc, ◌≡◌, ◌<◌, ◌≤◌, ◌+◌, ◌-◌, ◌%◌, Bool, true, false, cond, ◌&&◌, nat_eq, nat_lt, nat_le, List, [], ◌∷◌, ◌++◌, length, map, take, drop, get_or, refl, ap, sym, ◌∙◌, inl, inr, arith, paste, cases_eq, eq-eqb, le-ltb, lt-ltb, ne_eqb, nat_tests, append-nil, drop_all, drop-map, length-drop, length-take, set-get_or, take-map, Byte, Poison, TermId, Term, IsTerm, Keeps, Tests, bit_at, term_at, SymByte, Each, Reading, AreSymBytes, IsSymByte, byte_at, places_at, each-at, map-at, map-length, map-set, bit-later, byte-later, places-later, term-later, written}
+use Rattle.access_terms.proofs.Common.{ℕ, zero, suc, ◌≡◌, ◌<◌, ◌≤◌, ◌+◌, ◌-◌, ◌%◌, Bool, true, false, cond, ◌&&◌, nat_eq, nat_lt, List, [], ◌∷◌, ◌++◌, length, map, take, drop, get_or, refl, ap, sym, ◌∙◌, inl, inr, arith, paste, cases_eq, eq-eqb, le-ltb, lt-ltb, ne_eqb, nat_tests, append-nil, drop_all, drop-map, length-drop, length-take, set-get_or, take-map, Byte, Poison, TermId, Term, IsTerm, Keeps, Tests, bit_at, term_at, SymByte, Each, Reading, AreSymBytes, IsSymByte, byte_at, places_at, each-at, map-at, map-length, map-set, bit-later, byte-later, places-later, term-later, written}
 use Rattle.std.specs.Prelude.{slice_set}
 use Rattle.std.proofs.Math.ListN.{set}
 use Rattle.std.proofs.lemmas.List.Edits.{paste_more, paste_all}
@@ -132,21 +132,3 @@ put_next old a b k c offset bytes places now next place align hc ho hb aligned r
     let so' : places_at r b next ≡ cond (bit_at r.v old c && nat_eq (term_at r.v old offset) place) (written (places_at r old bytes) place (places_at r a now)) (places_at r a now) =
     rw (← bit-later old a k r.v c hc.within, ← term-later old a k r.v offset ho, ← places-later old a k r bytes hb) so in
     so' ∙ put-next (bit_at r.v old c) (term_at r.v old offset) place align (places_at r old bytes) (places_at r old places) (places_at r a now) aligned before
-
-aligned-next : (o p align : ℕ) → nat_eq (p % align) 0 ≡ false → (nat_lt o p && nat_eq (o % align) 0) ≡ (nat_lt o (p + 1) && nat_eq (o % align) 0)
-aligned-next o p align unaligned =
-    elim (cases_eq o p) as (λ _. (nat_lt o p && nat_eq (o % align) 0) ≡ (nat_lt o (p + 1) && nat_eq (o % align) 0)) [
-      | inl e ↦ rw (e, unaligned) grind (arith, nat_tests)
-      | inr other ↦ let same : nat_lt o p ≡ nat_lt o (p + 1) = grind (arith, nat_tests) in rw same refl
-    ]
-
--- an offset that isn't aligned is passed over
-pub put_skip : (c : Bool) (o p align : ℕ) (now others places : List Byte) → nat_eq (p % align) 0 ≡ false
-    → now ≡ cond (c && (nat_lt o p && nat_eq (o % align) 0)) others places → now ≡ cond (c && (nat_lt o (p + 1) && nat_eq (o % align) 0)) others places
-put_skip c o p align now others places unaligned so = rw (← aligned-next o p align unaligned) so
-
-pub put_done : (c : Bool) (o p n align len : ℕ) (now others places : List Byte) → p ≡ len + 1 - n
-    → now ≡ cond (c && (nat_lt o p && nat_eq (o % align) 0)) others places → now ≡ cond (c && (nat_le (o + n) len && nat_eq (o % align) 0)) others places
-put_done c o p n align len now others places last so =
-    let same : nat_lt o p ≡ nat_le (o + n) len = grind (arith, nat_tests, last) in
-    rw (← same) so

@@ -1,11 +1,11 @@
 -- What the terms of a load, a store and an alloca denote under an assignment of the variables.
-use Rattle.std.specs.Prelude.{◌≡◌, ℕ, ◌&&◌, true, cond, List, length, take, drop}
+use Rattle.std.specs.Prelude.{◌≡◌, ℕ, ◌&&◌, cond, List, length, take, drop}
 use Rattle.byte_block.specs.declared.value.Byte.{Byte}
 use Rattle.memory_access.specs.declared.access_types.Loaded.{Loaded}
 use Rattle.memory_access.specs.declared.access_types.Loaded.TheVariants as loaded
 use Rattle.memory_access.specs.declared.access_types.Stored.{Stored}
 use Rattle.memory_access.specs.declared.access_types.Stored.TheVariants as stored
-use Rattle.memory_access.specs.Blocks.{block_bytes, names}
+use Rattle.memory_access.specs.Blocks.{block_bytes}
 use Rattle.bv_terms.specs.declared.term.TermId.{TermId}
 use Rattle.bv_terms.specs.declared.term.Term.{Term}
 use Rattle.bv_terms.specs.Trees.{IsTerm, bit_at, term_at}
@@ -15,10 +15,6 @@ use Rattle.mem_terms.specs.Memory.{block_at}
 use Rattle.access_terms.specs.declared.accesses.SymLoaded.{SymLoaded}
 
 -- ---- one block
-
--- the block exists, and the number names it
-abbrev pub names_block : Reading → List Term → TermId → SymBlock → Type 0
-names_block r terms block b = (bit_at r.v terms b.exists && names (r.name (term_at r.v terms block)) (block_at r terms b)) ≡ true
 
 -- n bytes of a block from an offset on
 abbrev pub bytes_from : Reading → List Term → SymBlock → TermId → ℕ → List Byte

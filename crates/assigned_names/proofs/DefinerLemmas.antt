@@ -251,10 +251,6 @@ assigns_fit f lists count numbered is same =
     let w = assigned_of b.insts (get_or (flat_map results_of b.insts) k d) (Contains-get_or (flat_map results_of b.insts) k d below) in
     let least = number_of_part f (part.Inst i w.0) (get_or (flat_map results_of b.insts) k d) numbered (b, stands, w.1, w.2, w.3) in omega (arith, least, same))))
 
-pub lists_alike : (f : Function) (ss as' : List (List ℕ)) → ss ≡ successors f → as' ≡ assigns f → length ss ≡ length as'
-lists_alike f ss as' is is' =
-    ap length is ∙ (length-map f.blocks (λ (b : Block). map (block_of f) (targets b.terminator)) ∙ sym (ap length is' ∙ length-map f.blocks (λ (b : Block). assigned_with b b.insts)))
-
 -- what the search answers for these lists
 pub record IsAnswer (sets : List (List Bool)) (ss as' : List (List ℕ)) (names : ℕ) : Type 0 where
   pub room : AreRoomy sets (length ss) names

@@ -9,8 +9,7 @@ use Rattle.ir_tree.specs.declared.tree.Function.{Function}
 use Rattle.ir_tree.specs.declared.tree.IrType.{IrType}
 use Rattle.ir_tree.specs.declared.sites.Part.{Part}
 use Rattle.ir_tree.specs.declared.sites.Part.TheVariants as part
-use Rattle.ir_tree.specs.declared.sites.Site.{Site}
-use Rattle.ir_tree.specs.declared.sites.Site.TheVariants.{Uses, Enters}
+use Rattle.ir_tree.specs.declared.sites.Site.TheVariants.{Uses}
 use Rattle.ir_tree.specs.declared.module.Reason.TheVariants.{NameTwice}
 use Rattle.ir_tree.specs.Sites.{sites, parts}
 use Rattle.ir_tree.specs.Flow.{block_of}
@@ -26,9 +25,6 @@ exists : {X : Type 0} (xs : List X) (i : ℕ) → i < length xs → (x : X) × (
 exists [] i below = absurd (omega (arith, below))
 exists (x ∷ xs) zero below = (x, refl)
 exists (x ∷ xs) (suc i) below = exists xs i (omega (arith, below))
-
-pub past_blocks : (f : Function) (block ran name : ℕ) → length f.blocks ≤ block → IsMissedThere f block ran name → ⊥
-past_blocks f block ran name past w = let within = slice_get_within f.blocks block w.0 w.1.stands in omega (arith, within, past)
 
 pub assigned_before : (f : Function) (sets : List (List Bool)) (block ran name : ℕ) → AreBefore f sets → block < length f.blocks → name < length f.names → has sets block name ≡ true → IsMissedThere f block ran name → ⊥
 assigned_before f sets block ran name before within numbered t w = w.1.before (before.assigned block name within numbered t w.1.left w.1.path)
@@ -80,13 +76,6 @@ behind_label f label name block once is = (
       (behind.b, subst (λ (k : ℕ). IsMissed f k behind.b behind.b.insts name) same behind.missed),
 )
 
--- a phi's operand
-pub in_phi : (f : Function) (n name label block place : ℕ) → slice_get (sites f) (n + 1) ≡ Some (Enters label) → IsMissedBehind f label name ↔ IsMissedAt f (part.Phi block place) n name
-in_phi f n name label block place next = (λ behind. (label, next, behind), λ w. subst (λ (l : ℕ). IsMissedBehind f l name) (let same : Enters w.0 ≡ Enters label = same_Some _ _ (sym w.1 ∙ next) in let is : w.0 ≡ label = cc in is) w.2)
-
-pub no_label_next : (f : Function) (n name block place : ℕ) → ((label : ℕ) → slice_get (sites f) (n + 1) ≡ Some (Enters label) → ⊥) → IsMissedAt f (part.Phi block place) n name → ⊥
-no_label_next f n name block place none w = none w.0 w.1
-
 -- a use
 pub uses : (f : Function) (n : ℕ) (type : IrType) (name : ℕ) (p : Part) → slice_get (sites f) n ≡ Some (Uses type name) → slice_get (parts f) n ≡ Some p → IsMissedAt f p n name ↔ UsesUnassigned f n
 uses f n type name p site its = (λ missed. record { type = type; name = name; here = site; part = p; stands = its; missed = missed }, λ use'. back use')
@@ -96,9 +85,6 @@ uses f n type name p site its = (λ missed. record { type = type; name = name; h
         let name_is : u.name ≡ name = (let same : Uses u.type u.name ≡ Uses type name = same_Some _ _ (sym u.here ∙ site) in cc) in
         let part_is : u.part ≡ p = same_Some _ _ (sym u.stands ∙ its) in
         subst (λ (m : ℕ). IsMissedAt f p n m) name_is (subst (λ (q : Part). IsMissedAt f q n u.name) part_is u.missed)
-
-pub no_use : (f : Function) (n : ℕ) (s : Site) → slice_get (sites f) n ≡ Some s → ((type : IrType) (name : ℕ) → s ≡ Uses type name → ⊥) → UsesUnassigned f n → ⊥
-no_use f n s site other u = other u.type u.name (same_Some _ _ (sym site ∙ u.here))
 
 pub use_within : (f : Function) (n : ℕ) → UsesUnassigned f n → n < length (sites f)
 use_within f n u = slice_get_within (sites f) n (Uses u.type u.name) u.here

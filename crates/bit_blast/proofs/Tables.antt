@@ -1,11 +1,10 @@
 -- The table of bits as gates and variables are added.
-use Rattle.std.proofs.Common.{ℕ, zero, suc, ◌≡◌, ◌<◌, ◌≤◌, ◌+◌, ◌-◌, ◌++◌, ◌&&◌, inl, inr, Bool, true, false, cond, List, [], ◌∷◌, All, Some, None, get_or, slice_get, take, map, length, arith, sym, ap, subst, refl, ◌∙◌, length-append}
+use Rattle.std.proofs.Common.{ℕ, zero, suc, ◌≡◌, ◌<◌, ◌≤◌, ◌+◌, ◌-◌, ◌++◌, ◌&&◌, inl, inr, true, false, cond, List, [], ◌∷◌, All, Some, None, get_or, slice_get, take, map, length, arith, sym, ap, subst, refl, ◌∙◌, length-append}
 use Rattle.std.proofs.lemmas.Bool.{cases_Bool, cases_lt, eq-eqb}
-use Rattle.std.proofs.lemmas.Bool.Decides.{Decides-eqb}
 use Rattle.std.proofs.lemmas.List.{map-append, append_assoc, append-nil, get_or_append_left, get_or-map, length-map}
 use Rattle.std.proofs.Math.Seq.{get_or-append_right}
 use Rattle.std.proofs.lemmas.Option.{slice_get_within, get_or_from_slice_get, slice_get-get_or}
-use Rattle.std.specs.Prelude.{nat_eq, Result, Ok, Err, OnOk, OnErr}
+use Rattle.std.specs.Prelude.{Result, Ok, Err, OnOk, OnErr}
 use Rattle.std.specs.Map.{lookup}
 use Rattle.gates.specs.declared.circuit.GateId.{GateId}
 use Rattle.gates.specs.declared.circuit.Gate.{Gate}
@@ -107,15 +106,6 @@ table_grown old new table x own g fresh is =
     mine : AreDigits new x.width own → All (λ (e : Variable × List GateId). AreDigits new e.0.width e.1) ((x, own) ∷ [])
     mine h zero d lt = h
     mine h (suc i) d lt = absurd (omega arith)
-
-pub no_table : IsTable [] []
-no_table = record {
-  digits = λ i d lt. absurd (omega arith);
-  inputs = refl;
-  plain = λ i d lt. absurd (omega arith);
-  within = λ i d lt. absurd (omega arith);
-  apart = λ i j a b lt ga gb. absurd (let z : ⊥ = cc in z);
-}
 
 -- each input of the circuit is a bit
 pub inputs_named : (gates : List Gate) (table : List (Variable × List GateId)) → IsTable gates table → AreAllNamed gates (all_digits table)

@@ -5,7 +5,7 @@ use Rattle.bv_terms.specs.declared.term.Term.{Term}
 use Rattle.bv_terms.specs.declared.term.Term.TheVariants as term
 use Rattle.bv_terms.specs.declared.variable.Variable.{Variable}
 use Rattle.bv_terms.specs.Tree as tree
-use Rattle.bv_terms.specs.Tree.{Tree, width_of, value_of}
+use Rattle.bv_terms.specs.Tree.{width_of, value_of}
 use Rattle.bv_terms.specs.Trees.{AreFit, IsFit, IsWithin, AreMatched, tree_of, term_width, trees_from, trees_of, tree_in, variable_in, variables_among, Extends, Gains, IsNoVariable, Keeps, Makes}
 use Rattle.bv_terms.proofs.Stages.{length-trees, trees-append, trees-front, tree-same, tree-stored, width-tree}
 

@@ -7,7 +7,7 @@ use Rattle.bv_terms.specs.declared.term.BinaryOp.TheVariants as op
 use Rattle.bv_terms.specs.declared.term.Term.{Term}
 use Rattle.bv_terms.specs.declared.term.Term.TheVariants as term
 use Rattle.bv_terms.specs.Tree as tree
-use Rattle.bv_terms.specs.Tree.{Tree, binary_width, width_of, value_of}
+use Rattle.bv_terms.specs.Tree.{Tree, binary_width, width_of}
 use Rattle.bv_terms.specs.Trees.{AreFit, IsFit, IsWidth, IsWithin, tree_at, tree_of, term_width, trees_from}
 
 pub AreFit-push : (earlier : List Tree) (terms : List Term) (t : Term) → AreFit earlier terms → IsFit (trees_from earlier terms) t → AreFit earlier (terms ++ t ∷ [])

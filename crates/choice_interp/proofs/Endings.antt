@@ -1,5 +1,5 @@
 -- Two endings with one memory, and an ending once local blocks are freed.
-use Rattle.choice_interp.proofs.Common.{◌≡◌, List, Bool, true, false, ◌&&◌, refl, sym, ap, ◌∙◌, eq-eqb, ℕ, Option, All, filter, Value, Null, Given, Local, MemoryBlock, equal_names, block_bytes, Machine, Run, is_given, Ending, IsGiven, left_by}
+use Rattle.choice_interp.proofs.Common.{◌≡◌, List, Bool, true, false, ◌&&◌, refl, sym, ap, ◌∙◌, eq-eqb, ℕ, Option, All, filter, Value, Null, Given, Local, MemoryBlock, equal_names, block_bytes, Machine, is_given, Ending, IsGiven, left_by}
 use Rattle.byte_block.specs.declared.value.BlockName.{BlockName}
 use Rattle.byte_block.specs.declared.value.Byte.{Byte}
 use Rattle.byte_block.specs.declared.value.Byte.TheVariants as byte

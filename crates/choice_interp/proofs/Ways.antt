@@ -1,5 +1,5 @@
 -- A run, one block at a time.
-use Rattle.choice_interp.proofs.Common.{◌≡◌, inl, inr, ℕ, zero, suc, ◌+◌, ◌<◌, ◌≤◌, List, [], ◌∷◌, length, map, get_or, Option, Some, None, refl, sym, ap, subst, ◌∙◌, arith, slice_get, lt-ltb, le-ltb, Phi, Block, Value, Machine, Run, Exit, To, Over, ended, phi_value, with_phis, assigned, exit_of, Go, jump, go_on, forward, run_turns, Ending, assign_all, left_by, exit_with, IsJump}
+use Rattle.choice_interp.proofs.Common.{◌≡◌, inl, inr, ℕ, zero, suc, ◌+◌, ◌<◌, ◌≤◌, List, [], ◌∷◌, length, map, get_or, Option, Some, None, refl, sym, ap, subst, ◌∙◌, arith, slice_get, lt-ltb, le-ltb, Phi, Block, Machine, Run, Exit, To, Over, ended, phi_value, with_phis, assigned, exit_of, Go, jump, go_on, forward, run_turns, Ending, assign_all, left_by, exit_with, IsJump}
 use Rattle.std.proofs.lemmas.Option.{slice_get_past, slice_get_read}
 use Rattle.ir_tree.specs.declared.tree.Function.{Function}
 use Rattle.ir_tree.specs.Flow.{block_of}

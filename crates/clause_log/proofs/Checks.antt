@@ -1,5 +1,5 @@
 -- What the verdicts on the steps of a log show.
-use Rattle.clause_log.proofs.Common.{◌-◌, ℕ, zero, suc, ◌≡◌, ◌<◌, ◌+◌, ◌↔◌, List, [], ◌∷◌, Option, Some, None, Result, IfOk, Bool, IsTrue, length, slice_get, get_or, arith, sym, ap, subst, refl, ◌∙◌, AllZip, range_with_len, below_more, Lit, Step, chain_resolvent, standing_before, IsSoundAt, EndsEmpty, Refutes}
+use Rattle.clause_log.proofs.Common.{◌-◌, ℕ, zero, suc, ◌≡◌, ◌<◌, ◌+◌, ◌↔◌, List, [], ◌∷◌, Some, Result, IfOk, Bool, IsTrue, length, slice_get, get_or, arith, ap, subst, refl, ◌∙◌, AllZip, range_with_len, below_more, Lit, Step, IsSoundAt, EndsEmpty, Refutes}
 use Rattle.support.specs.declared.no_memory.NoMemory.{NoMemory}
 use Rattle.clause_log.specs.Verdicts.{AreVerdicts}
 

@@ -63,12 +63,6 @@ AreSigns-alike f g c same signs l = (λ e. (signs l).0 (sym (same l.variable) �
 met-none : (m : Option Bool) (s : Bool) → m ≡ None → met m s ≡ Some s
 met-none m s e = rw e refl
 
-other-signs : (p q : Bool) → (p ≡ q → ⊥) → p ≡ not q
-other-signs true true differ = absurd (differ refl)
-other-signs true false differ = refl
-other-signs false true differ = refl
-other-signs false false differ = absurd (differ refl)
-
 met-turned : (q : Bool) → met (Some (not q)) q ≡ None
 met-turned true = refl
 met-turned false = refl

@@ -1,5 +1,5 @@
 -- Which variables are assigned, and which decision is the last.
-use Rattle.clause_search.proofs.Common.{ℕ, ◌≡◌, ◌<◌, ◌≤◌, ◌+◌, ◌-◌, inl, inr, Bool, true, false, not, List, [], Option, Some, None, get_or, length, arith, sym, ap, subst, refl, ◌∙◌, cases_eq, cases_Bool, slice_get-get_or, get_or_from_slice_get, slice_get_within, Lit, lit_true, opposite_of, values_of, Entry, Stands, IsAssigned, IsConsistent, IsTrail, AreAssigned, AreImplied, IsLastPlace, IsLastBelow, TellsAll}
+use Rattle.clause_search.proofs.Common.{ℕ, ◌≡◌, ◌<◌, ◌≤◌, ◌+◌, ◌-◌, inl, inr, Bool, true, false, not, List, [], Option, Some, None, get_or, length, arith, sym, ap, subst, refl, ◌∙◌, cases_eq, cases_Bool, slice_get-get_or, get_or_from_slice_get, Lit, lit_true, opposite_of, values_of, Entry, Stands, IsAssigned, IsConsistent, IsTrail, AreAssigned, AreImplied, IsLastBelow, TellsAll}
 use Rattle.clause_search.proofs.Leastness.{AllTrue}
 use Rattle.clause_search.proofs.Counting.{in_range}
 
@@ -18,9 +18,6 @@ implied-more trail from to d h other i e low high at none = elim (cases_eq i to)
       other (ap (λ (x : Entry). x.reason) here ∙ none)
 ]
 
-pub last-start : (trail : List Entry) → IsLastBelow trail None 0
-last-start trail i e low high at none = omega arith
-
 pub last-decision : (trail : List Entry) (place : ℕ) (d : Entry) → place < length trail → (get_or trail place d).reason ≡ 0 → IsLastBelow trail (Some place) (place + 1)
 last-decision trail place d lt none =
     (omega arith, (get_or trail place d, slice_get-get_or trail place d lt, none), λ i e low high at z. omega arith)
@@ -29,13 +26,6 @@ pub last-implied : (trail : List Entry) (last : Option ℕ) (place : ℕ) (d : E
     → IsLastBelow trail last (place + 1)
 last-implied trail None place d other h = implied-more trail 0 place d h other
 last-implied trail (Some p) place d other h = (omega (arith, h.0), h.1, implied-more trail (p + 1) place d h.2 other)
-
-pub last-place : (trail : List Entry) (last : Option ℕ) (place : ℕ) → place ≡ length trail → IsLastBelow trail last place → IsLastPlace trail last
-last-place trail None place e h = subst (λ (k : ℕ). AreImplied trail 0 k) e h
-last-place trail (Some p) place e h = record {
-  at = h.1;
-  later = λ i x lt at none. h.2 i x (omega arith) (omega (arith, e, slice_get_within trail i x at)) at none;
-}
 
 -- the values make each literal on the trail true
 pub tells-true : (n : ℕ) (clauses : List (List Lit)) (trail : List Entry) (all : List Bool) → IsTrail n clauses [] trail → IsConsistent trail

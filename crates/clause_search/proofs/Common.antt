@@ -2,7 +2,7 @@
 pub use Rattle.std.proofs.Common.{ℕ, ◌≡◌, ◌<◌, ◌≤◌, ◌+◌, ◌-◌, inl, inr, Bool, true, false, not, List, [], Option, Some, None, get_or, length, arith, sym, ap, subst, refl, ◌∙◌, ◌⊎◌, ◌∷◌, drop, take, slice_get, add-one, append_assoc, ◌++◌, cond, zero, suc, ltb, set, map, eqb, ◌↔◌, IsTrue, IsSome, nat_eq, length-append, option_and_then, slice_index, IfSome, ◌*◌, ◌^◌, replicate, rules, slice_index_or}
 pub use Rattle.std.proofs.Math.Seq.{drop-cons, take-length}
 pub use Rattle.std.proofs.lemmas.Bool.{cases_eq, cases_Bool, false≢true, cases_order, ltb-true, ltb-false, eqb-true, or_cases, ne_eqb, eq-eqb, eqb-false, and_from, and_parts, or_left, or_right, both_ways}
-pub use Rattle.std.proofs.lemmas.List.{get_or-set_same, get_or-set_other, get_or_past, length-set, take_more, length-map, take-map, length-take, take_all, get_or-map, take-append-drop, take-append-le, set-get_or}
+pub use Rattle.std.proofs.lemmas.List.{get_or-set_same, get_or-set_other, get_or_past, length-set, take_more, length-map, take-map, length-take, take_all, get_or-map, take-append-drop, take-append-le}
 pub use Rattle.std.proofs.lemmas.List.Sorted.{Contains-permutation, IsPermutation-map, IsPermutation-sym, IsNonDecreasingBy-from_sort_by_key}
 pub use Rattle.std.proofs.lemmas.Option.{slice_get-get_or, get_or_from_slice_get, slice_get_within, slice_get_read, slice_get-map}
 pub use Rattle.std.specs.List.{list_any, IsDistinct, AllByRecursion, Contains, refill, All}
@@ -16,7 +16,7 @@ pub use Rattle.clause_log.specs.Members.{Has}
 pub use Rattle.clause_log.specs.Refutation.{standing_before, IsSoundAt, Refutes}
 pub use Rattle.clause_log.specs.Resolution.{Resolves, joined, resolvent, clashes, same_sign}
 pub use Rattle.clause_log.specs.declared.step.Step.{Step}
-pub use Rattle.clause_search.specs.Assigning.{AreAssigned, AreImplied, IsLastPlace, IsLastBelow, TellsAll, IsNextVariable}
+pub use Rattle.clause_search.specs.Assigning.{AreAssigned, AreImplied, IsLastBelow, TellsAll, IsNextVariable}
 pub use Rattle.clause_search.specs.Ending.{digit_of, code_of, left_of}
 pub use Rattle.clause_search.specs.Findings.{IsFalseAt, IsUnitAt, AreOpen, IsFound, IsFoundBetween}
 pub use Rattle.clause_search.specs.Learning.{IsBack, IsLastDecision, IsLearned, IsDecisionAt}

@@ -1,5 +1,5 @@
 -- Marks, their count and their list.
-use Rattle.clause_search.proofs.Common.{ℕ, zero, suc, ◌≡◌, ◌<◌, ◌≤◌, ◌+◌, ◌-◌, ◌++◌, ◌⊎◌, inl, inr, Bool, true, false, cond, List, [], ◌∷◌, get_or, set, replicate, length, arith, sym, ap, subst, refl, ◌∙◌, cases_eq, false≢true, get_or-set_same, get_or-set_other, set-get_or, Has, Marks, AreApart, IsCounted, marked_from}
+use Rattle.clause_search.proofs.Common.{ℕ, zero, suc, ◌≡◌, ◌<◌, ◌≤◌, ◌+◌, ◌-◌, ◌++◌, ◌⊎◌, inl, inr, Bool, true, false, cond, List, [], ◌∷◌, get_or, set, replicate, length, arith, sym, ap, subst, refl, ◌∙◌, cases_eq, false≢true, get_or-set_same, get_or-set_other, Has, Marks, AreApart, IsCounted, marked_from}
 
 abbrev bit : Bool → ℕ
 bit b = cond b 1 0
@@ -132,10 +132,6 @@ pub read-mark : (bs : List Bool) (i : ℕ) (b : Bool) → i < length bs → b �
 read-mark [] i b lt e = absurd (omega arith)
 read-mark (x ∷ xs) zero b lt e = sym e
 read-mark (x ∷ xs) (suc i) b lt e = read-mark xs i b (omega arith) e
-
--- an entry that is marked already
-pub marked-again : (bs : List Bool) (i : ℕ) → get_or bs i false ≡ true → bs ≡ set bs i true
-marked-again bs i h = sym (set-get_or bs i false) ∙ ap (λ (b : Bool). set bs i b) h
 
 module _ (low place : ℕ) (old new : Marks) (within : place < length old.marked.items) (counted : IsCounted low old) where
   elsewhere : (b : Bool) (i : ℕ) → (i ≡ place → ⊥) → new.marked.items ≡ set old.marked.items place b

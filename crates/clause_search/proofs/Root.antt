@@ -1,5 +1,5 @@
 -- The way back from a conflict with no decision, to the empty clause.
-use Rattle.clause_search.proofs.Common.{ℕ, ◌≡◌, ◌<◌, ◌≤◌, ◌+◌, ◌-◌, ◌++◌, inl, inr, List, [], ◌∷◌, Some, None, take, slice_get, length, arith, sym, ap, subst, refl, ◌∙◌, take_more, take_all, get_or_from_slice_get, Has, Lit, IsClause, opposite_of, joined, resolvent, clause_numbered, chain_resolvent, resolvent-one, Entry, Stands, IsConsistent, AllFalse, IsImplied, IsGrounded, IsTrail, IsFalseAt, AreImplied}
+use Rattle.clause_search.proofs.Common.{ℕ, ◌≡◌, ◌<◌, ◌≤◌, ◌+◌, ◌-◌, ◌++◌, inl, inr, List, [], ◌∷◌, Some, None, take, slice_get, length, arith, sym, ap, subst, refl, ◌∙◌, take_more, get_or_from_slice_get, Has, Lit, IsClause, opposite_of, joined, resolvent, clause_numbered, chain_resolvent, resolvent-one, Entry, Stands, IsConsistent, AllFalse, IsImplied, IsGrounded, IsTrail, AreImplied}
 use Rattle.clause_search.proofs.Analysis.{consistent-trail, skipped, resolves, resolvent-false}
 use Rattle.clause_search.proofs.ByPlace.{grounded-at, trail-take}
 use Rattle.clause_search.proofs.Back.{chain-push}
@@ -9,17 +9,6 @@ pub record IsDown (clauses : List (List Lit)) (trail : List Entry) (chain : List
   pub within : place ≤ length trail
   pub gives : chain_resolvent clauses chain ≡ Some current
   pub all : AllFalse (take place trail) current
-
-pub down-first : (clauses : List (List Lit)) (trail : List Entry) (number : ℕ) (start current : List Lit) (chain : List ℕ) → IsFalseAt clauses trail number
-    → Some start ≡ clause_numbered clauses number → chain ≡ number ∷ [] → current ≡ start → IsDown clauses trail chain current (length trail)
-down-first clauses trail number start current chain conflict at is same =
-    let one : start ≡ conflict.clause = let f = conflict.at in cc in
-    let gives : chain_resolvent clauses (number ∷ []) ≡ Some start = rw (sym at) refl in
-    record {
-      within = omega arith;
-      gives = rw (is, same) gives;
-      all = rw (take_all (length trail) trail (omega arith), same, one) conflict.all;
-    }
 
 pub down-last : (clauses : List (List Lit)) (trail : List Entry) (chain : List ℕ) (current : List Lit) (place : ℕ) → place ≡ 0 → IsDown clauses trail chain current place → current ≡ []
 down-last clauses trail chain current place zero' down = go current (subst (λ (k : ℕ). AllFalse (take k trail) current) zero' down.all)

@@ -1,5 +1,5 @@
 -- The marked way back from a conflict.
-use Rattle.clause_search.proofs.Common.{append_assoc, ℕ, zero, suc, ◌≡◌, ◌<◌, ◌≤◌, ◌+◌, ◌-◌, ◌++◌, ◌⊎◌, inl, inr, Bool, true, false, ltb, List, [], ◌∷◌, Some, None, get_or, set, take, slice_get, length, map, arith, sym, ap, subst, refl, ◌∙◌, cases_Bool, cases_eq, false≢true, ltb-true, ltb-false, get_or-set_same, get_or-set_other, get_or_past, length-set, take_more, get_or_from_slice_get, slice_get_within, Has, Lit, IsClause, opposite_of, Resolves, joined, resolvent, clause_numbered, rises-joined, opposite-opposite, Entry, Marks, Learned, Stands, IsFalse, IsAssigned, AllFalse, FalseBut, IsImplied, IsTrail, IsPlaceOf, IsBack, IsLastDecision, IsLearned, HasVariable, AreMarked, IsCounted, IsSingle, IsSpread, IsMarkedBack, marked_from, opposites_at}
+use Rattle.clause_search.proofs.Common.{append_assoc, ℕ, zero, suc, ◌≡◌, ◌<◌, ◌≤◌, ◌+◌, ◌-◌, ◌++◌, ◌⊎◌, inl, inr, Bool, true, false, ltb, List, [], ◌∷◌, Some, None, get_or, set, take, slice_get, length, map, arith, sym, ap, subst, refl, ◌∙◌, cases_Bool, cases_eq, false≢true, ltb-true, ltb-false, get_or-set_same, get_or-set_other, get_or_past, length-set, take_more, get_or_from_slice_get, slice_get_within, Has, Lit, IsClause, opposite_of, Resolves, joined, resolvent, clause_numbered, rises-joined, opposite-opposite, Entry, Marks, Learned, Stands, IsFalse, IsAssigned, FalseBut, IsImplied, IsTrail, IsPlaceOf, IsBack, IsLastDecision, IsLearned, HasVariable, AreMarked, IsCounted, IsSingle, IsSpread, IsMarkedBack, marked_from, opposites_at}
 use Rattle.clause_log.proofs.Resolving.{resolves-from}
 use Rattle.clause_search.proofs.ByPlace.{grounded-at}
 use Rattle.clause_search.proofs.Back.{back-skip, back-learned, back-implied, next-reason, next-resolvent, next-back}
@@ -266,10 +266,6 @@ module _ (clauses : List (List Lit)) (trail : List Entry) (single : IsSingle tra
                         let read = get_or_from_slice_get trail p e none at in
                         let same : opposite_of e.literal ≡ l = sym (ap (λ (z : Entry). opposite_of z.literal) read) ∙ is in
                         subst (λ (x : Lit). Has current x) ((opposite-here place m p e (back.all m h') at v).0 ∙ same) h'
-
--- the variables of a false clause are assigned
-pub assigned-false : (trail : List Entry) (c : List Lit) → AllFalse trail c → (l : Lit) → Has c l → IsAssigned trail l.variable
-assigned-false trail c all l h = (opposite_of l, all l h, refl)
 
 module _ (variables : ℕ) (clauses : List (List Lit)) (trail : List Entry) (low : ℕ) (h : IsTrail variables clauses [] trail) (last : IsLastDecision trail low)
     (chain : List ℕ) (marks : Marks) (place : ℕ) (walk : IsMarkedBack clauses trail low chain marks place) where

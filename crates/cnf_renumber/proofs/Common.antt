@@ -1,5 +1,5 @@
 -- What proofs of this crate cite of std, of other crates and of its definitions, passed on from one place. Declares nothing.
-pub use Rattle.std.proofs.Common.{ℕ, ◌≡◌, ◌<◌, ◌≤◌, ◌+◌, ◌-◌, inl, inr, Bool, true, false, not, cond, List, [], ◌∷◌, length, map, refl, ap, sym, subst, ◌∙◌, arith, zero, suc, ◌⊎◌, ◌++◌, take, nat_lt, nat_eq, slice_get, Option, Some, None, drop, slice_index, eqb, get_or, append_assoc, append-nil, slice_index_or, rules}
+pub use Rattle.std.proofs.Common.{ℕ, ◌≡◌, ◌<◌, ◌≤◌, ◌+◌, ◌-◌, inl, inr, Bool, true, false, not, cond, List, [], ◌∷◌, length, map, refl, ap, sym, subst, ◌∙◌, arith, zero, suc, ◌⊎◌, ◌++◌, take, nat_lt, nat_eq, slice_get, Option, Some, None, drop, slice_index, eqb, get_or, append_assoc, slice_index_or, rules}
 pub use Rattle.std.proofs.lemmas.Bool.{and_from, and_parts, cases_Bool, eqb-true, eqb-false, cases_eq}
 pub use Rattle.std.proofs.lemmas.List.{get_or-map}
 pub use Rattle.std.proofs.lemmas.List.Sorted.{Contains-permutation, IsPermutation-map, IsPermutation-sym, IsNonDecreasingBy-from_sort_by_key}

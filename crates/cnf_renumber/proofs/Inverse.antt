@@ -1,5 +1,5 @@
 -- Tables that undo each other, and what is renumbered so far.
-use Rattle.cnf_renumber.proofs.Common.{ℕ, zero, suc, ◌≡◌, ◌<◌, ◌≤◌, ◌+◌, ◌⊎◌, inl, inr, Bool, true, false, not, cond, List, [], ◌∷◌, ◌++◌, length, map, get_or, refl, ap, sym, subst, ◌∙◌, append_assoc, append-nil, arith, Lit, AreWithin, IsClause, opposite_of, Has, opposite-opposite, Step, AreInRange, standing, in_range-within, AreClauses, AreInverse, Undoes, entry_of, renumbered, renumbered_literal, renumbered_log}
+use Rattle.cnf_renumber.proofs.Common.{ℕ, zero, suc, ◌≡◌, ◌<◌, ◌≤◌, ◌+◌, ◌⊎◌, inl, inr, Bool, true, false, not, cond, List, [], ◌∷◌, ◌++◌, length, map, get_or, refl, ap, sym, subst, ◌∙◌, append_assoc, arith, Lit, AreWithin, IsClause, opposite_of, Has, opposite-opposite, Step, AreInRange, standing, in_range-within, AreClauses, AreInverse, Undoes, entry_of, renumbered, renumbered_literal, renumbered_log}
 use Rattle.cnf_renumber.proofs.Literals.{above_zero, flipped, same_or_opposite}
 use Rattle.cnf_renumber.proofs.Renumbered.{renumbered-has}
 
@@ -70,10 +70,6 @@ inverse-from forth back long none there again = record {
 
 pub inverse-undoes : (forth back : List Lit) → AreInverse forth back → Undoes back forth × Undoes forth back
 inverse-undoes forth back inverse = ((λ x lt. inverse.ways.back (positive_of x)), λ x lt. inverse.ways.forth (positive_of x))
-
--- tables without entries change nothing
-pub inverse-none : AreInverse [] []
-inverse-none = inverse-from [] [] refl refl (λ x lt. absurd (omega (arith, lt))) (λ x lt. absurd (omega (arith, lt)))
 
 pub zero-stays : (forth back : List Lit) → AreInverse forth back → (entry_of forth 0).variable ≡ 0
 zero-stays forth back inverse =
@@ -162,18 +158,11 @@ clauses-cons : (c : List Lit) (cs : List (List Lit)) → IsClause c → AreClaus
 clauses-cons c cs h all zero d lt = h
 clauses-cons c cs h all (suc k) d lt = all k d (omega arith)
 
-pub clauses-both : (cs ds : List (List Lit)) → AreClauses cs → AreClauses ds → AreClauses (cs ++ ds)
-clauses-both [] ds h k = k
-clauses-both (c ∷ cs) ds h k = clauses-cons c (cs ++ ds) (h zero c (omega arith)) (clauses-both cs ds (λ i d lt. h (suc i) d (omega arith)) k)
-
 -- ---- a log mapped back step by step
 
 pub record LogSoFar (q : Lit → Lit) (log left new : List Step) : Type 0 where
   pub is : new ++ renumbered_log q left ≡ renumbered_log q log
   pub clauses : AreClauses (map (λ s. s.clause) left) → AreClauses (map (λ s. s.clause) log)
-
-pub log-none : (q : Lit → Lit) (log : List Step) → LogSoFar q log log []
-log-none q log = record { is = refl; clauses = λ h. h }
 
 pub log-more : (q : Lit → Lit) (log left rest new : List Step) (s t : Step) → left ≡ s ∷ rest → t ≡ record { chain = s.chain; clause = renumbered q s.clause } → IsClause s.clause
     → LogSoFar q log left new → LogSoFar q log rest (new ++ t ∷ [])
@@ -183,9 +172,3 @@ log-more q log left rest new s t e is clause h =
       is = ap (λ (x : Step). (new ++ x ∷ []) ++ renumbered_log q rest) is ∙ (append_assoc new (k ∷ []) (renumbered_log q rest) ∙ (ap (λ (ss : List Step). new ++ renumbered_log q ss) (sym e) ∙ h.is));
       clauses = λ all. h.clauses (subst (λ (ss : List Step). AreClauses (map (λ (x : Step). x.clause) ss)) (sym e) (clauses-cons s.clause (map (λ (x : Step). x.clause) rest) clause all));
     }
-
-pub log-done : (q : Lit → Lit) (log left new : List Step) → left ≡ [] → LogSoFar q log left new → (new ≡ renumbered_log q log) × AreClauses (map (λ s. s.clause) log)
-log-done q log left new e h = (
-  sym (append-nil new) ∙ (ap (λ (ss : List Step). new ++ renumbered_log q ss) (sym e) ∙ h.is),
-  h.clauses (subst (λ (ss : List Step). AreClauses (map (λ (x : Step). x.clause) ss)) (sym e) (λ k d lt. absurd (omega arith))),
-)

@@ -1,5 +1,5 @@
 -- Names and their columns.
-use Rattle.definite_assignment.proofs.Common.{ℕ, zero, suc, ◌+◌, ◌≡◌, ◌<◌, ◌≤◌, ◌⊎◌, inl, inr, Bool, true, false, List, [], ◌∷◌, ◌++◌, length, get_or, refl, ap, sym, subst, ◌∙◌, arith, length-append, IsTrue, ◌↔◌, All, Contains, get_or-map, length-map, get_or_past, All-contains, All-map, Contains-get_or, both_ways, cases_eq, cases_lt, Assigns, IsAssignedBefore, IsAssignedIn, IsUnassignedBefore, AreRoomy, by_columns, column_of, has, has_name}
+use Rattle.definite_assignment.proofs.Common.{ℕ, zero, suc, ◌+◌, ◌≡◌, ◌<◌, ◌≤◌, ◌⊎◌, inl, inr, Bool, true, false, List, [], ◌∷◌, ◌++◌, length, get_or, refl, ap, sym, subst, ◌∙◌, arith, IsTrue, ◌↔◌, All, Contains, get_or-map, length-map, get_or_past, All-contains, All-map, Contains-get_or, both_ways, cases_lt, Assigns, IsAssignedBefore, IsAssignedIn, IsUnassignedBefore, AreRoomy, by_columns, column_of, has, has_name}
 use Rattle.std.specs.Prelude.{map}
 
 -- ---- numbering
@@ -13,38 +13,10 @@ pub record AreColumns (marks : List Bool) (columns : List ℕ) (i count : ℕ) :
   pub first : (m : ℕ) → m < i → get_or marks m false ≡ true → 1 ≤ column_of columns m
   pub apart : (m n : ℕ) → m < i → n < i → get_or marks m false ≡ true → column_of columns m ≡ column_of columns n → m ≡ n
 
-pub no_columns : (marks : List Bool) → AreColumns marks [] 0 1
-no_columns marks = record {
-  long = refl;
-  some = omega arith;
-  few = omega arith;
-  below = λ m less. absurd (omega (arith, less));
-  first = λ m less t. absurd (omega (arith, less));
-  apart = λ m n less less' t e. absurd (omega (arith, less));
-}
-
 pushed_before : (columns : List ℕ) (x m : ℕ) → m < length columns → column_of (columns ++ x ∷ []) m ≡ column_of columns m
 pushed_before [] x m less = absurd (omega (arith, less))
 pushed_before (c ∷ columns) x zero less = refl
 pushed_before (c ∷ columns) x (suc m) less = pushed_before columns x m (omega (arith, less))
-
-pushed_last : (columns : List ℕ) (x : ℕ) → column_of (columns ++ x ∷ []) (length columns) ≡ x
-pushed_last [] x = refl
-pushed_last (c ∷ columns) x = pushed_last columns x
-
--- a name that is assigned gets a column of its own
-pub columns_assigned : (marks : List Bool) (columns : List ℕ) (i count : ℕ) → AreColumns marks columns i count → AreColumns marks (columns ++ count ∷ []) (i + 1) (count + 1)
-columns_assigned marks columns i count C = record {
-  long = length-append columns (count ∷ []) ∙ ap (λ n. n + 1) C.long;
-  some = omega arith;
-  few = omega (arith, C.few);
-  below = λ m less. below m less (cases_eq m i);
-  first = λ m less t. first m less t (cases_eq m i);
-  apart = λ m n less less' t e. apart m n less less' t e (cases_eq m i) (cases_eq n i);
-}
-  where
-    last : (m : ℕ) → m ≡ i → column_of (columns ++ count ∷ []) m ≡ count
-    last m e = ap (λ k. column_of (columns ++ count ∷ []) k) (e ∙ sym C.long) ∙ pushed_last columns count
 
     before : (m : ℕ) → m < i + 1 → (m ≡ i → ⊥) → column_of (columns ++ count ∷ []) m ≡ column_of columns m
     before m less away = pushed_before columns count m (omega (arith, less, away, C.long))
@@ -62,20 +34,6 @@ columns_assigned marks columns i count C = record {
     apart m n less less' t e (inl a) (inr b) = let small : column_of columns n < count = C.below n (omega (arith, less', b)) in absurd (omega (arith, last m a, before n less' b, e, small))
     apart m n less less' t e (inr a) (inl b) = let small : column_of columns m < count = C.below m (omega (arith, less, a)) in absurd (omega (arith, last n b, before m less a, e, small))
     apart m n less less' t e (inr a) (inr b) = C.apart m n (omega (arith, less, a)) (omega (arith, less', b)) t (sym (before m less a) ∙ (e ∙ before n less' b))
-
--- another one gets column 0
-pub columns_other : (marks : List Bool) (columns : List ℕ) (i count : ℕ) → get_or marks i false ≡ false → AreColumns marks columns i count → AreColumns marks (columns ++ 0 ∷ []) (i + 1) count
-columns_other marks columns i count f C = record {
-  long = length-append columns (0 ∷ []) ∙ ap (λ n. n + 1) C.long;
-  some = C.some;
-  few = omega (arith, C.few);
-  below = λ m less. below m less (cases_eq m i);
-  first = λ m less t. first m less t (cases_eq m i);
-  apart = λ m n less less' t e. apart m n less less' t e (cases_eq m i) (cases_eq n i);
-}
-  where
-    last : (m : ℕ) → m ≡ i → column_of (columns ++ 0 ∷ []) m ≡ 0
-    last m e = ap (λ k. column_of (columns ++ 0 ∷ []) k) (e ∙ sym C.long) ∙ pushed_last columns 0
 
     before : (m : ℕ) → m < i + 1 → (m ≡ i → ⊥) → column_of (columns ++ 0 ∷ []) m ≡ column_of columns m
     before m less away = pushed_before columns 0 m (omega (arith, less, away, C.long))
@@ -95,17 +53,6 @@ columns_other marks columns i count f C = record {
     apart m n less less' t e (inl a) _ = absurd (not_last m t a)
     apart m n less less' t e (inr a) (inl b) = let some : 1 ≤ column_of columns m = C.first m (omega (arith, less, a)) t in absurd (omega (arith, last n b, before m less a, e, some))
     apart m n less less' t e (inr a) (inr b) = C.apart m n (omega (arith, less, a)) (omega (arith, less', b)) t (sym (before m less a) ∙ (e ∙ before n less' b))
-
--- a mark that is set is one of the marks
-marked_below : (marks : List Bool) (m : ℕ) → get_or marks m false ≡ true → m < length marks
-marked_below marks m t = cases (cases_lt m (length marks))
-  where
-    cases : (m < length marks) ⊎ (length marks ≤ m) → m < length marks
-    cases (inl less) = less
-    cases (inr past) = absurd (both_ways _ (get_or_past marks m false past) t)
-
-pub columns_apart : (marks : List Bool) (columns : List ℕ) (i count : ℕ) → AreColumns marks columns i count → length marks ≡ i → (m n : ℕ) → n < length marks → get_or marks m false ≡ true → column_of columns m ≡ column_of columns n → m ≡ n
-columns_apart marks columns i count C long m n less t e = C.apart m n (omega (arith, marked_below marks m t, long)) (omega (arith, less, long)) t e
 
 -- ---- names assigned, and their columns
 

@@ -1,5 +1,5 @@
 -- What proofs of this crate cite of std, of other crates and of its definitions, passed on from one place. Declares nothing.
-pub use Rattle.std.proofs.Common.{ℕ, suc, zero, ◌+◌, ◌*◌, ◌/◌, ◌%◌, ◌^◌, ◌≡◌, ◌≢◌, ◌<◌, ◌≤◌, ◌⊎◌, inl, inr, Bool, true, false, cond, ◌&&◌, List, [], ◌∷◌, length, get_or, set, replicate, min, refl, ap, sym, ◌∙◌, arith, bit_and, bit_or, length-set, ◌-◌, ◌++◌, subst, ◌||◌, length-append, map, rules, take}
+pub use Rattle.std.proofs.Common.{ℕ, suc, zero, ◌+◌, ◌*◌, ◌/◌, ◌%◌, ◌^◌, ◌≡◌, ◌≢◌, ◌<◌, ◌≤◌, ◌⊎◌, inl, inr, Bool, true, false, cond, ◌&&◌, List, [], ◌∷◌, length, get_or, set, replicate, min, refl, ap, sym, ◌∙◌, arith, bit_and, bit_or, length-set, ◌-◌, ◌++◌, subst, ◌||◌, map, rules, take}
 pub use Rattle.std.proofs.lemmas.Bool.{cases_eq, cases_lt, and_right, cases_Bool, both_ways, false_from_ne_true, or_parts, or_cases, and_parts, and_from}
 pub use Rattle.std.proofs.lemmas.List.{same_lists, get_or_past, get_or-set_same, get_or-set_other, get_or-replicate, length-replicate, get_or_default, replicate_more, set-get_or, get_or-map, length-map, take_all, take_more, with_items_is}
 pub use Rattle.std.proofs.lemmas.List.Elements.{All-contains, Contains-append_cases, Contains-append_right, All-nil, All-cons, Contains-append_left, Contains-push, All-pop, All-map, Contains-get_or, Contains-push_cases, All-same, All-push, All-more}

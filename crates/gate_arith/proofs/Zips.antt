@@ -83,12 +83,6 @@ bit-kept old mid Or h k v x y = refl
 bit-kept old mid Xor h k v x y = refl
 bit-kept old mid (Choose c) h k v x y = ap (λ b. cond b x y) (k.kept v c h)
 
-pub op_later : (old mid : List Gate) (op : BitOp) → IsOp old op → Keeps old mid → IsOp mid op
-op_later old mid And h k = tt
-op_later old mid Or h k = tt
-op_later old mid Xor h k = tt
-op_later old mid (Choose c) h k = omega (arith, k.longer)
-
 -- the first bits
 pub record IsPartZip (old new : List Gate) (op : BitOp) (a b digits : List GateId) (i : ℕ) : Type 0 where
   pub keeps : Keeps old new

@@ -153,10 +153,6 @@ not-value v gs i true = twice _
     twice false = refl
 not-value v gs i false = refl
 
-pub plain-value : (v : ℕ → Bool) (gs : List Gate) (i : ℕ) (n : Bool) → gate_at v gs (record { index = i; negated = n }) ≡ exclusive n (get_or (values_of v gs) i false)
-unfolding gate_at
-plain-value v gs i n = refl
-
 Contains-one : (x : ℕ) → Contains (x ∷ []) x
 Contains-one x = grind arith
 

@@ -1,5 +1,5 @@
 -- Orders of numbers, and their truths.
-use Rattle.inst_terms.proofs.Common.{ℕ, ◌≡◌, ◌<◌, ◌-◌, ◌^◌, not, nat_le, nat_lt, ℤ, pos, negsuc, inl, inr, refl, ap, ◌∙◌, arith, int_lt, int_le, cases_lt, lt-ltb, le-ltb, le-leb, lt-leb, is_less_signed, signed_of}
+use Rattle.inst_terms.proofs.Common.{ℕ, ◌≡◌, ◌<◌, ◌-◌, ◌^◌, not, nat_le, nat_lt, ℤ, pos, negsuc, inl, inr, refl, ◌∙◌, arith, int_lt, int_le, cases_lt, lt-ltb, le-ltb, le-leb, lt-leb, is_less_signed, signed_of}
 use Rattle.inst_terms.proofs.Halves.{signed_low, signed_high}
 
 pub not-less : (a b : ℕ) → not (nat_lt b a) ≡ nat_le a b
@@ -31,6 +31,3 @@ less-signed n a b ba bb = elim (cases_lt a (2 ^ (n - 1))) as (λ _. is_less_sign
     | inr hb ↦ rw (le-leb (2 ^ (n - 1)) a ha, le-leb (2 ^ (n - 1)) b hb, signed_high n a ha ba, signed_high n b hb bb) (turned-less a b (2 ^ n) ba bb)
   ]
 ]
-
-pub at-most-signed : (n a b : ℕ) → a < 2 ^ n → b < 2 ^ n → not (is_less_signed n b a) ≡ int_le (signed_of n a) (signed_of n b)
-at-most-signed n a b ba bb = ap not (less-signed n b a bb ba) ∙ not-less-integer (signed_of n a) (signed_of n b)

@@ -203,9 +203,6 @@ pub is_true : (r : Bool) → (r ≡ false → ⊥) → r ≡ true
 is_true true never = refl
 is_true false never = absurd (never refl)
 
-pub stands_at : {X : Type 0} (xs : List X) (i : ℕ) (x : X) → i < length xs → x ≡ get_or xs i x → Contains xs x
-stands_at xs i x below is = (i, below, sym is)
-
 pub stands_before : {X : Type 0} (xs : List X) (i : ℕ) (x : X) → Contains (take i xs) x → Contains xs x
 stands_before xs i x found = rw (← take-append-drop i xs) (Contains-append_left (take i xs) (drop i xs) x found)
 

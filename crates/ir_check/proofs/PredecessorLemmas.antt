@@ -1,5 +1,5 @@
 -- The lists of predecessors as they are made, block by block.
-use Rattle.ir_check.proofs.Common.{◌≡◌, ◌↔◌, ◌⊎◌, inl, inr, ℕ, ◌<◌, List, [], ◌∷◌, ◌++◌, length, take, ◌+◌, get_or, set, slice_get, replicate, Option, Some, refl, ap, sym, subst, ◌∙◌, arith, length-set, All, Contains, cases_eq, take_more, get_or_default, get_or-set_same, get_or-set_other, get_or-replicate, length-replicate, Contains-append_left, Contains-get_or, Contains-push, Contains-push_cases, slice_get_read, slice_get_within, get_or_from_slice_get, same_Some, IrType, Phi, Defines, Enters, AreNumbered, IsNumbered, sites, parts, all_at, defined_at, entered_at, ComesFromPredecessors, HasTwoOperands, HasWrongEdge, LeadsIn, ArePredecessors, IsUnfit, IsUnfitAt}
+use Rattle.ir_check.proofs.Common.{◌≡◌, ◌↔◌, ◌⊎◌, inl, inr, ℕ, ◌<◌, List, [], ◌∷◌, ◌++◌, length, take, ◌+◌, get_or, set, slice_get, Option, Some, refl, ap, sym, subst, ◌∙◌, arith, length-set, All, Contains, cases_eq, take_more, get_or_default, get_or-set_same, get_or-set_other, Contains-append_left, Contains-get_or, Contains-push, Contains-push_cases, slice_get_read, slice_get_within, get_or_from_slice_get, same_Some, IrType, Phi, Defines, Enters, AreNumbered, IsNumbered, sites, parts, all_at, defined_at, entered_at, ComesFromPredecessors, HasTwoOperands, HasWrongEdge, LeadsIn, ArePredecessors, IsUnfit, IsUnfitAt}
 use Rattle.ir_tree.specs.declared.tree.Block.{Block}
 use Rattle.ir_tree.specs.declared.tree.Function.{Function}
 use Rattle.ir_tree.specs.declared.sites.Part.TheVariants as part
@@ -18,13 +18,6 @@ got {X} xs ys i x same below is = subst (λ (zs : List X). slice_get zs i ≡ So
 pub record HaveAdded (old new : List (List ℕ)) (label : ℕ) (nexts : List ℕ) : Type 0 where
   pub long : length new ≡ length old
   pub each : (next other : ℕ) → Contains (get_or new next []) other ↔ (Contains (get_or old next []) other ⊎ ((other ≡ label) × Contains nexts next))
-
-pub added_none : (table : List (List ℕ)) (label : ℕ) → HaveAdded table table label []
-added_none table label = record { long = refl; each = λ next other. (λ found. inl found, λ found. back next other found) }
-  where
-    back : (next other : ℕ) → Contains (get_or table next []) other ⊎ ((other ≡ label) × Contains [] next) → Contains (get_or table next []) other
-    back next other (inl found) = found
-    back next other (inr new) = absurd (omega (arith, new.1.1))
 
 pub added_more : (old new : List (List ℕ)) (label : ℕ) (nexts : List ℕ) (t : ℕ) (row row' : List ℕ) → HaveAdded old new label nexts → slice_get new t ≡ Some row → ((other : ℕ) → Contains row' other ↔ (Contains row other ⊎ (other ≡ label)))
     → HaveAdded old (set new t row') label (nexts ++ t ∷ [])
@@ -66,14 +59,6 @@ added_more old new label nexts t row row' so_far read pushed =
     back next other (inr away) (inr same) = older next other away same.0 (Contains-push_cases nexts t next same.1)
 
 -- ---- block by block
-
-pub none_leads : (count : ℕ) → ArePredecessors [] (replicate count [])
-none_leads count = record { each = λ next label below. (λ found. absurd (empty next label below found), λ leads. absurd (let below' = leads.stands.1 in omega (arith, below'))) }
-  where
-    empty : (next label : ℕ) → next < length (replicate {A = List ℕ} count []) → Contains (get_or (replicate count []) next []) label → ⊥
-    empty next label below found =
-        let none : get_or (replicate count []) next [] ≡ [] = get_or-replicate count next [] [] (let long = length-replicate {A = List ℕ} count [] in omega (arith, below, long)) in
-        let here : Contains [] label = subst (λ (r : List ℕ). Contains r label) none found in omega (arith, here.1)
 
 pub leads_more : (blocks : List Block) (b : Block) (old new : List (List ℕ)) (nexts : List ℕ) → ArePredecessors blocks old → nexts ≡ targets b.terminator → HaveAdded old new b.label nexts → ArePredecessors (blocks ++ b ∷ []) new
 leads_more blocks b old new nexts so_far is added =

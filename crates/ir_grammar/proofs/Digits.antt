@@ -1,9 +1,6 @@
 -- The number of digits, from the left.
 use Rattle.ir_grammar.proofs.Common.{◌≡◌, ℕ, ◌+◌, ◌-◌, ◌*◌, ◌<◌, ◌≤◌, ◌^◌, List, [], ◌∷◌, length, get_or, drop, Some, None, refl, sym, ap, ◌∙◌, add-one, arith, drop-cons, le-ltb, lt-ltb, value_after, value_of, some_below}
 use Rattle.std.proofs.lemmas.List.{drop_all}
-use Rattle.std.specs.List.{list_all}
-use Rattle.ir_lexer.specs.Bytes.{is_digit}
-use Rattle.ir_lexer.specs.Spelling.{is_digits}
 
 pub value_after-ge : (v : ℕ) (ds : List ℕ) → v ≤ value_after v ds
 value_after-ge v [] = omega arith
@@ -23,7 +20,3 @@ below v i ds e past small =
 
 pub too_large : (v i : ℕ) (ds : List ℕ) → i < length ds → value_after v (drop i ds) ≡ value_of ds → 2 ^ 64 ≤ v * 10 + (get_or ds i 0 - 48) → some_below (2 ^ 64) (value_of ds) ≡ None
 too_large v i ds lt e big = too_much (v * 10 + (get_or ds i 0 - 48)) (drop (i + 1) ds) (value_of ds) (one_digit v i ds (value_of ds) lt e) big
-
-pub is_digits_is : (bs : List ℕ) → 0 < length bs → list_all is_digit bs ≡ is_digits bs
-is_digits_is [] h = absurd (omega arith)
-is_digits_is (b ∷ bs) h = refl

@@ -59,10 +59,6 @@ of-place false at found e = absurd (cc e)
 apart-word : {A : Type 0} (w : List ℕ) (stands : Lexeme → Option A) → ((t : Lexeme) → stands (record t { kind = kind.Word; text = w }) ≡ None) → AreApart (λ t. is_word_of t.kind t.text w) stands
 apart-word w stands differs = apart-spelled kind.Word w (λ t. is_word_of t.kind t.text w) stands (only-word w) differs
 
--- a class of one word, of one mark
-apart-from-word : (w : List ℕ) (test : Lexeme → Bool) → ((t : Lexeme) → test (record t { kind = kind.Word; text = w }) ≡ false) → AreApart test (as_word w)
-apart-from-word w test differs = apart-class kind.Word w test (as_word w) (λ t u e. only-word w t (of-stands _ u e)) differs
-
 apart-from-mark : (w : List ℕ) (test : Lexeme → Bool) → ((t : Lexeme) → test (record t { kind = kind.Mark; text = w }) ≡ false) → AreApart test (as_mark w)
 apart-from-mark w test differs = apart-class kind.Mark w test (as_mark w) (λ t u e. only-mark w t (of-stands _ u e)) differs
 

@@ -14,9 +14,9 @@ pub use Rattle.ir_lexer.specs.Lexeme.{Lexeme}
 pub use Rattle.ir_lexer.specs.Marks.{IsMark, lexeme_of, mark_of}
 pub use Rattle.ir_lexer.specs.Parts.{behind, nothing, one, byte, many, some, behind_one, maybe}
 pub use Rattle.ir_lexer.specs.Position.{Position, tokens_left, start_of, IsWithin, IsToken, Reads, bytes_before, Here}
-pub use Rattle.ir_lexer.specs.Scan.{name_run, ◌>>=◌, after_one, after_byte, after_some, shorter, length_of}
+pub use Rattle.ir_lexer.specs.Scan.{name_run, ◌>>=◌, after_one, after_byte, after_some, shorter}
 unfoldable pub use Rattle.ir_lexer.specs.Scan.{after_digits, after_number, after_word, after_quoted, after_plain_name, after_name, after_named, after_tagged, after_caret, after_plain_label, after_quoted_label, after_label, after_exponent, after_float, after_hexadecimal, after_string, after_dots, after_mark, longer, front_token}
-pub use Rattle.ir_lexer.specs.Tokens.{Spot, with_front, lexed, behind_blanks, longest_token, with_token, or_shorter}
+pub use Rattle.ir_lexer.specs.Tokens.{Spot, with_front, lexed, behind_blanks, longest_token, with_token}
 unfoldable pub use Rattle.ir_lexer.specs.Tokens.{tokens_of, longest}
 pub use Rattle.ir_lexer.specs.declared.lexing.LexFault.{LexFault}
 pub use Rattle.ir_lexer.specs.declared.lexing.LexFault.TheVariants.{NoToken, NoMemory}

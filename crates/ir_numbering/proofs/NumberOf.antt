@@ -1,5 +1,5 @@
 -- A name's number is below the size of the table that has it, and the table has the name there, however it grows on.
-use Rattle.ir_numbering.proofs.Common.{◌≡◌, ℕ, suc, ◌+◌, ◌<◌, ◌≤◌, Bool, true, false, cond, List, [], ◌∷◌, ◌++◌, length, Option, Some, refl, sym, ap, ◌∙◌, arith, not, ◌||◌, list_any, slice_get, length-append, append-nil, Name, Number, Word, same_name, with_name, number_of}
+use Rattle.ir_numbering.proofs.Common.{◌≡◌, ℕ, suc, ◌+◌, ◌<◌, ◌≤◌, Bool, true, false, cond, List, [], ◌∷◌, ◌++◌, length, Some, refl, sym, ap, ◌∙◌, arith, not, ◌||◌, list_any, slice_get, length-append, append-nil, Name, Number, Word, same_name, with_name, number_of}
 use Rattle.std.proofs.lemmas.Slice.Eq.{bytes_eq-Decides}
 
 has-less : (xs : List Name) (x : Name) → list_any (same_name x) xs ≡ true → number_of xs x < length xs

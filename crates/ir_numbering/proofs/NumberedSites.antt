@@ -1,5 +1,5 @@
 -- The sites of a function whose names were numbered: each name has its number in the table, and is the one that is written there.
-use Rattle.ir_numbering.proofs.Common.{◌≡◌, ℕ, ◌+◌, ◌*◌, ◌≤◌, Bool, true, false, List, [], ◌∷◌, ◌++◌, length, map, Option, Some, None, refl, sym, ap, subst, ◌∙◌, append_assoc, arith, nat_le, All, flat_map, length-append, length-map, append-nil, map-append, All-nil, All-cons, All-append, All-weaker, Place, with_name, number_of, Name, WrittenParameter, WrittenInst, WrittenPhi, WrittenTerminator, WrittenBody, WrittenBlock, WrittenReturn, Void, Value, WrittenFunction, NamedParameter, place_or, Mention, nameless, mention, mention_at, local_name, operand_mention, typed_mentions, index_mentions, inst_mentions, returned_mentions, entry_mentions, phi_mentions, case_mentions, terminator_mentions, body_mentions, block_mentions, parameter_mentions, names_written, Numbered, so, ◌>>=◌, value_in, typed_in, binary_in, icmp_in, cast_in, select_in, freeze_in, alloca_in, load_in, store_in, index_in, gep_in, inst_in, returned_in, parameter_in, each_in, entry_in, phi_in, case_in, branch_in, cond_branch_in, switch_in, terminator_in, block_in, labelled_in, blocks_in, parts_in, function_of, named, named_behind, entry_name, numbered}
+use Rattle.ir_numbering.proofs.Common.{◌≡◌, ℕ, ◌+◌, ◌*◌, ◌≤◌, Bool, true, List, [], ◌∷◌, ◌++◌, length, map, Option, Some, None, refl, sym, ap, subst, ◌∙◌, append_assoc, arith, nat_le, All, flat_map, length-append, length-map, append-nil, map-append, All-nil, All-cons, All-append, All-weaker, Place, with_name, number_of, Name, WrittenParameter, WrittenInst, WrittenPhi, WrittenTerminator, WrittenBody, WrittenBlock, WrittenReturn, Void, Value, WrittenFunction, NamedParameter, place_or, Mention, nameless, mention, mention_at, local_name, operand_mention, typed_mentions, index_mentions, inst_mentions, returned_mentions, entry_mentions, phi_mentions, case_mentions, terminator_mentions, body_mentions, block_mentions, parameter_mentions, names_written, Numbered, so, ◌>>=◌, value_in, typed_in, binary_in, icmp_in, cast_in, select_in, freeze_in, alloca_in, load_in, store_in, index_in, gep_in, inst_in, returned_in, parameter_in, each_in, entry_in, phi_in, case_in, branch_in, cond_branch_in, switch_in, terminator_in, block_in, labelled_in, blocks_in, parts_in, function_of, named, named_behind, entry_name, numbered}
 use Rattle.std.proofs.lemmas.Grind.{flat_map-append}
 use Rattle.tv_num.specs.declared.Width.{Width}
 use Rattle.ir_tree.specs.Sites.{IsNumbered, AreNumbered, Step, sites, sites_in, steps, parameter_steps, phi_steps, inst_steps, block_steps, blocks_steps, header_sites, parameter_sites, entry_sites, phi_sites, index_sites, indices_sites, inst_sites, case_sites, cases_sites, terminator_sites, typed_sites, operand_site}

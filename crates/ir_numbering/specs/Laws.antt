@@ -1,5 +1,5 @@
 -- What holds of each function whose names are numbered.
-use Rattle.std.specs.Prelude.{◌≡◌, List, map, length, slice_get, Option, Some, None}
+use Rattle.std.specs.Prelude.{◌≡◌, List, map, length, slice_get, Option, None}
 use Rattle.ir_tree.specs.declared.name.Name.{Name}
 use Rattle.ir_tree.specs.declared.sites.Site.{Site}
 use Rattle.ir_tree.specs.declared.sites.Site.TheVariants.{Defines, Uses, Enters, Written}

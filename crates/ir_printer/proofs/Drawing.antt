@@ -1,5 +1,5 @@
 -- What is drawn, step by step.
-use Rattle.ir_printer.proofs.Common.{◌≡◌, ◌<◌, ◌+◌, ◌-◌, ◌*◌, ℕ, suc, Bool, List, [], ◌∷◌, ◌++◌, refl, ap, ◌∙◌, sym, append_assoc, arith, codes, fold, ◌&&◌, ◌==◌, decimal, with_name, Name, Word, Inst, Entry, drawn, made_binary, made_entries, made_entry, made_inst, made_insts, result_names, state_behind}
+use Rattle.ir_printer.proofs.Common.{◌≡◌, ◌<◌, ◌+◌, ◌-◌, ◌*◌, ℕ, suc, Bool, List, [], ◌∷◌, ◌++◌, ap, ◌∙◌, sym, append_assoc, arith, codes, fold, ◌&&◌, ◌==◌, decimal, with_name, Name, Word, Inst, Entry, drawn, made_binary, made_entries, made_entry, made_inst, made_insts, result_names, state_behind}
 
 one_left : (n i : ℕ) → i < n → n - i ≡ suc (n - (i + 1))
 one_left n i lt = omega arith

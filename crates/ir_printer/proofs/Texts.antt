@@ -1,5 +1,5 @@
 -- The text of lists of tokens, part by part.
-use Rattle.ir_printer.proofs.Common.{◌≡◌, ◌<◌, ◌≤◌, ◌+◌, ℕ, List, [], ◌∷◌, ◌++◌, length, drop, get_or, refl, ap, ◌∙◌, sym, append_assoc, append-nil, at_drop_all, drop_more, codes, flat_map, flat_map-append, decimal, Piece, piece_text, text_of, none, space, mark, number, word, array_pieces, closing_pieces}
+use Rattle.ir_printer.proofs.Common.{◌≡◌, ◌<◌, ◌≤◌, ◌+◌, ℕ, List, [], ◌∷◌, ◌++◌, length, drop, get_or, refl, ap, ◌∙◌, sym, append_assoc, append-nil, at_drop_all, drop_more, codes, flat_map, flat_map-append, Piece, piece_text, text_of, word, array_pieces, closing_pieces}
 
 pub text_of-append : (a b : List Piece) → text_of (a ++ b) ≡ text_of a ++ text_of b
 text_of-append a b = flat_map-append piece_text a b

@@ -21,7 +21,7 @@ use Rattle.ir_tree.specs.declared.tree.Case.{Case}
 use Rattle.ir_tree.specs.declared.tree.Terminator.{Terminator}
 use Rattle.ir_tree.specs.declared.tree.Terminator.TheVariants.{Return, Branch, CondBranch, Switch, Unreachable}
 use Rattle.token_text.specs.Pieces.{Piece}
-use Rattle.ir_printer.specs.Pieces.{none, space, indented, word, mark, number, comma, name_in, local, target, width_text, type_text, object_pieces, operand_piece, typed_pieces, pointer_pieces}
+use Rattle.ir_printer.specs.Pieces.{space, indented, word, mark, number, comma, name_in, local, target, width_text, type_text, object_pieces, operand_piece, typed_pieces, pointer_pieces}
 
 -- ---- words and flags
 

@@ -1,5 +1,5 @@
 -- Tokens as a module is printed with them, and the tokens of names, types and operands.
-use Rattle.std.specs.Prelude.{ℕ, zero, suc, List, [], ◌∷◌, ◌++◌, length, slice_index_or, codes, Option, Some, None}
+use Rattle.std.specs.Prelude.{ℕ, List, [], ◌∷◌, ◌++◌, length, slice_index_or, codes}
 use Rattle.std.specs.Fmt.{decimal}
 use Rattle.tv_num.specs.declared.Width.{Width}
 use Rattle.ir_lexer.specs.declared.token.Kind.TheVariants as kind

@@ -53,10 +53,6 @@ pub undef-tested : (f : Function) (fault : CheckFault) → PassesNames f → Pas
 undef-tested f (fault.Refused refused) names types edges assigned T = (UndefUse, record { site = T.site; tested = (names, types, edges, assigned, T.first); told = T.told })
 undef-tested f fault.NoMemory names types edges assigned t = tt
 
-pub answers-fault : (ts : List Lexeme) (fault : CheckFault) → Writes ts (Err fault) → Answers ts (Err fault)
-answers-fault ts (fault.Refused refused) e = e
-answers-fault ts fault.NoMemory e = tt
-
 pub answers-tested : (ts : List Lexeme) (w : WrittenFunction) (f : Function) (fault : CheckFault) → Spells true define w ts [] → f ≡ numbered w → Tests f (Err fault) → Answers ts (Err fault)
 answers-tested ts w f (fault.Refused refused) s e (why, R) = tested w why refused s (subst (λ (g : Function). IsRefusedAt why g refused) e R)
 answers-tested ts w f fault.NoMemory s e t = tt

@@ -1,5 +1,5 @@
 -- The entries of a module, as a loop makes them, and where its defines are.
-use Rattle.ir_reader.proofs.Common.{◌≡◌, ℕ, zero, suc, ◌+◌, ◌-◌, ◌<◌, ◌≤◌, List, [], ◌∷◌, ◌++◌, length, get_or, drop, Option, Some, None, ◌∙◌, refl, sym, ap, subst, append_assoc, arith, slice_get, IsOkAnd, min, drop-drop, Lexeme, Spot, with_front, Define, IsCut, nothing, other, IsDefine, Entry, Ascend, IsEntry, AreEntries}
+use Rattle.ir_reader.proofs.Common.{◌≡◌, ℕ, zero, suc, ◌+◌, ◌-◌, ◌<◌, ◌≤◌, List, [], ◌∷◌, ◌++◌, length, drop, Option, Some, None, ◌∙◌, refl, sym, ap, subst, append_assoc, arith, slice_get, IsOkAnd, min, drop-drop, Lexeme, Spot, with_front, Define, IsCut, nothing, other, IsDefine, Entry, Ascend, IsEntry, AreEntries}
 use Rattle.std.proofs.Common.{Result, Ok, Err, append-nil}
 use Rattle.ir_lexer.specs.declared.lexing.LexFault.{LexFault}
 use Rattle.ir_lexer.specs.declared.lexing.LexFault.TheVariants.{NoToken, NoMemory}

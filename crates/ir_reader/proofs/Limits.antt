@@ -85,12 +85,6 @@ IsInstStart start.Store = Unit {0}
 IsInstStart (start.Label name) = ⊥
 IsInstStart start.Record = ⊥
 
-line-of-inst : (a : LineStart) (l : WrittenLine) → IsInstStart a → IsInstLine l → IsLineOf a l
-line-of-inst (start.Inst name) l h small = small
-line-of-inst start.Store l h small = small
-line-of-inst (start.Label name) l h small = absurd h
-line-of-inst start.Record l h small = absurd h
-
 named-of : (number : ℕ) (name : WrittenName) (w : LineWord) (l : WrittenLine) (ts rest : List Lexeme) → number < 65536 → Spells true (line_by number name w) l ts rest → IsInstLine l
 unfolding inst_line phi alloca load gep
 named-of number name word_of.Phi l ts rest below (type, m1, t1, (opening, m2, t2, (first, m3, E, (same, left)))) = subst (λ (x : WrittenLine). IsInstLine x) same (omega arith)

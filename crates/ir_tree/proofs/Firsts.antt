@@ -1,15 +1,7 @@
 -- The table of first definitions, when one more site is looked at.
-use Rattle.ir_tree.proofs.Common.{◌≡◌, ℕ, ◌+◌, ◌<◌, ◌⊎◌, Bool, true, false, not, List, Option, Some, None, length, get_or, set, length-set, refl, ◌∙◌, ap, arith, inl, inr, get_or-set_same, get_or-set_other, cases_eq, is_some, IrType, Site, Defines, IsUndefinedBefore, IsDefinition, IsFirstDefinition, AreFirst}
+use Rattle.ir_tree.proofs.Common.{◌≡◌, ℕ, ◌+◌, ◌<◌, ◌⊎◌, List, Option, Some, None, length, get_or, set, length-set, refl, ◌∙◌, arith, inl, inr, get_or-set_same, get_or-set_other, cases_eq, IrType, Site, Defines, IsUndefinedBefore, IsDefinition, IsFirstDefinition, AreFirst}
 use Rattle.std.specs.List.{slice_get}
 use borrow.Author.Count.{below_more}
-
-pub none_when : (o : Option ℕ) (b : Bool) → is_some o ≡ not b → b ≡ true → o ≡ None
-none_when None b e yes' = refl
-none_when (Some d) b e yes' = absurd (let f : true ≡ not true = e ∙ ap not yes' in cc)
-
-pub some_when : (o : Option ℕ) (b : Bool) → is_some o ≡ not b → b ≡ false → (d : ℕ) × (o ≡ Some d)
-some_when None b e no' = absurd (let f : false ≡ not false = e ∙ ap not no' in cc)
-some_when (Some d) b e no' = (d, refl)
 
 -- nothing defines the name before, and nor does the site at the end
 later-none : (all : List Site) (n name : ℕ) → (IsDefinition all n name → ⊥) → IsUndefinedBefore all n name → IsUndefinedBefore all (n + 1) name

@@ -1,39 +1,8 @@
 -- What a list of sites has when its parts went in.
-use Rattle.ir_tree.proofs.Common.{◌≡◌, ℕ, ◌+◌, ◌<◌, List, [], ◌∷◌, ◌++◌, Option, length, map, drop, take, get_or, refl, ap, sym, ◌∙◌, length-append, append-nil, arith, flat_map, drop_more, take_more, length-map, map-append, drop-length, Width, IrType, Block, PhiEntry, Case, Function, Part, Site, Step, sites, sites_in, parts, parts_in, steps, block_steps, blocks_steps, phi_steps, inst_steps, parameter_steps, label_sites, entry_sites, case_sites, cases_sites, terminator_sites, header_sites, with_part, with_parts}
+use Rattle.ir_tree.proofs.Common.{◌≡◌, ℕ, ◌+◌, ◌<◌, List, [], ◌∷◌, ◌++◌, Option, length, map, drop, get_or, refl, ap, sym, ◌∙◌, length-append, append-nil, arith, drop_more, length-map, IrType, Block, Function, Part, Site, Step, sites, sites_in, parts, parts_in, steps, block_steps, blocks_steps, phi_steps, inst_steps, parameter_steps, label_sites, terminator_sites, header_sites, with_part, with_parts}
 use Rattle.std.proofs.Common.{append_assoc}
 use Rattle.ir_tree.specs.declared.sites.Part.TheVariants as part
 use Rattle.ir_tree.specs.declared.sites.SiteList.{SiteList}
-
--- ---- one part
-
-pub with_part-none : (list : SiteList) (p : Part) → with_part list p [] ≡ list
-with_part-none list p = λ i. record { all = append-nil list.all i; parts = append-nil list.parts i }
-
-pub with_part-append : (list : SiteList) (p : Part) (xs ys : List Site) → with_part (with_part list p xs) p ys ≡ with_part list p (xs ++ ys)
-with_part-append list p xs ys =
-    let tag : Site → Part = λ (site : Site). p in
-    let all = append_assoc list.all xs ys in
-    let tags = append_assoc list.parts (map tag xs) (map tag ys) ∙ ap (λ (ts : List Part). list.parts ++ ts) (sym (map-append tag xs ys)) in
-    λ i. record { all = all i; parts = tags i }
-
-pub entries-next : (p : Part) (type : IrType) (entries : List PhiEntry) (i : ℕ) (entry : PhiEntry) (list next whole : SiteList) → i < length entries → entry ≡ get_or entries i entry → next ≡ with_part list p (entry_sites type entry)
-    → with_part list p (flat_map (entry_sites type) (drop i entries)) ≡ whole → with_part next p (flat_map (entry_sites type) (drop (i + 1) entries)) ≡ whole
-entries-next p type entries i entry list next whole within is made so_far =
-    let e = with_part-append list p (entry_sites type entry) (flat_map (entry_sites type) (drop (i + 1) entries)) in
-    let s = rw (drop_more entries i entry within, ← is) at so_far in cc
-
-pub entries-end : (p : Part) (type : IrType) (entries : List PhiEntry) (i : ℕ) (list whole : SiteList) → i ≡ length entries → with_part list p (flat_map (entry_sites type) (drop i entries)) ≡ whole → list ≡ whole
-entries-end p type entries i list whole end so_far = let e = with_part-none list p in let s = rw (end, drop-length entries) at so_far in cc
-
-pub cases-next : (p : Part) (width : Width) (cases : List Case) (i : ℕ) (case : Case) (list next whole : SiteList) → i < length cases → case ≡ get_or cases i case → next ≡ with_part list p (case_sites width (take i cases) case)
-    → with_part list p (cases_sites width (take i cases) (drop i cases)) ≡ whole → with_part next p (cases_sites width (take (i + 1) cases) (drop (i + 1) cases)) ≡ whole
-cases-next p width cases i case list next whole within is made so_far =
-    let e = with_part-append list p (case_sites width (take i cases) case) (cases_sites width (take i cases ++ case ∷ []) (drop (i + 1) cases)) in
-    let t : take (i + 1) cases ≡ take i cases ++ case ∷ [] = take_more cases i case within ∙ ap (λ (c : Case). take i cases ++ c ∷ []) (sym is) in
-    let s = rw (drop_more cases i case within, ← is) at so_far in rw t cc
-
-pub cases-end : (p : Part) (width : Width) (cases : List Case) (i : ℕ) (list whole : SiteList) → i ≡ length cases → with_part list p (cases_sites width (take i cases) (drop i cases)) ≡ whole → list ≡ whole
-cases-end p width cases i list whole end so_far = let e = with_part-none list p in let s = rw (end, drop-length cases) at so_far in cc
 
 -- ---- parts
 

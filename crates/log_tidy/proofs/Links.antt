@@ -1,5 +1,5 @@
 -- Resolvents of clauses within those that a resolvent is of.
-use Rattle.log_tidy.proofs.Common.{option_and_then, ℕ, zero, suc, ◌≡◌, ◌<◌, ◌≤◌, ◌+◌, ◌-◌, inl, inr, List, [], ◌∷◌, Option, Some, None, length, slice_get, get_or, take, drop, map, arith, sym, ap, subst, refl, ◌∙◌, cases_lt, drop_all, drop_more, take_more, option_and_then_some, Lit, IsClause, RisesFrom, opposite_of, Step, Has, Resolves, joined, resolvent, chain_resolvent, clause_numbered, resolved_along, one_clash, rises-has, ContainsClause, standing, get-taken, IsWithin, AreParts, AreSame, AreShorter, IsDerived, IsNumbered, IsResolved, Resolve, new_number, renumbered_step}
+use Rattle.log_tidy.proofs.Common.{option_and_then, ℕ, zero, suc, ◌≡◌, ◌<◌, ◌≤◌, ◌+◌, ◌-◌, inl, inr, List, [], ◌∷◌, Option, Some, None, length, slice_get, get_or, take, drop, arith, sym, ap, subst, refl, ◌∙◌, cases_lt, drop_all, drop_more, take_more, option_and_then_some, Lit, IsClause, RisesFrom, opposite_of, Step, Has, Resolves, joined, resolvent, chain_resolvent, clause_numbered, resolved_along, one_clash, rises-has, ContainsClause, standing, get-taken, IsWithin, AreParts, AreSame, AreShorter, IsDerived, IsNumbered, IsResolved, Resolve, new_number, renumbered_step}
 use Rattle.clause_log.proofs.Joining.{resolvent-one}
 use Rattle.clause_log.proofs.Resolving.{resolves-from}
 use Rattle.clause_search.proofs.Back.{chain-push}
@@ -106,9 +106,6 @@ same-more f old new chain i c d lt h at at' same n e has found =
       ]
     ]
 
-pub same-derived : (f : ℕ → ℕ) (old new : List (List Lit)) (chain : List ℕ) (c : List Lit) → chain_resolvent old chain ≡ Some c → AreSame f old new chain → chain_resolvent new (map f chain) ≡ Some c
-same-derived f old new chain c e h = chain-same f old new chain c h e
-
 -- what a chain resolved so far, and what its clauses became
 pub record IsAnew (old new : List (List Lit)) (target : List Lit) (rest : List ℕ) (index : ℕ) (whole : List Lit) (current : Step) : Type 0 where
   pub along : resolved_along old whole (drop index rest) ≡ Some target
@@ -152,20 +149,6 @@ module _ (old new : List (List Lit)) (target : List Lit) (rest : List ℕ) (inde
       let at : resolved_along old whole [] ≡ Some target = ap (λ (ns : List ℕ). resolved_along old whole ns) (sym (drop_all index rest le)) ∙ h.along in
       let same : whole ≡ target = cc in
       (h.sound, subst (λ (x : List Lit). ContainsClause x current.clause) same h.within)
-
-pub anew-start : (old new : List (List Lit)) (f : ℕ → ℕ) (target : List Lit) (chain : List ℕ) (first : ℕ) (rest : List ℕ) (c d : List Lit) (s : Step) → chain ≡ first ∷ rest → chain_resolvent old chain ≡ Some target
-    → AreShorter f old new → clause_numbered old first ≡ Some c → clause_numbered new (f first) ≡ Some d → s ≡ record { chain = f first ∷ []; clause = d } → IsAnew old new target rest 0 c s
-anew-start old new f target chain first rest c d s is sound shorter at at' made =
-    let whole : chain_resolvent old (first ∷ rest) ≡ Some target = ap (chain_resolvent old) (sym is) ∙ sound in
-    let w = shorter first c at in
-    let its = w.1 in
-    let same : w.0 ≡ d = cc in
-    let one = alone-derived new c (f first) d s at' (subst (λ (x : List Lit). ContainsClause c x) same w.2) made in
-    record {
-      along = option_and_then_some (λ e. resolved_along old e rest) (clause_numbered old first) target whole (λ e at'' more. let both : e ≡ c = cc in subst (λ (x : List Lit). resolved_along old x rest ≡ Some target) both more);
-      sound = one.0;
-      within = one.1;
-    }
 
 -- the clauses of the first steps, by the numbers of what lies within them
 pub shorter-from : (clauses : List (List Lit)) (log : List Step) (place : ℕ) (numbers : List ℕ) (kept : List Step)

@@ -165,20 +165,6 @@ none-found clauses index c h covered none d among contains =
       subst (λ n. IsWithin clauses c n) (sym its.same) (d, numbered.1, contains),
     )
 
--- other marks
-pub remarked : (clauses : List (List Lit)) (old new : Index) → new.half ≡ old.half → new.lists.items ≡ old.lists.items → length new.marks ≡ old.half + old.half → IsIndexed clauses old → IsIndexed clauses new
-remarked clauses old new half lists marks h = record {
-  sized = record {
-    some = subst (λ n. 0 < n) (sym half) h.sized.some;
-    small = subst (λ n. n + n < 18446744073709551616) (sym half) h.sized.small;
-    lists = ap length lists ∙ (h.sized.lists ∙ sym (ap (λ n. n + n) half));
-    marks = marks ∙ sym (ap (λ n. n + n) half);
-  };
-  each = λ n d at.
-      subst (λ m. IsListed m new.lists.items n d) (sym half)
-      (subst (λ (ls : List (List Entry)). IsListed old.half ls n d) (sym lists) (h.each n d at));
-}
-
 pub slot-within : (half : ℕ) (l : Lit) → 0 < half → slot half l < half + half
 slot-within half l some = go l.positive
   where

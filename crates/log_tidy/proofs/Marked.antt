@@ -1,5 +1,5 @@
 -- Which steps are marked, from the last one down.
-use Rattle.log_tidy.proofs.Common.{ℕ, ◌≡◌, ◌<◌, ◌+◌, ◌-◌, ◌++◌, ◌⊎◌, inl, inr, Bool, true, false, List, [], ◌∷◌, Some, length, get_or, slice_get, arith, sym, ap, subst, refl, ◌∙◌, slice_set, replicate, cases_eq, cases_lt, get_or-replicate, get_or-set_other, get_or-set_same, get_or_past, length-replicate, length-set, slice_get_within, Step, Has, AreMarked, IsBelow, IsMarked, IsMarking}
+use Rattle.log_tidy.proofs.Common.{ℕ, ◌≡◌, ◌<◌, ◌+◌, ◌-◌, ◌++◌, ◌⊎◌, inl, inr, Bool, true, false, List, [], ◌∷◌, Some, length, get_or, slice_get, arith, sym, ap, subst, ◌∙◌, replicate, cases_eq, cases_lt, get_or-replicate, get_or_past, length-replicate, slice_get_within, Step, Has, AreMarked, IsBelow, IsMarked, IsMarking}
 
 pub has-last : (xs : List ℕ) (x y : ℕ) → Has (xs ++ x ∷ []) y → Has xs y ⊎ Has (x ∷ []) y
 has-last [] x y h = inr h
@@ -15,14 +15,6 @@ has-left (z ∷ zs) x y h = elim h [ inl e ↦ inl e | inr g ↦ inr (has-left z
 pub has-right : (xs : List ℕ) (x y : ℕ) → Has (x ∷ []) y → Has (xs ++ x ∷ []) y
 has-right [] x y h = h
 has-right (z ∷ zs) x y h = inr (has-right zs x y h)
-
-pub marking-none : (count : ℕ) (used : List Bool) → IsMarking count [] used used
-marking-none count used = record {
-  long = refl;
-  kept = λ k h. h;
-  own = λ k lt h. absurd h;
-  only = λ k h. inl h;
-}
 
 -- the marks of one more number of the chain
 pub marking-more : (count : ℕ) (chain : List ℕ) (number : ℕ) (old between new : List Bool) → IsMarking count chain old between → IsMarking count (number ∷ []) between new
@@ -45,22 +37,6 @@ clear n k e = elim (cases_lt k n) [
   | inl less ↦ (let z : true ≡ false = sym e ∙ get_or-replicate n k false false less in let w : ⊥ = cc in w)
   | inr more ↦ (let z : true ≡ false = sym e ∙ get_or_past (replicate n false) k false (omega (arith, more, length-replicate n false)) in let w : ⊥ = cc in w)
 ]
-
--- at first only the last step is marked
-pub marks-start : (count : ℕ) (log : List Step) (used : List Bool) → 0 < length log → used ≡ slice_set (replicate (length log) false) (length log - 1) true
-    → AreMarked count log (length log) used
-marks-start count log used some is =
-    let n = length log in
-    let long : length used ≡ n = ap length is ∙ (length-set (replicate n false) (n - 1) true ∙ length-replicate n false) in
-    record {
-      long = long;
-      last = ap (λ (us : List Bool). get_or us (n - 1) false) is ∙ get_or-set_same (replicate n false) (n - 1) true false (omega (arith, some, length-replicate n false));
-      closed = λ i k s le marked at has. absurd (omega (arith, le, slice_get_within log i s at));
-      needed = λ k h. elim (cases_eq k (n - 1)) [
-        | inl e ↦ inl (omega (arith, e, some))
-        | inr ne ↦ absurd (clear n k (sym (get_or-set_other (replicate n false) (n - 1) k true false ne) ∙ (ap (λ (us : List Bool). get_or us k false) (sym is) ∙ h)))
-      ];
-    }
 
 -- a step that isn't marked needs none
 pub marks-skip : (count : ℕ) (log : List Step) (start : ℕ) (used : List Bool) → get_or used start false ≡ false → AreMarked count log (start + 1) used → AreMarked count log start used

@@ -207,10 +207,6 @@ picked_bytes-more old a new c xs ys i x y picked more b hc hxs hys alike lt ix i
           ∙ sym (rw (map-take (byte_at r old) xs i x lt ix, map-take (byte_at r old) ys i y lt_y iy) refl)))));
     }
 
-pub picked_bytes-whole : (old new : List Term) (c : TermId) (xs ys : List SymByte) (picked : List SymByte) → length ys ≡ length xs → PickedBytes old new c xs ys (length xs) picked
-    → (r : Reading) → places_at r new picked ≡ cond (bit_at r.v old c) (places_at r old xs) (places_at r old ys)
-picked_bytes-whole old new c xs ys picked alike so r = so.stands r ∙ rw (take_all (length xs) xs (omega arith), take_all (length xs) ys (omega (arith, alike))) refl
-
 abbrev block_from : BlockName → (size align : ℕ) → List Byte → MemoryBlock
 block_from name size align places = record { name = name; size = size; align = align; places = places }
 

@@ -11,9 +11,6 @@ use Rattle.mem_terms.proofs.Later.{bit-later, term-later, within-later}
 
 -- ---- numbers of another width
 
-low_whole : (x n : ℕ) → x / 2 ^ 0 % 2 ^ n ≡ x % 2 ^ n
-low_whole x n = let e : x / 2 ^ 0 ≡ x = omega arith in ap (λ k. k % 2 ^ n) e
-
 pow-le : (m n : ℕ) → m ≤ n → 2 ^ m ≤ 2 ^ n
 pow-le m n h = pow_mono {i = m} {j = n} h
 
@@ -22,9 +19,6 @@ small_mod x m lt = mod-eq_of_lt lt
 
 pub below-wider : (x m n : ℕ) → x < 2 ^ m → m ≤ n → x < 2 ^ n
 below-wider x m n lt le = let wide = pow-le m n le in omega (arith, lt, wide)
-
-pub makes-cut : (old new : List Term) (a id : TermId) (n : ℕ) → Makes new id n (λ v. term_at v old a / 2 ^ 0 % 2 ^ n) → Makes new id n (λ v. term_at v old a % 2 ^ n)
-makes-cut old new a id n m = record { within = m.within; wide = m.wide; says = λ v. m.says v ∙ low_whole (term_at v old a) n }
 
 pub makes-widened : (old new : List Term) (a id : TermId) (n : ℕ) → AreInRange old → a.index < length old → width_of (tree_in old a) ≤ n → Makes new id n (λ v. term_at v old a) → Makes new id n (λ v. term_at v old a % 2 ^ n)
 makes-widened old new a id n range within le m = record {

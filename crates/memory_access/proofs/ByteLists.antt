@@ -1,5 +1,5 @@
 -- The bytes of values, and walks over bytes.
-use Rattle.memory_access.proofs.Common.{◌≡◌, ℕ, zero, suc, ◌+◌, ◌*◌, ◌/◌, ◌%◌, ◌^◌, ◌<◌, ◌≤◌, nat_eq, ◌&&◌, List, [], ◌∷◌, ◌++◌, length, get_or, take, drop, replicate, Some, None, refl, sym, ap, ◌∙◌, arith, slice_get, at_drop_more, at_drop_all, shr-shr, set, paste, pow-suc, pow-le-pow_right, mul-le-mul_right, Ptr, Byte, Num, Part, Poison, number_bytes, parts_from, number_of_bytes, are_parts, is_part_of}
+use Rattle.memory_access.proofs.Common.{◌≡◌, ℕ, zero, suc, ◌+◌, ◌*◌, ◌/◌, ◌%◌, ◌^◌, ◌<◌, ◌≤◌, ◌&&◌, List, [], ◌∷◌, ◌++◌, length, get_or, take, drop, replicate, Some, None, refl, sym, ap, ◌∙◌, arith, slice_get, at_drop_more, shr-shr, set, paste, pow-suc, pow-le-pow_right, mul-le-mul_right, Ptr, Byte, Num, Part, Poison, number_bytes, parts_from, number_of_bytes}
 use Rattle.std.proofs.lemmas.List.Edits.{paste_more, paste_all}
 use Rattle.std.proofs.lemmas.Option.{slice_get_within, get_or_from_slice_get}
 
@@ -28,21 +28,7 @@ replicate-get zero x k within = absurd (omega arith)
 replicate-get (suc n) x zero within = refl
 replicate-get (suc n) x (suc k) within = replicate-get n x k (omega arith)
 
--- ---- a walk over parts
-
-pub are_parts-more : (p : Ptr) (bytes : List Byte) (i : ℕ) (d : Byte) → i < length bytes → are_parts p i (drop i bytes) ≡ (is_part_of p i (get_or bytes i d) && are_parts p (i + 1) (drop (i + 1) bytes))
-unfolding are_parts
-are_parts-more p bytes i d within = at_drop_more (are_parts p i) bytes i d within
-
-pub are_parts-end : (p : Ptr) (bytes : List Byte) (i : ℕ) → length bytes ≤ i → are_parts p i (drop i bytes) ≡ nat_eq i 8
-unfolding are_parts
-are_parts-end p bytes i past = at_drop_all (are_parts p i) bytes i past
-
 -- ---- a walk over the bytes of a number, from the last one on
-
-pub number_of-end : (bytes : List Byte) (i : ℕ) → length bytes ≤ i → number_of_bytes (drop i bytes) ≡ Some 0
-unfolding number_of_bytes
-number_of-end bytes i past = at_drop_all number_of_bytes bytes i past
 
 pub number_of-more : (bytes : List Byte) (i b a : ℕ) → i < length bytes → get_or bytes i (Num 0) ≡ Num b → number_of_bytes (drop (i + 1) bytes) ≡ Some a → number_of_bytes (drop i bytes) ≡ Some (b + 256 * a)
 unfolding number_of_bytes

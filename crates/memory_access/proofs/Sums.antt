@@ -1,23 +1,14 @@
 -- Sums of indices: walks over them, and what wrapping keeps.
-use Rattle.memory_access.proofs.Common.{◌≡◌, ℕ, zero, suc, ◌+◌, ◌-◌, ◌*◌, ◌%◌, ◌^◌, ◌<◌, ◌≤◌, Bool, true, false, ◌||◌, ◌&&◌, List, [], ◌∷◌, length, get_or, drop, ℤ, pos, negsuc, ◌+ℤ◌, ◌≤ℤ◌, neg_ℤ, to_z, of_z, w64, refl, sym, ap, ◌∙◌, arith, rules, int_rem_euclid, w128, list_any, list_all, at_drop_more, at_drop_all, ints, int_rem_euclid_is, to_z_pos, nat_tests, pow_pos, mod_below, mod-add-mod, mod-eq_of_lt, wrapped, Index, scaled, partial_sums, last_sum, is_outside, leaves_block}
-use Rattle.std.proofs.Common.{Fits}
-use lib.Dec.{T}
+use Rattle.memory_access.proofs.Common.{◌≡◌, ℕ, zero, suc, ◌+◌, ◌-◌, ◌*◌, ◌%◌, ◌^◌, ◌<◌, ◌≤◌, Bool, true, false, ◌||◌, ◌&&◌, List, [], ◌∷◌, length, get_or, drop, ℤ, pos, negsuc, ◌+ℤ◌, ◌≤ℤ◌, neg_ℤ, to_z, of_z, refl, sym, ap, ◌∙◌, arith, int_rem_euclid, w128, list_any, list_all, at_drop_more, at_drop_all, ints, int_rem_euclid_is, to_z_pos, nat_tests, pow_pos, mod_below, mod-add-mod, mod-eq_of_lt, wrapped, Index, scaled, partial_sums, last_sum, is_outside, leaves_block}
 use lib.IntN.{nat_abs}
-use lib.Signed.{non_neg}
 
 -- ---- walks
 
 pub any-more : {X : Type 0} (p : X → Bool) (xs : List X) (i : ℕ) (d : X) → i < length xs → list_any p (drop i xs) ≡ (p (get_or xs i d) || list_any p (drop (i + 1) xs))
 any-more p xs i d within = at_drop_more (list_any p) xs i d within
 
-pub any-end : {X : Type 0} (p : X → Bool) (xs : List X) (i : ℕ) → length xs ≤ i → list_any p (drop i xs) ≡ false
-any-end p xs i past = at_drop_all (list_any p) xs i past
-
 pub all-more : {X : Type 0} (p : X → Bool) (xs : List X) (i : ℕ) (d : X) → i < length xs → list_all p (drop i xs) ≡ (p (get_or xs i d) && list_all p (drop (i + 1) xs))
 all-more p xs i d within = at_drop_more (list_all p) xs i d within
-
-pub all-end : {X : Type 0} (p : X → Bool) (xs : List X) (i : ℕ) → length xs ≤ i → list_all p (drop i xs) ≡ true
-all-end p xs i past = at_drop_all (list_all p) xs i past
 
 -- ---- partial sums
 
@@ -134,9 +125,6 @@ last_sum-end n indices k past small = ap (wrapped 64) (at_drop_all (last_sum (po
 
 pub sum-128 : (n : ℕ) (y : ℤ) → n < 2 ^ 64 → neg_ℤ (pos (2 ^ 127 - 2 ^ 63)) ≤ℤ y → y ≤ℤ pos (2 ^ 127 - 2 ^ 64) → to_z w128 (of_z w128 (to_z w128 n +ℤ to_z w128 (of_z w128 y))) ≡ pos n +ℤ y
 sum-128 n y small low high = omega (arith, ints)
-
-pub cast-inside : (size n : ℕ) (z : ℤ) → z ≡ pos n → n ≤ size → size < 2 ^ 64 → T (non_neg z) × Fits w64 (nat_abs z)
-cast-inside size n z is most small = rw is (search rules)
 
 pub cast-offset : (n : ℕ) (z : ℤ) → z ≡ pos n → n < 2 ^ 64 → nat_abs (to_z w128 (of_z w128 z)) ≡ n
 cast-offset n z is small = ap nat_abs (ap (λ y. to_z w128 (of_z w128 y)) is ∙ to_z_pos w128 n (omega (arith, small)))

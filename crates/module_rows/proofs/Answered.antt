@@ -1,14 +1,7 @@
 -- Answers of the judge, and rows of the source, one at a time.
-use Rattle.module_rows.proofs.Common.{◌≡◌, ℕ, zero, suc, ◌+◌, ◌<◌, ◌≤◌, List, [], ◌∷◌, ◌++◌, length, drop, take, get_or, refl, sym, ap, subst, ◌∙◌, Bool, true, false, true≢false, Option, Some, None, Result, Ok, Err, is_some, if◌then◌else◌, append-nil, append_assoc, drop_all, drop_more, Function, Refused, Entry, Bounds, Budget, Verdict, Functions, same_signature, Judged, IsAnswer, AllZip, Finding, Row, function_named, IsJudged, IsCompared, IsFinding, IsRow, AreSourceRows, extra_row, extra_rows, pairs_in, judged_pairs, AreAnswers, verdicts_in, verdicts_of, verdicts_answered, HasNext, IsTaken, IsUnjudged, ShowsVerdict, may_answer}
+use Rattle.module_rows.proofs.Common.{◌≡◌, ℕ, zero, suc, ◌+◌, ◌<◌, ◌≤◌, List, [], ◌∷◌, ◌++◌, length, drop, take, get_or, refl, sym, ap, subst, ◌∙◌, true≢false, Option, Some, None, Result, is_some, if◌then◌else◌, append-nil, append_assoc, drop_all, drop_more, Function, Refused, Entry, Bounds, Budget, Verdict, Functions, Judged, IsAnswer, AllZip, Row, function_named, IsRow, AreSourceRows, extra_row, extra_rows, pairs_in, judged_pairs, AreAnswers, verdicts_in, verdicts_of, verdicts_answered, HasNext, IsTaken, may_answer}
 use Rattle.std.proofs.lemmas.Grind.{flat_map-append}
 use Rattle.verdicts.specs.declared.verdict.Verdict.TheVariants as verdict
-
-cons≢nil : {x : Functions} {xs : List Functions} → x ∷ xs ≡ [] → ⊥
-cons≢nil e = true≢false (ap has_some e)
-  where
-    has_some : List Functions → Bool
-    has_some [] = false
-    has_some (x ∷ xs) = true
 
 -- ---- answers
 
@@ -37,46 +30,6 @@ zipped_answers bounds budget [] [] each = tt
 zipped_answers bounds budget [] (x ∷ xs) each = absurd each
 zipped_answers bounds budget (p ∷ ps) [] each = absurd each
 zipped_answers bounds budget (p ∷ ps) (x ∷ xs) each = (each.0, zipped_answers bounds budget ps xs each.1)
-
--- ---- findings of verdicts
-
-pub shows_judged : (may : Functions → Verdict → Type 0) (pair : Functions) (bounds : Bounds) (v : Verdict) (found : Finding) → ShowsVerdict pair bounds v found → may pair v → IsJudged may bounds pair found
-shows_judged may pair bounds verdict.Correct found e t = rw e t
-shows_judged may pair bounds (verdict.Incorrect p) found h t = rw h.1 (t, h.2)
-shows_judged may pair bounds (verdict.Unknown c) found e t = rw e t
-
-pub shows_one : (pair : Functions) (bounds : Bounds) (v : Verdict) (found : Finding) → ShowsVerdict pair bounds v found → verdicts_in found ≡ v ∷ []
-shows_one pair bounds verdict.Correct found e = rw e refl
-shows_one pair bounds (verdict.Incorrect p) found h = rw h.1 refl
-shows_one pair bounds (verdict.Unknown c) found e = rw e refl
-
--- ---- findings of other functions
-
-pub unjudged_finding : (may : Functions → Verdict → Type 0) (bounds : Bounds) (source : Result Function Refused) (target : Option (Result Function Refused)) (found : Finding)
-    → pairs_in source target ≡ [] → IsUnjudged source target found → IsFinding may bounds source target found
-unjudged_finding may bounds source None found none is = is
-unjudged_finding may bounds (Err refused) (Some target) found none is = is
-unjudged_finding may bounds (Ok f) (Some (Err refused)) found none is = is
-unjudged_finding may bounds (Ok f) (Some (Ok g)) found none is = go (same_signature f g) none
-  where
-    go : (same : Bool) → (let ps : List Functions = if same then record { source = f; target = g } ∷ [] else [] in ps) ≡ [] → IsCompared may bounds (record { source = f; target = g }) same found
-    go true e = absurd (cons≢nil e)
-    go false e = is
-
-pub unjudged_verdicts : (source : Result Function Refused) (target : Option (Result Function Refused)) (found : Finding) → IsUnjudged source target found → verdicts_in found ≡ []
-unjudged_verdicts source None found is = ap verdicts_in is
-unjudged_verdicts (Err refused) (Some target) found is = ap verdicts_in is
-unjudged_verdicts (Ok f) (Some (Err refused)) found is = ap verdicts_in is
-unjudged_verdicts (Ok f) (Some (Ok g)) found is = ap verdicts_in is
-
--- and of a pair that is judged
-pub judged_finding : (may : Functions → Verdict → Type 0) (bounds : Bounds) (source : Result Function Refused) (target : Option (Result Function Refused)) (pair : Functions) (found : Finding)
-    → pairs_in source target ≡ pair ∷ [] → source ≡ Ok pair.source → target ≡ Some (Ok pair.target) → IsJudged may bounds pair found → IsFinding may bounds source target found
-judged_finding may bounds source target pair found one s t is = rw (s, t) (go (same_signature pair.source pair.target) (subst (λ o. pairs_in (Ok pair.source) o ≡ pair ∷ []) t (subst (λ r. pairs_in r target ≡ pair ∷ []) s one)))
-  where
-    go : (same : Bool) → (let ps : List Functions = if same then pair ∷ [] else [] in ps) ≡ pair ∷ [] → IsCompared may bounds pair same found
-    go true e = is
-    go false e = absurd (cons≢nil (sym e))
 
 -- ---- the rows of the first functions of the source
 

@@ -17,5 +17,5 @@ pub use Rattle.report.specs.declared.row.Finding.{Finding}
 pub use Rattle.report.specs.declared.row.Row.{Row}
 pub use Rattle.verdicts.specs.Pair.{Functions, same_signature}
 pub use Rattle.verdicts.specs.declared.verdict.Verdict.{Verdict}
-pub use Rattle.module_rows.specs.Judging.{pairs_in, judged_pairs, AreAnswers, verdicts_in, verdicts_of, verdicts_answered, HasNext, IsTaken, IsUnjudged, ShowsVerdict, may_answer, ReportsNext, ReportOwnAnswers}
+pub use Rattle.module_rows.specs.Judging.{pairs_in, judged_pairs, AreAnswers, verdicts_in, verdicts_of, verdicts_answered, HasNext, IsTaken, may_answer, ReportsNext, ReportOwnAnswers}
 pub use Rattle.module_rows.specs.Searching.{function_found, entry_names}

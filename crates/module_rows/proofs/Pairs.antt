@@ -1,11 +1,6 @@
 -- The pairs that are judged: the judge takes each of them, and there are no more of them than functions.
-use Rattle.module_rows.proofs.Common.{◌≡◌, ℕ, suc, ◌+◌, ◌-◌, ◌*◌, ◌^◌, ◌<◌, ◌≤◌, arith, refl, List, [], ◌∷◌, ◌++◌, length, length-append, Option, Some, None, Result, Ok, Err, Bool, true, false, true≢false, sym, ap, is_some, if◌then◌else◌, AllByRecursion, Name, Function, Refused, Entry, same_name, IsJudgeable, IsJudgeableEntry, Functions, same_signature, CanBeJudged, function_named, pairs_in, judged_pairs}
+use Rattle.module_rows.proofs.Common.{◌≡◌, ℕ, ◌+◌, ◌-◌, ◌*◌, ◌^◌, ◌<◌, ◌≤◌, arith, refl, List, [], ◌∷◌, ◌++◌, length, length-append, Option, Some, None, Result, Ok, Err, Bool, true, false, true≢false, sym, ap, is_some, if◌then◌else◌, AllByRecursion, Name, Function, Refused, Entry, same_name, IsJudgeable, IsJudgeableEntry, Functions, same_signature, CanBeJudged, function_named, pairs_in, judged_pairs}
 use Rattle.std.proofs.Math.Nat.{mul-le-mul_left}
-use Rattle.ir_tree.specs.declared.module.Module.{Module}
-use Rattle.ir_lexer.specs.Lexeme.{Lexeme}
-use Rattle.ir_items.specs.declared.item.Define.{Define}
-use Rattle.ir_items.specs.Items.{IsCut, nothing, other, define}
-use Rattle.ir_reader.specs.Module.{IsModule, AreEntries}
 
 -- ---- the judge takes them
 
@@ -84,25 +79,6 @@ few_pairs targets (s ∷ ss) =
     omega (arith, length-append (pairs_in s.function (function_named targets s.name)) (judged_pairs targets ss))
 
 -- ---- a module has at most 4,096 functions
-
-few_defines : (tokens : List Lexeme) (end : ℕ) (defines : List Define) → IsCut tokens end defines → length defines ≤ 4096
-few_defines tokens end defines nothing = omega arith
-few_defines tokens end defines (other cut is) = few_defines tokens _ _ cut
-few_defines tokens end defines (define {first = first} {name = name} {defines = before} cut is named new few) =
-    let last : Define = record { name = name; first = first; last = end - 1 } in
-    omega (arith, length-append before (last ∷ []))
-
-entries_as_defines : (tokens : List Lexeme) (defines : List Define) (m : List Entry) → AreEntries tokens defines m → length m ≡ length defines
-entries_as_defines tokens [] [] are = refl
-entries_as_defines tokens [] (e ∷ es) are = absurd are
-entries_as_defines tokens (d ∷ ds) [] are = absurd are
-entries_as_defines tokens (d ∷ ds) (e ∷ es) are = ap suc (entries_as_defines tokens ds es are.1)
-
-pub few_functions : (text : List ℕ) (m : Module) → IsModule text m → length m.entries ≤ 4096
-few_functions text m is =
-    let few = few_defines is.tokens (length is.tokens) is.defines is.cut in
-    let same = entries_as_defines is.tokens is.defines m.entries is.entries in
-    omega arith
 
 -- the driver's numbers fit where those of all functions do
 pub pairs_fit : (targets sources : List Entry) (workers : ℕ) → workers * (length sources + 1) < 2 ^ 64 → workers * (length (judged_pairs targets sources) + 1) < 2 ^ 64

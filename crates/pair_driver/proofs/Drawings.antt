@@ -1,9 +1,8 @@
 -- A worker that draws: what it has at each turn, and at its end.
-use Rattle.std.proofs.Common.{◌≡◌, ℕ, zero, suc, ◌+◌, ◌-◌, ◌*◌, ◌<◌, ◌≤◌, List, [], ◌∷◌, ◌++◌, length, get_or, Bool, true, false, cond, refl, sym, ap, ◌∙◌, subst, arith, nat_lt, length-append, add-mul}
+use Rattle.std.proofs.Common.{◌≡◌, ℕ, zero, suc, ◌+◌, ◌-◌, ◌*◌, ◌<◌, ◌≤◌, List, [], ◌∷◌, ◌++◌, length, true, false, cond, refl, sym, ap, ◌∙◌, subst, arith, nat_lt, length-append, add-mul}
 use Rattle.std.specs.Prelude.{map, filter, All, Any}
 use Rattle.std.proofs.lemmas.List.{map-append, append-nil, length-map}
 use Rattle.std.proofs.lemmas.List.Elements.{filter-append, All-append, All-nil}
-use Rattle.std.proofs.lemmas.Grind.{common_steps}
 use Rattle.claim_board.specs.declared.board.Hand.{Hand}
 use Rattle.claim_board.specs.Board.{hand}
 use Rattle.pair_driver.specs.declared.judged.Judged.{Judged}
@@ -19,11 +18,6 @@ pub record IsDrawing (allows : ℕ → Judged → Type 0) (n : ℕ) (v : Hand) (
 All-one : {X : Type 0} (P : X → Type 0) (x : X) → P x → All P (x ∷ [])
 All-one P x p zero d h = p
 All-one P x p (suc k) d h = absurd (omega arith)
-
-All-front : {X : Type 0} (P : X → Type 0) (xs ys : List X) → All P (xs ++ ys) → All P xs
-All-front P [] ys a k d h = absurd (omega arith)
-All-front P (x ∷ xs) ys a zero d h = a 0 d (omega arith)
-All-front P (x ∷ xs) ys a (suc k) d h = All-front P xs ys (λ j e l. a (suc j) e (omega arith)) k d (omega arith)
 
 All-last : {X : Type 0} (P : X → Type 0) (xs : List X) (x : X) → All P (xs ++ x ∷ []) → P x
 All-last P [] x a = a 0 x (omega arith)

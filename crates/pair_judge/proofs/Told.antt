@@ -1,5 +1,5 @@
 -- What an answer says.
-use Rattle.std.proofs.Common.{◌≡◌, refl, inl, inr, Option, Some, None}
+use Rattle.std.proofs.Common.{◌≡◌, refl, inl, inr, Option}
 use Rattle.verdicts.specs.declared.verdict.Verdict.{Verdict}
 use Rattle.verdicts.specs.declared.verdict.Verdict.TheVariants.{Correct, Incorrect, Unknown}
 use Rattle.verdicts.specs.declared.verdict.Cause.TheVariants.{Weight, Rounds, Conflicts}

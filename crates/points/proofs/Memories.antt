@@ -169,14 +169,6 @@ sizes_row layout (suc n) [] sizes long small = absurd (omega (arith, long))
 sizes_row layout zero [] (size ∷ sizes) long small = absurd small
 sizes_row layout (suc n) (k ∷ ks) [] long small = absurd small
 
-sizes_of_row : (layout : Layout) (n : ℕ) (ks sizes : List ℕ) → length ks ≡ n → RowFits (IsSize layout) ks sizes → AreSizes layout n sizes
-sizes_of_row layout zero [] [] long row = tt
-sizes_of_row layout (suc n) (k ∷ ks) (size ∷ sizes) long row = (row.0, sizes_of_row layout n ks sizes (omega (arith, long)) row.1)
-sizes_of_row layout zero (k ∷ ks) sizes long row = absurd (omega (arith, long))
-sizes_of_row layout (suc n) [] sizes long row = absurd (omega (arith, long))
-sizes_of_row layout zero [] (size ∷ sizes) long row = absurd row
-sizes_of_row layout (suc n) (k ∷ ks) [] long row = absurd row
-
 own_sizes : (layout : Layout) (number : ℕ) (bs : List MemoryBlock) → BlocksFit layout number bs → RowFits (IsSize layout) (sizes_in bs) (sizes_in bs)
 own_sizes layout number [] fits = tt
 own_sizes layout number (b ∷ bs) fits = (fits.0.small, own_sizes layout (number + 1) bs fits.1)

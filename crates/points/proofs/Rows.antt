@@ -15,11 +15,6 @@ from_place-past f [] i past = refl
 from_place-past f (x ∷ xs) zero past = absurd (omega (arith, past))
 from_place-past f (x ∷ xs) (suc i) past = ap (λ zs. x ∷ zs) (from_place-past f xs i (omega (arith, past)))
 
-pub length-from_place : {A : Type 0} (f : A → A) (i : ℕ) (xs : List A) → length (from_place f i xs) ≡ length xs
-length-from_place f i [] = refl
-length-from_place f zero (x ∷ xs) = ap suc (length-from_place f zero xs)
-length-from_place f (suc i) (x ∷ xs) = ap suc (length-from_place f i xs)
-
 -- ---- rows
 
 -- one thing for each key

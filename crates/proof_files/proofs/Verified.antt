@@ -1,5 +1,5 @@
 -- A log that refutes has no first bad step, so parts that refute are verified, and so is what is read of their text.
-use Rattle.std.proofs.Common.{ℕ, ◌≡◌, ◌+◌, ◌++◌, All, List, [], ◌∷◌, Option, Some, None, length, refl, ap, ap₂, subst, sym, ◌∙◌, ⊎_elim, is_none, nat_eq, cond, arith}
+use Rattle.std.proofs.Common.{ℕ, ◌≡◌, ◌+◌, ◌++◌, List, [], ◌∷◌, Option, Some, None, length, refl, ap, ap₂, subst, sym, ◌∙◌, ⊎_elim, is_none, nat_eq, cond, arith}
 use Rattle.std.specs.List.{AllZip, flat_map}
 use Rattle.std.proofs.lemmas.List.Elements.{All-cons, All-head, All-nil, All-tail, length_all_zip}
 use Rattle.std.proofs.lemmas.List.Sums.{sum_by-cons}

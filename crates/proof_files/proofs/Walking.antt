@@ -1,8 +1,8 @@
 -- The parts of rows, one row after another, and what a check finds of parts, one part after another.
-use Rattle.std.proofs.Common.{ℕ, zero, suc, ◌≡◌, ◌<◌, ◌≤◌, ◌+◌, All, Bool, List, [], ◌∷◌, ◌++◌, length, take, drop, get_or, append_assoc, append-nil, refl, sym, ap, ap₂, subst, ◌∙◌, Option, Some, None, is_none, is_some, count_by, arith}
+use Rattle.std.proofs.Common.{ℕ, ◌≡◌, ◌<◌, ◌≤◌, ◌+◌, All, Bool, List, [], ◌∷◌, ◌++◌, length, take, drop, get_or, append_assoc, append-nil, refl, sym, ap, ap₂, subst, ◌∙◌, Option, Some, is_none, is_some, count_by, arith}
 use Rattle.std.specs.List.{AllZip}
-use Rattle.std.proofs.lemmas.List.{drop_all, drop_more, take_all}
-use Rattle.std.proofs.lemmas.List.Elements.{All-append, All-head, All-tail}
+use Rattle.std.proofs.lemmas.List.{drop_more, take_all}
+use Rattle.std.proofs.lemmas.List.Elements.{All-head, All-tail}
 use Rattle.std.proofs.lemmas.List.Sums.{count_by-le-length, sum_by-append}
 use Rattle.pair_driver.specs.declared.judged.Judged.{Judged}
 use Rattle.report.specs.declared.row.Row.{Row}
@@ -20,9 +20,6 @@ pub record IsWalked (rows : List Row) (answers : List Judged) (i : ℕ) (left : 
   pub done : List Part
   pub written : IsProof text done
   pub all : parts_of rows answers ≡ done ++ parts_of (drop i rows) left
-
-pub none_walked : (rows : List Row) (answers : List Judged) (text : List ℕ) → IsProof text [] → IsWalked rows answers 0 answers text
-none_walked rows answers text proof = record { done = []; written = proof; all = refl }
 
 next_row : (rows : List Row) (i : ℕ) (row : Row) → i < length rows → row ≡ get_or rows i row → drop i rows ≡ row ∷ drop (i + 1) rows
 next_row rows i row below is = drop_more rows i row below ∙ ap (λ (r : Row). r ∷ drop (i + 1) rows) (sym is)
@@ -43,22 +40,6 @@ next_certified rows answers i row left text below is walked all =
     rest : (xs ys : List Part) → All IsCertified (xs ++ ys) → All IsCertified ys
     rest [] ys h = h
     rest (x ∷ xs) ys h = rest xs ys (All-tail IsCertified x (xs ++ ys) h)
-
-pub one_walked : (rows : List Row) (answers : List Judged) (i : ℕ) (row : Row) (left next : List Judged) (text text' : List ℕ) → i < length rows → row ≡ get_or rows i row → IsWalked rows answers i left text
-    → ((parts : List Part) → IsProof text parts → IsProof text' (parts ++ row_parts row left)) → next ≡ left_after row.finding left → IsWalked rows answers (i + 1) next text'
-one_walked rows answers i row left next text text' below is walked more after = rw after (record {
-  done = walked.done ++ row_parts row left;
-  written = more walked.done walked.written;
-  all =
-      walked.all
-      ∙ ap (λ (ps : List Part). walked.done ++ ps) (next_parts rows i row left below is)
-      ∙ sym (append_assoc walked.done (row_parts row left) (parts_of (drop (i + 1) rows) (left_after row.finding left)));
-})
-
-pub all_walked : (rows : List Row) (answers : List Judged) (i : ℕ) (left : List Judged) (text : List ℕ) → length rows ≤ i → IsWalked rows answers i left text → IsProof text (parts_of rows answers)
-all_walked rows answers i left text past walked =
-    let end : drop i rows ≡ [] = drop_all i rows past in
-    subst (λ (ps : List Part). IsProof text ps) (sym (walked.all ∙ ap (λ (rs : List Row). walked.done ++ parts_of rs left) end ∙ append-nil walked.done)) walked.written
 
 -- ---- parts
 

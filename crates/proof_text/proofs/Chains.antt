@@ -40,9 +40,6 @@ next_number line read rest word after chain later r p f e =
 reshaped : (read : List ℕ) (n : ℕ) (after : List ℕ) → numbers_text read ++ (decimal n ++ 32 ∷ after) ≡ numbers_text (read ++ n ∷ []) ++ after
 reshaped read n after = simp (flat_map-append, append_assoc, append-nil)
 
-pub chain_start : (line : List ℕ) → ChainRead line [] line
-chain_start line = record { is = refl; fit = λ k d l. absurd (omega arith); goes_on = λ chain later f e. (chain, refl, e) }
-
 pub chain_step : (line read rest word after : List ℕ) (n : ℕ) → ChainRead line read rest → Parts 32 rest word after → 0 < n → IsSmall n → word ≡ decimal n → ChainRead line (read ++ n ∷ []) after
 chain_step line read rest word after n r p positive small w = record {
   is = r.is ∙ ap (λ t. numbers_text read ++ t) (p.is ∙ ap (λ t. t ++ 32 ∷ after) w) ∙ reshaped read n after;

@@ -39,9 +39,6 @@ pub record ClauseRead (variables : ℕ) (line : List ℕ) (read : List Lit) (res
   pub is : line ≡ literals_text read ++ rest
   pub goes_on : (c : List Lit) → IsClauseOver variables c → line ≡ clause_line c → (more : List Lit) × (c ≡ read ++ more) × (rest ≡ clause_line more)
 
-pub clause_start : (v : ℕ) (line : List ℕ) → ClauseRead v line [] line
-clause_start v line = record { is = refl; goes_on = λ c f e. (c, refl, e) }
-
 line_cons : (l : Lit) (c : List Lit) → clause_line (l ∷ c) ≡ literal_text l ++ 32 ∷ clause_line c
 line_cons l c = simp append_assoc
 

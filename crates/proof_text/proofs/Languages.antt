@@ -228,9 +228,6 @@ many_done Fits text After n z more = (λ m. done_to text After n more m.0 m.1 z 
 
 -- ---- the file
 
-pub file_leads : Leads File (codes "tvproof 1" ∷ []) Rows
-file_leads more = (λ f. let whole = f.2 in let tails : more ≡ flat_map part_lines f.0 = cc in (f.0, f.1, tails), λ r. (r.0, r.1, ap (λ (t : Lines). codes "tvproof 1" ∷ t) r.2))
-
 pub file_missing : (line : List ℕ) → (line ≡ codes "tvproof 1" → ⊥) → (more : Lines) → File (line ∷ more) → ⊥
 file_missing line none more f = let whole = f.2 in let is : line ≡ codes "tvproof 1" = cc in none is
 

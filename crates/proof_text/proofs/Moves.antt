@@ -19,13 +19,6 @@ moves_then A B C old mid new s t m n = record {
   leads = leads_then A B C s t m.leads n.leads;
 }
 
--- nothing is read where one position is another
-pub moves_none : (A B : Lines → Type 0) (old : List ℕ) → Leads A [] B → Moves A old [] B old
-moves_none A B old l = record { is = refl; leads = l }
-
-pub moves_still : (A : Lines → Type 0) (old : List ℕ) → Moves A old [] A old
-moves_still A old = record { is = refl; leads = λ more. (λ a. a, λ a. a) }
-
 pub moves_line : (A B : Lines → Type 0) (old line new : List ℕ) → Parts 10 old line new → Leads A (line ∷ []) B → Moves A old (line ∷ []) B new
 moves_line A B old line new p l = record { is = p.is ∙ simp (append_assoc, append-nil); leads = l }
 

@@ -1,5 +1,5 @@
 -- Reading a part, and the parts one after another.
-use Rattle.proof_text.proofs.Common.{ℕ, ◌≡◌, ◌<◌, List, [], ◌∷◌, ◌++◌, length, map, codes, All, append-nil, length-append, subst, sym, ap, ◌∙◌, arith, flat_map, flat_map-append, Lit, Part, IsClauseOver, IsPart, IsPrintedName, IsSmall, IsStepOver, clause_line, counts_line, ended, log_line, part_lines, proof_lines, row_line, step_line, Clauses, Counts, File, Lines, Log, Moves, Rows, Steps}
+use Rattle.proof_text.proofs.Common.{ℕ, ◌≡◌, ◌<◌, List, [], ◌∷◌, ◌++◌, length, map, codes, All, append-nil, subst, sym, ap, ◌∙◌, flat_map, flat_map-append, Lit, Part, IsClauseOver, IsPart, IsPrintedName, IsSmall, IsStepOver, clause_line, counts_line, log_line, part_lines, proof_lines, row_line, step_line, Clauses, Counts, File, Lines, Log, Moves, Rows, Steps}
 use Rattle.proof_text.proofs.Moves.{moves_then}
 
 pub part_fits : (p : Part) (v n k : ℕ) (cs : List (List Lit)) → p.cert.cnf.variables ≡ v → p.cert.cnf.clauses ≡ cs → IsPrintedName p.name → IsSmall v → IsSmall n → IsSmall k → length cs ≡ n → length p.cert.log ≡ k → All (IsClauseOver v) cs → All (IsStepOver v) p.cert.log → IsPart p
@@ -36,11 +36,3 @@ pub parts_push : (text mid new : List ℕ) (ps : List Part) (p : Part) → Moves
 parts_push text mid new ps p m n =
     let more : flat_map part_lines ps ++ part_lines p ≡ flat_map part_lines (ps ++ p ∷ []) = ap (λ (t : Lines). flat_map part_lines ps ++ t) (sym (append-nil (part_lines p))) ∙ sym (flat_map-append part_lines ps (p ∷ [])) in
     subst (λ (t : Lines). Moves File text (codes "tvproof 1" ∷ t) Rows new) more (moves_then File Rows Rows text mid new (proof_lines ps) (part_lines p) m n)
-
-pub line_shorter : (A B : Lines → Type 0) (old new line : List ℕ) (more : Lines) → Moves A old (line ∷ more) B new → length new < length old
-line_shorter A B old new line more m =
-    let e = ap length m.is in
-    let a = length-append (ended (line ∷ more)) new in
-    let b = length-append (line ++ 10 ∷ []) (ended more) in
-    let d = length-append line (10 ∷ []) in
-    omega arith

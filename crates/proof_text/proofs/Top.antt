@@ -251,9 +251,3 @@ first_fault text rest left number l k n =
       begin = begins k.taken k.begin;
       fault = fault_of k.taken rest k.wrong;
     }
-
-pub left_within : (text rest : List ℕ) (left : ℕ) → length rest ≡ left → IsStuck File text rest → left ≤ length text
-left_within text rest left l k =
-    let long = ap length k.is in
-    let parts = length-append (ended k.taken) rest in
-    omega arith

@@ -1,5 +1,5 @@
 -- The tokens of a printed function stay apart.
-use Rattle.read_back.proofs.Common.{◌≡◌, ℕ, ◌+◌, Bool, true, false, List, [], ◌∷◌, ◌++◌, length, Option, Some, None, refl, subst, append-nil, list_all, flat_map, AllByRecursion, is_blank, class_of, one_bit, Name, IrType, Int, WrittenEntry, WrittenPhi, WrittenCase, WrittenReturn, Void, Value, WrittenTerminator, WrittenBody, WrittenBlock, WrittenFunction, NamedParameter, named_behind, entry_name, Piece, text_of, ends_token, AreApart, none, space, line, indented, word, mark, number, comma, local, global, label, width_text, type_text, word_if, return_text}
+use Rattle.read_back.proofs.Common.{◌≡◌, ℕ, ◌+◌, Bool, true, false, List, [], ◌∷◌, ◌++◌, length, Option, Some, None, refl, subst, append-nil, list_all, flat_map, AllByRecursion, is_blank, class_of, one_bit, Name, IrType, Int, WrittenEntry, WrittenPhi, WrittenCase, WrittenReturn, Void, Value, WrittenTerminator, WrittenBody, WrittenBlock, WrittenFunction, NamedParameter, named_behind, entry_name, Piece, AreApart, none, space, line, indented, word, mark, number, comma, local, global, label, width_text, type_text, word_if, return_text}
 use Rattle.std.specs.Prelude.{codes}
 use Rattle.ir_lexer.specs.declared.token.Kind.TheVariants as kind
 use Rattle.ir_grammar.specs.declared.written.WrittenTerminator.TheVariants as end
@@ -155,11 +155,6 @@ written_rest w h = front_links w.returns_no_undef w.returns.of_type w.name.name 
 
 pub written-stands : (gap : List ℕ) (w : WrittenFunction) → list_all is_blank gap ≡ true → IsSpellable w → Stands (written_pieces gap w)
 written-stands gap w blanks h = token-stands (word gap (codes "define")) (behind_define w) (word-token gap (codes "define") blanks refl) (written_rest w h)
-
--- before what begins with a blank, a separator, or nothing
-pub pieces_apart : (gap : List ℕ) (w : WrittenFunction) → list_all is_blank gap ≡ true → IsSpellable w → (more : List Piece) (last : List ℕ) → ends_token (text_of more ++ last) ≡ true → AreApart more last
-    → AreApart (written_pieces gap w ++ more) last
-pieces_apart gap w blanks h = (written-stands gap w blanks h).apart
 
 -- ---- functions with an empty line between two of them
 

@@ -1,5 +1,5 @@
 -- The classes of what is printed of names, numbers and types.
-use Rattle.read_back.proofs.Common.{◌≡◌, ℕ, ◌+◌, ◌<◌, ◌^◌, ◌%◌, ◌/◌, Bool, true, false, eqb, List, [], ◌∷◌, ◌++◌, Some, refl, ap, ◌∙◌, append_assoc, inl, inr, arith, list_all, flat_map, decimal, cases_Bool, and_parts, nat_tests, decimal_by_steps, is_digit, begins_word, is_name_byte, begins_name, is_inside_quotes, is_mark_byte, nothing, byte, behind, many, is_digits, is_number, is_word, is_quoted, is_plain_name, is_name, is_word_or_number, is_label, is_mark, class_of, Name, escaped, hex_digit, is_bare, is_plain, name_text}
+use Rattle.read_back.proofs.Common.{◌≡◌, ℕ, ◌+◌, ◌<◌, ◌^◌, ◌%◌, ◌/◌, Bool, true, false, eqb, List, [], ◌∷◌, ◌++◌, Some, refl, ap, ◌∙◌, append_assoc, inl, inr, arith, list_all, flat_map, decimal, cases_Bool, and_parts, nat_tests, decimal_by_steps, is_digit, begins_word, is_name_byte, begins_name, is_inside_quotes, is_mark_byte, nothing, byte, behind, many, is_digits, is_number, is_word, is_quoted, is_plain_name, is_name, is_mark, class_of, Name, escaped, hex_digit, is_bare, is_plain, name_text}
 use Rattle.std.proofs.Common.{not, ◌||◌}
 use Rattle.ir_lexer.specs.declared.token.Kind.TheVariants as kind
 use Rattle.ir_lexer.specs.Spelling as spelling
@@ -49,10 +49,6 @@ digit_name d h = grind (arith, nat_tests)
 pub digits-names : (ds : List ℕ) → list_all is_digit ds ≡ true → list_all is_name_byte ds ≡ true
 digits-names [] h = refl
 digits-names (d ∷ ds) h = let p = and_parts (is_digit d) (list_all is_digit ds) h in rw (digit_name d p.0) (digits-names ds p.1)
-
-all_many : (p : ℕ → Bool) (k : List ℕ → Bool) (ds rest : List ℕ) → list_all p ds ≡ true → many p k (ds ++ rest) ≡ many p k rest
-all_many p k [] rest h = refl
-all_many p k (d ∷ ds) rest h = let e = and_parts (p d) (list_all p ds) h in rw e.0 (all_many p k ds rest e.1)
 
 all_nothing : (p : ℕ → Bool) (ds : List ℕ) → list_all p ds ≡ true → many p nothing ds ≡ true
 all_nothing p [] h = refl
@@ -132,11 +128,6 @@ name_by x h = rw h refl
 name_by_plain : (x : List ℕ) (first : Bool) → is_plain_name x ≡ true → (first || is_plain_name x || is_quoted x) ≡ true
 name_by_plain x true h = refl
 name_by_plain x false h = rw h refl
-
-name_by_quotes : (first second third : Bool) → third ≡ true → (first || second || third) ≡ true
-name_by_quotes true second third h = refl
-name_by_quotes false true third h = refl
-name_by_quotes false false third h = h
 
 pub name-is : (n : Name) → HasDigits n → is_name (name_text n) ≡ true
 name-is (name.Number ds) h = name_by ds h

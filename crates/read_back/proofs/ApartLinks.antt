@@ -1,5 +1,5 @@
 -- Tokens that stay apart, put together from their parts.
-use Rattle.read_back.proofs.Common.{◌≡◌, ℕ, true, List, [], ◌∷◌, ◌++◌, Some, refl, sym, ap, ◌∙◌, append_assoc, subst, list_all, flat_map, AllByRecursion, or_left, Kind, is_blank, class_of, Piece, piece_text, text_of, is_separator, ends_token, is_separator_alone, is_ended, AreApart}
+use Rattle.read_back.proofs.Common.{◌≡◌, ℕ, true, List, [], ◌∷◌, ◌++◌, Some, refl, sym, ap, ◌∙◌, append_assoc, subst, list_all, or_left, Kind, is_blank, class_of, Piece, piece_text, text_of, is_separator, ends_token, is_separator_alone, is_ended, AreApart}
 use Rattle.ir_lexer.specs.declared.token.Kind.TheVariants as kind
 
 -- a token of its class after blanks, which ends where other tokens end before it
@@ -89,10 +89,6 @@ mark-links p ps alone stands = record {
   };
   begins = begins_free p ps alone.free.alone;
 }
-
-pub all-links : {A : Type 0} (f : A → List Piece) (xs : List A) → AllByRecursion (λ x. Links (f x)) xs → Links (flat_map f xs)
-all-links f [] h = nothing-links
-all-links f (x ∷ xs) h = links-append (f x) (flat_map f xs) h.0 (all-links f xs h.1)
 
 -- ---- one token
 

@@ -14,7 +14,7 @@ pub use Rattle.std.specs.List.{list_all, AllByRecursion, Contains, flat_map, All
 pub use Rattle.std.specs.Prelude.{All, ◌&&◌, ◌==◌, nat_lt, ◌||◌, not, option_map, fold, nat_eq, is_some}
 pub use Rattle.std.specs.Str.{bytes_eq}
 pub use Rattle.ir_grammar.specs.Classes.{any, line_word, operand_class, literal_class, pointer_type, element_type, array_length, alignment, int_type, counted_type, memory_type, bit_type, return_type, predicate_class, terminator_word, passed, flag_fits}
-pub use Rattle.ir_grammar.specs.Grammar.{is_comma, is_local_kind, starts_line, line_begins, line_within, may_have_phi, next_number, started, line_comma, with_comma, returned_by, is_type, case_begins, case_within, terminator_by, follows_parameter, parameter_begins, with_part, commas, with_inst, with_line, is_prefix, follows_header, with_phi, opened, entry_alone, begins_block, block_begins, with_block, body_of, new_parameter}
+pub use Rattle.ir_grammar.specs.Grammar.{is_comma, is_local_kind, starts_line, line_begins, line_within, may_have_phi, next_number, started, line_comma, with_comma, returned_by, is_type, case_begins, case_within, terminator_by, follows_parameter, parameter_begins, with_part, commas, with_inst, with_line, is_prefix, follows_header, with_phi, opened, begins_block, block_begins, with_block, body_of, new_parameter}
 unfoldable pub use Rattle.ir_grammar.specs.Grammar.{whole_line, returned, target, cond_branch, branch_to, branch, with_case, cases, switch, return_of, parameter_parts, first_parameter, parameters, next_line, prefixes, header_parts, define, lines, attachments, block, entry_block, next_block, blocks}
 pub use Rattle.ir_grammar.specs.Instructions.{is_square, array_begins, array_within, no_gep_flags, behind_flags, closers, is_gep_flag, line_by, with_index, inst_by, next_gep_flag, default_align, with_entry, is_wrap}
 unfoldable pub use Rattle.ir_grammar.specs.Instructions.{with_length, arrays, alloca_object, gep_flags, gep_arrays, gep_object, alloca, load, store, gep, line_named, phi, next_entry, entry_or_attachment, attached, aligned, align_or_attachment, next_index, index_or_attachment, typed, pointer, binary, cast_by, wrapping, exact, plain, disjunction, icmp, truncate, zero_extend, sign_extend, select, freeze, entry, comparison, wraps, flagged_type}

@@ -23,9 +23,6 @@ tokens_of ps = map (λ (p : Piece). (p.kind, p.text)) ps
 abbrev pub function_tokens : WrittenFunction → List (Kind × List ℕ)
 function_tokens w = tokens_of (written_pieces none w)
 
-pub tokens-gap : (gap : List ℕ) (w : WrittenFunction) → tokens_of (written_pieces gap w) ≡ function_tokens w
-tokens-gap gap w = refl
-
 -- of functions with blanks between them
 pub tokens-all : (gap : List ℕ) (w : WrittenFunction) (ws : List WrittenFunction) → tokens_of (written_pieces none w ++ flat_map (written_pieces gap) ws) ≡ flat_map function_tokens (w ∷ ws)
 tokens-all gap w ws = map-append token_of (written_pieces none w) (flat_map (written_pieces gap) ws) ∙ ap (λ (l : List (Kind × List ℕ)). function_tokens w ++ l) (others ws)

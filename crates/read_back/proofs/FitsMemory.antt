@@ -123,9 +123,6 @@ flags-fit (suc n) s x (a, next, T, same, more) A =
 
 -- ---- objects after flags
 
-abbrev GepFits : GepFlags → WrittenObject → Type 0
-GepFits flags x = AreFlags flags × IsObject false x.of_type
-
 record GepArraysFit (s : WrittenArrays) : Type 0 where
   flags : AreFlags s.flags
   arrays : ArraysFit s

@@ -1,5 +1,5 @@
 -- A made function has no undef, so no name of it carries any.
-use Rattle.read_back.proofs.Common.{◌≡◌, ◌+◌, ◌≤◌, ℕ, zero, min, List, [], ◌∷◌, sum_by, Option, Some, None, refl, sym, ap, append-nil, subst, arith, AllByRecursion, find, Name, Operand, Local, Number, Null, Poison, Undef, Inst, Function, carried_from, carrying_operands, insts_of, leaf_count, leaves_by, makes}
+use Rattle.read_back.proofs.Common.{◌≡◌, ◌+◌, ◌≤◌, ℕ, min, List, [], ◌∷◌, sum_by, Option, Some, None, refl, sym, append-nil, subst, arith, AllByRecursion, find, Name, Operand, Local, Number, Null, Poison, Undef, Inst, Function, carried_from, carrying_operands, insts_of, leaf_count, leaves_by, makes}
 use Rattle.ir_tree.proofs.Leaves.{count-least, found}
 use Rattle.read_back.proofs.MadeInsts.{AreMade}
 use Rattle.read_back.proofs.MadeWritten.{plain_function}

@@ -1,5 +1,5 @@
 -- Printed instructions whose lines end without a comma are spelled.
-use Rattle.read_back.proofs.Common.{◌≡◌, ℕ, Bool, true, false, List, [], ◌∷◌, ◌++◌, Some, refl, ap, ◌∙◌, codes, bytes_eq, Place, Lexeme, no_place, one_bit, Int, Flags, Op, Cast, Predicate, Opcode, WrittenName, WrittenIntType, WrittenOperand, WrittenTyped, WrittenInst, WrittenLine, wrapping_op, exact_op, or_word, memory_word, inst_word, opcode_named, comparison, wrapping, exact, plain, disjunction, icmp, cast_by, truncate, zero_extend, sign_extend, select, freeze, inst_by, line_named, Form, seq, Piece, space, comma, width_text, type_text, word_if, flag_pieces, op_pieces, predicate_text, cast_pieces}
+use Rattle.read_back.proofs.Common.{◌≡◌, ℕ, Bool, true, false, List, [], ◌∷◌, ◌++◌, Some, refl, ap, ◌∙◌, codes, bytes_eq, Place, Lexeme, no_place, one_bit, Int, Flags, Op, Cast, Predicate, Opcode, WrittenName, WrittenIntType, WrittenOperand, WrittenTyped, WrittenInst, WrittenLine, wrapping_op, exact_op, or_word, memory_word, inst_word, opcode_named, comparison, wrapping, exact, plain, disjunction, icmp, cast_by, truncate, zero_extend, sign_extend, select, freeze, inst_by, line_named, Form, seq, Piece, space, comma, width_text, word_if, flag_pieces, op_pieces, predicate_text, cast_pieces}
 use Rattle.ir_tree.specs.declared.tree.Op.TheVariants as op
 use Rattle.ir_tree.specs.declared.tree.Cast.TheVariants as cast
 use Rattle.ir_grammar.specs.declared.word.Flag.TheVariants as flag

@@ -240,9 +240,6 @@ gep-spelled ps name flags type base found is base_is =
           e.1 e';
     }))))
 
-abbrev flag_words : GepFlags → List Piece
-flag_words flags = word_if flags.inbounds (codes "inbounds") ++ word_if flags.nuw (codes "nuw")
-
 gep-by-flags : (name : WrittenName) (inbounds nuw : Bool) (type : WrittenObject)
     (base : WrittenTyped) → AreFlags (the_flags inbounds nuw) → IsObject false type.of_type
     → IsPointer base

@@ -1,5 +1,5 @@
 -- The steps of the proof that a printed module reads back.
-use Rattle.read_back.proofs.Common.{◌≡◌, ℕ, List, [], map, true, All, Lexeme, Spells, SpellsPlainly, define, WrittenFunction, numbered, Piece, AreApart, spelled, line, function_pieces, IsSameFunction, IsOfBytes}
+use Rattle.read_back.proofs.Common.{◌≡◌, ℕ, List, [], map, true, All, Lexeme, Spells, SpellsPlainly, define, WrittenFunction, numbered, Piece, spelled, function_pieces, IsSameFunction, IsOfBytes}
 use Rattle.read_back.proofs.Written.{written_pieces}
 use Rattle.read_back.proofs.Placeless.{placeless}
 use Rattle.read_back.proofs.Spellable.{IsSpellable}

@@ -1,6 +1,6 @@
 -- What decides one fact decides another.
-use Rattle.refine_terms.proofs.Common.{ℕ, ◌≡◌, ◌≤◌, ◌↔◌, ◌⊎◌, inl, inr, Bool, true, ◌&&◌, ◌||◌, nat_eq, nat_le, List, sym, subst, ◌∙◌, TermId, Term, Keeps, Tests, IsTerm, bit_at, bit-later, is_term-later, Decides}
-use Rattle.refine_terms.proofs.Truths.{and_left, and_right, and_both, or_left, or_right, or_either, equal_says, at_most_says}
+use Rattle.refine_terms.proofs.Common.{ℕ, ◌≡◌, ◌≤◌, ◌↔◌, ◌⊎◌, inl, inr, Bool, true, ◌&&◌, ◌||◌, nat_le, List, sym, subst, ◌∙◌, TermId, Term, Keeps, Tests, IsTerm, bit_at, bit-later, is_term-later, Decides}
+use Rattle.refine_terms.proofs.Truths.{and_left, and_right, and_both, or_left, or_right, or_either, at_most_says}
 
 pub tested : (new : List Term) (id : TermId) (test : (ℕ → ℕ → ℕ) → Bool) (fact : (ℕ → ℕ → ℕ) → Type 0) → Tests new id test → ((v : ℕ → ℕ → ℕ) → (test v ≡ true) ↔ fact v) → Decides new id fact
 tested new id test fact t same = (
@@ -46,9 +46,6 @@ either_decides old new a b id F G p q t = (
     one : (v : ℕ → ℕ → ℕ) → F v ⊎ G v → (bit_at v old a || bit_at v old b) ≡ true
     one v (inl h) = or_left (bit_at v old a) (bit_at v old b) ((p.1 v).1 h)
     one v (inr h) = or_right (bit_at v old a) (bit_at v old b) ((q.1 v).1 h)
-
-pub equal_decides : (new : List Term) (id : TermId) (x : (ℕ → ℕ → ℕ) → ℕ) (n : ℕ) → Tests new id (λ v. nat_eq (x v) n) → Decides new id (λ v. x v ≡ n)
-equal_decides new id x n t = tested new id (λ v. nat_eq (x v) n) (λ v. x v ≡ n) t (λ v. equal_says (x v) n)
 
 pub at_most_decides : (new : List Term) (id : TermId) (x : (ℕ → ℕ → ℕ) → ℕ) (n : ℕ) → Tests new id (λ v. nat_le (x v) n) → Decides new id (λ v. x v ≤ n)
 at_most_decides new id x n t = tested new id (λ v. nat_le (x v) n) (λ v. x v ≤ n) t (λ v. at_most_says (x v) n)

@@ -119,9 +119,6 @@ blocks_pass given v old i xs ys = pairs_pass block_allows (map (block_at (readin
 abbrev pub all_blocks_pass : (given : ℕ) → (ℕ → ℕ → ℕ) → List Term → List SymBlock → List SymBlock → Bool
 all_blocks_pass given v old xs ys = pairs_pass block_allows (map (block_at (reading given v) old) xs) (map (block_at (reading given v) old) ys)
 
-pub blocks_start : (given : ℕ) (old a : List Term) (all : TermId) (xs ys : List SymBlock) → Tests a all (λ _. true) → (v : ℕ → ℕ → ℕ) → (bit_at v a all && blocks_pass given v old 0 xs ys) ≡ all_blocks_pass given v old xs ys
-blocks_start given old a all xs ys t v = rw (t.says v) refl
-
 pub block_row : (given : ℕ) (old a b c : List Term) (allowed all next : TermId) (xs ys : List SymBlock) (i : ℕ) (x y : SymBlock) → AreSymBlocks old xs → AreSymBlocks old ys → i < length xs → i < length ys → x ≡ get_or xs i x → y ≡ get_or ys i y
     → IsTerm a 1 all → Keeps old a → Keeps a b → ((v : ℕ → ℕ → ℕ) → (bit_at v a all && blocks_pass given v old i xs ys) ≡ all_blocks_pass given v old xs ys)
     → Tests b allowed (λ v. block_allows (block_at (reading given v) a x) (block_at (reading given v) a y)) → Tests c next (λ v. bit_at v b all && bit_at v b allowed)

@@ -91,9 +91,6 @@ pub entries_held : (f : Function) (slots : List ℕ) (held : List (Option ℕ)) 
 entries_held f slots held rows from noted all at b is =
     all_weaker (IsPhiNoted rows) (λ (phi : Phi). IsEntryHeld slots held (find (λ (e : PhiEntry). nat_eq e.from from) phi.entries)) (λ phi phi_noted. entry_held slots held rows from phi.entries all phi_noted) b.phis (all_get (IsBlockNoted rows) f.blocks at b noted is)
 
-pub no_phis_held : (f : Function) (slots : List ℕ) (held : List (Option ℕ)) (from at : ℕ) → ((b : Block) → slice_get f.blocks at ≡ Some b → b.phis ≡ []) → AreEntriesHeld f slots held from at
-no_phis_held f slots held from at none b is = subst (λ (phis : List Phi). ArePhisHeld slots held from phis) (sym (none b is)) tt
-
 pub right_phis : (slots : List ℕ) (names : ℕ) (held : List (Option ℕ)) (from : ℕ) (phis : List Phi) → ArePhisHeld slots held from phis → AllByRecursion (λ (phi : Phi). HasSlot slots names (length held) phi.into) phis → AllByRecursion (IsRightPhi slots names held from) phis
 right_phis slots names held from [] reads fit = tt
 right_phis slots names held from (phi ∷ phis) reads fit = ((reads.0, fit.0), right_phis slots names held from phis reads.1 fit.1)

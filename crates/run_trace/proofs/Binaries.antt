@@ -17,14 +17,6 @@ quotient_found n l r (Some x) some minus h = rw (h.1, some, minus, h.0) refl
 pub quotient_fits : (n : ℕ) (l r : Value) → is_zero_or_poison n r ≡ false → is_minus_1 n r ≡ false → has_no_quotient n l r ≡ false
 quotient_fits n l r some minus = rw (some, minus) refl
 
-pub divisor_found : (n : ℕ) (l r : Value) (x : Reason) → (is_zero_or_poison n r && is_cause_of_division x n l r) ≡ true
-    → (has_no_quotient n l r && is_cause_of_division x n l r) ≡ true
-divisor_found n l r x = go (is_zero_or_poison n r) (is_minus_1 n r && is_least_or_poison n l) (is_cause_of_division x n l r)
-  where
-    go : (z q y : Bool) → (z && y) ≡ true → ((z || q) && y) ≡ true
-    go true q y e = e
-    go false q y e = true_not_false (sym e)
-
 pub division_reason : (into : ℕ) (op : Op) (width : Width) (left right : Operand) (tape : List ℕ) (m : Machine) (x : Reason)
     → (is_undefined op width.bits (operand_value m.registers left) (operand_value m.registers right)
     && is_cause_of_division x width.bits (operand_value m.registers left) (operand_value m.registers right)) ≡ true

@@ -31,7 +31,7 @@ pub use Rattle.run_trace.specs.Causes.{NeedsCause, IsPoisonCause, IsCauseOf}
 pub use Rattle.run_trace.specs.Items.{Position, Insts, State, At, Leaves, item_at, at_block, after_jump, after_exit, again, Phase, Call, Phis, Done, first_state, parameter_item, phi_item, inst_item, phi_item_in, inst_item_in, after, after_inst, Item, Gets, Begins, Reads, Enters, Acts, Missing}
 pub use Rattle.run_trace.specs.Operands.{used_as, taken_arm, effective_operands, is_poison_name, is_poison_literal, value_after, index_operand, end_operands, is_name, name_of, words_after, phi_operand, values_of, words_since}
 pub use Rattle.run_trace.specs.Parts.{position, IsFailedExit, IsReasonOver, IsLeaving, is_too_many, ShowsAt, GoesOn, IsBefore, after_insts, state_after}
-pub use Rattle.run_trace.specs.Reasons.{is_some_poison, gives_poison, IsByFlag, is_poison_operand, IsReturnOf, IsOnPoison, IsEndReason, is_flag, no_flag, op_kept, is_cause_of_division, IsInstReason}
+pub use Rattle.run_trace.specs.Reasons.{is_some_poison, gives_poison, IsByFlag, IsReturnOf, IsEndReason, is_flag, no_flag, op_kept, is_cause_of_division, IsInstReason}
 pub use Rattle.run_trace.specs.Trace.{is_no_return, is_failure, value_of_exit, block_of_exit, taken_by_exit, needs_reason, HasReason, Shows, Leads, stays, shown, silent, site_of}
 pub use Rattle.run_trace.specs.declared.steps.Flag.{Flag}
 pub use Rattle.run_trace.specs.declared.steps.Reason.{Reason}

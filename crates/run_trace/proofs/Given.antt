@@ -11,17 +11,9 @@ pub or_false : (x y : Bool) → (x || y) ≡ false → (x ≡ false) × (y ≡ f
 or_false true y e = true_not_false e
 or_false false y e = (refl, e)
 
-pub or_true : (x y : Bool) → (x || y) ≡ true → x ≡ false → y ≡ true
-or_true true y e f = true_not_false f
-or_true false y e f = e
-
 pub and_true : (x y : Bool) → (x && y) ≡ true → (x ≡ true) × (y ≡ true)
 and_true true y e = (refl, e)
 and_true false y e = true_not_false (sym e)
-
-pub and_with : (x y : Bool) → x ≡ true → y ≡ true → (x && y) ≡ true
-and_with true y e f = f
-and_with false y e f = true_not_false (sym e)
 
 pub no_and : {A : Type 0} (x : Bool) → (x && false) ≡ true → A
 no_and true e = true_not_false (sym e)

@@ -1,5 +1,5 @@
 -- What is shown of a terminator.
-use Rattle.run_trace.proofs.Common.{◌≡◌, ℕ, zero, suc, ◌≤◌, List, [], ◌∷◌, ◌++◌, length, Bool, true, false, ◌&&◌, ◌||◌, not, nat_eq, nat_lt, if◌then◌else◌, Option, Some, None, refl, sym, ap, subst, ◌∙◌, arith, IsSomeAnd, slice_get, list_any, eqb-true, slice_get_past, Width, IrType, Operand, TypedOperand, Block, Function, block_of, Value, Num, Poison, Machine, Exit, exit_by, branch_on, switch_on, returned_run, returned_with, undef_type, operand_value, typed_operand_value, is_poison, ended, Ub, exit_with, Reason, Step, end_operands, is_name, is_poison_name, is_poison_literal, Position, Insts, State, At, Leaves, item_at, at_block, after_jump, after_exit, again, is_some_poison, is_poison_operand, IsReturnOf, IsOnPoison, IsEndReason, is_no_return, is_failure, value_of_exit, block_of_exit, taken_by_exit, needs_reason, HasReason, Shows, Leads, position, IsFailedExit, IsReasonOver, IsLeaving, is_too_many}
+use Rattle.run_trace.proofs.Common.{◌≡◌, ℕ, zero, suc, ◌≤◌, List, [], ◌∷◌, ◌++◌, length, Bool, true, false, ◌&&◌, ◌||◌, not, nat_eq, nat_lt, if◌then◌else◌, Option, Some, None, refl, sym, ap, subst, ◌∙◌, arith, IsSomeAnd, slice_get, list_any, eqb-true, slice_get_past, IrType, TypedOperand, Block, Function, block_of, Value, Num, Poison, Machine, Exit, exit_by, branch_on, switch_on, returned_run, returned_with, undef_type, operand_value, typed_operand_value, is_poison, ended, Ub, exit_with, Reason, Step, end_operands, is_name, is_poison_name, is_poison_literal, Position, Insts, State, At, Leaves, item_at, at_block, after_jump, after_exit, again, is_some_poison, IsReturnOf, IsEndReason, is_no_return, is_failure, value_of_exit, block_of_exit, taken_by_exit, needs_reason, HasReason, Shows, Leads, position, IsFailedExit, IsReasonOver, IsLeaving, is_too_many}
 use Rattle.std.proofs.Math.Dec.{eqb-suc-zero}
 use Rattle.ir_tree.specs.declared.tree.Case.{Case}
 use Rattle.ir_tree.specs.declared.tree.Terminator.{Terminator}
@@ -13,45 +13,9 @@ use Rattle.choice_interp.specs.declared.ending.Ending.TheVariants as ending
 use Rattle.choice_interp.specs.Ran.{outcome_of}
 use Rattle.run_trace.specs.declared.steps.Reason.TheVariants as reason
 use Rattle.run_trace.specs.declared.ends.Leaving.{Leaving}
-use Rattle.run_trace.specs.Reasons.{is_number}
 use Rattle.run_trace.proofs.Given.{true_not_false, and_true, or_false}
 use Rattle.run_trace.proofs.Never.{choice_defined}
 use Rattle.run_trace.proofs.Leading.{leads_shown}
-
--- ---- undefined behaviour
-
-returns_well : {A : Type 0} (o : Option IrType) (returned : TypedOperand) (tape : List ℕ) (m : Machine) → IsFailedExit (exit.Over (returned_with o returned tape m)) → A
-returns_well None returned tape m e = true_not_false (sym e)
-returns_well (Some type) returned tape m e = true_not_false (sym e)
-
-pub failed_return : (f : Function) (returned : Option TypedOperand) (tape : List ℕ) (m : Machine) → IsFailedExit (exit_by f.returns_no_undef (terminator.Return returned) tape m)
-    → (f.returns_no_undef ≡ true) × IsReturnOf is_poison_operand (terminator.Return returned) m
-failed_return f None tape m e = true_not_false (sym e)
-failed_return f (Some r) tape m e = go (f.returns_no_undef && is_poison (typed_operand_value m.registers r)) refl e
-  where
-    go : (b : Bool) → (f.returns_no_undef && is_poison (typed_operand_value m.registers r)) ≡ b
-        → IsFailedExit (exit.Over (if b then ended Ub m else returned_with (undef_type r.of_type r.operand) r tape m))
-        → (f.returns_no_undef ≡ true) × IsReturnOf is_poison_operand (terminator.Return (Some r)) m
-    go true h failed = and_true f.returns_no_undef (is_poison (typed_operand_value m.registers r)) h
-    go false h failed = returns_well (undef_type r.of_type r.operand) r tape m failed
-
-failed_branch : (v : Value) (if_true if_false : ℕ) (m : Machine) → IsFailedExit (branch_on v if_true if_false m) → is_number v ≡ false
-failed_branch (Num n) if_true if_false m e = absurd e
-failed_branch Poison if_true if_false m e = refl
-failed_branch (value.Ptr p) if_true if_false m e = refl
-
-failed_switch : (width : ℕ) (v : Value) (default : ℕ) (cases : List Case) (m : Machine) → IsFailedExit (switch_on width v default cases m) → is_number v ≡ false
-failed_switch width (Num n) default cases m e = absurd e
-failed_switch width Poison default cases m e = refl
-failed_switch width (value.Ptr p) default cases m e = refl
-
-pub failed_cond : (f : Function) (condition : Operand) (if_true if_false : ℕ) (tape : List ℕ) (m : Machine) → IsFailedExit (exit_by f.returns_no_undef (terminator.CondBranch condition if_true if_false) tape m)
-    → IsOnPoison (terminator.CondBranch condition if_true if_false) m
-failed_cond f condition if_true if_false tape m e = failed_branch (operand_value m.registers condition) if_true if_false m e
-
-pub failed_cases : (f : Function) (width : Width) (operand : Operand) (default : ℕ) (cases : List Case) (tape : List ℕ) (m : Machine) → IsFailedExit (exit_by f.returns_no_undef (terminator.Switch width operand default cases) tape m)
-    → IsOnPoison (terminator.Switch width operand default cases) m
-failed_cases f width operand default cases tape m e = failed_switch width.bits (operand_value m.registers operand) default cases m e
 
 -- ---- poison that is returned
 

@@ -1,5 +1,5 @@
 -- The bits of the goal's terms, one term after the other.
-use Rattle.sat_ask.proofs.Common.{ℕ, ◌≡◌, ◌<◌, ◌+◌, ◌*◌, ◌^◌, ◌++◌, inl, inr, Bool, true, false, All, List, [], ◌∷◌, Some, get_or, slice_get, drop, length, arith, sym, ap, subst, refl, ◌∙◌, length-append, cases_eq, drop_all, get_or_push, get_or_append_left, slice_get-get_or, get_or_from_slice_get, TermId, Term, Tree, digit, truth, value_of, width_of, AreFit, IsFit, tree_in, tree_of, trees_from, trees_of, GateId, Gate, gate_at, number_at, Variable, Blasted, Follows, operands, HasVariable, operands-within, AreKnown, IsCone, IsGoal, IsMarked, Mentions}
+use Rattle.sat_ask.proofs.Common.{ℕ, ◌≡◌, ◌<◌, ◌+◌, ◌*◌, ◌^◌, ◌++◌, inl, inr, Bool, true, false, List, [], ◌∷◌, Some, get_or, slice_get, drop, length, arith, sym, ap, subst, refl, ◌∙◌, length-append, cases_eq, drop_all, get_or_push, get_or_append_left, slice_get-get_or, get_or_from_slice_get, TermId, Term, Tree, digit, truth, width_of, AreFit, IsFit, tree_in, tree_of, trees_from, trees_of, GateId, Gate, gate_at, number_at, Variable, Blasted, Follows, operands, HasVariable, operands-within, AreKnown, IsCone, IsGoal, IsMarked, Mentions}
 use Rattle.bv_terms.specs.declared.term.Term.TheVariants as term
 use Rattle.bv_terms.specs.Tree as tree
 use Rattle.bv_terms.proofs.Zips.{IsStage, IsStage-fit, IsStage-more, stage_start}
@@ -26,9 +26,6 @@ built_none terms used blast bits e fit = rw e (record {
 
 pub built-fit : (terms : List Term) (used : List Bool) (blast : Blasted) (bits : List (List GateId)) (i : ℕ) (b : IsBuilt terms used blast bits i) (d : Term) → i < length terms → IsFit b.trees (get_or terms i d)
 built-fit terms used blast bits i b d lt = IsStage-fit terms (trees_of terms) b.trees i d lt b.stage
-
-all-both : (P Q : TermId → Type 0) (xs : List TermId) → ((a : TermId) → P a → Q a) → All P xs → All Q xs
-all-both P Q xs f h i d lt = f (get_or xs i d) (h i d lt)
 
 pub built-standing : (terms : List Term) (goal : TermId) (used : List Bool) (blast : Blasted) (bits : List (List GateId)) (i : ℕ) (b : IsBuilt terms used blast bits i) (d : Term) → i < length terms
     → IsCone terms goal 0 used → IsMarked used i → AreStanding blast.gates blast.table b.trees bits (get_or terms i d)
@@ -135,13 +132,3 @@ built-goal terms goal used blast bits i digits out e b cone lt wide is at =
       within = subst (λ (g : GateId). g.index < length blast.gates) first (own.within 0 out (omega (arith, one)));
       says = λ inputs v agrees. ap (gate_at inputs blast.gates) (sym first) ∙ (first-truth inputs blast.gates digits out one ∙ ap truth (own.says inputs v agrees));
     }
-
--- the goal has a bit
-pub built-room : (terms : List Term) (goal : TermId) (used : List Bool) (blast : Blasted) (bits : List (List GateId)) (i : ℕ) → i ≡ length terms → IsBuilt terms used blast bits i
-    → IsCone terms goal 0 used → goal.index < length terms → width_of (tree_in terms goal) ≡ 1 → (goal.index < length bits) × (length (get_or bits goal.index []) ≡ 1)
-built-room terms goal used blast bits i e b cone lt wide =
-    let rest : drop i terms ≡ [] = drop_all i terms (omega (arith, e)) in
-    let whole : b.trees ≡ trees_of terms = subst (λ (ts : List Term). trees_from b.trees ts ≡ trees_of terms) rest b.stage.whole in
-    let own : AreBits blast.gates blast.table (tree_in terms goal) (get_or bits goal.index []) =
-    subst (λ (ts : List Tree). AreBits blast.gates blast.table (get_or ts goal.index (tree.Constant 0 1)) (get_or bits goal.index [])) whole (b.stands goal.index (omega (arith, lt, e)) cone.root) in
-    (omega (arith, b.long, e, lt), own.long ∙ wide)

@@ -8,7 +8,7 @@ pub use Rattle.bit_blast.proofs.Standing.{operands-within}
 pub use Rattle.bit_blast.specs.Table.{Blasted, Follows, Adds, Agrees, AreDigits, IsTable, all_digits, digits_of}
 pub use Rattle.bit_blast.specs.Written.{operands, HasVariable}
 pub use Rattle.bv_terms.proofs.Stages.{tree-stored, within-more}
-pub use Rattle.bv_terms.specs.Tree.{Tree, digit, truth, value_of, width_of}
+pub use Rattle.bv_terms.specs.Tree.{Tree, digit, truth, width_of}
 pub use Rattle.bv_terms.specs.Trees.{AreFit, IsFit, tree_in, tree_of, trees_from, AreDistinct, bit_at, IsWithin, tree_at}
 unfoldable pub use Rattle.bv_terms.specs.Trees.{trees_of}
 pub use Rattle.bv_terms.specs.declared.term.Term.{Term}

@@ -96,9 +96,6 @@ module _ (clauses : List (List Lit)) (log more : List Step) where
     ];
   }
 
-pub learned-spent : (clauses : List (List Lit)) (log : List Step) (n : ℕ) → IsSpent clauses log n → AreLearned clauses log
-learned-spent clauses log n spent = record { careful = spent.careful; nonempty = spent.nonempty }
-
 pub learned-none : (clauses : List (List Lit)) → AreLearned clauses []
 learned-none clauses = record {
   careful = record {

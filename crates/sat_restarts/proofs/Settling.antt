@@ -1,5 +1,5 @@
 -- One more bit of a least model is settled.
-use Rattle.sat_restarts.proofs.Common.{ℕ, ◌≡◌, ◌+◌, ◌-◌, ◌++◌, ◌⊎◌, inl, inr, Bool, true, false, List, [], ◌∷◌, length, length-append, get_or, take, arith, sym, subst, refl, ap, ◌∙◌, take-append_seam, cases_eq, true≢false, Lit, IsModel, clauses_true, values_of, Step, Refutes, refuted-false, standing-true, IsLeast, IsLess, standing, AreLearned, Agree, IsSettled}
+use Rattle.sat_restarts.proofs.Common.{ℕ, ◌≡◌, ◌+◌, ◌-◌, ◌++◌, ◌⊎◌, inl, inr, Bool, true, false, List, [], ◌∷◌, length, length-append, get_or, take, arith, sym, subst, refl, ap, ◌∙◌, take-append_seam, cases_eq, true≢false, Lit, IsModel, clauses_true, values_of, Step, Refutes, refuted-false, standing-true, IsLess, standing, AreLearned, Agree, IsSettled}
 use Rattle.clause_lits.specs.declared.cnf.Cnf.{Cnf}
 use Rattle.sat_restarts.proofs.Models.{model-standing, true-both, true-left, true-right}
 
@@ -173,7 +173,3 @@ settled-none question cnf values log learned same is model = record {
       subst (λ (cs : List (List Lit)). clauses_true (values_of others) cs ≡ true) (sym is)
       (standing-true (values_of others) question.clauses log learned.careful.sound m.1);
 }
-
--- and all of the prefix in the end
-pub settled-all : (question cnf : Cnf) (values : List Bool) → IsSettled question question.front cnf values → IsLeast question.variables question.front question.clauses values
-settled-all question cnf values settled = record { model = settled.model; least = settled.least }

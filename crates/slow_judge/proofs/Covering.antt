@@ -44,9 +44,6 @@ false_not_true h = cc
 pub not_uncovered : (pair : RunPair) (bounds : Bounds) (tapes : List (List ℕ)) (p : Point) → is_covered pair bounds tapes p ≡ true → IsTrue false ↔ IsUncovered pair bounds tapes p
 not_uncovered pair bounds tapes p holds = ((λ h. absurd (false_not_true h)), (λ u. let f : true ≡ false = sym holds ∙ u.uncovered in absurd (cc)))
 
-pub not_plain : (pair : RunPair) (bounds : Bounds) (tapes : List (List ℕ)) (p : Point) → (IsPlain p.tape (run_of pair.target bounds p.input p.tape) → IsTrue false) → IsTrue false ↔ IsUncovered pair bounds tapes p
-not_plain pair bounds tapes p h = ((λ f. absurd (false_not_true f)), (λ u. h u.plain))
-
 pub uncovered_when : (pair : RunPair) (bounds : Bounds) (tapes : List (List ℕ)) (p : Point) (b : Bool) → IsPlain p.tape (run_of pair.target bounds p.input p.tape) → some_covers pair bounds p (shifted (need_of bounds.turns pair.source) p.tape) ≡ false → b ≡ some_covers pair bounds p tapes → IsTrue (not b) ↔ IsUncovered pair bounds tapes p
 uncovered_when pair bounds tapes p b plain fails is =
     let e : is_covered pair bounds tapes p ≡ b = covered_by_tapes pair bounds tapes p fails ∙ sym is in

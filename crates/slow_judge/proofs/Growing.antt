@@ -1,9 +1,9 @@
 -- The trail as the judge grows it.
-use Rattle.slow_judge.proofs.Common.{◌≡◌, ℕ, ◌+◌, ◌≤◌, ◌<◌, List, [], ◌∷◌, ◌++◌, length, length-append, append-nil, Option, Some, None, slice_get, refl, sym, ap, ◌∙◌, arith, Bounds, Point, Functions, RunPair, run_pair, IsLeastCover, HasNoCover, TrailFrom, IsLeastUncovered, AreAllCovered, Ends, Judges, IsTrail, IsVerdict, cons_after, subst, HasTrail}
+use Rattle.slow_judge.proofs.Common.{◌≡◌, ℕ, ◌+◌, ◌≤◌, ◌<◌, List, [], ◌∷◌, ◌++◌, length, length-append, append-nil, Option, Some, None, slice_get, refl, sym, ap, ◌∙◌, arith, Bounds, Point, Functions, RunPair, IsLeastCover, HasNoCover, TrailFrom, IsLeastUncovered, AreAllCovered, Ends, IsVerdict, cons_after, subst, HasTrail}
 use Rattle.points.specs.declared.point.Budget.{Budget}
 use Rattle.verdicts.specs.declared.verdict.Verdict.{Verdict}
 use Rattle.verdicts.specs.declared.verdict.Verdict.TheVariants.{Correct, Incorrect, Unknown}
-use Rattle.verdicts.specs.declared.verdict.Cause.TheVariants.{Weight, Rounds, Conflicts}
+use Rattle.verdicts.specs.declared.verdict.Cause.TheVariants.{Weight, Rounds}
 use Rattle.verdicts.specs.Weight.{IsHeavy}
 
 pub record IsGrown (pair : RunPair) (bounds : Bounds) (budget : Budget) (tapes : List (List ℕ)) : Type 0 where
@@ -11,9 +11,6 @@ pub record IsGrown (pair : RunPair) (bounds : Bounds) (budget : Budget) (tapes :
   pub count : length points ≡ length tapes
   pub trail : TrailFrom pair bounds [] tapes points
   pub within : length tapes ≤ budget.rounds
-
-pub grown_start : (pair : RunPair) (bounds : Bounds) (budget : Budget) (tapes : List (List ℕ)) → tapes ≡ [] → IsGrown pair bounds budget tapes
-grown_start pair bounds budget tapes e = rw e (record { points = []; count = refl; trail = tt; within = omega arith })
 
 -- a trail goes on by one point and its tape
 trail_more : (pair : RunPair) (bounds : Bounds) (before tapes : List (List ℕ)) (points : List Point) (p : Point) (tape : List ℕ) → length points ≡ length tapes → TrailFrom pair bounds before tapes points → IsLeastUncovered pair bounds (before ++ tapes) p → IsLeastCover pair bounds p tape → TrailFrom pair bounds before (tapes ++ tape ∷ []) (points ++ p ∷ [])
@@ -83,23 +80,6 @@ grown_full pair bounds budget tapes p tape grown least cover full = record {
 }
 
 -- ---- the verdict
-
-verdict_of_trail : (pair : Functions) (bounds : Bounds) (budget : Budget) (v : Verdict) (trail : HasTrail (run_pair pair) bounds budget v) → IsTrail pair bounds budget trail.kept v → Judges pair bounds budget trail.kept v
-verdict_of_trail pair bounds budget Correct trail h = h
-verdict_of_trail pair bounds budget (Incorrect p) trail h = h
-verdict_of_trail pair bounds budget (Unknown Rounds) trail h = h
-verdict_of_trail pair bounds budget (Unknown Conflicts) trail h = h
-verdict_of_trail pair bounds budget (Unknown Weight) trail h = absurd (no_weight (slice_get trail.kept.points (length trail.kept.tapes)) h.ends)
-  where
-    no_weight : (o : Option Point) → Ends (run_pair pair) bounds budget trail.kept.tapes o (Unknown Weight) → ⊥
-    no_weight None e = e
-    no_weight (Some p) e = e
-
-pub verdict_is : (pair : Functions) (bounds : Bounds) (budget : Budget) (v : Verdict) → (IsHeavy pair bounds budget → ⊥) → HasTrail (run_pair pair) bounds budget v → IsVerdict pair bounds budget v
-verdict_is pair bounds budget v not_heavy trail = record {
-  kept = trail.kept;
-  judges = verdict_of_trail pair bounds budget v trail (record { not_heavy = not_heavy; trail = trail.trail; within = trail.within; ends = trail.ends });
-}
 
 pub heavy_is : (pair : Functions) (bounds : Bounds) (budget : Budget) → IsHeavy pair bounds budget → IsVerdict pair bounds budget (Unknown Weight)
 heavy_is pair bounds budget h = record { kept = record { tapes = []; points = [] }; judges = record { heavy = h; tapes = refl; points = refl } }

@@ -1,5 +1,5 @@
 -- Why sums of small numbers don't wrap.
-use Rattle.term_rules.proofs.Common.{ap, ℕ, ◌≡◌, ◌<◌, ◌≤◌, ◌+◌, ◌-◌, ◌*◌, ◌%◌, ◌^◌, List, length, arith, lit<, ◌∙◌, sym, subst, refl, le-ltb, mul-add-lt, pow-add, mod-eq_of_lt, mod-le, mul-le-mul_right, mul_comm, TermId, Term, Tree, digit, value_of, width_of, AreInRange, term_at, tree_in, pow-le, Built, Simplifies}
+use Rattle.term_rules.proofs.Common.{ap, ℕ, ◌≡◌, ◌<◌, ◌≤◌, ◌+◌, ◌-◌, ◌*◌, ◌%◌, ◌^◌, List, length, arith, lit<, ◌∙◌, sym, subst, refl, le-ltb, mul-add-lt, pow-add, mod-eq_of_lt, mod-le, mul-le-mul_right, mul_comm, TermId, Term, digit, value_of, width_of, AreInRange, term_at, tree_in, pow-le, Built, Simplifies}
 use Rattle.bv_terms.specs.declared.term.BinaryOp.TheVariants as op
 use Rattle.bv_terms.specs.declared.term.Term.TheVariants as term
 use Rattle.bv_terms.specs.Tree as tree

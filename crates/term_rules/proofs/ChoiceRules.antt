@@ -71,21 +71,6 @@ module _ (terms : List Term) (c a b : TermId) (range : AreInRange terms) (lc : c
 
 -- ---- arms that are choices by the same condition
 
-cond-arms : (k : Bool) (x y x' y' : ℕ) → (k ≡ true → x' ≡ x) → (k ≡ false → y' ≡ y) → cond k x' y' ≡ cond k x y
-cond-arms true x y x' y' f s = f refl
-cond-arms false x y x' y' f s = s refl
-
-pub choice_arms : (terms : List Term) (c a b a' b' : TermId) (form : Form)
-    → width_of (tree_in terms a') ≡ width_of (tree_in terms a)
-    → ((v : ℕ → ℕ → ℕ) → bit_at v terms c ≡ true → term_at v terms a' ≡ term_at v terms a)
-    → ((v : ℕ → ℕ → ℕ) → bit_at v terms c ≡ false → term_at v terms b' ≡ term_at v terms b)
-    → weight_of (tree_in terms a') ≤ weight_of (tree_in terms a) → weight_of (tree_in terms b') ≤ weight_of (tree_in terms b)
-    → Simplifies terms (tree.Ite (tree_in terms c) (tree_in terms a') (tree_in terms b') (width_of (tree_in terms a'))) form
-    → Simplifies terms (tree.Ite (tree_in terms c) (tree_in terms a) (tree_in terms b) (width_of (tree_in terms a))) form
-choice_arms terms c a b a' b' form wide f s wa wb simple = simplifies_like terms _ _ form simple wide
-    (λ v. cond-arms (bit_at v terms c) (term_at v terms a) (term_at v terms b) (term_at v terms a') (term_at v terms b') (f v) (s v))
-    (omega (arith, wa, wb))
-
 module _ (terms : List Term) (c same first second a : TermId) (width : ℕ)
     (is : tree.Ite (tree_in terms same) (tree_in terms first) (tree_in terms second) width ≡ tree_in terms a) (e : same.index ≡ c.index) where
   value-is : (v : ℕ → ℕ → ℕ) → term_at v terms a ≡ cond (bit_at v terms c) (term_at v terms first) (term_at v terms second)

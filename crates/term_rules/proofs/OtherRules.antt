@@ -1,5 +1,5 @@
 -- Why the rules of divisions, shifts and comparisons are right.
-use Rattle.term_rules.proofs.Common.{ap, ℕ, ◌≡◌, ◌<◌, ◌≤◌, ◌+◌, ◌-◌, ◌*◌, ◌%◌, ◌^◌, Bool, true, false, cond, eqb, List, length, arith, lit<, ◌∙◌, sym, subst, refl, eqb-true, ne_eqb, lt-ltb, pow_pos, pow-add, mod-eq_of_lt, mod_self, TermId, Term, Tree, value_of, width_of, remainder, shifted_left, digit, AreInRange, IsWidth, term_at, tree_in, Built, Known, Simplifies}
+use Rattle.term_rules.proofs.Common.{ap, ℕ, ◌≡◌, ◌<◌, ◌≤◌, ◌+◌, ◌-◌, ◌*◌, ◌%◌, ◌^◌, Bool, true, false, cond, eqb, List, length, arith, lit<, ◌∙◌, sym, subst, refl, eqb-true, ne_eqb, lt-ltb, pow_pos, pow-add, mod-eq_of_lt, mod_self, TermId, Term, value_of, width_of, remainder, shifted_left, digit, AreInRange, IsWidth, term_at, tree_in, Built, Known, Simplifies}
 use Rattle.bv_terms.specs.declared.term.BinaryOp.TheVariants as op
 use Rattle.bv_terms.specs.declared.term.Term.TheVariants as term
 use Rattle.bv_terms.specs.Tree as tree

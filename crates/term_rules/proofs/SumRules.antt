@@ -84,17 +84,6 @@ module _ (terms : List Term) (a b first second : TermId) (n : ℕ) (is : tree.Bi
     least = omega (arith, heavier);
   }
 
-pub part_whole : (terms : List Term) (a b whole taken : TermId) (n : ℕ) → tree.Binary op.Sub (tree_in terms whole) (tree_in terms taken) n ≡ tree_in terms a
-    → whole.index < length terms → width_of (tree_in terms whole) ≡ n → taken.index ≡ b.index → IsPart terms a b whole
-part_whole terms a b whole taken n is lt wide same = record {
-  within = lt;
-  wide = wide ∙ ap width_of is;
-  says = λ v. ap (value_of v) (sym is)
-      ∙ (ap (λ k. (term_at v terms whole + (2 ^ k - term_at v terms taken)) % 2 ^ k) (ap width_of is)
-      ∙ ap (λ (t : Tree). (term_at v terms whole + (2 ^ width_of (tree_in terms a) - value_of v t)) % 2 ^ width_of (tree_in terms a)) (same_tree terms taken b same));
-  least = let heavier : weight_of (tree_in terms a) ≡ 1 + weight_of (tree_in terms whole) + weight_of (tree_in terms taken) = ap weight_of (sym is) in omega (arith, heavier);
-}
-
 module _ (terms : List Term) (a b : TermId) (range : AreInRange terms) (la : a.index < length terms) (lb : b.index < length terms) (alike : width_of (tree_in terms a) ≡ width_of (tree_in terms b)) where
   below : (x : TermId) → x.index < length terms → width_of (tree_in terms x) ≡ width_of (tree_in terms a) → (v : ℕ → ℕ → ℕ) → term_at v terms x < 2 ^ width_of (tree_in terms a)
   below x lt e v = subst (λ n. term_at v terms x < 2 ^ n) e (range v x lt)

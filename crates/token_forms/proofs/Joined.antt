@@ -1,5 +1,5 @@
 -- What holds of reading one form after another.
-use Rattle.token_forms.proofs.Common.{◌≡◌, suc, inl, inr, Bool, true, false, List, [], ◌∷◌, ◌++◌, length, refl, sym, ap, subst, ◌∙◌, append_assoc, arith, append-nil, Lexeme, Reason, Class, never, Why, unfit, Reading, reads, stops, and_then, Judged, none, past, found, judged, taken, one_of}
+use Rattle.token_forms.proofs.Common.{◌≡◌, inl, inr, Bool, true, false, List, [], ◌∷◌, ◌++◌, length, refl, sym, ap, subst, ◌∙◌, append_assoc, arith, append-nil, Lexeme, Reason, Class, never, Why, unfit, Reading, reads, stops, and_then, Judged, none, past, found, judged, taken, one_of}
 use Rattle.token_forms.proofs.Laws.{is_free, SameHead, Follows, Whole, Ends, Halts, Lawful, free-never, same-head-at}
 use Rattle.token_forms.proofs.Tokens.{give_lawful, one_lawful}
 
@@ -131,9 +131,6 @@ with-takes {A} {B} b c a (t ∷ q) x rest e = go (judged b (c.within t) (c.stand
     go none e' = absurd (cc e')
     go past e' = absurd (cc e')
     go (found y) e' = let left : q ≡ rest = cc e' in (t, ap (λ (us : Tokens). t ∷ us) left)
-
-length-cons : (t : Lexeme) (q : Tokens) → length (t ∷ q) ≡ suc (length q)
-length-cons t q = refl
 
 no-loop : (t : Lexeme) (q : Tokens) → q ≡ t ∷ q → ⊥
 no-loop t q e = absurd (omega (arith, ap length e))

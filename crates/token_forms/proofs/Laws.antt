@@ -55,12 +55,6 @@ pub record Lawful {X : Type 0} (o : Lexeme → Bool) (g h : Reader X) : Type 0 w
   pub lifts_unfit : (ts : Tokens) (reason : Reason) (rest : Tokens) → g ts ≡ stops (unfit reason) rest → h ts ≡ stops (unfit reason) rest
   pub ends : Ends o h []
 
--- ---- by cases on what was read
-
-abbrev pub Either_of : {X : Type 0} → Reading X → (X → Tokens → Type 0) → (Why → Tokens → Type 0) → Type 0
-Either_of (reads x rest) R S = R x rest
-Either_of (stops why rest) R S = S why rest
-
 -- ---- what may come next
 
 pub free-never : (r : Tokens) → is_free never r ≡ true

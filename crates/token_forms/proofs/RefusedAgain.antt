@@ -1,5 +1,5 @@
 -- A refusal is where reading stops, with its reason.
-use Rattle.token_forms.proofs.Common.{◌≡◌, ℕ, zero, suc, ◌≤◌, ◌⊎◌, inl, inr, Bool, true, false, List, [], ◌∷◌, length, Option, Some, None, refl, sym, ap, ◌∙◌, arith, Lexeme, Reason, Syntax, Form, give, one, seq, upto, peek, tail, balanced, mapped, Why, unfit, Reading, reads, stops, and_then, Judged, found, judged, token_of, peeked, begun, parts, read, Token, part_value, part_begins, Spells, Misses, MissParts, RefusedAs}
+use Rattle.token_forms.proofs.Common.{◌≡◌, ℕ, zero, suc, ◌≤◌, ◌⊎◌, inl, inr, Bool, true, List, [], ◌∷◌, length, Option, refl, ap, ◌∙◌, arith, Lexeme, Reason, Form, give, one, seq, upto, peek, tail, balanced, mapped, unfit, Reading, reads, stops, and_then, found, token_of, begun, parts, read, Token, part_value, part_begins, Spells, Misses, MissParts, RefusedAs}
 use Rattle.token_forms.proofs.Exact.{read-again, shorter, token-again, peek-first, peek-other, stands-judged, begun-begins}
 use Rattle.token_forms.proofs.Balanced.{open-again}
 

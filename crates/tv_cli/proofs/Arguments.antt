@@ -180,6 +180,3 @@ is_make = record {
 
 pub names_of_make : NamesFrom make_shape.rules 1 []
 names_of_make = refl
-
-pub built_subs : (built tv_app).subs ≡ check_shape ∷ log_shape ∷ make_shape ∷ []
-built_subs = refl

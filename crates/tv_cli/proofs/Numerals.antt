@@ -1,5 +1,5 @@
 -- A number as a text.
-use Rattle.tv_cli.proofs.Common.{◌≡◌, ◌≤◌, ◌&&◌, ℕ, Bool, true, false, true≢false, refl, sym, List, [], ◌∷◌, length, Some, None, nat_lt, nat_le, lt-ltb, ltb-true, leb-true, and-false, list_all, digit_value, AllDigits, IsNumeral, digits_value, without_leading_plus, Range, number_within}
+use Rattle.tv_cli.proofs.Common.{◌≡◌, ◌≤◌, ◌&&◌, ℕ, Bool, true, false, true≢false, refl, sym, List, [], ◌∷◌, length, Some, None, nat_lt, nat_le, lt-ltb, ltb-true, leb-true, list_all, digit_value, AllDigits, IsNumeral, digits_value, without_leading_plus, Range, number_within}
 
 digits_pass : (ds : List ℕ) → AllDigits 10 ds → list_all (λ d. nat_lt (digit_value d) 10) ds ≡ true
 digits_pass [] h = refl
@@ -20,14 +20,6 @@ pub numeral_is : (text : List ℕ) (r : Range) → IsNumeral 10 (without_leading
     → nat_le r.least (digits_value 10 (without_leading_plus text)) ≡ true → nat_le (digits_value 10 (without_leading_plus text)) r.most ≡ true
     → number_within r text ≡ Some (digits_value 10 (without_leading_plus text))
 numeral_is text r numeral least most = rw (lt-ltb 0 (length (without_leading_plus text)) numeral.0, digits_pass (without_leading_plus text) numeral.1, least, most) refl
-
--- and none where it is below the range
-pub numeral_below : (text : List ℕ) (r : Range) → nat_le r.least (digits_value 10 (without_leading_plus text)) ≡ false → number_within r text ≡ None
-numeral_below text r out = rw (out, and-false (nat_lt 0 (length (without_leading_plus text)) && list_all (λ d. nat_lt (digit_value d) 10) (without_leading_plus text))) refl
-
-pub numeral_above : (text : List ℕ) (r : Range) → nat_le (digits_value 10 (without_leading_plus text)) r.most ≡ false → number_within r text ≡ None
-numeral_above text r out =
-    rw (out, and-false (nat_lt 0 (length (without_leading_plus text)) && list_all (λ d. nat_lt (digit_value d) 10) (without_leading_plus text) && nat_le r.least (digits_value 10 (without_leading_plus text)))) refl
 
 -- what a text says that is a number
 record Passes (text : List ℕ) (r : Range) : Type 0 where

@@ -1,6 +1,5 @@
 -- The bounds and the budget of a job are in their ranges.
 use Rattle.tv_cli.proofs.Common.{◌≡◌, ◌≤◌, ◌&&◌, ℕ, Bool, true, false, true≢false, cond, refl, sym, ap, subst, arith, List, [], ◌∷◌, length, Option, Some, None, option_map, is_some, ◌∙◌, codes, nat_lt, nat_le, leb-true, list_all, digit_value, bytes_eq, digits_value, without_leading_plus, Bounds, Budget, Range, check, log, make, Text, Part, Check, Make, Job, number_within, number_once, values_in, bounds_with, budget_with, check_with, check_named, check_in_parts, check_options, file_in_parts, job_of, make_in_parts, names_in, are_known, parts_of, turns_range, blocks_range, bytes_range, rounds_range, conflicts_range, weight_range}
-use Rattle.points.specs.Range.{AreInRange}
 
 pub none≢some : {X : Type 0} (x : X) → None ≡ Some x → ⊥
 none≢some x e = true≢false (sym (ap (λ o. is_some o) e))
@@ -128,18 +127,3 @@ all_within (program ∷ command ∷ words) c e = go (bytes_eq (codes "check") co
     go false true d e = absurd (none≢some c (sym (checked-log (file_in_parts (parts_of None words))) ∙ ap checked e ∙ checked-some c))
     go false false true e = absurd (none≢some c (sym (checked-make (make_in_parts (parts_of None words))) ∙ ap checked e ∙ checked-some c))
     go false false false e = absurd (none≢some (check c) e)
-
-pub check_in_range : (words : List Text) (c : Check) → job_of words ≡ Some (check c) → AreInRange c.bounds c.budget
-check_in_range words c e =
-    let w = all_within words c e in
-    let b = w.0 in
-    let g = w.1 in
-    record {
-      turns = b.turns.most;
-      blocks = b.blocks.most;
-      bytes = b.bytes.most;
-      rounds = g.rounds.most;
-      conflicts = omega (arith, g.conflicts.most);
-      least_weight = g.weight.least;
-      most_weight = g.weight.most;
-    }

@@ -36,7 +36,7 @@ pub use Rattle.proof_text.specs.Format.{IsPrintedNumber, IsProof, ended, part_of
 pub use Rattle.proof_text.specs.declared.part.Part.{Part}
 pub use Rattle.report.specs.Rows.{function_named, IsJudged, IsCompared, IsFinding, IsRow, AreSourceRows, AreRows, extra_row, extra_rows, RowsAreOne}
 pub use Rattle.report.specs.Status.{has_some, is_of_class, status_of, count}
-pub use Rattle.report.specs.Text.{bounds_text, budget_text, cause_text, counted, finding_text, first_line, judged_counts, last_line, newline, other_counts, reason_text, refused_text, report_text, row_text, shown_lines, side_text, address_text, arg_lines, block_line, block_lines, byte_text, bytes_line, choice_lines, contents_line, numbered_line, outcome_lines, point_lines, pointer_text, returned_lines, returned_text, sentence, spaced_byte, value_text, summary_text}
+pub use Rattle.report.specs.Text.{bounds_text, budget_text, cause_text, counted, finding_text, first_line, judged_counts, last_line, newline, other_counts, reason_text, refused_text, report_text, row_text, shown_lines, side_text, address_text, arg_lines, block_line, block_lines, byte_text, bytes_line, choice_lines, contents_line, numbered_line, outcome_lines, point_lines, pointer_text, returned_text, sentence, spaced_byte, value_text, summary_text}
 pub use Rattle.report.specs.declared.row.Finding.{Finding}
 pub use Rattle.report.specs.declared.row.Row.{Row}
 pub use Rattle.report.specs.declared.row.Side.{Side}
@@ -55,7 +55,7 @@ pub use Rattle.verdicts.specs.declared.verdict.Cause.{Cause}
 pub use Rattle.verdicts.specs.declared.verdict.Cause.TheVariants.{Weight, Rounds, Conflicts}
 pub use Rattle.verdicts.specs.declared.verdict.Shown.{Shown}
 pub use Rattle.verdicts.specs.declared.verdict.Verdict.{Verdict}
-pub use Rattle.tv_run.specs.Answers.{IsFaultOf, IsSent, AreParts, CountsLog, IsLogStop, IsNoProof, LoadsProof, AreModules, FitsIn, HasReport, HoldsText, IsDelivered, IsProofAsked, CountsStop, Loads, IsParsed, Parses}
+pub use Rattle.tv_run.specs.Answers.{IsFaultOf, IsSent, AreParts, IsLogStop, IsNoProof, LoadsProof, AreModules, FitsIn, HasReport, HoldsText, IsDelivered, IsProofAsked, CountsStop, Loads, IsParsed, Parses}
 pub use Rattle.tv_run.specs.Files.{HasModule, HasFault, WhereKnown, HasParts, IsLonger}
 pub use Rattle.tv_run.specs.Jobs.{WhereChecked, FileChanges, ProofChanges, job_in}
 pub use Rattle.tv_run.specs.Laws.{FileReportsAreSound, ReportsAreSound, FaultsAreOne, ModulesHaveNoFault, FileReportsAreDefined, PutProofsAreVerified, ReportsAreDefined, ReportsAreOne}

@@ -1,6 +1,5 @@
 -- What the check of a proof file writes, and that a proof file is checked.
-use Rattle.tv_run.proofs.Common.{Vec, ◌≡◌, ◌≤◌, ◌⊎◌, ℕ, arith, List, length, Option, Some, refl, sym, ap, subst, ◌∙◌, inl, inr, Rose, Files, ShelfState, SinkState, Part, IsProof, Text, log, AreParts, CountsLog, IsLogStop, IsNoProof, IsSent, LoadsProof, HasParts, WhereKnown, HasLogTrouble, log_trouble_status}
-use Rattle.proof_files.specs.Checks.{AreChecked}
+use Rattle.tv_run.proofs.Common.{Vec, ◌≡◌, ◌≤◌, ◌⊎◌, ℕ, arith, List, length, Option, Some, refl, sym, ap, subst, ◌∙◌, inl, inr, Rose, Files, ShelfState, SinkState, Part, IsProof, Text, log, AreParts, IsLogStop, IsNoProof, IsSent, LoadsProof, HasParts, WhereKnown, HasLogTrouble, log_trouble_status}
 use Rattle.tv_run.specs.declared.stop.LogTrouble.{LogTrouble}
 use Rattle.tv_run.specs.declared.stop.LogTrouble.TheVariants as log_trouble
 use Rattle.tv_run.specs.declared.stop.LogStop.{LogStop}
@@ -11,12 +10,6 @@ use Rattle.tv_run.proofs.OneJob.{log_is}
 
 -- ---- reading it
 
-pub file_says : (old : ShelfState) (name : Text) (loaded : Vec ℕ) (text lines : List ℕ) (status : ℕ) → LoadsProof old name loaded → text ≡ loaded.items
-    → (parts : List Part) × IsProof text parts × AreChecked parts lines status → WhereKnown old.files (λ files. SaysVerified files name lines status)
-file_says old name loaded text lines status loads is checked files known =
-    let at = loads files known in
-    record { parts = checked.0; parts_are = record { text = loaded.items; there = at.0; holds = (at.1, subst (λ (t : List ℕ). IsProof t checked.0) is checked.1) }; checked = checked.2 }
-
 pub no_proof : (old new : ShelfState) (name : Text) (loaded : Vec ℕ) (text : List ℕ) (why : LogStop) → LoadsProof old name loaded → text ≡ loaded.items → IsNoProof text why → IsLogStop old new name why
 no_proof old new name loaded text log_stop.NoMemory loads is wrong = tt
 no_proof old new name loaded text (log_stop.Trouble log_trouble.CannotRead) loads is wrong = absurd wrong
@@ -24,13 +17,6 @@ no_proof old new name loaded text (log_stop.Trouble log_trouble.TooLong) loads i
 no_proof old new name loaded text (log_stop.Trouble (log_trouble.Line line)) loads is wrong = λ files known.
     let at = loads files known in
     record { text = loaded.items; there = at.0; holds = (at.1, subst (λ (t : List ℕ). IsNoProof t (log_stop.Trouble (log_trouble.Line line))) is wrong) }
-
--- a text that is no proof file was read, and no failure counted
-pub no_proof_counts : (old new : ShelfState) (text : List ℕ) (why : LogStop) → IsNoProof text why → new.fetch_faults ≡ old.fetch_faults → CountsLog why old new
-no_proof_counts old new text log_stop.NoMemory wrong same = same
-no_proof_counts old new text (log_stop.Trouble log_trouble.CannotRead) wrong same = absurd wrong
-no_proof_counts old new text (log_stop.Trouble log_trouble.TooLong) wrong same = same
-no_proof_counts old new text (log_stop.Trouble (log_trouble.Line line)) wrong same = same
 
 -- ---- writing what is found
 
@@ -74,10 +60,3 @@ stops_at files name parts old new (log_trouble.Line line) known has cause =
 pub complete_log : (name : Text) (old new : ShelfState) (t : LogTrouble) (result : ℕ) → HasLogTrouble old new name t → result ≡ log_trouble_status t → AreParts old.files (Some (log name)) → (result ≤ 1) ⊎ (result ≡ 5) ⊎ (result ≡ 7) ⊎ (result ≡ 8)
 complete_log name old new t result cause status are =
     inr (inl (status ∙ stops_at are.files are.name are.parts old new t are.files_are are.parts_are (subst (λ (n : Text). HasLogTrouble old new n t) (log_is name are.name are.job_is) cause)))
-
--- ---- counts
-
-pub quiet_log : (old new : ShelfState) (t : LogTrouble) (result : ℕ) → result ≡ log_trouble_status t → CountsLog (log_stop.Trouble t) old new → (result ≡ 5 → ⊥) → new.fetch_faults ≡ old.fetch_faults
-quiet_log old new log_trouble.CannotRead result status counts other = absurd (other status)
-quiet_log old new log_trouble.TooLong result status counts other = counts
-quiet_log old new (log_trouble.Line line) result status counts other = counts

@@ -4,7 +4,7 @@ use Rattle.ir_tree.specs.declared.module.Reason.TheVariants as reason
 use Rattle.report.specs.declared.row.Side.TheVariants as side
 use Rattle.report.specs.declared.row.Finding.TheVariants as finding
 use Rattle.report.specs.declared.status.Class.TheVariants as class
-use Rattle.tv_run.proofs.RowLines.{HasMarked, Without, free_decimal, free_known, hex_other, is_marked, marked_append, marked_line, marked_nil, shown_marked, unmarked_line, without_append, without_cons, without_known, without_nil}
+use Rattle.tv_run.proofs.RowLines.{HasMarked, Without, free_decimal, free_known, hex_other, is_marked, marked_append, marked_line, marked_nil, shown_marked, unmarked_line, without_append, without_cons, without_nil}
 
 -- ---- names
 

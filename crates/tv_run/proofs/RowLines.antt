@@ -1,5 +1,5 @@
 -- The text of a report as lines, of which those that begin with `@` are the first lines of its rows.
-use Rattle.tv_run.proofs.Common.{ℕ, zero, suc, ◌≡◌, ◌≢◌, ◌<◌, ◌≤◌, ◌+◌, ◌-◌, ◌/◌, ◌%◌, ◌||◌, ◌==◌, eqb, arith, Bool, true, false, cond, All, Contains, List, [], ◌∷◌, ◌++◌, codes, map, take, append_assoc, append-nil, Option, Some, None, refl, sym, ap, ap₂, subst, ◌∙◌, ⊎_elim, nat_lt, if◌then◌else◌, filter, decimal, digits, digit_glyph, digits_onto, flat_map, list_any, nat_tests, All-append, All-cons, All-nil, Contains-append_cases, flat_map-append, filter-append, hex_byte, hex_digit, is_digit, Point, Shown, address_text, arg_lines, block_line, block_lines, byte_text, bytes_line, choice_lines, contents_line, newline, numbered_line, outcome_lines, point_lines, pointer_text, returned_lines, returned_text, sentence, shown_lines, spaced_byte, value_text, ended, first_or_later, AreFree, Free}
+use Rattle.tv_run.proofs.Common.{ℕ, zero, suc, ◌≡◌, ◌≢◌, ◌<◌, ◌≤◌, ◌+◌, ◌-◌, ◌/◌, ◌%◌, ◌||◌, ◌==◌, eqb, arith, Bool, true, false, cond, Contains, List, [], ◌∷◌, ◌++◌, codes, take, append-nil, Option, Some, None, refl, sym, ap, ap₂, ◌∙◌, ⊎_elim, nat_lt, if◌then◌else◌, filter, decimal, digits, digit_glyph, digits_onto, flat_map, list_any, nat_tests, All-append, All-cons, All-nil, Contains-append_cases, flat_map-append, filter-append, hex_digit, is_digit, Point, Shown, address_text, arg_lines, block_line, block_lines, byte_text, bytes_line, choice_lines, contents_line, newline, numbered_line, outcome_lines, point_lines, pointer_text, returned_text, sentence, shown_lines, spaced_byte, value_text, ended, first_or_later, AreFree, Free}
 use Rattle.byte_block.specs.declared.value.BlockName.{BlockName}
 use Rattle.byte_block.specs.declared.value.BlockName.TheVariants.{Null, Given, Local}
 use Rattle.byte_block.specs.declared.value.Ptr.{Ptr}

@@ -1,5 +1,5 @@
 -- A report's text has one list of rows, but for the points of incorrect rows and what is shown of them.
-use Rattle.tv_run.proofs.Common.{ℕ, ◌≡◌, ◌≢◌, ◌<◌, ◌^◌, ◌+◌, ◌*◌, ◌/◌, ◌%◌, ◌==◌, ◌&&◌, arith, Bool, true, false, cond, not, All, Contains, List, [], ◌∷◌, ◌++◌, codes, length, map, append_assoc, get_or, drop, refl, sym, ap, ap₂, subst, ◌∙◌, true≢false, eqb, eq-eqb, if◌then◌else◌, decimal, AllZip, flat_map, list_all, nat_tests, All-head, All-tail, Name, Number, Word, Reason, Refused, escaped, hex_byte, hex_digit, is_bare, is_digit, is_name_byte, is_plain, name_text, quoted, Cause, Weight, Rounds, Conflicts, Side, Finding, Row, cause_text, reason_text, refused_text, side_text, HasPosition, IsReadRow, IsSameFinding, SaysTheSame, TextsHaveOneListOfRows, IsPrintedNumber, IsReadName, parted}
+use Rattle.tv_run.proofs.Common.{ℕ, ◌≡◌, ◌≢◌, ◌<◌, ◌^◌, ◌+◌, ◌*◌, ◌/◌, ◌%◌, ◌==◌, ◌&&◌, arith, Bool, true, false, cond, not, All, Contains, List, [], ◌∷◌, ◌++◌, codes, map, append_assoc, get_or, drop, refl, sym, ap, ap₂, subst, ◌∙◌, true≢false, eqb, eq-eqb, if◌then◌else◌, decimal, AllZip, flat_map, list_all, nat_tests, All-head, All-tail, Name, Number, Word, Reason, Refused, escaped, hex_byte, hex_digit, is_bare, is_digit, is_name_byte, is_plain, name_text, quoted, Cause, Weight, Rounds, Conflicts, Side, Finding, Row, cause_text, reason_text, refused_text, side_text, HasPosition, IsReadRow, IsSameFinding, SaysTheSame, TextsHaveOneListOfRows, IsPrintedNumber, IsReadName, parted}
 use Rattle.std.proofs.lemmas.Fmt.{decimal_injective}
 use Rattle.std.proofs.lemmas.List.{append_cancel_left}
 use Rattle.ir_tree.specs.declared.module.Reason.TheVariants as reason

@@ -14,10 +14,6 @@ job_in arguments = job_of (map string_bytes arguments)
 abbrev pub WhereChecked : Option Files → Option Job → (Files → Check → Type 0) → Type 0
 WhereChecked known command P = (files : Files) (c : Check) → known ≡ Some files → command ≡ Some (check c) → P files c
 
--- likewise of the proof file that it asks to check
-abbrev pub WhereLogged : Option Files → Option Job → (Files → Text → Type 0) → Type 0
-WhereLogged known command P = (files : Files) (name : Text) → known ≡ Some files → command ≡ Some (log name) → P files name
-
 -- a fact of the check that the command line asks for
 abbrev pub OfCheck : Option Job → (Check → Type 0) → Type 0
 OfCheck command P = (c : Check) → command ≡ Some (check c) → P c

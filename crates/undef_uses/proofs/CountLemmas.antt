@@ -12,7 +12,7 @@ use Rattle.ir_tree.specs.declared.tree.Inst.{Inst}
 use Rattle.ir_tree.specs.declared.tree.Inst.TheVariants as inst
 use Rattle.ir_tree.specs.declared.tree.Function.{Function}
 use Rattle.ir_tree.specs.Sites.{AreNumbered}
-use Rattle.ir_tree.specs.Carrying.{carrying_operands, carried_by, insts_of, leaf_count, leaves_by, makes}
+use Rattle.ir_tree.specs.Carrying.{carrying_operands, insts_of, leaf_count, leaves_by, makes}
 use Rattle.ir_tree.specs.Carrying as rule
 use Rattle.ir_tree.proofs.Leaves.{count-least, counts_agree}
 use Rattle.undef_uses.specs.declared.carried.Carried.{Carried}
@@ -201,14 +201,6 @@ zeros n name = by (cases_lt name n)
     by : (name < n) ⊎ (n ≤ name) → count_at (replicate n 0) name ≡ 0
     by (inl below) = get_or-replicate n name 0 0 below
     by (inr past) = get_or_past (replicate n 0) name 0 (let none : ℕ = 0 in let long = length-replicate n none in omega (arith, past, long))
-
-pub begun-all : (table : List Carried) (counts waiting : List ℕ) → counts ≡ replicate (length table) 0 → IsBegun table counts (length table) waiting → IsCounting table counts waiting
-begun-all table counts waiting is begun = record {
-  long = ap length is ∙ length-replicate (length table) 0;
-  names = begun.names;
-  enough = begun.each;
-  low = λ count enough name. let zero_is : count_at counts name ≡ 0 = ap (λ (cs : List ℕ). count_at cs name) is ∙ zeros (length table) name in omega (arith, zero_is);
-}
 
 -- ---- the rule by the table
 

@@ -1,11 +1,10 @@
 -- The table of what names carry, as it is made from the last instruction to the first.
-use Rattle.std.proofs.Common.{length-set, ◌≡◌, ◌⊎◌, ◌≢◌, ◌+◌, ◌<◌, ◌≤◌, ◌||◌, ◌==◌, ℕ, suc, Bool, true, false, cond, List, [], ◌∷◌, ◌++◌, length, get_or, set, drop, replicate, slice_get, Some, None, inl, inr, refl, sym, ◌∙◌, ap, subst, arith, Contains}
+use Rattle.std.proofs.Common.{◌≡◌, ◌⊎◌, ◌≢◌, ◌+◌, ◌<◌, ◌≤◌, ◌||◌, ◌==◌, ℕ, suc, Bool, true, false, cond, List, [], ◌∷◌, ◌++◌, length, get_or, drop, slice_get, Some, None, refl, sym, ◌∙◌, ap, subst, arith, Contains}
 use Rattle.std.specs.List.{find, flat_map, list_any, AllByRecursion}
-use Rattle.std.proofs.lemmas.Bool.{cases_eq, eq-eqb, ne_eqb}
-use Rattle.std.proofs.lemmas.List.{drop_more, get_or-set_same, get_or-set_other, get_or-replicate, length-replicate}
+use Rattle.std.proofs.lemmas.Bool.{ne_eqb}
+use Rattle.std.proofs.lemmas.List.{drop_more}
 use Rattle.std.proofs.lemmas.List.Elements.{Contains-append_right}
 use Rattle.std.proofs.lemmas.Option.{slice_get_read}
-use Rattle.std.proofs.Math.Seq.{drop-length}
 use Rattle.ir_tree.specs.declared.tree.Inst.{Inst}
 use Rattle.ir_tree.specs.declared.tree.Block.{Block}
 use Rattle.ir_tree.specs.declared.tree.Function.{Function}
@@ -16,7 +15,7 @@ use Rattle.ir_tree.specs.Flow.{results_of}
 use Rattle.ir_tree.specs.Carrying.{insts_of, makes}
 use Rattle.ir_tree.proofs.Definers.{all_at, defined_at}
 use Rattle.undef_uses.specs.declared.carried.Carried.{Carried}
-use Rattle.undef_uses.specs.Counts.{AreCarried, HasResultsBelow, carried_from, carried_in, nothing}
+use Rattle.undef_uses.specs.Counts.{AreCarried, HasResultsBelow}
 
 -- ---- one instruction more
 
@@ -26,35 +25,7 @@ found_first p i rest yes' = ap (λ (b : Bool). cond b (Some i) (find p rest)) ye
 found_later : (p : Inst → Bool) (i : Inst) (rest : List Inst) → p i ≡ false → find p (i ∷ rest) ≡ find p rest
 found_later p i rest no' = ap (λ (b : Bool). cond b (Some i) (find p rest)) no'
 
-makes_only : (i : Inst) (name into : ℕ) → results_of i ≡ into ∷ [] → makes name i ≡ (into == name || false)
-makes_only i name into e = ap (λ (results : List ℕ). list_any (λ (result : ℕ). result == name) results) e
-
-makes_own : (i : Inst) (name into : ℕ) → results_of i ≡ into ∷ [] → into ≡ name → makes name i ≡ true
-makes_own i name into e same = makes_only i name into e ∙ ap (λ (b : Bool). b || false) (eq-eqb into name same)
-
-makes_other : (i : Inst) (name into : ℕ) → results_of i ≡ into ∷ [] → into ≢ name → makes name i ≡ false
-makes_other i name into e other = makes_only i name into e ∙ ap (λ (b : Bool). b || false) (ne_eqb into name other)
-
--- an instruction that makes a name comes before those that the table has
-pub table_more : (i : Inst) (into : ℕ) (old new : List Carried) → results_of i ≡ into ∷ [] → into < length old → new ≡ set old into (carried_in i) → (rest : List Inst) → AreCarried rest old → AreCarried (i ∷ rest) new
-table_more i into old new e below is rest before name within = by (cases_eq into name)
-  where
-    by : (into ≡ name) ⊎ (into ≢ name) → get_or new name nothing ≡ carried_from (find (makes name) (i ∷ rest))
-    by (inl same) =
-        rw (found_first (makes name) i rest (makes_own i name into e same), is, ← same) (get_or-set_same old into (carried_in i) nothing below)
-    by (inr other) =
-        let away : name ≢ into = λ back. other (sym back) in
-        rw (found_later (makes name) i rest (makes_other i name into e other), is, get_or-set_other old into name (carried_in i) nothing away) (before name (let long = ap length is in let kept = length-set old into (carried_in i) in omega (arith, within, long, kept)))
-
--- one that makes none
-pub table_same : (i : Inst) (table : List Carried) → results_of i ≡ [] → (rest : List Inst) → AreCarried rest table → AreCarried (i ∷ rest) table
-table_same i table e rest before name within =
-    rw (found_later (makes name) i rest (ap (λ (results : List ℕ). list_any (λ (result : ℕ). result == name) results) e)) (before name within)
-
 -- ---- the instructions of a block, from the last to the first
-
-pub insts_none : (insts rest : List Inst) (table : List Carried) → AreCarried rest table → AreCarried (drop (length insts) insts ++ rest) table
-insts_none insts rest table before = rw (drop-length insts) before
 
 pub insts_more : (insts rest : List Inst) (place next : ℕ) (i : Inst) (table : List Carried) → next ≡ place + 1 → place < length insts → i ≡ get_or insts place i → AreCarried (i ∷ (drop next insts ++ rest)) table → AreCarried (drop place insts ++ rest) table
 insts_more insts rest place next i table e below is there = rw (drop_more insts place i below, ← is, ← e) there
@@ -66,9 +37,6 @@ own_results names insts place i fit below is = fit place i (slice_get_read insts
 
 abbrev pub insts_in : List Block → List Inst
 insts_in blocks = flat_map (λ (b : Block). b.insts) blocks
-
-pub blocks_none : (f : Function) (table : List Carried) (names : ℕ) → table ≡ replicate names nothing → AreCarried (insts_in (drop (length f.blocks) f.blocks)) table
-blocks_none f table names is = λ name below. rw (drop-length f.blocks, is) (get_or-replicate names name nothing nothing (let long = ap length is in let many = length-replicate names nothing in omega (arith, below, long, many)))
 
 pub blocks_more : (blocks : List Block) (place next : ℕ) (b : Block) (table : List Carried) → next ≡ place + 1 → place < length blocks → b ≡ get_or blocks place b → AreCarried (b.insts ++ insts_in (drop next blocks)) table → AreCarried (insts_in (drop place blocks)) table
 blocks_more blocks place next b table e below is there = rw (drop_more blocks place b below, ← is, ← e) there

@@ -1,29 +1,13 @@
 -- The lists of users as they are made, name by name.
-use Rattle.std.proofs.Common.{◌≡◌, ◌⊎◌, ◌≢◌, ◌+◌, ◌<◌, ℕ, List, [], ◌∷◌, ◌++◌, length, get_or, set, replicate, slice_get, Some, inl, inr, refl, sym, ◌∙◌, ap, subst, arith, length-set, All, Contains}
+use Rattle.std.proofs.Common.{◌≡◌, ◌⊎◌, ◌≢◌, ◌+◌, ◌<◌, ℕ, List, [], ◌∷◌, ◌++◌, length, get_or, set, inl, inr, sym, ◌∙◌, ap, subst, arith, All, Contains}
 use Rattle.std.proofs.lemmas.Bool.{cases_eq}
-use Rattle.std.proofs.lemmas.List.{get_or-set_same, get_or-set_other, length-replicate}
-use Rattle.std.proofs.lemmas.List.Elements.{All-replicate, All-nil, All-set, All-push, All-get_or, Contains-append_left, Contains-push}
-use Rattle.std.proofs.lemmas.Option.{slice_get_within, get_or_from_slice_get}
-use Rattle.ir_tree.specs.declared.tree.Operand.{Operand}
+use Rattle.std.proofs.lemmas.List.{get_or-set_same, get_or-set_other}
+use Rattle.std.proofs.lemmas.List.Elements.{All-set, All-push, All-get_or, Contains-append_left, Contains-push}
+use Rattle.std.proofs.lemmas.Option.{get_or_from_slice_get}
 use Rattle.ir_tree.specs.declared.tree.Operand.TheVariants.{Local}
 use Rattle.undef_uses.specs.declared.carried.Carried.{Carried}
 use Rattle.undef_uses.specs.Counts.{carried_at}
 use Rattle.undef_uses.specs.Users.{AreBelow, AreUsers, HasUser, HasUsers, Mentions, users_at}
-
--- an operand that is no name of the lists adds nothing
-pub user_none : (users : List (List ℕ)) (o : Operand) (user : ℕ) → ((name : ℕ) → name < length users → o ≡ Local name → ⊥) → HasUser users users o user
-user_none users o user none = record {
-  long = refl;
-  kept = λ name other found. found;
-  added = λ name below is. absurd (none name below is);
-  below = λ most least all. all;
-}
-
-pub user_more : (users : List (List ℕ)) (name user : ℕ) (row row' : List ℕ) → slice_get users name ≡ Some row → row' ≡ row ++ user ∷ [] → HasUser users (set users name row') (Local name) user
-user_more users name user row row' read pushed = record { long = length-set users name row'; kept = λ n other found. kept n other (cases_eq n name) found; added = λ n below is. added n is; below = λ most least all. below most least all }
-  where
-    within : name < length users
-    within = slice_get_within users name row read
 
     at : get_or users name [] ≡ row
     at = get_or_from_slice_get users name row [] read
@@ -60,13 +44,6 @@ users_three a b c d carried user first second third = record {
     by name below (inl is) = third.kept name user (second.kept name user (first.added name below is))
     by name below (inr (inl is)) = third.kept name user (second.added name (let long = first.long in omega (arith, below, long)) is)
     by name below (inr (inr is)) = third.added name (let long = first.long in let longer = second.long in omega (arith, below, long, longer)) is
-
-pub users_start : (table : List Carried) (users : List (List ℕ)) → users ≡ replicate (length table) [] → AreUsers table 0 users
-users_start table users is = record {
-  long = ap length is ∙ length-replicate (length table) [];
-  below = subst (AreBelow (length table)) (sym is) (All-replicate (All (λ u. u < length table)) (length table) [] (All-nil (λ u. u < length table)));
-  each = λ user name below within m. absurd (omega (arith, below));
-}
 
 pub users_more : (table : List Carried) (n : ℕ) (carried : Carried) (old new : List (List ℕ)) → n < length table → carried_at table n ≡ carried → AreUsers table n old → HasUsers old new carried n → AreUsers table (n + 1) new
 users_more table n carried old new below is before has = record {

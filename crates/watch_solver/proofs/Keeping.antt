@@ -28,10 +28,6 @@ pub kept-later : (early trail trail' : List Entry) → ((l : Lit) → Stands tra
 kept-later early trail trail' more c p (inl t) = inl (t.0, t.1, more t.0 t.2)
 kept-later early trail trail' more c p (inr free) = inr free
 
--- where no more is false
-pub free-earlier : (early early' : List Entry) → ((l : Lit) → IsFalse early' l → IsFalse early l) → (c : List Lit) (p : Pair) → AreFree early c p → AreFree early' c p
-free-earlier early early' less c p free = record { pair = free.pair; first = λ f. free.first (less (lit_of p.first) f); second = λ f. free.second (less (lit_of p.second) f) }
-
 -- one of the two literals isn't false
 pub free-one : (early : List Entry) (c : List Lit) (p : Pair) (l : Lit) → AreFree early c p → IsOneOf p l → IsFalse early l → ⊥
 free-one early c p l free (inl e) f = free.first (subst (λ (k : Lit). IsFalse early k) (sym e) f)

@@ -73,15 +73,6 @@ list-room lists l i w at = go lists (index_of l) at
     go (x ∷ xs) zero e = omega arith
     go (x ∷ xs) (suc k) e = omega (arith, go xs k e)
 
-pub list-room_place : (lists : List (List Watch)) (l : Lit) (i : ℕ) → i < length (list_of lists l) → index_of l < length lists
-list-room_place lists l i lt = go lists (index_of l) lt
-  where
-    go : (ls : List (List Watch)) (k : ℕ) → i < length (get_or ls k []) → k < length ls
-    go [] zero e = absurd (omega arith)
-    go [] (suc k) e = absurd (omega arith)
-    go (x ∷ xs) zero e = omega arith
-    go (x ∷ xs) (suc k) e = omega (arith, go xs k e)
-
 -- watches of a clause
 pub has-push : (watches : List Watch) (w : Watch) (place n : ℕ) → HasFrom watches place n → HasFrom (watches ++ w ∷ []) place n
 has-push watches w place n h = record { index = h.index; watch = h.watch; late = h.late; at = get-kept watches w h.watch h.index h.at; same = h.same }

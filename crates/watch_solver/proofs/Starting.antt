@@ -1,5 +1,5 @@
 -- The first look keeps what holds before any decision.
-use Rattle.watch_solver.proofs.Common.{ℕ, ◌≡◌, ◌<◌, ◌≤◌, ◌+◌, ◌*◌, ◌++◌, inl, inr, List, [], ◌∷◌, Some, slice_get, get_or, take, length, arith, sym, ap, subst, refl, ◌∙◌, cases_eq, take_more, take_all, slice_get_within, get_or_from_slice_get, Has, clause_numbered, Lit, IsClause, opposite_of, Entry, AllFalse, IsFalse, Stands, IsFalseAt, IsUnitAt, AreInRange, standing, among-numbered, get-early, get-late, length-push, stands-left, stands-right, search-unit, unassigned-from, Code, Watch, Pair, index_of, lit_of, AreKept, AreLinked, IsPair, with_watch, IsStarted, IsUndecided}
+use Rattle.watch_solver.proofs.Common.{ℕ, ◌≡◌, ◌<◌, ◌≤◌, ◌+◌, ◌*◌, ◌++◌, inl, inr, List, [], ◌∷◌, Some, slice_get, get_or, take, length, arith, sym, ap, subst, refl, ◌∙◌, cases_eq, take_more, slice_get_within, get_or_from_slice_get, Has, clause_numbered, Lit, IsClause, opposite_of, Entry, AllFalse, IsFalse, Stands, IsFalseAt, IsUnitAt, AreInRange, standing, among-numbered, get-early, get-late, length-push, stands-left, stands-right, search-unit, unassigned-from, Code, Watch, Pair, index_of, lit_of, AreLinked, IsPair, with_watch, IsStarted, IsUndecided}
 use Rattle.watch_solver.proofs.Codes.{index-below}
 use Rattle.watch_solver.proofs.Linking.{linked-added, linked-empty, linked-none}
 use Rattle.watch_solver.proofs.Keeping.{kept-added, kept-later, numbered-get}
@@ -106,14 +106,6 @@ first-two a b rest c p clause is ea eb = record {
   second = rw (eb, is) (inr (inl refl));
   apart = λ e. let rises = subst (λ (d : List Lit). IsClause d) is clause in omega (arith, rises.1.0, ap (λ (l : Lit). l.variable) (sym ea ∙ (e ∙ eb)));
 }
-
-pub started-all : (n : ℕ) (clauses : List (List Lit)) (count : ℕ) (pairs : List Pair) (lists : List (List Watch)) (trail : List Entry) → count ≡ length clauses → IsStarted n clauses count pairs lists trail
-    → AreLinked n (standing clauses []) pairs lists × AreKept (standing clauses []) pairs [] trail
-started-all n clauses count pairs lists trail is started =
-    let whole : take count clauses ≡ standing clauses [] = take_all count clauses (omega (arith, is)) ∙ sym (standing-none clauses) in (
-      subst (λ (cs : List (List Lit)). AreLinked n cs pairs lists) whole started.linked,
-      subst (λ (cs : List (List Lit)). AreKept cs pairs [] trail) whole started.kept,
-    )
 
 -- the literals of a clause of one, and the first ones of a longer one
 pub only-of : (c ls : List Lit) (d : Lit) → ls ≡ c → 0 < length ls → length ls < 2 → c ≡ get_or ls 0 d ∷ []

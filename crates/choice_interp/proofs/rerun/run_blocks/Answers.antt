@@ -1,4 +1,4 @@
-use Rattle.choice_interp.proofs.Common.{◌≤◌, List, length, refl, sym, ap, subst, ◌∙◌, arith, Value, Block, run_turns, DoesKeepMemory}
+use Rattle.choice_interp.proofs.Common.{◌≤◌, List, length, refl, ap, subst, ◌∙◌, arith, Value, Block, run_turns, DoesKeepMemory}
 use Rattle.choice_interp.specs.declared.flow.Left.TheVariants as left
 use Rattle.choice_interp.proofs.Items.{block_in}
 use Rattle.choice_interp.proofs.Ways.{way_start, left_at, way_over, way_on, way_beyond, way_outside}

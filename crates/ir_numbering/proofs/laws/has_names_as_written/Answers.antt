@@ -1,6 +1,4 @@
-use Rattle.ir_numbering.proofs.Common.{numbered}
-use Rattle.ir_numbering.proofs.MentionPlaces.{places-written}
-use Rattle.ir_numbering.proofs.NumberedSites.{whole, numbered-places, named-count}
+use Rattle.ir_numbering.proofs.NumberedSites.{whole, numbered-places}
 use Rattle.ir_numbering.proofs.laws.has_names_as_written.Goals as goal
 
 pub returns : goal.returns

@@ -1,5 +1,5 @@
 use Rattle.ir_printer.proofs.Common.{◌++◌, ◌∙◌, ap, sym}
-use Rattle.ir_printer.proofs.Texts.{all_done, one_more, array_text, arrays-text}
+use Rattle.ir_printer.proofs.Texts.{all_done, array_text, arrays-text}
 use Rattle.ir_printer.proofs.accesses.push_arrays.Goals as goal
 
 pub returns : goal.returns

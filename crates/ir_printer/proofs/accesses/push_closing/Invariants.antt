@@ -1,4 +1,4 @@
-use Rattle.ir_printer.proofs.Common.{◌≡◌, drop, ◌++◌, ◌∷◌, flat_map, text_of}
+use Rattle.ir_printer.proofs.Common.{◌≡◌, drop, ◌++◌, ◌∷◌, flat_map}
 use Rattle.ir_printer.proofs.Texts.{closing_text}
 use Rattle.ir_printer.proofs.accesses.push_closing.Given as goal
 

@@ -1,4 +1,4 @@
-use Rattle.ir_printer.proofs.Common.{◌≡◌, ◌++◌, ◌∙◌, [], ap, sym, arith, unwrap_or, option_copied, Word, name_in, common_steps}
+use Rattle.ir_printer.proofs.Common.{◌≡◌, ◌++◌, ◌∙◌, [], ap, sym, arith, unwrap_or, Word, name_in, common_steps}
 use Rattle.std.proofs.lemmas.Option.{unwrap_or-slice_get}
 use Rattle.ir_naming.specs.Naming.{name_text}
 use Rattle.ir_printer.proofs.pieces.push_name_of.Goals as goal

@@ -1,4 +1,4 @@
-use Rattle.ir_reader.proofs.Common.{◌≡◌, ◌∙◌, ◌≤◌, length, Option, Some, None, sym, ap, slice_get, Lexeme, lexed, place_or_end}
+use Rattle.ir_reader.proofs.Common.{◌≡◌, ◌∙◌, ◌≤◌, length, Some, None, sym, ap, slice_get, lexed, place_or_end}
 use Rattle.ir_reader.proofs.Entries.{is-at, ok-and}
 use Rattle.ir_reader.proofs.reading.place_or_end.Goals as goal
 

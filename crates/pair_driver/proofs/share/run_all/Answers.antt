@@ -1,4 +1,4 @@
-use Rattle.std.proofs.Common.{◌≡◌, ◌<◌, ◌+◌, ◌*◌, ◌∙◌, sym, subst, length, arith}
+use Rattle.std.proofs.Common.{◌≡◌, ◌<◌, ◌+◌, ◌*◌, ◌∙◌, sym, length, arith}
 use Rattle.claim_board.specs.Seats.{hand_of, total_of}
 use Rattle.pair_driver.proofs.Merges.{each_answered, all_allowed}
 use Rattle.pair_driver.proofs.share.run_all.Goals as goal

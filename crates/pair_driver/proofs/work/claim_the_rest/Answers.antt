@@ -1,4 +1,4 @@
-use Rattle.std.proofs.Common.{◌<◌, ◌≤◌, arith}
+use Rattle.std.proofs.Common.{◌<◌, ◌≤◌}
 use Rattle.claim_board.specs.Seats.{hand_of}
 use Rattle.pair_driver.proofs.Drawings.{claiming-ends, claiming-has_room, claiming-more}
 use Rattle.pair_driver.proofs.work.claim_the_rest.Goals as goal

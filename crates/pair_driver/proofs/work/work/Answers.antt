@@ -1,8 +1,7 @@
 use Rattle.std.proofs.Common.{◌<◌, ◌≤◌, arith}
-use Rattle.claim_board.specs.Seats.{hand_of}
 use Rattle.pair_driver.specs.Draws.{IsAllowedAt}
 use Rattle.pair_driver.specs.declared.place.Answer.{Answer}
-use Rattle.pair_driver.proofs.Drawings.{claiming-ends, claiming-has_room, claiming-more, drawing-begins, drawing-ends, drawing-more, few_answers}
+use Rattle.pair_driver.proofs.Drawings.{claiming-has_room, drawing-ends, drawing-more}
 use Rattle.pair_driver.proofs.work.work.Goals as goal
 
 pub claim-number-requires-clause-allowance : goal.claim-number-requires-clause-allowance

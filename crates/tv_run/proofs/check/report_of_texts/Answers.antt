@@ -1,4 +1,4 @@
-use Rattle.tv_run.proofs.Common.{◌≡◌, rules, arith, subst, Ok, common_steps, IsParsed, Parses}
+use Rattle.tv_run.proofs.Common.{◌≡◌, rules, subst, Ok, IsParsed, Parses}
 use Rattle.tv_run.proofs.check.report_of_texts.Goals as goal
 
 pub returns-clause-reports : goal.returns-clause-reports

@@ -1,6 +1,5 @@
-use Rattle.std.proofs.Common.{◌≡◌, ℕ, ◌<◌, length, get_or, eqb, true, false, arith, refl}
+use Rattle.std.proofs.Common.{◌≡◌, ℕ, ◌<◌, get_or, eqb, true, false, arith, refl}
 use Rattle.std.proofs.lemmas.Bool.{eq-eqb, ne_eqb}
-use Rattle.text_places.specs.declared.place.Place.{Place}
 use Rattle.text_places.proofs.Moves.{one_more}
 use Rattle.text_places.proofs.place.Place.behind.Goals as goal
 use Rattle.text_places.proofs.place.Place.behind.Goals.{then-byte-eq10, else-byte-eq10}
