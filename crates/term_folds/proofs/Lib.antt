@@ -1,4 +1,3 @@
-pub mod Cuts
 pub mod Weights
 pub mod Values
 pub mod Substitutes

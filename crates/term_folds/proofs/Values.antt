@@ -12,7 +12,7 @@ use Rattle.bv_terms.proofs.Stages.{width-tree, width-within}
 use Rattle.bv_terms.proofs.Zips.{AllZip-at}
 use Rattle.term_folds.specs.declared.evaluate.Assigned.{Assigned}
 use Rattle.term_folds.specs.Evaluation.{AreSmall, IsValue, applied, assigned_by, number_at}
-use Rattle.term_folds.proofs.Cuts.{pow-le}
+use Rattle.known_values.proofs.Cuts.{pow-le}
 
 module _ (values : List Assigned) (trees : List Tree) (done : List ℕ) (stood : AllZip (IsValue values) trees done) where
   at : (a : TermId) → a.index < length trees → IsValue values (tree_at trees a) (number_at done a)

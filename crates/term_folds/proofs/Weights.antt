@@ -9,7 +9,7 @@ use Rattle.bv_terms.specs.Tree as tree
 use Rattle.bv_terms.specs.Tree.{Tree}
 use Rattle.bv_terms.specs.Trees.{IsFit, tree_at, tree_of}
 use Rattle.bv_terms.proofs.Zips.{AllZip-at}
-use Rattle.term_folds.specs.Weight.{IsWeight, held, weighed, weight_at, weight_of}
+use Rattle.known_values.specs.Weight.{IsWeight, held, weighed, weight_at, weight_of}
 
 min_one : (m x : ℕ) → min (1 + min x m) m ≡ min (1 + x) m
 min_one m x = omega arith

@@ -1,5 +1,4 @@
 pub mod Evaluation
-pub mod Weight
 pub mod Kept
 pub mod Substitution
 pub mod Over

@@ -6,8 +6,8 @@ ghost use Rattle.bv_terms.specs.Trees.{IsWithin};
 ghost use Rattle.term_folds.specs.Evaluation.{AreSmall, IsValue, applied, assigned_by};
 ghost use Rattle.term_folds.specs.Kept.{stands_kept};
 
-use crate::numbers::{binary, choice, cut, extended, inverse, joined, part};
 use bv_terms::{Term, TermFold};
+use known_values::numbers::{binary, choice, cut, extended, inverse, joined, part};
 use std::convert::Infallible;
 use support::Sequence;
 

@@ -3,12 +3,11 @@
 //! Each is only its step at one term; `bv_terms` has the fold and its proof. They promise that
 //! [`Evaluate`] gives the value of each term, [`Substitute`] a term of another store with the value
 //! under the substituted assignment, and [`Weigh`] the number of nodes of the written-out tree,
-//! capped at the greatest number of 64 bits. [`Print`] writes a term for a reader. The operations
-//! on known numbers are [`numbers`]' functions. It uses `bv_terms`.
+//! capped at the greatest number of 64 bits. [`Print`] writes a term for a reader. It uses
+//! `bv_terms`, and `known_values` for operations on numbers.
 #![tactic(auto)]
 
 mod evaluate;
-pub mod numbers;
 mod print;
 mod substitute;
 mod weigh;

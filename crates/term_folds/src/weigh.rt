@@ -2,7 +2,7 @@
 
 ghost use Rattle.std.specs.Prelude.{◌≡◌, ◌+◌, ◌-◌, ◌^◌, IfOk, List, length, min};
 ghost use Rattle.bv_terms.specs.Trees.{IsWithin};
-ghost use Rattle.term_folds.specs.Weight.{IsWeight, weighed};
+ghost use Rattle.known_values.specs.Weight.{IsWeight, weighed};
 
 use bv_terms::{Term, TermFold};
 use std::convert::Infallible;

@@ -13,8 +13,8 @@ pub use Rattle.bv_terms.specs.Trees.{AreInRange, term_at, tree_in, Makes, AreFit
 unfoldable pub use Rattle.bv_terms.specs.Trees.{trees_of}
 pub use Rattle.bv_terms.specs.declared.term.Term.{Term}
 pub use Rattle.bv_terms.specs.declared.term.TermId.{TermId}
-pub use Rattle.term_folds.proofs.Cuts.{pow-le}
-pub use Rattle.term_folds.specs.Weight.{weight_of}
+pub use Rattle.known_values.proofs.Cuts.{pow-le}
+pub use Rattle.known_values.specs.Weight.{weight_of}
 pub use Rattle.term_rules.specs.Forms.{IsAndPart, IsOrPart, Simplifies, IsCofactor, IsFactored, IsPart, IsRest, IsMultiple, IsShrunk, IsTaken, form_tree, IsLow, IsNarrowing, IsOperation, operated}
 pub use Rattle.term_rules.specs.declared.form.Form.{Form}
 pub use Rattle.term_rules.specs.declared.form.Form.TheVariants.{Known, Shifted, Built}

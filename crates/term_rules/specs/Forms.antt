@@ -6,7 +6,7 @@ use Rattle.bv_terms.specs.declared.term.Term.{Term}
 use Rattle.bv_terms.specs.Tree as tree
 use Rattle.bv_terms.specs.Tree.{Tree, quotient, value_of, width_of}
 use Rattle.bv_terms.specs.Trees.{AreMatched, IsNoVariable, IsTerm, IsWidth, IsWithin, term_at, tree_in, tree_of, trees_of}
-use Rattle.term_folds.specs.Weight.{weight_of}
+use Rattle.known_values.specs.Weight.{weight_of}
 use Rattle.term_rules.specs.declared.factors.Factors.{Factors}
 use Rattle.term_rules.specs.declared.form.Form.{Form}
 use Rattle.term_rules.specs.declared.form.Form.TheVariants.{Built, Known, Raised, Shifted}

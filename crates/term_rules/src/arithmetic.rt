@@ -11,7 +11,7 @@ use crate::form::Form;
 use crate::multiples::dividend;
 use crate::reading::{are_in_order, number, term};
 use bv_terms::{BinaryOp, Term, TermId, Terms};
-use term_folds::numbers;
+use known_values::numbers;
 
 /// The sum with a number that may be 0.
 fn plus(terms: &Terms, a: TermId, by: u128, width: u32) -> Form

@@ -12,7 +12,7 @@ use crate::complements::{are_apart, are_whole, left_of_and, left_of_or};
 use crate::form::Form;
 use crate::reading::{are_in_order, number, term};
 use bv_terms::{BinaryOp, Term, TermId, Terms};
-use term_folds::numbers::ones;
+use known_values::numbers::ones;
 
 /// Each bit inverted: a second inversion undoes the first.
 pub fn inverse(terms: &Terms, a: TermId) -> Form

@@ -6,7 +6,7 @@ ghost use Rattle.bv_terms.specs.Trees.{term_at, tree_in};
 
 use crate::reading::{number, term};
 use bv_terms::{BinaryOp, Term, TermId, Terms};
-use term_folds::numbers::ones;
+use known_values::numbers::ones;
 
 /// How many bits the number surely fits: those that it had before it was widened.
 fn bits_before(terms: &Terms, a: TermId) -> u32

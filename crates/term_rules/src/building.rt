@@ -3,14 +3,14 @@
 ghost use Rattle.std.specs.Prelude.{◌≡◌, ◌<◌, ◌≤◌, ◌+◌, ◌%◌, ◌^◌, ℕ, IfOk, IfSome, length};
 ghost use Rattle.bv_terms.specs.Tree.{shifted_left, value_of, width_of};
 ghost use Rattle.bv_terms.specs.Trees.{Keeps, Makes, term_at, tree_in, tree_of, trees_of};
-ghost use Rattle.term_folds.specs.Weight.{weight_of};
+ghost use Rattle.known_values.specs.Weight.{weight_of};
 ghost use Rattle.term_rules.specs.Forms.{IsApplied, IsForm, AreOperands, form_tree};
 
 use crate::form::Form;
 use crate::reading::{number, numbers};
 use bv_terms::{BinaryOp, Term, TermId, Terms};
+use known_values::numbers::{binary, choice, extended, inverse, joined, part};
 use support::NoMemory;
-use term_folds::numbers::{binary, choice, extended, inverse, joined, part};
 
 /// The value of an operation over constants.
 fn folded(terms: &Terms, term: &Term) -> Option<u128>

@@ -6,7 +6,7 @@
 //! operations, one over the other (`factors`, `low_bits`, `shrinking`), it finds their operands
 //! first and makes both by rules. The rules are those that solvers of bit vectors rewrite by
 //! (Bitwuzla, CAV 2023; Z3's rewriter; LLVM's InstCombine). It uses
-//! `bv_terms`, and `term_folds` for operations on known numbers and for weights; the encoding of
+//! `bv_terms`, and `known_values` for operations on known numbers and for weights; the encoding of
 //! runs uses it.
 #![tactic(auto)]
 

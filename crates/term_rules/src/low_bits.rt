@@ -8,7 +8,7 @@
 ghost use Rattle.std.specs.Prelude.{◌≡◌, ◌<◌, ◌≤◌, ◌+◌, ◌%◌, ◌^◌, ℕ, IfOk, IfSome, length};
 ghost use Rattle.bv_terms.specs.Tree.{width_of};
 ghost use Rattle.bv_terms.specs.Trees.{Keeps, Makes, term_at, tree_in};
-ghost use Rattle.term_folds.specs.Weight.{weight_of};
+ghost use Rattle.known_values.specs.Weight.{weight_of};
 ghost use Rattle.term_rules.specs.Forms.{IsLow, IsNarrowing, IsOperation, Simplifies, operated, operation_tree};
 
 use crate::building::build;
@@ -17,8 +17,8 @@ use crate::reading::term;
 use crate::widths::{part, widened, widened_signed};
 use crate::{arithmetic, bitwise};
 use bv_terms::{BinaryOp, Term, TermId, Terms};
+use known_values::numbers::cut;
 use support::NoMemory;
-use term_folds::numbers::cut;
 
 /// An operation whose low bits come from only its operands' low bits.
 #[derive(Clone, Copy)]

@@ -3,7 +3,7 @@
 ghost use Rattle.std.specs.Prelude.{◌≡◌, ◌<◌, ◌≤◌, ◌+◌, ◌-◌, ◌^◌, ℕ, IfOk, IfSome, length, nat_lt, nat_eq};
 ghost use Rattle.bv_terms.specs.Tree.{digit, quotient, remainder, value_of, width_of};
 ghost use Rattle.bv_terms.specs.Trees.{Keeps, Makes, term_at, tree_in};
-ghost use Rattle.term_folds.specs.Weight.{weight_of};
+ghost use Rattle.known_values.specs.Weight.{weight_of};
 ghost use Rattle.term_rules.specs.Forms.{IsPair, IsShrunk, IsTaken, IsWidened, form_tree};
 
 use crate::building::build;
@@ -12,8 +12,8 @@ use crate::reading::{number, term};
 use crate::widths::widened;
 use crate::{bitwise, comparisons, divisions};
 use bv_terms::{Term, TermId, Terms};
+use known_values::numbers::ones;
 use support::NoMemory;
-use term_folds::numbers::ones;
 
 /// Two numbers at the width that the first had before it was widened.
 #[derive(Clone, Copy)]

@@ -1,6 +1,6 @@
 use Rattle.std.proofs.Common.{◌+◌, ◌-◌, ◌%◌, ◌^◌, ◌∙◌, ap}
-use Rattle.term_folds.proofs.Cuts.{difference-cut}
-use Rattle.term_folds.proofs.numbers.difference.Goals as goal
+use Rattle.known_values.proofs.Cuts.{difference-cut}
+use Rattle.known_values.proofs.numbers.difference.Goals as goal
 
 pub returns : goal.returns
 returns c = c.sum-2.ensures ∙ (ap (λ x. (x + 1) % 2 ^ c.args.width) (c.sum.ensures ∙ ap (λ x. (c.args.a + (x - c.args.b)) % 2 ^ c.args.width) c.ones.ensures)
