@@ -1,5 +1,5 @@
 -- The memory that a store leaves.
-use Rattle.access_terms.proofs.Common.{cases_Bool, append-nil, ℕ, zero, suc, ◌≡◌, ◌<◌, ◌≤◌, ◌+◌, Bool, true, false, not, ◌&&◌, cond, List, [], ◌∷◌, ◌++◌, length, take, drop, get_or, slice_get, slice_set, map, Some, Result, Ok, Err, OnOk, inl, inr, refl, ap, sym, ◌∙◌, arith, add-one, append_assoc, BlockName, Byte, MemoryBlock, Value, Access, access_size, value_bytes, names, block_named, admits, after_store, first_changed, overwritten, store_result, TermId, Term, Keeps, IsTerm, bit_at, term_at, SymBlock, SymByte, SymValue, Each, IsSymValue, Reading, value_at, value_of, AreSymBlocks, AreSymBytes, IsSymBlock, block_at, byte_at, memory_at, places_at, map-length, keeps_trans, bit-later, term-later, block-later, memory-later, places-later, value-later, Span, stored_at, IsSpan, admits_span, block_of_span, is_named_by, span_name}
+use Rattle.access_terms.proofs.Common.{cases_Bool, append-nil, ℕ, zero, suc, ◌≡◌, ◌<◌, ◌≤◌, ◌+◌, Bool, true, false, not, ◌&&◌, cond, List, [], ◌∷◌, ◌++◌, length, take, drop, get_or, slice_get, slice_set, map, Some, Result, Ok, Err, OnOk, inl, inr, refl, ap, sym, ◌∙◌, arith, add-one, append_assoc, BlockName, Byte, MemoryBlock, Value, Access, access_size, value_bytes, names, block_named, admits, after_store, first_changed, overwritten, store_result, TermId, Term, Keeps, IsTerm, bit_at, term_at, SymBlock, SymByte, SymValue, Each, IsSymValue, Reading, value_at, value_of, AreSymBlocks, AreSymBytes, IsSymBlock, block_at, byte_at, memory_at, places_at, map-length, keeps_trans, bit-later, term-later, block-later, memory-later, places-later, value-later, Span, stored_at, IsSpan, admits_span, block_of_span, is_named_by, span_name, not-true}
 use Rattle.byte_block.specs.declared.value.BlockName.TheVariants.{Null}
 use Rattle.memory_access.specs.declared.access_types.Stored.TheVariants as stored
 use Rattle.memory_access.proofs.Values.{length-value_bytes}
@@ -44,10 +44,6 @@ and-left false b e = e
 pub and-right : (a b : Bool) → (a && b) ≡ true → b ≡ true
 and-right true b e = e
 and-right false b e = absurd (cc)
-
-not-true : (b : Bool) → not b ≡ true → b ≡ false
-not-true true e = sym e
-not-true false e = refl
 
 pub each-take : {A : Type 0} (P : A → Type 0) (xs : List A) (i : ℕ) → Each P xs → Each P (take i xs)
 each-take P xs zero h = tt

@@ -1,12 +1,12 @@
 -- Numbers as bytes, and bytes as numbers.
-use Rattle.byte_terms.proofs.Common.{ℕ, zero, suc, ◌≡◌, ◌<◌, ◌≤◌, ◌+◌, ◌-◌, ◌*◌, ◌/◌, ◌%◌, ◌^◌, Bool, true, false, cond, not, ◌&&◌, ◌||◌, nat_eq, nat_lt, List, [], ◌∷◌, ◌++◌, length, take, drop, replicate, get_or, Option, Some, None, refl, ap, sym, subst, ◌∙◌, inl, inr, arith, eqb-true, slice_get, is_some, option_map, cases_Bool, eq-eqb, lt-ltb, ltb-true, ne_eqb, at_drop_all, at_drop_more, replicate_more, take_all, take_more, BlockName, Ptr, Byte, Num, Poison, Int, number_bytes, number_of_bytes, number_or_poison, value_bytes, value_of_bytes, number_bytes-get, TermId, Term, width_of, AreInRange, IsTerm, Keeps, Makes, Tests, bit_at, term_at, tree_in, SymByte, SymValue, IsSymValue, Reading, number_at, value_at, value_from, value_of, AreSymBytes, IsSymByte, byte_at, byte_of, places_at, each-at, map-push, bit-later, keeps_trans, places-later, term-later}
+use Rattle.byte_terms.proofs.Common.{ℕ, zero, suc, ◌≡◌, ◌<◌, ◌≤◌, ◌+◌, ◌-◌, ◌*◌, ◌/◌, ◌%◌, ◌^◌, Bool, true, false, cond, not, ◌&&◌, ◌||◌, nat_eq, nat_lt, List, [], ◌∷◌, ◌++◌, length, take, drop, replicate, get_or, Option, Some, None, refl, ap, sym, subst, ◌∙◌, inl, inr, arith, eqb-true, slice_get, is_some, option_map, cases_Bool, eq-eqb, lt-ltb, ltb-true, ne_eqb, at_drop_all, at_drop_more, replicate_more, take_all, take_more, BlockName, Ptr, Byte, Num, Poison, Int, number_bytes, number_of_bytes, number_or_poison, value_bytes, value_of_bytes, number_bytes-get, TermId, Term, width_of, AreInRange, IsTerm, Keeps, Makes, Tests, bit_at, term_at, tree_in, SymByte, SymValue, IsSymValue, Reading, number_at, value_at, value_from, value_of, AreSymBytes, IsSymByte, byte_at, byte_of, places_at, each-at, map-push, bit-later, keeps_trans, places-later, term-later, both_ways, same_Some}
 use Rattle.std.proofs.lemmas.Nat.{pow-add, pow_pos}
 use Rattle.std.proofs.lemmas.Option.{get_or_from_slice_get, slice_get_within}
 use Rattle.std.proofs.Math.Nat.{div-lt_iff_lt-mul, mul_assoc, mul-add, mul_comm}
 use Rattle.tv_num.specs.declared.Width.{Width}
 use Rattle.mem_terms.proofs.Bits.{term-below}
 use Rattle.mem_terms.proofs.Made.{small_mod}
-use Rattle.byte_terms.proofs.Bools.{and-thrice, and-yes, both_ways}
+use Rattle.byte_terms.proofs.Bools.{and-thrice, and-yes}
 
 -- ---- one list where a condition is true, and the same number of poison bytes where it is not
 
@@ -122,12 +122,9 @@ pub record Left (bytes : List Byte) (a low i : ℕ) : Type 0 where
   pub is : number_of_bytes bytes ≡ Some high
   pub sum : a ≡ low + 2 ^ (8 * i) * high
 
-some_is : {A : Type 0} (x y : A) → Some x ≡ Some y → x ≡ y
-some_is x y e = cc
-
 mapped-some : (f : ℕ → ℕ) (o : Option ℕ) (a : ℕ) → option_map f o ≡ Some a → (x : ℕ) × (o ≡ Some x) × (f x ≡ a)
 mapped-some f None a e = absurd (cc)
-mapped-some f (Some x) a e = (x, refl, some_is (f x) a e)
+mapped-some f (Some x) a e = (x, refl, same_Some (f x) a e)
 
 none_isn't : (a : ℕ) {P : Type 0} → None ≡ Some a → P
 none_isn't a e = absurd (cc)
@@ -183,7 +180,7 @@ pub joined_all : (r : Reading) (old : List Term) (bytes : List SymByte) (i n low
 unfolding number_of_bytes
 joined_all r old bytes i n low past left =
     let none : Some 0 ≡ Some left.high = sym (at_drop_all (λ bs. number_of_bytes (places_at r old bs)) bytes i past) ∙ left.is in
-    let e : 0 ≡ left.high = some_is 0 left.high none in
+    let e : 0 ≡ left.high = same_Some 0 left.high none in
     let none_left : 2 ^ (8 * i) * 0 ≡ 0 = omega arith in
     let zero' : 2 ^ (8 * i) * left.high ≡ 0 = ap (λ x. 2 ^ (8 * i) * x) (sym e) ∙ none_left in
     let sum = left.sum in

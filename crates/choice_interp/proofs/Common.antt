@@ -1,7 +1,7 @@
 -- What proofs of this crate cite of std, of other crates and of its definitions, passed on from one place. Declares nothing.
 pub use Rattle.std.proofs.Common.{◌≡◌, ℕ, ◌+◌, ◌%◌, ◌^◌, ◌<◌, ◌≤◌, List, [], ◌∷◌, length, drop, get_or, refl, arith, nat_le, if◌then◌else◌, Bool, true, false, inl, inr, zero, suc, map, Option, Some, None, sym, ap, subst, ◌∙◌, ◌&&◌, eq-eqb, ◌≢◌, ◌-◌, ◌||◌, ◌++◌, take, replicate, rules, bit_and, ◌*◌}
 pub use Rattle.std.proofs.Math.Nat.{mod-eq_of_lt, mod-mod, zero-mod}
-pub use Rattle.std.proofs.lemmas.Bool.{lt-ltb, le-ltb, cases_lt, le-leb}
+pub use Rattle.std.proofs.lemmas.Bool.{lt-ltb, le-ltb, cases_lt, le-leb, or_parts}
 pub use Rattle.std.specs.List.{filter, list_any}
 pub use Rattle.std.specs.Prelude.{slice_get, All}
 pub use Rattle.byte_block.specs.declared.block.MemoryBlock.{MemoryBlock}

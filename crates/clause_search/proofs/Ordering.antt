@@ -1,5 +1,5 @@
 -- The literals of a learned clause, once they are sorted, are the clause.
-use Rattle.clause_search.proofs.Common.{ℕ, zero, suc, ◌≡◌, ◌<◌, ◌+◌, inl, inr, false, List, [], ◌∷◌, ◌++◌, length, map, take, drop, get_or, slice_get, slice_index, eqb, Some, refl, ap, sym, subst, ◌∙◌, arith, IsDistinct, AllByRecursion, Contains, refill, cases_Bool, eqb-true, eqb-false, get_or-map, take_more, get_or_from_slice_get, Contains-permutation, IsPermutation-map, IsPermutation-sym, Lit, RisesFrom, opposite_of, Has, rises-has, same_members, Entry, AreApart, IsSingle, IsSpread, opposites_at}
+use Rattle.clause_search.proofs.Common.{ℕ, zero, suc, ◌≡◌, ◌<◌, ◌+◌, inl, inr, false, List, [], ◌∷◌, ◌++◌, length, map, take, drop, get_or, slice_get, slice_index, eqb, Some, refl, ap, sym, subst, ◌∙◌, arith, IsDistinct, AllByRecursion, Contains, refill, cases_Bool, eqb-true, eqb-false, get_or-map, take_more, get_or_from_slice_get, Contains-permutation, IsPermutation-map, IsPermutation-sym, Lit, RisesFrom, opposite_of, Has, rises-has, same_members, Entry, AreApart, IsSingle, IsSpread, opposites_at, ne_eqb}
 use Rattle.std.specs.List.Sorted.{IsNonDecreasing, IsNonDecreasingBy, IsPermutation, IsStrictlyIncreasing}
 use Rattle.std.proofs.lemmas.Map.Keys.{IsDistinct-IsPermutation, IsStrictlyIncreasing-from_distinct}
 use Rattle.clause_search.proofs.Walking.{entry-inside}
@@ -97,9 +97,6 @@ same-flipped x y = elim (cases_Bool (eqb x y)) [
   ]
 ]
 
-apart : (x y : ℕ) → (x ≡ y → ⊥) → eqb x y ≡ false
-apart x y other = elim (cases_Bool (eqb x y)) [ inl t ↦ absurd (other (eqb-true x y t)) | inr f ↦ f ]
-
 -- ---- the clause
 
 module _ (trail : List Entry) (k : Lit) where
@@ -114,7 +111,7 @@ module _ (trail : List Entry) (k : Lit) where
       → AllByRecursion (λ (y : ℕ). eqb (at_place p).variable y ≡ false) (variables (map at_place ps))
   apart-places single p lt [] absent within = tt
   apart-places single p lt (q ∷ qs) absent within = (
-    apart (at_place p).variable (at_place q).variable (λ e. differ e (entry-inside trail p lt) (entry-inside trail q (within q (inl refl)))),
+    ne_eqb (at_place p).variable (at_place q).variable (λ e. differ e (entry-inside trail p lt) (entry-inside trail q (within q (inl refl)))),
     apart-places single p lt qs (λ h. absent (inr h)) (λ r h. within r (inr h)),
   )
     where
@@ -134,7 +131,7 @@ module _ (trail : List Entry) (k : Lit) where
       → ((q : ℕ) → Has ps q → q < length trail) → AllByRecursion (λ (y : ℕ). eqb k.variable y ≡ false) (variables (map at_place ps))
   apart-first [] other within = tt
   apart-first (q ∷ qs) other within = (
-    apart k.variable (at_place q).variable (λ e. differ e (entry-inside trail q (within q (inl refl)))),
+    ne_eqb k.variable (at_place q).variable (λ e. differ e (entry-inside trail q (within q (inl refl)))),
     apart-first qs (λ p e h. other p e (inr h)) (λ r h. within r (inr h)),
   )
     where
@@ -146,7 +143,7 @@ module _ (trail : List Entry) (k : Lit) where
   module _ (places : List ℕ) (c : List Lit) (spread : IsSpread trail k places c) where
     distinct-all : IsDistinct eqb (variables (opposites_at trail k places))
     unfolding IsDistinct
-    distinct-all = (apart-first places spread.other spread.within, distinct-places spread.single places spread.apart spread.within)
+    distinct-all = (apart-first places spread.other spread.within, distinct-places spread.single places spread.ne_eqb spread.within)
 
     sorted-clause : (ys : List Lit) → IsPermutation (opposites_at trail k places) ys → IsNonDecreasingBy (λ (l : Lit). l.variable) ys → ys ≡ c
     sorted-clause ys moved sorted =

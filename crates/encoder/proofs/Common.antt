@@ -1,5 +1,6 @@
 -- What proofs of this crate cite of std, of other crates and of its definitions, passed on from one place. Declares nothing.
 pub use Rattle.std.proofs.Common.{ℕ, zero, suc, ◌≡◌, ◌<◌, ◌≤◌, ◌+◌, Bool, true, false, not, ◌&&◌, ◌||◌, if◌then◌else◌, List, [], ◌∷◌, ◌++◌, length, drop, replicate, get_or, nat_eq, nat_lt, Option, Some, None, IfSome, inl, inr, refl, ap, sym, subst, ◌∙◌, arith, rules, ◌-◌, take, map}
+pub use Rattle.std.proofs.lemmas.Bool.{or_right}
 pub use Rattle.std.proofs.lemmas.List.{drop_more, drop_all, length-set, length-replicate}
 pub use Rattle.std.proofs.lemmas.Option.{slice_get_read, slice_get_within}
 pub use Rattle.bv_terms.specs.Trees.{Keeps, Tests, IsTerm, bit_at, term_at}

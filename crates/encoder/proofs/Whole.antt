@@ -1,5 +1,5 @@
 -- A run from its beginning to its end.
-use Rattle.encoder.proofs.Common.{ℕ, zero, suc, ◌≡◌, ◌<◌, ◌≤◌, ◌+◌, Bool, true, false, not, ◌&&◌, ◌||◌, if◌then◌else◌, List, [], ◌∷◌, ◌++◌, length, drop, replicate, get_or, nat_eq, nat_lt, Option, Some, None, IfSome, inl, inr, refl, ap, sym, subst, ◌∙◌, arith, drop_more, drop_all, Machine, Run, breaks_noundef, ended, first_machine, run_of, Where, At, Done, along, copies_of, run_at_end, run_layers, walk, Keeps, Tests, IsTerm, bit_at, term_at, Each, IsNaming, Reading, reading, AreWords, args_at, input_at, words_at, each-at, map-at, map-length, keeps_trans, bit-later, term-later, RunState, Scene, Sees, IsState, MatchesState, StateShape, fits_from, shape_of, sight, zeros_past, IsEnding, EndedSo, AreStates, HaveShape, IsUnreached, MatchesFrontier, Simulates, first_place, placed, each-replicate, sees-later, matches_state-later, ending_at-later, placed_end, walk_over}
+use Rattle.encoder.proofs.Common.{ℕ, zero, suc, ◌≡◌, ◌<◌, ◌≤◌, ◌+◌, Bool, true, false, not, ◌&&◌, ◌||◌, if◌then◌else◌, List, [], ◌∷◌, ◌++◌, length, drop, replicate, get_or, nat_eq, nat_lt, Option, Some, None, IfSome, inl, inr, refl, ap, sym, subst, ◌∙◌, arith, drop_more, drop_all, Machine, Run, breaks_noundef, ended, first_machine, run_of, Where, At, Done, along, copies_of, run_at_end, run_layers, walk, Keeps, Tests, IsTerm, bit_at, term_at, Each, IsNaming, Reading, reading, AreWords, args_at, input_at, words_at, each-at, map-at, map-length, keeps_trans, bit-later, term-later, RunState, Scene, Sees, IsState, MatchesState, StateShape, fits_from, shape_of, sight, zeros_past, IsEnding, EndedSo, AreStates, HaveShape, IsUnreached, MatchesFrontier, Simulates, first_place, placed, each-replicate, sees-later, matches_state-later, ending_at-later, placed_end, walk_over, or_right}
 use Rattle.std.specs.Prelude.{slice_index}
 use Rattle.std.proofs.Math.Bool.{and-true, and_assoc}
 use Rattle.std.proofs.lemmas.Bool.{cases_Bool, cases_lt, eqb-true, eq-eqb}
@@ -54,10 +54,6 @@ zeros-at read j (w ∷ ws) h zero far =
     let t = and_left (nat_lt j read || nat_eq w 0) (zeros_past read (j + 1) ws) h in
     grind (arith, nat_tests)
 zeros-at read j (w ∷ ws) h (suc k) far = zeros-at read (j + 1) ws (and_right (nat_lt j read || nat_eq w 0) (zeros_past read (j + 1) ws) h) k (omega arith)
-
-or_right : (a b : Bool) → b ≡ true → (a || b) ≡ true
-or_right true b h = refl
-or_right false b h = h
 
 at-zeros : (read j : ℕ) (ws : List ℕ) → ((k : ℕ) → read ≤ j + k → slice_index ws k ≡ 0) → zeros_past read j ws ≡ true
 at-zeros read j [] h = refl

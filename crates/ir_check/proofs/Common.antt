@@ -1,6 +1,6 @@
 -- What proofs of this crate cite of std, of other crates and of its definitions, passed on from one place. Declares nothing.
-pub use Rattle.std.proofs.Common.{◌≡◌, ◌↔◌, IsTrue, true, false, ℕ, ◌<◌, ◌⊎◌, List, Option, Some, None, length, inl, inr, refl, arith, [], ◌∷◌, ◌++◌, take, ◌+◌, get_or, set, slice_get, replicate, ap, sym, subst, ◌∙◌, length-set, All, Contains, ◌≤◌, ◌%◌, ◌^◌, ◌==◌, Bool, drop, take-append-drop, map, Any, suc, rules}
-pub use Rattle.std.proofs.lemmas.Bool.{cases_eq, cases_lt, both_ways}
+pub use Rattle.std.proofs.Common.{◌≡◌, ◌↔◌, IsTrue, true, false, ℕ, ◌<◌, ◌⊎◌, List, Option, Some, None, length, inl, inr, refl, arith, [], ◌∷◌, ◌++◌, take, ◌+◌, get_or, set, slice_get, replicate, ap, sym, subst, ◌∙◌, length-set, All, Contains, ◌≤◌, ◌%◌, ◌^◌, ◌==◌, drop, take-append-drop, map, Any, suc, rules}
+pub use Rattle.std.proofs.lemmas.Bool.{cases_eq, cases_lt, both_ways, true_from_ne_false}
 pub use Rattle.std.proofs.lemmas.Bool.Decides.{nat_tests}
 pub use Rattle.std.proofs.lemmas.List.{take_more, get_or_default, get_or-set_same, get_or-set_other, get_or-replicate, length-replicate, get_or_past, length-map, map-set, take_all, replicate_more}
 pub use Rattle.std.proofs.lemmas.List.Elements.{Contains-append_left, Contains-get_or, Contains-push, Contains-push_cases}

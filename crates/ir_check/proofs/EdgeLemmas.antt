@@ -1,5 +1,5 @@
 -- What the marks say once the entries of a phi were walked.
-use Rattle.ir_check.proofs.Common.{◌≡◌, ◌↔◌, ◌⊎◌, inl, inr, ℕ, ◌+◌, ◌<◌, ◌≤◌, ◌%◌, ◌^◌, ◌==◌, Bool, true, false, List, [], ◌∷◌, ◌++◌, length, get_or, take, drop, take-append-drop, map, set, replicate, refl, ap, sym, subst, ◌∙◌, arith, Any, Contains, list_any, cases_eq, cases_lt, both_ways, nat_tests, take_more, get_or-set_same, get_or-set_other, get_or-replicate, get_or_past, length-replicate, Contains-append_left, Contains-push, Contains-push_cases, slice_get_read, slice_get_within, get_or_from_slice_get, IrType, Phi, is_same_operand, HasTwoOperands, made_of, makes, Mark, Stranger, Awaited, Given, IsUnfit, IsUnfitEntry, HasUnfitEntry, HasNoEntry, HasOneOperand, IsMarkOf, AreMarked, is_awaited}
+use Rattle.ir_check.proofs.Common.{◌≡◌, ◌↔◌, ◌⊎◌, inl, inr, ℕ, ◌+◌, ◌<◌, ◌≤◌, ◌%◌, ◌^◌, ◌==◌, true, false, List, [], ◌∷◌, ◌++◌, length, get_or, take, drop, take-append-drop, map, set, replicate, refl, ap, sym, subst, ◌∙◌, arith, Any, Contains, list_any, cases_eq, cases_lt, both_ways, nat_tests, take_more, get_or-set_same, get_or-set_other, get_or-replicate, get_or_past, length-replicate, Contains-append_left, Contains-push, Contains-push_cases, slice_get_read, slice_get_within, get_or_from_slice_get, IrType, Phi, is_same_operand, HasTwoOperands, made_of, makes, Mark, Stranger, Awaited, Given, IsUnfit, IsUnfitEntry, HasUnfitEntry, HasNoEntry, HasOneOperand, IsMarkOf, AreMarked, is_awaited}
 use Rattle.std.proofs.lemmas.List.Folds.{Any-from_list_any, list_any_at}
 use Rattle.ir_tree.specs.declared.tree.IrType.TheVariants.{Int, Ptr}
 use Rattle.ir_tree.specs.declared.tree.Operand.{Operand}
@@ -198,10 +198,6 @@ with_other predecessors type seen entry marks operand is differ so_far = inr (he
 
 pub met_more : (predecessors : List ℕ) (type : IrType) (entries : List PhiEntry) (i : ℕ) (d : PhiEntry) (marks : List Mark) → i < length entries → AreMarked predecessors type (take i entries ++ get_or entries i d ∷ []) marks → AreMarked predecessors type (take (i + 1) entries) marks
 met_more predecessors type entries i d marks below met = rw (take_more entries i d below) met
-
-pub is_true : (r : Bool) → (r ≡ false → ⊥) → r ≡ true
-is_true true never = refl
-is_true false never = absurd (never refl)
 
 pub stands_before : {X : Type 0} (xs : List X) (i : ℕ) (x : X) → Contains (take i xs) x → Contains xs x
 stands_before xs i x found = rw (← take-append-drop i xs) (Contains-append_left (take i xs) (drop i xs) x found)

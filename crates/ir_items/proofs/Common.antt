@@ -1,6 +1,6 @@
 -- What proofs of this crate cite of std, of other crates and of its definitions, passed on from one place. Declares nothing.
 pub use Rattle.std.proofs.Common.{◌≡◌, ℕ, ◌+◌, ◌-◌, ◌<◌, ◌≤◌, true, false, List, [], ◌∷◌, ◌++◌, length, slice_range, take, drop, Option, Some, None, refl, sym, ap, ◌∙◌, inl, inr, arith, Bool, ◌||◌, eqb, get_or, subst, ◌⊎◌, cond, suc, ◌&&◌, take_while, map}
-pub use Rattle.std.proofs.lemmas.Bool.{cases_lt, cases_order, cases_Bool, eq-eqb, ne_eqb, and_parts, eqb-true, cases_eq, lt-ltb, le-ltb}
+pub use Rattle.std.proofs.lemmas.Bool.{cases_lt, cases_order, cases_Bool, eq-eqb, ne_eqb, and_parts, eqb-true, cases_eq, lt-ltb, le-ltb, or_left}
 pub use Rattle.std.proofs.lemmas.Grind.{common_steps}
 pub use Rattle.std.proofs.lemmas.List.{take-append-drop, take-take, drop-take, drop-drop, drop_more, drop_all, length-take, nil_from_length}
 pub use Rattle.std.proofs.lemmas.List.Edits.{between_more, between_none}

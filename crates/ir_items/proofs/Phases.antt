@@ -1,5 +1,5 @@
 -- How an item goes on, one piece after another.
-use Rattle.ir_items.proofs.Common.{◌≡◌, ℕ, ◌+◌, ◌<◌, ◌≤◌, Bool, true, false, ◌||◌, List, length, refl, sym, ap, subst, ◌∙◌, inl, inr, arith, cases_order, Lexeme, Define, Why, marks, IsBalanced, has_open, IsInside, IsPiece, is_define, begins_item, is_called, is_brace, is_wrong_layout, NoHeadBetween, OtherGoesOn, BeforeName, IsNamed, BeforeBody, HasBody, IsNew, GoesOn, StopsAt, PieceStopsAt, PieceStops, ItemStops}
+use Rattle.ir_items.proofs.Common.{◌≡◌, ℕ, ◌+◌, ◌<◌, ◌≤◌, Bool, true, false, ◌||◌, List, length, refl, sym, ap, subst, ◌∙◌, inl, inr, arith, cases_order, Lexeme, Define, Why, marks, IsBalanced, has_open, IsInside, IsPiece, is_define, begins_item, is_called, is_brace, is_wrong_layout, NoHeadBetween, OtherGoesOn, BeforeName, IsNamed, BeforeBody, HasBody, IsNew, GoesOn, StopsAt, PieceStopsAt, PieceStops, ItemStops, or_left}
 use Rattle.ir_items.specs.declared.fault.Why.TheVariants as why
 use Rattle.ir_items.specs.declared.fault.ItemFault.{ItemFault}
 use Rattle.ir_items.specs.declared.fault.ItemFault.TheVariants.{Stop, NoMemory}
@@ -30,9 +30,6 @@ to_piece_end tokens k e piece m lo hi = piece.first m lo hi
 
 pub to_place : (tokens : List Lexeme) (k place : ℕ) → IsInside tokens k place → (m : ℕ) → k < m → m < place → has_open (marks tokens k m) ≡ true
 to_place tokens k place inside m lo hi = inside m lo (omega arith)
-
-or_left : (a b : Bool) → a ≡ true → (a || b) ≡ true
-or_left a b h = rw h refl
 
 or_right : (a : Bool) {b : Bool} → b ≡ true → (a || b) ≡ true
 or_right true h = refl

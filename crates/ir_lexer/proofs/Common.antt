@@ -1,6 +1,6 @@
 -- What proofs of this crate cite of std, of other crates and of its definitions, passed on from one place. Declares nothing.
 pub use Rattle.std.proofs.Common.{◌≡◌, ℕ, List, [], ◌∷◌, ◌++◌, map, Result, Ok, Err, refl, sym, ap, subst, ◌∙◌, append_assoc, zero, suc, ◌-◌, ◌<◌, ◌≤◌, true, false, eqb, drop, inl, inr, arith, length, take, Option, Some, None, ◌+◌, Bool, cond, not, take_while, ◌||◌, nat_lt, ◌^◌, ◌&&◌}
-pub use Rattle.std.proofs.lemmas.Bool.{cases_Bool, cases_lt, lt-ltb, le-ltb}
+pub use Rattle.std.proofs.lemmas.Bool.{cases_Bool, cases_lt, lt-ltb, le-ltb, or_left, or_right, or_from}
 pub use Rattle.std.proofs.lemmas.List.{append-nil, map-append, length-drop, length-take, length-append, take-append-drop, take_at, drop_at}
 pub use Rattle.std.specs.List.{All, list_all}
 pub use Rattle.std.specs.Prelude.{IfSome, option_and_then, IsOkAnd, unwrap_or}

@@ -1,5 +1,6 @@
 -- What proofs of this crate cite of std, of other crates and of its definitions, passed on from one place. Declares nothing.
 pub use Rattle.std.proofs.Common.{◌≡◌, ℕ, suc, ◌+◌, ◌<◌, List, [], ◌∷◌, ◌++◌, length, drop, get_or, refl, sym, ap, ◌∙◌, append_assoc, add-one, drop-cons, map, arith, ◌≤◌, Bool, true, false, cond, Option, Some, ◌*◌, None, subst, zero, ◌-◌, ◌^◌, ◌⊎◌, inl, inr, eqb, ltb}
+pub use Rattle.std.proofs.lemmas.Bool.{or_left}
 pub use Rattle.std.proofs.lemmas.List.{map-append, length-append, append-nil, length-map, reverse-append, reverse-reverse, length-reverse}
 pub use Rattle.std.proofs.lemmas.List.Elements.{All-nil, All-cons, All-append, All-weaker, Contains-append_left, Contains-append_right, Contains-push, Contains-push_cases, Contains-append_cases}
 pub use Rattle.std.specs.List.{flat_map, list_any, slice_get, All, Contains}

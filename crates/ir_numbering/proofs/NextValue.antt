@@ -1,5 +1,5 @@
 -- The name of what is written without one: its digits are those of one more than the greatest number before it, or 0.
-use Rattle.ir_numbering.proofs.Common.{◌≡◌, ℕ, zero, suc, ◌+◌, ◌-◌, ◌*◌, ◌^◌, ◌<◌, ◌≤◌, ◌⊎◌, inl, inr, Bool, true, false, cond, eqb, ltb, List, [], ◌∷◌, ◌++◌, length, refl, sym, ap, subst, ◌∙◌, arith, ◌||◌, ◌&&◌, reverse, reverse-append, reverse-reverse, length-reverse, Contains, Contains-append_left, Contains-append_right, Contains-push, Contains-push_cases, Contains-append_cases, Name, Number, Word, is_greater, is_above, greatest, carried, one_more, next_name}
+use Rattle.ir_numbering.proofs.Common.{◌≡◌, ℕ, zero, suc, ◌+◌, ◌-◌, ◌*◌, ◌^◌, ◌<◌, ◌≤◌, ◌⊎◌, inl, inr, Bool, true, false, cond, eqb, ltb, List, [], ◌∷◌, ◌++◌, length, refl, sym, ap, subst, ◌∙◌, arith, ◌||◌, ◌&&◌, reverse, reverse-append, reverse-reverse, length-reverse, Contains, Contains-append_left, Contains-append_right, Contains-push, Contains-push_cases, Contains-append_cases, Name, Number, Word, is_greater, is_above, greatest, carried, one_more, next_name, or_left}
 use Rattle.std.proofs.Math.Nat.{pow-succ', pow-le-pow_right, mul-le-mul_right}
 use Rattle.std.proofs.lemmas.Bool.{true≢false, ltb-true, ltb-false, lt-ltb, eqb-true, eqb-false}
 use Rattle.ir_grammar.specs.Numbers.{value_after, value_of}
@@ -45,10 +45,6 @@ strictly m n h k = by (ltb m n) refl
     by : (t : Bool) → ltb m n ≡ t → m < n
     by true i = ltb-true m n i
     by false i = absurd (k (omega (arith, h, ltb-false m n i)))
-
-or-true : (a b : Bool) → a ≡ true → (a || b) ≡ true
-or-true true b e = refl
-or-true false b e = absurd (cc e)
 
 -- the test says whether the first is greater
 record Compares (test : Bool) (a b : ℕ) : Type 0 where
@@ -141,7 +137,7 @@ above-most : (ds most : List ℕ) → IsDecimal ds → IsMost most → Compares 
 above-most [] most D M = absurd D
 above-most (d ∷ ds) [] D M =
     let first : ltb 0 (length (d ∷ ds)) ≡ true = lt-ltb 0 (length (d ∷ ds)) (omega arith) in
-    record { yes = λ t. omega arith; no = λ t. absurd (true≢false (sym (or-true (ltb 0 (length (d ∷ ds))) _ first) ∙ t)) }
+    record { yes = λ t. omega arith; no = λ t. absurd (true≢false (sym (or_left (ltb 0 (length (d ∷ ds))) _ first) ∙ t)) }
 above-most (d ∷ ds) (m ∷ ms) D M = let C = above (d ∷ ds) (m ∷ ms) D M in record { yes = λ t. omega (arith, C.yes t); no = λ t. omega (arith, C.no t) }
 
 record IsGreatest (most : List ℕ) (names : List Name) (r : List ℕ) : Type 0 where

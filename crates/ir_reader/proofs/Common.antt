@@ -1,6 +1,6 @@
 -- What proofs of this crate cite of std, of other crates and of its definitions, passed on from one place. Declares nothing.
 pub use Rattle.std.proofs.Common.{◌≡◌, ◌⊎◌, inl, inr, true, false, List, [], ◌∷◌, ◌++◌, refl, sym, ap, subst, ◌∙◌, append_assoc, ℕ, zero, suc, ◌+◌, ◌-◌, ◌<◌, ◌≤◌, Bool, ltb, cond, length, Option, Some, None, arith, get_or, eqb, drop, map, codes}
-pub use Rattle.std.proofs.lemmas.Bool.{ltb-true, lt-leb, cases_lt, leb-true, eqb-true}
+pub use Rattle.std.proofs.lemmas.Bool.{ltb-true, lt-leb, cases_lt, leb-true, eqb-true, or_parts}
 pub use Rattle.std.proofs.lemmas.List.{append-nil, append_cancel_right, length-append, drop-drop, take_all}
 pub use Rattle.std.proofs.lemmas.List.Elements.{All-nil, All-cons, Contains-append_left, Contains-append_right}
 pub use Rattle.std.proofs.lemmas.Result.{err_from_is_err_and}

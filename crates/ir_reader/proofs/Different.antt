@@ -1,5 +1,5 @@
 -- The entries of a module have different names.
-use Rattle.ir_reader.proofs.Common.{◌≡◌, ℕ, ◌-◌, Bool, true, false, List, [], ◌∷◌, ◌++◌, map, refl, sym, ap, subst, ◌∙◌, ◌||◌, list_any, AllByRecursion, IsDistinct, Lexeme, Define, IsCut, nothing, other, same_name, Name, Entry, AreEntries}
+use Rattle.ir_reader.proofs.Common.{◌≡◌, ℕ, ◌-◌, Bool, true, false, List, [], ◌∷◌, ◌++◌, map, refl, sym, ap, subst, ◌∙◌, ◌||◌, list_any, AllByRecursion, IsDistinct, Lexeme, Define, IsCut, nothing, other, same_name, Name, Entry, AreEntries, or_parts}
 use Rattle.std.proofs.lemmas.Slice.Eq.{bytes_eq-Decides}
 use Rattle.ir_items.specs.Items.{define}
 use Rattle.ir_tree.specs.declared.name.Name.TheVariants.{Number, Word}
@@ -16,11 +16,6 @@ name-same (Word a) (Word b) = bytes-same a b _ (bytes_eq-Decides a b) _ (bytes_e
 name-same (Number a) (Word b) = refl
 name-same (Word a) (Number b) = refl
 
-or-false : (a b : Bool) → (a || b) ≡ false → (a ≡ false) × (b ≡ false)
-or-false false false e = (refl, refl)
-or-false false true e = absurd (cc e)
-or-false true b e = absurd (cc e)
-
 others-push : (x name : Name) (names : List Name) → AllByRecursion (λ y. same_name x y ≡ false) names → same_name x name ≡ false → AllByRecursion (λ y. same_name x y ≡ false) (names ++ name ∷ [])
 others-push x name [] A e = (e, tt)
 others-push x name (y ∷ ys) (a, as_all) e = (a, others-push x name ys as_all e)
@@ -29,7 +24,7 @@ distinct-push : (names : List Name) (name : Name) → IsDistinct same_name names
 unfolding IsDistinct
 distinct-push [] name D e = (tt, tt)
 distinct-push (x ∷ xs) name (A, D) e =
-    let both = or-false (same_name name x) (list_any (same_name name) xs) e in
+    let both = or_parts (same_name name x) (list_any (same_name name) xs) e in
     (others-push x name xs A (name-same x name ∙ both.0), distinct-push xs name D both.1)
 
 abbrev names_of : List Define → List Name

@@ -1,5 +1,6 @@
 -- What proofs of this crate cite of std, of other crates and of its definitions, passed on from one place. Declares nothing.
 pub use Rattle.std.proofs.Common.{◌≡◌, ℕ, zero, suc, ◌+◌, ◌-◌, ◌*◌, ◌%◌, ◌^◌, ◌<◌, ◌≤◌, Bool, true, false, ◌||◌, ◌&&◌, List, [], ◌∷◌, length, get_or, drop, ℤ, pos, negsuc, ◌+ℤ◌, ◌≤ℤ◌, neg_ℤ, to_z, of_z, refl, sym, ap, ◌∙◌, arith, ◌⊎◌, nat_eq, nat_le, if◌then◌else◌, map, take, Option, Some, None, ap₂, inl, inr, subst, min, ◌++◌, length-append, take_at, ◌/◌, replicate, ◌*ℤ◌}
+pub use Rattle.std.proofs.lemmas.Option.{same_Some}
 pub use Rattle.std.proofs.Math.ListN.{set}
 pub use Rattle.std.proofs.Math.Nat.{mod-add-mod, mod-eq_of_lt, pow-suc, pow-le-pow_right, mul-le-mul_right, mod-add-div, add-mul-mod_self_left, div-lt_iff_lt-mul}
 pub use Rattle.std.proofs.lemmas.Bool.{eqb-true, leb-true, cases_lt}

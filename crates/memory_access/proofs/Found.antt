@@ -1,5 +1,5 @@
 -- The first item of a list that passes a test.
-use Rattle.memory_access.proofs.Common.{◌≡◌, ℕ, suc, ◌+◌, ◌<◌, Bool, true, false, List, [], ◌∷◌, length, Some, None, refl, sym, ap, subst, ◌∙◌, arith, slice_get, slice_set, find, position_from, first_changed}
+use Rattle.memory_access.proofs.Common.{◌≡◌, ℕ, suc, ◌+◌, ◌<◌, Bool, true, false, List, [], ◌∷◌, length, Some, None, refl, sym, ap, subst, ◌∙◌, arith, slice_get, slice_set, find, position_from, first_changed, same_Some}
 
 -- ---- what is at its index
 
@@ -13,9 +13,6 @@ record Behind {X : Type 0} (t : X → Bool) (xs : List X) (k i : ℕ) : Type 0 w
   pub is : i ≡ k + place
   pub first : FirstAt t xs place
 
-some_is : {X : Type 0} (x y : X) → Some x ≡ Some y → x ≡ y
-some_is x y e = cc
-
 none_isn't : {X : Type 0} (x : X) {P : Type 0} → None ≡ Some x → P
 none_isn't x e = absurd (cc)
 
@@ -24,7 +21,7 @@ unfolding first_changed
 first-here t x xs yes' = record {
   within = omega arith;
   found = λ y e. rw yes' e;
-  changed = λ f y e. rw yes' (ap (λ z. f z ∷ xs) (some_is x y e));
+  changed = λ f y e. rw yes' (ap (λ z. f z ∷ xs) (same_Some x y e));
 }
 
 first-later : {X : Type 0} (t : X → Bool) (x : X) (xs : List X) (j : ℕ) → t x ≡ false → FirstAt t xs j → FirstAt t (x ∷ xs) (suc j)
@@ -36,7 +33,7 @@ first-later t x xs j no' later = record {
 }
 
 behind-by : {X : Type 0} (t : X → Bool) (x : X) (xs : List X) (k i : ℕ) → ((i : ℕ) → position_from t (k + 1) xs ≡ Some i → Behind t xs (k + 1) i) → (b : Bool) → t x ≡ b → position_from t k (x ∷ xs) ≡ Some i → Behind t (x ∷ xs) k i
-behind-by t x xs k i rest true e is = let is' = rw e at is in record { place = 0; is = sym (some_is k i is') ∙ omega arith; first = first-here t x xs e }
+behind-by t x xs k i rest true e is = let is' = rw e at is in record { place = 0; is = sym (same_Some k i is') ∙ omega arith; first = first-here t x xs e }
 behind-by t x xs k i rest false e is =
     let later = rest i (rw e at is) in
     record { place = suc later.place; is = let at = later.is in omega (arith, at); first = first-later t x xs later.place e later.first }

@@ -1,5 +1,7 @@
 -- What proofs of this crate cite of std, of other crates and of its definitions, passed on from one place. Declares nothing.
 pub use Rattle.std.proofs.Common.{◌≡◌, ℕ, suc, ◌+◌, ◌-◌, ◌*◌, ◌^◌, ◌<◌, ◌≤◌, arith, refl, List, [], ◌∷◌, ◌++◌, length, length-append, Option, Some, None, Result, Ok, Err, Bool, true, false, true≢false, sym, ap, is_some, if◌then◌else◌, zero, drop, take, get_or, subst, ◌∙◌, cond, ◌||◌, add-one}
+pub use Rattle.std.proofs.lemmas.Bool.{or_from}
+pub use Rattle.std.proofs.lemmas.Option.{same_Some}
 pub use Rattle.std.proofs.lemmas.List.{append-nil, append_assoc, drop_all, drop_more, length-map, get_or-map}
 pub use Rattle.std.specs.List.{AllByRecursion, AllZip, IsDistinct, list_any, position, position_from}
 pub use Rattle.ir_reader.specs.Judgeable.{IsJudgeable, IsJudgeableEntry}

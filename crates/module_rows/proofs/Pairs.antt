@@ -1,5 +1,5 @@
 -- The pairs that are judged: the judge takes each of them, and there are no more of them than functions.
-use Rattle.module_rows.proofs.Common.{◌≡◌, ℕ, ◌+◌, ◌-◌, ◌*◌, ◌^◌, ◌<◌, ◌≤◌, arith, refl, List, [], ◌∷◌, ◌++◌, length, length-append, Option, Some, None, Result, Ok, Err, Bool, true, false, true≢false, sym, ap, is_some, if◌then◌else◌, AllByRecursion, Name, Function, Refused, Entry, same_name, IsJudgeable, IsJudgeableEntry, Functions, same_signature, CanBeJudged, function_named, pairs_in, judged_pairs}
+use Rattle.module_rows.proofs.Common.{◌≡◌, ℕ, ◌+◌, ◌-◌, ◌*◌, ◌^◌, ◌<◌, ◌≤◌, arith, refl, List, [], ◌∷◌, ◌++◌, length, length-append, Option, Some, None, Result, Ok, Err, Bool, true, false, true≢false, sym, ap, is_some, if◌then◌else◌, AllByRecursion, Name, Function, Refused, Entry, same_name, IsJudgeable, IsJudgeableEntry, Functions, same_signature, CanBeJudged, function_named, pairs_in, judged_pairs, same_Some}
 use Rattle.std.proofs.Math.Nat.{mul-le-mul_left}
 
 -- ---- the judge takes them
@@ -14,9 +14,6 @@ all_append : {X : Type 0} (P : X → Type 0) (xs ys : List X) → AllByRecursion
 all_append P [] ys h k = k
 all_append P (x ∷ xs) ys h k = (h.0, all_append P xs ys h.1 k)
 
-pub some_is : {X : Type 0} (x y : X) → Some x ≡ Some y → x ≡ y
-some_is x y e = ap (λ o. Rattle.std.specs.Prelude.unwrap_or o x) e
-
 pub none≢some : {X : Type 0} (x : X) → None ≡ Some x → ⊥
 none≢some x e = true≢false (sym (ap (λ o. is_some o) e))
 
@@ -25,7 +22,7 @@ named_judgeable [] name all = λ f e. absurd (none≢some (Ok f) e)
 named_judgeable (t ∷ ts) name all = go (same_name name t.name) (named_judgeable ts name all.1)
   where
     go : (same : Bool) → NamedJudgeable (function_named ts name) → NamedJudgeable (if same then Some t.function else function_named ts name)
-    go true rest = λ f e. all.0 f (some_is t.function (Ok f) e)
+    go true rest = λ f e. all.0 f (same_Some t.function (Ok f) e)
     go false rest = rest
 
 pair_judged : (source : Result Function Refused) (target : Option (Result Function Refused)) → Judgeable source → NamedJudgeable target → AllByRecursion CanBeJudged (pairs_in source target)

@@ -1,5 +1,5 @@
 -- Names and the functions that have them.
-use Rattle.module_rows.proofs.Common.{◌≡◌, ℕ, zero, suc, ◌+◌, ◌<◌, arith, Bool, true, false, cond, ◌||◌, List, [], ◌∷◌, ◌++◌, length, get_or, take, Some, None, refl, sym, ap, ◌∙◌, add-one, length-map, get_or-map, IsDistinct, AllByRecursion, list_any, position, position_from, Name, Entry, same_name, with_name, function_named, entry_names}
+use Rattle.module_rows.proofs.Common.{◌≡◌, ℕ, zero, suc, ◌+◌, ◌<◌, arith, Bool, true, false, cond, ◌||◌, List, [], ◌∷◌, ◌++◌, length, get_or, take, Some, None, refl, sym, ap, ◌∙◌, add-one, length-map, get_or-map, IsDistinct, AllByRecursion, list_any, position, position_from, Name, Entry, same_name, with_name, function_named, entry_names, or_from}
 use Rattle.std.proofs.lemmas.Bool.Decides.{same_from_decides}
 use Rattle.std.proofs.lemmas.Slice.Eq.{bytes_eq-Decides}
 use Rattle.std.proofs.lemmas.Map.Keys.{IsDistinct-head, IsDistinct-tail}
@@ -25,14 +25,11 @@ all_at P [] i d all h = absurd (omega arith)
 all_at P (x ∷ xs) zero d all h = all.0
 all_at P (x ∷ xs) (suc i) d all h = all_at P xs i d all.1 (omega arith)
 
-or_false : (a b : Bool) → a ≡ false → b ≡ false → (a || b) ≡ false
-or_false a b p q = rw (p, q) refl
-
 fresh : (ns : List Name) (i : ℕ) (d : Name) → IsDistinct same_name ns → i < length ns → list_any (same_name (get_or ns i d)) (take i ns) ≡ false
 fresh [] i d apart h = absurd (omega arith)
 fresh (n ∷ ns) zero d apart h = refl
 fresh (n ∷ ns) (suc i) d apart h =
-    or_false _ _
+    or_from _ _
     (same_name-flips (get_or ns i d) n ∙ all_at (λ (m : Name). same_name n m ≡ false) ns i d (IsDistinct-head same_name n ns apart) (omega arith))
     (fresh ns i d (IsDistinct-tail same_name n ns apart) (omega arith))
 

@@ -1,11 +1,11 @@
 -- A goal that decides which points some tapes leave uncovered, and the goal with one tape more.
-use Rattle.pair_questions.proofs.Common.{ℕ, ◌≡◌, ◌↔◌, Bool, true, false, not, ◌&&◌, ◌||◌, List, [], ◌∷◌, ◌++◌, refl, ap, sym, subst, ◌∙◌, append_assoc, Bounds, Input, Point, Shape, Outcome, covers, some_covers, shifted, is_covered, RunPair, layout_of, run_of, need_of, TermId, Term, Keeps, Tests, bit_at, InputTerms, TapeTerms, OutcomeTerms, reading, AreWords, words_at, IsOutcome, LeavesGiven, Shows, input_at-later, is_input-later, is_outcome-later, shows-later, words-later, words_at-later, Decides, IsInputOf, IsTapeOf, numbers_at, input_in, none_allows, outcome_in, IsUncovered, IsShapeOf, IsOfTarget, IsSubject, frames_of}
+use Rattle.pair_questions.proofs.Common.{ℕ, ◌≡◌, ◌↔◌, Bool, true, false, not, ◌&&◌, ◌||◌, List, [], ◌∷◌, ◌++◌, refl, ap, sym, subst, ◌∙◌, append_assoc, Bounds, Input, Point, Shape, Outcome, covers, some_covers, shifted, is_covered, RunPair, layout_of, run_of, need_of, TermId, Term, Keeps, Tests, bit_at, InputTerms, TapeTerms, OutcomeTerms, reading, AreWords, words_at, IsOutcome, LeavesGiven, Shows, input_at-later, is_input-later, is_outcome-later, shows-later, words-later, words_at-later, Decides, IsInputOf, IsTapeOf, numbers_at, input_in, none_allows, outcome_in, IsUncovered, IsShapeOf, IsOfTarget, IsSubject, frames_of, or_from, and_from, not-true, not_from_false}
 use Rattle.pair_questions.specs.declared.point_question.PointQuestion.{PointQuestion}
 use Rattle.pair_questions.specs.declared.subject.Subject.{Subject}
 use Rattle.pair_questions.specs.PointQuestions.{IsPointQuestion}
 use Rattle.pair_questions.proofs.Fitting.{of_shape}
 use Rattle.pair_questions.proofs.Numbered.{order_kept}
-use Rattle.pair_questions.proofs.Uncovering.{and_both, and_left, and_right, none_is, not_false, not_true, numbers-later, point_at, the_point}
+use Rattle.pair_questions.proofs.Uncovering.{and_left, and_right, none_is, numbers-later, point_at, the_point}
 
 -- ---- one tape more
 
@@ -20,9 +20,6 @@ or_left false b h = refl
 or_right : (a b : Bool) → (a || b) ≡ false → b ≡ false
 or_right true b h = absurd (let z : ⊥ = cc in z)
 or_right false b h = h
-
-or_both : (a b : Bool) → a ≡ false → b ≡ false → (a || b) ≡ false
-or_both a b p q = rw (p, q) refl
 
 some_append : (pair : RunPair) (bounds : Bounds) (p : Point) (xs ys : List (List ℕ)) → some_covers pair bounds p (xs ++ ys) ≡ (some_covers pair bounds p xs || some_covers pair bounds p ys)
 unfolding some_covers
@@ -85,13 +82,13 @@ module _ (old new : List Term) (pair : RunPair) (bounds : Bounds) (s : Shape) (i
   to_more v e =
       let both = sym (tests.says v) ∙ e in
       let u = (decides.1 v).0 (and_left (bit_at v old goal) (left v) both) in
-      let free : some_covers pair bounds (here v) (tape ∷ []) ≡ false = not_true (some_covers pair bounds (here v) (tape ∷ [])) (sym (none_here v) ∙ and_right (bit_at v old goal) (left v) both) in
+      let free : some_covers pair bounds (here v) (tape ∷ []) ≡ false = not-true (some_covers pair bounds (here v) (tape ∷ [])) (sym (none_here v) ∙ and_right (bit_at v old goal) (left v) both) in
       let there : some_covers pair bounds u.of (tape ∷ []) ≡ false = subst (λ (q : Point). some_covers pair bounds q (tape ∷ []) ≡ false) (is_here v tapes u) free in
       record {
         of = u.of;
         point = u.point;
         code = u.code;
-        uncovered = covered_more pair bounds tapes tape u.of ∙ or_both (is_covered pair bounds tapes u.of) (some_covers pair bounds u.of (tape ∷ [])) u.uncovered there;
+        uncovered = covered_more pair bounds tapes tape u.of ∙ or_from (is_covered pair bounds tapes u.of) (some_covers pair bounds u.of (tape ∷ [])) u.uncovered there;
       }
 
   from_more : (v : ℕ → ℕ → ℕ) → IsUncovered pair bounds (tapes ++ tape ∷ []) (numbers_at v old input choices) → bit_at v new id ≡ true
@@ -101,7 +98,7 @@ module _ (old new : List Term) (pair : RunPair) (bounds : Bounds) (s : Shape) (i
       record { of = u.of; point = u.point; code = u.code; uncovered = or_left (is_covered pair bounds tapes u.of) (some_covers pair bounds u.of (tape ∷ [])) apart } in
       let there = or_right (is_covered pair bounds tapes u.of) (some_covers pair bounds u.of (tape ∷ [])) apart in
       let free : some_covers pair bounds (here v) (tape ∷ []) ≡ false = subst (λ (q : Point). some_covers pair bounds q (tape ∷ []) ≡ false) (sym (is_here v (tapes ++ tape ∷ []) u)) there in
-      tests.says v ∙ and_both (bit_at v old goal) (left v) ((decides.1 v).1 before) (none_here v ∙ not_false (some_covers pair bounds (here v) (tape ∷ [])) free)
+      tests.says v ∙ and_from (bit_at v old goal) (left v) ((decides.1 v).1 before) (none_here v ∙ not_from_false (some_covers pair bounds (here v) (tape ∷ [])) free)
 
   pub excluded : Decides new id (λ v. IsUncovered pair bounds (tapes ++ tape ∷ []) (numbers_at v old input choices))
   excluded = (record { within = tests.within; wide = tests.wide }, λ v. (to_more v, from_more v))

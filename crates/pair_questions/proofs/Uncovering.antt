@@ -1,5 +1,5 @@
 -- The goals of the two questions are true exactly on their answers.
-use Rattle.pair_questions.proofs.Common.{ℕ, ◌≡◌, ◌↔◌, Bool, true, false, not, ◌&&◌, ◌||◌, List, [], ◌∷◌, ◌++◌, length, append-nil, refl, ap, sym, subst, ◌∙◌, flat_map, eqb-true, IrType, Int, Parameter, Function, Layout, Bounds, Input, Point, Shape, Outcome, RunPair, same_types, same_return, same_signature, layout_of, WordsFit, IsOfShape, code_of, IsCode, covers, some_covers, shifted, is_covered, is_refined, run_of, IsPlain, need_of, IsPoint, codes_tell_points, TermId, Term, AreInRange, IsTerm, Keeps, Tests, bit_at, term_at, ArgTerms, ByteTerms, InputTerms, TapeTerms, OutcomeTerms, Each, reading, IsArg, AreArgs, AreWords, IsInput, IsByteTerms, IsBlockTerms, input_at, words_at, Shows, map-same, keeps_trans, term-later, input_at-later, words_at-later, outcome-later, Decides, IsInputOf, IsTapeOf, arg_numbers, byte_numbers, block_numbers, numbers_at, input_in, none_allows, outcome_in, IsCovering, IsUncovered, IsShapeOf, IsOfTarget}
+use Rattle.pair_questions.proofs.Common.{ℕ, ◌≡◌, ◌↔◌, Bool, true, false, not, ◌&&◌, ◌||◌, List, [], ◌∷◌, ◌++◌, length, append-nil, refl, ap, sym, subst, ◌∙◌, flat_map, eqb-true, IrType, Int, Parameter, Function, Layout, Bounds, Input, Point, Shape, Outcome, RunPair, same_types, same_return, same_signature, layout_of, WordsFit, IsOfShape, code_of, IsCode, covers, some_covers, shifted, is_covered, is_refined, run_of, IsPlain, need_of, IsPoint, codes_tell_points, TermId, Term, AreInRange, IsTerm, Keeps, Tests, bit_at, term_at, ArgTerms, ByteTerms, InputTerms, TapeTerms, OutcomeTerms, Each, reading, IsArg, AreArgs, AreWords, IsInput, IsByteTerms, IsBlockTerms, input_at, words_at, Shows, map-same, keeps_trans, term-later, input_at-later, words_at-later, outcome-later, Decides, IsInputOf, IsTapeOf, arg_numbers, byte_numbers, block_numbers, numbers_at, input_in, none_allows, outcome_in, IsCovering, IsUncovered, IsShapeOf, IsOfTarget, and_from, not-true, not_from_false}
 use Rattle.ir_tree.specs.declared.tree.IrType.TheVariants.{Ptr}
 use Rattle.ir_tree.specs.Sites.{is_same_type}
 use Rattle.mem_terms.specs.declared.inputs.ArgTerms.TheVariants as arg
@@ -13,9 +13,6 @@ and_left false b h = h
 pub and_right : (a b : Bool) → (a && b) ≡ true → b ≡ true
 and_right true b h = h
 and_right false b h = absurd (let x : ⊥ = cc in x)
-
-pub and_both : (a b : Bool) → a ≡ true → b ≡ true → (a && b) ≡ true
-and_both a b p q = rw (p, q) refl
 
 two : {A B C : Type 0} (f : A → B → C) {x x' : A} {y y' : B} → x ≡ x' → y ≡ y' → f x y ≡ f x' y'
 two f e g = cc
@@ -142,13 +139,6 @@ a_point pair bounds s p is h plain = record {
 shape_code : {pair : RunPair} {bounds : Bounds} {s : Shape} {numbers : List ℕ} (p : Point) → IsShapeOf pair bounds s → code_of s.layout s.parameters p ≡ numbers → code_of (layout_of pair bounds) pair.target.parameters p ≡ numbers
 shape_code p is e = two (λ (y : Layout) (ps : List Parameter). code_of y ps p) (sym is.layout) (sym is.parameters) ∙ e
 
-pub not_true : (b : Bool) → not b ≡ true → b ≡ false
-not_true true e = absurd (let z : ⊥ = cc in z)
-not_true false e = refl
-
-pub not_false : (b : Bool) → b ≡ false → not b ≡ true
-not_false b e = rw e refl
-
 -- a point whose code the terms denote is the one that they denote
 pub the_point : (pair : RunPair) (bounds : Bounds) (s : Shape) (terms : List Term) (input : InputTerms) (tape : TapeTerms) → IsShapeOf pair bounds s → IsInputOf s terms input → (v : ℕ → ℕ → ℕ) (p : Point) → IsOfShape s p
     → code_of s.layout s.parameters p ≡ numbers_at v terms input tape → point_at (layout_of pair bounds) v terms input tape ≡ p
@@ -171,7 +161,7 @@ module _ (pair : RunPair) (bounds : Bounds) (tapes : List (List ℕ)) (s : Shape
       let p : Point = found.0 in
       let same = the_point pair bounds s terms input tape shape are v p found.1.of_shape found.1.code in
       let plain_there : IsPlain p.tape (run_of pair.target bounds p.input p.tape) = subst (λ (q : Point). IsPlain q.tape (run_of pair.target bounds q.input q.tape)) same ((is_plain v).0 is_code.1) in
-      let free = not_true (is_covered pair bounds tapes q) (and_right (well v) (not (is_covered pair bounds tapes q)) both) in
+      let free = not-true (is_covered pair bounds tapes q) (and_right (well v) (not (is_covered pair bounds tapes q)) both) in
       record {
         of = p;
         point = a_point pair bounds s p shape found.1.of_shape plain_there;
@@ -188,7 +178,7 @@ module _ (pair : RunPair) (bounds : Bounds) (tapes : List (List ℕ)) (s : Shape
       let is_code : IsCode s (numbers_at v terms input tape) = subst (IsCode s) code ((codes_tell_points s).codes p of) in
       let plain_there = (is_plain v).1 (subst (λ (q : Point). IsPlain q.tape (run_of pair.target bounds q.input q.tape)) (sym same) u.point.plain) in
       let free : is_covered pair bounds tapes (point_at (layout_of pair bounds) v terms input tape) ≡ false = subst (λ (q : Point). is_covered pair bounds tapes q ≡ false) (sym same) u.uncovered in
-      says v ∙ and_both (well v) (not (is_covered pair bounds tapes (point_at (layout_of pair bounds) v terms input tape))) ((is_well v).1 (is_code, plain_there)) (not_false (is_covered pair bounds tapes (point_at (layout_of pair bounds) v terms input tape)) free)
+      says v ∙ and_from (well v) (not (is_covered pair bounds tapes (point_at (layout_of pair bounds) v terms input tape))) ((is_well v).1 (is_code, plain_there)) (not_from_false (is_covered pair bounds tapes (point_at (layout_of pair bounds) v terms input tape)) free)
 
   answers : IsTerm new 1 id → Decides new id (λ v. IsUncovered pair bounds tapes (numbers_at v terms input tape))
   answers is = (is, λ v. (to_answer v, from_answer v))

@@ -1,4 +1,5 @@
 -- The first byte that differs.
+use Rattle.std.proofs.lemmas.Bool.{and_parts}
 use Rattle.std.proofs.Common.{◌≡◌, ℕ, ◌+◌, ◌<◌, ◌≤◌, Bool, true, false, ◌&&◌, List, [], ◌∷◌, ◌++◌, length, take, get_or, refl, sym}
 use Rattle.std.proofs.lemmas.List.{take_more, take_all}
 use Rattle.std.proofs.lemmas.Option.{slice_get-get_or}
@@ -10,10 +11,6 @@ use Rattle.pair_trace.specs.Differences.{IsOtherByte}
 true_not_false : {A : Type 0} → ◌≡◌ {A = Bool} true false → A
 true_not_false e = absurd (cc)
 
-and_true : (x y : Bool) → (x && y) ≡ true → (x ≡ true) × (y ≡ true)
-and_true true y e = (refl, e)
-and_true false y e = true_not_false (sym e)
-
 -- one more pair that passes
 pairs_pass-snoc : {A : Type 0} (test : A → A → Bool) (ss ts : List A) (s t : A) → pairs_pass test ss ts ≡ true → test s t ≡ true
     → pairs_pass test (ss ++ s ∷ []) (ts ++ t ∷ []) ≡ true
@@ -22,7 +19,7 @@ pairs_pass-snoc test [] [] s t passes one = rw one refl
 pairs_pass-snoc test [] (y ∷ ts) s t passes one = true_not_false (sym passes)
 pairs_pass-snoc test (x ∷ ss) [] s t passes one = true_not_false (sym passes)
 pairs_pass-snoc test (x ∷ ss) (y ∷ ts) s t passes one =
-    let both = and_true (test x y) (pairs_pass test ss ts) passes in
+    let both = and_parts (test x y) (pairs_pass test ss ts) passes in
     rw both.0 (pairs_pass-snoc test ss ts s t both.1 one)
 
 pub none_before : (ss ts : List Byte) → pairs_pass byte_allows (take 0 ss) (take 0 ts) ≡ true

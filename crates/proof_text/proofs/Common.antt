@@ -1,5 +1,6 @@
 -- What proofs of this crate cite of std, of other crates and of its definitions, passed on from one place. Declares nothing.
 pub use Rattle.std.proofs.Common.{ℕ, ◌≡◌, ◌<◌, List, [], ◌∷◌, ◌++◌, length, map, Contains, append_assoc, append-nil, subst, sym, ap, ◌∙◌, refl, inl, inr, ⊎_elim, arith, ◌≢◌, ◌⊎◌, ◌≤◌, ◌+◌, ◌-◌, ◌==◌, ◌/◌, ◌%◌, ◌&&◌, ◌||◌, Bool, true, false, cond, not, eqb, take, codes, All, count_by, ne_eqb, sum_by, length-append, take_at, ap₂, replicate, ◌^◌, get_or, slice_get, Some, None, Ok, Err, Result, MatchResult, eq-zero-or-pos, drop, true≢false, Option, Bor, IfSome, MatchOption, zero, suc, slice_index_or, rules}
+pub use Rattle.std.proofs.lemmas.Bool.{and_parts}
 pub use Rattle.std.proofs.lemmas.Bool.Decides.{nat_tests, Decides-eqb}
 pub use Rattle.std.proofs.lemmas.Fmt.{decimal_injective, IsAscii-from_digits, decimal-digits_value, decimal_digit, decimal_is_IsNumeral, decimal_nonempty, first_decimal, parse-decimal}
 pub use Rattle.std.proofs.lemmas.Grind.{flat_map-append}

@@ -1,5 +1,5 @@
 -- From the lines of a file to its text.
-use Rattle.proof_text.proofs.Common.{ℕ, ◌≡◌, ◌≢◌, ◌⊎◌, ◌<◌, ◌≤◌, ◌+◌, ◌-◌, ◌==◌, ◌/◌, ◌%◌, ◌&&◌, ◌||◌, Bool, true, false, cond, not, eqb, List, [], ◌∷◌, ◌++◌, length, map, take, codes, All, Contains, count_by, ne_eqb, sum_by, append_assoc, append-nil, length-append, take_at, subst, sym, ap, ap₂, ◌∙◌, refl, inl, inr, ⊎_elim, arith, decimal, flat_map, list_all, list_any, nat_tests, All-append, All-cons, All-contains, All-head, All-map, All-nil, All-tail, All-weaker, Contains-append_cases, Contains-append_right, Lit, Step, escaped, hex_byte, hex_digit, is_bare, is_digit, is_name_byte, is_plain, quoted, Part, IsClauseOver, IsPart, IsPrintedName, IsProof, IsSmall, IsStepOver, clause_line, counts_line, ended, literal_text, log_line, part_lines, proof_lines, row_line, spaced, status_text, step_line, File, IsStuck, IsWrong, Lines}
+use Rattle.proof_text.proofs.Common.{ℕ, ◌≡◌, ◌≢◌, ◌⊎◌, ◌<◌, ◌≤◌, ◌+◌, ◌-◌, ◌==◌, ◌/◌, ◌%◌, ◌&&◌, ◌||◌, Bool, true, false, cond, not, eqb, List, [], ◌∷◌, ◌++◌, length, map, take, codes, All, Contains, count_by, ne_eqb, sum_by, append_assoc, append-nil, length-append, take_at, subst, sym, ap, ap₂, ◌∙◌, refl, inl, inr, ⊎_elim, arith, decimal, flat_map, list_all, list_any, nat_tests, All-append, All-cons, All-contains, All-head, All-map, All-nil, All-tail, All-weaker, Contains-append_cases, Contains-append_right, Lit, Step, escaped, hex_byte, hex_digit, is_bare, is_digit, is_name_byte, is_plain, quoted, Part, IsClauseOver, IsPart, IsPrintedName, IsProof, IsSmall, IsStepOver, clause_line, counts_line, ended, literal_text, log_line, part_lines, proof_lines, row_line, spaced, status_text, step_line, File, IsStuck, IsWrong, Lines, and_parts}
 use Rattle.std.proofs.lemmas.List.Sums.{sum_by-append, sum_by-cons}
 use Rattle.proof_text.specs.FirstFault.{Begin, IsCutShort, IsFirstFault, IsWrongLine}
 use Rattle.proof_text.proofs.Numbers.{free_decimal}
@@ -72,10 +72,6 @@ no_digit b h e = absurd (grind (arith, nat_tests))
 
 free_digits : (ds : List ℕ) → All (λ b. is_digit b ≡ true) ds → Free ds
 free_digits ds h i = no_digit 10 (All-contains (λ b. is_digit b ≡ true) ds 10 h i) refl
-
-and_parts : (a b : Bool) → (a && b) ≡ true → (a ≡ true) × (b ≡ true)
-and_parts true b h = (refl, h)
-and_parts false b h = absurd cc
 
 no_name_byte : (b : ℕ) → is_name_byte b ≡ true → b ≢ 10
 no_name_byte b h e = let z : is_name_byte 10 ≡ true = subst (λ x. is_name_byte x ≡ true) e h in absurd cc

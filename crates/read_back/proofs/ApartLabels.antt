@@ -1,5 +1,5 @@
 -- The class of a name with a colon after it.
-use Rattle.read_back.proofs.Common.{◌≡◌, ℕ, Bool, true, false, eqb, List, [], ◌∷◌, ◌++◌, Some, refl, ap, ◌∙◌, append_assoc, inl, inr, arith, list_all, flat_map, cases_Bool, and_parts, and_right, nat_tests, is_digit, begins_word, is_name_byte, begins_name, is_mark_byte, nothing, byte, many, maybe, is_digits, is_number, is_word, is_quoted, is_plain_name, is_name, is_word_or_number, is_label, is_mark, class_of, Name, escaped, is_bare, name_text}
+use Rattle.read_back.proofs.Common.{◌≡◌, ℕ, Bool, true, false, eqb, List, [], ◌∷◌, ◌++◌, Some, refl, ap, ◌∙◌, append_assoc, inl, inr, arith, list_all, flat_map, cases_Bool, and_parts, and_right, nat_tests, is_digit, begins_word, is_name_byte, begins_name, is_mark_byte, nothing, byte, many, maybe, is_digits, is_number, is_word, is_quoted, is_plain_name, is_name, is_word_or_number, is_label, is_mark, class_of, Name, escaped, is_bare, name_text, or_from}
 use Rattle.std.proofs.Common.{◌||◌}
 use Rattle.ir_lexer.specs.declared.token.Kind.TheVariants as kind
 use Rattle.ir_lexer.specs.Parts.{one}
@@ -60,11 +60,8 @@ dots_avoids = one_avoids (λ b. eqb b 46) (byte 46 (byte 46 nothing)) refl (one_
 
 -- ---- labels of name bytes
 
-neither : (a b : Bool) → a ≡ false → b ≡ false → (a || b) ≡ false
-neither a b e f = rw (e, f) refl
-
 no_mark : (b : ℕ) (bs : List ℕ) → is_mark ((b ∷ bs) ++ colon) ≡ false
-no_mark b bs = neither _ _ (and_right (is_mark_byte b) (nothing (bs ++ colon)) (nothing_avoids bs)) (dots_avoids (b ∷ bs))
+no_mark b bs = or_from _ _ (and_right (is_mark_byte b) (nothing (bs ++ colon)) (nothing_avoids bs)) (dots_avoids (b ∷ bs))
 
 -- the signs of names other than `$`
 no_sign : (b : ℕ) → is_name_byte b ≡ true → (eqb b 37 ≡ false) × (eqb b 64 ≡ false) × (eqb b 33 ≡ false) × (eqb b 35 ≡ false) × (eqb b 94 ≡ false) × (eqb b 34 ≡ false)
@@ -75,7 +72,7 @@ no_quote [] h = refl
 no_quote (b ∷ bs) h = let e = and_parts (is_name_byte b) (list_all is_name_byte bs) h in let o = no_sign b e.0 in rw o.5 refl
 
 no_name : (bs : List ℕ) → list_all is_name_byte bs ≡ true → is_name (bs ++ colon) ≡ false
-no_name bs h = neither _ _ (neither _ _ (digits_avoids bs) (plain_avoids bs)) (no_quote bs h)
+no_name bs h = or_from _ _ (or_from _ _ (digits_avoids bs) (plain_avoids bs)) (no_quote bs h)
 
 other_byte : (w b : ℕ) (k : List ℕ → Bool) (bs : List ℕ) → eqb b w ≡ false → byte w k (b ∷ bs) ≡ false
 other_byte w b k bs e = rw e refl

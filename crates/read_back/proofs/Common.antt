@@ -1,13 +1,13 @@
 -- What proofs of this crate cite of std, of other crates and of its definitions, passed on from one place. Declares nothing.
 pub use Rattle.std.proofs.Common.{ℕ, List, [], ◌∷◌, Option, Some, None, map, ◌≡◌, suc, ◌+◌, ◌<◌, ◌≤◌, ◌^◌, Bool, true, false, ◌++◌, length, refl, sym, ap, subst, ◌∙◌, codes, arith, append_assoc, append-nil, ◌-◌, ◌*◌, cond, take, drop, zero, inl, inr, ◌⊎◌, Ok, Result, slice_range, ◌/◌, ◌%◌, eqb, get_or, ltb, min, sum_by}
 pub use Rattle.std.proofs.Math.Nat.{pow-le-pow_right}
-pub use Rattle.std.proofs.lemmas.Bool.{lt-ltb, ltb-true, or_left, cases_Bool, and_parts, false_from_ne_true, or_parts, cases_lt, eq-eqb, eqb-true, and_left, ne_eqb, not-true, and_from, and_right, eqb-false, le-ltb, false≢true, le-leb, leb-true, or_right}
+pub use Rattle.std.proofs.lemmas.Bool.{lt-ltb, ltb-true, or_left, cases_Bool, and_parts, false_from_ne_true, or_parts, cases_lt, eq-eqb, eqb-true, and_left, ne_eqb, not-true, and_from, and_right, eqb-false, le-ltb, false≢true, le-leb, leb-true, or_right, or_from}
 pub use Rattle.std.proofs.lemmas.Bool.Decides.{nat_tests}
 pub use Rattle.std.proofs.lemmas.Fmt.{decimal_by_steps, IsAscii-decimal, decimal_injective}
 pub use Rattle.std.proofs.lemmas.List.{length-append, length-map, take_at, drop_at, take-append-le, take-map, drop-map, map-append, get_or_at, length-take-le}
 pub use Rattle.std.proofs.lemmas.List.Elements.{All-nil, All-cons, All-head, All-tail, All-take, All-drop, All-contains, All-from_recursion, Contains-append_left, Contains-append_right, recursion_from_All, All-push, All-from_get_or}
 pub use Rattle.std.proofs.lemmas.Nat.{pow_pos, pow_below, mod_below}
-pub use Rattle.std.proofs.lemmas.Option.{slice_get-map, get_or_from_slice_get}
+pub use Rattle.std.proofs.lemmas.Option.{slice_get-map, get_or_from_slice_get, same_Some}
 pub use Rattle.std.proofs.lemmas.Slice.Eq.{bytes_eq-Decides}
 pub use Rattle.std.specs.Fmt.{decimal}
 pub use Rattle.std.specs.List.{list_all, AllByRecursion, Contains, flat_map, AllZip, IsDistinct, slice_get, list_any, find}

@@ -1,5 +1,5 @@
 -- Sites by their numbers: what holds of each in its part, and names defined in rising order.
-use Rattle.read_back.proofs.Common.{◌≡◌, ℕ, zero, suc, ◌+◌, ◌<◌, ◌≤◌, List, [], ◌∷◌, ◌++◌, map, Option, Some, refl, subst, arith, AllByRecursion, slice_get, IrType, Part, Site, Defines, Uses, Enters, Written, Step, sites_in}
+use Rattle.read_back.proofs.Common.{◌≡◌, ℕ, zero, suc, ◌+◌, ◌<◌, ◌≤◌, List, [], ◌∷◌, ◌++◌, map, Option, Some, refl, subst, arith, AllByRecursion, slice_get, IrType, Part, Site, Defines, Uses, Enters, Written, Step, sites_in, same_Some}
 use Rattle.ir_tree.specs.Sites.{parts_in}
 
 -- ---- what holds of a site in its part
@@ -13,9 +13,6 @@ pub record Found (P : Part → Site → Type 0) (parts : List Part) (n : ℕ) (s
 abbrev pub HoldsIn : (Part → Site → Type 0) → List Step → Type 0
 HoldsIn P ss = AllByRecursion (λ (step : Step). AllByRecursion (P step.0) step.1) ss
 
-pub only-some : {A : Type 0} (x y : A) → Some x ≡ Some y → x ≡ y
-only-some x y e = cc e
-
 within : (P : Part → Site → Type 0) (p : Part) (own sites : List Site) (parts : List Part)
     → AllByRecursion (P p) own
     → ((m : ℕ) (s : Site) → slice_get sites m ≡ Some s → Found P parts m s)
@@ -23,7 +20,7 @@ within : (P : Part → Site → Type 0) (p : Part) (own sites : List Site) (part
     → Found P (map (λ (site : Site). p) own ++ parts) n s
 within P p [] sites parts h others n s e = others n s e
 within P p (o ∷ own) sites parts h others zero s e =
-    record { part = p; stands = refl; holds = subst (P p) (only-some o s e) h.0 }
+    record { part = p; stands = refl; holds = subst (P p) (same_Some o s e) h.0 }
 within P p (o ∷ own) sites parts h others (suc n) s e =
     let f = within P p own sites parts h.1 others n s e in
     record { part = f.part; stands = f.stands; holds = f.holds }

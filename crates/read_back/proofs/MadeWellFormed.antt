@@ -1,12 +1,12 @@
 -- A made function is well formed: each name comes before its uses, and all values are bytes.
-use Rattle.read_back.proofs.Common.{◌≡◌, ℕ, zero, suc, ◌+◌, ◌<◌, ◌≤◌, inl, inr, true, false, List, [], ◌∷◌, ◌++◌, length, take, Some, None, refl, sym, ap, ◌∙◌, subst, append-nil, append_assoc, arith, Contains, slice_get, cases_lt, ltb-true, Name, IrType, Int, Local, Inst, Block, Phi, Part, Site, Defines, Uses, Enters, Written, Step, steps, sites, parts, sites_in, inst_sites, inst_steps, is_same_type, assigned_with, DefinesAgain, UsesUnknown, ClashesType, HasWrongEdge, IsMissed, IsMissedAt, UsesUnassigned, IsWellFormed, UsesUndef, leaf_count, eight, value_name}
+use Rattle.read_back.proofs.Common.{◌≡◌, ℕ, zero, suc, ◌+◌, ◌<◌, ◌≤◌, inl, inr, true, false, List, [], ◌∷◌, ◌++◌, length, take, Some, None, refl, sym, ap, ◌∙◌, subst, append-nil, append_assoc, arith, Contains, slice_get, cases_lt, ltb-true, Name, IrType, Int, Local, Inst, Block, Phi, Part, Site, Defines, Uses, Enters, Written, Step, steps, sites, parts, sites_in, inst_sites, inst_steps, is_same_type, assigned_with, DefinesAgain, UsesUnknown, ClashesType, HasWrongEdge, IsMissed, IsMissedAt, UsesUnassigned, IsWellFormed, UsesUndef, leaf_count, eight, value_name, same_Some}
 use Rattle.std.proofs.lemmas.Grind.{flat_map-append}
 use Rattle.ir_tree.specs.declared.sites.Part.TheVariants as part
 use Rattle.read_back.proofs.MadeNames.{value-big}
 use Rattle.read_back.proofs.MadeInsts.{AreMade}
 use Rattle.read_back.proofs.MadeLeaves.{no_leaves}
 use Rattle.read_back.proofs.MadeWritten.{plain_block, plain_function}
-use Rattle.read_back.proofs.MadeSites.{Found, only-some, site-found, Rises, rising-once}
+use Rattle.read_back.proofs.MadeSites.{Found, site-found, Rises, rising-once}
 use Rattle.read_back.proofs.MadeAssigned.{IsBehind, IsAssigned, IsSound, last_step, made_steps, all-sound}
 
 -- ---- the sites in order
@@ -133,7 +133,7 @@ typed n insts h k (inr u) =
     absurd cc
 
 only_block : (x y : Block) (k : ℕ) → slice_get (x ∷ []) k ≡ Some y → x ≡ y
-only_block x y zero e = only-some x y e
+only_block x y zero e = same_Some x y e
 only_block x y (suc k) e = absurd (cc e)
 
 no_phi : (insts : List Inst) (b : Block) (k place : ℕ) (phi : Phi)
@@ -176,7 +176,7 @@ assigned : (n : Name) (insts : List Inst) → AreMade 0 insts → (k : ℕ)
     → UsesUnassigned (plain_function n insts) k → ⊥
 assigned n insts h k u =
     let f = found n insts h k (Uses u.type u.name) u.here in
-    let same = only-some f.part u.part (sym f.stands ∙ u.stands) in
+    let same = same_Some f.part u.part (sym f.stands ∙ u.stands) in
     never n insts u.part k u.name (subst (λ (p : Part).
     IsAssigned insts p u.name) same f.holds.1.assigned) u.missed
 

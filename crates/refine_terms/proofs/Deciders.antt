@@ -1,6 +1,6 @@
 -- What decides one fact decides another.
-use Rattle.refine_terms.proofs.Common.{ℕ, ◌≡◌, ◌≤◌, ◌↔◌, ◌⊎◌, inl, inr, Bool, true, ◌&&◌, ◌||◌, nat_le, List, sym, subst, ◌∙◌, TermId, Term, Keeps, Tests, IsTerm, bit_at, bit-later, is_term-later, Decides}
-use Rattle.refine_terms.proofs.Truths.{and_left, and_right, and_both, or_left, or_right, or_either, at_most_says}
+use Rattle.refine_terms.proofs.Common.{ℕ, ◌≡◌, ◌≤◌, ◌↔◌, ◌⊎◌, inl, inr, Bool, true, ◌&&◌, ◌||◌, nat_le, List, sym, subst, ◌∙◌, TermId, Term, Keeps, Tests, IsTerm, bit_at, bit-later, is_term-later, Decides, and_from, or_left, or_right, or_cases}
+use Rattle.refine_terms.proofs.Truths.{and_left, and_right, at_most_says}
 
 pub tested : (new : List Term) (id : TermId) (test : (ℕ → ℕ → ℕ) → Bool) (fact : (ℕ → ℕ → ℕ) → Type 0) → Tests new id test → ((v : ℕ → ℕ → ℕ) → (test v ≡ true) ↔ fact v) → Decides new id fact
 tested new id test fact t same = (
@@ -26,7 +26,7 @@ both_decide old new a b id F G p q t = (
   record { within = t.within; wide = t.wide },
   λ v. (
     (λ e. let h : (bit_at v old a && bit_at v old b) ≡ true = sym (t.says v) ∙ e in ((p.1 v).0 (and_left (bit_at v old a) (bit_at v old b) h), (q.1 v).0 (and_right (bit_at v old a) (bit_at v old b) h))),
-    (λ f. t.says v ∙ and_both (bit_at v old a) (bit_at v old b) ((p.1 v).1 f.0) ((q.1 v).1 f.1)),
+    (λ f. t.says v ∙ and_from (bit_at v old a) (bit_at v old b) ((p.1 v).1 f.0) ((q.1 v).1 f.1)),
   ),
 )
 
@@ -35,7 +35,7 @@ either_decides old new a b id F G p q t = (
   record { within = t.within; wide = t.wide },
   λ v. (
     (λ e.
-        elim (or_either (bit_at v old a) (bit_at v old b) (sym (t.says v) ∙ e)) as (λ _. F v ⊎ G v) [
+        elim (or_cases (bit_at v old a) (bit_at v old b) (sym (t.says v) ∙ e)) as (λ _. F v ⊎ G v) [
           | inl h ↦ inl ((p.1 v).0 h)
           | inr h ↦ inr ((q.1 v).0 h)
         ]),
@@ -64,7 +64,7 @@ row_more a b c all one next F Rest Next Whole k h so d t more v =
       (λ w.
           let all_of = (so v).1 w in
           let parts = (more v).0 all_of.1 in
-          (t.says v ∙ and_both (bit_at v b all) (bit_at v b one) (was ∙ all_of.0) ((d.1 v).1 parts.0), parts.1)),
+          (t.says v ∙ and_from (bit_at v b all) (bit_at v b one) (was ∙ all_of.0) ((d.1 v).1 parts.0), parts.1)),
     )
 
 pub row_starts : (a : List Term) (all : TermId) (Whole : (ℕ → ℕ → ℕ) → Type 0) → Tests a all (λ _. true) → (v : ℕ → ℕ → ℕ) → ((bit_at v a all ≡ true) × Whole v) ↔ Whole v

@@ -1,6 +1,6 @@
 -- What proofs of this crate cite of std, of other crates and of its definitions, passed on from one place. Declares nothing.
 pub use Rattle.std.proofs.Common.{◌≡◌, ℕ, ◌%◌, List, [], ◌∷◌, nat_eq, Bool, true, false, if◌then◌else◌, Some, inl, inr, refl, sym, ◌∙◌, ◌≢◌, ◌+◌, ◌<◌, map, length, ◌&&◌, ◌||◌, not, ap, zero, suc, ◌≤◌, ◌++◌, nat_lt, Option, None, subst, arith, drop, ◌^◌, get_or, ◌-◌, ◌*◌}
-pub use Rattle.std.proofs.lemmas.Bool.{eqb-true, ltb-true, cases_lt}
+pub use Rattle.std.proofs.lemmas.Bool.{eqb-true, ltb-true, cases_lt, or_parts, and_parts, not-true}
 pub use Rattle.std.proofs.lemmas.List.{drop_all, drop_more, get_or-set_same, length-set}
 pub use Rattle.std.proofs.lemmas.Option.{slice_get_past, slice_get_cases, slice_get_within, get_or_from_slice_get, slice_get-get_or, slice_get_read}
 pub use Rattle.std.specs.List.{list_any, list_all, find}

@@ -1,19 +1,11 @@
 -- What a name reads after it was assigned, and operands that are not poison.
-use Rattle.run_trace.proofs.Common.{◌≡◌, ℕ, ◌<◌, ◌≤◌, List, ◌∷◌, length, Bool, true, false, ◌&&◌, ◌||◌, not, Some, inl, inr, refl, sym, ap, ◌∙◌, subst, slice_get, slice_set, list_any, cases_lt, slice_get_past, slice_get-get_or, get_or-set_same, length-set, TypedOperand, Value, Num, Poison, Machine, assigned, cut_value, typed_operand_value, is_poison, is_name, is_poison_name, is_poison_literal, value_after, is_some_poison}
+use Rattle.run_trace.proofs.Common.{◌≡◌, ℕ, ◌<◌, ◌≤◌, List, ◌∷◌, length, Bool, true, false, ◌&&◌, ◌||◌, not, Some, inl, inr, refl, sym, ap, ◌∙◌, subst, slice_get, slice_set, list_any, cases_lt, slice_get_past, slice_get-get_or, get_or-set_same, length-set, TypedOperand, Value, Num, Poison, Machine, assigned, cut_value, typed_operand_value, is_poison, is_name, is_poison_name, is_poison_literal, value_after, is_some_poison, or_parts}
 use Rattle.byte_block.specs.declared.value.Value.TheVariants as value
 
 -- ---- tests
 
 pub true_not_false : {A : Type 0} → ◌≡◌ {A = Bool} true false → A
 true_not_false e = absurd (cc)
-
-pub or_false : (x y : Bool) → (x || y) ≡ false → (x ≡ false) × (y ≡ false)
-or_false true y e = true_not_false e
-or_false false y e = (refl, e)
-
-pub and_true : (x y : Bool) → (x && y) ≡ true → (x ≡ true) × (y ≡ true)
-and_true true y e = (refl, e)
-and_true false y e = true_not_false (sym e)
 
 pub no_and : {A : Type 0} (x : Bool) → (x && false) ≡ true → A
 no_and true e = true_not_false (sym e)
@@ -55,11 +47,11 @@ pub defined_first : (registers : List Value) (t : TypedOperand) (ts : List Typed
     → is_poison (typed_operand_value registers t) ≡ false
 defined_first registers t ts names literals =
     defined_operand registers t
-    (or_false (is_poison_name registers t) (list_any (is_poison_name registers) ts) names).0
-    (or_false (is_poison_literal registers t) (list_any (is_poison_literal registers) ts) literals).0
+    (or_parts (is_poison_name registers t) (list_any (is_poison_name registers) ts) names).0
+    (or_parts (is_poison_literal registers t) (list_any (is_poison_literal registers) ts) literals).0
 
 pub others_same : {A : Type 0} (p : A → Bool) (x : A) (xs : List A) → list_any p (x ∷ xs) ≡ false → list_any p xs ≡ false
-others_same p x xs none = (or_false (p x) (list_any p xs) none).1
+others_same p x xs none = (or_parts (p x) (list_any p xs) none).1
 
 -- what is used as a number and is not poison is a number
 pub defined_number : (n : ℕ) (v : Value) → is_poison (cut_value n v) ≡ false → (a : ℕ) × (v ≡ Num a)

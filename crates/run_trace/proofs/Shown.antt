@@ -1,13 +1,8 @@
 -- What is shown of an instruction that acted.
-use Rattle.run_trace.proofs.Common.{◌≡◌, ℕ, List, drop, length, Bool, true, false, ◌&&◌, ◌||◌, not, if◌then◌else◌, Option, Some, None, inl, inr, refl, sym, ap, ◌∙◌, list_any, Inst, Function, Value, Machine, act, Reason, effective_operands, is_poison_name, name_of, value_after, words_after, Position, Acts, after_inst, is_some_poison, gives_poison, NeedsCause, IsCauseOf, is_failure, needs_reason, HasReason, Shows, position, IsBefore}
+use Rattle.run_trace.proofs.Common.{◌≡◌, ℕ, List, drop, length, Bool, true, false, ◌&&◌, ◌||◌, not, if◌then◌else◌, Option, Some, None, inl, inr, refl, sym, ap, ◌∙◌, list_any, Inst, Function, Value, Machine, act, Reason, effective_operands, is_poison_name, name_of, value_after, words_after, Position, Acts, after_inst, is_some_poison, gives_poison, NeedsCause, IsCauseOf, is_failure, needs_reason, HasReason, Shows, position, IsBefore, and_parts, not-true}
 use Rattle.std.proofs.Math.Seq.{drop-length}
 use Rattle.run_trace.specs.declared.steps.Site.TheVariants as site
 use Rattle.run_trace.specs.declared.insts.Before.{Before}
-use Rattle.run_trace.proofs.Given.{true_not_false, and_true}
-
-not_true : (b : Bool) → not b ≡ true → b ≡ false
-not_true true e = true_not_false (sym e)
-not_true false e = refl
 
 needs_cause : (inst : Inst) (tape : List ℕ) (p : Position)
     → (is_failure (after_inst p (act inst tape p.machine)) || (gives_poison inst tape p.machine && not (list_any (is_poison_name p.machine.registers) (effective_operands inst p.machine.registers)))) ≡ true
@@ -18,7 +13,7 @@ needs_cause inst tape p = go (act inst tape p.machine) refl
         → (is_failure (after_inst p o) || (gives_poison inst tape p.machine && not (list_any (is_poison_name p.machine.registers) (effective_operands inst p.machine.registers)))) ≡ true
         → NeedsCause inst tape p.machine
     go None e needs = inl e
-    go (Some m) e needs = let both = and_true _ _ needs in inr (both.0, not_true _ both.1)
+    go (Some m) e needs = let both = and_parts _ _ needs in inr (both.0, not-true _ both.1)
 
 reason_if : (f : Function) (inst : Inst) (tape : List ℕ) (p : Position) (cause : Option Reason) → IsCauseOf inst p.machine cause
     → (n : Bool) → needs_reason f tape (Acts inst) p ≡ n → HasReason f tape (Acts inst) p (if n then cause else None)

@@ -1,5 +1,5 @@
 -- What is shown of a terminator.
-use Rattle.run_trace.proofs.Common.{◌≡◌, ℕ, zero, suc, ◌≤◌, List, [], ◌∷◌, ◌++◌, length, Bool, true, false, ◌&&◌, ◌||◌, not, nat_eq, nat_lt, if◌then◌else◌, Option, Some, None, refl, sym, ap, subst, ◌∙◌, arith, IsSomeAnd, slice_get, list_any, eqb-true, slice_get_past, IrType, TypedOperand, Block, Function, block_of, Value, Num, Poison, Machine, Exit, exit_by, branch_on, switch_on, returned_run, returned_with, undef_type, operand_value, typed_operand_value, is_poison, ended, Ub, exit_with, Reason, Step, end_operands, is_name, is_poison_name, is_poison_literal, Position, Insts, State, At, Leaves, item_at, at_block, after_jump, after_exit, again, is_some_poison, IsReturnOf, IsEndReason, is_no_return, is_failure, value_of_exit, block_of_exit, taken_by_exit, needs_reason, HasReason, Shows, Leads, position, IsFailedExit, IsReasonOver, IsLeaving, is_too_many}
+use Rattle.run_trace.proofs.Common.{◌≡◌, ℕ, zero, suc, ◌≤◌, List, [], ◌∷◌, ◌++◌, length, Bool, true, false, ◌&&◌, ◌||◌, not, nat_eq, nat_lt, if◌then◌else◌, Option, Some, None, refl, sym, ap, subst, ◌∙◌, arith, IsSomeAnd, slice_get, list_any, eqb-true, slice_get_past, IrType, TypedOperand, Block, Function, block_of, Value, Num, Poison, Machine, Exit, exit_by, branch_on, switch_on, returned_run, returned_with, undef_type, operand_value, typed_operand_value, is_poison, ended, Ub, exit_with, Reason, Step, end_operands, is_name, is_poison_name, is_poison_literal, Position, Insts, State, At, Leaves, item_at, at_block, after_jump, after_exit, again, is_some_poison, IsReturnOf, IsEndReason, is_no_return, is_failure, value_of_exit, block_of_exit, taken_by_exit, needs_reason, HasReason, Shows, Leads, position, IsFailedExit, IsReasonOver, IsLeaving, is_too_many, or_parts, and_parts}
 use Rattle.std.proofs.Math.Dec.{eqb-suc-zero}
 use Rattle.ir_tree.specs.declared.tree.Case.{Case}
 use Rattle.ir_tree.specs.declared.tree.Terminator.{Terminator}
@@ -13,7 +13,7 @@ use Rattle.choice_interp.specs.declared.ending.Ending.TheVariants as ending
 use Rattle.choice_interp.specs.Ran.{outcome_of}
 use Rattle.run_trace.specs.declared.steps.Reason.TheVariants as reason
 use Rattle.run_trace.specs.declared.ends.Leaving.{Leaving}
-use Rattle.run_trace.proofs.Given.{true_not_false, and_true, or_false}
+use Rattle.run_trace.proofs.Given.{true_not_false}
 use Rattle.run_trace.proofs.Never.{choice_defined}
 use Rattle.run_trace.proofs.Leading.{leads_shown}
 
@@ -52,7 +52,7 @@ switch_gives_none width (value.Ptr p) default cases m = refl
 poison_literal : (no_undef : Bool) (end : Terminator) (tape : List ℕ) (m : Machine) → is_some_poison (value_of_exit (exit_by no_undef end tape m)) ≡ true
     → list_any (is_poison_name m.registers) (end_operands end) ≡ false → IsReturnOf is_poison_literal end m
 poison_literal no_undef (terminator.Return None) tape m e names = true_not_false (sym e)
-poison_literal no_undef (terminator.Return (Some r)) tape m e names = returned_literal no_undef r tape m e (or_false (is_poison_name m.registers r) false names).0
+poison_literal no_undef (terminator.Return (Some r)) tape m e names = returned_literal no_undef r tape m e (or_parts (is_poison_name m.registers r) false names).0
 poison_literal no_undef (terminator.Branch to) tape m e names = true_not_false (sym e)
 poison_literal no_undef (terminator.CondBranch condition if_true if_false) tape m e names = true_not_false (sym e ∙ branch_gives_none (operand_value m.registers condition) if_true if_false m)
 poison_literal no_undef (terminator.Switch width operand default cases) tape m e names = true_not_false (sym e ∙ switch_gives_none width.bits (operand_value m.registers operand) default cases m)
@@ -122,7 +122,7 @@ end_returned f end tape m n leaving k v o is so e =
         → (is_some_poison v && not (list_any (is_poison_name m.registers) (end_operands end))) ≡ b
         → HasReason f tape (Leaves end) (position leaving.at k leaving.jumps m) (if b then Some reason.PoisonOperand else None)
     go true needs x h =
-        let both = and_true (is_some_poison v) (not (list_any (is_poison_name m.registers) (end_operands end))) h in (
+        let both = and_parts (is_some_poison v) (not (list_any (is_poison_name m.registers) (end_operands end))) h in (
           needs ∙ h,
           poison_literal f.returns_no_undef end tape m (ap (λ y. is_some_poison (value_of_exit y)) x ∙ both.0) (no_name (list_any (is_poison_name m.registers) (end_operands end)) both.1),
         )
@@ -165,7 +165,7 @@ end_jumped f end tape m n leaving k label o is so e =
         → is_too_many leaving.at leaving.jumps (Some (block_of f label)) ≡ b
         → HasReason f tape (Leaves end) (position leaving.at k leaving.jumps m) (if b then Some reason.TooManyJumps else None)
     go true needs x h =
-        let both = and_true (not (nat_lt leaving.at (block_of f label))) (nat_eq leaving.jumps 0) h in
+        let both = and_parts (not (nat_lt leaving.at (block_of f label))) (nat_eq leaving.jumps 0) h in
         (needs ∙ h, (eqb-true leaving.jumps 0 both.1, rw x (backward (nat_lt leaving.at (block_of f label)) both.0)))
     go false needs x h = needs ∙ h
 

@@ -1,5 +1,5 @@
 -- The solver's answer on a circuit's clauses is the answer to its question.
-use Rattle.sat_ask.proofs.Common.{ℕ, suc, ◌≡◌, ◌<◌, ◌≤◌, ◌+◌, ◌-◌, Bool, true, false, ◌&&◌, ◌||◌, List, [], ◌∷◌, ◌++◌, length, map, take, drop, get_or, slice_get, Option, Some, refl, ap, sym, subst, ◌∙◌, arith, length-take-le, get_or-take, drop_more, Cnf, Answer, IsAnswer, IsLeast, IsLess, GateId, Gate, gate_at, AreAllNamed, Encodes, HasOneModelAFront, Asks, IsLeastOf, NonePass, UsesEachStepOf}
+use Rattle.sat_ask.proofs.Common.{ℕ, suc, ◌≡◌, ◌<◌, ◌≤◌, ◌+◌, ◌-◌, Bool, true, false, ◌&&◌, ◌||◌, List, [], ◌∷◌, ◌++◌, length, map, take, drop, get_or, slice_get, Option, Some, refl, ap, sym, subst, ◌∙◌, arith, length-take-le, get_or-take, drop_more, Cnf, Answer, IsAnswer, IsLeast, IsLess, GateId, Gate, gate_at, AreAllNamed, Encodes, HasOneModelAFront, Asks, IsLeastOf, NonePass, UsesEachStepOf, and_from}
 use Rattle.clause_lits.specs.declared.lit.Lit.{Lit}
 use Rattle.clause_lits.specs.Meaning as meaning
 use Rattle.clause_lits.specs.Meaning.{IsModel, clauses_true, clause_true, lit_true}
@@ -15,9 +15,6 @@ and_left false b h = h
 and_right : (a b : Bool) → (a && b) ≡ true → b ≡ true
 and_right true b h = h
 and_right false b h = absurd (let x : ⊥ = cc in x)
-
-both_true : (a b : Bool) → a ≡ true → b ≡ true → (a && b) ≡ true
-both_true a b p q = rw (p, q) refl
 
 one_literal : (b : Bool) → ((b || false) && true) ≡ b
 one_literal true = refl
@@ -78,7 +75,7 @@ module _ (test : List Bool → Bool) (count : ℕ) (cnf : Cnf) (q : Asks test co
   model-join : (places : List Bool) → IsModel cnf.variables q.body places → test (take count places) ≡ true → IsModel cnf.variables cnf.clauses places
   model-join places m passes =
       let v = meaning.values_of places in
-      (m.0, ap (clauses_true v) q.clauses ∙ (clauses-last v q.body q.literal ∙ both_true (clauses_true v q.body) (lit_true v q.literal) m.1 (q.right places m ∙ passes)))
+      (m.0, ap (clauses_true v) q.clauses ∙ (clauses-last v q.body q.literal ∙ and_from (clauses_true v q.body) (lit_true v q.literal) m.1 (q.right places m ∙ passes)))
 
   less-up : (others places o : List Bool) → take count others ≡ o → IsLess count o (take count places) → IsLess count others places
   less-up others places o is less =

@@ -1,7 +1,7 @@
 -- What proofs of this crate cite of std, of other crates and of its definitions, passed on from one place. Declares nothing.
 pub use Rattle.std.proofs.Common.{ℕ, suc, ◌≡◌, ◌<◌, ◌≤◌, ◌+◌, ◌-◌, Bool, true, false, ◌&&◌, ◌||◌, List, [], ◌∷◌, ◌++◌, length, map, take, drop, get_or, slice_get, Option, Some, refl, ap, sym, subst, ◌∙◌, arith, ◌*◌, ◌^◌, inl, inr, All, length-append, zero, ◌%◌, cond, ◌≢◌}
 pub use Rattle.std.proofs.Math.Seq.{take-append_seam, drop-append_seam}
-pub use Rattle.std.proofs.lemmas.Bool.{cases_eq, cases_Bool, eq-eqb, cases_lt}
+pub use Rattle.std.proofs.lemmas.Bool.{cases_eq, cases_Bool, eq-eqb, cases_lt, and_from}
 pub use Rattle.std.proofs.lemmas.List.{length-take-le, get_or-take, drop_more, drop_all, get_or_push, get_or_append_left, length-map, map-append, map_push, take_more, get_or-set_same, get_or-set_other, get_or-replicate, get_or_past, length-replicate, length-set}
 pub use Rattle.std.proofs.lemmas.Option.{slice_get-get_or, get_or_from_slice_get, slice_get_within}
 pub use Rattle.bit_blast.proofs.Standing.{operands-within}

@@ -1,7 +1,6 @@
 -- The arguments of the commands, as `clap` has them.
-use Rattle.tv_cli.proofs.Common.{◌≡◌, ◌||◌, ◌+◌, ℕ, min, Bool, true, false, true≢false, refl, sym, ap, subst, List, [], ◌∷◌, Option, Some, None, codes, list_any, bytes_eq, bytes_eq-Decides, usize_max, Row, Rule, arg_by_id, arg_by_index, arg_by_long, arg_by_short, is_append, action_of, most_values, takes_several, takes_values, used, with_values, without, or_else, repeat_fault, use_fault, Shape, built, built_leaf, filled, inherited, marked_built, on_top, with_index, with_leaf_noted, CommandLine, AsWritten, Text, check_options, is_option, make_options, check_app, log_app, make_app, name_rule, option_rule, tv_app}
+use Rattle.tv_cli.proofs.Common.{◌≡◌, ◌||◌, ◌+◌, ℕ, min, Bool, true, false, true≢false, refl, sym, ap, subst, List, [], ◌∷◌, Option, Some, None, codes, list_any, bytes_eq, bytes_eq-Decides, usize_max, Row, Rule, arg_by_id, arg_by_index, arg_by_long, arg_by_short, is_append, action_of, most_values, takes_several, takes_values, used, with_values, without, or_else, repeat_fault, use_fault, Shape, built, built_leaf, filled, inherited, marked_built, on_top, with_index, with_leaf_noted, CommandLine, AsWritten, Text, check_options, is_option, make_options, check_app, log_app, make_app, name_rule, option_rule, tv_app, or_parts}
 use Rattle.clap.specs.declared.error.kind.ErrorKind.TheVariants as kind
-use Rattle.tv_cli.proofs.Uses.{or_false}
 
 -- an argument that takes one value, once
 pub record RuleOf (c : List Rule) (id : Text) : Type 0 where
@@ -109,7 +108,7 @@ each P (x ∷ xs) all n e = go (bytes_eq x n) refl e (each P xs all.1 n)
 pub no_match : (names : List Text) (n : Text) → list_any (λ known. bytes_eq known n) names ≡ false → Each (λ known. bytes_eq known n ≡ false) names
 no_match [] n e = tt
 no_match (x ∷ xs) n e =
-    let parts = or_false (bytes_eq x n) (list_any (λ known. bytes_eq known n) xs) e in
+    let parts = or_parts (bytes_eq x n) (list_any (λ known. bytes_eq known n) xs) e in
     (parts.0, no_match xs n parts.1)
 
 -- ---- options among the rules of a command

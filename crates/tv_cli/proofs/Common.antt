@@ -1,7 +1,8 @@
 -- What proofs of this crate cite of std, of other crates and of its definitions, passed on from one place. Declares nothing.
 pub use Rattle.std.proofs.Common.{◌≡◌, ℕ, refl, List, [], Option, Some, None, codes, ◌++◌, ◌&&◌, Bool, true, false, true≢false, cond, sym, ap, subst, ◌∙◌, ◌∷◌, append_assoc, ◌≢◌, option_map, ap₂, inl, inr, ◌||◌, ◌+◌, min, ◌==◌, arith, length, take, slice_get, IsUtf8, encode_utf8_all, not, ◌≤◌, nat_lt, nat_le, lt-ltb, ltb-true, is_some, map, fold, ◌⊎◌, String, string_bytes, if◌then◌else◌, append-nil}
+pub use Rattle.std.proofs.lemmas.Option.{same_Some}
 pub use Rattle.std.proofs.Math.Bool.{and-false}
-pub use Rattle.std.proofs.lemmas.Bool.{eqb-true, leb-true, le-leb}
+pub use Rattle.std.proofs.lemmas.Bool.{eqb-true, leb-true, le-leb, and_parts, or_parts}
 pub use Rattle.std.proofs.lemmas.Slice.Eq.{bytes_eq-Decides, slice_eq-Decides}
 pub use Rattle.std.proofs.lemmas.Str.{encodes-chars, IsUtf8-string_bytes}
 pub use Rattle.std.specs.Char.{encode_utf8, digit_value}

@@ -1,18 +1,14 @@
 -- A number as a text.
-use Rattle.tv_cli.proofs.Common.{◌≡◌, ◌≤◌, ◌&&◌, ℕ, Bool, true, false, true≢false, refl, sym, List, [], ◌∷◌, length, Some, None, nat_lt, nat_le, lt-ltb, ltb-true, leb-true, list_all, digit_value, AllDigits, IsNumeral, digits_value, without_leading_plus, Range, number_within}
+use Rattle.tv_cli.proofs.Common.{◌≡◌, ◌≤◌, ◌&&◌, ℕ, Bool, true, false, true≢false, refl, List, [], ◌∷◌, length, Some, None, nat_lt, nat_le, lt-ltb, ltb-true, leb-true, list_all, digit_value, AllDigits, IsNumeral, digits_value, without_leading_plus, Range, number_within, and_parts}
 
 digits_pass : (ds : List ℕ) → AllDigits 10 ds → list_all (λ d. nat_lt (digit_value d) 10) ds ≡ true
 digits_pass [] h = refl
 digits_pass (d ∷ ds) h = rw (lt-ltb (digit_value d) 10 h.0) (digits_pass ds h.1)
 
-pub both : (a b : Bool) → (a && b) ≡ true → (a ≡ true) × (b ≡ true)
-both true b e = (refl, e)
-both false b e = absurd (true≢false (sym e))
-
 digits_from : (ds : List ℕ) → list_all (λ d. nat_lt (digit_value d) 10) ds ≡ true → AllDigits 10 ds
 digits_from [] e = tt
 digits_from (d ∷ ds) e =
-    let parts = both _ _ e in
+    let parts = and_parts _ _ e in
     (ltb-true _ _ parts.0, digits_from ds parts.1)
 
 -- a numeral is the number, where the range has it
@@ -30,9 +26,9 @@ passes : (text : List ℕ) (r : Range)
     → (nat_lt 0 (length (without_leading_plus text)) && list_all (λ d. nat_lt (digit_value d) 10) (without_leading_plus text) && nat_le r.least (digits_value 10 (without_leading_plus text)) && nat_le (digits_value 10 (without_leading_plus text)) r.most) ≡ true
     → Passes text r
 passes text r e =
-    let most = both _ _ e in
-    let least = both _ _ most.0 in
-    let numeral = both _ _ least.0 in
+    let most = and_parts _ _ e in
+    let least = and_parts _ _ most.0 in
+    let numeral = and_parts _ _ least.0 in
     record { numeral = (ltb-true _ _ numeral.0, digits_from (without_leading_plus text) numeral.1); most = leb-true _ _ most.1 }
 
 -- a text that is no numeral, or one past the range, is no number

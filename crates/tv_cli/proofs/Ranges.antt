@@ -1,11 +1,8 @@
 -- The bounds and the budget of a job are in their ranges.
-use Rattle.tv_cli.proofs.Common.{◌≡◌, ◌≤◌, ◌&&◌, ℕ, Bool, true, false, true≢false, cond, refl, sym, ap, subst, arith, List, [], ◌∷◌, length, Option, Some, None, option_map, is_some, ◌∙◌, codes, nat_lt, nat_le, leb-true, list_all, digit_value, bytes_eq, digits_value, without_leading_plus, Bounds, Budget, Range, check, log, make, Text, Part, Check, Make, Job, number_within, number_once, values_in, bounds_with, budget_with, check_with, check_named, check_in_parts, check_options, file_in_parts, job_of, make_in_parts, names_in, are_known, parts_of, turns_range, blocks_range, bytes_range, rounds_range, conflicts_range, weight_range}
+use Rattle.tv_cli.proofs.Common.{◌≡◌, ◌≤◌, ◌&&◌, ℕ, Bool, true, false, true≢false, cond, refl, sym, ap, subst, arith, List, [], ◌∷◌, length, Option, Some, None, option_map, is_some, ◌∙◌, codes, nat_lt, nat_le, leb-true, list_all, digit_value, bytes_eq, digits_value, without_leading_plus, Bounds, Budget, Range, check, log, make, Text, Part, Check, Make, Job, number_within, number_once, values_in, bounds_with, budget_with, check_with, check_named, check_in_parts, check_options, file_in_parts, job_of, make_in_parts, names_in, are_known, parts_of, turns_range, blocks_range, bytes_range, rounds_range, conflicts_range, weight_range, same_Some}
 
 pub none≢some : {X : Type 0} (x : X) → None ≡ Some x → ⊥
 none≢some x e = true≢false (sym (ap (λ o. is_some o) e))
-
-pub some_is : {X : Type 0} (x y : X) → Some x ≡ Some y → x ≡ y
-some_is x y e = ap (λ o. Rattle.std.specs.Prelude.unwrap_or o x) e
 
 record Within (r : Range) (n : ℕ) : Type 0 where
   least : r.least ≤ n
@@ -21,13 +18,13 @@ within r text n e = go (nat_lt 0 (length digits) && list_all (λ d. nat_lt (digi
     value = digits_value 10 digits
 
     go : (a b c : Bool) → nat_le r.least value ≡ b → nat_le value r.most ≡ c → cond (a && b && c) (Some value) None ≡ Some n → Within r n
-    go true true true p q e = subst (Within r) (some_is value n e) (record { least = leb-true _ _ p; most = leb-true _ _ q })
+    go true true true p q e = subst (Within r) (same_Some value n e) (record { least = leb-true _ _ p; most = leb-true _ _ q })
     go true true false p q e = absurd (none≢some n e)
     go true false c p q e = absurd (none≢some n e)
     go false b c p q e = absurd (none≢some n e)
 
 once : (r : Range) (values : List Text) (n : ℕ) → Within r r.usual → number_once r values ≡ Some n → Within r n
-once r [] n usual e = subst (Within r) (some_is r.usual n e) usual
+once r [] n usual e = subst (Within r) (same_Some r.usual n e) usual
 once r (value ∷ []) n usual e = within r value n e
 once r (value ∷ other ∷ values) n usual e = absurd (none≢some n e)
 
@@ -43,14 +40,14 @@ record BudgetWithin (b : Budget) : Type 0 where
 
 bounds : (turns blocks bytes : Option ℕ) (b : Bounds) → ((n : ℕ) → turns ≡ Some n → Within turns_range n) → ((n : ℕ) → blocks ≡ Some n → Within blocks_range n) → ((n : ℕ) → bytes ≡ Some n → Within bytes_range n)
     → bounds_with turns blocks bytes ≡ Some b → BoundsWithin b
-bounds (Some x) (Some y) (Some z) b p q r e = subst BoundsWithin (some_is _ b e) (record { turns = p x refl; blocks = q y refl; bytes = r z refl })
+bounds (Some x) (Some y) (Some z) b p q r e = subst BoundsWithin (same_Some _ b e) (record { turns = p x refl; blocks = q y refl; bytes = r z refl })
 bounds (Some x) (Some y) None b p q r e = absurd (none≢some b e)
 bounds (Some x) None z b p q r e = absurd (none≢some b e)
 bounds None y z b p q r e = absurd (none≢some b e)
 
 budget : (rounds conflicts weight : Option ℕ) (b : Budget) → ((n : ℕ) → rounds ≡ Some n → Within rounds_range n) → ((n : ℕ) → conflicts ≡ Some n → Within conflicts_range n) → ((n : ℕ) → weight ≡ Some n → Within weight_range n)
     → budget_with rounds conflicts weight ≡ Some b → BudgetWithin b
-budget (Some x) (Some y) (Some z) b p q r e = subst BudgetWithin (some_is _ b e) (record { rounds = p x refl; conflicts = q y refl; weight = r z refl })
+budget (Some x) (Some y) (Some z) b p q r e = subst BudgetWithin (same_Some _ b e) (record { rounds = p x refl; conflicts = q y refl; weight = r z refl })
 budget (Some x) (Some y) None b p q r e = absurd (none≢some b e)
 budget (Some x) None z b p q r e = absurd (none≢some b e)
 budget None y z b p q r e = absurd (none≢some b e)
@@ -60,7 +57,7 @@ AreWithin c = BoundsWithin c.bounds × BudgetWithin c.budget
 
 joined : (source target : Text) (b : Option Bounds) (g : Option Budget) (w : Option ℕ) (f : Option (Option Text)) (c : Check) → ((x : Bounds) → b ≡ Some x → BoundsWithin x) → ((x : Budget) → g ≡ Some x → BudgetWithin x)
     → check_with source target b g w f ≡ Some c → AreWithin c
-joined source target (Some b) (Some g) (Some w) (Some f) c p q e = subst AreWithin (some_is _ c e) (p b refl, q g refl)
+joined source target (Some b) (Some g) (Some w) (Some f) c p q e = subst AreWithin (same_Some _ c e) (p b refl, q g refl)
 joined source target (Some b) (Some g) (Some w) None c p q e = absurd (none≢some c e)
 joined source target (Some b) (Some g) None f c p q e = absurd (none≢some c e)
 joined source target (Some b) None w f c p q e = absurd (none≢some c e)

@@ -1,5 +1,5 @@
 -- What is used by the words of a command, one use after another, and the rows that hold it.
-use Rattle.tv_cli.proofs.Common.{◌≡◌, ◌||◌, ◌++◌, Bool, true, false, true≢false, refl, sym, ap, ◌∙◌, List, [], ◌∷◌, map, Option, Some, None, if◌then◌else◌, list_any, bytes_eq, Held, at_row, has_row, with_values, without, more_values, CommandLine, AsWritten, Text, Part, option, name}
+use Rattle.tv_cli.proofs.Common.{◌≡◌, ◌||◌, ◌++◌, Bool, false, true≢false, refl, sym, ap, ◌∙◌, List, [], ◌∷◌, map, Option, Some, None, if◌then◌else◌, list_any, bytes_eq, Held, at_row, has_row, with_values, without, more_values, CommandLine, AsWritten, Text, Part, option, name, or_parts}
 use Rattle.clap.specs.Walk.{Row}
 
 -- an argument's name with its value
@@ -49,14 +49,10 @@ pub has_row-uses : (id : Text) (us : List Use) → has_row id (rows_of_uses us) 
 has_row-uses id [] = refl
 has_row-uses id (u ∷ us) = ap (λ b. bytes_eq u.0 id || b) (has_row-uses id us)
 
-pub or_false : (a b : Bool) → (a || b) ≡ false → (a ≡ false) × (b ≡ false)
-or_false true b e = absurd (true≢false e)
-or_false false b e = (refl, e)
-
 at_row-missing : (id : Text) (change : Row → List Row) (missing rows : List Row) → has_row id rows ≡ false → at_row id change missing rows ≡ rows ++ missing
 at_row-missing id change missing [] e = refl
 at_row-missing id change missing (r ∷ rs) e =
-    let parts = or_false _ _ e in
+    let parts = or_parts _ _ e in
     let other : bytes_eq r.id id ≡ false = parts.0 in
     rw other (ap (λ xs. r ∷ xs) (at_row-missing id change missing rs parts.1))
 

@@ -1,12 +1,12 @@
 -- What the matches of the command line say of the job.
-use Rattle.tv_cli.proofs.Common.{◌≡◌, ◌≢◌, true, List, [], ◌∷◌, Option, None, Some, option_map, refl, sym, ap, ap₂, ◌∙◌, subst, inl, inr, Row, HasKind, Kinds, fault_of, is_simple, is_simple_and_free, subcommand_of, clap_on_literals, subcommand_rows, Box, option_and_then, Text, job_in_rows, job_walked, tv_app, unless_fault}
+use Rattle.tv_cli.proofs.Common.{◌≡◌, ◌≢◌, true, List, [], ◌∷◌, Option, None, Some, option_map, refl, sym, ap, ap₂, ◌∙◌, subst, inl, inr, Row, HasKind, Kinds, fault_of, is_simple, is_simple_and_free, subcommand_of, clap_on_literals, subcommand_rows, Box, option_and_then, Text, job_in_rows, job_walked, tv_app, unless_fault, same_Some}
 use Rattle.clap.specs.Words.{kind_of}
 use Rattle.clap.specs.declared.Error.{Error}
 use Rattle.clap.specs.declared.error.ErrorKind.TheVariants as kind
 use Rattle.clap.specs.declared.parser.matches.ArgMatches.TheViews.{out-SubCommand}
 use Rattle.clap.specs.declared.parser.matches.SubCommand.{SubCommand}
 use Rattle.std.specs.Box.{box_value}
-use Rattle.tv_cli.proofs.Ranges.{none≢some, some_is}
+use Rattle.tv_cli.proofs.Ranges.{none≢some}
 
 pub tv_is_simple : is_simple_and_free tv_app ≡ true
 unfolding clap_on_literals
@@ -36,4 +36,4 @@ module _ {Z : Type 0} where
   pub subcommand_pair : (sub : Option (Box SubCommand Z)) (name : Text) (rows : List Row) → Some name ≡ option_map (λ b. (out-SubCommand (box_value b)).name.now) sub
       → Some rows ≡ option_map (λ p. p.1) (subcommand_rows sub) → subcommand_rows sub ≡ Some (name, rows)
   subcommand_pair None name rows e f = absurd (none≢some name (sym e))
-  subcommand_pair (Some b) name rows e f = ap₂ (λ (n : Text) (r : List Row). Some (n, r)) (sym (some_is name _ e)) (sym (some_is rows _ f))
+  subcommand_pair (Some b) name rows e f = ap₂ (λ (n : Text) (r : List Row). Some (n, r)) (sym (same_Some name _ e)) (sym (same_Some rows _ f))

@@ -1,6 +1,5 @@
 -- What `clap` sees in a word, by its kind.
-use Rattle.tv_cli.proofs.Common.{◌≡◌, ◌==◌, ℕ, Bool, true, false, refl, sym, ap, subst, ◌∙◌, arith, List, [], ◌∷◌, length, take, Option, Some, None, slice_get, IsUtf8, encode_utf8_all, eqb-true, list_any, encode_utf8, position_or_len, before_first, bytes_eq, chars, chars_after, continuation_len, lead_bits, and-false, encodes-chars, long_of, short_of, Text, Kind, kind_of, kind_behind, is_equals, end, attached, separate, dashed, plain}
-use Rattle.tv_cli.proofs.Uses.{or_false}
+use Rattle.tv_cli.proofs.Common.{◌≡◌, ◌==◌, ℕ, Bool, true, false, refl, sym, ap, subst, ◌∙◌, arith, List, [], ◌∷◌, length, take, Option, Some, None, slice_get, IsUtf8, encode_utf8_all, eqb-true, list_any, encode_utf8, position_or_len, before_first, bytes_eq, chars, chars_after, continuation_len, lead_bits, and-false, encodes-chars, long_of, short_of, Text, Kind, kind_of, kind_behind, is_equals, end, attached, separate, dashed, plain, or_parts}
 use Rattle.std.proofs.Math.Seq.{take-length}
 
 abbrev pub ends_options : Text → Bool
@@ -51,7 +50,7 @@ one b false e = record { end = and-false (b == 45); long = rw e refl; short = rw
 nowhere : (xs : Text) → list_any is_equals xs ≡ false → position_or_len is_equals xs ≡ length xs
 nowhere [] e = refl
 nowhere (x ∷ xs) e =
-    let parts = or_false _ _ e in
+    let parts = or_parts _ _ e in
     let other : (x == 61) ≡ false = parts.0 in
     let rest : position_or_len is_equals xs ≡ length xs = nowhere xs parts.1 in
     rw other (omega (arith, rest))

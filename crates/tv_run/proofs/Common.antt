@@ -1,6 +1,6 @@
 -- What proofs of this crate cite of std, of other crates and of its definitions, passed on from one place. Declares nothing.
 pub use Rattle.std.proofs.Common.{◌≡◌, ◌≤◌, ◌⊎◌, ◌+◌, ◌||◌, ℕ, zero, suc, arith, Bool, true, false, true≢false, cond, List, [], ◌∷◌, Option, Some, None, Result, Ok, Err, refl, sym, ap, subst, ◌∙◌, inl, inr, is_some, if◌then◌else◌, ◌++◌, ◌&&◌, ◌-◌, eqb, ltb, All, length, drop, take, slice_get, ◌≢◌, ◌<◌, ◌/◌, ◌%◌, not, codes, map, append_assoc, append-nil, nat_lt, ◌==◌, Contains, ap₂, ⊎_elim, ◌^◌, ◌*◌, get_or, eq-eqb, is_none, option_map, vec_len, rules}
-pub use Rattle.std.proofs.lemmas.Bool.{ltb-false, cases_Bool, eqb-false}
+pub use Rattle.std.proofs.lemmas.Bool.{ltb-false, cases_Bool, eqb-false, and_parts}
 pub use Rattle.std.proofs.lemmas.Bool.Decides.{nat_tests}
 pub use Rattle.std.proofs.lemmas.Grind.{flat_map-append, common_steps}
 pub use Rattle.std.proofs.lemmas.List.Elements.{All-contains_itself, All-weaker, Contains-append_cases, Contains-append_left, Contains-append_right, All-cons, All-nil, All-contains, All-head, All-tail, All-append, filter-append}

@@ -1,5 +1,5 @@
 -- The first lines of the rows of a report's text.
-use Rattle.tv_run.proofs.Common.{ℕ, ◌≡◌, ◌≢◌, ◌<◌, ◌/◌, ◌%◌, ◌&&◌, arith, Bool, true, false, cond, not, All, List, [], ◌∷◌, ◌++◌, codes, map, append_assoc, append-nil, refl, sym, ap, subst, ◌∙◌, true≢false, nat_lt, decimal, flat_map, list_all, filter, nat_tests, All-contains, All-head, All-tail, Name, Number, Word, Reason, Refused, escaped, hex_byte, hex_digit, is_bare, is_digit, is_name_byte, is_plain, name_text, quoted, Bounds, Budget, Cause, Weight, Rounds, Conflicts, Side, Finding, Row, count, bounds_text, budget_text, cause_text, counted, finding_text, first_line, judged_counts, last_line, newline, other_counts, reason_text, refused_text, report_text, row_text, shown_lines, side_text, IsReadRow, IsReadName, Free, same_lines}
+use Rattle.tv_run.proofs.Common.{ℕ, ◌≡◌, ◌≢◌, ◌<◌, ◌/◌, ◌%◌, ◌&&◌, arith, Bool, true, false, cond, not, All, List, [], ◌∷◌, ◌++◌, codes, map, append_assoc, append-nil, refl, sym, ap, subst, ◌∙◌, true≢false, nat_lt, decimal, flat_map, list_all, filter, nat_tests, All-contains, All-head, All-tail, Name, Number, Word, Reason, Refused, escaped, hex_byte, hex_digit, is_bare, is_digit, is_name_byte, is_plain, name_text, quoted, Bounds, Budget, Cause, Weight, Rounds, Conflicts, Side, Finding, Row, count, bounds_text, budget_text, cause_text, counted, finding_text, first_line, judged_counts, last_line, newline, other_counts, reason_text, refused_text, report_text, row_text, shown_lines, side_text, IsReadRow, IsReadName, Free, same_lines, and_parts}
 use Rattle.ir_tree.specs.declared.module.Reason.TheVariants as reason
 use Rattle.report.specs.declared.row.Side.TheVariants as side
 use Rattle.report.specs.declared.row.Finding.TheVariants as finding
@@ -10,10 +10,6 @@ use Rattle.tv_run.proofs.RowLines.{HasMarked, Without, free_decimal, free_known,
 
 pub digits_without : (c : ℕ) (ds : List ℕ) → is_digit c ≡ false → All (λ b. is_digit b ≡ true) ds → Without c ds
 digits_without c ds other digits i = true≢false (sym (All-contains (λ b. is_digit b ≡ true) ds c digits i) ∙ other)
-
-and_parts : (a b : Bool) → (a && b) ≡ true → (a ≡ true) × (b ≡ true)
-and_parts true b h = (refl, h)
-and_parts false b h = absurd (cc h)
 
 names_without : (c : ℕ) (bs : List ℕ) → is_name_byte c ≡ false → list_all is_name_byte bs ≡ true → Without c bs
 names_without c [] other all = without_nil c
