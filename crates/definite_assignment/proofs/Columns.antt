@@ -1,5 +1,5 @@
 -- Names and their columns.
-use Rattle.definite_assignment.proofs.Common.{ℕ, zero, suc, ◌+◌, ◌≡◌, ◌<◌, ◌≤◌, ◌⊎◌, inl, inr, Bool, true, false, List, [], ◌∷◌, ◌++◌, length, get_or, refl, ap, sym, subst, ◌∙◌, arith, IsTrue, ◌↔◌, All, Contains, get_or-map, length-map, get_or_past, All-contains, All-map, Contains-get_or, both_ways, cases_lt, Assigns, IsAssignedBefore, IsAssignedIn, IsUnassignedBefore, AreRoomy, by_columns, column_of, has, has_name}
+use Rattle.definite_assignment.proofs.Common.{ℕ, zero, suc, ◌+◌, ◌≡◌, ◌<◌, ◌≤◌, ◌⊎◌, inl, inr, Bool, true, false, List, [], ◌∷◌, ◌++◌, length, get_or, refl, ap, sym, subst, ◌∙◌, arith, IsTrue, ◌↔◌, All, Contains, get_or-map, length-map, get_or_past, All-contains, All-map, Contains-get_or, cases_lt, Assigns, IsAssignedBefore, IsAssignedIn, IsUnassignedBefore, AreRoomy, by_columns, column_of, has, has_name}
 use Rattle.std.specs.Prelude.{map}
 
 -- ---- numbering
@@ -12,47 +12,6 @@ pub record AreColumns (marks : List Bool) (columns : List ℕ) (i count : ℕ) :
   pub below : (m : ℕ) → m < i → column_of columns m < count
   pub first : (m : ℕ) → m < i → get_or marks m false ≡ true → 1 ≤ column_of columns m
   pub apart : (m n : ℕ) → m < i → n < i → get_or marks m false ≡ true → column_of columns m ≡ column_of columns n → m ≡ n
-
-pushed_before : (columns : List ℕ) (x m : ℕ) → m < length columns → column_of (columns ++ x ∷ []) m ≡ column_of columns m
-pushed_before [] x m less = absurd (omega (arith, less))
-pushed_before (c ∷ columns) x zero less = refl
-pushed_before (c ∷ columns) x (suc m) less = pushed_before columns x m (omega (arith, less))
-
-    before : (m : ℕ) → m < i + 1 → (m ≡ i → ⊥) → column_of (columns ++ count ∷ []) m ≡ column_of columns m
-    before m less away = pushed_before columns count m (omega (arith, less, away, C.long))
-
-    below : (m : ℕ) → m < i + 1 → (m ≡ i) ⊎ (m ≡ i → ⊥) → column_of (columns ++ count ∷ []) m < count + 1
-    below m less (inl e) = omega (arith, last m e)
-    below m less (inr away) = let small : column_of columns m < count = C.below m (omega (arith, less, away)) in omega (arith, before m less away, small)
-
-    first : (m : ℕ) → m < i + 1 → get_or marks m false ≡ true → (m ≡ i) ⊎ (m ≡ i → ⊥) → 1 ≤ column_of (columns ++ count ∷ []) m
-    first m less t (inl e) = omega (arith, last m e, C.some)
-    first m less t (inr away) = let some : 1 ≤ column_of columns m = C.first m (omega (arith, less, away)) t in omega (arith, before m less away, some)
-
-    apart : (m n : ℕ) → m < i + 1 → n < i + 1 → get_or marks m false ≡ true → column_of (columns ++ count ∷ []) m ≡ column_of (columns ++ count ∷ []) n → (m ≡ i) ⊎ (m ≡ i → ⊥) → (n ≡ i) ⊎ (n ≡ i → ⊥) → m ≡ n
-    apart m n less less' t e (inl a) (inl b) = a ∙ sym b
-    apart m n less less' t e (inl a) (inr b) = let small : column_of columns n < count = C.below n (omega (arith, less', b)) in absurd (omega (arith, last m a, before n less' b, e, small))
-    apart m n less less' t e (inr a) (inl b) = let small : column_of columns m < count = C.below m (omega (arith, less, a)) in absurd (omega (arith, last n b, before m less a, e, small))
-    apart m n less less' t e (inr a) (inr b) = C.apart m n (omega (arith, less, a)) (omega (arith, less', b)) t (sym (before m less a) ∙ (e ∙ before n less' b))
-
-    before : (m : ℕ) → m < i + 1 → (m ≡ i → ⊥) → column_of (columns ++ 0 ∷ []) m ≡ column_of columns m
-    before m less away = pushed_before columns 0 m (omega (arith, less, away, C.long))
-
-    not_last : (m : ℕ) → get_or marks m false ≡ true → m ≡ i → ⊥
-    not_last m t e = both_ways _ (ap (λ k. get_or marks k false) e ∙ f) t
-
-    below : (m : ℕ) → m < i + 1 → (m ≡ i) ⊎ (m ≡ i → ⊥) → column_of (columns ++ 0 ∷ []) m < count
-    below m less (inl e) = omega (arith, last m e, C.some)
-    below m less (inr away) = let small : column_of columns m < count = C.below m (omega (arith, less, away)) in omega (arith, before m less away, small)
-
-    first : (m : ℕ) → m < i + 1 → get_or marks m false ≡ true → (m ≡ i) ⊎ (m ≡ i → ⊥) → 1 ≤ column_of (columns ++ 0 ∷ []) m
-    first m less t (inl e) = absurd (not_last m t e)
-    first m less t (inr away) = let some : 1 ≤ column_of columns m = C.first m (omega (arith, less, away)) t in omega (arith, before m less away, some)
-
-    apart : (m n : ℕ) → m < i + 1 → n < i + 1 → get_or marks m false ≡ true → column_of (columns ++ 0 ∷ []) m ≡ column_of (columns ++ 0 ∷ []) n → (m ≡ i) ⊎ (m ≡ i → ⊥) → (n ≡ i) ⊎ (n ≡ i → ⊥) → m ≡ n
-    apart m n less less' t e (inl a) _ = absurd (not_last m t a)
-    apart m n less less' t e (inr a) (inl b) = let some : 1 ≤ column_of columns m = C.first m (omega (arith, less, a)) t in absurd (omega (arith, last n b, before m less a, e, some))
-    apart m n less less' t e (inr a) (inr b) = C.apart m n (omega (arith, less, a)) (omega (arith, less', b)) t (sym (before m less a) ∙ (e ∙ before n less' b))
 
 -- ---- names assigned, and their columns
 

@@ -1,35 +1,9 @@
 -- The lists of users as they are made, name by name.
-use Rattle.std.proofs.Common.{◌≡◌, ◌⊎◌, ◌≢◌, ◌+◌, ◌<◌, ℕ, List, [], ◌∷◌, ◌++◌, length, get_or, set, inl, inr, sym, ◌∙◌, ap, subst, arith, All, Contains}
+use Rattle.std.proofs.Common.{◌≡◌, ◌⊎◌, ◌≢◌, ◌+◌, ◌<◌, ℕ, List, [], ◌∷◌, ◌++◌, length, inl, inr, sym, ◌∙◌, ap, subst, arith, Contains}
 use Rattle.std.proofs.lemmas.Bool.{cases_eq}
-use Rattle.std.proofs.lemmas.List.{get_or-set_same, get_or-set_other}
-use Rattle.std.proofs.lemmas.List.Elements.{All-set, All-push, All-get_or, Contains-append_left, Contains-push}
-use Rattle.std.proofs.lemmas.Option.{get_or_from_slice_get}
-use Rattle.ir_tree.specs.declared.tree.Operand.TheVariants.{Local}
 use Rattle.undef_uses.specs.declared.carried.Carried.{Carried}
 use Rattle.undef_uses.specs.Counts.{carried_at}
-use Rattle.undef_uses.specs.Users.{AreBelow, AreUsers, HasUser, HasUsers, Mentions, users_at}
-
-    at : get_or users name [] ≡ row
-    at = get_or_from_slice_get users name row [] read
-
-    now : get_or (set users name row') name [] ≡ row'
-    now = get_or-set_same users name row' [] within
-
-    kept : (n other : ℕ) → (n ≡ name) ⊎ (n ≢ name) → Contains (get_or users n []) other → Contains (get_or (set users name row') n []) other
-    kept n other (inl same) found =
-        subst (λ (k : ℕ). Contains (get_or (set users name row') k []) other) (sym same)
-        (subst (λ (r : List ℕ). Contains r other) (sym (now ∙ pushed)) (Contains-append_left row (user ∷ []) other (subst (λ (r : List ℕ). Contains r other) at (subst (λ (k : ℕ). Contains (get_or users k []) other) same found))))
-    kept n other (inr away) found = subst (λ (r : List ℕ). Contains r other) (sym (get_or-set_other users name n row' [] away)) found
-
-    added : (n : ℕ) → Local name ≡ Local n → Contains (get_or (set users name row') n []) user
-    added n is =
-        let same : name ≡ n = cc in
-        subst (λ (k : ℕ). Contains (get_or (set users name row') k []) user) same (subst (λ (r : List ℕ). Contains r user) (sym (now ∙ pushed)) (Contains-push row user))
-
-    below : (most : ℕ) → user < most → AreBelow most users → AreBelow most (set users name row')
-    below most least all =
-        let old : All (λ u. u < most) row = subst (All (λ u. u < most)) at (All-get_or (All (λ u. u < most)) users name [] within all) in
-        All-set (All (λ u. u < most)) users name row' (subst (All (λ u. u < most)) (sym pushed) (All-push (λ u. u < most) row user old least)) all
+use Rattle.undef_uses.specs.Users.{AreUsers, HasUser, HasUsers, Mentions, users_at}
 
 -- one after another
 pub users_three : (a b c d : List (List ℕ)) (carried : Carried) (user : ℕ) → HasUser a b carried.first user → HasUser b c carried.second user → HasUser c d carried.third user → HasUsers a d carried user
