@@ -1,6 +1,5 @@
 -- What proofs of this crate cite of std, of other crates and of its definitions, passed on from one place. Declares nothing.
 pub use Rattle.std.proofs.Common.{ℕ, ◌≡◌, Bool, true, false, cond, List, [], ◌∷◌, ◌++◌, refl, ap, sym, subst, ◌∙◌, zero, suc, ◌<◌, ◌≤◌, ◌+◌, not, ◌&&◌, length, take, drop, get_or, slice_get, slice_set, map, Some, Result, Ok, Err, OnOk, inl, inr, arith, add-one, append_assoc, ◌-◌, ◌%◌, nat_eq, nat_lt, nat_le, min, ◌||◌, eqb-true, Option, None, ◌*◌, ◌^◌, ℤ, pos, negsuc, neg_ℤ, ◌+ℤ◌, pow-add, pow_pos, pow_mono, rules, replicate}
-pub use Rattle.std.proofs.lemmas.List.Folds.{or-false}
 pub use Rattle.std.proofs.lemmas.Bool.{cases_Bool, cases_eq, eq-eqb, le-ltb, lt-ltb, ne_eqb, le-leb, leb-true, ltb-true, cases_lt, lt-leb, not-true}
 pub use Rattle.std.proofs.lemmas.Bool.Decides.{nat_tests}
 pub use Rattle.std.proofs.lemmas.List.{append-nil, drop_all, drop-map, length-drop, length-take, set-get_or, take-map, drop-take, take-take, at_drop_more, at_drop_all, length-set}

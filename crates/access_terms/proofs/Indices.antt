@@ -1,5 +1,5 @@
 -- Walks over indices that are terms.
-use Rattle.access_terms.proofs.Common.{cases_Bool, ℕ, zero, suc, ◌≡◌, ◌<◌, ◌≤◌, ◌+◌, ◌^◌, Bool, true, false, not, ◌||◌, nat_lt, List, [], ◌∷◌, length, drop, get_or, pos, ◌+ℤ◌, inl, inr, refl, ap, sym, ◌∙◌, arith, ◌*ℤ◌, list_all, list_any, le-ltb, lt-ltb, cases_lt, at_drop_more, at_drop_all, signed_of, wrapped, Index, is_index, is_number, is_outside, last_sum, leaves_block, scaled, inside, last_sum-end, last_sum-more, leaves-at_base, leaves-here, leaves-later, leaves-never, wrapped-small, Term, bit_at, term_at, value_from, map-at, map-length, SymIndex, AreNumbers, index_at, indices_at, or-false}
+use Rattle.access_terms.proofs.Common.{cases_Bool, ℕ, zero, suc, ◌≡◌, ◌<◌, ◌≤◌, ◌+◌, ◌^◌, Bool, true, false, not, ◌||◌, nat_lt, List, [], ◌∷◌, length, drop, get_or, pos, ◌+ℤ◌, inl, inr, refl, ap, sym, ◌∙◌, arith, ◌*ℤ◌, list_all, list_any, le-ltb, lt-ltb, cases_lt, at_drop_more, at_drop_all, signed_of, wrapped, Index, is_index, is_number, is_outside, last_sum, leaves_block, scaled, inside, last_sum-end, last_sum-more, leaves-at_base, leaves-here, leaves-later, leaves-never, wrapped-small, Term, bit_at, term_at, value_from, map-at, map-length, SymIndex, AreNumbers, index_at, indices_at}
 use Rattle.access_terms.proofs.Stored.{and-left, and-right}
 
 -- ---- one index
@@ -51,8 +51,12 @@ any_more p xs i x any any' one lt is one_is next before =
     let unrolled : list_any p (drop i xs) ≡ (p x || list_any p (drop (i + 1) xs)) = at_drop_more (list_any p) xs i x lt ∙ rw (← is) refl in
     before ∙ (ap (λ z. any || z) (unrolled ∙ ap (λ z. z || list_any p (drop (i + 1) xs)) (sym one_is)) ∙ (sym (or-assoc any one (list_any p (drop (i + 1) xs))) ∙ ap (λ z. z || list_any p (drop (i + 1) xs)) (sym next)))
 
+or_false : (b : Bool) → (b || false) ≡ b
+or_false true = refl
+or_false false = refl
+
 pub any_whole : (p : Index → Bool) (xs : List Index) (i : ℕ) (any : Bool) → length xs ≤ i → list_any p xs ≡ (any || list_any p (drop i xs)) → any ≡ list_any p xs
-any_whole p xs i any past h = sym (h ∙ (ap (λ z. any || z) (at_drop_all (list_any p) xs i past) ∙ or-false any))
+any_whole p xs i any past h = sym (h ∙ (ap (λ z. any || z) (at_drop_all (list_any p) xs i past) ∙ or_false any))
 
 pub not-all : (p : Index → Bool) (xs : List Index) → list_any (λ x. not (p x)) xs ≡ not (list_all p xs)
 not-all p [] = refl

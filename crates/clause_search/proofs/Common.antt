@@ -5,7 +5,8 @@ pub use Rattle.std.proofs.lemmas.Bool.{cases_eq, cases_Bool, false≢true, cases
 pub use Rattle.std.proofs.lemmas.List.{get_or-set_same, get_or-set_other, get_or_past, length-set, take_more, length-map, take-map, length-take, take_all, get_or-map, take-append-drop, take-append-le}
 pub use Rattle.std.proofs.lemmas.List.Sorted.{Contains-permutation, IsPermutation-map, IsPermutation-sym, IsNonDecreasingBy-from_sort_by_key}
 pub use Rattle.std.proofs.lemmas.Option.{slice_get-get_or, get_or_from_slice_get, slice_get_within, slice_get_read, slice_get-map}
-pub use Rattle.std.specs.List.{list_any, IsDistinct, AllByRecursion, Contains, refill, All}
+pub use Rattle.std.specs.List.{list_any, AllByRecursion, Contains, refill, All}
+unfoldable pub use Rattle.std.specs.List.{IsDistinct}
 pub use Rattle.clause_lits.specs.Meaning.{lit_true, opposite_of, values_of, clause_true, IsClause, RisesFrom, clauses_true, IsModel, AreWithin}
 pub use Rattle.clause_lits.specs.declared.lit.Lit.{Lit}
 pub use Rattle.clause_log.proofs.Joining.{rises-joined, resolvent-one}

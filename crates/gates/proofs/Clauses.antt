@@ -1,10 +1,14 @@
 -- The clauses of a gate are true exactly where its variable has its value.
-use Rattle.gates.proofs.Common.{All, ℕ, zero, suc, ◌≡◌, ◌<◌, ◌≤◌, ◌++◌, ◌↔◌, ◌⊎◌, inl, inr, Bool, true, false, not, ◌&&◌, ◌||◌, cond, List, [], ◌∷◌, arith, ap, sym, refl, ◌∙◌, Result, Ok, Err, OnOk, Lit, AreWithin, clause_true, clauses_true, lit_true, opposite_of, or-false, and-true}
+use Rattle.gates.proofs.Common.{All, ℕ, zero, suc, ◌≡◌, ◌<◌, ◌≤◌, ◌++◌, ◌↔◌, ◌⊎◌, inl, inr, Bool, true, false, not, ◌&&◌, ◌||◌, cond, List, [], ◌∷◌, arith, ap, sym, refl, ◌∙◌, Result, Ok, Err, OnOk, Lit, AreWithin, clause_true, clauses_true, lit_true, opposite_of}
 use Rattle.std.specs.List.{list_any}
 
 pub OnOk-then : {T E : Type 0} (r : Result T E) (P Q : Type 0) → OnOk r P → (P → Q) → OnOk r Q
 OnOk-then (Ok v) P Q h f = f h
 OnOk-then (Err e) P Q h f = tt
+
+or-false : (x : Bool) → (x || false) ≡ x
+or-false true = refl
+or-false false = refl
 
 or-swap : (x y z : Bool) → (x || (y || z)) ≡ (y || (x || z))
 or-swap true true z = refl
@@ -46,12 +50,16 @@ any-three f a b c low high xs order places = go order places
     go (inr o) (inr (inl e)) = ap (list_any f) e ∙ (ap (λ x. f x || (f c || (f high || false))) o.0 ∙ (ap (λ x. f b || (f c || (f x || false))) o.1 ∙ bca (f a) (f b) (f c)))
     go (inr o) (inr (inr e)) = ap (list_any f) e ∙ (ap (λ x. f x || (f high || (f c || false))) o.0 ∙ (ap (λ x. f b || (f x || (f c || false))) o.1 ∙ bac (f a) (f b) (f c)))
 
+and-true-right : (a : Bool) → (a && true) ≡ a
+and-true-right true = refl
+and-true-right false = refl
+
 and-assoc : (a b c : Bool) → ((a && b) && c) ≡ (a && (b && c))
 and-assoc true b c = refl
 and-assoc false b c = refl
 
 pub clauses-push : (v : ℕ → Bool) (cs : List (List Lit)) (c : List Lit) → clauses_true v (cs ++ c ∷ []) ≡ (clauses_true v cs && clause_true v c)
-clauses-push v [] c = and-true (clause_true v c)
+clauses-push v [] c = and-true-right (clause_true v c)
 clauses-push v (x ∷ xs) c = ap (λ b. clause_true v x && b) (clauses-push v xs c) ∙ sym (and-assoc (clause_true v x) (clauses_true v xs) (clause_true v c))
 
 pub within-push : (n : ℕ) (cs : List (List Lit)) (c : List Lit) → AreWithin n cs → All (λ l. (0 < l.variable) × (l.variable ≤ n)) c → AreWithin n (cs ++ c ∷ [])

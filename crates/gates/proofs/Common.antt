@@ -1,6 +1,5 @@
 -- What proofs of this crate cite of std, of other crates and of its definitions, passed on from one place. Declares nothing.
 pub use Rattle.std.proofs.Common.{All, ℕ, zero, suc, ◌≡◌, ◌≢◌, ◌<◌, ◌≤◌, ◌+◌, ◌-◌, ◌++◌, inl, inr, Bool, false, List, [], ◌∷◌, get_or, slice_get, Some, length, arith, sym, ap, subst, refl, ◌∙◌, length-append, ◌↔◌, true, drop, take, map, ◌⊎◌, not, ◌&&◌, cond, append-nil, ◌||◌}
-pub use Rattle.std.proofs.lemmas.List.Folds.{or-false, and-true}
 pub use Rattle.std.proofs.lemmas.Bool.{cases_eq, cases_lt, eqb-true}
 pub use Rattle.std.proofs.lemmas.List.{get_or_push, get_or_append_left, get_or-set_same, get_or-set_other, get_or-replicate, get_or_past, length-replicate, length-set, length-map, get_or-map, get_or-take, drop_more, take_all}
 pub use Rattle.std.proofs.lemmas.Option.{slice_get_within, slice_get-get_or}

@@ -1,5 +1,5 @@
 -- Sums and differences, and where they have no room.
-use Rattle.inst_terms.proofs.Common.{ℕ, suc, ◌≡◌, ◌<◌, ◌≤◌, ◌+◌, ◌-◌, ◌*◌, ◌%◌, ◌^◌, Bool, true, false, not, ◌&&◌, ◌||◌, nat_le, nat_lt, pos, negsuc, inl, inr, refl, ap, sym, ◌∙◌, arith, ◌+ℤ◌, ◌-ℤ◌, cases_lt, lt-ltb, le-ltb, le-leb, lt-leb, ints, mod-eq_of_lt, add-mod_right, Num, Flags, Add, Sub, signed_of, wrapped, is_outside_signed, is_outside_unsigned, is_negative, is_flagged, poison_if, value_from, is_sign_alone, row_of, or-false}
+use Rattle.inst_terms.proofs.Common.{ℕ, suc, ◌≡◌, ◌<◌, ◌≤◌, ◌+◌, ◌-◌, ◌*◌, ◌%◌, ◌^◌, Bool, true, false, not, ◌&&◌, ◌||◌, nat_le, nat_lt, pos, negsuc, inl, inr, refl, ap, sym, ◌∙◌, arith, ◌+ℤ◌, ◌-ℤ◌, cases_lt, lt-ltb, le-ltb, le-leb, lt-leb, ints, mod-eq_of_lt, add-mod_right, Num, Flags, Add, Sub, signed_of, wrapped, is_outside_signed, is_outside_unsigned, is_negative, is_flagged, poison_if, value_from, is_sign_alone, row_of}
 use Rattle.inst_terms.proofs.Rows.{from_is-if}
 use Rattle.inst_terms.proofs.Halves.{halves, signed_low, signed_high, outside-pos, outside-neg}
 
@@ -35,6 +35,10 @@ apart-inside n a b la lb = elim (cases_lt a b) as (λ _. is_outside_signed n (po
 
 turned-inside : (n i j : ℕ) → i < 2 ^ (n - 1) → j < 2 ^ (n - 1) → is_outside_signed n (negsuc i -ℤ negsuc j) ≡ false
 turned-inside n i j li lj = let e : negsuc i -ℤ negsuc j ≡ pos j -ℤ pos i = omega (arith, ints) in ap (is_outside_signed n) e ∙ apart-inside n j i lj li
+
+or_false : (b : Bool) → (b || false) ≡ b
+or_false true = refl
+or_false false = refl
 
 -- the difference, as it is wrapped
 difference-number : (n a b : ℕ) → a < 2 ^ n → b < 2 ^ n → (a + (2 ^ n - b)) % 2 ^ n ≡ wrapped n (pos a -ℤ pos b)
@@ -152,7 +156,7 @@ difference-signed n a b low ba bb =
     let exact : negsuc (2 ^ n - a - 1) -ℤ pos b ≡ negsuc ((2 ^ n - a - 1) + b) = omega (arith, ints) in
     let right : is_outside_signed n (signed_of n a -ℤ signed_of n b) ≡ nat_le (2 ^ (n - 1)) ((2 ^ n - a - 1) + b) = rw (signed_high n a ha ba, signed_low n b lb) (ap (is_outside_signed n) exact ∙ outside-neg n ((2 ^ n - a - 1) + b)) in
     let turn : not (nat_le (2 ^ (n - 1)) (a - b)) ≡ nat_le (2 ^ (n - 1)) ((2 ^ n - a - 1) + b) = not-least (2 ^ (n - 1)) (a - b) ((2 ^ n - a - 1) + b) (omega (arith, half, ha, lb, ba)) in
-    rw (sign-high n a ha, sign-low n b lb, whole) (or-false (not (is_negative n (a - b))) ∙ (turn ∙ sym right)))
+    rw (sign-high n a ha, sign-low n b lb, whole) (or_false (not (is_negative n (a - b))) ∙ (turn ∙ sym right)))
     (λ ha hb.
     let inside : is_outside_signed n (signed_of n a -ℤ signed_of n b) ≡ false = rw (signed_high n a ha ba, signed_high n b hb bb) (turned-inside n (2 ^ n - a - 1) (2 ^ n - b - 1) (omega (arith, half, ha)) (omega (arith, half, hb))) in
     rw (sign-high n a ha, sign-high n b hb) (sym inside))

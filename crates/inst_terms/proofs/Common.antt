@@ -1,7 +1,5 @@
 -- What proofs of this crate cite of std, of other crates and of its definitions, passed on from one place. Declares nothing.
 pub use Rattle.std.proofs.Common.{ℕ, zero, suc, ◌≡◌, ◌<◌, ◌≤◌, ◌+◌, ◌-◌, ◌*◌, ◌/◌, ◌%◌, ◌^◌, Bool, not, cond, ◌&&◌, ◌||◌, nat_eq, nat_le, pos, negsuc, neg_ℤ, inl, inr, refl, ap, sym, ◌∙◌, arith, pow-add, pow_pos, subst, false, List, nat_lt, bit_and, bit_or, bit_xor, true, ◌≢◌, pow_mono, ℤ, Some}
-pub use Rattle.std.proofs.lemmas.Nat.Bits.{lt_pow}
-pub use Rattle.std.proofs.lemmas.List.Folds.{or-false}
 pub use Rattle.std.proofs.Math.Nat.{mod-eq_of_lt, mul-mod_left, div-le_self, div-eq_of_lt, div-eq_of_lt-le, add-mod_right, mod_self, mod-le, zero-mod, mod-mod}
 pub use Rattle.std.proofs.lemmas.Bool.{cases_lt, cases_eq, lt-ltb, le-leb, lt-leb, eq-eqb, ne_eqb, le-ltb, cases_Bool}
 pub use Rattle.std.proofs.lemmas.Int.{ints}

@@ -1,5 +1,5 @@
 -- Numbers in two's complement, and their signs.
-use Rattle.inst_terms.proofs.Common.{ℕ, zero, suc, ◌≡◌, ◌<◌, ◌≤◌, ◌-◌, ◌*◌, ◌/◌, ◌%◌, ◌^◌, not, ◌&&◌, ◌||◌, nat_le, pos, negsuc, neg_ℤ, inl, inr, List, refl, ap, ◌∙◌, arith, bit_xor, pow_pos, int_lt, int_le, cases_lt, lt-ltb, le-ltb, le-leb, lt-leb, ints, div-eq_of_lt, div-eq_of_lt-le, TermId, Term, width_of, truth, Makes, Tests, IsTerm, AreInRange, term_at, bit_at, tree_in, term-below, signed_of, is_outside_signed, is_negative, or-false}
+use Rattle.inst_terms.proofs.Common.{ℕ, zero, suc, ◌≡◌, ◌<◌, ◌≤◌, ◌-◌, ◌*◌, ◌/◌, ◌%◌, ◌^◌, Bool, true, false, not, ◌&&◌, ◌||◌, nat_le, pos, negsuc, neg_ℤ, inl, inr, List, refl, ap, ◌∙◌, arith, bit_xor, pow_pos, int_lt, int_le, cases_lt, lt-ltb, le-ltb, le-leb, lt-leb, ints, div-eq_of_lt, div-eq_of_lt-le, TermId, Term, width_of, truth, Makes, Tests, IsTerm, AreInRange, term_at, bit_at, tree_in, term-below, signed_of, is_outside_signed, is_negative}
 
 -- ---- the two halves
 
@@ -14,13 +14,17 @@ pub signed_high : (n a : ℕ) → 2 ^ (n - 1) ≤ a → a < 2 ^ n → signed_of 
 unfolding signed_of
 signed_high n a h below = rw (le-ltb a (2 ^ (n - 1)) h) (omega (arith, ints, below))
 
+or_false : (b : Bool) → (b || false) ≡ b
+or_false true = refl
+or_false false = refl
+
 outside-pos_of : (m k : ℕ) → 0 < m → (int_lt (pos k) (neg_ℤ (pos m)) || int_le (pos m) (pos k)) ≡ nat_le m k
 outside-pos_of zero k h = absurd (omega (arith, h))
 outside-pos_of (suc m) k h = refl
 
 outside-neg_of : (m k : ℕ) → 0 < m → (int_lt (negsuc k) (neg_ℤ (pos m)) || int_le (pos m) (negsuc k)) ≡ nat_le m k
 outside-neg_of zero k h = absurd (omega (arith, h))
-outside-neg_of (suc m) k h = or-false (nat_le (suc m) k)
+outside-neg_of (suc m) k h = or_false (nat_le (suc m) k)
 
 pub outside-pos : (n k : ℕ) → is_outside_signed n (pos k) ≡ nat_le (2 ^ (n - 1)) k
 unfolding is_outside_signed

@@ -208,3 +208,8 @@ arithmetic_is exact n x y low lt = elim (cases_lt y n) as (λ _. value_from (nat
       (from_is-if (exact && not (nat_eq (x % 2 ^ y) 0)) (wrapped n (int_shr (signed_of n x) y)))
   | inr more ↦ rw (le-leb n y more) refl
 ]
+
+-- a width has room for itself
+pub width-below : (n : ℕ) → n < 2 ^ n
+width-below zero = pow_pos 0
+width-below (suc n) = let less = width-below n in let twice : 2 ^ suc n ≡ 2 * 2 ^ n = omega arith in omega (arith, less, twice)

@@ -4,7 +4,8 @@ pub use Rattle.std.proofs.lemmas.Bool.{ltb-true, lt-leb, cases_lt, leb-true, eqb
 pub use Rattle.std.proofs.lemmas.List.{append-nil, append_cancel_right, length-append, drop-drop, take_all}
 pub use Rattle.std.proofs.lemmas.List.Elements.{All-nil, All-cons, Contains-append_left, Contains-append_right}
 pub use Rattle.std.proofs.lemmas.Result.{err_from_is_err_and}
-pub use Rattle.std.specs.List.{All, AllByRecursion, sum_by, Contains, list_any, IsDistinct}
+pub use Rattle.std.specs.List.{All, AllByRecursion, sum_by, Contains, list_any}
+unfoldable pub use Rattle.std.specs.List.{IsDistinct}
 pub use Rattle.std.specs.Prelude.{◌&&◌, ◌||◌, not, Result, Ok, nat_le, nat_eq, Err, slice_get, IsOkAnd, min, ◌==◌, if◌then◌else◌, nat_lt, is_some}
 pub use Rattle.std.specs.Str.{bytes_eq}
 pub use Rattle.std.specs.Vec.Iter.{into_iter_items}

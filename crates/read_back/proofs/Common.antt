@@ -10,7 +10,8 @@ pub use Rattle.std.proofs.lemmas.Nat.{pow_pos, pow_below, mod_below}
 pub use Rattle.std.proofs.lemmas.Option.{slice_get-map, get_or_from_slice_get, same_Some}
 pub use Rattle.std.proofs.lemmas.Slice.Eq.{bytes_eq-Decides}
 pub use Rattle.std.specs.Fmt.{decimal}
-pub use Rattle.std.specs.List.{list_all, AllByRecursion, Contains, flat_map, AllZip, IsDistinct, slice_get, list_any, find}
+pub use Rattle.std.specs.List.{list_all, AllByRecursion, Contains, flat_map, AllZip, slice_get, list_any, find}
+unfoldable pub use Rattle.std.specs.List.{IsDistinct}
 pub use Rattle.std.specs.Prelude.{All, ◌&&◌, ◌==◌, nat_lt, ◌||◌, not, option_map, fold, nat_eq, is_some}
 pub use Rattle.std.specs.Str.{bytes_eq}
 pub use Rattle.ir_grammar.specs.Classes.{any, line_word, operand_class, literal_class, pointer_type, element_type, array_length, alignment, int_type, counted_type, memory_type, bit_type, return_type, predicate_class, terminator_word, passed, flag_fits}
@@ -20,7 +21,7 @@ pub use Rattle.ir_grammar.specs.Instructions.{is_square, array_begins, array_wit
 unfoldable pub use Rattle.ir_grammar.specs.Instructions.{with_length, arrays, alloca_object, gep_flags, gep_arrays, gep_object, alloca, load, store, gep, line_named, phi, next_entry, entry_or_attachment, attached, aligned, align_or_attachment, next_index, index_or_attachment, typed, pointer, binary, cast_by, wrapping, exact, plain, disjunction, icmp, truncate, zero_extend, sign_extend, select, freeze, entry, comparison, wraps, flagged_type}
 pub use Rattle.ir_grammar.specs.Numbers.{is_negative, magnitude, in_range, wrapped, value_of, value_after}
 unfoldable pub use Rattle.ir_grammar.specs.Numbers.{width_of}
-pub use Rattle.ir_grammar.specs.Spelling.{is_memory_type, local_of, global_of, label_of, named_at, label_line, inst_line, is_record, line_start, is_pointer_type, is_small_object, width_in, is_width, truth_value, literal_value, literal_of, word_of_type, word_value, number_value, literal_at, operand_at, fits_bits, fits_type, memory_type_of, memory_type_in, type_in, type_at, is_pointer, pointer_in, fits_object, number_of_kind, gep_flag_named, gep_flag_of, bits_behind, spelled_width, int_typed_at, int_type_in, typed_at, returned_at, attribute_named, parameter_part}
+pub use Rattle.ir_grammar.specs.Spelling.{is_memory_type, local_of, global_of, label_of, named_at, label_line, is_record, line_start, is_pointer_type, is_small_object, width_in, is_width, truth_value, literal_value, literal_of, word_of_type, word_value, number_value, literal_at, operand_at, fits_bits, fits_type, memory_type_of, memory_type_in, type_in, type_at, is_pointer, pointer_in, fits_object, number_of_kind, gep_flag_named, gep_flag_of, bits_behind, spelled_width, int_typed_at, int_type_in, typed_at, returned_at, attribute_named, parameter_part, inst_line}
 pub use Rattle.ir_grammar.specs.Words.{is_word_of, opcode_of, inst_word, memory_word_of, or_word, line_word_of, memory_word, opcode_named, wrapping_op, exact_op, is_mark_of, flag_text}
 pub use Rattle.ir_grammar.specs.declared.word.LineStart.{LineStart}
 pub use Rattle.ir_grammar.specs.declared.word.LineWord.{LineWord}

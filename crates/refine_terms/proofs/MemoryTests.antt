@@ -1,5 +1,5 @@
 -- The tests of contents, blocks and outcomes.
-use Rattle.refine_terms.proofs.Common.{ℕ, ◌≡◌, ◌<◌, ◌≤◌, ◌+◌, ◌-◌, Bool, true, not, ◌&&◌, ◌||◌, List, length, map, take, drop, get_or, nat_eq, nat_lt, refl, sym, ap, ◌∙◌, arith, byte_allows, block_allows, blocks_allow, pairs_pass, returned_allows, is_refined, TermId, Term, IsTerm, Keeps, Makes, Tests, bit_at, term_at, SymByte, Each, block_name, reading, value_at, AreSymBlocks, AreSymBytes, IsAlways, IsSymBlock, IsSymByte, SymFrame, block_at, byte_at, frame_of, memory_at, places_at, at-any, each-at, bit-later, block-later, byte-later, keeps_trans, memory-later, places-later, term-later, memory-always, eqb-true, and-true}
+use Rattle.refine_terms.proofs.Common.{ℕ, ◌≡◌, ◌<◌, ◌≤◌, ◌+◌, ◌-◌, Bool, true, false, not, ◌&&◌, ◌||◌, List, length, map, take, drop, get_or, nat_eq, nat_lt, refl, sym, ap, ◌∙◌, arith, byte_allows, block_allows, blocks_allow, pairs_pass, returned_allows, is_refined, TermId, Term, IsTerm, Keeps, Makes, Tests, bit_at, term_at, SymByte, Each, block_name, reading, value_at, AreSymBlocks, AreSymBytes, IsAlways, IsSymBlock, IsSymByte, SymFrame, block_at, byte_at, frame_of, memory_at, places_at, at-any, each-at, bit-later, block-later, byte-later, keeps_trans, memory-later, places-later, term-later, memory-always, eqb-true}
 use Rattle.std.specs.Option.{option_map}
 use Rattle.mem_terms.specs.declared.blocks.SymBlock.{SymBlock}
 use Rattle.mem_terms.specs.declared.outcome.OutcomeTerms.{OutcomeTerms}
@@ -82,6 +82,10 @@ module _ (given : ℕ) (old a b c d e f : List Term) (size place is_there allowe
       (tests_more (bit_at v a all) (not (nat_lt i (term_at v old size)) || byte_allows (byte_at (reading given v) old (get_or xs i x)) (byte_at (reading given v) old (get_or ys i y)))
       (places_pass given v old size i xs ys) (places_pass given v old size (i + 1) xs ys) (all_pass given v old size xs ys) (place_step byte_allows (byte_at (reading given v) old) (term_at v old size) i xs ys x y lt lt_y) (so v))
 
+and_true : (b : Bool) → (b && true) ≡ b
+and_true true = refl
+and_true false = refl
+
 pub places_end : (given : ℕ) (old new : List Term) (size all : TermId) (xs ys : List SymByte) (i : ℕ) → IsTerm new 1 all → length xs ≤ i → length ys ≡ length xs
     → ((v : ℕ → ℕ → ℕ) → (bit_at v new all && places_pass given v old size i xs ys) ≡ all_pass given v old size xs ys) → Tests new all (λ v. all_pass given v old size xs ys)
 places_end given old new size all xs ys i h le alike so = record {
@@ -89,7 +93,7 @@ places_end given old new size all xs ys i h le alike so = record {
   wide = h.wide;
   says = λ v.
       let done = places_done byte_allows (byte_at (reading given v) old) (term_at v old size) i xs ys le (omega (arith, le, alike)) in
-      sym (and-true (bit_at v new all)) ∙ (ap (λ b. bit_at v new all && b) (sym done) ∙ so v);
+      sym (and_true (bit_at v new all)) ∙ (ap (λ b. bit_at v new all && b) (sym done) ∙ so v);
 }
 
 -- ---- blocks
@@ -133,7 +137,7 @@ blocks_end given old new all xs ys i ax ay h le alike so = record {
   wide = h.wide;
   says = λ v.
       let done = blocks_done block_allows (block_at (reading given v) old) i xs ys le (omega (arith, le, alike)) in
-      sym (and-true (bit_at v new all))
+      sym (and_true (bit_at v new all))
       ∙ (ap (λ b. bit_at v new all && b) (sym done)
       ∙ (so v ∙ sym (rw (memory-always (reading given v) old xs ax, memory-always (reading given v) old ys ay) refl)));
 }

@@ -130,6 +130,10 @@ and_more : (all one rest : Bool) → ((all && one) && rest) ≡ (all && (one && 
 and_more true one rest = refl
 and_more false one rest = refl
 
+and_true : (b : Bool) → (b && true) ≡ b
+and_true true = refl
+and_true false = refl
+
 -- one more of a row of tests
 pub tests_more : (all one before after whole : Bool) → before ≡ (one && after) → (all && before) ≡ whole → ((all && one) && after) ≡ whole
 tests_more all one before after whole e so = and_more all one after ∙ (ap (λ b. all && b) (sym e) ∙ so)

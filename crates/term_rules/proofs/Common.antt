@@ -1,7 +1,6 @@
 -- What proofs of this crate cite of std, of other crates and of its definitions, passed on from one place. Declares nothing.
 pub use Rattle.std.proofs.Common.{ap, ℕ, ◌≡◌, ◌<◌, ◌+◌, ◌-◌, ◌^◌, List, length, arith, ◌∙◌, sym, subst, ◌*◌, ◌%◌, zero, suc, ◌≤◌, [], ◌∷◌, ◌++◌, get_or, slice_get, Some, cond, refl, ◌/◌, false, Bool, true, eqb, not, inl, inr, lit<}
-pub use Rattle.std.proofs.lemmas.Nat.Bits.{lt_pow}
-pub use Rattle.std.proofs.Math.Nat.{add-mod-mod, mod-add-mod, mul_comm, add-mod_right, mod-eq_of_lt, div-eq_of_lt, div-one, zero-mod, mod_self, mod-le, mul-le-mul_right, add-mul, add-mul-mod_self_right, lt_of_mul-lt-mul_right, mod-lt}
+pub use Rattle.std.proofs.Math.Nat.{add-mod-mod, mod-add-mod, mul_comm, add-mod_right, mod-eq_of_lt, pow-suc, div-eq_of_lt, div-one, zero-mod, mod_self, mod-le, mul-le-mul_right, add-mul, add-mul-mod_self_right, lt_of_mul-lt-mul_right, mod-lt}
 pub use Rattle.std.proofs.Math.Pow.{mod-mod-pow}
 pub use Rattle.std.proofs.lemmas.Bool.{lt-ltb, lt-leb, eqb-true, ne_eqb, cases_eq, le-ltb, ltb-true}
 pub use Rattle.std.proofs.lemmas.Nat.{and_assoc, and_comm, and-not, and_or_self, or_comm, or_lt, mul-mod_second, field_of, mod_low, mod-pow-add, pow_pos, shr-shr, shr_high, div-add-mod', pow-add, mul-add-lt, and_mod, mul-mod, or_mod, xor_mod, and_mask, xor_comm}

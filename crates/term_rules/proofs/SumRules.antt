@@ -1,5 +1,5 @@
 -- Why the rules of sums and differences are right.
-use Rattle.term_rules.proofs.Common.{ap, ℕ, ◌≡◌, ◌<◌, ◌+◌, ◌-◌, ◌*◌, ◌%◌, ◌^◌, cond, List, length, arith, ◌∙◌, sym, subst, refl, lt-ltb, add-mod-mod, add-mod_right, mod-add-mod, mod-eq_of_lt, TermId, Term, Tree, shifted_left, value_of, width_of, AreInRange, IsWidth, term_at, tree_in, weight_of, Form, Known, Shifted, IsPart, IsRest, Simplifies, lt_pow}
+use Rattle.term_rules.proofs.Common.{ap, ℕ, zero, suc, ◌≡◌, ◌<◌, ◌+◌, ◌-◌, ◌*◌, ◌%◌, ◌^◌, cond, List, length, arith, ◌∙◌, sym, subst, refl, lt-ltb, add-mod-mod, add-mod_right, mod-add-mod, mod-eq_of_lt, pow-suc, TermId, Term, Tree, shifted_left, value_of, width_of, AreInRange, IsWidth, term_at, tree_in, weight_of, Form, Known, Shifted, IsPart, IsRest, Simplifies}
 use Rattle.bv_terms.specs.declared.term.BinaryOp.TheVariants as op
 use Rattle.bv_terms.specs.Tree as tree
 use Rattle.term_rules.proofs.Simplifying.{same_tree, simplifies_like}
@@ -118,8 +118,12 @@ module _ (terms : List Term) (a b : TermId) (range : AreInRange terms) (la : a.i
 moved-up : (w x k : ℕ) → k < w → shifted_left w x k ≡ (x * 2 ^ k) % 2 ^ w
 moved-up w x k lt = ap (λ t. cond t (x * 2 ^ k % 2 ^ w) 0) (lt-ltb k w lt)
 
+own-power : (n : ℕ) → n < 2 ^ n
+own-power zero = omega arith
+own-power (suc n) = omega (arith, own-power n, pow-suc 2 n)
+
 below-power : (k w : ℕ) → k < w → k < 2 ^ w
-below-power k w lt = omega (arith, lt, lt_pow w)
+below-power k w lt = omega (arith, lt, own-power w)
 
 pub product_shifted : (terms : List Term) (a b : TermId) (value k width : ℕ) → a.index < length terms → IsWidth width → width ≡ width_of (tree_in terms a)
     → ((v : ℕ → ℕ → ℕ) → term_at v terms b ≡ value) → value ≡ 2 ^ k → k < width

@@ -4,7 +4,8 @@ pub use Rattle.std.proofs.lemmas.Bool.{ltb-false, cases_Bool, eqb-false, and_par
 pub use Rattle.std.proofs.lemmas.Bool.Decides.{nat_tests}
 pub use Rattle.std.proofs.lemmas.Grind.{flat_map-append, common_steps}
 pub use Rattle.std.proofs.lemmas.List.Elements.{All-contains_itself, All-weaker, Contains-append_cases, Contains-append_left, Contains-append_right, All-cons, All-nil, All-contains, All-head, All-tail, All-append, filter-append}
-pub use Rattle.std.specs.Fmt.{decimal, digits, digit_glyph, digits_onto}
+pub use Rattle.std.specs.Fmt.{decimal, digit_glyph, digits_onto}
+unfoldable pub use Rattle.std.specs.Fmt.{digits}
 pub use Rattle.std.specs.Global.{Vec}
 pub use Rattle.std.specs.List.{IsDistinct, AllByRecursion, list_all, flat_map, list_any, cons_option, filter_map, AllZip}
 pub use Rattle.std.specs.Prelude.{count_by, OnErr, filter, OnOk}

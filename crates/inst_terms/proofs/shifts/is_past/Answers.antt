@@ -1,9 +1,9 @@
-use Rattle.inst_terms.proofs.Common.{lt_pow}
 use Rattle.inst_terms.proofs.Chains.{past-stands}
+use Rattle.inst_terms.proofs.Shifting.{width-below}
 use Rattle.inst_terms.proofs.shifts.is_past.Goals as goal
 
 pub constant-requires-clause-fits : goal.constant-requires-clause-fits
-constant-requires-clause-fits c = rw (c.bits.ensures, c.bits-2.ensures) (lt_pow c.args.width.bits)
+constant-requires-clause-fits c = rw (c.bits.ensures, c.bits-2.ensures) (width-below c.args.width.bits)
 
 pub returns-clause-made : goal.returns-clause-made
 returns-clause-made c =
