@@ -143,7 +143,7 @@ module _ (trail : List Entry) (k : Lit) where
   module _ (places : List ℕ) (c : List Lit) (spread : IsSpread trail k places c) where
     distinct-all : IsDistinct eqb (variables (opposites_at trail k places))
     unfolding IsDistinct
-    distinct-all = (apart-first places spread.other spread.within, distinct-places spread.single places spread.ne_eqb spread.within)
+    distinct-all = (apart-first places spread.other spread.within, distinct-places spread.single places spread.apart spread.within)
 
     sorted-clause : (ys : List Lit) → IsPermutation (opposites_at trail k places) ys → IsNonDecreasingBy (λ (l : Lit). l.variable) ys → ys ≡ c
     sorted-clause ys moved sorted =
