@@ -32,3 +32,8 @@ both-true c x y p q s = rw (p, q, s) refl
 pub or-false : (x : Bool) → (x || false) ≡ x
 or-false true = refl
 or-false false = refl
+
+pub both_ways : (p q : Bool) → (p ≡ true → q ≡ true) → (q ≡ true → p ≡ true) → p ≡ q
+both_ways true q f g = sym (f refl)
+both_ways false true f g = g refl
+both_ways false false f g = refl

@@ -1,12 +1,12 @@
 -- Numbers as bytes, and bytes as numbers.
-use Rattle.byte_terms.proofs.Common.{ℕ, zero, suc, ◌≡◌, ◌<◌, ◌≤◌, ◌+◌, ◌-◌, ◌*◌, ◌/◌, ◌%◌, ◌^◌, Bool, true, false, cond, not, ◌&&◌, ◌||◌, nat_eq, nat_lt, List, [], ◌∷◌, ◌++◌, length, take, drop, replicate, get_or, Option, Some, None, refl, ap, sym, subst, ◌∙◌, inl, inr, arith, eqb-true, slice_get, is_some, option_map, cases_Bool, eq-eqb, lt-ltb, ltb-true, ne_eqb, at_drop_all, at_drop_more, replicate_more, take_all, take_more, BlockName, Ptr, Byte, Num, Poison, Int, number_bytes, number_of_bytes, number_or_poison, value_bytes, value_of_bytes, number_bytes-get, TermId, Term, width_of, AreInRange, IsTerm, Keeps, Makes, Tests, bit_at, term_at, tree_in, SymByte, SymValue, IsSymValue, Reading, number_at, value_at, value_from, value_of, AreSymBytes, IsSymByte, byte_at, byte_of, places_at, each-at, map-push, bit-later, keeps_trans, places-later, term-later, both_ways, same_Some}
+use Rattle.byte_terms.proofs.Common.{ℕ, zero, suc, ◌≡◌, ◌<◌, ◌≤◌, ◌+◌, ◌-◌, ◌*◌, ◌/◌, ◌%◌, ◌^◌, Bool, true, false, cond, not, ◌&&◌, ◌||◌, nat_eq, nat_lt, List, [], ◌∷◌, ◌++◌, length, take, drop, replicate, get_or, Option, Some, None, refl, ap, sym, subst, ◌∙◌, inl, inr, arith, eqb-true, slice_get, is_some, option_map, cases_Bool, eq-eqb, lt-ltb, ltb-true, ne_eqb, at_drop_all, at_drop_more, replicate_more, take_all, take_more, BlockName, Ptr, Byte, Num, Poison, Int, number_bytes, number_of_bytes, number_or_poison, value_bytes, value_of_bytes, number_bytes-get, TermId, Term, width_of, AreInRange, IsTerm, Keeps, Makes, Tests, bit_at, term_at, tree_in, SymByte, SymValue, IsSymValue, Reading, number_at, value_at, value_from, value_of, AreSymBytes, IsSymByte, byte_at, byte_of, places_at, each-at, map-push, bit-later, keeps_trans, places-later, term-later, same_Some}
 use Rattle.std.proofs.lemmas.Nat.{pow-add, pow_pos}
 use Rattle.std.proofs.lemmas.Option.{get_or_from_slice_get, slice_get_within}
 use Rattle.std.proofs.Math.Nat.{div-lt_iff_lt-mul, mul_assoc, mul-add, mul_comm}
 use Rattle.tv_num.specs.declared.Width.{Width}
 use Rattle.mem_terms.proofs.Bits.{term-below}
 use Rattle.mem_terms.proofs.Made.{small_mod}
-use Rattle.byte_terms.proofs.Bools.{and-thrice, and-yes}
+use Rattle.byte_terms.proofs.Bools.{and-thrice, and-yes, both_ways}
 
 -- ---- one list where a condition is true, and the same number of poison bytes where it is not
 

@@ -1,5 +1,5 @@
 -- Which block a number names, and a term that is never true.
-use Rattle.byte_terms.proofs.Common.{ℕ, ◌≡◌, ◌<◌, ◌+◌, true, false, ◌&&◌, nat_eq, List, [], Some, refl, ap, ap₂, sym, ◌∙◌, arith, eqb-true, slice_get, slice_index_or, eq-eqb, BlockName, equal_names, names, TermId, Term, Tree, truth, AreFit, IsTerm, Keeps, Makes, Tests, bit_at, term_at, trees_from, trees_of, IsNaming, Reading, IsSymBlock, block_at, bit-later, keeps_trans, term-later, both_ways}
+use Rattle.byte_terms.proofs.Common.{ℕ, ◌≡◌, ◌<◌, ◌+◌, true, false, ◌&&◌, nat_eq, List, [], Some, refl, ap, ap₂, sym, ◌∙◌, arith, eqb-true, slice_get, slice_index_or, eq-eqb, BlockName, equal_names, names, TermId, Term, Tree, truth, AreFit, IsTerm, Keeps, Makes, Tests, bit_at, term_at, trees_from, trees_of, IsNaming, Reading, IsSymBlock, block_at, bit-later, keeps_trans, term-later}
 use Rattle.std.proofs.lemmas.Bool.Decides.{nat_tests}
 use Rattle.byte_block.specs.declared.value.BlockName.TheVariants.{Null, Given, Local}
 use Rattle.byte_block.specs.declared.block.MemoryBlock.{MemoryBlock}
@@ -8,7 +8,7 @@ use Rattle.bv_terms.specs.Tree as tree
 use Rattle.bv_terms.specs.Tree.{value_of}
 use Rattle.bv_terms.proofs.Stages.{tree-stored}
 use Rattle.mem_terms.specs.declared.blocks.SymBlock.{SymBlock}
-use Rattle.byte_terms.proofs.Bools.{and-left, and-right}
+use Rattle.byte_terms.proofs.Bools.{and-left, and-right, both_ways}
 
 -- ---- names
 

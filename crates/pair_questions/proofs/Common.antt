@@ -1,6 +1,6 @@
 -- What proofs of this crate cite of std, of other crates and of its definitions, passed on from one place. Declares nothing.
 pub use Rattle.std.proofs.Common.{ℕ, zero, suc, ◌≡◌, ◌<◌, ◌≤◌, inl, inr, Bool, true, false, not, ◌&&◌, List, [], ◌∷◌, ◌++◌, length, map, drop, get_or, All, Contains, refl, ap, sym, subst, ◌∙◌, arith, ◌+◌, ◌⊎◌, Some, slice_get, length-append, ◌↔◌, ◌||◌, append_assoc, ◌^◌, replicate, take, append-nil, ◌%◌, Option, cond}
-pub use Rattle.std.proofs.lemmas.Bool.{cases_eq, eqb-true, cases_Bool, eq-eqb, ne_eqb, false≢true, or_from, and_from, both_ways, not-true, not_from_false}
+pub use Rattle.std.proofs.lemmas.Bool.{cases_eq, eqb-true, cases_Bool, eq-eqb, ne_eqb, false≢true, or_from, and_from, not-true, not_from_false}
 pub use Rattle.std.proofs.lemmas.List.{drop_all, get_or-map, get_or_push, get_or_append_left, take_more, map-append, length-drop, length-take-le, take_all}
 pub use Rattle.std.proofs.lemmas.List.Elements.{All-contains, Contains-append_left, Contains-get_or, Contains-push, Contains-push_cases}
 pub use Rattle.std.proofs.lemmas.Option.{get_or_from_slice_get, slice_get_within}

@@ -1,5 +1,5 @@
 -- A tape that occurs more than once need be tried only once.
-use Rattle.pair_questions.proofs.Common.{ℕ, zero, suc, ◌≡◌, ◌<◌, ◌≤◌, inl, inr, Bool, true, false, not, ◌&&◌, List, [], ◌∷◌, ◌++◌, length, map, drop, get_or, All, Contains, refl, ap, sym, subst, ◌∙◌, arith, drop_all, All-contains, Contains-append_left, Contains-get_or, Contains-push, Contains-push_cases, Function, Layout, Bounds, Input, Outcome, is_refined, run_of, TermId, Term, IsTerm, Keeps, Tests, bit_at, InputTerms, TapeTerms, OutcomeTerms, reading, AreWords, IsInput, words_at, IsOutcome, each-weaker, map-at, map-length, map-same, bit-later, input_at-later, outcome-later, words-later, words_at-later, AreSameTapes, AreTapes, input_in, none_allows, outcome_in, tapes_at, and_from, both_ways}
+use Rattle.pair_questions.proofs.Common.{ℕ, zero, suc, ◌≡◌, ◌<◌, ◌≤◌, inl, inr, Bool, true, false, not, ◌&&◌, List, [], ◌∷◌, ◌++◌, length, map, drop, get_or, All, Contains, refl, ap, sym, subst, ◌∙◌, arith, drop_all, All-contains, Contains-append_left, Contains-get_or, Contains-push, Contains-push_cases, Function, Layout, Bounds, Input, Outcome, is_refined, run_of, TermId, Term, IsTerm, Keeps, Tests, bit_at, InputTerms, TapeTerms, OutcomeTerms, reading, AreWords, IsInput, words_at, IsOutcome, each-weaker, map-at, map-length, map-same, bit-later, input_at-later, outcome-later, words-later, words_at-later, AreSameTapes, AreTapes, input_in, none_allows, outcome_in, tapes_at, and_from}
 use Rattle.std.proofs.lemmas.Simd.{map-map}
 
 -- ---- terms that grow
@@ -63,6 +63,11 @@ and_right : (a b : Bool) → (a && b) ≡ true → b ≡ true
 and_right true b h = h
 and_right false b h = absurd (let x : ⊥ = cc in x)
 
+same_truth : (a b : Bool) → (a ≡ true → b ≡ true) → (b ≡ true → a ≡ true) → a ≡ b
+same_truth true b f g = sym (f refl)
+same_truth false true f g = g refl
+same_truth false false f g = refl
+
 module _ (f : Function) (bounds : Bounds) (input : Input) (target : Outcome) where
   abbrev refused : List ℕ → Bool
   refused tape = not (is_refined (run_of f bounds input tape).outcome target)
@@ -82,7 +87,7 @@ module _ (f : Function) (bounds : Bounds) (input : Input) (target : Outcome) whe
   none_within xs ys sub h = none_in ys (λ k d lt. All-contains (λ tape. refused tape ≡ true) xs (get_or ys k d) (all_refused xs h) (sub (get_or ys k d) (Contains-get_or ys k d lt)))
 
   pub none_same : (xs ys : List (List ℕ)) → AreSameTapes xs ys → none_allows f bounds input target xs ≡ none_allows f bounds input target ys
-  none_same xs ys h = both_ways (none_allows f bounds input target xs) (none_allows f bounds input target ys) (none_within xs ys h.there) (none_within ys xs h.here)
+  none_same xs ys h = same_truth (none_allows f bounds input target xs) (none_allows f bounds input target ys) (none_within xs ys h.there) (none_within ys xs h.here)
 
 three : {A B C D : Type 0} (f : A → B → C → D) {x x' : A} {y y' : B} {z z' : C} → x ≡ x' → y ≡ y' → z ≡ z' → f x y z ≡ f x' y' z'
 three f e g h = cc
