@@ -1,3 +1,5 @@
+//! The order of answers as digits is the order of points as numbers.
+
 ghost use Rattle.answer_order.specs.Laws.{LeastDigitsAreLeastNumbers, NoDigitsAreNoNumbers};
 
 /// Where bits are the least that pass a test of the numbers that they write, these numbers are the

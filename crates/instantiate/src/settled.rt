@@ -1,3 +1,5 @@
+//! What the judge answers of a pair.
+
 use clause_log::Cert;
 use verdicts::{Kept, Verdict};
 

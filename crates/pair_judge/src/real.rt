@@ -1,3 +1,5 @@
+//! The judge of the program.
+
 ghost use Rattle.points.specs.Range.{AreInRange};
 
 use instantiate::settle;

@@ -1,3 +1,5 @@
+//! What an answered question says of a pair.
+
 use clause_log::Cert;
 
 /// The answer to a question: the least solution; that there is none, with a refutation of clauses

@@ -1,3 +1,5 @@
+//! Variables in the order of a code leave no input out.
+
 ghost use Rattle.pair_questions.specs.Assignments.{InputsHaveAssignments};
 
 /// The questions leave no input out: for each input within the bounds and each tape of the target

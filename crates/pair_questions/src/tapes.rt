@@ -15,17 +15,17 @@ use support::{NoMemory, Sequence};
 /// A shifted tape: each word is the one this many positions after it, or before it.
 #[derive(Clone, Copy, Debug, PartialEq, Eq)]
 pub enum Shift {
-    Behind(usize),
-    Before(usize),
+    Later(usize),
+    Earlier(usize),
 }
 
 /// The target's tape as it is, and shifted by one or two positions either way.
 pub const SHIFTS: [Shift; 5] = [
-    Shift::Behind(0),
-    Shift::Behind(1),
-    Shift::Behind(2),
-    Shift::Before(1),
-    Shift::Before(2),
+    Shift::Later(0),
+    Shift::Later(1),
+    Shift::Later(2),
+    Shift::Earlier(1),
+    Shift::Earlier(2),
 ];
 
 impl Shift {
@@ -34,8 +34,8 @@ impl Shift {
         ensures { result ≡ source_of self place }
     {
         match self {
-            Shift::Behind(by) => place.checked_add(by),
-            Shift::Before(by) => place.checked_sub(by),
+            Shift::Later(by) => place.checked_add(by),
+            Shift::Earlier(by) => place.checked_sub(by),
         }
     }
 }

@@ -1,3 +1,5 @@
+//! What all steps of an encoding share.
+
 use bv_terms::TermId;
 use ir_tree::Function;
 use points::Layout;
