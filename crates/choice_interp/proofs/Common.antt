@@ -16,6 +16,5 @@ pub use Rattle.points.specs.Run.{index_value, index_values, Run, Exit, To, Over,
 unfoldable pub use Rattle.points.specs.Run.{forward, run_turns, exit_insts}
 pub use Rattle.points.specs.declared.machine.Machine.{Machine}
 pub use Rattle.points.specs.declared.outcome.Outcome.TheVariants.{Ub}
-pub use Rattle.choice_interp.specs.Keeping.{IsGiven, DoesKeepMemory, KeepsMemory}
 pub use Rattle.choice_interp.specs.Left.{assign_all, left_by, exit_with, IsJump}
 pub use Rattle.choice_interp.specs.declared.ending.Ending.{Ending}

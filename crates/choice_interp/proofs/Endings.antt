@@ -1,13 +1,11 @@
--- Two endings with one memory, and an ending once local blocks are freed.
-use Rattle.choice_interp.proofs.Common.{◌≡◌, List, Bool, true, false, ◌&&◌, refl, sym, ap, ◌∙◌, eq-eqb, ℕ, Option, All, filter, Value, Null, Given, Local, MemoryBlock, equal_names, block_bytes, Machine, is_given, Ending, IsGiven, left_by}
+-- A memory allows itself, and an ending once local blocks are freed.
+use Rattle.choice_interp.proofs.Common.{◌≡◌, List, true, refl, sym, ap, eq-eqb, ℕ, filter, Null, Given, Local, MemoryBlock, equal_names, block_bytes, Machine, is_given, Ending, left_by}
 use Rattle.byte_block.specs.declared.value.BlockName.{BlockName}
 use Rattle.byte_block.specs.declared.value.Byte.{Byte}
 use Rattle.byte_block.specs.declared.value.Byte.TheVariants as byte
-use Rattle.points.specs.Refines.{same_pointer, byte_allows, block_allows, blocks_allow, returned_allows, is_refined}
+use Rattle.points.specs.Refines.{same_pointer, byte_allows, block_allows, blocks_allow}
 use Rattle.points.proofs.Allowed.{pairs_pass-same}
-use Rattle.choice_interp.specs.declared.ending.Ending.TheVariants.{Return}
-use Rattle.choice_interp.proofs.Items.{all_kept}
-use Rattle.choice_interp.specs.Ran.{outcome_of, run_with}
+use Rattle.choice_interp.specs.Ran.{run_with}
 
 equal_names-same : (b : BlockName) → equal_names b b ≡ true
 equal_names-same Null = refl
@@ -30,19 +28,6 @@ block_allows-same b = rw (equal_names-same b.name, eq-eqb b.size b.size refl, pa
 pub blocks_allow-same : (bs : List MemoryBlock) → blocks_allow bs bs ≡ true
 blocks_allow-same bs = pairs_pass-same block_allows bs block_allows-same
 
-pub refines_with_memory : (v w : Option Value) (memory : List MemoryBlock) → returned_allows v w ≡ is_refined (outcome_of (Return v) memory) (outcome_of (Return w) memory)
-refines_with_memory v w memory = rw (blocks_allow-same memory) (and_true (returned_allows v w))
-  where
-    and_true : (b : Bool) → b ≡ (b && true)
-    and_true true = refl
-    and_true false = refl
-
 -- local blocks are freed
 pub left_freed : (ending : Ending) (m : Machine) (memory : List MemoryBlock) → memory ≡ filter is_given m.memory → left_by ending m ≡ run_with ending (record m { memory = memory })
 left_freed ending m memory freed = ap (λ (bs : List MemoryBlock). run_with ending (record m { memory = bs })) (sym freed)
-
--- there are none to free
-pub left_given : (ending : Ending) (m : Machine) (blocks : List MemoryBlock) → m.memory ≡ blocks → All IsGiven blocks → left_by ending m ≡ run_with ending m
-left_given ending m blocks same given =
-    let kept : filter is_given m.memory ≡ m.memory = ap (λ (bs : List MemoryBlock). filter is_given bs) same ∙ all_kept is_given blocks given ∙ sym same in
-    ap (λ (bs : List MemoryBlock). run_with ending (record m { memory = bs })) kept

@@ -1,6 +1,5 @@
 pub mod Common
 mod Defined
 pub mod Endings
-pub mod Items
 pub mod SmallSizes
 pub mod Ways

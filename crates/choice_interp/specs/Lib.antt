@@ -1,4 +1,3 @@
 pub mod Ran
 pub mod Left
-pub mod Keeping
 pub mod Runners

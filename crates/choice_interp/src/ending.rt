@@ -1,5 +1,4 @@
-ghost use Rattle.std.specs.Prelude.{◌≡◌, List};
-ghost use Rattle.byte_block.specs.declared.block.MemoryBlock.{MemoryBlock};
+ghost use Rattle.std.specs.Prelude.{◌≡◌};
 ghost use Rattle.points.specs.Refines.{is_refined};
 ghost use Rattle.choice_interp.specs.Ran.{outcome_of};
 
@@ -24,18 +23,6 @@ impl Ending {
             Ending::Ub => Outcome::Ub,
             Ending::Beyond => Outcome::Beyond,
         }
-    }
-}
-
-/// Whether the source's ending allows the target's, where both runs leave the same memory.
-#[tactic(auto, using(crate::proofs::Endings::refines_with_memory))]
-pub fn ending_refines(source: Ending, target: Ending) -> bool
-    ensures { (memory : List MemoryBlock) → result ≡ is_refined (outcome_of source memory) (outcome_of target memory) }
-{
-    match (source, target) {
-        (_, Ending::Beyond) | (Ending::Ub | Ending::Beyond, _) => true,
-        (Ending::Return(_), Ending::Ub) => false,
-        (Ending::Return(s), Ending::Return(t)) => returned_is_allowed(s, t),
     }
 }
 

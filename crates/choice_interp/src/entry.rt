@@ -1,12 +1,11 @@
 // How a function is entered: its blocks, its parameters, and their attributes (LLVM Language
 // Reference, "Parameter Attributes").
-ghost use Rattle.std.specs.Prelude.{◌≡◌, length, replicate, false, OnOk};
+ghost use Rattle.std.specs.Prelude.{◌≡◌, length, replicate, OnOk};
 ghost use Rattle.points.specs.Run.{is_null, argument_value, with_args, breaks_noundef, first_machine, null_pointer};
 ghost use Rattle.memory_access.specs.Blocks.{equal_pointers};
 
-use crate::blocks::restore;
 use crate::reading::is_poison;
-use byte_block::{BlockName, Memory, Ptr, Value};
+use byte_block::{BlockName, Ptr, Value, copy_memory};
 use ir_tree::{Function, Parameter};
 use points::{Input, Machine};
 use std::alloc::Global;
@@ -86,39 +85,18 @@ pub fn breaks_no_undef(parameters: &[Parameter], args: &[Value]) -> bool
     false
 }
 
-/// Puts the given blocks back where a run may have changed them.
-fn begin_memory(
-    alloc: Global,
-    restores: bool,
-    memory: &mut Memory,
-    blocks: &Memory,
-) -> Result<(), NoMemory>
-    requires { restores ≡ false → memory.old ≡ blocks.now }
-    ensures value { OnOk result (memory.new ≡ blocks.now) }
-    ensures kept { restores ≡ false → memory.new ≡ memory.old }
-{
-    if restores {
-        restore(alloc, memory, blocks.as_slice())?;
-    }
-    Ok(())
-}
-
-/// The first machine of a run. `restores` says whether the machine's memory may be another than the
-/// input's.
+/// The first machine of a run.
 pub fn begin(
     machine: &mut Machine,
     alloc: Global,
-    restores: bool,
     f: &Function,
     input: &Input,
 ) -> Result<(), NoMemory>
-    requires registers { length machine.old.registers ≡ length f.now.names }
-    requires memory { restores ≡ false → machine.old.memory ≡ input.now.blocks }
+    requires { length machine.old.registers ≡ length f.now.names }
     ensures value { OnOk result (machine.new ≡ first_machine f.now input.now) }
     ensures registers { length machine.new.registers ≡ length f.now.names }
-    ensures memory { restores ≡ false → machine.new.memory ≡ input.now.blocks }
 {
-    begin_memory(alloc, restores, &mut machine.memory, &input.blocks)?;
+    machine.memory = copy_memory(alloc, &input.blocks)?;
     poison_all(&mut machine.registers);
     give_args(
         &mut machine.registers,

@@ -3,7 +3,6 @@ ghost use Rattle.ir_tree.specs.BlockIndexes.{IsIndex};
 ghost use Rattle.ir_tree.specs.Limits.{HasSmallObjects};
 ghost use Rattle.points.specs.Runnable.{IsRunnable};
 ghost use Rattle.points.specs.Run.{exit_insts, exit_of, run_turns, run_of};
-ghost use Rattle.choice_interp.specs.Keeping.{DoesKeepMemory};
 ghost use Rattle.choice_interp.specs.Left.{exit_with, left_by};
 ghost use Rattle.choice_interp.specs.Ran.{run_with};
 ghost use Rattle.choice_interp.specs.Runners.{IsRunner};
@@ -30,7 +29,6 @@ fn run_insts(
     requires limits { HasSmallObjects block.now }
     ensures exit { IfOk result (λ left. exit_insts no_undef block.now.insts block.now.terminator tape.now machine.old ≡ exit_with left machine.new) }
     ensures registers { length machine.new.registers ≡ length machine.old.registers }
-    ensures memory { DoesKeepMemory block.now → machine.new.memory ≡ machine.old.memory }
     ensures turn { machine.new.turn ≡ machine.old.turn }
 {
     for inst in block.insts.as_slice() {
@@ -53,7 +51,6 @@ fn run_block(
     requires limits { HasSmallObjects block.now }
     ensures exit { IfOk result (λ left. exit_of no_undef (Some block.now) tape.now machine.old ≡ exit_with left machine.new) }
     ensures registers { length machine.new.registers ≡ length machine.old.registers }
-    ensures memory { DoesKeepMemory block.now → machine.new.memory ≡ machine.old.memory }
     ensures turn { machine.new.turn ≡ machine.old.turn }
 {
     enter(machine, &mut room.phis, block)?;
@@ -75,7 +72,6 @@ fn run_blocks(
     requires limits { All HasSmallObjects f.now.blocks }
     ensures run { IfOk result (λ ending. run_turns f.now tape.now turns 0 machine.old ≡ left_by ending machine.new) }
     ensures registers { length machine.new.registers ≡ length machine.old.registers }
-    ensures memory { All DoesKeepMemory f.now.blocks → machine.new.memory ≡ machine.old.memory }
 {
     let blocks = f.blocks.as_slice();
     let mut at = 0;
@@ -98,10 +94,10 @@ fn run_blocks(
     Ok(Ending::Ub)
 }
 
-/// Runs a function on an input and a tape, by a runner of it that has the input's blocks. It
-/// allocates only for blocks of `alloca`, and for choices, for the phis of a block and for the
-/// indices of a `getelementptr` where there are more of them than any run by this runner had
-/// before. When out of memory the runner is left in the middle of the run, and fit for another run.
+/// Runs a function on an input and a tape, by a runner of it. It allocates only for the input's blocks
+/// and those of `alloca`, and for choices, for the phis of a block and for the indices of a
+/// `getelementptr` where there are more of them than any run by this runner had before. When out of
+/// memory the runner is left in the middle of the run, and fit for another run.
 pub fn run_again(
     runner: &mut Runner,
     f: &Function,
@@ -109,13 +105,13 @@ pub fn run_again(
     input: &Input,
     tape: &[u64],
 ) -> Result<Ending, NoMemory>
-    requires ready { IsRunner f.now input.now.blocks runner.old }
+    requires ready { IsRunner f.now runner.old }
     requires runnable { IsRunnable f.now }
     ensures run { IfOk result (λ ending. run_of f.now bounds.now input.now tape.now ≡ run_with ending runner.new.machine) }
-    ensures ready { IsRunner f.now input.now.blocks runner.new }
+    ensures ready { IsRunner f.now runner.new }
 {
     let alloc = runner.room.alloc;
-    begin(&mut runner.machine, alloc, runner.restores, f, input)?;
+    begin(&mut runner.machine, alloc, f, input)?;
     if breaks_no_undef(f.parameters.as_slice(), input.args.as_slice()) {
         return Ok(Ending::Ub);
     }
@@ -127,8 +123,6 @@ pub fn run_again(
         bounds.turns,
         tape,
     )?;
-    if runner.restores {
-        free_locals(alloc, &mut runner.machine.memory);
-    }
+    free_locals(alloc, &mut runner.machine.memory);
     Ok(ending)
 }

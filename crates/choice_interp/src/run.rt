@@ -57,7 +57,7 @@ pub fn interpret(
     requires runnable { IsRunnable f.now }
     ensures { IfOk result (Shows tape.now (run_of f.now bounds.now input.now tape.now)) }
 {
-    let mut runner = runner_for(alloc, f, &input.blocks)?;
+    let mut runner = runner_for(alloc, f)?;
     let ending = run_again(&mut runner, f, bounds, input, tape)?;
     let Runner { machine, .. } = runner;
     Ok(ran_of(machine, ending, tape))

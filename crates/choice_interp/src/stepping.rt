@@ -1,7 +1,6 @@
 ghost use Rattle.std.specs.Prelude.{◌≡◌, IfOk, IsFalse, Some, None, if◌then◌else◌, length};
 ghost use Rattle.ir_tree.specs.Limits.{HasSmallTypes};
 ghost use Rattle.points.specs.Run.{act};
-ghost use Rattle.choice_interp.specs.Keeping.{KeepsMemory};
 
 use crate::assigning::assign;
 use crate::choosing::freeze;
@@ -25,7 +24,6 @@ pub fn step(
     ensures goes { IfOk result (λ goes. act inst.now tape.now machine.old ≡ (if goes then Some machine.new else None)) }
     ensures stays { IfOk result (λ goes. IsFalse goes → machine.new ≡ machine.old) }
     ensures registers { length machine.new.registers ≡ length machine.old.registers }
-    ensures memory { KeepsMemory inst.now → machine.new.memory ≡ machine.old.memory }
     ensures turn { machine.new.turn ≡ machine.old.turn }
 {
     match inst {

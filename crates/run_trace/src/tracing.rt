@@ -98,13 +98,12 @@ fn tracer_for(alloc: Global, f: &Function, input: &Input) -> Result<Tracer, NoMe
     ensures index { IfOk result (λ tracer. IsIndex f.now tracer.index) }
     ensures steps { IfOk result (λ tracer. tracer.steps ≡ []) }
 {
-    let mut runner = runner_for(alloc, f, &input.blocks)?;
-    begin(&mut runner.machine, alloc, true, f, input)?;
+    let mut runner = runner_for(alloc, f)?;
+    begin(&mut runner.machine, alloc, f, input)?;
     let Runner {
         machine,
         index,
         room,
-        ..
     } = runner;
     Ok(Tracer {
         machine,

@@ -28,5 +28,5 @@ pub use Rattle.verdicts.specs.Covers.{is_covered, IsLeastCover, HasNoCover, shif
 unfoldable pub use Rattle.verdicts.specs.Covers.{covers, some_covers}
 pub use Rattle.verdicts.specs.Pair.{RunPair, Functions, layout_of}
 pub use Rattle.verdicts.specs.Trail.{place_in, TrailFrom, IsLeastUncovered, AreAllCovered, Ends, IsVerdict, IsPoint}
-pub use Rattle.slow_judge.specs.Search.{IsNextAmong, IsLastAmong, IsUncovered, IsLeastAmong, AreCoveredAmong, HasTrail, HaveNoPointers, empty_blocks, IsCell, DoesEnd, empty_block, least_args, IsNextCell, IsLastCell, IsShapeOf, IsReady, IsBench, shift_of}
+pub use Rattle.slow_judge.specs.Search.{IsNextAmong, IsLastAmong, IsUncovered, IsLeastAmong, AreCoveredAmong, HasTrail, HaveNoPointers, empty_blocks, IsCell, DoesEnd, empty_block, least_args, IsNextCell, IsLastCell, IsShapeOf, IsReady, shift_of}
 unfoldable pub use Rattle.slow_judge.specs.Search.{first_empty}

@@ -105,16 +105,11 @@ AreCoveredAmong Among pair bounds tapes = (q : Point) → Among q → IsPlain q.
 
 -- ---- what the judge works with
 
--- runners of both functions with these blocks, and room for one tape of the source
-pub record IsReady (pair : RunPair) (bounds : Bounds) (blocks : List MemoryBlock) (bench : Bench) : Type 0 where
-  pub source : IsRunner pair.source blocks bench.source
-  pub target : IsRunner pair.target blocks bench.target
+-- runners of both functions, and room for one tape of the source
+pub record IsReady (pair : RunPair) (bounds : Bounds) (bench : Bench) : Type 0 where
+  pub source : IsRunner pair.source bench.source
+  pub target : IsRunner pair.target bench.target
   pub candidate : length bench.candidate ≡ need_of bounds.turns pair.source
-
--- with some blocks
-pub record IsBench (pair : RunPair) (bounds : Bounds) (bench : Bench) : Type 0 where
-  pub blocks : List MemoryBlock
-  pub ready : IsReady pair bounds blocks bench
 
 -- the verdict of a pair that is not too heavy
 pub record HasTrail (pair : RunPair) (bounds : Bounds) (budget : Budget) (v : Verdict) : Type 0 where

@@ -73,7 +73,7 @@ pub fn layout_of(pair: &RunPair, bounds: &Bounds) -> Layout
 
 /// The given blocks with size 0.
 #[tactic(auto, using(crate::proofs::Order::empty_none, crate::proofs::Order::empty_more))]
-pub fn blocks_without_bytes(alloc: Global, layout: &Layout) -> Result<Memory, NoMemory>
+fn blocks_without_bytes(alloc: Global, layout: &Layout) -> Result<Memory, NoMemory>
     ensures { IfOk result (λ memory. memory ≡ empty_blocks layout.now) }
 {
     let mut blocks = Vec::new(alloc);
@@ -109,7 +109,6 @@ pub fn next_cell(pair: &RunPair, bounds: &Bounds, width: Width, point: &mut Poin
     requires cell { IsCell pair.now bounds.now point.old }
     ensures next { IsTrue result → IsNextCell pair.now bounds.now point.old point.new }
     ensures last { IsFalse result → IsLastCell pair.now bounds.now point.old × (point.new ≡ point.old) }
-    ensures blocks { point.new.input.blocks ≡ point.old.input.blocks }
 {
     if next_words(&mut point.tape, width) {
         return true;

@@ -20,10 +20,10 @@ fn run_target(
     bench: &mut Bench,
 ) -> Result<Ending, NoMemory>
     requires pair { AreRunnable pair.now }
-    requires ready { IsReady pair.now bounds.now point.now.input.blocks bench.old }
+    requires ready { IsReady pair.now bounds.now bench.old }
     ensures end { IfOk result (λ ending. DoesEnd pair.now bounds.now point.now ending bench.new.target.machine.memory) }
     ensures taken { OnOk result ((run_of pair.now.target bounds.now point.now.input point.now.tape).taken ≡ bench.new.target.machine.taken) }
-    ensures ready { IsReady pair.now bounds.now point.now.input.blocks bench.new }
+    ensures ready { IsReady pair.now bounds.now bench.new }
 {
     let ending = run_again(
         &mut bench.target,
@@ -48,10 +48,10 @@ fn allows(
     runner: &mut Runner,
 ) -> Result<bool, NoMemory>
     requires pair { AreRunnable pair.now }
-    requires ready { IsRunner pair.now.source point.now.input.blocks runner.old }
+    requires ready { IsRunner pair.now.source runner.old }
     requires target { DoesEnd pair.now bounds.now point.now target memory.now }
     ensures value { IfOk result (λ holds. holds ≡ covers pair.now bounds.now point.now tape.now) }
-    ensures ready { IsRunner pair.now.source point.now.input.blocks runner.new }
+    ensures ready { IsRunner pair.now.source runner.new }
 {
     let source = run_again(runner, pair.source(), bounds, &point.input, tape)?;
     Ok(runs_refine(source, &runner.machine.memory, target, memory))
@@ -68,10 +68,10 @@ fn some_allows(
     runner: &mut Runner,
 ) -> Result<bool, NoMemory>
     requires pair { AreRunnable pair.now }
-    requires ready { IsRunner pair.now.source point.now.input.blocks runner.old }
+    requires ready { IsRunner pair.now.source runner.old }
     requires target { DoesEnd pair.now bounds.now point.now target memory.now }
     ensures value { IfOk result (λ holds. holds ≡ some_covers pair.now bounds.now point.now tapes.now) }
-    ensures ready { IsRunner pair.now.source point.now.input.blocks runner.new }
+    ensures ready { IsRunner pair.now.source runner.new }
 {
     for tape in tapes {
         if allows(pair, bounds, point, tape.as_slice(), target, memory, runner)? {
@@ -133,10 +133,10 @@ fn shift_allows(
     bench: &mut Bench,
 ) -> Result<bool, NoMemory>
     requires pair { AreRunnable pair.now }
-    requires ready { IsReady pair.now bounds.now point.now.input.blocks bench.old }
+    requires ready { IsReady pair.now bounds.now bench.old }
     requires target { DoesEnd pair.now bounds.now point.now target bench.old.target.machine.memory }
     ensures value { IfOk result (λ holds. holds ≡ covers pair.now bounds.now point.now (words_of (need_of bounds.now.turns pair.now.source) (shift_of shift point.now.tape))) }
-    ensures ready { IsReady pair.now bounds.now point.now.input.blocks bench.new }
+    ensures ready { IsReady pair.now bounds.now bench.new }
     ensures target { bench.new.target ≡ bench.old.target }
 {
     shift_into(&mut bench.candidate, point.tape.as_slice(), shift);
@@ -161,10 +161,10 @@ fn some_shift_allows(
     bench: &mut Bench,
 ) -> Result<bool, NoMemory>
     requires pair { AreRunnable pair.now }
-    requires ready { IsReady pair.now bounds.now point.now.input.blocks bench.old }
+    requires ready { IsReady pair.now bounds.now bench.old }
     requires target { DoesEnd pair.now bounds.now point.now target bench.old.target.machine.memory }
     ensures value { IfOk result (λ holds. holds ≡ some_covers pair.now bounds.now point.now (shifted (need_of bounds.now.turns pair.now.source) point.now.tape)) }
-    ensures ready { IsReady pair.now bounds.now point.now.input.blocks bench.new }
+    ensures ready { IsReady pair.now bounds.now bench.new }
     ensures target { bench.new.target ≡ bench.old.target }
 {
     if shift_allows(pair, bounds, point, target, Shift::Behind(0), bench)? {
@@ -192,9 +192,9 @@ pub fn is_cover(
     bench: &mut Bench,
 ) -> Result<bool, NoMemory>
     requires pair { AreRunnable pair.now }
-    requires ready { IsReady pair.now bounds.now point.now.input.blocks bench.old }
+    requires ready { IsReady pair.now bounds.now bench.old }
     ensures value { IfOk result (λ holds. holds ≡ covers pair.now bounds.now point.now tape.now) }
-    ensures ready { IsReady pair.now bounds.now point.now.input.blocks bench.new }
+    ensures ready { IsReady pair.now bounds.now bench.new }
 {
     let target = run_target(pair, bounds, point, bench)?;
     let holds = allows(
@@ -218,9 +218,9 @@ pub fn is_uncovered(
     bench: &mut Bench,
 ) -> Result<bool, NoMemory>
     requires pair { AreRunnable pair.now }
-    requires ready { IsReady pair.now bounds.now point.now.input.blocks bench.old }
+    requires ready { IsReady pair.now bounds.now bench.old }
     ensures value { IfOk result (λ holds. IsTrue holds ↔ IsUncovered pair.now bounds.now tapes.now point.now) }
-    ensures ready { IsReady pair.now bounds.now point.now.input.blocks bench.new }
+    ensures ready { IsReady pair.now bounds.now bench.new }
 {
     let target = run_target(pair, bounds, point, bench)?;
     if !is_plain(point.tape.as_slice(), bench.target.machine.taken.as_slice()) {

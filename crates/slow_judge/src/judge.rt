@@ -2,13 +2,12 @@ ghost use Rattle.std.specs.Prelude.{◌≡◌, IfOk};
 ghost use Rattle.ir_tree.specs.Limits.{IsWithinLimits};
 ghost use Rattle.points.specs.Range.{AreInRange};
 ghost use Rattle.points.specs.Tapes.{need_of, widest_choice};
-ghost use Rattle.verdicts.specs.Pair.{layout_of};
 ghost use Rattle.verdicts.specs.Trail.{IsVerdict};
 ghost use Rattle.pair_costs.specs.Small.{AreSmall};
-ghost use Rattle.slow_judge.specs.Search.{AreRunnable, empty_blocks, IsReady, HasTrail};
+ghost use Rattle.slow_judge.specs.Search.{AreRunnable, IsReady, HasTrail};
 
 use crate::bench::Bench;
-use crate::cells::{blocks_without_bytes, layout_of, zeros};
+use crate::cells::zeros;
 use crate::search::{Tape, least_cover, least_uncovered};
 use choice_interp::runner_for;
 use pair_costs::{need, weight, widest_of};
@@ -19,13 +18,12 @@ use verdicts::{Cause, Pair, RunPair, Verdict};
 
 fn bench_for(alloc: Global, pair: &RunPair, bounds: &Bounds, need: usize) -> Result<Bench, NoMemory>
     requires { need ≡ need_of bounds.now.turns pair.now.source }
-    ensures { IfOk result (IsReady pair.now bounds.now (empty_blocks (layout_of pair.now bounds.now))) }
+    ensures { IfOk result (IsReady pair.now bounds.now) }
 {
-    let blocks = blocks_without_bytes(alloc, &layout_of(pair, bounds))?;
     Ok(Bench {
         candidate: zeros(alloc, need)?,
-        source: runner_for(alloc, pair.source(), &blocks)?,
-        target: runner_for(alloc, pair.target(), &blocks)?,
+        source: runner_for(alloc, pair.source())?,
+        target: runner_for(alloc, pair.target())?,
     })
 }
 

@@ -1,20 +1,15 @@
-ghost use Rattle.std.specs.Prelude.{◌≡◌, MatchOption, IfOk, OnOk, IfSome, List};
-ghost use Rattle.byte_block.specs.declared.block.MemoryBlock.{MemoryBlock};
+ghost use Rattle.std.specs.Prelude.{◌≡◌, MatchOption, IfOk};
 ghost use Rattle.points.specs.Code.{IsOfShape};
-ghost use Rattle.verdicts.specs.Pair.{RunPair};
 ghost use Rattle.points.specs.Tapes.{need_of, widest_choice};
 ghost use Rattle.verdicts.specs.Trail.{IsLeastUncovered, AreAllCovered};
 ghost use Rattle.verdicts.specs.Covers.{IsLeastCover, HasNoCover};
-ghost use Rattle.points.specs.declared.point.Bounds.{Bounds as Limits};
 ghost use Rattle.pair_costs.specs.Small.{AreSmall};
-ghost use Rattle.slow_judge.specs.Search.{AreRunnable, HaveNoPointers, IsShapeOf, IsCell, IsReady, IsBench, IsLeastAmong, AreCoveredAmong};
+ghost use Rattle.slow_judge.specs.Search.{AreRunnable, HaveNoPointers, IsShapeOf, IsCell, IsReady, IsLeastAmong, AreCoveredAmong};
 
 use crate::bench::Bench;
 use crate::cells::{first, layout_of, next_cell, zeros};
 use crate::cover::{is_cover, is_uncovered};
 use crate::pointers::have_no_pointers;
-use byte_block::Memory;
-use choice_interp::give_blocks;
 use points::{Bounds, Point, Shape, next, next_words};
 use std::alloc::Global;
 use support::{NoMemory, Sequence};
@@ -26,14 +21,6 @@ use verdicts::RunPair;
 pub struct Tape {
     pub words: usize,
     pub width: Width,
-}
-
-fn give(bench: &mut Bench, blocks: &Memory) -> Result<(), NoMemory>
-    ensures { OnOk result ((pair : RunPair) (bounds : Limits) → IsBench pair bounds bench.old → IsReady pair bounds blocks.now bench.new) }
-{
-    give_blocks(&mut bench.source, blocks)?;
-    give_blocks(&mut bench.target, blocks)?;
-    Ok(())
 }
 
 /// What the points of the pair look like.
@@ -70,14 +57,13 @@ fn least_cell(
     requires small { AreSmall bounds.now }
     requires words { of_target.words ≡ need_of bounds.now.turns pair.now.target }
     requires width { of_target.width.bits ≡ widest_choice pair.now.target }
-    requires bench { IsBench pair.now bounds.now bench.old }
+    requires ready { IsReady pair.now bounds.now bench.old }
     ensures found { IfOk result (λ found. MatchOption found
         (AreCoveredAmong (IsCell pair.now bounds.now) pair.now bounds.now tapes.now)
         (IsLeastAmong (IsCell pair.now bounds.now) pair.now bounds.now tapes.now)) }
-    ensures ready { IfOk result (λ found. IfSome found (λ p. IsReady pair.now bounds.now p.input.blocks bench.new)) }
+    ensures ready { IsReady pair.now bounds.now bench.new }
 {
     let mut point = first(alloc, pair, bounds, of_target.words)?;
-    give(bench, &point.input.blocks)?;
     loop {
         if is_uncovered(pair, bounds, tapes, &point, bench)? {
             return Ok(Some(point));
@@ -101,16 +87,15 @@ fn least_point(
     requires small { AreSmall bounds.now }
     requires words { of_target.words ≡ need_of bounds.now.turns pair.now.target }
     requires width { of_target.width.bits ≡ widest_choice pair.now.target }
-    requires bench { IsBench pair.now bounds.now bench.old }
+    requires ready { IsReady pair.now bounds.now bench.old }
     ensures found { IfOk result (λ found. MatchOption found
         (AreAllCovered pair.now bounds.now tapes.now)
         (IsLeastUncovered pair.now bounds.now tapes.now)) }
-    ensures ready { IfOk result (λ found. IfSome found (λ p. IsReady pair.now bounds.now p.input.blocks bench.new)) }
+    ensures ready { IsReady pair.now bounds.now bench.new }
 {
     let shape = shape_of(alloc, pair, bounds, of_target)?;
     let mut point = first(alloc, pair, bounds, of_target.words)?;
     loop {
-        give(bench, &point.input.blocks)?;
         if is_uncovered(pair, bounds, tapes, &point, bench)? {
             return Ok(Some(point));
         }
@@ -134,11 +119,11 @@ pub fn least_uncovered(
     requires small { AreSmall bounds.now }
     requires words { of_target.words ≡ need_of bounds.now.turns pair.now.target }
     requires width { of_target.width.bits ≡ widest_choice pair.now.target }
-    requires bench { IsBench pair.now bounds.now bench.old }
+    requires ready { IsReady pair.now bounds.now bench.old }
     ensures found { IfOk result (λ found. MatchOption found
         (AreAllCovered pair.now bounds.now tapes.now)
         (IsLeastUncovered pair.now bounds.now tapes.now)) }
-    ensures ready { IfOk result (λ found. IfSome found (λ p. IsReady pair.now bounds.now p.input.blocks bench.new)) }
+    ensures ready { IsReady pair.now bounds.now bench.new }
 {
     if have_no_pointers(pair) {
         let found = least_cell(alloc, pair, bounds, of_target, tapes, bench)?;
@@ -160,11 +145,11 @@ pub fn least_cover(
     requires pair { AreRunnable pair.now }
     requires words { of_source.words ≡ need_of bounds.now.turns pair.now.source }
     requires width { of_source.width.bits ≡ widest_choice pair.now.source }
-    requires ready { IsReady pair.now bounds.now point.now.input.blocks bench.old }
+    requires ready { IsReady pair.now bounds.now bench.old }
     ensures found { IfOk result (λ found. MatchOption found
         (HasNoCover pair.now bounds.now point.now)
         (IsLeastCover pair.now bounds.now point.now)) }
-    ensures ready { IsReady pair.now bounds.now point.now.input.blocks bench.new }
+    ensures ready { IsReady pair.now bounds.now bench.new }
 {
     let mut tape = zeros(alloc, of_source.words)?;
     loop {

@@ -62,9 +62,9 @@ pub fn returns(
     tape: &[u64],
     number: u64,
 ) -> Result<bool, NoMemory>
-    requires ready { IsRunner f.now input.now.blocks runner.old }
+    requires ready { IsRunner f.now runner.old }
     requires runnable { IsRunnable f.now }
-    ensures ready { IsRunner f.now input.now.blocks runner.new }
+    ensures ready { IsRunner f.now runner.new }
 {
     let ending = run_again(runner, f, bounds, input, tape)?;
     let is_returned = ending == Ending::Return(Some(Value::Num(number)));

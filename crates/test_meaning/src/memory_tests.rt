@@ -192,16 +192,16 @@ fn is_overwritten(left: &Memory, given: &Memory) -> bool {
 
 /// Whether a run by this runner begins with the given blocks, and leaves another byte.
 fn begins(runner: &mut Runner, f: &Function, input: &Input) -> Result<bool, NoMemory>
-    requires ready { IsRunner f.now input.now.blocks runner.old }
+    requires ready { IsRunner f.now runner.old }
     requires runnable { IsRunnable f.now }
-    ensures ready { IsRunner f.now input.now.blocks runner.new }
+    ensures ready { IsRunner f.now runner.new }
 {
     let is_returned = returns(runner, f, &BOUNDS, input, &[], 1)?;
     Ok(is_returned && is_overwritten(&runner.machine.memory, &input.blocks))
 }
 
 fn begins_again(runner: &mut Runner, f: &Function, input: &Input) -> Result<bool, NoMemory>
-    requires ready { IsRunner f.now input.now.blocks runner.old }
+    requires ready { IsRunner f.now runner.old }
     requires runnable { IsRunnable f.now }
 {
     let first = begins(runner, f, input)?;
@@ -212,7 +212,7 @@ fn begins_again(runner: &mut Runner, f: &Function, input: &Input) -> Result<bool
 fn begins_twice(alloc: Global, f: &Function, input: &Input) -> Result<bool, NoMemory>
     requires { IsRunnable f.now }
 {
-    let mut runner = runner_for(alloc, f, &input.blocks)?;
+    let mut runner = runner_for(alloc, f)?;
     begins_again(&mut runner, f, input)
 }
 

@@ -77,12 +77,12 @@ fn a_run_takes_its_choices_from_the_tape(rt: HostRuntime) -> Result<(), Fail> {
 fn runs_twice(alloc: Global, f: &Function, input: &Input) -> Result<bool, NoMemory>
     requires { IsRunnable f.now }
 {
-    let mut runner = runner_for(alloc, f, &input.blocks)?;
+    let mut runner = runner_for(alloc, f)?;
     runs_again(&mut runner, f, input)
 }
 
 fn runs_again(runner: &mut Runner, f: &Function, input: &Input) -> Result<bool, NoMemory>
-    requires ready { IsRunner f.now input.now.blocks runner.old }
+    requires ready { IsRunner f.now runner.old }
     requires runnable { IsRunnable f.now }
 {
     let first = returns(runner, f, &BOUNDS, input, &[2], 3)?;

@@ -1,6 +1,5 @@
-use Rattle.choice_interp.proofs.Common.{◌≤◌, List, length, refl, ap, subst, ◌∙◌, arith, Value, Block, run_turns, DoesKeepMemory}
+use Rattle.choice_interp.proofs.Common.{◌≤◌, List, length, refl, ap, subst, ◌∙◌, arith, Value, Block, run_turns}
 use Rattle.choice_interp.specs.declared.flow.Left.TheVariants as left
-use Rattle.choice_interp.proofs.Items.{block_in}
 use Rattle.choice_interp.proofs.Ways.{way_start, left_at, way_over, way_on, way_beyond, way_outside}
 use Rattle.choice_interp.proofs.rerun.run_blocks.Goals as goal
 
@@ -9,7 +8,6 @@ loop-at-init c = record {
   way = way_start c.args.f.now c.args.tape.now c.args.turns c.args.machine.now;
   turn = (let none = c.requires.turn in omega (arith, none));
   registers = refl;
-  memory = λ _. refl;
 }
 
 pub returns-in-Over-clause-run : goal.returns-in-Over-clause-run
@@ -28,7 +26,6 @@ loop-at-preserved c =
       way = way_on c.args.f.now c.args.tape.now c.loop-at.jumps c.loop-at.at c.in-To.label c.place-to.result c.in-Some.rest c.run_block.new.machine c.jump.new.machine whole so c.place-to.ensures c.in-Some.ensures.value;
       turn = (let a = c.in-Some.ensures.turn in let b = c.run_block.ensures.turn in let d = c.loop-at.invariant.turn in omega (arith, a, b, d));
       registers = ap (λ (vs : List Value). length vs) c.jump.ensures.registers ∙ c.run_block.ensures.registers ∙ c.loop-at.invariant.registers;
-      memory = λ keeps. c.jump.ensures.memory ∙ c.run_block.ensures.memory (block_in DoesKeepMemory c.as_slice-blocks.result.now c.args.f.now.blocks c.loop-at.at c.index-blocks-at.result c.as_slice-blocks.ensures c.loop-at-test.true c.index-blocks-at.is keeps) ∙ c.loop-at.invariant.memory keeps;
     }
 
 pub returns-in-None-clause-run : goal.returns-in-None-clause-run

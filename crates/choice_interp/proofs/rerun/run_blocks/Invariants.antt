@@ -1,4 +1,4 @@
-use Rattle.choice_interp.proofs.Common.{◌≡◌, length, ◌-◌, ◌+◌, ◌*◌, All, run_turns, DoesKeepMemory}
+use Rattle.choice_interp.proofs.Common.{◌≡◌, length, ◌-◌, ◌+◌, ◌*◌, run_turns}
 use Rattle.choice_interp.proofs.Ways.{IsOnTheWay}
 use Rattle.choice_interp.proofs.rerun.run_blocks.Given as goal
 
@@ -7,7 +7,6 @@ invariant-loop-at l = record {
   way : IsOnTheWay l.f l.tape l.jumps l.at l.machine (run_turns l.f l.tape l.turns 0 l.fn.machine);
   turn : l.machine.turn + l.jumps ≡ l.turns;
   registers : length l.machine.registers ≡ length l.fn.machine.registers;
-  memory : All DoesKeepMemory l.f.blocks → l.machine.memory ≡ l.fn.machine.memory;
 }
 
 abbrev pub decreases-loop-at : goal.decreases-loop-at

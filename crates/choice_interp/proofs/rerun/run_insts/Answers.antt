@@ -1,5 +1,4 @@
-use Rattle.choice_interp.proofs.Common.{◌≡◌, ◌<◌, length, get_or, Some, None, sym, ap, ◌∙◌, arith, act, Over, ended, Ub, KeepsMemory, exit_goes, exit_stops, exit_ends}
-use Rattle.choice_interp.proofs.Items.{item_in}
+use Rattle.choice_interp.proofs.Common.{◌≡◌, ◌<◌, length, get_or, Some, None, sym, ap, ◌∙◌, arith, act, Over, ended, Ub, exit_goes, exit_stops, exit_ends}
 use Rattle.choice_interp.proofs.rerun.run_insts.Goals as goal
 
 pub returns-then-not-branch-clause-exit : goal.returns-then-not-branch-clause-exit
@@ -23,7 +22,6 @@ loop-inst-preserved c =
       insts = c.loop-inst.invariant.insts;
       rest = sym exit ∙ c.loop-inst.invariant.rest;
       registers = c.step.ensures.registers ∙ c.loop-inst.invariant.registers;
-      memory = λ keeps. c.step.ensures.memory (item_in KeepsMemory insts c.loop-inst.inst-index c.inst-item.result below is keeps) ∙ c.loop-inst.invariant.memory keeps;
       turn = c.step.ensures.turn ∙ c.loop-inst.invariant.turn;
     }
 

@@ -5,5 +5,5 @@ use Rattle.slow_judge.proofs.cover.some_allows.Given as goal
 abbrev pub invariant-loop-tape : goal.invariant-loop-tape
 invariant-loop-tape l = record {
   rest : some_covers l.pair l.bounds l.point l.tapes ≡ some_covers l.pair l.bounds l.point (drop l.tape-index l.tapes);
-  ready : IsRunner l.pair.source l.point.input.blocks l.runner;
+  ready : IsRunner l.pair.source l.runner;
 }

@@ -7,9 +7,6 @@ returns-in-None c =
     let found = rw (c.in-None.is, c.as_slice.ensures.value) at c.in_ok-point.ensures.found in
     grown_correct c.args.pair.now c.args.bounds.now c.args.budget.now c.loop-tapes.tapes.items c.loop-tapes.invariant.grown found
 
-pub least_cover-requires-clause-ready : goal.least_cover-requires-clause-ready
-least_cover-requires-clause-ready c = rw c.in-Some.is at c.in_ok-point.ensures.ready
-
 pub returns-in-None-2 : goal.returns-in-None-2
 returns-in-None-2 c =
     let least = rw (c.in-Some.is, c.as_slice.ensures.value) at c.in_ok-point.ensures.found in
@@ -30,5 +27,5 @@ loop-tapes-preserved c =
     let within = grown.within in
     record {
       grown = grown_more c.args.pair.now c.args.bounds.now c.args.budget.now c.loop-tapes.tapes.items c.push.new.self.items c.in-Some.point c.in-Some-2.tape grown least cover (omega (arith, within)) c.in_ok-push.ensures.items;
-      bench = record { blocks = c.in-Some.point.input.blocks; ready = c.least_cover.ensures.ready };
+      ready = c.least_cover.ensures.ready;
     }

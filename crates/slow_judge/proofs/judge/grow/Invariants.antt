@@ -1,11 +1,11 @@
-use Rattle.slow_judge.proofs.Common.{◌-◌, length, IsBench}
+use Rattle.slow_judge.proofs.Common.{◌-◌, length, IsReady}
 use Rattle.slow_judge.proofs.Growing.{IsGrown}
 use Rattle.slow_judge.proofs.judge.grow.Given as goal
 
 abbrev pub invariant-loop-tapes : goal.invariant-loop-tapes
 invariant-loop-tapes l = record {
   grown : IsGrown l.pair l.bounds l.budget l.tapes.items;
-  bench : IsBench l.pair l.bounds l.bench;
+  ready : IsReady l.pair l.bounds l.bench;
 }
 
 abbrev pub decreases-loop-tapes : goal.decreases-loop-tapes

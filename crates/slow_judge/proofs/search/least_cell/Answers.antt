@@ -6,7 +6,7 @@ use Rattle.slow_judge.proofs.search.least_cell.Goals as goal
 pub loop-point-init : goal.loop-point-init
 loop-point-init c = record {
   reached = reached_first (IsCell c.args.pair.now c.args.bounds.now) c.args.pair.now c.args.bounds.now c.args.tapes.now c.in_ok-point.point c.in_ok-point.ensures.cell c.in_ok-point.ensures.place;
-  ready = c.in_ok-give.ensures c.args.pair.now c.args.bounds.now c.requires.bench;
+  ready = c.requires.ready;
 }
 
 pub returns-then-branch-clause-found : goal.returns-then-branch-clause-found
@@ -28,5 +28,5 @@ loop-point-preserved c =
     let covered : IsUncovered c.args.pair.now c.args.bounds.now c.args.tapes.now c.loop-point.point → IsTrue false = rw c.if-branch.false at c.in_ok-is_uncovered.ensures.value.1 in
     record {
       reached = reached_next (IsCell c.args.pair.now c.args.bounds.now) c.args.pair.now c.args.bounds.now c.args.tapes.now c.loop-point.point c.next_cell.new.point (cell_fits c.args.pair.now c.args.bounds.now) c.requires.small c.loop-point.invariant.reached covered (c.if-not-next_cell.ensures.next refl);
-      ready = rw c.if-not-next_cell.ensures.blocks c.is_uncovered.ensures.ready;
+      ready = c.is_uncovered.ensures.ready;
     }

@@ -6,7 +6,7 @@ use Rattle.slow_judge.proofs.search.least_cell.Given as goal
 abbrev pub invariant-loop-point : goal.invariant-loop-point
 invariant-loop-point l = record {
   reached : IsReached (IsCell l.pair l.bounds) l.pair l.bounds l.tapes l.point;
-  ready : IsReady l.pair l.bounds l.point.input.blocks l.bench;
+  ready : IsReady l.pair l.bounds l.bench;
 }
 
 abbrev pub decreases-loop-point : goal.decreases-loop-point

@@ -5,7 +5,7 @@ use Rattle.slow_judge.proofs.search.least_cover.Given as goal
 abbrev pub invariant-loop-tape : goal.invariant-loop-tape
 invariant-loop-tape l = record {
   reached : IsTapeReached l.pair l.bounds l.point l.tape;
-  ready : IsReady l.pair l.bounds l.point.input.blocks l.bench;
+  ready : IsReady l.pair l.bounds l.bench;
 }
 
 abbrev pub decreases-loop-tape : goal.decreases-loop-tape

@@ -11,11 +11,8 @@ loop-point-init c =
     let p = c.in_ok-point.point in
     record {
       reached = reached_first (IsOfShape c.in_ok-shape.shape) pair bounds c.args.tapes.now p (fits_shape pair bounds c.in_ok-shape.shape p c.in_ok-shape.ensures (cell_fits pair bounds p c.in_ok-point.ensures.cell)) c.in_ok-point.ensures.place;
-      bench = c.requires.bench;
+      ready = c.requires.ready;
     }
-
-pub is_uncovered-requires-clause-ready : goal.is_uncovered-requires-clause-ready
-is_uncovered-requires-clause-ready c = c.in_ok-give.ensures c.args.pair.now c.args.bounds.now c.loop-point.invariant.bench
 
 pub returns-then-branch-clause-found : goal.returns-then-branch-clause-found
 returns-then-branch-clause-found c =
@@ -55,5 +52,5 @@ loop-point-preserved c =
     let covered : IsUncovered pair bounds c.args.tapes.now c.loop-point.point → IsTrue false = rw c.if-branch.false at c.in_ok-is_uncovered.ensures.value.1 in
     record {
       reached = reached_next (IsOfShape s) pair bounds c.args.tapes.now c.loop-point.point c.next.new.point (shape_fits pair bounds s shape) c.requires.small c.loop-point.invariant.reached covered (next_is pair bounds s c.loop-point.point c.next.new.point shape (c.if-not-next.ensures.next refl));
-      bench = record { blocks = c.loop-point.point.input.blocks; ready = c.is_uncovered.ensures.ready };
+      ready = c.is_uncovered.ensures.ready;
     }

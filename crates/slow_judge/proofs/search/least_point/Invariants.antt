@@ -1,4 +1,4 @@
-use Rattle.slow_judge.proofs.Common.{◌-◌, IsOfShape, place_in, IsBench}
+use Rattle.slow_judge.proofs.Common.{◌-◌, IsOfShape, place_in, IsReady}
 use Rattle.slow_judge.proofs.Order.{places_in}
 use Rattle.slow_judge.proofs.Searching.{IsReached}
 use Rattle.slow_judge.proofs.search.least_point.Given as goal
@@ -6,7 +6,7 @@ use Rattle.slow_judge.proofs.search.least_point.Given as goal
 abbrev pub invariant-loop-point : goal.invariant-loop-point
 invariant-loop-point l = record {
   reached : IsReached (IsOfShape l.shape) l.pair l.bounds l.tapes l.point;
-  bench : IsBench l.pair l.bounds l.bench;
+  ready : IsReady l.pair l.bounds l.bench;
 }
 
 abbrev pub decreases-loop-point : goal.decreases-loop-point
