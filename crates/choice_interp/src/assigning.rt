@@ -1,3 +1,5 @@
+//! A value for a register.
+
 ghost use Rattle.std.specs.Prelude.{◌≡◌};
 ghost use Rattle.points.specs.Run.{assigned};
 

@@ -1,4 +1,5 @@
-// The blocks that a run leaves: the local ones are freed.
+//! The blocks that a run leaves: the local ones are freed.
+
 ghost use Rattle.std.specs.Prelude.{◌≡◌};
 ghost use Rattle.std.specs.List.{filter};
 ghost use Rattle.points.specs.Run.{is_given_name, is_given};

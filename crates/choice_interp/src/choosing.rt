@@ -1,4 +1,5 @@
-// Choices from the tape (LLVM Language Reference, "freeze Instruction", "Undefined Values").
+//! Choices from the tape (LLVM Language Reference, "freeze Instruction", "Undefined Values").
+
 ghost use Rattle.std.specs.Prelude.{◌≡◌, ◌+◌, ◌%◌, IfOk, OnOk, length, slice_index};
 ghost use Rattle.std.specs.List.{list_any};
 ghost use Rattle.memory_access.specs.Blocks.{names};

@@ -1,3 +1,5 @@
+//! How a run ends, and whether one end allows another.
+
 ghost use Rattle.std.specs.Prelude.{◌≡◌};
 ghost use Rattle.points.specs.Refines.{is_refined};
 ghost use Rattle.choice_interp.specs.Ran.{outcome_of};

@@ -1,5 +1,6 @@
-// How a function is entered: its blocks, its parameters, and their attributes (LLVM Language
-// Reference, "Parameter Attributes").
+//! How a function is entered: its blocks, its parameters, and their attributes (LLVM Language
+//! Reference, "Parameter Attributes").
+
 ghost use Rattle.std.specs.Prelude.{◌≡◌, length, replicate, OnOk};
 ghost use Rattle.points.specs.Run.{is_null, argument_value, with_args, breaks_noundef, first_machine, null_pointer};
 ghost use Rattle.memory_access.specs.Blocks.{equal_pointers};

@@ -1,5 +1,6 @@
-// How a block is entered and left (LLVM Language Reference, "phi Instruction", "Terminator
-// Instructions").
+//! How a block is entered and left (LLVM Language Reference, "phi Instruction", "Terminator
+//! Instructions").
+
 ghost use Rattle.std.specs.Prelude.{◌≡◌, ◌+◌, ◌<◌, ◌^◌, ℕ, IfOk, OnOk, IfSome, length, map, nat_eq};
 ghost use Rattle.std.specs.List.{find};
 ghost use Rattle.ir_tree.specs.Sites.{same_number};

@@ -1,4 +1,5 @@
-// The instructions on memory (LLVM Language Reference, "Memory Access and Addressing Operations").
+//! The instructions on memory (LLVM Language Reference, "Memory Access and Addressing Operations").
+
 ghost use Rattle.std.specs.Prelude.{◌≡◌, ◌<◌, ◌≤◌, OnOk, IsFalse, Some, None, if◌then◌else◌, All, length};
 ghost use Rattle.ir_tree.specs.Limits.{HasSmallArrays};
 ghost use Rattle.ir_tree.specs.Types.{object_size};

@@ -1,4 +1,5 @@
-// What operands read, and a value where one of a type is used.
+//! What operands read, and a value where one of a type is used.
+
 ghost use Rattle.std.specs.Prelude.{◌≡◌};
 ghost use Rattle.points.specs.Run.{operand_value, cut_value, address_value, typed_value, typed_operand_value, null_pointer, is_poison};
 

@@ -1,3 +1,5 @@
+//! Runs that reuse a machine and room.
+
 ghost use Rattle.std.specs.Prelude.{◌≡◌, length, IfOk, Some, All};
 ghost use Rattle.ir_tree.specs.BlockIndexes.{IsIndex};
 ghost use Rattle.ir_tree.specs.Limits.{HasSmallObjects};

@@ -1,4 +1,5 @@
-// How a run returns (LLVM Language Reference, "ret Instruction").
+//! How a run returns (LLVM Language Reference, "ret Instruction").
+
 ghost use Rattle.std.specs.Prelude.{◌≡◌, IfOk};
 ghost use Rattle.points.specs.Run.{undef_type, returned_with, returned_run};
 ghost use Rattle.choice_interp.specs.Left.{left_by};

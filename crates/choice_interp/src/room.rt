@@ -1,3 +1,5 @@
+//! Room that runs reuse.
+
 use byte_block::Value;
 use memory_access::Index;
 use std::alloc::Global;

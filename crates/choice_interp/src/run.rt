@@ -1,3 +1,5 @@
+//! One run, its outcome, and whether an outcome says nothing of memory that was not given.
+
 ghost use Rattle.std.specs.Prelude.{◌≡◌, ◌↔◌, IsTrue, IfOk, ℕ, slice_index};
 ghost use Rattle.points.specs.Runnable.{IsRunnable};
 ghost use Rattle.points.specs.Run.{run_of};

@@ -1,3 +1,5 @@
+//! What the runs of one function reuse.
+
 ghost use Rattle.std.specs.Prelude.{◌≡◌, replicate, IfOk, length};
 ghost use Rattle.choice_interp.specs.Runners.{IsRunner};
 

@@ -1,3 +1,5 @@
+//! One instruction.
+
 ghost use Rattle.std.specs.Prelude.{◌≡◌, IfOk, IsFalse, Some, None, if◌then◌else◌, length};
 ghost use Rattle.ir_tree.specs.Limits.{HasSmallTypes};
 ghost use Rattle.points.specs.Run.{act};

@@ -1,4 +1,5 @@
-// The instruction table: what an operation on values gives.
+//! The instruction table: what an operation on values gives.
+
 ghost use Rattle.std.specs.Prelude.{◌≡◌, ◌<◌, ◌^◌, ◌%◌, ◌-◌, ◌*◌, pos, ◌+ℤ◌, ◌-ℤ◌, ◌*ℤ◌, nat_le, false};
 ghost use Rattle.tv_num.specs.Width.{signed_of, is_outside_unsigned, is_outside_signed};
 ghost use Rattle.points.specs.Table.{poison_if, is_flagged, is_zero_or_poison, is_minus_1, is_least_or_poison, has_no_quotient, is_undefined, is_poisoned, number_result, defined_result, value_result, holds_of, is_negative, are_unlike, truth, compared, cast_number, cast_value, selected};

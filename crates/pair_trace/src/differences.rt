@@ -1,3 +1,5 @@
+//! How two outcomes differ.
+
 ghost use Rattle.std.specs.Prelude.{◌≡◌, true, MatchOption};
 ghost use Rattle.points.specs.Refines.{returned_allows, is_refined};
 ghost use Rattle.pair_trace.specs.Differences.{IsReturnDifference, IsDifference};

@@ -1,4 +1,5 @@
-// How the blocks that two runs leave differ.
+//! How the blocks that two runs leave differ.
+
 ghost use Rattle.std.specs.Prelude.{◌≡◌, ◌≢◌, true, length, MatchOption};
 ghost use Rattle.points.specs.Refines.{byte_allows, pairs_pass, block_allows, blocks_allow};
 ghost use Rattle.pair_trace.specs.Differences.{IsOtherByte, IsBlockDifference, IsMemoryDifference};

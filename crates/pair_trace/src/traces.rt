@@ -1,3 +1,5 @@
+//! The runs of both sides of a counterexample.
+
 ghost use Rattle.std.specs.Prelude.{IfOk};
 ghost use Rattle.points.specs.Runnable.{IsRunnable};
 ghost use Rattle.pair_trace.specs.Traces.{AreTracesOf};

@@ -1,5 +1,6 @@
-// The steps of a call: each parameter gets its argument (LLVM Language Reference, "Parameter
-// Attributes").
+//! The steps of a call: each parameter gets its argument (LLVM Language Reference, "Parameter
+//! Attributes").
+
 ghost use Rattle.std.specs.Prelude.{◌≡◌, ℕ, ◌&&◌, List, [], ◌∷◌, IfOk, if◌then◌else◌};
 ghost use Rattle.ir_tree.specs.declared.tree.Function.{Function};
 ghost use Rattle.byte_block.specs.declared.value.Value.{Value as Held};

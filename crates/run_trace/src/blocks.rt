@@ -1,4 +1,5 @@
-// The steps of a block.
+//! The steps of a block.
+
 ghost use Rattle.std.specs.Prelude.{◌≡◌, ◌+◌, ◌<◌, ◌^◌, length, IfOk, OnOk, Some, All, slice_get};
 ghost use Rattle.ir_tree.specs.BlockIndexes.{IsIndex};
 ghost use Rattle.ir_tree.specs.Limits.{HasSmallObjects};

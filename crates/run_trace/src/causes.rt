@@ -1,4 +1,5 @@
-// Why an instruction gives poison, or is undefined behaviour.
+//! Why an instruction gives poison, or is undefined behaviour.
+
 ghost use Rattle.std.specs.Prelude.{◌≡◌, ◌&&◌, ◌<◌, ◌%◌, ◌^◌, ℕ, ◌∷◌, [], map, Bool, true, false, IfOk, IsSomeAnd, MatchOption};
 ghost use Rattle.std.specs.List.{list_any};
 ghost use Rattle.ir_tree.specs.Limits.{HasSmallTypes, HasSmallArrays};

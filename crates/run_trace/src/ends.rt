@@ -1,4 +1,5 @@
-// The steps of terminators (LLVM Language Reference, "Terminator Instructions").
+//! The steps of terminators (LLVM Language Reference, "Terminator Instructions").
+
 ghost use Rattle.std.specs.Prelude.{◌≡◌, ◌+◌, ◌<◌, ◌^◌, ℕ, List, length, ◌&&◌, not, if◌then◌else◌, Some, None, IfOk, OnOk, IsSomeAnd, slice_get};
 ghost use Rattle.std.specs.List.{list_any};
 ghost use Rattle.ir_tree.specs.declared.tree.Function.{Function as Code};

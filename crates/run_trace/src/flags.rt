@@ -1,4 +1,5 @@
-// Which flag makes a result poison.
+//! Which flag makes a result poison.
+
 ghost use Rattle.std.specs.Prelude.{◌≡◌, ◌≢◌, ◌<◌, ◌^◌, nat_le, true, false, IsSomeAnd, All};
 ghost use Rattle.memory_access.specs.Offsets.{IndexFits, gep_result};
 ghost use Rattle.points.specs.Run.{is_poison};

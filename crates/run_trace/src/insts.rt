@@ -1,4 +1,5 @@
-// The steps of instructions.
+//! The steps of instructions.
+
 ghost use Rattle.std.specs.Prelude.{◌≡◌, ◌&&◌, ◌||◌, not, ℕ, List, drop, false, Some, None, if◌then◌else◌, IfOk, OnOk};
 ghost use Rattle.points.specs.declared.machine.Machine.{Machine as State};
 ghost use Rattle.ir_tree.specs.Limits.{HasSmallTypes, HasSmallObjects};

@@ -1,4 +1,5 @@
-// Where loads and stores go, and why they may not.
+//! Where loads and stores go, and why they may not.
+
 ghost use Rattle.std.specs.Prelude.{◌≡◌, ◌≢◌, ◌⊎◌, ◌≤◌, ℕ, false, Some, None, IfSome, IfNone};
 ghost use Rattle.memory_access.specs.Blocks.{names, block_named};
 ghost use Rattle.memory_access.specs.Bytes.{access_size};

@@ -1,4 +1,5 @@
-// What phis, instructions and terminators read.
+//! What phis, instructions and terminators read.
+
 ghost use Rattle.std.specs.Prelude.{◌≡◌, ◌∷◌, [], map, option_to_list, IfOk};
 ghost use Rattle.std.specs.List.{list_any};
 ghost use Rattle.ir_tree.specs.Types.{one_bit};

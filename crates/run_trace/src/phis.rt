@@ -1,4 +1,5 @@
-// The steps of phis.
+//! The steps of phis.
+
 ghost use Rattle.std.specs.Prelude.{◌≡◌, ℕ, List, length, OnOk, IfOk};
 ghost use Rattle.ir_tree.specs.declared.tree.Function.{Function};
 ghost use Rattle.points.specs.Run.{phi_value};

@@ -1,3 +1,5 @@
+//! A run as a list of steps, and the reasons of these.
+
 use byte_block::{Ptr, Value};
 use points::Outcome;
 use support::Sequence;

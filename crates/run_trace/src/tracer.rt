@@ -1,3 +1,5 @@
+//! A run that is being traced.
+
 use crate::steps::Step;
 use choice_interp::Room;
 use ir_tree::BlockIndex;

@@ -1,3 +1,5 @@
+//! The steps of a run, from the call to its end.
+
 ghost use Rattle.std.specs.Prelude.{◌≡◌, ℕ, List, [], length, IfOk, All};
 ghost use Rattle.ir_tree.specs.BlockIndexes.{IsIndex};
 ghost use Rattle.ir_tree.specs.Limits.{HasSmallObjects};

@@ -26,7 +26,7 @@ use Rattle.choice_interp.specs.Ran.{outcome_of}
 use Rattle.choice_interp.specs.Runners.{IsRunner}
 use Rattle.slow_judge.specs.declared.bench.Bench.{Bench}
 use Rattle.slow_judge.specs.declared.cover.Shift.{Shift}
-use Rattle.slow_judge.specs.declared.cover.Shift.TheVariants.{Behind, Before}
+use Rattle.slow_judge.specs.declared.cover.Shift.TheVariants.{Later, Earlier}
 
 pub record AreRunnable (pair : RunPair) : Type 0 where
   pub source : IsRunnable pair.source
@@ -121,5 +121,5 @@ pub record HasTrail (pair : RunPair) (bounds : Bounds) (budget : Budget) (v : Ve
 -- ---- a shifted tape
 
 abbrev pub shift_of : Shift → List ℕ → ℕ → ℕ
-shift_of (Behind by) tape i = word_behind tape by i
-shift_of (Before by) tape i = word_before tape by i
+shift_of (Later by) tape i = word_behind tape by i
+shift_of (Earlier by) tape i = word_before tape by i

@@ -1,3 +1,5 @@
+//! What the runs of a pair reuse.
+
 use choice_interp::Runner;
 use support::Sequence;
 

@@ -1,3 +1,5 @@
+//! The least inputs, and the inputs of one shape.
+
 ghost use Rattle.std.specs.Prelude.{◌≡◌, IfOk, IsTrue, IsFalse, length, replicate, ◌+◌, ◌<◌};
 ghost use Rattle.ir_tree.specs.Pointers.{AreIntegers};
 ghost use Rattle.points.specs.Next.{least_value};

@@ -1,3 +1,5 @@
+//! Whether some tape of the source covers a point.
+
 ghost use Rattle.std.specs.Prelude.{◌≡◌, ◌↔◌, ◌≤◌, ◌<◌, ◌+◌, ◌^◌, IsTrue, IfOk, OnOk, length};
 ghost use Rattle.choice_interp.specs.Runners.{IsRunner};
 ghost use Rattle.points.specs.Run.{run_of};
@@ -82,10 +84,10 @@ fn some_allows(
 }
 
 /// By how many positions a tape is shifted, and which way.
-#[derive(Clone, Copy, Debug, PartialEq, Eq)]
+#[derive(Clone, Copy)]
 pub enum Shift {
-    Behind(usize),
-    Before(usize),
+    Later(usize),
+    Earlier(usize),
 }
 
 fn word_after(tape: &[u64], by: usize, i: usize) -> u64
@@ -102,8 +104,8 @@ fn word_at(tape: &[u64], shift: Shift, i: usize) -> u64
     ensures { result ≡ shift_of shift tape.now i }
 {
     match shift {
-        Shift::Behind(by) => word_after(tape, by, i),
-        Shift::Before(by) => {
+        Shift::Later(by) => word_after(tape, by, i),
+        Shift::Earlier(by) => {
             if i < by {
                 0
             } else {
@@ -167,19 +169,19 @@ fn some_shift_allows(
     ensures ready { IsReady pair.now bounds.now bench.new }
     ensures target { bench.new.target ≡ bench.old.target }
 {
-    if shift_allows(pair, bounds, point, target, Shift::Behind(0), bench)? {
+    if shift_allows(pair, bounds, point, target, Shift::Later(0), bench)? {
         return Ok(true);
     }
-    if shift_allows(pair, bounds, point, target, Shift::Behind(1), bench)? {
+    if shift_allows(pair, bounds, point, target, Shift::Later(1), bench)? {
         return Ok(true);
     }
-    if shift_allows(pair, bounds, point, target, Shift::Behind(2), bench)? {
+    if shift_allows(pair, bounds, point, target, Shift::Later(2), bench)? {
         return Ok(true);
     }
-    if shift_allows(pair, bounds, point, target, Shift::Before(1), bench)? {
+    if shift_allows(pair, bounds, point, target, Shift::Earlier(1), bench)? {
         return Ok(true);
     }
-    let holds = shift_allows(pair, bounds, point, target, Shift::Before(2), bench)?;
+    let holds = shift_allows(pair, bounds, point, target, Shift::Earlier(2), bench)?;
     Ok(holds)
 }
 

@@ -1,4 +1,5 @@
-// Whether a function has no pointers and uses no memory.
+//! Whether a function has no pointers and uses no memory.
+
 ghost use Rattle.std.specs.Prelude.{◌↔◌, IsTrue, All};
 ghost use Rattle.ir_tree.specs.declared.tree.Parameter.{Parameter as Declared};
 ghost use Rattle.ir_tree.specs.Pointers.{IsInteger, AreIntegers, IsIntegerOrVoid, IsOnIntegers, IsPhiOfIntegers, ReturnsInteger, EndsOnIntegers, IsBlockOnIntegers, HasNoPointers};

@@ -1,3 +1,5 @@
+//! The least point that no tape covers.
+
 ghost use Rattle.std.specs.Prelude.{◌≡◌, MatchOption, IfOk};
 ghost use Rattle.points.specs.Code.{IsOfShape};
 ghost use Rattle.points.specs.Tapes.{need_of, widest_choice};
@@ -17,7 +19,7 @@ use tv_num::Width;
 use verdicts::RunPair;
 
 /// How many words a function needs, and how wide its widest choice is.
-#[derive(Clone, Copy, Debug, PartialEq, Eq)]
+#[derive(Clone, Copy)]
 pub struct Tape {
     pub words: usize,
     pub width: Width,
