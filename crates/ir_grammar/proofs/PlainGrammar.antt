@@ -9,22 +9,22 @@ use Rattle.ir_tree.specs.declared.tree.Op.{Op}
 use Rattle.ir_tree.specs.declared.tree.Cast.{Cast}
 use Rattle.token_forms.specs.Plain.{AreApart, TellsApart, SpellsAsPlain, SpellsOne}
 use Rattle.token_forms.proofs.Plain.{apart-never, apart-either, apart-spelled, apart-class, apart-tail, spells-as-plain, spells-one}
-use Rattle.ir_grammar.specs.declared.word.Opcode.{Opcode}
-use Rattle.ir_grammar.specs.declared.word.Opcode.TheVariants as opcode
-use Rattle.ir_grammar.specs.declared.word.Flag.{Flag}
-use Rattle.ir_grammar.specs.declared.word.Flag.TheVariants as flag
-use Rattle.ir_grammar.specs.declared.word.LineWord.{LineWord}
-use Rattle.ir_grammar.specs.declared.word.LineWord.TheVariants as word_of
-use Rattle.ir_grammar.specs.declared.word.TerminatorWord.{TerminatorWord}
-use Rattle.ir_grammar.specs.declared.word.TerminatorWord.TheVariants as finish
-use Rattle.ir_grammar.specs.declared.word.LineStart.TheVariants as start
-use Rattle.ir_grammar.specs.declared.word.ParameterPart.TheVariants as part
-use Rattle.ir_grammar.specs.declared.word.HeaderPart.TheVariants as header
-use Rattle.ir_grammar.specs.declared.written.WrittenType.{WrittenType}
-use Rattle.ir_grammar.specs.declared.written.WrittenLine.TheVariants as line
-use Rattle.ir_grammar.specs.declared.written.WrittenPhi.{WrittenPhi}
-use Rattle.ir_grammar.specs.declared.written.WrittenAccess.{WrittenAccess}
-use Rattle.ir_grammar.specs.declared.written.WrittenGep.{WrittenGep}
+use Rattle.ir_words.specs.declared.word.Opcode.{Opcode}
+use Rattle.ir_words.specs.declared.word.Opcode.TheVariants as opcode
+use Rattle.ir_words.specs.declared.word.Flag.{Flag}
+use Rattle.ir_words.specs.declared.word.Flag.TheVariants as flag
+use Rattle.ir_words.specs.declared.word.LineWord.{LineWord}
+use Rattle.ir_words.specs.declared.word.LineWord.TheVariants as word_of
+use Rattle.ir_words.specs.declared.word.TerminatorWord.{TerminatorWord}
+use Rattle.ir_words.specs.declared.word.TerminatorWord.TheVariants as finish
+use Rattle.ir_words.specs.declared.word.LineStart.TheVariants as start
+use Rattle.ir_words.specs.declared.word.ParameterPart.TheVariants as part
+use Rattle.ir_words.specs.declared.word.HeaderPart.TheVariants as header
+use Rattle.ir_words.specs.declared.written.WrittenType.{WrittenType}
+use Rattle.ir_words.specs.declared.written.WrittenLine.TheVariants as line
+use Rattle.ir_words.specs.declared.written.WrittenPhi.{WrittenPhi}
+use Rattle.ir_words.specs.declared.written.WrittenAccess.{WrittenAccess}
+use Rattle.ir_words.specs.declared.written.WrittenGep.{WrittenGep}
 
 bytes-same : (xs ys : List ℕ) → bytes_eq xs ys ≡ true → xs ≡ ys
 bytes-same xs ys e = (bytes_eq-Decides xs ys).0 e

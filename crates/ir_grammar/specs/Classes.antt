@@ -12,24 +12,24 @@ use Rattle.ir_tree.specs.declared.tree.Op.TheVariants as op
 use Rattle.ir_tree.specs.declared.tree.Predicate.{Predicate}
 use Rattle.ir_tree.specs.declared.tree.Predicate.TheVariants as predicate
 use Rattle.token_forms.specs.Form.{Class}
-use Rattle.ir_grammar.specs.declared.word.Opcode.TheVariants as opcode
-use Rattle.ir_grammar.specs.declared.word.LineWord.{LineWord}
-use Rattle.ir_grammar.specs.declared.word.LineWord.TheVariants as line
-use Rattle.ir_grammar.specs.declared.word.TerminatorWord.{TerminatorWord}
-use Rattle.ir_grammar.specs.declared.word.TerminatorWord.TheVariants as finish
-use Rattle.ir_grammar.specs.declared.word.Flag.{Flag}
-use Rattle.ir_grammar.specs.declared.word.Flag.TheVariants as flag
-use Rattle.ir_grammar.specs.declared.written.WrittenName.{WrittenName}
-use Rattle.ir_grammar.specs.declared.written.WrittenIntType.{WrittenIntType}
-use Rattle.ir_grammar.specs.declared.written.WrittenType.{WrittenType}
-use Rattle.ir_grammar.specs.declared.written.WrittenReturnType.{WrittenReturnType}
-use Rattle.ir_grammar.specs.declared.written.WrittenOperand.{WrittenOperand}
-use Rattle.ir_grammar.specs.declared.written.WrittenValue.TheVariants as value
-use Rattle.ir_grammar.specs.declared.written.WrittenLiteral.{WrittenLiteral}
-use Rattle.ir_grammar.specs.Numbers.{width_of, is_negative, magnitude, wrapped}
-use Rattle.ir_grammar.specs.Reasons.{reason, type_reason}
-use Rattle.ir_grammar.specs.Words.{is_word_of, is_mark_of, line_word_of, terminator_of, predicate_of, flag_text}
-use Rattle.ir_grammar.specs.Spelling.{local_of, global_of, named_at, width_in, width_or_one, int_typed_at, is_width, type_in, typed_at, is_type, memory_type_in, type_at, pointer_in, fits_object, number_of_kind, is_alignment, is_length, bit_at, width_reason, is_void, return_type_of, value_in, operand_at, literal_value, literal_at, fits_bits, fits_type, is_attached, is_numbered, is_metadata_of, is_comdat_kind}
+use Rattle.ir_words.specs.declared.word.Opcode.TheVariants as opcode
+use Rattle.ir_words.specs.declared.word.LineWord.{LineWord}
+use Rattle.ir_words.specs.declared.word.LineWord.TheVariants as line
+use Rattle.ir_words.specs.declared.word.TerminatorWord.{TerminatorWord}
+use Rattle.ir_words.specs.declared.word.TerminatorWord.TheVariants as finish
+use Rattle.ir_words.specs.declared.word.Flag.{Flag}
+use Rattle.ir_words.specs.declared.word.Flag.TheVariants as flag
+use Rattle.ir_words.specs.declared.written.WrittenName.{WrittenName}
+use Rattle.ir_words.specs.declared.written.WrittenIntType.{WrittenIntType}
+use Rattle.ir_words.specs.declared.written.WrittenType.{WrittenType}
+use Rattle.ir_words.specs.declared.written.WrittenReturnType.{WrittenReturnType}
+use Rattle.ir_words.specs.declared.written.WrittenOperand.{WrittenOperand}
+use Rattle.ir_words.specs.declared.written.WrittenValue.TheVariants as value
+use Rattle.ir_words.specs.declared.written.WrittenLiteral.{WrittenLiteral}
+use Rattle.ir_words.specs.Numbers.{width_of, is_negative, magnitude, wrapped}
+use Rattle.ir_words.specs.Reasons.{reason, type_reason}
+use Rattle.ir_words.specs.Words.{is_word_of, is_mark_of, line_word_of, terminator_of, predicate_of, flag_text}
+use Rattle.ir_words.specs.Spelling.{local_of, global_of, named_at, width_in, width_or_one, int_typed_at, is_width, type_in, typed_at, is_type, memory_type_in, type_at, pointer_in, fits_object, number_of_kind, is_alignment, is_length, bit_at, width_reason, is_void, return_type_of, value_in, operand_at, literal_value, literal_at, fits_bits, fits_type, is_attached, is_numbered, is_metadata_of, is_comdat_kind}
 
 -- where a text begins
 abbrev pub start : Place

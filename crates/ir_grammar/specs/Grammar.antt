@@ -27,35 +27,35 @@ use Rattle.ir_tree.specs.declared.tree.IrType.{IrType}
 use Rattle.ir_tree.specs.declared.tree.IrType.TheVariants.{Int}
 use Rattle.token_forms.specs.declared.bracket.Bracket.TheVariants.{Round}
 use Rattle.token_forms.specs.Form.{Form, never, either, give, one, upto, peek, tail, balanced, mapped, ◌>>=◌}
-use Rattle.ir_grammar.specs.declared.word.LineStart.{LineStart}
-use Rattle.ir_grammar.specs.declared.word.LineStart.TheVariants as start
-use Rattle.ir_grammar.specs.declared.word.TerminatorWord.{TerminatorWord}
-use Rattle.ir_grammar.specs.declared.word.TerminatorWord.TheVariants as finish
-use Rattle.ir_grammar.specs.declared.word.ParameterPart.{ParameterPart}
-use Rattle.ir_grammar.specs.declared.word.ParameterPart.TheVariants as part
-use Rattle.ir_grammar.specs.declared.word.HeaderPart.{HeaderPart}
-use Rattle.ir_grammar.specs.declared.word.HeaderPart.TheVariants as header
-use Rattle.ir_grammar.specs.declared.written.WrittenIntType.{WrittenIntType}
-use Rattle.ir_grammar.specs.declared.written.WrittenType.{WrittenType}
-use Rattle.ir_grammar.specs.declared.written.WrittenParameter.{WrittenParameter}
-use Rattle.ir_grammar.specs.declared.written.WrittenParameters.{WrittenParameters}
-use Rattle.ir_grammar.specs.declared.written.WrittenLines.{WrittenLines}
-use Rattle.ir_grammar.specs.declared.written.WrittenPhi.{WrittenPhi}
-use Rattle.ir_grammar.specs.declared.written.WrittenInst.{WrittenInst}
-use Rattle.ir_grammar.specs.declared.written.WrittenInst.TheVariants as inst
-use Rattle.ir_grammar.specs.declared.written.WrittenLine.{WrittenLine}
-use Rattle.ir_grammar.specs.declared.written.WrittenLine.TheVariants as line
-use Rattle.ir_grammar.specs.declared.written.WrittenCase.{WrittenCase}
-use Rattle.ir_grammar.specs.declared.written.WrittenTerminator.{WrittenTerminator}
-use Rattle.ir_grammar.specs.declared.written.WrittenTerminator.TheVariants as end
-use Rattle.ir_grammar.specs.declared.written.WrittenBody.{WrittenBody}
-use Rattle.ir_grammar.specs.declared.written.WrittenBlocks.{WrittenBlocks}
-use Rattle.ir_grammar.specs.declared.written.WrittenName.{WrittenName}
-use Rattle.ir_grammar.specs.declared.written.WrittenReturn.{WrittenReturn}
-use Rattle.ir_grammar.specs.declared.written.WrittenReturn.TheVariants.{Void, Value}
+use Rattle.ir_words.specs.declared.word.LineStart.{LineStart}
+use Rattle.ir_words.specs.declared.word.LineStart.TheVariants as start
+use Rattle.ir_words.specs.declared.word.TerminatorWord.{TerminatorWord}
+use Rattle.ir_words.specs.declared.word.TerminatorWord.TheVariants as finish
+use Rattle.ir_words.specs.declared.word.ParameterPart.{ParameterPart}
+use Rattle.ir_words.specs.declared.word.ParameterPart.TheVariants as part
+use Rattle.ir_words.specs.declared.word.HeaderPart.{HeaderPart}
+use Rattle.ir_words.specs.declared.word.HeaderPart.TheVariants as header
+use Rattle.ir_words.specs.declared.written.WrittenIntType.{WrittenIntType}
+use Rattle.ir_words.specs.declared.written.WrittenType.{WrittenType}
+use Rattle.ir_words.specs.declared.written.WrittenParameter.{WrittenParameter}
+use Rattle.ir_words.specs.declared.written.WrittenParameters.{WrittenParameters}
+use Rattle.ir_words.specs.declared.written.WrittenLines.{WrittenLines}
+use Rattle.ir_words.specs.declared.written.WrittenPhi.{WrittenPhi}
+use Rattle.ir_words.specs.declared.written.WrittenInst.{WrittenInst}
+use Rattle.ir_words.specs.declared.written.WrittenInst.TheVariants as inst
+use Rattle.ir_words.specs.declared.written.WrittenLine.{WrittenLine}
+use Rattle.ir_words.specs.declared.written.WrittenLine.TheVariants as line
+use Rattle.ir_words.specs.declared.written.WrittenCase.{WrittenCase}
+use Rattle.ir_words.specs.declared.written.WrittenTerminator.{WrittenTerminator}
+use Rattle.ir_words.specs.declared.written.WrittenTerminator.TheVariants as end
+use Rattle.ir_words.specs.declared.written.WrittenBody.{WrittenBody}
+use Rattle.ir_words.specs.declared.written.WrittenBlocks.{WrittenBlocks}
+use Rattle.ir_words.specs.declared.written.WrittenName.{WrittenName}
+use Rattle.ir_words.specs.declared.written.WrittenReturn.{WrittenReturn}
+use Rattle.ir_words.specs.declared.written.WrittenReturn.TheVariants.{Void, Value}
 use Rattle.ir_grammar.specs.declared.written.WrittenFunction.{WrittenFunction}
-use Rattle.ir_grammar.specs.Words.{is_word_of, is_mark_of, prefix_of}
-use Rattle.ir_grammar.specs.Spelling.{is_pointer_type, parameter_part, header_part, line_start, label_of, named_at, width_in, int_typed_at, is_width}
+use Rattle.ir_words.specs.Words.{is_word_of, is_mark_of, prefix_of}
+use Rattle.ir_words.specs.Spelling.{is_pointer_type, parameter_part, header_part, line_start, label_of, named_at, width_in, int_typed_at, is_width}
 use Rattle.ir_grammar.specs.Classes.{any, word, mark, mark_or_type, brace, as_mark, local, global, counted_type, value_type, int_type, bit_type, return_type, operand_class, literal_class, terminator_word, attachment_word, metadata_number, comdat_name}
 use Rattle.ir_grammar.specs.Instructions.{many, words, line_named, store, default_align, entry_or_attachment, align_or_attachment, index_or_attachment}
 

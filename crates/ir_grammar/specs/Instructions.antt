@@ -28,33 +28,33 @@ use Rattle.ir_tree.specs.declared.tree.Predicate.{Predicate}
 use Rattle.ir_tree.specs.declared.tree.Cast.{Cast}
 use Rattle.ir_tree.specs.declared.tree.Cast.TheVariants as cast
 use Rattle.token_forms.specs.Form.{Class, Form, never, either, give, one, upto, peek, tail, mapped, ◌>>=◌}
-use Rattle.ir_grammar.specs.declared.word.WrapWord.{WrapWord}
-use Rattle.ir_grammar.specs.declared.word.ExactWord.{ExactWord}
-use Rattle.ir_grammar.specs.declared.word.Opcode.{Opcode}
-use Rattle.ir_grammar.specs.declared.word.Opcode.TheVariants as opcode
-use Rattle.ir_grammar.specs.declared.word.LineWord.{LineWord}
-use Rattle.ir_grammar.specs.declared.word.LineWord.TheVariants as word_of
-use Rattle.ir_grammar.specs.declared.word.Flag.{Flag}
-use Rattle.ir_grammar.specs.declared.word.Flag.TheVariants as flag
-use Rattle.ir_grammar.specs.declared.written.WrittenName.{WrittenName}
-use Rattle.ir_grammar.specs.declared.written.WrittenIntType.{WrittenIntType}
-use Rattle.ir_grammar.specs.declared.written.WrittenType.{WrittenType}
-use Rattle.ir_grammar.specs.declared.written.WrittenTyped.{WrittenTyped}
-use Rattle.ir_grammar.specs.declared.written.WrittenInst.{WrittenInst}
-use Rattle.ir_grammar.specs.declared.written.WrittenInst.TheVariants as inst
-use Rattle.ir_grammar.specs.declared.written.GepFlags.{GepFlags}
-use Rattle.ir_grammar.specs.declared.written.WrittenArrays.{WrittenArrays}
-use Rattle.ir_grammar.specs.declared.written.WrittenObject.{WrittenObject}
-use Rattle.ir_grammar.specs.declared.written.WrittenAccess.{WrittenAccess}
-use Rattle.ir_grammar.specs.declared.written.WrittenAccess.TheVariants as access
-use Rattle.ir_grammar.specs.declared.written.WrittenIndex.{WrittenIndex}
-use Rattle.ir_grammar.specs.declared.written.WrittenGep.{WrittenGep}
-use Rattle.ir_grammar.specs.declared.written.WrittenEntry.{WrittenEntry}
-use Rattle.ir_grammar.specs.declared.written.WrittenPhi.{WrittenPhi}
-use Rattle.ir_grammar.specs.declared.written.WrittenLine.{WrittenLine}
-use Rattle.ir_grammar.specs.declared.written.WrittenLine.TheVariants as line
-use Rattle.ir_grammar.specs.Words.{is_word_of, is_mark_of, no_flags, wrapping_op, exact_op}
-use Rattle.ir_grammar.specs.Spelling.{wrap_of, gep_flag_of}
+use Rattle.ir_words.specs.declared.word.WrapWord.{WrapWord}
+use Rattle.ir_words.specs.declared.word.ExactWord.{ExactWord}
+use Rattle.ir_words.specs.declared.word.Opcode.{Opcode}
+use Rattle.ir_words.specs.declared.word.Opcode.TheVariants as opcode
+use Rattle.ir_words.specs.declared.word.LineWord.{LineWord}
+use Rattle.ir_words.specs.declared.word.LineWord.TheVariants as word_of
+use Rattle.ir_words.specs.declared.word.Flag.{Flag}
+use Rattle.ir_words.specs.declared.word.Flag.TheVariants as flag
+use Rattle.ir_words.specs.declared.written.WrittenName.{WrittenName}
+use Rattle.ir_words.specs.declared.written.WrittenIntType.{WrittenIntType}
+use Rattle.ir_words.specs.declared.written.WrittenType.{WrittenType}
+use Rattle.ir_words.specs.declared.written.WrittenTyped.{WrittenTyped}
+use Rattle.ir_words.specs.declared.written.WrittenInst.{WrittenInst}
+use Rattle.ir_words.specs.declared.written.WrittenInst.TheVariants as inst
+use Rattle.ir_words.specs.declared.written.GepFlags.{GepFlags}
+use Rattle.ir_words.specs.declared.written.WrittenArrays.{WrittenArrays}
+use Rattle.ir_words.specs.declared.written.WrittenObject.{WrittenObject}
+use Rattle.ir_words.specs.declared.written.WrittenAccess.{WrittenAccess}
+use Rattle.ir_words.specs.declared.written.WrittenAccess.TheVariants as access
+use Rattle.ir_words.specs.declared.written.WrittenIndex.{WrittenIndex}
+use Rattle.ir_words.specs.declared.written.WrittenGep.{WrittenGep}
+use Rattle.ir_words.specs.declared.written.WrittenEntry.{WrittenEntry}
+use Rattle.ir_words.specs.declared.written.WrittenPhi.{WrittenPhi}
+use Rattle.ir_words.specs.declared.written.WrittenLine.{WrittenLine}
+use Rattle.ir_words.specs.declared.written.WrittenLine.TheVariants as line
+use Rattle.ir_words.specs.Words.{is_word_of, is_mark_of, no_flags, wrapping_op, exact_op}
+use Rattle.ir_words.specs.Spelling.{wrap_of, gep_flag_of}
 use Rattle.ir_grammar.specs.Classes.{any, word, mark, counted_mark, as_mark, local, int_type, value_type, memory_type, element_type, pointer_type, array_length, alignment, bit_type, operand_class, line_word, predicate_class, flag_word, attachment_word, attachment_or_type, metadata_number}
 
 -- ---- what may be repeated, and what may be left out

@@ -5,15 +5,15 @@ ghost use Rattle.token_forms.specs.Answer.{Reads};
 ghost use Rattle.ir_grammar.specs.Classes.{any};
 ghost use Rattle.ir_grammar.specs.Grammar as spec;
 ghost use Rattle.ir_grammar.specs.Grammar.{begins_block, block_begins};
-ghost use Rattle.ir_grammar.specs.Spelling.{named_at, label_of};
+ghost use Rattle.ir_words.specs.Spelling.{named_at, label_of};
 
 use crate::cursor::Cursor;
 use crate::lists::pushed;
-use crate::written::{
-    WrittenBlock, WrittenBlocks, WrittenBody, WrittenLines, WrittenName, WrittenTerminator,
-};
 use ir_items::name_before_colon;
 use ir_lexer::Kind;
+use ir_words::{
+    WrittenBlock, WrittenBlocks, WrittenBody, WrittenLines, WrittenName, WrittenTerminator,
+};
 use support::Sequence;
 use token_forms::ReadFault;
 

@@ -2,20 +2,18 @@
 ghost use Rattle.std.specs.Prelude.{◌≡◌, [], true, codes};
 ghost use Rattle.token_forms.specs.Form.{one_of, token_of, begin_of, reads, read, balanced};
 ghost use Rattle.token_forms.specs.Answer.{Reads, Passes};
-ghost use Rattle.ir_grammar.specs.Reasons.{reason, type_reason};
-ghost use Rattle.ir_grammar.specs.Spelling.{bits_behind, spelled_width, width_in, type_in, is_pointer, word_of_type, word_value, truth_value, is_void};
+ghost use Rattle.ir_words.specs.Reasons.{reason, type_reason};
 ghost use Rattle.ir_grammar.specs.Classes.{as_word, as_mark, any, passed, brace, local, global, int_type, counted_type, value_type, bit_type, return_type, operand_class, literal_class, line_word, terminator_word, predicate_class};
 
-use crate::numbers::{literal, some_digits, width};
-use crate::reasons::{reason_at, type_reason_at};
-use crate::word::{LineWord, TerminatorWord, line_word_of, predicate_of, terminator_of};
-use crate::written::{
-    WrittenIntType, WrittenLiteral, WrittenName, WrittenOperand, WrittenReturnType, WrittenType,
-    WrittenValue,
-};
 use ir_items::name_behind_sign;
 use ir_lexer::{Kind, Token};
 use ir_tree::{IrType, Predicate, Reason};
+use ir_words::{
+    LineWord, TerminatorWord, WrittenIntType, WrittenLiteral, WrittenName, WrittenOperand,
+    WrittenReturnType, WrittenType, WrittenValue, is_mark, is_void, is_word, line_word_of, literal,
+    predicate_of, reason_at, terminator_of, truth_value, type_in, type_reason_at, width_in,
+    word_value,
+};
 use std::alloc::Global;
 use std::marker::Model;
 use support::Sequence;
@@ -83,7 +81,7 @@ impl<'a, 'b> Cursor<'a, 'b> {
         let [first, rest @ ..] = self.rest else {
             return Err(ReadFault::Unfit(Reason::Syntax));
         };
-        if first.kind() == Kind::Word && first.text() == text {
+        if is_word(first, text) {
             self.rest = rest;
             Ok(())
         } else {
@@ -98,7 +96,7 @@ impl<'a, 'b> Cursor<'a, 'b> {
         let [first, rest @ ..] = self.rest else {
             return Err(ReadFault::Unfit(Reason::Syntax));
         };
-        if first.kind() == Kind::Mark && first.text() == text {
+        if is_mark(first, text) {
             self.rest = rest;
             Ok(())
         } else {
@@ -113,7 +111,7 @@ impl<'a, 'b> Cursor<'a, 'b> {
         let [first, rest @ ..] = self.rest else {
             return Err(ReadFault::Unfit(Reason::Syntax));
         };
-        if first.kind() == Kind::Mark && first.text() == text {
+        if is_mark(first, text) {
             self.rest = rest;
             Ok(())
         } else {
@@ -128,7 +126,7 @@ impl<'a, 'b> Cursor<'a, 'b> {
         let [first, rest @ ..] = self.rest else {
             return Err(ReadFault::Unfit(Reason::Syntax));
         };
-        if first.kind() == Kind::Mark && first.text() == b"{".as_slice() {
+        if is_mark(first, b"{".as_slice()) {
             self.rest = rest;
             Ok(first.place())
         } else {
@@ -150,7 +148,7 @@ impl<'a, 'b> Cursor<'a, 'b> {
         let [first, rest @ ..] = self.rest else {
             return false;
         };
-        if first.kind() == Kind::Mark && first.text() == text {
+        if is_mark(first, text) {
             self.rest = rest;
             return true;
         }
@@ -164,7 +162,7 @@ impl<'a, 'b> Cursor<'a, 'b> {
         let [first, rest @ ..] = self.rest else {
             return Ok(false);
         };
-        if first.kind() != Kind::Mark || first.text() != text {
+        if !is_mark(first, text) {
             return Ok(false);
         }
         if !room {
@@ -181,7 +179,7 @@ impl<'a, 'b> Cursor<'a, 'b> {
         let [first, rest @ ..] = self.rest else {
             return false;
         };
-        if first.kind() == Kind::Word && first.text() == text {
+        if is_word(first, text) {
             self.rest = rest;
             return true;
         }
@@ -401,100 +399,5 @@ impl<'a, 'b> Cursor<'a, 'b> {
         };
         self.rest = rest;
         Ok(predicate)
-    }
-}
-
-// The truth value that a word spells, where the type has one bit.
-fn truth_value(width: Width, text: &[u8]) -> Option<u64>
-    ensures { result ≡ truth_value width.bits text.now }
-{
-    if width.bits() == 1 && text == b"true".as_slice() {
-        Some(1)
-    } else if width.bits() == 1 && text == b"false".as_slice() {
-        Some(0)
-    } else {
-        None
-    }
-}
-
-// What a word denotes by its type only: a truth value of one bit, or the null pointer.
-fn word_of_type(of_type: IrType, text: &[u8]) -> Option<WrittenValue>
-    ensures { result ≡ word_of_type of_type text.now }
-{
-    match of_type {
-        IrType::Int(width) => match truth_value(width, text) {
-            Some(value) => Some(WrittenValue::Literal(value)),
-            None => None,
-        },
-        IrType::Ptr => {
-            if text == b"null".as_slice() {
-                Some(WrittenValue::Null)
-            } else {
-                None
-            }
-        }
-    }
-}
-
-// What a word denotes as an operand of a type: poison, undef, or a word of the type.
-fn word_value(undef_too: bool, of_type: IrType, text: &[u8]) -> Option<WrittenValue>
-    ensures { result ≡ word_value undef_too of_type text.now }
-{
-    if text == b"poison".as_slice() {
-        Some(WrittenValue::Poison)
-    } else if undef_too && text == b"undef".as_slice() {
-        Some(WrittenValue::Undef)
-    } else {
-        word_of_type(of_type, text)
-    }
-}
-
-fn is_void(token: &Token) -> bool
-    ensures { result ≡ is_void token.now }
-{
-    token.kind() == Kind::Word && token.text() == b"void".as_slice()
-}
-
-// The width of the type that a word spells: `None` where it spells none, `Some(None)` where there
-// is no such width.
-fn width_behind(text: &[u8]) -> Option<Option<Width>>
-    ensures { result ≡ spelled_width (bits_behind text.now) }
-{
-    match text {
-        [b'i', digits @ ..] if some_digits(digits) => Some(width(digits)),
-        _ => None,
-    }
-}
-
-/// The width of the type that a token spells: `None` where it spells none, `Some(None)` where there
-/// is no such width.
-pub fn width_in(token: &Token) -> Option<Option<Width>>
-    ensures { result ≡ width_in token.now }
-{
-    match token.kind() {
-        Kind::Word => width_behind(token.text()),
-        _ => None,
-    }
-}
-
-/// Whether a token is the word `ptr`.
-pub fn is_pointer(token: &Token) -> bool
-    ensures { result ≡ is_pointer token.now }
-{
-    token.kind() == Kind::Word && token.text() == b"ptr".as_slice()
-}
-
-/// The type of a value that a token spells: `None` where it spells none, `Some(None)` where there
-/// is no such width.
-pub fn type_in(token: &Token) -> Option<Option<IrType>>
-    ensures { result ≡ type_in token.now }
-{
-    if is_pointer(token) {
-        return Some(Some(IrType::Ptr));
-    }
-    match width_in(token) {
-        None => None,
-        Some(None) => Some(None),
-        Some(Some(width)) => Some(Some(IrType::Int(width))),
     }
 }

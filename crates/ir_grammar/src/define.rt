@@ -3,27 +3,26 @@ ghost use Rattle.std.specs.Prelude.{◌≡◌, [], true};
 ghost use Rattle.token_forms.specs.Form.{reads, read, begin_of, step_of, one_of};
 ghost use Rattle.token_forms.specs.Answer.{Reads, Passes};
 ghost use Rattle.token_forms.specs.Spelled.{SpellsOrStops};
-ghost use Rattle.ir_grammar.specs.Spelling as spelling;
-ghost use Rattle.ir_grammar.specs.Spelling.{is_attribute};
+ghost use Rattle.ir_words.specs.Spelling as spelling;
+ghost use Rattle.ir_words.specs.Spelling.{is_attribute};
 ghost use Rattle.ir_grammar.specs.Classes.{any, comdat_name};
 ghost use Rattle.ir_grammar.specs.Grammar as spec;
 ghost use Rattle.ir_grammar.specs.Grammar.{is_prefix, next_prefix, follows_header, header_begins, with_header};
 
 use crate::cursor::Cursor;
 use crate::lines::is_numbered;
-use crate::reasons::reason_at;
-use crate::word::{HeaderPart, prefix_of};
 use crate::written::WrittenFunction;
 use ir_lexer::{Kind, Token};
 use ir_tree::Reason;
+use ir_words::{HeaderPart, is_spelled, prefix_of, reason_at};
 use token_forms::ReadFault;
 
 fn is_attribute(text: &[u8]) -> bool
     ensures { result ≡ is_attribute text.now }
 {
-    text == b"unnamed_addr".as_slice()
-        || text == b"local_unnamed_addr".as_slice()
-        || text == b"nounwind".as_slice()
+    is_spelled(text, b"unnamed_addr".as_slice())
+        || is_spelled(text, b"local_unnamed_addr".as_slice())
+        || is_spelled(text, b"nounwind".as_slice())
 }
 
 fn header_word(text: &[u8]) -> Option<HeaderPart>
@@ -31,7 +30,7 @@ fn header_word(text: &[u8]) -> Option<HeaderPart>
 {
     if is_attribute(text) {
         Some(HeaderPart::Attribute)
-    } else if text == b"comdat".as_slice() {
+    } else if is_spelled(text, b"comdat".as_slice()) {
         Some(HeaderPart::Comdat)
     } else {
         None
@@ -45,8 +44,10 @@ fn header_part(token: &Token, behind_comdat: bool) -> Option<HeaderPart>
     match (token.kind(), token.text()) {
         (Kind::Word, text) => header_word(text),
         (Kind::Hash, text) if is_numbered(text) => Some(HeaderPart::Attribute),
-        (Kind::Metadata, b"!dbg") => Some(HeaderPart::Debug),
-        (Kind::Mark, b"(") if behind_comdat => Some(HeaderPart::Opening),
+        (Kind::Metadata, text) if is_spelled(text, b"!dbg".as_slice()) => Some(HeaderPart::Debug),
+        (Kind::Mark, text) if behind_comdat && is_spelled(text, b"(".as_slice()) => {
+            Some(HeaderPart::Opening)
+        }
         _ => None,
     }
 }

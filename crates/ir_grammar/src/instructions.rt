@@ -3,15 +3,17 @@ ghost use Rattle.std.specs.Prelude.{◌≡◌, true};
 ghost use Rattle.token_forms.specs.Form.{reads, read, begin_of};
 ghost use Rattle.token_forms.specs.Answer.{Reads};
 ghost use Rattle.ir_tree.specs.Types.{one_bit};
-ghost use Rattle.ir_grammar.specs.Words.{flag_text};
+ghost use Rattle.ir_words.specs.Words.{flag_text};
 ghost use Rattle.ir_grammar.specs.Classes.{any, as_word, passed};
 ghost use Rattle.ir_grammar.specs.Instructions as spec;
 
 use crate::cursor::Cursor;
-use crate::word::{ExactWord, Flag, LineWord, Opcode, WrapWord, exact_op, wrapping_op};
-use crate::written::{WrittenInst, WrittenIntType, WrittenLine, WrittenName, WrittenTyped};
 use ir_lexer::Kind;
 use ir_tree::{Cast, Flags, IrType, Op, Predicate};
+use ir_words::{
+    ExactWord, Flag, LineWord, Opcode, WrapWord, WrittenInst, WrittenIntType, WrittenLine,
+    WrittenName, WrittenTyped, exact_op, wrapping_op,
+};
 use token_forms::ReadFault;
 use tv_num::Width;
 

@@ -4,8 +4,8 @@
 //! what the grammar spells, with names, types and literals as they are written and the position of
 //! each, and that a stop is the first token that isn't allowed, with its reason, or the first that
 //! passes a limit. `specs/Grammar.antt` and `specs/Instructions.antt` have the grammar,
-//! `specs/Classes.antt` and `specs/Words.antt` its words (LLVM Language Reference). It uses
-//! `token_forms` for the laws of a grammar, `ir_lexer` for the tokens and `ir_tree` for reasons;
+//! `specs/Classes.antt` its classes of tokens (LLVM Language Reference). It uses `token_forms` for the
+//! laws of a grammar, `ir_words` for what one token denotes and `ir_lexer` for the tokens;
 //! `ir_numbering` makes a function of what is written, and the reader uses both.
 #![tactic(auto)]
 
@@ -17,22 +17,12 @@ mod laws;
 mod lines;
 mod lists;
 mod memory;
-mod numbers;
 mod objects;
 mod parameters;
 mod phis;
-mod reasons;
 mod terminators;
-mod word;
 mod written;
 
 pub use cursor::Cursor;
 pub use laws::{is_plain_grammar, is_read_grammar};
-pub use reasons::reason_at;
-pub use written::{
-    GepFlags, WrittenAccess, WrittenArrays, WrittenBlock, WrittenBlocks, WrittenBody, WrittenCase,
-    WrittenEntry, WrittenFunction, WrittenGep, WrittenIndex, WrittenInst, WrittenIntType,
-    WrittenLine, WrittenLines, WrittenLiteral, WrittenName, WrittenObject, WrittenOperand,
-    WrittenParameter, WrittenParameters, WrittenPhi, WrittenReturn, WrittenReturnType,
-    WrittenTerminator, WrittenType, WrittenTyped, WrittenValue,
-};
+pub use written::WrittenFunction;

@@ -2,8 +2,8 @@
 ghost use Rattle.std.specs.Prelude.{◌≡◌, ◌||◌, ◌<◌, [], true, not};
 ghost use Rattle.token_forms.specs.Form.{reads, read, begin_of, step_of, token_of};
 ghost use Rattle.token_forms.specs.Answer.{Reads, Passes};
-ghost use Rattle.ir_grammar.specs.Spelling as spelling;
-ghost use Rattle.ir_grammar.specs.Spelling.{is_attached, is_numbered};
+ghost use Rattle.ir_words.specs.Spelling as spelling;
+ghost use Rattle.ir_words.specs.Spelling.{is_attached, is_numbered};
 ghost use Rattle.ir_grammar.specs.Classes.{any, attachment_word, metadata_number};
 ghost use Rattle.token_forms.specs.Form.{one_of};
 ghost use Rattle.ir_grammar.specs.Grammar as spec;
@@ -14,13 +14,13 @@ use crate::blocks::MOST_INSTS;
 use crate::cursor::Cursor;
 use crate::lists::pushed;
 use crate::memory::default_align;
-use crate::numbers::some_digits;
-use crate::reasons::reason_at;
-use crate::word::LineStart;
-use crate::written::{WrittenInst, WrittenLine, WrittenLines, WrittenName, WrittenPhi};
 use ir_items::{name_before_colon, name_behind_sign};
 use ir_lexer::{Kind, Token};
 use ir_tree::Reason;
+use ir_words::{
+    LineStart, WrittenInst, WrittenLine, WrittenLines, WrittenName, WrittenPhi, is_spelled,
+    reason_at, some_digits,
+};
 use std::alloc::Global;
 use text_places::Place;
 use token_forms::{Bracket, ReadFault};
@@ -29,7 +29,9 @@ use token_forms::{Bracket, ReadFault};
 pub fn is_attached(text: &[u8]) -> bool
     ensures { result ≡ is_attached text.now }
 {
-    text == b"!dbg".as_slice() || text == b"!prof".as_slice() || text == b"!llvm.loop".as_slice()
+    is_spelled(text, b"!dbg".as_slice())
+        || is_spelled(text, b"!prof".as_slice())
+        || is_spelled(text, b"!llvm.loop".as_slice())
 }
 
 /// Whether only digits follow a sign.
@@ -80,7 +82,7 @@ fn start_at(alloc: Global, token: &Token, is_new: bool) -> Result<Option<LineSta
         }
         (Kind::Label, text) => label_start(alloc, text, at, is_new),
         (Kind::Hash, text) if is_record(text) => Ok(Some(LineStart::Record)),
-        (Kind::Word, b"store") => Ok(Some(LineStart::Store)),
+        (Kind::Word, text) if is_spelled(text, b"store".as_slice()) => Ok(Some(LineStart::Store)),
         _ => Ok(None),
     }
 }
@@ -89,9 +91,9 @@ fn start_at(alloc: Global, token: &Token, is_new: bool) -> Result<Option<LineSta
 fn starts_inst(token: &Token) -> bool
     ensures { result ≡ starts_inst token.now }
 {
-    match (token.kind(), token.text()) {
-        (Kind::Local, _) => true,
-        (Kind::Word, b"store") => true,
+    match token.kind() {
+        Kind::Local => true,
+        Kind::Word => is_spelled(token.text(), b"store".as_slice()),
         _ => false,
     }
 }

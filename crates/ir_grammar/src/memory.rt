@@ -2,22 +2,21 @@
 ghost use Rattle.std.specs.Prelude.{◌≡◌, true};
 ghost use Rattle.token_forms.specs.Form.{read, one_of, begin_of};
 ghost use Rattle.ir_grammar.specs.Classes.{any};
-ghost use Rattle.ir_grammar.specs.Spelling.{width_in, int_typed_at, is_width};
+ghost use Rattle.ir_words.specs.Spelling.{width_in, int_typed_at, is_width};
 ghost use Rattle.token_forms.specs.Answer.{Reads, Passes};
 ghost use Rattle.ir_grammar.specs.Classes as class;
 ghost use Rattle.ir_grammar.specs.Instructions as spec;
 
-use crate::cursor::{Cursor, is_pointer, width_in};
+use crate::cursor::Cursor;
 use crate::lines::is_attached;
 use crate::lists::pushed;
-use crate::numbers::alignment;
-use crate::reasons::{reason_at, type_reason_at, width_reason_at};
-use crate::written::{
-    WrittenAccess, WrittenGep, WrittenIndex, WrittenInst, WrittenIntType, WrittenLine, WrittenName,
-    WrittenType, WrittenTyped,
-};
 use ir_lexer::Kind;
 use ir_tree::{IrType, Reason, type_align};
+use ir_words::{
+    WrittenAccess, WrittenGep, WrittenIndex, WrittenInst, WrittenIntType, WrittenLine, WrittenName,
+    WrittenType, WrittenTyped, alignment, is_pointer, reason_at, type_reason_at, width_in,
+    width_reason_at,
+};
 use token_forms::ReadFault;
 
 /// The alignment of an instruction where none is written: the size of its type, or of the type's

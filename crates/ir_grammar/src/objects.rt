@@ -3,19 +3,20 @@ ghost use Rattle.std.specs.Prelude.{◌≡◌, ◌||◌, true, min, length};
 ghost use Rattle.token_forms.specs.Form.{reads, read, begin_of, step_of, one_of};
 ghost use Rattle.token_forms.specs.Answer.{Reads, Passes};
 ghost use Rattle.ir_tree.specs.Types.{nested_size};
-ghost use Rattle.ir_grammar.specs.Spelling as spelling;
+ghost use Rattle.ir_words.specs.Spelling as spelling;
 ghost use Rattle.ir_grammar.specs.Classes as class;
 ghost use Rattle.ir_grammar.specs.Classes.{any};
 ghost use Rattle.ir_grammar.specs.Instructions as spec;
 ghost use Rattle.ir_grammar.specs.Instructions.{is_square, array_begins, array_within, with_length};
 
-use crate::cursor::{Cursor, type_in};
+use crate::cursor::Cursor;
 use crate::lists::pushed;
-use crate::numbers::array_length;
-use crate::reasons::{reason_at, width_reason_at};
-use crate::written::{GepFlags, WrittenArrays, WrittenObject, WrittenType};
 use ir_lexer::{Kind, Token};
 use ir_tree::{IrType, MemoryType, Reason, type_align};
+use ir_words::{
+    GepFlags, WrittenArrays, WrittenObject, WrittenType, array_length, is_spelled, is_word,
+    reason_at, type_in, width_reason_at,
+};
 use token_forms::ReadFault;
 
 /// The greatest number of arrays within one another.
@@ -97,20 +98,19 @@ fn is_small_object(in_alloca: bool, lengths: &[u64], element: IrType) -> bool
 fn is_gep_flag(token: &Token) -> bool
     ensures { result ≡ spec.is_gep_flag token.now }
 {
-    token.kind() == Kind::Word
-        && (token.text() == b"inbounds".as_slice() || token.text() == b"nuw".as_slice())
+    is_word(token, b"inbounds".as_slice()) || is_word(token, b"nuw".as_slice())
 }
 
 // The flags and this one; `nuw` only after `inbounds`.
 fn gep_flag_named(flags: GepFlags, text: &[u8]) -> Option<GepFlags>
     ensures { result ≡ spelling.gep_flag_named flags text.now }
 {
-    if text == b"inbounds".as_slice() && !flags.inbounds {
+    if is_spelled(text, b"inbounds".as_slice()) && !flags.inbounds {
         Some(GepFlags {
             inbounds: true,
             nuw: flags.nuw,
         })
-    } else if text == b"nuw".as_slice() && (flags.inbounds && !flags.nuw) {
+    } else if is_spelled(text, b"nuw".as_slice()) && (flags.inbounds && !flags.nuw) {
         Some(GepFlags {
             inbounds: flags.inbounds,
             nuw: true,

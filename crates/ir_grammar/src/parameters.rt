@@ -2,18 +2,19 @@
 ghost use Rattle.std.specs.Prelude.{◌≡◌, ◌++◌, ◌∷◌, [], true, is_some};
 ghost use Rattle.token_forms.specs.Form.{reads, read, begin_of, step_of};
 ghost use Rattle.token_forms.specs.Answer.{Reads};
-ghost use Rattle.ir_grammar.specs.Spelling as spelling;
+ghost use Rattle.ir_words.specs.Spelling as spelling;
 ghost use Rattle.ir_grammar.specs.Classes.{any};
 ghost use Rattle.ir_grammar.specs.Grammar as spec;
 ghost use Rattle.ir_grammar.specs.Grammar.{follows_parameter, parameter_begins, new_parameter, with_part};
 
 use crate::cursor::Cursor;
 use crate::lists::pushed;
-use crate::word::ParameterPart;
-use crate::written::{WrittenName, WrittenParameter, WrittenParameters, WrittenType};
 use ir_items::name_behind_sign;
 use ir_lexer::{Kind, Token};
 use ir_tree::IrType;
+use ir_words::{
+    ParameterPart, WrittenName, WrittenParameter, WrittenParameters, WrittenType, is_spelled,
+};
 use std::alloc::Global;
 use support::Sequence;
 use token_forms::ReadFault;
@@ -45,11 +46,11 @@ fn is_pointer_type(of_type: IrType) -> bool
 fn attribute(text: &[u8], on_pointer: bool) -> Option<ParameterPart>
     ensures { result ≡ spelling.attribute_named on_pointer text.now }
 {
-    if text == b"noundef".as_slice() {
+    if is_spelled(text, b"noundef".as_slice()) {
         Some(ParameterPart::NoUndef)
-    } else if text == b"zeroext".as_slice() || text == b"signext".as_slice() {
+    } else if is_spelled(text, b"zeroext".as_slice()) || is_spelled(text, b"signext".as_slice()) {
         Some(ParameterPart::Extension)
-    } else if on_pointer && text == b"nonnull".as_slice() {
+    } else if on_pointer && is_spelled(text, b"nonnull".as_slice()) {
         Some(ParameterPart::NonNull)
     } else {
         None
@@ -66,7 +67,7 @@ fn part_at(
     ensures { Reads (λ x. x) result [] (reads (spelling.parameter_part is_named on_pointer token.now.kind token.now.text token.now.place) []) }
 {
     match (token.kind(), token.text()) {
-        (Kind::Mark, b",") => Ok(Some(ParameterPart::Next)),
+        (Kind::Mark, text) if is_spelled(text, b",".as_slice()) => Ok(Some(ParameterPart::Next)),
         (Kind::Word, text) if !is_named => Ok(attribute(text, on_pointer)),
         (Kind::Local, text) if !is_named => {
             let name = name_behind_sign(alloc, text)?;

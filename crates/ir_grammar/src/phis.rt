@@ -6,7 +6,7 @@ ghost use Rattle.ir_grammar.specs.Instructions as spec;
 
 use crate::cursor::Cursor;
 use crate::lists::pushed;
-use crate::written::{WrittenEntry, WrittenLine, WrittenName, WrittenPhi, WrittenType};
+use ir_words::{WrittenEntry, WrittenLine, WrittenName, WrittenPhi, WrittenType};
 use token_forms::ReadFault;
 
 /// The greatest number of entries of a phi.

@@ -2,19 +2,18 @@
 ghost use Rattle.std.specs.Prelude.{◌≡◌, ◌&&◌, true};
 ghost use Rattle.token_forms.specs.Form.{reads, read, begin_of, step_of};
 ghost use Rattle.token_forms.specs.Answer.{Reads};
-ghost use Rattle.ir_grammar.specs.Spelling.{width_in, int_typed_at, is_width};
+ghost use Rattle.ir_words.specs.Spelling.{width_in, int_typed_at, is_width};
 ghost use Rattle.ir_grammar.specs.Grammar as spec;
 ghost use Rattle.ir_grammar.specs.Grammar.{is_type, case_begins, case_within, with_case};
 
-use crate::cursor::{Cursor, width_in};
+use crate::cursor::Cursor;
 use crate::instructions::one_bit;
 use crate::lists::pushed;
-use crate::word::TerminatorWord;
-use crate::written::{
-    WrittenCase, WrittenIntType, WrittenName, WrittenReturn, WrittenReturnType, WrittenTerminator,
-    WrittenType, WrittenTyped,
-};
 use ir_tree::IrType;
+use ir_words::{
+    TerminatorWord, WrittenCase, WrittenIntType, WrittenName, WrittenReturn, WrittenReturnType,
+    WrittenTerminator, WrittenType, WrittenTyped, width_in,
+};
 use support::Sequence;
 use text_places::Place;
 use token_forms::ReadFault;

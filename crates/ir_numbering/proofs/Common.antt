@@ -6,15 +6,15 @@ pub use Rattle.std.proofs.lemmas.List.Elements.{All-nil, All-cons, All-append, A
 pub use Rattle.std.specs.List.{flat_map, list_any, slice_get, All, Contains}
 pub use Rattle.std.specs.Prelude.{not, ◌||◌, nat_le, ◌&&◌, reverse}
 pub use Rattle.std.specs.Vec.Iter.{into_iter_items}
-pub use Rattle.ir_grammar.specs.declared.written.WrittenBlock.{WrittenBlock}
-pub use Rattle.ir_grammar.specs.declared.written.WrittenBody.{WrittenBody}
+pub use Rattle.ir_words.specs.declared.written.WrittenBlock.{WrittenBlock}
+pub use Rattle.ir_words.specs.declared.written.WrittenBody.{WrittenBody}
 pub use Rattle.ir_grammar.specs.declared.written.WrittenFunction.{WrittenFunction}
-pub use Rattle.ir_grammar.specs.declared.written.WrittenInst.{WrittenInst}
-pub use Rattle.ir_grammar.specs.declared.written.WrittenParameter.{WrittenParameter}
-pub use Rattle.ir_grammar.specs.declared.written.WrittenPhi.{WrittenPhi}
-pub use Rattle.ir_grammar.specs.declared.written.WrittenReturn.{WrittenReturn}
-pub use Rattle.ir_grammar.specs.declared.written.WrittenReturn.TheVariants.{Void, Value}
-pub use Rattle.ir_grammar.specs.declared.written.WrittenTerminator.{WrittenTerminator}
+pub use Rattle.ir_words.specs.declared.written.WrittenInst.{WrittenInst}
+pub use Rattle.ir_words.specs.declared.written.WrittenParameter.{WrittenParameter}
+pub use Rattle.ir_words.specs.declared.written.WrittenPhi.{WrittenPhi}
+pub use Rattle.ir_words.specs.declared.written.WrittenReturn.{WrittenReturn}
+pub use Rattle.ir_words.specs.declared.written.WrittenReturn.TheVariants.{Void, Value}
+pub use Rattle.ir_words.specs.declared.written.WrittenTerminator.{WrittenTerminator}
 pub use Rattle.ir_tree.specs.Names.{same_name, with_name, number_of}
 pub use Rattle.ir_tree.specs.declared.name.Name.{Name}
 pub use Rattle.ir_tree.specs.declared.name.Name.TheVariants.{Number, Word}

@@ -1,8 +1,8 @@
 -- The positions of what is written.
 use Rattle.ir_numbering.proofs.Common.{◌≡◌, ℕ, ◌+◌, List, [], ◌∷◌, ◌++◌, length, map, refl, ap, ◌∙◌, arith, flat_map, map-append, Place, WrittenParameter, WrittenInst, WrittenReturn, Void, Value, WrittenPhi, WrittenTerminator, WrittenBody, WrittenBlock, WrittenFunction, NamedParameter, place_or, places_of, index_places, inst_places, parameter_places, returned_places, entry_places, phi_places, case_places, terminator_places, body_places, block_places, named_behind, Mention, mention_at, index_mentions, inst_mentions, returned_mentions, entry_mentions, phi_mentions, case_mentions, terminator_mentions, body_mentions, block_mentions, parameter_mentions, names_written, entry_name}
-use Rattle.ir_grammar.specs.declared.written.WrittenInst.TheVariants as line
-use Rattle.ir_grammar.specs.declared.written.WrittenAccess.TheVariants as access
-use Rattle.ir_grammar.specs.declared.written.WrittenTerminator.TheVariants as last
+use Rattle.ir_words.specs.declared.written.WrittenInst.TheVariants as line
+use Rattle.ir_words.specs.declared.written.WrittenAccess.TheVariants as access
+use Rattle.ir_words.specs.declared.written.WrittenTerminator.TheVariants as last
 
 abbrev at_in : Mention → Place
 at_in m = m.at

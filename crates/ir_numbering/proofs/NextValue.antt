@@ -2,7 +2,7 @@
 use Rattle.ir_numbering.proofs.Common.{◌≡◌, ℕ, zero, suc, ◌+◌, ◌-◌, ◌*◌, ◌^◌, ◌<◌, ◌≤◌, ◌⊎◌, inl, inr, Bool, true, false, cond, eqb, ltb, List, [], ◌∷◌, ◌++◌, length, refl, sym, ap, subst, ◌∙◌, arith, ◌||◌, ◌&&◌, reverse, reverse-append, reverse-reverse, length-reverse, Contains, Contains-append_left, Contains-append_right, Contains-push, Contains-push_cases, Contains-append_cases, Name, Number, Word, is_greater, is_above, greatest, carried, one_more, next_name, or_left}
 use Rattle.std.proofs.Math.Nat.{pow-succ', pow-le-pow_right, mul-le-mul_right}
 use Rattle.std.proofs.lemmas.Bool.{true≢false, ltb-true, ltb-false, lt-ltb, eqb-true, eqb-false}
-use Rattle.ir_grammar.specs.Numbers.{value_after, value_of}
+use Rattle.ir_words.specs.Numbers.{value_after, value_of}
 use Rattle.ir_numbering.specs.NextNumber.{AreDigits, IsDecimal, AreDecimal, IsNextName}
 
 -- ---- values of digits

@@ -22,17 +22,17 @@ use Rattle.ir_tree.specs.declared.tree.Case.{Case}
 use Rattle.ir_tree.specs.declared.tree.Block.{Block}
 use Rattle.ir_tree.specs.declared.tree.Parameter.{Parameter}
 use Rattle.ir_tree.specs.declared.tree.Function.{Function}
-use Rattle.ir_grammar.specs.declared.written.WrittenName.{WrittenName}
-use Rattle.ir_grammar.specs.declared.written.WrittenOperand.{WrittenOperand}
-use Rattle.ir_grammar.specs.declared.written.WrittenValue.{WrittenValue}
-use Rattle.ir_grammar.specs.declared.written.WrittenValue.TheVariants as written
-use Rattle.ir_grammar.specs.declared.written.WrittenTyped.{WrittenTyped}
-use Rattle.ir_grammar.specs.declared.written.WrittenInst.TheVariants as line
-use Rattle.ir_grammar.specs.declared.written.WrittenAccess.TheVariants as access
-use Rattle.ir_grammar.specs.declared.written.WrittenIndex.{WrittenIndex}
-use Rattle.ir_grammar.specs.declared.written.WrittenEntry.{WrittenEntry}
-use Rattle.ir_grammar.specs.declared.written.WrittenCase.{WrittenCase}
-use Rattle.ir_grammar.specs.declared.written.WrittenTerminator.TheVariants as last
+use Rattle.ir_words.specs.declared.written.WrittenName.{WrittenName}
+use Rattle.ir_words.specs.declared.written.WrittenOperand.{WrittenOperand}
+use Rattle.ir_words.specs.declared.written.WrittenValue.{WrittenValue}
+use Rattle.ir_words.specs.declared.written.WrittenValue.TheVariants as written
+use Rattle.ir_words.specs.declared.written.WrittenTyped.{WrittenTyped}
+use Rattle.ir_words.specs.declared.written.WrittenInst.TheVariants as line
+use Rattle.ir_words.specs.declared.written.WrittenAccess.TheVariants as access
+use Rattle.ir_words.specs.declared.written.WrittenIndex.{WrittenIndex}
+use Rattle.ir_words.specs.declared.written.WrittenEntry.{WrittenEntry}
+use Rattle.ir_words.specs.declared.written.WrittenCase.{WrittenCase}
+use Rattle.ir_words.specs.declared.written.WrittenTerminator.TheVariants as last
 use Rattle.ir_numbering.specs.Laws.{name_at}
 use Rattle.ir_numbering.proofs.NumberOf.{joins}
 use Rattle.ir_numbering.proofs.MentionPlaces.{places-written}

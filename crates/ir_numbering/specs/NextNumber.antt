@@ -3,7 +3,7 @@ use Rattle.std.specs.Prelude.{◌≡◌, ◌⊎◌, ◌<◌, ◌≤◌, ℕ, ◌
 use Rattle.std.specs.List.{Contains}
 use Rattle.ir_tree.specs.declared.name.Name.{Name}
 use Rattle.ir_tree.specs.declared.name.Name.TheVariants.{Number}
-use Rattle.ir_grammar.specs.Numbers.{value_of}
+use Rattle.ir_words.specs.Numbers.{value_of}
 
 abbrev pub AreDigits : List ℕ → Type 0
 AreDigits [] = Unit {0}

@@ -23,26 +23,26 @@ use Rattle.ir_tree.specs.declared.tree.Terminator.TheVariants.{Return, Branch, C
 use Rattle.ir_tree.specs.declared.tree.Block.{Block}
 use Rattle.ir_tree.specs.declared.tree.Parameter.{Parameter}
 use Rattle.ir_tree.specs.declared.tree.Function.{Function}
-use Rattle.ir_grammar.specs.declared.written.WrittenName.{WrittenName}
-use Rattle.ir_grammar.specs.declared.written.WrittenValue.{WrittenValue}
-use Rattle.ir_grammar.specs.declared.written.WrittenValue.TheVariants as written
-use Rattle.ir_grammar.specs.declared.written.WrittenTyped.{WrittenTyped}
-use Rattle.ir_grammar.specs.declared.written.WrittenParameter.{WrittenParameter}
-use Rattle.ir_grammar.specs.declared.written.WrittenInst.{WrittenInst}
-use Rattle.ir_grammar.specs.declared.written.WrittenInst.TheVariants as line
-use Rattle.ir_grammar.specs.declared.written.WrittenAccess.{WrittenAccess}
-use Rattle.ir_grammar.specs.declared.written.WrittenAccess.TheVariants as access
-use Rattle.ir_grammar.specs.declared.written.WrittenIndex.{WrittenIndex}
-use Rattle.ir_grammar.specs.declared.written.WrittenGep.{WrittenGep}
-use Rattle.ir_grammar.specs.declared.written.WrittenEntry.{WrittenEntry}
-use Rattle.ir_grammar.specs.declared.written.WrittenPhi.{WrittenPhi}
-use Rattle.ir_grammar.specs.declared.written.WrittenCase.{WrittenCase}
-use Rattle.ir_grammar.specs.declared.written.WrittenTerminator.{WrittenTerminator}
-use Rattle.ir_grammar.specs.declared.written.WrittenTerminator.TheVariants as end
-use Rattle.ir_grammar.specs.declared.written.WrittenBody.{WrittenBody}
-use Rattle.ir_grammar.specs.declared.written.WrittenBlock.{WrittenBlock}
-use Rattle.ir_grammar.specs.declared.written.WrittenReturn.{WrittenReturn}
-use Rattle.ir_grammar.specs.declared.written.WrittenReturn.TheVariants.{Void, Value}
+use Rattle.ir_words.specs.declared.written.WrittenName.{WrittenName}
+use Rattle.ir_words.specs.declared.written.WrittenValue.{WrittenValue}
+use Rattle.ir_words.specs.declared.written.WrittenValue.TheVariants as written
+use Rattle.ir_words.specs.declared.written.WrittenTyped.{WrittenTyped}
+use Rattle.ir_words.specs.declared.written.WrittenParameter.{WrittenParameter}
+use Rattle.ir_words.specs.declared.written.WrittenInst.{WrittenInst}
+use Rattle.ir_words.specs.declared.written.WrittenInst.TheVariants as line
+use Rattle.ir_words.specs.declared.written.WrittenAccess.{WrittenAccess}
+use Rattle.ir_words.specs.declared.written.WrittenAccess.TheVariants as access
+use Rattle.ir_words.specs.declared.written.WrittenIndex.{WrittenIndex}
+use Rattle.ir_words.specs.declared.written.WrittenGep.{WrittenGep}
+use Rattle.ir_words.specs.declared.written.WrittenEntry.{WrittenEntry}
+use Rattle.ir_words.specs.declared.written.WrittenPhi.{WrittenPhi}
+use Rattle.ir_words.specs.declared.written.WrittenCase.{WrittenCase}
+use Rattle.ir_words.specs.declared.written.WrittenTerminator.{WrittenTerminator}
+use Rattle.ir_words.specs.declared.written.WrittenTerminator.TheVariants as end
+use Rattle.ir_words.specs.declared.written.WrittenBody.{WrittenBody}
+use Rattle.ir_words.specs.declared.written.WrittenBlock.{WrittenBlock}
+use Rattle.ir_words.specs.declared.written.WrittenReturn.{WrittenReturn}
+use Rattle.ir_words.specs.declared.written.WrittenReturn.TheVariants.{Void, Value}
 use Rattle.ir_grammar.specs.declared.written.WrittenFunction.{WrittenFunction}
 use Rattle.ir_numbering.specs.declared.numbering.NamedParameter.{NamedParameter}
 use Rattle.ir_numbering.specs.EntryName.{next_name}

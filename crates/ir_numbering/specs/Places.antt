@@ -1,23 +1,23 @@
 -- Where the types, names, literals and labels of a function are, in text order.
 use Rattle.std.specs.Prelude.{List, [], ◌∷◌, ◌++◌, flat_map, Option, Some, None}
 use Rattle.text_places.specs.declared.place.Place.{Place}
-use Rattle.ir_grammar.specs.declared.written.WrittenName.{WrittenName}
-use Rattle.ir_grammar.specs.declared.written.WrittenTyped.{WrittenTyped}
-use Rattle.ir_grammar.specs.declared.written.WrittenParameter.{WrittenParameter}
-use Rattle.ir_grammar.specs.declared.written.WrittenInst.{WrittenInst}
-use Rattle.ir_grammar.specs.declared.written.WrittenInst.TheVariants as line
-use Rattle.ir_grammar.specs.declared.written.WrittenAccess.{WrittenAccess}
-use Rattle.ir_grammar.specs.declared.written.WrittenAccess.TheVariants as access
-use Rattle.ir_grammar.specs.declared.written.WrittenIndex.{WrittenIndex}
-use Rattle.ir_grammar.specs.declared.written.WrittenReturn.{WrittenReturn}
-use Rattle.ir_grammar.specs.declared.written.WrittenReturn.TheVariants.{Void, Value}
-use Rattle.ir_grammar.specs.declared.written.WrittenEntry.{WrittenEntry}
-use Rattle.ir_grammar.specs.declared.written.WrittenPhi.{WrittenPhi}
-use Rattle.ir_grammar.specs.declared.written.WrittenCase.{WrittenCase}
-use Rattle.ir_grammar.specs.declared.written.WrittenTerminator.{WrittenTerminator}
-use Rattle.ir_grammar.specs.declared.written.WrittenTerminator.TheVariants as end
-use Rattle.ir_grammar.specs.declared.written.WrittenBody.{WrittenBody}
-use Rattle.ir_grammar.specs.declared.written.WrittenBlock.{WrittenBlock}
+use Rattle.ir_words.specs.declared.written.WrittenName.{WrittenName}
+use Rattle.ir_words.specs.declared.written.WrittenTyped.{WrittenTyped}
+use Rattle.ir_words.specs.declared.written.WrittenParameter.{WrittenParameter}
+use Rattle.ir_words.specs.declared.written.WrittenInst.{WrittenInst}
+use Rattle.ir_words.specs.declared.written.WrittenInst.TheVariants as line
+use Rattle.ir_words.specs.declared.written.WrittenAccess.{WrittenAccess}
+use Rattle.ir_words.specs.declared.written.WrittenAccess.TheVariants as access
+use Rattle.ir_words.specs.declared.written.WrittenIndex.{WrittenIndex}
+use Rattle.ir_words.specs.declared.written.WrittenReturn.{WrittenReturn}
+use Rattle.ir_words.specs.declared.written.WrittenReturn.TheVariants.{Void, Value}
+use Rattle.ir_words.specs.declared.written.WrittenEntry.{WrittenEntry}
+use Rattle.ir_words.specs.declared.written.WrittenPhi.{WrittenPhi}
+use Rattle.ir_words.specs.declared.written.WrittenCase.{WrittenCase}
+use Rattle.ir_words.specs.declared.written.WrittenTerminator.{WrittenTerminator}
+use Rattle.ir_words.specs.declared.written.WrittenTerminator.TheVariants as end
+use Rattle.ir_words.specs.declared.written.WrittenBody.{WrittenBody}
+use Rattle.ir_words.specs.declared.written.WrittenBlock.{WrittenBlock}
 use Rattle.ir_grammar.specs.declared.written.WrittenFunction.{WrittenFunction}
 
 -- where a name is, and where it would be if it isn't written

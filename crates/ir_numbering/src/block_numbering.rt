@@ -4,11 +4,11 @@ ghost use Rattle.ir_numbering.specs.Numbering as spec;
 ghost use Rattle.ir_numbering.specs.Numbering.{each_in, entry_in, phi_in, case_in, terminator_in};
 
 use crate::numbering::{insts, number, typed, value};
-use ir_grammar::{
+use ir_tree::{Block, Case, Name, Names, Phi, PhiEntry, Terminator};
+use ir_words::{
     WrittenBlock, WrittenBody, WrittenCase, WrittenEntry, WrittenPhi, WrittenReturn,
     WrittenTerminator, WrittenValue,
 };
-use ir_tree::{Block, Case, Name, Names, Phi, PhiEntry, Terminator};
 use std::alloc::Global;
 use support::{NoMemory, Sequence};
 use tv_num::Width;

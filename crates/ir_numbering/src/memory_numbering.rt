@@ -4,8 +4,8 @@ ghost use Rattle.ir_numbering.specs.Numbering as spec;
 ghost use Rattle.ir_numbering.specs.Numbering.{each_in, index_in};
 
 use crate::numbering::{number, typed, value};
-use ir_grammar::{WrittenAccess, WrittenGep, WrittenIndex, WrittenTyped, WrittenValue};
 use ir_tree::{GepIndex, Inst, IrType, MemoryType, Name, Names};
+use ir_words::{WrittenAccess, WrittenGep, WrittenIndex, WrittenTyped, WrittenValue};
 use std::alloc::Global;
 use support::{NoMemory, Sequence};
 

@@ -9,13 +9,14 @@ use crate::block_numbering::blocks;
 use crate::entry_name::next_name;
 use crate::memory_numbering::{access, gep};
 use crate::places::places_of;
-use ir_grammar::{
-    WrittenBlock, WrittenBody, WrittenFunction, WrittenInst, WrittenIntType, WrittenName,
-    WrittenOperand, WrittenParameter, WrittenTyped, WrittenValue,
-};
+use ir_grammar::WrittenFunction;
 use ir_tree::{
     Block, Cast, Function, Inst, IrType, Name, Names, Op, Operand, Parameter, Predicate,
     TypedOperand,
+};
+use ir_words::{
+    WrittenBlock, WrittenBody, WrittenInst, WrittenIntType, WrittenName, WrittenOperand,
+    WrittenParameter, WrittenTyped, WrittenValue,
 };
 use std::alloc::Global;
 use support::{NoMemory, Sequence};

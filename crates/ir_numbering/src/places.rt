@@ -3,10 +3,11 @@ ghost use Rattle.std.specs.Prelude.{◌≡◌, ◌++◌, ◌∷◌, [], flat_map
 ghost use Rattle.ir_numbering.specs.Places as spec;
 ghost use Rattle.ir_numbering.specs.Places.{typed_places, access_places, index_places, inst_places, parameter_places, returned_places, entry_places, phi_places, case_places, terminator_places, body_places, block_places};
 
-use ir_grammar::{
-    WrittenAccess, WrittenBlock, WrittenBody, WrittenCase, WrittenEntry, WrittenFunction,
-    WrittenGep, WrittenIndex, WrittenInst, WrittenName, WrittenParameter, WrittenPhi,
-    WrittenReturn, WrittenTerminator, WrittenTyped,
+use ir_grammar::WrittenFunction;
+use ir_words::{
+    WrittenAccess, WrittenBlock, WrittenBody, WrittenCase, WrittenEntry, WrittenGep, WrittenIndex,
+    WrittenInst, WrittenName, WrittenParameter, WrittenPhi, WrittenReturn, WrittenTerminator,
+    WrittenTyped,
 };
 use std::alloc::Global;
 use support::{NoMemory, Sequence};

@@ -14,27 +14,27 @@ pub use Rattle.ir_grammar.specs.Grammar.{follows_parameter, parameter_begins, wi
 unfoldable pub use Rattle.ir_grammar.specs.Grammar.{define, parameter_parts, first_parameter, parameters, whole_line, next_line, lines, with_case, cases, branch, branch_to, cond_branch, switch, return_of, block, entry_block, next_block, blocks, prefixes, comdat_rest, debug_rest, header_parts, attachment, record_rest, returned, target, attachments}
 pub use Rattle.ir_grammar.specs.Instructions.{default_align, line_by, is_square, array_begins, array_within, inst_by, closers}
 unfoldable pub use Rattle.ir_grammar.specs.Instructions.{inst_line, phi, alloca, load, store, gep, line_named, entry_or_attachment, next_entry, attached, align_or_attachment, aligned, index_or_attachment, next_index, with_length, arrays, alloca_object, gep_arrays, gep_object, binary, cast_by, wrapping, exact, plain, disjunction, icmp, truncate, zero_extend, sign_extend, select, freeze, wraps, flagged_type, comparison, typed, entry, gep_flags, pointer}
-pub use Rattle.ir_grammar.specs.Reasons.{reason, type_reason}
-pub use Rattle.ir_grammar.specs.Spelling.{named_at, label_line, is_record, line_start, is_memory_type, memory_type_of, memory_type_in, type_in, type_at, fits_object, is_small_object, number_of_kind, is_alignment, width_reason, width_in, width_reason_of, int_typed_at, typed_at, int_type_in, is_pointer, is_void, returned_at, truth_value, operand_at, literal_at}
-pub use Rattle.ir_grammar.specs.declared.word.LineStart.{LineStart}
-pub use Rattle.ir_grammar.specs.declared.word.LineWord.{LineWord}
-pub use Rattle.ir_grammar.specs.declared.word.Opcode.{Opcode}
-pub use Rattle.ir_grammar.specs.declared.word.ParameterPart.{ParameterPart}
-pub use Rattle.ir_grammar.specs.declared.word.TerminatorWord.{TerminatorWord}
-pub use Rattle.ir_grammar.specs.declared.written.WrittenAccess.{WrittenAccess}
-pub use Rattle.ir_grammar.specs.declared.written.WrittenArrays.{WrittenArrays}
-pub use Rattle.ir_grammar.specs.declared.written.WrittenBody.{WrittenBody}
-pub use Rattle.ir_grammar.specs.declared.written.WrittenCase.{WrittenCase}
+pub use Rattle.ir_words.specs.Reasons.{reason, type_reason}
+pub use Rattle.ir_words.specs.Spelling.{named_at, label_line, is_record, line_start, is_memory_type, memory_type_of, memory_type_in, type_in, type_at, fits_object, is_small_object, number_of_kind, is_alignment, width_reason, width_in, width_reason_of, int_typed_at, typed_at, int_type_in, is_pointer, is_void, returned_at, truth_value, operand_at, literal_at}
+pub use Rattle.ir_words.specs.declared.word.LineStart.{LineStart}
+pub use Rattle.ir_words.specs.declared.word.LineWord.{LineWord}
+pub use Rattle.ir_words.specs.declared.word.Opcode.{Opcode}
+pub use Rattle.ir_words.specs.declared.word.ParameterPart.{ParameterPart}
+pub use Rattle.ir_words.specs.declared.word.TerminatorWord.{TerminatorWord}
+pub use Rattle.ir_words.specs.declared.written.WrittenAccess.{WrittenAccess}
+pub use Rattle.ir_words.specs.declared.written.WrittenArrays.{WrittenArrays}
+pub use Rattle.ir_words.specs.declared.written.WrittenBody.{WrittenBody}
+pub use Rattle.ir_words.specs.declared.written.WrittenCase.{WrittenCase}
 pub use Rattle.ir_grammar.specs.declared.written.WrittenFunction.{WrittenFunction}
-pub use Rattle.ir_grammar.specs.declared.written.WrittenGep.{WrittenGep}
-pub use Rattle.ir_grammar.specs.declared.written.WrittenInst.{WrittenInst}
-pub use Rattle.ir_grammar.specs.declared.written.WrittenIntType.{WrittenIntType}
-pub use Rattle.ir_grammar.specs.declared.written.WrittenLine.{WrittenLine}
-pub use Rattle.ir_grammar.specs.declared.written.WrittenLines.{WrittenLines}
-pub use Rattle.ir_grammar.specs.declared.written.WrittenName.{WrittenName}
-pub use Rattle.ir_grammar.specs.declared.written.WrittenParameters.{WrittenParameters}
-pub use Rattle.ir_grammar.specs.declared.written.WrittenPhi.{WrittenPhi}
-pub use Rattle.ir_grammar.specs.declared.written.WrittenType.{WrittenType}
+pub use Rattle.ir_words.specs.declared.written.WrittenGep.{WrittenGep}
+pub use Rattle.ir_words.specs.declared.written.WrittenInst.{WrittenInst}
+pub use Rattle.ir_words.specs.declared.written.WrittenIntType.{WrittenIntType}
+pub use Rattle.ir_words.specs.declared.written.WrittenLine.{WrittenLine}
+pub use Rattle.ir_words.specs.declared.written.WrittenLines.{WrittenLines}
+pub use Rattle.ir_words.specs.declared.written.WrittenName.{WrittenName}
+pub use Rattle.ir_words.specs.declared.written.WrittenParameters.{WrittenParameters}
+pub use Rattle.ir_words.specs.declared.written.WrittenPhi.{WrittenPhi}
+pub use Rattle.ir_words.specs.declared.written.WrittenType.{WrittenType}
 pub use Rattle.ir_items.specs.Items.{IsCut, nothing, other, IsDefine}
 pub use Rattle.ir_items.specs.Stops.{IsStop}
 pub use Rattle.ir_items.specs.declared.item.Define.{Define}

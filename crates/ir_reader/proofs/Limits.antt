@@ -7,20 +7,20 @@ use Rattle.ir_items.specs.Names.{name_in}
 use Rattle.ir_tree.specs.declared.tree.Terminator.{Terminator}
 use Rattle.ir_tree.specs.declared.tree.Terminator.TheVariants.{Return, Branch, CondBranch, Switch, Unreachable}
 use Rattle.ir_tree.specs.declared.tree.Parameter.{Parameter}
-use Rattle.ir_grammar.specs.declared.word.LineStart.TheVariants as start
-use Rattle.ir_grammar.specs.declared.word.LineWord.TheVariants as word_of
-use Rattle.ir_grammar.specs.declared.word.TerminatorWord.TheVariants as finish
-use Rattle.ir_grammar.specs.declared.word.ParameterPart.TheVariants as part
-use Rattle.ir_grammar.specs.declared.written.WrittenParameter.{WrittenParameter}
-use Rattle.ir_grammar.specs.declared.written.WrittenInst.TheVariants as inst
-use Rattle.ir_grammar.specs.declared.written.WrittenTerminator.{WrittenTerminator}
-use Rattle.ir_grammar.specs.declared.written.WrittenBlock.{WrittenBlock}
-use Rattle.ir_grammar.specs.declared.written.WrittenBlocks.{WrittenBlocks}
-use Rattle.ir_grammar.specs.declared.written.WrittenLine.TheVariants as line
-use Rattle.ir_grammar.specs.declared.written.WrittenTerminator.TheVariants as end
-use Rattle.ir_grammar.specs.declared.written.WrittenReturn.TheVariants.{Void, Value}
+use Rattle.ir_words.specs.declared.word.LineStart.TheVariants as start
+use Rattle.ir_words.specs.declared.word.LineWord.TheVariants as word_of
+use Rattle.ir_words.specs.declared.word.TerminatorWord.TheVariants as finish
+use Rattle.ir_words.specs.declared.word.ParameterPart.TheVariants as part
+use Rattle.ir_words.specs.declared.written.WrittenParameter.{WrittenParameter}
+use Rattle.ir_words.specs.declared.written.WrittenInst.TheVariants as inst
+use Rattle.ir_words.specs.declared.written.WrittenTerminator.{WrittenTerminator}
+use Rattle.ir_words.specs.declared.written.WrittenBlock.{WrittenBlock}
+use Rattle.ir_words.specs.declared.written.WrittenBlocks.{WrittenBlocks}
+use Rattle.ir_words.specs.declared.written.WrittenLine.TheVariants as line
+use Rattle.ir_words.specs.declared.written.WrittenTerminator.TheVariants as end
+use Rattle.ir_words.specs.declared.written.WrittenReturn.TheVariants.{Void, Value}
 use Rattle.ir_numbering.specs.declared.numbering.NamedParameter.{NamedParameter}
-use Rattle.ir_grammar.specs.Words.{is_word_of}
+use Rattle.ir_words.specs.Words.{is_word_of}
 use Rattle.ir_reader.specs.Judgeable.{IsJudgeable, IsJudgeableEntry}
 use Rattle.ir_reader.proofs.Placed.{well_formed-placed}
 use Rattle.ir_reader.proofs.Objects.{IsSmallAccess, IsSmallGep, IsSmallInst, IsSmallBlock, block-small, blocks-small}

@@ -8,8 +8,8 @@ use Rattle.ir_tree.specs.declared.tree.GepIndex.{GepIndex}
 use Rattle.ir_tree.specs.declared.sites.Site.{Site}
 use Rattle.ir_tree.specs.declared.sites.Site.TheVariants.{Defines, Written}
 use Rattle.ir_tree.proofs.Standing.{inst_site}
-use Rattle.ir_grammar.specs.declared.written.WrittenInst.TheVariants as line
-use Rattle.ir_grammar.specs.declared.written.WrittenAccess.TheVariants as access
+use Rattle.ir_words.specs.declared.written.WrittenInst.TheVariants as line
+use Rattle.ir_words.specs.declared.written.WrittenAccess.TheVariants as access
 
 -- ---- what is written
 

@@ -1,11 +1,11 @@
 -- What is spelled of instructions on memory keeps their limits.
 use Rattle.ir_reader.proofs.Common.{◌≡◌, ℕ, zero, suc, ◌<◌, ◌≤◌, Bool, true, false, eqb, cond, List, [], ◌∷◌, length, Option, Some, None, refl, subst, arith, ◌&&◌, ◌||◌, not, nat_eq, list_any, ltb-true, leb-true, eqb-true, length-append, Place, Width, Lexeme, Kind, IsAlignment, HasSmallArrays, alignments, type_align, nested_size, Op, Cast, IrType, Int, Ptr, SpellParts, Spells, Opcode, WrittenName, WrittenIntType, WrittenType, WrittenArrays, WrittenAccess, WrittenInst, is_memory_type, memory_type_of, memory_type_in, type_in, type_at, fits_object, is_small_object, number_of_kind, is_alignment, is_square, array_begins, array_within, with_length, arrays, alloca_object, gep_arrays, gep_object, default_align, binary, cast_by, wrapping, exact, plain, disjunction, icmp, truncate, zero_extend, sign_extend, select, freeze, inst_by}
 use Rattle.ir_lexer.specs.declared.token.Kind.TheVariants as kind
-use Rattle.ir_grammar.specs.declared.word.Opcode.TheVariants as opcode
-use Rattle.ir_grammar.specs.declared.written.GepFlags.{GepFlags}
-use Rattle.ir_grammar.specs.declared.written.WrittenObject.{WrittenObject}
-use Rattle.ir_grammar.specs.declared.written.WrittenAccess.TheVariants as access
-use Rattle.ir_grammar.specs.Numbers.{is_negative, magnitude}
+use Rattle.ir_words.specs.declared.word.Opcode.TheVariants as opcode
+use Rattle.ir_words.specs.declared.written.GepFlags.{GepFlags}
+use Rattle.ir_words.specs.declared.written.WrittenObject.{WrittenObject}
+use Rattle.ir_words.specs.declared.written.WrittenAccess.TheVariants as access
+use Rattle.ir_words.specs.Numbers.{is_negative, magnitude}
 use Rattle.ir_grammar.proofs.SmallArrays.{are-small}
 use Rattle.ir_reader.proofs.Objects.{IsSmallAccess, IsSmallInst}
 

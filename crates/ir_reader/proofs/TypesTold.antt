@@ -2,17 +2,17 @@
 -- for types, or neither.
 use Rattle.ir_reader.proofs.Common.{◌≡◌, ℕ, zero, suc, ◌+◌, inl, inr, Bool, true, false, List, [], ◌∷◌, ◌++◌, length, Option, Some, None, refl, sym, ap, subst, codes, arith, ◌&&◌, ◌==◌, if◌then◌else◌, nat_lt, is_some, bytes_eq, Width, Place, Lexeme, IrType, Int, Ptr, Op, Cast, Opcode, LineWord, TerminatorWord, LineStart, ParameterPart, WrittenName, WrittenIntType, WrittenType, WrittenParameters, WrittenLines, WrittenLine, WrittenPhi, WrittenCase, WrittenArrays, WrittenAccess, WrittenGep, reads, read, type_reason, width_in, width_reason, width_reason_of, int_typed_at, typed_at, type_in, int_type_in, is_pointer, is_void, returned_at, truth_value, operand_at, literal_at, token, start, bit_fits, int_type, counted_type, memory_type, element_type, pointer_type, bit_type, return_type, operand_class, literal_class, line_word, flag_word, wraps, flagged_type, comparison, typed, binary, wrapping, exact, plain, disjunction, icmp, cast_by, truncate, zero_extend, sign_extend, select, freeze, inst_by, entry, phi, next_entry, attached, entry_or_attachment, with_length, arrays, closers, alloca_object, gep_flags, gep_arrays, gep_object, pointer, alloca, load, store, gep, aligned, align_or_attachment, next_index, index_or_attachment, inst_line, line_by, line_named, prefixes, with_part, parameter_parts, first_parameter, parameters, comdat_rest, debug_rest, with_header, header_parts, attachment, record_rest, started, with_comma, whole_line, next_line, lines, returned_by, returned, target, cond_branch, branch_to, branch, is_type, with_case, cases, switch, return_of, terminator_by, attachments, block, entry_block, next_block, blocks, define, append-nil, parts, Spells, part_value, part_begins, read_lawful, read-found, one_bit, case_begins, case_within, most_parameters}
 use Rattle.ir_lexer.specs.declared.token.Kind.TheVariants as kind
-use Rattle.ir_grammar.specs.declared.word.Opcode.TheVariants as opcode
-use Rattle.ir_grammar.specs.declared.word.Flag.{Flag}
-use Rattle.ir_grammar.specs.declared.word.Flag.TheVariants as flag
-use Rattle.ir_grammar.specs.declared.word.LineWord.TheVariants as word_of
-use Rattle.ir_grammar.specs.declared.word.TerminatorWord.TheVariants as finish
-use Rattle.ir_grammar.specs.declared.word.LineStart.TheVariants as start_of
-use Rattle.ir_grammar.specs.declared.word.ParameterPart.TheVariants as part
-use Rattle.ir_grammar.specs.declared.word.HeaderPart.{HeaderPart}
-use Rattle.ir_grammar.specs.declared.word.HeaderPart.TheVariants as header
-use Rattle.ir_grammar.specs.declared.written.WrittenLine.TheVariants as line
-use Rattle.ir_grammar.specs.Spelling.{value_in}
+use Rattle.ir_words.specs.declared.word.Opcode.TheVariants as opcode
+use Rattle.ir_words.specs.declared.word.Flag.{Flag}
+use Rattle.ir_words.specs.declared.word.Flag.TheVariants as flag
+use Rattle.ir_words.specs.declared.word.LineWord.TheVariants as word_of
+use Rattle.ir_words.specs.declared.word.TerminatorWord.TheVariants as finish
+use Rattle.ir_words.specs.declared.word.LineStart.TheVariants as start_of
+use Rattle.ir_words.specs.declared.word.ParameterPart.TheVariants as part
+use Rattle.ir_words.specs.declared.word.HeaderPart.{HeaderPart}
+use Rattle.ir_words.specs.declared.word.HeaderPart.TheVariants as header
+use Rattle.ir_words.specs.declared.written.WrittenLine.TheVariants as line
+use Rattle.ir_words.specs.Spelling.{value_in}
 use Rattle.ir_reader.proofs.Looking.{GoesOnWithTypes, parts-go-on, parts-end, IsOfType, IsOfNone, Stands, TellsTypes}
 
 -- ---- classes of types

@@ -8,8 +8,8 @@ use Rattle.token_forms.specs.Spelling.{Spells}
 use Rattle.token_forms.specs.Refusals.{Begins}
 use Rattle.ir_grammar.specs.declared.written.WrittenFunction.{WrittenFunction}
 use Rattle.ir_grammar.specs.Classes.{token}
-use Rattle.ir_grammar.specs.Reasons.{reason}
-use Rattle.ir_grammar.specs.Spelling.{width_reason}
+use Rattle.ir_words.specs.Reasons.{reason}
+use Rattle.ir_words.specs.Spelling.{width_reason}
 use Rattle.ir_grammar.specs.Grammar.{define}
 
 -- one of the types i1, i8 and ptr has the property

@@ -7,10 +7,11 @@ ghost use Rattle.ir_reader.specs.Answer.{Writes, Tests, fault_at};
 
 use assigned_names::check_assigned;
 use ir_check::{check_edges, check_names, check_types};
-use ir_grammar::{Cursor, WrittenFunction, reason_at};
+use ir_grammar::{Cursor, WrittenFunction};
 use ir_lexer::Token;
 use ir_numbering::numbered;
 use ir_tree::{CheckFault, Function, Reason, Refused};
+use ir_words::reason_at;
 use std::alloc::Global;
 use support::Sequence;
 use text_places::Place;

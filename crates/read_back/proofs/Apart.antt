@@ -2,7 +2,7 @@
 use Rattle.read_back.proofs.Common.{◌≡◌, ℕ, ◌+◌, Bool, true, false, List, [], ◌∷◌, ◌++◌, length, Option, Some, None, refl, subst, append-nil, list_all, flat_map, AllByRecursion, is_blank, class_of, one_bit, Name, IrType, Int, WrittenEntry, WrittenPhi, WrittenCase, WrittenReturn, Void, Value, WrittenTerminator, WrittenBody, WrittenBlock, WrittenFunction, NamedParameter, named_behind, entry_name, Piece, AreApart, none, space, line, indented, word, mark, number, comma, local, global, label, width_text, type_text, word_if, return_text}
 use Rattle.std.specs.Prelude.{codes}
 use Rattle.ir_lexer.specs.declared.token.Kind.TheVariants as kind
-use Rattle.ir_grammar.specs.declared.written.WrittenTerminator.TheVariants as end
+use Rattle.ir_words.specs.declared.written.WrittenTerminator.TheVariants as end
 use Rattle.read_back.proofs.Written.{value_piece, target, result_pieces, inst_pieces, entry_pieces, entries_pieces, phi_pieces, case_pieces, returned_pieces, terminator_pieces, body_pieces, block_pieces, parameter_pieces, parameters_pieces, written_pieces}
 use Rattle.read_back.proofs.Spellable.{IsName, IsEntry, IsPhi, IsCase, IsReturned, IsTerminator, IsBody, body_size, AreBlocks, IsSpellable}
 use Rattle.read_back.proofs.ApartLinks.{gap-alone, Stands, Links, nothing-links, links-append, stands-append, token-stands, free-links, mark-links}

@@ -5,8 +5,8 @@ use Rattle.ir_lexer.specs.declared.token.Kind.TheVariants as kind
 use Rattle.ir_tree.specs.declared.tree.Op.TheVariants as op
 use Rattle.ir_tree.specs.declared.tree.Cast.TheVariants as cast
 use Rattle.ir_tree.specs.declared.tree.Predicate.TheVariants as predicate
-use Rattle.ir_grammar.specs.declared.written.WrittenAccess.TheVariants as access
-use Rattle.ir_grammar.specs.declared.written.WrittenInst.TheVariants as inst
+use Rattle.ir_words.specs.declared.written.WrittenAccess.TheVariants as access
+use Rattle.ir_words.specs.declared.written.WrittenInst.TheVariants as inst
 use Rattle.read_back.proofs.Written.{value_piece, typed_pieces, pointer_pieces, result_pieces, operand_pieces, index_pieces, access_pieces, inst_pieces}
 use Rattle.read_back.proofs.Spellable.{FitsValue, IsAccess, IsIndex, IsInst, AreInsts}
 use Rattle.read_back.proofs.ApartLinks.{Links, nothing-links, links-append, free-links}

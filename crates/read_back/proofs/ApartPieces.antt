@@ -4,7 +4,7 @@ use Rattle.std.proofs.Common.{◌||◌}
 use Rattle.std.specs.Prelude.{codes}
 use Rattle.ir_lexer.specs.declared.token.Kind.TheVariants as kind
 use Rattle.ir_tree.specs.declared.name.Name.TheVariants as name
-use Rattle.ir_grammar.specs.declared.written.WrittenValue.TheVariants as value
+use Rattle.ir_words.specs.declared.written.WrittenValue.TheVariants as value
 use Rattle.read_back.proofs.Written.{value_piece, typed_pieces, pointer_pieces, target, result_pieces}
 use Rattle.read_back.proofs.Spellable.{IsName, FitsValue, IsTyped, IsPointer, IsObject}
 use Rattle.read_back.proofs.ApartClasses.{HasDigits, decimal-digits, number-class, int_type-class, local-class, global-class}

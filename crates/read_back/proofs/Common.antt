@@ -19,43 +19,43 @@ pub use Rattle.ir_grammar.specs.Grammar.{is_comma, is_local_kind, starts_line, l
 unfoldable pub use Rattle.ir_grammar.specs.Grammar.{whole_line, returned, target, cond_branch, branch_to, branch, with_case, cases, switch, return_of, parameter_parts, first_parameter, parameters, next_line, prefixes, header_parts, define, lines, attachments, block, entry_block, next_block, blocks}
 pub use Rattle.ir_grammar.specs.Instructions.{is_square, array_begins, array_within, no_gep_flags, behind_flags, closers, is_gep_flag, line_by, with_index, inst_by, next_gep_flag, default_align, with_entry, is_wrap}
 unfoldable pub use Rattle.ir_grammar.specs.Instructions.{with_length, arrays, alloca_object, gep_flags, gep_arrays, gep_object, alloca, load, store, gep, line_named, phi, next_entry, entry_or_attachment, attached, aligned, align_or_attachment, next_index, index_or_attachment, typed, pointer, binary, cast_by, wrapping, exact, plain, disjunction, icmp, truncate, zero_extend, sign_extend, select, freeze, entry, comparison, wraps, flagged_type}
-pub use Rattle.ir_grammar.specs.Numbers.{is_negative, magnitude, in_range, wrapped, value_of, value_after}
-unfoldable pub use Rattle.ir_grammar.specs.Numbers.{width_of}
-pub use Rattle.ir_grammar.specs.Spelling.{is_memory_type, local_of, global_of, label_of, named_at, label_line, is_record, line_start, is_pointer_type, is_small_object, width_in, is_width, truth_value, literal_value, literal_of, word_of_type, word_value, number_value, literal_at, operand_at, fits_bits, fits_type, memory_type_of, memory_type_in, type_in, type_at, is_pointer, pointer_in, fits_object, number_of_kind, gep_flag_named, gep_flag_of, bits_behind, spelled_width, int_typed_at, int_type_in, typed_at, returned_at, attribute_named, parameter_part, inst_line}
-pub use Rattle.ir_grammar.specs.Words.{is_word_of, opcode_of, inst_word, memory_word_of, or_word, line_word_of, memory_word, opcode_named, wrapping_op, exact_op, is_mark_of, flag_text}
-pub use Rattle.ir_grammar.specs.declared.word.LineStart.{LineStart}
-pub use Rattle.ir_grammar.specs.declared.word.LineWord.{LineWord}
-pub use Rattle.ir_grammar.specs.declared.word.Opcode.{Opcode}
-pub use Rattle.ir_grammar.specs.declared.word.TerminatorWord.{TerminatorWord}
-pub use Rattle.ir_grammar.specs.declared.written.GepFlags.{GepFlags}
-pub use Rattle.ir_grammar.specs.declared.written.WrittenAccess.{WrittenAccess}
-pub use Rattle.ir_grammar.specs.declared.written.WrittenArrays.{WrittenArrays}
-pub use Rattle.ir_grammar.specs.declared.written.WrittenBlock.{WrittenBlock}
-pub use Rattle.ir_grammar.specs.declared.written.WrittenBlocks.{WrittenBlocks}
-pub use Rattle.ir_grammar.specs.declared.written.WrittenBody.{WrittenBody}
-pub use Rattle.ir_grammar.specs.declared.written.WrittenCase.{WrittenCase}
-pub use Rattle.ir_grammar.specs.declared.written.WrittenEntry.{WrittenEntry}
+pub use Rattle.ir_words.specs.Numbers.{is_negative, magnitude, in_range, wrapped, value_of, value_after}
+unfoldable pub use Rattle.ir_words.specs.Numbers.{width_of}
+pub use Rattle.ir_words.specs.Spelling.{is_memory_type, local_of, global_of, label_of, named_at, label_line, is_record, line_start, is_pointer_type, is_small_object, width_in, is_width, truth_value, literal_value, literal_of, word_of_type, word_value, number_value, literal_at, operand_at, fits_bits, fits_type, memory_type_of, memory_type_in, type_in, type_at, is_pointer, pointer_in, fits_object, number_of_kind, gep_flag_named, gep_flag_of, bits_behind, spelled_width, int_typed_at, int_type_in, typed_at, returned_at, attribute_named, parameter_part, inst_line}
+pub use Rattle.ir_words.specs.Words.{is_word_of, opcode_of, inst_word, memory_word_of, or_word, line_word_of, memory_word, opcode_named, wrapping_op, exact_op, is_mark_of, flag_text}
+pub use Rattle.ir_words.specs.declared.word.LineStart.{LineStart}
+pub use Rattle.ir_words.specs.declared.word.LineWord.{LineWord}
+pub use Rattle.ir_words.specs.declared.word.Opcode.{Opcode}
+pub use Rattle.ir_words.specs.declared.word.TerminatorWord.{TerminatorWord}
+pub use Rattle.ir_words.specs.declared.written.GepFlags.{GepFlags}
+pub use Rattle.ir_words.specs.declared.written.WrittenAccess.{WrittenAccess}
+pub use Rattle.ir_words.specs.declared.written.WrittenArrays.{WrittenArrays}
+pub use Rattle.ir_words.specs.declared.written.WrittenBlock.{WrittenBlock}
+pub use Rattle.ir_words.specs.declared.written.WrittenBlocks.{WrittenBlocks}
+pub use Rattle.ir_words.specs.declared.written.WrittenBody.{WrittenBody}
+pub use Rattle.ir_words.specs.declared.written.WrittenCase.{WrittenCase}
+pub use Rattle.ir_words.specs.declared.written.WrittenEntry.{WrittenEntry}
 pub use Rattle.ir_grammar.specs.declared.written.WrittenFunction.{WrittenFunction}
-pub use Rattle.ir_grammar.specs.declared.written.WrittenGep.{WrittenGep}
-pub use Rattle.ir_grammar.specs.declared.written.WrittenIndex.{WrittenIndex}
-pub use Rattle.ir_grammar.specs.declared.written.WrittenInst.{WrittenInst}
-pub use Rattle.ir_grammar.specs.declared.written.WrittenIntType.{WrittenIntType}
-pub use Rattle.ir_grammar.specs.declared.written.WrittenLine.{WrittenLine}
-pub use Rattle.ir_grammar.specs.declared.written.WrittenLines.{WrittenLines}
-pub use Rattle.ir_grammar.specs.declared.written.WrittenLiteral.{WrittenLiteral}
-pub use Rattle.ir_grammar.specs.declared.written.WrittenName.{WrittenName}
-pub use Rattle.ir_grammar.specs.declared.written.WrittenObject.{WrittenObject}
-pub use Rattle.ir_grammar.specs.declared.written.WrittenOperand.{WrittenOperand}
-pub use Rattle.ir_grammar.specs.declared.written.WrittenParameter.{WrittenParameter}
-pub use Rattle.ir_grammar.specs.declared.written.WrittenParameters.{WrittenParameters}
-pub use Rattle.ir_grammar.specs.declared.written.WrittenPhi.{WrittenPhi}
-pub use Rattle.ir_grammar.specs.declared.written.WrittenReturn.{WrittenReturn}
-pub use Rattle.ir_grammar.specs.declared.written.WrittenReturn.TheVariants.{Void, Value}
-pub use Rattle.ir_grammar.specs.declared.written.WrittenReturnType.{WrittenReturnType}
-pub use Rattle.ir_grammar.specs.declared.written.WrittenTerminator.{WrittenTerminator}
-pub use Rattle.ir_grammar.specs.declared.written.WrittenType.{WrittenType}
-pub use Rattle.ir_grammar.specs.declared.written.WrittenTyped.{WrittenTyped}
-pub use Rattle.ir_grammar.specs.declared.written.WrittenValue.{WrittenValue}
+pub use Rattle.ir_words.specs.declared.written.WrittenGep.{WrittenGep}
+pub use Rattle.ir_words.specs.declared.written.WrittenIndex.{WrittenIndex}
+pub use Rattle.ir_words.specs.declared.written.WrittenInst.{WrittenInst}
+pub use Rattle.ir_words.specs.declared.written.WrittenIntType.{WrittenIntType}
+pub use Rattle.ir_words.specs.declared.written.WrittenLine.{WrittenLine}
+pub use Rattle.ir_words.specs.declared.written.WrittenLines.{WrittenLines}
+pub use Rattle.ir_words.specs.declared.written.WrittenLiteral.{WrittenLiteral}
+pub use Rattle.ir_words.specs.declared.written.WrittenName.{WrittenName}
+pub use Rattle.ir_words.specs.declared.written.WrittenObject.{WrittenObject}
+pub use Rattle.ir_words.specs.declared.written.WrittenOperand.{WrittenOperand}
+pub use Rattle.ir_words.specs.declared.written.WrittenParameter.{WrittenParameter}
+pub use Rattle.ir_words.specs.declared.written.WrittenParameters.{WrittenParameters}
+pub use Rattle.ir_words.specs.declared.written.WrittenPhi.{WrittenPhi}
+pub use Rattle.ir_words.specs.declared.written.WrittenReturn.{WrittenReturn}
+pub use Rattle.ir_words.specs.declared.written.WrittenReturn.TheVariants.{Void, Value}
+pub use Rattle.ir_words.specs.declared.written.WrittenReturnType.{WrittenReturnType}
+pub use Rattle.ir_words.specs.declared.written.WrittenTerminator.{WrittenTerminator}
+pub use Rattle.ir_words.specs.declared.written.WrittenType.{WrittenType}
+pub use Rattle.ir_words.specs.declared.written.WrittenTyped.{WrittenTyped}
+pub use Rattle.ir_words.specs.declared.written.WrittenValue.{WrittenValue}
 pub use Rattle.ir_items.specs.Items.{has_name, IsCut, is_head_word, IsNamed, IsDefine}
 unfoldable pub use Rattle.ir_items.specs.Items.{name_at, is_head, is_define, begins_item, is_called, is_brace}
 pub use Rattle.ir_items.specs.Marks.{mark_of, IsBalanced, has_open, IsPiece, mark_in, opens, closes, closing, shut, marks_after, marks_behind}

@@ -3,10 +3,10 @@ use Rattle.read_back.proofs.Common.{◌≡◌, ℕ, Bool, true, false, List, [],
 use Rattle.std.specs.Prelude.{codes}
 use Rattle.ir_tree.specs.declared.tree.Op.TheVariants as op
 use Rattle.ir_tree.specs.declared.tree.Cast.TheVariants as cast
-use Rattle.ir_grammar.specs.declared.written.WrittenValue.TheVariants as value
-use Rattle.ir_grammar.specs.declared.written.WrittenAccess.TheVariants as access
-use Rattle.ir_grammar.specs.declared.written.WrittenInst.TheVariants as inst
-use Rattle.ir_grammar.specs.declared.written.WrittenTerminator.TheVariants as end
+use Rattle.ir_words.specs.declared.written.WrittenValue.TheVariants as value
+use Rattle.ir_words.specs.declared.written.WrittenAccess.TheVariants as access
+use Rattle.ir_words.specs.declared.written.WrittenInst.TheVariants as inst
+use Rattle.ir_words.specs.declared.written.WrittenTerminator.TheVariants as end
 use Rattle.read_back.proofs.Written.{value_piece, typed_pieces, pointer_pieces, target, result_pieces, operand_pieces, index_pieces, access_pieces, inst_pieces, entry_pieces, entries_pieces, phi_pieces, case_pieces, returned_pieces, terminator_pieces, body_pieces, block_pieces, parameter_pieces, parameters_pieces}
 use Rattle.read_back.proofs.CutNested.{Nested, nothing-nested, plain-nested, nested-append, pair-nested}
 

@@ -1,7 +1,7 @@
 -- The lines of a block, and the blocks of a function.
 use Rattle.read_back.proofs.Common.{◌≡◌, ℕ, zero, suc, ◌+◌, ◌-◌, ◌<◌, ◌≤◌, Bool, true, false, List, [], ◌∷◌, ◌++◌, length, refl, sym, subst, arith, ◌==◌, AllByRecursion, ltb-true, eqb-true, length-append, part_begins, WrittenName, WrittenPhi, WrittenInst, WrittenLine, WrittenLines, WrittenTerminator, WrittenBlock, WrittenBlocks, label_of, any, default_align, starts_line, line_begins, line_within, may_have_phi, next_number, with_phi, with_inst, with_line, next_line, opened, lines, block, body_of, entry_block, begins_block, block_begins, with_block, next_block, blocks}
-use Rattle.ir_grammar.specs.declared.written.WrittenInst.TheVariants as inst
-use Rattle.ir_grammar.specs.declared.written.WrittenLine.TheVariants as line
+use Rattle.ir_words.specs.declared.written.WrittenInst.TheVariants as inst
+use Rattle.ir_words.specs.declared.written.WrittenLine.TheVariants as line
 use Rattle.read_back.proofs.Spellable.{IsName, IsNameOrNone, IsPhi, IsInst, AreInsts, IsBody, body_size, AreBlocks}
 use Rattle.read_back.proofs.FitsForms.{Stands, Gives, GivesParts}
 use Rattle.read_back.proofs.FitsNames.{label-is, named-is}

@@ -1,6 +1,6 @@
 -- The last instruction of a block.
 use Rattle.read_back.proofs.Common.{◌≡◌, ℕ, zero, suc, ◌<◌, ◌≤◌, inl, inr, Bool, true, false, List, [], ◌∷◌, ◌++◌, length, Option, Some, None, refl, subst, arith, ◌&&◌, nat_lt, AllByRecursion, ltb-true, length-append, Place, Lexeme, one_bit, IrType, Int, TerminatorWord, WrittenName, WrittenIntType, WrittenReturn, WrittenCase, WrittenTerminator, width_in, is_width, returned_by, returned, target, cond_branch, branch_to, branch, is_type, case_begins, case_within, with_case, cases, switch, return_of, terminator_by}
-use Rattle.ir_grammar.specs.declared.word.TerminatorWord.TheVariants as finish
+use Rattle.ir_words.specs.declared.word.TerminatorWord.TheVariants as finish
 use Rattle.read_back.proofs.Spellable.{IsName, IsCase, IsReturned, IsTerminator}
 use Rattle.read_back.proofs.FitsForms.{Gives, GivesParts}
 use Rattle.read_back.proofs.FitsNames.{local-fits}

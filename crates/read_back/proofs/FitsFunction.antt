@@ -1,8 +1,8 @@
 -- What tokens of bytes spell is spellable: parameters, and the function.
 use Rattle.read_back.proofs.Common.{◌≡◌, ℕ, zero, suc, ◌+◌, ◌<◌, ◌≤◌, inl, inr, Bool, true, false, cond, List, [], ◌∷◌, ◌++◌, length, Some, None, codes, refl, subst, arith, ◌&&◌, ◌||◌, is_some, nat_lt, bytes_eq, AllByRecursion, ltb-true, length-append, Place, Kind, part_begins, WrittenType, WrittenParameter, WrittenParameters, WrittenFunction, is_pointer_type, attribute_named, parameter_part, any, new_parameter, follows_parameter, parameter_begins, with_part, parameter_parts, first_parameter, parameters, define}
 use Rattle.ir_lexer.specs.declared.token.Kind.TheVariants as kind
-use Rattle.ir_grammar.specs.declared.word.ParameterPart.{ParameterPart}
-use Rattle.ir_grammar.specs.declared.word.ParameterPart.TheVariants as part
+use Rattle.ir_words.specs.declared.word.ParameterPart.{ParameterPart}
+use Rattle.ir_words.specs.declared.word.ParameterPart.TheVariants as part
 use Rattle.read_back.proofs.Spellable.{IsName, IsParameter, IsSpellable}
 use Rattle.read_back.proofs.FitsForms.{Stands, Gives, GivesParts, spelled-given}
 use Rattle.read_back.proofs.FitsNames.{AreBytes, local-is, global-fits}

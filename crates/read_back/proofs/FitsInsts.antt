@@ -1,6 +1,6 @@
 -- Instructions on values.
 use Rattle.read_back.proofs.Common.{ℕ, true, false, subst, Int, one_bit, Op, Cast, Opcode, WrittenName, WrittenIntType, WrittenInst, binary, cast_by, wrapping, exact, plain, disjunction, icmp, truncate, zero_extend, sign_extend, select, freeze, inst_by}
-use Rattle.ir_grammar.specs.declared.word.Opcode.TheVariants as opcode
+use Rattle.ir_words.specs.declared.word.Opcode.TheVariants as opcode
 use Rattle.read_back.proofs.Spellable.{IsName, IsInst}
 use Rattle.read_back.proofs.FitsForms.{Gives}
 use Rattle.read_back.proofs.FitsOperands.{operand-fits, typed-gives}

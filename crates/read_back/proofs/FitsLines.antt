@@ -1,10 +1,10 @@
 -- One line of a block, with what follows its commas.
 use Rattle.read_back.proofs.Common.{◌≡◌, ℕ, zero, suc, ◌<◌, inl, inr, Bool, true, false, cond, List, length, Option, Some, None, codes, refl, subst, ◌||◌, not, nat_lt, bytes_eq, ltb-true, Place, Kind, name_in, Int, part_begins, LineStart, LineWord, Opcode, WrittenName, WrittenIndex, WrittenGep, WrittenLines, WrittenLine, is_word_of, opcode_of, inst_word, memory_word_of, or_word, line_word_of, named_at, label_line, inst_line, is_record, line_start, any, line_word, phi, alloca, load, store, gep, line_by, line_named, next_entry, entry_or_attachment, attached, aligned, align_or_attachment, with_index, next_index, index_or_attachment, is_comma, is_local_kind, starts_line, line_begins, line_within, may_have_phi, next_number, started, line_comma, with_comma, whole_line}
 use Rattle.ir_lexer.specs.declared.token.Kind.TheVariants as kind
-use Rattle.ir_grammar.specs.declared.word.LineStart.TheVariants as start
-use Rattle.ir_grammar.specs.declared.word.LineWord.TheVariants as word_of
-use Rattle.ir_grammar.specs.declared.written.WrittenInst.TheVariants as inst
-use Rattle.ir_grammar.specs.declared.written.WrittenLine.TheVariants as line
+use Rattle.ir_words.specs.declared.word.LineStart.TheVariants as start
+use Rattle.ir_words.specs.declared.word.LineWord.TheVariants as word_of
+use Rattle.ir_words.specs.declared.written.WrittenInst.TheVariants as inst
+use Rattle.ir_words.specs.declared.written.WrittenLine.TheVariants as line
 use Rattle.ir_grammar.specs.Instructions as forms
 use Rattle.read_back.proofs.Spellable.{IsName, IsPhi, IsAccess, IsIndex, IsInst}
 use Rattle.read_back.proofs.FitsForms.{Stands, Gives, GivesParts}

@@ -3,7 +3,7 @@ use Rattle.read_back.proofs.Common.{◌≡◌, ℕ, zero, suc, ◌<◌, ◌≤�
 use Rattle.std.proofs.Common.{All}
 use Rattle.std.proofs.lemmas.Map.Views.{Contains-from_any}
 use Rattle.ir_lexer.specs.declared.token.Kind.TheVariants as kind
-use Rattle.ir_grammar.specs.declared.written.WrittenAccess.TheVariants as access
+use Rattle.ir_words.specs.declared.written.WrittenAccess.TheVariants as access
 use Rattle.read_back.proofs.Spellable.{IsObject, IsAccess, AreFlags}
 use Rattle.read_back.proofs.FitsForms.{Stands, Gives, GivesParts}
 use Rattle.read_back.proofs.FitsOperands.{memory-fits, type-at}

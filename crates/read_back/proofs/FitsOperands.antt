@@ -1,8 +1,8 @@
 -- Operands, types, and the parts of instructions that one token is.
 use Rattle.read_back.proofs.Common.{◌≡◌, ℕ, ◌-◌, ◌<◌, ◌≤◌, ◌^◌, Bool, true, false, cond, List, drop, Option, Some, None, codes, refl, ap, subst, arith, ◌&&◌, ◌==◌, bytes_eq, ltb-true, pow_pos, pow_below, mod_below, Place, Width, Lexeme, Kind, name_of, IrType, Int, Ptr, WrittenType, WrittenValue, WrittenOperand, WrittenLiteral, WrittenTyped, is_negative, magnitude, in_range, wrapped, truth_value, literal_value, literal_of, word_of_type, word_value, number_value, literal_at, operand_at, fits_bits, fits_type, is_memory_type, memory_type_of, memory_type_in, type_in, type_at, is_pointer, pointer_in, operand_class, literal_class, pointer_type, typed, pointer}
 use Rattle.ir_lexer.specs.declared.token.Kind.TheVariants as kind
-use Rattle.ir_grammar.specs.declared.written.WrittenValue.TheVariants as value
-use Rattle.ir_grammar.specs.Spelling.{value_in}
+use Rattle.ir_words.specs.declared.written.WrittenValue.TheVariants as value
+use Rattle.ir_words.specs.Spelling.{value_in}
 use Rattle.read_back.proofs.Spellable.{FitsValue, IsTyped, IsPointer}
 use Rattle.read_back.proofs.FitsForms.{Stands, Gives}
 use Rattle.read_back.proofs.FitsNames.{AreBytes, local-is}

@@ -2,7 +2,7 @@
 use Rattle.read_back.proofs.Common.{◌≡◌, ℕ, zero, suc, ◌+◌, ◌-◌, ◌/◌, ◌%◌, ◌<◌, ◌≤◌, ◌^◌, Bool, true, false, cond, ltb, List, [], ◌∷◌, ◌++◌, length, map, codes, refl, ap, arith, All, decimal, AllByRecursion, flat_map, All-from_recursion, recursion_from_All, Kind, Lexeme, no_place, Name, Flags, Op, Inst, hex_digit, hex_byte, is_plain, is_bare, escaped, quoted, name_text, Piece, spelled, WrittenFunction, named_behind, none, space, line, mark, width_text, word_if, flag_pieces, op_pieces, eight, IsOfBytes}
 use Rattle.ir_tree.specs.declared.name.Name.TheVariants as name
 use Rattle.ir_tree.specs.declared.tree.Op.TheVariants as op
-use Rattle.ir_grammar.specs.declared.written.WrittenValue.TheVariants as written
+use Rattle.ir_words.specs.declared.written.WrittenValue.TheVariants as written
 use Rattle.read_back.proofs.Written.{operand_pieces, inst_pieces, terminator_pieces, body_pieces, parameters_pieces, header_pieces, written_pieces}
 use Rattle.read_back.proofs.MadeNames.{result_name, value_word}
 use Rattle.read_back.proofs.MadeInsts.{IsMade, AreMade}

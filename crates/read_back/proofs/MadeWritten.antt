@@ -1,9 +1,9 @@
 -- A made function as it is written; numbering the names gives the function.
 use Rattle.read_back.proofs.Common.{◌≡◌, ℕ, suc, ◌+◌, ◌<◌, ◌^◌, false, List, [], ◌∷◌, length, codes, Some, refl, sym, ap, ◌∙◌, arith, with_name, number_of, no_place, Name, Int, Op, Local, Inst, Binary, Block, Return, Function, WrittenName, WrittenIntType, WrittenType, WrittenOperand, WrittenParameter, WrittenInst, Value, WrittenFunction, places_of, Numbered, so, ◌>>=◌, each_in, binary_in, inst_in, typed_in, returned_in, parameter_in, block_in, blocks_in, parts_in, numbered, eight, value_name, value, byte_parameter, IsSameFunction, placed}
 use Rattle.ir_tree.specs.declared.name.Name.TheVariants as name
-use Rattle.ir_grammar.specs.declared.written.WrittenValue.TheVariants as written
-use Rattle.ir_grammar.specs.declared.written.WrittenInst.TheVariants as line
-use Rattle.ir_grammar.specs.declared.written.WrittenTerminator.TheVariants as end
+use Rattle.ir_words.specs.declared.written.WrittenValue.TheVariants as written
+use Rattle.ir_words.specs.declared.written.WrittenInst.TheVariants as line
+use Rattle.ir_words.specs.declared.written.WrittenTerminator.TheVariants as end
 use Rattle.read_back.proofs.MadeNames.{result_name, value_word, names_behind, value-number, value-known, result-number, result-new}
 use Rattle.read_back.proofs.MadeInsts.{IsMade, AreMade}
 use Rattle.read_back.proofs.ReadBackPlaces.{same-back}

@@ -3,7 +3,7 @@ use Rattle.read_back.proofs.Common.{◌≡◌, List, [], ◌∷◌, ◌++◌, co
 use Rattle.ir_tree.specs.declared.tree.PhiEntry.{PhiEntry}
 use Rattle.ir_tree.specs.declared.tree.Case.{Case}
 use Rattle.ir_tree.specs.declared.tree.Terminator.{Terminator}
-use Rattle.ir_grammar.specs.declared.written.WrittenTerminator.TheVariants as end
+use Rattle.ir_words.specs.declared.written.WrittenTerminator.TheVariants as end
 use Rattle.ir_printer.specs.Pieces as pieces
 use Rattle.ir_printer.specs.Instructions as printed
 use Rattle.read_back.proofs.Written as written

@@ -1,9 +1,9 @@
 -- Numbering looks at no position.
 use Rattle.read_back.proofs.Common.{◌≡◌, ℕ, List, [], ◌∷◌, map, refl, sym, ap, ◌∙◌, Place, Name, Word, Parameter, Block, Switch, Function, WrittenIndex, WrittenGep, WrittenAccess, WrittenInst, WrittenEntry, WrittenPhi, WrittenCase, WrittenReturn, Void, Value, WrittenTerminator, WrittenBody, WrittenBlock, WrittenParameter, WrittenFunction, NamedParameter, places_of, Numbered, so, ◌>>=◌, number_in, parameter_in, value_in, typed_in, select_in, each_in, alloca_in, load_in, store_in, access_in, index_in, gep_in, inst_in, returned_in, entry_in, phi_in, case_in, switch_in, terminator_in, block_in, labelled_in, others_in, blocks_in, parts_in, function_of, name_or, named_behind, entry_name, numbered, IsSameFunction}
 use Rattle.ir_tree.specs.declared.tree.Inst.TheVariants as tree
-use Rattle.ir_grammar.specs.declared.written.WrittenAccess.TheVariants as access
-use Rattle.ir_grammar.specs.declared.written.WrittenInst.TheVariants as inst
-use Rattle.ir_grammar.specs.declared.written.WrittenTerminator.TheVariants as end
+use Rattle.ir_words.specs.declared.written.WrittenAccess.TheVariants as access
+use Rattle.ir_words.specs.declared.written.WrittenInst.TheVariants as inst
+use Rattle.ir_words.specs.declared.written.WrittenTerminator.TheVariants as end
 use Rattle.read_back.proofs.Placeless.{index_of, gep_of, access_of, inst_of, entry_of, phi_of, case_of, returned_of, terminator_of, body_of, block_of, parameter_of, placeless}
 use Rattle.read_back.proofs.Steps.{PlacelessIsSame}
 

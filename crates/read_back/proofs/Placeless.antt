@@ -1,8 +1,8 @@
 -- A function as it is written, all its parts at one position, with the names that the language gives to what has none.
 use Rattle.read_back.proofs.Common.{ℕ, [], ◌∷◌, Some, map, no_place, WrittenName, WrittenIntType, WrittenType, WrittenReturnType, WrittenOperand, WrittenTyped, WrittenObject, WrittenParameter, WrittenAccess, WrittenIndex, WrittenGep, WrittenInst, WrittenEntry, WrittenPhi, WrittenLiteral, WrittenCase, WrittenReturn, Void, Value, WrittenTerminator, WrittenBody, WrittenBlock, WrittenFunction, NamedParameter, named_behind, entry_name}
-use Rattle.ir_grammar.specs.declared.written.WrittenAccess.TheVariants as access
-use Rattle.ir_grammar.specs.declared.written.WrittenInst.TheVariants as inst
-use Rattle.ir_grammar.specs.declared.written.WrittenTerminator.TheVariants as end
+use Rattle.ir_words.specs.declared.written.WrittenAccess.TheVariants as access
+use Rattle.ir_words.specs.declared.written.WrittenInst.TheVariants as inst
+use Rattle.ir_words.specs.declared.written.WrittenTerminator.TheVariants as end
 
 abbrev pub name_of : WrittenName → WrittenName
 name_of n = record { name = n.name; at = no_place }

@@ -1,10 +1,10 @@
 -- What holds of each function that some tokens spell, apart from those tokens.
 use Rattle.read_back.proofs.Common.{◌≡◌, ◌<◌, ◌≤◌, ◌+◌, ◌^◌, ℕ, List, [], ◌∷◌, length, Bool, true, false, Option, Some, None, All, AllByRecursion, Contains, is_digits, without_zeros, one_bit, alignments, Name, IrType, Int, Ptr, MemoryType, WrittenName, WrittenValue, WrittenTyped, WrittenParameter, GepFlags, WrittenAccess, WrittenIndex, WrittenInst, WrittenEntry, WrittenPhi, WrittenCase, WrittenReturn, Void, Value, WrittenTerminator, WrittenBody, WrittenBlock, WrittenFunction, is_memory_type, is_pointer_type, is_small_object}
 use Rattle.ir_tree.specs.declared.name.Name.TheVariants as name
-use Rattle.ir_grammar.specs.declared.written.WrittenValue.TheVariants as value
-use Rattle.ir_grammar.specs.declared.written.WrittenAccess.TheVariants as access
-use Rattle.ir_grammar.specs.declared.written.WrittenInst.TheVariants as inst
-use Rattle.ir_grammar.specs.declared.written.WrittenTerminator.TheVariants as end
+use Rattle.ir_words.specs.declared.written.WrittenValue.TheVariants as value
+use Rattle.ir_words.specs.declared.written.WrittenAccess.TheVariants as access
+use Rattle.ir_words.specs.declared.written.WrittenInst.TheVariants as inst
+use Rattle.ir_words.specs.declared.written.WrittenTerminator.TheVariants as end
 
 -- digits without leading zeros, or bytes
 abbrev pub IsName : Name → Type 0

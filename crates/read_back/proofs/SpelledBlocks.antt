@@ -1,7 +1,7 @@
 -- Printed blocks are spelled.
 use Rattle.read_back.proofs.Common.{◌≡◌, ℕ, zero, ◌+◌, ◌-◌, ◌<◌, ◌≤◌, Bool, true, false, List, [], ◌∷◌, ◌++◌, map, length, Option, Some, None, refl, sym, ap, subst, ◌∙◌, arith, append_assoc, append-nil, nat_lt, ◌==◌, flat_map, AllByRecursion, lt-ltb, map-append, Place, Name, WrittenName, WrittenPhi, WrittenInst, WrittenLines, WrittenTerminator, WrittenBody, WrittenBlock, WrittenBlocks, is_comma, starts_line, line_begins, line_within, commas, whole_line, next_line, opened, lines, attachments, block, entry_block, begins_block, block_begins, next_block, blocks, never, either, part_begins, Piece, indented}
-use Rattle.ir_grammar.specs.declared.word.LineStart.TheVariants as start
-use Rattle.ir_grammar.specs.declared.written.WrittenLine.TheVariants as line
+use Rattle.ir_words.specs.declared.word.LineStart.TheVariants as start
+use Rattle.ir_words.specs.declared.written.WrittenLine.TheVariants as line
 use Rattle.ir_grammar.specs.Grammar as form
 use Rattle.ir_printer.specs.Pieces as piece
 use Rattle.read_back.proofs.Written.{phi_pieces, inst_pieces, terminator_pieces, body_pieces, block_pieces}

@@ -1,10 +1,10 @@
 -- What single tokens denote that have the bytes of printed names, types, operands and words.
 use Rattle.read_back.proofs.Common.{◌≡◌, ℕ, ◌^◌, ◌<◌, ◌≤◌, Bool, true, false, List, Option, Some, None, refl, sym, ap, ◌∙◌, arith, codes, Contains, bytes_eq, decimal, lt-ltb, Width, Place, is_digits, Lexeme, alignments, Name, IrType, Int, Ptr, Predicate, LineWord, WrittenName, WrittenIntType, WrittenType, WrittenReturnType, WrittenOperand, WrittenValue, WrittenLiteral, value_of, width_of, is_negative, magnitude, wrapped, in_range, or_word, memory_word, inst_word, opcode_named, bits_behind, spelled_width, int_typed_at, is_width, int_type_in, type_in, typed_at, memory_type_in, memory_type_of, is_memory_type, type_at, is_small_object, fits_object, returned_at, int_type, counted_type, memory_type, element_type, pointer_type, bit_type, return_type, operand_class, literal_class, array_length, alignment, predicate_class, line_word, width_text, type_text, predicate_text, return_text}
 use Rattle.ir_tree.specs.declared.tree.Predicate.TheVariants as predicate
-use Rattle.ir_grammar.specs.declared.written.WrittenValue.TheVariants as value
-use Rattle.ir_grammar.specs.Spelling.{is_type}
+use Rattle.ir_words.specs.declared.written.WrittenValue.TheVariants as value
+use Rattle.ir_words.specs.Spelling.{is_type}
 use Rattle.ir_grammar.specs.Classes.{local, global}
-use Rattle.ir_grammar.proofs.Widths.{width_of-bits}
+use Rattle.ir_words.proofs.Widths.{width_of-bits}
 use Rattle.ir_printer.specs.Pieces as piece
 use Rattle.read_back.proofs.Written.{value_piece}
 use Rattle.read_back.proofs.Spellable.{IsName, FitsValue}

@@ -1,7 +1,7 @@
 -- Printed last instructions of blocks are spelled.
 use Rattle.read_back.proofs.Common.{◌≡◌, ℕ, ◌+◌, ◌<◌, ◌≤◌, Bool, true, false, List, [], ◌∷◌, ◌++◌, map, length, Option, Some, None, refl, sym, ap, subst, ◌∙◌, codes, arith, append_assoc, append-nil, is_some, flat_map, AllByRecursion, lt-ltb, and_from, map-append, length-append, Width, Place, no_place, one_bit, Int, TerminatorWord, WrittenName, WrittenIntType, WrittenOperand, WrittenCase, WrittenReturn, Void, Value, WrittenTerminator, int_typed_at, is_width, terminator_word, returned, cond_branch, branch_to, branch, is_type, case_begins, case_within, with_case, cases, switch, return_of, terminator_by, never, part_begins, part_value, Piece, space, indented, comma, width_text}
-use Rattle.ir_grammar.specs.declared.word.TerminatorWord.TheVariants as finish
-use Rattle.ir_grammar.specs.declared.written.WrittenTerminator.TheVariants as end
+use Rattle.ir_words.specs.declared.word.TerminatorWord.TheVariants as finish
+use Rattle.ir_words.specs.declared.written.WrittenTerminator.TheVariants as end
 use Rattle.ir_grammar.specs.Grammar as form
 use Rattle.ir_printer.specs.Pieces as piece
 use Rattle.read_back.proofs.Written.{value_piece, target, case_pieces, returned_pieces, terminator_pieces}

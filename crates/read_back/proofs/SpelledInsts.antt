@@ -2,15 +2,15 @@
 use Rattle.read_back.proofs.Common.{◌≡◌, ℕ, Bool, true, false, List, [], ◌∷◌, ◌++◌, Some, refl, ap, ◌∙◌, codes, bytes_eq, Place, Lexeme, no_place, one_bit, Int, Flags, Op, Cast, Predicate, Opcode, WrittenName, WrittenIntType, WrittenOperand, WrittenTyped, WrittenInst, WrittenLine, wrapping_op, exact_op, or_word, memory_word, inst_word, opcode_named, comparison, wrapping, exact, plain, disjunction, icmp, cast_by, truncate, zero_extend, sign_extend, select, freeze, inst_by, line_named, Form, seq, Piece, space, comma, width_text, word_if, flag_pieces, op_pieces, predicate_text, cast_pieces}
 use Rattle.ir_tree.specs.declared.tree.Op.TheVariants as op
 use Rattle.ir_tree.specs.declared.tree.Cast.TheVariants as cast
-use Rattle.ir_grammar.specs.declared.word.Flag.TheVariants as flag
-use Rattle.ir_grammar.specs.declared.word.WrapWord.{WrapWord}
-use Rattle.ir_grammar.specs.declared.word.WrapWord.TheVariants as wrap
-use Rattle.ir_grammar.specs.declared.word.ExactWord.{ExactWord}
-use Rattle.ir_grammar.specs.declared.word.ExactWord.TheVariants as exact_word
-use Rattle.ir_grammar.specs.declared.word.Opcode.TheVariants as opcode
-use Rattle.ir_grammar.specs.declared.word.LineWord.TheVariants as word_of
-use Rattle.ir_grammar.specs.declared.written.WrittenInst.TheVariants as inst
-use Rattle.ir_grammar.specs.declared.written.WrittenLine.TheVariants as line
+use Rattle.ir_words.specs.declared.word.Flag.TheVariants as flag
+use Rattle.ir_words.specs.declared.word.WrapWord.{WrapWord}
+use Rattle.ir_words.specs.declared.word.WrapWord.TheVariants as wrap
+use Rattle.ir_words.specs.declared.word.ExactWord.{ExactWord}
+use Rattle.ir_words.specs.declared.word.ExactWord.TheVariants as exact_word
+use Rattle.ir_words.specs.declared.word.Opcode.TheVariants as opcode
+use Rattle.ir_words.specs.declared.word.LineWord.TheVariants as word_of
+use Rattle.ir_words.specs.declared.written.WrittenInst.TheVariants as inst
+use Rattle.ir_words.specs.declared.written.WrittenLine.TheVariants as line
 use Rattle.ir_grammar.specs.Instructions.{inst_line}
 use Rattle.ir_printer.specs.Pieces as piece
 use Rattle.read_back.proofs.Written.{value_piece, typed_pieces, operand_pieces}

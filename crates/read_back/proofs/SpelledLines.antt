@@ -1,9 +1,9 @@
 -- Printed lines of instructions are spelled, with what follows their commas.
 use Rattle.read_back.proofs.Common.{◌≡◌, ℕ, true, false, List, [], ◌∷◌, ◌++◌, map, Some, refl, sym, ap, subst, ◌∙◌, codes, append_assoc, append-nil, nat_lt, flat_map, AllByRecursion, Contains, map-append, Place, alignments, Name, Int, LineStart, WrittenName, WrittenObject, WrittenIndex, WrittenGep, WrittenAccess, WrittenInst, WrittenLine, WrittenLines, aligned, align_or_attachment, with_index, next_index, index_or_attachment, line_named, is_comma, line_comma, with_comma, commas, starts_line, line_begins, line_within, may_have_phi, next_number, started, whole_line, with_inst, with_line, next_line, never, part_begins, Piece, space, indented, comma, width_text, type_text, object_pieces, word_if, op_pieces, predicate_text, cast_pieces, align_pieces}
-use Rattle.ir_grammar.specs.declared.word.LineStart.TheVariants as start
-use Rattle.ir_grammar.specs.declared.written.WrittenAccess.TheVariants as access
-use Rattle.ir_grammar.specs.declared.written.WrittenInst.TheVariants as inst
-use Rattle.ir_grammar.specs.declared.written.WrittenLine.TheVariants as line
+use Rattle.ir_words.specs.declared.word.LineStart.TheVariants as start
+use Rattle.ir_words.specs.declared.written.WrittenAccess.TheVariants as access
+use Rattle.ir_words.specs.declared.written.WrittenInst.TheVariants as inst
+use Rattle.ir_words.specs.declared.written.WrittenLine.TheVariants as line
 use Rattle.ir_printer.specs.Pieces as piece
 use Rattle.read_back.proofs.Written.{value_piece, typed_pieces, pointer_pieces, operand_pieces, index_pieces, access_pieces, inst_pieces}
 use Rattle.read_back.proofs.Placeless.{index_of, access_of, gep_of, inst_of}

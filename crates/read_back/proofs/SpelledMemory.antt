@@ -1,8 +1,8 @@
 -- Printed types of objects and instructions on memory are spelled, up to what follows commas.
 use Rattle.read_back.proofs.Common.{◌≡◌, ℕ, suc, ◌+◌, ◌<◌, ◌≤◌, ◌^◌, Bool, true, false, List, [], ◌∷◌, ◌++◌, length, refl, sym, ap, subst, ◌∙◌, codes, arith, append_assoc, append-nil, All, lt-ltb, length-append, WrittenName, WrittenType, WrittenTyped, WrittenObject, WrittenArrays, GepFlags, WrittenGep, WrittenAccess, WrittenLine, is_memory_type, is_square, array_begins, array_within, with_length, arrays, no_gep_flags, behind_flags, closers, alloca_object, is_gep_flag, gep_flags, gep_arrays, gep_object, alloca, load, store, gep, line_named, never, either, Piece, none, space, comma, type_text, array_pieces, closing_pieces, object_pieces, word_if}
-use Rattle.ir_grammar.specs.declared.word.LineWord.TheVariants as word_of
-use Rattle.ir_grammar.specs.declared.written.WrittenAccess.TheVariants as access
-use Rattle.ir_grammar.specs.declared.written.WrittenLine.TheVariants as line
+use Rattle.ir_words.specs.declared.word.LineWord.TheVariants as word_of
+use Rattle.ir_words.specs.declared.written.WrittenAccess.TheVariants as access
+use Rattle.ir_words.specs.declared.written.WrittenLine.TheVariants as line
 use Rattle.ir_printer.specs.Pieces as piece
 use Rattle.read_back.proofs.Written.{typed_pieces, pointer_pieces}
 use Rattle.read_back.proofs.Placeless.{name_of, type_of, typed_of, object_of, access_of, gep_of}

@@ -1,8 +1,8 @@
 -- Printed operands are spelled.
 use Rattle.read_back.proofs.Common.{◌≡◌, ℕ, Bool, true, false, List, [], ◌∷◌, ◌++◌, Some, refl, codes, Place, Lexeme, Int, Ptr, Flags, Op, Width, WrittenIntType, WrittenTyped, WrittenOperand, WrittenName, is_word_of, is_mark_of, flag_text, passed, flag_fits, is_wrap, wraps, flagged_type, typed, pointer, binary, Form, never, one, seq, Piece, space, comma, width_text, word_if, flag_pieces}
 use Rattle.ir_lexer.specs.declared.token.Kind.TheVariants as kind
-use Rattle.ir_grammar.specs.declared.word.Flag.{Flag}
-use Rattle.ir_grammar.specs.declared.written.WrittenInst.TheVariants as inst
+use Rattle.ir_words.specs.declared.word.Flag.{Flag}
+use Rattle.ir_words.specs.declared.written.WrittenInst.TheVariants as inst
 use Rattle.ir_grammar.specs.Classes.{word, mark}
 use Rattle.ir_printer.specs.Pieces as piece
 use Rattle.read_back.proofs.Written.{value_piece, typed_pieces, pointer_pieces}

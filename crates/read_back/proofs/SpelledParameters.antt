@@ -1,6 +1,6 @@
 -- Printed parameters are spelled.
 use Rattle.read_back.proofs.Common.{◌≡◌, ◌+◌, ◌≤◌, Bool, true, false, List, [], ◌∷◌, ◌++◌, map, length, Option, Some, None, refl, sym, ap, subst, ◌∙◌, codes, arith, append_assoc, append-nil, nat_lt, flat_map, AllByRecursion, lt-ltb, map-append, length-append, Place, Name, WrittenName, WrittenType, WrittenParameter, WrittenParameters, is_pointer_type, follows_parameter, parameter_begins, with_part, parameter_parts, first_parameter, parameters, NamedParameter, named, named_behind, never, part_begins, Piece, none, space, comma, type_text, word_if}
-use Rattle.ir_grammar.specs.declared.word.ParameterPart.TheVariants as part
+use Rattle.ir_words.specs.declared.word.ParameterPart.TheVariants as part
 use Rattle.ir_printer.specs.Pieces as piece
 use Rattle.read_back.proofs.Written.{parameter_pieces, parameters_pieces}
 use Rattle.read_back.proofs.Placeless.{name_of, type_of, parameter_of}

@@ -1,8 +1,8 @@
 -- Printed phis are spelled.
 use Rattle.read_back.proofs.Common.{◌≡◌, ℕ, ◌+◌, ◌≤◌, Bool, true, false, List, [], ◌∷◌, ◌++◌, map, length, refl, sym, ap, subst, ◌∙◌, codes, arith, append_assoc, append-nil, nat_lt, flat_map, AllByRecursion, lt-ltb, map-append, length-append, length-map, WrittenName, WrittenType, WrittenEntry, WrittenPhi, WrittenLine, WrittenLines, line_word, entry, phi, with_entry, next_entry, entry_or_attachment, line_named, is_comma, commas, may_have_phi, next_number, whole_line, with_phi, with_line, next_line, never, Piece, space, indented, comma, type_text}
-use Rattle.ir_grammar.specs.declared.word.LineWord.TheVariants as word_of
-use Rattle.ir_grammar.specs.declared.word.LineStart.TheVariants as start
-use Rattle.ir_grammar.specs.declared.written.WrittenLine.TheVariants as line
+use Rattle.ir_words.specs.declared.word.LineWord.TheVariants as word_of
+use Rattle.ir_words.specs.declared.word.LineStart.TheVariants as start
+use Rattle.ir_words.specs.declared.written.WrittenLine.TheVariants as line
 use Rattle.ir_printer.specs.Pieces as piece
 use Rattle.read_back.proofs.Written.{value_piece, entry_pieces, phi_pieces}
 use Rattle.read_back.proofs.Placeless.{name_of, type_of, entry_of, phi_of}

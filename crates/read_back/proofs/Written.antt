@@ -1,10 +1,10 @@
 -- The tokens of a function as it is written, where its parts are printed instead of their numbers.
 use Rattle.read_back.proofs.Common.{ℕ, List, [], ◌∷◌, ◌++◌, flat_map, Width, Name, WrittenName, WrittenValue, WrittenTyped, WrittenAccess, WrittenIndex, WrittenInst, WrittenEntry, WrittenPhi, WrittenCase, WrittenReturn, Void, Value, WrittenTerminator, WrittenBody, WrittenBlock, WrittenFunction, NamedParameter, named_behind, entry_name, Piece, none, space, line, indented, word, mark, number, comma, local, global, label, width_text, type_text, object_pieces, word_if, op_pieces, predicate_text, cast_pieces, align_pieces, return_text}
 use Rattle.std.specs.Prelude.{codes}
-use Rattle.ir_grammar.specs.declared.written.WrittenValue.TheVariants as value
-use Rattle.ir_grammar.specs.declared.written.WrittenAccess.TheVariants as access
-use Rattle.ir_grammar.specs.declared.written.WrittenInst.TheVariants as inst
-use Rattle.ir_grammar.specs.declared.written.WrittenTerminator.TheVariants as end
+use Rattle.ir_words.specs.declared.written.WrittenValue.TheVariants as value
+use Rattle.ir_words.specs.declared.written.WrittenAccess.TheVariants as access
+use Rattle.ir_words.specs.declared.written.WrittenInst.TheVariants as inst
+use Rattle.ir_words.specs.declared.written.WrittenTerminator.TheVariants as end
 
 abbrev pub value_piece : WrittenValue → Piece
 value_piece (value.Local name) = local space name

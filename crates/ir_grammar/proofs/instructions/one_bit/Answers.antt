@@ -1,5 +1,5 @@
 use Rattle.ir_grammar.proofs.Common.{one_bit}
-use Rattle.ir_grammar.proofs.Widths.{same_width}
+use Rattle.ir_words.proofs.Widths.{same_width}
 use Rattle.ir_grammar.proofs.instructions.one_bit.Goals as goal
 
 pub returns : goal.returns

@@ -1,5 +1,5 @@
 use Rattle.ir_grammar.proofs.Common.{◌≡◌, ◌≤◌, List, [], true, length, err_from_is_err_and, Lexeme, Reading, reads, read, shorter, at_start, step-more, step-done, step-fails, step-shorter, is_type, case_begins, case_within, with_case, cases, WrittenIntType}
-use Rattle.ir_grammar.specs.declared.written.WrittenCase.{WrittenCase}
+use Rattle.ir_words.specs.declared.written.WrittenCase.{WrittenCase}
 use Rattle.ir_grammar.proofs.cursor.Cursor.cases.Goals as goal
 
 abbrev part : List WrittenCase → WrittenIntType → List Lexeme → Reading (List WrittenCase)

@@ -1,5 +1,5 @@
 use Rattle.ir_grammar.proofs.Common.{◌≡◌, ◌≤◌, List, true, length, err_from_is_err_and, Lexeme, Reading, reads, read, shorter, at_start, step-more, step-done, step-fails, step-shorter, any, begins_block, block_begins, next_block, other_blocks, WrittenName}
-use Rattle.ir_grammar.specs.declared.written.WrittenBlocks.{WrittenBlocks}
+use Rattle.ir_words.specs.declared.written.WrittenBlocks.{WrittenBlocks}
 use Rattle.ir_grammar.proofs.cursor.Cursor.other_blocks.Goals as goal
 
 abbrev part : WrittenBlocks → WrittenName → List Lexeme → Reading (WrittenBlocks)

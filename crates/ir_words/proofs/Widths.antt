@@ -1,5 +1,5 @@
 -- A width is its number of bits.
-use Rattle.ir_grammar.proofs.Common.{◌≡◌, ℕ, ◌≤◌, ◌^◌, Bool, true, false, leb, ltb, cond, Some, None, refl, sym, ap, subst, ◌∙◌, arith, le-leb, leb-true, lt-ltb, width_when, width_of, some_below}
+use Rattle.ir_words.proofs.Common.{◌≡◌, ℕ, ◌≤◌, ◌^◌, Bool, true, false, leb, ltb, cond, Some, None, refl, sym, ap, subst, ◌∙◌, arith, le-leb, leb-true, lt-ltb, width_when, width_of, some_below}
 use Rattle.std.proofs.Math.Bridge.{le_prop}
 use Rattle.tv_num.specs.declared.Width.{Width}
 

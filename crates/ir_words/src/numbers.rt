@@ -4,8 +4,8 @@ ghost use Rattle.std.specs.List.{list_all, list_any};
 ghost use Rattle.ir_tree.specs.Limits.{alignments};
 ghost use Rattle.ir_lexer.specs.Bytes.{is_digit};
 ghost use Rattle.ir_lexer.specs.Spelling.{is_digits};
-ghost use Rattle.ir_grammar.specs.Numbers.{value_of, some_below, width_of, magnitude, in_range, wrapped, literal_in};
-ghost use Rattle.ir_grammar.specs.Spelling.{is_alignment, is_length};
+ghost use Rattle.ir_words.specs.Numbers.{value_of, some_below, width_of, magnitude, in_range, wrapped, literal_in};
+ghost use Rattle.ir_words.specs.Spelling.{is_alignment, is_length};
 
 use tv_num::Width;
 

@@ -1,15 +1,15 @@
 // What one token means: the word of an instruction, a flag, what begins a line or goes on with a
 // header.
-ghost use Rattle.std.specs.Prelude.{◌≡◌, ◌==◌, ◌||◌, codes};
+ghost use Rattle.std.specs.Prelude.{◌≡◌};
 ghost use Rattle.std.specs.Str.{bytes_eq};
-ghost use Rattle.ir_grammar.specs.Words as spec;
+ghost use Rattle.ir_words.specs.Words as spec;
 
 use crate::written::WrittenName;
 use ir_lexer::{Kind, Token};
 use ir_tree::{Flags, Op, Predicate};
 
 /// An operation with the flags `nuw` and `nsw`.
-#[derive(Clone, Copy, Debug, PartialEq, Eq)]
+#[derive(Clone, Copy)]
 pub enum WrapWord {
     Add,
     Sub,
@@ -18,7 +18,7 @@ pub enum WrapWord {
 }
 
 /// An operation with the flag `exact`.
-#[derive(Clone, Copy, Debug, PartialEq, Eq)]
+#[derive(Clone, Copy)]
 pub enum ExactWord {
     UnsignedDiv,
     SignedDiv,
@@ -27,7 +27,7 @@ pub enum ExactWord {
 }
 
 /// What the word of an instruction names, in the order of the instruction table.
-#[derive(Clone, Copy, Debug, PartialEq, Eq)]
+#[derive(Clone, Copy)]
 pub enum Opcode {
     Wrapping(WrapWord),
     Exact(ExactWord),
@@ -43,7 +43,7 @@ pub enum Opcode {
 }
 
 /// An optional flag before a type or a comparison.
-#[derive(Clone, Copy, Debug, PartialEq, Eq)]
+#[derive(Clone, Copy)]
 pub enum Flag {
     Exact,
     Disjoint,
@@ -53,7 +53,7 @@ pub enum Flag {
 
 /// What follows the name of a result: the word of a phi, of an instruction that an alignment
 /// or indices may follow, or of another instruction.
-#[derive(Clone, Copy, Debug, PartialEq, Eq)]
+#[derive(Clone, Copy)]
 pub enum LineWord {
     Phi,
     Alloca,
@@ -63,7 +63,7 @@ pub enum LineWord {
 }
 
 /// The word of the last instruction of a block.
-#[derive(Clone, Copy, Debug, PartialEq, Eq)]
+#[derive(Clone, Copy)]
 pub enum TerminatorWord {
     Return,
     Branch,
@@ -94,12 +94,34 @@ pub enum ParameterPart {
 
 /// What follows the parameters: a word or a number of attributes, `comdat`, the mark before
 /// its name, or `!dbg`.
-#[derive(Clone, Copy, Debug, PartialEq, Eq)]
+#[derive(Clone, Copy)]
 pub enum HeaderPart {
     Attribute,
     Comdat,
     Opening,
     Debug,
+}
+
+/// Whether a text is this word or mark. A comparison that is written out makes the check of the
+/// function around it take longer, twice to five times as long.
+pub fn is_spelled(text: &[u8], word: &[u8]) -> bool
+    ensures { result ≡ bytes_eq text.now word.now }
+{
+    text == word
+}
+
+/// Whether a token is this word.
+pub fn is_word(token: &Token, word: &[u8]) -> bool
+    ensures { result ≡ spec.is_word_of token.now.kind token.now.text word.now }
+{
+    token.kind() == Kind::Word && token.text() == word
+}
+
+/// Whether a token is this mark.
+pub fn is_mark(token: &Token, mark: &[u8]) -> bool
+    ensures { result ≡ spec.is_mark_of token.now.kind token.now.text mark.now }
+{
+    token.kind() == Kind::Mark && token.text() == mark
 }
 
 /// The operation with these flags.
@@ -129,51 +151,67 @@ pub fn exact_op(word: ExactWord, exact: bool) -> Op
 fn flagged_word(text: &[u8]) -> Option<Opcode>
     ensures { result ≡ spec.flagged_word text.now }
 {
-    match text {
-        b"add" => Some(Opcode::Wrapping(WrapWord::Add)),
-        b"sub" => Some(Opcode::Wrapping(WrapWord::Sub)),
-        b"mul" => Some(Opcode::Wrapping(WrapWord::Mul)),
-        b"udiv" => Some(Opcode::Exact(ExactWord::UnsignedDiv)),
-        b"sdiv" => Some(Opcode::Exact(ExactWord::SignedDiv)),
-        b"shl" => Some(Opcode::Wrapping(WrapWord::ShiftLeft)),
-        b"lshr" => Some(Opcode::Exact(ExactWord::LogicalShiftRight)),
-        b"ashr" => Some(Opcode::Exact(ExactWord::ArithmeticShiftRight)),
-        _ => None,
+    if is_spelled(text, b"add".as_slice()) {
+        Some(Opcode::Wrapping(WrapWord::Add))
+    } else if is_spelled(text, b"sub".as_slice()) {
+        Some(Opcode::Wrapping(WrapWord::Sub))
+    } else if is_spelled(text, b"mul".as_slice()) {
+        Some(Opcode::Wrapping(WrapWord::Mul))
+    } else if is_spelled(text, b"udiv".as_slice()) {
+        Some(Opcode::Exact(ExactWord::UnsignedDiv))
+    } else if is_spelled(text, b"sdiv".as_slice()) {
+        Some(Opcode::Exact(ExactWord::SignedDiv))
+    } else if is_spelled(text, b"shl".as_slice()) {
+        Some(Opcode::Wrapping(WrapWord::ShiftLeft))
+    } else if is_spelled(text, b"lshr".as_slice()) {
+        Some(Opcode::Exact(ExactWord::LogicalShiftRight))
+    } else if is_spelled(text, b"ashr".as_slice()) {
+        Some(Opcode::Exact(ExactWord::ArithmeticShiftRight))
+    } else {
+        None
     }
 }
 
 fn plain_word(text: &[u8]) -> Option<Opcode>
     ensures { result ≡ spec.plain_word text.now }
 {
-    match text {
-        b"urem" => Some(Opcode::Plain(Op::UnsignedRem)),
-        b"srem" => Some(Opcode::Plain(Op::SignedRem)),
-        b"and" => Some(Opcode::Plain(Op::And)),
-        b"or" => Some(Opcode::Or),
-        b"xor" => Some(Opcode::Plain(Op::Xor)),
-        _ => None,
+    if is_spelled(text, b"urem".as_slice()) {
+        Some(Opcode::Plain(Op::UnsignedRem))
+    } else if is_spelled(text, b"srem".as_slice()) {
+        Some(Opcode::Plain(Op::SignedRem))
+    } else if is_spelled(text, b"and".as_slice()) {
+        Some(Opcode::Plain(Op::And))
+    } else if is_spelled(text, b"or".as_slice()) {
+        Some(Opcode::Or)
+    } else if is_spelled(text, b"xor".as_slice()) {
+        Some(Opcode::Plain(Op::Xor))
+    } else {
+        None
     }
 }
 
 fn cast_word(text: &[u8]) -> Option<Opcode>
     ensures { result ≡ spec.cast_word text.now }
 {
-    match text {
-        b"trunc" => Some(Opcode::Truncate),
-        b"zext" => Some(Opcode::ZeroExtend),
-        b"sext" => Some(Opcode::SignExtend),
-        _ => None,
+    if is_spelled(text, b"trunc".as_slice()) {
+        Some(Opcode::Truncate)
+    } else if is_spelled(text, b"zext".as_slice()) {
+        Some(Opcode::ZeroExtend)
+    } else if is_spelled(text, b"sext".as_slice()) {
+        Some(Opcode::SignExtend)
+    } else {
+        None
     }
 }
 
 fn other_word(text: &[u8]) -> Option<Opcode>
     ensures { result ≡ spec.other_word text.now }
 {
-    if text == b"icmp".as_slice() {
+    if is_spelled(text, b"icmp".as_slice()) {
         Some(Opcode::Icmp)
-    } else if text == b"select".as_slice() {
+    } else if is_spelled(text, b"select".as_slice()) {
         Some(Opcode::Select)
-    } else if text == b"freeze".as_slice() {
+    } else if is_spelled(text, b"freeze".as_slice()) {
         Some(Opcode::Freeze)
     } else {
         None
@@ -205,20 +243,14 @@ fn opcode_of(token: &Token) -> Option<Opcode>
     }
 }
 
-fn is_phi(token: &Token) -> bool
-    ensures { result ≡ spec.is_word_of token.now.kind token.now.text (codes "phi") }
-{
-    token.kind() == Kind::Word && token.text() == b"phi".as_slice()
-}
-
 fn memory_word(text: &[u8]) -> Option<LineWord>
     ensures { result ≡ spec.memory_word text.now }
 {
-    if text == b"alloca".as_slice() {
+    if is_spelled(text, b"alloca".as_slice()) {
         Some(LineWord::Alloca)
-    } else if text == b"load".as_slice() {
+    } else if is_spelled(text, b"load".as_slice()) {
         Some(LineWord::Load)
-    } else if text == b"getelementptr".as_slice() {
+    } else if is_spelled(text, b"getelementptr".as_slice()) {
         Some(LineWord::GetElementPtr)
     } else {
         None
@@ -239,7 +271,7 @@ fn memory_word_of(token: &Token) -> Option<LineWord>
 pub fn line_word_of(token: &Token, phi_too: bool) -> Option<LineWord>
     ensures { result ≡ spec.line_word_of phi_too token.now.kind token.now.text }
 {
-    if phi_too && is_phi(token) {
+    if phi_too && is_word(token, b"phi".as_slice()) {
         return Some(LineWord::Phi);
     }
     if let Some(word) = memory_word_of(token) {
@@ -254,13 +286,13 @@ pub fn line_word_of(token: &Token, phi_too: bool) -> Option<LineWord>
 fn terminator_named(text: &[u8]) -> Option<TerminatorWord>
     ensures { result ≡ spec.terminator_named text.now }
 {
-    if text == b"ret".as_slice() {
+    if is_spelled(text, b"ret".as_slice()) {
         Some(TerminatorWord::Return)
-    } else if text == b"br".as_slice() {
+    } else if is_spelled(text, b"br".as_slice()) {
         Some(TerminatorWord::Branch)
-    } else if text == b"switch".as_slice() {
+    } else if is_spelled(text, b"switch".as_slice()) {
         Some(TerminatorWord::Switch)
-    } else if text == b"unreachable".as_slice() {
+    } else if is_spelled(text, b"unreachable".as_slice()) {
         Some(TerminatorWord::Unreachable)
     } else {
         None
@@ -277,21 +309,40 @@ pub fn terminator_of(token: &Token) -> Option<TerminatorWord>
     }
 }
 
+fn predicate_named(text: &[u8]) -> Option<Predicate>
+    ensures { result ≡ spec.predicate_named text.now }
+{
+    if is_spelled(text, b"eq".as_slice()) {
+        Some(Predicate::Equal)
+    } else if is_spelled(text, b"ne".as_slice()) {
+        Some(Predicate::NotEqual)
+    } else if is_spelled(text, b"ugt".as_slice()) {
+        Some(Predicate::UnsignedGreater)
+    } else if is_spelled(text, b"uge".as_slice()) {
+        Some(Predicate::UnsignedGreaterOrEqual)
+    } else if is_spelled(text, b"ult".as_slice()) {
+        Some(Predicate::UnsignedLess)
+    } else if is_spelled(text, b"ule".as_slice()) {
+        Some(Predicate::UnsignedLessOrEqual)
+    } else if is_spelled(text, b"sgt".as_slice()) {
+        Some(Predicate::SignedGreater)
+    } else if is_spelled(text, b"sge".as_slice()) {
+        Some(Predicate::SignedGreaterOrEqual)
+    } else if is_spelled(text, b"slt".as_slice()) {
+        Some(Predicate::SignedLess)
+    } else if is_spelled(text, b"sle".as_slice()) {
+        Some(Predicate::SignedLessOrEqual)
+    } else {
+        None
+    }
+}
+
 /// The comparison that the token names, if it names one.
 pub fn predicate_of(token: &Token) -> Option<Predicate>
     ensures { result ≡ spec.predicate_of token.now.kind token.now.text }
 {
-    match (token.kind(), token.text()) {
-        (Kind::Word, b"eq") => Some(Predicate::Equal),
-        (Kind::Word, b"ne") => Some(Predicate::NotEqual),
-        (Kind::Word, b"ugt") => Some(Predicate::UnsignedGreater),
-        (Kind::Word, b"uge") => Some(Predicate::UnsignedGreaterOrEqual),
-        (Kind::Word, b"ult") => Some(Predicate::UnsignedLess),
-        (Kind::Word, b"ule") => Some(Predicate::UnsignedLessOrEqual),
-        (Kind::Word, b"sgt") => Some(Predicate::SignedGreater),
-        (Kind::Word, b"sge") => Some(Predicate::SignedGreaterOrEqual),
-        (Kind::Word, b"slt") => Some(Predicate::SignedLess),
-        (Kind::Word, b"sle") => Some(Predicate::SignedLessOrEqual),
+    match token.kind() {
+        Kind::Word => predicate_named(token.text()),
         _ => None,
     }
 }
@@ -299,39 +350,33 @@ pub fn predicate_of(token: &Token) -> Option<Predicate>
 fn is_linkage(text: &[u8]) -> bool
     ensures { result ≡ spec.is_linkage text.now }
 {
-    text == b"private".as_slice()
-        || text == b"internal".as_slice()
-        || text == b"external".as_slice()
-        || text == b"available_externally".as_slice()
-        || text == b"linkonce".as_slice()
-        || text == b"weak".as_slice()
-        || text == b"linkonce_odr".as_slice()
-        || text == b"weak_odr".as_slice()
+    is_spelled(text, b"private".as_slice())
+        || is_spelled(text, b"internal".as_slice())
+        || is_spelled(text, b"external".as_slice())
+        || is_spelled(text, b"available_externally".as_slice())
+        || is_spelled(text, b"linkonce".as_slice())
+        || is_spelled(text, b"weak".as_slice())
+        || is_spelled(text, b"linkonce_odr".as_slice())
+        || is_spelled(text, b"weak_odr".as_slice())
 }
 
 fn is_visibility(text: &[u8]) -> bool
     ensures { result ≡ spec.is_visibility text.now }
 {
-    text == b"default".as_slice()
-        || text == b"hidden".as_slice()
-        || text == b"protected".as_slice()
-        || text == b"dso_local".as_slice()
-        || text == b"ccc".as_slice()
-        || text == b"fastcc".as_slice()
-        || text == b"zeroext".as_slice()
-        || text == b"signext".as_slice()
-}
-
-fn is_noundef(text: &[u8]) -> bool
-    ensures { result ≡ bytes_eq text.now (codes "noundef") }
-{
-    text == b"noundef".as_slice()
+    is_spelled(text, b"default".as_slice())
+        || is_spelled(text, b"hidden".as_slice())
+        || is_spelled(text, b"protected".as_slice())
+        || is_spelled(text, b"dso_local".as_slice())
+        || is_spelled(text, b"ccc".as_slice())
+        || is_spelled(text, b"fastcc".as_slice())
+        || is_spelled(text, b"zeroext".as_slice())
+        || is_spelled(text, b"signext".as_slice())
 }
 
 fn prefix_named(text: &[u8], so_far: bool) -> Option<bool>
     ensures { result ≡ spec.prefix_named text.now so_far }
 {
-    if is_noundef(text) {
+    if is_spelled(text, b"noundef".as_slice()) {
         return Some(true);
     }
     if is_linkage(text) || is_visibility(text) {

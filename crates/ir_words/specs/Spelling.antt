@@ -17,24 +17,24 @@ use Rattle.ir_tree.specs.declared.module.Reason.TheVariants.{Limit}
 use Rattle.ir_tree.specs.Types.{one_bit, nested_size}
 use Rattle.ir_tree.specs.Limits.{alignments}
 use Rattle.ir_items.specs.Names.{name_in}
-use Rattle.ir_grammar.specs.declared.written.WrittenName.{WrittenName}
-use Rattle.ir_grammar.specs.declared.written.WrittenIntType.{WrittenIntType}
-use Rattle.ir_grammar.specs.declared.written.WrittenType.{WrittenType}
-use Rattle.ir_grammar.specs.declared.written.WrittenReturnType.{WrittenReturnType}
-use Rattle.ir_grammar.specs.declared.written.GepFlags.{GepFlags}
-use Rattle.ir_grammar.specs.declared.written.WrittenValue.{WrittenValue}
-use Rattle.ir_grammar.specs.declared.written.WrittenValue.TheVariants as value
-use Rattle.ir_grammar.specs.declared.written.WrittenOperand.{WrittenOperand}
-use Rattle.ir_grammar.specs.declared.written.WrittenLiteral.{WrittenLiteral}
-use Rattle.ir_grammar.specs.declared.word.LineStart.{LineStart}
-use Rattle.ir_grammar.specs.declared.word.LineStart.TheVariants as start
-use Rattle.ir_grammar.specs.declared.word.ParameterPart.{ParameterPart}
-use Rattle.ir_grammar.specs.declared.word.ParameterPart.TheVariants as part
-use Rattle.ir_grammar.specs.declared.word.HeaderPart.{HeaderPart}
-use Rattle.ir_grammar.specs.declared.word.HeaderPart.TheVariants as header
-use Rattle.ir_grammar.specs.Words.{is_word_of}
-use Rattle.ir_grammar.specs.Reasons.{type_reason}
-use Rattle.ir_grammar.specs.Numbers.{value_of, width_of, is_negative, magnitude, in_range, wrapped}
+use Rattle.ir_words.specs.declared.written.WrittenName.{WrittenName}
+use Rattle.ir_words.specs.declared.written.WrittenIntType.{WrittenIntType}
+use Rattle.ir_words.specs.declared.written.WrittenType.{WrittenType}
+use Rattle.ir_words.specs.declared.written.WrittenReturnType.{WrittenReturnType}
+use Rattle.ir_words.specs.declared.written.GepFlags.{GepFlags}
+use Rattle.ir_words.specs.declared.written.WrittenValue.{WrittenValue}
+use Rattle.ir_words.specs.declared.written.WrittenValue.TheVariants as value
+use Rattle.ir_words.specs.declared.written.WrittenOperand.{WrittenOperand}
+use Rattle.ir_words.specs.declared.written.WrittenLiteral.{WrittenLiteral}
+use Rattle.ir_words.specs.declared.word.LineStart.{LineStart}
+use Rattle.ir_words.specs.declared.word.LineStart.TheVariants as start
+use Rattle.ir_words.specs.declared.word.ParameterPart.{ParameterPart}
+use Rattle.ir_words.specs.declared.word.ParameterPart.TheVariants as part
+use Rattle.ir_words.specs.declared.word.HeaderPart.{HeaderPart}
+use Rattle.ir_words.specs.declared.word.HeaderPart.TheVariants as header
+use Rattle.ir_words.specs.Words.{is_word_of}
+use Rattle.ir_words.specs.Reasons.{type_reason}
+use Rattle.ir_words.specs.Numbers.{value_of, width_of, is_negative, magnitude, in_range, wrapped}
 
 -- ---- names
 

@@ -1,6 +1,6 @@
-use Rattle.ir_grammar.proofs.Common.{◌^◌, sym, ◌∙◌, arith, value_of}
-use Rattle.ir_grammar.proofs.Widths.{width_of-bits, width_of-past, width_of-out, some_below-is}
-use Rattle.ir_grammar.proofs.numbers.width.Goals as goal
+use Rattle.ir_words.proofs.Common.{◌^◌, sym, ◌∙◌, arith, value_of}
+use Rattle.ir_words.proofs.Widths.{width_of-bits, width_of-past, width_of-out, some_below-is}
+use Rattle.ir_words.proofs.numbers.width.Goals as goal
 
 pub returns-in_default : goal.returns-in_default
 returns-in_default c = width_of-past (value_of c.args.digits.now) c.in_default.ensures

@@ -1,5 +1,5 @@
 -- The number of digits, from the left.
-use Rattle.ir_grammar.proofs.Common.{◌≡◌, ℕ, ◌+◌, ◌-◌, ◌*◌, ◌<◌, ◌≤◌, ◌^◌, List, [], ◌∷◌, length, get_or, drop, Some, None, refl, sym, ap, ◌∙◌, add-one, arith, drop-cons, le-ltb, lt-ltb, value_after, value_of, some_below}
+use Rattle.ir_words.proofs.Common.{◌≡◌, ℕ, ◌+◌, ◌-◌, ◌*◌, ◌<◌, ◌≤◌, ◌^◌, List, [], ◌∷◌, length, get_or, drop, Some, None, refl, sym, ap, ◌∙◌, add-one, arith, drop-cons, le-ltb, lt-ltb, value_after, value_of, some_below}
 use Rattle.std.proofs.lemmas.List.{drop_all}
 
 pub value_after-ge : (v : ℕ) (ds : List ℕ) → v ≤ value_after v ds

@@ -8,18 +8,18 @@ use Rattle.ir_tree.specs.declared.tree.Op.{Op}
 use Rattle.ir_tree.specs.declared.tree.Op.TheVariants as op
 use Rattle.ir_tree.specs.declared.tree.Predicate.{Predicate}
 use Rattle.ir_tree.specs.declared.tree.Predicate.TheVariants as predicate
-use Rattle.ir_grammar.specs.declared.word.WrapWord.{WrapWord}
-use Rattle.ir_grammar.specs.declared.word.WrapWord.TheVariants as wrap
-use Rattle.ir_grammar.specs.declared.word.ExactWord.{ExactWord}
-use Rattle.ir_grammar.specs.declared.word.ExactWord.TheVariants as exact
-use Rattle.ir_grammar.specs.declared.word.Opcode.{Opcode}
-use Rattle.ir_grammar.specs.declared.word.Opcode.TheVariants as opcode
-use Rattle.ir_grammar.specs.declared.word.LineWord.{LineWord}
-use Rattle.ir_grammar.specs.declared.word.LineWord.TheVariants as line
-use Rattle.ir_grammar.specs.declared.word.TerminatorWord.{TerminatorWord}
-use Rattle.ir_grammar.specs.declared.word.TerminatorWord.TheVariants as finish
-use Rattle.ir_grammar.specs.declared.word.Flag.{Flag}
-use Rattle.ir_grammar.specs.declared.word.Flag.TheVariants as flag
+use Rattle.ir_words.specs.declared.word.WrapWord.{WrapWord}
+use Rattle.ir_words.specs.declared.word.WrapWord.TheVariants as wrap
+use Rattle.ir_words.specs.declared.word.ExactWord.{ExactWord}
+use Rattle.ir_words.specs.declared.word.ExactWord.TheVariants as exact
+use Rattle.ir_words.specs.declared.word.Opcode.{Opcode}
+use Rattle.ir_words.specs.declared.word.Opcode.TheVariants as opcode
+use Rattle.ir_words.specs.declared.word.LineWord.{LineWord}
+use Rattle.ir_words.specs.declared.word.LineWord.TheVariants as line
+use Rattle.ir_words.specs.declared.word.TerminatorWord.{TerminatorWord}
+use Rattle.ir_words.specs.declared.word.TerminatorWord.TheVariants as finish
+use Rattle.ir_words.specs.declared.word.Flag.{Flag}
+use Rattle.ir_words.specs.declared.word.Flag.TheVariants as flag
 
 -- whether a token of a kind is spelled so
 abbrev pub is_word_of : Kind → List ℕ → List ℕ → Bool

@@ -1,5 +1,5 @@
-use Rattle.ir_grammar.proofs.Common.{◌≡◌, ◌^◌, ◌<◌, drop, value_of, value_after}
-use Rattle.ir_grammar.proofs.numbers.number.Given as goal
+use Rattle.ir_words.proofs.Common.{◌≡◌, ◌^◌, ◌<◌, drop, value_of, value_after}
+use Rattle.ir_words.proofs.numbers.number.Given as goal
 
 abbrev pub invariant-loop-digit : goal.invariant-loop-digit
 invariant-loop-digit l = record {

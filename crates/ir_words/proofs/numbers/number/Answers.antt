@@ -1,6 +1,6 @@
-use Rattle.ir_grammar.proofs.Common.{◌∙◌, sym, arith}
-use Rattle.ir_grammar.proofs.Digits.{too_large, below}
-use Rattle.ir_grammar.proofs.numbers.number.Goals as goal
+use Rattle.ir_words.proofs.Common.{◌∙◌, sym, arith}
+use Rattle.ir_words.proofs.Digits.{too_large, below}
+use Rattle.ir_words.proofs.numbers.number.Goals as goal
 
 pub returns-in_err-checked_mul : goal.returns-in_err-checked_mul
 returns-in_err-checked_mul c =

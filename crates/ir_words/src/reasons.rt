@@ -1,16 +1,19 @@
 // The reason at a token that isn't allowed where it is.
 ghost use Rattle.std.specs.Prelude.{◌≡◌};
-ghost use Rattle.ir_grammar.specs.Reasons.{is_type_mark, reason, type_reason};
-ghost use Rattle.ir_grammar.specs.Spelling.{width_reason};
+ghost use Rattle.ir_words.specs.Reasons.{is_type_mark, reason, type_reason};
+ghost use Rattle.ir_words.specs.Spelling.{width_reason};
 
-use crate::cursor::width_in;
+use crate::values::width_in;
+use crate::word::is_spelled;
 use ir_lexer::{Kind, Token};
 use ir_tree::Reason;
 
 fn is_type_mark(text: &[u8]) -> bool
     ensures { result ≡ is_type_mark text.now }
 {
-    text == b"<".as_slice() || text == b"{".as_slice() || text == b"...".as_slice()
+    is_spelled(text, b"<".as_slice())
+        || is_spelled(text, b"{".as_slice())
+        || is_spelled(text, b"...".as_slice())
 }
 
 /// The reason at a token that isn't allowed.
