@@ -1,5 +1,3 @@
-use Rattle.std.proofs.Common.{◌≡◌, ◌∙◌, IfOk, Ok}
-use Rattle.std.proofs.lemmas.Result.{IfOk-weaker}
 use Rattle.tv_run.proofs.Named.{judgeable_module}
 use Rattle.tv_run.proofs.check.report_of.Goals as goal
 
