@@ -19,7 +19,7 @@ all_append P (x ∷ xs) ys h k = (h.0, all_append P xs ys h.1 k)
 pub none≢some : {X : Type 0} (x : X) → None ≡ Some x → ⊥
 none≢some x e = true≢false (sym (ap (λ o. is_some o) e))
 
-named_judgeable : (targets : List Entry) (name : Name) → AllByRecursion IsJudgeableEntry targets → NamedJudgeable (function_named targets name)
+pub named_judgeable : (targets : List Entry) (name : Name) → AllByRecursion IsJudgeableEntry targets → NamedJudgeable (function_named targets name)
 named_judgeable [] name all = λ f e. absurd (none≢some (Ok f) e)
 named_judgeable (t ∷ ts) name all = go (same_name name t.name) (named_judgeable ts name all.1)
   where

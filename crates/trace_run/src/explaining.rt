@@ -8,7 +8,7 @@ ghost use Rattle.trace_run.specs.Explanations.{AreRuns, AreRunsOf, CanBeExplaine
 
 use ir_tree::{Entry, Module};
 use module_rows::{OneRow, row_of};
-use pair_judge::{Real, answers_are_verdicts};
+use pair_judge::Real;
 use pair_trace::{difference_of, trace_pair};
 use points::{Bounds, Point};
 use report::{Finding, push_row, status_of};
@@ -37,8 +37,7 @@ pub fn explanation_of(
     requires target_judgeable { AllByRecursion IsJudgeableEntry target.now.entries }
     ensures { IfOk result (λ e. IsExplanation judge.now.bounds judge.now.budget target.now.entries source.now e.text.items e.status) }
 {
-    // The laws that an incorrect row shows a counterexample; they do nothing.
-    answers_are_verdicts();
+    // The law that no run of the source allows what an incorrect row shows; it does nothing.
     incorrect_fails();
     let OneRow { row, pair } = row_of(alloc, judge, source, target)?;
     let mut rows = Vec::new(alloc);
