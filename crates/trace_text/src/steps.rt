@@ -1,5 +1,5 @@
 // The line of a step.
-ghost use Rattle.std.specs.Prelude.{◌≡◌, ◌++◌, OnOk, slice_get, Some};
+ghost use Rattle.std.specs.Prelude.{◌≡◌, ◌++◌, OnOk, IfSome, IfNone, slice_get, Some, None};
 ghost use Rattle.trace_text.specs.TraceText.{result_type, parameter_step, phi_step, inst_step, end_step, is_first, heading, step_in, block_step, missing_step, step_text};
 
 use crate::notes::{push_notes, push_reason, push_result_notes};
@@ -132,6 +132,30 @@ fn push_step_in(
     }
 }
 
+/// A step of a block, after its label where it is the block's first.
+fn push_step_of(
+    alloc: Global,
+    out: &mut Vec<u8>,
+    names: &Names,
+    first: u64,
+    block: &Block,
+    step: &Step,
+) -> Result<(), NoMemory>
+    ensures { OnOk result (out.new.items ≡ out.old.items ++ block_step names.now first (Some block.now) step.now) }
+{
+    push_heading(out, names, block, step.site)?;
+    push_step_in(alloc, out, names, first, block, step)?;
+    Ok(())
+}
+
+/// The block at an index in text order.
+fn block_at(f: &Function, index: usize) -> Option<&Block>
+    ensures found { IfSome result (λ block. slice_get f.now.blocks index ≡ Some block.now) }
+    ensures none { IfNone result (slice_get f.now.blocks index ≡ None) }
+{
+    f.blocks.as_slice().get(index)
+}
+
 fn push_block_step(
     alloc: Global,
     out: &mut Vec<u8>,
@@ -141,11 +165,8 @@ fn push_block_step(
 ) -> Result<(), NoMemory>
     ensures { OnOk result (out.new.items ≡ out.old.items ++ block_step f.now.names first (slice_get f.now.blocks step.now.block) step.now) }
 {
-    match f.blocks.as_slice().get(step.block) {
-        Some(block) => {
-            push_heading(out, &f.names, block, step.site)?;
-            push_step_in(alloc, out, &f.names, first, block, step)
-        }
+    match block_at(f, step.block) {
+        Some(block) => push_step_of(alloc, out, &f.names, first, block, step),
         None => Ok(()),
     }
 }
@@ -154,7 +175,8 @@ fn push_missing_step(out: &mut Vec<u8>, step: &Step) -> Result<(), NoMemory>
     ensures { OnOk result (out.new.items ≡ out.old.items ++ missing_step step.now) }
 {
     out.extend_from_slice(b"\n  no block")?;
-    push_reason(out, step.reason)
+    push_reason(out, step.reason)?;
+    Ok(())
 }
 
 /// A step of a run, its first choice with this index.
