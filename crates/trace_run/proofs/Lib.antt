@@ -1,2 +1,2 @@
-mod Explaining
+mod Explained
 mod Answering
