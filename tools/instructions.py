@@ -3,7 +3,8 @@
 
 Each section of that page has a line `Names: ..` and tables of files. Each of the section's names has to
 occur as a word in each file of its tables; where the last column of a row lists names, those have to. It
-also looks for files of the product that have all names of a section and are in none of its tables.
+also looks for files of the product that have all names of a section and are in none of its tables, but for
+those that pass imports on (`Common.antt`).
 
     python3 tools/instructions.py      status 1, with the missing pairs named, if the page is wrong
 """
@@ -48,7 +49,7 @@ def product_files():
             folder = ROOT / "crates" / line.split(":")[0]
             for kind in ("src", "specs", "proofs"):
                 for path in sorted((folder / kind).rglob("*")):
-                    if path.suffix in (".rt", ".antt"):
+                    if path.suffix in (".rt", ".antt") and path.name != "Common.antt":
                         yield path
 
 

@@ -1,5 +1,7 @@
 -- The pairs that are judged: the judge takes each of them, and there are no more of them than functions.
-use Rattle.module_rows.proofs.Common.{◌≡◌, ℕ, ◌+◌, ◌-◌, ◌*◌, ◌^◌, ◌<◌, ◌≤◌, arith, refl, List, [], ◌∷◌, ◌++◌, length, length-append, Option, Some, None, Result, Ok, Err, Bool, true, false, true≢false, sym, ap, is_some, if◌then◌else◌, AllByRecursion, Name, Function, Refused, Entry, same_name, IsJudgeable, IsJudgeableEntry, Functions, same_signature, CanBeJudged, function_named, pairs_in, judged_pairs, same_Some}
+use Rattle.module_rows.proofs.Common.{◌≡◌, ℕ, ◌+◌, ◌-◌, ◌*◌, ◌^◌, ◌<◌, ◌≤◌, arith, refl, List, [], ◌∷◌, ◌++◌, length, length-append, Option, Some, None, Result, Ok, Err, Bool, true, false, true≢false, sym, ap, is_some, if◌then◌else◌, AllByRecursion, Name, Function, Refused, Entry, same_name, IsJudgeable, IsJudgeableEntry, Functions, same_signature, CanBeJudged, function_named, pairs_in, judged_pairs, subst, same_Some}
+use Rattle.std.specs.Prelude.{IfSome}
+use Rattle.module_rows.specs.Judging.{listed}
 use Rattle.std.proofs.Math.Nat.{mul-le-mul_left}
 
 -- ---- the judge takes them
@@ -17,7 +19,7 @@ all_append P (x ∷ xs) ys h k = (h.0, all_append P xs ys h.1 k)
 pub none≢some : {X : Type 0} (x : X) → None ≡ Some x → ⊥
 none≢some x e = true≢false (sym (ap (λ o. is_some o) e))
 
-named_judgeable : (targets : List Entry) (name : Name) → AllByRecursion IsJudgeableEntry targets → NamedJudgeable (function_named targets name)
+pub named_judgeable : (targets : List Entry) (name : Name) → AllByRecursion IsJudgeableEntry targets → NamedJudgeable (function_named targets name)
 named_judgeable [] name all = λ f e. absurd (none≢some (Ok f) e)
 named_judgeable (t ∷ ts) name all = go (same_name name t.name) (named_judgeable ts name all.1)
   where
@@ -54,6 +56,13 @@ pairs_judged targets [] all each = tt
 pairs_judged targets (s ∷ ss) all each =
     all_append CanBeJudged (pairs_in s.function (function_named targets s.name)) (judged_pairs targets ss)
     (pair_judged s.function (function_named targets s.name) each.0 (named_judgeable targets s.name all)) (pairs_judged targets ss all each.1)
+
+-- so does it the one pair of a function, where there is one
+pub listed_judged : (targets : List Entry) (source : Entry) (found : Option Functions) → AllByRecursion IsJudgeableEntry targets → IsJudgeableEntry source
+    → pairs_in source.function (function_named targets source.name) ≡ listed found → IfSome found CanBeJudged
+listed_judged targets source None all one is = tt
+listed_judged targets source (Some pair) all one is =
+    (subst (λ (ps : List Functions). AllByRecursion CanBeJudged ps) is (pair_judged source.function (function_named targets source.name) one (named_judgeable targets source.name all))).0
 
 -- ---- how many there are
 

@@ -3,11 +3,13 @@
 //!
 //! It promises that the rows are those of the report, in its order: a pair of functions with one name and
 //! one signature has the verdict of its own answer, and a function that can't be judged has the row that
-//! says why. It builds on `pair_driver` and `pair_judge`, which judge the pairs, and on `replay`,
-//! which shows a counterexample; `tv_run` uses it.
+//! says why; [`row_of`] is the row of one function alone. It builds on `pair_driver` and `pair_judge`, which judge the pairs, and on `replay`,
+//! which shows a counterexample; `tv_run` and `trace_run` use it.
 #![tactic(auto)]
 
 mod index;
+mod one_row;
 mod rows;
 
+pub use one_row::{OneRow, row_of};
 pub use rows::{Judgements, all_rows};

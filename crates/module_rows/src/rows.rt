@@ -89,7 +89,7 @@ fn push_pair<'m>(
 }
 
 /// The pair of a source function and the target's function of its name, where it is judged.
-fn pair_of<'m>(source: &'m Entry, target: Option<&'m Entry>) -> Option<Pair<'m>>
+pub fn pair_of<'m>(source: &'m Entry, target: Option<&'m Entry>) -> Option<Pair<'m>>
     ensures pairs { pairs_in source.now.function (function_found target.entry) ≡ listed result }
     ensures source { IfSome result (λ pair. source.now.function ≡ Ok pair.source) }
     ensures target { IfSome result (λ pair. function_found target.entry ≡ Some (Ok pair.target)) }
@@ -135,7 +135,7 @@ fn source_rows(
 
 /// The row of a function of the source. Where its pair is judged, the first of the answers that are left
 /// is its own, and is taken from them.
-fn next_row(
+pub fn next_row(
     alloc: Global,
     judge: &Real,
     source: &Entry,

@@ -15,4 +15,4 @@ mod value_text;
 pub use laws::rows_are_one;
 pub use row::{Finding, Row, Side};
 pub use status::status_of;
-pub use text::{summary_of, text_of};
+pub use text::{push_row, summary_of, text_of};

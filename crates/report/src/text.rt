@@ -57,7 +57,8 @@ fn push_rows(alloc: Global, out: &mut Vec<u8>, rows: &[Row]) -> Result<(), NoMem
     Ok(())
 }
 
-fn push_row(alloc: Global, out: &mut Vec<u8>, row: &Row) -> Result<(), NoMemory>
+/// A row, with its counterexample below it.
+pub fn push_row(alloc: Global, out: &mut Vec<u8>, row: &Row) -> Result<(), NoMemory>
     ensures { OnOk result (out.new.items ≡ out.old.items ++ row_text row.now) }
 {
     out.extend_from_slice(b"@")?;

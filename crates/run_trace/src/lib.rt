@@ -20,5 +20,6 @@ mod steps;
 mod tracer;
 mod tracing;
 
+pub use operands::{end_operands, operands_of};
 pub use steps::{Flag, Location, Reason, Site, Step, Trace};
 pub use tracing::trace;

@@ -112,7 +112,7 @@ pub struct Asked<'a> {
 
 /// What a row asks: its name, the command line, after `--- A` and `--- B` the two files, and after
 /// `--- ` the status and on the lines that follow what is written.
-fn asked_in(row: &str) -> Option<Asked<'_>> {
+pub fn asked_in(row: &str) -> Option<Asked<'_>> {
     let (_, row) = row.split_once("\n")?;
     let (line, row) = row.split_once("\n--- A\n")?;
     let (source, row) = row.split_once("--- B\n")?;

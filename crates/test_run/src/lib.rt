@@ -3,7 +3,8 @@
 //! [`both_verdicts`] asks the judge by questions and the judge by counting. It promises that each
 //! answers its own definition's verdict, and the tests compare them. Others call `settle`, `replay`
 //! and the printing of reports, and claim numbers from two threads. Tables of command lines,
-//! modules and reports that were worked out outside go through `tv_run::run`; the readers of
+//! modules and reports that were worked out outside go through `tv_run::run`, and traces through
+//! `trace_run::run`; the readers of
 //! command lines (`tv_cli`), the files and sinks of `tv_io` and the reader and writer of proof files
 //! (`proof_text`) have their own. No crate uses this one.
 #![tactic(auto)]
@@ -53,6 +54,8 @@ mod report_tests;
 mod settle_tests;
 #[cfg(test)]
 mod slot_tests;
+#[cfg(test)]
+mod trace_tests;
 #[cfg(test)]
 mod verdict_tests;
 #[cfg(test)]

@@ -81,14 +81,16 @@ fn limited_command<'a>(alloc: Global) -> Result<Command<'a>, AllocError>
     Ok(make)
 }
 
-fn name<'a>(alloc: Global, id: &'a str) -> Arg<'a>
+/// An argument that has to be given, by its position.
+pub fn name<'a>(alloc: Global, id: &'a str) -> Arg<'a>
     ensures rule { rule_of result ≡ name_rule id.entry.now }
     ensures local { result.global ≡ false }
 {
     Arg::new(alloc, id).required(true).action(ArgAction::Set)
 }
 
-fn option<'a>(alloc: Global, id: &'a str) -> Arg<'a>
+/// An option `--id VALUE`.
+pub fn option<'a>(alloc: Global, id: &'a str) -> Arg<'a>
     ensures rule { rule_of result ≡ option_rule id.entry.now }
     ensures local { result.global ≡ false }
 {

@@ -184,7 +184,9 @@ fn ranged(matches: &ArgMatches<'_>, name: &str, least: u64, most: u64, usual: u6
     number_of(matches, name, Range { least, most, usual })
 }
 
-fn bounds_in(matches: &ArgMatches<'_>) -> Option<Bounds>
+/// The bounds that the options `turns`, `blocks` and `bytes` give, or their defaults; `None` where one is
+/// no number of its range.
+pub fn bounds_in(matches: &ArgMatches<'_>) -> Option<Bounds>
     ensures value { result ≡ bounds_in_rows (rows_of (found_of matches.now)) }
     ensures within { IfSome result (λ b. (b.turns ≤ 64) × (b.blocks ≤ 4) × (b.bytes ≤ 32)) }
 {
@@ -204,7 +206,9 @@ fn bounds_in(matches: &ArgMatches<'_>) -> Option<Bounds>
     })
 }
 
-fn budget_in(matches: &ArgMatches<'_>) -> Option<Budget>
+/// The budget that the options `rounds`, `conflicts` and `weight` give, or their defaults; `None` where
+/// one is no number of its range.
+pub fn budget_in(matches: &ArgMatches<'_>) -> Option<Budget>
     ensures value { result ≡ budget_in_rows (rows_of (found_of matches.now)) }
     ensures within { IfSome result (λ b. (b.rounds ≤ 4096) × (b.conflicts < 2 ^ 63) × (1 ≤ b.weight) × (b.weight ≤ 10000000)) }
 {

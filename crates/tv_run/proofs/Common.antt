@@ -56,7 +56,7 @@ pub use Rattle.verdicts.specs.declared.verdict.Cause.{Cause}
 pub use Rattle.verdicts.specs.declared.verdict.Cause.TheVariants.{Weight, Rounds, Conflicts}
 pub use Rattle.verdicts.specs.declared.verdict.Shown.{Shown}
 pub use Rattle.verdicts.specs.declared.verdict.Verdict.{Verdict}
-pub use Rattle.tv_run.specs.Answers.{IsFaultOf, IsSent, AreParts, IsLogStop, IsNoProof, LoadsProof, AreModules, FitsIn, HasReport, HoldsText, IsDelivered, IsProofAsked, CountsStop, Loads, IsParsed, Parses}
+pub use Rattle.tv_run.specs.Answers.{IsFaultOf, IsSent, AreParts, IsLogStop, IsNoProof, LoadsProof, AreModules, FitsIn, HasReport, HoldsText, IsDelivered, IsProofAsked, CountsStop, IsParsed}
 pub use Rattle.tv_run.specs.Files.{HasModule, HasFault, WhereKnown, HasParts, IsLonger}
 pub use Rattle.tv_run.specs.Jobs.{WhereChecked, FileChanges, ProofChanges, job_in}
 pub use Rattle.tv_run.specs.Laws.{FileReportsAreSound, ReportsAreSound, FaultsAreOne, ModulesHaveNoFault, FileReportsAreDefined, PutProofsAreVerified, ReportsAreDefined, ReportsAreOne}
@@ -65,5 +65,5 @@ pub use Rattle.tv_run.specs.OneReading.{IsReadRow, HasPosition, IsSameFinding, S
 pub use Rattle.tv_run.specs.Reports.{part_heading, row_heading, IsTheDefinedReport, IsUnfinished, PartlyWritten, WritesDefinedReport, HoldsProof, Written, IsDefinedReport, IsReport}
 pub use Rattle.tv_run.specs.Sound.{HasDistinctNames, HasFunction, HoldsThroughout, IsPairNamed, IsRefined, HasVerdict, IsSound, MeansRefinement, SaysRefinement, FilesRefine, PartlyMeansRefinement, WritesSound}
 pub use Rattle.tv_run.specs.Stops.{HasTrouble, IsBeforeTarget, trouble_status, HasLogTrouble, log_trouble_status, HasCause, IsNotPut, Refuses, RefusesJob, stop_status, WritesLine}
-pub use Rattle.tv_run.specs.declared.stop.Stop.{Stop}
-pub use Rattle.tv_run.specs.declared.stop.Trouble.{Trouble}
+pub use Rattle.module_files.specs.declared.stop.Stop.{Stop}
+pub use Rattle.module_files.specs.declared.stop.Trouble.{Trouble}

@@ -1,7 +1,7 @@
 -- A run over files in memory.
 use Rattle.tv_run.proofs.Common.{◌≡◌, ◌≢◌, ◌⊎◌, ◌≤◌, ◌<◌, ℕ, arith, true, List, [], Option, Some, None, is_none, sym, ap, subst, ◌∙◌, inl, inr, Files, fails_absent, ShelfState, SinkState, IsWritten, then_taken, Module, Judged, Stop, Check, Job, AreModules, FitsIn, HasModule, WhereChecked, IsTheDefinedReport, IsUnfinished, PartlyWritten, WritesDefinedReport, MeansRefinement, SaysRefinement, HasCause, IsNotPut, Refuses, RefusesJob, stop_status}
-use Rattle.tv_run.specs.declared.stop.Trouble.TheVariants as trouble
-use Rattle.tv_run.specs.declared.stop.Stop.TheVariants as stop
+use Rattle.module_files.specs.declared.stop.Trouble.TheVariants as trouble
+use Rattle.module_files.specs.declared.stop.Stop.TheVariants as stop
 
 -- a file that is a module is not absent
 not_absent : (files : Files) (name : List ℕ) (m : Module) → HasModule (files name) m → fails_absent files name ≡ true → ⊥

@@ -14,5 +14,4 @@ pub mod RowHeads
 pub mod RowsRead
 mod Logging
 mod Sending
-mod Pieces
 mod ReadAgain

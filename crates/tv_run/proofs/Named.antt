@@ -10,6 +10,8 @@ use Rattle.ir_items.specs.declared.item.Define.{Define}
 use Rattle.ir_items.specs.Items.{IsCut, nothing, other, define, name_at, name_from}
 use Rattle.ir_items.specs.Names.{name_in, name_of, without_zeros}
 use Rattle.ir_naming.specs.Naming.{is_digit as is_printed_digit}
+use Rattle.module_files.specs.Reading.{IsParsed}
+use Rattle.tv_run.specs.Answers.{IsJudgeableModule}
 
 -- ---- digits
 
@@ -89,3 +91,7 @@ entries_read tokens (d ∷ ds) (e ∷ es) are all = (subst IsReadName (sym are.0
 
 pub names_read : (text : List ℕ) (m : Module) → IsModule text m → AllByRecursion IsReadName (entry_names m.entries)
 names_read text m is = entries_read is.tokens is.defines m.entries is.entries (defines_read is.tokens (length is.tokens) is.defines is.cut)
+
+-- so a module that was read is one that the judge takes
+pub judgeable_module : (text : List ℕ) (m : Module) → IsParsed text m → IsJudgeableModule m
+judgeable_module text m is = record { judgeable = is.judgeable; distinct = is.distinct; named = names_read text m is.formed }

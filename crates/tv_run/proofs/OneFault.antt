@@ -1,8 +1,8 @@
 -- Two files have one fault, or are modules.
 use Rattle.tv_run.proofs.Common.{◌≡◌, ◌≢◌, ◌⊎◌, ℕ, List, Some, refl, sym, ap, ◌∙◌, inl, inr, Files, ShelfState, Module, ModuleFault, ModuleOrFault, OneFault, Trouble, Check, HasModule, HasFault, HasTrouble, IsBeforeTarget, trouble_status, FaultsAreOne, ModulesHaveNoFault}
 use Rattle.ir_reader.specs.declared.fault.ModuleFault.TheVariants as fault
-use Rattle.tv_run.specs.declared.stop.Trouble.TheVariants as trouble
-use Rattle.tv_run.specs.declared.stop.Stop.TheVariants as stop
+use Rattle.module_files.specs.declared.stop.Trouble.TheVariants as trouble
+use Rattle.module_files.specs.declared.stop.Stop.TheVariants as stop
 use Rattle.tv_run.proofs.Files.{module_or_fault, fault_one}
 
 -- the trouble that reports a fault; none reports out of memory, for which any other is taken here

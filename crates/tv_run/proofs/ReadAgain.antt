@@ -3,7 +3,7 @@ use Rattle.tv_run.proofs.Common.{◌≡◌, ◌≤◌, ◌⊎◌, ℕ, List, ari
 use Rattle.ir_reader.specs.declared.fault.ModuleFault.TheVariants as fault
 use Rattle.read_back.specs.SameModule.{IsSameModule}
 use Rattle.read_back.specs.ReadBack.{IsPrintable, PrintedModulesReadBack}
-use Rattle.tv_run.specs.declared.stop.Trouble.TheVariants as trouble
+use Rattle.module_files.specs.declared.stop.Trouble.TheVariants as trouble
 
 -- a text that is a module has no fault
 pub no_fault : ModuleOrFault → (text : List ℕ) (m : Module) (t : Trouble) → IsModule text m → IsFaultOf text t → ⊥

@@ -1,13 +1,9 @@
--- What is written at a stop, and that two modules are judged.
-use Rattle.tv_run.proofs.Common.{◌≡◌, ◌≢◌, ◌⊎◌, ◌≤◌, ℕ, arith, List, length, Option, Some, Result, Ok, Err, refl, ap, subst, ◌∙◌, inl, inr, OnOk, OnErr, ShelfState, SinkState, IsWritten, IsCutOff, Failed, Module, Stop, Files, Check, check, IsLonger, HasModule, HasCause, stop_status, WritesLine, AreModules, CountsStop, ModulesHaveNoFault}
-use Rattle.tv_run.specs.declared.stop.Trouble.TheVariants as trouble
-use Rattle.tv_run.specs.declared.stop.Stop.TheVariants as stop
+-- Two modules are judged.
+use Rattle.tv_run.proofs.Common.{◌≡◌, ◌≢◌, ◌⊎◌, ◌≤◌, ℕ, arith, List, length, Option, Some, Result, Ok, Err, refl, ap, subst, ◌∙◌, inl, inr, ShelfState, Module, Stop, Files, Check, check, IsLonger, HasModule, HasCause, stop_status, AreModules, CountsStop, ModulesHaveNoFault}
+use Rattle.module_files.specs.declared.stop.Trouble.TheVariants as trouble
+use Rattle.module_files.specs.declared.stop.Stop.TheVariants as stop
 use Rattle.tv_run.proofs.OneJob.{check_is}
 use Rattle.tv_run.proofs.Files.{same_text}
-
-pub from_write : (r : Result (Unit {0}) Failed) (line : List ℕ) (old new : SinkState) → OnOk r (IsWritten line old new) → OnErr r (IsCutOff line old new) → WritesLine line old new
-from_write (Ok x) line old new written cut = inl written
-from_write (Err e) line old new written cut = inr cut
 
 -- ---- two modules
 

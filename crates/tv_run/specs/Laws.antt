@@ -5,7 +5,7 @@ use Rattle.std.specs.Prelude.{◌≡◌, ◌≢◌, ℕ, List, Some}
 use Rattle.tv_io.specs.Files.{Files}
 use Rattle.tv_io.specs.State.{ShelfState, SinkState}
 use Rattle.ir_tree.specs.declared.module.Module.{Module}
-use Rattle.tv_run.specs.declared.stop.Stop.{Stop}
+use Rattle.module_files.specs.declared.stop.Stop.{Stop}
 use Rattle.points.specs.declared.point.Bounds.{Bounds}
 use Rattle.points.specs.declared.point.Budget.{Budget}
 use Rattle.points.specs.Range.{AreInRange}

@@ -1,19 +1,16 @@
 ghost use Rattle.std.specs.Prelude.{◌≡◌, ◌+◌, ◌*◌, ◌^◌, ◌<◌, ◌≤◌, All, length, map, IfOk, IfErr, OnOk, option_map};
 ghost use Rattle.std.specs.List.{filter_map};
 ghost use Rattle.tv_io.specs.State.{ShelfState};
-ghost use Rattle.ir_tree.specs.declared.module.Module.{Module};
-ghost use Rattle.ir_reader.specs.Module.{IsModule};
 ghost use Rattle.points.specs.Range.{AreInRange};
 ghost use Rattle.proof_files.specs.Parts.{IsCertified, IsReadName, parts_of};
 ghost use Rattle.tv_cli.specs.Seen.{seen_check};
 ghost use Rattle.tv_run.specs.Files.{WhereKnown};
 ghost use Rattle.tv_run.specs.Reports.{part_heading, row_heading};
 ghost use Rattle.tv_run.specs.Stops.{HasCause};
-ghost use Rattle.tv_run.specs.Answers.{CountsStop, HasReport, IsProofAsked, IsReportOf, IsJudgeableModule, IsUnread};
+ghost use Rattle.tv_run.specs.Answers.{CountsStop, HasReport, IsProofAsked, IsReportOf, IsJudgeableModule};
 
-use crate::stop::{LoadFault, Stop};
-use crate::texts::{load, module_from};
 use ir_tree::Module;
+use module_files::{Stop, read_both};
 use module_rows::{Judgements, all_rows};
 use pair_driver::{Gate, Judged};
 use pair_judge::Real;
@@ -53,30 +50,9 @@ pub fn report_of<S: Shelf, G: Gate, R: Threads + Sync>(
     ensures put_faults { (S.state shelf.new).put_faults ≡ (S.state shelf.old).put_faults }
     ensures same { (S.state shelf.new).files ≡ (S.state shelf.old).files }
 {
-    let source = load(alloc, shelf, check.source).map_err(LoadFault::at_source)?;
-    let target = load(alloc, shelf, check.target).map_err(LoadFault::at_target)?;
-    report_of_texts(rt, alloc, check, gate, source, target)
-}
-
-/// The report of two files' texts, or the fault of the first that is not a module. Each text is
-/// freed as soon as its module is read, since judging takes long and needs the memory.
-fn report_of_texts<G: Gate, R: Threads + Sync>(
-    rt: &R,
-    alloc: Global,
-    check: &Check<'_>,
-    gate: &G,
-    source: Vec<u8>,
-    target: Vec<u8>,
-) -> Result<Report, Stop>
-    requires in_range { AreInRange check.now.bounds check.now.budget }
-    requires workers { (1 ≤ check.now.workers) × (check.now.workers ≤ 64) }
-    ensures reports { IfOk result (λ r. (m : Module) × (n : Module) × IsModule source.items m × IsModule target.items n
-        × IsReportOf (seen_check check.now) m n r.answers.items r.text.items r.status r.proof) }
-    ensures unread { IfErr result (IsUnread source.items target.items) }
-{
-    let source = module_from(alloc, source).map_err(LoadFault::at_source)?;
-    let target = module_from(alloc, target).map_err(LoadFault::at_target)?;
-    Ok(report_of_modules(rt, alloc, check, gate, &source, &target)?)
+    let both = read_both(alloc, shelf, check.source, check.target)?;
+    let report = report_of_modules(rt, alloc, check, gate, &both.source, &both.target)?;
+    Ok(report)
 }
 
 fn report_of_modules<G: Gate, R: Threads + Sync>(

@@ -10,7 +10,7 @@
 //! refutes its clauses, and `log` says `verified` exactly of such parts, so of all parts of such a file
 //! (`put_proofs_are_verified`). The text of a report has one list of rows
 //! (`texts_have_one_list_of_rows`). Each other status has its cause. A function that can't be judged is
-//! a row of the report like any other. It uses the command line, the reader, `module_rows`, the report,
+//! a row of the report like any other. It uses the command line, `module_files`, which reads the files, `module_rows`, the report,
 //! `proof_files` and `tv_io`; the program `tv` is `run` over the system's files and output.
 #![tactic(auto)]
 
@@ -21,7 +21,6 @@ mod lines;
 mod log;
 mod made;
 mod stop;
-mod texts;
 mod top;
 
 pub use in_memory::{Checked, run_in_memory};

@@ -8,12 +8,11 @@ ghost use Rattle.tv_run.specs.Answers.{IsJudgeableModule};
 ghost use Rattle.tv_run.specs.Makes.{IsReadBack, IsSummary, SaysMade, make_line as line_of_make};
 
 use crate::laws::reports_are_sound;
-use crate::stop::LoadFault;
-use crate::texts::module_of;
 use ir_printer::{make, print};
 use ir_reader::is_one_module;
 use ir_tree::Module;
 use itoa::Buffer;
+use module_files::{LoadFault, module_of};
 use module_rows::{Judgements, all_rows};
 use pair_driver::{Gate, Judged};
 use pair_judge::Real;

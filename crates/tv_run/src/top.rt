@@ -11,15 +11,16 @@ ghost use Rattle.tv_run.specs.Sound.{FilesRefine, WritesSound};
 ghost use Rattle.tv_run.specs.Reports.{IsUnfinished, WritesDefinedReport, Written};
 ghost use Rattle.tv_run.specs.Logs.{IsLogged};
 ghost use Rattle.tv_run.specs.Makes.{IsMade};
-ghost use Rattle.tv_run.specs.Stops.{CountsNoOther, IsNotPut, IsUnwritten, Refuses, RefusesJob, RefusesLog, RejectsWords, Says, WritesLine, log_trouble_line, log_trouble_status, stop_status, trouble_line, trouble_status};
+ghost use Rattle.tv_run.specs.Stops.{CountsNoOther, IsNotPut, IsUnwritten, Refuses, RefusesJob, RefusesLog, RejectsWords, WritesLine, log_trouble_line, log_trouble_status};
 ghost use Rattle.tv_run.specs.Answers.{AreModules, AreParts, Completes, IsDelivered, IsSent};
 
 use crate::check::{Report, report_of};
 use crate::laws::{file_reports_are_defined, file_reports_are_sound, modules_have_no_fault};
-use crate::lines::{why_words, write_fault, write_line_fault};
+use crate::lines::write_line_fault;
 use crate::log::check_file;
 use crate::made::made_of;
-use crate::stop::{LogStop, LogTrouble, Stop, Trouble};
+use crate::stop::{LogStop, LogTrouble};
+use module_files::refuse;
 use pair_driver::{Gate, Judged};
 use std::alloc::Global;
 use std::thread::Threads;
@@ -187,7 +188,7 @@ fn run_check<R: AllocGlobal + Threads + Sync, S: Shelf, K: Sink, G: Gate>(
             *judged = report.answers;
             status
         }
-        Err(stop) => refuse(out, stop, check),
+        Err(stop) => refuse(out, stop, check.source, check.target),
     }
 }
 
@@ -304,43 +305,6 @@ fn refuse_words<K: Sink>(out: &mut K) -> u8
 {
     let _ = write_line(out, b"words refused", b"");
     4
-}
-
-/// Writes the line of a stop, and answers its status.
-fn refuse<K: Sink>(out: &mut K, stop: Stop, check: &Check<'_>) -> u8
-    ensures status { result ≡ stop_status stop }
-    ensures line { Says (seen_check check.now) stop (K.state out.old) (K.state out.new) }
-{
-    match stop {
-        Stop::Source(trouble) => refuse_file(out, check.source, trouble),
-        Stop::Target(trouble) => refuse_file(out, check.target, trouble),
-        Stop::NoMemory => 8,
-    }
-}
-
-/// Writes the line of a file that is not judged, and answers its status.
-fn refuse_file<K: Sink>(out: &mut K, name: &str, trouble: Trouble) -> u8
-    ensures status { result ≡ trouble_status trouble }
-    ensures line { WritesLine (trouble_line name.now trouble) (K.state out.old) (K.state out.new) }
-{
-    match trouble {
-        Trouble::CannotRead => {
-            let _ = write_line(out, b"cannot read ", name.as_bytes());
-            5
-        }
-        Trouble::TooLong => {
-            let _ = write_line(out, b"too long ", name.as_bytes());
-            6
-        }
-        Trouble::NoToken(place) => {
-            let _ = write_fault(out, name, place, b"no token");
-            9
-        }
-        Trouble::Item { why, place } => {
-            let _ = write_fault(out, name, place, why_words(why));
-            9
-        }
-    }
 }
 
 /// Writes the line of a proof file that is not checked, and answers its status.

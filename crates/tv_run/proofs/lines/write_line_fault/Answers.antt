@@ -1,5 +1,5 @@
 use Rattle.tv_run.proofs.Common.{ℕ, List, [], ◌∷◌, ◌++◌, codes, refl, subst, ◌∙◌, IsCutOff, IsWritten, IsWritten-append, IsCutOff-first, IsCutOff-second}
-use Rattle.tv_run.proofs.Pieces.{IsCutOff-second_piece, OnErr-always}
+use Rattle.module_files.proofs.Pieces.{IsCutOff-second_piece, OnErr-always}
 use Rattle.tv_run.proofs.lines.write_line_fault.Goals as goal
 
 pub returns-in_err-write_whole-clause-cut_off : goal.returns-in_err-write_whole-clause-cut_off

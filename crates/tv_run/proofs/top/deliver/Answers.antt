@@ -1,5 +1,5 @@
 use Rattle.tv_run.proofs.Common.{ap, inr, option_map, refl}
-use Rattle.tv_run.proofs.Stopping.{from_write}
+use Rattle.module_files.proofs.Writing.{from_write}
 use Rattle.tv_run.proofs.top.deliver.Goals as goal
 
 pub returns-in-Err-Failed-clause-delivered : goal.returns-in-Err-Failed-clause-delivered

@@ -1,4 +1,4 @@
-use Rattle.tv_run.proofs.Stopping.{from_write}
+use Rattle.module_files.proofs.Writing.{from_write}
 use Rattle.tv_run.proofs.top.refuse_log.Goals as goal
 
 pub returns-in-CannotRead-clause-line : goal.returns-in-CannotRead-clause-line

@@ -1,0 +1,52 @@
+// Two files.
+ghost use Rattle.std.specs.Prelude.{◌≡◌, IfOk, IfErr, OnOk};
+ghost use Rattle.tv_io.specs.State.{ShelfState};
+ghost use Rattle.module_files.specs.Stops.{StopsAt};
+ghost use Rattle.module_files.specs.Reading.{AreParsed, AreRead, CountsStop, IsUnread};
+
+use crate::stop::{LoadFault, Stop};
+use crate::texts::{load, module_from};
+use ir_tree::Module;
+use std::alloc::Global;
+use tv_io::Shelf;
+
+/// The modules of a source and a target.
+#[derive(Drop)]
+pub struct Modules {
+    pub source: Module,
+    pub target: Module,
+}
+
+/// The modules of two files, or why they are not judged. Each text is freed as soon as its module is
+/// read, since judging takes long and needs the memory.
+///
+/// # Errors
+/// The first cause, in the order read of the source, read of the target, source module, target
+/// module.
+pub fn read_both<S: Shelf>(
+    alloc: Global,
+    shelf: &mut S,
+    source: &str,
+    target: &str,
+) -> Result<Modules, Stop>
+    ensures modules { IfOk result (AreRead (S.state shelf.old).files source.now target.now) }
+    ensures cause { IfErr result (StopsAt (S.state shelf.old) (S.state shelf.new) source.now target.now) }
+    ensures quiet { OnOk result ((S.state shelf.new).fetch_faults ≡ (S.state shelf.old).fetch_faults) }
+    ensures counted { IfErr result (λ stop. CountsStop stop (S.state shelf.old) (S.state shelf.new)) }
+    ensures put_faults { (S.state shelf.new).put_faults ≡ (S.state shelf.old).put_faults }
+    ensures same { (S.state shelf.new).files ≡ (S.state shelf.old).files }
+{
+    let source = load(alloc, shelf, source).map_err(LoadFault::at_source)?;
+    let target = load(alloc, shelf, target).map_err(LoadFault::at_target)?;
+    modules_of(alloc, source, target)
+}
+
+/// The modules of two texts, or the fault of the first that is no module.
+fn modules_of(alloc: Global, source: Vec<u8>, target: Vec<u8>) -> Result<Modules, Stop>
+    ensures parsed { IfOk result (AreParsed source.items target.items) }
+    ensures unread { IfErr result (IsUnread source.items target.items) }
+{
+    let source = module_from(alloc, source).map_err(LoadFault::at_source)?;
+    let target = module_from(alloc, target).map_err(LoadFault::at_target)?;
+    Ok(Modules { source, target })
+}

@@ -1,0 +1,18 @@
+//! The modules of two files, or why they are not judged, with the line that says so.
+//!
+//! It promises that [`read_both`] gives the one module of each file, or the first cause that keeps a
+//! file from being judged: it can't be read, it is longer than the limit, or its text is no module,
+//! with the first fault; and that [`refuse`] writes the line of that cause and answers its status. It
+//! builds on `tv_io` and `ir_reader`; `tv_run` and `trace_run` use it.
+#![tactic(auto)]
+
+mod both;
+mod lines;
+mod refusals;
+mod stop;
+mod texts;
+
+pub use both::{Modules, read_both};
+pub use refusals::refuse;
+pub use stop::{LoadFault, Stop, Trouble};
+pub use texts::module_of;

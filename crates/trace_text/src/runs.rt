@@ -1,0 +1,119 @@
+// The text of runs.
+ghost use Rattle.std.specs.Prelude.{◌≡◌, ◌++◌, OnOk, IfOk};
+ghost use Rattle.trace_text.specs.TraceText.{step_texts, returned_text, outcome_text, run_text, trace_text};
+
+use crate::differences::push_difference;
+use crate::steps::push_step;
+use crate::values::push_value;
+use byte_block::Value;
+use ir_tree::{Function, IrType};
+use pair_trace::{Difference, Traces};
+use points::Outcome;
+use run_trace::{Step, Trace};
+use std::alloc::Global;
+use support::NoMemory;
+use verdicts::Pair;
+
+/// The text of the two runs of a pair, and of how they differ. The first line of each run says which
+/// it is; the last line begins with `difference: `. Each line ends with a newline.
+///
+/// # Errors
+/// Only out of memory.
+pub fn text_of(
+    alloc: Global,
+    pair: &Pair,
+    traces: &Traces,
+    difference: Difference,
+) -> Result<Vec<u8>, NoMemory>
+    ensures { IfOk result (λ text. text.items ≡ trace_text pair.now traces.now difference) }
+{
+    let mut out = Vec::new(alloc);
+    let run = pair.run_pair();
+    push_run(
+        alloc,
+        &mut out,
+        b"source, on the choices 0 (one of its runs)",
+        run.source(),
+        &traces.source,
+    )?;
+    push_run(
+        alloc,
+        &mut out,
+        b"target, on the choices of the counterexample",
+        run.target(),
+        &traces.target,
+    )?;
+    push_difference(&mut out, &traces.source.outcome, difference)?;
+    Ok(out)
+}
+
+/// A run after its title.
+fn push_run(
+    alloc: Global,
+    out: &mut Vec<u8>,
+    title: &[u8],
+    f: &Function,
+    trace: &Trace,
+) -> Result<(), NoMemory>
+    ensures { OnOk result (out.new.items ≡ out.old.items ++ run_text title.now f.now trace.now) }
+{
+    out.extend_from_slice(title)?;
+    push_steps(alloc, out, f, trace.steps.as_slice())?;
+    push_outcome(alloc, out, f.returns, &trace.outcome)?;
+    out.extend_from_slice(b"\n")?;
+    Ok(())
+}
+
+fn push_steps(
+    alloc: Global,
+    out: &mut Vec<u8>,
+    f: &Function,
+    steps: &[Step],
+) -> Result<(), NoMemory>
+    ensures { OnOk result (out.new.items ≡ out.old.items ++ step_texts f.now 0 steps.now) }
+{
+    let mut choices = 0u64;
+    for step in steps {
+        push_step(alloc, out, f, choices, step)?;
+        choices = choices.saturating_add(step.taken.len() as u64);
+    }
+    Ok(())
+}
+
+fn push_outcome(
+    alloc: Global,
+    out: &mut Vec<u8>,
+    returns: Option<IrType>,
+    outcome: &Outcome,
+) -> Result<(), NoMemory>
+    ensures { OnOk result (out.new.items ≡ out.old.items ++ outcome_text returns outcome.now) }
+{
+    match outcome {
+        Outcome::Return(value, _) => {
+            out.extend_from_slice(b"\n  returns ")?;
+            push_returned(alloc, out, returns, *value)?;
+        }
+        Outcome::Ub => out.extend_from_slice(b"\n  undefined behaviour")?,
+        Outcome::Beyond => {
+            out.extend_from_slice(b"\n  goes past the bound on backward jumps")?;
+        }
+    }
+    Ok(())
+}
+
+fn push_returned(
+    alloc: Global,
+    out: &mut Vec<u8>,
+    returns: Option<IrType>,
+    value: Option<Value>,
+) -> Result<(), NoMemory>
+    ensures { OnOk result (out.new.items ≡ out.old.items ++ returned_text returns value) }
+{
+    match (returns, value) {
+        (Some(of_type), Some(value)) => push_value(alloc, out, of_type, value),
+        (Some(_), None) | (None, _) => {
+            out.extend_from_slice(b"void")?;
+            Ok(())
+        }
+    }
+}

@@ -1,9 +1,0 @@
-use Rattle.tv_run.proofs.Common.{ℕ, List, [], ◌∷◌, ◌++◌, ap, ◌∙◌}
-use Rattle.tv_run.proofs.Pieces.{IsCutOff-second_piece}
-use Rattle.tv_run.proofs.lines.write_place.Goals as goal
-
-pub returns-clause-cut_off : goal.returns-clause-cut_off
-returns-clause-cut_off g c =
-    IsCutOff-second_piece _ _ _ _ _ _ _ _
-    (ap (λ (bytes : List ℕ). bytes ++ 58 ∷ []) (c.as_bytes.ensures.value ∙ c.format.ensures.text))
-    (c.as_bytes-2.ensures.value ∙ c.format-2.ensures.text) c.in_ok-write_both.ensures.written c.write_whole.ensures.cut_off
