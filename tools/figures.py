@@ -44,7 +44,7 @@ def printed(body):
             os.symlink(os.path.join(ROOT, name), os.path.join(folder, name))
         script = "\n".join(line[2:] for line in commands)
         done = subprocess.run(["sh", "-c", script], cwd=folder, capture_output=True, text=True,
-                              env={**os.environ, "TV": tvlib.tv_program(),
+                              env={**os.environ, "TV": tvlib.tv_program(), "TV_TRACE": "false",
                                    "TV_TIME": str(SECONDS)})
     output = (done.stdout + done.stderr).replace(f"seconds {SECONDS}", "seconds 10")
     return "".join(line + "\n" for line in commands) + output
@@ -81,7 +81,7 @@ def pairs_row(module, passes):
     done = subprocess.run([os.path.join(tvlib.HERE, "tv-check"), "--before", "function(sroa)",
                            "--opt", f"-passes={passes}", "--weight", "1", "--json", module],
                           capture_output=True, text=True,
-                          env={**os.environ, "TV": tvlib.tv_program(), "TV_OPT": "opt-19",
+                          env={**os.environ, "TV": tvlib.tv_program(), "TV_TRACE": "false", "TV_OPT": "opt-19",
                                "TV_TIME": str(SECONDS)})
     rows = [json.loads(line) for line in done.stdout.splitlines()]
     changed = [row for row in rows if row["kind"] != "same"]

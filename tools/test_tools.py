@@ -331,6 +331,36 @@ def check_forms(bench):
     has(bench.file("p.html"), "@bad_sum incorrect", "<code>%y</code>", "sha256")
 
 
+def check_trace(bench):
+    args = ("tv-check", "--opt", "-passes=wrong", ARITH, "--function", "bad_sum")
+    traced = {"TV_TRACE": os.path.join(DATA, "fake-trace"), "TV_ARGS": "--turns 5"}
+    done = bench.run(*args, "--json=rows", "--html=p.html", "--sarif=s.json", "--turns", "6", **traced)
+    has(done.stdout, "  target returns 255 (-1, 0xff)\n    | source, on the choices 0",
+        "    | entry:\n    |   ret i8 %r ; %r = 1 (0x1)\n", "    | difference: they return")
+    row = json.loads(bench.file("rows"))
+    equal((row["trace"][0], row["trace"][-1]), ("source, on the choices 0 (one of its runs)",
+          "difference: they return different values"), "the trace of a row")
+    equal(len(row["counterexample"]), 4, "the counterexample without it")
+    well_formed(bench.file("p.html"))
+    has(bench.file("p.html"), "both runs, step by step", "<div>difference: they return")
+    has_not(bench.file("s.json"), "step by step", "difference")
+    bench.write("report", done.stdout)
+    bench.write("after.ll", bench.passes("wrong", ARITH))
+    has(bench.run("tv-html", ARITH, "after.ll", "--report", "report").stdout, "<div>difference")
+    has_not(bench.run(*args, "--no-trace", **traced).stdout, "difference")
+    has_not(bench.run(*args, TV_TRACE="false").stdout, "    | ")
+
+
+def trace_of_tv(bench):
+    """The trace of the real program, where it is built."""
+    built = os.path.join(os.path.dirname(TOOLS), "crates", "tv_trace", "out", "tv_trace")
+    if not shutil.which(built):
+        return
+    done = bench.run("tv-check", "--opt", "-passes=wrong", ARITH, "-f", "bad_sum", TV_TRACE=built)
+    has(done.stdout, "    | source, on the choices 0", "%x = 0 (0x0)", "%y = 1 (0x1)",
+        "    |   returns 255 (-1, 0xff)", "    | difference: they return different values")
+
+
 def check_terminal(bench):
     bench.write("both.ll", open(SLOW).read() + "\n" + open(ARITH).read())
     bench.write("after.ll", bench.passes("double,wrong", "both.ll"))
@@ -1272,9 +1302,9 @@ def most_functions(bench):
 
 EVERY = [check_two, check_src_and_tgt, check_forms, check_refusals, reduced_pair, opt_output_is_passed_on, opt_gate, opt_changed_names, opt_steps, tree_totals,
          vacuous_rows, pages]
-REAL_ONLY = [proof_of_tv, check_bounds, check_layout, check_words, figures]
+REAL_ONLY = [proof_of_tv, check_bounds, check_layout, check_words, figures, trace_of_tv]
 FAKE_ONLY = [help_is_one_screen, quick_without_rt, check_folders, check_front, check_before,
-             check_limit, check_interrupted,
+             check_limit, check_interrupted, check_trace,
              check_terminal, reduced_with_arguments, opt_reads_standard_input, opt_failure_is_passed_on, opt_not_text,
              opt_judges_nothing, opt_same, opt_asks_once, opt_summary,
              opt_without_tv, opt_slow_pair, opt_whole_refusal, tree_by_lines, tree_resumes,
@@ -1311,7 +1341,7 @@ def llvm_version(opt):
 
 def cases():
     """Name, test and environment of each case; says what is skipped."""
-    fake = {"TV": os.path.join(DATA, "fake-tv"), "TV_OPT": os.path.join(DATA, "wrong-opt"),
+    fake = {"TV": os.path.join(DATA, "fake-tv"), "TV_TRACE": "false", "TV_OPT": os.path.join(DATA, "wrong-opt"),
             "TV_REDUCE": os.path.join(DATA, "fake-reduce")}
     real = real_tv()
     opt = os.environ.get("TV_OPT") or shutil.which("opt-19") or shutil.which("opt")

@@ -84,7 +84,12 @@ def point_lines(lines, function):
 # Text.
 
 def row_lines(row, function, colours=False):
-    """A row as the text report has it."""
+    """A row as the text report has it, with the trace of a counterexample."""
+    return [*plain_lines(row, function, colours), *(tvrun.TRACED + line for line in row.trace)]
+
+
+def plain_lines(row, function, colours=False):
+    """A row as the text report has it, without a trace."""
     kind = painted(row.kind, COLOURS.get(row.kind, FAINT), colours)
     rest = row.text()[len(f"@{row.name} {row.kind}"):]
     return [f"@{row.name} {kind}{rest}", *point_lines(row.lines, function)]
@@ -121,6 +126,7 @@ def object_of(pair, row):
         "bounds": {**tvbounds.DEFAULTS, **row.bounds}, "seconds": row.seconds,
         "counterexample": [dict(zip(("what", "name", "value", "forms"), point))
                            for point in points(row.lines, function)],
+        "trace": row.trace,
     }
 
 
@@ -197,7 +203,7 @@ def result_of(pair, row):
         region = {"startLine": position[1], "startColumn": position[2]}
     if position and position[0] == "target" and os.path.isfile(pair.other):
         path, region = pair.other, {"startLine": position[1], "startColumn": position[2]}
-    lines = row_lines(row, function)
+    lines = plain_lines(row, function)
     text = "\n".join([f"{lines[0]}: {MEANINGS[row.kind]}", *lines[1:],
                       *filter(None, [row.what, tvwhy.ADVICE.get(row.advice, "")])])
     return {"ruleId": row.kind, "level": LEVELS.get(row.kind, "note"),

@@ -95,6 +95,13 @@ def counterexample(lines, function):
     return table(["", "name", "value", "signed, hexadecimal"], rows)
 
 
+def trace(lines):
+    """Both runs of a counterexample, step by step, to be opened."""
+    shown = "".join(f"<div>{escaped(line) or ' '}</div>" for line in lines)
+    return (f'<details><summary>both runs, step by step</summary>'
+            f'<div class="code">{shown}</div></details>')
+
+
 # Two functions side by side.
 
 def plain(line):
@@ -158,6 +165,7 @@ def section(row, source, target, note=""):
     body = counterexample(row.lines, source) if row.lines else ""
     advice = tvwhy.ADVICE.get(row.advice, "")
     body += f'<p class="faint">{escaped(advice)}</p>' if advice else ""
+    body += trace(row.trace) if row.trace else ""
     texts = [function.text if function else "" for function in (source, target)]
     first = [function.first if function else 1 for function in (source, target)]
     code = pair(*texts, first, row.position()) if any(texts) else ""

@@ -28,13 +28,15 @@ POSITION = re.compile(r"(\d+):(\d+)$")
 BOUNDS = re.compile(r" \[((?:[a-z]+ \d+ ?)*)\]$")
 FAULT = re.compile(r"(?:.*/)?(before|after)\.ll:(\d+):(\d+): (.*)")
 SIDES = {"before": "source", "after": "target"}
+TRACED = "    | "
 
 
 @dataclasses.dataclass
 class Row:
     """A row of a report: name, kind, what follows the kind, and the lines of a counterexample.
     Of a row that these scripts made also the bounds that aren't tv's own, the seconds that its
-    processes took, and of a refusal what is at its position, and the class of advice for it."""
+    processes took, of a refusal what is at its position and the class of advice for it, and of a
+    counterexample the lines of both runs, step by step, where they were asked for."""
     name: str
     kind: str
     detail: str = ""
@@ -43,6 +45,7 @@ class Row:
     seconds: float = 0.0
     what: str = ""
     advice: str = ""
+    trace: list = dataclasses.field(default_factory=list)
 
     def text(self):
         """The row as a line: name, kind, detail, and the bounds in brackets."""
@@ -91,6 +94,8 @@ def rows_of(report):
                 detail, what = refusal.groups("")
             rows.append(Row(found.group(1), found.group(2), detail, bounds=bounds, what=what))
             last = rows[-1]
+        elif line.startswith(TRACED) and last:
+            last.trace.append(line[len(TRACED):])
         elif line.startswith("  ") and last:
             last.lines.append(line)
         else:
@@ -146,13 +151,18 @@ def check(source, target, seconds, words=()):
 
 def check_texts(source, target, seconds, words=()):
     """`tv check` of two texts. `before.ll` and `after.ll` are their names in what it prints."""
+    return check(*files_of(source, target), seconds, words)
+
+
+def files_of(source, target):
+    """The names of two files with these texts, `before.ll` and `after.ll` in the thread's folder."""
     if not hasattr(_thread, "folder"):
         _thread.folder = tempfile.TemporaryDirectory(prefix="tv-")
     names = [os.path.join(_thread.folder.name, name) for name in ("before.ll", "after.ll")]
     for name, text in zip(names, (source, target)):
         with open(name, "wb") as file:
             file.write(text.encode("utf-8", "surrogateescape"))
-    return check(*names, seconds, words)
+    return names
 
 
 # A folder for each thread, removed at the thread's end: to make one for each question takes as
@@ -162,22 +172,27 @@ _thread = threading.local()
 
 @dataclasses.dataclass
 class How:
-    """How pairs are judged: seconds for a process, arguments for tv that aren't in TV_ARGS, and
-    the call that runs tv on two texts, or has its answer."""
+    """How pairs are judged: seconds for a process, arguments for tv that aren't in TV_ARGS, the
+    call that runs tv on two texts, or has its answer, and whether counterexamples are traced."""
     seconds: float
     words: list = dataclasses.field(default_factory=list)
     ask: object = check_texts
+    traces: bool = False
 
     def given(self):
         """The bounds that the user gave."""
         return given_bounds([*self.words, *tvlib.tv_args()])
 
+    def added(self, bounds):
+        """The words for those bounds that the user didn't give."""
+        given = self.given()
+        return [word for key, number in bounds.items() if key not in given
+                for word in (f"--{key}", str(number))]
+
     def rows(self, before, after, bounds):
         """tv's rows on two texts with these bounds, or the failed or timed out row in their
         place."""
-        more = {key: number for key, number in bounds.items() if key not in self.given()}
-        words = [*self.words, *(word for key, number in more.items()
-                                for word in (f"--{key}", str(number))), *SINGLE]
+        words = [*self.words, *self.added(bounds), *SINGLE]
         done = self.ask(before, after, self.seconds, words)
         if done.status is None:
             return [Row("", "unknown", "time")]
@@ -217,8 +232,35 @@ def judge(source, target, name, how):
     row = placed(row, sides, {"source": source, "target": target})
     if row.kind == "correct":
         row = reached(row, source, name, how, bounds)
+    if row.kind == "incorrect" and how.traces:
+        row.trace = traced(row, sides, how, bounds)
     return dataclasses.replace(row, seconds=round(time.monotonic() - begun, 3),
                                bounds=shown_bounds(bounds) if row.kind in JUDGED else {})
+
+
+def traced(row, sides, how, bounds):
+    """The lines of both runs of a counterexample, step by step; none without a tv_trace, or where
+    it doesn't answer in time."""
+    program = tvlib.trace_program()
+    if not program:
+        return []
+    files = files_of(sides["source"].text, sides["target"].text)
+    words = limits_among([*how.words, *tvlib.tv_args()])
+    done = tvlib.run([program, *files, "--function", row.name, *words, *how.added(bounds)],
+                     seconds=how.seconds, group=True)
+    lines = done.output.decode("utf-8", "surrogateescape").splitlines()
+    begin = next((at for at, line in enumerate(lines) if line.startswith("source,")), len(lines))
+    return lines[begin:] if done.status == STATUSES["incorrect"] else []
+
+
+def limits_among(words):
+    """The bounds and budgets among arguments of `tv check`."""
+    found, rest = [], list(words)
+    while rest:
+        name, equals, value = rest.pop(0).partition("=")
+        if name[2:] in OPTIONS and name.startswith("--") and (equals or rest):
+            found += [name, value if equals else rest.pop(0)]
+    return found
 
 
 def shown_bounds(bounds):
