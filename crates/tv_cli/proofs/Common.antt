@@ -5,10 +5,12 @@ pub use Rattle.std.proofs.Math.Bool.{and-false}
 pub use Rattle.std.proofs.lemmas.Bool.{eqb-true, leb-true, le-leb, and_parts, or_parts}
 pub use Rattle.std.proofs.lemmas.Slice.Eq.{bytes_eq-Decides, slice_eq-Decides}
 pub use Rattle.std.proofs.lemmas.Str.{encodes-chars, IsUtf8-string_bytes}
-pub use Rattle.std.specs.Char.{encode_utf8, digit_value}
+pub use Rattle.std.specs.Char.{digit_value}
+unfoldable pub use Rattle.std.specs.Char.{encode_utf8}
 pub use Rattle.std.specs.List.{list_any, position_or_len, before_first, list_all}
 pub use Rattle.std.specs.Prelude.{Box, option_and_then}
-pub use Rattle.std.specs.Str.{bytes_eq, chars, chars_after, continuation_len, lead_bits}
+pub use Rattle.std.specs.Str.{bytes_eq, chars_after, continuation_len, lead_bits}
+unfoldable pub use Rattle.std.specs.Str.{chars}
 pub use Rattle.std.specs.Str.Parse.{AllDigits, IsNumeral, digits_value, without_leading_plus}
 unfoldable pub use Rattle.clap.proofs.OnLiterals.{clap_on_literals}
 pub use Rattle.clap.proofs.WalkLemmas.{walk_stopped, first_value-rows}
