@@ -1,4 +1,5 @@
-// Two files.
+//! Two files.
+
 ghost use Rattle.std.specs.Prelude.{◌≡◌, IfOk, IfErr, OnOk};
 ghost use Rattle.tv_io.specs.State.{ShelfState};
 ghost use Rattle.module_files.specs.Stops.{StopsAt};

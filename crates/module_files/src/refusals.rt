@@ -1,4 +1,5 @@
-// The line of a file that is not judged.
+//! The line of a file that is not judged.
+
 ghost use Rattle.std.specs.Prelude.{◌≡◌};
 ghost use Rattle.tv_io.specs.State.{SinkState};
 ghost use Rattle.module_files.specs.Stops.{SaysStop, WritesLine, stop_status, trouble_line, trouble_status};

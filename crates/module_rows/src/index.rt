@@ -1,3 +1,5 @@
+//! The functions of a module by name.
+
 ghost use Rattle.std.specs.Prelude.{◌≡◌, IfOk, IfSome};
 ghost use Rattle.std.specs.List.{IsDistinct, AllByRecursion};
 ghost use Rattle.ir_reader.specs.Judgeable.{IsJudgeableEntry};

@@ -1,3 +1,5 @@
+//! The rows of two modules, each with the verdict of its own pair.
+
 ghost use Rattle.std.specs.Prelude.{◌≡◌, ◌+◌, ◌*◌, ◌^◌, ◌<◌, ◌++◌, ◌∷◌, [], drop, take, length, slice_index_or, IfOk, IfSome, OnOk, Ok, Some, None};
 ghost use Rattle.std.specs.List.{IsDistinct, AllByRecursion};
 ghost use Rattle.ir_tree.specs.Names.{same_name};

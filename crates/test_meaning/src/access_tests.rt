@@ -1,3 +1,5 @@
+//! Loads, stores and offsets, by rows computed outside.
+
 use crate::access_calls::{is_loaded, is_moved, is_stored, memory_of};
 use crate::access_rows::{BLOCKS, LOADS, OFFSETS, STORES};
 use crate::expecting::expect;

@@ -1,3 +1,5 @@
+//! The table of instructions, by sums computed outside.
+
 use crate::by_interpreter::{interpreted, returned};
 use crate::by_terms::{evaluated, terms_of, valued};
 use crate::expecting::expect;

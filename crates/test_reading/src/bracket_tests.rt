@@ -1,3 +1,5 @@
+//! Brackets that are passed.
+
 use crate::expecting::expect;
 use crate::token_lists::tokens_of;
 use std::alloc::Global;

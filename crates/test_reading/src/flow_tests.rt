@@ -1,3 +1,5 @@
+//! Blocks, their successors and definitions.
+
 use crate::expecting::expect;
 use crate::made_functions::function_of;
 use ir_tree::{

@@ -1,3 +1,5 @@
+//! Functions that are read, and edges that are checked.
+
 use crate::expecting::expect;
 use crate::made_functions::function_of;
 use assigned_names::check_assigned;

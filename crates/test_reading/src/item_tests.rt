@@ -1,3 +1,5 @@
+//! Items of a module, and names.
+
 use crate::expecting::expect;
 use crate::token_lists::tokens_of;
 use ir_items::{ItemFault, Why, cut, name_before_colon, name_behind_sign, name_of};

@@ -1,3 +1,5 @@
+//! Tokens and their positions.
+
 use crate::expecting::expect;
 use crate::token_lists::tokens_of;
 use ir_lexer::{LexFault, Lexer, Token, Tokens, lex};

@@ -1,3 +1,5 @@
+//! Lines and columns.
+
 use crate::expecting::expect;
 use std::test::Fail;
 use text_places::Place;

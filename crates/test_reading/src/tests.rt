@@ -1,3 +1,5 @@
+//! Whole modules, and how each is refused.
+
 use crate::answers::are_answered;
 use crate::expecting::expect;
 use crate::made_functions::function_of;

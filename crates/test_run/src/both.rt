@@ -1,3 +1,5 @@
+//! A pair judged by counting and by questions.
+
 ghost use Rattle.std.specs.Prelude.{IfOk};
 ghost use Rattle.ir_reader.specs.Judgeable.{IsJudgeable};
 ghost use Rattle.points.specs.Range.{AreInRange};

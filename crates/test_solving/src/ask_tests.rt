@@ -1,3 +1,5 @@
+//! Questions and their least answers.
+
 ghost use Rattle.std.specs.Prelude.{◌≡◌, ◌<◌, [], IfOk, IfSome, Some, slice_get};
 ghost use Rattle.bv_terms.specs.declared.term.Term.TheVariants as variant;
 ghost use Rattle.bv_terms.specs.Trees.{AreFit, IsTerm, tree_in};

@@ -1,3 +1,5 @@
+//! Clauses.
+
 use crate::clauses::clause;
 use crate::expecting::expect;
 use std::alloc::Global;

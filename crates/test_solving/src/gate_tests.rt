@@ -1,3 +1,5 @@
+//! Gates, and the clauses of circuits.
+
 use crate::expecting::expect;
 use crate::written_gates::written;
 use clause_lits::{Cnf, holds};

@@ -1,3 +1,5 @@
+//! Resolvents, chains and logs.
+
 use crate::clauses::{clause, cnf, is_found};
 use crate::expecting::expect;
 use clause_lits::Clause;

@@ -1,3 +1,5 @@
+//! Terms of values and tests.
+
 ghost use Rattle.bv_terms.specs.Trees.{IsTerm};
 
 use crate::expecting::expect;

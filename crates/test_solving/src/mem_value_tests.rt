@@ -1,5 +1,6 @@
-// What a value is where the other kind is wanted is read off the types of the LLVM Language
-// Reference: a pointer is no number, and a number no pointer, not even 0.
+//! What a value is where the other kind is wanted is read off the types of the LLVM Language
+//! Reference: a pointer is no number, and a number no pointer, not even 0.
+
 ghost use Rattle.std.specs.Prelude.{IfOk};
 ghost use Rattle.bv_terms.specs.Trees.{IsTerm, Keeps};
 ghost use Rattle.mem_terms.specs.Values.{IsSymValue};

@@ -1,5 +1,6 @@
-// Which outcomes with pointers and memory cover which, worked out by hand from Alive2 (PLDI 2021): a
-// pointer to a block of an alloca is dead after the run.
+//! Which outcomes with pointers and memory cover which, worked out by hand from Alive2 (PLDI 2021): a
+//! pointer to a block of an alloca is dead after the run.
+
 ghost use Rattle.std.specs.Prelude.{◌≡◌, [], ◌∷◌, IfOk, length, map};
 ghost use Rattle.bv_terms.specs.Trees.{Keeps};
 ghost use Rattle.mem_terms.specs.Values.{IsSymValue};

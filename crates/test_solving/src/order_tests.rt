@@ -1,3 +1,5 @@
+//! Bits in the order of an answer.
+
 use crate::expecting::expect;
 use answer_order::numbers_of;
 use std::test::Fail;

@@ -1,5 +1,6 @@
-// Which outcomes allow which is read off Alive2 (PLDI 2021), and which numbers are codes off the
-// order of points; neither is taken from the definitions.
+//! Which outcomes allow which is read off Alive2 (PLDI 2021), and which numbers are codes off the
+//! order of points; neither is taken from the definitions.
+
 ghost use Rattle.std.specs.Prelude.{◌≡◌, [], IfOk};
 ghost use Rattle.bv_terms.specs.Trees.{Keeps};
 ghost use Rattle.mem_terms.specs.Outcomes.{IsOutcome};

@@ -1,3 +1,5 @@
+//! Variables in another order, and back.
+
 use crate::clauses::{clause, cnf, is_found, literal};
 use crate::expecting::expect;
 use clause_lits::{Clause, Lit};

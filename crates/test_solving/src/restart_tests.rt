@@ -1,3 +1,5 @@
+//! The search of a question, with a limit and without.
+
 use crate::clauses::pigeons;
 use crate::solver_tests::{FOUR, is_model};
 use clause_lits::Cnf;

@@ -1,3 +1,5 @@
+//! The solvers on small clauses.
+
 use crate::clauses::{clause, cnf, pigeons};
 use clause_lits::Cnf;
 use clause_log::{Step, check_log};

@@ -1,3 +1,5 @@
+//! Values of terms.
+
 use crate::expecting::expect;
 use crate::gate_values::{number, values_of};
 use crate::written_terms::written;

@@ -1,3 +1,5 @@
+//! Steps of a log that its end does not need.
+
 use crate::clauses::{clause, cnf};
 use crate::expecting::expect;
 use crate::solver_tests::are_steps;

@@ -1,3 +1,5 @@
+//! Assignments of a search.
+
 use crate::clauses::literal;
 use crate::expecting::expect;
 use clause_search::{Entry, Trail, values};

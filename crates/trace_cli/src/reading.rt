@@ -1,4 +1,5 @@
-// What the arguments ask for.
+//! What the arguments ask for.
+
 ghost use Rattle.std.specs.Prelude.{◌≡◌, IfOk, IfSome, map, option_map, string_bytes};
 ghost use Rattle.clap.specs.Words.{found_of, rows_of};
 ghost use Rattle.points.specs.Range.{AreInRange};

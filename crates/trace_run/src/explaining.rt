@@ -1,4 +1,5 @@
-// What is written of a function.
+//! What is written of a function.
+
 ghost use Rattle.std.specs.Prelude.{◌≡◌, ◌≤◌, IfOk};
 ghost use Rattle.std.specs.List.{IsDistinct, AllByRecursion};
 ghost use Rattle.ir_tree.specs.Names.{same_name};

@@ -1,4 +1,5 @@
-// What is found of a request.
+//! What is found of a request.
+
 ghost use Rattle.std.specs.Prelude.{◌≡◌, IfOk, IfErr, OnOk};
 ghost use Rattle.tv_io.specs.State.{ShelfState};
 ghost use Rattle.points.specs.Range.{AreInRange};

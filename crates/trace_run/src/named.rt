@@ -1,4 +1,5 @@
-// The function of a name.
+//! The function of a name.
+
 ghost use Rattle.std.specs.Prelude.{◌≡◌, Some, None, IfOk, IfSome, IfNone};
 ghost use Rattle.std.specs.List.{AllByRecursion};
 ghost use Rattle.ir_reader.specs.Judgeable.{IsJudgeableEntry};

@@ -1,4 +1,5 @@
-// The whole call.
+//! The whole call.
+
 ghost use Rattle.std.specs.Prelude.{◌≡◌, ◌≢◌, ◌≤◌, ◌<◌, ◌⊎◌, ◌++◌, ◌∷◌, [], codes, OnOk, OnErr};
 ghost use Rattle.points.specs.Range.{AreInRange};
 ghost use Rattle.tv_io.specs.Count.{Rose};

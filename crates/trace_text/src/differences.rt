@@ -1,4 +1,5 @@
-// How two outcomes differ.
+//! How two outcomes differ.
+
 ghost use Rattle.std.specs.Prelude.{◌≡◌, ◌++◌, OnOk, slice_get};
 ghost use Rattle.trace_text.specs.TraceText.{block_named, block_left, difference_text, difference_line};
 

@@ -1,4 +1,5 @@
-// What is noted after a step.
+//! What is noted after a step.
+
 ghost use Rattle.std.specs.Prelude.{◌≡◌, ◌++◌, codes, OnOk};
 ghost use Rattle.std.specs.Fmt.{decimal};
 ghost use Rattle.trace_text.specs.TraceText.{operand_note, operand_notes, bytes_text, location_note, choice_notes, reason_note, because, result_notes, note, notes};

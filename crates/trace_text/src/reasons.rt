@@ -1,4 +1,5 @@
-// The words of reasons.
+//! The words of reasons.
+
 ghost use Rattle.std.specs.Prelude.{◌≡◌};
 ghost use Rattle.trace_text.specs.TraceText.{flag_text, reason_text};
 

@@ -1,4 +1,5 @@
-// The text of runs.
+//! The text of runs.
+
 ghost use Rattle.std.specs.Prelude.{◌≡◌, ◌++◌, OnOk, IfOk};
 ghost use Rattle.trace_text.specs.TraceText.{step_texts, returned_text, outcome_text, run_text, trace_text};
 

@@ -1,4 +1,5 @@
-// The line of a step.
+//! The line of a step.
+
 ghost use Rattle.std.specs.Prelude.{◌≡◌, ◌++◌, OnOk, IfSome, IfNone, slice_get, Some, None};
 ghost use Rattle.trace_text.specs.TraceText.{result_type, parameter_step, phi_step, inst_step, end_step, is_first, heading, step_in, block_step, missing_step, step_text};
 

@@ -1,4 +1,5 @@
-// Values of types.
+//! Values of types.
+
 ghost use Rattle.std.specs.Prelude.{◌≡◌, ◌++◌, false, codes, OnOk};
 ghost use Rattle.std.specs.Fmt.{digits};
 ghost use Rattle.trace_text.specs.TraceText.{negative_text, wide_text, number_text, turn_text, block_text, pointer_text, value_text, result_text};

@@ -1,3 +1,5 @@
+//! The job `check`: two files to a report.
+
 ghost use Rattle.std.specs.Prelude.{◌≡◌, ◌+◌, ◌*◌, ◌^◌, ◌<◌, ◌≤◌, All, length, map, IfOk, IfErr, OnOk, option_map};
 ghost use Rattle.std.specs.List.{filter_map};
 ghost use Rattle.tv_io.specs.State.{ShelfState};

@@ -1,3 +1,5 @@
+//! A whole run over files in memory.
+
 ghost use Rattle.std.specs.Prelude.{◌≡◌, ◌≤◌, IfOk};
 ghost use Rattle.tv_io.specs.MemoryShelf.{files_of};
 ghost use Rattle.tv_run.specs.Answers.{FitsIn};

@@ -1,3 +1,5 @@
+//! What reports say, and that there is one.
+
 ghost use Rattle.tv_run.specs.Laws.{FaultsAreOne, FileReportsAreDefined, FileReportsAreSound, ModulesHaveNoFault, PutProofsAreVerified, ReportsAreDefined, ReportsAreOne, ReportsAreSound};
 ghost use Rattle.tv_run.specs.OneReading.{TextsHaveOneListOfRows};
 

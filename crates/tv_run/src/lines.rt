@@ -1,3 +1,5 @@
+//! The line that a refusal writes.
+
 ghost use Rattle.std.specs.Prelude.{OnOk, OnErr};
 ghost use Rattle.tv_io.specs.State.{SinkState};
 ghost use Rattle.tv_io.specs.Taken.{IsWritten, IsCutOff};

@@ -1,3 +1,5 @@
+//! The job `log`: a proof file is checked.
+
 ghost use Rattle.std.specs.Prelude.{◌≡◌, List, IfOk, IfErr, OnOk};
 ghost use Rattle.tv_io.specs.State.{ShelfState};
 ghost use Rattle.proof_text.specs.declared.part.Part.{Part};

@@ -1,3 +1,5 @@
+//! Why a run stops without a report.
+
 use support::NoMemory;
 
 /// What keeps a proof file from being checked.

@@ -1,3 +1,5 @@
+//! The program: the command line to an exit status.
+
 ghost use Rattle.std.specs.Prelude.{◌≡◌, ◌≢◌, ◌≤◌, ◌<◌, ◌^◌, ◌⊎◌, ◌++◌, ◌∷◌, [], Some, codes, IfOk, OnErr, option_map};
 ghost use Rattle.points.specs.Range.{AreInRange};
 ghost use Rattle.tv_io.specs.Count.{Rose};
