@@ -41,13 +41,12 @@ pub fn explanation_of(
     // The law that no run of the source allows what an incorrect row shows; it does nothing.
     incorrect_fails();
     let OneRow { row, pair } = row_of(alloc, judge, source, target)?;
-    let mut rows = Vec::new(alloc);
-    rows.push(row)?;
-    let row = &rows[0];
     let runs = runs_of(alloc, &judge.bounds, &row.finding, &pair)?;
     let mut text = Vec::new(alloc);
-    push_row(alloc, &mut text, row)?;
+    push_row(alloc, &mut text, &row)?;
     text.extend_from_slice(runs.as_slice())?;
+    let mut rows = Vec::new(alloc);
+    rows.push(row)?;
     Ok(Explanation {
         text,
         status: status_of(rows.as_slice()),
