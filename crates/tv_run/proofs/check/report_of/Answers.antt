@@ -2,10 +2,10 @@ use Rattle.tv_run.proofs.Named.{judgeable_module}
 use Rattle.tv_run.proofs.check.report_of.Goals as goal
 
 pub report_of_modules-requires-clause-source_is : goal.report_of_modules-requires-clause-source_is
-report_of_modules-requires-clause-source_is g c = judgeable_module _ _ c.in_ok-both.ensures.modules.parsed.source_is
+report_of_modules-requires-clause-source_is g c = λ κs below. judgeable_module _ _ c.in_ok-both.ensures.modules.parsed.source_is
 
 pub report_of_modules-requires-clause-target_is : goal.report_of_modules-requires-clause-target_is
-report_of_modules-requires-clause-target_is g c = judgeable_module _ _ c.in_ok-both.ensures.modules.parsed.target_is
+report_of_modules-requires-clause-target_is g c = λ κs below. judgeable_module _ _ c.in_ok-both.ensures.modules.parsed.target_is
 
 pub returns-clause-reports : goal.returns-clause-reports
 returns-clause-reports g c = λ files known.
