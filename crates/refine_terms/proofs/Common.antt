@@ -1,6 +1,6 @@
 -- What proofs of this crate cite of std, of other crates and of its definitions, passed on from one place. Declares nothing.
 pub use Rattle.std.proofs.Common.{ℕ, ◌≡◌, ◌+◌, cond, not, ◌&&◌, ◌||◌, List, nat_eq, nat_lt, refl, ap, ◌∙◌, ◌<◌, ◌≤◌, ◌-◌, Bool, true, false, length, map, take, drop, get_or, sym, arith, zero, suc, ◌^◌, ◌↔◌, ◌⊎◌, inl, inr, nat_le, [], ◌∷◌, subst, length-append, ◌/◌, ◌%◌, Option, ◌*◌, ◌++◌}
-pub use Rattle.std.proofs.lemmas.Bool.{eqb-true, eq-eqb, and_from, or_left, or_right, or_cases}
+pub use Rattle.std.proofs.lemmas.Bool.{eqb-true, eq-eqb, both_ways, and_from, or_left, or_right, or_cases}
 pub use Rattle.std.proofs.lemmas.Bool.Decides.{nat_tests}
 pub use Rattle.std.proofs.lemmas.List.{drop_more, drop_all}
 pub use Rattle.std.specs.List.{flat_map}

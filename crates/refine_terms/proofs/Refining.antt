@@ -1,5 +1,5 @@
 -- The test of coverage is refinement.
-use Rattle.refine_terms.proofs.Common.{ℕ, zero, suc, ◌≡◌, ◌<◌, ◌≤◌, ◌+◌, ◌-◌, ◌/◌, ◌%◌, ◌^◌, Bool, true, false, cond, not, ◌&&◌, ◌||◌, List, [], ◌∷◌, length, map, take, drop, get_or, nat_eq, nat_lt, Option, refl, sym, ap, ◌∙◌, arith, eq-eqb, eqb-true, nat_tests, drop_more, drop_all, same_pointer, byte_allows, block_allows, blocks_allow, pairs_pass, value_allows, returned_allows, is_refined, truth, block_name, first_local, value_of, byte_of}
+use Rattle.refine_terms.proofs.Common.{ℕ, zero, suc, ◌≡◌, ◌<◌, ◌≤◌, ◌+◌, ◌-◌, ◌/◌, ◌%◌, ◌^◌, Bool, true, false, cond, not, ◌&&◌, ◌||◌, List, [], ◌∷◌, length, map, take, drop, get_or, nat_eq, nat_lt, Option, refl, sym, ap, ◌∙◌, arith, eq-eqb, eqb-true, both_ways, nat_tests, drop_more, drop_all, same_pointer, byte_allows, block_allows, blocks_allow, pairs_pass, value_allows, returned_allows, is_refined, truth, block_name, first_local, value_of, byte_of}
 use Rattle.byte_block.specs.declared.value.Value.{Value}
 use Rattle.byte_block.specs.declared.value.BlockName.{BlockName}
 use Rattle.byte_block.specs.declared.value.BlockName.TheVariants.{Null, Given, Local}
@@ -123,6 +123,15 @@ bytes_are (suc zero) zero m n p q bs bt i j = refl
 bytes_are (suc zero) (suc zero) m n p q bs bt i j = refl
 bytes_are (suc zero) (suc (suc l)) m n p q bs bt i j = let e = past_one l in rw (e.3, e.0, e.1) refl
 bytes_are (suc (suc k)) l m n p q bs bt i j = let e = past_one k in rw (e.0, e.1) refl
+
+-- a byte that is no part
+pub number_bytes_are : (k l m n p q : ℕ) (bs bt : BlockName) (i j : ℕ) → nat_eq k 1 ≡ false
+    → (not (nat_eq k 0) || (nat_eq k l && nat_eq m n)) ≡ byte_allows (byte_of k m (record { block = bs; offset = i }) p) (byte_of l n (record { block = bt; offset = j }) q)
+number_bytes_are zero zero m n p q bs bt i j h = refl
+number_bytes_are zero (suc zero) m n p q bs bt i j h = refl
+number_bytes_are zero (suc (suc l)) m n p q bs bt i j h = let e = past_one l in rw (e.2, e.0, e.1) refl
+number_bytes_are (suc zero) l m n p q bs bt i j h = absurd (both_ways true h refl)
+number_bytes_are (suc (suc k)) l m n p q bs bt i j h = let e = past_one k in rw (e.0, e.1) refl
 
 -- ---- lists of pairs
 

@@ -1,7 +1,7 @@
 -- The tests of two pointers, values and bytes.
-use Rattle.refine_terms.proofs.Common.{ℕ, ◌≡◌, ◌+◌, cond, not, ◌&&◌, ◌||◌, List, nat_eq, nat_lt, refl, ap, ◌∙◌, same_pointer, byte_allows, value_allows, TermId, Term, truth, AreInRange, IsTerm, Keeps, Makes, Tests, bit_at, term_at, SymByte, IsSymValue, block_name, first_local, reading, value_at, IsSymByte, byte_at, term-below, bit-later, keeps_trans, term-later}
+use Rattle.refine_terms.proofs.Common.{ℕ, ◌≡◌, ◌+◌, false, cond, not, ◌&&◌, ◌||◌, List, nat_eq, nat_lt, refl, ap, ◌∙◌, same_pointer, byte_allows, value_allows, TermId, Term, truth, AreInRange, IsTerm, Keeps, Makes, Tests, bit_at, term_at, SymByte, IsSymValue, block_name, first_local, reading, value_at, IsSymByte, byte_at, term-below, bit-later, keeps_trans, term-later}
 use Rattle.mem_terms.specs.declared.values.SymValue.{SymValue}
-use Rattle.refine_terms.proofs.Refining.{addresses_are, bytes_are, picked_truth, values_are}
+use Rattle.refine_terms.proofs.Refining.{addresses_are, bytes_are, number_bytes_are, picked_truth, values_are}
 
 -- ---- pointers
 
@@ -88,4 +88,24 @@ module _ (given : ℕ) (old a b c d e : List Term) (s t : SymByte) (content kind
         t5.says v ∙ (rw (t4.says v, kind_c, alike_is, t2.says v, term-later old a ka v s.kind hs.kind.within, term-later old a ka v t.kind ht.kind.within, content_is)
         (bytes_are (term_at v old s.kind) (term_at v old t.kind) (term_at v old s.number) (term_at v old t.number) (term_at v old s.part) (term_at v old t.part)
         (block_name given (term_at v old s.block)) (block_name given (term_at v old t.block)) (term_at v old s.offset) (term_at v old t.offset)));
+  }
+
+-- a byte that is no part of a pointer
+module _ (given : ℕ) (old a b c d e : List Term) (s t : SymByte) (number kind alike is_number id : TermId) (hs : IsSymByte old s) (ht : IsSymByte old t) (ka : Keeps old a) (kb : Keeps a b) (kc : Keeps b c) (kd : Keeps c d)
+    (no_part : (v : ℕ → ℕ → ℕ) → nat_eq (term_at v old s.kind) 1 ≡ false)
+    (t1 : Tests a number (λ v. nat_eq (term_at v old s.number) (term_at v old t.number)))
+    (t2 : Tests b kind (λ v. nat_eq (term_at v a s.kind) (term_at v a t.kind))) (t3 : Tests c alike (λ v. bit_at v b kind && bit_at v b number))
+    (t4 : Tests d is_number (λ v. nat_eq (term_at v c s.kind) 0)) (t5 : Tests e id (λ v. not (bit_at v d is_number) || bit_at v d alike)) where
+  pub number_byte_tests : Tests e id (λ v. byte_allows (byte_at (reading given v) old s) (byte_at (reading given v) old t))
+  unfolding byte_at
+  number_byte_tests = record {
+    within = t5.within;
+    wide = t5.wide;
+    says = λ v.
+        let kind_c = term-later old c (keeps_trans old b c (keeps_trans old a b ka kb) kc) v s.kind hs.kind.within in
+        let alike_is = bit-later c d kd v alike t3.within ∙ t3.says v in
+        let number_is = bit-later a b kb v number t1.within ∙ t1.says v in
+        t5.says v ∙ (rw (t4.says v, kind_c, alike_is, t2.says v, term-later old a ka v s.kind hs.kind.within, term-later old a ka v t.kind ht.kind.within, number_is)
+        (number_bytes_are (term_at v old s.kind) (term_at v old t.kind) (term_at v old s.number) (term_at v old t.number) (term_at v old s.part) (term_at v old t.part)
+        (block_name given (term_at v old s.block)) (block_name given (term_at v old t.block)) (term_at v old s.offset) (term_at v old t.offset) (no_part v)));
   }

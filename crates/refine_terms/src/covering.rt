@@ -1,6 +1,6 @@
 //! Whether one outcome allows another.
 
-ghost use Rattle.std.specs.Prelude.{◌≡◌, ◌&&◌, ◌||◌, IfOk, IfSome, length, map, nat_eq, nat_lt, take};
+ghost use Rattle.std.specs.Prelude.{◌≡◌, ◌&&◌, ◌||◌, ℕ, IfOk, IfSome, false, length, map, nat_eq, nat_lt, take};
 ghost use Rattle.std.specs.Option.{option_map};
 ghost use Rattle.points.specs.Refines.{block_allows, blocks_allow, byte_allows, is_refined, pairs_pass, returned_allows, value_allows};
 ghost use Rattle.bv_terms.specs.Trees.{IsTerm, Keeps, Tests, term_at};
@@ -16,6 +16,7 @@ use mem_terms::{
     less, negation, number, pick, truth,
 };
 use support::NoMemory;
+use term_rules::may_be;
 
 /// A pointer after a run.
 #[derive(Clone, Copy, Debug, PartialEq, Eq)]
@@ -230,6 +231,27 @@ fn other_byte_allowed(
     Ok(id)
 }
 
+/// True where the source's byte, which is no part of a pointer, allows the target's byte: where it is
+/// a number, the target's is that number.
+fn number_byte_allowed(
+    source: SymByte,
+    target: SymByte,
+    terms: &mut Terms,
+) -> Result<TermId, NoMemory>
+    requires source { IsSymByte terms.old source }
+    requires target { IsSymByte terms.old target }
+    requires no_part { (v : ℕ → ℕ → ℕ) → nat_eq (term_at v terms.old source.kind) 1 ≡ false }
+    ensures made { IfOk result (λ id. (given : ℕ) → Tests terms.new id (λ v. byte_allows (byte_at (reading given v) terms.old source) (byte_at (reading given v) terms.old target))) }
+    ensures kept { Keeps terms.old terms.new }
+{
+    let number = equals(terms, source.number, target.number)?;
+    let kind = equals(terms, source.kind, target.kind)?;
+    let alike = both(terms, kind, number)?;
+    let is_number_byte = is_number(source.kind, 0, terms)?;
+    let id = implies(terms, is_number_byte, alike)?;
+    Ok(id)
+}
+
 /// True where the source's byte allows the target's: poison allows every byte, and a byte itself.
 fn byte_allowed(
     given: u64,
@@ -244,6 +266,9 @@ fn byte_allowed(
 {
     if source == target {
         let id = truth(terms, true)?;
+        Ok(id)
+    } else if !may_be(terms, source.kind, 1) {
+        let id = number_byte_allowed(source, target, terms)?;
         Ok(id)
     } else {
         let id = other_byte_allowed(given, source, target, terms)?;

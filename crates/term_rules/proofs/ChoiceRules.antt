@@ -1,9 +1,9 @@
 -- Why the rules of choices are right.
-use Rattle.term_rules.proofs.Common.{ap, ℕ, ◌≡◌, ◌<◌, ◌≤◌, ◌+◌, ◌-◌, ◌^◌, Bool, true, false, cond, not, List, length, arith, ◌∙◌, sym, subst, refl, inl, inr, bit_and, bit_or, and_zero_l, or_zero_l, cases_eq, and_comm, or_comm, TermId, Term, Tree, value_of, width_of, truth, AreInRange, bit_at, term_at, tree_in, weight_of, Form, Built, Simplifies}
+use Rattle.term_rules.proofs.Common.{ap, ℕ, ◌≡◌, ◌<◌, ◌+◌, ◌-◌, ◌^◌, Bool, true, false, cond, not, List, length, arith, ◌∙◌, sym, subst, refl, inl, inr, bit_and, bit_or, and_zero_l, or_zero_l, cases_eq, and_comm, or_comm, TermId, Term, Tree, value_of, width_of, truth, AreInRange, bit_at, term_at, tree_in, weight_of, Form, Built, Simplifies}
 use Rattle.bv_terms.specs.declared.term.BinaryOp.TheVariants as op
 use Rattle.bv_terms.specs.declared.term.Term.TheVariants as term
 use Rattle.bv_terms.specs.Tree as tree
-use Rattle.term_rules.proofs.Simplifying.{same_tree, simplifies_like}
+use Rattle.term_rules.proofs.Simplifying.{simplifies_like}
 use Rattle.term_rules.proofs.BitRules.{and_ones, or_ones}
 
 -- ---- truths as numbers
@@ -68,18 +68,3 @@ module _ (terms : List Term) (c a b : TermId) (range : AreInRange terms) (lc : c
       simplifies_like terms _ _ form s (sym alike)
       (λ v. sym (ap (λ k. cond k (term_at v terms a) (term_at v terms b)) (says v) ∙ cond-not (bit_at v terms t) (term_at v terms a) (term_at v terms b)))
       (omega (arith, weight))
-
--- ---- arms that are choices by the same condition
-
-module _ (terms : List Term) (c same first second a : TermId) (width : ℕ)
-    (is : tree.Ite (tree_in terms same) (tree_in terms first) (tree_in terms second) width ≡ tree_in terms a) (e : same.index ≡ c.index) where
-  value-is : (v : ℕ → ℕ → ℕ) → term_at v terms a ≡ cond (bit_at v terms c) (term_at v terms first) (term_at v terms second)
-  value-is v =
-      ap (value_of v) (sym is)
-      ∙ ap (λ (x : Tree). cond (truth (value_of v x)) (term_at v terms first) (term_at v terms second)) (same_tree terms same c e)
-
-  pub first_arm : (v : ℕ → ℕ → ℕ) → bit_at v terms c ≡ true → term_at v terms first ≡ term_at v terms a
-  first_arm v h = sym (value-is v ∙ ap (λ k. cond k (term_at v terms first) (term_at v terms second)) h)
-
-  pub second_arm : (v : ℕ → ℕ → ℕ) → bit_at v terms c ≡ false → term_at v terms second ≡ term_at v terms a
-  second_arm v h = sym (value-is v ∙ ap (λ k. cond k (term_at v terms first) (term_at v terms second)) h)

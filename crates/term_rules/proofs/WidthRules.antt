@@ -1,5 +1,5 @@
 -- Why the rules of parts of numbers are right.
-use Rattle.term_rules.proofs.Common.{ap, ℕ, ◌≡◌, ◌<◌, ◌≤◌, ◌+◌, ◌-◌, ◌*◌, ◌/◌, ◌%◌, ◌^◌, false, cond, List, length, arith, ◌∙◌, sym, subst, refl, lt-leb, field_of, mod_low, mod-pow-add, pow_pos, shr-shr, shr_high, div-eq_of_lt, div-one, mod-eq_of_lt, zero-mod, mod-mod-pow, TermId, Term, Tree, extended_signed, is_negative, value_of, width_of, AreInRange, IsWidth, term_at, tree_in, weight_of, pow-le, Form, Built, Known, Simplifies}
+use Rattle.term_rules.proofs.Common.{ap, ℕ, ◌≡◌, ◌<◌, ◌≤◌, ◌+◌, ◌-◌, ◌*◌, ◌/◌, ◌%◌, ◌^◌, false, cond, List, length, arith, ◌∙◌, sym, subst, refl, lt-leb, field_of, mod_low, mod-pow-add, pow_pos, shr-shr, shr_high, div-eq_of_lt, div-one, mod-eq_of_lt, zero-mod, mod-mod-pow, TermId, Term, Tree, extended_signed, is_negative, value_of, width_of, AreInRange, IsWidth, term_at, tree_in, weight_of, pow-le, Form, Built, Known, BitRange, IsSamePart, Simplifies}
 use Rattle.bv_terms.specs.declared.term.Term.TheVariants as term
 use Rattle.bv_terms.specs.Tree as tree
 use Rattle.term_rules.proofs.Simplifying.{constant_form, same_tree, simplifies_like}
@@ -33,10 +33,6 @@ joined-high high low below from width lt le =
     ap (λ k. k % 2 ^ width)
     (sym (ap (λ j. n / 2 ^ j) e) ∙ (sym (shr-shr n below (from - below)) ∙ ap (λ k. k / 2 ^ (from - below)) (shr_high high below low lt)))
 
-part-above : (x w from width : ℕ) → x < 2 ^ w → w ≤ from → x / 2 ^ from % 2 ^ width ≡ 0
-part-above x w from width lt le =
-    ap (λ k. k % 2 ^ width) (div-eq_of_lt (let small : x < 2 ^ from = omega (arith, lt, pow-le w from le) in small)) ∙ zero-mod (2 ^ width)
-
 -- ---- rules
 
 pub whole_part : (terms : List Term) (a : TermId) (from width : ℕ) → AreInRange terms → a.index < length terms → from + width ≤ width_of (tree_in terms a) → width ≡ width_of (tree_in terms a)
@@ -53,41 +49,54 @@ whole_part terms a from width range la le e =
       least = omega arith;
     }
 
-module _ (terms : List Term) (a : TermId) (range : AreInRange terms) (from width : ℕ) (form : Form) where
-  pub part_of_part : (inner : TermId) (below n : ℕ) → tree.Extract (tree_in terms inner) below n ≡ tree_in terms a → from + width ≤ width_of (tree_in terms a)
-      → Simplifies terms (tree.Extract (tree_in terms inner) (below + from) width) form → Simplifies terms (tree.Extract (tree_in terms a) from width) form
-  part_of_part inner below n is le s =
+module _ (terms : List Term) (a : TermId) (range : AreInRange terms) (from width : ℕ) where
+  pub part_of_part : (inner : TermId) (below n : ℕ) → tree.Extract (tree_in terms inner) below n ≡ tree_in terms a → inner.index < length terms
+      → below + n ≤ width_of (tree_in terms inner) → from + width ≤ width_of (tree_in terms a) → IsSamePart terms a from width (record { a = inner; from = below + from })
+  part_of_part inner below n is lt wide le =
       let within : from + width ≤ n = omega (arith, le, ap width_of is) in
       let weight : weight_of (tree_in terms a) ≡ 1 + weight_of (tree_in terms inner) = ap weight_of (sym is) in
-      simplifies_like terms _ _ form s refl
-      (λ v. sym (ap (λ (t : Tree). value_of v t / 2 ^ from % 2 ^ width) (sym is) ∙ part-part (term_at v terms inner) below n from width within))
-      (omega (arith, weight))
+      record {
+        within = lt;
+        most = omega (arith, within, wide);
+        says = λ v. sym (ap (λ (t : Tree). value_of v t / 2 ^ from % 2 ^ width) (sym is) ∙ part-part (term_at v terms inner) below n from width within);
+        least = omega (arith, weight);
+      }
 
   pub part_of_low : (high low : TermId) (below n : ℕ) → tree.Concat (tree_in terms high) (tree_in terms low) below n ≡ tree_in terms a → low.index < length terms
-      → width_of (tree_in terms low) ≡ below → from + width ≤ below
-      → Simplifies terms (tree.Extract (tree_in terms low) from width) form → Simplifies terms (tree.Extract (tree_in terms a) from width) form
-  part_of_low high low below n is lt wide le s =
+      → width_of (tree_in terms low) ≡ below → from + width ≤ below → IsSamePart terms a from width (record { a = low; from = from })
+  part_of_low high low below n is lt wide le =
       let weight : weight_of (tree_in terms a) ≡ 1 + weight_of (tree_in terms high) + weight_of (tree_in terms low) = ap weight_of (sym is) in
-      simplifies_like terms _ _ form s refl
-      (λ v. sym (ap (λ (t : Tree). value_of v t / 2 ^ from % 2 ^ width) (sym is)
-      ∙ joined-low (term_at v terms high) (term_at v terms low) below from width (subst (λ k. term_at v terms low < 2 ^ k) wide (range v low lt)) le))
-      (omega (arith, weight))
+      record {
+        within = lt;
+        most = omega (arith, wide, le);
+        says = λ v. sym (ap (λ (t : Tree). value_of v t / 2 ^ from % 2 ^ width) (sym is)
+            ∙ joined-low (term_at v terms high) (term_at v terms low) below from width (subst (λ k. term_at v terms low < 2 ^ k) wide (range v low lt)) le);
+        least = omega (arith, weight);
+      }
 
-  pub part_of_high : (high low : TermId) (below n : ℕ) → tree.Concat (tree_in terms high) (tree_in terms low) below n ≡ tree_in terms a → low.index < length terms
-      → width_of (tree_in terms low) ≡ below → below ≤ from
-      → Simplifies terms (tree.Extract (tree_in terms high) (from - below) width) form → Simplifies terms (tree.Extract (tree_in terms a) from width) form
-  part_of_high high low below n is lt wide le s =
+  pub part_of_high : (high low : TermId) (below n : ℕ) → tree.Concat (tree_in terms high) (tree_in terms low) below n ≡ tree_in terms a → high.index < length terms → low.index < length terms
+      → width_of (tree_in terms low) ≡ below → width_of (tree_in terms high) + below ≡ n → below ≤ from → from + width ≤ width_of (tree_in terms a)
+      → IsSamePart terms a from width (record { a = high; from = from - below })
+  part_of_high high low below n is lh lt wide sum le most =
       let weight : weight_of (tree_in terms a) ≡ 1 + weight_of (tree_in terms high) + weight_of (tree_in terms low) = ap weight_of (sym is) in
-      simplifies_like terms _ _ form s refl
-      (λ v. sym (ap (λ (t : Tree). value_of v t / 2 ^ from % 2 ^ width) (sym is)
-      ∙ joined-high (term_at v terms high) (term_at v terms low) below from width (subst (λ k. term_at v terms low < 2 ^ k) wide (range v low lt)) le))
-      (omega (arith, weight))
+      record {
+        within = lh;
+        most = omega (arith, sum, le, most, ap width_of is);
+        says = λ v. sym (ap (λ (t : Tree). value_of v t / 2 ^ from % 2 ^ width) (sym is)
+            ∙ joined-high (term_at v terms high) (term_at v terms low) below from width (subst (λ k. term_at v terms low < 2 ^ k) wide (range v low lt)) le);
+        least = omega (arith, weight);
+      }
 
-pub part_above : (terms : List Term) (a inner : TermId) (n from width : ℕ) → AreInRange terms → IsWidth width → tree.Zext (tree_in terms inner) n ≡ tree_in terms a → inner.index < length terms
-    → width_of (tree_in terms inner) ≤ from → Simplifies terms (tree.Extract (tree_in terms a) from width) (Built (term.Constant 0 width))
-part_above terms a inner n from width range wide is lt le = constant_form terms _ 0 width wide (pow_pos width) refl
-    (λ v. ap (λ (t : Tree). value_of v t / 2 ^ from % 2 ^ width) (sym is)
-    ∙ part-above (term_at v terms inner) (width_of (tree_in terms inner)) from width (range v inner lt) le)
+pub part_above : (terms : List Term) (a : TermId) (from width : ℕ) (p : BitRange) → IsWidth width → IsSamePart terms a from width p
+    → ((v : ℕ → ℕ → ℕ) → term_at v terms p.a < 2 ^ p.from) → Simplifies terms (tree.Extract (tree_in terms a) from width) (Built (term.Constant 0 width))
+part_above terms a from width p wide same below = constant_form terms _ 0 width wide (pow_pos width) refl
+    (λ v. sym (same.says v) ∙ (ap (λ k. k % 2 ^ width) (div-eq_of_lt (below v)) ∙ zero-mod (2 ^ width)))
+
+pub zext_below : (terms : List Term) (a inner : TermId) (n from : ℕ) → AreInRange terms → tree.Zext (tree_in terms inner) n ≡ tree_in terms a → inner.index < length terms
+    → width_of (tree_in terms inner) ≤ from → (v : ℕ → ℕ → ℕ) → term_at v terms a < 2 ^ from
+zext_below terms a inner n from range is lt le v =
+    let e : term_at v terms a ≡ term_at v terms inner = ap (value_of v) (sym is) in
+    omega (arith, e, range v inner lt, pow-le (width_of (tree_in terms inner)) from le)
 
 -- ---- parts next to each other
 

@@ -1,12 +1,13 @@
 -- What it means that a form has the value of a tree, and at most as many nodes.
-use Rattle.std.specs.Prelude.{ℕ, ◌≡◌, ◌<◌, ◌≤◌, ◌+◌, ◌-◌, ◌*◌, ◌%◌, ◌^◌, List, bit_and, bit_or, bit_xor, length}
+use Rattle.std.specs.Prelude.{ℕ, ◌≡◌, ◌<◌, ◌≤◌, ◌+◌, ◌-◌, ◌*◌, ◌/◌, ◌%◌, ◌^◌, Bool, true, List, nat_eq, bit_and, bit_or, bit_xor, length}
 use Rattle.bv_terms.specs.declared.term.BinaryOp.TheVariants as op
 use Rattle.bv_terms.specs.declared.term.TermId.{TermId}
 use Rattle.bv_terms.specs.declared.term.Term.{Term}
 use Rattle.bv_terms.specs.Tree as tree
 use Rattle.bv_terms.specs.Tree.{Tree, quotient, value_of, width_of}
-use Rattle.bv_terms.specs.Trees.{AreMatched, IsNoVariable, IsTerm, IsWidth, IsWithin, term_at, tree_in, tree_of, trees_of}
+use Rattle.bv_terms.specs.Trees.{AreMatched, IsNoVariable, IsTerm, IsWidth, IsWithin, bit_at, term_at, tree_in, tree_of, trees_of}
 use Rattle.known_values.specs.Weight.{weight_of}
+use Rattle.term_rules.specs.declared.conditions.Equation.{Equation}
 use Rattle.term_rules.specs.declared.factors.Factors.{Factors}
 use Rattle.term_rules.specs.declared.form.Form.{Form}
 use Rattle.term_rules.specs.declared.form.Form.TheVariants.{Built, Known, Raised, Shifted}
@@ -15,6 +16,7 @@ use Rattle.term_rules.specs.declared.low_bits.Kind.TheVariants.{Sum, Difference,
 use Rattle.term_rules.specs.declared.low_bits.Narrowing.{Narrowing}
 use Rattle.term_rules.specs.declared.low_bits.Operation.{Operation}
 use Rattle.term_rules.specs.declared.shrinking.Shrunk.{Shrunk}
+use Rattle.term_rules.specs.declared.widths.BitRange.{BitRange}
 
 -- a term that is there, one over terms that are there, the sum of one with a number, or one shifted left
 abbrev pub form_tree : List Term → Form → Tree
@@ -184,3 +186,29 @@ pub record IsMultiple (terms : List Term) (a b divisor : TermId) : Type 0 where
   pub says : (v : ℕ → ℕ → ℕ) → term_at v terms b
       ≡ (quotient (width_of (tree_in terms b)) (term_at v terms a) (term_at v terms divisor) * term_at v terms divisor) % 2 ^ width_of (tree_in terms b)
   pub least : 2 + weight_of (tree_in terms a) + weight_of (tree_in terms divisor) ≤ weight_of (tree_in terms b)
+
+-- ---- parts of terms
+
+-- the bits from here on are those of the term, and are in it
+pub record IsSamePart (terms : List Term) (a : TermId) (from width : ℕ) (inner : BitRange) : Type 0 where
+  pub within : inner.a.index < length terms
+  pub most : inner.from + width ≤ width_of (tree_in terms inner.a)
+  pub says : (v : ℕ → ℕ → ℕ) → term_at v terms inner.a / 2 ^ inner.from % 2 ^ width ≡ term_at v terms a / 2 ^ from % 2 ^ width
+  pub least : weight_of (tree_in terms inner.a) ≤ weight_of (tree_in terms a)
+
+-- ---- conditions and choices
+
+-- where the first is true, the second is this
+pub record Entails (terms : List Term) (c d : TermId) (known : Bool) : Type 0 where
+  pub says : (v : ℕ → ℕ → ℕ) → bit_at v terms c ≡ true → bit_at v terms d ≡ known
+
+-- the term is true exactly where the other is this number
+pub record IsEquation (terms : List Term) (a : TermId) (e : Equation) : Type 0 where
+  pub says : (v : ℕ → ℕ → ℕ) → bit_at v terms a ≡ nat_eq e.number (term_at v terms e.term)
+
+-- the term has the width of the other, its value where the condition is this, and at most as many nodes
+pub record IsArm (terms : List Term) (c : TermId) (known : Bool) (a arm : TermId) : Type 0 where
+  pub within : arm.index < length terms
+  pub wide : width_of (tree_in terms arm) ≡ width_of (tree_in terms a)
+  pub says : (v : ℕ → ℕ → ℕ) → bit_at v terms c ≡ known → term_at v terms arm ≡ term_at v terms a
+  pub least : weight_of (tree_in terms arm) ≤ weight_of (tree_in terms a)

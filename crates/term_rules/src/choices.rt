@@ -5,11 +5,15 @@ ghost use Rattle.bv_terms.specs.Tree as tree;
 ghost use Rattle.bv_terms.specs.Tree.{width_of};
 ghost use Rattle.bv_terms.specs.Trees.{bit_at, term_at, tree_in};
 ghost use Rattle.known_values.specs.Weight.{weight_of};
-ghost use Rattle.term_rules.specs.Forms.{Simplifies};
+ghost use Rattle.term_rules.specs.Forms.{IsArm, Simplifies};
 
+use crate::conditions::{known_where_false, known_where_true};
 use crate::form::Form;
 use crate::reading::{number, term};
 use bv_terms::{BinaryOp, Term, TermId, Terms};
+
+/// How many choices are made, one below the other, by what is known of their conditions.
+const CHOICES: u32 = 64;
 
 /// A choice between truths of which one or both are constants, if it is an operation on truths.
 fn choice_of_truths(terms: &Terms, c: TermId, a: TermId, b: TermId) -> Option<Form>
@@ -31,7 +35,47 @@ fn choice_of_truths(terms: &Terms, c: TermId, a: TermId, b: TermId) -> Option<Fo
     }
 }
 
-/// What the term is where the condition is true: the first arm of a choice by the same condition.
+/// The arm of a choice by a condition that is known where `c` is true.
+fn arm_where_true(terms: &Terms, c: TermId, a: TermId) -> Option<TermId>
+    requires c { c.index < length terms.now }
+    requires a { a.index < length terms.now }
+    ensures { IfSome result (IsArm terms.now c true a) }
+{
+    match term(terms, a) {
+        Term::Ite {
+            c: d,
+            a: first,
+            b: second,
+            ..
+        } => {
+            let known = known_where_true(terms, c, d)?;
+            Some(if known { first } else { second })
+        }
+        _ => None,
+    }
+}
+
+/// The arm of a choice by a condition that is known where `c` is false.
+fn arm_where_false(terms: &Terms, c: TermId, a: TermId) -> Option<TermId>
+    requires c { c.index < length terms.now }
+    requires a { a.index < length terms.now }
+    ensures { IfSome result (IsArm terms.now c false a) }
+{
+    match term(terms, a) {
+        Term::Ite {
+            c: d,
+            a: first,
+            b: second,
+            ..
+        } => {
+            let known = known_where_false(terms, c, d)?;
+            Some(if known { first } else { second })
+        }
+        _ => None,
+    }
+}
+
+/// What the term is where the condition is true: an arm of choices by what is then known.
 fn where_true(terms: &Terms, c: TermId, a: TermId) -> TermId
     requires c { c.index < length terms.now }
     requires a { a.index < length terms.now }
@@ -40,17 +84,17 @@ fn where_true(terms: &Terms, c: TermId, a: TermId) -> TermId
     ensures says { (v : ℕ → ℕ → ℕ) → bit_at v terms.now c ≡ true → term_at v terms.now result ≡ term_at v terms.now a }
     ensures least { weight_of (tree_in terms.now result) ≤ weight_of (tree_in terms.now a) }
 {
-    match term(terms, a) {
-        Term::Ite {
-            c: same,
-            a: first,
-            ..
-        } if same.index == c.index => first,
-        _ => a,
+    let mut at = a;
+    for _ in 0..CHOICES {
+        match arm_where_true(terms, c, at) {
+            Some(arm) => at = arm,
+            None => return at,
+        }
     }
+    at
 }
 
-/// What the term is where the condition is false: the second arm of a choice by the same condition.
+/// What the term is where the condition is false: an arm of choices by what is then known.
 fn where_false(terms: &Terms, c: TermId, a: TermId) -> TermId
     requires c { c.index < length terms.now }
     requires a { a.index < length terms.now }
@@ -59,14 +103,14 @@ fn where_false(terms: &Terms, c: TermId, a: TermId) -> TermId
     ensures says { (v : ℕ → ℕ → ℕ) → bit_at v terms.now c ≡ false → term_at v terms.now result ≡ term_at v terms.now a }
     ensures least { weight_of (tree_in terms.now result) ≤ weight_of (tree_in terms.now a) }
 {
-    match term(terms, a) {
-        Term::Ite {
-            c: same,
-            b: second,
-            ..
-        } if same.index == c.index => second,
-        _ => a,
+    let mut at = a;
+    for _ in 0..CHOICES {
+        match arm_where_false(terms, c, at) {
+            Some(arm) => at = arm,
+            None => return at,
+        }
     }
+    at
 }
 
 /// The choice between two arms, neither of which is a choice by the same condition.

@@ -18,11 +18,13 @@ mod building;
 mod choices;
 mod comparisons;
 mod complements;
+mod conditions;
 mod divisions;
 mod factors;
 mod form;
 mod low_bits;
 mod multiples;
+mod possible;
 mod reading;
 mod shifts;
 mod shrinking;
@@ -32,3 +34,4 @@ pub use builders::{
     add, and, ashr, concat, constant, eq, extract, ite, lshr, mul, not, or, sext, shl, slt, sub,
     udiv, ult, urem, variable, xor, zext,
 };
+pub use possible::may_be;

@@ -1,14 +1,24 @@
 //! Rules of parts of numbers, and of numbers at other widths.
 
-ghost use Rattle.std.specs.Prelude.{◌≡◌, ◌<◌, ◌≤◌, ◌+◌, IfSome, length};
+ghost use Rattle.std.specs.Prelude.{◌≡◌, ◌<◌, ◌≤◌, ◌+◌, ◌^◌, ℕ, IfSome, IsTrue, length};
 ghost use Rattle.bv_terms.specs.Tree as tree;
 ghost use Rattle.bv_terms.specs.Tree.{width_of};
-ghost use Rattle.bv_terms.specs.Trees.{tree_in};
-ghost use Rattle.term_rules.specs.Forms.{Simplifies};
+ghost use Rattle.bv_terms.specs.Trees.{term_at, tree_in};
+ghost use Rattle.term_rules.specs.Forms.{IsSamePart, Simplifies};
 
 use crate::form::Form;
 use crate::reading::{number, term};
 use bv_terms::{Term, TermId, Terms};
+
+/// How many operations a part is taken through.
+const NESTING: u32 = 32;
+
+/// Bits of a term, from bit `from` on.
+#[derive(Clone, Copy)]
+pub struct BitRange {
+    pub a: TermId,
+    pub from: u32,
+}
 
 /// The bits of the term, which is all of it or a part.
 fn bits(terms: &Terms, a: TermId, from: u32, width: u32) -> Form
@@ -25,12 +35,11 @@ fn bits(terms: &Terms, a: TermId, from: u32, width: u32) -> Form
     }
 }
 
-/// `width` bits of `a` from bit `from` on.
-pub fn part(terms: &Terms, a: TermId, from: u32, width: u32) -> Form
+/// The bits as those of an operand, if they plainly are.
+fn narrower(terms: &Terms, a: TermId, from: u32, width: u32) -> Option<BitRange>
     requires a { a.index < length terms.now }
-    requires least { 1 ≤ width }
     requires most { from + width ≤ width_of (tree_in terms.now a) }
-    ensures { Simplifies terms.now (tree.Extract (tree_in terms.now a) from width) result }
+    ensures { IfSome result (IsSamePart terms.now a from width) }
 {
     terms.values_fit();
     let _whole = terms.width(a);
@@ -41,18 +50,66 @@ pub fn part(terms: &Terms, a: TermId, from: u32, width: u32) -> Form
             ..
         } => {
             let _inner = terms.width(inner);
-            bits(terms, inner, below + from, width)
+            Some(BitRange {
+                a: inner,
+                from: below + from,
+            })
         }
-        Term::Concat { low, below, .. } if from + width <= below => bits(terms, low, from, width),
-        Term::Concat { high, below, .. } if below <= from => bits(terms, high, from - below, width),
-        Term::Zext { a: inner, .. } if from + width <= terms.width(inner) => bits(
-            terms, inner, from, width,
-        ),
-        Term::Zext { a: inner, .. } if terms.width(inner) <= from => Form::Built(Term::Constant {
-            value: 0,
-            width,
+        Term::Concat { low, below, .. } if from + width <= below => Some(BitRange { a: low, from }),
+        Term::Concat { high, below, .. } if below <= from => Some(BitRange {
+            a: high,
+            from: from - below,
         }),
-        _ => bits(terms, a, from, width),
+        Term::Zext { a: inner, .. } if from + width <= terms.width(inner) => Some(BitRange {
+            a: inner,
+            from,
+        }),
+        _ => None,
+    }
+}
+
+/// The bits as those of the term that they come from, through at most `NESTING` parts,
+/// concatenations and widenings.
+fn innermost(terms: &Terms, a: TermId, from: u32, width: u32) -> BitRange
+    requires a { a.index < length terms.now }
+    requires most { from + width ≤ width_of (tree_in terms.now a) }
+    ensures { IsSamePart terms.now a from width result }
+{
+    let mut at = BitRange { a, from };
+    for _ in 0..NESTING {
+        match narrower(terms, at.a, at.from, width) {
+            Some(inner) => at = inner,
+            None => return at,
+        }
+    }
+    at
+}
+
+/// Whether the term plainly is 0 from bit `from` on.
+fn ends_below(terms: &Terms, a: TermId, from: u32) -> bool
+    requires { a.index < length terms.now }
+    ensures { IsTrue result → (v : ℕ → ℕ → ℕ) → term_at v terms.now a < 2 ^ from }
+{
+    terms.values_fit();
+    match term(terms, a) {
+        Term::Zext { a: inner, .. } => terms.width(inner) <= from,
+        _ => false,
+    }
+}
+
+/// `width` bits of `a` from bit `from` on.
+pub fn part(terms: &Terms, a: TermId, from: u32, width: u32) -> Form
+    requires a { a.index < length terms.now }
+    requires least { 1 ≤ width }
+    requires most { from + width ≤ width_of (tree_in terms.now a) }
+    ensures { Simplifies terms.now (tree.Extract (tree_in terms.now a) from width) result }
+{
+    let _whole = terms.width(a);
+    let inner = innermost(terms, a, from, width);
+    if ends_below(terms, inner.a, inner.from) {
+        Form::Built(Term::Constant { value: 0, width })
+    } else {
+        bits(terms, inner.a, inner.from, width)
     }
 }
 
