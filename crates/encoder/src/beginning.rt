@@ -169,6 +169,7 @@ pub fn begin(
         undefined,
         state: RunState {
             alive,
+            path: Sequence::from_vec(Vec::new(alloc)),
             registers,
             memory,
             tally: Tally { read, fits },

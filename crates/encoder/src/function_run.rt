@@ -71,6 +71,7 @@ fn no_end(setting: Setting, terms: &mut Terms, memory: &RunMemory) -> Result<End
         value,
         blocks,
         tally: Tally { read, fits: never },
+        returned: None,
     })
 }
 
@@ -105,6 +106,7 @@ fn enter(setting: Setting, terms: &mut Terms, input: &InputTerms) -> Result<Fron
         label: 0,
         ahead: 0,
         c: state.alive,
+        path: state.path.as_slice(),
         state: &state,
     };
     follow(setting, terms, &mut frontier, leaving, Edge::Copy(0))?;

@@ -58,6 +58,7 @@ fn run_copy(
         label: block.label,
         ahead: number + 1,
         c: state.alive,
+        path: state.path.as_slice(),
         state: &state,
     };
     let edges = copy.edges.as_slice();

@@ -1,5 +1,5 @@
 -- What proofs of this crate cite of std, of other crates and of its definitions, passed on from one place. Declares nothing.
-pub use Rattle.std.proofs.Common.{ℕ, ◌≡◌, ◌<◌, ◌≤◌, ◌+◌, ◌++◌, ◌∷◌, [], ◌∙◌, List, length, drop, get_or, refl, ap, sym, zero, suc, Bool, true, false, ◌&&◌, ◌||◌, cond, map, take, nat_eq, nat_lt, nat_le, inl, inr, subst, arith, ◌-◌, length-append, Option, Some, None, IfSome, not, slice_set, if◌then◌else◌, ◌%◌, ◌^◌, slice_index, add-one, replicate, max, ◌⊎◌}
+pub use Rattle.std.proofs.Common.{ℕ, ◌≡◌, ◌<◌, ◌≤◌, ◌+◌, ◌++◌, ◌∷◌, [], ◌∙◌, List, length, drop, get_or, refl, ap, sym, zero, suc, Bool, true, false, ◌&&◌, ◌||◌, cond, map, take, nat_eq, nat_lt, nat_le, inl, inr, subst, arith, ◌-◌, length-append, Option, Some, None, IfSome, not, slice_set, if◌then◌else◌, ◌%◌, ◌^◌, slice_index, add-one, replicate, max, ◌⊎◌, Bor}
 pub use Rattle.std.proofs.Math.Bool.{or-false, or-true, and-true, or_assoc, and_assoc}
 pub use Rattle.std.proofs.Math.Dec.{eqb-suc-zero, eqb-zero-suc, eqb-suc-suc}
 pub use Rattle.std.proofs.lemmas.Bool.{cases_Bool, eqb-true, eqb-false, cases_lt, lt-leb, le-leb}
@@ -53,7 +53,8 @@ pub use Rattle.unroll.specs.Layers.{edge_to, copies_of, left_by, pass_copy, run_
 unfoldable pub use Rattle.unroll.specs.Layers.{layer_of, layers_of, walk}
 pub use Rattle.unroll.specs.declared.layered.BlockCopy.{BlockCopy}
 pub use Rattle.unroll.specs.declared.layered.Edge.{Edge}
-pub use Rattle.run_terms.specs.Common.{Value, Term, Keeps, bit_at, SymBlock, Each, first_local, frame_of, RunMemory, AreNumberedFrom, IsRunMemory, Scene, sight, TermId, IsTerm, Reading, AreGivenBlocks, AreSymBlocks, frames_in, Machine, Where, At, Done, Tests, RunState, IsState, MatchesState, Visit, visit_of, AreStates, IsUnreached, MatchesAhead, MatchesEntry, operand_value, SymValue, IsNaming, IsSymValue, value_at, values_at, memory_at, Tally, Always, Counts, IsTally, MatchesCourse, Steps, shape_of, stepped, AreWords, Ending, Frontier, Leaving, Setting, Sees, HasShape, IsEnding, IsFrontier, IsLeaving, MatchesEnding, MatchesFrontier, ending_at, Run, StateShape, Ends, Leaves, Makes, term_at, words_at, AreSymValues, as_integer, branched, switched_on, ended, AreByLabel, HaveShape, IsCopyIn, Simulates, placed, shape_in, along, Everywhere, EndedSo, typed_operand_value, NotEnded, ending_shape}
-pub use Rattle.run_terms.specs.Frontier.{EndingShape, IsReturned, entering, arrived}
+pub use Rattle.run_terms.specs.Common.{Value, Term, Keeps, bit_at, SymBlock, Each, first_local, frame_of, RunMemory, AreNumberedFrom, IsRunMemory, Scene, sight, TermId, IsTerm, Reading, AreGivenBlocks, AreSymBlocks, frames_in, Machine, Where, At, Done, Tests, RunState, IsState, MatchesState, Visit, visit_of, AreStates, IsUnreached, MatchesAhead, MatchesEntry, operand_value, SymValue, IsNaming, IsSymValue, value_at, values_at, memory_at, Tally, Always, Counts, IsTally, MatchesCourse, Steps, shape_of, stepped, AreWords, Ending, Frontier, Leaving, Setting, Sees, HasShape, IsEnding, IsFrontier, IsLeaving, MatchesEnding, MatchesFrontier, ending_at, Run, StateShape, Test, AreTests, HoldAll, LeadsBy, Separates, Ends, Leaves, Makes, term_at, words_at, AreSymValues, as_integer, branched, switched_on, ended, AreByLabel, HaveShape, IsCopyIn, Simulates, placed, shape_in, along, Everywhere, EndedSo, typed_operand_value, NotEnded, ending_shape}
+pub use Rattle.run_terms.specs.Frontier.{EndingShape, HasLeft, HasReturned, IsReturned, entering, arrived}
+pub use Rattle.run_terms.specs.declared.ending.Left.{Left}
 pub use Rattle.run_terms.specs.Runs.{Course, Idle, Dead, Live, advanced, fits_from}
 unfoldable pub use Rattle.run_terms.specs.Runs.{steps}

@@ -131,7 +131,7 @@ module _ (old a b d : List Term) (ka : Keeps old a) (kb : Keeps a b) (kd : Keeps
   choice_steps operand = record { state = made; shape = set_shape s into z; matches = by }
     where
       made : IsState d (record s { registers = slice_set s.registers into z; tally = tally; words_bound = words_bound })
-      made = let later = state-later old d kad s hs in set_state old d kad s hs into z s.alive s.memory tally words_bound later.alive hz later.memory (tally-later b d kd tally ht)
+      made = let later = state-later old d kad s hs in set_state old d kad s hs into z s.alive s.memory tally words_bound later.alive later.path hz later.memory (tally-later b d kd tally ht)
 
       by : (g : Scene) (at : Visit) (c : Course) → Sees g old tape × (value_at (sight g) old x ≡ typed_value type (operand_value (values_at (sight g) old s.registers) operand)) → MatchesCourse g old at s c
           → MatchesCourse g d at (record s { registers = slice_set s.registers into z; tally = tally; words_bound = words_bound }) (stepped (inst.Freeze into type operand) g.tape c)

@@ -1,5 +1,5 @@
 -- What was said of a run so far is said of it over more terms.
-use Rattle.run_terms.proofs.Common.{ℕ, zero, suc, ◌≡◌, Bool, List, [], ◌∷◌, map, take, drop, Option, Some, None, IfSome, refl, ap, sym, subst, ◌∙◌, slice_get, option_map, IsSymBlock, each-weaker, each-set, bit-later, term-later, is_term-later, sym_values-later, sym_value-later, sym_blocks-later, values-later, value-later, memory-later, given_blocks-later, words_at-later, Machine, Where, At, Done, TermId, Term, Keeps, IsTerm, Tests, SymValue, Each, IsSymValue, Reading, value_at, AreSymBlocks, frame_of, memory_at, AreWords, Tally, RunMemory, RunState, Ending, Frontier, Leaving, Setting, Counts, IsRunMemory, IsState, IsTally, MatchesState, Scene, Sees, Visit, frames_in, sight, visit_of, AreStates, HasShape, IsEnding, IsFrontier, IsLeaving, IsUnreached, MatchesAhead, MatchesEnding, MatchesFrontier, ending_at}
+use Rattle.run_terms.proofs.Common.{ℕ, zero, suc, ◌≡◌, Bool, true, List, [], ◌∷◌, ◌++◌, map, take, drop, Option, Some, None, IfSome, refl, ap, sym, subst, ◌∙◌, slice_get, option_map, IsSymBlock, each-weaker, each-set, each-push, bit-later, term-later, is_term-later, sym_values-later, sym_value-later, sym_blocks-later, values-later, value-later, memory-later, given_blocks-later, words_at-later, Machine, Where, At, Done, TermId, Term, Keeps, IsTerm, Tests, bit_at, Bor, Test, AreTests, HoldAll, LeadsBy, HasReturned, SymValue, Each, IsSymValue, Reading, value_at, AreSymBlocks, frame_of, memory_at, AreWords, Tally, RunMemory, RunState, Ending, Frontier, Leaving, Setting, Counts, IsRunMemory, IsState, IsTally, MatchesState, Scene, Sees, Visit, frames_in, sight, visit_of, AreStates, HasShape, IsEnding, IsFrontier, IsLeaving, IsUnreached, MatchesAhead, MatchesEnding, MatchesFrontier, ending_at}
 use Rattle.std.specs.Prelude.{slice_set}
 
 pub each-get : {A : Type 0} (P : A → Type 0) (xs : List A) (n : ℕ) (x : A) → Each P xs → slice_get xs n ≡ Some x → P x
@@ -35,6 +35,31 @@ module _ (old new : List Term) (k : Keeps old new) where
   pub counts-later : (g : Scene) (t : Tally) (taken : List ℕ) → IsTally old t → Counts g old t taken → Counts g new t taken
   counts-later g t taken h c = record { read = term-later old new k g.v t.read h.read.within ∙ c.read; fits = bit-later old new k g.v t.fits h.fits.within ∙ c.fits }
 
+  -- ---- tests
+
+  pub tests-later : (path : List Test) → AreTests old path → AreTests new path
+  tests-later path h = each-weaker (λ (t : Test). IsTerm old 1 t.bit) (λ (t : Test). IsTerm new 1 t.bit) path (λ t i. is_term-later old new k 1 t.bit i) h
+
+  pub hold-later : (v : ℕ → ℕ → ℕ) (path : List Test) → AreTests old path → HoldAll v old path → HoldAll v new path
+  hold-later v [] h held = tt
+  hold-later v (t ∷ ts) h held = (bit-later old new k v t.bit h.0.within ∙ held.0, hold-later v ts h.1 held.1)
+
+  -- under a condition that holds less often
+  pub leads_under : (c d : TermId) (path : List Test) → LeadsBy old c path → ((v : ℕ → ℕ → ℕ) → bit_at v new d ≡ true → bit_at v old c ≡ true) → LeadsBy new d path
+  leads_under c d path h smaller = record { tests = tests-later path h.tests; hold = λ v held. hold-later v path h.tests (h.hold v (smaller v held)) }
+
+  pub leads-later : (c : TermId) (path : List Test) → IsTerm old 1 c → LeadsBy old c path → LeadsBy new c path
+  leads-later c path hc h = leads_under c c path h (λ v held. sym (bit-later old new k v c hc.within) ∙ held)
+
+  -- and by one test more
+  pub leads_further : (c d : TermId) (path : List Test) (t : Test) → LeadsBy old c path → IsTerm old 1 t.bit → ((v : ℕ → ℕ → ℕ) → bit_at v new d ≡ true → (bit_at v old c ≡ true) × (bit_at v old t.bit ≡ t.holds)) → LeadsBy new d (path ++ t ∷ [])
+  leads_further c d path t h ht so = record {
+    tests = each-push (λ (x : Test). IsTerm new 1 x.bit) path t (tests-later path h.tests) (is_term-later old new k 1 t.bit ht);
+    hold = λ v held.
+        let it = so v held in
+        each-push (λ (x : Test). bit_at v new x.bit ≡ x.holds) path t (hold-later v path h.tests (h.hold v it.0)) (bit-later old new k v t.bit ht.within ∙ it.1);
+  }
+
   -- ---- memory
 
   pub run_memory-later : (m : RunMemory) → IsRunMemory old m → IsRunMemory new m
@@ -55,6 +80,7 @@ module _ (old new : List Term) (k : Keeps old new) where
   pub state-later : (s : RunState) → IsState old s → IsState new s
   state-later s h = record {
     alive = is_term-later old new k 1 s.alive h.alive;
+    path = leads-later s.alive s.path h.alive h.path;
     registers = sym_values-later old new k s.registers h.registers;
     memory = run_memory-later s.memory h.memory;
     tally = tally-later s.tally h.tally;
@@ -80,6 +106,14 @@ module _ (old new : List Term) (k : Keeps old new) where
   option-later r None h = refl
   option-later r (Some s) h = ap Some (value-later old new k r s h)
 
+  tests_of-later : (o : Option (List Test)) → IfSome o (AreTests old) → IfSome o (AreTests new)
+  tests_of-later None h = tt
+  tests_of-later (Some path) h = tests-later path h
+
+  pub returned-later : (v : ℕ → ℕ → ℕ) (o : Option (List Test)) → IfSome o (AreTests old) → HasReturned v old o → HasReturned v new o
+  returned-later v None h held = held
+  returned-later v (Some path) h held = hold-later v path h held
+
   pub ending-later : (e : Ending) → IsEnding old e → IsEnding new e
   ending-later e h = record {
     ub = is_term-later old new k 1 e.ub h.ub;
@@ -87,6 +121,7 @@ module _ (old new : List Term) (k : Keeps old new) where
     value = some-later e.value h.value;
     given = given_blocks-later old new k (map frame_of e.blocks) e.blocks h.given;
     tally = tally-later e.tally h.tally;
+    returned = tests_of-later e.returned h.returned;
   }
 
   pub ending_at-later : (r : Reading) (e : Ending) → IsEnding old e → ending_at r new e ≡ ending_at r old e
@@ -99,6 +134,7 @@ module _ (old new : List Term) (k : Keeps old new) where
   matches_ending-later g e (Some (Done run)) h s = record {
     outcome = ending_at-later (sight g) e h ∙ s.outcome;
     tally = counts-later g e.tally run.taken h.tally s.tally;
+    returned = λ u b. returned-later g.v e.returned h.returned (s.returned (sym (bit-later old new k g.v e.ub h.ub.within) ∙ u) (sym (bit-later old new k g.v e.beyond h.beyond.within) ∙ b));
   }
 
   -- ---- the copies ahead
@@ -137,9 +173,9 @@ module _ (old new : List Term) (k : Keeps old new) where
   pub frontier-later : (w : Frontier) → IsFrontier old w → IsFrontier new w
   frontier-later w h = record { ahead = states-later w.ahead h.ahead; ending = ending-later w.ending h.ending }
 
-  -- at another frontier, where another condition holds
-  pub leaving-at : (setting : Setting) (w w' : Frontier) (l : Leaving) (c : TermId) → IsLeaving setting old w l → IsFrontier new w' → HasShape setting w' → IsTerm new 1 c → IsLeaving setting new w' (record l { c = c })
-  leaving-at setting w w' l c h frontier shape hc = record { frontier = frontier; shape = shape; state = state-later l.state.now h.state; fits = h.fits; c = hc }
+  -- at another frontier, where another condition holds, by another path
+  pub leaving-at : (setting : Setting) (w w' : Frontier) (l : Leaving) (c : TermId) (path : Bor (List Test)) → IsLeaving setting old w l → IsFrontier new w' → HasShape setting w' → IsTerm new 1 c → LeadsBy new c path.now → IsLeaving setting new w' (record l { c = c; path = path })
+  leaving-at setting w w' l c path h frontier shape hc leads = record { frontier = frontier; shape = shape; state = state-later l.state.now h.state; fits = h.fits; c = hc; path = leads }
 
   pub leaving-later : (setting : Setting) (w : Frontier) (l : Leaving) → IsLeaving setting old w l → IsLeaving setting new w l
-  leaving-later setting w l h = leaving-at setting w w l l.c h (frontier-later w h.frontier) h.shape (is_term-later old new k 1 l.c h.c)
+  leaving-later setting w l h = leaving-at setting w w l l.c l.path h (frontier-later w h.frontier) h.shape (is_term-later old new k 1 l.c h.c) (leads-later l.c l.path.now h.c h.path)

@@ -1,5 +1,5 @@
 -- A block is left.
-use Rattle.run_terms.proofs.Common.{ℕ, zero, suc, ◌≡◌, ◌<◌, ◌+◌, ◌%◌, ◌^◌, Bool, true, false, cond, not, ◌&&◌, nat_eq, if◌then◌else◌, List, [], ◌∷◌, length, map, get_or, Option, Some, None, inl, inr, refl, ap, sym, subst, ◌∙◌, arith, add-one, slice_get, slice_index_or, option_map_or, find, cases_Bool, Case, Function, Num, Poison, Ub, branch_on, switch_on, Edge, BlockCopy, edge_of, left_by, truth, SymNumber, number_at, value_from, bit-later, keeps_trans, term-later, Value, Machine, ended, Where, Done, along, TermId, Term, Keeps, IsTerm, Tests, bit_at, term_at, as_integer, Frontier, Leaving, Setting, MatchesState, Scene, Visit, AreByLabel, Everywhere, IsLeaving, Leaves, Simulates, branched, placed, switched_on}
+use Rattle.run_terms.proofs.Common.{ℕ, zero, suc, ◌≡◌, ◌<◌, ◌+◌, ◌%◌, ◌^◌, Bool, true, false, cond, not, ◌&&◌, nat_eq, if◌then◌else◌, List, [], ◌∷◌, length, map, get_or, Option, Some, None, inl, inr, refl, ap, sym, subst, ◌∙◌, arith, add-one, slice_get, slice_index_or, option_map_or, find, cases_Bool, Case, Function, Num, Poison, Ub, branch_on, switch_on, Edge, BlockCopy, edge_of, left_by, truth, SymNumber, number_at, value_from, bit-later, keeps_trans, term-later, Value, Machine, ended, Where, Done, along, TermId, Term, Keeps, IsTerm, Tests, bit_at, term_at, as_integer, Bor, Test, Frontier, Leaving, Setting, MatchesState, Scene, Visit, AreByLabel, Everywhere, IsLeaving, Leaves, Simulates, branched, placed, switched_on}
 use Rattle.ir_tree.specs.Sites.{same_number}
 use Rattle.byte_block.specs.declared.value.Value.TheVariants as value
 use Rattle.unroll.specs.declared.layered.Edge.TheVariants.{Nowhere}
@@ -15,9 +15,9 @@ choice_along f copies ahead true if_true if_false m = refl
 choice_along f copies ahead false if_true if_false m = refl
 
 -- by one edge or the other
-pub bit_leaves : {setting : Setting} {l : Leaving} {on off : TermId} {old a b new : List Term} {before between after : Frontier} (bit : TermId) (if_true if_false : Edge) → Keeps old a → Keeps a b → IsLeaving setting old before l
+pub bit_leaves : {setting : Setting} {l : Leaving} {on off : TermId} {taken not_taken : Bor (List Test)} {old a b new : List Term} {before between after : Frontier} (bit : TermId) (if_true if_false : Edge) → Keeps old a → Keeps a b → IsLeaving setting old before l
     → Tests a on (λ v. bit_at v old l.c && bit_at v old bit) → Tests a off (λ v. bit_at v old l.c && not (bit_at v old bit))
-    → Leaves Everywhere setting (record l { c = on }) a b before between (λ g m. along if_true m) → Leaves Everywhere setting (record l { c = off }) b new between after (λ g m. along if_false m)
+    → Leaves Everywhere setting (record l { c = on; path = taken }) a b before between (λ g m. along if_true m) → Leaves Everywhere setting (record l { c = off; path = not_taken }) b new between after (λ g m. along if_false m)
     → Leaves Everywhere setting l old new before after (λ g m. along (if bit_at g.v old bit then if_true else if_false) m)
 bit_leaves {setting = setting} {l = l} {off = off} {old = old} {a = a} {b = b} bit if_true if_false ka kb h t_on t_off h1 h2 = record {
   frontier = h2.frontier;

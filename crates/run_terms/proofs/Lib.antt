@@ -3,6 +3,7 @@ pub mod Picking
 pub mod Cutting
 pub mod Reading
 pub mod Lasting
+pub mod Leading
 pub mod Memories
 pub mod Pointing
 pub mod Arguments

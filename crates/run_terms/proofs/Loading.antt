@@ -10,7 +10,7 @@ use Rattle.memory_access.specs.Accesses.{load_result, store_result, after_store,
 use Rattle.memory_access.specs.Offsets.{gep_result}
 use Rattle.access_terms.specs.declared.accesses.SymLoaded.{SymLoaded}
 use Rattle.run_terms.proofs.Lasting.{blocks_at-later, matches_state-later, state-later, tested}
-use Rattle.run_terms.proofs.Stepping.{defined_steps, set_matches, set_shape, set_state, value_steps}
+use Rattle.run_terms.proofs.Stepping.{defined_steps, leads_both, set_matches, set_shape, set_state, value_steps}
 use Rattle.run_terms.proofs.Changing.{alloca_frames, alloca_memory, memory_shape, store_frames, store_memory}
 use Rattle.run_terms.proofs.Accessing.{load_acts, store_acts}
 
@@ -25,7 +25,7 @@ pub load_steps : (old o l new : List Term) (ko : Keeps old o) (kl : Keeps o l) (
 load_steps old o l new ko kl kn s hs into type pointer align at x alive access is hx reads stands t =
     let later = state-later old new k s hs in
     defined_steps old new k s hs (inst.Load into type pointer align) (record s { alive = alive; registers = slice_set s.registers into x.value }) (λ g. bit_at g.v l x.is_defined)
-    (set_state old new k s hs into x.value alive s.memory s.tally s.words_bound (tested t) (sym_value-later l new kn x.value hx.value) later.memory later.tally) (set_shape s into x.value) refl
+    (set_state old new k s hs into x.value alive s.memory s.tally s.words_bound (tested t) (leads_both (keeps_trans old o l ko kl) k s hs (λ v. bit_at v l x.is_defined) t.says) (sym_value-later l new kn x.value hx.value) later.memory later.tally) (set_shape s into x.value) refl
     (λ g. t.says g.v ∙ ap (λ b. b && bit_at g.v l x.is_defined) (bit-later old l (keeps_trans old o l ko kl) g.v s.alive hs.alive.within))
     (λ g visit m here h. (
       assigned m into (value_at (sight g) l x.value),
@@ -55,7 +55,7 @@ pub store_steps : (old o t w new : List Term) (ko : Keeps old o) (kt : Keeps o t
 store_steps old o t w new ko kt kw kn s hs v pointer align at written defined alive access blocks is ha hb same reads writes stands changes test =
     let later = state-later old new k s hs in
     defined_steps old new k s hs (inst.Store v pointer align) (record s { alive = alive; memory = record s.memory { blocks = blocks } }) (λ g. bit_at g.v w defined)
-    (record { alive = tested test; registers = later.registers; memory = store_memory old new k s.memory hs.memory blocks (sym_blocks-later w new kn blocks hb) same; tally = later.tally })
+    (record { alive = tested test; path = leads_both kow k s hs (λ v. bit_at v w defined) test.says; registers = later.registers; memory = store_memory old new k s.memory hs.memory blocks (sym_blocks-later w new kn blocks hb) same; tally = later.tally })
     (memory_shape s (record s.memory { blocks = blocks }) (store_frames s.memory blocks same)) refl
     (λ g. test.says g.v ∙ ap (λ b. b && bit_at g.v w defined) (bit-later old w kow g.v s.alive hs.alive.within))
     (λ g visit m here h. (
@@ -103,7 +103,7 @@ pub alloca_steps : (old a new : List Term) (ka : Keeps old a) (kn : Keeps a new)
 alloca_steps old a new ka kn s hs into type align block size blocks x hb grown own hx whole grows points number =
     let later = state-later old new k s hs in
     defined_steps old new k s hs (inst.Alloca into number type align) (record s { registers = slice_set s.registers into x; memory = record s.memory { blocks = blocks } }) (λ g. true)
-    (set_state old new k s hs into x s.alive (record s.memory { blocks = blocks }) s.tally s.words_bound later.alive hx
+    (set_state old new k s hs into x s.alive (record s.memory { blocks = blocks }) s.tally s.words_bound later.alive later.path hx
     (alloca_memory old s.memory hs.memory blocks grown.0 grown.1 new k (sym_blocks-later a new kn blocks hb) (subst (λ (n : ℕ). first_local s.memory.given ≤ n) (sym grown.2) own)) later.tally)
     (set_shape (record s { memory = record s.memory { blocks = blocks } }) into x ∙ memory_shape s (record s.memory { blocks = blocks }) (alloca_frames old s.memory hs.memory blocks grown.0 grown.1)) refl
     (λ g. bit-later old new k g.v s.alive hs.alive.within ∙ sym (and-true (bit_at g.v old s.alive)))

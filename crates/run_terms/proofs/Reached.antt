@@ -98,14 +98,15 @@ passes_first old g edge none = record { unreached = λ u. none; stands = λ entr
 
 -- or where one is known
 pub passes_joined : (old new : List Term) (g : Scene) (edge known entry : RunState) → Tests new entry.alive (λ v. bit_at v old known.alive || bit_at v old edge.alive) → bit_at g.v old edge.alive ≡ false
-    → ((visit : Visit) (m : Machine) → MatchesState g old visit known m → MatchesState g new visit entry m) → Passes g old new (Some known) (Some entry)
+    → ((visit : Visit) (m : Machine) → bit_at g.v old known.alive ≡ true → MatchesState g old visit known m → MatchesState g new visit entry m) → Passes g old new (Some known) (Some entry)
 passes_joined old new g edge known entry t none st =
     let same : bit_at g.v new entry.alive ≡ bit_at g.v old known.alive = t.says g.v ∙ rw none (or-false (bit_at g.v old known.alive)) in
     record {
       unreached = λ u. same ∙ u;
       stands = λ x visit m e alive h.
           let is : known ≡ x = cc in
-          (entry, refl, same ∙ (ap (λ (s : RunState). bit_at g.v old s.alive) is ∙ alive), st visit m (subst (λ (s : RunState). MatchesState g old visit s m) (sym is) h));
+          let there : bit_at g.v old known.alive ≡ true = ap (λ (s : RunState). bit_at g.v old s.alive) is ∙ alive in
+          (entry, refl, same ∙ there, st visit m there (subst (λ (s : RunState). MatchesState g old visit s m) (sym is) h));
     }
 
 pub joined_alive : (old new : List Term) (g : Scene) (edge known entry : RunState) → Tests new entry.alive (λ v. bit_at v old known.alive || bit_at v old edge.alive) → bit_at g.v old edge.alive ≡ true → bit_at g.v new entry.alive ≡ true

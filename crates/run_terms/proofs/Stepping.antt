@@ -1,5 +1,5 @@
 -- The terms of a state follow an instruction.
-use Rattle.run_terms.proofs.Common.{ℕ, ◌≡◌, ◌<◌, ◌≤◌, ◌+◌, Bool, true, false, not, ◌&&◌, List, [], ◌∷◌, ◌++◌, length, take, get_or, slice_set, Option, Some, None, refl, ap, sym, subst, ◌∙◌, arith, slice_get, slice_index_or, option_map, and-true, length-set, take_all, Inst, Op, Operand, MemoryBlock, value_result, act, assigned, Tree, truth, AreFit, trees_from, trees_of, SymNumber, option_from, each-set, map-set, take-push, keeps_trans, bit-later, sym_value-later, sym_values-later, value-later, values-later, naming, Value, Machine, operand_value, TermId, Term, Keeps, IsTerm, Tests, bit_at, SymValue, IsNaming, IsSymValue, Reading, value_at, values_at, memory_at, Tally, RunMemory, RunState, Always, Counts, IsRunMemory, IsState, IsTally, MatchesCourse, MatchesState, Scene, Steps, Visit, shape_of, sight, stepped, Course, Idle, Dead, Live, advanced, steps}
+use Rattle.run_terms.proofs.Common.{ℕ, ◌≡◌, ◌<◌, ◌≤◌, ◌+◌, Bool, true, false, not, ◌&&◌, List, [], ◌∷◌, ◌++◌, length, take, get_or, slice_set, Option, Some, None, refl, ap, sym, subst, ◌∙◌, arith, slice_get, slice_index_or, option_map, and-true, length-set, take_all, Inst, Op, Operand, MemoryBlock, value_result, act, assigned, Tree, truth, AreFit, trees_from, trees_of, SymNumber, option_from, each-set, map-set, take-push, keeps_trans, bit-later, sym_value-later, sym_values-later, value-later, values-later, naming, Value, Machine, operand_value, TermId, Term, Keeps, IsTerm, Tests, bit_at, SymValue, IsNaming, IsSymValue, Reading, value_at, values_at, memory_at, Tally, RunMemory, RunState, Always, Counts, IsRunMemory, IsState, IsTally, MatchesCourse, MatchesState, Scene, LeadsBy, Steps, Visit, shape_of, sight, stepped, Course, Idle, Dead, Live, advanced, steps}
 use Rattle.ir_tree.specs.declared.tree.Inst.TheVariants as inst
 use Rattle.tv_num.specs.declared.Width.{Width}
 use Rattle.bv_terms.specs.declared.term.Term.TheVariants as term
@@ -7,7 +7,8 @@ use Rattle.bv_terms.specs.Tree as tree
 use Rattle.bv_terms.specs.Tree.{value_of}
 use Rattle.bv_terms.proofs.Stages.{tree-stored}
 use Rattle.run_terms.specs.Common.{number_at}
-use Rattle.run_terms.proofs.Lasting.{counts-later, matches_state-later, blocks_at-later, state-later, tested}
+use Rattle.run_terms.proofs.Lasting.{counts-later, leads_under, matches_state-later, blocks_at-later, state-later, tested}
+use Rattle.run_terms.proofs.Leading.{both_hold}
 
 -- ---- more terms
 
@@ -67,6 +68,11 @@ result_acts : (u : Bool) (v : Value) (o : Option Value) (m : Machine) (into : �
 result_acts true v o m into e = ap (option_map (assigned m into)) (sym e)
 result_acts false v o m into e = ap (option_map (assigned m into)) (sym e)
 
+-- the path of a state stays where it is alive less often
+pub leads_both : {old mid new : List Term} {alive : TermId} (km : Keeps old mid) (k : Keeps old new) (s : RunState) (hs : IsState old s) (defined : (ℕ → ℕ → ℕ) → Bool) → ((v : ℕ → ℕ → ℕ) → bit_at v new alive ≡ (bit_at v mid s.alive && defined v)) → LeadsBy new alive s.path
+leads_both {old = old} {mid = mid} {new = new} {alive = alive} km k s hs defined is =
+    leads_under old new k s.alive alive s.path hs.path (λ v held. sym (bit-later old mid km v s.alive hs.alive.within) ∙ (both_hold (bit_at v mid s.alive) (defined v) (sym (is v) ∙ held)).0)
+
 -- no register more or less
 pub set_shape : (s : RunState) (into : ℕ) (x : SymValue) → shape_of (record s { registers = slice_set s.registers into x }) ≡ shape_of s
 set_shape s into x = rw (length-set s.registers into x) refl
@@ -92,10 +98,11 @@ module _ (old new : List Term) (k : Keeps old new) (s : RunState) (hs : IsState 
 
   -- ---- a name gets a value
 
-  pub set_state : (into : ℕ) (x : SymValue) (alive : TermId) (memory : RunMemory) (tally : Tally) (words_bound : ℕ) → IsTerm new 1 alive → IsSymValue new x → IsRunMemory new memory → IsTally new tally
-      → IsState new (record { alive = alive; registers = slice_set s.registers into x; memory = memory; tally = tally; words_bound = words_bound })
-  set_state into x alive memory tally words_bound ha hx hm ht = record {
+  pub set_state : (into : ℕ) (x : SymValue) (alive : TermId) (memory : RunMemory) (tally : Tally) (words_bound : ℕ) → IsTerm new 1 alive → LeadsBy new alive s.path → IsSymValue new x → IsRunMemory new memory → IsTally new tally
+      → IsState new (record { alive = alive; path = s.path; registers = slice_set s.registers into x; memory = memory; tally = tally; words_bound = words_bound })
+  set_state into x alive memory tally words_bound ha hp hx hm ht = record {
     alive = ha;
+    path = hp;
     registers = each-set (IsSymValue new) s.registers into x (sym_values-later old new k s.registers hs.registers) hx;
     memory = hm;
     tally = ht;
@@ -122,7 +129,7 @@ module _ (old new : List Term) (k : Keeps old new) (s : RunState) (hs : IsState 
       → Steps on old new s (record s { registers = slice_set s.registers into x }) (stepped i)
   value_steps i into x value hx is =
       let later = state-later old new k s hs in
-      defined_steps i (record s { registers = slice_set s.registers into x }) (λ g. true) (set_state into x s.alive s.memory s.tally s.words_bound later.alive hx later.memory later.tally) (set_shape s into x) refl
+      defined_steps i (record s { registers = slice_set s.registers into x }) (λ g. true) (set_state into x s.alive s.memory s.tally s.words_bound later.alive later.path hx later.memory later.tally) (set_shape s into x) refl
       (λ g. bit-later old new k g.v s.alive hs.alive.within ∙ sym (and-true (bit_at g.v old s.alive)))
       (λ g at m here h.
       let it = is g at m here h in
@@ -142,9 +149,10 @@ module _ (old new : List Term) (k : Keeps old new) (s : RunState) (hs : IsState 
       → Steps Always old new s (record s { alive = alive; registers = slice_set s.registers into x }) (stepped (inst.Binary into op width left right))
   binary_steps into x first second ka ki kb op width left right undefined alive n hu hx gives whole t =
       let later = state-later old new k s hs in
+      let kas = keeps_trans old first second ka ki in
       defined_steps (inst.Binary into op width left right) (record s { alive = alive; registers = slice_set s.registers into x }) (λ g. not (bit_at g.v first undefined))
-      (set_state into x alive s.memory s.tally s.words_bound (tested t) (sym_value-later second new kb x hx) later.memory later.tally) (set_shape s into x) refl
-      (λ g. t.says g.v ∙ rw (bit-later first second ki g.v undefined hu.within, bit-later old second (keeps_trans old first second ka ki) g.v s.alive hs.alive.within) refl)
+      (set_state into x alive s.memory s.tally s.words_bound (tested t) (leads_both kas k s hs (λ v. not (bit_at v second undefined)) t.says) (sym_value-later second new kb x hx) later.memory later.tally) (set_shape s into x) refl
+      (λ g. t.says g.v ∙ rw (bit-later first second ki g.v undefined hu.within, bit-later old second kas g.v s.alive hs.alive.within) refl)
       (λ g at m here h.
       let row : option_from (bit_at g.v first undefined) (number_at g.v first n) ≡ value_result op width.bits (operand_value m.registers left) (operand_value m.registers right) = gives (sight g) (naming g.given) ∙ rw h.registers refl in (
         assigned m into (number_at g.v first n),

@@ -24,15 +24,18 @@ use Rattle.bv_terms.specs.declared.term.TermId.{TermId}
 use Rattle.bv_terms.specs.declared.term.Term.{Term}
 use Rattle.bv_terms.specs.Trees.{IsTerm, bit_at}
 use Rattle.mem_terms.specs.declared.values.SymValue.{SymValue}
+use Rattle.mem_terms.specs.declared.blocks.SymBlock.{SymBlock}
 use Rattle.mem_terms.specs.Values.{Each, IsSymValue, Reading, value_at}
 use Rattle.mem_terms.specs.Memory.{AreGivenBlocks, SymFrame, frame_of, frames_of, memory_at}
+use Rattle.run_terms.specs.declared.paths.Test.{Test}
 use Rattle.run_terms.specs.declared.state.RunState.{RunState}
 use Rattle.run_terms.specs.declared.ending.Ending.{Ending}
+use Rattle.run_terms.specs.declared.ending.Left.{Left}
 use Rattle.run_terms.specs.declared.setting.Setting.{Setting}
 use Rattle.run_terms.specs.declared.frontier.Frontier.{Frontier}
 use Rattle.run_terms.specs.declared.frontier.Leaving.{Leaving}
 use Rattle.run_terms.specs.declared.state.Tally.{Tally}
-use Rattle.run_terms.specs.Runs.{Scene, sight, IsTally, IsState, StateShape, shape_of, Visit, visit_of, Counts, MatchesState}
+use Rattle.run_terms.specs.Runs.{AreTests, HoldAll, LeadsBy, Scene, sight, IsTally, IsState, StateShape, shape_of, Visit, visit_of, Counts, MatchesState}
 
 -- ---- instructions
 
@@ -51,14 +54,27 @@ pub record IsEnding (terms : List Term) (e : Ending) : Type 0 where
   pub value : IfSome e.value (IsSymValue terms)
   pub given : AreGivenBlocks (map frame_of e.blocks) terms e.blocks
   pub tally : IsTally terms e.tally
+  pub returned : IfSome e.returned (AreTests terms)
 
 abbrev pub ending_at : Reading → List Term → Ending → Outcome
 ending_at r terms e = cond (bit_at r.v terms e.ub) Ub (cond (bit_at r.v terms e.beyond) Beyond (Return (option_map (value_at r terms) e.value) (memory_at r terms e.blocks)))
+
+-- a run has returned, and all tests hold in it
+abbrev pub HasReturned : (ℕ → ℕ → ℕ) → List Term → Option (List Test) → Type 0
+HasReturned v terms None = ⊥
+HasReturned v terms (Some path) = HoldAll v terms path
+
+-- this value and these blocks are what is left, and all tests hold
+pub record HasLeft (r : Reading) (old new : List Term) (l : Left) (returned : Option SymValue) (given : List SymBlock) : Type 0 where
+  pub value : option_map (value_at r new) l.value ≡ option_map (value_at r old) returned
+  pub memory : memory_at r new l.blocks ≡ memory_at r old given
+  pub path : HoldAll r.v new l.path
 
 -- it ended with this run
 pub record EndedSo (g : Scene) (terms : List Term) (e : Ending) (run : Run) : Type 0 where
   pub outcome : ending_at (sight g) terms e ≡ run.outcome
   pub tally : Counts g terms e.tally run.taken
+  pub returned : bit_at g.v terms e.ub ≡ false → bit_at g.v terms e.beyond ≡ false → HasReturned g.v terms e.returned
 
 -- it has not ended yet
 pub record NotEnded (g : Scene) (terms : List Term) (e : Ending) : Type 0 where
@@ -164,6 +180,7 @@ pub record IsLeaving (setting : Setting) (terms : List Term) (w : Frontier) (l :
   pub state : IsState terms l.state.now
   pub fits : shape_of l.state.now ≡ shape_in setting
   pub c : IsTerm terms 1 l.c
+  pub path : LeadsBy terms l.c l.path.now
 
 -- the frontier after has the function's shape, and where `on` holds the leaving run goes there
 pub record Leaves (on : Scene → Type 0) (setting : Setting) (l : Leaving) (old new : List Term) (before after : Frontier) (to : Scene → Machine → Where) : Type 0 where

@@ -1,5 +1,5 @@
 -- What the terms of a run so far denote.
-use Rattle.std.specs.Prelude.{◌≡◌, ℕ, ◌+◌, ◌≤◌, Bool, true, false, ◌&&◌, ◌||◌, nat_eq, nat_lt, List, [], ◌∷◌, length, map, take, drop, Option, Some, None, slice_index}
+use Rattle.std.specs.Prelude.{◌≡◌, ℕ, ◌+◌, ◌≤◌, Bool, true, false, ◌&&◌, ◌||◌, nat_eq, nat_lt, not, List, [], ◌∷◌, length, map, take, drop, Option, Some, None, slice_get, slice_index}
 use Rattle.ir_tree.specs.declared.tree.Inst.{Inst}
 use Rattle.points.specs.declared.machine.Machine.{Machine}
 use Rattle.points.specs.Run.{act}
@@ -10,6 +10,7 @@ use Rattle.mem_terms.specs.declared.blocks.SymBlock.{SymBlock}
 use Rattle.mem_terms.specs.Values.{Each, AreSymValues, Reading, first_local, reading, values_at}
 use Rattle.mem_terms.specs.Memory.{AreGivenBlocks, AreSymBlocks, SymFrame, frame_of, memory_at}
 use Rattle.mem_terms.specs.Inputs.{words_at}
+use Rattle.run_terms.specs.declared.paths.Test.{Test}
 use Rattle.run_terms.specs.declared.state.Tally.{Tally}
 use Rattle.run_terms.specs.declared.state.RunMemory.{RunMemory}
 use Rattle.run_terms.specs.declared.state.RunState.{RunState}
@@ -25,6 +26,26 @@ fits_from tape k (c ∷ cs) = nat_eq (slice_index tape k) c && fits_from tape (k
 abbrev pub zeros_past : (read k : ℕ) → List ℕ → Bool
 zeros_past read k [] = true
 zeros_past read k (w ∷ ws) = (nat_lt k read || nat_eq w 0) && zeros_past read (k + 1) ws
+
+-- ---- tests
+
+-- the bit of each has the value that the path says
+abbrev pub HoldAll : (ℕ → ℕ → ℕ) → List Term → List Test → Type 0
+HoldAll v terms path = Each (λ (t : Test). bit_at v terms t.bit ≡ t.holds) path
+
+abbrev pub AreTests : List Term → List Test → Type 0
+AreTests terms path = Each (λ (t : Test). IsTerm terms 1 t.bit) path
+
+-- the tests hold wherever the condition does
+pub record LeadsBy (terms : List Term) (c : TermId) (path : List Test) : Type 0 where
+  pub tests : AreTests terms path
+  pub hold : (v : ℕ → ℕ → ℕ) → bit_at v terms c ≡ true → HoldAll v terms path
+
+-- a test of the first path, whose bit has the other value in the other path
+pub record Separates (path other : List Test) (t : Test) : Type 0 where
+  pub at : ℕ
+  pub here : slice_get path at ≡ Some t
+  pub there : slice_get other at ≡ Some (record { bit = t.bit; holds = not t.holds })
 
 -- ---- a run so far
 
@@ -68,6 +89,7 @@ pub record IsRunMemory (terms : List Term) (m : RunMemory) : Type 0 where
 
 pub record IsState (terms : List Term) (s : RunState) : Type 0 where
   pub alive : IsTerm terms 1 s.alive
+  pub path : LeadsBy terms s.alive s.path
   pub registers : AreSymValues terms s.registers
   pub memory : IsRunMemory terms s.memory
   pub tally : IsTally terms s.tally

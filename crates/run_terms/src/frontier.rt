@@ -2,10 +2,11 @@
 
 ghost use Rattle.std.specs.Prelude.{◌≡◌, ◌<◌, true, false, ℕ, IfOk, OnOk, None, Some, Option, length, slice_get, slice_set};
 ghost use Rattle.points.specs.Run.{entered};
-ghost use Rattle.run_terms.specs.Common.{Machine, Where, At, Keeps, IsTerm, bit_at, IsState, MatchesState, Scene, shape_of, visit_of, AreStates, HaveShape, IsFrontier, MatchesAhead, Simulates};
+ghost use Rattle.run_terms.specs.Common.{Machine, Where, At, Keeps, IsTerm, bit_at, IsState, LeadsBy, MatchesState, Scene, shape_of, visit_of, AreStates, HaveShape, IsFrontier, MatchesAhead, Simulates};
 
 use crate::ending::Ending;
 use crate::joining::join;
+use crate::paths::{Test, copy_path};
 use crate::phis::registers_after;
 use crate::state::RunState;
 use bv_terms::{TermId, Terms};
@@ -22,12 +23,13 @@ pub struct Frontier {
 }
 
 /// A run that leaves a block where a condition holds: the label of the block, the number of the first
-/// copy ahead of it, and the state that the run is in.
+/// copy ahead of it, tests that hold where the condition does, and the state that the run is in.
 #[derive(Clone, Copy)]
 pub struct Leaving<'a> {
     pub label: usize,
     pub ahead: usize,
     pub c: TermId,
+    pub path: &'a [Test],
     pub state: &'a RunState,
 }
 
@@ -72,17 +74,19 @@ fn reach(
     }
 }
 
-/// The state on an edge from the block with this label, which is taken where the condition holds,
-/// after the phis of the block that it leads to.
+/// The state on an edge from the block with this label, which is taken where the condition holds, by
+/// this path, after the phis of the block that it leads to.
 fn state_on_edge(
     alloc: Global,
     terms: &mut Terms,
     c: TermId,
+    path: &[Test],
     label: usize,
     state: &RunState,
     block: &Block,
 ) -> Result<RunState, NoMemory>
     requires c { IsTerm terms.old 1 c }
+    requires path { LeadsBy terms.old c path.now }
     requires state { IsState terms.old state.now }
     ensures made { IfOk result (IsState terms.new) }
     ensures shape { IfOk result (λ edge. shape_of edge ≡ shape_of state.now) }
@@ -98,9 +102,11 @@ fn state_on_edge(
         label,
         block.phis.as_slice(),
     )?;
+    let path = copy_path(alloc, path)?;
     let memory = state.memory.copy(alloc)?;
     Ok(RunState {
         alive: c,
+        path,
         registers,
         memory,
         tally: state.tally,
@@ -122,6 +128,7 @@ impl Frontier {
         requires shapes { HaveShape (shape_of leaving.state.now) self.old.ahead }
         requires n { n < length self.old.ahead }
         requires c { IsTerm terms.old 1 leaving.c }
+        requires path { LeadsBy terms.old leaving.c leaving.path.now }
         requires state { IsState terms.old leaving.state.now }
         ensures own { OnOk result (IsFrontier terms.new self.new) }
         ensures shapes { OnOk result (HaveShape (shape_of leaving.entry.state.now) self.new.ahead) }
@@ -131,7 +138,15 @@ impl Frontier {
             → Simulates g terms.old terms.new self.old self.new (bit_at g.v terms.old leaving.entry.c) (record { label = leaving.entry.label; turn = from }) leaving.entry.state.now (λ m. At n (entered block.now (record m { turn = to })))) }
         ensures kept { Keeps terms.old terms.new }
     {
-        let edge = state_on_edge(alloc, terms, leaving.c, leaving.label, leaving.state, block)?;
+        let edge = state_on_edge(
+            alloc,
+            terms,
+            leaving.c,
+            leaving.path,
+            leaving.label,
+            leaving.state,
+            block,
+        )?;
         reach(alloc, terms, &mut self.ahead, n, edge)?;
         Ok(())
     }

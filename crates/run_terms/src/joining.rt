@@ -3,6 +3,7 @@
 ghost use Rattle.std.specs.Prelude.{◌≡◌, ◌++◌, ◌||◌, true, false, ℕ, List, IfOk, length, cond};
 ghost use Rattle.run_terms.specs.Common.{Machine, Keeps, IsTerm, Tests, bit_at, AreSymValues, Reading, values_at, memory_at, Counts, IsRunMemory, IsState, IsTally, MatchesState, Scene, Visit, frames_in, shape_of};
 
+use crate::paths::{choice_by_path, common};
 use crate::state::{RunMemory, RunState, Tally};
 use access_terms::pick_memory;
 use bv_terms::{TermId, Terms};
@@ -94,7 +95,7 @@ fn pick_blocks(
 }
 
 /// The entry of a copy with one more edge: where the edge is taken it is the state on it, else the
-/// one that was known before.
+/// one that was known before. Which of them it is depends on the test that separates their paths.
 pub fn join(
     alloc: Global,
     terms: &mut Terms,
@@ -107,24 +108,28 @@ pub fn join(
     ensures made { IfOk result (IsState terms.new) }
     ensures shape { IfOk result (λ r. shape_of r ≡ shape_of edge.now) }
     ensures alive { IfOk result (λ r. Tests terms.new r.alive (λ v. bit_at v terms.old into.now.alive || bit_at v terms.old edge.now.alive)) }
-    ensures stays { IfOk result (λ r. (g : Scene) (at : Visit) (m : Machine) → bit_at g.v terms.old edge.now.alive ≡ false → MatchesState g terms.old at into.now m → MatchesState g terms.new at r m) }
+    ensures stays { IfOk result (λ r. (g : Scene) (at : Visit) (m : Machine) → bit_at g.v terms.old edge.now.alive ≡ false → bit_at g.v terms.old into.now.alive ≡ true → MatchesState g terms.old at into.now m → MatchesState g terms.new at r m) }
     ensures goes { IfOk result (λ r. (g : Scene) (at : Visit) (m : Machine) → bit_at g.v terms.old edge.now.alive ≡ true → MatchesState g terms.old at edge.now m → MatchesState g terms.new at r m) }
     ensures kept { Keeps terms.old terms.new }
 {
-    let c = edge.alive;
-    let alive = either(terms, into.alive, c)?;
-    let tally = pick_tally(terms, c, edge.tally, into.tally)?;
+    let alive = either(terms, into.alive, edge.alive)?;
+    let taken = edge.path.as_slice();
+    let known = into.path.as_slice();
+    let path = common(alloc, taken, known)?;
+    let by = choice_by_path(terms, edge.alive, taken, known)?;
+    let tally = pick_tally(terms, by, edge.tally, into.tally)?;
     let registers = pick_registers(
         alloc,
         terms,
-        c,
+        by,
         edge.registers.as_slice(),
         into.registers.as_slice(),
     )?;
-    let memory = pick_blocks(alloc, terms, c, &edge.memory, &into.memory)?;
+    let memory = pick_blocks(alloc, terms, by, &edge.memory, &into.memory)?;
     let words_bound = edge.words_bound.max(into.words_bound);
     Ok(RunState {
         alive,
+        path,
         registers,
         memory,
         tally,

@@ -7,7 +7,8 @@
 //! block. It uses `unroll`, `mem_terms`, `inst_terms` and `access_terms`; `encoder` takes its
 //! steps.
 //!
-//! - `state`: registers, memory and choices so far; `setting`: what stays the same in a run.
+//! - `state`: registers, memory and choices so far; `paths`: the tests on the way there; `setting`:
+//!   what stays the same in a run.
 //! - `instructions`, with `operands`, `choices`, `words` and `memory_steps`: a block's instructions.
 //! - `terminators`, with `edges`, `phis` and `joining`: where the run goes on, and two states as one.
 //! - `frontier` and `ending`: what is known of the copies ahead, and how the run ended.
@@ -21,6 +22,7 @@ mod instructions;
 mod joining;
 mod memory_steps;
 mod operands;
+mod paths;
 mod phis;
 mod setting;
 mod state;
@@ -31,6 +33,7 @@ pub use edges::follow;
 pub use ending::Ending;
 pub use frontier::{Frontier, Leaving, take_entry};
 pub use instructions::{and_not, step_all};
+pub use paths::Test;
 pub use setting::Setting;
 pub use state::{RunMemory, RunState, Tally, assign};
 pub use terminators::leave;

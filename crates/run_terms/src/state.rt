@@ -2,6 +2,7 @@
 
 ghost use Rattle.std.specs.Prelude.{◌≡◌, ◌≤◌, IfOk, slice_set, take, length};
 
+use crate::paths::Test;
 use bv_terms::TermId;
 use mem_terms::{SymBlock, SymValue};
 use std::alloc::Global;
@@ -29,6 +30,8 @@ pub struct RunMemory {
 pub struct RunState {
     /// Whether the run is there, and its behaviour still defined.
     pub alive: TermId,
+    /// Tests that hold in each run that comes there, in the order in which they are met.
+    pub path: Sequence<Test>,
     /// The values of the names, by their numbers.
     pub registers: Sequence<SymValue>,
     pub memory: RunMemory,
@@ -42,12 +45,9 @@ impl RunMemory {
     pub fn copy(&self, alloc: Global) -> Result<RunMemory, NoMemory>
         ensures { IfOk result (λ m. m ≡ self.now) }
     {
-        let mut blocks = Vec::new(alloc);
-        for block in self.blocks.as_slice() {
-            blocks.push(copy_block(alloc, block)?)?;
-        }
+        let blocks = copy_blocks(alloc, self.blocks.as_slice())?;
         Ok(RunMemory {
-            blocks: Sequence::from_vec(blocks),
+            blocks,
             given: self.given,
         })
     }
@@ -59,6 +59,17 @@ impl RunMemory {
     {
         &self.blocks.as_slice()[..self.given]
     }
+}
+
+/// The same blocks.
+pub fn copy_blocks(alloc: Global, blocks: &[SymBlock]) -> Result<Sequence<SymBlock>, NoMemory>
+    ensures { IfOk result (λ copy. copy ≡ blocks.now) }
+{
+    let mut copy = Vec::new(alloc);
+    for block in blocks {
+        copy.push(copy_block(alloc, block)?)?;
+    }
+    Ok(Sequence::from_vec(copy))
 }
 
 fn copy_block(alloc: Global, block: &SymBlock) -> Result<SymBlock, NoMemory>

@@ -16,6 +16,7 @@ use crate::edges::{edge_at, follow};
 use crate::frontier::{Frontier, Leaving};
 use crate::instructions::and_not;
 use crate::operands::{number_of, typed_operand_of};
+use crate::paths::{copy_path, with_test};
 use crate::setting::Setting;
 use crate::state::Tally;
 use bv_terms::{TermId, Terms};
@@ -118,7 +119,15 @@ fn return_operand(
     let (value, tally) = returned_value(setting, terms, leaving, returned)?;
     let given = leaving.state.memory.given();
     let ending = &mut frontier.ending;
-    ending.end_return(setting.alloc, terms, leaving.c, Some(value), given, tally)?;
+    ending.end_return(
+        setting.alloc,
+        terms,
+        leaving.c,
+        Some(value),
+        given,
+        tally,
+        leaving.path,
+    )?;
     Ok(())
 }
 
@@ -161,7 +170,15 @@ fn leave_by_return(
             let given = leaving.state.memory.given();
             let tally = leaving.state.tally;
             let ending = &mut frontier.ending;
-            ending.end_return(setting.alloc, terms, leaving.c, None, given, tally)?;
+            ending.end_return(
+                setting.alloc,
+                terms,
+                leaving.c,
+                None,
+                given,
+                tally,
+                leaving.path,
+            )?;
             Ok(())
         }
         Some(returned) => {
@@ -190,20 +207,20 @@ fn leave_by_bit(
     ensures kept { Keeps terms.old terms.new }
 {
     let (on, off) = split(terms, leaving.c, bit)?;
-    follow(
-        setting,
-        terms,
-        frontier,
-        Leaving { c: on, ..leaving },
-        if_true,
-    )?;
-    follow(
-        setting,
-        terms,
-        frontier,
-        Leaving { c: off, ..leaving },
-        if_false,
-    )
+    let taken = with_test(setting.alloc, leaving.path, bit, true)?;
+    let leaving_on = Leaving {
+        c: on,
+        path: taken.as_slice(),
+        ..leaving
+    };
+    follow(setting, terms, frontier, leaving_on, if_true)?;
+    let not_taken = with_test(setting.alloc, leaving.path, bit, false)?;
+    let leaving_off = Leaving {
+        c: off,
+        path: not_taken.as_slice(),
+        ..leaving
+    };
+    follow(setting, terms, frontier, leaving_off, if_false)
 }
 
 /// A conditional branch of a run that is alive; its edges are those of its two labels. Poison is
@@ -228,24 +245,37 @@ fn leave_by_branch(
     leave_by_bit(setting, terms, frontier, leaving, lowest, if_true, if_false)
 }
 
-/// Where the first is true: where the number is the case's, and where it isn't.
+/// Where a switch goes on at one of its cases.
+#[derive(Clone, Copy)]
+struct CaseSplit {
+    /// Whether the number is the case's.
+    same: TermId,
+    /// Where the case is taken.
+    here: TermId,
+    /// Where it isn't, and none was before.
+    rest: TermId,
+}
+
+/// Where the first is true: whether the number is the case's, where it is, and where it isn't.
 fn split_by_case(
     terms: &mut Terms,
     left: TermId,
     number: TermId,
     width: Width,
     value: u64,
-) -> Result<(TermId, TermId), NoMemory>
+) -> Result<CaseSplit, NoMemory>
     requires left { IsTerm terms.old 1 left }
     requires number { IsTerm terms.old width.bits number }
-    ensures on { IfOk result (λ p. Tests terms.new p.0 (λ v. bit_at v terms.old left && nat_eq (value % 2 ^ width.bits) (term_at v terms.old number))) }
-    ensures off { IfOk result (λ p. Tests terms.new p.1 (λ v. bit_at v terms.old left && not (nat_eq (value % 2 ^ width.bits) (term_at v terms.old number)))) }
+    ensures same { IfOk result (λ p. Tests terms.new p.same (λ v. nat_eq (value % 2 ^ width.bits) (term_at v terms.old number))) }
+    ensures on { IfOk result (λ p. Tests terms.new p.here (λ v. bit_at v terms.old left && nat_eq (value % 2 ^ width.bits) (term_at v terms.old number))) }
+    ensures off { IfOk result (λ p. Tests terms.new p.rest (λ v. bit_at v terms.old left && not (nat_eq (value % 2 ^ width.bits) (term_at v terms.old number)))) }
     ensures kept { Keeps terms.old terms.new }
 {
     let low = wrap(value as u128, width);
     let known = constant(terms, low as u128, width.bits())?;
     let same = equals(terms, known, number)?;
-    split(terms, left, same)
+    let (here, rest) = split(terms, left, same)?;
+    Ok(CaseSplit { same, here, rest })
 }
 
 /// The number that a switch is on, at its width, its cases, and the edges of its labels, the
@@ -273,26 +303,27 @@ fn leave_by_cases(
     ensures kept { Keeps terms.old terms.new }
 {
     let mut left = leaving.c;
+    let mut path = copy_path(setting.alloc, leaving.path)?;
     for (i, case) in switch.cases.iter().enumerate() {
-        let (here, rest) = split_by_case(terms, left, switch.number, switch.width, case.value)?;
+        let split = split_by_case(terms, left, switch.number, switch.width, case.value)?;
         let edge = edge_at(switch.edges, i + 1);
-        follow(
-            setting,
-            terms,
-            frontier,
-            Leaving { c: here, ..leaving },
-            edge,
-        )?;
-        left = rest;
+        let taken = with_test(setting.alloc, path.as_slice(), split.same, true)?;
+        let leaving_here = Leaving {
+            c: split.here,
+            path: taken.as_slice(),
+            ..leaving
+        };
+        follow(setting, terms, frontier, leaving_here, edge)?;
+        left = split.rest;
+        path = with_test(setting.alloc, path.as_slice(), split.same, false)?;
     }
     let default = edge_at(switch.edges, 0);
-    follow(
-        setting,
-        terms,
-        frontier,
-        Leaving { c: left, ..leaving },
-        default,
-    )
+    let leaving_rest = Leaving {
+        c: left,
+        path: path.as_slice(),
+        ..leaving
+    };
+    follow(setting, terms, frontier, leaving_rest, default)
 }
 
 /// A switch of a run that is alive; its edges are those of its labels, the default's first. Poison

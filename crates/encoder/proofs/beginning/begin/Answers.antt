@@ -1,4 +1,4 @@
-use Rattle.encoder.proofs.Common.{◌≡◌, ◌∙◌, refl, ap, not, sym, length, Each, frames_of, IsBlockTerms, IsByteTerms, each-weaker, keeps_trans, args-later, args_at-later, term-later, bit-later, sym_values-later, is_term-later, sizes-later, block_terms_each-later, given_blocks_at-later, given_blocks-later, run_memory-later, first_matches, only_frames, only_given}
+use Rattle.encoder.proofs.Common.{◌≡◌, ◌∙◌, refl, ap, not, sym, [], length, Each, frames_of, IsBlockTerms, IsByteTerms, each-weaker, keeps_trans, args-later, args_at-later, term-later, bit-later, sym_values-later, is_term-later, sizes-later, block_terms_each-later, given_blocks_at-later, given_blocks-later, run_memory-later, first_matches, only_frames, only_given}
 use Rattle.encoder.proofs.beginning.begin.Goals as goal
 
 pub give_args-requires-clause-args : goal.give_args-requires-clause-args
@@ -82,7 +82,7 @@ returns-clause-matches c = λ g given.
     let input = c.args.input.now in
     let memory = c.in_ok-memory.ensures in
     first_matches old a b y z d c.args.f.now input c.in_ok-registers.registers
-    (record { alive = c.in_ok-alive.alive; registers = c.give_args.new.registers; memory = c.in_ok-memory.memory; tally = record { read = c.in_ok-read.read; fits = c.in_ok-fits.fits }; words_bound = 0 })
+    (record { alive = c.in_ok-alive.alive; path = c.from_vec.result; registers = c.give_args.new.registers; memory = c.in_ok-memory.memory; tally = record { read = c.in_ok-read.read; fits = c.in_ok-fits.fits }; words_bound = 0 })
     c.poison_registers.ensures.kept c.give_args.ensures.kept kby c.given_memory.ensures.kept (keeps_trans z n d c.number.ensures.kept c.truth.ensures.kept)
     c.requires.args c.in_ok-give_args.ensures.made (only_given z c.in_ok-memory.memory c.args.layout.now memory.given memory.count)
     (λ r. rw c.len.ensures at (c.in_ok-registers.ensures.stands r)) (λ r named. rw (c.as_slice.ensures, c.as_slice-args.ensures) at (c.in_ok-give_args.ensures.stands r named))
@@ -108,6 +108,7 @@ returns-clause-state c =
     let memory = c.in_ok-memory.ensures in
     record {
       alive = is_term-later y d kyd 1 c.in_ok-alive.alive (record { within = alive.within; wide = alive.wide });
+      path = (let none : c.from_vec.result ≡ [] = c.from_vec.ensures ∙ c.new.ensures.items in record { tests = rw none tt; hold = λ v held. rw none tt });
       registers = sym_values-later b d (keeps_trans b y d kby kyd) c.give_args.new.registers c.in_ok-give_args.ensures.made;
       memory = run_memory-later z d kzd c.in_ok-memory.memory (only_given z c.in_ok-memory.memory c.args.layout.now memory.given memory.count);
       tally = record {

@@ -24,6 +24,7 @@ follow-requires c =
       state = state;
       fits = c.in_ok-start.ensures.shape;
       c = state.alive;
+      path = rw c.as_slice.ensures state.path;
     }
 
 pub returns-clause-stands : goal.returns-clause-stands

@@ -20,6 +20,7 @@ returns-clause-made c =
         read = is_term-later b new c.truth.ensures.kept 64 c.in_ok-read.read (record { within = c.in_ok-read.ensures.made.within; wide = c.in_ok-read.ensures.made.wide });
         fits = record { within = never.within; wide = never.wide };
       };
+      returned = tt;
     }
 
 pub returns-clause-shape : goal.returns-clause-shape

@@ -43,6 +43,7 @@ leave-requires-clause-leaving c =
       state = state;
       fits = steps.shape ∙ c.requires.fits;
       c = state.alive;
+      path = rw c.as_slice-2.ensures state.path;
     }
 
 pub leave-requires-clause-returned : goal.leave-requires-clause-returned

@@ -17,7 +17,7 @@ returns-in_ok-entry-in-Some-clause-stays c = λ g at none s.
     c.set.ensures ∙ (ap (λ (xs : List (Option RunState)). slice_set xs c.args.n (Some c.in_ok-entry-in-Some.entry)) c.take_entry.ensures.rest ∙ set-set c.args.ahead.now c.args.n None (Some c.in_ok-entry-in-Some.entry)) in
     subst (λ (xs : List (Option RunState)). MatchesAhead g c.join.new.terms xs at) (sym is)
     (changed_ahead c.args.terms.now c.join.new.terms c.join.ensures.kept c.args.ahead.now c.requires.ahead g c.args.n (Some c.in-Some.known) (Some c.in_ok-entry-in-Some.entry) at c.requires.n (c.take_entry.ensures.value ∙ ap Some c.in-Some.is)
-    (passes_joined c.args.terms.now c.join.new.terms g c.args.edge c.in-Some.known c.in_ok-entry-in-Some.entry c.in_ok-entry-in-Some.ensures.alive none (λ visit m h. c.in_ok-entry-in-Some.ensures.stays g visit m none h)) s)
+    (passes_joined c.args.terms.now c.join.new.terms g c.args.edge c.in-Some.known c.in_ok-entry-in-Some.entry c.in_ok-entry-in-Some.ensures.alive none (λ visit m there h. c.in_ok-entry-in-Some.ensures.stays g visit m none there h)) s)
 
 pub returns-in_ok-entry-in-Some-clause-goes : goal.returns-in_ok-entry-in-Some-clause-goes
 returns-in_ok-entry-in-Some-clause-goes c = λ g m held h s.

@@ -6,7 +6,7 @@ abbrev pub invariant-loop-i : goal.invariant-loop-i
 invariant-loop-i l = record {
   kept : Keeps l.fn.terms l.terms;
   within : l.i ≤ length l.switch.cases.now;
-  leaving : IsLeaving l.setting l.terms l.frontier (record l.leaving { c = l.left });
+  leaving : IsLeaving l.setting l.terms l.frontier (record l.leaving { c = l.left; path = record l.leaving.path { now = l.path } });
   simulates : (g : Scene) (turn : ℕ) (edge : Case → Edge) (default : Edge) → l.switch.edges.now ≡ default ∷ map edge l.switch.cases.now → (new : List Term) (after : Frontier) (to : Machine → Where)
       → Simulates g l.terms new l.frontier after (bit_at g.v l.terms l.left) (record { label = l.leaving.label; turn = turn }) l.leaving.state.now to
       → Simulates g l.fn.terms new l.fn.frontier after (bit_at g.v l.fn.terms l.leaving.c) (record { label = l.leaving.label; turn = turn }) l.leaving.state.now

@@ -1,5 +1,5 @@
 use Rattle.run_terms.proofs.Common.{◌∙◌, sym, Some, given_blocks-later}
-use Rattle.run_terms.proofs.Lasting.{ending-later}
+use Rattle.run_terms.proofs.Lasting.{ending-later, leads-later}
 use Rattle.run_terms.proofs.Returning.{ending_valued, given_shaped, return_leaves}
 use Rattle.run_terms.proofs.terminators.return_operand.Goals as goal
 
@@ -14,6 +14,9 @@ end_return-requires-clause-alike c = sym (ending_valued c.args.setting c.args.fr
 
 pub end_return-requires-clause-given : goal.end_return-requires-clause-given
 end_return-requires-clause-given c = rw c.given-given.ensures (given_blocks-later c.args.terms.now c.returned_value.new.terms c.returned_value.ensures.kept _ _ (given_shaped c.args.setting c.args.terms.now c.args.frontier.now c.args.leaving c.requires.leaving))
+
+pub end_return-requires-clause-path : goal.end_return-requires-clause-path
+end_return-requires-clause-path c = leads-later c.args.terms.now c.returned_value.new.terms c.returned_value.ensures.kept c.args.leaving.c c.args.leaving.path.now c.requires.leaving.c c.requires.leaving.path
 
 pub returns-clause-leaves : goal.returns-clause-leaves
 returns-clause-leaves c = return_leaves (Some c.in_ok-value.value) c.returned_value.ensures.kept c.end_return.ensures.kept c.requires.leaving (rw c.given-given.ensures at c.in_ok-end_return.ensures.ends) c.in_ok-value.ensures.stands
