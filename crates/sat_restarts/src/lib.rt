@@ -12,6 +12,7 @@
 
 mod activity;
 mod bits;
+mod guessing;
 mod leastness;
 mod plan;
 mod running;

@@ -2,7 +2,8 @@
 //!
 //! One search with the least significant bits first is quick for sums and products, and short
 //! searches by activity are for memory, shifts and divisions; so they take turns, each time for
-//! twice as many conflicts. docs/MEASURED.md has the figures.
+//! twice as many conflicts. Without a limit a guess (`cdcl`) takes the place of the searches by
+//! activity, and comes before each search in order. docs/MEASURED.md has the figures.
 
 ghost use Rattle.std.specs.Prelude.{◌+◌, ◌<◌, ◌≤◌, IfOk, length};
 
@@ -21,6 +22,12 @@ const FIRST_LENGTH: u64 = 100;
 
 /// Each search by activity is longer than the one before, by this part of it.
 const LENGTH_PART: u64 = 10;
+
+/// How many conflicts the first guess may take.
+const FIRST_GUESS: u64 = 2000;
+
+/// Each later guess may take this many times the conflicts of the search after it.
+const GUESS_PART: u64 = 4;
 
 /// What decides the order of a search.
 #[derive(Clone, Copy, Debug, PartialEq, Eq)]
@@ -45,11 +52,19 @@ pub struct Plan {
     length: u64,
     /// How many steps are counted.
     counted: usize,
+    /// Whether guesses take the place of the searches by activity.
+    guesses: bool,
 }
 
 impl Plan {
-    /// The first search: the least significant bits of words of these widths first.
-    pub fn new(alloc: Global, widths: &[u32], variables: u64) -> Result<Plan, NoMemory> {
+    /// The first search: the least significant bits of words of these widths first. Where `guesses` is
+    /// true no search by activity comes.
+    pub fn new(
+        alloc: Global,
+        widths: &[u32],
+        variables: u64,
+        guesses: bool,
+    ) -> Result<Plan, NoMemory> {
         Ok(Plan {
             bits: by_bit(alloc, widths, variables)?,
             activity: Activity::new(alloc, variables)?,
@@ -58,6 +73,7 @@ impl Plan {
             left: 0,
             length: FIRST_LENGTH,
             counted: 0,
+            guesses,
         })
     }
 
@@ -85,8 +101,21 @@ impl Plan {
         }
     }
 
+    /// How many conflicts the guess before the next search may take.
+    pub fn guess_length(&self) -> u64 {
+        if self.span == FIRST_SPAN {
+            FIRST_GUESS
+        } else {
+            self.span.saturating_mul(GUESS_PART)
+        }
+    }
+
     /// Counts the steps that the last search added, and goes on to the next one.
     pub fn advance(&mut self, clauses: &[Clause], steps: &[Step]) {
+        if self.guesses {
+            self.span = self.span.saturating_mul(2);
+            return;
+        }
         for index in self.counted..steps.len() {
             self.activity.count(clauses, &steps[..index], &steps[index]);
         }

@@ -3,6 +3,7 @@
 ghost use Rattle.std.specs.Prelude.{◌+◌, ◌<◌, ◌≤◌, IfOk, IfSome};
 ghost use Rattle.sat_restarts.specs.Searched.{AreBelowLimit, AreLearned, IsLeft, IsSearched};
 
+use crate::guessing::guessed_within;
 use crate::plan::Plan;
 use crate::running::{Ended, run};
 use clause_lits::{Assignment, Cnf};
@@ -36,8 +37,12 @@ pub fn search(
     ensures { IfOk result (IsSearched cnf.now.variables cnf.now.clauses limit) }
 {
     let mut log: Log = Sequence::from_vec(Vec::new(alloc));
-    let mut plan = Plan::new(alloc, widths, cnf.variables)?;
+    let mut plan = Plan::new(alloc, widths, cnf.variables, limit.is_none())?;
     'runs: for _ in 0..u64::MAX {
+        let most = plan.guess_length();
+        if let Some(found) = guessed_within(alloc, cnf, widths, limit, most)? {
+            return Ok(found);
+        }
         let numbers = plan.numbers(alloc, cnf.variables)?;
         let most = run_limit(plan.length(), limit, log.len() as u64);
         match run(alloc, cnf, &numbers, Some(most), &mut log)? {

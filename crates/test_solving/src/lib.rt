@@ -27,6 +27,8 @@ mod gate_tests;
 #[cfg(test)]
 mod gate_values;
 #[cfg(test)]
+mod guess_tests;
+#[cfg(test)]
 mod log_tests;
 #[cfg(test)]
 mod mem_term_tests;

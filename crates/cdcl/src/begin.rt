@@ -1,0 +1,102 @@
+//! A search before its first decision.
+
+use crate::clauses::Clauses;
+use crate::order::Order;
+use crate::search::Search;
+use crate::tables::{put, short, zeros};
+use crate::trail::Trail;
+use crate::watches::Watches;
+use clause_lits::{Clause, Cnf, Lit};
+use std::alloc::Global;
+use support::{NoMemory, Sequence};
+
+/// A search has fewer variables.
+const MOST_VARIABLES: u64 = 1 << 30;
+
+/// The number of a literal.
+fn code_of(literal: Lit) -> u32 {
+    let variable = short(literal.variable as usize);
+    let sign = if literal.positive { 0 } else { 1 };
+    variable.wrapping_mul(2).wrapping_add(sign)
+}
+
+/// The ranks of variables: first these, in their order, and then all others.
+fn ranks_of(alloc: Global, variables: usize, first: &[Lit]) -> Result<Vec<u32>, NoMemory> {
+    let mut ranks = zeros(alloc, variables)?;
+    let mut rank = 0;
+    for index in 0..variables {
+        put(
+            &mut ranks,
+            short(index),
+            short(first.len().saturating_add(index)),
+        );
+    }
+    for literal in first {
+        put(&mut ranks, short(literal.variable as usize), rank);
+        rank = rank.wrapping_add(1);
+    }
+    Ok(ranks)
+}
+
+impl Search {
+    /// No clauses yet, over this many variables and 0.
+    fn empty(alloc: Global, variables: usize, first: &[Lit]) -> Result<Search, NoMemory> {
+        let ranks = ranks_of(alloc, variables, first)?;
+        Ok(Search {
+            alloc,
+            clauses: Clauses::new(alloc)?,
+            watches: Watches::new(alloc, variables.saturating_mul(2))?,
+            trail: Trail::new(alloc, variables)?,
+            order: Order::new(alloc, variables, ranks)?,
+            phases: vec![in alloc; 1; variables]?,
+            seen: vec![in alloc; 0; variables]?,
+            marked: Vec::new(alloc),
+            head: 0,
+            conflict: 0,
+            log: Sequence::from_vec(Vec::new(alloc)),
+        })
+    }
+
+    /// A search for a model of clauses, or `None` where there are too many variables. Before a conflict
+    /// the variables `first` come first, in their order.
+    pub fn of(alloc: Global, cnf: &Cnf, first: &[Lit]) -> Result<Option<Search>, NoMemory> {
+        if cnf.variables >= MOST_VARIABLES {
+            return Ok(None);
+        }
+        let variables = (cnf.variables as usize).saturating_add(1);
+        let mut search = Search::empty(alloc, variables, first)?;
+        for clause in cnf.clauses.as_slice() {
+            search.give(clause)?;
+        }
+        for variable in 1..variables {
+            search.order.insert(short(variable))?;
+        }
+        Ok(Some(search))
+    }
+
+    /// Adds a given clause: it is watched, or its one literal is true.
+    fn give(&mut self, clause: &Clause) -> Result<(), NoMemory> {
+        let mut literals = Vec::new(self.alloc);
+        for literal in clause.literals() {
+            literals.push(code_of(*literal))?;
+        }
+        let number = self.clauses.add(&literals)?;
+        self.watches.extend()?;
+        match literals.as_slice() {
+            [] => self.conflict = number,
+            [only] => self.force(*only, number)?,
+            _ => self.watch(number),
+        }
+        Ok(())
+    }
+
+    /// Makes the one literal of a clause true.
+    fn force(&mut self, literal: u32, number: u32) -> Result<(), NoMemory> {
+        if self.trail.is_false(literal) {
+            self.conflict = number;
+        } else if self.trail.is_open(literal) {
+            self.trail.assign(literal, number)?;
+        }
+        Ok(())
+    }
+}

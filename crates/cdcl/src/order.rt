@@ -1,0 +1,153 @@
+//! Which variable is decided next: the most active one, by a heap.
+
+use crate::tables::{at, count, put, zeros};
+use std::alloc::Global;
+use support::NoMemory;
+
+/// What the first conflict adds to a variable's score.
+const FIRST_RISE: u64 = 1 << 20;
+
+/// Each conflict adds more than the one before, by this part of it.
+const RISE_PART: u64 = 19;
+
+/// Scores are divided by `1 << DIVIDED` once a conflict would add more than this.
+const MOST_RISE: u64 = 1 << 52;
+
+const DIVIDED: u32 = 32;
+
+/// No path in a heap is longer.
+const MOST_DEPTH: u32 = 32;
+
+/// Variables in a heap by their scores, the greatest first, and then by their ranks.
+#[derive(Drop)]
+pub struct Order {
+    heap: Vec<u32>,
+    /// Where each variable is in the heap, counted from 1; 0 where it isn't in it.
+    places: Vec<u32>,
+    scores: Vec<u64>,
+    /// Which of two variables of one score comes first: the one of the less rank.
+    ranks: Vec<u32>,
+    rise: u64,
+}
+
+impl Order {
+    /// No variables in the heap, and none of this many has a score.
+    pub fn new(alloc: Global, variables: usize, ranks: Vec<u32>) -> Result<Order, NoMemory> {
+        Ok(Order {
+            heap: Vec::new(alloc),
+            places: zeros(alloc, variables)?,
+            scores: vec![in alloc; 0; variables]?,
+            ranks,
+            rise: FIRST_RISE,
+        })
+    }
+
+    fn score(&self, variable: u32) -> u64 {
+        self.scores.get(variable as usize).copied().unwrap_or(0)
+    }
+
+    /// Whether the first variable is decided before the second.
+    fn is_before(&self, a: u32, b: u32) -> bool {
+        let first = self.score(a);
+        let second = self.score(b);
+        if first == second {
+            return at(&self.ranks, a) < at(&self.ranks, b);
+        }
+        first > second
+    }
+
+    /// Puts a variable at an index of the heap.
+    fn place(&mut self, index: u32, variable: u32) {
+        put(&mut self.heap, index, variable);
+        put(&mut self.places, variable, index.wrapping_add(1));
+    }
+
+    /// Moves a variable up from an index.
+    fn rise_from(&mut self, index: u32, variable: u32) {
+        let mut here = index;
+        for _ in 0..MOST_DEPTH {
+            if here == 0 {
+                break;
+            }
+            let parent = here.wrapping_sub(1) / 2;
+            let above = at(&self.heap, parent);
+            if !self.is_before(variable, above) {
+                break;
+            }
+            self.place(here, above);
+            here = parent;
+        }
+        self.place(here, variable);
+    }
+
+    /// The index of the child that comes first, of the variable at an index.
+    fn first_child(&self, index: u32) -> u32 {
+        let left = index.wrapping_mul(2).wrapping_add(1);
+        let right = left.wrapping_add(1);
+        let is_right = right < count(&self.heap)
+            && self.is_before(at(&self.heap, right), at(&self.heap, left));
+        if is_right { right } else { left }
+    }
+
+    /// Moves a variable down from the top.
+    fn sink(&mut self, variable: u32) {
+        let mut here = 0;
+        for _ in 0..MOST_DEPTH {
+            let child = self.first_child(here);
+            if child >= count(&self.heap) {
+                break;
+            }
+            let below = at(&self.heap, child);
+            if !self.is_before(below, variable) {
+                break;
+            }
+            self.place(here, below);
+            here = child;
+        }
+        self.place(here, variable);
+    }
+
+    /// Puts a variable into the heap, if it isn't there.
+    pub fn insert(&mut self, variable: u32) -> Result<(), NoMemory> {
+        if at(&self.places, variable) == 0 {
+            let index = count(&self.heap);
+            self.heap.push(variable)?;
+            self.rise_from(index, variable);
+        }
+        Ok(())
+    }
+
+    /// Takes the first variable from the heap.
+    pub fn pop(&mut self) -> Option<u32> {
+        let first = self.heap.first().copied()?;
+        let last = self.heap.pop()?;
+        put(&mut self.places, first, 0);
+        if !self.heap.is_empty() {
+            self.sink(last);
+        }
+        Some(first)
+    }
+
+    /// A variable took part in a conflict.
+    pub fn bump(&mut self, variable: u32) {
+        let score = self.score(variable).saturating_add(self.rise);
+        if let Some(cell) = self.scores.get_mut(variable as usize) {
+            *cell = score;
+        }
+        let place = at(&self.places, variable);
+        if place > 0 {
+            self.rise_from(place.wrapping_sub(1), variable);
+        }
+    }
+
+    /// Later conflicts count more.
+    pub fn end_conflict(&mut self) {
+        self.rise = self.rise.saturating_add(self.rise / RISE_PART);
+        if self.rise > MOST_RISE {
+            self.rise >>= DIVIDED;
+            for score in self.scores.iter_mut() {
+                *score >>= DIVIDED;
+            }
+        }
+    }
+}

@@ -1,0 +1,120 @@
+//! The literals that are true, in the order in which they became so.
+
+use crate::tables::{at, byte_at, count, put, put_byte, zeros};
+use std::alloc::Global;
+use support::NoMemory;
+
+/// The opposite of a literal.
+pub fn opposite(literal: u32) -> u32 {
+    literal ^ 1
+}
+
+/// The variable of a literal.
+pub fn variable_of(literal: u32) -> u32 {
+    literal >> 1
+}
+
+/// The literals that are true, and by variable their levels, reasons and places.
+#[derive(Drop)]
+pub struct Trail {
+    /// 1 for a literal that is true, else 0.
+    values: Vec<u8>,
+    literals: Vec<u32>,
+    levels: Vec<u32>,
+    /// The number of the clause that made it true; 0 for a decision.
+    reasons: Vec<u32>,
+    places: Vec<u32>,
+    /// How long the trail was at each decision.
+    decisions: Vec<u32>,
+}
+
+impl Trail {
+    /// No literals, of this many variables and 0.
+    pub fn new(alloc: Global, variables: usize) -> Result<Trail, NoMemory> {
+        Ok(Trail {
+            values: vec![in alloc; 0; variables.saturating_mul(2)]?,
+            literals: Vec::new(alloc),
+            levels: zeros(alloc, variables)?,
+            reasons: zeros(alloc, variables)?,
+            places: zeros(alloc, variables)?,
+            decisions: Vec::new(alloc),
+        })
+    }
+
+    pub fn is_true(&self, literal: u32) -> bool {
+        byte_at(&self.values, literal) == 1
+    }
+
+    pub fn is_false(&self, literal: u32) -> bool {
+        byte_at(&self.values, opposite(literal)) == 1
+    }
+
+    pub fn is_open(&self, literal: u32) -> bool {
+        !self.is_true(literal) && !self.is_false(literal)
+    }
+
+    /// How many literals are true.
+    pub fn len(&self) -> u32 {
+        count(&self.literals)
+    }
+
+    /// The literal at an index of the trail.
+    pub fn literal(&self, index: u32) -> u32 {
+        at(&self.literals, index)
+    }
+
+    /// The level of a variable: how many decisions there were when it got its value.
+    pub fn level_of(&self, variable: u32) -> u32 {
+        at(&self.levels, variable)
+    }
+
+    pub fn reason_of(&self, variable: u32) -> u32 {
+        at(&self.reasons, variable)
+    }
+
+    pub fn place_of(&self, variable: u32) -> u32 {
+        at(&self.places, variable)
+    }
+
+    /// How many decisions there are.
+    pub fn level(&self) -> u32 {
+        count(&self.decisions)
+    }
+
+    /// Makes a literal true, for this reason.
+    pub fn assign(&mut self, literal: u32, reason: u32) -> Result<(), NoMemory> {
+        let variable = variable_of(literal);
+        let level = self.level();
+        let place = self.len();
+        put_byte(&mut self.values, literal, 1);
+        put(&mut self.levels, variable, level);
+        put(&mut self.reasons, variable, reason);
+        put(&mut self.places, variable, place);
+        self.literals.push(literal)?;
+        Ok(())
+    }
+
+    /// Decides a literal.
+    pub fn decide(&mut self, literal: u32) -> Result<(), NoMemory> {
+        let length = self.len();
+        self.decisions.push(length)?;
+        self.assign(literal, 0)
+    }
+
+    /// How long the trail was before the decision of a level, from 1 on.
+    pub fn length_before(&self, level: u32) -> u32 {
+        at(&self.decisions, level.wrapping_sub(1))
+    }
+
+    /// Takes the last literal from the trail.
+    pub fn pop(&mut self) -> Option<u32> {
+        let literal = self.literals.pop()?;
+        put_byte(&mut self.values, literal, 0);
+        Some(literal)
+    }
+
+    /// Forgets the decisions after a level.
+    pub fn forget_decisions(&mut self, level: u32) {
+        self.decisions.truncate(level as usize);
+    }
+}
