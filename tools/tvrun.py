@@ -156,13 +156,17 @@ def check_texts(source, target, seconds, words=()):
 
 def files_of(source, target):
     """The names of two files with these texts, `before.ll` and `after.ll` in the thread's folder."""
+    return [file_of("before.ll", source), file_of("after.ll", target)]
+
+
+def file_of(name, text):
+    """The whole name of a file in the thread's folder that has this text."""
     if not hasattr(_thread, "folder"):
         _thread.folder = tempfile.TemporaryDirectory(prefix="tv-")
-    names = [os.path.join(_thread.folder.name, name) for name in ("before.ll", "after.ll")]
-    for name, text in zip(names, (source, target)):
-        with open(name, "wb") as file:
-            file.write(text.encode("utf-8", "surrogateescape"))
-    return names
+    path = os.path.join(_thread.folder.name, name)
+    with open(path, "wb") as file:
+        file.write(text.encode("utf-8", "surrogateescape"))
+    return path
 
 
 # A folder for each thread, removed at the thread's end: to make one for each question takes as
@@ -240,14 +244,15 @@ def judge(source, target, name, how):
 
 def traced(row, sides, how, bounds):
     """The lines of both runs of a counterexample, step by step; none without a tv_trace, or where
-    it doesn't answer in time."""
+    it doesn't answer in time. It has the row as a report, so that it need not judge again."""
     program = tvlib.trace_program()
     if not program:
         return []
     files = files_of(sides["source"].text, sides["target"].text)
+    report = file_of("report", row.whole())
     words = limits_among([*how.words, *tvlib.tv_args()])
-    done = tvlib.run([program, *files, "--function", row.name, *words, *how.added(bounds)],
-                     seconds=how.seconds, group=True)
+    done = tvlib.run([program, *files, "--function", row.name, "--report", report, *words,
+                      *how.added(bounds)], seconds=how.seconds, group=True)
     lines = done.output.decode("utf-8", "surrogateescape").splitlines()
     begin = next((at for at, line in enumerate(lines) if line.startswith("source,")), len(lines))
     return lines[begin:] if done.status == STATUSES["incorrect"] else []

@@ -2,8 +2,9 @@
 //!
 //! It promises that [`read_both`] gives the one module of each file, or the first cause that keeps a
 //! file from being judged: it can't be read, it is longer than the limit, or its text is no module,
-//! with the first fault; and that [`refuse`] writes the line of that cause and answers its status. It
-//! builds on `tv_io` and `ir_reader`; `tv_run` and `trace_run` use it.
+//! with the first fault; and that [`refuse`] writes the line of that cause and answers its status.
+//! [`load`] and [`refuse_file`] are the same of one file, whatever its text is. It builds on `tv_io` and
+//! `ir_reader`; `tv_run` and `trace_run` use it.
 #![tactic(auto)]
 
 mod both;
@@ -13,6 +14,6 @@ mod stop;
 mod texts;
 
 pub use both::{Modules, read_both};
-pub use refusals::refuse;
+pub use refusals::{refuse, refuse_file};
 pub use stop::{LoadFault, Stop, Trouble};
-pub use texts::module_of;
+pub use texts::{load, module_of};

@@ -21,7 +21,7 @@ pub fn refuse<K: Sink>(out: &mut K, stop: Stop, source: &str, target: &str) -> u
 }
 
 /// Writes the line of a file that is not judged, and answers its status.
-fn refuse_file<K: Sink>(out: &mut K, name: &str, trouble: Trouble) -> u8
+pub fn refuse_file<K: Sink>(out: &mut K, name: &str, trouble: Trouble) -> u8
     ensures status { result ≡ trouble_status trouble }
     ensures line { WritesLine (trouble_line name.now trouble) (K.state out.old) (K.state out.new) }
 {

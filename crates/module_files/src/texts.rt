@@ -8,7 +8,7 @@ use ir_tree::Module;
 use std::alloc::Global;
 use tv_io::{FetchFault, Shelf, Size};
 
-/// The most bytes of a module.
+/// The most bytes of a file.
 const TEXT_LIMIT: u64 = 16_777_216;
 
 /// The bytes of a file, at most the limit.

@@ -1,6 +1,8 @@
 -- The pairs that are judged: the judge takes each of them, and there are no more of them than functions.
 use Rattle.module_rows.proofs.Common.{◌≡◌, ℕ, ◌+◌, ◌-◌, ◌*◌, ◌^◌, ◌<◌, ◌≤◌, arith, refl, List, [], ◌∷◌, ◌++◌, length, length-append, Option, Some, None, Result, Ok, Err, Bool, true, false, true≢false, sym, ap, is_some, if◌then◌else◌, AllByRecursion, Name, Function, Refused, Entry, same_name, IsJudgeable, IsJudgeableEntry, Functions, same_signature, CanBeJudged, function_named, pairs_in, judged_pairs, subst, same_Some}
 use Rattle.std.specs.Prelude.{IfSome}
+use Rattle.points.specs.Runnable.{IsRunnable}
+use Rattle.points.proofs.Runnable.{runnable}
 use Rattle.module_rows.specs.Judging.{listed}
 use Rattle.std.proofs.Math.Nat.{mul-le-mul_left}
 
@@ -63,6 +65,14 @@ pub listed_judged : (targets : List Entry) (source : Entry) (found : Option Func
 listed_judged targets source None all one is = tt
 listed_judged targets source (Some pair) all one is =
     (subst (λ (ps : List Functions). AllByRecursion CanBeJudged ps) is (pair_judged source.function (function_named targets source.name) one (named_judgeable targets source.name all))).0
+
+-- and both its functions may be run
+pub listed_runnable : (targets : List Entry) (source : Entry) (found : Option Functions) → AllByRecursion IsJudgeableEntry targets → IsJudgeableEntry source
+    → pairs_in source.function (function_named targets source.name) ≡ listed found → IfSome found (λ p. IsRunnable p.source × IsRunnable p.target)
+listed_runnable targets source None all one is = tt
+listed_runnable targets source (Some pair) all one is =
+    let can = listed_judged targets source (Some pair) all one is in
+    (runnable pair.source can.source_limits, runnable pair.target can.target_limits)
 
 -- ---- how many there are
 

@@ -3,7 +3,7 @@
 //!
 //! It promises that the rows are those of the report, in its order: a pair of functions with one name and
 //! one signature has the verdict of its own answer, and a function that can't be judged has the row that
-//! says why; [`row_of`] is the row of one function alone. It builds on `pair_driver` and `pair_judge`, which judge the pairs, and on `replay`,
+//! says why; [`row_of`] is the row of one function alone, and [`pair_named`] its pair. It builds on `pair_driver` and `pair_judge`, which judge the pairs, and on `replay`,
 //! which shows a counterexample; `tv_run` and `trace_run` use it.
 #![tactic(auto)]
 
@@ -11,5 +11,5 @@ mod index;
 mod one_row;
 mod rows;
 
-pub use one_row::{OneRow, row_of};
+pub use one_row::{OneRow, pair_named, row_of};
 pub use rows::{Judgements, all_rows};

@@ -5,6 +5,7 @@ ghost use Rattle.std.specs.List.{IsDistinct, AllByRecursion};
 ghost use Rattle.ir_tree.specs.Names.{same_name};
 ghost use Rattle.ir_reader.specs.Judgeable.{IsJudgeableEntry};
 ghost use Rattle.pair_judge.specs.Answers.{CanBeJudged};
+ghost use Rattle.points.specs.Runnable.{IsRunnable};
 ghost use Rattle.report.specs.Rows.{IsRow, function_named};
 ghost use Rattle.module_rows.specs.Judging.{HasNext, listed, may_answer, pairs_in};
 ghost use Rattle.module_rows.specs.Searching.{entry_names};
@@ -49,6 +50,27 @@ pub fn row_of<'m>(
     let mut left = answers.as_slice();
     let row = next_row(alloc, judge, source, targets, &names, &mut left)?;
     Ok(OneRow { row, pair })
+}
+
+/// The pair of a function of the source and the target's function of its name, where it is judged.
+///
+/// # Errors
+/// Only out of memory.
+pub fn pair_named<'m>(
+    alloc: Global,
+    source: &'m Entry,
+    target: &'m Module,
+) -> Result<Option<Pair<'m>>, NoMemory>
+    requires target_names { IsDistinct same_name (entry_names target.now.entries) }
+    requires source_judgeable { IsJudgeableEntry source.now }
+    requires target_judgeable { AllByRecursion IsJudgeableEntry target.now.entries }
+    ensures pair { IfOk result (λ pair. pairs_in source.now.function (function_named target.now.entries source.now.name) ≡ listed pair) }
+    ensures runnable { IfOk result (λ pair. IfSome pair (λ p. IsRunnable p.source × IsRunnable p.target)) }
+{
+    let targets = target.entries.as_slice();
+    let names = names_of(alloc, targets)?;
+    let pair = pair_of(source, find(targets, &names, &source.name));
+    Ok(pair)
 }
 
 /// The judge's answer on a pair, where there is one.

@@ -1,14 +1,33 @@
 //! Counterexamples step by step, with values worked out by hand.
 
-use crate::asking::{Asked, arguments_of, asked_in, shelf_of};
+use crate::asking::{Asked, arguments_of, asked_in, files_of};
 use std::alloc::Global;
 use std::test::*;
+use support::NoMemory;
 use trace_run::run;
-use tv_io::MemorySink;
+use tv_io::{MemoryShelf, MemorySink};
+
+/// A row, and the report that it has at its end after `--- R`, if it has one.
+fn parted(row: &str) -> (&str, Option<&str>) {
+    match row.split_once("--- R\n") {
+        Some((row, report)) => (row, Some(report)),
+        None => (row, None),
+    }
+}
+
+/// A shelf with the files A and B, and R with the report.
+fn shelf_with(alloc: Global, asked: &Asked, report: Option<&str>) -> Result<MemoryShelf, NoMemory> {
+    let mut files = files_of(alloc, asked.source.as_bytes(), asked.target.as_bytes())?;
+    if let Some(report) = report {
+        let bytes = Vec::from_slice(alloc, report.as_bytes())?;
+        files.insert(String::from_str(alloc, "R")?, bytes)?;
+    }
+    Ok(MemoryShelf::new(files))
+}
 
 /// Fails where `run` gives another status or output.
-fn is_explained(alloc: Global, asked: &Asked) -> Result<(), Fail> {
-    let mut shelf = shelf_of(alloc, asked.source.as_bytes(), asked.target.as_bytes())?;
+fn is_explained(alloc: Global, asked: &Asked, report: Option<&str>) -> Result<(), Fail> {
+    let mut shelf = shelf_with(alloc, asked, report)?;
     let arguments = arguments_of(alloc, asked.line)?;
     let mut out = MemorySink::new(alloc, 4_000)?;
     let status = run(alloc, arguments.as_slice(), &mut shelf, &mut out);
@@ -22,7 +41,8 @@ fn is_explained(alloc: Global, asked: &Asked) -> Result<(), Fail> {
 /// Fails at the first row to which `run` gives another answer. `=== ` separates two rows.
 fn are_explained(alloc: Global, rows: &str) -> Result<(), Fail> {
     for row in rows.split("=== ") {
-        is_explained(alloc, &asked_in(row).ok_or("a row")?)?;
+        let (row, report) = parted(row);
+        is_explained(alloc, &asked_in(row).ok_or("a row")?, report)?;
     }
     Ok(())
 }
@@ -252,4 +272,399 @@ A:1:1: no token
 #[test]
 fn other_answers_have_their_line(rt: HostRuntime) -> Result<(), Fail> {
     are_explained(rt.alloc(), OTHERS)
+}
+
+const REPORTED: &str = "\
+the report has the row: nothing is judged, since the pair weighs more than 1
+tv_trace A B --function f --report R --weight 1
+--- A
+define i8 @f(i8 %x) {
+entry:
+  %s = add i8 %x, 100
+  ret i8 %s
+}
+--- B
+define i8 @f(i8 %x) {
+entry:
+  %s = add nsw i8 %x, 100
+  ret i8 %s
+}
+--- 1
+@f incorrect
+  arg 0 = 28
+  source returns 128
+  target returns poison
+source, on the choices 0 (one of its runs)
+  %x = 28 (0x1c)
+entry:
+  %s = add i8 %x, 100 ; %x = 28 (0x1c) ; gives 128 (-128, 0x80)
+  ret i8 %s ; %s = 128 (-128, 0x80)
+  returns 128 (-128, 0x80)
+target, on the choices of the counterexample
+  %x = 28 (0x1c)
+entry:
+  %s = add nsw i8 %x, 100 ; %x = 28 (0x1c) ; gives poison: nsw
+  ret i8 %s ; %s = poison
+  returns poison
+difference: the target returns poison, and the source another value
+--- R
+tv 1 turns 4 blocks 2 bytes 8 rounds 64 conflicts 0 weight 100000
+@e correct
+@f incorrect
+  arg 0 = 28
+  source returns 128
+  target returns poison
+correct 1 incorrect 1 unknown 0 refused 0 signature 0 missing 0 extra 0
+=== the report has a greater counterexample
+tv_trace A B --function f --report R --weight 1
+--- A
+define i8 @f(i8 %x) {
+entry:
+  %s = add i8 %x, 100
+  ret i8 %s
+}
+--- B
+define i8 @f(i8 %x) {
+entry:
+  %s = add nsw i8 %x, 100
+  ret i8 %s
+}
+--- 1
+@f incorrect
+  arg 0 = 29
+  source returns 129
+  target returns poison
+source, on the choices 0 (one of its runs)
+  %x = 29 (0x1d)
+entry:
+  %s = add i8 %x, 100 ; %x = 29 (0x1d) ; gives 129 (-127, 0x81)
+  ret i8 %s ; %s = 129 (-127, 0x81)
+  returns 129 (-127, 0x81)
+target, on the choices of the counterexample
+  %x = 29 (0x1d)
+entry:
+  %s = add nsw i8 %x, 100 ; %x = 29 (0x1d) ; gives poison: nsw
+  ret i8 %s ; %s = poison
+  returns poison
+difference: the target returns poison, and the source another value
+--- R
+tv 1 turns 4 blocks 2 bytes 8 rounds 64 conflicts 0 weight 100000
+@e correct
+@f incorrect
+  arg 0 = 29
+  source returns 129
+  target returns poison
+correct 1 incorrect 1 unknown 0 refused 0 signature 0 missing 0 extra 0
+=== the runs show another outcome than the report
+tv_trace A B --function f --report R
+--- A
+define i8 @f(i8 %x) {
+entry:
+  %s = add i8 %x, 100
+  ret i8 %s
+}
+--- B
+define i8 @f(i8 %x) {
+entry:
+  %s = add nsw i8 %x, 100
+  ret i8 %s
+}
+--- 1
+@f incorrect
+  arg 0 = 28
+  source returns 128
+  target returns poison
+source, on the choices 0 (one of its runs)
+  %x = 28 (0x1c)
+entry:
+  %s = add i8 %x, 100 ; %x = 28 (0x1c) ; gives 128 (-128, 0x80)
+  ret i8 %s ; %s = 128 (-128, 0x80)
+  returns 128 (-128, 0x80)
+target, on the choices of the counterexample
+  %x = 28 (0x1c)
+entry:
+  %s = add nsw i8 %x, 100 ; %x = 28 (0x1c) ; gives poison: nsw
+  ret i8 %s ; %s = poison
+  returns poison
+difference: the target returns poison, and the source another value
+--- R
+tv 1 turns 4 blocks 2 bytes 8 rounds 64 conflicts 0 weight 100000
+@e correct
+@f incorrect
+  arg 0 = 29
+  source returns 130
+  target returns poison
+correct 1 incorrect 1 unknown 0 refused 0 signature 0 missing 0 extra 0
+=== the report has a line more than the runs show
+tv_trace A B --function f --report R
+--- A
+define i8 @f(i8 %x) {
+entry:
+  %s = add i8 %x, 100
+  ret i8 %s
+}
+--- B
+define i8 @f(i8 %x) {
+entry:
+  %s = add nsw i8 %x, 100
+  ret i8 %s
+}
+--- 1
+@f incorrect
+  arg 0 = 28
+  source returns 128
+  target returns poison
+source, on the choices 0 (one of its runs)
+  %x = 28 (0x1c)
+entry:
+  %s = add i8 %x, 100 ; %x = 28 (0x1c) ; gives 128 (-128, 0x80)
+  ret i8 %s ; %s = 128 (-128, 0x80)
+  returns 128 (-128, 0x80)
+target, on the choices of the counterexample
+  %x = 28 (0x1c)
+entry:
+  %s = add nsw i8 %x, 100 ; %x = 28 (0x1c) ; gives poison: nsw
+  ret i8 %s ; %s = poison
+  returns poison
+difference: the target returns poison, and the source another value
+--- R
+tv 1 turns 4 blocks 2 bytes 8 rounds 64 conflicts 0 weight 100000
+@e correct
+@f incorrect
+  arg 0 = 29
+  source returns 129
+  target returns poison
+  target block 1 = 00
+correct 1 incorrect 1 unknown 0 refused 0 signature 0 missing 0 extra 0
+=== the source allows what the target does there
+tv_trace A B --function f --report R
+--- A
+define i8 @f(i8 %x) {
+entry:
+  %s = add i8 %x, 100
+  ret i8 %s
+}
+--- B
+define i8 @f(i8 %x) {
+entry:
+  %s = add nsw i8 %x, 100
+  ret i8 %s
+}
+--- 1
+@f incorrect
+  arg 0 = 28
+  source returns 128
+  target returns poison
+source, on the choices 0 (one of its runs)
+  %x = 28 (0x1c)
+entry:
+  %s = add i8 %x, 100 ; %x = 28 (0x1c) ; gives 128 (-128, 0x80)
+  ret i8 %s ; %s = 128 (-128, 0x80)
+  returns 128 (-128, 0x80)
+target, on the choices of the counterexample
+  %x = 28 (0x1c)
+entry:
+  %s = add nsw i8 %x, 100 ; %x = 28 (0x1c) ; gives poison: nsw
+  ret i8 %s ; %s = poison
+  returns poison
+difference: the target returns poison, and the source another value
+--- R
+tv 1 turns 4 blocks 2 bytes 8 rounds 64 conflicts 0 weight 100000
+@e correct
+@f incorrect
+  arg 0 = 1
+  source returns 101
+  target returns 101
+correct 1 incorrect 1 unknown 0 refused 0 signature 0 missing 0 extra 0
+=== no argument of the type is so large
+tv_trace A B --function f --report R
+--- A
+define i8 @f(i8 %x) {
+entry:
+  %s = add i8 %x, 100
+  ret i8 %s
+}
+--- B
+define i8 @f(i8 %x) {
+entry:
+  %s = add nsw i8 %x, 100
+  ret i8 %s
+}
+--- 1
+@f incorrect
+  arg 0 = 28
+  source returns 128
+  target returns poison
+source, on the choices 0 (one of its runs)
+  %x = 28 (0x1c)
+entry:
+  %s = add i8 %x, 100 ; %x = 28 (0x1c) ; gives 128 (-128, 0x80)
+  ret i8 %s ; %s = 128 (-128, 0x80)
+  returns 128 (-128, 0x80)
+target, on the choices of the counterexample
+  %x = 28 (0x1c)
+entry:
+  %s = add nsw i8 %x, 100 ; %x = 28 (0x1c) ; gives poison: nsw
+  ret i8 %s ; %s = poison
+  returns poison
+difference: the target returns poison, and the source another value
+--- R
+tv 1 turns 4 blocks 2 bytes 8 rounds 64 conflicts 0 weight 100000
+@e correct
+@f incorrect
+  arg 0 = 285
+  source returns 129
+  target returns poison
+correct 1 incorrect 1 unknown 0 refused 0 signature 0 missing 0 extra 0
+=== the row is not at the beginning of a line
+tv_trace A B --function f --report R
+--- A
+define i8 @f(i8 %x) {
+entry:
+  %s = add i8 %x, 100
+  ret i8 %s
+}
+--- B
+define i8 @f(i8 %x) {
+entry:
+  %s = add nsw i8 %x, 100
+  ret i8 %s
+}
+--- 1
+@f incorrect
+  arg 0 = 28
+  source returns 128
+  target returns poison
+source, on the choices 0 (one of its runs)
+  %x = 28 (0x1c)
+entry:
+  %s = add i8 %x, 100 ; %x = 28 (0x1c) ; gives 128 (-128, 0x80)
+  ret i8 %s ; %s = 128 (-128, 0x80)
+  returns 128 (-128, 0x80)
+target, on the choices of the counterexample
+  %x = 28 (0x1c)
+entry:
+  %s = add nsw i8 %x, 100 ; %x = 28 (0x1c) ; gives poison: nsw
+  ret i8 %s ; %s = poison
+  returns poison
+difference: the target returns poison, and the source another value
+--- R
+ @f incorrect
+  arg 0 = 29
+  source returns 129
+  target returns poison
+=== the report has another row of the function
+tv_trace A B --function f --report R
+--- A
+define i8 @f(i8 %x) {
+entry:
+  %s = add i8 %x, 100
+  ret i8 %s
+}
+--- B
+define i8 @f(i8 %x) {
+entry:
+  %s = add nsw i8 %x, 100
+  ret i8 %s
+}
+--- 1
+@f incorrect
+  arg 0 = 28
+  source returns 128
+  target returns poison
+source, on the choices 0 (one of its runs)
+  %x = 28 (0x1c)
+entry:
+  %s = add i8 %x, 100 ; %x = 28 (0x1c) ; gives 128 (-128, 0x80)
+  ret i8 %s ; %s = 128 (-128, 0x80)
+  returns 128 (-128, 0x80)
+target, on the choices of the counterexample
+  %x = 28 (0x1c)
+entry:
+  %s = add nsw i8 %x, 100 ; %x = 28 (0x1c) ; gives poison: nsw
+  ret i8 %s ; %s = poison
+  returns poison
+difference: the target returns poison, and the source another value
+--- R
+tv 1 turns 4 blocks 2 bytes 8 rounds 64 conflicts 0 weight 100000
+@e correct
+@f correct
+correct 1 incorrect 1 unknown 0 refused 0 signature 0 missing 0 extra 0
+=== a report of one row, with a block and a choice
+tv_trace A B --function f --report R --weight 1
+--- A
+define void @f(ptr %p) {
+entry:
+  store i8 1, ptr %p
+  ret void
+}
+--- B
+define void @f(ptr %p) {
+entry:
+  %c = freeze i8 poison
+  store i8 %c, ptr %p
+  ret void
+}
+--- 1
+@f incorrect
+  arg 0 = given1+1
+  block 1 = 0f --
+  choice 0 = 255
+  source returns void
+  source block 1 = 0f 01
+  target returns void
+  target block 1 = 0f ff
+source, on the choices 0 (one of its runs)
+  %p = given1+1
+entry:
+  store i8 1, ptr %p, align 1 ; %p = given1+1 ; 1 byte at given1+1
+  ret void
+  returns void
+target, on the choices of the counterexample
+  %p = given1+1
+entry:
+  %c = freeze i8 poison ; choice 0 = 255 ; gives 255 (-1, 0xff)
+  store i8 %c, ptr %p, align 1 ; %c = 255 (-1, 0xff) ; %p = given1+1 ; 1 byte at given1+1
+  ret void
+  returns void
+difference: byte 1 of given1
+--- R
+@f incorrect
+  arg 0 = given1+1
+  block 1 = 0f --
+  choice 0 = 255
+  source returns void
+  source block 1 = 0f 01
+  target returns void
+  target block 1 = 0f ff
+=== no file of the name
+tv_trace A B --function f --report S
+--- A
+define i8 @f(i8 %x) {
+entry:
+  %s = add i8 %x, 100
+  ret i8 %s
+}
+--- B
+define i8 @f(i8 %x) {
+entry:
+  %s = add nsw i8 %x, 100
+  ret i8 %s
+}
+--- 5
+cannot read S
+--- R
+=== the report is read first, and a file that is no module is refused as ever
+tv_trace A B --function f --report R
+--- A
+?
+--- B
+--- 9
+A:1:1: no token
+--- R
+";
+
+#[test]
+fn a_report_gives_the_point(rt: HostRuntime) -> Result<(), Fail> {
+    are_explained(rt.alloc(), REPORTED)
 }

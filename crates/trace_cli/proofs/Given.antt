@@ -8,37 +8,37 @@ use Rattle.points.specs.declared.point.Bounds.{Bounds}
 use Rattle.points.specs.declared.point.Budget.{Budget}
 use Rattle.tv_cli.specs.Words.{Text}
 use Rattle.tv_cli.specs.Walked.{unless_fault}
-use Rattle.trace_cli.specs.Words.{Request, request_in_rows, request_of, request_with, trace_app}
+use Rattle.trace_cli.specs.Words.{request_in_rows, request_of, request_with, trace_app}
 
-module _ (source target function : Option Text) (bounds : Option Bounds) (budget : Option Budget) where
-  pub no_source : source ≡ None → request_with source target function bounds budget ≡ None
+module _ (source target function report : Option Text) (bounds : Option Bounds) (budget : Option Budget) where
+  pub no_source : source ≡ None → request_with source target function report bounds budget ≡ None
   no_source e = rw e refl
 
-pub no_target : (source target function : Option Text) (bounds : Option Bounds) (budget : Option Budget)
-    → target ≡ None → request_with source target function bounds budget ≡ None
-no_target None target function bounds budget e = refl
-no_target (Some source) target function bounds budget e = rw e refl
+pub no_target : (source target function report : Option Text) (bounds : Option Bounds) (budget : Option Budget)
+    → target ≡ None → request_with source target function report bounds budget ≡ None
+no_target None target function report bounds budget e = refl
+no_target (Some source) target function report bounds budget e = rw e refl
 
-pub no_function : (source target function : Option Text) (bounds : Option Bounds) (budget : Option Budget)
-    → function ≡ None → request_with source target function bounds budget ≡ None
-no_function None target function bounds budget e = refl
-no_function (Some source) None function bounds budget e = refl
-no_function (Some source) (Some target) function bounds budget e = rw e refl
+pub no_function : (source target function report : Option Text) (bounds : Option Bounds) (budget : Option Budget)
+    → function ≡ None → request_with source target function report bounds budget ≡ None
+no_function None target function report bounds budget e = refl
+no_function (Some source) None function report bounds budget e = refl
+no_function (Some source) (Some target) function report bounds budget e = rw e refl
 
-pub no_bounds : (source target function : Option Text) (bounds : Option Bounds) (budget : Option Budget)
-    → bounds ≡ None → request_with source target function bounds budget ≡ None
-no_bounds None target function bounds budget e = refl
-no_bounds (Some source) None function bounds budget e = refl
-no_bounds (Some source) (Some target) None bounds budget e = refl
-no_bounds (Some source) (Some target) (Some function) bounds budget e = rw e refl
+pub no_bounds : (source target function report : Option Text) (bounds : Option Bounds) (budget : Option Budget)
+    → bounds ≡ None → request_with source target function report bounds budget ≡ None
+no_bounds None target function report bounds budget e = refl
+no_bounds (Some source) None function report bounds budget e = refl
+no_bounds (Some source) (Some target) None report bounds budget e = refl
+no_bounds (Some source) (Some target) (Some function) report bounds budget e = rw e refl
 
-pub no_budget : (source target function : Option Text) (bounds : Option Bounds) (budget : Option Budget)
-    → budget ≡ None → request_with source target function bounds budget ≡ None
-no_budget None target function bounds budget e = refl
-no_budget (Some source) None function bounds budget e = refl
-no_budget (Some source) (Some target) None bounds budget e = refl
-no_budget (Some source) (Some target) (Some function) None budget e = refl
-no_budget (Some source) (Some target) (Some function) (Some bounds) budget e = rw e refl
+pub no_budget : (source target function report : Option Text) (bounds : Option Bounds) (budget : Option Budget)
+    → budget ≡ None → request_with source target function report bounds budget ≡ None
+no_budget None target function report bounds budget e = refl
+no_budget (Some source) None function report bounds budget e = refl
+no_budget (Some source) (Some target) None report bounds budget e = refl
+no_budget (Some source) (Some target) (Some function) report None budget e = refl
+no_budget (Some source) (Some target) (Some function) report (Some bounds) budget e = rw e refl
 
 -- ---- what a walk says
 

@@ -39,7 +39,8 @@ fn named_command<'a>(alloc: Global) -> Result<Command<'a>, AllocError>
         .disable_help_flag(true)
         .arg(name(alloc, "A"))?
         .arg(name(alloc, "B"))?
-        .arg(function(alloc))?;
+        .arg(function(alloc))?
+        .arg(option(alloc, "report"))?;
     Ok(named)
 }
 

@@ -21,6 +21,8 @@ pub struct Request<'w> {
     pub target: &'w str,
     /// As reports write it, without `@`.
     pub function: &'w str,
+    /// A report that may have the counterexample.
+    pub report: Option<&'w str>,
     pub bounds: Bounds,
     pub budget: Budget,
 }
@@ -64,10 +66,12 @@ fn request_in<'w>(matches: &ArgMatches<'w>) -> Option<Request<'w>>
     let Some(budget) = budget_in(matches) else {
         return None;
     };
+    let report = matches.get_str("report");
     Some(Request {
         source,
         target,
         function,
+        report,
         bounds,
         budget,
     })

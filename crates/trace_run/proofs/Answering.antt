@@ -1,13 +1,14 @@
 -- What is written of a request.
-use Rattle.std.proofs.Common.{◌≡◌, ◌≢◌, ◌≤◌, ◌⊎◌, ℕ, arith, List, Option, Some, None, sym, subst, inl, inr, ◌∙◌}
+use Rattle.std.proofs.Common.{◌≡◌, ◌≤◌, ◌⊎◌, ℕ, arith, List, Option, Some, None, sym, subst, inl, inr, ◌∙◌}
 use Rattle.tv_io.specs.Count.{Rose}
 use Rattle.tv_io.specs.Files.{Files}
-use Rattle.tv_io.specs.State.{ShelfState, SinkState}
+use Rattle.tv_io.specs.State.{SinkState}
 use Rattle.module_files.specs.declared.both.Modules.{Modules}
 use Rattle.module_files.specs.Files.{HasModule, WhereKnown}
 use Rattle.trace_cli.specs.Words.{Request}
 use Rattle.trace_run.specs.declared.explaining.Explanation.{Explanation}
-use Rattle.trace_run.specs.Requests.{Explains, IsFound, IsFoundIn, IsSent, WhereAsked, WritesExplanation, WritesPart}
+use Rattle.trace_run.specs.Halts.{report_in}
+use Rattle.trace_run.specs.Requests.{Explains, ExplainsIn, IsFound, IsFoundIn, IsSent, WhereAsked, WritesExplanation, WritesPart}
 
 request_is : (a b : Request) → Some a ≡ Some b → a ≡ b
 request_is a b e = cc e
@@ -16,11 +17,16 @@ request_is a b e = cc e
 pub where_asked : (known : Option Files) (asked : Option Request) (r : Request) (P : Files → Request → Type 0) → Some r ≡ asked → WhereKnown known (λ files. P files r) → WhereAsked known asked P
 where_asked known asked r P read holds files s is_known is = subst (P files) (request_is r s (read ∙ is)) (holds files is_known)
 
--- what is found in the modules of two files is found of the files
-pub found_of : (files : Files) (r : Request) (both : Modules) (found : Option Explanation) → HasModule (files r.source) both.source → HasModule (files r.target) both.target
-    → IsFoundIn r both found → IsFound files r found
-found_of files r both None source target is = record { both = both; source_is = source; target_is = target; none = is }
-found_of files r both (Some e) source target is = record { both = both; source_is = source; target_is = target; explains = is }
+-- what is found in the modules of two files, with the report that is named, is found of the files
+pub found_of : (files : Files) (r : Request) (report : Option (List ℕ)) (both : Modules) (found : Option Explanation) → HasModule (files r.source) both.source → HasModule (files r.target) both.target
+    → report ≡ report_in files r.report → IsFoundIn r report both found → IsFound files r found
+found_of files r report both None source target named is = record { both = both; source_is = source; target_is = target; none = is }
+found_of files r report both (Some e) source target named is = record {
+  both = both;
+  source_is = source;
+  target_is = target;
+  explains = subst (λ (x : Option (List ℕ)). ExplainsIn r x both e.text.items e.status) named is;
+}
 
 -- ---- a text that was sent
 

@@ -1,2 +1,3 @@
 mod Explained
 mod Answering
+mod Halting

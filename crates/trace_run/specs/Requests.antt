@@ -1,6 +1,6 @@
 -- What a request is answered.
-use Rattle.std.specs.Prelude.{◌≡◌, ◌≢◌, ◌≤◌, ◌⊎◌, ℕ, List, [], ◌∷◌, ◌++◌, codes, map, string_bytes, Option, Some, None}
-use Rattle.std.specs.Global.{Global}
+use Rattle.std.specs.Prelude.{◌≡◌, ◌≢◌, ◌≤◌, ◌⊎◌, ℕ, List, [], ◌∷◌, ◌++◌, codes, map, string_bytes, Option, Some, None, option_map}
+use Rattle.std.specs.Global.{Global, Vec}
 use Rattle.std.specs.declared.string.String.{String}
 use Rattle.tv_io.specs.Files.{Files}
 use Rattle.tv_io.specs.State.{ShelfState, SinkState}
@@ -10,14 +10,15 @@ use Rattle.ir_tree.specs.Names.{same_name}
 use Rattle.ir_reader.specs.Judgeable.{IsJudgeableEntry}
 use Rattle.module_files.specs.declared.both.Modules.{Modules}
 use Rattle.module_rows.specs.Searching.{entry_names}
-use Rattle.module_files.specs.declared.stop.Stop.{Stop}
 use Rattle.module_files.specs.Files.{HasModule, WhereKnown}
-use Rattle.module_files.specs.Stops.{StopsAt, SaysStop, WritesLine, stop_status}
+use Rattle.module_files.specs.Stops.{WritesLine}
 use Rattle.trace_cli.specs.Words.{Request, request_of}
 use Rattle.std.specs.List.{IsDistinct, AllByRecursion}
 use Rattle.trace_run.specs.declared.explaining.Explanation.{Explanation}
 use Rattle.trace_run.specs.Named.{entry_named}
-use Rattle.trace_run.specs.Explanations.{IsExplanation}
+use Rattle.trace_run.specs.declared.halt.Halt.{Halt}
+use Rattle.trace_run.specs.Halts.{HaltsAt, SaysHalt, halt_status, report_in}
+use Rattle.trace_run.specs.Reported.{IsAnswered}
 
 -- the request that a command line is, if it is one
 abbrev pub request_in : List (String Global) → Option Request
@@ -29,18 +30,18 @@ WhereAsked known request P = (files : Files) (r : Request) → known ≡ Some fi
 
 -- ---- explained
 
--- the text of the function of the request's name, of two modules
-pub record ExplainsIn (r : Request) (both : Modules) (text : List ℕ) (status : ℕ) : Type 0 where
+-- the text of the function of the request's name, of two modules and a report, if there is one
+pub record ExplainsIn (r : Request) (report : Option (List ℕ)) (both : Modules) (text : List ℕ) (status : ℕ) : Type 0 where
   pub entry : Entry
   pub named : entry_named both.source.entries r.function ≡ Some entry
-  pub is : IsExplanation r.bounds r.budget both.target.entries entry text status
+  pub is : IsAnswered r.bounds r.budget report both.target.entries entry text status
 
--- and of the modules of the request's two files
+-- and of the modules of the request's two files, and the report that it names, if it names one
 pub record Explains (files : Files) (r : Request) (text : List ℕ) (status : ℕ) : Type 0 where
   pub both : Modules
   pub source_is : HasModule (files r.source) both.source
   pub target_is : HasModule (files r.target) both.target
-  pub explains : ExplainsIn r both text status
+  pub explains : ExplainsIn r (report_in files r.report) both text status
 
 -- such a text was written, and nothing else
 pub record WritesExplanation (files : Files) (r : Request) (status : ℕ) (old new : SinkState) : Type 0 where
@@ -63,12 +64,12 @@ pub record RejectsWords (request : Option Request) (result : ℕ) (old new : Sin
   pub all : request ≡ None → (result ≡ 4) ⊎ (result ≡ 8)
   pub line : result ≡ 4 → WritesLine (codes "words refused" ++ 10 ∷ []) old new
 
--- a file is not judged, with its cause, its status and its line
+-- a file is not read or not judged, with its cause, its status and its line
 pub record RefusesAsked (r : Request) (shelf_old shelf_new : ShelfState) (out_old out_new : SinkState) (status : ℕ) : Type 0 where
-  pub why : Stop
-  pub cause : StopsAt shelf_old shelf_new r.source r.target why
-  pub status_is : status ≡ stop_status why
-  pub says : SaysStop r.source r.target why out_old out_new
+  pub why : Halt
+  pub cause : HaltsAt r shelf_old shelf_new why
+  pub status_is : status ≡ halt_status why
+  pub says : SaysHalt r why out_old out_new
 
 pub record Refuses (request : Option Request) (shelf_old shelf_new : ShelfState) (out_old out_new : SinkState) (status : ℕ) : Type 0 where
   pub r : Request
@@ -112,10 +113,14 @@ pub record AreJudgeable (both : Modules) : Type 0 where
   pub target : AllByRecursion IsJudgeableEntry both.target.entries
   pub distinct : IsDistinct same_name (entry_names both.target.entries)
 
+-- the bytes of a text, where there is one
+abbrev pub bytes_of : Option (Vec ℕ) → Option (List ℕ)
+bytes_of text = option_map (λ t. t.items) text
+
 -- an explanation, or the source has no function of the name
-abbrev pub IsFoundIn : Request → Modules → Option Explanation → Type 0
-IsFoundIn r both None = entry_named both.source.entries r.function ≡ None
-IsFoundIn r both (Some e) = ExplainsIn r both e.text.items e.status
+abbrev pub IsFoundIn : Request → Option (List ℕ) → Modules → Option Explanation → Type 0
+IsFoundIn r report both None = entry_named both.source.entries r.function ≡ None
+IsFoundIn r report both (Some e) = ExplainsIn r report both e.text.items e.status
 
 abbrev pub IsFound : Files → Request → Option Explanation → Type 0
 IsFound files r None = HasNoFunction files r

@@ -74,7 +74,7 @@ fn runs_of(
 
 /// The runs of a pair at a point whose target's outcome the source's does not allow, and how the
 /// outcomes differ.
-fn runs_at(
+pub fn runs_at(
     alloc: Global,
     pair: &Pair<'_>,
     bounds: &Bounds,

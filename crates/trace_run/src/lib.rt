@@ -2,14 +2,17 @@
 //!
 //! It promises, of [`run`], that what is written is the row that `tv check` reports of the function,
 //! and, where that is `incorrect`, the runs of both sides at its point and a difference of their
-//! outcomes that makes it a counterexample (`explained`); that each other status has its cause; and that
-//! no file changes. It builds on `trace_cli`, `module_files`, `module_rows` and `trace_text`; the program
+//! outcomes that makes it a counterexample (`explained`), or, where a report is given, an incorrect row
+//! that this report has and that both runs show; that each other status has its cause; and that no file
+//! changes. It builds on `trace_cli`, `module_files`, `module_rows`, `row_points` and `trace_text`; the program
 //! `tv_trace` is `run` over the system's files and output.
 #![tactic(auto)]
 
 mod explaining;
 mod finding;
+mod halt;
 mod named;
+mod reported;
 mod top;
 
 pub use top::run;

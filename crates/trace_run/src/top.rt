@@ -6,12 +6,12 @@ ghost use Rattle.tv_io.specs.Count.{Rose};
 ghost use Rattle.tv_io.specs.State.{ShelfState, SinkState};
 ghost use Rattle.tv_io.specs.Taken.{IsWritten, IsCutOff};
 ghost use Rattle.module_files.specs.Files.{WhereKnown};
-ghost use Rattle.module_files.specs.Stops.{StopsAt, SaysStop, WritesLine, stop_status};
+ghost use Rattle.module_files.specs.Stops.{WritesLine};
 ghost use Rattle.trace_cli.specs.Seen.{seen};
 ghost use Rattle.trace_run.specs.Requests.{request_in, WhereAsked, WritesExplanation, WritesPart, RejectsWords, Refuses, RefusesAsked, LacksFunction, LacksAsked, missing_line, CountsNoOther, IsSent};
 
 use crate::finding::found_of;
-use module_files::refuse;
+use crate::halt::refuse_request;
 use std::alloc::Global;
 use support::NoMemory;
 use trace_cli::{Request, read_request};
@@ -21,13 +21,18 @@ use tv_io::{Failed, Shelf, Sink, write_both, write_line, write_whole};
 /// files has it, and where that is `incorrect` the run of the source on the tape of zeros and the run of
 /// the target at the point, step by step, and how their outcomes differ.
 ///
+/// Where the command line names a report that has an incorrect row of the function, and both runs at
+/// the point of that row show what it says, that row is written and nothing is judged: the runs are a
+/// counterexample on the choices 0 of the source, and that none of its other choices allow what the
+/// target does is what the report says. Another report costs the time to read it, and no more.
+///
 /// The arguments are the command line, the program's name first; `trace_cli` says what they ask for.
 /// The status is
 ///
 /// - that of a report with this row alone: 0 `correct`, 1 `incorrect`, 2 `unknown`, 3 not judged;
 /// - 4 where the arguments are no request;
-/// - 5 where a file can't be read, 6 where it has more than 16,777,216 bytes, 9 where it is no module,
-///   which is reported with its line and column;
+/// - 5 where a file can't be read, 6 where it has more than 16,777,216 bytes, the report's first, 9
+///   where one of the two others is no module, which is reported with its line and column;
 /// - 7 where the sink fails while the text is written;
 /// - 8 where memory runs out;
 /// - 10 where the source has no function of the name.
@@ -35,7 +40,8 @@ use tv_io::{Failed, Shelf, Sink, write_both, write_line, write_whole};
 /// The whole text is made before its first byte is written. No other pair is judged.
 pub fn run<S: Shelf, K: Sink>(alloc: Global, arguments: &[String], shelf: &mut S, out: &mut K) -> u8
     // What is written is the function's row, a row of the modules of both files, and where that is
-    // incorrect the traces of both runs at its point, and a difference of their outcomes.
+    // incorrect the traces of both runs at its point, and a difference of their outcomes; or, where a
+    // report is named, an incorrect row that this has and its runs show, with those.
     ensures explained { result ≤ 3 → WhereAsked (S.state shelf.old).files (request_in arguments.now)
         (λ files r. WritesExplanation files r result (K.state out.old) (K.state out.new)) }
     // After status 7 the sink took a prefix of such a text.
@@ -43,7 +49,7 @@ pub fn run<S: Shelf, K: Sink>(alloc: Global, arguments: &[String], shelf: &mut S
         (λ files r. WritesPart files r (K.state out.old) (K.state out.new)) }
     // Status 4: the arguments are no request, and exactly then, unless memory runs out; with its line.
     ensures words { RejectsWords (request_in arguments.now) result (K.state out.old) (K.state out.new) }
-    // A file was not judged: 5 it can't be read, 6 it is too long, 9 it is no module; with its line.
+    // A file was not read or not judged: 5 it can't be read, 6 it is too long, 9 it is no module; with its line.
     ensures refused { 4 < result → result ≢ 7 → result ≢ 8 → result ≢ 10 → Refuses (request_in arguments.now)
         (S.state shelf.old) (S.state shelf.new) (K.state out.old) (K.state out.new) result }
     // Status 10: both files are modules, and the source's has no function of the name; with its line.
@@ -94,7 +100,7 @@ fn run_request<S: Shelf, K: Sink>(
     match found_of(alloc, shelf, request) {
         Ok(Some(explanation)) => send(out, explanation.text.as_slice(), explanation.status),
         Ok(None) => refuse_name(out, request),
-        Err(stop) => refuse(out, stop, request.source, request.target),
+        Err(halt) => refuse_request(out, request, halt),
     }
 }
 
