@@ -9,6 +9,7 @@ pub struct Luby {
 }
 
 impl Luby {
+    /// The beginning of the sequence.
     pub fn new() -> Luby {
         Luby {
             index: 1,

@@ -41,14 +41,17 @@ impl Trail {
         })
     }
 
+    /// Whether a literal is true.
     pub fn is_true(&self, literal: u32) -> bool {
         byte_at(&self.values, literal) == 1
     }
 
+    /// Whether a literal is false.
     pub fn is_false(&self, literal: u32) -> bool {
         byte_at(&self.values, opposite(literal)) == 1
     }
 
+    /// Whether a literal has no value.
     pub fn is_open(&self, literal: u32) -> bool {
         !self.is_true(literal) && !self.is_false(literal)
     }
@@ -68,10 +71,12 @@ impl Trail {
         at(&self.levels, variable)
     }
 
+    /// The number of the clause that gave a variable its value; 0 for a decision.
     pub fn reason_of(&self, variable: u32) -> u32 {
         at(&self.reasons, variable)
     }
 
+    /// The index of a variable's literal on the trail.
     pub fn place_of(&self, variable: u32) -> u32 {
         at(&self.places, variable)
     }

@@ -6,8 +6,9 @@
 //! order by activity and saved phases, as in Chaff and MiniSat, come between whole searches. It
 //! promises a model, a refutation or as many learned clauses as the limit, all in terms of the
 //! question's own clauses; [`least`] makes of a model the least one on the ordered variables. No
-//! contract says which order a search has. It uses `watch_solver` and `cnf_renumber`; questions use
-//! it.
+//! contract says which order a search has. Without a limit a guess (`cdcl`) comes before each search:
+//! its model is tried, and each step of its log is resolved again (`step_ledger`). It uses `cdcl`,
+//! `step_ledger`, `log_tidy`, `watch_solver` and `cnf_renumber`; questions use it.
 #![tactic(auto)]
 
 mod activity;
