@@ -6,6 +6,9 @@ pub mod SumRules
 pub mod ChoiceRules
 pub mod ComplementRules
 pub mod OtherRules
+pub mod PolynomialRules
+pub mod AmountRules
+pub mod DifferenceRules
 pub mod WidthRules
 pub mod FactorRules
 pub mod LowRules

@@ -7,7 +7,7 @@ use Rattle.term_rules.proofs.Simplifying.{same_tree}
 -- ---- numbers
 
 -- also where the divisor is 0: nothing, and the dividend
-multiple_and_rest : (w x y : ℕ) → x < 2 ^ w → (quotient w x y * y) % 2 ^ w + remainder x y ≡ x
+pub multiple_and_rest : (w x y : ℕ) → x < 2 ^ w → (quotient w x y * y) % 2 ^ w + remainder x y ≡ x
 multiple_and_rest w x y lt = go (eqb y 0) refl
   where
     go : (t : Bool) → eqb y 0 ≡ t → (cond t (2 ^ w - 1) (x / y) * y) % 2 ^ w + cond t x (x % y) ≡ x

@@ -7,6 +7,7 @@ ghost use Rattle.bv_terms.specs.Tree.{width_of};
 ghost use Rattle.bv_terms.specs.Trees.{IsWidth, tree_in};
 ghost use Rattle.term_rules.specs.Forms.{AreOperands, IsNumber, IsPart, IsRest, Simplifies};
 
+use crate::expanding::known_difference;
 use crate::form::Form;
 use crate::multiples::dividend;
 use crate::reading::{are_in_order, number, term};
@@ -123,6 +124,9 @@ pub fn difference(terms: &Terms, a: TermId, b: TermId) -> Form
     }
     if let Some(rest) = rest_of_sum(terms, a, b) {
         return Form::Known(rest);
+    }
+    if let Some(value) = known_difference(terms, a, b) {
+        return Form::Built(Term::Constant { value, width });
     }
     Form::Built(Term::Binary(BinaryOp::Sub, a, b, width))
 }

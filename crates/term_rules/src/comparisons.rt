@@ -9,9 +9,11 @@ ghost use Rattle.term_rules.specs.Forms.{Simplifies};
 
 use crate::bounds::{is_below_number, is_sum_with};
 use crate::complements::are_inverse;
+use crate::expanding::known_difference;
 use crate::form::Form;
 use crate::reading::{are_in_order, number};
 use bv_terms::{BinaryOp, Term, TermId, Terms};
+use known_values::numbers::digit_of;
 
 /// Whether two in order are equal.
 fn ordered_equal(terms: &Terms, a: TermId, b: TermId) -> Form
@@ -30,6 +32,10 @@ fn ordered_equal(terms: &Terms, a: TermId, b: TermId) -> Form
     }
     if is_below_number(terms, a, b) {
         return Form::Built(Term::Constant { value: 0, width: 1 });
+    }
+    if let Some(by) = known_difference(terms, a, b) {
+        let value = digit_of(by == 0);
+        return Form::Built(Term::Constant { value, width: 1 });
     }
     match number(terms, b) {
         Some(value) if width == 1 && value == 1 => Form::Known(a),

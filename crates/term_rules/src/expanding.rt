@@ -1,0 +1,368 @@
+//! Terms as sums of products, modulo 2 to the power of their width.
+//!
+//! Sums, differences, products and shifts to the left are multiplied out, and a remainder is the
+//! dividend without the quotient times the divisor; what else a term is counts as one factor. So terms
+//! are equal whose sums are the same (the normal form of polynomials that solvers of bit vectors use).
+
+ghost use Rattle.std.specs.Prelude.{◌≡◌, ◌<◌, ◌+◌, ◌-◌, ◌*◌, ◌%◌, ◌^◌, ℕ, List, IfSome, length};
+ghost use Rattle.bv_terms.specs.declared.term.Term.{Term as TermNow};
+ghost use Rattle.bv_terms.specs.Tree.{remainder, shifted_left, width_of};
+ghost use Rattle.bv_terms.specs.Trees.{IsWidth, term_at, tree_in};
+ghost use Rattle.term_rules.specs.Polynomials.{AddsTo, IsDifference, factor_value, product_value, sum_value, work_value};
+
+use crate::monomials::{FACTORS, Factor, MONOMIALS, Monomial, add, with_factor};
+use crate::reading::{number, term};
+use arrayvec::ArrayVec;
+use bv_terms::{BinaryOp, Term, TermId, Terms};
+use known_values::numbers;
+
+/// At most so many products wait to be multiplied out.
+const PRODUCTS: usize = 64;
+
+/// At most so many terms of a product wait to be looked into.
+const TERMS: usize = 8;
+
+/// How many terms are looked into.
+const STEPS: u32 = 512;
+
+/// A product of a number, factors, and terms that are still to be looked into, by their indices.
+#[derive(Default, Drop)]
+struct Product {
+    coefficient: u128,
+    factors: ArrayVec<Factor, FACTORS>,
+    pending: ArrayVec<usize, TERMS>,
+}
+
+/// The product times a number.
+fn times(product: &Product, by: u128, width: u32) -> Option<Product>
+    requires { IsWidth width }
+    ensures { IfSome result (λ p. (v : ℕ → ℕ → ℕ) (terms : List TermNow) →
+        product_value v terms width p % 2 ^ width ≡ (product_value v terms width product.now * by) % 2 ^ width) }
+{
+    let coefficient = numbers::product(product.coefficient, by, width);
+    let factors = ArrayVec::try_from(product.factors.as_slice()).ok()?;
+    let pending = ArrayVec::try_from(product.pending.as_slice()).ok()?;
+    Some(Product {
+        coefficient,
+        factors,
+        pending,
+    })
+}
+
+/// Adds the product times a number.
+fn put(
+    work: &mut ArrayVec<Product, PRODUCTS>,
+    product: &Product,
+    by: u128,
+    width: u32,
+) -> Option<()>
+    requires { IsWidth width }
+    ensures { IfSome result (λ _. (v : ℕ → ℕ → ℕ) (terms : List TermNow) →
+        AddsTo width (work_value v terms width work.old.items) (work_value v terms width work.new.items) (product_value v terms width product.now * by)) }
+{
+    let made = times(product, by, width)?;
+    work.try_push(made).ok()?;
+    Some(())
+}
+
+/// Adds the product times a number and a term.
+fn put_term(
+    work: &mut ArrayVec<Product, PRODUCTS>,
+    product: &Product,
+    by: u128,
+    a: TermId,
+    width: u32,
+) -> Option<()>
+    requires { IsWidth width }
+    ensures { IfSome result (λ _. (v : ℕ → ℕ → ℕ) (terms : List TermNow) →
+        AddsTo width (work_value v terms width work.old.items) (work_value v terms width work.new.items) (product_value v terms width product.now * by * term_at v terms a)) }
+{
+    let mut made = times(product, by, width)?;
+    made.pending.try_push(a.index).ok()?;
+    work.try_push(made).ok()?;
+    Some(())
+}
+
+/// The product times a factor.
+fn times_factor(product: &Product, factor: Factor) -> Option<Product>
+    ensures { IfSome result (λ p. (v : ℕ → ℕ → ℕ) (terms : List TermNow) (width : ℕ) →
+        product_value v terms width p ≡ product_value v terms width product.now * factor_value v terms width factor) }
+{
+    let factors = with_factor(product.factors.as_slice(), factor)?;
+    let pending = ArrayVec::try_from(product.pending.as_slice()).ok()?;
+    Some(Product {
+        coefficient: product.coefficient,
+        factors,
+        pending,
+    })
+}
+
+/// Adds the product times a sum.
+fn put_sum(
+    work: &mut ArrayVec<Product, PRODUCTS>,
+    product: &Product,
+    a: TermId,
+    b: TermId,
+    width: u32,
+) -> Option<()>
+    requires { IsWidth width }
+    ensures { IfSome result (λ _. (v : ℕ → ℕ → ℕ) (terms : List TermNow) →
+        AddsTo width (work_value v terms width work.old.items) (work_value v terms width work.new.items)
+        (product_value v terms width product.now * ((term_at v terms a + term_at v terms b) % 2 ^ width))) }
+{
+    put_term(work, product, 1, a, width)?;
+    put_term(work, product, 1, b, width)?;
+    Some(())
+}
+
+/// Adds the product times a difference.
+fn put_difference(
+    work: &mut ArrayVec<Product, PRODUCTS>,
+    product: &Product,
+    a: TermId,
+    b: TermId,
+    width: u32,
+) -> Option<()>
+    requires { IsWidth width }
+    ensures { IfSome result (λ _. (v : ℕ → ℕ → ℕ) (terms : List TermNow) → term_at v terms b < 2 ^ width →
+        AddsTo width (work_value v terms width work.old.items) (work_value v terms width work.new.items)
+        (product_value v terms width product.now * ((term_at v terms a + (2 ^ width - term_at v terms b)) % 2 ^ width))) }
+{
+    put_term(work, product, 1, a, width)?;
+    put_term(work, product, numbers::ones(width), b, width)?;
+    Some(())
+}
+
+/// Adds the product times a product.
+fn put_product(
+    work: &mut ArrayVec<Product, PRODUCTS>,
+    product: &Product,
+    a: TermId,
+    b: TermId,
+    width: u32,
+) -> Option<()>
+    requires { IsWidth width }
+    ensures { IfSome result (λ _. (v : ℕ → ℕ → ℕ) (terms : List TermNow) →
+        AddsTo width (work_value v terms width work.old.items) (work_value v terms width work.new.items)
+        (product_value v terms width product.now * ((term_at v terms a * term_at v terms b) % 2 ^ width))) }
+{
+    let mut first = times(product, 1, width)?;
+    first.pending.try_push(a.index).ok()?;
+    put_term(work, &first, 1, b, width)?;
+    Some(())
+}
+
+/// Adds the product times a remainder.
+fn put_remainder(
+    work: &mut ArrayVec<Product, PRODUCTS>,
+    product: &Product,
+    a: TermId,
+    b: TermId,
+    width: u32,
+) -> Option<()>
+    requires { IsWidth width }
+    ensures { IfSome result (λ _. (v : ℕ → ℕ → ℕ) (terms : List TermNow) → term_at v terms a < 2 ^ width →
+        AddsTo width (work_value v terms width work.old.items) (work_value v terms width work.new.items)
+        (product_value v terms width product.now * remainder (term_at v terms a) (term_at v terms b))) }
+{
+    put_term(work, product, 1, a, width)?;
+    let taken = times_factor(product, Factor::Quotient(a, b))?;
+    put_term(work, &taken, numbers::ones(width), b, width)?;
+    Some(())
+}
+
+/// Adds the product times a term with each bit inverted.
+fn put_inverse(
+    work: &mut ArrayVec<Product, PRODUCTS>,
+    product: &Product,
+    a: TermId,
+    width: u32,
+) -> Option<()>
+    requires { IsWidth width }
+    ensures { IfSome result (λ _. (v : ℕ → ℕ → ℕ) (terms : List TermNow) → term_at v terms a < 2 ^ width →
+        AddsTo width (work_value v terms width work.old.items) (work_value v terms width work.new.items)
+        (product_value v terms width product.now * (2 ^ width - 1 - term_at v terms a))) }
+{
+    let opposite = numbers::ones(width);
+    put_term(work, product, opposite, a, width)?;
+    put(work, product, opposite, width)?;
+    Some(())
+}
+
+/// Adds the product times a factor.
+fn put_factor(
+    work: &mut ArrayVec<Product, PRODUCTS>,
+    product: &Product,
+    factor: Factor,
+    width: u32,
+) -> Option<()>
+    requires { IsWidth width }
+    ensures { IfSome result (λ _. (v : ℕ → ℕ → ℕ) (terms : List TermNow) →
+        AddsTo width (work_value v terms width work.old.items) (work_value v terms width work.new.items)
+        (product_value v terms width product.now * factor_value v terms width factor)) }
+{
+    let made = times_factor(product, factor)?;
+    put(work, &made, 1, width)?;
+    Some(())
+}
+
+/// Adds the product times a term shifted left.
+fn put_shifted(
+    terms: &Terms,
+    work: &mut ArrayVec<Product, PRODUCTS>,
+    product: &Product,
+    a: TermId,
+    b: TermId,
+    width: u32,
+) -> Option<()>
+    requires wide { IsWidth width }
+    requires within { b.index < length terms.now }
+    ensures { IfSome result (λ _. (v : ℕ → ℕ → ℕ) →
+        AddsTo width (work_value v terms.now width work.old.items) (work_value v terms.now width work.new.items)
+        (product_value v terms.now width product.now * shifted_left width (term_at v terms.now a) (term_at v terms.now b))) }
+{
+    match number(terms, b) {
+        Some(by) => put_term(work, product, numbers::moved_up(1, by, width), a, width)?,
+        None => {
+            let made = times_factor(product, Factor::Power(b))?;
+            put_term(work, &made, 1, a, width)?;
+        }
+    }
+    Some(())
+}
+
+/// Adds the product times a term of the width.
+fn put_expanded(
+    terms: &Terms,
+    work: &mut ArrayVec<Product, PRODUCTS>,
+    product: &Product,
+    a: TermId,
+    width: u32,
+) -> Option<()>
+    requires within { a.index < length terms.now }
+    requires wide { width_of (tree_in terms.now a) ≡ width }
+    ensures { IfSome result (λ _. (v : ℕ → ℕ → ℕ) →
+        AddsTo width (work_value v terms.now width work.old.items) (work_value v terms.now width work.new.items)
+        (product_value v terms.now width product.now * term_at v terms.now a)) }
+{
+    terms.values_fit();
+    let _valid = terms.width(a);
+    match term(terms, a) {
+        Term::Constant { value, .. } => put(work, product, value, width),
+        Term::Not { a: inner, .. } => put_inverse(work, product, inner, width),
+        Term::Binary(BinaryOp::Add, x, y, _) => put_sum(work, product, x, y, width),
+        Term::Binary(BinaryOp::Sub, x, y, _) => put_difference(work, product, x, y, width),
+        Term::Binary(BinaryOp::Mul, x, y, _) => put_product(work, product, x, y, width),
+        Term::Binary(BinaryOp::Urem, x, y, _) => put_remainder(work, product, x, y, width),
+        Term::Binary(BinaryOp::Shl, x, y, _) => put_shifted(terms, work, product, x, y, width),
+        Term::Binary(BinaryOp::Udiv, x, y, _) => put_factor(work, product, Factor::Quotient(x, y), width),
+        Term::Zext { a: inner, .. } => put_factor(work, product, Factor::Term(inner), width),
+        _ => put_factor(work, product, Factor::Term(a), width),
+    }
+}
+
+/// Adds a product to the sum where nothing of it is left to be looked into, and else what it is once one
+/// of its terms is looked into to the work.
+fn put_further(
+    terms: &Terms,
+    work: &mut ArrayVec<Product, PRODUCTS>,
+    sum: &mut ArrayVec<Monomial, MONOMIALS>,
+    product: Product,
+    width: u32,
+) -> Option<()>
+    requires { IsWidth width }
+    ensures { IfSome result (λ _. (v : ℕ → ℕ → ℕ) →
+        AddsTo width (work_value v terms.now width work.old.items + sum_value v terms.now width sum.old.items)
+        (work_value v terms.now width work.new.items + sum_value v terms.now width sum.new.items)
+        (product_value v terms.now width product)) }
+{
+    let mut rest = product;
+    match rest.pending.pop() {
+        None => {
+            let monomial = Monomial {
+                coefficient: rest.coefficient,
+                factors: rest.factors,
+            };
+            add(sum, monomial, width)?;
+        }
+        Some(index) => {
+            let a = TermId { index };
+            if index >= terms.as_slice().len() || terms.width(a) != width {
+                return None;
+            }
+            put_expanded(terms, work, &rest, a, width)?;
+        }
+    }
+    Some(())
+}
+
+/// Adds what is in the work to the sum.
+fn expand(
+    terms: &Terms,
+    work: &mut ArrayVec<Product, PRODUCTS>,
+    sum: &mut ArrayVec<Monomial, MONOMIALS>,
+    width: u32,
+) -> Option<()>
+    requires { IsWidth width }
+    ensures { IfSome result (λ _. (v : ℕ → ℕ → ℕ) →
+        AddsTo width (sum_value v terms.now width sum.old.items) (sum_value v terms.now width sum.new.items) (work_value v terms.now width work.old.items)) }
+{
+    for _ in 0..STEPS {
+        match work.pop() {
+            None => return Some(()),
+            Some(product) => put_further(terms, work, sum, product, width)?,
+        }
+    }
+    None
+}
+
+/// The number that a sum is, if it has no factors.
+fn number_of(sum: &[Monomial]) -> Option<u128>
+    ensures { IfSome result (λ n. (v : ℕ → ℕ → ℕ) (terms : List TermNow) (width : ℕ) → sum_value v terms width sum.now ≡ n) }
+{
+    match sum {
+        [] => Some(0),
+        [only] if only.factors.is_empty() => Some(only.coefficient),
+        _ => None,
+    }
+}
+
+/// Whether the term is looked into.
+fn is_looked_into(terms: &Terms, a: TermId) -> bool
+    requires { a.index < length terms.now }
+{
+    match term(terms, a) {
+        Term::Not { .. } | Term::Zext { .. } => true,
+        Term::Binary(op, ..) => match op {
+            BinaryOp::Add | BinaryOp::Sub | BinaryOp::Mul | BinaryOp::Shl | BinaryOp::Urem => true,
+            _ => false,
+        },
+        _ => false,
+    }
+}
+
+/// The number by which the first is greater than the second, modulo 2 to the power of their width, if
+/// their sums show it.
+pub fn known_difference(terms: &Terms, a: TermId, b: TermId) -> Option<u128>
+    requires a { a.index < length terms.now }
+    requires b { b.index < length terms.now }
+    requires alike { width_of (tree_in terms.now a) ≡ width_of (tree_in terms.now b) }
+    ensures { IfSome result (IsDifference terms.now a b) }
+{
+    if !is_looked_into(terms, a) && !is_looked_into(terms, b) {
+        return None;
+    }
+    terms.values_fit();
+    let width = terms.width(a);
+    let one = Product {
+        coefficient: 1,
+        factors: ArrayVec::new(),
+        pending: ArrayVec::new(),
+    };
+    let mut work = ArrayVec::new();
+    put_difference(&mut work, &one, a, b, width)?;
+    let mut sum = ArrayVec::new();
+    expand(terms, &mut work, &mut sum, width)?;
+    let by = number_of(sum.as_slice())?;
+    Some(numbers::cut(by, width))
+}
