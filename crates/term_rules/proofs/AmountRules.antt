@@ -45,7 +45,7 @@ module _ (w : ℕ) where
       let q = quotient w x y in
       let t = (q * y) % 2 ^ w in
       let cut : (p * q * (2 ^ w - 1) * y) % 2 ^ w ≡ (p * (2 ^ w - 1) * t) % 2 ^ w =
-          ap (λ k. k % 2 ^ w) (let e : p * q * (2 ^ w - 1) * y ≡ p * (2 ^ w - 1) * (q * y) = omega arith in e) ∙ sym (mul-mod_second (p * (2 ^ w - 1)) (q * y) (2 ^ w)) in
+      ap (λ k. k % 2 ^ w) (let e : p * q * (2 ^ w - 1) * y ≡ p * (2 ^ w - 1) * (q * y) = omega arith in e) ∙ sym (mul-mod_second (p * (2 ^ w - 1)) (q * y) (2 ^ w)) in
       same_plus (2 ^ w) (p * 1 * x) (p * q * (2 ^ w - 1) * y) (p * (2 ^ w - 1) * t) cut
       ∙ go (2 ^ w) (2 ^ w - 1) t (remainder x y) (omega (arith, pow_pos w)) (multiple_and_rest w x y lt)
     where

@@ -1,5 +1,5 @@
 -- What a known difference says of two terms.
-use Rattle.term_rules.proofs.Common.{ap, ℕ, ◌≡◌, ◌<◌, ◌≤◌, ◌+◌, ◌-◌, ◌%◌, ◌^◌, List, length, arith, ◌∙◌, sym, subst, refl, inl, inr, eqb, Bool, true, false, cond, ne_eqb, add-mod_right, mod-add-mod, mod-eq_of_lt, TermId, Term, digit, width_of, AreInRange, IsWidth, bit_at, term_at, tree_in, Built, Known, Simplifies}
+use Rattle.term_rules.proofs.Common.{ap, ℕ, ◌≡◌, ◌<◌, ◌≤◌, ◌+◌, ◌-◌, ◌%◌, ◌^◌, List, length, arith, lit<, ◌∙◌, sym, subst, refl, inl, inr, eqb, Bool, true, false, cond, ne_eqb, add-mod_right, mod-add-mod, mod-eq_of_lt, TermId, Term, digit, width_of, AreInRange, IsWidth, bit_at, term_at, tree_in, Built, Known, Simplifies}
 use Rattle.std.proofs.lemmas.Bool.{cases_lt, eqb-true, eqb-false, eq-eqb}
 use Rattle.std.specs.Prelude.{◌⊎◌}
 use Rattle.bv_terms.specs.declared.term.BinaryOp.TheVariants as op
@@ -44,28 +44,31 @@ module _ (terms : List Term) (a b : TermId) (n : ℕ) (range : AreInRange terms)
   equal_known c is small = constant_form terms _ c 1 (omega arith, omega arith) small refl
       (λ v. ap digit (same-exactly (term_at v terms a) (term_at v terms b) n (2 ^ width_of (tree_in terms a)) (below v) h.fits (h.says v)) ∙ sym is)
 
-  pub same_known : n ≡ 0 → (v : ℕ → ℕ → ℕ) → term_at v terms a ≡ term_at v terms b
-  same_known none v = h.says v ∙ (ap (λ k. k % 2 ^ width_of (tree_in terms a)) (let e : term_at v terms b + n ≡ term_at v terms b = omega (arith, none) in e) ∙ mod-eq_of_lt (below v))
-
-  pub choice_known : (c : TermId) → a.index < length terms → n ≡ 0
-      → Simplifies terms (tree.Ite (tree_in terms c) (tree_in terms a) (tree_in terms b) (width_of (tree_in terms a))) (Known a)
-  choice_known c la none = record {
-    fit = la;
-    wide = refl;
-    says = λ v. either (bit_at v terms c) (term_at v terms a) (term_at v terms b) (same_known none v);
-    least = omega arith;
-  }
-    where
-      either : (t : Bool) (x y : ℕ) → x ≡ y → x ≡ cond t x y
-      either true x y e = refl
-      either false x y e = e
-
   pub difference_is : (width : ℕ) → IsWidth width → width ≡ width_of (tree_in terms a) → a.index < length terms
       → Simplifies terms (tree.Binary op.Sub (tree_in terms a) (tree_in terms b) (width_of (tree_in terms a))) (Built (term.Constant n width))
   difference_is width is e la = constant_form terms _ n width is (subst (λ k. n < 2 ^ k) (sym e) h.fits) e
       (λ v.
-          let x = term_at v terms a in
-          let y = term_at v terms b in
-          let m = 2 ^ width_of (tree_in terms a) in
-          let whole : (y + n) + (m - y) ≡ n + m = omega (arith, below v) in
-          ap (λ k. (k + (m - y)) % m) (h.says v) ∙ (mod-add-mod (y + n) m (m - y) ∙ (ap (λ k. k % m) whole ∙ (add-mod_right n m ∙ mod-eq_of_lt h.fits))))
+      let x = term_at v terms a in
+      let y = term_at v terms b in
+      let m = 2 ^ width_of (tree_in terms a) in
+      let whole : (y + n) + (m - y) ≡ n + m = omega (arith, below v) in
+      ap (λ k. (k + (m - y)) % m) (h.says v) ∙ (mod-add-mod (y + n) m (m - y) ∙ (ap (λ k. k % m) whole ∙ (add-mod_right n m ∙ mod-eq_of_lt h.fits))))
+
+-- ---- terms that are equal
+
+module _ (terms : List Term) (a b : TermId) (same : (v : ℕ → ℕ → ℕ) → term_at v terms a ≡ term_at v terms b) where
+  pub choice_of_equal : (c : TermId) → a.index < length terms
+      → Simplifies terms (tree.Ite (tree_in terms c) (tree_in terms a) (tree_in terms b) (width_of (tree_in terms a))) (Known a)
+  choice_of_equal c la = record {
+    fit = la;
+    wide = refl;
+    says = λ v. arm (bit_at v terms c) (term_at v terms a) (term_at v terms b) (same v);
+    least = omega arith;
+  }
+    where
+      arm : (t : Bool) (x y : ℕ) → x ≡ y → x ≡ cond t x y
+      arm true x y e = refl
+      arm false x y e = e
+
+  pub equal_are_equal : Simplifies terms (tree.Binary op.Eq (tree_in terms a) (tree_in terms b) (width_of (tree_in terms a))) (Built (term.Constant 1 1))
+  equal_are_equal = constant_form terms _ 1 1 (omega arith, omega arith) (lit< tt) refl (λ v. ap digit (eq-eqb (term_at v terms a) (term_at v terms b) (same v)))

@@ -78,10 +78,10 @@ module _ (v : ℕ → ℕ → ℕ) (terms : List Term) (w : ℕ) where
       let rest = sum_value v terms w (take i old ++ drop (suc i) old) in
       let f = factors_value v terms w m.factors.items in
       let whole : rest + other.coefficient * f ≡ sum_value v terms w old =
-          let taken : rest + monomial_value v terms w (get_or old i other) ≡ sum_value v terms w old = sum_removed v terms w old i other lt in
-          ap (λ k. rest + other.coefficient * k) (sym same) ∙ (ap (λ (o : Monomial). rest + monomial_value v terms w o) (sym found) ∙ taken) in
+      let taken : rest + monomial_value v terms w (get_or old i other) ≡ sum_value v terms w old = sum_removed v terms w old i other lt in
+      ap (λ k. rest + other.coefficient * k) (sym same) ∙ (ap (λ (o : Monomial). rest + monomial_value v terms w o) (sym found) ∙ taken) in
       let cut : (c * f) % 2 ^ w ≡ ((other.coefficient + m.coefficient) * f) % 2 ^ w =
-          ap (λ k. (k * f) % 2 ^ w) number ∙ mul-mod_first (other.coefficient + m.coefficient) f (2 ^ w) in
+      ap (λ k. (k * f) % 2 ^ w) number ∙ mul-mod_first (other.coefficient + m.coefficient) f (2 ^ w) in
       let split : rest + (other.coefficient + m.coefficient) * f ≡ sum_value v terms w old + monomial_value v terms w m = omega (arith, whole) in
       ap (λ k. k % 2 ^ w) made ∙ (same_plus (2 ^ w) rest (c * f) ((other.coefficient + m.coefficient) * f) cut ∙ ap (λ k. k % 2 ^ w) split)
 
@@ -97,9 +97,9 @@ module _ (v : ℕ → ℕ → ℕ) (terms : List Term) (w : ℕ) where
       → product_value v terms w made % 2 ^ w ≡ (product_value v terms w p * by) % 2 ^ w
   times_number p made by number factors pending =
       let value : product_value v terms w made ≡ (p.coefficient * by) % 2 ^ w * F p * P p =
-          ap (λ k. k * F made * P made) number
-          ∙ (ap (λ k. (p.coefficient * by) % 2 ^ w * factors_value v terms w k * P made) factors
-          ∙ ap (λ k. (p.coefficient * by) % 2 ^ w * F p * pending_value v terms w k) pending) in
+      ap (λ k. k * F made * P made) number
+      ∙ (ap (λ k. (p.coefficient * by) % 2 ^ w * factors_value v terms w k * P made) factors
+      ∙ ap (λ k. (p.coefficient * by) % 2 ^ w * F p * pending_value v terms w k) pending) in
       let turned : p.coefficient * by * F p * P p ≡ product_value v terms w p * by = omega arith in
       ap (λ k. k % 2 ^ w) value ∙ (cut_times (2 ^ w) (p.coefficient * by) (F p) (P p) ∙ ap (λ k. k % 2 ^ w) turned)
 
@@ -108,9 +108,9 @@ module _ (v : ℕ → ℕ → ℕ) (terms : List Term) (w : ℕ) where
   times_term made more a n number factors pending e =
       let last : P more ≡ P made * term_at v terms a = ap (pending_value v terms w) pending ∙ pending_pushed v terms w made.pending.items a.index in
       let value : product_value v terms w more ≡ product_value v terms w made * term_at v terms a =
-          ap (λ k. k * F more * P more) number
-          ∙ (ap (λ k. made.coefficient * factors_value v terms w k * P more) factors
-          ∙ (ap (λ k. made.coefficient * F made * k) last ∙ (let turned : made.coefficient * F made * (P made * term_at v terms a) ≡ product_value v terms w made * term_at v terms a = omega arith in turned))) in
+      ap (λ k. k * F more * P more) number
+      ∙ (ap (λ k. made.coefficient * factors_value v terms w k * P more) factors
+      ∙ (ap (λ k. made.coefficient * F made * k) last ∙ (let turned : made.coefficient * F made * (P made * term_at v terms a) ≡ product_value v terms w made * term_at v terms a = omega arith in turned))) in
       ap (λ k. k % 2 ^ w) value ∙ same_times (2 ^ w) (product_value v terms w made) n (term_at v terms a) e
 
   pub times_factor_value : (p made : Product) (f : Factor) → made.coefficient ≡ p.coefficient → made.pending.items ≡ p.pending.items

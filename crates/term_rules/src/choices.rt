@@ -8,7 +8,7 @@ ghost use Rattle.known_values.specs.Weight.{weight_of};
 ghost use Rattle.term_rules.specs.Forms.{IsArm, Simplifies};
 
 use crate::conditions::{known_where_false, known_where_true};
-use crate::expanding::known_difference;
+use crate::equalities::are_equal_terms;
 use crate::form::Form;
 use crate::reading::{number, term};
 use bv_terms::{BinaryOp, Term, TermId, Terms};
@@ -123,15 +123,9 @@ fn choice_of_arms(terms: &Terms, c: TermId, a: TermId, b: TermId) -> Form
     requires alike { width_of (tree_in terms.now a) ≡ width_of (tree_in terms.now b) }
     ensures { Simplifies terms.now (tree.Ite (tree_in terms.now c) (tree_in terms.now a) (tree_in terms.now b) (width_of (tree_in terms.now a))) result }
 {
-    terms.values_fit();
     let width = terms.width(a);
-    if a.index == b.index {
+    if are_equal_terms(terms, a, b) {
         return Form::Known(a);
-    }
-    if let Some(by) = known_difference(terms, a, b) {
-        if by == 0 {
-            return Form::Known(a);
-        }
     }
     if let Some(condition) = number(terms, c) {
         return if condition == 0 {

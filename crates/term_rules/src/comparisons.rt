@@ -9,6 +9,7 @@ ghost use Rattle.term_rules.specs.Forms.{Simplifies};
 
 use crate::bounds::{is_below_number, is_sum_with};
 use crate::complements::are_inverse;
+use crate::equalities::are_equal_terms;
 use crate::expanding::known_difference;
 use crate::form::Form;
 use crate::reading::{are_in_order, number};
@@ -36,6 +37,9 @@ fn ordered_equal(terms: &Terms, a: TermId, b: TermId) -> Form
     if let Some(by) = known_difference(terms, a, b) {
         let value = digit_of(by == 0);
         return Form::Built(Term::Constant { value, width: 1 });
+    }
+    if are_equal_terms(terms, a, b) {
+        return Form::Built(Term::Constant { value: 1, width: 1 });
     }
     match number(terms, b) {
         Some(value) if width == 1 && value == 1 => Form::Known(a),

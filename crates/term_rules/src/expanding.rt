@@ -255,7 +255,12 @@ fn put_expanded(
         Term::Binary(BinaryOp::Mul, x, y, _) => put_product(work, product, x, y, width),
         Term::Binary(BinaryOp::Urem, x, y, _) => put_remainder(work, product, x, y, width),
         Term::Binary(BinaryOp::Shl, x, y, _) => put_shifted(terms, work, product, x, y, width),
-        Term::Binary(BinaryOp::Udiv, x, y, _) => put_factor(work, product, Factor::Quotient(x, y), width),
+        Term::Binary(BinaryOp::Udiv, x, y, _) => put_factor(
+            work,
+            product,
+            Factor::Quotient(x, y),
+            width,
+        ),
         Term::Zext { a: inner, .. } => put_factor(work, product, Factor::Term(inner), width),
         _ => put_factor(work, product, Factor::Term(a), width),
     }

@@ -20,6 +20,7 @@ mod comparisons;
 mod complements;
 mod conditions;
 mod divisions;
+mod equalities;
 mod expanding;
 mod factors;
 mod form;

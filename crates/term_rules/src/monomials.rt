@@ -44,7 +44,8 @@ fn is_same(a: Factor, b: Factor) -> bool
     match (a, b) {
         (Factor::Term(x), Factor::Term(y)) => x.index == y.index,
         (Factor::Power(x), Factor::Power(y)) => x.index == y.index,
-        (Factor::Quotient(x, y), Factor::Quotient(z, w)) => x.index == z.index && y.index == w.index,
+        (Factor::Quotient(x, y), Factor::Quotient(z, w)) => x.index == z.index
+            && y.index == w.index,
         _ => false,
     }
 }
@@ -132,7 +133,13 @@ pub fn add(sum: &mut ArrayVec<Monomial, MONOMIALS>, monomial: Monomial, width: u
             let other = sum.remove(index);
             let coefficient = numbers::sum(other.coefficient, monomial.coefficient, width);
             let factors = monomial.factors;
-            push(sum, Monomial { coefficient, factors })?;
+            push(
+                sum,
+                Monomial {
+                    coefficient,
+                    factors,
+                },
+            )?;
             Some(())
         }
         None => {

@@ -20,13 +20,13 @@ returns c =
           let la : a < 2 ^ w = search rules in
           let lb : b < 2 ^ w = search rules in
           let single : product_value v terms w one ≡ 1 =
-              ap (λ k. 1 * factors_value v terms w k * pending_value v terms w c.new-2.result.items) c.new.ensures ∙ ap (λ k. 1 * 1 * pending_value v terms w k) c.new-2.ensures in
+          ap (λ k. 1 * factors_value v terms w k * pending_value v terms w c.new-2.result.items) c.new.ensures ∙ ap (λ k. 1 * 1 * pending_value v terms w k) c.new-2.ensures in
           let nothing : work_value v terms w c.new-work.result.items ≡ 0 = ap (work_value v terms w) c.new-work.ensures in
           let none : sum_value v terms w c.new-sum.result.items ≡ 0 = ap (sum_value v terms w) c.new-sum.ensures in
           let put : AddsTo w (work_value v terms w c.new-work.result.items) (work_value v terms w c.put_difference.new.work.items) (product_value v terms w one * ((a + (2 ^ w - b)) % 2 ^ w)) = c.in_ok-put_difference.ensures v terms lb in
           let all : AddsTo w (sum_value v terms w c.new-sum.result.items) (sum_value v terms w c.expand.new.sum.items) (work_value v terms w c.put_difference.new.work.items) = c.in_ok-expand.ensures v in
           let from_nothing : AddsTo w (work_value v terms w c.new-work.result.items) (sum_value v terms w c.expand.new.sum.items) (work_value v terms w c.put_difference.new.work.items) =
-              subst (λ k. AddsTo w k (sum_value v terms w c.expand.new.sum.items) (work_value v terms w c.put_difference.new.work.items)) (none ∙ sym nothing) all in
+          subst (λ k. AddsTo w k (sum_value v terms w c.expand.new.sum.items) (work_value v terms w c.put_difference.new.work.items)) (none ∙ sym nothing) all in
           let same : c.as_slice.result.now ≡ c.expand.new.sum.items = search rules in
           let known : sum_value v terms w c.expand.new.sum.items ≡ c.in_ok-by.by = ap (sum_value v terms w) (sym same) ∙ c.in_ok-by.ensures v terms w in
           subst (λ n. a ≡ (b + c.cut.result) % 2 ^ n) wide

@@ -28,9 +28,9 @@ returns-in_ok-put_expanded-in-Some c =
     let t = term_at v terms (record { index = c.in-Some.index }) in
     let n = c.args.product.coefficient * factors_value v terms w c.args.product.factors.items in
     let split : pending_value v terms w c.args.product.pending.items ≡ pending_value v terms w c.pop.new.self.items * t =
-        ap (pending_value v terms w) last ∙ pending_pushed v terms w c.pop.new.self.items c.in-Some.index in
+    ap (pending_value v terms w) last ∙ pending_pushed v terms w c.pop.new.self.items c.in-Some.index in
     let whole : product_value v terms w c.args.product ≡ product_value v terms w rest * t =
-        ap (λ k. n * k) split ∙ (let turn : n * (pending_value v terms w c.pop.new.self.items * t) ≡ n * pending_value v terms w c.pop.new.self.items * t = omega arith in turn) in
+    ap (λ k. n * k) split ∙ (let turn : n * (pending_value v terms w c.pop.new.self.items * t) ≡ n * pending_value v terms w c.pop.new.self.items * t = omega arith in turn) in
     let added : AddsTo w (work_value v terms w c.args.work.now.items) (work_value v terms w c.put_expanded.new.work.items) (product_value v terms w rest * t) = search rules in
     subst (λ k. AddsTo w (work_value v terms w c.args.work.now.items + sum_value v terms w c.args.sum.now.items) (work_value v terms w c.put_expanded.new.work.items + sum_value v terms w c.args.sum.now.items) k) (sym whole)
     (added_before w (work_value v terms w c.args.work.now.items) (work_value v terms w c.put_expanded.new.work.items) (sum_value v terms w c.args.sum.now.items) (product_value v terms w rest * t) added)

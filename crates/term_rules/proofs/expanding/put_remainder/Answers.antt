@@ -17,5 +17,5 @@ returns c = λ v terms lt.
     let first : AddsTo w old between (p * 1 * x) = search rules in
     let second : AddsTo w between new (product_value v terms w c.in_ok-taken.taken * c.ones.result * y) = search rules in
     let whole : AddsTo w between new (p * quotient w x y * (2 ^ w - 1) * y) =
-        subst (λ k. AddsTo w between new (k * (2 ^ w - 1) * y)) taken (subst (λ n. AddsTo w between new (product_value v terms w c.in_ok-taken.taken * n * y)) c.ones.ensures second) in
+    subst (λ k. AddsTo w between new (k * (2 ^ w - 1) * y)) taken (subst (λ n. AddsTo w between new (product_value v terms w c.in_ok-taken.taken * n * y)) c.ones.ensures second) in
     amount_same w old new _ _ (added_twice w old between new _ _ first whole) (remainder_amount w p x y lt)

@@ -15,7 +15,7 @@ returns-in_ok-put_term-in-Some c = λ v.
     let known : term_at v terms c.args.b ≡ c.in-Some.by = c.in-Some.ensures.says v in
     let put : AddsTo w old new (p * c.moved_up.result * x) = search rules in
     let whole : AddsTo w old new (p * shifted_left w 1 (term_at v terms c.args.b) * x) =
-        subst (λ n. AddsTo w old new (p * n * x)) (c.moved_up.ensures ∙ ap (shifted_left w 1) (sym known)) put in
+    subst (λ n. AddsTo w old new (p * n * x)) (c.moved_up.ensures ∙ ap (shifted_left w 1) (sym known)) put in
     amount_same w old new _ _ whole (shifted_amount w p x (term_at v terms c.args.b))
 
 pub returns-in_ok-put_term-in-None : goal.returns-in_ok-put_term-in-None

@@ -1,0 +1,102 @@
+//! Terms that surely are equal.
+
+ghost use Rattle.std.specs.Prelude.{◌≡◌, ◌<◌, ℕ, IsTrue, length};
+ghost use Rattle.bv_terms.specs.Tree.{width_of};
+ghost use Rattle.bv_terms.specs.Trees.{term_at, tree_in};
+
+use crate::expanding::known_difference;
+use crate::reading::term;
+use bv_terms::{Term, TermId, Terms};
+
+/// How far down the operands of two terms are compared.
+const DEPTH: u32 = 4;
+
+/// Whether two terms of one width surely are equal: they are one term, their sums are the same, or they
+/// are one operation on terms that surely are equal.
+pub fn are_equal_terms(terms: &Terms, a: TermId, b: TermId) -> bool
+    requires a { a.index < length terms.now }
+    requires b { b.index < length terms.now }
+    requires alike { width_of (tree_in terms.now a) ≡ width_of (tree_in terms.now b) }
+    ensures { IsTrue result → (v : ℕ → ℕ → ℕ) → term_at v terms.now a ≡ term_at v terms.now b }
+{
+    are_equal_within(terms, a, b, DEPTH)
+}
+
+fn are_equal_within(terms: &Terms, a: TermId, b: TermId, depth: u32) -> bool
+    requires a { a.index < length terms.now }
+    requires b { b.index < length terms.now }
+    requires alike { width_of (tree_in terms.now a) ≡ width_of (tree_in terms.now b) }
+    ensures { IsTrue result → (v : ℕ → ℕ → ℕ) → term_at v terms.now a ≡ term_at v terms.now b }
+{
+    terms.values_fit();
+    if a.index == b.index {
+        return true;
+    }
+    if let Some(by) = known_difference(terms, a, b) {
+        return by == 0;
+    }
+    if depth == 0 {
+        return false;
+    }
+    let less = depth - 1;
+    match (term(terms, a), term(terms, b)) {
+        (Term::Not { a: x, .. }, Term::Not { a: y, .. }) => are_equal_within(terms, x, y, less),
+        (Term::Binary(op, x, y, n), Term::Binary(other, z, t, m)) => op == other
+            && n == m
+            && are_equal_within(terms, x, z, less)
+            && are_equal_within(terms, y, t, less),
+        (
+            Term::Ite { c, a: x, b: y, .. },
+            Term::Ite {
+                c: d,
+                a: z,
+                b: t,
+                ..
+            },
+        ) => {
+            are_equal_within(terms, c, d, less)
+                && are_equal_within(terms, x, z, less)
+                && are_equal_within(terms, y, t, less)
+        }
+        (
+            Term::Extract { a: x, from, .. },
+            Term::Extract {
+                a: y,
+                from: other,
+                ..
+            },
+        ) => {
+            from == other && terms.width(x) == terms.width(y) && are_equal_within(terms, x, y, less)
+        }
+        (
+            Term::Concat {
+                high: x,
+                low: y,
+                below,
+                ..
+            },
+            Term::Concat {
+                high: z,
+                low: t,
+                below: other,
+                ..
+            },
+        ) => {
+            below == other
+                && are_equal_within(terms, x, z, less)
+                && are_equal_within(terms, y, t, less)
+        }
+        (Term::Zext { a: x, .. }, Term::Zext { a: y, .. }) => {
+            terms.width(x) == terms.width(y) && are_equal_within(terms, x, y, less)
+        }
+        (
+            Term::Sext { a: x, from, .. },
+            Term::Sext {
+                a: y,
+                from: other,
+                ..
+            },
+        ) => { from == other && are_equal_within(terms, x, y, less) }
+        _ => false,
+    }
+}
