@@ -12,3 +12,4 @@ pub mod LowRules
 pub mod ShrinkRules
 pub mod MultipleRules
 pub mod BoundRules
+pub mod DivisionRules

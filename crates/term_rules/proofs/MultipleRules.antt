@@ -7,7 +7,7 @@ use Rattle.term_rules.proofs.Simplifying.{same_tree}
 -- ---- numbers
 
 -- also where the divisor is 0: nothing, and the dividend
-multiple_and_rest : (w x y : ℕ) → x < 2 ^ w → (quotient w x y * y) % 2 ^ w + remainder x y ≡ x
+pub multiple_and_rest : (w x y : ℕ) → x < 2 ^ w → (quotient w x y * y) % 2 ^ w + remainder x y ≡ x
 multiple_and_rest w x y lt = go (eqb y 0) refl
   where
     go : (t : Bool) → eqb y 0 ≡ t → (cond t (2 ^ w - 1) (x / y) * y) % 2 ^ w + cond t x (x % y) ≡ x
@@ -20,7 +20,7 @@ multiple_and_rest w x y lt = go (eqb y 0) refl
         ap (λ k. k + x % y) (mod-eq_of_lt small) ∙ split
 
 -- one of two parts is the whole without the other
-part-of : (p r x m : ℕ) → p + r ≡ x → x < m → p ≡ (x + (m - r)) % m
+pub part-of : (p r x m : ℕ) → p + r ≡ x → x < m → p ≡ (x + (m - r)) % m
 part-of p r x m e lt =
     let small : p < m = omega (arith, e, lt) in
     sym (ap (λ n. n % m) (let f : x + (m - r) ≡ p + m = omega (arith, e, lt) in f) ∙ (add-mod_right p m ∙ mod-eq_of_lt small))

@@ -7,7 +7,7 @@ ghost use Rattle.bv_terms.specs.Tree.{width_of};
 ghost use Rattle.bv_terms.specs.Trees.{tree_in};
 ghost use Rattle.term_rules.specs.Forms.{Simplifies};
 
-use crate::bounds::{is_below_number, is_sum_with};
+use crate::bounds::{is_below_number, is_remainder_by, is_sum_with, leaves};
 use crate::complements::are_inverse;
 use crate::form::Form;
 use crate::reading::{are_in_order, number};
@@ -65,6 +65,12 @@ pub fn less(terms: &Terms, a: TermId, b: TermId) -> Form
     }
     if is_sum_with(terms, a, b) {
         return Form::Built(Term::Constant { value: 0, width: 1 });
+    }
+    if leaves(terms, a, b) {
+        return Form::Built(Term::Constant { value: 0, width: 1 });
+    }
+    if is_remainder_by(terms, a, b) {
+        return Form::Nonzero { a: b, width };
     }
     if is_below_number(terms, a, b) {
         return Form::Built(Term::Constant { value: 1, width: 1 });

@@ -24,6 +24,7 @@ mod factors;
 mod form;
 mod low_bits;
 mod multiples;
+mod nested_divisions;
 mod possible;
 mod reading;
 mod shifts;
