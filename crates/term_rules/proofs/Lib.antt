@@ -13,3 +13,4 @@ pub mod ShrinkRules
 pub mod MultipleRules
 pub mod BoundRules
 pub mod DivisionRules
+pub mod MagnitudeRules

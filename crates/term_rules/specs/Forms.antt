@@ -1,10 +1,10 @@
 -- What it means that a form has the value of a tree, and at most as many nodes.
-use Rattle.std.specs.Prelude.{ℕ, ◌≡◌, ◌<◌, ◌≤◌, ◌+◌, ◌-◌, ◌*◌, ◌/◌, ◌%◌, ◌^◌, Bool, true, List, nat_eq, bit_and, bit_or, bit_xor, length}
+use Rattle.std.specs.Prelude.{ℕ, ◌≡◌, ◌⊎◌, ◌<◌, ◌≤◌, ◌+◌, ◌-◌, ◌*◌, ◌/◌, ◌%◌, ◌^◌, Bool, true, cond, List, nat_eq, bit_and, bit_or, bit_xor, length}
 use Rattle.bv_terms.specs.declared.term.BinaryOp.TheVariants as op
 use Rattle.bv_terms.specs.declared.term.TermId.{TermId}
 use Rattle.bv_terms.specs.declared.term.Term.{Term}
 use Rattle.bv_terms.specs.Tree as tree
-use Rattle.bv_terms.specs.Tree.{Tree, quotient, remainder, value_of, width_of}
+use Rattle.bv_terms.specs.Tree.{Tree, is_negative, quotient, remainder, value_of, width_of}
 use Rattle.bv_terms.specs.Trees.{AreMatched, IsNoVariable, IsTerm, IsWidth, IsWithin, bit_at, term_at, tree_in, tree_of, trees_of}
 use Rattle.known_values.specs.Weight.{weight_of}
 use Rattle.term_rules.specs.declared.conditions.Equation.{Equation}
@@ -68,6 +68,13 @@ pub record IsRest (terms : List Term) (a b rest : TermId) : Type 0 where
   pub wide : width_of (tree_in terms rest) ≡ width_of (tree_in terms a)
   pub says : (v : ℕ → ℕ → ℕ) → term_at v terms a ≡ (term_at v terms rest + term_at v terms b) % 2 ^ width_of (tree_in terms a)
   pub least : weight_of (tree_in terms rest) ≤ weight_of (tree_in terms a)
+
+-- the second is the first without this under each assignment, at its width
+pub record IsTakenFrom (terms : List Term) (a b taken : TermId) : Type 0 where
+  pub within : taken.index < length terms
+  pub wide : width_of (tree_in terms taken) ≡ width_of (tree_in terms b)
+  pub says : (v : ℕ → ℕ → ℕ) → term_at v terms b ≡ (term_at v terms a + (2 ^ width_of (tree_in terms b) - term_at v terms taken)) % 2 ^ width_of (tree_in terms b)
+  pub least : weight_of (tree_in terms taken) ≤ weight_of (tree_in terms b)
 
 -- the first is this without the second under each assignment, at its width
 pub record IsPart (terms : List Term) (a b whole : TermId) : Type 0 where
@@ -216,6 +223,36 @@ pub record IsReducedFrom (terms : List Term) (r : TermId) (by : ℕ) (a : TermId
   pub wide : width_of (tree_in terms a) ≡ width_of (tree_in terms r)
   pub says : (v : ℕ → ℕ → ℕ) → remainder (term_at v terms a) by ≡ remainder (term_at v terms r) by
   pub least : weight_of (tree_in terms a) ≤ weight_of (tree_in terms r)
+
+-- ---- signs
+
+-- the term is the sign of this one
+pub record IsSign (terms : List Term) (c a : TermId) : Type 0 where
+  pub within : a.index < length terms
+  pub says : (v : ℕ → ℕ → ℕ) → bit_at v terms c ≡ is_negative (width_of (tree_in terms a)) (term_at v terms a)
+  pub least : 1 + weight_of (tree_in terms a) ≤ weight_of (tree_in terms c)
+
+-- the first is 0 without the second
+pub record IsOpposite (terms : List Term) (a b : TermId) : Type 0 where
+  pub alike : width_of (tree_in terms a) ≡ width_of (tree_in terms b)
+  pub says : (v : ℕ → ℕ → ℕ) → term_at v terms a ≡ (2 ^ width_of (tree_in terms b) - term_at v terms b) % 2 ^ width_of (tree_in terms b)
+  pub least : 2 + weight_of (tree_in terms b) ≤ weight_of (tree_in terms a)
+
+-- the term is this magnitude or its opposite
+pub record IsSigned (terms : List Term) (a size : TermId) : Type 0 where
+  pub within : size.index < length terms
+  pub alike : width_of (tree_in terms size) ≡ width_of (tree_in terms a)
+  pub small : (v : ℕ → ℕ → ℕ) → term_at v terms size ≤ 2 ^ (width_of (tree_in terms a) - 1)
+  pub says : (v : ℕ → ℕ → ℕ) → (term_at v terms a ≡ term_at v terms size)
+      ⊎ (term_at v terms a ≡ (2 ^ width_of (tree_in terms a) - term_at v terms size) % 2 ^ width_of (tree_in terms a))
+  pub least : weight_of (tree_in terms size) ≤ weight_of (tree_in terms a)
+
+-- the choice is the magnitude of its first arm, of which the other is the opposite
+pub record IsTurned (terms : List Term) (c a b : TermId) : Type 0 where
+  pub alike : width_of (tree_in terms b) ≡ width_of (tree_in terms a)
+  pub says : (v : ℕ → ℕ → ℕ) → cond (is_negative (width_of (tree_in terms a)) (term_at v terms a)) (term_at v terms b) (term_at v terms a)
+      ≡ cond (bit_at v terms c) (term_at v terms a) (term_at v terms b)
+  pub least : 1 + weight_of (tree_in terms a) ≤ weight_of (tree_in terms c)
 
 -- ---- parts of terms
 

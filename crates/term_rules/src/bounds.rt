@@ -61,7 +61,7 @@ pub fn is_sum_with(terms: &Terms, a: TermId, b: TermId) -> bool
 
 /// A number that the term is never above, by the number that it is divided by, or by its width before
 /// it was widened.
-fn most(terms: &Terms, a: TermId) -> u128
+pub fn most(terms: &Terms, a: TermId) -> u128
     requires { a.index < length terms.now }
     ensures { (v : ℕ → ℕ → ℕ) → term_at v terms.now a ≤ result }
 {

@@ -23,6 +23,7 @@ mod divisions;
 mod factors;
 mod form;
 mod low_bits;
+mod magnitudes;
 mod multiples;
 mod nested_divisions;
 mod possible;

@@ -1,3 +1,4 @@
+use Rattle.term_rules.proofs.MagnitudeRules.{difference_of_taken}
 use Rattle.term_rules.proofs.SumRules.{difference_of_rest, difference_with_number}
 use Rattle.term_rules.proofs.arithmetic.difference.Goals as goal
 
@@ -8,3 +9,7 @@ returns-in-Some c = difference_with_number c.args.terms.now c.args.a c.args.b c.
 pub returns-in-Some-rest_of_sum : goal.returns-in-Some-rest_of_sum
 returns-in-Some-rest_of_sum c = difference_of_rest c.args.terms.now c.args.a c.args.b c.values_fit.ensures c.requires.a c.requires.b c.requires.alike
     c.in-Some-rest_of_sum.rest c.in-Some-rest_of_sum.ensures
+
+pub returns-in-Some-taken_from : goal.returns-in-Some-taken_from
+returns-in-Some-taken_from c = difference_of_taken c.args.terms.now c.args.a c.args.b c.in-Some-taken_from.taken c.values_fit.ensures c.requires.a c.requires.alike
+    c.in-Some-taken_from.ensures
