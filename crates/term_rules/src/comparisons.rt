@@ -7,7 +7,7 @@ ghost use Rattle.bv_terms.specs.Tree.{width_of};
 ghost use Rattle.bv_terms.specs.Trees.{tree_in};
 ghost use Rattle.term_rules.specs.Forms.{Simplifies};
 
-use crate::bounds::{is_below_number, is_remainder_by, is_sum_with, leaves};
+use crate::bounds::{has_no_sign, is_below_number, is_remainder_by, is_sum_with, leaves};
 use crate::complements::are_inverse;
 use crate::form::Form;
 use crate::reading::{are_in_order, number};
@@ -94,6 +94,11 @@ pub fn less_signed(terms: &Terms, a: TermId, b: TermId) -> Form
     let width = terms.width(a);
     if a.index == b.index {
         return Form::Built(Term::Constant { value: 0, width: 1 });
+    }
+    if has_no_sign(terms, a) {
+        if has_no_sign(terms, b) {
+            return less(terms, a, b);
+        }
     }
     Form::Built(Term::Binary(BinaryOp::Slt, a, b, width))
 }
