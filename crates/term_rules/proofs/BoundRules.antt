@@ -18,7 +18,7 @@ product_small i j w x y less lx ly =
     let fits : 2 ^ (j + i) ≤ 2 ^ (w - 1) = pow-le (j + i) (w - 1) (omega (arith, less)) in
     omega (arith, up, turned, same, top, whole, fits, mod-le (x * y) (2 ^ w))
 
-halves : (n : ℕ) → 1 ≤ n → 2 ^ (n - 1) + 2 ^ (n - 1) ≡ 2 ^ n
+pub halves : (n : ℕ) → 1 ≤ n → 2 ^ (n - 1) + 2 ^ (n - 1) ≡ 2 ^ n
 halves n pos =
     let e : (n - 1) + 1 ≡ n = omega (arith, pos) in
     let twice : 2 ^ ((n - 1) + 1) ≡ 2 ^ (n - 1) * 2 ^ 1 = pow-add 2 (n - 1) 1 in

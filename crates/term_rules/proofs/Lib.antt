@@ -15,3 +15,5 @@ pub mod LowRules
 pub mod ShrinkRules
 pub mod MultipleRules
 pub mod BoundRules
+pub mod DivisionRules
+pub mod MagnitudeRules

@@ -20,7 +20,7 @@ multiple_and_rest w x y lt = go (eqb y 0) refl
         ap (λ k. k + x % y) (mod-eq_of_lt small) ∙ split
 
 -- one of two parts is the whole without the other
-part-of : (p r x m : ℕ) → p + r ≡ x → x < m → p ≡ (x + (m - r)) % m
+pub part-of : (p r x m : ℕ) → p + r ≡ x → x < m → p ≡ (x + (m - r)) % m
 part-of p r x m e lt =
     let small : p < m = omega (arith, e, lt) in
     sym (ap (λ n. n % m) (let f : x + (m - r) ≡ p + m = omega (arith, e, lt) in f) ∙ (add-mod_right p m ∙ mod-eq_of_lt small))

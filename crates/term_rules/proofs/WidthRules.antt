@@ -1,5 +1,5 @@
 -- Why the rules of parts of numbers are right.
-use Rattle.term_rules.proofs.Common.{ap, ℕ, ◌≡◌, ◌<◌, ◌≤◌, ◌+◌, ◌-◌, ◌*◌, ◌/◌, ◌%◌, ◌^◌, false, cond, List, length, arith, ◌∙◌, sym, subst, refl, lt-leb, field_of, mod_low, mod-pow-add, pow_pos, shr-shr, shr_high, div-eq_of_lt, div-one, mod-eq_of_lt, zero-mod, mod-mod-pow, TermId, Term, Tree, extended_signed, is_negative, value_of, width_of, AreInRange, IsWidth, term_at, tree_in, weight_of, pow-le, Form, Built, Known, BitRange, IsSamePart, Simplifies}
+use Rattle.term_rules.proofs.Common.{ap, ℕ, ◌≡◌, ◌<◌, ◌≤◌, ◌+◌, ◌-◌, ◌*◌, ◌/◌, ◌%◌, ◌^◌, false, List, length, arith, ◌∙◌, sym, subst, refl, lt-leb, field_of, mod_low, mod-pow-add, pow_pos, shr-shr, shr_high, div-eq_of_lt, div-one, mod-eq_of_lt, zero-mod, mod-mod-pow, TermId, Term, Tree, is_negative, value_of, width_of, AreInRange, IsWidth, term_at, tree_in, weight_of, pow-le, Form, Built, Known, BitRange, IsSamePart, Simplifies}
 use Rattle.bv_terms.specs.declared.term.Term.TheVariants as term
 use Rattle.bv_terms.specs.Tree as tree
 use Rattle.term_rules.proofs.Simplifying.{constant_form, same_tree, simplifies_like}
@@ -92,12 +92,6 @@ pub part_above : (terms : List Term) (a : TermId) (from width : ℕ) (p : BitRan
 part_above terms a from width p wide same below = constant_form terms _ 0 width wide (pow_pos width) refl
     (λ v. sym (same.says v) ∙ (ap (λ k. k % 2 ^ width) (div-eq_of_lt (below v)) ∙ zero-mod (2 ^ width)))
 
-pub zext_below : (terms : List Term) (a inner : TermId) (n from : ℕ) → AreInRange terms → tree.Zext (tree_in terms inner) n ≡ tree_in terms a → inner.index < length terms
-    → width_of (tree_in terms inner) ≤ from → (v : ℕ → ℕ → ℕ) → term_at v terms a < 2 ^ from
-zext_below terms a inner n from range is lt le v =
-    let e : term_at v terms a ≡ term_at v terms inner = ap (value_of v) (sym is) in
-    omega (arith, e, range v inner lt, pow-le (width_of (tree_in terms inner)) from le)
-
 -- ---- parts next to each other
 
 pub parts_adjacent : (terms : List Term) (high low whole same : TermId) (above from upper lower : ℕ) (form : Form)
@@ -127,17 +121,3 @@ parts_adjacent terms high low whole same above from upper lower form ih il e nex
 
 pub unsigned : (w from x : ℕ) → w < from → x < 2 ^ w → is_negative from x ≡ false
 unsigned w from x le lt = lt-leb (2 ^ (from - 1)) x (omega (arith, lt, pow-le w (from - 1) (omega arith)))
-
-pub signed_of_zext : (terms : List Term) (a inner : TermId) (n width : ℕ) → AreInRange terms → IsWidth width → tree.Zext (tree_in terms inner) n ≡ tree_in terms a → inner.index < length terms
-    → width_of (tree_in terms inner) < width_of (tree_in terms a) → width_of (tree_in terms a) ≤ width
-    → Simplifies terms (tree.Sext (tree_in terms a) (width_of (tree_in terms a)) width) (Built (term.Zext inner width))
-signed_of_zext terms a inner n width range wide is lt less le = record {
-  fit = record { within = (wide, lt); matched = omega (arith, less, le); operation = tt };
-  wide = refl;
-  says = λ v.
-      let value : term_at v terms a ≡ term_at v terms inner = ap (value_of v) (sym is) in
-      sym (ap (λ k. extended_signed (width_of (tree_in terms a)) width k) value
-      ∙ ap (λ b. cond b (2 ^ width - 2 ^ width_of (tree_in terms a) + term_at v terms inner) (term_at v terms inner))
-      (unsigned (width_of (tree_in terms inner)) (width_of (tree_in terms a)) (term_at v terms inner) less (range v inner lt)));
-  least = let heavy : weight_of (tree_in terms a) ≡ 1 + weight_of (tree_in terms inner) = ap weight_of (sym is) in omega (arith, heavy);
-}

@@ -1,29 +1,32 @@
 -- What it means that a form has the value of a tree, and at most as many nodes.
-use Rattle.std.specs.Prelude.{ℕ, ◌≡◌, ◌<◌, ◌≤◌, ◌+◌, ◌-◌, ◌*◌, ◌/◌, ◌%◌, ◌^◌, Bool, true, List, nat_eq, bit_and, bit_or, bit_xor, length}
+use Rattle.std.specs.Prelude.{ℕ, ◌≡◌, ◌⊎◌, ◌<◌, ◌≤◌, ◌+◌, ◌-◌, ◌*◌, ◌/◌, ◌%◌, ◌^◌, Bool, true, cond, List, nat_eq, bit_and, bit_or, bit_xor, length}
 use Rattle.bv_terms.specs.declared.term.BinaryOp.TheVariants as op
 use Rattle.bv_terms.specs.declared.term.TermId.{TermId}
 use Rattle.bv_terms.specs.declared.term.Term.{Term}
 use Rattle.bv_terms.specs.Tree as tree
-use Rattle.bv_terms.specs.Tree.{Tree, quotient, value_of, width_of}
+use Rattle.bv_terms.specs.Tree.{Tree, is_negative, quotient, remainder, value_of, width_of}
 use Rattle.bv_terms.specs.Trees.{AreMatched, IsNoVariable, IsTerm, IsWidth, IsWithin, bit_at, term_at, tree_in, tree_of, trees_of}
 use Rattle.known_values.specs.Weight.{weight_of}
 use Rattle.term_rules.specs.declared.conditions.Equation.{Equation}
 use Rattle.term_rules.specs.declared.factors.Factors.{Factors}
 use Rattle.term_rules.specs.declared.form.Form.{Form}
-use Rattle.term_rules.specs.declared.form.Form.TheVariants.{Built, Known, Raised, Shifted}
+use Rattle.term_rules.specs.declared.form.Form.TheVariants.{Built, Divided, Known, Nonzero, Raised, Shifted}
 use Rattle.term_rules.specs.declared.low_bits.Kind.{Kind}
 use Rattle.term_rules.specs.declared.low_bits.Kind.TheVariants.{Sum, Difference, Reverse, Product, Conjunction, Disjunction, Exclusive}
 use Rattle.term_rules.specs.declared.low_bits.Narrowing.{Narrowing}
 use Rattle.term_rules.specs.declared.low_bits.Operation.{Operation}
+use Rattle.term_rules.specs.declared.nested_divisions.Division.{Division}
 use Rattle.term_rules.specs.declared.shrinking.Shrunk.{Shrunk}
 use Rattle.term_rules.specs.declared.widths.BitRange.{BitRange}
 
--- a term that is there, one over terms that are there, the sum of one with a number, or one shifted left
+-- a term that is there, one over terms that are there, the sum of one with a number, one shifted left or divided by a number, or whether one is not 0
 abbrev pub form_tree : List Term → Form → Tree
 form_tree terms (Known id) = tree_in terms id
 form_tree terms (Built t) = tree_of (trees_of terms) t
 form_tree terms (Raised a by width) = tree.Binary op.Add (tree_in terms a) (tree.Constant by width) width
 form_tree terms (Shifted a by width) = tree.Binary op.Shl (tree_in terms a) (tree.Constant by width) width
+form_tree terms (Divided a by width) = tree.Binary op.Udiv (tree_in terms a) (tree.Constant by width) width
+form_tree terms (Nonzero a width) = tree.Not (tree.Binary op.Eq (tree_in terms a) (tree.Constant 0 width) width) 1
 
 -- a term that is valid after these, and is no variable
 pub record IsApplied (terms : List Term) (t : Term) : Type 0 where
@@ -44,6 +47,8 @@ IsForm terms (Known id) = id.index < length terms
 IsForm terms (Built t) = IsApplied terms t
 IsForm terms (Raised a by width) = AreOperands terms a by width
 IsForm terms (Shifted a by width) = AreOperands terms a by width
+IsForm terms (Divided a by width) = AreOperands terms a by width
+IsForm terms (Nonzero a width) = AreOperands terms a 0 width
 
 -- the form has the width of the tree and its value under each assignment, and at most as many nodes
 pub record Simplifies (terms : List Term) (plain : Tree) (form : Form) : Type 0 where
@@ -63,6 +68,13 @@ pub record IsRest (terms : List Term) (a b rest : TermId) : Type 0 where
   pub wide : width_of (tree_in terms rest) ≡ width_of (tree_in terms a)
   pub says : (v : ℕ → ℕ → ℕ) → term_at v terms a ≡ (term_at v terms rest + term_at v terms b) % 2 ^ width_of (tree_in terms a)
   pub least : weight_of (tree_in terms rest) ≤ weight_of (tree_in terms a)
+
+-- the second is the first without this under each assignment, at its width
+pub record IsTakenFrom (terms : List Term) (a b taken : TermId) : Type 0 where
+  pub within : taken.index < length terms
+  pub wide : width_of (tree_in terms taken) ≡ width_of (tree_in terms b)
+  pub says : (v : ℕ → ℕ → ℕ) → term_at v terms b ≡ (term_at v terms a + (2 ^ width_of (tree_in terms b) - term_at v terms taken)) % 2 ^ width_of (tree_in terms b)
+  pub least : weight_of (tree_in terms taken) ≤ weight_of (tree_in terms b)
 
 -- the first is this without the second under each assignment, at its width
 pub record IsPart (terms : List Term) (a b whole : TermId) : Type 0 where
@@ -186,6 +198,61 @@ pub record IsMultiple (terms : List Term) (a b divisor : TermId) : Type 0 where
   pub says : (v : ℕ → ℕ → ℕ) → term_at v terms b
       ≡ (quotient (width_of (tree_in terms b)) (term_at v terms a) (term_at v terms divisor) * term_at v terms divisor) % 2 ^ width_of (tree_in terms b)
   pub least : 2 + weight_of (tree_in terms a) + weight_of (tree_in terms divisor) ≤ weight_of (tree_in terms b)
+
+-- the first is below the second wherever this is not 0, and is no leaf
+pub record IsReduced (terms : List Term) (a b : TermId) : Type 0 where
+  pub says : (v : ℕ → ℕ → ℕ) → 1 ≤ term_at v terms b → term_at v terms a < term_at v terms b
+  pub heavy : 2 ≤ weight_of (tree_in terms a)
+
+-- the first is the quotient of this by the second, times the second
+pub record IsWhole (terms : List Term) (a b whole : TermId) : Type 0 where
+  pub within : whole.index < length terms
+  pub multiple : IsMultiple terms whole a b
+
+-- the term is the quotient of this by this number, which is not 0
+pub record IsDivided (terms : List Term) (q : TermId) (d : Division) : Type 0 where
+  pub within : d.a.index < length terms
+  pub wide : width_of (tree_in terms d.a) ≡ width_of (tree_in terms q)
+  pub nonzero : 1 ≤ d.by
+  pub says : (v : ℕ → ℕ → ℕ) → term_at v terms q ≡ term_at v terms d.a / d.by
+  pub least : 2 + weight_of (tree_in terms d.a) ≤ weight_of (tree_in terms q)
+
+-- the term and this leave the same when they are divided by the number
+pub record IsReducedFrom (terms : List Term) (r : TermId) (by : ℕ) (a : TermId) : Type 0 where
+  pub within : a.index < length terms
+  pub wide : width_of (tree_in terms a) ≡ width_of (tree_in terms r)
+  pub says : (v : ℕ → ℕ → ℕ) → remainder (term_at v terms a) by ≡ remainder (term_at v terms r) by
+  pub least : weight_of (tree_in terms a) ≤ weight_of (tree_in terms r)
+
+-- ---- signs
+
+-- the term is the sign of this one
+pub record IsSign (terms : List Term) (c a : TermId) : Type 0 where
+  pub within : a.index < length terms
+  pub says : (v : ℕ → ℕ → ℕ) → bit_at v terms c ≡ is_negative (width_of (tree_in terms a)) (term_at v terms a)
+  pub least : 1 + weight_of (tree_in terms a) ≤ weight_of (tree_in terms c)
+
+-- the first is 0 without the second
+pub record IsOpposite (terms : List Term) (a b : TermId) : Type 0 where
+  pub alike : width_of (tree_in terms a) ≡ width_of (tree_in terms b)
+  pub says : (v : ℕ → ℕ → ℕ) → term_at v terms a ≡ (2 ^ width_of (tree_in terms b) - term_at v terms b) % 2 ^ width_of (tree_in terms b)
+  pub least : 2 + weight_of (tree_in terms b) ≤ weight_of (tree_in terms a)
+
+-- the term is this magnitude or its opposite
+pub record IsSigned (terms : List Term) (a size : TermId) : Type 0 where
+  pub within : size.index < length terms
+  pub alike : width_of (tree_in terms size) ≡ width_of (tree_in terms a)
+  pub small : (v : ℕ → ℕ → ℕ) → term_at v terms size ≤ 2 ^ (width_of (tree_in terms a) - 1)
+  pub says : (v : ℕ → ℕ → ℕ) → (term_at v terms a ≡ term_at v terms size)
+      ⊎ (term_at v terms a ≡ (2 ^ width_of (tree_in terms a) - term_at v terms size) % 2 ^ width_of (tree_in terms a))
+  pub least : weight_of (tree_in terms size) ≤ weight_of (tree_in terms a)
+
+-- the choice is the magnitude of its first arm, of which the other is the opposite
+pub record IsTurned (terms : List Term) (c a b : TermId) : Type 0 where
+  pub alike : width_of (tree_in terms b) ≡ width_of (tree_in terms a)
+  pub says : (v : ℕ → ℕ → ℕ) → cond (is_negative (width_of (tree_in terms a)) (term_at v terms a)) (term_at v terms b) (term_at v terms a)
+      ≡ cond (bit_at v terms c) (term_at v terms a) (term_at v terms b)
+  pub least : 1 + weight_of (tree_in terms a) ≤ weight_of (tree_in terms c)
 
 -- ---- parts of terms
 

@@ -5,7 +5,7 @@ ghost use Rattle.bv_terms.specs.declared.term.BinaryOp.TheVariants as op;
 ghost use Rattle.bv_terms.specs.Tree as tree;
 ghost use Rattle.bv_terms.specs.Tree.{width_of};
 ghost use Rattle.bv_terms.specs.Trees.{IsWidth, tree_in};
-ghost use Rattle.term_rules.specs.Forms.{AreOperands, IsNumber, IsPart, IsRest, Simplifies};
+ghost use Rattle.term_rules.specs.Forms.{AreOperands, IsNumber, IsPart, IsRest, IsTakenFrom, Simplifies};
 
 use crate::expanding::known_difference;
 use crate::form::Form;
@@ -50,6 +50,18 @@ fn rest_of_sum(terms: &Terms, a: TermId, b: TermId) -> Option<TermId>
     match term(terms, a) {
         Term::Binary(BinaryOp::Add, first, second, _) if second.index == b.index => Some(first),
         Term::Binary(BinaryOp::Add, first, second, _) if first.index == b.index => Some(second),
+        _ => None,
+    }
+}
+
+/// What plainly gives the second where it is taken from the first.
+fn taken_from(terms: &Terms, a: TermId, b: TermId) -> Option<TermId>
+    requires a { a.index < length terms.now }
+    requires b { b.index < length terms.now }
+    ensures { IfSome result (IsTakenFrom terms.now a b) }
+{
+    match term(terms, b) {
+        Term::Binary(BinaryOp::Sub, whole, taken, _) if whole.index == a.index => Some(taken),
         _ => None,
     }
 }
@@ -127,6 +139,9 @@ pub fn difference(terms: &Terms, a: TermId, b: TermId) -> Form
     }
     if let Some(value) = known_difference(terms, a, b) {
         return Form::Built(Term::Constant { value, width });
+    }
+    if let Some(taken) = taken_from(terms, a, b) {
+        return Form::Known(taken);
     }
     Form::Built(Term::Binary(BinaryOp::Sub, a, b, width))
 }

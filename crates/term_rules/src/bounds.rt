@@ -1,8 +1,9 @@
 //! Numbers that surely are small, and sums that surely don't wrap.
 
-ghost use Rattle.std.specs.Prelude.{◌<◌, ◌≤◌, ◌-◌, ◌^◌, ℕ, IsTrue, length};
-ghost use Rattle.bv_terms.specs.Tree.{width_of};
+ghost use Rattle.std.specs.Prelude.{◌≡◌, ◌<◌, ◌≤◌, ◌-◌, ◌^◌, ℕ, IsTrue, false, length};
+ghost use Rattle.bv_terms.specs.Tree.{is_negative, width_of};
 ghost use Rattle.bv_terms.specs.Trees.{term_at, tree_in};
+ghost use Rattle.term_rules.specs.Forms.{IsReduced};
 
 use crate::reading::{number, term};
 use bv_terms::{BinaryOp, Term, TermId, Terms};
@@ -58,15 +59,77 @@ pub fn is_sum_with(terms: &Terms, a: TermId, b: TermId) -> bool
     }
 }
 
-/// Whether the first surely is less than the second: a constant above each number of the width that
-/// the first had before it was widened.
+/// A number that the term is never above, by the number that it is divided by, masked with or shifted
+/// right by, or by its width before it was widened.
+pub fn most(terms: &Terms, a: TermId) -> u128
+    requires { a.index < length terms.now }
+    ensures { (v : ℕ → ℕ → ℕ) → term_at v terms.now a ≤ result }
+{
+    terms.values_fit();
+    let bound = ones(bits_before(terms, a));
+    match term(terms, a) {
+        Term::Binary(BinaryOp::Urem, _, second, _) => match number(terms, second) {
+            Some(by) if by > 0 => by - 1,
+            _ => bound,
+        },
+        Term::Binary(BinaryOp::Udiv, first, second, _) => match number(terms, second) {
+            Some(by) if by > 0 => ones(bits_before(terms, first)) / by,
+            _ => bound,
+        },
+        Term::Binary(BinaryOp::And, _, second, _) => match number(terms, second) {
+            Some(mask) => mask,
+            None => bound,
+        },
+        Term::Binary(BinaryOp::Lshr, first, second, _) => match number(terms, second) {
+            Some(count) if count < 128 => ones(bits_before(terms, first)) >> count as u32,
+            _ => bound,
+        },
+        _ => bound,
+    }
+}
+
+/// Whether the term surely is not negative.
+pub fn has_no_sign(terms: &Terms, a: TermId) -> bool
+    requires { a.index < length terms.now }
+    ensures { IsTrue result → (v : ℕ → ℕ → ℕ) → is_negative (width_of (tree_in terms.now a)) (term_at v terms.now a) ≡ false }
+{
+    let width = terms.width(a);
+    most(terms, a) < 1 << (width - 1)
+}
+
+/// Whether the first surely is less than the second: a constant above each number that the first can
+/// be.
 pub fn is_below_number(terms: &Terms, a: TermId, b: TermId) -> bool
     requires a { a.index < length terms.now }
     requires b { b.index < length terms.now }
     ensures { IsTrue result → (v : ℕ → ℕ → ℕ) → term_at v terms.now a < term_at v terms.now b }
 {
     match number(terms, b) {
-        Some(value) => value > ones(bits_before(terms, a)),
+        Some(value) => value > most(terms, a),
         None => false,
+    }
+}
+
+/// Whether the first plainly is what a division by the second leaves.
+pub fn is_remainder_by(terms: &Terms, a: TermId, b: TermId) -> bool
+    requires a { a.index < length terms.now }
+    requires b { b.index < length terms.now }
+    ensures { IsTrue result → IsReduced terms.now a b }
+{
+    match term(terms, a) {
+        Term::Binary(BinaryOp::Urem, _, second, _) => second.index == b.index,
+        _ => false,
+    }
+}
+
+/// Whether the second plainly is what a division of the first leaves.
+pub fn leaves(terms: &Terms, a: TermId, b: TermId) -> bool
+    requires a { a.index < length terms.now }
+    requires b { b.index < length terms.now }
+    ensures { IsTrue result → (v : ℕ → ℕ → ℕ) → term_at v terms.now b ≤ term_at v terms.now a }
+{
+    match term(terms, b) {
+        Term::Binary(BinaryOp::Urem, first, _, _) => first.index == a.index,
+        _ => false,
     }
 }

@@ -15,6 +15,7 @@ use crate::building::build;
 use crate::factors::{common_factor, distributed};
 use crate::form::Form;
 use crate::low_bits::low;
+use crate::magnitudes::{is_of_opposite, known_choice, magnitude};
 use crate::multiples::divisor;
 use crate::shrinking::{
     are_equal, is_greater, is_less, rest_of_ones, shrunk_by_number, shrunk_further, shrunk_pair,
@@ -299,6 +300,13 @@ pub fn ite(terms: &mut Terms, c: TermId, a: TermId, b: TermId) -> Result<TermId,
     ensures least { IfOk result (λ id. weight_of (tree_in terms.new id) ≤ weight_of (tree.Ite (tree_in terms.old c) (tree_in terms.old a) (tree_in terms.old b) (width_of (tree_in terms.old a)))) }
     ensures kept { Keeps terms.old terms.new }
 {
+    if let Some(id) = known_choice(terms, c, a, b) {
+        return Ok(id);
+    }
+    if is_of_opposite(terms, c, a, b) {
+        let id = magnitude(terms, a, b)?;
+        return Ok(id);
+    }
     let form = choices::choice(terms, c, a, b);
     build(terms, form)
 }

@@ -1,7 +1,7 @@
 //! Terms made of forms.
 
-ghost use Rattle.std.specs.Prelude.{◌≡◌, ◌<◌, ◌≤◌, ◌+◌, ◌%◌, ◌^◌, ℕ, IfOk, IfSome, length};
-ghost use Rattle.bv_terms.specs.Tree.{shifted_left, value_of, width_of};
+ghost use Rattle.std.specs.Prelude.{◌≡◌, ◌<◌, ◌≤◌, ◌+◌, ◌-◌, ◌%◌, ◌^◌, ℕ, IfOk, IfSome, length, nat_eq};
+ghost use Rattle.bv_terms.specs.Tree.{digit, quotient, shifted_left, value_of, width_of};
 ghost use Rattle.bv_terms.specs.Trees.{Keeps, Makes, term_at, tree_in, tree_of, trees_of};
 ghost use Rattle.known_values.specs.Weight.{weight_of};
 ghost use Rattle.term_rules.specs.Forms.{IsApplied, IsForm, AreOperands, form_tree};
@@ -108,6 +108,37 @@ fn shift(terms: &mut Terms, a: TermId, by: u128, width: u32) -> Result<TermId, N
     Ok(id)
 }
 
+/// The quotient of a term by a number.
+fn divide(terms: &mut Terms, a: TermId, by: u128, width: u32) -> Result<TermId, NoMemory>
+    requires { AreOperands terms.old a by width }
+    ensures made { IfOk result (λ id. Makes terms.new id width (λ v. quotient width (term_at v terms.old a) by)) }
+    ensures least { IfOk result (λ id. weight_of (tree_in terms.new id) ≤ 2 + weight_of (tree_in terms.old a)) }
+    ensures kept { Keeps terms.old terms.new }
+{
+    let b = store(terms, Term::Constant { value: by, width })?;
+    let id = apply(terms, Term::Binary(BinaryOp::Udiv, a, b, width))?;
+    Ok(id)
+}
+
+/// Whether a term is not 0.
+fn not_zero(terms: &mut Terms, a: TermId, width: u32) -> Result<TermId, NoMemory>
+    requires { AreOperands terms.old a 0 width }
+    ensures made { IfOk result (λ id. Makes terms.new id 1 (λ v. 2 ^ 1 - 1 - digit (nat_eq (term_at v terms.old a) 0))) }
+    ensures least { IfOk result (λ id. weight_of (tree_in terms.new id) ≤ 3 + weight_of (tree_in terms.old a)) }
+    ensures kept { Keeps terms.old terms.new }
+{
+    let zero = store(terms, Term::Constant { value: 0, width })?;
+    let is_zero = apply(terms, Term::Binary(BinaryOp::Eq, a, zero, width))?;
+    let id = apply(
+        terms,
+        Term::Not {
+            a: is_zero,
+            width: 1,
+        },
+    )?;
+    Ok(id)
+}
+
 /// The term of a form.
 pub fn build(terms: &mut Terms, form: Form) -> Result<TermId, NoMemory>
     requires { IsForm terms.old form }
@@ -120,5 +151,7 @@ pub fn build(terms: &mut Terms, form: Form) -> Result<TermId, NoMemory>
         Form::Built(term) => apply(terms, term),
         Form::Raised { a, by, width } => raise(terms, a, by, width),
         Form::Shifted { a, by, width } => shift(terms, a, by, width),
+        Form::Divided { a, by, width } => divide(terms, a, by, width),
+        Form::Nonzero { a, width } => not_zero(terms, a, width),
     }
 }

@@ -7,7 +7,7 @@ ghost use Rattle.bv_terms.specs.Tree.{width_of};
 ghost use Rattle.bv_terms.specs.Trees.{tree_in};
 ghost use Rattle.term_rules.specs.Forms.{Simplifies};
 
-use crate::bounds::{is_below_number, is_sum_with};
+use crate::bounds::{has_no_sign, is_below_number, is_remainder_by, is_sum_with, leaves};
 use crate::complements::are_inverse;
 use crate::equalities::are_equal_terms;
 use crate::expanding::known_difference;
@@ -76,6 +76,12 @@ pub fn less(terms: &Terms, a: TermId, b: TermId) -> Form
     if is_sum_with(terms, a, b) {
         return Form::Built(Term::Constant { value: 0, width: 1 });
     }
+    if leaves(terms, a, b) {
+        return Form::Built(Term::Constant { value: 0, width: 1 });
+    }
+    if is_remainder_by(terms, a, b) {
+        return Form::Nonzero { a: b, width };
+    }
     if is_below_number(terms, a, b) {
         return Form::Built(Term::Constant { value: 1, width: 1 });
     }
@@ -98,6 +104,11 @@ pub fn less_signed(terms: &Terms, a: TermId, b: TermId) -> Form
     let width = terms.width(a);
     if a.index == b.index {
         return Form::Built(Term::Constant { value: 0, width: 1 });
+    }
+    if has_no_sign(terms, a) {
+        if has_no_sign(terms, b) {
+            return less(terms, a, b);
+        }
     }
     Form::Built(Term::Binary(BinaryOp::Slt, a, b, width))
 }

@@ -1,15 +1,82 @@
 //! Rules of divisions.
 
-ghost use Rattle.std.specs.Prelude.{◌≡◌, ◌<◌, length};
+ghost use Rattle.std.specs.Prelude.{◌≡◌, ◌<◌, ◌*◌, ◌^◌, IfSome, length};
 ghost use Rattle.bv_terms.specs.declared.term.BinaryOp.TheVariants as op;
 ghost use Rattle.bv_terms.specs.Tree as tree;
 ghost use Rattle.bv_terms.specs.Tree.{width_of};
-ghost use Rattle.bv_terms.specs.Trees.{tree_in};
-ghost use Rattle.term_rules.specs.Forms.{Simplifies};
+ghost use Rattle.bv_terms.specs.Trees.{IsWidth, tree_in};
+ghost use Rattle.term_rules.specs.Forms.{IsLow, IsNumber, Simplifies};
 
+use crate::bounds::{is_below_number, is_remainder_by};
 use crate::form::Form;
-use crate::reading::number;
+use crate::nested_divisions::{divided_by_number, reduced_by_multiple, whole_of_multiple};
+use crate::reading::{number, term};
+use crate::shrinking::before_widening;
 use bv_terms::{BinaryOp, Term, TermId, Terms};
+use known_values::numbers::ones;
+
+/// The product of two numbers, if it fits the width.
+fn product_within(a: u128, b: u128, width: u32) -> Option<u128>
+    requires { IsWidth width }
+    ensures { IfSome result (λ p. (p ≡ a * b) × (p < 2 ^ width)) }
+{
+    let product = a.checked_mul(b)?;
+    if product <= ones(width) {
+        Some(product)
+    } else {
+        None
+    }
+}
+
+/// The quotient by a number. Numbers that divide one after the other divide at once.
+fn quotient_by(terms: &Terms, a: TermId, b: TermId, by: u128) -> Form
+    requires a { a.index < length terms.now }
+    requires b { b.index < length terms.now }
+    requires alike { width_of (tree_in terms.now a) ≡ width_of (tree_in terms.now b) }
+    requires by { IsNumber terms.now b by }
+    ensures { Simplifies terms.now (tree.Binary op.Udiv (tree_in terms.now a) (tree_in terms.now b) (width_of (tree_in terms.now a))) result }
+{
+    terms.values_fit();
+    let width = terms.width(a);
+    if by == 1 {
+        return Form::Known(a);
+    }
+    if is_below_number(terms, a, b) {
+        return Form::Built(Term::Constant { value: 0, width });
+    }
+    if let Some(inner) = divided_by_number(terms, a) {
+        if let Some(product) = product_within(inner.by, by, width) {
+            return Form::Divided {
+                a: inner.a,
+                by: product,
+                width,
+            };
+        }
+    }
+    Form::Built(Term::Binary(BinaryOp::Udiv, a, b, width))
+}
+
+/// The remainder by a number.
+fn remainder_by(terms: &Terms, a: TermId, b: TermId, by: u128) -> Form
+    requires a { a.index < length terms.now }
+    requires b { b.index < length terms.now }
+    requires alike { width_of (tree_in terms.now a) ≡ width_of (tree_in terms.now b) }
+    requires by { IsNumber terms.now b by }
+    ensures { Simplifies terms.now (tree.Binary op.Urem (tree_in terms.now a) (tree_in terms.now b) (width_of (tree_in terms.now a))) result }
+{
+    terms.values_fit();
+    let width = terms.width(a);
+    if by == 1 {
+        return Form::Built(Term::Constant { value: 0, width });
+    }
+    if is_below_number(terms, a, b) {
+        return Form::Known(a);
+    }
+    match reduced_by_multiple(terms, a, by) {
+        Some(inner) => Form::Built(Term::Binary(BinaryOp::Urem, inner, b, width)),
+        None => Form::Built(Term::Binary(BinaryOp::Urem, a, b, width)),
+    }
+}
 
 /// The quotient of unsigned numbers.
 pub fn quotient(terms: &Terms, a: TermId, b: TermId) -> Form
@@ -18,10 +85,14 @@ pub fn quotient(terms: &Terms, a: TermId, b: TermId) -> Form
     requires alike { width_of (tree_in terms.now a) ≡ width_of (tree_in terms.now b) }
     ensures { Simplifies terms.now (tree.Binary op.Udiv (tree_in terms.now a) (tree_in terms.now b) (width_of (tree_in terms.now a))) result }
 {
+    terms.values_fit();
     let width = terms.width(a);
+    if let Some(whole) = whole_of_multiple(terms, a, b) {
+        return Form::Built(Term::Binary(BinaryOp::Udiv, whole, b, width));
+    }
     match number(terms, b) {
-        Some(value) if value == 1 => Form::Known(a),
-        _ => Form::Built(Term::Binary(BinaryOp::Udiv, a, b, width)),
+        Some(by) => quotient_by(terms, a, b, by),
+        None => Form::Built(Term::Binary(BinaryOp::Udiv, a, b, width)),
     }
 }
 
@@ -32,12 +103,39 @@ pub fn remainder(terms: &Terms, a: TermId, b: TermId) -> Form
     requires alike { width_of (tree_in terms.now a) ≡ width_of (tree_in terms.now b) }
     ensures { Simplifies terms.now (tree.Binary op.Urem (tree_in terms.now a) (tree_in terms.now b) (width_of (tree_in terms.now a))) result }
 {
+    terms.values_fit();
     let width = terms.width(a);
     if a.index == b.index {
         return Form::Built(Term::Constant { value: 0, width });
     }
+    if is_remainder_by(terms, a, b) {
+        return Form::Known(a);
+    }
+    if let Some(_whole) = whole_of_multiple(terms, a, b) {
+        return Form::Built(Term::Constant { value: 0, width });
+    }
     match number(terms, b) {
-        Some(value) if value == 1 => Form::Built(Term::Constant { value: 0, width }),
-        _ => Form::Built(Term::Binary(BinaryOp::Urem, a, b, width)),
+        Some(by) => remainder_by(terms, a, b, by),
+        None => Form::Built(Term::Binary(BinaryOp::Urem, a, b, width)),
+    }
+}
+
+/// The low bits of a quotient of two numbers that were widened from as many bits.
+pub fn low_quotient(terms: &Terms, q: TermId, width: u32) -> Option<Form>
+    requires { q.index < length terms.now }
+    ensures { IfSome result (IsLow terms.now q width) }
+{
+    terms.values_fit();
+    match term(terms, q) {
+        Term::Binary(BinaryOp::Udiv, a, b, _) => {
+            let first = before_widening(terms, a)?;
+            let second = before_widening(terms, b)?;
+            if terms.width(first) == width && terms.width(second) == width {
+                Some(quotient(terms, first, second))
+            } else {
+                None
+            }
+        }
+        _ => None,
     }
 }

@@ -12,6 +12,7 @@ ghost use Rattle.known_values.specs.Weight.{weight_of};
 ghost use Rattle.term_rules.specs.Forms.{IsLow, IsNarrowing, IsOperation, Simplifies, operated, operation_tree};
 
 use crate::building::build;
+use crate::divisions::low_quotient;
 use crate::form::Form;
 use crate::reading::term;
 use crate::widths::{part, widened, widened_signed};
@@ -104,7 +105,8 @@ fn turned(kind: Kind) -> Kind
     }
 }
 
-/// The low `width` bits of a term that was widened from at most `width`, or is a constant.
+/// The low `width` bits of a term that was widened from at most `width`, is a constant, or is a
+/// quotient of numbers that were widened from `width`.
 fn narrow(terms: &Terms, a: TermId, width: u32) -> Option<Form>
     requires a { a.index < length terms.now }
     requires least { 1 ≤ width }
@@ -124,6 +126,7 @@ fn narrow(terms: &Terms, a: TermId, width: u32) -> Option<Form>
         Term::Sext { a: inner, .. } if terms.width(inner) <= width => Some(widened_signed(
             terms, inner, width,
         )),
+        Term::Binary(BinaryOp::Udiv, ..) => low_quotient(terms, a, width),
         _ => None,
     }
 }

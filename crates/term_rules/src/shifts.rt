@@ -7,6 +7,7 @@ ghost use Rattle.bv_terms.specs.Tree.{width_of};
 ghost use Rattle.bv_terms.specs.Trees.{tree_in};
 ghost use Rattle.term_rules.specs.Forms.{Simplifies};
 
+use crate::bounds::has_no_sign;
 use crate::form::Form;
 use crate::reading::number;
 use bv_terms::{BinaryOp, Term, TermId, Terms};
@@ -51,6 +52,9 @@ pub fn arithmetic_right(terms: &Terms, a: TermId, b: TermId) -> Form
 {
     terms.values_fit();
     let width = terms.width(a);
+    if has_no_sign(terms, a) {
+        return logical_right(terms, a, b);
+    }
     match number(terms, b) {
         Some(count) if count == 0 => Form::Known(a),
         _ => Form::Built(Term::Binary(BinaryOp::Ashr, a, b, width)),

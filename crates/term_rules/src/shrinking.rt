@@ -23,7 +23,7 @@ pub struct Shrunk {
 }
 
 /// The term that was widened with zeros to this one.
-fn before_widening(terms: &Terms, a: TermId) -> Option<TermId>
+pub fn before_widening(terms: &Terms, a: TermId) -> Option<TermId>
     requires { a.index < length terms.now }
     ensures { IfSome result (IsWidened terms.now a) }
 {

@@ -6,6 +6,7 @@ ghost use Rattle.bv_terms.specs.Tree.{width_of};
 ghost use Rattle.bv_terms.specs.Trees.{term_at, tree_in};
 ghost use Rattle.term_rules.specs.Forms.{IsSamePart, Simplifies};
 
+use crate::bounds::{has_no_sign, most};
 use crate::form::Form;
 use crate::reading::{number, term};
 use bv_terms::{Term, TermId, Terms};
@@ -85,16 +86,12 @@ fn innermost(terms: &Terms, a: TermId, from: u32, width: u32) -> BitRange
     at
 }
 
-/// Whether the term plainly is 0 from bit `from` on.
+/// Whether the term surely is 0 from bit `from` on.
 fn ends_below(terms: &Terms, a: TermId, from: u32) -> bool
     requires { a.index < length terms.now }
     ensures { IsTrue result → (v : ℕ → ℕ → ℕ) → term_at v terms.now a < 2 ^ from }
 {
-    terms.values_fit();
-    match term(terms, a) {
-        Term::Zext { a: inner, .. } => terms.width(inner) <= from,
-        _ => false,
-    }
+    from < 128 && most(terms, a) < 1 << from
 }
 
 /// `width` bits of `a` from bit `from` on.
@@ -141,13 +138,10 @@ pub fn widened_signed(terms: &Terms, a: TermId, width: u32) -> Form
     if width == from {
         return Form::Known(a);
     }
-    match term(terms, a) {
-        Term::Zext { a: inner, .. } if terms.width(inner) < from => Form::Built(Term::Zext {
-            a: inner,
-            width,
-        }),
-        _ => Form::Built(Term::Sext { a, from, width }),
+    if has_no_sign(terms, a) {
+        return widened(terms, a, width);
     }
+    Form::Built(Term::Sext { a, from, width })
 }
 
 /// Two parts of one term, the second right below the first, as one part of it.

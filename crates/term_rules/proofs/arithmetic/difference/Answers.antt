@@ -1,3 +1,4 @@
+use Rattle.term_rules.proofs.MagnitudeRules.{difference_of_taken}
 use Rattle.term_rules.proofs.SumRules.{difference_of_rest, difference_with_number}
 use Rattle.term_rules.proofs.DifferenceRules.{difference_is}
 use Rattle.term_rules.proofs.arithmetic.difference.Goals as goal
@@ -13,3 +14,7 @@ returns-in-Some-rest_of_sum c = difference_of_rest c.args.terms.now c.args.a c.a
 pub returns-in-Some-known_difference : goal.returns-in-Some-known_difference
 returns-in-Some-known_difference c = difference_is c.args.terms.now c.args.a c.args.b c.in-Some-known_difference.value c.values_fit.ensures c.requires.b c.requires.alike c.in-Some-known_difference.ensures
     c.width-width.result c.width-width.ensures.range c.width-width.ensures.width c.requires.a
+
+pub returns-in-Some-taken_from : goal.returns-in-Some-taken_from
+returns-in-Some-taken_from c = difference_of_taken c.args.terms.now c.args.a c.args.b c.in-Some-taken_from.taken c.values_fit.ensures c.requires.a c.requires.alike
+    c.in-Some-taken_from.ensures
