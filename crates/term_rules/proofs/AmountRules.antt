@@ -86,10 +86,10 @@ module _ (w : ℕ) where
       sym (ap (λ k. (b + k) % 2 ^ w) e ∙ (add-mod-mod b (a + (2 ^ w - b)) (2 ^ w)
       ∙ (ap (λ k. k % 2 ^ w) (let whole : b + (a + (2 ^ w - b)) ≡ a + 2 ^ w = omega (arith, lb) in whole) ∙ (add-mod_right a (2 ^ w) ∙ mod-eq_of_lt la))))
 
-  pub difference_found : (a b d none one work sum by : ℕ) → a < 2 ^ w → b < 2 ^ w → none ≡ 0 → one ≡ 1
-      → AddsTo w none work (one * ((a + (2 ^ w - b)) % 2 ^ w)) → AddsTo w none sum work → sum ≡ by → d ≡ by % 2 ^ w → a ≡ (b + d) % 2 ^ w
-  difference_found a b d none one work sum by la lb nothing single put all known cut =
+  pub difference_found : (a b none one work sum : ℕ) → none ≡ 0 → one ≡ 1
+      → AddsTo w none work (one * ((a + (2 ^ w - b)) % 2 ^ w)) → AddsTo w none sum work → sum % 2 ^ w ≡ (a + (2 ^ w - b)) % 2 ^ w
+  difference_found a b none one work sum nothing single put all =
       let n = (a + (2 ^ w - b)) % 2 ^ w in
       let first : (none + one * n) % 2 ^ w ≡ n % 2 ^ w = ap (λ k. k % 2 ^ w) (ap (λ k. k + one * n) nothing ∙ (ap (λ k. 0 + k * n) single ∙ (let e : 0 + 1 * n ≡ n = omega arith in e))) in
       let second : (none + work) % 2 ^ w ≡ work % 2 ^ w = ap (λ k. k % 2 ^ w) (ap (λ k. k + work) nothing ∙ (let e : 0 + work ≡ work = omega arith in e)) in
-      difference_known a b d la lb (cut ∙ (ap (λ k. k % 2 ^ w) (sym known) ∙ (all ∙ (second ∙ (put ∙ (first ∙ mod-mod (a + (2 ^ w - b)) (2 ^ w)))))))
+      all ∙ (second ∙ (put ∙ (first ∙ mod-mod (a + (2 ^ w - b)) (2 ^ w))))

@@ -1,10 +1,11 @@
 -- The values of sums of products.
-use Rattle.std.specs.Prelude.{ℕ, ◌≡◌, ◌<◌, ◌+◌, ◌*◌, ◌%◌, ◌^◌, List, [], ◌∷◌}
+use Rattle.std.specs.Prelude.{ℕ, ◌≡◌, ◌<◌, ◌+◌, ◌-◌, ◌*◌, ◌%◌, ◌^◌, All, List, [], ◌∷◌}
 use Rattle.bv_terms.specs.declared.term.Term.{Term}
 use Rattle.bv_terms.specs.declared.term.TermId.{TermId}
 use Rattle.bv_terms.specs.Tree.{quotient, shifted_left, width_of}
-use Rattle.bv_terms.specs.Trees.{term_at, tree_in}
+use Rattle.bv_terms.specs.Trees.{bit_at, term_at, tree_in}
 use Rattle.term_rules.specs.declared.expanding.Product.{Product}
+use Rattle.term_rules.specs.declared.facts.Fact.{Fact}
 use Rattle.term_rules.specs.declared.monomials.Factor.{Factor}
 use Rattle.term_rules.specs.declared.monomials.Factor.TheVariants as factor
 use Rattle.term_rules.specs.declared.monomials.Monomial.{Monomial}
@@ -41,6 +42,20 @@ module _ (v : ℕ → ℕ → ℕ) (terms : List Term) (width : ℕ) where
   abbrev pub work_value : List Product → ℕ
   work_value [] = 0
   work_value (p ∷ ps) = product_value p + work_value ps
+
+-- each condition is as the facts say
+abbrev pub AreTrue : (ℕ → ℕ → ℕ) → List Term → List Fact → Type 0
+AreTrue v terms facts = All (λ f. bit_at v terms (record { index = f.condition }) ≡ f.holds) facts
+
+-- the number is the first term without the second, modulo 2 to the power of their width
+abbrev pub IsDifferenceOf : (ℕ → ℕ → ℕ) → List Term → (a b : TermId) → ℕ → Type 0
+IsDifferenceOf v terms a b n = n % 2 ^ width_of (tree_in terms a)
+    ≡ (term_at v terms a + (2 ^ width_of (tree_in terms a) - term_at v terms b)) % 2 ^ width_of (tree_in terms a)
+
+-- where the facts are true, the first is the second with this number, added at its width
+pub record IsDifferenceWhere (terms : List Term) (facts : List Fact) (a b : TermId) (n : ℕ) : Type 0 where
+  pub fits : n < 2 ^ width_of (tree_in terms a)
+  pub says : (v : ℕ → ℕ → ℕ) → AreTrue v terms facts → term_at v terms a ≡ (term_at v terms b + n) % 2 ^ width_of (tree_in terms a)
 
 -- the first is the second with this number, added at its width
 pub record IsDifference (terms : List Term) (a b : TermId) (n : ℕ) : Type 0 where

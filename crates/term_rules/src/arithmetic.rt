@@ -7,7 +7,7 @@ ghost use Rattle.bv_terms.specs.Tree.{width_of};
 ghost use Rattle.bv_terms.specs.Trees.{IsWidth, tree_in};
 ghost use Rattle.term_rules.specs.Forms.{AreOperands, IsNumber, IsPart, IsRest, IsTakenFrom, Simplifies};
 
-use crate::expanding::known_difference;
+use crate::differences::known_difference;
 use crate::form::Form;
 use crate::multiples::dividend;
 use crate::reading::{are_in_order, number, term};

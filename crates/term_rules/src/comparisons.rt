@@ -9,8 +9,8 @@ ghost use Rattle.term_rules.specs.Forms.{Simplifies};
 
 use crate::bounds::{has_no_sign, is_below_number, is_remainder_by, is_sum_with, leaves};
 use crate::complements::are_inverse;
+use crate::differences::known_difference;
 use crate::equalities::are_equal_terms;
-use crate::expanding::known_difference;
 use crate::form::Form;
 use crate::reading::{are_in_order, number};
 use bv_terms::{BinaryOp, Term, TermId, Terms};

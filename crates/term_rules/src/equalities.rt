@@ -4,7 +4,7 @@ ghost use Rattle.std.specs.Prelude.{◌≡◌, ◌<◌, ℕ, IsTrue, length};
 ghost use Rattle.bv_terms.specs.Tree.{width_of};
 ghost use Rattle.bv_terms.specs.Trees.{term_at, tree_in};
 
-use crate::expanding::known_difference;
+use crate::differences::known_difference;
 use crate::reading::term;
 use bv_terms::{Term, TermId, Terms};
 

@@ -8,8 +8,9 @@ ghost use Rattle.std.specs.Prelude.{◌≡◌, ◌<◌, ◌+◌, ◌-◌, ◌*�
 ghost use Rattle.bv_terms.specs.declared.term.Term.{Term as TermNow};
 ghost use Rattle.bv_terms.specs.Tree.{remainder, shifted_left, width_of};
 ghost use Rattle.bv_terms.specs.Trees.{IsWidth, term_at, tree_in};
-ghost use Rattle.term_rules.specs.Polynomials.{AddsTo, IsDifference, factor_value, product_value, sum_value, work_value};
+ghost use Rattle.term_rules.specs.Polynomials.{AddsTo, AreTrue, IsDifferenceOf, factor_value, product_value, sum_value, work_value};
 
+use crate::facts::{Fact, known_by_facts};
 use crate::monomials::{FACTORS, Factor, MONOMIALS, Monomial, add, with_factor};
 use crate::reading::{number, term};
 use arrayvec::ArrayVec;
@@ -80,6 +81,21 @@ fn put_term(
     let mut made = times(product, by, width)?;
     made.pending.try_push(a.index).ok()?;
     work.try_push(made).ok()?;
+    Some(())
+}
+
+/// Adds the product times a term.
+fn put_same(
+    work: &mut ArrayVec<Product, PRODUCTS>,
+    product: &Product,
+    a: TermId,
+    width: u32,
+) -> Option<()>
+    requires { IsWidth width }
+    ensures { IfSome result (λ _. (v : ℕ → ℕ → ℕ) (terms : List TermNow) →
+        AddsTo width (work_value v terms width work.old.items) (work_value v terms width work.new.items) (product_value v terms width product.now * term_at v terms a)) }
+{
+    put_term(work, product, 1, a, width)?;
     Some(())
 }
 
@@ -231,9 +247,10 @@ fn put_shifted(
     Some(())
 }
 
-/// Adds the product times a term of the width.
+/// Adds the product times a term of the width, where the facts are true.
 fn put_expanded(
     terms: &Terms,
+    facts: &[Fact],
     work: &mut ArrayVec<Product, PRODUCTS>,
     product: &Product,
     a: TermId,
@@ -241,7 +258,7 @@ fn put_expanded(
 ) -> Option<()>
     requires within { a.index < length terms.now }
     requires wide { width_of (tree_in terms.now a) ≡ width }
-    ensures { IfSome result (λ _. (v : ℕ → ℕ → ℕ) →
+    ensures { IfSome result (λ _. (v : ℕ → ℕ → ℕ) → AreTrue v terms.now facts.now →
         AddsTo width (work_value v terms.now width work.old.items) (work_value v terms.now width work.new.items)
         (product_value v terms.now width product.now * term_at v terms.now a)) }
 {
@@ -262,6 +279,11 @@ fn put_expanded(
             width,
         ),
         Term::Zext { a: inner, .. } => put_factor(work, product, Factor::Term(inner), width),
+        Term::Ite { c, a: x, b: y, .. } => match known_by_facts(terms, facts, c) {
+            Some(true) => put_same(work, product, x, width),
+            Some(false) => put_same(work, product, y, width),
+            None => put_factor(work, product, Factor::Term(a), width),
+        },
         _ => put_factor(work, product, Factor::Term(a), width),
     }
 }
@@ -270,13 +292,14 @@ fn put_expanded(
 /// of its terms is looked into to the work.
 fn put_further(
     terms: &Terms,
+    facts: &[Fact],
     work: &mut ArrayVec<Product, PRODUCTS>,
     sum: &mut ArrayVec<Monomial, MONOMIALS>,
     product: Product,
     width: u32,
 ) -> Option<()>
     requires { IsWidth width }
-    ensures { IfSome result (λ _. (v : ℕ → ℕ → ℕ) →
+    ensures { IfSome result (λ _. (v : ℕ → ℕ → ℕ) → AreTrue v terms.now facts.now →
         AddsTo width (work_value v terms.now width work.old.items + sum_value v terms.now width sum.old.items)
         (work_value v terms.now width work.new.items + sum_value v terms.now width sum.new.items)
         (product_value v terms.now width product)) }
@@ -295,68 +318,46 @@ fn put_further(
             if index >= terms.as_slice().len() || terms.width(a) != width {
                 return None;
             }
-            put_expanded(terms, work, &rest, a, width)?;
+            put_expanded(terms, facts, work, &rest, a, width)?;
         }
     }
     Some(())
 }
 
-/// Adds what is in the work to the sum.
+/// Adds what is in the work to the sum, where the facts are true.
 fn expand(
     terms: &Terms,
+    facts: &[Fact],
     work: &mut ArrayVec<Product, PRODUCTS>,
     sum: &mut ArrayVec<Monomial, MONOMIALS>,
     width: u32,
 ) -> Option<()>
     requires { IsWidth width }
-    ensures { IfSome result (λ _. (v : ℕ → ℕ → ℕ) →
+    ensures { IfSome result (λ _. (v : ℕ → ℕ → ℕ) → AreTrue v terms.now facts.now →
         AddsTo width (sum_value v terms.now width sum.old.items) (sum_value v terms.now width sum.new.items) (work_value v terms.now width work.old.items)) }
 {
     for _ in 0..STEPS {
         match work.pop() {
             None => return Some(()),
-            Some(product) => put_further(terms, work, sum, product, width)?,
+            Some(product) => put_further(terms, facts, work, sum, product, width)?,
         }
     }
     None
 }
 
-/// The number that a sum is, if it has no factors.
-fn number_of(sum: &[Monomial]) -> Option<u128>
-    ensures { IfSome result (λ n. (v : ℕ → ℕ → ℕ) (terms : List TermNow) (width : ℕ) → sum_value v terms width sum.now ≡ n) }
-{
-    match sum {
-        [] => Some(0),
-        [only] if only.factors.is_empty() => Some(only.coefficient),
-        _ => None,
-    }
-}
-
-/// Whether the term is looked into.
-fn is_looked_into(terms: &Terms, a: TermId) -> bool
-    requires { a.index < length terms.now }
-{
-    match term(terms, a) {
-        Term::Not { .. } | Term::Zext { .. } => true,
-        Term::Binary(op, ..) => match op {
-            BinaryOp::Add | BinaryOp::Sub | BinaryOp::Mul | BinaryOp::Shl | BinaryOp::Urem => true,
-            _ => false,
-        },
-        _ => false,
-    }
-}
-
-/// The number by which the first is greater than the second, modulo 2 to the power of their width, if
-/// their sums show it.
-pub fn known_difference(terms: &Terms, a: TermId, b: TermId) -> Option<u128>
+/// The first term without the second as a sum, where the facts are true.
+pub fn difference_as_sum(
+    terms: &Terms,
+    facts: &[Fact],
+    a: TermId,
+    b: TermId,
+) -> Option<ArrayVec<Monomial, MONOMIALS>>
     requires a { a.index < length terms.now }
     requires b { b.index < length terms.now }
     requires alike { width_of (tree_in terms.now a) ≡ width_of (tree_in terms.now b) }
-    ensures { IfSome result (IsDifference terms.now a b) }
+    ensures { IfSome result (λ sum. (v : ℕ → ℕ → ℕ) → AreTrue v terms.now facts.now →
+        IsDifferenceOf v terms.now a b (sum_value v terms.now (width_of (tree_in terms.now a)) sum.items)) }
 {
-    if !is_looked_into(terms, a) && !is_looked_into(terms, b) {
-        return None;
-    }
     terms.values_fit();
     let width = terms.width(a);
     let one = Product {
@@ -367,7 +368,6 @@ pub fn known_difference(terms: &Terms, a: TermId, b: TermId) -> Option<u128>
     let mut work = ArrayVec::new();
     put_difference(&mut work, &one, a, b, width)?;
     let mut sum = ArrayVec::new();
-    expand(terms, &mut work, &mut sum, width)?;
-    let by = number_of(sum.as_slice())?;
-    Some(numbers::cut(by, width))
+    expand(terms, facts, &mut work, &mut sum, width)?;
+    Some(sum)
 }

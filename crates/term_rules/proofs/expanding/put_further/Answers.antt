@@ -9,7 +9,7 @@ use Rattle.term_rules.proofs.expanding.put_further.Goals as goal
 pub returns-in_ok-add-in-None : goal.returns-in_ok-add-in-None
 returns-in_ok-add-in-None c =
     let none : c.args.product.pending.items ≡ [] = search rules in
-    λ v.
+    λ v hold.
     let w = c.args.width in
     let terms = c.args.terms.now in
     let n = c.args.product.coefficient * factors_value v terms w c.args.product.factors.items in
@@ -21,7 +21,7 @@ returns-in_ok-add-in-None c =
 pub returns-in_ok-put_expanded-in-Some : goal.returns-in_ok-put_expanded-in-Some
 returns-in_ok-put_expanded-in-Some c =
     let last : c.args.product.pending.items ≡ c.pop.new.self.items ++ c.in-Some.index ∷ [] = search rules in
-    λ v.
+    λ v hold.
     let w = c.args.width in
     let terms = c.args.terms.now in
     let rest : Product = record { coefficient = c.args.product.coefficient; factors = c.args.product.factors; pending = c.pop.new.self } in
