@@ -14,3 +14,4 @@ pub mod MultipleRules
 pub mod BoundRules
 pub mod DivisionRules
 pub mod MagnitudeRules
+pub mod SignedRules

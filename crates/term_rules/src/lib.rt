@@ -30,6 +30,7 @@ mod possible;
 mod reading;
 mod shifts;
 mod shrinking;
+mod signed_divisions;
 mod widths;
 
 pub use builders::{
