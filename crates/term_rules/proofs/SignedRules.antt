@@ -4,6 +4,7 @@ use Rattle.bv_terms.specs.declared.term.BinaryOp.TheVariants as op
 use Rattle.bv_terms.specs.Tree as tree
 use Rattle.term_rules.specs.declared.signed_divisions.SignedDivision.{SignedDivision}
 use Rattle.term_rules.proofs.MultipleRules.{multiple_and_rest, part-of}
+use Rattle.term_rules.proofs.Simplifying.{same_tree}
 use Rattle.term_rules.proofs.SumRules.{add-cancel}
 
 -- ---- numbers
@@ -130,6 +131,40 @@ signed_quotient terms q c opposite size s t a b n d range is lz wz ls ws bit hea
           ∙ (ap (λ k. cond sb ((m - (k * y) % m) % m) ((k * y) % m)) whole
           ∙ ap (λ (z : Tree). cond (truth (value_of v z)) ((m - (quotient w x y * y) % m) % m) ((quotient w x y * y) % m)) (sym sign))));
       least = omega (arith, ap weight_of is, ap weight_of sign, heavy, turned.least, h.least);
+    }
+
+negated_where : (m u y : ℕ) (s : Bool) → u < m → (cond s ((m - u) % m) u * y) % m ≡ cond s ((m - (u * y) % m) % m) ((u * y) % m)
+negated_where m u y true lt = negated_product m u y lt
+negated_where m u y false lt = refl
+
+pub quotient_by_unsigned : (terms : List Term) (q c opposite size first second a b : TermId) (n k : ℕ) → AreInRange terms
+    → tree.Ite (tree_in terms c) (tree_in terms opposite) (tree_in terms size) n ≡ tree_in terms q → tree.Binary op.Udiv (tree_in terms first) (tree_in terms second) k ≡ tree_in terms size
+    → c.index < length terms → width_of (tree_in terms c) ≡ 1 → size.index < length terms → width_of (tree_in terms size) ≡ n
+    → first.index < length terms → second.index < length terms → width_of (tree_in terms first) ≡ k → width_of (tree_in terms second) ≡ k
+    → second.index ≡ b.index → IsOpposite terms opposite size → IsMagnitude terms a c first → IsSignedQuotient terms q a b (record { sign = c; first = first; second = second })
+quotient_by_unsigned terms q c opposite size first second a b n k range is by lc wc lz wz lf ls wf ws same turned magnitude =
+    let w = width_of (tree_in terms q) in
+    let e : width_of (tree_in terms size) ≡ w = wz ∙ ap width_of is in
+    let narrow : k ≡ w = ap width_of by ∙ e in
+    record {
+      sign = record { within = lc; wide = wc };
+      left = record { within = lf; wide = wf ∙ narrow };
+      right = record { within = ls; wide = ws ∙ narrow };
+      first = magnitude;
+      says = λ lb v.
+          let m = 2 ^ w in
+          let u = term_at v terms size in
+          let x = term_at v terms first in
+          let y = term_at v terms second in
+          let s = bit_at v terms c in
+          let lu : u < m = subst (λ j. u < 2 ^ j) e (range v size lz) in
+          let value : term_at v terms q ≡ cond s ((m - u) % m) u =
+          ap (value_of v) (sym is) ∙ (ap (λ j. cond s j u) (turned.says v) ∙ ap (λ j. cond s ((2 ^ j - u) % 2 ^ j) u) e) in
+          let whole : u ≡ quotient w x y = ap (value_of v) (sym by) ∙ ap (λ j. quotient j x y) narrow in
+          ap (λ j. (j * term_at v terms b) % m) value
+          ∙ (ap (λ (z : Tree). (cond s ((m - u) % m) u * value_of v z) % m) (sym (same_tree terms second b same))
+          ∙ (negated_where m u y s lu ∙ ap (λ j. cond s ((m - (j * y) % m) % m) ((j * y) % m)) whole));
+      least = omega (arith, ap weight_of is, ap weight_of by, turned.least);
     }
 
 module _ (terms : List Term) (c s t : TermId) (range : AreInRange terms) (is : tree.Binary op.Xor (tree_in terms s) (tree_in terms t) 1 ≡ tree_in terms c)

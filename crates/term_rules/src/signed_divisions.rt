@@ -76,8 +76,8 @@ fn sizes_divided(
     }
 }
 
-/// The parts of the quotient of the two, if `q` plainly is that.
-fn signed_quotient(terms: &Terms, q: TermId, a: TermId, b: TermId) -> Option<SignedDivision>
+/// The parts of the quotient of two numbers with signs, if `q` plainly is that.
+fn quotient_by_signed(terms: &Terms, q: TermId, a: TermId, b: TermId) -> Option<SignedDivision>
     requires q { q.index < length terms.now }
     requires a { a.index < length terms.now }
     requires b { b.index < length terms.now }
@@ -106,6 +106,53 @@ fn signed_quotient(terms: &Terms, q: TermId, a: TermId, b: TermId) -> Option<Sig
         },
         _ => None,
     }
+}
+
+/// The parts of the quotient by a number without a sign, if `q` plainly is that.
+fn quotient_by_unsigned(terms: &Terms, q: TermId, a: TermId, b: TermId) -> Option<SignedDivision>
+    requires q { q.index < length terms.now }
+    requires a { a.index < length terms.now }
+    requires b { b.index < length terms.now }
+    ensures { IfSome result (IsSignedQuotient terms.now q a b) }
+{
+    terms.values_fit();
+    match term(terms, q) {
+        Term::Ite {
+            c,
+            a: opposite,
+            b: size,
+            ..
+        } => match term(terms, size) {
+            Term::Binary(BinaryOp::Udiv, first, second, _) if second.index == b.index => {
+                if is_opposite(terms, opposite, size) {
+                    if has_magnitude(terms, a, c, first) {
+                        return Some(SignedDivision {
+                            sign: c,
+                            first,
+                            second,
+                        });
+                    }
+                }
+                None
+            }
+            _ => None,
+        },
+        _ => None,
+    }
+}
+
+/// The parts of the quotient of the two, if `q` plainly is that.
+fn signed_quotient(terms: &Terms, q: TermId, a: TermId, b: TermId) -> Option<SignedDivision>
+    requires q { q.index < length terms.now }
+    requires a { a.index < length terms.now }
+    requires b { b.index < length terms.now }
+    ensures { IfSome result (IsSignedQuotient terms.now q a b) }
+{
+    let found = quotient_by_unsigned(terms, q, a, b);
+    if found.is_some() {
+        return found;
+    }
+    quotient_by_signed(terms, q, a, b)
 }
 
 /// The parts of the quotient of the first by some divisor, if the second plainly is that quotient

@@ -2,7 +2,7 @@ use Rattle.term_rules.proofs.Common.{refl, ap, arith, subst, ◌∙◌, ◌≡�
 use Rattle.bv_terms.specs.declared.term.BinaryOp.TheVariants as op
 use Rattle.bv_terms.specs.Tree as tree
 use Rattle.term_rules.proofs.SignedRules.{signed_quotient, xor_bit, xor_bit_turned}
-use Rattle.term_rules.proofs.signed_divisions.signed_quotient.Goals as goal
+use Rattle.term_rules.proofs.signed_divisions.quotient_by_signed.Goals as goal
 
 pub returns-in-Some : goal.returns-in-Some
 returns-in-Some c =
