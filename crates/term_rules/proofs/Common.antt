@@ -1,6 +1,6 @@
 -- What proofs of this crate cite of std, of other crates and of its definitions, passed on from one place. Declares nothing.
 pub use Rattle.std.proofs.Common.{ap, ℕ, ◌≡◌, ◌<◌, ◌+◌, ◌-◌, ◌^◌, List, length, arith, ◌∙◌, sym, subst, ◌*◌, ◌%◌, zero, suc, ◌≤◌, [], ◌∷◌, ◌++◌, get_or, slice_get, Some, cond, refl, ◌/◌, false, Bool, true, eqb, not, inl, inr, lit<}
-pub use Rattle.std.proofs.Math.Nat.{add-mod-mod, mod-add-mod, mul_comm, add-mod_right, mod-eq_of_lt, pow-suc, div-eq_of_lt, div-one, zero-mod, mod_self, mod-le, mul-le-mul_right, mul-pos, mul-mod_left, mod-mod_of_dvd, div-div-eq-div-mul, div-le_self, div-eq_of_lt-le, mul-div_cancel, add-mul, add-mul-mod_self_right, lt_of_mul-lt-mul_right, mod-lt}
+pub use Rattle.std.proofs.Math.Nat.{add-mod-mod, mod-add-mod, mul_comm, add-mod_right, mod-eq_of_lt, pow-suc, div-eq_of_lt, div-one, zero-mod, mod_self, mod-le, mul-le-mul_right, mul-pos, mul-mod_left, mul-mod_right, mod-mod_of_dvd, div-div-eq-div-mul, div-le_self, div-eq_of_lt-le, mul-div_cancel, add-mul, add-mul-mod_self_right, lt_of_mul-lt-mul_right, mod-lt}
 pub use Rattle.std.proofs.Math.Pow.{mod-mod-pow}
 pub use Rattle.std.proofs.lemmas.Bool.{lt-ltb, lt-leb, leb-true, eqb-true, ne_eqb, cases_eq, cases_lt, le-leb, le-ltb, ltb-true}
 pub use Rattle.std.proofs.lemmas.Nat.Gcd.{dvd_of_mod-eq-zero}
@@ -16,7 +16,7 @@ pub use Rattle.bv_terms.specs.declared.term.Term.{Term}
 pub use Rattle.bv_terms.specs.declared.term.TermId.{TermId}
 pub use Rattle.known_values.proofs.Cuts.{pow-le}
 pub use Rattle.known_values.specs.Weight.{weight_of}
-pub use Rattle.term_rules.specs.Forms.{IsAndPart, IsOrPart, Simplifies, IsCofactor, IsFactored, IsPart, IsRest, IsMultiple, IsWhole, IsDivided, IsReduced, IsReducedFrom, IsTakenFrom, IsSign, IsSigned, IsOpposite, IsTurned, IsWidened, IsShrunk, IsTaken, form_tree, IsLow, IsNarrowing, IsOperation, operated, IsSamePart, IsArm}
+pub use Rattle.term_rules.specs.Forms.{IsAndPart, IsOrPart, Simplifies, IsCofactor, IsFactored, IsPart, IsRest, IsMultiple, IsWhole, IsDivided, IsReduced, IsReducedFrom, IsTakenFrom, IsSign, IsSigned, IsMagnitude, IsSizes, IsSignedQuotient, IsSignedMultiple, signed_multiple, IsOpposite, IsTurned, IsWidened, IsShrunk, IsTaken, form_tree, IsLow, IsNarrowing, IsOperation, operated, IsSamePart, IsArm}
 pub use Rattle.term_rules.specs.declared.widths.BitRange.{BitRange}
 pub use Rattle.term_rules.specs.declared.form.Form.{Form}
 pub use Rattle.term_rules.specs.declared.form.Form.TheVariants.{Known, Shifted, Built, Divided, Nonzero}

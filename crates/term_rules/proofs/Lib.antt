@@ -17,3 +17,4 @@ pub mod MultipleRules
 pub mod BoundRules
 pub mod DivisionRules
 pub mod MagnitudeRules
+pub mod SignedRules

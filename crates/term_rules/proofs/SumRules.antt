@@ -12,7 +12,7 @@ add-twice x a b m =
     mod-add-mod (x + a) m b
     ∙ (ap (λ k. k % m) (let e : x + a + b ≡ x + (a + b) = omega arith in e) ∙ sym (add-mod-mod x (a + b) m))
 
-add-cancel : (x b m : ℕ) → x < m → b < m → ((x + b) % m + (m - b)) % m ≡ x
+pub add-cancel : (x b m : ℕ) → x < m → b < m → ((x + b) % m + (m - b)) % m ≡ x
 add-cancel x b m lx lb =
     mod-add-mod (x + b) m (m - b)
     ∙ (ap (λ k. k % m) (let e : x + b + (m - b) ≡ x + m = omega (arith, lb) in e) ∙ (add-mod_right x m ∙ mod-eq_of_lt lx))

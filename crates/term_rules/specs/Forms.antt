@@ -17,6 +17,7 @@ use Rattle.term_rules.specs.declared.low_bits.Narrowing.{Narrowing}
 use Rattle.term_rules.specs.declared.low_bits.Operation.{Operation}
 use Rattle.term_rules.specs.declared.nested_divisions.Division.{Division}
 use Rattle.term_rules.specs.declared.shrinking.Shrunk.{Shrunk}
+use Rattle.term_rules.specs.declared.signed_divisions.SignedDivision.{SignedDivision}
 use Rattle.term_rules.specs.declared.widths.BitRange.{BitRange}
 
 -- a term that is there, one over terms that are there, the sum of one with a number, one shifted left or divided by a number, or whether one is not 0
@@ -253,6 +254,46 @@ pub record IsTurned (terms : List Term) (c a b : TermId) : Type 0 where
   pub says : (v : ℕ → ℕ → ℕ) → cond (is_negative (width_of (tree_in terms a)) (term_at v terms a)) (term_at v terms b) (term_at v terms a)
       ≡ cond (bit_at v terms c) (term_at v terms a) (term_at v terms b)
   pub least : 1 + weight_of (tree_in terms a) ≤ weight_of (tree_in terms c)
+
+-- the term is the first, or its opposite where the sign is true
+pub record IsMagnitude (terms : List Term) (a sign size : TermId) : Type 0 where
+  pub alike : width_of (tree_in terms size) ≡ width_of (tree_in terms a)
+  pub says : (v : ℕ → ℕ → ℕ) → term_at v terms size
+      ≡ cond (bit_at v terms sign) ((2 ^ width_of (tree_in terms a) - term_at v terms a) % 2 ^ width_of (tree_in terms a)) (term_at v terms a)
+
+-- the first is the quotient of the magnitudes of a and b, of which the signs are s and t
+pub record IsSizes (terms : List Term) (size s t a b : TermId) (d : SignedDivision) : Type 0 where
+  pub sign : d.sign ≡ s
+  pub within : (d.first.index < length terms) × (d.second.index < length terms)
+  pub wide : (width_of (tree_in terms d.first) ≡ width_of (tree_in terms size)) × (width_of (tree_in terms d.second) ≡ width_of (tree_in terms size))
+  pub first : IsMagnitude terms a s d.first
+  pub second : IsMagnitude terms b t d.second
+  pub says : (v : ℕ → ℕ → ℕ) → term_at v terms size ≡ quotient (width_of (tree_in terms size)) (term_at v terms d.first) (term_at v terms d.second)
+  pub least : 1 + weight_of (tree_in terms d.first) + weight_of (tree_in terms d.second) ≤ weight_of (tree_in terms size)
+
+-- the product of these magnitudes' quotient with the divisor, or its opposite where the sign is true
+abbrev pub signed_multiple : (terms : List Term) (v : ℕ → ℕ → ℕ) → SignedDivision → ℕ → ℕ
+signed_multiple terms v d width = cond (bit_at v terms d.sign)
+    ((2 ^ width - (quotient width (term_at v terms d.first) (term_at v terms d.second) * term_at v terms d.second) % 2 ^ width) % 2 ^ width)
+    ((quotient width (term_at v terms d.first) (term_at v terms d.second) * term_at v terms d.second) % 2 ^ width)
+
+-- the first is the quotient of a by b, in two's complement
+pub record IsSignedQuotient (terms : List Term) (q a b : TermId) (d : SignedDivision) : Type 0 where
+  pub sign : IsTerm terms 1 d.sign
+  pub left : IsTerm terms (width_of (tree_in terms q)) d.first
+  pub right : IsTerm terms (width_of (tree_in terms q)) d.second
+  pub first : IsMagnitude terms a d.sign d.first
+  pub says : b.index < length terms → (v : ℕ → ℕ → ℕ) → (term_at v terms q * term_at v terms b) % 2 ^ width_of (tree_in terms q) ≡ signed_multiple terms v d (width_of (tree_in terms q))
+  pub least : 5 + weight_of (tree_in terms d.sign) + 2 * (weight_of (tree_in terms d.first) + weight_of (tree_in terms d.second)) ≤ weight_of (tree_in terms q)
+
+-- the second is the quotient of the first by some divisor, times it, in two's complement
+pub record IsSignedMultiple (terms : List Term) (a b : TermId) (d : SignedDivision) : Type 0 where
+  pub sign : IsTerm terms 1 d.sign
+  pub left : IsTerm terms (width_of (tree_in terms b)) d.first
+  pub right : IsTerm terms (width_of (tree_in terms b)) d.second
+  pub first : IsMagnitude terms a d.sign d.first
+  pub says : (v : ℕ → ℕ → ℕ) → term_at v terms b ≡ signed_multiple terms v d (width_of (tree_in terms b))
+  pub least : 5 + weight_of (tree_in terms d.sign) + 2 * (weight_of (tree_in terms d.first) + weight_of (tree_in terms d.second)) ≤ weight_of (tree_in terms b)
 
 -- ---- parts of terms
 

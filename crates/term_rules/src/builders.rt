@@ -21,6 +21,7 @@ use crate::shrinking::{
     are_equal, is_greater, is_less, rest_of_ones, shrunk_by_number, shrunk_further, shrunk_pair,
     widened_inverse, widened_quotient, widened_remainder,
 };
+use crate::signed_divisions::{signed_multiple, signed_remainder};
 use crate::{arithmetic, bitwise, choices, comparisons, divisions, shifts, widths};
 use bv_terms::{Term, TermId, Terms};
 use support::NoMemory;
@@ -134,6 +135,10 @@ pub fn sub(terms: &mut Terms, a: TermId, b: TermId) -> Result<TermId, NoMemory>
     }
     if let Some(by) = divisor(terms, a, b) {
         let id = urem(terms, a, by)?;
+        return Ok(id);
+    }
+    if let Some(parts) = signed_multiple(terms, a, b) {
+        let id = signed_remainder(terms, parts)?;
         return Ok(id);
     }
     let form = arithmetic::difference(terms, a, b);

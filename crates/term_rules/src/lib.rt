@@ -3,11 +3,11 @@
 //! Each builder answers a term with the value of its operation under every assignment and with at
 //! most as many nodes as the operation itself. A rule is a function that looks at terms and answers
 //! a form: a term that is there, or one over terms that are there. Where a rule makes two
-//! operations, one over the other (`factors`, `low_bits`, `shrinking`), it finds their operands
-//! first and makes both by rules. The rules are those that solvers of bit vectors rewrite by
-//! (Bitwuzla, CAV 2023; Z3's rewriter; LLVM's InstCombine). It uses
-//! `bv_terms`, and `known_values` for operations on known numbers and for weights; the encoding of
-//! runs uses it.
+//! operations, one over the other (`factors`, `low_bits`, `magnitudes`, `shrinking`,
+//! `signed_divisions`), it finds their operands first and makes both by rules. The rules are those
+//! that solvers of bit vectors rewrite by (Bitwuzla, CAV 2023; Z3's rewriter; LLVM's InstCombine).
+//! It uses `bv_terms`, and `known_values` for operations on known numbers and for weights; the
+//! encoding of runs uses it.
 #![tactic(auto)]
 
 mod arithmetic;
@@ -35,6 +35,7 @@ mod possible;
 mod reading;
 mod shifts;
 mod shrinking;
+mod signed_divisions;
 mod widths;
 
 pub use builders::{

@@ -38,7 +38,7 @@ fn signed_term(terms: &Terms, c: TermId) -> Option<TermId>
 }
 
 /// Whether the first plainly is 0 without the second.
-fn is_opposite(terms: &Terms, a: TermId, b: TermId) -> bool
+pub fn is_opposite(terms: &Terms, a: TermId, b: TermId) -> bool
     requires a { a.index < length terms.now }
     requires b { b.index < length terms.now }
     ensures { IsTrue result → IsOpposite terms.now a b }
