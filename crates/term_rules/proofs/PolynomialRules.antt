@@ -40,6 +40,23 @@ module _ (v : ℕ → ℕ → ℕ) (terms : List Term) (w : ℕ) where
   pending_pushed [] i = omega arith
   pending_pushed (j ∷ is) i = omega (arith, ap (λ k. term_at v terms (record { index = j }) * k) (pending_pushed is i))
 
+  pending_append : (is js : List ℕ) → pending_value v terms w (is ++ js) ≡ pending_value v terms w is * pending_value v terms w js
+  pending_append [] js = omega arith
+  pending_append (i ∷ is) js = omega (arith, ap (λ k. term_at v terms (record { index = i }) * k) (pending_append is js))
+
+  pub pending_inserted : (is : List ℕ) (n i : ℕ) → pending_value v terms w (take n is ++ i ∷ drop n is) ≡ pending_value v terms w is * term_at v terms (record { index = i })
+  pending_inserted is n i =
+      let P : List ℕ → ℕ = pending_value v terms w in
+      let t = term_at v terms (record { index = i }) in
+      let whole : P (take n is) * P (drop n is) ≡ P is = sym (pending_append (take n is) (drop n is)) ∙ ap P (take-append-drop n is) in
+      pending_append (take n is) (i ∷ drop n is) ∙ omega (arith, ap (λ k. t * k) whole)
+
+  pub work_removed : (ps : List Product) (i : ℕ) (d : Product) → i < length ps
+      → work_value v terms w (take i ps ++ drop (suc i) ps) + product_value v terms w (get_or ps i d) ≡ work_value v terms w ps
+  work_removed [] i d lt = absurd (omega (arith, lt))
+  work_removed (p ∷ ps) zero d lt = omega arith
+  work_removed (p ∷ ps) (suc i) d lt = omega (arith, work_removed ps i d (omega (arith, lt)))
+
   pub work_pushed : (ps : List Product) (p : Product) → work_value v terms w (ps ++ p ∷ []) ≡ work_value v terms w ps + product_value v terms w p
   work_pushed [] p = omega arith
   work_pushed (q ∷ ps) p = omega (arith, work_pushed ps p)
@@ -103,10 +120,10 @@ module _ (v : ℕ → ℕ → ℕ) (terms : List Term) (w : ℕ) where
       let turned : p.coefficient * by * F p * P p ≡ product_value v terms w p * by = omega arith in
       ap (λ k. k % 2 ^ w) value ∙ (cut_times (2 ^ w) (p.coefficient * by) (F p) (P p) ∙ ap (λ k. k % 2 ^ w) turned)
 
-  pub times_term : (made more : Product) (a : TermId) (n : ℕ) → more.coefficient ≡ made.coefficient → more.factors.items ≡ made.factors.items → more.pending.items ≡ made.pending.items ++ a.index ∷ []
+  pub times_term : (made more : Product) (a : TermId) (n at : ℕ) → more.coefficient ≡ made.coefficient → more.factors.items ≡ made.factors.items → more.pending.items ≡ take at made.pending.items ++ a.index ∷ drop at made.pending.items
       → product_value v terms w made % 2 ^ w ≡ n % 2 ^ w → product_value v terms w more % 2 ^ w ≡ (n * term_at v terms a) % 2 ^ w
-  times_term made more a n number factors pending e =
-      let last : P more ≡ P made * term_at v terms a = ap (pending_value v terms w) pending ∙ pending_pushed v terms w made.pending.items a.index in
+  times_term made more a n at number factors pending e =
+      let last : P more ≡ P made * term_at v terms a = ap (pending_value v terms w) pending ∙ pending_inserted v terms w made.pending.items at a.index in
       let value : product_value v terms w more ≡ product_value v terms w made * term_at v terms a =
       ap (λ k. k * F more * P more) number
       ∙ (ap (λ k. made.coefficient * factors_value v terms w k * P more) factors
@@ -121,8 +138,27 @@ module _ (v : ℕ → ℕ → ℕ) (terms : List Term) (w : ℕ) where
       ∙ (ap (λ k. p.coefficient * (F p * factors_value v terms w (f ∷ [])) * pending_value v terms w k) pending
       ∙ (let turned : p.coefficient * (F p * (factor_value v terms w f * 1)) * P p ≡ product_value v terms w p * factor_value v terms w f = omega arith in turned)))
 
-  pub work_added : (old new : List Product) (made : Product) (n : ℕ) → new ≡ old ++ made ∷ [] → product_value v terms w made % 2 ^ w ≡ n % 2 ^ w
-      → AddsTo w (work_value v terms w old) (work_value v terms w new) n
-  work_added old new made n e same =
-      ap (λ k. work_value v terms w k % 2 ^ w) e ∙ (ap (λ k. k % 2 ^ w) (work_pushed v terms w old made)
-      ∙ same_plus (2 ^ w) (work_value v terms w old) (product_value v terms w made) n same)
+  -- one product is put in the place of another with its factors and terms
+  pub work_joined : (old new : List Product) (i : ℕ) (other p made : Product) → i < length old → get_or old i other ≡ other
+      → other.factors.items ≡ p.factors.items → other.pending.items ≡ p.pending.items
+      → made.coefficient ≡ (other.coefficient + p.coefficient) % 2 ^ w → made.factors.items ≡ p.factors.items → made.pending.items ≡ p.pending.items
+      → work_value v terms w new ≡ work_value v terms w (take i old ++ drop (suc i) old) + product_value v terms w made
+      → AddsTo w (work_value v terms w old) (work_value v terms w new) (product_value v terms w p)
+  work_joined old new i other p made lt found factors pending number same-factors same-pending put =
+      let rest = work_value v terms w (take i old ++ drop (suc i) old) in
+      let n = F p * P p in
+      let whole : rest + other.coefficient * F other * P other ≡ work_value v terms w old =
+      ap (λ (o : Product). rest + product_value v terms w o) (sym found) ∙ work_removed v terms w old i other lt in
+      let like : other.coefficient * F other * P other ≡ other.coefficient * n =
+      ap (λ k. other.coefficient * factors_value v terms w k * P other) factors
+      ∙ (ap (λ k. other.coefficient * F p * pending_value v terms w k) pending
+      ∙ (let turn : other.coefficient * F p * P p ≡ other.coefficient * (F p * P p) = omega arith in turn)) in
+      let value : product_value v terms w made ≡ (other.coefficient + p.coefficient) % 2 ^ w * n =
+      ap (λ k. k * F made * P made) number
+      ∙ (ap (λ k. (other.coefficient + p.coefficient) % 2 ^ w * factors_value v terms w k * P made) same-factors
+      ∙ (ap (λ k. (other.coefficient + p.coefficient) % 2 ^ w * F p * pending_value v terms w k) same-pending
+      ∙ (let turn : (other.coefficient + p.coefficient) % 2 ^ w * F p * P p ≡ (other.coefficient + p.coefficient) % 2 ^ w * (F p * P p) = omega arith in turn))) in
+      let cut : product_value v terms w made % 2 ^ w ≡ ((other.coefficient + p.coefficient) * n) % 2 ^ w =
+      ap (λ k. k % 2 ^ w) value ∙ mul-mod_first (other.coefficient + p.coefficient) n (2 ^ w) in
+      let split : rest + (other.coefficient + p.coefficient) * n ≡ work_value v terms w old + product_value v terms w p = omega (arith, whole, like) in
+      ap (λ k. k % 2 ^ w) put ∙ (same_plus (2 ^ w) rest (product_value v terms w made) ((other.coefficient + p.coefficient) * n) cut ∙ ap (λ k. k % 2 ^ w) split)

@@ -4,14 +4,15 @@
 //! dividend without the quotient times the divisor; what else a term is counts as one factor. So terms
 //! are equal whose sums are the same (the normal form of polynomials that solvers of bit vectors use).
 
-ghost use Rattle.std.specs.Prelude.{◌≡◌, ◌<◌, ◌+◌, ◌-◌, ◌*◌, ◌%◌, ◌^◌, ℕ, List, IfSome, length};
+ghost use Rattle.std.specs.Prelude.{◌≡◌, ◌<◌, ◌≤◌, ◌+◌, ◌-◌, ◌*◌, ◌%◌, ◌^◌, ℕ, List, IfSome, IsTrue, length, slice_index_or};
 ghost use Rattle.bv_terms.specs.declared.term.Term.{Term as TermNow};
 ghost use Rattle.bv_terms.specs.Tree.{remainder, shifted_left, width_of};
 ghost use Rattle.bv_terms.specs.Trees.{IsWidth, term_at, tree_in};
+ghost use Rattle.term_rules.specs.declared.expanding.Product.{Product as ProductNow};
 ghost use Rattle.term_rules.specs.Polynomials.{AddsTo, AreTrue, IsDifferenceOf, factor_value, product_value, sum_value, work_value};
 
 use crate::facts::{Fact, known_by_facts};
-use crate::monomials::{FACTORS, Factor, MONOMIALS, Monomial, add, with_factor};
+use crate::monomials::{FACTORS, Factor, MONOMIALS, Monomial, add, are_same, with_factor};
 use crate::reading::{number, term};
 use arrayvec::ArrayVec;
 use bv_terms::{BinaryOp, Term, TermId, Terms};
@@ -50,6 +51,102 @@ fn times(product: &Product, by: u128, width: u32) -> Option<Product>
     })
 }
 
+/// Where a term goes among terms that are in order.
+fn place(pending: &[usize], index: usize) -> usize
+    ensures { result ≤ length pending.now }
+{
+    for (place, other) in pending.iter().enumerate() {
+        if index < *other {
+            return place;
+        }
+    }
+    pending.len()
+}
+
+/// The product times a number and a term.
+fn times_term(product: &Product, by: u128, a: TermId, width: u32) -> Option<Product>
+    requires { IsWidth width }
+    ensures { IfSome result (λ p. (v : ℕ → ℕ → ℕ) (terms : List TermNow) →
+        product_value v terms width p % 2 ^ width ≡ (product_value v terms width product.now * by * term_at v terms a) % 2 ^ width) }
+{
+    let mut made = times(product, by, width)?;
+    let at = place(made.pending.as_slice(), a.index);
+    made.pending.try_insert(at, a.index).ok()?;
+    Some(made)
+}
+
+/// Whether two lists of indices are the same.
+fn are_same_indices(a: &[usize], b: &[usize]) -> bool
+    ensures { IsTrue result → a.now ≡ b.now }
+{
+    if a.len() != b.len() {
+        return false;
+    }
+    for index in 0..a.len() {
+        if a[index] != b[index] {
+            return false;
+        }
+    }
+    true
+}
+
+/// Where there is a product with the factors and terms of another one.
+fn position(work: &[Product], product: &Product) -> Option<usize>
+    ensures within { IfSome result (λ i. i < length work.now) }
+    ensures factors { IfSome result (λ i. (d : ProductNow) → (slice_index_or work.now i d).factors.items ≡ product.now.factors.items) }
+    ensures pending { IfSome result (λ i. (d : ProductNow) → (slice_index_or work.now i d).pending.items ≡ product.now.pending.items) }
+{
+    for (index, other) in work.iter().enumerate() {
+        if are_same(other.factors.as_slice(), product.factors.as_slice())
+            && are_same_indices(other.pending.as_slice(), product.pending.as_slice())
+        {
+            return Some(index);
+        }
+    }
+    None
+}
+
+/// Adds a product that is not there yet.
+fn push(work: &mut ArrayVec<Product, PRODUCTS>, product: Product) -> Option<()>
+    ensures { IfSome result (λ _. (v : ℕ → ℕ → ℕ) (terms : List TermNow) (width : ℕ) →
+        work_value v terms width work.new.items ≡ work_value v terms width work.old.items + product_value v terms width product) }
+{
+    if product.coefficient == 0 {
+        return Some(());
+    }
+    work.try_push(product).ok()?;
+    Some(())
+}
+
+/// Adds a product: products with the same factors and terms are one.
+fn join(work: &mut ArrayVec<Product, PRODUCTS>, product: Product, width: u32) -> Option<()>
+    requires { IsWidth width }
+    ensures { IfSome result (λ _. (v : ℕ → ℕ → ℕ) (terms : List TermNow) →
+        AddsTo width (work_value v terms width work.old.items) (work_value v terms width work.new.items) (product_value v terms width product)) }
+{
+    match position(work.as_slice(), &product) {
+        Some(index) => {
+            let other = work.remove(index);
+            let coefficient = numbers::sum(other.coefficient, product.coefficient, width);
+            let Product {
+                factors,
+                pending,
+                ..
+            } = product;
+            push(
+                work,
+                Product {
+                    coefficient,
+                    factors,
+                    pending,
+                },
+            )?;
+        }
+        None => push(work, product)?,
+    }
+    Some(())
+}
+
 /// Adds the product times a number.
 fn put(
     work: &mut ArrayVec<Product, PRODUCTS>,
@@ -62,7 +159,7 @@ fn put(
         AddsTo width (work_value v terms width work.old.items) (work_value v terms width work.new.items) (product_value v terms width product.now * by)) }
 {
     let made = times(product, by, width)?;
-    work.try_push(made).ok()?;
+    join(work, made, width)?;
     Some(())
 }
 
@@ -78,9 +175,8 @@ fn put_term(
     ensures { IfSome result (λ _. (v : ℕ → ℕ → ℕ) (terms : List TermNow) →
         AddsTo width (work_value v terms width work.old.items) (work_value v terms width work.new.items) (product_value v terms width product.now * by * term_at v terms a)) }
 {
-    let mut made = times(product, by, width)?;
-    made.pending.try_push(a.index).ok()?;
-    work.try_push(made).ok()?;
+    let made = times_term(product, by, a, width)?;
+    join(work, made, width)?;
     Some(())
 }
 
@@ -162,8 +258,7 @@ fn put_product(
         AddsTo width (work_value v terms width work.old.items) (work_value v terms width work.new.items)
         (product_value v terms width product.now * ((term_at v terms a * term_at v terms b) % 2 ^ width))) }
 {
-    let mut first = times(product, 1, width)?;
-    first.pending.try_push(a.index).ok()?;
+    let first = times_term(product, 1, a, width)?;
     put_term(work, &first, 1, b, width)?;
     Some(())
 }
@@ -324,6 +419,25 @@ fn put_further(
     Some(())
 }
 
+/// The product whose next term was made last: what is added to it later comes from earlier terms alone.
+fn next(work: &[Product]) -> Option<usize>
+    ensures { IfSome result (λ i. i < length work.now) }
+{
+    let mut found = None;
+    let mut highest = 0;
+    for (index, product) in work.iter().enumerate() {
+        let term = match product.pending.as_slice().last() {
+            Some(last) => *last,
+            None => 0,
+        };
+        if found.is_none() || highest < term {
+            found = Some(index);
+            highest = term;
+        }
+    }
+    found
+}
+
 /// Adds what is in the work to the sum, where the facts are true.
 fn expand(
     terms: &Terms,
@@ -337,12 +451,15 @@ fn expand(
         AddsTo width (sum_value v terms.now width sum.old.items) (sum_value v terms.now width sum.new.items) (work_value v terms.now width work.old.items)) }
 {
     for _ in 0..STEPS {
-        match work.pop() {
-            None => return Some(()),
-            Some(product) => put_further(terms, facts, work, sum, product, width)?,
+        match next(work.as_slice()) {
+            None => break,
+            Some(index) => {
+                let product = work.remove(index);
+                put_further(terms, facts, work, sum, product, width)?;
+            }
         }
     }
-    None
+    if work.is_empty() { Some(()) } else { None }
 }
 
 /// The first term without the second as a sum, where the facts are true.

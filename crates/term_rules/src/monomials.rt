@@ -83,7 +83,7 @@ pub fn with_factor(factors: &[Factor], factor: Factor) -> Option<ArrayVec<Factor
 }
 
 /// Whether two lists of factors are the same.
-fn are_same(a: &[Factor], b: &[Factor]) -> bool
+pub fn are_same(a: &[Factor], b: &[Factor]) -> bool
     ensures { IsTrue result → a.now ≡ b.now }
 {
     if a.len() != b.len() {

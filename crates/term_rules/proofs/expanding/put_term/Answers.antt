@@ -1,17 +1,14 @@
-use Rattle.std.proofs.Common.{rules}
-use Rattle.term_rules.proofs.Common.{◌≡◌, ◌++◌, ◌∷◌, [], ◌%◌, ◌^◌, ◌*◌, refl}
-use Rattle.term_rules.specs.Polynomials.{product_value}
-use Rattle.term_rules.specs.declared.expanding.Product.{Product}
-use Rattle.term_rules.proofs.PolynomialRules.{times_term, work_added}
+use Rattle.term_rules.proofs.Common.{◌≡◌, ◌%◌, ◌^◌, ◌*◌, term_at}
+use Rattle.term_rules.specs.Polynomials.{AddsTo, product_value, work_value}
+use Rattle.term_rules.proofs.AmountRules.{amount_same}
 use Rattle.term_rules.proofs.expanding.put_term.Goals as goal
 
 pub returns : goal.returns
-returns c =
-    let more : Product = record { coefficient = c.in_ok-made.made.coefficient; factors = c.in_ok-made.made.factors; pending = c.try_push.new.self } in
-    let last : c.try_push.new.self.items ≡ c.in_ok-made.made.pending.items ++ c.args.a.index ∷ [] = search rules in
-    let pushed : c.try_push-2.new.self.items ≡ c.args.work.now.items ++ more ∷ [] = search rules in
-    λ v terms.
-    let n = product_value v terms c.args.width c.args.product.now * c.args.by in
-    let made : product_value v terms c.args.width c.in_ok-made.made % 2 ^ c.args.width ≡ n % 2 ^ c.args.width = search rules in
-    work_added v terms c.args.width c.args.work.now.items c.try_push-2.new.self.items more _ pushed
-    (times_term v terms c.args.width c.in_ok-made.made more c.args.a n refl refl last made)
+returns c = λ v terms.
+    let w = c.args.width in
+    let old = work_value v terms w c.args.work.now.items in
+    let new = work_value v terms w c.join.new.work.items in
+    let n = product_value v terms w c.args.product.now * c.args.by * term_at v terms c.args.a in
+    let made : product_value v terms w c.in_ok-made.made % 2 ^ w ≡ n % 2 ^ w = c.in_ok-made.ensures v terms in
+    let joined : AddsTo w old new (product_value v terms w c.in_ok-made.made) = c.in_ok-join.ensures v terms in
+    amount_same w old new (product_value v terms w c.in_ok-made.made) n joined made
