@@ -167,8 +167,9 @@ fn terms_have_values(rt: HostRuntime) -> Result<(), Fail> {
 
 /// A text and another one that writes the same term: what is plainly one of the operands, or a
 /// number, is it, operands that change places are one term, operations on numbers are computed, a
-/// common factor is multiplied once, low bits come from low bits, and operations on widened numbers
-/// are done before widening.
+/// common factor is multiplied once, low bits come from low bits, operations on widened numbers are
+/// done before widening, terms whose sums of products are the same are equal, also by cases of a
+/// condition and as operands, and a remainder is below its divisor.
 const SAME: &str = "\
 xx& x
 xx| x
@@ -215,7 +216,21 @@ xz3z+yz*t x3+y*
 xzyz% xy%z
 xz5z/ x5/z
 7zxz- x~z
-xzyzi xy<";
+xzyzi xy<
+xx*y*xx*3*+xx*y3+*= 00=
+x3*y3*-xy-3*= 00=
+x5*y*x5y**= 00=
+xy+y*yy*-xy*= 00=
+xy+3*x5*+y3*-0= 00=
+xyl3yl+x3+yl= 00=
+x~y*yxy*+~1+= 00=
+x3/7*x3%+x3/4*x+= 00=
+x1+x= 00<
+xy<12?x+xy<x1+x2+?= 00=
+x3*y3*-7/xy-3*7/= 00=
+xy%y< y0=~
+xy%y% xy%
+xxy%< 00<";
 
 fn is_simplified(alloc: Global, row: &str) -> Result<(), Fail> {
     let (first, second) = row.split_once(" ").ok_or("two terms")?;
